@@ -19,7 +19,7 @@ use Rattle.tb_kernal.specs.declared.status.Status.{Status}
 use Rattle.tb_kernal.specs.declared.status.Status.TheVariants.{Running, Waits, Returned, Wrong as WentWrong}
 use Rattle.tb_kernal.specs.declared.status.EventError.{EventError}
 use Rattle.tb_kernal.specs.declared.status.EventError.TheVariants.{Unlawful, Sent}
-use Rattle.tb_kernal.specs.declared.machine.Undo.{Undo}
+use Rattle.tb_kernal.specs.declared.machine.undoing.Undo.{Undo}
 use Rattle.tb_kernal.specs.Places.{all_writable, all_open, old_of, written_open, service_at}
 use Rattle.tb_kernal.specs.Machine.{State, Content, state_of, status, is_stopped, happens, gone, gone_at, stepped, interrupted, is_lawful, is_lawful_go, sends, refusal, Happened, SameKeyboard}
 use Rattle.tb_kernal.specs.Undoing.{Noted, Undone, TakesBack, SameButRoom, places_of, places_of_go, back_to}
@@ -75,7 +75,7 @@ old_among : (m : ℕ → ℕ) (a : ℕ) (ps : Writes) → is_open a ≡ true →
 old_among m a [] h o = absurd (cc)
 old_among m a (p ∷ ps) h o =
     let found : (nat_eq a p.0 ≡ true) ⊎ (is_among a (old_of m ps) ≡ true) =
-        elim (either (nat_eq a p.0) (is_among a ps) o) [ inl e ↦ inl e | inr e ↦ inr (old_among m a ps h e) ] in
+    elim (either (nat_eq a p.0) (is_among a ps) o) [ inl e ↦ inl e | inr e ↦ inr (old_among m a ps h e) ] in
     noted_among (is_open p.0) m a p.0 (old_of m ps) refl h found
 
 all_old_among : (m : ℕ → ℕ) (ws ps : Writes) → all_open ws ≡ true → all_among ws ps ≡ true → all_among ws (old_of m ps) ≡ true
