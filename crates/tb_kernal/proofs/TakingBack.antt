@@ -19,7 +19,7 @@ use Rattle.tb_kernal.specs.declared.status.Status.{Status}
 use Rattle.tb_kernal.specs.declared.status.Status.TheVariants.{Running, Waits, Returned, Wrong as WentWrong}
 use Rattle.tb_kernal.specs.declared.status.EventError.{EventError}
 use Rattle.tb_kernal.specs.declared.status.EventError.TheVariants.{Unlawful, Sent}
-use Rattle.tb_kernal.specs.declared.machine.undoing.Undo.{Undo}
+use Rattle.tb_kernal.specs.Notes.{Note}
 use Rattle.tb_kernal.specs.Places.{all_writable, all_open, old_of, written_open, service_at}
 use Rattle.tb_kernal.specs.Machine.{State, Content, state_of, status, is_stopped, happens, gone, gone_at, stepped, interrupted, is_lawful, is_lawful_go, sends, refusal, Happened, SameKeyboard}
 use Rattle.tb_kernal.specs.Undoing.{Noted, Undone, TakesBack, SameButRoom, places_of, places_of_go, back_to}
@@ -210,7 +210,7 @@ back_is : (noted now n : ℕ) → noted ≤ n → back_to noted now n ≡ noted
 back_is noted now n h = let t : nat_le noted n ≡ true = grind (arith, nat_tests) in rw t refl
 
 -- undoing what came to t, an onward state whose writes the noted bytes take back
-taken_back_from : (u : Undo) (m n q : Content) (e : Event) (t : State) → Noted u m e → Undone u n q → state_of n ≡ t → SameKeyboard m n → Onward (state_of m) t →
+taken_back_from : (u : Note) (m n q : Content) (e : Event) (t : State) → Noted u m e → Undone u n q → state_of n ≡ t → SameKeyboard m n → Onward (state_of m) t →
     written_open t.mem (old_of (at m.memory) (places_of e m)) ≡ at m.memory →
     SameButRoom m q × (q.room ≡ n.room + (length n.sent - length m.sent))
 taken_back_from u m n q e t noted done s keys on back =
@@ -238,7 +238,7 @@ lawful_if : (b c : Bool) → (if not b then Some Unlawful else if c then Some Se
 lawful_if true c h = refl
 lawful_if false c h = absurd (cc)
 
-pub takes_back : (u : Undo) (n q : Content) → Undone u n q → TakesBack u n q
+pub takes_back : (u : Note) (n q : Content) → Undone u n q → TakesBack u n q
 takes_back u n q done m e (Ok t) after noted h same =
     let lawful = lawful_if (is_lawful (state_of m) e) (sends (state_of m) && m.room == 0) h.0 in
     let keys : SameKeyboard m n = (same.1.0 ∙ h.4.0, same.1.1 ∙ h.4.1) in

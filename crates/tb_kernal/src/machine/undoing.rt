@@ -10,9 +10,10 @@ use crate::events::{Event, Writes};
 use crate::machine::Machine;
 use crate::places::{old_bytes, put_back, service_of};
 use arrayvec::ArrayVec;
+use std::marker::Model;
 use tb_cpu::{Regs, Wrong, operand_place};
 
-/// What an event may change, as it was before.
+/// What an event may change, as it was before the event.
 #[derive(Drop)]
 pub struct Undo {
     regs: Regs,
@@ -23,8 +24,17 @@ pub struct Undo {
     bytes: Writes,
 }
 
+impl Model for Undo {
+    ghost use Rattle.tb_kernal.specs.Notes.{Note};
+
+    ghost Value = { Note };
+
+    ghost view = { λ u. record { regs = u.regs; wrong = u.wrong; text_taken = u.text_taken; answers_taken = u.answers_taken; sent = u.sent; bytes = u.bytes.items } };
+}
+
 impl Machine {
-    /// What an event may change.
+    /// What an event may change, to be handed to `undo` after it: registers, the refusal, how much was taken and sent, and the bytes at the places
+    /// that the event can write.
     pub fn note(&self, event: &Event) -> Undo
         ensures { Noted result self.now event.now }
     {
@@ -64,7 +74,10 @@ impl Machine {
         old_bytes(&self.memory, &places)
     }
 
-    /// Takes back an event whose note was made just before it.
+    /// Takes back the newest event, by the note that was made just before it.
+    ///
+    /// On a machine that differs at most in room from what that event came to, this restores registers, memory, sent bytes, keyboard and
+    /// status, and raises the room by the count of bytes that the event sent.
     pub fn undo(&mut self, undo: &Undo)
         ensures restored { Undone undo.now self.old self.new }
         ensures taken_back { TakesBack undo.now self.old self.new }
