@@ -7,10 +7,14 @@ use Rattle.tb_kernal.specs.Machine.{State, home_of}
 abbrev pub LieAt : ℕ → List ℕ → (ℕ → ℕ) → Type 0
 LieAt place bytes m = (k : ℕ) → k < length bytes → m (place + k) ≡ slice_index bytes k
 
+-- each place of a memory holds a byte
+abbrev pub HoldsBytes : (ℕ → ℕ) → Type 0
+HoldsBytes m = (a : ℕ) → m a < 256
+
 -- a machine with a program's bytes at their place, every other byte, A, X, Y, all flags and the keyboard arbitrary, at the start of the program
 pub record IsStart (place : ℕ) (bytes : List ℕ) (s : State) : Type 0 where
   pub loaded : LieAt place bytes s.mem
-  pub all_bytes : (a : ℕ) → s.mem a < 256
+  pub holds_bytes : HoldsBytes s.mem
   pub pc : s.regs.pc ≡ 0x080d
   pub s_from : 0x60 ≤ s.regs.s
   pub s_to : s.regs.s ≤ 0xfd
