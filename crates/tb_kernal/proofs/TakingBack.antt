@@ -1,10 +1,10 @@
 -- Undoing takes an event back.
-use Rattle.std.proofs.Common.{◌≡◌, ℕ, ◌+◌, ◌-◌, ◌<◌, ◌≤◌, ◌%◌, Bool, true, false, ◌&&◌, ◌||◌, not, List, [], ◌∷◌, ◌++◌, length, take, arith, refl, ap, sym, ◌∙◌, subst, ◌⊎◌, inl, inr, nat_eq, length-append}
+use Rattle.std.proofs.Common.{◌≡◌, ℕ, ◌+◌, ◌-◌, ◌<◌, ◌≤◌, ◌%◌, Bool, true, false, ◌&&◌, ◌||◌, not, [], ◌∷◌, length, take, arith, refl, ap, ◌∙◌, ◌⊎◌, inl, inr, nat_eq, length-append}
 use Rattle.std.specs.Prelude.{◌==◌, if◌then◌else◌, Option, Some, None, Result, Ok, Err, nat_le}
 use Rattle.std.proofs.lemmas.Bool.Decides.{nat_tests}
 use Rattle.std.proofs.Math.Seq.{take-append_seam, take-length}
 use Rattle.tb_memmap.specs.Regions.{is_open}
-use Rattle.tb_memmap.specs.Bytes.{Writes, with_byte, written, at}
+use Rattle.tb_memmap.specs.Bytes.{Writes, written, at}
 use Rattle.tb_cpu.specs.declared.wrong.Wrong.{Wrong}
 use Rattle.tb_cpu.specs.Operands.{reading}
 use Rattle.tb_cpu.specs.Instructions as cpu
@@ -17,11 +17,10 @@ use Rattle.tb_kernal.specs.declared.events.Event.{Event}
 use Rattle.tb_kernal.specs.declared.events.Event.TheVariants.{Go, Interrupt}
 use Rattle.tb_kernal.specs.declared.status.Status.{Status}
 use Rattle.tb_kernal.specs.declared.status.Status.TheVariants.{Running, Waits, Returned, Wrong as WentWrong}
-use Rattle.tb_kernal.specs.declared.status.EventError.{EventError}
 use Rattle.tb_kernal.specs.declared.status.EventError.TheVariants.{Unlawful, Sent}
 use Rattle.tb_kernal.specs.Notes.{Note}
 use Rattle.tb_kernal.specs.Places.{all_writable, all_open, old_of, written_open, service_at}
-use Rattle.tb_kernal.specs.Machine.{State, Content, state_of, status, is_stopped, happens, gone, gone_at, stepped, interrupted, is_lawful, is_lawful_go, sends, refusal, Happened, SameKeyboard}
+use Rattle.tb_kernal.specs.Machine.{State, Content, state_of, status, is_stopped, happens, gone, gone_at, stepped, is_lawful, is_lawful_go, sends, SameKeyboard}
 use Rattle.tb_kernal.specs.Undoing.{Noted, Undone, TakesBack, SameButRoom, places_of, places_of_go, back_to}
 use Rattle.tb_kernal.proofs.WriteLists.{rom_writable_open}
 use Rattle.tb_kernal.proofs.Keeping.{is_among, all_among, AreOf, restored_open}
