@@ -1,0 +1,5 @@
+pub mod Reaching
+pub mod View
+pub mod Acting
+pub mod Placed
+pub mod Start

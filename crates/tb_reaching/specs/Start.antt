@@ -1,0 +1,58 @@
+-- The start of a program, and how its view begins.
+use Rattle.std.specs.Prelude.{◌≡◌, ◌<◌, ◌≤◌, ℕ, zero, suc, ◌+◌, ◌-◌, Bool, true, List, [], ◌∷◌, Option, Some, None, if◌then◌else◌}
+use Rattle.tb_kernal.specs.Machine.{State, entry_refusal, home_of}
+use Rattle.tb_reaching.specs.View.{View, Setup, Part, is_program, Comes}
+
+-- the bytes of a memory from an address on
+abbrev pub from_memory : (ℕ → ℕ) → ℕ → ℕ → List ℕ
+from_memory m at zero = []
+from_memory m at (suc n) = m at ∷ from_memory m (at + 1) n
+
+-- a machine that was just entered, with a program at its place; all else is arbitrary
+pub record IsStart (code : Part) (s : State) : Type 0 where
+  pub loaded : (a b : ℕ) → code a ≡ Some b → (is_program a ≡ true) × (s.mem a ≡ b)
+  pub bytes : (a : ℕ) → s.mem a < 256
+  pub pc : s.regs.pc ≡ 0x080d
+  pub entered : entry_refusal s.mem s.regs ≡ None
+  pub home : s.home ≡ home_of s.mem s.regs
+  pub home_s : s.home_s ≡ s.regs.s + 2
+  pub right : s.wrong ≡ None
+  pub nothing : s.sent ≡ []
+
+-- the two bytes of the return address
+abbrev pub home_low : State → ℕ
+home_low s = s.mem (0x0101 + s.regs.s)
+
+abbrev pub home_high : State → ℕ
+home_high s = s.mem (0x0101 + s.regs.s + 1)
+
+-- what lies above the return address stays, and S may go down by 16
+abbrev pub setup_of : Part → Part → State → Setup
+setup_of code whole s = record {
+  code = code;
+  whole = whole;
+  rest = from_memory s.mem (0x0101 + s.regs.s + 1 + 1) (253 - s.regs.s);
+  home = s.home;
+  home_s = s.home_s;
+  low = s.regs.s - 16;
+}
+
+-- the return address is on the view's stack
+abbrev pub view_of : State → View
+view_of s = record { regs = record s.regs { s = 0; pc = 0x080d }; stack = home_low s ∷ home_high s ∷ []; mem = s.mem; text = s.text; answers = s.answers }
+
+-- ---- places where nothing on the way may be
+
+-- the bytes but those at some places
+abbrev pub without : (ℕ → Bool) → Part → Part
+without barred code a = if barred a then None else code a
+
+-- all the program's bytes may be fetched
+abbrev pub opened : Setup → Setup
+opened f = record f { code = f.whole }
+
+-- one instruction at a barred place, and then a law
+pub record Enters (f : Setup) (v : View) (q : View → Type 0) (t : List ℕ) (n : ℕ) : Type 0 where
+  pub rest : ℕ
+  pub few : 1 + rest ≤ n
+  pub one : Comes (opened f) v (λ w. Comes f w q t rest) [] 1

@@ -1,0 +1,2 @@
+//! Reaching: what machine code does, whatever its ROM does.
+#![tactic(auto)]
