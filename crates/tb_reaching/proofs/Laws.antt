@@ -74,7 +74,7 @@ on_first_way i t u n m s es r = record {
   whole = ap (λ l. l ++ u) r.whole ∙ append_assoc r.so_far r.to_come u;
 }
 
-then_arrived : (q r : States) (t u : List ℕ) (n m : ℕ) (s : State) (es : List Event) → (a : Arrived q t n s es) → Arrived r u m (run a.before s) a.after → Arrived r (t ++ u) (n + m) s es
+pub then_arrived : (q r : States) (t u : List ℕ) (n m : ℕ) (s : State) (es : List Event) → (a : Arrived q t n s es) → Arrived r u m (run a.before s) a.after → Arrived r (t ++ u) (n + m) s es
 then_arrived q r t u n m s es a b = record {
   before = a.before ++ b.before;
   after = b.after;
@@ -85,7 +85,7 @@ then_arrived q r t u n m s es a b = record {
   sent = ap (λ x. x.sent) (run_append a.before b.before s) ∙ b.sent ∙ ap (λ l. l ++ u) a.sent ∙ append_assoc s.sent t u;
 }
 
-then_on_the_way : (i q : States) (t u : List ℕ) (n m : ℕ) (s : State) (es : List Event) → (a : Arrived q t n s es) → OnTheWay i u m (run a.before s) a.after → OnTheWay i (t ++ u) (n + m) s es
+pub then_on_the_way : (i q : States) (t u : List ℕ) (n m : ℕ) (s : State) (es : List Event) → (a : Arrived q t n s es) → OnTheWay i u m (run a.before s) a.after → OnTheWay i (t ++ u) (n + m) s es
 then_on_the_way i q t u n m s es a b =
     let e : run es s ≡ run a.after (run a.before s) = ap (λ l. run l s) a.split ∙ run_append a.before a.after s in
     record {
@@ -115,4 +115,14 @@ widen i p q r t n m le w first = record {
       (λ a. inl (record { before = a.before; after = a.after; split = a.split; some = a.some; few = omega (arith, a.few, le); there = w _ a.there; sent = a.sent }))
       (λ a. inr (record { few = omega (arith, a.few, le); kept = a.kept; so_far = a.so_far; to_come = a.to_come; sent = a.sent; whole = a.whole }))
       (first.leads s h es l);
+}
+
+-- less is wanted on the way
+pub weakened : (w z p q : States) (t : List ℕ) (n : ℕ) → ((s : State) → w s → z s) → Reaches w p q t n → Reaches z p q t n
+weakened w z p q t n g law = record {
+  leads = λ s h es l.
+      ⊎_elim
+      (λ a. inl a)
+      (λ a. inr (record { few = a.few; kept = g _ a.kept; so_far = a.so_far; to_come = a.to_come; sent = a.sent; whole = a.whole }))
+      (law.leads s h es l);
 }

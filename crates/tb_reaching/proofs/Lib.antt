@@ -6,3 +6,8 @@ pub mod Comes
 pub mod Services
 pub mod Calls
 pub mod Special
+pub mod Placed
+pub mod Parts
+pub mod Start
+pub mod Grows
+pub mod Ends

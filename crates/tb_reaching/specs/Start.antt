@@ -1,7 +1,7 @@
 -- The start of a program, and how its view begins.
-use Rattle.std.specs.Prelude.{◌≡◌, ◌<◌, ◌≤◌, ℕ, zero, suc, ◌+◌, ◌-◌, Bool, true, List, [], ◌∷◌, Option, Some, None, if◌then◌else◌}
+use Rattle.std.specs.Prelude.{◌≡◌, ◌<◌, ◌≤◌, ℕ, zero, suc, ◌+◌, ◌-◌, Bool, true, false, List, [], ◌∷◌, length, Option, Some, None, if◌then◌else◌}
 use Rattle.tb_kernal.specs.Machine.{State, entry_refusal, home_of}
-use Rattle.tb_reaching.specs.View.{View, Setup, Part, is_program, Comes}
+use Rattle.tb_reaching.specs.View.{View, Setup, Part, is_program, Comes, back_at}
 
 -- the bytes of a memory from an address on
 abbrev pub from_memory : (ℕ → ℕ) → ℕ → ℕ → List ℕ
@@ -40,6 +40,24 @@ setup_of code whole s = record {
 -- the return address is on the view's stack
 abbrev pub view_of : State → View
 view_of s = record { regs = record s.regs { s = 0; pc = 0x080d }; stack = home_low s ∷ home_high s ∷ []; mem = s.mem; text = s.text; answers = s.answers }
+
+-- ---- where a program ends
+
+-- back where the machine was entered
+pub record IsHome (f : Setup) (w : View) : Type 0 where
+  pub pc : w.regs.pc ≡ f.home
+  pub stack : w.stack ≡ []
+  pub binary : w.regs.flags.d ≡ false
+
+-- at CHRIN, with no byte left
+pub record IsWaiting (w : View) : Type 0 where
+  pub pc : w.regs.pc ≡ 0xffcf
+  pub text : w.text ≡ []
+
+-- the return address of the start is lo, hi on the stack, and what stays lies above it
+pub record Homed (f : Setup) (lo hi : ℕ) : Type 0 where
+  pub home : f.home ≡ back_at lo hi
+  pub above : f.home_s + length f.rest ≡ 255
 
 -- ---- places where nothing on the way may be
 
