@@ -8,6 +8,7 @@ use Rattle.tb_kernal.specs.declared.events.Event.TheVariants.{Go, Interrupt}
 use Rattle.tb_kernal.specs.Machine.{State, is_lawful, happens}
 use Rattle.tb_kernal.specs.Runs.{run, all_lawful, goes}
 use Rattle.tb_reaching.specs.Reaching.{States, Arrived, OnTheWay, Reaches}
+use Rattle.tb_reaching.specs.Laws.{OneStep}
 
 pub run_append : (es fs : List Event) (s : State) → run (es ++ fs) s ≡ run fs (run es s)
 run_append [] fs s = refl
@@ -21,12 +22,6 @@ goes_append (Interrupt ws ∷ es) fs = goes_append es fs
 pub lawful_after : (es fs : List Event) (s : State) → all_lawful (es ++ fs) s ≡ true → all_lawful fs (run es s) ≡ true
 lawful_after [] fs s h = h
 lawful_after (e ∷ es) fs s h = lawful_after es fs (happens s e) (and_parts _ _ h).1
-
--- what one event does
-pub record OneStep (i p q : States) (t : List ℕ) : Type 0 where
-  pub inside : (s : State) → p s → i s
-  pub keeps : (s : State) → p s → (ws : ArrayVec (ℕ × ℕ)) → is_lawful s (Interrupt ws) ≡ true → p (happens s (Interrupt ws)) × ((happens s (Interrupt ws)).sent ≡ s.sent)
-  pub goes_on : (s : State) → p s → (k : Clobber) → is_lawful s (Go k) ≡ true → q (happens s (Go k)) × ((happens s (Go k)).sent ≡ s.sent ++ t)
 
 later_arrived : (q : States) (t : List ℕ) (n : ℕ) (s : State) (ws : ArrayVec (ℕ × ℕ)) (es : List Event) → (happens s (Interrupt ws)).sent ≡ s.sent → Arrived q t n (happens s (Interrupt ws)) es → Arrived q t n s (Interrupt ws ∷ es)
 later_arrived q t n s ws es e r = record {

@@ -11,3 +11,4 @@ pub mod Parts
 pub mod Start
 pub mod Grows
 pub mod Ends
+pub mod HelloRuns

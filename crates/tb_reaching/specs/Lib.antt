@@ -3,3 +3,5 @@ pub mod View
 pub mod Acting
 pub mod Placed
 pub mod Start
+pub mod Laws
+pub mod Hello
