@@ -10,8 +10,9 @@ use Rattle.tb_kernal.specs.declared.places.Service.TheVariants.{Chrout}
 use Rattle.tb_reaching.specs.declared.example.TheConstants.{HELLO}
 use Rattle.tb_kernal.specs.Machine.{State}
 use Rattle.tb_kernal.specs.Runs.{run}
+use Rattle.tb_kernal.specs.Starts.{IsStart}
 use Rattle.tb_reaching.specs.View.{Setup, At, Part, Holds, Fits, UnderWay, Among, Comes, view, is_data, is_program}
-use Rattle.tb_reaching.specs.Start.{IsStart, setup_of, view_of, home_low, home_high, IsHome}
+use Rattle.tb_reaching.specs.Start.{setup_of, view_of, home_low, home_high, IsHome}
 use Rattle.tb_reaching.specs.Placed.{Bytes, ins}
 use Rattle.tb_reaching.specs.Hello.{pointer, left, program_part, Points, Sent, SendsText, Prints, hello_text}
 use Rattle.tb_reaching.proofs.Memory.{put_other, program_not_data}
@@ -157,11 +158,17 @@ sends_text f fits st lo hi keys answers m a x y n v i z c text p =
     whole f fits st lo hi keys answers m a x y n v i z c text (record { word_is = refl; low = p.low; high_byte = p.high; shown = p.shown; from = p.from; to = p.to; few = p.few; others = λ a p q r. refl }) p.count
 
 -- ---- the program
+program_from : 0x0800 ≤ 0x080d
+program_from = omega arith
+
+program_to : 0x080d + length HELLO ≤ 0xa000
+program_to = let size : length HELLO ≡ 48 = refl in omega (arith, size)
+
 -- the text stands behind the code
 shown : (code : Part) → Holds hello_part code → Bytes code 0x0837 hello_text
 shown code st = (st _ _ refl, (st _ _ refl, (st _ _ refl, (st _ _ refl, (st _ _ refl, (st _ _ refl, tt))))))
 
-module _ (s : State) (h : IsStart hello_part s) where
+module _ (s : State) (h : IsStart 0x080d HELLO s) where
   abbrev f : Setup
   f = setup_of hello_part hello_part s
 
@@ -171,8 +178,8 @@ module _ (s : State) (h : IsStart hello_part s) where
   runs : Comes f (view_of s) (IsHome f) hello_text 66
   runs =
       let st = holds_itself hello_part in
-      let fits = fits_start hello_part hello_part st s h in
-      let home = homed_start hello_part hello_part st s h in
+      let fits = fits_start 0x080d HELLO program_from program_to hello_part st s h in
+      let home = homed_start 0x080d HELLO program_from program_to hello_part st s h in
       after f 16 fits hello_part st 7 (view_of s) (IsHome f) hello_text 58 refl
       (calling f own (view _ _ _ _ _ _ _ _ 0x081f (0x1d ∷ 0x08 ∷ []) _ s.text s.answers) _ (IsHome f) hello_text [] 57 1
       (sends_text (under f own) (omega (arith, fits)) st 0x1d 0x08 s.text s.answers _ _ _ _ _ _ _ _ _ hello_text
@@ -185,8 +192,8 @@ pub prints_hello : Prints HELLO hello_text 66
 prints_hello s h es l =
     let st = holds_itself hello_part in
     let f' = setup_of hello_part hello_part s in
-    let above = (homed_start hello_part hello_part st s h).above in
+    let above = (homed_start 0x080d HELLO program_from program_to hello_part st s h).above in
     ⊎_elim
-    (λ d. inl (home_returned f' above (run es s) d.0, d.1 ∙ ap (λ l. l ++ hello_text) h.nothing))
-    (λ d. inr (d.kept.runs, record { rest = d.to_come; split = d.whole ∙ sym (ap (λ l. l ++ d.to_come) (d.sent ∙ ap (λ l. l ++ d.so_far) h.nothing)) }, d.few))
-    (settles (UnderWay f') (At f' (view_of s)) (Among f' (IsHome f')) hello_text 66 (runs s h).reaches (home_rests f' above) s (at_start hello_part hello_part st s h) es l)
+    (λ d. inl (home_returned f' above (run es s) d.0, d.1 ∙ ap (λ l. l ++ hello_text) h.nothing_sent))
+    (λ d. inr (d.kept.runs, record { rest = d.to_come; split = d.whole ∙ sym (ap (λ l. l ++ d.to_come) (d.sent ∙ ap (λ l. l ++ d.so_far) h.nothing_sent)) }, d.few))
+    (settles (UnderWay f') (At f' (view_of s)) (Among f' (IsHome f')) hello_text 66 (runs s h).reaches (home_rests f' above) s (at_start 0x080d HELLO program_from program_to hello_part st s h) es l)

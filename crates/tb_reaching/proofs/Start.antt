@@ -1,17 +1,15 @@
 -- From an arbitrary start.
-use Rattle.std.proofs.Common.{◌≡◌, ℕ, zero, suc, ◌+◌, ◌-◌, ◌*◌, ◌%◌, ◌≤◌, ◌<◌, Bool, true, false, ◌&&◌, ◌||◌, [], length, refl, sym, ap, ◌∙◌, ⊎_elim, arith, eqb, Option, Some, None}
-use Rattle.std.specs.Prelude.{◌==◌, if◌then◌else◌, nat_lt}
-use Rattle.std.proofs.lemmas.Bool.{and_parts, cases_eq, eqb-true}
+use Rattle.std.proofs.Common.{◌≡◌, ℕ, zero, suc, ◌+◌, ◌-◌, ◌*◌, ◌%◌, ◌≤◌, ◌<◌, Bool, true, false, ◌&&◌, List, [], ◌∷◌, length, refl, sym, ap, ◌∙◌, ⊎_elim, arith, eqb, Some, None}
+use Rattle.std.specs.Prelude.{◌==◌, if◌then◌else◌}
+use Rattle.std.proofs.lemmas.Bool.{and_parts, cases_eq, eqb-true, eq-eqb, ne_eqb}
 use Rattle.std.proofs.lemmas.Bool.Decides.{nat_tests}
-use Rattle.tb_cpu.specs.declared.registers.Regs.{Regs}
 use Rattle.tb_cpu.specs.Operands.{word}
-use Rattle.tb_kernal.specs.declared.places.Service.{Service}
-use Rattle.tb_kernal.specs.declared.status.EnterError.{EnterError}
-use Rattle.tb_kernal.specs.declared.status.EnterError.TheVariants.{BadStack, BadReturn}
-use Rattle.tb_kernal.specs.Places.{is_rom, service_at}
-use Rattle.tb_kernal.specs.Machine.{State, entry_refusal, home_of, is_no_service}
-use Rattle.tb_reaching.specs.View.{At, Part, Holds, Fits, Stacked}
-use Rattle.tb_reaching.specs.Start.{from_memory, IsStart, setup_of, view_of, home_low, home_high, Homed}
+use Rattle.tb_kernal.specs.Places.{is_rom}
+use Rattle.tb_kernal.specs.Machine.{State}
+use Rattle.tb_kernal.specs.Starts.{IsStart, LieAt}
+use Rattle.tb_reaching.specs.View.{At, Part, Holds, Fits, Stacked, part_at, is_program}
+use Rattle.tb_reaching.specs.Start.{from_memory, setup_of, view_of, home_low, home_high, Homed}
+use Rattle.tb_reaching.proofs.Act.{some_eq}
 
 pub length_from : (m : ℕ → ℕ) (at n : ℕ) → length (from_memory m at n) ≡ n
 length_from m at zero = refl
@@ -21,63 +19,47 @@ stacked_from : (m : ℕ → ℕ) (at n : ℕ) → Stacked m at (from_memory m at
 stacked_from m at zero = tt
 stacked_from m at (suc n) = (refl, stacked_from m (at + 1) n)
 
--- ---- what entering a machine tells
-pub record Entered (m : ℕ → ℕ) (r : Regs) : Type 0 where
-  pub lowest : 0x60 ≤ r.s
-  pub highest : r.s ≤ 0xfd
-  pub far : 0xa000 ≤ home_of m r
-  pub apart : service_at (home_of m r) ≡ None
-
-allowed : (b c : Bool) → ◌≡◌ {A = Option EnterError} (if b then Some BadStack else if c then None else Some BadReturn) None → (b ≡ false) × (c ≡ true)
-allowed true c h = cc
-allowed false true h = (refl, refl)
-allowed false false h = cc
-
-none_there : (o : Option Service) → is_no_service o ≡ true → o ≡ None
-none_there None h = refl
-none_there (Some q) h = cc
-
+-- ---- bytes that lie in memory are a part's
 far_rom : (a : ℕ) → is_rom a ≡ true → 0xa000 ≤ a
 far_rom a h = grind (arith, nat_tests)
 
-in_window : (s : ℕ) → (nat_lt s 0x60 || nat_lt 0xfd s) ≡ false → (0x60 ≤ s) × (s ≤ 0xfd)
-in_window s h = (grind (arith, nat_tests), grind (arith, nat_tests))
+in_program : (a : ℕ) → 0x0800 ≤ a → a < 0xa000 → is_program a ≡ true
+in_program a lo hi = grind (arith, nat_tests)
 
-pub entered : (m : ℕ → ℕ) (r : Regs) → entry_refusal m r ≡ None → Entered m r
-entered m r h =
-    let p = allowed (nat_lt r.s 0x60 || nat_lt 0xfd r.s) (is_rom (home_of m r) && is_no_service (service_at (home_of m r))) h in
-    let w = in_window r.s p.0 in
-    let q = and_parts (is_rom (home_of m r)) (is_no_service (service_at (home_of m r))) p.1 in
-    record { lowest = w.0; highest = w.1; far = far_rom (home_of m r) q.0; apart = none_there (service_at (home_of m r)) q.1 }
+lies : (place : ℕ) (bytes : List ℕ) (m : ℕ → ℕ) → 0x0800 ≤ place → place + length bytes ≤ 0xa000 → LieAt place bytes m → (a b : ℕ) → part_at place bytes a ≡ Some b → (is_program a ≡ true) × (m a ≡ b)
+lies place [] m from to h a b e = cc
+lies place (x ∷ bytes) m from to h a b e = by_place (lies (place + 1) bytes m (omega arith) (omega arith) (λ k l. ap m (let s : place + 1 + k ≡ place + suc k = omega arith in s) ∙ h (suc k) (omega (arith, l))) a b)
+  where
+    by_place : (part_at (place + 1) bytes a ≡ Some b → (is_program a ≡ true) × (m a ≡ b)) → (is_program a ≡ true) × (m a ≡ b)
+    by_place later = ⊎_elim
+        (λ s. (in_program a (omega arith) (omega arith),
+               ap m (let z : a ≡ place + 0 = omega arith in z) ∙ h 0 (omega arith) ∙ some_eq (ap (λ t. if t then Some x else part_at (place + 1) bytes a) (sym (eq-eqb a place s)) ∙ e)))
+        (λ n. later (ap (λ t. if t then Some x else part_at (place + 1) bytes a) (sym (ne_eqb a place n)) ∙ e))
+        (cases_eq a place)
 
 -- ---- the view of a start
-module _ (inner code : Part) (holds : Holds inner code) (s : State) (h : IsStart code s) where
-  pub at_start : At (setup_of inner code s) (view_of s) s
-  at_start =
-      let e = entered s.mem s.regs h.entered in
-      record {
-        regs = ap (λ p. record s.regs { pc = p }) h.pc;
-        depth = omega (arith, length_from s.mem (0x0101 + s.regs.s + 1 + 1) (253 - s.regs.s), e.highest);
-        stack = (refl, (refl, stacked_from s.mem (0x0101 + s.regs.s + 1 + 1) (253 - s.regs.s)));
-        bytes = λ a e. refl;
-        text = refl;
-        answers = refl;
-        stays = record { whole = h.loaded; inner = holds; right = h.right; home = refl; home_s = refl; far = rw h.home e.far; apart = rw h.home e.apart };
-      }
+module _ (place : ℕ) (bytes : List ℕ) (from : 0x0800 ≤ place) (to : place + length bytes ≤ 0xa000) (inner : Part) (holds : Holds inner (part_at place bytes)) (s : State) (h : IsStart place bytes s) where
+  pub at_start : At (setup_of inner (part_at place bytes) s) (view_of s) s
+  at_start = record {
+    regs = ap (λ p. record s.regs { pc = p }) h.pc;
+    depth = omega (arith, length_from s.mem (0x0101 + s.regs.s + 1 + 1) (253 - s.regs.s), h.s_to);
+    stack = (refl, (refl, stacked_from s.mem (0x0101 + s.regs.s + 1 + 1) (253 - s.regs.s)));
+    bytes = λ a e. refl;
+    text = refl;
+    answers = refl;
+    stays = record { whole = lies place bytes s.mem from to h.loaded; inner = holds; right = h.nothing_refused; home = refl; home_s = refl; far = far_rom s.home h.in_rom; apart = h.no_service };
+  }
 
-  pub fits_start : Fits (setup_of inner code s) 16
-  fits_start =
-      let e = entered s.mem s.regs h.entered in
-      omega (arith, length_from s.mem (0x0101 + s.regs.s + 1 + 1) (253 - s.regs.s), e.lowest, e.highest)
+  pub fits_start : Fits (setup_of inner (part_at place bytes) s) 16
+  fits_start = omega (arith, length_from s.mem (0x0101 + s.regs.s + 1 + 1) (253 - s.regs.s), h.s_from, h.s_to)
 
-  pub homed_start : Homed (setup_of inner code s) (home_low s) (home_high s)
+  pub homed_start : Homed (setup_of inner (part_at place bytes) s) (home_low s) (home_high s)
   homed_start =
-      let e = entered s.mem s.regs h.entered in
       let low : 257 + s.regs.s ≡ 0x0101 + s.regs.s = omega arith in
       let high : 258 + s.regs.s ≡ 0x0101 + s.regs.s + 1 = omega arith in
       record {
         home = h.home ∙ ap (λ a. (word (s.mem a) (s.mem (258 + s.regs.s)) + 1) % 65536) low ∙ ap (λ a. (word (s.mem (0x0101 + s.regs.s)) (s.mem a) + 1) % 65536) high;
-        above = omega (arith, h.home_s, length_from s.mem (0x0101 + s.regs.s + 1 + 1) (253 - s.regs.s), e.highest);
+        above = omega (arith, h.home_s, length_from s.mem (0x0101 + s.regs.s + 1 + 1) (253 - s.regs.s), h.s_to);
       }
 
 -- ---- cleared places: a computed test gives the fact for each place

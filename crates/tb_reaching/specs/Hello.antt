@@ -4,10 +4,10 @@ use Rattle.tb_kernal.specs.declared.events.Event.{Event}
 use Rattle.tb_kernal.specs.declared.status.Status.TheVariants.{Running, Returned}
 use Rattle.tb_kernal.specs.Machine.{State, status}
 use Rattle.tb_kernal.specs.Runs.{run, all_lawful, goes}
+use Rattle.tb_kernal.specs.Starts.{IsStart}
 use Rattle.tb_reaching.specs.Reaching.{IsPrefix}
 use Rattle.tb_reaching.specs.View.{View, Setup, Part, Holds, Fits, Comes, part_at, view, back_at}
 use Rattle.tb_reaching.specs.Placed.{Bytes}
-use Rattle.tb_reaching.specs.Start.{IsStart}
 
 -- ---- the routine
 
@@ -57,6 +57,6 @@ hello_text = 72 ∷ 69 ∷ 76 ∷ 76 ∷ 79 ∷ 13 ∷ []
 -- events, or just the text was sent and the machine returned
 abbrev pub Prints : List ℕ → List ℕ → ℕ → Type 0
 Prints program text n =
-    (s : State) → IsStart (program_part program) s → (es : List Event) → all_lawful es s ≡ true →
+    (s : State) → IsStart 0x080d program s → (es : List Event) → all_lawful es s ≡ true →
     ((status (run es s) ≡ Returned) × ((run es s).sent ≡ text))
     ⊎ ((status (run es s) ≡ Running) × IsPrefix (run es s).sent text × (goes es < n))

@@ -1,23 +1,12 @@
--- The start of a program, and how its view begins.
-use Rattle.std.specs.Prelude.{◌≡◌, ◌<◌, ◌≤◌, ℕ, zero, suc, ◌+◌, ◌-◌, Bool, true, false, List, [], ◌∷◌, length, Option, Some, None, if◌then◌else◌}
-use Rattle.tb_kernal.specs.Machine.{State, entry_refusal, home_of}
-use Rattle.tb_reaching.specs.View.{View, Setup, Part, is_program, Comes, back_at}
+-- How the view of a started program begins, and where it ends.
+use Rattle.std.specs.Prelude.{◌≡◌, ◌≤◌, ℕ, zero, suc, ◌+◌, ◌-◌, Bool, false, List, [], ◌∷◌, length, None, if◌then◌else◌}
+use Rattle.tb_kernal.specs.Machine.{State}
+use Rattle.tb_reaching.specs.View.{View, Setup, Part, Comes, back_at}
 
 -- the bytes of a memory from an address on
 abbrev pub from_memory : (ℕ → ℕ) → ℕ → ℕ → List ℕ
 from_memory m at zero = []
 from_memory m at (suc n) = m at ∷ from_memory m (at + 1) n
-
--- a machine that was just entered, with a program at its place; all else is arbitrary
-pub record IsStart (code : Part) (s : State) : Type 0 where
-  pub loaded : (a b : ℕ) → code a ≡ Some b → (is_program a ≡ true) × (s.mem a ≡ b)
-  pub bytes : (a : ℕ) → s.mem a < 256
-  pub pc : s.regs.pc ≡ 0x080d
-  pub entered : entry_refusal s.mem s.regs ≡ None
-  pub home : s.home ≡ home_of s.mem s.regs
-  pub home_s : s.home_s ≡ s.regs.s + 2
-  pub right : s.wrong ≡ None
-  pub nothing : s.sent ≡ []
 
 -- the two bytes of the return address
 abbrev pub home_low : State → ℕ
@@ -26,7 +15,7 @@ home_low s = s.mem (0x0101 + s.regs.s)
 abbrev pub home_high : State → ℕ
 home_high s = s.mem (0x0101 + s.regs.s + 1)
 
--- what lies above the return address stays, and S may go down by 16
+-- all but the return address stays on the stack, and S may go down by 16
 abbrev pub setup_of : Part → Part → State → Setup
 setup_of code whole s = record {
   code = code;
