@@ -20,11 +20,12 @@ use Rattle.tb_kernal.specs.declared.events.Clobber.{Clobber}
 use Rattle.tb_kernal.specs.declared.events.Event.TheVariants.{Go, Interrupt}
 use Rattle.tb_kernal.specs.declared.status.Status.{Status}
 use Rattle.tb_kernal.specs.declared.status.Status.TheVariants.{Running, Waits, Returned, Wrong as WentWrong}
-use Rattle.tb_kernal.specs.Places.{all_writable, service_at}
+use Rattle.tb_kernal.specs.Places.{all_writable, is_owned, service_at}
 use Rattle.tb_kernal.specs.Machine.{State, status, status_by, is_home, waits_for, happens, gone, gone_at, stepped, interrupted, is_lawful, is_stopped}
+use Rattle.tb_kernal.proofs.Keeping.{written_keeps}
 use Rattle.tb_reaching.specs.View.{View, Setup, At, Stays, Part, Holds, Fits, Stacked, with_s, is_data, is_program, is_fixed}
 use Rattle.tb_reaching.specs.Acting.{all_data, from_part, read_view, Plain, kind_of, finish_view, push_view, pushed_byte, with_pulled, pull_one, pull_two, pull_three, behind, act_kind, act_operand, act_row, act_opcode, act}
-use Rattle.tb_reaching.proofs.Memory.{fixed_not_writable, stack_not_writable, put_same, put_other, rom_leaves, data_leaves, written_same, stacked_same, program_not_data, program_fixed, data_fixed, stack_not_data, fixed_not_stack, fixed_open, stack_open, program_range}
+use Rattle.tb_reaching.proofs.Memory.{fixed_owned, stack_owned, put_same, put_other, data_leaves, written_same, stacked_same, program_not_data, program_fixed, data_fixed, stack_not_data, fixed_not_stack, fixed_open, stack_open, program_range}
 use Rattle.tb_reaching.proofs.Readers.{ok≢err, moved, on_a_moved, more_operand, more_executed}
 
 pub some_eq : {A : Type 0} {a b : A} → Some a ≡ Some b → a ≡ b
@@ -82,15 +83,18 @@ module _ (f : Setup) (v : View) (s : State) (at : At f v s) where
   goes_by_instruction h k = ap (λ q. gone q k s) (runs h) ∙ ap (λ q. gone_at q k s) (service_here h)
 
   -- ---- interrupts
+  rom_leaves : (ws : Writes) → all_writable s.regs.s ws ≡ true → (a : ℕ) → is_owned s.regs.s a ≡ true → written s.mem ws a ≡ s.mem a
+  rom_leaves ws h a o = written_keeps s.regs.s a ws s.mem (omega (arith, s_small)) h o
+
   pub rom_wrote : (ws : Writes) → all_writable s.regs.s ws ≡ true → At f v (record s { mem = written s.mem ws })
   rom_wrote ws h = record {
     regs = at.regs;
     depth = at.depth;
-    stack = stacked_same (0x0101 + s.regs.s) (0x0101 + s.regs.s) s.mem (written s.mem ws) _ (omega arith) (omega (arith, at.depth)) (λ a lo hi. rom_leaves s.regs.s a ws s.mem (stack_not_writable s.regs.s a lo hi) h) at.stack;
-    bytes = λ a e. rom_leaves s.regs.s a ws s.mem (fixed_not_writable s.regs.s a s_small e) h ∙ at.bytes a e;
+    stack = stacked_same (0x0101 + s.regs.s) (0x0101 + s.regs.s) s.mem (written s.mem ws) _ (omega arith) (omega (arith, at.depth)) (λ a lo hi. rom_leaves ws h a (stack_owned s.regs.s a lo hi)) at.stack;
+    bytes = λ a e. rom_leaves ws h a (fixed_owned s.regs.s a e) ∙ at.bytes a e;
     text = at.text;
     answers = at.answers;
-    stays = stays_in f s.mem (written s.mem ws) s.wrong s.home s.home_s (λ a p. rom_leaves s.regs.s a ws s.mem (fixed_not_writable s.regs.s a s_small (program_fixed a p)) h) at.stays;
+    stays = stays_in f s.mem (written s.mem ws) s.wrong s.home s.home_s (λ a p. rom_leaves ws h a (fixed_owned s.regs.s a (program_fixed a p))) at.stays;
   }
 
   pub kept_by_interrupt : (ws : ArrayVec (ℕ × ℕ)) → is_lawful s (Interrupt ws) ≡ true → At f v (happens s (Interrupt ws)) × ((happens s (Interrupt ws)).sent ≡ s.sent)
