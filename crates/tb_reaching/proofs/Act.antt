@@ -1,5 +1,5 @@
 -- The machine does what the view says, whatever the ROM does.
-use Rattle.std.proofs.Common.{◌≡◌, ℕ, suc, ◌+◌, ◌*◌, ◌/◌, ◌%◌, ◌≤◌, Bool, true, false, ◌||◌, ◌&&◌, not, List, [], ◌∷◌, ◌++◌, length, refl, sym, ap, ◌∙◌, subst, ⊎_elim, arith, eqb, leb, Option, Some, None, length-append}
+use Rattle.std.proofs.Common.{◌≡◌, ℕ, suc, ◌+◌, ◌/◌, ◌%◌, ◌≤◌, Bool, true, false, ◌||◌, ◌&&◌, not, List, [], ◌∷◌, ◌++◌, length, refl, sym, ap, ◌∙◌, subst, ⊎_elim, arith, eqb, leb, Option, Some, None, length-append}
 use Rattle.std.specs.Prelude.{Result, Ok, Err, if◌then◌else◌, ◌==◌}
 use Rattle.std.proofs.lemmas.Bool.{leb-true, ne_eqb}
 use Rattle.arrayvec.specs.ArrayVec.{ArrayVec}
@@ -14,7 +14,7 @@ use Rattle.tb_cpu.specs.declared.wrong.Wrong.{Wrong}
 use Rattle.tb_cpu.specs.declared.wrong.Wrong.TheVariants.{Closed, Brk}
 use Rattle.tb_cpu.specs.Effects.{status_flags}
 use Rattle.tb_cpu.specs.Operands.{Reader, reading, and_then, operand_of, is_accumulator, word}
-use Rattle.tb_cpu.specs.Instructions.{Outcome, executed, executed_on_a, advanced, instruction, outcome, finished, unchanged, next, popped, pulled as pulled_byte}
+use Rattle.tb_cpu.specs.Instructions.{Outcome, executed, executed_on_a, advanced, instruction, outcome, finished, unchanged, next, pulled as pulled_byte}
 use Rattle.tb_kernal.specs.declared.places.Service.TheVariants.{Chrout, Chrin, Getin}
 use Rattle.tb_kernal.specs.declared.events.Clobber.{Clobber}
 use Rattle.tb_kernal.specs.declared.events.Event.TheVariants.{Go, Interrupt}
@@ -24,7 +24,7 @@ use Rattle.tb_kernal.specs.Places.{all_writable, is_owned, service_at}
 use Rattle.tb_kernal.specs.Machine.{State, status, status_by, is_home, waits_for, happens, gone, gone_at, stepped, interrupted, is_lawful, is_stopped}
 use Rattle.tb_kernal.proofs.Keeping.{written_keeps}
 use Rattle.tb_reaching.specs.View.{View, Setup, At, Stays, Part, Holds, Fits, Stacked, with_s, is_data, is_program, is_fixed}
-use Rattle.tb_reaching.specs.Acting.{all_data, from_part, read_view, Plain, kind_of, finish_view, push_view, pushed_byte, with_pulled, pull_one, pull_two, pull_three, behind, act_kind, act_operand, act_row, act_opcode, act}
+use Rattle.tb_reaching.specs.Acting.{all_data, from_part, read_view, kind_of, finish_view, push_view, pushed_byte, with_pulled, pull_one, pull_two, pull_three, behind, act_kind, act_operand, act_row, act_opcode, act}
 use Rattle.tb_reaching.proofs.Memory.{fixed_owned, stack_owned, put_same, put_other, data_leaves, written_same, stacked_same, program_not_data, program_fixed, data_fixed, stack_not_data, fixed_not_stack, fixed_open, stack_open, program_range}
 use Rattle.tb_reaching.proofs.Readers.{ok≢err, moved, on_a_moved, more_operand, more_executed}
 
@@ -44,7 +44,12 @@ decoded_by b = refl
 pub stays_in : (f : Setup) (m k : ℕ → ℕ) (wrong : Option Wrong) (to to_s : ℕ) → ((a : ℕ) → is_program a ≡ true → k a ≡ m a) → Stays f m wrong to to_s → Stays f k wrong to to_s
 stays_in f m k wrong to to_s e h = record {
   whole = λ a b p. let c = h.whole a b p in (c.0, e a c.0 ∙ c.1);
-  inner = h.inner; right = h.right; home = h.home; home_s = h.home_s; far = h.far; apart = h.apart;
+  inner = h.inner;
+  right = h.right;
+  home = h.home;
+  home_s = h.home_s;
+  far = h.far;
+  apart = h.apart;
 }
 
 module _ (f : Setup) (v : View) (s : State) (at : At f v s) where
@@ -199,7 +204,7 @@ module _ (f : Setup) (room : ℕ) (fits : Fits f room) (v : View) (s : State) (a
         moved s.regs.s e,
         g e refl,
         subst (λ x. At f x (record s { regs = with_s s.regs.s e.0; mem = written s.mem e.1 })) (some_eq h)
-        (with_regs f (record v { mem = written v.mem e.1 }) (record s { mem = written s.mem e.1 }) (leaves_data f v s at e.1 d) e.0),
+            (with_regs f (record v { mem = written v.mem e.1 }) (record s { mem = written s.mem e.1 }) (leaves_data f v s at e.1 d) e.0),
       )
       go false d h = cc
 
@@ -237,10 +242,11 @@ module _ (f : Setup) (room : ℕ) (fits : Fits f room) (v : View) (s : State) (a
           let q = record r { pc = (word lo hi + 1) % 65536 } in
           let one = pulled f v s at lo q (hi ∷ bs) e in
           let two = pulled f (record v { regs = q; stack = hi ∷ bs }) (record s { regs = with_s (up s.regs.s) q }) one.3 hi q bs refl in
-          let second = λ (low : ℕ) (x : Result ℕ Wrong). and_then x (λ high. unchanged (record r { s = up (up s.regs.s); pc = (word low high + 1) % 65536 })) in
-          ((with_s (up (up s.regs.s)) q, []),
-           ap (λ x. and_then x (λ low. second low (reading s.mem (256 + up (up s.regs.s))))) one.2 ∙ ap (second lo) two.2,
-           subst (λ x. At f x (record s { regs = with_s (up (up s.regs.s)) q })) (some_eq h) two.3)
+          let second = λ (low : ℕ) (x : Result ℕ Wrong). and_then x (λ high. unchanged (record r { s = up (up s.regs.s); pc = (word low high + 1) % 65536 })) in (
+            (with_s (up (up s.regs.s)) q, []),
+            ap (λ x. and_then x (λ low. second low (reading s.mem (256 + up (up s.regs.s))))) one.2 ∙ ap (second lo) two.2,
+            subst (λ x. At f x (record s { regs = with_s (up (up s.regs.s)) q })) (some_eq h) two.3,
+          )
 
   resumes_left : (r : Regs) (o : ℕ) (w : View) → pull_three v r v.stack ≡ Some w → Left w (executed Rti (with_s s.regs.s r) (reading s.mem) o)
   resumes_left r o w h = go v.stack refl h
@@ -258,10 +264,11 @@ module _ (f : Setup) (room : ℕ) (fits : Fits f room) (v : View) (s : State) (a
           let two = pulled f (record v { regs = q; stack = lo ∷ hi ∷ bs }) (record s { regs = with_s s1 q }) one.3 lo q (hi ∷ bs) refl in
           let three = pulled f (record v { regs = q; stack = hi ∷ bs }) (record s { regs = with_s s2 q }) two.3 hi q bs refl in
           let third = λ (p low : ℕ) (x : Result ℕ Wrong). and_then x (λ high. unchanged (record r { s = s3; flags = status_flags p; pc = word low high })) in
-          let second = λ (p : ℕ) (x : Result ℕ Wrong). and_then x (λ low. third p low (reading s.mem (256 + s3))) in
-          ((with_s s3 q, []),
-           ap (λ x. and_then x (λ p. second p (reading s.mem (256 + s2)))) one.2 ∙ ap (second p) two.2 ∙ ap (third p lo) three.2,
-           subst (λ x. At f x (record s { regs = with_s s3 q })) (some_eq h) three.3)
+          let second = λ (p : ℕ) (x : Result ℕ Wrong). and_then x (λ low. third p low (reading s.mem (256 + s3))) in (
+            (with_s s3 q, []),
+            ap (λ x. and_then x (λ p. second p (reading s.mem (256 + s2)))) one.2 ∙ ap (second p) two.2 ∙ ap (third p lo) three.2,
+            subst (λ x. At f x (record s { regs = with_s s3 q })) (some_eq h) three.3,
+          )
 
   -- one byte, and one push
   pushes_left : (b : ℕ) (r : Regs) (w : View) → push_view room v (b ∷ []) r ≡ Some w → Left w (Ok (with_s ((s.regs.s + 255) % 256) r, (256 + s.regs.s, b) ∷ []))
@@ -277,10 +284,11 @@ module _ (f : Setup) (room : ℕ) (fits : Fits f room) (v : View) (s : State) (a
       go : (l : List ℕ) → v.stack ≡ l → pull_one m v r l ≡ Some w → Left w (and_then (pulled_byte (with_s s.regs.s r) (reading s.mem)) (λ b. unchanged (with_s (up s.regs.s) (with_pulled m r b))))
       go [] e h = cc
       go (b ∷ bs) e h =
-          let one = pulled f v s at b (with_pulled m r b) bs e in
-          ((with_s (up s.regs.s) (with_pulled m r b), []),
-           ap (λ x. and_then x (λ b. unchanged (with_s (up s.regs.s) (with_pulled m r b)))) one.2,
-           subst (λ x. At f x (record s { regs = with_s (up s.regs.s) (with_pulled m r b) })) (some_eq h) one.3)
+          let one = pulled f v s at b (with_pulled m r b) bs e in (
+            (with_s (up s.regs.s) (with_pulled m r b), []),
+            ap (λ x. and_then x (λ b. unchanged (with_s (up s.regs.s) (with_pulled m r b)))) one.2,
+            subst (λ x. At f x (record s { regs = with_s (up s.regs.s) (with_pulled m r b) })) (some_eq h) one.3,
+          )
 
   -- any mnemonic, where a reader gives the machine's bytes at the operand
   pub left : (read : Reader) (m : Mnemonic) (r : Regs) (o : ℕ) → ((b : ℕ) → read o ≡ Ok b → reading s.mem o ≡ Ok b) → (w : View) → act_kind (kind_of m) room m v r read o ≡ Some w → Left w (executed m (with_s s.regs.s r) (reading s.mem) o)

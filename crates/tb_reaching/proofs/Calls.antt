@@ -1,5 +1,5 @@
 -- A routine that is called, with what its caller keeps on the stack.
-use Rattle.std.proofs.Common.{◌≡◌, ℕ, ◌+◌, ◌≤◌, List, [], ◌∷◌, ◌++◌, length, refl, sym, subst, inl, inr, ⊎_elim, append_assoc, arith, length-append}
+use Rattle.std.proofs.Common.{◌≡◌, ℕ, ◌+◌, List, ◌++◌, length, refl, sym, subst, inl, inr, ⊎_elim, append_assoc, arith, length-append}
 use Rattle.tb_kernal.specs.Machine.{State}
 use Rattle.tb_reaching.specs.View.{View, Setup, At, Stacked, Comes}
 use Rattle.tb_reaching.proofs.Comes.{chained}

@@ -1,14 +1,13 @@
 -- The ends of a run; the papers' form; a law that begins at a barred place.
-use Rattle.std.proofs.Common.{◌≡◌, ◌≢◌, ◌⊎◌, ℕ, ◌+◌, ◌<◌, ◌≤◌, true, false, List, [], ◌∷◌, ◌++◌, length, refl, sym, ap, ◌∙◌, subst, inl, inr, ⊎_elim, arith}
+use Rattle.std.proofs.Common.{◌≡◌, ◌⊎◌, ℕ, ◌+◌, true, false, List, [], ◌∷◌, ◌++◌, length, refl, sym, ap, ◌∙◌, subst, inl, inr, ⊎_elim, arith}
 use Rattle.std.proofs.lemmas.Bool.{and_parts}
-use Rattle.tb_cpu.specs.declared.wrong.Wrong.{Wrong}
 use Rattle.tb_kernal.specs.declared.events.Event.{Event}
 use Rattle.tb_kernal.specs.declared.events.Event.TheVariants.{Go, Interrupt}
 use Rattle.tb_kernal.specs.declared.status.Status.TheVariants.{Running, Waits, Returned, Wrong as WentWrong}
 use Rattle.tb_kernal.specs.Machine.{State, status, happens, is_lawful}
 use Rattle.tb_kernal.specs.Runs.{run, all_lawful, goes}
 use Rattle.tb_reaching.specs.Reaching.{States, Reaches, Arrived, OnTheWay, NotWrong}
-use Rattle.tb_reaching.specs.View.{View, Setup, At, Part, Holds, UnderWay, Among, Comes, back_at}
+use Rattle.tb_reaching.specs.View.{View, Setup, At, Holds, UnderWay, Among, Comes, back_at}
 use Rattle.tb_reaching.specs.Start.{IsHome, IsWaiting, Homed, opened, Enters}
 use Rattle.tb_reaching.proofs.Laws.{run_append, goes_append, lawful_after, then_arrived, then_on_the_way, weakened}
 use Rattle.tb_reaching.proofs.Act.{kept_by_interrupt}
@@ -53,9 +52,11 @@ module _ (f : Setup) (above : f.home_s + length f.rest ≡ 255) where
   home_returned s h = comes_home f h.0 s h.1 h.2.pc (deep h.0 h.2.stack) h.2.binary
 
   pub home_rests : Rests (Among f (IsHome f))
-  home_rests = record { stays = λ s h e l.
-      let same = stays_home f h.0 s h.1 h.2.pc (deep h.0 h.2.stack) h.2.binary e in
-      ((h.0, subst (At f h.0) (sym same) h.1, h.2), ap (λ x. x.sent) same) }
+  home_rests = record {
+    stays = λ s h e l.
+        let same = stays_home f h.0 s h.1 h.2.pc (deep h.0 h.2.stack) h.2.binary e in
+        ((h.0, subst (At f h.0) (sym same) h.1, h.2), ap (λ x. x.sent) same);
+  }
 
 pub waiting_waits : (f : Setup) (s : State) → Among f IsWaiting s → status s ≡ Waits
 waiting_waits f s h = waits f h.0 s h.1 h.2.pc h.2.text

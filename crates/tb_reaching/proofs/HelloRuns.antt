@@ -1,5 +1,5 @@
 -- The program that sends a line, and its routine, whatever the ROM does.
-use Rattle.std.proofs.Common.{◌≡◌, ◌≢◌, ℕ, suc, ◌+◌, ◌*◌, ◌%◌, ◌<◌, ◌≤◌, Bool, true, false, List, [], ◌∷◌, ◌++◌, length, refl, sym, ap, ◌∙◌, subst, ⊎_elim, inl, inr, arith, eqb, Some}
+use Rattle.std.proofs.Common.{◌≡◌, ◌≢◌, ℕ, suc, ◌+◌, ◌*◌, ◌%◌, ◌<◌, ◌≤◌, Bool, true, false, List, [], ◌∷◌, ◌++◌, length, refl, sym, ap, ◌∙◌, subst, ⊎_elim, inl, inr, arith, eqb}
 use Rattle.std.specs.Prelude.{Ok}
 use Rattle.std.proofs.lemmas.Bool.{ne_eqb, eq-eqb, cases_eq}
 use Rattle.std.proofs.lemmas.Bool.Decides.{nat_tests}
@@ -14,7 +14,7 @@ use Rattle.tb_kernal.specs.Starts.{IsStart}
 use Rattle.tb_reaching.specs.View.{Setup, At, Part, Holds, Fits, UnderWay, Among, Comes, view, is_data, is_program}
 use Rattle.tb_reaching.specs.Start.{setup_of, view_of, home_low, home_high, IsHome}
 use Rattle.tb_reaching.specs.Placed.{Bytes, ins}
-use Rattle.tb_reaching.specs.Hello.{pointer, left, program_part, Points, Sent, SendsText, Prints, hello_text}
+use Rattle.tb_reaching.specs.Hello.{pointer, left, program_part, Sent, SendsText, Prints, hello_text}
 use Rattle.tb_reaching.proofs.Memory.{put_other, program_not_data}
 use Rattle.tb_reaching.proofs.Comes.{after, ending, looser, known}
 use Rattle.tb_reaching.proofs.Calls.{calling, under, stacked_on}

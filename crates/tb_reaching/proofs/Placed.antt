@@ -1,8 +1,7 @@
 -- Instructions at places that are not known as numbers, and data at places that are known by a proof.
-use Rattle.std.proofs.Common.{◌≡◌, ℕ, ◌+◌, ◌*◌, ◌/◌, ◌%◌, ◌≤◌, Bool, true, false, ◌&&◌, List, [], ◌∷◌, ◌++◌, length, refl, sym, ap, ◌∙◌, subst, arith, leb, Option, Some, None}
+use Rattle.std.proofs.Common.{◌≡◌, ℕ, ◌+◌, ◌*◌, ◌/◌, ◌%◌, Bool, true, false, ◌&&◌, List, [], ◌∷◌, length, refl, sym, ap, ◌∙◌, subst, arith, leb, Option, Some, None}
 use Rattle.std.specs.Prelude.{Result, Ok, Err, if◌then◌else◌, ◌==◌}
-use Rattle.tb_memmap.specs.Regions.{is_open}
-use Rattle.tb_memmap.specs.Bytes.{with_byte, written}
+use Rattle.tb_memmap.specs.Bytes.{with_byte}
 use Rattle.tb_opcodes.specs.Opcodes.{find_row, rows}
 use Rattle.tb_opcodes.specs.declared.Mnemonic.{Mnemonic}
 use Rattle.tb_opcodes.specs.declared.Mode.{Mode}
@@ -10,7 +9,7 @@ use Rattle.tb_opcodes.specs.declared.Mode.TheVariants.{Implied, Accumulator, Imm
 use Rattle.tb_cpu.specs.declared.registers.Regs.{Regs}
 use Rattle.tb_cpu.specs.declared.wrong.Wrong.{Wrong}
 use Rattle.tb_cpu.specs.declared.wrong.Wrong.TheVariants.{Closed}
-use Rattle.tb_cpu.specs.Operands.{Reader, reading, and_then, operand_of, word_at, indirect_address, is_accumulator, word}
+use Rattle.tb_cpu.specs.Operands.{reading, and_then, operand_of, word_at, indirect_address, is_accumulator, word}
 use Rattle.tb_cpu.specs.Instructions.{Outcome, executed, executed_on_a, advanced, instruction, stored}
 use Rattle.tb_kernal.specs.Machine.{State}
 use Rattle.tb_reaching.specs.View.{View, Setup, At, Part, Fits, Comes, with_s, is_data}

@@ -1,6 +1,5 @@
 -- CHROUT, CHRIN and GETIN; waiting for a key, and coming home.
-use Rattle.std.proofs.Common.{◌≡◌, ℕ, ◌+◌, ◌*◌, ◌%◌, ◌≤◌, Bool, true, false, not, ◌&&◌, ◌||◌, List, [], ◌∷◌, ◌++◌, length, drop, refl, sym, ap, ◌∙◌, subst, ap₂, arith, eqb, leb, Some, None, append-nil, inl}
-use Rattle.std.specs.Prelude.{◌==◌}
+use Rattle.std.proofs.Common.{◌≡◌, ℕ, ◌+◌, ◌%◌, true, false, not, ◌&&◌, ◌||◌, List, [], ◌∷◌, ◌++◌, length, drop, refl, sym, ap, ◌∙◌, subst, ap₂, arith, eqb, leb, Some, None, append-nil, inl}
 use Rattle.std.proofs.lemmas.Bool.{ne_eqb, eq-eqb, leb-true}
 use Rattle.tb_memmap.specs.Bytes.{written}
 use Rattle.tb_cpu.specs.declared.registers.Regs.{Regs}
@@ -12,7 +11,7 @@ use Rattle.tb_kernal.specs.declared.events.Event.{Event}
 use Rattle.tb_kernal.specs.declared.events.Event.TheVariants.{Go, Interrupt}
 use Rattle.tb_kernal.specs.declared.status.Status.TheVariants.{Running, Waits, Returned}
 use Rattle.tb_kernal.specs.Places.{all_writable, service_at}
-use Rattle.tb_kernal.specs.Machine.{State, status, status_by, is_home, waits_for, happens, gone, gone_at, served, after_service, clobbered, returned, first_or_zero, interrupted, is_lawful, is_lawful_go, is_lawful_event, is_stopped}
+use Rattle.tb_kernal.specs.Machine.{State, status, status_by, waits_for, happens, gone, gone_at, served, after_service, clobbered, returned, first_or_zero, interrupted, is_lawful, is_lawful_go, is_lawful_event, is_stopped}
 use Rattle.tb_reaching.specs.View.{View, Setup, At, Fits, Comes, with_s, back_at}
 use Rattle.tb_reaching.proofs.Act.{kept_by_interrupt, rom_wrote, pc_here, pulled, not_home, up}
 use Rattle.tb_reaching.proofs.Comes.{comes_by, chained, looser}

@@ -1,6 +1,6 @@
 -- From an arbitrary start.
-use Rattle.std.proofs.Common.{◌≡◌, ℕ, zero, suc, ◌+◌, ◌-◌, ◌*◌, ◌%◌, ◌≤◌, ◌<◌, Bool, true, false, ◌&&◌, List, [], ◌∷◌, length, refl, sym, ap, ◌∙◌, ⊎_elim, arith, eqb, Some, None}
-use Rattle.std.specs.Prelude.{◌==◌, if◌then◌else◌}
+use Rattle.std.proofs.Common.{◌≡◌, ℕ, zero, suc, ◌+◌, ◌-◌, ◌%◌, ◌≤◌, ◌<◌, Bool, true, ◌&&◌, List, [], ◌∷◌, length, refl, sym, ap, ◌∙◌, ⊎_elim, arith, eqb, Some}
+use Rattle.std.specs.Prelude.{if◌then◌else◌}
 use Rattle.std.proofs.lemmas.Bool.{and_parts, cases_eq, eqb-true, eq-eqb, ne_eqb}
 use Rattle.std.proofs.lemmas.Bool.Decides.{nat_tests}
 use Rattle.tb_cpu.specs.Operands.{word}
@@ -32,8 +32,10 @@ lies place (x ∷ bytes) m from to h a b e = by_place (lies (place + 1) bytes m 
   where
     by_place : (part_at (place + 1) bytes a ≡ Some b → (is_program a ≡ true) × (m a ≡ b)) → (is_program a ≡ true) × (m a ≡ b)
     by_place later = ⊎_elim
-        (λ s. (in_program a (omega arith) (omega arith),
-               ap m (let z : a ≡ place + 0 = omega arith in z) ∙ h 0 (omega arith) ∙ some_eq (ap (λ t. if t then Some x else part_at (place + 1) bytes a) (sym (eq-eqb a place s)) ∙ e)))
+        (λ s. (
+          in_program a (omega arith) (omega arith),
+          ap m (let z : a ≡ place + 0 = omega arith in z) ∙ h 0 (omega arith) ∙ some_eq (ap (λ t. if t then Some x else part_at (place + 1) bytes a) (sym (eq-eqb a place s)) ∙ e),
+        ))
         (λ n. later (ap (λ t. if t then Some x else part_at (place + 1) bytes a) (sym (ne_eqb a place n)) ∙ e))
         (cases_eq a place)
 

@@ -31,11 +31,9 @@ pub const HELLO: [u8; 48] = [
 /// The routine in [`HELLO`] sends the text that it is pointed to, from its entry to its return, whatever the ROM does.
 pub fn sends_text()
     ensures { SendsText HELLO }
-{
-}
+{}
 
 /// [`HELLO`] sends its line and returns, from every start, whatever the ROM does.
 pub fn prints_hello()
     ensures { Prints HELLO hello_text 66 }
-{
-}
+{}
