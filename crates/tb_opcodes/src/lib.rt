@@ -1,8 +1,8 @@
 //! The documented instructions of the NMOS 6502: opcodes, mnemonics and addressing modes.
 //!
 //! The table of 151 rows is `rows` in `specs/Opcodes.antt`, in the manual's order, by mnemonic.
-//! The code's table, in the order of the opcodes, was typed from the opcodes' bit structure and
-//! not from that list, so that a slip in either is refused. No call takes memory.
+//! The code has a table of its own, in the order of the opcodes: the proof compares the two, and a
+//! test compares both with the table rebuilt from the opcodes' bit structure. No call takes memory.
 #![tactic(auto)]
 
 ghost use Rattle.std.specs.Prelude.{◌≡◌, ◌<◌, ◌≢◌, ℕ, Some, None, MatchOption, IsTrue, ◌↔◌};
