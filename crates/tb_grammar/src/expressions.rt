@@ -184,7 +184,8 @@ fn term(alloc: Global, nesting: usize, text: &[u8]) -> Result<Front<'_>, Stop>
 {
     let mut found = factor(alloc, nesting, text)?;
     while let Some((op, operand)) = operator_of(found.rest) {
-        found = joined(alloc, op, found, factor(alloc, nesting, operand)?)?;
+        let right = factor(alloc, nesting, operand)?;
+        found = joined(alloc, op, found, right)?;
     }
     Ok(found)
 }
@@ -214,7 +215,8 @@ fn sum(alloc: Global, nesting: usize, text: &[u8]) -> Result<Front<'_>, Stop>
 {
     let mut found = signed(alloc, nesting, text)?;
     while let Some((op, operand)) = sign_of(found.rest) {
-        found = joined(alloc, op, found, term(alloc, nesting, operand)?)?;
+        let right = term(alloc, nesting, operand)?;
+        found = joined(alloc, op, found, right)?;
     }
     Ok(found)
 }
