@@ -1,6 +1,5 @@
 //! Rows of the machine beside its ROM.
 ghost use Rattle.std.specs.Prelude.{◌≡◌, true};
-ghost use Rattle.tb_kernal.specs.Machine.{state_of, is_lawful};
 
 use arrayvec::ArrayVec;
 use std::alloc::Global;
