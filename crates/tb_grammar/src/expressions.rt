@@ -14,7 +14,7 @@ use tb_syntax::{Expr, Operator};
 use tb_words::Letter;
 
 /// An expression at the front of a text, and what is left behind it.
-#[derive(Debug, Drop)]
+#[derive(Drop)]
 pub(crate) struct Front<'a> {
     pub(crate) expr: Expr,
     /// How much of the text is left where the first literal above 65,535 begins.
