@@ -42,6 +42,22 @@ part_next at b bs a x e = ⊎_elim
     (λ n. ap (λ t. if t then Some b else part_at (at + 1) bs a) (ne_eqb a at n) ∙ e)
     (cases_eq a at)
 
+-- the front and the back of a list of bytes
+pub part_front : (at : ℕ) (xs ys : List ℕ) → Holds (part_at at xs) (part_at at (xs ++ ys))
+part_front at [] ys a x e = cc
+part_front at (b ∷ xs) ys a x e = ⊎_elim
+    (λ s. ap (λ t. if t then Some b else part_at (at + 1) (xs ++ ys) a) (eq-eqb a at s) ∙ sym (ap (λ t. if t then Some b else part_at (at + 1) xs a) (eq-eqb a at s)) ∙ e)
+    (λ n. ap (λ t. if t then Some b else part_at (at + 1) (xs ++ ys) a) (ne_eqb a at n) ∙ part_front (at + 1) xs ys a x (sym (ap (λ t. if t then Some b else part_at (at + 1) xs a) (ne_eqb a at n)) ∙ e))
+    (cases_eq a at)
+
+pub part_back : (at : ℕ) (xs ys : List ℕ) → Holds (part_at (at + length xs) ys) (part_at at (xs ++ ys))
+part_back at [] ys = subst (λ n. Holds (part_at n ys) (part_at at ys)) (let e : at ≡ at + 0 = omega arith in e) (holds_itself (part_at at ys))
+part_back at (b ∷ xs) ys =
+    let later : at + 1 + length xs ≡ at + length (b ∷ xs) = omega arith in
+    holds_then (part_at (at + length (b ∷ xs)) ys) (part_at (at + 1) (xs ++ ys)) (part_at at (b ∷ (xs ++ ys)))
+    (subst (λ n. Holds (part_at n ys) (part_at (at + 1) (xs ++ ys))) later (part_back (at + 1) xs ys))
+    (part_next at b (xs ++ ys))
+
 pub bytes_same : (p q : Part) → Holds p q → (at : ℕ) (bs : List ℕ) → Bytes p at bs → Bytes q at bs
 bytes_same p q h at [] b = tt
 bytes_same p q h at (x ∷ bs) b = (h at x b.0, bytes_same p q h ((at + 1) % 65536) bs b.1)
