@@ -1,5 +1,5 @@
 -- The machine runs any bytes.
-use Rattle.std.proofs.Common.{◌≡◌, Bool, true, false, refl, ap, sym, ◌∙◌, subst, ◌⊎◌, inl, inr}
+use Rattle.std.proofs.Common.{◌≡◌, Bool, true, false, refl, sym, subst, ◌⊎◌, inl, inr}
 use Rattle.std.specs.Prelude.{Option, Some, None, Result, Ok, Err}
 use Rattle.tb_cpu.specs.declared.wrong.Wrong.{Wrong}
 use Rattle.tb_cpu.specs.Instructions as cpu
@@ -7,9 +7,9 @@ use Rattle.tb_cpu.specs.Instructions.{next}
 use Rattle.tb_kernal.specs.declared.places.Service.{Service}
 use Rattle.tb_kernal.specs.declared.places.Service.TheVariants.{Chrout, Chrin, Getin}
 use Rattle.tb_kernal.specs.declared.events.Clobber.{Clobber}
-use Rattle.tb_kernal.specs.declared.status.Status.TheVariants.{Running, Wrong as WentWrong}
+use Rattle.tb_kernal.specs.declared.status.Status.TheVariants.{Running}
 use Rattle.tb_kernal.specs.Places.{service_at}
-use Rattle.tb_kernal.specs.Machine.{State, status, status_by, is_home, waits_for, stepped, gone, gone_at}
+use Rattle.tb_kernal.specs.Machine.{State, status_by, is_home, waits_for, stepped, gone, gone_at}
 use Rattle.tb_kernal.specs.Laws.{Refused, RunsAnyBytes}
 
 abbrev GoesOn : State → State → Type 0

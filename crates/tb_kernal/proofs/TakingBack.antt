@@ -1,10 +1,11 @@
 -- Undoing takes an event back.
-use Rattle.std.proofs.Common.{◌≡◌, ℕ, ◌+◌, ◌-◌, ◌<◌, ◌≤◌, ◌%◌, Bool, true, false, ◌&&◌, ◌||◌, not, List, [], ◌∷◌, ◌++◌, length, take, arith, refl, ap, sym, ◌∙◌, subst, ◌⊎◌, inl, inr, nat_eq, length-append}
+use Rattle.std.proofs.Common.{◌≡◌, ℕ, ◌+◌, ◌-◌, ◌<◌, ◌≤◌, ◌%◌, Bool, true, false, ◌&&◌, ◌||◌, not, [], ◌∷◌, length, take, arith, refl, ap, ◌∙◌, ◌⊎◌, inl, inr, nat_eq, length-append}
+use Rattle.std.proofs.lemmas.Bool.{and_from, and_parts, or_left, or_right, or_cases}
 use Rattle.std.specs.Prelude.{◌==◌, if◌then◌else◌, Option, Some, None, Result, Ok, Err, nat_le}
 use Rattle.std.proofs.lemmas.Bool.Decides.{nat_tests}
 use Rattle.std.proofs.Math.Seq.{take-append_seam, take-length}
 use Rattle.tb_memmap.specs.Regions.{is_open}
-use Rattle.tb_memmap.specs.Bytes.{Writes, with_byte, written, at}
+use Rattle.tb_memmap.specs.Bytes.{Writes, written, at}
 use Rattle.tb_cpu.specs.declared.wrong.Wrong.{Wrong}
 use Rattle.tb_cpu.specs.Operands.{reading}
 use Rattle.tb_cpu.specs.Instructions as cpu
@@ -17,34 +18,13 @@ use Rattle.tb_kernal.specs.declared.events.Event.{Event}
 use Rattle.tb_kernal.specs.declared.events.Event.TheVariants.{Go, Interrupt}
 use Rattle.tb_kernal.specs.declared.status.Status.{Status}
 use Rattle.tb_kernal.specs.declared.status.Status.TheVariants.{Running, Waits, Returned, Wrong as WentWrong}
-use Rattle.tb_kernal.specs.declared.status.EventError.{EventError}
 use Rattle.tb_kernal.specs.declared.status.EventError.TheVariants.{Unlawful, Sent}
 use Rattle.tb_kernal.specs.Notes.{Note}
 use Rattle.tb_kernal.specs.Places.{all_writable, all_open, old_of, written_open, service_at}
-use Rattle.tb_kernal.specs.Machine.{State, Content, state_of, status, is_stopped, happens, gone, gone_at, stepped, interrupted, is_lawful, is_lawful_go, sends, refusal, Happened, SameKeyboard}
+use Rattle.tb_kernal.specs.Machine.{State, Content, state_of, status, is_stopped, happens, gone, gone_at, stepped, is_lawful, is_lawful_go, sends, SameKeyboard}
 use Rattle.tb_kernal.specs.Undoing.{Noted, Undone, TakesBack, SameButRoom, places_of, places_of_go, back_to}
 use Rattle.tb_kernal.proofs.WriteLists.{rom_writable_open}
-use Rattle.tb_kernal.proofs.Keeping.{is_among, all_among, AreOf, restored_open}
-
--- ---- tests
-
-or_right : (b c : Bool) → c ≡ true → (b || c) ≡ true
-or_right true c e = refl
-or_right false c e = e
-
-or_left : (b c : Bool) → b ≡ true → (b || c) ≡ true
-or_left b c e = rw e refl
-
-either : (b c : Bool) → (b || c) ≡ true → (b ≡ true) ⊎ (c ≡ true)
-either true c e = inl refl
-either false c e = inr e
-
-both : (b c : Bool) → b ≡ true → c ≡ true → (b && c) ≡ true
-both b c p q = rw (p, q) refl
-
-both_true : (b c : Bool) → (b && c) ≡ true → (b ≡ true) × (c ≡ true)
-both_true true c e = (refl, e)
-both_true false c e = absurd (cc)
+use Rattle.tb_kernal.proofs.Restoring.{is_among, all_among, AreOf, restored_open}
 
 -- ---- the bytes noted
 
@@ -75,28 +55,28 @@ old_among : (m : ℕ → ℕ) (a : ℕ) (ps : Writes) → is_open a ≡ true →
 old_among m a [] h o = absurd (cc)
 old_among m a (p ∷ ps) h o =
     let found : (nat_eq a p.0 ≡ true) ⊎ (is_among a (old_of m ps) ≡ true) =
-    elim (either (nat_eq a p.0) (is_among a ps) o) [ inl e ↦ inl e | inr e ↦ inr (old_among m a ps h e) ] in
+    elim (or_cases (nat_eq a p.0) (is_among a ps) o) [ inl e ↦ inl e | inr e ↦ inr (old_among m a ps h e) ] in
     noted_among (is_open p.0) m a p.0 (old_of m ps) refl h found
 
 all_old_among : (m : ℕ → ℕ) (ws ps : Writes) → all_open ws ≡ true → all_among ws ps ≡ true → all_among ws (old_of m ps) ≡ true
 all_old_among m [] ps o a = refl
 all_old_among m (w ∷ ws) ps o a =
-    let p = both_true (is_open w.0) (all_open ws) o in
-    let q = both_true (is_among w.0 ps) (all_among ws ps) a in
-    both _ _ (old_among m w.0 ps p.0 q.0) (all_old_among m ws ps p.1 q.1)
+    let p = and_parts (is_open w.0) (all_open ws) o in
+    let q = and_parts (is_among w.0 ps) (all_among ws ps) a in
+    and_from _ _ (old_among m w.0 ps p.0 q.0) (all_old_among m ws ps p.1 q.1)
 
 among_more : (p : ℕ × ℕ) (ws us : Writes) → all_among ws us ≡ true → all_among ws (p ∷ us) ≡ true
 among_more p [] us h = refl
 among_more p (w ∷ ws) us h =
-    let q = both_true (is_among w.0 us) (all_among ws us) h in
-    both _ _ (or_right (nat_eq w.0 p.0) _ q.0) (among_more p ws us q.1)
+    let q = and_parts (is_among w.0 us) (all_among ws us) h in
+    and_from _ _ (or_right (nat_eq w.0 p.0) _ q.0) (among_more p ws us q.1)
 
 same_is : (a : ℕ) → nat_eq a a ≡ true
 same_is a = grind (arith, nat_tests)
 
 among_itself : (ws : Writes) → all_among ws ws ≡ true
 among_itself [] = refl
-among_itself (w ∷ ws) = both _ _ (or_left (nat_eq w.0 w.0) (is_among w.0 ws) (same_is w.0)) (among_more w ws ws (among_itself ws))
+among_itself (w ∷ ws) = and_from _ _ (or_left (nat_eq w.0 w.0) (is_among w.0 ws) (same_is w.0)) (among_more w ws ws (among_itself ws))
 
 -- writes to open places among those noted are taken back
 writes_back : (m : ℕ → ℕ) (ps ws : Writes) → all_open ws ≡ true → all_among ws ps ≡ true → written_open (written m ws) (old_of m ps) ≡ m
@@ -109,8 +89,8 @@ nothing_back m ps = writes_back m ps [] refl refl
 writable_open : (s : ℕ) (ws : Writes) → s < 256 → all_writable s ws ≡ true → all_open ws ≡ true
 writable_open s [] l h = refl
 writable_open s (w ∷ ws) l h =
-    let p = both_true _ _ h in
-    both _ _ (rom_writable_open s w.0 l p.0) (writable_open s ws l p.1)
+    let p = and_parts _ _ h in
+    and_from _ _ (rom_writable_open s w.0 l p.0) (writable_open s ws l p.1)
 
 -- the ROM's own writes
 own_back : (s : ℕ) (m : ℕ → ℕ) (ws : Writes) → s < 256 → all_writable s ws ≡ true → written_open (written m ws) (old_of m ws) ≡ m
@@ -128,11 +108,11 @@ touched_among s o a (inr (inr e)) = grind (arith, nat_tests)
 
 all_touched_among : (s o : ℕ) (ws : Writes) → AllTouched s o ws → all_among ws (three s o) ≡ true
 all_touched_among s o [] h = refl
-all_touched_among s o (w ∷ ws) h = both _ _ (touched_among s o w.0 h.0) (all_touched_among s o ws h.2)
+all_touched_among s o (w ∷ ws) h = and_from _ _ (touched_among s o w.0 h.0) (all_touched_among s o ws h.2)
 
 all_touched_open : (s o : ℕ) (ws : Writes) → AllTouched s o ws → all_open ws ≡ true
 all_touched_open s o [] h = refl
-all_touched_open s o (w ∷ ws) h = both _ _ h.1 (all_touched_open s o ws h.2)
+all_touched_open s o (w ∷ ws) h = and_from _ _ h.1 (all_touched_open s o ws h.2)
 
 stepped_back : (s : State) (o : ℕ) (x : Result Outcome Wrong) → Touches s.regs.s o x → written_open (stepped s (finished s.mem x)).mem (old_of s.mem (three s.regs.s o)) ≡ s.mem
 stepped_back s o (Ok (r, ws)) h = writes_back s.mem (three s.regs.s o) ws (all_touched_open s.regs.s o ws h) (all_touched_among s.regs.s o ws h)

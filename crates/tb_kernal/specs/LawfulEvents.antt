@@ -1,5 +1,6 @@
 -- That the events of the given outsides are lawful: lemmas, which stand here since each outside cites its own for the law of `Outside`.
-use Rattle.std.proofs.Common.{ℕ, ◌≡◌, ◌+◌, ◌-◌, ◌/◌, ◌%◌, Bool, true, false, ◌||◌, List, [], ◌∷◌, refl, arith}
+use Rattle.std.proofs.Common.{ℕ, ◌≡◌, ◌-◌, ◌/◌, ◌%◌, Bool, true, false, List, [], ◌∷◌, refl, arith}
+use Rattle.std.proofs.lemmas.Bool.{or_right}
 use Rattle.std.specs.Prelude.{◌==◌, if◌then◌else◌, Option, Some, None}
 use Rattle.std.proofs.lemmas.Bool.Decides.{nat_tests}
 use Rattle.tb_memmap.specs.Bytes.{Writes}
@@ -15,10 +16,6 @@ lawful_go : (o : Option Service) (s : ℕ) → is_lawful_go o s [] ≡ true
 lawful_go None s = refl
 lawful_go (Some _) s = refl
 
-or_true : (b c : Bool) → c ≡ true → (b || c) ≡ true
-or_true true c e = refl
-or_true false c e = e
-
 abbrev pub writes_of : Event → Writes
 writes_of (Go k) = k.writes.items
 writes_of (Interrupt ws) = ws.items
@@ -29,12 +26,12 @@ lawful_at (Some _) s ws h = h
 
 -- an event whose writes the ROM may make is lawful
 pub lawful_by : (m : Content) (e : Event) → all_writable m.regs.s (writes_of e) ≡ true → is_lawful (state_of m) e ≡ true
-lawful_by m (Go k) h = or_true (is_stopped (status (state_of m))) _ (lawful_at (service_at m.regs.pc) m.regs.s k.writes.items h)
-lawful_by m (Interrupt ws) h = or_true (is_stopped (status (state_of m))) _ h
+lawful_by m (Go k) h = or_right (is_stopped (status (state_of m))) _ (lawful_at (service_at m.regs.pc) m.regs.s k.writes.items h)
+lawful_by m (Interrupt ws) h = or_right (is_stopped (status (state_of m))) _ h
 
 pub quiet_is_lawful : (m : Content) (e : Event) → is_quiet m e → is_lawful (state_of m) e ≡ true
 quiet_is_lawful m e h =
-    rw h (or_true (is_stopped (status (state_of m))) _ (lawful_go (service_at m.regs.pc) m.regs.s))
+    rw h (or_right (is_stopped (status (state_of m))) _ (lawful_go (service_at m.regs.pc) m.regs.s))
 
 chosen : (b : Bool) (m : Content) (e : Event) → is_lawful (state_of m) e ≡ b → is_lawful (state_of m) (if b then e else Go (quiet m)) ≡ true
 chosen true m e h = h

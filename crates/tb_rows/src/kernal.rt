@@ -1,4 +1,6 @@
 //! Rows of the machine beside its ROM.
+ghost use Rattle.std.specs.Prelude.{◌≡◌, true};
+
 use arrayvec::ArrayVec;
 use std::alloc::Global;
 use std::test::Fail;
@@ -379,5 +381,114 @@ fn undone_events(rt: HostRuntime) -> Result<(), Fail> {
             );
         }
     }
+    Ok(())
+}
+
+#[test]
+fn refused_room(rt: HostRuntime) -> Result<(), Fail> {
+    let mut machine = machine_with(rt.alloc(), &[0xea], START, &[], &[])?;
+    assert_eq!(rt; machine.reserve(usize::MAX), Err(NoMemory));
+    assert_eq!(rt; machine.room(), 0);
+    assert_eq!(rt; machine.reserve(0), Ok(()));
+    Ok(())
+}
+
+// How a program ends that runs with nothing outside, and where PC then is.
+fn ending(alloc: Global, program: &[u8]) -> Result<(Status, u16), Fail> {
+    let mut machine = machine_with(alloc, program, START, &[], &[])?;
+    let status = run(&mut machine, &mut Quiet, 10_000)?;
+    Ok((status, machine.regs().pc))
+}
+
+#[test]
+fn endings(rt: HostRuntime) -> Result<(), Fail> {
+    let rows: [(&[u8], Status, u16); 8] = [
+        // it writes its own next opcode
+        (
+            &[0xa9, 0x60, 0x8d, 0x05, 0xc0, 0x00],
+            Status::Returned,
+            0xa100,
+        ),
+        (&[0x00], Status::Wrong(Wrong::Brk), 0xc000),
+        (&[0x02], Status::Wrong(Wrong::UnknownOpcode), 0xc000),
+        (
+            &[0xf8, 0xa9, 0x0a, 0x69, 0x01],
+            Status::Wrong(Wrong::BadDecimal),
+            0xc003,
+        ),
+        // D is set, so it has not returned
+        (&[0xf8, 0x60], Status::Wrong(Wrong::Closed(0xa100)), 0xa100),
+        // it drops its return address
+        (
+            &[0x68, 0x68, 0x60],
+            Status::Wrong(Wrong::Closed(0x0001)),
+            0x0001,
+        ),
+        (&[0x4c, 0x00, 0xc0], Status::Running, 0xc000),
+        (&[0x20, 0xcf, 0xff], Status::Waits, 0xffcf),
+    ];
+    for (program, status, pc) in rows {
+        assert_eq!(rt; ending(rt.alloc(), program)?, (status, pc), "{program:?}");
+    }
+    Ok(())
+}
+
+// An outside of a caller's own: each Go comes after an Interrupt with no writes.
+#[derive(Drop)]
+struct Fidgety {
+    interrupts: bool,
+}
+
+impl Outside for Fidgety {
+    ghost use Rattle.tb_kernal.specs.Machine.{Content, state_of, is_lawful};
+
+    ghost gives = { λ _ m e _. is_lawful (state_of m) e ≡ true };
+
+    ghost gives_lawful = { λ _ m e _ h. h };
+
+    fn next(&mut self, machine: &Machine) -> Event {
+        self.interrupts = !self.interrupts;
+        let event = if self.interrupts {
+            Event::Interrupt(ArrayVec::new())
+        } else {
+            go()
+        };
+        if machine.lawful(&event) {
+            event
+        } else {
+            Quiet.next(machine)
+        }
+    }
+}
+
+// What a program that sends H comes to, and what it sent.
+fn sent_over<O: Outside>(
+    alloc: Global,
+    outside: &mut O,
+    limit: u64,
+) -> Result<(Status, bool), Fail> {
+    let program = [0xa9, 0x48, 0x20, 0xd2, 0xff, 0x60];
+    let mut machine = machine_with(alloc, &program, START, &[], &[])?;
+    let status = run(&mut machine, outside, limit)?;
+    Ok((status, machine.sent() == b"H".as_slice()))
+}
+
+#[test]
+fn four_outsides(rt: HostRuntime) -> Result<(), Fail> {
+    let done = (Status::Returned, true);
+    assert_eq!(rt; sent_over(rt.alloc(), &mut Quiet, 4)?, done);
+    assert_eq!(rt;
+        sent_over(rt.alloc(), &mut Quiet, 3)?,
+        (Status::Running, true)
+    );
+    assert_eq!(rt;
+        sent_over(rt.alloc(), &mut Recorded::new(Vec::new(rt.alloc())), 4)?,
+        done
+    );
+    assert_eq!(rt; sent_over(rt.alloc(), &mut Rude::new(1), 100)?, done);
+    assert_eq!(rt;
+        sent_over(rt.alloc(), &mut Fidgety { interrupts: false }, 8)?,
+        done
+    );
     Ok(())
 }

@@ -16,7 +16,8 @@ impl Machine {
     // The ROM's writes.
     pub(super) fn rewrite(&mut self, writes: &Writes)
         requires { all_writable self.old.regs.s writes.now.items ≡ true }
-        ensures state { state_of self.new ≡ record (state_of self.old) { mem = written (at self.old.memory) writes.now.items } }
+        ensures state { state_of self.new ≡
+            record (state_of self.old) { mem = written (at self.old.memory) writes.now.items } }
         ensures keyboard { SameKeyboard self.old self.new }
         ensures room { self.new.room ≡ self.old.room }
     {
@@ -25,12 +26,15 @@ impl Machine {
 
     // A Go in a running machine.
     pub(super) fn go(&mut self, clobber: &Clobber)
-        requires lawful { is_lawful_go (service_at self.old.regs.pc) self.old.regs.s clobber.now.writes.items ≡ true }
+        requires lawful { is_lawful_go (service_at self.old.regs.pc) self.old.regs.s
+            clobber.now.writes.items ≡ true }
         requires room { service_at self.old.regs.pc ≡ Some Chrout → 0 < self.old.room }
         requires text { waits_for (service_at self.old.regs.pc) (text_left self.old) ≡ false }
-        ensures state { state_of self.new ≡ gone_at (service_at self.old.regs.pc) clobber.now (state_of self.old) }
+        ensures state { state_of self.new ≡
+            gone_at (service_at self.old.regs.pc) clobber.now (state_of self.old) }
         ensures keyboard { SameKeyboard self.old self.new }
-        ensures room { self.new.room + length self.new.sent ≡ self.old.room + length self.old.sent }
+        ensures room { self.new.room + length self.new.sent
+            ≡ self.old.room + length self.old.sent }
     {
         match service_of(self.regs.pc) {
             None => self.step(),
@@ -43,7 +47,8 @@ impl Machine {
     // An instruction of the program.
     #[inline(always)]
     pub(super) fn step(&mut self)
-        ensures state { state_of self.new ≡ stepped (state_of self.old) (next self.old.regs (at self.old.memory)) }
+        ensures state { state_of self.new ≡
+            stepped (state_of self.old) (next self.old.regs (at self.old.memory)) }
         ensures keyboard { SameKeyboard self.old self.new }
         ensures room { self.new.room ≡ self.old.room }
         ensures sent { self.new.sent ≡ self.old.sent }

@@ -1,10 +1,8 @@
 //! Undoing the newest event.
-ghost use Rattle.std.specs.Prelude.{◌≡◌, ◌+◌, ◌%◌, ◌∷◌, [], take, length};
+ghost use Rattle.std.specs.Prelude.{◌≡◌, ◌+◌, take, length};
 ghost use Rattle.tb_memmap.specs.Bytes.{at};
-ghost use Rattle.tb_cpu.specs.Operands.{reading};
-ghost use Rattle.tb_cpu.specs.Instructions.{place_of};
 ghost use Rattle.tb_kernal.specs.Places.{old_of};
-ghost use Rattle.tb_kernal.specs.Undoing.{Undone, Noted, TakesBack, back_to, places_of};
+ghost use Rattle.tb_kernal.specs.Undoing.{Undone, Noted, TakesBack, back_to, places_of, places_of_step};
 
 use crate::events::{Event, Writes};
 use crate::machine::Machine;
@@ -29,12 +27,19 @@ impl Model for Undo {
 
     ghost Value = { Note };
 
-    ghost view = { λ u. record { regs = u.regs; wrong = u.wrong; text_taken = u.text_taken; answers_taken = u.answers_taken; sent = u.sent; bytes = u.bytes.items } };
+    ghost view = { λ u. record {
+      regs = u.regs;
+      wrong = u.wrong;
+      text_taken = u.text_taken;
+      answers_taken = u.answers_taken;
+      sent = u.sent;
+      bytes = u.bytes.items;
+    } };
 }
 
 impl Machine {
-    /// What an event may change, to be handed to `undo` after it: registers, the refusal, how much was taken and sent, and the bytes at the places
-    /// that the event can write.
+    /// What an event may change, to be handed to `undo` after it: registers, the refusal, how much
+    /// was taken and sent, and the bytes at the places that the event can write.
     pub fn note(&self, event: &Event) -> Undo
         ensures { Noted result self.now event.now }
     {
@@ -65,7 +70,7 @@ impl Machine {
     }
 
     fn note_step(&self) -> Writes
-        ensures { result.items ≡ old_of (at self.now.memory) ((place_of self.now.regs (reading (at self.now.memory)), 0) ∷ (256 + self.now.regs.s, 0) ∷ (256 + (self.now.regs.s + 255) % 256, 0) ∷ []) }
+        ensures { result.items ≡ old_of (at self.now.memory) (places_of_step self.now) }
     {
         let mut places = ArrayVec::new();
         places.push((operand_place(&self.regs, &self.memory), 0));
@@ -76,8 +81,9 @@ impl Machine {
 
     /// Takes back the newest event, by the note that was made just before it.
     ///
-    /// On a machine that differs at most in room from what that event came to, this restores registers, memory, sent bytes, keyboard and
-    /// status, and raises the room by the count of bytes that the event sent.
+    /// On a machine that differs at most in room from what that event came to, this restores
+    /// registers, memory, sent bytes, keyboard and status, and raises the room by the count of
+    /// bytes that the event sent.
     pub fn undo(&mut self, undo: &Undo)
         ensures restored { Undone undo.now self.old self.new }
         ensures taken_back { TakesBack undo.now self.old self.new }
@@ -91,7 +97,11 @@ impl Machine {
 
     // The keys taken since the note count as not taken.
     fn give_back_keys(&mut self, undo: &Undo)
-        ensures { self.new ≡ record self.old { text_taken = back_to undo.now.text_taken self.old.text_taken (length self.old.all_text); answers_taken = back_to undo.now.answers_taken self.old.answers_taken (length self.old.all_answers) } }
+        ensures { self.new ≡ record self.old {
+          text_taken = back_to undo.now.text_taken self.old.text_taken (length self.old.all_text);
+          answers_taken =
+              back_to undo.now.answers_taken self.old.answers_taken (length self.old.all_answers);
+        } }
     {
         if undo.text_taken <= self.keyboard.text.len() {
             self.text_taken = undo.text_taken;
@@ -103,8 +113,10 @@ impl Machine {
 
     // Keeps the first `n` of the bytes sent; the others become room.
     fn forget(&mut self, n: usize)
-        ensures rest { self.new ≡ record self.old { sent = take n self.old.sent; room = self.new.room } }
-        ensures room { self.new.room + length self.new.sent ≡ self.old.room + length self.old.sent }
+        ensures rest { self.new ≡
+            record self.old { sent = take n self.old.sent; room = self.new.room } }
+        ensures room { self.new.room + length self.new.sent
+            ≡ self.old.room + length self.old.sent }
     {
         if n < self.sent.len() {
             self.room += self.sent.len() - n;

@@ -1,0 +1,44 @@
+-- The crate's trees as plain data.
+use Rattle.std.specs.Prelude.{ℕ, List, map}
+use Rattle.tb_words.specs.Letters.{place}
+use Rattle.tb_words.specs.declared.Letter.{Letter}
+use Rattle.tb_syntax.specs.declared.expressions.Expr.{Expr}
+use Rattle.tb_syntax.specs.declared.expressions.Expr.TheVariants as expr
+use Rattle.tb_syntax.specs.declared.statements.PrintItem.{PrintItem}
+use Rattle.tb_syntax.specs.declared.statements.PrintItem.TheVariants as item
+use Rattle.tb_syntax.specs.declared.statements.Statement.{Statement}
+use Rattle.tb_syntax.specs.declared.statements.Statement.TheVariants as statement
+use Rattle.tb_syntax.specs.Source.{Expression, Number, Variable, Negate, Binary, Random, Item, Text, Value, Zone, Command, Let, Print, Input, If, Goto, Gosub, Return, End, Remark, Numbered, Program}
+
+abbrev pub expression_of : Expr → Expression
+expression_of (expr.Number n) = Number n
+expression_of (expr.Variable x) = Variable (place x)
+expression_of (expr.Negate' p e) = Negate (expression_of e)
+expression_of (expr.Binary' op p l q r) = Binary op (expression_of l) (expression_of r)
+expression_of (expr.Random' p e) = Random (expression_of e)
+
+abbrev pub item_of : PrintItem → Item
+item_of (item.Text t) = Text t.items
+item_of (item.Value e) = Value (expression_of e)
+item_of item.Zone = Zone
+
+abbrev pub letters_of : List Letter → List ℕ
+letters_of xs = map place xs
+
+abbrev pub command_of : Statement → Command
+command_of (statement.Let x e) = Let (place x) (expression_of e)
+command_of (statement.Print items ends) = Print (map item_of items.items) ends
+command_of (statement.Input xs) = Input (letters_of xs.items)
+command_of (statement.If' l rel r p s) = If (expression_of l) rel (expression_of r) (command_of s)
+command_of (statement.Goto e) = Goto (expression_of e)
+command_of (statement.Gosub e) = Gosub (expression_of e)
+command_of statement.Return = Return
+command_of statement.End = End
+command_of statement.Remark = Remark
+
+abbrev pub line_of : ℕ × Statement → Numbered Command
+line_of l = record { number = l.0; content = command_of l.1 }
+
+-- a program's model, which is the list of its numbers and statements
+abbrev pub lines_of : List (ℕ × Statement) → Program
+lines_of ls = map line_of ls

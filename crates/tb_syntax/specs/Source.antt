@@ -1,0 +1,40 @@
+-- Programs as plain data: no pointers, texts as lists of bytes, a letter by its place from 0 for A.
+use Rattle.std.specs.Prelude.{ℕ, Bool, List, map}
+use Rattle.tb_words.specs.declared.Rel.{Rel}
+use Rattle.tb_syntax.specs.declared.expressions.Operator.{Operator}
+
+pub data Expression : Type 0 where
+  Number : (n : ℕ) → Expression
+  Variable : (letter : ℕ) → Expression
+  Negate : (e : Expression) → Expression
+  Binary : (op : Operator) (left right : Expression) → Expression
+  Random : (bound : Expression) → Expression
+
+-- a comma is a zone; a semicolon leaves nothing
+pub data Item : Type 0 where
+  Text : (bytes : List ℕ) → Item
+  Value : (e : Expression) → Item
+  Zone : Item
+
+pub data Command : Type 0 where
+  Let : (letter : ℕ) (e : Expression) → Command
+  Print : (items : List Item) (ends_line : Bool) → Command
+  Input : (letters : List ℕ) → Command
+  If : (left : Expression) (rel : Rel) (right : Expression) (c : Command) → Command
+  Goto : (e : Expression) → Command
+  Gosub : (e : Expression) → Command
+  Return : Command
+  End : Command
+  Remark : Command
+
+-- something at a line number
+pub record Numbered (A : Type 0) : Type 0 where
+  pub number : ℕ
+  pub content : A
+
+-- a program's lines, in rising order
+abbrev pub Program : Type 0
+Program = List (Numbered Command)
+
+abbrev pub numbers : {A : Type 0} → List (Numbered A) → List ℕ
+numbers lines = map (λ line. line.number) lines

@@ -1,0 +1,12 @@
+//! Programs in Tiny BASIC as trees: expressions, statements and numbered lines.
+//!
+//! The crate has no text in it: the parser makes these trees, and every layer behind it reads them.
+#![tactic(auto)]
+
+mod expressions;
+mod programs;
+mod statements;
+
+pub use expressions::{Expr, Operator};
+pub use programs::Program;
+pub use statements::{PrintItem, Statement};

@@ -1,0 +1,64 @@
+//! Programs: statements by line number.
+ghost use Rattle.std.specs.Prelude.{◌≡◌, ℕ, List, [], OnOk, OnErr};
+ghost use Rattle.std.specs.Ordering.{nat_cmp};
+ghost use Rattle.std.specs.BTreeMap.{insert_entry, is_at};
+ghost use Rattle.std.specs.Map.{remove_entry};
+ghost use Rattle.std.specs.Coded.{codes};
+ghost use Rattle.tb_syntax.specs.declared.statements.Statement.{Statement};
+ghost use Rattle.tb_syntax.specs.contracts.statements.Statement as statement;
+
+use crate::statements::Statement;
+use std::alloc::{AllocFailed, Global};
+use std::collections::BTreeMap;
+use std::collections::btree_map::Iter;
+use std::marker::Model;
+
+/// A program: a statement for each of its line numbers, in rising order.
+#[derive(Drop)]
+pub struct Program {
+    statements: BTreeMap<u16, Statement>,
+}
+
+impl Model for Program {
+    ghost Value = { List (ℕ × Statement) };
+
+    ghost coded = { Prim.hlevel (codes, statement.the_row.coded) };
+
+    ghost view = { λ p. p.statements.entries };
+}
+
+impl Program {
+    /// A program without lines.
+    pub fn new(alloc: Global) -> Self
+        ensures { result ≡ [] }
+    {
+        Program { statements: BTreeMap::new(alloc) }
+    }
+
+    /// Gives a line its statement, in place of the one that it had. On want of memory both come back.
+    pub fn set(
+        &mut self,
+        number: u16,
+        statement: Statement,
+    ) -> Result<(), AllocFailed<(u16, Statement)>>
+        ensures ok { OnOk result (self.new ≡ insert_entry nat_cmp self.old number statement) }
+        ensures err { OnErr result (self.new ≡ self.old) }
+    {
+        self.statements.insert(number, statement)?;
+        Ok(())
+    }
+
+    /// Takes a line out, where there is one.
+    pub fn delete(&mut self, number: u16)
+        ensures { self.new ≡ remove_entry (is_at (nat_cmp number)) self.old }
+    {
+        let _ = self.statements.remove(&number);
+    }
+
+    /// The numbers and statements, in rising order.
+    pub fn lines(&self) -> Iter<'_, u16, Statement>
+        ensures { result ≡ self.now }
+    {
+        self.statements.iter()
+    }
+}
