@@ -24,7 +24,7 @@ use Rattle.tb_kernal.specs.Places.{all_writable, is_owned, service_at}
 use Rattle.tb_kernal.specs.Machine.{State, status, status_by, is_home, waits_for, happens, gone, gone_at, stepped, interrupted, is_lawful, is_stopped}
 use Rattle.tb_kernal.proofs.Keeping.{written_keeps}
 use Rattle.tb_reaching.specs.View.{View, Setup, At, Stays, Part, Holds, Fits, Stacked, with_s, is_data, is_program, is_fixed}
-use Rattle.tb_reaching.specs.Acting.{all_data, from_part, read_view, kind_of, finish_view, push_view, pushed_byte, with_pulled, pull_one, pull_two, pull_three, behind, act_kind, act_operand, act_row, act_opcode, act}
+use Rattle.tb_reaching.proofs.Acting.{all_data, from_part, read_view, kind_of, finish_view, push_view, pushed_byte, with_pulled, pull_one, pull_two, pull_three, behind, act_kind, act_operand, act_row, act_opcode, act}
 use Rattle.tb_reaching.proofs.Memory.{fixed_owned, stack_owned, put_same, put_other, data_leaves, written_same, stacked_same, program_not_data, program_fixed, data_fixed, stack_not_data, fixed_not_stack, fixed_open, stack_open, program_range}
 use Rattle.tb_reaching.proofs.Readers.{ok≢err, moved, on_a_moved, more_operand, more_executed}
 

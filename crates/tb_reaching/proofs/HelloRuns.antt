@@ -11,9 +11,9 @@ use Rattle.tb_reaching.specs.declared.example.TheConstants.{HELLO}
 use Rattle.tb_kernal.specs.Machine.{State}
 use Rattle.tb_kernal.specs.Runs.{run}
 use Rattle.tb_kernal.specs.Starts.{IsStart}
-use Rattle.tb_reaching.specs.View.{Setup, At, Part, Holds, Fits, UnderWay, Among, Comes, view, is_data, is_program}
+use Rattle.tb_reaching.specs.View.{Setup, At, Part, Holds, Fits, UnderWay, Among, Comes, view, is_data, is_program, Bytes}
 use Rattle.tb_reaching.specs.Start.{setup_of, view_of, home_low, home_high, IsHome}
-use Rattle.tb_reaching.specs.Placed.{Bytes, ins}
+use Rattle.tb_reaching.proofs.Instr.{ins}
 use Rattle.tb_reaching.specs.Hello.{pointer, left, program_part, Sent, SendsText, Prints, hello_text}
 use Rattle.tb_reaching.proofs.Memory.{put_other, program_not_data}
 use Rattle.tb_reaching.proofs.Comes.{after, ending, looser, known}

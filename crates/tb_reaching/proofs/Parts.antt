@@ -1,10 +1,9 @@
 -- The bytes of a program as its parts.
-use Rattle.std.proofs.Common.{◌≡◌, ℕ, ◌+◌, ◌%◌, ◌<◌, ◌≤◌, Bool, true, false, List, [], ◌∷◌, ◌++◌, length, refl, sym, ap, ◌∙◌, subst, ⊎_elim, arith, Some, None}
+use Rattle.std.proofs.Common.{◌≡◌, ℕ, ◌+◌, ◌%◌, ◌<◌, ◌≤◌, List, [], ◌∷◌, ◌++◌, length, refl, sym, ap, ◌∙◌, subst, ⊎_elim, arith, Some, None}
 use Rattle.std.specs.Prelude.{if◌then◌else◌}
 use Rattle.std.proofs.lemmas.Bool.{cases_eq, eq-eqb, ne_eqb}
-use Rattle.tb_reaching.specs.View.{Part, Holds, part_at}
-use Rattle.tb_reaching.specs.Placed.{Instr, instr_bytes, flat, Bytes, Stands}
-use Rattle.tb_reaching.specs.Start.{without}
+use Rattle.tb_reaching.specs.View.{Part, Holds, part_at, Bytes}
+use Rattle.tb_reaching.proofs.Instr.{Instr, instr_bytes, flat, Stands}
 
 -- ---- one part among another
 pub holds_itself : (p : Part) → Holds p p
@@ -12,18 +11,6 @@ holds_itself p a b e = e
 
 pub holds_then : (p q r : Part) → Holds p q → Holds q r → Holds p r
 holds_then p q r h k a b e = k a b (h a b e)
-
--- what is left of a part where places are barred
-pub without_holds : (barred : ℕ → Bool) (p : Part) → Holds (without barred p) p
-without_holds barred p a b e = go (barred a) e
-  where
-    go : (t : Bool) → (if t then None else p a) ≡ Some b → p a ≡ Some b
-    go true e = cc
-    go false e = e
-
--- a byte at a place that isn't barred is left
-pub holds_without : (barred : ℕ → Bool) (p q : Part) → ((a b : ℕ) → q a ≡ Some b → barred a ≡ false) → Holds q p → Holds q (without barred p)
-holds_without barred p q apart h a b e = ap (λ t. if t then None else p a) (apart a b e) ∙ h a b e
 
 -- ---- lists of bytes
 -- the first byte of a part

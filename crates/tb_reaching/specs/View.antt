@@ -41,6 +41,11 @@ abbrev pub part_at : ℕ → List ℕ → Part
 part_at at [] a = None
 part_at at (b ∷ bs) a = let later = part_at (at + 1) bs a in if a == at then Some b else later
 
+-- bytes stand one behind the other from an address on
+abbrev pub Bytes : Part → ℕ → List ℕ → Type 0
+Bytes code at [] = Unit {0}
+Bytes code at (b ∷ bs) = (code at ≡ Some b) × Bytes code ((at + 1) % 65536) bs
+
 -- all bytes of one are among the other's
 abbrev pub Holds : Part → Part → Type 0
 Holds part code = (a b : ℕ) → part a ≡ Some b → code a ≡ Some b
