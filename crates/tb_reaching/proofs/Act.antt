@@ -208,7 +208,7 @@ module _ (f : Setup) (room : ℕ) (fits : Fits f room) (v : View) (s : State) (a
       )
       go false d h = cc
 
-  deep : (bs : List ℕ) → leb (length (bs ++ v.stack)) room ≡ true → length bs + 2 ≤ s.regs.s
+  deep : (bs : List ℕ) → leb (length (bs ++ v.stack)) room ≡ true → length bs ≤ s.regs.s
   deep bs h = omega (arith, leb-true _ _ h, length-append bs v.stack, length-append v.stack f.rest, at.depth, fits)
 
   pushed_left : (bs : List ℕ) (r : Regs) (w : View) → push_view room v bs r ≡ Some w → (leb (length (bs ++ v.stack)) room ≡ true) × (record v { regs = r; stack = bs ++ v.stack } ≡ w)

@@ -8,10 +8,11 @@ abbrev pub from_memory : (ℕ → ℕ) → ℕ → ℕ → List ℕ
 from_memory m at zero = []
 from_memory m at (suc n) = m at ∷ from_memory m (at + 1) n
 
--- the two bytes of the return address
+-- the low byte of the return address
 abbrev pub home_low : State → ℕ
 home_low s = s.mem (0x0101 + s.regs.s)
 
+-- its high byte
 abbrev pub home_high : State → ℕ
 home_high s = s.mem (0x0101 + s.regs.s + 1)
 

@@ -65,6 +65,7 @@ abbrev pub Stacked : (ℕ → ℕ) → ℕ → List ℕ → Type 0
 Stacked m at [] = Unit {0}
 Stacked m at (b ∷ bs) = (m at ≡ b) × Stacked m (at + 1) bs
 
+-- registers with another S
 abbrev pub with_s : ℕ → Regs → Regs
 with_s k r = record r { s = k }
 
@@ -78,7 +79,7 @@ pub record Stays (f : Setup) (m : ℕ → ℕ) (wrong : Option Wrong) (to to_s :
   pub far : 0xa000 ≤ f.home
   pub apart : service_at f.home ≡ None
 
--- a state looks so
+-- a state looks like a view
 pub record At (f : Setup) (v : View) (s : State) : Type 0 where
   pub regs : s.regs ≡ with_s s.regs.s v.regs
   pub depth : s.regs.s + length (v.stack ++ f.rest) ≡ 255
@@ -101,9 +102,9 @@ pub record UnderWay (f : Setup) (s : State) : Type 0 where
   pub not_above : s.regs.s + length f.rest ≤ 255
   pub on_code : OnCode f s
 
--- a stack of so many bytes fits above the lowest S
+-- with so many bytes on top of what stays, S is not below the lowest
 abbrev pub Fits : Setup → ℕ → Type 0
-Fits f room = f.low + room + length f.rest ≤ 253
+Fits f room = f.low + room + length f.rest ≤ 255
 
 -- some view in q
 abbrev pub Among : Setup → (View → Type 0) → States
