@@ -102,14 +102,14 @@ module _ (f : Setup) (v : View) (s : State) (at : At f v s) where
     stays = stays_in f s.mem (written s.mem ws) s.wrong s.home s.home_s (λ a p. rom_leaves ws h a (fixed_owned s.regs.s a (program_fixed a p))) at.stays;
   }
 
-  pub kept_by_interrupt : (ws : ArrayVec (ℕ × ℕ)) → is_lawful s (Interrupt ws) ≡ true → At f v (happens s (Interrupt ws)) × ((happens s (Interrupt ws)).sent ≡ s.sent)
+  pub kept_by_interrupt : (ws : ArrayVec (ℕ × ℕ)) → is_lawful s (Interrupt ws) ≡ true → At f v (happens s (Interrupt ws))
   kept_by_interrupt ws h = go (status s) h
     where
-      go : (q : Status) → (is_stopped q || all_writable s.regs.s ws.items) ≡ true → At f v (interrupted q ws.items s) × ((interrupted q ws.items s).sent ≡ s.sent)
-      go Returned h = (at, refl)
-      go (WentWrong w) h = (at, refl)
-      go Waits h = (rom_wrote ws.items h, refl)
-      go Running h = (rom_wrote ws.items h, refl)
+      go : (q : Status) → (is_stopped q || all_writable s.regs.s ws.items) ≡ true → At f v (interrupted q ws.items s)
+      go Returned h = at
+      go (WentWrong w) h = at
+      go Waits h = rom_wrote ws.items h
+      go Running h = rom_wrote ws.items h
 
   -- ---- reading
   read_open : (a b : ℕ) → is_open a ≡ true → s.mem a ≡ b → reading s.mem a ≡ Ok b

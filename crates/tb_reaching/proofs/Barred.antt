@@ -8,7 +8,7 @@ use Rattle.tb_kernal.specs.Machine.{State, happens}
 use Rattle.tb_kernal.specs.Runs.{run, all_lawful, goes}
 use Rattle.tb_reaching.specs.Reaching.{Arrived, OnTheWay}
 use Rattle.tb_reaching.specs.View.{View, Setup, At, Part, Holds, UnderWay, Among, Comes}
-use Rattle.tb_reaching.proofs.Laws.{goes_append, lawful_after, then_arrived, then_on_the_way}
+use Rattle.tb_reaching.proofs.Laws.{interrupt_sends_nothing, goes_append, lawful_after, then_arrived, then_on_the_way}
 use Rattle.tb_reaching.proofs.Act.{kept_by_interrupt}
 
 -- ---- bytes but those at some places
@@ -44,9 +44,8 @@ quiet f v [] s at h z = (at, refl)
 quiet f v (Go k ∷ es) s at h z = absurd (let none : ⊥ = omega (arith, z) in none)
 quiet f v (Interrupt ws ∷ es) s at h z =
     let p = and_parts _ _ h in
-    let k = kept_by_interrupt f v s at ws p.0 in
-    let r = quiet f v es (happens s (Interrupt ws)) k.0 p.1 z in
-    (r.0, r.1 ∙ k.1)
+    let r = quiet f v es (happens s (Interrupt ws)) (kept_by_interrupt f v s at ws p.0) p.1 z in
+    (r.0, r.1 ∙ interrupt_sends_nothing s ws)
 
 -- where a law begins, the machine is under way
 pub begins : (f : Setup) (v : View) (q : View → Type 0) (t : List ℕ) (n : ℕ) → Comes f v q t n → (s : State) → At f v s → UnderWay f s
