@@ -1,4 +1,4 @@
--- The ends of a run; the papers' form; a law that begins at a barred place.
+-- The ends of a run, and that nothing goes wrong on the way.
 use Rattle.std.proofs.Common.{◌≡◌, ◌⊎◌, ℕ, ◌+◌, true, false, List, [], ◌∷◌, ◌++◌, length, refl, sym, ap, ◌∙◌, subst, inl, inr, ⊎_elim}
 use Rattle.std.proofs.lemmas.Bool.{and_parts}
 use Rattle.tb_kernal.specs.declared.events.Event.{Event}
@@ -15,7 +15,7 @@ use Rattle.tb_reaching.proofs.Services.{waits, waits_on, comes_home, stays_home}
 pub not_wrong : (f : Setup) (s : State) → UnderWay f s → NotWrong s
 not_wrong f s h e w = let both : Running ≡ WentWrong e = sym h.runs ∙ w in cc
 
--- the papers' form of reaching follows
+-- what is reached by views is reached without going wrong
 pub never_wrong : (f : Setup) (v : View) (q : View → Type 0) (t : List ℕ) (n : ℕ) → Comes f v q t n → Reaches NotWrong (At f v) (Among f q) t n
 never_wrong f v q t n c = weakened (UnderWay f) NotWrong (At f v) (Among f q) t n (not_wrong f) c.reaches
 
