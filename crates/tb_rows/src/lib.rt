@@ -2,6 +2,7 @@
 #![tactic(auto)]
 
 mod cpu;
+mod effects;
 mod memmap;
 mod opcodes;
 mod words;
