@@ -1,6 +1,6 @@
 //! The documented instructions of the NMOS 6502: opcodes, mnemonics and addressing modes.
 //!
-//! The table of 151 rows is `rows` in `specs/Opcodes.antt`, in the manual's order, by mnemonic.
+//! The table of 151 rows is `rows` in `specs/Opcodes.antt`, grouped by mnemonic.
 //! The code has a table of its own, in the order of the opcodes: the proof compares the two, and a
 //! test compares both with the table rebuilt from the opcodes' bit structure. No call takes memory.
 #![tactic(auto)]

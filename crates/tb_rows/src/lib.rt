@@ -2,6 +2,7 @@
 #![tactic(auto)]
 
 mod cpu;
+mod effects;
 mod grammar;
 mod kernal;
 mod memmap;
