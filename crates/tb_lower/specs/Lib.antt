@@ -13,3 +13,4 @@ pub mod Ranges
 pub mod Follows
 pub mod Refusals
 pub mod Evaluation
+pub mod Missing

@@ -6,9 +6,11 @@
 
 mod evaluation;
 mod lowering;
+mod missing;
 mod needs;
 mod slot_code;
 
 pub use evaluation::{EvalError, eval};
 pub use lowering::{LowerError, lower};
+pub use missing::{Warning, warnings};
 pub use slot_code::{SlotCode, SlotInstr, SlotLine};
