@@ -7,4 +7,6 @@ pub mod Weighed
 pub mod Ranged
 pub mod Lettered
 pub mod Evaluated
+pub mod Interpreting
+pub mod Turning
 pub mod Rows

@@ -14,3 +14,6 @@ pub mod Follows
 pub mod Refusals
 pub mod Evaluation
 pub mod Missing
+pub mod Parts
+pub mod Interpreted
+pub mod Turns

@@ -3,11 +3,11 @@ ghost use Rattle.std.specs.Prelude.{◌≡◌, ◌++◌, [], ◌∷◌, IfOk, On
 ghost use Rattle.tb_words.specs.Words.{word_of};
 ghost use Rattle.tb_syntax.specs.Shown.{expression_of, command_of, lines_of};
 ghost use Rattle.tb_syntax.specs.Source.{numbers};
-ghost use Rattle.tb_lower.specs.Control.{has_line};
 ghost use Rattle.tb_lower.specs.Lowered.{constant};
 ghost use Rattle.tb_lower.specs.Missing.{without_line, missing_target, missing_targets};
 
 use crate::evaluation::constant;
+use crate::places::has_line;
 use std::alloc::{AllocError, Global};
 use tb_syntax::{Expr, Program, Statement};
 
@@ -54,15 +54,4 @@ fn without_line(program: &Program, target: &Expr) -> Option<i16>
         return None;
     }
     Some(number.cast_signed())
-}
-
-fn has_line(program: &Program, number: u16) -> bool
-    ensures { result ≡ has_line (numbers (lines_of program.now)) number }
-{
-    for (line, _) in program.lines() {
-        if *line == number {
-            return true;
-        }
-    }
-    false
 }
