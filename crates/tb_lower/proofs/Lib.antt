@@ -9,4 +9,7 @@ pub mod Lettered
 pub mod Evaluated
 pub mod Interpreting
 pub mod Turning
+pub mod Keeps
+pub mod Visits
+pub mod Starts
 pub mod Rows
