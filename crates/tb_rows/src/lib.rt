@@ -5,6 +5,7 @@ mod cpu;
 mod effects;
 mod grammar;
 mod kernal;
+mod lower;
 mod memmap;
 mod opcodes;
 mod reaching;
