@@ -15,12 +15,12 @@ is_source_byte b = (nat_le 32 b && nat_le b 90) || (nat_le 97 b && nat_le b 122)
 
 abbrev pub is_bad : Mode → ℕ → Bool
 is_bad Remark b = false
-is_bad mode b = if is_source_byte b then false else true
+is_bad m b = if is_source_byte b then false else true
 
 -- the column of the first bad byte before the remark
 unfoldable pub first_bad : Mode → ℕ → List ℕ → Option ℕ
-first_bad mode column [] = None
-first_bad mode column (b ∷ line) = if is_bad mode b then Some column else first_bad (after mode b) (column + 1) line
+first_bad m column [] = None
+first_bad m column (b ∷ line) = if is_bad m b then Some column else first_bad (after m b) (column + 1) line
 
 abbrev pub is_digit : ℕ → Bool
 is_digit b = nat_le 48 b && nat_le b 57

@@ -9,7 +9,7 @@ upper b = if nat_le 97 b && nat_le b 122 then b - 32 else b
 
 -- in code: a space changes nothing, and a quote, 34, begins a text
 abbrev pub after_code : Mode → ℕ → Mode → Mode
-after_code mode b otherwise = if b == 32 then mode else if b == 34 then Text else otherwise
+after_code m b otherwise = if b == 32 then m else if b == 34 then Text else otherwise
 
 -- The mode behind a byte. The first R, E and M, 82, 69 and 77, that follow each other in code begin the remark, which
 -- goes on to the line's end, as a text without its second quote does.
@@ -30,7 +30,7 @@ is_in_code Remark = false
 
 -- a space outside texts and remarks
 abbrev pub is_dropped : Mode → ℕ → Bool
-is_dropped mode b = (b == 32) && is_in_code mode
+is_dropped m b = (b == 32) && is_in_code m
 
 abbrev pub shown : Mode → ℕ → ℕ
 shown Code b = upper b
@@ -41,10 +41,10 @@ shown Remark b = b
 
 -- the bytes that are left, each with its column in the line and whether it stands in code
 unfoldable pub squeezed_from : Mode → ℕ → List ℕ → List Placed
-squeezed_from mode column [] = []
-squeezed_from mode column (b ∷ line) =
-    if is_dropped mode b then squeezed_from (after mode b) (column + 1) line
-    else record { byte = shown mode b; column = column; in_code = is_in_code mode } ∷ squeezed_from (after mode b) (column + 1) line
+squeezed_from m column [] = []
+squeezed_from m column (b ∷ line) =
+    if is_dropped m b then squeezed_from (after m b) (column + 1) line
+    else record { byte = shown m b; column = column; in_code = is_in_code m } ∷ squeezed_from (after m b) (column + 1) line
 
 abbrev pub squeezed : List ℕ → List Placed
 squeezed line = squeezed_from Code 1 line

@@ -8,8 +8,9 @@ use std::alloc::{AllocError, Global};
 #[derive(Clone, Copy, Debug, PartialEq, Eq)]
 pub enum Keyword {
     Let,
-    /// PRINT or PR.
     Print,
+    /// PRINT in short.
+    Pr,
     Input,
     If,
     Then,
@@ -20,20 +21,41 @@ pub enum Keyword {
     Rem,
 }
 
-// The keywords and their letters, each before those that are its beginnings.
-const KEYWORDS: [(Keyword, &[u8]); 11] = [
-    (Keyword::Let, b"LET"),
-    (Keyword::Print, b"PRINT"),
-    (Keyword::Print, b"PR"),
-    (Keyword::Input, b"INPUT"),
-    (Keyword::If, b"IF"),
-    (Keyword::Then, b"THEN"),
-    (Keyword::Goto, b"GOTO"),
-    (Keyword::Gosub, b"GOSUB"),
-    (Keyword::Return, b"RETURN"),
-    (Keyword::End, b"END"),
-    (Keyword::Rem, b"REM"),
+// The keywords, each before those that are its beginnings.
+const KEYWORDS: [Keyword; 11] = [
+    Keyword::Let,
+    Keyword::Print,
+    Keyword::Pr,
+    Keyword::Input,
+    Keyword::If,
+    Keyword::Then,
+    Keyword::Goto,
+    Keyword::Gosub,
+    Keyword::Return,
+    Keyword::End,
+    Keyword::Rem,
 ];
+
+impl Keyword {
+    // How it is written.
+    fn letters(self) -> &'static [u8]
+        ensures { 0 < length result.now }
+    {
+        match self {
+            Keyword::Let => b"LET",
+            Keyword::Print => b"PRINT",
+            Keyword::Pr => b"PR",
+            Keyword::Input => b"INPUT",
+            Keyword::If => b"IF",
+            Keyword::Then => b"THEN",
+            Keyword::Goto => b"GOTO",
+            Keyword::Gosub => b"GOSUB",
+            Keyword::Return => b"RETURN",
+            Keyword::End => b"END",
+            Keyword::Rem => b"REM",
+        }
+    }
+}
 
 /// What a token is.
 #[derive(Clone, Copy, Debug, PartialEq, Eq)]
@@ -102,6 +124,7 @@ impl TokenKind {
             TokenKind::Keyword(keyword) => match keyword {
                 Keyword::Let
                 | Keyword::Print
+                | Keyword::Pr
                 | Keyword::Input
                 | Keyword::If
                 | Keyword::Goto
@@ -140,7 +163,7 @@ fn skip_spaces(line: &[u8], at: usize) -> usize
 // The place behind a word's letters, where they stand from `at` on with at most spaces between.
 fn word_end(line: &[u8], at: usize, word: &[u8]) -> Option<usize>
     requires { at ≤ length line.now }
-    ensures { IfSome result (λ end. (at ≤ end) × (end ≤ length line.now)) }
+    ensures { IfSome result (λ end. (at ≤ end) × (end ≤ length line.now) × (0 < length word.now → at < end)) }
 {
     let mut end = at;
     for letter in word {
@@ -276,8 +299,8 @@ fn keyword_at(line: &[u8], start: usize) -> Option<(Keyword, usize)>
     requires { start < length line.now }
     ensures { IfSome result (λ p. (start < p.1) × (p.1 ≤ length line.now)) }
 {
-    for (keyword, letters) in KEYWORDS {
-        if let Some(end) = word_end(line, start, letters) {
+    for keyword in KEYWORDS {
+        if let Some(end) = word_end(line, start, keyword.letters()) {
             return Some((keyword, end));
         }
     }

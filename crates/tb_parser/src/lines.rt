@@ -18,6 +18,7 @@ pub(crate) fn next_line(text: &[u8]) -> Option<(&[u8], &[u8])>
 }
 
 // What stands behind the line's end with which a text begins.
+#[tactic(auto, unfolding(crate::specs::Lines::lines_from))]
 fn behind_end(text: &[u8]) -> &[u8]
     requires { IsTrue (starts_with_end text.now) }
     ensures lines { lines_from false text.now ≡ [] ∷ lines_from false result.now }

@@ -1,5 +1,5 @@
 //! Source texts read: a file, a line of it, one expression.
-ghost use Rattle.std.specs.Prelude.{◌≡◌, ◌≢◌, ℕ, [], None, Some, Result, IfErr, IfSome, MatchOption, MatchResult, length};
+ghost use Rattle.std.specs.Prelude.{◌≡◌, ◌≢◌, ℕ, [], None, Some, Result, Ok, Err, IfErr, IfSome, MatchOption, MatchResult, length};
 ghost use Rattle.tb_syntax.specs.Source.{Command, Expression};
 ghost use Rattle.tb_syntax.specs.Shown.{command_of, expression_of, lines_of};
 ghost use Rattle.tb_grammar.specs.Statements.{States};
@@ -122,10 +122,7 @@ fn read_command(alloc: Global, line: &[u8], text: &[Placed]) -> Result<Statement
 {
     let bytes = bytes_of(alloc, text)?;
     match read_statement(alloc, &bytes) {
-        Ok(read) => match read.large {
-            None => Ok(read.statement),
-            Some(left) => Err(too_large(text, left)),
-        },
+        Ok(read) => in_range(read.statement, read.large, text),
         Err(Stop::NoMemory) => Err(no_memory()),
         Err(Stop::NoReading(_)) => Err(unread(line, text, Start::Line)),
     }
@@ -137,14 +134,31 @@ fn read_expression_line(alloc: Global, line: &[u8]) -> Result<Expr, Fault>
 {
     check_bytes(line)?;
     let placed = squeeze(alloc, line)?;
-    let bytes = bytes_of(alloc, &placed)?;
+    read_value(alloc, line, &placed)
+}
+
+// The expression that a line's text is.
+fn read_value(alloc: Global, line: &[u8], text: &[Placed]) -> Result<Expr, Fault>
+    ensures { Says expression_of result (TextIs Expression Expresses text.now) }
+{
+    let bytes = bytes_of(alloc, text)?;
     match read_expression(alloc, &bytes) {
-        Ok(read) => match read.large {
-            None => Ok(read.expr),
-            Some(left) => Err(too_large(&placed, left)),
-        },
+        Ok(read) => in_range(read.expr, read.large, text),
         Err(Stop::NoMemory) => Err(no_memory()),
-        Err(Stop::NoReading(_)) => Err(unread(line, &placed, Start::Expression)),
+        Err(Stop::NoReading(_)) => Err(unread(line, text, Start::Expression)),
+    }
+}
+
+// What was read, unless a literal is too large; `large` is how many bytes are left from the first such literal on.
+fn in_range<T: Drop>(tree: T, large: Option<usize>, text: &[Placed]) -> Result<T, Fault>
+    ensures { MatchOption large (result ≡ Ok tree) (λ left. result ≡ Err (record { kind = NumberTooLarge; column = column_left left text.now })) }
+{
+    match large {
+        None => Ok(tree),
+        Some(left) => Err(Fault {
+            kind: SourceErrorKind::NumberTooLarge,
+            column: column_of_left(text, left),
+        }),
     }
 }
 
@@ -154,15 +168,6 @@ fn no_memory() -> Fault
     Fault {
         kind: SourceErrorKind::NoMemory,
         column: 0,
-    }
-}
-
-fn too_large(text: &[Placed], left: usize) -> Fault
-    ensures { result ≡ record { kind = NumberTooLarge; column = column_left left text.now } }
-{
-    Fault {
-        kind: SourceErrorKind::NumberTooLarge,
-        column: column_of_left(text, left),
     }
 }
 

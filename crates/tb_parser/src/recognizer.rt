@@ -151,7 +151,7 @@ fn behind_front(kind: TokenKind) -> Option<Expects> {
         TokenKind::Variable => Some(Expects::Equals),
         TokenKind::Keyword(keyword) => match keyword {
             Keyword::Let => Some(Expects::Target),
-            Keyword::Print => Some(Expects::Item),
+            Keyword::Print | Keyword::Pr => Some(Expects::Item),
             Keyword::Input => Some(Expects::Asked),
             Keyword::If => Some(Expects::Expression(Behind::Relation)),
             Keyword::Goto | Keyword::Gosub => Some(Expects::Expression(Behind::End)),

@@ -51,6 +51,8 @@ pub(crate) fn is_numbered(placed: &[Placed]) -> bool
     split_digit(placed).is_some()
 }
 
+// The digit at the front, and what is left behind it.
+#[tactic(auto, unfolding(crate::specs::Scans::number_at))]
 fn split_digit(placed: &[Placed]) -> Option<(u8, &[Placed])>
     ensures { MatchOption result (starts_with_digit placed.now ≡ false) (λ p. (p.0 < 10) × (starts_with_digit placed.now ≡ true) × (length p.1.now < length placed.now) × ((n : ℕ) → number_at n placed.now ≡ number_at (10 * n + p.0) p.1.now)) }
 {
@@ -82,12 +84,12 @@ pub(crate) fn line_number(placed: &[Placed]) -> Option<(u16, &[Placed])>
 fn begins_with(placed: &[Placed], word: &[u8]) -> bool
     ensures { result ≡ begins word.now placed.now }
 {
-    match (word, placed) {
-        ([], _) => true,
-        ([letter, letters @ ..], [first, rest @ ..]) => {
-            first.byte == *letter && begins_with(rest, letters)
-        }
-        _ => false,
+    match word {
+        [] => true,
+        [letter, letters @ ..] => match placed {
+            [] => false,
+            [first, rest @ ..] => first.byte == *letter && begins_with(rest, letters),
+        },
     }
 }
 
