@@ -1,5 +1,6 @@
 -- The grammar of expressions over squeezed text: no spaces outside texts and remarks, letters in upper case.
 use Rattle.std.specs.Prelude.{◌≡◌, ℕ, ◌+◌, ◌-◌, ◌*◌, ◌≤◌, List, [], ◌∷◌, ◌++◌, length, Option, Some, None, nat_le, ◌==◌, if◌then◌else◌, codes}
+use Rattle.std.specs.Option.{option_or}
 use Rattle.tb_syntax.specs.declared.expressions.Operator.{Operator}
 use Rattle.tb_syntax.specs.declared.expressions.Operator.TheVariants.{Add, Subtract, Multiply, Divide}
 use Rattle.tb_syntax.specs.Source.{Expression, Number, Variable, Negate, Binary, Random}
@@ -28,11 +29,6 @@ word_of n = if nat_le n 65535 then n else 65535
 abbrev pub large_at : ℕ → ℕ → Option ℕ
 large_at n left = if nat_le n 65535 then None else Some left
 
--- the first of two places, if any
-abbrev pub first_of : Option ℕ → Option ℕ → Option ℕ
-first_of None p = p
-first_of (Some n) p = Some n
-
 -- an expression, a term of it, a factor of a term
 pub data Part : Type 0 where
   Whole : Part
@@ -46,7 +42,7 @@ operator Term b = if b == 42 then Some Multiply else if b == 47 then Some Divide
 operator Factor b = None
 
 -- The text begins with a part that stands for an expression, and the rest is left behind it.
--- `large` is the place of the first literal above 65,535.
+-- `large` is the place of the first literal above 65,535, if any: of two places the first.
 pub data Reads : Part → List ℕ → Expression → Option ℕ → List ℕ → Type 0 where
   number : (text : List ℕ) (d : ℕ) (digits rest : List ℕ) → text ≡ d ∷ digits ++ rest → AreDigits (d ∷ digits)
       → Reads Factor text (Number (word_of (value_after 0 (d ∷ digits)))) (large_at (value_after 0 (d ∷ digits)) (length text)) rest
@@ -57,12 +53,12 @@ pub data Reads : Part → List ℕ → Expression → Option ℕ → List ℕ �
       → Reads Factor (40 ∷ text) e large rest
   factor : (text : List ℕ) (e : Expression) (large : Option ℕ) (rest : List ℕ) → Reads Factor text e large rest → Reads Term text e large rest
   product : (text : List ℕ) (a b : Expression) (la lb : Option ℕ) (sign : ℕ) (op : Operator) (middle rest : List ℕ)
-      → Reads Term text a la (sign ∷ middle) → operator Term sign ≡ Some op → Reads Factor middle b lb rest → Reads Term text (Binary op a b) (first_of la lb) rest
+      → Reads Term text a la (sign ∷ middle) → operator Term sign ≡ Some op → Reads Factor middle b lb rest → Reads Term text (Binary op a b) (option_or la lb) rest
   term : (text : List ℕ) (e : Expression) (large : Option ℕ) (rest : List ℕ) → Reads Term text e large rest → Reads Whole text e large rest
   plus : (text : List ℕ) (e : Expression) (large : Option ℕ) (rest : List ℕ) → Reads Term text e large rest → Reads Whole (43 ∷ text) e large rest
   minus : (text : List ℕ) (e : Expression) (large : Option ℕ) (rest : List ℕ) → Reads Term text e large rest → Reads Whole (45 ∷ text) (Negate e) large rest
   sum : (text : List ℕ) (a b : Expression) (la lb : Option ℕ) (sign : ℕ) (op : Operator) (middle rest : List ℕ)
-      → Reads Whole text a la (sign ∷ middle) → operator Whole sign ≡ Some op → Reads Term middle b lb rest → Reads Whole text (Binary op a b) (first_of la lb) rest
+      → Reads Whole text a la (sign ∷ middle) → operator Whole sign ≡ Some op → Reads Term middle b lb rest → Reads Whole text (Binary op a b) (option_or la lb) rest
 
 -- no text is two expressions
 abbrev pub ExpressionsAreUnique : Type 0

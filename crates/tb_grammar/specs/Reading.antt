@@ -1,8 +1,9 @@
 -- Reading expressions from left to right: what the program does, as functions of lists.
-use Rattle.std.specs.Prelude.{ℕ, zero, suc, ◌+◌, ◌-◌, ◌*◌, List, [], ◌∷◌, length, Bool, true, false, Option, Some, None, option_and_then, nat_le, ◌==◌, ◌&&◌, if◌then◌else◌, codes}
+use Rattle.std.specs.Prelude.{ℕ, zero, suc, ◌+◌, ◌-◌, ◌*◌, List, [], ◌∷◌, length, Bool, false, Option, Some, None, option_and_then, nat_le, ◌==◌, ◌&&◌, if◌then◌else◌, codes}
+use Rattle.std.specs.Option.{option_or}
 use Rattle.tb_syntax.specs.declared.expressions.Operator.{Operator}
 use Rattle.tb_syntax.specs.Source.{Expression, Number, Variable, Negate, Binary, Random}
-use Rattle.tb_grammar.specs.Grammar.{word_of, large_at, first_of, Part, Whole, Term, Factor, operator}
+use Rattle.tb_grammar.specs.Grammar.{word_of, large_at, Part, Whole, Term, operator}
 
 -- what was read, where its first literal above 65,535 begins, and what is left
 pub record Found : Type 0 where
@@ -60,7 +61,7 @@ abbrev pub negated : Found → Found
 negated f = record { tree = Negate f.tree; large = f.large; rest = f.rest }
 
 abbrev pub joined : Operator → Found → Found → Found
-joined op f g = record { tree = Binary op f.tree g.tree; large = first_of f.large g.large; rest = g.rest }
+joined op f g = record { tree = Binary op f.tree g.tree; large = option_or f.large g.large; rest = g.rest }
 
 -- an expression in parentheses, which whole reads
 unfoldable pub group_by : (List ℕ → Option Found) → List ℕ → Option Found

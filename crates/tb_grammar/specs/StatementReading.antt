@@ -1,11 +1,11 @@
 -- Reading statements from left to right: what the program does, as functions of lists.
 use Rattle.std.specs.Prelude.{ℕ, zero, suc, ◌+◌, List, [], ◌∷◌, ◌++◌, length, Bool, true, false, Option, Some, None, ◌==◌, if◌then◌else◌, codes}
+use Rattle.std.specs.Option.{option_or}
 use Rattle.tb_words.specs.declared.Rel.{Rel}
 use Rattle.tb_words.specs.declared.Rel.TheVariants.{Eq, Lt, Gt, Le, Ge, Ne}
 use Rattle.tb_syntax.specs.Source.{Expression, Item, Text, Value, Zone, Command, Let, Print, Input, If, Goto, Gosub, Return, End, Remark}
 use Rattle.tb_grammar.specs.declared.statements.Keyword.{Keyword}
 use Rattle.tb_grammar.specs.declared.statements.Keyword.TheVariants as keyword
-use Rattle.tb_grammar.specs.Grammar.{first_of}
 use Rattle.tb_grammar.specs.Reading.{◌>>=◌, when, Found, behind, behind_word, letter_at, front_of, expression_in}
 
 -- a statement that was read, and where its first literal above 65,535 begins
@@ -69,7 +69,7 @@ pub record Printed : Type 0 where
 
 -- items before others
 abbrev pub with_items : List Item → Option ℕ → Printed → Printed
-with_items items large p = record { items = items ++ p.items; ends_line = p.ends_line; large = first_of large p.large }
+with_items items large p = record { items = items ++ p.items; ends_line = p.ends_line; large = option_or large p.large }
 
 -- what follows an item: nothing, or a separator and the items that others reads
 abbrev pub others_by : (List ℕ → Option Printed) → List ℕ → Option Printed
@@ -108,7 +108,7 @@ conditional_by statement text = do
   rel ← relation_at a.rest
   b ← front_of rel.1
   s ← statement (behind_then b.rest)
-  Some (record { command = If a.tree rel.0 b.tree s.command; large = first_of a.large (first_of b.large s.large) })
+  Some (record { command = If a.tree rel.0 b.tree s.command; large = option_or a.large (option_or b.large s.large) })
 
 -- how a first word is spelled
 abbrev pub spelled : Keyword → List ℕ
@@ -129,8 +129,11 @@ first_word [] text = None
 first_word (k ∷ others) text = when (behind_word (spelled k) text) (first_word others text) (λ rest. Some (k, rest))
 
 -- PRINT stands before PR, which begins it
+abbrev pub keywords : List Keyword
+keywords = keyword.Let ∷ keyword.Print ∷ keyword.Pr ∷ keyword.Input ∷ keyword.If ∷ keyword.Goto ∷ keyword.Gosub ∷ keyword.Return ∷ keyword.End ∷ keyword.Rem ∷ []
+
 unfoldable pub keyword_at : List ℕ → Option (Keyword × List ℕ)
-keyword_at text = first_word (keyword.Let ∷ keyword.Print ∷ keyword.Pr ∷ keyword.Input ∷ keyword.If ∷ keyword.Goto ∷ keyword.Gosub ∷ keyword.Return ∷ keyword.End ∷ keyword.Rem ∷ []) text
+keyword_at text = first_word keywords text
 
 -- an assignment
 unfoldable pub assigned_at : List ℕ → Option Told

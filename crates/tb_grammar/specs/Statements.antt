@@ -1,9 +1,10 @@
 -- The grammar of statements over squeezed text.
-use Rattle.std.specs.Prelude.{◌≡◌, ◌≢◌, ℕ, ◌-◌, Bool, true, false, List, [], ◌∷◌, ◌++◌, Option, Some, None, All, codes}
+use Rattle.std.specs.Prelude.{◌≡◌, ◌≢◌, ℕ, ◌-◌, Bool, true, false, List, [], ◌∷◌, ◌++◌, Option, None, All, codes}
+use Rattle.std.specs.Option.{option_or}
 use Rattle.tb_words.specs.declared.Rel.{Rel}
 use Rattle.tb_words.specs.declared.Rel.TheVariants.{Eq, Lt, Gt, Le, Ge, Ne}
 use Rattle.tb_syntax.specs.Source.{Expression, Item, Text, Value, Zone, Command, Let, Print, Input, If, Goto, Gosub, Return, End, Remark}
-use Rattle.tb_grammar.specs.Grammar.{IsLetter, first_of, Whole, Reads}
+use Rattle.tb_grammar.specs.Grammar.{IsLetter, Whole, Reads}
 
 -- a relation at the front of a text, and what is left behind it
 pub data Relates : List ℕ → Rel → List ℕ → Type 0 where
@@ -37,7 +38,7 @@ pub data Prints : Bool → List ℕ → List Item → Bool → Option ℕ → Ty
   last : (ends : Bool) (text : List ℕ) (item : Item) (large : Option ℕ) → ReadsItem text item large [] → Prints ends text (item ∷ []) true large
   next : (ends : Bool) (text : List ℕ) (item : Item) (la : Option ℕ) (sign : ℕ) (between : List Item) (rest : List ℕ) (items : List Item) (ends_line : Bool) (lb : Option ℕ)
       → ReadsItem text item la (sign ∷ rest) → Separates sign between → Prints false rest items ends_line lb
-      → Prints ends text (item ∷ between ++ items) ends_line (first_of la lb)
+      → Prints ends text (item ∷ between ++ items) ends_line (option_or la lb)
 
 -- the text is variables with commas between them
 pub data Variables : List ℕ → List ℕ → Type 0 where
@@ -53,7 +54,7 @@ pub data States : List ℕ → Command → Option ℕ → Type 0 where
   input : (text letters : List ℕ) → Variables text letters → States (codes "INPUT" ++ text) (Input letters) None
   conditional : (text : List ℕ) (a : Expression) (la : Option ℕ) (rest : List ℕ) (rel : Rel) (middle : List ℕ) (b : Expression) (lb : Option ℕ) (after body : List ℕ) (s : Command) (ls : Option ℕ)
       → Reads Whole text a la rest → Relates rest rel middle → Reads Whole middle b lb after → MayThen after body → States body s ls
-      → States (codes "IF" ++ text) (If a rel b s) (first_of la (first_of lb ls))
+      → States (codes "IF" ++ text) (If a rel b s) (option_or la (option_or lb ls))
   goto : (text : List ℕ) (e : Expression) (large : Option ℕ) → Reads Whole text e large [] → States (codes "GOTO" ++ text) (Goto e) large
   gosub : (text : List ℕ) (e : Expression) (large : Option ℕ) → Reads Whole text e large [] → States (codes "GOSUB" ++ text) (Gosub e) large
   return : States (codes "RETURN") Return None

@@ -83,7 +83,7 @@ pub(crate) fn split_letter(text: &[u8]) -> Option<(Letter, &[u8])>
     ensures { MatchOption result (letter_at text.now ≡ None) (λ p. letter_at text.now ≡ Some (place p.0, p.1.now)) }
 {
     match text {
-        [byte @ b'A'..=b'Z', rest @ ..] => Some((Letter::read(*byte)?, rest)),
+        [byte, rest @ ..] if byte.is_ascii_uppercase() => Some((Letter::read(*byte)?, rest)),
         _ => None,
     }
 }

@@ -3,7 +3,7 @@ ghost use Rattle.std.specs.Prelude.{◌≡◌, ℕ, List, Option, Some, None, tr
 ghost use Rattle.tb_grammar.specs.StatementReading.{text_item_at, item_at, print_at, input_at};
 ghost use Rattle.tb_grammar.specs.Shown.{item_seen, told, Gives};
 
-use crate::expressions::{leading, split_letter};
+use crate::expressions::{behind, leading, split_letter};
 use crate::statements::ReadStatement;
 use crate::stop::{Stop, left_at};
 use std::alloc::Global;
@@ -68,14 +68,15 @@ pub(crate) fn print(alloc: Global, text: &[u8]) -> Result<ReadStatement, Stop>
         items.push(found.item)?;
         large = large.or(found.large);
         ends_line = found.rest.is_empty();
-        rest = match found.rest {
-            [] => found.rest,
-            [b',', others @ ..] => {
-                items.push(PrintItem::Zone)?;
-                others
-            }
-            [b';', others @ ..] => others,
-            _ => return Err(Stop::NoReading(left_at(found.rest))),
+        rest = if ends_line {
+            found.rest
+        } else if let Some(others) = behind(b',', found.rest) {
+            items.push(PrintItem::Zone)?;
+            others
+        } else if let Some(others) = behind(b';', found.rest) {
+            others
+        } else {
+            return Err(Stop::NoReading(left_at(found.rest)));
         };
     }
     Ok(ReadStatement {
@@ -102,15 +103,15 @@ pub(crate) fn input(alloc: Global, text: &[u8]) -> Result<ReadStatement, Stop>
     let mut rest = text;
     while let Some((letter, others)) = split_letter(rest) {
         letters.push(letter)?;
-        match others {
-            [] => {
-                return Ok(ReadStatement {
-                    statement: Statement::Input(letters),
-                    large: None,
-                });
-            }
-            [b',', after @ ..] => rest = after,
-            _ => break,
+        if others.is_empty() {
+            return Ok(ReadStatement {
+                statement: Statement::Input(letters),
+                large: None,
+            });
+        }
+        match behind(b',', others) {
+            Some(after) => rest = after,
+            None => break,
         }
     }
     Err(Stop::NoReading(left_at(behind_variable(rest))))
