@@ -13,6 +13,9 @@ unequal a b h = grind (arith, nat_tests)
 pub equal : (a b : ℕ) → a ≡ b → (a == b) ≡ true
 equal a b h = grind (arith, nat_tests)
 
+pub same_number : (a b : ℕ) → (a == b) ≡ true → a ≡ b
+same_number a b e = grind (arith, nat_tests)
+
 pub split : {A : Type 0} (line : List A) (i : ℕ) (d : A) → i < length line → drop i line ≡ get_or line i d ∷ drop (i + 1) line
 split line i d lt = rw add-one (drop-cons line i d lt)
 

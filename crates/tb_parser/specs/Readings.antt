@@ -74,5 +74,5 @@ Expresses text e large = Reads Whole text e large []
 
 -- A line that is to be one expression, without a line number.
 pub data ExpressionIs (line : List ℕ) : Result Expression Refusal → Type 0 where
-  unfit : (r : Refusal) → IsUnfit line r → ExpressionIs line (Err r)
-  text : (outcome : Result Expression Refusal) → IsFit line → TextIs Expression Expresses (squeezed line) outcome → ExpressionIs line outcome
+  unfit_text : (r : Refusal) → IsUnfit line r → ExpressionIs line (Err r)
+  fit_text : (outcome : Result Expression Refusal) → IsFit line → TextIs Expression Expresses (squeezed line) outcome → ExpressionIs line outcome

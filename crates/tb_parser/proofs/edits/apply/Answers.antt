@@ -10,9 +10,9 @@ use Rattle.tb_parser.proofs.edits.apply.Goals as goal
 pub returns-in_ok-set-in-Set-clause-ok : goal.returns-in_ok-set-in-Set-clause-ok
 returns-in_ok-set-in-Set-clause-ok c =
     ap (λ (es : List (ℕ × Statement)). lines_of es) c.in_ok-set-in-Set.ensures.ok ∙ lines_of-insert c.args.program.now c.in-Set.number c.in-Set.statement
-      ∙ ap (λ (e : LineEdit). edited (edit_of e) (lines_of c.args.program.now)) (sym c.in-Set.is)
+    ∙ ap (λ (e : LineEdit). edited (edit_of e) (lines_of c.args.program.now)) (sym c.in-Set.is)
 
 pub returns-in-Delete-clause-ok : goal.returns-in-Delete-clause-ok
 returns-in-Delete-clause-ok c =
     ap (λ (es : List (ℕ × Statement)). lines_of es) c.delete.ensures ∙ lines_of-remove c.args.program.now c.in-Delete.number
-      ∙ ap (λ (e : LineEdit). edited (edit_of e) (lines_of c.args.program.now)) (sym c.in-Delete.is)
+    ∙ ap (λ (e : LineEdit). edited (edit_of e) (lines_of c.args.program.now)) (sym c.in-Delete.is)

@@ -6,17 +6,17 @@ use Rattle.tb_syntax.specs.Shown.{expression_of}
 use Rattle.tb_parser.specs.declared.errors.Fault.{Fault}
 use Rattle.tb_parser.specs.declared.squeeze.Placed.{Placed}
 use Rattle.tb_parser.specs.Answers.{Says, refusal_of}
-use Rattle.tb_parser.specs.Readings.{Refusal, Expresses, ExpressionIs, IsFit, IsUnfit, TextIs, unfit, text}
+use Rattle.tb_parser.specs.Readings.{Refusal, Expresses, ExpressionIs, IsFit, IsUnfit, TextIs, unfit_text, fit_text}
 use Rattle.tb_parser.specs.Squeezed.{squeezed}
 use Rattle.tb_parser.proofs.Told.{passes}
 use Rattle.tb_parser.proofs.parser.read_expression_line.Goals as goal
 
 expression_unfit : (line : List ℕ) (fault : Fault) → IfSome (refusal_of fault.kind fault.column) (IsUnfit line) → Says expression_of (Err fault) (ExpressionIs line)
-expression_unfit line fault h = passes (refusal_of fault.kind fault.column) (IsUnfit line) (λ r. ExpressionIs line (Err r)) (λ r u. unfit r u) h
+expression_unfit line fault h = passes (refusal_of fault.kind fault.column) (IsUnfit line) (λ r. ExpressionIs line (Err r)) (λ r u. unfit_text r u) h
 
 expression_said : (line : List ℕ) (result : Result Expr Fault) → IsFit line → Says expression_of result (TextIs Expression Expresses (squeezed line)) → Says expression_of result (ExpressionIs line)
-expression_said line (Ok x) fit h = text (Ok (expression_of x)) fit h
-expression_said line (Err fault) fit h = passes (refusal_of fault.kind fault.column) (λ r. TextIs Expression Expresses (squeezed line) (Err r)) (λ r. ExpressionIs line (Err r)) (λ r t. text (Err r) fit t) h
+expression_said line (Ok x) fit h = fit_text (Ok (expression_of x)) fit h
+expression_said line (Err fault) fit h = passes (refusal_of fault.kind fault.column) (λ r. TextIs Expression Expresses (squeezed line) (Err r)) (λ r. ExpressionIs line (Err r)) (λ r t. fit_text (Err r) fit t) h
 
 pub returns-in_err-check_bytes : goal.returns-in_err-check_bytes
 returns-in_err-check_bytes c =
