@@ -1,5 +1,5 @@
 -- The program of a file, line by line.
-use Rattle.std.specs.Prelude.{◌≡◌, ℕ, ◌+◌, List, [], ◌∷◌, Bool, true, false, Option, Some, None, Result, Ok, Err, if◌then◌else◌, ◌==◌, nat_lt}
+use Rattle.std.specs.Prelude.{◌≡◌, ℕ, ◌+◌, ◌<◌, ◌≤◌, List, [], ◌∷◌, Bool, true, false, Option, Some, None, Result, Ok, Err, if◌then◌else◌, ◌==◌, nat_lt}
 use Rattle.tb_syntax.specs.Source.{Expression, Command, Numbered, Program}
 use Rattle.tb_parser.specs.declared.errors.Fault.{Fault}
 use Rattle.tb_parser.specs.declared.errors.SourceError.{SourceError}
@@ -52,3 +52,8 @@ pub data LinesAre : ℕ → Program → List (List ℕ) → Outcome → Type 0 w
   bad : (n : ℕ) (p : Program) (line : List ℕ) (lines : List (List ℕ)) (r : Refusal) → LineIs line (Err r) → LinesAre n p (line ∷ lines) (Err (refused_at n r))
   good : (n : ℕ) (p : Program) (line : List ℕ) (lines : List (List ℕ)) (edit : Edit) (outcome : Outcome)
       → LineIs line (Ok edit) → LinesAre (n + 1) (edited edit p) lines outcome → LinesAre n p (line ∷ lines) outcome
+
+-- numbers that rise, all above a bound and none above 32,767
+abbrev pub RisesFrom : ℕ → List ℕ → Type 0
+RisesFrom low [] = Unit {0}
+RisesFrom low (n ∷ ns) = (low < n) × (n ≤ 32767) × RisesFrom n ns

@@ -1,11 +1,11 @@
 //! Source texts read: a file, a line of it, one expression.
-ghost use Rattle.std.specs.Prelude.{◌≡◌, ◌≢◌, ℕ, [], None, Some, Result, Ok, Err, IfErr, IfSome, MatchOption, MatchResult, length};
-ghost use Rattle.tb_syntax.specs.Source.{Command, Expression};
+ghost use Rattle.std.specs.Prelude.{◌≡◌, ◌≢◌, ℕ, [], None, Some, Result, Ok, Err, IfErr, IfOk, IfSome, MatchOption, MatchResult, length};
+ghost use Rattle.tb_syntax.specs.Source.{Command, Expression, numbers};
 ghost use Rattle.tb_syntax.specs.Shown.{command_of, expression_of, lines_of};
 ghost use Rattle.tb_grammar.specs.Statements.{States};
 ghost use Rattle.tb_parser.specs.declared.errors.SourceErrorKind.TheVariants.{NoMemory, NotCompiled, NumberTooLarge, Syntax};
 ghost use Rattle.tb_parser.specs.Answers.{edit_of, refusal_of, Answers, InLineOne, Says};
-ghost use Rattle.tb_parser.specs.Files.{FileRefusal, LinesAre, Outcome};
+ghost use Rattle.tb_parser.specs.Files.{FileRefusal, LinesAre, Outcome, RisesFrom};
 ghost use Rattle.tb_parser.specs.Lines.{lines_of_file};
 ghost use Rattle.tb_parser.specs.Readings.{Expresses, ExpressionIs, IsFit, IsUnfit, LineIs, TextIs};
 ghost use Rattle.tb_parser.specs.Refusals.{fault_of_memory, out_of_memory};
@@ -33,6 +33,8 @@ pub(crate) const LONGEST_LINE: usize = 255;
 pub fn parse(alloc: Global, source: &[u8]) -> Result<Program, SourceError>
     // What is answered is what the file's lines make, from line 1 on.
     ensures found { Answers lines_of result (LinesAre 1 [] (lines_of_file source.now)) }
+    // The numbers rise, from 1 to 32,767 at most.
+    ensures rising { IfOk result (λ p. RisesFrom 0 (numbers (lines_of p))) }
     // And what they make is answered.
     ensures only { (outcome : Outcome) → LinesAre 1 [] (lines_of_file source.now) outcome → Answers lines_of result (λ said. said ≡ outcome) }
     ensures memory { IfErr result (λ e. e.kind ≡ NoMemory → e ≡ out_of_memory) }

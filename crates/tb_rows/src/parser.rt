@@ -255,9 +255,49 @@ const LARGE_NUMBERS: [Refused; 9] = [
     (b"100 LET A = 65536", NumberTooLarge, 13),
 ];
 
+// Texts that are no expressions.
+const EXPRESSION_TEXTS: [Refused; 11] = [
+    (b"", Syntax, 1),
+    (b"   ", Syntax, 4),
+    (b"A+", Syntax, 3),
+    (b"A=1", Syntax, 2),
+    (b"A B", Syntax, 3),
+    (b"1 REM", Syntax, 3),
+    (b"\"A", Syntax, 3),
+    (b"1~", BadByte, 2),
+    (b"10\n", BadByte, 3),
+    (b"2*USR(1)", NotCompiled, 3),
+    (b"(1+65536)", NumberTooLarge, 4),
+];
+
+// What an expression is, or its refusal.
+fn shown_expression(alloc: Global, text: &[u8]) -> Result<String, AllocError> {
+    match parse_expr(alloc, text) {
+        Ok(expr) => format!(in alloc; "{expr:?}"),
+        Err(error) => format!(in alloc; "{error:?}"),
+    }
+}
+
+fn expect_expression(rt: &impl Abort, alloc: Global, text: &[u8], wanted: &str) {
+    match shown_expression(alloc, text) {
+        Ok(found) => assert_eq!(rt; found.as_str(), wanted),
+        Err(_) => assert!(rt; false, "memory ran out"),
+    }
+}
+
+// So many bytes of one kind behind a beginning.
+fn filled(alloc: Global, front: &[u8], byte: u8, count: usize) -> Result<Vec<u8>, AllocError> {
+    let mut text = front.to_vec(alloc)?;
+    for _ in 0..count {
+        text.push(byte)?;
+    }
+    Ok(text)
+}
+
 #[cfg(test)]
 mod tests {
     use super::*;
+    use std::test::Fail;
 
     #[test]
     fn syntax_columns(rt: HostRuntime) {
@@ -272,5 +312,182 @@ mod tests {
         expect_refused(&rt, rt.alloc(), &NOT_COMPILED);
         expect_refused(&rt, rt.alloc(), &BYTE_ERRORS);
         expect_refused(&rt, rt.alloc(), &LARGE_NUMBERS);
+    }
+
+    #[test]
+    fn longest_line(rt: HostRuntime) -> Result<(), Fail> {
+        let alloc = rt.alloc();
+        let longest = filled(alloc, b"10 REM", b'X', 249)?;
+        expect_shown(&rt, alloc, &longest, "10 Remark; ");
+        let too_long = filled(alloc, b"10 REM", b'X', 250)?;
+        expect_error(&rt, alloc, &too_long, LineTooLong, 1, 256);
+        let unnumbered = filled(alloc, b"~", b'X', 255)?;
+        expect_error(&rt, alloc, &unnumbered, LineTooLong, 1, 256);
+        let blank = filled(alloc, b"", b' ', 300)?;
+        expect_error(&rt, alloc, &blank, Empty, 0, 0);
+        let behind_blank = filled(alloc, b"0\n", b' ', 300)?;
+        expect_error(&rt, alloc, &behind_blank, BadLineNumber, 1, 1);
+        Ok(())
+    }
+
+    #[test]
+    fn lines_of_a_file(rt: HostRuntime) {
+        let alloc = rt.alloc();
+        expect_error(&rt, alloc, b"", Empty, 0, 0);
+        expect_error(&rt, alloc, b"  \n\n \r\n", Empty, 0, 0);
+        expect_error(&rt, alloc, b"10 END\n10", Empty, 0, 0);
+        expect_error(&rt, alloc, b"10 END\r\n20 A=USR(1)", NotCompiled, 2, 6);
+        expect_error(&rt, alloc, b"10 A=99999\n10 END", NumberTooLarge, 1, 6);
+        expect_error(&rt, alloc, b"10 END\n10 A=\n10", Syntax, 2, 6);
+        expect_error(&rt, alloc, b"\n\r\n\r   \n0 END", BadLineNumber, 5, 1);
+        expect_error(&rt, alloc, b"\n\r0", BadLineNumber, 3, 1);
+        expect_error(&rt, alloc, b"\r\r\n0", BadLineNumber, 3, 1);
+        expect_error(&rt, alloc, b"10 END\n\nPRINT\n0", Unnumbered, 3, 1);
+        expect_shown(
+            &rt,
+            alloc,
+            b"10 END\n20 END\r30 END\r\n40 END",
+            "10 End; 20 End; 30 End; 40 End; ",
+        );
+    }
+
+    #[test]
+    fn replaced_and_deleted(rt: HostRuntime) {
+        let alloc = rt.alloc();
+        expect_shown(
+            &rt,
+            alloc,
+            b"30 END\n10 PRINT 1\n10 PRINT 2\n20 PRINT 3\n20",
+            "10 Print([Value(Number(2))], true); 30 End; ",
+        );
+        expect_shown(
+            &rt,
+            alloc,
+            b"5 GOTO100\n10 PRINT 1\n100 END",
+            "5 Goto(Number(100)); 10 Print([Value(Number(1))], true); 100 End; ",
+        );
+        expect_same(&rt, alloc, b"10\n20\n10 END\n20", b"10 END");
+        expect_same(&rt, alloc, b"00032767 END", b"3 2 7 6 7END");
+    }
+
+    #[test]
+    fn assignment_behind_a_condition(rt: HostRuntime) {
+        let alloc = rt.alloc();
+        expect_shown(
+            &rt,
+            alloc,
+            b"20 IF I=I F=5\n40 IF P=P REM",
+            "20 If(Variable(Letter { index: 8 }), Eq, Variable(Letter { index: 8 }), \
+             Let(Letter { index: 5 }, Number(5))); \
+             40 If(Variable(Letter { index: 15 }), Eq, Variable(Letter { index: 15 }), Remark); ",
+        );
+        expect_same(&rt, alloc, b"20 IF I=I F=5", b"20 IF I=I THEN LET F=5");
+        expect_same(&rt, alloc, b"10 IF A<>B END", b"10 IF A > < B T H E N END");
+    }
+
+    #[test]
+    fn spaces_and_case(rt: HostRuntime) {
+        let alloc = rt.alloc();
+        expect_same(&rt, alloc, b"1 0 A = 6 5 5 3 5", b"10A=65535");
+        expect_same(&rt, alloc, b"10 p r i n t a", b"10 PRINT A");
+        expect_same(&rt, alloc, b"  10   Go To r n d ( 5 )  ", b"10 GOTO RND(5)");
+        expect_same(&rt, alloc, b"10 print \"Ab c\";A", b"10 PRINT \"AB C\";A");
+        expect_same(
+            &rt,
+            alloc,
+            b"10 A=((((((((((((((((1))))))))))))))))",
+            b"10 A=1",
+        );
+        expect_shown(
+            &rt,
+            alloc,
+            b"10 PRINT \"a b\",\"\";",
+            "10 Print([Text([65, 32, 66]), Zone, Text([])], false); ",
+        );
+    }
+
+    #[test]
+    fn remarks(rt: HostRuntime) {
+        let alloc = rt.alloc();
+        expect_same(&rt, alloc, b"10 REM ~", b"10 REM");
+        expect_same(&rt, alloc, b"10 r E mark \xff \" RUN", b"10 REM");
+        expect_same(
+            &rt,
+            alloc,
+            b"10 PRINT \"REM\";\"rem\"",
+            b"10 PR \"REM\";\"REM\"",
+        );
+        expect_error(&rt, alloc, b"10 PRINT \"X\":REM ~", Syntax, 1, 13);
+        expect_error(&rt, alloc, b"10 PRINT R: E M ~", BadByte, 1, 17);
+        expect_error(&rt, alloc, b"10 PRINT \"R\"EM ~", BadByte, 1, 16);
+    }
+
+    #[test]
+    fn expressions(rt: HostRuntime) {
+        let alloc = rt.alloc();
+        expect_expression(
+            &rt,
+            alloc,
+            b" a * 2 - 1",
+            "Binary(Subtract, Binary(Multiply, Variable(Letter { index: 0 }), Number(2)), Number(1))",
+        );
+        expect_expression(
+            &rt,
+            alloc,
+            b"RND(1/0)",
+            "Random(Binary(Divide, Number(1), Number(0)))",
+        );
+        for (i, (text, kind, column)) in EXPRESSION_TEXTS.iter().enumerate() {
+            let wanted = SourceError {
+                kind: *kind,
+                line: 1,
+                column: *column,
+            };
+            match parse_expr(alloc, text) {
+                Ok(_) => assert!(rt; false, "text {i} is read"),
+                Err(found) => assert_eq!(rt; found, wanted, "text {i}"),
+            }
+        }
+    }
+
+    #[test]
+    fn line_is_one_token(rt: HostRuntime) {
+        let alloc = rt.alloc();
+        expect_tokens(&rt, alloc, b"10 GO TO 5", &[b"10", b"GO TO", b"5"]);
+        expect_tokens(
+            &rt,
+            alloc,
+            b"10 IF I=I F=5",
+            &[b"10", b"IF", b"I", b"=", b"I", b"F", b"=", b"5"],
+        );
+        expect_tokens(
+            &rt,
+            alloc,
+            b" 20 PRINT\"A B\";1 2 ",
+            &[b"20", b"PRINT", b"\"A B\"", b";", b"1 2"],
+        );
+        expect_tokens(&rt, alloc, b"10 REM  x ", &[b"10", b"REM", b"  x "]);
+        expect_tokens(&rt, alloc, b"10 REM", &[b"10", b"REM"]);
+        expect_tokens(&rt, alloc, b"10 A< =B", &[b"10", b"A", b"< =", b"B"]);
+        expect_tokens(&rt, alloc, b"10 r n d", &[b"10", b"r", b"n", b"d"]);
+        expect_tokens(
+            &rt,
+            alloc,
+            b"10 A=r n d(1)",
+            &[b"10", b"A", b"=", b"r n d", b"(", b"1", b")"],
+        );
+        expect_tokens(
+            &rt,
+            alloc,
+            b"10 PRINT PRINT",
+            &[b"10", b"PRINT", b"P", b"R", b"I", b"N", b"T"],
+        );
+        expect_tokens(
+            &rt,
+            alloc,
+            b"END:\xff \"A ",
+            &[b"END", b":", b"\xff", b"\"A "],
+        );
+        expect_tokens(&rt, alloc, b"  ", &[]);
     }
 }

@@ -5,6 +5,7 @@ use Rattle.tb_parser.specs.Answers.{edit_of}
 use Rattle.tb_parser.specs.Files.{Outcome, LinesAre, at_end}
 use Rattle.tb_parser.specs.Lines.{lines_of_file}
 use Rattle.tb_parser.proofs.Outcomes.{only_one}
+use Rattle.tb_parser.proofs.Rising.{lines_rise}
 use Rattle.tb_parser.proofs.Runs.{bad_line, good_line, no_line, ended}
 use Rattle.tb_parser.proofs.Unique.{lines_one}
 use Rattle.tb_parser.proofs.parser.parse.Goals as goal
@@ -50,3 +51,6 @@ returns-clause-found c =
 
 pub returns-clause-only : goal.returns-clause-only
 returns-clause-only c = λ outcome is. whole_one c.args.source.now _ outcome (returns-clause-found c) is
+
+pub returns-clause-rising : goal.returns-clause-rising
+returns-clause-rising c = lines_rise 1 [] (lines_of_file c.args.source.now) (Ok (lines_of c.loop-line.program)) tt (returns-clause-found c)
