@@ -15,9 +15,9 @@ use Rattle.tb_parser.specs.Files.{line_at, with_line, without_line}
 not_same : (a b : ℕ) → nat_lt a b ≡ true → (a == b) ≡ false
 not_same a b e = grind (arith, nat_tests)
 
-pub lines_of-insert : (es : List (ℕ × Statement)) (n : ℕ) (s : Statement) → lines_of (insert_entry nat_cmp es n s) ≡ with_line n (command_of s) (lines_of es)
-lines_of-insert [] n s = refl
-lines_of-insert (e ∷ es) n s = go (lines_of-insert es n s) (nat_lt n e.0) (n == e.0) refl
+pub lines_of_insert : (es : List (ℕ × Statement)) (n : ℕ) (s : Statement) → lines_of (insert_entry nat_cmp es n s) ≡ with_line n (command_of s) (lines_of es)
+lines_of_insert [] n s = refl
+lines_of_insert (e ∷ es) n s = go (lines_of_insert es n s) (nat_lt n e.0) (n == e.0) refl
   where
     go : lines_of (insert_entry nat_cmp es n s) ≡ with_line n (command_of s) (lines_of es) → (less same : Bool) → (n == e.0) ≡ same
         → lines_of (match_ordering (cond less Less (cond same Equal Greater)) ((n, s) ∷ e ∷ es) ((e.0, s) ∷ es) (e ∷ insert_entry nat_cmp es n s))
@@ -26,9 +26,9 @@ lines_of-insert (e ∷ es) n s = go (lines_of-insert es n s) (nat_lt n e.0) (n =
     go h false true is = ap (λ (k : ℕ). line_at k (command_of s) ∷ lines_of es) (sym (same_number n e.0 is))
     go h false false is = ap (λ (t : Program). line_of e ∷ t) h
 
-pub lines_of-remove : (es : List (ℕ × Statement)) (n : ℕ) → lines_of (remove_entry (is_at (nat_cmp n)) es) ≡ without_line n (lines_of es)
-lines_of-remove [] n = refl
-lines_of-remove (e ∷ es) n = go (lines_of-remove es n) (nat_lt n e.0) (n == e.0) refl refl
+pub lines_of_remove : (es : List (ℕ × Statement)) (n : ℕ) → lines_of (remove_entry (is_at (nat_cmp n)) es) ≡ without_line n (lines_of es)
+lines_of_remove [] n = refl
+lines_of_remove (e ∷ es) n = go (lines_of_remove es n) (nat_lt n e.0) (n == e.0) refl refl
   where
     go : lines_of (remove_entry (is_at (nat_cmp n)) es) ≡ without_line n (lines_of es) → (less same : Bool) → nat_lt n e.0 ≡ less → (n == e.0) ≡ same
         → lines_of (cond (is_eq (cond less Less (cond same Equal Greater))) es (e ∷ remove_entry (is_at (nat_cmp n)) es))

@@ -18,6 +18,7 @@ pub(crate) enum LineEdit {
 }
 
 /// Does it.
+#[tactic(auto, using(crate::proofs::Maps::lines_of_insert, crate::proofs::Maps::lines_of_remove))]
 pub(crate) fn apply(program: &mut Program, edit: LineEdit) -> Result<(), SourceError>
     ensures ok { OnOk result (lines_of program.new ≡ edited (edit_of edit) (lines_of program.old)) }
     ensures err { IfErr result (λ e. e ≡ out_of_memory) }

@@ -100,6 +100,7 @@ fn read_line(alloc: Global, line: &[u8]) -> Result<LineEdit, Fault>
 }
 
 // A line that is neither too long nor has a bad byte.
+#[tactic(auto, using(crate::specs::Readings::line_too_long, crate::specs::Readings::bad_byte))]
 fn check_bytes(line: &[u8]) -> Result<(), Fault>
     ensures { MatchResult result (λ _. IsFit line.now) (λ fault. IfSome (refusal_of fault.kind fault.column) (IsUnfit line.now)) }
 {
