@@ -2,4 +2,6 @@
 #![tactic(auto)]
 
 #[cfg(test)]
+mod grammar;
+#[cfg(test)]
 mod parser;
