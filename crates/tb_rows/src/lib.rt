@@ -8,5 +8,6 @@ mod kernal;
 mod lower;
 mod memmap;
 mod opcodes;
+mod parser;
 mod reaching;
 mod words;
