@@ -1,0 +1,12 @@
+//! The engines of the program `tbc`, over any reader and writer: each reads its input to the end, makes all
+//! that is to be written, and then writes it.
+#![tactic(auto)]
+
+pub mod keys;
+pub mod screen;
+pub mod stream;
+pub mod tracked;
+
+pub use keys::{KeyError, key_list};
+pub use screen::host_form;
+pub use tracked::Tracked;
