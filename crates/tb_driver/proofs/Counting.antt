@@ -1,5 +1,5 @@
 -- A count of failures changes at a failure.
-use Rattle.std.proofs.Common.{◌≡◌, ◌≢◌, ℕ, Bool, true, false, ◌+◌, ◌%◌, ◌^◌, arith}
+use Rattle.std.proofs.Common.{◌≡◌, ◌≢◌, ℕ, true, arith}
 use Rattle.tb_driver.specs.Streams.{counted}
 
 pub counted_differs : (n m : ℕ) → m ≡ counted n true → m ≢ n

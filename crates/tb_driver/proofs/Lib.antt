@@ -1,2 +1,4 @@
+pub mod Answered
 pub mod Counting
+pub mod Start
 mod Written

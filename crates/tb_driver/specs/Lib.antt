@@ -1,3 +1,6 @@
 pub mod HostForm
 pub mod Streams
 pub mod Inputs
+pub mod Outcomes
+pub mod Made
+pub mod Programs

@@ -3,10 +3,15 @@
 #![tactic(auto)]
 
 pub mod keys;
+pub mod made;
+pub mod outcome;
+pub mod programs;
 pub mod screen;
 pub mod stream;
 pub mod tracked;
 
 pub use keys::{KeyError, key_list};
+pub use outcome::{End, Outcome, Refusal};
+pub use programs::run_prg;
 pub use screen::host_form;
 pub use tracked::Tracked;
