@@ -1,4 +1,3 @@
-pub mod Answered
 pub mod Counting
 pub mod Start
 mod Written

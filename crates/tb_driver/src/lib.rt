@@ -8,6 +8,7 @@ pub mod outcome;
 pub mod programs;
 pub mod screen;
 pub mod stream;
+mod texts;
 pub mod tracked;
 
 pub use keys::{KeyError, key_list};
