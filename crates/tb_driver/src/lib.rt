@@ -11,7 +11,7 @@ pub mod stream;
 mod texts;
 pub mod tracked;
 
-pub use keys::{KeyError, key_list};
+pub use keys::{KeyError, address, key_list};
 pub use outcome::{End, Outcome, Refusal};
 pub use programs::run_prg;
 pub use screen::host_form;

@@ -1,0 +1,59 @@
+//! The program `tbc`: its words become a job, and an engine does it over files and standard streams.
+#![tactic(auto)]
+
+mod failure;
+mod files;
+mod tasks;
+
+use failure::Failure;
+use std::process::ExitCode;
+use std::rt::{Env, Files};
+use std::{env, io};
+use tb_command_line::words::job;
+use tb_command_line::{Job, JobError};
+use tb_driver::Outcome;
+
+/// All words, the program's own name the first of them.
+fn words<R: Env + AllocGlobal>(rt: &R) -> Result<Vec<String>, Failure> {
+    match env::args(rt) {
+        Ok(args) => Ok(args.collect(rt.alloc())?),
+        Err(error) if error.kind() == io::ErrorKind::OutOfMemory => Err(Failure::NoMemory),
+        Err(_) => Err(Failure::NotUtf8),
+    }
+}
+
+fn job_of_words<R: Env + AllocGlobal>(rt: &R) -> Result<Job, Failure> {
+    let words = words(rt)?;
+    let words: Vec<&str> = words
+        .iter()
+        .skip(1)
+        .map(|word| word.as_str())
+        .collect(rt.alloc())?;
+    match job(rt.alloc(), words.as_slice()) {
+        Ok(job) => Ok(job),
+        Err(JobError::Words(text)) => Err(Failure::Words(text)),
+        Err(JobError::NoMemory) => Err(Failure::NoMemory),
+    }
+}
+
+fn start<R: Files + Env + Print + AllocGlobal>(rt: &R) -> Result<Outcome, Failure> {
+    let job = job_of_words(rt)?;
+    tasks::perform(rt, job)
+}
+
+fn main(rt: HostRuntime) -> ExitCode {
+    // Nobody can be told that standard error fails.
+    let status = match start(&rt) {
+        Ok(outcome) => {
+            if outcome.status() != 0 {
+                let _ = eprintln!(rt; "tbc: {outcome}");
+            }
+            outcome.status()
+        }
+        Err(failure) => {
+            let _ = failure.explain(&rt);
+            failure.status()
+        }
+    };
+    ExitCode::from(status)
+}

@@ -1,0 +1,86 @@
+//! The commands. Key lists and addresses are looked at before any file is opened.
+use crate::failure::Failure;
+use crate::files::open;
+use std::alloc::Global;
+use std::io;
+use std::rt::Files;
+use tb_command_line::{Job, Runnable};
+use tb_driver::stream::write_output;
+use tb_driver::{End, Outcome, Tracked, key_list, run_prg};
+use tb_kernal::{Keyboard, Quiet, Rude};
+
+/// Does what the words ask for.
+pub fn perform<R: Files + Print + AllocGlobal>(rt: &R, job: Job) -> Result<Outcome, Failure> {
+    match job {
+        Job::Run {
+            what,
+            keys,
+            answers,
+            limit,
+            rude,
+            ..
+        } => {
+            let keyboard = keyboard(rt.alloc(), keys.as_str(), answers.as_str())?;
+            match what {
+                Runnable::Prg(path) => Ok(run_prg_file(
+                    rt,
+                    path.as_str(),
+                    keyboard,
+                    u64::from(limit.events),
+                    rude,
+                )),
+                Runnable::Source(_) => Err(Failure::NotYet),
+            }
+        }
+        Job::Show { text } => Ok(show(rt, text.as_str())),
+        Job::Asm { .. } | Job::Dis { .. } | Job::Build { .. } | Job::Step { .. } => {
+            Err(Failure::NotYet)
+        }
+    }
+}
+
+fn keyboard(alloc: Global, keys: &str, answers: &str) -> Result<Keyboard, Failure> {
+    Ok(Keyboard {
+        text: key_list(alloc, keys)?,
+        answers: key_list(alloc, answers)?,
+    })
+}
+
+fn show<R: Print>(rt: &R, text: &str) -> Outcome {
+    match write_output(&mut Tracked::new(io::writer(rt)), text.as_bytes()) {
+        Ok(()) => Outcome::Ended(End::Done),
+        Err(_) => Outcome::WriteFault,
+    }
+}
+
+fn run_prg_file<R: Files + Print + AllocGlobal>(
+    rt: &R,
+    path: &str,
+    keyboard: Keyboard,
+    limit: u64,
+    rude: Option<u16>,
+) -> Outcome {
+    let mut file = match open(rt, path) {
+        Ok(file) => file,
+        Err(outcome) => return outcome,
+    };
+    let mut screen = Tracked::new(io::writer(rt));
+    match rude {
+        Some(seed) => run_prg(
+            rt.alloc(),
+            &mut file,
+            &mut screen,
+            keyboard,
+            limit,
+            &mut Rude::new(seed),
+        ),
+        None => run_prg(
+            rt.alloc(),
+            &mut file,
+            &mut screen,
+            keyboard,
+            limit,
+            &mut Quiet,
+        ),
+    }
+}
