@@ -4,3 +4,4 @@ pub mod Inputs
 pub mod Outcomes
 pub mod Made
 pub mod Programs
+pub mod Assembly

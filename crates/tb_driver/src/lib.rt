@@ -2,6 +2,7 @@
 //! that is to be written, and then writes it.
 #![tactic(auto)]
 
+pub mod assembly;
 pub mod keys;
 pub mod made;
 pub mod outcome;
@@ -11,6 +12,7 @@ pub mod stream;
 mod texts;
 pub mod tracked;
 
+pub use assembly::{asm_text, dis_text};
 pub use keys::{KeyError, address, key_list};
 pub use outcome::{End, Outcome, Refusal};
 pub use programs::run_prg;
