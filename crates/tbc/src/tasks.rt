@@ -1,12 +1,12 @@
 //! The commands. Key lists and addresses are looked at before any file is opened.
 use crate::failure::Failure;
-use crate::files::open;
+use crate::files::{open, save};
 use std::alloc::Global;
 use std::io;
 use std::rt::Files;
 use tb_command_line::{Job, Runnable};
 use tb_driver::stream::write_output;
-use tb_driver::{End, Outcome, Tracked, key_list, run_prg};
+use tb_driver::{End, Outcome, Tracked, address, asm_text, dis_text, key_list, run_prg};
 use tb_kernal::{Keyboard, Quiet, Rude};
 
 /// Does what the words ask for.
@@ -32,10 +32,13 @@ pub fn perform<R: Files + Print + AllocGlobal>(rt: &R, job: Job) -> Result<Outco
                 Runnable::Source(_) => Err(Failure::NotYet),
             }
         }
+        Job::Asm { text, out, at } => match address(at.as_str()) {
+            Some(at) => Ok(assemble_file(rt, text.as_str(), out.as_str(), at)),
+            None => Err(Failure::BadAddress),
+        },
+        Job::Dis { prg } => Ok(list_file(rt, prg.as_str())),
         Job::Show { text } => Ok(show(rt, text.as_str())),
-        Job::Asm { .. } | Job::Dis { .. } | Job::Build { .. } | Job::Step { .. } => {
-            Err(Failure::NotYet)
-        }
+        Job::Build { .. } | Job::Step { .. } => Err(Failure::NotYet),
     }
 }
 
@@ -82,5 +85,22 @@ fn run_prg_file<R: Files + Print + AllocGlobal>(
             limit,
             &mut Quiet,
         ),
+    }
+}
+
+fn assemble_file<R: Files + AllocGlobal>(rt: &R, text: &str, out: &str, at: u16) -> Outcome {
+    let mut file = match open(rt, text) {
+        Ok(file) => file,
+        Err(outcome) => return outcome,
+    };
+    let mut made = Tracked::new(Vec::new(rt.alloc()));
+    let outcome = asm_text(rt.alloc(), &mut file, &mut made, at);
+    save(rt, out, outcome, made.stream.as_slice())
+}
+
+fn list_file<R: Files + Print + AllocGlobal>(rt: &R, path: &str) -> Outcome {
+    match open(rt, path) {
+        Ok(mut file) => dis_text(rt.alloc(), &mut file, &mut Tracked::new(io::writer(rt))),
+        Err(outcome) => outcome,
     }
 }
