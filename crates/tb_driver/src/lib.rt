@@ -2,19 +2,20 @@
 //! that is to be written, and then writes it.
 #![tactic(auto)]
 
-pub mod assembly;
-pub mod keys;
-pub mod made;
-pub mod outcome;
-pub mod programs;
-pub mod screen;
-pub mod stream;
+mod assembly;
+mod keys;
+mod made;
+mod outcome;
+mod programs;
+mod screen;
+mod stream;
 mod texts;
-pub mod tracked;
+mod tracked;
 
 pub use assembly::{asm_text, dis_text};
 pub use keys::{KeyError, address, key_list};
 pub use outcome::{End, Outcome, Refusal};
 pub use programs::run_prg;
 pub use screen::host_form;
-pub use tracked::Tracked;
+pub use stream::{InputError, MOST_INPUT, read_input, write_output};
+pub use tracked::{Fault, Tracked};

@@ -2,8 +2,7 @@
 use std::alloc::Global;
 use std::rt::Files;
 use std::{fs, io};
-use tb_driver::stream::write_output;
-use tb_driver::{End, Outcome, Tracked};
+use tb_driver::{End, Outcome, Tracked, write_output};
 
 /// A file that is opened for reading.
 pub fn open<R: Files>(rt: &R, path: &str) -> Result<Tracked<R::File>, Outcome> {

@@ -5,8 +5,9 @@ use std::alloc::Global;
 use std::io;
 use std::rt::Files;
 use tb_command_line::{Job, Runnable};
-use tb_driver::stream::write_output;
-use tb_driver::{End, Outcome, Tracked, address, asm_text, dis_text, key_list, run_prg};
+use tb_driver::{
+    End, Outcome, Tracked, address, asm_text, dis_text, key_list, run_prg, write_output,
+};
 use tb_kernal::{Keyboard, Quiet, Rude};
 
 /// Does what the words ask for.
