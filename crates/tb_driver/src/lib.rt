@@ -4,6 +4,7 @@
 
 mod assembly;
 mod keys;
+mod loading;
 mod made;
 mod outcome;
 mod programs;

@@ -1,11 +1,11 @@
 //! Running a PRG file.
-ghost use Rattle.std.specs.Prelude.{◌≡◌, ◌+◌, ◌≤◌, length, MatchResult};
-ghost use Rattle.tb_memmap.specs.Bytes.{IsOpenRange};
+ghost use Rattle.std.specs.Prelude.{◌≡◌, ◌+◌, ◌≤◌, length};
 ghost use Rattle.tb_driver.specs.Streams.{most_input, ConsumesAtMost};
 ghost use Rattle.tb_driver.specs.Outcomes.{Answers, Faults, MadeFrom};
 ghost use Rattle.tb_driver.specs.Made.{Makes};
-ghost use Rattle.tb_driver.specs.Programs.{first_pc, start_regs, start_memory, start, end_of, IsUnloadable, RunsAt, RunsPrg};
+ghost use Rattle.tb_driver.specs.Programs.{end_of, RunsAt, RunsPrg};
 
+use crate::loading::start_machine;
 use crate::made::{Stop, Text, deliver, without_input};
 use crate::outcome::{End, Outcome, Refusal};
 use crate::screen::host_form;
@@ -13,76 +13,8 @@ use crate::stream::read_input;
 use crate::tracked::Tracked;
 use std::alloc::Global;
 use std::io::{Read, Write};
-use tb_cpu::{Flags, Regs};
-use tb_kernal::{Keyboard, Machine, Outside, Status, run};
-use tb_memmap::{LoadError, Memory};
+use tb_kernal::{Keyboard, Outside, Status, run};
 use tb_prg::Loaded;
-
-/// The load address of a program that begins with a BASIC line.
-const BASIC_START: u16 = 0x0801;
-
-/// Where the machine code behind that line begins.
-const CODE_START: u16 = 0x080d;
-
-/// The stack pointer at the start.
-const START_S: u8 = 0xf0;
-
-/// Where the return address lies.
-const RETURN_AT: u16 = 0x01f1;
-
-/// The return address, low byte first, so that the program returns to `$A100`.
-const RETURN: [u8; 2] = [0xff, 0xa0];
-
-fn start_regs(at: u16) -> Regs
-    ensures { result ≡ start_regs at }
-{
-    Regs {
-        a: 0,
-        x: 0,
-        y: 0,
-        s: START_S,
-        pc: if at == BASIC_START { CODE_START } else { at },
-        flags: Flags {
-            n: false,
-            v: false,
-            d: false,
-            i: false,
-            z: false,
-            c: false,
-        },
-    }
-}
-
-// The memory at the start.
-fn start_memory(alloc: Global, program: Loaded<'_>) -> Result<Memory, Stop>
-    requires { program.at + length program.bytes.now ≤ 65536 }
-    ensures { MatchResult result (λ m. IsOpenRange program.entry.at (length program.entry.bytes.now) × (m ≡ start_memory program.entry.at program.entry.bytes.now)) (IsUnloadable program.entry.at program.entry.bytes.now) }
-{
-    let Ok(mut memory) = Memory::new(alloc) else {
-        return Err(Stop::NoMemory);
-    };
-    match memory.load(program.at, program.bytes) {
-        Ok(()) => {}
-        Err(LoadError::RunsPast) => unreachable!(),
-        Err(LoadError::NotRam) => return Err(Stop::Refused(Refusal::NotRam)),
-    }
-    match memory.load(RETURN_AT, &RETURN) {
-        Ok(()) => Ok(memory),
-        Err(_) => unreachable!(),
-    }
-}
-
-// The machine at the start.
-fn start_machine(alloc: Global, program: Loaded<'_>, keyboard: Keyboard) -> Result<Machine, Stop>
-    requires { program.at + length program.bytes.now ≤ 65536 }
-    ensures { MatchResult result (λ m. IsOpenRange program.entry.at (length program.entry.bytes.now) × (m ≡ start program.entry.at program.entry.bytes.now keyboard.text.items keyboard.answers.items)) (IsUnloadable program.entry.at program.entry.bytes.now) }
-{
-    let memory = start_memory(alloc, program)?;
-    match Machine::enter(alloc, memory, start_regs(program.at), keyboard) {
-        Ok(machine) => Ok(machine),
-        Err(_) => unreachable!(),
-    }
-}
 
 fn end_of(status: Status, pc: u16) -> End
     ensures { result ≡ end_of status pc }

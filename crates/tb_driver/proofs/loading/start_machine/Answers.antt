@@ -1,6 +1,6 @@
 use Rattle.tb_driver.proofs.Start.{never_refused, entered_is_start}
 use Rattle.std.proofs.Common.{◌∙◌}
-use Rattle.tb_driver.proofs.programs.start_machine.Goals as goal
+use Rattle.tb_driver.proofs.loading.start_machine.Goals as goal
 
 pub unreachable-requires : goal.unreachable-requires
 unreachable-requires c =
