@@ -1,7 +1,10 @@
 //! The command line of `tbc`: its words become a job.
 #![tactic(auto)]
 
-pub mod jobs;
-pub mod words;
+mod failure;
+mod jobs;
+mod words;
 
-pub use jobs::{Job, JobError, Limit, Runnable};
+pub use failure::Failure;
+pub use jobs::{Job, JobError, Limit, MOST_EVENTS, Runnable};
+pub use words::job;

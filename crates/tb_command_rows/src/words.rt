@@ -1,8 +1,7 @@
 //! Words and their jobs.
 use std::alloc::Global;
 use std::test::Fail;
-use tb_command_line::words::job;
-use tb_command_line::{Job, JobError, Runnable};
+use tb_command_line::{Failure, Job, JobError, Runnable, job};
 
 /// A job as one text, so that a table can hold it.
 fn shown(alloc: Global, words: &[&str]) -> Result<String, Fail> {
@@ -135,6 +134,23 @@ fn help_is_shown(rt: HostRuntime) -> Result<(), Fail> {
     for (words, beginning) in rows {
         let shown = shown(rt.alloc(), words)?;
         assert!(rt; shown.as_bytes().starts_with(beginning), "{shown}");
+    }
+    Ok(())
+}
+
+#[test]
+fn failures_have_their_texts(rt: HostRuntime) -> Result<(), Fail> {
+    let text = String::from_str(rt.alloc(), "error: no\n")?;
+    let rows: [(Failure, u8, &[u8]); 5] = [
+        (Failure::Words(text), 2, b"error: no\n"),
+        (Failure::NotUtf8, 2, b"tbc: an argument is not UTF-8\n"),
+        (Failure::BadKeys, 2, b"tbc: bad key list\n"),
+        (Failure::BadAddress, 2, b"tbc: bad address\n"),
+        (Failure::NoMemory, 4, b"tbc: out of memory\n"),
+    ];
+    for (failure, status, said) in rows {
+        assert_eq!(rt; failure.status(), status);
+        assert_eq!(rt; format!(in rt.alloc(); "{failure}")?.as_bytes(), said);
     }
     Ok(())
 }

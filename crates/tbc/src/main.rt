@@ -1,19 +1,16 @@
 //! The program `tbc`: its words become a job, and an engine does it over files and standard streams.
 #![tactic(auto)]
 
-mod failure;
 mod files;
 mod tasks;
 
-use failure::Failure;
 use std::process::ExitCode;
 use std::rt::{Env, Files};
 use std::{env, io};
-use tb_command_line::words::job;
-use tb_command_line::{Job, JobError};
+use tb_command_line::{Failure, Job, job};
 use tb_driver::Outcome;
 
-/// All words, the program's own name the first of them.
+// All words, the program's own name the first of them.
 fn words<R: Env + AllocGlobal>(rt: &R) -> Result<Vec<String>, Failure> {
     match env::args(rt) {
         Ok(args) => Ok(args.collect(rt.alloc())?),
@@ -29,11 +26,7 @@ fn job_of_words<R: Env + AllocGlobal>(rt: &R) -> Result<Job, Failure> {
         .skip(1)
         .map(|word| word.as_str())
         .collect(rt.alloc())?;
-    match job(rt.alloc(), words.as_slice()) {
-        Ok(job) => Ok(job),
-        Err(JobError::Words(text)) => Err(Failure::Words(text)),
-        Err(JobError::NoMemory) => Err(Failure::NoMemory),
-    }
+    Ok(job(rt.alloc(), words.as_slice())?)
 }
 
 fn start<R: Files + Env + Print + AllocGlobal>(rt: &R) -> Result<Outcome, Failure> {
@@ -51,7 +44,7 @@ fn main(rt: HostRuntime) -> ExitCode {
             outcome.status()
         }
         Err(failure) => {
-            let _ = failure.explain(&rt);
+            let _ = eprint!(rt; "{failure}");
             failure.status()
         }
     };

@@ -1,12 +1,11 @@
 //! The commands. Key lists and addresses are looked at before any file is opened.
-use crate::failure::Failure;
 use crate::files::{open, save};
 use std::alloc::Global;
 use std::io;
 use std::rt::Files;
-use tb_command_line::{Job, Runnable};
+use tb_command_line::{Failure, Job, Runnable};
 use tb_driver::{
-    End, Outcome, Tracked, address, asm_text, dis_text, key_list, run_prg, write_output,
+    End, KeyError, Outcome, Tracked, address, asm_text, dis_text, key_list, run_prg, write_output,
 };
 use tb_kernal::{Keyboard, Quiet, Rude};
 
@@ -45,9 +44,16 @@ pub fn perform<R: Files + Print + AllocGlobal>(rt: &R, job: Job) -> Result<Outco
 
 fn keyboard(alloc: Global, keys: &str, answers: &str) -> Result<Keyboard, Failure> {
     Ok(Keyboard {
-        text: key_list(alloc, keys)?,
-        answers: key_list(alloc, answers)?,
+        text: key_list(alloc, keys).map_err(of_keys)?,
+        answers: key_list(alloc, answers).map_err(of_keys)?,
     })
+}
+
+fn of_keys(error: KeyError) -> Failure {
+    match error {
+        KeyError::BadKeys => Failure::BadKeys,
+        KeyError::NoMemory => Failure::NoMemory,
+    }
 }
 
 fn show<R: Print>(rt: &R, text: &str) -> Outcome {
