@@ -1,13 +1,12 @@
 -- The start machine, and a run from it.
-use Rattle.std.proofs.Common.{◌≡◌, ℕ, ◌+◌, ◌-◌, ◌<◌, ◌≤◌, List, [], ◌∷◌, ◌++◌, length, take, drop, get_or, Some, None, Ok, refl, ap, subst, ◌∙◌, arith, length-append, length-drop}
+use Rattle.std.proofs.Common.{◌≡◌, ℕ, ◌+◌, ◌-◌, ◌<◌, ◌≤◌, List, [], ◌∷◌, ◌++◌, length, take, drop, get_or, None, Ok, refl, ap, subst, ◌∙◌, arith, length-append, length-drop}
 use Rattle.std.proofs.lemmas.List.{length-replicate, length-take-le, get_or_append_left, get_or-append_right}
 use Rattle.std.specs.Prelude.{replicate}
 use Rattle.tb_memmap.specs.Bytes.{at, loaded, IsOpenRange}
 use Rattle.tb_cpu.specs.declared.registers.Regs.{Regs}
 use Rattle.tb_kernal.specs.declared.events.Event.{Event}
 use Rattle.tb_kernal.specs.declared.status.Status.{Status}
-use Rattle.tb_kernal.specs.declared.status.EnterError.{EnterError}
-use Rattle.tb_kernal.specs.Machine.{Content, home_of, entry_refusal}
+use Rattle.tb_kernal.specs.Machine.{Content, home_of, entry_refusal, entered}
 use Rattle.tb_kernal.specs.Runs.{RanOver}
 use Rattle.tb_driver.specs.declared.outcome.End.{End}
 use Rattle.tb_driver.specs.HostForm.{host_form_of}
@@ -44,30 +43,12 @@ returns_home : (a : ℕ) (bytes m : List ℕ) (r : Regs) → a + length bytes �
 returns_home a bytes m r h same_memory same_regs = rw (same_memory, same_regs) (home_of-start a bytes h)
 
 -- the start machine is entered
-pub never_refused : (a : ℕ) (bytes m : List ℕ) (r : Regs) (e : EnterError) → a + length bytes ≤ 65536 → m ≡ start_memory a bytes
-    → r ≡ start_regs a → entry_refusal (at m) r ≡ Some e → ⊥
-never_refused a bytes m r e h same_memory same_regs refused =
+pub never_refused : (a : ℕ) (bytes m : List ℕ) (r : Regs) → a + length bytes ≤ 65536 → m ≡ start_memory a bytes → r ≡ start_regs a
+    → entry_refusal (at m) r ≡ None
+never_refused a bytes m r h same_memory same_regs =
     let home = returns_home a bytes m r h same_memory same_regs in
     let low : r.s ≡ 0xf0 = ap (λ x. x.s) same_regs in
-    let none : entry_refusal (at m) r ≡ None = rw (home, low) refl in
-    cc
-
--- a machine that was entered with a memory and registers
-abbrev pub entered : List ℕ → Regs → List ℕ → List ℕ → Content
-entered m r text answers =
-    record {
-      regs = r;
-      memory = m;
-      all_text = text;
-      text_taken = 0;
-      all_answers = answers;
-      answers_taken = 0;
-      sent = [];
-      room = 0;
-      wrong = None;
-      home = home_of (at m) r;
-      home_s = r.s + 2;
-    }
+    rw (home, low) refl
 
 pub entered_is_start : (a : ℕ) (bytes m : List ℕ) (r : Regs) (text answers : List ℕ) → a + length bytes ≤ 65536 → m ≡ start_memory a bytes
     → r ≡ start_regs a → entered m r text answers ≡ start a bytes text answers
