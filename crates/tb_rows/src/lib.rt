@@ -8,6 +8,8 @@ mod cpu;
 #[cfg(test)]
 mod disasm;
 #[cfg(test)]
+mod driver;
+#[cfg(test)]
 mod effects;
 #[cfg(test)]
 mod grammar;
@@ -21,6 +23,8 @@ mod memmap;
 mod opcodes;
 #[cfg(test)]
 mod parser;
+#[cfg(test)]
+mod prg;
 #[cfg(test)]
 mod reaching;
 #[cfg(test)]
