@@ -2,7 +2,7 @@
 use Rattle.std.proofs.Common.{◌≡◌, ℕ, ◌+◌, ◌-◌, ◌<◌, ◌≤◌, Bool, true, false, List, [], ◌∷◌, ◌++◌, length, take, drop, get_or, Option, Some, None, Result, Ok, Err, refl, sym, ap, ◌∙◌, eqb, add-one, drop-cons, append_assoc, ◌&&◌, if◌then◌else◌, arith, length-drop, map}
 use Rattle.std.specs.Prelude.{option_map}
 use Rattle.std.proofs.lemmas.Bool.Decides.{nat_tests}
-use Rattle.std.proofs.lemmas.List.{take_more, drop-drop}
+use Rattle.std.proofs.lemmas.List.{append-nil, take_more, drop-drop}
 use Rattle.tb_asm.specs.declared.names.Name.{Name}
 use Rattle.tb_asm.specs.declared.items.Item.{Item}
 use Rattle.tb_asm.specs.declared.errors.LineError.{LineError}
@@ -47,10 +47,6 @@ ends : (bs : List ℕ) → begins_with_10 bs ≡ true → (split_lines bs ≡ []
 ends [] h = cc
 ends (b ∷ bs) h = ((ap (λ s. if s then [] ∷ split_lines bs else if eqb b 13 && begins_with_10 bs then split_lines bs else put b (split_lines bs)) h), omega arith)
 
-append_nil : {A : Type 0} (xs : List A) → xs ++ [] ≡ xs
-append_nil [] = refl
-append_nil (x ∷ xs) = ap (λ r. x ∷ r) (append_nil xs)
-
 module _ (text : List ℕ) (i : ℕ) (below : i < length text) (so_far : puts (take i text) (split_lines (drop i text)) ≡ split_lines text) where
   here : drop i text ≡ get_or text i 0 ∷ drop (i + 1) text
   here = drop-cons text i 0 below ∙ ap (λ n. get_or text i 0 ∷ drop n text) (sym (add-one i))
@@ -66,7 +62,7 @@ module _ (text : List ℕ) (i : ℕ) (below : i < length text) (so_far : puts (t
       let one : 1 ≤ length (drop (i + 1) text) = e.1 in
       let l : length (drop (i + 1) text) ≡ length text - (i + 1) = length-drop (i + 1) text in (
         sym so_far ∙ ap (λ t. puts (take i text) (split_lines t)) here ∙ ap (puts (take i text)) split
-            ∙ (λ j. append_nil (take i text) j ∷ split_lines (drop 1 (drop (i + 1) text))) ∙ ap (λ t. take i text ∷ split_lines t) (drop-drop 1 (i + 1) text)
+            ∙ (λ j. append-nil (take i text) j ∷ split_lines (drop 1 (drop (i + 1) text))) ∙ ap (λ t. take i text ∷ split_lines t) (drop-drop 1 (i + 1) text)
             ∙ ap (λ n. take i text ∷ split_lines (drop n text)) (let two : i + 1 + 1 ≡ i + 2 = omega arith in two),
         omega arith,
       )
@@ -106,7 +102,7 @@ module _ (old : List Entry) (rest line : List ℕ) (ls : List (List ℕ)) (n : �
   line_bad h = sym so_far ∙ ap (λ t. items_before old (text_items n t)) split ∙ ap (λ o. items_before old (with_line o n (text_items (n + 1) ls))) h
 
 pub text_done : (new : List Entry) (n : ℕ) (whole : Result (List Entry) ℕ) → items_before new (text_items n []) ≡ whole → whole ≡ Ok new
-text_done new n whole h = sym h ∙ ap Ok (append_nil new)
+text_done new n whole h = sym h ∙ ap Ok (append-nil new)
 
 -- items behind a label
 label_first : (old mid : List Entry) (n : Name) (o : Option (List Entry)) → Some (old ++ label n ∷ []) ≡ Some mid

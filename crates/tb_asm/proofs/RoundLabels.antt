@@ -6,6 +6,7 @@ use Rattle.std.proofs.lemmas.Bool.Decides.{nat_tests}
 use Rattle.tb_opcodes.specs.declared.Mnemonic.{Mnemonic}
 use Rattle.tb_opcodes.specs.declared.Mnemonic.TheVariants.{Jmp}
 use Rattle.tb_opcodes.specs.declared.Mode.TheVariants.{Relative, Absolute}
+use Rattle.std.proofs.lemmas.List.{append-nil}
 use Rattle.tb_asm.specs.declared.items.Operand.TheVariants.{Word, Label}
 use Rattle.tb_asm.specs.declared.names.Name.{Name}
 use Rattle.tb_asm.specs.Layout.{Entry, entry_of, instr, label, bytes, word, size, label_at, labels_from, address_in, same_name}
@@ -27,13 +28,9 @@ pub labels_in : ℕ → List Form → List (Name × ℕ)
 labels_in a [] = []
 labels_in a (f ∷ fs) = labels_of_form a f ++ labels_in (a + form_size f) fs
 
-append_nil : {A : Type 0} (xs : List A) → xs ++ [] ≡ xs
-append_nil [] = refl
-append_nil (x ∷ xs) = ap (λ r. x ∷ r) (append_nil xs)
-
 form_labels : (a : ℕ) (f : Form) → labels_from a (items_at a f) ≡ labels_of_form a f
 unfolding labels_of_form
-form_labels a (kept e) = append_nil (label_at a e)
+form_labels a (kept e) = append-nil (label_at a e)
 form_labels a (long n l) = refl
 
 pub size_at : (a : ℕ) (f : Form) → size (items_at a f) ≡ form_size f
@@ -151,7 +148,7 @@ builds_more f fs built new address end {all} p grown ends =
     }
 
 pub builds_done : (built : List Entry) (address : ℕ) (all : List Entry) → BuildsTo [] built address all → built ≡ all
-builds_done built address all p = sym (append_nil built) ∙ p.items
+builds_done built address all p = sym (append-nil built) ∙ p.items
 
 pub form_ends : (a : ℕ) (f : Form) → a ≤ 65536 → form_past a f ≡ false → a + form_size f ≤ 65536
 form_ends a (kept e) l h = ends_by a e l h

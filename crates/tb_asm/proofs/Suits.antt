@@ -4,6 +4,7 @@ use Rattle.std.specs.Prelude.{slice_index, unwrap_or}
 use Rattle.std.specs.List.{list_all, list_any}
 use Rattle.std.proofs.lemmas.Bool.Decides.{nat_tests}
 use Rattle.std.proofs.lemmas.Cmp.{nat_list_eq_equiv}
+use Rattle.std.proofs.lemmas.List.{append-nil}
 use Rattle.tb_opcodes.specs.declared.Mnemonic.{Mnemonic}
 use Rattle.tb_opcodes.specs.declared.Mode.{Mode}
 use Rattle.tb_opcodes.specs.Opcodes.{decoded, encoded, length_of}
@@ -15,15 +16,15 @@ use Rattle.tb_asm.specs.Layout.{Entry, instr, label, bytes, word, size_of, size,
 use Rattle.tb_asm.specs.Assembled.{refusal, either}
 use Rattle.tb_asm.specs.Suited.{BytesStand, Decodes, LabelsStand, name_at, names_of, AreDistinct, AllReachFrom, Suited}
 use Rattle.tb_asm.proofs.Faults.{first_none, none_first, size_push, taken}
-use Rattle.tb_asm.proofs.Laws.{stands, label_stands, bytes_append, all_size}
+use Rattle.tb_asm.proofs.Laws.{none_of, stands, label_stands, bytes_append, all_size}
+
+pub and_true : (p q : Bool) → (p && q) ≡ true → (p ≡ true) × (q ≡ true)
+and_true true q h = (refl, h)
+and_true false q h = absurd (true≢false (sym h))
 
 -- where nothing is refused, no item has a fault in its place
 fault_none : (fault : List Entry → Entry → Option AsmErrorKind) (front before after : List Entry) (e : Entry) → first_fault fault front (before ++ e ∷ after) ≡ None → fault (front ++ before) e ≡ None
-fault_none fault front [] after e h = ap (λ f. fault f e) (append_nil front) ∙ none_first fault front after e h
-  where
-    append_nil : (xs : List Entry) → xs ++ [] ≡ xs
-    append_nil [] = refl
-    append_nil (x ∷ xs) = ap (λ r. x ∷ r) (append_nil xs)
+fault_none fault front [] after e h = ap (λ f. fault f e) (append-nil front) ∙ none_first fault front after e h
 fault_none fault front (x ∷ before) after e h =
     let none = none_first fault front (before ++ e ∷ after) x h in
     ap (λ f. fault f e) (sym (append_assoc front (x ∷ []) before)) ∙ fault_none fault (front ++ x ∷ []) before after e (sym (first_none fault front (before ++ e ∷ after) x none) ∙ h)
@@ -40,10 +41,6 @@ module _ (at : ℕ) (es : List Entry) (placed : place_refusal at es ≡ None) wh
   labels_stand = λ before n after is.
       let new = (taken (labels_from at before) (at + size before) (label n) (item_taken before (label n) after is)).new in
       ap (λ t. address_in (labels_from at t) n) is ∙ label_stands at before after n (none_of (address_in (labels_from at before) n) new)
-    where
-      none_of : (o : Option ℕ) → is_some o ≡ false → o ≡ None
-      none_of None h = refl
-      none_of (Some x) h = absurd (true≢false h)
 
   pub decodes : Decodes es (image_of at es)
   decodes = λ before n m o after is.
@@ -53,15 +50,11 @@ module _ (at : ℕ) (es : List Entry) (placed : place_refusal at es ≡ None) wh
       ap (λ t. slice_index (bytes_from labels at t) (size before)) is ∙ ap (λ t. slice_index t (size before)) (bytes_append labels at before (instr n m o ∷ after))
       ∙ ap (λ k. slice_index (bytes_from labels at before ++ bytes_from labels (at + size before) (instr n m o ∷ after)) k) (sym (all_size labels at before))
       ∙ behind_front (bytes_from labels at before) (opcode_of n m) (operand_bytes m (at + size before) (number_in labels o) ++ bytes_from labels (at + size before + length_of m) after) in
-      ap decoded there ∙ by n m (encoded n m) refl (both_true (is_some (encoded n m)) (suits m o) mode)
+      ap decoded there ∙ by n m (encoded n m) refl (and_true (is_some (encoded n m)) (suits m o) mode).0
     where
       behind_front : (xs : List ℕ) (y : ℕ) (ys : List ℕ) → slice_index (xs ++ y ∷ ys) (length xs) ≡ y
       behind_front [] y ys = refl
       behind_front (x ∷ xs) y ys = behind_front xs y ys
-
-      both_true : (p q : Bool) → (p && q) ≡ true → p ≡ true
-      both_true true q h = refl
-      both_true false q h = h
 
       by : (n : Mnemonic) (m : Mode) (c : Option ℕ) → encoded n m ≡ c → is_some (encoded n m) ≡ true → decoded (unwrap_or (encoded n m) 0) ≡ Some (n, m)
       by n m None e s = absurd (true≢false (sym s ∙ ap is_some e))
@@ -112,10 +105,6 @@ ends_below a (instr n m o) h = grind (arith, nat_tests)
 ends_below a (label n) h = grind (arith, nat_tests)
 ends_below a (bytes bs) h = grind (arith, nat_tests)
 ends_below a (word o) h = grind (arith, nat_tests)
-
-and_true : (p q : Bool) → (p && q) ≡ true → (p ≡ true) × (q ≡ true)
-and_true true q h = (refl, h)
-and_true false q h = absurd (true≢false (sym h))
 
 placed_suits : (at : ℕ) (before es : List Entry) → list_all has_mode es ≡ true → AreDistinct (names_of (before ++ es)) → at + size before + size es < 65536
     → first_fault (place_fault_in at) before es ≡ None
