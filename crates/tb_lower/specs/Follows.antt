@@ -1,7 +1,8 @@
 -- What it is that slot code has the runs of a program.
 use Rattle.std.specs.Prelude.{◌≡◌, ℕ, ◌+◌, ◌*◌, ◌≤◌, max, List, [], ◌∷◌, ◌++◌, length, Option, Some, None}
 use Rattle.tb_syntax.specs.Source.{Command, Program, numbers}
-use Rattle.tb_lower.specs.Weights.{IsBounded, instr_texts, command_texts}
+use Rattle.tb_syntax.specs.Texts.{command_texts}
+use Rattle.tb_lower.specs.Weights.{IsBounded, instr_texts}
 use Rattle.tb_lower.specs.Steps.{Run, GoesOn, Over, sent_by}
 use Rattle.tb_lower.specs.Control.{State, content_at}
 use Rattle.tb_lower.specs.Meaning.{source_run}

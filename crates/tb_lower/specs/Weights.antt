@@ -78,20 +78,8 @@ share w Remark = 0
 abbrev pub IsBounded : Command → List Instr → Type 0
 IsBounded c is = (w : Weights) → weigh w is ≤ w.store + w.newline + w.stop + w.poll + share w c
 
--- the texts that a list sends, and those of a command, in order
+-- the texts that a list sends, in order
 abbrev pub instr_texts : List Instr → List (List ℕ)
 instr_texts [] = []
 instr_texts (SendText t ∷ is) = t ∷ instr_texts is
 instr_texts (_ ∷ is) = instr_texts is
-
--- the texts among items, in order
-abbrev pub item_texts : List Item → List (List ℕ)
-item_texts [] = []
-item_texts (Text t ∷ is) = t ∷ item_texts is
-item_texts (_ ∷ is) = item_texts is
-
--- the texts of a command's PRINT, in order
-abbrev pub command_texts : Command → List (List ℕ)
-command_texts (Print items ends) = item_texts items
-command_texts (If l rel r c) = command_texts c
-command_texts _ = []

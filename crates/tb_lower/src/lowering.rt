@@ -5,7 +5,8 @@ ghost use Rattle.tb_syntax.specs.Source as source;
 ghost use Rattle.tb_lower.specs.Need.{need, item_need, items_need, command_need, too_deep};
 ghost use Rattle.tb_lower.specs.Lowered.{value_code, item_code, items_code, inputs_code, command_code, list_code, program_code};
 ghost use Rattle.tb_lower.specs.Follows.{Follows};
-ghost use Rattle.tb_lower.specs.Ranges.{HasShortTexts, IsCodeInRange};
+ghost use Rattle.tb_syntax.specs.Texts.{HasShortTexts};
+ghost use Rattle.tb_lower.specs.Ranges.{IsCodeInRange};
 ghost use Rattle.tb_lower.specs.Refusals.{IsRefusal};
 ghost use Rattle.tb_lower.specs.Shown.{instr_of, slot_line_of, code_of};
 

@@ -32,7 +32,9 @@ impl Program {
     pub fn new(alloc: Global) -> Self
         ensures { result ≡ [] }
     {
-        Program { statements: BTreeMap::new(alloc) }
+        Program {
+            statements: BTreeMap::new(alloc),
+        }
     }
 
     /// Gives a line its statement, in place of the one that it had. On want of memory both come back.
