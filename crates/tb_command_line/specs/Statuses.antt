@@ -2,6 +2,13 @@
 use Rattle.std.specs.Prelude.{ℕ}
 use Rattle.tb_command_line.specs.declared.failure.Failure.{Failure}
 use Rattle.tb_command_line.specs.declared.failure.Failure.TheVariants.{Words, NotUtf8, BadKeys, BadAddress, NotYet, NoMemory}
+use Rattle.tb_command_line.specs.declared.jobs.JobError.{JobError}
+use Rattle.tb_command_line.specs.declared.jobs.JobError.TheVariants.{Words as JobWords, NoMemory as NoJobMemory}
+
+-- words that are no job
+abbrev pub failure_of : JobError → Failure
+failure_of (JobWords text) = Words text
+failure_of NoJobMemory = NoMemory
 
 abbrev pub status_of : Failure → ℕ
 status_of (Words text) = 2

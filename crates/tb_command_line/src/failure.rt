@@ -49,12 +49,20 @@ impl fmt::Display for Failure {
 }
 
 impl From<AllocError> for Failure {
+    ghost use Rattle.tb_command_line.specs.declared.failure.Failure.TheVariants.{NoMemory};
+
+    ghost from_gives = { λ _ failure. failure ≡ NoMemory };
+
     fn from(_error: AllocError) -> Failure {
         Failure::NoMemory
     }
 }
 
 impl From<JobError> for Failure {
+    ghost use Rattle.tb_command_line.specs.Statuses.{failure_of};
+
+    ghost from_gives = { λ error failure. failure ≡ failure_of error };
+
     fn from(error: JobError) -> Failure {
         match error {
             JobError::Words(text) => Failure::Words(text),

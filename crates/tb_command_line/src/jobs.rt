@@ -93,6 +93,10 @@ pub enum JobError {
 }
 
 impl From<AllocError> for JobError {
+    ghost use Rattle.tb_command_line.specs.declared.jobs.JobError.TheVariants.{NoMemory};
+
+    ghost from_gives = { λ _ error. error ≡ NoMemory };
+
     fn from(_error: AllocError) -> JobError {
         JobError::NoMemory
     }

@@ -78,6 +78,7 @@ fn run_command<'a>(alloc: Global) -> Result<Command<'a>, AllocError> {
         .help("Let the ROM write and clobber all that it may, by this seed [0 to 65535]");
     Command::new(alloc, "run")
         .about("Run a source or a PRG file, and show what it sends")
+        .override_usage("tbc run [OPTIONS] <SOURCE>\n       tbc run [OPTIONS] --prg <FILE>")
         .arg(source)?
         .arg(prg)?
         .arg(seed_option(alloc))?

@@ -234,6 +234,69 @@ fn the_first_bytes_of_a_file_are_listed(rt: HostRuntime) -> Result<(), Fail> {
 }
 
 #[test]
+fn each_prefix_of_a_text_is_assembled(rt: HostRuntime) -> Result<(), Fail> {
+    // The first length of a span of prefixes that give the same answer.
+    let spans: [(usize, u8, &[u8], &[u8]); 13] = [
+        (0, 0, b"", b"\x00\xc0"),
+        (1, 1, b"text line 1", b""),
+        (3, 1, b"item 0: no such mode", b""),
+        (5, 1, b"text line 1", b""),
+        (8, 0, b"", b"\x00\xc0\xa9\x05"),
+        (17, 1, b"text line 2", b""),
+        (19, 1, b"item 1: no such mode", b""),
+        (21, 1, b"text line 2", b""),
+        (23, 0, b"", b"\x00\xc0\xa9\x05\x85\xd0"),
+        (24, 1, b"text line 2", b""),
+        (25, 0, b"", b"\x00\xc0\xa9\x05\x8d\x20\xd0"),
+        (34, 1, b"text line 3", b""),
+        (36, 0, b"", COLOUR),
+    ];
+    for count in 0..=LISTING.len() {
+        let prefix = &LISTING[..count];
+        for (first, status, said, wrote) in spans.into_iter().rev() {
+            if first <= count {
+                assert!(rt;
+                    ends(
+                        rt.alloc(),
+                        Engine::Assemble(0xc000),
+                        prefix,
+                        status,
+                        said,
+                        wrote
+                    )?,
+                    "{count}"
+                );
+                break;
+            }
+        }
+    }
+    Ok(())
+}
+
+#[test]
+fn each_prefix_of_a_program_is_run(rt: HostRuntime) -> Result<(), Fail> {
+    let endings: [(u8, &[u8]); 9] = [
+        (1, b"not a PRG: too short"),
+        (1, b"not a PRG: too short"),
+        (7, b"wrong: brk at C000"),
+        (7, b"wrong: brk at C002"),
+        (7, b"wrong: brk at C002"),
+        (7, b"wrong: closed address 0000 at C002"),
+        (7, b"wrong: brk at C005"),
+        (7, b"wrong: closed address D020 at C002"),
+        (7, b"wrong: closed address D020 at C002"),
+    ];
+    for (count, (status, said)) in endings.into_iter().enumerate() {
+        let first = COLOUR.get(..count).unwrap_or(b"");
+        assert!(rt;
+            ends(rt.alloc(), Engine::Run(100), first, status, said, b"")?,
+            "{count}"
+        );
+    }
+    Ok(())
+}
+
+#[test]
 fn a_text_is_refused_by_name(rt: HostRuntime) -> Result<(), Fail> {
     let texts: [(&[u8], u16, &[u8]); 8] = [
         (b"LDA #5", 0x1000, b"text line 1"),
