@@ -31,6 +31,10 @@ use Rattle.tb_reaching.proofs.Readers.{ok≢err, moved, on_a_moved, more_operand
 pub some_eq : {A : Type 0} {a b : A} → Some a ≡ Some b → a ≡ b
 some_eq h = cc
 
+-- where there is no view, none is come to
+pub none≢some : (w : View) → ◌≡◌ {A = Option View} None (Some w) → ⊥
+none≢some w h = cc
+
 abbrev pub up : ℕ → ℕ
 up s = (s + 1) % 256
 
@@ -196,7 +200,7 @@ module _ (f : Setup) (room : ℕ) (fits : Fits f room) (v : View) (s : State) (a
 
   -- an outcome of the view's is one of the machine's, with its S
   done_left : (w : View) (x : Result Outcome Wrong) (y : Result Outcome Wrong) → ((e : Outcome) → x ≡ Ok e → y ≡ Ok (moved s.regs.s e)) → finish_view v x ≡ Some w → Left w y
-  done_left w (Err e) y g h = cc
+  done_left w (Err e) y g h = absurd (none≢some w h)
   done_left w (Ok e) y g h = go (all_data e.1) refl h
     where
       go : (t : Bool) → all_data e.1 ≡ t → (if t then Some (record v { regs = e.0; mem = written v.mem e.1 }) else None) ≡ Some w → Left w y
@@ -236,8 +240,8 @@ module _ (f : Setup) (room : ℕ) (fits : Fits f room) (v : View) (s : State) (a
   returns_left r o w h = go v.stack refl h
     where
       go : (l : List ℕ) → v.stack ≡ l → pull_two v r l ≡ Some w → Left w (executed Rts (with_s s.regs.s r) (reading s.mem) o)
-      go [] e h = cc
-      go (lo ∷ []) e h = cc
+      go [] e h = absurd (none≢some w h)
+      go (lo ∷ []) e h = absurd (none≢some w h)
       go (lo ∷ hi ∷ bs) e h =
           let q = record r { pc = (word lo hi + 1) % 65536 } in
           let one = pulled f v s at lo q (hi ∷ bs) e in
@@ -252,9 +256,9 @@ module _ (f : Setup) (room : ℕ) (fits : Fits f room) (v : View) (s : State) (a
   resumes_left r o w h = go v.stack refl h
     where
       go : (l : List ℕ) → v.stack ≡ l → pull_three v r l ≡ Some w → Left w (executed Rti (with_s s.regs.s r) (reading s.mem) o)
-      go [] e h = cc
-      go (p ∷ []) e h = cc
-      go (p ∷ lo ∷ []) e h = cc
+      go [] e h = absurd (none≢some w h)
+      go (p ∷ []) e h = absurd (none≢some w h)
+      go (p ∷ lo ∷ []) e h = absurd (none≢some w h)
       go (p ∷ lo ∷ hi ∷ bs) e h =
           let q = record r { flags = status_flags p; pc = word lo hi } in
           let s1 = up s.regs.s in
@@ -282,7 +286,7 @@ module _ (f : Setup) (room : ℕ) (fits : Fits f room) (v : View) (s : State) (a
   pulls_left m r w h = go v.stack refl h
     where
       go : (l : List ℕ) → v.stack ≡ l → pull_one m v r l ≡ Some w → Left w (and_then (pulled_byte (with_s s.regs.s r) (reading s.mem)) (λ b. unchanged (with_s (up s.regs.s) (with_pulled m r b))))
-      go [] e h = cc
+      go [] e h = absurd (none≢some w h)
       go (b ∷ bs) e h =
           let one = pulled f v s at b (with_pulled m r b) bs e in (
             (with_s (up s.regs.s) (with_pulled m r b), []),
@@ -299,9 +303,9 @@ module _ (f : Setup) (room : ℕ) (fits : Fits f room) (v : View) (s : State) (a
   left read Php r o g w h = pushes_left (pushed_byte Php r) r w h
   left read Pla r o g w h = pulls_left Pla r w h
   left read Plp r o g w h = pulls_left Plp r w h
-  left read Tsx r o g w h = cc
-  left read Txs r o g w h = cc
-  left read BrkM r o g w h = cc
+  left read Tsx r o g w h = absurd (none≢some w h)
+  left read Txs r o g w h = absurd (none≢some w h)
+  left read BrkM r o g w h = absurd (none≢some w h)
   left read m r o g w h = done_left w (executed m r read o) _ (more_executed read (reading s.mem) o g s.regs.s m refl r) h
 
   on_a_left : (m : Mnemonic) (r : Regs) (w : View) → finish_view v (executed_on_a m r) ≡ Some w → Left w (executed_on_a m (with_s s.regs.s r))
@@ -312,7 +316,7 @@ module _ (f : Setup) (room : ℕ) (fits : Fits f room) (v : View) (s : State) (a
   mode_left read m mode x there bytes w h = by_mode (is_accumulator mode) h
     where
       by_operand : (y : Result ℕ Wrong) → x ≡ y → act_operand room m v (advanced v.regs mode) read y ≡ Some w → Left w (and_then (operand_of mode (with_s s.regs.s v.regs) (reading s.mem)) (λ o. executed m (with_s s.regs.s (advanced v.regs mode)) (reading s.mem) o))
-      by_operand (Err e) p h = cc
+      by_operand (Err e) p h = absurd (none≢some w h)
       by_operand (Ok o) p h =
           let l = left read m (advanced v.regs mode) o (bytes o p) w h in
           (l.0, ap (λ x. and_then x (λ o. executed m (with_s s.regs.s (advanced v.regs mode)) (reading s.mem) o)) (there o p) ∙ l.1, l.2)
@@ -335,7 +339,7 @@ module _ (f : Setup) (room : ℕ) (fits : Fits f room) (v : View) (s : State) (a
   -- ---- an instruction that is fetched from a part of the program
   module _ (part : Part) (holds : Holds part f.code) where
     row_left : (x : Option (Mnemonic × Mode)) (w : View) → act_row room v (read_view part v.mem) x ≡ Some w → Left w (instruction x (with_s s.regs.s v.regs) (reading s.mem))
-    row_left None w h = cc
+    row_left None w h = absurd (none≢some w h)
     row_left (Some y) w h =
         mode_left (read_view part v.mem) y.0 y.1 (operand_of y.1 v.regs (read_view part v.mem))
         (λ o p. more_operand (read_view part v.mem) (reading s.mem) (read_more f v s at part holds) s.regs.s y.1 v.regs o p)
@@ -352,11 +356,11 @@ module _ (f : Setup) (room : ℕ) (fits : Fits f room) (v : View) (s : State) (a
     fetched w h = go (part v.regs.pc) refl h
       where
         at_opcode : (b : ℕ) → part v.regs.pc ≡ Some b → (t : Bool) → (b == 0) ≡ t → (if t then None else act_row room v (read_view part v.mem) (find_row rows b)) ≡ Some w → Fetched w
-        at_opcode b p true z h = cc
+        at_opcode b p true z h = absurd (none≢some w h)
         at_opcode b p false z h = record { opcode = b; here = p; some = z; comes = row_left (find_row rows b) w h }
 
         go : (x : Option ℕ) → part v.regs.pc ≡ x → act_opcode room v (read_view part v.mem) x ≡ Some w → Fetched w
-        go None p h = cc
+        go None p h = absurd (none≢some w h)
         go (Some b) p h = at_opcode b p (b == 0) refl h
 
     pub acts : (w : View) → act part room v ≡ Some w → (k : Clobber) → At f w (happens s (Go k)) × ((happens s (Go k)).sent ≡ s.sent)
@@ -367,5 +371,5 @@ pub fetched_here : (part : Part) (room : ℕ) (v w : View) → act part room v �
 fetched_here part room v w h = go (part v.regs.pc) refl h
   where
     go : (x : Option ℕ) → part v.regs.pc ≡ x → act_opcode room v (read_view part v.mem) x ≡ Some w → (b : ℕ) × (part v.regs.pc ≡ Some b)
-    go None p h = cc
+    go None p h = absurd (none≢some w h)
     go (Some b) p h = (b, p)

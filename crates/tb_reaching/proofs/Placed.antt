@@ -17,7 +17,7 @@ use Rattle.tb_reaching.proofs.Acting.{read_view, from_part, finish_view, act_ope
 use Rattle.tb_reaching.proofs.Instr.{Instr, ins, operand_bytes, instr_bytes, bytes_by, Stands, operand_by, reader_by, act_instr_row, act_instr, run_along, Follows}
 use Rattle.tb_reaching.proofs.Readers.{then_more, more_word, more_executed, moved}
 use Rattle.tb_reaching.proofs.Memory.{data_fixed, fixed_open}
-use Rattle.tb_reaching.proofs.Act.{read_code, read_more, Left, mode_left}
+use Rattle.tb_reaching.proofs.Act.{none≢some, read_code, read_more, Left, mode_left}
 use Rattle.tb_reaching.proofs.Comes.{by_hand, looser}
 
 ok_eq : (a b : ℕ) → ◌≡◌ {A = Result ℕ Wrong} (Ok a) (Ok b) → a ≡ b
@@ -66,31 +66,29 @@ module _ (f : Setup) (v : View) (s : State) (at : At f v s) where
 
 module _ (f : Setup) (room : ℕ) (fits : Fits f room) where
   -- a row's instruction with its bytes at PC
-  record Placed (i : Instr) (v w : View) : Type 0 where
+  by_row : (i : Instr) (v w : View) (x : Option (Mnemonic × Mode)) → Bytes f.code v.regs.pc (bytes_by x i) → act_instr_row f.code room x i.operand v ≡ Some w → (f.code v.regs.pc ≡ Some i.opcode) × ((s : State) (at : At f v s) → Left f room fits v s at w (instruction x (with_s s.regs.s v.regs) (reading s.mem)))
+  by_row i v w None st h = absurd (none≢some w h)
+  by_row i v w (Some y) st h = (
+    st.0,
+    λ s at. mode_left f room fits v s at (reader_by y.1 i.operand (read_view f.code v.mem)) y.0 y.1 (operand_by y.1 i.operand v.regs (read_view f.code v.mem))
+        (λ p e. operand_there f v s at y.1 i.operand p st.1 e)
+        (λ p e b g. datum_there f v s at y.1 i.operand p st.1 e b g) w h,
+  )
+
+  -- an opcode that isn't BRK's
+  record Placed (i : Instr) (v w : View) (x : Option (Mnemonic × Mode)) : Type 0 where
     here : f.code v.regs.pc ≡ Some i.opcode
     some : (i.opcode == 0) ≡ false
-    comes : (s : State) (at : At f v s) → Left f room fits v s at w (instruction (find_row rows i.opcode) (with_s s.regs.s v.regs) (reading s.mem))
+    comes : (s : State) (at : At f v s) → Left f room fits v s at w (instruction x (with_s s.regs.s v.regs) (reading s.mem))
 
-  placed : (i : Instr) (v w : View) → Bytes f.code v.regs.pc (instr_bytes i) → act_instr f.code room i v ≡ Some w → Placed i v w
-  placed i v w st h = by_opcode (i.opcode == 0) refl h
-    where
-      by_row : (x : Option (Mnemonic × Mode)) → Bytes f.code v.regs.pc (bytes_by x i) → act_instr_row f.code room x i.operand v ≡ Some w → (f.code v.regs.pc ≡ Some i.opcode) × ((s : State) (at : At f v s) → Left f room fits v s at w (instruction x (with_s s.regs.s v.regs) (reading s.mem)))
-      by_row None st h = cc
-      by_row (Some y) st h = (
-        st.0,
-        λ s at. mode_left f room fits v s at (reader_by y.1 i.operand (read_view f.code v.mem)) y.0 y.1 (operand_by y.1 i.operand v.regs (read_view f.code v.mem))
-            (λ p e. operand_there f v s at y.1 i.operand p st.1 e)
-            (λ p e b g. datum_there f v s at y.1 i.operand p st.1 e b g) w h,
-      )
-
-      by_opcode : (t : Bool) → (i.opcode == 0) ≡ t → (if t then None else act_instr_row f.code room (find_row rows i.opcode) i.operand v) ≡ Some w → Placed i v w
-      by_opcode true z h = cc
-      by_opcode false z h = let r = by_row (find_row rows i.opcode) st h in record { here = r.0; some = z; comes = r.1 }
+  placed : (i : Instr) (v w : View) (x : Option (Mnemonic × Mode)) → Bytes f.code v.regs.pc (bytes_by x i) → (t : Bool) → (i.opcode == 0) ≡ t → (if t then None else act_instr_row f.code room x i.operand v) ≡ Some w → Placed i v w x
+  placed i v w x st true z h = absurd (none≢some w h)
+  placed i v w x st false z h = let r = by_row i v w x st h in record { here = r.0; some = z; comes = r.1 }
 
   -- one instruction at any place, and then
   pub placing : (i : Instr) (v w : View) (q : View → Type 0) (t : List ℕ) (m : ℕ) → leb (length v.stack) room ≡ true → Bytes f.code v.regs.pc (instr_bytes i) → act_instr f.code room i v ≡ Some w → Comes f w q t m → Comes f v q t (1 + m)
   placing i v w q t m small st h next =
-      let p = placed i v w st h in
+      let p = placed i v w (find_row rows i.opcode) st (i.opcode == 0) refl h in
       by_hand f room fits v w i.opcode q t m small p.here p.some p.comes next
 
   -- straight on from any address, and then
@@ -99,7 +97,7 @@ module _ (f : Setup) (room : ℕ) (fits : Fits f room) where
   along (i ∷ is) at v w q t m st fo h c = go (along is ((at + length (instr_bytes i)) % 65536)) (act_instr f.code room i v) refl fo h
     where
       go : ((v w : View) (q : View → Type 0) (t : List ℕ) (m : ℕ) → Stands f.code ((at + length (instr_bytes i)) % 65536) is → Follows f.code room is ((at + length (instr_bytes i)) % 65536) (Some v) → run_along f.code room is v ≡ Some w → Comes f w q t m → Comes f v q t (length is + m)) → (o : Option View) → act_instr f.code room i v ≡ o → (at ≡ v.regs.pc) × (leb (length v.stack) room ≡ true) × Follows f.code room is ((at + length (instr_bytes i)) % 65536) o → (elim o as (λ _. Option View) [ None ↦ None | Some w ↦ run_along f.code room is w ]) ≡ Some w → Comes f v q t (length (i ∷ is) + m)
-      go r None a fo h = cc
+      go r None a fo h = absurd (none≢some w h)
       go r (Some u) a fo h =
           looser f v q q t (1 + (length is + m)) (length (i ∷ is) + m) (omega arith) (λ w x. x)
           (placing i v u q t (length is + m) fo.1 (subst (λ p. Bytes f.code p (instr_bytes i)) fo.0 st.0) a (r u w q t m st.1 fo.2 h c))

@@ -43,8 +43,10 @@ pub record Sent (lo hi : ℕ) (m : ℕ → ℕ) (keys answers : List ℕ) (w : V
 -- from its entry $081F to its return, under any caller and whatever the ROM does, the routine sends the text
 abbrev pub SendsText : List ℕ → Type 0
 SendsText program =
-    (f : Setup) → Fits f 4 → Holds (program_part program) f.code → (lo hi : ℕ) (keys answers : List ℕ) (m : ℕ → ℕ) (a x y : ℕ) (n v i z c : Bool) (text : List ℕ) → Points f m text →
-    Comes f (view a x y n v i z c 0x081f (lo ∷ hi ∷ []) m keys answers) (Sent lo hi m keys answers) text (9 * length text + 3)
+    (f : Setup) → Fits f 4 → Holds (program_part program) f.code →
+    (lo hi : ℕ) (keys answers : List ℕ) (m : ℕ → ℕ) (a x y : ℕ) (n v i z c : Bool) (text : List ℕ) → Points f m text →
+    Comes f (view a x y n v i z c 0x081f (lo ∷ hi ∷ []) m keys answers) (Sent lo hi m keys answers) text
+    (9 * length text + 3)
 
 -- ---- the program
 

@@ -19,12 +19,17 @@ Passes p s = p s ≡ true
 
 -- one step reaches within 1
 abbrev pub StepLaw : Type 0
-StepLaw = (w p q : State → Bool) (t : List ℕ) → OneStep (Passes w) (Passes p) (Passes q) t → Reaches (Passes w) (Passes p) (Passes q) t 1
+StepLaw =
+    (w p q : State → Bool) (t : List ℕ) → OneStep (Passes w) (Passes p) (Passes q) t → Reaches (Passes w) (Passes p) (Passes q) t 1
 
 -- reaching one after the other adds outputs and bounds
 abbrev pub ChainLaw : Type 0
-ChainLaw = (w p q r : State → Bool) (t u : List ℕ) (n m : ℕ) → Reaches (Passes w) (Passes p) (Passes q) t n → Reaches (Passes w) (Passes q) (Passes r) u m → Reaches (Passes w) (Passes p) (Passes r) (t ++ u) (n + m)
+ChainLaw =
+    (w p q r : State → Bool) (t u : List ℕ) (n m : ℕ) → Reaches (Passes w) (Passes p) (Passes q) t n →
+    Reaches (Passes w) (Passes q) (Passes r) u m → Reaches (Passes w) (Passes p) (Passes r) (t ++ u) (n + m)
 
 -- what a law of views says on the way: nothing goes wrong
 abbrev pub NeverWrongLaw : Type 0
-NeverWrongLaw = (f : Setup) (v : View) (q : View → Bool) (t : List ℕ) (n : ℕ) → Comes f v (λ w. q w ≡ true) t n → Reaches NotWrong (At f v) (Among f (λ w. q w ≡ true)) t n
+NeverWrongLaw =
+    (f : Setup) (v : View) (q : View → Bool) (t : List ℕ) (n : ℕ) → Comes f v (λ w. q w ≡ true) t n →
+    Reaches NotWrong (At f v) (Among f (λ w. q w ≡ true)) t n
