@@ -67,14 +67,19 @@ pub enum TokenKind {
     Variable,
     /// RND.
     Random,
+    /// A word of the language.
     Keyword(Keyword),
     /// `+`, `-`, `*` or `/`.
     Operator,
     /// `=`, `<`, `>`, `<=`, `>=`, `<>` or `><`.
     Relation,
+    /// `(`.
     Open,
+    /// `)`.
     Close,
+    /// `,`.
     Comma,
+    /// `;`.
     Semicolon,
     /// A text with its two quotes.
     Text,
@@ -87,6 +92,7 @@ pub enum TokenKind {
 /// A token of a line.
 #[derive(Clone, Copy, Debug, PartialEq, Eq)]
 pub struct Token<'a> {
+    /// What it is.
     pub kind: TokenKind,
     /// Its bytes as they stand in the line, with spaces between the letters or digits.
     pub text: &'a [u8],
