@@ -19,6 +19,7 @@ pub enum Failure {
     BadAddress,
     /// The command works on sources, for which there is no engine yet.
     NotYet,
+    /// A growth was refused.
     NoMemory,
 }
 

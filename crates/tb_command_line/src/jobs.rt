@@ -38,19 +38,23 @@ impl Limit {
 /// What is run: a source file, or a PRG file.
 #[derive(Debug, Drop)]
 pub enum Runnable {
+    /// A Tiny BASIC source, by its file's name.
     Source(String),
+    /// A PRG file, by its name.
     Prg(String),
 }
 
 /// A command with its words. File names, key lists and addresses are still texts.
 #[derive(Debug, Drop)]
 pub enum Job {
+    /// Compiles a source, and writes a PRG file.
     Build {
         source: String,
         out: String,
         /// The first state of RND.
         seed: u16,
     },
+    /// Runs a program, and shows what it sends.
     Run {
         what: Runnable,
         seed: u16,
@@ -62,15 +66,18 @@ pub enum Job {
         /// The seed of rude events, where they are wanted.
         rude: Option<u16>,
     },
+    /// Assembles a text, and writes a PRG file.
     Asm {
         text: String,
         out: String,
         /// The address of the first byte.
         at: String,
     },
+    /// Lists a PRG file.
     Dis {
         prg: String,
     },
+    /// Steps through a source by commands from standard input.
     Step {
         source: String,
         seed: u16,
@@ -89,6 +96,7 @@ pub enum Job {
 pub enum JobError {
     /// What the parser says of the words.
     Words(String),
+    /// A growth was refused.
     NoMemory,
 }
 

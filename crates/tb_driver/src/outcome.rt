@@ -24,7 +24,7 @@ pub enum End {
 pub enum Refusal {
     /// The first line, counted from 1, that is no line of assembler text.
     TextLine(usize),
-    /// What the assembler refuses of an item, counted from 0.
+    /// What the assembler refuses of an item, counted from 0. The kind is never want of memory.
     Item(AsmError),
     /// Bytes that are no PRG file.
     Prg(PrgError),
@@ -32,7 +32,8 @@ pub enum Refusal {
     NotRam,
 }
 
-/// How a call of an engine ended. Nothing was written but at `Ended`, and at `WriteFault` a part.
+/// How a call of an engine ended. At `Ended` its whole text was written, at `WriteFault` a prefix of it, and else
+/// nothing.
 #[derive(Clone, Copy, PartialEq, Eq, Debug, Drop)]
 pub enum Outcome {
     /// The whole text was written.
@@ -42,6 +43,7 @@ pub enum Outcome {
     ReadFault,
     /// The writer failed.
     WriteFault,
+    /// A growth was refused.
     NoMemory,
 }
 

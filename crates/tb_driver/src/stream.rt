@@ -18,6 +18,7 @@ const CHUNK: usize = 4096;
 pub enum InputError {
     /// The reader failed, or gave more than `MOST_INPUT` bytes.
     Fault,
+    /// A growth was refused.
     NoMemory,
 }
 
