@@ -61,11 +61,15 @@ fn apply(op: Operator, a: i16, b: i16) -> Option<i16>
         Operator::Add => Some(add(a, b)),
         Operator::Subtract => Some(sub(a, b)),
         Operator::Multiply => Some(mul(a, b)),
-        Operator::Divide => {
-            let (quotient, _) = div_rem(a, b)?;
-            Some(quotient)
-        }
+        Operator::Divide => quotient(a, b),
     }
+}
+
+fn quotient(a: i16, b: i16) -> Option<i16>
+    ensures { option_map word_of result ≡ apply Operator.Divide (word_of a) (word_of b) }
+{
+    let (quotient, _) = div_rem(a, b)?;
+    Some(quotient)
 }
 
 /// An operator on two words; none for a division by zero.

@@ -8,7 +8,7 @@ ghost use Rattle.tb_lower.specs.Input.{Nothing, input, take_turn, turn};
 ghost use Rattle.tb_lower.specs.Interpreted.{state_of, HasValue, HasRelation, Ran, IsStopped, IsRun};
 ghost use Rattle.tb_lower.specs.Meaning.{print_item, print_items, inputs, does, line, start, stored, source_run};
 ghost use Rattle.tb_lower.specs.Parts.{fault_of};
-ghost use Rattle.tb_lower.specs.Steps.{Run, GoesOn, advance_by};
+ghost use Rattle.tb_lower.specs.Steps.{Run, GoesOn, and_then, advance_by};
 ghost use Rattle.tb_lower.specs.Control.{State};
 ghost use Rattle.tb_lower.specs.Values.{Gives, Fails, random, value};
 
@@ -132,11 +132,18 @@ impl<'a> Interpreter<'a> {
     {
         if let Place::At(number) = self.place {
             if let Some(statement) = statement_at(program, number) {
-                self.poll(number)?;
-                return self.statement(program, number, statement);
+                return self.polled(program, number, statement);
             }
         }
         Err(Stop::Fault(Fault::PastLast, highest(program)))
+    }
+
+    // A line at whose number this statement stands.
+    fn polled(&mut self, program: &Program, number: u16, statement: &Statement) -> Result<(), Stop>
+        ensures { Ran (and_then (poll number (state_of self.old)) (does (numbers (lines_of program.now)) number (command_of statement.now))) self.old self.new result }
+    {
+        self.poll(number)?;
+        self.statement(program, number, statement)
     }
 
     // Takes an answer, which may be a break.

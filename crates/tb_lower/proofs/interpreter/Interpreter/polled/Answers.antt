@@ -1,0 +1,11 @@
+use Rattle.tb_syntax.specs.Shown.{command_of, lines_of}
+use Rattle.tb_syntax.specs.Source.{numbers}
+use Rattle.tb_lower.specs.Control.{poll}
+use Rattle.tb_lower.specs.Interpreted.{state_of}
+use Rattle.tb_lower.specs.Meaning.{does}
+use Rattle.tb_lower.proofs.Interpreting.{ran_then}
+use Rattle.tb_lower.proofs.interpreter.Interpreter.polled.Goals as goal
+
+pub returns : goal.returns
+returns c =
+    ran_then (poll c.args.number (state_of c.args.self.now)) (does (numbers (lines_of c.args.program.now)) c.args.number (command_of c.args.statement.now)) c.args.self.now c.poll.new.self c.statement.new.self c.statement.result c.in_ok-poll.ensures c.statement.ensures
