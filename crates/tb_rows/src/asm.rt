@@ -27,12 +27,7 @@ fn refused(kind: AsmErrorKind, item: usize) -> Option<AsmError> {
 }
 
 // A line of `.byte` with so many bytes, and what stands before and behind it.
-fn around(
-    alloc: Global,
-    before: &[u8],
-    count: usize,
-    behind: &[u8],
-) -> Result<Vec<u8>, Fail> {
+fn around(alloc: Global, before: &[u8], count: usize, behind: &[u8]) -> Result<Vec<u8>, Fail> {
     let mut text = Vec::new(alloc);
     text.extend_from_slice(before)?;
     text.extend_from_slice(b".byte $00")?;
@@ -61,10 +56,12 @@ fn forms_of_the_table(rt: HostRuntime) {
         (b"BNE $1000", b"\xd0\xfe"),
         (b".byte $05,$06", b"\x05\x06"),
         (b".word $1234", b"\x34\x12"),
-        (b"L: .word L", b"\x00\x10"),
         (b"JMP (L)\nL:", b"\x6c\x03\x10"),
         (b"LDA L,Y\nL: NOP", b"\xb9\x03\x10\xea"),
-        (b"L: LDA #<L\nLDX #>L", b"\xa9\x00\xa2\x10"),
+        (
+            b"JMP L\nL: LDA #<L\nLDX #>L\n.word L",
+            b"\x4c\x03\x10\xa9\x03\xa2\x10\x03\x10",
+        ),
     ] {
         let image = image(&rt, rt.alloc(), 0x1000, text);
         assert_eq!(rt; image.bytes.as_slice(), bytes);
@@ -110,7 +107,10 @@ fn first_bad_line(rt: HostRuntime) {
         (b"LDA ($12)", 1),
         (b"ABCDEFGHIJKLMNOPQRSTUVWXYZ012345:", 1),
     ] {
-        assert_eq!(rt; read_text(rt.alloc(), text).err(), Some(TextError::Line(line)));
+        assert_eq!(rt;
+            read_text(rt.alloc(), text).err(),
+            Some(TextError::Line(line))
+        );
     }
 }
 
@@ -118,26 +118,50 @@ fn first_bad_line(rt: HostRuntime) {
 fn forms_that_a_mnemonic_lacks(rt: HostRuntime) {
     let alloc = rt.alloc();
     let no_mode = AsmErrorKind::NoSuchMode;
-    assert_eq!(rt; refusal(&rt, alloc, 0x1000, b"NOP\nSTA #$05"), refused(no_mode, 1));
+    assert_eq!(rt;
+        refusal(&rt, alloc, 0x1000, b"NOP\nSTA #$05"),
+        refused(no_mode, 1)
+    );
     assert_eq!(rt; refusal(&rt, alloc, 0x1000, b"LDA A"), refused(no_mode, 0));
-    assert_eq!(rt; refusal(&rt, alloc, 0x1000, b"NOP RTS"), refused(no_mode, 0));
+    assert_eq!(rt;
+        refusal(&rt, alloc, 0x1000, b"NOP RTS"),
+        refused(no_mode, 0)
+    );
     let page_end = AsmErrorKind::IndirectAtPageEnd;
-    assert_eq!(rt; refusal(&rt, alloc, 0x1000, b"JMP ($12FF)"), refused(page_end, 0));
+    assert_eq!(rt;
+        refusal(&rt, alloc, 0x1000, b"JMP ($12FF)"),
+        refused(page_end, 0)
+    );
     let byte = [Item::Instr(Mnemonic::Lda, Mode::Absolute, Operand::Byte(5))];
-    assert_eq!(rt; assemble(alloc, 0x1000, byte.as_slice()).err(), refused(no_mode, 0));
+    assert_eq!(rt;
+        assemble(alloc, 0x1000, byte.as_slice()).err(),
+        refused(no_mode, 0)
+    );
 }
 
 #[test]
 fn refusals_in_their_order(rt: HostRuntime) {
     let alloc = rt.alloc();
-    let twice = AsmErrorKind::LabelTwice;
-    assert_eq!(rt; refusal(&rt, alloc, 0x1000, b"L:\nJMP M\nL:"), refused(twice, 2));
-    let unknown = AsmErrorKind::UnknownLabel;
-    assert_eq!(rt; refusal(&rt, alloc, 0x1000, b"NOP\nJMP M"), refused(unknown, 1));
-    let past = AsmErrorKind::RunsPast;
-    assert_eq!(rt; refusal(&rt, alloc, 0xffff, b"JMP M\n"), refused(past, 0));
-    assert_eq!(rt; refusal(&rt, alloc, 0xffff, b"NOP\nL:"), refused(past, 1));
-    assert_eq!(rt; refusal(&rt, alloc, 0xfffe, b"NOP\nL: NOP"), None);
+    for (at, text, wanted) in [
+        (
+            0x1000,
+            b"L:\nL:".as_slice(),
+            refused(AsmErrorKind::LabelTwice, 1),
+        ),
+        (0x1000, b"JMP M", refused(AsmErrorKind::UnknownLabel, 0)),
+        (0xffff, b"NOP", None),
+        (0xffff, b"NOP\nNOP", refused(AsmErrorKind::RunsPast, 1)),
+        (0xffff, b"NOP\nL:", refused(AsmErrorKind::RunsPast, 1)),
+        // The first pass answers before the second one.
+        (
+            0x1000,
+            b"JMP M\nL:\nL:",
+            refused(AsmErrorKind::LabelTwice, 2),
+        ),
+        (0xffff, b"JMP M", refused(AsmErrorKind::RunsPast, 0)),
+    ] {
+        assert_eq!(rt; refusal(&rt, alloc, at, text), wanted);
+    }
 }
 
 #[test]
@@ -149,12 +173,18 @@ fn branches_reach_as_far(rt: HostRuntime) -> Result<(), Fail> {
     assert_eq!(rt; reached.bytes.first().copied(), Some(0xd0));
     assert_eq!(rt; reached.bytes.get(1).copied(), Some(0x7f));
     let text = around(alloc, b"BNE L\n", 128, b"\nL:")?;
-    assert_eq!(rt; refusal(&rt, alloc, 0x1000, text.as_slice()), refused(far, 0));
+    assert_eq!(rt;
+        refusal(&rt, alloc, 0x1000, text.as_slice()),
+        refused(far, 0)
+    );
     let text = around(alloc, b"L:\n", 126, b"\nBNE L")?;
     let reached = image(&rt, alloc, 0x1000, text.as_slice());
     assert_eq!(rt; reached.bytes.get(127).copied(), Some(0x80));
     let text = around(alloc, b"L:\n", 127, b"\nBNE L")?;
-    assert_eq!(rt; refusal(&rt, alloc, 0x1000, text.as_slice()), refused(far, 2));
+    assert_eq!(rt;
+        refusal(&rt, alloc, 0x1000, text.as_slice()),
+        refused(far, 2)
+    );
     Ok(())
 }
 
@@ -220,12 +250,20 @@ fn settled_branches(rt: HostRuntime) -> Result<(), Fail> {
 fn settling_refuses(rt: HostRuntime) -> Result<(), Fail> {
     let alloc = rt.alloc();
     for (at, text, kind, item) in [
-        (0x1000, b"BNE L\nSTA #$05".as_slice(), AsmErrorKind::NoSuchMode, 1),
+        (
+            0x1000,
+            b"BNE L\nSTA #$05".as_slice(),
+            AsmErrorKind::NoSuchMode,
+            1,
+        ),
         (0x1000, b"NOP\nBNE L", AsmErrorKind::UnknownLabel, 1),
         (0xffff, b"BNE L\nL:", AsmErrorKind::RunsPast, 0),
     ] {
         let given = items(&rt, alloc, text);
-        assert_eq!(rt; settle(alloc, at, given.as_slice()).err(), refused(kind, item));
+        assert_eq!(rt;
+            settle(alloc, at, given.as_slice()).err(),
+            refused(kind, item)
+        );
     }
     // The replaced branch moves the label to 65,536.
     let text = around(alloc, b"BNE L\n", 128, b"\nL: NOP")?;

@@ -4,23 +4,24 @@ use tb_asm::{assemble, read_text};
 use tb_disasm::{ListError, disassemble};
 
 #[test]
-fn listing_of_cut_instructions(rt: HostRuntime) -> Result<(), Fail> {
-    let bytes = [0xad, 0x12, 0x00, 0xff, 0x6c, 0xff, 0x12, 0xa9];
-    let text = disassemble(rt.alloc(), 0xc000, bytes.as_slice())?.text(rt.alloc())?;
-    let wanted = b"LDA $0012 ; C000\n.byte $FF ; C003\n.byte $6C ; C004\n.byte $FF ; C005\n.byte $12 ; C006\n.byte $A9 ; C007\n";
-    assert_eq!(rt; text.as_slice(), wanted.as_slice());
-    Ok(())
-}
-
-#[test]
 fn listing_and_back(rt: HostRuntime) -> Result<(), Fail> {
-    let bytes = [0xa9, 0x05, 0x8d, 0x20, 0xd0, 0xd0, 0xf9, 0x0a, 0x60];
-    let text = disassemble(rt.alloc(), 0xc000, bytes.as_slice())?.text(rt.alloc())?;
-    let wanted = b"LDA #$05 ; C000\nSTA $D020 ; C002\nBNE $C000 ; C005\nASL A ; C007\nRTS ; C008\n";
-    assert_eq!(rt; text.as_slice(), wanted.as_slice());
-    let items = read_text(rt.alloc(), text.as_slice())?;
-    let image = assemble(rt.alloc(), 0xc000, items.as_slice())?;
-    assert_eq!(rt; image.bytes.as_slice(), bytes.as_slice());
+    for (bytes, wanted) in [
+        (
+            b"\xa9\x05\x8d\x20\xd0\x60".as_slice(),
+            b"LDA #$05 ; C000\nSTA $D020 ; C002\nRTS ; C005\n".as_slice(),
+        ),
+        (
+            b"\xad\x12\x00\xff\x6c\xff\x12\xa9",
+            b"LDA $0012 ; C000\n.byte $FF ; C003\n.byte $6C ; C004\n.byte $FF ; C005\n.byte $12 ; C006\n.byte $A9 ; C007\n",
+        ),
+        (b"\xd0\xfe\x0a", b"BNE $C000 ; C000\nASL A ; C002\n"),
+    ] {
+        let text = disassemble(rt.alloc(), 0xc000, bytes)?.text(rt.alloc())?;
+        assert_eq!(rt; text.as_slice(), wanted);
+        let items = read_text(rt.alloc(), text.as_slice())?;
+        let image = assemble(rt.alloc(), 0xc000, items.as_slice())?;
+        assert_eq!(rt; image.bytes.as_slice(), bytes);
+    }
     Ok(())
 }
 
@@ -31,7 +32,8 @@ fn every_form_in_a_listing(rt: HostRuntime) -> Result<(), Fail> {
         0x34, 0x12, 0xa5, 0x12,
     ];
     let text = disassemble(rt.alloc(), 0, bytes.as_slice())?.text(rt.alloc())?;
-    let wanted = b"LDA $12,X ; 0000\nLDX $12,Y ; 0002\nLDA $1234,X ; 0004\nLDA $1234,Y ; 0007\nLDA ($12,X) ; 000A\nLDA ($12),Y ; 000C\nJMP ($1234) ; 000E\nLDA $12 ; 0011\n";
+    let wanted =
+        b"LDA $12,X ; 0000\nLDX $12,Y ; 0002\nLDA $1234,X ; 0004\nLDA $1234,Y ; 0007\nLDA ($12,X) ; 000A\nLDA ($12),Y ; 000C\nJMP ($1234) ; 000E\nLDA $12 ; 0011\n";
     assert_eq!(rt; text.as_slice(), wanted.as_slice());
     Ok(())
 }
