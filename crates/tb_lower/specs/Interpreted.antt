@@ -9,7 +9,7 @@ use Rattle.tb_lower.specs.declared.interpreter.Interpreter.{Interpreter}
 use Rattle.tb_lower.specs.declared.interpreter.RunEnd.{RunEnd}
 use Rattle.tb_lower.specs.declared.interpreter.RunEnd.TheVariants as run_end
 use Rattle.tb_lower.specs.Steps.{Ended, Faulted, Waits, Step, Run, GoesOn, Over, joined}
-use Rattle.tb_lower.specs.Control.{State, fault_text}
+use Rattle.tb_lower.specs.Control.{Place, State, fault_text}
 use Rattle.tb_lower.specs.Meaning.{valued}
 use Rattle.tb_lower.specs.Parts.{place_of, fault_of}
 
@@ -52,9 +52,9 @@ HasRelation n l rel r old new (Ok b) =
 HasRelation n l rel r old new (Err why) =
     (go : Bool → State → Step State) → IsStopped (joined old.output.sent.items (valued n l (state_of old) (λ x s. valued n r s (λ y s'. go (holds rel x y) s')))) new.output.sent.items why
 
--- how a run stands, with what it has sent
-abbrev pub IsRun : Run State → RunEnd → List ℕ → Type 0
-IsRun r run_end.GoesOn out = (s : State) × (r ≡ GoesOn s out)
-IsRun r run_end.Ended out = r ≡ Over Ended out
-IsRun r run_end.Faulted out = r ≡ Over Faulted out
-IsRun r run_end.Waits out = r ≡ Over Waits out
+-- how a run stands, with what it has sent, and, where it goes on, with its place and variables
+abbrev pub IsRun : Run State → RunEnd → List ℕ → Place → List ℕ → Type 0
+IsRun r run_end.GoesOn out place vars = (s : State) × (r ≡ GoesOn s out) × (s.place ≡ place) × (s.vars ≡ vars)
+IsRun r run_end.Ended out place vars = r ≡ Over Ended out
+IsRun r run_end.Faulted out place vars = r ≡ Over Faulted out
+IsRun r run_end.Waits out place vars = r ≡ Over Waits out

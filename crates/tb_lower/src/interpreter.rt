@@ -7,7 +7,7 @@ ghost use Rattle.tb_lower.specs.Control.{go_to, go_sub, go_back, fall, poll};
 ghost use Rattle.tb_lower.specs.Input.{Nothing, input, take_turn, turn};
 ghost use Rattle.tb_lower.specs.Interpreted.{state_of, HasValue, HasRelation, Ran, IsStopped, IsRun};
 ghost use Rattle.tb_lower.specs.Meaning.{print_item, print_items, inputs, does, line, start, stored, source_run};
-ghost use Rattle.tb_lower.specs.Parts.{fault_of};
+ghost use Rattle.tb_lower.specs.Parts.{place_of, fault_of};
 ghost use Rattle.tb_lower.specs.Steps.{Run, GoesOn, and_then, advance_by};
 ghost use Rattle.tb_lower.specs.Control.{State};
 ghost use Rattle.tb_lower.specs.Values.{Gives, Fails, random, value};
@@ -42,6 +42,10 @@ pub enum RunEnd {
 pub struct SourceRun {
     pub sent: Vec<u8>,
     pub end: RunEnd,
+    /// Where it goes on.
+    pub place: Place,
+    /// The words of A to Z, where it goes on.
+    pub variables: [u16; 26],
 }
 
 /// Runs a program, at most so many lines, with the first state of RND, the keyboard's text and the answers to the polls
@@ -54,13 +58,15 @@ pub fn run_source(
     answers: &[u8],
     limit: u64,
 ) -> Result<SourceRun, AllocError>
-    ensures { IfOk result (λ run. IsRun (source_run (lines_of program.now) seed text.now answers.now limit) run.end run.sent.items) }
+    ensures { IfOk result (λ run. IsRun (source_run (lines_of program.now) seed text.now answers.now limit) run.end run.sent.items (place_of run.place) run.variables) }
 {
     let mut interpreter = Interpreter::new(alloc, program, seed, text, answers);
     let end = interpreter.run(program, limit)?;
     Ok(SourceRun {
         sent: interpreter.output.sent,
         end,
+        place: interpreter.place,
+        variables: interpreter.variables,
     })
 }
 
@@ -101,7 +107,7 @@ impl<'a> Interpreter<'a> {
 
     // Runs at most so many lines, and sends a fault's text.
     fn run(&mut self, program: &Program, limit: u64) -> Result<RunEnd, AllocError>
-        ensures { IfOk result (λ end. IsRun (advance_by (line (lines_of program.now)) limit (GoesOn (state_of self.old) self.old.output.sent.items)) end self.new.output.sent.items) }
+        ensures { IfOk result (λ end. IsRun (advance_by (line (lines_of program.now)) limit (GoesOn (state_of self.old) self.old.output.sent.items)) end self.new.output.sent.items (place_of self.new.place) self.new.variables) }
     {
         for _ in 0..limit {
             match self.line(program) {
@@ -113,7 +119,7 @@ impl<'a> Interpreter<'a> {
     }
 
     fn stop(&mut self, stop: Stop) -> Result<RunEnd, AllocError>
-        ensures { IfOk result (λ end. (r : Run State) → IsStopped r self.old.output.sent.items stop → IsRun r end self.new.output.sent.items) }
+        ensures { IfOk result (λ end. (r : Run State) → IsStopped r self.old.output.sent.items stop → IsRun r end self.new.output.sent.items (place_of self.new.place) self.new.variables) }
     {
         match stop {
             Stop::Ended => Ok(RunEnd::Ended),

@@ -19,4 +19,5 @@ pub use evaluation::{EvalError, eval};
 pub use interpreter::{RunEnd, SourceRun, run_source};
 pub use lowering::{LowerError, lower};
 pub use missing::{Warning, warnings};
+pub use places::Place;
 pub use slot_code::{SlotCode, SlotInstr, SlotLine};

@@ -5,7 +5,7 @@ use std::alloc::{AllocFailed, Global};
 use std::boxed::Box;
 use std::process::Abort;
 use tb_lower::{
-    EvalError, LowerError, RunEnd, SlotInstr, Warning, eval, lower, run_source, warnings,
+    EvalError, LowerError, Place, RunEnd, SlotInstr, Warning, eval, lower, run_source, warnings,
 };
 use tb_syntax::{Expr, Operator, PrintItem, Program, Statement};
 use tb_words::{Letter, Rel};
@@ -610,6 +610,8 @@ fn ten_lines_of_an_endless_program(rt: HostRuntime) {
     let run = run_source(alloc, &program, 1, &[], &[], 10).expect(&rt, "memory");
     assert_eq!(rt; run.end, RunEnd::GoesOn);
     assert_eq!(rt; run.sent.as_slice(), b"AAAAA".as_slice());
+    assert_eq!(rt; run.place, Place::At(10));
+    assert_eq!(rt; run.variables, [0; 26]);
 }
 
 #[test]

@@ -1,4 +1,4 @@
-use Rattle.std.proofs.Common.{◌≡◌, ◌-◌, sym, ap, ◌∙◌, arith}
+use Rattle.std.proofs.Common.{◌≡◌, ◌-◌, refl, sym, ap, ◌∙◌, arith}
 use Rattle.std.proofs.lemmas.Result.{IfOk-weaker}
 use Rattle.tb_syntax.specs.Shown.{lines_of}
 use Rattle.tb_lower.specs.Steps.{GoesOn, advance_by}
@@ -19,4 +19,4 @@ loop-preserved c =
 pub returns : goal.returns
 returns c =
     let done : c.args.limit - c.loop.counter ≡ 0 = omega arith in
-    (state_of c.loop.self, sym c.loop.invariant ∙ ap (λ n. advance_by (line (lines_of c.args.program.now)) n (GoesOn (state_of c.loop.self) c.loop.self.output.sent.items)) done)
+    (state_of c.loop.self, sym c.loop.invariant ∙ ap (λ n. advance_by (line (lines_of c.args.program.now)) n (GoesOn (state_of c.loop.self) c.loop.self.output.sent.items)) done, refl, refl)
