@@ -1,7 +1,9 @@
 -- The column behind a text, modulo 256.
 use Rattle.std.proofs.Common.{◌≡◌, ℕ, ◌+◌, ◌%◌, Bool, true, false, List, [], ◌∷◌, ◌++◌, refl, sym, ap, ◌∙◌, arith, eqb}
 use Rattle.std.specs.Prelude.{if◌then◌else◌}
-use Rattle.tb_routines.specs.Laws.{COLUMN, column_after, Said}
+use Rattle.tb_lower.specs.Control.{column_after}
+use Rattle.tb_runtime16.specs.Places.{COLUMN}
+use Rattle.tb_routines.specs.Laws.{Said}
 
 pub column_same : (c d : ℕ) (bs : List ℕ) → c % 256 ≡ d % 256 → column_after c bs % 256 ≡ column_after d bs % 256
 column_same c d [] e = e

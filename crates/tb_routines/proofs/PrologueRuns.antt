@@ -10,8 +10,9 @@ use Rattle.tb_reaching.specs.Start.{setup_of, view_of}
 use Rattle.tb_reaching.proofs.Comes.{after, ending}
 use Rattle.tb_reaching.proofs.Special.{taking_s}
 use Rattle.tb_reaching.proofs.Start.{length_from, fits_start, homed_start, zero_at}
-use Rattle.tb_routines.specs.Code.{prologue_part}
-use Rattle.tb_routines.specs.Ends.{HOME_S, Begun, PrologueLaw}
+use Rattle.tb_runtime16.specs.Places.{HOME_S}
+use Rattle.tb_routines.specs.Parts.{prologue_part}
+use Rattle.tb_routines.specs.Ends.{Begun, PrologueLaw}
 
 inside : (lo hi a : ℕ) → within lo hi a ≡ true → (lo ≤ a) × (a ≤ hi)
 inside lo hi a h = (grind (arith, nat_tests), grind (arith, nat_tests))

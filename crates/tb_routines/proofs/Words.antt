@@ -5,7 +5,7 @@ use Rattle.std.proofs.lemmas.Nat.{mul-mod_first}
 use Rattle.std.proofs.Math.Nat.{add-mod-mod, mod-add-mod, div-le_self}
 use Rattle.std.specs.Prelude.{nat_lt, nat_le}
 use Rattle.tb_cpu.specs.Effects.{bit}
-use Rattle.tb_routines.specs.Words.{word, is_negative, magnitude, negated, with_sign, differ, quotient}
+use Rattle.tb_words.specs.Words.{word, is_negative, magnitude, negated, with_sign, differ, quotient}
 
 -- ---- bits and carries
 pub one_odd : (n : ℕ) → bit (eqb (n / 1 % 2) 1) ≡ n % 2

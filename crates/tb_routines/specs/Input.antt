@@ -2,56 +2,15 @@
 use Rattle.std.specs.Prelude.{◌≡◌, ℕ, ◌+◌, ◌-◌, ◌*◌, ◌%◌, Bool, true, false, ◌&&◌, ◌||◌, List, [], ◌∷◌, ◌++◌, length, if◌then◌else◌, nat_le, nat_eq, ◌==◌}
 use Rattle.tb_reaching.specs.View.{View, Setup, Holds, Fits, Comes, view, back_at}
 use Rattle.tb_reaching.specs.Start.{IsHome, IsWaiting}
-use Rattle.tb_routines.specs.Words.{with_sign}
-use Rattle.tb_routines.specs.Code.{input_at, input_part}
-use Rattle.tb_routines.specs.Laws.{COLUMN, LEFT, RESULT, word_at, IsWord, AllBytes, column_after}
-use Rattle.tb_routines.specs.Ends.{LINE, BYTE, fault_text, Entered, Faulting}
-
--- what has been read of a number: nothing, a sign, or digits too
-pub data Reading : Type 0 where
-  Nothing : Reading
-  Sign : (negative : Bool) → Reading
-  Digits : (negative : Bool) (n : ℕ) → Reading
-
--- how a turn ends: a number with what is left, a bad byte, or the end of the text
-pub data Turn : Type 0 where
-  Got : (n : ℕ) (stays_open : Bool) (rest : List ℕ) → Turn
-  Bad : Turn
-  Dry : Turn
-
-abbrev pub with_digit : Reading → ℕ → Reading
-with_digit Nothing d = Digits false d
-with_digit (Sign negative) d = Digits negative d
-with_digit (Digits negative n) d = Digits negative (n * 10 + d)
-
--- the number ends, at a comma or a return
-abbrev pub number_end : Reading → Bool → List ℕ → Turn
-number_end Nothing stays rest = Bad
-number_end (Sign negative) stays rest = Bad
-number_end (Digits negative n) stays rest = Got (with_sign negative n) stays rest
-
--- the turn goes on behind a sign, which is good only in front
-abbrev pub signed_turn : Reading → Turn → Turn
-signed_turn Nothing t = t
-signed_turn (Sign negative) t = Bad
-signed_turn (Digits negative n) t = Bad
-
-abbrev pub turn : Reading → List ℕ → Turn
-turn r [] = Dry
-turn r (b ∷ text) =
-    if nat_eq b 32 then turn r text
-    else (if nat_le 48 b && nat_le b 57 then turn (with_digit r (b - 48)) text
-    else (if nat_eq b 43 || nat_eq b 45 then signed_turn r (turn (Sign (nat_eq b 45)) text)
-    else (if nat_eq b 44 then number_end r true text
-    else (if nat_eq b 13 then number_end r false text else Bad))))
+use Rattle.tb_words.specs.Words.{with_sign}
+use Rattle.tb_lower.specs.Control.{column_after, fault_text}
+use Rattle.tb_lower.specs.Input.{Nothing, Turn, Got, Bad, Dry, turn}
+use Rattle.tb_runtime16.specs.Places.{INPUT_AT, COLUMN, LEFT, RESULT, LINE, BYTE, OPEN}
+use Rattle.tb_routines.specs.Parts.{input_part}
+use Rattle.tb_routines.specs.Ends.{Entered, Faulting}
+use Rattle.tb_routines.specs.Laws.{word_at, IsWord, AllBytes}
 
 -- ---- the law
-
-abbrev pub OPEN : ℕ
-OPEN = 0xc035
-
-abbrev pub SEEN : ℕ
-SEEN = 0xc06e
 
 abbrev pub MINUS : ℕ
 MINUS = 0xc06f
@@ -98,4 +57,4 @@ Ended f lo hi hlo hhi m replies c before Dry w = IsWaiting w
 abbrev pub InputLaw : Type 0
 InputLaw =
     (f : Setup) → Fits f 13 → (hlo hhi : ℕ) → Faulting f.code → Holds input_part f.code → (lo hi : ℕ) (text answers : List ℕ) (m : ℕ → ℕ) → Entered f hlo hhi m → AllBytes text → (is_open : Bool) → m OPEN ≡ one_if is_open → (c : ℕ) → m COLUMN ≡ c % 256 → (a x y : ℕ) (n v i z carry : Bool) →
-    Comes f (view a x y n v i z carry input_at (lo ∷ hi ∷ hlo ∷ hhi ∷ []) m text answers) (Ended f lo hi hlo hhi m answers c (prompt is_open) (turn Nothing text)) (prompt is_open ++ turn_sends (word_at m LINE) (turn Nothing text)) (45 * length text + 1569)
+    Comes f (view a x y n v i z carry INPUT_AT (lo ∷ hi ∷ hlo ∷ hhi ∷ []) m text answers) (Ended f lo hi hlo hhi m answers c (prompt is_open) (turn Nothing text)) (prompt is_open ++ turn_sends (word_at m LINE) (turn Nothing text)) (45 * length text + 1569)

@@ -1,38 +1,11 @@
 -- What the routines promise, whatever the ROM does.
-use Rattle.std.specs.Prelude.{◌≡◌, ◌⊎◌, ◌≢◌, ℕ, ◌+◌, ◌-◌, ◌*◌, ◌/◌, ◌%◌, ◌<◌, ◌≤◌, Bool, false, ◌||◌, ◌==◌, if◌then◌else◌, List, [], ◌∷◌, length, replicate}
+use Rattle.std.specs.Prelude.{◌≡◌, ◌⊎◌, ◌≢◌, ℕ, ◌+◌, ◌-◌, ◌*◌, ◌/◌, ◌%◌, ◌<◌, ◌≤◌, Bool, false, ◌||◌, ◌==◌, if◌then◌else◌, List, [], ◌∷◌, length}
 use Rattle.tb_kernal.specs.Places.{within}
 use Rattle.tb_reaching.specs.View.{View, Setup, Holds, Fits, Comes, view, back_at, Bytes}
-use Rattle.tb_routines.specs.Words.{quotient, next_seed, digits}
-use Rattle.tb_routines.specs.Code.{send_at, send_part, multiply_at, multiply_part, divide_at, divide_part, random_at, random_part, number_at, number_part, text_at, text_part, zone_at, zone_part, fault_at}
-
--- ---- data
-
-abbrev pub COLUMN : ℕ
-COLUMN = 0xc034
-
-abbrev pub SEEDED : ℕ
-SEEDED = 0xc036
-
-abbrev pub SEED : ℕ
-SEED = 0xc038
-
-abbrev pub LEFT : ℕ
-LEFT = 0xc062
-
-abbrev pub RIGHT : ℕ
-RIGHT = 0xc064
-
-abbrev pub RESULT : ℕ
-RESULT = 0xc066
-
-abbrev pub LENGTH : ℕ
-LENGTH = 0xc06c
-
-abbrev pub TURNS : ℕ
-TURNS = 0xc06e
-
-abbrev pub POINTER : ℕ
-POINTER = 0x00fb
+use Rattle.tb_words.specs.Words.{quotient, seed_after, digits_of}
+use Rattle.tb_lower.specs.Control.{zone, column_after}
+use Rattle.tb_runtime16.specs.Places.{SEND_AT, MULTIPLY_AT, DIVIDE_AT, RANDOM_AT, NUMBER_AT, TEXT_AT, ZONE_AT, FAULT_AT, COLUMN, SEEDED, SEED, LEFT, RIGHT, RESULT, LENGTH, SCRATCH, POINTER}
+use Rattle.tb_routines.specs.Parts.{send_part, multiply_part, divide_part, random_part, number_part, text_part, zone_part}
 
 abbrev pub word_at : (ℕ → ℕ) → ℕ → ℕ
 word_at m at = m at + 256 * m (at + 1)
@@ -61,7 +34,7 @@ Back lo hi text answers q = Leaves (back_at lo hi) [] text answers q
 
 -- at the entry of Fault, with the fault's number in A and S as at the routine's entry
 pub record Faults (lo hi : ℕ) (text answers : List ℕ) (m : ℕ → ℕ) (k : ℕ) (w : View) : Type 0 where
-  pub pc : w.regs.pc ≡ fault_at
+  pub pc : w.regs.pc ≡ FAULT_AT
   pub stack : w.stack ≡ lo ∷ hi ∷ []
   pub binary : w.regs.flags.d ≡ false
   pub same_text : w.text ≡ text
@@ -71,11 +44,6 @@ pub record Faults (lo hi : ℕ) (text answers : List ℕ) (m : ℕ → ℕ) (k :
 
 -- ---- Send
 
--- the column behind a text
-abbrev pub column_after : ℕ → List ℕ → ℕ
-column_after c [] = c
-column_after c (b ∷ bs) = column_after (if b == 13 then 0 else c + 1) bs
-
 pub record Said (m0 : ℕ → ℕ) (sent : List ℕ) (m : ℕ → ℕ) : Type 0 where
   pub column : m COLUMN ≡ column_after (m0 COLUMN) sent % 256
   pub others : (a : ℕ) → a ≢ COLUMN → m a ≡ m0 a
@@ -84,7 +52,7 @@ pub record Said (m0 : ℕ → ℕ) (sent : List ℕ) (m : ℕ → ℕ) : Type 0 
 abbrev pub SendLaw : Type 0
 SendLaw =
     (f : Setup) → Fits f 2 → Holds send_part f.code → (lo hi : ℕ) (text answers : List ℕ) (m : ℕ → ℕ) (a x y : ℕ) (n v i z c : Bool) → a < 256 →
-    Comes f (view a x y n v i z c send_at (lo ∷ hi ∷ []) m text answers) (Back lo hi text answers (Said m (a ∷ []))) (a ∷ []) 7
+    Comes f (view a x y n v i z c SEND_AT (lo ∷ hi ∷ []) m text answers) (Back lo hi text answers (Said m (a ∷ []))) (a ∷ []) 7
 
 -- ---- Text
 
@@ -109,7 +77,7 @@ pub record Told (m0 : ℕ → ℕ) (sent : List ℕ) (m : ℕ → ℕ) : Type 0 
 abbrev pub TextLaw : Type 0
 TextLaw =
     (f : Setup) → Fits f 4 → Holds text_part f.code → Holds send_part f.code → (lo hi : ℕ) (text answers : List ℕ) (m : ℕ → ℕ) (a x y : ℕ) (n v i z c : Bool) (bytes : List ℕ) → Points f m bytes →
-    Comes f (view a x y n v i z c text_at (lo ∷ hi ∷ []) m text answers) (Back lo hi text answers (Told m bytes)) bytes (15 * length bytes + 3)
+    Comes f (view a x y n v i z c TEXT_AT (lo ∷ hi ∷ []) m text answers) (Back lo hi text answers (Told m bytes)) bytes (15 * length bytes + 3)
 
 -- ---- Zone
 
@@ -117,13 +85,13 @@ TextLaw =
 abbrev pub ZoneLaw : Type 0
 ZoneLaw =
     (f : Setup) → Fits f 4 → Holds zone_part f.code → Holds send_part f.code → (lo hi : ℕ) (text answers : List ℕ) (m : ℕ → ℕ) (a x y : ℕ) (n v i z c : Bool) → m COLUMN < 256 →
-    Comes f (view a x y n v i z c zone_at (lo ∷ hi ∷ []) m text answers) (Back lo hi text answers (Said m (replicate (8 - m COLUMN % 8) 32))) (replicate (8 - m COLUMN % 8) 32) 97
+    Comes f (view a x y n v i z c ZONE_AT (lo ∷ hi ∷ []) m text answers) (Back lo hi text answers (Said m (zone (m COLUMN)))) (zone (m COLUMN)) 97
 
 -- ---- Multiply
 
 -- the arguments and the counter of Multiply
 abbrev pub is_used : ℕ → Bool
-is_used a = is_argument a || a == TURNS
+is_used a = is_argument a || a == SCRATCH
 
 -- the result, and the memory but for these places as it was
 pub record Multiplied (m0 : ℕ → ℕ) (product : ℕ) (m : ℕ → ℕ) : Type 0 where
@@ -134,12 +102,12 @@ pub record Multiplied (m0 : ℕ → ℕ) (product : ℕ) (m : ℕ → ℕ) : Typ
 abbrev pub MultiplyLaw : Type 0
 MultiplyLaw =
     (f : Setup) → Fits f 2 → Holds multiply_part f.code → (lo hi : ℕ) (text answers : List ℕ) (m : ℕ → ℕ) (a x y : ℕ) (n v i z c : Bool) → IsWord m LEFT → IsWord m RIGHT →
-    Comes f (view a x y n v i z c multiply_at (lo ∷ hi ∷ []) m text answers) (Back lo hi text answers (Multiplied m ((word_at m LEFT * word_at m RIGHT) % 65536))) [] 240
+    Comes f (view a x y n v i z c MULTIPLY_AT (lo ∷ hi ∷ []) m text answers) (Back lo hi text answers (Multiplied m ((word_at m LEFT * word_at m RIGHT) % 65536))) [] 240
 
 -- ---- division without signs, inside Divide
 
 abbrev pub unsigned_at : ℕ
-unsigned_at = divide_at + 78
+unsigned_at = DIVIDE_AT + 78
 
 pub record Parted (m0 : ℕ → ℕ) (q r : ℕ) (m : ℕ → ℕ) : Type 0 where
   pub left_is : IsWord m LEFT
@@ -158,7 +126,7 @@ UnsignedLaw =
 -- ---- Divide
 
 abbrev pub negate_left_at : ℕ
-negate_left_at = divide_at + 42
+negate_left_at = DIVIDE_AT + 42
 
 -- a word at a place, and the memory but for the arguments as it was
 pub record Gives (m0 : ℕ → ℕ) (at q : ℕ) (m : ℕ → ℕ) : Type 0 where
@@ -169,12 +137,12 @@ pub record Gives (m0 : ℕ → ℕ) (at q : ℕ) (m : ℕ → ℕ) : Type 0 wher
 abbrev pub DivideLaw : Type 0
 DivideLaw =
     (f : Setup) → Fits f 8 → Holds divide_part f.code → (lo hi : ℕ) (text answers : List ℕ) (m : ℕ → ℕ) (a x y : ℕ) (n v i z c : Bool) → IsWord m LEFT → IsWord m RIGHT → 1 ≤ word_at m RIGHT →
-    Comes f (view a x y n v i z c divide_at (lo ∷ hi ∷ []) m text answers) (Back lo hi text answers (Gives m RESULT (quotient (word_at m LEFT) (word_at m RIGHT)))) [] 316
+    Comes f (view a x y n v i z c DIVIDE_AT (lo ∷ hi ∷ []) m text answers) (Back lo hi text answers (Gives m RESULT (quotient (word_at m LEFT) (word_at m RIGHT)))) [] 316
 
 abbrev pub DivideByZeroLaw : Type 0
 DivideByZeroLaw =
     (f : Setup) → Fits f 2 → Holds divide_part f.code → (lo hi : ℕ) (text answers : List ℕ) (m : ℕ → ℕ) (a x y : ℕ) (n v i z c : Bool) → word_at m RIGHT ≡ 0 →
-    Comes f (view a x y n v i z c divide_at (lo ∷ hi ∷ []) m text answers) (Faults lo hi text answers m 2) [] 6
+    Comes f (view a x y n v i z c DIVIDE_AT (lo ∷ hi ∷ []) m text answers) (Faults lo hi text answers m 2) [] 6
 
 -- ---- Number
 
@@ -185,7 +153,7 @@ pub record Written (m0 : ℕ → ℕ) (t : List ℕ) (m : ℕ → ℕ) : Type 0 
 abbrev pub NumberLaw : Type 0
 NumberLaw =
     (f : Setup) → Fits f 11 → Holds number_part f.code → Holds divide_part f.code → Holds send_part f.code → (lo hi : ℕ) (text answers : List ℕ) (m : ℕ → ℕ) (a x y : ℕ) (n v i z c : Bool) → IsWord m LEFT → m COLUMN < 256 →
-    Comes f (view a x y n v i z c number_at (lo ∷ hi ∷ []) m text answers) (Back lo hi text answers (Written m (digits (word_at m LEFT)))) (digits (word_at m LEFT)) 1440
+    Comes f (view a x y n v i z c NUMBER_AT (lo ∷ hi ∷ []) m text answers) (Back lo hi text answers (Written m (digits_of (word_at m LEFT)))) (digits_of (word_at m LEFT)) 1440
 
 -- ---- Random
 
@@ -198,18 +166,18 @@ seed_of m = if m SEEDED == 0 then word_at m RIGHT else word_at m SEED
 
 pub record Drawn (m0 : ℕ → ℕ) (bound seed : ℕ) (m : ℕ → ℕ) : Type 0 where
   pub is_word : IsWord m RESULT
-  pub value : word_at m RESULT ≡ next_seed seed % bound
+  pub value : word_at m RESULT ≡ seed_after seed % bound
   pub seed_is : IsWord m SEED
-  pub seed_at : word_at m SEED ≡ next_seed seed
+  pub seed_at : word_at m SEED ≡ seed_after seed
   pub seeded : m SEEDED ≡ 1
-  pub others : (a : ℕ) → is_argument a ≡ false → (a == TURNS) ≡ false → is_seed a ≡ false → m a ≡ m0 a
+  pub others : (a : ℕ) → is_argument a ≡ false → (a == SCRATCH) ≡ false → is_seed a ≡ false → m a ≡ m0 a
 
 abbrev pub RandomLaw : Type 0
 RandomLaw =
     (f : Setup) → Fits f 6 → Holds random_part f.code → Holds divide_part f.code → Holds multiply_part f.code → (lo hi : ℕ) (text answers : List ℕ) (m : ℕ → ℕ) (a x y : ℕ) (n v i z c : Bool) → IsWord m LEFT → IsWord m RIGHT → IsWord m SEED → 1 ≤ word_at m LEFT → word_at m LEFT < 32768 →
-    Comes f (view a x y n v i z c random_at (lo ∷ hi ∷ []) m text answers) (Back lo hi text answers (Drawn m (word_at m LEFT) (seed_of m))) [] 540
+    Comes f (view a x y n v i z c RANDOM_AT (lo ∷ hi ∷ []) m text answers) (Back lo hi text answers (Drawn m (word_at m LEFT) (seed_of m))) [] 540
 
 abbrev pub RandomRangeLaw : Type 0
 RandomRangeLaw =
     (f : Setup) → Fits f 2 → Holds random_part f.code → (lo hi : ℕ) (text answers : List ℕ) (m : ℕ → ℕ) (a x y : ℕ) (n v i z c : Bool) → IsWord m LEFT → (word_at m LEFT ≡ 0) ⊎ (32768 ≤ word_at m LEFT) →
-    Comes f (view a x y n v i z c random_at (lo ∷ hi ∷ []) m text answers) (Faults lo hi text answers m 3) [] 7
+    Comes f (view a x y n v i z c RANDOM_AT (lo ∷ hi ∷ []) m text answers) (Faults lo hi text answers m 3) [] 7

@@ -1,8 +1,6 @@
-pub mod Words
-pub mod Code
+pub mod Parts
 pub mod Laws
 pub mod Ends
 pub mod Input
 pub mod Notes
 pub mod Search
-pub mod Block

@@ -2,18 +2,13 @@
 use Rattle.std.specs.Prelude.{◌≡◌, ◌<◌, ◌≤◌, Bool, false, ℕ, List, [], ◌∷◌, ◌++◌, ◌+◌, ◌*◌, ◌||◌, length}
 use Rattle.tb_kernal.specs.Places.{within}
 use Rattle.tb_reaching.specs.View.{View, Setup, Part, Holds, Fits, Comes, part_at, view, back_at}
-use Rattle.tb_routines.specs.Code.{push_at, push_bytes, pop_at, pop_bytes, fault_at}
-use Rattle.tb_routines.specs.Laws.{LEFT, RESULT, word_at, IsWord}
-
-abbrev pub NOTES : ℕ
-NOTES = 0xc03c
-
-abbrev pub NOTE_LIST : ℕ
-NOTE_LIST = 0xc100
+use Rattle.tb_runtime16.specs.Places.{PUSH_AT, POP_AT, FAULT_AT, LEFT, RESULT, NOTES, NOTE_LIST}
+use Rattle.tb_runtime16.specs.Block.{push_bytes, pop_bytes}
+use Rattle.tb_routines.specs.Laws.{word_at, IsWord}
 
 -- Push, the place of a note, and Pop
 abbrev pub notes_part : Part
-notes_part = part_at push_at (push_bytes ++ pop_bytes)
+notes_part = part_at PUSH_AT (push_bytes ++ pop_bytes)
 
 -- at an address with a stack; only these places changed
 pub record Stopped (pc : ℕ) (stack : List ℕ) (changes : ℕ → Bool) (m : ℕ → ℕ) (text answers : List ℕ) (w : View) : Type 0 where
@@ -30,7 +25,7 @@ Returned lo hi changes m text answers w = Stopped (back_at lo hi) [] changes m t
 
 -- at the entry of Fault, with the fault's number in A
 pub record Faulted (number lo hi : ℕ) (changes : ℕ → Bool) (m : ℕ → ℕ) (text answers : List ℕ) (w : View) : Type 0 where
-  pub ended : Stopped fault_at (lo ∷ hi ∷ []) changes m text answers w
+  pub ended : Stopped FAULT_AT (lo ∷ hi ∷ []) changes m text answers w
   pub told : w.regs.a ≡ number
 
 -- these words stand in the return list, the last one first
@@ -64,15 +59,15 @@ pub record Popped (lo hi : ℕ) (m : ℕ → ℕ) (text answers : List ℕ) (n :
   pub notes : Notes w.mem ns
 
 abbrev pub PushLaw : Type 0
-PushLaw = (f : Setup) → Fits f 4 → Holds notes_part f.code → (lo hi : ℕ) (text answers : List ℕ) (m : ℕ → ℕ) (a x y : ℕ) (n v i z c : Bool) (notes : List ℕ) → IsWord m LEFT → Notes m notes → length notes < 500 → Comes f (view a x y n v i z c push_at (lo ∷ hi ∷ []) m text answers) (Pushed lo hi m text answers (word_at m LEFT ∷ notes)) [] 25
+PushLaw = (f : Setup) → Fits f 4 → Holds notes_part f.code → (lo hi : ℕ) (text answers : List ℕ) (m : ℕ → ℕ) (a x y : ℕ) (n v i z c : Bool) (notes : List ℕ) → IsWord m LEFT → Notes m notes → length notes < 500 → Comes f (view a x y n v i z c PUSH_AT (lo ∷ hi ∷ []) m text answers) (Pushed lo hi m text answers (word_at m LEFT ∷ notes)) [] 25
 
 -- 500 notes already
 abbrev pub PushFullLaw : Type 0
-PushFullLaw = (f : Setup) → Fits f 4 → Holds notes_part f.code → (lo hi : ℕ) (text answers : List ℕ) (m : ℕ → ℕ) (a x y : ℕ) (n v i z c : Bool) (notes : List ℕ) → Notes m notes → length notes ≡ 500 → Comes f (view a x y n v i z c push_at (lo ∷ hi ∷ []) m text answers) (Faulted 4 lo hi nothing m text answers) [] 7
+PushFullLaw = (f : Setup) → Fits f 4 → Holds notes_part f.code → (lo hi : ℕ) (text answers : List ℕ) (m : ℕ → ℕ) (a x y : ℕ) (n v i z c : Bool) (notes : List ℕ) → Notes m notes → length notes ≡ 500 → Comes f (view a x y n v i z c PUSH_AT (lo ∷ hi ∷ []) m text answers) (Faulted 4 lo hi nothing m text answers) [] 7
 
 abbrev pub PopLaw : Type 0
-PopLaw = (f : Setup) → Fits f 4 → Holds notes_part f.code → (lo hi : ℕ) (text answers : List ℕ) (m : ℕ → ℕ) (a x y : ℕ) (n v i z c : Bool) (note : ℕ) (notes : List ℕ) → Notes m (note ∷ notes) → Comes f (view a x y n v i z c pop_at (lo ∷ hi ∷ []) m text answers) (Popped lo hi m text answers note notes) [] 23
+PopLaw = (f : Setup) → Fits f 4 → Holds notes_part f.code → (lo hi : ℕ) (text answers : List ℕ) (m : ℕ → ℕ) (a x y : ℕ) (n v i z c : Bool) (note : ℕ) (notes : List ℕ) → Notes m (note ∷ notes) → Comes f (view a x y n v i z c POP_AT (lo ∷ hi ∷ []) m text answers) (Popped lo hi m text answers note notes) [] 23
 
 -- no note
 abbrev pub PopNoneLaw : Type 0
-PopNoneLaw = (f : Setup) → Fits f 4 → Holds notes_part f.code → (lo hi : ℕ) (text answers : List ℕ) (m : ℕ → ℕ) (a x y : ℕ) (n v i z c : Bool) → Notes m [] → Comes f (view a x y n v i z c pop_at (lo ∷ hi ∷ []) m text answers) (Faulted 5 lo hi nothing m text answers) [] 6
+PopNoneLaw = (f : Setup) → Fits f 4 → Holds notes_part f.code → (lo hi : ℕ) (text answers : List ℕ) (m : ℕ → ℕ) (a x y : ℕ) (n v i z c : Bool) → Notes m [] → Comes f (view a x y n v i z c POP_AT (lo ∷ hi ∷ []) m text answers) (Faulted 5 lo hi nothing m text answers) [] 6

@@ -2,21 +2,10 @@
 use Rattle.std.specs.Prelude.{◌≡◌, ◌<◌, ◌≤◌, Bool, ℕ, List, [], ◌∷◌, ◌+◌, ◌*◌, ◌/◌, ◌%◌, ◌||◌, if◌then◌else◌, nat_eq, length, Option, Some, None}
 use Rattle.tb_kernal.specs.Places.{within}
 use Rattle.tb_reaching.specs.View.{View, Setup, Part, Holds, Fits, Comes, view}
-use Rattle.tb_routines.specs.Code.{search_at, search_part}
-use Rattle.tb_routines.specs.Laws.{LEFT, RESULT, word_at, IsWord}
+use Rattle.tb_runtime16.specs.Places.{SEARCH_AT, LEFT, RESULT, TABLE, COUNT}
+use Rattle.tb_routines.specs.Parts.{search_part}
+use Rattle.tb_routines.specs.Laws.{word_at, IsWord}
 use Rattle.tb_routines.specs.Notes.{Returned, Faulted}
-
-abbrev pub SECOND : ℕ
-SECOND = 0xfd
-
-abbrev pub TABLE : ℕ
-TABLE = 0xc068
-
-abbrev pub COUNT : ℕ
-COUNT = 0xc06a
-
-abbrev pub HALF : ℕ
-HALF = 0xc06e
 
 -- these bytes stand in the program
 abbrev pub Shows : Part → ℕ → List ℕ → Type 0
@@ -62,4 +51,4 @@ Searched lo hi m text answers (Some address) w = Found lo hi m text answers addr
 Searched lo hi m text answers None w = Faulted 1 lo hi search_changes m text answers w
 
 abbrev pub SearchLaw : Type 0
-SearchLaw = (f : Setup) → Fits f 2 → Holds search_part f.code → (lo hi : ℕ) (text answers : List ℕ) (m : ℕ → ℕ) (a x y : ℕ) (n v i z c : Bool) (lines : List Line) → IsWord m LEFT → IsWord m TABLE → IsWord m COUNT → Shows f.code (word_at m TABLE) (table_bytes lines) → 0x0800 ≤ word_at m TABLE → word_at m TABLE + 4 * length lines ≤ 0xA000 → word_at m COUNT ≡ length lines → 1 ≤ length lines → Rising lines → AllWords lines → Comes f (view a x y n v i z c search_at (lo ∷ hi ∷ []) m text answers) (Searched lo hi m text answers (address_of (word_at m LEFT) lines)) [] 600
+SearchLaw = (f : Setup) → Fits f 2 → Holds search_part f.code → (lo hi : ℕ) (text answers : List ℕ) (m : ℕ → ℕ) (a x y : ℕ) (n v i z c : Bool) (lines : List Line) → IsWord m LEFT → IsWord m TABLE → IsWord m COUNT → Shows f.code (word_at m TABLE) (table_bytes lines) → 0x0800 ≤ word_at m TABLE → word_at m TABLE + 4 * length lines ≤ 0xA000 → word_at m COUNT ≡ length lines → 1 ≤ length lines → Rising lines → AllWords lines → Comes f (view a x y n v i z c SEARCH_AT (lo ∷ hi ∷ []) m text answers) (Searched lo hi m text answers (address_of (word_at m LEFT) lines)) [] 600
