@@ -1,0 +1,60 @@
+-- What Input promises: one variable's turn.
+use Rattle.std.specs.Prelude.{◌≡◌, ℕ, ◌+◌, ◌-◌, ◌*◌, ◌%◌, Bool, true, false, ◌&&◌, ◌||◌, List, [], ◌∷◌, ◌++◌, length, if◌then◌else◌, nat_le, nat_eq, ◌==◌}
+use Rattle.tb_reaching.specs.View.{View, Setup, Holds, Fits, Comes, view, back_at}
+use Rattle.tb_reaching.specs.Start.{IsHome, IsWaiting}
+use Rattle.tb_words.specs.Words.{with_sign}
+use Rattle.tb_lower.specs.Control.{column_after, fault_text}
+use Rattle.tb_lower.specs.Input.{Nothing, Turn, Got, Bad, Dry, turn}
+use Rattle.tb_runtime16.specs.Places.{INPUT_AT, COLUMN, LEFT, RESULT, LINE, BYTE, OPEN}
+use Rattle.tb_routines.specs.Parts.{input_part}
+use Rattle.tb_routines.specs.Ends.{Entered, Faulting}
+use Rattle.tb_routines.specs.Laws.{word_at, IsWord, AllBytes}
+
+-- ---- the law
+
+abbrev pub MINUS : ℕ
+MINUS = 0xc06f
+
+abbrev pub one_if : Bool → ℕ
+one_if true = 1
+one_if false = 0
+
+-- the places that Input changes
+abbrev pub is_changed : ℕ → Bool
+is_changed a = (nat_le LEFT a && nat_le a 0xc067) || ((nat_le BYTE a && nat_le a MINUS) || (a == OPEN || a == COLUMN))
+
+abbrev pub prompt : Bool → List ℕ
+prompt true = []
+prompt false = 63 ∷ 32 ∷ []
+
+-- what a turn sends behind the prompt, at a line
+abbrev pub turn_sends : ℕ → Turn → List ℕ
+turn_sends line (Got v true rest) = []
+turn_sends line (Got v false rest) = 13 ∷ []
+turn_sends line Bad = fault_text 6 line
+turn_sends line Dry = []
+
+-- back with a number
+pub record Taken (lo hi hlo hhi : ℕ) (m : ℕ → ℕ) (replies : List ℕ) (column number : ℕ) (stays : Bool) (keys : List ℕ) (w : View) : Type 0 where
+  pub pc : w.regs.pc ≡ back_at lo hi
+  pub stack : w.stack ≡ hlo ∷ hhi ∷ []
+  pub binary : w.regs.flags.d ≡ false
+  pub left : w.text ≡ keys
+  pub same_answers : w.answers ≡ replies
+  pub is_word : IsWord w.mem RESULT
+  pub result : word_at w.mem RESULT ≡ number
+  pub line_open : w.mem OPEN ≡ one_if stays
+  pub column_is : w.mem COLUMN ≡ column
+  pub others : (a : ℕ) → is_changed a ≡ false → w.mem a ≡ m a
+
+-- the end of a turn, from column c, when so much was sent before
+abbrev pub Ended : Setup → ℕ → ℕ → ℕ → ℕ → (ℕ → ℕ) → List ℕ → ℕ → List ℕ → Turn → View → Type 0
+Ended f lo hi hlo hhi m replies c before (Got v true rest) w = Taken lo hi hlo hhi m replies (column_after c before % 256) v true rest w
+Ended f lo hi hlo hhi m replies c before (Got v false rest) w = Taken lo hi hlo hhi m replies 0 v false rest w
+Ended f lo hi hlo hhi m replies c before Bad w = IsHome f w
+Ended f lo hi hlo hhi m replies c before Dry w = IsWaiting w
+
+abbrev pub InputLaw : Type 0
+InputLaw =
+    (f : Setup) → Fits f 13 → (hlo hhi : ℕ) → Faulting f.code → Holds input_part f.code → (lo hi : ℕ) (text answers : List ℕ) (m : ℕ → ℕ) → Entered f hlo hhi m → AllBytes text → (is_open : Bool) → m OPEN ≡ one_if is_open → (c : ℕ) → m COLUMN ≡ c % 256 → (a x y : ℕ) (n v i z carry : Bool) →
+    Comes f (view a x y n v i z carry INPUT_AT (lo ∷ hi ∷ hlo ∷ hhi ∷ []) m text answers) (Ended f lo hi hlo hhi m answers c (prompt is_open) (turn Nothing text)) (prompt is_open ++ turn_sends (word_at m LINE) (turn Nothing text)) (45 * length text + 1569)

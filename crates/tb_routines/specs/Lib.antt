@@ -1,0 +1,6 @@
+pub mod Parts
+pub mod Laws
+pub mod Ends
+pub mod Input
+pub mod Notes
+pub mod Search

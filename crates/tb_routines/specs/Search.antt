@@ -1,0 +1,54 @@
+-- The line table and Search.
+use Rattle.std.specs.Prelude.{◌≡◌, ◌<◌, ◌≤◌, Bool, ℕ, List, [], ◌∷◌, ◌+◌, ◌*◌, ◌/◌, ◌%◌, ◌||◌, if◌then◌else◌, nat_eq, length, Option, Some, None}
+use Rattle.tb_kernal.specs.Places.{within}
+use Rattle.tb_reaching.specs.View.{View, Setup, Part, Holds, Fits, Comes, view}
+use Rattle.tb_runtime16.specs.Places.{SEARCH_AT, LEFT, RESULT, TABLE, COUNT}
+use Rattle.tb_routines.specs.Parts.{search_part}
+use Rattle.tb_routines.specs.Laws.{word_at, IsWord}
+use Rattle.tb_routines.specs.Notes.{Returned, Faulted}
+
+-- these bytes stand in the program
+abbrev pub Shows : Part → ℕ → List ℕ → Type 0
+Shows code at [] = Unit {0}
+Shows code at (b ∷ bs) = (code at ≡ Some b) × Shows code (at + 1) bs
+
+-- ---- the table: pairs of a line's number and its code's address
+abbrev pub Line : Type 0
+Line = ℕ × ℕ
+
+abbrev pub table_bytes : List Line → List ℕ
+table_bytes [] = []
+table_bytes (e ∷ es) = e.0 % 256 ∷ e.0 / 256 ∷ e.1 % 256 ∷ e.1 / 256 ∷ table_bytes es
+
+abbrev pub AllAbove : ℕ → List Line → Type 0
+AllAbove k [] = Unit {0}
+AllAbove k (e ∷ es) = (k < e.0) × AllAbove k es
+
+abbrev pub Rising : List Line → Type 0
+Rising [] = Unit {0}
+Rising (e ∷ es) = AllAbove e.0 es × Rising es
+
+abbrev pub AllWords : List Line → Type 0
+AllWords [] = Unit {0}
+AllWords (e ∷ es) = (e.0 < 65536) × (e.1 < 65536) × AllWords es
+
+-- the address of the line with a number
+abbrev pub address_of : ℕ → List Line → Option ℕ
+address_of t [] = None
+address_of t (e ∷ es) = let later = address_of t es in if nat_eq e.0 t then Some e.1 else later
+
+abbrev pub search_changes : ℕ → Bool
+search_changes a = within 0xfb 0xfe a || (within 0xc066 0xc067 a || (within 0xc06a 0xc06b a || within 0xc06e 0xc06f a))
+
+pub record Found (lo hi : ℕ) (m : ℕ → ℕ) (text answers : List ℕ) (address : ℕ) (w : View) : Type 0 where
+  pub back : Returned lo hi search_changes m text answers w
+  pub is_word : IsWord w.mem RESULT
+  pub result : word_at w.mem RESULT ≡ address
+
+-- back with the address, or at Fault with 1
+abbrev pub Searched : ℕ → ℕ → (ℕ → ℕ) → List ℕ → List ℕ → Option ℕ → View → Type 0
+Searched lo hi m text answers (Some address) w = Found lo hi m text answers address w
+Searched lo hi m text answers None w = Faulted 1 lo hi search_changes m text answers w
+
+abbrev pub SearchLaw : Type 0
+SearchLaw = (f : Setup) → Fits f 2 → Holds search_part f.code → (lo hi : ℕ) (text answers : List ℕ) (m : ℕ → ℕ) (a x y : ℕ) (n v i z c : Bool) (lines : List Line) → IsWord m LEFT → IsWord m TABLE → IsWord m COUNT → Shows f.code (word_at m TABLE) (table_bytes lines) → 0x0800 ≤ word_at m TABLE → word_at m TABLE + 4 * length lines ≤ 0xA000 → word_at m COUNT ≡ length lines → 1 ≤ length lines → Rising lines → AllWords lines → Comes f (view a x y n v i z c SEARCH_AT (lo ∷ hi ∷ []) m text answers) (Searched lo hi m text answers (address_of (word_at m LEFT) lines)) [] 600
