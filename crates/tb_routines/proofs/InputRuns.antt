@@ -331,7 +331,7 @@ module _ (f : Setup) (fits : Fits f 13) (hlo hhi : ℕ) (all : Faulting f.code) 
   unfolding Reads
   reads_all [] r a x y n v i z c m h bs =
       looser f _ _ _ [] 1 (45 * 0 + (102 + 1440)) (omega arith) (λ w h. h)
-      (ending f 13 fits input_part st 0 (view a x y n v i z c (INPUT_AT + 0x22) (lo ∷ hi ∷ hlo ∷ hhi ∷ []) m [] answers) _ refl (record { pc = refl; text = refl }))
+      (ending f 13 fits input_part st 0 (view a x y n v i z c (INPUT_AT + 0x22) (lo ∷ hi ∷ hlo ∷ hhi ∷ []) m [] answers) _ refl (record { pc = refl; text = refl }, (let e : 6 ≤ 6 = omega arith in e)))
   reads_all (b ∷ text) r a x y n v i z c m h bs =
       looser f _ _ _ (sends (turn r (b ∷ text))) (1 + (1 + (45 * length text + (145 + 1440)))) (45 * length (b ∷ text) + (102 + 1440)) (omega arith) (λ w h. h)
       (after f 13 fits input_part st 0 (view a x y n v i z c (INPUT_AT + 0x22) (lo ∷ hi ∷ hlo ∷ hhi ∷ []) m (b ∷ text) answers) _ _ (1 + (45 * length text + (145 + 1440))) refl

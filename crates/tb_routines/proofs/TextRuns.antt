@@ -36,6 +36,7 @@ module _ (f : Setup) (fits : Fits f 4) (st : Holds text_part f.code) (to_send : 
     small : AllBytes bytes
     others : (a : ℕ) → a ≢ COLUMN → a ≢ POINTER → a ≢ POINTER + 1 → a ≢ LENGTH → m a ≡ m0 a
     column : column_after (m COLUMN) bytes % 256 ≡ column_after (m0 COLUMN) all % 256
+    column_small : m0 COLUMN < 256 → m COLUMN < 256
 
   put_pointer : (m : ℕ → ℕ) (b : ℕ) → ((a : ℕ) → a ≢ COLUMN → a ≢ POINTER → a ≢ POINTER + 1 → a ≢ LENGTH → m a ≡ m0 a) → (a : ℕ) → a ≢ COLUMN → a ≢ POINTER → a ≢ POINTER + 1 → a ≢ LENGTH → with_byte m POINTER b a ≡ m0 a
   put_pointer m b h a p q r s = put_other m POINTER b a q ∙ h a p q r s
@@ -62,7 +63,7 @@ module _ (f : Setup) (fits : Fits f 4) (st : Holds text_part f.code) (to_send : 
   count_none a x y n v i z c m at h e =
       let done : eqb ((m LENGTH + 255) % 256) 0 ≡ true = eq-eqb _ _ (omega (arith, e)) in
       after f 4 fits text_part st 1 (view a x y n v i z c (TEXT_AT + 18) (lo ∷ hi ∷ []) m text answers) _ _ 1 refl
-      (rw done (last _ _ _ _ _ _ _ _ _ (record { column = h.column; others = put_length m _ h.others })))
+      (rw done (last _ _ _ _ _ _ _ _ _ (record { column = h.column; column_small = h.column_small; others = put_length m _ h.others })))
 
   count_more : (b : ℕ) (bs : List ℕ) → Loop bs → Count (b ∷ bs)
   unfolding Count Loop
@@ -72,7 +73,7 @@ module _ (f : Setup) (fits : Fits f 4) (st : Holds text_part f.code) (to_send : 
       looser f _ _ _ (b ∷ bs) (2 + (15 * length bs + 16)) (15 * length (b ∷ bs) + 3) (omega arith) (λ w h. h)
       (after f 4 fits text_part st 1 (view a x y n v i z c (TEXT_AT + 18) (lo ∷ hi ∷ []) m text answers) _ _ (15 * length bs + 16) refl
       (rw more (go _ _ _ _ _ _ _ _ _ b at
-      (record { word_is = h.word_is; low = h.low; high = h.high; shown = h.shown; from = h.from; to = h.to; few = h.few; small = h.small; others = put_length m _ h.others; column = h.column })
+      (record { word_is = h.word_is; low = h.low; high = h.high; shown = h.shown; from = h.from; to = h.to; few = h.few; small = h.small; others = put_length m _ h.others; column = h.column; column_small = h.column_small })
       less)))
 
   -- the pointer goes up; the byte before it was sent
@@ -95,13 +96,13 @@ module _ (f : Setup) (fits : Fits f 4) (st : Holds text_part f.code) (to_send : 
       (after f 4 fits text_part st 1 (view a x y n v i z c (TEXT_AT + 12) (lo ∷ hi ∷ []) w text answers) _ _ (1 + (15 * length bs + 3)) refl
       (rw t (after f 4 fits text_part st 0 (view _ _ _ _ _ _ _ _ (TEXT_AT + 16) (lo ∷ hi ∷ []) (with_byte w POINTER ((w POINTER + 1) % 256)) text answers) _ _ (15 * length bs + 3) refl
       (go _ _ _ _ _ _ _ _ _ (at + 1)
-      (record { word_is = omega arith; low = omega arith; high = omega arith; shown = shown; from = omega (arith, h.from); to = omega (arith, h.to); few = omega (arith, h.few); small = h.small.1; others = put_high _ _ (put_pointer w _ others); column = column })
+      (record { word_is = omega arith; low = omega arith; high = omega arith; shown = shown; from = omega (arith, h.from); to = omega (arith, h.to); few = omega (arith, h.few); small = h.small.1; others = put_high _ _ (put_pointer w _ others); column = column; column_small = λ p. omega (arith, k.column) })
       length_is)))))
       (λ under. let t : eqb ((w POINTER + 1) % 256) 0 ≡ false = ne_eqb _ _ under in
       looser f _ _ _ bs (2 + (15 * length bs + 3)) (3 + (15 * length bs + 3)) (omega arith) (λ w h. h)
       (after f 4 fits text_part st 1 (view a x y n v i z c (TEXT_AT + 12) (lo ∷ hi ∷ []) w text answers) _ _ (15 * length bs + 3) refl
       (rw t (go _ _ _ _ _ _ _ _ _ (at + 1)
-      (record { word_is = omega arith; low = omega arith; high = omega arith; shown = shown; from = omega (arith, h.from); to = omega (arith, h.to); few = omega (arith, h.few); small = h.small.1; others = put_pointer w _ others; column = column })
+      (record { word_is = omega arith; low = omega arith; high = omega arith; shown = shown; from = omega (arith, h.from); to = omega (arith, h.to); few = omega (arith, h.few); small = h.small.1; others = put_pointer w _ others; column = column; column_small = λ p. omega (arith, k.column) })
       length_is))))
       (cases_eq ((w POINTER + 1) % 256) 0)
 
@@ -135,7 +136,7 @@ module _ (f : Setup) (fits : Fits f 4) (st : Holds text_part f.code) (to_send : 
       let none : eqb (m LENGTH) 0 ≡ true = eq-eqb _ _ e in
       looser f _ _ _ [] 3 3 (omega arith) (λ w h. h)
       (after f 4 fits text_part st 1 (view a x y n v i z c TEXT_AT (lo ∷ hi ∷ []) m text answers) _ _ 1 refl
-      (rw none (last _ _ _ _ _ _ _ _ _ (record { column = h.column; others = h.others }))))
+      (rw none (last _ _ _ _ _ _ _ _ _ (record { column = h.column; column_small = h.column_small; others = h.others }))))
   whole a x y n v i z c m (b ∷ bs) at h e =
       let some : eqb (m LENGTH) 0 ≡ false = ne_eqb _ _ (λ x. omega (arith, e)) in
       looser f _ _ _ (b ∷ bs) (2 + (15 * length bs + 16)) (15 * length (b ∷ bs) + 3) (omega arith) (λ w h. h)
@@ -144,4 +145,4 @@ module _ (f : Setup) (fits : Fits f 4) (st : Holds text_part f.code) (to_send : 
 
 pub text_law : TextLaw
 text_law f fits st send lo hi text answers m a x y n v i z c bytes p =
-    whole f fits st send lo hi text answers m bytes a x y n v i z c m bytes (m POINTER + 256 * m (POINTER + 1)) (record { word_is = refl; low = p.is_word.0; high = p.is_word.1; shown = p.shown; from = p.from; to = p.to; few = p.few; small = p.bytes_small; others = λ a p q r s. refl; column = refl }) p.count
+    whole f fits st send lo hi text answers m bytes a x y n v i z c m bytes (m POINTER + 256 * m (POINTER + 1)) (record { word_is = refl; low = p.is_word.0; high = p.is_word.1; shown = p.shown; from = p.from; to = p.to; few = p.few; small = p.bytes_small; others = λ a p q r s. refl; column = refl; column_small = λ p. p }) p.count

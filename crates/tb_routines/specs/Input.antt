@@ -1,5 +1,5 @@
 -- What Input promises: one variable's turn.
-use Rattle.std.specs.Prelude.{◌≡◌, ℕ, ◌+◌, ◌-◌, ◌*◌, ◌%◌, Bool, true, false, ◌&&◌, ◌||◌, List, [], ◌∷◌, ◌++◌, length, if◌then◌else◌, nat_le, nat_eq, ◌==◌}
+use Rattle.std.specs.Prelude.{◌≡◌, ℕ, ◌+◌, ◌-◌, ◌*◌, ◌%◌, ◌≤◌, Bool, true, false, ◌&&◌, ◌||◌, List, [], ◌∷◌, ◌++◌, length, if◌then◌else◌, nat_le, nat_eq, ◌==◌}
 use Rattle.tb_reaching.specs.View.{View, Setup, Holds, Fits, Comes, view, back_at}
 use Rattle.tb_reaching.specs.Start.{IsHome, IsWaiting}
 use Rattle.tb_words.specs.Words.{with_sign}
@@ -52,7 +52,7 @@ abbrev pub Ended : Setup → ℕ → ℕ → ℕ → ℕ → (ℕ → ℕ) → L
 Ended f lo hi hlo hhi m replies c before (Got v true rest) w = Taken lo hi hlo hhi m replies (column_after c before % 256) v true rest w
 Ended f lo hi hlo hhi m replies c before (Got v false rest) w = Taken lo hi hlo hhi m replies 0 v false rest w
 Ended f lo hi hlo hhi m replies c before Bad w = IsHome f w
-Ended f lo hi hlo hhi m replies c before Dry w = IsWaiting w
+Ended f lo hi hlo hhi m replies c before Dry w = IsWaiting w × (length w.stack ≤ 6)
 
 abbrev pub InputLaw : Type 0
 InputLaw =

@@ -72,6 +72,7 @@ pub record Points (f : Setup) (m : ℕ → ℕ) (bytes : List ℕ) : Type 0 wher
 
 pub record Told (m0 : ℕ → ℕ) (sent : List ℕ) (m : ℕ → ℕ) : Type 0 where
   pub column : m COLUMN % 256 ≡ column_after (m0 COLUMN) sent % 256
+  pub column_small : m0 COLUMN < 256 → m COLUMN < 256
   pub others : (a : ℕ) → a ≢ COLUMN → a ≢ POINTER → a ≢ POINTER + 1 → a ≢ LENGTH → m a ≡ m0 a
 
 abbrev pub TextLaw : Type 0

@@ -4,3 +4,4 @@ pub mod Ends
 pub mod Input
 pub mod Notes
 pub mod Search
+pub mod Routines
