@@ -7,14 +7,11 @@ use Rattle.tb_kernal.specs.declared.events.Event.TheVariants.{Go, Interrupt}
 use Rattle.tb_kernal.specs.Machine.{State, happens}
 use Rattle.tb_kernal.specs.Runs.{run, all_lawful, goes}
 use Rattle.tb_reaching.specs.Reaching.{Arrived, OnTheWay}
-use Rattle.tb_reaching.specs.View.{View, Setup, At, Part, Holds, UnderWay, Among, Comes}
+use Rattle.tb_reaching.specs.View.{View, Setup, At, Part, without, Holds, UnderWay, Among, Comes}
 use Rattle.tb_reaching.proofs.Laws.{interrupt_sends_nothing, goes_append, lawful_after, then_arrived, then_on_the_way}
 use Rattle.tb_reaching.proofs.Act.{kept_by_interrupt}
 
 -- ---- bytes but those at some places
-abbrev pub without : (ℕ → Bool) → Part → Part
-without barred code a = if barred a then None else code a
-
 -- what is left of a part where places are barred
 pub without_holds : (barred : ℕ → Bool) (p : Part) → Holds (without barred p) p
 without_holds barred p a b e = go (barred a) e
@@ -52,7 +49,7 @@ pub begins : (f : Setup) (v : View) (q : View → Type 0) (t : List ℕ) (n : �
 begins f v q t n c s at = ⊎_elim (λ a. absurd (let none : ⊥ = omega (arith, a.some, ap goes a.split, goes_append a.before a.after) in none)) (λ a. a.kept) (c.reaches.leads s at [] refl)
 
 module _ (f : Setup) (v : View) (q : View → Type 0) (t : List ℕ) (n : ℕ) where
-  open_up : (w : View) (s : State) → At f w s → At (opened f) w s
+  pub open_up : (w : View) (s : State) → At f w s → At (opened f) w s
   open_up w s at =
       let st = at.stays in
       record { regs = at.regs; depth = at.depth; stack = at.stack; bytes = at.bytes; text = at.text; answers = at.answers; stays = record { whole = st.whole; inner = λ a b e. e; right = st.right; home = st.home; home_s = st.home_s; far = st.far; apart = st.apart } }

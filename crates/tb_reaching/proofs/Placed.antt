@@ -1,6 +1,7 @@
 -- Instructions at places that are not known as numbers, and data at places that are known by a proof.
 use Rattle.std.proofs.Common.{◌≡◌, ℕ, ◌+◌, ◌*◌, ◌/◌, ◌%◌, Bool, true, false, ◌&&◌, List, [], ◌∷◌, length, refl, sym, ap, ◌∙◌, subst, arith, leb, Option, Some, None}
 use Rattle.std.specs.Prelude.{Result, Ok, Err, if◌then◌else◌, ◌==◌}
+use Rattle.std.proofs.lemmas.Bool.{leb-true}
 use Rattle.tb_memmap.specs.Bytes.{with_byte}
 use Rattle.tb_opcodes.specs.Opcodes.{find_row, rows}
 use Rattle.tb_opcodes.specs.declared.Mnemonic.{Mnemonic}
@@ -17,8 +18,8 @@ use Rattle.tb_reaching.proofs.Acting.{read_view, from_part, finish_view, act_ope
 use Rattle.tb_reaching.proofs.Instr.{Instr, ins, operand_bytes, instr_bytes, bytes_by, Stands, operand_by, reader_by, act_instr_row, act_instr, run_along, Follows}
 use Rattle.tb_reaching.proofs.Readers.{then_more, more_word, more_executed, moved}
 use Rattle.tb_reaching.proofs.Memory.{data_fixed, fixed_open}
-use Rattle.tb_reaching.proofs.Act.{none≢some, read_code, read_more, Left, mode_left}
-use Rattle.tb_reaching.proofs.Comes.{by_hand, looser}
+use Rattle.tb_reaching.proofs.Act.{none≢some, read_code, read_more, Left, mode_left, goes_by}
+use Rattle.tb_reaching.proofs.Comes.{by_hand, comes_at, looser}
 
 ok_eq : (a b : ℕ) → ◌≡◌ {A = Result ℕ Wrong} (Ok a) (Ok b) → a ≡ b
 ok_eq a b h = cc
@@ -90,6 +91,12 @@ module _ (f : Setup) (room : ℕ) (fits : Fits f room) where
   placing i v w q t m small st h next =
       let p = placed i v w (find_row rows i.opcode) st (i.opcode == 0) refl h in
       by_hand f room fits v w i.opcode q t m small p.here p.some p.comes next
+
+  -- one instruction at any place, as the last piece
+  pub placed_last : (i : Instr) (v w : View) (q : View → Type 0) → leb (length v.stack) room ≡ true → Bytes f.code v.regs.pc (instr_bytes i) → act_instr f.code room i v ≡ Some w → q w → Comes f v q [] 1
+  placed_last i v w q small st h x =
+      let p = placed i v w (find_row rows i.opcode) st (i.opcode == 0) refl h in
+      comes_at f v w q room i.opcode fits (leb-true _ _ small) p.here (λ s at k. goes_by f room fits v s at i.opcode p.here p.some w (p.comes s at) k) x
 
   -- straight on from any address, and then
   pub along : (is : List Instr) (at : ℕ) (v w : View) (q : View → Type 0) (t : List ℕ) (m : ℕ) → Stands f.code at is → Follows f.code room is at (Some v) → run_along f.code room is v ≡ Some w → Comes f w q t m → Comes f v q t (length is + m)

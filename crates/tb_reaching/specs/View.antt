@@ -46,6 +46,10 @@ abbrev pub Bytes : Part → ℕ → List ℕ → Type 0
 Bytes code at [] = Unit {0}
 Bytes code at (b ∷ bs) = (code at ≡ Some b) × Bytes code ((at + 1) % 65536) bs
 
+-- a part but for its bytes at some places
+abbrev pub without : (ℕ → Bool) → Part → Part
+without barred code a = if barred a then None else code a
+
 -- all bytes of one are among the other's
 abbrev pub Holds : Part → Part → Type 0
 Holds part code = (a b : ℕ) → part a ≡ Some b → code a ≡ Some b

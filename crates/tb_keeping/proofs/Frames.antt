@@ -1,0 +1,271 @@
+-- What stays of the meaning's state when bytes are written.
+use Rattle.std.proofs.Common.{◌≡◌, ◌≢◌, ℕ, suc, ◌+◌, ◌/◌, ◌%◌, ◌≤◌, ◌<◌, Bool, true, false, List, [], ◌∷◌, length, refl, sym, ap, ◌∙◌, subst, arith, eqb, if◌then◌else◌, ⊎_elim, get_or-set_same, get_or-set_other, length-set}
+use Rattle.std.proofs.lemmas.List.{length-map}
+use Rattle.std.proofs.lemmas.Bool.{cases_eq}
+use Rattle.std.specs.Prelude.{slice_index, slice_set}
+use Rattle.tb_cpu.specs.Effects.{bit}
+use Rattle.tb_keeping.proofs.Mirrors.{Holds, notes_of}
+use Rattle.tb_keeping.proofs.Pieces.{put_word}
+use Rattle.tb_keeping.specs.Layout.{Layout, place_at}
+use Rattle.tb_keeping.specs.Routines.{Noted, SeedAt, WordAt, first, is_owned, stored}
+use Rattle.tb_lower.specs.Control.{Place, State, column_after}
+use Rattle.tb_lower.specs.Meaning as meaning
+use Rattle.tb_lower.specs.Slots.{Slots, with_word}
+use Rattle.tb_memmap.specs.Bytes.{with_byte}
+use Rattle.tb_reaching.proofs.Memory.{put_other, put_same}
+use Rattle.tb_runtime16.specs.Places.{COLUMN, HELD, LINE, NOTES, OPEN, SEED, SEEDED}
+use Rattle.tb_templates.specs.Templates.{slot_at, var_at}
+use Rattle.tb_words.specs.Words.{word}
+use Rattle.std.proofs.lemmas.Bool.Decides.{nat_tests}
+
+-- ---- words
+pub word_kept : (m m' : ℕ → ℕ) (a w : ℕ) → m' a ≡ m a → m' (a + 1) ≡ m (a + 1) → WordAt m a w → WordAt m' a w
+word_kept m m' a w e e' h = record { low = e ∙ h.low; high = e' ∙ h.high; small = h.small }
+
+pub put_away : (m : ℕ → ℕ) (at lo hi a : ℕ) → a ≢ at → a ≢ at + 1 → put_word m at lo hi a ≡ m a
+put_away m at lo hi a n n' = put_other (with_byte m at lo) (at + 1) hi a n' ∙ put_other m at lo a n
+
+pub put_low : (m : ℕ → ℕ) (at lo hi : ℕ) → put_word m at lo hi at ≡ lo
+put_low m at lo hi = put_other (with_byte m at lo) (at + 1) hi at (λ e. omega (arith, e)) ∙ put_same m at lo at refl
+
+pub put_high : (m : ℕ → ℕ) (at lo hi : ℕ) → put_word m at lo hi (at + 1) ≡ hi
+put_high m at lo hi = put_same (with_byte m at lo) (at + 1) hi (at + 1) refl
+
+pub word_put : (m : ℕ → ℕ) (at lo hi w : ℕ) → lo ≡ w % 256 → hi ≡ w / 256 → w < 65536 → WordAt (put_word m at lo hi) at w
+word_put m at lo hi w e e' h = record { low = put_low m at lo hi ∙ e; high = put_high m at lo hi ∙ e'; small = h }
+
+pub word_away : (m : ℕ → ℕ) (at lo hi a w : ℕ) → a ≢ at → a ≢ at + 1 → a + 1 ≢ at → WordAt m a w → WordAt (put_word m at lo hi) a w
+word_away m at lo hi a w n n' n'' h = word_kept m (put_word m at lo hi) a w (put_away m at lo hi a n n') (put_away m at lo hi (a + 1) n'' (λ e. n (omega (arith, e)))) h
+
+-- ---- owned places
+pub owned_low : (a : ℕ) → 0xC000 ≤ a → a ≤ 0xC061 → is_owned a ≡ true
+owned_low a lo hi = grind (arith, nat_tests)
+
+pub owned_note : (a : ℕ) → 0xC100 ≤ a → a ≤ 0xC4E7 → is_owned a ≡ true
+owned_note a lo hi = grind (arith, nat_tests)
+
+-- ---- parts of the state
+-- two memories agree on the single bytes but for the line's number
+abbrev pub SameSingles : (ℕ → ℕ) → (ℕ → ℕ) → Type 0
+SameSingles m m' = (a : ℕ) → 0xC035 ≤ a → a ≤ 0xC03F → a ≢ LINE → a ≢ LINE + 1 → m' a ≡ m a
+
+-- two memories agree from a place to another
+abbrev pub Same : (ℕ → ℕ) → (ℕ → ℕ) → ℕ → ℕ → Type 0
+Same m m' lo hi = (a : ℕ) → lo ≤ a → a ≤ hi → m' a ≡ m a
+
+pub noted_kept : (m m' : ℕ → ℕ) (ns : List ℕ) → length ns ≤ 500 → Same m m' 0xC100 0xC4E7 → Noted m ns → Noted m' ns
+noted_kept m m' [] few s h = tt
+noted_kept m m' (n ∷ ns) few s h = (
+  word_kept m m' _ _ (s _ (omega arith) (omega (arith, few))) (s _ (omega arith) (omega (arith, few))) h.0,
+  noted_kept m m' ns (omega (arith, few)) s h.1,
+)
+
+pub notes_kept : (ly : Layout) (m m' : ℕ → ℕ) (ps : List Place) → length ps ≤ 500 → Same m m' 0xC100 0xC4E7 → Noted m (notes_of ly ps) → Noted m' (notes_of ly ps)
+notes_kept ly m m' ps few s h = noted_kept m m' (notes_of ly ps) (omega (arith, few, length-map ps (place_at ly))) s h
+
+module _ (ly : Layout) (s : State) (slots : Slots) (m m' : ℕ → ℕ) (h : Holds ly s slots m) where
+  pub vars_kept : Same m m' 0xC000 0xC033 → (x : ℕ) → x < 26 → WordAt m' (var_at x) (slice_index s.vars x)
+  vars_kept e x lt = word_kept m m' (var_at x) _ (e _ (omega arith) (omega (arith, lt))) (e _ (omega arith) (omega (arith, lt))) (h.vars x lt)
+
+  pub words_kept : Same m m' 0xC040 0xC05F → (k : ℕ) → k < 16 → WordAt m' (slot_at k) (slice_index slots.words k)
+  words_kept e k lt = word_kept m m' (slot_at k) _ (e _ (omega arith) (omega (arith, lt))) (e _ (omega arith) (omega (arith, lt))) (h.words k lt)
+
+  pub seed_kept : SameSingles m m' → SeedAt m' ly.seed s.seed
+  seed_kept e = go h.seeded
+    where
+      go : SeedAt m ly.seed s.seed → SeedAt m' ly.seed s.seed
+      go (stored k w) = stored (e SEEDED (omega arith) (omega arith) (λ q. omega (arith, q)) (λ q. omega (arith, q)) ∙ k) (word_kept m m' SEED _ (e SEED (omega arith) (omega arith) (λ q. omega (arith, q)) (λ q. omega (arith, q))) (e (SEED + 1) (omega arith) (omega arith) (λ q. omega (arith, q)) (λ q. omega (arith, q))) w)
+      go (first k q r old w) = first (e SEEDED (omega arith) (omega arith) (λ q. omega (arith, q)) (λ q. omega (arith, q)) ∙ k) q r old (word_kept m m' SEED _ (e SEED (omega arith) (omega arith) (λ q. omega (arith, q)) (λ q. omega (arith, q))) (e (SEED + 1) (omega arith) (omega arith) (λ q. omega (arith, q)) (λ q. omega (arith, q))) w)
+
+  -- new variables, column, slots and held word; the rest stands
+  pub holds_with : (vs : List ℕ) (c : ℕ) (slots' : Slots) → length vs ≡ 26 → length slots'.words ≡ 16 → ((x : ℕ) → x < 26 → WordAt m' (var_at x) (slice_index vs x)) → ((k : ℕ) → k < 16 → WordAt m' (slot_at k) (slice_index slots'.words k)) → WordAt m' HELD slots'.held → m' COLUMN ≡ c % 256 → SameSingles m m' → Same m m' 0xC100 0xC4E7 → Holds ly (record s { vars = vs; column = c }) slots' m'
+  holds_with vs c slots' lv lw v w d co e e' = record {
+    vars = v;
+    words = w;
+    held = d;
+    column = co;
+    opened = e OPEN (omega arith) (omega arith) (λ q. omega (arith, q)) (λ q. omega (arith, q)) ∙ h.opened;
+    seeded = seed_kept e;
+    count = word_kept m m' NOTES _ (e NOTES (omega arith) (omega arith) (λ q. omega (arith, q)) (λ q. omega (arith, q))) (e (NOTES + 1) (omega arith) (omega arith) (λ q. omega (arith, q)) (λ q. omega (arith, q))) h.count;
+    notes = notes_kept ly m m' s.returns h.few e' h.notes;
+    few = h.few;
+    all_vars = lv;
+    all_words = lw;
+  }
+
+-- scratch was written
+pub scratch_written : (ly : Layout) (s : State) (slots : Slots) (m m' : ℕ → ℕ) → ((a : ℕ) → is_owned a ≡ true → m' a ≡ m a) → Holds ly s slots m → Holds ly s slots m'
+scratch_written ly s slots m m' e h =
+    let low : Same m m' 0xC000 0xC061 = λ a lo hi. e a (owned_low a lo hi) in
+    holds_with ly s slots m m' h s.vars s.column slots h.all_vars h.all_words
+    (vars_kept ly s slots m m' h (λ a lo hi. low a lo (omega (arith, hi))))
+    (words_kept ly s slots m m' h (λ a lo hi. low a (omega (arith, lo)) (omega (arith, hi))))
+    (word_kept m m' HELD _ (low _ (omega arith) (omega arith)) (low _ (omega arith) (omega arith)) h.held)
+    (low COLUMN (omega arith) (omega arith) ∙ h.column)
+    (λ a lo hi n n'. low a (omega (arith, lo)) (omega (arith, hi)))
+    (λ a lo hi. e a (owned_note a lo hi))
+
+-- a word at a place between the parts
+module _ (ly : Layout) (s : State) (slots : Slots) (m : ℕ → ℕ) (h : Holds ly s slots m) where
+  pub slot_written : (k lo hi w : ℕ) → k < 16 → lo ≡ w % 256 → hi ≡ w / 256 → w < 65536 → Holds ly s (with_word slots k w) (put_word m (slot_at k) lo hi)
+  slot_written k lo hi w lt el eh small =
+      let m' = put_word m (slot_at k) lo hi in
+      let away : (a : ℕ) → a ≢ slot_at k → a ≢ slot_at k + 1 → m' a ≡ m a = λ a n n'. put_away m (slot_at k) lo hi a n n' in
+      holds_with ly s slots m m' h s.vars s.column (with_word slots k w) h.all_vars (length-set slots.words k w ∙ h.all_words)
+      (vars_kept ly s slots m m' h (λ a lo hi. away a (λ e. omega (arith, e, hi)) (λ e. omega (arith, e, hi))))
+      (λ j small'. ⊎_elim
+      (λ e. subst (λ j. WordAt m' (slot_at j) (slice_index (slice_set slots.words k w) j)) (sym e) (subst (λ x. WordAt m' (slot_at k) x) (sym (get_or-set_same slots.words k w 0 (omega (arith, h.all_words)))) (word_put m (slot_at k) lo hi w el eh small)))
+      (λ n. subst (λ x. WordAt m' (slot_at j) x) (sym (get_or-set_other slots.words k j w 0 n)) (word_away m (slot_at k) lo hi (slot_at j) _ (λ e. n (omega (arith, e))) (λ e. omega (arith, e)) (λ e. omega (arith, e)) (h.words j small')))
+      (cases_eq j k))
+      (word_away m (slot_at k) lo hi HELD _ (λ e. omega (arith, e, lt)) (λ e. omega (arith, e, lt)) (λ e. omega (arith, e, lt)) h.held)
+      (away COLUMN (λ e. omega (arith, e)) (λ e. omega (arith, e)) ∙ h.column)
+      (λ a lo hi n n'. away a (λ e. omega (arith, e, hi)) (λ e. omega (arith, e, hi)))
+      (λ a lo hi. away a (λ e. omega (arith, e, lo, lt)) (λ e. omega (arith, e, lo, lt)))
+
+  pub var_written : (x lo hi w : ℕ) → x < 26 → lo ≡ w % 256 → hi ≡ w / 256 → w < 65536 → Holds ly (meaning.stored x w s) slots (put_word m (var_at x) lo hi)
+  var_written x lo hi w lt el eh small =
+      let m' = put_word m (var_at x) lo hi in
+      let away : (a : ℕ) → a ≢ var_at x → a ≢ var_at x + 1 → m' a ≡ m a = λ a n n'. put_away m (var_at x) lo hi a n n' in
+      holds_with ly s slots m m' h (slice_set s.vars x w) s.column slots (length-set s.vars x w ∙ h.all_vars) h.all_words
+      (λ j small'. ⊎_elim
+      (λ e. subst (λ j. WordAt m' (var_at j) (slice_index (slice_set s.vars x w) j)) (sym e) (subst (λ y. WordAt m' (var_at x) y) (sym (get_or-set_same s.vars x w 0 (omega (arith, h.all_vars)))) (word_put m (var_at x) lo hi w el eh small)))
+      (λ n. subst (λ y. WordAt m' (var_at j) y) (sym (get_or-set_other s.vars x j w 0 n)) (word_away m (var_at x) lo hi (var_at j) _ (λ e. n (omega (arith, e))) (λ e. omega (arith, e)) (λ e. omega (arith, e)) (h.vars j small')))
+      (cases_eq j x))
+      (words_kept ly s slots m m' h (λ a lo hi. away a (λ e. omega (arith, e, lo, lt)) (λ e. omega (arith, e, lo, lt))))
+      (word_away m (var_at x) lo hi HELD _ (λ e. omega (arith, e, lt)) (λ e. omega (arith, e, lt)) (λ e. omega (arith, e, lt)) h.held)
+      (away COLUMN (λ e. omega (arith, e, lt)) (λ e. omega (arith, e, lt)) ∙ h.column)
+      (λ a lo hi n n'. away a (λ e. omega (arith, e, lo, lt)) (λ e. omega (arith, e, lo, lt)))
+      (λ a lo hi. away a (λ e. omega (arith, e, lo, lt)) (λ e. omega (arith, e, lo, lt)))
+
+  pub held_written : (lo hi w : ℕ) → lo ≡ w % 256 → hi ≡ w / 256 → w < 65536 → Holds ly s (record slots { held = w }) (put_word m HELD lo hi)
+  held_written lo hi w el eh small =
+      let m' = put_word m HELD lo hi in
+      let away : (a : ℕ) → a ≢ HELD → a ≢ HELD + 1 → m' a ≡ m a = λ a n n'. put_away m HELD lo hi a n n' in
+      holds_with ly s slots m m' h s.vars s.column (record slots { held = w }) h.all_vars h.all_words
+      (vars_kept ly s slots m m' h (λ a lo hi. away a (λ e. omega (arith, e, hi)) (λ e. omega (arith, e, hi))))
+      (words_kept ly s slots m m' h (λ a lo hi. away a (λ e. omega (arith, e, hi)) (λ e. omega (arith, e, hi))))
+      (word_put m HELD lo hi w el eh small)
+      (away COLUMN (λ e. omega (arith, e)) (λ e. omega (arith, e)) ∙ h.column)
+      (λ a lo hi n n'. away a (λ e. omega (arith, e, hi)) (λ e. omega (arith, e, hi)))
+      (λ a lo hi. away a (λ e. omega (arith, e, lo)) (λ e. omega (arith, e, lo)))
+
+  -- the line's number is written
+  pub line_written : (lo hi : ℕ) → Holds ly s slots (put_word m LINE lo hi)
+  line_written lo hi =
+      let m' = put_word m LINE lo hi in
+      let away : (a : ℕ) → a ≢ LINE → a ≢ LINE + 1 → m' a ≡ m a = λ a n n'. put_away m LINE lo hi a n n' in
+      holds_with ly s slots m m' h s.vars s.column slots h.all_vars h.all_words
+      (vars_kept ly s slots m m' h (λ a lo hi. away a (λ e. omega (arith, e, hi)) (λ e. omega (arith, e, hi))))
+      (words_kept ly s slots m m' h (λ a lo hi. away a (λ e. omega (arith, e, lo)) (λ e. omega (arith, e, lo))))
+      (word_away m LINE lo hi HELD _ (λ e. omega (arith, e)) (λ e. omega (arith, e)) (λ e. omega (arith, e)) h.held)
+      (away COLUMN (λ e. omega (arith, e)) (λ e. omega (arith, e)) ∙ h.column)
+      (λ a lo hi n n'. away a n n')
+      (λ a lo hi. away a (λ e. omega (arith, e, lo)) (λ e. omega (arith, e, lo)))
+
+-- bytes are sent: the column follows
+pub column_mod : (c : ℕ) (t : List ℕ) → column_after (c % 256) t % 256 ≡ column_after c t % 256
+column_mod c [] = omega arith
+column_mod c (b ∷ bs) = go (λ k. column_mod k bs) (eqb b 13)
+  where
+    go : ((k : ℕ) → column_after (k % 256) bs % 256 ≡ column_after k bs % 256) → (z : Bool) → column_after (if z then 0 else c % 256 + 1) bs % 256 ≡ column_after (if z then 0 else c + 1) bs % 256
+    go r true = refl
+    go r false = sym (r (c % 256 + 1)) ∙ ap (λ x. column_after x bs % 256) (let e : (c % 256 + 1) % 256 ≡ (c + 1) % 256 = omega arith in e) ∙ r (c + 1)
+
+pub told : (ly : Layout) (s : State) (slots : Slots) (m m' : ℕ → ℕ) (t : List ℕ) → m' COLUMN ≡ column_after (m COLUMN) t % 256 → ((a : ℕ) → is_owned a ≡ true → a ≢ COLUMN → m' a ≡ m a) → Holds ly s slots m → Holds ly (record s { column = column_after s.column t }) slots m'
+told ly s slots m m' t co e h =
+    let low : (a : ℕ) → 0xC000 ≤ a → a ≤ 0xC061 → a ≢ COLUMN → m' a ≡ m a = λ a lo hi n. e a (owned_low a lo hi) n in
+    holds_with ly s slots m m' h s.vars (column_after s.column t) slots h.all_vars h.all_words
+    (vars_kept ly s slots m m' h (λ a lo hi. low a lo (omega (arith, hi)) (λ e. omega (arith, e, hi))))
+    (words_kept ly s slots m m' h (λ a lo hi. low a (omega (arith, lo)) (omega (arith, hi)) (λ e. omega (arith, e, lo))))
+    (word_kept m m' HELD _ (low HELD (omega arith) (omega arith) (λ e. omega (arith, e))) (low (HELD + 1) (omega arith) (omega arith) (λ e. omega (arith, e))) h.held)
+    (co ∙ ap (λ c. column_after c t % 256) h.column ∙ column_mod s.column t)
+    (λ a lo hi n n'. low a (omega (arith, lo)) (omega (arith, hi)) (λ e. omega (arith, e, lo)))
+    (λ a lo hi. e a (owned_note a lo hi) (λ e. omega (arith, e, lo)))
+
+-- the newest note is taken away
+pub popped : (ly : Layout) (s : State) (slots : Slots) (m m' : ℕ → ℕ) (p : Place) (ps : List Place) → s.returns ≡ p ∷ ps → WordAt m' NOTES (length ps) → ((a : ℕ) → is_owned a ≡ true → a ≢ NOTES → a ≢ NOTES + 1 → m' a ≡ m a) → Holds ly s slots m → Holds ly (record s { place = p; returns = ps }) slots m'
+popped ly s slots m m' p ps q count e h =
+    let low : (a : ℕ) → 0xC000 ≤ a → a ≤ 0xC061 → a ≢ NOTES → a ≢ NOTES + 1 → m' a ≡ m a = λ a lo hi n n'. e a (owned_low a lo hi) n n' in
+    let few : suc (length ps) ≤ 500 = subst (λ l. length l ≤ 500) q h.few in
+    let notes : Noted m (notes_of ly (p ∷ ps)) = subst (λ l. Noted m (notes_of ly l)) q h.notes in
+    record {
+      vars = vars_kept ly s slots m m' h (λ a lo hi. low a lo (omega (arith, hi)) (λ e. omega (arith, e, hi)) (λ e. omega (arith, e, hi)));
+      words = words_kept ly s slots m m' h (λ a lo hi. low a (omega (arith, lo)) (omega (arith, hi)) (λ e. omega (arith, e, lo)) (λ e. omega (arith, e, lo)));
+      held = word_kept m m' HELD _ (low HELD (omega arith) (omega arith) (λ e. omega (arith, e)) (λ e. omega (arith, e))) (low (HELD + 1) (omega arith) (omega arith) (λ e. omega (arith, e)) (λ e. omega (arith, e))) h.held;
+      column = low COLUMN (omega arith) (omega arith) (λ e. omega (arith, e)) (λ e. omega (arith, e)) ∙ h.column;
+      opened = low OPEN (omega arith) (omega arith) (λ e. omega (arith, e)) (λ e. omega (arith, e)) ∙ h.opened;
+      seeded = seed_over (low SEEDED (omega arith) (omega arith) (λ e. omega (arith, e)) (λ e. omega (arith, e))) (low SEED (omega arith) (omega arith) (λ e. omega (arith, e)) (λ e. omega (arith, e))) (low (SEED + 1) (omega arith) (omega arith) (λ e. omega (arith, e)) (λ e. omega (arith, e))) h.seeded;
+      count = count;
+      notes = notes_kept ly m m' ps (omega (arith, few)) (λ a lo hi. e a (owned_note a lo hi) (λ e. omega (arith, e, lo)) (λ e. omega (arith, e, lo))) notes.1;
+      few = omega (arith, few);
+      all_vars = h.all_vars;
+      all_words = h.all_words;
+    }
+  where
+    seed_over : m' SEEDED ≡ m SEEDED → m' SEED ≡ m SEED → m' (SEED + 1) ≡ m (SEED + 1) → SeedAt m ly.seed s.seed → SeedAt m' ly.seed s.seed
+    seed_over a b c (stored k w) = stored (a ∙ k) (word_kept m m' SEED _ b c w)
+    seed_over a b c (first k q r old w) = first (a ∙ k) q r old (word_kept m m' SEED _ b c w)
+
+-- ---- more than one part
+module _ (ly : Layout) (s : State) (slots : Slots) (m m' : ℕ → ℕ) (h : Holds ly s slots m) where
+  -- the RND state is stored
+  pub drawn : (seed : ℕ) → m' SEEDED ≡ 1 → WordAt m' SEED seed → ((a : ℕ) → is_owned a ≡ true → a ≢ SEEDED → a ≢ SEED → a ≢ SEED + 1 → m' a ≡ m a) → Holds ly (record s { seed = seed }) slots m'
+  drawn seed one word e =
+      let low : (a : ℕ) → 0xC000 ≤ a → a ≤ 0xC061 → a ≢ SEEDED → a ≢ SEED → a ≢ SEED + 1 → m' a ≡ m a = λ a lo hi. e a (owned_low a lo hi) in
+      record {
+        vars = vars_kept ly s slots m m' h (λ a lo hi. low a lo (omega (arith, hi)) (λ e. omega (arith, e, hi)) (λ e. omega (arith, e, hi)) (λ e. omega (arith, e, hi)));
+        words = words_kept ly s slots m m' h (λ a lo hi. low a (omega (arith, lo)) (omega (arith, hi)) (λ e. omega (arith, e, lo)) (λ e. omega (arith, e, lo)) (λ e. omega (arith, e, lo)));
+        held = word_kept m m' HELD _ (low HELD (omega arith) (omega arith) (λ e. omega (arith, e)) (λ e. omega (arith, e)) (λ e. omega (arith, e))) (low (HELD + 1) (omega arith) (omega arith) (λ e. omega (arith, e)) (λ e. omega (arith, e)) (λ e. omega (arith, e))) h.held;
+        column = low COLUMN (omega arith) (omega arith) (λ e. omega (arith, e)) (λ e. omega (arith, e)) (λ e. omega (arith, e)) ∙ h.column;
+        opened = low OPEN (omega arith) (omega arith) (λ e. omega (arith, e)) (λ e. omega (arith, e)) (λ e. omega (arith, e)) ∙ h.opened;
+        seeded = stored one word;
+        count = word_kept m m' NOTES _ (low NOTES (omega arith) (omega arith) (λ e. omega (arith, e)) (λ e. omega (arith, e)) (λ e. omega (arith, e))) (low (NOTES + 1) (omega arith) (omega arith) (λ e. omega (arith, e)) (λ e. omega (arith, e)) (λ e. omega (arith, e))) h.count;
+        notes = notes_kept ly m m' s.returns h.few (λ a lo hi. e a (owned_note a lo hi) (λ e. omega (arith, e, lo)) (λ e. omega (arith, e, lo)) (λ e. omega (arith, e, lo))) h.notes;
+        few = h.few;
+        all_vars = h.all_vars;
+        all_words = h.all_words;
+      }
+
+  -- INPUT has read a number
+  pub asked : (stays : Bool) (c : ℕ) (text : List ℕ) → m' OPEN ≡ bit stays → m' COLUMN ≡ c % 256 → ((a : ℕ) → is_owned a ≡ true → a ≢ OPEN → a ≢ COLUMN → m' a ≡ m a) → Holds ly (record s { open_line = stays; column = c; text = text }) slots m'
+  asked stays c text op co e =
+      let low : (a : ℕ) → 0xC000 ≤ a → a ≤ 0xC061 → a ≢ OPEN → a ≢ COLUMN → m' a ≡ m a = λ a lo hi. e a (owned_low a lo hi) in
+      record {
+        vars = vars_kept ly s slots m m' h (λ a lo hi. low a lo (omega (arith, hi)) (λ e. omega (arith, e, hi)) (λ e. omega (arith, e, hi)));
+        words = words_kept ly s slots m m' h (λ a lo hi. low a (omega (arith, lo)) (omega (arith, hi)) (λ e. omega (arith, e, lo)) (λ e. omega (arith, e, lo)));
+        held = word_kept m m' HELD _ (low HELD (omega arith) (omega arith) (λ e. omega (arith, e)) (λ e. omega (arith, e))) (low (HELD + 1) (omega arith) (omega arith) (λ e. omega (arith, e)) (λ e. omega (arith, e))) h.held;
+        column = co;
+        opened = op;
+        seeded = seed_over (low SEEDED (omega arith) (omega arith) (λ e. omega (arith, e)) (λ e. omega (arith, e))) (low SEED (omega arith) (omega arith) (λ e. omega (arith, e)) (λ e. omega (arith, e))) (low (SEED + 1) (omega arith) (omega arith) (λ e. omega (arith, e)) (λ e. omega (arith, e))) h.seeded;
+        count = word_kept m m' NOTES _ (low NOTES (omega arith) (omega arith) (λ e. omega (arith, e)) (λ e. omega (arith, e))) (low (NOTES + 1) (omega arith) (omega arith) (λ e. omega (arith, e)) (λ e. omega (arith, e))) h.count;
+        notes = notes_kept ly m m' s.returns h.few (λ a lo hi. e a (owned_note a lo hi) (λ e. omega (arith, e, lo)) (λ e. omega (arith, e, lo))) h.notes;
+        few = h.few;
+        all_vars = h.all_vars;
+        all_words = h.all_words;
+      }
+    where
+      seed_over : m' SEEDED ≡ m SEEDED → m' SEED ≡ m SEED → m' (SEED + 1) ≡ m (SEED + 1) → SeedAt m ly.seed s.seed → SeedAt m' ly.seed s.seed
+      seed_over a b c (stored k w) = stored (a ∙ k) (word_kept m m' SEED _ b c w)
+      seed_over a b c (first k q r old w) = first (a ∙ k) q r old (word_kept m m' SEED _ b c w)
+
+  -- a note more
+  pub pushed : (to p : Place) → length s.returns < 500 → WordAt m' NOTES (suc (length s.returns)) → Noted m' (notes_of ly (p ∷ s.returns)) → ((a : ℕ) → 0xC000 ≤ a → a ≤ 0xC061 → a ≢ NOTES → a ≢ NOTES + 1 → m' a ≡ m a) → Holds ly (record s { place = to; returns = p ∷ s.returns }) slots m'
+  pushed to p few count note e =
+      let low = e in
+      record {
+        vars = vars_kept ly s slots m m' h (λ a lo hi. low a lo (omega (arith, hi)) (λ e. omega (arith, e, hi)) (λ e. omega (arith, e, hi)));
+        words = words_kept ly s slots m m' h (λ a lo hi. low a (omega (arith, lo)) (omega (arith, hi)) (λ e. omega (arith, e, lo)) (λ e. omega (arith, e, lo)));
+        held = word_kept m m' HELD _ (low HELD (omega arith) (omega arith) (λ e. omega (arith, e)) (λ e. omega (arith, e))) (low (HELD + 1) (omega arith) (omega arith) (λ e. omega (arith, e)) (λ e. omega (arith, e))) h.held;
+        column = low COLUMN (omega arith) (omega arith) (λ e. omega (arith, e)) (λ e. omega (arith, e)) ∙ h.column;
+        opened = low OPEN (omega arith) (omega arith) (λ e. omega (arith, e)) (λ e. omega (arith, e)) ∙ h.opened;
+        seeded = seed_over (low SEEDED (omega arith) (omega arith) (λ e. omega (arith, e)) (λ e. omega (arith, e))) (low SEED (omega arith) (omega arith) (λ e. omega (arith, e)) (λ e. omega (arith, e))) (low (SEED + 1) (omega arith) (omega arith) (λ e. omega (arith, e)) (λ e. omega (arith, e))) h.seeded;
+        count = count;
+        notes = note;
+        few = few;
+        all_vars = h.all_vars;
+        all_words = h.all_words;
+      }
+    where
+      seed_over : m' SEEDED ≡ m SEEDED → m' SEED ≡ m SEED → m' (SEED + 1) ≡ m (SEED + 1) → SeedAt m ly.seed s.seed → SeedAt m' ly.seed s.seed
+      seed_over a b c (stored k w) = stored (a ∙ k) (word_kept m m' SEED _ b c w)
+      seed_over a b c (first k q r old w) = first (a ∙ k) q r old (word_kept m m' SEED _ b c w)

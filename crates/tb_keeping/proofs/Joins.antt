@@ -1,0 +1,162 @@
+-- From laws of views to the run of a program.
+use Rattle.std.proofs.Common.{◌≡◌, ◌⊎◌, ℕ, ◌+◌, ◌≤◌, ◌<◌, Bool, true, false, List, [], ◌∷◌, ◌++◌, length, refl, sym, ap, ◌∙◌, subst, inl, inr, ⊎_elim, append_assoc, arith}
+use Rattle.std.proofs.lemmas.Bool.{and_parts}
+use Rattle.tb_kernal.specs.declared.events.Event.{Event}
+use Rattle.tb_kernal.specs.declared.events.Event.TheVariants.{Go, Interrupt}
+use Rattle.tb_kernal.specs.declared.status.Status.TheVariants.{Running}
+use Rattle.tb_kernal.specs.Machine as machine
+use Rattle.tb_kernal.specs.Machine.{status, happens, is_lawful}
+use Rattle.tb_kernal.specs.Runs.{run, all_lawful, goes}
+use Rattle.tb_reaching.specs.Reaching.{Arrived, OnTheWay}
+use Rattle.tb_reaching.specs.View.{View, Setup, At, Among, UnderWay, Comes}
+use Rattle.tb_reaching.specs.Start.{IsHome, IsWaiting}
+use Rattle.tb_reaching.proofs.Barred.{Enters}
+use Rattle.tb_reaching.proofs.Laws.{goes_append}
+use Rattle.tb_reaching.proofs.Services.{waits_on}
+use Rattle.tb_reaching.proofs.Grows.{sends_on}
+use Rattle.tb_reaching.proofs.Ends.{home_rests, home_returned, waiting_waits}
+use Rattle.tb_reaching.proofs.Barred.{quiet, begins, enters, open_up}
+use Rattle.tb_lower.specs.Steps.{End, Ended, Faulted, Step, Goes, Stops}
+use Rattle.tb_lower.specs.Steps as steps
+use Rattle.tb_lower.specs.Follows.{IsPrefix}
+use Rattle.tb_lower.specs.Slots.{SlotCode, SlotState, Rest, Whole, Left, slot_step}
+use Rattle.tb_keeping.specs.Kept.{HasEnded}
+use Rattle.tb_keeping.specs.Layout.{Layout}
+use Rattle.tb_keeping.specs.Routines.{Waiting}
+use Rattle.tb_keeping.proofs.Inductions as keeps
+use Rattle.tb_keeping.proofs.Inductions.{still, there, on_way}
+use Rattle.tb_keeping.proofs.Mirrors.{Mirrors, Target}
+
+-- ---- the machine as one that runs by events
+abbrev pub move : Event → machine.State → machine.State
+move e s = happens s e
+
+abbrev pub IsLawful : Event → machine.State → Type 0
+IsLawful e s = is_lawful s e ≡ true
+
+abbrev pub is_go : Event → Bool
+is_go (Go k) = true
+is_go (Interrupt ws) = false
+
+abbrev pub sent : machine.State → List ℕ
+sent s = s.sent
+
+pub same_goes : (es : List Event) → keeps.goes machine.State Event move IsLawful is_go sent es ≡ goes es
+same_goes [] = refl
+same_goes (Go k ∷ es) = omega (arith, same_goes es)
+same_goes (Interrupt ws ∷ es) = omega (arith, same_goes es)
+
+pub same_after : (es : List Event) (s : machine.State) → keeps.after machine.State Event move IsLawful is_go sent es s ≡ run es s
+same_after [] s = refl
+same_after (e ∷ es) s = same_after es (happens s e)
+
+pub lawful_all : (es : List Event) (s : machine.State) → keeps.AllLawful machine.State Event move IsLawful is_go sent es s → all_lawful es s ≡ true
+lawful_all [] s h = refl
+lawful_all (e ∷ es) s h = rw h.0 (lawful_all es (happens s e) h.1)
+
+pub all_are_lawful : (es : List Event) (s : machine.State) → all_lawful es s ≡ true → keeps.AllLawful machine.State Event move IsLawful is_go sent es s
+all_are_lawful [] s h = tt
+all_are_lawful (e ∷ es) s h = let p = and_parts _ _ h in (p.0, all_are_lawful es (happens s e) p.1)
+
+pub sends : (e : Event) (s : machine.State) → IsLawful e s → IsPrefix (sent s) (sent (move e s))
+sends e s l = let p = sends_on e s in (p.rest, sym p.split)
+
+-- ---- a law, or one that begins a line
+abbrev pub LawAt : Rest → Setup → View → (View → Type 0) → List ℕ → ℕ → Type 0
+LawAt (Left n is) f v q t k = Comes f v q t k
+LawAt Whole f v q t k = Comes f v q t k ⊎ Enters f v q t k
+
+-- the machine runs within its part of the stack
+pub record Runs (f : Setup) (s : machine.State) : Type 0 where
+  pub runs : status s ≡ Running
+  pub not_below : f.low ≤ s.regs.s
+  pub not_above : s.regs.s + length f.rest ≤ 255
+
+pub under_way_runs : (f : Setup) (s : machine.State) → UnderWay f s → Runs f s
+under_way_runs f s k = record { runs = k.runs; not_below = k.not_below; not_above = k.not_above }
+
+module _ (f : Setup) (v : View) (q : View → Type 0) (t : List ℕ) (n : ℕ) where
+  law_runs : (r : Rest) → LawAt r f v q t n → (s : machine.State) → At f v s → Runs f s
+  law_runs (Left m is) c s at = under_way_runs f s (begins f v q t n c s at)
+  law_runs Whole (inl c) s at = under_way_runs f s (begins f v q t n c s at)
+  law_runs Whole (inr l) s at =
+      ⊎_elim (λ a. absurd (let no : ⊥ = omega (arith, a.some, ap goes a.split, goes_append a.before a.after) in no)) (λ a. let k = a.kept in record { runs = k.runs; not_below = k.not_below; not_above = k.not_above })
+      (l.one.reaches.leads s (open_up f v q t n v s at) [] refl)
+
+  law_leads : (r : Rest) → LawAt r f v q t n → (s : machine.State) → At f v s → (es : List Event) → all_lawful es s ≡ true → (goes es ≡ 0) ⊎ (Arrived (Among f q) t n s es ⊎ OnTheWay (UnderWay f) t n s es)
+  law_leads (Left m is) c s at es h = inr (c.reaches.leads s at es h)
+  law_leads Whole (inl c) s at es h = inr (c.reaches.leads s at es h)
+  law_leads Whole (inr l) s at es h = enters f v q t n l s at es h
+
+-- ---- at one start
+abbrev pub sent_in : Step SlotState → List ℕ
+sent_in (Goes c t) = t
+sent_in (Stops why t) = t
+
+module _ (ly : Layout) (f : Setup) (lo hi : ℕ) (above : f.home_s + length f.rest ≡ 255) where
+  abbrev pub IsEnd : End → machine.State → Type 0
+  IsEnd Ended s = Among f (IsHome f) s
+  IsEnd Faulted s = Among f (IsHome f) s
+  IsEnd steps.Waits s = Among f Waiting s
+
+  waits_so : (s : machine.State) → Among f Waiting s → Among f IsWaiting s
+  waits_so s h = (h.0, h.1, h.2.waits)
+
+  pub end_stays : (why : End) (e : Event) (s : machine.State) → IsLawful e s → IsEnd why s → IsEnd why (move e s) × (sent (move e s) ≡ sent s)
+  end_stays Ended e s l h = (home_rests f above).stays s h e l
+  end_stays Faulted e s l h = (home_rests f above).stays s h e l
+  end_stays steps.Waits e s l h = let a = waits_on f h.0 s h.1 h.2.waits.pc h.2.waits.text e l in ((h.0, a.0, h.2), a.1)
+
+  module _ (keyboard : ℕ) (code : SlotCode) (limit : ℕ) where
+    abbrev pub R : SlotState → machine.State → Type 0
+    R c s = (w : View) × At f w s × Mirrors ly f lo hi keyboard c w
+
+    abbrev pub Law : Type 0
+    Law = (c : SlotState) (w : View) → Mirrors ly f lo hi keyboard c w → LawAt c.rest f w (Target ly f lo hi keyboard (slot_step code c)) (sent_in (slot_step code c)) limit
+
+    abbrev pub Goal : Step SlotState → machine.State → Type 0
+    Goal = keeps.Goal machine.State Event move IsLawful is_go sent sends IsEnd end_stays SlotState (slot_step code) R (UnderWay f) limit
+
+    abbrev pub sent_of : Step SlotState → List ℕ
+    sent_of = keeps.sent_of machine.State Event move IsLawful is_go sent sends IsEnd end_stays SlotState (slot_step code) R (UnderWay f) limit
+
+    goal : (st : Step SlotState) (s : machine.State) → Among f (Target ly f lo hi keyboard st) s → Goal st s
+    goal (Goes c t) s h = h
+    goal (Stops Ended t) s h = h
+    goal (Stops Faulted t) s h = h
+    goal (Stops steps.Waits t) s h = h
+
+    same_sent : (st : Step SlotState) → sent_in st ≡ sent_of st
+    same_sent (Goes c t) = refl
+    same_sent (Stops why t) = refl
+
+    pub reaches : Law → (c : SlotState) → keeps.Reaches machine.State Event move IsLawful is_go sent (R c) (Goal (slot_step code c)) (UnderWay f) (sent_of (slot_step code c)) limit
+    reaches law c s h es l = ⊎_elim yet (⊎_elim arrived on) (law_leads f h.0 (Target ly f lo hi keyboard (slot_step code c)) (sent_in (slot_step code c)) limit c.rest (law c h.0 h.2) s h.1 es (lawful_all es s l))
+      where
+        yet : goes es ≡ 0 → keeps.Way machine.State Event move IsLawful is_go sent (R c) (Goal (slot_step code c)) (UnderWay f) (sent_of (slot_step code c)) limit s es
+        yet z =
+            let k = quiet f h.0 es s h.1 (lawful_all es s l) z in
+            still (same_goes es ∙ z) (subst (R c) (sym (same_after es s)) (h.0, k.0, h.2)) (ap (λ x. x.sent) (same_after es s) ∙ k.1)
+
+        arrived : Arrived (Among f (Target ly f lo hi keyboard (slot_step code c))) (sent_in (slot_step code c)) limit s es → keeps.Way machine.State Event move IsLawful is_go sent (R c) (Goal (slot_step code c)) (UnderWay f) (sent_of (slot_step code c)) limit s es
+        arrived a = there a.before a.after (sym a.split)
+            (subst (λ n. 1 ≤ n) (sym (same_goes a.before)) a.some)
+            (subst (λ n. n ≤ limit) (sym (same_goes a.before)) a.few)
+            (subst (Goal (slot_step code c)) (sym (same_after a.before s)) (goal (slot_step code c) (run a.before s) a.there))
+            (ap (λ x. x.sent) (same_after a.before s) ∙ a.sent ∙ ap (λ t. s.sent ++ t) (same_sent (slot_step code c)))
+
+        on : OnTheWay (UnderWay f) (sent_in (slot_step code c)) limit s es → keeps.Way machine.State Event move IsLawful is_go sent (R c) (Goal (slot_step code c)) (UnderWay f) (sent_of (slot_step code c)) limit s es
+        on a = on_way
+            (subst (λ n. n < limit) (sym (same_goes es)) a.few)
+            (subst (UnderWay f) (sym (same_after es s)) a.kept)
+            (a.to_come, ap (λ x. x.sent ++ a.to_come) (same_after es s) ∙ ap (λ l. l ++ a.to_come) a.sent ∙ append_assoc s.sent a.so_far a.to_come ∙ ap (λ t. s.sent ++ t) (sym a.whole ∙ same_sent (slot_step code c)))
+
+    -- where a law is, the machine runs
+    pub fine : Law → (c : SlotState) (s : machine.State) → R c s → Runs f s
+    fine law c s h = law_runs f h.0 (Target ly f lo hi keyboard (slot_step code c)) (sent_in (slot_step code c)) limit c.rest (law c h.0 h.2) s h.1
+
+    -- the status at an end
+    pub ended : (why : End) (s : machine.State) → IsEnd why s → HasEnded why s
+    ended Ended s h = home_returned f above s h
+    ended Faulted s h = home_returned f above s h
+    ended steps.Waits s h = waiting_waits f s (waits_so s h)

@@ -1,0 +1,237 @@
+-- Where the machine stands at a line's start, the program is at that line.
+use Rattle.std.proofs.Common.{◌≡◌, ℕ, ◌+◌, ◌*◌, ◌≤◌, ◌<◌, Bool, true, false, ◌||◌, nat_eq, slice_index, List, [], ◌∷◌, ◌++◌, length, refl, sym, ap, ◌∙◌, subst, ⊎_elim, arith, eqb, append-nil, append_assoc, Option, Some, None, if◌then◌else◌}
+use Rattle.std.proofs.lemmas.Bool.{ne_eqb, eq-eqb, eqb-true, cases_lt}
+use Rattle.tb_kernal.specs.declared.events.Event.{Event}
+use Rattle.tb_kernal.specs.declared.events.Event.TheVariants.{Go, Interrupt}
+use Rattle.tb_kernal.specs.declared.places.Service.{Service}
+use Rattle.tb_kernal.specs.declared.places.Service.TheVariants.{Chrout, Chrin, Getin}
+use Rattle.tb_kernal.specs.Places.{service_at}
+use Rattle.tb_kernal.specs.Machine as machine
+use Rattle.tb_kernal.specs.Machine.{happens}
+use Rattle.tb_reaching.specs.Reaching.{Arrived, OnTheWay}
+use Rattle.tb_reaching.specs.View.{Setup, Part, At, Among, UnderWay, is_data, is_program, part_at}
+use Rattle.tb_reaching.specs.Start.{view_of, home_low, home_high}
+use Rattle.tb_reaching.proofs.Act.{kept_by_interrupt, pc_here}
+use Rattle.tb_reaching.proofs.Barred.{begins}
+use Rattle.tb_syntax.specs.Source.{Program, numbers}
+use Rattle.tb_lower.specs.Steps.{End, Ended, Faulted, GoesOn}
+use Rattle.tb_lower.specs.Steps as steps
+use Rattle.tb_lower.specs.Control.{Place, Past, State, content_at}
+use Rattle.tb_lower.specs.Control as control
+use Rattle.tb_lower.specs.Meaning.{source_run}
+use Rattle.tb_lower.specs.Follows.{Follows, longest}
+use Rattle.tb_lower.specs.Slots.{Instr, SlotCode, SlotState, Rest, Whole, Left, slot_step}
+use Rattle.tb_runtime16.specs.Places.{NOTES}
+use Rattle.tb_templates.specs.Templates.{var_at}
+use Rattle.tb_keeping.specs.Kept.{Starts}
+use Rattle.tb_keeping.specs.Layout.{Layout, is_start, inner, place_at}
+use Rattle.tb_keeping.specs.Routines.{WordAt}
+use Rattle.tb_keeping.proofs.Inductions as keeps
+use Rattle.tb_keeping.proofs.Inductions.{on_way, there}
+use Rattle.tb_keeping.proofs.Starts as lines
+use Rattle.tb_keeping.proofs.Starts.{count, lines_at, found_line, before, between, behind}
+use Rattle.tb_keeping.proofs.Resolved.{LaidOut}
+use Rattle.tb_keeping.proofs.Mirrors.{Target, RestAt}
+use Rattle.tb_keeping.proofs.Pieces.{low_data, high_data}
+use Rattle.tb_keeping.proofs.Frames.{word_kept}
+use Rattle.tb_keeping.proofs.Joins.{move, IsLawful, is_go, sent, same_goes, same_after, lawful_all, sends, IsEnd, end_stays, R, LawAt, reaches, sent_in}
+use Rattle.tb_keeping.proofs.Headline.{setup, begins_so, above_so, Opened, OpeningLaw, InstrLaws}
+
+-- whether a state stands at a line's start
+abbrev pub starts : Layout → machine.State → ℕ
+starts ly s = count 1 (is_start ly.start ly.numbers s.regs.pc)
+
+not_above : (start : ℕ → ℕ) → ((n : ℕ) → start n < 0xA000) → (ns : List ℕ) (a : ℕ) → 0xA000 ≤ a → is_start start ns a ≡ false
+not_above start below [] a h = refl
+not_above start below (n ∷ ns) a h = ap (λ t. t || is_start start ns a) (ne_eqb a (start n) (λ e. omega (arith, e, below n, h))) ∙ not_above start below ns a h
+
+service_above : (a : ℕ) (q : Service) → service_at a ≡ Some q → 0xA000 ≤ a
+service_above a q some = ⊎_elim (λ lt. (let no : None ≡ Some q = sym (none lt) ∙ some in cc)) (λ le. le) (cases_lt a 0xA000)
+  where
+    none : a < 0xA000 → service_at a ≡ None
+    none lt =
+        ap (λ b. if b then Some Chrout else (if eqb a 0xFFCF then Some Chrin else (if eqb a 0xFFE4 then Some Getin else None))) (ne_eqb a 0xFFD2 (λ e. omega (arith, e, lt)))
+        ∙ ap (λ b. if b then Some Chrin else (if eqb a 0xFFE4 then Some Getin else None)) (ne_eqb a 0xFFCF (λ e. omega (arith, e, lt)))
+        ∙ ap (λ b. if b then Some Getin else None) (ne_eqb a 0xFFE4 (λ e. omega (arith, e, lt)))
+
+not_inner : (ly : Layout) (code : Part) (a b : ℕ) → inner ly code a ≡ Some b → is_start ly.start ly.numbers a ≡ false
+not_inner ly code a b e = go (is_start ly.start ly.numbers a) e
+  where
+    go : (t : Bool) → (if t then None else code a) ≡ Some b → t ≡ false
+    go true e = cc
+    go false e = refl
+
+-- a line of the code begins at its start
+found_start : (start : ℕ → ℕ) (sc : SlotCode) (n : ℕ) (is : List Instr) → content_at sc n ≡ Some is → is_start start (numbers sc) (start n) ≡ true
+found_start start [] n is e = cc
+found_start start (l ∷ ls) n is e = go (eqb l.number n) refl (found_start start ls n is) e
+  where
+    or_true : (b : Bool) → (b || true) ≡ true
+    or_true true = refl
+    or_true false = refl
+
+    go : (t : Bool) → eqb l.number n ≡ t → (content_at ls n ≡ Some is → is_start start (numbers ls) (start n) ≡ true) → (if t then Some l.content else content_at ls n) ≡ Some is → (nat_eq (start n) (start l.number) || is_start start (numbers ls) (start n)) ≡ true
+    go true q next e = ap (λ b. b || is_start start (numbers ls) (start n)) (eq-eqb (start n) (start l.number) (ap start (sym (eqb-true l.number n q))))
+    go false q next e = ap (λ b. nat_eq (start n) (start l.number) || b) (next e) ∙ or_true (nat_eq (start n) (start l.number))
+
+module _ (place : ℕ) (bytes : List ℕ) (from : 0x0800 ≤ place) (to : place + length bytes ≤ 0xa000) (ly : Layout) (program : Program) (sc : SlotCode) (follows : Follows program sc) (laid : LaidOut ly (inner ly (part_at place bytes)) (part_at place bytes) sc)
+    (below : (n : ℕ) → ly.start n < 0xA000) (apart : is_start ly.start ly.numbers ly.past ≡ false)
+    (limit : ℕ → ℕ) (positive : (k : ℕ) → 1 ≤ limit k) (n : ℕ) (prologue : OpeningLaw place bytes from to ly sc n) (laws : InstrLaws place bytes from to ly sc limit)
+    (s : machine.State) (h : Starts place bytes s) where
+  abbrev f : Setup
+  f = setup place bytes from to ly s
+
+  abbrev code : Part
+  code = part_at place bytes
+
+  abbrev seed : ℕ
+  seed = ly.seed
+
+  abbrev k : ℕ
+  k = length s.text
+
+  abbrev Ends : End → machine.State → Type 0
+  Ends = IsEnd ly f (home_low s) (home_high s) (above_so place bytes from to ly s h)
+
+  abbrev Mirrored : SlotState → machine.State → Type 0
+  Mirrored = R ly f (home_low s) (home_high s) (above_so place bytes from to ly s h) k sc (limit k)
+
+  none_high : (t : machine.State) → 0xA000 ≤ t.regs.pc → starts ly t ≡ 0
+  none_high t le = ap (count 1) (not_above ly.start below ly.numbers t.regs.pc le)
+
+  no_start : (t : machine.State) → UnderWay f t → starts ly t ≡ 0
+  no_start t fi = ⊎_elim (λ q. none_high t (service_above t.regs.pc q.0 q.1)) (λ c. ap (count 1) (not_inner ly code t.regs.pc c.0 c.1)) fi.on_code
+
+  no_start_at_end : (why : End) (t : machine.State) → Ends why t → starts ly t ≡ 0
+  no_start_at_end Ended t e = none_high t (omega (arith, pc_here f e.0 t e.1, e.2.pc, e.1.stays.far))
+  no_start_at_end Faulted t e = none_high t (omega (arith, pc_here f e.0 t e.1, e.2.pc, e.1.stays.far))
+  no_start_at_end steps.Waits t e = none_high t (omega (arith, pc_here f e.0 t e.1, e.2.waits.pc))
+
+  others_keep : (c : SlotState) (e : Event) (t : machine.State) → is_go e ≡ false → IsLawful e t → Mirrored c t → Mirrored c (move e t) × (sent (move e t) ≡ sent t)
+  others_keep c (Go k) t not_go l r = cc
+  others_keep c (Interrupt ws) t not_go l r = let a = kept_by_interrupt f r.0 t r.1 ws l in ((r.0, a.0, r.2), a.1)
+
+  entry : (c : SlotState) (t : machine.State) → Mirrored c t → starts ly t ≡ lines_at sc c.rest c.state.place
+  entry c t r = by c.rest c.state.place (laws s h c r.0 r.2) r.2.pc
+    where
+      at_number : (m : ℕ) (o : Option (List Instr)) → content_at sc m ≡ o → r.0.regs.pc ≡ ly.start m → starts ly t ≡ found_line o
+      at_number m (Some is) e p = ap (λ a. count 1 (is_start ly.start ly.numbers a)) (pc_here f r.0 t r.1 ∙ p) ∙ ap (λ ns. count 1 (is_start ly.start ns (ly.start m))) (sym laid.numbered) ∙ ap (count 1) (found_start ly.start sc m is e)
+      at_number m None e p = ap (λ a. count 1 (is_start ly.start ly.numbers a)) (pc_here f r.0 t r.1 ∙ p ∙ laid.absent m e) ∙ ap (count 1) apart
+
+      by : (q : Rest) (p : Place) → LawAt q f r.0 (Target ly f (home_low s) (home_high s) k (slot_step sc c)) (sent_in (slot_step sc c)) (limit k) → RestAt ly f.code r.0.regs.pc r.0.mem q p → starts ly t ≡ lines_at sc q p
+      by (Left m is) p law at = no_start t (begins f r.0 _ _ _ law t r.1)
+      by Whole Past law at = ap (λ a. count 1 (is_start ly.start ly.numbers a)) (pc_here f r.0 t r.1 ∙ at) ∙ ap (count 1) apart
+      by Whole (control.At m) law at = at_number m (content_at sc m) refl at
+
+  -- ---- the prologue
+  abbrev Entered : machine.State → Type 0
+  Entered t = Among f (Opened place bytes from to ly sc s) t
+
+  prologue_reaches : keeps.Reaches machine.State Event move IsLawful is_go sent (At f (view_of s)) Entered (UnderWay f) [] n
+  prologue_reaches x a es l = ⊎_elim arrived on ((prologue s h).reaches.leads x a es (lawful_all es x l))
+    where
+      arrived : Arrived Entered [] n x es → keeps.Way machine.State Event move IsLawful is_go sent (At f (view_of s)) Entered (UnderWay f) [] n x es
+      arrived a = there a.before a.after (sym a.split)
+          (subst (λ g. 1 ≤ g) (sym (same_goes a.before)) a.some)
+          (subst (λ g. g ≤ n) (sym (same_goes a.before)) a.few)
+          (subst Entered (sym (same_after a.before x)) a.there)
+          (ap (λ t. t.sent) (same_after a.before x) ∙ a.sent)
+
+      on : OnTheWay (UnderWay f) [] n x es → keeps.Way machine.State Event move IsLawful is_go sent (At f (view_of s)) Entered (UnderWay f) [] n x es
+      on a = on_way
+          (subst (λ g. g < n) (sym (same_goes es)) a.few)
+          (subst (UnderWay f) (sym (same_after es x)) a.kept)
+          (a.to_come, ap (λ t. t.sent ++ a.to_come) (same_after es x) ∙ ap (λ l. l ++ a.to_come) a.sent ∙ append_assoc x.sent a.so_far a.to_come ∙ ap (λ t. x.sent ++ t) (sym a.whole))
+
+  entry_keeps : (e : Event) (t : machine.State) → is_go e ≡ false → IsLawful e t → At f (view_of s) t → At f (view_of s) (move e t) × (sent (move e t) ≡ sent t)
+  entry_keeps (Go k) t not_go l a = cc
+  entry_keeps (Interrupt ws) t not_go l a = kept_by_interrupt f (view_of s) t a ws l
+
+  entry_none : (t : machine.State) → At f (view_of s) t → starts ly t ≡ 0
+  entry_none t a = no_start t (begins f (view_of s) _ _ _ (prologue s h) t a)
+
+  counted : (es : List Event) → keeps.AllLawful machine.State Event move IsLawful is_go sent es s → lines.Counted machine.State Event move IsLawful is_go sent (starts ly) (At f (view_of s)) Entered (UnderWay f) [] 0 n s es
+  counted es l = lines.counted machine.State Event move IsLawful is_go sent (starts ly) (At f (view_of s)) Entered (UnderWay f) [] 0 n prologue_reaches entry_keeps no_start entry_none es s (begins_so place bytes from to ly s h) l
+
+  -- ---- the lines
+  abbrev after_all : List Event → machine.State → machine.State
+  after_all es t = keeps.after machine.State Event move IsLawful is_go sent es t
+
+  abbrev pub met : List Event → ℕ
+  met es = lines.met machine.State Event move IsLawful is_go sent (starts ly) es s
+
+  -- at the start of a line, m having begun before: the program has done m lines and is at that one
+  pub record LineBegun (m : ℕ) (t : machine.State) : Type 0 where
+    pub state : State
+    pub number : ℕ
+    pub done : source_run program seed s.text s.answers m ≡ GoesOn state t.sent
+    pub at_place : state.place ≡ control.At number
+    pub pc : t.regs.pc ≡ ly.start number
+    pub vars : (x : ℕ) → x < 26 → WordAt t.mem (var_at x) (slice_index state.vars x)
+    pub notes : WordAt t.mem NOTES (length state.returns)
+
+  line_begun : (m : ℕ) (t : machine.State) → lines.AtLine machine.State Event move IsLawful is_go sent sends Ends (end_stays ly f (home_low s) (home_high s) (above_so place bytes from to ly s h)) program sc follows Mirrored (UnderWay f) (limit k) (positive k) (reaches ly f (home_low s) (home_high s) (above_so place bytes from to ly s h) k sc (limit k) (laws s h)) (starts ly) others_keep no_start no_start_at_end entry seed s.text s.answers m t → LineBegun m t
+  line_begun m t a =
+      let w = a.related.0 in
+      let at = a.related.1 in
+      let fixed : (p : ℕ) → is_data p ≡ true → t.mem p ≡ w.mem p = λ p d. at.bytes p (ap (λ b. b || is_program p) d) in
+      record {
+        state = a.state;
+        number = a.number;
+        done = a.done;
+        at_place = a.place;
+        pc = pc_here f w t at ∙ a.related.2.pc ∙ ap (place_at ly) a.place;
+        vars = λ x lt. word_kept w.mem t.mem (var_at x) (slice_index a.state.vars x) (fixed (var_at x) (low_data (var_at x) (omega arith, omega (arith, lt)))) (fixed (var_at x + 1) (high_data (var_at x) (omega arith, omega (arith, lt)))) (a.related.2.holds.vars x lt);
+        notes = word_kept w.mem t.mem NOTES (length a.state.returns) (fixed NOTES refl) (fixed (NOTES + 1) refl) a.related.2.holds.count;
+      }
+
+  pub at_line : (es : List Event) → keeps.AllLawful machine.State Event move IsLawful is_go sent es s → starts ly (after_all es s) ≡ 1 → LineBegun (met es) (after_all es s)
+  at_line es l one = by (counted es l)
+    where
+      by : lines.Counted machine.State Event move IsLawful is_go sent (starts ly) (At f (view_of s)) Entered (UnderWay f) [] 0 n s es → LineBegun (met es) (after_all es s)
+      by (before none a same v) = absurd (let no : ⊥ = omega (arith, one, entry_none (after_all es s) a) in no)
+      by (between w v few) = absurd (let no : ⊥ = omega (arith, one, no_start (after_all es s) w) in no)
+      by (behind front back eq some few b all v) =
+          let y = after_all front s in
+          let join : after_all back y ≡ after_all es s = sym (keeps.after_append machine.State Event move IsLawful is_go sent front back s) ∙ ap (λ l. after_all l s) eq in
+          let lb = keeps.lawful_back machine.State Event move IsLawful is_go sent front back s (subst (λ q. keeps.AllLawful machine.State Event move IsLawful is_go sent q s) (sym eq) l) in
+          let a = lines.at_line machine.State Event move IsLawful is_go sent sends Ends (end_stays ly f (home_low s) (home_high s) (above_so place bytes from to ly s h)) program sc follows Mirrored (UnderWay f) (limit k) (positive k) (reaches ly f (home_low s) (home_high s) (above_so place bytes from to ly s h) k sc (limit k) (laws s h)) (starts ly) others_keep no_start no_start_at_end entry seed s.text s.answers b.2.0 b.2.1 y (all ∙ append-nil s.sent ∙ h.start.nothing_sent) (b.0, b.1, b.2.2) back lb (ap (starts ly) join ∙ one) in
+          let sum : lines.met machine.State Event move IsLawful is_go sent (starts ly) back y ≡ met es = omega (arith, v, ap met (sym eq), lines.met_append machine.State Event move IsLawful is_go sent (starts ly) front back s) in
+          subst (λ m. LineBegun m (after_all es s)) sum (subst (λ t. LineBegun (lines.met machine.State Event move IsLawful is_go sent (starts ly) back y) t) join (line_begun (lines.met machine.State Event move IsLawful is_go sent (starts ly) back y) (after_all back y) a))
+
+  abbrev own : List Event → ℕ
+  own es = keeps.goes machine.State Event move IsLawful is_go sent es
+
+  -- an instruction of the program's own that begins a line, m having begun before, within a bound
+  pub record LineComes (m bound : ℕ) (es : List Event) : Type 0 where
+    pub front : List Event
+    pub event : Event
+    pub back : List Event
+    pub split : front ++ (event ∷ back) ≡ es
+    pub is_own : is_go event ≡ true
+    pub few : own front < bound
+    pub starts_here : starts ly (after_all front s) ≡ 1
+    pub begun : met front ≡ m
+
+  pub line_comes : (m : ℕ) (state : State) (out : List ℕ) (number : ℕ) (is : List Instr) → source_run program seed s.text s.answers m ≡ GoesOn state out → state.place ≡ control.At number → content_at sc number ≡ Some is → (es : List Event) → keeps.AllLawful machine.State Event move IsLawful is_go sent es s → n + (m * (longest sc + 1) * limit k + 1) ≤ own es → LineComes m (n + (m * (longest sc + 1) * limit k + 1)) es
+  line_comes m state out number is done here found es l le = by (counted es l)
+    where
+      by : lines.Counted machine.State Event move IsLawful is_go sent (starts ly) (At f (view_of s)) Entered (UnderWay f) [] 0 n s es → LineComes m (n + (m * (longest sc + 1) * limit k + 1)) es
+      by (before none a same v) = absurd (let no : ⊥ = omega (arith, none, le) in no)
+      by (between w v few) = absurd (let no : ⊥ = omega (arith, few, le) in no)
+      by (behind front back eq some few b all v) =
+          let y = after_all front s in
+          let lb = keeps.lawful_back machine.State Event move IsLawful is_go sent front back s (subst (λ q. keeps.AllLawful machine.State Event move IsLawful is_go sent q s) (sym eq) l) in
+          let g = keeps.goes_append machine.State Event move IsLawful is_go sent front back in
+          let a = lines.line_comes machine.State Event move IsLawful is_go sent sends Ends (end_stays ly f (home_low s) (home_high s) (above_so place bytes from to ly s h)) program sc follows Mirrored (UnderWay f) (limit k) (positive k) (reaches ly f (home_low s) (home_high s) (above_so place bytes from to ly s h) k sc (limit k) (laws s h)) (starts ly) others_keep no_start no_start_at_end entry seed s.text s.answers b.2.0 b.2.1 y (all ∙ append-nil s.sent ∙ h.start.nothing_sent) (b.0, b.1, b.2.2) m state out number is done here found back lb (omega (arith, le, few, g, ap own eq)) in
+          let join : after_all (front ++ a.front) s ≡ after_all a.front y = keeps.after_append machine.State Event move IsLawful is_go sent front a.front s in
+          record {
+            front = front ++ a.front;
+            event = a.event;
+            back = a.back;
+            split = append_assoc front a.front (a.event ∷ a.back) ∙ ap (λ q. front ++ q) a.split ∙ eq;
+            is_own = a.own;
+            few = omega (arith, few, a.few, keeps.goes_append machine.State Event move IsLawful is_go sent front a.front);
+            starts_here = ap (starts ly) join ∙ a.starts_here;
+            begun = omega (arith, v, a.begun, lines.met_append machine.State Event move IsLawful is_go sent (starts ly) front a.front s);
+          }

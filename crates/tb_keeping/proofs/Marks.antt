@@ -1,0 +1,90 @@
+-- The promise on line starts, from what was shown of one start.
+use Rattle.std.proofs.Common.{zero-add, ◌≡◌, ℕ, ◌+◌, ◌*◌, ◌≤◌, ◌<◌, Bool, true, false, List, [], ◌∷◌, ◌++◌, length, refl, sym, ap, ◌∙◌, subst, arith}
+use Rattle.std.specs.Prelude.{if◌then◌else◌}
+use Rattle.tb_asm.specs.declared.names.Name.{Name}
+use Rattle.tb_kernal.specs.declared.events.Event.{Event}
+use Rattle.tb_kernal.specs.declared.events.Event.TheVariants.{Go, Interrupt}
+use Rattle.tb_kernal.specs.Machine as machine
+use Rattle.tb_kernal.specs.Machine.{happens}
+use Rattle.tb_kernal.specs.Runs.{run, all_lawful, goes}
+use Rattle.tb_reaching.specs.View.{part_at}
+use Rattle.tb_syntax.specs.Source.{Program, numbers}
+use Rattle.tb_lower.specs.Steps.{GoesOn}
+use Rattle.tb_lower.specs.Control.{At, State, has_line}
+use Rattle.tb_lower.specs.Meaning.{source_run}
+use Rattle.tb_lower.specs.Follows.{Follows, longest}
+use Rattle.tb_lower.specs.Slots.{SlotCode}
+use Rattle.tb_keeping.specs.Kept.{Starts}
+use Rattle.tb_keeping.specs.Layout.{Layout, Laid, is_start}
+use Rattle.tb_keeping.specs.LineStarts.{begun, word_in, BeginsLine, LineComes, MarksLines}
+use Rattle.tb_keeping.specs.Routines.{WordAt}
+use Rattle.tb_keeping.proofs.Starts as lines
+use Rattle.tb_keeping.proofs.Starts.{count}
+use Rattle.tb_keeping.proofs.Joins.{move, IsLawful, is_go, sent, same_goes, same_after, all_are_lawful}
+use Rattle.tb_keeping.proofs.Laying.{laid_out, start_small, past_apart, content_of}
+use Rattle.tb_keeping.proofs.Placed.{HasLine, at_lines}
+use Rattle.tb_keeping.proofs.Whole as whole
+use Rattle.tb_keeping.proofs.LineStarts as one
+use Rattle.tb_keeping.proofs.LineStarts.{starts}
+
+value_of : (m : ℕ → ℕ) (at w : ℕ) → WordAt m at w → word_in m at ≡ w
+value_of m at w h = omega (arith, h.low, h.high)
+
+-- the two ways of counting
+same_begun : (ly : Layout) (es : List Event) (s : machine.State) → lines.met machine.State Event move IsLawful is_go sent (starts ly) es s ≡ begun ly.start ly.numbers es s
+same_begun ly [] s = refl
+same_begun ly (Go k ∷ es) s = ap (λ n. (if is_start ly.start ly.numbers s.regs.pc then 1 else 0) + n) (same_begun ly es (happens s (Go k)))
+same_begun ly (Interrupt ws ∷ es) s = zero-add (lines.met machine.State Event move IsLawful is_go sent (starts ly) es (happens s (Interrupt ws))) ∙ same_begun ly es (happens s (Interrupt ws))
+
+one_at : (b : Bool) → b ≡ true → count 1 b ≡ 1
+one_at b e = ap (count 1) e
+
+at_one : (b : Bool) → count 1 b ≡ 1 → b ≡ true
+at_one true e = refl
+at_one false e = absurd (let no : ⊥ = omega (arith, e) in no)
+
+module _ (place : ℕ) (bytes : List ℕ) (from : 0x0800 ≤ place) (to : place + length bytes ≤ 0xa000) (labels : List (Name × ℕ)) (seed : ℕ) (program : Program) (sc : SlotCode) (follows : Follows program sc) (laid : Laid labels seed (part_at place bytes) sc)
+    (limit : ℕ → ℕ) (n : ℕ) (routines : whole.RoutineLaws place bytes from to labels seed program sc follows laid limit) (prologue : whole.PrologueLaw place bytes from to labels seed program sc follows laid n) where
+  abbrev ly : Layout
+  ly = whole.ly place bytes from to labels seed program sc follows laid
+
+  abbrev bound : ℕ → ℕ → ℕ
+  bound k m = n + (m * (longest sc + 1) * (24 + (limit k + limit k)) + 1)
+
+  abbrev Begun : (s : machine.State) → Starts place bytes s → ℕ → machine.State → Type 0
+  Begun s h m t = one.LineBegun place bytes from to ly program sc follows (laid_out labels seed (part_at place bytes) sc laid) (start_small labels seed (part_at place bytes) sc laid) (past_apart labels seed (part_at place bytes) sc laid) (λ k. 24 + (limit k + limit k)) (whole.positive place bytes from to labels seed program sc follows laid limit n routines prologue) n (whole.opening place bytes from to labels seed program sc follows laid limit n routines prologue) (whole.laws place bytes from to labels seed program sc follows laid limit n routines prologue) s h m t
+
+  at_line : (s : machine.State) (h : Starts place bytes s) (es : List Event) → all_lawful es s ≡ true → is_start ly.start (numbers program) (run es s).regs.pc ≡ true → BeginsLine program seed ly.start s (begun ly.start (numbers program) es s) (run es s)
+  at_line s h es l here =
+      let y = lines.run machine.State Event move IsLawful is_go sent (starts ly) es s in
+      let same : y ≡ run es s = same_after es s in
+      let now : starts ly y ≡ 1 = ap (starts ly) same ∙ one_at (is_start ly.start ly.numbers (run es s).regs.pc) (ap (λ ns. is_start ly.start ns (run es s).regs.pc) follows.same_numbers ∙ here) in
+      let b = one.at_line place bytes from to ly program sc follows (laid_out labels seed (part_at place bytes) sc laid) (start_small labels seed (part_at place bytes) sc laid) (past_apart labels seed (part_at place bytes) sc laid) (λ k. 24 + (limit k + limit k)) (whole.positive place bytes from to labels seed program sc follows laid limit n routines prologue) n (whole.opening place bytes from to labels seed program sc follows laid limit n routines prologue) (whole.laws place bytes from to labels seed program sc follows laid limit n routines prologue) s h es (all_are_lawful es s l) now in
+      let counted : lines.met machine.State Event move IsLawful is_go sent (starts ly) es s ≡ begun ly.start (numbers program) es s = same_begun ly es s ∙ ap (λ ns. begun ly.start ns es s) follows.same_numbers in
+      subst (λ m. BeginsLine program seed ly.start s m (run es s)) counted
+      (subst (λ t. BeginsLine program seed ly.start s (lines.met machine.State Event move IsLawful is_go sent (starts ly) es s) t) same
+      (record {
+        state = b.state;
+        number = b.number;
+        done = b.done;
+        place = b.at_place;
+        pc = b.pc;
+        vars = λ x lt. value_of y.mem _ _ (b.vars x lt);
+        notes = value_of y.mem _ _ b.notes;
+      }))
+
+  comes : (s : machine.State) (h : Starts place bytes s) (m : ℕ) (state : State) (out : List ℕ) (number : ℕ) → source_run program seed s.text s.answers m ≡ GoesOn state out → state.place ≡ At number → (es : List Event) → all_lawful es s ≡ true → bound (length s.text) m ≤ goes es → LineComes program ly.start s m (bound (length s.text) m) es
+  comes s h m state out number done here es l le =
+      let has : has_line (numbers program) number ≡ true = subst (HasLine (numbers program)) here (at_lines program seed s.text s.answers m state out done).here in
+      let list = content_of labels seed (part_at place bytes) sc laid number (ap (λ ns. has_line ns number) follows.same_numbers ∙ has) in
+      let c = one.line_comes place bytes from to ly program sc follows (laid_out labels seed (part_at place bytes) sc laid) (start_small labels seed (part_at place bytes) sc laid) (past_apart labels seed (part_at place bytes) sc laid) (λ k. 24 + (limit k + limit k)) (whole.positive place bytes from to labels seed program sc follows laid limit n routines prologue) n (whole.opening place bytes from to labels seed program sc follows laid limit n routines prologue) (whole.laws place bytes from to labels seed program sc follows laid limit n routines prologue) s h m state out number list.0 done here list.1 es (all_are_lawful es s l) (omega (arith, le, same_goes es)) in
+      by c.event c.is_own c.front c.back c.split (omega (arith, c.few, same_goes c.front))
+      (ap (λ ns. is_start ly.start ns (run c.front s).regs.pc) (sym follows.same_numbers) ∙ at_one (is_start ly.start ly.numbers (run c.front s).regs.pc) (ap (starts ly) (sym (same_after c.front s)) ∙ c.starts_here))
+      (ap (λ ns. begun ly.start ns c.front s) (sym follows.same_numbers) ∙ sym (same_begun ly c.front s) ∙ c.begun)
+    where
+      by : (e : Event) → is_go e ≡ true → (front back : List Event) → front ++ (e ∷ back) ≡ es → goes front < bound (length s.text) m → is_start ly.start (numbers program) (run front s).regs.pc ≡ true → begun ly.start (numbers program) front s ≡ m → LineComes program ly.start s m (bound (length s.text) m) es
+      by (Go k) own front back split few at met = record { front = front; clobber = k; back = back; split = split; few = few; here = at; begun_before = met }
+      by (Interrupt ws) own front back split few at met = cc
+
+  pub marks : MarksLines place bytes program seed ly.start
+  marks = record { begins = at_line; pace = λ text answers m. bound (length text) m; comes = comes }

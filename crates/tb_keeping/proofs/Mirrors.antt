@@ -1,0 +1,69 @@
+-- How a view of the machine stands for a state of the slot code.
+use Rattle.std.specs.Prelude.{◌≡◌, ℕ, ◌%◌, ◌≤◌, ◌<◌, Bool, false, List, [], ◌∷◌, length, map, slice_index}
+use Rattle.tb_cpu.specs.Effects.{bit}
+use Rattle.tb_reaching.specs.View.{View, Setup, Part}
+use Rattle.tb_reaching.specs.Start.{IsHome}
+use Rattle.tb_lower.specs.Steps.{Step, Goes, Stops, Ended, Faulted, Waits}
+use Rattle.tb_lower.specs.Control.{Place, State}
+use Rattle.tb_lower.specs.Slots.{Rest, Whole, Left, Slots, SlotState}
+use Rattle.tb_runtime16.specs.Places.{COLUMN, OPEN, LINE, NOTES, HELD}
+use Rattle.tb_templates.specs.Templates.{var_at, slot_at}
+use Rattle.tb_keeping.specs.Kept.{AllBytes}
+use Rattle.tb_keeping.specs.Layout.{Layout, place_at}
+use Rattle.tb_keeping.specs.Routines.{WordAt, SeedAt, Noted, Entered, Here, Waiting}
+use Rattle.tb_keeping.proofs.Resolved.{RestLies}
+
+-- the addresses of the places to return to
+abbrev pub notes_of : Layout → List Place → List ℕ
+notes_of ly ps = map (place_at ly) ps
+
+-- the memory holds the state and the slots
+pub record Holds (ly : Layout) (s : State) (slots : Slots) (m : ℕ → ℕ) : Type 0 where
+  pub vars : (x : ℕ) → x < 26 → WordAt m (var_at x) (slice_index s.vars x)
+  pub words : (k : ℕ) → k < 16 → WordAt m (slot_at k) (slice_index slots.words k)
+  pub held : WordAt m HELD slots.held
+  pub column : m COLUMN ≡ s.column % 256
+  pub opened : m OPEN ≡ bit s.open_line
+  pub seeded : SeedAt m ly.seed s.seed
+  pub count : WordAt m NOTES (length s.returns)
+  pub notes : Noted m (notes_of ly s.returns)
+  pub few : length s.returns ≤ 500
+  pub all_vars : length s.vars ≡ 26
+  pub all_words : length slots.words ≡ 16
+
+-- at an address with a known Z, or with a known C
+pub record Flagged (at : ℕ) (bs : List ℕ) (m : ℕ → ℕ) (keys gets : List ℕ) (z : Bool) (w : View) : Type 0 where
+  pub here : Here at bs m keys gets w
+  pub zero : w.regs.flags.z ≡ z
+
+pub record Carrying (at : ℕ) (bs : List ℕ) (m : ℕ → ℕ) (keys gets : List ℕ) (c : Bool) (w : View) : Type 0 where
+  pub here : Here at bs m keys gets w
+  pub carry : w.regs.flags.c ≡ c
+
+-- the code of the rest of a line stands at PC, or PC is where the place begins
+abbrev pub RestAt : Layout → Part → ℕ → (ℕ → ℕ) → Rest → Place → Type 0
+RestAt ly code pc m (Left n is) place = RestLies ly code n pc is × WordAt m LINE n
+RestAt ly code pc m Whole place = pc ≡ place_at ly place
+
+-- the keyboard's text is at most so long, and it and the answers are bytes
+pub record Typable (keys : ℕ) (text answers : List ℕ) : Type 0 where
+  pub short : length text ≤ keys
+  pub text_bytes : AllBytes text
+  pub answer_bytes : AllBytes answers
+
+pub record Mirrors (ly : Layout) (f : Setup) (lo hi : ℕ) (keys : ℕ) (c : SlotState) (w : View) : Type 0 where
+  pub pc : RestAt ly f.code w.regs.pc w.mem c.rest c.state.place
+  pub stack : w.stack ≡ lo ∷ hi ∷ []
+  pub binary : w.regs.flags.d ≡ false
+  pub text : w.text ≡ c.state.text
+  pub answers : w.answers ≡ c.state.answers
+  pub holds : Holds ly c.state c.slots w.mem
+  pub homed : Entered f lo hi w.mem
+  pub short : Typable keys c.state.text c.state.answers
+
+-- where a step leads
+abbrev pub Target : Layout → Setup → ℕ → ℕ → ℕ → Step SlotState → View → Type 0
+Target ly f lo hi keys (Goes c t) w = Mirrors ly f lo hi keys c w
+Target ly f lo hi keys (Stops Ended t) w = IsHome f w
+Target ly f lo hi keys (Stops Faulted t) w = IsHome f w
+Target ly f lo hi keys (Stops Waits t) w = Waiting w

@@ -1,0 +1,255 @@
+-- Pieces of code at any address, on data at any place.
+use Rattle.std.proofs.Common.{not, ⊎_elim, ◌≡◌, ◌≢◌, ◌-◌, ℕ, ◌+◌, ◌/◌, ◌%◌, ◌≤◌, ◌<◌, Bool, true, false, cond, List, [], ◌∷◌, ◌++◌, length, refl, sym, ap, ◌∙◌, subst, arith, leb, eqb, Some, None, Ok}
+use Rattle.std.proofs.lemmas.Bool.{lt-ltb, cases_eq, eq-eqb, ne_eqb}
+use Rattle.tb_cpu.specs.Effects.{bit as carry}
+use Rattle.tb_keeping.proofs.Mirrors.{Flagged, Carrying}
+use Rattle.tb_keeping.proofs.Resolved.{added, beq, bne, call, compare, constant, copied, highest_code, jump, jump_through, opposite, subtracted}
+use Rattle.tb_keeping.specs.Routines.{Here, WithA, Moves, WordAt}
+use Rattle.tb_memmap.specs.Bytes.{with_byte}
+use Rattle.tb_opcodes.specs.declared.Mnemonic.TheVariants.{Adc, Cmp, Lda, Sbc, Sta}
+use Rattle.tb_opcodes.specs.declared.Mnemonic.{Mnemonic}
+use Rattle.tb_opcodes.specs.declared.Mode.TheVariants.{Absolute}
+use Rattle.tb_reaching.proofs.Comes.{chained, known, looser}
+use Rattle.tb_reaching.proofs.Memory.{put_other}
+use Rattle.tb_reaching.proofs.Placed.{placing, reads_data, stores_at, takes_at, placed_last}
+use Rattle.tb_reaching.specs.View.{Bytes}
+use Rattle.tb_reaching.proofs.Instr.{Instr, Stands, act_instr, ins, instr_bytes}
+use Rattle.tb_reaching.specs.View.{Comes, Fits, Setup, View, is_data, view, with_s}
+use Rattle.tb_runtime16.specs.Places.{RESULT}
+use Rattle.std.specs.Prelude.{◌==◌, nat_lt, nat_le, if◌then◌else◌}
+use Rattle.std.proofs.lemmas.Bool.Decides.{nat_tests}
+use Rattle.tb_opcodes.specs.Opcodes.{find_row, rows}
+use Rattle.tb_cpu.specs.declared.registers.Regs.{Regs}
+use Rattle.tb_cpu.specs.Instructions.{executed, advanced}
+use Rattle.tb_reaching.proofs.Acting.{kind_of, Plain}
+
+-- a word written
+abbrev pub put_word : (ℕ → ℕ) → ℕ → ℕ → ℕ → ℕ → ℕ
+put_word m at lo hi = with_byte (with_byte m at lo) (at + 1) hi
+
+-- a set of views led on
+pub moves_then : (f : Setup) (p q r : View → Type 0) (t u : List ℕ) (n k : ℕ) → Moves f p q t n → Moves f q r u k → Moves f p r (t ++ u) (n + k)
+moves_then f p q r t u n k a b w h = chained f w q r t u n k (a w h) b
+
+pub moves_looser : (f : Setup) (p q r : View → Type 0) (t : List ℕ) (n k : ℕ) → n ≤ k → ((w : View) → q w → r w) → Moves f p q t n → Moves f p r t k
+moves_looser f p q r t n k le g a w h = looser f w q r t n k le g (a w h)
+
+in_data : (a : ℕ) → 0xC000 ≤ a → a ≤ 0xCFFF → is_data a ≡ true
+in_data a lo hi = grind (arith, nat_tests)
+
+abbrev pub InData : ℕ → Type 0
+InData a = (0xC000 ≤ a) × (a ≤ 0xCFFE)
+
+pub low_data : (a : ℕ) → InData a → is_data a ≡ true
+low_data a h = in_data a h.0 (omega (arith, h.1))
+
+pub high_data : (a : ℕ) → InData a → is_data (a + 1) ≡ true
+high_data a h = in_data (a + 1) (omega (arith, h.0)) (omega (arith, h.1))
+
+called : (at : ℕ) (bs : List ℕ) → at + 3 ≤ highest_code → ((at + 3) % 65536 + 65535) % 65536 % 256 ∷ ((at + 3) % 65536 + 65535) % 65536 / 256 ∷ bs ≡ (at + 2) % 256 ∷ (at + 2) / 256 ∷ bs
+called at bs r =
+    let e : ((at + 3) % 65536 + 65535) % 65536 ≡ at + 2 = omega arith in
+    ap (λ p. p % 256 ∷ p / 256 ∷ bs) e
+
+pub forward : (at d : ℕ) → at + 2 + d ≤ highest_code → d < 128 → ((at + 2) % 65536 + (if nat_lt d 128 then d else d + 65280)) % 65536 ≡ at + 2 + d
+forward at d b s = ap (λ t. ((at + 2) % 65536 + (if t then d else d + 65280)) % 65536) (lt-ltb d 128 s) ∙ omega arith
+
+-- the difference of two bytes is 0 where they are equal
+same_byte : (l r : ℕ) → l < 256 → r < 256 → eqb ((l + 256 - r) % 256) 0 ≡ eqb l r
+same_byte l r ls rs = ⊎_elim (λ e. eq-eqb _ _ (omega (arith, e)) ∙ sym (eq-eqb l r e)) (λ n. ne_eqb _ _ (λ z. n (omega (arith, z, ls, rs))) ∙ sym (ne_eqb l r n)) (cases_eq l r)
+
+after_itself : (a : ℕ) → a + 1 ≢ a
+after_itself a e = omega (arith, e)
+
+module _ (f : Setup) (room : ℕ) (fits : Fits f room) where
+  -- one instruction, and then
+  pub does : (i : Instr) (v w : View) (q : View → Type 0) (t : List ℕ) (n : ℕ) → leb (length v.stack) room ≡ true → Bytes f.code v.regs.pc (instr_bytes i) → act_instr f.code room i v ≡ Some w → Comes f w q t n → Comes f v q t (1 + n)
+  does i v w q t n small b a next = placing f room fits i v w q t n small b a next
+
+  -- a read of data at a place that a proof gives
+  pub loads : (k p : ℕ) (mn : Mnemonic) (v : View) (r : Regs) (q : View → Type 0) (t : List ℕ) (n : ℕ) → find_row rows k ≡ Some (mn, Absolute) → (k == 0) ≡ false → kind_of mn ≡ Plain → leb (length v.stack) room ≡ true → Bytes f.code v.regs.pc (instr_bytes (ins k p)) → is_data p ≡ true → executed mn (advanced v.regs Absolute) (λ a. Ok (v.mem p)) p ≡ Ok (r, []) → Comes f (record v { regs = with_s v.regs.s r }) q t n → Comes f v q t (1 + n)
+  loads k p mn v r q t n d s e small b dp e' next =
+      does (ins k p) v (record v { regs = with_s v.regs.s r }) q t n small b
+      (takes_at f.code room (ins k p) v mn Absolute p d s e refl refl (v.mem p) r (reads_data f.code v.mem p dp) e') next
+
+  -- the last read of a piece
+  pub loads_last : (k p : ℕ) (mn : Mnemonic) (v : View) (r : Regs) (q : View → Type 0) → find_row rows k ≡ Some (mn, Absolute) → (k == 0) ≡ false → kind_of mn ≡ Plain → leb (length v.stack) room ≡ true → Bytes f.code v.regs.pc (instr_bytes (ins k p)) → is_data p ≡ true → executed mn (advanced v.regs Absolute) (λ a. Ok (v.mem p)) p ≡ Ok (r, []) → q (record v { regs = with_s v.regs.s r }) → Comes f v q [] 1
+  loads_last k p mn v r q d s e small b dp e' x =
+      placed_last f room fits (ins k p) v (record v { regs = with_s v.regs.s r }) q small b
+      (takes_at f.code room (ins k p) v mn Absolute p d s e refl refl (v.mem p) r (reads_data f.code v.mem p dp) e') x
+
+  -- a write of A
+  pub stores : (p : ℕ) (v : View) (q : View → Type 0) (t : List ℕ) (n : ℕ) → leb (length v.stack) room ≡ true → Bytes f.code v.regs.pc (instr_bytes (ins 0x8D p)) → is_data p ≡ true → Comes f (record v { regs = advanced v.regs Absolute; mem = with_byte v.mem p v.regs.a }) q t n → Comes f v q t (1 + n)
+  stores p v q t n small b dp next =
+      does (ins 0x8D p) v (record v { regs = advanced v.regs Absolute; mem = with_byte v.mem p v.regs.a }) q t n small b (stores_at f.code room (ins 0x8D p) v Sta Absolute p refl refl refl refl refl v.regs.a dp refl) next
+
+  -- the last write of a piece
+  pub ends : (p at : ℕ) (v : View) (m : ℕ → ℕ) (bs keys gets : List ℕ) → leb (length v.stack) room ≡ true → Bytes f.code v.regs.pc (instr_bytes (ins 0x8D p)) → is_data p ≡ true → (v.regs.pc + 3) % 65536 ≡ at → v.stack ≡ bs → v.regs.flags.d ≡ false → with_byte v.mem p v.regs.a ≡ m → v.text ≡ keys → v.answers ≡ gets → Comes f v (Here at bs m keys gets) [] 1
+  ends p at v m bs keys gets small b dp e s d e' k g =
+      placed_last f room fits (ins 0x8D p) v (record v { regs = advanced v.regs Absolute; mem = with_byte v.mem p v.regs.a }) _ small b (stores_at f.code room (ins 0x8D p) v Sta Absolute p refl refl refl refl refl v.regs.a dp refl) (record { pc = e; stack = s; binary = d; mem = e'; text = k; answers = g })
+
+  pub stores_last : (p : ℕ) (v : View) (q : View → Type 0) → leb (length v.stack) room ≡ true → Bytes f.code v.regs.pc (instr_bytes (ins 0x8D p)) → is_data p ≡ true → q (record v { regs = advanced v.regs Absolute; mem = with_byte v.mem p v.regs.a }) → Comes f v q [] 1
+  stores_last p v q small b dp x =
+      placed_last f room fits (ins 0x8D p) v (record v { regs = advanced v.regs Absolute; mem = with_byte v.mem p v.regs.a }) q small b (stores_at f.code room (ins 0x8D p) v Sta Absolute p refl refl refl refl refl v.regs.a dp refl) x
+
+  -- whatever the registers and flags
+  pub whatever : (at : ℕ) (bs : List ℕ) (m : ℕ → ℕ) (keys gets : List ℕ) (q : View → Type 0) (t : List ℕ) (k : ℕ) → ((a x y : ℕ) (n v i z c : Bool) → Comes f (view a x y n v i z c at bs m keys gets) q t k) → Moves f (Here at bs m keys gets) q t k
+  whatever at bs m keys gets q t k h w e =
+      known f w at bs keys gets q t k e.pc e.stack e.binary e.text e.answers
+      (subst (λ m. Comes f (view w.regs.a w.regs.x w.regs.y w.regs.flags.n w.regs.flags.v w.regs.flags.i w.regs.flags.z w.regs.flags.c at bs m keys gets) q t k) (sym e.mem) (h _ _ _ _ _ _ _ _))
+
+  -- the same with a known C
+  pub whatever_with : (at : ℕ) (bs : List ℕ) (m : ℕ → ℕ) (keys gets : List ℕ) (c : Bool) (q : View → Type 0) (t : List ℕ) (k : ℕ) → ((a x y : ℕ) (n v i z : Bool) → Comes f (view a x y n v i z c at bs m keys gets) q t k) → Moves f (Carrying at bs m keys gets c) q t k
+  whatever_with at bs m keys gets c q t k h w e =
+      known f w at bs keys gets q t k e.here.pc e.here.stack e.here.binary e.here.text e.here.answers
+      (subst (λ m. Comes f (view w.regs.a w.regs.x w.regs.y w.regs.flags.n w.regs.flags.v w.regs.flags.i w.regs.flags.z w.regs.flags.c at bs m keys gets) q t k) (sym e.here.mem)
+      (subst (λ c. Comes f (view w.regs.a w.regs.x w.regs.y w.regs.flags.n w.regs.flags.v w.regs.flags.i w.regs.flags.z c at bs m keys gets) q t k) (sym e.carry) (h _ _ _ _ _ _ _)))
+
+  -- the same with a known A
+  pub whatever_a : (at k : ℕ) (bs : List ℕ) (m : ℕ → ℕ) (keys gets : List ℕ) (q : View → Type 0) (t : List ℕ) (l : ℕ) → ((x y : ℕ) (n v i z c : Bool) → Comes f (view k x y n v i z c at bs m keys gets) q t l) → Moves f (WithA at k bs m keys gets) q t l
+  whatever_a at k bs m keys gets q t l h w e =
+      known f w at bs keys gets q t l e.here.pc e.here.stack e.here.binary e.here.text e.here.answers
+      (subst (λ m. Comes f (view w.regs.a w.regs.x w.regs.y w.regs.flags.n w.regs.flags.v w.regs.flags.i w.regs.flags.z w.regs.flags.c at bs m keys gets) q t l) (sym e.here.mem)
+      (subst (λ a. Comes f (view a w.regs.x w.regs.y w.regs.flags.n w.regs.flags.v w.regs.flags.i w.regs.flags.z w.regs.flags.c at bs m keys gets) q t l) (sym e.number) (h _ _ _ _ _ _ _)))
+
+  module _ (at : ℕ) (bs : List ℕ) (m : ℕ → ℕ) (keys gets : List ℕ) (small : leb (length bs) room ≡ true) where
+    pub copies : (from to : ℕ) → at + 12 ≤ highest_code → InData from → InData to → from + 1 ≢ to → Stands f.code at (copied from to) → Moves f (Here at bs m keys gets) (Here (at + 12) bs (put_word m to (m from) (m (from + 1))) keys gets) [] 4
+    copies from to r df dt apart st = whatever at bs m keys gets _ [] 4 (λ a x y n v i z c.
+        loads 0xAD from Lda (view a x y n v i z c at bs m keys gets) _ _ [] 3 refl refl refl small st.0 (low_data from df) refl
+        (stores to (view _ x y _ v i _ c ((at + 3) % 65536) bs m keys gets) _ [] 2 small st.1.0 (low_data to dt)
+        (loads 0xAD (from + 1) Lda (view _ x y _ v i _ c ((((at + 3) % 65536) + 3) % 65536) bs _ keys gets) _ _ [] 1 refl refl refl small st.1.1.0 (high_data from df) refl
+        (ends (to + 1) (at + 12) (view _ x y _ v i _ c ((((((at + 3) % 65536) + 3) % 65536) + 3) % 65536) bs _ keys gets) _ bs keys gets small st.1.1.1.0 (high_data to dt) (omega arith) refl refl (ap (λ b. with_byte (with_byte m to (m from)) (to + 1) b) (put_other m to (m from) (from + 1) apart)) refl refl))))
+
+    pub sets : (k to : ℕ) → at + 10 ≤ highest_code → InData to → Stands f.code at (constant k to) → Moves f (Here at bs m keys gets) (Here (at + 10) bs (put_word m to (k % 256) (k / 256)) keys gets) [] 4
+    sets k to r dt st = whatever at bs m keys gets _ [] 4 (λ a x y n v i z c.
+        does (ins 0xA9 (k % 256)) (view a x y n v i z c at bs m keys gets) _ _ [] 3 small st.0 refl
+        (stores to (view _ x y _ v i _ c ((at + 2) % 65536) bs m keys gets) _ [] 2 small st.1.0 (low_data to dt)
+        (does (ins 0xA9 (k / 256)) (view _ x y _ v i _ c ((((at + 2) % 65536) + 3) % 65536) bs _ keys gets) _ _ [] 1 small st.1.1.0 refl
+        (ends (to + 1) (at + 10) (view _ x y _ v i _ c ((((((at + 2) % 65536) + 3) % 65536) + 2) % 65536) bs _ keys gets) _ bs keys gets small st.1.1.1.0 (high_data to dt) (omega arith) refl refl refl refl refl))))
+
+    -- the rest of it, with the low byte in A
+    pub sets_on : (k to : ℕ) → at + 10 ≤ highest_code → InData to → Stands f.code ((at + 2) % 65536) (ins 0x8D to ∷ ins 0xA9 (k / 256) ∷ ins 0x8D (to + 1) ∷ []) → Moves f (WithA ((at + 2) % 65536) (k % 256) bs m keys gets) (Here (at + 10) bs (put_word m to (k % 256) (k / 256)) keys gets) [] 3
+    sets_on k to r dt st = whatever_a ((at + 2) % 65536) (k % 256) bs m keys gets _ [] 3 (λ x y n v i z c.
+        stores to (view (k % 256) x y n v i z c ((at + 2) % 65536) bs m keys gets) _ [] 2 small st.0 (low_data to dt)
+        (does (ins 0xA9 (k / 256)) (view _ x y n v i z c ((((at + 2) % 65536) + 3) % 65536) bs _ keys gets) _ _ [] 1 small st.1.0 refl
+        (ends (to + 1) (at + 10) (view _ x y _ v i _ c ((((((at + 2) % 65536) + 3) % 65536) + 2) % 65536) bs _ keys gets) _ bs keys gets small st.1.1.0 (high_data to dt) (omega arith) refl refl refl refl refl)))
+
+    -- a byte added to one, C clear before, and then one with that carry
+    adds_low : (to from : ℕ) → at + 10 ≤ highest_code → is_data from ≡ true → is_data to ≡ true → Stands f.code at (ins 0x18 0 ∷ ins 0xAD to ∷ ins 0x6D from ∷ ins 0x8D to ∷ []) → Moves f (Here at bs m keys gets) (Carrying (at + 10) bs (with_byte m to ((m to + m from + 0) % 256)) keys gets (nat_lt 255 (m to + m from + 0))) [] 4
+    adds_low to from r df dt st = whatever at bs m keys gets _ [] 4 (λ a x y n v i z c.
+        does (ins 0x18 0) (view a x y n v i z c at bs m keys gets) _ _ [] 3 small st.0 refl
+        (loads 0xAD to Lda (view a x y n v i z false ((at + 1) % 65536) bs m keys gets) _ _ [] 2 refl refl refl small st.1.0 dt refl
+        (loads 0x6D from Adc (view (m to) x y _ v i _ false ((((at + 1) % 65536) + 3) % 65536) bs m keys gets) _ _ [] 1 refl refl refl small st.1.1.0 df refl
+        (stores_last to (view ((m to + m from + 0) % 256) x y _ _ i _ (nat_lt 255 (m to + m from + 0)) ((((((at + 1) % 65536) + 3) % 65536) + 3) % 65536) bs m keys gets) _ small st.1.1.1.0 dt
+        (record { here = record { pc = omega arith; stack = refl; binary = refl; mem = refl; text = refl; answers = refl }; carry = refl })))))
+
+    adds_high : (to from : ℕ) (c : Bool) → at + 9 ≤ highest_code → is_data from ≡ true → is_data to ≡ true → Stands f.code at (ins 0xAD to ∷ ins 0x6D from ∷ ins 0x8D to ∷ []) → Moves f (Carrying at bs m keys gets c) (Here (at + 9) bs (with_byte m to ((m to + m from + carry c) % 256)) keys gets) [] 3
+    adds_high to from c r df dt st = whatever_with at bs m keys gets c _ [] 3 (λ a x y n v i z.
+        loads 0xAD to Lda (view a x y n v i z c at bs m keys gets) _ _ [] 2 refl refl refl small st.0 dt refl
+        (loads 0x6D from Adc (view (m to) x y _ v i _ c ((at + 3) % 65536) bs m keys gets) _ _ [] 1 refl refl refl small st.1.0 df refl
+        (ends to (at + 9) (view ((m to + m from + carry c) % 256) x y _ _ i _ _ ((((at + 3) % 65536) + 3) % 65536) bs m keys gets) _ bs keys gets small st.1.1.0 dt (omega arith) refl refl refl refl refl)))
+
+    takes_low : (to from : ℕ) → at + 10 ≤ highest_code → is_data from ≡ true → is_data to ≡ true → Stands f.code at (ins 0x38 0 ∷ ins 0xAD to ∷ ins 0xED from ∷ ins 0x8D to ∷ []) → Moves f (Here at bs m keys gets) (Carrying (at + 10) bs (with_byte m to ((m to + 256 - (m from + 0)) % 256)) keys gets (nat_le (m from + 0) (m to))) [] 4
+    takes_low to from r df dt st = whatever at bs m keys gets _ [] 4 (λ a x y n v i z c.
+        does (ins 0x38 0) (view a x y n v i z c at bs m keys gets) _ _ [] 3 small st.0 refl
+        (loads 0xAD to Lda (view a x y n v i z true ((at + 1) % 65536) bs m keys gets) _ _ [] 2 refl refl refl small st.1.0 dt refl
+        (loads 0xED from Sbc (view (m to) x y _ v i _ true ((((at + 1) % 65536) + 3) % 65536) bs m keys gets) _ _ [] 1 refl refl refl small st.1.1.0 df refl
+        (stores_last to (view ((m to + 256 - (m from + 0)) % 256) x y _ _ i _ (nat_le (m from + 0) (m to)) ((((((at + 1) % 65536) + 3) % 65536) + 3) % 65536) bs m keys gets) _ small st.1.1.1.0 dt
+        (record { here = record { pc = omega arith; stack = refl; binary = refl; mem = refl; text = refl; answers = refl }; carry = refl })))))
+
+    takes_high : (to from : ℕ) (c : Bool) → at + 9 ≤ highest_code → is_data from ≡ true → is_data to ≡ true → Stands f.code at (ins 0xAD to ∷ ins 0xED from ∷ ins 0x8D to ∷ []) → Moves f (Carrying at bs m keys gets c) (Here (at + 9) bs (with_byte m to ((m to + 256 - (m from + carry (not c))) % 256)) keys gets) [] 3
+    takes_high to from c r df dt st = whatever_with at bs m keys gets c _ [] 3 (λ a x y n v i z.
+        loads 0xAD to Lda (view a x y n v i z c at bs m keys gets) _ _ [] 2 refl refl refl small st.0 dt refl
+        (loads 0xED from Sbc (view (m to) x y _ v i _ c ((at + 3) % 65536) bs m keys gets) _ _ [] 1 refl refl refl small st.1.0 df refl
+        (ends to (at + 9) (view ((m to + 256 - (m from + carry (not c))) % 256) x y _ _ i _ _ ((((at + 3) % 65536) + 3) % 65536) bs m keys gets) _ bs keys gets small st.1.1.0 dt (omega arith) refl refl refl refl refl)))
+
+    turns_low : (to : ℕ) → at + 9 ≤ highest_code → is_data to ≡ true → Stands f.code at (ins 0x38 0 ∷ ins 0xA9 0 ∷ ins 0xED to ∷ ins 0x8D to ∷ []) → Moves f (Here at bs m keys gets) (Carrying (at + 9) bs (with_byte m to ((0 + 256 - (m to + 0)) % 256)) keys gets (nat_le (m to + 0) 0)) [] 4
+    turns_low to r dt st = whatever at bs m keys gets _ [] 4 (λ a x y n v i z c.
+        does (ins 0x38 0) (view a x y n v i z c at bs m keys gets) _ _ [] 3 small st.0 refl
+        (does (ins 0xA9 0) (view a x y n v i z true ((at + 1) % 65536) bs m keys gets) _ _ [] 2 small st.1.0 refl
+        (loads 0xED to Sbc (view 0 x y _ v i _ true ((((at + 1) % 65536) + 2) % 65536) bs m keys gets) _ _ [] 1 refl refl refl small st.1.1.0 dt refl
+        (stores_last to (view ((0 + 256 - (m to + 0)) % 256) x y _ _ i _ (nat_le (m to + 0) 0) ((((((at + 1) % 65536) + 2) % 65536) + 3) % 65536) bs m keys gets) _ small st.1.1.1.0 dt
+        (record { here = record { pc = omega arith; stack = refl; binary = refl; mem = refl; text = refl; answers = refl }; carry = refl })))))
+
+    turns_high : (to : ℕ) (c : Bool) → at + 8 ≤ highest_code → is_data to ≡ true → Stands f.code at (ins 0xA9 0 ∷ ins 0xED to ∷ ins 0x8D to ∷ []) → Moves f (Carrying at bs m keys gets c) (Here (at + 8) bs (with_byte m to ((0 + 256 - (m to + carry (not c))) % 256)) keys gets) [] 3
+    turns_high to c r dt st = whatever_with at bs m keys gets c _ [] 3 (λ a x y n v i z.
+        does (ins 0xA9 0) (view a x y n v i z c at bs m keys gets) _ _ [] 2 small st.0 refl
+        (loads 0xED to Sbc (view 0 x y _ v i _ c ((at + 2) % 65536) bs m keys gets) _ _ [] 1 refl refl refl small st.1.0 dt refl
+        (ends to (at + 8) (view ((0 + 256 - (m to + carry (not c))) % 256) x y _ _ i _ _ ((((at + 2) % 65536) + 3) % 65536) bs m keys gets) _ bs keys gets small st.1.1.0 dt (omega arith) refl refl refl refl refl)))
+
+    -- a jump, and one through the result
+    pub jumps : (to : ℕ) → Stands f.code at (jump to) → Moves f (Here at bs m keys gets) (Here to bs m keys gets) [] 1
+    jumps to st = whatever at bs m keys gets _ [] 1 (λ a x y n v i z c.
+        placed_last f room fits (ins 0x4C to) (view a x y n v i z c at bs m keys gets) _ _ small st.0 refl (record { pc = refl; stack = refl; binary = refl; mem = refl; text = refl; answers = refl }))
+
+    pub jumps_through : (to : ℕ) → WordAt m RESULT to → Stands f.code at jump_through → Moves f (Here at bs m keys gets) (Here to bs m keys gets) [] 1
+    jumps_through to is st = whatever at bs m keys gets _ [] 1 (λ a x y n v i z c.
+        placed_last f room fits (ins 0x6C RESULT) (view a x y n v i z c at bs m keys gets) _ _ small st.0 refl (record { pc = omega (arith, is.low, is.high); stack = refl; binary = refl; mem = refl; text = refl; answers = refl }))
+
+    -- a call, which returns behind it
+    pub calls : (to : ℕ) → leb (length (0 ∷ 0 ∷ bs)) room ≡ true → at + 3 ≤ highest_code → Stands f.code at (call to) → Moves f (Here at bs m keys gets) (Here to ((at + 2) % 256 ∷ (at + 2) / 256 ∷ bs) m keys gets) [] 1
+    calls to deep r st = whatever at bs m keys gets _ [] 1 (λ a x y n v i z c.
+        placed_last f room fits (ins 0x20 to) (view a x y n v i z c at bs m keys gets) _ _ small st.0 (ap (λ t. if t then (Some (view a x y n v i z c to (((at + 3) % 65536 + 65535) % 65536 % 256 ∷ ((at + 3) % 65536 + 65535) % 65536 / 256 ∷ bs) m keys gets)) else None) deep) (record { pc = refl; stack = called at bs r; binary = refl; mem = refl; text = refl; answers = refl }))
+
+    pub compares : (l r : ℕ) → at + 6 ≤ highest_code → InData l → InData r → Stands f.code at (compare l r) → m l < 256 → m r < 256 → Moves f (Here at bs m keys gets) (Flagged (at + 6) bs m keys gets (eqb (m l) (m r))) [] 2
+    compares l r b dl dr st ls rs = whatever at bs m keys gets _ [] 2 (λ a x y n v i z c.
+        loads 0xAD l Lda (view a x y n v i z c at bs m keys gets) _ _ [] 1 refl refl refl small st.0 (low_data l dl) refl
+        (loads_last 0xCD r Cmp (view (m l) x y _ v i _ c ((at + 3) % 65536) bs m keys gets) _ _ refl refl refl small st.1.0 (low_data r dr) refl
+        (record { here = record { pc = let e : ((at + 3) % 65536 + 3) % 65536 ≡ at + 6 = omega arith in e; stack = refl; binary = refl; mem = refl; text = refl; answers = refl }; zero = same_byte (m l) (m r) ls rs })))
+
+    branches : (k d : ℕ) (z : Bool) (to : ℕ) (q : View → Type 0) → Bytes f.code at (instr_bytes (ins k d)) → ((a x y : ℕ) (n v i c : Bool) → (w : View) × (act_instr f.code room (ins k d) (view a x y n v i z c at bs m keys gets) ≡ Some w) × Here to bs m keys gets w) → Moves f (Flagged at bs m keys gets z) (Here to bs m keys gets) [] 1
+    branches k d z to q st g w e =
+        known f w at bs keys gets (Here to bs m keys gets) [] 1 e.here.pc e.here.stack e.here.binary e.here.text e.here.answers
+        (subst (λ m'. Comes f (view w.regs.a w.regs.x w.regs.y w.regs.flags.n w.regs.flags.v w.regs.flags.i w.regs.flags.z w.regs.flags.c at bs m' keys gets) (Here to bs m keys gets) [] 1) (sym e.here.mem)
+        (subst (λ z. Comes f (view w.regs.a w.regs.x w.regs.y w.regs.flags.n w.regs.flags.v w.regs.flags.i z w.regs.flags.c at bs m keys gets) (Here to bs m keys gets) [] 1) (sym e.zero)
+        (let h = g w.regs.a w.regs.x w.regs.y w.regs.flags.n w.regs.flags.v w.regs.flags.i w.regs.flags.c in
+        placed_last f room fits (ins k d) (view w.regs.a w.regs.x w.regs.y w.regs.flags.n w.regs.flags.v w.regs.flags.i z w.regs.flags.c at bs m keys gets) h.0 _ small st h.1 h.2)))
+
+    -- where a branch on Z leads
+    pub bne_leads : (d : ℕ) (z : Bool) → at + 2 + d ≤ highest_code → d < 128 → Stands f.code at (bne d) → Moves f (Flagged at bs m keys gets z) (Here (cond z (at + 2) (at + 2 + d)) bs m keys gets) [] 1
+    bne_leads d true b s st = branches 0xD0 d true (at + 2) (λ w. Unit {0}) st.0 (λ a x y n v i c. (_, refl, record { pc = let e : (at + 2) % 65536 ≡ at + 2 = omega arith in e; stack = refl; binary = refl; mem = refl; text = refl; answers = refl }))
+    bne_leads d false b s st = branches 0xD0 d false (at + 2 + d) (λ w. Unit {0}) st.0 (λ a x y n v i c. (_, refl, record { pc = forward at d b s; stack = refl; binary = refl; mem = refl; text = refl; answers = refl }))
+
+    pub beq_leads : (d : ℕ) (z : Bool) → at + 2 + d ≤ highest_code → d < 128 → Stands f.code at (beq d) → Moves f (Flagged at bs m keys gets z) (Here (cond z (at + 2 + d) (at + 2)) bs m keys gets) [] 1
+    beq_leads d false b s st = branches 0xF0 d false (at + 2) (λ w. Unit {0}) st.0 (λ a x y n v i c. (_, refl, record { pc = let e : (at + 2) % 65536 ≡ at + 2 = omega arith in e; stack = refl; binary = refl; mem = refl; text = refl; answers = refl }))
+    beq_leads d true b s st = branches 0xF0 d true (at + 2 + d) (λ w. Unit {0}) st.0 (λ a x y n v i c. (_, refl, record { pc = forward at d b s; stack = refl; binary = refl; mem = refl; text = refl; answers = refl }))
+
+module _ (f : Setup) (room : ℕ) (fits : Fits f room) (at : ℕ) (bs : List ℕ) (m : ℕ → ℕ) (keys gets : List ℕ) (small : leb (length bs) room ≡ true) where
+  -- words added, taken away and turned
+  pub adds : (to from : ℕ) → at + 19 ≤ highest_code → InData from → InData to → from + 1 ≢ to → from ≢ to → Stands f.code at (added to from) → Moves f (Here at bs m keys gets) (Here (at + 19) bs (put_word m to ((m to + m from + 0) % 256) ((m (to + 1) + m (from + 1) + carry (nat_lt 255 (m to + m from + 0))) % 256)) keys gets) [] 7
+  adds to from r df dt apart other st =
+      let s = (m to + m from + 0) % 256 in
+      let m' = with_byte m to s in
+      let c = nat_lt 255 (m to + m from + 0) in
+      let e : ((((at + 1) % 65536 + 3) % 65536 + 3) % 65536 + 3) % 65536 ≡ at + 10 = omega arith in
+      let high : m' (to + 1) ≡ m (to + 1) = put_other m to s (to + 1) (after_itself to) in
+      let same : m' (from + 1) ≡ m (from + 1) = put_other m to s (from + 1) apart in
+      moves_then f _ _ _ [] [] 4 3 (adds_low f room fits at bs m keys gets small to from (omega arith) (low_data from df) (low_data to dt) (st.0, (st.1.0, (st.1.1.0, (st.1.1.1.0, tt)))))
+      (moves_looser f _ _ _ [] 3 3 (omega arith)
+      (λ w h. record { pc = h.pc ∙ (let q : at + 10 + 9 ≡ at + 19 = omega arith in q); stack = h.stack; binary = h.binary; mem = h.mem ∙ ap (λ b. with_byte m' (to + 1) ((b + m' (from + 1) + carry c) % 256)) high ∙ ap (λ b. with_byte m' (to + 1) ((m (to + 1) + b + carry c) % 256)) same; text = h.text; answers = h.answers })
+      (adds_high f room fits (at + 10) bs m' keys gets small (to + 1) (from + 1) c (omega arith) (high_data from df) (high_data to dt) (subst (λ p. Stands f.code p (ins 0xAD (to + 1) ∷ ins 0x6D (from + 1) ∷ ins 0x8D (to + 1) ∷ [])) e st.1.1.1.1)))
+
+  pub subtracts : (to from : ℕ) → at + 19 ≤ highest_code → InData from → InData to → from + 1 ≢ to → from ≢ to → Stands f.code at (subtracted to from) → Moves f (Here at bs m keys gets) (Here (at + 19) bs (put_word m to ((m to + 256 - (m from + 0)) % 256) ((m (to + 1) + 256 - (m (from + 1) + carry (not (nat_le (m from + 0) (m to))))) % 256)) keys gets) [] 7
+  subtracts to from r df dt apart other st =
+      let s = (m to + 256 - (m from + 0)) % 256 in
+      let m' = with_byte m to s in
+      let c = nat_le (m from + 0) (m to) in
+      let e : ((((at + 1) % 65536 + 3) % 65536 + 3) % 65536 + 3) % 65536 ≡ at + 10 = omega arith in
+      let high : m' (to + 1) ≡ m (to + 1) = put_other m to s (to + 1) (after_itself to) in
+      let same : m' (from + 1) ≡ m (from + 1) = put_other m to s (from + 1) apart in
+      moves_then f _ _ _ [] [] 4 3 (takes_low f room fits at bs m keys gets small to from (omega arith) (low_data from df) (low_data to dt) (st.0, (st.1.0, (st.1.1.0, (st.1.1.1.0, tt)))))
+      (moves_looser f _ _ _ [] 3 3 (omega arith)
+      (λ w h. record { pc = h.pc ∙ (let q : at + 10 + 9 ≡ at + 19 = omega arith in q); stack = h.stack; binary = h.binary; mem = h.mem ∙ ap (λ b. with_byte m' (to + 1) ((b + 256 - (m' (from + 1) + carry (not c))) % 256)) high ∙ ap (λ b. with_byte m' (to + 1) ((m (to + 1) + 256 - (b + carry (not c))) % 256)) same; text = h.text; answers = h.answers })
+      (takes_high f room fits (at + 10) bs m' keys gets small (to + 1) (from + 1) c (omega arith) (high_data from df) (high_data to dt) (subst (λ p. Stands f.code p (ins 0xAD (to + 1) ∷ ins 0xED (from + 1) ∷ ins 0x8D (to + 1) ∷ [])) e st.1.1.1.1)))
+
+  pub negates : (to : ℕ) → at + 17 ≤ highest_code → InData to → Stands f.code at (opposite to) → Moves f (Here at bs m keys gets) (Here (at + 17) bs (put_word m to ((0 + 256 - (m to + 0)) % 256) ((0 + 256 - (m (to + 1) + carry (not (nat_le (m to + 0) 0)))) % 256)) keys gets) [] 7
+  negates to r dt st =
+      let s = (0 + 256 - (m to + 0)) % 256 in
+      let m' = with_byte m to s in
+      let c = nat_le (m to + 0) 0 in
+      let e : ((((at + 1) % 65536 + 2) % 65536 + 3) % 65536 + 3) % 65536 ≡ at + 9 = omega arith in
+      let high : m' (to + 1) ≡ m (to + 1) = put_other m to s (to + 1) (after_itself to) in
+      moves_then f _ _ _ [] [] 4 3 (turns_low f room fits at bs m keys gets small to (omega arith) (low_data to dt) (st.0, (st.1.0, (st.1.1.0, (st.1.1.1.0, tt)))))
+      (moves_looser f _ _ _ [] 3 3 (omega arith)
+      (λ w h. record { pc = h.pc ∙ (let q : at + 9 + 8 ≡ at + 17 = omega arith in q); stack = h.stack; binary = h.binary; mem = h.mem ∙ ap (λ b. with_byte m' (to + 1) ((0 + 256 - (b + carry (not c))) % 256)) high; text = h.text; answers = h.answers })
+      (turns_high f room fits (at + 9) bs m' keys gets small (to + 1) c (omega arith) (high_data to dt) (subst (λ p. Stands f.code p (ins 0xA9 0 ∷ ins 0xED (to + 1) ∷ ins 0x8D (to + 1) ∷ [])) e st.1.1.1.1)))

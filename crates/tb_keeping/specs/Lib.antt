@@ -1,0 +1,5 @@
+pub mod Layout
+pub mod Kept
+pub mod Routines
+pub mod LineStarts
+pub mod Laws

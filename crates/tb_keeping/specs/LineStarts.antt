@@ -1,0 +1,55 @@
+-- Where a machine that runs a program's code begins a line, the program does.
+use Rattle.std.specs.Prelude.{◌≡◌, ℕ, ◌+◌, ◌*◌, ◌≤◌, ◌<◌, true, if◌then◌else◌, List, [], ◌∷◌, ◌++◌, length, slice_index}
+use Rattle.tb_kernal.specs.declared.events.Event.{Event}
+use Rattle.tb_kernal.specs.declared.events.Event.TheVariants.{Go, Interrupt}
+use Rattle.tb_kernal.specs.declared.events.Clobber.{Clobber}
+use Rattle.tb_kernal.specs.Machine as machine
+use Rattle.tb_kernal.specs.Machine.{happens}
+use Rattle.tb_kernal.specs.Runs.{run, all_lawful, goes}
+use Rattle.tb_syntax.specs.Source.{Program, numbers}
+use Rattle.tb_lower.specs.Steps.{GoesOn}
+use Rattle.tb_lower.specs.Control.{At, State}
+use Rattle.tb_lower.specs.Meaning.{source_run}
+use Rattle.tb_runtime16.specs.Places.{NOTES}
+use Rattle.tb_templates.specs.Templates.{var_at}
+use Rattle.tb_keeping.specs.Kept.{Starts}
+use Rattle.tb_keeping.specs.Layout.{is_start}
+
+-- how many Go events of a list come where the machine is at a line's start
+abbrev pub begun : (ℕ → ℕ) → List ℕ → List Event → machine.State → ℕ
+begun start ns [] s = 0
+begun start ns (Go k ∷ es) s = (if is_start start ns s.regs.pc then 1 else 0) + begun start ns es (happens s (Go k))
+begun start ns (Interrupt ws ∷ es) s = begun start ns es (happens s (Interrupt ws))
+
+-- the word at a place
+abbrev pub word_in : (ℕ → ℕ) → ℕ → ℕ
+word_in m at = m at + 256 * m (at + 1)
+
+-- a machine t, started as s, is at the start of the line at which the source goes on after m lines: just its output was
+-- sent, its variables stand in memory, and the number of its notes
+pub record BeginsLine (program : Program) (seed : ℕ) (start : ℕ → ℕ) (s : machine.State) (m : ℕ) (t : machine.State) : Type 0 where
+  pub state : State
+  pub number : ℕ
+  pub done : source_run program seed s.text s.answers m ≡ GoesOn state t.sent
+  pub place : state.place ≡ At number
+  pub pc : t.regs.pc ≡ start number
+  pub vars : (x : ℕ) → x < 26 → word_in t.mem (var_at x) ≡ slice_index state.vars x
+  pub notes : word_in t.mem NOTES ≡ length state.returns
+
+-- among some events a Go at a line's start, m such having come before it, and fewer than so many Go events
+pub record LineComes (program : Program) (start : ℕ → ℕ) (s : machine.State) (m bound : ℕ) (es : List Event) : Type 0 where
+  pub front : List Event
+  pub clobber : Clobber
+  pub back : List Event
+  pub split : front ++ (Go clobber ∷ back) ≡ es
+  pub few : goes front < bound
+  pub here : is_start start (numbers program) (run front s).regs.pc ≡ true
+  pub begun_before : begun start (numbers program) front s ≡ m
+
+-- from every start and under every lawful list: a machine at a line's start, m having begun before, begins the line that
+-- the source does after m lines; and where the source goes on at a line after m lines, the machine begins one after m
+-- within a number of Go events that depends on the program, the first RND state, the keyboard and m alone
+pub record MarksLines (place : ℕ) (bytes : List ℕ) (program : Program) (seed : ℕ) (start : ℕ → ℕ) : Type 0 where
+  pub begins : (s : machine.State) → Starts place bytes s → (es : List Event) → all_lawful es s ≡ true → is_start start (numbers program) (run es s).regs.pc ≡ true → BeginsLine program seed start s (begun start (numbers program) es s) (run es s)
+  pub pace : (text answers : List ℕ) (m : ℕ) → ℕ
+  pub comes : (s : machine.State) → Starts place bytes s → (m : ℕ) (state : State) (out : List ℕ) (n : ℕ) → source_run program seed s.text s.answers m ≡ GoesOn state out → state.place ≡ At n → (es : List Event) → all_lawful es s ≡ true → pace s.text s.answers m ≤ goes es → LineComes program start s m (pace s.text s.answers m) es
