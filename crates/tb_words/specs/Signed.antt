@@ -6,15 +6,15 @@ use Rattle.std.specs.Int.RustNames.{unsigned_abs}
 use Rattle.tb_words.specs.declared.Rel.{Rel}
 use Rattle.tb_words.specs.declared.Rel.TheVariants.{Eq, Lt, Gt, Le, Ge, Ne}
 
--- a whole number as a word
+-- the number from -32768 to 32767 that differs from a whole number by a multiple of 65,536
 abbrev pub wrapped : ℤ → ℤ
 wrapped z = int_wrap w16 z
 
--- two numbers of one sign
+-- both are above zero, or both below
 abbrev pub HaveOneSign : ℤ → ℤ → Type 0
 HaveOneSign a b = ((pos 0 <ℤ a) × (pos 0 <ℤ b)) ⊎ ((a <ℤ pos 0) × (b <ℤ pos 0))
 
--- q and r are quotient and remainder of n by d, rounded toward zero
+-- q and r are the quotient and the remainder of n by d, truncated toward zero
 pub record IsDivision (n d q r : ℤ) : Type 0 where
   pub whole : n ≡ q *ℤ d +ℤ r
   pub smaller : unsigned_abs r < unsigned_abs d

@@ -1,0 +1,106 @@
+-- Signed numbers and words: each word's law follows from the signed one's, and back.
+use Rattle.std.proofs.Common.{◌≡◌, ℕ, zero, suc, ◌-◌, ◌/◌, ◌%◌, ◌<◌, Bool, true, false, refl, arith, sym, ap, ◌∙◌, nat_lt, ◌∷◌}
+use Rattle.std.specs.Prelude.{ℤ, pos, negsuc, ◌-ℤ◌}
+use Rattle.std.proofs.lemmas.Bool.Decides.{nat_tests}
+use Rattle.std.proofs.lemmas.Int.{ints, wrapping_neg_is}
+use Rattle.std.specs.Int.{int_wrap, cast_signed, cast_unsigned, int_wrapping_div, int_wrapping_neg}
+use Rattle.std.specs.Int.RustNames.{FitsSigned, unsigned_abs, int_div}
+use Rattle.std.specs.Fmt.{signed_decimal}
+use mir.Syntax.{w16}
+use lib.IntN.{neg_ℤ, +ℤ_idl}
+use Rattle.tb_words.specs.Signed.{wrapped}
+use Rattle.tb_words.proofs.Division.{read, read_quotient}
+use Rattle.tb_words.proofs.Decimal.{at_most_five_digits}
+use Rattle.tb_words.specs.Words.{word, word_of, signed, is_negative, magnitude, negated, with_sign, differ, quotient, digits_of}
+
+-- a word is below 65,536
+pub word_of_below : (z : ℤ) → word_of z < 65536
+word_of_below (pos n) = omega arith
+word_of_below (negsuc n) = omega arith
+
+-- the bits of a signed number are its word
+pub bits_are : (z : ℤ) → FitsSigned w16 z → cast_unsigned w16 z ≡ word_of z
+bits_are (pos n) f = omega (arith, f.sfits)
+bits_are (negsuc n) f = omega (arith, f.sfits)
+
+-- a word read as signed and back
+pub word_of-cast : (n : ℕ) → n < 65536 → word_of (cast_signed w16 n) ≡ n
+word_of-cast n h = by (nat_lt n 32768) refl
+  where
+    by : (t : Bool) → nat_lt n 32768 ≡ t → word_of (cast_signed w16 n) ≡ n
+    by true e = let s : cast_signed w16 n ≡ pos n = simp e in rw s (omega arith)
+    by false e = let s : cast_signed w16 n ≡ negsuc (65536 - suc n) = simp e in rw s (omega (arith, nat_tests))
+
+pub word_of-wrapped : (z : ℤ) → word_of (wrapped z) ≡ word_of z
+unfolding int_wrap
+word_of-wrapped (pos n) = word_of-cast (n % 65536) (omega arith)
+word_of-wrapped (negsuc n) = word_of-cast (65536 - 1 - n % 65536) (omega arith) ∙ omega arith
+
+pub magnitude_is : (z : ℤ) → FitsSigned w16 z → magnitude (word_of z) ≡ unsigned_abs z
+magnitude_is (pos n) f = let h = f.sfits in grind (arith, nat_tests)
+magnitude_is (negsuc n) f = let h = f.sfits in grind (arith, nat_tests)
+
+pub signed-word_of : (z : ℤ) → FitsSigned w16 z → signed (word_of z) ≡ z
+signed-word_of (pos n) f = let h = f.sfits in let t : nat_lt 32767 (n % 65536) ≡ false = grind (arith, nat_tests) in rw t (omega (arith, ints))
+signed-word_of (negsuc n) f = let h = f.sfits in let t : nat_lt 32767 (65535 - n % 65536) ≡ true = grind (arith, nat_tests) in rw t (omega (arith, ints))
+
+-- a word is that of the signed number that it is read as
+pub word_of-signed : (w : ℕ) → w < 65536 → word_of (signed w) ≡ w
+word_of-signed w h = by (nat_lt 32767 w) refl
+  where
+    by : (t : Bool) → nat_lt 32767 w ≡ t → word_of (signed w) ≡ w
+    by true e = let d : pos w -ℤ pos 65536 ≡ negsuc (65535 - w) = omega (arith, ints) in rw (e, d) (omega arith)
+    by false e = rw e (omega arith)
+
+-- ---- division
+
+word_of-neg : (n : ℕ) → word_of (neg_ℤ (pos n)) ≡ negated (word n)
+word_of-neg zero = refl
+word_of-neg (suc n) = omega arith
+
+below_zero : ℤ → Bool
+below_zero (pos n) = false
+below_zero (negsuc n) = true
+
+sign_is : (z : ℤ) → FitsSigned w16 z → is_negative (word_of z) ≡ below_zero z
+unfolding below_zero
+sign_is (pos n) f = let h = f.sfits in grind (arith, nat_tests)
+sign_is (negsuc n) f = let h = f.sfits in grind (arith, nat_tests)
+
+-- the quotient of two signed numbers, as a word
+word_of-div : (n d : ℤ) → word_of (int_div n d) ≡ with_sign (differ (below_zero n) (below_zero d)) (unsigned_abs n / unsigned_abs d)
+unfolding below_zero
+word_of-div (pos n) (pos d) = refl
+word_of-div (pos n) (negsuc d) = word_of-neg (n / suc d)
+word_of-div (negsuc n) (pos d) = word_of-neg (suc n / d)
+word_of-div (negsuc n) (negsuc d) = refl
+
+pub quotient_is : (n d : ℤ) → FitsSigned w16 n → FitsSigned w16 d → word_of (int_div n d) ≡ quotient (word_of n) (word_of d)
+quotient_is n d f g =
+    word_of-div n d
+    ∙ (λ i. with_sign (differ (sym (sign_is n f) i) (sym (sign_is d g) i)) (sym (magnitude_is n f) i / sym (magnitude_is d g) i))
+
+pub quotient_word : (n d q : ℤ) → FitsSigned w16 n → FitsSigned w16 d → FitsSigned w16 q → q ≡ int_wrapping_div w16 (read n) (read d) → word_of (read q) ≡ quotient (word_of n) (word_of d)
+quotient_word n d q f g h e = ap word_of (read_quotient n d q f g h e) ∙ word_of-wrapped (int_div n d) ∙ quotient_is n d f g
+
+pub nonzero_word : (d : ℤ) → FitsSigned w16 d → (d ≡ pos 0 → ⊥) → word_of d ≡ 0 → ⊥
+nonzero_word d f h e =
+    let z : pos 0 ≡ d = ap signed (sym e) ∙ signed-word_of d f in
+    h (sym z)
+
+-- ---- negation and decimal text
+
+pub negation_is : (a : ℤ) → FitsSigned w16 a → int_wrapping_neg w16 a ≡ wrapped (pos 0 -ℤ a)
+negation_is a f = wrapping_neg_is w16 a f ∙ ap wrapped (sym (+ℤ_idl (neg_ℤ a)))
+
+pub digits_are : (z : ℤ) → FitsSigned w16 z → signed_decimal z ≡ digits_of (word_of z)
+digits_are (pos n) f =
+    let h = f.sfits in
+    let w : n % 65536 ≡ n = omega arith in
+    let t : nat_lt 32767 n ≡ false = grind (arith, nat_tests) in
+    rw (w, t) (sym (at_most_five_digits n (omega arith)))
+digits_are (negsuc n) f =
+    let h = f.sfits in
+    let t : nat_lt 32767 (65535 - n % 65536) ≡ true = grind (arith, nat_tests) in
+    let m : 65536 - (65535 - n % 65536) ≡ suc n = omega arith in
+    rw (t, m) (ap (λ text. 45 ∷ text) (sym (at_most_five_digits (suc n) (omega arith))))
