@@ -1,0 +1,10 @@
+pub mod Constants
+pub mod Runs
+pub mod Values
+pub mod Commands
+pub mod Lists
+pub mod Weighed
+pub mod Ranged
+pub mod Lettered
+pub mod Evaluated
+pub mod Rows

@@ -1,0 +1,8 @@
+use Rattle.std.proofs.Common.{sym, ◌∙◌}
+use Rattle.tb_syntax.specs.Shown.{expression_of}
+use Rattle.tb_lower.proofs.Constants.{constant_code}
+use Rattle.tb_lower.proofs.lowering.+put_value.Goals as goal
+
+pub returns-in-Some : goal.returns-in-Some
+returns-in-Some t c =
+    rw (constant_code (expression_of c.args.e.now) c.args.slot c.in-Some.value (sym c.constant.ensures ∙ c.in-Some.is)) c.put.ensures

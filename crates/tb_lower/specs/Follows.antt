@@ -1,0 +1,44 @@
+-- What it is that slot code has the runs of a program.
+use Rattle.std.specs.Prelude.{◌≡◌, ℕ, ◌+◌, ◌*◌, ◌≤◌, max, List, [], ◌∷◌, ◌++◌, length, Option, Some, None}
+use Rattle.tb_syntax.specs.Source.{Command, Program, numbers}
+use Rattle.tb_lower.specs.Weights.{IsBounded, instr_texts, command_texts}
+use Rattle.tb_lower.specs.Steps.{Run, GoesOn, Over, sent_by}
+use Rattle.tb_lower.specs.Control.{State, content_at}
+use Rattle.tb_lower.specs.Meaning.{source_run}
+use Rattle.tb_lower.specs.Slots.{Instr, SlotCode, Whole, Slots, SlotState, slot_start, slot_run, beginnings}
+
+-- the length of the longest list
+abbrev pub longest : SlotCode → ℕ
+longest [] = 0
+longest (line ∷ lines) = max (length line.content) (longest lines)
+
+abbrev pub IsPrefix : List ℕ → List ℕ → Type 0
+IsPrefix xs ys = (zs : List ℕ) × (xs ++ zs ≡ ys)
+
+-- the slot run stands where the source's run stands after m lines, b beginnings of lists having passed
+abbrev pub Meets : ℕ → Run State → Run SlotState → ℕ → Type 0
+Meets m (GoesOn s out) r b =
+    (slots : Slots) × (length slots.words ≡ 16) × (r ≡ GoesOn (record { state = s; rest = Whole; slots = slots }) out) × (b ≡ m)
+Meets m (Over e out) r b = (r ≡ Over e out) × (b ≤ m)
+
+-- what the slot run sent is a prefix of what the source's run sent, and its end is that run's
+abbrev pub Agrees : Run SlotState → Run State → Type 0
+Agrees (GoesOn c out) source = IsPrefix out (sent_by source)
+Agrees (Over e out) source = source ≡ Over e out
+
+-- a line's list: bounded by kind, with the texts of its items
+abbrev pub IsListOf : Option Command → Option (List Instr) → Type 0
+IsListOf None None = Unit {0}
+IsListOf (Some c) (Some is) = IsBounded c is × (instr_texts is ≡ command_texts c)
+IsListOf None (Some is) = ⊥
+IsListOf (Some c) None = ⊥
+
+-- The slot code has the program's runs, for each first seed, keyboard, first slots and first held word. For each m
+-- some k, at most m times one more than the longest list, has the output and the end that the program has after
+-- m lines, at the beginning of a list and in the same state where the run goes on. For each k the output is a prefix
+-- of what some number of lines sends, and the end, if there is one, is the program's.
+pub record Follows (program : Program) (code : SlotCode) : Type 0 where
+  pub same_numbers : numbers code ≡ numbers program
+  pub lists : (n : ℕ) → IsListOf (content_at program n) (content_at code n)
+  pub reaches : (seed : ℕ) (keys answers : List ℕ) (slots : Slots) → length slots.words ≡ 16 → (m : ℕ) → (k : ℕ) × (k ≤ m * (longest code + 1)) × Meets m (source_run program seed keys answers m) (slot_run code seed keys answers slots k) (beginnings code k (slot_start code seed keys answers slots))
+  pub reaches_only : (seed : ℕ) (keys answers : List ℕ) (slots : Slots) → length slots.words ≡ 16 → (k : ℕ) → (m : ℕ) × Agrees (slot_run code seed keys answers slots k) (source_run program seed keys answers m)

@@ -1,0 +1,15 @@
+pub mod Steps
+pub mod Control
+pub mod Input
+pub mod Values
+pub mod Meaning
+pub mod Need
+pub mod Cost
+pub mod Slots
+pub mod Shown
+pub mod Lowered
+pub mod Weights
+pub mod Ranges
+pub mod Follows
+pub mod Refusals
+pub mod Evaluation

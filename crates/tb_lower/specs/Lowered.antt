@@ -1,0 +1,80 @@
+-- The slot code of a program.
+use Rattle.std.specs.Prelude.{ℕ, ◌+◌, Bool, true, false, List, [], ◌∷◌, ◌++◌, map, Option, Some, None, option_map, slice_get}
+use Rattle.tb_words.specs.Words.{word, negated}
+use Rattle.tb_syntax.specs.Source.{Expression, Number, Variable, Binary, Item, Text, Value, Zone, Command, Let, Print, If, Goto, Gosub, Remark, Numbered, Program}
+use Rattle.tb_syntax.specs.Source as source
+use Rattle.tb_lower.specs.Values.{apply}
+use Rattle.tb_lower.specs.Slots.{Instr, Put, Load, Compute, Store, SendText, SendNumber, SendZone, SendNewline, Poll, Hold, LeaveUnless, Jump, Call, JumpTo, CallTo, SlotCode}
+use Rattle.tb_lower.specs.Slots as slots
+
+-- the word of an operator on two words, where there are two and it has one
+abbrev pub both : (ℕ → ℕ → Option ℕ) → Option ℕ → Option ℕ → Option ℕ
+both f (Some a) (Some b) = f a b
+both f (Some a) None = None
+both f None y = None
+
+-- the value of an expression without RND, where no division is by zero and each variable is one of those given
+abbrev pub known_value : Expression → List ℕ → Option ℕ
+known_value (Number n) vars = Some (word n)
+known_value (Variable x) vars = slice_get vars x
+known_value (source.Negate e) vars = option_map negated (known_value e vars)
+known_value (Binary op l r) vars = both (apply op) (known_value l vars) (known_value r vars)
+known_value (source.Random e) vars = None
+
+-- the value of an expression without variables and RND, where no division is by zero
+abbrev pub constant : Expression → Option ℕ
+constant e = known_value e []
+
+-- a constant, where there is one, into slot k, and else that code
+abbrev pub or_constant : Option ℕ → ℕ → List Instr → List Instr
+or_constant (Some v) k code = Put k v ∷ []
+or_constant None k code = code
+
+-- the value of an expression into slot k, by slots from k on; each largest part that is constant is one instruction
+abbrev pub value_code : Expression → ℕ → List Instr
+value_code (Number n) k = Put k (word n) ∷ []
+value_code (Variable x) k = Load k x ∷ []
+value_code (source.Negate e) k = or_constant (constant (source.Negate e)) k (value_code e k ++ slots.Negate k ∷ [])
+value_code (Binary op l r) k = or_constant (constant (Binary op l r)) k (value_code l k ++ (value_code r (k + 1) ++ Compute op k ∷ []))
+value_code (source.Random e) k = value_code e k ++ slots.Random k ∷ []
+
+abbrev pub item_code : Item → List Instr
+item_code (Text t) = SendText t ∷ []
+item_code (Value e) = value_code e 0 ++ SendNumber ∷ []
+item_code Zone = SendZone ∷ []
+
+abbrev pub items_code : List Item → List Instr
+items_code [] = []
+items_code (i ∷ is) = item_code i ++ items_code is
+
+abbrev pub inputs_code : List ℕ → List Instr
+inputs_code [] = []
+inputs_code (x ∷ xs) = slots.Input x ∷ inputs_code xs
+
+abbrev pub newline_code : Bool → List Instr
+newline_code true = SendNewline ∷ []
+newline_code false = []
+
+-- a constant target, where there is one, is part of the instruction; else that code
+abbrev pub target_code : Option ℕ → (ℕ → Instr) → List Instr → List Instr
+target_code (Some v) direct code = direct v ∷ []
+target_code None direct code = code
+
+-- what stays as written: which expressions, items and variables come one after the other
+abbrev pub command_code : Command → List Instr
+command_code (Let x e) = value_code e 0 ++ Store x ∷ []
+command_code (Print items ends) = items_code items ++ newline_code ends
+command_code (source.Input xs) = inputs_code xs
+command_code (If l rel r c) = value_code l 0 ++ (Hold ∷ (value_code r 0 ++ (LeaveUnless rel ∷ command_code c)))
+command_code (Goto e) = target_code (constant e) JumpTo (value_code e 0 ++ Jump ∷ [])
+command_code (Gosub e) = target_code (constant e) CallTo (value_code e 0 ++ Call ∷ [])
+command_code source.Return = slots.Return ∷ []
+command_code source.End = slots.End ∷ []
+command_code Remark = []
+
+-- a line takes an answer before anything else
+abbrev pub list_code : Command → List Instr
+list_code c = Poll ∷ command_code c
+
+abbrev pub program_code : Program → SlotCode
+program_code lines = map (λ line. record { number = line.number; content = list_code line.content }) lines

@@ -1,0 +1,14 @@
+//! What a program means, and slot code that does the same.
+//!
+//! The meaning is a definition (`specs/Meaning.antt`); `run_source` is a plain program that runs it. Slot code
+//! works on words in numbered slots, an instruction at a time, and `lower` makes it from a program.
+#![tactic(auto)]
+
+mod evaluation;
+mod lowering;
+mod needs;
+mod slot_code;
+
+pub use evaluation::{EvalError, eval};
+pub use lowering::{LowerError, lower};
+pub use slot_code::{SlotCode, SlotInstr, SlotLine};

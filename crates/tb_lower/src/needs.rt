@@ -1,0 +1,44 @@
+//! How many slots expressions need.
+ghost use Rattle.std.specs.Prelude.{◌≡◌, map, min};
+ghost use Rattle.tb_syntax.specs.Shown.{expression_of, item_of, command_of};
+ghost use Rattle.tb_lower.specs.Need.{need, items_need, command_need};
+
+use tb_syntax::{Expr, PrintItem, Statement};
+
+/// How many slots there are.
+pub const SLOTS: u8 = 16;
+
+// How many slots an expression needs, up to 17.
+fn need(e: &Expr) -> u8
+    ensures { result ≡ min (need (expression_of e.now)) 17 }
+{
+    match e {
+        Expr::Number(_) | Expr::Variable(_) => 1,
+        Expr::Negate(e) | Expr::Random(e) => need(e),
+        Expr::Binary(_, l, r) => need(l).max(need(r).min(SLOTS) + 1),
+    }
+}
+
+fn items_need(items: &[PrintItem]) -> u8
+    ensures { result ≡ min (items_need (map item_of items.now)) 17 }
+{
+    let mut most = 0;
+    for item in items {
+        if let PrintItem::Value(e) = item {
+            most = need(e).max(most);
+        }
+    }
+    most
+}
+
+/// How many slots the expressions of a statement need at most, up to 17.
+pub fn command_need(s: &Statement) -> u8
+    ensures { result ≡ min (command_need (command_of s.now)) 17 }
+{
+    match s {
+        Statement::Let(_, e) | Statement::Goto(e) | Statement::Gosub(e) => need(e),
+        Statement::Print(items, _) => items_need(items),
+        Statement::If(l, _, r, s) => need(l).max(need(r)).max(command_need(s)),
+        Statement::Input(_) | Statement::Return | Statement::End | Statement::Remark => 0,
+    }
+}
