@@ -1,10 +1,10 @@
 -- The labels of a program's code: a letter that says what stands there, and numbers in hexadecimal digits.
 use Rattle.std.specs.Prelude.{ℕ, ◌+◌, ◌/◌, ◌%◌, List, [], ◌∷◌, nat_lt, if◌then◌else◌, codes}
 use Rattle.tb_asm.specs.declared.names.Name.{Name}
-use Rattle.tb_codegen.specs.declared.labels.Inner.{Inner}
-use Rattle.tb_codegen.specs.declared.labels.Inner.TheVariants.{Text, Behind, Skip, Here}
-use Rattle.tb_codegen.specs.declared.labels.Target.{Target}
-use Rattle.tb_codegen.specs.declared.labels.Target.TheVariants.{Line, Inside, Past, Find, Table}
+use Rattle.tb_templates.specs.declared.labels.Inner.{Inner}
+use Rattle.tb_templates.specs.declared.labels.Inner.TheVariants.{Text, Behind, Skip, Here}
+use Rattle.tb_templates.specs.declared.labels.Target.{Target}
+use Rattle.tb_templates.specs.declared.labels.Target.TheVariants.{Line, Inside, Past, Find, Table}
 
 abbrev pub digit_of : ℕ → ℕ
 digit_of d = if nat_lt d 10 then 48 + d else 55 + d

@@ -1,7 +1,7 @@
 //! Small pieces of code, as items of the assembler.
 ghost use Rattle.std.specs.Prelude.{◌≡◌, ◌+◌, ◌<◌, ◌≤◌, OnOk, [], ◌∷◌, ◌++◌, map};
 ghost use Rattle.tb_asm.specs.Layout.{entry_of};
-ghost use Rattle.tb_codegen.specs.Templates as templates;
+ghost use Rattle.tb_templates.specs.Templates as templates;
 ghost use Rattle.tb_runtime16.specs.Places as places;
 ghost use Rattle.tb_opcodes.specs.declared.Mnemonic.TheVariants.{Lda, Sta};
 

@@ -13,10 +13,10 @@ use Rattle.tb_lower.specs.Control.{Place, At, Past, next_after, has_line}
 use Rattle.tb_lower.specs.Slots as slots
 use Rattle.tb_lower.specs.Slots.{Instr, Put, Load, Store, Negate, Compute, Random, SendText, SendNumber, SendZone, SendNewline, Input, Poll, Hold, LeaveUnless, Jump, Call, JumpTo, CallTo, Return, End}
 use Rattle.tb_runtime16.specs.Places.{POINTER, LENGTH, LINE, HELD, LEFT, RIGHT, RESULT, SCRATCH, VARS, SLOTS, SEND_AT, MULTIPLY_AT, DIVIDE_AT, RANDOM_AT, NUMBER_AT, TEXT_AT, ZONE_AT, INPUT_AT, PUSH_AT, POP_AT, FAULT_AT, POLL_AT}
-use Rattle.tb_codegen.specs.declared.labels.Inner.TheVariants as inner
-use Rattle.tb_codegen.specs.declared.labels.Target.{Target}
-use Rattle.tb_codegen.specs.declared.labels.Target.TheVariants as target
-use Rattle.tb_codegen.specs.Labels.{label_of}
+use Rattle.tb_templates.specs.declared.labels.Inner.TheVariants as inner
+use Rattle.tb_templates.specs.declared.labels.Target.{Target}
+use Rattle.tb_templates.specs.declared.labels.Target.TheVariants as target
+use Rattle.tb_templates.specs.Labels.{label_of}
 
 -- where variable x and slot k stand
 abbrev pub var_at : ℕ → ℕ

@@ -2,15 +2,15 @@
 ghost use Rattle.std.specs.Prelude.{◌≡◌, ◌+◌, ◌<◌, ◌≤◌, OnOk, [], ◌∷◌, ◌++◌, map, length};
 ghost use Rattle.tb_asm.specs.Layout as layout;
 ghost use Rattle.tb_words.specs.declared.Rel.TheVariants.{Eq, Ne};
-ghost use Rattle.tb_codegen.specs.declared.labels.Target.{Target};
-ghost use Rattle.tb_codegen.specs.declared.labels.Target.TheVariants as target;
-ghost use Rattle.tb_codegen.specs.declared.labels.Inner.TheVariants as inner;
+ghost use Rattle.tb_templates.specs.declared.labels.Target.{Target};
+ghost use Rattle.tb_templates.specs.declared.labels.Target.TheVariants as target;
+ghost use Rattle.tb_templates.specs.declared.labels.Inner.TheVariants as inner;
 ghost use Rattle.tb_asm.specs.Layout.{entry_of};
 ghost use Rattle.tb_lower.specs.Control.{has_line};
 ghost use Rattle.tb_lower.specs.Ranges.{IsInRange};
 ghost use Rattle.tb_lower.specs.Shown.{instr_of};
-ghost use Rattle.tb_codegen.specs.Templates as templates;
-ghost use Rattle.tb_codegen.specs.Templates.{var_at, slot_at, template};
+ghost use Rattle.tb_templates.specs.Templates as templates;
+ghost use Rattle.tb_templates.specs.Templates.{var_at, slot_at, template};
 ghost use Rattle.tb_words.specs.Letters.{place};
 ghost use Rattle.tb_runtime16.specs.Places as places;
 

@@ -1,7 +1,7 @@
 //! The places of a program's code that have a label.
 ghost use Rattle.std.specs.Prelude.{◌≡◌, ◌<◌, ◌≤◌, ◌+◌, ◌∷◌, ◌++◌, []};
 ghost use Rattle.arrayvec.specs.ArrayVec.{array_vec_len};
-ghost use Rattle.tb_codegen.specs.Labels.{label_of, letter_of, digit_of, four_digits, named};
+ghost use Rattle.tb_templates.specs.Labels.{label_of, letter_of, digit_of, four_digits, named};
 
 use arrayvec::ArrayVec;
 use tb_asm::Name;

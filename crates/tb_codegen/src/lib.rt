@@ -1,6 +1,0 @@
-//! The compiler: from a source text to a PRG.
-#![tactic(auto)]
-
-mod labels;
-mod pieces;
-mod templates;
