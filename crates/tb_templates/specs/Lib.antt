@@ -1,3 +1,4 @@
 pub mod Labels
 pub mod Templates
 pub mod Program
+pub mod Sizes
