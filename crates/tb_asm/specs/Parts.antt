@@ -1,0 +1,83 @@
+-- The parts of a line, read from the left.
+use Rattle.std.specs.Prelude.{ℕ, ◌+◌, ◌-◌, ◌*◌, Bool, ◌||◌, Option, Some, None, List, [], ◌∷◌, ◌++◌, length, nat_lt, eqb, if◌then◌else◌}
+use Rattle.tb_asm.specs.declared.parts.Part.{Part}
+use Rattle.tb_asm.specs.declared.parts.Part.TheVariants.{Identifier, TwoDigits, FourDigits, Hash, Less, Greater, Left, Right, Comma, Colon}
+use Rattle.tb_asm.specs.Names.{within, is_letter, may_follow, fold_byte}
+
+-- an identifier by its letters in upper case
+abbrev pub identifier : List ℕ → Part
+identifier w = Identifier (record { items = w })
+
+-- a number by the values of its hexadecimal digits: two or four
+abbrev pub number_of : List ℕ → Option Part
+number_of (a ∷ b ∷ []) = Some (TwoDigits (16 * a + b))
+number_of (a ∷ b ∷ c ∷ d ∷ []) = Some (FourDigits (4096 * a + 256 * b + 16 * c + d))
+number_of ds = None
+
+-- where the reading stands: between two parts, in an identifier or in a number, with what was read of it
+pub data Place : Type 0 where
+  between : Place
+  in_identifier : List ℕ → Place
+  in_number : List ℕ → Place
+
+abbrev pub digit_value : ℕ → Option ℕ
+digit_value b = if within 48 57 b then Some (b - 48) else if within 65 70 b then Some (b - 55) else if within 97 102 b then Some (b - 87) else None
+
+abbrev pub hex_digit : ℕ → ℕ
+hex_digit d = if nat_lt d 10 then 48 + d else 55 + d
+
+-- a space or a tab
+abbrev pub is_space : ℕ → Bool
+is_space b = eqb b 32 || eqb b 9
+
+abbrev pub sign_of : ℕ → Option Part
+sign_of b =
+    if eqb b 35 then Some Hash else
+    if eqb b 60 then Some Less else
+    if eqb b 62 then Some Greater else
+    if eqb b 40 then Some Left else
+    if eqb b 41 then Some Right else
+    if eqb b 44 then Some Comma else
+    if eqb b 58 then Some Colon else None
+
+abbrev pub with_part : Part → Option (List Part) → Option (List Part)
+with_part p None = None
+with_part p (Some ps) = Some (p ∷ ps)
+
+abbrev pub with_found : Option Part → Option (List Part) → Option (List Part)
+with_found None ps = None
+with_found (Some p) ps = with_part p ps
+
+-- the byte b where a part begins or a comment does; `go` reads on
+abbrev pub fresh : ℕ → (Place → Option (List Part)) → Option (List Part)
+fresh b go =
+    if eqb b 59 then Some [] else
+    if is_space b then go between else
+    if is_letter (fold_byte b) || eqb b 46 then go (in_identifier (fold_byte b ∷ [])) else
+    if eqb b 36 then go (in_number []) else with_found (sign_of b) (go between)
+
+-- an identifier has at most 31 bytes, and a number at most four digits
+abbrev pub letter_on : List ℕ → ℕ → (Place → Option (List Part)) → Option (List Part)
+letter_on w b go = if nat_lt (length w) 31 then go (in_identifier (w ++ b ∷ [])) else None
+
+abbrev pub digit_on : Option ℕ → List ℕ → ℕ → (Place → Option (List Part)) → Option (List Part)
+digit_on None ds b go = with_found (number_of ds) (fresh b go)
+digit_on (Some d) ds b go = if nat_lt (length ds) 4 then go (in_number (ds ++ d ∷ [])) else None
+
+abbrev pub step : Place → ℕ → (Place → Option (List Part)) → Option (List Part)
+step between b go = fresh b go
+step (in_identifier w) b go = if may_follow (fold_byte b) then letter_on w (fold_byte b) go else with_part (identifier w) (fresh b go)
+step (in_number ds) b go = digit_on (digit_value b) ds b go
+
+abbrev pub finish : Place → Option (List Part)
+finish between = Some []
+finish (in_identifier w) = Some (identifier w ∷ [])
+finish (in_number ds) = with_found (number_of ds) (Some [])
+
+abbrev pub parts_from : Place → List ℕ → Option (List Part)
+parts_from p [] = finish p
+parts_from p (b ∷ bs) = step p b (λ q. parts_from q bs)
+
+-- the parts of a line; none where a byte begins no part
+abbrev pub parts_of : List ℕ → Option (List Part)
+parts_of line = parts_from between line
