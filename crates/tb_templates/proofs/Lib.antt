@@ -1,2 +1,4 @@
 pub mod Appends
 pub mod Fitting
+pub mod Ordered
+pub mod Rising

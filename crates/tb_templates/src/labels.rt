@@ -34,7 +34,7 @@ pub enum Target {
     Table,
 }
 
-/// Its label: a letter and hexadecimal digits, or a word.
+/// Its label: `L` and hexadecimal digits, or a word.
 pub fn label(target: Target) -> Name
     ensures { result ≡ label_of target }
 {
@@ -42,8 +42,8 @@ pub fn label(target: Target) -> Name
         Target::Line(line) => line_label(line),
         Target::Inside(inner, line, instruction) => inner_label(inner, line, instruction),
         Target::Past => word_label(b'P', b'A', b'S', b'T'),
-        Target::Find => word_label(b'F', b'I', b'N', b'D'),
-        Target::Table => word_label(b'R', b'O', b'W', b'S'),
+        Target::Find => word_label(b'S', b'E', b'E', b'K'),
+        Target::Table => word_label(b'T', b'R', b'O', b'W'),
     }
 }
 
@@ -81,18 +81,25 @@ fn line_label(line: u16) -> Name
 }
 
 fn inner_label(inner: Inner, line: u16, instruction: u16) -> Name
-    ensures { result ≡ named (letter_of inner ∷ four_digits line (four_digits instruction [])) }
+    ensures { result ≡ named (76 ∷ four_digits line (four_digits instruction (letter_of inner ∷ []))) }
 {
     let mut letters = ArrayVec::new();
-    letters.push(match inner {
-        Inner::Text => b'T',
-        Inner::Behind => b'B',
-        Inner::Skip => b'J',
-        Inner::Here => b'H',
-    });
+    letters.push(b'L');
     push_digits(&mut letters, line);
     push_digits(&mut letters, instruction);
+    letters.push(letter(inner));
     Name { letters }
+}
+
+// The letter of a place inside a line's code.
+fn letter(inner: Inner) -> u8
+    ensures { result ≡ letter_of inner }
+{
+    match inner {
+        Inner::Skip => b'S',
+        Inner::Text | Inner::Here => b'T',
+        Inner::Behind => b'U',
+    }
 }
 
 fn word_label(first: u8, second: u8, third: u8, fourth: u8) -> Name
