@@ -76,10 +76,10 @@ pub lines_rise : (ns : List ℕ) (seed low : ℕ) (lines : SlotCode) → low ≤
 lines_rise ns seed low [] l r c = omega (arith, l)
 lines_rise ns seed low (line ∷ lines) l r c =
     let n = line.number in
-    let k = line_key n r.0.1 in
+    let k = line_key n r.1 in
     rising_append (base low 0) (base (n + 1) 0) (base 65536 0) (line_code ns seed line) (lines_code ns seed lines)
-    (omega (arith, k, r.0.0), subst (λ x. Rising (x + 1) (rest_code ns seed n 0 line.content) (base (n + 1) 0)) (sym k) (rest_rises ns seed n 0 line.content r.0.1 (omega (arith, c.0.1))))
-    (lines_rise ns seed (n + 1) lines (omega (arith, r.0.1)) r.1 c.1)
+    (omega (arith, k, r.0), subst (λ x. Rising (x + 1) (rest_code ns seed n 0 line.content) (base (n + 1) 0)) (sym k) (rest_rises ns seed n 0 line.content r.1 (omega (arith, c.1))))
+    (lines_rise ns seed (n + 1) lines (omega (arith, r.1)) r.2 c.2)
 
 rows_rise : (ns : List ℕ) (low high : ℕ) → low ≤ high → Rising low (rows_code ns) high
 rows_rise [] low high h = h
