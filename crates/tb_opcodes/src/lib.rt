@@ -1,87 +1,165 @@
 //! The documented instructions of the NMOS 6502: opcodes, mnemonics and addressing modes.
+//!
+//! The table of 151 rows is `rows` in `specs/Opcodes.antt`, in the manual's order, by mnemonic.
+//! The code has a table of its own, in the order of the opcodes: the proof compares the two, and a
+//! test compares both with the table rebuilt from the opcodes' bit structure. No call takes memory.
 #![tactic(auto)]
 
 ghost use Rattle.std.specs.Prelude.{◌≡◌, ◌<◌, ◌≢◌, ℕ, Some, None, MatchOption, IsTrue, ◌↔◌};
 ghost use Rattle.tb_opcodes.specs.Opcodes.{decoded, encoded, length_of};
+ghost use Rattle.tb_opcodes.specs.Table.{IsTable};
 
+/// The 56 mnemonics of the MCS6500 Programming Manual.
 #[derive(Clone, Copy, PartialEq, Eq, Debug, Drop)]
 pub enum Mnemonic {
+    /// Add to A with carry.
     Adc,
+    /// AND with A.
     And,
+    /// Shift left, one bit.
     Asl,
+    /// Branch where C is clear.
     Bcc,
+    /// Branch where C is set.
     Bcs,
+    /// Branch where Z is set.
     Beq,
+    /// Test bits with A.
     Bit,
+    /// Branch where N is set.
     Bmi,
+    /// Branch where Z is clear.
     Bne,
+    /// Branch where N is clear.
     Bpl,
+    /// Force break.
     Brk,
+    /// Branch where V is clear.
     Bvc,
+    /// Branch where V is set.
     Bvs,
+    /// Clear the carry.
     Clc,
+    /// Clear decimal mode.
     Cld,
+    /// Clear the interrupt disable.
     Cli,
+    /// Clear the overflow.
     Clv,
+    /// Compare with A.
     Cmp,
+    /// Compare with X.
     Cpx,
+    /// Compare with Y.
     Cpy,
+    /// Decrement memory.
     Dec,
+    /// Decrement X.
     Dex,
+    /// Decrement Y.
     Dey,
+    /// Exclusive OR with A.
     Eor,
+    /// Increment memory.
     Inc,
+    /// Increment X.
     Inx,
+    /// Increment Y.
     Iny,
+    /// Jump.
     Jmp,
+    /// Jump, saving the return address.
     Jsr,
+    /// Load A.
     Lda,
+    /// Load X.
     Ldx,
+    /// Load Y.
     Ldy,
+    /// Shift right, one bit.
     Lsr,
+    /// No operation.
     Nop,
+    /// OR with A.
     Ora,
+    /// Push A.
     Pha,
+    /// Push the status.
     Php,
+    /// Pull A.
     Pla,
+    /// Pull the status.
     Plp,
+    /// Rotate left, one bit.
     Rol,
+    /// Rotate right, one bit.
     Ror,
+    /// Return from interrupt.
     Rti,
+    /// Return from subroutine.
     Rts,
+    /// Subtract from A with borrow.
     Sbc,
+    /// Set the carry.
     Sec,
+    /// Set decimal mode.
     Sed,
+    /// Set the interrupt disable.
     Sei,
+    /// Store A.
     Sta,
+    /// Store X.
     Stx,
+    /// Store Y.
     Sty,
+    /// Transfer A to X.
     Tax,
+    /// Transfer A to Y.
     Tay,
+    /// Transfer S to X.
     Tsx,
+    /// Transfer X to A.
     Txa,
+    /// Transfer X to S.
     Txs,
+    /// Transfer Y to A.
     Tya,
 }
 
+/// The 13 addressing modes.
 #[derive(Clone, Copy, PartialEq, Eq, Debug, Drop)]
 pub enum Mode {
+    /// No operand.
     Implied,
+    /// A itself.
     Accumulator,
+    /// The byte behind the opcode.
     Immediate,
+    /// A byte of page zero.
     ZeroPage,
+    /// Page zero, X added modulo 256.
     ZeroPageX,
+    /// Page zero, Y added modulo 256.
     ZeroPageY,
+    /// Through a pointer of page zero whose place has X added: `(zp,X)`.
     IndirectX,
+    /// Through a pointer of page zero, Y added to what it holds: `(zp),Y`.
     IndirectY,
+    /// A signed distance from the next instruction.
     Relative,
+    /// A word, low byte first.
     Absolute,
+    /// A word, X added.
     AbsoluteX,
+    /// A word, Y added.
     AbsoluteY,
+    /// Through a pointer anywhere, of JMP alone: `(abs)`.
     Indirect,
 }
 
-/// What a byte stands for, where it is a documented opcode.
+/// The mnemonic and the mode that a byte stands for, where it is one of the 151 documented
+/// opcodes.
+// Inlined, so that the processor reaches an instruction by one jump over the opcode.
 #[inline(always)]
 #[tactic(auto, unfolding(crate::specs::Opcodes::decoded))]
 pub fn decode(opcode: u8) -> Option<(Mnemonic, Mode)>
@@ -244,7 +322,7 @@ pub fn decode(opcode: u8) -> Option<(Mnemonic, Mode)>
     Some(instruction)
 }
 
-/// The number of bytes of an instruction.
+/// The number of bytes of an instruction in a mode, from 1 to 3. BRK counts one.
 pub fn length(mode: Mode) -> u8
     ensures { result ≡ length_of mode }
 {
@@ -256,6 +334,8 @@ pub fn length(mode: Mode) -> u8
 }
 
 /// The opcode of a mnemonic in a mode, where it has that mode.
+///
+/// It looks through the 256 bytes, which serves an assembler and is no call for an inner loop.
 pub fn encode(mnemonic: Mnemonic, mode: Mode) -> Option<u8>
     ensures { result ≡ encoded mnemonic mode }
 {
@@ -276,3 +356,10 @@ fn stands_for(opcode: u8, mnemonic: Mnemonic, mode: Mode) -> bool
         None => false,
     }
 }
+
+/// The laws of the table, for those who build on it: `decode` and `encode` are its 151 rows, and
+/// inverse to each other. The call does nothing.
+#[tactic(auto, using(crate::proofs::Table::table))]
+pub fn table_laws()
+    ensures { IsTable }
+{}

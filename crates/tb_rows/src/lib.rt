@@ -1,2 +1,10 @@
 //! Worked rows of every layer, as tests. The crate has nothing else: tests in a crate of their own are proved once.
 #![tactic(auto)]
+
+mod cpu;
+mod grammar;
+mod kernal;
+mod memmap;
+mod opcodes;
+mod reaching;
+mod words;

@@ -1,0 +1,13 @@
+pub mod Complete
+pub mod ExpressionLaws
+pub mod ListLoops
+pub mod Lists
+pub mod Literal
+pub mod Loop
+pub mod PrintWord
+pub mod Relations
+pub mod Sound
+pub mod StatementComplete
+pub mod StatementLaws
+pub mod StatementSound
+pub mod Steps

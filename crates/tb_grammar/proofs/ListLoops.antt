@@ -1,0 +1,171 @@
+-- The loops that read a text, the items of PRINT and the variables of INPUT.
+use Rattle.std.proofs.Common.{◌≡◌, ◌≢◌, ℕ, zero, suc, ◌<◌, ◌≤◌, Bool, true, false, List, [], ◌∷◌, ◌++◌, length, Option, Some, None, refl, sym, ap, ◌∙◌, arith, append_assoc, map, inl, inr, ◌==◌}
+use Rattle.std.specs.Option.{option_or}
+use Rattle.std.proofs.lemmas.Bool.{eqb-true}
+use Rattle.std.proofs.lemmas.List.{append-nil, map-append}
+use Rattle.tb_words.specs.Letters.{place}
+use Rattle.tb_words.specs.declared.Letter.{Letter}
+use Rattle.tb_syntax.specs.declared.statements.PrintItem.{PrintItem}
+use Rattle.tb_syntax.specs.Shown.{item_of, letters_of}
+use Rattle.tb_syntax.specs.Source.{Item, Input}
+use Rattle.tb_grammar.specs.Reading.{◌>>=◌, behind, letter_at}
+use Rattle.tb_grammar.specs.StatementReading.{quotation_at, FoundItem, as_text, item_at, between, Printed, with_items, others_by, items_at, letters_after, letters_at, input_at}
+use Rattle.tb_grammar.proofs.Steps.{chosen, behind_is, letter_found}
+use Rattle.tb_grammar.proofs.Complete.{not_that, one_more}
+use Rattle.tb_grammar.proofs.Lists.{no_second, item_is, item_shorter, items_step}
+
+not_behind : (b c : ℕ) (text : List ℕ) → behind c (b ∷ text) ≡ None → (b == c) ≡ false
+not_behind b c text e = elim (chosen (b == c) (Some text) None None e) [
+  | inl h ↦ let e' = h.1 in absurd cc
+  | inr h ↦ h.0
+]
+
+pub is_empty : (text : List ℕ) → true ≡ (length text == 0) → text ≡ []
+is_empty [] e = refl
+is_empty (b ∷ text) e = let same : suc (length text) ≡ 0 = eqb-true (suc (length text)) 0 (sym e) in absurd (omega (arith, same))
+
+pub is_longer : (text : List ℕ) → false ≡ (length text == 0) → 0 < length text
+is_longer [] e = absurd cc
+is_longer (b ∷ text) e = omega arith
+
+-- the rest of a text behind bytes that were read
+abbrev pub text_behind : List ℕ → List ℕ → Option FoundItem
+text_behind bytes rest = quotation_at rest >>= λ q. Some (as_text (bytes ++ q.0, q.1))
+
+pub text_closes : (bytes tail : List ℕ) → text_behind bytes (34 ∷ tail) ≡ Some (as_text (bytes, tail))
+text_closes bytes tail = ap (λ (bytes : List ℕ). Some (as_text (bytes, tail))) (append-nil bytes)
+
+pub text_goes_on : (bytes : List ℕ) (b : ℕ) (tail : List ℕ) → b ≢ 34 → text_behind bytes (b ∷ tail) ≡ text_behind (bytes ++ b ∷ []) tail
+text_goes_on bytes b tail h = rw (not_that b 34 h) (go (quotation_at tail))
+  where
+    go : (o : Option (List ℕ × List ℕ)) → (◌>>=◌ {B = List ℕ × List ℕ} o (λ q. Some (b ∷ q.0, q.1)) >>= λ q. Some (as_text (bytes ++ q.0, q.1))) ≡ (o >>= λ q. Some (as_text ((bytes ++ b ∷ []) ++ q.0, q.1)))
+    go None = refl
+    go (Some q) = ap (λ (bytes : List ℕ). Some (as_text (bytes, q.1))) (sym (append_assoc bytes (b ∷ []) q.0))
+
+-- the rest of the items of PRINT behind those that were read
+abbrev pub printed_behind : ℕ → Bool → List Item → Option ℕ → List ℕ → Option Printed
+printed_behind k ends items large rest = items_at k ends rest >>= λ p. Some (with_items items large p)
+
+pub printed_starts : (k : ℕ) (text : List ℕ) → printed_behind k true [] None text ≡ items_at k true text
+printed_starts k text = go (items_at k true text)
+  where
+    go : (o : Option Printed) → (o >>= λ p. Some (with_items [] None p)) ≡ o
+    go None = refl
+    go (Some p) = refl
+
+pub printed_ends : (k : ℕ) (ends : Bool) (items : List Item) (large : Option ℕ) → printed_behind k ends items large [] ≡ Some (record { items = items; ends_line = ends; large = large })
+printed_ends k ends items large = rw (append-nil items, no_second large) refl
+
+or_assoc : (a b c : Option ℕ) → option_or a (option_or b c) ≡ option_or (option_or a b) c
+or_assoc None b c = refl
+or_assoc (Some n) b c = refl
+
+printed_step : (k : ℕ) (ends : Bool) (items : List Item) (large : Option ℕ) (rest : List ℕ) (i : FoundItem) → 0 < length rest → item_at rest ≡ Some i
+    → printed_behind (suc k) ends items large rest ≡ (others_by (items_at k false) i.rest >>= λ p. Some (with_items (items ++ i.item ∷ []) (option_or large i.large) p))
+printed_step k ends items large rest i some is =
+    ap (λ (o : Option Printed). o >>= λ p. Some (with_items items large p)) (items_step k ends rest i some is) ∙ go (others_by (items_at k false) i.rest)
+  where
+    go : (o : Option Printed) → ((o >>= λ p. Some (with_items (i.item ∷ []) i.large p)) >>= λ p. Some (with_items items large p)) ≡ (o >>= λ p. Some (with_items (items ++ i.item ∷ []) (option_or large i.large) p))
+    go None = refl
+    go (Some p) = rw (append_assoc items (i.item ∷ []) p.items, or_assoc large i.large p.large) refl
+
+-- one item more: what it leaves, and where the others begin
+module _ (k : ℕ) (ends : Bool) (items : List Item) (large : Option ℕ) (rest : List ℕ) (i : FoundItem) (some : 0 < length rest) (fits : length rest ≤ k) (is : item_at rest ≡ Some i) where
+  fuel : (j : ℕ) × (k ≡ suc j)
+  fuel = one_more k 0 (omega (arith, some, fits))
+
+  pub printed_last : i.rest ≡ [] → printed_behind k ends items large rest ≡ Some (record { items = items ++ i.item ∷ []; ends_line = true; large = option_or large i.large })
+  printed_last e =
+      ap (λ (k : ℕ). printed_behind k ends items large rest) fuel.1 ∙ printed_step fuel.0 ends items large rest i some is
+      ∙ ap (λ (t : List ℕ). others_by (items_at fuel.0 false) t >>= λ p. Some (with_items (items ++ i.item ∷ []) (option_or large i.large) p)) e
+      ∙ rw (append-nil (items ++ i.item ∷ []), no_second (option_or large i.large)) refl
+
+  pub printed_shrinks : (b : ℕ) (others : List ℕ) → behind b i.rest ≡ Some others → length others < length rest
+  printed_shrinks b others e = let s = item_shorter (item_is rest i is) in omega (arith, s, ap length (behind_is b i.rest others e))
+
+  pub printed_next : (b : ℕ) (others : List ℕ) (zone : List Item) (items' : List Item) (ends' : Bool) (large' : Option ℕ) (total : Option Printed) → behind b i.rest ≡ Some others → between b ≡ Some zone
+      → items' ≡ (items ++ i.item ∷ []) ++ zone → ends' ≡ false → large' ≡ option_or large i.large → printed_behind k ends items large rest ≡ total
+      → (j : ℕ) × (length others ≤ j) × (printed_behind j ends' items' large' others ≡ total)
+  printed_next b others zone items' ends' large' total e h ei ee el t = (
+    fuel.0,
+    omega (arith, fuel.1, fits, printed_shrinks b others e),
+    rw (ei, ee, el) (sym
+        (ap (λ (k : ℕ). printed_behind k ends items large rest) fuel.1 ∙ printed_step fuel.0 ends items large rest i some is
+        ∙ ap (λ (t : List ℕ). others_by (items_at fuel.0 false) t >>= λ p. Some (with_items (items ++ i.item ∷ []) (option_or large i.large) p)) (behind_is b i.rest others e)
+        ∙ rw h (go (items_at fuel.0 false others))) ∙ t),
+  )
+    where
+      go : (o : Option Printed) → ((o >>= λ p. Some (with_items zone None p)) >>= λ p. Some (with_items (items ++ i.item ∷ []) (option_or large i.large) p)) ≡ (o >>= λ p. Some (with_items ((items ++ i.item ∷ []) ++ zone) (option_or large i.large) p))
+      go None = refl
+      go (Some p) = rw (append_assoc (items ++ i.item ∷ []) zone p.items) refl
+
+  pub printed_stops : behind 44 i.rest ≡ None → behind 59 i.rest ≡ None → 0 < length i.rest → printed_behind k ends items large rest ≡ None
+  printed_stops no_comma no_semicolon more =
+      ap (λ (k : ℕ). printed_behind k ends items large rest) fuel.1 ∙ printed_step fuel.0 ends items large rest i some is
+      ∙ ap (λ (o : Option Printed). o >>= λ p. Some (with_items (items ++ i.item ∷ []) (option_or large i.large) p)) (stopped i.rest no_comma no_semicolon more)
+    where
+      stopped : (rest : List ℕ) → behind 44 rest ≡ None → behind 59 rest ≡ None → 0 < length rest → others_by (items_at fuel.0 false) rest ≡ None
+      stopped [] no_comma no_semicolon more = absurd (omega arith)
+      stopped (b ∷ rest) no_comma no_semicolon more = rw (not_behind b 44 rest no_comma, not_behind b 59 rest no_semicolon) refl
+
+-- the rest of the variables of INPUT behind those that were read
+abbrev pub letters_behind : ℕ → List ℕ → List ℕ → Option (List ℕ)
+letters_behind k letters rest = letters_at k rest >>= λ others. Some (letters ++ others)
+
+pub letters_start : (k : ℕ) (text : List ℕ) → letters_behind k [] text ≡ letters_at k text
+letters_start k text = go (letters_at k text)
+  where
+    go : (o : Option (List ℕ)) → (o >>= λ others. Some ([] ++ others)) ≡ o
+    go None = refl
+    go (Some letters) = refl
+
+module _ (k : ℕ) (letters rest : List ℕ) (v : ℕ) (others : List ℕ) (fits : length rest ≤ k) (is : letter_at rest ≡ Some (v, others)) where
+  pub shorter_by_one : length rest ≡ suc (length others)
+  shorter_by_one = let l = letter_found rest (v, others) is in ap length l.2 ∙ omega arith
+
+  one_letter : (j : ℕ) × (k ≡ suc j)
+  one_letter = one_more k 0 (omega (arith, shorter_by_one, fits))
+
+  letter_step : letters_behind k letters rest ≡ (letters_after (letters_at one_letter.0) v others >>= λ more. Some (letters ++ more))
+  letter_step = ap (λ (k : ℕ). letters_behind k letters rest) one_letter.1 ∙ rw is refl
+
+  pub letters_last : (letters' : List ℕ) (total : Option (List ℕ)) → others ≡ [] → letters' ≡ letters ++ v ∷ [] → letters_behind k letters rest ≡ total → total ≡ Some letters'
+  letters_last letters' total e el t = sym t ∙ letter_step ∙ ap (λ (t : List ℕ). letters_after (letters_at one_letter.0) v t >>= λ more. Some (letters ++ more)) e ∙ ap (λ (l : List ℕ). Some l) (sym el)
+
+  pub letters_next : (after letters' : List ℕ) (total : Option (List ℕ)) → behind 44 others ≡ Some after → letters' ≡ letters ++ v ∷ [] → letters_behind k letters rest ≡ total
+      → (j : ℕ) × (length after ≤ j) × (letters_behind j letters' after ≡ total)
+  letters_next after letters' total e el t =
+      let comma = behind_is 44 others after e in (
+        one_letter.0,
+        omega (arith, shorter_by_one, one_letter.1, fits, ap length comma),
+        rw el (sym (letter_step ∙ ap (λ (t : List ℕ). letters_after (letters_at one_letter.0) v t >>= λ more. Some (letters ++ more)) comma ∙ go (letters_at one_letter.0 after)) ∙ t),
+      )
+    where
+      go : (o : Option (List ℕ)) → (◌>>=◌ {B = List ℕ} o (λ more. Some (v ∷ more)) >>= λ more. Some (letters ++ more)) ≡ (o >>= λ more. Some ((letters ++ v ∷ []) ++ more))
+      go None = refl
+      go (Some more) = ap (λ (l : List ℕ). Some l) (sym (append_assoc letters (v ∷ []) more))
+
+  pub letters_stop : 0 < length others → behind 44 others ≡ None → letters_behind k letters rest ≡ None
+  letters_stop some e = letter_step ∙ ap (λ (o : Option (List ℕ)). o >>= λ more. Some (letters ++ more)) (stopped others some e)
+    where
+      stopped : (others : List ℕ) → 0 < length others → behind 44 others ≡ None → letters_after (letters_at one_letter.0) v others ≡ None
+      stopped [] some e = absurd (omega arith)
+      stopped (b ∷ others) some e = rw (not_behind b 44 others e) refl
+
+pub item_pushed : (old new : List PrintItem) (x : PrintItem) → new ≡ old ++ x ∷ [] → map item_of new ≡ map item_of old ++ item_of x ∷ []
+item_pushed old new x e = ap (map item_of) e ∙ map-append item_of old (x ∷ [])
+
+pub letter_pushed : (old new : List Letter) (x : Letter) → new ≡ old ++ x ∷ [] → letters_of new ≡ letters_of old ++ place x ∷ []
+letter_pushed old new x e = ap letters_of e ∙ map-append place old (x ∷ [])
+
+pub no_letter : (k : ℕ) (letters rest : List ℕ) → letter_at rest ≡ None → letters_behind k letters rest ≡ None
+no_letter zero letters rest e = refl
+no_letter (suc k) letters rest e = rw e refl
+
+pub input_is : (text letters : List ℕ) → letters_at (length text) text ≡ Some letters → input_at text ≡ Some (record { command = Input letters; large = None })
+unfolding input_at
+input_is text letters e = rw e refl
+
+pub no_input : (text : List ℕ) → letters_at (length text) text ≡ None → input_at text ≡ None
+unfolding input_at
+no_input text e = rw e refl

@@ -1,0 +1,11 @@
+use Rattle.std.proofs.Common.{◌≡◌, ℕ, ◌≤◌, length, map, true}
+use Rattle.tb_syntax.specs.Shown.{item_of}
+use Rattle.tb_grammar.specs.StatementReading.{items_at}
+use Rattle.tb_grammar.proofs.ListLoops.{printed_behind}
+use Rattle.tb_grammar.proofs.items.print.Given as goal
+
+abbrev pub invariant-loop-rest : goal.invariant-loop-rest
+invariant-loop-rest l = (k : ℕ) × (length l.rest ≤ k) × (printed_behind k l.ends_line (map item_of l.items.items) l.large l.rest ≡ items_at (length l.fn.text) true l.fn.text)
+
+abbrev pub decreases-loop-rest : goal.decreases-loop-rest
+decreases-loop-rest l = length l.rest

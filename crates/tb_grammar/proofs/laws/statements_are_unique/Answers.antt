@@ -1,0 +1,5 @@
+use Rattle.tb_grammar.proofs.StatementLaws.{unique}
+use Rattle.tb_grammar.proofs.laws.statements_are_unique.Goals as goal
+
+pub returns : goal.returns
+returns c = unique

@@ -1,0 +1,128 @@
+-- Reading expressions from left to right: what the program does, as functions of lists.
+use Rattle.std.specs.Prelude.{ℕ, zero, suc, ◌+◌, ◌-◌, ◌*◌, List, [], ◌∷◌, length, Bool, false, Option, Some, None, option_and_then, nat_le, ◌==◌, ◌&&◌, if◌then◌else◌, codes}
+use Rattle.std.specs.Option.{option_or}
+use Rattle.tb_syntax.specs.declared.expressions.Operator.{Operator}
+use Rattle.tb_syntax.specs.Source.{Expression, Number, Variable, Negate, Binary, Random}
+use Rattle.tb_grammar.specs.Grammar.{word_of, large_at, Part, Whole, Term, operator}
+
+-- what was read, where its first literal above 65,535 begins, and what is left
+pub record Found : Type 0 where
+  pub tree : Expression
+  pub large : Option ℕ
+  pub rest : List ℕ
+
+infixl 10 ◌>>=◌
+abbrev pub ◌>>=◌ : {A B : Type 0} → Option A → (A → Option B) → Option B
+o >>= f = option_and_then f o
+
+abbrev pub when : {A B : Type 0} → Option A → B → (A → B) → B
+when None otherwise f = otherwise
+when (Some x) otherwise f = f x
+
+abbrev pub is_digit : ℕ → Bool
+is_digit b = nat_le 48 b && nat_le b 57
+
+abbrev pub is_letter : ℕ → Bool
+is_letter b = nat_le 65 b && nat_le b 90
+
+-- what is left behind a byte
+abbrev pub behind : ℕ → List ℕ → Option (List ℕ)
+behind b [] = None
+behind b (c ∷ text) = if c == b then Some text else None
+
+-- what is left behind a word
+abbrev pub behind_word : List ℕ → List ℕ → Option (List ℕ)
+behind_word [] text = Some text
+behind_word (b ∷ word) text = behind b text >>= behind_word word
+
+-- what the digits at the front stand for, behind a number that stands before them, and what is left
+abbrev pub digits_at : ℕ → List ℕ → ℕ × List ℕ
+digits_at n [] = (n, [])
+digits_at n (b ∷ text) = if is_digit b then digits_at (10 * n + (b - 48)) text else (n, b ∷ text)
+
+unfoldable pub literal_at : List ℕ → Found
+literal_at text = let d = digits_at 0 text in record { tree = Number (word_of d.0); large = large_at d.0 (length text); rest = d.1 }
+
+-- a letter by its place from 0 for A, and what is left behind it
+abbrev pub letter_at : List ℕ → Option (ℕ × List ℕ)
+letter_at [] = None
+letter_at (b ∷ text) = if is_letter b then Some (b - 65, text) else None
+
+unfoldable pub variable_at : List ℕ → Option Found
+variable_at text = letter_at text >>= λ v. Some (record { tree = Variable v.0; large = None; rest = v.1 })
+
+abbrev pub closed : Found → Option Found
+closed f = behind 41 f.rest >>= λ rest. Some (record { tree = f.tree; large = f.large; rest = rest })
+
+abbrev pub randomly : Found → Found
+randomly f = record { tree = Random f.tree; large = f.large; rest = f.rest }
+
+abbrev pub negated : Found → Found
+negated f = record { tree = Negate f.tree; large = f.large; rest = f.rest }
+
+abbrev pub joined : Operator → Found → Found → Found
+joined op f g = record { tree = Binary op f.tree g.tree; large = option_or f.large g.large; rest = g.rest }
+
+-- an expression in parentheses, which whole reads
+unfoldable pub group_by : (List ℕ → Option Found) → List ℕ → Option Found
+group_by whole text = behind 40 text >>= whole >>= closed
+
+abbrev pub starts_digit : List ℕ → Bool
+starts_digit [] = false
+starts_digit (b ∷ text) = is_digit b
+
+-- a variable, or an expression in parentheses
+abbrev pub plain_by : (List ℕ → Option Found) → List ℕ → Option Found
+plain_by whole text = when (behind 40 text) (variable_at text) (λ inner. group_by whole text)
+
+unfoldable pub factor_by : (List ℕ → Option Found) → List ℕ → Option Found
+factor_by whole text =
+    if starts_digit text then Some (literal_at text)
+    else when (behind_word (codes "RND") text) (plain_by whole text) (λ bound. group_by whole bound >>= λ f. Some (randomly f))
+
+-- the operator at the front, and what is left behind it
+abbrev pub operator_at : Part → List ℕ → Option (Operator × List ℕ)
+operator_at part [] = None
+operator_at part (b ∷ text) = operator part b >>= λ op. Some (op, text)
+
+-- more operands behind a first one, at most so many
+abbrev pub more : Part → (List ℕ → Option Found) → ℕ → Found → Option Found
+more part operand zero f = Some f
+more part operand (suc k) f = when (operator_at part f.rest) (Some f) (λ p. operand p.1 >>= λ g. more part operand k (joined p.0 f g))
+
+unfoldable pub term_by : (List ℕ → Option Found) → List ℕ → Option Found
+term_by factor text = factor text >>= λ f. more Term factor (length f.rest) f
+
+-- a term with a sign
+abbrev pub signed_by : (List ℕ → Option Found) → List ℕ → Option Found
+signed_by term text = when (behind 43 text) (when (behind 45 text) (term text) (λ inner. term inner >>= λ f. Some (negated f))) term
+
+unfoldable pub whole_by : (List ℕ → Option Found) → List ℕ → Option Found
+whole_by factor text = signed_by (term_by factor) text >>= λ f. more Whole (term_by factor) (length f.rest) f
+
+-- an expression whose parentheses are nested less than n deep
+unfoldable pub whole_at : ℕ → List ℕ → Option Found
+whole_at zero text = None
+whole_at (suc n) text = whole_by (factor_by (whole_at n)) text
+
+abbrev pub factor_at : ℕ → List ℕ → Option Found
+factor_at n text = factor_by (whole_at n) text
+
+abbrev pub term_at : ℕ → List ℕ → Option Found
+term_at n text = term_by (factor_at n) text
+
+-- an expression at the front: each parenthesis takes a byte, so the length bounds the nesting
+unfoldable pub front_of : List ℕ → Option Found
+front_of text = whole_at (length text + 1) text
+
+-- what was found, where nothing is left
+abbrev pub at_end : List ℕ → Found → Option Found
+at_end [] f = Some f
+at_end (b ∷ rest) f = None
+
+abbrev pub ended : Found → Option Found
+ended f = at_end f.rest f
+
+-- the text as one expression
+unfoldable pub expression_in : List ℕ → Option Found
+expression_in text = front_of text >>= ended

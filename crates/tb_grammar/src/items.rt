@@ -1,0 +1,118 @@
+//! The lists of PRINT and INPUT.
+ghost use Rattle.std.specs.Prelude.{◌≡◌, ℕ, List, Option, Some, None, true};
+ghost use Rattle.tb_grammar.specs.StatementReading.{text_item_at, item_at, print_at, input_at};
+ghost use Rattle.tb_grammar.specs.Shown.{item_seen, told, Gives};
+
+use crate::expressions::{behind, leading, split_letter};
+use crate::statements::ReadStatement;
+use crate::stop::{Stop, left_at};
+use std::alloc::Global;
+use tb_syntax::{PrintItem, Statement};
+
+/// An item of PRINT at the front of a text, and what is left behind it.
+#[derive(Debug, Drop)]
+pub(crate) struct FrontItem<'a> {
+    pub(crate) item: PrintItem,
+    pub(crate) large: Option<usize>,
+    pub(crate) rest: &'a [u8],
+}
+
+// A text behind its first quote.
+fn quotation(alloc: Global, inside: &[u8]) -> Result<FrontItem<'_>, Stop>
+    ensures { Gives item_seen result (text_item_at inside.now) }
+{
+    let mut bytes = Vec::new(alloc);
+    let mut rest = inside;
+    while let [byte, tail @ ..] = rest {
+        if *byte == b'"' {
+            return Ok(FrontItem {
+                item: PrintItem::Text(bytes),
+                large: None,
+                rest: tail,
+            });
+        }
+        bytes.push(*byte)?;
+        rest = tail;
+    }
+    Err(Stop::NoReading(0))
+}
+
+#[tactic(auto, unfolding(crate::specs::StatementReading::item_at))]
+fn item(alloc: Global, text: &[u8]) -> Result<FrontItem<'_>, Stop>
+    ensures { Gives item_seen result (item_at text.now) }
+{
+    match text {
+        [b'"', inside @ ..] => quotation(alloc, inside),
+        _ => {
+            let value = leading(alloc, text)?;
+            Ok(FrontItem {
+                item: PrintItem::Value(value.expr),
+                large: value.large,
+                rest: value.rest,
+            })
+        }
+    }
+}
+
+/// PRINT behind its word.
+#[tactic(auto, unfolding(crate::specs::StatementReading::print_at))]
+pub(crate) fn print(alloc: Global, text: &[u8]) -> Result<ReadStatement, Stop>
+    ensures { Gives told result (print_at text.now) }
+{
+    let mut items = Vec::new(alloc);
+    let mut large = None;
+    let mut ends_line = true;
+    let mut rest = text;
+    while !rest.is_empty() {
+        let found = item(alloc, rest)?;
+        items.push(found.item)?;
+        large = large.or(found.large);
+        ends_line = found.rest.is_empty();
+        rest = if ends_line {
+            found.rest
+        } else if let Some(others) = behind(b',', found.rest) {
+            items.push(PrintItem::Zone)?;
+            others
+        } else if let Some(others) = behind(b';', found.rest) {
+            others
+        } else {
+            return Err(Stop::NoReading(left_at(found.rest)));
+        };
+    }
+    Ok(ReadStatement {
+        statement: Statement::Print(items, ends_line),
+        large,
+    })
+}
+
+// Behind a variable, where one is wanted and stands; RND is one word there.
+pub(crate) fn behind_variable(text: &[u8]) -> &[u8] {
+    match text {
+        [b'R', b'N', b'D', ..] => text,
+        [b'A'..=b'Z', rest @ ..] => rest,
+        _ => text,
+    }
+}
+
+/// INPUT behind its word.
+#[tactic(auto, unfolding(crate::specs::StatementReading::input_at))]
+pub(crate) fn input(alloc: Global, text: &[u8]) -> Result<ReadStatement, Stop>
+    ensures { Gives told result (input_at text.now) }
+{
+    let mut letters = Vec::new(alloc);
+    let mut rest = text;
+    while let Some((letter, others)) = split_letter(rest) {
+        letters.push(letter)?;
+        if others.is_empty() {
+            return Ok(ReadStatement {
+                statement: Statement::Input(letters),
+                large: None,
+            });
+        }
+        match behind(b',', others) {
+            Some(after) => rest = after,
+            None => break,
+        }
+    }
+    Err(Stop::NoReading(left_at(behind_variable(rest))))
+}

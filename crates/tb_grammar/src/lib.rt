@@ -1,0 +1,15 @@
+//! The grammar of expressions and statements, and its reader.
+//!
+//! A text is squeezed: it has no spaces outside texts and remarks, and its letters are in upper case.
+#![tactic(auto)]
+
+mod expressions;
+mod items;
+mod laws;
+mod statements;
+mod stop;
+
+pub use expressions::{ReadExpression, read_expression};
+pub use laws::{expressions_are_unique, statements_are_unique};
+pub use statements::{ReadStatement, read_statement};
+pub use stop::Stop;

@@ -1,0 +1,240 @@
+//! Statements, read by their first words.
+ghost use Rattle.std.specs.Prelude.{◌≡◌, ℕ, [], length, Option, Some, None, IfOk, MatchOption};
+ghost use Rattle.tb_words.specs.Letters.{place};
+ghost use Rattle.tb_syntax.specs.Source.{Command, Let, Goto, Gosub};
+ghost use Rattle.tb_syntax.specs.Shown.{command_of};
+ghost use Rattle.tb_grammar.specs.Shown.{told, Gives, Answers};
+ghost use Rattle.tb_grammar.specs.StatementReading.{target_at, relation_at, made, alone, behind_then, conditional_by, keyword_at, assigned_at, behind_keyword, statement_at, statement_in, spelled};
+ghost use Rattle.tb_grammar.specs.Statements.{States};
+
+use crate::expressions::{behind, behind_word, expression, leading, split_letter};
+use crate::items::{behind_variable, input, print};
+use crate::stop::{Stop, left_at};
+use std::alloc::Global;
+use std::boxed::Box;
+use tb_syntax::Statement;
+use tb_words::{Letter, Rel};
+
+/// A statement that was read.
+#[derive(Debug, Drop)]
+pub struct ReadStatement {
+    /// A literal above 65,535 stands in it as 65,535.
+    pub statement: Statement,
+    /// The bytes left where the first literal above 65,535 begins.
+    pub large: Option<usize>,
+}
+
+/// The first words of statements.
+#[derive(Clone, Copy, Debug, PartialEq, Eq)]
+pub(crate) enum Keyword {
+    Let,
+    Print,
+    Pr,
+    Input,
+    If,
+    Goto,
+    Gosub,
+    Return,
+    End,
+    Rem,
+}
+
+fn spelling(keyword: Keyword) -> &'static [u8]
+    ensures { result.now ≡ spelled keyword }
+{
+    match keyword {
+        Keyword::Let => b"LET",
+        Keyword::Print => b"PRINT",
+        Keyword::Pr => b"PR",
+        Keyword::Input => b"INPUT",
+        Keyword::If => b"IF",
+        Keyword::Goto => b"GOTO",
+        Keyword::Gosub => b"GOSUB",
+        Keyword::Return => b"RETURN",
+        Keyword::End => b"END",
+        Keyword::Rem => b"REM",
+    }
+}
+
+// PRINT stands before PR, which begins it.
+const KEYWORDS: [Keyword; 10] = [
+    Keyword::Let,
+    Keyword::Print,
+    Keyword::Pr,
+    Keyword::Input,
+    Keyword::If,
+    Keyword::Goto,
+    Keyword::Gosub,
+    Keyword::Return,
+    Keyword::End,
+    Keyword::Rem,
+];
+
+#[tactic(auto, unfolding(crate::specs::StatementReading::keyword_at))]
+fn split_keyword(text: &[u8]) -> Option<(Keyword, &[u8])>
+    ensures { MatchOption result (keyword_at text.now ≡ None) (λ p. keyword_at text.now ≡ Some (p.0, p.1.now)) }
+{
+    for keyword in KEYWORDS {
+        if let Some(rest) = behind_word(spelling(keyword), text) {
+            return Some((keyword, rest));
+        }
+    }
+    None
+}
+
+#[tactic(auto, unfolding(crate::specs::StatementReading::target_at))]
+fn target(text: &[u8]) -> Option<(Letter, &[u8])>
+    ensures { MatchOption result (target_at text.now ≡ None) (λ p. target_at text.now ≡ Some (place p.0, p.1.now)) }
+{
+    let (letter, rest) = split_letter(text)?;
+    Some((letter, behind(b'=', rest)?))
+}
+
+#[tactic(auto, unfolding(crate::specs::StatementReading::relation_at))]
+fn relation(text: &[u8]) -> Option<(Rel, &[u8])>
+    ensures { MatchOption result (relation_at text.now ≡ None) (λ p. relation_at text.now ≡ Some (p.0, p.1.now)) }
+{
+    match text {
+        [b'=', rest @ ..] => Some((Rel::Eq, rest)),
+        [b'<', b'=', rest @ ..] => Some((Rel::Le, rest)),
+        [b'<', b'>', rest @ ..] => Some((Rel::Ne, rest)),
+        [b'<', rest @ ..] => Some((Rel::Lt, rest)),
+        [b'>', b'=', rest @ ..] => Some((Rel::Ge, rest)),
+        [b'>', b'<', rest @ ..] => Some((Rel::Ne, rest)),
+        [b'>', rest @ ..] => Some((Rel::Gt, rest)),
+        _ => None,
+    }
+}
+
+#[tactic(auto, unfolding(crate::specs::StatementReading::made))]
+fn assignment(alloc: Global, letter: Letter, text: &[u8]) -> Result<ReadStatement, Stop>
+    ensures { Gives told result (made (Let (place letter)) text.now) }
+{
+    let value = expression(alloc, text)?;
+    Ok(ReadStatement {
+        statement: Statement::Let(letter, value.expr),
+        large: value.large,
+    })
+}
+
+#[tactic(auto, unfolding(crate::specs::StatementReading::assigned_at))]
+fn let_assignment(alloc: Global, text: &[u8]) -> Result<ReadStatement, Stop>
+    ensures { Gives told result (assigned_at text.now) }
+{
+    let (letter, value) = target(text).ok_or(Stop::NoReading(left_at(behind_variable(text))))?;
+    assignment(alloc, letter, value)
+}
+
+fn alone(statement: Statement, text: &[u8]) -> Result<ReadStatement, Stop>
+    ensures { Gives told result (alone (command_of statement) text.now) }
+{
+    match text {
+        [] => Ok(ReadStatement {
+            statement,
+            large: None,
+        }),
+        [_, ..] => Err(Stop::NoReading(left_at(text))),
+    }
+}
+
+fn behind_then(text: &[u8]) -> &[u8]
+    ensures { result.now ≡ behind_then text.now }
+{
+    behind_word(b"THEN", text).unwrap_or(text)
+}
+
+#[tactic(auto, unfolding(crate::specs::StatementReading::made))]
+fn goto(alloc: Global, text: &[u8]) -> Result<ReadStatement, Stop>
+    ensures { Gives told result (made Goto text.now) }
+{
+    let line = expression(alloc, text)?;
+    Ok(ReadStatement {
+        statement: Statement::Goto(line.expr),
+        large: line.large,
+    })
+}
+
+#[tactic(auto, unfolding(crate::specs::StatementReading::made))]
+fn gosub(alloc: Global, text: &[u8]) -> Result<ReadStatement, Stop>
+    ensures { Gives told result (made Gosub text.now) }
+{
+    let line = expression(alloc, text)?;
+    Ok(ReadStatement {
+        statement: Statement::Gosub(line.expr),
+        large: line.large,
+    })
+}
+
+#[cycle(statement)]
+#[tactic(auto, unfolding(crate::specs::StatementReading::conditional_by))]
+fn conditional(alloc: Global, nesting: usize, text: &[u8]) -> Result<ReadStatement, Stop>
+    ensures { Gives told result (conditional_by (statement_at nesting) text.now) }
+{
+    let left = leading(alloc, text)?;
+    let (rel, rest) = relation(left.rest).ok_or(Stop::NoReading(left_at(left.rest)))?;
+    let right = leading(alloc, rest)?;
+    let body = statement(alloc, nesting, behind_then(right.rest))?;
+    Ok(ReadStatement {
+        statement: Statement::If(left.expr, rel, right.expr, Box::new(alloc, body.statement)?),
+        large: left.large.or(right.large.or(body.large)),
+    })
+}
+
+#[cycle(statement)]
+#[tactic(auto, unfolding(crate::specs::StatementReading::behind_keyword))]
+fn behind_keyword(
+    alloc: Global,
+    nesting: usize,
+    keyword: Keyword,
+    text: &[u8],
+) -> Result<ReadStatement, Stop>
+    ensures { Gives told result (behind_keyword (statement_at nesting) keyword text.now) }
+{
+    match keyword {
+        Keyword::Let => let_assignment(alloc, text),
+        Keyword::Print | Keyword::Pr => print(alloc, text),
+        Keyword::Input => input(alloc, text),
+        Keyword::If => conditional(alloc, nesting, text),
+        Keyword::Goto => goto(alloc, text),
+        Keyword::Gosub => gosub(alloc, text),
+        Keyword::Return => alone(Statement::Return, text),
+        Keyword::End => alone(Statement::End, text),
+        Keyword::Rem => Ok(ReadStatement {
+            statement: Statement::Remark,
+            large: None,
+        }),
+    }
+}
+
+// The measure is the nesting: each IF takes a byte, so a text's length is enough.
+#[cycle(statement)]
+#[tactic(auto, unfolding(crate::specs::StatementReading::statement_at))]
+fn statement(alloc: Global, nesting: usize, text: &[u8]) -> Result<ReadStatement, Stop>
+    ensures { Gives told result (statement_at nesting text.now) }
+{
+    if nesting == 0 {
+        return Err(Stop::NoReading(left_at(text)));
+    }
+    if let Some((letter, value)) = target(text) {
+        return assignment(alloc, letter, value);
+    }
+    let (keyword, rest) = split_keyword(text).ok_or(Stop::NoReading(left_at(text)))?;
+    behind_keyword(alloc, nesting - 1, keyword, rest)
+}
+
+#[tactic(auto, unfolding(crate::specs::StatementReading::statement_in))]
+fn whole_statement(alloc: Global, text: &[u8]) -> Result<ReadStatement, Stop>
+    ensures { Gives told result (statement_in text.now) }
+{
+    statement(alloc, text.len() + 1, text)
+}
+
+/// The statement that a squeezed text is (Tiny BASIC User Manual, the grammar of statements).
+pub fn read_statement(alloc: Global, text: &[u8]) -> Result<ReadStatement, Stop>
+    // What is read is in the grammar.
+    ensures found { IfOk result (λ r. States text.now (command_of r.statement) r.large) }
+    // What is in the grammar is read, unless memory runs out.
+    ensures only { (s : Command) (large : Option ℕ) → States text.now s large → Answers result (λ r. (command_of r.statement ≡ s) × (r.large ≡ large)) }
+{
+    whole_statement(alloc, text)
+}

@@ -1,0 +1,16 @@
+-- What a note for undoing holds.
+use Rattle.std.specs.Prelude.{ℕ, Option}
+use Rattle.tb_memmap.specs.Bytes.{Writes}
+use Rattle.tb_cpu.specs.declared.registers.Regs.{Regs}
+use Rattle.tb_cpu.specs.declared.wrong.Wrong.{Wrong}
+
+-- what an event may change, as it was before
+pub record Note : Type 0 where
+  pub regs : Regs
+  pub wrong : Option Wrong
+  -- how many keys were taken, and how many bytes sent
+  pub text_taken : ℕ
+  pub answers_taken : ℕ
+  pub sent : ℕ
+  -- places that the event may write, with their bytes
+  pub bytes : Writes

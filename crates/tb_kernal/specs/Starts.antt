@@ -1,0 +1,27 @@
+-- The start of a program in a machine of which nothing else is known.
+use Rattle.std.specs.Prelude.{ℕ, ◌≡◌, ◌+◌, ◌<◌, ◌≤◌, true, None, List, [], length, slice_index}
+use Rattle.tb_kernal.specs.Places.{is_rom, service_at}
+use Rattle.tb_kernal.specs.Machine.{State, home_of}
+
+-- bytes lie in a memory from an address on
+abbrev pub LieAt : ℕ → List ℕ → (ℕ → ℕ) → Type 0
+LieAt place bytes m = (k : ℕ) → k < length bytes → m (place + k) ≡ slice_index bytes k
+
+-- each place of a memory holds a byte
+abbrev pub HoldsBytes : (ℕ → ℕ) → Type 0
+HoldsBytes m = (a : ℕ) → m a < 256
+
+-- a machine with a program's bytes at their place, every other byte, A, X, Y, all flags and the keyboard arbitrary, at the start of the program
+pub record IsStart (place : ℕ) (bytes : List ℕ) (s : State) : Type 0 where
+  pub loaded : LieAt place bytes s.mem
+  pub holds_bytes : HoldsBytes s.mem
+  pub pc : s.regs.pc ≡ 0x080d
+  pub s_from : 0x60 ≤ s.regs.s
+  pub s_to : s.regs.s ≤ 0xfd
+  -- the program returns behind the word on the stack, which leads into ROM and to no service
+  pub home : s.home ≡ home_of s.mem s.regs
+  pub home_s : s.home_s ≡ s.regs.s + 2
+  pub in_rom : is_rom s.home ≡ true
+  pub no_service : service_at s.home ≡ None
+  pub nothing_refused : s.wrong ≡ None
+  pub nothing_sent : s.sent ≡ []

@@ -1,0 +1,55 @@
+-- What is sent stays sent.
+use Rattle.std.proofs.Common.{◌≡◌, ℕ, List, [], ◌∷◌, ◌++◌, refl, sym, ap, ◌∙◌, append_assoc, append-nil, Option, Some, None}
+use Rattle.std.specs.Prelude.{Result, Ok, Err}
+use Rattle.tb_cpu.specs.declared.wrong.Wrong.{Wrong}
+use Rattle.tb_cpu.specs.Instructions as cpu
+use Rattle.tb_kernal.specs.declared.places.Service.{Service}
+use Rattle.tb_kernal.specs.declared.places.Service.TheVariants.{Chrout, Chrin, Getin}
+use Rattle.tb_kernal.specs.declared.events.Clobber.{Clobber}
+use Rattle.tb_kernal.specs.declared.events.Event.{Event}
+use Rattle.tb_kernal.specs.declared.events.Event.TheVariants.{Go, Interrupt}
+use Rattle.tb_kernal.specs.declared.status.Status.{Status}
+use Rattle.tb_kernal.specs.declared.status.Status.TheVariants.{Running, Waits, Returned, Wrong as WentWrong}
+use Rattle.tb_memmap.specs.Bytes.{Writes}
+use Rattle.tb_kernal.specs.Places.{service_at}
+use Rattle.tb_kernal.specs.Machine.{State, status, happens, gone, gone_at, stepped, interrupted}
+use Rattle.tb_kernal.specs.Runs.{run}
+use Rattle.tb_reaching.specs.Reaching.{IsPrefix}
+
+same : (a b : List ℕ) → b ≡ a → IsPrefix a b
+same a b e = record { rest = []; split = e ∙ sym (append-nil a) }
+
+then_longer : (a b c : List ℕ) → IsPrefix a b → IsPrefix b c → IsPrefix a c
+then_longer a b c p q = record { rest = p.rest ++ q.rest; split = q.split ∙ ap (λ l. l ++ q.rest) p.split ∙ append_assoc a p.rest q.rest }
+
+stepped_sent : (s : State) (x : Result cpu.State Wrong) → (stepped s x).sent ≡ s.sent
+stepped_sent s (Ok t) = refl
+stepped_sent s (Err w) = refl
+
+served_sent : (o : Option Service) (k : Clobber) (s : State) → IsPrefix s.sent (gone_at o k s).sent
+served_sent (Some Chrout) k s = record { rest = s.regs.a ∷ []; split = refl }
+served_sent (Some Chrin) k s = same _ _ refl
+served_sent (Some Getin) k s = same _ _ refl
+served_sent None k s = same _ _ (stepped_sent s (cpu.next s.regs s.mem))
+
+gone_sent : (q : Status) (k : Clobber) (s : State) → IsPrefix s.sent (gone q k s).sent
+gone_sent Running k s = served_sent (service_at s.regs.pc) k s
+gone_sent Returned k s = same _ _ refl
+gone_sent Waits k s = same _ _ refl
+gone_sent (WentWrong w) k s = same _ _ refl
+
+interrupted_sent : (q : Status) (ws : Writes) (s : State) → (interrupted q ws s).sent ≡ s.sent
+interrupted_sent Running ws s = refl
+interrupted_sent Returned ws s = refl
+interrupted_sent Waits ws s = refl
+interrupted_sent (WentWrong w) ws s = refl
+
+-- one event
+pub sends_on : (e : Event) (s : State) → IsPrefix s.sent (happens s e).sent
+sends_on (Go k) s = gone_sent (status s) k s
+sends_on (Interrupt ws) s = same _ _ (interrupted_sent (status s) ws.items s)
+
+-- a list of events
+pub output_grows : (es : List Event) (s : State) → IsPrefix s.sent (run es s).sent
+output_grows [] s = same _ _ refl
+output_grows (e ∷ es) s = then_longer s.sent (happens s e).sent (run es (happens s e)).sent (sends_on e s) (output_grows es (happens s e))

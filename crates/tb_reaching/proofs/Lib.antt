@@ -1,0 +1,15 @@
+pub mod Laws
+pub mod Readers
+pub mod Memory
+pub mod Act
+pub mod Comes
+pub mod Services
+pub mod Calls
+pub mod Special
+pub mod Placed
+pub mod Parts
+pub mod Start
+pub mod Grows
+pub mod Ends
+pub mod HelloRuns
+pub mod Straight

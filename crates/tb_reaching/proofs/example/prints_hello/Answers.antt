@@ -1,0 +1,5 @@
+use Rattle.tb_reaching.proofs.example.prints_hello.Goals as goal
+use Rattle.tb_reaching.proofs.HelloRuns.{prints_hello}
+
+pub returns : goal.returns
+returns c = prints_hello

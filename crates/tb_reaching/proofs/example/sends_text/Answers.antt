@@ -1,0 +1,5 @@
+use Rattle.tb_reaching.proofs.example.sends_text.Goals as goal
+use Rattle.tb_reaching.proofs.HelloRuns.{sends_text}
+
+pub returns : goal.returns
+returns c = sends_text

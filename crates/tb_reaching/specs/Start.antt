@@ -1,0 +1,65 @@
+-- How the view of a started program begins, and where it ends.
+use Rattle.std.specs.Prelude.{◌≡◌, ◌≤◌, ℕ, zero, suc, ◌+◌, ◌-◌, Bool, false, List, [], ◌∷◌, length, None, if◌then◌else◌}
+use Rattle.tb_kernal.specs.Machine.{State}
+use Rattle.tb_reaching.specs.View.{View, Setup, Part, Comes, back_at}
+
+-- the bytes of a memory from an address on
+abbrev pub from_memory : (ℕ → ℕ) → ℕ → ℕ → List ℕ
+from_memory m at zero = []
+from_memory m at (suc n) = m at ∷ from_memory m (at + 1) n
+
+-- the two bytes of the return address
+abbrev pub home_low : State → ℕ
+home_low s = s.mem (0x0101 + s.regs.s)
+
+abbrev pub home_high : State → ℕ
+home_high s = s.mem (0x0101 + s.regs.s + 1)
+
+-- all but the return address stays on the stack, and S may go down by 16
+abbrev pub setup_of : Part → Part → State → Setup
+setup_of code whole s = record {
+  code = code;
+  whole = whole;
+  rest = from_memory s.mem (0x0101 + s.regs.s + 1 + 1) (253 - s.regs.s);
+  home = s.home;
+  home_s = s.home_s;
+  low = s.regs.s - 16;
+}
+
+-- the return address is on the view's stack
+abbrev pub view_of : State → View
+view_of s = record { regs = record s.regs { s = 0; pc = 0x080d }; stack = home_low s ∷ home_high s ∷ []; mem = s.mem; text = s.text; answers = s.answers }
+
+-- ---- where a program ends
+
+-- back where the machine was entered
+pub record IsHome (f : Setup) (w : View) : Type 0 where
+  pub pc : w.regs.pc ≡ f.home
+  pub stack : w.stack ≡ []
+  pub binary : w.regs.flags.d ≡ false
+
+-- at CHRIN, with no byte left
+pub record IsWaiting (w : View) : Type 0 where
+  pub pc : w.regs.pc ≡ 0xffcf
+  pub text : w.text ≡ []
+
+-- the return address of the start is lo, hi on the stack, and what stays lies above it
+pub record Homed (f : Setup) (lo hi : ℕ) : Type 0 where
+  pub home : f.home ≡ back_at lo hi
+  pub above : f.home_s + length f.rest ≡ 255
+
+-- ---- places where nothing on the way may be
+
+-- the bytes but those at some places
+abbrev pub without : (ℕ → Bool) → Part → Part
+without barred code a = if barred a then None else code a
+
+-- all the program's bytes may be fetched
+abbrev pub opened : Setup → Setup
+opened f = record f { code = f.whole }
+
+-- one instruction at a barred place, and then a law
+pub record Enters (f : Setup) (v : View) (q : View → Type 0) (t : List ℕ) (n : ℕ) : Type 0 where
+  pub rest : ℕ
+  pub few : 1 + rest ≤ n
+  pub one : Comes (opened f) v (λ w. Comes f w q t rest) [] 1
