@@ -1,0 +1,3 @@
+pub mod Frames
+pub mod Called
+pub mod SendRuns
