@@ -1,3 +1,5 @@
 pub mod Frames
 pub mod Called
 pub mod SendRuns
+pub mod Columns
+pub mod ZoneRuns
