@@ -3,3 +3,4 @@ pub mod Called
 pub mod SendRuns
 pub mod Columns
 pub mod ZoneRuns
+pub mod TextRuns

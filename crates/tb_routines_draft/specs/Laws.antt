@@ -110,7 +110,7 @@ pub record Told (m0 : ℕ → ℕ) (sent : List ℕ) (m : ℕ → ℕ) : Type 0 
 abbrev pub TextLaw : Type 0
 TextLaw =
     (f : Setup) → Fits f 4 → Holds text_part f.code → Holds send_part f.code → (lo hi : ℕ) (text answers : List ℕ) (m : ℕ → ℕ) (a x y : ℕ) (n v i z c : Bool) (bytes : List ℕ) → Points f m bytes →
-    Comes f (view a x y n v i z c text_at (lo ∷ hi ∷ []) m text answers) (Back lo hi text answers (Told m bytes)) bytes (16 * length bytes + 3)
+    Comes f (view a x y n v i z c text_at (lo ∷ hi ∷ []) m text answers) (Back lo hi text answers (Told m bytes)) bytes (15 * length bytes + 3)
 
 -- ---- Zone
 
