@@ -4,3 +4,5 @@ pub mod SendRuns
 pub mod Columns
 pub mod ZoneRuns
 pub mod TextRuns
+pub mod Words
+pub mod MultiplyRuns

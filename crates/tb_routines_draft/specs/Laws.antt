@@ -122,11 +122,15 @@ ZoneLaw =
 
 -- ---- Multiply
 
--- the result, and the memory but for the arguments and the counter as it was
+-- the arguments and the counter of Multiply
+abbrev pub is_used : ℕ → Bool
+is_used a = is_argument a || a == TURNS
+
+-- the result, and the memory but for these places as it was
 pub record Multiplied (m0 : ℕ → ℕ) (product : ℕ) (m : ℕ → ℕ) : Type 0 where
   pub is_word : IsWord m RESULT
   pub value : word_at m RESULT ≡ product
-  pub others : (a : ℕ) → is_argument a ≡ false → a ≢ TURNS → m a ≡ m0 a
+  pub others : (a : ℕ) → is_used a ≡ false → m a ≡ m0 a
 
 abbrev pub MultiplyLaw : Type 0
 MultiplyLaw =
