@@ -6,3 +6,4 @@ pub mod ZoneRuns
 pub mod TextRuns
 pub mod Words
 pub mod MultiplyRuns
+pub mod UnsignedRuns
