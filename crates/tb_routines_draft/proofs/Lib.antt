@@ -7,3 +7,4 @@ pub mod TextRuns
 pub mod Words
 pub mod MultiplyRuns
 pub mod UnsignedRuns
+pub mod DivideRuns

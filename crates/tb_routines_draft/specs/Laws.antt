@@ -155,3 +155,24 @@ abbrev pub UnsignedLaw : Type 0
 UnsignedLaw =
     (f : Setup) → Fits f 2 → Holds divide_part f.code → (lo hi : ℕ) (text answers : List ℕ) (m : ℕ → ℕ) (a x y : ℕ) (n v i z c : Bool) → IsWord m LEFT → IsWord m RIGHT → 1 ≤ word_at m RIGHT → word_at m RIGHT ≤ 32768 →
     Comes f (view a x y n v i z c unsigned_at (lo ∷ hi ∷ []) m text answers) (Back lo hi text answers (Parted m (word_at m LEFT / word_at m RIGHT) (word_at m LEFT % word_at m RIGHT))) [] 261
+
+-- ---- Divide
+
+abbrev pub negate_left_at : ℕ
+negate_left_at = divide_at + 42
+
+-- a word at a place, and the memory but for the arguments as it was
+pub record Gives (m0 : ℕ → ℕ) (at q : ℕ) (m : ℕ → ℕ) : Type 0 where
+  pub is_word : IsWord m at
+  pub value : word_at m at ≡ q
+  pub others : (a : ℕ) → is_argument a ≡ false → m a ≡ m0 a
+
+abbrev pub DivideLaw : Type 0
+DivideLaw =
+    (f : Setup) → Fits f 8 → Holds divide_part f.code → (lo hi : ℕ) (text answers : List ℕ) (m : ℕ → ℕ) (a x y : ℕ) (n v i z c : Bool) → IsWord m LEFT → IsWord m RIGHT → 1 ≤ word_at m RIGHT →
+    Comes f (view a x y n v i z c divide_at (lo ∷ hi ∷ []) m text answers) (Back lo hi text answers (Gives m RESULT (quotient (word_at m LEFT) (word_at m RIGHT)))) [] 316
+
+abbrev pub DivideByZeroLaw : Type 0
+DivideByZeroLaw =
+    (f : Setup) → Fits f 2 → Holds divide_part f.code → (lo hi : ℕ) (text answers : List ℕ) (m : ℕ → ℕ) (a x y : ℕ) (n v i z c : Bool) → word_at m RIGHT ≡ 0 →
+    Comes f (view a x y n v i z c divide_at (lo ∷ hi ∷ []) m text answers) (Faults lo hi text answers m 2) [] 6
