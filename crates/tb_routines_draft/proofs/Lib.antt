@@ -8,3 +8,4 @@ pub mod Words
 pub mod MultiplyRuns
 pub mod UnsignedRuns
 pub mod DivideRuns
+pub mod NumberRuns

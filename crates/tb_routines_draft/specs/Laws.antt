@@ -176,3 +176,14 @@ abbrev pub DivideByZeroLaw : Type 0
 DivideByZeroLaw =
     (f : Setup) → Fits f 2 → Holds divide_part f.code → (lo hi : ℕ) (text answers : List ℕ) (m : ℕ → ℕ) (a x y : ℕ) (n v i z c : Bool) → word_at m RIGHT ≡ 0 →
     Comes f (view a x y n v i z c divide_at (lo ∷ hi ∷ []) m text answers) (Faults lo hi text answers m 2) [] 6
+
+-- ---- Number
+
+pub record Written (m0 : ℕ → ℕ) (t : List ℕ) (m : ℕ → ℕ) : Type 0 where
+  pub column : m COLUMN ≡ (m0 COLUMN + length t) % 256
+  pub others : (a : ℕ) → is_argument a ≡ false → a ≢ COLUMN → m a ≡ m0 a
+
+abbrev pub NumberLaw : Type 0
+NumberLaw =
+    (f : Setup) → Fits f 11 → Holds number_part f.code → Holds divide_part f.code → Holds send_part f.code → (lo hi : ℕ) (text answers : List ℕ) (m : ℕ → ℕ) (a x y : ℕ) (n v i z c : Bool) → IsWord m LEFT → m COLUMN < 256 →
+    Comes f (view a x y n v i z c number_at (lo ∷ hi ∷ []) m text answers) (Back lo hi text answers (Written m (digits (word_at m LEFT)))) (digits (word_at m LEFT)) 1440
