@@ -9,3 +9,4 @@ pub mod MultiplyRuns
 pub mod UnsignedRuns
 pub mod DivideRuns
 pub mod NumberRuns
+pub mod RandomRuns

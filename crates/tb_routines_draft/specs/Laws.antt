@@ -187,3 +187,30 @@ abbrev pub NumberLaw : Type 0
 NumberLaw =
     (f : Setup) → Fits f 11 → Holds number_part f.code → Holds divide_part f.code → Holds send_part f.code → (lo hi : ℕ) (text answers : List ℕ) (m : ℕ → ℕ) (a x y : ℕ) (n v i z c : Bool) → IsWord m LEFT → m COLUMN < 256 →
     Comes f (view a x y n v i z c number_at (lo ∷ hi ∷ []) m text answers) (Back lo hi text answers (Written m (digits (word_at m LEFT)))) (digits (word_at m LEFT)) 1440
+
+-- ---- Random
+
+abbrev pub is_seed : ℕ → Bool
+is_seed a = a == SEEDED || within 0xc038 0xc039 a
+
+-- the state of RND before a call
+abbrev pub seed_of : (ℕ → ℕ) → ℕ
+seed_of m = if m SEEDED == 0 then word_at m RIGHT else word_at m SEED
+
+pub record Drawn (m0 : ℕ → ℕ) (bound seed : ℕ) (m : ℕ → ℕ) : Type 0 where
+  pub is_word : IsWord m RESULT
+  pub value : word_at m RESULT ≡ next_seed seed % bound
+  pub seed_is : IsWord m SEED
+  pub seed_at : word_at m SEED ≡ next_seed seed
+  pub seeded : m SEEDED ≡ 1
+  pub others : (a : ℕ) → is_argument a ≡ false → (a == TURNS) ≡ false → is_seed a ≡ false → m a ≡ m0 a
+
+abbrev pub RandomLaw : Type 0
+RandomLaw =
+    (f : Setup) → Fits f 6 → Holds random_part f.code → Holds divide_part f.code → Holds multiply_part f.code → (lo hi : ℕ) (text answers : List ℕ) (m : ℕ → ℕ) (a x y : ℕ) (n v i z c : Bool) → IsWord m LEFT → IsWord m RIGHT → IsWord m SEED → 1 ≤ word_at m LEFT → word_at m LEFT < 32768 →
+    Comes f (view a x y n v i z c random_at (lo ∷ hi ∷ []) m text answers) (Back lo hi text answers (Drawn m (word_at m LEFT) (seed_of m))) [] 540
+
+abbrev pub RandomRangeLaw : Type 0
+RandomRangeLaw =
+    (f : Setup) → Fits f 2 → Holds random_part f.code → (lo hi : ℕ) (text answers : List ℕ) (m : ℕ → ℕ) (a x y : ℕ) (n v i z c : Bool) → IsWord m LEFT → (word_at m LEFT ≡ 0) ⊎ (32768 ≤ word_at m LEFT) →
+    Comes f (view a x y n v i z c random_at (lo ∷ hi ∷ []) m text answers) (Faults lo hi text answers m 3) [] 7
