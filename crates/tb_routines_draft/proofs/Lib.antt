@@ -10,3 +10,6 @@ pub mod UnsignedRuns
 pub mod DivideRuns
 pub mod NumberRuns
 pub mod RandomRuns
+pub mod PrologueRuns
+pub mod FaultRuns
+pub mod PollRuns
