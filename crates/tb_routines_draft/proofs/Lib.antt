@@ -13,3 +13,5 @@ pub mod RandomRuns
 pub mod PrologueRuns
 pub mod FaultRuns
 pub mod PollRuns
+pub mod Tens
+pub mod InputRuns
