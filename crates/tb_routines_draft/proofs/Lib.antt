@@ -15,3 +15,5 @@ pub mod FaultRuns
 pub mod PollRuns
 pub mod Tens
 pub mod InputRuns
+pub mod Pointed
+pub mod NotesRuns
