@@ -92,11 +92,13 @@ module _ (f : Setup) where
     there_is v None h = cc
     there_is v (Some w) h = refl
 
-    -- n + 1 instructions, and then
+    -- n + 1 instructions that come to a view, and then
+    pub through : (n : ℕ) (v w : View) (q : View → Type 0) (t : List ℕ) (m : ℕ) → run_view part room (suc n) v ≡ Some w → Comes f w q t m → Comes f v q t (suc n + m)
+    through n v w q t m h c = chained_at v w q [] t (suc n) m (several_from (Just w) n v w h refl) c
+
+    -- the same where the view is computed
     pub after : (n : ℕ) (v : View) (q : View → Type 0) (t : List ℕ) (m : ℕ) → is_there (run_view part room (suc n) v) ≡ true → Comes f (the v (run_view part room (suc n) v)) q t m → Comes f v q t (suc n + m)
-    after n v q t m h c =
-        let w = the v (run_view part room (suc n) v) in
-        chained_at v w q [] t (suc n) m (several_from (Just w) n v w (there_is v (run_view part room (suc n) v) h) refl) c
+    after n v q t m h c = through n v (the v (run_view part room (suc n) v)) q t m (there_is v (run_view part room (suc n) v) h) c
 
     -- n + 1 instructions, as the last piece
     pub ending : (n : ℕ) (v : View) (q : View → Type 0) → is_there (run_view part room (suc n) v) ≡ true → q (the v (run_view part room (suc n) v)) → Comes f v q [] (suc n)
