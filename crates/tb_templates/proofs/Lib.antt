@@ -1,3 +1,4 @@
+pub mod Accepted
 pub mod Appends
 pub mod Fitting
 pub mod Ordered
