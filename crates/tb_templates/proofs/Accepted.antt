@@ -9,8 +9,8 @@ use Rattle.tb_asm.specs.declared.names.Name.{Name}
 use Rattle.tb_asm.specs.declared.items.Operand.{Operand}
 use Rattle.tb_asm.specs.Layout.{Entry, instr, label, bytes, word, size, size_of, suits, is_place, has_mode}
 
-unfolding encoded
 encoded_by : (n : Mnemonic) (m : Mode) → encoded n m ≡ find_opcode rows n m
+unfolding encoded
 encoded_by n m = refl
 
 -- whether an item is of a form that there is
