@@ -2,9 +2,11 @@
 #![tactic(auto)]
 
 mod cpu;
+mod driver;
 mod grammar;
 mod kernal;
 mod memmap;
 mod opcodes;
+mod prg;
 mod reaching;
 mod words;

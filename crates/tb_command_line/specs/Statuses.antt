@@ -1,0 +1,12 @@
+-- The exit statuses where no engine is called.
+use Rattle.std.specs.Prelude.{ℕ}
+use Rattle.tb_command_line.specs.declared.failure.Failure.{Failure}
+use Rattle.tb_command_line.specs.declared.failure.Failure.TheVariants.{Words, NotUtf8, BadKeys, BadAddress, NotYet, NoMemory}
+
+abbrev pub status_of : Failure → ℕ
+status_of (Words text) = 2
+status_of NotUtf8 = 2
+status_of BadKeys = 2
+status_of BadAddress = 2
+status_of NotYet = 2
+status_of NoMemory = 4

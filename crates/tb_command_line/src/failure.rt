@@ -1,0 +1,64 @@
+//! Why the words of the command line lead to no call of an engine.
+ghost use Rattle.std.specs.Prelude.{◌≡◌};
+ghost use Rattle.tb_command_line.specs.Statuses.{status_of};
+
+use crate::jobs::JobError;
+use std::alloc::AllocError;
+use std::fmt;
+
+/// What is wrong with the words, or that memory is wanting.
+#[derive(Debug, Drop)]
+pub enum Failure {
+    /// What the parser says of the words.
+    Words(String),
+    /// A word is no UTF-8.
+    NotUtf8,
+    /// A key list is no even number of hexadecimal digits.
+    BadKeys,
+    /// An address is no four hexadecimal digits.
+    BadAddress,
+    /// The command works on sources, for which there is no engine yet.
+    NotYet,
+    NoMemory,
+}
+
+impl Failure {
+    /// The exit status of the program.
+    pub fn status(&self) -> u8
+        ensures { result ≡ status_of self.now }
+    {
+        match self {
+            Failure::NoMemory => 4,
+            _ => 2,
+        }
+    }
+}
+
+/// The whole text for standard error, with its line ends.
+impl fmt::Display for Failure {
+    fn fmt<W: fmt::Write>(&self, f: &mut fmt::Formatter<W>) -> fmt::Result {
+        match self {
+            Failure::Words(text) => write!(f, "{text}"),
+            Failure::NotUtf8 => writeln!(f, "tbc: an argument is not UTF-8"),
+            Failure::BadKeys => writeln!(f, "tbc: bad key list"),
+            Failure::BadAddress => writeln!(f, "tbc: bad address"),
+            Failure::NotYet => writeln!(f, "tbc: sources are not compiled yet"),
+            Failure::NoMemory => writeln!(f, "tbc: out of memory"),
+        }
+    }
+}
+
+impl From<AllocError> for Failure {
+    fn from(_error: AllocError) -> Failure {
+        Failure::NoMemory
+    }
+}
+
+impl From<JobError> for Failure {
+    fn from(error: JobError) -> Failure {
+        match error {
+            JobError::Words(text) => Failure::Words(text),
+            JobError::NoMemory => Failure::NoMemory,
+        }
+    }
+}

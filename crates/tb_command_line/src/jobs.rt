@@ -1,0 +1,99 @@
+//! What the words of the command line ask for.
+ghost use Rattle.std.specs.Prelude.{◌≡◌, ◌≤◌, ◌↔◌, IsSome, IfSome};
+
+use std::alloc::AllocError;
+
+/// The most events that a run may be given.
+pub const MOST_EVENTS: u32 = 1_000_000_000;
+
+/// How many events a run may take: 1 to `MOST_EVENTS`.
+#[derive(Clone, Copy, Debug, PartialEq, Eq)]
+pub struct Limit {
+    pub events: u32,
+    ghost at_least_one: { 1 ≤ events },
+    ghost at_most: { events ≤ 1000000000 },
+}
+
+impl Limit {
+    /// What a run may take where the words don't say.
+    pub fn default_limit() -> Limit
+        ensures { result.events ≡ 10000000 }
+    {
+        Limit { events: 10_000_000 }
+    }
+
+    /// A limit of so many events.
+    pub fn new(events: u32) -> Option<Limit>
+        ensures found { IsSome result ↔ ((1 ≤ events) × (events ≤ 1000000000)) }
+        ensures value { IfSome result (λ limit. limit.events ≡ events) }
+    {
+        if 1 <= events && events <= MOST_EVENTS {
+            Some(Limit { events })
+        } else {
+            None
+        }
+    }
+}
+
+/// What is run: a source file, or a PRG file.
+#[derive(Debug, Drop)]
+pub enum Runnable {
+    Source(String),
+    Prg(String),
+}
+
+/// A command with its words. File names, key lists and addresses are still texts.
+#[derive(Debug, Drop)]
+pub enum Job {
+    Build {
+        source: String,
+        out: String,
+        /// The first state of RND.
+        seed: u16,
+    },
+    Run {
+        what: Runnable,
+        seed: u16,
+        /// The keyboard text for CHRIN.
+        keys: String,
+        /// The answers for GETIN.
+        answers: String,
+        limit: Limit,
+        /// The seed of rude events, where they are wanted.
+        rude: Option<u16>,
+    },
+    Asm {
+        text: String,
+        out: String,
+        /// The address of the first byte.
+        at: String,
+    },
+    Dis {
+        prg: String,
+    },
+    Step {
+        source: String,
+        seed: u16,
+        keys: String,
+        answers: String,
+        limit: Limit,
+    },
+    /// A help text or the version, to be shown.
+    Show {
+        text: String,
+    },
+}
+
+/// Why there is no job.
+#[derive(Debug, Drop)]
+pub enum JobError {
+    /// What the parser says of the words.
+    Words(String),
+    NoMemory,
+}
+
+impl From<AllocError> for JobError {
+    fn from(_error: AllocError) -> JobError {
+        JobError::NoMemory
+    }
+}

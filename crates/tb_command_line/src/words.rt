@@ -1,0 +1,223 @@
+//! The words of the command line, read with `clap`.
+ghost use Rattle.std.specs.Prelude.{IfOk};
+ghost use Rattle.tb_command_line.specs.Limits.{IsWithinLimit};
+
+use crate::jobs::{Job, JobError, Limit, Runnable};
+use clap::error::ErrorKind;
+use clap::{Arg, ArgMatches, Command, value_parser};
+use std::alloc::{AllocError, Global};
+
+/// Reads the words after the program's own name.
+pub fn job(alloc: Global, words: &[&str]) -> Result<Job, JobError>
+    ensures { IfOk result IsWithinLimit }
+{
+    let matches = match command(alloc)?.try_get_matches_from(words) {
+        Ok(matches) => matches,
+        Err(error) => return without_matches(alloc, &error),
+    };
+    match matches.subcommand() {
+        Some((name, found)) => Ok(job_of(alloc, name, found)?),
+        None => Err(JobError::Words(String::new(alloc))),
+    }
+}
+
+// A help text is asked for; anything else is a fault.
+fn without_matches(alloc: Global, error: &clap::Error) -> Result<Job, JobError>
+    ensures { IfOk result IsWithinLimit }
+{
+    if error.kind() == ErrorKind::OutOfMemory {
+        return Err(JobError::NoMemory);
+    }
+    let text = match format!(in alloc; "{error}") {
+        Ok(text) => text,
+        Err(_) => return Err(JobError::NoMemory),
+    };
+    if error.use_stderr() {
+        Err(JobError::Words(text))
+    } else {
+        Ok(Job::Show { text })
+    }
+}
+
+fn command<'a>(alloc: Global) -> Result<Command<'a>, AllocError> {
+    Command::new(alloc, "tbc")
+        .about(
+            "Tiny BASIC cross compiler for the Commodore 64, with assembler, disassembler, test machine and stepper",
+        )
+        .version("1.0.0")
+        .no_binary_name(true)
+        .bin_name("tbc")?
+        .disable_help_subcommand(true)
+        .subcommand_required(true)
+        .subcommand(build_command(alloc)?)?
+        .subcommand(run_command(alloc)?)?
+        .subcommand(asm_command(alloc)?)?
+        .subcommand(dis_command(alloc)?)?
+        .subcommand(step_command(alloc)?)
+}
+
+fn build_command<'a>(alloc: Global) -> Result<Command<'a>, AllocError> {
+    Command::new(alloc, "build")
+        .about("Compile a Tiny BASIC source to a PRG file")
+        .arg(file(alloc, "SOURCE", "The source file"))?
+        .arg(file(alloc, "OUT", "The PRG file that is written"))?
+        .arg(seed_option(alloc))
+}
+
+fn run_command<'a>(alloc: Global) -> Result<Command<'a>, AllocError> {
+    let source = Arg::new(alloc, "SOURCE")
+        .help("The source file")
+        .required_unless_present("prg")?;
+    let prg = Arg::new(alloc, "prg")
+        .long("prg")
+        .value_name("FILE")
+        .help("Run this PRG file in place of a source")
+        .conflicts_with("SOURCE")?;
+    let rude = Arg::new(alloc, "rude")
+        .long("rude")
+        .value_name("N")
+        .value_parser(value_parser!(u16))
+        .help("Let the ROM write and clobber all that it may, by this seed [0 to 65535]");
+    Command::new(alloc, "run")
+        .about("Run a source or a PRG file, and show what it sends")
+        .arg(source)?
+        .arg(prg)?
+        .arg(seed_option(alloc))?
+        .arg(keys_option(alloc))?
+        .arg(answers_option(alloc))?
+        .arg(limit_option(alloc))?
+        .arg(rude)
+}
+
+fn asm_command<'a>(alloc: Global) -> Result<Command<'a>, AllocError> {
+    let at = Arg::new(alloc, "at")
+        .long("at")
+        .value_name("HEX")
+        .help("The address of the first byte, four hexadecimal digits")
+        .required(true);
+    Command::new(alloc, "asm")
+        .about("Assemble a text to a PRG file")
+        .arg(file(alloc, "IN", "The assembler text"))?
+        .arg(file(alloc, "OUT", "The PRG file that is written"))?
+        .arg(at)
+}
+
+fn dis_command<'a>(alloc: Global) -> Result<Command<'a>, AllocError> {
+    Command::new(alloc, "dis")
+        .about("List a PRG file as assembler text")
+        .arg(file(alloc, "FILE", "The PRG file"))
+}
+
+fn step_command<'a>(alloc: Global) -> Result<Command<'a>, AllocError> {
+    Command::new(alloc, "step")
+        .about("Step through a source by commands from standard input")
+        .arg(file(alloc, "SOURCE", "The source file"))?
+        .arg(seed_option(alloc))?
+        .arg(keys_option(alloc))?
+        .arg(answers_option(alloc))?
+        .arg(limit_option(alloc))
+}
+
+fn file<'a>(alloc: Global, id: &'a str, help: &'a str) -> Arg<'a> {
+    Arg::new(alloc, id).help(help).required(true)
+}
+
+fn seed_option<'a>(alloc: Global) -> Arg<'a> {
+    Arg::new(alloc, "seed")
+        .long("seed")
+        .value_name("N")
+        .value_parser(value_parser!(u16))
+        .default_value("1")
+        .help("The first state of RND, 0 to 65535")
+}
+
+fn keys_option<'a>(alloc: Global) -> Arg<'a> {
+    Arg::new(alloc, "keys")
+        .long("keys")
+        .value_name("HEX")
+        .default_value("")
+        .hide_default_value(true)
+        .help("What is typed, as pairs of hexadecimal digits: 350d is a 5 and return")
+}
+
+fn answers_option<'a>(alloc: Global) -> Arg<'a> {
+    Arg::new(alloc, "answers")
+        .long("answers")
+        .value_name("HEX")
+        .default_value("")
+        .hide_default_value(true)
+        .help("What each poll of the keyboard gives, as pairs of digits: 00 is no key, 03 is STOP")
+}
+
+fn limit_option<'a>(alloc: Global) -> Arg<'a> {
+    Arg::new(alloc, "limit")
+        .long("limit")
+        .value_name("N")
+        .value_parser(value_parser!(u32).range(1..=1_000_000_000))
+        .default_value("10000000")
+        .help("The most events, 1 to 1000000000")
+}
+
+fn job_of(alloc: Global, name: &str, found: &ArgMatches<'_>) -> Result<Job, AllocError>
+    ensures { IfOk result IsWithinLimit }
+{
+    Ok(match name {
+        "build" => Job::Build {
+            source: text(alloc, found, "SOURCE")?,
+            out: text(alloc, found, "OUT")?,
+            seed: seed_of(found),
+        },
+        "run" => run_job(alloc, found)?,
+        "asm" => Job::Asm {
+            text: text(alloc, found, "IN")?,
+            out: text(alloc, found, "OUT")?,
+            at: text(alloc, found, "at")?,
+        },
+        "dis" => Job::Dis {
+            prg: text(alloc, found, "FILE")?,
+        },
+        _ => Job::Step {
+            source: text(alloc, found, "SOURCE")?,
+            seed: seed_of(found),
+            keys: text(alloc, found, "keys")?,
+            answers: text(alloc, found, "answers")?,
+            limit: limit_of(found),
+        },
+    })
+}
+
+fn run_job(alloc: Global, found: &ArgMatches<'_>) -> Result<Job, AllocError>
+    ensures { IfOk result IsWithinLimit }
+{
+    Ok(Job::Run {
+        what: runnable_of(alloc, found)?,
+        seed: seed_of(found),
+        keys: text(alloc, found, "keys")?,
+        answers: text(alloc, found, "answers")?,
+        limit: limit_of(found),
+        rude: found.get_one::<u16>("rude"),
+    })
+}
+
+fn runnable_of(alloc: Global, found: &ArgMatches<'_>) -> Result<Runnable, AllocError> {
+    Ok(match found.get_str("prg") {
+        Some(prg) => Runnable::Prg(String::from_str(alloc, prg)?),
+        None => Runnable::Source(text(alloc, found, "SOURCE")?),
+    })
+}
+
+// A copy of the text of an argument, or an empty one where the parser let it be missing.
+fn text(alloc: Global, found: &ArgMatches<'_>, id: &str) -> Result<String, AllocError> {
+    String::from_str(alloc, found.get_str(id).unwrap_or(""))
+}
+
+fn seed_of(found: &ArgMatches<'_>) -> u16 {
+    found.get_one::<u16>("seed").unwrap_or(1)
+}
+
+fn limit_of(found: &ArgMatches<'_>) -> Limit {
+    found
+        .get_one::<u32>("limit")
+        .and_then(Limit::new)
+        .unwrap_or(Limit::default_limit())
+}

@@ -1,0 +1,7 @@
+pub mod HostForm
+pub mod Streams
+pub mod Inputs
+pub mod Outcomes
+pub mod Made
+pub mod Programs
+pub mod Assembly

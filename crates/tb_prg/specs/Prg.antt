@@ -1,0 +1,21 @@
+-- PRG files: the load address, low byte first, and the bytes.
+use Rattle.std.specs.Prelude.{ℕ, ◌+◌, ◌*◌, List, [], ◌∷◌, length, nat_lt, Result, Ok, Err, if◌then◌else◌}
+use Rattle.tb_prg.specs.declared.PrgError.{PrgError}
+use Rattle.tb_prg.specs.declared.PrgError.TheVariants.{TooShort, RunsPast}
+
+-- the load address $0801, and there the line `10 SYS2061`: the address of the next line, the line's number, the token of SYS,
+-- its digits and 0; then the end of the lines
+abbrev pub header : List ℕ
+header =
+    0x01 ∷ 0x08 ∷
+    0x0b ∷ 0x08 ∷ 0x0a ∷ 0x00 ∷ 0x9e ∷ 0x32 ∷ 0x30 ∷ 0x36 ∷ 0x31 ∷ 0x00 ∷
+    0x00 ∷ 0x00 ∷ []
+
+-- the load address and the bytes of a file, of which none may lie behind $FFFF
+abbrev pub within : ℕ → List ℕ → Result (ℕ × List ℕ) PrgError
+within at bytes = if nat_lt 65536 (at + length bytes) then Err RunsPast else Ok (at, bytes)
+
+abbrev pub content_of : List ℕ → Result (ℕ × List ℕ) PrgError
+content_of [] = Err TooShort
+content_of (low ∷ []) = Err TooShort
+content_of (low ∷ high ∷ bytes) = within (low + 256 * high) bytes

@@ -1,0 +1,33 @@
+//! Files: a file that can't be opened for reading is a read fault, one that can't be opened for writing a write fault.
+use std::alloc::Global;
+use std::rt::Files;
+use std::{fs, io};
+use tb_driver::{End, Outcome, Tracked, write_output};
+
+/// A file that is opened for reading.
+pub fn open<R: Files>(rt: &R, path: &str) -> Result<Tracked<R::File>, Outcome> {
+    match fs::open(rt, path) {
+        Ok(file) => Ok(Tracked::new(file)),
+        Err(error) if error.kind() == io::ErrorKind::OutOfMemory => Err(Outcome::NoMemory),
+        Err(_) => Err(Outcome::ReadFault),
+    }
+}
+
+/// Opens a file for writing, and writes what an engine made in memory, where it made all.
+pub fn save<R: Files>(rt: &R, path: &str, made: Outcome, bytes: &[u8]) -> Outcome {
+    match made {
+        Outcome::Ended(End::Done) => {}
+        // Only memory is wanting to a writer in memory.
+        Outcome::WriteFault => return Outcome::NoMemory,
+        _ => return made,
+    }
+    let file = match fs::create(rt, path) {
+        Ok(file) => file,
+        Err(error) if error.kind() == io::ErrorKind::OutOfMemory => return Outcome::NoMemory,
+        Err(_) => return Outcome::WriteFault,
+    };
+    match write_output(&mut Tracked::new(file), bytes) {
+        Ok(()) => made,
+        Err(_) => Outcome::WriteFault,
+    }
+}

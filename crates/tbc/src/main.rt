@@ -1,0 +1,52 @@
+//! The program `tbc`: its words become a job, and an engine does it over files and standard streams.
+#![tactic(auto)]
+
+mod files;
+mod tasks;
+
+use std::process::ExitCode;
+use std::rt::{Env, Files};
+use std::{env, io};
+use tb_command_line::{Failure, Job, job};
+use tb_driver::Outcome;
+
+// All words, the program's own name the first of them.
+fn words<R: Env + AllocGlobal>(rt: &R) -> Result<Vec<String>, Failure> {
+    match env::args(rt) {
+        Ok(args) => Ok(args.collect(rt.alloc())?),
+        Err(error) if error.kind() == io::ErrorKind::OutOfMemory => Err(Failure::NoMemory),
+        Err(_) => Err(Failure::NotUtf8),
+    }
+}
+
+fn job_of_words<R: Env + AllocGlobal>(rt: &R) -> Result<Job, Failure> {
+    let words = words(rt)?;
+    let words: Vec<&str> = words
+        .iter()
+        .skip(1)
+        .map(|word| word.as_str())
+        .collect(rt.alloc())?;
+    Ok(job(rt.alloc(), words.as_slice())?)
+}
+
+fn start<R: Files + Env + Print + AllocGlobal>(rt: &R) -> Result<Outcome, Failure> {
+    let job = job_of_words(rt)?;
+    tasks::perform(rt, job)
+}
+
+fn main(rt: HostRuntime) -> ExitCode {
+    // Nobody can be told that standard error fails.
+    let status = match start(&rt) {
+        Ok(outcome) => {
+            if outcome.status() != 0 {
+                let _ = eprintln!(rt; "tbc: {outcome}");
+            }
+            outcome.status()
+        }
+        Err(failure) => {
+            let _ = eprint!(rt; "{failure}");
+            failure.status()
+        }
+    };
+    ExitCode::from(status)
+}
