@@ -7,6 +7,7 @@ mod grammar;
 mod kernal;
 mod memmap;
 mod opcodes;
+mod parser;
 mod prg;
 mod reaching;
 mod words;

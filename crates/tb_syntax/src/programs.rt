@@ -1,5 +1,5 @@
 //! Programs: statements by line number.
-ghost use Rattle.std.specs.Prelude.{◌≡◌, ℕ, List, [], OnOk, OnErr};
+ghost use Rattle.std.specs.Prelude.{◌≡◌, ◌↔◌, ℕ, List, [], IsTrue, OnOk, OnErr};
 ghost use Rattle.std.specs.Ordering.{nat_cmp};
 ghost use Rattle.std.specs.BTreeMap.{insert_entry, is_at};
 ghost use Rattle.std.specs.Map.{remove_entry};
@@ -53,6 +53,13 @@ impl Program {
         ensures { self.new ≡ remove_entry (is_at (nat_cmp number)) self.old }
     {
         let _ = self.statements.remove(&number);
+    }
+
+    /// Whether there is no line.
+    pub fn is_empty(&self) -> bool
+        ensures { IsTrue result ↔ (self.now ≡ []) }
+    {
+        self.statements.is_empty()
     }
 
     /// The numbers and statements, in rising order.

@@ -1,0 +1,40 @@
+-- A file read line by line: what is left decides the whole.
+use Rattle.std.proofs.Common.{◌≡◌, ℕ, ◌+◌, false, true, List, [], ◌∷◌, Result, Ok, Err, refl, sym, subst}
+use Rattle.tb_syntax.specs.declared.statements.Statement.{Statement}
+use Rattle.tb_syntax.specs.Source.{Program}
+use Rattle.tb_syntax.specs.Shown.{lines_of}
+use Rattle.tb_parser.specs.declared.errors.Fault.{Fault}
+use Rattle.tb_parser.specs.declared.errors.SourceError.{SourceError}
+use Rattle.tb_parser.specs.Answers.{Answers, Says, edit_of, refusal_of}
+use Rattle.tb_parser.specs.Files.{Outcome, refused_at, edited, at_end, LinesAre, end, bad, good}
+use Rattle.tb_parser.specs.Lines.{lines_from, lines_of_file}
+use Rattle.tb_parser.specs.Readings.{Edit, LineIs}
+use Rattle.tb_parser.specs.Refusals.{at_line}
+use Rattle.tb_parser.proofs.Outcomes.{answers_at}
+use Rattle.tb_parser.proofs.Told.{passes}
+
+module _ (n : ℕ) (p : Program) (text : List ℕ) (Total : Outcome → Type 0) where
+  abbrev pub Decides : Type 0
+  Decides = (outcome : Outcome) → LinesAre n p (lines_of_file text) outcome → Total outcome
+
+  -- a bad line ends it
+  pub bad_line : (line behind : List ℕ) (fault : Fault) (error : SourceError) → lines_of_file text ≡ line ∷ lines_of_file behind
+      → Says edit_of (Err fault) (LineIs line) → error ≡ at_line n fault → Decides → Answers lines_of (Err error) Total
+  bad_line line behind fault error first said is decides =
+      let Family : SourceError → Type 0 = λ e. Answers lines_of (Err e) Total in
+      subst Family (sym is) (answers_at lines_of Total fault.kind fault.column n
+      (passes (refusal_of fault.kind fault.column) (λ r. LineIs line (Err r)) (λ r. Total (Err (refused_at n r)))
+      (λ r h. decides (Err (refused_at n r)) (rw first (bad n p line (lines_of_file behind) r h))) said))
+
+  -- a good line goes on to the next
+  pub good_line : (line behind : List ℕ) (edit : Edit) → lines_of_file text ≡ line ∷ lines_of_file behind → LineIs line (Ok edit) → Decides
+      → (outcome : Outcome) → LinesAre (n + 1) (edited edit p) (lines_of_file behind) outcome → Total outcome
+  good_line line behind edit first is decides outcome rest = decides outcome (rw first (good n p line (lines_of_file behind) edit outcome is rest))
+
+  pub no_line : text ≡ [] → Decides → Total (at_end p)
+  unfolding lines_from
+  no_line none decides = decides (at_end p) (rw none (end n p))
+
+pub ended : (es : List (ℕ × Statement)) → (es ≡ [] → false ≡ true) → at_end (lines_of es) ≡ Ok (lines_of es)
+ended [] some = let no_match : false ≡ true = some refl in absurd cc
+ended (e ∷ es) some = refl

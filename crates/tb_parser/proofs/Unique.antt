@@ -1,0 +1,197 @@
+-- No text, line or file has two meanings.
+use Rattle.std.proofs.Common.{◌≡◌, ◌≢◌, ℕ, ◌+◌, ◌<◌, ◌≤◌, Bool, true, false, List, [], ◌∷◌, length, Option, Some, None, Result, Ok, Err, refl, sym, ap, ◌∙◌, arith, ◌⊎◌, inl, inr, if◌then◌else◌, nat_le, ◌&&◌, subst}
+use Rattle.std.proofs.lemmas.Bool.Decides.{nat_tests}
+use Rattle.tb_syntax.specs.Source.{Command, Expression, Program}
+use Rattle.tb_grammar.specs.Statements.{States}
+use Rattle.tb_grammar.proofs.ExpressionLaws as expression_laws
+use Rattle.tb_grammar.proofs.StatementLaws as statement_laws
+use Rattle.tb_parser.proofs.Numbers.{number_has_digit, blank_squeezed}
+use Rattle.tb_parser.specs.declared.errors.SourceErrorKind.{SourceErrorKind}
+use Rattle.tb_parser.specs.declared.errors.SourceErrorKind.TheVariants.{LineTooLong, BadByte, Unnumbered, BadLineNumber, NotCompiled, NumberTooLarge}
+use Rattle.tb_parser.specs.declared.squeeze.Mode.TheVariants.{Code}
+use Rattle.tb_parser.specs.declared.squeeze.Placed.{Placed}
+use Rattle.tb_parser.specs.Readings.{Refusal, at_column, Grammar, TextIs, reads, not_compiled, syntax, number_too_large, IsFit, IsUnfit, line_too_long, bad_byte, IsLineNumber, IsNumbered, Edit, Nothing, Sets, Deletes, LineIs, blank, unfit, unnumbered, bad_line_number, deletes, sets, unread, Expresses, ExpressionIs, unfit_text, fit_text}
+use Rattle.tb_parser.specs.Scans.{first_written, first_bad, starts_with_digit, Counted, number_at, left_out_word, column_left}
+use Rattle.tb_parser.specs.Squeezed.{squeezed, bytes}
+use Rattle.tb_parser.specs.Files.{Outcome, FileRefusal, refused_at, edited, at_end, LinesAre, end, bad, good}
+
+abbrev pub IsUnique : {A : Type 0} → Grammar A → Type 0
+IsUnique {A} grammar = (t : List ℕ) (a b : A) (la lb : Option ℕ) → grammar t a la → grammar t b lb → (a ≡ b) × (la ≡ lb)
+
+none_some : (n : ℕ) (o : Option ℕ) → o ≡ None → o ≡ Some n → ⊥
+none_some n o e f = let no_match : None ≡ Some n = sym e ∙ f in cc
+
+some_same : (m n : ℕ) (o : Option ℕ) → o ≡ Some m → o ≡ Some n → m ≡ n
+some_same m n o e f = let both : Some m ≡ Some n = sym e ∙ f in cc
+
+module _ {A : Type 0} (grammar : Grammar A) (unique : IsUnique grammar) (text : List Placed) where
+  pub text_one : {x y : Result A Refusal} → TextIs A grammar text x → TextIs A grammar text y → x ≡ y
+  text_one (reads a h) (reads b k) = ap (λ (v : A). Ok v) (unique (bytes text) a b None None h k).0
+  text_one (reads a h) (not_compiled c n e) = absurd (n a None h)
+  text_one (reads a h) (syntax n e) = absurd (n a None h)
+  text_one (reads a h) (number_too_large b l k) = absurd (none_some l None refl (unique (bytes text) a b None (Some l) h k).1)
+  text_one (not_compiled c n e) (reads b k) = absurd (n b None k)
+  text_one (not_compiled c n e) (not_compiled d m f) = ap (λ (v : ℕ). Err (at_column NotCompiled v)) (some_same c d (left_out_word text) e f)
+  text_one (not_compiled c n e) (syntax m f) = absurd (none_some c (left_out_word text) f e)
+  text_one (not_compiled c n e) (number_too_large b l k) = absurd (n b (Some l) k)
+  text_one (syntax n e) (reads b k) = absurd (n b None k)
+  text_one (syntax n e) (not_compiled d m f) = absurd (none_some d (left_out_word text) e f)
+  text_one (syntax n e) (syntax m f) = refl
+  text_one (syntax n e) (number_too_large b l k) = absurd (n b (Some l) k)
+  text_one (number_too_large a l h) (reads b k) = absurd (none_some l None refl (unique (bytes text) b a None (Some l) k h).1)
+  text_one (number_too_large a l h) (not_compiled d m f) = absurd (m a (Some l) h)
+  text_one (number_too_large a l h) (syntax m f) = absurd (m a (Some l) h)
+  text_one (number_too_large a l h) (number_too_large b k g) =
+      ap (λ (v : ℕ). Err (at_column NumberTooLarge (column_left v text))) (some_same l k (Some l) refl (unique (bytes text) a b (Some l) (Some k) h g).1)
+
+pub unfit_one : {line : List ℕ} {r s : Refusal} → IsUnfit line r → IsUnfit line s → r ≡ s
+unfit_one (line_too_long h) (line_too_long k) = refl
+unfit_one (line_too_long h) (bad_byte d short f) = absurd (omega arith)
+unfit_one (bad_byte c short e) (line_too_long k) = absurd (omega arith)
+unfit_one {line} (bad_byte c short e) (bad_byte d again f) = ap (λ (v : ℕ). at_column BadByte v) (some_same c d (first_bad Code 1 line) e f)
+
+pub fit_unfit : {line : List ℕ} {r : Refusal} → IsFit line → IsUnfit line r → ⊥
+fit_unfit fit (line_too_long h) = omega (arith, fit.short)
+fit_unfit {line} fit (bad_byte c short e) = none_some c (first_bad Code 1 line) fit.clean e
+
+pub expression_one : (line : List ℕ) (x y : Result Expression Refusal) → ExpressionIs line x → ExpressionIs line y → x ≡ y
+expression_one line _ _ (unfit_text r h) (unfit_text s k) = ap (λ (v : Refusal). Err v) (unfit_one h k)
+expression_one line _ _ (unfit_text r h) (fit_text y fit k) = absurd (fit_unfit fit h)
+expression_one line _ _ (fit_text x fit h) (unfit_text s k) = absurd (fit_unfit fit k)
+expression_one line _ _ (fit_text x fit h) (fit_text y again k) = text_one Expresses expression_laws.unique (squeezed line) h k
+
+-- how far a line is judged before the statement behind its number is read
+data Judged : Type 0 where
+  Decided : Result Edit Refusal → Judged
+  Statement : (number : ℕ) (text : List Placed) → Judged
+
+when : {A B : Type 0} → Option A → B → (A → B) → B
+when None otherwise f = otherwise
+when (Some x) otherwise f = f x
+
+behind_number : ℕ → List Placed → Judged
+behind_number number [] = Decided (Ok (Deletes number))
+behind_number number (p ∷ text) = Statement number (p ∷ text)
+
+numbered_line : ℕ → List Placed → Judged
+numbered_line first placed =
+    if starts_with_digit placed then
+    (let n = number_at 0 placed in if nat_le 1 n.value && nat_le n.value 32767 then behind_number n.value n.rest else Decided (Err (at_column BadLineNumber first)))
+    else Decided (Err (at_column Unnumbered first))
+
+judged : List ℕ → Judged
+judged line =
+    when (first_written 1 line) (Decided (Ok Nothing)) (λ first.
+    if nat_le (length line) 255 then when (first_bad Code 1 line) (numbered_line first (squeezed line)) (λ column. Decided (Err (at_column BadByte column)))
+    else Decided (Err (at_column LineTooLong 256)))
+
+-- what a statement does at a line number
+at_number : ℕ → Result Command Refusal → Result Edit Refusal
+at_number number (Ok c) = Ok (Sets number c)
+at_number number (Err r) = Err r
+
+record Reads (line : List ℕ) (m : Result Edit Refusal) : Type 0 where
+  number : ℕ
+  text : List Placed
+  is_judged : judged line ≡ Statement number text
+  said : Result Command Refusal
+  reading : TextIs Command States text said
+  meaning : m ≡ at_number number said
+
+low_enough : (a b : ℕ) → a ≤ b → nat_le a b ≡ true
+low_enough a b h = grind (arith, nat_tests)
+
+too_high : (a b : ℕ) → b < a → nat_le a b ≡ false
+too_high a b h = grind (arith, nat_tests)
+
+no_number : (n : ℕ) → (IsLineNumber n → ⊥) → (nat_le 1 n && nat_le n 32767) ≡ false
+no_number n h = go (nat_le 1 n) (nat_le n 32767) refl refl
+  where
+    go : (low high : Bool) → nat_le 1 n ≡ low → nat_le n 32767 ≡ high → (low && high) ≡ false
+    go true true e f = absurd (h (grind (arith, nat_tests), grind (arith, nat_tests)))
+    go true false e f = refl
+    go false high e f = refl
+
+-- a numbered line isn't blank
+number_written : (line : List ℕ) → 1 ≤ (number_at 0 (squeezed line)).value → (first : ℕ) × (first_written 1 line ≡ Some first)
+unfolding number_at
+number_written line low = go (first_written 1 line) refl
+  where
+    go : (o : Option ℕ) → first_written 1 line ≡ o → (first : ℕ) × (first_written 1 line ≡ Some first)
+    go None e = let zero : 1 ≤ 0 = rw (blank_squeezed 1 line e) at low in absurd (omega (arith, zero))
+    go (Some first) e = (first, e)
+
+judged_number : (line : List ℕ) (number : ℕ) (text : List Placed) → IsNumbered line number text → judged line ≡ behind_number number text
+unfolding judged numbered_line when
+judged_number line number text n =
+    let low : 1 ≤ (number_at 0 (squeezed line)).value = rw (n.value) n.in_range.0 in
+    let written = number_written line low in
+    rw (written.1, low_enough (length line) 255 n.fit.short, n.fit.clean, number_has_digit (squeezed line) low, n.value, n.rest, low_enough 1 number n.in_range.0, low_enough number 32767 n.in_range.1) refl
+
+statement_behind : (number : ℕ) (text : List Placed) → text ≢ [] → behind_number number text ≡ Statement number text
+unfolding behind_number
+statement_behind number [] some = absurd (some refl)
+statement_behind number (p ∷ text) some = refl
+
+judged_as : (line : List ℕ) (m : Result Edit Refusal) → LineIs line m → (judged line ≡ Decided m) ⊎ Reads line m
+unfolding judged numbered_line behind_number when at_number
+judged_as line _ (blank e) = inl (rw e refl)
+judged_as line _ (unfit first _ e (line_too_long h)) = inl (rw (e, too_high (length line) 255 h) refl)
+judged_as line _ (unfit first _ e (bad_byte column short f)) = inl (rw (e, low_enough (length line) 255 short, f) refl)
+judged_as line _ (unnumbered first e fit d) = inl (rw (e, low_enough (length line) 255 fit.short, fit.clean, d) refl)
+judged_as line _ (bad_line_number first e fit d n) = inl (rw (e, low_enough (length line) 255 fit.short, fit.clean, d, no_number (number_at 0 (squeezed line)).value n) refl)
+judged_as line _ (deletes number n) = inl (judged_number line number [] n)
+judged_as line _ (sets number text c n some t) = inr (record { number = number; text = text; is_judged = judged_number line number text n ∙ statement_behind number text some; said = Ok c; reading = t; meaning = refl })
+judged_as line _ (unread number text r n some t) = inr (record { number = number; text = text; is_judged = judged_number line number text n ∙ statement_behind number text some; said = Err r; reading = t; meaning = refl })
+
+decided_in : Result Edit Refusal → Judged → Result Edit Refusal
+decided_in m (Decided d) = d
+decided_in m (Statement number text) = m
+
+number_in : Judged → ℕ
+number_in (Decided d) = 0
+number_in (Statement number text) = number
+
+text_in : Judged → List Placed
+text_in (Decided d) = []
+text_in (Statement number text) = text
+
+apart : (j : Judged) (d : Result Edit Refusal) (number : ℕ) (text : List Placed) → j ≡ Decided d → j ≡ Statement number text → ⊥
+apart j d number text e f = let no_match : Decided d ≡ Statement number text = sym e ∙ f in cc
+
+read_one : {line : List ℕ} {m k : Result Edit Refusal} → Reads line m → Reads line k → m ≡ k
+unfolding number_in text_in
+read_one a b =
+    let same = sym a.is_judged ∙ b.is_judged in
+    let number : a.number ≡ b.number = ap (λ (j : Judged). number_in j) same in
+    let text : a.text ≡ b.text = ap (λ (j : Judged). text_in j) same in
+    let said : a.said ≡ b.said = text_one States statement_laws.unique b.text (rw text at a.reading) b.reading in
+    a.meaning ∙ rw (number, said) refl ∙ sym b.meaning
+
+pub line_one : (line : List ℕ) (m k : Result Edit Refusal) → LineIs line m → LineIs line k → m ≡ k
+unfolding decided_in
+line_one line m k h g = go (judged_as line m h) (judged_as line k g)
+  where
+    go : (judged line ≡ Decided m) ⊎ Reads line m → (judged line ≡ Decided k) ⊎ Reads line k → m ≡ k
+    go (inl e) (inl f) = ap (λ (j : Judged). decided_in m j) (sym e ∙ f)
+    go (inl e) (inr b) = absurd (apart (judged line) m b.number b.text e b.is_judged)
+    go (inr a) (inl f) = absurd (apart (judged line) k a.number a.text f a.is_judged)
+    go (inr a) (inr b) = read_one a b
+
+pub ok_err : {A B : Type 0} (a : A) (b : B) → Ok a ≡ Err b → ⊥
+ok_err a b e = cc
+
+pub ok_same : {A B : Type 0} (a b : A) → ◌≡◌ {A = Result A B} (Ok a) (Ok b) → a ≡ b
+ok_same a b e = cc
+
+pub err_same : {A B : Type 0} (a b : B) → ◌≡◌ {A = Result A B} (Err a) (Err b) → a ≡ b
+err_same a b e = cc
+
+pub lines_one : (n : ℕ) (p : Program) (lines : List (List ℕ)) (x y : Outcome) → LinesAre n p lines x → LinesAre n p lines y → x ≡ y
+lines_one n p _ _ _ (end _ _) (end _ _) = refl
+lines_one n p _ _ _ (bad _ _ line lines r h) (bad _ _ _ _ s k) = ap (λ (v : Refusal). Err (refused_at n v)) (err_same r s (line_one line (Err r) (Err s) h k))
+lines_one n p _ _ _ (bad _ _ line lines r h) (good _ _ _ _ e y k more) = absurd (ok_err e r (line_one line (Ok e) (Err r) k h))
+lines_one n p _ _ _ (good _ _ line lines e x h rest) (bad _ _ _ _ s k) = absurd (ok_err e s (line_one line (Ok e) (Err s) h k))
+lines_one n p _ _ _ (good _ _ line lines e x h rest) (good _ _ _ _ f y k more) =
+    let same : f ≡ e = ok_same f e (line_one line (Ok f) (Ok e) k h) in
+    lines_one (n + 1) (edited e p) lines x y rest (rw same at more)

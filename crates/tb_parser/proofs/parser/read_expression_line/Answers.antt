@@ -1,0 +1,29 @@
+use Rattle.std.proofs.Common.{◌≡◌, ◌∙◌, ℕ, List, Result, Ok, Err, IfSome}
+use Rattle.std.proofs.lemmas.Result.{err_from_is_err_and}
+use Rattle.tb_syntax.specs.declared.expressions.Expr.{Expr}
+use Rattle.tb_syntax.specs.Source.{Expression}
+use Rattle.tb_syntax.specs.Shown.{expression_of}
+use Rattle.tb_parser.specs.declared.errors.Fault.{Fault}
+use Rattle.tb_parser.specs.declared.squeeze.Placed.{Placed}
+use Rattle.tb_parser.specs.Answers.{Says, refusal_of}
+use Rattle.tb_parser.specs.Readings.{Refusal, Expresses, ExpressionIs, IsFit, IsUnfit, TextIs, unfit_text, fit_text}
+use Rattle.tb_parser.specs.Squeezed.{squeezed}
+use Rattle.tb_parser.proofs.Told.{passes}
+use Rattle.tb_parser.proofs.parser.read_expression_line.Goals as goal
+
+expression_unfit : (line : List ℕ) (fault : Fault) → IfSome (refusal_of fault.kind fault.column) (IsUnfit line) → Says expression_of (Err fault) (ExpressionIs line)
+expression_unfit line fault h = passes (refusal_of fault.kind fault.column) (IsUnfit line) (λ r. ExpressionIs line (Err r)) (λ r u. unfit_text r u) h
+
+expression_said : (line : List ℕ) (result : Result Expr Fault) → IsFit line → Says expression_of result (TextIs Expression Expresses (squeezed line)) → Says expression_of result (ExpressionIs line)
+expression_said line (Ok x) fit h = fit_text (Ok (expression_of x)) fit h
+expression_said line (Err fault) fit h = passes (refusal_of fault.kind fault.column) (λ r. TextIs Expression Expresses (squeezed line) (Err r)) (λ r. ExpressionIs line (Err r)) (λ r t. fit_text (Err r) fit t) h
+
+pub returns-in_err-check_bytes : goal.returns-in_err-check_bytes
+returns-in_err-check_bytes c =
+    let p = err_from_is_err_and c.from_residual.result c.from_residual.ensures.1 in
+    rw (p.1, p.2) (expression_unfit c.args.line.now c.in_err-check_bytes.field-0.0 c.in_err-check_bytes.ensures)
+
+pub returns : goal.returns
+returns c =
+    let placed : c.deref.result.now ≡ squeezed c.args.line.now = c.deref.ensures.value ∙ c.in_ok-placed.ensures in
+    expression_said c.args.line.now c.read_value.result c.in_ok-check_bytes.ensures (rw placed at c.read_value.ensures)

@@ -1,0 +1,17 @@
+use Rattle.std.proofs.Common.{◌≡◌, ◌+◌, ◌∙◌, arith, sym, ap}
+use Rattle.tb_parser.specs.declared.squeeze.Mode.{Mode}
+use Rattle.tb_parser.specs.Scans.{first_bad}
+use Rattle.tb_parser.proofs.Steps.{bad_later, bad_here, bad_nowhere}
+use Rattle.tb_parser.proofs.scans.bad_byte.Goals as goal
+
+pub loop-i-preserved : goal.loop-i-preserved
+loop-i-preserved c =
+    let later = bad_later c.args.line.now c.loop-i.i c.loop-i.mode (c.loop-i.i + 1) (omega arith) (sym c.is_bad_byte.ensures ∙ c.if-is_bad_byte.false) in
+    rw (c.after-mode.ensures) (later ∙ c.loop-i.invariant)
+
+pub returns-then-is_bad_byte : goal.returns-then-is_bad_byte
+returns-then-is_bad_byte c =
+    sym (bad_here c.args.line.now c.loop-i.i c.loop-i.mode (c.loop-i.i + 1) (omega arith) (sym c.is_bad_byte.ensures ∙ c.if-is_bad_byte.true)) ∙ c.loop-i.invariant
+
+pub returns : goal.returns
+returns c = sym (bad_nowhere c.args.line.now c.loop-i.i c.loop-i.mode (c.loop-i.i + 1) (omega arith)) ∙ c.loop-i.invariant

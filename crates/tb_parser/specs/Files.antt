@@ -1,0 +1,59 @@
+-- The program of a file, line by line.
+use Rattle.std.specs.Prelude.{◌≡◌, ℕ, ◌+◌, ◌<◌, ◌≤◌, List, [], ◌∷◌, Bool, true, false, Option, Some, None, Result, Ok, Err, if◌then◌else◌, ◌==◌, nat_lt}
+use Rattle.tb_syntax.specs.Source.{Expression, Command, Numbered, Program}
+use Rattle.tb_parser.specs.declared.errors.Fault.{Fault}
+use Rattle.tb_parser.specs.declared.errors.SourceError.{SourceError}
+use Rattle.tb_parser.specs.declared.errors.SourceErrorKind.{SourceErrorKind}
+use Rattle.tb_parser.specs.declared.errors.SourceErrorKind.TheVariants.{Syntax, Empty, NoMemory}
+use Rattle.tb_parser.specs.Readings.{Refusal, Edit, Nothing, Sets, Deletes, LineIs}
+use Rattle.tb_parser.specs.Refusals.{out_of_memory}
+
+abbrev pub line_at : ℕ → Command → Numbered Command
+line_at number c = record { number = number; content = c }
+
+-- a program with one line's entry set, in rising order
+abbrev pub with_line : ℕ → Command → Program → Program
+with_line number c [] = line_at number c ∷ []
+with_line number c (line ∷ lines) =
+    if nat_lt number line.number then line_at number c ∷ line ∷ lines
+    else if number == line.number then line_at number c ∷ lines
+    else line ∷ with_line number c lines
+
+-- and without one line's entry, if there is one
+abbrev pub without_line : ℕ → Program → Program
+without_line number [] = []
+without_line number (line ∷ lines) = if number == line.number then lines else line ∷ without_line number lines
+
+abbrev pub edited : Edit → Program → Program
+edited Nothing p = p
+edited (Sets number c) p = with_line number c p
+edited (Deletes number) p = without_line number p
+
+-- why a file is refused: the first bad line, from 1, with its refusal
+pub record FileRefusal : Type 0 where
+  pub line : ℕ
+  pub refusal : Refusal
+
+abbrev pub refused_at : ℕ → Refusal → FileRefusal
+refused_at line r = record { line = line; refusal = r }
+
+-- what a file is: its program, or its refusal
+abbrev pub Outcome : Type 0
+Outcome = Result Program FileRefusal
+
+-- at the end: a program without lines is refused, at line 0 and column 0
+abbrev pub at_end : Program → Outcome
+at_end [] = Err (refused_at 0 (record { kind = Empty; column = Some 0 }))
+at_end (line ∷ lines) = Ok (line ∷ lines)
+
+-- From a line on, with the program that the lines before it made, these lines make a program or are refused.
+pub data LinesAre : ℕ → Program → List (List ℕ) → Outcome → Type 0 where
+  end : (n : ℕ) (p : Program) → LinesAre n p [] (at_end p)
+  bad : (n : ℕ) (p : Program) (line : List ℕ) (lines : List (List ℕ)) (r : Refusal) → LineIs line (Err r) → LinesAre n p (line ∷ lines) (Err (refused_at n r))
+  good : (n : ℕ) (p : Program) (line : List ℕ) (lines : List (List ℕ)) (edit : Edit) (outcome : Outcome)
+      → LineIs line (Ok edit) → LinesAre (n + 1) (edited edit p) lines outcome → LinesAre n p (line ∷ lines) outcome
+
+-- numbers that rise, all above a bound and none above 32,767
+abbrev pub RisesFrom : ℕ → List ℕ → Type 0
+RisesFrom low [] = Unit {0}
+RisesFrom low (n ∷ ns) = (low < n) × (n ≤ 32767) × RisesFrom n ns

@@ -1,0 +1,78 @@
+-- What a line says, or why it is refused.
+use Rattle.std.specs.Prelude.{◌≡◌, ◌≢◌, ℕ, ◌<◌, ◌≤◌, List, [], length, false, true, Option, Some, None, Result, Ok, Err}
+use Rattle.tb_syntax.specs.Source.{Expression, Command}
+use Rattle.tb_grammar.specs.Grammar.{Reads, Whole}
+use Rattle.tb_grammar.specs.Statements.{States}
+use Rattle.tb_parser.specs.declared.errors.SourceErrorKind.{SourceErrorKind}
+use Rattle.tb_parser.specs.declared.errors.SourceErrorKind.TheVariants.{LineTooLong, BadByte, Unnumbered, BadLineNumber, NotCompiled, Syntax, NumberTooLarge}
+use Rattle.tb_parser.specs.declared.squeeze.Mode.TheVariants.{Code}
+use Rattle.tb_parser.specs.declared.squeeze.Placed.{Placed}
+use Rattle.tb_parser.specs.Squeezed.{squeezed, bytes}
+use Rattle.tb_parser.specs.Scans.{first_written, first_bad, starts_with_digit, number_at, left_out_word, column_left}
+
+-- Why a line is refused. The column is None where no definition says it, which is for Syntax.
+pub record Refusal : Type 0 where
+  pub kind : SourceErrorKind
+  pub column : Option ℕ
+
+abbrev pub at_column : SourceErrorKind → ℕ → Refusal
+at_column kind column = record { kind = kind; column = Some column }
+
+-- A grammar: a text stands for a value. The place is that of the first literal above 65,535, as the bytes left there.
+abbrev pub Grammar : Type 0 → Type 1
+Grammar A = List ℕ → A → Option ℕ → Type 0
+
+abbrev pub HasNoReading : {A : Type 0} → Grammar A → List ℕ → Type 0
+HasNoReading {A} grammar text = (a : A) (large : Option ℕ) → grammar text a large → ⊥
+
+-- What a squeezed text is in a grammar: its value where it has a reading without a large literal, else one of three faults.
+pub data TextIs (A : Type 0) (grammar : Grammar A) (text : List Placed) : Result A Refusal → Type 0 where
+  reads : (a : A) → grammar (bytes text) a None → TextIs A grammar text (Ok a)
+  not_compiled : (column : ℕ) → HasNoReading grammar (bytes text) → left_out_word text ≡ Some column → TextIs A grammar text (Err (at_column NotCompiled column))
+  syntax : HasNoReading grammar (bytes text) → left_out_word text ≡ None → TextIs A grammar text (Err (record { kind = Syntax; column = None }))
+  number_too_large : (a : A) (left : ℕ) → grammar (bytes text) a (Some left) → TextIs A grammar text (Err (at_column NumberTooLarge (column_left left text)))
+
+-- a line that is too long, or else has a bad byte
+pub data IsUnfit (line : List ℕ) : Refusal → Type 0 where
+  line_too_long : 255 < length line → IsUnfit line (at_column LineTooLong 256)
+  bad_byte : (column : ℕ) → length line ≤ 255 → first_bad Code 1 line ≡ Some column → IsUnfit line (at_column BadByte column)
+
+pub record IsFit (line : List ℕ) : Type 0 where
+  pub short : length line ≤ 255
+  pub clean : first_bad Code 1 line ≡ None
+
+abbrev pub IsLineNumber : ℕ → Type 0
+IsLineNumber n = (1 ≤ n) × (n ≤ 32767)
+
+-- a line with a line number, and the text behind it
+pub record IsNumbered (line : List ℕ) (number : ℕ) (text : List Placed) : Type 0 where
+  pub fit : IsFit line
+  pub value : (number_at 0 (squeezed line)).value ≡ number
+  pub rest : (number_at 0 (squeezed line)).rest ≡ text
+  pub in_range : IsLineNumber number
+
+-- what a line does to the program
+pub data Edit : Type 0 where
+  Nothing : Edit
+  Sets : (number : ℕ) (c : Command) → Edit
+  Deletes : (number : ℕ) → Edit
+
+-- A line of a file, by the table of its faults in its order. A line of spaces alone is never bad, at any length.
+pub data LineIs (line : List ℕ) : Result Edit Refusal → Type 0 where
+  blank : first_written 1 line ≡ None → LineIs line (Ok Nothing)
+  unfit : (first : ℕ) (r : Refusal) → first_written 1 line ≡ Some first → IsUnfit line r → LineIs line (Err r)
+  unnumbered : (first : ℕ) → first_written 1 line ≡ Some first → IsFit line → starts_with_digit (squeezed line) ≡ false → LineIs line (Err (at_column Unnumbered first))
+  bad_line_number : (first : ℕ) → first_written 1 line ≡ Some first → IsFit line → starts_with_digit (squeezed line) ≡ true
+      → (IsLineNumber (number_at 0 (squeezed line)).value → ⊥) → LineIs line (Err (at_column BadLineNumber first))
+  deletes : (number : ℕ) → IsNumbered line number [] → LineIs line (Ok (Deletes number))
+  sets : (number : ℕ) (text : List Placed) (c : Command) → IsNumbered line number text → text ≢ [] → TextIs Command States text (Ok c) → LineIs line (Ok (Sets number c))
+  unread : (number : ℕ) (text : List Placed) (r : Refusal) → IsNumbered line number text → text ≢ [] → TextIs Command States text (Err r) → LineIs line (Err r)
+
+-- the whole text is one expression
+abbrev pub Expresses : Grammar Expression
+Expresses text e large = Reads Whole text e large []
+
+-- A line that is to be one expression, without a line number.
+pub data ExpressionIs (line : List ℕ) : Result Expression Refusal → Type 0 where
+  unfit_text : (r : Refusal) → IsUnfit line r → ExpressionIs line (Err r)
+  fit_text : (outcome : Result Expression Refusal) → IsFit line → TextIs Expression Expresses (squeezed line) outcome → ExpressionIs line outcome

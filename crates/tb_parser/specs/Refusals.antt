@@ -1,0 +1,19 @@
+-- Refusals of a line and of a file.
+use Rattle.std.specs.Prelude.{ℕ, Option, Some, None}
+use Rattle.tb_parser.specs.declared.errors.Fault.{Fault}
+use Rattle.tb_parser.specs.declared.errors.SourceError.{SourceError}
+use Rattle.tb_parser.specs.declared.errors.SourceErrorKind.{SourceErrorKind}
+use Rattle.tb_parser.specs.declared.errors.SourceErrorKind.TheVariants.{NoMemory}
+
+abbrev pub out_of_memory : SourceError
+out_of_memory = record { kind = NoMemory; line = 0; column = 0 }
+
+abbrev pub fault_of_memory : Fault
+fault_of_memory = record { kind = NoMemory; column = 0 }
+
+abbrev pub error_at : SourceErrorKind → ℕ → ℕ → SourceError
+error_at NoMemory line column = out_of_memory
+error_at kind line column = record { kind = kind; line = line; column = column }
+
+abbrev pub at_line : ℕ → Fault → SourceError
+at_line line fault = error_at fault.kind line fault.column

@@ -1,0 +1,60 @@
+-- What is looked for in a line before it is read.
+use Rattle.std.specs.Prelude.{ℕ, ◌+◌, ◌-◌, ◌*◌, List, [], ◌∷◌, length, map, slice_index, Bool, true, false, Option, Some, None, nat_le, ◌==◌, ◌&&◌, ◌||◌, if◌then◌else◌, codes}
+use Rattle.tb_parser.specs.declared.squeeze.Mode.{Mode}
+use Rattle.tb_parser.specs.declared.squeeze.Mode.TheVariants.{Code, CodeR, CodeRe, Text, Remark}
+use Rattle.tb_parser.specs.declared.squeeze.Placed.{Placed}
+use Rattle.tb_parser.specs.Squeezed.{after}
+
+-- the column of the first byte that is no space; a line without one is blank
+unfoldable pub first_written : ℕ → List ℕ → Option ℕ
+first_written column [] = None
+first_written column (b ∷ line) = if b == 32 then first_written (column + 1) line else Some column
+
+abbrev pub is_source_byte : ℕ → Bool
+is_source_byte b = (nat_le 32 b && nat_le b 90) || (nat_le 97 b && nat_le b 122)
+
+abbrev pub is_bad : Mode → ℕ → Bool
+is_bad Remark b = false
+is_bad m b = if is_source_byte b then false else true
+
+-- the column of the first bad byte before the remark
+unfoldable pub first_bad : Mode → ℕ → List ℕ → Option ℕ
+first_bad m column [] = None
+first_bad m column (b ∷ line) = if is_bad m b then Some column else first_bad (after m b) (column + 1) line
+
+abbrev pub is_digit : ℕ → Bool
+is_digit b = nat_le 48 b && nat_le b 57
+
+abbrev pub starts_with_digit : List Placed → Bool
+starts_with_digit [] = false
+starts_with_digit (p ∷ placed) = is_digit p.byte
+
+-- a number, and what is left behind it
+pub record Counted : Type 0 where
+  pub value : ℕ
+  pub rest : List Placed
+
+-- what the digits at the front stand for, behind a number that stands before them
+unfoldable pub number_at : ℕ → List Placed → Counted
+number_at n [] = record { value = n; rest = [] }
+number_at n (p ∷ placed) =
+    if is_digit p.byte then number_at (10 * n + (p.byte - 48)) placed
+    else record { value = n; rest = p ∷ placed }
+
+abbrev pub begins : List ℕ → List Placed → Bool
+begins [] placed = true
+begins (letter ∷ letters) [] = false
+begins (letter ∷ letters) (p ∷ placed) = (p.byte == letter) && begins letters placed
+
+-- at the front stands a word that the compiler leaves out
+abbrev pub is_left_out : List Placed → Bool
+is_left_out placed = begins (codes "USR") placed || begins (codes "RUN") placed || begins (codes "LIST") placed || begins (codes "CLEAR") placed
+
+-- the column of the first such word outside texts and remarks
+unfoldable pub left_out_word : List Placed → Option ℕ
+left_out_word [] = None
+left_out_word (p ∷ placed) = if p.in_code && is_left_out (p ∷ placed) then Some p.column else left_out_word placed
+
+-- the column of the byte from which on so many bytes are left
+abbrev pub column_left : ℕ → List Placed → ℕ
+column_left left placed = slice_index (map (λ p. p.column) placed) (length placed - left)

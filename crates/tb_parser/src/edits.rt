@@ -1,0 +1,32 @@
+//! What a line of a file does to the program.
+ghost use Rattle.std.specs.Prelude.{◌≡◌, IfErr, OnOk};
+ghost use Rattle.tb_syntax.specs.Shown.{lines_of};
+ghost use Rattle.tb_parser.specs.Answers.{edit_of};
+ghost use Rattle.tb_parser.specs.Files.{edited};
+ghost use Rattle.tb_parser.specs.Refusals.{out_of_memory};
+
+use crate::errors::SourceError;
+use tb_syntax::{Program, Statement};
+
+/// What a line does to the program.
+#[derive(Drop)]
+pub(crate) enum LineEdit {
+    /// A blank line.
+    Nothing,
+    Set(u16, Statement),
+    Delete(u16),
+}
+
+/// Does it.
+#[tactic(auto, using(crate::proofs::Maps::lines_of_insert, crate::proofs::Maps::lines_of_remove))]
+pub(crate) fn apply(program: &mut Program, edit: LineEdit) -> Result<(), SourceError>
+    ensures ok { OnOk result (lines_of program.new ≡ edited (edit_of edit) (lines_of program.old)) }
+    ensures err { IfErr result (λ e. e ≡ out_of_memory) }
+{
+    match edit {
+        LineEdit::Nothing => {}
+        LineEdit::Set(number, statement) => program.set(number, statement)?,
+        LineEdit::Delete(number) => program.delete(number),
+    }
+    Ok(())
+}

@@ -1,0 +1,327 @@
+//! Tokens: a line taken apart from left to right.
+ghost use Rattle.std.specs.Prelude.{◌≡◌, ◌+◌, ◌<◌, ◌≤◌, ◌^◌, length, IfOk, IfSome, MatchOption};
+ghost use Rattle.tb_parser.specs.Tokens.{AreSpaces, AreTokens, IsNext, end_of};
+
+use std::alloc::{AllocError, Global};
+
+/// A word of the language.
+#[derive(Clone, Copy, Debug, PartialEq, Eq)]
+pub enum Keyword {
+    Let,
+    Print,
+    /// PRINT in short.
+    Pr,
+    Input,
+    If,
+    Then,
+    Goto,
+    Gosub,
+    Return,
+    End,
+    Rem,
+}
+
+// The keywords, each before those that are its beginnings.
+const KEYWORDS: [Keyword; 11] = [
+    Keyword::Let,
+    Keyword::Print,
+    Keyword::Pr,
+    Keyword::Input,
+    Keyword::If,
+    Keyword::Then,
+    Keyword::Goto,
+    Keyword::Gosub,
+    Keyword::Return,
+    Keyword::End,
+    Keyword::Rem,
+];
+
+impl Keyword {
+    // How it is written.
+    fn letters(self) -> &'static [u8]
+        ensures { 0 < length result.now }
+    {
+        match self {
+            Keyword::Let => b"LET",
+            Keyword::Print => b"PRINT",
+            Keyword::Pr => b"PR",
+            Keyword::Input => b"INPUT",
+            Keyword::If => b"IF",
+            Keyword::Then => b"THEN",
+            Keyword::Goto => b"GOTO",
+            Keyword::Gosub => b"GOSUB",
+            Keyword::Return => b"RETURN",
+            Keyword::End => b"END",
+            Keyword::Rem => b"REM",
+        }
+    }
+}
+
+/// What a token is.
+#[derive(Clone, Copy, Debug, PartialEq, Eq)]
+pub enum TokenKind {
+    /// One or more digits.
+    Number,
+    /// A letter that names a variable.
+    Variable,
+    /// RND.
+    Random,
+    Keyword(Keyword),
+    /// `+` or `-`.
+    Sign,
+    /// `*` or `/`.
+    Operator,
+    /// `=`, a relation and the sign of LET.
+    Equals,
+    /// `<`, `>`, `<=`, `>=`, `<>` or `><`.
+    Relation,
+    Open,
+    Close,
+    Comma,
+    Semicolon,
+    /// A text with its two quotes.
+    Text,
+    /// What stands behind REM.
+    Remark,
+    /// A text without its second quote.
+    Unclosed,
+    /// A byte that begins nothing.
+    Stray,
+}
+
+/// A token of a line.
+#[derive(Clone, Copy, Debug, PartialEq, Eq)]
+pub struct Token<'a> {
+    pub kind: TokenKind,
+    /// Its bytes as they stand in the line, with spaces between the letters or digits.
+    pub text: &'a [u8],
+    /// Where it begins in the line, from 1.
+    pub column: usize,
+}
+
+/// What a letter begins, by the token before it.
+#[derive(Clone, Copy, PartialEq, Eq)]
+pub(crate) enum Awaits {
+    /// RND, else a variable.
+    Operand,
+    /// A variable where `=` follows, else the longest keyword.
+    Word,
+    /// What follows REM.
+    Remark,
+}
+
+impl TokenKind {
+    /// What a letter behind this token begins.
+    pub(crate) fn awaits(self) -> Awaits {
+        match self {
+            TokenKind::Sign
+            | TokenKind::Operator
+            | TokenKind::Equals
+            | TokenKind::Relation
+            | TokenKind::Open
+            | TokenKind::Comma
+            | TokenKind::Semicolon => Awaits::Operand,
+            TokenKind::Keyword(keyword) => match keyword {
+                Keyword::Let
+                | Keyword::Print
+                | Keyword::Pr
+                | Keyword::Input
+                | Keyword::If
+                | Keyword::Goto
+                | Keyword::Gosub => Awaits::Operand,
+                Keyword::Rem => Awaits::Remark,
+                Keyword::Then | Keyword::Return | Keyword::End => Awaits::Word,
+            },
+            _ => Awaits::Word,
+        }
+    }
+}
+
+impl Token<'_> {
+    /// The place in the line behind the token, from 0.
+    pub(crate) fn end(&self) -> usize
+        requires { (1 ≤ self.now.column) × (self.now.column + length self.now.text.now < 2 ^ 64) }
+        ensures { result ≡ end_of self.now }
+    {
+        self.column - 1 + self.text.len()
+    }
+}
+
+// The first place from `at` on that holds no space, or the line's end.
+fn skip_spaces(line: &[u8], at: usize) -> usize
+    requires { at ≤ length line.now }
+    ensures within { (at ≤ result) × (result ≤ length line.now) }
+    ensures spaces { AreSpaces line.now at result }
+{
+    let mut place = at;
+    while place < line.len() && line[place] == b' ' {
+        place += 1;
+    }
+    place
+}
+
+// The place behind a word's letters, where they stand from `at` on with at most spaces between.
+fn word_end(line: &[u8], at: usize, word: &[u8]) -> Option<usize>
+    requires { at ≤ length line.now }
+    ensures { IfSome result (λ end. (at ≤ end) × (end ≤ length line.now) × (0 < length word.now → at < end)) }
+{
+    let mut end = at;
+    for letter in word {
+        let place = skip_spaces(line, end);
+        if place == line.len() || line[place].to_ascii_uppercase() != *letter {
+            return None;
+        }
+        end = place + 1;
+    }
+    Some(end)
+}
+
+/// The next token from the place `at` on, where there is one.
+pub(crate) fn next_token(line: &[u8], at: usize, awaits: Awaits) -> Option<Token<'_>>
+    requires { at ≤ length line.now }
+    ensures { MatchOption result (AreSpaces line.now at (length line.now)) (λ t. IsNext line.now at t) }
+{
+    let start = match awaits {
+        Awaits::Remark => at,
+        Awaits::Operand | Awaits::Word => skip_spaces(line, at),
+    };
+    if start == line.len() {
+        return None;
+    }
+    let (kind, end) = match awaits {
+        Awaits::Remark => (TokenKind::Remark, line.len()),
+        Awaits::Operand | Awaits::Word => token_at(line, start, awaits),
+    };
+    Some(Token {
+        kind,
+        text: &line[start..end],
+        column: start + 1,
+    })
+}
+
+// The token that begins here, with the place behind it.
+fn token_at(line: &[u8], start: usize, awaits: Awaits) -> (TokenKind, usize)
+    requires { start < length line.now }
+    ensures { (start < result.1) × (result.1 ≤ length line.now) }
+{
+    match line[start] {
+        b'0'..=b'9' => (TokenKind::Number, digits_end(line, start)),
+        b'A'..=b'Z' | b'a'..=b'z' => letter_token(line, start, awaits),
+        b'"' => text_token(line, start),
+        b'<' | b'>' => (TokenKind::Relation, relation_end(line, start)),
+        byte => (sign_kind(byte), start + 1),
+    }
+}
+
+// What a byte is that is a token alone.
+fn sign_kind(byte: u8) -> TokenKind {
+    match byte {
+        b'+' | b'-' => TokenKind::Sign,
+        b'*' | b'/' => TokenKind::Operator,
+        b'(' => TokenKind::Open,
+        b')' => TokenKind::Close,
+        b',' => TokenKind::Comma,
+        b';' => TokenKind::Semicolon,
+        b'=' => TokenKind::Equals,
+        _ => TokenKind::Stray,
+    }
+}
+
+// The place behind a number that begins here.
+fn digits_end(line: &[u8], start: usize) -> usize
+    requires { start < length line.now }
+    ensures { (start < result) × (result ≤ length line.now) }
+{
+    let mut end = start + 1;
+    let mut place = skip_spaces(line, end);
+    while place < line.len() && line[place].is_ascii_digit() {
+        end = place + 1;
+        place = skip_spaces(line, end);
+    }
+    end
+}
+
+// The place behind a relation that begins here: two bytes where they make one relation, else one.
+fn relation_end(line: &[u8], start: usize) -> usize
+    requires { start < length line.now }
+    ensures { (start < result) × (result ≤ length line.now) }
+{
+    let place = skip_spaces(line, start + 1);
+    if place < line.len()
+        && matches!(
+            (line[start], line[place]),
+            (b'<', b'=' | b'>') | (b'>', b'=' | b'<')
+        )
+    {
+        place + 1
+    } else {
+        start + 1
+    }
+}
+
+// The text whose first quote stands here.
+fn text_token(line: &[u8], start: usize) -> (TokenKind, usize)
+    requires { start < length line.now }
+    ensures { (start < result.1) × (result.1 ≤ length line.now) }
+{
+    for i in start + 1..line.len() {
+        if line[i] == b'"' {
+            return (TokenKind::Text, i + 1);
+        }
+    }
+    (TokenKind::Unclosed, line.len())
+}
+
+// What the letter here begins.
+fn letter_token(line: &[u8], start: usize, awaits: Awaits) -> (TokenKind, usize)
+    requires { start < length line.now }
+    ensures { (start < result.1) × (result.1 ≤ length line.now) }
+{
+    let one = start + 1;
+    if awaits == Awaits::Operand {
+        return match word_end(line, start, b"RND") {
+            Some(end) => (TokenKind::Random, end),
+            None => (TokenKind::Variable, one),
+        };
+    }
+    let place = skip_spaces(line, one);
+    if place < line.len() && line[place] == b'=' {
+        return (TokenKind::Variable, one);
+    }
+    match keyword_at(line, start) {
+        Some((keyword, end)) => (TokenKind::Keyword(keyword), end),
+        None => (TokenKind::Stray, one),
+    }
+}
+
+// The longest keyword that stands here, with the place behind it.
+fn keyword_at(line: &[u8], start: usize) -> Option<(Keyword, usize)>
+    requires { start < length line.now }
+    ensures { IfSome result (λ p. (start < p.1) × (p.1 ≤ length line.now)) }
+{
+    for keyword in KEYWORDS {
+        if let Some(end) = word_end(line, start, keyword.letters()) {
+            return Some((keyword, end));
+        }
+    }
+    None
+}
+
+/// The tokens of a line, in order: slices of it, with only spaces between and round them.
+///
+/// What a letter begins depends on the token before it. After an operator, a relation, `(`, `,`, `;`, LET, PRINT, PR,
+/// INPUT, IF, GOTO or GOSUB it is RND where those letters stand there, else a variable. Everywhere else it is a
+/// variable where `=` follows, else the longest keyword that stands there, else a stray byte.
+pub fn tokens(alloc: Global, line: &[u8]) -> Result<Vec<Token<'_>>, AllocError>
+    ensures { IfOk result (λ v. AreTokens line.now 0 v.items) }
+{
+    let mut found = Vec::new(alloc);
+    let mut at = 0;
+    let mut awaits = Awaits::Word;
+    while let Some(token) = next_token(line, at, awaits) {
+        at = token.end();
+        awaits = token.kind.awaits();
+        found.push(token)?;
+    }
+    Ok(found)
+}

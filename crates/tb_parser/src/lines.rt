@@ -1,0 +1,32 @@
+//! The lines of a file.
+ghost use Rattle.std.specs.Prelude.{◌≡◌, ◌∷◌, [], ◌<◌, false, length, IsTrue, MatchOption};
+ghost use Rattle.tb_parser.specs.Lines.{lines_from, starts_with_end};
+
+/// The first line without its end, and what is left behind that end: a byte 10, a byte 13, or both, 13 first.
+pub(crate) fn next_line(text: &[u8]) -> Option<(&[u8], &[u8])>
+    ensures { MatchOption result (text.now ≡ []) (λ p. (lines_from false text.now ≡ p.0.now ∷ lines_from false p.1.now) × (length p.1.now < length text.now)) }
+{
+    if text.is_empty() {
+        return None;
+    }
+    for (i, byte) in text.iter().enumerate() {
+        if matches!(*byte, b'\n' | b'\r') {
+            return Some((&text[..i], behind_end(&text[i..])));
+        }
+    }
+    Some((text, &[]))
+}
+
+// What stands behind the line's end with which a text begins.
+#[tactic(auto, unfolding(crate::specs::Lines::lines_from))]
+fn behind_end(text: &[u8]) -> &[u8]
+    requires { IsTrue (starts_with_end text.now) }
+    ensures lines { lines_from false text.now ≡ [] ∷ lines_from false result.now }
+    ensures shorter { length result.now < length text.now }
+{
+    match text {
+        [b'\r', b'\n', rest @ ..] => rest,
+        [_, rest @ ..] => rest,
+        [] => text,
+    }
+}

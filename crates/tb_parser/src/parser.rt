@@ -1,0 +1,191 @@
+//! Source texts read: a file, a line of it, one expression.
+ghost use Rattle.std.specs.Prelude.{◌≡◌, ◌≢◌, ℕ, [], None, Some, Result, Ok, Err, IfErr, IfOk, IfSome, MatchOption, MatchResult, length};
+ghost use Rattle.tb_syntax.specs.Source.{Command, Expression, numbers};
+ghost use Rattle.tb_syntax.specs.Shown.{command_of, expression_of, lines_of};
+ghost use Rattle.tb_grammar.specs.Statements.{States};
+ghost use Rattle.tb_parser.specs.declared.errors.SourceErrorKind.TheVariants.{NoMemory, NotCompiled, NumberTooLarge, Syntax};
+ghost use Rattle.tb_parser.specs.Answers.{edit_of, refusal_of, Answers, InLineOne, Says};
+ghost use Rattle.tb_parser.specs.Files.{FileRefusal, LinesAre, Outcome, RisesFrom};
+ghost use Rattle.tb_parser.specs.Lines.{lines_of_file};
+ghost use Rattle.tb_parser.specs.Readings.{Expresses, ExpressionIs, IsFit, IsUnfit, LineIs, TextIs};
+ghost use Rattle.tb_parser.specs.Refusals.{fault_of_memory, out_of_memory};
+ghost use Rattle.tb_parser.specs.Scans.{column_left, left_out_word};
+
+use crate::edits::{LineEdit, apply};
+use crate::errors::{Fault, SourceError, SourceErrorKind};
+use crate::lines::next_line;
+use crate::recognizer::{Start, syntax_column};
+use crate::scans::{bad_byte, column_of_left, is_numbered, left_out, line_number, written};
+use crate::squeeze::{Placed, bytes_of, squeeze};
+use std::alloc::Global;
+use tb_grammar::{Stop, read_expression, read_statement};
+use tb_syntax::{Expr, Program, Statement};
+
+/// The most bytes that a line has.
+pub(crate) const LONGEST_LINE: usize = 255;
+
+/// The program that a file's lines make, or the first bad line.
+///
+/// A line ends at a byte 10, at a byte 13, at both, 13 first, or at the end of the file. A line of spaces alone is
+/// counted and otherwise nothing, at any length. In their order, a line with a statement sets its number's entry in
+/// place of the one before, and a bare number deletes the entry, if there is one. A line that is replaced later is
+/// looked at too.
+pub fn parse(alloc: Global, source: &[u8]) -> Result<Program, SourceError>
+    // What is answered is what the file's lines make, from line 1 on.
+    ensures found { Answers lines_of result (LinesAre 1 [] (lines_of_file source.now)) }
+    // The numbers rise, from 1 to 32,767 at most.
+    ensures rising { IfOk result (λ p. RisesFrom 0 (numbers (lines_of p))) }
+    // And what they make is answered.
+    ensures only { (outcome : Outcome) → LinesAre 1 [] (lines_of_file source.now) outcome → Answers lines_of result (λ said. said ≡ outcome) }
+    ensures memory { IfErr result (λ e. e.kind ≡ NoMemory → e ≡ out_of_memory) }
+{
+    let mut program = Program::new(alloc);
+    let mut rest = source;
+    let mut number = 1;
+    while let Some((line, behind)) = next_line(rest) {
+        match read_line(alloc, line) {
+            Ok(edit) => apply(&mut program, edit)?,
+            Err(fault) => return Err(fault.at_line(number)),
+        }
+        rest = behind;
+        number += 1;
+    }
+    if program.is_empty() {
+        return Err(SourceError {
+            kind: SourceErrorKind::Empty,
+            line: 0,
+            column: 0,
+        });
+    }
+    Ok(program)
+}
+
+/// The expression that a text is, or what is wrong with it as line 1. It needs no line number.
+pub fn parse_expr(alloc: Global, text: &[u8]) -> Result<Expr, SourceError>
+    ensures found { Answers expression_of result (InLineOne (ExpressionIs text.now)) }
+    ensures only { (outcome : Result Expression FileRefusal) → InLineOne (ExpressionIs text.now) outcome → Answers expression_of result (λ said. said ≡ outcome) }
+    ensures memory { IfErr result (λ e. e.kind ≡ NoMemory → e ≡ out_of_memory) }
+{
+    match read_expression_line(alloc, text) {
+        Ok(expr) => Ok(expr),
+        Err(fault) => Err(fault.at_line(1)),
+    }
+}
+
+// What a line of a file does.
+fn read_line(alloc: Global, line: &[u8]) -> Result<LineEdit, Fault>
+    ensures { Says edit_of result (LineIs line.now) }
+{
+    let Some(first) = written(line) else {
+        return Ok(LineEdit::Nothing);
+    };
+    check_bytes(line)?;
+    let placed = squeeze(alloc, line)?;
+    if !is_numbered(&placed) {
+        return Err(Fault {
+            kind: SourceErrorKind::Unnumbered,
+            column: first,
+        });
+    }
+    let Some((number, text)) = line_number(&placed) else {
+        return Err(Fault {
+            kind: SourceErrorKind::BadLineNumber,
+            column: first,
+        });
+    };
+    if text.is_empty() {
+        return Ok(LineEdit::Delete(number));
+    }
+    Ok(LineEdit::Set(number, read_command(alloc, line, text)?))
+}
+
+// A line that is neither too long nor has a bad byte.
+#[tactic(auto, using(crate::specs::Readings::line_too_long, crate::specs::Readings::bad_byte))]
+fn check_bytes(line: &[u8]) -> Result<(), Fault>
+    ensures { MatchResult result (λ _. IsFit line.now) (λ fault. IfSome (refusal_of fault.kind fault.column) (IsUnfit line.now)) }
+{
+    if line.len() > LONGEST_LINE {
+        return Err(Fault {
+            kind: SourceErrorKind::LineTooLong,
+            column: LONGEST_LINE + 1,
+        });
+    }
+    match bad_byte(line) {
+        Some(column) => Err(Fault {
+            kind: SourceErrorKind::BadByte,
+            column,
+        }),
+        None => Ok(()),
+    }
+}
+
+// The statement behind a line's number.
+fn read_command(alloc: Global, line: &[u8], text: &[Placed]) -> Result<Statement, Fault>
+    ensures { Says command_of result (TextIs Command States text.now) }
+{
+    let bytes = bytes_of(alloc, text)?;
+    match read_statement(alloc, &bytes) {
+        Ok(read) => in_range(read.statement, read.large, text),
+        Err(Stop::NoMemory) => Err(no_memory()),
+        Err(Stop::NoReading(_)) => Err(unread(line, text, Start::Line)),
+    }
+}
+
+// A line that is one expression.
+fn read_expression_line(alloc: Global, line: &[u8]) -> Result<Expr, Fault>
+    ensures { Says expression_of result (ExpressionIs line.now) }
+{
+    check_bytes(line)?;
+    let placed = squeeze(alloc, line)?;
+    read_value(alloc, line, &placed)
+}
+
+// The expression that a line's text is.
+fn read_value(alloc: Global, line: &[u8], text: &[Placed]) -> Result<Expr, Fault>
+    ensures { Says expression_of result (TextIs Expression Expresses text.now) }
+{
+    let bytes = bytes_of(alloc, text)?;
+    match read_expression(alloc, &bytes) {
+        Ok(read) => in_range(read.expr, read.large, text),
+        Err(Stop::NoMemory) => Err(no_memory()),
+        Err(Stop::NoReading(_)) => Err(unread(line, text, Start::Expression)),
+    }
+}
+
+// What was read, unless a literal is too large; `large` is how many bytes are left from the first such literal on.
+fn in_range<T: Drop>(tree: T, large: Option<usize>, text: &[Placed]) -> Result<T, Fault>
+    ensures { MatchOption large (result ≡ Ok tree) (λ left. result ≡ Err (record { kind = NumberTooLarge; column = column_left left text.now })) }
+{
+    match large {
+        None => Ok(tree),
+        Some(left) => Err(Fault {
+            kind: SourceErrorKind::NumberTooLarge,
+            column: column_of_left(text, left),
+        }),
+    }
+}
+
+fn no_memory() -> Fault
+    ensures { result ≡ fault_of_memory }
+{
+    Fault {
+        kind: SourceErrorKind::NoMemory,
+        column: 0,
+    }
+}
+
+// Why a text has no reading.
+fn unread(line: &[u8], text: &[Placed], start: Start) -> Fault
+    ensures { MatchOption (left_out_word text.now) (result.kind ≡ Syntax) (λ column. result ≡ record { kind = NotCompiled; column = column }) }
+{
+    match left_out(text) {
+        Some(column) => Fault {
+            kind: SourceErrorKind::NotCompiled,
+            column,
+        },
+        None => Fault {
+            kind: SourceErrorKind::Syntax,
+            column: syntax_column(line, start),
+        },
+    }
+}

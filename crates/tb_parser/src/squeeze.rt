@@ -1,0 +1,96 @@
+//! A line without its spaces and in upper case.
+ghost use Rattle.std.specs.Prelude.{◌≡◌, ℕ, IfOk, map};
+ghost use Rattle.tb_parser.specs.Squeezed.{after, is_dropped, is_in_code, shown, squeezed_from};
+ghost use Rattle.tb_parser.specs.declared.squeeze.Mode.TheVariants.{Code};
+
+use std::alloc::{AllocError, Global};
+
+/// Where in a line the next byte stands, by the bytes before it.
+#[derive(Clone, Copy)]
+pub(crate) enum Mode {
+    Code,
+    /// In code behind an R, with at most spaces between.
+    CodeR,
+    /// In code behind an R and an E, with at most spaces between.
+    CodeRe,
+    /// In a text: behind its first quote.
+    Text,
+    Remark,
+}
+
+impl Mode {
+    /// The mode behind a byte.
+    pub fn after(self, byte: u8) -> Mode
+        ensures { result ≡ after self byte }
+    {
+        match (self, byte) {
+            (Mode::Remark, _) => Mode::Remark,
+            (Mode::Text, b'"') => Mode::Code,
+            (Mode::Text, _) => Mode::Text,
+            (_, b' ') => self,
+            (_, b'"') => Mode::Text,
+            (Mode::CodeRe, b'M' | b'm') => Mode::Remark,
+            (Mode::CodeR, b'E' | b'e') => Mode::CodeRe,
+            (_, b'R' | b'r') => Mode::CodeR,
+            _ => Mode::Code,
+        }
+    }
+
+    // Whether a byte here stands outside texts and remarks.
+    fn is_in_code(self) -> bool
+        ensures { result ≡ is_in_code self }
+    {
+        matches!(self, Mode::Code | Mode::CodeR | Mode::CodeRe)
+    }
+}
+
+/// A byte of a squeezed line.
+#[derive(Clone, Copy)]
+pub(crate) struct Placed {
+    pub byte: u8,
+    /// Where it stands in the line, from 1.
+    pub column: usize,
+    /// Whether it stands outside texts and remarks. The quote that opens a text does.
+    pub in_code: bool,
+}
+
+fn drops(mode: Mode, byte: u8) -> bool
+    ensures { result ≡ is_dropped mode byte }
+{
+    byte == b' ' && mode.is_in_code()
+}
+
+fn show(mode: Mode, byte: u8) -> u8
+    ensures { result ≡ shown mode byte }
+{
+    match mode {
+        Mode::Remark => byte,
+        _ => byte.to_ascii_uppercase(),
+    }
+}
+
+/// The line without spaces and in upper case, outside texts and remarks; a text keeps its spaces, a remark all.
+pub(crate) fn squeeze(alloc: Global, line: &[u8]) -> Result<Vec<Placed>, AllocError>
+    ensures { IfOk result (λ s. s.items ≡ squeezed_from Code 1 line.now) }
+{
+    let mut placed = Vec::new(alloc);
+    let mut mode = Mode::Code;
+    for (i, byte) in line.iter().enumerate() {
+        if !drops(mode, *byte) {
+            placed.push(Placed {
+                byte: show(mode, *byte),
+                column: i + 1,
+                in_code: mode.is_in_code(),
+            })?;
+        }
+        mode = mode.after(*byte);
+    }
+    Ok(placed)
+}
+
+/// The bytes alone.
+pub(crate) fn bytes_of(alloc: Global, placed: &[Placed]) -> Result<Vec<u8>, AllocError>
+    ensures { IfOk result (λ v. v.items ≡ map (λ p. p.byte) placed.now) }
+{
+    placed.iter().map(|p| p.byte).collect(alloc)
+}
