@@ -11,3 +11,8 @@ mod parser;
 mod prg;
 mod reaching;
 mod words;
+//! Worked rows: tests of what the contracts say, with values from the manuals' side.
+#[cfg(test)]
+mod asm;
+#[cfg(test)]
+mod disasm;
