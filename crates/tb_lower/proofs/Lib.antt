@@ -7,4 +7,9 @@ pub mod Weighed
 pub mod Ranged
 pub mod Lettered
 pub mod Evaluated
+pub mod Interpreting
+pub mod Turning
+pub mod Keeps
+pub mod Visits
+pub mod Starts
 pub mod Rows

@@ -13,3 +13,7 @@ pub mod Ranges
 pub mod Follows
 pub mod Refusals
 pub mod Evaluation
+pub mod Missing
+pub mod Parts
+pub mod Interpreted
+pub mod Turns

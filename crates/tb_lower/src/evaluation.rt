@@ -1,6 +1,6 @@
 //! The values of expressions.
 ghost use Rattle.std.specs.Prelude.{◌≡◌, List, ℤ, map, option_map};
-ghost use Rattle.tb_words.specs.Words.{word_of};
+ghost use Rattle.tb_words.specs.Words.{word_of, negated};
 ghost use Rattle.tb_syntax.specs.Shown.{expression_of};
 ghost use Rattle.tb_lower.specs.Evaluation.{IsEvaluation};
 ghost use Rattle.tb_lower.specs.Lowered.{known_value, constant};
@@ -53,8 +53,8 @@ fn known_value(e: &Expr, variables: &[i16]) -> Option<i16>
     }
 }
 
-/// An operator on two values; none for a division by zero.
-pub fn apply(op: Operator, a: i16, b: i16) -> Option<i16>
+// An operator on two values; none for a division by zero.
+fn apply(op: Operator, a: i16, b: i16) -> Option<i16>
     ensures { option_map word_of result ≡ apply op (word_of a) (word_of b) }
 {
     match op {
@@ -66,6 +66,21 @@ pub fn apply(op: Operator, a: i16, b: i16) -> Option<i16>
             Some(quotient)
         }
     }
+}
+
+/// An operator on two words; none for a division by zero.
+pub fn apply_words(op: Operator, a: u16, b: u16) -> Option<u16>
+    ensures { result ≡ apply op a b }
+{
+    let value = apply(op, a.cast_signed(), b.cast_signed())?;
+    Some(value.cast_unsigned())
+}
+
+/// A word with its sign turned.
+pub fn negated(word: u16) -> u16
+    ensures { result ≡ negated word }
+{
+    neg(word.cast_signed()).cast_unsigned()
 }
 
 fn has_random(e: &Expr) -> bool

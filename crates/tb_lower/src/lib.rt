@@ -5,10 +5,18 @@
 #![tactic(auto)]
 
 mod evaluation;
+mod faults;
+mod interpreter;
 mod lowering;
+mod missing;
 mod needs;
+mod output;
+mod places;
 mod slot_code;
+mod turns;
 
 pub use evaluation::{EvalError, eval};
+pub use interpreter::{RunEnd, SourceRun, run_source};
 pub use lowering::{LowerError, lower};
+pub use missing::{Warning, warnings};
 pub use slot_code::{SlotCode, SlotInstr, SlotLine};

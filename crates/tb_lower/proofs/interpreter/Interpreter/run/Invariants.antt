@@ -1,0 +1,12 @@
+use Rattle.std.proofs.Common.{◌≡◌, ◌-◌}
+use Rattle.tb_syntax.specs.Shown.{lines_of}
+use Rattle.tb_lower.specs.Steps.{GoesOn, advance_by}
+use Rattle.tb_lower.specs.Meaning.{line}
+use Rattle.tb_lower.specs.Interpreted.{state_of}
+use Rattle.tb_lower.proofs.interpreter.Interpreter.run.Given as goal
+
+-- what is left to do leads to the whole run
+abbrev pub invariant-loop : goal.invariant-loop
+invariant-loop l =
+    advance_by (line (lines_of l.program)) (l.limit - l.counter) (GoesOn (state_of l.self) l.self.output.sent.items)
+    ≡ advance_by (line (lines_of l.program)) l.limit (GoesOn (state_of l.initial.self) l.initial.self.output.sent.items)
