@@ -6,7 +6,7 @@ use Rattle.tb_opcodes.specs.declared.Mode.{Mode}
 use Rattle.tb_opcodes.specs.Opcodes.{decoded}
 use Rattle.tb_asm.specs.declared.names.Name.{Name}
 use Rattle.tb_asm.specs.declared.items.Operand.{Operand}
-use Rattle.tb_asm.specs.Layout.{Entry, instr, label, bytes, word, size_of, size, has_mode, same_name, address_in, labels_from, bytes_of, code_fault}
+use Rattle.tb_asm.specs.Layout.{Entry, instr, label, size_of, size, has_mode, same_name, address_in, labels_from, bytes_of, code_fault}
 
 -- the bytes of each item stand at its place
 abbrev pub BytesStand : ℕ → List Entry → List ℕ → List (Name × ℕ) → Type 0
@@ -25,10 +25,8 @@ LabelsStand at es labels =
 
 -- the names of the labels, in the order of their items
 abbrev pub name_at : Entry → List Name
-name_at (instr n m o) = []
 name_at (label n) = n ∷ []
-name_at (bytes bs) = []
-name_at (word o) = []
+name_at e = []
 
 abbrev pub names_of : List Entry → List Name
 names_of [] = []

@@ -41,9 +41,7 @@ fn without_matches(alloc: Global, error: &clap::Error) -> Result<Job, JobError>
 
 fn command<'a>(alloc: Global) -> Result<Command<'a>, AllocError> {
     Command::new(alloc, "tbc")
-        .about(
-            "Tiny BASIC cross compiler for the Commodore 64, with assembler, disassembler, test machine and stepper",
-        )
+        .about("Compiles Tiny BASIC for the Commodore 64, assembles, lists, runs and steps")
         .version("1.0.0")
         .no_binary_name(true)
         .bin_name("tbc")?

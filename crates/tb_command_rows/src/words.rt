@@ -126,8 +126,8 @@ fn words_that_are_refused(rt: HostRuntime) -> Result<(), Fail> {
 #[test]
 fn help_is_shown(rt: HostRuntime) -> Result<(), Fail> {
     let rows: [(&[&str], &[u8]); 4] = [
-        (&["--help"], b"show Tiny BASIC cross compiler"),
-        (&["-h"], b"show Tiny BASIC cross compiler"),
+        (&["--help"], b"show Compiles Tiny BASIC"),
+        (&["-h"], b"show Compiles Tiny BASIC"),
         (&["run", "--help"], b"show Run a source or a PRG file"),
         (&["--version"], b"show tbc "),
     ];

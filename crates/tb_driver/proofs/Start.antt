@@ -12,13 +12,15 @@ use Rattle.tb_driver.specs.declared.outcome.End.{End}
 use Rattle.tb_driver.specs.HostForm.{host_form_of}
 use Rattle.tb_driver.specs.Programs.{start_regs, start_memory, start, end_of, RunsAt}
 
+-- a load changes no length
 pub length-loaded : (m bytes : List ℕ) (a : ℕ) → a + length bytes ≤ length m → length (loaded m a bytes) ≡ length m
 length-loaded m bytes a h =
     let within : a ≤ length m = omega arith in
     rw (length-append, length-append, length-take-le, length-drop) (omega arith)
 
 -- what lies at the first two places of a load of two bytes
-loaded_two : (m : List ℕ) (a x y k : ℕ) → a + 2 ≤ length m → k < 2 → at (loaded m a (x ∷ y ∷ [])) (a + k) ≡ get_or (x ∷ y ∷ []) k 0
+loaded_two : (m : List ℕ) (a x y k : ℕ) → a + 2 ≤ length m → k < 2
+    → at (loaded m a (x ∷ y ∷ [])) (a + k) ≡ get_or (x ∷ y ∷ []) k 0
 unfolding at
 loaded_two m a x y k h below =
     let within : a ≤ length m = omega arith in
@@ -29,7 +31,8 @@ loaded_two m a x y k h below =
     ∙ get_or-append_right (take a m) (x ∷ y ∷ []) a (a + k) 0 front (omega arith)
     ∙ rw behind refl
 
-home_of-start : (a : ℕ) (bytes : List ℕ) → a + length bytes ≤ 65536 → home_of (at (start_memory a bytes)) (start_regs a) ≡ 0xa100
+home_of-start : (a : ℕ) (bytes : List ℕ) → a + length bytes ≤ 65536
+    → home_of (at (start_memory a bytes)) (start_regs a) ≡ 0xa100
 home_of-start a bytes h =
     let empty : List ℕ = replicate 65536 0 in
     let zeros : length empty ≡ 65536 = length-replicate {A = ℕ} 65536 0 in
@@ -38,20 +41,23 @@ home_of-start a bytes h =
     let high = loaded_two (loaded empty a bytes) 0x01f1 0xff 0xa0 1 (omega arith) (omega arith) in
     rw (low, high) refl
 
-returns_home : (a : ℕ) (bytes m : List ℕ) (r : Regs) → a + length bytes ≤ 65536 → m ≡ start_memory a bytes → r ≡ start_regs a
-    → home_of (at m) r ≡ 0xa100
+-- the word above S, plus one, is $A100, also where memory and registers are known only to be the start's
+returns_home : (a : ℕ) (bytes m : List ℕ) (r : Regs) → a + length bytes ≤ 65536
+    → m ≡ start_memory a bytes → r ≡ start_regs a → home_of (at m) r ≡ 0xa100
 returns_home a bytes m r h same_memory same_regs = rw (same_memory, same_regs) (home_of-start a bytes h)
 
 -- the start machine is entered
-pub never_refused : (a : ℕ) (bytes m : List ℕ) (r : Regs) → a + length bytes ≤ 65536 → m ≡ start_memory a bytes → r ≡ start_regs a
-    → entry_refusal (at m) r ≡ None
+pub never_refused : (a : ℕ) (bytes m : List ℕ) (r : Regs) → a + length bytes ≤ 65536
+    → m ≡ start_memory a bytes → r ≡ start_regs a → entry_refusal (at m) r ≡ None
 never_refused a bytes m r h same_memory same_regs =
     let home = returns_home a bytes m r h same_memory same_regs in
     let low : r.s ≡ 0xf0 = ap (λ x. x.s) same_regs in
     rw (home, low) refl
 
-pub entered_is_start : (a : ℕ) (bytes m : List ℕ) (r : Regs) (text answers : List ℕ) → a + length bytes ≤ 65536 → m ≡ start_memory a bytes
-    → r ≡ start_regs a → entered m r text answers ≡ start a bytes text answers
+-- what is entered with the start's memory and registers is the start machine
+pub entered_is_start : (a : ℕ) (bytes m : List ℕ) (r : Regs) (text answers : List ℕ)
+    → a + length bytes ≤ 65536 → m ≡ start_memory a bytes → r ≡ start_regs a
+    → entered m r text answers ≡ start a bytes text answers
 entered_is_start a bytes m r text answers h same_memory same_regs =
     let home = home_of-start a bytes h in
     rw (same_memory, same_regs, home) refl

@@ -30,15 +30,16 @@ abbrev pub Answers : (Product → Type 0) → Outcome → Option (List ℕ) → 
 Answers makes (Ended end) old new = (text : List ℕ) × makes (Ok (text, end)) × Appends old new text
 Answers makes (Refused e) old new = makes (Err e) × Keeps old new
 Answers makes ReadFault old new = Keeps old new
-Answers makes WriteFault old new = (text : List ℕ) × (end : End) × makes (Ok (text, end)) × AppendsPrefix old new text
+Answers makes WriteFault old new =
+    (text : List ℕ) × (end : End) × makes (Ok (text, end)) × AppendsPrefix old new text
 Answers makes NoMemory old new = Keeps old new
 
 -- made from all that a reader had: from these bytes, where it tells them
 abbrev pub MadeFrom : Option (List ℕ) → (List ℕ → Product → Type 0) → Product → Type 0
 MadeFrom had makes product = (input : List ℕ) × Reads had input × makes input product
 
--- a fault comes only where a stream failed in this call, by its count of failures, or the reader gave too many bytes;
--- at every other outcome no stream failed
+-- a fault comes only where a stream failed in this call, by its count of failures, or the reader gave
+-- too many bytes; at every other outcome no stream failed
 abbrev pub Faults : Outcome → Option (List ℕ) → ℕ → ℕ → ℕ → ℕ → Type 0
 Faults ReadFault had read read' wrote wrote' = ((read' ≢ read) ⊎ MayPassMost had) × (wrote' ≡ wrote)
 Faults WriteFault had read read' wrote wrote' = (read' ≡ read) × (wrote' ≢ wrote)

@@ -60,25 +60,31 @@ end_of Running pc = StepLimit
 end_of (Wrong w) pc = WentWrong w pc
 
 -- the host form of what the machine sent on a run of at most `limit` events that an outside gave it
-abbrev pub Runs : {O : Type 0} → (O → Content → Event → O → Type 0) → O → Content → ℕ → List ℕ × End → Type 0
+abbrev pub Runs : {O : Type 0} → (O → Content → Event → O → Type 0) → O → Content → ℕ
+    → List ℕ × End → Type 0
 Runs gives o m limit shown =
     (t : Status) × (p : _) × (n : Content)
     × RanOver gives o m limit (Ok t) p n
     × (shown ≡ (host_form_of n.sent, end_of t n.regs.pc))
 
 -- what comes of a program at an address: a run, where all of it lies in RAM
-abbrev pub RunsAt : {O : Type 0} → (O → Content → Event → O → Type 0) → O → ℕ → List ℕ → List ℕ → List ℕ → ℕ → Product → Type 0
+abbrev pub RunsAt : {O : Type 0} → (O → Content → Event → O → Type 0) → O → ℕ → List ℕ
+    → List ℕ → List ℕ → ℕ → Product → Type 0
 RunsAt gives o at bytes text answers limit (Ok shown) =
     IsOpenRange at (length bytes) × Runs gives o (start at bytes text answers) limit shown
 RunsAt gives o at bytes text answers limit (Err e) = (e ≡ NotRam) × ¬ (IsOpenRange at (length bytes))
 
-abbrev pub RunsContent : {O : Type 0} → (O → Content → Event → O → Type 0) → O → Result (ℕ × List ℕ) PrgError → List ℕ → List ℕ → ℕ → Product → Type 0
-RunsContent gives o (Ok p) text answers limit product = RunsAt gives o p.0 p.1 text answers limit product
+abbrev pub RunsContent : {O : Type 0} → (O → Content → Event → O → Type 0) → O
+    → Result (ℕ × List ℕ) PrgError → List ℕ → List ℕ → ℕ → Product → Type 0
+RunsContent gives o (Ok p) text answers limit product =
+    RunsAt gives o p.0 p.1 text answers limit product
 RunsContent gives o (Err e) text answers limit product = product ≡ Err (Prg e)
 
 -- what comes of a PRG file: its run from the start machine, or why there is none
-abbrev pub RunsPrg : {O : Type 0} → (O → Content → Event → O → Type 0) → O → List ℕ → List ℕ → ℕ → List ℕ → Product → Type 0
-RunsPrg gives o text answers limit file product = RunsContent gives o (content_of file) text answers limit product
+abbrev pub RunsPrg : {O : Type 0} → (O → Content → Event → O → Type 0) → O → List ℕ → List ℕ
+    → ℕ → List ℕ → Product → Type 0
+RunsPrg gives o text answers limit file product =
+    RunsContent gives o (content_of file) text answers limit product
 
 -- why a program is not loaded: it does not lie in RAM, or memory is wanting
 abbrev pub IsUnloadable : ℕ → List ℕ → Stop → Type 0

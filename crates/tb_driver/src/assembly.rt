@@ -71,9 +71,12 @@ pub fn asm_text<R: Read, W: Write>(
     writer: &mut Tracked<W>,
     at: u16,
 ) -> Outcome
-    ensures answers { Answers (MadeFrom (R.remaining reader.old.stream) (Assembles at)) result (W.contents writer.old.stream) (W.contents writer.new.stream) }
-    ensures faults { Faults result (R.remaining reader.old.stream) reader.old.failures reader.new.failures writer.old.failures writer.new.failures }
-    ensures taken { ConsumesAtMost (R.remaining reader.old.stream) (R.remaining reader.new.stream) (most_input + 1) }
+    ensures answers { Answers (MadeFrom (R.remaining reader.old.stream) (Assembles at)) result
+        (W.contents writer.old.stream) (W.contents writer.new.stream) }
+    ensures faults { Faults result (R.remaining reader.old.stream)
+        reader.old.failures reader.new.failures writer.old.failures writer.new.failures }
+    ensures taken { ConsumesAtMost (R.remaining reader.old.stream) (R.remaining reader.new.stream)
+        (most_input + 1) }
 {
     match read_input(alloc, reader) {
         Ok(text) => deliver(writer, assemble_prg(alloc, at, text.as_slice())),
@@ -87,9 +90,12 @@ pub fn dis_text<R: Read, W: Write>(
     reader: &mut Tracked<R>,
     writer: &mut Tracked<W>,
 ) -> Outcome
-    ensures answers { Answers (MadeFrom (R.remaining reader.old.stream) ListsPrg) result (W.contents writer.old.stream) (W.contents writer.new.stream) }
-    ensures faults { Faults result (R.remaining reader.old.stream) reader.old.failures reader.new.failures writer.old.failures writer.new.failures }
-    ensures taken { ConsumesAtMost (R.remaining reader.old.stream) (R.remaining reader.new.stream) (most_input + 1) }
+    ensures answers { Answers (MadeFrom (R.remaining reader.old.stream) ListsPrg) result
+        (W.contents writer.old.stream) (W.contents writer.new.stream) }
+    ensures faults { Faults result (R.remaining reader.old.stream)
+        reader.old.failures reader.new.failures writer.old.failures writer.new.failures }
+    ensures taken { ConsumesAtMost (R.remaining reader.old.stream) (R.remaining reader.new.stream)
+        (most_input + 1) }
 {
     match read_input(alloc, reader) {
         Ok(file) => deliver(writer, list_prg(alloc, file.as_slice())),

@@ -49,7 +49,10 @@ fn start_regs(at: u16) -> Regs
 // The memory at the start.
 fn start_memory(alloc: Global, program: Loaded<'_>) -> Result<Memory, Stop>
     requires { program.at + length program.bytes.now ≤ 65536 }
-    ensures { MatchResult result (λ m. IsOpenRange program.entry.at (length program.entry.bytes.now) × (m ≡ start_memory program.entry.at program.entry.bytes.now)) (IsUnloadable program.entry.at program.entry.bytes.now) }
+    ensures { MatchResult result
+        (λ m. IsOpenRange program.entry.at (length program.entry.bytes.now)
+        × (m ≡ start_memory program.entry.at program.entry.bytes.now))
+        (IsUnloadable program.entry.at program.entry.bytes.now) }
 {
     let Ok(mut memory) = Memory::new(alloc) else {
         return Err(Stop::NoMemory);
@@ -72,7 +75,11 @@ pub fn start_machine(
     keyboard: Keyboard,
 ) -> Result<Machine, Stop>
     requires { program.at + length program.bytes.now ≤ 65536 }
-    ensures { MatchResult result (λ m. IsOpenRange program.entry.at (length program.entry.bytes.now) × (m ≡ start program.entry.at program.entry.bytes.now keyboard.text.items keyboard.answers.items)) (IsUnloadable program.entry.at program.entry.bytes.now) }
+    ensures { MatchResult result
+        (λ m. IsOpenRange program.entry.at (length program.entry.bytes.now)
+        × (m ≡ start program.entry.at program.entry.bytes.now
+        keyboard.text.items keyboard.answers.items))
+        (IsUnloadable program.entry.at program.entry.bytes.now) }
 {
     let memory = start_memory(alloc, program)?;
     match Machine::enter(alloc, memory, start_regs(program.at), keyboard) {

@@ -36,7 +36,8 @@ pub fn without_input(error: InputError) -> Outcome
 
 /// Writes a text that was made.
 pub fn deliver<W: Write>(writer: &mut Tracked<W>, made: Result<Text, Stop>) -> Outcome
-    ensures answers { Answers (Shows made) result (W.contents writer.old.stream) (W.contents writer.new.stream) }
+    ensures answers { Answers (Shows made) result
+        (W.contents writer.old.stream) (W.contents writer.new.stream) }
     ensures faults { DeliveryFaults result writer.old.failures writer.new.failures }
 {
     let text = match made {

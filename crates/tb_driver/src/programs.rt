@@ -36,7 +36,8 @@ fn run_program<O: Outside>(
     outside: &mut O,
 ) -> Result<Text, Stop>
     requires { program.at + length program.bytes.now ≤ 65536 }
-    ensures { Makes (RunsAt O.gives outside.old program.entry.at program.entry.bytes.now keyboard.text.items keyboard.answers.items limit) result }
+    ensures { Makes (RunsAt O.gives outside.old program.entry.at program.entry.bytes.now
+        keyboard.text.items keyboard.answers.items limit) result }
 {
     let mut machine = start_machine(alloc, program, keyboard)?;
     let Ok(status) = run(&mut machine, outside, limit) else {
@@ -57,7 +58,8 @@ fn run_file<O: Outside>(
     limit: u64,
     outside: &mut O,
 ) -> Result<Text, Stop>
-    ensures { Makes (RunsPrg O.gives outside.old keyboard.text.items keyboard.answers.items limit file.now) result }
+    ensures { Makes (RunsPrg O.gives outside.old keyboard.text.items keyboard.answers.items limit
+        file.now) result }
 {
     match tb_prg::read(file) {
         Ok(program) => run_program(alloc, program, keyboard, limit, outside),
@@ -76,9 +78,13 @@ pub fn run_prg<R: Read, W: Write, O: Outside>(
     limit: u64,
     outside: &mut O,
 ) -> Outcome
-    ensures answers { Answers (MadeFrom (R.remaining reader.old.stream) (RunsPrg O.gives outside.old keyboard.text.items keyboard.answers.items limit)) result (W.contents writer.old.stream) (W.contents writer.new.stream) }
-    ensures faults { Faults result (R.remaining reader.old.stream) reader.old.failures reader.new.failures writer.old.failures writer.new.failures }
-    ensures taken { ConsumesAtMost (R.remaining reader.old.stream) (R.remaining reader.new.stream) (most_input + 1) }
+    ensures answers { Answers (MadeFrom (R.remaining reader.old.stream)
+        (RunsPrg O.gives outside.old keyboard.text.items keyboard.answers.items limit)) result
+        (W.contents writer.old.stream) (W.contents writer.new.stream) }
+    ensures faults { Faults result (R.remaining reader.old.stream)
+        reader.old.failures reader.new.failures writer.old.failures writer.new.failures }
+    ensures taken { ConsumesAtMost (R.remaining reader.old.stream) (R.remaining reader.new.stream)
+        (most_input + 1) }
 {
     match read_input(alloc, reader) {
         Ok(file) => deliver(

@@ -26,8 +26,10 @@ pub enum InputError {
 pub fn read_input<R: Read>(alloc: Global, reader: &mut Tracked<R>) -> Result<Vec<u8>, InputError>
     ensures whole { IfOk result (λ input. Reads (R.remaining reader.old.stream) input.items) }
     ensures within { IfOk result (λ input. vec_len input ≤ most_input) }
-    ensures fault { InputFaults result (R.remaining reader.old.stream) reader.old.failures reader.new.failures }
-    ensures taken { ConsumesAtMost (R.remaining reader.old.stream) (R.remaining reader.new.stream) (most_input + 1) }
+    ensures fault { InputFaults result (R.remaining reader.old.stream)
+        reader.old.failures reader.new.failures }
+    ensures taken { ConsumesAtMost (R.remaining reader.old.stream) (R.remaining reader.new.stream)
+        (most_input + 1) }
 {
     let mut input = Vec::new(alloc);
     let mut chunk = [0u8; CHUNK];
@@ -49,8 +51,10 @@ pub fn read_input<R: Read>(alloc: Global, reader: &mut Tracked<R>) -> Result<Vec
 
 /// Writes a text, all of it or up to where the writer failed.
 pub fn write_output<W: Write>(writer: &mut Tracked<W>, text: &[u8]) -> Result<(), Fault>
-    ensures whole { OnOk result (Appends (W.contents writer.old.stream) (W.contents writer.new.stream) text.now) }
-    ensures prefix { OnErr result (AppendsPrefix (W.contents writer.old.stream) (W.contents writer.new.stream) text.now) }
+    ensures whole { OnOk result (Appends (W.contents writer.old.stream) (W.contents writer.new.stream)
+        text.now) }
+    ensures prefix { OnErr result (AppendsPrefix (W.contents writer.old.stream)
+        (W.contents writer.new.stream) text.now) }
     ensures noted { writer.new.failures ≡ counted writer.old.failures (is_err result) }
 {
     let mut rest = text;

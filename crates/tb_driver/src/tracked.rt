@@ -35,7 +35,8 @@ impl<R: Read> Tracked<R> {
     /// One read. Every error of the reader counts, `Interrupted` too.
     pub fn pull(&mut self, buf: &mut [u8]) -> Result<usize, Fault>
         ensures bound { ReadsAtMost result buf.new }
-        ensures bytes { ReadConsumes (R.remaining self.old.stream) (R.remaining self.new.stream) result buf.new }
+        ensures bytes { ReadConsumes (R.remaining self.old.stream) (R.remaining self.new.stream) result
+            buf.new }
         ensures noted { self.new.failures ≡ counted self.old.failures (is_err result) }
     {
         match self.stream.read(buf) {
@@ -49,11 +50,13 @@ impl<R: Read> Tracked<R> {
 }
 
 impl<W: Write> Tracked<W> {
-    /// One write of a text that isn't empty. Every error of the writer counts, and so does a write that takes nothing.
+    /// One write of a text that isn't empty. Every error of the writer counts, and so does a write that
+    /// takes nothing.
     pub fn push(&mut self, text: &[u8]) -> Result<usize, Fault>
         requires { 0 < length text.now }
         ensures bound { IfOk result (λ n. (0 < n) × (n ≤ length text.now)) }
-        ensures bytes { WriteAppends (W.contents self.old.stream) (W.contents self.new.stream) result text.now }
+        ensures bytes { WriteAppends (W.contents self.old.stream) (W.contents self.new.stream) result
+            text.now }
         ensures noted { self.new.failures ≡ counted self.old.failures (is_err result) }
     {
         match self.stream.write(text) {

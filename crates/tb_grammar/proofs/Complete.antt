@@ -3,10 +3,11 @@ use Rattle.std.proofs.Common.{◌≡◌, ◌≢◌, ℕ, zero, suc, ◌+◌, ◌
 use Rattle.std.specs.Option.{option_or}
 use Rattle.std.proofs.lemmas.Bool.{eqb-true}
 use Rattle.std.proofs.lemmas.Bool.Decides.{nat_tests}
-use Rattle.std.specs.Prelude.{codes}
+use Rattle.std.specs.Prelude.{All, codes}
+use Rattle.std.proofs.lemmas.List.Elements.{All-head, All-tail}
 use Rattle.tb_syntax.specs.declared.expressions.Operator.{Operator}
 use Rattle.tb_syntax.specs.Source.{Expression, Number, Variable, Binary, Random}
-use Rattle.tb_grammar.specs.Grammar.{IsDigit, IsLetter, AreDigits, value_after, word_of, large_at, Part, Whole, Term, Factor, operator, Reads, number, variable, random, parentheses, factor, product, term, plus, minus, sum}
+use Rattle.tb_grammar.specs.Grammar.{IsDigit, IsLetter, value_after, word_of, large_at, Part, Whole, Term, Factor, operator, Reads, number, variable, random, parentheses, factor, product, term, plus, minus, sum}
 use Rattle.tb_grammar.specs.Reading.{◌>>=◌, Found, is_digit, is_letter, digits_at, literal_at, behind, behind_word, closed, negated, variable_at, group_by, starts_digit, factor_by, operator_at, more, term_by, signed_by, whole_by, whole_at, factor_at, term_at, front_of}
 use Rattle.tb_grammar.proofs.Steps.{chosen, either}
 
@@ -74,16 +75,16 @@ pub not_that : (a b : ℕ) → a ≢ b → (a == b) ≡ false
 not_that a b h = grind (arith, nat_tests)
 
 -- the digits at the front, where no other follows
-digits_read : (n : ℕ) (digits rest : List ℕ) → AreDigits digits → starts_digit rest ≡ false → digits_at n (digits ++ rest) ≡ (value_after n digits, rest)
+digits_read : (n : ℕ) (digits rest : List ℕ) → All IsDigit digits → starts_digit rest ≡ false → digits_at n (digits ++ rest) ≡ (value_after n digits, rest)
 digits_read n [] [] h e = refl
 digits_read n [] (b ∷ rest) h e = rw e refl
-digits_read n (d ∷ digits) rest h e = rw (is_digit_true d h.0) (digits_read (10 * n + (d - 48)) digits rest h.1 e)
+digits_read n (d ∷ digits) rest h e = rw (is_digit_true d (All-head IsDigit d digits h)) (digits_read (10 * n + (d - 48)) digits rest (All-tail IsDigit d digits h) e)
 
-number_read : (whole : List ℕ → Option Found) (d : ℕ) (digits rest : List ℕ) → AreDigits (d ∷ digits) → starts_digit rest ≡ false
+number_read : (whole : List ℕ → Option Found) (d : ℕ) (digits rest : List ℕ) → All IsDigit (d ∷ digits) → starts_digit rest ≡ false
     → factor_by whole (d ∷ digits ++ rest) ≡ Some (record { tree = Number (word_of (value_after 0 (d ∷ digits))); large = large_at (value_after 0 (d ∷ digits)) (length (d ∷ digits ++ rest)); rest = rest })
 unfolding factor_by literal_at
 number_read whole d digits rest h e =
-    rw (is_digit_true d h.0, digits_read (10 * 0 + (d - 48)) digits rest h.1 e) refl
+    rw (is_digit_true d (All-head IsDigit d digits h), digits_read (10 * 0 + (d - 48)) digits rest (All-tail IsDigit d digits h) e) refl
 
 abbrev VariableRead : (List ℕ → Option Found) → List ℕ → ℕ → Type 0
 VariableRead whole rest v = factor_by whole (v ∷ rest) ≡ Some (record { tree = Variable (v - 65); large = None; rest = rest })
@@ -102,7 +103,7 @@ variable_read whole v rest h ends =
 
 -- no sign begins a term
 unsigned : {part : Part} {text : List ℕ} {e : Expression} {large : Option ℕ} {rest : List ℕ} → Reads part text e large rest → part ≢ Whole → (behind 43 text ≡ None) × (behind 45 text ≡ None)
-unsigned (number text d digits rest h ds) ne = rw h (rw (not_that d 43 (omega arith), not_that d 45 (omega arith)) (refl, refl))
+unsigned (number text d digits rest h ds) ne = let first = All-head IsDigit d digits ds in rw h (rw (not_that d 43 (omega arith), not_that d 45 (omega arith)) (refl, refl))
 unsigned (variable v rest h) ne = rw (not_that v 43 (omega arith), not_that v 45 (omega arith)) (refl, refl)
 unsigned (random text e large rest r) ne = (refl, refl)
 unsigned (parentheses text e large rest r) ne = (refl, refl)
@@ -223,7 +224,7 @@ abbrev pub NoOther : List ℕ → Type 0
 NoOther text = (behind 34 text ≡ None) × (behind 60 text ≡ None) × (behind 61 text ≡ None) × (behind 62 text ≡ None)
 
 pub no_other : {part : Part} {text : List ℕ} {e : Expression} {large : Option ℕ} {rest : List ℕ} → Reads part text e large rest → NoOther text
-no_other (number text d digits rest h ds) = rw h (rw (not_that d 34 (omega arith), not_that d 60 (omega arith), not_that d 61 (omega arith), not_that d 62 (omega arith)) (refl, refl, refl, refl))
+no_other (number text d digits rest h ds) = let first = All-head IsDigit d digits ds in rw h (rw (not_that d 34 (omega arith), not_that d 60 (omega arith), not_that d 61 (omega arith), not_that d 62 (omega arith)) (refl, refl, refl, refl))
 no_other (variable v rest h) = rw (not_that v 34 (omega arith), not_that v 60 (omega arith), not_that v 61 (omega arith), not_that v 62 (omega arith)) (refl, refl, refl, refl)
 no_other (random text e large rest r) = (refl, refl, refl, refl)
 no_other (parentheses text e large rest r) = (refl, refl, refl, refl)

@@ -4,6 +4,7 @@ pub mod ListLoops
 pub mod Lists
 pub mod Literal
 pub mod Loop
+pub mod Prefix
 pub mod PrintWord
 pub mod Relations
 pub mod Sound

@@ -2,9 +2,10 @@
 use Rattle.std.proofs.Common.{◌≡◌, ℕ, zero, suc, ◌+◌, ◌-◌, ◌*◌, true, List, [], ◌∷◌, ◌++◌, inl, inr, length, Option, Some, None, refl, sym, ap, subst, ◌∙◌}
 use Rattle.std.specs.Option.{option_or}
 use Rattle.std.specs.Prelude.{codes}
+use Rattle.std.proofs.lemmas.List.Elements.{All-cons}
 use Rattle.tb_syntax.specs.declared.expressions.Operator.{Operator}
 use Rattle.tb_syntax.specs.Source.{Expression, Variable, Binary}
-use Rattle.tb_grammar.specs.Grammar.{Part, Whole, Term, Factor, operator, Reads, number, variable, random, parentheses, factor, product, term, plus, minus, sum}
+use Rattle.tb_grammar.specs.Grammar.{IsDigit, Part, Whole, Term, Factor, operator, Reads, number, variable, random, parentheses, factor, product, term, plus, minus, sum}
 use Rattle.tb_grammar.specs.Reading.{◌>>=◌, Found, is_digit, literal_at, behind, behind_word, letter_at, closed, randomly, negated, joined, variable_at, group_by, starts_digit, factor_by, operator_at, more, term_by, signed_by, whole_by, whole_at, front_of}
 use Rattle.tb_grammar.proofs.Steps.{some_is, bind_some, when_cases, chosen, behind_is, behind_word_is, digit_is, letter_found, digits_found}
 
@@ -44,7 +45,7 @@ literal_is : (b : ℕ) (tail : List ℕ) → is_digit b ≡ true → Is Factor (
 unfolding literal_at
 literal_is b tail h =
     let again = digits_found (10 * 0 + (b - 48)) tail in
-    rw (h, again.3) (number (b ∷ tail) b again.0 _ (ap (λ (t : List ℕ). b ∷ t) again.1) (digit_is b h, again.2))
+    rw (h, again.3) (number (b ∷ tail) b again.0 _ (ap (λ (t : List ℕ). b ∷ t) again.1) (All-cons IsDigit b again.0 (digit_is b h) again.2))
 
 variable_is : (text : List ℕ) (f : Found) → variable_at text ≡ Some f → Is Factor text f
 unfolding variable_at

@@ -1,7 +1,9 @@
 -- Steps of reading, taken apart.
 use Rattle.std.proofs.Common.{◌≡◌, ℕ, ◌+◌, ◌-◌, ◌*◌, Bool, true, false, cond, List, [], ◌∷◌, ◌++◌, ◌⊎◌, inl, inr, Option, Some, None, refl, sym, ap, ◌∙◌, nat_le, ◌==◌, ◌&&◌}
+use Rattle.std.specs.Prelude.{All}
+use Rattle.std.proofs.lemmas.List.Elements.{All-nil, All-cons}
 use Rattle.std.proofs.lemmas.Bool.{eqb-true, leb-true}
-use Rattle.tb_grammar.specs.Grammar.{IsDigit, IsLetter, AreDigits, value_after}
+use Rattle.tb_grammar.specs.Grammar.{IsDigit, IsLetter, value_after}
 use Rattle.tb_grammar.specs.Reading.{◌>>=◌, is_digit, is_letter, digits_at, behind, behind_word, letter_at, when}
 
 pub some_is : {A : Type 0} (x y : A) → Some x ≡ Some y → x ≡ y
@@ -60,13 +62,13 @@ letter_found (b ∷ text) p e =
     ]
 
 -- the digits at the front
-pub digits_found : (n : ℕ) (text : List ℕ) → (digits : List ℕ) × (text ≡ digits ++ (digits_at n text).1) × AreDigits digits × ((digits_at n text).0 ≡ value_after n digits)
-digits_found n [] = ([], refl, tt, refl)
+pub digits_found : (n : ℕ) (text : List ℕ) → (digits : List ℕ) × (text ≡ digits ++ (digits_at n text).1) × All IsDigit digits × ((digits_at n text).0 ≡ value_after n digits)
+digits_found n [] = ([], refl, All-nil IsDigit, refl)
 digits_found n (b ∷ text) =
     let again = digits_found (10 * n + (b - 48)) text in
     elim (either (is_digit b)) [
-      | inl h ↦ rw h (b ∷ again.0, ap (λ (t : List ℕ). b ∷ t) again.1, (digit_is b h, again.2), again.3)
-      | inr h ↦ rw h ([], refl, tt, refl)
+      | inl h ↦ rw h (b ∷ again.0, ap (λ (t : List ℕ). b ∷ t) again.1, All-cons IsDigit b again.0 (digit_is b h) again.2, again.3)
+      | inr h ↦ rw h ([], refl, All-nil IsDigit, refl)
     ]
 
 pub some_or_none : {A : Type 0} (o : Option A) → (o ≡ None) ⊎ ((x : A) × (o ≡ Some x))

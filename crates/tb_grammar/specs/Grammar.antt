@@ -1,5 +1,5 @@
 -- The grammar of expressions over squeezed text: no spaces outside texts and remarks, letters in upper case.
-use Rattle.std.specs.Prelude.{◌≡◌, ℕ, ◌+◌, ◌-◌, ◌*◌, ◌≤◌, List, [], ◌∷◌, ◌++◌, length, Option, Some, None, nat_le, ◌==◌, if◌then◌else◌, codes}
+use Rattle.std.specs.Prelude.{All, ◌≡◌, ℕ, ◌+◌, ◌-◌, ◌*◌, ◌≤◌, List, [], ◌∷◌, ◌++◌, length, Option, Some, None, nat_le, ◌==◌, if◌then◌else◌, codes}
 use Rattle.std.specs.Option.{option_or}
 use Rattle.tb_syntax.specs.declared.expressions.Operator.{Operator}
 use Rattle.tb_syntax.specs.declared.expressions.Operator.TheVariants.{Add, Subtract, Multiply, Divide}
@@ -10,11 +10,6 @@ IsDigit b = (48 ≤ b) × (b ≤ 57)
 
 abbrev pub IsLetter : ℕ → Type 0
 IsLetter b = (65 ≤ b) × (b ≤ 90)
-
--- digits alone
-abbrev pub AreDigits : List ℕ → Type 0
-AreDigits [] = Unit {0}
-AreDigits (d ∷ digits) = IsDigit d × AreDigits digits
 
 -- what digits stand for, behind a number that stands before them
 abbrev pub value_after : ℕ → List ℕ → ℕ
@@ -44,7 +39,7 @@ operator Factor b = None
 -- The text begins with a part that stands for an expression, and the rest is left behind it.
 -- `large` is the place of the first literal above 65,535, if any: of two places the first.
 pub data Reads : Part → List ℕ → Expression → Option ℕ → List ℕ → Type 0 where
-  number : (text : List ℕ) (d : ℕ) (digits rest : List ℕ) → text ≡ d ∷ digits ++ rest → AreDigits (d ∷ digits)
+  number : (text : List ℕ) (d : ℕ) (digits rest : List ℕ) → text ≡ d ∷ digits ++ rest → All IsDigit (d ∷ digits)
       → Reads Factor text (Number (word_of (value_after 0 (d ∷ digits)))) (large_at (value_after 0 (d ∷ digits)) (length text)) rest
   variable : (v : ℕ) (rest : List ℕ) → IsLetter v → Reads Factor (v ∷ rest) (Variable (v - 65)) None rest
   random : (text : List ℕ) (e : Expression) (large : Option ℕ) (rest : List ℕ) → Reads Whole text e large (41 ∷ rest)

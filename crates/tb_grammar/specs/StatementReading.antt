@@ -1,4 +1,4 @@
--- Reading statements from left to right: what the program does, as functions of lists.
+-- Reading statements from left to right, as functions of lists. The program does this; what a text means is said by Statements alone.
 use Rattle.std.specs.Prelude.{ℕ, zero, suc, ◌+◌, List, [], ◌∷◌, ◌++◌, length, Bool, true, false, Option, Some, None, ◌==◌, if◌then◌else◌, codes}
 use Rattle.std.specs.Option.{option_or}
 use Rattle.tb_words.specs.declared.Rel.{Rel}

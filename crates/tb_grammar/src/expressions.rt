@@ -14,7 +14,7 @@ use tb_syntax::{Expr, Operator};
 use tb_words::Letter;
 
 /// An expression at the front of a text, and what is left behind it.
-#[derive(Debug, Drop)]
+#[derive(Drop)]
 pub(crate) struct Front<'a> {
     pub(crate) expr: Expr,
     /// How much of the text is left where the first literal above 65,535 begins.
@@ -34,10 +34,7 @@ pub(crate) fn behind(byte: u8, text: &[u8]) -> Option<&[u8]>
 pub(crate) fn behind_word<'a>(word: &[u8], text: &'a [u8]) -> Option<&'a [u8]>
     ensures { MatchOption result (behind_word word.now text.entry.now ≡ None) (λ rest. behind_word word.now text.entry.now ≡ Some rest.now) }
 {
-    match word {
-        [] => Some(text),
-        [first, others @ ..] => behind_word(others, behind(*first, text)?),
-    }
+    text.strip_prefix(word)
 }
 
 fn split_digit(text: &[u8]) -> Option<(u8, &[u8])>

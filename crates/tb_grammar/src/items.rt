@@ -10,7 +10,7 @@ use std::alloc::Global;
 use tb_syntax::{PrintItem, Statement};
 
 /// An item of PRINT at the front of a text, and what is left behind it.
-#[derive(Debug, Drop)]
+#[derive(Drop)]
 pub(crate) struct FrontItem<'a> {
     pub(crate) item: PrintItem,
     pub(crate) large: Option<usize>,

@@ -1,6 +1,8 @@
 //! The grammar of expressions and statements, and its reader.
 //!
 //! A text is squeezed: it has no spaces outside texts and remarks, and its letters are in upper case.
+//! What it means is a relation by cases, in `specs/Grammar.antt` and `specs/Statements.antt`. Each call
+//! answers a reading of the text, the only one, and says that there is none only where there is none.
 #![tactic(auto)]
 
 mod expressions;

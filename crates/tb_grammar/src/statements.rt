@@ -25,7 +25,7 @@ pub struct ReadStatement {
 }
 
 /// The first words of statements.
-#[derive(Clone, Copy, Debug, PartialEq, Eq)]
+#[derive(Clone, Copy)]
 pub(crate) enum Keyword {
     Let,
     Print,

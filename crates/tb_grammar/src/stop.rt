@@ -7,6 +7,7 @@ use std::alloc::{AllocError, AllocFailed};
 /// Why nothing was read.
 #[derive(Debug, Drop)]
 pub enum Stop {
+    /// A growth was refused.
     NoMemory,
     /// The text has no reading. The number counts the bytes from the first token such that the
     /// tokens up to and including it begin no statement (or no expression) to the end of the text:

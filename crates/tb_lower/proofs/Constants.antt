@@ -4,7 +4,7 @@ use Rattle.tb_words.specs.Words.{word, negated, with_sign, quotient}
 use Rattle.tb_syntax.specs.declared.expressions.Operator.{Operator}
 use Rattle.tb_syntax.specs.declared.expressions.Operator.TheVariants.{Add, Subtract, Multiply, Divide}
 use Rattle.tb_syntax.specs.Source.{Expression, Number, Variable, Negate, Binary, Random}
-use Rattle.tb_lower.specs.Values.{Valued, Gives, Fails, valued_then, apply, given, value}
+use Rattle.tb_lower.specs.Values.{Gives, valued_then, apply, given, value}
 use Rattle.tb_lower.specs.Slots.{Instr, Put}
 use Rattle.tb_lower.specs.Lowered.{both, known_value, constant, or_constant, value_code}
 

@@ -1,14 +1,13 @@
 -- An expression without RND has a value, or divides by zero.
-use Rattle.std.proofs.Common.{◌≡◌, ℕ, ◌<◌, ◌≤◌, Bool, true, false, ◌||◌, List, length, map, Option, Some, None, option_map, Result, Ok, Err, slice_get, slice_index, refl, sym, ap, ◌∙◌, subst, arith}
+use Rattle.std.proofs.Common.{◌≡◌, ℕ, ◌<◌, ◌≤◌, Bool, true, false, ◌||◌, List, length, Option, Some, None, option_map, slice_get, slice_index, refl, sym, ap, ◌∙◌, arith}
 use Rattle.std.specs.Prelude.{ℤ, IsFalse}
 use Rattle.std.specs.Option.{ok_or}
 use Rattle.std.proofs.lemmas.Option.{slice_get-get_or}
 use Rattle.tb_words.specs.Words.{negated, word_of}
 use Rattle.tb_syntax.specs.declared.expressions.Operator.{Operator}
 use Rattle.tb_syntax.specs.Source.{Expression, Number, Variable, Negate, Binary, Random}
-use Rattle.tb_lower.specs.declared.evaluation.EvalError.{EvalError}
-use Rattle.tb_lower.specs.declared.evaluation.EvalError.TheVariants.{DivideByZero, HasRnd}
-use Rattle.tb_lower.specs.Values.{Valued, Gives, Fails, valued_then, apply, given, value, has_random}
+use Rattle.tb_lower.specs.declared.evaluation.EvalError.TheVariants.{DivideByZero}
+use Rattle.tb_lower.specs.Values.{Gives, valued_then, apply, given, value, has_random}
 use Rattle.tb_lower.specs.Evaluation.{IsEvaluation}
 use Rattle.tb_lower.specs.Lowered.{both, known_value}
 use Rattle.tb_lower.proofs.Lettered.{IsLettered}

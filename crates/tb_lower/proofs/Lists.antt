@@ -11,7 +11,7 @@ use Rattle.tb_lower.specs.Meaning.{does, does_at, does_found, line, start}
 use Rattle.tb_lower.specs.Need.{command_need, too_deep}
 use Rattle.tb_lower.specs.Slots.{Instr, Put, Load, Store, Negate, Compute, Random, SendText, SendNumber, SendZone, SendNewline, Input, Poll, Hold, LeaveUnless, Jump, Call, JumpTo, CallTo, Return, SlotCode, Rest, Whole, Left, Slots, SlotState, After, Stays, Leaves, staying, leaving, with_word, into, act, settled, instr, instr_found, instr_at, slot_step, slot_start, slot_run, begins, begins_in, beginnings}
 use Rattle.tb_lower.specs.Slots as slots
-use Rattle.tb_lower.specs.Lowered.{command_code, list_code, program_code}
+use Rattle.tb_lower.specs.Lowered.{list_code, program_code}
 use Rattle.tb_lower.specs.Follows.{longest, Meets, Agrees, IsListOf, Follows}
 use Rattle.tb_lower.proofs.Runs.{joined_after, over_stays, advance_sum, grows}
 use Rattle.tb_lower.proofs.Values.{stay_then, perform}

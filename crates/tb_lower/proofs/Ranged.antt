@@ -1,18 +1,18 @@
 -- The operands of slot code are in their ranges.
-use Rattle.std.proofs.Common.{◌≡◌, ℕ, ◌+◌, ◌≤◌, ◌<◌, true, false, List, [], ◌∷◌, ◌++◌, map, length, Option, Some, None, refl, sym, subst, arith}
+use Rattle.std.proofs.Common.{◌≡◌, ℕ, ◌+◌, ◌≤◌, ◌<◌, true, false, List, [], ◌∷◌, ◌++◌, Option, Some, None, refl, sym, subst, arith}
 use Rattle.tb_syntax.specs.declared.statements.Statement.{Statement}
 use Rattle.tb_syntax.specs.Source.{Expression, Number, Variable, Binary, Item, Text, Value, Zone, Command, Let, Print, If, Goto, Gosub, Remark, Program}
 use Rattle.tb_syntax.specs.Source as source
 use Rattle.tb_syntax.specs.Shown.{command_of, lines_of}
 use Rattle.tb_lower.specs.Need.{need, items_need, command_need, too_deep}
-use Rattle.tb_lower.specs.Slots.{Instr, Put, Store, Negate, Compute, Random, SendNumber, SendNewline, Hold, LeaveUnless, Jump, Call, JumpTo, CallTo, SlotCode}
-use Rattle.tb_lower.specs.Lowered.{constant, or_constant, target_code, list_code, value_code, item_code, items_code, inputs_code, newline_code, command_code, program_code}
+use Rattle.tb_lower.specs.Slots.{Instr, Store, Negate, Compute, Random, SendNumber, SendNewline, Jump, Call, JumpTo, CallTo, SlotCode}
+use Rattle.tb_lower.specs.Lowered.{constant, or_constant, target_code, value_code, items_code, inputs_code, command_code, program_code}
 use Rattle.tb_lower.specs.Weights.{item_texts, command_texts}
-use Rattle.tb_lower.specs.Ranges.{IsInRange, AreInRange, IsCodeInRange, AreShort, HasShortTexts}
+use Rattle.tb_lower.specs.Ranges.{AreInRange, IsCodeInRange, AreShort, HasShortTexts}
 use Rattle.tb_lower.proofs.Constants.{constant_small}
 use Rattle.tb_lower.proofs.Lettered.{IsLettered, AreLettered, AreLetters, DoesLettered, statement_letters}
 use Rattle.tb_lower.proofs.Values.{need_pos}
-use Rattle.tb_lower.proofs.Lists.{IsShallow, none, more, shallow}
+use Rattle.tb_lower.proofs.Lists.{IsShallow, more, shallow}
 
 module _ (limit : ℕ) where
   both_in_range : (is js : List Instr) → AreInRange limit is → AreInRange limit js → AreInRange limit (is ++ js)

@@ -1,7 +1,7 @@
 -- Where a machine that runs a program's code begins a line, the program does.
-use Rattle.std.proofs.Common.{◌≡◌, ℕ, zero, suc, ◌+◌, ◌-◌, ◌*◌, ◌≤◌, ◌<◌, Bool, true, false, List, [], ◌∷◌, ◌++◌, refl, sym, ap, ◌∙◌, subst, arith, length, Option, Some, None, append-nil, append_assoc, zero-add, suc-add, ⊎_elim, ap₂, le_trans, mul-le-mul_right}
+use Rattle.std.proofs.Common.{◌≡◌, ℕ, zero, suc, ◌+◌, ◌-◌, ◌*◌, ◌≤◌, ◌<◌, Bool, true, false, List, [], ◌∷◌, ◌++◌, refl, sym, ap, ◌∙◌, subst, arith, length, Option, Some, None, append_assoc, zero-add, suc-add, ⊎_elim, ap₂, mul-le-mul_right}
 use Rattle.std.proofs.lemmas.Bool.{cases_lt}
-use Rattle.tb_lower.specs.Steps.{End, Step, Goes, Stops, Run, GoesOn, Over, joined, advance, advance_by, sent_by}
+use Rattle.tb_lower.specs.Steps.{End, Step, Goes, Stops, Run, GoesOn, Over, joined, advance, advance_by}
 use Rattle.tb_syntax.specs.Source.{Program, numbers}
 use Rattle.tb_lower.specs.Control.{Place, At, Past, State, content_at}
 use Rattle.tb_lower.specs.Meaning.{start, source_run}

@@ -1,12 +1,12 @@
 -- Reading a number byte by byte.
-use Rattle.std.proofs.Common.{◌≡◌, ◌⊎◌, inl, inr, ◌<◌, length, get_or, drop, ℕ, ◌+◌, ◌-◌, ◌*◌, ◌%◌, ◌≤◌, Bool, true, false, List, [], ◌∷◌, if◌then◌else◌, nat_eq, nat_le, refl, sym, ap, ◌∙◌, arith}
+use Rattle.std.proofs.Common.{◌≡◌, ◌⊎◌, inl, inr, ◌<◌, length, get_or, drop, ℕ, ◌+◌, ◌-◌, ◌*◌, ◌≤◌, Bool, true, false, List, [], ◌∷◌, nat_eq, nat_le, refl, sym, ap, ◌∙◌, arith}
 use Rattle.std.proofs.lemmas.Bool.Decides.{nat_tests}
 use Rattle.std.proofs.lemmas.List.{at_drop_more}
 use Rattle.tb_words.specs.Words.{word, negated}
 use Rattle.tb_lower.specs.declared.turns.Reading as rust_reading
 use Rattle.tb_lower.specs.declared.turns.Reading.TheVariants as reading
 use Rattle.tb_lower.specs.Turns.{reading_of, IsReading}
-use Rattle.tb_lower.specs.Input.{Reading, Nothing, Sign, Digits, Turn, Got, Bad, Dry, with_digit, number_end, signed_turn, turn}
+use Rattle.tb_lower.specs.Input.{Reading, Nothing, Sign, Digits, Got, with_digit, number_end, turn}
 
 -- of the digits only the word counts
 same_end : (negative : Bool) (m n : ℕ) (stays : Bool) (rest : List ℕ) → word m ≡ word n → number_end (Digits negative m) stays rest ≡ number_end (Digits negative n) stays rest

@@ -9,6 +9,7 @@ pub data Place : Type 0 where
   At : (n : ℕ) → Place
   Past : Place
 
+-- the state of a run between lines
 pub record State : Type 0 where
   pub place : Place
   pub vars : List ℕ
@@ -32,6 +33,7 @@ abbrev pub content_at : {A : Type 0} → List (Numbered A) → ℕ → Option A
 content_at [] n = None
 content_at (line ∷ lines) n = if nat_eq line.number n then Some line.content else content_at lines n
 
+-- whether a number is one of the lines'
 abbrev pub has_line : List ℕ → ℕ → Bool
 has_line [] n = false
 has_line (m ∷ ms) n = nat_eq m n || has_line ms n
@@ -46,6 +48,7 @@ abbrev pub first_place : List ℕ → Place
 first_place [] = Past
 first_place (m ∷ ms) = At m
 
+-- the highest line's number
 abbrev pub highest : List ℕ → ℕ
 highest [] = 0
 highest (m ∷ []) = m
@@ -55,6 +58,7 @@ highest (m ∷ k ∷ ms) = highest (k ∷ ms)
 abbrev pub fault_text : ℕ → ℕ → List ℕ
 fault_text k n = 13 ∷ 33 ∷ (48 + k) ∷ 32 ∷ 65 ∷ 84 ∷ 32 ∷ (digits_of n ++ 13 ∷ [])
 
+-- a run faults: it sends the fault's text and is over
 abbrev pub fault : {S : Type 0} → ℕ → ℕ → Step S
 fault k n = Stops Faulted (fault_text k n)
 
@@ -63,9 +67,11 @@ abbrev pub column_after : ℕ → List ℕ → ℕ
 column_after c [] = c
 column_after c (b ∷ bs) = column_after (if nat_eq b 13 then 0 else c + 1) bs
 
+-- bytes sent, and the column behind them
 abbrev pub send : List ℕ → State → Step State
 send t s = Goes (record s { column = column_after s.column t }) t
 
+-- the spaces up to the next zone of eight columns, at least one
 abbrev pub zone : ℕ → List ℕ
 zone column = replicate (8 - column % 8) 32
 
@@ -91,6 +97,7 @@ abbrev pub return_to : ℕ → List Place → State → Step State
 return_to n [] s = fault 5 n
 return_to n (p ∷ ps) s = Goes (record s { place = p; returns = ps }) []
 
+-- RETURN, from line n
 abbrev pub go_back : ℕ → State → Step State
 go_back n s = return_to n s.returns s
 
@@ -99,6 +106,7 @@ abbrev pub answered : ℕ → List ℕ → State → Step State
 answered n [] s = Goes s []
 answered n (a ∷ rest) s = if nat_eq a 3 then fault 0 n else Goes (record s { answers = rest }) []
 
+-- a line begins: it takes an answer, where one is left
 abbrev pub poll : ℕ → State → Step State
 poll n s = answered n s.answers s
 

@@ -10,11 +10,13 @@ nodes (Negate e) = 1 + nodes e
 nodes (Binary op l r) = 1 + nodes l + nodes r
 nodes (Random e) = 1 + nodes e
 
+-- a comma costs nothing
 abbrev pub item_cost : Item → ℕ
 item_cost (Text t) = 24 + length t
 item_cost (Value e) = 24 + 48 * nodes e
 item_cost Zone = 0
 
+-- the cost of a command; PRINT by its items, INPUT by its variables
 abbrev pub command_cost : Command → ℕ
 command_cost (Let x e) = 48 * nodes e
 command_cost (Print items ends) = sum_by item_cost items
@@ -26,5 +28,6 @@ command_cost Return = 48
 command_cost End = 0
 command_cost Remark = 0
 
+-- the cost of a program, 36 for each line
 abbrev pub cost : Program → ℕ
 cost lines = 64 + sum_by (λ line. 36 + command_cost line.content) lines

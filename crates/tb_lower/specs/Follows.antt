@@ -12,6 +12,7 @@ abbrev pub longest : SlotCode → ℕ
 longest [] = 0
 longest (line ∷ lines) = max (length line.content) (longest lines)
 
+-- the second text begins with the first, or is the same
 abbrev pub IsPrefix : List ℕ → List ℕ → Type 0
 IsPrefix xs ys = (zs : List ℕ) × (xs ++ zs ≡ ys)
 

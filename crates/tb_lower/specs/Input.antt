@@ -4,7 +4,7 @@ use Rattle.tb_words.specs.Words.{with_sign}
 use Rattle.tb_lower.specs.Steps.{Waits, Step, Goes, Stops, after_sending}
 use Rattle.tb_lower.specs.Control.{State, fault, send, column_after}
 
--- what has been read of a number: nothing, a sign, or digits_of too
+-- what has been read of a number: nothing, a sign, or digits too
 pub data Reading : Type 0 where
   Nothing : Reading
   Sign : (negative : Bool) → Reading
@@ -16,6 +16,7 @@ pub data Turn : Type 0 where
   Bad : Turn
   Dry : Turn
 
+-- one digit more
 abbrev pub with_digit : Reading → ℕ → Reading
 with_digit Nothing d = Digits false d
 with_digit (Sign negative) d = Digits negative d
@@ -33,6 +34,7 @@ signed_turn Nothing t = t
 signed_turn (Sign negative) t = Bad
 signed_turn (Digits negative n) t = Bad
 
+-- a turn byte by byte: spaces are skipped, any other byte than these is bad
 abbrev pub turn : Reading → List ℕ → Turn
 turn r [] = Dry
 turn r (b ∷ text) =

@@ -8,7 +8,7 @@ use Rattle.tb_lower.specs.declared.faults.Stop.TheVariants as stop
 use Rattle.tb_lower.specs.declared.interpreter.Interpreter.{Interpreter}
 use Rattle.tb_lower.specs.declared.interpreter.RunEnd.{RunEnd}
 use Rattle.tb_lower.specs.declared.interpreter.RunEnd.TheVariants as run_end
-use Rattle.tb_lower.specs.Steps.{End, Ended, Faulted, Waits, Step, Run, GoesOn, Over, joined}
+use Rattle.tb_lower.specs.Steps.{Ended, Faulted, Waits, Step, Run, GoesOn, Over, joined}
 use Rattle.tb_lower.specs.Control.{State, fault_text}
 use Rattle.tb_lower.specs.Meaning.{valued}
 use Rattle.tb_lower.specs.Parts.{place_of, fault_of}

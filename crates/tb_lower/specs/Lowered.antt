@@ -38,19 +38,23 @@ value_code (source.Negate e) k = or_constant (constant (source.Negate e)) k (val
 value_code (Binary op l r) k = or_constant (constant (Binary op l r)) k (value_code l k ++ (value_code r (k + 1) ++ Compute op k ∷ []))
 value_code (source.Random e) k = value_code e k ++ slots.Random k ∷ []
 
+-- one item of PRINT
 abbrev pub item_code : Item → List Instr
 item_code (Text t) = SendText t ∷ []
 item_code (Value e) = value_code e 0 ++ SendNumber ∷ []
 item_code Zone = SendZone ∷ []
 
+-- the items in order
 abbrev pub items_code : List Item → List Instr
 items_code [] = []
 items_code (i ∷ is) = item_code i ++ items_code is
 
+-- the variables of INPUT in order
 abbrev pub inputs_code : List ℕ → List Instr
 inputs_code [] = []
 inputs_code (x ∷ xs) = slots.Input x ∷ inputs_code xs
 
+-- the carriage return that ends a PRINT
 abbrev pub newline_code : Bool → List Instr
 newline_code true = SendNewline ∷ []
 newline_code false = []
@@ -60,7 +64,7 @@ abbrev pub target_code : Option ℕ → (ℕ → Instr) → List Instr → List 
 target_code (Some v) direct code = direct v ∷ []
 target_code None direct code = code
 
--- what stays as written: which expressions, items and variables come one after the other
+-- the slot code of a command; the left side of IF is held while the right one is valued
 abbrev pub command_code : Command → List Instr
 command_code (Let x e) = value_code e 0 ++ Store x ∷ []
 command_code (Print items ends) = items_code items ++ newline_code ends
@@ -76,5 +80,6 @@ command_code Remark = []
 abbrev pub list_code : Command → List Instr
 list_code c = Poll ∷ command_code c
 
+-- each line's list, under its number
 abbrev pub program_code : Program → SlotCode
 program_code lines = map (λ line. record { number = line.number; content = list_code line.content }) lines

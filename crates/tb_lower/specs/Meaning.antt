@@ -12,6 +12,7 @@ abbrev pub with_value : {S : Type 0} → ℕ → Valued → State → (ℕ → S
 with_value n (Gives v seed) s go = go v (record s { seed = seed })
 with_value n (Fails k) s go = fault k n
 
+-- an expression is valued at line n, and what comes next takes its value
 abbrev pub valued : {S : Type 0} → ℕ → Expression → State → (ℕ → State → Step S) → Step S
 valued n e s go = with_value n (value e s.vars s.seed) s go
 
@@ -21,6 +22,7 @@ print_item n (Text t) s = send t s
 print_item n (Value e) s = valued n e s (λ v s'. send (digits_of v) s')
 print_item n Zone s = send (zone s.column) s
 
+-- the items of PRINT one by one: a fault keeps what the earlier ones sent
 abbrev pub print_items : ℕ → List Item → State → Step State
 print_items n [] s = Goes s []
 print_items n (i ∷ is) s = and_then (print_item n i s) (print_items n is)
@@ -30,6 +32,7 @@ abbrev pub inputs : ℕ → List ℕ → State → Step State
 inputs n [] s = Goes s []
 inputs n (x ∷ xs) s = and_then (input n x s) (inputs n xs)
 
+-- a value is stored in a variable
 abbrev pub stored : ℕ → ℕ → State → State
 stored x v s = record s { vars = slice_set s.vars x v }
 
@@ -52,6 +55,7 @@ abbrev pub does_found : List ℕ → ℕ → Option Command → State → Step S
 does_found ns n (Some c) s = and_then (poll n s) (does ns n c)
 does_found ns n None s = past ns
 
+-- what is done at a place
 abbrev pub does_at : Program → Place → State → Step State
 does_at program (At n) s = does_found (numbers program) n (content_at program n) s
 does_at program Past s = past (numbers program)
@@ -60,6 +64,7 @@ does_at program Past s = past (numbers program)
 abbrev pub line : Program → State → Step State
 line program s = does_at program s.place s
 
+-- the lowest line, all variables 0, no notes, no open line, nothing sent
 abbrev pub start : List ℕ → ℕ → List ℕ → List ℕ → State
 start ns seed keys answers = record {
   place = first_place ns;

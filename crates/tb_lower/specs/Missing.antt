@@ -26,5 +26,6 @@ abbrev pub missing_in : List ℕ → Program → List (ℕ × ℕ)
 missing_in ns [] = []
 missing_in ns (line ∷ lines) = with_target line.number (missing_target ns line.content) (missing_in ns lines)
 
+-- a program's lines with their missing targets
 abbrev pub missing_targets : Program → List (ℕ × ℕ)
 missing_targets program = missing_in (numbers program) program

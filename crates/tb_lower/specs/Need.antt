@@ -1,6 +1,6 @@
 -- How many slots an expression needs, and which programs need too many.
 use Rattle.std.specs.Prelude.{ℕ, ◌+◌, max, List, [], ◌∷◌, if◌then◌else◌, nat_le, Option, Some, None}
-use Rattle.tb_syntax.specs.Source.{Expression, Number, Variable, Negate, Binary, Random, Item, Text, Value, Zone, Command, Let, Print, Input, If, Goto, Gosub, Return, End, Remark, Numbered, Program}
+use Rattle.tb_syntax.specs.Source.{Expression, Number, Variable, Negate, Binary, Random, Item, Text, Value, Zone, Command, Let, Print, Input, If, Goto, Gosub, Return, End, Remark, Program}
 
 -- an operator keeps its left value in one slot while its right operand is valued
 abbrev pub need : Expression → ℕ
@@ -10,11 +10,13 @@ need (Negate e) = need e
 need (Binary op l r) = max (need l) (1 + need r)
 need (Random e) = need e
 
+-- what an item of PRINT needs
 abbrev pub item_need : Item → ℕ
 item_need (Text t) = 0
 item_need (Value e) = need e
 item_need Zone = 0
 
+-- the most that an item needs
 abbrev pub items_need : List Item → ℕ
 items_need [] = 0
 items_need (i ∷ is) = max (item_need i) (items_need is)

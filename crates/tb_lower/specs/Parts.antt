@@ -6,10 +6,12 @@ use Rattle.tb_lower.specs.declared.faults.Fault.{Fault}
 use Rattle.tb_lower.specs.declared.faults.Fault.TheVariants as fault
 use Rattle.tb_lower.specs.Control.{Place, At, Past}
 
+-- where the interpreter stands
 abbrev pub place_of : rust_place.Place → Place
 place_of (place.At n) = At n
 place_of place.Past = Past
 
+-- the number of a fault
 abbrev pub fault_of : Fault → ℕ
 fault_of fault.Break = 0
 fault_of fault.NoLine = 1

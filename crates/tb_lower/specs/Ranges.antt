@@ -1,6 +1,6 @@
 -- Operands in their ranges: 16 slots, 26 variables, words, and texts below a limit.
 use Rattle.std.specs.Prelude.{ℕ, ◌+◌, ◌<◌, List, [], ◌∷◌, length}
-use Rattle.tb_syntax.specs.Source.{Program, Numbered}
+use Rattle.tb_syntax.specs.Source.{Program}
 use Rattle.tb_lower.specs.Slots.{Instr, Put, Load, Store, Negate, Compute, Random, SendText, Input, JumpTo, CallTo, SlotCode}
 use Rattle.tb_lower.specs.Weights.{command_texts}
 
@@ -18,14 +18,17 @@ IsInRange limit (JumpTo target) = target < 65536
 IsInRange limit (CallTo target) = target < 65536
 IsInRange limit _ = Unit {0}
 
+-- each instruction of a list is in range
 abbrev pub AreInRange : ℕ → List Instr → Type 0
 AreInRange limit [] = Unit {0}
 AreInRange limit (i ∷ is) = IsInRange limit i × AreInRange limit is
 
+-- and each of slot code
 abbrev pub IsCodeInRange : ℕ → SlotCode → Type 0
 IsCodeInRange limit [] = Unit {0}
 IsCodeInRange limit (line ∷ lines) = AreInRange limit line.content × IsCodeInRange limit lines
 
+-- each text is shorter than the limit
 abbrev pub AreShort : ℕ → List (List ℕ) → Type 0
 AreShort limit [] = Unit {0}
 AreShort limit (t ∷ ts) = (length t < limit) × AreShort limit ts

@@ -7,6 +7,7 @@ use Rattle.tb_lower.specs.declared.slot_code.SlotInstr.TheVariants as instr
 use Rattle.tb_lower.specs.declared.slot_code.SlotLine.{SlotLine}
 use Rattle.tb_lower.specs.Slots.{Instr, Put, Load, Store, Negate, Compute, Random, SendText, SendNumber, SendZone, SendNewline, Input, Poll, Hold, LeaveUnless, Jump, Call, JumpTo, CallTo, Return, End, SlotCode}
 
+-- an instruction; a letter by its place from 0 for A
 abbrev pub instr_of : SlotInstr → Instr
 instr_of (instr.Put k n) = Put k n
 instr_of (instr.Load k x) = Load k (place x)
@@ -29,6 +30,7 @@ instr_of (instr.CallTo target) = CallTo target
 instr_of instr.Return = Return
 instr_of instr.End = End
 
+-- a line's list under its number
 abbrev pub slot_line_of : SlotLine → Numbered (List Instr)
 slot_line_of line = record { number = line.number; content = map instr_of line.code.items }
 

@@ -42,6 +42,7 @@ pub record Slots : Type 0 where
   pub words : List ℕ
   pub held : ℕ
 
+-- the state of a run between instructions
 pub record SlotState : Type 0 where
   pub state : State
   pub rest : Rest
@@ -52,11 +53,12 @@ pub data After : Type 0 where
   Stays : (s : State) (slots : Slots) → After
   Leaves : (s : State) → After
 
--- an instruction that stays in the line, and one that leaves it
+-- an instruction that stays in the line
 abbrev pub staying : Slots → Step State → Step After
 staying slots (Goes s t) = Goes (Stays s slots) t
 staying slots (Stops e t) = Stops e t
 
+-- an instruction that leaves the line
 abbrev pub leaving : Step State → Step After
 leaving (Goes s t) = Goes (Leaves s) t
 leaving (Stops e t) = Stops e t
@@ -109,6 +111,7 @@ abbrev pub instr_found : List ℕ → ℕ → Option (List Instr) → State → 
 instr_found ns n (Some is) s slots = instr ns n is s slots
 instr_found ns n None s slots = past ns
 
+-- the next instruction of the line's rest, or the first at a place
 abbrev pub instr_at : SlotCode → Rest → Place → State → Slots → Step SlotState
 instr_at code (Left n is) place s slots = instr (numbers code) n is s slots
 instr_at code Whole (At n) s slots = instr_found (numbers code) n (content_at code n) s slots
@@ -132,6 +135,7 @@ begins (Left n is) place = 0
 begins Whole (At n) = 1
 begins Whole Past = 0
 
+-- whether a run stands at the beginning of a list, as a number
 abbrev pub begins_in : Run SlotState → ℕ
 begins_in (GoesOn c out) = begins c.rest c.state.place
 begins_in (Over e out) = 0

@@ -40,6 +40,7 @@ abbrev pub advance_by : {S : Type 0} → (S → Step S) → ℕ → Run S → Ru
 advance_by step zero r = r
 advance_by step (suc m) r = advance_by step m (advance step r)
 
+-- all that a run has sent
 abbrev pub sent_by : {S : Type 0} → Run S → List ℕ
 sent_by (GoesOn s out) = out
 sent_by (Over e out) = out

@@ -22,6 +22,7 @@ pub record Weights : Type 0 where
   pub stop : ℕ
   pub poll : ℕ
 
+-- what an instruction weighs; a text by its bytes too
 abbrev pub weight : Weights → Instr → ℕ
 weight w (Put k n) = w.work
 weight w (Load k x) = w.work
@@ -44,15 +45,18 @@ weight w (CallTo target) = w.move
 weight w Return = w.move
 weight w slots.End = w.stop
 
+-- what a list weighs
 abbrev pub weigh : Weights → List Instr → ℕ
 weigh w [] = 0
 weigh w (i ∷ is) = weight w i + weigh w is
 
+-- what an item's parts may weigh
 abbrev pub item_share : Weights → Item → ℕ
 item_share w (Text t) = w.item + w.byte * length t
 item_share w (Value e) = w.item + w.work * nodes e
 item_share w Zone = w.zone
 
+-- what the items of a PRINT may weigh
 abbrev pub items_share : Weights → List Item → ℕ
 items_share w [] = 0
 items_share w (i ∷ is) = item_share w i + items_share w is
@@ -80,11 +84,13 @@ instr_texts [] = []
 instr_texts (SendText t ∷ is) = t ∷ instr_texts is
 instr_texts (_ ∷ is) = instr_texts is
 
+-- the texts among items, in order
 abbrev pub item_texts : List Item → List (List ℕ)
 item_texts [] = []
 item_texts (Text t ∷ is) = t ∷ item_texts is
 item_texts (_ ∷ is) = item_texts is
 
+-- the texts of a command's PRINT, in order
 abbrev pub command_texts : Command → List (List ℕ)
 command_texts (Print items ends) = item_texts items
 command_texts (If l rel r c) = command_texts c

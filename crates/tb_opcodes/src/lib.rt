@@ -1,6 +1,6 @@
 //! The documented instructions of the NMOS 6502: opcodes, mnemonics and addressing modes.
 //!
-//! The table of 151 rows is `rows` in `specs/Opcodes.antt`, in the manual's order, by mnemonic.
+//! The table of 151 rows is `rows` in `specs/Opcodes.antt`, grouped by mnemonic.
 //! The code has a table of its own, in the order of the opcodes: the proof compares the two, and a
 //! test compares both with the table rebuilt from the opcodes' bit structure. No call takes memory.
 #![tactic(auto)]
@@ -334,26 +334,330 @@ pub fn length(mode: Mode) -> u8
 }
 
 /// The opcode of a mnemonic in a mode, where it has that mode.
-///
-/// It looks through the 256 bytes, which serves an assembler and is no call for an inner loop.
+#[tactic(auto, unfolding(crate::specs::Opcodes::encoded))]
 pub fn encode(mnemonic: Mnemonic, mode: Mode) -> Option<u8>
     ensures { result ≡ encoded mnemonic mode }
 {
-    for opcode in 0..=255u8 {
-        if stands_for(opcode, mnemonic, mode) {
-            return Some(opcode);
-        }
-    }
-    None
-}
-
-// Whether a byte is the opcode of a mnemonic in a mode.
-fn stands_for(opcode: u8, mnemonic: Mnemonic, mode: Mode) -> bool
-    ensures { IsTrue result ↔ (decoded opcode ≡ Some (mnemonic, mode)) }
-{
-    match decode(opcode) {
-        Some((found, found_mode)) => found == mnemonic && found_mode == mode,
-        None => false,
+    match mnemonic {
+        Mnemonic::Adc => match mode {
+            Mode::Immediate => Some(0x69),
+            Mode::ZeroPage => Some(0x65),
+            Mode::ZeroPageX => Some(0x75),
+            Mode::IndirectX => Some(0x61),
+            Mode::IndirectY => Some(0x71),
+            Mode::Absolute => Some(0x6d),
+            Mode::AbsoluteX => Some(0x7d),
+            Mode::AbsoluteY => Some(0x79),
+            _ => None,
+        },
+        Mnemonic::And => match mode {
+            Mode::Immediate => Some(0x29),
+            Mode::ZeroPage => Some(0x25),
+            Mode::ZeroPageX => Some(0x35),
+            Mode::IndirectX => Some(0x21),
+            Mode::IndirectY => Some(0x31),
+            Mode::Absolute => Some(0x2d),
+            Mode::AbsoluteX => Some(0x3d),
+            Mode::AbsoluteY => Some(0x39),
+            _ => None,
+        },
+        Mnemonic::Asl => match mode {
+            Mode::Accumulator => Some(0x0a),
+            Mode::ZeroPage => Some(0x06),
+            Mode::ZeroPageX => Some(0x16),
+            Mode::Absolute => Some(0x0e),
+            Mode::AbsoluteX => Some(0x1e),
+            _ => None,
+        },
+        Mnemonic::Bcc => match mode {
+            Mode::Relative => Some(0x90),
+            _ => None,
+        },
+        Mnemonic::Bcs => match mode {
+            Mode::Relative => Some(0xb0),
+            _ => None,
+        },
+        Mnemonic::Beq => match mode {
+            Mode::Relative => Some(0xf0),
+            _ => None,
+        },
+        Mnemonic::Bit => match mode {
+            Mode::ZeroPage => Some(0x24),
+            Mode::Absolute => Some(0x2c),
+            _ => None,
+        },
+        Mnemonic::Bmi => match mode {
+            Mode::Relative => Some(0x30),
+            _ => None,
+        },
+        Mnemonic::Bne => match mode {
+            Mode::Relative => Some(0xd0),
+            _ => None,
+        },
+        Mnemonic::Bpl => match mode {
+            Mode::Relative => Some(0x10),
+            _ => None,
+        },
+        Mnemonic::Brk => match mode {
+            Mode::Implied => Some(0x00),
+            _ => None,
+        },
+        Mnemonic::Bvc => match mode {
+            Mode::Relative => Some(0x50),
+            _ => None,
+        },
+        Mnemonic::Bvs => match mode {
+            Mode::Relative => Some(0x70),
+            _ => None,
+        },
+        Mnemonic::Clc => match mode {
+            Mode::Implied => Some(0x18),
+            _ => None,
+        },
+        Mnemonic::Cld => match mode {
+            Mode::Implied => Some(0xd8),
+            _ => None,
+        },
+        Mnemonic::Cli => match mode {
+            Mode::Implied => Some(0x58),
+            _ => None,
+        },
+        Mnemonic::Clv => match mode {
+            Mode::Implied => Some(0xb8),
+            _ => None,
+        },
+        Mnemonic::Cmp => match mode {
+            Mode::Immediate => Some(0xc9),
+            Mode::ZeroPage => Some(0xc5),
+            Mode::ZeroPageX => Some(0xd5),
+            Mode::IndirectX => Some(0xc1),
+            Mode::IndirectY => Some(0xd1),
+            Mode::Absolute => Some(0xcd),
+            Mode::AbsoluteX => Some(0xdd),
+            Mode::AbsoluteY => Some(0xd9),
+            _ => None,
+        },
+        Mnemonic::Cpx => match mode {
+            Mode::Immediate => Some(0xe0),
+            Mode::ZeroPage => Some(0xe4),
+            Mode::Absolute => Some(0xec),
+            _ => None,
+        },
+        Mnemonic::Cpy => match mode {
+            Mode::Immediate => Some(0xc0),
+            Mode::ZeroPage => Some(0xc4),
+            Mode::Absolute => Some(0xcc),
+            _ => None,
+        },
+        Mnemonic::Dec => match mode {
+            Mode::ZeroPage => Some(0xc6),
+            Mode::ZeroPageX => Some(0xd6),
+            Mode::Absolute => Some(0xce),
+            Mode::AbsoluteX => Some(0xde),
+            _ => None,
+        },
+        Mnemonic::Dex => match mode {
+            Mode::Implied => Some(0xca),
+            _ => None,
+        },
+        Mnemonic::Dey => match mode {
+            Mode::Implied => Some(0x88),
+            _ => None,
+        },
+        Mnemonic::Eor => match mode {
+            Mode::Immediate => Some(0x49),
+            Mode::ZeroPage => Some(0x45),
+            Mode::ZeroPageX => Some(0x55),
+            Mode::IndirectX => Some(0x41),
+            Mode::IndirectY => Some(0x51),
+            Mode::Absolute => Some(0x4d),
+            Mode::AbsoluteX => Some(0x5d),
+            Mode::AbsoluteY => Some(0x59),
+            _ => None,
+        },
+        Mnemonic::Inc => match mode {
+            Mode::ZeroPage => Some(0xe6),
+            Mode::ZeroPageX => Some(0xf6),
+            Mode::Absolute => Some(0xee),
+            Mode::AbsoluteX => Some(0xfe),
+            _ => None,
+        },
+        Mnemonic::Inx => match mode {
+            Mode::Implied => Some(0xe8),
+            _ => None,
+        },
+        Mnemonic::Iny => match mode {
+            Mode::Implied => Some(0xc8),
+            _ => None,
+        },
+        Mnemonic::Jmp => match mode {
+            Mode::Absolute => Some(0x4c),
+            Mode::Indirect => Some(0x6c),
+            _ => None,
+        },
+        Mnemonic::Jsr => match mode {
+            Mode::Absolute => Some(0x20),
+            _ => None,
+        },
+        Mnemonic::Lda => match mode {
+            Mode::Immediate => Some(0xa9),
+            Mode::ZeroPage => Some(0xa5),
+            Mode::ZeroPageX => Some(0xb5),
+            Mode::IndirectX => Some(0xa1),
+            Mode::IndirectY => Some(0xb1),
+            Mode::Absolute => Some(0xad),
+            Mode::AbsoluteX => Some(0xbd),
+            Mode::AbsoluteY => Some(0xb9),
+            _ => None,
+        },
+        Mnemonic::Ldx => match mode {
+            Mode::Immediate => Some(0xa2),
+            Mode::ZeroPage => Some(0xa6),
+            Mode::ZeroPageY => Some(0xb6),
+            Mode::Absolute => Some(0xae),
+            Mode::AbsoluteY => Some(0xbe),
+            _ => None,
+        },
+        Mnemonic::Ldy => match mode {
+            Mode::Immediate => Some(0xa0),
+            Mode::ZeroPage => Some(0xa4),
+            Mode::ZeroPageX => Some(0xb4),
+            Mode::Absolute => Some(0xac),
+            Mode::AbsoluteX => Some(0xbc),
+            _ => None,
+        },
+        Mnemonic::Lsr => match mode {
+            Mode::Accumulator => Some(0x4a),
+            Mode::ZeroPage => Some(0x46),
+            Mode::ZeroPageX => Some(0x56),
+            Mode::Absolute => Some(0x4e),
+            Mode::AbsoluteX => Some(0x5e),
+            _ => None,
+        },
+        Mnemonic::Nop => match mode {
+            Mode::Implied => Some(0xea),
+            _ => None,
+        },
+        Mnemonic::Ora => match mode {
+            Mode::Immediate => Some(0x09),
+            Mode::ZeroPage => Some(0x05),
+            Mode::ZeroPageX => Some(0x15),
+            Mode::IndirectX => Some(0x01),
+            Mode::IndirectY => Some(0x11),
+            Mode::Absolute => Some(0x0d),
+            Mode::AbsoluteX => Some(0x1d),
+            Mode::AbsoluteY => Some(0x19),
+            _ => None,
+        },
+        Mnemonic::Pha => match mode {
+            Mode::Implied => Some(0x48),
+            _ => None,
+        },
+        Mnemonic::Php => match mode {
+            Mode::Implied => Some(0x08),
+            _ => None,
+        },
+        Mnemonic::Pla => match mode {
+            Mode::Implied => Some(0x68),
+            _ => None,
+        },
+        Mnemonic::Plp => match mode {
+            Mode::Implied => Some(0x28),
+            _ => None,
+        },
+        Mnemonic::Rol => match mode {
+            Mode::Accumulator => Some(0x2a),
+            Mode::ZeroPage => Some(0x26),
+            Mode::ZeroPageX => Some(0x36),
+            Mode::Absolute => Some(0x2e),
+            Mode::AbsoluteX => Some(0x3e),
+            _ => None,
+        },
+        Mnemonic::Ror => match mode {
+            Mode::Accumulator => Some(0x6a),
+            Mode::ZeroPage => Some(0x66),
+            Mode::ZeroPageX => Some(0x76),
+            Mode::Absolute => Some(0x6e),
+            Mode::AbsoluteX => Some(0x7e),
+            _ => None,
+        },
+        Mnemonic::Rti => match mode {
+            Mode::Implied => Some(0x40),
+            _ => None,
+        },
+        Mnemonic::Rts => match mode {
+            Mode::Implied => Some(0x60),
+            _ => None,
+        },
+        Mnemonic::Sbc => match mode {
+            Mode::Immediate => Some(0xe9),
+            Mode::ZeroPage => Some(0xe5),
+            Mode::ZeroPageX => Some(0xf5),
+            Mode::IndirectX => Some(0xe1),
+            Mode::IndirectY => Some(0xf1),
+            Mode::Absolute => Some(0xed),
+            Mode::AbsoluteX => Some(0xfd),
+            Mode::AbsoluteY => Some(0xf9),
+            _ => None,
+        },
+        Mnemonic::Sec => match mode {
+            Mode::Implied => Some(0x38),
+            _ => None,
+        },
+        Mnemonic::Sed => match mode {
+            Mode::Implied => Some(0xf8),
+            _ => None,
+        },
+        Mnemonic::Sei => match mode {
+            Mode::Implied => Some(0x78),
+            _ => None,
+        },
+        Mnemonic::Sta => match mode {
+            Mode::ZeroPage => Some(0x85),
+            Mode::ZeroPageX => Some(0x95),
+            Mode::IndirectX => Some(0x81),
+            Mode::IndirectY => Some(0x91),
+            Mode::Absolute => Some(0x8d),
+            Mode::AbsoluteX => Some(0x9d),
+            Mode::AbsoluteY => Some(0x99),
+            _ => None,
+        },
+        Mnemonic::Stx => match mode {
+            Mode::ZeroPage => Some(0x86),
+            Mode::ZeroPageY => Some(0x96),
+            Mode::Absolute => Some(0x8e),
+            _ => None,
+        },
+        Mnemonic::Sty => match mode {
+            Mode::ZeroPage => Some(0x84),
+            Mode::ZeroPageX => Some(0x94),
+            Mode::Absolute => Some(0x8c),
+            _ => None,
+        },
+        Mnemonic::Tax => match mode {
+            Mode::Implied => Some(0xaa),
+            _ => None,
+        },
+        Mnemonic::Tay => match mode {
+            Mode::Implied => Some(0xa8),
+            _ => None,
+        },
+        Mnemonic::Tsx => match mode {
+            Mode::Implied => Some(0xba),
+            _ => None,
+        },
+        Mnemonic::Txa => match mode {
+            Mode::Implied => Some(0x8a),
+            _ => None,
+        },
+        Mnemonic::Txs => match mode {
+            Mode::Implied => Some(0x9a),
+            _ => None,
+        },
+        Mnemonic::Tya => match mode {
+            Mode::Implied => Some(0x98),
+            _ => None,
+        },
     }
 }
 

@@ -1,5 +1,5 @@
 -- A file read line by line: what is left decides the whole.
-use Rattle.std.proofs.Common.{◌≡◌, ℕ, ◌+◌, false, true, List, [], ◌∷◌, Result, Ok, Err, refl, sym, subst}
+use Rattle.std.proofs.Common.{◌≡◌, ℕ, ◌+◌, false, true, List, [], ◌∷◌, Ok, Err, refl, sym, subst}
 use Rattle.tb_syntax.specs.declared.statements.Statement.{Statement}
 use Rattle.tb_syntax.specs.Source.{Program}
 use Rattle.tb_syntax.specs.Shown.{lines_of}

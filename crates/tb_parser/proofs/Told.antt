@@ -1,7 +1,6 @@
 -- What the readers tell.
-use Rattle.std.proofs.Common.{◌≡◌, ℕ, List, Option, Some, None, Result, Ok, Err, refl, sym, MatchOption, IfSome}
+use Rattle.std.proofs.Common.{◌≡◌, ℕ, List, Option, Some, None, Result, Ok, Err, refl, MatchOption, IfSome}
 use Rattle.tb_parser.specs.declared.errors.Fault.{Fault}
-use Rattle.tb_parser.specs.declared.errors.SourceErrorKind.{SourceErrorKind}
 use Rattle.tb_parser.specs.declared.errors.SourceErrorKind.TheVariants.{NotCompiled, NumberTooLarge, Syntax}
 use Rattle.tb_parser.specs.declared.squeeze.Placed.{Placed}
 use Rattle.tb_parser.specs.Answers.{refusal_of, Says}

@@ -1,19 +1,18 @@
 -- No text, line or file has two meanings.
-use Rattle.std.proofs.Common.{◌≡◌, ◌≢◌, ℕ, ◌+◌, ◌<◌, ◌≤◌, Bool, true, false, List, [], ◌∷◌, length, Option, Some, None, Result, Ok, Err, refl, sym, ap, ◌∙◌, arith, ◌⊎◌, inl, inr, if◌then◌else◌, nat_le, ◌&&◌, subst}
+use Rattle.std.proofs.Common.{◌≡◌, ◌≢◌, ℕ, ◌+◌, ◌<◌, ◌≤◌, Bool, true, false, List, [], ◌∷◌, length, Option, Some, None, Result, Ok, Err, refl, sym, ap, ◌∙◌, arith, ◌⊎◌, inl, inr, if◌then◌else◌, nat_le, ◌&&◌}
 use Rattle.std.proofs.lemmas.Bool.Decides.{nat_tests}
 use Rattle.tb_syntax.specs.Source.{Command, Expression, Program}
 use Rattle.tb_grammar.specs.Statements.{States}
 use Rattle.tb_grammar.proofs.ExpressionLaws as expression_laws
 use Rattle.tb_grammar.proofs.StatementLaws as statement_laws
 use Rattle.tb_parser.proofs.Numbers.{number_has_digit, blank_squeezed}
-use Rattle.tb_parser.specs.declared.errors.SourceErrorKind.{SourceErrorKind}
 use Rattle.tb_parser.specs.declared.errors.SourceErrorKind.TheVariants.{LineTooLong, BadByte, Unnumbered, BadLineNumber, NotCompiled, NumberTooLarge}
 use Rattle.tb_parser.specs.declared.squeeze.Mode.TheVariants.{Code}
 use Rattle.tb_parser.specs.declared.squeeze.Placed.{Placed}
 use Rattle.tb_parser.specs.Readings.{Refusal, at_column, Grammar, TextIs, reads, not_compiled, syntax, number_too_large, IsFit, IsUnfit, line_too_long, bad_byte, IsLineNumber, IsNumbered, Edit, Nothing, Sets, Deletes, LineIs, blank, unfit, unnumbered, bad_line_number, deletes, sets, unread, Expresses, ExpressionIs, unfit_text, fit_text}
-use Rattle.tb_parser.specs.Scans.{first_written, first_bad, starts_with_digit, Counted, number_at, left_out_word, column_left}
+use Rattle.tb_parser.specs.Scans.{first_written, first_bad, starts_with_digit, number_at, left_out_word, column_left}
 use Rattle.tb_parser.specs.Squeezed.{squeezed, bytes}
-use Rattle.tb_parser.specs.Files.{Outcome, FileRefusal, refused_at, edited, at_end, LinesAre, end, bad, good}
+use Rattle.tb_parser.specs.Files.{Outcome, refused_at, edited, LinesAre, end, bad, good}
 
 abbrev pub IsUnique : {A : Type 0} → Grammar A → Type 0
 IsUnique {A} grammar = (t : List ℕ) (a b : A) (la lb : Option ℕ) → grammar t a la → grammar t b lb → (a ≡ b) × (la ≡ lb)

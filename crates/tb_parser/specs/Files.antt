@@ -1,12 +1,8 @@
 -- The program of a file, line by line.
-use Rattle.std.specs.Prelude.{◌≡◌, ℕ, ◌+◌, ◌<◌, ◌≤◌, List, [], ◌∷◌, Bool, true, false, Option, Some, None, Result, Ok, Err, if◌then◌else◌, ◌==◌, nat_lt}
-use Rattle.tb_syntax.specs.Source.{Expression, Command, Numbered, Program}
-use Rattle.tb_parser.specs.declared.errors.Fault.{Fault}
-use Rattle.tb_parser.specs.declared.errors.SourceError.{SourceError}
-use Rattle.tb_parser.specs.declared.errors.SourceErrorKind.{SourceErrorKind}
-use Rattle.tb_parser.specs.declared.errors.SourceErrorKind.TheVariants.{Syntax, Empty, NoMemory}
+use Rattle.std.specs.Prelude.{ℕ, ◌+◌, ◌<◌, ◌≤◌, List, [], ◌∷◌, Some, Result, Ok, Err, if◌then◌else◌, ◌==◌, nat_lt}
+use Rattle.tb_syntax.specs.Source.{Command, Numbered, Program}
+use Rattle.tb_parser.specs.declared.errors.SourceErrorKind.TheVariants.{Empty}
 use Rattle.tb_parser.specs.Readings.{Refusal, Edit, Nothing, Sets, Deletes, LineIs}
-use Rattle.tb_parser.specs.Refusals.{out_of_memory}
 
 abbrev pub line_at : ℕ → Command → Numbered Command
 line_at number c = record { number = number; content = c }

@@ -25,7 +25,8 @@ Grammar A = List ℕ → A → Option ℕ → Type 0
 abbrev pub HasNoReading : {A : Type 0} → Grammar A → List ℕ → Type 0
 HasNoReading {A} grammar text = (a : A) (large : Option ℕ) → grammar text a large → ⊥
 
--- What a squeezed text is in a grammar: its value where it has a reading without a large literal, else one of three faults.
+-- What a squeezed text is in a grammar: its value where it has a reading without a large literal, else one of three
+-- faults. What has no reading is not compiled where a left-out word stands in it, and else bad in its syntax.
 pub data TextIs (A : Type 0) (grammar : Grammar A) (text : List Placed) : Result A Refusal → Type 0 where
   reads : (a : A) → grammar (bytes text) a None → TextIs A grammar text (Ok a)
   not_compiled : (column : ℕ) → HasNoReading grammar (bytes text) → left_out_word text ≡ Some column → TextIs A grammar text (Err (at_column NotCompiled column))
@@ -57,7 +58,8 @@ pub data Edit : Type 0 where
   Sets : (number : ℕ) (c : Command) → Edit
   Deletes : (number : ℕ) → Edit
 
--- A line of a file, by the table of its faults in its order. A line of spaces alone is never bad, at any length.
+-- A line of a file. Its faults are looked for in this order: line too long, bad byte (`IsUnfit`), unnumbered, bad line
+-- number, then one of not compiled, syntax, number too large (`TextIs`). A line of spaces alone is never bad, at any length.
 pub data LineIs (line : List ℕ) : Result Edit Refusal → Type 0 where
   blank : first_written 1 line ≡ None → LineIs line (Ok Nothing)
   unfit : (first : ℕ) (r : Refusal) → first_written 1 line ≡ Some first → IsUnfit line r → LineIs line (Err r)

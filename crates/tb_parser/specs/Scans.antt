@@ -1,7 +1,7 @@
 -- What is looked for in a line before it is read.
 use Rattle.std.specs.Prelude.{ℕ, ◌+◌, ◌-◌, ◌*◌, List, [], ◌∷◌, length, map, slice_index, Bool, true, false, Option, Some, None, nat_le, ◌==◌, ◌&&◌, ◌||◌, if◌then◌else◌, codes}
 use Rattle.tb_parser.specs.declared.squeeze.Mode.{Mode}
-use Rattle.tb_parser.specs.declared.squeeze.Mode.TheVariants.{Code, CodeR, CodeRe, Text, Remark}
+use Rattle.tb_parser.specs.declared.squeeze.Mode.TheVariants.{Remark}
 use Rattle.tb_parser.specs.declared.squeeze.Placed.{Placed}
 use Rattle.tb_parser.specs.Squeezed.{after}
 

@@ -4,6 +4,9 @@ ghost use Rattle.tb_parser.specs.Refusals.{out_of_memory, fault_of_memory, at_li
 
 use std::alloc::{AllocError, AllocFailed};
 
+/// Want of memory, where nothing else can be wrong.
+pub type NoMemory = AllocError;
+
 /// What is wrong, in the order in which a line's faults are looked for.
 #[derive(Clone, Copy, Debug, PartialEq, Eq)]
 pub enum SourceErrorKind {
@@ -39,18 +42,6 @@ pub struct SourceError {
     pub column: usize,
 }
 
-impl From<AllocError> for SourceError {
-    ghost from_gives = { λ _ e. e ≡ out_of_memory };
-
-    fn from(_e: AllocError) -> SourceError {
-        SourceError {
-            kind: SourceErrorKind::NoMemory,
-            line: 0,
-            column: 0,
-        }
-    }
-}
-
 impl<T: Drop> From<AllocFailed<T>> for SourceError {
     ghost from_gives = { λ _ e. e ≡ out_of_memory };
 
@@ -69,6 +60,12 @@ pub(crate) struct Fault {
     pub kind: SourceErrorKind,
     pub column: usize,
 }
+
+/// Want of memory.
+pub(crate) const OUT_OF_MEMORY: Fault = Fault {
+    kind: SourceErrorKind::NoMemory,
+    column: 0,
+};
 
 impl Fault {
     /// The same with the line's number in its file.
@@ -94,9 +91,6 @@ impl From<AllocError> for Fault {
     ghost from_gives = { λ _ e. e ≡ fault_of_memory };
 
     fn from(_e: AllocError) -> Fault {
-        Fault {
-            kind: SourceErrorKind::NoMemory,
-            column: 0,
-        }
+        OUT_OF_MEMORY
     }
 }

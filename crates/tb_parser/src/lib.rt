@@ -13,7 +13,7 @@ mod recognizer;
 mod scans;
 mod squeeze;
 
-pub use errors::{SourceError, SourceErrorKind};
+pub use errors::{NoMemory, SourceError, SourceErrorKind};
 pub use lexer::{Keyword, Token, TokenKind, tokens};
 pub use parser::{parse, parse_expr};
 pub use tb_syntax::{Expr, Operator, PrintItem, Program, Statement};

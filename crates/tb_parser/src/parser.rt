@@ -8,11 +8,11 @@ ghost use Rattle.tb_parser.specs.Answers.{edit_of, refusal_of, Answers, InLineOn
 ghost use Rattle.tb_parser.specs.Files.{FileRefusal, LinesAre, Outcome, RisesFrom};
 ghost use Rattle.tb_parser.specs.Lines.{lines_of_file};
 ghost use Rattle.tb_parser.specs.Readings.{Expresses, ExpressionIs, IsFit, IsUnfit, LineIs, TextIs};
-ghost use Rattle.tb_parser.specs.Refusals.{fault_of_memory, out_of_memory};
+ghost use Rattle.tb_parser.specs.Refusals.{out_of_memory};
 ghost use Rattle.tb_parser.specs.Scans.{column_left, left_out_word};
 
 use crate::edits::{LineEdit, apply};
-use crate::errors::{Fault, SourceError, SourceErrorKind};
+use crate::errors::{Fault, OUT_OF_MEMORY, SourceError, SourceErrorKind};
 use crate::lines::next_line;
 use crate::recognizer::{Start, syntax_column};
 use crate::scans::{bad_byte, column_of_left, is_numbered, left_out, line_number, written};
@@ -126,7 +126,7 @@ fn read_command(alloc: Global, line: &[u8], text: &[Placed]) -> Result<Statement
     let bytes = bytes_of(alloc, text)?;
     match read_statement(alloc, &bytes) {
         Ok(read) => in_range(read.statement, read.large, text),
-        Err(Stop::NoMemory) => Err(no_memory()),
+        Err(Stop::NoMemory) => Err(OUT_OF_MEMORY),
         Err(Stop::NoReading(_)) => Err(unread(line, text, Start::Line)),
     }
 }
@@ -147,7 +147,7 @@ fn read_value(alloc: Global, line: &[u8], text: &[Placed]) -> Result<Expr, Fault
     let bytes = bytes_of(alloc, text)?;
     match read_expression(alloc, &bytes) {
         Ok(read) => in_range(read.expr, read.large, text),
-        Err(Stop::NoMemory) => Err(no_memory()),
+        Err(Stop::NoMemory) => Err(OUT_OF_MEMORY),
         Err(Stop::NoReading(_)) => Err(unread(line, text, Start::Expression)),
     }
 }
@@ -162,15 +162,6 @@ fn in_range<T: Drop>(tree: T, large: Option<usize>, text: &[Placed]) -> Result<T
             kind: SourceErrorKind::NumberTooLarge,
             column: column_of_left(text, left),
         }),
-    }
-}
-
-fn no_memory() -> Fault
-    ensures { result ≡ fault_of_memory }
-{
-    Fault {
-        kind: SourceErrorKind::NoMemory,
-        column: 0,
     }
 }
 

@@ -32,7 +32,8 @@ pub struct Loaded<'a> {
     pub bytes: &'a [u8],
 }
 
-/// The PRG file of an image at `$080D`: its load address is `$0801`, and the line `10 SYS2061` stands before it.
+/// The PRG file of an image at `$080D`: its load address is `$0801`, and there the line `10 SYS2061`
+/// stands before the image.
 pub fn write(alloc: Global, image: &Image) -> Result<Vec<u8>, NoMemory>
     requires { image.now.at ≡ 0x080d }
     ensures { IfOk result (λ file. file.items ≡ header ++ image.now.bytes.items) }
@@ -49,7 +50,9 @@ pub fn write(alloc: Global, image: &Image) -> Result<Vec<u8>, NoMemory>
 
 /// Reads a PRG file: its first word is the load address, and the rest are the bytes.
 pub fn read(file: &[u8]) -> Result<Loaded<'_>, PrgError>
-    ensures { MatchResult result (λ l. content_of file.now ≡ Ok (l.at, l.bytes.now)) (λ e. content_of file.now ≡ Err e) }
+    ensures { MatchResult result
+        (λ l. content_of file.now ≡ Ok (l.at, l.bytes.now))
+        (λ e. content_of file.now ≡ Err e) }
 {
     let [low, high, bytes @ ..] = file else {
         return Err(PrgError::TooShort);

@@ -24,7 +24,7 @@ use Rattle.tb_kernal.specs.Places.{all_writable, is_owned, service_at}
 use Rattle.tb_kernal.specs.Machine.{State, status, status_by, is_home, waits_for, happens, gone, gone_at, stepped, interrupted, is_lawful, is_stopped}
 use Rattle.tb_kernal.proofs.Keeping.{written_keeps}
 use Rattle.tb_reaching.specs.View.{View, Setup, At, Stays, Part, Holds, Fits, Stacked, with_s, is_data, is_program, is_fixed}
-use Rattle.tb_reaching.specs.Acting.{all_data, from_part, read_view, kind_of, finish_view, push_view, pushed_byte, with_pulled, pull_one, pull_two, pull_three, behind, act_kind, act_operand, act_row, act_opcode, act}
+use Rattle.tb_reaching.proofs.Acting.{all_data, from_part, read_view, kind_of, finish_view, push_view, pushed_byte, with_pulled, pull_one, pull_two, pull_three, behind, act_kind, act_operand, act_row, act_opcode, act}
 use Rattle.tb_reaching.proofs.Memory.{fixed_owned, stack_owned, put_same, put_other, data_leaves, written_same, stacked_same, program_not_data, program_fixed, data_fixed, stack_not_data, fixed_not_stack, fixed_open, stack_open, program_range}
 use Rattle.tb_reaching.proofs.Readers.{ok≢err, moved, on_a_moved, more_operand, more_executed}
 
@@ -102,14 +102,14 @@ module _ (f : Setup) (v : View) (s : State) (at : At f v s) where
     stays = stays_in f s.mem (written s.mem ws) s.wrong s.home s.home_s (λ a p. rom_leaves ws h a (fixed_owned s.regs.s a (program_fixed a p))) at.stays;
   }
 
-  pub kept_by_interrupt : (ws : ArrayVec (ℕ × ℕ)) → is_lawful s (Interrupt ws) ≡ true → At f v (happens s (Interrupt ws)) × ((happens s (Interrupt ws)).sent ≡ s.sent)
+  pub kept_by_interrupt : (ws : ArrayVec (ℕ × ℕ)) → is_lawful s (Interrupt ws) ≡ true → At f v (happens s (Interrupt ws))
   kept_by_interrupt ws h = go (status s) h
     where
-      go : (q : Status) → (is_stopped q || all_writable s.regs.s ws.items) ≡ true → At f v (interrupted q ws.items s) × ((interrupted q ws.items s).sent ≡ s.sent)
-      go Returned h = (at, refl)
-      go (WentWrong w) h = (at, refl)
-      go Waits h = (rom_wrote ws.items h, refl)
-      go Running h = (rom_wrote ws.items h, refl)
+      go : (q : Status) → (is_stopped q || all_writable s.regs.s ws.items) ≡ true → At f v (interrupted q ws.items s)
+      go Returned h = at
+      go (WentWrong w) h = at
+      go Waits h = rom_wrote ws.items h
+      go Running h = rom_wrote ws.items h
 
   -- ---- reading
   read_open : (a b : ℕ) → is_open a ≡ true → s.mem a ≡ b → reading s.mem a ≡ Ok b
@@ -208,7 +208,7 @@ module _ (f : Setup) (room : ℕ) (fits : Fits f room) (v : View) (s : State) (a
       )
       go false d h = cc
 
-  deep : (bs : List ℕ) → leb (length (bs ++ v.stack)) room ≡ true → length bs + 2 ≤ s.regs.s
+  deep : (bs : List ℕ) → leb (length (bs ++ v.stack)) room ≡ true → length bs ≤ s.regs.s
   deep bs h = omega (arith, leb-true _ _ h, length-append bs v.stack, length-append v.stack f.rest, at.depth, fits)
 
   pushed_left : (bs : List ℕ) (r : Regs) (w : View) → push_view room v bs r ≡ Some w → (leb (length (bs ++ v.stack)) room ≡ true) × (record v { regs = r; stack = bs ++ v.stack } ≡ w)

@@ -11,7 +11,7 @@ use Rattle.tb_kernal.specs.declared.events.Event.TheVariants.{Go}
 use Rattle.tb_kernal.specs.declared.status.Status.TheVariants.{Running}
 use Rattle.tb_kernal.specs.Machine.{State, status, happens, is_lawful}
 use Rattle.tb_reaching.specs.View.{View, Setup, At, Part, Holds, Fits, OnCode, UnderWay, Among, Comes, with_s, view}
-use Rattle.tb_reaching.specs.Acting.{act, run_view, the, is_there}
+use Rattle.tb_reaching.proofs.Acting.{act, run_view, the, is_there}
 use Rattle.tb_reaching.proofs.Laws.{step, chain, widen}
 use Rattle.tb_reaching.proofs.Act.{acts, goes_by, fetched_here, code_at, runs, kept_by_interrupt, pc_here, some_eq}
 

@@ -10,11 +10,11 @@ use Rattle.tb_kernal.specs.declared.events.Event.{Event}
 use Rattle.tb_kernal.specs.declared.events.Event.TheVariants.{Go, Interrupt}
 use Rattle.tb_kernal.specs.declared.status.Status.{Status}
 use Rattle.tb_kernal.specs.declared.status.Status.TheVariants.{Running, Waits, Returned, Wrong as WentWrong}
-use Rattle.tb_memmap.specs.Bytes.{Writes}
 use Rattle.tb_kernal.specs.Places.{service_at}
-use Rattle.tb_kernal.specs.Machine.{State, status, happens, gone, gone_at, stepped, interrupted}
+use Rattle.tb_kernal.specs.Machine.{State, status, happens, gone, gone_at, stepped}
 use Rattle.tb_kernal.specs.Runs.{run}
 use Rattle.tb_reaching.specs.Reaching.{IsPrefix}
+use Rattle.tb_reaching.proofs.Laws.{interrupt_sends_nothing}
 
 same : (a b : List ℕ) → b ≡ a → IsPrefix a b
 same a b e = record { rest = []; split = e ∙ sym (append-nil a) }
@@ -38,16 +38,10 @@ gone_sent Returned k s = same _ _ refl
 gone_sent Waits k s = same _ _ refl
 gone_sent (WentWrong w) k s = same _ _ refl
 
-interrupted_sent : (q : Status) (ws : Writes) (s : State) → (interrupted q ws s).sent ≡ s.sent
-interrupted_sent Running ws s = refl
-interrupted_sent Returned ws s = refl
-interrupted_sent Waits ws s = refl
-interrupted_sent (WentWrong w) ws s = refl
-
 -- one event
 pub sends_on : (e : Event) (s : State) → IsPrefix s.sent (happens s e).sent
 sends_on (Go k) s = gone_sent (status s) k s
-sends_on (Interrupt ws) s = same _ _ (interrupted_sent (status s) ws.items s)
+sends_on (Interrupt ws) s = same _ _ (interrupt_sends_nothing s ws)
 
 -- a list of events
 pub output_grows : (es : List Event) (s : State) → IsPrefix s.sent (run es s).sent

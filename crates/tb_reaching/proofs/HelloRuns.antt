@@ -11,9 +11,9 @@ use Rattle.tb_reaching.specs.declared.example.TheConstants.{HELLO}
 use Rattle.tb_kernal.specs.Machine.{State}
 use Rattle.tb_kernal.specs.Runs.{run}
 use Rattle.tb_kernal.specs.Starts.{IsStart}
-use Rattle.tb_reaching.specs.View.{Setup, At, Part, Holds, Fits, UnderWay, Among, Comes, view, is_data, is_program}
+use Rattle.tb_reaching.specs.View.{Setup, At, Part, Holds, Fits, UnderWay, Among, Comes, view, is_data, is_program, Bytes}
 use Rattle.tb_reaching.specs.Start.{setup_of, view_of, home_low, home_high, IsHome}
-use Rattle.tb_reaching.specs.Placed.{Bytes, ins}
+use Rattle.tb_reaching.proofs.Instr.{ins}
 use Rattle.tb_reaching.specs.Hello.{pointer, left, program_part, Sent, SendsText, Prints, hello_text}
 use Rattle.tb_reaching.proofs.Memory.{put_other, program_not_data}
 use Rattle.tb_reaching.proofs.Comes.{after, ending, looser, known}
@@ -180,12 +180,12 @@ module _ (s : State) (h : IsStart 0x080d HELLO s) where
       let st = holds_itself hello_part in
       let fits = fits_start 0x080d HELLO program_from program_to hello_part st s h in
       let home = homed_start 0x080d HELLO program_from program_to hello_part st s h in
-      after f 16 fits hello_part st 7 (view_of s) (IsHome f) hello_text 58 refl
+      after f 18 fits hello_part st 7 (view_of s) (IsHome f) hello_text 58 refl
       (calling f own (view _ _ _ _ _ _ _ _ 0x081f (0x1d ∷ 0x08 ∷ []) _ s.text s.answers) _ (IsHome f) hello_text [] 57 1
       (sends_text (under f own) (omega (arith, fits)) st 0x1d 0x08 s.text s.answers _ _ _ _ _ _ _ _ _ hello_text
       (record { low = omega arith; high = omega arith; shown = shown hello_part st; from = omega arith; to = omega arith; count = refl; few = omega arith }))
       (λ w d. known f (stacked_on own w) 0x081e own s.text s.answers (IsHome f) [] 1 d.pc (ap (λ l. l ++ own) d.stack) d.binary d.keys_left d.answers_left
-      (ending f 16 fits hello_part st 0 (view _ _ _ _ _ _ _ _ 0x081e own w.mem s.text s.answers) (IsHome f) refl
+      (ending f 18 fits hello_part st 0 (view _ _ _ _ _ _ _ _ 0x081e own w.mem s.text s.answers) (IsHome f) refl
       (record { pc = sym home.home; stack = refl; binary = refl }))))
 
 pub prints_hello : Prints HELLO hello_text 66

@@ -4,7 +4,10 @@ use Rattle.std.proofs.lemmas.Bool.{and_parts}
 use Rattle.arrayvec.specs.ArrayVec.{ArrayVec}
 use Rattle.tb_kernal.specs.declared.events.Event.{Event}
 use Rattle.tb_kernal.specs.declared.events.Event.TheVariants.{Go, Interrupt}
-use Rattle.tb_kernal.specs.Machine.{State, happens}
+use Rattle.tb_kernal.specs.declared.status.Status.{Status}
+use Rattle.tb_kernal.specs.declared.status.Status.TheVariants.{Running, Waits, Returned, Wrong as WentWrong}
+use Rattle.tb_memmap.specs.Bytes.{Writes}
+use Rattle.tb_kernal.specs.Machine.{State, status, interrupted, happens}
 use Rattle.tb_kernal.specs.Runs.{run, all_lawful, goes}
 use Rattle.tb_reaching.specs.Reaching.{States, Arrived, OnTheWay, Reaches}
 use Rattle.tb_reaching.specs.Laws.{OneStep}
@@ -21,6 +24,16 @@ goes_append (Interrupt ws ∷ es) fs = goes_append es fs
 pub lawful_after : (es fs : List Event) (s : State) → all_lawful (es ++ fs) s ≡ true → all_lawful fs (run es s) ≡ true
 lawful_after [] fs s h = h
 lawful_after (e ∷ es) fs s h = lawful_after es fs (happens s e) (and_parts _ _ h).1
+
+-- an interrupt sends nothing
+interrupted_sent : (q : Status) (ws : Writes) (s : State) → (interrupted q ws s).sent ≡ s.sent
+interrupted_sent Running ws s = refl
+interrupted_sent Returned ws s = refl
+interrupted_sent Waits ws s = refl
+interrupted_sent (WentWrong w) ws s = refl
+
+pub interrupt_sends_nothing : (s : State) (ws : ArrayVec (ℕ × ℕ)) → (happens s (Interrupt ws)).sent ≡ s.sent
+interrupt_sends_nothing s ws = interrupted_sent (status s) ws.items s
 
 later_arrived : (q : States) (t : List ℕ) (n : ℕ) (s : State) (ws : ArrayVec (ℕ × ℕ)) (es : List Event) → (happens s (Interrupt ws)).sent ≡ s.sent → Arrived q t n (happens s (Interrupt ws)) es → Arrived q t n s (Interrupt ws ∷ es)
 later_arrived q t n s ws es e r = record {
@@ -50,14 +63,14 @@ step_leads i p q t o (Go k ∷ es) s h l =
     inl (record { before = Go k ∷ []; after = es; split = refl; some = omega arith; few = omega arith; there = g.0; sent = g.1 })
 step_leads i p q t o (Interrupt ws ∷ es) s h l =
     let l' = and_parts _ _ l in
-    let k = o.keeps s h ws l'.0 in
-    ⊎_elim (λ a. inl (later_arrived q t 1 s ws es k.1 a)) (λ a. inr (later_on_the_way i t 1 s ws es k.1 a))
-    (step_leads i p q t o es (happens s (Interrupt ws)) k.0 l'.1)
+    let quiet = interrupt_sends_nothing s ws in
+    ⊎_elim (λ a. inl (later_arrived q t 1 s ws es quiet a)) (λ a. inr (later_on_the_way i t 1 s ws es quiet a))
+    (step_leads i p q t o es (happens s (Interrupt ws)) (o.keeps s h ws l'.0) l'.1)
 
 pub step : (i p q : States) (t : List ℕ) → OneStep i p q t → Reaches i p q t 1
 step i p q t o = record { leads = λ s h es l. step_leads i p q t o es s h l }
 
--- ── chain ──
+-- ---- chain
 on_first_way : (i : States) (t u : List ℕ) (n m : ℕ) (s : State) (es : List Event) → OnTheWay i t n s es → OnTheWay i (t ++ u) (n + m) s es
 on_first_way i t u n m s es r = record {
   few = omega (arith, r.few);

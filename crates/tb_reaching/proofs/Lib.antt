@@ -1,3 +1,5 @@
+pub mod Acting
+pub mod Instr
 pub mod Laws
 pub mod Readers
 pub mod Memory
@@ -13,3 +15,4 @@ pub mod Grows
 pub mod Ends
 pub mod HelloRuns
 pub mod Straight
+pub mod Barred

@@ -7,7 +7,7 @@ use Rattle.tb_memmap.specs.Regions.{is_open}
 use Rattle.tb_memmap.specs.Bytes.{Writes, with_byte, written}
 use Rattle.tb_kernal.specs.Places.{is_owned}
 use Rattle.tb_reaching.specs.View.{is_data, is_program, is_fixed, Stacked}
-use Rattle.tb_reaching.specs.Acting.{all_data}
+use Rattle.tb_reaching.proofs.Acting.{all_data}
 
 -- ---- what the ROM leaves
 pub fixed_owned : (s a : ℕ) → is_fixed a ≡ true → is_owned s a ≡ true

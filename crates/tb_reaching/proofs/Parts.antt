@@ -1,10 +1,9 @@
 -- The bytes of a program as its parts.
-use Rattle.std.proofs.Common.{◌≡◌, ℕ, ◌+◌, ◌%◌, ◌<◌, ◌≤◌, Bool, true, false, List, [], ◌∷◌, ◌++◌, length, refl, sym, ap, ◌∙◌, subst, ⊎_elim, arith, Some, None}
+use Rattle.std.proofs.Common.{◌≡◌, ℕ, ◌+◌, ◌%◌, ◌<◌, ◌≤◌, List, [], ◌∷◌, ◌++◌, length, refl, sym, ap, ◌∙◌, subst, ⊎_elim, arith, Some, None}
 use Rattle.std.specs.Prelude.{if◌then◌else◌}
 use Rattle.std.proofs.lemmas.Bool.{cases_eq, eq-eqb, ne_eqb}
-use Rattle.tb_reaching.specs.View.{Part, Holds, part_at}
-use Rattle.tb_reaching.specs.Placed.{Instr, instr_bytes, flat, Bytes, Stands}
-use Rattle.tb_reaching.specs.Start.{without}
+use Rattle.tb_reaching.specs.View.{Part, Holds, part_at, Bytes}
+use Rattle.tb_reaching.proofs.Instr.{Instr, instr_bytes, flat, Stands}
 
 -- ---- one part among another
 pub holds_itself : (p : Part) → Holds p p
@@ -12,18 +11,6 @@ holds_itself p a b e = e
 
 pub holds_then : (p q r : Part) → Holds p q → Holds q r → Holds p r
 holds_then p q r h k a b e = k a b (h a b e)
-
--- what is left of a part where places are barred
-pub without_holds : (barred : ℕ → Bool) (p : Part) → Holds (without barred p) p
-without_holds barred p a b e = go (barred a) e
-  where
-    go : (t : Bool) → (if t then None else p a) ≡ Some b → p a ≡ Some b
-    go true e = cc
-    go false e = e
-
--- a byte at a place that isn't barred is left
-pub holds_without : (barred : ℕ → Bool) (p q : Part) → ((a b : ℕ) → q a ≡ Some b → barred a ≡ false) → Holds q p → Holds q (without barred p)
-holds_without barred p q apart h a b e = ap (λ t. if t then None else p a) (apart a b e) ∙ h a b e
 
 -- ---- lists of bytes
 -- the first byte of a part
@@ -41,6 +28,22 @@ part_next at b bs a x e = ⊎_elim
     (λ h. let none : part_at (at + 1) bs a ≡ None = part_before (at + 1) bs a (omega arith) in let bad : Some x ≡ None = sym e ∙ none in cc)
     (λ n. ap (λ t. if t then Some b else part_at (at + 1) bs a) (ne_eqb a at n) ∙ e)
     (cases_eq a at)
+
+-- the front and the back of a list of bytes
+pub part_front : (at : ℕ) (xs ys : List ℕ) → Holds (part_at at xs) (part_at at (xs ++ ys))
+part_front at [] ys a x e = cc
+part_front at (b ∷ xs) ys a x e = ⊎_elim
+    (λ s. ap (λ t. if t then Some b else part_at (at + 1) (xs ++ ys) a) (eq-eqb a at s) ∙ sym (ap (λ t. if t then Some b else part_at (at + 1) xs a) (eq-eqb a at s)) ∙ e)
+    (λ n. ap (λ t. if t then Some b else part_at (at + 1) (xs ++ ys) a) (ne_eqb a at n) ∙ part_front (at + 1) xs ys a x (sym (ap (λ t. if t then Some b else part_at (at + 1) xs a) (ne_eqb a at n)) ∙ e))
+    (cases_eq a at)
+
+pub part_back : (at : ℕ) (xs ys : List ℕ) → Holds (part_at (at + length xs) ys) (part_at at (xs ++ ys))
+part_back at [] ys = subst (λ n. Holds (part_at n ys) (part_at at ys)) (let e : at ≡ at + 0 = omega arith in e) (holds_itself (part_at at ys))
+part_back at (b ∷ xs) ys =
+    let later : at + 1 + length xs ≡ at + length (b ∷ xs) = omega arith in
+    holds_then (part_at (at + length (b ∷ xs)) ys) (part_at (at + 1) (xs ++ ys)) (part_at at (b ∷ (xs ++ ys)))
+    (subst (λ n. Holds (part_at n ys) (part_at (at + 1) (xs ++ ys))) later (part_back (at + 1) xs ys))
+    (part_next at b (xs ++ ys))
 
 pub bytes_same : (p q : Part) → Holds p q → (at : ℕ) (bs : List ℕ) → Bytes p at bs → Bytes q at bs
 bytes_same p q h at [] b = tt

@@ -12,9 +12,9 @@ use Rattle.tb_cpu.specs.declared.wrong.Wrong.TheVariants.{Closed}
 use Rattle.tb_cpu.specs.Operands.{reading, and_then, operand_of, word_at, indirect_address, is_accumulator, word}
 use Rattle.tb_cpu.specs.Instructions.{Outcome, executed, executed_on_a, advanced, instruction, stored}
 use Rattle.tb_kernal.specs.Machine.{State}
-use Rattle.tb_reaching.specs.View.{View, Setup, At, Part, Fits, Comes, with_s, is_data}
-use Rattle.tb_reaching.specs.Acting.{read_view, from_part, finish_view, act_operand, act_kind, Plain, kind_of}
-use Rattle.tb_reaching.specs.Placed.{Instr, ins, operand_bytes, instr_bytes, bytes_by, Bytes, Stands, operand_by, reader_by, act_instr_row, act_instr, run_along, Follows}
+use Rattle.tb_reaching.specs.View.{View, Setup, At, Part, Fits, Comes, with_s, is_data, Bytes}
+use Rattle.tb_reaching.proofs.Acting.{read_view, from_part, finish_view, act_operand, act_kind, Plain, kind_of}
+use Rattle.tb_reaching.proofs.Instr.{Instr, ins, operand_bytes, instr_bytes, bytes_by, Stands, operand_by, reader_by, act_instr_row, act_instr, run_along, Follows}
 use Rattle.tb_reaching.proofs.Readers.{then_more, more_word, more_executed, moved}
 use Rattle.tb_reaching.proofs.Memory.{data_fixed, fixed_open}
 use Rattle.tb_reaching.proofs.Act.{read_code, read_more, Left, mode_left}

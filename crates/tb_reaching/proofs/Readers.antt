@@ -14,7 +14,7 @@ use Rattle.tb_cpu.specs.Effects.{with_nz, added, subtracted, added_decimal, subt
 use Rattle.tb_cpu.specs.Operands.{Reader, and_then, operand_of, word_at}
 use Rattle.tb_cpu.specs.Instructions.{Outcome, stored, with_datum, add_effect, subtract_effect, shift_effect, branch_effect, executed, executed_on_a, unchanged}
 use Rattle.tb_reaching.specs.View.{with_s}
-use Rattle.tb_reaching.specs.Acting.{Plain, kind_of}
+use Rattle.tb_reaching.proofs.Acting.{Plain, kind_of}
 
 is_ok : {A : Type 0} → Result A Wrong → Type 0
 is_ok (Ok a) = Unit {0}

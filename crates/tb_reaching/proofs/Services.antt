@@ -13,6 +13,7 @@ use Rattle.tb_kernal.specs.declared.status.Status.TheVariants.{Running, Waits, R
 use Rattle.tb_kernal.specs.Places.{all_writable, service_at}
 use Rattle.tb_kernal.specs.Machine.{State, status, status_by, waits_for, happens, gone, gone_at, served, after_service, clobbered, returned, first_or_zero, interrupted, is_lawful, is_lawful_go, is_lawful_event, is_stopped}
 use Rattle.tb_reaching.specs.View.{View, Setup, At, Fits, Comes, with_s, back_at}
+use Rattle.tb_reaching.proofs.Laws.{interrupt_sends_nothing}
 use Rattle.tb_reaching.proofs.Act.{kept_by_interrupt, rom_wrote, pc_here, pulled, not_home, up}
 use Rattle.tb_reaching.proofs.Comes.{comes_by, chained, looser}
 
@@ -107,7 +108,7 @@ module _ (f : Setup) where
 
   pub waits_on : (v : View) (s : State) → At f v s → v.regs.pc ≡ 0xffcf → v.text ≡ [] → (e : Event) → is_lawful s e ≡ true → At f v (happens s e) × ((happens s e).sent ≡ s.sent)
   waits_on v s at p t (Go k) l = let e : happens s (Go k) ≡ s = ap (λ q. gone q k s) (waits v s at p t) in (subst (At f v) (sym e) at, ap (λ x. x.sent) e)
-  waits_on v s at p t (Interrupt ws) l = kept_by_interrupt f v s at ws l
+  waits_on v s at p t (Interrupt ws) l = (kept_by_interrupt f v s at ws l, interrupt_sends_nothing s ws)
 
   -- ---- home: back where the machine was entered, with D clear
   pub comes_home : (v : View) (s : State) → At f v s → v.regs.pc ≡ f.home → f.home_s + length (v.stack ++ f.rest) ≡ 255 → v.regs.flags.d ≡ false → status s ≡ Returned

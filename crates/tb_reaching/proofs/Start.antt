@@ -52,7 +52,8 @@ module _ (place : ℕ) (bytes : List ℕ) (from : 0x0800 ≤ place) (to : place 
     stays = record { whole = lies place bytes s.mem from to h.loaded; inner = holds; right = h.nothing_refused; home = refl; home_s = refl; far = far_rom s.home h.in_rom; apart = h.no_service };
   }
 
-  pub fits_start : Fits (setup_of inner (part_at place bytes) s) 16
+  -- 16 bytes below the return address, and its two
+  pub fits_start : Fits (setup_of inner (part_at place bytes) s) 18
   fits_start = omega (arith, length_from s.mem (0x0101 + s.regs.s + 1 + 1) (253 - s.regs.s), h.s_from, h.s_to)
 
   pub homed_start : Homed (setup_of inner (part_at place bytes) s) (home_low s) (home_high s)

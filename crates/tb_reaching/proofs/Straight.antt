@@ -1,10 +1,10 @@
 -- Straight lines at any place: a word put into data, whose place is a number or known by a proof.
-use Rattle.std.proofs.Common.{◌≡◌, ℕ, ◌+◌, ◌/◌, ◌%◌, ◌≤◌, Bool, true, false, List, [], ◌∷◌, length, refl, leb}
+use Rattle.std.proofs.Common.{◌≡◌, ℕ, ◌+◌, ◌/◌, ◌%◌, Bool, true, List, [], ◌∷◌, length, refl, leb}
 use Rattle.tb_memmap.specs.Bytes.{with_byte}
 use Rattle.tb_opcodes.specs.declared.Mnemonic.TheVariants.{Lda, Sta}
 use Rattle.tb_opcodes.specs.declared.Mode.TheVariants.{Absolute}
 use Rattle.tb_reaching.specs.View.{View, Setup, Fits, Comes, view, is_data}
-use Rattle.tb_reaching.specs.Placed.{Instr, ins, Bytes, instr_bytes, Stands}
+use Rattle.tb_reaching.proofs.Instr.{Instr, ins, Stands}
 use Rattle.tb_reaching.proofs.Placed.{along, placing, takes_at, stores_at, reads_data}
 
 -- LDA #low, STA $C040, LDA #high, STA $C041

@@ -7,10 +7,10 @@ use Rattle.tb_kernal.specs.Machine.{State, is_lawful, happens}
 use Rattle.tb_reaching.specs.Reaching.{States, Reaches, NotWrong}
 use Rattle.tb_reaching.specs.View.{View, Setup, At, Among, Comes}
 
--- in p, and so in w, lawful interrupts keep p and send nothing, and each lawful Go leads to q and sends t
+-- p lies in w, lawful interrupts keep p, and each lawful Go leads from p to q and sends t
 pub record OneStep (w p q : States) (t : List ℕ) : Type 0 where
   pub inside : (s : State) → p s → w s
-  pub keeps : (s : State) → p s → (ws : ArrayVec (ℕ × ℕ)) → is_lawful s (Interrupt ws) ≡ true → p (happens s (Interrupt ws)) × ((happens s (Interrupt ws)).sent ≡ s.sent)
+  pub keeps : (s : State) → p s → (ws : ArrayVec (ℕ × ℕ)) → is_lawful s (Interrupt ws) ≡ true → p (happens s (Interrupt ws))
   pub goes_on : (s : State) → p s → (k : Clobber) → is_lawful s (Go k) ≡ true → q (happens s (Go k)) × ((happens s (Go k)).sent ≡ s.sent ++ t)
 
 -- the states that pass a test

@@ -1,17 +1,18 @@
 -- How the view of a started program begins, and where it ends.
-use Rattle.std.specs.Prelude.{◌≡◌, ◌≤◌, ℕ, zero, suc, ◌+◌, ◌-◌, Bool, false, List, [], ◌∷◌, length, None, if◌then◌else◌}
+use Rattle.std.specs.Prelude.{◌≡◌, ℕ, zero, suc, ◌+◌, ◌-◌, false, List, [], ◌∷◌, length}
 use Rattle.tb_kernal.specs.Machine.{State}
-use Rattle.tb_reaching.specs.View.{View, Setup, Part, Comes, back_at}
+use Rattle.tb_reaching.specs.View.{View, Setup, Part, back_at}
 
 -- the bytes of a memory from an address on
 abbrev pub from_memory : (ℕ → ℕ) → ℕ → ℕ → List ℕ
 from_memory m at zero = []
 from_memory m at (suc n) = m at ∷ from_memory m (at + 1) n
 
--- the two bytes of the return address
+-- the low byte of the return address
 abbrev pub home_low : State → ℕ
 home_low s = s.mem (0x0101 + s.regs.s)
 
+-- its high byte
 abbrev pub home_high : State → ℕ
 home_high s = s.mem (0x0101 + s.regs.s + 1)
 
@@ -47,19 +48,3 @@ pub record IsWaiting (w : View) : Type 0 where
 pub record Homed (f : Setup) (lo hi : ℕ) : Type 0 where
   pub home : f.home ≡ back_at lo hi
   pub above : f.home_s + length f.rest ≡ 255
-
--- ---- places where nothing on the way may be
-
--- the bytes but those at some places
-abbrev pub without : (ℕ → Bool) → Part → Part
-without barred code a = if barred a then None else code a
-
--- all the program's bytes may be fetched
-abbrev pub opened : Setup → Setup
-opened f = record f { code = f.whole }
-
--- one instruction at a barred place, and then a law
-pub record Enters (f : Setup) (v : View) (q : View → Type 0) (t : List ℕ) (n : ℕ) : Type 0 where
-  pub rest : ℕ
-  pub few : 1 + rest ≤ n
-  pub one : Comes (opened f) v (λ w. Comes f w q t rest) [] 1

@@ -41,6 +41,11 @@ abbrev pub part_at : ℕ → List ℕ → Part
 part_at at [] a = None
 part_at at (b ∷ bs) a = let later = part_at (at + 1) bs a in if a == at then Some b else later
 
+-- bytes stand one behind the other from an address on
+abbrev pub Bytes : Part → ℕ → List ℕ → Type 0
+Bytes code at [] = Unit {0}
+Bytes code at (b ∷ bs) = (code at ≡ Some b) × Bytes code ((at + 1) % 65536) bs
+
 -- all bytes of one are among the other's
 abbrev pub Holds : Part → Part → Type 0
 Holds part code = (a b : ℕ) → part a ≡ Some b → code a ≡ Some b
@@ -60,6 +65,7 @@ abbrev pub Stacked : (ℕ → ℕ) → ℕ → List ℕ → Type 0
 Stacked m at [] = Unit {0}
 Stacked m at (b ∷ bs) = (m at ≡ b) × Stacked m (at + 1) bs
 
+-- registers with another S
 abbrev pub with_s : ℕ → Regs → Regs
 with_s k r = record r { s = k }
 
@@ -73,7 +79,7 @@ pub record Stays (f : Setup) (m : ℕ → ℕ) (wrong : Option Wrong) (to to_s :
   pub far : 0xa000 ≤ f.home
   pub apart : service_at f.home ≡ None
 
--- a state looks so
+-- a state looks like a view
 pub record At (f : Setup) (v : View) (s : State) : Type 0 where
   pub regs : s.regs ≡ with_s s.regs.s v.regs
   pub depth : s.regs.s + length (v.stack ++ f.rest) ≡ 255
@@ -96,9 +102,9 @@ pub record UnderWay (f : Setup) (s : State) : Type 0 where
   pub not_above : s.regs.s + length f.rest ≤ 255
   pub on_code : OnCode f s
 
--- a stack of so many bytes fits above the lowest S
+-- with so many bytes on top of what stays, S is not below the lowest
 abbrev pub Fits : Setup → ℕ → Type 0
-Fits f room = f.low + room + length f.rest ≤ 253
+Fits f room = f.low + room + length f.rest ≤ 255
 
 -- some view in q
 abbrev pub Among : Setup → (View → Type 0) → States

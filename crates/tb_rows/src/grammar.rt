@@ -22,7 +22,7 @@ fn expect_expressions(rt: &impl Abort, alloc: Global, table: &[Reading]) -> Resu
                 assert_eq!(rt; shown.as_str(), *tree, "{text}");
                 assert_eq!(rt; read.large, *large, "{text}");
             }
-            Err(_) => assert!(rt; false, "{text} is not read"),
+            Err(stop) => assert!(rt; false, "{text}: {stop:?}"),
         }
     }
     Ok(())
@@ -36,7 +36,7 @@ fn expect_statements(rt: &impl Abort, alloc: Global, table: &[Reading]) -> Resul
                 assert_eq!(rt; shown.as_str(), *tree, "{text}");
                 assert_eq!(rt; read.large, *large, "{text}");
             }
-            Err(_) => assert!(rt; false, "{text} is not read"),
+            Err(stop) => assert!(rt; false, "{text}: {stop:?}"),
         }
     }
     Ok(())

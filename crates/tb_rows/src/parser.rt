@@ -371,6 +371,40 @@ mod tests {
     }
 
     #[test]
+    fn programs_are_read(rt: HostRuntime) -> Result<(), Fail> {
+        let alloc = rt.alloc();
+        expect_shown(
+            &rt,
+            alloc,
+            b"10 A=A+1\n20 IF A=65 END\n30 GOSUB 10",
+            "10 Let(Letter { index: 0 }, Binary(Add, Variable(Letter { index: 0 }), Number(1))); \
+             20 If(Variable(Letter { index: 0 }), Eq, Number(65), End); 30 Gosub(Number(10)); ",
+        );
+        expect_shown(
+            &rt,
+            alloc,
+            b"10 GOTO 30\n20 RETURN\n30 INPUT A,B",
+            "10 Goto(Number(30)); 20 Return; \
+             30 Input([Letter { index: 0 }, Letter { index: 1 }]); ",
+        );
+        let mut nested = b"10 PRINT ".to_vec(alloc)?;
+        for _ in 0..16 {
+            nested.extend_from_slice(b"1+(")?;
+        }
+        nested.push(b'1')?;
+        for _ in 0..16 {
+            nested.push(b')')?;
+        }
+        match parse(alloc, &nested) {
+            Ok(program) => assert!(rt; !program.is_empty()),
+            Err(error) => assert!(rt; false, "{error:?}"),
+        }
+        nested.push(b')')?;
+        expect_error(&rt, alloc, &nested, Syntax, 1, 75);
+        Ok(())
+    }
+
+    #[test]
     fn assignment_behind_a_condition(rt: HostRuntime) {
         let alloc = rt.alloc();
         expect_shown(

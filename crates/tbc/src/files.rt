@@ -1,4 +1,5 @@
-//! Files: a file that can't be opened for reading is a read fault, one that can't be opened for writing a write fault.
+//! Files: one that can't be opened for reading is a read fault, one that can't be opened for writing a
+//! write fault.
 use std::alloc::Global;
 use std::rt::Files;
 use std::{fs, io};

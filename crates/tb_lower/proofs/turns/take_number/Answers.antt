@@ -1,4 +1,4 @@
-use Rattle.std.proofs.Common.{◌-◌, get_or, drop, ◌+◌, refl, ap, ◌∙◌, arith}
+use Rattle.std.proofs.Common.{get_or, drop, ◌+◌, refl, ◌∙◌, arith}
 use Rattle.tb_lower.specs.Turns.{reading_of}
 use Rattle.tb_lower.proofs.Turning.{keeps, sign_turn, digit_turn, read_turn}
 use Rattle.tb_lower.proofs.turns.take_number.Goals as goal

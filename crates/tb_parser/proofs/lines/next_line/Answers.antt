@@ -1,4 +1,4 @@
-use Rattle.std.proofs.Common.{◌≡◌, arith, sym, ◌∙◌, length-drop}
+use Rattle.std.proofs.Common.{arith, sym, ◌∙◌, length-drop}
 use Rattle.tb_parser.proofs.FirstLine.{first_line, only_line}
 use Rattle.tb_parser.proofs.Steps.{rest_of}
 use Rattle.tb_parser.proofs.lines.next_line.Goals as goal

@@ -1,4 +1,4 @@
-use Rattle.std.proofs.Common.{◌≡◌, ℕ, List, Result, Ok, Err, IfSome, ap, refl, sym, subst, ◌∙◌}
+use Rattle.std.proofs.Common.{◌≡◌, ℕ, List, Result, Ok, Err, ap, refl, sym, subst, ◌∙◌}
 use Rattle.tb_syntax.specs.Source.{Expression}
 use Rattle.tb_syntax.specs.Shown.{expression_of}
 use Rattle.tb_parser.specs.declared.errors.Fault.{Fault}

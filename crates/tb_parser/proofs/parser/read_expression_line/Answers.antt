@@ -4,9 +4,8 @@ use Rattle.tb_syntax.specs.declared.expressions.Expr.{Expr}
 use Rattle.tb_syntax.specs.Source.{Expression}
 use Rattle.tb_syntax.specs.Shown.{expression_of}
 use Rattle.tb_parser.specs.declared.errors.Fault.{Fault}
-use Rattle.tb_parser.specs.declared.squeeze.Placed.{Placed}
 use Rattle.tb_parser.specs.Answers.{Says, refusal_of}
-use Rattle.tb_parser.specs.Readings.{Refusal, Expresses, ExpressionIs, IsFit, IsUnfit, TextIs, unfit_text, fit_text}
+use Rattle.tb_parser.specs.Readings.{Expresses, ExpressionIs, IsFit, IsUnfit, TextIs, unfit_text, fit_text}
 use Rattle.tb_parser.specs.Squeezed.{squeezed}
 use Rattle.tb_parser.proofs.Told.{passes}
 use Rattle.tb_parser.proofs.parser.read_expression_line.Goals as goal

@@ -1,4 +1,4 @@
-use Rattle.std.proofs.Common.{◌≡◌, ◌≢◌, ◌∙◌, arith, ℕ, List, [], ◌∷◌, true, false, length, sym, refl, ap, Option, Some, Result, Ok, Err, IfSome, ◌==◌}
+use Rattle.std.proofs.Common.{◌≡◌, ◌≢◌, ◌∙◌, arith, ℕ, List, [], ◌∷◌, true, false, length, sym, refl, Some, Err, IfSome, ◌==◌}
 use Rattle.std.proofs.lemmas.Result.{err_from_is_err_and}
 use Rattle.tb_syntax.specs.Source.{Command}
 use Rattle.tb_syntax.specs.Shown.{command_of}

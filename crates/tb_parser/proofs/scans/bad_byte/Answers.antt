@@ -1,6 +1,4 @@
-use Rattle.std.proofs.Common.{◌≡◌, ◌+◌, ◌∙◌, arith, sym, ap}
-use Rattle.tb_parser.specs.declared.squeeze.Mode.{Mode}
-use Rattle.tb_parser.specs.Scans.{first_bad}
+use Rattle.std.proofs.Common.{◌+◌, ◌∙◌, arith, sym}
 use Rattle.tb_parser.proofs.Steps.{bad_later, bad_here, bad_nowhere}
 use Rattle.tb_parser.proofs.scans.bad_byte.Goals as goal
 

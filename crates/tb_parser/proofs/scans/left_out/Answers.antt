@@ -1,4 +1,4 @@
-use Rattle.std.proofs.Common.{◌≡◌, ◌<◌, ◌∙◌, refl, arith, sym, get_or, length, true, false, ◌&&◌, drop}
+use Rattle.std.proofs.Common.{◌≡◌, ◌<◌, ◌∙◌, refl, arith, sym, get_or, length, false, ◌&&◌, drop}
 use Rattle.tb_parser.specs.declared.squeeze.Placed.{Placed}
 use Rattle.tb_parser.specs.Scans.{is_left_out}
 use Rattle.tb_parser.proofs.Steps.{rest_of, left_out_later, left_out_here, left_out_nowhere}

@@ -1,5 +1,5 @@
-use Rattle.std.proofs.Common.{◌≡◌, ◌+◌, ◌*◌, ◌∙◌, arith, sym, ap}
-use Rattle.tb_parser.specs.Scans.{Counted, number_at}
+use Rattle.std.proofs.Common.{◌+◌, ◌*◌, ◌∙◌, arith, sym, ap}
+use Rattle.tb_parser.specs.Scans.{Counted}
 use Rattle.tb_parser.proofs.Numbers.{grows, number_ends}
 use Rattle.tb_parser.proofs.scans.line_number.Goals as goal
 

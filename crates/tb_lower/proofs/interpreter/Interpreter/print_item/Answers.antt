@@ -1,7 +1,6 @@
-use Rattle.std.proofs.Common.{ℕ}
 use Rattle.std.proofs.lemmas.Result.{err_from_is_err_and}
 use Rattle.tb_words.specs.Words.{digits_of}
-use Rattle.tb_lower.specs.Control.{State, send}
+use Rattle.tb_lower.specs.Control.{send}
 use Rattle.tb_lower.proofs.interpreter.Interpreter.print_item.Goals as goal
 
 pub returns-in_err-value-in-Value : goal.returns-in_err-value-in-Value

@@ -1,4 +1,4 @@
-use Rattle.std.proofs.Common.{◌≡◌, ◌++◌, take, drop}
+use Rattle.std.proofs.Common.{◌≡◌, ◌++◌, drop}
 use Rattle.tb_lower.specs.Control.{column_after}
 use Rattle.tb_lower.proofs.output.Output.send_all.Given as goal
 

@@ -8,8 +8,8 @@ use Rattle.tb_cpu.specs.declared.registers.Regs.{Regs}
 use Rattle.tb_cpu.specs.declared.wrong.Wrong.{Wrong}
 use Rattle.tb_cpu.specs.Operands.{Reader, and_then, zero_page_pointer, indirect_address, is_accumulator}
 use Rattle.tb_cpu.specs.Instructions.{advanced, executed_on_a}
-use Rattle.tb_reaching.specs.View.{View, Part}
-use Rattle.tb_reaching.specs.Acting.{read_view, finish_view, act_operand}
+use Rattle.tb_reaching.specs.View.{View, Part, Bytes}
+use Rattle.tb_reaching.proofs.Acting.{read_view, finish_view, act_operand}
 
 -- ---- code
 
@@ -40,11 +40,6 @@ instr_bytes i = bytes_by (find_row rows i.opcode) i
 abbrev pub flat : List Instr → List ℕ
 flat [] = []
 flat (i ∷ is) = instr_bytes i ++ flat is
-
--- these bytes stand from an address on
-abbrev pub Bytes : Part → ℕ → List ℕ → Type 0
-Bytes code at [] = Unit {0}
-Bytes code at (b ∷ bs) = (code at ≡ Some b) × Bytes code ((at + 1) % 65536) bs
 
 -- these instructions stand one behind the other
 abbrev pub Stands : Part → ℕ → List Instr → Type 0
