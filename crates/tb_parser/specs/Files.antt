@@ -4,6 +4,7 @@ use Rattle.tb_syntax.specs.Source.{Command, Numbered, Program}
 use Rattle.tb_parser.specs.declared.errors.SourceErrorKind.TheVariants.{Empty}
 use Rattle.tb_parser.specs.Readings.{Refusal, Edit, Nothing, Sets, Deletes, LineIs}
 
+-- a line of a program
 abbrev pub line_at : ℕ → Command → Numbered Command
 line_at number c = record { number = number; content = c }
 
@@ -20,6 +21,7 @@ abbrev pub without_line : ℕ → Program → Program
 without_line number [] = []
 without_line number (line ∷ lines) = if number == line.number then lines else line ∷ without_line number lines
 
+-- a program behind a line of its file
 abbrev pub edited : Edit → Program → Program
 edited Nothing p = p
 edited (Sets number c) p = with_line number c p
@@ -30,6 +32,7 @@ pub record FileRefusal : Type 0 where
   pub line : ℕ
   pub refusal : Refusal
 
+-- a line's refusal at its place in the file
 abbrev pub refused_at : ℕ → Refusal → FileRefusal
 refused_at line r = record { line = line; refusal = r }
 

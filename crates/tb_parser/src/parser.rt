@@ -14,7 +14,6 @@ ghost use Rattle.tb_parser.specs.Scans.{column_left, left_out_word};
 use crate::edits::{LineEdit, apply};
 use crate::errors::{Fault, OUT_OF_MEMORY, SourceError, SourceErrorKind};
 use crate::lines::next_line;
-use crate::recognizer::{Start, syntax_column};
 use crate::scans::{bad_byte, column_of_left, is_numbered, left_out, line_number, written};
 use crate::squeeze::{Placed, bytes_of, squeeze};
 use std::alloc::Global;
@@ -127,7 +126,7 @@ fn read_command(alloc: Global, line: &[u8], text: &[Placed]) -> Result<Statement
     match read_statement(alloc, &bytes) {
         Ok(read) => in_range(read.statement, read.large, text),
         Err(Stop::NoMemory) => Err(OUT_OF_MEMORY),
-        Err(Stop::NoReading(_)) => Err(unread(line, text, Start::Line)),
+        Err(Stop::NoReading(left)) => Err(unread(line, text, left)),
     }
 }
 
@@ -148,7 +147,7 @@ fn read_value(alloc: Global, line: &[u8], text: &[Placed]) -> Result<Expr, Fault
     match read_expression(alloc, &bytes) {
         Ok(read) => in_range(read.expr, read.large, text),
         Err(Stop::NoMemory) => Err(OUT_OF_MEMORY),
-        Err(Stop::NoReading(_)) => Err(unread(line, text, Start::Expression)),
+        Err(Stop::NoReading(left)) => Err(unread(line, text, left)),
     }
 }
 
@@ -165,8 +164,8 @@ fn in_range<T: Drop>(tree: T, large: Option<usize>, text: &[Placed]) -> Result<T
     }
 }
 
-// Why a text has no reading.
-fn unread(line: &[u8], text: &[Placed], start: Start) -> Fault
+// Why a text of a line has no reading; `left` is how many bytes are left from the first token on that cannot stand there.
+fn unread(line: &[u8], text: &[Placed], left: usize) -> Fault
     ensures { MatchOption (left_out_word text.now) (result.kind ≡ Syntax) (λ column. result ≡ record { kind = NotCompiled; column = column }) }
 {
     match left_out(text) {
@@ -176,7 +175,10 @@ fn unread(line: &[u8], text: &[Placed], start: Start) -> Fault
         },
         None => Fault {
             kind: SourceErrorKind::Syntax,
-            column: syntax_column(line, start),
+            column: match left {
+                0 => line.len() + 1,
+                _ => column_of_left(text, left),
+            },
         },
     }
 }
