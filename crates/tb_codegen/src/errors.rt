@@ -1,4 +1,7 @@
 //! Why a source text is not compiled.
+ghost use Rattle.std.specs.Prelude.{◌≡◌};
+ghost use Rattle.tb_codegen.specs.Answers.{of_source, of_lower};
+
 use std::alloc::AllocError;
 use tb_lower::LowerError;
 use tb_memmap::NoMemory;
@@ -11,13 +14,15 @@ pub enum CompileError {
     Source(SourceError),
     /// An expression needs too many slots.
     Lower(LowerError),
-    /// The program's cost in bytes is more than there is room for.
+    /// The program's cost, in bytes, is above 37,888.
     TooLarge(u32),
     /// Memory ran out.
     NoMemory,
 }
 
 impl From<SourceError> for CompileError {
+    ghost from_gives = { λ e r. r ≡ of_source e };
+
     fn from(e: SourceError) -> Self {
         match e.kind {
             SourceErrorKind::NoMemory => CompileError::NoMemory,
@@ -27,6 +32,8 @@ impl From<SourceError> for CompileError {
 }
 
 impl From<LowerError> for CompileError {
+    ghost from_gives = { λ e r. r ≡ of_lower e };
+
     fn from(e: LowerError) -> Self {
         match e {
             LowerError::NoMemory => CompileError::NoMemory,
@@ -36,12 +43,20 @@ impl From<LowerError> for CompileError {
 }
 
 impl From<AllocError> for CompileError {
+    ghost use Rattle.tb_codegen.specs.declared.errors.CompileError.TheVariants.{NoMemory};
+
+    ghost from_gives = { λ _ r. r ≡ NoMemory };
+
     fn from(_: AllocError) -> Self {
         CompileError::NoMemory
     }
 }
 
 impl From<NoMemory> for CompileError {
+    ghost use Rattle.tb_codegen.specs.declared.errors.CompileError.TheVariants as error;
+
+    ghost from_gives = { λ _ r. r ≡ error.NoMemory };
+
     fn from(_: NoMemory) -> Self {
         CompileError::NoMemory
     }

@@ -3,10 +3,10 @@
 
 mod compiled;
 mod compiler;
-mod cost;
+mod costs;
 mod errors;
 
 pub use compiled::Compiled;
 pub use compiler::{Options, compile};
-pub use cost::cost;
+pub use costs::cost;
 pub use errors::CompileError;
