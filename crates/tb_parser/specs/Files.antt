@@ -1,6 +1,7 @@
 -- The program of a file, line by line.
-use Rattle.std.specs.Prelude.{ℕ, ◌+◌, ◌<◌, ◌≤◌, List, [], ◌∷◌, Some, Result, Ok, Err, if◌then◌else◌, ◌==◌, nat_lt}
+use Rattle.std.specs.Prelude.{ℕ, ◌+◌, ◌<◌, ◌≤◌, List, [], ◌∷◌, length, Some, None, Result, Ok, Err, if◌then◌else◌, ◌==◌, nat_lt}
 use Rattle.tb_syntax.specs.Source.{Command, Numbered, Program}
+use Rattle.tb_grammar.specs.Statements.{States}
 use Rattle.tb_parser.specs.declared.errors.SourceErrorKind.TheVariants.{Empty}
 use Rattle.tb_parser.specs.Readings.{Refusal, Edit, Nothing, Sets, Deletes, LineIs}
 
@@ -56,3 +57,13 @@ pub data LinesAre : ℕ → Program → List (List ℕ) → Outcome → Type 0 w
 abbrev pub RisesFrom : ℕ → List ℕ → Type 0
 RisesFrom low [] = Unit {0}
 RisesFrom low (n ∷ ns) = (low < n) × (n ≤ 32767) × RisesFrom n ns
+
+-- a statement that stands in a text of at most 255 bytes
+pub record IsStated (c : Command) : Type 0 where
+  pub text : List ℕ
+  pub short : length text ≤ 255
+  pub states : States text c None
+
+abbrev pub AreStated : Program → Type 0
+AreStated [] = Unit {0}
+AreStated (line ∷ lines) = IsStated line.content × AreStated lines

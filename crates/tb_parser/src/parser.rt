@@ -5,7 +5,7 @@ ghost use Rattle.tb_syntax.specs.Shown.{command_of, expression_of, lines_of};
 ghost use Rattle.tb_grammar.specs.Statements.{States};
 ghost use Rattle.tb_parser.specs.declared.errors.SourceErrorKind.TheVariants.{NoMemory, NotCompiled, NumberTooLarge, Syntax};
 ghost use Rattle.tb_parser.specs.Answers.{edit_of, refusal_of, Answers, InLineOne, Says};
-ghost use Rattle.tb_parser.specs.Files.{FileRefusal, LinesAre, Outcome, RisesFrom};
+ghost use Rattle.tb_parser.specs.Files.{AreStated, FileRefusal, LinesAre, Outcome, RisesFrom};
 ghost use Rattle.tb_parser.specs.Lines.{lines_of_file};
 ghost use Rattle.tb_parser.specs.Readings.{Expresses, ExpressionIs, IsFit, IsUnfit, LineIs, TextIs};
 ghost use Rattle.tb_parser.specs.Refusals.{out_of_memory};
@@ -34,6 +34,8 @@ pub fn parse(alloc: Global, source: &[u8]) -> Result<Program, SourceError>
     ensures found { Answers lines_of result (LinesAre 1 [] (lines_of_file source.now)) }
     // The numbers rise, from 1 to 32,767 at most.
     ensures rising { IfOk result (λ p. RisesFrom 0 (numbers (lines_of p))) }
+    // Each statement stands in a text that fits a line.
+    ensures stated { IfOk result (λ p. AreStated (lines_of p)) }
     // And what they make is answered.
     ensures only { (outcome : Outcome) → LinesAre 1 [] (lines_of_file source.now) outcome → Answers lines_of result (λ said. said ≡ outcome) }
     ensures memory { IfErr result (λ e. e.kind ≡ NoMemory → e ≡ out_of_memory) }

@@ -71,7 +71,7 @@ list_append : (xs ys : List Instr) → list_room (xs ++ ys) ≡ list_room xs + l
 list_append [] ys = omega arith
 list_append (x ∷ xs) ys = let e = list_append xs ys in omega (arith, e)
 
-one_node : (e : Expression) → 1 ≤ nodes e
+pub one_node : (e : Expression) → 1 ≤ nodes e
 one_node (Number n) = omega arith
 one_node (Variable x) = omega arith
 one_node (source.Negate e) = omega arith
@@ -129,7 +129,7 @@ newline_room : (ends : Bool) → list_room (newline_code ends) ≤ 5
 newline_room true = omega arith
 newline_room false = omega arith
 
-items_pay : (is : List Item) → items_cost is ≡ sum_by item_cost is
+pub items_pay : (is : List Item) → items_cost is ≡ sum_by item_cost is
 items_pay [] = refl
 items_pay (i ∷ is) = ap (λ n. item_cost i + n) (items_pay is) ∙ sym (sum_by-cons item_cost i is)
 

@@ -1,0 +1,6 @@
+//! Worked rows of compiled programs, as tests. The crate has nothing else: a crate with tests is proved twice, so the
+//! crates that they test have none.
+#![tactic(auto)]
+
+#[cfg(test)]
+mod codegen;
