@@ -59,7 +59,7 @@ module _ (place : ℕ) (bytes : List ℕ) (from : 0x0800 ≤ place) (to : place 
     begins_so = at_start place bytes from to (inner ly (part_at place bytes)) (inner_within ly (part_at place bytes)) s h.start
 
     pub room_so : Fits (setup s) 16
-    room_so = fits_start place bytes from to (inner ly (part_at place bytes)) (inner_within ly (part_at place bytes)) s h.start
+    room_so = let k : Fits (setup s) 18 = fits_start place bytes from to (inner ly (part_at place bytes)) (inner_within ly (part_at place bytes)) s h.start in omega (arith, k)
 
     pub above_so : (setup s).home_s + length (setup s).rest ≡ 255
     above_so = (homed_start place bytes from to (inner ly (part_at place bytes)) (inner_within ly (part_at place bytes)) s h.start).above

@@ -1,7 +1,7 @@
 -- A program that lies where its labels say is laid out as the laws of the templates want it.
-use Rattle.std.proofs.Common.{◌≡◌, ◌⊎◌, ℕ, ◌+◌, ◌/◌, ◌%◌, ◌≤◌, ◌<◌, Bool, true, false, ◌||◌, List, [], ◌∷◌, ◌++◌, length, refl, sym, ap, ◌∙◌, subst, inl, inr, ⊎_elim, arith, Some, None}
+use Rattle.std.proofs.Common.{leb, ◌≡◌, ◌⊎◌, ℕ, ◌+◌, ◌/◌, ◌%◌, ◌≤◌, ◌<◌, Bool, true, false, ◌||◌, List, [], ◌∷◌, ◌++◌, length, refl, sym, ap, ◌∙◌, subst, inl, inr, ⊎_elim, arith, Some, None}
 use Rattle.std.specs.Prelude.{if◌then◌else◌, nat_eq}
-use Rattle.std.proofs.lemmas.Bool.{eq-eqb, ne_eqb}
+use Rattle.std.proofs.lemmas.Bool.{leb-true, eq-eqb, ne_eqb}
 use Rattle.tb_opcodes.specs.declared.Mnemonic.TheVariants.{Jmp}
 use Rattle.tb_opcodes.specs.Opcodes as opcodes
 use Rattle.tb_asm.specs.declared.names.Name.{Name}
@@ -15,13 +15,14 @@ use Rattle.tb_syntax.specs.Source.{numbers}
 use Rattle.tb_lower.specs.Control.{Place, At, Past, next_after, has_line, highest, content_at}
 use Rattle.tb_lower.specs.Slots as slots
 use Rattle.tb_lower.specs.Ranges.{AreInRange}
-use Rattle.tb_runtime16.specs.Places.{LINE, TABLE, COUNT, SEARCH_AT}
+use Rattle.tb_runtime16.specs.Places.{COUNT, LINE, LINES_AT, PROLOGUE_AT, SEARCH_AT, TABLE}
 use Rattle.tb_templates.specs.declared.labels.Target.TheVariants as target
 use Rattle.tb_templates.specs.Layout.{LabelsAt}
 use Rattle.tb_templates.specs.Templates as product
 use Rattle.tb_templates.specs.Templates.{next_line}
 use Rattle.tb_templates.specs.Program as program
 use Rattle.tb_templates.proofs.Fitting.{size_append}
+use Rattle.tb_runtime16.specs.Block.{block_bytes}
 use Rattle.tb_keeping.specs.Layout.{Layout, Lies, place_of, layout_of, place_at, next_at, is_start, inner, IsClear, LineLies, Laid}
 use Rattle.tb_keeping.proofs.Resolved as resolved
 use Rattle.tb_keeping.proofs.Resolved.{Piece, pieces_size, RestLies, LaidOut, constant, faulting, jump, highest_code}
@@ -231,6 +232,19 @@ module _ (labels : List (Name × ℕ)) (seed : ℕ) (code : Part) (sc : slots.Sl
       (pieces at (program.find_code ns) (resolved.locate_code laid_layout) (inside at (program.find_code ns) laid.find laid.find_clear)
       (joined labels ns seed at 10 (product.here target.Find ∷ product.address target.Table TABLE) (product.constant (length ns) COUNT ++ (product.at Jmp SEARCH_AT ∷ [])) _ _ refl (address_bytes labels ns seed at target.Table (place_of labels target.Table) TABLE refl table_small)
       (joined labels ns seed (at + 10) 10 (product.constant (length ns) COUNT) (product.at Jmp SEARCH_AT ∷ []) _ _ refl (constant_bytes labels ns seed (at + 10) (length ns) COUNT laid.count_small) refl))).1
+
+  -- the block and the line table lie among the inner bytes, for the routines
+  block_short : leb (length block_bytes) 1011 ≡ true
+  block_short = refl
+
+  pub block_lies : Bytes within PROLOGUE_AT block_bytes
+  block_lies =
+      let short : length block_bytes ≤ 1011 = leb-true (length block_bytes) 1011 block_short in
+      inner_bytes laid_layout code PROLOGUE_AT block_bytes (omega (arith, short))
+      (λ a lo hi. none_between PROLOGUE_AT LINES_AT (λ n e. inr (line_of n e).1.after_block) a lo (omega (arith, hi, short))) laid.block
+
+  pub table_lies : Lies within labels (place_of labels target.Table) (program.table_code ns)
+  table_lies = inside (place_of labels target.Table) (program.table_code ns) laid.table laid.table_clear
 
   -- fault 7's code is no line's start, and a line's label is one
   pub past_apart : is_start laid_layout.start laid_layout.numbers laid_layout.past ≡ false

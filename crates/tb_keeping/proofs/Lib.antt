@@ -22,3 +22,4 @@ pub mod Whole
 pub mod Placed
 pub mod LineStarts
 pub mod Marks
+pub mod Callees

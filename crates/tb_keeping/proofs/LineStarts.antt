@@ -8,6 +8,7 @@ use Rattle.tb_kernal.specs.declared.places.Service.TheVariants.{Chrout, Chrin, G
 use Rattle.tb_kernal.specs.Places.{service_at}
 use Rattle.tb_kernal.specs.Machine as machine
 use Rattle.tb_kernal.specs.Machine.{happens}
+use Rattle.tb_reaching.proofs.Laws.{interrupt_sends_nothing}
 use Rattle.tb_reaching.specs.Reaching.{Arrived, OnTheWay}
 use Rattle.tb_reaching.specs.View.{Setup, Part, At, Among, UnderWay, is_data, is_program, part_at}
 use Rattle.tb_reaching.specs.Start.{view_of, home_low, home_high}
@@ -109,7 +110,7 @@ module _ (place : ℕ) (bytes : List ℕ) (from : 0x0800 ≤ place) (to : place 
 
   others_keep : (c : SlotState) (e : Event) (t : machine.State) → is_go e ≡ false → IsLawful e t → Mirrored c t → Mirrored c (move e t) × (sent (move e t) ≡ sent t)
   others_keep c (Go k) t not_go l r = cc
-  others_keep c (Interrupt ws) t not_go l r = let a = kept_by_interrupt f r.0 t r.1 ws l in ((r.0, a.0, r.2), a.1)
+  others_keep c (Interrupt ws) t not_go l r = let a = kept_by_interrupt f r.0 t r.1 ws l in ((r.0, a, r.2), interrupt_sends_nothing t ws)
 
   entry : (c : SlotState) (t : machine.State) → Mirrored c t → starts ly t ≡ lines_at sc c.rest c.state.place
   entry c t r = by c.rest c.state.place (laws s h c r.0 r.2) r.2.pc
@@ -145,7 +146,7 @@ module _ (place : ℕ) (bytes : List ℕ) (from : 0x0800 ≤ place) (to : place 
 
   entry_keeps : (e : Event) (t : machine.State) → is_go e ≡ false → IsLawful e t → At f (view_of s) t → At f (view_of s) (move e t) × (sent (move e t) ≡ sent t)
   entry_keeps (Go k) t not_go l a = cc
-  entry_keeps (Interrupt ws) t not_go l a = kept_by_interrupt f (view_of s) t a ws l
+  entry_keeps (Interrupt ws) t not_go l a = (kept_by_interrupt f (view_of s) t a ws l, interrupt_sends_nothing t ws)
 
   entry_none : (t : machine.State) → At f (view_of s) t → starts ly t ≡ 0
   entry_none t a = no_start t (begins f (view_of s) _ _ _ (prologue s h) t a)

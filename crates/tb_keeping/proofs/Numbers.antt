@@ -8,7 +8,8 @@ use Rattle.tb_opcodes.specs.declared.Mode.TheVariants.{Relative}
 use Rattle.tb_opcodes.specs.Opcodes as opcodes
 use Rattle.tb_asm.specs.declared.names.Name.{Name}
 use Rattle.tb_asm.specs.declared.items.Operand.TheVariants.{Label, LowOf, HighOf}
-use Rattle.tb_asm.specs.Layout.{Entry, number_in, address_in, option_map, bytes_from, size, distance, opcode_of}
+use Rattle.tb_asm.specs.Layout.{Entry, number_in, address_in, bytes_from, size, distance, opcode_of}
+use Rattle.std.specs.Option.{option_map}
 use Rattle.tb_asm.proofs.Laws.{bytes_append}
 use Rattle.tb_reaching.proofs.Instr.{ins, flat}
 use Rattle.tb_syntax.specs.declared.expressions.Operator.TheVariants as op

@@ -97,9 +97,8 @@ pub record Laid (labels : List (Name × ℕ)) (seed : ℕ) (code : Part) (progra
   pub find_clear : IsClear labels (numbers program) (place_of labels target.Find) (find_code (numbers program))
   pub table : Lies code labels (place_of labels target.Table) (table_code (numbers program))
   pub table_clear : IsClear labels (numbers program) (place_of labels target.Table) (table_code (numbers program))
-  -- the first line follows the block, and all else the lines
+  -- the lines begin behind the block
   pub first : place_at (layout_of labels (numbers program) seed) (first_place (numbers program)) ≡ LINES_AT
-  pub behind : LINES_AT ≤ place_of labels target.Past
   pub seed_small : seed < 65536
   pub count_small : length (numbers program) < 65536
   pub bytes_small : (a b : ℕ) → code a ≡ Some b → b < 256
