@@ -1,19 +1,18 @@
 -- The laws of all routines in one form, from the block's bytes.
-use Rattle.std.proofs.Common.{◌≡◌, ◌≢◌, ℕ, suc, ◌+◌, ◌-◌, ◌*◌, ◌/◌, ◌%◌, ◌<◌, ◌≤◌, Bool, true, false, ◌&&◌, ◌||◌, List, [], ◌∷◌, ◌++◌, length, refl, sym, ap, ◌∙◌, subst, ⊎_elim, inl, inr, ◌⊎◌, arith, eqb, drop, Some, None, append-nil}
+use Rattle.std.proofs.Common.{◌≡◌, ◌≢◌, ℕ, suc, ◌+◌, ◌*◌, ◌%◌, ◌<◌, ◌≤◌, Bool, true, false, ◌||◌, List, [], ◌∷◌, ◌++◌, length, refl, sym, ap, ◌∙◌, subst, ⊎_elim, inl, inr, ◌⊎◌, arith, drop, append-nil}
 use Rattle.std.specs.Prelude.{nat_eq, nat_le, ◌==◌, if◌then◌else◌}
-use Rattle.std.proofs.lemmas.Bool.{ne_eqb, eq-eqb, cases_eq, le-leb, false≢true, or_cases, eqb-true, leb-true}
+use Rattle.std.proofs.lemmas.Bool.{eq-eqb, cases_eq, or_cases, eqb-true, leb-true}
 use Rattle.std.proofs.lemmas.Bool.Decides.{nat_tests}
 use Rattle.tb_cpu.specs.Effects.{bit}
 use Rattle.tb_kernal.specs.Machine.{first_or_zero}
-use Rattle.tb_kernal.specs.Places.{within}
 use Rattle.tb_words.specs.Words.{word, quotient, digits_of, seed_after}
 use Rattle.tb_lower.specs.Control.{fault_text, zone, column_after, has_line}
-use Rattle.tb_lower.specs.Input.{Turn, Got, Bad, Dry, Nothing, turn}
+use Rattle.tb_lower.specs.Input.{Got, Bad, Dry, Nothing, turn}
 use Rattle.tb_runtime16.specs.Places.{POINTER, COLUMN, OPEN, SEEDED, HOME_S, SEED, LINE, NOTES, LEFT, RIGHT, RESULT, TABLE, COUNT, LENGTH, NOTE_LIST, SEND_AT, MULTIPLY_AT, DIVIDE_AT, RANDOM_AT, NUMBER_AT, TEXT_AT, ZONE_AT, INPUT_AT, SEARCH_AT, PUSH_AT, POP_AT, FAULT_AT, POLL_AT}
 use Rattle.tb_reaching.specs.View.{View, Setup, Part, Holds, Fits, Comes, view, back_at, Bytes}
 use Rattle.tb_reaching.specs.Start.{IsHome, IsWaiting}
 use Rattle.tb_reaching.proofs.Comes.{looser}
-use Rattle.tb_reaching.proofs.Calls.{under, stacked_on}
+use Rattle.tb_reaching.proofs.Calls.{under}
 use Rattle.tb_reaching.proofs.Parts.{holds_then}
 use Rattle.tb_routines.specs.Parts.{block_part, send_part, multiply_part, divide_part, random_part, number_part, text_part, zone_part, input_part, search_part, fault_part, poll_part}
 use Rattle.tb_routines.specs.Laws.{AllBytes, word_at, IsWord}
@@ -23,8 +22,8 @@ use Rattle.tb_routines.specs.Input as asking
 use Rattle.tb_routines.specs.Notes.{notes_part, Held, Notes, Faulted}
 use Rattle.tb_routines.specs.Notes as listed
 use Rattle.tb_routines.specs.Search.{search_changes, Shows, table_bytes, address_of, Searched, Found}
-use Rattle.tb_routines.specs.Routines.{WordAt, is_owned, Noted, SeedAt, stored, first, Entered, Here, WithA, Moves, Waiting, Back, Gives, Told, Popped, Pushed, Drawn, Asked, prompt, line_end, Routines, Tabled, entries, limit_by, AllLaws}
-use Rattle.tb_routines.proofs.Gathered.{value, small_bytes, holds_word, same_place, from_here, from_a, beside, AtFault, told, faulting, number_column, entries_length, found, not_found}
+use Rattle.tb_routines.specs.Routines.{WordAt, is_owned, Noted, SeedAt, stored, first, Entered, Here, WithA, Moves, Waiting, Back, Gives, Told, Popped, Pushed, Drawn, Asked, prompt, line_end, Tabled, entries, limit_by, AllLaws}
+use Rattle.tb_routines.proofs.Gathered.{value, small_bytes, holds_word, from_here, from_a, beside, AtFault, told, faulting, number_column, entries_length, found, not_found}
 use Rattle.tb_routines.proofs.Block.{send_held, multiply_held, divide_held, random_held, number_held, text_held, zone_held, input_held, search_held, fault_held, poll_held, notes_held}
 use Rattle.tb_routines.proofs.SendRuns.{send_law}
 use Rattle.tb_routines.proofs.TextRuns.{text_law}

@@ -1,11 +1,11 @@
 -- From a routine's law to the form in which the code of the lines needs it.
-use Rattle.std.proofs.Common.{◌≡◌, ◌≢◌, ℕ, zero, suc, ◌+◌, ◌*◌, ◌/◌, ◌%◌, ◌<◌, ◌≤◌, Bool, true, false, ◌||◌, List, [], ◌∷◌, ◌++◌, length, refl, sym, ap, ◌∙◌, subst, ⊎_elim, arith, eqb, Some, None, append-nil}
+use Rattle.std.proofs.Common.{◌≡◌, ◌≢◌, ℕ, zero, suc, ◌+◌, ◌/◌, ◌%◌, ◌<◌, ◌≤◌, Bool, true, false, ◌||◌, List, [], ◌∷◌, ◌++◌, length, refl, sym, ap, ◌∙◌, subst, ⊎_elim, arith, Some, None}
 use Rattle.std.specs.Prelude.{nat_lt, if◌then◌else◌}
 use Rattle.std.proofs.lemmas.Bool.{ne_eqb, eq-eqb, cases_eq}
 use Rattle.tb_words.specs.Words.{is_negative, magnitude, digits_before, digits_of}
 use Rattle.tb_lower.specs.Control.{fault_text, column_after, has_line}
 use Rattle.tb_runtime16.specs.Places.{HOME_S, LINE, FAULT_AT}
-use Rattle.tb_reaching.specs.View.{View, Setup, Fits, Comes, view, back_at}
+use Rattle.tb_reaching.specs.View.{View, Setup, Fits, Comes, view}
 use Rattle.tb_reaching.specs.Start.{IsHome}
 use Rattle.tb_reaching.proofs.Comes.{known, looser}
 use Rattle.tb_reaching.proofs.Calls.{calling, framed, under, stacked_on}
