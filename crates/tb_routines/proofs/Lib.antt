@@ -21,3 +21,5 @@ pub mod Tables
 pub mod Through
 pub mod SearchRuns
 pub mod Block
+pub mod Gathered
+pub mod AllLaws

@@ -5,7 +5,6 @@ use Rattle.tb_kernal.specs.Machine.{State, first_or_zero}
 use Rattle.tb_kernal.specs.Starts.{IsStart}
 use Rattle.tb_reaching.specs.View.{View, Setup, Part, Holds, Fits, Comes, view, back_at, part_at}
 use Rattle.tb_reaching.specs.Start.{setup_of, view_of, home_low, home_high, IsHome, Homed}
-use Rattle.tb_words.specs.Words.{digits_of}
 use Rattle.tb_lower.specs.Control.{fault_text}
 use Rattle.tb_runtime16.specs.Places.{FAULT_AT, POLL_AT, HOME_S, LINE}
 use Rattle.tb_routines.specs.Parts.{prologue_part, fault_part, poll_part, send_part, number_part, divide_part}

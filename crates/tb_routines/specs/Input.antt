@@ -1,8 +1,7 @@
 -- What Input promises: one variable's turn.
-use Rattle.std.specs.Prelude.{◌≡◌, ℕ, ◌+◌, ◌-◌, ◌*◌, ◌%◌, ◌≤◌, Bool, true, false, ◌&&◌, ◌||◌, List, [], ◌∷◌, ◌++◌, length, if◌then◌else◌, nat_le, nat_eq, ◌==◌}
+use Rattle.std.specs.Prelude.{◌≡◌, ℕ, ◌+◌, ◌*◌, ◌%◌, ◌≤◌, Bool, true, false, ◌&&◌, ◌||◌, List, [], ◌∷◌, ◌++◌, length, nat_le, ◌==◌}
 use Rattle.tb_reaching.specs.View.{View, Setup, Holds, Fits, Comes, view, back_at}
 use Rattle.tb_reaching.specs.Start.{IsHome, IsWaiting}
-use Rattle.tb_words.specs.Words.{with_sign}
 use Rattle.tb_lower.specs.Control.{column_after, fault_text}
 use Rattle.tb_lower.specs.Input.{Nothing, Turn, Got, Bad, Dry, turn}
 use Rattle.tb_runtime16.specs.Places.{INPUT_AT, COLUMN, LEFT, RESULT, LINE, BYTE, OPEN}

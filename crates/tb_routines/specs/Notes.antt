@@ -3,12 +3,12 @@ use Rattle.std.specs.Prelude.{◌≡◌, ◌<◌, ◌≤◌, Bool, false, ℕ, L
 use Rattle.tb_kernal.specs.Places.{within}
 use Rattle.tb_reaching.specs.View.{View, Setup, Part, Holds, Fits, Comes, part_at, view, back_at}
 use Rattle.tb_runtime16.specs.Places.{PUSH_AT, POP_AT, FAULT_AT, LEFT, RESULT, NOTES, NOTE_LIST}
-use Rattle.tb_runtime16.specs.Block.{push_bytes, pop_bytes}
+use Rattle.tb_routines.specs.declared.code.TheConstants.{PUSH, POP}
 use Rattle.tb_routines.specs.Laws.{word_at, IsWord}
 
 -- Push, the place of a note, and Pop
 abbrev pub notes_part : Part
-notes_part = part_at PUSH_AT (push_bytes ++ pop_bytes)
+notes_part = part_at PUSH_AT (PUSH ++ POP)
 
 -- at an address with a stack; only these places changed
 pub record Stopped (pc : ℕ) (stack : List ℕ) (changes : ℕ → Bool) (m : ℕ → ℕ) (text answers : List ℕ) (w : View) : Type 0 where

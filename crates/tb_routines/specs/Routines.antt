@@ -1,14 +1,14 @@
 -- What the code of the lines needs of the routines and the prologue: the laws in one form, with one bound.
-use Rattle.std.specs.Prelude.{◌≡◌, ◌≢◌, ◌⊎◌, ℕ, suc, ◌+◌, ◌*◌, ◌/◌, ◌%◌, ◌≤◌, ◌<◌, Bool, true, false, ◌&&◌, ◌||◌, List, [], ◌∷◌, ◌++◌, length, drop, nat_eq, nat_lt, nat_le}
+use Rattle.std.specs.Prelude.{◌≡◌, ◌≢◌, ℕ, suc, ◌+◌, ◌*◌, ◌/◌, ◌%◌, ◌≤◌, ◌<◌, Bool, true, false, ◌||◌, List, [], ◌∷◌, ◌++◌, length, drop, nat_eq, nat_le}
 use Rattle.tb_cpu.specs.Effects.{bit}
-use Rattle.tb_kernal.specs.Machine.{State, first_or_zero}
+use Rattle.tb_kernal.specs.Machine.{first_or_zero}
 use Rattle.tb_kernal.specs.Places.{within}
 use Rattle.tb_words.specs.Words.{word, quotient, digits_of, seed_after}
-use Rattle.tb_lower.specs.Control.{fault_text, zone, column_after, has_line, deepest}
+use Rattle.tb_lower.specs.Control.{fault_text, zone, column_after, has_line}
 use Rattle.tb_lower.specs.Input.{Got, Bad, Dry, Nothing, turn}
-use Rattle.tb_runtime16.specs.Places.{POINTER, COLUMN, OPEN, SEEDED, HOME_S, SEED, LINE, NOTES, LEFT, RIGHT, RESULT, TABLE, COUNT, LENGTH, NOTE_LIST, LINES_AT, SEND_AT, MULTIPLY_AT, DIVIDE_AT, RANDOM_AT, NUMBER_AT, TEXT_AT, ZONE_AT, INPUT_AT, SEARCH_AT, PUSH_AT, POP_AT, FAULT_AT, POLL_AT}
+use Rattle.tb_runtime16.specs.Places.{POINTER, COLUMN, OPEN, SEEDED, HOME_S, SEED, LINE, NOTES, LEFT, RIGHT, RESULT, TABLE, COUNT, LENGTH, NOTE_LIST, SEND_AT, MULTIPLY_AT, DIVIDE_AT, RANDOM_AT, NUMBER_AT, TEXT_AT, ZONE_AT, INPUT_AT, SEARCH_AT, PUSH_AT, POP_AT, FAULT_AT, POLL_AT}
 use Rattle.tb_reaching.specs.View.{View, Setup, Part, Holds, Fits, Comes, back_at, Bytes}
-use Rattle.tb_reaching.specs.Start.{IsHome, IsWaiting, Homed, home_low, home_high}
+use Rattle.tb_reaching.specs.Start.{IsHome, IsWaiting, Homed}
 use Rattle.tb_routines.specs.Parts.{block_part}
 use Rattle.tb_routines.specs.Laws.{AllBytes}
 use Rattle.tb_routines.specs.Search.{Line, Shows, table_bytes, Rising, AllWords}

@@ -4,6 +4,7 @@ ghost use Rattle.tb_routines.specs.Ends.{FaultLaw, PollLaw, PrologueLaw};
 ghost use Rattle.tb_routines.specs.Input.{InputLaw};
 ghost use Rattle.tb_routines.specs.Notes.{PushLaw, PushFullLaw, PopLaw, PopNoneLaw};
 ghost use Rattle.tb_routines.specs.Search.{SearchLaw};
+ghost use Rattle.tb_routines.specs.Routines.{AllLaws};
 
 /// Send: the byte in A is sent, and the column kept.
 pub fn send()
@@ -98,4 +99,9 @@ pub fn pop_none()
 /// Search: the address of a line, or Fault with 1.
 pub fn search()
     ensures { SearchLaw }
+{}
+
+/// All routines, in the form in which the code of the lines needs them, with one bound by the keyboard's length.
+pub fn all_routines()
+    ensures { AllLaws }
 {}
