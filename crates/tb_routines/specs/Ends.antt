@@ -47,6 +47,7 @@ pub record Begun (f : Setup) (s : State) (w : View) : Type 0 where
   pub same_text : w.text ≡ s.text
   pub same_answers : w.answers ≡ s.answers
   pub cleared : (a : ℕ) → is_cleared a ≡ true → w.mem a ≡ 0
+  pub bytes : (a : ℕ) → w.mem a < 256
   pub entered : Entered f (home_low s) (home_high s) w.mem
 
 -- from any start to the first line

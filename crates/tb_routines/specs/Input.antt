@@ -53,6 +53,7 @@ Ended f lo hi hlo hhi m replies c before (Got v false rest) w = Taken lo hi hlo 
 Ended f lo hi hlo hhi m replies c before Bad w = IsHome f w
 Ended f lo hi hlo hhi m replies c before Dry w = IsWaiting w × (length w.stack ≤ 6)
 
+-- Input does one variable's turn: back with a number, a fault 6, or waiting for a key
 abbrev pub InputLaw : Type 0
 InputLaw =
     (f : Setup) → Fits f 13 → (hlo hhi : ℕ) → Faulting f.code → Holds input_part f.code → (lo hi : ℕ) (text answers : List ℕ) (m : ℕ → ℕ) → Entered f hlo hhi m → AllBytes text → (is_open : Bool) → m OPEN ≡ one_if is_open → (c : ℕ) → m COLUMN ≡ c % 256 → (a x y : ℕ) (n v i z carry : Bool) →

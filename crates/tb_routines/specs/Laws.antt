@@ -75,6 +75,7 @@ pub record Told (m0 : ℕ → ℕ) (sent : List ℕ) (m : ℕ → ℕ) : Type 0 
   pub column_small : m0 COLUMN < 256 → m COLUMN < 256
   pub others : (a : ℕ) → a ≢ COLUMN → a ≢ POINTER → a ≢ POINTER + 1 → a ≢ LENGTH → m a ≡ m0 a
 
+-- Text sends the bytes it is pointed to, in 15 Go events a byte and 3
 abbrev pub TextLaw : Type 0
 TextLaw =
     (f : Setup) → Fits f 4 → Holds text_part f.code → Holds send_part f.code → (lo hi : ℕ) (text answers : List ℕ) (m : ℕ → ℕ) (a x y : ℕ) (n v i z c : Bool) (bytes : List ℕ) → Points f m bytes →
@@ -100,6 +101,7 @@ pub record Multiplied (m0 : ℕ → ℕ) (product : ℕ) (m : ℕ → ℕ) : Typ
   pub value : word_at m RESULT ≡ product
   pub others : (a : ℕ) → is_used a ≡ false → m a ≡ m0 a
 
+-- Multiply gives the product modulo 65,536 within 240 Go events
 abbrev pub MultiplyLaw : Type 0
 MultiplyLaw =
     (f : Setup) → Fits f 2 → Holds multiply_part f.code → (lo hi : ℕ) (text answers : List ℕ) (m : ℕ → ℕ) (a x y : ℕ) (n v i z c : Bool) → IsWord m LEFT → IsWord m RIGHT →
@@ -119,6 +121,7 @@ pub record Parted (m0 : ℕ → ℕ) (q r : ℕ) (m : ℕ → ℕ) : Type 0 wher
   pub right_high : m 0xc065 ≡ m0 0xc065
   pub others : (a : ℕ) → is_argument a ≡ false → m a ≡ m0 a
 
+-- inside Divide: quotient and remainder of words without signs
 abbrev pub UnsignedLaw : Type 0
 UnsignedLaw =
     (f : Setup) → Fits f 2 → Holds divide_part f.code → (lo hi : ℕ) (text answers : List ℕ) (m : ℕ → ℕ) (a x y : ℕ) (n v i z c : Bool) → IsWord m LEFT → IsWord m RIGHT → 1 ≤ word_at m RIGHT → word_at m RIGHT ≤ 32768 →
@@ -135,11 +138,13 @@ pub record Gives (m0 : ℕ → ℕ) (at q : ℕ) (m : ℕ → ℕ) : Type 0 wher
   pub value : word_at m at ≡ q
   pub others : (a : ℕ) → is_argument a ≡ false → m a ≡ m0 a
 
+-- Divide gives the quotient of signed words, truncated toward zero, within 316 Go events
 abbrev pub DivideLaw : Type 0
 DivideLaw =
     (f : Setup) → Fits f 8 → Holds divide_part f.code → (lo hi : ℕ) (text answers : List ℕ) (m : ℕ → ℕ) (a x y : ℕ) (n v i z c : Bool) → IsWord m LEFT → IsWord m RIGHT → 1 ≤ word_at m RIGHT →
     Comes f (view a x y n v i z c DIVIDE_AT (lo ∷ hi ∷ []) m text answers) (Back lo hi text answers (Gives m RESULT (quotient (word_at m LEFT) (word_at m RIGHT)))) [] 316
 
+-- by 0, Divide comes to Fault with 2, with memory as it was
 abbrev pub DivideByZeroLaw : Type 0
 DivideByZeroLaw =
     (f : Setup) → Fits f 2 → Holds divide_part f.code → (lo hi : ℕ) (text answers : List ℕ) (m : ℕ → ℕ) (a x y : ℕ) (n v i z c : Bool) → word_at m RIGHT ≡ 0 →
@@ -151,6 +156,7 @@ pub record Written (m0 : ℕ → ℕ) (t : List ℕ) (m : ℕ → ℕ) : Type 0 
   pub column : m COLUMN ≡ (m0 COLUMN + length t) % 256
   pub others : (a : ℕ) → is_argument a ≡ false → a ≢ COLUMN → m a ≡ m0 a
 
+-- Number sends the shortest decimal text of the signed word at LEFT
 abbrev pub NumberLaw : Type 0
 NumberLaw =
     (f : Setup) → Fits f 11 → Holds number_part f.code → Holds divide_part f.code → Holds send_part f.code → (lo hi : ℕ) (text answers : List ℕ) (m : ℕ → ℕ) (a x y : ℕ) (n v i z c : Bool) → IsWord m LEFT → m COLUMN < 256 →
@@ -173,11 +179,13 @@ pub record Drawn (m0 : ℕ → ℕ) (bound seed : ℕ) (m : ℕ → ℕ) : Type 
   pub seeded : m SEEDED ≡ 1
   pub others : (a : ℕ) → is_argument a ≡ false → (a == SCRATCH) ≡ false → is_seed a ≡ false → m a ≡ m0 a
 
+-- Random takes the next seed, and gives what the bound leaves of it
 abbrev pub RandomLaw : Type 0
 RandomLaw =
     (f : Setup) → Fits f 6 → Holds random_part f.code → Holds divide_part f.code → Holds multiply_part f.code → (lo hi : ℕ) (text answers : List ℕ) (m : ℕ → ℕ) (a x y : ℕ) (n v i z c : Bool) → IsWord m LEFT → IsWord m RIGHT → IsWord m SEED → 1 ≤ word_at m LEFT → word_at m LEFT < 32768 →
     Comes f (view a x y n v i z c RANDOM_AT (lo ∷ hi ∷ []) m text answers) (Back lo hi text answers (Drawn m (word_at m LEFT) (seed_of m))) [] 540
 
+-- for a bound below 1, Random comes to Fault with 3, with memory as it was
 abbrev pub RandomRangeLaw : Type 0
 RandomRangeLaw =
     (f : Setup) → Fits f 2 → Holds random_part f.code → (lo hi : ℕ) (text answers : List ℕ) (m : ℕ → ℕ) (a x y : ℕ) (n v i z c : Bool) → IsWord m LEFT → (word_at m LEFT ≡ 0) ⊎ (32768 ≤ word_at m LEFT) →

@@ -58,6 +58,7 @@ pub record Popped (lo hi : ℕ) (m : ℕ → ℕ) (text answers : List ℕ) (n :
   pub result : word_at w.mem RESULT ≡ n
   pub notes : Notes w.mem ns
 
+-- Push puts the word at LEFT on the return list
 abbrev pub PushLaw : Type 0
 PushLaw = (f : Setup) → Fits f 4 → Holds notes_part f.code → (lo hi : ℕ) (text answers : List ℕ) (m : ℕ → ℕ) (a x y : ℕ) (n v i z c : Bool) (notes : List ℕ) → IsWord m LEFT → Notes m notes → length notes < 500 → Comes f (view a x y n v i z c PUSH_AT (lo ∷ hi ∷ []) m text answers) (Pushed lo hi m text answers (word_at m LEFT ∷ notes)) [] 25
 
@@ -65,6 +66,7 @@ PushLaw = (f : Setup) → Fits f 4 → Holds notes_part f.code → (lo hi : ℕ)
 abbrev pub PushFullLaw : Type 0
 PushFullLaw = (f : Setup) → Fits f 4 → Holds notes_part f.code → (lo hi : ℕ) (text answers : List ℕ) (m : ℕ → ℕ) (a x y : ℕ) (n v i z c : Bool) (notes : List ℕ) → Notes m notes → length notes ≡ 500 → Comes f (view a x y n v i z c PUSH_AT (lo ∷ hi ∷ []) m text answers) (Faulted 4 lo hi nothing m text answers) [] 7
 
+-- Pop takes the newest word from the return list
 abbrev pub PopLaw : Type 0
 PopLaw = (f : Setup) → Fits f 4 → Holds notes_part f.code → (lo hi : ℕ) (text answers : List ℕ) (m : ℕ → ℕ) (a x y : ℕ) (n v i z c : Bool) (note : ℕ) (notes : List ℕ) → Notes m (note ∷ notes) → Comes f (view a x y n v i z c POP_AT (lo ∷ hi ∷ []) m text answers) (Popped lo hi m text answers note notes) [] 23
 

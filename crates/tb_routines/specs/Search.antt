@@ -50,5 +50,6 @@ abbrev pub Searched : ℕ → ℕ → (ℕ → ℕ) → List ℕ → List ℕ �
 Searched lo hi m text answers (Some address) w = Found lo hi m text answers address w
 Searched lo hi m text answers None w = Faulted 1 lo hi search_changes m text answers w
 
+-- Search gives the address of the line with the number at LEFT, or comes to Fault with 1, within 600 Go events for every table
 abbrev pub SearchLaw : Type 0
 SearchLaw = (f : Setup) → Fits f 2 → Holds search_part f.code → (lo hi : ℕ) (text answers : List ℕ) (m : ℕ → ℕ) (a x y : ℕ) (n v i z c : Bool) (lines : List Line) → IsWord m LEFT → IsWord m TABLE → IsWord m COUNT → Shows f.code (word_at m TABLE) (table_bytes lines) → 0x0800 ≤ word_at m TABLE → word_at m TABLE + 4 * length lines ≤ 0xA000 → word_at m COUNT ≡ length lines → 1 ≤ length lines → Rising lines → AllWords lines → Comes f (view a x y n v i z c SEARCH_AT (lo ∷ hi ∷ []) m text answers) (Searched lo hi m text answers (address_of (word_at m LEFT) lines)) [] 600
