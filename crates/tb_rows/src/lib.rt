@@ -2,6 +2,7 @@
 #![tactic(auto)]
 
 mod asm;
+mod codegen;
 mod cpu;
 mod disasm;
 mod driver;
