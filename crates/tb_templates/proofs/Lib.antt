@@ -1,0 +1,5 @@
+pub mod Accepted
+pub mod Appends
+pub mod Fitting
+pub mod Ordered
+pub mod Rising
