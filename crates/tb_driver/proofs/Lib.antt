@@ -1,3 +1,4 @@
 pub mod Counting
 pub mod Start
 mod Written
+mod Delivered

@@ -3,6 +3,7 @@ ghost use Rattle.std.specs.Prelude.{◌≡◌};
 ghost use Rattle.tb_driver.specs.Outcomes.{status_of, status_of_end};
 
 use tb_asm::AsmError;
+use tb_codegen::CompileError;
 use tb_cpu::Wrong;
 use tb_prg::PrgError;
 
@@ -30,6 +31,8 @@ pub enum Refusal {
     Prg(PrgError),
     /// A byte of the program would lie outside of RAM.
     NotRam,
+    /// Why a source is not compiled. It is never want of memory.
+    Source(CompileError),
 }
 
 /// How a call of an engine ended. At `Ended` its whole text was written, at `WriteFault` a prefix of it, and else

@@ -50,8 +50,8 @@ fn run_program<O: Outside>(
     }
 }
 
-// Runs a PRG file.
-fn run_file<O: Outside>(
+/// Runs a PRG file.
+pub fn run_file<O: Outside>(
     alloc: Global,
     file: &[u8],
     keyboard: Keyboard,

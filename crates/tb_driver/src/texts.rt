@@ -2,7 +2,10 @@
 use crate::outcome::{End, Outcome, Refusal};
 use std::fmt;
 use tb_asm::AsmErrorKind;
+use tb_codegen::CompileError;
 use tb_cpu::Wrong;
+use tb_lower::LowerError;
+use tb_parser::{SourceError, SourceErrorKind};
 use tb_prg::PrgError;
 
 fn kind_text(kind: AsmErrorKind) -> &'static str {
@@ -26,6 +29,44 @@ fn write_wrong<W: fmt::Write>(wrong: Wrong, f: &mut fmt::Formatter<W>) -> fmt::R
     }
 }
 
+// What is wrong with a line of a source, or that no line is left.
+fn source_text(kind: SourceErrorKind) -> &'static str {
+    match kind {
+        SourceErrorKind::LineTooLong => "line too long",
+        SourceErrorKind::BadByte => "bad byte",
+        SourceErrorKind::Unnumbered => "no line number",
+        SourceErrorKind::BadLineNumber => "bad line number",
+        SourceErrorKind::NotCompiled => "not compiled",
+        SourceErrorKind::Syntax => "syntax",
+        SourceErrorKind::NumberTooLarge => "number too large",
+        SourceErrorKind::Empty => "empty program",
+        SourceErrorKind::NoMemory => "out of memory",
+    }
+}
+
+fn write_source_error<W: fmt::Write>(error: SourceError, f: &mut fmt::Formatter<W>) -> fmt::Result {
+    if 0 < error.line {
+        write!(f, "{}:{}: ", error.line, error.column)?;
+    }
+    write!(f, "{}", source_text(error.kind))
+}
+
+fn write_compile_error<W: fmt::Write>(
+    error: CompileError,
+    f: &mut fmt::Formatter<W>,
+) -> fmt::Result {
+    match error {
+        CompileError::Source(error) => write_source_error(error, f),
+        CompileError::Lower(LowerError::TooDeep(line)) => {
+            write!(f, "line {line}: expression too deep")
+        }
+        CompileError::TooLarge(cost) => write!(f, "program too large ({cost} bytes)"),
+        CompileError::Lower(LowerError::NoMemory) | CompileError::NoMemory => {
+            write!(f, "out of memory")
+        }
+    }
+}
+
 impl fmt::Display for Refusal {
     fn fmt<W: fmt::Write>(&self, f: &mut fmt::Formatter<W>) -> fmt::Result {
         match self {
@@ -34,6 +75,7 @@ impl fmt::Display for Refusal {
             Refusal::Prg(PrgError::TooShort) => write!(f, "not a PRG: too short"),
             Refusal::Prg(PrgError::RunsPast) => write!(f, "not a PRG: runs past the end"),
             Refusal::NotRam => write!(f, "not a PRG: not RAM"),
+            Refusal::Source(error) => write_compile_error(*error, f),
         }
     }
 }

@@ -1,6 +1,17 @@
-//! Worked rows of compiled programs, as tests. The crate has nothing else: a crate with tests is proved twice, so the
-//! crates that they test have none.
+//! Worked rows of every layer, as tests. The crate has nothing else: tests in a crate of their own are proved once.
 #![tactic(auto)]
 
 #[cfg(test)]
+mod building;
+#[cfg(test)]
 mod codegen;
+#[cfg(test)]
+mod examples;
+#[cfg(test)]
+mod generated;
+#[cfg(test)]
+mod refusing;
+#[cfg(test)]
+mod running;
+#[cfg(test)]
+mod setup;

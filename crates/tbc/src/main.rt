@@ -8,7 +8,7 @@ use std::process::ExitCode;
 use std::rt::{Env, Files};
 use std::{env, io};
 use tb_command_line::{Failure, Job, job};
-use tb_driver::Outcome;
+use tb_driver::Report;
 
 // All words, the program's own name the first of them.
 fn words<R: Env + AllocGlobal>(rt: &R) -> Result<Vec<String>, Failure> {
@@ -29,7 +29,7 @@ fn job_of_words<R: Env + AllocGlobal>(rt: &R) -> Result<Job, Failure> {
     Ok(job(rt.alloc(), words.as_slice())?)
 }
 
-fn start<R: Files + Env + Print + AllocGlobal>(rt: &R) -> Result<Outcome, Failure> {
+fn start<R: Files + Env + Print + AllocGlobal>(rt: &R) -> Result<Report, Failure> {
     let job = job_of_words(rt)?;
     tasks::perform(rt, job)
 }
@@ -37,11 +37,9 @@ fn start<R: Files + Env + Print + AllocGlobal>(rt: &R) -> Result<Outcome, Failur
 fn main(rt: HostRuntime) -> ExitCode {
     // Nobody can be told that standard error fails.
     let status = match start(&rt) {
-        Ok(outcome) => {
-            if outcome.status() != 0 {
-                let _ = eprintln!(rt; "tbc: {outcome}");
-            }
-            outcome.status()
+        Ok(report) => {
+            let _ = eprint!(rt; "{report}");
+            report.status()
         }
         Err(failure) => {
             let _ = eprint!(rt; "{failure}");

@@ -5,41 +5,45 @@ use std::io;
 use std::rt::Files;
 use tb_command_line::{Failure, Job, Runnable};
 use tb_driver::{
-    End, KeyError, Outcome, Tracked, address, asm_text, dis_text, key_list, run_prg, write_output,
+    End, KeyError, Outcome, Report, Tracked, address, asm_text, build, dis_text, key_list, run_prg,
+    run_text, write_output,
 };
-use tb_kernal::{Keyboard, Quiet, Rude};
+use tb_kernal::{Keyboard, Outside, Quiet, Rude};
 
 /// Does what the words ask for.
-pub fn perform<R: Files + Print + AllocGlobal>(rt: &R, job: Job) -> Result<Outcome, Failure> {
+pub fn perform<R: Files + Print + AllocGlobal>(rt: &R, job: Job) -> Result<Report, Failure> {
     match job {
+        Job::Build { source, out, seed } => {
+            Ok(build_file(rt, source.as_str(), out.as_str(), seed))
+        }
         Job::Run {
             what,
+            seed,
             keys,
             answers,
             limit,
             rude,
-            ..
         } => {
             let keyboard = keyboard(rt.alloc(), keys.as_str(), answers.as_str())?;
-            match what {
-                Runnable::Prg(path) => Ok(run_prg_file(
-                    rt,
-                    path.as_str(),
-                    keyboard,
-                    u64::from(limit.events),
-                    rude,
-                )),
-                Runnable::Source(_) => Err(Failure::NotYet),
-            }
+            let limit = u64::from(limit.events);
+            Ok(match rude {
+                Some(rude) => run_file(rt, &what, seed, keyboard, limit, &mut Rude::new(rude)),
+                None => run_file(rt, &what, seed, keyboard, limit, &mut Quiet),
+            })
         }
         Job::Asm { text, out, at } => match address(at.as_str()) {
-            Some(at) => Ok(assemble_file(rt, text.as_str(), out.as_str(), at)),
+            Some(at) => Ok(plain(rt, assemble_file(rt, text.as_str(), out.as_str(), at))),
             None => Err(Failure::BadAddress),
         },
-        Job::Dis { prg } => Ok(list_file(rt, prg.as_str())),
-        Job::Show { text } => Ok(show(rt, text.as_str())),
-        Job::Build { .. } | Job::Step { .. } => Err(Failure::NotYet),
+        Job::Dis { prg } => Ok(plain(rt, list_file(rt, prg.as_str()))),
+        Job::Show { text } => Ok(plain(rt, show(rt, text.as_str()))),
+        Job::Step { .. } => Err(Failure::NotYet),
     }
+}
+
+// An outcome with no warnings.
+fn plain<R: AllocGlobal>(rt: &R, outcome: Outcome) -> Report {
+    Report::new(rt.alloc(), outcome)
 }
 
 fn keyboard(alloc: Global, keys: &str, answers: &str) -> Result<Keyboard, Failure> {
@@ -63,35 +67,50 @@ fn show<R: Print>(rt: &R, text: &str) -> Outcome {
     }
 }
 
-fn run_prg_file<R: Files + Print + AllocGlobal>(
+fn build_file<R: Files + AllocGlobal>(rt: &R, source: &str, out: &str, seed: u16) -> Report {
+    let mut file = match open(rt, source) {
+        Ok(file) => file,
+        Err(outcome) => return plain(rt, outcome),
+    };
+    let mut made = Tracked::new(Vec::new(rt.alloc()));
+    let report = build(rt.alloc(), &mut file, &mut made, seed);
+    Report {
+        outcome: save(rt, out, report.outcome, made.stream.as_slice()),
+        warnings: report.warnings,
+    }
+}
+
+fn run_file<R: Files + Print + AllocGlobal, O: Outside>(
     rt: &R,
-    path: &str,
+    what: &Runnable,
+    seed: u16,
     keyboard: Keyboard,
     limit: u64,
-    rude: Option<u16>,
-) -> Outcome {
-    let mut file = match open(rt, path) {
+    outside: &mut O,
+) -> Report {
+    let (Runnable::Source(path) | Runnable::Prg(path)) = what;
+    let mut file = match open(rt, path.as_str()) {
         Ok(file) => file,
-        Err(outcome) => return outcome,
+        Err(outcome) => return plain(rt, outcome),
     };
     let mut screen = Tracked::new(io::writer(rt));
-    match rude {
-        Some(seed) => run_prg(
-            rt.alloc(),
-            &mut file,
-            &mut screen,
-            keyboard,
-            limit,
-            &mut Rude::new(seed),
-        ),
-        None => run_prg(
-            rt.alloc(),
-            &mut file,
-            &mut screen,
-            keyboard,
-            limit,
-            &mut Quiet,
-        ),
+    let alloc = rt.alloc();
+    match what {
+        Runnable::Source(_) => {
+            run_text(
+                alloc,
+                &mut file,
+                &mut screen,
+                seed,
+                keyboard,
+                limit,
+                outside,
+            )
+        }
+        Runnable::Prg(_) => {
+            let outcome = run_prg(alloc, &mut file, &mut screen, keyboard, limit, outside);
+            plain(rt, outcome)
+        }
     }
 }
 

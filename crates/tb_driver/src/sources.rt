@@ -1,0 +1,117 @@
+//! Compiling a source, and running it.
+ghost use Rattle.std.specs.Prelude.{◌≡◌, ◌+◌, [], Ok, Err};
+ghost use Rattle.tb_driver.specs.Streams.{most_input, ConsumesAtMost};
+ghost use Rattle.tb_driver.specs.Outcomes.{Answers, Faults, MadeFrom};
+ghost use Rattle.tb_driver.specs.Made.{Makes};
+ghost use Rattle.tb_driver.specs.Programs.{RunsPrg};
+ghost use Rattle.tb_driver.specs.Sources.{IsCompiled, stop_of, IsFile, FromSource};
+
+use crate::made::{Stop, Text, deliver, without_input};
+use crate::outcome::{End, Outcome, Refusal};
+use crate::programs::run_file;
+use crate::report::Report;
+use crate::stream::read_input;
+use crate::tracked::Tracked;
+use std::alloc::Global;
+use std::io::{Read, Write};
+use tb_codegen::{CompileError, Options, compile};
+use tb_kernal::{Keyboard, Outside};
+use tb_lower::Warning;
+
+/// A program that was compiled.
+#[derive(Drop)]
+struct Program {
+    prg: Vec<u8>,
+    warnings: Vec<Warning>,
+}
+
+// Compiles a source with a first state of RND.
+fn compile_source(alloc: Global, source: &[u8], seed: u16) -> Result<Program, CompileError>
+    ensures { IsCompiled seed source.now result }
+{
+    let compiled = compile(alloc, source, Options { seed })?;
+    Ok(Program {
+        prg: Vec::from_slice(alloc, compiled.prg())?,
+        warnings: Vec::from_slice(alloc, compiled.warnings())?,
+    })
+}
+
+// Want of memory is no refusal.
+fn stop_of(error: CompileError) -> Stop
+    ensures { result ≡ stop_of error }
+{
+    match error {
+        CompileError::NoMemory => Stop::NoMemory,
+        _ => Stop::Refused(Refusal::Source(error)),
+    }
+}
+
+/// Compiles a source with a first state of RND, and writes its PRG file.
+pub fn build<R: Read, W: Write>(
+    alloc: Global,
+    reader: &mut Tracked<R>,
+    writer: &mut Tracked<W>,
+    seed: u16,
+) -> Report
+    ensures answers { Answers (MadeFrom (R.remaining reader.old.stream)
+        (FromSource seed IsFile result.warnings.items)) result.outcome
+        (W.contents writer.old.stream) (W.contents writer.new.stream) }
+    ensures faults { Faults result.outcome (R.remaining reader.old.stream)
+        reader.old.failures reader.new.failures writer.old.failures writer.new.failures }
+    ensures taken { ConsumesAtMost (R.remaining reader.old.stream) (R.remaining reader.new.stream)
+        (most_input + 1) }
+{
+    let source = match read_input(alloc, reader) {
+        Ok(source) => source,
+        Err(error) => return Report::new(alloc, without_input(error)),
+    };
+    match compile_source(alloc, source.as_slice(), seed) {
+        Ok(Program { prg, warnings }) => {
+            let file = Text {
+                bytes: prg,
+                end: End::Done,
+            };
+            Report {
+                outcome: deliver(writer, Ok(file)),
+                warnings,
+            }
+        }
+        Err(error) => Report::new(alloc, deliver(writer, Err(stop_of(error)))),
+    }
+}
+
+/// Compiles a source with a first state of RND, runs it as `run_prg` does, and writes the host form of what it sent.
+pub fn run_text<R: Read, W: Write, O: Outside>(
+    alloc: Global,
+    reader: &mut Tracked<R>,
+    writer: &mut Tracked<W>,
+    seed: u16,
+    keyboard: Keyboard,
+    limit: u64,
+    outside: &mut O,
+) -> Report
+    ensures answers { Answers (MadeFrom (R.remaining reader.old.stream)
+        (FromSource seed
+        (RunsPrg O.gives outside.old keyboard.text.items keyboard.answers.items limit)
+        result.warnings.items)) result.outcome
+        (W.contents writer.old.stream) (W.contents writer.new.stream) }
+    ensures faults { Faults result.outcome (R.remaining reader.old.stream)
+        reader.old.failures reader.new.failures writer.old.failures writer.new.failures }
+    ensures taken { ConsumesAtMost (R.remaining reader.old.stream) (R.remaining reader.new.stream)
+        (most_input + 1) }
+{
+    let source = match read_input(alloc, reader) {
+        Ok(source) => source,
+        Err(error) => return Report::new(alloc, without_input(error)),
+    };
+    match compile_source(alloc, source.as_slice(), seed) {
+        Ok(Program { prg, warnings }) => Report {
+            outcome: deliver(
+                writer,
+                run_file(alloc, prg.as_slice(), keyboard, limit, outside),
+            ),
+            warnings,
+        },
+        Err(error) => Report::new(alloc, deliver(writer, Err(stop_of(error)))),
+    }
+}
