@@ -56,4 +56,5 @@ accepted seed code r c l =
       modes = program_modes seed code;
       names = distinct 0 top es (program_rises seed code r c);
       ends = l;
-      reach = program_reaches (labels_from PROLOGUE_AT es) PROLOGUE_AT seed code (program_labels seed code r c) })
+      reach = program_reaches (labels_from PROLOGUE_AT es) PROLOGUE_AT seed code (program_labels seed code r c);
+    })
