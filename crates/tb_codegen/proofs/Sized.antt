@@ -3,7 +3,7 @@ use Rattle.std.proofs.Common.{◌≡◌, ℕ, ◌+◌, ◌<◌, ◌≤◌, List,
 use Rattle.tb_asm.specs.declared.names.Name.{Name}
 use Rattle.tb_asm.specs.Layout.{size, address_in, labels_from, image_of, bytes_from}
 use Rattle.tb_asm.specs.Assembled.{refusal}
-use Rattle.tb_syntax.specs.Source.{Program, Numbered, numbers}
+use Rattle.tb_syntax.specs.Source.{Program, numbers}
 use Rattle.tb_lower.specs.Cost.{cost}
 use Rattle.tb_lower.specs.Lowered as lowered
 use Rattle.tb_lower.specs.Ranges.{HasShortTexts, IsCodeInRange}
@@ -11,10 +11,10 @@ use Rattle.tb_lower.specs.Slots.{Instr, Put, Load, Store, Negate, Compute, Rando
 use Rattle.tb_parser.specs.Files.{AreStated, RisesFrom}
 use Rattle.tb_runtime16.specs.Places.{PROLOGUE_AT, LINES_AT}
 use Rattle.tb_templates.specs.Labels.{label_of}
-use Rattle.tb_templates.specs.declared.labels.Target.TheVariants.{Line, Table}
+use Rattle.tb_templates.specs.declared.labels.Target.TheVariants.{Table}
 use Rattle.tb_templates.specs.Layout.{LabelsAt}
-use Rattle.tb_templates.specs.Sizes.{room, list_room, lines_room, rest_room}
-use Rattle.tb_templates.specs.Program.{line_code, lines_code, rest_code, past_code, find_code, table_code, block_code, program_code, AreCodable}
+use Rattle.tb_templates.specs.Sizes.{room, list_room, lines_room}
+use Rattle.tb_templates.specs.Program.{line_code, lines_code, past_code, find_code, table_code, block_code, program_code, AreCodable}
 use Rattle.tb_templates.proofs.Fitting.{program_fits}
 use Rattle.tb_templates.proofs.Ordered.{RisingFrom}
 use Rattle.tb_templates.proofs.Reached.{labels_split}

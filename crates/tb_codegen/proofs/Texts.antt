@@ -1,11 +1,11 @@
 -- The texts of a line stand in its code.
-use Rattle.std.proofs.Common.{◌≡◌, ℕ, ◌+◌, ◌-◌, ◌≤◌, List, [], ◌∷◌, ◌++◌, length, take, drop, refl, sym, ap, subst, ◌∙◌, arith, append_assoc, length-append}
+use Rattle.std.proofs.Common.{◌≡◌, ℕ, ◌+◌, ◌≤◌, List, [], ◌∷◌, ◌++◌, length, take, drop, refl, sym, ap, subst, ◌∙◌, arith, append_assoc, length-append}
 use Rattle.tb_asm.specs.declared.names.Name.{Name}
-use Rattle.tb_asm.specs.Layout.{Entry, instr, label, bytes, word, size, size_of, bytes_from}
+use Rattle.tb_asm.specs.Layout.{Entry, bytes, size, bytes_from}
 use Rattle.tb_asm.proofs.Laws.{all_size, bytes_append}
-use Rattle.tb_syntax.specs.Source.{Numbered, Program, Command}
+use Rattle.tb_syntax.specs.Source.{Program, Command}
 use Rattle.tb_lower.specs.Lowered as lowered
-use Rattle.tb_lower.specs.Slots.{Instr, Put, Load, Store, Negate, Compute, Random, SendText, SendNumber, SendZone, SendNewline, Input, Poll, Hold, LeaveUnless, Jump, Call, JumpTo, CallTo, Return, End, SlotCode}
+use Rattle.tb_lower.specs.Slots.{Instr, Put, Load, Store, Negate, Compute, Random, SendText, SendNumber, SendZone, SendNewline, Input, Poll, Hold, LeaveUnless, Jump, Call, JumpTo, CallTo, Return, End}
 use Rattle.tb_lower.specs.Weights.{instr_texts, command_texts}
 use Rattle.tb_lower.proofs.Weighed.{same_texts}
 use Rattle.tb_templates.specs.declared.labels.Inner.TheVariants as inner
@@ -120,8 +120,9 @@ lines_texts labels ns seed a (line ∷ lines) front back =
     let image = front ++ (bytes_from labels a (code ++ rest) ++ back) in
     let there = sym (joined labels a code rest front back) in
     let whole : front ++ (bytes_from labels a code ++ (bytes_from labels (a + size code) rest ++ back)) ≡ image =
-    sym (append_assoc front (bytes_from labels a code) (bytes_from labels (a + size code) rest ++ back)) ∙ there in
-    (subst (λ i. TextsStand i (length front + size code) (length front) (command_texts line.content)) whole (line_texts labels ns seed a line.number line.content front (bytes_from labels (a + size code) rest ++ back)),
-    subst (λ i. LinesHoldTexts i ns seed (length front + size code) lines) there
-    (subst (λ o. LinesHoldTexts ((front ++ bytes_from labels a code) ++ (bytes_from labels (a + size code) rest ++ back)) ns seed o lines) (front_length labels a code front)
-    (lines_texts labels ns seed (a + size code) lines (front ++ bytes_from labels a code) back)))
+    sym (append_assoc front (bytes_from labels a code) (bytes_from labels (a + size code) rest ++ back)) ∙ there in (
+      subst (λ i. TextsStand i (length front + size code) (length front) (command_texts line.content)) whole (line_texts labels ns seed a line.number line.content front (bytes_from labels (a + size code) rest ++ back)),
+      subst (λ i. LinesHoldTexts i ns seed (length front + size code) lines) there
+          (subst (λ o. LinesHoldTexts ((front ++ bytes_from labels a code) ++ (bytes_from labels (a + size code) rest ++ back)) ns seed o lines) (front_length labels a code front)
+          (lines_texts labels ns seed (a + size code) lines (front ++ bytes_from labels a code) back)),
+    )
