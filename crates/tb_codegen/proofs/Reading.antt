@@ -1,12 +1,12 @@
 -- What a text is no longer than: the cost of what it reads as.
-use Rattle.std.proofs.Common.{◌≡◌, ◌≢◌, ℕ, ◌+◌, ◌*◌, ◌<◌, ◌≤◌, Bool, true, false, List, [], ◌∷◌, ◌++◌, length, ap, sym, ◌∙◌, arith, length-append, Option}
-use Rattle.tb_syntax.specs.Source.{Expression, Item, Text, Value, Zone, Command}
+use Rattle.std.proofs.Common.{◌≡◌, ℕ, ◌+◌, ◌*◌, ◌<◌, ◌≤◌, Bool, true, false, List, [], ◌∷◌, ◌++◌, length, ap, arith, length-append, Option}
+use Rattle.tb_syntax.specs.Source.{Expression, Item, Zone, Command}
 use Rattle.tb_lower.specs.Cost.{nodes, item_cost, command_cost}
 use Rattle.tb_lower.specs.Ranges.{AreShort}
 use Rattle.tb_lower.specs.Weights.{command_texts, item_texts}
 use Rattle.tb_words.specs.declared.Rel.{Rel}
 use Rattle.tb_grammar.specs.Grammar.{Part, Reads, number, variable, random, parentheses, factor, product, term, plus, minus, sum}
-use Rattle.tb_grammar.specs.Statements.{Relates, equal, less, greater, at_most, at_least, less_or_greater, greater_or_less, MayThen, bare, then, ReadsItem, value, quotation, Separates, comma, semicolon, Prints, nothing, last, next, Variables, one, more, States, let_assign, assign, print, short_print, input, conditional, goto, gosub, return, end, remark}
+use Rattle.tb_grammar.specs.Statements.{Relates, equal, less, greater, at_most, at_least, less_or_greater, greater_or_less, MayThen, bare, then, ReadsItem, value, quotation, comma, semicolon, Prints, nothing, last, next, Variables, one, more, States, let_assign, assign, print, short_print, input, conditional, goto, gosub, return, end, remark}
 use Rattle.tb_templates.specs.Sizes.{items_cost, AreApart, IsSpaced}
 use Rattle.tb_templates.proofs.Fitting.{one_node, items_pay}
 
@@ -105,11 +105,13 @@ stated limit _ _ _ (assign v text e large l r) = record { spaced = tt; short = �
 stated limit _ _ _ (print text items ends_line large p) = record {
   spaced = items_apart true text items ends_line large p false;
   short = λ h. items_short true text items ends_line large p limit (omega (arith, h));
-  paid = let a = items_read true text items ends_line large p in let b = items_pay items in omega (arith, a, b) }
+  paid = let a = items_read true text items ends_line large p in let b = items_pay items in omega (arith, a, b);
+}
 stated limit _ _ _ (short_print text items ends_line large p) = record {
   spaced = items_apart true text items ends_line large p false;
   short = λ h. items_short true text items ends_line large p limit (omega (arith, h));
-  paid = let a = items_read true text items ends_line large p in let b = items_pay items in omega (arith, a, b) }
+  paid = let a = items_read true text items ends_line large p in let b = items_pay items in omega (arith, a, b);
+}
 stated limit _ _ _ (input text letters r) = record { spaced = tt; short = λ h. tt; paid = let a = letters_read text letters r in omega (arith, a) }
 stated limit _ _ _ (conditional text a la rest rel middle b lb after body s ls ra relates rb may st) =
     let t = stated limit body s ls st in

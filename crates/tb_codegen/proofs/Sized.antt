@@ -1,9 +1,9 @@
 -- Small programs have code that the assembler takes, and where their lines lie.
-use Rattle.std.proofs.Common.{◌≡◌, ℕ, ◌+◌, ◌<◌, ◌≤◌, List, [], ◌∷◌, ◌++◌, length, map, ap, sym, subst, ◌∙◌, arith, refl, None, Some, unwrap_or, is_some}
+use Rattle.std.proofs.Common.{◌≡◌, ℕ, ◌+◌, ◌<◌, ◌≤◌, List, [], ◌∷◌, ◌++◌, length, map, ap, sym, subst, ◌∙◌, arith, refl, None, Some, unwrap_or, is_some, append_assoc, length-append}
 use Rattle.tb_asm.specs.declared.names.Name.{Name}
-use Rattle.tb_asm.specs.Layout.{size, address_in, labels_from, image_of}
+use Rattle.tb_asm.specs.Layout.{size, address_in, labels_from, image_of, bytes_from}
 use Rattle.tb_asm.specs.Assembled.{refusal}
-use Rattle.tb_syntax.specs.Source.{Program, Numbered, numbers}
+use Rattle.tb_syntax.specs.Source.{Program, numbers}
 use Rattle.tb_lower.specs.Cost.{cost}
 use Rattle.tb_lower.specs.Lowered as lowered
 use Rattle.tb_lower.specs.Ranges.{HasShortTexts, IsCodeInRange}
@@ -11,10 +11,10 @@ use Rattle.tb_lower.specs.Slots.{Instr, Put, Load, Store, Negate, Compute, Rando
 use Rattle.tb_parser.specs.Files.{AreStated, RisesFrom}
 use Rattle.tb_runtime16.specs.Places.{PROLOGUE_AT, LINES_AT}
 use Rattle.tb_templates.specs.Labels.{label_of}
-use Rattle.tb_templates.specs.declared.labels.Target.TheVariants.{Line, Table}
+use Rattle.tb_templates.specs.declared.labels.Target.TheVariants.{Table}
 use Rattle.tb_templates.specs.Layout.{LabelsAt}
-use Rattle.tb_templates.specs.Sizes.{room, list_room, lines_room, rest_room}
-use Rattle.tb_templates.specs.Program.{line_code, lines_code, rest_code, past_code, find_code, table_code, block_code, program_code, AreCodable}
+use Rattle.tb_templates.specs.Sizes.{room, list_room, lines_room}
+use Rattle.tb_templates.specs.Program.{line_code, lines_code, past_code, find_code, table_code, block_code, program_code, AreCodable}
 use Rattle.tb_templates.proofs.Fitting.{program_fits}
 use Rattle.tb_templates.proofs.Ordered.{RisingFrom}
 use Rattle.tb_templates.proofs.Reached.{labels_split}
@@ -24,7 +24,10 @@ use Rattle.tb_prg.specs.Prg.{header}
 use Rattle.tb_lower.specs.Missing.{missing_targets}
 use Rattle.tb_lower.specs.Need.{too_deep}
 use Rattle.tb_codegen.specs.declared.compiled.Compiled.{Compiled}
-use Rattle.tb_codegen.specs.Compiled.{prg_of, starts_of, table_of, warnings_of, IsCompiled, starts_from, starts_in, AreKnown, StartsRise, table_at, most}
+use Rattle.tb_codegen.specs.Compiled.{prg_of, starts_of, table_of, warnings_of, IsCompiled, starts_from, starts_in, AreKnown, StartsRise, table_at, lines_offset, most}
+use Rattle.tb_codegen.specs.Texts.{LinesHoldTexts}
+use Rattle.tb_codegen.proofs.Texts.{lines_texts}
+use Rattle.tb_asm.proofs.Laws.{all_size, bytes_append}
 use Rattle.tb_codegen.proofs.Small.{AreSmall, are_small, small_spaced, small_short}
 
 -- ── counts ──
@@ -145,7 +148,8 @@ laid_code seed p small rises ranges cheap =
       accepted = accepted seed code (code_rises p rises) lists (omega (arith, a, c, cheap));
       known = lines_known labels (numbers code) seed LINES_AT code f.lines;
       starts = starts_laid labels (numbers code) seed LINES_AT code f.lines;
-      table = f.table }
+      table = f.table;
+    }
 
 pub laid : (seed : ℕ) (p : Program) (code : SlotCode) → code ≡ lowered.program_code p → AreStated p → RisesFrom 0 (numbers p) → ((limit : ℕ) → HasShortTexts limit p → IsCodeInRange limit code) → cost p ≤ most → IsLaid seed code
 laid seed p code same stated rises ranges cheap =
@@ -160,6 +164,26 @@ starts_numbers ns seed a (line ∷ lines) = ap (λ ms. line.number ∷ ms) (star
 same_value : (a b : ℕ) → Some a ≡ Some b → a ≡ b
 same_value a b e = cc
 
+-- the texts of a PRG file's program
+file_texts : (seed : ℕ) (p : Program) (file : List ℕ) → file ≡ header ++ image_of PROLOGUE_AT (program_code seed (lowered.program_code p)) → LinesHoldTexts file (numbers p) seed lines_offset p
+file_texts seed p file is =
+    let code = lowered.program_code p in
+    let ns = numbers code in
+    let labels = labels_from PROLOGUE_AT (program_code seed code) in
+    let lines = lines_code ns seed code in
+    let tail = past_code ns ++ (find_code ns ++ table_code ns) in
+    let start = PROLOGUE_AT + size block_code in
+    let block = bytes_from labels PROLOGUE_AT block_code in
+    let body = bytes_from labels start lines in
+    let back = bytes_from labels (start + size lines) tail in
+    let whole : (header ++ block) ++ (body ++ back) ≡ file =
+    append_assoc header block (body ++ back) ∙ ap (λ b. header ++ (block ++ b)) (sym (bytes_append labels start lines tail))
+    ∙ ap (λ b. header ++ b) (sym (bytes_append labels PROLOGUE_AT block_code (lines ++ tail))) ∙ sym is in
+    let before : length (header ++ block) ≡ lines_offset =
+    (let a = length-append header block in let b = all_size labels PROLOGUE_AT block_code in let c = block_size in omega (arith, a, b, c)) in
+    subst (λ ms. LinesHoldTexts file ms seed lines_offset p) (same_numbers p)
+    (subst (λ o. LinesHoldTexts file ns seed o p) before (subst (λ f. LinesHoldTexts f ns seed (length (header ++ block)) p) whole (lines_texts labels ns seed start p (header ++ block) back)))
+
 -- a program's compiled form, from its image's bytes and labels
 pub made : (seed : ℕ) (p : Program) (code : SlotCode) (c : Compiled) (image : List ℕ) (labels : List (Name × ℕ)) → code ≡ lowered.program_code p → IsLaid seed code → too_deep p ≡ None → cost p ≤ most
     → image ≡ image_of PROLOGUE_AT (program_code seed code) → labels ≡ labels_from PROLOGUE_AT (program_code seed code)
@@ -169,13 +193,17 @@ made seed p code c image labels same l shallow small is named file starts table 
     let all : starts_of c ≡ starts_from (numbers p) seed LINES_AT (lowered.program_code p) =
     starts ∙ ap (λ ls. starts_in ls (numbers code)) named ∙ l.starts ∙ ap (λ k. starts_from (numbers k) seed LINES_AT k) same
     ∙ ap (λ ns. starts_from ns seed LINES_AT (lowered.program_code p)) (same_numbers p) in
+    let bytes : prg_of c ≡ header ++ image_of PROLOGUE_AT (program_code seed (lowered.program_code p)) =
+    file ∙ ap (λ b. header ++ b) is ∙ ap (λ k. header ++ image_of PROLOGUE_AT (program_code seed k)) same in
     record {
       shallow = shallow;
       small = small;
-      prg = file ∙ ap (λ b. header ++ b) is ∙ ap (λ k. header ++ image_of PROLOGUE_AT (program_code seed k)) same;
+      prg = bytes;
+      texts = file_texts seed p (prg_of c) bytes;
       ends = subst (λ k. PROLOGUE_AT + size (program_code seed k) ≤ 0xA000) same l.ends;
       starts = all;
       lines = ap (map (λ s. s.0)) all ∙ starts_numbers (numbers p) seed LINES_AT (lowered.program_code p) ∙ same_numbers p;
       rising = subst (StartsRise LINES_AT) (sym all) (starts_rise (numbers p) seed LINES_AT (lowered.program_code p));
       table = same_value (table_of c) (table_at seed code) (sym table ∙ ap (λ ls. address_in ls (label_of Table)) named ∙ l.table) ∙ ap (table_at seed) same;
-      warned = warned }
+      warned = warned;
+    }

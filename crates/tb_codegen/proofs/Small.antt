@@ -1,9 +1,8 @@
 -- What a file's program has: short texts, zones behind items, lines of a bounded cost.
-use Rattle.std.proofs.Common.{◌≡◌, ◌≢◌, ℕ, ◌+◌, ◌-◌, ◌*◌, ◌<◌, ◌≤◌, Bool, true, false, List, [], ◌∷◌, ◌++◌, length, map, ap, sym, ◌∙◌, arith, Option, Some, None, Result, Ok, Err, refl, sum_by, ◌==◌}
-use Rattle.std.specs.Prelude.{if◌then◌else◌, nat_lt}
+use Rattle.std.proofs.Common.{◌≡◌, ℕ, ◌+◌, ◌*◌, ◌<◌, ◌≤◌, List, [], ◌∷◌, length, arith, None, sum_by}
 use Rattle.std.proofs.lemmas.List.Sums.{sum_by-cons}
 use Rattle.std.proofs.lemmas.List.{length-map}
-use Rattle.tb_syntax.specs.Source.{Command, Program, Numbered, numbers}
+use Rattle.tb_syntax.specs.Source.{Command, Program, numbers}
 use Rattle.tb_lower.specs.Cost.{command_cost, cost}
 use Rattle.tb_lower.specs.Ranges.{AreShort, HasShortTexts}
 use Rattle.tb_lower.specs.Weights.{command_texts}

@@ -1,5 +1,5 @@
 -- What `compile` answers.
-use Rattle.std.specs.Prelude.{◌≡◌, ℕ, ◌<◌, List, [], Option, Some, None, Result, Ok, Err, IfSome}
+use Rattle.std.specs.Prelude.{◌≡◌, ℕ, ◌<◌, List, [], Some, None, Result, Ok, Err, IfSome}
 use Rattle.tb_syntax.specs.Source.{Program}
 use Rattle.tb_lower.specs.Cost.{cost}
 use Rattle.tb_lower.specs.Need.{too_deep}

@@ -33,10 +33,17 @@ fn push_lines(
 
 #[test]
 fn refusals_come_in_their_order(rt: HostRuntime) -> Result<(), Fail> {
-    let empty = SourceError { kind: SourceErrorKind::Empty, line: 0, column: 0 };
+    let empty = SourceError {
+        kind: SourceErrorKind::Empty,
+        line: 0,
+        column: 0,
+    };
     assert_eq!(rt; refused(rt.alloc(), b""), Some(CompileError::Source(empty)));
     let deep = b"10 PRINT 1+(1+(1+(1+(1+(1+(1+(1+(1+(1+(1+(1+(1+(1+(1+(1+(1))))))))))))))))";
-    assert_eq!(rt; refused(rt.alloc(), deep), Some(CompileError::Lower(LowerError::TooDeep(10))));
+    assert_eq!(rt;
+        refused(rt.alloc(), deep),
+        Some(CompileError::Lower(LowerError::TooDeep(10)))
+    );
     Ok(())
 }
 
@@ -73,7 +80,10 @@ fn lines_have_their_starts(rt: HostRuntime) -> Result<(), Fail> {
 fn missing_lines_are_warned_of(rt: HostRuntime) -> Result<(), Fail> {
     let jump = compiled(&rt, rt.alloc(), b"10 GOTO 99");
     assert_eq!(rt; jump.warnings().len(), 1);
-    assert_eq!(rt; (jump.warnings()[0].line, jump.warnings()[0].target), (10, 99));
+    assert_eq!(rt;
+        (jump.warnings()[0].line, jump.warnings()[0].target),
+        (10, 99)
+    );
     Ok(())
 }
 
@@ -84,13 +94,27 @@ fn large_programs_are_refused_with_their_cost(rt: HostRuntime) -> Result<(), Fai
     let _fits = compiled(&rt, rt.alloc(), &largest);
     let mut larger = b"1 PRINT \"A\"\n".to_vec(rt.alloc())?;
     push_lines(&mut larger, 2..1051, b"END")?;
-    assert_eq!(rt; refused(rt.alloc(), &larger), Some(CompileError::TooLarge(37889)));
+    assert_eq!(rt;
+        refused(rt.alloc(), &larger),
+        Some(CompileError::TooLarge(37889))
+    );
     let mut texts = Vec::new(rt.alloc());
     let text = Vec::from_elem(rt.alloc(), b'A', 240)?;
     let mut print = b"PRINT \"".to_vec(rt.alloc())?;
     print.extend_from_slice(&text)?;
     print.push(b'"')?;
     push_lines(&mut texts, 100..300, &print)?;
-    assert_eq!(rt; refused(rt.alloc(), &texts), Some(CompileError::TooLarge(60064)));
+    assert_eq!(rt;
+        refused(rt.alloc(), &texts),
+        Some(CompileError::TooLarge(60064))
+    );
+    Ok(())
+}
+
+// Where there is memory enough, want of it is no answer.
+#[test]
+fn compile_gives_up_for_memory(rt: HostRuntime) -> Result<(), Fail> {
+    let source = b"10 PRINT \"HELLO\";1+A\n20 IF A<3 GOSUB 10*A\n30 INPUT B,C";
+    assert_eq!(rt; refused(rt.alloc(), source), None);
     Ok(())
 }

@@ -1,6 +1,6 @@
 -- The assembler refuses nothing of a program's code.
-use Rattle.std.proofs.Common.{◌≡◌, ℕ, ◌+◌, ◌*◌, ◌<◌, ◌≤◌, Bool, true, false, List, [], ◌∷◌, ◌++◌, length, refl, sym, ap, ◌∙◌, arith, subst, Option, Some, None, append_assoc, is_some, true≢false, cond}
-use Rattle.std.specs.Prelude.{if◌then◌else◌, ◌&&◌, ◌||◌, nat_lt, nat_eq}
+use Rattle.std.proofs.Common.{◌≡◌, ℕ, ◌+◌, ◌<◌, ◌≤◌, Bool, true, false, List, [], ◌∷◌, ◌++◌, refl, sym, ap, ◌∙◌, arith, is_some, true≢false}
+use Rattle.std.specs.Prelude.{◌&&◌, ◌||◌}
 use Rattle.std.specs.List.{list_all, list_any}
 use lib.Pointwise.{bytes_decides}
 use Rattle.tb_opcodes.specs.declared.Mnemonic.{Mnemonic}
@@ -9,14 +9,12 @@ use Rattle.tb_opcodes.specs.Opcodes.{rows, find_opcode, encoded}
 use Rattle.tb_words.specs.declared.Rel.TheVariants.{Eq, Lt, Gt, Le, Ge, Ne}
 use Rattle.tb_syntax.specs.declared.expressions.Operator.TheVariants.{Add, Subtract, Multiply, Divide}
 use Rattle.tb_asm.specs.declared.names.Name.{Name}
-use Rattle.tb_asm.specs.declared.items.Operand.{Operand}
-use Rattle.tb_asm.specs.Layout.{Entry, instr, label, bytes, word, size, size_of, suits, is_place, has_mode, same_name}
-use Rattle.tb_asm.specs.Suited.{name_at, names_of, AreDistinct}
-use Rattle.tb_syntax.specs.Source.{Numbered}
+use Rattle.tb_asm.specs.Layout.{Entry, instr, label, bytes, word, suits, is_place, has_mode, same_name}
+use Rattle.tb_asm.specs.Suited.{names_of, AreDistinct}
 use Rattle.tb_lower.specs.Control.{has_line}
 use Rattle.tb_lower.specs.Slots.{Instr, Put, Load, Store, Negate, Compute, Random, SendText, SendNumber, SendZone, SendNewline, Input, Poll, Hold, LeaveUnless, Jump, Call, JumpTo, CallTo, Return, End, SlotCode}
 use Rattle.tb_templates.specs.Templates.{template, jump_to, call_to, next_line}
-use Rattle.tb_templates.specs.Program.{rest_code, line_code, lines_code, past_code, find_code, rows_code, table_code, block_code, program_code}
+use Rattle.tb_templates.specs.Program.{rest_code, line_code, lines_code, past_code, find_code, rows_code, table_code, program_code}
 use Rattle.tb_syntax.specs.Source.{numbers}
 use Rattle.tb_templates.proofs.Rising.{key, key_of, Rising}
 

@@ -1,7 +1,6 @@
 -- The code of a program is no longer than its cost.
-use Rattle.std.proofs.Common.{◌≡◌, ℕ, ◌+◌, ◌*◌, ◌≤◌, Bool, true, false, List, [], ◌∷◌, ◌++◌, length, refl, sym, ap, ◌∙◌, arith, map, sum_by, Option, Some, None, subst}
-use Rattle.std.specs.Prelude.{if◌then◌else◌}
-use Rattle.tb_asm.specs.Layout.{Entry, size, size_of}
+use Rattle.std.proofs.Common.{◌≡◌, ℕ, ◌+◌, ◌*◌, ◌≤◌, Bool, true, false, List, [], ◌∷◌, ◌++◌, length, refl, sym, ap, ◌∙◌, arith, sum_by, Option, Some, None}
+use Rattle.tb_asm.specs.Layout.{Entry, size}
 use Rattle.tb_words.specs.declared.Rel.TheVariants.{Eq, Lt, Gt, Le, Ge, Ne}
 use Rattle.tb_syntax.specs.declared.expressions.Operator.TheVariants.{Add, Subtract, Multiply, Divide}
 use Rattle.tb_syntax.specs.Source.{Expression, Number, Variable, Binary, Item, Text, Value, Zone, Command, Let, Print, If, Goto, Gosub, Remark, Numbered, Program, numbers}
@@ -9,10 +8,10 @@ use Rattle.tb_syntax.specs.Source as source
 use Rattle.tb_lower.specs.Control.{has_line}
 use Rattle.tb_lower.specs.Cost.{nodes, item_cost, command_cost, cost}
 use Rattle.std.proofs.lemmas.List.Sums.{sum_by-cons}
-use Rattle.tb_lower.specs.Lowered.{value_code, constant, or_constant, target_code, item_code, items_code, inputs_code, newline_code, command_code, list_code, program_code}
-use Rattle.tb_lower.specs.Slots.{Instr, Put, Load, Store, Negate, Compute, Random, SendText, SendNumber, SendZone, SendNewline, Input, Poll, Hold, LeaveUnless, Jump, Call, JumpTo, CallTo, Return, End, SlotCode}
+use Rattle.tb_lower.specs.Lowered.{value_code, constant, or_constant, target_code, item_code, items_code, inputs_code, newline_code, command_code, program_code}
+use Rattle.tb_lower.specs.Slots.{Instr, Put, Load, Store, Negate, Compute, Random, SendText, SendNumber, SendZone, SendNewline, Input, Poll, Hold, LeaveUnless, Jump, Call, JumpTo, CallTo, Return, End}
 use Rattle.tb_templates.specs.Templates.{template, jump_to, call_to, next_line}
-use Rattle.tb_templates.specs.Program.{rest_code, line_code, lines_code, past_code, find_code, rows_code, table_code}
+use Rattle.tb_templates.specs.Program.{rest_code}
 use Rattle.tb_templates.specs.Sizes.{room, list_room, lines_room, rest_room, items_cost, AreApart, IsSpaced, AreSpaced}
 
 pub size_append : (xs ys : List Entry) → size (xs ++ ys) ≡ size xs + size ys

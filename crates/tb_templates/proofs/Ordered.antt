@@ -1,18 +1,16 @@
 -- The labels of a whole program rise.
-use Rattle.std.proofs.Common.{◌≡◌, ℕ, ◌+◌, ◌*◌, ◌<◌, ◌≤◌, Bool, true, false, List, [], ◌∷◌, ◌++◌, length, refl, sym, ap, ◌∙◌, arith, subst}
-use Rattle.std.specs.Prelude.{if◌then◌else◌}
-use Rattle.tb_asm.specs.Layout.{Entry, instr, label, bytes, word}
+use Rattle.std.proofs.Common.{◌≡◌, ℕ, ◌+◌, ◌<◌, ◌≤◌, Bool, true, false, List, [], ◌∷◌, ◌++◌, length, refl, sym, arith, subst}
 use Rattle.tb_words.specs.declared.Rel.TheVariants.{Eq, Lt, Gt, Le, Ge, Ne}
 use Rattle.tb_syntax.specs.declared.expressions.Operator.TheVariants.{Add, Subtract, Multiply, Divide}
-use Rattle.tb_syntax.specs.Source.{Numbered, numbers}
+use Rattle.tb_syntax.specs.Source.{numbers}
 use Rattle.tb_lower.specs.Control.{has_line}
 use Rattle.tb_lower.specs.Slots.{Instr, Put, Load, Store, Negate, Compute, Random, SendText, SendNumber, SendZone, SendNewline, Input, Poll, Hold, LeaveUnless, Jump, Call, JumpTo, CallTo, Return, End, SlotCode}
 use Rattle.tb_templates.specs.declared.labels.Inner.{Inner}
 use Rattle.tb_templates.specs.declared.labels.Inner.TheVariants as inner
 use Rattle.tb_templates.specs.Labels.{label_of, letter_of}
-use Rattle.tb_templates.specs.declared.labels.Target.TheVariants.{Line, Inside, Past, Find, Table}
-use Rattle.tb_templates.specs.Templates.{template, jump_to, call_to, next_line, text, leave_unless}
-use Rattle.tb_templates.specs.Program.{rest_code, line_code, lines_code, past_code, find_code, rows_code, table_code, block_code, program_code, AreCodable}
+use Rattle.tb_templates.specs.declared.labels.Target.TheVariants.{Inside, Table}
+use Rattle.tb_templates.specs.Templates.{template, jump_to, call_to, next_line}
+use Rattle.tb_templates.specs.Program.{rest_code, line_code, lines_code, past_code, find_code, rows_code, table_code, program_code, AreCodable}
 use Rattle.tb_templates.proofs.Rising.{key_of, base, line_key, inside_key, Rising, rising_append, rising_lower, rising_higher}
 
 jump_rises : (ns : List ℕ) (to low high : ℕ) (t : Bool) → has_line ns to ≡ t → low ≤ high → Rising low (jump_to ns to) high

@@ -1,11 +1,10 @@
 -- Every operand of a program's code has its value, and every branch reaches.
-use Rattle.std.proofs.Common.{◌≡◌, ℕ, ◌+◌, ◌-◌, ◌*◌, ◌%◌, ◌/◌, ◌<◌, ◌≤◌, Bool, true, false, List, [], ◌∷◌, ◌++◌, length, replicate, refl, sym, ap, ◌∙◌, arith, subst, Option, Some, None, append_assoc, is_some, true≢false, cond}
-use Rattle.std.specs.Prelude.{option_map, if◌then◌else◌, ◌&&◌, ◌||◌, nat_lt, nat_eq, nat_le}
+use Rattle.std.proofs.Common.{◌≡◌, ℕ, ◌+◌, ◌%◌, ◌/◌, ◌<◌, Bool, true, false, List, [], ◌∷◌, ◌++◌, refl, sym, ap, ◌∙◌, arith, subst, Option, Some, None, is_some, true≢false}
+use Rattle.std.specs.Prelude.{option_map, if◌then◌else◌, ◌||◌, nat_lt, nat_eq}
 use Rattle.std.proofs.lemmas.Bool.Decides.{nat_tests}
 use Rattle.tb_opcodes.specs.declared.Mnemonic.{Mnemonic}
-use Rattle.tb_opcodes.specs.declared.Mnemonic.TheVariants.{Jmp, Jsr, Lda, Bcc, Bcs, Beq, Bne}
-use Rattle.tb_opcodes.specs.declared.Mode.{Mode}
-use Rattle.tb_opcodes.specs.declared.Mode.TheVariants.{Absolute, Immediate, Relative}
+use Rattle.tb_opcodes.specs.declared.Mnemonic.TheVariants.{Bcc, Bcs, Beq, Bne}
+use Rattle.tb_opcodes.specs.declared.Mode.TheVariants.{Relative}
 use Rattle.tb_words.specs.declared.Rel.{Rel}
 use Rattle.tb_words.specs.declared.Rel.TheVariants.{Eq, Lt, Gt, Le, Ge, Ne}
 use Rattle.tb_syntax.specs.declared.expressions.Operator.TheVariants.{Add, Subtract, Multiply, Divide}
@@ -13,20 +12,19 @@ use Rattle.tb_asm.specs.declared.names.Name.{Name}
 use Rattle.tb_asm.specs.declared.errors.AsmErrorKind.{AsmErrorKind}
 use Rattle.tb_asm.specs.declared.errors.AsmErrorKind.TheVariants.{BranchOutOfRange}
 use Rattle.tb_asm.specs.declared.items.Operand.TheVariants as operand
-use Rattle.tb_asm.specs.Layout.{Entry, instr, label, bytes, word, size, size_of, address_in, with_value, reach_fault, code_fault, distance, is_near, labels_from}
-use Rattle.tb_asm.specs.Suited.{AllReachFrom, Suited}
-use Rattle.tb_lower.specs.Control.{At, Past, has_line, next_after}
+use Rattle.tb_asm.specs.Layout.{Entry, instr, size, size_of, address_in, with_value, reach_fault, code_fault, distance, is_near}
+use Rattle.tb_asm.specs.Suited.{AllReachFrom}
+use Rattle.tb_lower.specs.Control.{At, has_line, next_after}
 use Rattle.tb_lower.specs.Slots.{Instr, Put, Load, Store, Negate, Compute, Random, SendText, SendNumber, SendZone, SendNewline, Input, Poll, Hold, LeaveUnless, Jump, Call, JumpTo, CallTo, Return, End, SlotCode}
-use Rattle.tb_syntax.specs.Source.{Numbered, numbers}
+use Rattle.tb_syntax.specs.Source.{numbers}
 use Rattle.tb_templates.specs.declared.labels.Inner.TheVariants as inner
 use Rattle.tb_templates.specs.declared.labels.Target.{Target}
 use Rattle.tb_templates.specs.declared.labels.Target.TheVariants as target
 use Rattle.tb_templates.specs.Labels.{label_of}
-use Rattle.tb_templates.specs.Layout.{LabelAt, LabelsAt}
+use Rattle.tb_templates.specs.Layout.{LabelsAt}
 use Rattle.tb_templates.specs.Templates.{template, jump, fault, note, target_of, next_line, ordered, stays_by}
-use Rattle.tb_runtime16.specs.Places.{HELD, SLOTS, PROLOGUE_AT}
+use Rattle.tb_runtime16.specs.Places.{HELD, SLOTS}
 use Rattle.tb_templates.specs.Program.{rest_code, line_code, lines_code, past_code, find_code, rows_code, table_code, block_code, program_code}
-use Rattle.tb_templates.proofs.Fitting.{size_append}
 
 -- ── lists one behind the other ──
 pub labels_split : (labels : List (Name × ℕ)) (a : ℕ) (xs ys : List Entry) → LabelsAt labels a (xs ++ ys) → LabelsAt labels a xs × LabelsAt labels (a + size xs) ys

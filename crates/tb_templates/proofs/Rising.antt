@@ -1,17 +1,15 @@
 -- The labels of a program's code rise, so that none stands twice.
-use Rattle.std.proofs.Common.{◌≡◌, ℕ, ◌+◌, ◌-◌, ◌*◌, ◌/◌, ◌%◌, ◌<◌, ◌≤◌, Bool, true, false, List, [], ◌∷◌, ◌++◌, length, refl, sym, ap, ◌∙◌, arith, map, Option, Some, None, subst, append_assoc, slice_index, nat_lt, nat_eq, cond}
+use Rattle.std.proofs.Common.{◌≡◌, ℕ, ◌+◌, ◌-◌, ◌*◌, ◌/◌, ◌%◌, ◌<◌, ◌≤◌, Bool, true, false, List, [], ◌∷◌, ◌++◌, refl, sym, ap, arith, Some, None, subst, append_assoc, slice_index, nat_lt, cond}
 use lib.Pointwise.{bytes_decides}
 use Rattle.std.specs.Prelude.{if◌then◌else◌}
-use Rattle.std.specs.Map.{lookup}
 use Rattle.tb_asm.specs.declared.names.Name.{Name}
 use Rattle.tb_asm.specs.Layout.{Entry, instr, label, bytes, word, size, size_of, label_at, labels_from, same_name, address_in}
 use Rattle.tb_asm.proofs.Faults.{size_push, labels_push}
 use Rattle.tb_asm.proofs.Laws.{label_stands}
 use Rattle.tb_templates.specs.Layout.{LabelsAt}
 use Rattle.tb_templates.specs.declared.labels.Inner.{Inner}
-use Rattle.tb_templates.specs.declared.labels.Inner.TheVariants.{Text, Behind, Skip, Here}
-use Rattle.tb_templates.specs.declared.labels.Target.TheVariants.{Line, Inside, Past, Find, Table}
-use Rattle.tb_templates.specs.Labels.{label_of, letter_of, digit_of, four_digits}
+use Rattle.tb_templates.specs.declared.labels.Target.TheVariants.{Line, Inside}
+use Rattle.tb_templates.specs.Labels.{label_of, letter_of, digit_of}
 
 -- ── a number for each label ──
 abbrev digit_value : ℕ → ℕ

@@ -1,15 +1,13 @@
 -- The assembler takes a program's code, and its size.
-use Rattle.std.proofs.Common.{◌≡◌, ℕ, ◌+◌, ◌-◌, ◌<◌, ◌≤◌, List, [], ◌∷◌, ◌++◌, length, replicate, sym, ap, ◌∙◌, arith, None}
-use Rattle.tb_asm.specs.Layout.{Entry, size, size_of, labels_from}
+use Rattle.std.proofs.Common.{◌≡◌, ℕ, ◌+◌, ◌<◌, ◌≤◌, List, [], ◌∷◌, ◌++◌, arith, None}
+use Rattle.tb_asm.specs.Layout.{size, labels_from}
 use Rattle.tb_asm.specs.Assembled.{refusal}
-use Rattle.tb_asm.specs.Suited.{Suited}
 use Rattle.tb_asm.proofs.Suits.{suited_accepted}
 use Rattle.tb_lower.specs.Slots.{SlotCode}
-use Rattle.tb_syntax.specs.Source.{Numbered, numbers}
-use Rattle.tb_runtime16.specs.Places.{PROLOGUE_AT, LINES_AT}
-use Rattle.tb_runtime16.specs.Block.{block_bytes}
+use Rattle.tb_syntax.specs.Source.{numbers}
+use Rattle.tb_runtime16.specs.Places.{PROLOGUE_AT}
 use Rattle.tb_templates.specs.Layout.{LabelsAt}
-use Rattle.tb_templates.specs.Program.{rest_code, line_code, lines_code, past_code, find_code, rows_code, table_code, block_code, program_code, AreCodable}
+use Rattle.tb_templates.specs.Program.{line_code, lines_code, past_code, find_code, rows_code, table_code, block_code, program_code, AreCodable}
 use Rattle.tb_templates.specs.Sizes.{lines_room, rest_room}
 use Rattle.tb_templates.proofs.Fitting.{size_append, rest_fits}
 use Rattle.tb_templates.proofs.Rising.{labels_hold}
@@ -56,4 +54,5 @@ accepted seed code r c l =
       modes = program_modes seed code;
       names = distinct 0 top es (program_rises seed code r c);
       ends = l;
-      reach = program_reaches (labels_from PROLOGUE_AT es) PROLOGUE_AT seed code (program_labels seed code r c) })
+      reach = program_reaches (labels_from PROLOGUE_AT es) PROLOGUE_AT seed code (program_labels seed code r c);
+    })

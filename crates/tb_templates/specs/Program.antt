@@ -1,7 +1,6 @@
 -- The code of a whole program, as items of the assembler from the block's address on.
 use Rattle.std.specs.Prelude.{ℕ, ◌+◌, ◌-◌, ◌<◌, List, [], ◌∷◌, ◌++◌, length, replicate}
 use Rattle.tb_opcodes.specs.declared.Mnemonic.TheVariants.{Jmp}
-use Rattle.tb_opcodes.specs.declared.Mode.TheVariants.{Absolute}
 use Rattle.tb_asm.specs.declared.items.Operand.TheVariants as operand
 use Rattle.tb_asm.specs.Layout.{Entry, bytes, word}
 use Rattle.tb_syntax.specs.Source.{Numbered, numbers}

@@ -1,5 +1,5 @@
 -- The code of each slot instruction, as items of the assembler.
-use Rattle.std.specs.Prelude.{ℕ, ◌+◌, ◌*◌, ◌/◌, ◌%◌, Bool, true, false, List, [], ◌∷◌, ◌++◌, length, if◌then◌else◌}
+use Rattle.std.specs.Prelude.{ℕ, ◌+◌, ◌*◌, ◌/◌, ◌%◌, List, [], ◌∷◌, ◌++◌, length, if◌then◌else◌}
 use Rattle.tb_opcodes.specs.declared.Mnemonic.{Mnemonic}
 use Rattle.tb_opcodes.specs.declared.Mnemonic.TheVariants.{Adc, Bcc, Bcs, Beq, Bne, Clc, Cmp, Jmp, Jsr, Lda, Rts, Sbc, Sec, Sta}
 use Rattle.tb_opcodes.specs.declared.Mode.TheVariants.{Implied, Immediate, ZeroPage, Relative, Absolute, Indirect}
@@ -10,9 +10,8 @@ use Rattle.tb_words.specs.declared.Rel.{Rel}
 use Rattle.tb_words.specs.declared.Rel.TheVariants.{Eq, Lt, Gt, Le, Ge, Ne}
 use Rattle.tb_syntax.specs.declared.expressions.Operator.TheVariants.{Add, Subtract, Multiply, Divide}
 use Rattle.tb_lower.specs.Control.{Place, At, Past, next_after, has_line}
-use Rattle.tb_lower.specs.Slots as slots
 use Rattle.tb_lower.specs.Slots.{Instr, Put, Load, Store, Negate, Compute, Random, SendText, SendNumber, SendZone, SendNewline, Input, Poll, Hold, LeaveUnless, Jump, Call, JumpTo, CallTo, Return, End}
-use Rattle.tb_runtime16.specs.Places.{POINTER, LENGTH, LINE, HELD, LEFT, RIGHT, RESULT, SCRATCH, VARS, SLOTS, SEND_AT, MULTIPLY_AT, DIVIDE_AT, RANDOM_AT, NUMBER_AT, TEXT_AT, ZONE_AT, INPUT_AT, PUSH_AT, POP_AT, FAULT_AT, POLL_AT}
+use Rattle.tb_runtime16.specs.Places.{POINTER, LENGTH, HELD, LEFT, RIGHT, RESULT, SCRATCH, VARS, SLOTS, SEND_AT, MULTIPLY_AT, DIVIDE_AT, RANDOM_AT, NUMBER_AT, TEXT_AT, ZONE_AT, INPUT_AT, PUSH_AT, POP_AT, FAULT_AT, POLL_AT}
 use Rattle.tb_templates.specs.declared.labels.Inner.TheVariants as inner
 use Rattle.tb_templates.specs.declared.labels.Target.{Target}
 use Rattle.tb_templates.specs.declared.labels.Target.TheVariants as target

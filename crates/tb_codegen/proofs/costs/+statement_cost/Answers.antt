@@ -1,4 +1,4 @@
-use Rattle.std.proofs.Common.{ℕ, ◌≡◌, ◌<◌, ◌∙◌, map, ap, subst, sym, arith}
+use Rattle.std.proofs.Common.{ℕ, ◌≡◌, ◌∙◌, map, ap, sym, arith}
 use Rattle.tb_syntax.specs.Shown.{item_of, command_of}
 use Rattle.tb_lower.specs.Cost.{command_cost}
 use Rattle.tb_templates.specs.Sizes.{items_cost}

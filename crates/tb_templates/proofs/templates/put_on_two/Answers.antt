@@ -1,4 +1,3 @@
-use Rattle.std.proofs.Common.{map}
 use Rattle.tb_templates.proofs.Appends.{four}
 use Rattle.tb_templates.proofs.templates.put_on_two.Goals as goal
 
