@@ -1,0 +1,160 @@
+-- Where the code of a program keeps its data, and where its routines begin. A word stands low byte first.
+use Rattle.std.specs.Prelude.{ℕ}
+use Rattle.tb_runtime16.specs.declared.places.Routine.{Routine}
+use Rattle.tb_runtime16.specs.declared.places.Routine.TheVariants.{Multiply, Divide, Random, Number, Text, Zone, Input, Search, Push, Pop, Fault, Poll}
+
+-- ── pointers of page zero ──
+abbrev pub POINTER : ℕ
+POINTER = 0xFB
+
+abbrev pub SECOND : ℕ
+SECOND = 0xFD
+
+-- ── data ──
+-- 26 words, one a variable
+abbrev pub VARS : ℕ
+VARS = 0xC000
+
+-- bytes sent since the last 13 or the start, modulo 256
+abbrev pub COLUMN : ℕ
+COLUMN = 0xC034
+
+-- 1 where an input line is open, else 0
+abbrev pub OPEN : ℕ
+OPEN = 0xC035
+
+-- 1 where an RND state is stored, else 0
+abbrev pub SEEDED : ℕ
+SEEDED = 0xC036
+
+-- the stack pointer as at the start
+abbrev pub HOME_S : ℕ
+HOME_S = 0xC037
+
+-- the stored RND state
+abbrev pub SEED : ℕ
+SEED = 0xC038
+
+-- the number of the line that is executed
+abbrev pub LINE : ℕ
+LINE = 0xC03A
+
+-- how many notes the return list holds, 0 to 500
+abbrev pub NOTES : ℕ
+NOTES = 0xC03C
+
+-- 16 words
+abbrev pub SLOTS : ℕ
+SLOTS = 0xC040
+
+-- the held word
+abbrev pub HELD : ℕ
+HELD = 0xC060
+
+-- a routine's first argument
+abbrev pub LEFT : ℕ
+LEFT = 0xC062
+
+-- a routine's second argument
+abbrev pub RIGHT : ℕ
+RIGHT = 0xC064
+
+-- a routine's result
+abbrev pub RESULT : ℕ
+RESULT = 0xC066
+
+-- the line table's address
+abbrev pub TABLE : ℕ
+TABLE = 0xC068
+
+-- how many entries the line table has
+abbrev pub COUNT : ℕ
+COUNT = 0xC06A
+
+-- a text's length, a byte
+abbrev pub LENGTH : ℕ
+LENGTH = 0xC06C
+
+-- the byte that is sent or was read
+abbrev pub BYTE : ℕ
+BYTE = 0xC06D
+
+-- scratch places of the routines, up to $C07F
+abbrev pub SCRATCH : ℕ
+SCRATCH = 0xC06E
+
+-- 500 words, one a note: code addresses
+abbrev pub NOTE_LIST : ℕ
+NOTE_LIST = 0xC100
+
+-- ── services ──
+abbrev pub CHROUT : ℕ
+CHROUT = 0xFFD2
+
+abbrev pub CHRIN : ℕ
+CHRIN = 0xFFCF
+
+abbrev pub GETIN : ℕ
+GETIN = 0xFFE4
+
+-- ── the lines' code ──
+abbrev pub LINES_AT : ℕ
+LINES_AT = 0x0C00
+
+-- ── the block and its routines ──
+abbrev pub PROLOGUE_AT : ℕ
+PROLOGUE_AT = 0x080D
+
+abbrev pub SEND_AT : ℕ
+SEND_AT = 0x081F
+
+abbrev pub MULTIPLY_AT : ℕ
+MULTIPLY_AT = 0x082E
+
+abbrev pub DIVIDE_AT : ℕ
+DIVIDE_AT = 0x0862
+
+abbrev pub RANDOM_AT : ℕ
+RANDOM_AT = 0x08E3
+
+abbrev pub NUMBER_AT : ℕ
+NUMBER_AT = 0x0941
+
+abbrev pub TEXT_AT : ℕ
+TEXT_AT = 0x0977
+
+abbrev pub ZONE_AT : ℕ
+ZONE_AT = 0x098F
+
+abbrev pub INPUT_AT : ℕ
+INPUT_AT = 0x099C
+
+abbrev pub SEARCH_AT : ℕ
+SEARCH_AT = 0x0A76
+
+abbrev pub PUSH_AT : ℕ
+PUSH_AT = 0x0B0A
+
+abbrev pub POP_AT : ℕ
+POP_AT = 0x0B44
+
+abbrev pub FAULT_AT : ℕ
+FAULT_AT = 0x0B6A
+
+abbrev pub POLL_AT : ℕ
+POLL_AT = 0x0BAC
+
+-- where a routine is called
+abbrev pub entry_of : Routine → ℕ
+entry_of Multiply = MULTIPLY_AT
+entry_of Divide = DIVIDE_AT
+entry_of Random = RANDOM_AT
+entry_of Number = NUMBER_AT
+entry_of Text = TEXT_AT
+entry_of Zone = ZONE_AT
+entry_of Input = INPUT_AT
+entry_of Search = SEARCH_AT
+entry_of Push = PUSH_AT
+entry_of Pop = POP_AT
+entry_of Fault = FAULT_AT
+entry_of Poll = POLL_AT
