@@ -1,0 +1,3 @@
+pub mod GivingBack
+pub mod Walking
+pub mod Filling
