@@ -1,5 +1,5 @@
 -- What notes give back.
-use Rattle.std.proofs.Common.{ℕ, ◌≡◌, ◌-◌, ◌+◌, ◌≤◌, Bool, true, false, ◌&&◌, List, [], ◌∷◌, ◌++◌, length, take, drop, refl, sym, ap, ◌∙◌, arith, suc, zero, length-append}
+use Rattle.std.proofs.Common.{ℕ, ◌≡◌, ◌-◌, ◌+◌, ◌≤◌, Bool, true, false, ◌&&◌, List, [], ◌∷◌, ◌++◌, length, take, drop, refl, sym, ap, subst, ◌∙◌, arith, suc, zero, length-append}
 use Rattle.std.specs.Prelude.{nat_le, Ok, if◌then◌else◌}
 use Rattle.std.proofs.lemmas.Bool.{and_parts, and_from}
 use Rattle.std.proofs.lemmas.Bool.Decides.{nat_tests}
@@ -9,11 +9,12 @@ use Rattle.tb_memmap.specs.Bytes.{at}
 use Rattle.tb_kernal.specs.declared.events.Event.{Event}
 use Rattle.tb_kernal.specs.declared.status.Status.{Status}
 use Rattle.tb_kernal.specs.Notes.{Note}
-use Rattle.tb_kernal.specs.Machine.{State, Content, state_of, happens, SameKeyboard, Happened}
+use Rattle.tb_kernal.specs.Machine.{State, Content, state_of, is_lawful, happens, SameKeyboard, Happened}
 use Rattle.tb_kernal.specs.Undoing.{Undone, Noted, back_to}
 use Rattle.tb_kernal.proofs.TakingBack.{note_gives_back}
-use Rattle.tb_stepper.specs.Notes.{Holds, given_back, first_of, earlier_of, all_fit}
+use Rattle.tb_stepper.specs.Notes.{Holds, given_back, first_of, earlier_of, all_fit, EachFollows}
 use Rattle.tb_stepper.specs.History.{Added, machines}
+use Rattle.tb_stepper.proofs.Following.{follows_more, follows_dropped}
 
 module _ (text answers : List ℕ) where
   first_more : (us : List Note) (u : Note) (s : State) → first_of text answers (us ++ u ∷ []) s ≡ first_of text answers us (given_back text answers u s)
@@ -149,3 +150,12 @@ taken_off h k u notes undone f =
     (λ i. earlier_of h.machine.all_text h.machine.all_answers (notes i) now ++ now ∷ []) ∙
     ap (λ l. l ++ now ∷ []) (earlier_more h.machine.all_text h.machine.all_answers k.notes u now) ∙
     (λ i. (earlier_of (sym undone.keyboard.0 i) (sym undone.keyboard.1 i) k.notes (back i) ++ back i ∷ []) ++ now ∷ [])
+
+-- the machine that a lawful event adds follows
+pub added_follows : {O : Type 0} (gives : O → Content → Event → O → Type 0) →
+    ((o : O) (m : Content) (e : Event) (p : O) → gives o m e p → is_lawful (state_of m) e ≡ true) →
+    (h k : Holds O) → Added gives h k → EachFollows (machines h) → EachFollows (machines k)
+added_follows gives law h k a each =
+    let lawful : is_lawful (state_of h.machine) a.event ≡ true = ap (λ s. is_lawful s a.event) (sym a.same) ∙ law h.outside a.ready a.event k.outside a.given in
+    let more = follows_more (earlier_of h.machine.all_text h.machine.all_answers h.notes (state_of h.machine)) (state_of h.machine) (state_of k.machine) each (a.event, lawful, a.happened) in
+    subst EachFollows (sym a.kept) (follows_dropped _ _ more)

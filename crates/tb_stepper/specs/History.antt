@@ -8,12 +8,7 @@ use Rattle.tb_kernal.specs.Machine.{State, Content, state_of, status, is_stopped
 use Rattle.tb_kernal.specs.declared.status.Status.TheVariants.{Running}
 use Rattle.tb_stepper.specs.declared.reached.Reached.{Reached}
 use Rattle.tb_stepper.specs.declared.reached.Reached.TheVariants.{There, Stopped, Limit}
-use Rattle.tb_stepper.specs.Notes.{earlier_of}
-pub use Rattle.tb_stepper.specs.Notes.{Holds}
-
--- the machines of a history, the present one last
-abbrev pub machines : {O : Type 0} → Holds O → List State
-machines h = earlier_of h.machine.all_text h.machine.all_answers h.notes (state_of h.machine) ++ state_of h.machine ∷ []
+pub use Rattle.tb_stepper.specs.Notes.{Holds, machines}
 
 -- one event that the outside gave to the machine, for which room may have been made, and the machine after it; at most 1,001 machines are kept
 pub record Added {O : Type 0} (gives : O → Content → Event → O → Type 0) (h k : Holds O) : Type 0 where

@@ -1,6 +1,7 @@
 //! A machine, with notes that take its last steps back.
 ghost use Rattle.std.specs.Prelude.{◌≡◌, ◌≤◌, ◌+◌, ◌<◌, ◌++◌, [], ◌∷◌, true, length, nat_lt, OnOk, OnErr, IfOk, IfErr, MatchResult};
 ghost use Rattle.tb_kernal.specs.Machine.{state_of, is_stopped, SameKeyboard};
+ghost use Rattle.tb_stepper.specs.Notes.{EachFollows};
 ghost use Rattle.tb_stepper.specs.History.{Holds, machines, Moved, Stepped, Reaches, end_at};
 
 use crate::reached::Reached;
@@ -43,14 +44,15 @@ pub struct Stepper<O: Outside + Drop> {
 
 impl<O: Outside + Drop> Model for Stepper<O> {
     ghost use Rattle.std.specs.Prelude.{◌≡◌, true};
-    ghost use Rattle.tb_stepper.specs.Notes.{Holds, all_fit};
+    ghost use Rattle.tb_stepper.specs.Notes.{Holds, machines, all_fit, EachFollows};
 
     ghost Value = { Holds O };
 
     ghost view = { λ h. record { machine = h.machine; outside = h.outside; notes = h.notes.items } };
 
     ghost invariant = { λ h. (h.notes.capacity ≡ 1000)
-        × (all_fit h.machine.all_text h.machine.all_answers h.notes.items ≡ true) };
+        × (all_fit h.machine.all_text h.machine.all_answers h.notes.items ≡ true)
+        × EachFollows (machines (record { machine = h.machine; outside = h.outside; notes = h.notes.items })) };
 }
 
 impl<O: Outside + Drop> Stepper<O> {
@@ -69,9 +71,10 @@ impl<O: Outside + Drop> Stepper<O> {
         }
     }
 
-    /// The present machine.
+    /// The present machine. Each machine that is held comes from the one before it by one event.
     pub fn machine(&self) -> &Machine
-        ensures { result.now ≡ self.now.machine }
+        ensures present { result.now ≡ self.now.machine }
+        ensures each_follows { EachFollows (machines self.now) }
     {
         &self.machine
     }

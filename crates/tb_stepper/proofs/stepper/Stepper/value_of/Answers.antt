@@ -10,5 +10,5 @@ use Rattle.tb_stepper.proofs.stepper.Stepper.value_of.Goals as goal
 pub returns : goal.returns
 returns g c =
     let variables : map word_of c.read_variables.result ≡ variables_in (at c.args.self.now.machine.memory) =
-    c.read_variables.ensures ∙ ap (λ m. variables_in (at m)) (c.memory.ensures ∙ ap (λ (m : Content). m.memory) c.machine.ensures) in
+    c.read_variables.ensures ∙ ap (λ m. variables_in (at m)) (c.memory.ensures ∙ ap (λ (m : Content). m.memory) c.machine.ensures.present) in
     subst (λ vs. IsEvaluation (expression_of c.args.e.now) vs c.eval.result) variables c.eval.ensures
