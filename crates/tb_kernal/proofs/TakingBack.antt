@@ -21,7 +21,7 @@ use Rattle.tb_kernal.specs.declared.status.Status.TheVariants.{Running, Waits, R
 use Rattle.tb_kernal.specs.declared.status.EventError.TheVariants.{Unlawful, Sent}
 use Rattle.tb_kernal.specs.Notes.{Note}
 use Rattle.tb_kernal.specs.Places.{all_writable, all_open, old_of, written_open, service_at}
-use Rattle.tb_kernal.specs.Machine.{State, Content, state_of, status, is_stopped, happens, gone, gone_at, stepped, is_lawful, is_lawful_go, sends, SameKeyboard}
+use Rattle.tb_kernal.specs.Machine.{State, Content, state_of, status, is_stopped, happens, gone, gone_at, stepped, is_lawful, is_lawful_go, sends, SameKeyboard, Happened}
 use Rattle.tb_kernal.specs.Undoing.{Noted, Undone, TakesBack, SameButRoom, places_of, places_of_go, back_to}
 use Rattle.tb_kernal.proofs.WriteLists.{rom_writable_open}
 use Rattle.tb_kernal.proofs.Restoring.{is_among, all_among, AreOf, restored_open}
@@ -227,3 +227,15 @@ takes_back u n q done m e (Err w) after noted h same =
     let unchanged : state_of n ≡ state_of m = same.0 ∙ ap state_of h.1 in
     let keys : SameKeyboard m n = (same.1.0 ∙ ap (λ (c : Content). c.all_text) h.1, same.1.1 ∙ ap (λ (c : Content). c.all_answers) h.1) in
     taken_back_from u m n q e (state_of m) noted done unchanged keys (onward_same (state_of m) (state_of m) refl refl refl) (nothing_back (at m.memory) (places_of e m))
+
+-- what the note of an event gives back of the machine that the event came to
+pub note_gives_back : (u : Note) (m : Content) (e : Event) (t : Status) (n : Content) → Noted u m e → Happened m e (Ok t) n →
+    (written_open (at n.memory) u.bytes ≡ at m.memory) × (take u.sent n.sent ≡ m.sent) × (n.home ≡ m.home) × (n.home_s ≡ m.home_s)
+note_gives_back u m e t n noted h =
+    let lawful = lawful_if (is_lawful (state_of m) e) (sends (state_of m) && m.room == 0) h.0 in
+    let on = onward (state_of m) e in
+    let mem : at n.memory ≡ (happens (state_of m) e).mem = ap (λ (x : State). x.mem) h.1 in
+    let were : n.sent ≡ (happens (state_of m) e).sent = ap (λ (x : State). x.sent) h.1 in
+    let homes : n.home ≡ (happens (state_of m) e).home = ap (λ (x : State). x.home) h.1 in
+    let homes_s : n.home_s ≡ (happens (state_of m) e).home_s = ap (λ (x : State). x.home_s) h.1 in
+    (rw (mem, noted.bytes) (memory_back m e noted.stack lawful), rw (were, noted.sent) on.sent, homes ∙ on.home, homes_s ∙ on.home_s)

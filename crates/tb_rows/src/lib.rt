@@ -30,4 +30,6 @@ mod prg;
 #[cfg(test)]
 mod reaching;
 #[cfg(test)]
+mod stepper;
+#[cfg(test)]
 mod words;

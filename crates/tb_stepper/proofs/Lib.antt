@@ -1,0 +1,4 @@
+pub mod GivingBack
+pub mod Walking
+pub mod Filling
+pub mod Following

@@ -1,0 +1,6 @@
+use Rattle.std.proofs.Common.{◌≡◌}
+use Rattle.tb_stepper.specs.History.{Walked}
+use Rattle.tb_stepper.proofs.stepper.Stepper.to_address.Given as goal
+
+abbrev pub invariant-loop-taken : goal.invariant-loop-taken
+invariant-loop-taken g l = Walked g.O.Outside.gives l.address l.taken l.initial.self l.self

@@ -1,0 +1,65 @@
+-- A history of machines, and its steps.
+use Rattle.std.specs.Prelude.{ℕ, ◌≡◌, ◌<◌, ◌≤◌, nat_lt, suc, zero, Err, ◌&&◌, ◌==◌, Bool, true, false, List, [], ◌∷◌, ◌++◌, Option, Some, None, Result, Ok, MatchResult, if◌then◌else◌}
+use Rattle.circular_buffer.specs.Buffer.{keep_last}
+use Rattle.tb_memmap.specs.declared.memory.NoMemory.{NoMemory}
+use Rattle.tb_kernal.specs.declared.events.Event.{Event}
+use Rattle.tb_kernal.specs.declared.status.Status.{Status}
+use Rattle.tb_kernal.specs.Machine.{State, Content, state_of, status, is_stopped, happens}
+use Rattle.tb_kernal.specs.declared.status.Status.TheVariants.{Running}
+use Rattle.tb_stepper.specs.declared.reached.Reached.{Reached}
+use Rattle.tb_stepper.specs.declared.reached.Reached.TheVariants.{There, Stopped, Limit}
+pub use Rattle.tb_stepper.specs.Notes.{Holds, machines}
+
+-- one event that the outside gave to the machine, for which room may have been made, and the machine after it; at most 1,001 machines are kept
+pub record Added {O : Type 0} (gives : O → Content → Event → O → Type 0) (h k : Holds O) : Type 0 where
+  pub ready : Content
+  pub event : Event
+  pub same : state_of ready ≡ state_of h.machine
+  pub given : gives h.outside ready event k.outside
+  pub happened : state_of k.machine ≡ happens (state_of h.machine) event
+  pub kept : machines k ≡ keep_last 1001 (machines h ++ state_of k.machine ∷ [])
+
+-- a step of a machine that isn't stopped; NoMemory comes only where there is no room, and changes nothing
+abbrev pub Moved : {O : Type 0} → (O → Content → Event → O → Type 0) → Holds O → Result Status NoMemory → Holds O → Type 0
+Moved gives h result k =
+    MatchResult result
+    (λ t. Added gives h k × (t ≡ status (state_of k.machine)))
+    (λ _. (h.machine.room ≡ 0) × (k ≡ h))
+
+-- the same, by whether the machine is stopped: where it is, it stays as it is, and nobody is asked
+abbrev pub SteppedBy : {O : Type 0} → Bool → (O → Content → Event → O → Type 0) → Holds O → Result Status NoMemory → Holds O → Type 0
+SteppedBy true gives h result k = (result ≡ Ok (status (state_of h.machine))) × (k ≡ h)
+SteppedBy false gives h result k = Moved gives h result k
+
+-- a step
+abbrev pub Stepped : {O : Type 0} → (O → Content → Event → O → Type 0) → Holds O → Result Status NoMemory → Holds O → Type 0
+Stepped gives h result k = SteppedBy (is_stopped (status (state_of h.machine))) gives h result k
+
+-- why a walk ends in a state, its limit aside: PC is there after a step, else the machine isn't Running
+abbrev pub end_by : Bool → Status → Option Reached
+end_by true t = Some There
+end_by false Running = None
+end_by false t = Some (Stopped t)
+
+abbrev pub end_at : ℕ → Bool → State → Option Reached
+end_at address moved s = end_by (moved && s.regs.pc == address) (status s)
+
+-- a walk of that many steps, none of which was taken where a walk ends
+abbrev pub Walked : {O : Type 0} → (O → Content → Event → O → Type 0) → ℕ → ℕ → Holds O → Holds O → Type 0
+Walked gives address zero h k = k ≡ h
+Walked {O} gives address (suc n) h k =
+    (b : Holds O) × Walked gives address n h b × (end_at address (nat_lt 0 n) (state_of b.machine) ≡ None) × Stepped gives b (Ok (status (state_of k.machine))) k
+
+-- what is answered after that many steps: where the walk ends, else that the limit is reached
+abbrev pub Answers : Option Reached → ℕ → ℕ → Reached → Type 0
+Answers (Some e) n limit answer = answer ≡ e
+Answers None n limit answer = (answer ≡ Limit) × (n ≡ limit)
+
+-- a walk to an address: the steps and the answer; NoMemory comes before a step for which there was no room
+pub record Reaches {O : Type 0} (gives : O → Content → Event → O → Type 0) (address limit : ℕ) (h : Holds O) (result : Result Reached NoMemory) (k : Holds O) : Type 0 where
+  pub steps : ℕ
+  pub walked : Walked gives address steps h k
+  pub few : steps ≤ limit
+  pub answer : MatchResult result
+      (λ answer. Answers (end_at address (nat_lt 0 steps) (state_of k.machine)) steps limit answer)
+      (λ _. (end_at address (nat_lt 0 steps) (state_of k.machine) ≡ None) × (steps < limit) × (k.machine.room ≡ 0))

@@ -1,0 +1,12 @@
+//! Stepping a program forward and back.
+//!
+//! A `Stepper` holds a machine and notes of its last 1,000 steps, each
+//! of which can be taken back.
+#![tactic(auto)]
+
+mod reached;
+mod readings;
+mod stepper;
+
+pub use reached::Reached;
+pub use stepper::{NothingBack, Refused, Stepper};

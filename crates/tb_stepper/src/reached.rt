@@ -1,0 +1,13 @@
+//! Where a walk ended.
+use tb_kernal::Status;
+
+/// Where a walk to an address ended.
+#[derive(Clone, Copy, PartialEq, Eq, Debug, Drop)]
+pub enum Reached {
+    /// PC is there, after at least one step.
+    There,
+    /// The machine isn't Running; this is how it stands.
+    Stopped(Status),
+    /// As many steps as the limit were taken.
+    Limit,
+}

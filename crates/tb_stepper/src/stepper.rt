@@ -1,0 +1,159 @@
+//! A machine, with notes that take its last steps back.
+ghost use Rattle.std.specs.Prelude.{◌≡◌, ◌≤◌, ◌+◌, ◌<◌, ◌++◌, [], ◌∷◌, true, length, nat_lt, OnOk, OnErr, IfOk, IfErr, MatchResult};
+ghost use Rattle.tb_kernal.specs.Machine.{state_of, is_stopped, SameKeyboard};
+ghost use Rattle.tb_stepper.specs.Notes.{EachFollows};
+ghost use Rattle.tb_stepper.specs.History.{Holds, machines, Moved, Stepped, Reaches, end_at};
+
+use crate::reached::Reached;
+use circular_buffer::HeapCircularBuffer;
+use std::alloc::Global;
+use std::marker::Model;
+use tb_kernal::{Machine, Outside, Status, Undo};
+use tb_memmap::NoMemory;
+
+/// How many steps can be taken back.
+const KEPT: usize = 1000;
+
+/// Memory ran out before a history was made of a machine and an outside.
+#[derive(Drop)]
+pub struct Refused<O: Outside + Drop> {
+    /// The machine that was handed in.
+    pub machine: Machine,
+    /// The outside that was handed in.
+    pub outside: O,
+}
+
+/// No step is noted that could be taken back.
+#[derive(Clone, Copy, PartialEq, Eq, Debug, Drop)]
+pub struct NothingBack;
+
+// Whether nothing can change any more.
+fn has_stopped(status: Status) -> bool
+    ensures { result ≡ is_stopped status }
+{
+    matches!(status, Status::Returned | Status::Wrong(_))
+}
+
+/// A machine beside its outside, and the last 1,000 machines before it.
+#[derive(Drop)]
+pub struct Stepper<O: Outside + Drop> {
+    machine: Machine,
+    outside: O,
+    notes: HeapCircularBuffer<Undo>,
+}
+
+impl<O: Outside + Drop> Model for Stepper<O> {
+    ghost use Rattle.std.specs.Prelude.{◌≡◌, true};
+    ghost use Rattle.tb_stepper.specs.Notes.{Holds, machines, all_fit, EachFollows};
+
+    ghost Value = { Holds O };
+
+    ghost view = { λ h. record { machine = h.machine; outside = h.outside; notes = h.notes.items } };
+
+    ghost invariant = { λ h. (h.notes.capacity ≡ 1000)
+        × (all_fit h.machine.all_text h.machine.all_answers h.notes.items ≡ true)
+        × EachFollows (machines (record { machine = h.machine; outside = h.outside; notes = h.notes.items })) };
+}
+
+impl<O: Outside + Drop> Stepper<O> {
+    /// The history that holds a machine alone.
+    pub fn new(alloc: Global, machine: Machine, outside: O) -> Result<Stepper<O>, Refused<O>>
+        ensures held { IfOk result (λ h. h ≡ record { machine = machine; outside = outside; notes = [] }) }
+        ensures handed_back { IfErr result (λ e. (e.machine ≡ machine) × (e.outside ≡ outside)) }
+    {
+        match HeapCircularBuffer::with_capacity(alloc, KEPT) {
+            Ok(notes) => Ok(Stepper {
+                machine,
+                outside,
+                notes,
+            }),
+            Err(_) => Err(Refused { machine, outside }),
+        }
+    }
+
+    /// The present machine. Each machine that is held comes from the one before it by one event.
+    pub fn machine(&self) -> &Machine
+        ensures present { result.now ≡ self.now.machine }
+        ensures each_follows { EachFollows (machines self.now) }
+    {
+        &self.machine
+    }
+
+    /// Lets the outside's next event happen, and answers how the machine then stands. A stopped
+    /// machine stays as it is, and the outside isn't asked. NoMemory changes nothing.
+    pub fn step(&mut self) -> Result<Status, NoMemory>
+        ensures { Stepped O.gives self.old result self.new }
+    {
+        let status = self.machine.status();
+        if has_stopped(status) {
+            return Ok(status);
+        }
+        self.take_event()
+    }
+
+    // A step of a machine that isn't stopped.
+    fn take_event(&mut self) -> Result<Status, NoMemory>
+        ensures { Moved O.gives self.old result self.new }
+    {
+        if self.machine.reserve(1).is_err() {
+            return Err(NoMemory);
+        }
+        let event = self.outside.next(&self.machine);
+        let note = self.machine.note(&event);
+        match self.machine.event(event) {
+            Ok(status) => {
+                self.notes.push_back(note);
+                Ok(status)
+            }
+            Err(_) => unreachable!(),
+        }
+    }
+
+    /// Takes the newest noted step of the machine back, and nothing of the outside. Refused exactly
+    /// where no step is noted.
+    pub fn back(&mut self) -> Result<(), NothingBack>
+        ensures restored { OnOk result (machines self.old
+            ≡ machines self.new ++ state_of self.old.machine ∷ []) }
+        ensures rest { (self.new.outside ≡ self.old.outside)
+            × SameKeyboard self.old.machine self.new.machine }
+        ensures refused { OnErr result ((self.old.notes ≡ []) × (self.new ≡ self.old)) }
+    {
+        match self.notes.pop_back() {
+            Some(note) => {
+                self.machine.undo(&note);
+                Ok(())
+            }
+            None => Err(NothingBack),
+        }
+    }
+
+    /// Takes steps until PC is at an address after at least one step, or the machine isn't Running,
+    /// or `limit` steps were taken; before each step this is looked at in this order.
+    ///
+    /// After NoMemory the machine stands after the steps so far.
+    pub fn to_address(&mut self, address: u16, limit: u64) -> Result<Reached, NoMemory>
+        ensures { Reaches O.gives address limit self.old result self.new }
+    {
+        for taken in 0..limit {
+            if let Some(reached) = self.end(address, taken > 0) {
+                return Ok(reached);
+            }
+            self.step()?;
+        }
+        Ok(self.end(address, limit > 0).unwrap_or(Reached::Limit))
+    }
+
+    // Why a walk to an address ends here, where it isn't for its limit. `moved` says that a step
+    // was taken.
+    fn end(&self, address: u16, moved: bool) -> Option<Reached>
+        ensures { result ≡ end_at address moved (state_of self.now.machine) }
+    {
+        if moved && self.machine.regs().pc == address {
+            return Some(Reached::There);
+        }
+        match self.machine.status() {
+            Status::Running => None,
+            status => Some(Reached::Stopped(status)),
+        }
+    }
+}
