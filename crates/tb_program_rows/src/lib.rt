@@ -1,4 +1,5 @@
-//! Worked rows of every layer, as tests. The crate has nothing else: tests in a crate of their own are proved once.
+//! Worked rows of compiled programs, as tests. The crate has nothing else: a crate with tests is proved twice, so the
+//! crates that they test have none.
 #![tactic(auto)]
 
 #[cfg(test)]
@@ -15,3 +16,5 @@ mod refusing;
 mod running;
 #[cfg(test)]
 mod setup;
+#[cfg(test)]
+mod stepper;
