@@ -108,6 +108,9 @@ lines_known labels ns seed a (line ∷ lines) h =
 -- where the labels of a program stand
 pub record Found (seed : ℕ) (code : SlotCode) (labels : List (Name × ℕ)) : Type 0 where
   pub lines : LabelsAt labels LINES_AT (lines_code (numbers code) seed code)
+  pub past : LabelsAt labels (LINES_AT + size (lines_code (numbers code) seed code)) (past_code (numbers code))
+  pub find : LabelsAt labels (LINES_AT + size (lines_code (numbers code) seed code) + size (past_code (numbers code))) (find_code (numbers code))
+  pub rows : LabelsAt labels (LINES_AT + size (lines_code (numbers code) seed code) + size (past_code (numbers code)) + size (find_code (numbers code))) (table_code (numbers code))
   pub table : address_in labels (label_of Table) ≡ Some (table_at seed code)
 
 pub found : (seed : ℕ) (code : SlotCode) (labels : List (Name × ℕ)) → LabelsAt labels PROLOGUE_AT (program_code seed code) → Found seed code labels
@@ -120,7 +123,7 @@ found seed code labels h =
     let u = labels_split labels (LINES_AT + size lines) past (search ++ table) t.1 in
     let v = labels_split labels (LINES_AT + size lines + size past) search table u.1 in
     let there : LINES_AT + size lines + size past + size search ≡ table_at seed code = omega arith in
-    record { lines = t.0; table = v.1.0 ∙ ap Some there }
+    record { lines = t.0; past = u.0; find = v.0; rows = v.1; table = v.1.0 ∙ ap Some there }
 
 -- ── a small program's code ──
 pub record IsLaid (seed : ℕ) (code : SlotCode) : Type 0 where
