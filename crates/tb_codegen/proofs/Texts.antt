@@ -6,7 +6,8 @@ use Rattle.tb_asm.proofs.Laws.{all_size, bytes_append}
 use Rattle.tb_syntax.specs.Source.{Program, Command}
 use Rattle.tb_lower.specs.Lowered as lowered
 use Rattle.tb_lower.specs.Slots.{Instr, Put, Load, Store, Negate, Compute, Random, SendText, SendNumber, SendZone, SendNewline, Input, Poll, Hold, LeaveUnless, Jump, Call, JumpTo, CallTo, Return, End}
-use Rattle.tb_lower.specs.Weights.{instr_texts, command_texts}
+use Rattle.tb_lower.specs.Weights.{instr_texts}
+use Rattle.tb_syntax.specs.Texts.{command_texts}
 use Rattle.tb_lower.proofs.Weighed.{same_texts}
 use Rattle.tb_templates.specs.declared.labels.Inner.TheVariants as inner
 use Rattle.tb_templates.specs.declared.labels.Target.TheVariants as target

@@ -2,7 +2,7 @@
 use Rattle.std.specs.Prelude.{◌≡◌, ℕ, ◌+◌, ◌≤◌, List, [], ◌∷◌, length, take, drop}
 use Rattle.tb_syntax.specs.Source.{Program}
 use Rattle.tb_lower.specs.Lowered.{list_code}
-use Rattle.tb_lower.specs.Weights.{command_texts}
+use Rattle.tb_syntax.specs.Texts.{command_texts}
 use Rattle.tb_asm.specs.Layout.{size}
 use Rattle.tb_templates.specs.Program.{line_code}
 
