@@ -5,5 +5,6 @@ pub mod Outcomes
 pub mod Rising
 pub mod Runs
 pub mod Steps
+pub mod Texts
 pub mod Told
 pub mod Unique

@@ -31,6 +31,7 @@ abbrev pub InLineOne : {A : Type 0} → (Result A Refusal → Type 0) → Result
 InLineOne Is (Ok a) = Is (Ok a)
 InLineOne Is (Err r) = (r.line ≡ 1) × Is (Err r.refusal)
 
+-- what a line does, as plain data
 abbrev pub edit_of : LineEdit → Edit
 edit_of line_edit.Nothing = Nothing
 edit_of (line_edit.Set number statement) = Sets number (command_of statement)

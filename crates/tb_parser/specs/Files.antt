@@ -1,9 +1,11 @@
 -- The program of a file, line by line.
-use Rattle.std.specs.Prelude.{ℕ, ◌+◌, ◌<◌, ◌≤◌, List, [], ◌∷◌, Some, Result, Ok, Err, if◌then◌else◌, ◌==◌, nat_lt}
+use Rattle.std.specs.Prelude.{ℕ, ◌+◌, ◌<◌, ◌≤◌, List, [], ◌∷◌, length, Some, None, Result, Ok, Err, if◌then◌else◌, ◌==◌, nat_lt}
 use Rattle.tb_syntax.specs.Source.{Command, Numbered, Program}
+use Rattle.tb_grammar.specs.Statements.{States}
 use Rattle.tb_parser.specs.declared.errors.SourceErrorKind.TheVariants.{Empty}
 use Rattle.tb_parser.specs.Readings.{Refusal, Edit, Nothing, Sets, Deletes, LineIs}
 
+-- a line of a program
 abbrev pub line_at : ℕ → Command → Numbered Command
 line_at number c = record { number = number; content = c }
 
@@ -20,6 +22,7 @@ abbrev pub without_line : ℕ → Program → Program
 without_line number [] = []
 without_line number (line ∷ lines) = if number == line.number then lines else line ∷ without_line number lines
 
+-- a program behind a line of its file
 abbrev pub edited : Edit → Program → Program
 edited Nothing p = p
 edited (Sets number c) p = with_line number c p
@@ -30,6 +33,7 @@ pub record FileRefusal : Type 0 where
   pub line : ℕ
   pub refusal : Refusal
 
+-- a line's refusal at its place in the file
 abbrev pub refused_at : ℕ → Refusal → FileRefusal
 refused_at line r = record { line = line; refusal = r }
 
@@ -53,3 +57,13 @@ pub data LinesAre : ℕ → Program → List (List ℕ) → Outcome → Type 0 w
 abbrev pub RisesFrom : ℕ → List ℕ → Type 0
 RisesFrom low [] = Unit {0}
 RisesFrom low (n ∷ ns) = (low < n) × (n ≤ 32767) × RisesFrom n ns
+
+-- a statement that stands in a text of at most 255 bytes
+pub record IsStated (c : Command) : Type 0 where
+  pub text : List ℕ
+  pub short : length text ≤ 255
+  pub states : States text c None
+
+abbrev pub AreStated : Program → Type 0
+AreStated [] = Unit {0}
+AreStated (line ∷ lines) = IsStated line.content × AreStated lines

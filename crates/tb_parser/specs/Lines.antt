@@ -15,6 +15,7 @@ lines_from behind_13 (b ∷ bytes) =
     else if b == 13 then [] ∷ lines_from true bytes
     else longer b (lines_from false bytes)
 
+-- the lines of a whole file
 abbrev pub lines_of_file : List ℕ → List (List ℕ)
 lines_of_file bytes = lines_from false bytes
 

@@ -15,6 +15,7 @@ pub record Refusal : Type 0 where
   pub kind : SourceErrorKind
   pub column : Option ℕ
 
+-- a fault whose column is said
 abbrev pub at_column : SourceErrorKind → ℕ → Refusal
 at_column kind column = record { kind = kind; column = Some column }
 
@@ -22,6 +23,7 @@ at_column kind column = record { kind = kind; column = Some column }
 abbrev pub Grammar : Type 0 → Type 1
 Grammar A = List ℕ → A → Option ℕ → Type 0
 
+-- the text stands for nothing
 abbrev pub HasNoReading : {A : Type 0} → Grammar A → List ℕ → Type 0
 HasNoReading {A} grammar text = (a : A) (large : Option ℕ) → grammar text a large → ⊥
 
@@ -38,10 +40,12 @@ pub data IsUnfit (line : List ℕ) : Refusal → Type 0 where
   line_too_long : 255 < length line → IsUnfit line (at_column LineTooLong 256)
   bad_byte : (column : ℕ) → length line ≤ 255 → first_bad Code 1 line ≡ Some column → IsUnfit line (at_column BadByte column)
 
+-- a line that is neither
 pub record IsFit (line : List ℕ) : Type 0 where
   pub short : length line ≤ 255
   pub clean : first_bad Code 1 line ≡ None
 
+-- a number that a line may have
 abbrev pub IsLineNumber : ℕ → Type 0
 IsLineNumber n = (1 ≤ n) × (n ≤ 32767)
 

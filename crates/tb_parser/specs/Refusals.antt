@@ -5,15 +5,19 @@ use Rattle.tb_parser.specs.declared.errors.SourceError.{SourceError}
 use Rattle.tb_parser.specs.declared.errors.SourceErrorKind.{SourceErrorKind}
 use Rattle.tb_parser.specs.declared.errors.SourceErrorKind.TheVariants.{NoMemory}
 
+-- want of memory, which has no place
 abbrev pub out_of_memory : SourceError
 out_of_memory = record { kind = NoMemory; line = 0; column = 0 }
 
+-- the same of a line
 abbrev pub fault_of_memory : Fault
 fault_of_memory = record { kind = NoMemory; column = 0 }
 
+-- a fault of a line of a file
 abbrev pub error_at : SourceErrorKind → ℕ → ℕ → SourceError
 error_at NoMemory line column = out_of_memory
 error_at kind line column = record { kind = kind; line = line; column = column }
 
+-- the same, from what the crate holds
 abbrev pub at_line : ℕ → Fault → SourceError
 at_line line fault = error_at fault.kind line fault.column

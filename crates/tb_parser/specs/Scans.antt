@@ -10,9 +10,11 @@ unfoldable pub first_written : ℕ → List ℕ → Option ℕ
 first_written column [] = None
 first_written column (b ∷ line) = if b == 32 then first_written (column + 1) line else Some column
 
+-- the bytes 32 to 90 and the lower-case letters
 abbrev pub is_source_byte : ℕ → Bool
 is_source_byte b = (nat_le 32 b && nat_le b 90) || (nat_le 97 b && nat_le b 122)
 
+-- a byte that may not stand here: in a remark all may
 abbrev pub is_bad : Mode → ℕ → Bool
 is_bad Remark b = false
 is_bad m b = if is_source_byte b then false else true
@@ -22,9 +24,11 @@ unfoldable pub first_bad : Mode → ℕ → List ℕ → Option ℕ
 first_bad m column [] = None
 first_bad m column (b ∷ line) = if is_bad m b then Some column else first_bad (after m b) (column + 1) line
 
+-- 0 to 9
 abbrev pub is_digit : ℕ → Bool
 is_digit b = nat_le 48 b && nat_le b 57
 
+-- a digit stands at the front
 abbrev pub starts_with_digit : List Placed → Bool
 starts_with_digit [] = false
 starts_with_digit (p ∷ placed) = is_digit p.byte
@@ -41,16 +45,18 @@ number_at n (p ∷ placed) =
     if is_digit p.byte then number_at (10 * n + (p.byte - 48)) placed
     else record { value = n; rest = p ∷ placed }
 
+-- a word stands at the front
 abbrev pub begins : List ℕ → List Placed → Bool
 begins [] placed = true
 begins (letter ∷ letters) [] = false
 begins (letter ∷ letters) (p ∷ placed) = (p.byte == letter) && begins letters placed
 
--- at the front stands a word that the compiler leaves out
+-- a word of Tiny BASIC stands at the front that is not compiled
 abbrev pub is_left_out : List Placed → Bool
 is_left_out placed = begins (codes "USR") placed || begins (codes "RUN") placed || begins (codes "LIST") placed || begins (codes "CLEAR") placed
 
--- the column of the first such word outside texts and remarks
+-- The column of the first such word outside texts and remarks. Spaces inside it are gone, and it may be part of a
+-- longer run of letters.
 unfoldable pub left_out_word : List Placed → Option ℕ
 left_out_word [] = None
 left_out_word (p ∷ placed) = if p.in_code && is_left_out (p ∷ placed) then Some p.column else left_out_word placed

@@ -4,6 +4,7 @@ use Rattle.tb_parser.specs.declared.squeeze.Mode.{Mode}
 use Rattle.tb_parser.specs.declared.squeeze.Mode.TheVariants.{Code, CodeR, CodeRe, Text, Remark}
 use Rattle.tb_parser.specs.declared.squeeze.Placed.{Placed}
 
+-- a letter in upper case
 abbrev pub upper : ℕ → ℕ
 upper b = if nat_le 97 b && nat_le b 122 then b - 32 else b
 
@@ -32,6 +33,7 @@ is_in_code Remark = false
 abbrev pub is_dropped : Mode → ℕ → Bool
 is_dropped m b = (b == 32) && is_in_code m
 
+-- a byte as it is left: in upper case, but as it stands in a remark
 abbrev pub shown : Mode → ℕ → ℕ
 shown Code b = upper b
 shown CodeR b = upper b
@@ -46,8 +48,10 @@ squeezed_from m column (b ∷ line) =
     if is_dropped m b then squeezed_from (after m b) (column + 1) line
     else record { byte = shown m b; column = column; in_code = is_in_code m } ∷ squeezed_from (after m b) (column + 1) line
 
+-- a whole line
 abbrev pub squeezed : List ℕ → List Placed
 squeezed line = squeezed_from Code 1 line
 
+-- the bytes alone
 abbrev pub bytes : List Placed → List ℕ
 bytes placed = map (λ p. p.byte) placed

@@ -35,6 +35,7 @@ pub enum SourceErrorKind {
 /// Why a source text is refused, and where.
 #[derive(Clone, Copy, Debug, PartialEq, Eq)]
 pub struct SourceError {
+    /// What is wrong.
     pub kind: SourceErrorKind,
     /// The line of the file, from 1.
     pub line: usize,

@@ -67,32 +67,32 @@ pub enum TokenKind {
     Variable,
     /// RND.
     Random,
+    /// A word of the language.
     Keyword(Keyword),
-    /// `+` or `-`.
-    Sign,
-    /// `*` or `/`.
+    /// `+`, `-`, `*` or `/`.
     Operator,
-    /// `=`, a relation and the sign of LET.
-    Equals,
-    /// `<`, `>`, `<=`, `>=`, `<>` or `><`.
+    /// `=`, `<`, `>`, `<=`, `>=`, `<>` or `><`.
     Relation,
+    /// `(`.
     Open,
+    /// `)`.
     Close,
+    /// `,`.
     Comma,
+    /// `;`.
     Semicolon,
     /// A text with its two quotes.
     Text,
     /// What stands behind REM.
     Remark,
-    /// A text without its second quote.
-    Unclosed,
-    /// A byte that begins nothing.
+    /// A byte that begins nothing, or a text without its second quote, which goes on to the line's end.
     Stray,
 }
 
 /// A token of a line.
 #[derive(Clone, Copy, Debug, PartialEq, Eq)]
 pub struct Token<'a> {
+    /// What it is.
     pub kind: TokenKind,
     /// Its bytes as they stand in the line, with spaces between the letters or digits.
     pub text: &'a [u8],
@@ -100,9 +100,9 @@ pub struct Token<'a> {
     pub column: usize,
 }
 
-/// What a letter begins, by the token before it.
+// What a letter begins, by the token before it.
 #[derive(Clone, Copy, PartialEq, Eq)]
-pub(crate) enum Awaits {
+enum Awaits {
     /// RND, else a variable.
     Operand,
     /// A variable where `=` follows, else the longest keyword.
@@ -113,11 +113,9 @@ pub(crate) enum Awaits {
 
 impl TokenKind {
     /// What a letter behind this token begins.
-    pub(crate) fn awaits(self) -> Awaits {
+    fn awaits(self) -> Awaits {
         match self {
-            TokenKind::Sign
-            | TokenKind::Operator
-            | TokenKind::Equals
+            TokenKind::Operator
             | TokenKind::Relation
             | TokenKind::Open
             | TokenKind::Comma
@@ -140,7 +138,7 @@ impl TokenKind {
 
 impl Token<'_> {
     /// The place in the line behind the token, from 0.
-    pub(crate) fn end(&self) -> usize
+    fn end(&self) -> usize
         requires { (1 ≤ self.now.column) × (self.now.column + length self.now.text.now < 2 ^ 64) }
         ensures { result ≡ end_of self.now }
     {
@@ -178,7 +176,7 @@ fn word_end(line: &[u8], at: usize, word: &[u8]) -> Option<usize>
 }
 
 /// The next token from the place `at` on, where there is one.
-pub(crate) fn next_token(line: &[u8], at: usize, awaits: Awaits) -> Option<Token<'_>>
+fn next_token(line: &[u8], at: usize, awaits: Awaits) -> Option<Token<'_>>
     requires { at ≤ length line.now }
     ensures { MatchOption result (AreSpaces line.now at (length line.now)) (λ t. IsNext line.now at t) }
 {
@@ -210,20 +208,19 @@ fn token_at(line: &[u8], start: usize, awaits: Awaits) -> (TokenKind, usize)
         b'A'..=b'Z' | b'a'..=b'z' => letter_token(line, start, awaits),
         b'"' => text_token(line, start),
         b'<' | b'>' => (TokenKind::Relation, relation_end(line, start)),
-        byte => (sign_kind(byte), start + 1),
+        byte => (mark_kind(byte), start + 1),
     }
 }
 
 // What a byte is that is a token alone.
-fn sign_kind(byte: u8) -> TokenKind {
+fn mark_kind(byte: u8) -> TokenKind {
     match byte {
-        b'+' | b'-' => TokenKind::Sign,
-        b'*' | b'/' => TokenKind::Operator,
+        b'+' | b'-' | b'*' | b'/' => TokenKind::Operator,
+        b'=' => TokenKind::Relation,
         b'(' => TokenKind::Open,
         b')' => TokenKind::Close,
         b',' => TokenKind::Comma,
         b';' => TokenKind::Semicolon,
-        b'=' => TokenKind::Equals,
         _ => TokenKind::Stray,
     }
 }
@@ -270,7 +267,7 @@ fn text_token(line: &[u8], start: usize) -> (TokenKind, usize)
             return (TokenKind::Text, i + 1);
         }
     }
-    (TokenKind::Unclosed, line.len())
+    (TokenKind::Stray, line.len())
 }
 
 // What the letter here begins.

@@ -9,7 +9,6 @@ mod errors;
 mod lexer;
 mod lines;
 mod parser;
-mod recognizer;
 mod scans;
 mod squeeze;
 

@@ -5,7 +5,7 @@ ghost use Rattle.tb_syntax.specs.Shown.{command_of, expression_of, lines_of};
 ghost use Rattle.tb_grammar.specs.Statements.{States};
 ghost use Rattle.tb_parser.specs.declared.errors.SourceErrorKind.TheVariants.{NoMemory, NotCompiled, NumberTooLarge, Syntax};
 ghost use Rattle.tb_parser.specs.Answers.{edit_of, refusal_of, Answers, InLineOne, Says};
-ghost use Rattle.tb_parser.specs.Files.{FileRefusal, LinesAre, Outcome, RisesFrom};
+ghost use Rattle.tb_parser.specs.Files.{AreStated, FileRefusal, LinesAre, Outcome, RisesFrom};
 ghost use Rattle.tb_parser.specs.Lines.{lines_of_file};
 ghost use Rattle.tb_parser.specs.Readings.{Expresses, ExpressionIs, IsFit, IsUnfit, LineIs, TextIs};
 ghost use Rattle.tb_parser.specs.Refusals.{out_of_memory};
@@ -14,7 +14,6 @@ ghost use Rattle.tb_parser.specs.Scans.{column_left, left_out_word};
 use crate::edits::{LineEdit, apply};
 use crate::errors::{Fault, OUT_OF_MEMORY, SourceError, SourceErrorKind};
 use crate::lines::next_line;
-use crate::recognizer::{Start, syntax_column};
 use crate::scans::{bad_byte, column_of_left, is_numbered, left_out, line_number, written};
 use crate::squeeze::{Placed, bytes_of, squeeze};
 use std::alloc::Global;
@@ -35,6 +34,8 @@ pub fn parse(alloc: Global, source: &[u8]) -> Result<Program, SourceError>
     ensures found { Answers lines_of result (LinesAre 1 [] (lines_of_file source.now)) }
     // The numbers rise, from 1 to 32,767 at most.
     ensures rising { IfOk result (λ p. RisesFrom 0 (numbers (lines_of p))) }
+    // Each statement stands in a text that fits a line.
+    ensures stated { IfOk result (λ p. AreStated (lines_of p)) }
     // And what they make is answered.
     ensures only { (outcome : Outcome) → LinesAre 1 [] (lines_of_file source.now) outcome → Answers lines_of result (λ said. said ≡ outcome) }
     ensures memory { IfErr result (λ e. e.kind ≡ NoMemory → e ≡ out_of_memory) }
@@ -127,7 +128,7 @@ fn read_command(alloc: Global, line: &[u8], text: &[Placed]) -> Result<Statement
     match read_statement(alloc, &bytes) {
         Ok(read) => in_range(read.statement, read.large, text),
         Err(Stop::NoMemory) => Err(OUT_OF_MEMORY),
-        Err(Stop::NoReading(_)) => Err(unread(line, text, Start::Line)),
+        Err(Stop::NoReading(left)) => Err(unread(line, text, left)),
     }
 }
 
@@ -148,7 +149,7 @@ fn read_value(alloc: Global, line: &[u8], text: &[Placed]) -> Result<Expr, Fault
     match read_expression(alloc, &bytes) {
         Ok(read) => in_range(read.expr, read.large, text),
         Err(Stop::NoMemory) => Err(OUT_OF_MEMORY),
-        Err(Stop::NoReading(_)) => Err(unread(line, text, Start::Expression)),
+        Err(Stop::NoReading(left)) => Err(unread(line, text, left)),
     }
 }
 
@@ -165,8 +166,8 @@ fn in_range<T: Drop>(tree: T, large: Option<usize>, text: &[Placed]) -> Result<T
     }
 }
 
-// Why a text has no reading.
-fn unread(line: &[u8], text: &[Placed], start: Start) -> Fault
+// Why a text of a line has no reading; `left` is how many bytes are left from the first token on that cannot stand there.
+fn unread(line: &[u8], text: &[Placed], left: usize) -> Fault
     ensures { MatchOption (left_out_word text.now) (result.kind ≡ Syntax) (λ column. result ≡ record { kind = NotCompiled; column = column }) }
 {
     match left_out(text) {
@@ -176,7 +177,10 @@ fn unread(line: &[u8], text: &[Placed], start: Start) -> Fault
         },
         None => Fault {
             kind: SourceErrorKind::Syntax,
-            column: syntax_column(line, start),
+            column: match left {
+                0 => line.len() + 1,
+                _ => column_of_left(text, left),
+            },
         },
     }
 }

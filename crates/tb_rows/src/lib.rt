@@ -4,6 +4,8 @@
 #[cfg(test)]
 mod asm;
 #[cfg(test)]
+mod codegen;
+#[cfg(test)]
 mod cpu;
 #[cfg(test)]
 mod disasm;

@@ -6,7 +6,7 @@ use std::process::Abort;
 use tb_parser::SourceErrorKind::{
     BadByte, BadLineNumber, Empty, LineTooLong, NotCompiled, NumberTooLarge, Syntax, Unnumbered,
 };
-use tb_parser::{SourceError, SourceErrorKind, parse, parse_expr, tokens};
+use tb_parser::{Keyword, SourceError, SourceErrorKind, TokenKind, parse, parse_expr, tokens};
 
 type Refused = (&'static [u8], SourceErrorKind, usize);
 
@@ -80,6 +80,18 @@ fn expect_tokens(rt: &impl Abort, alloc: Global, line: &[u8], wanted: &[&[u8]]) 
             assert_eq!(rt; found.len(), wanted.len(), "{line:?}");
             for (token, text) in found.iter().zip(wanted.iter()) {
                 assert_eq!(rt; token.text, *text, "{line:?}");
+            }
+        }
+        Err(_) => assert!(rt; false, "memory ran out"),
+    }
+}
+
+fn expect_kinds(rt: &impl Abort, alloc: Global, line: &[u8], wanted: &[TokenKind]) {
+    match tokens(alloc, line) {
+        Ok(found) => {
+            assert_eq!(rt; found.len(), wanted.len(), "{line:?}");
+            for (token, kind) in found.iter().zip(wanted.iter()) {
+                assert_eq!(rt; token.kind, *kind, "{line:?}");
             }
         }
         Err(_) => assert!(rt; false, "memory ran out"),
@@ -482,6 +494,49 @@ mod tests {
                 Err(found) => assert_eq!(rt; found, wanted, "text {i}"),
             }
         }
+    }
+
+    #[test]
+    fn token_kinds(rt: HostRuntime) {
+        let alloc = rt.alloc();
+        expect_kinds(
+            &rt,
+            alloc,
+            b"10 IF A<=RND(5)*2 THEN PR \"X\",B;",
+            &[
+                TokenKind::Number,
+                TokenKind::Keyword(Keyword::If),
+                TokenKind::Variable,
+                TokenKind::Relation,
+                TokenKind::Random,
+                TokenKind::Open,
+                TokenKind::Number,
+                TokenKind::Close,
+                TokenKind::Operator,
+                TokenKind::Number,
+                TokenKind::Keyword(Keyword::Then),
+                TokenKind::Keyword(Keyword::Pr),
+                TokenKind::Text,
+                TokenKind::Comma,
+                TokenKind::Variable,
+                TokenKind::Semicolon,
+            ],
+        );
+        expect_kinds(
+            &rt,
+            alloc,
+            b"A=-1 ? REM \"",
+            &[
+                TokenKind::Variable,
+                TokenKind::Relation,
+                TokenKind::Operator,
+                TokenKind::Number,
+                TokenKind::Stray,
+                TokenKind::Keyword(Keyword::Rem),
+                TokenKind::Remark,
+            ],
+        );
+        expect_kinds(&rt, alloc, b"B \"A ", &[TokenKind::Stray, TokenKind::Stray]);
     }
 
     #[test]

@@ -7,6 +7,7 @@ use Rattle.tb_parser.specs.Lines.{lines_of_file}
 use Rattle.tb_parser.proofs.Outcomes.{only_one}
 use Rattle.tb_parser.proofs.Rising.{lines_rise}
 use Rattle.tb_parser.proofs.Runs.{bad_line, good_line, no_line, ended}
+use Rattle.tb_parser.proofs.Texts.{lines_stated}
 use Rattle.tb_parser.proofs.Unique.{lines_one}
 use Rattle.tb_parser.proofs.parser.parse.Goals as goal
 
@@ -54,3 +55,6 @@ returns-clause-only c = λ outcome is. whole_one c.args.source.now _ outcome (re
 
 pub returns-clause-rising : goal.returns-clause-rising
 returns-clause-rising c = lines_rise 1 [] (lines_of_file c.args.source.now) (Ok (lines_of c.loop-line.program)) tt (returns-clause-found c)
+
+pub returns-clause-stated : goal.returns-clause-stated
+returns-clause-stated c = lines_stated 1 [] (lines_of_file c.args.source.now) (Ok (lines_of c.loop-line.program)) tt (returns-clause-found c)

@@ -1,0 +1,10 @@
+use Rattle.std.proofs.Common.{◌≡◌, ◌++◌, map, drop}
+use Rattle.tb_syntax.specs.Source.{numbers}
+use Rattle.tb_lower.specs.Shown.{code_of}
+use Rattle.tb_codegen.specs.Compiled.{AreKnown, pair_of, starts_in}
+use Rattle.tb_codegen.proofs.compiler.line_starts.Given as goal
+
+abbrev pub invariant-loop-line : goal.invariant-loop-line
+invariant-loop-line l =
+    AreKnown l.image.labels.entries (numbers (code_of (drop l.line-index l.lines)))
+    × (map pair_of l.starts.items ++ starts_in l.image.labels.entries (numbers (code_of (drop l.line-index l.lines))) ≡ starts_in l.image.labels.entries (numbers (code_of l.lines)))

@@ -1,0 +1,5 @@
+use Rattle.std.proofs.Common.{length}
+use Rattle.tb_codegen.proofs.costs.+items_cost.Given as goal
+
+abbrev pub decreases-items_cost : goal.decreases-items_cost
+decreases-items_cost l = length l.items.now

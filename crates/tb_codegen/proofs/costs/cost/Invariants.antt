@@ -1,0 +1,7 @@
+use Rattle.std.proofs.Common.{◌≡◌, ◌+◌, sum_by}
+use Rattle.tb_syntax.specs.Shown.{lines_of}
+use Rattle.tb_lower.specs.Cost.{command_cost, cost}
+use Rattle.tb_codegen.proofs.costs.cost.Given as goal
+
+abbrev pub invariant-loop-statement : goal.invariant-loop-statement
+invariant-loop-statement l = l.sum + sum_by (λ line. 36 + command_cost line.content) (lines_of l.statement-iterator) ≡ cost (lines_of l.program)

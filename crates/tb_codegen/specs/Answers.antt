@@ -1,0 +1,66 @@
+-- What `compile` answers.
+use Rattle.std.specs.Prelude.{◌≡◌, ℕ, ◌<◌, List, [], Some, None, Result, Ok, Err, IfSome}
+use Rattle.tb_syntax.specs.Source.{Program}
+use Rattle.tb_lower.specs.Cost.{cost}
+use Rattle.tb_lower.specs.Need.{too_deep}
+use Rattle.tb_lower.specs.declared.lowering.LowerError.{LowerError}
+use Rattle.tb_lower.specs.declared.lowering.LowerError.TheVariants as deep
+use Rattle.tb_parser.specs.declared.errors.SourceError.{SourceError}
+use Rattle.tb_parser.specs.declared.errors.SourceErrorKind.{SourceErrorKind}
+use Rattle.tb_parser.specs.declared.errors.SourceErrorKind.TheVariants as source_kind
+use Rattle.tb_parser.specs.Answers.{refusal_of}
+use Rattle.tb_parser.specs.Files.{FileRefusal, Outcome, LinesAre, refused_at}
+use Rattle.tb_parser.specs.Lines.{lines_of_file}
+use Rattle.tb_codegen.specs.declared.compiled.Compiled.{Compiled}
+use Rattle.tb_codegen.specs.declared.errors.CompileError.{CompileError}
+use Rattle.tb_codegen.specs.declared.errors.CompileError.TheVariants.{Source, Lower, TooLarge, NoMemory}
+use Rattle.tb_codegen.specs.Compiled.{IsCompiled, most}
+
+-- want of memory is one answer, wherever it came from
+abbrev pub of_kind : SourceErrorKind → SourceError → CompileError
+of_kind source_kind.NoMemory e = NoMemory
+of_kind k e = Source e
+
+abbrev pub of_source : SourceError → CompileError
+of_source e = of_kind e.kind e
+
+abbrev pub of_lower : LowerError → CompileError
+of_lower deep.NoMemory = NoMemory
+of_lower (deep.TooDeep n) = Lower (deep.TooDeep n)
+
+-- the answer for a program: its expressions are looked at before its cost
+abbrev pub ProgramAnswer : ℕ → Program → Result Compiled CompileError → Type 0
+ProgramAnswer seed program (Ok c) = IsCompiled seed program c
+ProgramAnswer seed program (Err (Source e)) = ⊥
+ProgramAnswer seed program (Err (Lower deep.NoMemory)) = ⊥
+ProgramAnswer seed program (Err (Lower (deep.TooDeep n))) = too_deep program ≡ Some n
+ProgramAnswer seed program (Err (TooLarge n)) = (too_deep program ≡ None) × (cost program ≡ n) × (most < n)
+ProgramAnswer seed program (Err NoMemory) = Unit {0}
+
+-- the answer for a file that is refused
+abbrev pub RefusalAnswer : FileRefusal → Result Compiled CompileError → Type 0
+RefusalAnswer r (Ok c) = ⊥
+RefusalAnswer r (Err (Source e)) = IfSome (refusal_of e.kind e.column) (λ said. refused_at e.line said ≡ r)
+RefusalAnswer r (Err (Lower e)) = ⊥
+RefusalAnswer r (Err (TooLarge n)) = ⊥
+RefusalAnswer r (Err NoMemory) = Unit {0}
+
+-- the answer for what the lines of a file make
+abbrev pub OutcomeAnswer : ℕ → Outcome → Result Compiled CompileError → Type 0
+OutcomeAnswer seed (Ok program) result = ProgramAnswer seed program result
+OutcomeAnswer seed (Err r) result = RefusalAnswer r result
+
+-- what the lines of a file make
+abbrev pub Makes : List ℕ → Outcome → Type 0
+Makes source outcome = LinesAre 1 [] (lines_of_file source) outcome
+
+-- the file's outcome, and the answer for it
+pub record Answered (seed : ℕ) (source : List ℕ) (result : Result Compiled CompileError) : Type 0 where
+  pub outcome : Outcome
+  pub made : Makes source outcome
+  pub answer : OutcomeAnswer seed outcome result
+
+-- unless memory ran out, the file has an outcome
+abbrev pub HasOutcome : ℕ → List ℕ → Result Compiled CompileError → Type 0
+HasOutcome seed source (Err NoMemory) = Unit {0}
+HasOutcome seed source result = Answered seed source result

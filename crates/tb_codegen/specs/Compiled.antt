@@ -1,0 +1,100 @@
+-- Compiled programs: where the code of lines begins and ends, and what the PRG file is.
+use Rattle.std.specs.Prelude.{◌≡◌, ℕ, ◌+◌, ◌-◌, ◌≤◌, length, true, is_some, List, [], ◌∷◌, ◌++◌, map, Bool, ◌&&◌, nat_le, nat_lt, nat_eq, if◌then◌else◌, Option, Some, None, unwrap_or}
+use Rattle.tb_words.specs.Words.{word_of}
+use Rattle.tb_syntax.specs.Source.{Program, numbers}
+use Rattle.tb_asm.specs.declared.names.Name.{Name}
+use Rattle.tb_asm.specs.Layout.{size, image_of, address_in}
+use Rattle.tb_prg.specs.Prg.{header}
+use Rattle.tb_lower.specs.Cost.{cost}
+use Rattle.tb_lower.specs.Lowered as lowered
+use Rattle.tb_lower.specs.Missing.{missing_targets}
+use Rattle.tb_lower.specs.Need.{too_deep}
+use Rattle.tb_lower.specs.Slots.{SlotCode}
+use Rattle.tb_lower.specs.declared.missing.Warning.{Warning}
+use Rattle.tb_runtime16.specs.Places.{PROLOGUE_AT, LINES_AT}
+use Rattle.tb_templates.specs.declared.labels.Target.TheVariants.{Line}
+use Rattle.tb_templates.specs.Labels.{label_of}
+use Rattle.tb_templates.specs.Program.{line_code, lines_code, past_code, find_code, program_code}
+use Rattle.tb_codegen.specs.Texts.{LinesHoldTexts}
+use Rattle.tb_codegen.specs.declared.compiled.LineStart.{LineStart}
+use Rattle.tb_codegen.specs.declared.compiled.Compiled.{Compiled}
+
+-- ── what a compiled program shows ──
+abbrev pub prg_of : Compiled → List ℕ
+prg_of c = c.prg.items
+
+-- lines with the places where their code begins
+abbrev pub pair_of : LineStart → ℕ × ℕ
+pair_of s = (s.number, s.at)
+
+abbrev pub starts_of : Compiled → List (ℕ × ℕ)
+starts_of c = map pair_of c.starts.items
+
+-- where the line table begins
+abbrev pub table_of : Compiled → ℕ
+table_of c = c.table
+
+abbrev pub warnings_of : Compiled → List Warning
+warnings_of c = c.warnings.items
+
+-- where the code of a line begins
+abbrev pub start_in : List (ℕ × ℕ) → ℕ → Option ℕ
+start_in [] n = None
+start_in (s ∷ starts) n = if nat_eq s.0 n then Some s.1 else start_in starts n
+
+-- an address lies between two places
+abbrev pub lies : ℕ → ℕ → ℕ → Bool
+lies from to a = nat_le from a && nat_lt a to
+
+-- the line in whose code an address lies: a line's code ends where that of the next line begins, and the last one's
+-- where the line table begins
+abbrev pub line_in : List (ℕ × ℕ) → ℕ → ℕ → Option ℕ
+line_in [] table a = None
+line_in (s ∷ []) table a = if lies s.1 table a then Some s.0 else None
+line_in (s ∷ next ∷ starts) table a = if lies s.1 next.1 a then Some s.0 else line_in (next ∷ starts) table a
+
+-- ── where code lies ──
+-- the code of lines, one behind the other from an address
+abbrev pub starts_from : List ℕ → ℕ → ℕ → SlotCode → List (ℕ × ℕ)
+starts_from ns seed a [] = []
+starts_from ns seed a (line ∷ lines) = (line.number, a) ∷ starts_from ns seed (a + size (line_code ns seed line)) lines
+
+-- the line table, behind the code of all lines and what belongs to none of them
+abbrev pub table_at : ℕ → SlotCode → ℕ
+table_at seed code = LINES_AT + (size (lines_code (numbers code) seed code) + (size (past_code (numbers code)) + size (find_code (numbers code))))
+
+-- starts that rise strictly, from an address on
+abbrev pub StartsRise : ℕ → List (ℕ × ℕ) → Type 0
+StartsRise low [] = Unit {0}
+StartsRise low (s ∷ starts) = (low ≤ s.1) × StartsRise (s.1 + 1) starts
+
+-- the lines with the places of their labels
+abbrev pub starts_in : List (Name × ℕ) → List ℕ → List (ℕ × ℕ)
+starts_in labels [] = []
+starts_in labels (n ∷ ns) = (n, unwrap_or (address_in labels (label_of (Line n))) 0) ∷ starts_in labels ns
+
+-- each of these lines has a label
+abbrev pub AreKnown : List (Name × ℕ) → List ℕ → Type 0
+AreKnown labels [] = Unit {0}
+AreKnown labels (n ∷ ns) = (is_some (address_in labels (label_of (Line n))) ≡ true) × AreKnown labels ns
+
+-- the bytes of a PRG file before the code of lines
+abbrev pub lines_offset : ℕ
+lines_offset = length header + (LINES_AT - PROLOGUE_AT)
+
+-- the most that a program may cost
+abbrev pub most : ℕ
+most = 37888
+
+-- Compiled, a program is a PRG file with its code from the block's address on; code and table end by $9FFF.
+pub record IsCompiled (seed : ℕ) (program : Program) (c : Compiled) : Type 0 where
+  pub shallow : too_deep program ≡ None
+  pub small : cost program ≤ most
+  pub prg : prg_of c ≡ header ++ image_of PROLOGUE_AT (program_code seed (lowered.program_code program))
+  pub texts : LinesHoldTexts (prg_of c) (numbers program) seed lines_offset program
+  pub ends : PROLOGUE_AT + size (program_code seed (lowered.program_code program)) ≤ 0xA000
+  pub starts : starts_of c ≡ starts_from (numbers program) seed LINES_AT (lowered.program_code program)
+  pub lines : map (λ s. s.0) (starts_of c) ≡ numbers program
+  pub rising : StartsRise LINES_AT (starts_of c)
+  pub table : table_of c ≡ table_at seed (lowered.program_code program)
+  pub warned : map (λ w. (w.line, word_of w.target)) (warnings_of c) ≡ missing_targets program

@@ -1,0 +1,90 @@
+//! Compiled programs.
+ghost use Rattle.std.specs.Prelude.{◌≡◌, map};
+ghost use Rattle.tb_codegen.specs.Compiled.{prg_of, pair_of, starts_of, table_of, warnings_of, start_in, lies, line_in};
+
+use tb_lower::Warning;
+
+/// Where the code of a line begins.
+#[derive(Clone, Copy, Debug, Drop)]
+pub(crate) struct LineStart {
+    pub number: u16,
+    pub at: u16,
+}
+
+/// A compiled program.
+#[derive(Drop)]
+pub struct Compiled {
+    pub(crate) prg: Vec<u8>,
+    pub(crate) starts: Vec<LineStart>,
+    pub(crate) table: u16,
+    pub(crate) warnings: Vec<Warning>,
+}
+
+impl Compiled {
+    /// The PRG file: it is loaded at `$0801` and started by `RUN` or `SYS2061`.
+    pub fn prg(&self) -> &[u8]
+        ensures { result.now ≡ prg_of self.now }
+    {
+        &self.prg
+    }
+
+    /// The line in whose code an address lies: from its start to before the next line's start, or to before the line
+    /// table where it is the highest line.
+    pub fn line_at(&self, address: u16) -> Option<u16>
+        ensures { result ≡ line_in (starts_of self.now) (table_of self.now) address }
+    {
+        line_in(&self.starts, self.table, address)
+    }
+
+    /// The address where the code of a line begins; none where the program has no such line.
+    pub fn start_of(&self, line: u16) -> Option<u16>
+        ensures { result ≡ start_in (starts_of self.now) line }
+    {
+        start_in(&self.starts, line)
+    }
+
+    /// The warnings of the program, in the order of lines.
+    pub fn warnings(&self) -> &[Warning]
+        ensures { result.now ≡ warnings_of self.now }
+    {
+        &self.warnings
+    }
+}
+
+fn start_in(starts: &[LineStart], line: u16) -> Option<u16>
+    ensures { result ≡ start_in (map pair_of starts.now) line }
+{
+    match starts {
+        [] => None,
+        [first, rest @ ..] => if first.number == line {
+            Some(first.at)
+        } else {
+            start_in(rest, line)
+        },
+    }
+}
+
+fn line_in(starts: &[LineStart], table: u16, address: u16) -> Option<u16>
+    ensures { result ≡ line_in (map pair_of starts.now) table address }
+{
+    match starts {
+        [] => None,
+        [only] => if lies(only.at, table, address) {
+            Some(only.number)
+        } else {
+            None
+        },
+        [first, next, ..] => if lies(first.at, next.at, address) {
+            Some(first.number)
+        } else {
+            line_in(&starts[1..], table, address)
+        },
+    }
+}
+
+// Whether an address lies between two places.
+fn lies(from: u16, to: u16, address: u16) -> bool
+    ensures { result ≡ lies from to address }
+{
+    from <= address && address < to
+}

@@ -1,0 +1,117 @@
+//! From a source text to a PRG file.
+ghost use Rattle.std.specs.Prelude.{◌≡◌, ◌<◌, ℕ, All, IfOk, IfErr, Some, None, true, is_some, length, map};
+ghost use Rattle.tb_asm.specs.Assembled.{refusal};
+ghost use Rattle.tb_asm.specs.Layout.{address_in, image_of, labels_from};
+ghost use Rattle.tb_syntax.specs.Shown.{lines_of};
+ghost use Rattle.tb_syntax.specs.Source.{numbers};
+ghost use Rattle.tb_lower.specs.Cost as costs;
+ghost use Rattle.tb_lower.specs.Lowered as lowered;
+ghost use Rattle.tb_lower.specs.Need.{too_deep};
+ghost use Rattle.tb_lower.specs.Shown.{code_of};
+ghost use Rattle.tb_parser.specs.Files.{AreStated, Outcome, RisesFrom};
+ghost use Rattle.tb_runtime16.specs.Places.{PROLOGUE_AT};
+ghost use Rattle.tb_templates.specs.Labels.{label_of};
+ghost use Rattle.tb_templates.specs.Program.{AreCodable, program_code};
+ghost use Rattle.tb_codegen.specs.declared.errors.CompileError.TheVariants as error;
+ghost use Rattle.tb_codegen.specs.Answers.{HasOutcome, Makes, OutcomeAnswer, ProgramAnswer};
+ghost use Rattle.tb_codegen.specs.Compiled.{AreKnown, pair_of, starts_in, most};
+
+use crate::compiled::{Compiled, LineStart};
+use crate::costs::cost;
+use crate::errors::CompileError;
+use std::alloc::{AllocError, Global};
+use tb_asm::{AsmErrorKind, Image, assemble};
+use tb_lower::{SlotCode, SlotLine, lower, warnings};
+use tb_parser::parse;
+use tb_prg::write;
+use tb_runtime16::BLOCK_AT;
+use tb_syntax::Program;
+use tb_templates::{Target, label, program_items};
+
+/// The most that a program may cost.
+const MOST: u32 = 37_888;
+
+/// What a program is compiled with.
+#[derive(Clone, Copy, Debug, PartialEq, Eq, Drop)]
+pub struct Options {
+    /// The first RND state.
+    pub seed: u16,
+}
+
+/// The PRG file of a source text, with the places of its lines.
+pub fn compile(alloc: Global, source: &[u8], options: Options) -> Result<Compiled, CompileError>
+    // What the file's lines make is answered,
+    ensures found { HasOutcome options.seed source.now result }
+    // and whatever they make is what is answered.
+    ensures only { (outcome : Outcome) → Makes source.now outcome → OutcomeAnswer options.seed outcome result }
+{
+    let program = parse(alloc, source)?;
+    compile_program(alloc, &program, options.seed)
+}
+
+// The PRG file of a program.
+fn compile_program(alloc: Global, program: &Program, seed: u16) -> Result<Compiled, CompileError>
+    requires stated { AreStated (lines_of program.now) }
+    requires rising { RisesFrom 0 (numbers (lines_of program.now)) }
+    ensures { ProgramAnswer seed (lines_of program.now) result }
+{
+    let code = lower(alloc, program)?;
+    let cost = cost(program);
+    if cost > MOST {
+        return Err(CompileError::TooLarge(cost));
+    }
+    let image = laid(alloc, &code, seed)?;
+    Ok(Compiled {
+        prg: write(alloc, &image)?,
+        starts: line_starts(alloc, &image, code.lines())?,
+        table: place_of(&image, Target::Table),
+        warnings: warnings(alloc, program)?,
+    })
+}
+
+// The image of a program's code.
+fn laid(alloc: Global, code: &SlotCode, seed: u16) -> Result<Image, CompileError>
+    requires lists { AreCodable (code_of code.now) }
+    requires lines { length (code_of code.now) < 65536 }
+    requires accepted { refusal PROLOGUE_AT (program_code seed (code_of code.now)) ≡ None }
+    ensures ok { IfOk result (λ image. (image.at ≡ PROLOGUE_AT) × (image.bytes.items ≡ image_of PROLOGUE_AT (program_code seed (code_of code.now))) × (image.labels.entries ≡ labels_from PROLOGUE_AT (program_code seed (code_of code.now)))) }
+    ensures err { IfErr result (λ e. e ≡ error.NoMemory) }
+{
+    let items = program_items(alloc, seed, code)?;
+    match assemble(alloc, BLOCK_AT, &items) {
+        Ok(image) => Ok(image),
+        Err(e) => match e.kind {
+            AsmErrorKind::NoMemory => Err(CompileError::NoMemory),
+            _ => unreachable!(),
+        },
+    }
+}
+
+// Where a label of the image stands.
+fn place_of(image: &Image, target: Target) -> u16
+    requires { is_some (address_in image.now.labels.entries (label_of target)) ≡ true }
+    ensures { address_in image.now.labels.entries (label_of target) ≡ Some result }
+{
+    let Some(at) = image.address_of(&label(target)) else {
+        unreachable!()
+    };
+    at
+}
+
+// Where the code of each line begins.
+fn line_starts(
+    alloc: Global,
+    image: &Image,
+    lines: &[SlotLine],
+) -> Result<Vec<LineStart>, AllocError>
+    requires { AreKnown image.now.labels.entries (numbers (code_of lines.now)) }
+    ensures { IfOk result (λ starts. map pair_of starts.items ≡ starts_in image.now.labels.entries (numbers (code_of lines.now))) }
+{
+    let mut starts = Vec::new(alloc);
+    for line in lines {
+        let number = line.number;
+        let at = place_of(image, Target::Line(number));
+        starts.push(LineStart { number, at })?;
+    }
+    Ok(starts)
+}

@@ -1,0 +1,12 @@
+//! The compiler: from a source text to a PRG file.
+#![tactic(auto)]
+
+mod compiled;
+mod compiler;
+mod costs;
+mod errors;
+
+pub use compiled::Compiled;
+pub use compiler::{Options, compile};
+pub use costs::cost;
+pub use errors::CompileError;

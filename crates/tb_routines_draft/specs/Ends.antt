@@ -1,0 +1,68 @@
+-- What faults, polls and the prologue promise.
+use Rattle.std.specs.Prelude.{◌≡◌, ◌≢◌, ◌⊎◌, ℕ, ◌+◌, ◌*◌, ◌%◌, ◌<◌, ◌≤◌, Bool, true, false, ◌||◌, List, [], ◌∷◌, ◌++◌, length, drop}
+use Rattle.tb_kernal.specs.Places.{within}
+use Rattle.tb_kernal.specs.Machine.{State, first_or_zero}
+use Rattle.tb_kernal.specs.Starts.{IsStart}
+use Rattle.tb_reaching.specs.View.{View, Setup, Part, Holds, Fits, Comes, view, back_at, part_at}
+use Rattle.tb_reaching.specs.Start.{setup_of, view_of, home_low, home_high, IsHome, Homed}
+use Rattle.tb_routines_draft.specs.Words.{digits}
+use Rattle.tb_routines_draft.specs.Code.{prologue_at, prologue_part, fault_at, fault_part, poll_at, poll_part, send_part, number_part, divide_part}
+use Rattle.tb_routines_draft.specs.Laws.{word_at, IsWord, Leaves}
+
+abbrev pub HOME_S : ℕ
+HOME_S = 0xc037
+
+abbrev pub LINE : ℕ
+LINE = 0xc03a
+
+abbrev pub BYTE : ℕ
+BYTE = 0xc06d
+
+-- fault k at line n
+abbrev pub fault_text : ℕ → ℕ → List ℕ
+fault_text k n = 13 ∷ 33 ∷ (48 + k) ∷ 32 ∷ 65 ∷ 84 ∷ 32 ∷ (digits n ++ 13 ∷ [])
+
+-- where the machine was entered from lies on the stack behind what is kept, and the line has a number
+pub record Entered (f : Setup) (lo hi : ℕ) (m : ℕ → ℕ) : Type 0 where
+  pub homed : Homed f lo hi
+  pub kept : m HOME_S + 2 ≡ f.home_s
+  pub line : IsWord m LINE
+
+-- the code that a fault runs
+pub record Faulting (code : Part) : Type 0 where
+  pub fault : Holds fault_part code
+  pub send : Holds send_part code
+  pub number : Holds number_part code
+  pub divide : Holds divide_part code
+
+-- Fault: k in A, from any depth
+abbrev pub FaultLaw : Type 0
+FaultLaw =
+    (f : Setup) (room : ℕ) → 13 ≤ room → Fits f room → Faulting f.code → (hlo hhi : ℕ) (above : List ℕ) → length above + 2 ≤ room → (text answers : List ℕ) (m : ℕ → ℕ) → Entered f hlo hhi m → (k x y : ℕ) (n v i z c : Bool) → k < 10 →
+    Comes f (view k x y n v i z c fault_at (above ++ hlo ∷ hhi ∷ []) m text answers) (IsHome f) (fault_text k (word_at m LINE)) 1522
+
+-- Poll: an answer is taken, and 3 stops the program
+abbrev pub PollLaw : Type 0
+PollLaw =
+    (f : Setup) → Fits f 13 → Faulting f.code → Holds poll_part f.code → (lo hi hlo hhi : ℕ) (text answers : List ℕ) (m : ℕ → ℕ) → Entered f hlo hhi m → first_or_zero answers < 256 → (a x y : ℕ) (n v i z c : Bool) →
+    (first_or_zero answers ≢ 3 → Comes f (view a x y n v i z c poll_at (lo ∷ hi ∷ hlo ∷ hhi ∷ []) m text answers) (Leaves (back_at lo hi) (hlo ∷ hhi ∷ []) text (drop 1 answers) (λ w. w ≡ m)) [] 5)
+    × (first_or_zero answers ≡ 3 → Comes f (view a x y n v i z c poll_at (lo ∷ hi ∷ hlo ∷ hhi ∷ []) m text answers) (IsHome f) (fault_text 0 (word_at m LINE)) 1528)
+
+-- places that the prologue clears
+abbrev pub is_cleared : ℕ → Bool
+is_cleared a = within 0xc000 0xc036 a || within 0xc038 0xc03d a
+
+pub record Begun (f : Setup) (s : State) (w : View) : Type 0 where
+  pub pc : w.regs.pc ≡ 0x0c00
+  pub stack : w.stack ≡ home_low s ∷ home_high s ∷ []
+  pub binary : w.regs.flags.d ≡ false
+  pub same_text : w.text ≡ s.text
+  pub same_answers : w.answers ≡ s.answers
+  pub cleared : (a : ℕ) → is_cleared a ≡ true → w.mem a ≡ 0
+  pub entered : Entered f (home_low s) (home_high s) w.mem
+
+-- from any start to the first line
+abbrev pub PrologueLaw : Type 0
+PrologueLaw =
+    (place : ℕ) (bytes : List ℕ) → 0x0800 ≤ place → place + length bytes ≤ 0xa000 → (inner : Part) → Holds inner (part_at place bytes) → Holds prologue_part inner → (s : State) → IsStart place bytes s →
+    Comes (setup_of inner (part_at place bytes) s) (view_of s) (Begun (setup_of inner (part_at place bytes) s) s) [] 192

@@ -1,0 +1,216 @@
+-- What the routines promise, whatever the ROM does.
+use Rattle.std.specs.Prelude.{◌≡◌, ◌⊎◌, ◌≢◌, ℕ, ◌+◌, ◌-◌, ◌*◌, ◌/◌, ◌%◌, ◌<◌, ◌≤◌, Bool, true, false, ◌||◌, ◌==◌, if◌then◌else◌, List, [], ◌∷◌, ◌++◌, length, replicate, Option}
+use Rattle.tb_kernal.specs.Places.{within}
+use Rattle.tb_reaching.specs.View.{View, Setup, Holds, Fits, Comes, view, back_at}
+use Rattle.tb_reaching.specs.Placed.{Bytes}
+use Rattle.tb_routines_draft.specs.Words.{quotient, next_seed, digits}
+use Rattle.tb_routines_draft.specs.Code.{send_at, send_part, multiply_at, multiply_part, divide_at, divide_part, random_at, random_part, number_at, number_part, text_at, text_part, zone_at, zone_part, fault_at}
+
+-- ---- data
+
+abbrev pub COLUMN : ℕ
+COLUMN = 0xc034
+
+abbrev pub SEEDED : ℕ
+SEEDED = 0xc036
+
+abbrev pub SEED : ℕ
+SEED = 0xc038
+
+abbrev pub LEFT : ℕ
+LEFT = 0xc062
+
+abbrev pub RIGHT : ℕ
+RIGHT = 0xc064
+
+abbrev pub RESULT : ℕ
+RESULT = 0xc066
+
+abbrev pub LENGTH : ℕ
+LENGTH = 0xc06c
+
+abbrev pub TURNS : ℕ
+TURNS = 0xc06e
+
+abbrev pub POINTER : ℕ
+POINTER = 0x00fb
+
+abbrev pub word_at : (ℕ → ℕ) → ℕ → ℕ
+word_at m at = m at + 256 * m (at + 1)
+
+abbrev pub IsWord : (ℕ → ℕ) → ℕ → Type 0
+IsWord m at = (m at < 256) × (m (at + 1) < 256)
+
+-- LEFT, RIGHT and RESULT
+abbrev pub is_argument : ℕ → Bool
+is_argument a = within 0xc062 0xc067 a
+
+-- ---- how a routine ends
+
+-- at a place with this on the stack, and this said of the memory
+pub record Leaves (at : ℕ) (stack text answers : List ℕ) (q : (ℕ → ℕ) → Type 0) (w : View) : Type 0 where
+  pub pc : w.regs.pc ≡ at
+  pub stack_is : w.stack ≡ stack
+  pub binary : w.regs.flags.d ≡ false
+  pub same_text : w.text ≡ text
+  pub same_answers : w.answers ≡ answers
+  pub memory : q w.mem
+
+-- back at the caller
+abbrev pub Back : (lo hi : ℕ) (text answers : List ℕ) (q : (ℕ → ℕ) → Type 0) → View → Type 0
+Back lo hi text answers q = Leaves (back_at lo hi) [] text answers q
+
+-- at the entry of Fault, with the fault's number in A and S as at the routine's entry
+pub record Faults (lo hi : ℕ) (text answers : List ℕ) (m : ℕ → ℕ) (k : ℕ) (w : View) : Type 0 where
+  pub pc : w.regs.pc ≡ fault_at
+  pub stack : w.stack ≡ lo ∷ hi ∷ []
+  pub binary : w.regs.flags.d ≡ false
+  pub same_text : w.text ≡ text
+  pub same_answers : w.answers ≡ answers
+  pub number : w.regs.a ≡ k
+  pub memory : w.mem ≡ m
+
+-- ---- Send
+
+-- the column behind a text
+abbrev pub column_after : ℕ → List ℕ → ℕ
+column_after c [] = c
+column_after c (b ∷ bs) = column_after (if b == 13 then 0 else c + 1) bs
+
+pub record Said (m0 : ℕ → ℕ) (sent : List ℕ) (m : ℕ → ℕ) : Type 0 where
+  pub column : m COLUMN ≡ column_after (m0 COLUMN) sent % 256
+  pub others : (a : ℕ) → a ≢ COLUMN → m a ≡ m0 a
+
+-- the byte in A is sent
+abbrev pub SendLaw : Type 0
+SendLaw =
+    (f : Setup) → Fits f 2 → Holds send_part f.code → (lo hi : ℕ) (text answers : List ℕ) (m : ℕ → ℕ) (a x y : ℕ) (n v i z c : Bool) → a < 256 →
+    Comes f (view a x y n v i z c send_at (lo ∷ hi ∷ []) m text answers) (Back lo hi text answers (Said m (a ∷ []))) (a ∷ []) 7
+
+-- ---- Text
+
+abbrev pub AllBytes : List ℕ → Type 0
+AllBytes [] = Unit {0}
+AllBytes (b ∷ bs) = (b < 256) × AllBytes bs
+
+-- a text of at most 255 bytes in the program, and where it begins and how long it is, as the routine is told
+pub record Points (f : Setup) (m : ℕ → ℕ) (bytes : List ℕ) : Type 0 where
+  pub is_word : IsWord m POINTER
+  pub shown : Bytes f.code (word_at m POINTER) bytes
+  pub from : 0x0800 ≤ word_at m POINTER
+  pub to : word_at m POINTER + length bytes ≤ 0xa000
+  pub count : m LENGTH ≡ length bytes
+  pub few : length bytes < 256
+  pub bytes_small : AllBytes bytes
+
+pub record Told (m0 : ℕ → ℕ) (sent : List ℕ) (m : ℕ → ℕ) : Type 0 where
+  pub column : m COLUMN % 256 ≡ column_after (m0 COLUMN) sent % 256
+  pub others : (a : ℕ) → a ≢ COLUMN → a ≢ POINTER → a ≢ POINTER + 1 → a ≢ LENGTH → m a ≡ m0 a
+
+abbrev pub TextLaw : Type 0
+TextLaw =
+    (f : Setup) → Fits f 4 → Holds text_part f.code → Holds send_part f.code → (lo hi : ℕ) (text answers : List ℕ) (m : ℕ → ℕ) (a x y : ℕ) (n v i z c : Bool) (bytes : List ℕ) → Points f m bytes →
+    Comes f (view a x y n v i z c text_at (lo ∷ hi ∷ []) m text answers) (Back lo hi text answers (Told m bytes)) bytes (15 * length bytes + 3)
+
+-- ---- Zone
+
+-- spaces up to the next column that 8 divides
+abbrev pub ZoneLaw : Type 0
+ZoneLaw =
+    (f : Setup) → Fits f 4 → Holds zone_part f.code → Holds send_part f.code → (lo hi : ℕ) (text answers : List ℕ) (m : ℕ → ℕ) (a x y : ℕ) (n v i z c : Bool) → m COLUMN < 256 →
+    Comes f (view a x y n v i z c zone_at (lo ∷ hi ∷ []) m text answers) (Back lo hi text answers (Said m (replicate (8 - m COLUMN % 8) 32))) (replicate (8 - m COLUMN % 8) 32) 97
+
+-- ---- Multiply
+
+-- the arguments and the counter of Multiply
+abbrev pub is_used : ℕ → Bool
+is_used a = is_argument a || a == TURNS
+
+-- the result, and the memory but for these places as it was
+pub record Multiplied (m0 : ℕ → ℕ) (product : ℕ) (m : ℕ → ℕ) : Type 0 where
+  pub is_word : IsWord m RESULT
+  pub value : word_at m RESULT ≡ product
+  pub others : (a : ℕ) → is_used a ≡ false → m a ≡ m0 a
+
+abbrev pub MultiplyLaw : Type 0
+MultiplyLaw =
+    (f : Setup) → Fits f 2 → Holds multiply_part f.code → (lo hi : ℕ) (text answers : List ℕ) (m : ℕ → ℕ) (a x y : ℕ) (n v i z c : Bool) → IsWord m LEFT → IsWord m RIGHT →
+    Comes f (view a x y n v i z c multiply_at (lo ∷ hi ∷ []) m text answers) (Back lo hi text answers (Multiplied m ((word_at m LEFT * word_at m RIGHT) % 65536))) [] 240
+
+-- ---- division without signs, inside Divide
+
+abbrev pub unsigned_at : ℕ
+unsigned_at = divide_at + 78
+
+pub record Parted (m0 : ℕ → ℕ) (q r : ℕ) (m : ℕ → ℕ) : Type 0 where
+  pub left_is : IsWord m LEFT
+  pub left : word_at m LEFT ≡ q
+  pub result_is : IsWord m RESULT
+  pub result : word_at m RESULT ≡ r
+  pub right_low : m RIGHT ≡ m0 RIGHT
+  pub right_high : m 0xc065 ≡ m0 0xc065
+  pub others : (a : ℕ) → is_argument a ≡ false → m a ≡ m0 a
+
+abbrev pub UnsignedLaw : Type 0
+UnsignedLaw =
+    (f : Setup) → Fits f 2 → Holds divide_part f.code → (lo hi : ℕ) (text answers : List ℕ) (m : ℕ → ℕ) (a x y : ℕ) (n v i z c : Bool) → IsWord m LEFT → IsWord m RIGHT → 1 ≤ word_at m RIGHT → word_at m RIGHT ≤ 32768 →
+    Comes f (view a x y n v i z c unsigned_at (lo ∷ hi ∷ []) m text answers) (Back lo hi text answers (Parted m (word_at m LEFT / word_at m RIGHT) (word_at m LEFT % word_at m RIGHT))) [] 261
+
+-- ---- Divide
+
+abbrev pub negate_left_at : ℕ
+negate_left_at = divide_at + 42
+
+-- a word at a place, and the memory but for the arguments as it was
+pub record Gives (m0 : ℕ → ℕ) (at q : ℕ) (m : ℕ → ℕ) : Type 0 where
+  pub is_word : IsWord m at
+  pub value : word_at m at ≡ q
+  pub others : (a : ℕ) → is_argument a ≡ false → m a ≡ m0 a
+
+abbrev pub DivideLaw : Type 0
+DivideLaw =
+    (f : Setup) → Fits f 8 → Holds divide_part f.code → (lo hi : ℕ) (text answers : List ℕ) (m : ℕ → ℕ) (a x y : ℕ) (n v i z c : Bool) → IsWord m LEFT → IsWord m RIGHT → 1 ≤ word_at m RIGHT →
+    Comes f (view a x y n v i z c divide_at (lo ∷ hi ∷ []) m text answers) (Back lo hi text answers (Gives m RESULT (quotient (word_at m LEFT) (word_at m RIGHT)))) [] 316
+
+abbrev pub DivideByZeroLaw : Type 0
+DivideByZeroLaw =
+    (f : Setup) → Fits f 2 → Holds divide_part f.code → (lo hi : ℕ) (text answers : List ℕ) (m : ℕ → ℕ) (a x y : ℕ) (n v i z c : Bool) → word_at m RIGHT ≡ 0 →
+    Comes f (view a x y n v i z c divide_at (lo ∷ hi ∷ []) m text answers) (Faults lo hi text answers m 2) [] 6
+
+-- ---- Number
+
+pub record Written (m0 : ℕ → ℕ) (t : List ℕ) (m : ℕ → ℕ) : Type 0 where
+  pub column : m COLUMN ≡ (m0 COLUMN + length t) % 256
+  pub others : (a : ℕ) → is_argument a ≡ false → a ≢ COLUMN → m a ≡ m0 a
+
+abbrev pub NumberLaw : Type 0
+NumberLaw =
+    (f : Setup) → Fits f 11 → Holds number_part f.code → Holds divide_part f.code → Holds send_part f.code → (lo hi : ℕ) (text answers : List ℕ) (m : ℕ → ℕ) (a x y : ℕ) (n v i z c : Bool) → IsWord m LEFT → m COLUMN < 256 →
+    Comes f (view a x y n v i z c number_at (lo ∷ hi ∷ []) m text answers) (Back lo hi text answers (Written m (digits (word_at m LEFT)))) (digits (word_at m LEFT)) 1440
+
+-- ---- Random
+
+abbrev pub is_seed : ℕ → Bool
+is_seed a = a == SEEDED || within 0xc038 0xc039 a
+
+-- the state of RND before a call
+abbrev pub seed_of : (ℕ → ℕ) → ℕ
+seed_of m = if m SEEDED == 0 then word_at m RIGHT else word_at m SEED
+
+pub record Drawn (m0 : ℕ → ℕ) (bound seed : ℕ) (m : ℕ → ℕ) : Type 0 where
+  pub is_word : IsWord m RESULT
+  pub value : word_at m RESULT ≡ next_seed seed % bound
+  pub seed_is : IsWord m SEED
+  pub seed_at : word_at m SEED ≡ next_seed seed
+  pub seeded : m SEEDED ≡ 1
+  pub others : (a : ℕ) → is_argument a ≡ false → (a == TURNS) ≡ false → is_seed a ≡ false → m a ≡ m0 a
+
+abbrev pub RandomLaw : Type 0
+RandomLaw =
+    (f : Setup) → Fits f 6 → Holds random_part f.code → Holds divide_part f.code → Holds multiply_part f.code → (lo hi : ℕ) (text answers : List ℕ) (m : ℕ → ℕ) (a x y : ℕ) (n v i z c : Bool) → IsWord m LEFT → IsWord m RIGHT → IsWord m SEED → 1 ≤ word_at m LEFT → word_at m LEFT < 32768 →
+    Comes f (view a x y n v i z c random_at (lo ∷ hi ∷ []) m text answers) (Back lo hi text answers (Drawn m (word_at m LEFT) (seed_of m))) [] 540
+
+abbrev pub RandomRangeLaw : Type 0
+RandomRangeLaw =
+    (f : Setup) → Fits f 2 → Holds random_part f.code → (lo hi : ℕ) (text answers : List ℕ) (m : ℕ → ℕ) (a x y : ℕ) (n v i z c : Bool) → IsWord m LEFT → (word_at m LEFT ≡ 0) ⊎ (32768 ≤ word_at m LEFT) →
+    Comes f (view a x y n v i z c random_at (lo ∷ hi ∷ []) m text answers) (Faults lo hi text answers m 3) [] 7

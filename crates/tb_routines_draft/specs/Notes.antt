@@ -1,0 +1,78 @@
+-- The return list: Push and Pop.
+use Rattle.std.specs.Prelude.{◌≡◌, ◌<◌, ◌≤◌, Bool, true, false, ℕ, List, [], ◌∷◌, ◌++◌, ◌+◌, ◌*◌, ◌||◌, length}
+use Rattle.tb_kernal.specs.Places.{within}
+use Rattle.tb_reaching.specs.View.{View, Setup, Part, Holds, Fits, Comes, part_at, view, back_at}
+use Rattle.tb_routines_draft.specs.Code.{push_at, push_bytes, pop_at, pop_bytes, fault_at}
+use Rattle.tb_routines_draft.specs.Laws.{POINTER, LEFT, RESULT, word_at, IsWord}
+
+abbrev pub NOTES : ℕ
+NOTES = 0xc03c
+
+abbrev pub NOTE_LIST : ℕ
+NOTE_LIST = 0xc100
+
+-- Push, the place of a note, and Pop
+abbrev pub notes_part : Part
+notes_part = part_at push_at (push_bytes ++ pop_bytes)
+
+-- at an address with a stack; only these places changed
+pub record Stopped (pc : ℕ) (stack : List ℕ) (changes : ℕ → Bool) (m : ℕ → ℕ) (text answers : List ℕ) (w : View) : Type 0 where
+  pub at : w.regs.pc ≡ pc
+  pub on_stack : w.stack ≡ stack
+  pub binary : w.regs.flags.d ≡ false
+  pub same_text : w.text ≡ text
+  pub same_answers : w.answers ≡ answers
+  pub others : (a : ℕ) → changes a ≡ false → w.mem a ≡ m a
+
+-- after the return to lo, hi
+abbrev pub Returned : ℕ → ℕ → (ℕ → Bool) → (ℕ → ℕ) → List ℕ → List ℕ → View → Type 0
+Returned lo hi changes m text answers w = Stopped (back_at lo hi) [] changes m text answers w
+
+-- at the entry of Fault, with the fault's number in A
+pub record Faulted (number lo hi : ℕ) (changes : ℕ → Bool) (m : ℕ → ℕ) (text answers : List ℕ) (w : View) : Type 0 where
+  pub ended : Stopped fault_at (lo ∷ hi ∷ []) changes m text answers w
+  pub told : w.regs.a ≡ number
+
+-- these words stand in the return list, the last one first
+abbrev pub Held : (ℕ → ℕ) → List ℕ → Type 0
+Held m [] = Unit {0}
+Held m (n ∷ ns) = IsWord m (NOTE_LIST + 2 * length ns) × (word_at m (NOTE_LIST + 2 * length ns) ≡ n) × Held m ns
+
+pub record Notes (m : ℕ → ℕ) (notes : List ℕ) : Type 0 where
+  pub is_word : IsWord m NOTES
+  pub count : word_at m NOTES ≡ length notes
+  pub few : length notes ≤ 500
+  pub held : Held m notes
+
+abbrev pub nothing : ℕ → Bool
+nothing a = false
+
+abbrev pub push_changes : ℕ → Bool
+push_changes a = within 0xfb 0xfc a || (within 0xc03C 0xc03D a || within 0xc100 0xc4e7 a)
+
+abbrev pub pop_changes : ℕ → Bool
+pop_changes a = within 0xfb 0xfc a || (within 0xc03C 0xc03D a || within 0xc066 0xc067 a)
+
+pub record Pushed (lo hi : ℕ) (m : ℕ → ℕ) (text answers ns : List ℕ) (w : View) : Type 0 where
+  pub back : Returned lo hi push_changes m text answers w
+  pub notes : Notes w.mem ns
+
+pub record Popped (lo hi : ℕ) (m : ℕ → ℕ) (text answers : List ℕ) (n : ℕ) (ns : List ℕ) (w : View) : Type 0 where
+  pub back : Returned lo hi pop_changes m text answers w
+  pub is_word : IsWord w.mem RESULT
+  pub result : word_at w.mem RESULT ≡ n
+  pub notes : Notes w.mem ns
+
+abbrev pub PushLaw : Type 0
+PushLaw = (f : Setup) → Fits f 4 → Holds notes_part f.code → (lo hi : ℕ) (text answers : List ℕ) (m : ℕ → ℕ) (a x y : ℕ) (n v i z c : Bool) (notes : List ℕ) → IsWord m LEFT → Notes m notes → length notes < 500 → Comes f (view a x y n v i z c push_at (lo ∷ hi ∷ []) m text answers) (Pushed lo hi m text answers (word_at m LEFT ∷ notes)) [] 25
+
+-- 500 notes already
+abbrev pub PushFullLaw : Type 0
+PushFullLaw = (f : Setup) → Fits f 4 → Holds notes_part f.code → (lo hi : ℕ) (text answers : List ℕ) (m : ℕ → ℕ) (a x y : ℕ) (n v i z c : Bool) (notes : List ℕ) → Notes m notes → length notes ≡ 500 → Comes f (view a x y n v i z c push_at (lo ∷ hi ∷ []) m text answers) (Faulted 4 lo hi nothing m text answers) [] 7
+
+abbrev pub PopLaw : Type 0
+PopLaw = (f : Setup) → Fits f 4 → Holds notes_part f.code → (lo hi : ℕ) (text answers : List ℕ) (m : ℕ → ℕ) (a x y : ℕ) (n v i z c : Bool) (note : ℕ) (notes : List ℕ) → Notes m (note ∷ notes) → Comes f (view a x y n v i z c pop_at (lo ∷ hi ∷ []) m text answers) (Popped lo hi m text answers note notes) [] 23
+
+-- no note
+abbrev pub PopNoneLaw : Type 0
+PopNoneLaw = (f : Setup) → Fits f 4 → Holds notes_part f.code → (lo hi : ℕ) (text answers : List ℕ) (m : ℕ → ℕ) (a x y : ℕ) (n v i z c : Bool) → Notes m [] → Comes f (view a x y n v i z c pop_at (lo ∷ hi ∷ []) m text answers) (Faulted 5 lo hi nothing m text answers) [] 6

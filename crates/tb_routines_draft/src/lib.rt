@@ -1,0 +1,2 @@
+//! The routines' laws, in a first form.
+#![tactic(auto)]

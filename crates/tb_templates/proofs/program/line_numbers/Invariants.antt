@@ -1,0 +1,7 @@
+use Rattle.std.proofs.Common.{◌≡◌, ◌++◌, drop}
+use Rattle.tb_syntax.specs.Source.{numbers}
+use Rattle.tb_lower.specs.Shown.{code_of}
+use Rattle.tb_templates.proofs.program.line_numbers.Given as goal
+
+abbrev pub invariant-loop-line : goal.invariant-loop-line
+invariant-loop-line l = l.numbers.items ++ numbers (code_of (drop l.line-index l.lines)) ≡ numbers (code_of l.lines)

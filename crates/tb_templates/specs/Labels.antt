@@ -1,0 +1,33 @@
+-- The labels of a program's code: numbers in hexadecimal digits, and letters.
+use Rattle.std.specs.Prelude.{ℕ, ◌+◌, ◌/◌, ◌%◌, List, [], ◌∷◌, nat_lt, if◌then◌else◌, codes}
+use Rattle.tb_asm.specs.declared.names.Name.{Name}
+use Rattle.tb_templates.specs.declared.labels.Inner.{Inner}
+use Rattle.tb_templates.specs.declared.labels.Inner.TheVariants.{Text, Behind, Skip, Here}
+use Rattle.tb_templates.specs.declared.labels.Target.{Target}
+use Rattle.tb_templates.specs.declared.labels.Target.TheVariants.{Line, Inside, Past, Find, Table}
+
+abbrev pub digit_of : ℕ → ℕ
+digit_of d = if nat_lt d 10 then 48 + d else 55 + d
+
+-- the four digits of a word before a text
+abbrev pub four_digits : ℕ → List ℕ → List ℕ
+four_digits w text = digit_of (w / 4096) ∷ digit_of (w / 256 % 16) ∷ digit_of (w / 16 % 16) ∷ digit_of (w % 16) ∷ text
+
+abbrev pub named : List ℕ → Name
+named letters = record { letters = record { items = letters } }
+
+-- the letter of what stands inside a line's code
+abbrev pub letter_of : Inner → ℕ
+letter_of Text = 84
+letter_of Behind = 85
+letter_of Skip = 83
+letter_of Here = 84
+
+-- A line is L and its number; a place in the code of its instruction i has the index and a letter behind. Fault 7, the
+-- search in the line table and the table itself are words. In a program's code the labels rise in the order of letters.
+abbrev pub label_of : Target → Name
+label_of (Line n) = named (76 ∷ four_digits n [])
+label_of (Inside inner n i) = named (76 ∷ four_digits n (four_digits i (letter_of inner ∷ [])))
+label_of Past = named (codes "PAST")
+label_of Find = named (codes "SEEK")
+label_of Table = named (codes "TROW")

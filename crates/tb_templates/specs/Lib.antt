@@ -1,0 +1,5 @@
+pub mod Labels
+pub mod Templates
+pub mod Program
+pub mod Sizes
+pub mod Layout

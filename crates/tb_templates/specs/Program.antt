@@ -1,0 +1,61 @@
+-- The code of a whole program, as items of the assembler from the block's address on.
+use Rattle.std.specs.Prelude.{ℕ, ◌+◌, ◌-◌, ◌<◌, List, [], ◌∷◌, ◌++◌, length, replicate}
+use Rattle.tb_opcodes.specs.declared.Mnemonic.TheVariants.{Jmp}
+use Rattle.tb_opcodes.specs.declared.Mode.TheVariants.{Absolute}
+use Rattle.tb_asm.specs.declared.items.Operand.TheVariants as operand
+use Rattle.tb_asm.specs.Layout.{Entry, bytes, word}
+use Rattle.tb_syntax.specs.Source.{Numbered, numbers}
+use Rattle.tb_lower.specs.Control.{highest}
+use Rattle.tb_lower.specs.Slots.{Instr, SlotCode}
+use Rattle.tb_lower.specs.Ranges.{AreInRange}
+use Rattle.tb_runtime16.specs.Block.{block_bytes}
+use Rattle.tb_runtime16.specs.Places.{PROLOGUE_AT, LINES_AT, LINE, TABLE, COUNT, SEARCH_AT}
+use Rattle.tb_templates.specs.declared.labels.Target.TheVariants.{Line, Past, Find, Table}
+use Rattle.tb_templates.specs.Labels.{label_of}
+use Rattle.tb_templates.specs.Templates.{at, jump, here, constant, address, fault, next_line, template}
+
+-- the rest of a line's list from instruction i on, and the jump to the next line
+abbrev pub rest_code : List ℕ → ℕ → ℕ → ℕ → List Instr → List Entry
+rest_code ns seed n i [] = jump (next_line ns n) ∷ []
+rest_code ns seed n i (instruction ∷ is) = template ns seed n i instruction ++ rest_code ns seed n (i + 1) is
+
+-- a line begins by noting its number
+abbrev pub line_code : List ℕ → ℕ → Numbered (List Instr) → List Entry
+line_code ns seed line = here (Line line.number) ∷ (constant line.number LINE ++ rest_code ns seed line.number 0 line.content)
+
+abbrev pub lines_code : List ℕ → ℕ → SlotCode → List Entry
+lines_code ns seed [] = []
+lines_code ns seed (line ∷ lines) = line_code ns seed line ++ lines_code ns seed lines
+
+-- fault 7, at the highest line
+abbrev pub past_code : List ℕ → List Entry
+past_code ns = here Past ∷ (constant (highest ns) LINE ++ fault 7)
+
+-- the search in the line table
+abbrev pub find_code : List ℕ → List Entry
+find_code ns = here Find ∷ (address Table TABLE ++ (constant (length ns) COUNT ++ (at Jmp SEARCH_AT ∷ [])))
+
+-- the line table: each line's number and the address of its code
+abbrev pub row_code : ℕ → List Entry
+row_code n = word (operand.Word n) ∷ word (operand.Label (label_of (Line n))) ∷ []
+
+abbrev pub rows_code : List ℕ → List Entry
+rows_code [] = []
+rows_code (n ∷ ns) = row_code n ++ rows_code ns
+
+abbrev pub table_code : List ℕ → List Entry
+table_code ns = here Table ∷ rows_code ns
+
+-- the block, and zero bytes up to the lines
+abbrev pub block_code : List Entry
+block_code = bytes block_bytes ∷ bytes (replicate (LINES_AT - PROLOGUE_AT - length block_bytes) 0) ∷ []
+
+-- a program: the block, the lines in order, and what belongs to none of them
+abbrev pub program_code : ℕ → SlotCode → List Entry
+program_code seed code =
+    block_code ++ (lines_code (numbers code) seed code ++ (past_code (numbers code) ++ (find_code (numbers code) ++ table_code (numbers code))))
+
+-- code whose operands are in their ranges, with lists and lines that can be counted by a word
+abbrev pub AreCodable : SlotCode → Type 0
+AreCodable [] = Unit {0}
+AreCodable (line ∷ lines) = AreInRange 256 line.content × (length line.content < 65536) × AreCodable lines

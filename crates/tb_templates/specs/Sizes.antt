@@ -1,0 +1,66 @@
+-- How many bytes the code of an instruction takes at most, and that of a program.
+use Rattle.std.specs.Prelude.{ℕ, ◌+◌, Bool, true, false, List, [], ◌∷◌, length}
+use Rattle.tb_syntax.specs.declared.expressions.Operator.TheVariants.{Add, Subtract, Multiply, Divide}
+use Rattle.tb_syntax.specs.Source.{Item, Text, Value, Zone, Command, Print, If, Program}
+use Rattle.tb_lower.specs.Cost.{item_cost}
+use Rattle.tb_lower.specs.Slots.{Instr, Put, Load, Store, Negate, Compute, Random, SendText, SendNumber, SendZone, SendNewline, Input, Poll, Hold, LeaveUnless, Jump, Call, JumpTo, CallTo, Return, End, SlotCode}
+
+-- the bytes of one instruction
+abbrev pub room : Instr → ℕ
+room (Put k w) = 10
+room (Load k x) = 12
+room (Store x) = 12
+room (Negate k) = 17
+room (Compute op k) = 39
+room (Random k) = 37
+room (SendText bs) = 19 + length bs
+room SendNumber = 15
+room SendZone = 3
+room SendNewline = 5
+room (Input x) = 15
+room Poll = 3
+room Hold = 12
+room (LeaveUnless rel) = 35
+room Jump = 18
+room Call = 31
+room (JumpTo target) = 5
+room (CallTo target) = 16
+room Return = 6
+room End = 1
+
+-- of a list
+abbrev pub list_room : List Instr → ℕ
+list_room [] = 0
+list_room (i ∷ is) = room i + list_room is
+
+-- of a program's lines with their entries in the line table: a line notes its number and ends by a jump
+abbrev pub lines_room : SlotCode → ℕ
+lines_room [] = 0
+lines_room (line ∷ lines) = 17 + list_room line.content + lines_room lines
+
+-- of fault 7 and the search
+abbrev pub rest_room : ℕ
+rest_room = 38
+
+-- ── zones ──
+-- a comma stands behind a text or a value of its own, so that these pay for it; the Bool says whether one stands before
+abbrev pub AreApart : Bool → List Item → Type 0
+AreApart behind [] = Unit {0}
+AreApart true (Zone ∷ items) = AreApart false items
+AreApart false (Zone ∷ items) = ⊥
+AreApart behind (Text bs ∷ items) = AreApart true items
+AreApart behind (Value e ∷ items) = AreApart true items
+
+abbrev pub IsSpaced : Command → Type 0
+IsSpaced (Print items ends) = AreApart false items
+IsSpaced (If l rel r c) = IsSpaced c
+IsSpaced _ = Unit {0}
+
+abbrev pub AreSpaced : Program → Type 0
+AreSpaced [] = Unit {0}
+AreSpaced (line ∷ lines) = IsSpaced line.content × AreSpaced lines
+
+-- what the items of a PRINT cost
+abbrev pub items_cost : List Item → ℕ
+items_cost [] = 0
+items_cost (i ∷ is) = item_cost i + items_cost is

@@ -1,0 +1,114 @@
+//! The places of a program's code that have a label.
+ghost use Rattle.std.specs.Prelude.{◌≡◌, ◌<◌, ◌≤◌, ◌+◌, ◌∷◌, ◌++◌, []};
+ghost use Rattle.arrayvec.specs.ArrayVec.{array_vec_len};
+ghost use Rattle.tb_templates.specs.Labels.{label_of, letter_of, digit_of, four_digits, named};
+
+use arrayvec::ArrayVec;
+use tb_asm::Name;
+
+/// A place inside the code of one slot instruction.
+#[derive(Clone, Copy, Debug, PartialEq, Eq, Drop)]
+pub enum Inner {
+    /// A text.
+    Text,
+    /// What is behind a text.
+    Behind,
+    /// The jump out of a line.
+    Skip,
+    /// What is behind such a jump.
+    Here,
+}
+
+/// A place that code goes to or speaks of.
+#[derive(Clone, Copy, Debug, PartialEq, Eq, Drop)]
+pub enum Target {
+    /// The line of this number.
+    Line(u16),
+    /// A place in the code of an instruction: the line's number and the instruction's index.
+    Inside(Inner, u16, u16),
+    /// Fault 7, behind the last line.
+    Past,
+    /// The search in the line table.
+    Find,
+    /// The line table.
+    Table,
+}
+
+/// Its label: `L` and hexadecimal digits, or a word.
+pub fn label(target: Target) -> Name
+    ensures { result ≡ label_of target }
+{
+    match target {
+        Target::Line(line) => line_label(line),
+        Target::Inside(inner, line, instruction) => inner_label(inner, line, instruction),
+        Target::Past => word_label(b'P', b'A', b'S', b'T'),
+        Target::Find => word_label(b'S', b'E', b'E', b'K'),
+        Target::Table => word_label(b'T', b'R', b'O', b'W'),
+    }
+}
+
+// A hexadecimal digit.
+fn digit(value: u16) -> u8
+    requires { value < 16 }
+    ensures { result ≡ digit_of value }
+{
+    if value < 10 {
+        b'0' + value as u8
+    } else {
+        b'A' + (value as u8 - 10)
+    }
+}
+
+// Appends the four digits of a word.
+fn push_digits(letters: &mut ArrayVec<u8, 31>, word: u16)
+    requires { array_vec_len letters.old ≤ 20 }
+    ensures digits { letters.new.items ≡ letters.old.items ++ four_digits word [] }
+    ensures longer { array_vec_len letters.new ≡ array_vec_len letters.old + 4 }
+{
+    letters.push(digit(word / 4096));
+    letters.push(digit(word / 256 % 16));
+    letters.push(digit(word / 16 % 16));
+    letters.push(digit(word % 16));
+}
+
+fn line_label(line: u16) -> Name
+    ensures { result ≡ named (76 ∷ four_digits line []) }
+{
+    let mut letters = ArrayVec::new();
+    letters.push(b'L');
+    push_digits(&mut letters, line);
+    Name { letters }
+}
+
+fn inner_label(inner: Inner, line: u16, instruction: u16) -> Name
+    ensures { result ≡ named (76 ∷ four_digits line (four_digits instruction (letter_of inner ∷ []))) }
+{
+    let mut letters = ArrayVec::new();
+    letters.push(b'L');
+    push_digits(&mut letters, line);
+    push_digits(&mut letters, instruction);
+    letters.push(letter(inner));
+    Name { letters }
+}
+
+// The letter of a place inside a line's code.
+fn letter(inner: Inner) -> u8
+    ensures { result ≡ letter_of inner }
+{
+    match inner {
+        Inner::Skip => b'S',
+        Inner::Text | Inner::Here => b'T',
+        Inner::Behind => b'U',
+    }
+}
+
+fn word_label(first: u8, second: u8, third: u8, fourth: u8) -> Name
+    ensures { result ≡ named (first ∷ second ∷ third ∷ fourth ∷ []) }
+{
+    let mut letters = ArrayVec::new();
+    letters.push(first);
+    letters.push(second);
+    letters.push(third);
+    letters.push(fourth);
+    Name { letters }
+}

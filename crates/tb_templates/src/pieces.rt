@@ -1,0 +1,216 @@
+//! Small pieces of code, as items of the assembler.
+ghost use Rattle.std.specs.Prelude.{◌≡◌, ◌+◌, ◌<◌, ◌≤◌, OnOk, [], ◌∷◌, ◌++◌, map};
+ghost use Rattle.tb_asm.specs.Layout.{entry_of};
+ghost use Rattle.tb_templates.specs.Templates as templates;
+ghost use Rattle.tb_runtime16.specs.Places as places;
+ghost use Rattle.tb_opcodes.specs.declared.Mnemonic.TheVariants.{Lda, Sta};
+
+use crate::labels::{Target, label};
+use std::alloc::AllocError;
+use tb_asm::{Item, Operand};
+use tb_opcodes::{Mnemonic, Mode};
+use tb_runtime16::{LEFT, RESULT, RIGHT, Routine, SCRATCH, entry};
+
+/// One more item.
+pub fn put(items: &mut Vec<Item>, item: Item) -> Result<(), AllocError>
+    ensures { OnOk result (map entry_of items.new.items ≡ map entry_of items.old.items ++ entry_of item ∷ []) }
+{
+    items.push(item)?;
+    Ok(())
+}
+
+/// An instruction on the byte at an address.
+pub fn put_at(items: &mut Vec<Item>, mnemonic: Mnemonic, address: u16) -> Result<(), AllocError>
+    ensures { OnOk result (map entry_of items.new.items ≡ map entry_of items.old.items ++ templates.at mnemonic address ∷ []) }
+{
+    put(
+        items,
+        Item::Instr(mnemonic, Mode::Absolute, Operand::Word(address)),
+    )
+}
+
+/// An instruction on a constant.
+pub fn put_const(items: &mut Vec<Item>, mnemonic: Mnemonic, byte: u8) -> Result<(), AllocError>
+    ensures { OnOk result (map entry_of items.new.items ≡ map entry_of items.old.items ++ templates.const mnemonic byte ∷ []) }
+{
+    put(
+        items,
+        Item::Instr(mnemonic, Mode::Immediate, Operand::Byte(byte)),
+    )
+}
+
+/// An instruction without an operand.
+pub fn put_alone(items: &mut Vec<Item>, mnemonic: Mnemonic) -> Result<(), AllocError>
+    ensures { OnOk result (map entry_of items.new.items ≡ map entry_of items.old.items ++ templates.alone mnemonic ∷ []) }
+{
+    put(
+        items,
+        Item::Instr(mnemonic, Mode::Implied, Operand::Nothing),
+    )
+}
+
+/// A branch to a label.
+pub fn put_branch(items: &mut Vec<Item>, mnemonic: Mnemonic, to: Target) -> Result<(), AllocError>
+    ensures { OnOk result (map entry_of items.new.items ≡ map entry_of items.old.items ++ templates.branch mnemonic to ∷ []) }
+{
+    put(
+        items,
+        Item::Instr(mnemonic, Mode::Relative, Operand::Label(label(to))),
+    )
+}
+
+/// A label.
+pub fn put_here(items: &mut Vec<Item>, target: Target) -> Result<(), AllocError>
+    ensures { OnOk result (map entry_of items.new.items ≡ map entry_of items.old.items ++ templates.here target ∷ []) }
+{
+    put(items, Item::Label(label(target)))
+}
+
+/// A jump to a label.
+pub fn put_jump(items: &mut Vec<Item>, to: Target) -> Result<(), AllocError>
+    ensures { OnOk result (map entry_of items.new.items ≡ map entry_of items.old.items ++ templates.jump to ∷ []) }
+{
+    put(
+        items,
+        Item::Instr(Mnemonic::Jmp, Mode::Absolute, Operand::Label(label(to))),
+    )
+}
+
+/// A call of a routine of the block.
+pub fn put_call(items: &mut Vec<Item>, routine: Routine) -> Result<(), AllocError>
+    ensures { OnOk result (map entry_of items.new.items ≡ map entry_of items.old.items ++ templates.call (places.entry_of routine) ∷ []) }
+{
+    put_at(items, Mnemonic::Jsr, entry(routine))
+}
+
+/// Copies a word.
+pub fn put_copied(items: &mut Vec<Item>, from: u16, to: u16) -> Result<(), AllocError>
+    requires { (from < 65535) × (to < 65535) }
+    ensures { OnOk result (map entry_of items.new.items ≡ map entry_of items.old.items ++ templates.copied from to) }
+{
+    put_at(items, Mnemonic::Lda, from)?;
+    put_at(items, Mnemonic::Sta, to)?;
+    put_at(items, Mnemonic::Lda, from + 1)?;
+    put_at(items, Mnemonic::Sta, to + 1)
+}
+
+/// Stores a constant word.
+pub fn put_constant(items: &mut Vec<Item>, word: u16, to: u16) -> Result<(), AllocError>
+    requires { to < 65535 }
+    ensures { OnOk result (map entry_of items.new.items ≡ map entry_of items.old.items ++ templates.constant word to) }
+{
+    put_const(items, Mnemonic::Lda, (word % 256) as u8)?;
+    put_at(items, Mnemonic::Sta, to)?;
+    put_const(items, Mnemonic::Lda, (word / 256) as u8)?;
+    put_at(items, Mnemonic::Sta, to + 1)
+}
+
+/// Stores the address of a label.
+pub fn put_address(items: &mut Vec<Item>, of: Target, to: u16) -> Result<(), AllocError>
+    requires { to < 65535 }
+    ensures { OnOk result (map entry_of items.new.items ≡ map entry_of items.old.items ++ templates.address of to) }
+{
+    put(
+        items,
+        Item::Instr(Mnemonic::Lda, Mode::Immediate, Operand::LowOf(label(of))),
+    )?;
+    put_at(items, Mnemonic::Sta, to)?;
+    put(
+        items,
+        Item::Instr(Mnemonic::Lda, Mode::Immediate, Operand::HighOf(label(of))),
+    )?;
+    put_at(items, Mnemonic::Sta, to + 1)
+}
+
+/// Adds the word behind to a word.
+pub fn put_added(items: &mut Vec<Item>, to: u16) -> Result<(), AllocError>
+    requires { to < 65533 }
+    ensures { OnOk result (map entry_of items.new.items ≡ map entry_of items.old.items ++ templates.added to) }
+{
+    put_alone(items, Mnemonic::Clc)?;
+    put_sum(items, Mnemonic::Adc, to)
+}
+
+/// Takes the word behind away from a word.
+pub fn put_subtracted(items: &mut Vec<Item>, to: u16) -> Result<(), AllocError>
+    requires { to < 65533 }
+    ensures { OnOk result (map entry_of items.new.items ≡ map entry_of items.old.items ++ templates.subtracted to) }
+{
+    put_alone(items, Mnemonic::Sec)?;
+    put_sum(items, Mnemonic::Sbc, to)
+}
+
+// The two bytes of a sum or a difference.
+fn put_sum(items: &mut Vec<Item>, mnemonic: Mnemonic, to: u16) -> Result<(), AllocError>
+    requires { to < 65533 }
+    ensures { OnOk result (map entry_of items.new.items ≡ map entry_of items.old.items ++ templates.at Lda to ∷ templates.at mnemonic (to + 2) ∷ templates.at Sta to ∷ templates.at Lda (to + 1) ∷ templates.at mnemonic (to + 3) ∷ templates.at Sta (to + 1) ∷ []) }
+{
+    put_at(items, Mnemonic::Lda, to)?;
+    put_at(items, mnemonic, to + 2)?;
+    put_at(items, Mnemonic::Sta, to)?;
+    put_at(items, Mnemonic::Lda, to + 1)?;
+    put_at(items, mnemonic, to + 3)?;
+    put_at(items, Mnemonic::Sta, to + 1)
+}
+
+/// Turns a word's sign.
+pub fn put_opposite(items: &mut Vec<Item>, to: u16) -> Result<(), AllocError>
+    requires { to < 65535 }
+    ensures { OnOk result (map entry_of items.new.items ≡ map entry_of items.old.items ++ templates.opposite to) }
+{
+    put_alone(items, Mnemonic::Sec)?;
+    put_const(items, Mnemonic::Lda, 0)?;
+    put_at(items, Mnemonic::Sbc, to)?;
+    put_at(items, Mnemonic::Sta, to)?;
+    put_const(items, Mnemonic::Lda, 0)?;
+    put_at(items, Mnemonic::Sbc, to + 1)?;
+    put_at(items, Mnemonic::Sta, to + 1)
+}
+
+/// Goes on where a note or the search said.
+pub fn put_jump_through(items: &mut Vec<Item>) -> Result<(), AllocError>
+    ensures { OnOk result (map entry_of items.new.items ≡ map entry_of items.old.items ++ templates.jump_through) }
+{
+    put(
+        items,
+        Item::Instr(Mnemonic::Jmp, Mode::Indirect, Operand::Word(RESULT)),
+    )
+}
+
+/// A fault, by its number.
+pub fn put_fault(items: &mut Vec<Item>, number: u8) -> Result<(), AllocError>
+    ensures { OnOk result (map entry_of items.new.items ≡ map entry_of items.old.items ++ templates.fault number) }
+{
+    put_const(items, Mnemonic::Lda, number)?;
+    put_at(items, Mnemonic::Jmp, entry(Routine::Fault))
+}
+
+/// The order of two signed words: C is clear behind it where the left one is below the right one.
+pub fn put_ordered(items: &mut Vec<Item>, left: u16, right: u16) -> Result<(), AllocError>
+    requires { (left < 65535) × (right < 65535) }
+    ensures { OnOk result (map entry_of items.new.items ≡ map entry_of items.old.items ++ templates.ordered left right) }
+{
+    put_raised(items, right + 1, SCRATCH)?;
+    put_raised(items, left + 1, SCRATCH + 1)?;
+    put_compared(items, left, right)
+}
+
+// The comparison of two words with such high bytes.
+fn put_compared(items: &mut Vec<Item>, left: u16, right: u16) -> Result<(), AllocError>
+    ensures { OnOk result (map entry_of items.new.items ≡ map entry_of items.old.items ++ templates.compared left right) }
+{
+    put_at(items, Mnemonic::Lda, left)?;
+    put_at(items, Mnemonic::Cmp, right)?;
+    put_at(items, Mnemonic::Lda, SCRATCH + 1)?;
+    put_at(items, Mnemonic::Sbc, SCRATCH)
+}
+
+// Adds 128 to a high byte, into another place.
+fn put_raised(items: &mut Vec<Item>, from: u16, to: u16) -> Result<(), AllocError>
+    ensures { OnOk result (map entry_of items.new.items ≡ map entry_of items.old.items ++ templates.raised from to) }
+{
+    put_at(items, Mnemonic::Lda, from)?;
+    put_alone(items, Mnemonic::Clc)?;
+    put_const(items, Mnemonic::Adc, 128)?;
+    put_at(items, Mnemonic::Sta, to)
+}

@@ -1,0 +1,215 @@
+//! The code of a whole program.
+ghost use Rattle.std.specs.Prelude.{◌≡◌, ◌+◌, ◌-◌, ◌<◌, ◌≤◌, OnOk, IfOk, [], ◌∷◌, ◌++◌, map, length, replicate};
+ghost use Rattle.tb_opcodes.specs.declared.Mnemonic.TheVariants.{Jmp};
+ghost use Rattle.tb_asm.specs.Layout.{word};
+ghost use Rattle.tb_asm.specs.declared.items.Operand.TheVariants as operand;
+ghost use Rattle.tb_templates.specs.Labels.{label_of};
+ghost use Rattle.tb_runtime16.specs.Places as places;
+ghost use Rattle.tb_asm.specs.Layout.{entry_of};
+ghost use Rattle.tb_syntax.specs.Source.{numbers};
+ghost use Rattle.tb_lower.specs.Control.{highest};
+ghost use Rattle.tb_lower.specs.Ranges.{AreInRange};
+ghost use Rattle.tb_lower.specs.Shown.{instr_of, slot_line_of, code_of};
+ghost use Rattle.tb_templates.specs.Program as program;
+ghost use Rattle.tb_templates.specs.Program.{AreCodable, program_code};
+ghost use Rattle.tb_templates.specs.Templates as templates;
+
+use crate::labels::{Target, label};
+use crate::pieces::{put, put_address, put_at, put_constant, put_fault, put_here, put_jump};
+use crate::templates::{Spot, put_instruction};
+use std::alloc::{AllocError, Global};
+use tb_asm::{Item, Operand};
+use tb_lower::{SlotCode, SlotInstr, SlotLine};
+use tb_opcodes::Mnemonic;
+use tb_runtime16::{BLOCK_AT, COUNT, LINE, LINES_AT, Routine, TABLE, block, entry};
+
+/// The items of a program, from the block's address on; the seed is the option's RND state.
+pub fn program_items(alloc: Global, seed: u16, code: &SlotCode) -> Result<Vec<Item>, AllocError>
+    requires lists { AreCodable (code_of code.now) }
+    requires lines { length (code_of code.now) < 65536 }
+    ensures { IfOk result (λ items. map entry_of items.items ≡ program_code seed (code_of code.now)) }
+{
+    let numbers = line_numbers(alloc, code.lines())?;
+    let mut items = Vec::new(alloc);
+    put_block(&mut items)?;
+    put_lines(&mut items, &numbers, seed, code.lines())?;
+    put_past(&mut items, &numbers)?;
+    put_find(&mut items, &numbers)?;
+    put_table(&mut items, &numbers)?;
+    Ok(items)
+}
+
+// The numbers of lines.
+fn line_numbers(alloc: Global, lines: &[SlotLine]) -> Result<Vec<u16>, AllocError>
+    ensures { IfOk result (λ ns. ns.items ≡ numbers (code_of lines.now)) }
+{
+    let mut numbers = Vec::new(alloc);
+    for line in lines {
+        numbers.push(line.number)?;
+    }
+    Ok(numbers)
+}
+
+// The block, and zero bytes up to the lines.
+fn put_block(items: &mut Vec<Item>) -> Result<(), AllocError>
+    ensures { OnOk result (map entry_of items.new.items ≡ map entry_of items.old.items ++ program.block_code) }
+{
+    let alloc = *items.allocator();
+    let block = block();
+    let gap = usize::from(LINES_AT - BLOCK_AT) - block.len();
+    put(items, Item::Bytes(block.to_vec(alloc)?))?;
+    put(items, Item::Bytes(zeros(alloc, gap)?))
+}
+
+// So many zero bytes.
+fn zeros(alloc: Global, count: usize) -> Result<Vec<u8>, AllocError>
+    ensures { IfOk result (λ v. v.items ≡ replicate count 0) }
+{
+    Vec::from_elem(alloc, 0u8, count)
+}
+
+// The lines in order.
+fn put_lines(
+    items: &mut Vec<Item>,
+    numbers: &[u16],
+    seed: u16,
+    lines: &[SlotLine],
+) -> Result<(), AllocError>
+    requires { AreCodable (code_of lines.now) }
+    ensures { OnOk result (map entry_of items.new.items ≡ map entry_of items.old.items ++ program.lines_code numbers.now seed (code_of lines.now)) }
+{
+    for line in lines {
+        put_line(items, numbers, seed, line)?;
+    }
+    Ok(())
+}
+
+// A line: it notes its number, does its list and goes on to the next line.
+fn put_line(
+    items: &mut Vec<Item>,
+    numbers: &[u16],
+    seed: u16,
+    line: &SlotLine,
+) -> Result<(), AllocError>
+    requires { AreInRange 256 (map instr_of line.now.code.items) × (length line.now.code.items < 65536) }
+    ensures { OnOk result (map entry_of items.new.items ≡ map entry_of items.old.items ++ program.line_code numbers.now seed (slot_line_of line.now)) }
+{
+    put_here(items, Target::Line(line.number))?;
+    put_constant(items, line.number, LINE)?;
+    put_list(items, numbers, seed, line.number, &line.code)?;
+    Ok(())
+}
+
+// A line's list, and the jump to the next line.
+fn put_list(
+    items: &mut Vec<Item>,
+    numbers: &[u16],
+    seed: u16,
+    line: u16,
+    list: &[SlotInstr],
+) -> Result<(), AllocError>
+    requires { AreInRange 256 (map instr_of list.now) × (length list.now < 65536) }
+    ensures { OnOk result (map entry_of items.new.items ≡ map entry_of items.old.items ++ program.rest_code numbers.now seed line 0 (map instr_of list.now)) }
+{
+    let next = next_line(numbers, line);
+    let mut index = 0;
+    for instruction in list {
+        put_instruction(
+            items,
+            numbers,
+            seed,
+            Spot { line, index, next },
+            instruction,
+        )?;
+        index += 1;
+    }
+    put_jump(items, next)
+}
+
+// The place behind a line.
+fn next_line(numbers: &[u16], line: u16) -> Target
+    ensures { result ≡ templates.next_line numbers.now line }
+{
+    match numbers {
+        [] => Target::Past,
+        [first, rest @ ..] => if line < *first {
+            Target::Line(*first)
+        } else {
+            next_line(rest, line)
+        },
+    }
+}
+
+// Fault 7, at the highest line.
+fn put_past(items: &mut Vec<Item>, numbers: &[u16]) -> Result<(), AllocError>
+    ensures { OnOk result (map entry_of items.new.items ≡ map entry_of items.old.items ++ program.past_code numbers.now) }
+{
+    put_here(items, Target::Past)?;
+    put_constant(items, last(numbers), LINE)?;
+    put_fault(items, 7)?;
+    Ok(())
+}
+
+// The last number; 0 where there is none.
+fn last(numbers: &[u16]) -> u16
+    ensures { result ≡ highest numbers.now }
+{
+    match numbers {
+        [] => 0,
+        [only] => *only,
+        [_, rest @ ..] => last(rest),
+    }
+}
+
+// The search in the line table.
+fn put_find(items: &mut Vec<Item>, numbers: &[u16]) -> Result<(), AllocError>
+    requires { length numbers.now < 65536 }
+    ensures { OnOk result (map entry_of items.new.items ≡ map entry_of items.old.items ++ program.find_code numbers.now) }
+{
+    put_here(items, Target::Find)?;
+    put_address(items, Target::Table, TABLE)?;
+    put_constant(items, numbers.len() as u16, COUNT)?;
+    put_jump_to_routine(items, Routine::Search)?;
+    Ok(())
+}
+
+// A jump to a routine of the block.
+fn put_jump_to_routine(items: &mut Vec<Item>, routine: Routine) -> Result<(), AllocError>
+    ensures { OnOk result (map entry_of items.new.items ≡ map entry_of items.old.items ++ templates.at Jmp (places.entry_of routine) ∷ []) }
+{
+    put_at(items, Mnemonic::Jmp, entry(routine))
+}
+
+// The line table.
+fn put_table(items: &mut Vec<Item>, numbers: &[u16]) -> Result<(), AllocError>
+    ensures { OnOk result (map entry_of items.new.items ≡ map entry_of items.old.items ++ program.table_code numbers.now) }
+{
+    put_here(items, Target::Table)?;
+    put_rows(items, numbers)?;
+    Ok(())
+}
+
+// An entry for each line: its number and the address of its code.
+fn put_rows(items: &mut Vec<Item>, numbers: &[u16]) -> Result<(), AllocError>
+    ensures { OnOk result (map entry_of items.new.items ≡ map entry_of items.old.items ++ program.rows_code numbers.now) }
+{
+    for number in numbers {
+        put_row(items, *number)?;
+    }
+    Ok(())
+}
+
+fn put_row(items: &mut Vec<Item>, number: u16) -> Result<(), AllocError>
+    ensures { OnOk result (map entry_of items.new.items ≡ map entry_of items.old.items ++ program.row_code number) }
+{
+    put(items, Item::Word(Operand::Word(number)))?;
+    put_address_word(items, Target::Line(number))?;
+    Ok(())
+}
+
+// The address of a label as a word.
+fn put_address_word(items: &mut Vec<Item>, of: Target) -> Result<(), AllocError>
+    ensures { OnOk result (map entry_of items.new.items ≡ map entry_of items.old.items ++ word (operand.Label (label_of of)) ∷ []) }
+{
+    put(items, Item::Word(Operand::Label(label(of))))
+}
