@@ -1,12 +1,13 @@
 //! Rows of the stepper, on programs in machine code.
 use std::alloc::Global;
 use std::test::Fail;
+use tb_codegen::{Compiled, Options, compile};
 use tb_cpu::{Flags, Regs, Wrong};
 use tb_kernal::{Keyboard, Machine, Outside, Quiet, Rude, Status};
 use tb_memmap::Memory;
 use tb_parser::parse_expr;
 use tb_lower::EvalError;
-use tb_stepper::{NothingBack, Reached, Stepper};
+use tb_stepper::{NothingBack, Reached, StepError, Stepper};
 use tb_words::Letter;
 
 const START: Regs = Regs {
@@ -40,15 +41,23 @@ fn machine_with(alloc: Global, program: &[u8], places: &[u8]) -> Result<Machine,
         .ok_or("no machine")?)
 }
 
-fn stepper_with<O: Outside + Drop>(
+fn stepper_with<'a, O: Outside + Drop>(
     alloc: Global,
+    lines: &'a Compiled,
     program: &[u8],
     outside: O,
-) -> Result<Stepper<O>, Fail> {
+) -> Result<Stepper<'a, O>, Fail> {
     let machine = machine_with(alloc, program, &[])?;
-    Ok(Stepper::new(alloc, machine, outside)
+    Ok(Stepper::new(alloc, machine, lines, outside)
         .ok()
         .ok_or("no stepper")?)
+}
+
+// The program 10 A=5, 20 END.
+fn two_lines(alloc: Global) -> Result<Compiled, Fail> {
+    Ok(compile(alloc, b"10 A=5\n20 END\n", Options { seed: 0 })
+        .ok()
+        .ok_or("not compiled")?)
 }
 
 // What a row compares.
@@ -98,7 +107,8 @@ const ENDLESS: [u8; 8] = [0xa9, 0x41, 0x20, 0xd2, 0xff, 0x4c, 0x0d, 0x08];
 
 // Whether as many `back` as steps lead to the start.
 fn is_taken_back(alloc: Global, program: &[u8], count: usize) -> Result<bool, Fail> {
-    let mut stepper = stepper_with(alloc, program, Rude::new(7))?;
+    let lines = two_lines(alloc)?;
+    let mut stepper = stepper_with(alloc, &lines, program, Rude::new(7))?;
     let start = show(alloc, stepper.machine())?;
     for _ in 0..count {
         stepper.step()?;
@@ -121,7 +131,8 @@ fn back_over_rude(rt: HostRuntime) -> Result<(), Fail> {
 #[test]
 fn thousand_steps_kept(rt: HostRuntime) -> Result<(), Fail> {
     let alloc = rt.alloc();
-    let mut stepper = stepper_with(alloc, &ENDLESS, Quiet)?;
+    let lines = two_lines(alloc)?;
+    let mut stepper = stepper_with(alloc, &lines, &ENDLESS, Quiet)?;
     stepper.step()?;
     let second = show(alloc, stepper.machine())?;
     for _ in 0..1000 {
@@ -138,7 +149,8 @@ fn thousand_steps_kept(rt: HostRuntime) -> Result<(), Fail> {
 #[test]
 fn stopped_machines(rt: HostRuntime) -> Result<(), Fail> {
     let alloc = rt.alloc();
-    let mut stepper = stepper_with(alloc, &[0xa9, 0x05, 0x60], Quiet)?;
+    let lines = two_lines(alloc)?;
+    let mut stepper = stepper_with(alloc, &lines, &[0xa9, 0x05, 0x60], Quiet)?;
     assert_eq!(rt; stepper.back(), Err(NothingBack));
     assert_eq!(rt; stepper.step()?, Status::Running);
     assert_eq!(rt; stepper.machine().regs().a, 5);
@@ -149,7 +161,7 @@ fn stopped_machines(rt: HostRuntime) -> Result<(), Fail> {
     assert_eq!(rt; stepper.back(), Ok(()));
     assert_eq!(rt; stepper.machine().regs(), START);
     assert_eq!(rt; stepper.back(), Err(NothingBack));
-    let mut wrong = stepper_with(alloc, &[0x00], Quiet)?;
+    let mut wrong = stepper_with(alloc, &lines, &[0x00], Quiet)?;
     assert_eq!(rt; wrong.step()?, Status::Wrong(Wrong::Brk));
     assert_eq!(rt; wrong.back(), Ok(()));
     assert_eq!(rt; wrong.machine().status(), Status::Running);
@@ -157,25 +169,28 @@ fn stopped_machines(rt: HostRuntime) -> Result<(), Fail> {
 }
 
 #[test]
-fn walks(rt: HostRuntime) -> Result<(), Fail> {
+fn walks_to_lines(rt: HostRuntime) -> Result<(), Fail> {
     let alloc = rt.alloc();
-    let mut stepper = stepper_with(alloc, &ENDLESS, Quiet)?;
-    assert_eq!(rt; stepper.to_address(0x0812, 2)?, Reached::Limit);
-    assert_eq!(rt; stepper.machine().regs().pc, 0xffd2);
-    assert_eq!(rt; stepper.to_address(0x0812, 1)?, Reached::There);
-    assert_eq!(rt; stepper.to_address(0x0812, 0)?, Reached::Limit);
-    assert_eq!(rt; stepper.to_address(0x0812, 4)?, Reached::There);
-    assert_eq!(rt; stepper.machine().sent().len(), 2);
-    let mut waiting = stepper_with(alloc, &BUSY, Quiet)?;
-    assert_eq!(rt; waiting.to_address(0x2000, 1000)?, Reached::Stopped(Status::Waits));
-    assert_eq!(rt; waiting.to_address(0xffcf, 1000)?, Reached::Stopped(Status::Waits));
-    assert_eq!(rt; waiting.machine().sent(), b"HHHH".as_slice());
+    let lines = two_lines(alloc)?;
+    let program = &lines.prg()[14..];
+    let mut stepper = stepper_with(alloc, &lines, program, Quiet)?;
+    assert_eq!(rt; stepper.line(), None);
+    assert_eq!(rt; stepper.to_line(15, 1000), Err(StepError::NoSuchLine));
+    assert_eq!(rt; stepper.to_line(10, 0), Ok(Reached::Limit));
+    assert_eq!(rt; stepper.to_line(10, 10_000), Ok(Reached::There));
+    assert_eq!(rt; stepper.line(), Some(10));
+    assert_eq!(rt; stepper.to_line(20, 1), Ok(Reached::Limit));
+    assert_eq!(rt; stepper.to_line(20, 10_000), Ok(Reached::There));
+    assert_eq!(rt; stepper.line(), Some(20));
+    assert_eq!(rt; stepper.variable(Letter::read(b'A').ok_or("no letter")?), 5);
+    assert_eq!(rt; stepper.to_line(20, 10_000), Ok(Reached::Stopped(Status::Returned)));
     Ok(())
 }
 
 #[test]
 fn readings(rt: HostRuntime) -> Result<(), Fail> {
     let alloc = rt.alloc();
+    let lines = two_lines(alloc)?;
     let mut places = [0; 62];
     places[0] = 5;
     places[2] = 0xff;
@@ -185,7 +200,7 @@ fn readings(rt: HostRuntime) -> Result<(), Fail> {
     places[60] = 0xf4;
     places[61] = 0x01;
     let machine = machine_with(alloc, &ENDLESS, &places)?;
-    let stepper = Stepper::new(alloc, machine, Quiet).ok().ok_or("no stepper")?;
+    let stepper = Stepper::new(alloc, machine, &lines, Quiet).ok().ok_or("no stepper")?;
     for (name, value) in [(b'A', 5), (b'b', -1), (b'C', 0), (b'Z', -32767)] {
         let letter = Letter::read(name).ok_or("no letter")?;
         assert_eq!(rt; stepper.variable(letter), value);

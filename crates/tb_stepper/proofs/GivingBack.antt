@@ -120,9 +120,9 @@ kept_fit m ready n e t u us r noted h f =
 
 -- an event that happened, with its note, adds a machine
 pub added : {O : Type 0} (gives : O → Content → Event → O → Type 0) (h k : Holds O) (ready : Content) (e : Event) (t : Status) (u : Note) →
-    ready ≡ record h.machine { room = ready.room } → gives h.outside ready e k.outside → Noted u ready e → Happened ready e (Ok t) k.machine → k.notes ≡ keep_last 1000 (h.notes ++ u ∷ []) →
+    ready ≡ record h.machine { room = ready.room } → gives h.outside ready e k.outside → Noted u ready e → Happened ready e (Ok t) k.machine → k.notes ≡ keep_last 1000 (h.notes ++ u ∷ []) → k.program ≡ h.program →
     Added gives h k
-added gives h k ready e t u r given noted happened notes =
+added gives h k ready e t u r given noted happened notes program =
     let same : state_of ready ≡ state_of h.machine = ap state_of r in
     let now = state_of k.machine in
     let text : k.machine.all_text ≡ h.machine.all_text = happened.4.0 ∙ ap (λ (c : Content). c.all_text) r in
@@ -135,6 +135,7 @@ added gives h k ready e t u r given noted happened notes =
       same = same;
       given = given;
       happened = happened.1 ∙ ap (λ s. happens s e) same;
+      program = program;
       kept =
           (λ i. earlier_of (text i) (answers i) (notes i) now ++ now ∷ []) ∙
           machines_more h.machine.all_text h.machine.all_answers h.notes u (state_of h.machine) now back;

@@ -6,6 +6,8 @@ use Rattle.tb_kernal.specs.declared.events.Event.{Event}
 use Rattle.tb_kernal.specs.declared.status.Status.{Status}
 use Rattle.tb_kernal.specs.Machine.{State, Content, state_of, status, is_stopped, happens}
 use Rattle.tb_kernal.specs.declared.status.Status.TheVariants.{Running}
+use Rattle.tb_stepper.specs.declared.reached.StepError.{StepError}
+use Rattle.tb_stepper.specs.declared.reached.StepError.TheVariants.{NoSuchLine, NoMemory as NoRoom}
 use Rattle.tb_stepper.specs.declared.reached.Reached.{Reached}
 use Rattle.tb_stepper.specs.declared.reached.Reached.TheVariants.{There, Stopped, Limit}
 pub use Rattle.tb_stepper.specs.Notes.{Holds, machines}
@@ -17,6 +19,7 @@ pub record Added {O : Type 0} (gives : O → Content → Event → O → Type 0)
   pub same : state_of ready ≡ state_of h.machine
   pub given : gives h.outside ready event k.outside
   pub happened : state_of k.machine ≡ happens (state_of h.machine) event
+  pub program : k.program ≡ h.program
   pub kept : machines k ≡ keep_last 1001 (machines h ++ state_of k.machine ∷ [])
 
 -- a step of a machine that isn't stopped; NoMemory comes only where there is no room, and changes nothing
@@ -63,3 +66,14 @@ pub record Reaches {O : Type 0} (gives : O → Content → Event → O → Type 
   pub answer : MatchResult result
       (λ answer. Answers (end_at address (nat_lt 0 steps) (state_of k.machine)) steps limit answer)
       (λ _. (end_at address (nat_lt 0 steps) (state_of k.machine) ≡ None) × (steps < limit) × (k.machine.room ≡ 0))
+
+-- the same, with want of memory as a walk to a line answers it
+abbrev pub ReachesStart : {O : Type 0} → (O → Content → Event → O → Type 0) → ℕ → ℕ → Holds O → Result Reached StepError → Holds O → Type 0
+ReachesStart gives address limit h (Ok answer) k = Reaches gives address limit h (Ok answer) k
+ReachesStart gives address limit h (Err NoRoom) k = (e : NoMemory) × Reaches gives address limit h (Err e) k
+ReachesStart gives address limit h (Err NoSuchLine) k = ⊥
+
+-- a walk to where a line begins; without such a line nothing changes
+abbrev pub ReachesLine : {O : Type 0} → (O → Content → Event → O → Type 0) → Option ℕ → ℕ → Holds O → Result Reached StepError → Holds O → Type 0
+ReachesLine gives None limit h result k = (result ≡ Err NoSuchLine) × (k ≡ h)
+ReachesLine gives (Some address) limit h result k = ReachesStart gives address limit h result k

@@ -2,14 +2,16 @@
 use Rattle.std.specs.Prelude.{ℕ, ◌≡◌, ◌++◌, Bool, true, ◌&&◌, nat_le, List, [], ◌∷◌, length, take, drop}
 use Rattle.tb_kernal.specs.declared.events.Event.{Event}
 use Rattle.tb_kernal.specs.Notes.{Note}
+use Rattle.tb_codegen.specs.declared.compiled.Compiled.{Compiled}
 use Rattle.tb_kernal.specs.Places.{written_open}
 use Rattle.tb_kernal.specs.Machine.{State, Content, state_of, is_lawful, happens}
 
--- what a history holds: the present machine, the outside, and a note of each step that can be taken back, the oldest first
+-- what a stepper holds: the present machine, the outside, a note of each step that can be taken back, the oldest first, and the program
 pub record Holds (O : Type 0) : Type 0 where
   pub machine : Content
   pub outside : O
   pub notes : List Note
+  pub program : Compiled
 
 -- the state before an event, which its note gives back from the state after it; the first two are the keyboard's whole text and answers
 abbrev pub given_back : List ℕ → List ℕ → Note → State → State

@@ -1,6 +1,6 @@
 //! Stepping a program forward and back.
 //!
-//! A `Stepper` holds a machine and notes of its last 1,000 steps, each
+//! A `Stepper` holds a machine beside its compiled program, and notes of its last 1,000 steps, each
 //! of which can be taken back.
 #![tactic(auto)]
 
@@ -8,5 +8,5 @@ mod reached;
 mod readings;
 mod stepper;
 
-pub use reached::Reached;
+pub use reached::{Reached, StepError};
 pub use stepper::{NothingBack, Refused, Stepper};

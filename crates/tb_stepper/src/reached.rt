@@ -11,3 +11,12 @@ pub enum Reached {
     /// As many steps as the limit were taken.
     Limit,
 }
+
+/// Why a walk to a line was refused or broken off.
+#[derive(Clone, Copy, PartialEq, Eq, Debug, Drop)]
+pub enum StepError {
+    /// The program has no such line.
+    NoSuchLine,
+    /// Memory ran out.
+    NoMemory,
+}

@@ -16,7 +16,7 @@ use tb_runtime16::{NOTES, VARS};
 use tb_syntax::Expr;
 use tb_words::Letter;
 
-impl<O: Outside + Drop> Stepper<O> {
+impl<'a, O: Outside + Drop> Stepper<'a, O> {
     /// The value of a variable: the word at `$C000` and twice the letter's index, low byte first,
     /// read as signed.
     pub fn variable(&self, letter: Letter) -> i16

@@ -1,13 +1,15 @@
 //! A machine, with notes that take its last steps back.
 ghost use Rattle.std.specs.Prelude.{◌≡◌, ◌≤◌, ◌+◌, ◌<◌, ◌++◌, [], ◌∷◌, true, length, nat_lt, OnOk, OnErr, IfOk, IfErr, MatchResult};
 ghost use Rattle.tb_kernal.specs.Machine.{state_of, is_stopped, SameKeyboard};
+ghost use Rattle.tb_codegen.specs.Compiled.{starts_of, table_of, line_in, start_in};
 ghost use Rattle.tb_stepper.specs.Notes.{EachFollows};
-ghost use Rattle.tb_stepper.specs.History.{Holds, machines, Moved, Stepped, Reaches, end_at};
+ghost use Rattle.tb_stepper.specs.History.{Holds, machines, Moved, Stepped, Reaches, ReachesLine, end_at};
 
-use crate::reached::Reached;
+use crate::reached::{Reached, StepError};
 use circular_buffer::HeapCircularBuffer;
 use std::alloc::Global;
 use std::marker::Model;
+use tb_codegen::Compiled;
 use tb_kernal::{Machine, Outside, Status, Undo};
 use tb_memmap::NoMemory;
 
@@ -34,31 +36,37 @@ fn has_stopped(status: Status) -> bool
     matches!(status, Status::Returned | Status::Wrong(_))
 }
 
-/// A machine beside its outside, and the last 1,000 machines before it.
+/// A compiled program's machine beside its outside, and the last 1,000 machines before it.
 #[derive(Drop)]
-pub struct Stepper<O: Outside + Drop> {
+pub struct Stepper<'a, O: Outside + Drop> {
     machine: Machine,
     outside: O,
     notes: HeapCircularBuffer<Undo>,
+    program: &'a Compiled,
 }
 
-impl<O: Outside + Drop> Model for Stepper<O> {
+impl<'a, O: Outside + Drop> Model for Stepper<'a, O> {
     ghost use Rattle.std.specs.Prelude.{◌≡◌, true};
     ghost use Rattle.tb_stepper.specs.Notes.{Holds, machines, all_fit, EachFollows};
 
     ghost Value = { Holds O };
 
-    ghost view = { λ h. record { machine = h.machine; outside = h.outside; notes = h.notes.items } };
+    ghost view = { λ h. record { machine = h.machine; outside = h.outside; notes = h.notes.items; program = h.program.now } };
 
     ghost invariant = { λ h. (h.notes.capacity ≡ 1000)
         × (all_fit h.machine.all_text h.machine.all_answers h.notes.items ≡ true)
-        × EachFollows (machines (record { machine = h.machine; outside = h.outside; notes = h.notes.items })) };
+        × EachFollows (machines (record { machine = h.machine; outside = h.outside; notes = h.notes.items; program = h.program.now })) };
 }
 
-impl<O: Outside + Drop> Stepper<O> {
+impl<'a, O: Outside + Drop> Stepper<'a, O> {
     /// The history that holds a machine alone.
-    pub fn new(alloc: Global, machine: Machine, outside: O) -> Result<Stepper<O>, Refused<O>>
-        ensures held { IfOk result (λ h. h ≡ record { machine = machine; outside = outside; notes = [] }) }
+    pub fn new(
+        alloc: Global,
+        machine: Machine,
+        program: &'a Compiled,
+        outside: O,
+    ) -> Result<Stepper<'a, O>, Refused<O>>
+        ensures held { IfOk result (λ h. h ≡ record { machine = machine; outside = outside; notes = []; program = program.now }) }
         ensures handed_back { IfErr result (λ e. (e.machine ≡ machine) × (e.outside ≡ outside)) }
     {
         match HeapCircularBuffer::with_capacity(alloc, KEPT) {
@@ -66,6 +74,7 @@ impl<O: Outside + Drop> Stepper<O> {
                 machine,
                 outside,
                 notes,
+                program,
             }),
             Err(_) => Err(Refused { machine, outside }),
         }
@@ -114,7 +123,7 @@ impl<O: Outside + Drop> Stepper<O> {
     pub fn back(&mut self) -> Result<(), NothingBack>
         ensures restored { OnOk result (machines self.old
             ≡ machines self.new ++ state_of self.old.machine ∷ []) }
-        ensures rest { (self.new.outside ≡ self.old.outside)
+        ensures rest { (self.new.outside ≡ self.old.outside) × (self.new.program ≡ self.old.program)
             × SameKeyboard self.old.machine self.new.machine }
         ensures refused { OnErr result ((self.old.notes ≡ []) × (self.new ≡ self.old)) }
     {
@@ -127,11 +136,10 @@ impl<O: Outside + Drop> Stepper<O> {
         }
     }
 
-    /// Takes steps until PC is at an address after at least one step, or the machine isn't Running,
-    /// or `limit` steps were taken; before each step this is looked at in this order.
-    ///
-    /// After NoMemory the machine stands after the steps so far.
-    pub fn to_address(&mut self, address: u16, limit: u64) -> Result<Reached, NoMemory>
+    // Takes steps until PC is at an address after at least one step, or the machine isn't Running,
+    // or `limit` steps were taken; before each step this is looked at in this order. After
+    // NoMemory the machine stands after the steps so far.
+    fn to_address(&mut self, address: u16, limit: u64) -> Result<Reached, NoMemory>
         ensures { Reaches O.gives address limit self.old result self.new }
     {
         for taken in 0..limit {
@@ -154,6 +162,31 @@ impl<O: Outside + Drop> Stepper<O> {
         match self.machine.status() {
             Status::Running => None,
             status => Some(Reached::Stopped(status)),
+        }
+    }
+
+    /// The line in whose code PC lies.
+    pub fn line(&self) -> Option<u16>
+        ensures { result ≡ line_in (starts_of self.now.program) (table_of self.now.program) self.now.machine.regs.pc }
+    {
+        self.program.line_at(self.machine.regs().pc)
+    }
+
+    /// Takes steps until PC is where the code of a line begins, after at least one step, or the
+    /// machine isn't Running, or `limit` steps were taken; before each step this is looked at in
+    /// this order.
+    ///
+    /// Refused as NoSuchLine where the program has no such line; then nothing changes. After
+    /// NoMemory the machine stands after the steps so far.
+    pub fn to_line(&mut self, line: u16, limit: u64) -> Result<Reached, StepError>
+        ensures { ReachesLine O.gives (start_in (starts_of self.old.program) line) limit self.old result self.new }
+    {
+        let Some(address) = self.program.start_of(line) else {
+            return Err(StepError::NoSuchLine);
+        };
+        match self.to_address(address, limit) {
+            Ok(reached) => Ok(reached),
+            Err(NoMemory) => Err(StepError::NoMemory),
         }
     }
 }

@@ -13,8 +13,8 @@ invariant_of-self g c =
     let less : c.self.inside.notes.items ≡ c.pop_back.new.self.items ++ c.in-Some.note ∷ [] = search rules in
     let all : all_fit m.all_text m.all_answers (c.pop_back.new.self.items ++ c.in-Some.note ∷ []) ≡ true = ap (all_fit m.all_text m.all_answers) (sym less) ∙ c.self.invariant.1 in
     let keyboard = c.undo.ensures.restored.keyboard in
-    let before : Holds g.row.O.Denot = record { machine = m; outside = c.self.inside.outside; notes = c.self.inside.notes.items } in
-    let after : Holds g.row.O.Denot = record { machine = c.undo.new.self; outside = c.self.inside.outside; notes = c.pop_back.new.self.items } in
+    let before : Holds g.row.O.Denot = record { machine = m; outside = c.self.inside.outside; notes = c.self.inside.notes.items; program = c.self.inside.program.now } in
+    let after : Holds g.row.O.Denot = record { machine = c.undo.new.self; outside = c.self.inside.outside; notes = c.pop_back.new.self.items; program = c.self.inside.program.now } in
     let each : EachFollows (machines after ++ state_of m ∷ []) = subst EachFollows (taken_off before after c.in-Some.note less c.undo.ensures.restored c.self.invariant.1) c.self.invariant.2 in
     (rw c.pop_back.ensures.items c.self.invariant.0, (λ i. all_fit (keyboard.0 i) (keyboard.1 i) c.pop_back.new.self.items) ∙ (fits_less m.all_text m.all_answers _ _ all).0, follows_less _ _ _ each)
 
@@ -28,11 +28,11 @@ pub returns-in-Some-clause-restored : goal.returns-in-Some-clause-restored
 returns-in-Some-clause-restored g c =
     let h = pops_last c.self.inside.notes.items in
     let less : c.self.inside.notes.items ≡ c.pop_back.new.self.items ++ c.in-Some.note ∷ [] = search rules in
-    rw (← c.self.view_is) (taken_off (record { machine = c.self.inside.machine; outside = c.self.inside.outside; notes = c.self.inside.notes.items }) (record { machine = c.undo.new.self; outside = c.self.inside.outside; notes = c.pop_back.new.self.items }) c.in-Some.note less c.undo.ensures.restored c.self.invariant.1)
+    rw (← c.self.view_is) (taken_off (record { machine = c.self.inside.machine; outside = c.self.inside.outside; notes = c.self.inside.notes.items; program = c.self.inside.program.now }) (record { machine = c.undo.new.self; outside = c.self.inside.outside; notes = c.pop_back.new.self.items; program = c.self.inside.program.now }) c.in-Some.note less c.undo.ensures.restored c.self.invariant.1)
 
 pub returns-in-None-clause-refused : goal.returns-in-None-clause-refused
 returns-in-None-clause-refused g c =
     let h = pops_last c.self.inside.notes.items in
     let none : c.pop_back.new.self.items ≡ [] = search rules in
     let were : c.self.inside.notes.items ≡ [] = search rules in
-    rw (← c.self.view_is) (were, (λ i. record { machine = c.self.inside.machine; outside = c.self.inside.outside; notes = (none ∙ sym were) i }))
+    rw (← c.self.view_is) (were, (λ i. record { machine = c.self.inside.machine; outside = c.self.inside.outside; notes = (none ∙ sym were) i; program = c.self.inside.program.now }))

@@ -1,4 +1,4 @@
-use Rattle.std.proofs.Common.{◌≡◌, ◌++◌, ◌∷◌, [], ap, ◌∙◌}
+use Rattle.std.proofs.Common.{◌≡◌, ◌++◌, ◌∷◌, [], ap, refl, ◌∙◌}
 use Rattle.std.specs.Prelude.{Ok}
 use Rattle.circular_buffer.specs.Buffer.{keep_last}
 use Rattle.tb_kernal.specs.Machine.{Happened}
@@ -16,10 +16,10 @@ invariant_of-self-in-Ok g c =
     c.reserve.ensures.rest c.note-note.ensures happened c.self.invariant.1 in
     let notes : c.push_back.new.self.items ≡ keep_last 1000 (c.self.inside.notes.items ++ c.note-note.result ∷ []) =
     ap (λ (b : Buffer Note). b.items) c.push_back.ensures.items ∙ ap (λ n. keep_last n (c.self.inside.notes.items ++ c.note-note.result ∷ [])) c.self.invariant.0 in
-    let before : Holds g.row.O.Denot = record { machine = c.self.inside.machine; outside = c.self.inside.outside; notes = c.self.inside.notes.items } in
-    let after : Holds g.row.O.Denot = record { machine = c.event.new.self; outside = c.next-event.new.self; notes = c.push_back.new.self.items } in
+    let before : Holds g.row.O.Denot = record { machine = c.self.inside.machine; outside = c.self.inside.outside; notes = c.self.inside.notes.items; program = c.self.inside.program.now } in
+    let after : Holds g.row.O.Denot = record { machine = c.event.new.self; outside = c.next-event.new.self; notes = c.push_back.new.self.items; program = c.self.inside.program.now } in
     let more : Added g.O.Outside.gives before after =
-        added g.O.Outside.gives before after c.reserve.new.self c.next-event.result c.in-Ok.status c.note-note.result c.reserve.ensures.rest c.next-event.ensures c.note-note.ensures happened notes in
+    added g.O.Outside.gives before after c.reserve.new.self c.next-event.result c.in-Ok.status c.note-note.result c.reserve.ensures.rest c.next-event.ensures c.note-note.ensures happened notes refl in
     (ap (λ (b : Buffer Note). b.capacity) c.push_back.ensures.items ∙ c.self.invariant.0, ap (all_fit c.event.new.self.all_text c.event.new.self.all_answers) notes ∙ fit, added_follows g.O.Outside.gives g.met.O.Outside.gives_lawful before after more c.self.invariant.2)
 
 pub returns : goal.returns
@@ -28,7 +28,7 @@ returns g c =
     let notes : c.push_back.new.self.items ≡ keep_last 1000 (c.self.inside.notes.items ++ c.note-note.result ∷ []) =
     ap (λ (b : Buffer Note). b.items) c.push_back.ensures.items ∙ ap (λ n. keep_last n (c.self.inside.notes.items ++ c.note-note.result ∷ [])) c.self.invariant.0 in
     rw (← c.self.view_is) (
-      added g.O.Outside.gives (record { machine = c.self.inside.machine; outside = c.self.inside.outside; notes = c.self.inside.notes.items }) (record { machine = c.event.new.self; outside = c.next-event.new.self; notes = c.push_back.new.self.items }) c.reserve.new.self c.next-event.result c.in-Ok.status c.note-note.result
-          c.reserve.ensures.rest c.next-event.ensures c.note-note.ensures happened notes,
+      added g.O.Outside.gives (record { machine = c.self.inside.machine; outside = c.self.inside.outside; notes = c.self.inside.notes.items; program = c.self.inside.program.now }) (record { machine = c.event.new.self; outside = c.next-event.new.self; notes = c.push_back.new.self.items; program = c.self.inside.program.now }) c.reserve.new.self c.next-event.result c.in-Ok.status c.note-note.result
+          c.reserve.ensures.rest c.next-event.ensures c.note-note.ensures happened notes refl,
       happened.2,
     )
