@@ -10,7 +10,8 @@ use Rattle.tb_reaching.specs.Start.{setup_of, view_of, home_low, home_high}
 use Rattle.tb_keeping.specs.Kept.{Starts, Keeps}
 use Rattle.tb_keeping.specs.Layout.{Layout, layout_of, inner, Laid}
 use Rattle.tb_keeping.specs.LineStarts.{MarksLines}
-use Rattle.tb_keeping.specs.Routines.{Routines, Begun}
+use Rattle.tb_routines.specs.Routines.{Routines}
+use Rattle.tb_keeping.specs.Routines.{Begun}
 
 -- a start's setup: all the program's bytes, and those that are no line's first one
 abbrev pub setup : ℕ → List ℕ → Layout → State → Setup
@@ -24,7 +25,7 @@ pub record IsImage (place : ℕ) (bytes : List ℕ) (labels : List (Name × ℕ)
   pub follows : Follows program code
   pub laid : Laid labels seed (part_at place bytes) code
   pub limit : ℕ → ℕ
-  pub routines : (s : State) → Starts place bytes s → Routines (layout_of labels (numbers code) seed) (setup place bytes (layout_of labels (numbers code) seed) s) (home_low s) (home_high s) (length s.text) (limit (length s.text))
+  pub routines : (s : State) → Starts place bytes s → Routines (layout_of labels (numbers code) seed).table seed (numbers code) (layout_of labels (numbers code) seed).start (setup place bytes (layout_of labels (numbers code) seed) s) (home_low s) (home_high s) (length s.text) (limit (length s.text))
   pub steps : ℕ
   pub prologue : (s : State) → Starts place bytes s → Comes (setup place bytes (layout_of labels (numbers code) seed) s) (view_of s) (Begun (setup place bytes (layout_of labels (numbers code) seed) s) s) [] steps
 
