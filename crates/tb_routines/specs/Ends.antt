@@ -2,7 +2,7 @@
 use Rattle.std.specs.Prelude.{◌≡◌, ◌≢◌, ℕ, ◌+◌, ◌<◌, ◌≤◌, Bool, true, false, ◌||◌, List, [], ◌∷◌, ◌++◌, length, drop}
 use Rattle.tb_kernal.specs.Places.{within}
 use Rattle.tb_kernal.specs.Machine.{State, first_or_zero}
-use Rattle.tb_kernal.specs.Starts.{IsStart}
+use Rattle.tb_kernal.specs.Starts.{IsStart, HoldsBytes}
 use Rattle.tb_reaching.specs.View.{View, Setup, Part, Holds, Fits, Comes, view, back_at, part_at}
 use Rattle.tb_reaching.specs.Start.{setup_of, view_of, home_low, home_high, IsHome, Homed}
 use Rattle.tb_lower.specs.Control.{fault_text}
@@ -40,6 +40,7 @@ PollLaw =
 abbrev pub is_cleared : ℕ → Bool
 is_cleared a = within 0xc000 0xc036 a || within 0xc038 0xc03d a
 
+-- at the first line, with the state's bytes cleared, the other ones bytes, and the stack pointer kept
 pub record Begun (f : Setup) (s : State) (w : View) : Type 0 where
   pub pc : w.regs.pc ≡ 0x0c00
   pub stack : w.stack ≡ home_low s ∷ home_high s ∷ []
@@ -47,6 +48,7 @@ pub record Begun (f : Setup) (s : State) (w : View) : Type 0 where
   pub same_text : w.text ≡ s.text
   pub same_answers : w.answers ≡ s.answers
   pub cleared : (a : ℕ) → is_cleared a ≡ true → w.mem a ≡ 0
+  pub bytes : HoldsBytes w.mem
   pub entered : Entered f (home_low s) (home_high s) w.mem
 
 -- from any start to the first line
