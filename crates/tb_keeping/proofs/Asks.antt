@@ -6,9 +6,9 @@ use Rattle.tb_keeping.proofs.Frames.{asked, column_mod, owned_low, put_away, var
 use Rattle.tb_keeping.proofs.Mirrors.{Mirrors}
 use Rattle.tb_keeping.proofs.Pieces.{calls, copies}
 use Rattle.tb_keeping.proofs.Templates.{Carried, behind_call, carried, carried_by, in_line, moved, stood}
-use Rattle.tb_keeping.specs.Kept.{AllBytes}
+use Rattle.tb_routines.specs.Laws.{AllBytes}
 use Rattle.tb_keeping.specs.Layout.{Layout}
-use Rattle.tb_keeping.specs.Routines.{Asked, Here, Moves, Routines, Waiting, line_end, prompt}
+use Rattle.tb_routines.specs.Routines.{Asked, Here, Moves, Routines, Waiting, line_end, prompt}
 use Rattle.tb_lower.specs.Control.{State, column_after, fault_text}
 use Rattle.tb_lower.specs.Input.{Bad, Digits, Dry, Got, Nothing, Reading, Sign, Turn, number_end, signed_turn, turn, with_digit}
 use Rattle.tb_lower.specs.Slots.{Slots}
@@ -59,7 +59,7 @@ turn_short (b ∷ text) r h =
     (short_if k (nat_eq b 44) _ _ (short_end r true text h.1)
     (short_if k (nat_eq b 13) _ Bad (short_end r false text h.1) (record { few = tt })))))
 
-module _ (ly : Layout) (f : Setup) (lo hi keys : ℕ) (fits : Fits f 16) (limit : ℕ) (rs : Routines ly f lo hi keys limit) (n : ℕ) (is : List slots.Instr) (s : State) (r : Slots) (w : View) (x : ℕ) (h : Mirrors ly f lo hi keys (in_line ly f lo hi keys fits n (slots.Input x ∷ is) s r) w) (o : Bool) (opened : s.open_line ≡ o) where
+module _ (ly : Layout) (f : Setup) (lo hi keys : ℕ) (fits : Fits f 16) (limit : ℕ) (rs : Routines ly.table ly.seed ly.numbers ly.start f lo hi keys limit) (n : ℕ) (is : List slots.Instr) (s : State) (r : Slots) (w : View) (x : ℕ) (h : Mirrors ly f lo hi keys (in_line ly f lo hi keys fits n (slots.Input x ∷ is) s r) w) (o : Bool) (opened : s.open_line ≡ o) where
   abbrev own : List ℕ
   own = lo ∷ hi ∷ []
 

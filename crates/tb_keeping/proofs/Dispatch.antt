@@ -14,9 +14,9 @@ use Rattle.tb_keeping.proofs.Polls.{poll_breaks, poll_law}
 use Rattle.tb_keeping.proofs.Relations.{at_least_law, at_most_law, greater_law, less_law, unequal_law}
 use Rattle.tb_keeping.proofs.Resolved.{LaidOut, RestLies}
 use Rattle.tb_keeping.proofs.Templates.{add_law, divide_fails, divide_law, end_law, fall_law, hold_law, homed_kept, in_line, jump_fails, jump_found, leave_equal, load_law, multiply_law, negate_law, newline_law, number_law, put_law, return_fails, return_law, stay_equal, store_law, subtract_law, text_law, zone_law}
-use Rattle.tb_keeping.specs.Kept.{AllBytes}
+use Rattle.tb_routines.specs.Laws.{AllBytes}
 use Rattle.tb_keeping.specs.Layout.{Layout, place_at}
-use Rattle.tb_keeping.specs.Routines.{Entered, Moves, Routines, WithA, WordAt}
+use Rattle.tb_routines.specs.Routines.{Entered, Moves, Routines, WithA, WordAt}
 use Rattle.tb_kernal.specs.Machine.{first_or_zero}
 use Rattle.tb_lower.specs.Control.{At, Past, Place, State, answered, column_after, content_at, deepest, fall, fault, fault_text, has_line, highest, next_after, return_to, zone}
 use Rattle.tb_lower.specs.Input.{Bad, Dry, Got, Nothing, Turn, take_turn, turn}
@@ -45,7 +45,7 @@ module _ (ly : Layout) (f : Setup) (lo hi keys : ℕ) (fits : Fits f 16) (limit 
   abbrev pub ActLaw : slots.Instr → Type 0
   ActLaw i = (n : ℕ) (is : List slots.Instr) (s : State) (r : Slots) (w : View) → Leads (in_line ly f lo hi keys fits n (i ∷ is) s r) w (settled n is r (act ly.numbers n i s r)) (20 + (limit + limit))
 
-  module _ (program : SlotCode) (laid : LaidOut ly f.code f.whole program) (rs : Routines ly f lo hi keys limit) where
+  module _ (program : SlotCode) (laid : LaidOut ly f.code f.whole program) (rs : Routines ly.table ly.seed ly.numbers ly.start f lo hi keys limit) where
     by_equal : (n : ℕ) (is : List slots.Instr) (s : State) (r : Slots) (w : View) → Mirrors ly f lo hi keys (in_line ly f lo hi keys fits n (slots.LeaveUnless rel.Eq ∷ is) s r) w → (t : Bool) → nat_eq r.held (slice_index r.words 0) ≡ t → Comes f w (Target ly f lo hi keys (settled n is r (if t then Goes (Stays s r) [] else leaving (fall ly.numbers n s)))) (sent_in (settled n is r (if t then Goes (Stays s r) [] else leaving (fall ly.numbers n s)))) (20 + (limit + limit))
     by_equal n is s r w h true e = looser f w _ _ [] 7 (20 + (limit + limit)) (omega arith) (λ u x. x) (stay_equal ly f lo hi keys fits n is s r w e h)
     by_equal n is s r w h false e = looser f w _ _ [] 7 (20 + (limit + limit)) (omega arith) (λ u x. x) (leave_equal ly f lo hi keys fits n is s r w e h)

@@ -7,7 +7,7 @@ use Rattle.tb_keeping.proofs.Pieces.{calls, copies, put_word, sets}
 use Rattle.tb_keeping.proofs.Resolved.{LaidOut}
 use Rattle.tb_keeping.proofs.Templates.{Carried, behind_call, carried, carried_put, carried_slot, here, homed_kept, in_line, moved, stood}
 use Rattle.tb_keeping.specs.Layout.{Layout}
-use Rattle.tb_keeping.specs.Routines.{Drawn, Here, Moves, Routines, WordAt}
+use Rattle.tb_routines.specs.Routines.{Drawn, Here, Moves, Routines, WordAt}
 use Rattle.tb_lower.specs.Control.{State, fault_text}
 use Rattle.tb_lower.specs.Slots.{Slots, with_word}
 use Rattle.tb_reaching.proofs.Comes.{chained, looser}
@@ -18,7 +18,7 @@ use Rattle.tb_templates.specs.Templates.{slot_at}
 use Rattle.tb_words.specs.Words.{seed_after}
 use Rattle.tb_lower.specs.Slots as slots
 
-module _ (ly : Layout) (f : Setup) (lo hi keys : ℕ) (fits : Fits f 16) (program : slots.SlotCode) (laid : LaidOut ly f.code f.whole program) (limit : ℕ) (rs : Routines ly f lo hi keys limit) (n : ℕ) (is : List slots.Instr) (s : State) (r : Slots) (w : View) (k : ℕ) (h : Mirrors ly f lo hi keys (in_line ly f lo hi keys fits n (slots.Random k ∷ is) s r) w) where
+module _ (ly : Layout) (f : Setup) (lo hi keys : ℕ) (fits : Fits f 16) (program : slots.SlotCode) (laid : LaidOut ly f.code f.whole program) (limit : ℕ) (rs : Routines ly.table ly.seed ly.numbers ly.start f lo hi keys limit) (n : ℕ) (is : List slots.Instr) (s : State) (r : Slots) (w : View) (k : ℕ) (h : Mirrors ly f lo hi keys (in_line ly f lo hi keys fits n (slots.Random k ∷ is) s r) w) where
   abbrev own : List ℕ
   own = lo ∷ hi ∷ []
 

@@ -8,7 +8,7 @@ use Rattle.tb_keeping.proofs.Pieces.{calls, jumps_through, put_word, sets}
 use Rattle.tb_keeping.proofs.Resolved.{Code, LaidOut, Piece, call, constant, jump_through}
 use Rattle.tb_keeping.proofs.Templates.{Carried, back_here, behind_call, carried_put, carried_scratch, counted, homed_kept, in_line, in_table, moved, searches, sought, sought_carried, wanted}
 use Rattle.tb_keeping.specs.Layout.{Layout, next_at, place_at}
-use Rattle.tb_keeping.specs.Routines.{Entered, Here, Moves, Routines, WordAt}
+use Rattle.tb_routines.specs.Routines.{Entered, Here, Moves, Routines, WordAt}
 use Rattle.tb_lower.specs.Control.{State, deepest, fault_text, has_line, next_after, At}
 use Rattle.tb_lower.specs.Slots.{Slots, Whole}
 use Rattle.tb_reaching.proofs.Comes.{chained, looser}
@@ -19,7 +19,7 @@ use Rattle.tb_runtime16.specs.Places.{HOME_S, LEFT, NOTES, PUSH_AT, RESULT}
 use Rattle.std.proofs.lemmas.List.{length-map}
 use Rattle.tb_lower.specs.Slots as slots
 
-module _ (ly : Layout) (f : Setup) (lo hi keys : ℕ) (fits : Fits f 16) (program : slots.SlotCode) (laid : LaidOut ly f.code f.whole program) (limit : ℕ) (rs : Routines ly f lo hi keys limit) (n : ℕ) (is : List slots.Instr) (s : State) (r : Slots) (w : View) (h : Mirrors ly f lo hi keys (in_line ly f lo hi keys fits n (slots.Call ∷ is) s r) w) where
+module _ (ly : Layout) (f : Setup) (lo hi keys : ℕ) (fits : Fits f 16) (program : slots.SlotCode) (laid : LaidOut ly f.code f.whole program) (limit : ℕ) (rs : Routines ly.table ly.seed ly.numbers ly.start f lo hi keys limit) (n : ℕ) (is : List slots.Instr) (s : State) (r : Slots) (w : View) (h : Mirrors ly f lo hi keys (in_line ly f lo hi keys fits n (slots.Call ∷ is) s r) w) where
   abbrev own : List ℕ
   own = lo ∷ hi ∷ []
 

@@ -234,7 +234,7 @@ module _ (labels : List (Name × ℕ)) (seed : ℕ) (code : Part) (sc : slots.Sl
       (joined labels ns seed (at + 10) 10 (product.constant (length ns) COUNT) (product.at Jmp SEARCH_AT ∷ []) _ _ refl (constant_bytes labels ns seed (at + 10) (length ns) COUNT laid.count_small) refl))).1
 
   -- the block and the line table lie among the inner bytes, for the routines
-  block_short : leb (length block_bytes) 1011 ≡ true
+  pub block_short : leb (length block_bytes) 1011 ≡ true
   block_short = refl
 
   pub block_lies : Bytes within PROLOGUE_AT block_bytes

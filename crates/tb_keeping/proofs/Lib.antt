@@ -23,3 +23,4 @@ pub mod Placed
 pub mod LineStarts
 pub mod Marks
 pub mod Callees
+pub mod Served

@@ -11,9 +11,10 @@ use Rattle.tb_lower.specs.Control.{first_place}
 use Rattle.tb_lower.specs.Slots.{SlotCode, Slots}
 use Rattle.tb_runtime16.specs.Places.{COLUMN, OPEN, SEEDED, SEED, NOTES, HELD, SLOTS, LINES_AT}
 use Rattle.tb_templates.specs.Templates.{var_at}
-use Rattle.tb_keeping.specs.Kept.{AllBytes}
+use Rattle.tb_routines.specs.Laws.{AllBytes}
 use Rattle.tb_keeping.specs.Layout.{Layout, place_at}
-use Rattle.tb_keeping.specs.Routines.{WordAt, Begun, first}
+use Rattle.tb_routines.specs.Routines.{WordAt, first}
+use Rattle.tb_routines.specs.Ends.{Begun}
 use Rattle.tb_keeping.proofs.Mirrors.{Mirrors}
 use Rattle.tb_keeping.proofs.Headline.{begun}
 
@@ -60,8 +61,8 @@ module _ (ly : Layout) (f : Setup) (sc : SlotCode) (numbered : numbers sc ≡ ly
     pc = b.pc ∙ sym first_at;
     stack = b.stack;
     binary = b.binary;
-    text = b.text;
-    answers = b.answers;
+    text = b.same_text;
+    answers = b.same_answers;
     holds = record {
       vars = λ x lt. subst (WordAt w.mem (var_at x)) (sym (zeros 26 x)) (zero_word w.mem (var_at x) (b.cleared (var_at x) (cleared_low (var_at x) (omega arith) (omega (arith, lt)))) (b.cleared (var_at x + 1) (cleared_low (var_at x + 1) (omega arith) (omega (arith, lt)))));
       words = λ k lt. word_from w.mem SLOTS 16 k b.bytes lt;
@@ -75,6 +76,6 @@ module _ (ly : Layout) (f : Setup) (sc : SlotCode) (numbered : numbers sc ≡ ly
       all_vars = refl;
       all_words = some_length;
     };
-    homed = b.entered;
+    homed = record { homed = b.entered.homed; kept = b.entered.kept };
     short = record { short = omega arith; text_bytes = text; answer_bytes = answers };
   }

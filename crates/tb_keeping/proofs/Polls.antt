@@ -4,9 +4,9 @@ use Rattle.std.specs.Prelude.{nat_eq, drop}
 use Rattle.tb_keeping.proofs.Mirrors.{Mirrors}
 use Rattle.tb_keeping.proofs.Pieces.{calls}
 use Rattle.tb_keeping.proofs.Templates.{Carried, back_here, behind_call, carried, carried_scratch, here, in_line, stood}
-use Rattle.tb_keeping.specs.Kept.{AllBytes}
+use Rattle.tb_routines.specs.Laws.{AllBytes}
 use Rattle.tb_keeping.specs.Layout.{Layout}
-use Rattle.tb_keeping.specs.Routines.{Routines}
+use Rattle.tb_routines.specs.Routines.{Routines}
 use Rattle.tb_kernal.specs.Machine.{first_or_zero}
 use Rattle.tb_lower.specs.Control.{State, fault_text}
 use Rattle.tb_lower.specs.Slots.{Slots}
@@ -16,7 +16,7 @@ use Rattle.tb_reaching.specs.View.{Comes, Fits, Setup, View}
 use Rattle.tb_runtime16.specs.Places.{POLL_AT}
 use Rattle.tb_lower.specs.Slots as slots
 
-module _ (ly : Layout) (f : Setup) (lo hi keys : ℕ) (fits : Fits f 16) (limit : ℕ) (rs : Routines ly f lo hi keys limit) (n : ℕ) (is : List slots.Instr) (s : State) (r : Slots) (w : View) (h : Mirrors ly f lo hi keys (in_line ly f lo hi keys fits n (slots.Poll ∷ is) s r) w) where
+module _ (ly : Layout) (f : Setup) (lo hi keys : ℕ) (fits : Fits f 16) (limit : ℕ) (rs : Routines ly.table ly.seed ly.numbers ly.start f lo hi keys limit) (n : ℕ) (is : List slots.Instr) (s : State) (r : Slots) (w : View) (h : Mirrors ly f lo hi keys (in_line ly f lo hi keys fits n (slots.Poll ∷ is) s r) w) where
   abbrev own : List ℕ
   own = lo ∷ hi ∷ []
 

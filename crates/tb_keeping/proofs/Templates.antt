@@ -8,7 +8,7 @@ use Rattle.tb_keeping.proofs.Mirrors.{Flagged, Holds, Mirrors, Typable, notes_of
 use Rattle.tb_keeping.proofs.Pieces.{adds, beq_leads, bne_leads, calls, compares, copies, jumps, jumps_through, negates, put_word, sets, subtracts, whatever}
 use Rattle.tb_keeping.proofs.Resolved.{Code, LaidOut, Lies, Piece, RestLies, byte_call, call, copied, highest_code, jump_through, text_call}
 use Rattle.tb_keeping.specs.Layout.{Layout, next_at, place_at}
-use Rattle.tb_keeping.specs.Routines.{Back, Entered, Here, Moves, Noted, Routines, Told, WordAt, is_owned}
+use Rattle.tb_routines.specs.Routines.{Back, Entered, Here, Moves, Noted, Routines, Told, WordAt, is_owned}
 use Rattle.tb_lower.specs.Control.{Place, State, column_after, fault_text, has_line, next_after, zone, At}
 use Rattle.tb_lower.specs.Slots.{Left, SlotState, Slots, Whole, with_word}
 use Rattle.tb_memmap.specs.Bytes.{with_byte}
@@ -189,7 +189,7 @@ module _ (ly : Layout) (f : Setup) (lo hi keys : ℕ) (fits : Fits f 16) where
         (stood n is s _ (w.regs.pc + 17) _ w.text w.answers h.pc.0.2 (carried_slot n s r w.mem k _ _ _ fit sum.0 sum.1 (omega arith) (carried n _ s r w h)) h.text h.answers h.short)
         (negates f 16 fits w.regs.pc (lo ∷ hi ∷ []) w.mem w.text w.answers refl (slot_at k) code.0 (omega arith, omega (arith, fit)) code.1 w (here _ w h))
 
-  module _ (limit : ℕ) (rs : Routines ly f lo hi keys limit) (n : ℕ) (is : List slots.Instr) (s : State) (r : Slots) (w : View) where
+  module _ (limit : ℕ) (rs : Routines ly.table ly.seed ly.numbers ly.start f lo hi keys limit) (n : ℕ) (is : List slots.Instr) (s : State) (r : Slots) (w : View) where
     pub multiply_law : (k : ℕ) → Mirrors ly f lo hi keys (in_line n (slots.Compute op.Multiply k ∷ is) s r) w → Comes f w (Mirrors ly f lo hi keys (in_line n is s (with_word r k (word (slice_index r.words k * slice_index r.words (k + 1)))))) [] (13 + limit)
     multiply_law k h =
         let fit = h.pc.0.0 in
@@ -393,7 +393,7 @@ module _ (ly : Layout) (f : Setup) (lo hi keys : ℕ) (fits : Fits f 16) where
     pub counted : WordAt (sought w) COUNT (length ly.numbers)
     counted = word_put _ COUNT (length ly.numbers % 256) (length ly.numbers / 256) _ refl refl laid.count_small
 
-  module _ (program : slots.SlotCode) (laid : LaidOut ly f.code f.whole program) (limit : ℕ) (rs : Routines ly f lo hi keys limit) (n : ℕ) (is : List slots.Instr) (s : State) (r : Slots) (w : View) (h : Mirrors ly f lo hi keys (in_line n (slots.Jump ∷ is) s r) w) where
+  module _ (program : slots.SlotCode) (laid : LaidOut ly f.code f.whole program) (limit : ℕ) (rs : Routines ly.table ly.seed ly.numbers ly.start f lo hi keys limit) (n : ℕ) (is : List slots.Instr) (s : State) (r : Slots) (w : View) (h : Mirrors ly f lo hi keys (in_line n (slots.Jump ∷ is) s r) w) where
     pub jump_found : has_line ly.numbers (slice_index r.words 0) ≡ true → Comes f w (Mirrors ly f lo hi keys (record { state = record s { place = At (slice_index r.words 0) }; rest = Whole; slots = r })) [] (15 + limit)
     jump_found found =
         let code = h.pc.0.1 in
@@ -422,7 +422,7 @@ module _ (ly : Layout) (f : Setup) (lo hi keys : ℕ) (fits : Fits f 16) where
   pub told_here : (at at' : ℕ) (m : ℕ → ℕ) (t keys' gets : List ℕ) (u : View) → Told at (lo ∷ hi ∷ []) m keys' gets t u → at ≡ at' → Here at' (lo ∷ hi ∷ []) u.mem keys' gets u
   told_here at at' m t keys' gets u b e = record { pc = b.pc ∙ e; stack = b.stack; binary = b.binary; mem = refl; text = b.text; answers = b.answers }
 
-  module _ (limit : ℕ) (rs : Routines ly f lo hi keys limit) (n : ℕ) (is : List slots.Instr) (s : State) (r : Slots) (w : View) where
+  module _ (limit : ℕ) (rs : Routines ly.table ly.seed ly.numbers ly.start f lo hi keys limit) (n : ℕ) (is : List slots.Instr) (s : State) (r : Slots) (w : View) where
     pub newline_law : Mirrors ly f lo hi keys (in_line n (slots.SendNewline ∷ is) s r) w → Comes f w (Mirrors ly f lo hi keys (in_line n is (record s { column = column_after s.column (13 ∷ []) }) r)) (13 ∷ []) (2 + limit)
     newline_law h =
         let own = lo ∷ hi ∷ [] in

@@ -10,7 +10,8 @@ use Rattle.tb_lower.specs.Follows.{Follows}
 use Rattle.tb_lower.specs.Slots.{SlotCode}
 use Rattle.tb_keeping.specs.Kept.{Starts, Keeps}
 use Rattle.tb_keeping.specs.Layout.{Layout, layout_of, Laid}
-use Rattle.tb_keeping.specs.Routines.{Routines, Begun}
+use Rattle.tb_routines.specs.Routines.{Routines}
+use Rattle.tb_routines.specs.Ends.{Begun}
 use Rattle.tb_keeping.proofs.Headline.{setup, room_so, OpeningLaw, InstrLaws, headline}
 use Rattle.tb_keeping.proofs.Opening.{some_slots, some_length, opened}
 use Rattle.tb_keeping.proofs.Laying.{laid_out}
@@ -22,7 +23,7 @@ module _ (place : ℕ) (bytes : List ℕ) (from : 0x0800 ≤ place) (to : place 
 
   -- the routines' laws and the prologue's, at each start
   abbrev pub RoutineLaws : (ℕ → ℕ) → Type 0
-  RoutineLaws limit = (s : machine.State) → Starts place bytes s → Routines ly (setup place bytes from to ly s) (home_low s) (home_high s) (length s.text) (limit (length s.text))
+  RoutineLaws limit = (s : machine.State) → Starts place bytes s → Routines ly.table ly.seed ly.numbers ly.start (setup place bytes from to ly s) (home_low s) (home_high s) (length s.text) (limit (length s.text))
 
   abbrev pub PrologueLaw : ℕ → Type 0
   PrologueLaw n = (s : machine.State) → Starts place bytes s → Comes (setup place bytes from to ly s) (view_of s) (Begun (setup place bytes from to ly s) s) [] n

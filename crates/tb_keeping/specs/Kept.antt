@@ -1,5 +1,5 @@
 -- The headline: a program's code keeps the program, whatever the ROM does.
-use Rattle.std.specs.Prelude.{◌≡◌, ◌⊎◌, ◌≢◌, ℕ, ◌+◌, ◌≤◌, ◌<◌, true, List, [], ◌∷◌}
+use Rattle.std.specs.Prelude.{◌≡◌, ◌⊎◌, ◌≢◌, ℕ, ◌+◌, ◌≤◌, true, List}
 use Rattle.tb_cpu.specs.declared.wrong.Wrong.{Wrong}
 use Rattle.tb_kernal.specs.declared.events.Event.{Event}
 use Rattle.tb_kernal.specs.declared.status.Status.TheVariants.{Running, Waits as WaitsForKey, Returned, Wrong as WentWrong}
@@ -12,11 +12,7 @@ use Rattle.tb_lower.specs.Steps.{End, Ended, Faulted, Waits, Run, GoesOn, Over, 
 use Rattle.tb_lower.specs.Control.{State}
 use Rattle.tb_lower.specs.Meaning.{source_run}
 use Rattle.tb_lower.specs.Follows.{IsPrefix}
-
--- each of a list is a byte
-abbrev pub AllBytes : List ℕ → Type 0
-AllBytes [] = Unit {0}
-AllBytes (b ∷ bs) = (b < 256) × AllBytes bs
+use Rattle.tb_routines.specs.Laws.{AllBytes}
 
 -- a start of a program whose keyboard gives bytes; all else is arbitrary
 pub record Starts (place : ℕ) (bytes : List ℕ) (s : machine.State) : Type 0 where

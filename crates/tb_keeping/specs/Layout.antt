@@ -87,6 +87,15 @@ pub record LineLies (labels : List (Name × ℕ)) (code : Part) (ns : List ℕ) 
   pub small : n < 65536
   pub after_block : LINES_AT ≤ place_of labels (target.Line n)
 
+-- each number is below all behind it
+abbrev pub IsBelowAll : ℕ → List ℕ → Type 0
+IsBelowAll k [] = Unit {0}
+IsBelowAll k (n ∷ ns) = (k < n) × IsBelowAll k ns
+
+abbrev pub AreRising : List ℕ → Type 0
+AreRising [] = Unit {0}
+AreRising (n ∷ ns) = IsBelowAll n ns × AreRising ns
+
 -- the code of a program lies where the labels say
 pub record Laid (labels : List (Name × ℕ)) (seed : ℕ) (code : Part) (program : SlotCode) : Type 0 where
   pub block : Bytes code PROLOGUE_AT block_bytes
@@ -99,6 +108,8 @@ pub record Laid (labels : List (Name × ℕ)) (seed : ℕ) (code : Part) (progra
   pub table_clear : IsClear labels (numbers program) (place_of labels target.Table) (table_code (numbers program))
   -- the lines begin behind the block
   pub first : place_at (layout_of labels (numbers program) seed) (first_place (numbers program)) ≡ LINES_AT
+  pub some : 1 ≤ length (numbers program)
+  pub rising : AreRising (numbers program)
   pub seed_small : seed < 65536
   pub count_small : length (numbers program) < 65536
   pub bytes_small : (a b : ℕ) → code a ≡ Some b → b < 256
