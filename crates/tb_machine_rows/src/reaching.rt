@@ -31,9 +31,11 @@ fn entered(alloc: Global) -> Result<Machine, Fail> {
         text: Vec::new(alloc),
         answers: Vec::new(alloc),
     };
-    Ok(Machine::enter(alloc, memory, regs, keyboard)
-        .ok()
-        .ok_or("no machine")?)
+    Ok(
+        Machine::enter(alloc, memory, regs, keyboard)
+            .ok()
+            .ok_or("no machine")?,
+    )
 }
 
 // What the example comes to beside an outside.

@@ -158,7 +158,9 @@ fn program(alloc: Global, choices: &mut Choices) -> Result<Vec<u8>, Fail> {
 fn keys(alloc: Global, choices: &mut Choices) -> Result<Vec<u8>, Fail> {
     let mut keys = Vec::new(alloc);
     for _ in 0..choices.next(40) {
-        keys.push(KEYS[usize::from(choices.next(KEYS.len() as u8))])?;
+        if let Some(key) = KEYS.get(usize::from(choices.next(KEYS.len() as u8))) {
+            keys.push(*key)?;
+        }
     }
     Ok(keys)
 }

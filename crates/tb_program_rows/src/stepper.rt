@@ -4,9 +4,9 @@ use std::test::Fail;
 use tb_codegen::{Compiled, Options, compile};
 use tb_cpu::{Flags, Regs, Wrong};
 use tb_kernal::{Keyboard, Machine, Outside, Quiet, Rude, Status};
+use tb_lower::EvalError;
 use tb_memmap::Memory;
 use tb_parser::parse_expr;
-use tb_lower::EvalError;
 use tb_stepper::{NothingBack, Reached, StepError, Stepper};
 use tb_words::Letter;
 
@@ -36,9 +36,11 @@ fn machine_with(alloc: Global, program: &[u8], places: &[u8]) -> Result<Machine,
         text: b"ABC".to_vec(alloc)?,
         answers: b"12".to_vec(alloc)?,
     };
-    Ok(Machine::enter(alloc, memory, START, keyboard)
-        .ok()
-        .ok_or("no machine")?)
+    Ok(
+        Machine::enter(alloc, memory, START, keyboard)
+            .ok()
+            .ok_or("no machine")?,
+    )
 }
 
 fn stepper_with<'a, O: Outside + Drop>(
@@ -48,16 +50,20 @@ fn stepper_with<'a, O: Outside + Drop>(
     outside: O,
 ) -> Result<Stepper<'a, O>, Fail> {
     let machine = machine_with(alloc, program, &[])?;
-    Ok(Stepper::new(alloc, machine, lines, outside)
-        .ok()
-        .ok_or("no stepper")?)
+    Ok(
+        Stepper::new(alloc, machine, lines, outside)
+            .ok()
+            .ok_or("no stepper")?,
+    )
 }
 
 // The program 10 A=5, 20 END.
 fn two_lines(alloc: Global) -> Result<Compiled, Fail> {
-    Ok(compile(alloc, b"10 A=5\n20 END\n", Options { seed: 0 })
-        .ok()
-        .ok_or("not compiled")?)
+    Ok(
+        compile(alloc, b"10 A=5\n20 END\n", Options { seed: 0 })
+            .ok()
+            .ok_or("not compiled")?,
+    )
 }
 
 // What a row compares.
@@ -183,7 +189,10 @@ fn walks_to_lines(rt: HostRuntime) -> Result<(), Fail> {
     assert_eq!(rt; stepper.to_line(20, 10_000), Ok(Reached::There));
     assert_eq!(rt; stepper.line(), Some(20));
     assert_eq!(rt; stepper.variable(Letter::read(b'A').ok_or("no letter")?), 5);
-    assert_eq!(rt; stepper.to_line(20, 10_000), Ok(Reached::Stopped(Status::Returned)));
+    assert_eq!(rt;
+        stepper.to_line(20, 10_000),
+        Ok(Reached::Stopped(Status::Returned))
+    );
     Ok(())
 }
 
@@ -200,7 +209,9 @@ fn readings(rt: HostRuntime) -> Result<(), Fail> {
     places[60] = 0xf4;
     places[61] = 0x01;
     let machine = machine_with(alloc, &ENDLESS, &places)?;
-    let stepper = Stepper::new(alloc, machine, &lines, Quiet).ok().ok_or("no stepper")?;
+    let stepper = Stepper::new(alloc, machine, &lines, Quiet)
+        .ok()
+        .ok_or("no stepper")?;
     for (name, value) in [(b'A', 5), (b'b', -1), (b'C', 0), (b'Z', -32767)] {
         let letter = Letter::read(name).ok_or("no letter")?;
         assert_eq!(rt; stepper.variable(letter), value);
