@@ -4,7 +4,8 @@
 #   tools/measure_machine.sh [EVENTS] [ROUNDS]      default: 100000000 events, 5 rounds; needs rt and sim65 (Debian's cc65)
 #   tools/measure_machine.sh --instructions         instructions of this processor for each event; needs valgrind
 #
-# The two run in turn, and the best round of each counts, since other load only ever makes a round longer.
+# Each program runs on the machine (`run` with nothing outside) and by the processor's `step` alone.
+# The runs go in turn, and the best round of each counts, since other load only ever makes a round longer.
 set -eu
 
 root=$(cd "$(dirname "$0")/.." && pwd)
@@ -17,11 +18,17 @@ trap 'rm -rf "$work"' EXIT
 if [ "${1:-}" = --instructions ]; then
     for name in loop sums; do
         for events in 1000000 2000000; do
-            valgrind --tool=callgrind --callgrind-out-file="$work/$name" "$speed" "$name" "$events" >/dev/null 2>"$work/$events"
+            for way in events steps; do
+                words=("$name" "$events")
+                [ "$way" = events ] || words+=(steps)
+                valgrind --tool=callgrind --callgrind-out-file="$work/$name" "$speed" "${words[@]}" >/dev/null 2>"$work/$way.$events"
+            done
         done
         # the difference leaves out what start and end cost
-        awk -v name="$name" '/Collected/ { count[NR > FNR] = $NF }
-            END { printf "%s: %.1f instructions for each event\n", name, (count[1] - count[0]) / 1000000 }' "$work/1000000" "$work/2000000"
+        for way in events steps; do
+            awk -v name="$name" -v way="$way" '/Collected/ { count[NR > FNR] = $NF }
+                END { printf "%s, %s: %.1f instructions each\n", name, way, (count[1] - count[0]) / 1000000 }' "$work/$way.1000000" "$work/$way.2000000"
+        done
     done
     exit
 fi
@@ -55,10 +62,14 @@ for name in loop sums; do
     cycles=$(cycles_of "$name")
     for _ in $(seq "$rounds"); do
         seconds "$speed" "$name" "$events" >>"$work/$name.ours"
+        seconds "$speed" "$name" "$events" steps >>"$work/$name.steps"
         seconds sim65 -x "$cycles" "$work/$name" >>"$work/$name.sim65"
     done
     ours=$(sort -n "$work/$name.ours" | head -1)
+    steps=$(sort -n "$work/$name.steps" | head -1)
     theirs=$(sort -n "$work/$name.sim65" | head -1)
+    awk -v name="$name" -v n="$events" -v a="$steps" -v b="$theirs" \
+        'BEGIN { printf "%s: %.0f million steps a second, sim65 %.0f, ratio %.2f\n", name, n / a / 1e6, n / b / 1e6, b / a }'
     awk -v name="$name" -v n="$events" -v a="$ours" -v b="$theirs" \
         'BEGIN { printf "%s: %.0f million events a second, sim65 %.0f, ratio %.2f\n", name, n / a / 1e6, n / b / 1e6, b / a }'
 done

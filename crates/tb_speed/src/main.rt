@@ -1,7 +1,7 @@
 //! Measures the machine: events of two endless programs with nothing outside.
 //!
-//! Without arguments each program runs for a few events, and what is written is always the same. `tb_speed NAME EVENTS` runs one program and
-//! writes the time that it took.
+//! Without arguments each program runs for a few events, and what is written is always the same. `tb_speed NAME EVENTS`
+//! runs one program and writes the time that it took; `tb_speed NAME EVENTS steps` does so by the processor's `step` alone.
 #![tactic(auto)]
 
 use std::alloc::Global;
@@ -9,7 +9,7 @@ use std::env;
 use std::process::ExitCode;
 use std::rt::{Clock, Env};
 use std::time::Instant;
-use tb_cpu::{Flags, Regs};
+use tb_cpu::{Flags, Regs, step};
 use tb_kernal::{Keyboard, Machine, Quiet, run};
 use tb_memmap::Memory;
 
@@ -30,11 +30,16 @@ const SUMS: [u8; 27] = [
 // Events for the line that is always the same.
 const FEW: u64 = 100_000;
 
-// A machine that stands before a program.
-fn machine_with(alloc: Global, program: &[u8]) -> Option<Machine> {
+// A memory with a program.
+fn memory_with(alloc: Global, program: &[u8]) -> Option<Memory> {
     let mut memory = Memory::new(alloc).ok()?;
     memory.load(PLACE, program).ok()?;
     memory.load(0x01f1, &[0xff, 0xa0]).ok()?;
+    Some(memory)
+}
+
+// Registers before a program.
+fn first_regs() -> Regs {
     let flags = Flags {
         n: false,
         v: false,
@@ -43,19 +48,40 @@ fn machine_with(alloc: Global, program: &[u8]) -> Option<Machine> {
         z: false,
         c: false,
     };
-    let regs = Regs {
+    Regs {
         a: 0,
         x: 0,
         y: 0,
         s: 0xf0,
         pc: PLACE,
         flags,
-    };
+    }
+}
+
+// A machine that stands before a program.
+fn machine_with(alloc: Global, program: &[u8]) -> Option<Machine> {
+    let memory = memory_with(alloc, program)?;
     let keyboard = Keyboard {
         text: Vec::new(alloc),
         answers: Vec::new(alloc),
     };
-    Machine::enter(alloc, memory, regs, keyboard).ok()
+    Machine::enter(alloc, memory, first_regs(), keyboard).ok()
+}
+
+// The same by `step` alone.
+fn measure_steps<R: Clock + AllocGlobal>(
+    rt: &R,
+    program: &[u8],
+    steps: u64,
+) -> Option<(u128, u16)> {
+    let mut memory = memory_with(rt.alloc(), program)?;
+    let mut regs = first_regs();
+    let start = Instant::now(rt).ok()?;
+    for _ in 0..steps {
+        step(&mut regs, &mut memory).ok()?;
+    }
+    let millis = start.elapsed(rt).ok()?.as_millis();
+    Some((millis, regs.pc))
 }
 
 // Runs a program for so many events: the milliseconds that it took, and where it then stands.
@@ -76,17 +102,27 @@ fn program_of(name: &str) -> Option<&'static [u8]> {
     }
 }
 
-// The program's name and the count of events that were asked for.
-fn asked<R: Env + AllocGlobal>(rt: &R) -> Option<(String, u64)> {
+// The program's name, the count of events, and whether `step` alone is asked for.
+fn asked<R: Env + AllocGlobal>(rt: &R) -> Option<(String, u64, bool)> {
     let mut words = env::args(rt).ok()?;
     words.next();
     let name = words.next()?;
     let events = words.next()?.parse().ok()?;
-    Some((name, events))
+    Some((name, events, words.next().is_some()))
 }
 
-fn measure_one<R: Clock + Print + AllocGlobal>(rt: &R, name: &str, events: u64) -> Option<()> {
-    let (millis, pc) = measure(rt, program_of(name)?, events)?;
+fn measure_one<R: Clock + Print + AllocGlobal>(
+    rt: &R,
+    name: &str,
+    events: u64,
+    by_steps: bool,
+) -> Option<()> {
+    let program = program_of(name)?;
+    let (millis, pc) = if by_steps {
+        measure_steps(rt, program, events)?
+    } else {
+        measure(rt, program, events)?
+    };
     println!(rt; "{name}: {events} events in {millis} ms, PC {pc:04X}").ok()
 }
 
@@ -100,7 +136,7 @@ fn show_few<R: Clock + Print + AllocGlobal>(rt: &R) -> Option<()> {
 
 fn main(rt: HostRuntime) -> ExitCode {
     let done = match asked(&rt) {
-        Some((name, events)) => measure_one(&rt, &name, events),
+        Some((name, events, by_steps)) => measure_one(&rt, &name, events, by_steps),
         None => show_few(&rt),
     };
     match done {
