@@ -24,3 +24,4 @@ pub mod LineStarts
 pub mod Marks
 pub mod Callees
 pub mod Served
+pub mod Imaged
