@@ -25,3 +25,4 @@ pub mod Marks
 pub mod Callees
 pub mod Served
 pub mod Imaged
+pub mod Compiled
