@@ -1,3 +1,4 @@
 pub mod Reading
 pub mod Sized
 pub mod Small
+pub mod Kept

@@ -2,8 +2,8 @@
 use Rattle.std.proofs.Common.{◌≡◌, ◌≢◌, ℕ, ◌+◌, ◌*◌, ◌<◌, ◌≤◌, Bool, true, false, List, [], ◌∷◌, ◌++◌, length, ap, sym, ◌∙◌, arith, length-append, Option}
 use Rattle.tb_syntax.specs.Source.{Expression, Item, Text, Value, Zone, Command}
 use Rattle.tb_lower.specs.Cost.{nodes, item_cost, command_cost}
-use Rattle.tb_lower.specs.Ranges.{AreShort}
-use Rattle.tb_lower.specs.Weights.{command_texts, item_texts}
+use Rattle.tb_syntax.specs.Texts.{AreShort}
+use Rattle.tb_syntax.specs.Texts.{command_texts, item_texts}
 use Rattle.tb_words.specs.declared.Rel.{Rel}
 use Rattle.tb_grammar.specs.Grammar.{Part, Reads, number, variable, random, parentheses, factor, product, term, plus, minus, sum}
 use Rattle.tb_grammar.specs.Statements.{Relates, equal, less, greater, at_most, at_least, less_or_greater, greater_or_less, MayThen, bare, then, ReadsItem, value, quotation, Separates, comma, semicolon, Prints, nothing, last, next, Variables, one, more, States, let_assign, assign, print, short_print, input, conditional, goto, gosub, return, end, remark}

@@ -6,7 +6,8 @@ use Rattle.tb_asm.specs.Assembled.{refusal}
 use Rattle.tb_syntax.specs.Source.{Program, Numbered, numbers}
 use Rattle.tb_lower.specs.Cost.{cost}
 use Rattle.tb_lower.specs.Lowered as lowered
-use Rattle.tb_lower.specs.Ranges.{HasShortTexts, IsCodeInRange}
+use Rattle.tb_lower.specs.Ranges.{IsCodeInRange}
+use Rattle.tb_syntax.specs.Texts.{HasShortTexts}
 use Rattle.tb_lower.specs.Slots.{Instr, Put, Load, Store, Negate, Compute, Random, SendText, SendNumber, SendZone, SendNewline, Input, Poll, Hold, LeaveUnless, Jump, Call, JumpTo, CallTo, Return, End, SlotCode}
 use Rattle.tb_parser.specs.Files.{AreStated, RisesFrom}
 use Rattle.tb_runtime16.specs.Places.{PROLOGUE_AT, LINES_AT}

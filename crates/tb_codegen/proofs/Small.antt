@@ -5,8 +5,8 @@ use Rattle.std.proofs.lemmas.List.Sums.{sum_by-cons}
 use Rattle.std.proofs.lemmas.List.{length-map}
 use Rattle.tb_syntax.specs.Source.{Command, Program, Numbered, numbers}
 use Rattle.tb_lower.specs.Cost.{command_cost, cost}
-use Rattle.tb_lower.specs.Ranges.{AreShort, HasShortTexts}
-use Rattle.tb_lower.specs.Weights.{command_texts}
+use Rattle.tb_syntax.specs.Texts.{AreShort, HasShortTexts}
+use Rattle.tb_syntax.specs.Texts.{command_texts}
 use Rattle.tb_parser.specs.Files.{IsStated, AreStated, RisesFrom}
 use Rattle.tb_templates.specs.Sizes.{IsSpaced, AreSpaced}
 use Rattle.tb_codegen.proofs.Reading.{Told, stated}

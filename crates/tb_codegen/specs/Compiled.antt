@@ -1,5 +1,5 @@
 -- Compiled programs: where the code of lines begins and ends, and what the PRG file is.
-use Rattle.std.specs.Prelude.{◌≡◌, ℕ, ◌+◌, ◌≤◌, true, is_some, List, [], ◌∷◌, ◌++◌, map, Bool, ◌&&◌, nat_le, nat_lt, nat_eq, if◌then◌else◌, Option, Some, None, unwrap_or}
+use Rattle.std.specs.Prelude.{◌≡◌, ℕ, ◌+◌, ◌≤◌, true, is_some, List, [], ◌∷◌, ◌++◌, drop, map, Bool, ◌&&◌, nat_le, nat_lt, nat_eq, if◌then◌else◌, Option, Some, None, unwrap_or}
 use Rattle.tb_words.specs.Words.{word_of}
 use Rattle.tb_syntax.specs.Source.{Program, numbers}
 use Rattle.tb_asm.specs.declared.names.Name.{Name}
@@ -21,6 +21,10 @@ use Rattle.tb_codegen.specs.declared.compiled.Compiled.{Compiled}
 -- ── what a compiled program shows ──
 abbrev pub prg_of : Compiled → List ℕ
 prg_of c = c.prg.items
+
+-- the bytes that the file loads, behind its load address
+abbrev pub loaded_of : Compiled → List ℕ
+loaded_of c = drop 2 (prg_of c)
 
 -- lines with the places where their code begins
 abbrev pub pair_of : LineStart → ℕ × ℕ
