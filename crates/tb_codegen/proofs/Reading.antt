@@ -105,11 +105,13 @@ stated limit _ _ _ (assign v text e large l r) = record { spaced = tt; short = �
 stated limit _ _ _ (print text items ends_line large p) = record {
   spaced = items_apart true text items ends_line large p false;
   short = λ h. items_short true text items ends_line large p limit (omega (arith, h));
-  paid = let a = items_read true text items ends_line large p in let b = items_pay items in omega (arith, a, b) }
+  paid = let a = items_read true text items ends_line large p in let b = items_pay items in omega (arith, a, b);
+}
 stated limit _ _ _ (short_print text items ends_line large p) = record {
   spaced = items_apart true text items ends_line large p false;
   short = λ h. items_short true text items ends_line large p limit (omega (arith, h));
-  paid = let a = items_read true text items ends_line large p in let b = items_pay items in omega (arith, a, b) }
+  paid = let a = items_read true text items ends_line large p in let b = items_pay items in omega (arith, a, b);
+}
 stated limit _ _ _ (input text letters r) = record { spaced = tt; short = λ h. tt; paid = let a = letters_read text letters r in omega (arith, a) }
 stated limit _ _ _ (conditional text a la rest rel middle b lb after body s ls ra relates rb may st) =
     let t = stated limit body s ls st in

@@ -146,7 +146,8 @@ laid_code seed p small rises ranges cheap =
       accepted = accepted seed code (code_rises p rises) lists (omega (arith, a, c, cheap));
       known = lines_known labels (numbers code) seed LINES_AT code f.lines;
       starts = starts_laid labels (numbers code) seed LINES_AT code f.lines;
-      table = f.table }
+      table = f.table;
+    }
 
 pub laid : (seed : ℕ) (p : Program) (code : SlotCode) → code ≡ lowered.program_code p → AreStated p → RisesFrom 0 (numbers p) → ((limit : ℕ) → HasShortTexts limit p → IsCodeInRange limit code) → cost p ≤ most → IsLaid seed code
 laid seed p code same stated rises ranges cheap =
@@ -179,4 +180,5 @@ made seed p code c image labels same l shallow small is named file starts table 
       lines = ap (map (λ s. s.0)) all ∙ starts_numbers (numbers p) seed LINES_AT (lowered.program_code p) ∙ same_numbers p;
       rising = subst (StartsRise LINES_AT) (sym all) (starts_rise (numbers p) seed LINES_AT (lowered.program_code p));
       table = same_value (table_of c) (table_at seed code) (sym table ∙ ap (λ ls. address_in ls (label_of Table)) named ∙ l.table) ∙ ap (table_at seed) same;
-      warned = warned }
+      warned = warned;
+    }

@@ -1,9 +1,9 @@
 //! From a source text to a PRG file.
-ghost use Rattle.std.specs.Prelude.{◌≡◌, ◌<◌, ◌≤◌, ℕ, All, IfOk, IfErr, Some, None, true, is_some, length, map};
+ghost use Rattle.std.specs.Prelude.{◌≡◌, ◌<◌, ◌≤◌, ℕ, Ok, All, IfOk, IfErr, Some, None, true, is_some, length, map};
 ghost use Rattle.tb_asm.specs.Assembled.{refusal};
 ghost use Rattle.tb_asm.specs.Layout.{address_in, image_of, labels_from};
 ghost use Rattle.tb_syntax.specs.Shown.{lines_of};
-ghost use Rattle.tb_syntax.specs.Source.{numbers};
+ghost use Rattle.tb_syntax.specs.Source.{Program as SourceProgram, numbers};
 ghost use Rattle.tb_lower.specs.Cost as costs;
 ghost use Rattle.tb_lower.specs.Lowered as lowered;
 ghost use Rattle.tb_lower.specs.Need.{too_deep};
@@ -45,6 +45,8 @@ pub fn compile(alloc: Global, source: &[u8], options: Options) -> Result<Compile
     ensures found { HasOutcome options.seed source.now result }
     // and whatever they make is what is answered.
     ensures only { (outcome : Outcome) → Makes source.now outcome → OutcomeAnswer options.seed outcome result }
+    // A compiled file's code, loaded at $0801, keeps the program that its source makes, whatever the ROM does.
+    ensures keeps { IfOk result (λ c. (program : SourceProgram) × Makes source.now (Ok program) × Keeps 0x0801 (loaded_of c) program options.seed) }
 {
     let program = parse(alloc, source)?;
     compile_program(alloc, &program, options.seed)

@@ -164,14 +164,14 @@ image_laid seed code seed_small rises codable some few ends part small shown =
     record {
       block = bytes_front part PROLOGUE_AT block_bytes (replicate (LINES_AT - PROLOGUE_AT - length block_bytes) 0 ++ []) head.bytes;
       lines = λ n is e.
-        let g = found part labels ns seed code LINES_AT own n is e in
-        record {
-          lies = g.lies;
-          clear = apart part labels ns seed code LINES_AT own n is e;
-          ranged = ranged code codable n is e;
-          small = small_number 0 code rises n is e;
-          after_block = g.from;
-        };
+          let g = found part labels ns seed code LINES_AT own n is e in
+          record {
+            lies = g.lies;
+            clear = apart part labels ns seed code LINES_AT own n is e;
+            ranged = ranged code codable n is e;
+            small = small_number 0 code rises n is e;
+            after_block = g.from;
+          };
       past = subst (λ a. Lies part labels a past) at_past p;
       past_clear = λ m e. inl (before (place_of labels target.Past) (omega (arith, at_past)) m e);
       find = subst (λ a. Lies part labels a search) at_find f;
