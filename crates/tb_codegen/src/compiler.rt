@@ -1,9 +1,9 @@
 //! From a source text to a PRG file.
-ghost use Rattle.std.specs.Prelude.{◌≡◌, ◌<◌, ℕ, All, IfOk, IfErr, Some, None, true, is_some, length, map};
+ghost use Rattle.std.specs.Prelude.{◌≡◌, ◌<◌, ◌≤◌, ℕ, Ok, All, IfOk, IfErr, Some, None, true, is_some, length, map};
 ghost use Rattle.tb_asm.specs.Assembled.{refusal};
 ghost use Rattle.tb_asm.specs.Layout.{address_in, image_of, labels_from};
 ghost use Rattle.tb_syntax.specs.Shown.{lines_of};
-ghost use Rattle.tb_syntax.specs.Source.{numbers};
+ghost use Rattle.tb_syntax.specs.Source.{Program as SourceProgram, numbers};
 ghost use Rattle.tb_lower.specs.Cost as costs;
 ghost use Rattle.tb_lower.specs.Lowered as lowered;
 ghost use Rattle.tb_lower.specs.Need.{too_deep};
@@ -14,7 +14,8 @@ ghost use Rattle.tb_templates.specs.Labels.{label_of};
 ghost use Rattle.tb_templates.specs.Program.{AreCodable, program_code};
 ghost use Rattle.tb_codegen.specs.declared.errors.CompileError.TheVariants as error;
 ghost use Rattle.tb_codegen.specs.Answers.{HasOutcome, Makes, OutcomeAnswer, ProgramAnswer};
-ghost use Rattle.tb_codegen.specs.Compiled.{AreKnown, pair_of, starts_in, most};
+ghost use Rattle.tb_keeping.specs.Kept.{Keeps};
+ghost use Rattle.tb_codegen.specs.Compiled.{loaded_of, AreKnown, pair_of, starts_in, most};
 
 use crate::compiled::{Compiled, LineStart};
 use crate::costs::cost;
@@ -44,6 +45,8 @@ pub fn compile(alloc: Global, source: &[u8], options: Options) -> Result<Compile
     ensures found { HasOutcome options.seed source.now result }
     // and whatever they make is what is answered.
     ensures only { (outcome : Outcome) → Makes source.now outcome → OutcomeAnswer options.seed outcome result }
+    // A compiled file's code, loaded at $0801, keeps the program that its source makes, whatever the ROM does.
+    ensures keeps { IfOk result (λ c. (program : SourceProgram) × Makes source.now (Ok program) × Keeps 0x0801 (loaded_of c) program options.seed) }
 {
     let program = parse(alloc, source)?;
     compile_program(alloc, &program, options.seed)
@@ -53,7 +56,8 @@ pub fn compile(alloc: Global, source: &[u8], options: Options) -> Result<Compile
 fn compile_program(alloc: Global, program: &Program, seed: u16) -> Result<Compiled, CompileError>
     requires stated { AreStated (lines_of program.now) }
     requires rising { RisesFrom 0 (numbers (lines_of program.now)) }
-    ensures { ProgramAnswer seed (lines_of program.now) result }
+    ensures answer { ProgramAnswer seed (lines_of program.now) result }
+    ensures keeps { 1 ≤ length (lines_of program.now) → IfOk result (λ c. Keeps 0x0801 (loaded_of c) (lines_of program.now) seed) }
 {
     let code = lower(alloc, program)?;
     let cost = cost(program);

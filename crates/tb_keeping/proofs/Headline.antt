@@ -168,11 +168,11 @@ module _ (place : ℕ) (bytes : List ℕ) (from : 0x0800 ≤ place) (to : place 
                 let q = subst (λ t. (sent t ≡ out) × Ends why t) same_end p in
                 (q.0, ended ly f lo hi (above_so s h) k sc (limit k) why (run es s) q.1)
 
-      sound : (es : List Event) → all_lawful es s ≡ true → IsSound program seed s (run es s)
+      pub sound : (es : List Event) → all_lawful es s ≡ true → IsSound program seed s (run es s)
       sound es l = ⊎_elim (λ a. late es l a) (λ a. early es a) ((opening s h).reaches.leads s (begins_so s h) es l)
 
-      paces : (es : List Event) → all_lawful es s ≡ true → (m : ℕ) → n + m * (longest sc + 1) * limit k ≤ goes es → HasDone (source_run program seed s.text s.answers m) (run es s)
+      pub paces : (es : List Event) → all_lawful es s ≡ true → (m : ℕ) → n + m * (longest sc + 1) * limit k ≤ goes es → HasDone (source_run program seed s.text s.answers m) (run es s)
       paces es l m le = ⊎_elim (λ a. passed es l a m le) (λ a. absurd (let no : ⊥ = omega (arith, a.few, le) in no)) ((opening s h).reaches.leads s (begins_so s h) es l)
 
-    pub headline : Keeps place bytes program ly.seed
+    abbrev pub headline : Keeps place bytes program ly.seed
     headline = record { sound = sound; pace = λ text answers m. n + m * (longest sc + 1) * limit (length text); paced = paces }

@@ -24,3 +24,5 @@ pub mod LineStarts
 pub mod Marks
 pub mod Callees
 pub mod Served
+pub mod Imaged
+pub mod Compiled

@@ -42,5 +42,5 @@ module _ (place : ℕ) (bytes : List ℕ) (from : 0x0800 ≤ place) (to : place 
     pub positive : (k : ℕ) → 1 ≤ 24 + (limit k + limit k)
     positive k = omega arith
 
-    pub keeps : Keeps place bytes program seed
+    abbrev pub keeps : Keeps place bytes program seed
     keeps = headline place bytes from to ly program sc follows (λ k. 24 + (limit k + limit k)) positive n opening laws

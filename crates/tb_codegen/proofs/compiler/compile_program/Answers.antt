@@ -1,4 +1,4 @@
-use Rattle.std.proofs.Common.{ℕ, ◌≡◌, ◌≤◌, arith, ap, sym, subst, ◌∙◌, is_some}
+use Rattle.std.proofs.Common.{ℕ, ◌≡◌, ◌++◌, ◌≤◌, arith, ap, sym, subst, ◌∙◌, Some, is_some}
 use Rattle.tb_asm.specs.Layout.{address_in, labels_from}
 use Rattle.tb_syntax.specs.Shown.{lines_of}
 use Rattle.tb_syntax.specs.Source.{Program, numbers}
@@ -10,6 +10,8 @@ use Rattle.tb_lower.specs.Cost.{cost}
 use Rattle.tb_lower.specs.Shown.{code_of}
 use Rattle.tb_codegen.specs.Compiled.{AreKnown, starts_in, most}
 use Rattle.tb_codegen.proofs.Small.{are_small, cost_small}
+use Rattle.tb_codegen.proofs.Kept.{file_keeps}
+use Rattle.tb_prg.specs.Prg.{header}
 use Rattle.tb_codegen.proofs.Sized.{laid, made}
 use Rattle.tb_codegen.proofs.compiler.compile_program.Goals as goal
 
@@ -42,10 +44,17 @@ pub place_of-requires : goal.place_of-requires
 place_of-requires c = let l = laid c.args.seed (lines_of c.args.program.now) (code_of c.in_ok-code.code) c.in_ok-code.ensures.lowered c.requires.stated c.requires.rising c.in_ok-code.ensures.in_range
     (cheap (lines_of c.args.program.now) c.cost-cost.result c.if-cost-gt-MOST.false c.cost-cost.ensures) in ap (λ ls. is_some (address_in ls (label_of Table))) c.in_ok-image.ensures.ok.2 ∙ ap is_some l.table
 
-pub returns : goal.returns
-returns c =
+pub returns-clause-answer : goal.returns-clause-answer
+returns-clause-answer c =
     made c.args.seed (lines_of c.args.program.now) (code_of c.in_ok-code.code) (record { prg = c.in_ok-write.field-0; starts = c.in_ok-line_starts.field-0; table = c.place_of.result; warnings = c.in_ok-warnings.field-0 })
     c.in_ok-image.image.bytes.items c.in_ok-image.image.labels.entries c.in_ok-code.ensures.lowered (laid c.args.seed (lines_of c.args.program.now) (code_of c.in_ok-code.code) c.in_ok-code.ensures.lowered c.requires.stated c.requires.rising c.in_ok-code.ensures.in_range
     (cheap (lines_of c.args.program.now) c.cost-cost.result c.if-cost-gt-MOST.false c.cost-cost.ensures)) c.in_ok-code.ensures.accepted
     (cheap (lines_of c.args.program.now) c.cost-cost.result c.if-cost-gt-MOST.false c.cost-cost.ensures) c.in_ok-image.ensures.ok.1 c.in_ok-image.ensures.ok.2 c.in_ok-write.ensures
     (c.in_ok-line_starts.ensures ∙ ap (λ k. starts_in c.in_ok-image.image.labels.entries (numbers (code_of k))) c.lines.ensures) c.place_of.ensures c.in_ok-warnings.ensures
+
+pub returns-clause-keeps : goal.returns-clause-keeps
+returns-clause-keeps c some =
+    let l = laid c.args.seed (lines_of c.args.program.now) (code_of c.in_ok-code.code) c.in_ok-code.ensures.lowered c.requires.stated c.requires.rising c.in_ok-code.ensures.in_range
+    (cheap (lines_of c.args.program.now) c.cost-cost.result c.if-cost-gt-MOST.false c.cost-cost.ensures) in
+    file_keeps c.args.seed (lines_of c.args.program.now) (code_of c.in_ok-code.code) c.in_ok-write.field-0.items c.ranges.seed.fits some c.in_ok-code.ensures.lowered c.in_ok-code.ensures.follows c.requires.rising l
+    (c.in_ok-write.ensures ∙ ap (λ b. header ++ b) c.in_ok-image.ensures.ok.1)

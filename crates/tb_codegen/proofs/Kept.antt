@@ -1,0 +1,36 @@
+-- What is compiled keeps its program.
+use Rattle.std.proofs.Common.{Ok, ◌≡◌, ℕ, suc, ◌+◌, ◌≤◌, ◌<◌, List, [], ◌∷◌, ◌++◌, drop, length, refl, sym, ap, ◌∙◌, subst, arith}
+use Rattle.tb_asm.specs.Layout.{image_of}
+use Rattle.tb_lower.specs.Follows.{Follows}
+use Rattle.tb_lower.specs.Lowered as lowered
+use Rattle.tb_lower.specs.Slots.{SlotCode}
+use Rattle.tb_parser.specs.Files.{RisesFrom, LinesAre, Outcome, edited, end, bad, good}
+use Rattle.tb_prg.specs.Prg.{header}
+use Rattle.tb_runtime16.specs.Places.{PROLOGUE_AT}
+use Rattle.tb_syntax.specs.Source.{Program, numbers}
+use Rattle.tb_templates.specs.Program.{program_code}
+use Rattle.tb_templates.proofs.Ordered.{RisingFrom}
+use Rattle.tb_keeping.specs.Kept.{Keeps}
+use Rattle.tb_keeping.proofs.Compiled.{image_keeps}
+use Rattle.tb_codegen.proofs.Sized.{IsLaid, code_rises, same_numbers}
+
+count_numbers : (p : Program) → length (numbers p) ≡ length p
+count_numbers [] = refl
+count_numbers (line ∷ lines) = ap suc (count_numbers lines)
+
+pub file_keeps : (seed : ℕ) (p : Program) (code : SlotCode) (file : List ℕ) → seed < 65536 → 1 ≤ length p → code ≡ lowered.program_code p → Follows p code → RisesFrom 0 (numbers p) → IsLaid seed code → file ≡ header ++ image_of PROLOGUE_AT (program_code seed code) → Keeps 0x0801 (drop 2 file) p seed
+file_keeps seed p code file small some same follows rises l is =
+    let n : numbers code ≡ numbers p = ap numbers same ∙ same_numbers p in
+    let some_numbers : 1 ≤ length (numbers code) = (let a = ap length n in let b = count_numbers p in omega (arith, a, b, some)) in
+    subst (λ f. Keeps 0x0801 (drop 2 f) p seed) (sym is)
+    (image_keeps seed p code small follows (subst (λ k. RisingFrom 0 (numbers k)) (sym same) (code_rises p rises)) l.lists some_numbers l.lines l.ends (drop 2 header) refl)
+
+same_made : (a b : Program) → ◌≡◌ {A = Outcome} (Ok a) (Ok b) → a ≡ b
+same_made a b e = cc
+
+-- a file that makes a program has lines
+pub made_some : (n : ℕ) (p : Program) (ls : List (List ℕ)) (o : Outcome) → LinesAre n p ls o → (q : Program) → o ≡ Ok q → 1 ≤ length q
+made_some _ _ _ _ (end n []) q e = cc
+made_some _ _ _ _ (end n (l ∷ k)) q e = subst (λ x. 1 ≤ length x) (same_made (l ∷ k) q e) (omega arith)
+made_some _ _ _ _ (bad n p line lines r k) q e = cc
+made_some _ _ _ _ (good n p line lines edit o k h) q e = made_some (n + 1) (edited edit p) lines o h q e
