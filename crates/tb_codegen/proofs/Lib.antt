@@ -1,4 +1,5 @@
 pub mod Reading
 pub mod Sized
 pub mod Small
+pub mod Texts
 pub mod Kept

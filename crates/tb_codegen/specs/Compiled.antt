@@ -1,5 +1,5 @@
 -- Compiled programs: where the code of lines begins and ends, and what the PRG file is.
-use Rattle.std.specs.Prelude.{◌≡◌, ℕ, ◌+◌, ◌≤◌, true, is_some, List, [], ◌∷◌, ◌++◌, drop, map, Bool, ◌&&◌, nat_le, nat_lt, nat_eq, if◌then◌else◌, Option, Some, None, unwrap_or}
+use Rattle.std.specs.Prelude.{◌≡◌, ℕ, ◌+◌, ◌-◌, ◌≤◌, length, true, is_some, List, [], ◌∷◌, ◌++◌, drop, map, Bool, ◌&&◌, nat_le, nat_lt, nat_eq, if◌then◌else◌, Option, Some, None, unwrap_or}
 use Rattle.tb_words.specs.Words.{word_of}
 use Rattle.tb_syntax.specs.Source.{Program, numbers}
 use Rattle.tb_asm.specs.declared.names.Name.{Name}
@@ -15,6 +15,7 @@ use Rattle.tb_runtime16.specs.Places.{PROLOGUE_AT, LINES_AT}
 use Rattle.tb_templates.specs.declared.labels.Target.TheVariants.{Line}
 use Rattle.tb_templates.specs.Labels.{label_of}
 use Rattle.tb_templates.specs.Program.{line_code, lines_code, past_code, find_code, program_code}
+use Rattle.tb_codegen.specs.Texts.{LinesHoldTexts}
 use Rattle.tb_codegen.specs.declared.compiled.LineStart.{LineStart}
 use Rattle.tb_codegen.specs.declared.compiled.Compiled.{Compiled}
 
@@ -81,6 +82,10 @@ abbrev pub AreKnown : List (Name × ℕ) → List ℕ → Type 0
 AreKnown labels [] = Unit {0}
 AreKnown labels (n ∷ ns) = (is_some (address_in labels (label_of (Line n))) ≡ true) × AreKnown labels ns
 
+-- the bytes of a PRG file before the code of lines
+abbrev pub lines_offset : ℕ
+lines_offset = length header + (LINES_AT - PROLOGUE_AT)
+
 -- the most that a program may cost
 abbrev pub most : ℕ
 most = 37888
@@ -90,6 +95,7 @@ pub record IsCompiled (seed : ℕ) (program : Program) (c : Compiled) : Type 0 w
   pub shallow : too_deep program ≡ None
   pub small : cost program ≤ most
   pub prg : prg_of c ≡ header ++ image_of PROLOGUE_AT (program_code seed (lowered.program_code program))
+  pub texts : LinesHoldTexts (prg_of c) (numbers program) seed lines_offset program
   pub ends : PROLOGUE_AT + size (program_code seed (lowered.program_code program)) ≤ 0xA000
   pub starts : starts_of c ≡ starts_from (numbers program) seed LINES_AT (lowered.program_code program)
   pub lines : map (λ s. s.0) (starts_of c) ≡ numbers program

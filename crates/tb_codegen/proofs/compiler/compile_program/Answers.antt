@@ -1,4 +1,4 @@
-use Rattle.std.proofs.Common.{ℕ, ◌≡◌, ◌++◌, ◌≤◌, arith, ap, sym, subst, ◌∙◌, Some, is_some}
+use Rattle.std.proofs.Common.{ℕ, ◌≡◌, ◌++◌, ◌≤◌, arith, ap, sym, subst, ◌∙◌, is_some}
 use Rattle.tb_asm.specs.Layout.{address_in, labels_from}
 use Rattle.tb_syntax.specs.Shown.{lines_of}
 use Rattle.tb_syntax.specs.Source.{Program, numbers}
