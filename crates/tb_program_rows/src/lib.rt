@@ -9,8 +9,6 @@ mod codegen;
 #[cfg(test)]
 mod examples;
 #[cfg(test)]
-mod generated;
-#[cfg(test)]
 mod refusing;
 #[cfg(test)]
 mod running;

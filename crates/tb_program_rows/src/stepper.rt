@@ -178,7 +178,9 @@ fn stopped_machines(rt: HostRuntime) -> Result<(), Fail> {
 fn walks_to_lines(rt: HostRuntime) -> Result<(), Fail> {
     let alloc = rt.alloc();
     let lines = two_lines(alloc)?;
-    let program = &lines.prg()[14..];
+    let prg = lines.prg();
+    assert!(rt; 14 <= prg.len());
+    let program = &prg[14..];
     let mut stepper = stepper_with(alloc, &lines, program, Quiet)?;
     assert_eq!(rt; stepper.line(), None);
     assert_eq!(rt; stepper.to_line(15, 1000), Err(StepError::NoSuchLine));
