@@ -14,7 +14,7 @@ use Rattle.tb_keeping.specs.Kept.{Keeps}
 use Rattle.tb_keeping.proofs.Compiled.{image_keeps}
 use Rattle.tb_codegen.proofs.Sized.{IsLaid, code_rises, same_numbers}
 
-count_numbers : (p : Program) → length (numbers p) ≡ length p
+pub count_numbers : (p : Program) → length (numbers p) ≡ length p
 count_numbers [] = refl
 count_numbers (line ∷ lines) = ap suc (count_numbers lines)
 

@@ -3,3 +3,4 @@ pub mod Sized
 pub mod Small
 pub mod Texts
 pub mod Kept
+pub mod Marked

@@ -46,6 +46,10 @@ abbrev pub start_in : List (ℕ × ℕ) → ℕ → Option ℕ
 start_in [] n = None
 start_in (s ∷ starts) n = if nat_eq s.0 n then Some s.1 else start_in starts n
 
+-- where the code of a line of the program begins, as start_of answers it
+abbrev pub start_of : Compiled → ℕ → ℕ
+start_of c n = unwrap_or (start_in (starts_of c) n) 0
+
 -- an address lies between two places
 abbrev pub lies : ℕ → ℕ → ℕ → Bool
 lies from to a = nat_le from a && nat_lt a to

@@ -15,7 +15,8 @@ ghost use Rattle.tb_templates.specs.Program.{AreCodable, program_code};
 ghost use Rattle.tb_codegen.specs.declared.errors.CompileError.TheVariants as error;
 ghost use Rattle.tb_codegen.specs.Answers.{HasOutcome, Makes, OutcomeAnswer, ProgramAnswer};
 ghost use Rattle.tb_keeping.specs.Kept.{Keeps};
-ghost use Rattle.tb_codegen.specs.Compiled.{loaded_of, AreKnown, pair_of, starts_in, most};
+ghost use Rattle.tb_keeping.specs.LineStarts.{MarksLines};
+ghost use Rattle.tb_codegen.specs.Compiled.{loaded_of, start_of, AreKnown, pair_of, starts_in, most};
 
 use crate::compiled::{Compiled, LineStart};
 use crate::costs::cost;
@@ -47,6 +48,8 @@ pub fn compile(alloc: Global, source: &[u8], options: Options) -> Result<Compile
     ensures only { (outcome : Outcome) → Makes source.now outcome → OutcomeAnswer options.seed outcome result }
     // A compiled file's code, loaded at $0801, keeps the program that its source makes, whatever the ROM does.
     ensures keeps { IfOk result (λ c. (program : SourceProgram) × Makes source.now (Ok program) × Keeps 0x0801 (loaded_of c) program options.seed) }
+    // Where it comes to the address that start_of answers for a line, the program begins that line, in the same state.
+    ensures marks { IfOk result (λ c. (program : SourceProgram) × Makes source.now (Ok program) × MarksLines 0x0801 (loaded_of c) program options.seed (start_of c)) }
 {
     let program = parse(alloc, source)?;
     compile_program(alloc, &program, options.seed)
@@ -58,6 +61,7 @@ fn compile_program(alloc: Global, program: &Program, seed: u16) -> Result<Compil
     requires rising { RisesFrom 0 (numbers (lines_of program.now)) }
     ensures answer { ProgramAnswer seed (lines_of program.now) result }
     ensures keeps { 1 ≤ length (lines_of program.now) → IfOk result (λ c. Keeps 0x0801 (loaded_of c) (lines_of program.now) seed) }
+    ensures marks { 1 ≤ length (lines_of program.now) → IfOk result (λ c. MarksLines 0x0801 (loaded_of c) (lines_of program.now) seed (start_of c)) }
 {
     let code = lower(alloc, program)?;
     let cost = cost(program);

@@ -1,5 +1,5 @@
--- A program's laid code behind a line of BASIC keeps the program.
-use Rattle.std.proofs.Common.{◌≡◌, ℕ, ◌+◌, ◌*◌, ◌≤◌, ◌<◌, List, ◌++◌, length, subst, arith, length-append, Some}
+-- A program's laid code behind a line of BASIC keeps the program, and marks its lines.
+use Rattle.std.proofs.Common.{◌≡◌, ℕ, ◌+◌, ◌*◌, ◌≤◌, ◌<◌, List, ◌++◌, length, subst, arith, length-append}
 use Rattle.tb_asm.specs.declared.names.Name.{Name}
 use Rattle.tb_asm.specs.Layout.{Entry, labels_from, image_of, size}
 use Rattle.tb_asm.proofs.Laws.{all_size}
@@ -16,6 +16,9 @@ use Rattle.tb_routines.specs.Routines.{limit_by}
 use Rattle.tb_keeping.specs.Kept.{Starts, Keeps}
 use Rattle.tb_keeping.specs.Layout.{layout_of, Laid}
 use Rattle.tb_keeping.proofs.Headline.{begins_so}
+use Rattle.tb_keeping.specs.LineStarts.{MarksLines}
+use Rattle.tb_keeping.proofs.Marks.{marks}
+use Rattle.tb_keeping.proofs.Told.{Agree, told_so}
 use Rattle.tb_keeping.proofs.Whole as whole
 use Rattle.tb_keeping.proofs.Served.{routines, prologue}
 use Rattle.tb_keeping.proofs.Imaged.{image_laid}
@@ -64,3 +67,16 @@ module _ (seed : ℕ) (program : Program) (code : SlotCode) (seed_small : seed <
     pace = λ text answers m. 192 + m * (longest code + 1) * (24 + (limit_by (length text) + limit_by (length text)));
     paced = λ s h. (kept s h).paced s h;
   }
+
+  abbrev marked : (s : machine.State) → Starts 0x0801 bytes s → MarksLines 0x0801 bytes program seed (layout_of labels (numbers code) seed).start
+  marked s h =
+      let l = laid s h in
+      marks 0x0801 bytes from to labels seed program code follows l limit_by 192 (routines 0x0801 bytes from to labels seed code l) (prologue 0x0801 bytes from to labels seed code l)
+
+  pub image_marks : (start : ℕ → ℕ) → Agree (layout_of labels (numbers code) seed).start start (numbers program) → MarksLines 0x0801 bytes program seed start
+  image_marks start agree = told_so (layout_of labels (numbers code) seed).start start 0x0801 bytes program seed agree
+      (record {
+        begins = λ s h. (marked s h).begins s h;
+        pace = λ text answers m. 192 + (m * (longest code + 1) * (24 + (limit_by (length text) + limit_by (length text))) + 1);
+        comes = λ s h. (marked s h).comes s h;
+      })

@@ -1,9 +1,9 @@
 -- The code of a program that is laid from the block's address lies where its labels say.
-use Rattle.std.proofs.Common.{Option, ◌≡◌, ◌⊎◌, ℕ, suc, ◌+◌, ◌-◌, ◌≤◌, ◌<◌, Bool, true, false, ◌||◌, List, [], ◌∷◌, ◌++◌, length, replicate, refl, sym, ap, ◌∙◌, subst, inl, inr, arith, Some, None}
+use Rattle.std.proofs.Common.{Option, ◌≡◌, ◌⊎◌, ℕ, suc, ◌+◌, ◌-◌, ◌≤◌, ◌<◌, Bool, true, false, ◌||◌, List, [], ◌∷◌, ◌++◌, length, replicate, refl, sym, ap, ◌∙◌, subst, inl, inr, arith, Some}
 use Rattle.std.specs.Prelude.{if◌then◌else◌, nat_eq, unwrap_or}
 use Rattle.std.proofs.lemmas.Bool.{eq-eqb, eqb-true}
 use Rattle.tb_asm.specs.declared.names.Name.{Name}
-use Rattle.tb_asm.specs.Layout.{Entry, bytes_from, labels_from, image_of, size}
+use Rattle.tb_asm.specs.Layout.{Entry, labels_from, image_of, size}
 use Rattle.tb_reaching.specs.View.{Part, Bytes}
 use Rattle.tb_reaching.proofs.Parts.{bytes_front}
 use Rattle.tb_syntax.specs.Source.{Numbered, numbers}
@@ -17,7 +17,7 @@ use Rattle.tb_templates.specs.Program.{line_code, lines_code, past_code, find_co
 use Rattle.tb_templates.proofs.Fitting.{size_append}
 use Rattle.tb_templates.proofs.Ordered.{RisingFrom}
 use Rattle.tb_templates.proofs.Taken.{block_size, program_labels}
-use Rattle.tb_keeping.specs.Layout.{Lies, place_of, layout_of, place_at, IsClear, IsBelowAll, AreRising, LineLies, Laid}
+use Rattle.tb_keeping.specs.Layout.{Lies, place_of, layout_of, place_at, IsBelowAll, AreRising, Laid}
 use Rattle.tb_keeping.proofs.Laying.{front, back}
 use Rattle.tb_keeping.proofs.Numbers.{start_of_line}
 

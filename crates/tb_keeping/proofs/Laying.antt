@@ -191,6 +191,14 @@ module _ (labels : List (Name × ℕ)) (seed : ℕ) (code : Part) (sc : slots.Sl
         low,
       )
 
+  -- a line's code begins by its number
+  first_bytes : (n : ℕ) (is : List slots.Instr) → LineLies labels code ns seed n is → Bytes code (place_of labels (target.Line n)) (flat (constant n LINE))
+  unfolding opcodes.encoded
+  first_bytes n is l =
+      let at = place_of labels (target.Line n) in
+      let own = product.here (target.Line n) ∷ product.constant n LINE in
+      subst (Bytes code at) (constant_bytes labels ns seed at n LINE l.small) (front code labels at own (program.rest_code ns seed n 0 is) l.lies).bytes
+
   -- a whole line
   line_lies : (n : ℕ) (is : List slots.Instr) → LineLies labels code ns seed n is → resolved.LineLies laid_layout within code n (place_of labels (target.Line n)) is
   unfolding opcodes.encoded
@@ -202,7 +210,7 @@ module _ (labels : List (Name × ℕ)) (seed : ℕ) (code : Part) (sc : slots.Sl
       let first = front code labels at own rest whole in
       let long : at + size own ≡ at + 10 = omega arith in
       let later : Lies code labels (at + 10) rest = subst (λ p. Lies code labels p rest) long (back code labels at own rest whole) in
-      let bytes : Bytes code at (flat (constant n LINE)) = subst (Bytes code at) (constant_bytes labels ns seed at n LINE l.small) first.bytes in
+      let bytes : Bytes code at (flat (constant n LINE)) = first_bytes n is l in
       let total : size (own ++ rest) ≡ 10 + size rest = size_append own rest in
       let clear : (from : ℕ) → at < from → (m : ℕ) → has_line ns m ≡ true → (place_of labels (target.Line m) < from) ⊎ (at + size (own ++ rest) ≤ place_of labels (target.Line m)) = λ from h m e. ⊎_elim (λ q. inl (omega (arith, q, h))) (λ q. inr q) (l.clear m e) in
       let tail = 0x8d ∷ LINE % 256 ∷ LINE / 256 ∷ 0xa9 ∷ n / 256 ∷ 0x8d ∷ (LINE + 1) % 256 ∷ (LINE + 1) / 256 ∷ [] in
@@ -249,6 +257,21 @@ module _ (labels : List (Name × ℕ)) (seed : ℕ) (code : Part) (sc : slots.Sl
   -- fault 7's code is no line's start, and a line's label is one
   pub past_apart : is_start laid_layout.start laid_layout.numbers laid_layout.past ≡ false
   past_apart = none_between (place_of labels target.Past) (place_of labels target.Past + size (program.past_code ns)) laid.past_clear (place_of labels target.Past) (omega arith) (omega arith)
+
+  -- no two lines begin at one place
+  pub distinct : (n m : ℕ) → has_line ns n ≡ true → has_line ns m ≡ true → laid_layout.start n ≡ laid_layout.start m → n ≡ m
+  distinct n m e q same =
+      let l = line_of n e in
+      let k = line_of m q in
+      let place : place_of labels (target.Line n) ≡ place_of labels (target.Line m) = start_of_line labels ns seed n e ∙ same ∙ sym (start_of_line labels ns seed m q) in
+      let h : Bytes code (place_of labels (target.Line m)) (flat (constant n LINE)) = subst (λ p. Bytes code p (flat (constant n LINE))) place (first_bytes n l.0 l.1) in
+      let g = first_bytes m k.0 k.1 in
+      let low = same_byte (n % 256) (m % 256) (sym h.1.0 ∙ g.1.0) in
+      let high = same_byte (n / 256) (m / 256) (sym h.1.1.1.1.1.1.0 ∙ g.1.1.1.1.1.1.0) in
+      omega (arith, low, high, l.1.small, k.1.small)
+    where
+      same_byte : (a b : ℕ) → Some a ≡ Some b → a ≡ b
+      same_byte a b e = cc
 
   pub content_of : (n : ℕ) → has_line ns n ≡ true → (is : List slots.Instr) × (content_at sc n ≡ Some is)
   content_of n e = has_content sc n e

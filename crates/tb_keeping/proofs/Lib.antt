@@ -22,6 +22,7 @@ pub mod Whole
 pub mod Placed
 pub mod LineStarts
 pub mod Marks
+pub mod Told
 pub mod Callees
 pub mod Served
 pub mod Imaged

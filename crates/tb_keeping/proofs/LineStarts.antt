@@ -63,7 +63,7 @@ not_inner ly code a b e = go (is_start ly.start ly.numbers a) e
     go false e = refl
 
 -- a line of the code begins at its start
-found_start : (start : ℕ → ℕ) (sc : SlotCode) (n : ℕ) (is : List Instr) → content_at sc n ≡ Some is → is_start start (numbers sc) (start n) ≡ true
+pub found_start : (start : ℕ → ℕ) (sc : SlotCode) (n : ℕ) (is : List Instr) → content_at sc n ≡ Some is → is_start start (numbers sc) (start n) ≡ true
 found_start start [] n is e = cc
 found_start start (l ∷ ls) n is e = go (eqb l.number n) refl (found_start start ls n is) e
   where

@@ -21,11 +21,11 @@ use Rattle.tb_routines.specs.Routines.{WordAt}
 use Rattle.tb_keeping.proofs.Starts as lines
 use Rattle.tb_keeping.proofs.Starts.{count}
 use Rattle.tb_keeping.proofs.Joins.{move, IsLawful, is_go, sent, same_goes, same_after, all_are_lawful}
-use Rattle.tb_keeping.proofs.Laying.{laid_out, start_small, past_apart, content_of}
+use Rattle.tb_keeping.proofs.Laying.{laid_out, start_small, past_apart, content_of, distinct}
 use Rattle.tb_keeping.proofs.Placed.{HasLine, at_lines}
 use Rattle.tb_keeping.proofs.Whole as whole
 use Rattle.tb_keeping.proofs.LineStarts as one
-use Rattle.tb_keeping.proofs.LineStarts.{starts}
+use Rattle.tb_keeping.proofs.LineStarts.{starts, found_start}
 
 value_of : (m : ℕ → ℕ) (at w : ℕ) → WordAt m at w → word_in m at ≡ w
 value_of m at w h = omega (arith, h.low, h.high)
@@ -54,26 +54,30 @@ module _ (place : ℕ) (bytes : List ℕ) (from : 0x0800 ≤ place) (to : place 
   abbrev Begun : (s : machine.State) → Starts place bytes s → ℕ → machine.State → Type 0
   Begun s h m t = one.LineBegun place bytes from to ly program sc follows (laid_out labels seed (part_at place bytes) sc laid) (start_small labels seed (part_at place bytes) sc laid) (past_apart labels seed (part_at place bytes) sc laid) (λ k. 24 + (limit k + limit k)) (whole.positive place bytes from to labels seed program sc follows laid limit n routines prologue) n (whole.opening place bytes from to labels seed program sc follows laid limit n routines prologue) (whole.laws place bytes from to labels seed program sc follows laid limit n routines prologue) s h m t
 
-  at_line : (s : machine.State) (h : Starts place bytes s) (es : List Event) → all_lawful es s ≡ true → is_start ly.start (numbers program) (run es s).regs.pc ≡ true → BeginsLine program seed ly.start s (begun ly.start (numbers program) es s) (run es s)
-  at_line s h es l here =
+  pub at_line : (s : machine.State) (h : Starts place bytes s) (es : List Event) → all_lawful es s ≡ true → (number : ℕ) → has_line (numbers program) number ≡ true → (run es s).regs.pc ≡ ly.start number → BeginsLine program seed s (begun ly.start (numbers program) es s) number (run es s)
+  at_line s h es l number has pc =
+      let lined : has_line ly.numbers number ≡ true = ap (λ ns. has_line ns number) follows.same_numbers ∙ has in
+      let list = content_of labels seed (part_at place bytes) sc laid number lined in
+      let here : is_start ly.start ly.numbers (run es s).regs.pc ≡ true = ap (is_start ly.start ly.numbers) pc ∙ found_start ly.start sc number list.0 list.1 in
       let y = lines.run machine.State Event move IsLawful is_go sent (starts ly) es s in
       let same : y ≡ run es s = same_after es s in
-      let now : starts ly y ≡ 1 = ap (starts ly) same ∙ one_at (is_start ly.start ly.numbers (run es s).regs.pc) (ap (λ ns. is_start ly.start ns (run es s).regs.pc) follows.same_numbers ∙ here) in
+      let now : starts ly y ≡ 1 = ap (starts ly) same ∙ one_at (is_start ly.start ly.numbers (run es s).regs.pc) here in
       let b = one.at_line place bytes from to ly program sc follows (laid_out labels seed (part_at place bytes) sc laid) (start_small labels seed (part_at place bytes) sc laid) (past_apart labels seed (part_at place bytes) sc laid) (λ k. 24 + (limit k + limit k)) (whole.positive place bytes from to labels seed program sc follows laid limit n routines prologue) n (whole.opening place bytes from to labels seed program sc follows laid limit n routines prologue) (whole.laws place bytes from to labels seed program sc follows laid limit n routines prologue) s h es (all_are_lawful es s l) now in
       let counted : lines.met machine.State Event move IsLawful is_go sent (starts ly) es s ≡ begun ly.start (numbers program) es s = same_begun ly es s ∙ ap (λ ns. begun ly.start ns es s) follows.same_numbers in
-      subst (λ m. BeginsLine program seed ly.start s m (run es s)) counted
-      (subst (λ t. BeginsLine program seed ly.start s (lines.met machine.State Event move IsLawful is_go sent (starts ly) es s) t) same
+      let met = lines.met machine.State Event move IsLawful is_go sent (starts ly) es s in
+      let there : has_line (numbers program) b.number ≡ true = subst (HasLine (numbers program)) b.at_place (at_lines program seed s.text s.answers met b.state y.sent b.done).here in
+      let which : b.number ≡ number = distinct labels seed (part_at place bytes) sc laid b.number number (ap (λ ns. has_line ns b.number) follows.same_numbers ∙ there) lined (sym b.pc ∙ ap (λ t. t.regs.pc) same ∙ pc) in
+      subst (λ m. BeginsLine program seed s m number (run es s)) counted
+      (subst (λ t. BeginsLine program seed s met number t) same
       (record {
         state = b.state;
-        number = b.number;
         done = b.done;
-        place = b.at_place;
-        pc = b.pc;
+        place = b.at_place ∙ ap At which;
         vars = λ x lt. value_of y.mem _ _ (b.vars x lt);
         notes = value_of y.mem _ _ b.notes;
       }))
 
-  comes : (s : machine.State) (h : Starts place bytes s) (m : ℕ) (state : State) (out : List ℕ) (number : ℕ) → source_run program seed s.text s.answers m ≡ GoesOn state out → state.place ≡ At number → (es : List Event) → all_lawful es s ≡ true → bound (length s.text) m ≤ goes es → LineComes program ly.start s m (bound (length s.text) m) es
+  pub comes : (s : machine.State) (h : Starts place bytes s) (m : ℕ) (state : State) (out : List ℕ) (number : ℕ) → source_run program seed s.text s.answers m ≡ GoesOn state out → state.place ≡ At number → (es : List Event) → all_lawful es s ≡ true → bound (length s.text) m ≤ goes es → LineComes program ly.start s m (bound (length s.text) m) es
   comes s h m state out number done here es l le =
       let has : has_line (numbers program) number ≡ true = subst (HasLine (numbers program)) here (at_lines program seed s.text s.answers m state out done).here in
       let list = content_of labels seed (part_at place bytes) sc laid number (ap (λ ns. has_line ns number) follows.same_numbers ∙ has) in
@@ -86,5 +90,5 @@ module _ (place : ℕ) (bytes : List ℕ) (from : 0x0800 ≤ place) (to : place 
       by (Go k) own front back split few at met = record { front = front; clobber = k; back = back; split = split; few = few; here = at; begun_before = met }
       by (Interrupt ws) own front back split few at met = cc
 
-  pub marks : MarksLines place bytes program seed ly.start
+  abbrev pub marks : MarksLines place bytes program seed ly.start
   marks = record { begins = at_line; pace = λ text answers m. bound (length text) m; comes = comes }

@@ -8,7 +8,7 @@ use Rattle.tb_kernal.specs.Machine.{happens}
 use Rattle.tb_kernal.specs.Runs.{run, all_lawful, goes}
 use Rattle.tb_syntax.specs.Source.{Program, numbers}
 use Rattle.tb_lower.specs.Steps.{GoesOn}
-use Rattle.tb_lower.specs.Control.{At, State}
+use Rattle.tb_lower.specs.Control.{At, State, has_line}
 use Rattle.tb_lower.specs.Meaning.{source_run}
 use Rattle.tb_runtime16.specs.Places.{NOTES}
 use Rattle.tb_templates.specs.Templates.{var_at}
@@ -25,14 +25,12 @@ begun start ns (Interrupt ws ∷ es) s = begun start ns es (happens s (Interrupt
 abbrev pub word_in : (ℕ → ℕ) → ℕ → ℕ
 word_in m at = m at + 256 * m (at + 1)
 
--- a machine t, started as s, is at the start of the line at which the source goes on after m lines: just its output was
--- sent, its variables stand in memory, and the number of its notes
-pub record BeginsLine (program : Program) (seed : ℕ) (start : ℕ → ℕ) (s : machine.State) (m : ℕ) (t : machine.State) : Type 0 where
+-- in a machine t, started as s, the source goes on at this line after m lines: just its output was sent, and its
+-- variables and the number of its notes stand in memory
+pub record BeginsLine (program : Program) (seed : ℕ) (s : machine.State) (m number : ℕ) (t : machine.State) : Type 0 where
   pub state : State
-  pub number : ℕ
   pub done : source_run program seed s.text s.answers m ≡ GoesOn state t.sent
   pub place : state.place ≡ At number
-  pub pc : t.regs.pc ≡ start number
   pub vars : (x : ℕ) → x < 26 → word_in t.mem (var_at x) ≡ slice_index state.vars x
   pub notes : word_in t.mem NOTES ≡ length state.returns
 
@@ -46,10 +44,10 @@ pub record LineComes (program : Program) (start : ℕ → ℕ) (s : machine.Stat
   pub here : is_start start (numbers program) (run front s).regs.pc ≡ true
   pub begun_before : begun start (numbers program) front s ≡ m
 
--- from every start and under every lawful list: a machine at a line's start, m having begun before, begins the line that
--- the source does after m lines; and where the source goes on at a line after m lines, the machine begins one after m
+-- from every start and under every lawful list: at a line's start, m having begun before, the machine begins that line,
+-- and it is the one at which the source goes on after m lines; and where the source goes on at a line after m lines, the machine begins one after m
 -- within a number of Go events that depends on the program, the first RND state, the keyboard and m alone
 pub record MarksLines (place : ℕ) (bytes : List ℕ) (program : Program) (seed : ℕ) (start : ℕ → ℕ) : Type 0 where
-  pub begins : (s : machine.State) → Starts place bytes s → (es : List Event) → all_lawful es s ≡ true → is_start start (numbers program) (run es s).regs.pc ≡ true → BeginsLine program seed start s (begun start (numbers program) es s) (run es s)
+  pub begins : (s : machine.State) → Starts place bytes s → (es : List Event) → all_lawful es s ≡ true → (n : ℕ) → has_line (numbers program) n ≡ true → (run es s).regs.pc ≡ start n → BeginsLine program seed s (begun start (numbers program) es s) n (run es s)
   pub pace : (text answers : List ℕ) (m : ℕ) → ℕ
   pub comes : (s : machine.State) → Starts place bytes s → (m : ℕ) (state : State) (out : List ℕ) (n : ℕ) → source_run program seed s.text s.answers m ≡ GoesOn state out → state.place ≡ At n → (es : List Event) → all_lawful es s ≡ true → pace s.text s.answers m ≤ goes es → LineComes program start s m (pace s.text s.answers m) es

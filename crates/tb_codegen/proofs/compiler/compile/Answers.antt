@@ -12,3 +12,8 @@ pub returns-clause-keeps : goal.returns-clause-keeps
 returns-clause-keeps c =
     let p = lines_of c.in_ok-program.program in
     with_first _ _ c.compile_program.result (λ k h. (p, c.in_ok-program.ensures.found, h)) (c.compile_program.ensures.keeps (made_some _ _ _ _ c.in_ok-program.ensures.found p refl))
+
+pub returns-clause-marks : goal.returns-clause-marks
+returns-clause-marks c =
+    let p = lines_of c.in_ok-program.program in
+    with_first _ _ c.compile_program.result (λ k h. (p, c.in_ok-program.ensures.found, h)) (c.compile_program.ensures.marks (made_some _ _ _ _ c.in_ok-program.ensures.found p refl))

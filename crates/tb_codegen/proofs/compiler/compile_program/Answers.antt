@@ -1,4 +1,4 @@
-use Rattle.std.proofs.Common.{ℕ, ◌≡◌, ◌++◌, ◌≤◌, arith, ap, sym, subst, ◌∙◌, is_some}
+use Rattle.std.proofs.Common.{ℕ, ◌≡◌, ◌++◌, ◌≤◌, arith, ap, sym, subst, ◌∙◌, is_some, map}
 use Rattle.tb_asm.specs.Layout.{address_in, labels_from}
 use Rattle.tb_syntax.specs.Shown.{lines_of}
 use Rattle.tb_syntax.specs.Source.{Program, numbers}
@@ -8,9 +8,10 @@ use Rattle.tb_templates.specs.Labels.{label_of}
 use Rattle.tb_templates.specs.Program.{program_code}
 use Rattle.tb_lower.specs.Cost.{cost}
 use Rattle.tb_lower.specs.Shown.{code_of}
-use Rattle.tb_codegen.specs.Compiled.{AreKnown, starts_in, most}
+use Rattle.tb_codegen.specs.Compiled.{AreKnown, pair_of, starts_in, most}
 use Rattle.tb_codegen.proofs.Small.{are_small, cost_small}
 use Rattle.tb_codegen.proofs.Kept.{file_keeps}
+use Rattle.tb_codegen.proofs.Marked.{file_marks}
 use Rattle.tb_prg.specs.Prg.{header}
 use Rattle.tb_codegen.proofs.Sized.{laid, made}
 use Rattle.tb_codegen.proofs.compiler.compile_program.Goals as goal
@@ -58,3 +59,12 @@ returns-clause-keeps c some =
     (cheap (lines_of c.args.program.now) c.cost-cost.result c.if-cost-gt-MOST.false c.cost-cost.ensures) in
     file_keeps c.args.seed (lines_of c.args.program.now) (code_of c.in_ok-code.code) c.in_ok-write.field-0.items c.ranges.seed.fits some c.in_ok-code.ensures.lowered c.in_ok-code.ensures.follows c.requires.rising l
     (c.in_ok-write.ensures ∙ ap (λ b. header ++ b) c.in_ok-image.ensures.ok.1)
+
+pub returns-clause-marks : goal.returns-clause-marks
+returns-clause-marks c some =
+    let l = laid c.args.seed (lines_of c.args.program.now) (code_of c.in_ok-code.code) c.in_ok-code.ensures.lowered c.requires.stated c.requires.rising c.in_ok-code.ensures.in_range
+    (cheap (lines_of c.args.program.now) c.cost-cost.result c.if-cost-gt-MOST.false c.cost-cost.ensures) in
+    let labels = labels_from PROLOGUE_AT (program_code c.args.seed (code_of c.in_ok-code.code)) in
+    file_marks c.args.seed (lines_of c.args.program.now) (code_of c.in_ok-code.code) c.in_ok-write.field-0.items (map pair_of c.in_ok-line_starts.field-0.items) c.ranges.seed.fits some c.in_ok-code.ensures.lowered c.in_ok-code.ensures.follows c.requires.rising l
+    (c.in_ok-write.ensures ∙ ap (λ b. header ++ b) c.in_ok-image.ensures.ok.1)
+    (c.in_ok-line_starts.ensures ∙ ap (λ k. starts_in c.in_ok-image.image.labels.entries (numbers (code_of k))) c.lines.ensures ∙ ap (λ ls. starts_in ls (numbers (code_of c.in_ok-code.code))) c.in_ok-image.ensures.ok.2)
