@@ -1,12 +1,15 @@
 -- What is delivered of a source.
-use Rattle.std.proofs.Common.{◌≡◌, ℕ, List, [], Option, Result, Ok, Err, refl, subst, sym}
+use Rattle.std.proofs.Common.{◌≡◌, ℕ, List, [], Option, Result, Ok, Err, refl, subst, sym, ◌∙◌}
 use Rattle.tb_lower.specs.declared.missing.Warning.{Warning}
+use Rattle.tb_parser.specs.Files.{Outcome as FileOutcome}
 use Rattle.tb_codegen.specs.declared.errors.CompileError.{CompileError}
 use Rattle.tb_codegen.specs.declared.errors.CompileError.TheVariants.{Source as BadSource, Lower, TooLarge, NoMemory as NoCompilerMemory}
+use Rattle.tb_codegen.specs.Answers.{HasOutcome, Makes as LinesMake, OutcomeAnswer}
+use Rattle.tb_codegen.specs.Compiled.{prg_of}
 use Rattle.tb_driver.specs.Streams.{Reads}
 use Rattle.tb_driver.specs.Outcomes.{Product, Answers, MadeFrom}
 use Rattle.tb_driver.specs.Made.{Makes, Shows}
-use Rattle.tb_driver.specs.Sources.{IsCompiled, stop_of, FromSource}
+use Rattle.tb_driver.specs.Sources.{IsAnswer, IsCompiled, stop_of, FromSource}
 use Rattle.tb_driver.specs.declared.made.Text.{Text}
 use Rattle.tb_driver.specs.declared.made.Stop.{Stop}
 use Rattle.tb_driver.specs.declared.made.Stop.TheVariants.{Refused as StopRefused, NoMemory as StopNoMemory}
@@ -29,6 +32,14 @@ shown makes (Ok text) m x s = subst makes (sym s) m
 shown makes (Err (StopRefused e)) m x s = subst makes (sym s) m
 shown makes (Err StopNoMemory) m x s = absurd s
 
+-- the compiler's refusal, with its promises
+pub refused_so : (seed : ℕ) (source : List ℕ) (e : CompileError) → HasOutcome seed source (Err e)
+    → ((outcome : FileOutcome) → LinesMake source outcome → OutcomeAnswer seed outcome (Err e)) → IsCompiled seed source (Err e)
+refused_so seed source (BadSource e) found only = record { found = found; only = only }
+refused_so seed source (Lower e) found only = record { found = found; only = only }
+refused_so seed source (TooLarge n) found only = record { found = found; only = only }
+refused_so seed source NoCompilerMemory found only = tt
+
 -- what is shown of a refusal comes of its source
 refused_as : (seed : ℕ) (makes : List ℕ → Product → Type 0) (source : List ℕ) (e : CompileError) → IsCompiled seed source (Err e)
     → (x : Product) → Shows (Err (stop_of e)) x → FromSource seed makes [] source x
@@ -42,20 +53,20 @@ pub program_delivered : (seed : ℕ) (makes : List ℕ → Product → Type 0) (
     (file : List ℕ) (made : Result Text Stop) (outcome : Outcome) (old new : Option (List ℕ)) → Reads had input → source ≡ input
     → IsCompiled seed source (Ok program) → file ≡ program.prg.items → Answers (Shows made) outcome old new → Makes (makes file) made
     → Answers (MadeFrom had (FromSource seed makes program.warnings.items)) outcome old new
-program_delivered seed makes had input source program file made outcome old new reads same compiled same_file written m =
-    let answer : Result (List ℕ × List Warning) CompileError = Ok (program.prg.items, program.warnings.items) in
-    let here = subst (λ s. IsCompiled seed s (Ok program)) same compiled in
-    let of_file = subst (λ f. Makes (makes f) made) same_file m in
+program_delivered seed makes had input source program file made outcome old new reads same (c, compiled, of) same_file written m =
+    let here = subst (λ s. IsAnswer seed s (Ok c)) same compiled in
+    let of_file = subst (λ f. Makes (makes f) made) (same_file ∙ of.prg) m in
     answers_as (Shows made) (MadeFrom had (FromSource seed makes program.warnings.items))
-    (λ x s. (input, reads, (answer, here, (refl, shown (makes program.prg.items) made of_file x s)))) outcome old new written
+    (λ x s. (input, reads, (Ok c, here, (of.warnings, shown (makes (prg_of c)) made of_file x s)))) outcome old new written
 
 -- what an engine wrote where there is no program
 pub refusal_delivered : (seed : ℕ) (makes : List ℕ → Product → Type 0) (had : Option (List ℕ)) (input source : List ℕ) (e : CompileError)
-    (warnings : List Warning) (outcome : Outcome) (old new : Option (List ℕ)) → Reads had input → source ≡ input
-    → warnings ≡ [] → IsCompiled seed source (Err e) → Answers (Shows (Err (stop_of e))) outcome old new
+    (stop : Stop) (warnings : List Warning) (delivered outcome : Outcome) (old new : Option (List ℕ)) → Reads had input → source ≡ input
+    → IsCompiled seed source (Err e) → stop ≡ stop_of e → warnings ≡ [] → outcome ≡ delivered → Answers (Shows (Err stop)) delivered old new
     → Answers (MadeFrom had (FromSource seed makes warnings)) outcome old new
-refusal_delivered seed makes had input source e warnings outcome old new reads same none compiled written =
+refusal_delivered seed makes had input source e stop warnings delivered outcome old new reads same compiled stops none ends written =
     let here = subst (λ s. IsCompiled seed s (Err e)) same compiled in
     subst (λ w. Answers (MadeFrom had (FromSource seed makes w)) outcome old new) (sym none)
-    (answers_as (Shows (Err (stop_of e))) (MadeFrom had (FromSource seed makes []))
-    (λ x s. (input, reads, refused_as seed makes input e here x s)) outcome old new written)
+    (subst (λ o. Answers (MadeFrom had (FromSource seed makes [])) o old new) (sym ends)
+    (answers_as (Shows (Err stop)) (MadeFrom had (FromSource seed makes []))
+    (λ x s. (input, reads, refused_as seed makes input e here x (subst (λ t. Shows (Err t) x) stops s))) delivered old new written))

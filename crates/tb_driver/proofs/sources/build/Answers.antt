@@ -13,5 +13,7 @@ returns-in-Ok-compile_source-clause-answers g c =
 
 pub returns-clause-answers : goal.returns-clause-answers
 returns-clause-answers g c =
-    refusal_delivered c.args.seed _ _ _ c.as_slice.result.now c.in-Err-compile_source.error _ _ _ _ c.in-Ok.ensures.whole (search rules)
-    c.new-in-Err-compile_source.ensures.warnings c.in-Err-compile_source.ensures (search rules)
+    refusal_delivered c.args.seed IsFile _ _ c.as_slice.result.now c.in-Err-compile_source.error c.stop_of.result
+    c.new-in-Err-compile_source.result.warnings.items c.deliver-in-Err-compile_source.result c.new-in-Err-compile_source.result.outcome _ _
+    c.in-Ok.ensures.whole (search rules) c.in-Err-compile_source.ensures c.stop_of.ensures c.new-in-Err-compile_source.ensures.warnings
+    c.new-in-Err-compile_source.ensures.outcome c.deliver-in-Err-compile_source.ensures.answers
