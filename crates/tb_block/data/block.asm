@@ -1,0 +1,644 @@
+; The routine block: the machine code that every compiled program shares.
+;
+; It lies at $080D, right behind the BASIC line "10 SYS2061", takes 940 bytes and is the same in every program.
+; The program's own lines begin at $0C00 and call these routines.
+;
+; This text is the source of the bytes that tb_runtime16 holds. The program tb_block assembles it and compares;
+; by hand: tbc asm block.asm block.prg --at 080D. The assembler has no names for numbers, so the name of a data
+; place stands in the comment.
+;
+;
+; ---- Data
+;
+; A word stands low byte first. All these places belong to the program: no ROM writes them.
+;
+;   $00FB  POINTER    word: the byte, the table entry or the note that is looked at
+;   $00FD  SECOND     word: the first table entry that Search still has to look at
+;   $C000  VARS       26 words, the variables A to Z
+;   $C034  COLUMN     byte: bytes sent since the last 13 or the start, modulo 256
+;   $C035  OPEN       byte: 1 where an input line is open, else 0
+;   $C036  SEEDED     byte: 1 where SEED holds an RND state, else 0
+;   $C037  HOME_S     byte: the stack pointer as at the start
+;   $C038  SEED       word: the RND state
+;   $C03A  LINE       word: the number of the line that is executed
+;   $C03C  NOTES      word: how many notes the return list holds, 0 to 500
+;   $C040  SLOTS      16 words, of the lines' code
+;   $C060  HELD       word, of the lines' code
+;   $C062  LEFT       word: first argument
+;   $C064  RIGHT      word: second argument
+;   $C066  RESULT     word: result
+;   $C068  TABLE      word: the line table's address
+;   $C06A  COUNT      word: how many entries the line table has
+;   $C06C  LENGTH     byte: a text's length
+;   $C06D  BYTE       byte: the byte that is sent or was read
+;   $C06E  SCRATCH    18 bytes, up to $C07F
+;   $C100  NOTE_LIST  500 words, one a note
+;
+;
+; ---- Rules
+;
+; A service (CHROUT $FFD2, CHRIN $FFCF, GETIN $FFE4) may leave anything in X, Y and the flags but D, and in A
+; unless it gives a byte there. Between any two instructions an interrupt may rewrite page zero but $FB to $FE,
+; $0200 to $07FF, and the stack at or below the stack pointer. So nothing is kept in a register or a flag over a
+; service, and what is kept in memory stands in the places above, or on the stack above the stack pointer.
+;
+; A routine is called by JSR, with D clear: the prologue clears it, and nothing sets it again. Its arguments are
+; used up unless it says that they stand, and A, X, Y and the flags are worth nothing after it. Of the other data
+; it changes what its head says, and no more.
+;
+; "Stack" is the most that a routine has on the stack below its return address, in bytes. "Time" is the most
+; instructions that it takes, where a service counts as one; this is proved, and so is what each routine does.
+;
+; A fault is JMP FAULT with the fault's number in A, from any depth: it ends the program.
+;
+;
+; ---- Prologue: where SYS begins the program
+;
+; Out:     $C000 to $C036 and $C038 to $C03D are 0 (VARS, COLUMN, OPEN, SEEDED, SEED, LINE, NOTES), HOME_S is S,
+;          D is clear; goes to the first line.
+; Stack:   0.  Time: 192.
+;
+; X runs from $3D down to 0 and is $FF after the last byte, which ends the loop. HOME_S is cleared with the rest
+; and set behind the loop.
+PROLOGUE:
+        CLD                     ; the caller may have left it set
+        LDX #$3D
+        LDA #$00
+CLEAR:
+        STA $C000,X             ; VARS + X
+        DEX
+        BPL CLEAR
+        TSX
+        STX $C037               ; HOME_S
+        JMP $0C00               ; the first line
+
+; ---- Send: sends a byte, and keeps COLUMN
+;
+; In:      A: the byte.
+; Changes: COLUMN: one more, or 0 after a 13.
+; Stack:   0 (CHROUT returns to Send's caller).  Time: 7.
+;
+; Each byte raises COLUMN. For a 13 it is set to $FF before, so that it comes to 0. A is not touched on the way.
+SEND:
+        CMP #$0D
+        BNE SEND1
+        LDX #$FF
+        STX $C034               ; COLUMN
+SEND1:
+        INC $C034               ; COLUMN
+        JMP $FFD2               ; CHROUT
+
+; ---- Multiply: RESULT = LEFT * RIGHT, modulo 65,536, with or without signs
+;
+; In:      LEFT, RIGHT.
+; Out:     RESULT.
+; Changes: SCRATCH: the rounds left.
+; Stack:   0.  Time: 240.
+;
+; Sixteen rounds, one for each bit of RIGHT from the lowest on: the bit is shifted out, and where it is 1, LEFT
+; is added to RESULT. LEFT doubles at the end of each round.
+MULTIPLY:
+        LDA #$00
+        STA $C066               ; RESULT = 0
+        STA $C067
+        LDA #$10
+        STA $C06E               ; SCRATCH: 16 rounds
+MULTIPLY1:
+        LSR $C065               ; RIGHT = RIGHT / 2, its lowest bit in C
+        ROR $C064
+        BCC MULTIPLY2
+        CLC
+        LDA $C066               ; RESULT = RESULT + LEFT
+        ADC $C062
+        STA $C066
+        LDA $C067
+        ADC $C063
+        STA $C067
+MULTIPLY2:
+        ASL $C062               ; LEFT = LEFT * 2
+        ROL $C063
+        DEC $C06E               ; SCRATCH
+        BNE MULTIPLY1
+        RTS
+
+; ---- Divide: RESULT = LEFT / RIGHT, signed, truncated toward zero
+;
+; In:      LEFT, RIGHT.
+; Out:     RESULT. -32768 / -1 gives -32768, which is its own negative at each step.
+; Fault:   2 where RIGHT is 0.
+; Stack:   6.  Time: 316, and 6 up to the fault.
+DIVIDE:
+        LDA $C064               ; RIGHT
+        BNE DIVIDEGO
+        LDA $C065
+        BNE DIVIDEGO
+        LDA #$02
+        JMP FAULT
+DIVIDEGO:
+        JSR DIVIDESIGNED
+        LDA $C062               ; RESULT = LEFT
+        STA $C066
+        LDA $C063
+        STA $C067
+        RTS
+
+; LEFT = LEFT / RIGHT, signed. A negative LEFT is turned before and after; the second turn is what follows.
+DIVIDESIGNED:
+        LDA $C063               ; LEFT's sign
+        BPL DIVIDEBY
+        JSR NEGATELEFT
+        JSR DIVIDEBY
+
+; LEFT = -LEFT. Time: 9. Stack: 0.
+NEGATELEFT:
+        LDX #$00
+
+; The word at LEFT + X is turned: X is 0 for LEFT, 2 for RIGHT. A and the flags are used, X stands.
+NEGATE:
+        SEC
+        LDA #$00
+        SBC $C062,X             ; LEFT + X
+        STA $C062,X
+        LDA #$00
+        SBC $C063,X
+        STA $C063,X
+        RTS
+
+; LEFT = LEFT / RIGHT, where LEFT is at most 32768 and RIGHT is signed. A negative RIGHT is turned before, and
+; the quotient behind.
+DIVIDEBY:
+        LDA $C065               ; RIGHT's sign
+        BPL UNSIGNED
+        LDX #$02
+        JSR NEGATE
+        JSR UNSIGNED
+        JMP NEGATELEFT
+
+; LEFT = LEFT / RIGHT, RESULT = the remainder, without signs, for RIGHT from 1 to 32768. RIGHT stands.
+; Time: 261. Stack: 0. Divide, Random and Number end here or come by.
+;
+; Sixteen rounds, counted in Y (no service is called). Each moves the highest bit of LEFT into the remainder in
+; RESULT, and where RIGHT goes into that, takes RIGHT off and sets the lowest bit of LEFT, which the shift left 0.
+; So the quotient comes into LEFT from below as the dividend leaves it above. The remainder is less than RIGHT
+; before a round, so at most 65535 when it is doubled.
+UNSIGNED:
+        LDA #$00
+        STA $C066               ; RESULT = 0
+        STA $C067
+        LDY #$10
+UNSIGNEDNEXT:
+        ASL $C062               ; LEFT
+        ROL $C063
+        ROL $C066               ; RESULT
+        ROL $C067
+        LDA $C066               ; RESULT - RIGHT in A and X, C clear where RIGHT is greater
+        SEC
+        SBC $C064
+        TAX
+        LDA $C067
+        SBC $C065
+        BCC UNSIGNEDLESS
+        STX $C066
+        STA $C067
+        INC $C062               ; LEFT
+UNSIGNEDLESS:
+        DEY
+        BNE UNSIGNEDNEXT
+        RTS
+
+; ---- Random: RESULT = the next RND state modulo LEFT
+;
+; In:      LEFT: the bound. RIGHT: the first RND state, used only where SEEDED is 0.
+; Out:     RESULT: 0 to LEFT - 1.
+; Changes: SEED: 25173 times the state before, plus 13849, modulo 65,536; SEEDED: 1; SCRATCH.
+; Fault:   3 where LEFT is below 1.
+; Stack:   4.  Time: 540, and 7 up to the fault.
+;
+; The bound waits on the stack while Multiply has LEFT and RIGHT. The state is read without a sign, as Unsigned
+; does, and the remainder that Unsigned leaves in RESULT is the answer.
+RANDOM:
+        LDA $C063               ; LEFT
+        BMI RANDOMBAD
+        BNE RANDOMGO
+        LDA $C062
+        BNE RANDOMGO
+RANDOMBAD:
+        LDA #$03
+        JMP FAULT
+RANDOMGO:
+        LDA $C036               ; SEEDED
+        BEQ RANDOMFIRST
+        LDA $C038               ; RIGHT = SEED
+        STA $C064
+        LDA $C039
+        STA $C065
+RANDOMFIRST:
+        LDA #$01
+        STA $C036               ; SEEDED
+        LDA $C062               ; the bound
+        PHA
+        LDA $C063
+        PHA
+        LDA #$55                ; LEFT = 25173
+        STA $C062
+        LDA #$62
+        STA $C063
+        JSR MULTIPLY
+        CLC
+        LDA $C066               ; SEED = LEFT = RESULT + 13849
+        ADC #$19
+        STA $C038
+        STA $C062
+        LDA $C067
+        ADC #$36
+        STA $C039
+        STA $C063
+        PLA                     ; RIGHT = the bound
+        STA $C065
+        PLA
+        STA $C064
+        JMP UNSIGNED
+
+; ---- Number: sends a signed word in decimal, as short as can be
+;
+; In:      LEFT.
+; Changes: RIGHT, RESULT, COLUMN.
+; Stack:   7.  Time: 1440.
+;
+; A negative word sends its sign and is turned. Then it is divided by 10 until nothing is left: the remainders
+; are the digits, the last one first, so they wait on the stack, over a 0 that says where they end. There they
+; stand above the stack pointer, where no interrupt writes.
+NUMBER:
+        LDA $C063               ; LEFT's sign
+        BPL NUMBERPLAIN
+        LDA #$2D                ; -
+        JSR SEND
+        JSR NEGATELEFT
+NUMBERPLAIN:
+        LDA #$0A                ; RIGHT = 10
+        STA $C064
+        LDA #$00
+        STA $C065
+        PHA                     ; behind the last digit
+NUMBERNEXT:
+        JSR UNSIGNED
+        LDA $C066               ; RESULT: a digit
+        CLC
+        ADC #$30
+        PHA
+        LDA $C062               ; LEFT: what is left of the word
+        BNE NUMBERNEXT
+        LDA $C063
+        BNE NUMBERNEXT
+NUMBERSEND:
+        PLA
+        BEQ NUMBEREND
+        JSR SEND
+        JMP NUMBERSEND
+NUMBEREND:
+        RTS
+
+; ---- Text: sends bytes of the program
+;
+; In:      POINTER: where they stand. LENGTH: how many, 0 to 255.
+; Changes: COLUMN.
+; Stack:   2.  Time: 15 for each byte, and 3.
+;
+; Y is 0 for each byte anew, and POINTER goes on instead: Y would not outlast CHROUT.
+TEXT:
+        LDA $C06C               ; LENGTH
+        BEQ TEXT3
+TEXT1:
+        LDY #$00
+        LDA ($FB),Y             ; POINTER
+        JSR SEND
+        INC $FB                 ; POINTER = POINTER + 1
+        BNE TEXT2
+        INC $FC
+TEXT2:
+        DEC $C06C               ; LENGTH
+        BNE TEXT1
+TEXT3:
+        RTS
+
+; ---- Zone: sends spaces up to the next column that 8 divides, at least one
+;
+; Changes: COLUMN.
+; Stack:   2.  Time: 97.
+ZONE:
+        LDA #$20
+        JSR SEND
+        LDA $C034               ; COLUMN modulo 8
+        AND #$07
+        BNE ZONE
+        RTS
+
+; ---- Input: one variable's turn of INPUT
+;
+; Out:     RESULT: the number's value modulo 65,536.
+; Changes: OPEN, COLUMN; BYTE; LEFT; SCRATCH: what was seen of the number, 0 nothing, 1 a sign, 2 digits;
+;          SCRATCH + 1: the sign's byte, or 0.
+; Fault:   6 at a byte that is not the number's next.
+; Waits:   in CHRIN where the keyboard's text ends.
+; Stack:   2.  Time: 45 for each byte of the keyboard's text, and 1569 (with the fault).
+;
+; Where no line is open, "? " is sent and a line is open. Spaces are passed over, before, inside and behind the
+; number. It ends at a comma, which leaves the line open for the next turn, or at a 13, which is sent and closes
+; the line; at least one digit must have come. Each digit makes RESULT 10 times itself and the digit. A bad byte
+; sends nothing of its own.
+INPUT:
+        LDA $C035               ; OPEN
+        BNE INPUT1
+        LDA #$3F                ; ?
+        JSR SEND
+        LDA #$20
+        JSR SEND
+        LDA #$01
+        STA $C035               ; OPEN
+INPUT1:
+        LDA #$00
+        STA $C066               ; RESULT = 0
+        STA $C067
+        STA $C06E               ; SCRATCH: nothing seen
+        STA $C06F               ; SCRATCH + 1: no sign
+READ:
+        JSR $FFCF               ; CHRIN
+        STA $C06D               ; BYTE
+        CMP #$20
+        BEQ READ
+        CMP #$2B                ; +
+        BEQ SIGN
+        CMP #$2D                ; -
+        BEQ SIGN
+        CMP #$2C                ; ,
+        BEQ DONE
+        CMP #$0D
+        BEQ DONE
+        SEC
+        SBC #$30
+        STA $C06D               ; BYTE: the digit's value, where it is one
+        CMP #$0A
+        BCS BAD
+        LDA $C066               ; LEFT = RESULT
+        STA $C062
+        LDA $C067
+        STA $C063
+        ASL $C066               ; RESULT = RESULT * 4
+        ROL $C067
+        ASL $C066
+        ROL $C067
+        CLC
+        LDA $C066               ; RESULT = RESULT + LEFT: 5 times
+        ADC $C062
+        STA $C066
+        LDA $C067
+        ADC $C063
+        STA $C067
+        ASL $C066               ; 10 times
+        ROL $C067
+        CLC
+        LDA $C066               ; RESULT = RESULT + BYTE
+        ADC $C06D
+        STA $C066
+        LDA $C067
+        ADC #$00
+        STA $C067
+        LDA #$02
+        STA $C06E               ; SCRATCH: digits seen
+        JMP READ
+SIGN:
+        LDA $C06E               ; SCRATCH: a sign stands only before all else
+        BNE BAD
+        LDA $C06D               ; SCRATCH + 1 = BYTE
+        STA $C06F
+        LDA #$01
+        STA $C06E               ; SCRATCH: a sign seen
+        JMP READ
+BAD:
+        LDA #$06
+        JMP FAULT
+DONE:
+        LDA $C06E               ; SCRATCH: digits must have come
+        CMP #$02
+        BNE BAD
+        LDA $C06F               ; SCRATCH + 1
+        CMP #$2D
+        BNE DONE1
+        SEC
+        LDA #$00                ; RESULT = -RESULT
+        SBC $C066
+        STA $C066
+        LDA #$00
+        SBC $C067
+        STA $C067
+DONE1:
+        LDA $C06D               ; BYTE
+        CMP #$2C
+        BEQ DONE2
+        LDA #$00
+        STA $C035               ; OPEN
+        LDA #$0D
+        JMP SEND
+DONE2:
+        RTS
+
+; ---- Search: RESULT = the code address of the line with the number LEFT
+;
+; In:      LEFT: the number, which stands. TABLE, COUNT: the line table, of at least one entry; TABLE stands.
+; Out:     RESULT.
+; Changes: POINTER, SECOND; SCRATCH: a word, HALF.
+; Fault:   1 where no entry has the number.
+; Stack:   0.  Time: 600, whatever the table that memory holds.
+;
+; An entry is four bytes, a line's number and its code's address, and the numbers rise. All is compared without
+; signs, so a negative LEFT is above every number.
+;
+; By halving: the entry is, if anywhere, among the COUNT entries from SECOND on. HALF is COUNT / 2. While it is
+; not 0, the entry HALF further on is probed: where LEFT is below its number, the HALF entries before it are
+; left, else those from it on, COUNT - HALF. The last entry is compared by itself.
+SEARCH:
+        LDA $C068               ; SECOND = TABLE
+        STA $FD
+        LDA $C069
+        STA $FE
+SEARCH_PROBE:
+        LDA $C06B               ; HALF = COUNT / 2, its high byte in POINTER + 1 too
+        LSR A
+        STA $C06F
+        STA $FC
+        LDA $C06A
+        ROR A
+        STA $C06E
+        BNE SEARCH_SPLIT
+        LDA $C06F
+        BEQ SEARCH_LAST
+SEARCH_SPLIT:
+        LDA $C06E               ; POINTER + 1 and A: HALF * 4
+        ASL A
+        ROL $FC
+        ASL A
+        ROL $FC
+        CLC
+        ADC $FD                 ; POINTER = SECOND + HALF * 4
+        STA $FB
+        LDA $FC
+        ADC $FE
+        STA $FC
+        LDY #$00
+        LDA $C062               ; LEFT - the number there: C clear where LEFT is below
+        CMP ($FB),Y
+        INY
+        LDA $C063
+        SBC ($FB),Y
+        BCC SEARCH_LOWER
+        LDA $FB                 ; SECOND = POINTER
+        STA $FD
+        LDA $FC
+        STA $FE
+        SEC
+        LDA $C06A               ; COUNT = COUNT - HALF
+        SBC $C06E
+        STA $C06A
+        LDA $C06B
+        SBC $C06F
+        STA $C06B
+        JMP SEARCH_PROBE
+SEARCH_LOWER:
+        LDA $C06E               ; COUNT = HALF
+        STA $C06A
+        LDA $C06F
+        STA $C06B
+        JMP SEARCH_PROBE
+SEARCH_LAST:
+        LDY #$00
+        LDA ($FD),Y             ; the number
+        CMP $C062               ; LEFT
+        BNE SEARCH_NONE
+        INY
+        LDA ($FD),Y
+        CMP $C063
+        BNE SEARCH_NONE
+        INY
+        LDA ($FD),Y             ; RESULT = the address
+        STA $C066
+        INY
+        LDA ($FD),Y
+        STA $C067
+        RTS
+SEARCH_NONE:
+        LDA #$01
+        JMP FAULT
+
+; ---- Push: one more note on the return list
+;
+; In:      LEFT: the note, a code address; it stands.
+; Changes: NOTES, one more; NOTE_LIST; POINTER. RESULT stands: GOSUB keeps its target there.
+; Fault:   4 where NOTES is 500 already.
+; Stack:   2.  Time: 25, and 7 up to the fault.
+PUSH:
+        LDA $C03C               ; NOTES - 500: C set where it is not negative
+        CMP #$F4
+        LDA $C03D
+        SBC #$01
+        BCS PUSH_FULL
+        JSR NOTE_PLACE
+        INC $C03C               ; NOTES = NOTES + 1
+        BNE PUSH_STORE
+        INC $C03D
+PUSH_STORE:
+        LDY #$00
+        LDA $C062               ; LEFT
+        STA ($FB),Y
+        INY
+        LDA $C063
+        STA ($FB),Y
+        RTS
+PUSH_FULL:
+        LDA #$04
+        JMP FAULT
+
+; POINTER = NOTE_LIST + 2 * NOTES: where the next note goes. NOTE_LIST is $C100, so its low byte adds nothing.
+NOTE_PLACE:
+        LDA $C03C               ; NOTES
+        ASL A
+        STA $FB
+        LDA $C03D
+        ROL A
+        CLC
+        ADC #$C1
+        STA $FC
+        RTS
+
+; ---- Pop: RESULT = the newest note, which leaves the return list
+;
+; Out:     RESULT.
+; Changes: NOTES, one less; POINTER.
+; Fault:   5 where NOTES is 0.
+; Stack:   2.  Time: 23, and 6 up to the fault.
+POP:
+        LDA $C03C               ; NOTES = NOTES - 1, borrowing where the low byte is 0
+        BNE POP_LOW
+        LDA $C03D
+        BEQ POP_NONE
+        DEC $C03D
+POP_LOW:
+        DEC $C03C
+        JSR NOTE_PLACE
+        LDY #$00
+        LDA ($FB),Y
+        STA $C066               ; RESULT
+        INY
+        LDA ($FB),Y
+        STA $C067
+        RTS
+POP_NONE:
+        LDA #$05
+        JMP FAULT
+
+; ---- Fault: ends the program with the text of a fault: 13, !k AT n, 13
+;
+; In:      A: the fault's number k, 0 to 7. LINE: n. HOME_S.
+; Stack:   9 below the start's.  Time: 1522.
+;
+; Goes back to where SYS came from, from any depth: S is set to what it was at the start, and the last CHROUT
+; returns there. Nothing is called that could fault.
+FAULT:
+        CLC
+        ADC #$30
+        STA $C06D               ; BYTE: k as a digit
+        LDX $C037               ; HOME_S
+        TXS
+        LDA #$0D
+        JSR SEND
+        LDA #$21                ; !
+        JSR SEND
+        LDA $C06D               ; BYTE
+        JSR SEND
+        LDA #$20
+        JSR SEND
+        LDA #$41                ; A
+        JSR SEND
+        LDA #$54                ; T
+        JSR SEND
+        LDA #$20
+        JSR SEND
+        LDA $C03A               ; LEFT = LINE
+        STA $C062
+        LDA $C03B
+        STA $C063
+        JSR NUMBER
+        LDA #$0D
+        JMP SEND
+
+; ---- Poll: one look at the keyboard
+;
+; Fault:   0 where the STOP key is down, that is where GETIN gives 3; any other answer is lost.
+; Stack:   2.  Time: 5, and 1528 with the fault.
+POLL:
+        JSR $FFE4               ; GETIN
+        CMP #$03
+        BEQ POLL1
+        RTS
+POLL1:
+        LDA #$00
+        JMP FAULT

@@ -1,0 +1,170 @@
+//! Input against the definition's own rows and against the interpreter of sources.
+use crate::setup::{Call, Called, End, ROMS, plain};
+use std::alloc::Global;
+use std::test::Fail;
+use tb_kernal::Machine;
+use tb_lower::{RunEnd, SourceRun, run_source};
+use tb_runtime16::{COLUMN, LINE, OPEN, RESULT, Routine};
+use tb_syntax::{Program, Statement};
+use tb_words::{Letter, next_seed};
+
+// One turn at line 10, where a line is open or not.
+fn turn(alloc: Global, rom: Option<u16>, keys: &[u8], is_open: bool) -> Result<Called, Fail> {
+    Call {
+        words: &[(LINE, 10)],
+        bytes: &[(OPEN, u8::from(is_open)), (COLUMN, 0)],
+        keys,
+        ..plain(Routine::Input)
+    }
+    .run(alloc, rom)
+}
+
+// What a row wants.
+enum Want {
+    // a value, and whether the line is then open
+    Got(u16, bool),
+    // fault 6
+    Bad,
+    // to wait
+    Dry,
+}
+
+// Keys, how many of them are left, and what comes of them.
+const ROWS: [(&[u8], usize, Want); 31] = [
+    (b"5\r", 0, Want::Got(5, false)),
+    (b"5,6\r", 2, Want::Got(5, true)),
+    (b"5,", 0, Want::Got(5, true)),
+    (b"0\r1", 1, Want::Got(0, false)),
+    (b"007\r", 0, Want::Got(7, false)),
+    (b"+7\r", 0, Want::Got(7, false)),
+    (b"-4\r", 0, Want::Got(65532, false)),
+    (b" - 1 2 ,", 0, Want::Got(65524, true)),
+    (b"  1 2  \r", 0, Want::Got(12, false)),
+    (b"32767\r", 0, Want::Got(32767, false)),
+    (b"-32768\r", 0, Want::Got(32768, false)),
+    (b"65535\r", 0, Want::Got(65535, false)),
+    (b"65536\r", 0, Want::Got(0, false)),
+    (b"70000,0\r", 2, Want::Got(4464, true)),
+    (b"123456789\r", 0, Want::Got(52501, false)),
+    (b"X", 0, Want::Bad),
+    (b"\r5\r", 2, Want::Bad),
+    (b",5\r", 2, Want::Bad),
+    (b"-\r", 0, Want::Bad),
+    (b"+,", 0, Want::Bad),
+    (b"--1\r", 2, Want::Bad),
+    (b"+-1\r", 2, Want::Bad),
+    (b"1-\r", 1, Want::Bad),
+    (b"1+\r", 1, Want::Bad),
+    (b"1/", 0, Want::Bad),
+    (b"1:", 0, Want::Bad),
+    (b"\n", 0, Want::Bad),
+    (b"1a\r", 1, Want::Bad),
+    (b"", 0, Want::Dry),
+    (b"- ", 0, Want::Dry),
+    (b"12", 0, Want::Dry),
+];
+
+// Whether a turn came to what a row wants.
+fn is_wanted(alloc: Global, called: &Called, is_open: bool, want: &Want) -> Result<bool, Fail> {
+    let prompt = if is_open { b"".as_slice() } else { b"? " };
+    match want {
+        Want::Got(value, stays) => {
+            let mut sent = Vec::from_slice(alloc, prompt)?;
+            if !stays {
+                sent.push(b'\r')?;
+            }
+            Ok(
+                called.sends(&sent)?
+                    && called.word(RESULT)? == *value
+                    && called.byte(OPEN)? == u8::from(*stays),
+            )
+        }
+        Want::Bad => called.faults(alloc, prompt, 6),
+        Want::Dry => Ok(called.end == End::Waits && called.machine.sent() == prompt),
+    }
+}
+
+#[test]
+fn turns_of_input(rt: HostRuntime) -> Result<(), Fail> {
+    for rom in ROMS {
+        for is_open in [false, true] {
+            for (keys, left, want) in &ROWS {
+                let called = turn(rt.alloc(), rom, keys, is_open)?;
+                assert!(rt; is_wanted(rt.alloc(), &called, is_open, want)?, "{keys:?}");
+                assert_eq!(rt; called.machine.keys_left().0.len(), *left, "{keys:?}");
+            }
+        }
+    }
+    Ok(())
+}
+
+// The keys of a seed: at most 12, of those that mean something and one that doesn't.
+fn noisy_keys(alloc: Global, seed: u16) -> Result<Vec<u8>, Fail> {
+    let signs = b"0123456789  +-,,,\r\rX";
+    let mut keys = Vec::new(alloc);
+    let mut seed = seed;
+    for _ in 0..seed.to_be_bytes()[0] % 13 {
+        seed = next_seed(seed);
+        let index = usize::from(seed.to_be_bytes()[0]) % signs.len();
+        keys.push(signs[index])?;
+    }
+    Ok(keys)
+}
+
+// 10 INPUT A,B,C by the interpreter of sources.
+fn by_source(alloc: Global, keys: &[u8]) -> Result<SourceRun, Fail> {
+    let mut letters = Vec::new(alloc);
+    for name in [b'A', b'B', b'C'] {
+        letters.push(Letter::read(name).ok_or("no letter")?)?;
+    }
+    let mut program = Program::new(alloc);
+    program.set(10, Statement::Input(letters))?;
+    Ok(run_source(alloc, &program, 1, keys, &[], 1)?)
+}
+
+// Up to three turns one behind the other: what was sent, the values, and how the last one ended.
+fn by_turns(
+    alloc: Global,
+    rom: Option<u16>,
+    keys: &[u8],
+) -> Result<(Vec<u8>, [u16; 3], End), Fail> {
+    let mut sent = Vec::new(alloc);
+    let mut values = [0; 3];
+    let mut left = Vec::from_slice(alloc, keys)?;
+    let mut is_open = false;
+    for value in &mut values {
+        let called = turn(alloc, rom, &left, is_open)?;
+        sent.extend_from_slice(called.machine.sent())?;
+        if called.end != End::Back {
+            return Ok((sent, values, called.end));
+        }
+        *value = called.word(RESULT)?;
+        is_open = called.byte(OPEN)? == 1;
+        left = Vec::from_slice(alloc, called.machine.keys_left().0)?;
+    }
+    Ok((sent, values, End::Back))
+}
+
+#[test]
+fn turns_are_the_sources(rt: HostRuntime) -> Result<(), Fail> {
+    for rom in ROMS {
+        let mut seed = 1;
+        for _ in 0..2000 {
+            seed = next_seed(seed);
+            let keys = noisy_keys(rt.alloc(), seed)?;
+            let run = by_source(rt.alloc(), &keys)?;
+            let (sent, values, end) = by_turns(rt.alloc(), rom, &keys)?;
+            let ends = match run.end {
+                RunEnd::Waits => end == End::Waits,
+                RunEnd::Faulted => end == End::Home,
+                _ => end == End::Back,
+            };
+            assert!(rt; ends, "{keys:?}");
+            assert_eq!(rt; sent.as_slice(), run.sent.as_slice(), "{keys:?}");
+            if end == End::Back {
+                assert_eq!(rt; values.as_slice(), &run.variables[..3], "{keys:?}");
+            }
+        }
+    }
+    Ok(())
+}

@@ -1,0 +1,92 @@
+//! Search in line tables of several sizes.
+use crate::setup::{Call, Called, PROGRAM, ROMS, plain};
+use std::alloc::Global;
+use std::test::Fail;
+use tb_runtime16::{COUNT, LEFT, LINE, Routine, TABLE};
+use tb_words::next_seed;
+
+// The address of a line's code, if it is one of 10, 20, up to ten times the count.
+fn address_of(number: u16, count: u16) -> Option<u16> {
+    (number % 10 == 0 && (1..=count).contains(&(number / 10))).then(|| next_seed(number))
+}
+
+// The table of those lines.
+fn table(alloc: Global, count: u16) -> Result<Vec<u8>, Fail> {
+    let mut bytes = Vec::new(alloc);
+    for number in (10..=u16::MAX).step_by(10).take(usize::from(count)) {
+        bytes.extend_from_slice(&number.to_le_bytes())?;
+        bytes.extend_from_slice(&next_seed(number).to_le_bytes())?;
+    }
+    Ok(bytes)
+}
+
+fn search(
+    alloc: Global,
+    rom: Option<u16>,
+    table: &[u8],
+    count: u16,
+    number: u16,
+) -> Result<Called, Fail> {
+    Call {
+        words: &[(LEFT, number), (TABLE, PROGRAM), (COUNT, count), (LINE, 10)],
+        loaded: table,
+        ..plain(Routine::Search)
+    }
+    .run(alloc, rom)
+}
+
+// Whether Search gives a number's address, or faults where it has none.
+fn is_found(
+    alloc: Global,
+    rom: Option<u16>,
+    table: &[u8],
+    count: u16,
+    number: u16,
+) -> Result<bool, Fail> {
+    let called = search(alloc, rom, table, count, number)?;
+    match address_of(number, count) {
+        Some(address) => Ok(called.gives(address)? && called.word(LEFT)? == number),
+        None => called.faults(alloc, b"", 1),
+    }
+}
+
+#[test]
+fn search_finds_what_is_there(rt: HostRuntime) -> Result<(), Fail> {
+    for count in [1, 2, 3, 4, 5, 8, 1000] {
+        let table = table(rt.alloc(), count)?;
+        for rom in ROMS {
+            for number in (0..=10 * count + 10).step_by(10) {
+                // each line, below and above it, and numbers that share one byte with it
+                for number in [
+                    number,
+                    number.wrapping_sub(1),
+                    number + 1,
+                    number + 256,
+                    number.wrapping_sub(256),
+                ] {
+                    assert!(rt;
+                        is_found(rt.alloc(), rom, &table, count, number)?,
+                        "{number} among {count}"
+                    );
+                }
+            }
+        }
+    }
+    Ok(())
+}
+
+#[test]
+fn numbers_without_sign(rt: HostRuntime) -> Result<(), Fail> {
+    for count in [1, 2, 3, 1000] {
+        let table = table(rt.alloc(), count)?;
+        for rom in ROMS {
+            for number in [32767, 32768, 32778, 65280, 65535] {
+                assert!(rt;
+                    is_found(rt.alloc(), rom, &table, count, number)?,
+                    "{number}"
+                );
+            }
+        }
+    }
+    Ok(())
+}

@@ -1,0 +1,228 @@
+//! What the rows share: a call of one routine, and what it came to.
+use std::alloc::Global;
+use std::test::Fail;
+use tb_cpu::{Flags, Regs};
+use tb_kernal::{Keyboard, Machine, Quiet, Rude, Status, run};
+use tb_memmap::{Closed, Memory};
+use tb_runtime16::{BLOCK_AT, HOME_S, LINE, RESULT, Routine, VARS, block, entry};
+use tb_words::next_seed;
+
+/// Where the caller lies, which is where a program's lines begin.
+pub const CALLER: u16 = 0x0c00;
+
+/// Where a row's own bytes may lie: a text, a line table.
+pub const PROGRAM: u16 = 0x0d00;
+
+/// What stands in each data place that a call doesn't set.
+pub const NOISE: u8 = 0xa5;
+
+// A place of no routine, which the caller raises from 0 to 1 behind the call.
+const BACK: u16 = 0xc0ff;
+
+// More events than any routine takes here.
+const LIMIT: u64 = 100_000;
+
+/// The ROM that a row runs beside: quiet, or rude from a seed.
+pub const ROMS: [Option<u16>; 3] = [None, Some(1), Some(7)];
+
+/// A call of a routine.
+#[derive(Clone, Copy)]
+pub struct Call<'a> {
+    pub routine: Routine,
+    pub a: u8,
+    /// Words that stand in data places.
+    pub words: &'a [(u16, u16)],
+    /// Bytes that stand in data places.
+    pub bytes: &'a [(u16, u8)],
+    /// What stands from an address on.
+    pub loaded: &'a [u8],
+    pub at: u16,
+    pub keys: &'a [u8],
+    pub answers: &'a [u8],
+}
+
+/// A call on noise alone.
+pub fn plain(routine: Routine) -> Call<'static> {
+    Call {
+        routine,
+        a: NOISE,
+        words: &[],
+        bytes: &[],
+        loaded: &[],
+        at: PROGRAM,
+        keys: &[],
+        answers: &[],
+    }
+}
+
+/// How a call ended.
+#[derive(Clone, Copy, PartialEq, Eq, Debug, Drop)]
+pub enum End {
+    /// Back at the caller.
+    Back,
+    /// The program has ended.
+    Home,
+    /// In CHRIN, for a key.
+    Waits,
+}
+
+/// What a call came to.
+#[derive(Drop)]
+pub struct Called {
+    pub end: End,
+    pub machine: Machine,
+}
+
+impl Call<'_> {
+    /// Runs the call beside a ROM.
+    pub fn run(&self, alloc: Global, rom: Option<u16>) -> Result<Called, Fail> {
+        let mut machine = self.machine(alloc)?;
+        let status = run_beside(&mut machine, rom)?;
+        let is_back = machine.memory().read(BACK)? == 1;
+        let end = match status {
+            Status::Returned if is_back => End::Back,
+            Status::Returned => End::Home,
+            Status::Waits => End::Waits,
+            _ => return Err("neither returned nor waiting".into()),
+        };
+        Ok(Called { end, machine })
+    }
+
+    // The machine before the call: registers and flags are noise, but D is clear.
+    fn machine(&self, alloc: Global) -> Result<Machine, Fail> {
+        let keyboard = Keyboard {
+            text: Vec::from_slice(alloc, self.keys)?,
+            answers: Vec::from_slice(alloc, self.answers)?,
+        };
+        let regs = Regs {
+            a: self.a,
+            ..noisy_regs(CALLER, 0xf0, false)
+        };
+        Ok(
+            Machine::enter(alloc, self.memory(alloc)?, regs, keyboard)
+                .ok()
+                .ok_or("no machine")?,
+        )
+    }
+
+    fn memory(&self, alloc: Global) -> Result<Memory, Fail> {
+        let mut memory = memory_with_block(alloc, 0xf0)?;
+        let [low, high] = entry(self.routine).to_le_bytes();
+        // JSR the routine, INC BACK, RTS
+        memory.load(CALLER, &[0x20, low, high, 0xee, 0xff, 0xc0, 0x60])?;
+        memory.write(BACK, 0)?;
+        memory.write(HOME_S, 0xf0)?;
+        for &(place, word) in self.words {
+            memory.load(place, &word.to_le_bytes())?;
+        }
+        for &(place, byte) in self.bytes {
+            memory.write(place, byte)?;
+        }
+        memory.load(self.at, self.loaded)?;
+        Ok(memory)
+    }
+}
+
+/// Runs a machine until it has returned, went wrong or waits.
+pub fn run_beside(machine: &mut Machine, rom: Option<u16>) -> Result<Status, Fail> {
+    Ok(match rom {
+        None => run(machine, &mut Quiet, LIMIT)?,
+        Some(seed) => run(machine, &mut Rude::new(seed), LIMIT)?,
+    })
+}
+
+/// A memory with the block, noise from $C000 on, and a return to $A100 above S.
+pub fn memory_with_block(alloc: Global, s: u8) -> Result<Memory, Fail> {
+    let mut memory = Memory::new(alloc)?;
+    memory.load(BLOCK_AT, block())?;
+    memory.load(VARS, &[NOISE; 256])?;
+    memory.load(u16::from_le_bytes([s, 1]).saturating_add(1), &[0xff, 0xa0])?;
+    Ok(memory)
+}
+
+/// Registers of which only PC, S and D are set.
+pub fn noisy_regs(pc: u16, s: u8, d: bool) -> Regs {
+    let flags = Flags {
+        n: true,
+        v: true,
+        d,
+        i: true,
+        z: true,
+        c: true,
+    };
+    Regs {
+        a: NOISE,
+        x: NOISE,
+        y: NOISE,
+        s,
+        pc,
+        flags,
+    }
+}
+
+impl Called {
+    /// The byte at a place.
+    pub fn byte(&self, place: u16) -> Result<u8, Closed> {
+        self.machine.memory().read(place)
+    }
+
+    /// The word at a place.
+    pub fn word(&self, place: u16) -> Result<u16, Closed> {
+        let low = self.byte(place)?;
+        let high = self.byte(place.saturating_add(1))?;
+        Ok(u16::from_le_bytes([low, high]))
+    }
+
+    /// Whether the call came back with this word as its result and sent nothing.
+    pub fn gives(&self, word: u16) -> Result<bool, Closed> {
+        Ok(self.sends(b"")? && self.word(RESULT)? == word)
+    }
+
+    /// Whether the call came back and sent this.
+    pub fn sends(&self, text: &[u8]) -> Result<bool, Closed> {
+        Ok(self.end == End::Back && self.machine.sent() == text && self.keeps()?)
+    }
+
+    /// Whether the call sent this and then a fault's text, and the program has ended.
+    pub fn faults(&self, alloc: Global, before: &[u8], fault: u8) -> Result<bool, Fail> {
+        let line = self.word(LINE)?;
+        let mut text = Vec::from_slice(alloc, before)?;
+        text.extend_from_slice(format!(in alloc; "\r!{fault} AT {line}\r")?.as_bytes())?;
+        Ok(self.end == End::Home && self.machine.sent() == text.as_slice() && self.keeps()?)
+    }
+
+    /// Whether the places that no routine changes are as they were: variables, slots, the held word and the stack
+    /// pointer's.
+    pub fn keeps(&self) -> Result<bool, Closed> {
+        for place in (0xc000..0xc034u16).chain(0xc040..0xc062) {
+            if self.byte(place)? != NOISE {
+                return Ok(false);
+            }
+        }
+        Ok(self.byte(HOME_S)? == 0xf0)
+    }
+}
+
+/// Words at the edges.
+pub const EDGES: [u16; 24] = [
+    0, 1, 2, 3, 7, 9, 10, 11, 127, 128, 255, 256, 257, 1000, 10000, 32766, 32767, 32768, 32769,
+    55536, 65280, 65526, 65534, 65535,
+];
+
+/// Pairs of words: all of the edges, and so many more from a seed.
+pub fn pairs(alloc: Global, more: usize) -> Result<Vec<(u16, u16)>, Fail> {
+    let mut pairs = Vec::new(alloc);
+    for left in EDGES {
+        for right in EDGES {
+            pairs.push((left, right))?;
+        }
+    }
+    let mut seed = 1;
+    for _ in 0..more {
+        let left = next_seed(seed);
+        seed = next_seed(left);
+        // the seed's low bits alternate
+        pairs.push((left, seed.swap_bytes()))?;
+    }
+    Ok(pairs)
+}
