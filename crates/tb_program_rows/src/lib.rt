@@ -1,5 +1,5 @@
-//! Worked rows of compiled programs, as tests. The crate has nothing else: a crate with tests is proved twice, so the
-//! crates that they test have none.
+//! Rows of the compiler, its engines and the stepper, as tests. The crate has nothing else: a crate with tests is proved
+//! twice, so the crates that they test have none.
 #![tactic(auto)]
 
 #[cfg(test)]
@@ -11,8 +11,6 @@ mod examples;
 #[cfg(test)]
 mod refusing;
 #[cfg(test)]
-mod running;
-#[cfg(test)]
-mod setup;
+mod sources;
 #[cfg(test)]
 mod stepper;
