@@ -2,7 +2,7 @@
 # Measures `tbc build` beside `cc65 -O -t c64` of Debian's cc65 on the same statements, each from the start of its
 # process to its end, and prints the processor time of both, and what part of cc65's tbc takes.
 #
-#   tools/measure_compiler.sh [ROUNDS]          default: 100 rounds; needs cc65
+#   tools/measure_compiler.sh [ROUNDS]          default: 40 rounds; needs cc65
 #   tools/measure_compiler.sh --instructions    instructions of this processor in place of time; needs valgrind too
 #
 # 200 mixed lines are about the most that a program may cost. Of 1,000 such lines tbc does all but lay the code, and
@@ -59,7 +59,7 @@ write_mixed mixed1000 1000 10
 write_mixed joint1000 1000 1000
 write_cheap cheap1000 1000
 
-rounds=${1:-100}
+rounds=${1:-40}
 unit=ms
 if [ "$rounds" = --instructions ]; then
     needs valgrind

@@ -27,9 +27,10 @@ timed() { # NAME WORD..: appends the microseconds that a command takes to NAME.u
 median() { sort -n "$1.us" | awk '{ round[NR] = $1 } END { print round[int((NR + 1) / 2)] }'; }
 
 processor_time() { # ROUNDS WORD..: the milliseconds of processor time that a command takes, in the mean; other load hardly counts
-    local rounds=$1 round TIMEFORMAT='%3U %3S'
+    local rounds=$1 TIMEFORMAT='%3U %3S'
     shift
-    { time for ((round = 0; round < rounds; round++)); do "$@" >/dev/null 2>&1 || true; done; } 2>&1 |
+    seq "$rounds" >rounds
+    { time xargs -I ROUND "$@" <rounds >/dev/null 2>&1 || true; } 2>&1 |
         awk -v rounds="$rounds" '{ printf "%.4f\n", ($1 + $2) * 1000 / rounds }'
 }
 
