@@ -2,14 +2,9 @@
 # Times `tbc asm` on a text of 5,000 instructions and `tbc dis` on 8,000 bytes beside ca65 and da65 of Debian's cc65,
 # each from the start of its process to its end. Prints the median of the rounds in milliseconds, and the ratios.
 # Usage: tools/measure_assembler.sh [ROUNDS]
-set -eu
+. "$(dirname "${BASH_SOURCE[0]}")/setup.sh"
+needs ca65 da65
 rounds=${1:-101}
-root=$(cd "$(dirname "$0")/.." && pwd)
-tbc=$root/crates/tbc/out/tbc
-[ -x "$tbc" ] || { echo "build the program first: ./tbc --build" >&2; exit 1; }
-work=$(mktemp -d)
-trap 'rm -rf "$work"' EXIT
-cd "$work"
 
 # Ten instructions a label, in the syntax that both assemblers read.
 for ((i = 1; i <= 500; i++)); do
@@ -20,22 +15,13 @@ done >text.s
 head -c 8002 text.prg >listed.prg
 tail -c +3 listed.prg >listed.bin
 
-now() { printf '%s' "${EPOCHREALTIME/[.,]/}"; }
-timed() { # FILE WORD..: appends the microseconds that a command takes to a file
-    local file=$1 began
-    shift
-    began=$(now)
-    "$@" >/dev/null
-    echo $(($(now) - began)) >>"$file"
-}
 for ((i = 0; i < rounds; i++)); do
-    timed asm.us "$tbc" asm text.s out.prg --at 1000
-    timed ca65.us ca65 text.s -o out.o
-    timed dis.us "$tbc" dis listed.prg
-    timed da65.us da65 --start-addr 4096 listed.bin -o out.txt
+    timed asm "$tbc" asm text.s out.prg --at 1000
+    timed ca65 ca65 text.s -o out.o
+    timed dis "$tbc" dis listed.prg
+    timed da65 da65 --start-addr 4096 listed.bin -o out.txt
 done
 
-median() { sort -n "$1.us" | sed -n "$(((rounds + 1) / 2))p"; }
 show() { # OURS THEIRS WHAT
     awk -v a="$(median "$1")" -v b="$(median "$2")" -v what="$3" -v ours="tbc $1" -v theirs="$2" \
         'BEGIN { printf "%s: %s %.2f ms, %s %.2f ms, ratio %.2f\n", what, ours, a / 1000, theirs, b / 1000, a / b }'

@@ -1,14 +1,10 @@
 #!/usr/bin/env bash
-# Runs each command of the proved program with the first, the second, .. growth of its memory refused, until a run
+# Runs each command of the built program with the first, the second, .. growth of its memory refused, until a run
 # meets no refusal. Each run must end with status 4, `tbc: out of memory` and nothing written, or answer exactly what
 # the command answers with ample memory. The refusing malloc is preloaded, so this needs a C compiler (cc) and glibc.
-set -eu
-root=$(cd "$(dirname "$0")/.." && pwd)
-tbc=$root/crates/tbc/out/tbc
-[ -x "$tbc" ] || { echo "build the program first: ./tbc --build" >&2; exit 1; }
-work=$(mktemp -d)
-trap 'rm -rf "$work"' EXIT
-cd "$work"
+. "$(dirname "${BASH_SOURCE[0]}")/setup.sh"
+needs cc
+with_step=no # yes: runs `tbc step` too
 
 cc -shared -fPIC -O1 -fno-builtin -o refuse.so -x c - <<'C'
 /* Refuses the growth whose number REFUSE gives, counted from 1, and notes on descriptor 9 that it came. */
@@ -36,61 +32,101 @@ void *calloc(unsigned long n, unsigned long m) { return refuses() ? 0 : __libc_c
 void *realloc(void *p, unsigned long n) { return refuses() ? 0 : __libc_realloc(p, n); }
 C
 
+answer() { # GROWTH WORD..: a call with that growth refused, with none for 0; leaves status, said, shown and out.prg
+    local growth=$1
+    shift
+    status=0
+    rm -f out.prg said shown refused
+    REFUSE=$growth LD_PRELOAD=$work/refuse.so "$tbc" "$@" <commands >shown 2>said 9>refused || status=$?
+}
+
+same_made() { if [ -e made.wanted ]; then cmp -s out.prg made.wanted; else [ ! -e out.prg ]; fi; }
+
+rows=0
+runs=0
+failed=0
+check() { # WORD..: a command of the program
+    local growth wanted want=0 again=0
+    rows=$((rows + 1))
+    answer 0 "$@"
+    wanted=$status
+    rm -f made.wanted
+    mv said said.wanted
+    mv shown shown.wanted
+    [ ! -f out.prg ] || mv out.prg made.wanted
+    for ((growth = 1; growth < 100000; growth++)); do
+        answer "$growth" "$@"
+        runs=$((runs + 1))
+        if [ "$status" = "$wanted" ] && cmp -s said said.wanted && cmp -s shown shown.wanted && same_made; then
+            again=$((again + 1))
+        elif [ "$status" = 4 ] && [ "$(<said)" = "tbc: out of memory" ] && [ ! -s shown ] && [ ! -e out.prg ]; then
+            want=$((want + 1))
+        else
+            echo "tbc $*: another answer at growth $growth: status $status, $(head -c 80 said)" >&2
+            failed=$((failed + 1))
+        fi
+        [ -s refused ] || break
+    done
+    echo "tbc $*: status $wanted; $want times out of memory, $again times its answer"
+}
+
+: >commands
 printf '\001\010\013\010\012\000\2362061\000\000\000\251H\040\322\377\251\015\040\322\377\140' >hello.prg
 printf '\000\300\251\005\215\040\320\140' >wrong.prg
 printf '\000\300\040\317\377\040\322\377\114\000\300' >echo.prg
 printf 'L:\nLDA #<L\nBNE L\nJSR $FFD2\n.word L ; end\n.byte $01,$02\n' >text.s
 printf 'LDA #5\n' >bad.s
 printf 'JMP M\n' >unknown.s
+printf '10 PRINT "HELLO"\n20 END\n' >hello.bas
+printf '10 REM ALL\n20 INPUT A,B\n30 LET C=-A*(B+2)/3\n40 IF C<=A THEN GOSUB 80\n50 IF A<>B PR "X",C;RND(6)\n60 GOTO 90\n80 RETURN\n90 GOTO 95\n' >all.bas
+printf '10 PRINT 1\n20 PRINT (1\n' >bad.bas
+printf '10 A=1+(1+(1+(1+(1+(1+(1+(1+(1+(1+(1+(1+(1+(1+(1+(1+1)))))))))))))))\n' >deep.bas
+seq -f "%g $(printf 'IFA=A%.0s' {1..49})END" 5 >large.bas
+printf '10\n' >empty.bas
 
-answer() { # WORD..: leaves out, err, made and the status of a run
-    local status=0
-    rm -f made.prg
-    "$@" >out 2>err || status=$?
-    echo "$status" >status
-    [ -f made.prg ] || : >made.prg
-}
-
-failed=0
-rows=0
-runs=0
-check() { # WORD..: a command of the program
-    local n want=0 again=0
-    rows=$((rows + 1))
-    answer "$tbc" "$@"
-    for it in out err made.prg status; do mv "$it" "$it.wanted"; done
-    for ((n = 1; n < 100000; n++)); do
-        : >refused
-        answer env REFUSE="$n" LD_PRELOAD=./refuse.so "$tbc" "$@" 9>refused
-        runs=$((runs + 1))
-        if cmp -s out out.wanted && cmp -s err err.wanted && cmp -s made.prg made.prg.wanted && cmp -s status status.wanted; then
-            again=$((again + 1))
-        elif [ "$(cat status)" = 4 ] && [ ! -s out ] && [ ! -s made.prg ] && [ "$(cat err)" = "tbc: out of memory" ]; then
-            want=$((want + 1))
-        else
-            echo "tbc $*: another answer at growth $n: status $(cat status), $(head -c 80 err)" >&2
-            failed=$((failed + 1))
-        fi
-        [ -s refused ] || break
-    done
-    echo "tbc $*: $n runs, $want times out of memory, $again times its answer"
-}
-
+check build hello.bas out.prg
+check build all.bas out.prg --seed 7
+check build bad.bas out.prg
+check build deep.bas out.prg
+check build large.bas out.prg
+check build empty.bas out.prg
+check build nowhere.bas out.prg
+check build hello.bas nowhere/out.prg
+check run hello.bas
+check run all.bas --keys 332c350d --rude 1
+check run all.bas --keys 332c350d --limit 900
+check run all.bas --keys 33
+check run all.bas --keys 58
+check run hello.bas --answers 03
+check run bad.bas
+check run nowhere.bas
 check run --prg hello.prg
 check run --prg hello.prg --rude 1
 check run --prg wrong.prg
 check run --prg echo.prg --keys 3132330d
 check run --prg nowhere.prg
 check run --prg hello.prg --keys 0
+check run --prg hello.prg --limit 0
 check dis hello.prg
 check dis bad.s
-check asm text.s made.prg --at c000
-check asm bad.s made.prg --at c000
-check asm unknown.s made.prg --at c000
-check asm text.s made.prg --at c00
+check asm text.s out.prg --at c000
+check asm bad.s out.prg --at c000
+check asm unknown.s out.prg --at c000
+check asm text.s out.prg --at c00
 check --version
 check --help
-check run --prg hello.prg --limit 0
+check run --help
 check
+
+step_rows() {
+    printf 's\nb\nb\ng 30\nv A\ne A*2-1\ne 1/0\ne RND(2)\ne A+\nx\nd\ng 20\nq\n' >commands
+    check step all.bas --keys 332c350d
+    check step hello.bas --limit 3
+    check step bad.bas
+    check step nowhere.bas
+    check step hello.bas --keys 0
+}
+[ $with_step = no ] || step_rows
+
 echo "$rows commands, $runs runs, $failed with another answer"
 [ "$failed" = 0 ]

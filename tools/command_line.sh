@@ -1,0 +1,193 @@
+#!/usr/bin/env bash
+# Tries the built program as a user does: every exit status and every text on standard error at least once, but for
+# want of memory (tools/refused_growth.sh). OUT must be written where the status is 0, and else be what it was.
+# Prints what differs, and then ends with status 1.
+. "$(dirname "${BASH_SOURCE[0]}")/setup.sh"
+with_step=no # yes: tries `tbc step` too
+
+rows=0
+failed=0
+from=/dev/null
+to=shown
+row() { # STATUS SAID SHOWN WORD..: SAID and SHOWN are patterns of standard error and output, without the last line end
+    local status=0 made=new wanted=$1 said=$2 shown=$3 wanted_made=old
+    shift 3
+    case $wanted:${1:-} in 0:build | 0:asm) wanted_made=new ;; esac
+    rows=$((rows + 1))
+    printf old | tee old.prg >out.prg
+    : >shown
+    "$tbc" "$@" <"$from" >"$to" 2>said || status=$?
+    ! cmp -s old.prg out.prg || made=old
+    [[ $status == "$wanted" && $(<said) == $said && $(<shown) == $shown && $made == "$wanted_made" ]] && return
+    failed=$((failed + 1))
+    printf 'tbc %s\n  status %s, wanted %s\n  said %q, wanted %q\n  shown %q, wanted %q\n  OUT is %s, wanted %s\n' \
+        "$*" "$status" "$wanted" "$(<said)" "$said" "$(<shown)" "$shown" "$made" "$wanted_made"
+}
+
+file() { printf '%b' "$2" >"$1"; } # NAME TEXT
+
+each() { # STATUS FILE WORD..: a row for each line 'SAID|TEXT' of standard input, where FILE holds TEXT
+    local status=$1 name=$2 said text
+    shift 2
+    while IFS='|' read -r said text; do
+        file "$name" "$text"
+        row "$status" "tbc: $said" '' "$@"
+    done
+}
+
+file hello.bas '10 PRINT "HELLO"\n20 END\n'
+file wait.bas '10 PRINT "A"\n20 INPUT A\n30 PRINT A*2\n'
+file forever.bas '10 PRINT "A"\n20 GOTO 20\n'
+file warn.bas '10 PRINT "A"\n20 GOTO 30\n'
+file both.bas '10 GOSUB 10\n20 GOSUB 300\n30 GOTO 400\n'
+file ask.bas '10 INPUT A\n20 GOTO 30\n'
+file routine.s 'LDA #$48\nJSR $FFD2\nRTS\n'
+file routine.prg '\x00\xc0\xa9\x48\x20\xd2\xff\x60'
+mkdir folder
+
+# What is done
+row 0 '' '' build hello.bas out.prg
+row 0 '' '' build hello.bas out.prg --seed 65535
+row 0 '' HELLO run hello.bas
+row 0 '' HELLO run hello.bas --rude 7
+row 0 '' $'A\n? \n42\n\n!7 AT 30' run wait.bas --keys 32310D
+row 0 '' $'\n!0 AT 10' run hello.bas --answers 03
+row 0 '' H run --prg routine.prg
+row 0 '' '' asm routine.s out.prg --at c000
+row 0 '' $'LDA #$48 ; C000\nJSR $FFD2 ; C002\nRTS ; C005' dis routine.prg
+row 0 '' 'tbc 1.0.0' --version
+row 0 '' 'Compiles Tiny BASIC*Usage: tbc *' --help
+row 0 '' '*Usage: tbc run *SOURCE*--prg*' run --help
+
+# Warnings stand before anything else
+row 0 'tbc: warning: line 20: no line 30' '' build warn.bas out.prg
+row 0 'tbc: warning: line 20: no line 30' $'A\n\n!1 AT 20' run warn.bas
+row 5 $'tbc: warning: line 20: no line 300\ntbc: warning: line 30: no line 400\ntbc: step limit' '' run both.bas --limit 300
+row 6 $'tbc: warning: line 20: no line 30\ntbc: waits for a key' '\? ' run ask.bas
+
+# Refused sources, by each command that takes one
+{ printf '1 PRINT "A"\n' && seq -f '%g END' 2 1050; } >large.bas
+printf '10 REM %0249d\n' 0 >long.bas
+refused_sources() { # WORD..: the words of a command, SOURCE in place of the file
+    row 1 'tbc: 1:256: line too long' '' "${@/SOURCE/long.bas}"
+    row 1 'tbc: program too large (37889 bytes)' '' "${@/SOURCE/large.bas}"
+    each 1 bad.bas "${@/SOURCE/bad.bas}" <<'END'
+3:7: bad byte|10 END\n\n20 A=1\x7f
+1:1: no line number|PRINT
+2:2: bad line number|10 END\n 32768 END\n
+1:1: bad line number|0 END
+1:4: not compiled|10 RUN
+2:7: syntax|10 END\r20 LET\r
+1:10: number too large|10 PRINT 65536
+empty program|
+empty program|10 END\n10\n
+line 20: expression too deep|10 END\n20 A=1+(1+(1+(1+(1+(1+(1+(1+(1+(1+(1+(1+(1+(1+(1+(1+1)))))))))))))))
+END
+}
+refused_sources build SOURCE out.prg
+refused_sources run SOURCE
+
+# Refused texts and PRG files
+each 1 bad.s asm bad.s out.prg --at 1000 <<'END'
+text line 3|RTS\n\nLDA 5
+item 1: no such mode|RTS\nSTA #$05
+item 0: unknown label|JMP M
+item 2: label twice|L:\nRTS\nL:
+item 0: branch out of range|BNE $1082
+item 0: indirect at page end|JMP ($12FF)
+END
+row 1 'tbc: item 1: runs past the end' '' asm routine.s out.prg --at fffd
+each 1 bad.prg run --prg bad.prg <<'END'
+not a PRG: too short|\x01
+not a PRG: runs past the end|\xff\xff\x60\x60
+not a PRG: not RAM|\x00\xd0\x60
+END
+each 1 bad.prg dis bad.prg <<'END'
+not a PRG: too short|\x01
+not a PRG: runs past the end|\xff\xff\x60\x60
+END
+
+# The words. Key lists and addresses are looked at before any file is opened
+row 2 'tbc: bad key list' '' run nowhere.bas --keys 0
+row 2 'tbc: bad key list' '' run nowhere.bas --answers 0g
+row 2 'tbc: bad address' '' asm nowhere.s out.prg --at c00
+row 2 'tbc: bad address' '' asm nowhere.s out.prg --at c0000
+row 2 'tbc: bad address' '' asm nowhere.s out.prg --at wxyz
+row 2 'tbc: an argument is not UTF-8' '' run $'\xff'
+row 2 'error: *' ''
+row 2 'error: *' '' jump
+row 2 'error: *' '' build hello.bas
+row 2 'error: *' '' build hello.bas out.prg --seed 65536
+row 2 'error: *' '' run
+row 2 'error: *' '' run hello.bas --prg routine.prg
+row 2 'error: *' '' run hello.bas --limit 0
+row 2 'error: *' '' run hello.bas --limit 1000000001
+row 2 'error: *' '' run hello.bas --rude -1
+row 2 'error: *' '' asm routine.s out.prg
+row 2 'error: *' '' dis
+row 2 'error: *' '' step
+
+# Files
+head -c 1048576 /dev/zero | tr '\0' ' ' >most.bas
+{ cat most.bas && printf ' '; } >more.bas
+row 1 'tbc: empty program' '' build most.bas out.prg
+for name in more.bas nowhere.bas folder; do
+    row 3 'tbc: read fault' '' build $name out.prg
+    row 3 'tbc: read fault' '' run $name
+    row 3 'tbc: read fault' '' run --prg $name
+    row 3 'tbc: read fault' '' asm $name out.prg --at c000
+    row 3 'tbc: read fault' '' dis $name
+done
+for name in /dev/full nowhere/out.prg folder; do
+    row 3 'tbc: write fault' '' build hello.bas $name
+    row 3 'tbc: write fault' '' asm routine.s $name --at c000
+done
+to=/dev/full
+row 3 'tbc: write fault' '' run hello.bas
+row 3 'tbc: write fault' '' run --prg routine.prg
+row 3 'tbc: write fault' '' dis routine.prg
+row 3 'tbc: write fault' '' --help
+row 3 'tbc: write fault' '' --version
+to=shown
+
+# Runs that end otherwise
+row 5 'tbc: step limit' A run forever.bas
+row 6 'tbc: waits for a key' $'A\n\\? ' run wait.bas
+row 6 'tbc: waits for a key' $'A\n\\? ' run wait.bas --keys 3132
+each 7 wrong.prg run --prg wrong.prg <<'END'
+wrong: unknown opcode at C000|\x00\xc0\x02
+wrong: bad decimal at C003|\x00\xc0\xf8\xa9\x0a\x69\x01
+wrong: closed address D020 at C002|\x00\xc0\xa9\x05\x8d\x20\xd0
+wrong: brk at C001|\x00\xc0\xea\x00
+END
+
+steps() { # SHOWN COMMANDS WORD..
+    local shown=$1
+    file commands "$2"
+    shift 2
+    row 0 '' "$shown" step "$@"
+}
+step_rows() {
+    file let.bas '10 A=5\n20 END\n'
+    from=commands
+    steps $'nothing back\n080E A=00 X=00 Y=00 S=F0 P=30 - running\n080D A=00 X=00 Y=00 S=F0 P=30 - running' 'b\ns\nb\nq\ns\n' let.bas
+    steps $'no such line\nat 20\n5\n9\ndivision by zero\nhas RND\nwhat\\?\nwhat\\?\n0' \
+        'g 15\ng 20\nv A\ne A*2-1\ne 1/0\ne RND(2)\nx\ne A+\nd' let.bas
+    steps limit 'g 20\n' let.bas --limit 3
+    steps returned 'g 10\ng 10\n' let.bas
+    steps waits 'g 30\n' wait.bas
+    steps $'at 30\n12' 'g 30\nv A\n' wait.bas --keys 31320d
+    steps '' '' let.bas
+    file commands ''
+    row 0 'tbc: warning: line 20: no line 30' '' step warn.bas
+    refused_sources step SOURCE
+    row 2 'tbc: bad key list' '' step nowhere.bas --keys 0
+    row 3 'tbc: read fault' '' step nowhere.bas
+    from=folder
+    row 3 'tbc: read fault' '' step let.bas
+    from=/dev/null
+}
+[ $with_step = no ] || step_rows
+
+echo "$rows calls of tbc, $failed other than they should be"
+[ "$failed" = 0 ]

@@ -1,0 +1,55 @@
+#!/usr/bin/env bash
+# Measures compiled programs: the programs of tools/bench, each in BASIC and in C, the C by `cl65 -t sim6502 -Oirs`.
+#
+#   tools/measure_generated.sh [NAME ..]    default: all; needs cc65
+#
+# For each it prints the bytes of the PRG file, the events that it takes on the test machine until it returns (quiet
+# ROM), and the cycles that sim65 counts for it and for the C program. In sim65 CHROUT is an RTS and GETIN says that no
+# key is down; in C a sent byte is a store. Both must print the same.
+. "$(dirname "${BASH_SOURCE[0]}")/setup.sh"
+needs cl65 sim65
+cp "$root"/tools/bench/* .
+
+events() { # PRG: the least limit under which it returns
+    local low=0 high=1000000 middle
+    until "$tbc" run --prg "$1" --limit "$high" >/dev/null 2>&1; do
+        low=$high
+        high=$((high * 10))
+    done
+    while ((high - low > 1)); do
+        middle=$(((low + high) / 2))
+        if "$tbc" run --prg "$1" --limit "$middle" >/dev/null 2>&1; then high=$middle; else low=$middle; fi
+    done
+    echo "$high"
+}
+
+zeros() { head -c "$1" /dev/zero; }
+
+# A program for sim65 from a PRG file: its mark, version 2, a 6502, stack pointer at 0, load address $0801, start $A000.
+# At $A000 stand JSR $080D, LDA #0, JMP to sim65's exit; at $FFD2 RTS; at $FFE4 LDA #0, RTS.
+image() { # PRG
+    printf 'sim65\002\000\000\001\010\000\240'
+    tail -c +3 "$1"
+    zeros $((0xa000 - 0x0801 - $(wc -c <"$1") + 2))
+    printf '\040\015\010\251\000\114\371\377'
+    zeros $((0xffd2 - 0xa008))
+    printf '\140'
+    zeros $((0xffe4 - 0xffd3))
+    printf '\251\000\140'
+}
+
+cycles() { sim65 -c "$1" | awk '/cycles/ { print $1 }'; }
+
+[ $# -gt 0 ] || set -- $(ls *.bas | sed 's/\.bas$//')
+for name; do
+    "$tbc" build "$name.bas" "$name.prg"
+    image "$name.prg" >"$name.sim"
+    cl65 -t sim6502 -Oirs -o "$name.c65" "$name.c"
+    cl65 -t sim6502 -Oirs -DSHOW -o "$name.show" "$name.c"
+    "$tbc" run --prg "$name.prg" >ours
+    sim65 "$name.show" >theirs
+    cmp ours theirs || { echo "$name prints something else in C" >&2; exit 1; }
+    awk -v name="$name" -v bytes="$(wc -c <"$name.prg")" -v events="$(events "$name.prg")" \
+        -v a="$(cycles "$name.sim")" -v b="$(cycles "$name.c65")" \
+        'BEGIN { printf "%s: %d bytes, %d events, %d cycles, cc65 %d cycles, ratio %.2f\n", name, bytes, events, a, b, a / b }'
+done

@@ -1,0 +1,39 @@
+# What the scripts of this folder share: the built program, a folder that goes when they end, and the clock. To be sourced.
+set -eu
+root=$(cd "$(dirname "${BASH_SOURCE[0]}")/.." && pwd)
+tbc=$root/crates/tbc/out/tbc
+[ -x "$tbc" ] || { echo "build the program first: ./tbc --build" >&2; exit 1; }
+work=$(mktemp -d)
+trap 'rm -rf "$work"' EXIT
+cd "$work"
+
+needs() { # COMMAND..: ends the script where one of them is missing
+    local it
+    for it; do
+        command -v "$it" >/dev/null || { echo "$(basename "$0") needs $it" >&2; exit 1; }
+    done
+}
+
+now() { printf '%s' "${EPOCHREALTIME/[.,]/}"; }
+
+timed() { # NAME WORD..: appends the microseconds that a command takes to NAME.us, whatever its status
+    local file=$1.us began
+    shift
+    began=$(now)
+    "$@" >/dev/null 2>&1 || true
+    echo $(($(now) - began)) >>"$file"
+}
+
+median() { sort -n "$1.us" | awk '{ round[NR] = $1 } END { print round[int((NR + 1) / 2)] }'; }
+
+processor_time() { # ROUNDS WORD..: the milliseconds of processor time that a command takes, in the mean; other load hardly counts
+    local rounds=$1 TIMEFORMAT='%3U %3S'
+    shift
+    seq "$rounds" >rounds
+    { time xargs -I ROUND "$@" <rounds >/dev/null 2>&1 || true; } 2>&1 |
+        awk -v rounds="$rounds" '{ printf "%.4f\n", ($1 + $2) * 1000 / rounds }'
+}
+
+counted() { # WORD..: the instructions of this processor that a command takes
+    valgrind --tool=callgrind --callgrind-out-file=/dev/null "$@" 2>&1 >/dev/null | awk '/Collected/ { print $NF }'
+}
