@@ -3,6 +3,7 @@
 # want of memory (tools/refused_growth.sh). OUT must be written where the status is 0, and else be what it was.
 # Prints what differs, and then ends with status 1.
 . "$(dirname "${BASH_SOURCE[0]}")/setup.sh"
+needs_program
 with_step=no # yes: tries `tbc step` too
 
 rows=0
