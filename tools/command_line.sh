@@ -3,6 +3,7 @@
 # want of memory (tools/refused_growth.sh). OUT must be written where the status is 0, and else be what it was.
 # Prints what differs, and then ends with status 1.
 . "$(dirname "${BASH_SOURCE[0]}")/setup.sh"
+needs_program
 with_step=no # yes: tries `tbc step` too
 
 rows=0
@@ -174,7 +175,8 @@ step_rows() {
     steps $'no such line\nat 20\n5\n9\ndivision by zero\nhas RND\nwhat\\?\nwhat\\?\n0' \
         'g 15\ng 20\nv A\ne A*2-1\ne 1/0\ne RND(2)\nx\ne A+\nd' let.bas
     steps limit 'g 20\n' let.bas --limit 3
-    steps returned 'g 10\ng 10\n' let.bas
+    steps $'at 10\nreturned' 'g 10\ng 10\n' let.bas
+    steps $'what\\?\nwhat\\?\nwhat\\?\nwhat\\?\nat 20' 'g 65536\ng 000020\ng  20\nss\ng 00020' let.bas
     steps waits 'g 30\n' wait.bas
     steps $'at 30\n12' 'g 30\nv A\n' wait.bas --keys 31320d
     steps '' '' let.bas
@@ -185,6 +187,11 @@ step_rows() {
     row 3 'tbc: read fault' '' step nowhere.bas
     from=folder
     row 3 'tbc: read fault' '' step let.bas
+    from=commands
+    to=/dev/full
+    file commands 's\n'
+    row 3 'tbc: write fault' '' step let.bas
+    to=shown
     from=/dev/null
 }
 [ $with_step = no ] || step_rows

@@ -3,6 +3,7 @@
 # each from the start of its process to its end. Prints the median of the rounds in milliseconds, and the ratios.
 # Usage: tools/measure_assembler.sh [ROUNDS]
 . "$(dirname "${BASH_SOURCE[0]}")/setup.sh"
+needs_program
 needs ca65 da65
 rounds=${1:-101}
 

@@ -9,6 +9,7 @@
 # then refuses them as too large; 1,000 lines of PRINT and REM compile. cc65's time for a function grows faster than
 # its length, so its statements stand once ten in a function, and once all in one.
 . "$(dirname "${BASH_SOURCE[0]}")/setup.sh"
+needs_program
 needs cc65
 
 write_mixed() { # NAME LINES EACH: NAME.bas, and NAME.c with so many lines in each function

@@ -7,6 +7,7 @@
 # ROM), and the cycles that sim65 counts for it and for the C program. In sim65 CHROUT is an RTS and GETIN says that no
 # key is down; in C a sent byte is a store. Both must print the same.
 . "$(dirname "${BASH_SOURCE[0]}")/setup.sh"
+needs_program
 needs cl65 sim65
 cp "$root"/tools/bench/* .
 
@@ -40,8 +41,9 @@ image() { # PRG
 
 cycles() { sim65 -c "$1" | awk '/cycles/ { print $1 }'; }
 
-[ $# -gt 0 ] || set -- $(ls *.bas | sed 's/\.bas$//')
+[ $# -gt 0 ] || set -- *.bas
 for name; do
+    name=${name%.bas}
     "$tbc" build "$name.bas" "$name.prg"
     image "$name.prg" >"$name.sim"
     cl65 -t sim6502 -Oirs -o "$name.c65" "$name.c"

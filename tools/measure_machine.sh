@@ -6,40 +6,39 @@
 #
 # Each program runs on the machine (`run` with nothing outside) and by the processor's `step` alone.
 # The runs go in turn, and the best round of each counts, since other load only ever makes a round longer.
-set -eu
-
-root=$(cd "$(dirname "$0")/.." && pwd)
+. "$(dirname "${BASH_SOURCE[0]}")/setup.sh"
+needs rt
 speed=$root/crates/tb_speed/out/tb_speed
-work=$(mktemp -d)
-trap 'rm -rf "$work"' EXIT
 
-(cd "$root/crates/tb_speed" && rt run >"$work/build.txt" 2>&1) || { cat "$work/build.txt"; exit 1; }
+(cd "$root/crates/tb_speed" && rt run >"$work/build.txt" 2>&1) || { cat build.txt; exit 1; }
 
 if [ "${1:-}" = --instructions ]; then
+    needs valgrind
     for name in loop sums; do
         for events in 1000000 2000000; do
             for way in events steps; do
                 words=("$name" "$events")
                 [ "$way" = events ] || words+=(steps)
-                valgrind --tool=callgrind --callgrind-out-file="$work/$name" "$speed" "${words[@]}" >/dev/null 2>"$work/$way.$events"
+                counted "$speed" "${words[@]}" >"$way.$events"
             done
         done
         # the difference leaves out what start and end cost
         for way in events steps; do
-            awk -v name="$name" -v way="$way" '/Collected/ { count[NR > FNR] = $NF }
-                END { printf "%s, %s: %.1f instructions each\n", name, way, (count[1] - count[0]) / 1000000 }' "$work/$way.1000000" "$work/$way.2000000"
+            awk -v name="$name" -v way="$way" '{ count[NR] = $1 }
+                END { printf "%s, %s: %.1f instructions each\n", name, way, (count[2] - count[1]) / 1000000 }' "$way.1000000" "$way.2000000"
         done
     done
     exit
 fi
 
+needs sim65
 events=${1:-100000000}
 rounds=${2:-5}
 
 # A program for sim65: its mark, version 2, a 6502, stack pointer at 0, load address and start $0C00, the bytes of tb_speed's program.
 mark='sim65\x02\x00\x00\x00\x0c\x00\x0c'
-printf "$mark"'\xe8\xd0\xfd\xc8\xd0\xfa\xee\x00\xc0\x4c\x00\x0c' >"$work/loop"
-printf "$mark"'\xad\x00\xc0\x18\x6d\x02\xc0\x8d\x00\xc0\xad\x01\xc0\x6d\x03\xc0\x8d\x01\xc0\xce\x04\xc0\xd0\xe8\x4c\x00\x0c' >"$work/sums"
+printf "$mark"'\xe8\xd0\xfd\xc8\xd0\xfa\xee\x00\xc0\x4c\x00\x0c' >loop
+printf "$mark"'\xad\x00\xc0\x18\x6d\x02\xc0\x8d\x00\xc0\xad\x01\xc0\x6d\x03\xc0\x8d\x01\xc0\xce\x04\xc0\xd0\xe8\x4c\x00\x0c' >sums
 
 # sim65 stops after a count of cycles: 514 instructions of the loop take 1284, and 9 of the sums take 35.
 cycles_of() {
@@ -49,27 +48,17 @@ cycles_of() {
     esac
 }
 
-# Seconds that a command takes. sim65 ends with a status of its own where the cycles are used up.
-seconds() {
-    local from to
-    from=$(date +%s.%N)
-    "$@" >/dev/null 2>&1 || true
-    to=$(date +%s.%N)
-    awk -v a="$from" -v b="$to" 'BEGIN { printf "%.4f\n", b - a }'
-}
+best() { sort -n "$1.us" | head -1; }
 
 for name in loop sums; do
     cycles=$(cycles_of "$name")
     for _ in $(seq "$rounds"); do
-        seconds "$speed" "$name" "$events" >>"$work/$name.ours"
-        seconds "$speed" "$name" "$events" steps >>"$work/$name.steps"
-        seconds sim65 -x "$cycles" "$work/$name" >>"$work/$name.sim65"
+        timed "$name.events" "$speed" "$name" "$events"
+        timed "$name.steps" "$speed" "$name" "$events" steps
+        timed "$name.sim65" sim65 -x "$cycles" "$name" # ends with a status of its own where the cycles are used up
     done
-    ours=$(sort -n "$work/$name.ours" | head -1)
-    steps=$(sort -n "$work/$name.steps" | head -1)
-    theirs=$(sort -n "$work/$name.sim65" | head -1)
-    awk -v name="$name" -v n="$events" -v a="$steps" -v b="$theirs" \
-        'BEGIN { printf "%s: %.0f million steps a second, sim65 %.0f, ratio %.2f\n", name, n / a / 1e6, n / b / 1e6, b / a }'
-    awk -v name="$name" -v n="$events" -v a="$ours" -v b="$theirs" \
-        'BEGIN { printf "%s: %.0f million events a second, sim65 %.0f, ratio %.2f\n", name, n / a / 1e6, n / b / 1e6, b / a }'
+    for way in steps events; do
+        awk -v name="$name" -v way="$way" -v n="$events" -v a="$(best "$name.$way")" -v b="$(best "$name.sim65")" \
+            'BEGIN { printf "%s: %.0f million %s a second, sim65 %.0f, ratio %.2f\n", name, n / a, way, n / b, b / a }'
+    done
 done

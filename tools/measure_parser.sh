@@ -7,6 +7,7 @@
 # For each it prints the processor time beside that of `wc` on the same file, the least address space in which
 # it answers so, the counted instructions of this processor for a byte, and what tbc says of the source.
 . "$(dirname "${BASH_SOURCE[0]}")/setup.sh"
+needs_program
 needs valgrind
 rounds=${1:-10}
 size=1048576

@@ -3,6 +3,7 @@
 # meets no refusal. Each run must end with status 4, `tbc: out of memory` and nothing written, or answer exactly what
 # the command answers with ample memory. The refusing malloc is preloaded, so this needs a C compiler (cc) and glibc.
 . "$(dirname "${BASH_SOURCE[0]}")/setup.sh"
+needs_program
 needs cc
 with_step=no # yes: runs `tbc step` too
 

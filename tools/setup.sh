@@ -1,8 +1,8 @@
-# What the scripts of this folder share: the built program, a folder that goes when they end, and the clock. To be sourced.
+# shellcheck shell=bash
+# What the scripts of this folder share: a folder that goes when they end, the built program, the clock. To be sourced.
 set -eu
 root=$(cd "$(dirname "${BASH_SOURCE[0]}")/.." && pwd)
 tbc=$root/crates/tbc/out/tbc
-[ -x "$tbc" ] || { echo "build the program first: ./tbc --build" >&2; exit 1; }
 work=$(mktemp -d)
 trap 'rm -rf "$work"' EXIT
 cd "$work"
@@ -13,6 +13,8 @@ needs() { # COMMAND..: ends the script where one of them is missing
         command -v "$it" >/dev/null || { echo "$(basename "$0") needs $it" >&2; exit 1; }
     done
 }
+
+needs_program() { [ -x "$tbc" ] || { echo "build the program first: ./tbc --build" >&2; exit 1; }; }
 
 now() { printf '%s' "${EPOCHREALTIME/[.,]/}"; }
 
