@@ -5,19 +5,28 @@ use Rattle.tb_parser.specs.Files.{Outcome as FileOutcome}
 use Rattle.tb_codegen.specs.declared.errors.CompileError.{CompileError}
 use Rattle.tb_codegen.specs.declared.errors.CompileError.TheVariants.{Source as BadSource, Lower, TooLarge, NoMemory as NoCompilerMemory}
 use Rattle.tb_codegen.specs.Answers.{HasOutcome, Makes as LinesMake, OutcomeAnswer}
-use Rattle.tb_codegen.specs.Compiled.{prg_of}
 use Rattle.tb_driver.specs.Streams.{Reads}
 use Rattle.tb_driver.specs.Outcomes.{Product, Answers, MadeFrom}
 use Rattle.tb_driver.specs.Made.{Makes, Shows}
-use Rattle.tb_driver.specs.Sources.{IsAnswer, IsCompiled, stop_of, FromSource}
+use Rattle.tb_driver.specs.Sources.{IsCompiled, stop_of, FromSource}
+use Rattle.tb_driver.specs.Output.{RunsSource}
 use Rattle.tb_driver.specs.declared.made.Text.{Text}
 use Rattle.tb_driver.specs.declared.made.Stop.{Stop}
 use Rattle.tb_driver.specs.declared.made.Stop.TheVariants.{Refused as StopRefused, NoMemory as StopNoMemory}
 use Rattle.tb_driver.specs.declared.outcome.Outcome.{Outcome}
 use Rattle.tb_driver.specs.declared.outcome.Outcome.TheVariants.{Ended, Refused, ReadFault, WriteFault, NoMemory}
+use Rattle.tb_driver.specs.declared.report.Report.{Report}
 use Rattle.tb_driver.specs.declared.sources.Program.{Program}
 
--- what was written of any product of one kind was written of any of a wider kind
+-- ---- what was made, and what was written of it
+
+-- what was made of one kind of products was made of any wider kind
+pub makes_as : (p q : Product → Type 0) → ((x : Product) → p x → q x) → (made : Result Text Stop) → Makes p made → Makes q made
+makes_as p q wider (Ok text) m = wider _ m
+makes_as p q wider (Err (StopRefused e)) m = wider _ m
+makes_as p q wider (Err StopNoMemory) m = tt
+
+-- and so it is with what was written
 answers_as : (p q : Product → Type 0) → ((x : Product) → p x → q x) → (outcome : Outcome) → (old new : Option (List ℕ))
     → Answers p outcome old new → Answers q outcome old new
 answers_as p q wider (Ended end) old new (text, made, written) = (text, wider _ made, written)
@@ -32,6 +41,27 @@ shown makes (Ok text) m x s = subst makes (sym s) m
 shown makes (Err (StopRefused e)) m x s = subst makes (sym s) m
 shown makes (Err StopNoMemory) m x s = absurd s
 
+-- what was written of what was made of an input
+pub delivered : (makes : List ℕ → Product → Type 0) (had : Option (List ℕ)) (input source : List ℕ) (made : Result Text Stop)
+    (outcome : Outcome) (old new : Option (List ℕ)) → Reads had input → source ≡ input → Makes (makes source) made
+    → Answers (Shows made) outcome old new → Answers (MadeFrom had makes) outcome old new
+delivered makes had input source made outcome old new reads same m written =
+    let here = subst (λ s. Makes (makes s) made) same m in
+    answers_as (Shows made) (MadeFrom had makes) (λ x s. (input, reads, shown (makes input) made here x s)) outcome old new written
+
+-- what was written where there is no program to warn of
+pub refusal_delivered : (makes : List Warning → List ℕ → Product → Type 0) (had : Option (List ℕ)) (input source : List ℕ) (e : CompileError)
+    (stop : Stop) (outcome : Outcome) (report : Report) (old new : Option (List ℕ)) → Reads had input → source ≡ input
+    → Makes (makes [] source) (Err (stop_of e)) → stop ≡ stop_of e → Answers (Shows (Err stop)) outcome old new
+    → report.outcome ≡ outcome → report.warnings.items ≡ [] → Answers (MadeFrom had (makes report.warnings.items)) report.outcome old new
+refusal_delivered makes had input source e stop outcome report old new reads same m stops written ends none =
+    let made = subst (λ t. Makes (makes [] source) (Err t)) (sym stops) m in
+    subst (λ w. Answers (MadeFrom had (makes w)) report.outcome old new) (sym none)
+    (subst (λ o. Answers (MadeFrom had (makes [])) o old new) (sym ends)
+    (delivered (makes []) had input source (Err stop) outcome old new reads same made written))
+
+-- ---- what is made of a source
+
 -- the compiler's refusal, with its promises
 pub refused_so : (seed : ℕ) (source : List ℕ) (e : CompileError) → HasOutcome seed source (Err e)
     → ((outcome : FileOutcome) → LinesMake source outcome → OutcomeAnswer seed outcome (Err e)) → IsCompiled seed source (Err e)
@@ -40,33 +70,26 @@ refused_so seed source (Lower e) found only = record { found = found; only = onl
 refused_so seed source (TooLarge n) found only = record { found = found; only = only }
 refused_so seed source NoCompilerMemory found only = tt
 
--- what is shown of a refusal comes of its source
-refused_as : (seed : ℕ) (makes : List ℕ → Product → Type 0) (source : List ℕ) (e : CompileError) → IsCompiled seed source (Err e)
-    → (x : Product) → Shows (Err (stop_of e)) x → FromSource seed makes [] source x
-refused_as seed makes source (BadSource e) c x s = (Err (BadSource e), c, (refl, s))
-refused_as seed makes source (Lower e) c x s = (Err (Lower e), c, (refl, s))
-refused_as seed makes source (TooLarge n) c x s = (Err (TooLarge n), c, (refl, s))
-refused_as seed makes source NoCompilerMemory c x s = absurd s
+-- what is made of the PRG file of a source's program is made of the source
+pub from_program : (seed : ℕ) (makes : List ℕ → Product → Type 0) (source : List ℕ) (program : Program) (file : List ℕ) (made : Result Text Stop)
+    → IsCompiled seed source (Ok program) → file ≡ program.prg.items → Makes (makes file) made
+    → Makes (FromSource seed makes program.warnings.items source) made
+from_program seed makes source program file made (c, compiled, of) same m =
+    let of_file = subst (λ f. Makes (makes f) made) (same ∙ of.prg) m in
+    makes_as _ (FromSource seed makes program.warnings.items source) (λ x h. (Ok c, compiled, (of.warnings, h))) made of_file
 
--- what an engine wrote of a program
-pub program_delivered : (seed : ℕ) (makes : List ℕ → Product → Type 0) (had : Option (List ℕ)) (input source : List ℕ) (program : Program)
-    (file : List ℕ) (made : Result Text Stop) (outcome : Outcome) (old new : Option (List ℕ)) → Reads had input → source ≡ input
-    → IsCompiled seed source (Ok program) → file ≡ program.prg.items → Answers (Shows made) outcome old new → Makes (makes file) made
-    → Answers (MadeFrom had (FromSource seed makes program.warnings.items)) outcome old new
-program_delivered seed makes had input source program file made outcome old new reads same (c, compiled, of) same_file written m =
-    let here = subst (λ s. IsAnswer seed s (Ok c)) same compiled in
-    let of_file = subst (λ f. Makes (makes f) made) (same_file ∙ of.prg) m in
-    answers_as (Shows made) (MadeFrom had (FromSource seed makes program.warnings.items))
-    (λ x s. (input, reads, (Ok c, here, (of.warnings, shown (makes (prg_of c)) made of_file x s)))) outcome old new written
+-- a refusal is made of the source that is refused
+pub from_refusal : (seed : ℕ) (makes : List ℕ → Product → Type 0) (source : List ℕ) (e : CompileError) → IsCompiled seed source (Err e)
+    → Makes (FromSource seed makes [] source) (Err (stop_of e))
+from_refusal seed makes source (BadSource e) c = (Err (BadSource e), c, (refl, refl))
+from_refusal seed makes source (Lower e) c = (Err (Lower e), c, (refl, refl))
+from_refusal seed makes source (TooLarge n) c = (Err (TooLarge n), c, (refl, refl))
+from_refusal seed makes source NoCompilerMemory c = tt
 
--- what an engine wrote where there is no program
-pub refusal_delivered : (seed : ℕ) (makes : List ℕ → Product → Type 0) (had : Option (List ℕ)) (input source : List ℕ) (e : CompileError)
-    (stop : Stop) (warnings : List Warning) (delivered outcome : Outcome) (old new : Option (List ℕ)) → Reads had input → source ≡ input
-    → IsCompiled seed source (Err e) → stop ≡ stop_of e → warnings ≡ [] → outcome ≡ delivered → Answers (Shows (Err stop)) delivered old new
-    → Answers (MadeFrom had (FromSource seed makes warnings)) outcome old new
-refusal_delivered seed makes had input source e stop warnings delivered outcome old new reads same compiled stops none ends written =
-    let here = subst (λ s. IsCompiled seed s (Err e)) same compiled in
-    subst (λ w. Answers (MadeFrom had (FromSource seed makes w)) outcome old new) (sym none)
-    (subst (λ o. Answers (MadeFrom had (FromSource seed makes [])) o old new) (sym ends)
-    (answers_as (Shows (Err stop)) (MadeFrom had (FromSource seed makes []))
-    (λ x s. (input, reads, refused_as seed makes input e here x (subst (λ t. Shows (Err t) x) stops s))) delivered old new written))
+-- so is it where the source was to be run
+pub runs_refusal : (seed : ℕ) (keys answers source : List ℕ) (e : CompileError) → IsCompiled seed source (Err e)
+    → Makes (RunsSource seed keys answers source) (Err (stop_of e))
+runs_refusal seed keys answers source (BadSource e) c = c
+runs_refusal seed keys answers source (Lower e) c = c
+runs_refusal seed keys answers source (TooLarge n) c = c
+runs_refusal seed keys answers source NoCompilerMemory c = tt

@@ -2,3 +2,4 @@ pub mod Counting
 pub mod Start
 mod Written
 mod Delivered
+mod Output

@@ -1,8 +1,9 @@
 -- The start machine, and a run from it.
-use Rattle.std.proofs.Common.{◌≡◌, ℕ, ◌+◌, ◌-◌, ◌<◌, ◌≤◌, List, [], ◌∷◌, ◌++◌, length, take, drop, get_or, None, Ok, refl, ap, subst, ◌∙◌, arith, length-append, length-drop}
+use Rattle.std.proofs.Common.{◌≡◌, ℕ, ◌+◌, ◌-◌, ◌<◌, ◌≤◌, List, [], ◌∷◌, ◌++◌, length, take, drop, get_or, None, Ok, refl, ap, subst, ◌∙◌, arith, length-append}
 use Rattle.std.proofs.lemmas.List.{length-replicate, length-take-le, get_or_append_left, get_or-append_right}
 use Rattle.std.specs.Prelude.{replicate}
 use Rattle.tb_memmap.specs.Bytes.{at, loaded, IsOpenRange}
+use Rattle.tb_memmap.proofs.View.{length-loaded}
 use Rattle.tb_cpu.specs.declared.registers.Regs.{Regs}
 use Rattle.tb_kernal.specs.declared.events.Event.{Event}
 use Rattle.tb_kernal.specs.declared.status.Status.{Status}
@@ -11,12 +12,6 @@ use Rattle.tb_kernal.specs.Runs.{RanOver}
 use Rattle.tb_driver.specs.declared.outcome.End.{End}
 use Rattle.tb_driver.specs.HostForm.{host_form_of}
 use Rattle.tb_driver.specs.Programs.{start_regs, start_memory, start, end_of, RunsAt}
-
--- a load changes no length
-pub length-loaded : (m bytes : List ℕ) (a : ℕ) → a + length bytes ≤ length m → length (loaded m a bytes) ≡ length m
-length-loaded m bytes a h =
-    let within : a ≤ length m = omega arith in
-    rw (length-append, length-append, length-take-le, length-drop) (omega arith)
 
 -- what lies at the first two places of a load of two bytes
 loaded_two : (m : List ℕ) (a x y k : ℕ) → a + 2 ≤ length m → k < 2
@@ -31,12 +26,13 @@ loaded_two m a x y k h below =
     ∙ get_or-append_right (take a m) (x ∷ y ∷ []) a (a + k) 0 front (omega arith)
     ∙ rw behind refl
 
-home_of-start : (a : ℕ) (bytes : List ℕ) → a + length bytes ≤ 65536
+-- the program returns to $A100
+pub home_of-start : (a : ℕ) (bytes : List ℕ) → a + length bytes ≤ 65536
     → home_of (at (start_memory a bytes)) (start_regs a) ≡ 0xa100
 home_of-start a bytes h =
     let empty : List ℕ = replicate 65536 0 in
     let zeros : length empty ≡ 65536 = length-replicate {A = ℕ} 65536 0 in
-    let whole : length (loaded empty a bytes) ≡ 65536 = length-loaded empty bytes a (omega arith) ∙ zeros in
+    let whole : length (loaded empty a bytes) ≡ 65536 = length-loaded empty a bytes (omega arith) ∙ zeros in
     let low = loaded_two (loaded empty a bytes) 0x01f1 0xff 0xa0 0 (omega arith) (omega arith) in
     let high = loaded_two (loaded empty a bytes) 0x01f1 0xff 0xa0 1 (omega arith) (omega arith) in
     rw (low, high) refl

@@ -1,10 +1,12 @@
 //! Compiling a source, and running it.
-ghost use Rattle.std.specs.Prelude.{◌≡◌, ◌+◌, [], Ok, Err};
+ghost use Rattle.std.specs.Prelude.{◌≡◌, ◌+◌, ℕ, [], List, Ok, Err, IfOk};
+ghost use Rattle.tb_routines.specs.Laws.{AllBytes};
 ghost use Rattle.tb_driver.specs.Streams.{most_input, ConsumesAtMost};
 ghost use Rattle.tb_driver.specs.Outcomes.{Answers, Faults, MadeFrom};
 ghost use Rattle.tb_driver.specs.Made.{Makes};
 ghost use Rattle.tb_driver.specs.Programs.{RunsPrg};
 ghost use Rattle.tb_driver.specs.Sources.{IsCompiled, stop_of, IsFile, FromSource};
+ghost use Rattle.tb_driver.specs.Output.{KeepsSource, RunsSource};
 
 use crate::made::{Stop, Text, deliver, without_input};
 use crate::outcome::{End, Outcome, Refusal};
@@ -27,7 +29,8 @@ struct Program {
 
 // Compiles a source with a first state of RND.
 fn compile_source(alloc: Global, source: &[u8], seed: u16) -> Result<Program, CompileError>
-    ensures { IsCompiled seed source.now result }
+    ensures compiled { IsCompiled seed source.now result }
+    ensures keeps { IfOk result (λ program. KeepsSource seed source.now program.prg.items) }
 {
     let compiled = compile(alloc, source, Options { seed })?;
     Ok(Program {
@@ -80,7 +83,32 @@ pub fn build<R: Read, W: Write>(
     }
 }
 
+// Keys are bytes: nothing is done, the proof of `run_compiled` takes it from here.
+fn are_bytes(keys: &[u8])
+    ensures { AllBytes keys.now }
+{}
+
+// Runs the PRG file of a source.
+fn run_compiled<O: Outside>(
+    alloc: Global,
+    file: &[u8],
+    keyboard: Keyboard,
+    limit: u64,
+    outside: &mut O,
+) -> Result<Text, Stop>
+    ensures machine { Makes (RunsPrg O.gives outside.old keyboard.text.items keyboard.answers.items
+        limit file.now) result }
+    ensures output { (seed : ℕ) (source : List ℕ) → KeepsSource seed source file.now
+        → Makes (RunsSource seed keyboard.text.items keyboard.answers.items source) result }
+{
+    are_bytes(keyboard.text.as_slice());
+    are_bytes(keyboard.answers.as_slice());
+    run_file(alloc, file, keyboard, limit, outside)
+}
+
 /// Compiles a source with a first state of RND, runs it as `run_prg` does, and writes the host form of what it sent.
+/// That is the source's output: all of it where the program returned or waits for a key, and a prefix at the
+/// step limit.
 pub fn run_text<R: Read, W: Write, O: Outside>(
     alloc: Global,
     reader: &mut Tracked<R>,
@@ -95,6 +123,9 @@ pub fn run_text<R: Read, W: Write, O: Outside>(
         (RunsPrg O.gives outside.old keyboard.text.items keyboard.answers.items limit)
         result.warnings.items)) result.outcome
         (W.contents writer.old.stream) (W.contents writer.new.stream) }
+    ensures output { Answers (MadeFrom (R.remaining reader.old.stream)
+        (RunsSource seed keyboard.text.items keyboard.answers.items)) result.outcome
+        (W.contents writer.old.stream) (W.contents writer.new.stream) }
     ensures faults { Faults result.outcome (R.remaining reader.old.stream)
         reader.old.failures reader.new.failures writer.old.failures writer.new.failures }
     ensures taken { ConsumesAtMost (R.remaining reader.old.stream) (R.remaining reader.new.stream)
@@ -108,7 +139,7 @@ pub fn run_text<R: Read, W: Write, O: Outside>(
         Ok(Program { prg, warnings }) => Report {
             outcome: deliver(
                 writer,
-                run_file(alloc, prg.as_slice(), keyboard, limit, outside),
+                run_compiled(alloc, prg.as_slice(), keyboard, limit, outside),
             ),
             warnings,
         },

@@ -1,19 +1,22 @@
 use Rattle.std.proofs.Common.{rules, refl, Ok}
 use Rattle.tb_driver.specs.declared.made.Text.{Text}
 use Rattle.tb_driver.specs.declared.outcome.End.TheVariants.{Done}
-use Rattle.tb_driver.specs.Sources.{IsFile}
-use Rattle.tb_driver.proofs.Delivered.{program_delivered, refusal_delivered}
+use Rattle.tb_driver.specs.Sources.{IsFile, FromSource}
+use Rattle.tb_driver.proofs.Delivered.{delivered, refusal_delivered, from_program, from_refusal}
 use Rattle.tb_driver.proofs.sources.build.Goals as goal
 
 pub returns-in-Ok-compile_source-clause-answers : goal.returns-in-Ok-compile_source-clause-answers
 returns-in-Ok-compile_source-clause-answers g c =
-    let file : Text = record { bytes = c.in-Ok-compile_source.field-0.prg; end = Done } in
-    program_delivered c.args.seed IsFile _ _ c.as_slice.result.now c.in-Ok-compile_source.field-0 _ (Ok file) _ _ _
-    c.in-Ok.ensures.whole (search rules) c.in-Ok-compile_source.ensures refl c.deliver.ensures.answers refl
+    let program = c.in-Ok-compile_source.field-0 in
+    let file : Text = record { bytes = program.prg; end = Done } in
+    delivered (FromSource c.args.seed IsFile program.warnings.items) _ _ c.as_slice.result.now (Ok file) _ _ _ c.in-Ok.ensures.whole (search rules)
+    (from_program c.args.seed IsFile c.as_slice.result.now program _ (Ok file) c.in-Ok-compile_source.ensures.compiled refl refl) c.deliver.ensures.answers
 
 pub returns-clause-answers : goal.returns-clause-answers
 returns-clause-answers g c =
-    refusal_delivered c.args.seed IsFile _ _ c.as_slice.result.now c.in-Err-compile_source.error c.stop_of.result
-    c.new-in-Err-compile_source.result.warnings.items c.deliver-in-Err-compile_source.result c.new-in-Err-compile_source.result.outcome _ _
-    c.in-Ok.ensures.whole (search rules) c.in-Err-compile_source.ensures c.stop_of.ensures c.new-in-Err-compile_source.ensures.warnings
-    c.new-in-Err-compile_source.ensures.outcome c.deliver-in-Err-compile_source.ensures.answers
+    let source = c.as_slice.result.now in
+    let e = c.in-Err-compile_source.error in
+    refusal_delivered (FromSource c.args.seed IsFile) _ _ source e c.stop_of.result c.deliver-in-Err-compile_source.result
+    c.new-in-Err-compile_source.result _ _ c.in-Ok.ensures.whole (search rules)
+    (from_refusal c.args.seed IsFile source e c.in-Err-compile_source.ensures.compiled) c.stop_of.ensures
+    c.deliver-in-Err-compile_source.ensures.answers c.new-in-Err-compile_source.ensures.outcome c.new-in-Err-compile_source.ensures.warnings

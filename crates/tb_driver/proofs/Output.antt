@@ -1,0 +1,193 @@
+-- Running the PRG file of a source shows the source's output.
+use Rattle.std.proofs.Common.{◌≡◌, ℕ, zero, suc, ◌+◌, ◌-◌, ◌<◌, ◌≤◌, Bool, true, false, List, [], ◌∷◌, ◌++◌, length, drop, Result, Ok, Err, refl, sym, ap, subst, ◌∙◌, inl, inr, ⊎_elim, arith, length-append}
+use Rattle.std.specs.Prelude.{◌&&◌, nat_le, nat_lt, replicate, slice_index, if◌then◌else◌}
+use Rattle.std.proofs.lemmas.Bool.Decides.{nat_tests}
+use Rattle.std.proofs.lemmas.List.{length-replicate}
+use Rattle.tb_memmap.specs.Bytes.{at, loaded, with_bytes, IsOpenRange}
+use Rattle.tb_memmap.specs.Regions.{is_open}
+use Rattle.tb_memmap.proofs.View.{at_zero, at_loaded, length-loaded}
+use Rattle.tb_asm.specs.Layout.{labels_from, image_of}
+use Rattle.tb_asm.proofs.Laws.{all_size}
+use Rattle.tb_prg.specs.Prg.{header, content_of}
+use Rattle.tb_kernal.specs.declared.events.Event.{Event}
+use Rattle.tb_kernal.specs.declared.status.Status.{Status}
+use Rattle.tb_kernal.specs.declared.status.Status.TheVariants.{Running, Waits as WaitsForKey, Returned, Wrong as WentWrong}
+use Rattle.tb_kernal.specs.Machine.{State, Content, state_of, status}
+use Rattle.tb_kernal.specs.Starts.{LieAt, HoldsBytes}
+use Rattle.tb_syntax.specs.Source.{Program}
+use Rattle.tb_lower.specs.Lowered as lowered
+use Rattle.tb_lower.specs.Meaning.{source_run}
+use Rattle.tb_lower.specs.Steps.{End, Ended, Faulted, Waits, Over}
+use Rattle.tb_parser.specs.Files.{Outcome}
+use Rattle.tb_runtime16.specs.Places.{PROLOGUE_AT}
+use Rattle.tb_templates.specs.Program.{program_code}
+use Rattle.tb_routines.specs.Laws.{AllBytes}
+use Rattle.tb_keeping.specs.Kept.{Starts, HasEnded, IsSound, Keeps}
+use Rattle.tb_codegen.specs.declared.compiled.Compiled.{Compiled}
+use Rattle.tb_codegen.specs.Answers.{Makes as LinesMake, OutcomeAnswer, Answered}
+use Rattle.tb_codegen.specs.Compiled.{prg_of, loaded_of}
+use Rattle.tb_driver.specs.HostForm.{host_form_of}
+use Rattle.tb_driver.specs.Outcomes.{Product}
+use Rattle.tb_driver.specs.Made.{Makes}
+use Rattle.tb_driver.specs.Programs.{start_memory, start, end_of, RunsAt, RunsContent, RunsPrg}
+use Rattle.tb_driver.specs.Output.{ShowsOutput, RunsSource, KeepsSource}
+use Rattle.tb_driver.specs.declared.made.Text.{Text}
+use Rattle.tb_driver.specs.declared.made.Stop.{Stop}
+use Rattle.tb_driver.specs.declared.outcome.End.TheVariants.{Done}
+use Rattle.tb_driver.proofs.Delivered.{makes_as}
+use Rattle.tb_driver.proofs.Start.{home_of-start}
+
+-- ---- bytes
+
+pub all_bytes : (xs : List ℕ) → ((k : ℕ) → slice_index xs k < 256) → AllBytes xs
+all_bytes [] h = tt
+all_bytes (x ∷ xs) h = (h 0, all_bytes xs (λ k. h (suc k)))
+
+byte_at : (xs : List ℕ) → AllBytes xs → (k : ℕ) → slice_index xs k < 256
+byte_at [] h k = omega arith
+byte_at (x ∷ xs) h zero = h.0
+byte_at (x ∷ xs) h (suc k) = byte_at xs h.1 k
+
+bytes_behind : (xs : List ℕ) → AllBytes xs → AllBytes (drop 2 xs)
+bytes_behind [] h = tt
+bytes_behind (x ∷ []) h = tt
+bytes_behind (x ∷ y ∷ xs) h = h.1.1
+
+-- ---- the start
+
+-- bytes put into a memory of bytes
+put_bytes : (m : ℕ → ℕ) (a : ℕ) (bytes : List ℕ) → HoldsBytes m → AllBytes bytes → HoldsBytes (with_bytes m a bytes)
+put_bytes m a bytes h small b = chosen (nat_le a b && nat_lt b (a + length bytes))
+  where
+    chosen : (t : Bool) → (if t then slice_index bytes (b - a) else m b) < 256
+    chosen true = byte_at bytes small (b - a)
+    chosen false = h b
+
+abbrev return_bytes : List ℕ
+return_bytes = 0xff ∷ 0xa0 ∷ []
+
+abbrev start_reads : List ℕ → ℕ → ℕ
+start_reads bytes = with_bytes (with_bytes (λ b. 0) 0x0801 bytes) 0x01f1 return_bytes
+
+memory_reads : (bytes : List ℕ) → 0x0801 + length bytes ≤ 0xa000 → at (start_memory 0x0801 bytes) ≡ start_reads bytes
+memory_reads bytes h =
+    let empty : List ℕ = replicate 65536 0 in
+    let zeros : length empty ≡ 65536 = length-replicate {A = ℕ} 65536 0 in
+    let whole : length (loaded empty 0x0801 bytes) ≡ 65536 = length-loaded empty 0x0801 bytes (omega arith) ∙ zeros in
+    at_loaded (loaded empty 0x0801 bytes) 0x01f1 return_bytes (omega arith)
+    ∙ ap (λ m. with_bytes m 0x01f1 return_bytes) (at_loaded empty 0x0801 bytes (omega arith) ∙ ap (λ m. with_bytes m 0x0801 bytes) (at_zero 65536))
+
+program_lies : (bytes : List ℕ) → LieAt 0x0801 bytes (start_reads bytes)
+program_lies bytes k below =
+    let behind : (nat_le 0x01f1 (0x0801 + k) && nat_lt (0x0801 + k) (0x01f1 + length return_bytes)) ≡ false = grind (arith, nat_tests) in
+    let here : (nat_le 0x0801 (0x0801 + k) && nat_lt (0x0801 + k) (0x0801 + length bytes)) ≡ true = grind (arith, nat_tests) in
+    let back : 0x0801 + k - 0x0801 ≡ k = omega arith in
+    rw (behind, here, back) refl
+
+start_holds : (bytes : List ℕ) → AllBytes bytes → HoldsBytes (start_reads bytes)
+start_holds bytes small =
+    put_bytes (with_bytes (λ b. 0) 0x0801 bytes) 0x01f1 return_bytes (put_bytes (λ b. 0) 0x0801 bytes (λ b. omega arith) small)
+    (omega arith, (omega arith, tt))
+
+-- the start machine of a program below $A000, with a keyboard of bytes
+starts : (bytes text answers : List ℕ) → 0x0801 + length bytes ≤ 0xa000 → AllBytes bytes → AllBytes text → AllBytes answers
+    → Starts 0x0801 bytes (state_of (start 0x0801 bytes text answers))
+starts bytes text answers ends small keys polls =
+    let reads = memory_reads bytes ends in
+    record {
+      start = record {
+        loaded = subst (LieAt 0x0801 bytes) (sym reads) (program_lies bytes);
+        holds_bytes = subst HoldsBytes (sym reads) (start_holds bytes small);
+        pc = refl;
+        s_from = omega arith;
+        s_to = omega arith;
+        home = sym (home_of-start 0x0801 bytes (omega arith));
+        home_s = refl;
+        in_rom = refl;
+        no_service = refl;
+        nothing_refused = refl;
+        nothing_sent = refl;
+      };
+      text = keys;
+      answers = polls;
+    }
+
+-- ---- the run
+
+-- what a sound machine sent, by its status
+shows : (program : Program) (seed : ℕ) (s t : State) (pc : ℕ) (stands : Status) → IsSound program seed s t → stands ≡ status t
+    → ShowsOutput program seed s.text s.answers (end_of stands pc) (host_form_of t.sent)
+shows program seed s t pc Running sound e = record { lines = sound.lines; output = t.sent; prefix = sound.prefix; shown = refl }
+shows program seed s t pc (WentWrong w) sound e = absurd (sound.never_wrong w (sym e))
+shows program seed s t pc Returned sound e =
+    ⊎_elim (λ r. let no : Returned ≡ Running = e ∙ r in cc) (λ w. returned w.0 w.1 w.2) sound.stopped
+  where
+    returned : (why : End) → source_run program seed s.text s.answers sound.lines ≡ Over why t.sent → HasEnded why t
+        → ShowsOutput program seed s.text s.answers Done (host_form_of t.sent)
+    returned Ended over h = inl (record { lines = sound.lines; output = t.sent; over = over; shown = refl })
+    returned Faulted over h = inr (record { lines = sound.lines; output = t.sent; over = over; shown = refl })
+    returned Waits over h = let no : Returned ≡ WaitsForKey = e ∙ h in cc
+shows program seed s t pc WaitsForKey sound e =
+    ⊎_elim (λ r. let no : WaitsForKey ≡ Running = e ∙ r in cc) (λ w. waits w.0 w.1 w.2) sound.stopped
+  where
+    waits : (why : End) → source_run program seed s.text s.answers sound.lines ≡ Over why t.sent → HasEnded why t
+        → ShowsOutput program seed s.text s.answers (end_of WaitsForKey pc) (host_form_of t.sent)
+    waits Ended over h = let no : WaitsForKey ≡ Returned = e ∙ h in cc
+    waits Faulted over h = let no : WaitsForKey ≡ Returned = e ∙ h in cc
+    waits Waits over h = record { lines = sound.lines; output = t.sent; over = over; shown = refl }
+
+in_ram : (n : ℕ) → 0x0801 + n ≤ 0xa000 → IsOpenRange 0x0801 n
+in_ram n h k below = let a : 0x0801 + k < 0xa000 = omega arith in open_so (0x0801 + k) (omega arith) a
+  where
+    open_so : (a : ℕ) → 0x0801 ≤ a → a < 0xa000 → is_open a ≡ true
+    open_so a from to = grind (arith, nat_tests)
+
+module _ {O : Type 0} (gives : O → Content → Event → O → Type 0) (o : O) (seed : ℕ) (source file keys answers : List ℕ) (limit : ℕ) (kept : KeepsSource seed source file) (small : AllBytes file) (small_keys : AllBytes keys) (small_answers : AllBytes answers) where
+  abbrev bytes : List ℕ
+  bytes = drop 2 file
+
+  abbrev begun : State
+  begun = state_of (start 0x0801 bytes keys answers)
+
+  begins : Starts 0x0801 bytes begun
+  begins = starts bytes keys answers kept.ends (bytes_behind file small) small_keys small_answers
+
+  runs_loaded : (x : Product) → RunsAt gives o 0x0801 bytes keys answers limit x → RunsSource seed keys answers source x
+  runs_loaded (Ok text) (opens, (t, p, n, ran, is)) =
+      let sound = subst (IsSound kept.program seed begun) (sym ran.ran) (kept.keeps.sound begun begins ran.events ran.lawful) in
+      (kept.program, kept.made, subst (λ x. ShowsOutput kept.program seed keys answers x.1 x.0) (sym is) (shows kept.program seed begun (state_of n) n.regs.pc t sound ran.answer.0))
+  runs_loaded (Err e) (is, closed) = absurd (closed (in_ram (length bytes) kept.ends))
+
+  runs_source : (x : Product) → RunsPrg gives o keys answers limit file x → RunsSource seed keys answers source x
+  runs_source x runs = runs_loaded x (subst (λ c. RunsContent gives o c keys answers limit x) kept.content runs)
+
+  -- what is made by running the file is made by running the source
+  pub made_of_source : (made : Result Text Stop) → Makes (RunsPrg gives o keys answers limit file) made → Makes (RunsSource seed keys answers source) made
+  made_of_source made m = makes_as (RunsPrg gives o keys answers limit file) (RunsSource seed keys answers source) runs_source made m
+
+-- ---- the compiled file
+
+abbrev IsLoaded : List ℕ → Type 0
+IsLoaded file = (content_of file ≡ Ok (0x0801, drop 2 file)) × (0x0801 + length (drop 2 file) ≤ 0xa000)
+
+image_loads : (image : List ℕ) → PROLOGUE_AT + length image ≤ 0xa000 → IsLoaded (header ++ image)
+image_loads image h =
+    let l : length (drop 2 header ++ image) ≡ 12 + length image = length-append (drop 2 header) image in
+    let ends : 0x0801 + length (drop 2 header ++ image) ≤ 0xa000 = omega arith in
+    let below : nat_lt 65536 (0x0801 + length (drop 2 header ++ image)) ≡ false = grind (arith, nat_tests) in
+    (rw below refl, ends)
+
+module _ (seed : ℕ) (source : List ℕ) (c : Compiled) where
+  answer_loads : (outcome : Outcome) → OutcomeAnswer seed outcome (Ok c) → IsLoaded (prg_of c)
+  answer_loads (Ok program) is =
+      let items = program_code seed (lowered.program_code program) in
+      let l = all_size (labels_from PROLOGUE_AT items) PROLOGUE_AT items in
+      subst IsLoaded (sym is.prg) (image_loads (image_of PROLOGUE_AT items) (omega (arith, l, is.ends)))
+  answer_loads (Err r) none = absurd none
+
+  -- a compiled file keeps its source
+  pub keeps_source : (file : List ℕ) → Answered seed source (Ok c)
+      → (program : Program) × LinesMake source (Ok program) × Keeps 0x0801 (loaded_of c) program seed → file ≡ prg_of c → KeepsSource seed source file
+  keeps_source file found (program, made, keeps) same =
+      let loads = subst IsLoaded (sym same) (answer_loads found.outcome found.answer) in
+      record { program = program; made = made; content = loads.0; ends = loads.1; keeps = subst (λ f. Keeps 0x0801 (drop 2 f) program seed) (sym same) keeps }

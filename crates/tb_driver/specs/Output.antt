@@ -1,0 +1,54 @@
+-- Running a text writes the source's output: what is said of the source alone.
+use Rattle.std.specs.Prelude.{ℕ, ◌≡◌, ◌⊎◌, ◌+◌, ◌≤◌, List, length, drop, Ok, Err}
+use Rattle.tb_syntax.specs.Source.{Program}
+use Rattle.tb_lower.specs.Steps as source
+use Rattle.tb_lower.specs.Steps.{Ended, Faulted, Waits, Over, sent_by}
+use Rattle.tb_lower.specs.Meaning.{source_run}
+use Rattle.tb_lower.specs.Follows.{IsPrefix}
+use Rattle.tb_keeping.specs.Kept.{Keeps}
+use Rattle.tb_codegen.specs.Answers.{Makes}
+use Rattle.tb_prg.specs.Prg.{content_of}
+use Rattle.tb_driver.specs.HostForm.{host_form_of}
+use Rattle.tb_driver.specs.Outcomes.{Product}
+use Rattle.tb_driver.specs.Sources.{Compiles}
+use Rattle.tb_driver.specs.declared.outcome.End.{End}
+use Rattle.tb_driver.specs.declared.outcome.End.TheVariants.{Done, StepLimit, WaitsForKey, WentWrong}
+use Rattle.tb_driver.specs.declared.outcome.Refusal.TheVariants.{Source}
+
+-- a text is the host form of a program's whole output: of all that it sent when its run was over so
+pub record ShowsWhole (program : Program) (seed : ℕ) (keys answers : List ℕ) (why : source.End) (text : List ℕ) : Type 0 where
+  pub lines : ℕ
+  pub output : List ℕ
+  pub over : source_run program seed keys answers lines ≡ Over why output
+  pub shown : text ≡ host_form_of output
+
+-- a text is the host form of a prefix of what some number of a program's lines sends
+pub record ShowsPart (program : Program) (seed : ℕ) (keys answers : List ℕ) (text : List ℕ) : Type 0 where
+  pub lines : ℕ
+  pub output : List ℕ
+  pub prefix : IsPrefix output (sent_by (source_run program seed keys answers lines))
+  pub shown : text ≡ host_form_of output
+
+-- the text of a program, by how the engine ends: done where the source ended or faulted, waiting where it waits, and else
+-- at the step limit; it never goes wrong
+abbrev pub ShowsOutput : Program → ℕ → List ℕ → List ℕ → End → List ℕ → Type 0
+ShowsOutput program seed keys answers Done text =
+    ShowsWhole program seed keys answers Ended text ⊎ ShowsWhole program seed keys answers Faulted text
+ShowsOutput program seed keys answers WaitsForKey text = ShowsWhole program seed keys answers Waits text
+ShowsOutput program seed keys answers StepLimit text = ShowsPart program seed keys answers text
+ShowsOutput program seed keys answers (WentWrong wrong pc) text = ⊥
+
+-- what comes of running a source: the text of the program that its lines make, or the compiler's refusal
+abbrev pub RunsSource : ℕ → List ℕ → List ℕ → List ℕ → Product → Type 0
+RunsSource seed keys answers source (Ok shown) =
+    (program : Program) × Makes source (Ok program) × ShowsOutput program seed keys answers shown.1 shown.0
+RunsSource seed keys answers source (Err (Source e)) = Compiles seed source (Err e)
+RunsSource seed keys answers source (Err e) = ⊥
+
+-- a PRG file, loaded at $0801 below $A000, keeps the program that the source's lines make
+pub record KeepsSource (seed : ℕ) (source file : List ℕ) : Type 0 where
+  pub program : Program
+  pub made : Makes source (Ok program)
+  pub content : content_of file ≡ Ok (0x0801, drop 2 file)
+  pub ends : 0x0801 + length (drop 2 file) ≤ 0xa000
+  pub keeps : Keeps 0x0801 (drop 2 file) program seed
