@@ -27,7 +27,7 @@ use Rattle.tb_keeping.specs.Layout.{Layout, Lies, place_of, layout_of, place_at,
 use Rattle.tb_keeping.proofs.Resolved as resolved
 use Rattle.tb_keeping.proofs.Resolved.{Piece, pieces_size, RestLies, LaidOut, constant, faulting, jump, highest_code}
 use Rattle.tb_keeping.proofs.Emitted.{pieces_bytes, pieces_length, behind, lies}
-use Rattle.tb_keeping.proofs.Numbers.{joined, constant_bytes, address_bytes, template_bytes, jump_bytes, next_same, start_of_line}
+use Rattle.tb_keeping.proofs.Numbers.{or_true, joined, constant_bytes, address_bytes, template_bytes, jump_bytes, next_same, start_of_line}
 
 -- ---- one list of items behind the other
 labels_front : (labels : List (Name × ℕ)) (a : ℕ) (xs ys : List Entry) → LabelsAt labels a (xs ++ ys) → LabelsAt labels a xs
@@ -78,10 +78,6 @@ module _ (labels : List (Name × ℕ)) (all : List ℕ) (seed : ℕ) where
       let here : has_line all n ≡ true = among n (ap (λ b. b || has_line ns n) (eq-eqb n n refl)) in
       ap (λ b. b || is_start ly.start ns a) (ne_eqb a (ly.start n) (λ e. none n here (e ∙ sym (start_of_line labels all seed n here))))
       ∙ no_start ns (λ m h. among m (ap (λ b. nat_eq n m || b) h ∙ or_true (nat_eq n m))) a none
-    where
-      or_true : (b : Bool) → (b || true) ≡ true
-      or_true true = refl
-      or_true false = refl
 
 -- ---- the lines' code as pieces
 module _ (labels : List (Name × ℕ)) (seed : ℕ) (code : Part) (sc : slots.SlotCode) (laid : Laid labels seed code sc) where
@@ -151,10 +147,6 @@ module _ (labels : List (Name × ℕ)) (seed : ℕ) (code : Part) (sc : slots.Sl
   top_small [] h = omega arith
   top_small (l ∷ []) h = h l.number (ap (λ b. b || false) (eq-eqb l.number l.number refl))
   top_small (l ∷ k ∷ ls) h = top_small (k ∷ ls) (λ n e. h n (ap (λ b. nat_eq l.number n || b) e ∙ or_true (nat_eq l.number n)))
-    where
-      or_true : (b : Bool) → (b || true) ≡ true
-      or_true true = refl
-      or_true false = refl
 
   -- ---- where no line begins
   none_between : (from to : ℕ) → ((n : ℕ) → has_line ns n ≡ true → (place_of labels (target.Line n) < from) ⊎ (to ≤ place_of labels (target.Line n))) → (a : ℕ) → from ≤ a → a < to → is_start laid_layout.start laid_layout.numbers a ≡ false

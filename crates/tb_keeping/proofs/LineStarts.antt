@@ -36,6 +36,7 @@ use Rattle.tb_keeping.proofs.Mirrors.{Target, RestAt}
 use Rattle.tb_keeping.proofs.Pieces.{low_data, high_data}
 use Rattle.tb_keeping.proofs.Frames.{word_kept}
 use Rattle.tb_keeping.proofs.Joins.{move, IsLawful, is_go, sent, same_goes, same_after, lawful_all, sends, IsEnd, end_stays, R, LawAt, reaches, sent_in}
+use Rattle.tb_keeping.proofs.Numbers.{or_true}
 use Rattle.tb_keeping.proofs.Headline.{setup, begins_so, above_so, Opened, OpeningLaw, InstrLaws}
 
 -- whether a state stands at a line's start
@@ -67,10 +68,6 @@ pub found_start : (start : ℕ → ℕ) (sc : SlotCode) (n : ℕ) (is : List Ins
 found_start start [] n is e = cc
 found_start start (l ∷ ls) n is e = go (eqb l.number n) refl (found_start start ls n is) e
   where
-    or_true : (b : Bool) → (b || true) ≡ true
-    or_true true = refl
-    or_true false = refl
-
     go : (t : Bool) → eqb l.number n ≡ t → (content_at ls n ≡ Some is → is_start start (numbers ls) (start n) ≡ true) → (if t then Some l.content else content_at ls n) ≡ Some is → (nat_eq (start n) (start l.number) || is_start start (numbers ls) (start n)) ≡ true
     go true q next e = ap (λ b. b || is_start start (numbers ls) (start n)) (eq-eqb (start n) (start l.number) (ap start (sym (eqb-true l.number n q))))
     go false q next e = ap (λ b. nat_eq (start n) (start l.number) || b) (next e) ∙ or_true (nat_eq (start n) (start l.number))

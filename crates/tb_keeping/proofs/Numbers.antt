@@ -30,15 +30,15 @@ use Rattle.tb_keeping.specs.Layout.{Layout, place_of, layout_of, place_at, next_
 use Rattle.tb_keeping.proofs.Resolved.{Piece, Code, template, copied, constant, compared, call, jump, jump_to, call_to}
 use Rattle.tb_keeping.proofs.Emitted.{pieces_bytes}
 
+pub or_true : (b : Bool) → (b || true) ≡ true
+or_true true = refl
+or_true false = refl
+
 -- ---- labels
 pub next_has : (ns : List ℕ) (n m : ℕ) → next_after ns n ≡ At m → has_line ns m ≡ true
 next_has [] n m e = cc
 next_has (k ∷ ns) n m e = go (nat_lt n k) (next_has ns n m) e
   where
-    or_true : (b : Bool) → (b || true) ≡ true
-    or_true true = refl
-    or_true false = refl
-
     at_eq : (a b : ℕ) → ◌≡◌ {A = Place} (At a) (At b) → a ≡ b
     at_eq a b e = cc
 

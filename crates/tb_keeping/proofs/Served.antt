@@ -1,5 +1,5 @@
 -- The routines and the prologue of an image do what the code of its lines needs of them.
-use Rattle.std.proofs.Common.{◌≡◌, ℕ, ◌+◌, ◌*◌, ◌/◌, ◌%◌, ◌≤◌, ◌<◌, Bool, true, false, ◌||◌, List, [], ◌∷◌, length, refl, ap, ◌∙◌, subst, arith, Some}
+use Rattle.std.proofs.Common.{◌≡◌, ℕ, ◌+◌, ◌*◌, ◌/◌, ◌%◌, ◌≤◌, ◌<◌, true, ◌||◌, List, [], ◌∷◌, length, refl, ap, ◌∙◌, subst, arith, Some}
 use Rattle.std.specs.Prelude.{nat_eq}
 use Rattle.std.proofs.lemmas.Bool.{eq-eqb, leb-true}
 use Rattle.std.proofs.lemmas.Bool.Decides.{nat_tests}
@@ -26,13 +26,9 @@ use Rattle.tb_routines.proofs.Block.{prologue_held}
 use Rattle.tb_routines.proofs.PrologueRuns.{prologue_law}
 use Rattle.tb_keeping.specs.Kept.{Starts}
 use Rattle.tb_keeping.specs.Layout.{Layout, layout_of, start_at, inner, IsBelowAll, AreRising, Laid}
-use Rattle.tb_keeping.proofs.Numbers.{start_of_line}
+use Rattle.tb_keeping.proofs.Numbers.{or_true, start_of_line}
 use Rattle.tb_keeping.proofs.Headline.{setup, room_so, begins_so, inner_within}
 use Rattle.tb_keeping.proofs.Laying.{block_short, block_lies, table_lies, start_small, content_of}
-
-or_true : (b : Bool) → (b || true) ≡ true
-or_true true = refl
-or_true false = refl
 
 -- ---- the line table
 rows_size : (ns : List ℕ) → size (rows_code ns) ≡ 4 * length ns

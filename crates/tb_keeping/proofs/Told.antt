@@ -1,5 +1,5 @@
 -- Two ways of telling where lines begin, alike for the program's own lines.
-use Rattle.std.proofs.Common.{◌≡◌, ℕ, ◌+◌, Bool, true, false, ◌||◌, List, [], ◌∷◌, refl, sym, ap, ◌∙◌, subst}
+use Rattle.std.proofs.Common.{◌≡◌, ℕ, ◌+◌, true, ◌||◌, List, [], ◌∷◌, refl, sym, ap, ◌∙◌, subst}
 use Rattle.std.specs.Prelude.{if◌then◌else◌, nat_eq}
 use Rattle.std.proofs.lemmas.Bool.{eq-eqb}
 use Rattle.tb_kernal.specs.declared.events.Event.{Event}
@@ -11,10 +11,7 @@ use Rattle.tb_lower.specs.Control.{has_line}
 use Rattle.tb_syntax.specs.Source.{Program, numbers}
 use Rattle.tb_keeping.specs.Layout.{is_start}
 use Rattle.tb_keeping.specs.LineStarts.{begun, BeginsLine, MarksLines}
-
-or_true : (b : Bool) → (b || true) ≡ true
-or_true true = refl
-or_true false = refl
+use Rattle.tb_keeping.proofs.Numbers.{or_true}
 
 module _ (start other : ℕ → ℕ) where
   abbrev pub Agree : List ℕ → Type 0
