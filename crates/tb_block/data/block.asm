@@ -124,7 +124,7 @@ MULTIPLY2:
 ; ---- Divide: RESULT = LEFT / RIGHT, signed, truncated toward zero
 ;
 ; In:      LEFT, RIGHT.
-; Out:     RESULT. -32768 / -1 gives -32768, which is its own negative at each step.
+; Out:     RESULT. -32768 / -1 gives -32768: as a word it is its own negative, and all three negations keep it.
 ; Fault:   2 where RIGHT is 0.
 ; Stack:   6.  Time: 316, and 6 up to the fault.
 DIVIDE:
@@ -142,7 +142,7 @@ DIVIDEGO:
         STA $C067
         RTS
 
-; LEFT = LEFT / RIGHT, signed. A negative LEFT is turned before and after; the second turn is what follows.
+; LEFT = LEFT / RIGHT, signed. A negative LEFT is negated before, and the quotient after: that is what follows.
 DIVIDESIGNED:
         LDA $C063               ; LEFT's sign
         BPL DIVIDEBY
@@ -153,7 +153,7 @@ DIVIDESIGNED:
 NEGATELEFT:
         LDX #$00
 
-; The word at LEFT + X is turned: X is 0 for LEFT, 2 for RIGHT. A and the flags are used, X stands.
+; The word at LEFT + X is negated: X is 0 for LEFT, 2 for RIGHT.
 NEGATE:
         SEC
         LDA #$00
@@ -164,8 +164,8 @@ NEGATE:
         STA $C063,X
         RTS
 
-; LEFT = LEFT / RIGHT, where LEFT is at most 32768 and RIGHT is signed. A negative RIGHT is turned before, and
-; the quotient behind.
+; LEFT = LEFT / RIGHT, where LEFT is 0 to 32768 and RIGHT is signed. A negative RIGHT is negated before, and the
+; quotient after.
 DIVIDEBY:
         LDA $C065               ; RIGHT's sign
         BPL UNSIGNED
@@ -175,12 +175,12 @@ DIVIDEBY:
         JMP NEGATELEFT
 
 ; LEFT = LEFT / RIGHT, RESULT = the remainder, without signs, for RIGHT from 1 to 32768. RIGHT stands.
-; Time: 261. Stack: 0. Divide, Random and Number end here or come by.
+; Divide, Random and Number divide by it. Stack: 0. Time: 261.
 ;
-; Sixteen rounds, counted in Y (no service is called). Each moves the highest bit of LEFT into the remainder in
-; RESULT, and where RIGHT goes into that, takes RIGHT off and sets the lowest bit of LEFT, which the shift left 0.
-; So the quotient comes into LEFT from below as the dividend leaves it above. The remainder is less than RIGHT
-; before a round, so at most 65535 when it is doubled.
+; Sixteen rounds, counted in Y, since no service is called. Each moves the highest bit of LEFT into the lowest of
+; RESULT, and where RIGHT goes into RESULT, takes it off and sets the lowest bit of LEFT, which the shift made 0.
+; So the quotient comes into LEFT from below while the dividend leaves it above. RESULT is below RIGHT at the head
+; of a round, so it fits a word when it is doubled and takes a bit more.
 UNSIGNED:
         LDA #$00
         STA $C066               ; RESULT = 0
@@ -265,7 +265,7 @@ RANDOMFIRST:
 ; Changes: RIGHT, RESULT, COLUMN.
 ; Stack:   7.  Time: 1440.
 ;
-; A negative word sends its sign and is turned. Then it is divided by 10 until nothing is left: the remainders
+; A negative word sends its sign and is negated. Then it is divided by 10 until nothing is left: the remainders
 ; are the digits, the last one first, so they wait on the stack, over a 0 that says where they end. There they
 ; stand above the stack pointer, where no interrupt writes.
 NUMBER:

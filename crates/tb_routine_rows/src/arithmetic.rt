@@ -1,5 +1,5 @@
 //! Multiply, Divide and Random against the functions of words.
-use crate::setup::{Call, Called, ROMS, pairs, plain};
+use crate::setup::{Call, Called, Pair, ROMS, pairs, plain};
 use std::alloc::Global;
 use std::test::Fail;
 use tb_runtime16::{LEFT, LINE, RIGHT, Routine, SEED, SEEDED};
@@ -22,31 +22,27 @@ fn on_two(
 
 #[test]
 fn multiply_is_the_product(rt: HostRuntime) -> Result<(), Fail> {
-    for rom in ROMS {
-        let called = on_two(rt.alloc(), rom, Routine::Multiply, 300, 300)?;
-        assert!(rt; called.gives(24464)?);
-        for (left, right) in pairs(rt.alloc(), 2000)? {
-            let product = mul(left.cast_signed(), right.cast_signed()).cast_unsigned();
-            let called = on_two(rt.alloc(), rom, Routine::Multiply, left, right)?;
-            assert!(rt; called.gives(product)?, "{left} * {right}");
-        }
+    let called = on_two(rt.alloc(), None, Routine::Multiply, 300, 300)?;
+    assert!(rt; called.gives(24464)?);
+    for Pair { rom, left, right } in pairs(rt.alloc())? {
+        let product = mul(left.cast_signed(), right.cast_signed()).cast_unsigned();
+        let called = on_two(rt.alloc(), rom, Routine::Multiply, left, right)?;
+        assert!(rt; called.gives(product)?, "{left} * {right}");
     }
     Ok(())
 }
 
 #[test]
 fn divide_is_the_quotient(rt: HostRuntime) -> Result<(), Fail> {
-    for rom in ROMS {
-        let called = on_two(rt.alloc(), rom, Routine::Divide, 32768, 65535)?;
-        assert!(rt; called.gives(32768)?);
-        for (left, right) in pairs(rt.alloc(), 2000)? {
-            let called = on_two(rt.alloc(), rom, Routine::Divide, left, right)?;
-            let holds = match div_rem(left.cast_signed(), right.cast_signed()) {
-                Some((quotient, _)) => called.gives(quotient.cast_unsigned())?,
-                None => called.faults(rt.alloc(), b"", 2)?,
-            };
-            assert!(rt; holds, "{left} / {right}");
-        }
+    let called = on_two(rt.alloc(), None, Routine::Divide, 32768, 65535)?;
+    assert!(rt; called.gives(32768)?);
+    for Pair { rom, left, right } in pairs(rt.alloc())? {
+        let called = on_two(rt.alloc(), rom, Routine::Divide, left, right)?;
+        let holds = match div_rem(left.cast_signed(), right.cast_signed()) {
+            Some((quotient, _)) => called.gives(quotient.cast_unsigned())?,
+            None => called.faults(rt.alloc(), b"", 2)?,
+        };
+        assert!(rt; holds, "{left} / {right}");
     }
     Ok(())
 }
@@ -78,15 +74,14 @@ fn is_drawn(alloc: Global, called: &Called, bound: u16, state: u16) -> Result<bo
 
 #[test]
 fn random_takes_the_next_state(rt: HostRuntime) -> Result<(), Fail> {
-    for rom in ROMS {
-        for (bound, state) in pairs(rt.alloc(), 1000)? {
-            for (place, seeded) in [(RIGHT, 0), (SEED, 1)] {
-                let called = draw(rt.alloc(), rom, bound, (place, state), seeded)?;
-                assert!(rt;
-                    is_drawn(rt.alloc(), &called, bound, state)?,
-                    "{bound} from {state}"
-                );
-            }
+    for pair in pairs(rt.alloc())? {
+        let (bound, state) = (pair.left, pair.right);
+        for (place, seeded) in [(RIGHT, 0), (SEED, 1)] {
+            let called = draw(rt.alloc(), pair.rom, bound, (place, state), seeded)?;
+            assert!(rt;
+                is_drawn(rt.alloc(), &called, bound, state)?,
+                "{bound} from {state}"
+            );
         }
     }
     Ok(())

@@ -22,8 +22,8 @@ const BACK: u16 = 0xc0ff;
 // More events than any routine takes here.
 const LIMIT: u64 = 100_000;
 
-/// The ROM that a row runs beside: quiet, or rude from a seed.
-pub const ROMS: [Option<u16>; 3] = [None, Some(1), Some(7)];
+/// The ROMs that a row runs beside: quiet, and rude from a seed.
+pub const ROMS: [Option<u16>; 2] = [None, Some(1)];
 
 /// A call of a routine.
 #[derive(Clone, Copy)]
@@ -204,25 +204,37 @@ impl Called {
 }
 
 /// Words at the edges.
-pub const EDGES: [u16; 24] = [
-    0, 1, 2, 3, 7, 9, 10, 11, 127, 128, 255, 256, 257, 1000, 10000, 32766, 32767, 32768, 32769,
-    55536, 65280, 65526, 65534, 65535,
+pub const EDGES: [u16; 16] = [
+    0, 1, 2, 3, 9, 10, 255, 256, 257, 10000, 32767, 32768, 32769, 55536, 65280, 65535,
 ];
 
-/// Pairs of words: all of the edges, and so many more from a seed.
-pub fn pairs(alloc: Global, more: usize) -> Result<Vec<(u16, u16)>, Fail> {
+/// Two words and the ROM beside which they are tried.
+#[derive(Clone, Copy, Drop)]
+pub struct Pair {
+    pub rom: Option<u16>,
+    pub left: u16,
+    pub right: u16,
+}
+
+/// All pairs of edges, and 1,000 pairs from a seed, each beside a quiet and a rude ROM.
+pub fn pairs(alloc: Global) -> Result<Vec<Pair>, Fail> {
     let mut pairs = Vec::new(alloc);
-    for left in EDGES {
-        for right in EDGES {
-            pairs.push((left, right))?;
+    for rom in ROMS {
+        for left in EDGES {
+            for right in EDGES {
+                pairs.push(Pair { rom, left, right })?;
+            }
         }
     }
     let mut seed = 1;
-    for _ in 0..more {
+    for _ in 0..1000 {
         let left = next_seed(seed);
         seed = next_seed(left);
-        // the seed's low bits alternate
-        pairs.push((left, seed.swap_bytes()))?;
+        // the low bits of seeds alternate
+        let right = seed.swap_bytes();
+        for rom in [None, Some(seed)] {
+            pairs.push(Pair { rom, left, right })?;
+        }
     }
     Ok(pairs)
 }

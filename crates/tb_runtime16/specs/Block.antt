@@ -3,7 +3,7 @@ use Rattle.std.specs.Prelude.{◌≡◌, ℕ, ◌+◌, ◌-◌, ◌/◌, ◌%◌
 use Rattle.tb_runtime16.specs.declared.places.Routine.{Routine}
 use Rattle.tb_runtime16.specs.declared.places.Routine.TheVariants.{Multiply, Divide, Random, Number, Text, Zone, Input, Search, Push, Pop, Fault, Poll}
 use Rattle.tb_runtime16.specs.Places.{COLUMN, OPEN, SEEDED, HOME_S, SEED, LINE, NOTES, VARS, LEFT, RIGHT, RESULT, TABLE, COUNT, LENGTH, BYTE, SCRATCH, POINTER, SECOND, CHROUT, CHRIN, GETIN, LINES_AT}
-use Rattle.tb_runtime16.specs.Places.{PROLOGUE_AT, SEND_AT, MULTIPLY_AT, DIVIDE_AT, RANDOM_AT, NUMBER_AT, TEXT_AT, ZONE_AT, INPUT_AT, SEARCH_AT, PUSH_AT, POP_AT, FAULT_AT, POLL_AT}
+use Rattle.tb_runtime16.specs.Places.{PROLOGUE_AT, SEND_AT, MULTIPLY_AT, DIVIDE_AT, NUMBER_AT, INPUT_AT, SEARCH_AT, PUSH_AT, FAULT_AT}
 
 -- the low and the high byte of an address
 abbrev pub low : ℕ → ℕ

@@ -1,0 +1,25 @@
+-- The public constants are the places that the definitions speak of.
+use Rattle.std.specs.Prelude.{◌≡◌}
+use Rattle.tb_runtime16.specs.declared.places.TheConstants as public
+use Rattle.tb_runtime16.specs.Places.{PROLOGUE_AT, LINES_AT, SEND_AT, POINTER, VARS, COLUMN, OPEN, SEEDED, HOME_S, SEED, LINE, NOTES, SLOTS, HELD, LEFT, RIGHT, RESULT, TABLE, COUNT, LENGTH, BYTE, SCRATCH, NOTE_LIST}
+
+-- of the code
+abbrev pub CodeStands : Type 0
+CodeStands = (public.BLOCK_AT ≡ PROLOGUE_AT) × (public.LINES_AT ≡ LINES_AT) × (public.SEND ≡ SEND_AT)
+
+-- what routines are given, and what they give
+abbrev pub ArgumentsStand : Type 0
+ArgumentsStand =
+    (public.POINTER ≡ POINTER) × (public.LENGTH ≡ LENGTH) × (public.LEFT ≡ LEFT) × (public.RIGHT ≡ RIGHT) × (public.RESULT ≡ RESULT) × (public.TABLE ≡ TABLE) × (public.COUNT ≡ COUNT)
+
+-- what stays between calls
+abbrev pub StateStands : Type 0
+StateStands =
+    (public.VARS ≡ VARS) × (public.COLUMN ≡ COLUMN) × (public.OPEN ≡ OPEN) × (public.SEEDED ≡ SEEDED) × (public.HOME_S ≡ HOME_S) × (public.SEED ≡ SEED) × (public.LINE ≡ LINE) × (public.NOTES ≡ NOTES) × (public.NOTE_LIST ≡ NOTE_LIST)
+
+-- what the lines' code and the routines work in
+abbrev pub WorkStands : Type 0
+WorkStands = (public.SLOTS ≡ SLOTS) × (public.HELD ≡ HELD) × (public.BYTE ≡ BYTE) × (public.SCRATCH ≡ SCRATCH)
+
+abbrev pub ConstantsArePlaces : Type 0
+ConstantsArePlaces = CodeStands × (ArgumentsStand × (StateStands × WorkStands))
