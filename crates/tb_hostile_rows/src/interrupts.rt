@@ -9,7 +9,7 @@ use tb_kernal::{Event, Machine, Quiet, Status, run};
 use tb_memmap::NoMemory;
 
 /// In a run of more events the interrupt comes before every few of them.
-const MOST_INTERRUPTS: u64 = 10_000;
+const MOST_INTERRUPTS: u64 = 2_000;
 
 // How many events a program takes beside a quiet ROM.
 fn run_length(machine: &mut Machine) -> Result<u64, NoMemory> {

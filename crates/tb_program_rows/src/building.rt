@@ -22,14 +22,7 @@ fn shown(alloc: Global, file: &[u8]) -> Option<Vec<u8>> {
         answers: Vec::new(alloc),
     };
     let mut file = Tracked::new(file);
-    match run_prg(
-        alloc,
-        &mut file,
-        &mut screen,
-        no_keys,
-        100_000,
-        &mut Quiet,
-    ) {
+    match run_prg(alloc, &mut file, &mut screen, no_keys, 100_000, &mut Quiet) {
         Outcome::Ended(End::Done) => Some(screen.stream),
         _ => None,
     }

@@ -276,7 +276,7 @@ THE GOLD IS YOURS. THE END.\n\
 ";
 
 /// Each program, what is typed, and what is shown.
-const EXAMPLES: [(&[u8], &str, &[u8]); 7] = [
+static EXAMPLES: [(&[u8], &str, &[u8]); 7] = [
     (HELLO_SOURCE, "", HELLO_SHOWN),
     (TIMES_SOURCE, "", TIMES_SHOWN),
     (PRIMES_SOURCE, "", PRIMES_SHOWN),
@@ -315,10 +315,10 @@ fn shows<O: Outside>(
 
 #[test]
 fn examples_show_what_they_should(rt: HostRuntime) -> Result<(), Fail> {
-    for (number, example) in EXAMPLES.into_iter().enumerate() {
-        assert!(rt; shows(rt.alloc(), example, &mut Quiet)?, "{number}");
+    for (number, example) in EXAMPLES.iter().enumerate() {
+        assert!(rt; shows(rt.alloc(), *example, &mut Quiet)?, "{number}");
         assert!(rt;
-            shows(rt.alloc(), example, &mut Rude::new(1))?,
+            shows(rt.alloc(), *example, &mut Rude::new(1))?,
             "{number}, rude"
         );
     }

@@ -14,7 +14,7 @@ type Fault = (SourceErrorKind, usize, usize, &'static [u8]);
 const EMPTY: Fault = (SourceErrorKind::Empty, 0, 0, b"tbc: empty program\n");
 
 /// Sources that are no programs.
-const FAULTS: [(&[u8], Fault); 10] = [
+static FAULTS: [(&[u8], Fault); 10] = [
     (b"", EMPTY),
     (b"10 END\n10", EMPTY),
     (
@@ -77,12 +77,7 @@ const FAULTS: [(&[u8], Fault); 10] = [
 ];
 
 // Whether an engine refused a source and said why.
-fn says(
-    alloc: Global,
-    report: &Report,
-    error: CompileError,
-    said: &[u8],
-) -> Result<bool, Fail> {
+fn says(alloc: Global, report: &Report, error: CompileError, said: &[u8]) -> Result<bool, Fail> {
     Ok(
         report.outcome == Outcome::Refused(Refusal::Source(error))
             && report.status() == 1
@@ -129,7 +124,7 @@ fn source_error((kind, line, column, _): Fault) -> CompileError {
 
 #[test]
 fn sources_are_refused_by_name(rt: HostRuntime) -> Result<(), Fail> {
-    for (source, fault) in FAULTS {
+    for &(source, fault) in &FAULTS {
         assert!(rt;
             is_refused(rt.alloc(), source, source_error(fault), fault.3)?,
             "{source:?}"
@@ -161,7 +156,14 @@ fn programs_are_refused_by_size(rt: HostRuntime) -> Result<(), Fail> {
     assert!(rt; is_refused(alloc, deep.as_slice(), too_deep, said)?);
     let larger = lines(alloc, "1 PRINT \"A\"\n", 2..1051, "END")?;
     let said = b"tbc: program too large (37889 bytes)\n";
-    assert!(rt; is_refused(alloc, larger.as_slice(), CompileError::TooLarge(37889), said)?);
+    assert!(rt;
+        is_refused(
+            alloc,
+            larger.as_slice(),
+            CompileError::TooLarge(37889),
+            said
+        )?
+    );
     let mut print = String::from_str(alloc, "PRINT \"")?;
     for _ in 0..240 {
         print.push('A')?;
