@@ -1,62 +1,14 @@
 //! The engines, over readers and writers that fail in mid-stream, and what they answer.
-ghost use Rattle.std.specs.Prelude.{Some};
-
 use std::alloc::{AllocError, Global};
-use std::io;
 use std::io::{Read, Write};
 use std::test::Fail;
 use tb_driver::{
     End, KeyError, Outcome, Refusal, Tracked, address, asm_text, dis_text, host_form, key_list,
     run_prg,
 };
+use tb_failing_streams::{FailingReader, FailingWriter};
 use tb_kernal::{Keyboard, Quiet, Rude};
 use tb_prg::PrgError;
-
-/// Gives its bytes a few at a time, and fails after some of them.
-#[derive(Drop)]
-struct FailingReader<'a> {
-    rest: &'a [u8],
-    until_fault: usize,
-    most: usize,
-}
-
-impl Read for FailingReader<'_> {
-    fn read(&mut self, buf: &mut [u8]) -> io::Result<usize> {
-        if self.until_fault == 0 {
-            return Err(io::Error::from(io::ErrorKind::Other));
-        }
-        let room = buf.len().min(self.most).min(self.until_fault);
-        let count = self.rest.read(&mut buf[..room])?;
-        self.until_fault -= count;
-        Ok(count)
-    }
-}
-
-/// Takes a few bytes at a time, and fails after some of them.
-#[derive(Drop)]
-struct FailingWriter {
-    taken: Vec<u8>,
-    until_fault: usize,
-    most: usize,
-}
-
-impl Write for FailingWriter {
-    ghost contents = { λ w. Some w.taken.items };
-
-    fn write(&mut self, buf: &[u8]) -> io::Result<usize> {
-        if self.until_fault == 0 {
-            return Err(io::Error::from(io::ErrorKind::Other));
-        }
-        let count = buf.len().min(self.most).min(self.until_fault);
-        self.taken.extend_from_slice(&buf[..count])?;
-        self.until_fault -= count;
-        Ok(count)
-    }
-
-    fn flush(&mut self) -> io::Result<()> {
-        Ok(())
-    }
-}
 
 /// The engines that read one file and write one.
 #[derive(Clone, Copy, Debug, PartialEq, Eq)]

@@ -1,0 +1,157 @@
+//! What a compiled program sends is what its source's run sends, and it ends as that does.
+use crate::programs::{Case, Choices};
+use std::alloc::{AllocError, Global};
+use std::test::Fail;
+use tb_driver::{End, Outcome, Tracked, build, host_form, run_prg};
+use tb_kernal::{Keyboard, Quiet, Rude};
+use tb_lower::{RunEnd, SourceRun, run_source};
+use tb_parser::parse;
+
+/// How many programs are tried.
+const PROGRAMS: u16 = 500;
+
+/// How many lines of a source are run.
+const MOST_LINES: u64 = 3000;
+
+/// Enough events for a program whose source ends within `MOST_LINES` lines.
+const AMPLE: u64 = 100_000_000;
+
+/// Too few events for `MOST_LINES` lines, of which each takes seven at least.
+const SCANT: u64 = 20_000;
+
+/// How a source's run ended.
+#[derive(Clone, Copy, PartialEq, Eq, Debug, Drop)]
+enum Ending {
+    GoesOn,
+    Ended,
+    Waits,
+    /// By a fault, with its digit.
+    Fault(u8),
+}
+
+const ENDINGS: [Ending; 11] = [
+    Ending::GoesOn,
+    Ending::Ended,
+    Ending::Waits,
+    Ending::Fault(b'0'),
+    Ending::Fault(b'1'),
+    Ending::Fault(b'2'),
+    Ending::Fault(b'3'),
+    Ending::Fault(b'4'),
+    Ending::Fault(b'5'),
+    Ending::Fault(b'6'),
+    Ending::Fault(b'7'),
+];
+
+// No text of a program has the sign of a fault.
+fn ending_of(run: &SourceRun) -> Ending {
+    match run.end {
+        RunEnd::GoesOn => Ending::GoesOn,
+        RunEnd::Ended => Ending::Ended,
+        RunEnd::Waits => Ending::Waits,
+        RunEnd::Faulted => {
+            let mut from_sign = run.sent.iter().skip_while(|byte| **byte != b'!');
+            Ending::Fault(*from_sign.nth(1).unwrap_or(&b'?'))
+        }
+    }
+}
+
+fn run_of(alloc: Global, case: &Case) -> Result<SourceRun, Fail> {
+    let program = parse(alloc, &case.source)?;
+    Ok(run_source(
+        alloc,
+        &program,
+        case.seed,
+        &case.keys,
+        &case.answers,
+        MOST_LINES,
+    )?)
+}
+
+/// What a run of a PRG file came to.
+#[derive(Debug, Drop)]
+struct Ran {
+    outcome: Outcome,
+    shown: Vec<u8>,
+}
+
+// Runs a PRG file, with a quiet ROM where there is no seed of a rude one.
+fn run_file(
+    alloc: Global,
+    file: &[u8],
+    case: &Case,
+    limit: u64,
+    rude: Option<u16>,
+) -> Result<Ran, AllocError> {
+    let keyboard = Keyboard {
+        text: case.keys.clone()?,
+        answers: case.answers.clone()?,
+    };
+    let mut file = Tracked::new(file);
+    let mut screen = Tracked::new(Vec::new(alloc));
+    let outcome = match rude {
+        None => run_prg(alloc, &mut file, &mut screen, keyboard, limit, &mut Quiet),
+        Some(seed) => run_prg(
+            alloc,
+            &mut file,
+            &mut screen,
+            keyboard,
+            limit,
+            &mut Rude::new(seed),
+        ),
+    };
+    Ok(Ran {
+        outcome,
+        shown: screen.stream,
+    })
+}
+
+// Whether a PRG file's run is what the source's run comes to. A run that goes on shows a beginning of it.
+fn agrees(alloc: Global, run: &SourceRun, ran: &Ran) -> Result<bool, AllocError> {
+    let wanted = host_form(alloc, &run.sent)?;
+    let (shown, wanted) = (ran.shown.as_slice(), wanted.as_slice());
+    Ok(match run.end {
+        RunEnd::Ended | RunEnd::Faulted => {
+            ran.outcome == Outcome::Ended(End::Done) && shown == wanted
+        }
+        RunEnd::Waits => ran.outcome == Outcome::Ended(End::WaitsForKey) && shown == wanted,
+        RunEnd::GoesOn => {
+            ran.outcome == Outcome::Ended(End::StepLimit) && wanted.starts_with(shown)
+        }
+    })
+}
+
+// Compiles a program, and runs it on a quiet ROM and on a rude one.
+fn both_agree(alloc: Global, case: &Case, run: &SourceRun) -> Result<bool, Fail> {
+    let mut file = Tracked::new(Vec::new(alloc));
+    let mut source = Tracked::new(case.source.as_slice());
+    build(alloc, &mut source, &mut file, case.seed);
+    let limit = if run.end == RunEnd::GoesOn {
+        SCANT
+    } else {
+        AMPLE
+    };
+    let mut agree = true;
+    for rude in [None, Some(case.seed)] {
+        let ran = run_file(alloc, &file.stream, case, limit, rude)?;
+        agree = agree && agrees(alloc, run, &ran)?;
+    }
+    Ok(agree)
+}
+
+#[test]
+fn compiled_programs_send_what_their_sources_send(rt: HostRuntime) -> Result<(), Fail> {
+    let mut choices = Choices::new(1);
+    let mut endings = Vec::new(rt.alloc());
+    for seed in 0..PROGRAMS {
+        let case = choices.case(rt.alloc(), seed)?;
+        let run = run_of(rt.alloc(), &case)?;
+        assert!(rt; both_agree(rt.alloc(), &case, &run)?, "{case:?}");
+        endings.push(ending_of(&run))?;
+    }
+    for wanted in ENDINGS {
+        let count = endings.iter().filter(|ending| **ending == wanted).count();
+        assert!(rt; 4 <= count, "{wanted:?}: {count}");
+    }
+    Ok(())
+}

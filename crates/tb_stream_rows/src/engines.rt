@@ -1,0 +1,55 @@
+//! What the rows share: the engines that compile a source, called with one reader and one writer.
+use std::alloc::{AllocError, Global};
+use std::io::{Read, Write};
+use tb_driver::{Report, Tracked, build, run_text};
+use tb_kernal::{Keyboard, Quiet};
+
+/// An engine that compiles a source.
+#[derive(Clone, Copy, PartialEq, Eq, Debug, Drop)]
+pub enum Engine {
+    Build,
+    /// With this text on the keyboard.
+    Run(&'static [u8]),
+}
+
+/// The first state of RND.
+const SEED: u16 = 1;
+
+/// How many events a program may take.
+const LIMIT: u64 = 10_000;
+
+/// Calls an engine.
+pub fn call<R: Read, W: Write>(
+    alloc: Global,
+    engine: Engine,
+    reader: &mut Tracked<R>,
+    writer: &mut Tracked<W>,
+) -> Result<Report, AllocError> {
+    match engine {
+        Engine::Build => Ok(build(alloc, reader, writer, SEED)),
+        Engine::Run(keys) => {
+            let keyboard = Keyboard {
+                text: Vec::from_slice(alloc, keys)?,
+                answers: Vec::new(alloc),
+            };
+            Ok(run_text(alloc, reader, writer, SEED, keyboard, LIMIT, &mut Quiet))
+        }
+    }
+}
+
+/// What an engine answered, and what it wrote.
+#[derive(Debug, Drop)]
+pub struct Answer {
+    pub report: Report,
+    pub written: Vec<u8>,
+}
+
+/// What an engine comes to where no stream fails.
+pub fn answer_of(alloc: Global, engine: Engine, source: &[u8]) -> Result<Answer, AllocError> {
+    let mut out = Tracked::new(Vec::new(alloc));
+    let report = call(alloc, engine, &mut Tracked::new(source), &mut out)?;
+    Ok(Answer {
+        report,
+        written: out.stream,
+    })
+}
