@@ -44,9 +44,9 @@ pub record LineComes (program : Program) (start : ℕ → ℕ) (s : machine.Stat
   pub here : is_start start (numbers program) (run front s).regs.pc ≡ true
   pub begun_before : begun start (numbers program) front s ≡ m
 
--- from every start and under every lawful list: at a line's start, m having begun before, the machine begins that line,
--- and it is the one at which the source goes on after m lines; and where the source goes on at a line after m lines, the machine begins one after m
--- within a number of Go events that depends on the program, the first RND state, the keyboard and m alone
+-- from every start and under every lawful list: where the machine is at a line's start, m having begun before, that line is
+-- the one at which the source goes on after m lines; and where the source goes on at a line after m lines, the machine
+-- begins one after m within a number of Go events that depends on the program, the first RND state, the keyboard and m alone
 pub record MarksLines (place : ℕ) (bytes : List ℕ) (program : Program) (seed : ℕ) (start : ℕ → ℕ) : Type 0 where
   pub begins : (s : machine.State) → Starts place bytes s → (es : List Event) → all_lawful es s ≡ true → (n : ℕ) → has_line (numbers program) n ≡ true → (run es s).regs.pc ≡ start n → BeginsLine program seed s (begun start (numbers program) es s) n (run es s)
   pub pace : (text answers : List ℕ) (m : ℕ) → ℕ
