@@ -23,6 +23,9 @@ use tb_lower::{SlotCode, SlotInstr, SlotLine};
 use tb_opcodes::Mnemonic;
 use tb_runtime16::{BLOCK_AT, COUNT, LINE, LINES_AT, Routine, TABLE, block, entry};
 
+// About the most items that lines have in the mean; only the speed hangs on it.
+const ITEMS_IN_A_LINE: usize = 32;
+
 /// The items of a program, from the block's address on; the seed is the option's RND state.
 pub fn program_items(alloc: Global, seed: u16, code: &SlotCode) -> Result<Vec<Item>, AllocError>
     requires lists { AreCodable (code_of code.now) }
@@ -31,7 +34,7 @@ pub fn program_items(alloc: Global, seed: u16, code: &SlotCode) -> Result<Vec<It
     ensures { IfOk result (λ items. map entry_of items.items ≡ program_code seed (code_of code.now)) }
 {
     let numbers = line_numbers(alloc, code.lines())?;
-    let mut items = Vec::new(alloc);
+    let mut items = Vec::with_capacity(alloc, ITEMS_IN_A_LINE * numbers.len())?;
     put_block(&mut items)?;
     put_lines(&mut items, &numbers, seed, code.lines())?;
     put_past(&mut items, &numbers)?;
