@@ -1,6 +1,6 @@
 -- The labels of a round, and the other loops over forms.
-use Rattle.std.proofs.Common.{◌≡◌, ℕ, map, ◌+◌, ◌%◌, ◌<◌, ◌≤◌, Bool, true, false, List, [], ◌∷◌, ◌++◌, Option, Some, None, refl, sym, ap, ◌∙◌, cond, arith, Result, Ok, Err, length, drop, get_or, append_assoc}
-use Rattle.std.specs.Prelude.{MatchResult}
+use Rattle.std.proofs.Common.{◌≡◌, ℕ, map, ◌+◌, ◌%◌, ◌<◌, ◌≤◌, Bool, true, false, List, [], ◌∷◌, ◌++◌, Option, Some, None, refl, sym, ap, ◌∙◌, cond, arith, Result, Ok, Err, length, drop, get_or, append_assoc, subst, is_some, if◌then◌else◌}
+use Rattle.std.specs.Prelude.{MatchResult, OnOk, IfErr}
 use Rattle.std.proofs.Math.ListN.{drop_of_length-le}
 use Rattle.std.proofs.lemmas.Bool.Decides.{nat_tests}
 use Rattle.tb_opcodes.specs.declared.Mnemonic.{Mnemonic}
@@ -9,12 +9,13 @@ use Rattle.tb_opcodes.specs.declared.Mode.TheVariants.{Relative, Absolute}
 use Rattle.std.proofs.lemmas.List.{append-nil}
 use Rattle.tb_asm.specs.declared.items.Operand.TheVariants.{Word, Label}
 use Rattle.tb_asm.specs.declared.names.Name.{Name}
-use Rattle.tb_asm.specs.Layout.{Entry, entry_of, instr, label, bytes, word, size, label_at, labels_from, address_in, same_name}
+use Rattle.tb_asm.specs.Layout.{Entry, entry_of, instr, label, bytes, word, size, label_at, labels_from, address_in, same_name, twice}
+use Rattle.tb_asm.specs.Assembled.{Refuses}
 use Rattle.tb_asm.specs.Settle.{Form, kept, long, inverse, branch_to, items_at, items_from, form_size, long_of, form_past, round_labels}
 use Rattle.tb_asm.specs.Marks.{form_of, forms_of, or_found, wrapped, AddsLabel, PushesEntries}
 use Rattle.tb_asm.specs.declared.items.Item.{Item}
 use Rattle.tb_asm.specs.declared.errors.AsmErrorKind.{AsmErrorKind}
-use Rattle.tb_asm.specs.declared.errors.AsmErrorKind.TheVariants.{NoMemory}
+use Rattle.tb_asm.specs.declared.errors.AsmErrorKind.TheVariants.{NoSuchMode, UnknownLabel, LabelTwice, BranchOutOfRange, RunsPast, IndirectAtPageEnd, NoMemory}
 use Rattle.tb_asm.proofs.Passes.{behind, here}
 use Rattle.tb_asm.proofs.Rounds.{marks_here}
 use Rattle.tb_asm.proofs.Faults.{ends_by}
@@ -155,10 +156,21 @@ form_ends a (kept e) l h = ends_by a e l h
 form_ends a (long n l) le h = grind (arith, nat_tests)
 
 -- a label is added to those that are found
-pub added_by : {U : Type 0} (old new : List (Name × ℕ)) (a : ℕ) (e : Entry) (r : Result U AsmErrorKind)
-    → MatchResult r (λ _. new ≡ old ++ label_at a e) (λ k. k ≡ NoMemory) → MatchResult r (λ _. AddsLabel old a e new) (λ k. k ≡ NoMemory)
-added_by old new a e (Ok u) h = λ n. ap (λ ls. address_in ls n) h ∙ found_append old (label_at a e) n
-added_by old new a e (Err k) h = h
+only_memory : (k : AsmErrorKind) → Refuses None k → k ≡ NoMemory
+only_memory NoMemory h = refl
+only_memory NoSuchMode h = cc
+only_memory LabelTwice h = cc
+only_memory RunsPast h = cc
+only_memory UnknownLabel h = cc
+only_memory BranchOutOfRange h = cc
+only_memory IndirectAtPageEnd h = cc
+
+-- a label that is new is refused for want of memory alone
+pub added_by : {U : Type 0} (old new : List (Name × ℕ)) (a : ℕ) (n : Name) (r : Result U AsmErrorKind) → false ≡ is_some (address_in old n)
+    → OnOk r ((address_in old n ≡ None) × (new ≡ old ++ (n, a) ∷ [])) → IfErr r (λ k. Refuses (twice old n) k)
+    → MatchResult r (λ _. AddsLabel old a (label n) new) (λ k. k ≡ NoMemory)
+added_by old new a n (Ok u) fresh h q = λ m. ap (λ ls. address_in ls m) h.1 ∙ found_append old (label_at a (label n)) m
+added_by old new a n (Err k) fresh h q = only_memory k (subst (λ t. Refuses t k) (ap (λ t. if t then Some LabelTwice else None) (sym fresh)) q)
 
 -- behind the last item there is none
 pub behind_none : (items : List Item) (i : ℕ) → length items ≤ i → behind items i ≡ []

@@ -8,8 +8,7 @@ use Rattle.tb_parser.specs.Files.{RisesFrom, LinesAre, Outcome, edited, end, bad
 use Rattle.tb_prg.specs.Prg.{header}
 use Rattle.tb_runtime16.specs.Places.{PROLOGUE_AT}
 use Rattle.tb_syntax.specs.Source.{Program, numbers}
-use Rattle.tb_templates.specs.Program.{program_code}
-use Rattle.tb_templates.proofs.Ordered.{RisingFrom}
+use Rattle.tb_templates.specs.Program.{program_code, RisingFrom}
 use Rattle.tb_keeping.specs.Kept.{Keeps}
 use Rattle.tb_keeping.proofs.Compiled.{image_keeps}
 use Rattle.tb_codegen.proofs.Sized.{IsLaid, code_rises, same_numbers}

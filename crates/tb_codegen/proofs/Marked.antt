@@ -13,8 +13,7 @@ use Rattle.tb_prg.specs.Prg.{header}
 use Rattle.tb_runtime16.specs.Places.{PROLOGUE_AT}
 use Rattle.tb_syntax.specs.Source.{Program, numbers}
 use Rattle.tb_templates.specs.declared.labels.Target.TheVariants.{Line}
-use Rattle.tb_templates.specs.Program.{program_code}
-use Rattle.tb_templates.proofs.Ordered.{RisingFrom}
+use Rattle.tb_templates.specs.Program.{program_code, RisingFrom}
 use Rattle.tb_keeping.specs.Layout.{place_of}
 use Rattle.tb_keeping.specs.LineStarts.{MarksLines}
 use Rattle.tb_keeping.proofs.Compiled.{image_marks}

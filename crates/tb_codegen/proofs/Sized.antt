@@ -15,9 +15,8 @@ use Rattle.tb_templates.specs.Labels.{label_of}
 use Rattle.tb_templates.specs.declared.labels.Target.TheVariants.{Table}
 use Rattle.tb_templates.specs.Layout.{LabelsAt}
 use Rattle.tb_templates.specs.Sizes.{room, list_room, lines_room}
-use Rattle.tb_templates.specs.Program.{line_code, lines_code, past_code, find_code, table_code, block_code, program_code, AreCodable}
+use Rattle.tb_templates.specs.Program.{line_code, lines_code, past_code, find_code, table_code, block_code, program_code, AreCodable, RisingFrom}
 use Rattle.tb_templates.proofs.Fitting.{program_fits}
-use Rattle.tb_templates.proofs.Ordered.{RisingFrom}
 use Rattle.tb_templates.proofs.Reached.{labels_split}
 use Rattle.tb_templates.proofs.Taken.{block_size, program_size, program_labels, accepted}
 use Rattle.tb_words.specs.Words.{word_of}

@@ -11,7 +11,7 @@ ghost use Rattle.tb_lower.specs.Shown.{code_of};
 ghost use Rattle.tb_parser.specs.Files.{AreStated, Outcome, RisesFrom};
 ghost use Rattle.tb_runtime16.specs.Places.{PROLOGUE_AT};
 ghost use Rattle.tb_templates.specs.Labels.{label_of};
-ghost use Rattle.tb_templates.specs.Program.{AreCodable, program_code};
+ghost use Rattle.tb_templates.specs.Program.{AreCodable, RisingFrom, program_code};
 ghost use Rattle.tb_codegen.specs.declared.errors.CompileError.TheVariants as error;
 ghost use Rattle.tb_codegen.specs.Answers.{HasOutcome, Makes, OutcomeAnswer, ProgramAnswer};
 ghost use Rattle.tb_keeping.specs.Kept.{Keeps};
@@ -81,6 +81,7 @@ fn compile_program(alloc: Global, program: &Program, seed: u16) -> Result<Compil
 fn laid(alloc: Global, code: &SlotCode, seed: u16) -> Result<Image, CompileError>
     requires lists { AreCodable (code_of code.now) }
     requires lines { length (code_of code.now) < 65536 }
+    requires rising { RisingFrom 0 (numbers (code_of code.now)) }
     requires accepted { refusal PROLOGUE_AT (program_code seed (code_of code.now)) ≡ None }
     ensures ok { IfOk result (λ image. (image.at ≡ PROLOGUE_AT) × (image.bytes.items ≡ image_of PROLOGUE_AT (program_code seed (code_of code.now))) × (image.labels.entries ≡ labels_from PROLOGUE_AT (program_code seed (code_of code.now)))) }
     ensures err { IfErr result (λ e. e ≡ error.NoMemory) }

@@ -13,9 +13,8 @@ use Rattle.tb_lower.specs.Ranges.{AreInRange}
 use Rattle.tb_runtime16.specs.Places.{PROLOGUE_AT, LINES_AT}
 use Rattle.tb_runtime16.specs.Block.{block_bytes}
 use Rattle.tb_templates.specs.declared.labels.Target.TheVariants as target
-use Rattle.tb_templates.specs.Program.{line_code, lines_code, past_code, find_code, table_code, block_code, program_code, AreCodable}
+use Rattle.tb_templates.specs.Program.{line_code, lines_code, past_code, find_code, table_code, block_code, program_code, AreCodable, RisingFrom}
 use Rattle.tb_templates.proofs.Fitting.{size_append}
-use Rattle.tb_templates.proofs.Ordered.{RisingFrom}
 use Rattle.tb_templates.proofs.Taken.{block_size, program_labels}
 use Rattle.tb_keeping.specs.Layout.{Lies, place_of, layout_of, place_at, IsBelowAll, AreRising, Laid}
 use Rattle.tb_keeping.proofs.Laying.{front, back}

@@ -13,3 +13,4 @@ pub mod Keeps
 pub mod Visits
 pub mod Starts
 pub mod Rows
+pub mod Found

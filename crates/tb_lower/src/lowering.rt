@@ -17,6 +17,9 @@ use std::alloc::{AllocError, Global};
 use tb_syntax::{Expr, PrintItem, Program, Statement};
 use tb_words::Letter;
 
+// No shorter than the lists of most lines.
+const USUAL_LENGTH: usize = 8;
+
 /// Why a program has no slot code.
 #[derive(Clone, Copy, PartialEq, Eq, Debug, Drop)]
 pub enum LowerError {
@@ -79,7 +82,7 @@ fn lower_line(alloc: Global, number: u16, statement: &Statement) -> Result<SlotL
     requires { command_need (command_of statement.now) ≤ 16 }
     ensures { IfOk result (λ line. slot_line_of line ≡ record { number = number; content = list_code (command_of statement.now) }) }
 {
-    let mut code = Vec::new(alloc);
+    let mut code = Vec::with_capacity(alloc, USUAL_LENGTH)?;
     put(&mut code, SlotInstr::Poll)?;
     put_command(&mut code, statement)?;
     Ok(SlotLine { number, code })

@@ -48,15 +48,11 @@ pub fn highest(program: &Program) -> u16
 }
 
 /// Whether there is a line of this number.
+#[tactic(auto, using(crate::proofs::Found::found_line))]
 pub fn has_line(program: &Program, number: u16) -> bool
     ensures { result ≡ has_line (numbers (lines_of program.now)) number }
 {
-    for (line, _) in program.lines() {
-        if *line == number {
-            return true;
-        }
-    }
-    false
+    program.has(number)
 }
 
 /// The statement of a line.

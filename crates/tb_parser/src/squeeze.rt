@@ -73,7 +73,7 @@ fn show(mode: Mode, byte: u8) -> u8
 pub(crate) fn squeeze(alloc: Global, line: &[u8]) -> Result<Vec<Placed>, AllocError>
     ensures { IfOk result (λ s. s.items ≡ squeezed_from Code 1 line.now) }
 {
-    let mut placed = Vec::new(alloc);
+    let mut placed = Vec::with_capacity(alloc, line.len())?;
     let mut mode = Mode::Code;
     for (i, byte) in line.iter().enumerate() {
         if !drops(mode, *byte) {

@@ -1,8 +1,8 @@
 //! Programs: statements by line number.
-ghost use Rattle.std.specs.Prelude.{◌≡◌, ◌↔◌, ℕ, List, [], IsTrue, OnOk, OnErr};
+ghost use Rattle.std.specs.Prelude.{◌≡◌, ◌↔◌, ℕ, List, [], IsTrue, OnOk, OnErr, is_some};
 ghost use Rattle.std.specs.Ordering.{nat_cmp};
 ghost use Rattle.std.specs.BTreeMap.{insert_entry, is_at};
-ghost use Rattle.std.specs.Map.{remove_entry};
+ghost use Rattle.std.specs.Map.{lookup, remove_entry};
 ghost use Rattle.std.specs.Coded.{codes};
 ghost use Rattle.tb_syntax.specs.declared.statements.Statement.{Statement};
 ghost use Rattle.tb_syntax.specs.contracts.statements.Statement as statement;
@@ -55,6 +55,13 @@ impl Program {
         ensures { self.new ≡ remove_entry (is_at (nat_cmp number)) self.old }
     {
         let _ = self.statements.remove(&number);
+    }
+
+    /// Whether there is a line of this number.
+    pub fn has(&self, number: u16) -> bool
+        ensures { result ≡ is_some (lookup (is_at (nat_cmp number)) self.now) }
+    {
+        self.statements.contains_key(&number)
     }
 
     /// Whether there is no line.

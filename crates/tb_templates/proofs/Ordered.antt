@@ -1,16 +1,18 @@
 -- The labels of a whole program rise.
-use Rattle.std.proofs.Common.{◌≡◌, ℕ, ◌+◌, ◌<◌, ◌≤◌, Bool, true, false, List, [], ◌∷◌, ◌++◌, length, refl, sym, arith, subst}
+use Rattle.std.proofs.Common.{◌≡◌, ℕ, ◌+◌, ◌<◌, ◌≤◌, Bool, true, false, List, [], ◌∷◌, ◌++◌, length, refl, sym, ap, ◌∙◌, arith, subst, nat_lt}
+use Rattle.std.specs.Prelude.{if◌then◌else◌}
+use Rattle.std.proofs.lemmas.Bool.Decides.{nat_tests}
 use Rattle.tb_words.specs.declared.Rel.TheVariants.{Eq, Lt, Gt, Le, Ge, Ne}
 use Rattle.tb_syntax.specs.declared.expressions.Operator.TheVariants.{Add, Subtract, Multiply, Divide}
 use Rattle.tb_syntax.specs.Source.{numbers}
-use Rattle.tb_lower.specs.Control.{has_line}
+use Rattle.tb_lower.specs.Control.{At, has_line, next_after}
 use Rattle.tb_lower.specs.Slots.{Instr, Put, Load, Store, Negate, Compute, Random, SendText, SendNumber, SendZone, SendNewline, Input, Poll, Hold, LeaveUnless, Jump, Call, JumpTo, CallTo, Return, End, SlotCode}
 use Rattle.tb_templates.specs.declared.labels.Inner.{Inner}
 use Rattle.tb_templates.specs.declared.labels.Inner.TheVariants as inner
 use Rattle.tb_templates.specs.Labels.{label_of, letter_of}
-use Rattle.tb_templates.specs.declared.labels.Target.TheVariants.{Inside, Table}
-use Rattle.tb_templates.specs.Templates.{template, jump_to, call_to, next_line}
-use Rattle.tb_templates.specs.Program.{rest_code, line_code, lines_code, past_code, find_code, rows_code, table_code, program_code, AreCodable}
+use Rattle.tb_templates.specs.declared.labels.Target.TheVariants.{Line, Inside, Table}
+use Rattle.tb_templates.specs.Templates.{template, jump_to, call_to, next_line, target_of}
+use Rattle.tb_templates.specs.Program.{rest_code, line_code, lines_code, past_code, find_code, rows_code, table_code, program_code, AreCodable, RisingFrom, first_of, AreInTurn}
 use Rattle.tb_templates.proofs.Rising.{key_of, base, line_key, inside_key, Rising, rising_append, rising_lower, rising_higher}
 
 jump_rises : (ns : List ℕ) (to low high : ℕ) (t : Bool) → has_line ns to ≡ t → low ≤ high → Rising low (jump_to ns to) high
@@ -65,10 +67,33 @@ rest_rises ns seed n i (c ∷ is) h k =
     (rising_higher (base n i + 1) (base n (i + 1)) (base n (i + 1) + 1) (template ns seed n i c) (omega arith) (template_rises ns seed n i h (omega (arith, k)) c))
     (rest_rises ns seed n (i + 1) is h (omega (arith, k)))
 
--- line numbers that rise from one on, and are words
-abbrev pub RisingFrom : ℕ → List ℕ → Type 0
-RisingFrom low [] = Unit {0}
-RisingFrom low (n ∷ ns) = (low ≤ n) × (n < 65536) × RisingFrom (n + 1) ns
+-- behind a line comes the first of the lines that rise from it
+first_behind : (n : ℕ) (lines : SlotCode) → RisingFrom (n + 1) (numbers lines) → first_of lines ≡ next_line (numbers lines) n
+first_behind n [] r = refl
+first_behind n (line ∷ lines) r = by (nat_lt n line.number) refl
+  where
+    by : (t : Bool) → nat_lt n line.number ≡ t → Line line.number ≡ target_of (if t then At line.number else next_after (numbers lines) n)
+    by true e = refl
+    by false e = absurd (let no : ⊥ = grind (arith, e, r.0, nat_tests) in no)
+
+not_behind : (n m : ℕ) (ms : List ℕ) → m ≤ n → next_after (m ∷ ms) n ≡ next_after ms n
+not_behind n m ms h = by (nat_lt n m) refl
+  where
+    by : (t : Bool) → nat_lt n m ≡ t → (if t then At m else next_after ms n) ≡ next_after ms n
+    by true e = absurd (let no : ⊥ = grind (arith, e, h, nat_tests) in no)
+    by false e = refl
+
+-- lines are in turn where they rise, and all lines before them are lower
+in_turn : (ns : List ℕ) (low : ℕ) (lines : SlotCode) → RisingFrom low (numbers lines) → ((n : ℕ) → low ≤ n → next_after ns n ≡ next_after (numbers lines) n) → AreInTurn ns lines
+in_turn ns low [] r same = tt
+in_turn ns low (line ∷ lines) r same =
+    let m = line.number in (
+      first_behind m lines r.2 ∙ sym (ap target_of (same m r.0 ∙ not_behind m m (numbers lines) (omega arith))),
+      in_turn ns (m + 1) lines r.2 (λ n h. same n (let l = r.0 in omega (arith, h, l)) ∙ not_behind n m (numbers lines) (omega (arith, h))),
+    )
+
+pub lines_in_turn : (lines : SlotCode) → RisingFrom 0 (numbers lines) → AreInTurn (numbers lines) lines
+lines_in_turn lines r = in_turn (numbers lines) 0 lines r (λ n h. refl)
 
 pub lines_rise : (ns : List ℕ) (seed low : ℕ) (lines : SlotCode) → low ≤ 65536 → RisingFrom low (numbers lines) → AreCodable lines → Rising (base low 0) (lines_code ns seed lines) (base 65536 0)
 lines_rise ns seed low [] l r c = omega (arith, l)

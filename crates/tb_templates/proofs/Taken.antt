@@ -7,11 +7,11 @@ use Rattle.tb_lower.specs.Slots.{SlotCode}
 use Rattle.tb_syntax.specs.Source.{numbers}
 use Rattle.tb_runtime16.specs.Places.{PROLOGUE_AT}
 use Rattle.tb_templates.specs.Layout.{LabelsAt}
-use Rattle.tb_templates.specs.Program.{line_code, lines_code, past_code, find_code, rows_code, table_code, block_code, program_code, AreCodable}
+use Rattle.tb_templates.specs.Program.{line_code, lines_code, past_code, find_code, rows_code, table_code, block_code, program_code, AreCodable, RisingFrom}
 use Rattle.tb_templates.specs.Sizes.{lines_room, rest_room}
 use Rattle.tb_templates.proofs.Fitting.{size_append, rest_fits}
 use Rattle.tb_templates.proofs.Rising.{labels_hold}
-use Rattle.tb_templates.proofs.Ordered.{RisingFrom, top, program_rises}
+use Rattle.tb_templates.proofs.Ordered.{top, program_rises}
 use Rattle.tb_templates.proofs.Accepted.{program_modes, distinct}
 use Rattle.tb_templates.proofs.Reached.{program_reaches}
 

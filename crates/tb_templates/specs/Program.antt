@@ -1,5 +1,5 @@
 -- The code of a whole program, as items of the assembler from the block's address on.
-use Rattle.std.specs.Prelude.{ℕ, ◌+◌, ◌-◌, ◌<◌, List, [], ◌∷◌, ◌++◌, length, replicate}
+use Rattle.std.specs.Prelude.{◌≡◌, ℕ, ◌+◌, ◌-◌, ◌<◌, ◌≤◌, List, [], ◌∷◌, ◌++◌, length, replicate}
 use Rattle.tb_opcodes.specs.declared.Mnemonic.TheVariants.{Jmp}
 use Rattle.tb_asm.specs.declared.items.Operand.TheVariants as operand
 use Rattle.tb_asm.specs.Layout.{Entry, bytes, word}
@@ -9,6 +9,7 @@ use Rattle.tb_lower.specs.Slots.{Instr, SlotCode}
 use Rattle.tb_lower.specs.Ranges.{AreInRange}
 use Rattle.tb_runtime16.specs.Block.{block_bytes}
 use Rattle.tb_runtime16.specs.Places.{PROLOGUE_AT, LINES_AT, LINE, TABLE, COUNT, SEARCH_AT}
+use Rattle.tb_templates.specs.declared.labels.Target.{Target}
 use Rattle.tb_templates.specs.declared.labels.Target.TheVariants.{Line, Past, Find, Table}
 use Rattle.tb_templates.specs.Labels.{label_of}
 use Rattle.tb_templates.specs.Templates.{at, jump, here, constant, address, fault, next_line, template}
@@ -58,3 +59,18 @@ program_code seed code =
 abbrev pub AreCodable : SlotCode → Type 0
 AreCodable [] = Unit {0}
 AreCodable (line ∷ lines) = AreInRange 256 line.content × (length line.content < 65536) × AreCodable lines
+
+-- line numbers that rise from one on, and are words
+abbrev pub RisingFrom : ℕ → List ℕ → Type 0
+RisingFrom low [] = Unit {0}
+RisingFrom low (n ∷ ns) = (low ≤ n) × (n < 65536) × RisingFrom (n + 1) ns
+
+-- the first of these lines, or past all of them
+abbrev pub first_of : SlotCode → Target
+first_of [] = Past
+first_of (line ∷ lines) = Line line.number
+
+-- behind each of these lines of a program comes the next of them
+abbrev pub AreInTurn : List ℕ → SlotCode → Type 0
+AreInTurn ns [] = Unit {0}
+AreInTurn ns (line ∷ lines) = (first_of lines ≡ next_line ns line.number) × AreInTurn ns lines

@@ -11,7 +11,7 @@ ghost use Rattle.tb_lower.specs.Control.{highest};
 ghost use Rattle.tb_lower.specs.Ranges.{AreInRange};
 ghost use Rattle.tb_lower.specs.Shown.{instr_of, slot_line_of, code_of};
 ghost use Rattle.tb_templates.specs.Program as program;
-ghost use Rattle.tb_templates.specs.Program.{AreCodable, program_code};
+ghost use Rattle.tb_templates.specs.Program.{AreCodable, AreInTurn, RisingFrom, first_of, program_code};
 ghost use Rattle.tb_templates.specs.Templates as templates;
 
 use crate::labels::{Target, label};
@@ -23,14 +23,18 @@ use tb_lower::{SlotCode, SlotInstr, SlotLine};
 use tb_opcodes::Mnemonic;
 use tb_runtime16::{BLOCK_AT, COUNT, LINE, LINES_AT, Routine, TABLE, block, entry};
 
+// About the most items that lines have in the mean; only the speed hangs on it.
+const ITEMS_IN_A_LINE: usize = 32;
+
 /// The items of a program, from the block's address on; the seed is the option's RND state.
 pub fn program_items(alloc: Global, seed: u16, code: &SlotCode) -> Result<Vec<Item>, AllocError>
     requires lists { AreCodable (code_of code.now) }
     requires lines { length (code_of code.now) < 65536 }
+    requires rising { RisingFrom 0 (numbers (code_of code.now)) }
     ensures { IfOk result (λ items. map entry_of items.items ≡ program_code seed (code_of code.now)) }
 {
     let numbers = line_numbers(alloc, code.lines())?;
-    let mut items = Vec::new(alloc);
+    let mut items = Vec::with_capacity(alloc, ITEMS_IN_A_LINE * numbers.len())?;
     put_block(&mut items)?;
     put_lines(&mut items, &numbers, seed, code.lines())?;
     put_past(&mut items, &numbers)?;
@@ -75,13 +79,26 @@ fn put_lines(
     seed: u16,
     lines: &[SlotLine],
 ) -> Result<(), AllocError>
-    requires { AreCodable (code_of lines.now) }
+    requires lists { AreCodable (code_of lines.now) }
+    requires in_turn { AreInTurn numbers.now (code_of lines.now) }
     ensures { OnOk result (map entry_of items.new.items ≡ map entry_of items.old.items ++ program.lines_code numbers.now seed (code_of lines.now)) }
 {
-    for line in lines {
-        put_line(items, numbers, seed, line)?;
+    let mut rest = lines;
+    while let [line, behind @ ..] = rest {
+        put_line(items, numbers, seed, line, first_of(behind))?;
+        rest = behind;
     }
     Ok(())
+}
+
+// The place of the first of these lines, or past them.
+fn first_of(lines: &[SlotLine]) -> Target
+    ensures { result ≡ first_of (code_of lines.now) }
+{
+    match lines {
+        [] => Target::Past,
+        [first, ..] => Target::Line(first.number),
+    }
 }
 
 // A line: it notes its number, does its list and goes on to the next line.
@@ -90,13 +107,15 @@ fn put_line(
     numbers: &[u16],
     seed: u16,
     line: &SlotLine,
+    next: Target,
 ) -> Result<(), AllocError>
-    requires { AreInRange 256 (map instr_of line.now.code.items) × (length line.now.code.items < 65536) }
+    requires lists { AreInRange 256 (map instr_of line.now.code.items) × (length line.now.code.items < 65536) }
+    requires next { next ≡ templates.next_line numbers.now line.now.number }
     ensures { OnOk result (map entry_of items.new.items ≡ map entry_of items.old.items ++ program.line_code numbers.now seed (slot_line_of line.now)) }
 {
     put_here(items, Target::Line(line.number))?;
     put_constant(items, line.number, LINE)?;
-    put_list(items, numbers, seed, line.number, &line.code)?;
+    put_list(items, numbers, seed, line.number, next, &line.code)?;
     Ok(())
 }
 
@@ -106,12 +125,13 @@ fn put_list(
     numbers: &[u16],
     seed: u16,
     line: u16,
+    next: Target,
     list: &[SlotInstr],
 ) -> Result<(), AllocError>
-    requires { AreInRange 256 (map instr_of list.now) × (length list.now < 65536) }
+    requires list { AreInRange 256 (map instr_of list.now) × (length list.now < 65536) }
+    requires next { next ≡ templates.next_line numbers.now line }
     ensures { OnOk result (map entry_of items.new.items ≡ map entry_of items.old.items ++ program.rest_code numbers.now seed line 0 (map instr_of list.now)) }
 {
-    let next = next_line(numbers, line);
     let mut index = 0;
     for instruction in list {
         put_instruction(
@@ -124,20 +144,6 @@ fn put_list(
         index += 1;
     }
     put_jump(items, next)
-}
-
-// The place behind a line.
-fn next_line(numbers: &[u16], line: u16) -> Target
-    ensures { result ≡ templates.next_line numbers.now line }
-{
-    match numbers {
-        [] => Target::Past,
-        [first, rest @ ..] => if line < *first {
-            Target::Line(*first)
-        } else {
-            next_line(rest, line)
-        },
-    }
 }
 
 // Fault 7, at the highest line.

@@ -5,7 +5,7 @@ use Rattle.tb_syntax.specs.Source.{Program, numbers}
 use Rattle.tb_runtime16.specs.Places.{PROLOGUE_AT}
 use Rattle.tb_templates.specs.declared.labels.Target.TheVariants.{Table}
 use Rattle.tb_templates.specs.Labels.{label_of}
-use Rattle.tb_templates.specs.Program.{program_code}
+use Rattle.tb_templates.specs.Program.{RisingFrom, program_code}
 use Rattle.tb_lower.specs.Cost.{cost}
 use Rattle.tb_lower.specs.Shown.{code_of}
 use Rattle.tb_codegen.specs.Compiled.{AreKnown, pair_of, starts_in, most}
@@ -13,7 +13,7 @@ use Rattle.tb_codegen.proofs.Small.{are_small, cost_small}
 use Rattle.tb_codegen.proofs.Kept.{file_keeps}
 use Rattle.tb_codegen.proofs.Marked.{file_marks}
 use Rattle.tb_prg.specs.Prg.{header}
-use Rattle.tb_codegen.proofs.Sized.{laid, made}
+use Rattle.tb_codegen.proofs.Sized.{code_rises, laid, made}
 use Rattle.tb_codegen.proofs.compiler.compile_program.Goals as goal
 
 pub cost-cost-requires : goal.cost-cost-requires
@@ -29,6 +29,9 @@ laid-requires-clause-lists c = (laid c.args.seed (lines_of c.args.program.now) (
 pub laid-requires-clause-lines : goal.laid-requires-clause-lines
 laid-requires-clause-lines c = (laid c.args.seed (lines_of c.args.program.now) (code_of c.in_ok-code.code) c.in_ok-code.ensures.lowered c.requires.stated c.requires.rising c.in_ok-code.ensures.in_range
     (cheap (lines_of c.args.program.now) c.cost-cost.result c.if-cost-gt-MOST.false c.cost-cost.ensures)).lines
+
+pub laid-requires-clause-rising : goal.laid-requires-clause-rising
+laid-requires-clause-rising c = subst (λ k. RisingFrom 0 (numbers k)) (sym c.in_ok-code.ensures.lowered) (code_rises (lines_of c.args.program.now) c.requires.rising)
 
 pub laid-requires-clause-accepted : goal.laid-requires-clause-accepted
 laid-requires-clause-accepted c = (laid c.args.seed (lines_of c.args.program.now) (code_of c.in_ok-code.code) c.in_ok-code.ensures.lowered c.requires.stated c.requires.rising c.in_ok-code.ensures.in_range
