@@ -6,3 +6,4 @@ pub mod Made
 pub mod Programs
 pub mod Assembly
 pub mod Sources
+pub mod Stepping
