@@ -35,7 +35,7 @@ gives_quiet _ m e _ = is_quiet m e
 -- the history of a program's start machine alone
 abbrev pub start_of_history : List ℕ → List ℕ → Compiled → Holds Quiet
 start_of_history text answers program =
-    record { machine = start 0x0801 (loaded_of program) text answers; outside = record { }; notes = []; program = program }
+    record { machine = start 0x0801 (loaded_of program) text answers; outside = record {}; notes = []; program = program }
 
 -- the answers to commands, over a program
 abbrev pub Steps : List ℕ → List ℕ → ℕ → Compiled → List ℕ → Product → Type 0
