@@ -27,7 +27,7 @@ makes_as p q wider (Err (StopRefused e)) m = wider _ m
 makes_as p q wider (Err StopNoMemory) m = tt
 
 -- and so it is with what was written
-answers_as : (p q : Product → Type 0) → ((x : Product) → p x → q x) → (outcome : Outcome) → (old new : Option (List ℕ))
+pub answers_as : (p q : Product → Type 0) → ((x : Product) → p x → q x) → (outcome : Outcome) → (old new : Option (List ℕ))
     → Answers p outcome old new → Answers q outcome old new
 answers_as p q wider (Ended end) old new (text, made, written) = (text, wider _ made, written)
 answers_as p q wider (Refused e) old new (made, kept) = (wider _ made, kept)
@@ -36,7 +36,7 @@ answers_as p q wider WriteFault old new (text, end, made, written) = (text, end,
 answers_as p q wider NoMemory old new kept = kept
 
 -- what is shown of what was made is of its kind
-shown : (makes : Product → Type 0) (made : Result Text Stop) → Makes makes made → (x : Product) → Shows made x → makes x
+pub shown : (makes : Product → Type 0) (made : Result Text Stop) → Makes makes made → (x : Product) → Shows made x → makes x
 shown makes (Ok text) m x s = subst makes (sym s) m
 shown makes (Err (StopRefused e)) m x s = subst makes (sym s) m
 shown makes (Err StopNoMemory) m x s = absurd s

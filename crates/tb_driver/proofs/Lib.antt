@@ -3,3 +3,5 @@ pub mod Start
 mod Written
 mod Delivered
 mod Output
+mod Loadable
+mod Stepped

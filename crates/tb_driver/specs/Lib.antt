@@ -7,3 +7,4 @@ pub mod Programs
 pub mod Assembly
 pub mod Sources
 pub mod Output
+pub mod Stepping

@@ -1,5 +1,5 @@
 -- What notes give back.
-use Rattle.std.proofs.Common.{ℕ, ◌≡◌, ◌-◌, ◌+◌, ◌≤◌, Bool, true, false, ◌&&◌, List, [], ◌∷◌, ◌++◌, length, take, drop, refl, sym, ap, subst, ◌∙◌, arith, suc, zero, length-append}
+use Rattle.std.proofs.Common.{ℕ, ◌≡◌, ◌-◌, ◌+◌, ◌≤◌, Bool, true, false, ◌&&◌, List, [], ◌∷◌, ◌++◌, length, take, drop, refl, sym, ap, subst, ◌∙◌, arith, suc, zero, length-append, length-drop}
 use Rattle.std.specs.Prelude.{nat_le, Ok, if◌then◌else◌}
 use Rattle.std.proofs.lemmas.Bool.{and_parts, and_from}
 use Rattle.std.proofs.lemmas.Bool.Decides.{nat_tests}
@@ -107,6 +107,17 @@ machines_more text answers us u s t h =
     let same : n ≡ m = omega (arith, length-append us (u ∷ []), length-append before (t ∷ []), long) in
     let few : m ≤ length before = omega (arith, length-append before (t ∷ [])) in
     ap (λ l. l ++ t ∷ []) (earlier_dropped text answers n (us ++ u ∷ []) t ∙ ap (drop n) more ∙ ap (λ k. drop k before) same) ∙ sym (drop-append-le m before (t ∷ []) few)
+
+-- at most 1,000 notes lead back to at most 1,001 machines
+pub few_machines : {O : Type 0} (h : Holds O) → length h.notes ≤ 1000 → length (machines h) ≤ 1001
+few_machines h few =
+    let all = length-append (earlier_of h.machine.all_text h.machine.all_answers h.notes (state_of h.machine)) (state_of h.machine ∷ []) in
+    let before = length_earlier h.machine.all_text h.machine.all_answers h.notes (state_of h.machine) in
+    omega (arith, all, before)
+
+-- of more notes the last 1,000 are kept
+pub few_kept : (us : List Note) → length (keep_last 1000 us) ≤ 1000
+few_kept us = omega (arith, length-drop (length us - 1000) us)
 
 -- the notes after an event fit
 pub kept_fit : (m ready n : Content) (e : Event) (t : Status) (u : Note) (us : List Note) → ready ≡ record m { room = ready.room } → Noted u ready e → Happened ready e (Ok t) n →

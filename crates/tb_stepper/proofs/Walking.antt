@@ -8,7 +8,8 @@ use Rattle.tb_kernal.specs.Machine.{Content, state_of, status, is_stopped}
 use Rattle.tb_stepper.specs.History.{Holds, SteppedBy, Stepped, Walked, Reaches, end_at}
 
 module _ {O : Type 0} (gives : O → Content → Event → O → Type 0) where
-  status_by : (b : Bool) (h k : Holds O) (t : Status) → SteppedBy b gives h (Ok t) k → SteppedBy b gives h (Ok (status (state_of k.machine))) k
+  -- the status that a step answers is that of the machine after it
+  pub status_by : (b : Bool) (h k : Holds O) (t : Status) → SteppedBy b gives h (Ok t) k → SteppedBy b gives h (Ok (status (state_of k.machine))) k
   status_by true h k t x = (ap (λ (y : Holds O). Ok (status (state_of y.machine))) x.1, x.1)
   status_by false h k t x = (x.0, refl)
 

@@ -46,7 +46,7 @@ pub struct Stepper<'a, O: Outside + Drop> {
 }
 
 impl<'a, O: Outside + Drop> Model for Stepper<'a, O> {
-    ghost use Rattle.std.specs.Prelude.{◌≡◌, true};
+    ghost use Rattle.std.specs.Prelude.{◌≡◌, ◌≤◌, true, length};
     ghost use Rattle.tb_stepper.specs.Notes.{Holds, machines, all_fit, EachFollows};
 
     ghost Value = { Holds O };
@@ -55,7 +55,8 @@ impl<'a, O: Outside + Drop> Model for Stepper<'a, O> {
 
     ghost invariant = { λ h. (h.notes.capacity ≡ 1000)
         × (all_fit h.machine.all_text h.machine.all_answers h.notes.items ≡ true)
-        × EachFollows (machines (record { machine = h.machine; outside = h.outside; notes = h.notes.items; program = h.program.now })) };
+        × EachFollows (machines (record { machine = h.machine; outside = h.outside; notes = h.notes.items; program = h.program.now }))
+        × (length h.notes.items ≤ 1000) };
 }
 
 impl<'a, O: Outside + Drop> Stepper<'a, O> {
@@ -81,9 +82,11 @@ impl<'a, O: Outside + Drop> Stepper<'a, O> {
     }
 
     /// The present machine. Each machine that is held comes from the one before it by one event.
+    #[tactic(auto, using(crate::proofs::GivingBack::few_machines))]
     pub fn machine(&self) -> &Machine
         ensures present { result.now ≡ self.now.machine }
         ensures each_follows { EachFollows (machines self.now) }
+        ensures few { length (machines self.now) ≤ 1001 }
     {
         &self.machine
     }

@@ -1,4 +1,4 @@
-use Rattle.std.proofs.Common.{rules, ◌≡◌, ◌++◌, [], ◌∷◌, true, refl, sym, ap, subst, ◌∙◌}
+use Rattle.std.proofs.Common.{rules, ◌≡◌, ◌++◌, [], ◌∷◌, true, refl, sym, ap, subst, ◌∙◌, length, length-append, arith}
 use Rattle.circular_buffer.proofs.Items.{pops_last}
 use Rattle.tb_kernal.specs.Machine.{state_of}
 use Rattle.tb_stepper.specs.Notes.{Holds, machines, all_fit, EachFollows}
@@ -16,13 +16,13 @@ invariant_of-self g c =
     let before : Holds g.row.O.Denot = record { machine = m; outside = c.self.inside.outside; notes = c.self.inside.notes.items; program = c.self.inside.program.now } in
     let after : Holds g.row.O.Denot = record { machine = c.undo.new.self; outside = c.self.inside.outside; notes = c.pop_back.new.self.items; program = c.self.inside.program.now } in
     let each : EachFollows (machines after ++ state_of m ∷ []) = subst EachFollows (taken_off before after c.in-Some.note less c.undo.ensures.restored c.self.invariant.1) c.self.invariant.2 in
-    (rw c.pop_back.ensures.items c.self.invariant.0, (λ i. all_fit (keyboard.0 i) (keyboard.1 i) c.pop_back.new.self.items) ∙ (fits_less m.all_text m.all_answers _ _ all).0, follows_less _ _ _ each)
+    (rw c.pop_back.ensures.items c.self.invariant.0, (λ i. all_fit (keyboard.0 i) (keyboard.1 i) c.pop_back.new.self.items) ∙ (fits_less m.all_text m.all_answers _ _ all).0, follows_less _ _ _ each, omega (arith, length-append c.pop_back.new.self.items (c.in-Some.note ∷ []), ap length less, c.self.invariant.3))
 
 pub invariant_of-self-in-None : goal.invariant_of-self-in-None
 invariant_of-self-in-None g c =
     let h = pops_last c.self.inside.notes.items in
     let none : c.pop_back.new.self.items ≡ [] = search rules in
-    (rw c.pop_back.ensures.items c.self.invariant.0, rw none refl, rw none tt)
+    (rw c.pop_back.ensures.items c.self.invariant.0, rw none refl, rw none tt, omega (arith, ap length none))
 
 pub returns-in-Some-clause-restored : goal.returns-in-Some-clause-restored
 returns-in-Some-clause-restored g c =

@@ -1,4 +1,4 @@
-use Rattle.std.proofs.Common.{◌≡◌, ◌++◌, ◌∷◌, [], ap, refl, ◌∙◌}
+use Rattle.std.proofs.Common.{◌≡◌, ◌≤◌, ◌++◌, ◌∷◌, [], length, ap, refl, sym, subst, ◌∙◌}
 use Rattle.std.specs.Prelude.{Ok}
 use Rattle.circular_buffer.specs.Buffer.{keep_last}
 use Rattle.tb_kernal.specs.Machine.{Happened}
@@ -6,7 +6,7 @@ use Rattle.tb_kernal.specs.Notes.{Note}
 use Rattle.circular_buffer.specs.Buffer.{Buffer}
 use Rattle.tb_stepper.specs.Notes.{Holds, all_fit}
 use Rattle.tb_stepper.specs.History.{Added}
-use Rattle.tb_stepper.proofs.GivingBack.{kept_fit, added, added_follows}
+use Rattle.tb_stepper.proofs.GivingBack.{kept_fit, few_kept, added, added_follows}
 use Rattle.tb_stepper.proofs.stepper.Stepper.take_event.Goals as goal
 
 pub invariant_of-self-in-Ok : goal.invariant_of-self-in-Ok
@@ -20,7 +20,7 @@ invariant_of-self-in-Ok g c =
     let after : Holds g.row.O.Denot = record { machine = c.event.new.self; outside = c.next-event.new.self; notes = c.push_back.new.self.items; program = c.self.inside.program.now } in
     let more : Added g.O.Outside.gives before after =
     added g.O.Outside.gives before after c.reserve.new.self c.next-event.result c.in-Ok.status c.note-note.result c.reserve.ensures.rest c.next-event.ensures c.note-note.ensures happened notes refl in
-    (ap (λ (b : Buffer Note). b.capacity) c.push_back.ensures.items ∙ c.self.invariant.0, ap (all_fit c.event.new.self.all_text c.event.new.self.all_answers) notes ∙ fit, added_follows g.O.Outside.gives g.met.O.Outside.gives_lawful before after more c.self.invariant.2)
+    (ap (λ (b : Buffer Note). b.capacity) c.push_back.ensures.items ∙ c.self.invariant.0, ap (all_fit c.event.new.self.all_text c.event.new.self.all_answers) notes ∙ fit, added_follows g.O.Outside.gives g.met.O.Outside.gives_lawful before after more c.self.invariant.2, subst (λ us. length us ≤ 1000) (sym notes) (few_kept (c.self.inside.notes.items ++ c.note-note.result ∷ [])))
 
 pub returns : goal.returns
 returns g c =

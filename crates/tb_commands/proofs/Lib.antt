@@ -1,0 +1,5 @@
+pub mod LineLemmas
+pub mod Names
+pub mod Talking
+pub mod Refusing
+pub mod Appending

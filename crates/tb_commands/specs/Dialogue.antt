@@ -1,0 +1,114 @@
+-- What a history answers to commands, and what becomes of it.
+use Rattle.std.specs.Prelude.{ℕ, ℤ, ◌≡◌, ◌⊎◌, List, [], ◌∷◌, ◌++◌, Option, Some, None, Result, Ok, Err}
+use Rattle.tb_memmap.specs.Bytes.{at}
+use Rattle.tb_memmap.specs.declared.memory.NoMemory.{NoMemory}
+use Rattle.tb_words.specs.Words.{word_of}
+use Rattle.tb_syntax.specs.Source.{Expression}
+use Rattle.tb_parser.specs.Answers.{InLineOne}
+use Rattle.tb_parser.specs.Files.{FileRefusal}
+use Rattle.tb_parser.specs.Readings.{ExpressionIs}
+use Rattle.tb_lower.specs.Evaluation.{IsEvaluation}
+use Rattle.tb_lower.specs.declared.evaluation.EvalError.{EvalError}
+use Rattle.tb_lower.specs.declared.evaluation.EvalError.TheVariants as eval
+use Rattle.tb_kernal.specs.declared.events.Event.{Event}
+use Rattle.tb_kernal.specs.declared.status.Status.{Status}
+use Rattle.tb_kernal.specs.Machine.{Content, state_of, status, SameKeyboard}
+use Rattle.tb_runtime16.specs.Places.{NOTES}
+use Rattle.tb_codegen.specs.Compiled.{starts_of, table_of, line_in, start_in}
+use Rattle.tb_stepper.specs.Notes.{Holds, machines}
+use Rattle.tb_stepper.specs.History.{Stepped, ReachesLine}
+use Rattle.tb_stepper.specs.Readings.{word_in, variable_in, variables_in}
+use Rattle.tb_stepper.specs.declared.reached.Reached.{Reached}
+use Rattle.tb_stepper.specs.declared.reached.Reached.TheVariants as reached
+use Rattle.tb_stepper.specs.declared.reached.StepError.{StepError}
+use Rattle.tb_stepper.specs.declared.reached.StepError.TheVariants as error
+use Rattle.tb_commands.specs.declared.answer.Answer.{Answer}
+use Rattle.tb_commands.specs.declared.answer.Answer.TheVariants.{Registers, NothingBack, At, NoSuchLine, Limit, Stands, Number, Depth, DivisionByZero, HasRnd, What}
+use Rattle.tb_commands.specs.Commands as asked
+use Rattle.tb_commands.specs.Commands.{Asked, asked_in}
+use Rattle.tb_commands.specs.Answers.{text_of}
+
+-- how the present machine stands
+abbrev pub registers_of : {O : Type 0} → Holds O → Answer
+registers_of h = Registers h.machine.regs (line_in (starts_of h.program) (table_of h.program) h.machine.regs.pc) (status (state_of h.machine))
+
+-- a step, and how the machine then stands
+abbrev pub SaysStep : {O : Type 0} → (O → Content → Event → O → Type 0) → Holds O → Result Answer NoMemory → Holds O → Type 0
+SaysStep gives h (Ok answer) k = Stepped gives h (Ok (status (state_of k.machine))) k × (answer ≡ registers_of k)
+SaysStep gives h (Err e) k = Stepped gives h (Err e) k
+
+-- the newest machine is taken off; outside and program stay
+pub record TakenBack {O : Type 0} (h k : Holds O) : Type 0 where
+  pub machines : machines h ≡ machines k ++ state_of h.machine ∷ []
+  pub outside : k.outside ≡ h.outside
+  pub program : k.program ≡ h.program
+  pub keyboard : SameKeyboard h.machine k.machine
+
+-- a step back, and how the machine then stands, or that no step is noted
+abbrev pub SaysBack : {O : Type 0} → Holds O → Answer → Holds O → Type 0
+SaysBack h answer k =
+    (TakenBack h k × (answer ≡ registers_of k)) ⊎ ((h.notes ≡ []) × (k ≡ h) × (answer ≡ NothingBack))
+
+-- the answer where a walk to a line came to this
+abbrev pub walk_answer : ℕ → Result Reached StepError → Result Answer NoMemory
+walk_answer line (Ok reached.There) = Ok (At line)
+walk_answer line (Ok (reached.Stopped t)) = Ok (Stands t)
+walk_answer line (Ok reached.Limit) = Ok Limit
+walk_answer line (Err error.NoSuchLine) = Ok NoSuchLine
+walk_answer line (Err error.NoMemory) = Err (record {})
+
+-- a walk to a line
+abbrev pub SaysGo : {O : Type 0} → (O → Content → Event → O → Type 0) → (limit line : ℕ) → Holds O → Result Answer NoMemory → Holds O → Type 0
+SaysGo gives limit line h result k =
+    (r : Result Reached StepError) × ReachesLine gives (start_in (starts_of h.program) line) limit h r k × (result ≡ walk_answer line r)
+
+abbrev pub value_answer : Result ℤ EvalError → Answer
+value_answer (Ok v) = Number v
+value_answer (Err eval.DivideByZero) = DivisionByZero
+value_answer (Err eval.HasRnd) = HasRnd
+
+-- the value of an expression over the variables, or `what?` of a text that is none
+abbrev pub SaysOf : {O : Type 0} → Holds O → Result Expression FileRefusal → Answer → Type 0
+SaysOf h (Ok e) answer = (v : Result ℤ EvalError) × IsEvaluation e (variables_in (at h.machine.memory)) v × (answer ≡ value_answer v)
+SaysOf h (Err r) answer = answer ≡ What
+
+abbrev pub SaysValue : {O : Type 0} → Holds O → List ℕ → Answer → Type 0
+SaysValue h text answer = (r : Result Expression FileRefusal) × InLineOne (ExpressionIs text) r × SaysOf h r answer
+
+-- an answer for which only the history is read; want of memory is none
+abbrev pub Reads : {O : Type 0} → (Answer → Type 0) → Holds O → Result (Option Answer) NoMemory → Holds O → Type 0
+Reads says h (Ok (Some answer)) k = says answer × (k ≡ h)
+Reads says h (Ok None) k = ⊥
+Reads says h (Err e) k = k ≡ h
+
+-- an answer, or want of memory
+abbrev pub Answered : (Result Answer NoMemory → Type 0) → Result (Option Answer) NoMemory → Type 0
+Answered says (Ok (Some answer)) = says (Ok answer)
+Answered says (Ok None) = ⊥
+Answered says (Err e) = says (Err e)
+
+-- what is answered to a command, and the history after it
+abbrev pub Responds : {O : Type 0} → (O → Content → Event → O → Type 0) → ℕ → Holds O → Asked → Result (Option Answer) NoMemory → Holds O → Type 0
+Responds gives limit h asked.Step result k = Answered (λ r. SaysStep gives h r k) result
+Responds gives limit h asked.Back (Ok (Some answer)) k = SaysBack h answer k
+Responds gives limit h asked.Back (Ok None) k = ⊥
+Responds gives limit h asked.Back (Err e) k = ⊥
+Responds gives limit h (asked.Go line) result k = Answered (λ r. SaysGo gives limit line h r k) result
+Responds gives limit h (asked.Variable index) result k =
+    Reads (λ answer. (v : ℤ) × (word_of v ≡ variable_in (at h.machine.memory) index) × (answer ≡ Number v)) h result k
+Responds gives limit h (asked.Value text) result k = Reads (SaysValue h text) h result k
+Responds gives limit h asked.Depth result k = Reads (λ answer. answer ≡ Depth (word_in (at h.machine.memory) NOTES)) h result k
+Responds gives limit h asked.Quit result k = (result ≡ Ok None) × (k ≡ h)
+Responds gives limit h asked.Unknown result k = Reads (λ answer. answer ≡ What) h result k
+
+-- behind a command: its answer's line and what `rest` says of the lines behind it, or the end
+abbrev pub GoesOn : {O : Type 0} → (Holds O → List ℕ → Holds O → Type 0) → Option Answer → Holds O → List ℕ → Holds O → Type 0
+GoesOn rest None b text k = (text ≡ []) × (k ≡ b)
+GoesOn rest (Some answer) b text k = (more : List ℕ) × rest b more k × (text ≡ text_of answer ++ 10 ∷ more)
+
+-- the lines that answer lines of commands, up to `q` or the end, and the history after them
+abbrev pub Dialogue : {O : Type 0} → (O → Content → Event → O → Type 0) → ℕ → Holds O → List (List ℕ) → List ℕ → Holds O → Type 0
+Dialogue gives limit h [] text k = (text ≡ []) × (k ≡ h)
+Dialogue {O} gives limit h (line ∷ lines) text k =
+    (said : Option Answer) × (b : Holds O) × Responds gives limit h (asked_in line) (Ok said) b
+    × GoesOn (λ a more c. Dialogue gives limit a lines more c) said b text k

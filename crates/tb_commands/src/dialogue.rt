@@ -1,0 +1,132 @@
+//! Commands that a stepper answers.
+ghost use Rattle.std.specs.Prelude.{◌≡◌, IfOk};
+ghost use Rattle.tb_commands.specs.Commands.{asked_of};
+ghost use Rattle.tb_commands.specs.Lines.{lines_of};
+ghost use Rattle.tb_commands.specs.Dialogue.{registers_of, SaysStep, SaysBack, SaysGo, SaysValue, value_answer, Responds, Dialogue};
+
+use crate::answer::Answer;
+use crate::command::{Command, read_command};
+use crate::lines::next_line;
+use std::alloc::Global;
+use tb_kernal::Outside;
+use tb_lower::EvalError;
+use tb_memmap::NoMemory;
+use tb_parser::{SourceErrorKind, parse_expr};
+use tb_stepper::{Reached, StepError, Stepper};
+
+/// Does what a command asks for, and answers it; there is no answer to `Quit`. A walk to a line takes at most `limit`
+/// steps.
+///
+/// After NoMemory all stands as before, but for a walk: then the machine stands after the steps so far.
+pub fn respond<O: Outside + Drop>(
+    alloc: Global,
+    stepper: &mut Stepper<'_, O>,
+    command: Command<'_>,
+    limit: u64,
+) -> Result<Option<Answer>, NoMemory>
+    ensures { Responds O.gives limit stepper.old (asked_of command.entry) result stepper.new }
+{
+    let answer = match command {
+        Command::Step => step(stepper)?,
+        Command::Back => back(stepper),
+        Command::Go(line) => go(stepper, line, limit)?,
+        Command::Variable(letter) => Answer::Number(stepper.variable(letter)),
+        Command::Value(text) => value(alloc, stepper, text)?,
+        Command::Depth => Answer::Depth(stepper.depth()),
+        Command::Quit => return Ok(None),
+        Command::Unknown => Answer::What,
+    };
+    Ok(Some(answer))
+}
+
+// How the machine stands.
+fn registers<O: Outside + Drop>(stepper: &Stepper<'_, O>) -> Answer
+    ensures { result ≡ registers_of stepper.now }
+{
+    Answer::Registers {
+        regs: stepper.machine().regs(),
+        line: stepper.line(),
+        status: stepper.machine().status(),
+    }
+}
+
+fn step<O: Outside + Drop>(stepper: &mut Stepper<'_, O>) -> Result<Answer, NoMemory>
+    ensures { SaysStep O.gives stepper.old result stepper.new }
+{
+    stepper.step()?;
+    Ok(registers(stepper))
+}
+
+fn back<O: Outside + Drop>(stepper: &mut Stepper<'_, O>) -> Answer
+    ensures { SaysBack stepper.old result stepper.new }
+{
+    match stepper.back() {
+        Ok(()) => registers(stepper),
+        Err(_) => Answer::NothingBack,
+    }
+}
+
+fn go<O: Outside + Drop>(
+    stepper: &mut Stepper<'_, O>,
+    line: u16,
+    limit: u64,
+) -> Result<Answer, NoMemory>
+    ensures { SaysGo O.gives limit line stepper.old result stepper.new }
+{
+    match stepper.to_line(line, limit) {
+        Ok(Reached::There) => Ok(Answer::At(line)),
+        Ok(Reached::Stopped(status)) => Ok(Answer::Stands(status)),
+        Ok(Reached::Limit) => Ok(Answer::Limit),
+        Err(StepError::NoSuchLine) => Ok(Answer::NoSuchLine),
+        Err(StepError::NoMemory) => Err(NoMemory),
+    }
+}
+
+fn value<O: Outside + Drop>(
+    alloc: Global,
+    stepper: &Stepper<'_, O>,
+    text: &[u8],
+) -> Result<Answer, NoMemory>
+    ensures { IfOk result (SaysValue stepper.now text.now) }
+{
+    match parse_expr(alloc, text) {
+        Ok(expression) => Ok(value_answer(stepper.value_of(&expression))),
+        Err(error) => match error.kind {
+            SourceErrorKind::NoMemory => Err(NoMemory),
+            _ => Ok(Answer::What),
+        },
+    }
+}
+
+fn value_answer(value: Result<i16, EvalError>) -> Answer
+    ensures { result ≡ value_answer value }
+{
+    match value {
+        Ok(value) => Answer::Number(value),
+        Err(EvalError::DivideByZero) => Answer::DivisionByZero,
+        Err(EvalError::HasRnd) => Answer::HasRnd,
+    }
+}
+
+/// The answers to commands, each a line, up to `q` or the end.
+pub fn answers<O: Outside + Drop>(
+    alloc: Global,
+    stepper: &mut Stepper<'_, O>,
+    commands: &[u8],
+    limit: u64,
+) -> Result<Vec<u8>, NoMemory>
+    ensures { IfOk result (λ text. Dialogue O.gives limit stepper.old (lines_of commands.now) text.items stepper.new) }
+{
+    let mut text = Vec::new(alloc);
+    let mut rest = commands;
+    'answering: while let Some((line, behind)) = next_line(rest) {
+        let Some(answer) = respond(alloc, stepper, read_command(line), limit)? else {
+            return Ok(text);
+        };
+        if answer.push_line(alloc, &mut text).is_err() {
+            return Err(NoMemory);
+        }
+        rest = behind;
+    }
+    Ok(text)
+}

@@ -1,0 +1,87 @@
+-- What comes of a source and of commands.
+use Rattle.std.specs.Prelude.{ℕ, ◌≡◌, ◌≢◌, ◌⊎◌, List, [], length, Option, Result, Ok, Err}
+use Rattle.tb_memmap.specs.Bytes.{IsOpenRange}
+use Rattle.tb_prg.specs.Prg.{content_of}
+use Rattle.tb_lower.specs.declared.missing.Warning.{Warning}
+use Rattle.tb_kernal.specs.declared.outside.Quiet.{Quiet}
+use Rattle.tb_kernal.specs.declared.events.Event.{Event}
+use Rattle.tb_kernal.specs.Machine.{Content}
+use Rattle.tb_kernal.specs.Runs.{is_quiet}
+use Rattle.tb_codegen.specs.Answers.{HasOutcome}
+use Rattle.tb_codegen.specs.Compiled.{prg_of, loaded_of, warnings_of}
+use Rattle.tb_codegen.specs.declared.compiled.Compiled.{Compiled}
+use Rattle.tb_codegen.specs.declared.errors.CompileError.{CompileError}
+use Rattle.tb_codegen.specs.declared.errors.CompileError.TheVariants.{Source as BadSource, Lower, TooLarge, NoMemory as NoCompilerMemory}
+use Rattle.tb_stepper.specs.Notes.{Holds}
+use Rattle.tb_commands.specs.Lines.{lines_of}
+use Rattle.tb_commands.specs.Dialogue.{Dialogue}
+use Rattle.tb_driver.specs.Streams.{MayPassMost}
+use Rattle.tb_driver.specs.Outcomes.{Product, MadeFrom}
+use Rattle.tb_driver.specs.Programs.{start}
+use Rattle.tb_driver.specs.declared.outcome.End.TheVariants.{Done}
+use Rattle.tb_driver.specs.declared.outcome.Refusal.TheVariants.{Source}
+use Rattle.tb_driver.specs.declared.outcome.Outcome.{Outcome}
+use Rattle.tb_driver.specs.declared.outcome.Outcome.TheVariants.{Ended, Refused, ReadFault, WriteFault, NoMemory}
+
+-- a program's PRG file is loaded at $0801, and all of it lies in RAM
+abbrev pub IsLoadable : Compiled → Type 0
+IsLoadable program =
+    (content_of (prg_of program) ≡ Ok (0x0801, loaded_of program)) × IsOpenRange 0x0801 (length (loaded_of program))
+
+-- what the quiet outside gives
+abbrev pub gives_quiet : Quiet → Content → Event → Quiet → Type 0
+gives_quiet _ m e _ = is_quiet m e
+
+-- the history of a program's start machine alone
+abbrev pub start_of_history : List ℕ → List ℕ → Compiled → Holds Quiet
+start_of_history text answers program =
+    record { machine = start 0x0801 (loaded_of program) text answers; outside = record {}; notes = []; program = program }
+
+-- the answers to commands, over a program
+abbrev pub Steps : List ℕ → List ℕ → ℕ → Compiled → List ℕ → Product → Type 0
+Steps text answers limit program commands (Ok (shown, end)) =
+    (k : Holds Quiet) × Dialogue gives_quiet limit (start_of_history text answers program) (lines_of commands) shown k × (end ≡ Done)
+Steps text answers limit program commands (Err e) = ⊥
+
+-- what comes of the compiler's answer: the answers to commands, with the program's warnings, or the refusal
+abbrev pub StepsOf : List ℕ → List ℕ → ℕ → List Warning → List ℕ → Result Compiled CompileError → Product → Type 0
+StepsOf text answers limit warnings commands (Ok program) product =
+    (warnings ≡ warnings_of program) × Steps text answers limit program commands product
+StepsOf text answers limit warnings commands (Err NoCompilerMemory) product = ⊥
+StepsOf text answers limit warnings commands (Err e) product = (warnings ≡ []) × (product ≡ Err (Source e))
+
+-- what comes of a source and of commands
+abbrev pub StepsThrough : ℕ → List ℕ → List ℕ → ℕ → List Warning → List ℕ → List ℕ → Product → Type 0
+StepsThrough seed text answers limit warnings source commands product =
+    (answer : Result Compiled CompileError) × HasOutcome seed source answer × StepsOf text answers limit warnings commands answer product
+
+-- made from all that two readers had
+abbrev pub MadeFromBoth : Option (List ℕ) → Option (List ℕ) → (List ℕ → List ℕ → Product → Type 0) → Product → Type 0
+MadeFromBoth had_source had_commands makes product =
+    MadeFrom had_source (λ source. MadeFrom had_commands (makes source)) product
+
+-- a reader failed in this call, by its count of failures, or gave too many bytes
+abbrev pub MayFault : Option (List ℕ) → ℕ → ℕ → Type 0
+MayFault had old new = (new ≢ old) ⊎ MayPassMost had
+
+-- A fault comes only where a stream failed in this call or a reader gave too many bytes; at every other outcome no
+-- stream failed. The source is read first.
+abbrev pub FaultsOfBoth : Outcome → Option (List ℕ) → ℕ → ℕ → Option (List ℕ) → ℕ → ℕ → ℕ → ℕ → Type 0
+FaultsOfBoth ReadFault had_source source source' had_commands commands commands' wrote wrote' =
+    ((MayFault had_source source source' × (commands' ≡ commands)) ⊎ ((source' ≡ source) × MayFault had_commands commands commands'))
+    × (wrote' ≡ wrote)
+FaultsOfBoth WriteFault had_source source source' had_commands commands commands' wrote wrote' =
+    (source' ≡ source) × (commands' ≡ commands) × (wrote' ≢ wrote)
+FaultsOfBoth (Ended end) had_source source source' had_commands commands commands' wrote wrote' =
+    (source' ≡ source) × (commands' ≡ commands) × (wrote' ≡ wrote)
+FaultsOfBoth (Refused e) had_source source source' had_commands commands commands' wrote wrote' =
+    (source' ≡ source) × (commands' ≡ commands) × (wrote' ≡ wrote)
+FaultsOfBoth NoMemory had_source source source' had_commands commands commands' wrote wrote' =
+    (source' ≡ source) × (commands' ≡ commands) × (wrote' ≡ wrote)
+
+-- the outcome of a refusal; want of memory is none
+abbrev pub refusal_of : CompileError → Outcome
+refusal_of (BadSource e) = Refused (Source (BadSource e))
+refusal_of (Lower e) = Refused (Source (Lower e))
+refusal_of (TooLarge n) = Refused (Source (TooLarge n))
+refusal_of NoCompilerMemory = NoMemory

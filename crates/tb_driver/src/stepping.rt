@@ -1,0 +1,104 @@
+//! Stepping through a source by commands.
+ghost use Rattle.std.specs.Prelude.{◌≡◌, ◌+◌};
+ghost use Rattle.tb_driver.specs.Streams.{most_input, ConsumesAtMost};
+ghost use Rattle.tb_driver.specs.Outcomes.{Answers};
+ghost use Rattle.tb_driver.specs.Made.{Makes};
+ghost use Rattle.tb_driver.specs.Stepping.{IsLoadable, Steps, StepsThrough, MadeFromBoth, FaultsOfBoth, refusal_of};
+
+use crate::loading::start_machine;
+use crate::made::{Stop, Text, deliver, without_input};
+use crate::outcome::{End, Outcome, Refusal};
+use crate::report::Report;
+use crate::stream::read_input;
+use crate::tracked::Tracked;
+use std::alloc::Global;
+use std::io::{Read, Write};
+use tb_codegen::{CompileError, Compiled, Options, compile};
+use tb_commands::answers;
+use tb_kernal::{Keyboard, Quiet};
+use tb_stepper::Stepper;
+
+// The answers to commands, over a stepper of a program's start machine.
+fn step_program(
+    alloc: Global,
+    program: &Compiled,
+    keyboard: Keyboard,
+    commands: &[u8],
+    limit: u64,
+) -> Result<Text, Stop>
+    requires { IsLoadable program.now }
+    ensures { Makes (Steps keyboard.text.items keyboard.answers.items limit program.now commands.now) result }
+{
+    let Ok(loaded) = tb_prg::read(program.prg()) else {
+        unreachable!()
+    };
+    let machine = start_machine(alloc, loaded, keyboard)?;
+    let Ok(mut stepper) = Stepper::new(alloc, machine, program, Quiet) else {
+        return Err(Stop::NoMemory);
+    };
+    match answers(alloc, &mut stepper, commands, limit) {
+        Ok(bytes) => Ok(Text {
+            bytes,
+            end: End::Done,
+        }),
+        Err(_) => Err(Stop::NoMemory),
+    }
+}
+
+// Want of memory is no refusal.
+fn refusal_of(error: CompileError) -> Outcome
+    ensures { result ≡ refusal_of error }
+{
+    match error {
+        CompileError::NoMemory => Outcome::NoMemory,
+        _ => Outcome::Refused(Refusal::Source(error)),
+    }
+}
+
+/// Reads a source and then commands, compiles the source with a first state of RND, and writes the answers to the
+/// commands, each a line, up to `q` or the end. The machine is the one that `run_text` starts with, and the outside
+/// is `Quiet`. A walk to a line takes at most `limit` steps.
+pub fn step_text<R: Read, C: Read, W: Write>(
+    alloc: Global,
+    source: &mut Tracked<R>,
+    commands: &mut Tracked<C>,
+    writer: &mut Tracked<W>,
+    seed: u16,
+    keyboard: Keyboard,
+    limit: u64,
+) -> Report
+    ensures answers { Answers (MadeFromBoth (R.remaining source.old.stream) (C.remaining commands.old.stream)
+        (StepsThrough seed keyboard.text.items keyboard.answers.items limit result.warnings.items)) result.outcome
+        (W.contents writer.old.stream) (W.contents writer.new.stream) }
+    ensures faults { FaultsOfBoth result.outcome
+        (R.remaining source.old.stream) source.old.failures source.new.failures
+        (C.remaining commands.old.stream) commands.old.failures commands.new.failures
+        writer.old.failures writer.new.failures }
+    ensures source_taken { ConsumesAtMost (R.remaining source.old.stream) (R.remaining source.new.stream)
+        (most_input + 1) }
+    ensures commands_taken { ConsumesAtMost (C.remaining commands.old.stream) (C.remaining commands.new.stream)
+        (most_input + 1) }
+{
+    let source = match read_input(alloc, source) {
+        Ok(source) => source,
+        Err(error) => return Report::new(alloc, without_input(error)),
+    };
+    let commands = match read_input(alloc, commands) {
+        Ok(commands) => commands,
+        Err(error) => return Report::new(alloc, without_input(error)),
+    };
+    let program = match compile(alloc, source.as_slice(), Options { seed }) {
+        Ok(program) => program,
+        Err(error) => return Report::new(alloc, refusal_of(error)),
+    };
+    let Ok(warnings) = Vec::from_slice(alloc, program.warnings()) else {
+        return Report::new(alloc, Outcome::NoMemory);
+    };
+    Report {
+        outcome: deliver(
+            writer,
+            step_program(alloc, &program, keyboard, commands.as_slice(), limit),
+        ),
+        warnings,
+    }
+}
