@@ -8,9 +8,6 @@ use tb_codegen::Compiled;
 use tb_kernal::{Event, Machine, Quiet, Status, run};
 use tb_memmap::NoMemory;
 
-/// In a run of more events the interrupt comes before every few of them.
-const MOST_INTERRUPTS: u64 = 2_000;
-
 // How many events a program takes beside a quiet ROM.
 fn run_length(machine: &mut Machine) -> Result<u64, NoMemory> {
     for length in 0..LIMIT {
@@ -44,11 +41,10 @@ fn an_interrupt_changes_nothing(rt: HostRuntime) -> Result<(), Fail> {
         }
         let program = row.compiled(rt.alloc())?;
         let length = run_length(&mut row.machine(rt.alloc(), &program, &CLEAN)?)?;
-        let stride = 1 + length / MOST_INTERRUPTS;
-        for turn in 0..length / stride {
+        for event in 0..length {
             assert!(rt;
-                row.is_done_past(rt.alloc(), &program, turn * stride)?,
-                "{:?}, interrupt {turn}",
+                row.is_done_past(rt.alloc(), &program, event)?,
+                "{:?}, interrupt before event {event}",
                 row.source
             );
         }
