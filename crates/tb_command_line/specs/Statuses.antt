@@ -1,7 +1,7 @@
 -- The exit statuses where no engine is called.
 use Rattle.std.specs.Prelude.{ℕ}
 use Rattle.tb_command_line.specs.declared.failure.Failure.{Failure}
-use Rattle.tb_command_line.specs.declared.failure.Failure.TheVariants.{Words, NotUtf8, BadKeys, BadAddress, NotYet, NoMemory}
+use Rattle.tb_command_line.specs.declared.failure.Failure.TheVariants.{Words, NotUtf8, BadKeys, BadAddress, NoMemory}
 use Rattle.tb_command_line.specs.declared.jobs.JobError.{JobError}
 use Rattle.tb_command_line.specs.declared.jobs.JobError.TheVariants.{Words as JobWords, NoMemory as NoJobMemory}
 
@@ -15,5 +15,4 @@ status_of (Words text) = 2
 status_of NotUtf8 = 2
 status_of BadKeys = 2
 status_of BadAddress = 2
-status_of NotYet = 2
 status_of NoMemory = 4

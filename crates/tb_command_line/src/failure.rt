@@ -17,8 +17,6 @@ pub enum Failure {
     BadKeys,
     /// An address is no four hexadecimal digits.
     BadAddress,
-    /// The command has no engine yet.
-    NotYet,
     /// A growth was refused.
     NoMemory,
 }
@@ -43,7 +41,6 @@ impl fmt::Display for Failure {
             Failure::NotUtf8 => writeln!(f, "tbc: an argument is not UTF-8"),
             Failure::BadKeys => writeln!(f, "tbc: bad key list"),
             Failure::BadAddress => writeln!(f, "tbc: bad address"),
-            Failure::NotYet => writeln!(f, "tbc: there is no stepper yet"),
             Failure::NoMemory => writeln!(f, "tbc: out of memory"),
         }
     }

@@ -29,7 +29,7 @@ fn job_of_words<R: Env + AllocGlobal>(rt: &R) -> Result<Job, Failure> {
     Ok(job(rt.alloc(), words.as_slice())?)
 }
 
-fn start<R: Files + Env + Print + AllocGlobal>(rt: &R) -> Result<Report, Failure> {
+fn start<R: Files + Env + Print + Input + AllocGlobal>(rt: &R) -> Result<Report, Failure> {
     let job = job_of_words(rt)?;
     tasks::perform(rt, job)
 }

@@ -6,12 +6,12 @@ use std::rt::Files;
 use tb_command_line::{Failure, Job, Runnable};
 use tb_driver::{
     End, KeyError, Outcome, Report, Tracked, address, asm_text, build, dis_text, key_list, run_prg,
-    run_text, write_output,
+    run_text, step_text, write_output,
 };
 use tb_kernal::{Keyboard, Outside, Quiet, Rude};
 
 /// Does what the words ask for.
-pub fn perform<R: Files + Print + AllocGlobal>(rt: &R, job: Job) -> Result<Report, Failure> {
+pub fn perform<R: Files + Print + Input + AllocGlobal>(rt: &R, job: Job) -> Result<Report, Failure> {
     match job {
         Job::Build { source, out, seed } => {
             Ok(build_file(rt, source.as_str(), out.as_str(), seed))
@@ -37,7 +37,17 @@ pub fn perform<R: Files + Print + AllocGlobal>(rt: &R, job: Job) -> Result<Repor
         },
         Job::Dis { prg } => Ok(plain(rt, list_file(rt, prg.as_str()))),
         Job::Show { text } => Ok(plain(rt, show(rt, text.as_str()))),
-        Job::Step { .. } => Err(Failure::NotYet),
+        Job::Step {
+            source,
+            seed,
+            keys,
+            answers,
+            limit,
+        } => {
+            let keyboard = keyboard(rt.alloc(), keys.as_str(), answers.as_str())?;
+            let limit = u64::from(limit.events);
+            Ok(step_file(rt, source.as_str(), seed, keyboard, limit))
+        }
     }
 }
 
@@ -112,6 +122,31 @@ fn run_file<R: Files + Print + AllocGlobal, O: Outside>(
             plain(rt, outcome)
         }
     }
+}
+
+// The commands come from standard input.
+fn step_file<R: Files + Print + Input + AllocGlobal>(
+    rt: &R,
+    source: &str,
+    seed: u16,
+    keyboard: Keyboard,
+    limit: u64,
+) -> Report {
+    let mut file = match open(rt, source) {
+        Ok(file) => file,
+        Err(outcome) => return plain(rt, outcome),
+    };
+    let mut commands = Tracked::new(rt.reader());
+    let mut screen = Tracked::new(io::writer(rt));
+    step_text(
+        rt.alloc(),
+        &mut file,
+        &mut commands,
+        &mut screen,
+        seed,
+        keyboard,
+        limit,
+    )
 }
 
 fn assemble_file<R: Files + AllocGlobal>(rt: &R, text: &str, out: &str, at: u16) -> Outcome {
