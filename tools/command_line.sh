@@ -4,7 +4,7 @@
 # Prints what differs, and then ends with status 1.
 . "$(dirname "${BASH_SOURCE[0]}")/setup.sh"
 needs_program
-with_step=no # yes: tries `tbc step` too
+with_step=yes
 
 rows=0
 failed=0

@@ -5,7 +5,7 @@
 . "$(dirname "${BASH_SOURCE[0]}")/setup.sh"
 needs_program
 needs cc
-with_step=no # yes: runs `tbc step` too
+with_step=yes
 
 cc -shared -fPIC -O1 -fno-builtin -o refuse.so -x c - <<'C'
 /* Refuses the growth whose number REFUSE gives, counted from 1, and notes on descriptor 9 that it came. */
