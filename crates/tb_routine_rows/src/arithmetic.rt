@@ -6,43 +6,60 @@ use tb_runtime16::{LEFT, LINE, RIGHT, Routine, SEED, SEEDED};
 use tb_words::{div_rem, mul, next_seed};
 
 // A routine on two words, at line 10.
-fn on_two(
-    alloc: Global,
-    rom: Option<u16>,
-    routine: Routine,
-    left: u16,
-    right: u16,
-) -> Result<Called, Fail> {
+fn on_two(alloc: Global, routine: Routine, pair: Pair) -> Result<Called, Fail> {
     Call {
-        words: &[(LEFT, left), (RIGHT, right), (LINE, 10)],
+        words: &[(LEFT, pair.left), (RIGHT, pair.right), (LINE, 10)],
         ..plain(routine)
     }
-    .run(alloc, rom)
+    .run(alloc, pair.rom)
+}
+
+// Whether Multiply gives a product.
+fn multiplies(alloc: Global, pair: Pair, product: u16) -> Result<bool, Fail> {
+    Ok(on_two(alloc, Routine::Multiply, pair)?.gives(product)?)
+}
+
+// Whether Divide gives a quotient, or is fault 2 where there is none.
+fn divides(alloc: Global, pair: Pair, quotient: Option<i16>) -> Result<bool, Fail> {
+    let called = on_two(alloc, Routine::Divide, pair)?;
+    match quotient {
+        Some(quotient) => Ok(called.gives(quotient.cast_unsigned())?),
+        None => called.faults(alloc, b"", 2),
+    }
 }
 
 #[test]
 fn multiply_is_the_product(rt: HostRuntime) -> Result<(), Fail> {
-    let called = on_two(rt.alloc(), None, Routine::Multiply, 300, 300)?;
-    assert!(rt; called.gives(24464)?);
-    for Pair { rom, left, right } in pairs(rt.alloc())? {
-        let product = mul(left.cast_signed(), right.cast_signed()).cast_unsigned();
-        let called = on_two(rt.alloc(), rom, Routine::Multiply, left, right)?;
-        assert!(rt; called.gives(product)?, "{left} * {right}");
+    for rom in ROMS {
+        let pair = Pair {
+            rom,
+            left: 300,
+            right: 300,
+        };
+        assert!(rt; multiplies(rt.alloc(), pair, 24464)?);
+    }
+    for pair in pairs(rt.alloc())? {
+        let product = mul(pair.left.cast_signed(), pair.right.cast_signed());
+        let holds = multiplies(rt.alloc(), pair, product.cast_unsigned())?;
+        assert!(rt; holds, "{} * {}", pair.left, pair.right);
     }
     Ok(())
 }
 
 #[test]
 fn divide_is_the_quotient(rt: HostRuntime) -> Result<(), Fail> {
-    let called = on_two(rt.alloc(), None, Routine::Divide, 32768, 65535)?;
-    assert!(rt; called.gives(32768)?);
-    for Pair { rom, left, right } in pairs(rt.alloc())? {
-        let called = on_two(rt.alloc(), rom, Routine::Divide, left, right)?;
-        let holds = match div_rem(left.cast_signed(), right.cast_signed()) {
-            Some((quotient, _)) => called.gives(quotient.cast_unsigned())?,
-            None => called.faults(rt.alloc(), b"", 2)?,
+    for rom in ROMS {
+        let pair = Pair {
+            rom,
+            left: 32768,
+            right: 65535,
         };
-        assert!(rt; holds, "{left} / {right}");
+        assert!(rt; divides(rt.alloc(), pair, Some(-32768))?);
+    }
+    for pair in pairs(rt.alloc())? {
+        let division = div_rem(pair.left.cast_signed(), pair.right.cast_signed());
+        let holds = divides(rt.alloc(), pair, division.map(|parts| parts.0))?;
+        assert!(rt; holds, "{} / {}", pair.left, pair.right);
     }
     Ok(())
 }
@@ -63,8 +80,10 @@ fn draw(
     .run(alloc, rom)
 }
 
-// Whether a call of Random over a bound did what it must with the state before it.
-fn is_drawn(alloc: Global, called: &Called, bound: u16, state: u16) -> Result<bool, Fail> {
+// Whether Random takes the state behind one at a place and gives what the bound leaves of it, or is fault 3.
+fn draws(alloc: Global, pair: Pair, place: u16, seeded: u8) -> Result<bool, Fail> {
+    let (bound, state) = (pair.left, pair.right);
+    let called = draw(alloc, pair.rom, bound, (place, state), seeded)?;
     if bound == 0 || bound >= 32768 {
         return called.faults(alloc, b"", 3);
     }
@@ -75,26 +94,26 @@ fn is_drawn(alloc: Global, called: &Called, bound: u16, state: u16) -> Result<bo
 #[test]
 fn random_takes_the_next_state(rt: HostRuntime) -> Result<(), Fail> {
     for pair in pairs(rt.alloc())? {
-        let (bound, state) = (pair.left, pair.right);
         for (place, seeded) in [(RIGHT, 0), (SEED, 1)] {
-            let called = draw(rt.alloc(), pair.rom, bound, (place, state), seeded)?;
-            assert!(rt;
-                is_drawn(rt.alloc(), &called, bound, state)?,
-                "{bound} from {state}"
-            );
+            let holds = draws(rt.alloc(), pair, place, seeded)?;
+            assert!(rt; holds, "{} from {}", pair.left, pair.right);
         }
     }
     Ok(())
 }
 
+// Whether state 1 gives 2 below 10 and leaves 39022, and a bound of 0 is fault 3.
+fn begins_with_two(alloc: Global, rom: Option<u16>) -> Result<bool, Fail> {
+    let two = draw(alloc, rom, 10, (RIGHT, 1), 0)?;
+    let none = draw(alloc, rom, 0, (RIGHT, 1), 0)?;
+    let is_refused = none.faults(alloc, b"", 3)?;
+    Ok(two.gives(2)? && two.word(SEED)? == 39022 && is_refused)
+}
+
 #[test]
-fn the_first_number_below_10(rt: HostRuntime) -> Result<(), Fail> {
+fn first_numbers(rt: HostRuntime) -> Result<(), Fail> {
     for rom in ROMS {
-        let called = draw(rt.alloc(), rom, 10, (RIGHT, 1), 0)?;
-        assert!(rt; called.gives(2)?);
-        assert_eq!(rt; called.word(SEED)?, 39022);
-        let called = draw(rt.alloc(), rom, 0, (RIGHT, 1), 0)?;
-        assert_eq!(rt; called.machine.sent(), b"\r!3 AT 10\r".as_slice());
+        assert!(rt; begins_with_two(rt.alloc(), rom)?);
     }
     Ok(())
 }

@@ -2,7 +2,7 @@
 use crate::setup::{Call, Called, ROMS, plain};
 use std::alloc::Global;
 use std::test::Fail;
-use tb_runtime16::{LEFT, LINE, NOTE_LIST, NOTES, RESULT, Routine};
+use tb_runtime16::{LEFT, LINE, NOTE_LIST, NOTES, Routine};
 use tb_words::next_seed;
 
 // The most notes.
@@ -55,19 +55,38 @@ fn holds_list(called: &Called, but: Option<(u16, u16)>) -> Result<bool, Fail> {
     Ok(true)
 }
 
+// Whether Push notes a word behind so many.
+fn pushes(alloc: Global, rom: Option<u16>, list: &[u8], count: u16) -> Result<bool, Fail> {
+    let called = call_with(alloc, rom, Routine::Push, list, count)?;
+    let notes = called.word(NOTES)?;
+    if count == MOST {
+        return Ok(called.faults(alloc, b"", 4)? && notes == MOST && holds_list(&called, None)?);
+    }
+    Ok(
+        called.sends(b"")?
+            && notes.checked_sub(1) == Some(count)
+            && holds_list(&called, Some((count, 0x1234)))?,
+    )
+}
+
+// Whether Pop takes the last note of so many.
+fn pops(alloc: Global, rom: Option<u16>, list: &[u8], count: u16) -> Result<bool, Fail> {
+    let called = call_with(alloc, rom, Routine::Pop, list, count)?;
+    let notes = called.word(NOTES)?;
+    let holds = match count.checked_sub(1) {
+        Some(left) => called.gives(note_of(left))? && notes == left,
+        None => called.faults(alloc, b"", 5)? && notes == 0,
+    };
+    Ok(holds && holds_list(&called, None)?)
+}
+
 #[test]
 fn push_notes_a_word(rt: HostRuntime) -> Result<(), Fail> {
     let list = full_list(rt.alloc())?;
     for rom in ROMS {
-        for count in 0..MOST {
-            let called = call_with(rt.alloc(), rom, Routine::Push, &list, count)?;
-            assert!(rt; called.sends(b"")?, "{count}");
-            assert_eq!(rt; called.word(NOTES)?, count + 1);
-            assert!(rt; holds_list(&called, Some((count, 0x1234)))?, "{count}");
+        for count in 0..=MOST {
+            assert!(rt; pushes(rt.alloc(), rom, &list, count)?, "{count}");
         }
-        let called = call_with(rt.alloc(), rom, Routine::Push, &list, MOST)?;
-        assert!(rt; called.faults(rt.alloc(), b"", 4)?);
-        assert!(rt; called.word(NOTES)? == MOST && holds_list(&called, None)?);
     }
     Ok(())
 }
@@ -76,15 +95,9 @@ fn push_notes_a_word(rt: HostRuntime) -> Result<(), Fail> {
 fn pop_gives_the_newest(rt: HostRuntime) -> Result<(), Fail> {
     let list = full_list(rt.alloc())?;
     for rom in ROMS {
-        for left in 0..MOST {
-            let called = call_with(rt.alloc(), rom, Routine::Pop, &list, left + 1)?;
-            assert!(rt; called.gives(note_of(left))?, "{left}");
-            assert_eq!(rt; called.word(NOTES)?, left);
-            assert!(rt; holds_list(&called, None)?, "{left}");
+        for count in 0..=MOST {
+            assert!(rt; pops(rt.alloc(), rom, &list, count)?, "{count}");
         }
-        let called = call_with(rt.alloc(), rom, Routine::Pop, &list, 0)?;
-        assert!(rt; called.faults(rt.alloc(), b"", 5)?);
-        assert!(rt; called.word(NOTES)? == 0 && holds_list(&called, None)?);
     }
     Ok(())
 }

@@ -19,34 +19,37 @@ fn is_sent(called: &Called, column: u8, text: &[u8]) -> Result<bool, Fail> {
     Ok(called.sends(text)? && called.byte(COLUMN)? == column_after(column, text))
 }
 
-fn send_number(alloc: Global, rom: Option<u16>, word: u16, column: u8) -> Result<Called, Fail> {
-    Call {
+// Whether Number sends this for a word, from a column that varies with it.
+fn sends_number(alloc: Global, rom: Option<u16>, word: u16, text: &[u8]) -> Result<bool, Fail> {
+    let [column, _] = word.to_be_bytes();
+    let called = Call {
         words: &[(LEFT, word)],
         bytes: &[(COLUMN, column)],
         ..plain(Routine::Number)
     }
-    .run(alloc, rom)
-}
-
-// Whether Number sends a word's digits, from a column that varies with it.
-fn sends_number(alloc: Global, rom: Option<u16>, word: u16) -> Result<bool, Fail> {
-    let [column, _] = word.to_be_bytes();
-    let called = send_number(alloc, rom, word, column)?;
-    is_sent(&called, column, digits(word.cast_signed()).as_slice())
+    .run(alloc, rom)?;
+    is_sent(&called, column, text)
 }
 
 #[test]
 fn number_sends_the_digits(rt: HostRuntime) -> Result<(), Fail> {
     for rom in ROMS {
-        let called = send_number(rt.alloc(), rom, 32768, 0)?;
-        assert_eq!(rt; called.machine.sent().len(), 6);
+        assert!(rt; sends_number(rt.alloc(), rom, 32768, b"-32768")?);
         for word in EDGES {
-            assert!(rt; sends_number(rt.alloc(), rom, word)?, "{word}");
+            let text = digits(word.cast_signed());
+            assert!(rt;
+                sends_number(rt.alloc(), rom, word, text.as_slice())?,
+                "{word}"
+            );
         }
         let mut word = 1;
         for _ in 0..1000 {
             word = next_seed(word);
-            assert!(rt; sends_number(rt.alloc(), rom, word)?, "{word}");
+            let text = digits(word.cast_signed());
+            assert!(rt;
+                sends_number(rt.alloc(), rom, word, text.as_slice())?,
+                "{word}"
+            );
         }
     }
     Ok(())
@@ -64,6 +67,26 @@ fn noisy_text(alloc: Global, count: usize) -> Result<Vec<u8>, Fail> {
     Ok(text)
 }
 
+// Whether Text sends the first bytes of a text that lies at a place.
+fn sends_first(
+    alloc: Global,
+    rom: Option<u16>,
+    text: &[u8],
+    length: u8,
+    place: u16,
+) -> Result<bool, Fail> {
+    let called = Call {
+        words: &[(u16::from(POINTER), place)],
+        bytes: &[(LENGTH, length), (COLUMN, length)],
+        loaded: text,
+        at: place,
+        ..plain(Routine::Text)
+    }
+    .run(alloc, rom)?;
+    let sent = text.get(..usize::from(length)).unwrap_or(&[]);
+    is_sent(&called, length, sent)
+}
+
 #[test]
 fn text_sends_bytes(rt: HostRuntime) -> Result<(), Fail> {
     let text = noisy_text(rt.alloc(), 255)?;
@@ -71,42 +94,37 @@ fn text_sends_bytes(rt: HostRuntime) -> Result<(), Fail> {
         for length in [0, 1, 2, 100, 254, 255] {
             // within a page, over the end of one, and up to the end of the memory for programs
             for place in [PROGRAM, 0x0dff, 0x9f01] {
-                let called = Call {
-                    words: &[(u16::from(POINTER), place)],
-                    bytes: &[(LENGTH, length), (COLUMN, length)],
-                    loaded: text.as_slice(),
-                    at: place,
-                    ..plain(Routine::Text)
-                }
-                .run(rt.alloc(), rom)?;
-                let sent = text.get(..usize::from(length)).unwrap_or(&[]);
-                assert!(rt; is_sent(&called, length, sent)?, "{length} from {place}");
+                let holds = sends_first(rt.alloc(), rom, &text, length, place)?;
+                assert!(rt; holds, "{length} from {place}");
             }
         }
     }
     Ok(())
 }
 
+// Whether Zone sends so many spaces from a column.
+fn goes_by(alloc: Global, rom: Option<u16>, column: u8, spaces: u8) -> Result<bool, Fail> {
+    let called = Call {
+        bytes: &[(COLUMN, column)],
+        ..plain(Routine::Zone)
+    }
+    .run(alloc, rom)?;
+    let text = b"        ".get(..usize::from(spaces)).unwrap_or(&[]);
+    is_sent(&called, column, text)
+}
+
 #[test]
 fn zone_sends_spaces(rt: HostRuntime) -> Result<(), Fail> {
     for rom in ROMS {
         for (column, spaces) in [(0, 8), (7, 1), (8, 8), (13, 3)] {
-            let called = go_to_zone(rt.alloc(), rom, column)?;
-            assert_eq!(rt; called.machine.sent().len(), spaces, "{column}");
+            assert!(rt; goes_by(rt.alloc(), rom, column, spaces)?, "{column}");
         }
         for column in 0..=255u8 {
-            let spaces = b"        ".get(usize::from(column % 8)..).unwrap_or(&[]);
-            let called = go_to_zone(rt.alloc(), rom, column)?;
-            assert!(rt; is_sent(&called, column, spaces)?, "{column}");
+            assert!(rt;
+                goes_by(rt.alloc(), rom, column, 8 - column % 8)?,
+                "{column}"
+            );
         }
     }
     Ok(())
-}
-
-fn go_to_zone(alloc: Global, rom: Option<u16>, column: u8) -> Result<Called, Fail> {
-    Call {
-        bytes: &[(COLUMN, column)],
-        ..plain(Routine::Zone)
-    }
-    .run(alloc, rom)
 }

@@ -1,51 +1,56 @@
 //! Fault, Poll and the prologue: how a program ends and begins.
-use crate::setup::{Call, End, NOISE, ROMS, memory_with_block, noisy_regs, plain, run_beside};
+use crate::setup::{Call, NOISE, ROMS, memory_with_block, noisy_regs, plain, run_beside};
 use std::alloc::Global;
 use std::test::Fail;
 use tb_kernal::{Keyboard, Machine, Status};
-use tb_runtime16::{
-    BLOCK_AT, COLUMN, HOME_S, LINE, LINES_AT, NOTES, OPEN, Routine, SEED, SEEDED, VARS,
-};
+use tb_runtime16::{BLOCK_AT, COLUMN, HOME_S, LINE, LINES_AT, NOTES, Routine, SEED, VARS};
+
+// Whether Fault sends the text of a fault at a line, and ends.
+fn faults(alloc: Global, rom: Option<u16>, a: u8, line: u16) -> Result<bool, Fail> {
+    let called = Call {
+        a,
+        words: &[(LINE, line)],
+        ..plain(Routine::Fault)
+    }
+    .run(alloc, rom)?;
+    Ok(called.faults(alloc, b"", a)? && called.byte(COLUMN)? == 0)
+}
 
 #[test]
 fn faults_have_their_texts(rt: HostRuntime) -> Result<(), Fail> {
     for rom in ROMS {
         for a in 0..=7 {
             for line in [1, 10, 999, 1000, 32767] {
-                let called = Call {
-                    a,
-                    words: &[(LINE, line)],
-                    ..plain(Routine::Fault)
-                }
-                .run(rt.alloc(), rom)?;
-                assert!(rt; called.faults(rt.alloc(), b"", a)?, "{a} at {line}");
-                assert_eq!(rt; called.byte(COLUMN)?, 0);
+                assert!(rt; faults(rt.alloc(), rom, a, line)?, "{a} at {line}");
             }
         }
     }
     Ok(())
 }
 
+// Whether Poll takes the first answer, if there is one, and only 3 is fault 0.
+fn polls(alloc: Global, rom: Option<u16>, answers: &[u8]) -> Result<bool, Fail> {
+    let called = Call {
+        words: &[(LINE, 10)],
+        answers,
+        ..plain(Routine::Poll)
+    }
+    .run(alloc, rom)?;
+    let (answer, rest) = answers.split_first().unwrap_or((&0, &[]));
+    let holds = match answer {
+        3 => called.faults(alloc, b"", 0)?,
+        _ => called.sends(b"")?,
+    };
+    Ok(holds && called.machine.keys_left().1 == rest)
+}
+
 #[test]
 fn poll_takes_one_answer(rt: HostRuntime) -> Result<(), Fail> {
     for rom in ROMS {
+        assert!(rt; polls(rt.alloc(), rom, &[])?, "no answer is left");
         for answer in 0..=255 {
-            let called = Call {
-                words: &[(LINE, 10)],
-                answers: &[answer, 3],
-                ..plain(Routine::Poll)
-            }
-            .run(rt.alloc(), rom)?;
-            let holds = if answer == 3 {
-                called.faults(rt.alloc(), b"", 0)?
-            } else {
-                called.sends(b"")?
-            };
-            assert!(rt; holds, "{answer}");
-            assert_eq!(rt; called.machine.keys_left().1, [3].as_slice());
+            assert!(rt; polls(rt.alloc(), rom, &[answer, 3])?, "{answer}");
         }
-        let called = plain(Routine::Poll).run(rt.alloc(), rom)?;
-        assert_eq!(rt; called.end, End::Back, "no answer is left");
     }
     Ok(())
 }
@@ -65,21 +70,24 @@ fn at_start(alloc: Global, s: u8) -> Result<Machine, Fail> {
     )
 }
 
+// Whether the prologue clears what lines may read before they write it, keeps S, and comes to the lines with D clear.
+fn begins(alloc: Global, rom: Option<u16>, s: u8) -> Result<bool, Fail> {
+    let mut machine = at_start(alloc, s)?;
+    let status = run_beside(&mut machine, rom)?;
+    let memory = machine.memory();
+    for place in (VARS..HOME_S).chain(SEED..NOTES + 2) {
+        if memory.read(place)? != 0 {
+            return Ok(false);
+        }
+    }
+    Ok(status == Status::Returned && memory.read(HOME_S)? == s && memory.read(NOTES + 2)? == NOISE)
+}
+
 #[test]
 fn the_prologue_clears_data(rt: HostRuntime) -> Result<(), Fail> {
     for rom in ROMS {
         for s in [0x60, 0xf0, 0xfd] {
-            let mut machine = at_start(rt.alloc(), s)?;
-            assert_eq!(rt; run_beside(&mut machine, rom)?, Status::Returned);
-            let memory = machine.memory();
-            assert_eq!(rt; memory.read(HOME_S), Ok(s));
-            for place in VARS..=NOTES + 1 {
-                assert!(rt; place == HOME_S || memory.read(place) == Ok(0), "{place}");
-            }
-            for place in [COLUMN, OPEN, SEEDED, SEED, LINE, NOTES] {
-                assert_eq!(rt; memory.read(place), Ok(0), "{place}");
-            }
-            assert_eq!(rt; memory.read(NOTES + 2), Ok(NOISE));
+            assert!(rt; begins(rt.alloc(), rom, s)?, "{s}");
         }
     }
     Ok(())
