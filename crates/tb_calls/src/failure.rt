@@ -8,7 +8,6 @@ use tb_lower::LowerError;
 use tb_memmap::{LoadError, NoMemory};
 use tb_parser::{SourceError, SourceErrorKind};
 use tb_prg::PrgError;
-use tb_stepper::StepError;
 use thiserror::Error;
 
 /// Why no answer is written.
@@ -113,12 +112,6 @@ impl From<ListError> for Failure {
 impl From<KeyError> for Failure {
     fn from(error: KeyError) -> Failure {
         Failure::of(error == KeyError::NoMemory)
-    }
-}
-
-impl From<StepError> for Failure {
-    fn from(error: StepError) -> Failure {
-        Failure::of(error == StepError::NoMemory)
     }
 }
 

@@ -8,7 +8,7 @@ use tb_cpu::{Flags, Regs};
 use tb_kernal::{Keyboard, Machine, Outside, Quiet, Rude, Status, run};
 use tb_memmap::Memory;
 use tb_prg::read;
-use tb_stepper::Stepper;
+use tb_stepper::{StepError, Stepper};
 use tb_words::Letter;
 
 /// More events than any program here takes.
@@ -140,7 +140,15 @@ pub fn show_step(alloc: Global, text: &mut String) -> Result<(), Failure> {
 pub fn show_to_line(alloc: Global, text: &mut String) -> Result<(), Failure> {
     let program = compiled(alloc, ASSIGNMENT)?;
     let mut stepper = stepper_of(alloc, &program)?;
-    let reached = stepper.to_line(20, LIMIT)?;
+    let before = seen(stepper.machine());
+    let reached = match stepper.to_line(20, LIMIT) {
+        Ok(reached) => reached,
+        // No byte was sent, so the first step was refused.
+        Err(StepError::NoMemory) => {
+            return Err(Failure::of_memory(seen(stepper.machine()) == before));
+        }
+        Err(StepError::NoSuchLine) => return Err(Failure::Refused),
+    };
     let letter = Letter::read(b'A').ok_or(Failure::Refused)?;
     writeln!(
         text,
