@@ -1,9 +1,12 @@
 #!/usr/bin/env bash
 # Runs each command of the built program with the first, the second, .. growth of its memory refused, until a run
 # meets no refusal. Each run must end with status 4, `tbc: out of memory` and nothing written, or answer exactly what
-# the command answers with ample memory. The refusing malloc is preloaded, so this needs a C compiler (cc) and glibc.
+# the command answers with ample memory. So must the calls that no command makes or shows, each a word of `tb_calls`.
+# The refusing malloc is preloaded, so this needs a C compiler (cc) and glibc.
 . "$(dirname "${BASH_SOURCE[0]}")/setup.sh"
 needs_program
+calls=$root/crates/tb_calls/out/tb_calls
+[ -x "$calls" ] || { echo "build the calls first: cd crates/tb_calls && rt run -- tokens" >&2; exit 1; }
 needs cc
 with_step=yes
 
@@ -33,12 +36,12 @@ void *calloc(unsigned long n, unsigned long m) { return refuses() ? 0 : __libc_c
 void *realloc(void *p, unsigned long n) { return refuses() ? 0 : __libc_realloc(p, n); }
 C
 
-answer() { # GROWTH WORD..: a call with that growth refused, with none for 0; leaves status, said, shown and out.prg
+answer() { # GROWTH PROGRAM WORD..: a run with that growth refused, with none for 0; leaves status, said, shown and out.prg
     local growth=$1
     shift
     status=0
     rm -f out.prg said shown refused
-    REFUSE=$growth LD_PRELOAD=$work/refuse.so "$tbc" "$@" <commands >shown 2>said 9>refused || status=$?
+    REFUSE=$growth LD_PRELOAD=$work/refuse.so "$@" <commands >shown 2>said 9>refused || status=$?
 }
 
 same_made() { if [ -e made.wanted ]; then cmp -s out.prg made.wanted; else [ ! -e out.prg ]; fi; }
@@ -46,8 +49,8 @@ same_made() { if [ -e made.wanted ]; then cmp -s out.prg made.wanted; else [ ! -
 rows=0
 runs=0
 failed=0
-check() { # WORD..: a command of the program
-    local growth wanted want=0 again=0
+refuse_each() { # PROGRAM WORD..: what it answers, with each growth refused in turn
+    local growth wanted want=0 again=0 name=${1##*/} words=${*:2}
     rows=$((rows + 1))
     answer 0 "$@"
     wanted=$status
@@ -60,15 +63,22 @@ check() { # WORD..: a command of the program
         runs=$((runs + 1))
         if [ "$status" = "$wanted" ] && cmp -s said said.wanted && cmp -s shown shown.wanted && same_made; then
             again=$((again + 1))
-        elif [ "$status" = 4 ] && [ "$(<said)" = "tbc: out of memory" ] && [ ! -s shown ] && [ ! -e out.prg ]; then
+        elif [ "$status" = 4 ] && [ "$(<said)" = "$name: out of memory" ] && [ ! -s shown ] && [ ! -e out.prg ]; then
             want=$((want + 1))
         else
-            echo "tbc $*: another answer at growth $growth: status $status, $(head -c 80 said)" >&2
+            echo "$name $words: another answer at growth $growth: status $status, $(head -c 80 said)" >&2
             failed=$((failed + 1))
         fi
         [ -s refused ] || break
     done
-    echo "tbc $*: status $wanted; $want times out of memory, $again times its answer"
+    echo "$name $words: status $wanted; $want times out of memory, $again times its answer"
+}
+
+check() { refuse_each "$tbc" "$@"; } # WORD..: a command of the program
+
+check_call() { # NAME: a call, whose answer is a text
+    refuse_each "$calls" "$1"
+    [ -s shown.wanted ] || { echo "tb_calls $1: no answer: $(<said.wanted)" >&2; failed=$((failed + 1)); }
 }
 
 : >commands
@@ -129,5 +139,11 @@ step_rows() {
 }
 [ $with_step = no ] || step_rows
 
-echo "$rows commands, $runs runs, $failed with another answer"
+: >commands
+for call in host_form key_list compile parse parse_expr tokens lower warnings assemble settle read_text write \
+    disassemble Listing::text Memory::new reserve run Stepper::new step to_line; do
+    check_call $call
+done
+
+echo "$rows commands and calls, $runs runs, $failed with another answer"
 [ "$failed" = 0 ]

@@ -1,0 +1,128 @@
+//! Why no answer is written.
+use std::alloc::{AllocError, AllocFailed};
+use tb_asm::{AsmError, AsmErrorKind, TextError};
+use tb_codegen::CompileError;
+use tb_disasm::ListError;
+use tb_driver::KeyError;
+use tb_lower::LowerError;
+use tb_memmap::{LoadError, NoMemory};
+use tb_parser::{SourceError, SourceErrorKind};
+use tb_prg::PrgError;
+use thiserror::Error;
+
+/// Why no answer is written.
+#[derive(Clone, Copy, Debug, PartialEq, Eq, Drop, Error)]
+pub enum Failure {
+    /// A growth was refused.
+    #[error("out of memory")]
+    NoMemory,
+    /// A call refuses its row for another reason than want of memory.
+    #[error("refused")]
+    Refused,
+    /// A call was refused memory, and something is not as it was before.
+    #[error("a refusal changed something")]
+    Changed,
+    #[error("no such call")]
+    NoSuchCall,
+}
+
+impl Failure {
+    /// Want of memory, if it left what can be seen as it was.
+    pub fn of_memory(is_unchanged: bool) -> Failure {
+        if is_unchanged {
+            Failure::NoMemory
+        } else {
+            Failure::Changed
+        }
+    }
+
+    // Want of memory, or another reason.
+    fn of(is_memory: bool) -> Failure {
+        if is_memory {
+            Failure::NoMemory
+        } else {
+            Failure::Refused
+        }
+    }
+
+    /// The exit status of the program.
+    pub fn status(self) -> u8 {
+        match self {
+            Failure::NoMemory => 4,
+            Failure::NoSuchCall => 2,
+            Failure::Refused | Failure::Changed => 1,
+        }
+    }
+}
+
+impl From<AllocError> for Failure {
+    fn from(_: AllocError) -> Failure {
+        Failure::NoMemory
+    }
+}
+
+impl<T: Drop> From<AllocFailed<T>> for Failure {
+    fn from(_: AllocFailed<T>) -> Failure {
+        Failure::NoMemory
+    }
+}
+
+impl From<NoMemory> for Failure {
+    fn from(_: NoMemory) -> Failure {
+        Failure::NoMemory
+    }
+}
+
+impl From<SourceError> for Failure {
+    fn from(error: SourceError) -> Failure {
+        Failure::of(error.kind == SourceErrorKind::NoMemory)
+    }
+}
+
+impl From<LowerError> for Failure {
+    fn from(error: LowerError) -> Failure {
+        Failure::of(error == LowerError::NoMemory)
+    }
+}
+
+impl From<CompileError> for Failure {
+    fn from(error: CompileError) -> Failure {
+        Failure::of(error == CompileError::NoMemory)
+    }
+}
+
+impl From<AsmError> for Failure {
+    fn from(error: AsmError) -> Failure {
+        Failure::of(error.kind == AsmErrorKind::NoMemory && error.item == 0)
+    }
+}
+
+impl From<TextError> for Failure {
+    fn from(error: TextError) -> Failure {
+        Failure::of(error == TextError::NoMemory)
+    }
+}
+
+impl From<ListError> for Failure {
+    fn from(error: ListError) -> Failure {
+        Failure::of(error == ListError::NoMemory)
+    }
+}
+
+impl From<KeyError> for Failure {
+    fn from(error: KeyError) -> Failure {
+        Failure::of(error == KeyError::NoMemory)
+    }
+}
+
+impl From<PrgError> for Failure {
+    fn from(_: PrgError) -> Failure {
+        Failure::Refused
+    }
+}
+
+impl From<LoadError> for Failure {
+    fn from(_: LoadError) -> Failure {
+        Failure::Refused
+    }
+}
