@@ -1,7 +1,7 @@
 //! What the rows share: the engines that compile a source, called with one reader and one writer.
 use std::alloc::{AllocError, Global};
 use std::io::{Read, Write};
-use tb_driver::{Report, Tracked, build, run_text};
+use tb_driver::{Report, Tracked, build, run_text, step_text};
 use tb_kernal::{Keyboard, Quiet};
 
 /// An engine that compiles a source.
@@ -10,6 +10,8 @@ pub enum Engine {
     Build,
     /// With this text on the keyboard.
     Run(&'static [u8]),
+    /// By these commands, with no text on the keyboard.
+    Step(&'static [u8]),
 }
 
 /// The first state of RND.
@@ -17,6 +19,14 @@ const SEED: u16 = 1;
 
 /// How many events a program may take.
 const LIMIT: u64 = 10_000;
+
+// The keyboard with a text typed.
+fn typed(alloc: Global, keys: &[u8]) -> Result<Keyboard, AllocError> {
+    Ok(Keyboard {
+        text: Vec::from_slice(alloc, keys)?,
+        answers: Vec::new(alloc),
+    })
+}
 
 /// Calls an engine.
 pub fn call<R: Read, W: Write>(
@@ -28,13 +38,22 @@ pub fn call<R: Read, W: Write>(
     match engine {
         Engine::Build => Ok(build(alloc, reader, writer, SEED)),
         Engine::Run(keys) => {
-            let keyboard = Keyboard {
-                text: Vec::from_slice(alloc, keys)?,
-                answers: Vec::new(alloc),
-            };
+            let keyboard = typed(alloc, keys)?;
             Ok(run_text(alloc, reader, writer, SEED, keyboard, LIMIT, &mut Quiet))
         }
+        Engine::Step(commands) => step(alloc, reader, &mut Tracked::new(commands), writer),
     }
+}
+
+/// Steps through a source by the commands of a reader, with no text on the keyboard.
+pub fn step<R: Read, C: Read, W: Write>(
+    alloc: Global,
+    source: &mut Tracked<R>,
+    commands: &mut Tracked<C>,
+    writer: &mut Tracked<W>,
+) -> Result<Report, AllocError> {
+    let keyboard = typed(alloc, b"")?;
+    Ok(step_text(alloc, source, commands, writer, SEED, keyboard, LIMIT))
 }
 
 /// What an engine answered, and what it wrote.

@@ -36,7 +36,8 @@ const SOURCES: [(&[Line], &[u8], u8); 4] = [
     (ASSIGNED, b"", 0),
 ];
 
-// Whether both engines refuse a source, or `build` writes a file and a run has a status.
+// Whether each engine refuses a source and writes nothing, or `build` writes a file, a run has a status and the stepper
+// answers.
 fn answers(
     alloc: Global,
     source: &[u8],
@@ -46,10 +47,23 @@ fn answers(
 ) -> Result<bool, AllocError> {
     let built = answer_of(alloc, Engine::Build, source)?;
     let ran = answer_of(alloc, Engine::Run(keys), source)?;
-    let statuses = (built.report.status(), ran.report.status());
+    let stepped = answer_of(alloc, Engine::Step(b"e 7"), source)?;
+    let statuses = (
+        built.report.status(),
+        ran.report.status(),
+        stepped.report.status(),
+    );
+    let answered = stepped.written.as_slice();
     Ok(match build_status {
-        0 => statuses == (0, run_status) && !built.written.is_empty(),
-        _ => statuses == (1, 1) && built.written.is_empty() && ran.written.is_empty(),
+        0 => statuses == (0, run_status, 0)
+            && !built.written.is_empty()
+            && answered == b"7\n".as_slice(),
+        _ => {
+            statuses == (1, 1, 1)
+                && built.written.is_empty()
+                && ran.written.is_empty()
+                && answered.is_empty()
+        }
     })
 }
 
@@ -80,7 +94,7 @@ fn the_longest_source(rt: HostRuntime) -> Result<(), Fail> {
     ];
     for (length, status, said) in rows {
         let spaces = vec![in rt.alloc(); b' '; length]?;
-        for engine in [Engine::Build, Engine::Run(b"")] {
+        for engine in [Engine::Build, Engine::Run(b""), Engine::Step(b"d\n")] {
             let answer = answer_of(rt.alloc(), engine, &spaces)?;
             let text = format!(in rt.alloc(); "{}", answer.report)?;
             assert_eq!(rt; (answer.report.status(), text.as_bytes()), (status, said));
