@@ -11,7 +11,10 @@ use tb_driver::{
 use tb_kernal::{Keyboard, Outside, Quiet, Rude};
 
 /// Does what the words ask for.
-pub fn perform<R: Files + Print + Input + AllocGlobal>(rt: &R, job: Job) -> Result<Report, Failure> {
+pub fn perform<R: Files + Print + Input + AllocGlobal>(
+    rt: &R,
+    job: Job,
+) -> Result<Report, Failure> {
     match job {
         Job::Build { source, out, seed } => {
             Ok(build_file(rt, source.as_str(), out.as_str(), seed))
