@@ -1,5 +1,5 @@
 -- Texts that are no expression.
-use Rattle.std.proofs.Common.{ℕ, ◌≡◌, ◌≢◌, List, refl}
+use Rattle.std.proofs.Common.{ℕ, ◌≢◌, List, refl}
 use Rattle.std.specs.Prelude.{IfSome, None, Err}
 use Rattle.tb_parser.specs.declared.errors.SourceErrorKind.{SourceErrorKind}
 use Rattle.tb_parser.specs.declared.errors.SourceErrorKind.TheVariants.{Syntax, NoMemory}

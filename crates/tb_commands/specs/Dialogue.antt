@@ -11,7 +11,6 @@ use Rattle.tb_lower.specs.Evaluation.{IsEvaluation}
 use Rattle.tb_lower.specs.declared.evaluation.EvalError.{EvalError}
 use Rattle.tb_lower.specs.declared.evaluation.EvalError.TheVariants as eval
 use Rattle.tb_kernal.specs.declared.events.Event.{Event}
-use Rattle.tb_kernal.specs.declared.status.Status.{Status}
 use Rattle.tb_kernal.specs.Machine.{Content, state_of, status, SameKeyboard}
 use Rattle.tb_runtime16.specs.Places.{NOTES}
 use Rattle.tb_codegen.specs.Compiled.{starts_of, table_of, line_in, start_in}

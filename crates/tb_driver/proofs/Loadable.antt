@@ -1,20 +1,17 @@
 -- A compiled program's file is loaded at $0801, and all of it lies in RAM.
-use Rattle.std.proofs.Common.{◌≡◌, ℕ, ◌+◌, ◌<◌, ◌≤◌, ◌&&◌, true, List, [], ◌∷◌, ◌++◌, length, drop, refl, sym, ap, ◌∙◌, arith, length-append, nat_lt, false}
-use Rattle.std.specs.Prelude.{Result, Ok, Err, if◌then◌else◌}
+use Rattle.std.proofs.Common.{◌≡◌, ℕ, ◌+◌, ◌<◌, ◌≤◌, true, List, ◌++◌, length, drop, refl, sym, ap, ◌∙◌, arith, length-append, nat_lt, false}
+use Rattle.std.specs.Prelude.{Ok, Err}
 use Rattle.std.proofs.lemmas.Bool.Decides.{nat_tests}
 use Rattle.tb_memmap.specs.Regions.{is_open}
-use Rattle.tb_memmap.specs.Bytes.{IsOpenRange}
 use Rattle.tb_asm.specs.Layout.{size, image_of, labels_from}
 use Rattle.tb_asm.proofs.Laws.{all_size}
 use Rattle.tb_lower.specs.Lowered as lowered
 use Rattle.tb_syntax.specs.Source.{Program}
 use Rattle.tb_parser.specs.Files.{Outcome}
 use Rattle.tb_prg.specs.Prg.{header, content_of, within}
-use Rattle.tb_prg.specs.declared.PrgError.{PrgError}
-use Rattle.tb_prg.specs.declared.PrgError.TheVariants.{RunsPast}
 use Rattle.tb_runtime16.specs.Places.{PROLOGUE_AT}
 use Rattle.tb_templates.specs.Program.{program_code}
-use Rattle.tb_codegen.specs.Answers.{HasOutcome, Answered, OutcomeAnswer, ProgramAnswer}
+use Rattle.tb_codegen.specs.Answers.{HasOutcome, OutcomeAnswer}
 use Rattle.tb_codegen.specs.Compiled.{IsCompiled, prg_of, loaded_of}
 use Rattle.tb_codegen.specs.declared.compiled.Compiled.{Compiled}
 use Rattle.tb_driver.specs.Stepping.{IsLoadable}

@@ -1,5 +1,5 @@
 -- Each statement of a file's program stands in a text that is no longer than a line.
-use Rattle.std.proofs.Common.{◌≡◌, ℕ, ◌+◌, ◌-◌, ◌*◌, ◌≤◌, Bool, true, false, List, [], ◌∷◌, length, ap, arith, None, Result, Ok, Err, ◌==◌, if◌then◌else◌}
+use Rattle.std.proofs.Common.{◌≡◌, ℕ, ◌+◌, ◌-◌, ◌*◌, ◌≤◌, Bool, true, false, List, [], ◌∷◌, length, ap, arith, Result, Ok, Err, ◌==◌, if◌then◌else◌}
 use Rattle.std.specs.Prelude.{nat_lt}
 use Rattle.tb_syntax.specs.Source.{Command, Program}
 use Rattle.tb_grammar.specs.Statements.{States}

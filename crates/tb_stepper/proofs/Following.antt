@@ -1,5 +1,5 @@
 -- States that follow one another.
-use Rattle.std.proofs.Common.{ℕ, ◌≡◌, List, [], ◌∷◌, ◌++◌, drop, zero, suc, sym, subst}
+use Rattle.std.proofs.Common.{ℕ, List, [], ◌∷◌, ◌++◌, drop, zero, suc}
 use Rattle.tb_kernal.specs.Machine.{State}
 use Rattle.tb_stepper.specs.Notes.{Follows, EachFollows}
 

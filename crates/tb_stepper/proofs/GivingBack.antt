@@ -1,15 +1,14 @@
 -- What notes give back.
-use Rattle.std.proofs.Common.{ℕ, ◌≡◌, ◌-◌, ◌+◌, ◌≤◌, Bool, true, false, ◌&&◌, List, [], ◌∷◌, ◌++◌, length, take, drop, refl, sym, ap, subst, ◌∙◌, arith, suc, zero, length-append, length-drop}
-use Rattle.std.specs.Prelude.{nat_le, Ok, if◌then◌else◌}
+use Rattle.std.proofs.Common.{ℕ, ◌≡◌, ◌-◌, ◌+◌, ◌≤◌, Bool, true, ◌&&◌, List, [], ◌∷◌, ◌++◌, length, drop, refl, sym, ap, subst, ◌∙◌, arith, suc, zero, length-append, length-drop}
+use Rattle.std.specs.Prelude.{nat_le, Ok}
 use Rattle.std.proofs.lemmas.Bool.{and_parts, and_from}
 use Rattle.std.proofs.lemmas.Bool.Decides.{nat_tests}
 use Rattle.std.proofs.lemmas.List.{drop-append-le}
 use Rattle.circular_buffer.specs.Buffer.{keep_last}
-use Rattle.tb_memmap.specs.Bytes.{at}
 use Rattle.tb_kernal.specs.declared.events.Event.{Event}
 use Rattle.tb_kernal.specs.declared.status.Status.{Status}
 use Rattle.tb_kernal.specs.Notes.{Note}
-use Rattle.tb_kernal.specs.Machine.{State, Content, state_of, is_lawful, happens, SameKeyboard, Happened}
+use Rattle.tb_kernal.specs.Machine.{State, Content, state_of, is_lawful, happens, Happened}
 use Rattle.tb_kernal.specs.Undoing.{Undone, Noted, back_to}
 use Rattle.tb_kernal.proofs.TakingBack.{note_gives_back}
 use Rattle.tb_stepper.specs.Notes.{Holds, given_back, first_of, earlier_of, all_fit, EachFollows}

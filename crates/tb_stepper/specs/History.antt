@@ -1,5 +1,5 @@
 -- A history of machines, and its steps.
-use Rattle.std.specs.Prelude.{ℕ, ◌≡◌, ◌<◌, ◌≤◌, nat_lt, suc, zero, Err, ◌&&◌, ◌==◌, Bool, true, false, List, [], ◌∷◌, ◌++◌, Option, Some, None, Result, Ok, MatchResult, if◌then◌else◌}
+use Rattle.std.specs.Prelude.{ℕ, ◌≡◌, ◌<◌, ◌≤◌, nat_lt, suc, zero, Err, ◌&&◌, ◌==◌, Bool, true, false, [], ◌∷◌, ◌++◌, Option, Some, None, Result, Ok, MatchResult}
 use Rattle.circular_buffer.specs.Buffer.{keep_last}
 use Rattle.tb_memmap.specs.declared.memory.NoMemory.{NoMemory}
 use Rattle.tb_kernal.specs.declared.events.Event.{Event}

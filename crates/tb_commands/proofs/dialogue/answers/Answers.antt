@@ -1,9 +1,8 @@
-use Rattle.std.proofs.Common.{◌≡◌, ◌++◌, ◌∷◌, [], subst, rules}
-use Rattle.std.specs.Prelude.{Some, None, Ok}
+use Rattle.std.proofs.Common.{◌≡◌, ◌++◌, ◌∷◌, [], rules}
+use Rattle.std.specs.Prelude.{Some, None}
 use Rattle.tb_commands.specs.Commands.{asked_in}
 use Rattle.tb_commands.specs.Lines.{lines_of}
 use Rattle.tb_commands.specs.Answers.{text_of}
-use Rattle.tb_commands.specs.Dialogue.{Responds}
 use Rattle.tb_commands.proofs.LineLemmas.{no_lines}
 use Rattle.tb_commands.proofs.Talking.{told_more, told_all, told_quit, responds_as, none_of}
 use Rattle.tb_commands.proofs.dialogue.answers.Goals as goal

@@ -1,4 +1,3 @@
-use Rattle.std.proofs.Common.{refl}
 use Rattle.std.specs.Prelude.{Ok}
 use Rattle.tb_syntax.specs.Shown.{expression_of}
 use Rattle.tb_commands.proofs.Refusing.{refused_text}

@@ -1,4 +1,4 @@
-use Rattle.std.proofs.Common.{◌-◌, ◌+◌, length, take, drop, arith, sym}
+use Rattle.std.proofs.Common.{arith, sym}
 use Rattle.std.proofs.lemmas.List.{length-take, length-drop}
 use Rattle.tb_commands.proofs.LineLemmas.{first_line_and_rest, only_line}
 use Rattle.tb_commands.proofs.lines.next_line.Goals as goal

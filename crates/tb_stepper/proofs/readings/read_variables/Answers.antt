@@ -1,4 +1,4 @@
-use Rattle.std.proofs.Common.{rules, length-set, ◌≡◌, ◌<◌, length, ◌∙◌, ap, to_z, of_z, arith}
+use Rattle.std.proofs.Common.{rules, length-set, ◌≡◌, ◌<◌, length, ◌∙◌, to_z, of_z, arith}
 use Rattle.tb_memmap.specs.Bytes.{at}
 use Rattle.tb_words.specs.Words.{word_of}
 use Rattle.tb_stepper.specs.Readings.{variable_in}

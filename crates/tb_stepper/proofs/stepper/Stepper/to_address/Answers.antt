@@ -1,9 +1,7 @@
-use Rattle.std.proofs.Common.{rules, ◌≡◌, ◌+◌, ◌<◌, nat_lt, subst, sym, arith}
-use Rattle.std.specs.Prelude.{None, Ok, Err, Result}
-use Rattle.tb_memmap.specs.declared.memory.NoMemory.{NoMemory}
+use Rattle.std.proofs.Common.{rules, ◌≡◌, ◌<◌, nat_lt}
+use Rattle.std.specs.Prelude.{None, Ok, Err}
 use Rattle.tb_kernal.specs.Machine.{state_of}
-use Rattle.tb_stepper.specs.declared.reached.Reached.{Reached}
-use Rattle.tb_stepper.specs.History.{Stepped, Reaches, end_at}
+use Rattle.tb_stepper.specs.History.{Stepped, end_at}
 use Rattle.tb_stepper.proofs.Walking.{walked_more, refused}
 use Rattle.tb_stepper.proofs.stepper.Stepper.to_address.Goals as goal
 

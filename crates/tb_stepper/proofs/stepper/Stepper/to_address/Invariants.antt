@@ -1,4 +1,3 @@
-use Rattle.std.proofs.Common.{◌≡◌}
 use Rattle.tb_stepper.specs.History.{Walked}
 use Rattle.tb_stepper.proofs.stepper.Stepper.to_address.Given as goal
 
