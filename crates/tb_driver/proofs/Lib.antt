@@ -1,6 +1,3 @@
-pub mod Counting
-pub mod Start
-mod Written
 mod Delivered
 mod Output
 mod Loadable

@@ -26,16 +26,16 @@ use Rattle.tb_keeping.specs.Kept.{Starts, HasEnded, IsSound, Keeps}
 use Rattle.tb_codegen.specs.declared.compiled.Compiled.{Compiled}
 use Rattle.tb_codegen.specs.Answers.{Makes as LinesMake, OutcomeAnswer, Answered}
 use Rattle.tb_codegen.specs.Compiled.{prg_of, loaded_of}
-use Rattle.tb_driver.specs.HostForm.{host_form_of}
-use Rattle.tb_driver.specs.Outcomes.{Product}
-use Rattle.tb_driver.specs.Made.{Makes}
-use Rattle.tb_driver.specs.Programs.{start_memory, start, end_of, RunsAt, RunsContent, RunsPrg}
+use Rattle.tb_streams.specs.HostForm.{host_form_of}
+use Rattle.tb_engines.specs.Outcomes.{Product}
+use Rattle.tb_engines.specs.Made.{Makes}
+use Rattle.tb_engines.specs.Programs.{start_memory, start, end_of, RunsAt, RunsContent, RunsPrg}
 use Rattle.tb_driver.specs.Output.{ShowsOutput, RunsSource, KeepsSource}
-use Rattle.tb_driver.specs.declared.made.Text.{Text}
-use Rattle.tb_driver.specs.declared.made.Stop.{Stop}
-use Rattle.tb_driver.specs.declared.outcome.End.TheVariants.{Done}
+use Rattle.tb_engines.specs.declared.made.Text.{Text}
+use Rattle.tb_engines.specs.declared.made.Stop.{Stop}
+use Rattle.tb_engines.specs.declared.outcome.End.TheVariants.{Done}
 use Rattle.tb_driver.proofs.Delivered.{makes_as}
-use Rattle.tb_driver.proofs.Start.{home_of-start}
+use Rattle.tb_engines.proofs.Start.{home_of-start}
 
 -- ---- bytes
 

@@ -5,22 +5,22 @@ use Rattle.tb_kernal.specs.declared.outside.Quiet.{Quiet}
 use Rattle.tb_kernal.specs.Machine.{Content}
 use Rattle.tb_prg.specs.declared.PrgError.{PrgError}
 use Rattle.tb_prg.specs.Prg.{content_of}
-use Rattle.tb_codegen.specs.Answers.{HasOutcome}
 use Rattle.tb_codegen.specs.Compiled.{prg_of, loaded_of, warnings_of}
 use Rattle.tb_codegen.specs.declared.compiled.Compiled.{Compiled}
+use Rattle.tb_codegen.specs.declared.errors.CompileError.{CompileError}
 use Rattle.tb_stepper.specs.Notes.{Holds}
 use Rattle.tb_commands.specs.Lines.{lines_of}
 use Rattle.tb_commands.specs.Dialogue.{Dialogue}
-use Rattle.tb_driver.specs.Streams.{Reads}
-use Rattle.tb_driver.specs.Outcomes.{Answers}
-use Rattle.tb_driver.specs.Made.{Makes, Shows}
-use Rattle.tb_driver.specs.Programs.{start}
-use Rattle.tb_driver.specs.Stepping.{IsLoadable, gives_quiet, start_of_history, Steps, StepsThrough, MadeFromBoth}
-use Rattle.tb_driver.specs.declared.made.Text.{Text}
-use Rattle.tb_driver.specs.declared.made.Stop.{Stop}
-use Rattle.tb_driver.specs.declared.outcome.End.TheVariants.{Done}
-use Rattle.tb_driver.specs.declared.outcome.Outcome.{Outcome}
-use Rattle.tb_driver.proofs.Delivered.{answers_as, shown}
+use Rattle.tb_streams.specs.Streams.{Reads}
+use Rattle.tb_engines.specs.Outcomes.{MadeFrom}
+use Rattle.tb_engines.specs.Made.{Makes}
+use Rattle.tb_engines.specs.Programs.{start}
+use Rattle.tb_driver.specs.Sources.{Compiles, IsCompiled, stop_of, FromSource}
+use Rattle.tb_driver.specs.Stepping.{IsLoadable, gives_quiet, start_of_history, Steps, StepsThrough}
+use Rattle.tb_engines.specs.declared.made.Text.{Text}
+use Rattle.tb_engines.specs.declared.made.Stop.{Stop}
+use Rattle.tb_engines.specs.declared.outcome.End.TheVariants.{Done}
+use Rattle.tb_driver.proofs.Delivered.{makes_as, from_compiled, from_refusal}
 
 -- the address and the bytes of a file that was read
 abbrev address_in : Result (ℕ × List ℕ) PrgError → ℕ
@@ -43,13 +43,19 @@ module _ (text answers : List ℕ) (limit : ℕ) where
       let whole : h ≡ start_of_history text answers program = same ∙ (λ i. record (start_of_history text answers program) { machine = machine i }) in
       (k, subst (λ x. Dialogue gives_quiet limit x (lines_of commands) said k) whole talked, refl)
 
-  -- what was written of a program and commands
-  pub steps_delivered : (seed : ℕ) (had_source had_commands : Option (List ℕ)) (input source typed commands : List ℕ) (program : Compiled) (warnings : List Warning)
-      (made : Result Text Stop) (outcome : Outcome) (old new : Option (List ℕ)) → Reads had_source input → source ≡ input → Reads had_commands typed → commands ≡ typed
-      → HasOutcome seed source (Ok program) → warnings ≡ warnings_of program → Answers (Shows made) outcome old new → Makes (Steps text answers limit program commands) made
-      → Answers (MadeFromBoth had_source had_commands (StepsThrough seed text answers limit warnings)) outcome old new
-  steps_delivered seed had_source had_commands input source typed commands program warnings made outcome old new reads same reads_typed same_commands found warned written m =
-      let here = subst (λ s. HasOutcome seed s (Ok program)) same found in
-      let of_typed = subst (λ c. Makes (Steps text answers limit program c) made) same_commands m in
-      answers_as (Shows made) (MadeFromBoth had_source had_commands (StepsThrough seed text answers limit warnings))
-      (λ x s. (input, reads, (typed, reads_typed, (Ok program, here, (warned, shown (Steps text answers limit program typed) made of_typed x s))))) outcome old new written
+  -- what was made of a source's program and of commands that were read
+  pub steps_made : (seed : ℕ) (had_commands : Option (List ℕ)) (source typed commands : List ℕ) (program : Compiled) (warnings : List Warning)
+      (made : Result Text Stop) → Reads had_commands typed → commands ≡ typed → Compiles seed source (Ok program) → warnings ≡ warnings_of program
+      → Makes (Steps text answers limit program commands) made
+      → Makes (MadeFrom had_commands (StepsThrough seed text answers limit warnings source)) made
+  steps_made seed had_commands source typed commands program warnings made reads same compiled warned m =
+      let here = subst (λ c. Makes (Steps text answers limit program c) made) same m in
+      makes_as (FromSource seed (λ p. Steps text answers limit p typed) warnings source) (MadeFrom had_commands (StepsThrough seed text answers limit warnings source))
+      (λ x h. (typed, reads, h)) made (from_compiled seed (λ p. Steps text answers limit p typed) source program warnings made compiled warned here)
+
+  -- what was made of a source that is refused
+  pub steps_refused : (seed : ℕ) (had_commands : Option (List ℕ)) (source typed : List ℕ) (e : CompileError) → Reads had_commands typed → IsCompiled seed source (Err e)
+      → Makes (MadeFrom had_commands (StepsThrough seed text answers limit [] source)) (Err (stop_of e))
+  steps_refused seed had_commands source typed e reads refused =
+      makes_as (FromSource seed (λ p. Steps text answers limit p typed) [] source) (MadeFrom had_commands (StepsThrough seed text answers limit [] source))
+      (λ x h. (typed, reads, h)) (Err (stop_of e)) (from_refusal seed (λ p. Steps text answers limit p typed) source e refused)

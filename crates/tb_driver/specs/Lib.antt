@@ -1,10 +1,3 @@
-pub mod HostForm
-pub mod Streams
-pub mod Inputs
-pub mod Outcomes
-pub mod Made
-pub mod Programs
-pub mod Assembly
 pub mod Sources
 pub mod Output
 pub mod Stepping

@@ -8,12 +8,12 @@ use Rattle.tb_lower.specs.Follows.{IsPrefix}
 use Rattle.tb_keeping.specs.Kept.{Keeps}
 use Rattle.tb_codegen.specs.Answers.{Makes}
 use Rattle.tb_prg.specs.Prg.{content_of}
-use Rattle.tb_driver.specs.HostForm.{host_form_of}
-use Rattle.tb_driver.specs.Outcomes.{Product}
+use Rattle.tb_streams.specs.HostForm.{host_form_of}
+use Rattle.tb_engines.specs.Outcomes.{Product}
 use Rattle.tb_driver.specs.Sources.{Compiles}
-use Rattle.tb_driver.specs.declared.outcome.End.{End}
-use Rattle.tb_driver.specs.declared.outcome.End.TheVariants.{Done, StepLimit, WaitsForKey, WentWrong}
-use Rattle.tb_driver.specs.declared.outcome.Refusal.TheVariants.{Source}
+use Rattle.tb_engines.specs.declared.outcome.End.{End}
+use Rattle.tb_engines.specs.declared.outcome.End.TheVariants.{Done, StepLimit, WaitsForKey, WentWrong}
+use Rattle.tb_engines.specs.declared.outcome.Refusal.TheVariants.{Source}
 
 -- a text is the host form of a program's whole output: of all that it sent when its run was over so
 pub record ShowsWhole (program : Program) (seed : ℕ) (keys answers : List ℕ) (why : source.End) (text : List ℕ) : Type 0 where

@@ -7,11 +7,11 @@ use Rattle.tb_codegen.specs.declared.errors.CompileError.{CompileError}
 use Rattle.tb_codegen.specs.declared.errors.CompileError.TheVariants.{NoMemory}
 use Rattle.tb_codegen.specs.Answers.{HasOutcome, Makes, OutcomeAnswer}
 use Rattle.tb_codegen.specs.Compiled.{prg_of, warnings_of}
-use Rattle.tb_driver.specs.Outcomes.{Product}
-use Rattle.tb_driver.specs.declared.made.Stop.{Stop}
-use Rattle.tb_driver.specs.declared.made.Stop.TheVariants.{Refused as StopRefused, NoMemory as StopNoMemory}
-use Rattle.tb_driver.specs.declared.outcome.End.TheVariants.{Done}
-use Rattle.tb_driver.specs.declared.outcome.Refusal.TheVariants.{Source}
+use Rattle.tb_engines.specs.Outcomes.{Product}
+use Rattle.tb_engines.specs.declared.made.Stop.{Stop}
+use Rattle.tb_engines.specs.declared.made.Stop.TheVariants.{Refused as StopRefused, NoMemory as StopNoMemory}
+use Rattle.tb_engines.specs.declared.outcome.End.TheVariants.{Done}
+use Rattle.tb_engines.specs.declared.outcome.Refusal.TheVariants.{Source}
 use Rattle.tb_driver.specs.declared.sources.Program.{Program}
 
 -- what the compiler promises of an answer for a source and a first state of RND: what the file's lines make is answered,
@@ -41,16 +41,16 @@ abbrev pub stop_of : CompileError → Stop
 stop_of NoMemory = StopNoMemory
 stop_of e = StopRefused (Source e)
 
--- a file is written as it is
-abbrev pub IsFile : List ℕ → Product → Type 0
-IsFile file product = product ≡ Ok (file, Done)
+-- the PRG file is written as it is
+abbrev pub IsFile : Compiled → Product → Type 0
+IsFile c product = product ≡ Ok (prg_of c, Done)
 
--- what comes of the compiler's answer: what `makes` says of the PRG file, with the program's warnings, or the refusal
-abbrev pub FromAnswer : (List ℕ → Product → Type 0) → List Warning → Result Compiled CompileError → Product → Type 0
-FromAnswer makes warnings (Ok c) product = (warnings ≡ warnings_of c) × makes (prg_of c) product
+-- what comes of the compiler's answer: what `makes` says of the program, with its warnings, or the refusal
+abbrev pub FromAnswer : (Compiled → Product → Type 0) → List Warning → Result Compiled CompileError → Product → Type 0
+FromAnswer makes warnings (Ok c) product = (warnings ≡ warnings_of c) × makes c product
 FromAnswer makes warnings (Err e) product = (warnings ≡ []) × (product ≡ Err (Source e))
 
 -- what comes of a source
-abbrev pub FromSource : ℕ → (List ℕ → Product → Type 0) → List Warning → List ℕ → Product → Type 0
+abbrev pub FromSource : ℕ → (Compiled → Product → Type 0) → List Warning → List ℕ → Product → Type 0
 FromSource seed makes warnings source product =
     (answer : Result Compiled CompileError) × Compiles seed source answer × FromAnswer makes warnings answer product

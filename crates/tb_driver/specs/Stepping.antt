@@ -7,21 +7,18 @@ use Rattle.tb_kernal.specs.declared.outside.Quiet.{Quiet}
 use Rattle.tb_kernal.specs.declared.events.Event.{Event}
 use Rattle.tb_kernal.specs.Machine.{Content}
 use Rattle.tb_kernal.specs.Runs.{is_quiet}
-use Rattle.tb_codegen.specs.Answers.{HasOutcome}
-use Rattle.tb_codegen.specs.Compiled.{prg_of, loaded_of, warnings_of}
+use Rattle.tb_codegen.specs.Compiled.{prg_of, loaded_of}
 use Rattle.tb_codegen.specs.declared.compiled.Compiled.{Compiled}
-use Rattle.tb_codegen.specs.declared.errors.CompileError.{CompileError}
-use Rattle.tb_codegen.specs.declared.errors.CompileError.TheVariants.{Source as BadSource, Lower, TooLarge, NoMemory as NoCompilerMemory}
 use Rattle.tb_stepper.specs.Notes.{Holds}
 use Rattle.tb_commands.specs.Lines.{lines_of}
 use Rattle.tb_commands.specs.Dialogue.{Dialogue}
-use Rattle.tb_driver.specs.Streams.{MayPassMost}
-use Rattle.tb_driver.specs.Outcomes.{Product, MadeFrom}
-use Rattle.tb_driver.specs.Programs.{start}
-use Rattle.tb_driver.specs.declared.outcome.End.TheVariants.{Done}
-use Rattle.tb_driver.specs.declared.outcome.Refusal.TheVariants.{Source}
-use Rattle.tb_driver.specs.declared.outcome.Outcome.{Outcome}
-use Rattle.tb_driver.specs.declared.outcome.Outcome.TheVariants.{Ended, Refused, ReadFault, WriteFault, NoMemory}
+use Rattle.tb_streams.specs.Streams.{MayPassMost}
+use Rattle.tb_engines.specs.Outcomes.{Product, MadeFrom}
+use Rattle.tb_engines.specs.Programs.{start}
+use Rattle.tb_driver.specs.Sources.{FromSource}
+use Rattle.tb_engines.specs.declared.outcome.End.TheVariants.{Done}
+use Rattle.tb_engines.specs.declared.outcome.Outcome.{Outcome}
+use Rattle.tb_engines.specs.declared.outcome.Outcome.TheVariants.{Ended, Refused, ReadFault, WriteFault, NoMemory}
 
 -- a program's PRG file is loaded at $0801, and all of it lies in RAM
 abbrev pub IsLoadable : Compiled → Type 0
@@ -43,17 +40,10 @@ Steps text answers limit program commands (Ok (shown, end)) =
     (k : Holds Quiet) × Dialogue gives_quiet limit (start_of_history text answers program) (lines_of commands) shown k × (end ≡ Done)
 Steps text answers limit program commands (Err e) = ⊥
 
--- what comes of the compiler's answer: the answers to commands, with the program's warnings, or the refusal
-abbrev pub StepsOf : List ℕ → List ℕ → ℕ → List Warning → List ℕ → Result Compiled CompileError → Product → Type 0
-StepsOf text answers limit warnings commands (Ok program) product =
-    (warnings ≡ warnings_of program) × Steps text answers limit program commands product
-StepsOf text answers limit warnings commands (Err NoCompilerMemory) product = ⊥
-StepsOf text answers limit warnings commands (Err e) product = (warnings ≡ []) × (product ≡ Err (Source e))
-
 -- what comes of a source and of commands
 abbrev pub StepsThrough : ℕ → List ℕ → List ℕ → ℕ → List Warning → List ℕ → List ℕ → Product → Type 0
 StepsThrough seed text answers limit warnings source commands product =
-    (answer : Result Compiled CompileError) × HasOutcome seed source answer × StepsOf text answers limit warnings commands answer product
+    FromSource seed (λ program. Steps text answers limit program commands) warnings source product
 
 -- made from all that two readers had
 abbrev pub MadeFromBoth : Option (List ℕ) → Option (List ℕ) → (List ℕ → List ℕ → Product → Type 0) → Product → Type 0
@@ -78,10 +68,3 @@ FaultsOfBoth (Refused e) had_source source source' had_commands commands command
     (source' ≡ source) × (commands' ≡ commands) × (wrote' ≡ wrote)
 FaultsOfBoth NoMemory had_source source source' had_commands commands commands' wrote wrote' =
     (source' ≡ source) × (commands' ≡ commands) × (wrote' ≡ wrote)
-
--- the outcome of a refusal; want of memory is none
-abbrev pub refusal_of : CompileError → Outcome
-refusal_of (BadSource e) = Refused (Source (BadSource e))
-refusal_of (Lower e) = Refused (Source (Lower e))
-refusal_of (TooLarge n) = Refused (Source (TooLarge n))
-refusal_of NoCompilerMemory = NoMemory

@@ -1,24 +1,21 @@
 //! Compiling a source, and running it.
 ghost use Rattle.std.specs.Prelude.{◌≡◌, ◌+◌, ℕ, [], List, Ok, Err, IfOk};
 ghost use Rattle.tb_routines.specs.Laws.{AllBytes};
-ghost use Rattle.tb_driver.specs.Streams.{most_input, ConsumesAtMost};
-ghost use Rattle.tb_driver.specs.Outcomes.{Answers, Faults, MadeFrom};
-ghost use Rattle.tb_driver.specs.Made.{Makes};
-ghost use Rattle.tb_driver.specs.Programs.{RunsPrg};
+ghost use Rattle.tb_streams.specs.Streams.{most_input, ConsumesAtMost};
+ghost use Rattle.tb_engines.specs.Outcomes.{Answers, Faults, MadeFrom};
+ghost use Rattle.tb_engines.specs.Made.{Makes};
+ghost use Rattle.tb_engines.specs.Programs.{RunsPrg};
 ghost use Rattle.tb_driver.specs.Sources.{IsCompiled, stop_of, IsFile, FromSource};
+ghost use Rattle.tb_codegen.specs.Compiled.{prg_of};
 ghost use Rattle.tb_driver.specs.Output.{KeepsSource, RunsSource};
 
-use crate::made::{Stop, Text, deliver, without_input};
-use crate::outcome::{End, Outcome, Refusal};
-use crate::programs::run_file;
-use crate::report::Report;
-use crate::stream::read_input;
-use crate::tracked::Tracked;
 use std::alloc::Global;
 use std::io::{Read, Write};
 use tb_codegen::{CompileError, Options, compile};
+use tb_engines::{End, Outcome, Refusal, Report, Stop, Text, deliver, run_file, without_input};
 use tb_kernal::{Keyboard, Outside};
 use tb_lower::Warning;
+use tb_streams::{Tracked, read_input};
 
 /// A program that was compiled.
 #[derive(Drop)]
@@ -39,8 +36,8 @@ fn compile_source(alloc: Global, source: &[u8], seed: u16) -> Result<Program, Co
     })
 }
 
-// Want of memory is no refusal.
-fn stop_of(error: CompileError) -> Stop
+/// How an engine stops where a source is not compiled. Want of memory is no refusal.
+pub fn stop_of(error: CompileError) -> Stop
     ensures { result ≡ stop_of error }
 {
     match error {
@@ -119,9 +116,8 @@ pub fn run_text<R: Read, W: Write, O: Outside>(
     outside: &mut O,
 ) -> Report
     ensures answers { Answers (MadeFrom (R.remaining reader.old.stream)
-        (FromSource seed
-        (RunsPrg O.gives outside.old keyboard.text.items keyboard.answers.items limit)
-        result.warnings.items)) result.outcome
+        (FromSource seed (λ program. RunsPrg O.gives outside.old keyboard.text.items
+        keyboard.answers.items limit (prg_of program)) result.warnings.items)) result.outcome
         (W.contents writer.old.stream) (W.contents writer.new.stream) }
     ensures output { Answers (MadeFrom (R.remaining reader.old.stream)
         (RunsSource seed keyboard.text.items keyboard.answers.items)) result.outcome

@@ -1,22 +1,19 @@
 //! Stepping through a source by commands.
 ghost use Rattle.std.specs.Prelude.{◌≡◌, ◌+◌};
-ghost use Rattle.tb_driver.specs.Streams.{most_input, ConsumesAtMost};
-ghost use Rattle.tb_driver.specs.Outcomes.{Answers};
-ghost use Rattle.tb_driver.specs.Made.{Makes};
-ghost use Rattle.tb_driver.specs.Stepping.{IsLoadable, Steps, StepsThrough, MadeFromBoth, FaultsOfBoth, refusal_of};
+ghost use Rattle.tb_streams.specs.Streams.{most_input, ConsumesAtMost};
+ghost use Rattle.tb_engines.specs.Outcomes.{Answers};
+ghost use Rattle.tb_engines.specs.Made.{Makes};
+ghost use Rattle.tb_driver.specs.Stepping.{IsLoadable, Steps, StepsThrough, MadeFromBoth, FaultsOfBoth};
 
-use crate::loading::start_machine;
-use crate::made::{Stop, Text, deliver, without_input};
-use crate::outcome::{End, Outcome, Refusal};
-use crate::report::Report;
-use crate::stream::read_input;
-use crate::tracked::Tracked;
+use crate::sources::stop_of;
 use std::alloc::Global;
 use std::io::{Read, Write};
-use tb_codegen::{CompileError, Compiled, Options, compile};
+use tb_codegen::{Compiled, Options, compile};
 use tb_commands::answers;
+use tb_engines::{End, Outcome, Report, Stop, Text, deliver, start_machine, without_input};
 use tb_kernal::{Keyboard, Quiet};
 use tb_stepper::Stepper;
+use tb_streams::{Tracked, read_input};
 
 // The answers to commands, over a stepper of a program's start machine.
 fn step_program(
@@ -42,16 +39,6 @@ fn step_program(
             end: End::Done,
         }),
         Err(_) => Err(Stop::NoMemory),
-    }
-}
-
-// Want of memory is no refusal.
-fn refusal_of(error: CompileError) -> Outcome
-    ensures { result ≡ refusal_of error }
-{
-    match error {
-        CompileError::NoMemory => Outcome::NoMemory,
-        _ => Outcome::Refused(Refusal::Source(error)),
     }
 }
 
@@ -89,7 +76,7 @@ pub fn step_text<R: Read, C: Read, W: Write>(
     };
     let program = match compile(alloc, source.as_slice(), Options { seed }) {
         Ok(program) => program,
-        Err(error) => return Report::new(alloc, refusal_of(error)),
+        Err(error) => return Report::new(alloc, deliver(writer, Err(stop_of(error)))),
     };
     let Ok(warnings) = Vec::from_slice(alloc, program.warnings()) else {
         return Report::new(alloc, Outcome::NoMemory);

@@ -1,7 +1,10 @@
 use Rattle.std.proofs.Common.{rules, ◌≡◌}
 use Rattle.tb_codegen.specs.Compiled.{warnings_of}
+use Rattle.tb_engines.specs.Outcomes.{MadeFrom}
+use Rattle.tb_driver.specs.Stepping.{StepsThrough}
+use Rattle.tb_driver.proofs.Delivered.{delivered, refusal_delivered, refused_so}
 use Rattle.tb_driver.proofs.Loadable.{answer_loads}
-use Rattle.tb_driver.proofs.Stepped.{steps_delivered}
+use Rattle.tb_driver.proofs.Stepped.{steps_made, steps_refused}
 use Rattle.tb_driver.proofs.stepping.step_text.Goals as goal
 
 pub step_program-requires : goal.step_program-requires
@@ -9,11 +12,27 @@ step_program-requires g c = answer_loads c.args.seed c.as_slice.result.now c.in-
 
 pub returns-clause-answers : goal.returns-clause-answers
 returns-clause-answers g c =
-    let warned : c.in-Ok-from_slice.warnings.items ≡ warnings_of c.in-Ok-compile.program = search rules in
-    steps_delivered c.args.keyboard.text.items c.args.keyboard.answers.items c.args.limit c.args.seed
-    (g.R.Read.remaining c.args.source.now.stream) (g.C.Read.remaining c.args.commands.now.stream)
-    c.in-Ok.source.items c.as_slice.result.now c.in-Ok-read_input.commands.items c.as_slice-2.result.now
-    c.in-Ok-compile.program c.in-Ok-from_slice.warnings.items c.step_program.result c.deliver.result
-    (g.W.Write.contents c.args.writer.now.stream) (g.W.Write.contents c.deliver.new.writer.stream)
-    c.in-Ok.ensures.whole c.as_slice.ensures.value c.in-Ok-read_input.ensures.whole c.as_slice-2.ensures.value
-    c.in-Ok-compile.ensures.found warned c.deliver.ensures.answers c.step_program.ensures
+    let text = c.args.keyboard.text.items in
+    let answers = c.args.keyboard.answers.items in
+    let had = g.C.Read.remaining c.args.commands.now.stream in
+    let source = c.as_slice.result.now in
+    let warnings = c.in-Ok-from_slice.warnings.items in
+    let warned : warnings ≡ warnings_of c.in-Ok-compile.program = search rules in
+    delivered (λ s. MadeFrom had (StepsThrough c.args.seed text answers c.args.limit warnings s)) _ _ source c.step_program.result _ _ _
+    c.in-Ok.ensures.whole (search rules)
+    (steps_made text answers c.args.limit c.args.seed had source _ _ c.in-Ok-compile.program warnings c.step_program.result
+    c.in-Ok-read_input.ensures.whole c.as_slice-2.ensures.value
+    (record { found = c.in-Ok-compile.ensures.found; only = c.in-Ok-compile.ensures.only }) warned c.step_program.ensures) c.deliver-2.ensures.answers
+
+pub returns-in-Err-compile-clause-answers : goal.returns-in-Err-compile-clause-answers
+returns-in-Err-compile-clause-answers g c =
+    let text = c.args.keyboard.text.items in
+    let answers = c.args.keyboard.answers.items in
+    let had = g.C.Read.remaining c.args.commands.now.stream in
+    let source = c.as_slice.result.now in
+    let e = c.in-Err-compile.error in
+    refusal_delivered (λ w s. MadeFrom had (StepsThrough c.args.seed text answers c.args.limit w s)) _ _ source e c.stop_of.result
+    c.deliver.result c.new-in-Err-compile.result _ _ c.in-Ok.ensures.whole (search rules)
+    (steps_refused text answers c.args.limit c.args.seed had source _ e c.in-Ok-read_input.ensures.whole
+    (refused_so c.args.seed source e c.in-Err-compile.ensures.found c.in-Err-compile.ensures.only)) c.stop_of.ensures
+    c.deliver.ensures.answers c.new-in-Err-compile.ensures.outcome c.new-in-Err-compile.ensures.warnings

@@ -1,6 +1,0 @@
-use Rattle.std.proofs.Common.{rules, refl}
-use Rattle.tb_driver.proofs.made.deliver.Goals as goal
-
-pub returns-clause-answers : goal.returns-clause-answers
-returns-clause-answers g c =
-    (c.in-Ok.text.bytes.items, c.in-Ok.text.end, rw c.in-Ok.is refl, search rules)

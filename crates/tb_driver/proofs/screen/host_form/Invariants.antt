@@ -1,6 +1,0 @@
-use Rattle.std.proofs.Common.{◌≡◌, take}
-use Rattle.tb_driver.specs.HostForm.{host_form_of}
-use Rattle.tb_driver.proofs.screen.host_form.Given as goal
-
-abbrev pub invariant-loop-byte : goal.invariant-loop-byte
-invariant-loop-byte l = l.text.items ≡ host_form_of (take l.byte-index l.sent)

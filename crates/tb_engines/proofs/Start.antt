@@ -1,0 +1,67 @@
+-- The start machine, and a run from it.
+use Rattle.std.proofs.Common.{◌≡◌, ℕ, ◌+◌, ◌-◌, ◌<◌, ◌≤◌, List, [], ◌∷◌, ◌++◌, length, take, drop, get_or, None, Ok, refl, ap, subst, ◌∙◌, arith, length-append}
+use Rattle.std.proofs.lemmas.List.{length-replicate, length-take-le, get_or_append_left, get_or-append_right}
+use Rattle.std.specs.Prelude.{replicate}
+use Rattle.tb_memmap.specs.Bytes.{at, loaded, IsOpenRange}
+use Rattle.tb_memmap.proofs.View.{length-loaded}
+use Rattle.tb_cpu.specs.declared.registers.Regs.{Regs}
+use Rattle.tb_kernal.specs.declared.events.Event.{Event}
+use Rattle.tb_kernal.specs.declared.status.Status.{Status}
+use Rattle.tb_kernal.specs.Machine.{Content, home_of, entry_refusal, entered}
+use Rattle.tb_kernal.specs.Runs.{RanOver}
+use Rattle.tb_engines.specs.declared.outcome.End.{End}
+use Rattle.tb_streams.specs.HostForm.{host_form_of}
+use Rattle.tb_engines.specs.Programs.{start_regs, start_memory, start, end_of, RunsAt}
+
+-- what lies at the first two places of a load of two bytes
+loaded_two : (m : List ℕ) (a x y k : ℕ) → a + 2 ≤ length m → k < 2
+    → at (loaded m a (x ∷ y ∷ [])) (a + k) ≡ get_or (x ∷ y ∷ []) k 0
+unfolding at
+loaded_two m a x y k h below =
+    let within : a ≤ length m = omega arith in
+    let front : length (take a m) ≡ a = length-take-le a m within in
+    let all : length (take a m ++ x ∷ y ∷ []) ≡ a + 2 = length-append (take a m) (x ∷ y ∷ []) ∙ omega arith in
+    let behind : a + k - a ≡ k = omega arith in
+    get_or_append_left (take a m ++ x ∷ y ∷ []) (drop (a + 2) m) 0 (a + k) (omega arith)
+    ∙ get_or-append_right (take a m) (x ∷ y ∷ []) a (a + k) 0 front (omega arith)
+    ∙ rw behind refl
+
+-- the program returns to $A100
+pub home_of-start : (a : ℕ) (bytes : List ℕ) → a + length bytes ≤ 65536
+    → home_of (at (start_memory a bytes)) (start_regs a) ≡ 0xa100
+home_of-start a bytes h =
+    let empty : List ℕ = replicate 65536 0 in
+    let zeros : length empty ≡ 65536 = length-replicate {A = ℕ} 65536 0 in
+    let whole : length (loaded empty a bytes) ≡ 65536 = length-loaded empty a bytes (omega arith) ∙ zeros in
+    let low = loaded_two (loaded empty a bytes) 0x01f1 0xff 0xa0 0 (omega arith) (omega arith) in
+    let high = loaded_two (loaded empty a bytes) 0x01f1 0xff 0xa0 1 (omega arith) (omega arith) in
+    rw (low, high) refl
+
+-- the word above S, plus one, is $A100, also where memory and registers are known only to be the start's
+returns_home : (a : ℕ) (bytes m : List ℕ) (r : Regs) → a + length bytes ≤ 65536
+    → m ≡ start_memory a bytes → r ≡ start_regs a → home_of (at m) r ≡ 0xa100
+returns_home a bytes m r h same_memory same_regs = rw (same_memory, same_regs) (home_of-start a bytes h)
+
+-- the start machine is entered
+pub never_refused : (a : ℕ) (bytes m : List ℕ) (r : Regs) → a + length bytes ≤ 65536
+    → m ≡ start_memory a bytes → r ≡ start_regs a → entry_refusal (at m) r ≡ None
+never_refused a bytes m r h same_memory same_regs =
+    let home = returns_home a bytes m r h same_memory same_regs in
+    let low : r.s ≡ 0xf0 = ap (λ x. x.s) same_regs in
+    rw (home, low) refl
+
+-- what is entered with the start's memory and registers is the start machine
+pub entered_is_start : (a : ℕ) (bytes m : List ℕ) (r : Regs) (text answers : List ℕ)
+    → a + length bytes ≤ 65536 → m ≡ start_memory a bytes → r ≡ start_regs a
+    → entered m r text answers ≡ start a bytes text answers
+entered_is_start a bytes m r text answers h same_memory same_regs =
+    let home = home_of-start a bytes h in
+    rw (same_memory, same_regs, home) refl
+
+-- a run from the start machine
+pub runs_at : {O : Type 0} (gives : O → Content → Event → O → Type 0) (o p : O) (a : ℕ) (bytes text answers : List ℕ) (limit : ℕ)
+    (m n : Content) (t : Status) (shown : List ℕ) (end : End) → IsOpenRange a (length bytes) → m ≡ start a bytes text answers
+    → RanOver gives o m limit (Ok t) p n → shown ≡ host_form_of n.sent → end ≡ end_of t n.regs.pc
+    → RunsAt gives o a bytes text answers limit (Ok (shown, end))
+runs_at gives o p a bytes text answers limit m n t shown end in_ram same ran same_text same_end =
+    (in_ram, (t, p, n, subst (λ x. RanOver gives o x limit (Ok t) p n) same ran, λ i. (same_text i, same_end i)))

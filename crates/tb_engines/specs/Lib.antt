@@ -1,0 +1,4 @@
+pub mod Outcomes
+pub mod Made
+pub mod Programs
+pub mod Assembly

@@ -1,0 +1,48 @@
+-- The exit statuses, and what an engine writes and answers.
+use Rattle.std.specs.Prelude.{ℕ, ◌≡◌, ◌≢◌, ◌⊎◌, List, Option, Result, Ok, Err}
+use Rattle.std.specs.Io.KnownBytes.{Appends, Keeps}
+use Rattle.tb_streams.specs.Streams.{Reads, MayPassMost, AppendsPrefix}
+use Rattle.tb_engines.specs.declared.outcome.End.{End}
+use Rattle.tb_engines.specs.declared.outcome.End.TheVariants.{Done, StepLimit, WaitsForKey, WentWrong}
+use Rattle.tb_engines.specs.declared.outcome.Refusal.{Refusal}
+use Rattle.tb_engines.specs.declared.outcome.Outcome.{Outcome}
+use Rattle.tb_engines.specs.declared.outcome.Outcome.TheVariants.{Ended, Refused, ReadFault, WriteFault, NoMemory}
+
+abbrev pub status_of_end : End → ℕ
+status_of_end Done = 0
+status_of_end StepLimit = 5
+status_of_end WaitsForKey = 6
+status_of_end (WentWrong wrong pc) = 7
+
+abbrev pub status_of : Outcome → ℕ
+status_of (Ended end) = status_of_end end
+status_of (Refused e) = 1
+status_of ReadFault = 3
+status_of WriteFault = 3
+status_of NoMemory = 4
+
+-- what an engine makes of its input: a text to be written, with how the engine ends after it, or a refusal
+abbrev pub Product : Type 0
+Product = Result (List ℕ × End) Refusal
+
+-- what an engine wrote, by its outcome; `makes` says which products its input makes
+abbrev pub Answers : (Product → Type 0) → Outcome → Option (List ℕ) → Option (List ℕ) → Type 0
+Answers makes (Ended end) old new = (text : List ℕ) × makes (Ok (text, end)) × Appends old new text
+Answers makes (Refused e) old new = makes (Err e) × Keeps old new
+Answers makes ReadFault old new = Keeps old new
+Answers makes WriteFault old new =
+    (text : List ℕ) × (end : End) × makes (Ok (text, end)) × AppendsPrefix old new text
+Answers makes NoMemory old new = Keeps old new
+
+-- made from all that a reader had: from these bytes, where it tells them
+abbrev pub MadeFrom : Option (List ℕ) → (List ℕ → Product → Type 0) → Product → Type 0
+MadeFrom had makes product = (input : List ℕ) × Reads had input × makes input product
+
+-- a fault comes only where a stream failed in this call, by its count of failures, or the reader gave
+-- too many bytes; at every other outcome no stream failed
+abbrev pub Faults : Outcome → Option (List ℕ) → ℕ → ℕ → ℕ → ℕ → Type 0
+Faults ReadFault had read read' wrote wrote' = ((read' ≢ read) ⊎ MayPassMost had) × (wrote' ≡ wrote)
+Faults WriteFault had read read' wrote wrote' = (read' ≡ read) × (wrote' ≢ wrote)
+Faults (Ended end) had read read' wrote wrote' = (read' ≡ read) × (wrote' ≡ wrote)
+Faults (Refused e) had read read' wrote wrote' = (read' ≡ read) × (wrote' ≡ wrote)
+Faults NoMemory had read read' wrote wrote' = (read' ≡ read) × (wrote' ≡ wrote)

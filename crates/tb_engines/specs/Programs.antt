@@ -1,0 +1,92 @@
+-- The run of a PRG file.
+use Rattle.std.specs.Prelude.{ℕ, ◌≡◌, false, List, [], ◌∷◌, length, replicate, nat_eq, None, Result, Ok, Err, if◌then◌else◌}
+use Rattle.tb_cpu.specs.declared.registers.Regs.{Regs}
+use Rattle.tb_memmap.specs.Bytes.{loaded, IsOpenRange}
+use Rattle.tb_kernal.specs.declared.events.Event.{Event}
+use Rattle.tb_kernal.specs.declared.status.Status.{Status}
+use Rattle.tb_kernal.specs.declared.status.Status.TheVariants.{Running, Waits, Returned, Wrong}
+use Rattle.tb_kernal.specs.Machine.{Content}
+use Rattle.tb_kernal.specs.Runs.{RanOver}
+use Rattle.tb_prg.specs.declared.PrgError.{PrgError}
+use Rattle.tb_prg.specs.Prg.{content_of}
+use Rattle.tb_streams.specs.HostForm.{host_form_of}
+use Rattle.tb_engines.specs.Outcomes.{Product}
+use Rattle.tb_engines.specs.declared.outcome.End.{End}
+use Rattle.tb_engines.specs.declared.outcome.End.TheVariants.{Done, StepLimit, WaitsForKey, WentWrong}
+use Rattle.tb_engines.specs.declared.made.Stop.{Stop}
+use Rattle.tb_engines.specs.declared.made.Stop.TheVariants.{Refused, NoMemory}
+use Rattle.tb_engines.specs.declared.outcome.Refusal.TheVariants.{Prg, NotRam}
+
+-- a program at $0801 begins behind its BASIC line, any other at its first byte
+abbrev pub first_pc : ℕ → ℕ
+first_pc at = if nat_eq at 0x0801 then 0x080d else at
+
+abbrev pub start_regs : ℕ → Regs
+start_regs at =
+    record {
+      a = 0;
+      x = 0;
+      y = 0;
+      s = 0xf0;
+      pc = first_pc at;
+      flags = record { n = false; v = false; d = false; i = false; z = false; c = false };
+    }
+
+-- zero bytes, the program, and above S the return address, so that the program returns to $A100
+abbrev pub start_memory : ℕ → List ℕ → List ℕ
+start_memory at bytes = loaded (loaded (replicate 65536 0) at bytes) 0x01f1 (0xff ∷ 0xa0 ∷ [])
+
+abbrev pub start : ℕ → List ℕ → List ℕ → List ℕ → Content
+start at bytes text answers =
+    record {
+      regs = start_regs at;
+      memory = start_memory at bytes;
+      all_text = text;
+      text_taken = 0;
+      all_answers = answers;
+      answers_taken = 0;
+      sent = [];
+      room = 0;
+      wrong = None;
+      home = 0xa100;
+      home_s = 0xf2;
+    }
+
+-- how a run ends, by the machine's status and its program counter
+abbrev pub end_of : Status → ℕ → End
+end_of Returned pc = Done
+end_of Waits pc = WaitsForKey
+end_of Running pc = StepLimit
+end_of (Wrong w) pc = WentWrong w pc
+
+-- the host form of what the machine sent on a run of at most `limit` events that an outside gave it
+abbrev pub Runs : {O : Type 0} → (O → Content → Event → O → Type 0) → O → Content → ℕ
+    → List ℕ × End → Type 0
+Runs gives o m limit shown =
+    (t : Status) × (p : _) × (n : Content)
+    × RanOver gives o m limit (Ok t) p n
+    × (shown ≡ (host_form_of n.sent, end_of t n.regs.pc))
+
+-- what comes of a program at an address: a run, where all of it lies in RAM
+abbrev pub RunsAt : {O : Type 0} → (O → Content → Event → O → Type 0) → O → ℕ → List ℕ
+    → List ℕ → List ℕ → ℕ → Product → Type 0
+RunsAt gives o at bytes text answers limit (Ok shown) =
+    IsOpenRange at (length bytes) × Runs gives o (start at bytes text answers) limit shown
+RunsAt gives o at bytes text answers limit (Err e) = (e ≡ NotRam) × ¬ (IsOpenRange at (length bytes))
+
+abbrev pub RunsContent : {O : Type 0} → (O → Content → Event → O → Type 0) → O
+    → Result (ℕ × List ℕ) PrgError → List ℕ → List ℕ → ℕ → Product → Type 0
+RunsContent gives o (Ok p) text answers limit product =
+    RunsAt gives o p.0 p.1 text answers limit product
+RunsContent gives o (Err e) text answers limit product = product ≡ Err (Prg e)
+
+-- what comes of a PRG file: its run from the start machine, or why there is none
+abbrev pub RunsPrg : {O : Type 0} → (O → Content → Event → O → Type 0) → O → List ℕ → List ℕ
+    → ℕ → List ℕ → Product → Type 0
+RunsPrg gives o text answers limit file product =
+    RunsContent gives o (content_of file) text answers limit product
+
+-- why a program is not loaded: it does not lie in RAM, or memory is wanting
+abbrev pub IsUnloadable : ℕ → List ℕ → Stop → Type 0
+IsUnloadable at bytes (Refused e) = (e ≡ NotRam) × ¬ (IsOpenRange at (length bytes))
+IsUnloadable at bytes NoMemory = Unit {0}

@@ -1,0 +1,103 @@
+//! Assembling a text, and listing a PRG file.
+ghost use Rattle.std.specs.Prelude.{◌≡◌, ◌+◌, ◌≤◌, length};
+ghost use Rattle.tb_streams.specs.Streams.{most_input, ConsumesAtMost};
+ghost use Rattle.tb_engines.specs.Outcomes.{Answers, Faults, MadeFrom};
+ghost use Rattle.tb_engines.specs.Made.{Makes};
+ghost use Rattle.tb_engines.specs.Assembly.{Assembles, ListsPrg};
+
+use crate::made::{Stop, Text, deliver, without_input};
+use crate::outcome::{End, Outcome, Refusal};
+use std::alloc::Global;
+use std::io::{Read, Write};
+use tb_asm::{AsmErrorKind, TextError, assemble, read_text};
+use tb_disasm::{ListError, disassemble};
+use tb_prg::PrgError;
+use tb_streams::{Tracked, read_input};
+
+// The load address and the image of an assembler text.
+fn assemble_prg(alloc: Global, at: u16, text: &[u8]) -> Result<Text, Stop>
+    ensures { Makes (Assembles at text.now) result }
+{
+    let items = match read_text(alloc, text) {
+        Ok(items) => items,
+        Err(TextError::Line(line)) => return Err(Stop::Refused(Refusal::TextLine(line))),
+        Err(TextError::NoMemory) => return Err(Stop::NoMemory),
+    };
+    let image = match assemble(alloc, at, items.as_slice()) {
+        Ok(image) => image,
+        Err(error) if error.kind == AsmErrorKind::NoMemory => return Err(Stop::NoMemory),
+        Err(error) => return Err(Stop::Refused(Refusal::Item(error))),
+    };
+    let mut bytes = Vec::new(alloc);
+    if bytes.extend_from_slice(&at.to_le_bytes()).is_err() {
+        return Err(Stop::NoMemory);
+    }
+    if bytes.extend_from_slice(image.bytes.as_slice()).is_err() {
+        return Err(Stop::NoMemory);
+    }
+    Ok(Text {
+        bytes,
+        end: End::Done,
+    })
+}
+
+// The listing of a PRG file.
+fn list_prg(alloc: Global, file: &[u8]) -> Result<Text, Stop>
+    ensures { Makes (ListsPrg file.now) result }
+{
+    let program = match tb_prg::read(file) {
+        Ok(program) => program,
+        Err(error) => return Err(Stop::Refused(Refusal::Prg(error))),
+    };
+    let listing = match disassemble(alloc, program.at, program.bytes) {
+        Ok(listing) => listing,
+        Err(ListError::RunsPast) => unreachable!(),
+        Err(ListError::NoMemory) => return Err(Stop::NoMemory),
+    };
+    match listing.text(alloc) {
+        Ok(bytes) => Ok(Text {
+            bytes,
+            end: End::Done,
+        }),
+        Err(_) => Err(Stop::NoMemory),
+    }
+}
+
+/// Assembles a text at an address, and writes the load address, low byte first, and the image.
+pub fn asm_text<R: Read, W: Write>(
+    alloc: Global,
+    reader: &mut Tracked<R>,
+    writer: &mut Tracked<W>,
+    at: u16,
+) -> Outcome
+    ensures answers { Answers (MadeFrom (R.remaining reader.old.stream) (Assembles at)) result
+        (W.contents writer.old.stream) (W.contents writer.new.stream) }
+    ensures faults { Faults result (R.remaining reader.old.stream)
+        reader.old.failures reader.new.failures writer.old.failures writer.new.failures }
+    ensures taken { ConsumesAtMost (R.remaining reader.old.stream) (R.remaining reader.new.stream)
+        (most_input + 1) }
+{
+    match read_input(alloc, reader) {
+        Ok(text) => deliver(writer, assemble_prg(alloc, at, text.as_slice())),
+        Err(error) => without_input(error),
+    }
+}
+
+/// Lists a PRG file, and writes the listing.
+pub fn dis_text<R: Read, W: Write>(
+    alloc: Global,
+    reader: &mut Tracked<R>,
+    writer: &mut Tracked<W>,
+) -> Outcome
+    ensures answers { Answers (MadeFrom (R.remaining reader.old.stream) ListsPrg) result
+        (W.contents writer.old.stream) (W.contents writer.new.stream) }
+    ensures faults { Faults result (R.remaining reader.old.stream)
+        reader.old.failures reader.new.failures writer.old.failures writer.new.failures }
+    ensures taken { ConsumesAtMost (R.remaining reader.old.stream) (R.remaining reader.new.stream)
+        (most_input + 1) }
+{
+    match read_input(alloc, reader) {
+        Ok(file) => deliver(writer, list_prg(alloc, file.as_slice())),
+        Err(error) => without_input(error),
+    }
+}

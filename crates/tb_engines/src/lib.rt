@@ -1,0 +1,18 @@
+//! The engines that compile nothing: assembling a text, listing a PRG file and running one, over any reader and writer;
+//! and how a call of an engine ends.
+#![tactic(auto)]
+
+mod assembly;
+mod loading;
+mod made;
+mod outcome;
+mod programs;
+mod report;
+mod texts;
+
+pub use assembly::{asm_text, dis_text};
+pub use loading::start_machine;
+pub use made::{Stop, Text, deliver, without_input};
+pub use outcome::{End, Outcome, Refusal};
+pub use programs::{run_file, run_prg};
+pub use report::Report;

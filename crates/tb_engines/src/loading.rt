@@ -1,0 +1,89 @@
+//! The machine with a program loaded, before its first event.
+ghost use Rattle.std.specs.Prelude.{◌≡◌, ◌+◌, ◌≤◌, length, MatchResult};
+ghost use Rattle.tb_memmap.specs.Bytes.{IsOpenRange};
+ghost use Rattle.tb_engines.specs.Programs.{start_regs, start_memory, start, IsUnloadable};
+
+use crate::made::Stop;
+use crate::outcome::Refusal;
+use std::alloc::Global;
+use tb_cpu::{Flags, Regs};
+use tb_kernal::{Keyboard, Machine};
+use tb_memmap::{LoadError, Memory};
+use tb_prg::Loaded;
+
+/// The load address of a program that begins with a BASIC line.
+const BASIC_START: u16 = 0x0801;
+
+/// Where the machine code behind that line begins.
+const CODE_START: u16 = 0x080d;
+
+/// The stack pointer at the start.
+const START_S: u8 = 0xf0;
+
+/// Where the return address lies.
+const RETURN_AT: u16 = 0x01f1;
+
+/// The return address, low byte first, so that the program returns to `$A100`.
+const RETURN: [u8; 2] = [0xff, 0xa0];
+
+fn start_regs(at: u16) -> Regs
+    ensures { result ≡ start_regs at }
+{
+    Regs {
+        a: 0,
+        x: 0,
+        y: 0,
+        s: START_S,
+        pc: if at == BASIC_START { CODE_START } else { at },
+        flags: Flags {
+            n: false,
+            v: false,
+            d: false,
+            i: false,
+            z: false,
+            c: false,
+        },
+    }
+}
+
+// The memory at the start.
+fn start_memory(alloc: Global, program: Loaded<'_>) -> Result<Memory, Stop>
+    requires { program.at + length program.bytes.now ≤ 65536 }
+    ensures { MatchResult result
+        (λ m. IsOpenRange program.entry.at (length program.entry.bytes.now)
+        × (m ≡ start_memory program.entry.at program.entry.bytes.now))
+        (IsUnloadable program.entry.at program.entry.bytes.now) }
+{
+    let Ok(mut memory) = Memory::new(alloc) else {
+        return Err(Stop::NoMemory);
+    };
+    match memory.load(program.at, program.bytes) {
+        Ok(()) => {}
+        Err(LoadError::RunsPast) => unreachable!(),
+        Err(LoadError::NotRam) => return Err(Stop::Refused(Refusal::NotRam)),
+    }
+    match memory.load(RETURN_AT, &RETURN) {
+        Ok(()) => Ok(memory),
+        Err(_) => unreachable!(),
+    }
+}
+
+/// The machine at the start of a program, with the keyboard that it is given.
+pub fn start_machine(
+    alloc: Global,
+    program: Loaded<'_>,
+    keyboard: Keyboard,
+) -> Result<Machine, Stop>
+    requires { program.at + length program.bytes.now ≤ 65536 }
+    ensures { MatchResult result
+        (λ m. IsOpenRange program.entry.at (length program.entry.bytes.now)
+        × (m ≡ start program.entry.at program.entry.bytes.now
+        keyboard.text.items keyboard.answers.items))
+        (IsUnloadable program.entry.at program.entry.bytes.now) }
+{
+    let memory = start_memory(alloc, program)?;
+    match Machine::enter(alloc, memory, start_regs(program.at), keyboard) {
+        Ok(machine) => Ok(machine),
+        Err(_) => unreachable!(),
+    }
+}

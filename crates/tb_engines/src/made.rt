@@ -1,0 +1,51 @@
+//! What an engine made, and how it is written.
+ghost use Rattle.std.specs.Prelude.{◌≡◌};
+ghost use Rattle.tb_streams.specs.Streams.{Reads};
+ghost use Rattle.tb_engines.specs.Outcomes.{Answers, Faults};
+ghost use Rattle.tb_engines.specs.Made.{Shows, DeliveryFaults, outcome_of};
+
+use crate::outcome::{End, Outcome, Refusal};
+use std::alloc::AllocError;
+use std::io::Write;
+use tb_streams::{InputError, Tracked, write_output};
+
+/// A text that is to be written, and how the engine ends after it.
+#[derive(Drop)]
+pub struct Text {
+    pub bytes: Vec<u8>,
+    pub end: End,
+}
+
+/// Why there is no text.
+#[derive(Clone, Copy, PartialEq, Eq, Debug, Drop)]
+pub enum Stop {
+    Refused(Refusal),
+    NoMemory,
+}
+
+/// The outcome where an input could not be had.
+pub fn without_input(error: InputError) -> Outcome
+    ensures { result ≡ outcome_of error }
+{
+    match error {
+        InputError::Fault => Outcome::ReadFault,
+        InputError::NoMemory => Outcome::NoMemory,
+    }
+}
+
+/// Writes a text that was made.
+pub fn deliver<W: Write>(writer: &mut Tracked<W>, made: Result<Text, Stop>) -> Outcome
+    ensures answers { Answers (Shows made) result
+        (W.contents writer.old.stream) (W.contents writer.new.stream) }
+    ensures faults { DeliveryFaults result writer.old.failures writer.new.failures }
+{
+    let text = match made {
+        Ok(text) => text,
+        Err(Stop::Refused(refusal)) => return Outcome::Refused(refusal),
+        Err(Stop::NoMemory) => return Outcome::NoMemory,
+    };
+    match write_output(writer, text.bytes.as_slice()) {
+        Ok(()) => Outcome::Ended(text.end),
+        Err(_) => Outcome::WriteFault,
+    }
+}

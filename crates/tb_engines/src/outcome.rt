@@ -1,0 +1,78 @@
+//! How a call of an engine ended.
+ghost use Rattle.std.specs.Prelude.{◌≡◌};
+ghost use Rattle.tb_engines.specs.Outcomes.{status_of, status_of_end};
+
+use tb_asm::AsmError;
+use tb_codegen::CompileError;
+use tb_cpu::Wrong;
+use tb_prg::PrgError;
+
+/// How an engine ended whose whole text was written.
+#[derive(Clone, Copy, PartialEq, Eq, Debug, Drop)]
+pub enum End {
+    /// All is done; a program that ran has returned.
+    Done,
+    /// The program was still running after the last event that it might take.
+    StepLimit,
+    /// The program waits for a key, and the keyboard text is used up.
+    WaitsForKey,
+    /// An instruction of the program was refused, at this address.
+    WentWrong { wrong: Wrong, pc: u16 },
+}
+
+/// Why an input was refused.
+#[derive(Clone, Copy, PartialEq, Eq, Debug, Drop)]
+pub enum Refusal {
+    /// The first line, counted from 1, that is no line of assembler text.
+    TextLine(usize),
+    /// What the assembler refuses of an item, counted from 0. The kind is never want of memory.
+    Item(AsmError),
+    /// Bytes that are no PRG file.
+    Prg(PrgError),
+    /// A byte of the program would lie outside of RAM.
+    NotRam,
+    /// Why a source is not compiled. It is never want of memory.
+    Source(CompileError),
+}
+
+/// How a call of an engine ended. At `Ended` its whole text was written, at `WriteFault` a prefix of it, and else
+/// nothing.
+#[derive(Clone, Copy, PartialEq, Eq, Debug, Drop)]
+pub enum Outcome {
+    /// The whole text was written.
+    Ended(End),
+    Refused(Refusal),
+    /// The reader failed, or gave too many bytes.
+    ReadFault,
+    /// The writer failed.
+    WriteFault,
+    /// A growth was refused.
+    NoMemory,
+}
+
+impl End {
+    fn status(&self) -> u8
+        ensures { result ≡ status_of_end self.now }
+    {
+        match self {
+            End::Done => 0,
+            End::StepLimit => 5,
+            End::WaitsForKey => 6,
+            End::WentWrong { .. } => 7,
+        }
+    }
+}
+
+impl Outcome {
+    /// The exit status of the program.
+    pub fn status(&self) -> u8
+        ensures { result ≡ status_of self.now }
+    {
+        match self {
+            Outcome::Ended(end) => end.status(),
+            Outcome::Refused(_) => 1,
+            Outcome::ReadFault | Outcome::WriteFault => 3,
+            Outcome::NoMemory => 4,
+        }
+    }
+}

@@ -1,0 +1,94 @@
+//! Running a PRG file.
+ghost use Rattle.std.specs.Prelude.{◌≡◌, ◌+◌, ◌≤◌, length};
+ghost use Rattle.tb_streams.specs.Streams.{most_input, ConsumesAtMost};
+ghost use Rattle.tb_engines.specs.Outcomes.{Answers, Faults, MadeFrom};
+ghost use Rattle.tb_engines.specs.Made.{Makes};
+ghost use Rattle.tb_engines.specs.Programs.{end_of, RunsAt, RunsPrg};
+
+use crate::loading::start_machine;
+use crate::made::{Stop, Text, deliver, without_input};
+use crate::outcome::{End, Outcome, Refusal};
+use std::alloc::Global;
+use std::io::{Read, Write};
+use tb_kernal::{Keyboard, Outside, Status, run};
+use tb_prg::Loaded;
+use tb_streams::{Tracked, host_form, read_input};
+
+fn end_of(status: Status, pc: u16) -> End
+    ensures { result ≡ end_of status pc }
+{
+    match status {
+        Status::Returned => End::Done,
+        Status::Waits => End::WaitsForKey,
+        Status::Running => End::StepLimit,
+        Status::Wrong(wrong) => End::WentWrong { wrong, pc },
+    }
+}
+
+// Runs a program, and shows what it sent.
+fn run_program<O: Outside>(
+    alloc: Global,
+    program: Loaded<'_>,
+    keyboard: Keyboard,
+    limit: u64,
+    outside: &mut O,
+) -> Result<Text, Stop>
+    requires { program.at + length program.bytes.now ≤ 65536 }
+    ensures { Makes (RunsAt O.gives outside.old program.entry.at program.entry.bytes.now
+        keyboard.text.items keyboard.answers.items limit) result }
+{
+    let mut machine = start_machine(alloc, program, keyboard)?;
+    let Ok(status) = run(&mut machine, outside, limit) else {
+        return Err(Stop::NoMemory);
+    };
+    let end = end_of(status, machine.regs().pc);
+    match host_form(alloc, machine.sent()) {
+        Ok(bytes) => Ok(Text { bytes, end }),
+        Err(_) => Err(Stop::NoMemory),
+    }
+}
+
+/// Runs a PRG file.
+pub fn run_file<O: Outside>(
+    alloc: Global,
+    file: &[u8],
+    keyboard: Keyboard,
+    limit: u64,
+    outside: &mut O,
+) -> Result<Text, Stop>
+    ensures { Makes (RunsPrg O.gives outside.old keyboard.text.items keyboard.answers.items limit
+        file.now) result }
+{
+    match tb_prg::read(file) {
+        Ok(program) => run_program(alloc, program, keyboard, limit, outside),
+        Err(error) => Err(Stop::Refused(Refusal::Prg(error))),
+    }
+}
+
+/// Runs a PRG file for at most `limit` events of an outside, and writes the host form of what it sent. The
+/// machine starts with all bytes 0 but the program's and its return address, registers and flags 0, S `$F0`, and
+/// PC at the load address, or at `$080D` where that is `$0801`.
+pub fn run_prg<R: Read, W: Write, O: Outside>(
+    alloc: Global,
+    reader: &mut Tracked<R>,
+    writer: &mut Tracked<W>,
+    keyboard: Keyboard,
+    limit: u64,
+    outside: &mut O,
+) -> Outcome
+    ensures answers { Answers (MadeFrom (R.remaining reader.old.stream)
+        (RunsPrg O.gives outside.old keyboard.text.items keyboard.answers.items limit)) result
+        (W.contents writer.old.stream) (W.contents writer.new.stream) }
+    ensures faults { Faults result (R.remaining reader.old.stream)
+        reader.old.failures reader.new.failures writer.old.failures writer.new.failures }
+    ensures taken { ConsumesAtMost (R.remaining reader.old.stream) (R.remaining reader.new.stream)
+        (most_input + 1) }
+{
+    match read_input(alloc, reader) {
+        Ok(file) => deliver(
+            writer,
+            run_file(alloc, file.as_slice(), keyboard, limit, outside),
+        ),
+        Err(error) => without_input(error),
+    }
+}

@@ -1,0 +1,6 @@
+-- A count of failures changes at a failure.
+use Rattle.std.proofs.Common.{◌≡◌, ◌≢◌, ℕ, true, arith}
+use Rattle.tb_streams.specs.Streams.{counted}
+
+pub counted_differs : (n m : ℕ) → m ≡ counted n true → m ≢ n
+counted_differs n m e same = omega arith

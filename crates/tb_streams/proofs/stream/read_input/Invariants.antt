@@ -1,0 +1,14 @@
+use Rattle.std.proofs.Common.{◌≡◌, ◌≤◌, ◌+◌, ◌-◌, vec_len}
+use Rattle.std.specs.Io.KnownBytes.{Consumes}
+use Rattle.tb_streams.specs.Streams.{most_input}
+use Rattle.tb_streams.proofs.stream.read_input.Given as goal
+
+abbrev pub invariant-reading : goal.invariant-reading
+invariant-reading g l = record {
+  taken : Consumes (g.R.Read.remaining l.initial.reader.stream) (g.R.Read.remaining l.reader.stream) l.input.items;
+  within : vec_len l.input ≤ most_input + 1;
+  sound : l.reader.failures ≡ l.initial.reader.failures;
+}
+
+abbrev pub decreases-reading : goal.decreases-reading
+decreases-reading g l = most_input + 1 - vec_len l.input

@@ -1,0 +1,3 @@
+pub mod HostForm
+pub mod Streams
+pub mod Inputs

@@ -1,0 +1,13 @@
+//! What meets the host: readers and writers whose failures are counted, whole inputs and outputs, key lists, and the
+//! text in which sent bytes are shown.
+#![tactic(auto)]
+
+mod keys;
+mod screen;
+mod stream;
+mod tracked;
+
+pub use keys::{KeyError, address, key_list};
+pub use screen::host_form;
+pub use stream::{InputError, MOST_INPUT, read_input, write_output};
+pub use tracked::{Fault, Tracked};

@@ -1,0 +1,67 @@
+//! A whole input, and a whole output.
+ghost use Rattle.std.specs.Prelude.{◌≡◌, ◌≤◌, ◌+◌, IfOk, OnOk, OnErr, is_err, vec_len};
+ghost use Rattle.std.specs.Io.KnownBytes.{Appends};
+ghost use Rattle.tb_streams.specs.Streams.{most_input, counted, Reads, ConsumesAtMost, AppendsPrefix};
+ghost use Rattle.tb_streams.specs.Inputs.{InputFaults};
+
+use crate::tracked::{Fault, Tracked};
+use std::alloc::Global;
+use std::io::{Read, Write};
+
+/// The most bytes that an engine takes from a reader.
+pub const MOST_INPUT: usize = 1_048_576;
+
+const CHUNK: usize = 4096;
+
+/// Why an input could not be had.
+#[derive(Clone, Copy, PartialEq, Eq, Debug, Drop)]
+pub enum InputError {
+    /// The reader failed, or gave more than `MOST_INPUT` bytes.
+    Fault,
+    /// A growth was refused.
+    NoMemory,
+}
+
+/// Reads all that a reader gives.
+#[tactic(auto, using(crate::proofs::Counting::counted_differs))]
+pub fn read_input<R: Read>(alloc: Global, reader: &mut Tracked<R>) -> Result<Vec<u8>, InputError>
+    ensures whole { IfOk result (λ input. Reads (R.remaining reader.old.stream) input.items) }
+    ensures within { IfOk result (λ input. vec_len input ≤ most_input) }
+    ensures fault { InputFaults result (R.remaining reader.old.stream)
+        reader.old.failures reader.new.failures }
+    ensures taken { ConsumesAtMost (R.remaining reader.old.stream) (R.remaining reader.new.stream)
+        (most_input + 1) }
+{
+    let mut input = Vec::new(alloc);
+    let mut chunk = [0u8; CHUNK];
+    'reading: while input.len() <= MOST_INPUT {
+        let room = CHUNK.min(MOST_INPUT + 1 - input.len());
+        let count = match reader.pull(&mut chunk[..room]) {
+            Ok(count) => count,
+            Err(_) => return Err(InputError::Fault),
+        };
+        if count == 0 {
+            return Ok(input);
+        }
+        if input.extend_from_slice(&chunk[..count]).is_err() {
+            return Err(InputError::NoMemory);
+        }
+    }
+    Err(InputError::Fault)
+}
+
+/// Writes a text, all of it or up to where the writer failed.
+pub fn write_output<W: Write>(writer: &mut Tracked<W>, text: &[u8]) -> Result<(), Fault>
+    ensures whole { OnOk result (Appends (W.contents writer.old.stream) (W.contents writer.new.stream)
+        text.now) }
+    ensures prefix { OnErr result (AppendsPrefix (W.contents writer.old.stream)
+        (W.contents writer.new.stream) text.now) }
+    ensures noted { writer.new.failures ≡ counted writer.old.failures (is_err result) }
+{
+    let mut rest = text;
+    'writing: while !rest.is_empty() {
+        let count = writer.push(rest)?;
+        rest = &rest[count..];
+    }
+    writer.flush()
+}
