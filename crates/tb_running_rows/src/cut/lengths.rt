@@ -1,5 +1,5 @@
 //! Sources that are cut off behind each byte, and the longest source.
-use crate::engines::{Engine, answer_of};
+use crate::cut::engines::{Engine, answer_of};
 use std::alloc::{AllocError, Global};
 use std::test::Fail;
 

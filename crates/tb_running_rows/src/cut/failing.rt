@@ -1,5 +1,5 @@
 //! Streams that fail after each number of bytes.
-use crate::engines::{Engine, answer_of, call};
+use crate::cut::engines::{Engine, answer_of, call};
 use std::test::Fail;
 use tb_driver::{End, Outcome, Tracked};
 use tb_failing_streams::{FailingReader, FailingWriter};

@@ -1,5 +1,5 @@
 //! What a compiled program sends is what its source's run sends, and it ends as that does.
-use crate::programs::{Case, Choices};
+use crate::generated::programs::{Case, Choices};
 use std::alloc::{AllocError, Global};
 use std::test::Fail;
 use tb_driver::{End, Outcome, Tracked, build, host_form, run_prg};

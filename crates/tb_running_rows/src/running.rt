@@ -1,7 +1,7 @@
 //! Programs beside quiet and hostile ROMs: the same bytes and the same end.
 use crate::machines::{CLEAN, LIMIT, Start};
 use crate::outsides::{Contrary, Sweeping};
-use crate::rows::{LongSources, ROWS, Row};
+use crate::rows::{LongSources, Row, rows};
 use std::alloc::Global;
 use std::test::Fail;
 use tb_codegen::Compiled;
@@ -96,40 +96,27 @@ fn wild_start(byte: u8, s: u8, flag: bool) -> Start {
 
 #[test]
 fn programs_end(rt: HostRuntime) -> Result<(), Fail> {
-    for row in &ROWS {
+    let long = LongSources::new(rt.alloc())?;
+    for row in &rows(rt.alloc(), &long)? {
         assert!(rt; row.is_shown(rt.alloc())?, "{:?}", row.source);
-    }
-    let sources = LongSources::new(rt.alloc())?;
-    for row in &sources.rows() {
-        assert!(rt; row.is_shown(rt.alloc())?, "keys {:?}", row.keys);
     }
     Ok(())
 }
 
 #[test]
 fn a_hostile_rom_changes_nothing(rt: HostRuntime) -> Result<(), Fail> {
-    for row in &ROWS {
+    let long = LongSources::new(rt.alloc())?;
+    for row in &rows(rt.alloc(), &long)? {
         assert!(rt; row.is_done_beside_hostile(rt.alloc())?, "{:?}", row.source);
-    }
-    let sources = LongSources::new(rt.alloc())?;
-    for row in &sources.rows() {
-        assert!(rt;
-            row.is_done_beside_hostile(rt.alloc())?,
-            "keys {:?}",
-            row.keys
-        );
     }
     Ok(())
 }
 
 #[test]
 fn a_wild_start_changes_nothing(rt: HostRuntime) -> Result<(), Fail> {
-    for row in &ROWS {
+    let long = LongSources::new(rt.alloc())?;
+    for row in &rows(rt.alloc(), &long)? {
         assert!(rt; row.is_done_from_wild(rt.alloc())?, "{:?}", row.source);
-    }
-    let sources = LongSources::new(rt.alloc())?;
-    for row in &sources.rows() {
-        assert!(rt; row.is_done_from_wild(rt.alloc())?, "keys {:?}", row.keys);
     }
     Ok(())
 }

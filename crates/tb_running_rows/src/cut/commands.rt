@@ -1,5 +1,5 @@
 //! Commands of the stepper from readers that fail, commands that are cut off behind each byte, and the longest ones.
-use crate::engines::step;
+use crate::cut::engines::step;
 use std::alloc::{AllocError, Global};
 use std::test::Fail;
 use tb_driver::{Outcome, Tracked};

@@ -1,5 +1,5 @@
 //! Texts of the grammar, by choices that a seed determines.
-use crate::grammar::rule;
+use crate::generated::grammar::rule;
 use std::alloc::{AllocError, Global};
 use tb_words::next_seed;
 

@@ -41,8 +41,7 @@ const HELLO: Row<'static> = Row {
     ..PLAIN
 };
 
-/// Programs that come to an end or wait.
-pub static ROWS: [Row<'static>; 45] = [
+static ROWS: [Row<'static>; 45] = [
     Row {
         shown: b"HELLO\n",
         ..HELLO
@@ -277,6 +276,19 @@ pub static ROWS: [Row<'static>; 45] = [
     },
 ];
 
+/// Short programs that come to an end or wait. The table is named here alone: each function that names it is dear
+/// to prove.
+pub fn short_rows() -> &'static [Row<'static>] {
+    &ROWS
+}
+
+/// All programs that come to an end or wait.
+pub fn rows(alloc: Global, long: &LongSources) -> Result<Vec<Row<'_>>, Fail> {
+    let mut rows = Vec::from_slice(alloc, short_rows())?;
+    rows.extend_from_slice(&long.rows())?;
+    Ok(rows)
+}
+
 /// Sources that are too long to be written out.
 #[derive(Drop)]
 pub struct LongSources {
@@ -301,7 +313,7 @@ impl LongSources {
     }
 
     /// Their rows.
-    pub fn rows(&self) -> [Row<'_>; 8] {
+    fn rows(&self) -> [Row<'_>; 8] {
         let jump = Row {
             source: self.search.as_slice(),
             ..PLAIN

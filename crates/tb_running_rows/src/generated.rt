@@ -1,0 +1,4 @@
+//! Generated programs: each sends what its source sends.
+mod grammar;
+mod programs;
+mod trials;
