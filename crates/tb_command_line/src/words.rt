@@ -1,11 +1,11 @@
 //! The words of the command line, read with `clap`.
 ghost use Rattle.std.specs.Prelude.{IfOk};
-ghost use Rattle.tb_command_line.specs.Limits.{IsWithinLimit};
+ghost use Rattle.tb_jobs.specs.Limits.{IsWithinLimit};
 
-use crate::jobs::{Job, JobError, Limit, Runnable};
 use clap::error::ErrorKind;
 use clap::{Arg, ArgMatches, Command, value_parser};
 use std::alloc::{AllocError, Global};
+use tb_jobs::{Job, JobError, Limit, Runnable};
 
 /// Reads the words after the program's own name.
 pub fn job(alloc: Global, words: &[&str]) -> Result<Job, JobError>

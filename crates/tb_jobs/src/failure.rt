@@ -1,6 +1,6 @@
 //! Why the words of the command line lead to no call of an engine.
 ghost use Rattle.std.specs.Prelude.{◌≡◌};
-ghost use Rattle.tb_command_line.specs.Statuses.{status_of};
+ghost use Rattle.tb_jobs.specs.Statuses.{status_of};
 
 use crate::jobs::JobError;
 use std::alloc::AllocError;
@@ -47,7 +47,7 @@ impl fmt::Display for Failure {
 }
 
 impl From<AllocError> for Failure {
-    ghost use Rattle.tb_command_line.specs.declared.failure.Failure.TheVariants.{NoMemory};
+    ghost use Rattle.tb_jobs.specs.declared.failure.Failure.TheVariants.{NoMemory};
 
     ghost from_gives = { λ _ failure. failure ≡ NoMemory };
 
@@ -57,7 +57,7 @@ impl From<AllocError> for Failure {
 }
 
 impl From<JobError> for Failure {
-    ghost use Rattle.tb_command_line.specs.Statuses.{failure_of};
+    ghost use Rattle.tb_jobs.specs.Statuses.{failure_of};
 
     ghost from_gives = { λ error failure. failure ≡ failure_of error };
 

@@ -1,8 +1,8 @@
 -- What every job that the command line gives keeps.
 use Rattle.std.specs.Prelude.{◌≤◌, ⊤}
-use Rattle.tb_command_line.specs.declared.jobs.Limit.{Limit}
-use Rattle.tb_command_line.specs.declared.jobs.Job.{Job}
-use Rattle.tb_command_line.specs.declared.jobs.Job.TheVariants.{Build, Run, Asm, Dis, Step, Show}
+use Rattle.tb_jobs.specs.declared.jobs.Limit.{Limit}
+use Rattle.tb_jobs.specs.declared.jobs.Job.{Job}
+use Rattle.tb_jobs.specs.declared.jobs.Job.TheVariants.{Build, Run, Asm, Dis, Step, Show}
 
 abbrev pub IsWithin : Limit → Type 0
 IsWithin limit = (1 ≤ limit.events) × (limit.events ≤ 1000000000)

@@ -101,7 +101,7 @@ pub enum JobError {
 }
 
 impl From<AllocError> for JobError {
-    ghost use Rattle.tb_command_line.specs.declared.jobs.JobError.TheVariants.{NoMemory};
+    ghost use Rattle.tb_jobs.specs.declared.jobs.JobError.TheVariants.{NoMemory};
 
     ghost from_gives = { λ _ error. error ≡ NoMemory };
 

@@ -1,9 +1,9 @@
 -- The exit statuses where no engine is called.
 use Rattle.std.specs.Prelude.{ℕ}
-use Rattle.tb_command_line.specs.declared.failure.Failure.{Failure}
-use Rattle.tb_command_line.specs.declared.failure.Failure.TheVariants.{Words, NotUtf8, BadKeys, BadAddress, NoMemory}
-use Rattle.tb_command_line.specs.declared.jobs.JobError.{JobError}
-use Rattle.tb_command_line.specs.declared.jobs.JobError.TheVariants.{Words as JobWords, NoMemory as NoJobMemory}
+use Rattle.tb_jobs.specs.declared.failure.Failure.{Failure}
+use Rattle.tb_jobs.specs.declared.failure.Failure.TheVariants.{Words, NotUtf8, BadKeys, BadAddress, NoMemory}
+use Rattle.tb_jobs.specs.declared.jobs.JobError.{JobError}
+use Rattle.tb_jobs.specs.declared.jobs.JobError.TheVariants.{Words as JobWords, NoMemory as NoJobMemory}
 
 -- words that are no job
 abbrev pub failure_of : JobError → Failure

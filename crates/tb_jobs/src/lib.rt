@@ -1,0 +1,8 @@
+//! What the program `tbc` is asked to do, and why words lead to nothing that it can do.
+#![tactic(auto)]
+
+mod failure;
+mod jobs;
+
+pub use failure::Failure;
+pub use jobs::{Job, JobError, Limit, MOST_EVENTS, Runnable};
