@@ -15,20 +15,15 @@ fn append_keys(alloc: Global, escaped: &str, out: &mut String) -> Result<(), Fai
     Ok(())
 }
 
-fn append_address(text: &str, out: &mut String) -> Result<(), Failure> {
-    match address(text) {
-        Some(address) => write!(out, "{address:04X}")?,
-        None => out.push_str("none")?,
-    }
-    Ok(())
-}
-
 /// Appends the answer of a row.
 pub fn answer(alloc: Global, row: &str, out: &mut String) -> Result<(), Failure> {
     let (word, rest) = word_of(row);
     match word {
         "keys" => append_keys(alloc, rest, out),
-        "address" => append_address(rest, out),
+        "address" => match address(rest) {
+            Some(address) => Ok(write!(out, "{address:04X}")?),
+            None => Ok(out.push_str("none")?),
+        },
         "sent" => {
             let sent = bytes_of(alloc, rest)?;
             append_text(host_form(alloc, sent.as_slice())?.as_slice(), out)

@@ -1,5 +1,5 @@
 //! The parts of a row, and what is printed of bytes.
-use std::alloc::{AllocError, AllocFailed, Global};
+use std::alloc::{AllocError, Global};
 use std::fmt::Write;
 use std::str;
 use tb_asm::{AsmError, TextError};
@@ -30,12 +30,6 @@ pub enum Failure {
 
 impl From<AllocError> for Failure {
     fn from(_: AllocError) -> Failure {
-        Failure::NoMemory
-    }
-}
-
-impl<T: Drop> From<AllocFailed<T>> for Failure {
-    fn from(_: AllocFailed<T>) -> Failure {
         Failure::NoMemory
     }
 }
@@ -81,18 +75,18 @@ pub fn text_of(alloc: Global, escaped: &str) -> Result<Vec<u8>, Failure> {
     let mut behind_backslash = false;
     for byte in escaped.bytes() {
         if behind_backslash {
-            text.push(match byte {
-                b'n' => b'\n',
-                b'r' => b'\r',
-                b't' => b'\t',
-                b's' => b' ',
+            text.extend_from_slice(match byte {
+                b'n' => b"\n",
+                b'r' => b"\r",
+                b't' => b"\t",
+                b's' => b" ",
                 _ => return Err(Failure::Row),
             })?;
             behind_backslash = false;
         } else if byte == b'\\' {
             behind_backslash = true;
         } else {
-            text.push(byte)?;
+            text.extend_from_slice(&[byte])?;
         }
     }
     Ok(text)
