@@ -1,69 +1,51 @@
 //! Rows of the words.
-use std::test::Fail;
+use crate::failure::Failure;
+use crate::setting::cut;
+use crate::writing::{put_debug, put_text};
 use tb_words::{Letter, Rel, add, digits, div_rem, holds, mul, neg, next_seed, sub};
 
-#[test]
-fn quotients_and_remainders(rt: HostRuntime) {
-    let rows = [
-        (-7, 2, Some((-3, -1))),
-        (7, -2, Some((-3, 1))),
-        (-32768, -1, Some((-32768, 0))),
-        (5, 0, None),
-    ];
-    for (n, d, want) in rows {
-        assert_eq!(rt; div_rem(n, d), want, "{n} by {d}");
+pub fn put_answer(out: &mut String, word: &str, rest: &str) -> Result<(), Failure> {
+    match word {
+        "letter" => put_letter(out, rest.as_bytes()),
+        "seed" => put_debug(out, &next_seed(rest.parse::<u16>()?)),
+        _ => put_number(out, word, rest),
     }
 }
 
-#[test]
-fn arithmetic_wraps(rt: HostRuntime) {
-    assert_eq!(rt; add(32767, 1), -32768);
-    assert_eq!(rt; sub(-32768, 1), 32767);
-    assert_eq!(rt; mul(300, 300), 24464);
-    assert_eq!(rt; neg(-32768), -32768);
-    assert_eq!(rt; neg(5), -5);
-}
-
-#[test]
-fn relations_are_signed(rt: HostRuntime) {
-    let rows = [
-        (Rel::Eq, [false, true, false]),
-        (Rel::Lt, [true, false, false]),
-        (Rel::Gt, [false, false, true]),
-        (Rel::Le, [true, true, false]),
-        (Rel::Ge, [false, true, true]),
-        (Rel::Ne, [true, false, true]),
-    ];
-    for (rel, [below, same, above]) in rows {
-        assert_eq!(rt; holds(rel, -32768, 32767), below, "{rel:?}");
-        assert_eq!(rt; holds(rel, -1, -1), same, "{rel:?}");
-        assert_eq!(rt; holds(rel, 1, -1), above, "{rel:?}");
+// The place of a letter in the alphabet.
+fn put_letter(out: &mut String, bytes: &[u8]) -> Result<(), Failure> {
+    let &byte = bytes.first().ok_or(Failure::Word)?;
+    match Letter::read(byte) {
+        Some(letter) => put_debug(out, &letter.index()),
+        None => put_debug(out, &None::<usize>),
     }
 }
 
-#[test]
-fn seeds(rt: HostRuntime) {
-    assert_eq!(rt; next_seed(1), 39022);
-    assert_eq!(rt; next_seed(39022), 61087);
-}
-
-#[test]
-fn decimal_texts(rt: HostRuntime) {
-    assert_eq!(rt; digits(0).as_slice(), b"0".as_slice());
-    assert_eq!(rt; digits(-3).as_slice(), b"-3".as_slice());
-    assert_eq!(rt; digits(4464).as_slice(), b"4464".as_slice());
-    assert_eq!(rt; digits(32767).as_slice(), b"32767".as_slice());
-    assert_eq!(rt; digits(-32768).as_slice(), b"-32768".as_slice());
-}
-
-#[test]
-fn letters(rt: HostRuntime) -> Result<(), Fail> {
-    for (byte, index) in [(b'A', 0), (b'a', 0), (b'I', 8), (b'Z', 25), (b'z', 25)] {
-        let letter = Letter::read(byte).ok_or("no letter")?;
-        assert_eq!(rt; letter.index(), index, "{byte}");
+fn put_number(out: &mut String, word: &str, rest: &str) -> Result<(), Failure> {
+    let (first, second) = cut(rest);
+    let a = first.parse::<i16>()?;
+    if word == "digits" {
+        return put_text(out, digits(a).as_slice());
     }
-    for byte in [b'@', b'[', b'`', b'{', b'0'] {
-        assert_eq!(rt; Letter::read(byte), None, "{byte}");
+    if word == "negate" {
+        return put_debug(out, &neg(a));
+    }
+    let b = second.parse::<i16>()?;
+    match word {
+        "divide" => put_debug(out, &div_rem(a, b)),
+        "add" => put_debug(out, &add(a, b)),
+        "subtract" => put_debug(out, &sub(a, b)),
+        "multiply" => put_debug(out, &mul(a, b)),
+        _ => put_relations(out, a, b),
+    }
+}
+
+// The relations that hold between two words.
+fn put_relations(out: &mut String, a: i16, b: i16) -> Result<(), Failure> {
+    for rel in [Rel::Eq, Rel::Lt, Rel::Gt, Rel::Le, Rel::Ge, Rel::Ne] {
+        if holds(rel, a, b) {
+            put_debug(out, &rel)?;
+        }
     }
     Ok(())
 }

@@ -1,0 +1,37 @@
+//! Events that are undone.
+use crate::failure::Failure;
+use crate::runs::machine_of;
+use crate::setting::{START, Setting};
+use crate::writing::put_debug;
+use std::alloc::Global;
+use tb_kernal::{Machine, Outside, Rude};
+
+// All that an undone event is to give back.
+fn everything(alloc: Global, machine: &Machine) -> Result<String, Failure> {
+    let (text, answers) = machine.keys_left();
+    let mut shown = String::new(alloc);
+    put_debug(&mut shown, &machine.regs())?;
+    put_debug(&mut shown, &machine.status())?;
+    put_debug(&mut shown, &machine.sent())?;
+    put_debug(&mut shown, &text)?;
+    put_debug(&mut shown, &answers)?;
+    put_debug(&mut shown, &machine.room())?;
+    for address in 0..=0xffff {
+        let byte = machine.memory().read(address).unwrap_or(0);
+        shown.push(char::from(byte))?;
+    }
+    Ok(shown)
+}
+
+/// Whether undoing the event that Rude gives for a seed restores a machine and its room.
+pub fn put_undone(out: &mut String, alloc: Global, seed: u16, rest: &str) -> Result<(), Failure> {
+    let mut machine = machine_of(alloc, Setting::read(alloc, START, rest)?)?;
+    machine.reserve(1).or(Err(Failure::Word))?;
+    let before = everything(alloc, &machine)?;
+    let event = Rude::new(seed).next(&machine);
+    let note = machine.note(&event);
+    machine.event(event).or(Err(Failure::Word))?;
+    machine.undo(&note);
+    let after = everything(alloc, &machine)?;
+    put_debug(out, &(before == after))
+}
