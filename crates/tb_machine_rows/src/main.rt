@@ -70,16 +70,26 @@ fn put_lines(out: &mut String, bench: &mut Bench, path: &str, text: &str) -> Res
     Ok(())
 }
 
+fn put_text<R: Files + AllocGlobal>(
+    rt: &R,
+    out: &mut String,
+    bench: &mut Bench,
+    path: &'static str,
+) -> Result<(), Failure> {
+    let text = fs::read_to_string(rt, path).or(Err(Failure::Unread(path)))?;
+    put_lines(out, bench, path, text.as_str())
+}
+
 fn put_texts<R: Files + AllocGlobal>(rt: &R, out: &mut String) -> Result<(), Failure> {
+    let memory = setting::no_bytes(rt.alloc())?;
     let mut bench = Bench {
         alloc: rt.alloc(),
         regs: START,
-        memory: setting::no_bytes(rt.alloc())?,
+        memory,
         machine: None,
     };
     for path in TEXTS {
-        let text = fs::read_to_string(rt, path).or(Err(Failure::Unread(path)))?;
-        put_lines(out, &mut bench, path, text.as_str())?;
+        put_text(rt, out, &mut bench, path)?;
     }
     Ok(())
 }

@@ -9,7 +9,7 @@ use std::alloc::Global;
 use tb_kernal::{Machine, Outside, Quiet, Recorded, Rude, run};
 use tb_words::next_seed;
 
-/// The machine that a row's words tell, which is not refused.
+/// The machine of a setting, where it is not refused.
 pub fn machine_of(alloc: Global, setting: Setting) -> Result<Machine, Failure> {
     enter(alloc, setting)?.or(Err(Failure::Word))
 }

@@ -100,17 +100,24 @@ impl Setting {
 
     fn set(&mut self, name: &str, value: &str) -> Result<(), Failure> {
         match name {
-            "A" => self.regs.a = hex_byte(value)?,
-            "X" => self.regs.x = hex_byte(value)?,
-            "Y" => self.regs.y = hex_byte(value)?,
-            "S" => self.regs.s = hex_byte(value)?,
             "P" => self.regs.flags = flags(value),
             "PC" => {
-                self.regs.pc = hex_word(value)?;
-                self.place = self.regs.pc;
+                self.place = hex_word(value)?;
+                self.regs.pc = self.place;
             }
             "text" => self.text.extend_from_slice(value.as_bytes())?,
-            "answer" => self.answers.push(hex_byte(value)?)?,
+            _ => return self.set_byte(name, hex_byte(value)?),
+        }
+        Ok(())
+    }
+
+    fn set_byte(&mut self, name: &str, value: u8) -> Result<(), Failure> {
+        match name {
+            "A" => self.regs.a = value,
+            "X" => self.regs.x = value,
+            "Y" => self.regs.y = value,
+            "S" => self.regs.s = value,
+            "answer" => self.answers.push(value)?,
             _ => return Err(Failure::Word),
         }
         Ok(())

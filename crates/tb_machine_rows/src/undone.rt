@@ -4,7 +4,7 @@ use crate::runs::machine_of;
 use crate::setting::{START, Setting};
 use crate::writing::put_debug;
 use std::alloc::Global;
-use tb_kernal::{Machine, Outside, Rude};
+use tb_kernal::{Event, Machine, Outside, Rude};
 
 // All that an undone event is to give back.
 fn everything(alloc: Global, machine: &Machine) -> Result<String, Failure> {
@@ -23,15 +23,21 @@ fn everything(alloc: Global, machine: &Machine) -> Result<String, Failure> {
     Ok(shown)
 }
 
+// Lets an event happen, and undoes it.
+fn happen_and_undo(machine: &mut Machine, event: Event) -> bool {
+    let note = machine.note(&event);
+    let has_happened = machine.event(event).is_ok();
+    machine.undo(&note);
+    has_happened
+}
+
 /// Whether undoing the event that Rude gives for a seed restores a machine and its room.
 pub fn put_undone(out: &mut String, alloc: Global, seed: u16, rest: &str) -> Result<(), Failure> {
     let mut machine = machine_of(alloc, Setting::read(alloc, START, rest)?)?;
     machine.reserve(1).or(Err(Failure::Word))?;
     let before = everything(alloc, &machine)?;
     let event = Rude::new(seed).next(&machine);
-    let note = machine.note(&event);
-    machine.event(event).or(Err(Failure::Word))?;
-    machine.undo(&note);
+    let has_happened = happen_and_undo(&mut machine, event);
     let after = everything(alloc, &machine)?;
-    put_debug(out, &(before == after))
+    put_debug(out, &(has_happened && before == after))
 }
