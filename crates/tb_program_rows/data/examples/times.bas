@@ -1,0 +1,11 @@
+10 REM The times table up to 9 by 9.
+20 LET R=1
+30 LET C=1
+40 IF R*C<10 PRINT " ";
+50 PRINT " ";R*C;
+60 LET C=C+1
+70 IF C<10 GOTO 40
+80 PRINT
+90 LET R=R+1
+100 IF R<10 GOTO 30
+110 END
