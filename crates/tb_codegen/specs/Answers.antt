@@ -5,28 +5,13 @@ use Rattle.tb_lower.specs.Cost.{cost}
 use Rattle.tb_lower.specs.Need.{too_deep}
 use Rattle.tb_lower.specs.declared.lowering.LowerError.{LowerError}
 use Rattle.tb_lower.specs.declared.lowering.LowerError.TheVariants as deep
-use Rattle.tb_parser.specs.declared.errors.SourceError.{SourceError}
-use Rattle.tb_parser.specs.declared.errors.SourceErrorKind.{SourceErrorKind}
-use Rattle.tb_parser.specs.declared.errors.SourceErrorKind.TheVariants as source_kind
 use Rattle.tb_parser.specs.Answers.{refusal_of}
 use Rattle.tb_parser.specs.Files.{FileRefusal, Outcome, LinesAre, refused_at}
 use Rattle.tb_parser.specs.Lines.{lines_of_file}
 use Rattle.tb_codegen.specs.declared.compiled.Compiled.{Compiled}
-use Rattle.tb_codegen.specs.declared.errors.CompileError.{CompileError}
-use Rattle.tb_codegen.specs.declared.errors.CompileError.TheVariants.{Source, Lower, TooLarge, NoMemory}
+use Rattle.tb_refusals.specs.declared.refusals.CompileError.{CompileError}
+use Rattle.tb_refusals.specs.declared.refusals.CompileError.TheVariants.{Source, Lower, TooLarge, NoMemory}
 use Rattle.tb_codegen.specs.Compiled.{IsCompiled, most}
-
--- want of memory is one answer, wherever it came from
-abbrev pub of_kind : SourceErrorKind → SourceError → CompileError
-of_kind source_kind.NoMemory e = NoMemory
-of_kind k e = Source e
-
-abbrev pub of_source : SourceError → CompileError
-of_source e = of_kind e.kind e
-
-abbrev pub of_lower : LowerError → CompileError
-of_lower deep.NoMemory = NoMemory
-of_lower (deep.TooDeep n) = Lower (deep.TooDeep n)
 
 -- the answer for a program: its expressions are looked at before its cost
 abbrev pub ProgramAnswer : ℕ → Program → Result Compiled CompileError → Type 0

@@ -12,7 +12,7 @@ ghost use Rattle.tb_parser.specs.Files.{AreStated, Outcome, RisesFrom};
 ghost use Rattle.tb_runtime16.specs.Places.{PROLOGUE_AT};
 ghost use Rattle.tb_templates.specs.Labels.{label_of};
 ghost use Rattle.tb_templates.specs.Program.{AreCodable, RisingFrom, program_code};
-ghost use Rattle.tb_codegen.specs.declared.errors.CompileError.TheVariants as error;
+ghost use Rattle.tb_refusals.specs.declared.refusals.CompileError.TheVariants as error;
 ghost use Rattle.tb_codegen.specs.Answers.{HasOutcome, Makes, OutcomeAnswer, ProgramAnswer};
 ghost use Rattle.tb_keeping.specs.Kept.{Keeps};
 ghost use Rattle.tb_keeping.specs.LineStarts.{MarksLines};
@@ -20,12 +20,12 @@ ghost use Rattle.tb_codegen.specs.Compiled.{loaded_of, start_of, AreKnown, pair_
 
 use crate::compiled::{Compiled, LineStart};
 use crate::costs::cost;
-use crate::errors::CompileError;
 use std::alloc::{AllocError, Global};
 use tb_asm::{AsmErrorKind, Image, assemble};
 use tb_lower::{SlotCode, SlotLine, lower, warnings};
 use tb_parser::parse;
 use tb_prg::write;
+use tb_refusals::CompileError;
 use tb_runtime16::BLOCK_AT;
 use tb_syntax::Program;
 use tb_templates::{Target, label, program_items};

@@ -4,9 +4,8 @@
 mod compiled;
 mod compiler;
 mod costs;
-mod errors;
 
 pub use compiled::Compiled;
 pub use compiler::{Options, compile};
 pub use costs::cost;
-pub use errors::CompileError;
+pub use tb_refusals::CompileError;

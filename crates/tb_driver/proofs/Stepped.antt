@@ -7,7 +7,7 @@ use Rattle.tb_prg.specs.declared.PrgError.{PrgError}
 use Rattle.tb_prg.specs.Prg.{content_of}
 use Rattle.tb_codegen.specs.Compiled.{prg_of, loaded_of, warnings_of}
 use Rattle.tb_codegen.specs.declared.compiled.Compiled.{Compiled}
-use Rattle.tb_codegen.specs.declared.errors.CompileError.{CompileError}
+use Rattle.tb_refusals.specs.declared.refusals.CompileError.{CompileError}
 use Rattle.tb_stepper.specs.Notes.{Holds}
 use Rattle.tb_commands.specs.Lines.{lines_of}
 use Rattle.tb_commands.specs.Dialogue.{Dialogue}

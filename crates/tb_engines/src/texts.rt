@@ -2,11 +2,11 @@
 use crate::outcome::{End, Outcome, Refusal};
 use std::fmt;
 use tb_asm::AsmErrorKind;
-use tb_codegen::CompileError;
 use tb_cpu::Wrong;
 use tb_lower::LowerError;
 use tb_parser::{SourceError, SourceErrorKind};
 use tb_prg::PrgError;
+use tb_refusals::CompileError;
 
 fn kind_text(kind: AsmErrorKind) -> &'static str {
     match kind {

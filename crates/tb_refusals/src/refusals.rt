@@ -1,6 +1,6 @@
 //! Why a source text is not compiled.
 ghost use Rattle.std.specs.Prelude.{◌≡◌};
-ghost use Rattle.tb_codegen.specs.Answers.{of_source, of_lower};
+ghost use Rattle.tb_refusals.specs.Refusals.{of_source, of_lower};
 
 use std::alloc::AllocError;
 use tb_lower::LowerError;
@@ -43,7 +43,7 @@ impl From<LowerError> for CompileError {
 }
 
 impl From<AllocError> for CompileError {
-    ghost use Rattle.tb_codegen.specs.declared.errors.CompileError.TheVariants.{NoMemory};
+    ghost use Rattle.tb_refusals.specs.declared.refusals.CompileError.TheVariants.{NoMemory};
 
     ghost from_gives = { λ _ r. r ≡ NoMemory };
 
@@ -53,7 +53,7 @@ impl From<AllocError> for CompileError {
 }
 
 impl From<NoMemory> for CompileError {
-    ghost use Rattle.tb_codegen.specs.declared.errors.CompileError.TheVariants as error;
+    ghost use Rattle.tb_refusals.specs.declared.refusals.CompileError.TheVariants as error;
 
     ghost from_gives = { λ _ r. r ≡ error.NoMemory };
 
