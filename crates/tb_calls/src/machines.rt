@@ -44,11 +44,22 @@ fn regs_at(pc: u16, a: u8) -> Regs {
     }
 }
 
-// A machine with bytes at an address, a return to $A100 and no keys.
-fn machine_with(alloc: Global, at: u16, bytes: &[u8], regs: Regs) -> Result<Machine, Failure> {
-    let mut memory = Memory::new(alloc)?;
+fn load(memory: &mut Memory, at: u16, bytes: &[u8]) -> Result<(), Failure> {
     memory.load(at, bytes)?;
     memory.load(0x01f1, &[0xff, 0xa0])?;
+    Ok(())
+}
+
+// A memory with bytes at an address, and a return to $A100.
+fn memory_with(alloc: Global, at: u16, bytes: &[u8]) -> Result<Memory, Failure> {
+    let mut memory = Memory::new(alloc)?;
+    load(&mut memory, at, bytes)?;
+    Ok(memory)
+}
+
+// A machine with such a memory and no keys.
+fn machine_with(alloc: Global, at: u16, bytes: &[u8], regs: Regs) -> Result<Machine, Failure> {
+    let memory = memory_with(alloc, at, bytes)?;
     let keyboard = Keyboard {
         text: Vec::new(alloc),
         answers: Vec::new(alloc),
@@ -62,12 +73,21 @@ fn machine_of(alloc: Global, program: &Compiled) -> Result<Machine, Failure> {
     machine_with(alloc, file.at, file.bytes, regs_at(0x080d, 0))
 }
 
-pub fn show_memory(alloc: Global, text: &mut String) -> Result<(), Failure> {
-    let memory = Memory::new(alloc)?;
+fn machine_from(alloc: Global, source: &[u8]) -> Result<Machine, Failure> {
+    let program = compiled(alloc, source)?;
+    machine_of(alloc, &program)
+}
+
+fn show_reads(memory: &Memory, text: &mut String) -> Result<(), Failure> {
     for address in [0x0002, 0x0801, 0x9fff, 0xcfff] {
         writeln!(text, "{:?}", memory.read(address))?;
     }
     Ok(())
+}
+
+pub fn show_memory(alloc: Global, text: &mut String) -> Result<(), Failure> {
+    let memory = Memory::new(alloc)?;
+    show_reads(&memory, text)
 }
 
 // One instruction or service.
@@ -76,32 +96,44 @@ fn go(machine: &mut Machine) -> Result<Status, Failure> {
     machine.event(event).map_err(|_| Failure::Refused)
 }
 
+fn show_reserved(machine: &mut Machine, text: &mut String) -> Result<(), Failure> {
+    go(machine)?;
+    let before = seen(machine);
+    if machine.reserve(1).is_err() {
+        return Err(Failure::of_memory(seen(machine) == before));
+    }
+    let status = go(machine)?;
+    writeln!(text, "{status:?} {:?}", machine.regs())?;
+    show_bytes(text, machine.sent())
+}
+
 pub fn show_reserve(alloc: Global, text: &mut String) -> Result<(), Failure> {
     let regs = regs_at(0xc000, 0x48);
     let mut machine = machine_with(alloc, 0xc000, &[0x20, 0xd2, 0xff], regs)?;
-    go(&mut machine)?;
-    let before = seen(&machine);
-    if machine.reserve(1).is_err() {
-        return Err(Failure::of_memory(seen(&machine) == before));
-    }
-    let status = go(&mut machine)?;
-    writeln!(text, "{status:?} {:?}", machine.regs())?;
-    Ok(show_bytes(text, machine.sent())?)
+    show_reserved(&mut machine, text)
 }
 
-// Runs a source. A refused run leaves a machine that goes on once it has room.
+// Runs a machine. A refused run leaves one that goes on once it has room.
+fn show_run_on<O: Outside>(
+    machine: &mut Machine,
+    outside: &mut O,
+    text: &mut String,
+) -> Result<(), Failure> {
+    let Ok(status) = run(machine, outside, LIMIT) else {
+        return Err(Failure::of_memory(machine.status() == Status::Running && machine.room() == 0));
+    };
+    writeln!(text, "{status:?}")?;
+    show_bytes(text, machine.sent())
+}
+
 fn show_run_of<O: Outside>(
     alloc: Global,
     source: &[u8],
     outside: &mut O,
     text: &mut String,
 ) -> Result<(), Failure> {
-    let mut machine = machine_of(alloc, &compiled(alloc, source)?)?;
-    let Ok(status) = run(&mut machine, outside, LIMIT) else {
-        return Err(Failure::of_memory(machine.status() == Status::Running && machine.room() == 0));
-    };
-    writeln!(text, "{status:?}")?;
-    Ok(show_bytes(text, machine.sent())?)
+    let mut machine = machine_from(alloc, source)?;
+    show_run_on(&mut machine, outside, text)
 }
 
 pub fn show_run(alloc: Global, text: &mut String) -> Result<(), Failure> {
@@ -110,25 +142,20 @@ pub fn show_run(alloc: Global, text: &mut String) -> Result<(), Failure> {
     show_run_of(alloc, GREETING, &mut Rude::new(1), text)
 }
 
-// A stepper at the start of a compiled program. A refused one hands machine and outside back.
-fn stepper_of(alloc: Global, program: &Compiled) -> Result<Stepper<'_, Quiet>, Failure> {
-    let machine = machine_of(alloc, program)?;
-    let before = seen(&machine);
-    Stepper::new(alloc, machine, program, Quiet).map_err(|refused| Failure::of_memory(
-        seen(&refused.machine) == before,
-    ))
+/// What is called of a stepper at the start of a program.
+#[derive(Clone, Copy, Drop)]
+pub enum StepperCall {
+    New,
+    Step,
+    ToLine,
 }
 
-pub fn show_stepper(alloc: Global, text: &mut String) -> Result<(), Failure> {
-    let program = compiled(alloc, ASSIGNMENT)?;
-    let stepper = stepper_of(alloc, &program)?;
+fn show_new(stepper: &Stepper<'_, Quiet>, text: &mut String) -> Result<(), Failure> {
     writeln!(text, "{:?} {:?}", stepper.machine().regs(), stepper.line())?;
     Ok(())
 }
 
-pub fn show_step(alloc: Global, text: &mut String) -> Result<(), Failure> {
-    let program = compiled(alloc, ASSIGNMENT)?;
-    let mut stepper = stepper_of(alloc, &program)?;
+fn show_step(stepper: &mut Stepper<'_, Quiet>, text: &mut String) -> Result<(), Failure> {
     let before = seen(stepper.machine());
     let Ok(status) = stepper.step() else {
         return Err(Failure::of_memory(seen(stepper.machine()) == before));
@@ -137,9 +164,7 @@ pub fn show_step(alloc: Global, text: &mut String) -> Result<(), Failure> {
     Ok(())
 }
 
-pub fn show_to_line(alloc: Global, text: &mut String) -> Result<(), Failure> {
-    let program = compiled(alloc, ASSIGNMENT)?;
-    let mut stepper = stepper_of(alloc, &program)?;
+fn show_to_line(stepper: &mut Stepper<'_, Quiet>, text: &mut String) -> Result<(), Failure> {
     let before = seen(stepper.machine());
     let reached = match stepper.to_line(20, LIMIT) {
         Ok(reached) => reached,
@@ -157,4 +182,40 @@ pub fn show_to_line(alloc: Global, text: &mut String) -> Result<(), Failure> {
         stepper.variable(letter)
     )?;
     Ok(())
+}
+
+fn show_call(
+    call: StepperCall,
+    stepper: &mut Stepper<'_, Quiet>,
+    text: &mut String,
+) -> Result<(), Failure> {
+    match call {
+        StepperCall::New => show_new(stepper, text),
+        StepperCall::Step => show_step(stepper, text),
+        StepperCall::ToLine => show_to_line(stepper, text),
+    }
+}
+
+// A stepper at the start of a compiled program. A refused one hands machine and outside back.
+fn stepper_of(alloc: Global, program: &Compiled) -> Result<Stepper<'_, Quiet>, Failure> {
+    let machine = machine_of(alloc, program)?;
+    let before = seen(&machine);
+    Stepper::new(alloc, machine, program, Quiet).map_err(|refused| Failure::of_memory(
+        seen(&refused.machine) == before,
+    ))
+}
+
+fn show_stepper_of(
+    alloc: Global,
+    program: &Compiled,
+    call: StepperCall,
+    text: &mut String,
+) -> Result<(), Failure> {
+    let mut stepper = stepper_of(alloc, program)?;
+    show_call(call, &mut stepper, text)
+}
+
+pub fn show_stepper(alloc: Global, call: StepperCall, text: &mut String) -> Result<(), Failure> {
+    let program = compiled(alloc, ASSIGNMENT)?;
+    show_stepper_of(alloc, &program, call, text)
 }

@@ -8,6 +8,7 @@ mod machines;
 mod sources;
 
 use failure::Failure;
+use machines::StepperCall;
 use std::alloc::Global;
 use std::process::ExitCode;
 use std::rt::Env;
@@ -42,18 +43,22 @@ fn show(alloc: Global, name: &str, text: &mut String) -> Result<(), Failure> {
         "Memory::new" => machines::show_memory(alloc, text),
         "reserve" => machines::show_reserve(alloc, text),
         "run" => machines::show_run(alloc, text),
-        "Stepper::new" => machines::show_stepper(alloc, text),
-        "step" => machines::show_step(alloc, text),
-        "to_line" => machines::show_to_line(alloc, text),
+        "Stepper::new" => machines::show_stepper(alloc, StepperCall::New, text),
+        "step" => machines::show_stepper(alloc, StepperCall::Step, text),
+        "to_line" => machines::show_stepper(alloc, StepperCall::ToLine, text),
         _ => Err(Failure::NoSuchCall),
     }
 }
 
+fn text_of(alloc: Global, name: &str) -> Result<String, Failure> {
+    let mut text = String::new(alloc);
+    show(alloc, name, &mut text)?;
+    Ok(text)
+}
+
 fn answer<R: Env + AllocGlobal>(rt: &R) -> Result<String, Failure> {
     let name = word(rt)?;
-    let mut text = String::new(rt.alloc());
-    show(rt.alloc(), name.as_str(), &mut text)?;
-    Ok(text)
+    text_of(rt.alloc(), name.as_str())
 }
 
 fn main(rt: HostRuntime) -> ExitCode {

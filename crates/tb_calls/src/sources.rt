@@ -1,10 +1,11 @@
 //! Calls on source texts, and on the bytes that programs send and take.
 use crate::failure::Failure;
-use std::alloc::{AllocError, Global};
+use std::alloc::Global;
+use std::fmt::Debug;
 use tb_codegen::{Compiled, Options, compile};
 use tb_driver::{host_form, key_list};
-use tb_lower::{lower, warnings};
-use tb_parser::{parse, parse_expr, tokens};
+use tb_lower::{SlotCode, lower, warnings};
+use tb_parser::{Program, Token, parse, parse_expr, tokens};
 
 /// Sends a text.
 pub const GREETING: &[u8] = b"10 PRINT \"HELLO\"\n20 END\n";
@@ -27,7 +28,7 @@ pub fn compiled(alloc: Global, source: &[u8]) -> Result<Compiled, Failure> {
 }
 
 /// Appends bytes as hexadecimal digits, on a line.
-pub fn show_bytes(text: &mut String, bytes: &[u8]) -> Result<(), AllocError> {
+pub fn show_bytes(text: &mut String, bytes: &[u8]) -> Result<(), Failure> {
     for byte in bytes {
         write!(text, "{byte:02X}")?;
     }
@@ -36,78 +37,130 @@ pub fn show_bytes(text: &mut String, bytes: &[u8]) -> Result<(), AllocError> {
 }
 
 /// Appends bytes of ASCII as they are.
-pub fn show_letters(text: &mut String, bytes: &[u8]) -> Result<(), AllocError> {
+pub fn show_letters(text: &mut String, bytes: &[u8]) -> Result<(), Failure> {
     for byte in bytes {
         text.push(char::from(*byte))?;
     }
     Ok(())
 }
 
+fn show_value<T: Debug>(text: &mut String, value: &T) -> Result<(), Failure> {
+    writeln!(text, "{value:?}")?;
+    Ok(())
+}
+
+/// Appends each value on a line.
+pub fn show_each<T: Debug>(text: &mut String, values: &[T]) -> Result<(), Failure> {
+    for value in values {
+        show_value(text, value)?;
+    }
+    Ok(())
+}
+
+fn show_host_form_of(alloc: Global, sent: &[u8], text: &mut String) -> Result<(), Failure> {
+    let form = host_form(alloc, sent)?;
+    show_letters(text, form.as_slice())
+}
+
 pub fn show_host_form(alloc: Global, text: &mut String) -> Result<(), Failure> {
     for sent in [b"HELLO\r".as_slice(), b"\r!1 AT 20\r"] {
-        show_letters(text, host_form(alloc, sent)?.as_slice())?;
+        show_host_form_of(alloc, sent, text)?;
     }
     Ok(())
 }
 
 pub fn show_key_list(alloc: Global, text: &mut String) -> Result<(), Failure> {
     let keys = key_list(alloc, "332c202d340d")?;
-    Ok(show_bytes(text, keys.as_slice())?)
+    show_bytes(text, keys.as_slice())
 }
 
-pub fn show_compile(alloc: Global, text: &mut String) -> Result<(), Failure> {
-    for source in [GREETING, COMPUTED, WARNED] {
-        let compiled = compiled(alloc, source)?;
-        show_bytes(text, compiled.prg())?;
-        for warning in compiled.warnings() {
-            writeln!(text, "{warning:?}")?;
-        }
-        for line in [10, 20, 30, 40] {
-            if let Some(at) = compiled.start_of(line) {
-                writeln!(text, "{line} at {at:04X}")?;
-            }
+fn show_starts(compiled: &Compiled, text: &mut String) -> Result<(), Failure> {
+    for line in [10, 20, 30, 40] {
+        if let Some(at) = compiled.start_of(line) {
+            writeln!(text, "{line} at {at:04X}")?;
         }
     }
     Ok(())
 }
 
+fn show_compiled(compiled: &Compiled, text: &mut String) -> Result<(), Failure> {
+    show_bytes(text, compiled.prg())?;
+    show_each(text, compiled.warnings())?;
+    show_starts(compiled, text)
+}
+
+fn show_compile_of(alloc: Global, source: &[u8], text: &mut String) -> Result<(), Failure> {
+    let compiled = compiled(alloc, source)?;
+    show_compiled(&compiled, text)
+}
+
+pub fn show_compile(alloc: Global, text: &mut String) -> Result<(), Failure> {
+    for source in [GREETING, COMPUTED, WARNED] {
+        show_compile_of(alloc, source, text)?;
+    }
+    Ok(())
+}
+
+fn show_program(program: &Program, text: &mut String) -> Result<(), Failure> {
+    for (number, statement) in program.lines() {
+        writeln!(text, "{number} {statement:?}")?;
+    }
+    Ok(())
+}
+
+fn show_parse_of(alloc: Global, source: &[u8], text: &mut String) -> Result<(), Failure> {
+    let program = parse(alloc, source)?;
+    show_program(&program, text)
+}
+
 pub fn show_parse(alloc: Global, text: &mut String) -> Result<(), Failure> {
     for source in [GREETING, COMPUTED] {
-        let program = parse(alloc, source)?;
-        for (number, statement) in program.lines() {
-            writeln!(text, "{number} {statement:?}")?;
-        }
+        show_parse_of(alloc, source, text)?;
     }
     Ok(())
 }
 
 pub fn show_parse_expr(alloc: Global, text: &mut String) -> Result<(), Failure> {
     let expression = parse_expr(alloc, b"A*2-1")?;
-    writeln!(text, "{expression:?}")?;
-    Ok(())
+    show_value(text, &expression)
 }
 
-pub fn show_tokens(alloc: Global, text: &mut String) -> Result<(), Failure> {
-    for token in tokens(alloc, b"10 GO TO 5")? {
+fn show_token_texts(found: &[Token<'_>], text: &mut String) -> Result<(), Failure> {
+    for token in found {
         show_letters(text, token.text)?;
         text.push('\n')?;
     }
     Ok(())
 }
 
+pub fn show_tokens(alloc: Global, text: &mut String) -> Result<(), Failure> {
+    let found = tokens(alloc, b"10 GO TO 5")?;
+    show_token_texts(found.as_slice(), text)
+}
+
+fn lowered(alloc: Global, source: &[u8]) -> Result<SlotCode, Failure> {
+    let program = parse(alloc, source)?;
+    Ok(lower(alloc, &program)?)
+}
+
+fn show_lower_of(alloc: Global, source: &[u8], text: &mut String) -> Result<(), Failure> {
+    let code = lowered(alloc, source)?;
+    show_each(text, code.lines())
+}
+
 pub fn show_lower(alloc: Global, text: &mut String) -> Result<(), Failure> {
     for source in [GREETING, COMPUTED] {
-        let code = lower(alloc, &parse(alloc, source)?)?;
-        for line in code.lines() {
-            writeln!(text, "{line:?}")?;
-        }
+        show_lower_of(alloc, source, text)?;
     }
     Ok(())
 }
 
+fn show_warnings_of(alloc: Global, program: &Program, text: &mut String) -> Result<(), Failure> {
+    let found = warnings(alloc, program)?;
+    show_each(text, found.as_slice())
+}
+
 pub fn show_warnings(alloc: Global, text: &mut String) -> Result<(), Failure> {
-    for warning in warnings(alloc, &parse(alloc, WARNED)?)? {
-        writeln!(text, "{warning:?}")?;
-    }
-    Ok(())
+    let program = parse(alloc, WARNED)?;
+    show_warnings_of(alloc, &program, text)
 }

@@ -11,10 +11,15 @@ use tb_jobs::{Job, JobError, Limit, Runnable};
 pub fn job(alloc: Global, words: &[&str]) -> Result<Job, JobError>
     ensures { IfOk result IsWithinLimit }
 {
-    let matches = match command(alloc)?.try_get_matches_from(words) {
-        Ok(matches) => matches,
-        Err(error) => return without_matches(alloc, &error),
-    };
+    match command(alloc)?.try_get_matches_from(words) {
+        Ok(matches) => with_matches(alloc, &matches),
+        Err(error) => without_matches(alloc, &error),
+    }
+}
+
+fn with_matches(alloc: Global, matches: &ArgMatches<'_>) -> Result<Job, JobError>
+    ensures { IfOk result IsWithinLimit }
+{
     match matches.subcommand() {
         Some((name, found)) => Ok(job_of(alloc, name, found)?),
         None => Err(JobError::Words(String::new(alloc))),
@@ -63,42 +68,24 @@ fn build_command<'a>(alloc: Global) -> Result<Command<'a>, AllocError> {
 }
 
 fn run_command<'a>(alloc: Global) -> Result<Command<'a>, AllocError> {
-    let source = Arg::new(alloc, "SOURCE")
-        .help("The source file")
-        .required_unless_present("prg")?;
-    let prg = Arg::new(alloc, "prg")
-        .long("prg")
-        .value_name("FILE")
-        .help("Run this PRG file in place of a source")
-        .conflicts_with("SOURCE")?;
-    let rude = Arg::new(alloc, "rude")
-        .long("rude")
-        .value_name("N")
-        .value_parser(value_parser!(u16))
-        .help("Let the ROM write and clobber all that it may, by this seed [0 to 65535]");
     Command::new(alloc, "run")
         .about("Run a source or a PRG file, and show what it sends")
         .override_usage("tbc run [OPTIONS] <SOURCE>\n       tbc run [OPTIONS] --prg <FILE>")
-        .arg(source)?
-        .arg(prg)?
+        .arg(source_or_prg(alloc)?)?
+        .arg(prg_option(alloc)?)?
         .arg(seed_option(alloc))?
         .arg(keys_option(alloc))?
         .arg(answers_option(alloc))?
         .arg(limit_option(alloc))?
-        .arg(rude)
+        .arg(rude_option(alloc))
 }
 
 fn asm_command<'a>(alloc: Global) -> Result<Command<'a>, AllocError> {
-    let at = Arg::new(alloc, "at")
-        .long("at")
-        .value_name("HEX")
-        .help("The address of the first byte, four hexadecimal digits")
-        .required(true);
     Command::new(alloc, "asm")
         .about("Assemble a text to a PRG file")
         .arg(file(alloc, "IN", "The assembler text"))?
         .arg(file(alloc, "OUT", "The PRG file that is written"))?
-        .arg(at)
+        .arg(at_option(alloc))
 }
 
 fn dis_command<'a>(alloc: Global) -> Result<Command<'a>, AllocError> {
@@ -119,6 +106,37 @@ fn step_command<'a>(alloc: Global) -> Result<Command<'a>, AllocError> {
 
 fn file<'a>(alloc: Global, id: &'a str, help: &'a str) -> Arg<'a> {
     Arg::new(alloc, id).help(help).required(true)
+}
+
+// A source that may be missing beside a PRG file.
+fn source_or_prg<'a>(alloc: Global) -> Result<Arg<'a>, AllocError> {
+    Arg::new(alloc, "SOURCE")
+        .help("The source file")
+        .required_unless_present("prg")
+}
+
+fn prg_option<'a>(alloc: Global) -> Result<Arg<'a>, AllocError> {
+    Arg::new(alloc, "prg")
+        .long("prg")
+        .value_name("FILE")
+        .help("Run this PRG file in place of a source")
+        .conflicts_with("SOURCE")
+}
+
+fn rude_option<'a>(alloc: Global) -> Arg<'a> {
+    Arg::new(alloc, "rude")
+        .long("rude")
+        .value_name("N")
+        .value_parser(value_parser!(u16))
+        .help("Let the ROM write and clobber all that it may, by this seed [0 to 65535]")
+}
+
+fn at_option<'a>(alloc: Global) -> Arg<'a> {
+    Arg::new(alloc, "at")
+        .long("at")
+        .value_name("HEX")
+        .help("The address of the first byte, four hexadecimal digits")
+        .required(true)
 }
 
 fn seed_option<'a>(alloc: Global) -> Arg<'a> {

@@ -34,30 +34,38 @@ pub struct Start<'a> {
     pub answers: &'a [u8],
 }
 
+// Loads `080D=A90560`.
+fn load_bytes(alloc: Global, load: &str, memory: &mut Memory) -> Result<(), Failure> {
+    let (at, bytes) = load.split_once('=').ok_or(Failure)?;
+    let at = address(at).ok_or(Failure)?;
+    Ok(memory.load(at, key_list(alloc, bytes)?.as_slice())?)
+}
+
 impl<'a> Start<'a> {
-    // The memory, with a return to $A100.
-    fn memory(self, alloc: Global) -> Result<Memory, Failure> {
-        let mut memory = Memory::new(alloc)?;
+    // Loads what lies in memory, with a return to $A100.
+    fn load(self, alloc: Global, memory: &mut Memory) -> Result<(), Failure> {
         if self.loads.is_empty() {
             let file = tb_prg::read(self.program.prg())?;
             memory.load(file.at, file.bytes)?;
         }
         for load in self.loads.split_whitespace() {
-            let (at, bytes) = load.split_once('=').ok_or(Failure)?;
-            let at = address(at).ok_or(Failure)?;
-            memory.load(at, key_list(alloc, bytes)?.as_slice())?;
+            load_bytes(alloc, load, memory)?;
         }
-        memory.load(0x01f1, &[0xff, 0xa0])?;
+        Ok(memory.load(0x01f1, &[0xff, 0xa0])?)
+    }
+
+    fn memory(self, alloc: Global) -> Result<Memory, Failure> {
+        let mut memory = Memory::new(alloc)?;
+        self.load(alloc, &mut memory)?;
         Ok(memory)
     }
 
     /// The machine.
     pub fn machine(self, alloc: Global) -> Result<Machine, Failure> {
-        let keyboard = Keyboard {
-            text: Vec::from_slice(alloc, self.text)?,
-            answers: Vec::from_slice(alloc, self.answers)?,
-        };
-        Machine::enter(alloc, self.memory(alloc)?, START, keyboard)
+        let memory = self.memory(alloc)?;
+        let text = Vec::from_slice(alloc, self.text)?;
+        let answers = Vec::from_slice(alloc, self.answers)?;
+        Machine::enter(alloc, memory, START, Keyboard { text, answers })
             .ok()
             .ok_or(Failure)
     }

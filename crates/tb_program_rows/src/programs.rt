@@ -4,7 +4,7 @@ use crate::texts::{append_lines, show_text, source_of};
 use std::alloc::Global;
 use std::fs;
 use std::rt::Files;
-use tb_codegen::{Compiled, Options, compile};
+use tb_codegen::{CompileError, Compiled, Options, compile};
 use tb_driver::{Outcome, Tracked, build, key_list, run_prg, run_text};
 use tb_kernal::{Keyboard, Outside, Quiet, Rude};
 
@@ -31,46 +31,65 @@ fn show_head(file: &[u8], out: &mut String) -> Result<(), Failure> {
     Ok(())
 }
 
-/// Appends a built file's head, whether it is the compiler's, and what it shows.
-pub fn show_build(alloc: Global, row: &str, out: &mut String) -> Result<(), Failure> {
-    let (seed, source) = row.split_once(' ').ok_or(Failure)?;
-    let seed = seed.parse()?;
-    let source = source_of(alloc, source)?;
-    let file = built(alloc, source.as_slice(), seed);
-    let compiled = compile(alloc, source.as_slice(), Options { seed })?;
-    show_head(file.as_slice(), out)?;
-    write!(
-        out,
-        ", as compile has it: {}, ",
-        file.as_slice() == compiled.prg()
-    )?;
+// Appends how a file's program ends, and what it shows.
+fn show_outcome(alloc: Global, file: &[u8], out: &mut String) -> Result<(), Failure> {
     let mut screen = Tracked::new(Vec::new(alloc));
-    let mut reader = Tracked::new(file.as_slice());
     let outcome = run_prg(
         alloc,
-        &mut reader,
+        &mut Tracked::new(file),
         &mut screen,
         no_keys(alloc),
         100_000,
         &mut Quiet,
     );
+    show_shown(outcome, screen.stream.as_slice(), out)
+}
+
+fn show_shown(outcome: Outcome, shown: &[u8], out: &mut String) -> Result<(), Failure> {
     write!(out, "{outcome:?}: ")?;
-    show_text(screen.stream.as_slice(), out)?;
+    show_text(shown, out)?;
     Ok(out.push('\n')?)
+}
+
+// Appends a built file's head, and whether it is the compiler's.
+fn show_file(file: &[u8], compiled: &Compiled, out: &mut String) -> Result<(), Failure> {
+    show_head(file, out)?;
+    let is_same = file == compiled.prg();
+    Ok(write!(out, ", as compile has it: {is_same}, ")?)
+}
+
+// Appends a source's file, and what it shows.
+fn show_source(alloc: Global, source: &[u8], seed: u16, out: &mut String) -> Result<(), Failure> {
+    let compiled = compile(alloc, source, Options { seed })?;
+    let file = built(alloc, source, seed);
+    show_file(file.as_slice(), &compiled, out)?;
+    show_outcome(alloc, file.as_slice(), out)
+}
+
+/// Appends a built file's head, whether it is the compiler's, and what it shows.
+pub fn show_build(alloc: Global, row: &str, out: &mut String) -> Result<(), Failure> {
+    let (seed, source) = row.split_once(' ').ok_or(Failure)?;
+    let seed = seed.parse()?;
+    show_source(alloc, source_of(alloc, source)?.as_slice(), seed, out)
+}
+
+// The file of a source as rows write it.
+fn built_row(alloc: Global, row: &str) -> Result<Vec<u8>, Failure> {
+    Ok(built(alloc, source_of(alloc, row)?.as_slice(), 1))
+}
+
+fn show_both(one: &[u8], other: &[u8], out: &mut String) -> Result<(), Failure> {
+    show_head(one, out)?;
+    let is_same = one == other;
+    Ok(writeln!(out, ", the same file: {is_same}")?)
 }
 
 /// Appends a source's file's head, and whether another source makes the same file.
 pub fn show_alike(alloc: Global, row: &str, out: &mut String) -> Result<(), Failure> {
     let (one, other) = row.split_once(" | ").ok_or(Failure)?;
-    let one = built(alloc, source_of(alloc, one)?.as_slice(), 1);
-    let other = built(alloc, source_of(alloc, other)?.as_slice(), 1);
-    show_head(one.as_slice(), out)?;
-    writeln!(
-        out,
-        ", the same file: {}",
-        one.as_slice() == other.as_slice()
-    )?;
-    Ok(())
+    let one = built_row(alloc, one)?;
+    let other = built_row(alloc, other)?;
+    show_both(one.as_slice(), other.as_slice(), out)
 }
 
 fn compiled(alloc: Global, source: &str) -> Result<Compiled, Failure> {
@@ -78,11 +97,26 @@ fn compiled(alloc: Global, source: &str) -> Result<Compiled, Failure> {
     Ok(compile(alloc, source.as_slice(), Options { seed: 1 })?)
 }
 
+// Appends where the code of a line begins, or none.
+fn show_address(address: Option<u16>, out: &mut String) -> Result<(), Failure> {
+    match address {
+        Some(address) => writeln!(out, "{address:04X}")?,
+        None => writeln!(out, "none")?,
+    }
+    Ok(())
+}
+
 /// Appends where the code of a line begins.
 pub fn show_start(alloc: Global, row: &str, out: &mut String) -> Result<(), Failure> {
     let (line, source) = row.split_once(' ').ok_or(Failure)?;
-    match compiled(alloc, source)?.start_of(line.parse()?) {
-        Some(address) => writeln!(out, "{address:04X}")?,
+    let line = line.parse()?;
+    show_address(compiled(alloc, source)?.start_of(line), out)
+}
+
+// Appends the number of a line, or none.
+fn show_number(line: Option<u16>, out: &mut String) -> Result<(), Failure> {
+    match line {
+        Some(line) => writeln!(out, "{line}")?,
         None => writeln!(out, "none")?,
     }
     Ok(())
@@ -92,11 +126,7 @@ pub fn show_start(alloc: Global, row: &str, out: &mut String) -> Result<(), Fail
 pub fn show_line(alloc: Global, row: &str, out: &mut String) -> Result<(), Failure> {
     let (address, source) = row.split_once(' ').ok_or(Failure)?;
     let address = tb_driver::address(address).ok_or(Failure)?;
-    match compiled(alloc, source)?.line_at(address) {
-        Some(line) => writeln!(out, "{line}")?,
-        None => writeln!(out, "none")?,
-    }
-    Ok(())
+    show_number(compiled(alloc, source)?.line_at(address), out)
 }
 
 /// Appends the jumps to lines that aren't there.
@@ -105,49 +135,81 @@ pub fn show_warnings(alloc: Global, source: &str, out: &mut String) -> Result<()
     Ok(())
 }
 
-// The first lines of the largest program.
-fn cut(alloc: Global, last: u16) -> Result<Vec<u8>, Failure> {
-    let mut source = Vec::from_slice(alloc, b"1 PRINT \"\"\n")?;
-    append_lines(alloc, 2..=last, "END", &mut source)?;
-    Ok(source)
+// Appends the first lines of the largest program.
+fn append_cut(alloc: Global, last: u16, source: &mut Vec<u8>) -> Result<(), Failure> {
+    source.extend_from_slice(b"1 PRINT \"\"\n")?;
+    append_lines(alloc, 2..=last, "END", source)
+}
+
+// Why the first lines of the largest program do not compile, if they do not.
+fn refusal_of_cut(alloc: Global, last: u16) -> Result<Option<CompileError>, Failure> {
+    let mut source = Vec::new(alloc);
+    append_cut(alloc, last, &mut source)?;
+    Ok(compile(alloc, source.as_slice(), Options { seed: 1 }).err())
 }
 
 /// Appends the first of so many cuts of the largest program that does not compile. Where there is memory enough, want of
 /// it is no answer.
 pub fn show_cuts(alloc: Global, row: &str, out: &mut String) -> Result<(), Failure> {
     for last in 1..=row.parse()? {
-        if let Err(error) = compile(alloc, cut(alloc, last)?.as_slice(), Options { seed: 1 }) {
+        if let Some(error) = refusal_of_cut(alloc, last)? {
             writeln!(out, "the first {last} lines: {error:?}")?;
             return Ok(());
         }
     }
-    writeln!(out, "all compile")?;
-    Ok(())
+    Ok(writeln!(out, "all compile")?)
+}
+
+// A keyboard with these keys.
+fn keyboard_of(alloc: Global, keys: &str) -> Result<Keyboard, Failure> {
+    let text = key_list(alloc, keys)?;
+    let answers = Vec::new(alloc);
+    Ok(Keyboard { text, answers })
 }
 
 // How a source's run ends, and what it shows.
 fn ran<O: Outside>(
     alloc: Global,
     source: &str,
-    keys: &str,
+    keyboard: Keyboard,
     outside: &mut O,
-) -> Result<(Outcome, Vec<u8>), Failure> {
-    let keyboard = Keyboard {
-        text: key_list(alloc, keys)?,
-        answers: Vec::new(alloc),
-    };
-    let mut reader = Tracked::new(source.as_bytes());
+) -> (Outcome, Vec<u8>) {
     let mut screen = Tracked::new(Vec::new(alloc));
     let report = run_text(
         alloc,
-        &mut reader,
+        &mut Tracked::new(source.as_bytes()),
         &mut screen,
         1,
         keyboard,
         10_000_000,
         outside,
     );
-    Ok((report.outcome, screen.stream))
+    (report.outcome, screen.stream)
+}
+
+// How a source's run ends with these keys and what it shows, and how it does so beside a rude ROM.
+fn show_ran(
+    outcome: Outcome,
+    screen: &[u8],
+    rude: Outcome,
+    shown: &[u8],
+    out: &mut String,
+) -> Result<(), Failure> {
+    let is_same = screen == shown;
+    writeln!(
+        out,
+        "{outcome:?}, beside a rude ROM {rude:?}, the same text: {is_same}"
+    )?;
+    for byte in screen {
+        out.push(char::from(*byte))?;
+    }
+    Ok(())
+}
+
+fn show_runs(alloc: Global, source: &str, keys: &str, out: &mut String) -> Result<(), Failure> {
+    let (outcome, screen) = ran(alloc, source, keyboard_of(alloc, keys)?, &mut Quiet);
+    let (rude, shown) = ran(alloc, source, keyboard_of(alloc, keys)?, &mut Rude::new(1));
+    show_ran(outcome, screen.as_slice(), rude, shown.as_slice(), out)
 }
 
 /// Appends how a program in a file ends with the keys that are given behind its name, and what it shows.
@@ -159,15 +221,5 @@ pub fn show_run<R: Files + AllocGlobal>(
     let (name, keys) = row.split_once(' ').unwrap_or((row, ""));
     let path = format!(in rt.alloc(); "examples/{name}.bas")?;
     let source = fs::read_to_string(rt, path.as_str())?;
-    let (outcome, screen) = ran(rt.alloc(), source.as_str(), keys, &mut Quiet)?;
-    let (rude, shown) = ran(rt.alloc(), source.as_str(), keys, &mut Rude::new(1))?;
-    let is_same = screen.as_slice() == shown.as_slice();
-    writeln!(
-        out,
-        "{outcome:?}, beside a rude ROM {rude:?}, the same text: {is_same}"
-    )?;
-    for byte in screen.as_slice() {
-        out.push(char::from(*byte))?;
-    }
-    Ok(())
+    show_runs(rt.alloc(), source.as_str(), keys, out)
 }

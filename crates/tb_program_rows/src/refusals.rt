@@ -37,19 +37,19 @@ pub fn show_compile(alloc: Global, row: &str, out: &mut String) -> Result<(), Fa
     show_answer(alloc, source_of(alloc, row)?.as_slice(), out)
 }
 
-/// Appends what the compiler and the two engines answer.
-pub fn show_refused(alloc: Global, row: &str, out: &mut String) -> Result<(), Failure> {
-    let source = source_of(alloc, row)?;
-    show_answer(alloc, source.as_slice(), out)?;
-    let mut reader = Tracked::new(source.as_slice());
+// Appends how `build` ends.
+fn show_built(alloc: Global, source: &[u8], out: &mut String) -> Result<(), Failure> {
     let mut file = Tracked::new(Vec::new(alloc));
-    let built = build(alloc, &mut reader, &mut file, 1);
-    show_report("build", &built, file.stream.len(), out)?;
-    let mut reader = Tracked::new(source.as_slice());
+    let built = build(alloc, &mut Tracked::new(source), &mut file, 1);
+    show_report("build", &built, file.stream.len(), out)
+}
+
+// Appends how `run_text` ends.
+fn show_ran(alloc: Global, source: &[u8], out: &mut String) -> Result<(), Failure> {
     let mut screen = Tracked::new(Vec::new(alloc));
     let ran = run_text(
         alloc,
-        &mut reader,
+        &mut Tracked::new(source),
         &mut screen,
         1,
         no_keys(alloc),
@@ -57,4 +57,15 @@ pub fn show_refused(alloc: Global, row: &str, out: &mut String) -> Result<(), Fa
         &mut Quiet,
     );
     show_report("run", &ran, screen.stream.len(), out)
+}
+
+fn show_all(alloc: Global, source: &[u8], out: &mut String) -> Result<(), Failure> {
+    show_answer(alloc, source, out)?;
+    show_built(alloc, source, out)?;
+    show_ran(alloc, source, out)
+}
+
+/// Appends what the compiler and the two engines answer.
+pub fn show_refused(alloc: Global, row: &str, out: &mut String) -> Result<(), Failure> {
+    show_all(alloc, source_of(alloc, row)?.as_slice(), out)
 }

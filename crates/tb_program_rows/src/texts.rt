@@ -58,23 +58,27 @@ pub fn append_lines(
     Ok(())
 }
 
+// Appends a part of a source.
+fn append_part(alloc: Global, part: &str, source: &mut Vec<u8>) -> Result<(), Failure> {
+    let Some(lines) = part.strip_prefix("lines ") else {
+        return append(part, source);
+    };
+    let (first, rest) = lines.split_once(' ').ok_or(Failure)?;
+    let (last, statement) = rest.split_once(' ').ok_or(Failure)?;
+    append_lines(alloc, first.parse()?..=last.parse()?, statement, source)
+}
+
+fn append_parts(alloc: Global, row: &str, source: &mut Vec<u8>) -> Result<(), Failure> {
+    for part in row.split(" & ") {
+        append_part(alloc, part, source)?;
+    }
+    Ok(())
+}
+
 /// The source that is written so.
 pub fn source_of(alloc: Global, row: &str) -> Result<Vec<u8>, Failure> {
     let mut source = Vec::new(alloc);
-    for part in row.split(" & ") {
-        if let Some(lines) = part.strip_prefix("lines ") {
-            let (first, rest) = lines.split_once(' ').ok_or(Failure)?;
-            let (last, statement) = rest.split_once(' ').ok_or(Failure)?;
-            append_lines(
-                alloc,
-                first.parse()?..=last.parse()?,
-                statement,
-                &mut source,
-            )?;
-        } else {
-            append(part, &mut source)?;
-        }
-    }
+    append_parts(alloc, row, &mut source)?;
     Ok(source)
 }
 

@@ -20,16 +20,44 @@ fn run_length(machine: &mut Machine) -> Result<u64, NoMemory> {
 }
 
 impl Row<'_> {
+    // How many events the program takes beside a quiet ROM.
+    fn length(&self, alloc: Global, program: &Compiled) -> Result<u64, Fail> {
+        let mut machine = self.machine(alloc, program, &CLEAN)?;
+        Ok(run_length(&mut machine)?)
+    }
+
     // Whether the machine ends and sends as it should, where the interrupt comes before an event.
     fn is_done_past(&self, alloc: Global, program: &Compiled, event: u64) -> Result<bool, Fail> {
         let mut machine = self.machine(alloc, program, &CLEAN)?;
-        run(&mut machine, &mut Quiet, event)?;
-        machine.reserve(1)?;
-        let writes = everywhere(machine.regs().s, 0xff);
-        machine.event(Event::Interrupt(writes))?;
-        run(&mut machine, &mut Quiet, LIMIT)?;
+        run_past(&mut machine, event)?;
         self.is_done_by(alloc, &machine)
     }
+
+    // The first event of a program before which the interrupt changes something.
+    fn first_changed(&self, alloc: Global, program: &Compiled) -> Result<Option<u64>, Fail> {
+        for event in 0..self.length(alloc, program)? {
+            if !self.is_done_past(alloc, program, event)? {
+                return Ok(Some(event));
+            }
+        }
+        Ok(None)
+    }
+
+    // The first event before which the interrupt changes something.
+    fn first_change(&self, alloc: Global) -> Result<Option<u64>, Fail> {
+        let program = self.compiled(alloc)?;
+        self.first_changed(alloc, &program)
+    }
+}
+
+// Runs a machine with the interrupt before an event.
+fn run_past(machine: &mut Machine, event: u64) -> Result<(), Fail> {
+    run(machine, &mut Quiet, event)?;
+    machine.reserve(1)?;
+    let writes = everywhere(machine.regs().s, 0xff);
+    machine.event(Event::Interrupt(writes))?;
+    run(machine, &mut Quiet, LIMIT)?;
+    Ok(())
 }
 
 // What goes wrong, and what is typed.
@@ -39,15 +67,12 @@ fn an_interrupt_changes_nothing(rt: HostRuntime) -> Result<(), Fail> {
         if row.keys.is_empty() && !row.shown.contains(&b'!') {
             continue;
         }
-        let program = row.compiled(rt.alloc())?;
-        let length = run_length(&mut row.machine(rt.alloc(), &program, &CLEAN)?)?;
-        for event in 0..length {
-            assert!(rt;
-                row.is_done_past(rt.alloc(), &program, event)?,
-                "{:?}, interrupt before event {event}",
-                row.source
-            );
-        }
+        let change = row.first_change(rt.alloc())?;
+        assert!(rt;
+            change.is_none(),
+            "{:?}, interrupt before event {change:?}",
+            row.source
+        );
     }
     Ok(())
 }

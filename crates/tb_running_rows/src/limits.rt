@@ -1,52 +1,95 @@
 //! Endless programs, and where a run's PC is.
-use crate::machines::{CLEAN, LIMIT};
+use crate::machines::{CLEAN, LIMIT, Ran};
 use crate::rows::{PLAIN, Row};
+use std::alloc::Global;
 use std::test::Fail;
+use tb_codegen::Compiled;
 use tb_kernal::{Machine, Quiet, Rude, Status, run};
 use tb_memmap::NoMemory;
 use tb_runtime16::{Routine, entry};
 
+const ONES: Row<'static> = Row {
+    source: b"10 PRINT 1\n20 GOTO 10",
+    ..PLAIN
+};
+
+const LETTERS: Row<'static> = Row {
+    source: b"10 PRINT \"A\";\n20 GOTO 10",
+    ..PLAIN
+};
+
+fn is_cut_off(ran: &Ran) -> bool {
+    ran.status == 5 && ran.said.as_bytes() == b"tbc: step limit\n".as_slice()
+}
+
+// Whether a run was cut off and shows what was shown before, or more. Notes what it shows.
+fn goes_on(ran: &Ran, shown: &mut Vec<u8>) -> Result<bool, Fail> {
+    let is_longer = is_cut_off(ran) && ran.shown.starts_with(shown.as_slice());
+    shown.clear();
+    shown.extend_from_slice(&ran.shown)?;
+    Ok(is_longer)
+}
+
+// Whether the endless ones go on so up to a limit.
+fn go_on(alloc: Global, limit: u64, shown: &mut Vec<u8>) -> Result<bool, Fail> {
+    let ran = ONES.run_by_engine(alloc, limit, &mut Quiet)?;
+    goes_on(&ran, shown)
+}
+
+// The first limit up to which they do not. Notes what they show last.
+fn first_wrong_limit(alloc: Global, shown: &mut Vec<u8>) -> Result<Option<u64>, Fail> {
+    for limit in 1..=5000 {
+        if !go_on(alloc, limit, shown)? {
+            return Ok(Some(limit));
+        }
+    }
+    Ok(None)
+}
+
 #[test]
 fn each_limit_shows_a_prefix_of_the_next(rt: HostRuntime) -> Result<(), Fail> {
-    let ones = Row {
-        source: b"10 PRINT 1\n20 GOTO 10",
-        ..PLAIN
-    };
     let mut shown = Vec::new(rt.alloc());
-    for limit in 1..=5000 {
-        let ran = ones.run_by_engine(rt.alloc(), limit, &mut Quiet)?;
-        assert_eq!(rt;
-            (ran.status, ran.said.as_bytes()),
-            (5, b"tbc: step limit\n".as_slice())
-        );
-        assert!(rt; ran.shown.starts_with(shown.as_slice()));
-        shown = ran.shown;
-    }
+    assert_eq!(rt; first_wrong_limit(rt.alloc(), &mut shown)?, None);
     assert!(rt; shown.starts_with(b"1\n1\n1\n1\n1\n"));
     Ok(())
 }
 
+fn are_letters(text: &[u8]) -> bool {
+    !text.is_empty() && text.iter().all(|byte| *byte == b'A')
+}
+
+// Whether the endless letters are shown until the engine cuts them off.
+fn shows_letters(alloc: Global) -> Result<bool, Fail> {
+    let ran = LETTERS.run_by_engine(alloc, 10_000, &mut Quiet)?;
+    Ok(is_cut_off(&ran) && are_letters(&ran.shown))
+}
+
+// Whether a machine sends them beside a rude ROM, and still runs.
+fn sends_on(machine: &mut Machine, seed: u16) -> Result<bool, Fail> {
+    let status = run(machine, &mut Rude::new(seed), 10_000)?;
+    Ok(status == Status::Running && are_letters(machine.sent()))
+}
+
+fn sends_letters(alloc: Global, program: &Compiled, seed: u16) -> Result<bool, Fail> {
+    let mut machine = LETTERS.machine(alloc, program, &CLEAN)?;
+    sends_on(&mut machine, seed)
+}
+
+// The first seed of a rude ROM beside which the program does not send letters.
+fn first_wrong_seed(alloc: Global, program: &Compiled) -> Result<Option<u16>, Fail> {
+    for seed in 0..256 {
+        if !sends_letters(alloc, program, seed)? {
+            return Ok(Some(seed));
+        }
+    }
+    Ok(None)
+}
+
 #[test]
 fn an_endless_program_is_cut_off(rt: HostRuntime) -> Result<(), Fail> {
-    let row = Row {
-        source: b"10 PRINT \"A\";\n20 GOTO 10",
-        ..PLAIN
-    };
-    let quiet = row.run_by_engine(rt.alloc(), 10_000, &mut Quiet)?;
-    assert_eq!(rt;
-        (quiet.status, quiet.said.as_bytes()),
-        (5, b"tbc: step limit\n".as_slice())
-    );
-    assert!(rt; !quiet.shown.is_empty() && quiet.shown.iter().all(|byte| *byte == b'A'));
-    let program = row.compiled(rt.alloc())?;
-    for seed in 0..256 {
-        let mut machine = row.machine(rt.alloc(), &program, &CLEAN)?;
-        assert_eq!(rt;
-            run(&mut machine, &mut Rude::new(seed), 10_000)?,
-            Status::Running
-        );
-        assert!(rt; !machine.sent().is_empty() && machine.sent().iter().all(|byte| *byte == b'A'));
-    }
+    assert!(rt; shows_letters(rt.alloc())?);
+    let program = LETTERS.compiled(rt.alloc())?;
+    assert_eq!(rt; first_wrong_seed(rt.alloc(), &program)?, None);
     Ok(())
 }
 
@@ -63,6 +106,18 @@ fn passes(machine: &mut Machine, place: u16) -> Result<bool, NoMemory> {
     Ok(false)
 }
 
+// Whether a program searches the table of lines.
+fn program_searches(alloc: Global, row: &Row<'_>, program: &Compiled) -> Result<bool, Fail> {
+    let mut machine = row.machine(alloc, program, &CLEAN)?;
+    Ok(passes(&mut machine, entry(Routine::Search))?)
+}
+
+// Whether a source's program does.
+fn row_searches(alloc: Global, row: &Row<'_>) -> Result<bool, Fail> {
+    let program = row.compiled(alloc)?;
+    program_searches(alloc, row, &program)
+}
+
 // A jump to a number is direct; one to a variable searches the table.
 #[test]
 fn a_direct_jump_searches_for_nothing(rt: HostRuntime) -> Result<(), Fail> {
@@ -71,11 +126,9 @@ fn a_direct_jump_searches_for_nothing(rt: HostRuntime) -> Result<(), Fail> {
         (b"10 GOTO 5*4\n20 END", false),
         (b"10 A=20\n15 GOTO A\n20 END", true),
     ];
-    for (source, searches) in sources {
+    for &(source, searches) in &sources {
         let row = Row { source, ..PLAIN };
-        let program = row.compiled(rt.alloc())?;
-        let mut machine = row.machine(rt.alloc(), &program, &CLEAN)?;
-        assert_eq!(rt; passes(&mut machine, entry(Routine::Search))?, searches);
+        assert_eq!(rt; row_searches(rt.alloc(), &row)?, searches);
     }
     Ok(())
 }

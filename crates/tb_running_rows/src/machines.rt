@@ -48,12 +48,62 @@ pub struct Ran {
     pub said: String,
 }
 
+// Fills all open places but the program's with a byte. A new memory has 0 there.
+fn set_all(alloc: Global, memory: &mut Memory, byte: u8) -> Result<(), Fail> {
+    if byte != 0 {
+        memory.load(0xc000, &[byte; 0x1000])?;
+        let bytes = Vec::from_elem(alloc, byte, 0x9ffe)?;
+        memory.load(0x0002, bytes.as_slice())?;
+    }
+    Ok(())
+}
+
+impl Start {
+    // Loads a program, and the return to the ROM.
+    fn load(&self, memory: &mut Memory, program: &Compiled) -> Result<(), Fail> {
+        let file = tb_prg::read(program.prg())?;
+        memory.load(file.at, file.bytes)?;
+        memory.load(0x0101 + u16::from(self.regs.s), &[0xff, 0xa0])?;
+        Ok(())
+    }
+
+    fn memory(&self, alloc: Global, program: &Compiled) -> Result<Memory, Fail> {
+        let mut memory = Memory::new(alloc)?;
+        set_all(alloc, &mut memory, self.byte)?;
+        self.load(&mut memory, program)?;
+        Ok(memory)
+    }
+}
+
 impl Row<'_> {
     fn keyboard(&self, alloc: Global) -> Result<Keyboard, Fail> {
         Ok(Keyboard {
             text: Vec::from_slice(alloc, self.keys)?,
             answers: Vec::from_slice(alloc, self.answers)?,
         })
+    }
+
+    // Runs the source by the engine on a screen: the status, and the text on standard error.
+    fn run_on<O: Outside>(
+        &self,
+        alloc: Global,
+        screen: &mut Tracked<Vec<u8>>,
+        limit: u64,
+        outside: &mut O,
+    ) -> Result<(u8, String), Fail> {
+        let keyboard = self.keyboard(alloc)?;
+        let mut source = Tracked::new(self.source);
+        let report = run_text(
+            alloc,
+            &mut source,
+            screen,
+            self.seed,
+            keyboard,
+            limit,
+            outside,
+        );
+        let said = format!(in alloc; "{report}")?;
+        Ok((report.status(), said))
     }
 
     /// Runs the source by the engine.
@@ -63,21 +113,12 @@ impl Row<'_> {
         limit: u64,
         outside: &mut O,
     ) -> Result<Ran, Fail> {
-        let mut source = Tracked::new(self.source);
         let mut screen = Tracked::new(Vec::new(alloc));
-        let report = run_text(
-            alloc,
-            &mut source,
-            &mut screen,
-            self.seed,
-            self.keyboard(alloc)?,
-            limit,
-            outside,
-        );
+        let (status, said) = self.run_on(alloc, &mut screen, limit, outside)?;
         Ok(Ran {
-            status: report.status(),
+            status,
             shown: screen.stream,
-            said: format!(in alloc; "{report}")?,
+            said,
         })
     }
 
@@ -93,17 +134,10 @@ impl Row<'_> {
         program: &Compiled,
         start: &Start,
     ) -> Result<Machine, Fail> {
-        let file = tb_prg::read(program.prg())?;
-        let mut memory = Memory::new(alloc)?;
-        if start.byte != 0 {
-            let bytes = Vec::from_elem(alloc, start.byte, 0x9ffe)?;
-            memory.load(0x0002, bytes.as_slice())?;
-            memory.load(0xc000, &[start.byte; 0x1000])?;
-        }
-        memory.load(file.at, file.bytes)?;
-        memory.load(0x0101 + u16::from(start.regs.s), &[0xff, 0xa0])?;
+        let keyboard = self.keyboard(alloc)?;
+        let memory = start.memory(alloc, program)?;
         Ok(
-            Machine::enter(alloc, memory, start.regs, self.keyboard(alloc)?)
+            Machine::enter(alloc, memory, start.regs, keyboard)
                 .ok()
                 .ok_or("no machine")?,
         )

@@ -289,6 +289,27 @@ pub fn rows(alloc: Global, long: &LongSources) -> Result<Vec<Row<'_>>, Fail> {
     Ok(rows)
 }
 
+fn append_end(alloc: Global, source: &mut Vec<u8>, line: u16) -> Result<(), Fail> {
+    let text = format!(in alloc; "{line} END\n")?;
+    Ok(source.extend_from_slice(text.as_bytes())?)
+}
+
+fn append_search(alloc: Global, source: &mut Vec<u8>) -> Result<(), Fail> {
+    source.extend_from_slice(b"10 INPUT A\n20 GOTO A\n")?;
+    for line in (30..3000u16).step_by(10) {
+        append_end(alloc, source, line)?;
+    }
+    Ok(source.extend_from_slice(b"3000 PRINT \"Z\"")?)
+}
+
+fn append_largest(alloc: Global, source: &mut Vec<u8>) -> Result<(), Fail> {
+    source.extend_from_slice(b"1 PRINT \"\"\n")?;
+    for line in 2..1051u16 {
+        append_end(alloc, source, line)?;
+    }
+    Ok(())
+}
+
 /// Sources that are too long to be written out.
 #[derive(Drop)]
 pub struct LongSources {
@@ -300,15 +321,10 @@ pub struct LongSources {
 
 impl LongSources {
     pub fn new(alloc: Global) -> Result<LongSources, Fail> {
-        let mut search = Vec::from_slice(alloc, b"10 INPUT A\n20 GOTO A\n")?;
-        for ten in 3..300u16 {
-            search.extend_from_slice(format!(in alloc; "{ten}0 END\n")?.as_bytes())?;
-        }
-        search.extend_from_slice(b"3000 PRINT \"Z\"")?;
-        let mut largest = Vec::from_slice(alloc, b"1 PRINT \"\"\n")?;
-        for line in 2..1051u16 {
-            largest.extend_from_slice(format!(in alloc; "{line} END\n")?.as_bytes())?;
-        }
+        let mut search = Vec::new(alloc);
+        append_search(alloc, &mut search)?;
+        let mut largest = Vec::new(alloc);
+        append_largest(alloc, &mut largest)?;
         Ok(LongSources { search, largest })
     }
 

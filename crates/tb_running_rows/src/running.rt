@@ -6,7 +6,7 @@ use std::alloc::Global;
 use std::test::Fail;
 use tb_codegen::Compiled;
 use tb_cpu::{Flags, Regs};
-use tb_kernal::{Outside, Quiet, Rude, run};
+use tb_kernal::{Machine, Outside, Quiet, Rude, run};
 
 impl Row<'_> {
     // Whether the engine shows and says what it should.
@@ -19,6 +19,17 @@ impl Row<'_> {
         )
     }
 
+    // Whether a machine that is run ends and sends as it should.
+    fn is_done_on<O: Outside>(
+        &self,
+        alloc: Global,
+        machine: &mut Machine,
+        outside: &mut O,
+    ) -> Result<bool, Fail> {
+        run(machine, outside, LIMIT)?;
+        self.is_done_by(alloc, machine)
+    }
+
     // Whether the machine ends and sends as it should.
     fn is_done_beside<O: Outside>(
         &self,
@@ -28,9 +39,9 @@ impl Row<'_> {
         outside: &mut O,
     ) -> Result<bool, Fail> {
         let mut machine = self.machine(alloc, program, start)?;
-        run(&mut machine, outside, LIMIT)?;
-        self.is_done_by(alloc, &machine)
+        self.is_done_on(alloc, &mut machine, outside)
     }
+
     // Whether it does so beside a quiet ROM and a rude one.
     fn is_shown(&self, alloc: Global) -> Result<bool, Fail> {
         Ok(
@@ -42,29 +53,41 @@ impl Row<'_> {
     // Whether hostile ROMs change nothing.
     fn is_done_beside_hostile(&self, alloc: Global) -> Result<bool, Fail> {
         let program = self.compiled(alloc)?;
+        self.is_program_done_beside_hostile(alloc, &program)
+    }
+
+    fn is_program_done_beside_hostile(
+        &self,
+        alloc: Global,
+        program: &Compiled,
+    ) -> Result<bool, Fail> {
         for seed in 0..256 {
-            if !self.is_done_beside(alloc, &program, &CLEAN, &mut Rude::new(seed))? {
+            if !self.is_done_beside(alloc, program, &CLEAN, &mut Rude::new(seed))? {
                 return Ok(false);
             }
         }
         Ok(
-            self.is_done_beside(alloc, &program, &CLEAN, &mut Contrary::new())?
-                && self.is_done_beside(alloc, &program, &CLEAN, &mut Sweeping::new())?,
+            self.is_done_beside(alloc, program, &CLEAN, &mut Contrary::new())?
+                && self.is_done_beside(alloc, program, &CLEAN, &mut Sweeping::new())?,
         )
     }
 
     // Whether wild starts change nothing.
     fn is_done_from_wild(&self, alloc: Global) -> Result<bool, Fail> {
         let program = self.compiled(alloc)?;
-        for (byte, s, flag) in [
+        self.is_program_done_from_wild(alloc, &program)
+    }
+
+    fn is_program_done_from_wild(&self, alloc: Global, program: &Compiled) -> Result<bool, Fail> {
+        for &(byte, s, flag) in &[
             (0xff, 0x60, true),
             (0x01, 0xfd, true),
             (0x55, 0x80, false),
             (0x99, 0xf0, true),
         ] {
             let start = wild_start(byte, s, flag);
-            if !self.is_done_beside(alloc, &program, &start, &mut Quiet)?
-                || !self.is_done_beside(alloc, &program, &start, &mut Contrary::new())?
+            if !self.is_done_beside(alloc, program, &start, &mut Quiet)?
+                || !self.is_done_beside(alloc, program, &start, &mut Contrary::new())?
             {
                 return Ok(false);
             }
@@ -94,29 +117,56 @@ fn wild_start(byte: u8, s: u8, flag: bool) -> Start {
     Start { byte, regs }
 }
 
+// The source of the first row that the engine does not show so.
+fn first_not_shown<'a>(alloc: Global, rows: &[Row<'a>]) -> Result<Option<&'a [u8]>, Fail> {
+    for row in rows {
+        if !row.is_shown(alloc)? {
+            return Ok(Some(row.source));
+        }
+    }
+    Ok(None)
+}
+
 #[test]
 fn programs_end(rt: HostRuntime) -> Result<(), Fail> {
     let long = LongSources::new(rt.alloc())?;
-    for row in &rows(rt.alloc(), &long)? {
-        assert!(rt; row.is_shown(rt.alloc())?, "{:?}", row.source);
-    }
+    let rows = rows(rt.alloc(), &long)?;
+    assert_eq!(rt; first_not_shown(rt.alloc(), &rows)?, None);
     Ok(())
+}
+
+// The source of the first row that hostile ROMs change.
+fn first_changed_by_hostile<'a>(alloc: Global, rows: &[Row<'a>]) -> Result<Option<&'a [u8]>, Fail> {
+    for row in rows {
+        if !row.is_done_beside_hostile(alloc)? {
+            return Ok(Some(row.source));
+        }
+    }
+    Ok(None)
 }
 
 #[test]
 fn a_hostile_rom_changes_nothing(rt: HostRuntime) -> Result<(), Fail> {
     let long = LongSources::new(rt.alloc())?;
-    for row in &rows(rt.alloc(), &long)? {
-        assert!(rt; row.is_done_beside_hostile(rt.alloc())?, "{:?}", row.source);
-    }
+    let rows = rows(rt.alloc(), &long)?;
+    assert_eq!(rt; first_changed_by_hostile(rt.alloc(), &rows)?, None);
     Ok(())
+}
+
+// The source of the first row that wild starts change.
+fn first_changed_by_wild<'a>(alloc: Global, rows: &[Row<'a>]) -> Result<Option<&'a [u8]>, Fail> {
+    for row in rows {
+        if !row.is_done_from_wild(alloc)? {
+            return Ok(Some(row.source));
+        }
+    }
+    Ok(None)
 }
 
 #[test]
 fn a_wild_start_changes_nothing(rt: HostRuntime) -> Result<(), Fail> {
     let long = LongSources::new(rt.alloc())?;
-    for row in &rows(rt.alloc(), &long)? {
-        assert!(rt; row.is_done_from_wild(rt.alloc())?, "{:?}", row.source);
-    }
+    let rows = rows(rt.alloc(), &long)?;
+    assert_eq!(rt; first_changed_by_wild(rt.alloc(), &rows)?, None);
     Ok(())
 }

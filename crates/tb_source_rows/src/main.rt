@@ -73,10 +73,18 @@ fn show_files<R: Files + AllocGlobal>(rt: &R, out: &mut String) -> Result<(), Fa
         if !out.is_empty() {
             out.push('\n')?;
         }
-        let rows = fs::read_to_string(rt, path).or(Err(Failure::Unread(path)))?;
-        show_rows(rt.alloc(), out, rows.as_str())?;
+        show_file(rt, out, path)?;
     }
     Ok(())
+}
+
+fn show_file<R: Files + AllocGlobal>(
+    rt: &R,
+    out: &mut String,
+    path: &'static str,
+) -> Result<(), Failure> {
+    let rows = fs::read_to_string(rt, path).or(Err(Failure::Unread(path)))?;
+    show_rows(rt.alloc(), out, rows.as_str())
 }
 
 fn main(rt: HostRuntime) -> ExitCode {

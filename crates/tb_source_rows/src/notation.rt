@@ -5,16 +5,21 @@ use std::alloc::Global;
 /// The bytes that a text stands for.
 pub fn decoded(alloc: Global, text: &str) -> Result<Vec<u8>, Failure> {
     let mut bytes = Vec::new(alloc);
+    push_decoded(&mut bytes, text)?;
+    Ok(bytes)
+}
+
+fn push_decoded(bytes: &mut Vec<u8>, text: &str) -> Result<(), Failure> {
     let mut pieces = text.split('{');
     if let Some(first) = pieces.next() {
-        push_plain(&mut bytes, first)?;
+        push_plain(bytes, first)?;
     }
     for piece in pieces {
         let (repeated, rest) = piece.split_once('}').ok_or(Failure::Notation)?;
-        push_repeated(&mut bytes, repeated)?;
-        push_plain(&mut bytes, rest)?;
+        push_repeated(bytes, repeated)?;
+        push_plain(bytes, rest)?;
     }
-    Ok(bytes)
+    Ok(())
 }
 
 // What stands between braces.

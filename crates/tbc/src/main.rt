@@ -31,7 +31,7 @@ fn job_of_words<R: Env + AllocGlobal>(rt: &R) -> Result<Job, Failure> {
 
 fn start<R: Files + Env + Print + Input + AllocGlobal>(rt: &R) -> Result<Report, Failure> {
     let job = job_of_words(rt)?;
-    tasks::perform(rt, job)
+    tasks::perform(rt, &job)
 }
 
 fn main(rt: HostRuntime) -> ExitCode {

@@ -13,11 +13,11 @@ use tb_kernal::{Keyboard, Outside, Quiet, Rude};
 /// Does what the words ask for.
 pub fn perform<R: Files + Print + Input + AllocGlobal>(
     rt: &R,
-    job: Job,
+    job: &Job,
 ) -> Result<Report, Failure> {
     match job {
         Job::Build { source, out, seed } => {
-            Ok(build_file(rt, source.as_str(), out.as_str(), seed))
+            Ok(build_file(rt, source.as_str(), out.as_str(), *seed))
         }
         Job::Run {
             what,
@@ -29,10 +29,7 @@ pub fn perform<R: Files + Print + Input + AllocGlobal>(
         } => {
             let keyboard = keyboard(rt.alloc(), keys.as_str(), answers.as_str())?;
             let limit = u64::from(limit.events);
-            Ok(match rude {
-                Some(rude) => run_file(rt, &what, seed, keyboard, limit, &mut Rude::new(rude)),
-                None => run_file(rt, &what, seed, keyboard, limit, &mut Quiet),
-            })
+            Ok(run_beside(rt, what, *seed, keyboard, limit, *rude))
         }
         Job::Asm { text, out, at } => match address(at.as_str()) {
             Some(at) => Ok(plain(rt, assemble_file(rt, text.as_str(), out.as_str(), at))),
@@ -49,8 +46,23 @@ pub fn perform<R: Files + Print + Input + AllocGlobal>(
         } => {
             let keyboard = keyboard(rt.alloc(), keys.as_str(), answers.as_str())?;
             let limit = u64::from(limit.events);
-            Ok(step_file(rt, source.as_str(), seed, keyboard, limit))
+            Ok(step_file(rt, source.as_str(), *seed, keyboard, limit))
         }
+    }
+}
+
+// A run beside a rude ROM, where one is asked for.
+fn run_beside<R: Files + Print + AllocGlobal>(
+    rt: &R,
+    what: &Runnable,
+    seed: u16,
+    keyboard: Keyboard,
+    limit: u64,
+    rude: Option<u16>,
+) -> Report {
+    match rude {
+        Some(rude) => run_file(rt, what, seed, keyboard, limit, &mut Rude::new(rude)),
+        None => run_file(rt, what, seed, keyboard, limit, &mut Quiet),
     }
 }
 

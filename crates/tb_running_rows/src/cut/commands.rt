@@ -1,5 +1,5 @@
 //! Commands of the stepper from readers that fail, commands that are cut off behind each byte, and the longest ones.
-use crate::cut::engines::step;
+use crate::cut::engines::{has_said, step};
 use std::alloc::{AllocError, Global};
 use std::test::Fail;
 use tb_driver::{Outcome, Tracked};
@@ -11,7 +11,7 @@ const SOURCE: &[u8] = b"10 A=5\n20 END\n";
 type Row = (&'static [u8], &'static [&'static [u8]]);
 
 /// Commands in their order. What stands behind `q` has no answer.
-const ROWS: [Row; 11] = [
+static ROWS: [Row; 11] = [
     (b"s", &[b"080E A=00 X=00 Y=00 S=F0 P=30 - running\n"]),
     (b"b", &[b"080D A=00 X=00 Y=00 S=F0 P=30 - running\n"]),
     (b"b", &[b"nothing back\n"]),
@@ -42,6 +42,11 @@ const ROWS: [Row; 11] = [
     (b"s", &[b""]),
 ];
 
+// The table is named here alone: each function that names it is dear to prove.
+fn rows() -> &'static [Row] {
+    &ROWS
+}
+
 // Whether the stepper answers commands by a text, and all is done.
 fn answers(alloc: Global, commands: &[u8], text: &[u8]) -> Result<bool, AllocError> {
     let mut out = Tracked::new(Vec::new(alloc));
@@ -54,51 +59,126 @@ fn answers(alloc: Global, commands: &[u8], text: &[u8]) -> Result<bool, AllocErr
     Ok(report.status() == 0 && out.stream.as_slice() == text)
 }
 
+// Whether the commands are answered, also with one more behind them that is cut off behind each of its bytes. Leaves
+// it there whole, and in the text what they answer.
+fn answers_one_more(
+    alloc: Global,
+    row: &Row,
+    commands: &mut Vec<u8>,
+    text: &mut Vec<u8>,
+) -> Result<bool, Fail> {
+    let (command, prefixes) = row;
+    let behind = text.len();
+    if !answers(alloc, commands, text)? {
+        return Ok(false);
+    }
+    for (byte, answer) in command.iter().zip(*prefixes) {
+        commands.push(*byte)?;
+        text.truncate(behind);
+        text.extend_from_slice(answer)?;
+        if !answers(alloc, commands, text)? {
+            return Ok(false);
+        }
+    }
+    commands.push(b'\n')?;
+    Ok(true)
+}
+
+// Whether each prefix of all commands is answered. Leaves the last one that was tried.
+fn answers_each(alloc: Global, commands: &mut Vec<u8>, text: &mut Vec<u8>) -> Result<bool, Fail> {
+    for row in rows() {
+        if !answers_one_more(alloc, row, commands, text)? {
+            return Ok(false);
+        }
+    }
+    Ok(answers(alloc, commands, text)?)
+}
+
 #[test]
 fn each_prefix_of_commands_is_answered(rt: HostRuntime) -> Result<(), Fail> {
     let mut commands = Vec::new(rt.alloc());
     let mut text = Vec::new(rt.alloc());
-    for (command, prefixes) in ROWS {
-        let behind = text.len();
-        assert!(rt; answers(rt.alloc(), &commands, &text)?, "{commands:?}");
-        for (byte, answer) in command.iter().zip(prefixes) {
-            commands.push(*byte)?;
-            text.truncate(behind);
-            text.extend_from_slice(answer)?;
-            assert!(rt; answers(rt.alloc(), &commands, &text)?, "{commands:?}");
-        }
+    let holds = answers_each(rt.alloc(), &mut commands, &mut text)?;
+    assert!(rt; holds, "{commands:?}");
+    Ok(())
+}
+
+fn append_commands(commands: &mut Vec<u8>) -> Result<(), Fail> {
+    for (command, _) in rows() {
+        commands.extend_from_slice(command)?;
         commands.push(b'\n')?;
     }
-    assert!(rt; answers(rt.alloc(), &commands, &text)?);
     Ok(())
+}
+
+// Whether the stepper says so and answers nothing where the reader of commands fails.
+fn notices(
+    alloc: Global,
+    commands: &[u8],
+    until_fault: usize,
+    most: usize,
+) -> Result<bool, AllocError> {
+    let mut source = Tracked::new(SOURCE);
+    let mut reader = Tracked::new(FailingReader {
+        rest: commands,
+        until_fault,
+        most,
+    });
+    let mut out = Tracked::new(Vec::new(alloc));
+    let report = step(alloc, &mut source, &mut reader, &mut out)?;
+    Ok(
+        report.outcome == Outcome::ReadFault
+            && (report.status(), source.failures, reader.failures) == (3, 0, 1)
+            && out.stream.is_empty()
+            && report.warnings.is_empty(),
+    )
+}
+
+// The first length behind which it does not.
+fn first_unnoticed(alloc: Global, commands: &[u8]) -> Result<Option<usize>, Fail> {
+    for until_fault in 0..=commands.len() {
+        for &most in &[1, 7, 4096] {
+            if !notices(alloc, commands, until_fault, most)? {
+                return Ok(Some(until_fault));
+            }
+        }
+    }
+    Ok(None)
 }
 
 #[test]
 fn a_reader_of_commands_that_fails(rt: HostRuntime) -> Result<(), Fail> {
     let mut commands = Vec::new(rt.alloc());
-    for (command, _) in ROWS {
-        commands.extend_from_slice(command)?;
-        commands.push(b'\n')?;
-    }
-    for until_fault in 0..=commands.len() {
-        for most in [1, 7, 4096] {
-            let mut source = Tracked::new(SOURCE);
-            let mut reader = Tracked::new(FailingReader {
-                rest: commands.as_slice(),
-                until_fault,
-                most,
-            });
-            let mut out = Tracked::new(Vec::new(rt.alloc()));
-            let report = step(rt.alloc(), &mut source, &mut reader, &mut out)?;
-            assert_eq!(rt; report.outcome, Outcome::ReadFault, "after {until_fault}");
-            assert_eq!(rt;
-                (report.status(), source.failures, reader.failures),
-                (3, 0, 1)
-            );
-            assert!(rt; out.stream.is_empty() && report.warnings.is_empty());
-        }
-    }
+    append_commands(&mut commands)?;
+    assert_eq!(rt; first_unnoticed(rt.alloc(), &commands)?, None);
     Ok(())
+}
+
+// Whether the stepper, given these commands, ends so and answers so, and its reader has not failed.
+fn ends(
+    alloc: Global,
+    commands: &[u8],
+    status: u8,
+    said: &[u8],
+    answered: &[u8],
+) -> Result<bool, Fail> {
+    let mut commands = Tracked::new(commands);
+    let mut out = Tracked::new(Vec::new(alloc));
+    let report = step(alloc, &mut Tracked::new(SOURCE), &mut commands, &mut out)?;
+    let is_answered = out.stream.as_slice() == answered && commands.failures == 0;
+    Ok(has_said(alloc, &report, status, said)? && is_answered)
+}
+
+// Whether it does so at so many spaces.
+fn ends_at_spaces(
+    alloc: Global,
+    length: usize,
+    status: u8,
+    said: &[u8],
+    answered: &[u8],
+) -> Result<bool, Fail> {
+    let spaces = vec![in alloc; b' '; length]?;
+    ends(alloc, &spaces, status, said, answered)
 }
 
 #[test]
@@ -107,20 +187,9 @@ fn the_longest_commands(rt: HostRuntime) -> Result<(), Fail> {
         (1_048_576, 0, b"", b"what?\n"),
         (1_048_577, 3, b"tbc: read fault\n", b""),
     ];
-    for (length, status, said, answered) in rows {
-        let spaces = vec![in rt.alloc(); b' '; length]?;
-        let mut commands = Tracked::new(spaces.as_slice());
-        let mut out = Tracked::new(Vec::new(rt.alloc()));
-        let report = step(
-            rt.alloc(),
-            &mut Tracked::new(SOURCE),
-            &mut commands,
-            &mut out,
-        )?;
-        let text = format!(in rt.alloc(); "{report}")?;
-        assert_eq!(rt; (report.status(), text.as_bytes()), (status, said));
-        assert_eq!(rt; out.stream.as_slice(), answered);
-        assert_eq!(rt; commands.failures, 0);
+    for &(length, status, said, answered) in &rows {
+        let holds = ends_at_spaces(rt.alloc(), length, status, said, answered)?;
+        assert!(rt; holds, "{length}");
     }
     Ok(())
 }

@@ -1,6 +1,7 @@
 //! What the rows share: the engines that compile a source, called with one reader and one writer.
 use std::alloc::{AllocError, Global};
 use std::io::{Read, Write};
+use std::test::Fail;
 use tb_driver::{Report, Tracked, build, run_text, step_text};
 use tb_kernal::{Keyboard, Quiet};
 
@@ -71,4 +72,10 @@ pub fn answer_of(alloc: Global, engine: Engine, source: &[u8]) -> Result<Answer,
         report,
         written: out.stream,
     })
+}
+
+/// Whether a report has a status and says this.
+pub fn has_said(alloc: Global, report: &Report, status: u8, said: &[u8]) -> Result<bool, Fail> {
+    let text = format!(in alloc; "{report}")?;
+    Ok(report.status() == status && text.as_bytes() == said)
 }

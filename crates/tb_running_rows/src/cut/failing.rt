@@ -1,5 +1,6 @@
 //! Streams that fail after each number of bytes.
 use crate::cut::engines::{Engine, answer_of, call};
+use std::alloc::{AllocError, Global};
 use std::test::Fail;
 use tb_driver::{End, Outcome, Tracked};
 use tb_failing_streams::{FailingReader, FailingWriter};
@@ -14,55 +15,107 @@ const STEPPED: &[u8] = b"10 A=5\n20 END\n";
 const COMMANDS: &[u8] = b"s\nb\nb\ng 20\nv A\ne A*2-1\ne 1/0\nd\nx\nq\n";
 
 /// Engines, and the source of each.
-const ENGINES: [(Engine, &[u8]); 3] = [
+static ENGINES: [(Engine, &[u8]); 3] = [
     (Engine::Build, SOURCE),
     (Engine::Run(b"3, -4\r"), SOURCE),
     (Engine::Step(COMMANDS), STEPPED),
 ];
 
+// The table is named here alone: each function that names it is dear to prove.
+fn engines() -> &'static [(Engine, &'static [u8])] {
+    &ENGINES
+}
+
+// Whether an engine says so and writes nothing where its reader fails.
+fn notices_reader(
+    alloc: Global,
+    engine: Engine,
+    source: &[u8],
+    until_fault: usize,
+    most: usize,
+) -> Result<bool, AllocError> {
+    let mut reader = Tracked::new(FailingReader {
+        rest: source,
+        until_fault,
+        most,
+    });
+    let mut out = Tracked::new(Vec::new(alloc));
+    let report = call(alloc, engine, &mut reader, &mut out)?;
+    Ok(
+        report.outcome == Outcome::ReadFault
+            && (report.status(), reader.failures) == (3, 1)
+            && out.stream.is_empty()
+            && report.warnings.is_empty(),
+    )
+}
+
 #[test]
 fn a_reader_that_fails(rt: HostRuntime) -> Result<(), Fail> {
-    for (engine, source) in ENGINES {
+    for (engine, source) in engines() {
         for until_fault in 0..=source.len() {
-            for most in [1, 7, 4096] {
-                let mut reader = Tracked::new(FailingReader {
-                    rest: source,
-                    until_fault,
-                    most,
-                });
-                let mut out = Tracked::new(Vec::new(rt.alloc()));
-                let report = call(rt.alloc(), engine, &mut reader, &mut out)?;
-                assert_eq!(rt; report.outcome, Outcome::ReadFault, "after {until_fault}");
-                assert_eq!(rt; (report.status(), reader.failures), (3, 1));
-                assert!(rt; out.stream.is_empty() && report.warnings.is_empty());
+            for &most in &[1, 7, 4096] {
+                let holds = notices_reader(rt.alloc(), *engine, source, until_fault, most)?;
+                assert!(rt; holds, "after {until_fault}");
             }
         }
     }
     Ok(())
 }
 
-#[test]
-fn a_writer_that_fails(rt: HostRuntime) -> Result<(), Fail> {
-    for (engine, source) in ENGINES {
-        let whole = answer_of(rt.alloc(), engine, source)?.written;
-        for until_fault in 0..=whole.len() {
-            for most in [1, 100, 4096] {
-                let mut out = Tracked::new(FailingWriter {
-                    taken: Vec::new(rt.alloc()),
-                    until_fault,
-                    most,
-                });
-                let report = call(rt.alloc(), engine, &mut Tracked::new(source), &mut out)?;
-                let (outcome, status) = if until_fault < whole.len() {
-                    (Outcome::WriteFault, 3)
-                } else {
-                    (Outcome::Ended(End::Done), 0)
-                };
-                assert_eq!(rt; report.outcome, outcome, "after {until_fault}");
-                assert_eq!(rt; report.status(), status);
-                assert_eq!(rt; out.stream.taken.as_slice(), &whole[..until_fault]);
+// Whether an engine writes the beginning of the whole where its writer fails, and says so, or is done.
+fn notices_writer(
+    alloc: Global,
+    engine: Engine,
+    source: &[u8],
+    whole: &[u8],
+    until_fault: usize,
+    most: usize,
+) -> Result<bool, AllocError> {
+    let mut out = Tracked::new(FailingWriter {
+        taken: Vec::new(alloc),
+        until_fault,
+        most,
+    });
+    let report = call(alloc, engine, &mut Tracked::new(source), &mut out)?;
+    let (outcome, status) = if until_fault < whole.len() {
+        (Outcome::WriteFault, 3)
+    } else {
+        (Outcome::Ended(End::Done), 0)
+    };
+    Ok(
+        report.outcome == outcome
+            && report.status() == status
+            && whole.get(..until_fault) == Some(out.stream.taken.as_slice()),
+    )
+}
+
+// The first length of the whole behind which it does not.
+fn first_unnoticed_of(
+    alloc: Global,
+    engine: Engine,
+    source: &[u8],
+    whole: &[u8],
+) -> Result<Option<usize>, Fail> {
+    for until_fault in 0..=whole.len() {
+        for &most in &[1, 100, 4096] {
+            if !notices_writer(alloc, engine, source, whole, until_fault, most)? {
+                return Ok(Some(until_fault));
             }
         }
+    }
+    Ok(None)
+}
+
+// The first length of what an engine writes behind which it does not.
+fn first_unnoticed(alloc: Global, engine: Engine, source: &[u8]) -> Result<Option<usize>, Fail> {
+    let answer = answer_of(alloc, engine, source)?;
+    first_unnoticed_of(alloc, engine, source, &answer.written)
+}
+
+#[test]
+fn a_writer_that_fails(rt: HostRuntime) -> Result<(), Fail> {
+    for (engine, source) in engines() {
+        assert_eq!(rt; first_unnoticed(rt.alloc(), *engine, source)?, None);
     }
     Ok(())
 }

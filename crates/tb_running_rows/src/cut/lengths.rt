@@ -1,5 +1,5 @@
 //! Sources that are cut off behind each byte, and the longest source.
-use crate::cut::engines::{Engine, answer_of};
+use crate::cut::engines::{Engine, answer_of, has_said};
 use std::alloc::{AllocError, Global};
 use std::test::Fail;
 
@@ -28,13 +28,44 @@ const ASSIGNED: &[Line] = &[
     (b"50 END", b"000110"),
 ];
 
-/// Sources, what is typed, and the status of each run.
-const SOURCES: [(&[Line], &[u8], u8); 4] = [
+/// A source's lines, what is typed, and the status of the run.
+type Source = (&'static [Line], &'static [u8], u8);
+
+static SOURCES: [Source; 4] = [
     (PRINTED, b"", 0),
     (TYPED, b"", 6),
     (TYPED, b"3, -4\r", 0),
     (ASSIGNED, b"", 0),
 ];
+
+// The table is named here alone: each function that names it is dear to prove.
+fn sources() -> &'static [Source] {
+    &SOURCES
+}
+
+// Whether an engine refuses a source and writes nothing.
+fn refuses(alloc: Global, engine: Engine, source: &[u8]) -> Result<bool, AllocError> {
+    let answer = answer_of(alloc, engine, source)?;
+    Ok(answer.report.status() == 1 && answer.written.is_empty())
+}
+
+// Whether `build` writes a file.
+fn builds(alloc: Global, source: &[u8]) -> Result<bool, AllocError> {
+    let answer = answer_of(alloc, Engine::Build, source)?;
+    Ok(answer.report.status() == 0 && !answer.written.is_empty())
+}
+
+// Whether a run has a status.
+fn runs(alloc: Global, source: &[u8], keys: &'static [u8], status: u8) -> Result<bool, AllocError> {
+    let answer = answer_of(alloc, Engine::Run(keys), source)?;
+    Ok(answer.report.status() == status)
+}
+
+// Whether the stepper answers.
+fn steps(alloc: Global, source: &[u8]) -> Result<bool, AllocError> {
+    let answer = answer_of(alloc, Engine::Step(b"e 7"), source)?;
+    Ok(answer.report.status() == 0 && answer.written.as_slice() == b"7\n".as_slice())
+}
 
 // Whether each engine refuses a source and writes nothing, or `build` writes a file, a run has a status and the stepper
 // answers.
@@ -45,45 +76,78 @@ fn answers(
     keys: &'static [u8],
     run_status: u8,
 ) -> Result<bool, AllocError> {
-    let built = answer_of(alloc, Engine::Build, source)?;
-    let ran = answer_of(alloc, Engine::Run(keys), source)?;
-    let stepped = answer_of(alloc, Engine::Step(b"e 7"), source)?;
-    let statuses = (
-        built.report.status(),
-        ran.report.status(),
-        stepped.report.status(),
-    );
-    let answered = stepped.written.as_slice();
     Ok(match build_status {
-        0 => statuses == (0, run_status, 0)
-            && !built.written.is_empty()
-            && answered == b"7\n".as_slice(),
+        0 => {
+            builds(alloc, source)?
+                && runs(alloc, source, keys, run_status)?
+                && steps(alloc, source)?
+        }
         _ => {
-            statuses == (1, 1, 1)
-                && built.written.is_empty()
-                && ran.written.is_empty()
-                && answered.is_empty()
+            refuses(alloc, Engine::Build, source)?
+                && refuses(alloc, Engine::Run(keys), source)?
+                && refuses(alloc, Engine::Step(b"e 7"), source)?
         }
     })
 }
 
-#[test]
-fn each_prefix_of_a_source_is_answered(rt: HostRuntime) -> Result<(), Fail> {
-    for (lines, keys, run_status) in SOURCES {
-        let mut source = Vec::new(rt.alloc());
-        assert!(rt; answers(rt.alloc(), &source, 1, keys, run_status)?);
-        for (line, statuses) in lines {
-            for (byte, status) in line.iter().zip(*statuses) {
-                source.push(*byte)?;
-                let build_status = u8::from(*status != b'0');
-                assert!(rt;
-                    answers(rt.alloc(), &source, build_status, keys, run_status)?,
-                    "{source:?}"
-                );
+// Whether each prefix of a source is answered. Leaves the last one that was tried.
+fn answers_each(alloc: Global, whole: &Source, source: &mut Vec<u8>) -> Result<bool, Fail> {
+    let (lines, keys, run_status) = whole;
+    if !answers(alloc, source, 1, keys, *run_status)? {
+        return Ok(false);
+    }
+    for (line, statuses) in *lines {
+        for (byte, status) in line.iter().zip(*statuses) {
+            source.push(*byte)?;
+            let build_status = u8::from(*status != b'0');
+            if !answers(alloc, source, build_status, keys, *run_status)? {
+                return Ok(false);
             }
         }
     }
+    Ok(true)
+}
+
+#[test]
+fn each_prefix_of_a_source_is_answered(rt: HostRuntime) -> Result<(), Fail> {
+    for whole in sources() {
+        let mut source = Vec::new(rt.alloc());
+        let holds = answers_each(rt.alloc(), whole, &mut source)?;
+        assert!(rt; holds, "{source:?}");
+    }
     Ok(())
+}
+
+// Whether an engine has a status, says this and writes nothing.
+fn says(
+    alloc: Global,
+    engine: Engine,
+    source: &[u8],
+    status: u8,
+    said: &[u8],
+) -> Result<bool, Fail> {
+    let answer = answer_of(alloc, engine, source)?;
+    Ok(has_said(alloc, &answer.report, status, said)? && answer.written.is_empty())
+}
+
+// Whether each engine does so.
+fn each_says(alloc: Global, source: &[u8], status: u8, said: &[u8]) -> Result<bool, Fail> {
+    Ok(
+        says(alloc, Engine::Build, source, status, said)?
+            && says(alloc, Engine::Run(b""), source, status, said)?
+            && says(alloc, Engine::Step(b"d\n"), source, status, said)?,
+    )
+}
+
+// Whether each engine does so at so many spaces.
+fn each_says_at_spaces(
+    alloc: Global,
+    length: usize,
+    status: u8,
+    said: &[u8],
+) -> Result<bool, Fail> {
+    let spaces = vec![in alloc; b' '; length]?;
+    each_says(alloc, &spaces, status, said)
 }
 
 #[test]
@@ -92,14 +156,9 @@ fn the_longest_source(rt: HostRuntime) -> Result<(), Fail> {
         (1_048_576, 1, b"tbc: empty program\n"),
         (1_048_577, 3, b"tbc: read fault\n"),
     ];
-    for (length, status, said) in rows {
-        let spaces = vec![in rt.alloc(); b' '; length]?;
-        for engine in [Engine::Build, Engine::Run(b""), Engine::Step(b"d\n")] {
-            let answer = answer_of(rt.alloc(), engine, &spaces)?;
-            let text = format!(in rt.alloc(); "{}", answer.report)?;
-            assert_eq!(rt; (answer.report.status(), text.as_bytes()), (status, said));
-            assert!(rt; answer.written.is_empty());
-        }
+    for &(length, status, said) in &rows {
+        let holds = each_says_at_spaces(rt.alloc(), length, status, said)?;
+        assert!(rt; holds, "{length}");
     }
     Ok(())
 }

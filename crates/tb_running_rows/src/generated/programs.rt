@@ -22,11 +22,8 @@ impl Choices {
         texts[usize::from(self.seed / 4096)]
     }
 
-    // A text that a letter of the grammar stands for.
-    fn text(&mut self, alloc: Global, letter: u8) -> Result<Vec<u8>, AllocError> {
-        let mut text = Vec::new(alloc);
-        // The symbols still to be replaced, the next one last.
-        let mut symbols = vec![in alloc; letter]?;
+    // Appends what the symbols stand for that are still to be replaced, the next one last.
+    fn append(&mut self, symbols: &mut Vec<u8>, text: &mut Vec<u8>) -> Result<(), AllocError> {
         for _ in 0..MOST_SYMBOLS {
             let Some(symbol) = symbols.pop() else { break };
             match rule(symbol) {
@@ -38,6 +35,14 @@ impl Choices {
                 None => text.push(symbol)?,
             }
         }
+        Ok(())
+    }
+
+    // A text that a letter of the grammar stands for.
+    fn text(&mut self, alloc: Global, letter: u8) -> Result<Vec<u8>, AllocError> {
+        let mut symbols = vec![in alloc; letter]?;
+        let mut text = Vec::new(alloc);
+        self.append(&mut symbols, &mut text)?;
         Ok(text)
     }
 
