@@ -3,6 +3,7 @@ use crate::machines::{CLEAN, LIMIT};
 use crate::outsides::everywhere;
 use crate::rows::{Row, short_rows};
 use std::alloc::Global;
+use std::process::Abort;
 use std::test::Fail;
 use tb_codegen::Compiled;
 use tb_kernal::{Event, Machine, Quiet, Status, run};
@@ -60,19 +61,33 @@ fn run_past(machine: &mut Machine, event: u64) -> Result<(), Fail> {
     Ok(())
 }
 
-// What goes wrong, and what is typed.
+// Fails where the interrupt changes something.
+fn try_row<R: Abort + AllocGlobal>(rt: &R, row: &Row<'_>) -> Result<(), Fail> {
+    let change = row.first_change(rt.alloc())?;
+    assert!(rt;
+        change.is_none(),
+        "{:?}, interrupt before event {change:?}",
+        row.source
+    );
+    Ok(())
+}
+
 #[test]
-fn an_interrupt_changes_nothing(rt: HostRuntime) -> Result<(), Fail> {
+fn an_interrupt_changes_nothing_of_what_is_typed(rt: HostRuntime) -> Result<(), Fail> {
     for row in short_rows() {
-        if row.keys.is_empty() && !row.shown.contains(&b'!') {
-            continue;
+        if !row.keys.is_empty() {
+            try_row(&rt, row)?;
         }
-        let change = row.first_change(rt.alloc())?;
-        assert!(rt;
-            change.is_none(),
-            "{:?}, interrupt before event {change:?}",
-            row.source
-        );
+    }
+    Ok(())
+}
+
+#[test]
+fn an_interrupt_changes_nothing_of_what_goes_wrong(rt: HostRuntime) -> Result<(), Fail> {
+    for row in short_rows() {
+        if row.keys.is_empty() && row.shown.contains(&b'!') {
+            try_row(&rt, row)?;
+        }
     }
     Ok(())
 }
