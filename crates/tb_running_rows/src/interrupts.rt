@@ -34,20 +34,24 @@ impl Row<'_> {
         self.is_done_by(alloc, &machine)
     }
 
-    // The first event of a program before which the interrupt changes something.
-    fn first_changed(&self, alloc: Global, program: &Compiled) -> Result<Option<u64>, Fail> {
+    // The first event of a program before which the interrupt changes something, of each fourth from this one on.
+    fn first_changed(
+        &self,
+        alloc: Global,
+        program: &Compiled,
+        from: u64,
+    ) -> Result<Option<u64>, Fail> {
         for event in 0..self.length(alloc, program)? {
-            if !self.is_done_past(alloc, program, event)? {
+            if event % 4 == from && !self.is_done_past(alloc, program, event)? {
                 return Ok(Some(event));
             }
         }
         Ok(None)
     }
 
-    // The first event before which the interrupt changes something.
-    fn first_change(&self, alloc: Global) -> Result<Option<u64>, Fail> {
+    fn first_change(&self, alloc: Global, from: u64) -> Result<Option<u64>, Fail> {
         let program = self.compiled(alloc)?;
-        self.first_changed(alloc, &program)
+        self.first_changed(alloc, &program, from)
     }
 }
 
@@ -61,33 +65,38 @@ fn run_past(machine: &mut Machine, event: u64) -> Result<(), Fail> {
     Ok(())
 }
 
-// Fails where the interrupt changes something.
-fn try_row<R: Abort + AllocGlobal>(rt: &R, row: &Row<'_>) -> Result<(), Fail> {
-    let change = row.first_change(rt.alloc())?;
-    assert!(rt;
-        change.is_none(),
-        "{:?}, interrupt before event {change:?}",
-        row.source
-    );
-    Ok(())
-}
-
-#[test]
-fn an_interrupt_changes_nothing_of_what_is_typed(rt: HostRuntime) -> Result<(), Fail> {
+// What goes wrong, and what is typed. Each fourth event, since all of them take as long as a test may.
+fn try_each_fourth<R: Abort + AllocGlobal>(rt: &R, from: u64) -> Result<(), Fail> {
     for row in short_rows() {
-        if !row.keys.is_empty() {
-            try_row(&rt, row)?;
+        if row.keys.is_empty() && !row.shown.contains(&b'!') {
+            continue;
         }
+        let change = row.first_change(rt.alloc(), from)?;
+        assert!(rt;
+            change.is_none(),
+            "{:?}, interrupt before event {change:?}",
+            row.source
+        );
     }
     Ok(())
 }
 
 #[test]
-fn an_interrupt_changes_nothing_of_what_goes_wrong(rt: HostRuntime) -> Result<(), Fail> {
-    for row in short_rows() {
-        if row.keys.is_empty() && row.shown.contains(&b'!') {
-            try_row(&rt, row)?;
-        }
-    }
-    Ok(())
+fn an_interrupt_before_event_0_4_8_changes_nothing(rt: HostRuntime) -> Result<(), Fail> {
+    try_each_fourth(&rt, 0)
+}
+
+#[test]
+fn an_interrupt_before_event_1_5_9_changes_nothing(rt: HostRuntime) -> Result<(), Fail> {
+    try_each_fourth(&rt, 1)
+}
+
+#[test]
+fn an_interrupt_before_event_2_6_10_changes_nothing(rt: HostRuntime) -> Result<(), Fail> {
+    try_each_fourth(&rt, 2)
+}
+
+#[test]
+fn an_interrupt_before_event_3_7_11_changes_nothing(rt: HostRuntime) -> Result<(), Fail> {
+    try_each_fourth(&rt, 3)
 }
