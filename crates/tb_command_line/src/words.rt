@@ -45,18 +45,33 @@ fn without_matches(alloc: Global, error: &clap::Error) -> Result<Job, JobError>
 }
 
 fn command<'a>(alloc: Global) -> Result<Command<'a>, AllocError> {
-    Command::new(alloc, "tbc")
+    let command = Command::new(alloc, "tbc")
         .about("Compiles Tiny BASIC for the Commodore 64, assembles, lists, runs and steps")
         .version("1.0.0")
         .no_binary_name(true)
         .bin_name("tbc")?
         .disable_help_subcommand(true)
-        .subcommand_required(true)
-        .subcommand(build_command(alloc)?)?
-        .subcommand(run_command(alloc)?)?
-        .subcommand(asm_command(alloc)?)?
-        .subcommand(dis_command(alloc)?)?
-        .subcommand(step_command(alloc)?)
+        .subcommand_required(true);
+    let command = with_subcommand(command, build_command(alloc))?;
+    let command = with_subcommand(command, run_command(alloc))?;
+    let command = with_subcommand(command, asm_command(alloc))?;
+    let command = with_subcommand(command, dis_command(alloc))?;
+    with_subcommand(command, step_command(alloc))
+}
+
+// (what is held and what can fail stand apart, which the prover is glad of)
+fn with_subcommand<'a>(
+    command: Command<'a>,
+    subcommand: Result<Command<'a>, AllocError>,
+) -> Result<Command<'a>, AllocError> {
+    command.subcommand(subcommand?)
+}
+
+fn with_argument<'a>(
+    command: Command<'a>,
+    argument: Result<Arg<'a>, AllocError>,
+) -> Result<Command<'a>, AllocError> {
+    command.arg(argument?)
 }
 
 fn build_command<'a>(alloc: Global) -> Result<Command<'a>, AllocError> {
@@ -68,11 +83,11 @@ fn build_command<'a>(alloc: Global) -> Result<Command<'a>, AllocError> {
 }
 
 fn run_command<'a>(alloc: Global) -> Result<Command<'a>, AllocError> {
-    Command::new(alloc, "run")
+    let command = Command::new(alloc, "run")
         .about("Run a source or a PRG file, and show what it sends")
-        .override_usage("tbc run [OPTIONS] <SOURCE>\n       tbc run [OPTIONS] --prg <FILE>")
-        .arg(source_or_prg(alloc)?)?
-        .arg(prg_option(alloc)?)?
+        .override_usage("tbc run [OPTIONS] <SOURCE>\n       tbc run [OPTIONS] --prg <FILE>");
+    let command = with_argument(command, source_or_prg(alloc))?;
+    with_argument(command, prg_option(alloc))?
         .arg(seed_option(alloc))?
         .arg(keys_option(alloc))?
         .arg(answers_option(alloc))?

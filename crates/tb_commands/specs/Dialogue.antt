@@ -12,11 +12,12 @@ use Rattle.tb_lower.specs.declared.evaluation.EvalError.{EvalError}
 use Rattle.tb_lower.specs.declared.evaluation.EvalError.TheVariants as eval
 use Rattle.tb_kernal.specs.declared.events.Event.{Event}
 use Rattle.tb_kernal.specs.Machine.{Content, state_of, status, SameKeyboard}
+use Rattle.tb_cpu.specs.Operands.{word_in}
 use Rattle.tb_runtime16.specs.Places.{NOTES}
 use Rattle.tb_codegen.specs.Compiled.{starts_of, table_of, line_in, start_in}
 use Rattle.tb_stepper.specs.Notes.{Holds, machines}
 use Rattle.tb_stepper.specs.History.{Stepped, ReachesLine}
-use Rattle.tb_stepper.specs.Readings.{word_in, variable_in, variables_in}
+use Rattle.tb_stepper.specs.Readings.{variable_in, variables_in}
 use Rattle.tb_stepper.specs.declared.reached.Reached.{Reached}
 use Rattle.tb_stepper.specs.declared.reached.Reached.TheVariants as reached
 use Rattle.tb_stepper.specs.declared.reached.StepError.{StepError}

@@ -2,6 +2,7 @@
 use Rattle.std.proofs.Common.{zero-add, ◌≡◌, ℕ, ◌+◌, ◌*◌, ◌≤◌, ◌<◌, Bool, true, false, List, [], ◌∷◌, ◌++◌, length, refl, sym, ap, ◌∙◌, subst, arith}
 use Rattle.std.specs.Prelude.{if◌then◌else◌}
 use Rattle.tb_asm.specs.declared.names.Name.{Name}
+use Rattle.tb_cpu.specs.Operands.{word_in}
 use Rattle.tb_kernal.specs.declared.events.Event.{Event}
 use Rattle.tb_kernal.specs.declared.events.Event.TheVariants.{Go, Interrupt}
 use Rattle.tb_kernal.specs.Machine as machine
@@ -16,7 +17,7 @@ use Rattle.tb_lower.specs.Follows.{Follows, longest}
 use Rattle.tb_lower.specs.Slots.{SlotCode}
 use Rattle.tb_keeping.specs.Kept.{Starts}
 use Rattle.tb_keeping.specs.Layout.{Layout, Laid, is_start}
-use Rattle.tb_keeping.specs.LineStarts.{begun, word_in, BeginsLine, LineComes, MarksLines}
+use Rattle.tb_keeping.specs.LineStarts.{begun, BeginsLine, LineComes, MarksLines}
 use Rattle.tb_routines.specs.Routines.{WordAt}
 use Rattle.tb_keeping.proofs.Starts as lines
 use Rattle.tb_keeping.proofs.Starts.{count}

@@ -1,5 +1,6 @@
 -- Where a machine that runs a program's code begins a line, the program does.
 use Rattle.std.specs.Prelude.{◌≡◌, ℕ, ◌+◌, ◌*◌, ◌≤◌, ◌<◌, true, if◌then◌else◌, List, [], ◌∷◌, ◌++◌, length, slice_index}
+use Rattle.tb_cpu.specs.Operands.{word_in}
 use Rattle.tb_kernal.specs.declared.events.Event.{Event}
 use Rattle.tb_kernal.specs.declared.events.Event.TheVariants.{Go, Interrupt}
 use Rattle.tb_kernal.specs.declared.events.Clobber.{Clobber}
@@ -20,10 +21,6 @@ abbrev pub begun : (ℕ → ℕ) → List ℕ → List Event → machine.State �
 begun start ns [] s = 0
 begun start ns (Go k ∷ es) s = (if is_start start ns s.regs.pc then 1 else 0) + begun start ns es (happens s (Go k))
 begun start ns (Interrupt ws ∷ es) s = begun start ns es (happens s (Interrupt ws))
-
--- the word at a place
-abbrev pub word_in : (ℕ → ℕ) → ℕ → ℕ
-word_in m at = m at + 256 * m (at + 1)
 
 -- in a machine t, started as s, the source goes on at this line after m lines: just its output was sent, and its
 -- variables and the number of its notes stand in memory

@@ -1,6 +1,7 @@
 -- The start of a program in a machine of which nothing else is known.
 use Rattle.std.specs.Prelude.{ℕ, ◌≡◌, ◌+◌, ◌<◌, ◌≤◌, true, None, List, [], length, slice_index}
-use Rattle.tb_kernal.specs.Places.{is_rom, service_at}
+use Rattle.tb_memmap.specs.Regions.{is_rom}
+use Rattle.tb_kernal.specs.Places.{service_at}
 use Rattle.tb_kernal.specs.Machine.{State, home_of}
 
 -- bytes lie in a memory from an address on

@@ -3,7 +3,7 @@ use Rattle.std.proofs.Common.{◌≡◌, ℕ, suc, ◌+◌, ◌/◌, ◌%◌, �
 use Rattle.std.specs.Prelude.{Result, Ok, Err, if◌then◌else◌, ◌==◌}
 use Rattle.std.proofs.lemmas.Bool.{leb-true, ne_eqb}
 use Rattle.arrayvec.specs.ArrayVec.{ArrayVec}
-use Rattle.tb_memmap.specs.Regions.{is_open}
+use Rattle.tb_memmap.specs.Regions.{is_open, is_owned}
 use Rattle.tb_memmap.specs.Bytes.{Writes, with_byte, written}
 use Rattle.tb_opcodes.specs.Opcodes.{decoded, find_row, rows}
 use Rattle.tb_opcodes.specs.declared.Mode.{Mode}
@@ -20,7 +20,7 @@ use Rattle.tb_kernal.specs.declared.events.Clobber.{Clobber}
 use Rattle.tb_kernal.specs.declared.events.Event.TheVariants.{Go, Interrupt}
 use Rattle.tb_kernal.specs.declared.status.Status.{Status}
 use Rattle.tb_kernal.specs.declared.status.Status.TheVariants.{Running, Waits, Returned, Wrong as WentWrong}
-use Rattle.tb_kernal.specs.Places.{all_writable, is_owned, service_at}
+use Rattle.tb_kernal.specs.Places.{all_writable, service_at}
 use Rattle.tb_kernal.specs.Machine.{State, status, status_by, is_home, waits_for, happens, gone, gone_at, stepped, interrupted, is_lawful, is_stopped}
 use Rattle.tb_kernal.proofs.Keeping.{written_keeps}
 use Rattle.tb_reaching.specs.View.{View, Setup, At, Stays, Part, Holds, Fits, Stacked, with_s, is_data, is_program, is_fixed}

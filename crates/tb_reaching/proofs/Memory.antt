@@ -3,9 +3,8 @@ use Rattle.std.proofs.Common.{◌≡◌, ◌⊎◌, ℕ, ◌+◌, ◌<◌, ◌�
 use Rattle.std.specs.Prelude.{if◌then◌else◌}
 use Rattle.std.proofs.lemmas.Bool.{and_parts, eq-eqb, ne_eqb, false≢true}
 use Rattle.std.proofs.lemmas.Bool.Decides.{nat_tests}
-use Rattle.tb_memmap.specs.Regions.{is_open}
+use Rattle.tb_memmap.specs.Regions.{is_open, is_owned}
 use Rattle.tb_memmap.specs.Bytes.{Writes, with_byte, written}
-use Rattle.tb_kernal.specs.Places.{is_owned}
 use Rattle.tb_reaching.specs.View.{is_data, is_program, is_fixed, Stacked}
 use Rattle.tb_reaching.proofs.Acting.{all_data}
 

@@ -4,7 +4,7 @@ use Rattle.std.specs.Prelude.{if◌then◌else◌}
 use Rattle.std.proofs.lemmas.Bool.{and_parts, cases_eq, eqb-true, eq-eqb, ne_eqb}
 use Rattle.std.proofs.lemmas.Bool.Decides.{nat_tests}
 use Rattle.tb_cpu.specs.Operands.{word}
-use Rattle.tb_kernal.specs.Places.{is_rom}
+use Rattle.tb_memmap.specs.Regions.{is_rom}
 use Rattle.tb_kernal.specs.Machine.{State}
 use Rattle.tb_kernal.specs.Starts.{IsStart, LieAt}
 use Rattle.tb_reaching.specs.View.{At, Part, Holds, Fits, Stacked, part_at, is_program}

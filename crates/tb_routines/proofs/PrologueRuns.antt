@@ -3,7 +3,7 @@ use Rattle.std.proofs.Common.{◌≡◌, ℕ, zero, suc, ◌+◌, ◌-◌, ◌�
 use Rattle.std.proofs.lemmas.Bool.{or_cases, cases_eq}
 use Rattle.std.proofs.lemmas.Bool.Decides.{nat_tests}
 use Rattle.tb_memmap.specs.Bytes.{with_byte}
-use Rattle.tb_kernal.specs.Places.{within}
+use Rattle.tb_memmap.specs.Regions.{within}
 use Rattle.tb_reaching.proofs.Memory.{put_other, put_same}
 use Rattle.tb_reaching.specs.View.{part_at}
 use Rattle.tb_reaching.proofs.Acting.{the, run_view}

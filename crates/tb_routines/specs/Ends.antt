@@ -1,6 +1,6 @@
 -- What faults, polls and the prologue promise.
 use Rattle.std.specs.Prelude.{◌≡◌, ◌≢◌, ℕ, ◌+◌, ◌<◌, ◌≤◌, Bool, true, false, ◌||◌, List, [], ◌∷◌, ◌++◌, length, drop}
-use Rattle.tb_kernal.specs.Places.{within}
+use Rattle.tb_memmap.specs.Regions.{within}
 use Rattle.tb_kernal.specs.Machine.{State, first_or_zero}
 use Rattle.tb_kernal.specs.Starts.{IsStart}
 use Rattle.tb_reaching.specs.View.{View, Setup, Part, Holds, Fits, Comes, view, back_at, part_at}

@@ -1,6 +1,6 @@
 -- The return list: Push and Pop.
 use Rattle.std.specs.Prelude.{◌≡◌, ◌<◌, ◌≤◌, Bool, false, ℕ, List, [], ◌∷◌, ◌++◌, ◌+◌, ◌*◌, ◌||◌, length}
-use Rattle.tb_kernal.specs.Places.{within}
+use Rattle.tb_memmap.specs.Regions.{within}
 use Rattle.tb_reaching.specs.View.{View, Setup, Part, Holds, Fits, Comes, part_at, view, back_at}
 use Rattle.tb_runtime16.specs.Places.{PUSH_AT, POP_AT, FAULT_AT, LEFT, RESULT, NOTES, NOTE_LIST}
 use Rattle.tb_routines.specs.declared.code.TheConstants.{PUSH, POP}

@@ -1,12 +1,8 @@
 -- A program's data in memory.
 use Rattle.std.specs.Prelude.{ℕ, ◌+◌, ◌*◌, List, map}
 use Rattle.std.specs.List.{range_with_len}
-use Rattle.tb_cpu.specs.Operands.{word}
+use Rattle.tb_cpu.specs.Operands.{word_in}
 use Rattle.tb_runtime16.specs.Places.{VARS}
-
--- the word at an address, low byte first
-abbrev pub word_in : (ℕ → ℕ) → ℕ → ℕ
-word_in m a = word (m a) (m (a + 1))
 
 -- the variable at a place of the alphabet
 abbrev pub variable_in : (ℕ → ℕ) → ℕ → ℕ

@@ -1,12 +1,13 @@
 //! What a program's data are in the present machine.
 ghost use Rattle.std.specs.Prelude.{◌≡◌, ◌+◌, ◌*◌, ◌<◌, ◌≤◌, map};
 ghost use Rattle.tb_memmap.specs.Bytes.{at};
+ghost use Rattle.tb_cpu.specs.Operands.{word_in};
 ghost use Rattle.tb_words.specs.Words.{word_of};
 ghost use Rattle.tb_words.specs.Letters.{place};
 ghost use Rattle.tb_syntax.specs.Shown.{expression_of};
 ghost use Rattle.tb_runtime16.specs.Places.{NOTES};
 ghost use Rattle.tb_lower.specs.Evaluation.{IsEvaluation};
-ghost use Rattle.tb_stepper.specs.Readings.{word_in, variable_in, variables_in};
+ghost use Rattle.tb_stepper.specs.Readings.{variable_in, variables_in};
 
 use crate::stepper::Stepper;
 use tb_kernal::Outside;
