@@ -19,6 +19,7 @@ abbrev pub when : {A B : Type 0} → Option A → B → (A → B) → B
 when None otherwise f = otherwise
 when (Some x) otherwise f = f x
 
+-- 0 to 9
 abbrev pub is_digit : ℕ → Bool
 is_digit b = nat_le 48 b && nat_le b 57
 

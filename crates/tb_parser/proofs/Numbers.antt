@@ -1,8 +1,9 @@
 -- Digits at the front.
 use Rattle.std.proofs.Common.{◌≡◌, ℕ, ◌+◌, ◌-◌, ◌*◌, ◌≤◌, Bool, true, false, List, [], ◌∷◌, Some, None, refl, arith, ap, ◌==◌, if◌then◌else◌}
+use Rattle.tb_grammar.specs.Reading.{is_digit}
 use Rattle.tb_parser.specs.declared.squeeze.Placed.{Placed}
 use Rattle.tb_parser.specs.declared.squeeze.Mode.TheVariants.{Code}
-use Rattle.tb_parser.specs.Scans.{first_written, is_digit, starts_with_digit, Counted, number_at}
+use Rattle.tb_parser.specs.Scans.{first_written, starts_with_digit, Counted, number_at}
 use Rattle.tb_parser.specs.Squeezed.{squeezed_from}
 
 -- more digits make no smaller number

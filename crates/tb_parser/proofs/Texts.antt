@@ -3,11 +3,12 @@ use Rattle.std.proofs.Common.{◌≡◌, ℕ, ◌+◌, ◌-◌, ◌*◌, ◌≤�
 use Rattle.std.specs.Prelude.{nat_lt}
 use Rattle.tb_syntax.specs.Source.{Command, Program}
 use Rattle.tb_grammar.specs.Statements.{States}
+use Rattle.tb_grammar.specs.Reading.{is_digit}
 use Rattle.tb_parser.specs.declared.squeeze.Mode.{Mode}
 use Rattle.tb_parser.specs.declared.squeeze.Mode.TheVariants.{Code}
 use Rattle.tb_parser.specs.declared.squeeze.Placed.{Placed}
 use Rattle.tb_parser.specs.Squeezed.{squeezed_from, squeezed, bytes, is_dropped, shown, is_in_code, after}
-use Rattle.tb_parser.specs.Scans.{number_at, is_digit}
+use Rattle.tb_parser.specs.Scans.{number_at}
 use Rattle.tb_parser.specs.Readings.{Refusal, Edit, LineIs, blank, unfit, unnumbered, bad_line_number, deletes, sets, unread, TextIs, reads, IsNumbered}
 use Rattle.tb_parser.specs.Files.{Outcome, line_at, with_line, without_line, edited, at_end, LinesAre, end, bad, good, IsStated, AreStated}
 

@@ -1,5 +1,6 @@
 -- What is looked for in a line before it is read.
 use Rattle.std.specs.Prelude.{ℕ, ◌+◌, ◌-◌, ◌*◌, List, [], ◌∷◌, length, map, slice_index, Bool, true, false, Option, Some, None, nat_le, ◌==◌, ◌&&◌, ◌||◌, if◌then◌else◌, codes}
+use Rattle.tb_grammar.specs.Reading.{is_digit}
 use Rattle.tb_parser.specs.declared.squeeze.Mode.{Mode}
 use Rattle.tb_parser.specs.declared.squeeze.Mode.TheVariants.{Remark}
 use Rattle.tb_parser.specs.declared.squeeze.Placed.{Placed}
@@ -23,10 +24,6 @@ is_bad m b = if is_source_byte b then false else true
 unfoldable pub first_bad : Mode → ℕ → List ℕ → Option ℕ
 first_bad m column [] = None
 first_bad m column (b ∷ line) = if is_bad m b then Some column else first_bad (after m b) (column + 1) line
-
--- 0 to 9
-abbrev pub is_digit : ℕ → Bool
-is_digit b = nat_le 48 b && nat_le b 57
 
 -- a digit stands at the front
 abbrev pub starts_with_digit : List Placed → Bool
