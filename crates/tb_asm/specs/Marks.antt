@@ -7,30 +7,34 @@ use Rattle.tb_asm.specs.declared.errors.AsmErrorKind.TheVariants.{UnknownLabel, 
 use Rattle.tb_asm.specs.Layout.{Entry, entry_of, address_in, label_at, first_fault}
 use Rattle.tb_asm.specs.Settle.{Form, kept, lengthened, form_size, is_far, unknown_fault, SettleRefuses}
 
+-- the form of an item by its mark: a marked branch to a label is two items, any other item stands as it is
 abbrev pub form_of : Bool → Entry → Form
 form_of false e = kept e
 form_of true e = lengthened (kept e)
 
+-- the forms of items by their marks, as far as there are marks
 abbrev pub forms_of : List Entry → List Bool → List Form
 forms_of [] bs = []
 forms_of (e ∷ es) [] = []
 forms_of (e ∷ es) (b ∷ bs) = form_of b e ∷ forms_of es bs
 
--- the marks after a round by some labels, and whether one is new
+-- the marks after a round by some labels
 abbrev pub marks_from : List (Name × ℕ) → ℕ → List Entry → List Bool → List Bool
 marks_from labels a [] bs = []
 marks_from labels a (e ∷ es) [] = []
 marks_from labels a (e ∷ es) (b ∷ bs) = (b || is_far labels a e) ∷ marks_from labels (a + form_size (form_of b e)) es bs
 
+-- whether a round by some labels marks an item that had no mark
 abbrev pub new_mark : List (Name × ℕ) → ℕ → List Entry → List Bool → Bool
 new_mark labels a [] bs = false
 new_mark labels a (e ∷ es) [] = false
 new_mark labels a (e ∷ es) (b ∷ bs) = (not b && is_far labels a e) || new_mark labels (a + form_size (form_of b e)) es bs
 
--- the labels are found at their addresses modulo 65,536
+-- an address modulo 65,536, where there is one
 abbrev pub wrapped : Option ℕ → Option ℕ
 wrapped o = option_map (λ a. a % 65536) o
 
+-- each name has in `found` its address in `labels` modulo 65,536, and none where it has none there
 abbrev pub FoundAs : List (Name × ℕ) → List (Name × ℕ) → Type 0
 FoundAs found labels = (n : Name) → address_in found n ≡ wrapped (address_in labels n)
 

@@ -63,9 +63,11 @@ name_of Txa = codes "TXA"
 name_of Txs = codes "TXS"
 name_of Tya = codes "TYA"
 
+-- the 56 mnemonics, each once, in the order of their names
 abbrev pub all_mnemonics : List Mnemonic
 all_mnemonics = Adc ∷ And ∷ Asl ∷ Bcc ∷ Bcs ∷ Beq ∷ Bit ∷ Bmi ∷ Bne ∷ Bpl ∷ Brk ∷ Bvc ∷ Bvs ∷ Clc ∷ Cld ∷ Cli ∷ Clv ∷ Cmp ∷ Cpx ∷ Cpy ∷ Dec ∷ Dex ∷ Dey ∷ Eor ∷ Inc ∷ Inx ∷ Iny ∷ Jmp ∷ Jsr ∷ Lda ∷ Ldx ∷ Ldy ∷ Lsr ∷ Nop ∷ Ora ∷ Pha ∷ Php ∷ Pla ∷ Plp ∷ Rol ∷ Ror ∷ Rti ∷ Rts ∷ Sbc ∷ Sec ∷ Sed ∷ Sei ∷ Sta ∷ Stx ∷ Sty ∷ Tax ∷ Tay ∷ Tsx ∷ Txa ∷ Txs ∷ Tya ∷ []
 
+-- whether two texts have the same bytes
 abbrev pub same_text : List ℕ → List ℕ → Bool
 same_text a b = pointwise nat_eq a b
 
@@ -74,5 +76,6 @@ abbrev pub find_mnemonic : List Mnemonic → List ℕ → Option Mnemonic
 find_mnemonic [] w = None
 find_mnemonic (n ∷ ns) w = if same_text (name_of n) w then Some n else find_mnemonic ns w
 
+-- the mnemonic that letters in upper case spell, None where they spell none
 abbrev pub mnemonic_of : List ℕ → Option Mnemonic
 mnemonic_of w = find_mnemonic all_mnemonics w

@@ -34,6 +34,7 @@ Splits line (Ok u) parts = parts_of line ≡ Some parts
 Splits line (Err Bad) parts = parts_of line ≡ None
 Splits line (Err NoMemoryForLine) parts = Unit {0}
 
+-- a part, if there is one, before those that are read behind it; None where these are refused
 abbrev pub with_optional : Option Part → Option (List Part) → Option (List Part)
 with_optional None ps = ps
 with_optional (Some p) ps = with_part p ps

@@ -23,15 +23,17 @@ abbrev pub LabelsStand : ℕ → List Entry → List (Name × ℕ) → Type 0
 LabelsStand at es labels =
     (before : List Entry) (n : Name) (after : List Entry) → es ≡ before ++ label n ∷ after → address_in labels n ≡ Some (at + size before)
 
--- the names of the labels, in the order of their items
+-- the name of an item that is a label
 abbrev pub name_at : Entry → List Name
 name_at (label n) = n ∷ []
 name_at e = []
 
+-- the names of all labels among items, in their order; a name may come twice
 abbrev pub names_of : List Entry → List Name
 names_of [] = []
 names_of (e ∷ es) = name_at e ++ names_of es
 
+-- no name comes twice
 abbrev pub AreDistinct : List Name → Type 0
 AreDistinct [] = Unit {0}
 AreDistinct (n ∷ ns) = (list_any (same_name n) ns ≡ false) × AreDistinct ns

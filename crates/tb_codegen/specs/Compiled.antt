@@ -20,6 +20,7 @@ use Rattle.tb_codegen.specs.declared.compiled.LineStart.{LineStart}
 use Rattle.tb_codegen.specs.declared.compiled.Compiled.{Compiled}
 
 -- ── what a compiled program shows ──
+-- the bytes of the PRG file
 abbrev pub prg_of : Compiled → List ℕ
 prg_of c = c.prg.items
 
@@ -31,6 +32,7 @@ loaded_of c = drop 2 (prg_of c)
 abbrev pub pair_of : LineStart → ℕ × ℕ
 pair_of s = (s.number, s.at)
 
+-- the lines of a compiled program: each line number with the address where its code begins
 abbrev pub starts_of : Compiled → List (ℕ × ℕ)
 starts_of c = map pair_of c.starts.items
 
@@ -38,6 +40,7 @@ starts_of c = map pair_of c.starts.items
 abbrev pub table_of : Compiled → ℕ
 table_of c = c.table
 
+-- the warnings of a compiled program: lines with a GOTO or GOSUB to a constant target that is missing
 abbrev pub warnings_of : Compiled → List Warning
 warnings_of c = c.warnings.items
 
@@ -46,7 +49,7 @@ abbrev pub start_in : List (ℕ × ℕ) → ℕ → Option ℕ
 start_in [] n = None
 start_in (s ∷ starts) n = if nat_eq s.0 n then Some s.1 else start_in starts n
 
--- where the code of a line of the program begins, as start_of answers it
+-- where the code of a line of the program begins, as start_of answers it; 0 for no line of it
 abbrev pub start_of : Compiled → ℕ → ℕ
 start_of c n = unwrap_or (start_in (starts_of c) n) 0
 
@@ -62,7 +65,7 @@ line_in (s ∷ []) table a = if lies s.1 table a then Some s.0 else None
 line_in (s ∷ next ∷ starts) table a = if lies s.1 next.1 a then Some s.0 else line_in (next ∷ starts) table a
 
 -- ── where code lies ──
--- the code of lines, one behind the other from an address
+-- each line of slot code with the address of its code, where the first lies at `a`
 abbrev pub starts_from : List ℕ → ℕ → ℕ → SlotCode → List (ℕ × ℕ)
 starts_from ns seed a [] = []
 starts_from ns seed a (line ∷ lines) = (line.number, a) ∷ starts_from ns seed (a + size (line_code ns seed line)) lines

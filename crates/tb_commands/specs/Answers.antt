@@ -10,6 +10,7 @@ use Rattle.tb_kernal.specs.declared.status.Status.TheVariants as status
 use Rattle.tb_commands.specs.declared.answer.Answer.{Answer}
 use Rattle.tb_commands.specs.declared.answer.Answer.TheVariants.{Registers, NothingBack, At, NoSuchLine, Limit, Stands, Number, Depth, DivisionByZero, HasRnd, What}
 
+-- the word for how a machine stands
 abbrev pub status_text : Status → List ℕ
 status_text status.Running = codes "running"
 status_text status.Waits = codes "waits"
@@ -36,6 +37,7 @@ registers_text regs line status =
     ++ field_text (codes " P=") (status_byte regs.flags)
     ++ codes " " ++ place_text line ++ codes " " ++ status_text status
 
+-- the line that shows an answer, without its line end
 abbrev pub text_of : Answer → List ℕ
 text_of (Registers regs line status) = registers_text regs line status
 text_of NothingBack = codes "nothing back"

@@ -17,6 +17,7 @@ pub data Asked : Type 0 where
   Quit : Asked
   Unknown : Asked
 
+-- a command that was read, as what its line asks for
 abbrev pub asked_of : Command → Asked
 asked_of command.Step = Step
 asked_of command.Back = Back
@@ -40,6 +41,7 @@ number_behind n ds = if all_digits ds && nat_le (value_after n ds) 65535 then So
 abbrev pub number_of : List ℕ → Option ℕ
 number_of ds = if nat_le 1 (length ds) && nat_le (length ds) 5 then number_behind 0 ds else None
 
+-- what `g` asks for: a walk to a line; None, a text that is no line number, is no command
 abbrev pub going : Option ℕ → Asked
 going (Some line) = Go line
 going None = Unknown

@@ -62,6 +62,7 @@ abbrev pub SaysGo : {O : Type 0} → (O → Content → Event → O → Type 0) 
 SaysGo gives limit line h result k =
     (r : Result Reached StepError) × ReachesLine gives (start_in (starts_of h.program) line) limit h r k × (result ≡ walk_answer line r)
 
+-- the answer for what an expression came to: its value, or why it has none
 abbrev pub value_answer : Result ℤ EvalError → Answer
 value_answer (Ok v) = Number v
 value_answer (Err eval.DivideByZero) = DivisionByZero
@@ -72,6 +73,7 @@ abbrev pub SaysOf : {O : Type 0} → Holds O → Result Expression FileRefusal �
 SaysOf h (Ok e) answer = (v : Result ℤ EvalError) × IsEvaluation e (variables_in (at h.machine.memory)) v × (answer ≡ value_answer v)
 SaysOf h (Err r) answer = answer ≡ What
 
+-- what is answered to `e` and the text behind it
 abbrev pub SaysValue : {O : Type 0} → Holds O → List ℕ → Answer → Type 0
 SaysValue h text answer = (r : Result Expression FileRefusal) × InLineOne (ExpressionIs text) r × SaysOf h r answer
 

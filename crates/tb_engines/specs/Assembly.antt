@@ -17,6 +17,7 @@ abbrev pub image_unless : Option (AsmErrorKind × ℕ) → ℕ → List Entry �
 image_unless None at items = Ok (word_bytes at ++ image_of at items, Done)
 image_unless (Some fault) at items = Err (Item (record { kind = fault.0; item = fault.1 }))
 
+-- what the items of an assembler text come to at an address, or its first bad line, counted from 1
 abbrev pub image_of_items : ℕ → Result (List Entry) ℕ → Product
 image_of_items at (Ok items) = image_unless (refusal at items) at items
 image_of_items at (Err line) = Err (TextLine line)
@@ -25,6 +26,7 @@ image_of_items at (Err line) = Err (TextLine line)
 abbrev pub Assembles : ℕ → List ℕ → Product → Type 0
 Assembles at text product = product ≡ image_of_items at (items_of_text text)
 
+-- the listing of a load address and the bytes there, or the refusal of a file that is no PRG file
 abbrev pub listing_of : Result (ℕ × List ℕ) PrgError → Product
 listing_of (Ok p) = Ok (text_of (lines_of p.0 p.1), Done)
 listing_of (Err e) = Err (Prg e)

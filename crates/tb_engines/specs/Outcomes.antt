@@ -8,12 +8,14 @@ use Rattle.tb_engines.specs.declared.outcome.Refusal.{Refusal}
 use Rattle.tb_engines.specs.declared.outcome.Outcome.{Outcome}
 use Rattle.tb_engines.specs.declared.outcome.Outcome.TheVariants.{Ended, Refused, ReadFault, WriteFault, NoMemory}
 
+-- the exit status where the whole text was written
 abbrev pub status_of_end : End → ℕ
 status_of_end Done = 0
 status_of_end StepLimit = 5
 status_of_end WaitsForKey = 6
 status_of_end (WentWrong wrong pc) = 7
 
+-- the exit status by how the call of an engine ended
 abbrev pub status_of : Outcome → ℕ
 status_of (Ended end) = status_of_end end
 status_of (Refused e) = 1

@@ -21,6 +21,7 @@ use Rattle.tb_engines.specs.declared.outcome.Refusal.TheVariants.{Prg, NotRam}
 abbrev pub first_pc : ℕ → ℕ
 first_pc at = if nat_eq at 0x0801 then 0x080d else at
 
+-- the registers where a program at an address starts: PC is at its first instruction, S is $F0, the rest is 0 or clear
 abbrev pub start_regs : ℕ → Regs
 start_regs at =
     record {
@@ -36,6 +37,7 @@ start_regs at =
 abbrev pub start_memory : ℕ → List ℕ → List ℕ
 start_memory at bytes = loaded (loaded (replicate 65536 0) at bytes) 0x01f1 (0xff ∷ 0xa0 ∷ [])
 
+-- the start machine of a program at an address, with a keyboard text and answers; the program returns to $A100
 abbrev pub start : ℕ → List ℕ → List ℕ → List ℕ → Content
 start at bytes text answers =
     record {
@@ -74,6 +76,7 @@ RunsAt gives o at bytes text answers limit (Ok shown) =
     IsOpenRange at (length bytes) × Runs gives o (start at bytes text answers) limit shown
 RunsAt gives o at bytes text answers limit (Err e) = (e ≡ NotRam) × ¬ (IsOpenRange at (length bytes))
 
+-- what comes of the load address and the bytes of a PRG file, or of a file that is none
 abbrev pub RunsContent : {O : Type 0} → (O → Content → Event → O → Type 0) → O
     → Result (ℕ × List ℕ) PrgError → List ℕ → List ℕ → ℕ → Product → Type 0
 RunsContent gives o (Ok p) text answers limit product =

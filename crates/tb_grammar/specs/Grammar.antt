@@ -5,9 +5,11 @@ use Rattle.tb_syntax.specs.declared.expressions.Operator.{Operator}
 use Rattle.tb_syntax.specs.declared.expressions.Operator.TheVariants.{Add, Subtract, Multiply, Divide}
 use Rattle.tb_syntax.specs.Source.{Expression, Number, Variable, Negate, Binary, Random}
 
+-- the byte of a digit, 0 to 9
 abbrev pub IsDigit : ℕ → Type 0
 IsDigit b = (48 ≤ b) × (b ≤ 57)
 
+-- the byte of a letter, A to Z
 abbrev pub IsLetter : ℕ → Type 0
 IsLetter b = (65 ≤ b) × (b ≤ 90)
 

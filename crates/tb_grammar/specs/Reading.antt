@@ -12,9 +12,11 @@ pub record Found : Type 0 where
   pub rest : List ℕ
 
 infixl 10 ◌>>=◌
+-- one reading behind another: None where either gives None
 abbrev pub ◌>>=◌ : {A B : Type 0} → Option A → (A → Option B) → Option B
 o >>= f = option_and_then f o
 
+-- what f makes of something that is there, else the answer for nothing
 abbrev pub when : {A B : Type 0} → Option A → B → (A → B) → B
 when None otherwise f = otherwise
 when (Some x) otherwise f = f x
@@ -23,6 +25,7 @@ when (Some x) otherwise f = f x
 abbrev pub is_digit : ℕ → Bool
 is_digit b = nat_le 48 b && nat_le b 57
 
+-- A to Z
 abbrev pub is_letter : ℕ → Bool
 is_letter b = nat_le 65 b && nat_le b 90
 
@@ -41,6 +44,7 @@ abbrev pub digits_at : ℕ → List ℕ → ℕ × List ℕ
 digits_at n [] = (n, [])
 digits_at n (b ∷ text) = if is_digit b then digits_at (10 * n + (b - 48)) text else (n, b ∷ text)
 
+-- a literal of any size, and what is left behind it; asked for only where a digit stands at the front
 unfoldable pub literal_at : List ℕ → Found
 literal_at text = let d = digits_at 0 text in record { tree = Number (word_of d.0); large = large_at d.0 (length text); rest = d.1 }
 
@@ -49,18 +53,23 @@ abbrev pub letter_at : List ℕ → Option (ℕ × List ℕ)
 letter_at [] = None
 letter_at (b ∷ text) = if is_letter b then Some (b - 65, text) else None
 
+-- a variable at the front, and what is left behind it
 unfoldable pub variable_at : List ℕ → Option Found
 variable_at text = letter_at text >>= λ v. Some (record { tree = Variable v.0; large = None; rest = v.1 })
 
+-- what was found, with the closing parenthesis behind it taken; None where none follows
 abbrev pub closed : Found → Option Found
 closed f = behind 41 f.rest >>= λ rest. Some (record { tree = f.tree; large = f.large; rest = rest })
 
+-- RND with what was found as its bound
 abbrev pub randomly : Found → Found
 randomly f = record { tree = Random f.tree; large = f.large; rest = f.rest }
 
+-- what was found, with a minus sign before it
 abbrev pub negated : Found → Found
 negated f = record { tree = Negate f.tree; large = f.large; rest = f.rest }
 
+-- two operands with an operator between them, and what is left behind the second
 abbrev pub joined : Operator → Found → Found → Found
 joined op f g = record { tree = Binary op f.tree g.tree; large = option_or f.large g.large; rest = g.rest }
 
@@ -68,6 +77,7 @@ joined op f g = record { tree = Binary op f.tree g.tree; large = option_or f.lar
 unfoldable pub group_by : (List ℕ → Option Found) → List ℕ → Option Found
 group_by whole text = behind 40 text >>= whole >>= closed
 
+-- whether a digit stands at the front
 abbrev pub starts_digit : List ℕ → Bool
 starts_digit [] = false
 starts_digit (b ∷ text) = is_digit b
@@ -76,6 +86,7 @@ starts_digit (b ∷ text) = is_digit b
 abbrev pub plain_by : (List ℕ → Option Found) → List ℕ → Option Found
 plain_by whole text = when (behind 40 text) (variable_at text) (λ inner. group_by whole text)
 
+-- a factor: a literal, RND with its bound, or a plain one; whole reads what stands in parentheses
 unfoldable pub factor_by : (List ℕ → Option Found) → List ℕ → Option Found
 factor_by whole text =
     if starts_digit text then Some (literal_at text)
@@ -91,6 +102,7 @@ abbrev pub more : Part → (List ℕ → Option Found) → ℕ → Found → Opt
 more part operand zero f = Some f
 more part operand (suc k) f = when (operator_at part f.rest) (Some f) (λ p. operand p.1 >>= λ g. more part operand k (joined p.0 f g))
 
+-- a term: operands that factor reads, with * or / between them
 unfoldable pub term_by : (List ℕ → Option Found) → List ℕ → Option Found
 term_by factor text = factor text >>= λ f. more Term factor (length f.rest) f
 
@@ -98,6 +110,7 @@ term_by factor text = factor text >>= λ f. more Term factor (length f.rest) f
 abbrev pub signed_by : (List ℕ → Option Found) → List ℕ → Option Found
 signed_by term text = when (behind 43 text) (when (behind 45 text) (term text) (λ inner. term inner >>= λ f. Some (negated f))) term
 
+-- an expression: terms with + or - between them, the first with a sign or none; factor reads their factors
 unfoldable pub whole_by : (List ℕ → Option Found) → List ℕ → Option Found
 whole_by factor text = signed_by (term_by factor) text >>= λ f. more Whole (term_by factor) (length f.rest) f
 
@@ -106,9 +119,11 @@ unfoldable pub whole_at : ℕ → List ℕ → Option Found
 whole_at zero text = None
 whole_at (suc n) text = whole_by (factor_by (whole_at n)) text
 
+-- a factor whose parentheses are nested at most n deep
 abbrev pub factor_at : ℕ → List ℕ → Option Found
 factor_at n text = factor_by (whole_at n) text
 
+-- a term whose parentheses are nested at most n deep
 abbrev pub term_at : ℕ → List ℕ → Option Found
 term_at n text = term_by (factor_at n) text
 
@@ -121,6 +136,7 @@ abbrev pub at_end : List ℕ → Found → Option Found
 at_end [] f = Some f
 at_end (b ∷ rest) f = None
 
+-- what was found, if it goes up to the end of its text
 abbrev pub ended : Found → Option Found
 ended f = at_end f.rest f
 

@@ -10,23 +10,28 @@ use Rattle.tb_grammar.specs.declared.stop.Stop.TheVariants as stop
 use Rattle.tb_grammar.specs.Reading.{Found}
 use Rattle.tb_grammar.specs.StatementReading.{FoundItem, Told}
 
+-- an expression that was read at the front of a text, with what is left behind it
 abbrev pub seen : Front → Found
 seen f = record { tree = expression_of f.expr; large = f.large; rest = f.rest.now }
 
+-- an expression that is a whole text, with nothing left behind it
 abbrev pub whole_seen : ReadExpression → Found
 whole_seen r = record { tree = expression_of r.expr; large = r.large; rest = [] }
 
+-- an item of PRINT that was read at the front of a text, with what is left behind it
 abbrev pub item_seen : FrontItem → FoundItem
 item_seen f = record { item = item_of f.item; large = f.large; rest = f.rest.now }
 
+-- a statement that was read, and where its first literal above 65,535 begins
 abbrev pub told : ReadStatement → Told
 told r = record { command = command_of r.statement; large = r.large }
 
--- A call answers what reading gives, unless memory ran out.
+-- a call that stops says that reading gives nothing, unless memory ran out
 abbrev pub Fails : {Y : Type 0} → Stop → Option Y → Type 0
 Fails stop.NoMemory read = Unit {0}
 Fails (stop.NoReading left) read = read ≡ None
 
+-- a call that succeeds gives, as view shows it, what reading gives; one that stops is as Fails says
 abbrev pub Gives : {X Y : Type 0} → (X → Y) → Result X Stop → Option Y → Type 0
 Gives view (Ok x) read = read ≡ Some (view x)
 Gives view (Err e) read = Fails e read

@@ -17,6 +17,7 @@ pub record Told : Type 0 where
 unfoldable pub target_at : List ℕ → Option (ℕ × List ℕ)
 target_at text = letter_at text >>= λ v. behind 61 v.1 >>= λ rest. Some (v.0, rest)
 
+-- a relation at the front, the longest that stands there, and what is left behind it
 unfoldable pub relation_at : List ℕ → Option (Rel × List ℕ)
 relation_at text =
     when (behind 61 text)
@@ -45,15 +46,19 @@ pub record FoundItem : Type 0 where
   pub large : Option ℕ
   pub rest : List ℕ
 
+-- the bytes of a text, taken as an item of PRINT, with what is left behind its second quote
 abbrev pub as_text : List ℕ × List ℕ → FoundItem
 as_text q = record { item = Text q.0; large = None; rest = q.1 }
 
+-- an expression that was read, taken as an item of PRINT
 abbrev pub as_value : Found → FoundItem
 as_value f = record { item = Value f.tree; large = f.large; rest = f.rest }
 
+-- a text of PRINT from behind its first quote on; None without a second one
 abbrev pub text_item_at : List ℕ → Option FoundItem
 text_item_at inside = quotation_at inside >>= λ q. Some (as_text q)
 
+-- an item of PRINT at the front: a text between quotes, else the value of an expression
 unfoldable pub item_at : List ℕ → Option FoundItem
 item_at text = when (behind 34 text) (front_of text >>= λ f. Some (as_value f)) text_item_at
 
@@ -82,6 +87,7 @@ items_at k ends [] = Some (record { items = []; ends_line = ends; large = None }
 items_at zero ends (b ∷ text) = None
 items_at (suc k) ends (b ∷ text) = item_at (b ∷ text) >>= λ i. others_by (items_at k false) i.rest >>= λ p. Some (with_items (i.item ∷ []) i.large p)
 
+-- PRINT from behind its word on: items up to the end of the text
 unfoldable pub print_at : List ℕ → Option Told
 print_at text = items_at (length text) true text >>= λ p. Some (record { command = Print p.items p.ends_line; large = p.large })
 
@@ -95,6 +101,7 @@ abbrev pub letters_at : ℕ → List ℕ → Option (List ℕ)
 letters_at zero text = None
 letters_at (suc k) text = letter_at text >>= λ v. letters_after (letters_at k) v.0 v.1
 
+-- INPUT from behind its word on: one or more variables up to the end of the text
 unfoldable pub input_at : List ℕ → Option Told
 input_at text = letters_at (length text) text >>= λ letters. Some (record { command = Input letters; large = None })
 
@@ -102,6 +109,7 @@ input_at text = letters_at (length text) text >>= λ letters. Some (record { com
 abbrev pub behind_then : List ℕ → List ℕ
 behind_then text = when (behind_word (codes "THEN") text) text (λ rest. rest)
 
+-- IF from behind its word on; statement reads the statement that it guards
 unfoldable pub conditional_by : (List ℕ → Option Told) → List ℕ → Option Told
 conditional_by statement text = do
   a ← front_of text
@@ -132,6 +140,7 @@ first_word (k ∷ others) text = when (behind_word (spelled k) text) (first_word
 abbrev pub keywords : List Keyword
 keywords = keyword.Let ∷ keyword.Print ∷ keyword.Pr ∷ keyword.Input ∷ keyword.If ∷ keyword.Goto ∷ keyword.Gosub ∷ keyword.Return ∷ keyword.End ∷ keyword.Rem ∷ []
 
+-- the first word of a statement, and what is left behind it
 unfoldable pub keyword_at : List ℕ → Option (Keyword × List ℕ)
 keyword_at text = first_word keywords text
 

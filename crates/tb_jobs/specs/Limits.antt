@@ -4,6 +4,7 @@ use Rattle.tb_jobs.specs.declared.jobs.Limit.{Limit}
 use Rattle.tb_jobs.specs.declared.jobs.Job.{Job}
 use Rattle.tb_jobs.specs.declared.jobs.Job.TheVariants.{Build, Run, Asm, Dis, Step, Show}
 
+-- a limit of 1 to 1,000,000,000 events
 abbrev pub IsWithin : Limit → Type 0
 IsWithin limit = (1 ≤ limit.events) × (limit.events ≤ 1000000000)
 

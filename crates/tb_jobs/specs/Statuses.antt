@@ -5,11 +5,12 @@ use Rattle.tb_jobs.specs.declared.failure.Failure.TheVariants.{Words, NotUtf8, B
 use Rattle.tb_jobs.specs.declared.jobs.JobError.{JobError}
 use Rattle.tb_jobs.specs.declared.jobs.JobError.TheVariants.{Words as JobWords, NoMemory as NoJobMemory}
 
--- words that are no job
+-- why there is no job: the words are none, or memory is short
 abbrev pub failure_of : JobError → Failure
 failure_of (JobWords text) = Words text
 failure_of NoJobMemory = NoMemory
 
+-- the exit status by why no engine is called
 abbrev pub status_of : Failure → ℕ
 status_of (Words text) = 2
 status_of NotUtf8 = 2

@@ -45,6 +45,7 @@ place_of labels t = number_in labels (Label (label_of t))
 abbrev pub start_at : List (Name × ℕ) → List ℕ → ℕ → ℕ
 start_at labels ns n = if has_line ns n then place_of labels (target.Line n) else place_of labels target.Past
 
+-- the places of a program with these line numbers by the addresses of its labels, with the option's RND state
 abbrev pub layout_of : List (Name × ℕ) → List ℕ → ℕ → Layout
 layout_of labels ns seed = record {
   numbers = ns;
@@ -60,6 +61,7 @@ abbrev pub place_at : Layout → Place → ℕ
 place_at ly (At n) = ly.start n
 place_at ly Past = ly.past
 
+-- where the first line above n begins, or fault 7 where there is none
 abbrev pub next_at : Layout → ℕ → ℕ
 next_at ly n = place_at ly (next_after ly.numbers n)
 
@@ -92,6 +94,7 @@ abbrev pub IsBelowAll : ℕ → List ℕ → Type 0
 IsBelowAll k [] = Unit {0}
 IsBelowAll k (n ∷ ns) = (k < n) × IsBelowAll k ns
 
+-- the numbers of a list rise
 abbrev pub AreRising : List ℕ → Type 0
 AreRising [] = Unit {0}
 AreRising (n ∷ ns) = IsBelowAll n ns × AreRising ns

@@ -16,6 +16,7 @@ lawful_go : (o : Option Service) (s : ℕ) → is_lawful_go o s [] ≡ true
 lawful_go None s = refl
 lawful_go (Some _) s = refl
 
+-- the writes that an event brings: those of a service, where a Go calls one, or of an interrupt
 abbrev pub writes_of : Event → Writes
 writes_of (Go k) = k.writes.items
 writes_of (Interrupt ws) = ws.items

@@ -17,7 +17,7 @@ with_line number c (line ∷ lines) =
     else if number == line.number then line_at number c ∷ lines
     else line ∷ with_line number c lines
 
--- and without one line's entry, if there is one
+-- a program without one line's entry, if there is one
 abbrev pub without_line : ℕ → Program → Program
 without_line number [] = []
 without_line number (line ∷ lines) = if number == line.number then lines else line ∷ without_line number lines
@@ -28,7 +28,7 @@ edited Nothing p = p
 edited (Sets number c) p = with_line number c p
 edited (Deletes number) p = without_line number p
 
--- why a file is refused: the first bad line, from 1, with its refusal
+-- why a file is refused: its first bad line, from 1, or line 0 where it has no lines, and the refusal
 pub record FileRefusal : Type 0 where
   pub line : ℕ
   pub refusal : Refusal
@@ -64,6 +64,7 @@ pub record IsStated (c : Command) : Type 0 where
   pub short : length text ≤ 255
   pub states : States text c None
 
+-- each statement of a program stands in a text of at most 255 bytes
 abbrev pub AreStated : Program → Type 0
 AreStated [] = Unit {0}
 AreStated (line ∷ lines) = IsStated line.content × AreStated lines

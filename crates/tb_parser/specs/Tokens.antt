@@ -6,10 +6,11 @@ use Rattle.tb_parser.specs.declared.lexer.Token.{Token}
 abbrev pub AreSpaces : List ℕ → ℕ → ℕ → Type 0
 AreSpaces line from to = (k : ℕ) → from ≤ k → k < to → slice_index line k ≡ 32
 
--- where a token begins and ends in its line, from 0
+-- where a token begins in its line, from 0
 abbrev pub start_of : Token → ℕ
 start_of t = t.column - 1
 
+-- the place right behind a token in its line, from 0
 abbrev pub end_of : Token → ℕ
 end_of t = t.column - 1 + length t.text.now
 

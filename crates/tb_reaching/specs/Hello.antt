@@ -10,10 +10,11 @@ use Rattle.tb_reaching.specs.View.{View, Setup, Part, Holds, Fits, Comes, part_a
 
 -- ---- the routine
 
--- the pointer to the next byte, and the number of bytes left
+-- the pointer to the next byte
 abbrev pub pointer : ℕ
 pointer = 0xfb
 
+-- where the routine keeps the number of bytes left to send, in one byte
 abbrev pub left : ℕ
 left = 0xc000
 

@@ -12,9 +12,11 @@ abbrev pub of_kind : SourceErrorKind → SourceError → CompileError
 of_kind source_kind.NoMemory e = NoMemory
 of_kind k e = Source e
 
+-- the refusal of a source where its text was refused
 abbrev pub of_source : SourceError → CompileError
 of_source e = of_kind e.kind e
 
+-- the refusal of a source where lowering was refused: an expression that is too deep, or want of memory
 abbrev pub of_lower : LowerError → CompileError
 of_lower deep.NoMemory = NoMemory
 of_lower (deep.TooDeep n) = Lower (deep.TooDeep n)

@@ -19,10 +19,11 @@ use Rattle.tb_routines.specs.Laws.{AllBytes, word_at, IsWord}
 use Rattle.tb_routines.specs.Laws as laws
 use Rattle.tb_routines.specs.Ends.{Faulting}
 use Rattle.tb_routines.specs.Input as asking
+use Rattle.tb_routines.specs.Input.{prompt}
 use Rattle.tb_routines.specs.Notes.{notes_part, Held, Notes, Faulted}
 use Rattle.tb_routines.specs.Notes as listed
 use Rattle.tb_routines.specs.Search.{search_changes, Shows, table_bytes, address_of, Searched, Found}
-use Rattle.tb_routines.specs.Routines.{WordAt, is_owned, Noted, SeedAt, stored, first, Entered, Here, WithA, Moves, Waiting, Back, Gives, Told, Popped, Pushed, Drawn, Asked, prompt, line_end, Tabled, entries, limit_by, AllLaws}
+use Rattle.tb_routines.specs.Routines.{WordAt, is_owned, Noted, SeedAt, stored, first, Entered, Here, WithA, Moves, Waiting, Back, Gives, Told, Popped, Pushed, Drawn, Asked, line_end, Tabled, entries, limit_by, AllLaws}
 use Rattle.tb_routines.proofs.Gathered.{value, small_bytes, holds_word, from_here, from_a, beside, AtFault, told, faulting, number_column, entries_length, found, not_found}
 use Rattle.tb_routines.proofs.Block.{send_held, multiply_held, divide_held, random_held, number_held, text_held, zone_held, input_held, search_held, fault_held, poll_held, notes_held}
 use Rattle.tb_routines.proofs.SendRuns.{send_law}
@@ -85,14 +86,6 @@ notes_of : (m : ℕ → ℕ) (ns : List ℕ) → WordAt m NOTES (length ns) → 
 notes_of m ns w h few = record { is_word = small_bytes m NOTES _ w; count = value m NOTES _ w; few = few; held = held m ns h }
 
 -- ---- INPUT
-same_bit : (b : Bool) → asking.one_if b ≡ bit b
-same_bit true = refl
-same_bit false = refl
-
-same_prompt : (b : Bool) → asking.prompt b ≡ prompt b
-same_prompt true = refl
-same_prompt false = refl
-
 -- a byte is no more than one
 not_zero : (a : ℕ) → (nat_eq a 0 || nat_le 32768 a) ≡ false → (1 ≤ a) × (a < 32768)
 not_zero a h = (grind (arith, nat_tests), grind (arith, nat_tests))
@@ -115,7 +108,7 @@ seed_at : (m : ℕ → ℕ) (option seed : ℕ) → WordAt m RIGHT option → Se
 seed_at m option seed right (stored is at) = (small_bytes m SEED seed at, ap (λ n. if n == 0 then word_at m RIGHT else word_at m SEED) is ∙ value m SEED seed at)
 seed_at m option seed right (first is same small old at) = (small_bytes m SEED old at, ap (λ n. if n == 0 then word_at m RIGHT else word_at m SEED) is ∙ value m RIGHT option right ∙ sym same)
 
-ends_with : (o stays : Bool) (v : ℕ) (left : List ℕ) (line : ℕ) → asking.prompt o ++ asking.turn_sends line (Got v stays left) ≡ prompt o ++ line_end stays
+ends_with : (o stays : Bool) (v : ℕ) (left : List ℕ) (line : ℕ) → prompt o ++ asking.turn_sends line (Got v stays left) ≡ prompt o ++ line_end stays
 ends_with true true v left line = refl
 ends_with true false v left line = refl
 ends_with false true v left line = refl
@@ -133,13 +126,13 @@ module _ (table seed_option : ℕ) (numbers : List ℕ) (start : ℕ → ℕ) (f
       search_law (under f own) (omega (arith, fits)) (part f block search_part search_held) l h text answers m x y z b v i c d (entries start numbers) (small_bytes m LEFT n left) (small_bytes m TABLE table at) (small_bytes m COUNT _ count)
       (subst (λ p. Shows f.code p (table_bytes (entries start numbers))) (sym t) laid.shown) (omega (arith, t, laid.from)) (omega (arith, t, size, laid.to)) (omega (arith, s, size)) (omega (arith, size, laid.some)) laid.rising laid.words
 
-  asks : (l h : ℕ) (m : ℕ → ℕ) (text answers : List ℕ) (o : Bool) (j : ℕ) → m OPEN ≡ bit o → m COLUMN < 256 → AllBytes text → WordAt m LINE j → Entered f lo hi m → (x y z : ℕ) (n b i c d : Bool) → Comes f (view x y z n b i c d INPUT_AT (l ∷ h ∷ own) m text answers) (asking.Ended f l h lo hi m answers (m COLUMN) (asking.prompt o) (turn Nothing text)) (asking.prompt o ++ asking.turn_sends (word_at m LINE) (turn Nothing text)) (45 * length text + 1569)
+  asks : (l h : ℕ) (m : ℕ → ℕ) (text answers : List ℕ) (o : Bool) (j : ℕ) → m OPEN ≡ bit o → m COLUMN < 256 → AllBytes text → WordAt m LINE j → Entered f lo hi m → (x y z : ℕ) (n b i c d : Bool) → Comes f (view x y z n b i c d INPUT_AT (l ∷ h ∷ own) m text answers) (asking.Ended f l h lo hi m answers (m COLUMN) (prompt o) (turn Nothing text)) (prompt o ++ asking.turn_sends (word_at m LINE) (turn Nothing text)) (45 * length text + 1569)
   asks l h m text answers o j is_open column small line e x y z n b i c d =
-      input_law f (omega (arith, fits)) lo hi (all_faults f block) (part f block input_part input_held) l h text answers m (record { homed = e.homed; kept = e.kept; line = small_bytes m LINE j line }) small o (is_open ∙ sym (same_bit o)) (m COLUMN) (let r : m COLUMN ≡ m COLUMN % 256 = omega (arith, column) in r) x y z n b i c d
+      input_law f (omega (arith, fits)) lo hi (all_faults f block) (part f block input_part input_held) l h text answers m (record { homed = e.homed; kept = e.kept; line = small_bytes m LINE j line }) small o is_open (m COLUMN) (let r : m COLUMN ≡ m COLUMN % 256 = omega (arith, column) in r) x y z n b i c d
 
   -- back from INPUT
-  taken : (l h : ℕ) (m : ℕ → ℕ) (answers : List ℕ) (stays : Bool) (v : ℕ) (left : List ℕ) (o : Bool) (w : View) → asking.Ended f l h lo hi m answers (m COLUMN) (asking.prompt o) (Got v stays left) w → Asked (back_at l h) own m left answers (prompt o ++ line_end stays) stays v w
-  taken l h m answers true v left o w k = record { pc = k.pc; stack = k.stack; binary = k.binary; text = k.left; answers = k.same_answers; result = holds_word w.mem RESULT v k.is_word k.result; opened = k.line_open; column = k.column_is ∙ ap (λ t. column_after (m COLUMN) t % 256) (same_prompt o ∙ sym (append-nil (prompt o))); others = λ p s q r. k.others p (not_asked p s q r) }
+  taken : (l h : ℕ) (m : ℕ → ℕ) (answers : List ℕ) (stays : Bool) (v : ℕ) (left : List ℕ) (o : Bool) (w : View) → asking.Ended f l h lo hi m answers (m COLUMN) (prompt o) (Got v stays left) w → Asked (back_at l h) own m left answers (prompt o ++ line_end stays) stays v w
+  taken l h m answers true v left o w k = record { pc = k.pc; stack = k.stack; binary = k.binary; text = k.left; answers = k.same_answers; result = holds_word w.mem RESULT v k.is_word k.result; opened = k.line_open; column = k.column_is ∙ ap (λ t. column_after (m COLUMN) t % 256) (sym (append-nil (prompt o))); others = λ p s q r. k.others p (not_asked p s q r) }
   taken l h m answers false v left true w k = record { pc = k.pc; stack = k.stack; binary = k.binary; text = k.left; answers = k.same_answers; result = holds_word w.mem RESULT v k.is_word k.result; opened = k.line_open; column = k.column_is; others = λ p s q r. k.others p (not_asked p s q r) }
   taken l h m answers false v left false w k = record { pc = k.pc; stack = k.stack; binary = k.binary; text = k.left; answers = k.same_answers; result = holds_word w.mem RESULT v k.is_word k.result; opened = k.line_open; column = k.column_is; others = λ p s q r. k.others p (not_asked p s q r) }
 
@@ -304,8 +297,8 @@ module _ (table seed_option : ℕ) (numbers : List ℕ) (start : ℕ → ℕ) (f
   input_clause l h m text answers o stays v left j is_open column small few line e got =
       from_here f _ _ m text answers _ (prompt o ++ line_end stays) (limit_by keys) (λ x y z n b i c d.
       looser f _ _ _ (prompt o ++ line_end stays) (45 * length text + 1569) (limit_by keys) (omega (arith, few)) (λ w k. taken l h m answers stays v left o w k)
-      (subst (λ s. Comes f (view x y z n b i c d INPUT_AT (l ∷ h ∷ own) m text answers) (asking.Ended f l h lo hi m answers (m COLUMN) (asking.prompt o) (Got v stays left)) s (45 * length text + 1569)) (ends_with o stays v left (word_at m LINE))
-      (subst (λ t. Comes f (view x y z n b i c d INPUT_AT (l ∷ h ∷ own) m text answers) (asking.Ended f l h lo hi m answers (m COLUMN) (asking.prompt o) t) (asking.prompt o ++ asking.turn_sends (word_at m LINE) t) (45 * length text + 1569)) got
+      (subst (λ s. Comes f (view x y z n b i c d INPUT_AT (l ∷ h ∷ own) m text answers) (asking.Ended f l h lo hi m answers (m COLUMN) (prompt o) (Got v stays left)) s (45 * length text + 1569)) (ends_with o stays v left (word_at m LINE))
+      (subst (λ t. Comes f (view x y z n b i c d INPUT_AT (l ∷ h ∷ own) m text answers) (asking.Ended f l h lo hi m answers (m COLUMN) (prompt o) t) (prompt o ++ asking.turn_sends (word_at m LINE) t) (45 * length text + 1569)) got
       (asks l h m text answers o j is_open column small line e x y z n b i c d))))
 
   input_fails_clause : (l h : ℕ) (m : ℕ → ℕ) (text answers : List ℕ) (o : Bool) (n : ℕ) → m OPEN ≡ bit o → m COLUMN < 256 → AllBytes text → length text ≤ keys → turn Nothing text ≡ Bad → WordAt m LINE n → Entered f lo hi m →
@@ -313,8 +306,8 @@ module _ (table seed_option : ℕ) (numbers : List ℕ) (start : ℕ → ℕ) (f
   input_fails_clause l h m text answers o j is_open column small few got line e =
       from_here f _ _ m text answers _ (prompt o ++ fault_text 6 j) (limit_by keys) (λ x y z n b i c d.
       looser f _ _ _ (prompt o ++ fault_text 6 j) (45 * length text + 1569) (limit_by keys) (omega (arith, few)) (λ w k. k)
-      (subst (λ s. Comes f (view x y z n b i c d INPUT_AT (l ∷ h ∷ own) m text answers) (IsHome f) s (45 * length text + 1569)) (ap (λ p. p ++ fault_text 6 (word_at m LINE)) (same_prompt o) ∙ ap (λ n. prompt o ++ fault_text 6 n) (value m LINE j line))
-      (subst (λ t. Comes f (view x y z n b i c d INPUT_AT (l ∷ h ∷ own) m text answers) (asking.Ended f l h lo hi m answers (m COLUMN) (asking.prompt o) t) (asking.prompt o ++ asking.turn_sends (word_at m LINE) t) (45 * length text + 1569)) got
+      (subst (λ s. Comes f (view x y z n b i c d INPUT_AT (l ∷ h ∷ own) m text answers) (IsHome f) s (45 * length text + 1569)) (ap (λ n. prompt o ++ fault_text 6 n) (value m LINE j line))
+      (subst (λ t. Comes f (view x y z n b i c d INPUT_AT (l ∷ h ∷ own) m text answers) (asking.Ended f l h lo hi m answers (m COLUMN) (prompt o) t) (prompt o ++ asking.turn_sends (word_at m LINE) t) (45 * length text + 1569)) got
       (asks l h m text answers o j is_open column small line e x y z n b i c d))))
 
   input_waits_clause : (l h : ℕ) (m : ℕ → ℕ) (text answers : List ℕ) (o : Bool) (n : ℕ) → m OPEN ≡ bit o → m COLUMN < 256 → AllBytes text → length text ≤ keys → turn Nothing text ≡ Dry → WordAt m LINE n → Entered f lo hi m →
@@ -322,8 +315,8 @@ module _ (table seed_option : ℕ) (numbers : List ℕ) (start : ℕ → ℕ) (f
   input_waits_clause l h m text answers o j is_open column small few got line e =
       from_here f _ _ m text answers _ (prompt o) (limit_by keys) (λ x y z n b i c d.
       looser f _ _ _ (prompt o) (45 * length text + 1569) (limit_by keys) (omega (arith, few)) (λ w k. record { waits = k.0; deep = omega (arith, k.1) })
-      (subst (λ s. Comes f (view x y z n b i c d INPUT_AT (l ∷ h ∷ own) m text answers) (λ w. IsWaiting w × (length w.stack ≤ 6)) s (45 * length text + 1569)) (append-nil (asking.prompt o) ∙ same_prompt o)
-      (subst (λ t. Comes f (view x y z n b i c d INPUT_AT (l ∷ h ∷ own) m text answers) (asking.Ended f l h lo hi m answers (m COLUMN) (asking.prompt o) t) (asking.prompt o ++ asking.turn_sends (word_at m LINE) t) (45 * length text + 1569)) got
+      (subst (λ s. Comes f (view x y z n b i c d INPUT_AT (l ∷ h ∷ own) m text answers) (λ w. IsWaiting w × (length w.stack ≤ 6)) s (45 * length text + 1569)) (append-nil (prompt o))
+      (subst (λ t. Comes f (view x y z n b i c d INPUT_AT (l ∷ h ∷ own) m text answers) (asking.Ended f l h lo hi m answers (m COLUMN) (prompt o) t) (prompt o ++ asking.turn_sends (word_at m LINE) t) (45 * length text + 1569)) got
       (asks l h m text answers o j is_open column small line e x y z n b i c d))))
 
   poll_clause : (l h : ℕ) (m : ℕ → ℕ) (text answers : List ℕ) (n : ℕ) → AllBytes answers → nat_eq (first_or_zero answers) 3 ≡ false → WordAt m LINE n → Entered f lo hi m →

@@ -40,6 +40,7 @@ PollLaw =
 abbrev pub is_cleared : ℕ → Bool
 is_cleared a = within 0xc000 0xc036 a || within 0xc038 0xc03d a
 
+-- the end of the prologue, from a start s: at the first line, the cleared places zero, keyboard and return as at s
 pub record Begun (f : Setup) (s : State) (w : View) : Type 0 where
   pub pc : w.regs.pc ≡ 0x0c00
   pub stack : w.stack ≡ home_low s ∷ home_high s ∷ []

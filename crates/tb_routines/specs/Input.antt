@@ -1,5 +1,6 @@
 -- What Input promises: one variable's turn.
 use Rattle.std.specs.Prelude.{◌≡◌, ℕ, ◌+◌, ◌*◌, ◌%◌, ◌≤◌, Bool, true, false, ◌&&◌, ◌||◌, List, [], ◌∷◌, ◌++◌, length, nat_le, ◌==◌}
+use Rattle.tb_cpu.specs.Effects.{bit}
 use Rattle.tb_reaching.specs.View.{View, Setup, Holds, Fits, Comes, view, back_at}
 use Rattle.tb_reaching.specs.Start.{IsHome, IsWaiting}
 use Rattle.tb_lower.specs.Control.{column_after, fault_text}
@@ -11,17 +12,15 @@ use Rattle.tb_routines.specs.Laws.{word_at, IsWord, AllBytes}
 
 -- ---- the law
 
+-- where Input keeps the sign it read, or 0 before one: the byte behind SCRATCH
 abbrev pub MINUS : ℕ
 MINUS = 0xc06f
-
-abbrev pub one_if : Bool → ℕ
-one_if true = 1
-one_if false = 0
 
 -- the places that Input changes
 abbrev pub is_changed : ℕ → Bool
 is_changed a = (nat_le LEFT a && nat_le a 0xc067) || ((nat_le BYTE a && nat_le a MINUS) || (a == OPEN || a == COLUMN))
 
+-- what Input sends before it reads: nothing where a line is open, else a question mark and a space
 abbrev pub prompt : Bool → List ℕ
 prompt true = []
 prompt false = 63 ∷ 32 ∷ []
@@ -42,7 +41,7 @@ pub record Taken (lo hi hlo hhi : ℕ) (m : ℕ → ℕ) (replies : List ℕ) (c
   pub same_answers : w.answers ≡ replies
   pub is_word : IsWord w.mem RESULT
   pub result : word_at w.mem RESULT ≡ number
-  pub line_open : w.mem OPEN ≡ one_if stays
+  pub line_open : w.mem OPEN ≡ bit stays
   pub column_is : w.mem COLUMN ≡ column
   pub others : (a : ℕ) → is_changed a ≡ false → w.mem a ≡ m a
 
@@ -56,5 +55,5 @@ Ended f lo hi hlo hhi m replies c before Dry w = IsWaiting w × (length w.stack 
 -- Input does one variable's turn: back with a number, a fault 6, or waiting for a key
 abbrev pub InputLaw : Type 0
 InputLaw =
-    (f : Setup) → Fits f 13 → (hlo hhi : ℕ) → Faulting f.code → Holds input_part f.code → (lo hi : ℕ) (text answers : List ℕ) (m : ℕ → ℕ) → Entered f hlo hhi m → AllBytes text → (is_open : Bool) → m OPEN ≡ one_if is_open → (c : ℕ) → m COLUMN ≡ c % 256 → (a x y : ℕ) (n v i z carry : Bool) →
+    (f : Setup) → Fits f 13 → (hlo hhi : ℕ) → Faulting f.code → Holds input_part f.code → (lo hi : ℕ) (text answers : List ℕ) (m : ℕ → ℕ) → Entered f hlo hhi m → AllBytes text → (is_open : Bool) → m OPEN ≡ bit is_open → (c : ℕ) → m COLUMN ≡ c % 256 → (a x y : ℕ) (n v i z carry : Bool) →
     Comes f (view a x y n v i z carry INPUT_AT (lo ∷ hi ∷ hlo ∷ hhi ∷ []) m text answers) (Ended f lo hi hlo hhi m answers c (prompt is_open) (turn Nothing text)) (prompt is_open ++ turn_sends (word_at m LINE) (turn Nothing text)) (45 * length text + 1569)

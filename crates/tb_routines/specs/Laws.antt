@@ -7,9 +7,11 @@ use Rattle.tb_lower.specs.Control.{zone, column_after}
 use Rattle.tb_runtime16.specs.Places.{SEND_AT, MULTIPLY_AT, DIVIDE_AT, RANDOM_AT, NUMBER_AT, TEXT_AT, ZONE_AT, FAULT_AT, COLUMN, SEEDED, SEED, LEFT, RIGHT, RESULT, LENGTH, SCRATCH, POINTER}
 use Rattle.tb_routines.specs.Parts.{send_part, multiply_part, divide_part, random_part, number_part, text_part, zone_part}
 
+-- the word at an address of a memory, low byte first
 abbrev pub word_at : (ℕ → ℕ) → ℕ → ℕ
 word_at m at = m at + 256 * m (at + 1)
 
+-- an address and the one behind it hold bytes
 abbrev pub IsWord : (ℕ → ℕ) → ℕ → Type 0
 IsWord m at = (m at < 256) × (m (at + 1) < 256)
 
@@ -44,6 +46,7 @@ pub record Faults (lo hi : ℕ) (text answers : List ℕ) (m : ℕ → ℕ) (k :
 
 -- ---- Send
 
+-- memory after bytes were sent: COLUMN is the column behind them, modulo 256, and all else is as it was
 pub record Said (m0 : ℕ → ℕ) (sent : List ℕ) (m : ℕ → ℕ) : Type 0 where
   pub column : m COLUMN ≡ column_after (m0 COLUMN) sent % 256
   pub others : (a : ℕ) → a ≢ COLUMN → m a ≡ m0 a
@@ -56,6 +59,7 @@ SendLaw =
 
 -- ---- Text
 
+-- each number of a list is below 256
 abbrev pub AllBytes : List ℕ → Type 0
 AllBytes [] = Unit {0}
 AllBytes (b ∷ bs) = (b < 256) × AllBytes bs
@@ -70,6 +74,7 @@ pub record Points (f : Setup) (m : ℕ → ℕ) (bytes : List ℕ) : Type 0 wher
   pub few : length bytes < 256
   pub bytes_small : AllBytes bytes
 
+-- memory after Text sent bytes: COLUMN as behind them, POINTER and LENGTH lost, and all else as it was
 pub record Told (m0 : ℕ → ℕ) (sent : List ℕ) (m : ℕ → ℕ) : Type 0 where
   pub column : m COLUMN % 256 ≡ column_after (m0 COLUMN) sent % 256
   pub column_small : m0 COLUMN < 256 → m COLUMN < 256
@@ -109,9 +114,11 @@ MultiplyLaw =
 
 -- ---- division without signs, inside Divide
 
+-- the entry of the division without signs, inside Divide
 abbrev pub unsigned_at : ℕ
 unsigned_at = DIVIDE_AT + 78
 
+-- memory after the division without signs: quotient q at LEFT, remainder r at RESULT, and all else as it was
 pub record Parted (m0 : ℕ → ℕ) (q r : ℕ) (m : ℕ → ℕ) : Type 0 where
   pub left_is : IsWord m LEFT
   pub left : word_at m LEFT ≡ q
@@ -129,6 +136,7 @@ UnsignedLaw =
 
 -- ---- Divide
 
+-- the entry of what turns the sign of LEFT, inside Divide
 abbrev pub negate_left_at : ℕ
 negate_left_at = DIVIDE_AT + 42
 
@@ -152,6 +160,7 @@ DivideByZeroLaw =
 
 -- ---- Number
 
+-- memory after Number sent a text: COLUMN on by its length, modulo 256, the arguments lost, all else as it was
 pub record Written (m0 : ℕ → ℕ) (t : List ℕ) (m : ℕ → ℕ) : Type 0 where
   pub column : m COLUMN ≡ (m0 COLUMN + length t) % 256
   pub others : (a : ℕ) → is_argument a ≡ false → a ≢ COLUMN → m a ≡ m0 a
@@ -164,6 +173,7 @@ NumberLaw =
 
 -- ---- Random
 
+-- whether an address is that of SEEDED or one of the two of SEED
 abbrev pub is_seed : ℕ → Bool
 is_seed a = a == SEEDED || within 0xc038 0xc039 a
 
@@ -171,6 +181,7 @@ is_seed a = a == SEEDED || within 0xc038 0xc039 a
 abbrev pub seed_of : (ℕ → ℕ) → ℕ
 seed_of m = if m SEEDED == 0 then word_at m RIGHT else word_at m SEED
 
+-- memory after Random: the state after seed is stored, RESULT is it modulo bound; LEFT, RIGHT and SCRATCH are lost
 pub record Drawn (m0 : ℕ → ℕ) (bound seed : ℕ) (m : ℕ → ℕ) : Type 0 where
   pub is_word : IsWord m RESULT
   pub value : word_at m RESULT ≡ seed_after seed % bound

@@ -33,25 +33,31 @@ abbrev pub Held : (ℕ → ℕ) → List ℕ → Type 0
 Held m [] = Unit {0}
 Held m (n ∷ ns) = IsWord m (NOTE_LIST + 2 * length ns) × (word_at m (NOTE_LIST + 2 * length ns) ≡ n) × Held m ns
 
+-- the return list holds these notes, at most 500, the newest first, and NOTES is their count
 pub record Notes (m : ℕ → ℕ) (notes : List ℕ) : Type 0 where
   pub is_word : IsWord m NOTES
   pub count : word_at m NOTES ≡ length notes
   pub few : length notes ≤ 500
   pub held : Held m notes
 
+-- no place changes
 abbrev pub nothing : ℕ → Bool
 nothing a = false
 
+-- the places that Push may change: POINTER, NOTES and the return list
 abbrev pub push_changes : ℕ → Bool
 push_changes a = within 0xfb 0xfc a || (within 0xc03C 0xc03D a || within 0xc100 0xc4e7 a)
 
+-- the places that Pop may change: POINTER, NOTES and RESULT
 abbrev pub pop_changes : ℕ → Bool
 pop_changes a = within 0xfb 0xfc a || (within 0xc03C 0xc03D a || within 0xc066 0xc067 a)
 
+-- back from Push, with these notes in the return list
 pub record Pushed (lo hi : ℕ) (m : ℕ → ℕ) (text answers ns : List ℕ) (w : View) : Type 0 where
   pub back : Returned lo hi push_changes m text answers w
   pub notes : Notes w.mem ns
 
+-- back from Pop with note n at RESULT, and the notes ns left in the return list
 pub record Popped (lo hi : ℕ) (m : ℕ → ℕ) (text answers : List ℕ) (n : ℕ) (ns : List ℕ) (w : View) : Type 0 where
   pub back : Returned lo hi pop_changes m text answers w
   pub is_word : IsWord w.mem RESULT

@@ -11,6 +11,7 @@ use Rattle.tb_reaching.specs.View.{View, Setup, Part, Holds, Fits, Comes, back_a
 use Rattle.tb_reaching.specs.Start.{IsHome, IsWaiting, Homed}
 use Rattle.tb_routines.specs.Parts.{block_part}
 use Rattle.tb_routines.specs.Laws.{AllBytes}
+use Rattle.tb_routines.specs.Input.{prompt}
 use Rattle.tb_routines.specs.Search.{Line, Shows, table_bytes, Rising, AllWords}
 
 -- ---- memory
@@ -137,11 +138,7 @@ pub record Asked (at : ℕ) (bs : List ℕ) (m : ℕ → ℕ) (keys gets sent : 
   pub column : w.mem COLUMN ≡ column_after (m COLUMN) sent % 256
   pub others : (a : ℕ) → is_owned a ≡ true → a ≢ OPEN → a ≢ COLUMN → w.mem a ≡ m a
 
--- what INPUT sends: before reading, where no line is open, and at the line's end
-abbrev pub prompt : Bool → List ℕ
-prompt true = []
-prompt false = 63 ∷ 32 ∷ []
-
+-- what a turn of INPUT sends behind a number: nothing where the line stays open, else 13
 abbrev pub line_end : Bool → List ℕ
 line_end true = []
 line_end false = 13 ∷ []

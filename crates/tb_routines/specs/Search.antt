@@ -13,21 +13,26 @@ Shows code at [] = Unit {0}
 Shows code at (b ∷ bs) = (code at ≡ Some b) × Shows code (at + 1) bs
 
 -- ---- the table: pairs of a line's number and its code's address
+-- a line: its number, and the address of its code
 abbrev pub Line : Type 0
 Line = ℕ × ℕ
 
+-- the bytes of the line table, four a line: its number and its address, each low byte first
 abbrev pub table_bytes : List Line → List ℕ
 table_bytes [] = []
 table_bytes (e ∷ es) = e.0 % 256 ∷ e.0 / 256 ∷ e.1 % 256 ∷ e.1 / 256 ∷ table_bytes es
 
+-- each of these lines has a number above k
 abbrev pub AllAbove : ℕ → List Line → Type 0
 AllAbove k [] = Unit {0}
 AllAbove k (e ∷ es) = (k < e.0) × AllAbove k es
 
+-- the numbers of the lines rise
 abbrev pub Rising : List Line → Type 0
 Rising [] = Unit {0}
 Rising (e ∷ es) = AllAbove e.0 es × Rising es
 
+-- numbers and addresses of the lines are below 65,536
 abbrev pub AllWords : List Line → Type 0
 AllWords [] = Unit {0}
 AllWords (e ∷ es) = (e.0 < 65536) × (e.1 < 65536) × AllWords es
@@ -37,9 +42,11 @@ abbrev pub address_of : ℕ → List Line → Option ℕ
 address_of t [] = None
 address_of t (e ∷ es) = let later = address_of t es in if nat_eq e.0 t then Some e.1 else later
 
+-- the places that Search may change: POINTER, SECOND, RESULT, COUNT and the two bytes from SCRATCH on
 abbrev pub search_changes : ℕ → Bool
 search_changes a = within 0xfb 0xfe a || (within 0xc066 0xc067 a || (within 0xc06a 0xc06b a || within 0xc06e 0xc06f a))
 
+-- back from Search with a line's address at RESULT
 pub record Found (lo hi : ℕ) (m : ℕ → ℕ) (text answers : List ℕ) (address : ℕ) (w : View) : Type 0 where
   pub back : Returned lo hi search_changes m text answers w
   pub is_word : IsWord w.mem RESULT

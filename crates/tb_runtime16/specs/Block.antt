@@ -5,13 +5,15 @@ use Rattle.tb_runtime16.specs.declared.places.Routine.TheVariants.{Multiply, Div
 use Rattle.tb_runtime16.specs.Places.{COLUMN, OPEN, SEEDED, HOME_S, SEED, LINE, NOTES, VARS, LEFT, RIGHT, RESULT, TABLE, COUNT, LENGTH, BYTE, SCRATCH, POINTER, SECOND, CHROUT, CHRIN, GETIN, LINES_AT}
 use Rattle.tb_runtime16.specs.Places.{PROLOGUE_AT, SEND_AT, MULTIPLY_AT, DIVIDE_AT, NUMBER_AT, INPUT_AT, SEARCH_AT, PUSH_AT, FAULT_AT}
 
--- the low and the high byte of an address
+-- the low byte of an address
 abbrev pub low : ℕ → ℕ
 low address = address % 256
 
+-- the high byte of an address
 abbrev pub high : ℕ → ℕ
 high address = address / 256
 
+-- the prologue: decimal mode off, $C000 to $C03D cleared, S kept at HOME_S, and on to the first line
 abbrev pub prologue_bytes : List ℕ
 prologue_bytes =
     0xD8 ∷  -- 0: CLD
@@ -25,6 +27,7 @@ prologue_bytes =
     0x4C ∷ low LINES_AT ∷ high LINES_AT ∷  -- 15: JMP LINES_AT
     []
 
+-- Send: the byte in A goes to CHROUT, and COLUMN is one more, or 0 behind a 13
 abbrev pub send_bytes : List ℕ
 send_bytes =
     0xC9 ∷ 0x0D ∷  -- 0 SEND: CMP #$0D
@@ -35,6 +38,7 @@ send_bytes =
     0x4C ∷ low CHROUT ∷ high CHROUT ∷  -- 12: JMP CHROUT
     []
 
+-- Multiply: LEFT times RIGHT, modulo 65,536, into RESULT
 abbrev pub multiply_bytes : List ℕ
 multiply_bytes =
     0xA9 ∷ 0x00 ∷  -- 0 MULTIPLY: LDA #$00
@@ -59,6 +63,7 @@ multiply_bytes =
     0x60 ∷  -- 51: RTS
     []
 
+-- Divide: the quotient of the signed words at LEFT and RIGHT into RESULT; fault 2 where RIGHT is 0
 abbrev pub divide_bytes : List ℕ
 divide_bytes =
     0xAD ∷ low RIGHT ∷ high RIGHT ∷  -- 0 DIVIDE: LDA RIGHT
@@ -115,6 +120,7 @@ divide_bytes =
     0x60 ∷  -- 128: RTS
     []
 
+-- Random: stores the next RND state, and gives it modulo LEFT in RESULT; fault 3 where LEFT is below 1
 abbrev pub random_bytes : List ℕ
 random_bytes =
     0xAD ∷ low (LEFT + 1) ∷ high (LEFT + 1) ∷  -- 0 RANDOM: LDA LEFT+1
@@ -157,6 +163,7 @@ random_bytes =
     0x4C ∷ low (DIVIDE_AT + 78) ∷ high (DIVIDE_AT + 78) ∷  -- 91: JMP UNSIGNED
     []
 
+-- Number: sends the signed word at LEFT in decimal
 abbrev pub number_bytes : List ℕ
 number_bytes =
     0xAD ∷ low (LEFT + 1) ∷ high (LEFT + 1) ∷  -- 0 NUMBER: LDA LEFT+1
@@ -185,6 +192,7 @@ number_bytes =
     0x60 ∷  -- 53 NUMBEREND: RTS
     []
 
+-- Text: sends the LENGTH bytes from the address in POINTER on
 abbrev pub text_bytes : List ℕ
 text_bytes =
     0xAD ∷ low LENGTH ∷ high LENGTH ∷  -- 0 TEXT: LDA LENGTH
@@ -200,6 +208,7 @@ text_bytes =
     0x60 ∷  -- 23 TEXT3: RTS
     []
 
+-- Zone: sends spaces, at least one, up to the next column that 8 divides
 abbrev pub zone_bytes : List ℕ
 zone_bytes =
     0xA9 ∷ 0x20 ∷  -- 0 ZONE: LDA #$20
@@ -210,6 +219,7 @@ zone_bytes =
     0x60 ∷  -- 12: RTS
     []
 
+-- Input: one variable's turn of INPUT, its value into RESULT; fault 6 where no number can be read
 abbrev pub input_bytes : List ℕ
 input_bytes =
     0xAD ∷ low OPEN ∷ high OPEN ∷  -- 0 INPUT: LDA OPEN
@@ -301,6 +311,7 @@ input_bytes =
     0x60 ∷  -- 217 DONE2: RTS
     []
 
+-- Search: the address of the line whose number is at LEFT, by TABLE and COUNT, into RESULT; fault 1 where none is
 abbrev pub search_bytes : List ℕ
 search_bytes =
     0xAD ∷ low TABLE ∷ high TABLE ∷  -- 0 SEARCH: LDA TABLE
@@ -371,6 +382,7 @@ search_bytes =
     0x4C ∷ low FAULT_AT ∷ high FAULT_AT ∷  -- 145: JMP FAULT
     []
 
+-- Push: the word at LEFT onto the return list, fault 4 where that is full; and the place of a note, for Pop too
 abbrev pub push_bytes : List ℕ
 push_bytes =
     0xAD ∷ low NOTES ∷ high NOTES ∷  -- 0 PUSH: LDA NOTES
@@ -402,6 +414,7 @@ push_bytes =
     0x60 ∷  -- 57: RTS
     []
 
+-- Pop: the newest note off the return list into RESULT; fault 5 where there is none
 abbrev pub pop_bytes : List ℕ
 pop_bytes =
     0xAD ∷ low NOTES ∷ high NOTES ∷  -- 0 POP: LDA NOTES
@@ -422,6 +435,7 @@ pop_bytes =
     0x4C ∷ low FAULT_AT ∷ high FAULT_AT ∷  -- 35: JMP FAULT
     []
 
+-- Fault: from any depth, sends the text of the fault whose number is in A, at the line in LINE, and ends the program
 abbrev pub fault_bytes : List ℕ
 fault_bytes =
     0x18 ∷  -- 0 FAULT: CLC
@@ -452,6 +466,7 @@ fault_bytes =
     0x4C ∷ low SEND_AT ∷ high SEND_AT ∷  -- 63: JMP SEND
     []
 
+-- Poll: asks GETIN once; fault 0 where it gives 3, the STOP key
 abbrev pub poll_bytes : List ℕ
 poll_bytes =
     0x20 ∷ low GETIN ∷ high GETIN ∷  -- 0 POLL: JSR GETIN

@@ -21,5 +21,6 @@ StateStands =
 abbrev pub WorkStands : Type 0
 WorkStands = (public.SLOTS ≡ SLOTS) × (public.HELD ≡ HELD) × (public.BYTE ≡ BYTE) × (public.SCRATCH ≡ SCRATCH)
 
+-- all of these: each public constant is the place that the definitions have for it
 abbrev pub ConstantsArePlaces : Type 0
 ConstantsArePlaces = CodeStands × (ArgumentsStand × (StateStands × WorkStands))

@@ -4,9 +4,11 @@ use Rattle.tb_runtime16.specs.declared.places.Routine.{Routine}
 use Rattle.tb_runtime16.specs.declared.places.Routine.TheVariants.{Multiply, Divide, Random, Number, Text, Zone, Input, Search, Push, Pop, Fault, Poll}
 
 -- ── pointers of page zero ──
+-- the pointer to the byte, the table entry or the note that is looked at
 abbrev pub POINTER : ℕ
 POINTER = 0xFB
 
+-- the pointer of Search to the first entry of the line table that is still in question
 abbrev pub SECOND : ℕ
 SECOND = 0xFD
 
@@ -88,59 +90,77 @@ abbrev pub NOTE_LIST : ℕ
 NOTE_LIST = 0xC100
 
 -- ── services ──
+-- the service that sends the byte in A
 abbrev pub CHROUT : ℕ
 CHROUT = 0xFFD2
 
+-- the service that gives the next byte of the keyboard's text, and waits where there is none
 abbrev pub CHRIN : ℕ
 CHRIN = 0xFFCF
 
+-- the service that gives the keyboard's next answer, 0 where there is none
 abbrev pub GETIN : ℕ
 GETIN = 0xFFE4
 
 -- ── the lines' code ──
+-- where the lines' code begins, behind the block
 abbrev pub LINES_AT : ℕ
 LINES_AT = 0x0C00
 
 -- ── the block and its routines ──
+-- where the block begins: the prologue, which a program starts with
 abbrev pub PROLOGUE_AT : ℕ
 PROLOGUE_AT = 0x080D
 
+-- the entry of Send
 abbrev pub SEND_AT : ℕ
 SEND_AT = 0x081F
 
+-- the entry of Multiply
 abbrev pub MULTIPLY_AT : ℕ
 MULTIPLY_AT = 0x082E
 
+-- the entry of Divide
 abbrev pub DIVIDE_AT : ℕ
 DIVIDE_AT = 0x0862
 
+-- the entry of Random
 abbrev pub RANDOM_AT : ℕ
 RANDOM_AT = 0x08E3
 
+-- the entry of Number
 abbrev pub NUMBER_AT : ℕ
 NUMBER_AT = 0x0941
 
+-- the entry of Text
 abbrev pub TEXT_AT : ℕ
 TEXT_AT = 0x0977
 
+-- the entry of Zone
 abbrev pub ZONE_AT : ℕ
 ZONE_AT = 0x098F
 
+-- the entry of Input
 abbrev pub INPUT_AT : ℕ
 INPUT_AT = 0x099C
 
+-- the entry of Search
 abbrev pub SEARCH_AT : ℕ
 SEARCH_AT = 0x0A76
 
+-- the entry of Push
 abbrev pub PUSH_AT : ℕ
 PUSH_AT = 0x0B0A
 
+-- the entry of Pop
 abbrev pub POP_AT : ℕ
 POP_AT = 0x0B44
 
+-- the entry of Fault
 abbrev pub FAULT_AT : ℕ
 FAULT_AT = 0x0B6A
 
+-- the entry of Poll
 abbrev pub POLL_AT : ℕ
 POLL_AT = 0x0BAC
 

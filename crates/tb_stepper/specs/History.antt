@@ -44,6 +44,7 @@ end_by true t = Some There
 end_by false Running = None
 end_by false t = Some (Stopped t)
 
+-- why a walk to an address ends in a state, its limit aside, and None where it goes on; moved: a step was taken
 abbrev pub end_at : ℕ → Bool → State → Option Reached
 end_at address moved s = end_by (moved && s.regs.pc == address) (status s)
 

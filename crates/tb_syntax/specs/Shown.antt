@@ -10,6 +10,7 @@ use Rattle.tb_syntax.specs.declared.statements.Statement.{Statement}
 use Rattle.tb_syntax.specs.declared.statements.Statement.TheVariants as statement
 use Rattle.tb_syntax.specs.Source.{Expression, Number, Variable, Negate, Binary, Random, Item, Text, Value, Zone, Command, Let, Print, Input, If, Goto, Gosub, Return, End, Remark, Numbered, Program}
 
+-- an expression as plain data
 abbrev pub expression_of : Expr → Expression
 expression_of (expr.Number n) = Number n
 expression_of (expr.Variable x) = Variable (place x)
@@ -17,14 +18,17 @@ expression_of (expr.Negate' p e) = Negate (expression_of e)
 expression_of (expr.Binary' op p l q r) = Binary op (expression_of l) (expression_of r)
 expression_of (expr.Random' p e) = Random (expression_of e)
 
+-- an item of PRINT as plain data
 abbrev pub item_of : PrintItem → Item
 item_of (item.Text t) = Text t.items
 item_of (item.Value e) = Value (expression_of e)
 item_of item.Zone = Zone
 
+-- letters by their places in the alphabet, from 0 for A
 abbrev pub letters_of : List Letter → List ℕ
 letters_of xs = map place xs
 
+-- a statement as plain data
 abbrev pub command_of : Statement → Command
 command_of (statement.Let x e) = Let (place x) (expression_of e)
 command_of (statement.Print items ends) = Print (map item_of items.items) ends
@@ -36,6 +40,7 @@ command_of statement.Return = Return
 command_of statement.End = End
 command_of statement.Remark = Remark
 
+-- a line number with its statement, as a line of plain data
 abbrev pub line_of : ℕ × Statement → Numbered Command
 line_of l = record { number = l.0; content = command_of l.1 }
 

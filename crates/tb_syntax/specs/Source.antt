@@ -3,6 +3,7 @@ use Rattle.std.specs.Prelude.{ℕ, Bool, List, map}
 use Rattle.tb_words.specs.declared.Rel.{Rel}
 use Rattle.tb_syntax.specs.declared.expressions.Operator.{Operator}
 
+-- an expression: a literal, a variable, a negation, an operator with two operands, or RND with its bound
 pub data Expression : Type 0 where
   Number : (n : ℕ) → Expression
   Variable : (letter : ℕ) → Expression
@@ -16,6 +17,7 @@ pub data Item : Type 0 where
   Value : (e : Expression) → Item
   Zone : Item
 
+-- a statement; PRINT says whether the line ends behind its items, the targets of GOTO and GOSUB are expressions
 pub data Command : Type 0 where
   Let : (letter : ℕ) (e : Expression) → Command
   Print : (items : List Item) (ends_line : Bool) → Command
@@ -36,5 +38,6 @@ pub record Numbered (A : Type 0) : Type 0 where
 abbrev pub Program : Type 0
 Program = List (Numbered Command)
 
+-- the line numbers of lines, in their order
 abbrev pub numbers : {A : Type 0} → List (Numbered A) → List ℕ
 numbers lines = map (λ line. line.number) lines

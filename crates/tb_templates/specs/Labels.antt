@@ -6,6 +6,7 @@ use Rattle.tb_templates.specs.declared.labels.Inner.TheVariants.{Text, Behind, S
 use Rattle.tb_templates.specs.declared.labels.Target.{Target}
 use Rattle.tb_templates.specs.declared.labels.Target.TheVariants.{Line, Inside, Past, Find, Table}
 
+-- the character of a hexadecimal digit from 0 to 15, a letter from A on for 10 and above
 abbrev pub digit_of : ℕ → ℕ
 digit_of d = if nat_lt d 10 then 48 + d else 55 + d
 
@@ -13,6 +14,7 @@ digit_of d = if nat_lt d 10 then 48 + d else 55 + d
 abbrev pub four_digits : ℕ → List ℕ → List ℕ
 four_digits w text = digit_of (w / 4096) ∷ digit_of (w / 256 % 16) ∷ digit_of (w / 16 % 16) ∷ digit_of (w % 16) ∷ text
 
+-- the name that these characters make
 abbrev pub named : List ℕ → Name
 named letters = record { letters = record { items = letters } }
 

@@ -23,6 +23,7 @@ rest_code ns seed n i (instruction ∷ is) = template ns seed n i instruction ++
 abbrev pub line_code : List ℕ → ℕ → Numbered (List Instr) → List Entry
 line_code ns seed line = here (Line line.number) ∷ (constant line.number LINE ++ rest_code ns seed line.number 0 line.content)
 
+-- the code of lines, one behind the other
 abbrev pub lines_code : List ℕ → ℕ → SlotCode → List Entry
 lines_code ns seed [] = []
 lines_code ns seed (line ∷ lines) = line_code ns seed line ++ lines_code ns seed lines
@@ -35,14 +36,16 @@ past_code ns = here Past ∷ (constant (highest ns) LINE ++ fault 7)
 abbrev pub find_code : List ℕ → List Entry
 find_code ns = here Find ∷ (address Table TABLE ++ (constant (length ns) COUNT ++ (at Jmp SEARCH_AT ∷ [])))
 
--- the line table: each line's number and the address of its code
+-- an entry of the line table: the line's number and the address of its code
 abbrev pub row_code : ℕ → List Entry
 row_code n = word (operand.Word n) ∷ word (operand.Label (label_of (Line n))) ∷ []
 
+-- the entries of the line table for these line numbers
 abbrev pub rows_code : List ℕ → List Entry
 rows_code [] = []
 rows_code (n ∷ ns) = row_code n ++ rows_code ns
 
+-- the line table, at its label
 abbrev pub table_code : List ℕ → List Entry
 table_code ns = here Table ∷ rows_code ns
 

@@ -50,11 +50,13 @@ AreApart false (Zone ∷ items) = ⊥
 AreApart behind (Text bs ∷ items) = AreApart true items
 AreApart behind (Value e ∷ items) = AreApart true items
 
+-- in a PRINT, alone or behind IFs, each comma stands behind a text or a value of its own
 abbrev pub IsSpaced : Command → Type 0
 IsSpaced (Print items ends) = AreApart false items
 IsSpaced (If l rel r c) = IsSpaced c
 IsSpaced _ = Unit {0}
 
+-- so it is in the command of each line
 abbrev pub AreSpaced : Program → Type 0
 AreSpaced [] = Unit {0}
 AreSpaced (line ∷ lines) = IsSpaced line.content × AreSpaced lines

@@ -17,26 +17,32 @@ use Rattle.tb_templates.specs.declared.labels.Target.{Target}
 use Rattle.tb_templates.specs.declared.labels.Target.TheVariants as target
 use Rattle.tb_templates.specs.Labels.{label_of}
 
--- where variable x and slot k stand
+-- where variable x stands
 abbrev pub var_at : ℕ → ℕ
 var_at x = VARS + 2 * x
 
+-- where slot k stands
 abbrev pub slot_at : ℕ → ℕ
 slot_at k = SLOTS + 2 * k
 
 -- ── single instructions: at an address, with a constant, alone ──
+-- an instruction whose operand is an address
 abbrev pub at : Mnemonic → ℕ → Entry
 at mnemonic address = instr mnemonic Absolute (Word address)
 
+-- an instruction with a constant byte as its immediate operand
 abbrev pub const : Mnemonic → ℕ → Entry
 const mnemonic byte = instr mnemonic Immediate (Byte byte)
 
+-- an instruction without an operand
 abbrev pub alone : Mnemonic → Entry
 alone mnemonic = instr mnemonic Implied Nothing
 
+-- a branch to a label
 abbrev pub branch : Mnemonic → Target → Entry
 branch mnemonic to = instr mnemonic Relative (Label (label_of to))
 
+-- a JMP to a label
 abbrev pub jump : Target → Entry
 jump to = instr Jmp Absolute (Label (label_of to))
 
@@ -44,6 +50,7 @@ jump to = instr Jmp Absolute (Label (label_of to))
 abbrev pub here : Target → Entry
 here target = label (label_of target)
 
+-- a JSR to a routine's entry
 abbrev pub call : ℕ → Entry
 call routine = at Jsr routine
 
@@ -52,20 +59,23 @@ call routine = at Jsr routine
 abbrev pub copied : ℕ → ℕ → List Entry
 copied from to = at Lda from ∷ at Sta to ∷ at Lda (from + 1) ∷ at Sta (to + 1) ∷ []
 
--- stores a constant word, and the address of a label
+-- stores a constant word
 abbrev pub constant : ℕ → ℕ → List Entry
 constant w to = const Lda (w % 256) ∷ at Sta to ∷ const Lda (w / 256) ∷ at Sta (to + 1) ∷ []
 
+-- stores the address of a label as a word
 abbrev pub address : Target → ℕ → List Entry
 address of to = instr Lda Immediate (LowOf (label_of of)) ∷ at Sta to ∷ instr Lda Immediate (HighOf (label_of of)) ∷ at Sta (to + 1) ∷ []
 
--- adds the word behind to a word, takes it away, and turns a word's sign
+-- adds to a word the word behind it
 abbrev pub added : ℕ → List Entry
 added to = alone Clc ∷ at Lda to ∷ at Adc (to + 2) ∷ at Sta to ∷ at Lda (to + 1) ∷ at Adc (to + 3) ∷ at Sta (to + 1) ∷ []
 
+-- takes from a word the word behind it
 abbrev pub subtracted : ℕ → List Entry
 subtracted to = alone Sec ∷ at Lda to ∷ at Sbc (to + 2) ∷ at Sta to ∷ at Lda (to + 1) ∷ at Sbc (to + 3) ∷ at Sta (to + 1) ∷ []
 
+-- turns a word's sign
 abbrev pub opposite : ℕ → List Entry
 opposite to = alone Sec ∷ const Lda 0 ∷ at Sbc to ∷ at Sta to ∷ const Lda 0 ∷ at Sbc (to + 1) ∷ at Sta (to + 1) ∷ []
 
@@ -85,13 +95,15 @@ jump_through = instr Jmp Indirect (Word RESULT) ∷ []
 abbrev pub fault : ℕ → List Entry
 fault k = const Lda k ∷ at Jmp FAULT_AT ∷ []
 
--- the order of two signed words, by adding 32,768 to both: C is clear where l is below r
+-- the high byte of a signed word with 128 added, into another place: so it is in the order of unsigned ones
 abbrev pub raised : ℕ → ℕ → List Entry
 raised from to = at Lda from ∷ alone Clc ∷ const Adc 128 ∷ at Sta to ∷ []
 
+-- compares the words at l and r, their raised high bytes at SCRATCH+1 and SCRATCH: C is clear where l's is below
 abbrev pub compared : ℕ → ℕ → List Entry
 compared l r = at Lda l ∷ at Cmp r ∷ at Lda (SCRATCH + 1) ∷ at Sbc SCRATCH ∷ []
 
+-- the order of the signed words at l and r: C is clear where l is below r, else set
 abbrev pub ordered : ℕ → ℕ → List Entry
 ordered l r =
     raised (r + 1) SCRATCH ++ (raised (l + 1) (SCRATCH + 1) ++ compared l r)
@@ -139,6 +151,7 @@ abbrev pub text : Target → Target → List ℕ → List Entry
 text of behind bs = pointed of ++ (text_call (length bs) ++ inline of behind bs)
 
 -- ── templates ──
+-- the code of a place: its line, or what stands behind the last one
 abbrev pub target_of : Place → Target
 target_of (At n) = target.Line n
 target_of Past = target.Past
@@ -147,10 +160,11 @@ target_of Past = target.Past
 abbrev pub next_line : List ℕ → ℕ → Target
 next_line numbers n = target_of (next_after numbers n)
 
--- goes to a constant line, and notes the next one before
+-- goes to a constant line; fault 1 where the program has no such line
 abbrev pub jump_to : List ℕ → ℕ → List Entry
 jump_to numbers to = if has_line numbers to then jump (target.Line to) ∷ [] else fault 1
 
+-- notes the next line and goes to a constant line; fault 1 where the program has no such line
 abbrev pub call_to : List ℕ → ℕ → Target → List Entry
 call_to numbers to next = if has_line numbers to then note next ++ (jump (target.Line to) ∷ []) else fault 1
 
