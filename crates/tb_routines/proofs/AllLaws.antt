@@ -3,6 +3,7 @@ use Rattle.std.proofs.Common.{◌≡◌, ◌≢◌, ℕ, suc, ◌+◌, ◌*◌, 
 use Rattle.std.specs.Prelude.{nat_eq, nat_le, ◌==◌, if◌then◌else◌}
 use Rattle.std.proofs.lemmas.Bool.{eq-eqb, cases_eq, or_cases, eqb-true, leb-true}
 use Rattle.std.proofs.lemmas.Bool.Decides.{nat_tests}
+use Rattle.tb_cpu.specs.Operands.{word_in}
 use Rattle.tb_cpu.specs.Effects.{bit}
 use Rattle.tb_kernal.specs.Machine.{first_or_zero}
 use Rattle.tb_words.specs.Words.{word, quotient, digits_of, seed_after}
@@ -15,7 +16,7 @@ use Rattle.tb_reaching.proofs.Comes.{looser}
 use Rattle.tb_reaching.proofs.Calls.{under}
 use Rattle.tb_reaching.proofs.Parts.{holds_then}
 use Rattle.tb_routines.specs.Parts.{block_part, send_part, multiply_part, divide_part, random_part, number_part, text_part, zone_part, input_part, search_part, fault_part, poll_part}
-use Rattle.tb_routines.specs.Laws.{AllBytes, word_at, IsWord}
+use Rattle.tb_routines.specs.Laws.{AllBytes, IsWord}
 use Rattle.tb_routines.specs.Laws as laws
 use Rattle.tb_routines.specs.Ends.{Faulting}
 use Rattle.tb_routines.specs.Input as asking
@@ -105,8 +106,8 @@ same_at_fault k l h m keys gets u g = record { pc = g.pc; stack = g.stack; binar
 
 -- the RND state before a call
 seed_at : (m : ℕ → ℕ) (option seed : ℕ) → WordAt m RIGHT option → SeedAt m option seed → IsWord m SEED × (laws.seed_of m ≡ seed)
-seed_at m option seed right (stored is at) = (small_bytes m SEED seed at, ap (λ n. if n == 0 then word_at m RIGHT else word_at m SEED) is ∙ value m SEED seed at)
-seed_at m option seed right (first is same small old at) = (small_bytes m SEED old at, ap (λ n. if n == 0 then word_at m RIGHT else word_at m SEED) is ∙ value m RIGHT option right ∙ sym same)
+seed_at m option seed right (stored is at) = (small_bytes m SEED seed at, ap (λ n. if n == 0 then word_in m RIGHT else word_in m SEED) is ∙ value m SEED seed at)
+seed_at m option seed right (first is same small old at) = (small_bytes m SEED old at, ap (λ n. if n == 0 then word_in m RIGHT else word_in m SEED) is ∙ value m RIGHT option right ∙ sym same)
 
 ends_with : (o stays : Bool) (v : ℕ) (left : List ℕ) (line : ℕ) → prompt o ++ asking.turn_sends line (Got v stays left) ≡ prompt o ++ line_end stays
 ends_with true true v left line = refl
@@ -118,7 +119,7 @@ module _ (table seed_option : ℕ) (numbers : List ℕ) (start : ℕ → ℕ) (f
   abbrev own : List ℕ
   own = lo ∷ hi ∷ []
 
-  searches : (l h : ℕ) (m : ℕ → ℕ) (text answers : List ℕ) (n : ℕ) → WordAt m LEFT n → WordAt m TABLE table → WordAt m COUNT (length numbers) → (x y z : ℕ) (b v i c d : Bool) → Comes (under f own) (view x y z b v i c d SEARCH_AT (l ∷ h ∷ []) m text answers) (Searched l h m text answers (address_of (word_at m LEFT) (entries start numbers))) [] 600
+  searches : (l h : ℕ) (m : ℕ → ℕ) (text answers : List ℕ) (n : ℕ) → WordAt m LEFT n → WordAt m TABLE table → WordAt m COUNT (length numbers) → (x y z : ℕ) (b v i c d : Bool) → Comes (under f own) (view x y z b v i c d SEARCH_AT (l ∷ h ∷ []) m text answers) (Searched l h m text answers (address_of (word_in m LEFT) (entries start numbers))) [] 600
   searches l h m text answers n left at count x y z b v i c d =
       let t = value m TABLE table at in
       let s = value m COUNT (length numbers) count in
@@ -126,7 +127,7 @@ module _ (table seed_option : ℕ) (numbers : List ℕ) (start : ℕ → ℕ) (f
       search_law (under f own) (omega (arith, fits)) (part f block search_part search_held) l h text answers m x y z b v i c d (entries start numbers) (small_bytes m LEFT n left) (small_bytes m TABLE table at) (small_bytes m COUNT _ count)
       (subst (λ p. Shows f.code p (table_bytes (entries start numbers))) (sym t) laid.shown) (omega (arith, t, laid.from)) (omega (arith, t, size, laid.to)) (omega (arith, s, size)) (omega (arith, size, laid.some)) laid.rising laid.words
 
-  asks : (l h : ℕ) (m : ℕ → ℕ) (text answers : List ℕ) (o : Bool) (j : ℕ) → m OPEN ≡ bit o → m COLUMN < 256 → AllBytes text → WordAt m LINE j → Entered f lo hi m → (x y z : ℕ) (n b i c d : Bool) → Comes f (view x y z n b i c d INPUT_AT (l ∷ h ∷ own) m text answers) (asking.Ended f l h lo hi m answers (m COLUMN) (prompt o) (turn Nothing text)) (prompt o ++ asking.turn_sends (word_at m LINE) (turn Nothing text)) (45 * length text + 1569)
+  asks : (l h : ℕ) (m : ℕ → ℕ) (text answers : List ℕ) (o : Bool) (j : ℕ) → m OPEN ≡ bit o → m COLUMN < 256 → AllBytes text → WordAt m LINE j → Entered f lo hi m → (x y z : ℕ) (n b i c d : Bool) → Comes f (view x y z n b i c d INPUT_AT (l ∷ h ∷ own) m text answers) (asking.Ended f l h lo hi m answers (m COLUMN) (prompt o) (turn Nothing text)) (prompt o ++ asking.turn_sends (word_in m LINE) (turn Nothing text)) (45 * length text + 1569)
   asks l h m text answers o j is_open column small line e x y z n b i c d =
       input_law f (omega (arith, fits)) lo hi (all_faults f block) (part f block input_part input_held) l h text answers m (record { homed = e.homed; kept = e.kept; line = small_bytes m LINE j line }) small o is_open (m COLUMN) (let r : m COLUMN ≡ m COLUMN % 256 = omega (arith, column) in r) x y z n b i c d
 
@@ -144,7 +145,7 @@ module _ (table seed_option : ℕ) (numbers : List ℕ) (start : ℕ → ℕ) (f
       (multiply_law (under f own) (omega (arith, fits)) (part f block multiply_part multiply_held) l h text answers m x y z n v i c d (small_bytes m LEFT a left) (small_bytes m RIGHT b right))
       (λ u k. record {
         back = record { pc = k.pc; stack = ap (λ s. s ++ own) k.stack_is; binary = k.binary; text = k.same_text; answers = k.same_answers; others = λ p o. k.memory.others p (not_used p o) };
-        result = holds_word u.mem RESULT (word (a * b)) k.memory.is_word (k.memory.value ∙ ap (λ n. n % 65536) (ap (λ n. n * word_at m RIGHT) (value m LEFT a left) ∙ ap (λ n. a * n) (value m RIGHT b right)));
+        result = holds_word u.mem RESULT (word (a * b)) k.memory.is_word (k.memory.value ∙ ap (λ n. n % 65536) (ap (λ n. n * word_in m RIGHT) (value m LEFT a left) ∙ ap (λ n. a * n) (value m RIGHT b right)));
       }))
 
   divide_clause : (l h : ℕ) (m : ℕ → ℕ) (text answers : List ℕ) (a b : ℕ) → WordAt m LEFT a → WordAt m RIGHT b → b ≢ 0 →
@@ -153,10 +154,10 @@ module _ (table seed_option : ℕ) (numbers : List ℕ) (start : ℕ → ℕ) (f
       from_here f _ _ m text answers _ [] (limit_by keys) (λ x y z n v i c d.
       beside f own _ _ _ [] 316 (limit_by keys) (omega arith)
       (divide_law (under f own) (omega (arith, fits)) (part f block divide_part divide_held) l h text answers m x y z n v i c d (small_bytes m LEFT a left) (small_bytes m RIGHT b right)
-      (let r = value m RIGHT b right in let p : 1 ≤ word_at m RIGHT = ⊎_elim (λ e. absurd (some e)) (λ e. omega arith) (zero_or b) in p))
+      (let r = value m RIGHT b right in let p : 1 ≤ word_in m RIGHT = ⊎_elim (λ e. absurd (some e)) (λ e. omega arith) (zero_or b) in p))
       (λ u k. record {
         back = record { pc = k.pc; stack = ap (λ s. s ++ own) k.stack_is; binary = k.binary; text = k.same_text; answers = k.same_answers; others = λ p o. k.memory.others p (not_argument p o) };
-        result = holds_word u.mem RESULT (quotient a b) k.memory.is_word (k.memory.value ∙ ap (λ n. quotient n (word_at m RIGHT)) (value m LEFT a left) ∙ ap (λ n. quotient a n) (value m RIGHT b right));
+        result = holds_word u.mem RESULT (quotient a b) k.memory.is_word (k.memory.value ∙ ap (λ n. quotient n (word_in m RIGHT)) (value m LEFT a left) ∙ ap (λ n. quotient a n) (value m RIGHT b right));
       }))
 
   divide_by_zero_clause : (l h : ℕ) (m : ℕ → ℕ) (text answers : List ℕ) (a n : ℕ) → WordAt m LEFT a → WordAt m RIGHT 0 → WordAt m LINE n → Entered f lo hi m →
@@ -172,9 +173,9 @@ module _ (table seed_option : ℕ) (numbers : List ℕ) (start : ℕ → ℕ) (f
   number_clause l h m text answers a left column =
       from_here f _ _ m text answers _ (digits_of a) (limit_by keys) (λ x y z n v i c d.
       subst (λ j. Comes f (view x y z n v i c d NUMBER_AT (l ∷ h ∷ own) m text answers) (Told (back_at l h) own m text answers (digits_of j)) (digits_of j) (limit_by keys)) (value m LEFT a left)
-      (beside f own _ _ _ (digits_of (word_at m LEFT)) 1440 (limit_by keys) (omega arith)
+      (beside f own _ _ _ (digits_of (word_in m LEFT)) 1440 (limit_by keys) (omega arith)
       (number_law (under f own) (omega (arith, fits)) (part f block number_part number_held) (part f block divide_part divide_held) (part f block send_part send_held) l h text answers m x y z n v i c d (small_bytes m LEFT a left) column)
-      (λ u k. record { pc = k.pc; stack = ap (λ s. s ++ own) k.stack_is; binary = k.binary; text = k.same_text; answers = k.same_answers; column = k.memory.column ∙ number_column (m COLUMN) (word_at m LEFT); others = λ p o q. k.memory.others p (not_argument p o) q })))
+      (λ u k. record { pc = k.pc; stack = ap (λ s. s ++ own) k.stack_is; binary = k.binary; text = k.same_text; answers = k.same_answers; column = k.memory.column ∙ number_column (m COLUMN) (word_in m LEFT); others = λ p o q. k.memory.others p (not_argument p o) q })))
 
   text_clause : (l h : ℕ) (m : ℕ → ℕ) (text answers : List ℕ) (at : ℕ) (bytes : List ℕ) → WordAt m POINTER at → m LENGTH ≡ length bytes → Bytes f.code at bytes → AllBytes bytes → 0x0800 ≤ at → at + length bytes ≤ 0xa000 → length bytes < 256 → m COLUMN < 256 →
       Moves f (Here TEXT_AT (l ∷ h ∷ lo ∷ hi ∷ []) m text answers) (Told (back_at l h) (lo ∷ hi ∷ []) m text answers bytes) bytes (limit_by keys)
@@ -261,7 +262,7 @@ module _ (table seed_option : ℕ) (numbers : List ℕ) (start : ℕ → ℕ) (f
         binary = k.binary;
         text = k.same_text;
         answers = k.same_answers;
-        result = holds_word u.mem RESULT (seed_after seed % a) k.memory.is_word (k.memory.value ∙ ap (λ s. seed_after s % word_at m LEFT) now.1 ∙ ap (λ b. seed_after seed % b) w);
+        result = holds_word u.mem RESULT (seed_after seed % a) k.memory.is_word (k.memory.value ∙ ap (λ s. seed_after s % word_in m LEFT) now.1 ∙ ap (λ b. seed_after seed % b) w);
         seeded = k.memory.seeded;
         seed_at = holds_word u.mem SEED (seed_after seed) k.memory.seed_is (k.memory.seed_at ∙ ap seed_after now.1);
         others = λ p o q r s. k.memory.others p (not_argument p o) (not_scratch p o) (not_seed p q r s);
@@ -297,8 +298,8 @@ module _ (table seed_option : ℕ) (numbers : List ℕ) (start : ℕ → ℕ) (f
   input_clause l h m text answers o stays v left j is_open column small few line e got =
       from_here f _ _ m text answers _ (prompt o ++ line_end stays) (limit_by keys) (λ x y z n b i c d.
       looser f _ _ _ (prompt o ++ line_end stays) (45 * length text + 1569) (limit_by keys) (omega (arith, few)) (λ w k. taken l h m answers stays v left o w k)
-      (subst (λ s. Comes f (view x y z n b i c d INPUT_AT (l ∷ h ∷ own) m text answers) (asking.Ended f l h lo hi m answers (m COLUMN) (prompt o) (Got v stays left)) s (45 * length text + 1569)) (ends_with o stays v left (word_at m LINE))
-      (subst (λ t. Comes f (view x y z n b i c d INPUT_AT (l ∷ h ∷ own) m text answers) (asking.Ended f l h lo hi m answers (m COLUMN) (prompt o) t) (prompt o ++ asking.turn_sends (word_at m LINE) t) (45 * length text + 1569)) got
+      (subst (λ s. Comes f (view x y z n b i c d INPUT_AT (l ∷ h ∷ own) m text answers) (asking.Ended f l h lo hi m answers (m COLUMN) (prompt o) (Got v stays left)) s (45 * length text + 1569)) (ends_with o stays v left (word_in m LINE))
+      (subst (λ t. Comes f (view x y z n b i c d INPUT_AT (l ∷ h ∷ own) m text answers) (asking.Ended f l h lo hi m answers (m COLUMN) (prompt o) t) (prompt o ++ asking.turn_sends (word_in m LINE) t) (45 * length text + 1569)) got
       (asks l h m text answers o j is_open column small line e x y z n b i c d))))
 
   input_fails_clause : (l h : ℕ) (m : ℕ → ℕ) (text answers : List ℕ) (o : Bool) (n : ℕ) → m OPEN ≡ bit o → m COLUMN < 256 → AllBytes text → length text ≤ keys → turn Nothing text ≡ Bad → WordAt m LINE n → Entered f lo hi m →
@@ -307,7 +308,7 @@ module _ (table seed_option : ℕ) (numbers : List ℕ) (start : ℕ → ℕ) (f
       from_here f _ _ m text answers _ (prompt o ++ fault_text 6 j) (limit_by keys) (λ x y z n b i c d.
       looser f _ _ _ (prompt o ++ fault_text 6 j) (45 * length text + 1569) (limit_by keys) (omega (arith, few)) (λ w k. k)
       (subst (λ s. Comes f (view x y z n b i c d INPUT_AT (l ∷ h ∷ own) m text answers) (IsHome f) s (45 * length text + 1569)) (ap (λ n. prompt o ++ fault_text 6 n) (value m LINE j line))
-      (subst (λ t. Comes f (view x y z n b i c d INPUT_AT (l ∷ h ∷ own) m text answers) (asking.Ended f l h lo hi m answers (m COLUMN) (prompt o) t) (prompt o ++ asking.turn_sends (word_at m LINE) t) (45 * length text + 1569)) got
+      (subst (λ t. Comes f (view x y z n b i c d INPUT_AT (l ∷ h ∷ own) m text answers) (asking.Ended f l h lo hi m answers (m COLUMN) (prompt o) t) (prompt o ++ asking.turn_sends (word_in m LINE) t) (45 * length text + 1569)) got
       (asks l h m text answers o j is_open column small line e x y z n b i c d))))
 
   input_waits_clause : (l h : ℕ) (m : ℕ → ℕ) (text answers : List ℕ) (o : Bool) (n : ℕ) → m OPEN ≡ bit o → m COLUMN < 256 → AllBytes text → length text ≤ keys → turn Nothing text ≡ Dry → WordAt m LINE n → Entered f lo hi m →
@@ -316,7 +317,7 @@ module _ (table seed_option : ℕ) (numbers : List ℕ) (start : ℕ → ℕ) (f
       from_here f _ _ m text answers _ (prompt o) (limit_by keys) (λ x y z n b i c d.
       looser f _ _ _ (prompt o) (45 * length text + 1569) (limit_by keys) (omega (arith, few)) (λ w k. record { waits = k.0; deep = omega (arith, k.1) })
       (subst (λ s. Comes f (view x y z n b i c d INPUT_AT (l ∷ h ∷ own) m text answers) (λ w. IsWaiting w × (length w.stack ≤ 6)) s (45 * length text + 1569)) (append-nil (prompt o))
-      (subst (λ t. Comes f (view x y z n b i c d INPUT_AT (l ∷ h ∷ own) m text answers) (asking.Ended f l h lo hi m answers (m COLUMN) (prompt o) t) (prompt o ++ asking.turn_sends (word_at m LINE) t) (45 * length text + 1569)) got
+      (subst (λ t. Comes f (view x y z n b i c d INPUT_AT (l ∷ h ∷ own) m text answers) (asking.Ended f l h lo hi m answers (m COLUMN) (prompt o) t) (prompt o ++ asking.turn_sends (word_in m LINE) t) (45 * length text + 1569)) got
       (asks l h m text answers o j is_open column small line e x y z n b i c d))))
 
   poll_clause : (l h : ℕ) (m : ℕ → ℕ) (text answers : List ℕ) (n : ℕ) → AllBytes answers → nat_eq (first_or_zero answers) 3 ≡ false → WordAt m LINE n → Entered f lo hi m →

@@ -1,5 +1,6 @@
 -- Fault.
 use Rattle.std.proofs.Common.{◌≡◌, ℕ, ◌+◌, ◌*◌, ◌%◌, ◌/◌, ◌<◌, Bool, List, [], ◌∷◌, ◌++◌, refl, sym, ap, ap₂, ◌∙◌, subst, arith, eqb, le-leb, Some, length-append}
+use Rattle.tb_cpu.specs.Operands.{word_in}
 use Rattle.tb_reaching.specs.View.{Setup, Fits, Comes, view, back_at}
 use Rattle.tb_reaching.proofs.Acting.{the, run_view}
 use Rattle.tb_reaching.specs.Start.{IsHome}
@@ -11,7 +12,7 @@ use Rattle.tb_lower.specs.Control.{fault_text}
 use Rattle.tb_runtime16.specs.Places.{SEND_AT, FAULT_AT, NUMBER_AT, COLUMN, LINE, BYTE}
 use Rattle.tb_routines.specs.Parts.{fault_part}
 use Rattle.tb_routines.specs.Ends.{Faulting, FaultLaw}
-use Rattle.tb_routines.specs.Laws.{word_at, Said}
+use Rattle.tb_routines.specs.Laws.{Said}
 use Rattle.tb_routines.proofs.Called.{calls}
 use Rattle.tb_routines.proofs.SendRuns.{send_law}
 use Rattle.tb_routines.proofs.NumberRuns.{number_law}
@@ -80,9 +81,9 @@ fault_law f room most fits all hlo hhi above deep text answers m e k x y n v i z
     let start = view k x y n v i z c FAULT_AT [] m text answers in
     let next = the start (run_view fault_part 0 4 start) in
     let rest = 2 + (7 + (2 + (7 + (2 + (7 + (2 + (7 + (2 + (7 + (2 + (7 + (2 + (7 + (5 + (1440 + 9))))))))))))))) in
-    looser f _ _ _ (fault_text k (word_at m LINE)) (4 + (1 + rest)) 1522 (omega arith) (λ w h. h)
-    (calling f own start (λ w. w ≡ next) (IsHome f) [] (fault_text k (word_at m LINE)) 4 (1 + rest)
+    looser f _ _ _ (fault_text k (word_in m LINE)) (4 + (1 + rest)) 1522 (omega arith) (λ w h. h)
+    (calling f own start (λ w. w ≡ next) (IsHome f) [] (fault_text k (word_in m LINE)) 4 (1 + rest)
     (ending (under f own) 0 (omega (arith, fits, deep, length-append own f.rest, length-append above (hlo ∷ hhi ∷ []))) fault_part all.fault 3 start (λ w. w ≡ next) refl refl)
-    (λ w same. subst (λ w. Comes f (stacked_on own w) (IsHome f) (fault_text k (word_at m LINE)) (1 + rest)) (sym same)
-    (putting_s f room fits (stacked_on own next) above (hlo ∷ hhi ∷ []) (IsHome f) (fault_text k (word_at m LINE)) rest (all.fault _ _ refl) (le-leb _ _ (omega (arith, deep, length-append above (hlo ∷ hhi ∷ [])))) refl (omega (arith, e.kept, e.homed.above))
+    (λ w same. subst (λ w. Comes f (stacked_on own w) (IsHome f) (fault_text k (word_in m LINE)) (1 + rest)) (sym same)
+    (putting_s f room fits (stacked_on own next) above (hlo ∷ hhi ∷ []) (IsHome f) (fault_text k (word_in m LINE)) rest (all.fault _ _ refl) (le-leb _ _ (omega (arith, deep, length-append above (hlo ∷ hhi ∷ [])))) refl (omega (arith, e.kept, e.homed.above))
     (text_sent f (omega (arith, most, fits)) all hlo hhi e.homed.home text answers (m LINE) (m 0xc03b) (48 + k) e.line (omega (arith, small)) _ _ _ _ _ _ _ _ _ (record { low = refl; high = refl; byte = omega (arith, small) })))))

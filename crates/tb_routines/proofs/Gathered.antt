@@ -2,6 +2,7 @@
 use Rattle.std.proofs.Common.{◌≡◌, ◌≢◌, ℕ, zero, suc, ◌+◌, ◌/◌, ◌%◌, ◌<◌, ◌≤◌, Bool, true, false, ◌||◌, List, [], ◌∷◌, ◌++◌, length, refl, sym, ap, ◌∙◌, subst, ⊎_elim, arith, Some, None}
 use Rattle.std.specs.Prelude.{nat_lt, if◌then◌else◌}
 use Rattle.std.proofs.lemmas.Bool.{ne_eqb, eq-eqb, cases_eq}
+use Rattle.tb_cpu.specs.Operands.{word_in}
 use Rattle.tb_words.specs.Words.{is_negative, magnitude, digits_before, digits_of}
 use Rattle.tb_lower.specs.Control.{fault_text, column_after, has_line}
 use Rattle.tb_runtime16.specs.Places.{HOME_S, LINE, FAULT_AT}
@@ -9,20 +10,20 @@ use Rattle.tb_reaching.specs.View.{View, Setup, Fits, Comes, view}
 use Rattle.tb_reaching.specs.Start.{IsHome}
 use Rattle.tb_reaching.proofs.Comes.{known, looser}
 use Rattle.tb_reaching.proofs.Calls.{calling, framed, under, stacked_on}
-use Rattle.tb_routines.specs.Laws.{word_at, IsWord}
+use Rattle.tb_routines.specs.Laws.{IsWord}
 use Rattle.tb_routines.specs.Ends.{Faulting}
 use Rattle.tb_routines.specs.Search.{address_of}
 use Rattle.tb_routines.specs.Routines.{WordAt, Entered, Here, WithA, Moves, entries}
 use Rattle.tb_routines.proofs.FaultRuns.{fault_law}
 
 -- ---- words
-pub value : (m : ℕ → ℕ) (at w : ℕ) → WordAt m at w → word_at m at ≡ w
+pub value : (m : ℕ → ℕ) (at w : ℕ) → WordAt m at w → word_in m at ≡ w
 value m at w h = omega (arith, h.low, h.high)
 
 pub small_bytes : (m : ℕ → ℕ) (at w : ℕ) → WordAt m at w → IsWord m at
 small_bytes m at w h = (omega (arith, h.low), omega (arith, h.high, h.small))
 
-pub holds_word : (m : ℕ → ℕ) (at w : ℕ) → IsWord m at → word_at m at ≡ w → WordAt m at w
+pub holds_word : (m : ℕ → ℕ) (at w : ℕ) → IsWord m at → word_in m at ≡ w → WordAt m at w
 holds_word m at w h e = record { low = omega (arith, h.0, h.1, e); high = omega (arith, h.0, h.1, e); small = omega (arith, h.0, h.1, e) }
 
 pub same_place : (m k : ℕ → ℕ) (at w : ℕ) → WordAt m at w → k at ≡ m at → k (at + 1) ≡ m (at + 1) → WordAt k at w

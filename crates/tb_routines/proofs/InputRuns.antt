@@ -1,6 +1,7 @@
 -- Input.
 use Rattle.std.proofs.Common.{◌≡◌, ◌≢◌, ℕ, ◌+◌, ◌-◌, ◌*◌, ◌%◌, ◌/◌, ◌<◌, ◌≤◌, Bool, true, false, ◌&&◌, ◌||◌, List, [], ◌∷◌, ◌++◌, length, refl, sym, ap, ap₂, ◌∙◌, subst, ⊎_elim, inl, inr, ◌⊎◌, arith, eqb, leb, if◌then◌else◌}
 use Rattle.std.proofs.lemmas.Bool.{ne_eqb, eq-eqb, cases_eq, cases_lt, lt-leb, le-leb, false≢true, and_left, and_right}
+use Rattle.tb_cpu.specs.Operands.{word_in}
 use Rattle.tb_memmap.specs.Bytes.{with_byte}
 use Rattle.tb_kernal.specs.declared.places.Service.TheVariants.{Chrin}
 use Rattle.tb_reaching.specs.View.{View, Setup, Holds, Fits, Comes, view, back_at}
@@ -15,7 +16,7 @@ use Rattle.tb_runtime16.specs.Places.{INPUT_AT, SEND_AT, COLUMN, LEFT, RESULT, H
 use Rattle.tb_routines.specs.Parts.{input_part, send_part}
 use Rattle.tb_routines.specs.Ends.{Entered, Faulting}
 use Rattle.tb_routines.specs.Input.{MINUS, is_changed, turn_sends, Ended, InputLaw}
-use Rattle.tb_routines.specs.Laws.{word_at, IsWord, AllBytes, Said}
+use Rattle.tb_routines.specs.Laws.{IsWord, AllBytes, Said}
 use Rattle.tb_routines.proofs.Words.{taken_from_zero}
 use Rattle.tb_routines.proofs.Tens.{times_ten}
 use Rattle.tb_routines.proofs.Called.{calls}
@@ -100,13 +101,13 @@ module _ (f : Setup) (fits : Fits f 13) (hlo hhi : ℕ) (all : Faulting f.code) 
   Goal = Ended f lo hi hlo hhi m0 answers col before
 
   abbrev sends : Turn → List ℕ
-  sends = turn_sends (word_at m0 LINE)
+  sends = turn_sends (word_in m0 LINE)
 
   record Held (r : Reading) (m : ℕ → ℕ) : Type 0 where
     seen : m SCRATCH ≡ state r
     minus : same_byte (m MINUS) 45 ≡ is_minus r
     is_word : IsWord m RESULT
-    value : word_at m RESULT ≡ number r % 65536
+    value : word_in m RESULT ≡ number r % 65536
     line_open : m OPEN ≡ 1
     column : m COLUMN ≡ column_after col before % 256
     others : Frame m0 m
@@ -115,18 +116,18 @@ module _ (f : Setup) (fits : Fits f 13) (hlo hhi : ℕ) (all : Faulting f.code) 
   held_byte r m b h = record { seen = h.seen; minus = h.minus; is_word = h.is_word; value = h.value; line_open = h.line_open; column = h.column; others = frame_put _ _ BYTE _ refl h.others }
 
   -- fault 6
-  bad : (a x y : ℕ) (n v i z c : Bool) (m : ℕ → ℕ) (text : List ℕ) → Frame m0 m → Comes f (view a x y n v i z c (INPUT_AT + 0xA4) (lo ∷ hi ∷ hlo ∷ hhi ∷ []) m text answers) (IsHome f) (fault_text 6 (word_at m0 LINE)) (84 + 1440)
+  bad : (a x y : ℕ) (n v i z c : Bool) (m : ℕ → ℕ) (text : List ℕ) → Frame m0 m → Comes f (view a x y n v i z c (INPUT_AT + 0xA4) (lo ∷ hi ∷ hlo ∷ hhi ∷ []) m text answers) (IsHome f) (fault_text 6 (word_in m0 LINE)) (84 + 1440)
   bad a x y n v i z c m text k =
       let here : Entered f hlo hhi m = record { homed = entered.homed; kept = ap (λ s. s + 2) (k HOME_S refl) ∙ entered.kept; line = (omega (arith, k LINE refl, entered.line.0), omega (arith, k 0xc03B refl, entered.line.1)) } in
       subst (λ w. Comes f (view a x y n v i z c (INPUT_AT + 0xA4) (lo ∷ hi ∷ hlo ∷ hhi ∷ []) m text answers) (IsHome f) (fault_text 6 w) (84 + 1440)) (ap₂ (λ a b. a + 256 * b) (k LINE refl) (k 0xc03B refl))
-      (looser f _ _ _ (fault_text 6 (word_at m LINE)) (2 + (82 + 1440)) (84 + 1440) (omega arith) (λ w h. h)
+      (looser f _ _ _ (fault_text 6 (word_in m LINE)) (2 + (82 + 1440)) (84 + 1440) (omega arith) (λ w h. h)
       (after f 13 fits input_part st 1 (view a x y n v i z c (INPUT_AT + 0xA4) (lo ∷ hi ∷ hlo ∷ hhi ∷ []) m text answers) _ _ (82 + 1440) refl
       (fault_law f 13 (omega arith) fits all hlo hhi (lo ∷ hi ∷ []) (omega arith) text answers m here 6 _ _ _ _ _ _ _ (omega arith))))
 
   -- ---- the end
   record Read (value : ℕ) (m : ℕ → ℕ) : Type 0 where
     is_word : IsWord m RESULT
-    value_is : word_at m RESULT ≡ value
+    value_is : word_in m RESULT ≡ value
     line_open : m OPEN ≡ 1
     column : m COLUMN ≡ column_after col before % 256
     others : Frame m0 m
@@ -160,12 +161,12 @@ module _ (f : Setup) (fits : Fits f 13) (hlo hhi : ℕ) (all : Faulting f.code) 
   done : (r : Reading) (stays : Bool) (a x y : ℕ) (n v i z c : Bool) (m : ℕ → ℕ) (text : List ℕ) → Held r m → same_byte (m BYTE) 44 ≡ stays → Comes f (view a x y n v i z c (INPUT_AT + 0xA9) (lo ∷ hi ∷ hlo ∷ hhi ∷ []) m text answers) (Goal (number_end r stays text)) (sends (number_end r stays text)) (87 + 1440)
   done Nothing stays a x y n v i z c m text h e =
       let t : same_byte (m SCRATCH) 2 ≡ false = ne_eqb _ _ (λ e. omega (arith, h.seen, e)) in
-      looser f _ _ _ (fault_text 6 (word_at m0 LINE)) (3 + (84 + 1440)) (87 + 1440) (omega arith) (λ w h. h)
+      looser f _ _ _ (fault_text 6 (word_in m0 LINE)) (3 + (84 + 1440)) (87 + 1440) (omega arith) (λ w h. h)
       (after f 13 fits input_part st 2 (view a x y n v i z c (INPUT_AT + 0xA9) (lo ∷ hi ∷ hlo ∷ hhi ∷ []) m text answers) _ _ (84 + 1440) refl
       (rw t (bad _ _ _ _ _ _ _ _ m text h.others)))
   done (Sign negative) stays a x y n v i z c m text h e =
       let t : same_byte (m SCRATCH) 2 ≡ false = ne_eqb _ _ (λ e. omega (arith, h.seen, e)) in
-      looser f _ _ _ (fault_text 6 (word_at m0 LINE)) (3 + (84 + 1440)) (87 + 1440) (omega arith) (λ w h. h)
+      looser f _ _ _ (fault_text 6 (word_in m0 LINE)) (3 + (84 + 1440)) (87 + 1440) (omega arith) (λ w h. h)
       (after f 13 fits input_part st 2 (view a x y n v i z c (INPUT_AT + 0xA9) (lo ∷ hi ∷ hlo ∷ hhi ∷ []) m text answers) _ _ (84 + 1440) refl
       (rw t (bad _ _ _ _ _ _ _ _ m text h.others)))
   done (Digits false k) stays a x y n v i z c m text h e =
@@ -205,12 +206,12 @@ module _ (f : Setup) (fits : Fits f 13) (hlo hhi : ℕ) (all : Faulting f.code) 
       (record { seen = refl; minus = e; is_word = h.is_word; value = h.value; line_open = h.line_open; column = h.column; others = frame_put _ _ SCRATCH _ refl (frame_put _ _ MINUS _ refl h.others) }) bs))))
   at_sign (Sign before) negative a x y n v i z c m text go h e bs =
       let t : eqb (m SCRATCH) 0 ≡ false = ne_eqb _ _ (λ e. omega (arith, h.seen, e)) in
-      looser f _ _ _ (fault_text 6 (word_at m0 LINE)) (2 + (84 + 1440)) (45 * length text + (109 + 1440)) (omega arith) (λ w h. h)
+      looser f _ _ _ (fault_text 6 (word_in m0 LINE)) (2 + (84 + 1440)) (45 * length text + (109 + 1440)) (omega arith) (λ w h. h)
       (after f 13 fits input_part st 1 (view a x y n v i z c (INPUT_AT + 0x91) (lo ∷ hi ∷ hlo ∷ hhi ∷ []) m text answers) _ _ (84 + 1440) refl
       (rw t (bad _ _ _ _ _ _ _ _ m text h.others)))
   at_sign (Digits before k) negative a x y n v i z c m text go h e bs =
       let t : eqb (m SCRATCH) 0 ≡ false = ne_eqb _ _ (λ e. omega (arith, h.seen, e)) in
-      looser f _ _ _ (fault_text 6 (word_at m0 LINE)) (2 + (84 + 1440)) (45 * length text + (109 + 1440)) (omega arith) (λ w h. h)
+      looser f _ _ _ (fault_text 6 (word_in m0 LINE)) (2 + (84 + 1440)) (45 * length text + (109 + 1440)) (omega arith) (λ w h. h)
       (after f 13 fits input_part st 1 (view a x y n v i z c (INPUT_AT + 0x91) (lo ∷ hi ∷ hlo ∷ hhi ∷ []) m text answers) _ _ (84 + 1440) refl
       (rw t (bad _ _ _ _ _ _ _ _ m text h.others)))
 
@@ -281,7 +282,7 @@ module _ (f : Setup) (fits : Fits f 13) (hlo hhi : ℕ) (all : Faulting f.code) 
       (after f 13 fits input_part st 4 (view b x y n v i z c (INPUT_AT + 0x3C) (lo ∷ hi ∷ hlo ∷ hhi ∷ []) m text answers) _ _ (27 + (45 * length text + (102 + 1440))) refl
       (rw t (at_digit r (b - 48) _ _ _ _ _ _ _ _ _ text go (held_byte r m _ h) d (omega arith) bs)))
 
-  stray : (text : List ℕ) (r : Reading) (b : ℕ) → b < 256 → (leb 48 b && leb b 57) ≡ false → leb 10 ((b + 256 - 48) % 256) ≡ true → (x y : ℕ) (n v i z c : Bool) (m : ℕ → ℕ) → Held r m → Comes f (view b x y n v i z c (INPUT_AT + 0x3C) (lo ∷ hi ∷ hlo ∷ hhi ∷ []) m text answers) (IsHome f) (fault_text 6 (word_at m0 LINE)) (5 + (84 + 1440))
+  stray : (text : List ℕ) (r : Reading) (b : ℕ) → b < 256 → (leb 48 b && leb b 57) ≡ false → leb 10 ((b + 256 - 48) % 256) ≡ true → (x y : ℕ) (n v i z c : Bool) (m : ℕ → ℕ) → Held r m → Comes f (view b x y n v i z c (INPUT_AT + 0x3C) (lo ∷ hi ∷ hlo ∷ hhi ∷ []) m text answers) (IsHome f) (fault_text 6 (word_in m0 LINE)) (5 + (84 + 1440))
   stray text r b small out t x y n v i z c m h =
       after f 13 fits input_part st 4 (view b x y n v i z c (INPUT_AT + 0x3C) (lo ∷ hi ∷ hlo ∷ hhi ∷ []) m text answers) _ _ (84 + 1440) refl
       (rw t (bad _ _ _ _ _ _ _ _ _ text (frame_put _ _ BYTE _ refl h.others)))
@@ -348,14 +349,14 @@ module _ (f : Setup) (fits : Fits f 13) (hlo hhi : ℕ) (all : Faulting f.code) 
 pub input_law : InputLaw
 input_law f fits hlo hhi all st lo hi text answers m e bs true o col column a x y n v i z c =
     let t : eqb (m OPEN) 0 ≡ false = ne_eqb _ _ (λ e. omega (arith, o, e)) in
-    looser f _ _ _ (turn_sends (word_at m LINE) (turn Nothing text)) (2 + (5 + (45 * length text + (102 + 1440)))) (45 * length text + (129 + 1440)) (omega arith) (λ w h. h)
+    looser f _ _ _ (turn_sends (word_in m LINE) (turn Nothing text)) (2 + (5 + (45 * length text + (102 + 1440)))) (45 * length text + (129 + 1440)) (omega arith) (λ w h. h)
     (after f 13 fits input_part st 1 (view a x y n v i z c INPUT_AT (lo ∷ hi ∷ hlo ∷ hhi ∷ []) m text answers) _ _ (5 + (45 * length text + (102 + 1440))) refl
     (rw t (start f fits hlo hhi all st lo hi answers m e col [] _ _ _ _ _ _ _ _ m text bs o column (λ a t. refl))))
 input_law f fits hlo hhi all st lo hi text answers m e bs false o col column a x y n v i z c =
     let t : eqb (m OPEN) 0 ≡ true = eq-eqb _ _ o in
     let rest = 2 + (5 + (45 * length text + (102 + 1440))) in
     let own = lo ∷ hi ∷ hlo ∷ hhi ∷ [] in
-    let last = turn_sends (word_at m LINE) (turn Nothing text) in
+    let last = turn_sends (word_in m LINE) (turn Nothing text) in
     looser f _ _ _ (63 ∷ 32 ∷ last) (2 + (2 + (7 + (2 + (7 + rest))))) (45 * length text + (129 + 1440)) (omega arith) (λ w h. h)
     (after f 13 fits input_part st 1 (view a x y n v i z c INPUT_AT own m text answers) _ _ (2 + (7 + (2 + (7 + rest)))) refl
     (rw t (after f 13 fits input_part st 1 (view _ _ _ _ _ _ _ _ (INPUT_AT + 0x5) own m text answers) _ _ (7 + (2 + (7 + rest))) refl

@@ -3,6 +3,7 @@ use Rattle.std.proofs.Common.{◌≡◌, ◌≢◌, ℕ, suc, ◌+◌, ◌*◌, 
 use Rattle.std.specs.Prelude.{Ok, nat_le}
 use Rattle.std.proofs.lemmas.Bool.{ne_eqb, eq-eqb, cases_eq, le-ltb}
 use Rattle.std.proofs.lemmas.Bool.Decides.{nat_tests}
+use Rattle.tb_cpu.specs.Operands.{word_in}
 use Rattle.tb_cpu.specs.Effects.{bit}
 use Rattle.tb_memmap.specs.Bytes.{with_byte}
 use Rattle.tb_opcodes.specs.declared.Mnemonic.TheVariants.{Lda, Sta}
@@ -13,7 +14,7 @@ use Rattle.tb_reaching.proofs.Memory.{put_other, put_same}
 use Rattle.tb_reaching.proofs.Comes.{after, ending, looser}
 use Rattle.tb_reaching.proofs.Placed.{placing, takes_at, stores_at, reads_data}
 use Rattle.tb_runtime16.specs.Places.{PUSH_AT, POP_AT, POINTER, LEFT, RESULT, NOTES, NOTE_LIST}
-use Rattle.tb_routines.specs.Laws.{word_at, IsWord}
+use Rattle.tb_routines.specs.Laws.{IsWord}
 use Rattle.tb_routines.specs.Notes.{notes_part, Faulted, Held, Notes, nothing, push_changes, pop_changes, Pushed, Popped, PushLaw, PushFullLaw, PopLaw, PopNoneLaw}
 use Rattle.tb_routines.proofs.Words.{one_high}
 use Rattle.tb_routines.proofs.Pointed.{carry_at_least, carry_below, Changes, changes_put, same_word}
@@ -73,7 +74,7 @@ module _ (f : Setup) (fits : Fits f 4) (st : Holds notes_part f.code) (lo hi : �
       (record { back = record { at = refl; on_stack = refl; binary = refl; same_text = refl; same_answers = refl; others = r }; notes = h }))
 
   -- both bytes, at the place of a new note
-  store : (a x y : ℕ) (n v i z c : Bool) (m : ℕ → ℕ) (ns : List ℕ) → IsWord m LEFT → word_at m POINTER ≡ NOTE_LIST + 2 * length ns → length ns < 500 → IsWord m NOTES → word_at m NOTES ≡ suc (length ns) → Changes below_list m0 m → Held m0 ns → Changes push_changes m0 m → Comes f (view a x y n v i z c (PUSH_AT + 0x17) (lo ∷ hi ∷ []) m text answers) (Pushed lo hi m0 text answers (word_at m LEFT ∷ ns)) [] 7
+  store : (a x y : ℕ) (n v i z c : Bool) (m : ℕ → ℕ) (ns : List ℕ) → IsWord m LEFT → word_in m POINTER ≡ NOTE_LIST + 2 * length ns → length ns < 500 → IsWord m NOTES → word_in m NOTES ≡ suc (length ns) → Changes below_list m0 m → Held m0 ns → Changes push_changes m0 m → Comes f (view a x y n v i z c (PUSH_AT + 0x17) (lo ∷ hi ∷ []) m text answers) (Pushed lo hi m0 text answers (word_in m LEFT ∷ ns)) [] 7
   store a x y n v i z c m ns left pointer small is count kept_part held0 r =
       let held = list_kept m0 m ns kept_part held0 in
       let p = NOTE_LIST + 2 * length ns in
@@ -93,7 +94,7 @@ module _ (f : Setup) (fits : Fits f 4) (st : Holds notes_part f.code) (lo hi : �
       after f 4 fits notes_part st 1 (view a x y n v i z c (PUSH_AT + 0x17) (lo ∷ hi ∷ []) m text answers) _ _ 5 refl
       (placing f 4 fits (ins 0x91 POINTER) ready _ _ [] 4 refl (st _ _ refl, (st _ _ refl, tt)) (stores_at f.code 4 (ins 0x91 POINTER) ready Sta IndirectY p refl refl refl refl (ap (λ a. Ok a) (let e : (m 0xfB + 256 * m 0xfC + 0) % 65536 ≡ p = omega arith in e)) l (data_place p (omega arith) (omega arith)) refl)
       (after f 4 fits notes_part st 1 (view l x 0 (eqb (l / 128 % 2) 1) v i (eqb l 0) c (PUSH_AT + 0x1E) (lo ∷ hi ∷ []) m1 text answers) _ _ 2 refl
-      (rw kept (store_high h x _ _ _ _ _ m1 (p + 1) (word_at m LEFT ∷ ns) (omega arith) (data_place (p + 1) (omega arith) (omega arith))
+      (rw kept (store_high h x _ _ _ _ _ m1 (p + 1) (word_in m LEFT ∷ ns) (omega arith) (data_place (p + 1) (omega arith) (omega arith))
       (changes_put push_changes m0 m1 (p + 1) h (list_place (p + 1) (omega arith) (omega arith)) (changes_put push_changes m0 m p l (list_place p (omega arith) (omega arith)) r))
       (record {
         is_word = (omega arith, omega arith);
@@ -101,13 +102,13 @@ module _ (f : Setup) (fits : Fits f 4) (st : Holds notes_part f.code) (lo hi : �
         few = omega arith;
         held = (
           (let r : (m2 p < 256) × (m2 (p + 1) < 256) = (omega (arith, left.0), omega (arith, left.1)) in r),
-          (let r : m2 p + 256 * m2 (p + 1) ≡ word_at m LEFT = omega arith in r),
+          (let r : m2 p + 256 * m2 (p + 1) ≡ word_in m LEFT = omega arith in r),
           held_same m m2 ns (λ a s t. below a t) held,
         );
       })))))
 
   -- NOTES goes up
-  bump : (a x y : ℕ) (n v i z c : Bool) (ns : List ℕ) → IsWord m0 LEFT → Notes m0 ns → length ns < 500 → Comes f (view a x y n v i z c (PUSH_AT + 0x0C) (lo ∷ hi ∷ []) m0 text answers) (Pushed lo hi m0 text answers (word_at m0 LEFT ∷ ns)) [] 20
+  bump : (a x y : ℕ) (n v i z c : Bool) (ns : List ℕ) → IsWord m0 LEFT → Notes m0 ns → length ns < 500 → Comes f (view a x y n v i z c (PUSH_AT + 0x0C) (lo ∷ hi ∷ []) m0 text answers) (Pushed lo hi m0 text answers (word_in m0 LEFT ∷ ns)) [] 20
   bump a x y n v i z c ns left h small =
       let w = h.is_word in
       let e = h.count in
@@ -130,7 +131,7 @@ module _ (f : Setup) (fits : Fits f 4) (st : Holds notes_part f.code) (lo hi : �
       (changes_put _ _ _ NOTES _ refl (changes_put _ _ _ 0xfC _ refl (changes_put _ _ _ POINTER _ refl (λ a e. refl))))))))
       (cases_eq ((m0 NOTES + 1) % 256) 0)
 
-  push_whole : (a x y : ℕ) (n v i z c : Bool) (ns : List ℕ) → IsWord m0 LEFT → Notes m0 ns → length ns < 500 → Comes f (view a x y n v i z c PUSH_AT (lo ∷ hi ∷ []) m0 text answers) (Pushed lo hi m0 text answers (word_at m0 LEFT ∷ ns)) [] 25
+  push_whole : (a x y : ℕ) (n v i z c : Bool) (ns : List ℕ) → IsWord m0 LEFT → Notes m0 ns → length ns < 500 → Comes f (view a x y n v i z c PUSH_AT (lo ∷ hi ∷ []) m0 text answers) (Pushed lo hi m0 text answers (word_in m0 LEFT ∷ ns)) [] 25
   push_whole a x y n v i z c ns left h small =
       let w = h.is_word in
       let e = h.count in

@@ -1,6 +1,7 @@
 -- Number.
 use Rattle.std.proofs.Common.{◌≡◌, ◌≢◌, ℕ, zero, suc, ◌+◌, ◌-◌, ◌*◌, ◌/◌, ◌%◌, ◌<◌, ◌≤◌, Bool, true, false, if◌then◌else◌, List, [], ◌∷◌, ◌++◌, length, refl, sym, ap, ◌∙◌, subst, ⊎_elim, arith, eqb, length-append}
 use Rattle.std.proofs.lemmas.Bool.{ne_eqb, eq-eqb, cases_eq, cases_lt, le-leb, lt-leb}
+use Rattle.tb_cpu.specs.Operands.{word_in}
 use Rattle.tb_memmap.specs.Bytes.{with_byte}
 use Rattle.tb_reaching.specs.View.{Setup, Holds, Fits, Comes, view}
 use Rattle.tb_reaching.proofs.Comes.{after, ending, looser}
@@ -8,7 +9,7 @@ use Rattle.tb_reaching.proofs.Calls.{under}
 use Rattle.tb_words.specs.Words.{is_negative, magnitude, negated, digits_before, digits_of}
 use Rattle.tb_runtime16.specs.Places.{SEND_AT, NUMBER_AT, COLUMN, LEFT, RIGHT, RESULT}
 use Rattle.tb_routines.specs.Parts.{send_part, divide_part, number_part}
-use Rattle.tb_routines.specs.Laws.{is_argument, negate_left_at, word_at, IsWord, Leaves, Back, Parted, NumberLaw}
+use Rattle.tb_routines.specs.Laws.{is_argument, negate_left_at, IsWord, Leaves, Back, Parted, NumberLaw}
 use Rattle.tb_routines.proofs.Words.{sign_of, sign_small, sign_none, magnitude_negative}
 use Rattle.tb_routines.proofs.Frames.{skip}
 use Rattle.tb_routines.proofs.Called.{above, calls, back_looser}
@@ -105,7 +106,7 @@ module _ (f : Setup) (fits : Fits f 11) (st : Holds number_part f.code) (sd : Ho
   digit_is r h = omega arith
 
   -- a digit on the stack, and on
-  digit_more : (ds : List ℕ) (a x y : ℕ) (n v i z c : Bool) (m : ℕ → ℕ) (r : ℕ) → length ds ≤ 4 → IsWord m LEFT → 1 ≤ word_at m LEFT → m RESULT ≡ r → r < 10 → Comes (under f (ds ++ base)) (view a x y n v i z c (NUMBER_AT + 27) [] m text answers) (Leaves (NUMBER_AT + 24) ((48 + r) ∷ []) text answers (Same m)) [] 8
+  digit_more : (ds : List ℕ) (a x y : ℕ) (n v i z c : Bool) (m : ℕ → ℕ) (r : ℕ) → length ds ≤ 4 → IsWord m LEFT → 1 ≤ word_in m LEFT → m RESULT ≡ r → r < 10 → Comes (under f (ds ++ base)) (view a x y n v i z c (NUMBER_AT + 27) [] m text answers) (Leaves (NUMBER_AT + 24) ((48 + r) ∷ []) text answers (Same m)) [] 8
   unfolding Same
   digit_more ds a x y n v i z c m r l p some e small =
       let g = under f (ds ++ base) in
@@ -123,7 +124,7 @@ module _ (f : Setup) (fits : Fits f 11) (st : Holds number_part f.code) (sd : Ho
       (rw b (record { pc = refl; stack_is = ap (λ d. d ∷ []) d; binary = refl; same_text = refl; same_answers = refl; memory = λ a. refl }))))
       (cases_eq (m LEFT) 0)
 
-  digit_last : (ds : List ℕ) (a x y : ℕ) (n v i z c : Bool) (m : ℕ → ℕ) (r : ℕ) → length ds ≤ 4 → IsWord m LEFT → word_at m LEFT ≡ 0 → m RESULT ≡ r → r < 10 → Comes (under f (ds ++ base)) (view a x y n v i z c (NUMBER_AT + 27) [] m text answers) (Leaves (NUMBER_AT + 44) ((48 + r) ∷ []) text answers (Same m)) [] 8
+  digit_last : (ds : List ℕ) (a x y : ℕ) (n v i z c : Bool) (m : ℕ → ℕ) (r : ℕ) → length ds ≤ 4 → IsWord m LEFT → word_in m LEFT ≡ 0 → m RESULT ≡ r → r < 10 → Comes (under f (ds ++ base)) (view a x y n v i z c (NUMBER_AT + 27) [] m text answers) (Leaves (NUMBER_AT + 44) ((48 + r) ∷ []) text answers (Same m)) [] 8
   unfolding Same
   digit_last ds a x y n v i z c m r l p none e small =
       let g = under f (ds ++ base) in
@@ -139,7 +140,7 @@ module _ (f : Setup) (fits : Fits f 11) (st : Holds number_part f.code) (sd : Ho
   record Held (ds : List ℕ) (n : ℕ) (m : ℕ → ℕ) : Type 0 where
     shown : Digits ds
     left : IsWord m LEFT
-    is : word_at m LEFT ≡ n
+    is : word_in m LEFT ≡ n
     low : m RIGHT ≡ 10
     high : m 0xc065 ≡ 0
     others : Rest m
@@ -153,11 +154,11 @@ module _ (f : Setup) (fits : Fits f 11) (st : Holds number_part f.code) (sd : Ho
   divided ds a x y n v i z c m w l h =
       let g = under f (ds ++ base) in
       let room = fits_above ds l in
-      let ten_is : word_at m RIGHT ≡ 10 = omega (arith, h.low, h.high) in
+      let ten_is : word_in m RIGHT ≡ 10 = omega (arith, h.low, h.high) in
       after g 4 room number_part st 0 (view a x y n v i z c (NUMBER_AT + 24) [] m text answers) _ _ 261 refl
       (back_looser g _ ((NUMBER_AT + 26) % 256) ((NUMBER_AT + 26) / 256) text answers _ _ [] 261 261 (omega arith)
       (unsigned_law g (omega (arith, room)) sd ((NUMBER_AT + 26) % 256) ((NUMBER_AT + 26) / 256) text answers m a x y n v i z c h.left (omega (arith, h.low), omega (arith, h.high)) (omega (arith, ten_is)) (omega (arith, ten_is)))
-      (λ u p. record { left_is = p.left_is; left = p.left ∙ ap (λ d. word_at m LEFT / d) ten_is ∙ ap (λ n. n / 10) h.is; result_is = p.result_is; result = p.result ∙ ap (λ d. word_at m LEFT % d) ten_is ∙ ap (λ n. n % 10) h.is; right_low = p.right_low; right_high = p.right_high; others = p.others }))
+      (λ u p. record { left_is = p.left_is; left = p.left ∙ ap (λ d. word_in m LEFT / d) ten_is ∙ ap (λ n. n / 10) h.is; result_is = p.result_is; result = p.result ∙ ap (λ d. word_in m LEFT % d) ten_is ∙ ap (λ n. n % 10) h.is; right_low = p.right_low; right_high = p.right_high; others = p.others }))
 
   column_free : is_argument COLUMN ≡ false
   column_free = refl
@@ -212,7 +213,7 @@ module _ (f : Setup) (fits : Fits f 11) (st : Holds number_part f.code) (sd : Ho
       (cases_lt w 10)))
 
   -- ---- the whole
-  plain : (a x y : ℕ) (n v i z c : Bool) (m : ℕ → ℕ) (w col : ℕ) → IsWord m LEFT → word_at m LEFT ≡ w → w ≤ 32768 → Rest m → m COLUMN < 256 → (m COLUMN + length (digits_before 5 w [])) % 256 ≡ col → Comes f (view a x y n v i z c (NUMBER_AT + 13) (lo ∷ hi ∷ []) m text answers) (Back lo hi text answers (Done col)) (digits_before 5 w []) (5 + (270 * 5 + 63))
+  plain : (a x y : ℕ) (n v i z c : Bool) (m : ℕ → ℕ) (w col : ℕ) → IsWord m LEFT → word_in m LEFT ≡ w → w ≤ 32768 → Rest m → m COLUMN < 256 → (m COLUMN + length (digits_before 5 w [])) % 256 ≡ col → Comes f (view a x y n v i z c (NUMBER_AT + 13) (lo ∷ hi ∷ []) m text answers) (Back lo hi text answers (Done col)) (digits_before 5 w []) (5 + (270 * 5 + 63))
   unfolding Rest Find
   plain a x y n v i z c m w col p e small r q l =
       after f 11 fits number_part st 4 (view a x y n v i z c (NUMBER_AT + 13) (lo ∷ hi ∷ []) m text answers) _ _ (270 * 5 + 63) refl
@@ -221,10 +222,10 @@ module _ (f : Setup) (fits : Fits f 11) (st : Holds number_part f.code) (sd : Ho
       (omega (arith, small)) refl l)
 
   -- behind the sign
-  negative : (a x y : ℕ) (n v i z c : Bool) (m : ℕ → ℕ) (col : ℕ) → IsWord m LEFT → is_negative (word_at m LEFT) ≡ true → Rest m → m COLUMN < 256 → (m COLUMN + length (digits_before 5 (magnitude (word_at m LEFT)) [])) % 256 ≡ col → Comes f (view a x y n v i z c (NUMBER_AT + 10) (lo ∷ hi ∷ []) m text answers) (Back lo hi text answers (Done col)) (digits_before 5 (magnitude (word_at m LEFT)) []) (1 + (9 + (5 + (270 * 5 + 63))))
+  negative : (a x y : ℕ) (n v i z c : Bool) (m : ℕ → ℕ) (col : ℕ) → IsWord m LEFT → is_negative (word_in m LEFT) ≡ true → Rest m → m COLUMN < 256 → (m COLUMN + length (digits_before 5 (magnitude (word_in m LEFT)) [])) % 256 ≡ col → Comes f (view a x y n v i z c (NUMBER_AT + 10) (lo ∷ hi ∷ []) m text answers) (Back lo hi text answers (Done col)) (digits_before 5 (magnitude (word_in m LEFT)) []) (1 + (9 + (5 + (270 * 5 + 63))))
   unfolding Rest
   negative a x y n v i z c m col p t r q l =
-      let w = word_at m LEFT in
+      let w = word_in m LEFT in
       let big = sign_small w t in
       let wide : w < 65536 = omega (arith, p) in
       let size : negated w ≡ magnitude w = (let s : negated w ≡ 65536 - w = omega (arith, big, wide) in s) ∙ sym (magnitude_negative w t) in
@@ -234,7 +235,7 @@ module _ (f : Setup) (fits : Fits f 11) (st : Holds number_part f.code) (sd : Ho
       (negate_left (under f (lo ∷ hi ∷ [])) (omega (arith, fits)) sd ((NUMBER_AT + 12) % 256) ((NUMBER_AT + 12) / 256) text answers a x y n v i z c m m w p refl (λ a e. refl))
       (λ a x y n v i z c u g. plain a x y n v i z c u (magnitude w) col g.is_word (g.value ∙ size) few (λ a b d. g.others a b ∙ r a b d) (omega (arith, g.others COLUMN refl, q)) (ap (λ c. (c + length (digits_before 5 (magnitude w) [])) % 256) (g.others COLUMN refl) ∙ l)))
 
-  minus : (a x y : ℕ) (n v i z c : Bool) (m : ℕ → ℕ) (col : ℕ) → IsWord m LEFT → is_negative (word_at m LEFT) ≡ true → Rest m → m COLUMN < 256 → (m COLUMN + length (45 ∷ digits_before 5 (magnitude (word_at m LEFT)) [])) % 256 ≡ col → Comes f (view a x y n v i z c (NUMBER_AT + 5) (lo ∷ hi ∷ []) m text answers) (Back lo hi text answers (Done col)) (45 ∷ digits_before 5 (magnitude (word_at m LEFT)) []) (2 + (8 + (1 + (9 + (5 + (270 * 5 + 63))))))
+  minus : (a x y : ℕ) (n v i z c : Bool) (m : ℕ → ℕ) (col : ℕ) → IsWord m LEFT → is_negative (word_in m LEFT) ≡ true → Rest m → m COLUMN < 256 → (m COLUMN + length (45 ∷ digits_before 5 (magnitude (word_in m LEFT)) [])) % 256 ≡ col → Comes f (view a x y n v i z c (NUMBER_AT + 5) (lo ∷ hi ∷ []) m text answers) (Back lo hi text answers (Done col)) (45 ∷ digits_before 5 (magnitude (word_in m LEFT)) []) (2 + (8 + (1 + (9 + (5 + (270 * 5 + 63))))))
   unfolding Rest
   minus a x y n v i z c m col p t r q l =
       after f 11 fits number_part st 1 (view a x y n v i z c (NUMBER_AT + 5) (lo ∷ hi ∷ []) m text answers) _ _ (8 + (1 + (9 + (5 + (270 * 5 + 63))))) refl
@@ -243,15 +244,15 @@ module _ (f : Setup) (fits : Fits f 11) (st : Holds number_part f.code) (sd : Ho
       (λ a x y n v i z c u g.
       let low = g.others LEFT left_column in
       let high = g.others 0xc063 high_column in
-      let same : word_at u LEFT ≡ word_at m LEFT = omega (arith, low, high) in
+      let same : word_in u LEFT ≡ word_in m LEFT = omega (arith, low, high) in
       let next : u COLUMN ≡ (m COLUMN + 1) % 256 = g.column in
       subst (λ w. Comes f (view a x y n v i z c (NUMBER_AT + 10) (lo ∷ hi ∷ []) u text answers) (Back lo hi text answers (Done col)) (digits_before 5 (magnitude w) []) (1 + (9 + (5 + (270 * 5 + 63))))) same
-      (negative a x y n v i z c u col (omega (arith, low, p), omega (arith, high, p)) (ap is_negative same ∙ t) (λ a b d. g.others a d ∙ r a b d) (omega (arith, next)) (ap (λ w. (u COLUMN + length (digits_before 5 (magnitude w) [])) % 256) same ∙ (let s : (u COLUMN + length (digits_before 5 (magnitude (word_at m LEFT)) [])) % 256 ≡ (m COLUMN + suc (length (digits_before 5 (magnitude (word_at m LEFT)) []))) % 256 = one_later _ _ _ next in s) ∙ l))))
+      (negative a x y n v i z c u col (omega (arith, low, p), omega (arith, high, p)) (ap is_negative same ∙ t) (λ a b d. g.others a d ∙ r a b d) (omega (arith, next)) (ap (λ w. (u COLUMN + length (digits_before 5 (magnitude w) [])) % 256) same ∙ (let s : (u COLUMN + length (digits_before 5 (magnitude (word_in m LEFT)) [])) % 256 ≡ (m COLUMN + suc (length (digits_before 5 (magnitude (word_in m LEFT)) []))) % 256 = one_later _ _ _ next in s) ∙ l))))
 
-  whole : (a x y : ℕ) (n v i z c : Bool) → IsWord m0 LEFT → m0 COLUMN < 256 → Comes f (view a x y n v i z c NUMBER_AT (lo ∷ hi ∷ []) m0 text answers) (Back lo hi text answers (Done ((m0 COLUMN + length (digits_of (word_at m0 LEFT))) % 256))) (digits_of (word_at m0 LEFT)) 1440
+  whole : (a x y : ℕ) (n v i z c : Bool) → IsWord m0 LEFT → m0 COLUMN < 256 → Comes f (view a x y n v i z c NUMBER_AT (lo ∷ hi ∷ []) m0 text answers) (Back lo hi text answers (Done ((m0 COLUMN + length (digits_of (word_in m0 LEFT))) % 256))) (digits_of (word_in m0 LEFT)) 1440
   unfolding Rest
   whole a x y n v i z c p q =
-      let w = word_at m0 LEFT in
+      let w = word_in m0 LEFT in
       let s = sign_of (m0 LEFT) (m0 0xc063) p.0 p.1 in
       ⊎_elim
       (λ t. let b : eqb (m0 0xc063 / 128 % 2) 1 ≡ true = s ∙ t in

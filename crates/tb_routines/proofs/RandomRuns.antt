@@ -3,6 +3,7 @@ use Rattle.std.proofs.Common.{◌≡◌, ℕ, ◌+◌, ◌*◌, ◌/◌, ◌%◌
 use Rattle.std.specs.Prelude.{◌==◌, nat_lt}
 use Rattle.std.proofs.lemmas.Bool.{ne_eqb, eq-eqb, cases_eq}
 use Rattle.std.proofs.Math.Nat.{mod-add-mod}
+use Rattle.tb_cpu.specs.Operands.{word_in}
 use Rattle.tb_cpu.specs.Effects.{bit}
 use Rattle.tb_memmap.specs.Bytes.{with_byte}
 use Rattle.tb_reaching.specs.View.{Setup, View, Holds, Fits, Comes, view}
@@ -11,7 +12,7 @@ use Rattle.tb_reaching.proofs.Calls.{under}
 use Rattle.tb_words.specs.Words.{seed_after}
 use Rattle.tb_runtime16.specs.Places.{MULTIPLY_AT, RANDOM_AT, LEFT, RIGHT, RESULT, SEED, SEEDED, SCRATCH}
 use Rattle.tb_routines.specs.Parts.{multiply_part, divide_part, random_part}
-use Rattle.tb_routines.specs.Laws.{is_argument, is_seed, unsigned_at, word_at, IsWord, Back, Faults, Drawn, seed_of, RandomLaw, RandomRangeLaw}
+use Rattle.tb_routines.specs.Laws.{is_argument, is_seed, unsigned_at, IsWord, Back, Faults, Drawn, seed_of, RandomLaw, RandomRangeLaw}
 use Rattle.tb_routines.proofs.Words.{added}
 use Rattle.tb_routines.proofs.Frames.{skip}
 use Rattle.tb_routines.proofs.Called.{calls, back_looser}
@@ -22,23 +23,23 @@ neither : (b c : Bool) → b ≡ false → c ≡ false → (b || c) ≡ false
 neither true c p q = p
 neither false c p q = q
 
-module _ (f : Setup) (fits : Fits f 6) (st : Holds random_part f.code) (sd : Holds divide_part f.code) (multiply : Holds multiply_part f.code) (lo hi : ℕ) (text answers : List ℕ) (m0 : ℕ → ℕ) (p : IsWord m0 LEFT) (least : 1 ≤ word_at m0 LEFT) (most : word_at m0 LEFT < 32768) where
+module _ (f : Setup) (fits : Fits f 6) (st : Holds random_part f.code) (sd : Holds divide_part f.code) (multiply : Holds multiply_part f.code) (lo hi : ℕ) (text answers : List ℕ) (m0 : ℕ → ℕ) (p : IsWord m0 LEFT) (least : 1 ≤ word_in m0 LEFT) (most : word_in m0 LEFT < 32768) where
   Rest : (ℕ → ℕ) → Type 0
   Rest m = (a : ℕ) → is_argument a ≡ false → (a == SCRATCH) ≡ false → is_seed a ≡ false → m a ≡ m0 a
 
   abbrev Goal : ℕ → View → ℕ → Type 0
-  Goal seed v n = Comes f v (Back lo hi text answers (Drawn m0 (word_at m0 LEFT) seed)) [] n
+  Goal seed v n = Comes f v (Back lo hi text answers (Drawn m0 (word_in m0 LEFT) seed)) [] n
 
   -- the division, with the new state in LEFT and SEED
-  draw : (a x y : ℕ) (n v i z c : Bool) (m : ℕ → ℕ) (seed : ℕ) → IsWord m LEFT → word_at m LEFT ≡ seed_after seed → m RIGHT ≡ m0 LEFT → m 0xc065 ≡ m0 0xc063 → IsWord m SEED → word_at m SEED ≡ seed_after seed → m SEEDED ≡ 1 → Rest m → Goal seed (view a x y n v i z c unsigned_at (lo ∷ hi ∷ []) m text answers) 261
+  draw : (a x y : ℕ) (n v i z c : Bool) (m : ℕ → ℕ) (seed : ℕ) → IsWord m LEFT → word_in m LEFT ≡ seed_after seed → m RIGHT ≡ m0 LEFT → m 0xc065 ≡ m0 0xc063 → IsWord m SEED → word_in m SEED ≡ seed_after seed → m SEEDED ≡ 1 → Rest m → Goal seed (view a x y n v i z c unsigned_at (lo ∷ hi ∷ []) m text answers) 261
   unfolding Rest
   draw a x y n v i z c m seed l le low high s se set r =
-      let same : word_at m RIGHT ≡ word_at m0 LEFT = omega (arith, low, high) in
+      let same : word_in m RIGHT ≡ word_in m0 LEFT = omega (arith, low, high) in
       back_looser f _ lo hi text answers _ _ [] 261 261 (omega arith)
       (unsigned_law f (omega (arith, fits)) sd lo hi text answers m a x y n v i z c l (omega (arith, low, p), omega (arith, high, p)) (omega (arith, same, least)) (omega (arith, same, most)))
       (λ w g. record {
         is_word = g.result_is;
-        value = g.result ∙ ap (λ n. n % word_at m RIGHT) le ∙ ap (λ d. seed_after seed % d) same;
+        value = g.result ∙ ap (λ n. n % word_in m RIGHT) le ∙ ap (λ d. seed_after seed % d) same;
         seed_is = (omega (arith, g.others SEED refl, s), omega (arith, g.others 0xc039 refl, s));
         seed_at = omega (arith, g.others SEED refl, g.others 0xc039 refl, se);
         seeded = g.others SEEDED refl ∙ set;
@@ -55,7 +56,7 @@ module _ (f : Setup) (fits : Fits f 6) (st : Holds random_part f.code) (sd : Hol
   abbrev stored : (ℕ → ℕ) → ℕ → ℕ
   stored w = with_byte (with_byte (with_byte (with_byte w SEED (new_low (w RESULT))) LEFT (new_low (w RESULT))) 0xc039 (new_high (w RESULT) (w 0xc067))) 0xc063 (new_high (w RESULT) (w 0xc067))
 
-  store : (a x y : ℕ) (n v i z c : Bool) (w : ℕ → ℕ) (seed : ℕ) → IsWord w RESULT → word_at w RESULT ≡ 25173 * seed % 65536 → w SEEDED ≡ 1 → Rest w → Goal seed (view a x y n v i z c (RANDOM_AT + 60) (m0 0xc063 ∷ m0 LEFT ∷ lo ∷ hi ∷ []) w text answers) (14 + 261)
+  store : (a x y : ℕ) (n v i z c : Bool) (w : ℕ → ℕ) (seed : ℕ) → IsWord w RESULT → word_in w RESULT ≡ 25173 * seed % 65536 → w SEEDED ≡ 1 → Rest w → Goal seed (view a x y n v i z c (RANDOM_AT + 60) (m0 0xc063 ∷ m0 LEFT ∷ lo ∷ hi ∷ []) w text answers) (14 + 261)
   unfolding Rest
   store a x y n v i z c w seed k e set r =
       let s = added (w RESULT) (w 0xc067) 25 54 k.0 k.1 (omega arith) (omega arith) in
@@ -72,7 +73,7 @@ module _ (f : Setup) (fits : Fits f 6) (st : Holds random_part f.code) (sd : Hol
           ∙ skip is_seed w SEED (new_low (w RESULT)) a refl e
 
   -- the old state is in RIGHT
-  advance : (a x y : ℕ) (n v i z c : Bool) (m : ℕ → ℕ) (seed : ℕ) → m LEFT ≡ m0 LEFT → m 0xc063 ≡ m0 0xc063 → IsWord m RIGHT → word_at m RIGHT ≡ seed → Rest m → Goal seed (view a x y n v i z c (RANDOM_AT + 34) (lo ∷ hi ∷ []) m text answers) (11 + (240 + (14 + 261)))
+  advance : (a x y : ℕ) (n v i z c : Bool) (m : ℕ → ℕ) (seed : ℕ) → m LEFT ≡ m0 LEFT → m 0xc063 ≡ m0 0xc063 → IsWord m RIGHT → word_in m RIGHT ≡ seed → Rest m → Goal seed (view a x y n v i z c (RANDOM_AT + 34) (lo ∷ hi ∷ []) m text answers) (11 + (240 + (14 + 261)))
   unfolding Rest
   advance a x y n v i z c m seed low high k e r =
       let w = with_byte (with_byte (with_byte m SEEDED 1) LEFT 85) 0xc063 98 in
@@ -91,11 +92,11 @@ module _ (f : Setup) (fits : Fits f 6) (st : Holds random_part f.code) (sd : Hol
       (λ none. let b : eqb (m0 SEEDED) 0 ≡ true = eq-eqb _ _ none in
       looser f _ _ _ [] (2 + (11 + (240 + (14 + 261)))) (2 + (4 + (11 + (240 + (14 + 261))))) (omega arith) (λ w h. h)
       (after f 6 fits random_part st 1 (view a x y n v i z c (RANDOM_AT + 17) (lo ∷ hi ∷ []) m0 text answers) _ _ (11 + (240 + (14 + 261))) refl
-      (rw b (advance _ _ _ _ _ _ _ _ m0 seed refl refl q (sym (e ∙ ap (λ b. if b then word_at m0 RIGHT else word_at m0 SEED) b)) (λ a b d e. refl)))))
+      (rw b (advance _ _ _ _ _ _ _ _ m0 seed refl refl q (sym (e ∙ ap (λ b. if b then word_in m0 RIGHT else word_in m0 SEED) b)) (λ a b d e. refl)))))
       (λ some. let b : eqb (m0 SEEDED) 0 ≡ false = ne_eqb _ _ some in
       after f 6 fits random_part st 1 (view a x y n v i z c (RANDOM_AT + 17) (lo ∷ hi ∷ []) m0 text answers) _ _ (4 + (11 + (240 + (14 + 261)))) refl
       (rw b (after f 6 fits random_part st 3 (view _ _ _ _ _ _ _ _ (RANDOM_AT + 22) (lo ∷ hi ∷ []) m0 text answers) _ _ (11 + (240 + (14 + 261))) refl
-      (advance _ _ _ _ _ _ _ _ (with_byte (with_byte m0 RIGHT (m0 SEED)) 0xc065 (m0 0xc039)) seed refl refl s (sym (e ∙ ap (λ b. if b then word_at m0 RIGHT else word_at m0 SEED) b))
+      (advance _ _ _ _ _ _ _ _ (with_byte (with_byte m0 RIGHT (m0 SEED)) 0xc065 (m0 0xc039)) seed refl refl s (sym (e ∙ ap (λ b. if b then word_in m0 RIGHT else word_in m0 SEED) b))
       (λ a b d e. skip is_argument (with_byte m0 RIGHT (m0 SEED)) 0xc065 (m0 0xc039) a refl b ∙ skip is_argument m0 RIGHT (m0 SEED) a refl b)))))
       (cases_eq (m0 SEEDED) 0)
 

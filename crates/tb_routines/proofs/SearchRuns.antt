@@ -3,6 +3,7 @@ use Rattle.std.proofs.Common.{◌≡◌, ◌≢◌, ℕ, zero, suc, ◌+◌, ◌
 use Rattle.std.specs.Prelude.{nat_le}
 use Rattle.std.proofs.lemmas.Bool.{ne_eqb, eq-eqb, cases_eq, cases_lt}
 use Rattle.std.proofs.lemmas.Bool.Decides.{nat_tests}
+use Rattle.tb_cpu.specs.Operands.{word_in}
 use Rattle.tb_cpu.specs.Effects.{bit}
 use Rattle.tb_memmap.specs.Bytes.{with_byte}
 use Rattle.tb_reaching.specs.View.{Setup, Holds, Fits, Comes, view, is_data, is_program}
@@ -10,7 +11,7 @@ use Rattle.tb_reaching.proofs.Memory.{program_not_data}
 use Rattle.tb_reaching.proofs.Comes.{after, ending, looser}
 use Rattle.tb_runtime16.specs.Places.{SEARCH_AT, POINTER, LEFT, RESULT, SECOND, COUNT, SCRATCH}
 use Rattle.tb_routines.specs.Parts.{search_part}
-use Rattle.tb_routines.specs.Laws.{word_at, IsWord}
+use Rattle.tb_routines.specs.Laws.{IsWord}
 use Rattle.tb_routines.specs.Search.{Line, Shows, table_bytes, Rising, AllWords, address_of, search_changes, Searched, SearchLaw}
 use Rattle.tb_routines.proofs.Words.{halved}
 use Rattle.tb_routines.proofs.Pointed.{carry_at_least, carry_below, Changes, changes_put}
@@ -42,7 +43,7 @@ module _ (f : Setup) (fits : Fits f 2) (st : Holds search_part f.code) (lo hi : 
     to : at + 4 * length es ≤ 0xa000
     rising : Rising es
     words : AllWords es
-    same : address_of (word_at m0 LEFT) es ≡ r
+    same : address_of (word_in m0 LEFT) es ≡ r
 
   -- and memory tells of them
   record Range (m : ℕ → ℕ) (es : List Line) (at : ℕ) : Type 0 where
@@ -96,13 +97,13 @@ module _ (f : Setup) (fits : Fits f 2) (st : Holds search_part f.code) (lo hi : 
       (loading f 2 fits SECOND (SEARCH_AT + 0x7B) (at + 1) (e.0 / 256) _ _ 1 _ _ _ _ _ _ m text answers _ _ N (st _ _ refl, (st _ _ refl, tt)) refl refl refl p1 (program_place (at + 1) (omega arith) (omega arith)) h.part.shown.1.0 (k _ _)) in
       ⊎_elim
       (λ yes. let t : eqb ((e.0 / 256 + 256 - m 0xc063) % 256) 0 ≡ true = eq-eqb _ _ (omega (arith, yes)) in
-      let num : e.0 ≡ word_at m0 LEFT = same_bytes e.0 (m0 LEFT) (m0 0xc063) (low ∙ l0) (yes ∙ l1) in
+      let num : e.0 ≡ word_in m0 LEFT = same_bytes e.0 (m0 LEFT) (m0 0xc063) (low ∙ l0) (yes ∙ l1) in
       load (2 + 7) (λ n z. after f 2 fits search_part st 1 (view (e.0 / 256) x 1 n v i z c (SEARCH_AT + 0x7D) (lo ∷ hi ∷ []) m text answers) _ _ 7 refl
-      (rw t (found _ _ _ _ _ _ _ m e at h (ap (λ b. if b then Some e.1 else None) (sym (eq-eqb e.0 (word_at m0 LEFT) num)) ∙ h.part.same)))))
+      (rw t (found _ _ _ _ _ _ _ m e at h (ap (λ b. if b then Some e.1 else None) (sym (eq-eqb e.0 (word_in m0 LEFT) num)) ∙ h.part.same)))))
       (λ differs. let t : eqb ((e.0 / 256 + 256 - m 0xc063) % 256) 0 ≡ false = other_byte (e.0 / 256) (m 0xc063) (omega (arith, h.part.words.0)) (omega (arith, l1, left.1)) differs in
       looser f _ _ _ [] (1 + (1 + (2 + 2))) 11 (omega arith) (λ w h. h)
       (load (2 + 2) (λ n z. after f 2 fits search_part st 1 (view (e.0 / 256) x 1 n v i z c (SEARCH_AT + 0x7D) (lo ∷ hi ∷ []) m text answers) _ _ 2 refl
-      (rw t (none _ _ _ _ _ _ _ _ m h.others (sym (other_line (word_at m0 LEFT) e [] (λ x. differs (high_byte e.0 (m0 LEFT) (m0 0xc063) left.0 left.1 x ∙ sym l1))) ∙ h.part.same))))))
+      (rw t (none _ _ _ _ _ _ _ _ m h.others (sym (other_line (word_in m0 LEFT) e [] (λ x. differs (high_byte e.0 (m0 LEFT) (m0 0xc063) left.0 left.1 x ∙ sym l1))) ∙ h.part.same))))))
       (cases_eq (e.0 / 256) (m 0xc063))
     where
       high_byte : (n l h : ℕ) → l < 256 → h < 256 → n ≡ l + 256 * h → n / 256 ≡ h
@@ -127,14 +128,14 @@ module _ (f : Setup) (fits : Fits f 2) (st : Holds search_part f.code) (lo hi : 
       (λ differs. let t : eqb ((e.0 % 256 + 256 - m LEFT) % 256) 0 ≡ false = other_byte (e.0 % 256) (m LEFT) (omega arith) (omega (arith, l0, left.0)) differs in
       looser f _ _ _ [] (1 + (1 + (2 + 2))) 15 (omega arith) (λ w h. h)
       (load (2 + 2) (λ n z. after f 2 fits search_part st 1 (view (e.0 % 256) x 0 n v i z c (SEARCH_AT + 0x75) (lo ∷ hi ∷ []) m text answers) _ _ 2 refl
-      (rw t (none _ _ _ _ _ _ _ _ m h.others (sym (other_line (word_at m0 LEFT) e [] (λ x. differs (low_byte e.0 (m0 LEFT) (m0 0xc063) left.0 left.1 x ∙ sym l0))) ∙ h.part.same))))))
+      (rw t (none _ _ _ _ _ _ _ _ m h.others (sym (other_line (word_in m0 LEFT) e [] (λ x. differs (low_byte e.0 (m0 LEFT) (m0 0xc063) left.0 left.1 x ∙ sym l0))) ∙ h.part.same))))))
       (cases_eq (e.0 % 256) (m LEFT))
     where
       low_byte : (n l h : ℕ) → l < 256 → h < 256 → n ≡ l + 256 * h → n % 256 ≡ l
       low_byte n l h p q e = omega arith
 
   -- ---- the part below the entry
-  lower : (k : ℕ) → Probe k → (a x y : ℕ) (n v i z c : Bool) (m : ℕ → ℕ) (front : List Line) (e : Line) (back : List Line) (at : ℕ) → Range m (front ++ (e ∷ back)) at → IsWord m SCRATCH → m SCRATCH + 256 * m 0xc06f ≡ length front → 1 ≤ length front → length front ≤ pow2 k → word_at m0 LEFT < e.0 → Comes f (view a x y n v i z c (SEARCH_AT + 0x62) (lo ∷ hi ∷ []) m text answers) (Searched lo hi m0 text answers r) [] (5 + (40 * k + 25))
+  lower : (k : ℕ) → Probe k → (a x y : ℕ) (n v i z c : Bool) (m : ℕ → ℕ) (front : List Line) (e : Line) (back : List Line) (at : ℕ) → Range m (front ++ (e ∷ back)) at → IsWord m SCRATCH → m SCRATCH + 256 * m 0xc06f ≡ length front → 1 ≤ length front → length front ≤ pow2 k → word_in m0 LEFT < e.0 → Comes f (view a x y n v i z c (SEARCH_AT + 0x62) (lo ∷ hi ∷ []) m text answers) (Searched lo hi m0 text answers r) [] (5 + (40 * k + 25))
   unfolding Probe
   lower k go a x y n v i z c m front e back at h w size some few less =
       let to = h.part.to in
@@ -151,13 +152,13 @@ module _ (f : Setup) (fits : Fits f 2) (st : Holds search_part f.code) (lo hi : 
           to = omega (arith, length-append front (e ∷ back));
           rising = rising_front front (e ∷ back) h.part.rising;
           words = words_front front (e ∷ back) h.part.words;
-          same = sym (address_front (word_at m0 LEFT) front e back h.part.rising less) ∙ h.part.same;
+          same = sym (address_front (word_in m0 LEFT) front e back h.part.rising less) ∙ h.part.same;
         };
         others = changes_put _ _ _ 0xc06b _ refl (changes_put _ _ _ COUNT _ refl h.others);
       }) some few)
 
   -- ---- the part from the entry on
-  upper : (k : ℕ) → Probe k → (a x y : ℕ) (n v i z c : Bool) (m : ℕ → ℕ) (front : List Line) (e : Line) (back : List Line) (at : ℕ) → Range m (front ++ (e ∷ back)) at → IsWord m SCRATCH → m SCRATCH + 256 * m 0xc06f ≡ length front → IsWord m POINTER → m 0xfb + 256 * m 0xfc ≡ at + 4 * length front → suc (length back) ≤ pow2 k → e.0 ≤ word_at m0 LEFT → Comes f (view a x y n v i z c (SEARCH_AT + 0x44) (lo ∷ hi ∷ []) m text answers) (Searched lo hi m0 text answers r) [] (12 + (40 * k + 25))
+  upper : (k : ℕ) → Probe k → (a x y : ℕ) (n v i z c : Bool) (m : ℕ → ℕ) (front : List Line) (e : Line) (back : List Line) (at : ℕ) → Range m (front ++ (e ∷ back)) at → IsWord m SCRATCH → m SCRATCH + 256 * m 0xc06f ≡ length front → IsWord m POINTER → m 0xfb + 256 * m 0xfc ≡ at + 4 * length front → suc (length back) ≤ pow2 k → e.0 ≤ word_in m0 LEFT → Comes f (view a x y n v i z c (SEARCH_AT + 0x44) (lo ∷ hi ∷ []) m text answers) (Searched lo hi m0 text answers r) [] (12 + (40 * k + 25))
   unfolding Probe
   upper k go a x y n v i z c m front e back at h w size p place few least =
       let to = h.part.to in
@@ -177,7 +178,7 @@ module _ (f : Setup) (fits : Fits f 2) (st : Holds search_part f.code) (lo hi : 
           to = omega (arith, whole);
           rising = rising_back front (e ∷ back) h.part.rising;
           words = words_back front (e ∷ back) h.part.words;
-          same = sym (address_back (word_at m0 LEFT) front e back h.part.rising least) ∙ h.part.same;
+          same = sym (address_back (word_in m0 LEFT) front e back h.part.rising least) ∙ h.part.same;
         };
         others = changes_put _ _ _ 0xc06b _ refl (changes_put _ _ _ COUNT _ refl (changes_put _ _ _ 0xfe _ refl (changes_put _ _ _ SECOND _ refl h.others)));
       }) (omega arith) few)
@@ -213,7 +214,7 @@ module _ (f : Setup) (fits : Fits f 2) (st : Holds search_part f.code) (lo hi : 
       looser f _ _ _ [] (2 + (1 + (2 + (1 + (1 + (12 + (40 * k + 25))))))) (7 + (12 + (40 * k + 25))) (omega arith) (λ w h. h)
       (go_on (1 + (12 + (40 * k + 25))) (λ a n v z. after f 2 fits search_part st 0 (view a x 1 n v i z (nat_le (e.0 / 256 + bit (not (nat_le (e.0 % 256) (m LEFT)))) (m 0xc063)) (SEARCH_AT + 0x42) (lo ∷ hi ∷ []) m text answers) _ _ (12 + (40 * k + 25)) refl
       (rw t (upper k go _ _ _ _ _ _ _ _ m front e back at h w size p place few_back least)))))
-      (cases_lt (word_at m0 LEFT) e.0)
+      (cases_lt (word_in m0 LEFT) e.0)
 
   -- ---- the entry in the middle
   -- POINTER, from four times SCRATCH in A and POINTER + 1
@@ -306,12 +307,12 @@ module _ (f : Setup) (fits : Fits f 2) (st : Holds search_part f.code) (lo hi : 
       (head (5 + (6 + (7 + (12 + (40 * k + 25))))) (omega arith) a x y n v i z c m es at h some
       (λ a x y n v i z c h1 more. split k (probes k) a x y n v i z c (halves m) es at (length es / 2) h1 (omega (arith, half, small.0, small.1), omega (arith, small.1)) (half ∙ ap (λ n. n / 2) size) refl refl more few))
 
-  whole : (a x y : ℕ) (n v i z c : Bool) (es : List Line) → IsWord m0 0xc068 → IsWord m0 COUNT → Shows f.code (word_at m0 0xc068) (table_bytes es) → 0x0800 ≤ word_at m0 0xc068 → word_at m0 0xc068 + 4 * length es ≤ 0xa000 → word_at m0 COUNT ≡ length es → 1 ≤ length es → Rising es → AllWords es → address_of (word_at m0 LEFT) es ≡ r → Comes f (view a x y n v i z c SEARCH_AT (lo ∷ hi ∷ []) m0 text answers) (Searched lo hi m0 text answers r) [] 600
+  whole : (a x y : ℕ) (n v i z c : Bool) (es : List Line) → IsWord m0 0xc068 → IsWord m0 COUNT → Shows f.code (word_in m0 0xc068) (table_bytes es) → 0x0800 ≤ word_in m0 0xc068 → word_in m0 0xc068 + 4 * length es ≤ 0xa000 → word_in m0 COUNT ≡ length es → 1 ≤ length es → Rising es → AllWords es → address_of (word_in m0 LEFT) es ≡ r → Comes f (view a x y n v i z c SEARCH_AT (lo ∷ hi ∷ []) m0 text answers) (Searched lo hi m0 text answers r) [] 600
   unfolding Probe
   whole a x y n v i z c es table size shown from to count some rising words same =
       looser f _ _ _ [] (4 + (40 * 14 + 25)) 600 (omega arith) (λ w h. h)
       (after f 2 fits search_part st 3 (view a x y n v i z c SEARCH_AT (lo ∷ hi ∷ []) m0 text answers) _ _ (40 * 14 + 25) refl
-      (probes 14 _ _ _ _ _ _ _ _ _ es (word_at m0 0xc068)
+      (probes 14 _ _ _ _ _ _ _ _ _ es (word_in m0 0xc068)
       (record {
         second = refl;
         second_word = table;
@@ -330,4 +331,4 @@ module _ (f : Setup) (fits : Fits f 2) (st : Holds search_part f.code) (lo hi : 
 
 pub search_law : SearchLaw
 search_law f fits st lo hi text answers m a x y n v i z c lines left table size shown from to count some rising words =
-    whole f fits st lo hi text answers m left (address_of (word_at m LEFT) lines) a x y n v i z c lines table size shown from to count some rising words refl
+    whole f fits st lo hi text answers m left (address_of (word_in m LEFT) lines) a x y n v i z c lines table size shown from to count some rising words refl

@@ -3,13 +3,14 @@ use Rattle.std.proofs.Common.{◌≡◌, ℕ, zero, suc, ◌+◌, ◌-◌, ◌*�
 use Rattle.std.proofs.lemmas.Bool.{ne_eqb, eq-eqb, cases_lt}
 use Rattle.std.proofs.lemmas.Nat.{div-mul-add}
 use Rattle.std.proofs.Math.Nat.{mul-add-mod_self_right, mod-eq_of_lt}
+use Rattle.tb_cpu.specs.Operands.{word_in}
 use Rattle.tb_cpu.specs.Effects.{bit}
 use Rattle.tb_memmap.specs.Bytes.{with_byte}
 use Rattle.tb_reaching.specs.View.{Setup, Holds, Fits, Comes, view, View}
 use Rattle.tb_reaching.proofs.Comes.{after, ending, looser}
 use Rattle.tb_runtime16.specs.Places.{DIVIDE_AT, LEFT, RIGHT, RESULT}
 use Rattle.tb_routines.specs.Parts.{divide_part}
-use Rattle.tb_routines.specs.Laws.{unsigned_at, word_at, IsWord, Back, Parted, UnsignedLaw}
+use Rattle.tb_routines.specs.Laws.{unsigned_at, IsWord, Back, Parted, UnsignedLaw}
 use Rattle.tb_routines.proofs.Words.{carried, doubled, doubled_in, subtracted, compared, compared_less}
 use Rattle.tb_routines.proofs.Frames.{Frame, frame_put}
 
@@ -49,7 +50,7 @@ few_less q p h = omega arith
 few_more : (q p : ℕ) → q < p → q + q + 1 < p + p
 few_more q p h = omega arith
 
-module _ (f : Setup) (fits : Fits f 2) (st : Holds divide_part f.code) (lo hi : ℕ) (text answers : List ℕ) (m0 : ℕ → ℕ) (d : IsWord m0 RIGHT) (most : word_at m0 RIGHT ≤ 32768) where
+module _ (f : Setup) (fits : Fits f 2) (st : Holds divide_part f.code) (lo hi : ℕ) (text answers : List ℕ) (m0 : ℕ → ℕ) (d : IsWord m0 RIGHT) (most : word_in m0 RIGHT ≤ 32768) where
   -- after j turns: the quotient so far is q
   record Held (j q : ℕ) (m : ℕ → ℕ) : Type 0 where
     left : IsWord m LEFT
@@ -57,12 +58,12 @@ module _ (f : Setup) (fits : Fits f 2) (st : Holds divide_part f.code) (lo hi : 
     low : m RIGHT ≡ m0 RIGHT
     high : m 0xc065 ≡ m0 0xc065
     others : Frame m0 m
-    less : word_at m RESULT < word_at m0 RIGHT
+    less : word_in m RESULT < word_in m0 RIGHT
     few : q < pow2 j
-    sum : word_at m RESULT * 65536 + word_at m LEFT + q * word_at m0 RIGHT * 65536 ≡ pow2 j * word_at m0 LEFT + q
+    sum : word_in m RESULT * 65536 + word_in m LEFT + q * word_in m0 RIGHT * 65536 ≡ pow2 j * word_in m0 LEFT + q
 
   abbrev Goal : View → ℕ → Type 0
-  Goal v n = Comes f v (Back lo hi text answers (Parted m0 (word_at m0 LEFT / word_at m0 RIGHT) (word_at m0 LEFT % word_at m0 RIGHT))) [] n
+  Goal v n = Comes f v (Back lo hi text answers (Parted m0 (word_in m0 LEFT / word_in m0 RIGHT) (word_in m0 LEFT % word_in m0 RIGHT))) [] n
 
   Less : ℕ → Type 0
   Less k = (a x y : ℕ) (n v i z c : Bool) (m : ℕ → ℕ) (j q : ℕ) → Held j q m → y ≡ suc k → j + k ≡ 16 → Goal (view a x y n v i z c (DIVIDE_AT + 125) (lo ∷ hi ∷ []) m text answers) (16 * k + 3)
@@ -70,15 +71,15 @@ module _ (f : Setup) (fits : Fits f 2) (st : Holds divide_part f.code) (lo hi : 
   Next : ℕ → Type 0
   Next k = (a x y : ℕ) (n v i z c : Bool) (m : ℕ → ℕ) (j q : ℕ) → Held j q m → y ≡ suc k → suc j + k ≡ 16 → Goal (view a x y n v i z c (DIVIDE_AT + 88) (lo ∷ hi ∷ []) m text answers) (16 * k + 17)
 
-  parted : (m : ℕ → ℕ) (q : ℕ) → Held 16 q m → Parted m0 (word_at m0 LEFT / word_at m0 RIGHT) (word_at m0 LEFT % word_at m0 RIGHT) m
+  parted : (m : ℕ → ℕ) (q : ℕ) → Held 16 q m → Parted m0 (word_in m0 LEFT / word_in m0 RIGHT) (word_in m0 LEFT % word_in m0 RIGHT) m
   parted m q h =
-      let same : word_at m LEFT ≡ q = omega (arith, h.left, h.few, h.sum) in
-      let total : q * word_at m0 RIGHT + word_at m RESULT ≡ word_at m0 LEFT = omega (arith, h.left, h.few, h.sum) in
+      let same : word_in m LEFT ≡ q = omega (arith, h.left, h.few, h.sum) in
+      let total : q * word_in m0 RIGHT + word_in m RESULT ≡ word_in m0 LEFT = omega (arith, h.left, h.few, h.sum) in
       record {
         left_is = h.left;
-        left = same ∙ sym (div-mul-add q (word_at m0 RIGHT) (word_at m RESULT) h.less) ∙ ap (λ n. n / word_at m0 RIGHT) total;
+        left = same ∙ sym (div-mul-add q (word_in m0 RIGHT) (word_in m RESULT) h.less) ∙ ap (λ n. n / word_in m0 RIGHT) total;
         result_is = h.rest;
-        result = sym (mul-add-mod_self_right q (word_at m0 RIGHT) (word_at m RESULT) ∙ mod-eq_of_lt h.less) ∙ ap (λ n. n % word_at m0 RIGHT) total;
+        result = sym (mul-add-mod_self_right q (word_in m0 RIGHT) (word_in m RESULT) ∙ mod-eq_of_lt h.less) ∙ ap (λ n. n % word_in m0 RIGHT) total;
         right_low = h.low;
         right_high = h.high;
         others = h.others;
@@ -121,15 +122,15 @@ module _ (f : Setup) (fits : Fits f 2) (st : Holds divide_part f.code) (lo hi : 
       let r1 = 2 * m 0xc067 % 256 + bit (eqb (m RESULT / 128 % 2) 1) in
       let top = carried (m LEFT) (m 0xc063) h.left.0 h.left.1 in
       let left = doubled (m LEFT) (m 0xc063) h.left.0 h.left.1 in
-      let rest : r0 + 256 * r1 ≡ 2 * word_at m RESULT + word_at m LEFT / 32768 = omega (arith, top, h.left, h.less, most, doubled_in (m RESULT) (m 0xc067) (bit (eqb (m 0xc063 / 128 % 2) 1)) h.rest.0 h.rest.1 (omega (arith, top, h.left))) in
+      let rest : r0 + 256 * r1 ≡ 2 * word_in m RESULT + word_in m LEFT / 32768 = omega (arith, top, h.left, h.less, most, doubled_in (m RESULT) (m 0xc067) (bit (eqb (m 0xc063 / 128 % 2) 1)) h.rest.0 h.rest.1 (omega (arith, top, h.left))) in
       let small0 : r0 < 256 = omega (arith, top, h.left) in
       let small1 : r1 < 256 = omega (arith, rest, h.left, h.less, most) in
       let right : IsWord m RIGHT = (omega (arith, h.low, d), omega (arith, h.high, d)) in
-      let same : word_at m RIGHT ≡ word_at m0 RIGHT = omega (arith, h.low, h.high) in
+      let same : word_in m RIGHT ≡ word_in m0 RIGHT = omega (arith, h.low, h.high) in
       let wide : r0 + 256 * r1 < 65536 = omega (arith, small0, small1) in
       let small2 : l0 < 256 = omega arith in
       let small3 : l1 < 256 = omega (arith, left, h.left) in
-      let few : word_at m LEFT < 65536 = omega (arith, h.left) in
+      let few : word_in m LEFT < 65536 = omega (arith, h.left) in
       ⊎_elim
       (λ less. let t = compared_less r0 r1 (m RIGHT) (m 0xc065) small0 small1 right.0 right.1 less in
       looser f _ _ _ [] (11 + (16 * k + 3)) (16 * k + 17) (omega arith) (λ w h. h)
@@ -143,10 +144,10 @@ module _ (f : Setup) (fits : Fits f 2) (st : Holds divide_part f.code) (lo hi : 
         others = frame_put _ _ 0xc067 _ refl (frame_put _ _ RESULT _ refl (frame_put _ _ 0xc063 _ refl (frame_put _ _ LEFT _ refl h.others)));
         less = subst (λ d. r0 + 256 * r1 < d) same less;
         few = few_less q (pow2 j) h.few;
-        sum = sum_less (word_at m LEFT) (word_at m RESULT) q (word_at m0 RIGHT) (pow2 j) (word_at m0 LEFT) (l0 + 256 * l1) (r0 + 256 * r1) few left rest h.sum;
+        sum = sum_less (word_in m LEFT) (word_in m RESULT) q (word_in m0 RIGHT) (pow2 j) (word_in m0 LEFT) (l0 + 256 * l1) (r0 + 256 * r1) few left rest h.sum;
       }) e s))))
       (λ more. let t = compared r0 r1 (m RIGHT) (m 0xc065) small0 small1 right.0 right.1 more in
-      let rest' = taken_from (r0 + 256 * r1) (word_at m0 RIGHT) _ wide (subst (λ d. d ≤ r0 + 256 * r1) same more) (subtracted r0 r1 (m RIGHT) (m 0xc065) small0 small1 right.0 right.1 ∙ ap (λ d. (r0 + 256 * r1 + (65536 - d)) % 65536) same) in
+      let rest' = taken_from (r0 + 256 * r1) (word_in m0 RIGHT) _ wide (subst (λ d. d ≤ r0 + 256 * r1) same more) (subtracted r0 r1 (m RIGHT) (m 0xc065) small0 small1 right.0 right.1 ∙ ap (λ d. (r0 + 256 * r1 + (65536 - d)) % 65536) same) in
       looser f _ _ _ [] (11 + (3 + (16 * k + 3))) (16 * k + 17) (omega arith) (λ w h. h)
       (after f 2 fits divide_part st 10 (view a x y n v i z c (DIVIDE_AT + 88) (lo ∷ hi ∷ []) m text answers) _ _ (3 + (16 * k + 3)) refl
       (rw t (keep k go _ _ _ _ _ _ _ _ _ (suc j) (q + q + 1)
@@ -156,17 +157,17 @@ module _ (f : Setup) (fits : Fits f 2) (st : Holds divide_part f.code) (lo hi : 
         low = h.low;
         high = h.high;
         others = frame_put _ _ LEFT _ refl (frame_put _ _ 0xc067 _ refl (frame_put _ _ RESULT _ refl (frame_put _ _ 0xc067 _ refl (frame_put _ _ RESULT _ refl (frame_put _ _ 0xc063 _ refl (frame_put _ _ LEFT _ refl h.others))))));
-        less = rest_small _ (word_at m0 RIGHT) (word_at m RESULT) (word_at m LEFT) (rest' ∙ rest) h.less few;
+        less = rest_small _ (word_in m0 RIGHT) (word_in m RESULT) (word_in m LEFT) (rest' ∙ rest) h.less few;
         few = few_more q (pow2 j) h.few;
-        sum = sum_more (word_at m LEFT) (word_at m RESULT) q (word_at m0 RIGHT) (pow2 j) (word_at m0 LEFT) _ _ few (up l0 l1 (word_at m LEFT) small2 small3 left) (rest' ∙ rest) h.sum;
+        sum = sum_more (word_in m LEFT) (word_in m RESULT) q (word_in m0 RIGHT) (pow2 j) (word_in m0 LEFT) _ _ few (up l0 l1 (word_in m LEFT) small2 small3 left) (rest' ∙ rest) h.sum;
       }) e s))))
-      (cases_lt (r0 + 256 * r1) (word_at m RIGHT))
+      (cases_lt (r0 + 256 * r1) (word_in m RIGHT))
 
   lesses : (k : ℕ) → Less k
   lesses zero = less_none
   lesses (suc k) = less_more k (turn k (lesses k))
 
-  all : (a x y : ℕ) (n v i z c : Bool) → IsWord m0 LEFT → 1 ≤ word_at m0 RIGHT → Goal (view a x y n v i z c unsigned_at (lo ∷ hi ∷ []) m0 text answers) 261
+  all : (a x y : ℕ) (n v i z c : Bool) → IsWord m0 LEFT → 1 ≤ word_in m0 RIGHT → Goal (view a x y n v i z c unsigned_at (lo ∷ hi ∷ []) m0 text answers) 261
   unfolding Next
   all a x y n v i z c p some =
       looser f _ _ _ [] (4 + 257) 261 (omega arith) (λ w h. h)

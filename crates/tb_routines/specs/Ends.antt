@@ -1,5 +1,6 @@
 -- What faults, polls and the prologue promise.
 use Rattle.std.specs.Prelude.{◌≡◌, ◌≢◌, ℕ, ◌+◌, ◌<◌, ◌≤◌, Bool, true, false, ◌||◌, List, [], ◌∷◌, ◌++◌, length, drop}
+use Rattle.tb_cpu.specs.Operands.{word_in}
 use Rattle.tb_memmap.specs.Regions.{within}
 use Rattle.tb_kernal.specs.Machine.{State, first_or_zero}
 use Rattle.tb_kernal.specs.Starts.{IsStart}
@@ -8,7 +9,7 @@ use Rattle.tb_reaching.specs.Start.{setup_of, view_of, home_low, home_high, IsHo
 use Rattle.tb_lower.specs.Control.{fault_text}
 use Rattle.tb_runtime16.specs.Places.{FAULT_AT, POLL_AT, HOME_S, LINE}
 use Rattle.tb_routines.specs.Parts.{prologue_part, fault_part, poll_part, send_part, number_part, divide_part}
-use Rattle.tb_routines.specs.Laws.{word_at, IsWord, Leaves}
+use Rattle.tb_routines.specs.Laws.{IsWord, Leaves}
 
 -- where the machine was entered from lies on the stack behind what is kept, and the line has a number
 pub record Entered (f : Setup) (lo hi : ℕ) (m : ℕ → ℕ) : Type 0 where
@@ -27,14 +28,14 @@ pub record Faulting (code : Part) : Type 0 where
 abbrev pub FaultLaw : Type 0
 FaultLaw =
     (f : Setup) (room : ℕ) → 13 ≤ room → Fits f room → Faulting f.code → (hlo hhi : ℕ) (above : List ℕ) → length above + 2 ≤ room → (text answers : List ℕ) (m : ℕ → ℕ) → Entered f hlo hhi m → (k x y : ℕ) (n v i z c : Bool) → k < 10 →
-    Comes f (view k x y n v i z c FAULT_AT (above ++ hlo ∷ hhi ∷ []) m text answers) (IsHome f) (fault_text k (word_at m LINE)) 1522
+    Comes f (view k x y n v i z c FAULT_AT (above ++ hlo ∷ hhi ∷ []) m text answers) (IsHome f) (fault_text k (word_in m LINE)) 1522
 
 -- Poll: an answer is taken, and 3 stops the program
 abbrev pub PollLaw : Type 0
 PollLaw =
     (f : Setup) → Fits f 13 → Faulting f.code → Holds poll_part f.code → (lo hi hlo hhi : ℕ) (text answers : List ℕ) (m : ℕ → ℕ) → Entered f hlo hhi m → first_or_zero answers < 256 → (a x y : ℕ) (n v i z c : Bool) →
     (first_or_zero answers ≢ 3 → Comes f (view a x y n v i z c POLL_AT (lo ∷ hi ∷ hlo ∷ hhi ∷ []) m text answers) (Leaves (back_at lo hi) (hlo ∷ hhi ∷ []) text (drop 1 answers) (λ w. w ≡ m)) [] 5)
-    × (first_or_zero answers ≡ 3 → Comes f (view a x y n v i z c POLL_AT (lo ∷ hi ∷ hlo ∷ hhi ∷ []) m text answers) (IsHome f) (fault_text 0 (word_at m LINE)) 1528)
+    × (first_or_zero answers ≡ 3 → Comes f (view a x y n v i z c POLL_AT (lo ∷ hi ∷ hlo ∷ hhi ∷ []) m text answers) (IsHome f) (fault_text 0 (word_in m LINE)) 1528)
 
 -- places that the prologue clears
 abbrev pub is_cleared : ℕ → Bool

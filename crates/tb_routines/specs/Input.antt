@@ -1,5 +1,6 @@
 -- What Input promises: one variable's turn.
 use Rattle.std.specs.Prelude.{◌≡◌, ℕ, ◌+◌, ◌*◌, ◌%◌, ◌≤◌, Bool, true, false, ◌&&◌, ◌||◌, List, [], ◌∷◌, ◌++◌, length, nat_le, ◌==◌}
+use Rattle.tb_cpu.specs.Operands.{word_in}
 use Rattle.tb_cpu.specs.Effects.{bit}
 use Rattle.tb_reaching.specs.View.{View, Setup, Holds, Fits, Comes, view, back_at}
 use Rattle.tb_reaching.specs.Start.{IsHome, IsWaiting}
@@ -8,7 +9,7 @@ use Rattle.tb_lower.specs.Input.{Nothing, Turn, Got, Bad, Dry, turn}
 use Rattle.tb_runtime16.specs.Places.{INPUT_AT, COLUMN, LEFT, RESULT, LINE, BYTE, OPEN}
 use Rattle.tb_routines.specs.Parts.{input_part}
 use Rattle.tb_routines.specs.Ends.{Entered, Faulting}
-use Rattle.tb_routines.specs.Laws.{word_at, IsWord, AllBytes}
+use Rattle.tb_routines.specs.Laws.{IsWord, AllBytes}
 
 -- ---- the law
 
@@ -40,7 +41,7 @@ pub record Taken (lo hi hlo hhi : ℕ) (m : ℕ → ℕ) (replies : List ℕ) (c
   pub left : w.text ≡ keys
   pub same_answers : w.answers ≡ replies
   pub is_word : IsWord w.mem RESULT
-  pub result : word_at w.mem RESULT ≡ number
+  pub result : word_in w.mem RESULT ≡ number
   pub line_open : w.mem OPEN ≡ bit stays
   pub column_is : w.mem COLUMN ≡ column
   pub others : (a : ℕ) → is_changed a ≡ false → w.mem a ≡ m a
@@ -56,4 +57,4 @@ Ended f lo hi hlo hhi m replies c before Dry w = IsWaiting w × (length w.stack 
 abbrev pub InputLaw : Type 0
 InputLaw =
     (f : Setup) → Fits f 13 → (hlo hhi : ℕ) → Faulting f.code → Holds input_part f.code → (lo hi : ℕ) (text answers : List ℕ) (m : ℕ → ℕ) → Entered f hlo hhi m → AllBytes text → (is_open : Bool) → m OPEN ≡ bit is_open → (c : ℕ) → m COLUMN ≡ c % 256 → (a x y : ℕ) (n v i z carry : Bool) →
-    Comes f (view a x y n v i z carry INPUT_AT (lo ∷ hi ∷ hlo ∷ hhi ∷ []) m text answers) (Ended f lo hi hlo hhi m answers c (prompt is_open) (turn Nothing text)) (prompt is_open ++ turn_sends (word_at m LINE) (turn Nothing text)) (45 * length text + 1569)
+    Comes f (view a x y n v i z carry INPUT_AT (lo ∷ hi ∷ hlo ∷ hhi ∷ []) m text answers) (Ended f lo hi hlo hhi m answers c (prompt is_open) (turn Nothing text)) (prompt is_open ++ turn_sends (word_in m LINE) (turn Nothing text)) (45 * length text + 1569)

@@ -1,15 +1,12 @@
 -- What the routines promise, whatever the ROM does.
 use Rattle.std.specs.Prelude.{◌≡◌, ◌⊎◌, ◌≢◌, ℕ, ◌+◌, ◌*◌, ◌/◌, ◌%◌, ◌<◌, ◌≤◌, Bool, false, ◌||◌, ◌==◌, if◌then◌else◌, List, [], ◌∷◌, length}
+use Rattle.tb_cpu.specs.Operands.{word_in}
 use Rattle.tb_memmap.specs.Regions.{within}
 use Rattle.tb_reaching.specs.View.{View, Setup, Holds, Fits, Comes, view, back_at, Bytes}
 use Rattle.tb_words.specs.Words.{quotient, seed_after, digits_of}
 use Rattle.tb_lower.specs.Control.{zone, column_after}
 use Rattle.tb_runtime16.specs.Places.{SEND_AT, MULTIPLY_AT, DIVIDE_AT, RANDOM_AT, NUMBER_AT, TEXT_AT, ZONE_AT, FAULT_AT, COLUMN, SEEDED, SEED, LEFT, RIGHT, RESULT, LENGTH, SCRATCH, POINTER}
 use Rattle.tb_routines.specs.Parts.{send_part, multiply_part, divide_part, random_part, number_part, text_part, zone_part}
-
--- the word at an address of a memory, low byte first
-abbrev pub word_at : (ℕ → ℕ) → ℕ → ℕ
-word_at m at = m at + 256 * m (at + 1)
 
 -- an address and the one behind it hold bytes
 abbrev pub IsWord : (ℕ → ℕ) → ℕ → Type 0
@@ -67,9 +64,9 @@ AllBytes (b ∷ bs) = (b < 256) × AllBytes bs
 -- a text of at most 255 bytes in the program, and where it begins and how long it is, as the routine is told
 pub record Points (f : Setup) (m : ℕ → ℕ) (bytes : List ℕ) : Type 0 where
   pub is_word : IsWord m POINTER
-  pub shown : Bytes f.code (word_at m POINTER) bytes
-  pub from : 0x0800 ≤ word_at m POINTER
-  pub to : word_at m POINTER + length bytes ≤ 0xa000
+  pub shown : Bytes f.code (word_in m POINTER) bytes
+  pub from : 0x0800 ≤ word_in m POINTER
+  pub to : word_in m POINTER + length bytes ≤ 0xa000
   pub count : m LENGTH ≡ length bytes
   pub few : length bytes < 256
   pub bytes_small : AllBytes bytes
@@ -103,14 +100,14 @@ is_used a = is_argument a || a == SCRATCH
 -- the result, and the memory but for these places as it was
 pub record Multiplied (m0 : ℕ → ℕ) (product : ℕ) (m : ℕ → ℕ) : Type 0 where
   pub is_word : IsWord m RESULT
-  pub value : word_at m RESULT ≡ product
+  pub value : word_in m RESULT ≡ product
   pub others : (a : ℕ) → is_used a ≡ false → m a ≡ m0 a
 
 -- Multiply gives the product modulo 65,536 within 240 Go events
 abbrev pub MultiplyLaw : Type 0
 MultiplyLaw =
     (f : Setup) → Fits f 2 → Holds multiply_part f.code → (lo hi : ℕ) (text answers : List ℕ) (m : ℕ → ℕ) (a x y : ℕ) (n v i z c : Bool) → IsWord m LEFT → IsWord m RIGHT →
-    Comes f (view a x y n v i z c MULTIPLY_AT (lo ∷ hi ∷ []) m text answers) (Back lo hi text answers (Multiplied m ((word_at m LEFT * word_at m RIGHT) % 65536))) [] 240
+    Comes f (view a x y n v i z c MULTIPLY_AT (lo ∷ hi ∷ []) m text answers) (Back lo hi text answers (Multiplied m ((word_in m LEFT * word_in m RIGHT) % 65536))) [] 240
 
 -- ---- division without signs, inside Divide
 
@@ -121,9 +118,9 @@ unsigned_at = DIVIDE_AT + 78
 -- memory after the division without signs: quotient q at LEFT, remainder r at RESULT, and all else as it was
 pub record Parted (m0 : ℕ → ℕ) (q r : ℕ) (m : ℕ → ℕ) : Type 0 where
   pub left_is : IsWord m LEFT
-  pub left : word_at m LEFT ≡ q
+  pub left : word_in m LEFT ≡ q
   pub result_is : IsWord m RESULT
-  pub result : word_at m RESULT ≡ r
+  pub result : word_in m RESULT ≡ r
   pub right_low : m RIGHT ≡ m0 RIGHT
   pub right_high : m 0xc065 ≡ m0 0xc065
   pub others : (a : ℕ) → is_argument a ≡ false → m a ≡ m0 a
@@ -131,8 +128,8 @@ pub record Parted (m0 : ℕ → ℕ) (q r : ℕ) (m : ℕ → ℕ) : Type 0 wher
 -- inside Divide: quotient and remainder of words without signs
 abbrev pub UnsignedLaw : Type 0
 UnsignedLaw =
-    (f : Setup) → Fits f 2 → Holds divide_part f.code → (lo hi : ℕ) (text answers : List ℕ) (m : ℕ → ℕ) (a x y : ℕ) (n v i z c : Bool) → IsWord m LEFT → IsWord m RIGHT → 1 ≤ word_at m RIGHT → word_at m RIGHT ≤ 32768 →
-    Comes f (view a x y n v i z c unsigned_at (lo ∷ hi ∷ []) m text answers) (Back lo hi text answers (Parted m (word_at m LEFT / word_at m RIGHT) (word_at m LEFT % word_at m RIGHT))) [] 261
+    (f : Setup) → Fits f 2 → Holds divide_part f.code → (lo hi : ℕ) (text answers : List ℕ) (m : ℕ → ℕ) (a x y : ℕ) (n v i z c : Bool) → IsWord m LEFT → IsWord m RIGHT → 1 ≤ word_in m RIGHT → word_in m RIGHT ≤ 32768 →
+    Comes f (view a x y n v i z c unsigned_at (lo ∷ hi ∷ []) m text answers) (Back lo hi text answers (Parted m (word_in m LEFT / word_in m RIGHT) (word_in m LEFT % word_in m RIGHT))) [] 261
 
 -- ---- Divide
 
@@ -143,19 +140,19 @@ negate_left_at = DIVIDE_AT + 42
 -- a word at a place, and the memory but for the arguments as it was
 pub record Gives (m0 : ℕ → ℕ) (at q : ℕ) (m : ℕ → ℕ) : Type 0 where
   pub is_word : IsWord m at
-  pub value : word_at m at ≡ q
+  pub value : word_in m at ≡ q
   pub others : (a : ℕ) → is_argument a ≡ false → m a ≡ m0 a
 
 -- Divide gives the quotient of signed words, truncated toward zero, within 316 Go events
 abbrev pub DivideLaw : Type 0
 DivideLaw =
-    (f : Setup) → Fits f 8 → Holds divide_part f.code → (lo hi : ℕ) (text answers : List ℕ) (m : ℕ → ℕ) (a x y : ℕ) (n v i z c : Bool) → IsWord m LEFT → IsWord m RIGHT → 1 ≤ word_at m RIGHT →
-    Comes f (view a x y n v i z c DIVIDE_AT (lo ∷ hi ∷ []) m text answers) (Back lo hi text answers (Gives m RESULT (quotient (word_at m LEFT) (word_at m RIGHT)))) [] 316
+    (f : Setup) → Fits f 8 → Holds divide_part f.code → (lo hi : ℕ) (text answers : List ℕ) (m : ℕ → ℕ) (a x y : ℕ) (n v i z c : Bool) → IsWord m LEFT → IsWord m RIGHT → 1 ≤ word_in m RIGHT →
+    Comes f (view a x y n v i z c DIVIDE_AT (lo ∷ hi ∷ []) m text answers) (Back lo hi text answers (Gives m RESULT (quotient (word_in m LEFT) (word_in m RIGHT)))) [] 316
 
 -- by 0, Divide comes to Fault with 2, with memory as it was
 abbrev pub DivideByZeroLaw : Type 0
 DivideByZeroLaw =
-    (f : Setup) → Fits f 2 → Holds divide_part f.code → (lo hi : ℕ) (text answers : List ℕ) (m : ℕ → ℕ) (a x y : ℕ) (n v i z c : Bool) → word_at m RIGHT ≡ 0 →
+    (f : Setup) → Fits f 2 → Holds divide_part f.code → (lo hi : ℕ) (text answers : List ℕ) (m : ℕ → ℕ) (a x y : ℕ) (n v i z c : Bool) → word_in m RIGHT ≡ 0 →
     Comes f (view a x y n v i z c DIVIDE_AT (lo ∷ hi ∷ []) m text answers) (Faults lo hi text answers m 2) [] 6
 
 -- ---- Number
@@ -169,7 +166,7 @@ pub record Written (m0 : ℕ → ℕ) (t : List ℕ) (m : ℕ → ℕ) : Type 0 
 abbrev pub NumberLaw : Type 0
 NumberLaw =
     (f : Setup) → Fits f 11 → Holds number_part f.code → Holds divide_part f.code → Holds send_part f.code → (lo hi : ℕ) (text answers : List ℕ) (m : ℕ → ℕ) (a x y : ℕ) (n v i z c : Bool) → IsWord m LEFT → m COLUMN < 256 →
-    Comes f (view a x y n v i z c NUMBER_AT (lo ∷ hi ∷ []) m text answers) (Back lo hi text answers (Written m (digits_of (word_at m LEFT)))) (digits_of (word_at m LEFT)) 1440
+    Comes f (view a x y n v i z c NUMBER_AT (lo ∷ hi ∷ []) m text answers) (Back lo hi text answers (Written m (digits_of (word_in m LEFT)))) (digits_of (word_in m LEFT)) 1440
 
 -- ---- Random
 
@@ -179,25 +176,25 @@ is_seed a = a == SEEDED || within 0xc038 0xc039 a
 
 -- the state of RND before a call
 abbrev pub seed_of : (ℕ → ℕ) → ℕ
-seed_of m = if m SEEDED == 0 then word_at m RIGHT else word_at m SEED
+seed_of m = if m SEEDED == 0 then word_in m RIGHT else word_in m SEED
 
 -- memory after Random: the state after seed is stored, RESULT is it modulo bound; LEFT, RIGHT and SCRATCH are lost
 pub record Drawn (m0 : ℕ → ℕ) (bound seed : ℕ) (m : ℕ → ℕ) : Type 0 where
   pub is_word : IsWord m RESULT
-  pub value : word_at m RESULT ≡ seed_after seed % bound
+  pub value : word_in m RESULT ≡ seed_after seed % bound
   pub seed_is : IsWord m SEED
-  pub seed_at : word_at m SEED ≡ seed_after seed
+  pub seed_at : word_in m SEED ≡ seed_after seed
   pub seeded : m SEEDED ≡ 1
   pub others : (a : ℕ) → is_argument a ≡ false → (a == SCRATCH) ≡ false → is_seed a ≡ false → m a ≡ m0 a
 
 -- Random takes the next seed, and gives what the bound leaves of it
 abbrev pub RandomLaw : Type 0
 RandomLaw =
-    (f : Setup) → Fits f 6 → Holds random_part f.code → Holds divide_part f.code → Holds multiply_part f.code → (lo hi : ℕ) (text answers : List ℕ) (m : ℕ → ℕ) (a x y : ℕ) (n v i z c : Bool) → IsWord m LEFT → IsWord m RIGHT → IsWord m SEED → 1 ≤ word_at m LEFT → word_at m LEFT < 32768 →
-    Comes f (view a x y n v i z c RANDOM_AT (lo ∷ hi ∷ []) m text answers) (Back lo hi text answers (Drawn m (word_at m LEFT) (seed_of m))) [] 540
+    (f : Setup) → Fits f 6 → Holds random_part f.code → Holds divide_part f.code → Holds multiply_part f.code → (lo hi : ℕ) (text answers : List ℕ) (m : ℕ → ℕ) (a x y : ℕ) (n v i z c : Bool) → IsWord m LEFT → IsWord m RIGHT → IsWord m SEED → 1 ≤ word_in m LEFT → word_in m LEFT < 32768 →
+    Comes f (view a x y n v i z c RANDOM_AT (lo ∷ hi ∷ []) m text answers) (Back lo hi text answers (Drawn m (word_in m LEFT) (seed_of m))) [] 540
 
 -- for a bound below 1, Random comes to Fault with 3, with memory as it was
 abbrev pub RandomRangeLaw : Type 0
 RandomRangeLaw =
-    (f : Setup) → Fits f 2 → Holds random_part f.code → (lo hi : ℕ) (text answers : List ℕ) (m : ℕ → ℕ) (a x y : ℕ) (n v i z c : Bool) → IsWord m LEFT → (word_at m LEFT ≡ 0) ⊎ (32768 ≤ word_at m LEFT) →
+    (f : Setup) → Fits f 2 → Holds random_part f.code → (lo hi : ℕ) (text answers : List ℕ) (m : ℕ → ℕ) (a x y : ℕ) (n v i z c : Bool) → IsWord m LEFT → (word_in m LEFT ≡ 0) ⊎ (32768 ≤ word_in m LEFT) →
     Comes f (view a x y n v i z c RANDOM_AT (lo ∷ hi ∷ []) m text answers) (Faults lo hi text answers m 3) [] 7

@@ -1,10 +1,11 @@
 -- The return list: Push and Pop.
 use Rattle.std.specs.Prelude.{◌≡◌, ◌<◌, ◌≤◌, Bool, false, ℕ, List, [], ◌∷◌, ◌++◌, ◌+◌, ◌*◌, ◌||◌, length}
+use Rattle.tb_cpu.specs.Operands.{word_in}
 use Rattle.tb_memmap.specs.Regions.{within}
 use Rattle.tb_reaching.specs.View.{View, Setup, Part, Holds, Fits, Comes, part_at, view, back_at}
 use Rattle.tb_runtime16.specs.Places.{PUSH_AT, POP_AT, FAULT_AT, LEFT, RESULT, NOTES, NOTE_LIST}
 use Rattle.tb_routines.specs.declared.code.TheConstants.{PUSH, POP}
-use Rattle.tb_routines.specs.Laws.{word_at, IsWord}
+use Rattle.tb_routines.specs.Laws.{IsWord}
 
 -- Push, the place of a note, and Pop
 abbrev pub notes_part : Part
@@ -31,12 +32,12 @@ pub record Faulted (number lo hi : ℕ) (changes : ℕ → Bool) (m : ℕ → �
 -- these words stand in the return list, the last one first
 abbrev pub Held : (ℕ → ℕ) → List ℕ → Type 0
 Held m [] = Unit {0}
-Held m (n ∷ ns) = IsWord m (NOTE_LIST + 2 * length ns) × (word_at m (NOTE_LIST + 2 * length ns) ≡ n) × Held m ns
+Held m (n ∷ ns) = IsWord m (NOTE_LIST + 2 * length ns) × (word_in m (NOTE_LIST + 2 * length ns) ≡ n) × Held m ns
 
 -- the return list holds these notes, at most 500, the newest first, and NOTES is their count
 pub record Notes (m : ℕ → ℕ) (notes : List ℕ) : Type 0 where
   pub is_word : IsWord m NOTES
-  pub count : word_at m NOTES ≡ length notes
+  pub count : word_in m NOTES ≡ length notes
   pub few : length notes ≤ 500
   pub held : Held m notes
 
@@ -61,12 +62,12 @@ pub record Pushed (lo hi : ℕ) (m : ℕ → ℕ) (text answers ns : List ℕ) (
 pub record Popped (lo hi : ℕ) (m : ℕ → ℕ) (text answers : List ℕ) (n : ℕ) (ns : List ℕ) (w : View) : Type 0 where
   pub back : Returned lo hi pop_changes m text answers w
   pub is_word : IsWord w.mem RESULT
-  pub result : word_at w.mem RESULT ≡ n
+  pub result : word_in w.mem RESULT ≡ n
   pub notes : Notes w.mem ns
 
 -- Push puts the word at LEFT on the return list
 abbrev pub PushLaw : Type 0
-PushLaw = (f : Setup) → Fits f 4 → Holds notes_part f.code → (lo hi : ℕ) (text answers : List ℕ) (m : ℕ → ℕ) (a x y : ℕ) (n v i z c : Bool) (notes : List ℕ) → IsWord m LEFT → Notes m notes → length notes < 500 → Comes f (view a x y n v i z c PUSH_AT (lo ∷ hi ∷ []) m text answers) (Pushed lo hi m text answers (word_at m LEFT ∷ notes)) [] 25
+PushLaw = (f : Setup) → Fits f 4 → Holds notes_part f.code → (lo hi : ℕ) (text answers : List ℕ) (m : ℕ → ℕ) (a x y : ℕ) (n v i z c : Bool) (notes : List ℕ) → IsWord m LEFT → Notes m notes → length notes < 500 → Comes f (view a x y n v i z c PUSH_AT (lo ∷ hi ∷ []) m text answers) (Pushed lo hi m text answers (word_in m LEFT ∷ notes)) [] 25
 
 -- 500 notes already
 abbrev pub PushFullLaw : Type 0

@@ -1,10 +1,11 @@
 -- The line table and Search.
 use Rattle.std.specs.Prelude.{◌≡◌, ◌<◌, ◌≤◌, Bool, ℕ, List, [], ◌∷◌, ◌+◌, ◌*◌, ◌/◌, ◌%◌, ◌||◌, if◌then◌else◌, nat_eq, length, Option, Some, None}
+use Rattle.tb_cpu.specs.Operands.{word_in}
 use Rattle.tb_memmap.specs.Regions.{within}
 use Rattle.tb_reaching.specs.View.{View, Setup, Part, Holds, Fits, Comes, view}
 use Rattle.tb_runtime16.specs.Places.{SEARCH_AT, LEFT, RESULT, TABLE, COUNT}
 use Rattle.tb_routines.specs.Parts.{search_part}
-use Rattle.tb_routines.specs.Laws.{word_at, IsWord}
+use Rattle.tb_routines.specs.Laws.{IsWord}
 use Rattle.tb_routines.specs.Notes.{Returned, Faulted}
 
 -- these bytes stand in the program
@@ -50,7 +51,7 @@ search_changes a = within 0xfb 0xfe a || (within 0xc066 0xc067 a || (within 0xc0
 pub record Found (lo hi : ℕ) (m : ℕ → ℕ) (text answers : List ℕ) (address : ℕ) (w : View) : Type 0 where
   pub back : Returned lo hi search_changes m text answers w
   pub is_word : IsWord w.mem RESULT
-  pub result : word_at w.mem RESULT ≡ address
+  pub result : word_in w.mem RESULT ≡ address
 
 -- back with the address, or at Fault with 1
 abbrev pub Searched : ℕ → ℕ → (ℕ → ℕ) → List ℕ → List ℕ → Option ℕ → View → Type 0
@@ -59,4 +60,4 @@ Searched lo hi m text answers None w = Faulted 1 lo hi search_changes m text ans
 
 -- Search gives the address of the line with the number at LEFT, or comes to Fault with 1, within 600 Go events for every table
 abbrev pub SearchLaw : Type 0
-SearchLaw = (f : Setup) → Fits f 2 → Holds search_part f.code → (lo hi : ℕ) (text answers : List ℕ) (m : ℕ → ℕ) (a x y : ℕ) (n v i z c : Bool) (lines : List Line) → IsWord m LEFT → IsWord m TABLE → IsWord m COUNT → Shows f.code (word_at m TABLE) (table_bytes lines) → 0x0800 ≤ word_at m TABLE → word_at m TABLE + 4 * length lines ≤ 0xA000 → word_at m COUNT ≡ length lines → 1 ≤ length lines → Rising lines → AllWords lines → Comes f (view a x y n v i z c SEARCH_AT (lo ∷ hi ∷ []) m text answers) (Searched lo hi m text answers (address_of (word_at m LEFT) lines)) [] 600
+SearchLaw = (f : Setup) → Fits f 2 → Holds search_part f.code → (lo hi : ℕ) (text answers : List ℕ) (m : ℕ → ℕ) (a x y : ℕ) (n v i z c : Bool) (lines : List Line) → IsWord m LEFT → IsWord m TABLE → IsWord m COUNT → Shows f.code (word_in m TABLE) (table_bytes lines) → 0x0800 ≤ word_in m TABLE → word_in m TABLE + 4 * length lines ≤ 0xA000 → word_in m COUNT ≡ length lines → 1 ≤ length lines → Rising lines → AllWords lines → Comes f (view a x y n v i z c SEARCH_AT (lo ∷ hi ∷ []) m text answers) (Searched lo hi m text answers (address_of (word_in m LEFT) lines)) [] 600
