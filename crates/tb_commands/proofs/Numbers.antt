@@ -2,8 +2,10 @@
 use Rattle.std.proofs.Common.{◌≡◌, ℕ, ◌+◌, ◌-◌, ◌*◌, ◌<◌, ◌≤◌, Bool, true, false, ◌&&◌, List, [], ◌∷◌, length, get_or, arith, refl, None}
 use Rattle.std.specs.Prelude.{nat_le}
 use Rattle.std.proofs.lemmas.Bool.Decides.{nat_tests}
+use Rattle.std.specs.List.{list_all}
 use Rattle.tb_grammar.specs.Grammar.{value_after}
-use Rattle.tb_commands.specs.Commands.{all_digits, number_behind}
+use Rattle.tb_grammar.specs.Reading.{is_digit}
+use Rattle.tb_commands.specs.Commands.{number_behind}
 
 -- more digits make no number smaller
 grows : (n : ℕ) (ds : List ℕ) → n ≤ value_after n ds
@@ -20,4 +22,4 @@ pub too_large : (n : ℕ) (ds : List ℕ) → 1 ≤ length ds → 65535 < 10 * n
 too_large n [] some above = absurd (omega (arith, some))
 too_large n (d ∷ ds) some above =
     let large : 65535 < value_after (10 * n + (d - 48)) ds = omega (arith, above, grows (10 * n + (d - 48)) ds) in
-    rw (no_small (all_digits (d ∷ ds)) (value_after (10 * n + (d - 48)) ds) large) refl
+    rw (no_small (list_all is_digit (d ∷ ds)) (value_after (10 * n + (d - 48)) ds) large) refl

@@ -1,5 +1,6 @@
 -- The commands that lines spell.
-use Rattle.std.specs.Prelude.{ℕ, Bool, true, ◌-◌, ◌==◌, ◌&&◌, nat_le, List, [], ◌∷◌, length, Option, Some, None, if◌then◌else◌}
+use Rattle.std.specs.Prelude.{ℕ, ◌-◌, ◌==◌, ◌&&◌, nat_le, List, [], ◌∷◌, length, Option, Some, None, if◌then◌else◌}
+use Rattle.std.specs.List.{list_all}
 use Rattle.tb_words.specs.Letters.{place}
 use Rattle.tb_grammar.specs.Grammar.{value_after}
 use Rattle.tb_grammar.specs.Reading.{is_digit, is_letter}
@@ -28,14 +29,9 @@ asked_of command.Depth = Depth
 asked_of command.Quit = Quit
 asked_of command.Unknown = Unknown
 
--- each byte is a digit
-abbrev pub all_digits : List ℕ → Bool
-all_digits [] = true
-all_digits (d ∷ ds) = is_digit d && all_digits ds
-
 -- what digits stand for behind a number, up to 65,535
 abbrev pub number_behind : ℕ → List ℕ → Option ℕ
-number_behind n ds = if all_digits ds && nat_le (value_after n ds) 65535 then Some (value_after n ds) else None
+number_behind n ds = if list_all is_digit ds && nat_le (value_after n ds) 65535 then Some (value_after n ds) else None
 
 -- the number that one to five digits spell, up to 65,535
 abbrev pub number_of : List ℕ → Option ℕ
