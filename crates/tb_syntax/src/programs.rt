@@ -1,5 +1,5 @@
 //! Programs: statements by line number.
-ghost use Rattle.std.specs.Prelude.{◌≡◌, ◌↔◌, ℕ, List, [], IsTrue, OnOk, OnErr, is_some};
+ghost use Rattle.std.specs.Prelude.{◌≡◌, ◌↔◌, ℕ, List, [], IfErr, IsTrue, OnOk, OnErr, is_some};
 ghost use Rattle.std.specs.Ordering.{nat_cmp};
 ghost use Rattle.std.specs.BTreeMap.{insert_entry, is_at};
 ghost use Rattle.std.specs.Map.{lookup, remove_entry};
@@ -45,6 +45,7 @@ impl Program {
     ) -> Result<(), AllocFailed<(u16, Statement)>>
         ensures ok { OnOk result (self.new ≡ insert_entry nat_cmp self.old number statement) }
         ensures err { OnErr result (self.new ≡ self.old) }
+        ensures back { IfErr result (λ e. e.value ≡ (number, statement)) }
     {
         self.statements.insert(number, statement)?;
         Ok(())
