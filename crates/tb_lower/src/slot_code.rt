@@ -88,4 +88,11 @@ impl SlotCode {
     {
         &self.lines
     }
+
+    /// The same lines, given away.
+    pub fn into_lines(self) -> Vec<SlotLine>
+        ensures { result.items ≡ self }
+    {
+        self.lines
+    }
 }

@@ -1,0 +1,7 @@
+//! The compiler's theorems alone. What `lower` and `compile` promise has the exact lists and the exact bytes beside the
+//! theorem, and a wrong body is refused for these already. Here nothing but the theorem is asked, so it is seen to refuse.
+#![tactic(auto)]
+
+mod lists;
+
+pub use lists::following_lists;
