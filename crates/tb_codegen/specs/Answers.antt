@@ -1,5 +1,5 @@
 -- What `compile` answers.
-use Rattle.std.specs.Prelude.{◌≡◌, ℕ, ◌<◌, List, [], Some, None, Result, Ok, Err, IfSome}
+use Rattle.std.specs.Prelude.{◌≡◌, ℕ, ◌<◌, List, [], Option, Some, None, Result, Ok, Err}
 use Rattle.tb_syntax.specs.Source.{Program}
 use Rattle.tb_lower.specs.Cost.{cost}
 use Rattle.tb_lower.specs.Need.{too_deep}
@@ -8,6 +8,7 @@ use Rattle.tb_lower.specs.declared.lowering.LowerError.TheVariants as deep
 use Rattle.tb_parser.specs.Answers.{refusal_of}
 use Rattle.tb_parser.specs.Files.{FileRefusal, Outcome, LinesAre, refused_at}
 use Rattle.tb_parser.specs.Lines.{lines_of_file}
+use Rattle.tb_parser.specs.Readings.{Refusal}
 use Rattle.tb_codegen.specs.declared.compiled.Compiled.{Compiled}
 use Rattle.tb_refusals.specs.declared.refusals.CompileError.{CompileError}
 use Rattle.tb_refusals.specs.declared.refusals.CompileError.TheVariants.{Source, Lower, TooLarge, NoMemory}
@@ -22,10 +23,15 @@ ProgramAnswer seed program (Err (Lower (deep.TooDeep n))) = too_deep program ≡
 ProgramAnswer seed program (Err (TooLarge n)) = (too_deep program ≡ None) × (cost program ≡ n) × (most < n)
 ProgramAnswer seed program (Err NoMemory) = Unit {0}
 
+-- what an error tells of a line is the file's refusal; an error that tells nothing, as want of memory, is none
+abbrev pub Tells : Option Refusal → ℕ → FileRefusal → Type 0
+Tells None line r = ⊥
+Tells (Some said) line r = refused_at line said ≡ r
+
 -- the answer for a file that is refused
 abbrev pub RefusalAnswer : FileRefusal → Result Compiled CompileError → Type 0
 RefusalAnswer r (Ok c) = ⊥
-RefusalAnswer r (Err (Source e)) = IfSome (refusal_of e.kind e.column) (λ said. refused_at e.line said ≡ r)
+RefusalAnswer r (Err (Source e)) = Tells (refusal_of e.kind e.column) e.line r
 RefusalAnswer r (Err (Lower e)) = ⊥
 RefusalAnswer r (Err (TooLarge n)) = ⊥
 RefusalAnswer r (Err NoMemory) = Unit {0}
