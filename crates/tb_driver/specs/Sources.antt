@@ -11,6 +11,8 @@ use Rattle.tb_engines.specs.Outcomes.{Product}
 use Rattle.tb_engines.specs.declared.made.Stop.{Stop}
 use Rattle.tb_engines.specs.declared.made.Stop.TheVariants.{Refused as StopRefused, NoMemory as StopNoMemory}
 use Rattle.tb_engines.specs.declared.outcome.End.TheVariants.{Done}
+use Rattle.tb_engines.specs.declared.outcome.Outcome.{Outcome as EngineOutcome}
+use Rattle.tb_engines.specs.declared.outcome.Outcome.TheVariants.{Ended, Refused, ReadFault, WriteFault, NoMemory as NoEngineMemory}
 use Rattle.tb_engines.specs.declared.outcome.Refusal.TheVariants.{Source}
 use Rattle.tb_driver.specs.declared.sources.Program.{Program}
 
@@ -54,3 +56,11 @@ FromAnswer makes warnings (Err e) product = (warnings ≡ []) × (product ≡ Er
 abbrev pub FromSource : ℕ → (Compiled → Product → Type 0) → List Warning → List ℕ → Product → Type 0
 FromSource seed makes warnings source product =
     (answer : Result Compiled CompileError) × Compiles seed source answer × FromAnswer makes warnings answer product
+
+-- where an input was not read, there is nothing to warn of
+abbrev pub WarnsOfRead : EngineOutcome → List Warning → Type 0
+WarnsOfRead ReadFault warnings = warnings ≡ []
+WarnsOfRead (Ended end) warnings = Unit {0}
+WarnsOfRead (Refused e) warnings = Unit {0}
+WarnsOfRead WriteFault warnings = Unit {0}
+WarnsOfRead NoEngineMemory warnings = Unit {0}

@@ -5,7 +5,7 @@ ghost use Rattle.tb_streams.specs.Streams.{most_input, ConsumesAtMost};
 ghost use Rattle.tb_engines.specs.Outcomes.{Answers, Faults, MadeFrom};
 ghost use Rattle.tb_engines.specs.Made.{Makes};
 ghost use Rattle.tb_engines.specs.Programs.{RunsPrg};
-ghost use Rattle.tb_driver.specs.Sources.{IsCompiled, stop_of, IsFile, FromSource};
+ghost use Rattle.tb_driver.specs.Sources.{IsCompiled, stop_of, IsFile, FromSource, WarnsOfRead};
 ghost use Rattle.tb_codegen.specs.Compiled.{prg_of};
 ghost use Rattle.tb_driver.specs.Output.{KeepsSource, RunsSource};
 
@@ -56,6 +56,7 @@ pub fn build<R: Read, W: Write>(
     ensures answers { Answers (MadeFrom (R.remaining reader.old.stream)
         (FromSource seed IsFile result.warnings.items)) result.outcome
         (W.contents writer.old.stream) (W.contents writer.new.stream) }
+    ensures warned { WarnsOfRead result.outcome result.warnings.items }
     ensures faults { Faults result.outcome (R.remaining reader.old.stream)
         reader.old.failures reader.new.failures writer.old.failures writer.new.failures }
     ensures taken { ConsumesAtMost (R.remaining reader.old.stream) (R.remaining reader.new.stream)
@@ -122,6 +123,7 @@ pub fn run_text<R: Read, W: Write, O: Outside>(
     ensures output { Answers (MadeFrom (R.remaining reader.old.stream)
         (RunsSource seed keyboard.text.items keyboard.answers.items)) result.outcome
         (W.contents writer.old.stream) (W.contents writer.new.stream) }
+    ensures warned { WarnsOfRead result.outcome result.warnings.items }
     ensures faults { Faults result.outcome (R.remaining reader.old.stream)
         reader.old.failures reader.new.failures writer.old.failures writer.new.failures }
     ensures taken { ConsumesAtMost (R.remaining reader.old.stream) (R.remaining reader.new.stream)

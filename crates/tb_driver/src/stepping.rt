@@ -3,6 +3,7 @@ ghost use Rattle.std.specs.Prelude.{◌≡◌, ◌+◌};
 ghost use Rattle.tb_streams.specs.Streams.{most_input, ConsumesAtMost};
 ghost use Rattle.tb_engines.specs.Outcomes.{Answers};
 ghost use Rattle.tb_engines.specs.Made.{Makes};
+ghost use Rattle.tb_driver.specs.Sources.{WarnsOfRead};
 ghost use Rattle.tb_driver.specs.Stepping.{IsLoadable, Steps, StepsThrough, MadeFromBoth, FaultsOfBoth};
 
 use crate::sources::stop_of;
@@ -57,6 +58,7 @@ pub fn step_text<R: Read, C: Read, W: Write>(
     ensures answers { Answers (MadeFromBoth (R.remaining source.old.stream) (C.remaining commands.old.stream)
         (StepsThrough seed keyboard.text.items keyboard.answers.items limit result.warnings.items)) result.outcome
         (W.contents writer.old.stream) (W.contents writer.new.stream) }
+    ensures warned { WarnsOfRead result.outcome result.warnings.items }
     ensures faults { FaultsOfBoth result.outcome
         (R.remaining source.old.stream) source.old.failures source.new.failures
         (C.remaining commands.old.stream) commands.old.failures commands.new.failures
