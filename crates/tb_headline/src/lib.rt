@@ -2,6 +2,8 @@
 //! theorem, and a wrong body is refused for these already. Here nothing but the theorem is asked, so it is seen to refuse.
 #![tactic(auto)]
 
+mod image;
 mod lists;
 
+pub use image::keeping_file;
 pub use lists::following_lists;
