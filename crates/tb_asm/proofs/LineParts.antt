@@ -2,13 +2,13 @@
 use Rattle.std.proofs.Common.{◌≡◌, ℕ, true, false, List, [], ◌∷◌, Some, eqb, if◌then◌else◌, arith, ◌||◌}
 use Rattle.std.proofs.lemmas.Bool.Decides.{nat_tests}
 use Rattle.tb_asm.specs.Names.{fold_byte, is_letter}
-use Rattle.tb_asm.specs.Parts.{parts_of, parts_from, in_identifier, in_number, is_space, sign_of, with_found, between}
+use Rattle.tb_asm.specs.Parts.{parts_of, parts_from, in_identifier, in_number, sign_of, with_found, between}
 
 module _ (b : ℕ) (letter : is_letter (fold_byte b) ≡ true) where
   no_comment : eqb b 59 ≡ false
   no_comment = grind (arith, nat_tests)
 
-  no_space : is_space b ≡ false
+  no_space : eqb b 32 ≡ false
   no_space = grind (arith, nat_tests)
 
   -- a letter begins an identifier

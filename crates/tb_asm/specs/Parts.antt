@@ -28,10 +28,6 @@ digit_value b = if within 48 57 b then Some (b - 48) else if within 65 70 b then
 abbrev pub hex_digit : ℕ → ℕ
 hex_digit d = if nat_lt d 10 then 48 + d else 55 + d
 
--- a space or a tab
-abbrev pub is_space : ℕ → Bool
-is_space b = eqb b 32 || eqb b 9
-
 -- the sign that a byte is: `#`, `<`, `>`, `(`, `)`, a comma or a colon; None for any other byte
 abbrev pub sign_of : ℕ → Option Part
 sign_of b =
@@ -57,7 +53,7 @@ with_found (Some p) ps = with_part p ps
 abbrev pub fresh : ℕ → (Place → Option (List Part)) → Option (List Part)
 fresh b go =
     if eqb b 59 then Some [] else
-    if is_space b then go between else
+    if eqb b 32 then go between else
     if is_letter (fold_byte b) || eqb b 46 then go (in_identifier (fold_byte b ∷ [])) else
     if eqb b 36 then go (in_number []) else with_found (sign_of b) (go between)
 

@@ -1,7 +1,7 @@
 //! The parts of a line.
 ghost use Rattle.std.specs.Prelude.{◌≡◌, ℕ, ◌+◌, ◌<◌, ◌≤◌, ◌∷◌, [], length, drop, slice_index, Some, IfSome};
 ghost use Rattle.tb_asm.specs.Names.{fold_byte};
-ghost use Rattle.tb_asm.specs.Parts.{digit_value, sign_of, number_of, parts_from, parts_of, in_identifier, in_number, is_space};
+ghost use Rattle.tb_asm.specs.Parts.{digit_value, sign_of, number_of, parts_from, parts_of, in_identifier, in_number};
 ghost use Rattle.tb_asm.specs.Reads.{Splits, ReadsFirst, ReadsRun};
 
 use crate::errors::LineError;
@@ -59,7 +59,7 @@ fn read_part(byte: u8, after: &[u8]) -> Option<(Option<Part>, usize)>
 {
     match byte {
         b';' => Some((None, after.len() + 1)),
-        b' ' | b'\t' => Some((None, 1)),
+        b' ' => Some((None, 1)),
         b'$' => {
             let (digits, size) = read_digits(after)?;
             Some((Some(number(digits.as_slice())?), size + 1))
