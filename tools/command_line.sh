@@ -25,6 +25,24 @@ row() { # STATUS SAID SHOWN WORD..: SAID and SHOWN are patterns of standard erro
         "$*" "$status" "$wanted" "$(<said)" "$said" "$(<shown)" "$shown" "$made" "$wanted_made"
 }
 
+same() { # FILE: a row: OUT holds the bytes of FILE
+    rows=$((rows + 1))
+    cmp -s out.prg "$1" && return
+    failed=$((failed + 1))
+    printf 'OUT has not the bytes of %s\n' "$1"
+}
+
+built() { # SHOWN WORD..: rows: a call of `build`, and a run of the PRG file that it wrote
+    row 0 '' '' build "${@:2}"
+    cp out.prg built.prg
+    row 0 '' "$1" run --prg built.prg
+}
+
+steps_to() { # END SOURCE: how many steps the stepper takes until its answer ends so
+    "$tbc" step "$2" < <(yes s | head -n 5000) >walk
+    grep -n -m 1 " $1\$" walk | cut -d : -f 1
+}
+
 file() { printf '%b' "$2" >"$1"; } # NAME TEXT
 
 each() { # STATUS FILE WORD..: a row for each line 'SAID|TEXT' of standard input, where FILE holds TEXT
@@ -42,8 +60,12 @@ file forever.bas '10 PRINT "A"\n20 GOTO 20\n'
 file warn.bas '10 PRINT "A"\n20 GOTO 30\n'
 file both.bas '10 GOSUB 10\n20 GOSUB 300\n30 GOTO 400\n'
 file ask.bas '10 INPUT A\n20 GOTO 30\n'
+file far.bas '10 A=30\n20 GOTO A\n30 PRINT "FAR";RND(100)\n40 GOTO A+20\n50 END\n'
 file routine.s 'LDA #$48\nJSR $FFD2\nRTS\n'
 file routine.prg '\x00\xc0\xa9\x48\x20\xd2\xff\x60'
+file echo.prg '\x00\xc0\x20\xcf\xff\x20\xd2\xff\x4c\x00\xc0'
+file poll.prg '\x00\xc0\x20\xe4\xff\x20\xd2\xff\x60'
+file spoilt.prg '\x00\xc0\xa2\x41\xa9\x2e\x20\xd2\xff\x8a\x20\xd2\xff\x60'
 mkdir folder
 
 # What is done
@@ -54,11 +76,25 @@ row 0 '' HELLO run hello.bas --rude 7
 row 0 '' $'A\n? \n42\n\n!7 AT 30' run wait.bas --keys 32310D
 row 0 '' $'\n!0 AT 10' run hello.bas --answers 03
 row 0 '' H run --prg routine.prg
+row 0 '' A run --prg poll.prg --answers 41
 row 0 '' '' asm routine.s out.prg --at c000
+same routine.prg
 row 0 '' $'LDA #$48 ; C000\nJSR $FFD2 ; C002\nRTS ; C005' dis routine.prg
 row 0 '' 'tbc 1.0.0' --version
 row 0 '' 'Compiles Tiny BASIC*Usage: tbc *' --help
 row 0 '' '*Usage: tbc run *SOURCE*--prg*' run --help
+
+# What is built is the whole program: its last line is found in the table at the end. The first state of RND is the seed
+built HELLO hello.bas out.prg
+built FAR22 far.bas out.prg
+built FAR95 far.bas out.prg --seed 2
+row 0 '' FAR22 run far.bas
+row 0 '' FAR95 run far.bas --seed 2
+
+# A register that the ROM spoils is shown
+row 0 '' .A run --prg spoilt.prg
+row 0 '' '.{F0}' run --prg spoilt.prg --rude 1
+row 0 '' '.{E6}' run --prg spoilt.prg --rude 3
 
 # Warnings stand before anything else
 row 0 'tbc: warning: line 20: no line 30' '' build warn.bas out.prg
@@ -153,6 +189,7 @@ to=shown
 
 # Runs that end otherwise
 row 5 'tbc: step limit' A run forever.bas
+row 6 'tbc: waits for a key' 12 run --prg echo.prg --keys 3132
 row 6 'tbc: waits for a key' $'A\n\\? ' run wait.bas
 row 6 'tbc: waits for a key' $'A\n\\? ' run wait.bas --keys 3132
 each 7 wrong.prg run --prg wrong.prg <<'END'
@@ -162,6 +199,10 @@ wrong: closed address D020 at C002|\x00\xc0\xa9\x05\x8d\x20\xd0
 wrong: brk at C001|\x00\xc0\xea\x00
 END
 
+# A limit is the number of events that a run may take, and no other: this routine takes four
+row 0 '' H run --prg routine.prg --limit 4
+row 5 'tbc: step limit' H run --prg routine.prg --limit 3
+
 steps() { # SHOWN COMMANDS WORD..
     local shown=$1
     file commands "$2"
@@ -169,12 +210,27 @@ steps() { # SHOWN COMMANDS WORD..
     row 0 '' "$shown" step "$@"
 }
 step_rows() {
+    local events
     file let.bas '10 A=5\n20 END\n'
+    file dice.bas '10 A=RND(100)\n20 END\n'
     from=commands
     steps $'nothing back\n080E A=00 X=00 Y=00 S=F0 P=30 - running\n080D A=00 X=00 Y=00 S=F0 P=30 - running' 'b\ns\nb\nq\ns\n' let.bas
     steps $'no such line\nat 20\n5\n9\ndivision by zero\nhas RND\nwhat\\?\nwhat\\?\n0' \
         'g 15\ng 20\nv A\ne A*2-1\ne 1/0\ne RND(2)\nx\ne A+\nd' let.bas
-    steps limit 'g 20\n' let.bas --limit 3
+    events=$(steps_to '20 running' let.bas)
+    steps 'at 20' 'g 20\n' let.bas --limit "$events"
+    steps limit 'g 20\n' let.bas --limit $((events - 1))
+    events=$(steps_to returned hello.bas)
+    row 0 '' HELLO run hello.bas --limit "$events"
+    row 5 'tbc: step limit' HELLO run hello.bas --limit $((events - 1))
+    row 0 '' '' build hello.bas out.prg
+    cp out.prg built.prg
+    row 0 '' HELLO run --prg built.prg --limit "$events"
+    row 5 'tbc: step limit' HELLO run --prg built.prg --limit $((events - 1))
+    steps $'at 20\n22' 'g 20\nv A\n' dice.bas
+    steps $'at 20\n95' 'g 20\nv A\n' dice.bas --seed 2
+    steps 'at 20' 'g 20\n' hello.bas
+    steps returned 'g 20\n' hello.bas --answers 03
     steps $'at 10\nreturned' 'g 10\ng 10\n' let.bas
     steps $'what\\?\nwhat\\?\nwhat\\?\nwhat\\?\nat 20' 'g 65536\ng 000020\ng  20\nss\ng 00020' let.bas
     steps waits 'g 30\n' wait.bas
@@ -187,6 +243,7 @@ step_rows() {
     row 3 'tbc: read fault' '' step nowhere.bas
     from=folder
     row 3 'tbc: read fault' '' step let.bas
+    row 3 'tbc: read fault' '' step long.bas
     from=commands
     to=/dev/full
     file commands 's\n'

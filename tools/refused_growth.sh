@@ -1,7 +1,7 @@
 #!/usr/bin/env bash
 # Runs each command of the built program with the first, the second, .. growth of its memory refused, until a run
 # meets no refusal. Each run must end with status 4, `tbc: out of memory` and nothing written, or answer exactly what
-# the command answers with ample memory. So must the calls that no command makes or shows, each a word of `tb_calls`.
+# the command answers with ample memory; where no growth was refused, it must not be out of memory. So must the calls that no command makes or shows, each a word of `tb_calls`.
 # The refusing malloc is preloaded, so this needs a C compiler (cc) and glibc.
 . "$(dirname "${BASH_SOURCE[0]}")/setup.sh"
 needs_program
@@ -54,6 +54,10 @@ refuse_each() { # PROGRAM WORD..: what it answers, with each growth refused in t
     rows=$((rows + 1))
     answer 0 "$@"
     wanted=$status
+    if [ "$wanted" = 4 ]; then
+        echo "$name $words: out of memory though no growth was refused" >&2
+        failed=$((failed + 1))
+    fi
     rm -f made.wanted
     mv said said.wanted
     mv shown shown.wanted
@@ -61,7 +65,10 @@ refuse_each() { # PROGRAM WORD..: what it answers, with each growth refused in t
     for ((growth = 1; growth < 100000; growth++)); do
         answer "$growth" "$@"
         runs=$((runs + 1))
-        if [ "$status" = "$wanted" ] && cmp -s said said.wanted && cmp -s shown shown.wanted && same_made; then
+        if [ "$status" = 4 ] && [ ! -s refused ]; then
+            echo "$name $words: out of memory though no growth was refused" >&2
+            failed=$((failed + 1))
+        elif [ "$status" = "$wanted" ] && cmp -s said said.wanted && cmp -s shown shown.wanted && same_made; then
             again=$((again + 1))
         elif [ "$status" = 4 ] && [ "$(<said)" = "$name: out of memory" ] && [ ! -s shown ] && [ ! -e out.prg ]; then
             want=$((want + 1))
@@ -84,11 +91,19 @@ check_call() { # NAME: a call, whose answer is a text
 : >commands
 printf '\001\010\013\010\012\000\2362061\000\000\000\251H\040\322\377\251\015\040\322\377\140' >hello.prg
 printf '\000\300\251\005\215\040\320\140' >wrong.prg
+printf '\000\300\255\022\000\377\154\377\022\251' >mixed.prg
+printf 'LDA #$05 ; C000\nSTA $D020 ; C002\nRTS ; C005\n' >wrong.s
+printf 'LDA $0012 ; C000\n.byte $FF ; C003\n.byte $6C ; C004\n.byte $FF ; C005\n.byte $12 ; C006\n.byte $A9 ; C007\n' >mixed.s
 printf '\000\300\040\317\377\040\322\377\114\000\300' >echo.prg
 printf 'L:\nLDA #<L\nBNE L\nJSR $FFD2\n.word L ; end\n.byte $01,$02\n' >text.s
 printf 'LDA #5\n' >bad.s
 printf 'JMP M\n' >unknown.s
 printf '10 PRINT "HELLO"\n20 END\n' >hello.bas
+printf '10 A=4\n20 GOTO 10*A\n30 PRINT "NO"\n40 END\n' >there.bas
+printf '10 A=5\n20 GOTO 10*A\n30 PRINT "NO"\n40 END\n' >astray.bas
+printf '10 A=4\n20 GOTO 10-20\n30 PRINT "NO"\n40 END\n' >below.bas
+printf '10 GOTO 99\n' >warned.bas
+printf '10 A=5\n20 END\n' >let.bas
 printf '10 REM ALL\n20 INPUT A,B\n30 LET C=-A*(B+2)/3\n40 IF C<=A THEN GOSUB 80\n50 IF A<>B PR "X",C;RND(6)\n60 GOTO 90\n80 RETURN\n90 GOTO 95\n' >all.bas
 printf '10 PRINT 1\n20 PRINT (1\n' >bad.bas
 printf '10 A=1+(1+(1+(1+(1+(1+(1+(1+(1+(1+(1+(1+(1+(1+(1+(1+1)))))))))))))))\n' >deep.bas
@@ -104,6 +119,10 @@ check build empty.bas out.prg
 check build nowhere.bas out.prg
 check build hello.bas nowhere/out.prg
 check run hello.bas
+check run there.bas
+check run astray.bas
+check run below.bas
+check run warned.bas
 check run all.bas --keys 332c350d --rude 1
 check run all.bas --keys 332c350d --limit 900
 check run all.bas --keys 33
@@ -114,13 +133,18 @@ check run nowhere.bas
 check run --prg hello.prg
 check run --prg hello.prg --rude 1
 check run --prg wrong.prg
+check run --prg mixed.prg
 check run --prg echo.prg --keys 3132330d
 check run --prg nowhere.prg
 check run --prg hello.prg --keys 0
 check run --prg hello.prg --limit 0
 check dis hello.prg
+check dis wrong.prg
+check dis mixed.prg
 check dis bad.s
 check asm text.s out.prg --at c000
+check asm wrong.s out.prg --at c000
+check asm mixed.s out.prg --at c000
 check asm bad.s out.prg --at c000
 check asm unknown.s out.prg --at c000
 check asm text.s out.prg --at c00
@@ -132,6 +156,8 @@ check
 step_rows() {
     printf 's\nb\nb\ng 30\nv A\ne A*2-1\ne 1/0\ne RND(2)\ne A+\nx\nd\ng 20\nq\n' >commands
     check step all.bas --keys 332c350d
+    printf 'b\ns\nb\ng 15\ng 20\nv A\ne A*2-1\ne 1/0\ne RND(2)\nx\nq\n' >commands
+    check step let.bas
     check step hello.bas --limit 3
     check step bad.bas
     check step nowhere.bas

@@ -1,49 +1,85 @@
 //! Calls of the assembler, of the disassembler and on PRG files.
 use crate::failure::Failure;
-use crate::sources::{show_bytes, show_each, show_letters};
+use crate::sources::{SOURCES, compiled, show_bytes, show_each, show_letters};
 use std::alloc::Global;
-use tb_asm::{Image, Item, Name, Operand, assemble, read_text, settle};
+use tb_asm::{AsmErrorKind, Image, Item, TextError, assemble, read_text, settle};
 use tb_disasm::{Listing, disassemble};
-use tb_opcodes::{Mnemonic, Mode};
 use tb_prg::write;
 
-/// A listing as `dis` writes it.
-const LISTING: &[u8] = b"LDA #$05 ; C000\nSTA $D020 ; C002\nRTS ; C005\n";
+/// The bytes of the worked rows: a program, and instructions among bytes that are none.
+const LISTED: [&[u8]; 2] = [
+    &[0xa9, 0x05, 0x8d, 0x20, 0xd0, 0x60],
+    &[0xad, 0x12, 0x00, 0xff, 0x6c, 0xff, 0x12, 0xa9],
+];
 
-/// Instructions, and bytes that are none.
-const MIXED: [u8; 8] = [0xad, 0x12, 0x00, 0xff, 0x6c, 0xff, 0x12, 0xa9];
+/// Where a program starts.
+const CODE_START: u16 = 0x080d;
 
-fn label() -> Result<Name, Failure> {
-    Name::read(b"L").ok_or(Failure::Refused)
+/// How many bytes stand before a program's image in its PRG file.
+const HEADER_SIZE: usize = 14;
+
+/// A branch over so many zeros to a label, forward or back.
+#[derive(Clone, Copy, Drop)]
+struct Branch {
+    zeros: usize,
+    is_forward: bool,
 }
 
-fn push_branch(items: &mut Vec<Item>) -> Result<(), Failure> {
-    let target = Operand::Label(label()?);
-    items.push(Item::Instr(Mnemonic::Bne, Mode::Relative, target))?;
+/// The branches of the worked rows: the last that reaches and the first that does not, each way.
+const BRANCHES: [Branch; 4] = [
+    Branch {
+        zeros: 127,
+        is_forward: true,
+    },
+    Branch {
+        zeros: 128,
+        is_forward: true,
+    },
+    Branch {
+        zeros: 126,
+        is_forward: false,
+    },
+    Branch {
+        zeros: 127,
+        is_forward: false,
+    },
+];
+
+/// The other texts of the worked rows.
+const TEXTS: [&[u8]; 3] = [b"STA #$05", b"JMP ($12FF)", b"LDA #5"];
+
+fn push_zeros(count: usize, row: &mut Vec<u8>) -> Result<(), Failure> {
+    row.extend_from_slice(b"\n.byte $00")?;
+    for _ in 1..count {
+        row.extend_from_slice(b",$00")?;
+    }
+    row.push(b'\n')?;
     Ok(())
 }
 
-fn push_zeros(alloc: Global, count: usize, items: &mut Vec<Item>) -> Result<(), Failure> {
-    items.push(Item::Bytes(vec![in alloc; 0; count]?))?;
-    Ok(())
-}
+impl Branch {
+    fn push_text(self, row: &mut Vec<u8>) -> Result<(), Failure> {
+        let (first, last): (&[u8], &[u8]) = if self.is_forward {
+            (b"BNE L", b"L:")
+        } else {
+            (b"L:", b"BNE L")
+        };
+        row.extend_from_slice(first)?;
+        push_zeros(self.zeros, row)?;
+        row.extend_from_slice(last)?;
+        Ok(())
+    }
 
-fn push_label(items: &mut Vec<Item>) -> Result<(), Failure> {
-    items.push(Item::Label(label()?))?;
-    Ok(())
-}
+    fn text(self, alloc: Global) -> Result<Vec<u8>, Failure> {
+        let mut row = Vec::new(alloc);
+        self.push_text(&mut row)?;
+        Ok(row)
+    }
 
-fn push_branch_over(alloc: Global, count: usize, items: &mut Vec<Item>) -> Result<(), Failure> {
-    push_branch(items)?;
-    push_zeros(alloc, count, items)?;
-    push_label(items)
-}
-
-// A branch over so many bytes.
-fn branch_over(alloc: Global, count: usize) -> Result<Vec<Item>, Failure> {
-    let mut items = Vec::new(alloc);
-    push_branch_over(alloc, count, &mut items)?;
-    Ok(items)
+    fn items(self, alloc: Global) -> Result<Vec<Item>, Failure> {
+        let row = self.text(alloc)?;
+        Ok(read_text(alloc, row.as_slice())?)
+    }
 }
 
 fn show_image(image: &Image, text: &mut String) -> Result<(), Failure> {
@@ -52,62 +88,145 @@ fn show_image(image: &Image, text: &mut String) -> Result<(), Failure> {
     Ok(())
 }
 
+// Assembles items. A refusal is an answer, but for want of memory.
 fn show_assembled(alloc: Global, items: &[Item], text: &mut String) -> Result<(), Failure> {
-    let image = assemble(alloc, 0x1000, items)?;
-    show_image(&image, text)
+    match assemble(alloc, 0x1000, items) {
+        Ok(image) => show_image(&image, text),
+        Err(error) if error.kind == AsmErrorKind::NoMemory => Err(Failure::from(error)),
+        Err(error) => {
+            writeln!(text, "{error:?}")?;
+            Ok(())
+        }
+    }
 }
 
-pub fn show_assemble(alloc: Global, text: &mut String) -> Result<(), Failure> {
-    let items = branch_over(alloc, 127)?;
+fn show_assembled_branch(alloc: Global, branch: Branch, text: &mut String) -> Result<(), Failure> {
+    let items = branch.items(alloc)?;
     show_assembled(alloc, items.as_slice(), text)
 }
 
-fn show_settled(alloc: Global, items: &[Item], text: &mut String) -> Result<(), Failure> {
+pub fn show_assemble(alloc: Global, text: &mut String) -> Result<(), Failure> {
+    for branch in BRANCHES {
+        show_assembled_branch(alloc, branch, text)?;
+    }
+    for row in TEXTS {
+        show_assembled_text(alloc, row, text)?;
+    }
+    Ok(())
+}
+
+// Assembles a row's text. A bad line is an answer.
+fn show_assembled_text(alloc: Global, row: &[u8], text: &mut String) -> Result<(), Failure> {
+    match read_text(alloc, row) {
+        Ok(items) => show_assembled(alloc, items.as_slice(), text),
+        Err(error) => show_text_error(error, text),
+    }
+}
+
+fn show_text_error(error: TextError, text: &mut String) -> Result<(), Failure> {
+    match error {
+        TextError::NoMemory => Err(Failure::NoMemory),
+        TextError::Line(line) => {
+            writeln!(text, "line {line}")?;
+            Ok(())
+        }
+    }
+}
+
+fn show_settled(alloc: Global, branch: Branch, text: &mut String) -> Result<(), Failure> {
+    let items = branch.items(alloc)?;
+    show_settled_items(alloc, items.as_slice(), text)
+}
+
+fn show_settled_items(alloc: Global, items: &[Item], text: &mut String) -> Result<(), Failure> {
     let settled = settle(alloc, 0x1000, items)?;
     show_each(text, settled.as_slice())
 }
 
 pub fn show_settle(alloc: Global, text: &mut String) -> Result<(), Failure> {
-    let items = branch_over(alloc, 128)?;
-    show_settled(alloc, items.as_slice(), text)
+    for branch in BRANCHES {
+        show_settled(alloc, branch, text)?;
+    }
+    Ok(())
+}
+
+fn show_read(alloc: Global, row: &[u8], text: &mut String) -> Result<(), Failure> {
+    match read_text(alloc, row) {
+        Ok(items) => show_each(text, items.as_slice()),
+        Err(error) => show_text_error(error, text),
+    }
+}
+
+fn show_read_branch(alloc: Global, branch: Branch, text: &mut String) -> Result<(), Failure> {
+    let row = branch.text(alloc)?;
+    show_read(alloc, row.as_slice(), text)
 }
 
 pub fn show_read_text(alloc: Global, text: &mut String) -> Result<(), Failure> {
-    let items = read_text(alloc, LISTING)?;
-    show_each(text, items.as_slice())
+    for branch in BRANCHES {
+        show_read_branch(alloc, branch, text)?;
+    }
+    for row in TEXTS {
+        show_read(alloc, row, text)?;
+    }
+    Ok(())
 }
 
-// The file of items that stand where a program starts.
+// The file of an image that stands where a program starts.
 fn file_of(alloc: Global, items: &[Item]) -> Result<Vec<u8>, Failure> {
-    let image = assemble(alloc, 0x080d, items)?;
+    let image = assemble(alloc, CODE_START, items)?;
     Ok(write(alloc, &image)?)
 }
 
-fn show_file(alloc: Global, items: &[Item], text: &mut String) -> Result<(), Failure> {
-    let file = file_of(alloc, items)?;
+fn show_file(alloc: Global, image: &[u8], text: &mut String) -> Result<(), Failure> {
+    let items = [Item::Bytes(Vec::from_slice(alloc, image)?)];
+    let file = file_of(alloc, &items)?;
     show_bytes(text, file.as_slice())
 }
 
+// The file of a source's image, which is the compiled one.
+fn show_write_of(alloc: Global, source: &[u8], text: &mut String) -> Result<(), Failure> {
+    let program = compiled(alloc, source)?;
+    let image = program.prg().get(HEADER_SIZE..).ok_or(Failure::Refused)?;
+    show_file(alloc, image, text)
+}
+
 pub fn show_write(alloc: Global, text: &mut String) -> Result<(), Failure> {
-    let items = [Item::Instr(Mnemonic::Rts, Mode::Implied, Operand::Nothing)];
-    show_file(alloc, &items, text)
+    for source in SOURCES {
+        show_write_of(alloc, source, text)?;
+    }
+    Ok(())
 }
 
-fn listing(alloc: Global) -> Result<Listing, Failure> {
-    Ok(disassemble(alloc, 0xc000, &MIXED)?)
+fn listing(alloc: Global, bytes: &[u8]) -> Result<Listing, Failure> {
+    Ok(disassemble(alloc, 0xc000, bytes)?)
 }
 
-pub fn show_disassemble(alloc: Global, text: &mut String) -> Result<(), Failure> {
-    let listing = listing(alloc)?;
+fn show_listing(alloc: Global, bytes: &[u8], text: &mut String) -> Result<(), Failure> {
+    let listing = listing(alloc, bytes)?;
     show_each(text, listing.lines.as_slice())
 }
 
-fn listing_text(alloc: Global) -> Result<Vec<u8>, Failure> {
-    let listing = listing(alloc)?;
+pub fn show_disassemble(alloc: Global, text: &mut String) -> Result<(), Failure> {
+    for bytes in LISTED {
+        show_listing(alloc, bytes, text)?;
+    }
+    Ok(())
+}
+
+fn listing_text(alloc: Global, bytes: &[u8]) -> Result<Vec<u8>, Failure> {
+    let listing = listing(alloc, bytes)?;
     Ok(listing.text(alloc)?)
 }
 
-pub fn show_listing_text(alloc: Global, text: &mut String) -> Result<(), Failure> {
-    let written = listing_text(alloc)?;
+fn show_listing_text_of(alloc: Global, bytes: &[u8], text: &mut String) -> Result<(), Failure> {
+    let written = listing_text(alloc, bytes)?;
     show_letters(text, written.as_slice())
+}
+
+pub fn show_listing_text(alloc: Global, text: &mut String) -> Result<(), Failure> {
+    for bytes in LISTED {
+        show_listing_text_of(alloc, bytes, text)?;
+    }
+    Ok(())
 }

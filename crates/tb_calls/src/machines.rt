@@ -1,7 +1,7 @@
 //! Calls of the memory, of the machine and of the stepper. Where one is refused memory, it is looked whether what it was
 //! called on is as it was.
 use crate::failure::Failure;
-use crate::sources::{ASSIGNMENT, ASTRAY, GREETING, compiled, show_bytes};
+use crate::sources::{ASSIGNMENT, GREETING, SOURCES, compiled, show_bytes};
 use std::alloc::Global;
 use tb_codegen::Compiled;
 use tb_cpu::{Flags, Regs};
@@ -137,8 +137,9 @@ fn show_run_of<O: Outside>(
 }
 
 pub fn show_run(alloc: Global, text: &mut String) -> Result<(), Failure> {
-    show_run_of(alloc, GREETING, &mut Quiet, text)?;
-    show_run_of(alloc, ASTRAY, &mut Quiet, text)?;
+    for source in SOURCES {
+        show_run_of(alloc, source, &mut Quiet, text)?;
+    }
     show_run_of(alloc, GREETING, &mut Rude::new(1), text)
 }
 

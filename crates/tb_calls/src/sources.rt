@@ -10,14 +10,18 @@ use tb_parser::{Program, Token, parse, parse_expr, tokens};
 /// Sends a text.
 pub const GREETING: &[u8] = b"10 PRINT \"HELLO\"\n20 END\n";
 
-/// Goes to a line that is there, by a computed target.
-const COMPUTED: &[u8] = b"10 A=4\n20 GOTO 10*A\n30 PRINT \"NO\"\n40 END\n";
+/// The sources of the worked rows: one that sends a text, and those that go to a line which is there or is not, by a
+/// computed target or a constant one.
+pub const SOURCES: [&[u8]; 5] = [
+    GREETING,
+    b"10 A=4\n20 GOTO 10*A\n30 PRINT \"NO\"\n40 END\n",
+    b"10 A=5\n20 GOTO 10*A\n30 PRINT \"NO\"\n40 END\n",
+    b"10 A=4\n20 GOTO 10-20\n30 PRINT \"NO\"\n40 END\n",
+    b"10 GOTO 99\n",
+];
 
-/// Goes to a line that isn't there, by a computed target.
-pub const ASTRAY: &[u8] = b"10 A=5\n20 GOTO 10*A\n30 PRINT \"NO\"\n40 END\n";
-
-/// Goes to a constant line that isn't there.
-const WARNED: &[u8] = b"10 GOTO 99\n";
+/// The keyboard texts of the worked rows, as they are typed in.
+const KEY_LISTS: [&str; 6] = ["332c202d340d", "37303030302c300d", "350d", "58", "0d", "31"];
 
 /// Sets a variable.
 pub const ASSIGNMENT: &[u8] = b"10 A=5\n20 END\n";
@@ -69,9 +73,16 @@ pub fn show_host_form(alloc: Global, text: &mut String) -> Result<(), Failure> {
     Ok(())
 }
 
-pub fn show_key_list(alloc: Global, text: &mut String) -> Result<(), Failure> {
-    let keys = key_list(alloc, "332c202d340d")?;
+fn show_key_list_of(alloc: Global, digits: &str, text: &mut String) -> Result<(), Failure> {
+    let keys = key_list(alloc, digits)?;
     show_bytes(text, keys.as_slice())
+}
+
+pub fn show_key_list(alloc: Global, text: &mut String) -> Result<(), Failure> {
+    for digits in KEY_LISTS {
+        show_key_list_of(alloc, digits, text)?;
+    }
+    Ok(())
 }
 
 fn show_starts(compiled: &Compiled, text: &mut String) -> Result<(), Failure> {
@@ -95,7 +106,7 @@ fn show_compile_of(alloc: Global, source: &[u8], text: &mut String) -> Result<()
 }
 
 pub fn show_compile(alloc: Global, text: &mut String) -> Result<(), Failure> {
-    for source in [GREETING, COMPUTED, WARNED] {
+    for source in SOURCES {
         show_compile_of(alloc, source, text)?;
     }
     Ok(())
@@ -114,7 +125,7 @@ fn show_parse_of(alloc: Global, source: &[u8], text: &mut String) -> Result<(), 
 }
 
 pub fn show_parse(alloc: Global, text: &mut String) -> Result<(), Failure> {
-    for source in [GREETING, COMPUTED] {
+    for source in SOURCES {
         show_parse_of(alloc, source, text)?;
     }
     Ok(())
@@ -149,18 +160,26 @@ fn show_lower_of(alloc: Global, source: &[u8], text: &mut String) -> Result<(), 
 }
 
 pub fn show_lower(alloc: Global, text: &mut String) -> Result<(), Failure> {
-    for source in [GREETING, COMPUTED] {
+    for source in SOURCES {
         show_lower_of(alloc, source, text)?;
     }
     Ok(())
 }
 
-fn show_warnings_of(alloc: Global, program: &Program, text: &mut String) -> Result<(), Failure> {
+fn show_warned(alloc: Global, program: &Program, text: &mut String) -> Result<(), Failure> {
     let found = warnings(alloc, program)?;
+    writeln!(text, "{} warnings", found.len())?;
     show_each(text, found.as_slice())
 }
 
+fn show_warnings_of(alloc: Global, source: &[u8], text: &mut String) -> Result<(), Failure> {
+    let program = parse(alloc, source)?;
+    show_warned(alloc, &program, text)
+}
+
 pub fn show_warnings(alloc: Global, text: &mut String) -> Result<(), Failure> {
-    let program = parse(alloc, WARNED)?;
-    show_warnings_of(alloc, &program, text)
+    for source in SOURCES {
+        show_warnings_of(alloc, source, text)?;
+    }
+    Ok(())
 }

@@ -2,6 +2,7 @@
 ghost use Rattle.std.specs.Prelude.{◌≡◌, ◌+◌, ℕ, [], List, Ok, Err, IfOk};
 ghost use Rattle.tb_routines.specs.Laws.{AllBytes};
 ghost use Rattle.tb_streams.specs.Streams.{most_input, ConsumesAtMost};
+ghost use Rattle.tb_streams.specs.Failures.{failures_of};
 ghost use Rattle.tb_engines.specs.Outcomes.{Answers, Faults, MadeFrom};
 ghost use Rattle.tb_engines.specs.Made.{Makes};
 ghost use Rattle.tb_engines.specs.Programs.{RunsPrg};
@@ -58,7 +59,8 @@ pub fn build<R: Read, W: Write>(
         (W.contents writer.old.stream) (W.contents writer.new.stream) }
     ensures warned { WarnsOfRead result.outcome result.warnings.items }
     ensures faults { Faults result.outcome (R.remaining reader.old.stream)
-        reader.old.failures reader.new.failures writer.old.failures writer.new.failures }
+        (failures_of reader.old) (failures_of reader.new)
+        (failures_of writer.old) (failures_of writer.new) }
     ensures taken { ConsumesAtMost (R.remaining reader.old.stream) (R.remaining reader.new.stream)
         (most_input + 1) }
 {
@@ -125,7 +127,8 @@ pub fn run_text<R: Read, W: Write, O: Outside>(
         (W.contents writer.old.stream) (W.contents writer.new.stream) }
     ensures warned { WarnsOfRead result.outcome result.warnings.items }
     ensures faults { Faults result.outcome (R.remaining reader.old.stream)
-        reader.old.failures reader.new.failures writer.old.failures writer.new.failures }
+        (failures_of reader.old) (failures_of reader.new)
+        (failures_of writer.old) (failures_of writer.new) }
     ensures taken { ConsumesAtMost (R.remaining reader.old.stream) (R.remaining reader.new.stream)
         (most_input + 1) }
 {

@@ -1,6 +1,7 @@
 //! Stepping through a source by commands.
 ghost use Rattle.std.specs.Prelude.{◌≡◌, ◌+◌};
 ghost use Rattle.tb_streams.specs.Streams.{most_input, ConsumesAtMost};
+ghost use Rattle.tb_streams.specs.Failures.{failures_of};
 ghost use Rattle.tb_engines.specs.Outcomes.{Answers};
 ghost use Rattle.tb_engines.specs.Made.{Makes};
 ghost use Rattle.tb_driver.specs.Sources.{WarnsOfRead};
@@ -60,9 +61,9 @@ pub fn step_text<R: Read, C: Read, W: Write>(
         (W.contents writer.old.stream) (W.contents writer.new.stream) }
     ensures warned { WarnsOfRead result.outcome result.warnings.items }
     ensures faults { FaultsOfBoth result.outcome
-        (R.remaining source.old.stream) source.old.failures source.new.failures
-        (C.remaining commands.old.stream) commands.old.failures commands.new.failures
-        writer.old.failures writer.new.failures }
+        (R.remaining source.old.stream) (failures_of source.old) (failures_of source.new)
+        (C.remaining commands.old.stream) (failures_of commands.old) (failures_of commands.new)
+        (failures_of writer.old) (failures_of writer.new) }
     ensures source_taken { ConsumesAtMost (R.remaining source.old.stream) (R.remaining source.new.stream)
         (most_input + 1) }
     ensures commands_taken { ConsumesAtMost (C.remaining commands.old.stream) (C.remaining commands.new.stream)

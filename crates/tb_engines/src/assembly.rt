@@ -1,6 +1,7 @@
 //! Assembling a text, and listing a PRG file.
 ghost use Rattle.std.specs.Prelude.{◌≡◌, ◌+◌, ◌≤◌, length};
 ghost use Rattle.tb_streams.specs.Streams.{most_input, ConsumesAtMost};
+ghost use Rattle.tb_streams.specs.Failures.{failures_of};
 ghost use Rattle.tb_engines.specs.Outcomes.{Answers, Faults, MadeFrom};
 ghost use Rattle.tb_engines.specs.Made.{Makes};
 ghost use Rattle.tb_engines.specs.Assembly.{Assembles, ListsPrg};
@@ -73,7 +74,8 @@ pub fn asm_text<R: Read, W: Write>(
     ensures answers { Answers (MadeFrom (R.remaining reader.old.stream) (Assembles at)) result
         (W.contents writer.old.stream) (W.contents writer.new.stream) }
     ensures faults { Faults result (R.remaining reader.old.stream)
-        reader.old.failures reader.new.failures writer.old.failures writer.new.failures }
+        (failures_of reader.old) (failures_of reader.new)
+        (failures_of writer.old) (failures_of writer.new) }
     ensures taken { ConsumesAtMost (R.remaining reader.old.stream) (R.remaining reader.new.stream)
         (most_input + 1) }
 {
@@ -92,7 +94,8 @@ pub fn dis_text<R: Read, W: Write>(
     ensures answers { Answers (MadeFrom (R.remaining reader.old.stream) ListsPrg) result
         (W.contents writer.old.stream) (W.contents writer.new.stream) }
     ensures faults { Faults result (R.remaining reader.old.stream)
-        reader.old.failures reader.new.failures writer.old.failures writer.new.failures }
+        (failures_of reader.old) (failures_of reader.new)
+        (failures_of writer.old) (failures_of writer.new) }
     ensures taken { ConsumesAtMost (R.remaining reader.old.stream) (R.remaining reader.new.stream)
         (most_input + 1) }
 {

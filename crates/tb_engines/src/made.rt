@@ -1,6 +1,7 @@
 //! What an engine made, and how it is written.
 ghost use Rattle.std.specs.Prelude.{◌≡◌};
 ghost use Rattle.tb_streams.specs.Streams.{Reads};
+ghost use Rattle.tb_streams.specs.Failures.{failures_of};
 ghost use Rattle.tb_engines.specs.Outcomes.{Answers, Faults};
 ghost use Rattle.tb_engines.specs.Made.{Shows, DeliveryFaults, outcome_of};
 
@@ -37,7 +38,7 @@ pub fn without_input(error: InputError) -> Outcome
 pub fn deliver<W: Write>(writer: &mut Tracked<W>, made: Result<Text, Stop>) -> Outcome
     ensures answers { Answers (Shows made) result
         (W.contents writer.old.stream) (W.contents writer.new.stream) }
-    ensures faults { DeliveryFaults result writer.old.failures writer.new.failures }
+    ensures faults { DeliveryFaults result (failures_of writer.old) (failures_of writer.new) }
 {
     let text = match made {
         Ok(text) => text,

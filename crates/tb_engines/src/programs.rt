@@ -1,6 +1,7 @@
 //! Running a PRG file.
 ghost use Rattle.std.specs.Prelude.{◌≡◌, ◌+◌, ◌≤◌, length};
 ghost use Rattle.tb_streams.specs.Streams.{most_input, ConsumesAtMost};
+ghost use Rattle.tb_streams.specs.Failures.{failures_of};
 ghost use Rattle.tb_engines.specs.Outcomes.{Answers, Faults, MadeFrom};
 ghost use Rattle.tb_engines.specs.Made.{Makes};
 ghost use Rattle.tb_engines.specs.Programs.{end_of, RunsAt, RunsPrg};
@@ -80,7 +81,8 @@ pub fn run_prg<R: Read, W: Write, O: Outside>(
         (RunsPrg O.gives outside.old keyboard.text.items keyboard.answers.items limit)) result
         (W.contents writer.old.stream) (W.contents writer.new.stream) }
     ensures faults { Faults result (R.remaining reader.old.stream)
-        reader.old.failures reader.new.failures writer.old.failures writer.new.failures }
+        (failures_of reader.old) (failures_of reader.new)
+        (failures_of writer.old) (failures_of writer.new) }
     ensures taken { ConsumesAtMost (R.remaining reader.old.stream) (R.remaining reader.new.stream)
         (most_input + 1) }
 {

@@ -1,4 +1,4 @@
-//! Readers and writers that hand on a few bytes at a time and fail in mid-stream, for tests.
+//! Readers and writers that hand on a few bytes at a time and fail in mid-stream, or hold bytes back, for tests.
 #![tactic(auto)]
 
 ghost use Rattle.std.specs.Prelude.{Some};
@@ -54,6 +54,34 @@ impl Write for FailingWriter {
     }
 
     fn flush(&mut self) -> io::Result<()> {
+        Ok(())
+    }
+}
+
+/// Takes all bytes and holds them back until it is flushed, which may fail.
+#[derive(Drop)]
+pub struct HoldingWriter {
+    /// What it took.
+    pub taken: Vec<u8>,
+    /// How many of these bytes it has handed on.
+    pub handed_on: usize,
+    /// Whether each flush fails.
+    pub fails: bool,
+}
+
+impl Write for HoldingWriter {
+    ghost contents = { λ w. Some w.taken.items };
+
+    fn write(&mut self, buf: &[u8]) -> io::Result<usize> {
+        self.taken.extend_from_slice(buf)?;
+        Ok(buf.len())
+    }
+
+    fn flush(&mut self) -> io::Result<()> {
+        if self.fails {
+            return Err(io::Error::from(io::ErrorKind::Other));
+        }
+        self.handed_on = self.taken.len();
         Ok(())
     }
 }

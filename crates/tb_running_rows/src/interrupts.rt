@@ -1,37 +1,89 @@
-//! One interrupt, before each event of a run in turn.
+//! One interrupt, before each event of a run in turn, given by `Recorded`.
 use crate::machines::{CLEAN, LIMIT};
 use crate::outsides::everywhere;
 use crate::rows::{Row, short_rows};
+use arrayvec::ArrayVec;
 use std::alloc::Global;
 use std::process::Abort;
 use std::test::Fail;
 use tb_codegen::Compiled;
-use tb_kernal::{Event, Machine, Quiet, Status, run};
-use tb_memmap::NoMemory;
+use tb_kernal::{Event, Machine, Quiet, Recorded, Status, run};
 
-// How many events a program takes beside a quiet ROM.
-fn run_length(machine: &mut Machine) -> Result<u64, NoMemory> {
-    for length in 0..LIMIT {
+/// How many events before the interrupt are listed, at most: a longer list is dear to make for each run.
+const MOST_LISTED: usize = 1000;
+
+/// A place that the ROM may not write.
+const OWNED: u16 = 0xc000;
+
+/// A place that the ROM may write, and these programs do not.
+const ROM_WRITABLE: u16 = 0x0200;
+
+/// What the interrupt writes.
+const WRITTEN: u8 = 0xff;
+
+// Appends the stack pointer before each event that a program takes beside a quiet ROM.
+fn push_stack_pointers(machine: &mut Machine, pointers: &mut Vec<u8>) -> Result<(), Fail> {
+    for _ in 0..LIMIT {
         if machine.status() != Status::Running {
-            return Ok(length);
+            break;
         }
+        pointers.push(machine.regs().s)?;
         run(machine, &mut Quiet, 1)?;
     }
-    Ok(LIMIT)
+    Ok(())
+}
+
+// Appends so many events that are unlawful, so that Quiet's stand in their place, and the interrupt.
+fn push_events(events: &mut Vec<Event>, before: usize, s: u8) -> Result<(), Fail> {
+    for _ in 0..before {
+        events.push(Event::Interrupt(ArrayVec::from([(OWNED, WRITTEN); 8])))?;
+    }
+    events.push(Event::Interrupt(everywhere(s, WRITTEN)))?;
+    Ok(())
+}
+
+// The outside that gives so many of Quiet's events, the interrupt, and Quiet's from then on.
+fn interrupting(alloc: Global, before: usize, s: u8) -> Result<Recorded, Fail> {
+    let mut events = Vec::new(alloc);
+    push_events(&mut events, before, s)?;
+    Ok(Recorded::new(events))
+}
+
+// Runs a machine with the interrupt before an event, where the stack pointer is `s`.
+fn run_past(alloc: Global, machine: &mut Machine, event: usize, s: u8) -> Result<(), Fail> {
+    let listed = event.min(MOST_LISTED);
+    run(machine, &mut Quiet, (event - listed) as u64)?;
+    let mut recorded = interrupting(alloc, listed, s)?;
+    run(machine, &mut recorded, LIMIT)?;
+    Ok(())
 }
 
 impl Row<'_> {
-    // How many events the program takes beside a quiet ROM.
-    fn length(&self, alloc: Global, program: &Compiled) -> Result<u64, Fail> {
-        let mut machine = self.machine(alloc, program, &CLEAN)?;
-        Ok(run_length(&mut machine)?)
+    // Whether it shows a fault, or something is typed or waited for.
+    fn faults_or_asks(&self) -> bool {
+        self.shown.contains(&b'!') || !self.keys.is_empty() || self.status == 6
     }
 
-    // Whether the machine ends and sends as it should, where the interrupt comes before an event.
-    fn is_done_past(&self, alloc: Global, program: &Compiled, event: u64) -> Result<bool, Fail> {
+    // The stack pointer before each event that the program takes beside a quiet ROM.
+    fn stack_pointers(&self, alloc: Global, program: &Compiled) -> Result<Vec<u8>, Fail> {
         let mut machine = self.machine(alloc, program, &CLEAN)?;
-        run_past(&mut machine, event)?;
-        self.is_done_by(alloc, &machine)
+        let mut pointers = Vec::new(alloc);
+        push_stack_pointers(&mut machine, &mut pointers)?;
+        Ok(pointers)
+    }
+
+    // Whether the machine was interrupted, and ends and sends as it should, where the interrupt comes before an event.
+    fn is_done_past(
+        &self,
+        alloc: Global,
+        program: &Compiled,
+        event: usize,
+        s: u8,
+    ) -> Result<bool, Fail> {
+        let mut machine = self.machine(alloc, program, &CLEAN)?;
+        run_past(alloc, &mut machine, event, s)?;
+        let is_interrupted = machine.memory().read(ROM_WRITABLE) == Ok(WRITTEN);
+        Ok(is_interrupted && self.is_done_by(alloc, &machine)?)
     }
 
     // The first event of a program before which the interrupt changes something, of each fourth from this one on.
@@ -39,36 +91,27 @@ impl Row<'_> {
         &self,
         alloc: Global,
         program: &Compiled,
-        from: u64,
-    ) -> Result<Option<u64>, Fail> {
-        for event in 0..self.length(alloc, program)? {
-            if event % 4 == from && !self.is_done_past(alloc, program, event)? {
+        from: usize,
+    ) -> Result<Option<usize>, Fail> {
+        let pointers = self.stack_pointers(alloc, program)?;
+        for (event, s) in pointers.iter().enumerate() {
+            if event % 4 == from && !self.is_done_past(alloc, program, event, *s)? {
                 return Ok(Some(event));
             }
         }
         Ok(None)
     }
 
-    fn first_change(&self, alloc: Global, from: u64) -> Result<Option<u64>, Fail> {
+    fn first_change(&self, alloc: Global, from: usize) -> Result<Option<usize>, Fail> {
         let program = self.compiled(alloc)?;
         self.first_changed(alloc, &program, from)
     }
 }
 
-// Runs a machine with the interrupt before an event.
-fn run_past(machine: &mut Machine, event: u64) -> Result<(), Fail> {
-    run(machine, &mut Quiet, event)?;
-    machine.reserve(1)?;
-    let writes = everywhere(machine.regs().s, 0xff);
-    machine.event(Event::Interrupt(writes))?;
-    run(machine, &mut Quiet, LIMIT)?;
-    Ok(())
-}
-
-// What goes wrong, and what is typed. Each fourth event, since all of them take as long as a test may.
-fn try_each_fourth<R: Abort + AllocGlobal>(rt: &R, from: u64) -> Result<(), Fail> {
+// Each row on faults and on INPUT. Each fourth event, since all of them take as long as a test may.
+fn try_each_fourth<R: Abort + AllocGlobal>(rt: &R, from: usize) -> Result<(), Fail> {
     for row in short_rows() {
-        if row.keys.is_empty() && !row.shown.contains(&b'!') {
+        if !row.faults_or_asks() {
             continue;
         }
         let change = row.first_change(rt.alloc(), from)?;

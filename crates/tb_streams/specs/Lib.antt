@@ -1,3 +1,4 @@
 pub mod HostForm
 pub mod Streams
 pub mod Inputs
+pub mod Failures

@@ -3,6 +3,7 @@ ghost use Rattle.std.specs.Prelude.{◌≡◌, ◌≤◌, ◌+◌, IfOk, OnOk, O
 ghost use Rattle.std.specs.Io.KnownBytes.{Appends};
 ghost use Rattle.tb_streams.specs.Streams.{most_input, counted, Reads, ConsumesAtMost, AppendsPrefix};
 ghost use Rattle.tb_streams.specs.Inputs.{InputFaults};
+ghost use Rattle.tb_streams.specs.Failures.{failures_of};
 
 use crate::tracked::{Fault, Tracked};
 use std::alloc::Global;
@@ -28,7 +29,7 @@ pub fn read_input<R: Read>(alloc: Global, reader: &mut Tracked<R>) -> Result<Vec
     ensures whole { IfOk result (λ input. Reads (R.remaining reader.old.stream) input.items) }
     ensures within { IfOk result (λ input. vec_len input ≤ most_input) }
     ensures fault { InputFaults result (R.remaining reader.old.stream)
-        reader.old.failures reader.new.failures }
+        (failures_of reader.old) (failures_of reader.new) }
     ensures taken { ConsumesAtMost (R.remaining reader.old.stream) (R.remaining reader.new.stream)
         (most_input + 1) }
 {
@@ -56,7 +57,7 @@ pub fn write_output<W: Write>(writer: &mut Tracked<W>, text: &[u8]) -> Result<()
         text.now) }
     ensures prefix { OnErr result (AppendsPrefix (W.contents writer.old.stream)
         (W.contents writer.new.stream) text.now) }
-    ensures noted { writer.new.failures ≡ counted writer.old.failures (is_err result) }
+    ensures noted { failures_of writer.new ≡ counted (failures_of writer.old) (is_err result) }
 {
     let mut rest = text;
     'writing: while !rest.is_empty() {

@@ -11,33 +11,45 @@ use std::io::{Read, Write};
 pub struct Fault;
 
 /// A reader or a writer, with the number of its calls that failed, modulo 2^64. Since the count grows at each
-/// failure, it tells those of one call of an engine from earlier ones.
+/// failure, it tells those of one call of an engine from earlier ones. Only `pull`, `push` and `flush` count, each
+/// by what the stream answered.
 #[derive(Drop)]
 pub struct Tracked<T> {
     pub stream: T,
-    pub failures: u64,
+    failures: u64,
 }
 
 impl<T> Tracked<T> {
+    ghost use Rattle.tb_streams.specs.Failures.{failures_of};
+
     /// A stream of which no call has failed.
     pub fn new(stream: T) -> Tracked<T>
         ensures stream { result.stream ≡ stream }
-        ensures fresh { result.failures ≡ 0 }
+        ensures fresh { failures_of result ≡ 0 }
     {
         Tracked {
             stream,
             failures: 0,
         }
     }
+
+    /// How many of its calls failed, modulo 2^64.
+    pub fn failures(&self) -> u64
+        ensures { result ≡ failures_of self.now }
+    {
+        self.failures
+    }
 }
 
 impl<R: Read> Tracked<R> {
+    ghost use Rattle.tb_streams.specs.Failures.{failures_of};
+
     /// One read. Every error of the reader counts, `Interrupted` too.
     pub fn pull(&mut self, buf: &mut [u8]) -> Result<usize, Fault>
         ensures bound { ReadsAtMost result buf.new }
         ensures bytes { ReadConsumes (R.remaining self.old.stream) (R.remaining self.new.stream) result
             buf.new }
-        ensures noted { self.new.failures ≡ counted self.old.failures (is_err result) }
+        ensures noted { failures_of self.new ≡ counted (failures_of self.old) (is_err result) }
     {
         match self.stream.read(buf) {
             Ok(count) => Ok(count),
@@ -50,6 +62,8 @@ impl<R: Read> Tracked<R> {
 }
 
 impl<W: Write> Tracked<W> {
+    ghost use Rattle.tb_streams.specs.Failures.{failures_of};
+
     /// One write of a text that isn't empty. Every error of the writer counts, and so does a write that
     /// takes nothing.
     pub fn push(&mut self, text: &[u8]) -> Result<usize, Fault>
@@ -57,7 +71,7 @@ impl<W: Write> Tracked<W> {
         ensures bound { IfOk result (λ n. (0 < n) × (n ≤ length text.now)) }
         ensures bytes { WriteAppends (W.contents self.old.stream) (W.contents self.new.stream) result
             text.now }
-        ensures noted { self.new.failures ≡ counted self.old.failures (is_err result) }
+        ensures noted { failures_of self.new ≡ counted (failures_of self.old) (is_err result) }
     {
         match self.stream.write(text) {
             Ok(count) if 0 < count => Ok(count),
@@ -71,7 +85,7 @@ impl<W: Write> Tracked<W> {
     /// Hands on what a buffer holds.
     pub fn flush(&mut self) -> Result<(), Fault>
         ensures bytes { Keeps (W.contents self.old.stream) (W.contents self.new.stream) }
-        ensures noted { self.new.failures ≡ counted self.old.failures (is_err result) }
+        ensures noted { failures_of self.new ≡ counted (failures_of self.old) (is_err result) }
     {
         match self.stream.flush() {
             Ok(()) => Ok(()),

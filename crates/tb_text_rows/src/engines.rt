@@ -1,5 +1,5 @@
 //! The engines, and what they answer.
-use crate::failing::{append_prefixes, failing_readers, failing_writers};
+use crate::failing::{append_prefixes, failing_readers, failing_writers, flushed_writers};
 use crate::rows::{
     Failure, address_of, append_bytes, append_text, bytes_of, number_of, text_of, word_of,
 };
@@ -79,7 +79,8 @@ pub fn ending_of(alloc: Global, engine: Engine, input: &[u8]) -> Ending {
     }
 }
 
-fn append_status(outcome: Outcome, out: &mut String) -> Result<(), Failure> {
+/// Appends the status and the text for standard error.
+pub fn append_status(outcome: Outcome, out: &mut String) -> Result<(), Failure> {
     write!(out, "{} \"{outcome}\"", outcome.status())?;
     Ok(())
 }
@@ -146,6 +147,7 @@ pub fn answer(alloc: Global, row: &str, out: &mut String) -> Result<(), Failure>
         "prefixes" => append_prefixes(alloc, &job_of(alloc, rest)?, out),
         "reader-fails" => failing_readers(alloc, &job_of(alloc, rest)?, out),
         "writer-fails" => failing_writers(alloc, &job_of(alloc, rest)?, out),
+        "flushed" => flushed_writers(alloc, &job_of(alloc, rest)?, out),
         "repeated" => append_repeated(alloc, rest, out),
         "faults" => append_faults(out),
         _ => append_job(alloc, &job_of(alloc, row)?, out),

@@ -1,10 +1,11 @@
-//! Engines over inputs that are cut off anywhere, and over readers and writers that fail anywhere.
-use crate::engines::{Job, append_ending, call, ending_of};
+//! Engines over inputs that are cut off anywhere, over readers and writers that fail anywhere, and over writers that hold
+//! bytes back.
+use crate::engines::{Job, append_ending, append_status, call, ending_of};
 use crate::rows::Failure;
 use std::alloc::Global;
 use std::fmt::Write;
 use tb_engines::{End, Outcome};
-use tb_failing_streams::{FailingReader, FailingWriter};
+use tb_failing_streams::{FailingReader, FailingWriter, HoldingWriter};
 use tb_streams::Tracked;
 
 /// Appends a line for each length of input from which on the answer is another than before.
@@ -32,7 +33,7 @@ fn reader_fails(alloc: Global, job: &Job, until_fault: usize, most: usize) -> bo
     });
     let mut writer = Tracked::new(Vec::new(alloc));
     let outcome = call(alloc, job.engine, &mut reader, &mut writer);
-    outcome == Outcome::ReadFault && reader.failures == 1 && writer.stream.is_empty()
+    outcome == Outcome::ReadFault && reader.failures() == 1 && writer.stream.is_empty()
 }
 
 /// Appends how many readers that fail were met by a read fault, or the first that was not.
@@ -85,4 +86,32 @@ pub fn failing_writers(alloc: Global, job: &Job, out: &mut String) -> Result<(),
     }
     write!(out, ", and a prefix of it {met} times")?;
     Ok(())
+}
+
+// Calls an engine with a writer that hands bytes on when it is flushed, and appends how the call ended, and how many of
+// the bytes written were handed on.
+fn append_flushed(alloc: Global, job: &Job, fails: bool, out: &mut String) -> Result<(), Failure> {
+    let mut writer = Tracked::new(HoldingWriter {
+        taken: Vec::new(alloc),
+        handed_on: 0,
+        fails,
+    });
+    let mut reader = Tracked::new(job.input.as_slice());
+    let outcome = call(alloc, job.engine, &mut reader, &mut writer);
+    append_status(outcome, out)?;
+    let held = writer.stream;
+    write!(
+        out,
+        ", {} of {} handed on",
+        held.handed_on,
+        held.taken.len()
+    )?;
+    Ok(())
+}
+
+/// Appends what comes of a writer that hands bytes on when it is flushed, and of one whose flush fails.
+pub fn flushed_writers(alloc: Global, job: &Job, out: &mut String) -> Result<(), Failure> {
+    append_flushed(alloc, job, false, out)?;
+    out.push_str(", else ")?;
+    append_flushed(alloc, job, true, out)
 }

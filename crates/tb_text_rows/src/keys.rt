@@ -3,7 +3,7 @@ use crate::rows::{Failure, append_bytes, append_text, bytes_of, text_of, word_of
 use std::alloc::Global;
 use std::fmt::Write;
 use std::str;
-use tb_streams::{address, host_form, key_list};
+use tb_streams::{KeyError, address, host_form, key_list};
 
 fn append_keys(alloc: Global, escaped: &str, out: &mut String) -> Result<(), Failure> {
     let text = text_of(alloc, escaped)?;
@@ -24,6 +24,7 @@ pub fn answer(alloc: Global, row: &str, out: &mut String) -> Result<(), Failure>
             Some(address) => Ok(write!(out, "{address:04X}")?),
             None => Ok(out.push_str("none")?),
         },
+        "key-errors" => Ok(write!(out, "{}, {}", KeyError::BadKeys, KeyError::NoMemory)?),
         "sent" => {
             let sent = bytes_of(alloc, rest)?;
             append_text(host_form(alloc, sent.as_slice())?.as_slice(), out)

@@ -4,6 +4,7 @@ use std::alloc::Global;
 use std::fmt::Write;
 use tb_asm::{assemble, read_text};
 use tb_disasm::disassemble;
+use tb_prg::PrgError;
 
 /// The only address at which an image can stand in a PRG file.
 const CODE_START: u16 = 0x080d;
@@ -49,6 +50,7 @@ pub fn answer(alloc: Global, row: &str, out: &mut String) -> Result<(), Failure>
     match word {
         "disassemble" => append_listing(alloc, rest, out),
         "read" => append_loaded(bytes_of(alloc, rest)?.as_slice(), out),
+        "prg-errors" => Ok(write!(out, "{}, {}", PrgError::TooShort, PrgError::RunsPast)?),
         "write" => append_file(alloc, rest, out),
         _ => Err(Failure::Row),
     }

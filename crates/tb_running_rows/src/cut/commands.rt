@@ -128,7 +128,7 @@ fn notices(
     let report = step(alloc, &mut source, &mut reader, &mut out)?;
     Ok(
         report.outcome == Outcome::ReadFault
-            && (report.status(), source.failures, reader.failures) == (3, 0, 1)
+            && (report.status(), source.failures(), reader.failures()) == (3, 0, 1)
             && out.stream.is_empty()
             && report.warnings.is_empty(),
     )
@@ -165,7 +165,7 @@ fn ends(
     let mut commands = Tracked::new(commands);
     let mut out = Tracked::new(Vec::new(alloc));
     let report = step(alloc, &mut Tracked::new(SOURCE), &mut commands, &mut out)?;
-    let is_answered = out.stream.as_slice() == answered && commands.failures == 0;
+    let is_answered = out.stream.as_slice() == answered && commands.failures() == 0;
     Ok(has_said(alloc, &report, status, said)? && is_answered)
 }
 

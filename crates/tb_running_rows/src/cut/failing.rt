@@ -1,9 +1,9 @@
-//! Streams that fail after each number of bytes.
+//! Streams that fail after each number of bytes, and writers that hand bytes on when they are flushed.
 use crate::cut::engines::{Engine, answer_of, call};
 use std::alloc::{AllocError, Global};
 use std::test::Fail;
 use tb_driver::{End, Outcome, Tracked};
-use tb_failing_streams::{FailingReader, FailingWriter};
+use tb_failing_streams::{FailingReader, FailingWriter, HoldingWriter};
 
 /// Asks for two numbers, and shows their sum. One jump is warned of.
 const SOURCE: &[u8] = b"10 INPUT A,B\n20 PRINT \"SUM\",A+B\n30 END\n40 GOTO 99\n";
@@ -43,7 +43,7 @@ fn notices_reader(
     let report = call(alloc, engine, &mut reader, &mut out)?;
     Ok(
         report.outcome == Outcome::ReadFault
-            && (report.status(), reader.failures) == (3, 1)
+            && (report.status(), reader.failures()) == (3, 1)
             && out.stream.is_empty()
             && report.warnings.is_empty(),
     )
@@ -116,6 +116,48 @@ fn first_unnoticed(alloc: Global, engine: Engine, source: &[u8]) -> Result<Optio
 fn a_writer_that_fails(rt: HostRuntime) -> Result<(), Fail> {
     for (engine, source) in engines() {
         assert_eq!(rt; first_unnoticed(rt.alloc(), *engine, source)?, None);
+    }
+    Ok(())
+}
+
+// Whether an engine hands on the whole where its writer holds bytes back until it is flushed, or says so where that
+// fails.
+fn flushes(
+    alloc: Global,
+    engine: Engine,
+    source: &[u8],
+    whole: &[u8],
+    fails: bool,
+) -> Result<bool, AllocError> {
+    let mut out = Tracked::new(HoldingWriter {
+        taken: Vec::new(alloc),
+        handed_on: 0,
+        fails,
+    });
+    let report = call(alloc, engine, &mut Tracked::new(source), &mut out)?;
+    let (outcome, handed_on) = if fails {
+        (Outcome::WriteFault, 0)
+    } else {
+        (Outcome::Ended(End::Done), whole.len())
+    };
+    let held = out.stream;
+    Ok(report.outcome == outcome && held.handed_on == handed_on && held.taken.as_slice() == whole)
+}
+
+// Whether it does so where no flush fails and where each does.
+fn always_flushes(alloc: Global, engine: Engine, source: &[u8]) -> Result<bool, Fail> {
+    let answer = answer_of(alloc, engine, source)?;
+    Ok(
+        flushes(alloc, engine, source, &answer.written, false)?
+            && flushes(alloc, engine, source, &answer.written, true)?,
+    )
+}
+
+#[test]
+fn a_writer_that_holds_bytes_back(rt: HostRuntime) -> Result<(), Fail> {
+    for (engine, source) in engines() {
+        let holds = always_flushes(rt.alloc(), *engine, source)?;
+        assert!(rt; holds, "{engine:?}");
     }
     Ok(())
 }
