@@ -223,8 +223,7 @@ step_rows() {
     events=$(steps_to returned hello.bas)
     row 0 '' HELLO run hello.bas --limit "$events"
     row 5 'tbc: step limit' HELLO run hello.bas --limit $((events - 1))
-    row 0 '' '' build hello.bas out.prg
-    cp out.prg built.prg
+    built HELLO hello.bas out.prg
     row 0 '' HELLO run --prg built.prg --limit "$events"
     row 5 'tbc: step limit' HELLO run --prg built.prg --limit $((events - 1))
     steps $'at 20\n22' 'g 20\nv A\n' dice.bas

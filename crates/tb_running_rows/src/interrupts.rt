@@ -42,19 +42,21 @@ fn push_events(events: &mut Vec<Event>, before: usize, s: u8) -> Result<(), Fail
     Ok(())
 }
 
-// The outside that gives so many of Quiet's events, the interrupt, and Quiet's from then on.
+// The outside that gives so many of Quiet's events, and the interrupt.
 fn interrupting(alloc: Global, before: usize, s: u8) -> Result<Recorded, Fail> {
     let mut events = Vec::new(alloc);
     push_events(&mut events, before, s)?;
     Ok(Recorded::new(events))
 }
 
-// Runs a machine with the interrupt before an event, where the stack pointer is `s`.
+// Runs a machine with the interrupt before an event, where the stack pointer is `s`. Far from the interrupt the run is
+// Quiet's own, which is faster.
 fn run_past(alloc: Global, machine: &mut Machine, event: usize, s: u8) -> Result<(), Fail> {
     let listed = event.min(MOST_LISTED);
     run(machine, &mut Quiet, (event - listed) as u64)?;
     let mut recorded = interrupting(alloc, listed, s)?;
-    run(machine, &mut recorded, LIMIT)?;
+    run(machine, &mut recorded, listed as u64 + 1)?;
+    run(machine, &mut Quiet, LIMIT)?;
     Ok(())
 }
 
