@@ -4,14 +4,15 @@
 
 ghost use Rattle.std.specs.Prelude.{◌≡◌, IfOk, Some};
 ghost use Rattle.tb_asm.specs.Layout.{address_in};
-ghost use Rattle.tb_runtime16.specs.Block.{block_bytes};
+ghost use Rattle.tb_routines.specs.Block.{block_bytes};
 
 use std::alloc::Global;
 use std::fs;
 use std::process::ExitCode;
 use std::rt::Files;
 use tb_asm::{AsmErrorKind, Image, Name, TextError, assemble, read_text};
-use tb_runtime16::{BLOCK_AT, Routine, SEND, block, entry};
+use tb_routines::block;
+use tb_runtime16::{BLOCK_AT, Routine, SEND_AT, entry};
 use thiserror::Error;
 
 const PATH: &str = "block.asm";
@@ -38,7 +39,7 @@ enum Difference {
 fn parts() -> [(&'static str, u16); 14] {
     [
         ("PROLOGUE", BLOCK_AT),
-        ("SEND", SEND),
+        ("SEND", SEND_AT),
         ("MULTIPLY", entry(Routine::Multiply)),
         ("DIVIDE", entry(Routine::Divide)),
         ("RANDOM", entry(Routine::Random)),
@@ -66,15 +67,16 @@ fn laid(alloc: Global, text: &[u8]) -> Result<Image, Difference> {
     })
 }
 
-fn compare_bytes(made: &[u8]) -> Result<(), Difference>
+fn compare_bytes(alloc: Global, made: &[u8]) -> Result<(), Difference>
     ensures { IfOk result (λ _. made.now ≡ block_bytes) }
 {
-    if made == block() {
+    let block = block(alloc).map_err(|_| Difference::NoMemory)?;
+    if made == block.as_slice() {
         return Ok(());
     }
     let same = made
         .iter()
-        .zip(block())
+        .zip(block.as_slice())
         .take_while(|(one, other)| one == other)
         .count();
     Err(Difference::Bytes(same.saturating_add(BLOCK_AT.into())))
@@ -92,7 +94,7 @@ fn compare_label(image: &Image, label: &'static str, address: u16) -> Result<(),
 // Whether a text is the block's.
 fn compare(alloc: Global, text: &[u8]) -> Result<(), Difference> {
     let image = laid(alloc, text)?;
-    compare_bytes(image.bytes.as_slice())?;
+    compare_bytes(alloc, image.bytes.as_slice())?;
     for (label, address) in parts() {
         compare_label(&image, label, address)?;
     }

@@ -9,20 +9,18 @@ use Rattle.tb_asm.proofs.Laws.{all_size}
 use Rattle.tb_kernal.specs.Machine as machine
 use Rattle.tb_reaching.specs.View.{Part, Bytes, Comes, Holds, part_at, is_program}
 use Rattle.tb_reaching.specs.Start.{view_of, home_low, home_high}
-use Rattle.tb_reaching.proofs.Parts.{bytes_hold, holds_then}
+use Rattle.tb_reaching.proofs.Parts.{bytes_hold}
 use Rattle.tb_syntax.specs.Source.{numbers}
 use Rattle.tb_lower.specs.Control.{has_line}
 use Rattle.tb_lower.specs.Slots.{SlotCode}
 use Rattle.tb_runtime16.specs.Places.{PROLOGUE_AT}
-use Rattle.tb_runtime16.specs.Block.{block_bytes}
 use Rattle.tb_templates.specs.Program.{rows_code}
-use Rattle.tb_routines.specs.Parts.{block_part, prologue_part}
+use Rattle.tb_routines.specs.Block.{block_bytes, block_part}
 use Rattle.tb_routines.specs.Search as table
 use Rattle.tb_routines.specs.Search.{Line, Shows, table_bytes, Rising, AllWords}
 use Rattle.tb_routines.specs.Ends.{Begun}
 use Rattle.tb_routines.specs.Routines.{Routines, Tabled, entries, limit_by}
 use Rattle.tb_routines.proofs.AllLaws.{all_laws}
-use Rattle.tb_routines.proofs.Block.{prologue_held}
 use Rattle.tb_routines.proofs.PrologueRuns.{prologue_law}
 use Rattle.tb_keeping.specs.Kept.{Starts}
 use Rattle.tb_keeping.specs.Layout.{Layout, layout_of, start_at, inner, IsBelowAll, AreRising, Laid}
@@ -116,4 +114,4 @@ module _ (place : ℕ) (bytes : List ℕ) (from : 0x0800 ≤ place) (to : place 
     routines = all_laws ly.table ly.seed ns ly.start (setup place bytes from to ly s) (home_low s) (home_high s) (length s.text) (room_so place bytes from to ly s h) block_held tabled
 
     pub prologue : Comes (setup place bytes from to ly s) (view_of s) (Begun (setup place bytes from to ly s) s) [] 192
-    prologue = prologue_law place bytes from to within (inner_within ly code) (holds_then prologue_part block_part within prologue_held block_held) s h.start
+    prologue = prologue_law place bytes from to within (inner_within ly code) block_held s h.start

@@ -4,7 +4,8 @@ use std::test::Fail;
 use tb_cpu::{Flags, Regs};
 use tb_kernal::{Keyboard, Machine, Quiet, Rude, Status, run};
 use tb_memmap::{Closed, Memory};
-use tb_runtime16::{BLOCK_AT, HOME_S, LINE, RESULT, Routine, VARS, block, entry};
+use tb_routines::block;
+use tb_runtime16::{BLOCK_AT, HOME_S, LINE, RESULT, Routine, VARS, entry};
 use tb_words::next_seed;
 
 /// Where the caller lies, which is where a program's lines begin.
@@ -134,7 +135,7 @@ pub fn run_beside(machine: &mut Machine, rom: Option<u16>) -> Result<Status, Fai
 /// A memory with the block, noise from $C000 on, and a return to $A100 above S.
 pub fn memory_with_block(alloc: Global, s: u8) -> Result<Memory, Fail> {
     let mut memory = Memory::new(alloc)?;
-    memory.load(BLOCK_AT, block())?;
+    memory.load(BLOCK_AT, &block(alloc)?)?;
     memory.load(VARS, &[NOISE; 256])?;
     memory.load(u16::from_le_bytes([s, 1]).saturating_add(1), &[0xff, 0xa0])?;
     Ok(memory)

@@ -14,19 +14,16 @@ use Rattle.tb_reaching.specs.View.{View, Setup, Part, Holds, Fits, Comes, view, 
 use Rattle.tb_reaching.specs.Start.{IsHome, IsWaiting}
 use Rattle.tb_reaching.proofs.Comes.{looser}
 use Rattle.tb_reaching.proofs.Calls.{under}
-use Rattle.tb_reaching.proofs.Parts.{holds_then}
-use Rattle.tb_routines.specs.Parts.{block_part, send_part, multiply_part, divide_part, random_part, number_part, text_part, zone_part, input_part, search_part, fault_part, poll_part}
+use Rattle.tb_routines.specs.Block.{block_part}
 use Rattle.tb_routines.specs.Laws.{AllBytes, IsWord}
 use Rattle.tb_routines.specs.Laws as laws
-use Rattle.tb_routines.specs.Ends.{Faulting}
 use Rattle.tb_routines.specs.Input as asking
 use Rattle.tb_routines.specs.Input.{prompt}
-use Rattle.tb_routines.specs.Notes.{notes_part, Held, Notes, Faulted}
+use Rattle.tb_routines.specs.Notes.{Held, Notes, Faulted}
 use Rattle.tb_routines.specs.Notes as listed
 use Rattle.tb_routines.specs.Search.{search_changes, Shows, table_bytes, address_of, Searched, Found}
 use Rattle.tb_routines.specs.Routines.{WordAt, is_owned, Noted, SeedAt, stored, first, Entered, Here, WithA, Moves, Waiting, Back, Gives, Told, Popped, Pushed, Drawn, Asked, line_end, Tabled, entries, limit_by, AllLaws}
 use Rattle.tb_routines.proofs.Gathered.{value, small_bytes, holds_word, from_here, from_a, beside, AtFault, told, faulting, number_column, entries_length, found, not_found}
-use Rattle.tb_routines.proofs.Block.{send_held, multiply_held, divide_held, random_held, number_held, text_held, zone_held, input_held, search_held, fault_held, poll_held, notes_held}
 use Rattle.tb_routines.proofs.SendRuns.{send_law}
 use Rattle.tb_routines.proofs.TextRuns.{text_law}
 use Rattle.tb_routines.proofs.ZoneRuns.{zone_law}
@@ -38,13 +35,6 @@ use Rattle.tb_routines.proofs.InputRuns.{input_law}
 use Rattle.tb_routines.proofs.NotesRuns.{push_law, push_full_law, pop_law, pop_none_law}
 use Rattle.tb_routines.proofs.SearchRuns.{search_law}
 use Rattle.tb_routines.proofs.PollRuns.{poll_law}
-
--- ---- the block's parts
-part : (f : Setup) → Holds block_part f.code → (p : Part) → Holds p block_part → Holds p f.code
-part f block p h = holds_then p block_part f.code h block
-
-all_faults : (f : Setup) → Holds block_part f.code → Faulting f.code
-all_faults f block = record { fault = part f block fault_part fault_held; send = part f block send_part send_held; number = part f block number_part number_held; divide = part f block divide_part divide_held }
 
 -- ---- places: what is owned is none of a routine's own
 not_argument : (a : ℕ) → is_owned a ≡ true → laws.is_argument a ≡ false
@@ -124,15 +114,15 @@ module _ (table seed_option : ℕ) (numbers : List ℕ) (start : ℕ → ℕ) (f
       let t = value m TABLE table at in
       let s = value m COUNT (length numbers) count in
       let size = entries_length start numbers in
-      search_law (under f own) (omega (arith, fits)) (part f block search_part search_held) l h text answers m x y z b v i c d (entries start numbers) (small_bytes m LEFT n left) (small_bytes m TABLE table at) (small_bytes m COUNT _ count)
+      search_law (under f own) (omega (arith, fits)) block l h text answers m x y z b v i c d (entries start numbers) (small_bytes m LEFT n left) (small_bytes m TABLE table at) (small_bytes m COUNT _ count)
       (subst (λ p. Shows f.code p (table_bytes (entries start numbers))) (sym t) laid.shown) (omega (arith, t, laid.from)) (omega (arith, t, size, laid.to)) (omega (arith, s, size)) (omega (arith, size, laid.some)) laid.rising laid.words
 
-  asks : (l h : ℕ) (m : ℕ → ℕ) (text answers : List ℕ) (o : Bool) (j : ℕ) → m OPEN ≡ bit o → m COLUMN < 256 → AllBytes text → WordAt m LINE j → Entered f lo hi m → (x y z : ℕ) (n b i c d : Bool) → Comes f (view x y z n b i c d INPUT_AT (l ∷ h ∷ own) m text answers) (asking.Ended f l h lo hi m answers (m COLUMN) (prompt o) (turn Nothing text)) (prompt o ++ asking.turn_sends (word_in m LINE) (turn Nothing text)) (45 * length text + 1569)
+  asks : (l h : ℕ) (m : ℕ → ℕ) (text answers : List ℕ) (o : Bool) (j : ℕ) → m OPEN ≡ bit o → m COLUMN < 256 → AllBytes text → WordAt m LINE j → Entered f lo hi m → (x y z : ℕ) (n b i c d : Bool) → Comes f (view x y z n b i c d INPUT_AT (l ∷ h ∷ own) m text answers) (asking.Ended f l h own m answers (m COLUMN) (prompt o) (turn Nothing text)) (prompt o ++ asking.turn_sends (word_in m LINE) (turn Nothing text)) (45 * length text + 1569)
   asks l h m text answers o j is_open column small line e x y z n b i c d =
-      input_law f (omega (arith, fits)) lo hi (all_faults f block) (part f block input_part input_held) l h text answers m (record { homed = e.homed; kept = e.kept; line = small_bytes m LINE j line }) small o is_open (m COLUMN) (let r : m COLUMN ≡ m COLUMN % 256 = omega (arith, column) in r) x y z n b i c d
+      input_law f 16 (let most : 13 ≤ 16 = omega arith in most) fits block lo hi [] (let deep : 6 ≤ 16 = omega arith in deep) l h text answers m (record { homed = e.homed; kept = e.kept; line = small_bytes m LINE j line }) small o is_open (m COLUMN) (let r : m COLUMN ≡ m COLUMN % 256 = omega (arith, column) in r) x y z n b i c d
 
   -- back from INPUT
-  taken : (l h : ℕ) (m : ℕ → ℕ) (answers : List ℕ) (stays : Bool) (v : ℕ) (left : List ℕ) (o : Bool) (w : View) → asking.Ended f l h lo hi m answers (m COLUMN) (prompt o) (Got v stays left) w → Asked (back_at l h) own m left answers (prompt o ++ line_end stays) stays v w
+  taken : (l h : ℕ) (m : ℕ → ℕ) (answers : List ℕ) (stays : Bool) (v : ℕ) (left : List ℕ) (o : Bool) (w : View) → asking.Ended f l h own m answers (m COLUMN) (prompt o) (Got v stays left) w → Asked (back_at l h) own m left answers (prompt o ++ line_end stays) stays v w
   taken l h m answers true v left o w k = record { pc = k.pc; stack = k.stack; binary = k.binary; text = k.left; answers = k.same_answers; result = holds_word w.mem RESULT v k.is_word k.result; opened = k.line_open; column = k.column_is ∙ ap (λ t. column_after (m COLUMN) t % 256) (sym (append-nil (prompt o))); others = λ p s q r. k.others p (not_asked p s q r) }
   taken l h m answers false v left true w k = record { pc = k.pc; stack = k.stack; binary = k.binary; text = k.left; answers = k.same_answers; result = holds_word w.mem RESULT v k.is_word k.result; opened = k.line_open; column = k.column_is; others = λ p s q r. k.others p (not_asked p s q r) }
   taken l h m answers false v left false w k = record { pc = k.pc; stack = k.stack; binary = k.binary; text = k.left; answers = k.same_answers; result = holds_word w.mem RESULT v k.is_word k.result; opened = k.line_open; column = k.column_is; others = λ p s q r. k.others p (not_asked p s q r) }
@@ -142,7 +132,7 @@ module _ (table seed_option : ℕ) (numbers : List ℕ) (start : ℕ → ℕ) (f
   multiply_clause l h m text answers a b left right =
       from_here f _ _ m text answers _ [] (limit_by keys) (λ x y z n v i c d.
       beside f own _ _ _ [] 240 (limit_by keys) (omega arith)
-      (multiply_law (under f own) (omega (arith, fits)) (part f block multiply_part multiply_held) l h text answers m x y z n v i c d (small_bytes m LEFT a left) (small_bytes m RIGHT b right))
+      (multiply_law (under f own) (omega (arith, fits)) block l h text answers m x y z n v i c d (small_bytes m LEFT a left) (small_bytes m RIGHT b right))
       (λ u k. record {
         back = record { pc = k.pc; stack = ap (λ s. s ++ own) k.stack_is; binary = k.binary; text = k.same_text; answers = k.same_answers; others = λ p o. k.memory.others p (not_used p o) };
         result = holds_word u.mem RESULT (word (a * b)) k.memory.is_word (k.memory.value ∙ ap (λ n. n % 65536) (ap (λ n. n * word_in m RIGHT) (value m LEFT a left) ∙ ap (λ n. a * n) (value m RIGHT b right)));
@@ -153,7 +143,7 @@ module _ (table seed_option : ℕ) (numbers : List ℕ) (start : ℕ → ℕ) (f
   divide_clause l h m text answers a b left right some =
       from_here f _ _ m text answers _ [] (limit_by keys) (λ x y z n v i c d.
       beside f own _ _ _ [] 316 (limit_by keys) (omega arith)
-      (divide_law (under f own) (omega (arith, fits)) (part f block divide_part divide_held) l h text answers m x y z n v i c d (small_bytes m LEFT a left) (small_bytes m RIGHT b right)
+      (divide_law (under f own) (omega (arith, fits)) block l h text answers m x y z n v i c d (small_bytes m LEFT a left) (small_bytes m RIGHT b right)
       (let r = value m RIGHT b right in let p : 1 ≤ word_in m RIGHT = ⊎_elim (λ e. absurd (some e)) (λ e. omega arith) (zero_or b) in p))
       (λ u k. record {
         back = record { pc = k.pc; stack = ap (λ s. s ++ own) k.stack_is; binary = k.binary; text = k.same_text; answers = k.same_answers; others = λ p o. k.memory.others p (not_argument p o) };
@@ -164,8 +154,8 @@ module _ (table seed_option : ℕ) (numbers : List ℕ) (start : ℕ → ℕ) (f
       Moves f (Here DIVIDE_AT (l ∷ h ∷ lo ∷ hi ∷ []) m text answers) (IsHome f) (fault_text 2 n) (limit_by keys)
   divide_by_zero_clause l h m text answers a j left right line e =
       from_here f _ _ m text answers _ (fault_text 2 j) (limit_by keys) (λ x y z n v i c d.
-      faulting f lo hi fits (all_faults f block) l h 2 (let s : 2 < 10 = omega arith in s) m text answers j line e _ _ 6 (limit_by keys) (omega arith)
-      (divide_by_zero_law (under f own) (omega (arith, fits)) (part f block divide_part divide_held) l h text answers m x y z n v i c d (value m RIGHT 0 right))
+      faulting f lo hi fits block l h 2 (let s : 2 < 10 = omega arith in s) m text answers j line e _ _ 6 (limit_by keys) (omega arith)
+      (divide_by_zero_law (under f own) (omega (arith, fits)) block l h text answers m x y z n v i c d (value m RIGHT 0 right))
       (λ u k. same_at_fault 2 l h m text answers u k))
 
   number_clause : (l h : ℕ) (m : ℕ → ℕ) (text answers : List ℕ) (a : ℕ) → WordAt m LEFT a → m COLUMN < 256 →
@@ -174,7 +164,7 @@ module _ (table seed_option : ℕ) (numbers : List ℕ) (start : ℕ → ℕ) (f
       from_here f _ _ m text answers _ (digits_of a) (limit_by keys) (λ x y z n v i c d.
       subst (λ j. Comes f (view x y z n v i c d NUMBER_AT (l ∷ h ∷ own) m text answers) (Told (back_at l h) own m text answers (digits_of j)) (digits_of j) (limit_by keys)) (value m LEFT a left)
       (beside f own _ _ _ (digits_of (word_in m LEFT)) 1440 (limit_by keys) (omega arith)
-      (number_law (under f own) (omega (arith, fits)) (part f block number_part number_held) (part f block divide_part divide_held) (part f block send_part send_held) l h text answers m x y z n v i c d (small_bytes m LEFT a left) column)
+      (number_law (under f own) (omega (arith, fits)) block l h text answers m x y z n v i c d (small_bytes m LEFT a left) column)
       (λ u k. record { pc = k.pc; stack = ap (λ s. s ++ own) k.stack_is; binary = k.binary; text = k.same_text; answers = k.same_answers; column = k.memory.column ∙ number_column (m COLUMN) (word_in m LEFT); others = λ p o q. k.memory.others p (not_argument p o) q })))
 
   text_clause : (l h : ℕ) (m : ℕ → ℕ) (text answers : List ℕ) (at : ℕ) (bytes : List ℕ) → WordAt m POINTER at → m LENGTH ≡ length bytes → Bytes f.code at bytes → AllBytes bytes → 0x0800 ≤ at → at + length bytes ≤ 0xa000 → length bytes < 256 → m COLUMN < 256 →
@@ -183,7 +173,7 @@ module _ (table seed_option : ℕ) (numbers : List ℕ) (start : ℕ → ℕ) (f
       let w = value m POINTER at pointer in
       from_here f _ _ m text answers _ bytes (limit_by keys) (λ x y z n v i c d.
       beside f own _ _ _ bytes (15 * length bytes + 3) (limit_by keys) (omega (arith, few))
-      (text_law (under f own) (omega (arith, fits)) (part f block text_part text_held) (part f block send_part send_held) l h text answers m x y z n v i c d bytes
+      (text_law (under f own) (omega (arith, fits)) block l h text answers m x y z n v i c d bytes
       (record { is_word = small_bytes m POINTER at pointer; shown = subst (λ p. Bytes f.code p bytes) (sym w) shown; from = omega (arith, w, from); to = omega (arith, w, to); count = count; few = few; bytes_small = small }))
       (λ u k. record { pc = k.pc; stack = ap (λ s. s ++ own) k.stack_is; binary = k.binary; text = k.same_text; answers = k.same_answers; column = (let s = k.memory.column_small column in let r : u.mem COLUMN ≡ column_after (m COLUMN) bytes % 256 = omega (arith, k.memory.column, s) in r); others = λ p o q. let r = not_pointer p o in k.memory.others p q r.0 r.1 r.2 }))
 
@@ -192,7 +182,7 @@ module _ (table seed_option : ℕ) (numbers : List ℕ) (start : ℕ → ℕ) (f
   zone_clause l h m text answers column =
       from_here f _ _ m text answers _ (zone (m COLUMN)) (limit_by keys) (λ x y z n v i c d.
       beside f own _ _ _ (zone (m COLUMN)) 97 (limit_by keys) (omega arith)
-      (zone_law (under f own) (omega (arith, fits)) (part f block zone_part zone_held) (part f block send_part send_held) l h text answers m x y z n v i c d column)
+      (zone_law (under f own) (omega (arith, fits)) block l h text answers m x y z n v i c d column)
       (λ u k. record { pc = k.pc; stack = ap (λ s. s ++ own) k.stack_is; binary = k.binary; text = k.same_text; answers = k.same_answers; column = k.memory.column; others = λ p o q. k.memory.others p q }))
 
   send_clause : (l h : ℕ) (m : ℕ → ℕ) (text answers : List ℕ) (b : ℕ) → b < 256 →
@@ -200,7 +190,7 @@ module _ (table seed_option : ℕ) (numbers : List ℕ) (start : ℕ → ℕ) (f
   send_clause l h m text answers b small =
       from_a f _ b _ m text answers _ (b ∷ []) (limit_by keys) (λ y z n v i c d.
       beside f own _ _ _ (b ∷ []) 7 (limit_by keys) (omega arith)
-      (send_law (under f own) (omega (arith, fits)) (part f block send_part send_held) l h text answers m b y z n v i c d small)
+      (send_law (under f own) (omega (arith, fits)) block l h text answers m b y z n v i c d small)
       (λ u k. record { pc = k.pc; stack = ap (λ s. s ++ own) k.stack_is; binary = k.binary; text = k.same_text; answers = k.same_answers; column = k.memory.column; others = λ p o q. k.memory.others p q }))
 
   search_clause : (l h : ℕ) (m : ℕ → ℕ) (text answers : List ℕ) (n : ℕ) → WordAt m LEFT n → WordAt m TABLE table → WordAt m COUNT (length numbers) → has_line numbers n ≡ true →
@@ -219,7 +209,7 @@ module _ (table seed_option : ℕ) (numbers : List ℕ) (start : ℕ → ℕ) (f
       Moves f (Here SEARCH_AT (l ∷ h ∷ lo ∷ hi ∷ []) m text answers) (IsHome f) (fault_text 1 at) (limit_by keys)
   search_fails_clause l h m text answers n j left at count none line e =
       from_here f _ _ m text answers _ (fault_text 1 j) (limit_by keys) (λ x y z b v i c d.
-      faulting f lo hi fits (all_faults f block) l h 1 (let s : 1 < 10 = omega arith in s) m text answers j line e _ _ 600 (limit_by keys) (omega arith)
+      faulting f lo hi fits block l h 1 (let s : 1 < 10 = omega arith in s) m text answers j line e _ _ 600 (limit_by keys) (omega arith)
       (searches l h m text answers n left at count x y z b v i c d)
       (λ u k. let g : Faulted 1 l h search_changes m text answers u = subst (λ o. Searched l h m text answers o u) (ap (λ t. address_of t (entries start numbers)) (value m LEFT n left) ∙ not_found start numbers n none) k in
       record { pc = g.ended.at; stack = g.ended.on_stack; binary = g.ended.binary; text = g.ended.same_text; answers = g.ended.same_answers; number = g.told; line = (g.ended.others LINE refl, g.ended.others (LINE + 1) refl); home_s = g.ended.others HOME_S refl }))
@@ -229,22 +219,22 @@ module _ (table seed_option : ℕ) (numbers : List ℕ) (start : ℕ → ℕ) (f
   fault_clause k small m text answers n line e =
       from_a f _ k _ m text answers _ (fault_text k n) (limit_by keys) (λ y z b v i c d.
       looser f _ _ _ (fault_text k n) 1522 (limit_by keys) (omega arith) (λ w h. h)
-      (told f lo hi [] (let s : 2 ≤ 14 = omega arith in s) fits (all_faults f block) k small m text answers n line e y z b v i c d))
+      (told f lo hi [] (let s : 2 ≤ 14 = omega arith in s) fits block k small m text answers n line e y z b v i c d))
 
   pop_clause : (l h : ℕ) (m : ℕ → ℕ) (text answers : List ℕ) (note : ℕ) (notes : List ℕ) → WordAt m NOTES (suc (length notes)) → Noted m (note ∷ notes) → suc (length notes) ≤ 500 →
       Moves f (Here POP_AT (l ∷ h ∷ lo ∷ hi ∷ []) m text answers) (Popped (back_at l h) (lo ∷ hi ∷ []) m text answers (length notes) note) [] (limit_by keys)
   pop_clause l h m text answers note notes count is few =
       from_here f _ _ m text answers _ [] (limit_by keys) (λ x y z n v i c d.
       beside f own _ _ _ [] 23 (limit_by keys) (omega arith)
-      (pop_law (under f own) (omega (arith, fits)) (part f block notes_part notes_held) l h text answers m x y z n v i c d note notes (notes_of m (note ∷ notes) count is few))
+      (pop_law (under f own) (omega (arith, fits)) block l h text answers m x y z n v i c d note notes (notes_of m (note ∷ notes) count is few))
       (λ u k. record { pc = k.back.at; stack = ap (λ s. s ++ own) k.back.on_stack; binary = k.back.binary; text = k.back.same_text; answers = k.back.same_answers; result = holds_word u.mem RESULT note k.is_word k.result; count = holds_word u.mem NOTES (length notes) k.notes.is_word k.notes.count; others = λ p o q r. k.back.others p (not_popped p o q r) }))
 
   pop_fails_clause : (l h : ℕ) (m : ℕ → ℕ) (text answers : List ℕ) (n : ℕ) → WordAt m NOTES 0 → WordAt m LINE n → Entered f lo hi m →
       Moves f (Here POP_AT (l ∷ h ∷ lo ∷ hi ∷ []) m text answers) (IsHome f) (fault_text 5 n) (limit_by keys)
   pop_fails_clause l h m text answers j count line e =
       from_here f _ _ m text answers _ (fault_text 5 j) (limit_by keys) (λ x y z n v i c d.
-      faulting f lo hi fits (all_faults f block) l h 5 (let s : 5 < 10 = omega arith in s) m text answers j line e _ _ 6 (limit_by keys) (omega arith)
-      (pop_none_law (under f own) (omega (arith, fits)) (part f block notes_part notes_held) l h text answers m x y z n v i c d (notes_of m [] count tt (let s : 0 ≤ 500 = omega arith in s)))
+      faulting f lo hi fits block l h 5 (let s : 5 < 10 = omega arith in s) m text answers j line e _ _ 6 (limit_by keys) (omega arith)
+      (pop_none_law (under f own) (omega (arith, fits)) block l h text answers m x y z n v i c d (notes_of m [] count tt (let s : 0 ≤ 500 = omega arith in s)))
       (λ u g. record { pc = g.ended.at; stack = g.ended.on_stack; binary = g.ended.binary; text = g.ended.same_text; answers = g.ended.same_answers; number = g.told; line = (g.ended.others LINE refl, g.ended.others (LINE + 1) refl); home_s = g.ended.others HOME_S refl }))
 
   random_clause : (l h : ℕ) (m : ℕ → ℕ) (text answers : List ℕ) (a seed : ℕ) → WordAt m LEFT a → WordAt m RIGHT seed_option → SeedAt m seed_option seed → (nat_eq a 0 || nat_le 32768 a) ≡ false →
@@ -255,7 +245,7 @@ module _ (table seed_option : ℕ) (numbers : List ℕ) (start : ℕ → ℕ) (f
       let now = seed_at m seed_option seed right stored_at in
       from_here f _ _ m text answers _ [] (limit_by keys) (λ x y z n v i c d.
       beside f own _ _ _ [] 540 (limit_by keys) (omega arith)
-      (random_law (under f own) (omega (arith, fits)) (part f block random_part random_held) (part f block divide_part divide_held) (part f block multiply_part multiply_held) l h text answers m x y z n v i c d (small_bytes m LEFT a left) (small_bytes m RIGHT seed_option right) now.0 (omega (arith, w, g.0)) (omega (arith, w, g.1)))
+      (random_law (under f own) (omega (arith, fits)) block l h text answers m x y z n v i c d (small_bytes m LEFT a left) (small_bytes m RIGHT seed_option right) now.0 (omega (arith, w, g.0)) (omega (arith, w, g.1)))
       (λ u k. record {
         pc = k.pc;
         stack = ap (λ s. s ++ own) k.stack_is;
@@ -272,8 +262,8 @@ module _ (table seed_option : ℕ) (numbers : List ℕ) (start : ℕ → ℕ) (f
       Moves f (Here RANDOM_AT (l ∷ h ∷ lo ∷ hi ∷ []) m text answers) (IsHome f) (fault_text 3 n) (limit_by keys)
   random_fails_clause l h m text answers a j left range line e =
       from_here f _ _ m text answers _ (fault_text 3 j) (limit_by keys) (λ x y z n v i c d.
-      faulting f lo hi fits (all_faults f block) l h 3 (let s : 3 < 10 = omega arith in s) m text answers j line e _ _ 7 (limit_by keys) (omega arith)
-      (random_range_law (under f own) (omega (arith, fits)) (part f block random_part random_held) l h text answers m x y z n v i c d (small_bytes m LEFT a left) (subst (λ w. (w ≡ 0) ⊎ (32768 ≤ w)) (sym (value m LEFT a left)) (bad_range a range)))
+      faulting f lo hi fits block l h 3 (let s : 3 < 10 = omega arith in s) m text answers j line e _ _ 7 (limit_by keys) (omega arith)
+      (random_range_law (under f own) (omega (arith, fits)) block l h text answers m x y z n v i c d (small_bytes m LEFT a left) (subst (λ w. (w ≡ 0) ⊎ (32768 ≤ w)) (sym (value m LEFT a left)) (bad_range a range)))
       (λ u k. same_at_fault 3 l h m text answers u k))
 
   push_clause : (l h : ℕ) (m : ℕ → ℕ) (text answers : List ℕ) (note : ℕ) (notes : List ℕ) → WordAt m LEFT note → WordAt m NOTES (length notes) → Noted m notes → length notes < 500 →
@@ -282,15 +272,15 @@ module _ (table seed_option : ℕ) (numbers : List ℕ) (start : ℕ → ℕ) (f
       from_here f _ _ m text answers _ [] (limit_by keys) (λ x y z n v i c d.
       beside f own _ _ _ [] 25 (limit_by keys) (omega arith)
       (subst (λ j. Comes (under f own) (view x y z n v i c d PUSH_AT (l ∷ h ∷ []) m text answers) (listed.Pushed l h m text answers (j ∷ notes)) [] 25) (value m LEFT note left)
-      (push_law (under f own) (omega (arith, fits)) (part f block notes_part notes_held) l h text answers m x y z n v i c d notes (small_bytes m LEFT note left) (notes_of m notes count is (omega (arith, few))) few))
+      (push_law (under f own) (omega (arith, fits)) block l h text answers m x y z n v i c d notes (small_bytes m LEFT note left) (notes_of m notes count is (omega (arith, few))) few))
       (λ u k. record { pc = k.back.at; stack = ap (λ s. s ++ own) k.back.on_stack; binary = k.back.binary; text = k.back.same_text; answers = k.back.same_answers; result = k.back.others RESULT refl; result_high = k.back.others (RESULT + 1) refl; count = holds_word u.mem NOTES (length (note ∷ notes)) k.notes.is_word k.notes.count; noted = noted u.mem (note ∷ notes) k.notes.held; others = λ p from to q r. k.back.others p (not_pushed p from to q r) }))
 
   push_fails_clause : (l h : ℕ) (m : ℕ → ℕ) (text answers notes : List ℕ) (n : ℕ) → WordAt m NOTES (length notes) → Noted m notes → length notes ≡ 500 → WordAt m LINE n → Entered f lo hi m →
       Moves f (Here PUSH_AT (l ∷ h ∷ lo ∷ hi ∷ []) m text answers) (IsHome f) (fault_text 4 n) (limit_by keys)
   push_fails_clause l h m text answers notes j count is full line e =
       from_here f _ _ m text answers _ (fault_text 4 j) (limit_by keys) (λ x y z n v i c d.
-      faulting f lo hi fits (all_faults f block) l h 4 (let s : 4 < 10 = omega arith in s) m text answers j line e _ _ 7 (limit_by keys) (omega arith)
-      (push_full_law (under f own) (omega (arith, fits)) (part f block notes_part notes_held) l h text answers m x y z n v i c d notes (notes_of m notes count is (omega (arith, full))) full)
+      faulting f lo hi fits block l h 4 (let s : 4 < 10 = omega arith in s) m text answers j line e _ _ 7 (limit_by keys) (omega arith)
+      (push_full_law (under f own) (omega (arith, fits)) block l h text answers m x y z n v i c d notes (notes_of m notes count is (omega (arith, full))) full)
       (λ u g. record { pc = g.ended.at; stack = g.ended.on_stack; binary = g.ended.binary; text = g.ended.same_text; answers = g.ended.same_answers; number = g.told; line = (g.ended.others LINE refl, g.ended.others (LINE + 1) refl); home_s = g.ended.others HOME_S refl }))
 
   input_clause : (l h : ℕ) (m : ℕ → ℕ) (text answers : List ℕ) (o stays : Bool) (v : ℕ) (left : List ℕ) (n : ℕ) → m OPEN ≡ bit o → m COLUMN < 256 → AllBytes text → length text ≤ keys → WordAt m LINE n → Entered f lo hi m → turn Nothing text ≡ Got v stays left →
@@ -298,8 +288,8 @@ module _ (table seed_option : ℕ) (numbers : List ℕ) (start : ℕ → ℕ) (f
   input_clause l h m text answers o stays v left j is_open column small few line e got =
       from_here f _ _ m text answers _ (prompt o ++ line_end stays) (limit_by keys) (λ x y z n b i c d.
       looser f _ _ _ (prompt o ++ line_end stays) (45 * length text + 1569) (limit_by keys) (omega (arith, few)) (λ w k. taken l h m answers stays v left o w k)
-      (subst (λ s. Comes f (view x y z n b i c d INPUT_AT (l ∷ h ∷ own) m text answers) (asking.Ended f l h lo hi m answers (m COLUMN) (prompt o) (Got v stays left)) s (45 * length text + 1569)) (ends_with o stays v left (word_in m LINE))
-      (subst (λ t. Comes f (view x y z n b i c d INPUT_AT (l ∷ h ∷ own) m text answers) (asking.Ended f l h lo hi m answers (m COLUMN) (prompt o) t) (prompt o ++ asking.turn_sends (word_in m LINE) t) (45 * length text + 1569)) got
+      (subst (λ s. Comes f (view x y z n b i c d INPUT_AT (l ∷ h ∷ own) m text answers) (asking.Ended f l h own m answers (m COLUMN) (prompt o) (Got v stays left)) s (45 * length text + 1569)) (ends_with o stays v left (word_in m LINE))
+      (subst (λ t. Comes f (view x y z n b i c d INPUT_AT (l ∷ h ∷ own) m text answers) (asking.Ended f l h own m answers (m COLUMN) (prompt o) t) (prompt o ++ asking.turn_sends (word_in m LINE) t) (45 * length text + 1569)) got
       (asks l h m text answers o j is_open column small line e x y z n b i c d))))
 
   input_fails_clause : (l h : ℕ) (m : ℕ → ℕ) (text answers : List ℕ) (o : Bool) (n : ℕ) → m OPEN ≡ bit o → m COLUMN < 256 → AllBytes text → length text ≤ keys → turn Nothing text ≡ Bad → WordAt m LINE n → Entered f lo hi m →
@@ -308,7 +298,7 @@ module _ (table seed_option : ℕ) (numbers : List ℕ) (start : ℕ → ℕ) (f
       from_here f _ _ m text answers _ (prompt o ++ fault_text 6 j) (limit_by keys) (λ x y z n b i c d.
       looser f _ _ _ (prompt o ++ fault_text 6 j) (45 * length text + 1569) (limit_by keys) (omega (arith, few)) (λ w k. k)
       (subst (λ s. Comes f (view x y z n b i c d INPUT_AT (l ∷ h ∷ own) m text answers) (IsHome f) s (45 * length text + 1569)) (ap (λ n. prompt o ++ fault_text 6 n) (value m LINE j line))
-      (subst (λ t. Comes f (view x y z n b i c d INPUT_AT (l ∷ h ∷ own) m text answers) (asking.Ended f l h lo hi m answers (m COLUMN) (prompt o) t) (prompt o ++ asking.turn_sends (word_in m LINE) t) (45 * length text + 1569)) got
+      (subst (λ t. Comes f (view x y z n b i c d INPUT_AT (l ∷ h ∷ own) m text answers) (asking.Ended f l h own m answers (m COLUMN) (prompt o) t) (prompt o ++ asking.turn_sends (word_in m LINE) t) (45 * length text + 1569)) got
       (asks l h m text answers o j is_open column small line e x y z n b i c d))))
 
   input_waits_clause : (l h : ℕ) (m : ℕ → ℕ) (text answers : List ℕ) (o : Bool) (n : ℕ) → m OPEN ≡ bit o → m COLUMN < 256 → AllBytes text → length text ≤ keys → turn Nothing text ≡ Dry → WordAt m LINE n → Entered f lo hi m →
@@ -317,7 +307,7 @@ module _ (table seed_option : ℕ) (numbers : List ℕ) (start : ℕ → ℕ) (f
       from_here f _ _ m text answers _ (prompt o) (limit_by keys) (λ x y z n b i c d.
       looser f _ _ _ (prompt o) (45 * length text + 1569) (limit_by keys) (omega (arith, few)) (λ w k. record { waits = k.0; deep = omega (arith, k.1) })
       (subst (λ s. Comes f (view x y z n b i c d INPUT_AT (l ∷ h ∷ own) m text answers) (λ w. IsWaiting w × (length w.stack ≤ 6)) s (45 * length text + 1569)) (append-nil (prompt o))
-      (subst (λ t. Comes f (view x y z n b i c d INPUT_AT (l ∷ h ∷ own) m text answers) (asking.Ended f l h lo hi m answers (m COLUMN) (prompt o) t) (prompt o ++ asking.turn_sends (word_in m LINE) t) (45 * length text + 1569)) got
+      (subst (λ t. Comes f (view x y z n b i c d INPUT_AT (l ∷ h ∷ own) m text answers) (asking.Ended f l h own m answers (m COLUMN) (prompt o) t) (prompt o ++ asking.turn_sends (word_in m LINE) t) (45 * length text + 1569)) got
       (asks l h m text answers o j is_open column small line e x y z n b i c d))))
 
   poll_clause : (l h : ℕ) (m : ℕ → ℕ) (text answers : List ℕ) (n : ℕ) → AllBytes answers → nat_eq (first_or_zero answers) 3 ≡ false → WordAt m LINE n → Entered f lo hi m →
@@ -325,7 +315,7 @@ module _ (table seed_option : ℕ) (numbers : List ℕ) (start : ℕ → ℕ) (f
   poll_clause l h m text answers j small other line e =
       from_here f _ _ m text answers _ [] (limit_by keys) (λ x y z n v i c d.
       looser f _ _ _ [] 5 (limit_by keys) (omega arith) (λ w k. record { pc = k.pc; stack = k.stack_is; binary = k.binary; text = k.same_text; answers = k.same_answers; others = λ a o. ap (λ g. g a) k.memory })
-      ((poll_law f (omega (arith, fits)) (all_faults f block) (part f block poll_part poll_held) l h lo hi text answers m (record { homed = e.homed; kept = e.kept; line = small_bytes m LINE j line }) (first_small answers small) x y z n v i c d).0
+      ((poll_law f 16 (let most : 13 ≤ 16 = omega arith in most) fits block lo hi [] (let deep : 6 ≤ 16 = omega arith in deep) l h text answers m (record { homed = e.homed; kept = e.kept; line = small_bytes m LINE j line }) (first_small answers small) x y z n v i c d).0
       (λ q. let bad : true ≡ false = sym (eq-eqb (first_or_zero answers) 3 q) ∙ other in cc)))
 
   poll_breaks_clause : (l h : ℕ) (m : ℕ → ℕ) (text answers : List ℕ) (n : ℕ) → AllBytes answers → nat_eq (first_or_zero answers) 3 ≡ true → WordAt m LINE n → Entered f lo hi m →
@@ -334,7 +324,7 @@ module _ (table seed_option : ℕ) (numbers : List ℕ) (start : ℕ → ℕ) (f
       from_here f _ _ m text answers _ (fault_text 0 j) (limit_by keys) (λ x y z n v i c d.
       looser f _ _ _ (fault_text 0 j) 1528 (limit_by keys) (omega arith) (λ w k. k)
       (subst (λ s. Comes f (view x y z n v i c d POLL_AT (l ∷ h ∷ own) m text answers) (IsHome f) (fault_text 0 s) 1528) (value m LINE j line)
-      ((poll_law f (omega (arith, fits)) (all_faults f block) (part f block poll_part poll_held) l h lo hi text answers m (record { homed = e.homed; kept = e.kept; line = small_bytes m LINE j line }) (first_small answers small) x y z n v i c d).1
+      ((poll_law f 16 (let most : 13 ≤ 16 = omega arith in most) fits block lo hi [] (let deep : 6 ≤ 16 = omega arith in deep) l h text answers m (record { homed = e.homed; kept = e.kept; line = small_bytes m LINE j line }) (first_small answers small) x y z n v i c d).1
       (eqb-true (first_or_zero answers) 3 stop))))
 
 pub all_laws : AllLaws

@@ -1,8 +1,9 @@
 -- Pieces and routines that stand on what their caller keeps on the stack.
-use Rattle.std.proofs.Common.{ℕ, ◌+◌, ◌≤◌, Bool, List, [], ◌∷◌, ◌++◌, ap}
-use Rattle.tb_reaching.specs.View.{Setup, View, Comes, view, back_at}
-use Rattle.tb_reaching.proofs.Comes.{known, looser}
-use Rattle.tb_reaching.proofs.Calls.{calling, under, stacked_on}
+use Rattle.std.proofs.Common.{◌≡◌, ℕ, suc, ◌+◌, ◌≤◌, Bool, true, List, [], ◌∷◌, ◌++◌, refl, sym, ap, subst, arith}
+use Rattle.tb_reaching.specs.View.{Setup, View, Part, Holds, Fits, Comes, view, back_at}
+use Rattle.tb_reaching.proofs.Acting.{the, run_view, is_there}
+use Rattle.tb_reaching.proofs.Comes.{ending, known, looser}
+use Rattle.tb_reaching.proofs.Calls.{calling, framed, under, stacked_on}
 use Rattle.tb_routines.specs.Laws.{Leaves, Back}
 
 -- a piece above own, from a stack to another, and then
@@ -18,3 +19,18 @@ calls f own a x y n v i z c at lo hi m text answers q r t u k l call next = abov
 -- the same, with less said of the memory
 pub back_looser : (f : Setup) (v : View) (lo hi : ℕ) (text answers : List ℕ) (p q : (ℕ → ℕ) → Type 0) (t : List ℕ) (n m : ℕ) → n ≤ m → Comes f v (Back lo hi text answers p) t n → ((w : ℕ → ℕ) → p w → q w) → Comes f v (Back lo hi text answers q) t m
 back_looser f v lo hi text answers p q t n m le c g = looser f v (Back lo hi text answers p) (Back lo hi text answers q) t n m le (λ w h. record { pc = h.pc; stack_is = h.stack_is; binary = h.binary; same_text = h.same_text; same_answers = h.same_answers; memory = g w.mem h.memory }) c
+
+-- ---- instructions of a routine, whatever its caller keeps on the stack
+module _ (f : Setup) (own : List ℕ) (room : ℕ) (fits : Fits (under f own) room) (part : Part) (holds : Holds part f.code) where
+  -- n + 1 instructions that come to a computed view, and then
+  pub after_on : (n : ℕ) (v : View) (q : View → Type 0) (t : List ℕ) (m : ℕ) → is_there (run_view part room (suc n) v) ≡ true → Comes f (stacked_on own (the v (run_view part room (suc n) v))) q t m → Comes f (stacked_on own v) q t (suc n + m)
+  after_on n v q t m h next =
+      let w = the v (run_view part room (suc n) v) in
+      calling f own v (λ u. u ≡ w) q [] t (suc n) m (ending (under f own) room fits part holds n v (λ u. u ≡ w) h refl)
+      (λ u same. subst (λ u. Comes f (stacked_on own u) q t m) (sym same) next)
+
+  -- n + 1 instructions, as the last piece
+  pub ending_on : (n : ℕ) (v : View) (q : View → Type 0) → is_there (run_view part room (suc n) v) ≡ true → q (stacked_on own (the v (run_view part room (suc n) v))) → Comes f (stacked_on own v) q [] (suc n)
+  ending_on n v q h x =
+      looser f (stacked_on own v) _ q [] (suc n) (suc n) (omega arith) (λ w g. subst q g.2 g.1)
+      (framed f own v (λ u. q (stacked_on own u)) [] (suc n) (ending (under f own) room fits part holds n v (λ u. q (stacked_on own u)) h x))

@@ -6,12 +6,12 @@ use Rattle.tb_cpu.specs.Operands.{word_in}
 use Rattle.tb_words.specs.Words.{is_negative, magnitude, digits_before, digits_of}
 use Rattle.tb_lower.specs.Control.{fault_text, column_after, has_line}
 use Rattle.tb_runtime16.specs.Places.{HOME_S, LINE, FAULT_AT}
-use Rattle.tb_reaching.specs.View.{View, Setup, Fits, Comes, view}
+use Rattle.tb_reaching.specs.View.{View, Setup, Holds, Fits, Comes, view}
 use Rattle.tb_reaching.specs.Start.{IsHome}
 use Rattle.tb_reaching.proofs.Comes.{known, looser}
 use Rattle.tb_reaching.proofs.Calls.{calling, framed, under, stacked_on}
+use Rattle.tb_routines.specs.Block.{block_part}
 use Rattle.tb_routines.specs.Laws.{IsWord}
-use Rattle.tb_routines.specs.Ends.{Faulting}
 use Rattle.tb_routines.specs.Search.{address_of}
 use Rattle.tb_routines.specs.Routines.{WordAt, Entered, Here, WithA, Moves, entries}
 use Rattle.tb_routines.proofs.FaultRuns.{fault_law}
@@ -59,19 +59,19 @@ pub record AtFault (k l h : ℕ) (m : ℕ → ℕ) (keys gets : List ℕ) (u : V
   pub home_s : u.mem HOME_S ≡ m HOME_S
 
 -- the fault's text is sent, and the machine has returned
-pub told : (f : Setup) (lo hi : ℕ) (bs : List ℕ) → length bs + 2 ≤ 14 → Fits f 16 → Faulting f.code → (k : ℕ) → k < 10 → (m : ℕ → ℕ) (keys gets : List ℕ) (n : ℕ) → WordAt m LINE n → Entered f lo hi m → (x y : ℕ) (b v i z c : Bool) → Comes f (view k x y b v i z c FAULT_AT (bs ++ lo ∷ hi ∷ []) m keys gets) (IsHome f) (fault_text k n) 1522
-told f lo hi bs few fits all k small m keys gets n line e x y b v i z c =
+pub told : (f : Setup) (lo hi : ℕ) (bs : List ℕ) → length bs + 2 ≤ 14 → Fits f 16 → Holds block_part f.code → (k : ℕ) → k < 10 → (m : ℕ → ℕ) (keys gets : List ℕ) (n : ℕ) → WordAt m LINE n → Entered f lo hi m → (x y : ℕ) (b v i z c : Bool) → Comes f (view k x y b v i z c FAULT_AT (bs ++ lo ∷ hi ∷ []) m keys gets) (IsHome f) (fault_text k n) 1522
+told f lo hi bs few fits block k small m keys gets n line e x y b v i z c =
     subst (λ j. Comes f (view k x y b v i z c FAULT_AT (bs ++ lo ∷ hi ∷ []) m keys gets) (IsHome f) (fault_text k j) 1522) (value m LINE n line)
-    (fault_law f 14 (let le : 13 ≤ 14 = omega arith in le) (omega (arith, fits)) all lo hi bs few keys gets m (record { homed = e.homed; kept = e.kept; line = small_bytes m LINE n line }) k x y b v i z c small)
+    (fault_law f 14 (let le : 13 ≤ 14 = omega arith in le) (omega (arith, fits)) block lo hi bs few keys gets m (record { homed = e.homed; kept = e.kept; line = small_bytes m LINE n line }) k x y b v i z c small)
 
-pub faulting : (f : Setup) (lo hi : ℕ) → Fits f 16 → Faulting f.code → (l h k : ℕ) → k < 10 → (m : ℕ → ℕ) (keys gets : List ℕ) (n : ℕ) → WordAt m LINE n → Entered f lo hi m → (v : View) (p : View → Type 0) (j limit : ℕ) → j + 1522 ≤ limit → Comes (under f (lo ∷ hi ∷ [])) v p [] j → ((u : View) → p u → AtFault k l h m keys gets u) → Comes f (stacked_on (lo ∷ hi ∷ []) v) (IsHome f) (fault_text k n) limit
-faulting f lo hi fits all l h k small m keys gets n line e v p j limit le c go =
+pub faulting : (f : Setup) (lo hi : ℕ) → Fits f 16 → Holds block_part f.code → (l h k : ℕ) → k < 10 → (m : ℕ → ℕ) (keys gets : List ℕ) (n : ℕ) → WordAt m LINE n → Entered f lo hi m → (v : View) (p : View → Type 0) (j limit : ℕ) → j + 1522 ≤ limit → Comes (under f (lo ∷ hi ∷ [])) v p [] j → ((u : View) → p u → AtFault k l h m keys gets u) → Comes f (stacked_on (lo ∷ hi ∷ []) v) (IsHome f) (fault_text k n) limit
+faulting f lo hi fits block l h k small m keys gets n line e v p j limit le c go =
     looser f _ _ _ (fault_text k n) (j + 1522) limit le (λ w h. h)
     (calling f (lo ∷ hi ∷ []) v p (IsHome f) [] (fault_text k n) j 1522 c (λ u pu.
     let a = go u pu in
     known f (stacked_on (lo ∷ hi ∷ []) u) FAULT_AT (l ∷ h ∷ lo ∷ hi ∷ []) keys gets (IsHome f) (fault_text k n) 1522 a.pc (ap (λ s. s ++ (lo ∷ hi ∷ [])) a.stack) a.binary a.text a.answers
     (subst (λ r. Comes f (view r u.regs.x u.regs.y u.regs.flags.n u.regs.flags.v u.regs.flags.i u.regs.flags.z u.regs.flags.c FAULT_AT (l ∷ h ∷ lo ∷ hi ∷ []) u.mem keys gets) (IsHome f) (fault_text k n) 1522) (sym a.number)
-    (told f lo hi (l ∷ h ∷ []) (let le : 4 ≤ 14 = omega arith in le) fits all k small u.mem keys gets n (same_place m u.mem LINE n line a.line.0 a.line.1) (record { homed = e.homed; kept = ap (λ s. s + 2) a.home_s ∙ e.kept }) _ _ _ _ _ _ _))))
+    (told f lo hi (l ∷ h ∷ []) (let le : 4 ≤ 14 = omega arith in le) fits block k small u.mem keys gets n (same_place m u.mem LINE n line a.line.0 a.line.1) (record { homed = e.homed; kept = ap (λ s. s + 2) a.home_s ∙ e.kept }) _ _ _ _ _ _ _))))
 
 -- ---- columns: no digit is a return
 abbrev Plain : List ℕ → Type 0

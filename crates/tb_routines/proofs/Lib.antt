@@ -1,3 +1,4 @@
+pub mod Within
 pub mod Frames
 pub mod Called
 pub mod SendRuns
@@ -20,6 +21,5 @@ pub mod NotesRuns
 pub mod Tables
 pub mod Through
 pub mod SearchRuns
-pub mod Block
 pub mod Gathered
 pub mod AllLaws

@@ -7,8 +7,9 @@ use Rattle.tb_memmap.specs.Bytes.{with_byte}
 use Rattle.tb_reaching.specs.View.{Setup, Holds, Fits, Comes, view}
 use Rattle.tb_reaching.proofs.Comes.{after, ending, looser}
 use Rattle.tb_runtime16.specs.Places.{MULTIPLY_AT, LEFT, RIGHT, RESULT, SCRATCH}
-use Rattle.tb_routines.specs.Parts.{multiply_part}
+use Rattle.tb_routines.specs.Block.{block_part}
 use Rattle.tb_routines.specs.Laws.{IsWord, is_used, Back, Multiplied, MultiplyLaw}
+use Rattle.tb_routines.proofs.Within.{multiply_part, multiply_in}
 use Rattle.tb_routines.proofs.Words.{halved, doubled, added, turn_even, turn_odd, turn_double}
 use Rattle.tb_routines.proofs.Frames.{skip}
 
@@ -23,7 +24,7 @@ abbrev pow2 : ℕ → ℕ
 pow2 zero = 1
 pow2 (suc k) = pow2 k + pow2 k
 
-module _ (f : Setup) (fits : Fits f 2) (st : Holds multiply_part f.code) (lo hi : ℕ) (text answers : List ℕ) (m0 : ℕ → ℕ) where
+module _ (f : Setup) (fits : Fits f 2) (block : Holds block_part f.code) (lo hi : ℕ) (text answers : List ℕ) (m0 : ℕ → ℕ) where
   record Held (m : ℕ → ℕ) : Type 0 where
     p : IsWord m LEFT
     q : IsWord m RIGHT
@@ -37,7 +38,7 @@ module _ (f : Setup) (fits : Fits f 2) (st : Holds multiply_part f.code) (lo hi 
   Turn k = (a x y : ℕ) (n v i z c : Bool) (m : ℕ → ℕ) (product : ℕ) → Held m → m SCRATCH ≡ suc k → k < 16 → word_in m RIGHT < pow2 k + pow2 k → product ≡ (word_in m RESULT + word_in m LEFT * word_in m RIGHT) % 65536 → Comes f (view a x y n v i z c (MULTIPLY_AT + 13) (lo ∷ hi ∷ []) m text answers) (Back lo hi text answers (Multiplied m0 product)) [] (14 * k + 15)
 
   last : (a x y : ℕ) (n v i z c : Bool) (m : ℕ → ℕ) (product : ℕ) → Held m → product ≡ word_in m RESULT → Comes f (view a x y n v i z c (MULTIPLY_AT + 51) (lo ∷ hi ∷ []) m text answers) (Back lo hi text answers (Multiplied m0 product)) [] 1
-  last a x y n v i z c m product h e = ending f 2 fits multiply_part st 0 (view a x y n v i z c (MULTIPLY_AT + 51) (lo ∷ hi ∷ []) m text answers) _ refl
+  last a x y n v i z c m product h e = ending f 2 fits multiply_part (multiply_in f.code block) 0 (view a x y n v i z c (MULTIPLY_AT + 51) (lo ∷ hi ∷ []) m text answers) _ refl
       (record { pc = refl; stack_is = refl; binary = refl; same_text = refl; same_answers = refl; memory = record { is_word = h.r; value = sym e; others = h.others } })
 
   doubled_held : (m : ℕ → ℕ) (b : ℕ) → Held m → Held (with_byte (with_byte (with_byte m LEFT (2 * m LEFT % 256)) 0xc063 (2 * m 0xc063 % 256 + bit (eqb (m LEFT / 128 % 2) 1))) SCRATCH b)
@@ -54,7 +55,7 @@ module _ (f : Setup) (fits : Fits f 2) (st : Holds multiply_part f.code) (lo hi 
       let done : eqb ((m SCRATCH + 255) % 256) 0 ≡ true = eq-eqb _ _ (omega (arith, count)) in
       let none : word_in m RIGHT ≡ 0 = omega arith in
       let total : word_in m RESULT + 2 * word_in m LEFT * word_in m RIGHT ≡ word_in m RESULT = ap (λ q. word_in m RESULT + 2 * word_in m LEFT * q) none ∙ omega arith in
-      after f 2 fits multiply_part st 3 (view a x y n v i z c (MULTIPLY_AT + 40) (lo ∷ hi ∷ []) m text answers) _ _ 1 refl
+      after f 2 fits multiply_part (multiply_in f.code block) 3 (view a x y n v i z c (MULTIPLY_AT + 40) (lo ∷ hi ∷ []) m text answers) _ _ 1 refl
       (rw done (last _ _ _ _ _ _ _ _ _ product (doubled_held m _ h) (e ∙ omega (arith, total, h.r.0, h.r.1))))
 
   skip_more : (k : ℕ) → Turn k → Skip (suc k)
@@ -64,7 +65,7 @@ module _ (f : Setup) (fits : Fits f 2) (st : Holds multiply_part f.code) (lo hi 
       let more : eqb ((m SCRATCH + 255) % 256) 0 ≡ false = ne_eqb _ _ (λ x. omega arith) in
       let twice = doubled (m LEFT) (m 0xc063) h.p.0 h.p.1 in
       looser f _ _ _ [] (4 + (14 * k + 15)) (14 * suc k + 5) (omega arith) (λ w h. h)
-      (after f 2 fits multiply_part st 3 (view a x y n v i z c (MULTIPLY_AT + 40) (lo ∷ hi ∷ []) m text answers) _ _ (14 * k + 15) refl
+      (after f 2 fits multiply_part (multiply_in f.code block) 3 (view a x y n v i z c (MULTIPLY_AT + 40) (lo ∷ hi ∷ []) m text answers) _ _ (14 * k + 15) refl
       (rw more (go _ _ _ _ _ _ _ _ _ product (doubled_held m _ h) less (omega arith) bound
       (e ∙ sym (turn_double (word_in m RESULT) (word_in m LEFT) (word_in m RIGHT)) ∙ ap (λ x. (word_in m RESULT + x * word_in m RIGHT) % 65536) (sym twice)))))
 
@@ -73,7 +74,7 @@ module _ (f : Setup) (fits : Fits f 2) (st : Holds multiply_part f.code) (lo hi 
   unfolding Skip
   sum k go a x y n v i z c m product h count small bound e =
       let s = added (m RESULT) (m 0xc067) (m LEFT) (m 0xc063) h.r.0 h.r.1 h.p.0 h.p.1 in
-      after f 2 fits multiply_part st 6 (view a x y n v i z c (MULTIPLY_AT + 21) (lo ∷ hi ∷ []) m text answers) _ _ (14 * k + 5) refl
+      after f 2 fits multiply_part (multiply_in f.code block) 6 (view a x y n v i z c (MULTIPLY_AT + 21) (lo ∷ hi ∷ []) m text answers) _ _ (14 * k + 5) refl
       (go _ _ _ _ _ _ _ _ _ product
       (record { p = h.p; q = h.q; r = (omega arith, omega arith); others = frame_put _ _ 0xc067 _ refl (frame_put _ _ RESULT _ refl h.others) })
       count small bound (e ∙ ap (λ x. (x + 2 * word_in m LEFT * word_in m RIGHT) % 65536) (sym s)))
@@ -88,12 +89,12 @@ module _ (f : Setup) (fits : Fits f 2) (st : Holds multiply_part f.code) (lo hi 
       ⊎_elim
       (λ odd. let b : eqb (m RIGHT / 1 % 2) 1 ≡ true = eq-eqb _ _ (omega (arith, odd)) in
       looser f _ _ _ [] (3 + (7 + (14 * k + 5))) (14 * k + 15) (omega arith) (λ w h. h)
-      (after f 2 fits multiply_part st 2 (view a x y n v i z c (MULTIPLY_AT + 13) (lo ∷ hi ∷ []) m text answers) _ _ (7 + (14 * k + 5)) refl
+      (after f 2 fits multiply_part (multiply_in f.code block) 2 (view a x y n v i z c (MULTIPLY_AT + 13) (lo ∷ hi ∷ []) m text answers) _ _ (7 + (14 * k + 5)) refl
       (rw b (sum k go _ _ _ _ _ _ _ _ _ product shifted count small less
       (e ∙ sym (turn_odd (word_in m RESULT) (word_in m LEFT) (word_in m RIGHT) (omega arith)) ∙ ap (λ q. ((word_in m RESULT + word_in m LEFT) % 65536 + 2 * word_in m LEFT * q) % 65536) (sym half))))))
       (λ even. let b : eqb (m RIGHT / 1 % 2) 1 ≡ false = ne_eqb _ _ (λ h. even (omega (arith, h))) in
       looser f _ _ _ [] (3 + (14 * k + 5)) (14 * k + 15) (omega arith) (λ w h. h)
-      (after f 2 fits multiply_part st 2 (view a x y n v i z c (MULTIPLY_AT + 13) (lo ∷ hi ∷ []) m text answers) _ _ (14 * k + 5) refl
+      (after f 2 fits multiply_part (multiply_in f.code block) 2 (view a x y n v i z c (MULTIPLY_AT + 13) (lo ∷ hi ∷ []) m text answers) _ _ (14 * k + 5) refl
       (rw b (go _ _ _ _ _ _ _ _ _ product shifted count small less
       (e ∙ sym (turn_even (word_in m RESULT) (word_in m LEFT) (word_in m RIGHT) (omega arith)) ∙ ap (λ q. (word_in m RESULT + 2 * word_in m LEFT * q) % 65536) (sym half))))))
       (cases_eq (m RIGHT % 2) 1)
@@ -106,10 +107,10 @@ module _ (f : Setup) (fits : Fits f 2) (st : Holds multiply_part f.code) (lo hi 
   unfolding Turn
   whole a x y n v i z c p q =
       looser f _ _ _ [] (5 + 225) 232 (omega arith) (λ w h. h)
-      (after f 2 fits multiply_part st 4 (view a x y n v i z c MULTIPLY_AT (lo ∷ hi ∷ []) m0 text answers) _ _ 225 refl
+      (after f 2 fits multiply_part (multiply_in f.code block) 4 (view a x y n v i z c MULTIPLY_AT (lo ∷ hi ∷ []) m0 text answers) _ _ 225 refl
       (turn 15 (skips 15) _ _ _ _ _ _ _ _ _ ((word_in m0 LEFT * word_in m0 RIGHT) % 65536)
       (record { p = p; q = q; r = (omega arith, omega arith); others = frame_put _ _ SCRATCH _ refl (frame_put _ _ 0xc067 _ refl (frame_put _ _ RESULT _ refl (λ a e. refl))) })
       refl (omega arith) (omega (arith, p, q)) (let z : 0 + word_in m0 LEFT * word_in m0 RIGHT ≡ word_in m0 LEFT * word_in m0 RIGHT = omega arith in ap (λ x. x % 65536) (sym z))))
 
 pub multiply_law : MultiplyLaw
-multiply_law f fits st lo hi text answers m a x y n v i z c p q = looser f _ _ _ [] 232 240 (omega arith) (λ w h. h) (whole f fits st lo hi text answers m a x y n v i z c p q)
+multiply_law f fits block lo hi text answers m a x y n v i z c p q = looser f _ _ _ [] 232 240 (omega arith) (λ w h. h) (whole f fits block lo hi text answers m a x y n v i z c p q)

@@ -14,8 +14,10 @@ use Rattle.tb_reaching.proofs.Memory.{put_other, put_same}
 use Rattle.tb_reaching.proofs.Comes.{after, ending, looser}
 use Rattle.tb_reaching.proofs.Placed.{placing, takes_at, stores_at, reads_data}
 use Rattle.tb_runtime16.specs.Places.{PUSH_AT, POP_AT, POINTER, LEFT, RESULT, NOTES, NOTE_LIST}
+use Rattle.tb_routines.specs.Block.{block_part}
 use Rattle.tb_routines.specs.Laws.{IsWord}
-use Rattle.tb_routines.specs.Notes.{notes_part, Faulted, Held, Notes, nothing, push_changes, pop_changes, Pushed, Popped, PushLaw, PushFullLaw, PopLaw, PopNoneLaw}
+use Rattle.tb_routines.specs.Notes.{Faulted, Held, Notes, nothing, push_changes, pop_changes, Pushed, Popped, PushLaw, PushFullLaw, PopLaw, PopNoneLaw}
+use Rattle.tb_routines.proofs.Within.{notes_part, notes_in}
 use Rattle.tb_routines.proofs.Words.{one_high}
 use Rattle.tb_routines.proofs.Pointed.{carry_at_least, carry_below, Changes, changes_put, same_word}
 
@@ -63,14 +65,14 @@ up_carry l h k p q r e = (omega arith, omega arith, omega arith)
 up_plain : (l h k : ℕ) → l < 256 → l + 256 * h ≡ k → k < 500 → (l + 1) % 256 ≢ 0 → ((l + 1) % 256 < 256) × (h < 256) × ((l + 1) % 256 + 256 * h ≡ suc k)
 up_plain l h k p q r e = (omega arith, omega arith, omega arith)
 
-module _ (f : Setup) (fits : Fits f 4) (st : Holds notes_part f.code) (lo hi : ℕ) (text answers : List ℕ) (m0 : ℕ → ℕ) where
+module _ (f : Setup) (fits : Fits f 4) (block : Holds block_part f.code) (lo hi : ℕ) (text answers : List ℕ) (m0 : ℕ → ℕ) where
   -- ---- Push
   -- the high byte
   store_high : (a x : ℕ) (n v i z c : Bool) (m : ℕ → ℕ) (p : ℕ) (ns : List ℕ) → (m 0xfB + 256 * m 0xfC + 1) % 65536 ≡ p → is_data p ≡ true → Changes push_changes m0 (with_byte m p a) → Notes (with_byte m p a) ns → Comes f (view a x 1 n v i z c (PUSH_AT + 0x22) (lo ∷ hi ∷ []) m text answers) (Pushed lo hi m0 text answers ns) [] 2
   store_high a x n v i z c m p ns e d r h =
       let here = view a x 1 n v i z c (PUSH_AT + 0x22) (lo ∷ hi ∷ []) m text answers in
-      placing f 4 fits (ins 0x91 POINTER) here _ _ [] 1 refl (st _ _ refl, (st _ _ refl, tt)) (stores_at f.code 4 (ins 0x91 POINTER) here Sta IndirectY p refl refl refl refl (ap (λ a. Ok a) e) a d refl)
-      (ending f 4 fits notes_part st 0 (view a x 1 n v i z c (PUSH_AT + 0x24) (lo ∷ hi ∷ []) (with_byte m p a) text answers) _ refl
+      placing f 4 fits (ins 0x91 POINTER) here _ _ [] 1 refl (notes_in f.code block _ _ refl, (notes_in f.code block _ _ refl, tt)) (stores_at f.code 4 (ins 0x91 POINTER) here Sta IndirectY p refl refl refl refl (ap (λ a. Ok a) e) a d refl)
+      (ending f 4 fits notes_part (notes_in f.code block) 0 (view a x 1 n v i z c (PUSH_AT + 0x24) (lo ∷ hi ∷ []) (with_byte m p a) text answers) _ refl
       (record { back = record { at = refl; on_stack = refl; binary = refl; same_text = refl; same_answers = refl; others = r }; notes = h }))
 
   -- both bytes, at the place of a new note
@@ -91,9 +93,9 @@ module _ (f : Setup) (fits : Fits f 4) (st : Holds notes_part f.code) (lo hi : �
       let kept : m1 0xc063 ≡ h = put_other m p l 0xc063 (λ e. omega arith) in
       let p0 : m1 0xfB ≡ m 0xfB = put_other m p l 0xfB (λ e. omega arith) in
       let p1 : m1 0xfC ≡ m 0xfC = put_other m p l 0xfC (λ e. omega arith) in
-      after f 4 fits notes_part st 1 (view a x y n v i z c (PUSH_AT + 0x17) (lo ∷ hi ∷ []) m text answers) _ _ 5 refl
-      (placing f 4 fits (ins 0x91 POINTER) ready _ _ [] 4 refl (st _ _ refl, (st _ _ refl, tt)) (stores_at f.code 4 (ins 0x91 POINTER) ready Sta IndirectY p refl refl refl refl (ap (λ a. Ok a) (let e : (m 0xfB + 256 * m 0xfC + 0) % 65536 ≡ p = omega arith in e)) l (data_place p (omega arith) (omega arith)) refl)
-      (after f 4 fits notes_part st 1 (view l x 0 (eqb (l / 128 % 2) 1) v i (eqb l 0) c (PUSH_AT + 0x1E) (lo ∷ hi ∷ []) m1 text answers) _ _ 2 refl
+      after f 4 fits notes_part (notes_in f.code block) 1 (view a x y n v i z c (PUSH_AT + 0x17) (lo ∷ hi ∷ []) m text answers) _ _ 5 refl
+      (placing f 4 fits (ins 0x91 POINTER) ready _ _ [] 4 refl (notes_in f.code block _ _ refl, (notes_in f.code block _ _ refl, tt)) (stores_at f.code 4 (ins 0x91 POINTER) ready Sta IndirectY p refl refl refl refl (ap (λ a. Ok a) (let e : (m 0xfB + 256 * m 0xfC + 0) % 65536 ≡ p = omega arith in e)) l (data_place p (omega arith) (omega arith)) refl)
+      (after f 4 fits notes_part (notes_in f.code block) 1 (view l x 0 (eqb (l / 128 % 2) 1) v i (eqb l 0) c (PUSH_AT + 0x1E) (lo ∷ hi ∷ []) m1 text answers) _ _ 2 refl
       (rw kept (store_high h x _ _ _ _ _ m1 (p + 1) (word_in m LEFT ∷ ns) (omega arith) (data_place (p + 1) (omega arith) (omega arith))
       (changes_put push_changes m0 m1 (p + 1) h (list_place (p + 1) (omega arith) (omega arith)) (changes_put push_changes m0 m p l (list_place p (omega arith) (omega arith)) r))
       (record {
@@ -117,15 +119,15 @@ module _ (f : Setup) (fits : Fits f 4) (st : Holds notes_part f.code) (lo hi : �
       (λ over. let u = up_carry (m0 NOTES) (m0 0xc03D) (length ns) w.0 e small over in
       let t : eqb ((m0 NOTES + 1) % 256) 0 ≡ true = eq-eqb _ _ over in
       looser f _ _ _ [] (12 + (1 + 7)) 20 (omega arith) (λ w h. h)
-      (after f 4 fits notes_part st 11 (view a x y n v i z c (PUSH_AT + 0x0C) (lo ∷ hi ∷ []) m0 text answers) _ _ (1 + 7) refl
-      (rw t (after f 4 fits notes_part st 0 (view _ _ _ _ _ _ _ _ (PUSH_AT + 0x14) (lo ∷ hi ∷ []) (with_byte (with_byte (with_byte m0 POINTER (2 * m0 NOTES % 256)) 0xfC ((2 * m0 0xc03D % 256 + bit (eqb (m0 NOTES / 128 % 2) 1) + 193 + 0) % 256)) NOTES ((m0 NOTES + 1) % 256)) text answers) _ _ 7 refl
+      (after f 4 fits notes_part (notes_in f.code block) 11 (view a x y n v i z c (PUSH_AT + 0x0C) (lo ∷ hi ∷ []) m0 text answers) _ _ (1 + 7) refl
+      (rw t (after f 4 fits notes_part (notes_in f.code block) 0 (view _ _ _ _ _ _ _ _ (PUSH_AT + 0x14) (lo ∷ hi ∷ []) (with_byte (with_byte (with_byte m0 POINTER (2 * m0 NOTES % 256)) 0xfC ((2 * m0 0xc03D % 256 + bit (eqb (m0 NOTES / 128 % 2) 1) + 193 + 0) % 256)) NOTES ((m0 NOTES + 1) % 256)) text answers) _ _ 7 refl
       (store _ _ _ _ _ _ _ _ _ ns left p small (u.0, u.1) u.2
       (changes_put _ _ _ 0xc03D _ refl (changes_put _ _ _ NOTES _ refl (changes_put _ _ _ 0xfC _ refl (changes_put _ _ _ POINTER _ refl (λ a e. refl))))) h.held
       (changes_put _ _ _ 0xc03D _ refl (changes_put _ _ _ NOTES _ refl (changes_put _ _ _ 0xfC _ refl (changes_put _ _ _ POINTER _ refl (λ a e. refl))))))))))
       (λ under. let u = up_plain (m0 NOTES) (m0 0xc03D) (length ns) w.0 e small under in
       let t : eqb ((m0 NOTES + 1) % 256) 0 ≡ false = ne_eqb _ _ under in
       looser f _ _ _ [] (12 + 7) 20 (omega arith) (λ w h. h)
-      (after f 4 fits notes_part st 11 (view a x y n v i z c (PUSH_AT + 0x0C) (lo ∷ hi ∷ []) m0 text answers) _ _ 7 refl
+      (after f 4 fits notes_part (notes_in f.code block) 11 (view a x y n v i z c (PUSH_AT + 0x0C) (lo ∷ hi ∷ []) m0 text answers) _ _ 7 refl
       (rw t (store _ _ _ _ _ _ _ _ _ ns left p small (u.0, u.1) u.2
       (changes_put _ _ _ NOTES _ refl (changes_put _ _ _ 0xfC _ refl (changes_put _ _ _ POINTER _ refl (λ a e. refl)))) h.held
       (changes_put _ _ _ NOTES _ refl (changes_put _ _ _ 0xfC _ refl (changes_put _ _ _ POINTER _ refl (λ a e. refl))))))))
@@ -136,7 +138,7 @@ module _ (f : Setup) (fits : Fits f 4) (st : Holds notes_part f.code) (lo hi : �
       let w = h.is_word in
       let e = h.count in
       let room : nat_le (1 + bit (not (nat_le 244 (m0 NOTES)))) (m0 0xc03D) ≡ false = carry_below (m0 NOTES) (m0 0xc03D) 244 1 w.0 w.1 (omega arith) (omega arith) (omega arith) in
-      after f 4 fits notes_part st 4 (view a x y n v i z c PUSH_AT (lo ∷ hi ∷ []) m0 text answers) _ _ 20 refl
+      after f 4 fits notes_part (notes_in f.code block) 4 (view a x y n v i z c PUSH_AT (lo ∷ hi ∷ []) m0 text answers) _ _ 20 refl
       (rw room (bump _ _ _ _ _ _ _ _ ns left h small))
 
   push_full : (a x y : ℕ) (n v i z c : Bool) (ns : List ℕ) → Notes m0 ns → length ns ≡ 500 → Comes f (view a x y n v i z c PUSH_AT (lo ∷ hi ∷ []) m0 text answers) (Faulted 4 lo hi nothing m0 text answers) [] 7
@@ -144,8 +146,8 @@ module _ (f : Setup) (fits : Fits f 4) (st : Holds notes_part f.code) (lo hi : �
       let w = h.is_word in
       let e = h.count in
       let room : nat_le (1 + bit (not (nat_le 244 (m0 NOTES)))) (m0 0xc03D) ≡ true = carry_at_least (m0 NOTES) (m0 0xc03D) 244 1 w.0 w.1 (omega arith) (omega arith) (omega arith) in
-      after f 4 fits notes_part st 4 (view a x y n v i z c PUSH_AT (lo ∷ hi ∷ []) m0 text answers) _ _ 2 refl
-      (rw room (ending f 4 fits notes_part st 1 (view _ _ _ _ _ _ _ _ (PUSH_AT + 0x25) (lo ∷ hi ∷ []) m0 text answers) _ refl
+      after f 4 fits notes_part (notes_in f.code block) 4 (view a x y n v i z c PUSH_AT (lo ∷ hi ∷ []) m0 text answers) _ _ 2 refl
+      (rw room (ending f 4 fits notes_part (notes_in f.code block) 1 (view _ _ _ _ _ _ _ _ (PUSH_AT + 0x25) (lo ∷ hi ∷ []) m0 text answers) _ refl
       (record { ended = record { at = refl; on_stack = refl; binary = refl; same_text = refl; same_answers = refl; others = λ a e. refl }; told = refl })))
 
   -- ---- Pop
@@ -171,11 +173,11 @@ module _ (f : Setup) (fits : Fits f 4) (st : Holds notes_part f.code) (lo hi : �
       let e1 : (m4 0xfB + 256 * m4 0xfC + 1) % 65536 ≡ p + 1 = omega (arith, place, small) in
       let ready = view _ x 0 false _ i true _ (PUSH_AT + 0x4F) (lo ∷ hi ∷ []) m3 text answers in
       let second = view (m3 p) x 1 false _ i false _ (PUSH_AT + 0x55) (lo ∷ hi ∷ []) m4 text answers in
-      after f 4 fits notes_part st 11 (view a x y n v i z c (PUSH_AT + 0x47) (lo ∷ hi ∷ []) m text answers) _ _ 6 refl
-      (placing f 4 fits (ins 0xB1 POINTER) ready _ _ [] 5 refl (st _ _ refl, (st _ _ refl, tt)) (takes_at f.code 4 (ins 0xB1 POINTER) ready Lda IndirectY p refl refl refl refl (ap (λ a. Ok a) e0) (m3 p) _ (reads_data f.code m3 p (data_place p (omega arith) (omega arith))) refl)
-      (after f 4 fits notes_part st 1 (view (m3 p) x 0 _ _ i _ _ (PUSH_AT + 0x51) (lo ∷ hi ∷ []) m3 text answers) _ _ 3 refl
-      (placing f 4 fits (ins 0xB1 POINTER) second _ _ [] 2 refl (st _ _ refl, (st _ _ refl, tt)) (takes_at f.code 4 (ins 0xB1 POINTER) second Lda IndirectY (p + 1) refl refl refl refl (ap (λ a. Ok a) e1) (m4 (p + 1)) _ (reads_data f.code m4 (p + 1) (data_place (p + 1) (omega arith) (omega arith))) refl)
-      (ending f 4 fits notes_part st 1 (view (m4 (p + 1)) x 1 _ _ i _ _ (PUSH_AT + 0x57) (lo ∷ hi ∷ []) m4 text answers) _ refl
+      after f 4 fits notes_part (notes_in f.code block) 11 (view a x y n v i z c (PUSH_AT + 0x47) (lo ∷ hi ∷ []) m text answers) _ _ 6 refl
+      (placing f 4 fits (ins 0xB1 POINTER) ready _ _ [] 5 refl (notes_in f.code block _ _ refl, (notes_in f.code block _ _ refl, tt)) (takes_at f.code 4 (ins 0xB1 POINTER) ready Lda IndirectY p refl refl refl refl (ap (λ a. Ok a) e0) (m3 p) _ (reads_data f.code m3 p (data_place p (omega arith) (omega arith))) refl)
+      (after f 4 fits notes_part (notes_in f.code block) 1 (view (m3 p) x 0 _ _ i _ _ (PUSH_AT + 0x51) (lo ∷ hi ∷ []) m3 text answers) _ _ 3 refl
+      (placing f 4 fits (ins 0xB1 POINTER) second _ _ [] 2 refl (notes_in f.code block _ _ refl, (notes_in f.code block _ _ refl, tt)) (takes_at f.code 4 (ins 0xB1 POINTER) second Lda IndirectY (p + 1) refl refl refl refl (ap (λ a. Ok a) e1) (m4 (p + 1)) _ (reads_data f.code m4 (p + 1) (data_place (p + 1) (omega arith) (omega arith))) refl)
+      (ending f 4 fits notes_part (notes_in f.code block) 1 (view (m4 (p + 1)) x 1 _ _ i _ _ (PUSH_AT + 0x57) (lo ∷ hi ∷ []) m4 text answers) _ refl
       (record {
         back = record { at = refl; on_stack = refl; binary = refl; same_text = refl; same_answers = refl; others = changes_put _ _ _ 0xc067 _ refl (changes_put _ _ _ RESULT _ refl (changes_put _ _ _ 0xfC _ refl (changes_put _ _ _ POINTER _ refl (changes_put _ _ _ NOTES _ refl r)))) };
         is_word = (got.0, got.1);
@@ -191,14 +193,14 @@ module _ (f : Setup) (fits : Fits f 4) (st : Holds notes_part f.code) (lo hi : �
       ⊎_elim
       (λ none. let t : eqb (m0 NOTES) 0 ≡ true = eq-eqb _ _ none in
       let s : eqb (m0 0xc03D) 0 ≡ false = ne_eqb _ _ (λ x. omega arith) in
-      after f 4 fits notes_part st 1 (view a x y n v i z c POP_AT (lo ∷ hi ∷ []) m0 text answers) _ _ (2 + (1 + 18)) refl
-      (rw t (after f 4 fits notes_part st 1 (view _ _ _ _ _ _ _ _ (PUSH_AT + 0x3F) (lo ∷ hi ∷ []) m0 text answers) _ _ (1 + 18) refl
-      (rw s (after f 4 fits notes_part st 0 (view _ _ _ _ _ _ _ _ (PUSH_AT + 0x44) (lo ∷ hi ∷ []) m0 text answers) _ _ 18 refl
+      after f 4 fits notes_part (notes_in f.code block) 1 (view a x y n v i z c POP_AT (lo ∷ hi ∷ []) m0 text answers) _ _ (2 + (1 + 18)) refl
+      (rw t (after f 4 fits notes_part (notes_in f.code block) 1 (view _ _ _ _ _ _ _ _ (PUSH_AT + 0x3F) (lo ∷ hi ∷ []) m0 text answers) _ _ (1 + 18) refl
+      (rw s (after f 4 fits notes_part (notes_in f.code block) 0 (view _ _ _ _ _ _ _ _ (PUSH_AT + 0x44) (lo ∷ hi ∷ []) m0 text answers) _ _ 18 refl
       (pop_low _ _ _ _ _ _ _ _ (with_byte m0 0xc03D ((m0 0xc03D + 255) % 256)) n1 ns (omega arith) (omega arith) (omega arith)
       (changes_put _ _ _ 0xc03D _ refl (λ a e. refl)) h.held (changes_put _ _ _ 0xc03D _ refl (λ a e. refl))))))))
       (λ some. let t : eqb (m0 NOTES) 0 ≡ false = ne_eqb _ _ some in
       looser f _ _ _ [] (2 + 18) 23 (omega arith) (λ w h. h)
-      (after f 4 fits notes_part st 1 (view a x y n v i z c POP_AT (lo ∷ hi ∷ []) m0 text answers) _ _ 18 refl
+      (after f 4 fits notes_part (notes_in f.code block) 1 (view a x y n v i z c POP_AT (lo ∷ hi ∷ []) m0 text answers) _ _ 18 refl
       (rw t (pop_low _ _ _ _ _ _ _ _ m0 n1 ns w.1 (omega arith) (omega arith) (λ a e. refl) h.held (λ a e. refl)))))
       (cases_eq (m0 NOTES) 0)
 
@@ -207,19 +209,19 @@ module _ (f : Setup) (fits : Fits f 4) (st : Holds notes_part f.code) (lo hi : �
       let e = h.count in
       let t : eqb (m0 NOTES) 0 ≡ true = eq-eqb _ _ (omega arith) in
       let s : eqb (m0 0xc03D) 0 ≡ true = eq-eqb _ _ (omega arith) in
-      after f 4 fits notes_part st 1 (view a x y n v i z c POP_AT (lo ∷ hi ∷ []) m0 text answers) _ _ (2 + 2) refl
-      (rw t (after f 4 fits notes_part st 1 (view _ _ _ _ _ _ _ _ (PUSH_AT + 0x3F) (lo ∷ hi ∷ []) m0 text answers) _ _ 2 refl
-      (rw s (ending f 4 fits notes_part st 1 (view _ _ _ _ _ _ _ _ (PUSH_AT + 0x5B) (lo ∷ hi ∷ []) m0 text answers) _ refl
+      after f 4 fits notes_part (notes_in f.code block) 1 (view a x y n v i z c POP_AT (lo ∷ hi ∷ []) m0 text answers) _ _ (2 + 2) refl
+      (rw t (after f 4 fits notes_part (notes_in f.code block) 1 (view _ _ _ _ _ _ _ _ (PUSH_AT + 0x3F) (lo ∷ hi ∷ []) m0 text answers) _ _ 2 refl
+      (rw s (ending f 4 fits notes_part (notes_in f.code block) 1 (view _ _ _ _ _ _ _ _ (PUSH_AT + 0x5B) (lo ∷ hi ∷ []) m0 text answers) _ refl
       (record { ended = record { at = refl; on_stack = refl; binary = refl; same_text = refl; same_answers = refl; others = λ a e. refl }; told = refl })))))
 
 pub push_law : PushLaw
-push_law f fits st lo hi text answers m a x y n v i z c notes left h small = push_whole f fits st lo hi text answers m a x y n v i z c notes left h small
+push_law f fits block lo hi text answers m a x y n v i z c notes left h small = push_whole f fits block lo hi text answers m a x y n v i z c notes left h small
 
 pub push_full_law : PushFullLaw
-push_full_law f fits st lo hi text answers m a x y n v i z c notes h full = push_full f fits st lo hi text answers m a x y n v i z c notes h full
+push_full_law f fits block lo hi text answers m a x y n v i z c notes h full = push_full f fits block lo hi text answers m a x y n v i z c notes h full
 
 pub pop_law : PopLaw
-pop_law f fits st lo hi text answers m a x y n v i z c note notes h = pop_whole f fits st lo hi text answers m a x y n v i z c note notes h
+pop_law f fits block lo hi text answers m a x y n v i z c note notes h = pop_whole f fits block lo hi text answers m a x y n v i z c note notes h
 
 pub pop_none_law : PopNoneLaw
-pop_none_law f fits st lo hi text answers m a x y n v i z c h = pop_none f fits st lo hi text answers m a x y n v i z c h
+pop_none_law f fits block lo hi text answers m a x y n v i z c h = pop_none f fits block lo hi text answers m a x y n v i z c h

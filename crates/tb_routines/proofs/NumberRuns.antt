@@ -8,8 +8,9 @@ use Rattle.tb_reaching.proofs.Comes.{after, ending, looser}
 use Rattle.tb_reaching.proofs.Calls.{under}
 use Rattle.tb_words.specs.Words.{is_negative, magnitude, negated, digits_before, digits_of}
 use Rattle.tb_runtime16.specs.Places.{SEND_AT, NUMBER_AT, COLUMN, LEFT, RIGHT, RESULT}
-use Rattle.tb_routines.specs.Parts.{send_part, divide_part, number_part}
+use Rattle.tb_routines.specs.Block.{block_part}
 use Rattle.tb_routines.specs.Laws.{is_argument, negate_left_at, IsWord, Leaves, Back, Parted, NumberLaw}
+use Rattle.tb_routines.proofs.Within.{number_part, number_in}
 use Rattle.tb_routines.proofs.Words.{sign_of, sign_small, sign_none, magnitude_negative}
 use Rattle.tb_routines.proofs.Frames.{skip}
 use Rattle.tb_routines.proofs.Called.{above, calls, back_looser}
@@ -26,9 +27,9 @@ byte_column : (t : Bool) (c : ℕ) → (if t then 0 else c + 1) % 256 ≡ (if t 
 byte_column true c = refl
 byte_column false c = refl
 
-send_works : (g : Setup) → Holds send_part g.code → Fits g 4 → (lo hi : ℕ) (text answers : List ℕ) (m : ℕ → ℕ) (a x y : ℕ) (n v i z c : Bool) → a < 256 → m COLUMN < 256 → Comes g (view a x y n v i z c SEND_AT (lo ∷ hi ∷ []) m text answers) (Back lo hi text answers (Counted m a)) (a ∷ []) 8
-send_works g st fits lo hi text answers m a x y n v i z c small w =
-    back_looser g _ lo hi text answers _ _ (a ∷ []) 7 8 (omega arith) (send_law g (omega (arith, fits)) st lo hi text answers m a x y n v i z c small)
+send_works : (g : Setup) → Holds block_part g.code → Fits g 4 → (lo hi : ℕ) (text answers : List ℕ) (m : ℕ → ℕ) (a x y : ℕ) (n v i z c : Bool) → a < 256 → m COLUMN < 256 → Comes g (view a x y n v i z c SEND_AT (lo ∷ hi ∷ []) m text answers) (Back lo hi text answers (Counted m a)) (a ∷ []) 8
+send_works g block fits lo hi text answers m a x y n v i z c small w =
+    back_looser g _ lo hi text answers _ _ (a ∷ []) 7 8 (omega arith) (send_law g (omega (arith, fits)) block lo hi text answers m a x y n v i z c small)
     (λ u h. record { column = h.column ∙ byte_column (eqb a 13) (m COLUMN); others = h.others })
 
 -- decimal digits_of as bytes
@@ -49,7 +50,7 @@ high_column e = omega (arith, e)
 one_later : (c d l : ℕ) → d ≡ (c + 1) % 256 → (d + l) % 256 ≡ (c + suc l) % 256
 one_later c d l e = omega arith
 
-module _ (f : Setup) (fits : Fits f 11) (st : Holds number_part f.code) (sd : Holds divide_part f.code) (send : Holds send_part f.code) (lo hi : ℕ) (text answers : List ℕ) (m0 : ℕ → ℕ) where
+module _ (f : Setup) (fits : Fits f 11) (block : Holds block_part f.code) (lo hi : ℕ) (text answers : List ℕ) (m0 : ℕ → ℕ) where
   -- the stack under the digits_of
   abbrev base : List ℕ
   base = 0 ∷ lo ∷ hi ∷ []
@@ -70,7 +71,7 @@ module _ (f : Setup) (fits : Fits f 11) (st : Holds number_part f.code) (sd : Ho
 
   emit_none : Emit []
   unfolding Emit
-  emit_none a x y n v i z c m col d l r w e = ending f 11 fits number_part st 2 (view a x y n v i z c (NUMBER_AT + 44) (0 ∷ lo ∷ hi ∷ []) m text answers) _ refl
+  emit_none a x y n v i z c m col d l r w e = ending f 11 fits number_part (number_in f.code block) 2 (view a x y n v i z c (NUMBER_AT + 44) (0 ∷ lo ∷ hi ∷ []) m text answers) _ refl
       (record { pc = refl; stack_is = refl; binary = refl; same_text = refl; same_answers = refl; memory = (omega (arith, w, e), r) })
 
   -- one byte, above what is left
@@ -79,11 +80,11 @@ module _ (f : Setup) (fits : Fits f 11) (st : Holds number_part f.code) (sd : Ho
       let some : eqb d 0 ≡ false = ne_eqb _ _ (λ e. omega arith) in
       let g = under f (ds ++ base) in
       let room = fits_above ds l in
-      after g 4 room number_part st 1 (view a x y n v i z c (NUMBER_AT + 44) (d ∷ []) m text answers) _ _ (1 + (8 + 1)) refl
-      (rw some (after g 4 room number_part st 0 (view d x y _ v i _ c (NUMBER_AT + 47) [] m text answers) _ _ (8 + 1) refl
+      after g 4 room number_part (number_in f.code block) 1 (view a x y n v i z c (NUMBER_AT + 44) (d ∷ []) m text answers) _ _ (1 + (8 + 1)) refl
+      (rw some (after g 4 room number_part (number_in f.code block) 0 (view d x y _ v i _ c (NUMBER_AT + 47) [] m text answers) _ _ (8 + 1) refl
       (calls g [] d x y _ v i _ c SEND_AT ((NUMBER_AT + 49) % 256) ((NUMBER_AT + 49) / 256) m text answers _ _ (d ∷ []) [] 8 1
-      (send_works g send room ((NUMBER_AT + 49) % 256) ((NUMBER_AT + 49) / 256) text answers m d x y _ v i _ c (omega arith) w)
-      (λ a x y n v i z c w h. ending g 4 room number_part st 0 (view a x y n v i z c (NUMBER_AT + 50) [] w text answers) _ refl
+      (send_works g block room ((NUMBER_AT + 49) % 256) ((NUMBER_AT + 49) / 256) text answers m d x y _ v i _ c (omega arith) w)
+      (λ a x y n v i z c w h. ending g 4 room number_part (number_in f.code block) 0 (view a x y n v i z c (NUMBER_AT + 50) [] w text answers) _ refl
       (record { pc = refl; stack_is = refl; binary = refl; same_text = refl; same_answers = refl; memory = h })))))
 
   emit : (ds : List ℕ) → Emit ds
@@ -115,12 +116,12 @@ module _ (f : Setup) (fits : Fits f 11) (st : Holds number_part f.code) (sd : Ho
       ⊎_elim
       (λ none. let b : eqb (m LEFT) 0 ≡ true = eq-eqb _ _ none in
       let b' : eqb (m 0xc063) 0 ≡ false = ne_eqb _ _ (λ h. omega (arith, none, h, some)) in
-      after g 4 room number_part st 5 (view a x y n v i z c (NUMBER_AT + 27) [] m text answers) _ _ 2 refl
-      (rw b (ending g 4 room number_part st 1 (view _ _ _ _ _ _ _ _ (NUMBER_AT + 39) ((m RESULT + 48 + 0) % 256 ∷ []) m text answers) _ refl
+      after g 4 room number_part (number_in f.code block) 5 (view a x y n v i z c (NUMBER_AT + 27) [] m text answers) _ _ 2 refl
+      (rw b (ending g 4 room number_part (number_in f.code block) 1 (view _ _ _ _ _ _ _ _ (NUMBER_AT + 39) ((m RESULT + 48 + 0) % 256 ∷ []) m text answers) _ refl
       (rw b' (record { pc = refl; stack_is = ap (λ d. d ∷ []) d; binary = refl; same_text = refl; same_answers = refl; memory = λ a. refl })))))
       (λ any. let b : eqb (m LEFT) 0 ≡ false = ne_eqb _ _ any in
       looser g _ _ _ [] 6 8 (omega arith) (λ w h. h)
-      (ending g 4 room number_part st 5 (view a x y n v i z c (NUMBER_AT + 27) [] m text answers) _ refl
+      (ending g 4 room number_part (number_in f.code block) 5 (view a x y n v i z c (NUMBER_AT + 27) [] m text answers) _ refl
       (rw b (record { pc = refl; stack_is = ap (λ d. d ∷ []) d; binary = refl; same_text = refl; same_answers = refl; memory = λ a. refl }))))
       (cases_eq (m LEFT) 0)
 
@@ -132,8 +133,8 @@ module _ (f : Setup) (fits : Fits f 11) (st : Holds number_part f.code) (sd : Ho
       let d : (m RESULT + 48 + 0) % 256 ≡ 48 + r = ap (λ r. (r + 48 + 0) % 256) e ∙ digit_is r small in
       let b : eqb (m LEFT) 0 ≡ true = eq-eqb _ _ (omega (arith, none)) in
       let b' : eqb (m 0xc063) 0 ≡ true = eq-eqb _ _ (omega (arith, none)) in
-      after g 4 room number_part st 5 (view a x y n v i z c (NUMBER_AT + 27) [] m text answers) _ _ 2 refl
-      (rw b (ending g 4 room number_part st 1 (view _ _ _ _ _ _ _ _ (NUMBER_AT + 39) ((m RESULT + 48 + 0) % 256 ∷ []) m text answers) _ refl
+      after g 4 room number_part (number_in f.code block) 5 (view a x y n v i z c (NUMBER_AT + 27) [] m text answers) _ _ 2 refl
+      (rw b (ending g 4 room number_part (number_in f.code block) 1 (view _ _ _ _ _ _ _ _ (NUMBER_AT + 39) ((m RESULT + 48 + 0) % 256 ∷ []) m text answers) _ refl
       (rw b' (record { pc = refl; stack_is = ap (λ d. d ∷ []) d; binary = refl; same_text = refl; same_answers = refl; memory = λ a. refl }))))
 
   -- what stands before each division
@@ -155,9 +156,9 @@ module _ (f : Setup) (fits : Fits f 11) (st : Holds number_part f.code) (sd : Ho
       let g = under f (ds ++ base) in
       let room = fits_above ds l in
       let ten_is : word_in m RIGHT ≡ 10 = omega (arith, h.low, h.high) in
-      after g 4 room number_part st 0 (view a x y n v i z c (NUMBER_AT + 24) [] m text answers) _ _ 261 refl
+      after g 4 room number_part (number_in f.code block) 0 (view a x y n v i z c (NUMBER_AT + 24) [] m text answers) _ _ 261 refl
       (back_looser g _ ((NUMBER_AT + 26) % 256) ((NUMBER_AT + 26) / 256) text answers _ _ [] 261 261 (omega arith)
-      (unsigned_law g (omega (arith, room)) sd ((NUMBER_AT + 26) % 256) ((NUMBER_AT + 26) / 256) text answers m a x y n v i z c h.left (omega (arith, h.low), omega (arith, h.high)) (omega (arith, ten_is)) (omega (arith, ten_is)))
+      (unsigned_law g (omega (arith, room)) block ((NUMBER_AT + 26) % 256) ((NUMBER_AT + 26) / 256) text answers m a x y n v i z c h.left (omega (arith, h.low), omega (arith, h.high)) (omega (arith, ten_is)) (omega (arith, ten_is)))
       (λ u p. record { left_is = p.left_is; left = p.left ∙ ap (λ d. word_in m LEFT / d) ten_is ∙ ap (λ n. n / 10) h.is; result_is = p.result_is; result = p.result ∙ ap (λ d. word_in m LEFT % d) ten_is ∙ ap (λ n. n % 10) h.is; right_low = p.right_low; right_high = p.right_high; others = p.others }))
 
   column_free : is_argument COLUMN ≡ false
@@ -216,7 +217,7 @@ module _ (f : Setup) (fits : Fits f 11) (st : Holds number_part f.code) (sd : Ho
   plain : (a x y : ℕ) (n v i z c : Bool) (m : ℕ → ℕ) (w col : ℕ) → IsWord m LEFT → word_in m LEFT ≡ w → w ≤ 32768 → Rest m → m COLUMN < 256 → (m COLUMN + length (digits_before 5 w [])) % 256 ≡ col → Comes f (view a x y n v i z c (NUMBER_AT + 13) (lo ∷ hi ∷ []) m text answers) (Back lo hi text answers (Done col)) (digits_before 5 w []) (5 + (270 * 5 + 63))
   unfolding Rest Find
   plain a x y n v i z c m w col p e small r q l =
-      after f 11 fits number_part st 4 (view a x y n v i z c (NUMBER_AT + 13) (lo ∷ hi ∷ []) m text answers) _ _ (270 * 5 + 63) refl
+      after f 11 fits number_part (number_in f.code block) 4 (view a x y n v i z c (NUMBER_AT + 13) (lo ∷ hi ∷ []) m text answers) _ _ (270 * 5 + 63) refl
       (find 4 _ _ _ _ _ _ _ _ (with_byte (with_byte m RIGHT 10) 0xc065 0) [] w col
       (record { shown = tt; left = p; is = e; low = refl; high = refl; others = λ a b d. skip is_argument (with_byte m RIGHT 10) 0xc065 0 a refl b ∙ skip is_argument m RIGHT 10 a refl b ∙ r a b d; column = q })
       (omega (arith, small)) refl l)
@@ -230,17 +231,17 @@ module _ (f : Setup) (fits : Fits f 11) (st : Holds number_part f.code) (sd : Ho
       let wide : w < 65536 = omega (arith, p) in
       let size : negated w ≡ magnitude w = (let s : negated w ≡ 65536 - w = omega (arith, big, wide) in s) ∙ sym (magnitude_negative w t) in
       let few : magnitude w ≤ 32768 = subst (λ s. s ≤ 32768) size (let s : negated w ≤ 32768 = omega (arith, big, wide) in s) in
-      after f 11 fits number_part st 0 (view a x y n v i z c (NUMBER_AT + 10) (lo ∷ hi ∷ []) m text answers) _ _ (9 + (5 + (270 * 5 + 63))) refl
+      after f 11 fits number_part (number_in f.code block) 0 (view a x y n v i z c (NUMBER_AT + 10) (lo ∷ hi ∷ []) m text answers) _ _ (9 + (5 + (270 * 5 + 63))) refl
       (calls f (lo ∷ hi ∷ []) a x y n v i z c negate_left_at ((NUMBER_AT + 12) % 256) ((NUMBER_AT + 12) / 256) m text answers _ _ [] _ 9 (5 + (270 * 5 + 63))
-      (negate_left (under f (lo ∷ hi ∷ [])) (omega (arith, fits)) sd ((NUMBER_AT + 12) % 256) ((NUMBER_AT + 12) / 256) text answers a x y n v i z c m m w p refl (λ a e. refl))
+      (negate_left (under f (lo ∷ hi ∷ [])) (omega (arith, fits)) block ((NUMBER_AT + 12) % 256) ((NUMBER_AT + 12) / 256) text answers a x y n v i z c m m w p refl (λ a e. refl))
       (λ a x y n v i z c u g. plain a x y n v i z c u (magnitude w) col g.is_word (g.value ∙ size) few (λ a b d. g.others a b ∙ r a b d) (omega (arith, g.others COLUMN refl, q)) (ap (λ c. (c + length (digits_before 5 (magnitude w) [])) % 256) (g.others COLUMN refl) ∙ l)))
 
   minus : (a x y : ℕ) (n v i z c : Bool) (m : ℕ → ℕ) (col : ℕ) → IsWord m LEFT → is_negative (word_in m LEFT) ≡ true → Rest m → m COLUMN < 256 → (m COLUMN + length (45 ∷ digits_before 5 (magnitude (word_in m LEFT)) [])) % 256 ≡ col → Comes f (view a x y n v i z c (NUMBER_AT + 5) (lo ∷ hi ∷ []) m text answers) (Back lo hi text answers (Done col)) (45 ∷ digits_before 5 (magnitude (word_in m LEFT)) []) (2 + (8 + (1 + (9 + (5 + (270 * 5 + 63))))))
   unfolding Rest
   minus a x y n v i z c m col p t r q l =
-      after f 11 fits number_part st 1 (view a x y n v i z c (NUMBER_AT + 5) (lo ∷ hi ∷ []) m text answers) _ _ (8 + (1 + (9 + (5 + (270 * 5 + 63))))) refl
+      after f 11 fits number_part (number_in f.code block) 1 (view a x y n v i z c (NUMBER_AT + 5) (lo ∷ hi ∷ []) m text answers) _ _ (8 + (1 + (9 + (5 + (270 * 5 + 63))))) refl
       (calls f (lo ∷ hi ∷ []) 45 x y _ v i _ c SEND_AT ((NUMBER_AT + 9) % 256) ((NUMBER_AT + 9) / 256) m text answers _ _ (45 ∷ []) _ 8 (1 + (9 + (5 + (270 * 5 + 63))))
-      (send_works (under f (lo ∷ hi ∷ [])) send (omega (arith, fits)) ((NUMBER_AT + 9) % 256) ((NUMBER_AT + 9) / 256) text answers m 45 x y _ v i _ c (omega arith) q)
+      (send_works (under f (lo ∷ hi ∷ [])) block (omega (arith, fits)) ((NUMBER_AT + 9) % 256) ((NUMBER_AT + 9) / 256) text answers m 45 x y _ v i _ c (omega arith) q)
       (λ a x y n v i z c u g.
       let low = g.others LEFT left_column in
       let high = g.others 0xc063 high_column in
@@ -259,19 +260,19 @@ module _ (f : Setup) (fits : Fits f 11) (st : Holds number_part f.code) (sd : Ho
       let d : digits_of w ≡ 45 ∷ digits_before 5 (magnitude w) [] = ap (λ b. if b then 45 ∷ digits_before 5 (magnitude w) [] else digits_before 5 w []) t in
       subst (λ d. Comes f (view a x y n v i z c NUMBER_AT (lo ∷ hi ∷ []) m0 text answers) (Back lo hi text answers (Done ((m0 COLUMN + length d) % 256))) d 1440) (sym d)
       (looser f _ _ _ _ (2 + (2 + (8 + (1 + (9 + (5 + (270 * 5 + 63))))))) 1440 (omega arith) (λ w h. h)
-      (after f 11 fits number_part st 1 (view a x y n v i z c NUMBER_AT (lo ∷ hi ∷ []) m0 text answers) _ _ (2 + (8 + (1 + (9 + (5 + (270 * 5 + 63)))))) refl
+      (after f 11 fits number_part (number_in f.code block) 1 (view a x y n v i z c NUMBER_AT (lo ∷ hi ∷ []) m0 text answers) _ _ (2 + (8 + (1 + (9 + (5 + (270 * 5 + 63)))))) refl
       (rw b (minus _ _ _ _ _ _ _ _ m0 _ p t (λ a b d. refl) q refl)))))
       (λ t. let b : eqb (m0 0xc063 / 128 % 2) 1 ≡ false = s ∙ t in
       let below = sign_none w t in
       let d : digits_of w ≡ digits_before 5 w [] = ap (λ b. if b then 45 ∷ digits_before 5 (magnitude w) [] else digits_before 5 w []) t in
       subst (λ d. Comes f (view a x y n v i z c NUMBER_AT (lo ∷ hi ∷ []) m0 text answers) (Back lo hi text answers (Done ((m0 COLUMN + length d) % 256))) d 1440) (sym d)
       (looser f _ _ _ _ (2 + (5 + (270 * 5 + 63))) 1440 (omega arith) (λ w h. h)
-      (after f 11 fits number_part st 1 (view a x y n v i z c NUMBER_AT (lo ∷ hi ∷ []) m0 text answers) _ _ (5 + (270 * 5 + 63)) refl
+      (after f 11 fits number_part (number_in f.code block) 1 (view a x y n v i z c NUMBER_AT (lo ∷ hi ∷ []) m0 text answers) _ _ (5 + (270 * 5 + 63)) refl
       (rw b (plain _ _ _ _ _ _ _ _ m0 w _ p refl (omega (arith, below)) (λ a b d. refl) q refl)))))
       (sign_case (is_negative w))
 
 pub number_law : NumberLaw
 unfolding Rest
-number_law f fits st sd send lo hi text answers m a x y n v i z c p w =
-    back_looser f _ lo hi text answers _ _ _ 1440 1440 (omega arith) (whole f fits st sd send lo hi text answers m a x y n v i z c p w)
+number_law f fits block lo hi text answers m a x y n v i z c p w =
+    back_looser f _ lo hi text answers _ _ _ 1440 1440 (omega arith) (whole f fits block lo hi text answers m a x y n v i z c p w)
     (λ u h. record { column = h.0; others = h.1 })

@@ -12,8 +12,8 @@ use Rattle.tb_reaching.proofs.Comes.{after, ending}
 use Rattle.tb_reaching.proofs.Special.{taking_s}
 use Rattle.tb_reaching.proofs.Start.{length_from, fits_start, homed_start, zero_at}
 use Rattle.tb_runtime16.specs.Places.{HOME_S}
-use Rattle.tb_routines.specs.Parts.{prologue_part}
 use Rattle.tb_routines.specs.Ends.{Begun, PrologueLaw}
+use Rattle.tb_routines.proofs.Within.{prologue_part, prologue_in}
 
 inside : (lo hi a : ℕ) → within lo hi a ≡ true → (lo ≤ a) × (a ≤ hi)
 inside lo hi a h = (grind (arith, nat_tests), grind (arith, nat_tests))
@@ -31,16 +31,16 @@ cleared_small zero m h = h
 cleared_small (suc n) m h = cleared_small n (with_byte m (0xc000 + n) 0) (put_small m (0xc000 + n) 0 (omega arith) h)
 
 pub prologue_law : PrologueLaw
-prologue_law place bytes from to inner holds st s h =
+prologue_law place bytes from to inner holds block s h =
     let f = setup_of inner (part_at place bytes) s in
     let fits = fits_start place bytes from to inner holds s h in
     let v = view_of s in
     let w = the v (run_view prologue_part 18 189 v) in
     let last = with_byte w.mem HOME_S s.regs.s in
     let size = length_from s.mem (0x0101 + s.regs.s + 1 + 1) (253 - s.regs.s) in
-    after f 18 fits prologue_part st 188 v (Begun f s) [] (1 + 2) refl
-    (taking_s f 18 fits w s.regs.s (Begun f s) [] 2 (st _ _ refl) refl (omega (arith, size, h.s_to))
-    (ending f 18 fits prologue_part st 1 _ (Begun f s) refl
+    after f 18 fits prologue_part (prologue_in inner block) 188 v (Begun f s) [] (1 + 2) refl
+    (taking_s f 18 fits w s.regs.s (Begun f s) [] 2 (prologue_in inner block _ _ refl) refl (omega (arith, size, h.s_to))
+    (ending f 18 fits prologue_part (prologue_in inner block) 1 _ (Begun f s) refl
     (record {
       pc = refl;
       stack = refl;

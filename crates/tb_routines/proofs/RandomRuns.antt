@@ -11,8 +11,9 @@ use Rattle.tb_reaching.proofs.Comes.{after, ending, looser}
 use Rattle.tb_reaching.proofs.Calls.{under}
 use Rattle.tb_words.specs.Words.{seed_after}
 use Rattle.tb_runtime16.specs.Places.{MULTIPLY_AT, RANDOM_AT, LEFT, RIGHT, RESULT, SEED, SEEDED, SCRATCH}
-use Rattle.tb_routines.specs.Parts.{multiply_part, divide_part, random_part}
+use Rattle.tb_routines.specs.Block.{block_part}
 use Rattle.tb_routines.specs.Laws.{is_argument, is_seed, unsigned_at, IsWord, Back, Faults, Drawn, seed_of, RandomLaw, RandomRangeLaw}
+use Rattle.tb_routines.proofs.Within.{random_part, random_in}
 use Rattle.tb_routines.proofs.Words.{added}
 use Rattle.tb_routines.proofs.Frames.{skip}
 use Rattle.tb_routines.proofs.Called.{calls, back_looser}
@@ -23,7 +24,7 @@ neither : (b c : Bool) → b ≡ false → c ≡ false → (b || c) ≡ false
 neither true c p q = p
 neither false c p q = q
 
-module _ (f : Setup) (fits : Fits f 6) (st : Holds random_part f.code) (sd : Holds divide_part f.code) (multiply : Holds multiply_part f.code) (lo hi : ℕ) (text answers : List ℕ) (m0 : ℕ → ℕ) (p : IsWord m0 LEFT) (least : 1 ≤ word_in m0 LEFT) (most : word_in m0 LEFT < 32768) where
+module _ (f : Setup) (fits : Fits f 6) (block : Holds block_part f.code) (lo hi : ℕ) (text answers : List ℕ) (m0 : ℕ → ℕ) (p : IsWord m0 LEFT) (least : 1 ≤ word_in m0 LEFT) (most : word_in m0 LEFT < 32768) where
   Rest : (ℕ → ℕ) → Type 0
   Rest m = (a : ℕ) → is_argument a ≡ false → (a == SCRATCH) ≡ false → is_seed a ≡ false → m a ≡ m0 a
 
@@ -36,7 +37,7 @@ module _ (f : Setup) (fits : Fits f 6) (st : Holds random_part f.code) (sd : Hol
   draw a x y n v i z c m seed l le low high s se set r =
       let same : word_in m RIGHT ≡ word_in m0 LEFT = omega (arith, low, high) in
       back_looser f _ lo hi text answers _ _ [] 261 261 (omega arith)
-      (unsigned_law f (omega (arith, fits)) sd lo hi text answers m a x y n v i z c l (omega (arith, low, p), omega (arith, high, p)) (omega (arith, same, least)) (omega (arith, same, most)))
+      (unsigned_law f (omega (arith, fits)) block lo hi text answers m a x y n v i z c l (omega (arith, low, p), omega (arith, high, p)) (omega (arith, same, least)) (omega (arith, same, most)))
       (λ w g. record {
         is_word = g.result_is;
         value = g.result ∙ ap (λ n. n % word_in m RIGHT) le ∙ ap (λ d. seed_after seed % d) same;
@@ -61,7 +62,7 @@ module _ (f : Setup) (fits : Fits f 6) (st : Holds random_part f.code) (sd : Hol
   store a x y n v i z c w seed k e set r =
       let s = added (w RESULT) (w 0xc067) 25 54 k.0 k.1 (omega arith) (omega arith) in
       let total : new_low (w RESULT) + 256 * new_high (w RESULT) (w 0xc067) ≡ seed_after seed = s ∙ ap (λ x. (x + 13849) % 65536) e ∙ mod-add-mod (25173 * seed) 65536 13849 in
-      after f 6 fits random_part st 13 (view a x y n v i z c (RANDOM_AT + 60) (m0 0xc063 ∷ m0 LEFT ∷ lo ∷ hi ∷ []) w text answers) _ _ 261 refl
+      after f 6 fits random_part (random_in f.code block) 13 (view a x y n v i z c (RANDOM_AT + 60) (m0 0xc063 ∷ m0 LEFT ∷ lo ∷ hi ∷ []) w text answers) _ _ 261 refl
       (draw _ _ _ _ _ _ _ _ (with_byte (with_byte (stored w) 0xc065 (m0 0xc063)) RIGHT (m0 LEFT)) seed (byte_of (w RESULT + 25 + 0), byte_of (w 0xc067 + 54 + bit (nat_lt 255 (w RESULT + 25 + 0)))) total refl refl (byte_of (w RESULT + 25 + 0), byte_of (w 0xc067 + 54 + bit (nat_lt 255 (w RESULT + 25 + 0)))) total set
       (λ a b d e'. skip is_argument (with_byte (stored w) 0xc065 (m0 0xc063)) RIGHT (m0 LEFT) a refl b ∙ skip is_argument (stored w) 0xc065 (m0 0xc063) a refl b ∙ stored_skip w a b e' ∙ r a b d e'))
     where
@@ -77,9 +78,9 @@ module _ (f : Setup) (fits : Fits f 6) (st : Holds random_part f.code) (sd : Hol
   unfolding Rest
   advance a x y n v i z c m seed low high k e r =
       let w = with_byte (with_byte (with_byte m SEEDED 1) LEFT 85) 0xc063 98 in
-      after f 6 fits random_part st 10 (view a x y n v i z c (RANDOM_AT + 34) (lo ∷ hi ∷ []) m text answers) _ _ (240 + (14 + 261)) refl
+      after f 6 fits random_part (random_in f.code block) 10 (view a x y n v i z c (RANDOM_AT + 34) (lo ∷ hi ∷ []) m text answers) _ _ (240 + (14 + 261)) refl
       (calls f (m 0xc063 ∷ m LEFT ∷ lo ∷ hi ∷ []) _ _ _ _ _ _ _ _ MULTIPLY_AT ((RANDOM_AT + 59) % 256) ((RANDOM_AT + 59) / 256) w text answers _ _ [] [] 240 (14 + 261)
-      (multiply_law (under f (m 0xc063 ∷ m LEFT ∷ lo ∷ hi ∷ [])) (omega (arith, fits)) multiply ((RANDOM_AT + 59) % 256) ((RANDOM_AT + 59) / 256) text answers w _ _ _ _ _ _ _ _ (omega arith, omega arith) k)
+      (multiply_law (under f (m 0xc063 ∷ m LEFT ∷ lo ∷ hi ∷ [])) (omega (arith, fits)) block ((RANDOM_AT + 59) % 256) ((RANDOM_AT + 59) / 256) text answers w _ _ _ _ _ _ _ _ (omega arith, omega arith) k)
       (λ a x y n v i z c u g. subst (λ s. Goal seed (view a x y n v i z c (RANDOM_AT + 60) s u text answers) (14 + 261)) (ap (λ h. h ∷ m0 LEFT ∷ lo ∷ hi ∷ []) (sym high) ∙ ap (λ l. m 0xc063 ∷ l ∷ lo ∷ hi ∷ []) (sym low))
       (store a x y n v i z c u seed g.is_word (g.value ∙ ap (λ s. 25173 * s % 65536) e) (g.others SEEDED refl)
       (λ a b d e. g.others a (neither (is_argument a) (a == SCRATCH) b d) ∙ skip is_argument (with_byte (with_byte m SEEDED 1) LEFT 85) 0xc063 98 a refl b ∙ skip is_argument (with_byte m SEEDED 1) LEFT 85 a refl b ∙ skip is_seed m SEEDED 1 a refl e ∙ r a b d e))))
@@ -91,11 +92,11 @@ module _ (f : Setup) (fits : Fits f 6) (st : Holds random_part f.code) (sd : Hol
       ⊎_elim
       (λ none. let b : eqb (m0 SEEDED) 0 ≡ true = eq-eqb _ _ none in
       looser f _ _ _ [] (2 + (11 + (240 + (14 + 261)))) (2 + (4 + (11 + (240 + (14 + 261))))) (omega arith) (λ w h. h)
-      (after f 6 fits random_part st 1 (view a x y n v i z c (RANDOM_AT + 17) (lo ∷ hi ∷ []) m0 text answers) _ _ (11 + (240 + (14 + 261))) refl
+      (after f 6 fits random_part (random_in f.code block) 1 (view a x y n v i z c (RANDOM_AT + 17) (lo ∷ hi ∷ []) m0 text answers) _ _ (11 + (240 + (14 + 261))) refl
       (rw b (advance _ _ _ _ _ _ _ _ m0 seed refl refl q (sym (e ∙ ap (λ b. if b then word_in m0 RIGHT else word_in m0 SEED) b)) (λ a b d e. refl)))))
       (λ some. let b : eqb (m0 SEEDED) 0 ≡ false = ne_eqb _ _ some in
-      after f 6 fits random_part st 1 (view a x y n v i z c (RANDOM_AT + 17) (lo ∷ hi ∷ []) m0 text answers) _ _ (4 + (11 + (240 + (14 + 261)))) refl
-      (rw b (after f 6 fits random_part st 3 (view _ _ _ _ _ _ _ _ (RANDOM_AT + 22) (lo ∷ hi ∷ []) m0 text answers) _ _ (11 + (240 + (14 + 261))) refl
+      after f 6 fits random_part (random_in f.code block) 1 (view a x y n v i z c (RANDOM_AT + 17) (lo ∷ hi ∷ []) m0 text answers) _ _ (4 + (11 + (240 + (14 + 261)))) refl
+      (rw b (after f 6 fits random_part (random_in f.code block) 3 (view _ _ _ _ _ _ _ _ (RANDOM_AT + 22) (lo ∷ hi ∷ []) m0 text answers) _ _ (11 + (240 + (14 + 261))) refl
       (advance _ _ _ _ _ _ _ _ (with_byte (with_byte m0 RIGHT (m0 SEED)) 0xc065 (m0 0xc039)) seed refl refl s (sym (e ∙ ap (λ b. if b then word_in m0 RIGHT else word_in m0 SEED) b))
       (λ a b d e. skip is_argument (with_byte m0 RIGHT (m0 SEED)) 0xc065 (m0 0xc039) a refl b ∙ skip is_argument m0 RIGHT (m0 SEED) a refl b)))))
       (cases_eq (m0 SEEDED) 0)
@@ -107,37 +108,37 @@ module _ (f : Setup) (fits : Fits f 6) (st : Holds random_part f.code) (sd : Hol
       (λ none. let b : eqb (m0 0xc063) 0 ≡ true = eq-eqb _ _ none in
       let b' : eqb (m0 LEFT) 0 ≡ false = ne_eqb _ _ (λ h. omega (arith, none, h, least)) in
       looser f _ _ _ [] (2 + (1 + (2 + (2 + (4 + (11 + (240 + (14 + 261)))))))) 540 (omega arith) (λ w h. h)
-      (after f 6 fits random_part st 1 (view a x y n v i z c RANDOM_AT (lo ∷ hi ∷ []) m0 text answers) _ _ (1 + (2 + (2 + (4 + (11 + (240 + (14 + 261))))))) refl
-      (rw sign (after f 6 fits random_part st 0 (view (m0 0xc063) x y _ v i (eqb (m0 0xc063) 0) c (RANDOM_AT + 5) (lo ∷ hi ∷ []) m0 text answers) _ _ (2 + (2 + (4 + (11 + (240 + (14 + 261)))))) refl
-      (rw b (after f 6 fits random_part st 1 (view _ _ _ _ _ _ _ _ (RANDOM_AT + 7) (lo ∷ hi ∷ []) m0 text answers) _ _ (2 + (4 + (11 + (240 + (14 + 261))))) refl
+      (after f 6 fits random_part (random_in f.code block) 1 (view a x y n v i z c RANDOM_AT (lo ∷ hi ∷ []) m0 text answers) _ _ (1 + (2 + (2 + (4 + (11 + (240 + (14 + 261))))))) refl
+      (rw sign (after f 6 fits random_part (random_in f.code block) 0 (view (m0 0xc063) x y _ v i (eqb (m0 0xc063) 0) c (RANDOM_AT + 5) (lo ∷ hi ∷ []) m0 text answers) _ _ (2 + (2 + (4 + (11 + (240 + (14 + 261)))))) refl
+      (rw b (after f 6 fits random_part (random_in f.code block) 1 (view _ _ _ _ _ _ _ _ (RANDOM_AT + 7) (lo ∷ hi ∷ []) m0 text answers) _ _ (2 + (4 + (11 + (240 + (14 + 261))))) refl
       (rw b' (seeding _ _ _ _ _ _ _ _ (seed_of m0) refl q s))))))))
       (λ some. let b : eqb (m0 0xc063) 0 ≡ false = ne_eqb _ _ some in
       looser f _ _ _ [] (2 + (1 + (2 + (4 + (11 + (240 + (14 + 261))))))) 540 (omega arith) (λ w h. h)
-      (after f 6 fits random_part st 1 (view a x y n v i z c RANDOM_AT (lo ∷ hi ∷ []) m0 text answers) _ _ (1 + (2 + (4 + (11 + (240 + (14 + 261)))))) refl
-      (rw sign (after f 6 fits random_part st 0 (view (m0 0xc063) x y _ v i (eqb (m0 0xc063) 0) c (RANDOM_AT + 5) (lo ∷ hi ∷ []) m0 text answers) _ _ (2 + (4 + (11 + (240 + (14 + 261))))) refl
+      (after f 6 fits random_part (random_in f.code block) 1 (view a x y n v i z c RANDOM_AT (lo ∷ hi ∷ []) m0 text answers) _ _ (1 + (2 + (4 + (11 + (240 + (14 + 261)))))) refl
+      (rw sign (after f 6 fits random_part (random_in f.code block) 0 (view (m0 0xc063) x y _ v i (eqb (m0 0xc063) 0) c (RANDOM_AT + 5) (lo ∷ hi ∷ []) m0 text answers) _ _ (2 + (4 + (11 + (240 + (14 + 261))))) refl
       (rw b (seeding _ _ _ _ _ _ _ _ (seed_of m0) refl q s))))))
       (cases_eq (m0 0xc063) 0)
 
 pub random_law : RandomLaw
-random_law f fits st sd multiply lo hi text answers m a x y n v i z c p q s least most = whole f fits st sd multiply lo hi text answers m p least most a x y n v i z c q s
+random_law f fits block lo hi text answers m a x y n v i z c p q s least most = whole f fits block lo hi text answers m p least most a x y n v i z c q s
 
 -- ---- the fault
-module _ (f : Setup) (fits : Fits f 2) (st : Holds random_part f.code) (lo hi : ℕ) (text answers : List ℕ) (m : ℕ → ℕ) where
+module _ (f : Setup) (fits : Fits f 2) (block : Holds block_part f.code) (lo hi : ℕ) (text answers : List ℕ) (m : ℕ → ℕ) where
   bad : (a x y : ℕ) (n v i z c : Bool) → Comes f (view a x y n v i z c (RANDOM_AT + 12) (lo ∷ hi ∷ []) m text answers) (Faults lo hi text answers m 3) [] 2
-  bad a x y n v i z c = ending f 2 fits random_part st 1 (view a x y n v i z c (RANDOM_AT + 12) (lo ∷ hi ∷ []) m text answers) _ refl
+  bad a x y n v i z c = ending f 2 fits random_part (random_in f.code block) 1 (view a x y n v i z c (RANDOM_AT + 12) (lo ∷ hi ∷ []) m text answers) _ refl
       (record { pc = refl; stack = refl; binary = refl; same_text = refl; same_answers = refl; number = refl; memory = refl })
 
 pub random_range_law : RandomRangeLaw
-random_range_law f fits st lo hi text answers m a x y n v i z c p (inl none) =
+random_range_law f fits block lo hi text answers m a x y n v i z c p (inl none) =
     let sign : eqb (m 0xc063 / 128 % 2) 1 ≡ false = ne_eqb _ _ (λ e. omega (arith, none, e)) in
     let b : eqb (m 0xc063) 0 ≡ true = eq-eqb _ _ (omega (arith, none)) in
     let b' : eqb (m LEFT) 0 ≡ true = eq-eqb _ _ (omega (arith, none)) in
-    after f 2 fits random_part st 1 (view a x y n v i z c RANDOM_AT (lo ∷ hi ∷ []) m text answers) _ _ 5 refl
-    (rw sign (after f 2 fits random_part st 0 (view (m 0xc063) x y _ v i (eqb (m 0xc063) 0) c (RANDOM_AT + 5) (lo ∷ hi ∷ []) m text answers) _ _ 4 refl
-    (rw b (after f 2 fits random_part st 1 (view _ _ _ _ _ _ _ _ (RANDOM_AT + 7) (lo ∷ hi ∷ []) m text answers) _ _ 2 refl
-    (rw b' (bad f fits st lo hi text answers m _ _ _ _ _ _ _ _))))))
-random_range_law f fits st lo hi text answers m a x y n v i z c p (inr big) =
+    after f 2 fits random_part (random_in f.code block) 1 (view a x y n v i z c RANDOM_AT (lo ∷ hi ∷ []) m text answers) _ _ 5 refl
+    (rw sign (after f 2 fits random_part (random_in f.code block) 0 (view (m 0xc063) x y _ v i (eqb (m 0xc063) 0) c (RANDOM_AT + 5) (lo ∷ hi ∷ []) m text answers) _ _ 4 refl
+    (rw b (after f 2 fits random_part (random_in f.code block) 1 (view _ _ _ _ _ _ _ _ (RANDOM_AT + 7) (lo ∷ hi ∷ []) m text answers) _ _ 2 refl
+    (rw b' (bad f fits block lo hi text answers m _ _ _ _ _ _ _ _))))))
+random_range_law f fits block lo hi text answers m a x y n v i z c p (inr big) =
     let sign : eqb (m 0xc063 / 128 % 2) 1 ≡ true = eq-eqb _ _ (omega (arith, big, p)) in
     looser f _ _ _ [] (2 + 2) 7 (omega arith) (λ w h. h)
-    (after f 2 fits random_part st 1 (view a x y n v i z c RANDOM_AT (lo ∷ hi ∷ []) m text answers) _ _ 2 refl
-    (rw sign (bad f fits st lo hi text answers m _ _ _ _ _ _ _ _)))
+    (after f 2 fits random_part (random_in f.code block) 1 (view a x y n v i z c RANDOM_AT (lo ∷ hi ∷ []) m text answers) _ _ 2 refl
+    (rw sign (bad f fits block lo hi text answers m _ _ _ _ _ _ _ _)))

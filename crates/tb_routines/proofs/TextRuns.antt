@@ -14,8 +14,9 @@ use Rattle.tb_reaching.proofs.Calls.{under}
 use Rattle.tb_reaching.proofs.Placed.{placing, takes_at, reads_code}
 use Rattle.tb_lower.specs.Control.{column_after}
 use Rattle.tb_runtime16.specs.Places.{TEXT_AT, COLUMN, POINTER, LENGTH}
-use Rattle.tb_routines.specs.Parts.{text_part, send_part}
+use Rattle.tb_routines.specs.Block.{block_part}
 use Rattle.tb_routines.specs.Laws.{AllBytes, Back, Said, Told, TextLaw}
+use Rattle.tb_routines.proofs.Within.{text_part, text_in}
 use Rattle.tb_routines.proofs.Called.{calls}
 use Rattle.tb_routines.proofs.Columns.{column_same}
 use Rattle.tb_routines.proofs.SendRuns.{send_law}
@@ -23,7 +24,7 @@ use Rattle.tb_routines.proofs.SendRuns.{send_law}
 in_program : (a : ℕ) → 0x0800 ≤ a → a < 0xa000 → is_program a ≡ true
 in_program a lo hi = grind (arith, nat_tests)
 
-module _ (f : Setup) (fits : Fits f 4) (st : Holds text_part f.code) (to_send : Holds send_part f.code) (lo hi : ℕ) (text answers : List ℕ) (m0 : ℕ → ℕ) (all : List ℕ) where
+module _ (f : Setup) (fits : Fits f 4) (block : Holds block_part f.code) (lo hi : ℕ) (text answers : List ℕ) (m0 : ℕ → ℕ) (all : List ℕ) where
   -- the bytes from an address on are still to be sent, and those before are
   record Still (m : ℕ → ℕ) (at : ℕ) (bytes : List ℕ) : Type 0 where
     word_is : m POINTER + 256 * m 0xfc ≡ at
@@ -48,7 +49,7 @@ module _ (f : Setup) (fits : Fits f 4) (st : Holds text_part f.code) (to_send : 
   put_length m b h a p q r s = put_other m LENGTH b a s ∙ h a p q r s
 
   last : (a x y : ℕ) (n v i z c : Bool) (m : ℕ → ℕ) → Told m0 all m → Comes f (view a x y n v i z c (TEXT_AT + 23) (lo ∷ hi ∷ []) m text answers) (Back lo hi text answers (Told m0 all)) [] 1
-  last a x y n v i z c m h = ending f 4 fits text_part st 0 (view a x y n v i z c (TEXT_AT + 23) (lo ∷ hi ∷ []) m text answers) _ refl
+  last a x y n v i z c m h = ending f 4 fits text_part (text_in f.code block) 0 (view a x y n v i z c (TEXT_AT + 23) (lo ∷ hi ∷ []) m text answers) _ refl
       (record { pc = refl; stack_is = refl; binary = refl; same_text = refl; same_answers = refl; memory = h })
 
   Loop : List ℕ → Type 0
@@ -62,7 +63,7 @@ module _ (f : Setup) (fits : Fits f 4) (st : Holds text_part f.code) (to_send : 
   unfolding Count
   count_none a x y n v i z c m at h e =
       let done : eqb ((m LENGTH + 255) % 256) 0 ≡ true = eq-eqb _ _ (omega (arith, e)) in
-      after f 4 fits text_part st 1 (view a x y n v i z c (TEXT_AT + 18) (lo ∷ hi ∷ []) m text answers) _ _ 1 refl
+      after f 4 fits text_part (text_in f.code block) 1 (view a x y n v i z c (TEXT_AT + 18) (lo ∷ hi ∷ []) m text answers) _ _ 1 refl
       (rw done (last _ _ _ _ _ _ _ _ _ (record { column = h.column; column_small = h.column_small; others = put_length m _ h.others })))
 
   count_more : (b : ℕ) (bs : List ℕ) → Loop bs → Count (b ∷ bs)
@@ -71,7 +72,7 @@ module _ (f : Setup) (fits : Fits f 4) (st : Holds text_part f.code) (to_send : 
       let less : (m LENGTH + 255) % 256 ≡ suc (length bs) = omega (arith, e, h.few) in
       let more : eqb ((m LENGTH + 255) % 256) 0 ≡ false = ne_eqb _ _ (λ x. omega arith) in
       looser f _ _ _ (b ∷ bs) (2 + (15 * length bs + 16)) (15 * length (b ∷ bs) + 3) (omega arith) (λ w h. h)
-      (after f 4 fits text_part st 1 (view a x y n v i z c (TEXT_AT + 18) (lo ∷ hi ∷ []) m text answers) _ _ (15 * length bs + 16) refl
+      (after f 4 fits text_part (text_in f.code block) 1 (view a x y n v i z c (TEXT_AT + 18) (lo ∷ hi ∷ []) m text answers) _ _ (15 * length bs + 16) refl
       (rw more (go _ _ _ _ _ _ _ _ _ b at
       (record { word_is = h.word_is; low = h.low; high = h.high; shown = h.shown; from = h.from; to = h.to; few = h.few; small = h.small; others = put_length m _ h.others; column = h.column; column_small = h.column_small })
       less)))
@@ -93,14 +94,14 @@ module _ (f : Setup) (fits : Fits f 4) (st : Holds text_part f.code) (to_send : 
       ⊎_elim
       (λ over. let t : eqb ((w POINTER + 1) % 256) 0 ≡ true = eq-eqb _ _ over in
       looser f _ _ _ bs (2 + (1 + (15 * length bs + 3))) (3 + (15 * length bs + 3)) (omega arith) (λ w h. h)
-      (after f 4 fits text_part st 1 (view a x y n v i z c (TEXT_AT + 12) (lo ∷ hi ∷ []) w text answers) _ _ (1 + (15 * length bs + 3)) refl
-      (rw t (after f 4 fits text_part st 0 (view _ _ _ _ _ _ _ _ (TEXT_AT + 16) (lo ∷ hi ∷ []) (with_byte w POINTER ((w POINTER + 1) % 256)) text answers) _ _ (15 * length bs + 3) refl
+      (after f 4 fits text_part (text_in f.code block) 1 (view a x y n v i z c (TEXT_AT + 12) (lo ∷ hi ∷ []) w text answers) _ _ (1 + (15 * length bs + 3)) refl
+      (rw t (after f 4 fits text_part (text_in f.code block) 0 (view _ _ _ _ _ _ _ _ (TEXT_AT + 16) (lo ∷ hi ∷ []) (with_byte w POINTER ((w POINTER + 1) % 256)) text answers) _ _ (15 * length bs + 3) refl
       (go _ _ _ _ _ _ _ _ _ (at + 1)
       (record { word_is = omega arith; low = omega arith; high = omega arith; shown = shown; from = omega (arith, h.from); to = omega (arith, h.to); few = omega (arith, h.few); small = h.small.1; others = put_high _ _ (put_pointer w _ others); column = column; column_small = λ p. omega (arith, k.column) })
       length_is)))))
       (λ under. let t : eqb ((w POINTER + 1) % 256) 0 ≡ false = ne_eqb _ _ under in
       looser f _ _ _ bs (2 + (15 * length bs + 3)) (3 + (15 * length bs + 3)) (omega arith) (λ w h. h)
-      (after f 4 fits text_part st 1 (view a x y n v i z c (TEXT_AT + 12) (lo ∷ hi ∷ []) w text answers) _ _ (15 * length bs + 3) refl
+      (after f 4 fits text_part (text_in f.code block) 1 (view a x y n v i z c (TEXT_AT + 12) (lo ∷ hi ∷ []) w text answers) _ _ (15 * length bs + 3) refl
       (rw t (go _ _ _ _ _ _ _ _ _ (at + 1)
       (record { word_is = omega arith; low = omega arith; high = omega arith; shown = shown; from = omega (arith, h.from); to = omega (arith, h.to); few = omega (arith, h.few); small = h.small.1; others = put_pointer w _ others; column = column; column_small = λ p. omega (arith, k.column) })
       length_is))))
@@ -109,9 +110,9 @@ module _ (f : Setup) (fits : Fits f 4) (st : Holds text_part f.code) (to_send : 
   -- JSR SEND with the byte in A
   send_a : (bs : List ℕ) → Count bs → (x y : ℕ) (n v i z c : Bool) (m : ℕ → ℕ) (b at : ℕ) → Still m at (b ∷ bs) → m LENGTH ≡ suc (length bs) → Comes f (view b x y n v i z c (TEXT_AT + 9) (lo ∷ hi ∷ []) m text answers) (Back lo hi text answers (Told m0 all)) (b ∷ bs) (1 + (7 + (3 + (15 * length bs + 3))))
   send_a bs go x y n v i z c m b at h e =
-      after f 4 fits text_part st 0 (view b x y n v i z c (TEXT_AT + 9) (lo ∷ hi ∷ []) m text answers) _ _ (7 + (3 + (15 * length bs + 3))) refl
+      after f 4 fits text_part (text_in f.code block) 0 (view b x y n v i z c (TEXT_AT + 9) (lo ∷ hi ∷ []) m text answers) _ _ (7 + (3 + (15 * length bs + 3))) refl
       (calls f (lo ∷ hi ∷ []) _ _ _ _ _ _ _ _ _ _ _ m text answers (Said m (b ∷ [])) _ (b ∷ []) bs 7 (3 + (15 * length bs + 3))
-      (send_law (under f (lo ∷ hi ∷ [])) (omega (arith, fits)) to_send _ _ text answers m b _ _ _ _ _ _ _ h.small.0)
+      (send_law (under f (lo ∷ hi ∷ [])) (omega (arith, fits)) block _ _ text answers m b _ _ _ _ _ _ _ h.small.0)
       (λ a x y n v i z c w k. next_byte bs go a x y n v i z c m w b at h k e))
 
   send : (bs : List ℕ) → Count bs → Loop bs
@@ -121,8 +122,8 @@ module _ (f : Setup) (fits : Fits f 4) (st : Holds text_part f.code) (to_send : 
       let place : (m POINTER + 256 * m 0xfc + 0) % 65536 ≡ at = omega (arith, h.word_is, h.to) in
       let ready = view a x 0 false v i true c (TEXT_AT + 7) (lo ∷ hi ∷ []) m text answers in
       looser f _ _ _ (b ∷ bs) (1 + (1 + (1 + (7 + (3 + (15 * length bs + 3)))))) (15 * length bs + 16) (omega arith) (λ w h. h)
-      (after f 4 fits text_part st 0 (view a x y n v i z c (TEXT_AT + 5) (lo ∷ hi ∷ []) m text answers) _ _ (1 + (1 + (7 + (3 + (15 * length bs + 3))))) refl
-      (placing f 4 fits (ins 0xb1 POINTER) ready _ _ _ (1 + (7 + (3 + (15 * length bs + 3)))) refl (st _ _ refl, (st _ _ refl, tt))
+      (after f 4 fits text_part (text_in f.code block) 0 (view a x y n v i z c (TEXT_AT + 5) (lo ∷ hi ∷ []) m text answers) _ _ (1 + (1 + (7 + (3 + (15 * length bs + 3))))) refl
+      (placing f 4 fits (ins 0xb1 POINTER) ready _ _ _ (1 + (7 + (3 + (15 * length bs + 3)))) refl (text_in f.code block _ _ refl, (text_in f.code block _ _ refl, tt))
       (takes_at f.code 4 (ins 0xb1 POINTER) ready Lda IndirectY at refl refl refl refl (ap (λ a. Ok a) place) b _ (reads_code f.code m at b apart h.shown.0) refl)
       (send_a bs go _ _ _ _ _ _ _ m b at h e)))
 
@@ -135,14 +136,14 @@ module _ (f : Setup) (fits : Fits f 4) (st : Holds text_part f.code) (to_send : 
   whole a x y n v i z c m [] at h e =
       let none : eqb (m LENGTH) 0 ≡ true = eq-eqb _ _ e in
       looser f _ _ _ [] 3 3 (omega arith) (λ w h. h)
-      (after f 4 fits text_part st 1 (view a x y n v i z c TEXT_AT (lo ∷ hi ∷ []) m text answers) _ _ 1 refl
+      (after f 4 fits text_part (text_in f.code block) 1 (view a x y n v i z c TEXT_AT (lo ∷ hi ∷ []) m text answers) _ _ 1 refl
       (rw none (last _ _ _ _ _ _ _ _ _ (record { column = h.column; column_small = h.column_small; others = h.others }))))
   whole a x y n v i z c m (b ∷ bs) at h e =
       let some : eqb (m LENGTH) 0 ≡ false = ne_eqb _ _ (λ x. omega (arith, e)) in
       looser f _ _ _ (b ∷ bs) (2 + (15 * length bs + 16)) (15 * length (b ∷ bs) + 3) (omega arith) (λ w h. h)
-      (after f 4 fits text_part st 1 (view a x y n v i z c TEXT_AT (lo ∷ hi ∷ []) m text answers) _ _ (15 * length bs + 16) refl
+      (after f 4 fits text_part (text_in f.code block) 1 (view a x y n v i z c TEXT_AT (lo ∷ hi ∷ []) m text answers) _ _ (15 * length bs + 16) refl
       (rw some (send bs (counts bs) _ _ _ _ _ _ _ _ _ b at h e)))
 
 pub text_law : TextLaw
-text_law f fits st send lo hi text answers m a x y n v i z c bytes p =
-    whole f fits st send lo hi text answers m bytes a x y n v i z c m bytes (m POINTER + 256 * m (POINTER + 1)) (record { word_is = refl; low = p.is_word.0; high = p.is_word.1; shown = p.shown; from = p.from; to = p.to; few = p.few; small = p.bytes_small; others = λ a p q r s. refl; column = refl; column_small = λ p. p }) p.count
+text_law f fits block lo hi text answers m a x y n v i z c bytes p =
+    whole f fits block lo hi text answers m bytes a x y n v i z c m bytes (m POINTER + 256 * m (POINTER + 1)) (record { word_is = refl; low = p.is_word.0; high = p.is_word.1; shown = p.shown; from = p.from; to = p.to; few = p.few; small = p.bytes_small; others = λ a p q r s. refl; column = refl; column_small = λ p. p }) p.count

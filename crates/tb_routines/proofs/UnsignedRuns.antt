@@ -9,8 +9,9 @@ use Rattle.tb_memmap.specs.Bytes.{with_byte}
 use Rattle.tb_reaching.specs.View.{Setup, Holds, Fits, Comes, view, View}
 use Rattle.tb_reaching.proofs.Comes.{after, ending, looser}
 use Rattle.tb_runtime16.specs.Places.{DIVIDE_AT, LEFT, RIGHT, RESULT}
-use Rattle.tb_routines.specs.Parts.{divide_part}
+use Rattle.tb_routines.specs.Block.{block_part}
 use Rattle.tb_routines.specs.Laws.{unsigned_at, IsWord, Back, Parted, UnsignedLaw}
+use Rattle.tb_routines.proofs.Within.{divide_part, divide_in}
 use Rattle.tb_routines.proofs.Words.{carried, doubled, doubled_in, subtracted, compared, compared_less}
 use Rattle.tb_routines.proofs.Frames.{Frame, frame_put}
 
@@ -50,7 +51,7 @@ few_less q p h = omega arith
 few_more : (q p : ℕ) → q < p → q + q + 1 < p + p
 few_more q p h = omega arith
 
-module _ (f : Setup) (fits : Fits f 2) (st : Holds divide_part f.code) (lo hi : ℕ) (text answers : List ℕ) (m0 : ℕ → ℕ) (d : IsWord m0 RIGHT) (most : word_in m0 RIGHT ≤ 32768) where
+module _ (f : Setup) (fits : Fits f 2) (block : Holds block_part f.code) (lo hi : ℕ) (text answers : List ℕ) (m0 : ℕ → ℕ) (d : IsWord m0 RIGHT) (most : word_in m0 RIGHT ≤ 32768) where
   -- after j turns: the quotient so far is q
   record Held (j q : ℕ) (m : ℕ → ℕ) : Type 0 where
     left : IsWord m LEFT
@@ -86,7 +87,7 @@ module _ (f : Setup) (fits : Fits f 2) (st : Holds divide_part f.code) (lo hi : 
       }
 
   last : (a x y : ℕ) (n v i z c : Bool) (m : ℕ → ℕ) (q : ℕ) → Held 16 q m → Goal (view a x y n v i z c (DIVIDE_AT + 128) (lo ∷ hi ∷ []) m text answers) 1
-  last a x y n v i z c m q h = ending f 2 fits divide_part st 0 (view a x y n v i z c (DIVIDE_AT + 128) (lo ∷ hi ∷ []) m text answers) _ refl
+  last a x y n v i z c m q h = ending f 2 fits divide_part (divide_in f.code block) 0 (view a x y n v i z c (DIVIDE_AT + 128) (lo ∷ hi ∷ []) m text answers) _ refl
       (record { pc = refl; stack_is = refl; binary = refl; same_text = refl; same_answers = refl; memory = parted m q h })
 
   less_none : Less 0
@@ -94,7 +95,7 @@ module _ (f : Setup) (fits : Fits f 2) (st : Holds divide_part f.code) (lo hi : 
   less_none a x y n v i z c m j q h e s =
       let done : eqb ((y + 255) % 256) 0 ≡ true = eq-eqb _ _ (omega (arith, e)) in
       looser f _ _ _ [] (2 + 1) 3 (omega arith) (λ w h. h)
-      (after f 2 fits divide_part st 1 (view a x y n v i z c (DIVIDE_AT + 125) (lo ∷ hi ∷ []) m text answers) _ _ 1 refl
+      (after f 2 fits divide_part (divide_in f.code block) 1 (view a x y n v i z c (DIVIDE_AT + 125) (lo ∷ hi ∷ []) m text answers) _ _ 1 refl
       (rw done (last _ _ _ _ _ _ _ _ m q (subst (λ j. Held j q m) (let t : j ≡ 16 = omega (arith, s) in t) h))))
 
   less_more : (k : ℕ) → Next k → Less (suc k)
@@ -103,14 +104,14 @@ module _ (f : Setup) (fits : Fits f 2) (st : Holds divide_part f.code) (lo hi : 
       let less : (y + 255) % 256 ≡ suc k = omega (arith, e, s) in
       let more : eqb ((y + 255) % 256) 0 ≡ false = ne_eqb _ _ (λ x. omega (arith, less)) in
       looser f _ _ _ [] (2 + (16 * k + 17)) (16 * suc k + 3) (omega arith) (λ w h. h)
-      (after f 2 fits divide_part st 1 (view a x y n v i z c (DIVIDE_AT + 125) (lo ∷ hi ∷ []) m text answers) _ _ (16 * k + 17) refl
+      (after f 2 fits divide_part (divide_in f.code block) 1 (view a x y n v i z c (DIVIDE_AT + 125) (lo ∷ hi ∷ []) m text answers) _ _ (16 * k + 17) refl
       (rw more (go _ _ _ _ _ _ _ _ m j q h less (omega (arith, s)))))
 
   -- the divisor goes into the rest: X, A and 1
   keep : (k : ℕ) → Less k → (a x y : ℕ) (n v i z c : Bool) (m : ℕ → ℕ) (j q : ℕ) → Held j q (with_byte (with_byte (with_byte m RESULT x) 0xc067 a) LEFT ((m LEFT + 1) % 256)) → y ≡ suc k → j + k ≡ 16 → Goal (view a x y n v i z c (DIVIDE_AT + 116) (lo ∷ hi ∷ []) m text answers) (3 + (16 * k + 3))
   unfolding Less
   keep k go a x y n v i z c m j q h e s =
-      after f 2 fits divide_part st 2 (view a x y n v i z c (DIVIDE_AT + 116) (lo ∷ hi ∷ []) m text answers) _ _ (16 * k + 3) refl
+      after f 2 fits divide_part (divide_in f.code block) 2 (view a x y n v i z c (DIVIDE_AT + 116) (lo ∷ hi ∷ []) m text answers) _ _ (16 * k + 3) refl
       (go _ _ _ _ _ _ _ _ _ j q h e s)
 
   turn : (k : ℕ) → Less k → Next k
@@ -134,7 +135,7 @@ module _ (f : Setup) (fits : Fits f 2) (st : Holds divide_part f.code) (lo hi : 
       ⊎_elim
       (λ less. let t = compared_less r0 r1 (m RIGHT) (m 0xc065) small0 small1 right.0 right.1 less in
       looser f _ _ _ [] (11 + (16 * k + 3)) (16 * k + 17) (omega arith) (λ w h. h)
-      (after f 2 fits divide_part st 10 (view a x y n v i z c (DIVIDE_AT + 88) (lo ∷ hi ∷ []) m text answers) _ _ (16 * k + 3) refl
+      (after f 2 fits divide_part (divide_in f.code block) 10 (view a x y n v i z c (DIVIDE_AT + 88) (lo ∷ hi ∷ []) m text answers) _ _ (16 * k + 3) refl
       (rw t (go _ _ _ _ _ _ _ _ _ (suc j) (q + q)
       (record {
         left = (small2, small3);
@@ -149,7 +150,7 @@ module _ (f : Setup) (fits : Fits f 2) (st : Holds divide_part f.code) (lo hi : 
       (λ more. let t = compared r0 r1 (m RIGHT) (m 0xc065) small0 small1 right.0 right.1 more in
       let rest' = taken_from (r0 + 256 * r1) (word_in m0 RIGHT) _ wide (subst (λ d. d ≤ r0 + 256 * r1) same more) (subtracted r0 r1 (m RIGHT) (m 0xc065) small0 small1 right.0 right.1 ∙ ap (λ d. (r0 + 256 * r1 + (65536 - d)) % 65536) same) in
       looser f _ _ _ [] (11 + (3 + (16 * k + 3))) (16 * k + 17) (omega arith) (λ w h. h)
-      (after f 2 fits divide_part st 10 (view a x y n v i z c (DIVIDE_AT + 88) (lo ∷ hi ∷ []) m text answers) _ _ (3 + (16 * k + 3)) refl
+      (after f 2 fits divide_part (divide_in f.code block) 10 (view a x y n v i z c (DIVIDE_AT + 88) (lo ∷ hi ∷ []) m text answers) _ _ (3 + (16 * k + 3)) refl
       (rw t (keep k go _ _ _ _ _ _ _ _ _ (suc j) (q + q + 1)
       (record {
         left = (byte_of _, small3);
@@ -171,10 +172,10 @@ module _ (f : Setup) (fits : Fits f 2) (st : Holds divide_part f.code) (lo hi : 
   unfolding Next
   all a x y n v i z c p some =
       looser f _ _ _ [] (4 + 257) 261 (omega arith) (λ w h. h)
-      (after f 2 fits divide_part st 3 (view a x y n v i z c unsigned_at (lo ∷ hi ∷ []) m0 text answers) _ _ 257 refl
+      (after f 2 fits divide_part (divide_in f.code block) 3 (view a x y n v i z c unsigned_at (lo ∷ hi ∷ []) m0 text answers) _ _ 257 refl
       (turn 15 (lesses 15) _ _ _ _ _ _ _ _ _ 0 0
       (record { left = p; rest = (omega arith, omega arith); low = refl; high = refl; others = frame_put _ _ 0xc067 _ refl (frame_put _ _ RESULT _ refl (λ a e. refl)); less = omega (arith, some); few = omega arith; sum = omega arith })
       refl refl))
 
 pub unsigned_law : UnsignedLaw
-unsigned_law f fits st lo hi text answers m a x y n v i z c p q some most = all f fits st lo hi text answers m q most a x y n v i z c p some
+unsigned_law f fits block lo hi text answers m a x y n v i z c p q some most = all f fits block lo hi text answers m q most a x y n v i z c p some

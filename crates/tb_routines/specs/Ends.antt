@@ -8,7 +8,7 @@ use Rattle.tb_reaching.specs.View.{View, Setup, Part, Holds, Fits, Comes, view, 
 use Rattle.tb_reaching.specs.Start.{setup_of, view_of, home_low, home_high, IsHome, Homed}
 use Rattle.tb_lower.specs.Control.{fault_text}
 use Rattle.tb_runtime16.specs.Places.{FAULT_AT, POLL_AT, HOME_S, LINE}
-use Rattle.tb_routines.specs.Parts.{prologue_part, fault_part, poll_part, send_part, number_part, divide_part}
+use Rattle.tb_routines.specs.Block.{block_part}
 use Rattle.tb_routines.specs.Laws.{IsWord, Leaves}
 
 -- where the machine was entered from lies on the stack behind what is kept, and the line has a number
@@ -17,25 +17,18 @@ pub record Entered (f : Setup) (lo hi : ℕ) (m : ℕ → ℕ) : Type 0 where
   pub kept : m HOME_S + 2 ≡ f.home_s
   pub line : IsWord m LINE
 
--- the code that a fault runs
-pub record Faulting (code : Part) : Type 0 where
-  pub fault : Holds fault_part code
-  pub send : Holds send_part code
-  pub number : Holds number_part code
-  pub divide : Holds divide_part code
-
 -- Fault: k in A, from any depth
 abbrev pub FaultLaw : Type 0
 FaultLaw =
-    (f : Setup) (room : ℕ) → 13 ≤ room → Fits f room → Faulting f.code → (hlo hhi : ℕ) (above : List ℕ) → length above + 2 ≤ room → (text answers : List ℕ) (m : ℕ → ℕ) → Entered f hlo hhi m → (k x y : ℕ) (n v i z c : Bool) → k < 10 →
+    (f : Setup) (room : ℕ) → 13 ≤ room → Fits f room → Holds block_part f.code → (hlo hhi : ℕ) (above : List ℕ) → length above + 2 ≤ room → (text answers : List ℕ) (m : ℕ → ℕ) → Entered f hlo hhi m → (k x y : ℕ) (n v i z c : Bool) → k < 10 →
     Comes f (view k x y n v i z c FAULT_AT (above ++ hlo ∷ hhi ∷ []) m text answers) (IsHome f) (fault_text k (word_in m LINE)) 1522
 
--- Poll: an answer is taken, and 3 stops the program
+-- Poll: an answer is taken, and 3 stops the program, from any depth
 abbrev pub PollLaw : Type 0
 PollLaw =
-    (f : Setup) → Fits f 13 → Faulting f.code → Holds poll_part f.code → (lo hi hlo hhi : ℕ) (text answers : List ℕ) (m : ℕ → ℕ) → Entered f hlo hhi m → first_or_zero answers < 256 → (a x y : ℕ) (n v i z c : Bool) →
-    (first_or_zero answers ≢ 3 → Comes f (view a x y n v i z c POLL_AT (lo ∷ hi ∷ hlo ∷ hhi ∷ []) m text answers) (Leaves (back_at lo hi) (hlo ∷ hhi ∷ []) text (drop 1 answers) (λ w. w ≡ m)) [] 5)
-    × (first_or_zero answers ≡ 3 → Comes f (view a x y n v i z c POLL_AT (lo ∷ hi ∷ hlo ∷ hhi ∷ []) m text answers) (IsHome f) (fault_text 0 (word_in m LINE)) 1528)
+    (f : Setup) (room : ℕ) → 13 ≤ room → Fits f room → Holds block_part f.code → (hlo hhi : ℕ) (above : List ℕ) → length above + 6 ≤ room → (lo hi : ℕ) (text answers : List ℕ) (m : ℕ → ℕ) → Entered f hlo hhi m → first_or_zero answers < 256 → (a x y : ℕ) (n v i z c : Bool) →
+    (first_or_zero answers ≢ 3 → Comes f (view a x y n v i z c POLL_AT (lo ∷ hi ∷ above ++ hlo ∷ hhi ∷ []) m text answers) (Leaves (back_at lo hi) (above ++ hlo ∷ hhi ∷ []) text (drop 1 answers) (λ w. w ≡ m)) [] 5)
+    × (first_or_zero answers ≡ 3 → Comes f (view a x y n v i z c POLL_AT (lo ∷ hi ∷ above ++ hlo ∷ hhi ∷ []) m text answers) (IsHome f) (fault_text 0 (word_in m LINE)) 1528)
 
 -- places that the prologue clears
 abbrev pub is_cleared : ℕ → Bool
@@ -55,5 +48,5 @@ pub record Begun (f : Setup) (s : State) (w : View) : Type 0 where
 -- from any start to the first line
 abbrev pub PrologueLaw : Type 0
 PrologueLaw =
-    (place : ℕ) (bytes : List ℕ) → 0x0800 ≤ place → place + length bytes ≤ 0xa000 → (inner : Part) → Holds inner (part_at place bytes) → Holds prologue_part inner → (s : State) → IsStart place bytes s →
+    (place : ℕ) (bytes : List ℕ) → 0x0800 ≤ place → place + length bytes ≤ 0xa000 → (inner : Part) → Holds inner (part_at place bytes) → Holds block_part inner → (s : State) → IsStart place bytes s →
     Comes (setup_of inner (part_at place bytes) s) (view_of s) (Begun (setup_of inner (part_at place bytes) s) s) [] 192

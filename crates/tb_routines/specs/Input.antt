@@ -7,8 +7,8 @@ use Rattle.tb_reaching.specs.Start.{IsHome, IsWaiting}
 use Rattle.tb_lower.specs.Control.{column_after, fault_text}
 use Rattle.tb_lower.specs.Input.{Nothing, Turn, Got, Bad, Dry, turn}
 use Rattle.tb_runtime16.specs.Places.{INPUT_AT, COLUMN, LEFT, RESULT, LINE, BYTE, OPEN}
-use Rattle.tb_routines.specs.Parts.{input_part}
-use Rattle.tb_routines.specs.Ends.{Entered, Faulting}
+use Rattle.tb_routines.specs.Block.{block_part}
+use Rattle.tb_routines.specs.Ends.{Entered}
 use Rattle.tb_routines.specs.Laws.{IsWord, AllBytes}
 
 -- ---- the law
@@ -33,10 +33,10 @@ turn_sends line (Got v false rest) = 13 ∷ []
 turn_sends line Bad = fault_text 6 line
 turn_sends line Dry = []
 
--- back with a number
-pub record Taken (lo hi hlo hhi : ℕ) (m : ℕ → ℕ) (replies : List ℕ) (column number : ℕ) (stays : Bool) (keys : List ℕ) (w : View) : Type 0 where
+-- back with a number, and own on the stack
+pub record Taken (lo hi : ℕ) (own : List ℕ) (m : ℕ → ℕ) (replies : List ℕ) (column number : ℕ) (stays : Bool) (keys : List ℕ) (w : View) : Type 0 where
   pub pc : w.regs.pc ≡ back_at lo hi
-  pub stack : w.stack ≡ hlo ∷ hhi ∷ []
+  pub stack : w.stack ≡ own
   pub binary : w.regs.flags.d ≡ false
   pub left : w.text ≡ keys
   pub same_answers : w.answers ≡ replies
@@ -46,15 +46,15 @@ pub record Taken (lo hi hlo hhi : ℕ) (m : ℕ → ℕ) (replies : List ℕ) (c
   pub column_is : w.mem COLUMN ≡ column
   pub others : (a : ℕ) → is_changed a ≡ false → w.mem a ≡ m a
 
--- the end of a turn, from column c, when so much was sent before
-abbrev pub Ended : Setup → ℕ → ℕ → ℕ → ℕ → (ℕ → ℕ) → List ℕ → ℕ → List ℕ → Turn → View → Type 0
-Ended f lo hi hlo hhi m replies c before (Got v true rest) w = Taken lo hi hlo hhi m replies (column_after c before % 256) v true rest w
-Ended f lo hi hlo hhi m replies c before (Got v false rest) w = Taken lo hi hlo hhi m replies 0 v false rest w
-Ended f lo hi hlo hhi m replies c before Bad w = IsHome f w
-Ended f lo hi hlo hhi m replies c before Dry w = IsWaiting w × (length w.stack ≤ 6)
+-- the end of a turn, from column c, when so much was sent before, with own on the stack of the caller
+abbrev pub Ended : Setup → ℕ → ℕ → List ℕ → (ℕ → ℕ) → List ℕ → ℕ → List ℕ → Turn → View → Type 0
+Ended f lo hi own m replies c before (Got v true rest) w = Taken lo hi own m replies (column_after c before % 256) v true rest w
+Ended f lo hi own m replies c before (Got v false rest) w = Taken lo hi own m replies 0 v false rest w
+Ended f lo hi own m replies c before Bad w = IsHome f w
+Ended f lo hi own m replies c before Dry w = IsWaiting w × (length w.stack ≤ length own + 4)
 
--- Input does one variable's turn: back with a number, a fault 6, or waiting for a key
+-- Input does one variable's turn: back with a number, a fault 6, or waiting for a key, from any depth
 abbrev pub InputLaw : Type 0
 InputLaw =
-    (f : Setup) → Fits f 13 → (hlo hhi : ℕ) → Faulting f.code → Holds input_part f.code → (lo hi : ℕ) (text answers : List ℕ) (m : ℕ → ℕ) → Entered f hlo hhi m → AllBytes text → (is_open : Bool) → m OPEN ≡ bit is_open → (c : ℕ) → m COLUMN ≡ c % 256 → (a x y : ℕ) (n v i z carry : Bool) →
-    Comes f (view a x y n v i z carry INPUT_AT (lo ∷ hi ∷ hlo ∷ hhi ∷ []) m text answers) (Ended f lo hi hlo hhi m answers c (prompt is_open) (turn Nothing text)) (prompt is_open ++ turn_sends (word_in m LINE) (turn Nothing text)) (45 * length text + 1569)
+    (f : Setup) (room : ℕ) → 13 ≤ room → Fits f room → Holds block_part f.code → (hlo hhi : ℕ) (above : List ℕ) → length above + 6 ≤ room → (lo hi : ℕ) (text answers : List ℕ) (m : ℕ → ℕ) → Entered f hlo hhi m → AllBytes text → (is_open : Bool) → m OPEN ≡ bit is_open → (c : ℕ) → m COLUMN ≡ c % 256 → (a x y : ℕ) (n v i z carry : Bool) →
+    Comes f (view a x y n v i z carry INPUT_AT (lo ∷ hi ∷ above ++ hlo ∷ hhi ∷ []) m text answers) (Ended f lo hi (above ++ hlo ∷ hhi ∷ []) m answers c (prompt is_open) (turn Nothing text)) (prompt is_open ++ turn_sends (word_in m LINE) (turn Nothing text)) (45 * length text + 1569)

@@ -6,7 +6,7 @@ use Rattle.tb_reaching.specs.View.{View, Setup, Holds, Fits, Comes, view, back_a
 use Rattle.tb_words.specs.Words.{quotient, seed_after, digits_of}
 use Rattle.tb_lower.specs.Control.{zone, column_after}
 use Rattle.tb_runtime16.specs.Places.{SEND_AT, MULTIPLY_AT, DIVIDE_AT, RANDOM_AT, NUMBER_AT, TEXT_AT, ZONE_AT, FAULT_AT, COLUMN, SEEDED, SEED, LEFT, RIGHT, RESULT, LENGTH, SCRATCH, POINTER}
-use Rattle.tb_routines.specs.Parts.{send_part, multiply_part, divide_part, random_part, number_part, text_part, zone_part}
+use Rattle.tb_routines.specs.Block.{block_part}
 
 -- an address and the one behind it hold bytes
 abbrev pub IsWord : (ℕ → ℕ) → ℕ → Type 0
@@ -51,7 +51,7 @@ pub record Said (m0 : ℕ → ℕ) (sent : List ℕ) (m : ℕ → ℕ) : Type 0 
 -- the byte in A is sent
 abbrev pub SendLaw : Type 0
 SendLaw =
-    (f : Setup) → Fits f 2 → Holds send_part f.code → (lo hi : ℕ) (text answers : List ℕ) (m : ℕ → ℕ) (a x y : ℕ) (n v i z c : Bool) → a < 256 →
+    (f : Setup) → Fits f 2 → Holds block_part f.code → (lo hi : ℕ) (text answers : List ℕ) (m : ℕ → ℕ) (a x y : ℕ) (n v i z c : Bool) → a < 256 →
     Comes f (view a x y n v i z c SEND_AT (lo ∷ hi ∷ []) m text answers) (Back lo hi text answers (Said m (a ∷ []))) (a ∷ []) 7
 
 -- ---- Text
@@ -80,7 +80,7 @@ pub record Told (m0 : ℕ → ℕ) (sent : List ℕ) (m : ℕ → ℕ) : Type 0 
 -- Text sends the bytes it is pointed to, in 15 Go events a byte and 3
 abbrev pub TextLaw : Type 0
 TextLaw =
-    (f : Setup) → Fits f 4 → Holds text_part f.code → Holds send_part f.code → (lo hi : ℕ) (text answers : List ℕ) (m : ℕ → ℕ) (a x y : ℕ) (n v i z c : Bool) (bytes : List ℕ) → Points f m bytes →
+    (f : Setup) → Fits f 4 → Holds block_part f.code → (lo hi : ℕ) (text answers : List ℕ) (m : ℕ → ℕ) (a x y : ℕ) (n v i z c : Bool) (bytes : List ℕ) → Points f m bytes →
     Comes f (view a x y n v i z c TEXT_AT (lo ∷ hi ∷ []) m text answers) (Back lo hi text answers (Told m bytes)) bytes (15 * length bytes + 3)
 
 -- ---- Zone
@@ -88,7 +88,7 @@ TextLaw =
 -- spaces up to the next column that 8 divides
 abbrev pub ZoneLaw : Type 0
 ZoneLaw =
-    (f : Setup) → Fits f 4 → Holds zone_part f.code → Holds send_part f.code → (lo hi : ℕ) (text answers : List ℕ) (m : ℕ → ℕ) (a x y : ℕ) (n v i z c : Bool) → m COLUMN < 256 →
+    (f : Setup) → Fits f 4 → Holds block_part f.code → (lo hi : ℕ) (text answers : List ℕ) (m : ℕ → ℕ) (a x y : ℕ) (n v i z c : Bool) → m COLUMN < 256 →
     Comes f (view a x y n v i z c ZONE_AT (lo ∷ hi ∷ []) m text answers) (Back lo hi text answers (Said m (zone (m COLUMN)))) (zone (m COLUMN)) 97
 
 -- ---- Multiply
@@ -106,7 +106,7 @@ pub record Multiplied (m0 : ℕ → ℕ) (product : ℕ) (m : ℕ → ℕ) : Typ
 -- Multiply gives the product modulo 65,536 within 240 Go events
 abbrev pub MultiplyLaw : Type 0
 MultiplyLaw =
-    (f : Setup) → Fits f 2 → Holds multiply_part f.code → (lo hi : ℕ) (text answers : List ℕ) (m : ℕ → ℕ) (a x y : ℕ) (n v i z c : Bool) → IsWord m LEFT → IsWord m RIGHT →
+    (f : Setup) → Fits f 2 → Holds block_part f.code → (lo hi : ℕ) (text answers : List ℕ) (m : ℕ → ℕ) (a x y : ℕ) (n v i z c : Bool) → IsWord m LEFT → IsWord m RIGHT →
     Comes f (view a x y n v i z c MULTIPLY_AT (lo ∷ hi ∷ []) m text answers) (Back lo hi text answers (Multiplied m ((word_in m LEFT * word_in m RIGHT) % 65536))) [] 240
 
 -- ---- division without signs, inside Divide
@@ -128,7 +128,7 @@ pub record Parted (m0 : ℕ → ℕ) (q r : ℕ) (m : ℕ → ℕ) : Type 0 wher
 -- inside Divide: quotient and remainder of words without signs
 abbrev pub UnsignedLaw : Type 0
 UnsignedLaw =
-    (f : Setup) → Fits f 2 → Holds divide_part f.code → (lo hi : ℕ) (text answers : List ℕ) (m : ℕ → ℕ) (a x y : ℕ) (n v i z c : Bool) → IsWord m LEFT → IsWord m RIGHT → 1 ≤ word_in m RIGHT → word_in m RIGHT ≤ 32768 →
+    (f : Setup) → Fits f 2 → Holds block_part f.code → (lo hi : ℕ) (text answers : List ℕ) (m : ℕ → ℕ) (a x y : ℕ) (n v i z c : Bool) → IsWord m LEFT → IsWord m RIGHT → 1 ≤ word_in m RIGHT → word_in m RIGHT ≤ 32768 →
     Comes f (view a x y n v i z c unsigned_at (lo ∷ hi ∷ []) m text answers) (Back lo hi text answers (Parted m (word_in m LEFT / word_in m RIGHT) (word_in m LEFT % word_in m RIGHT))) [] 261
 
 -- ---- Divide
@@ -146,13 +146,13 @@ pub record Gives (m0 : ℕ → ℕ) (at q : ℕ) (m : ℕ → ℕ) : Type 0 wher
 -- Divide gives the quotient of signed words, truncated toward zero, within 316 Go events
 abbrev pub DivideLaw : Type 0
 DivideLaw =
-    (f : Setup) → Fits f 8 → Holds divide_part f.code → (lo hi : ℕ) (text answers : List ℕ) (m : ℕ → ℕ) (a x y : ℕ) (n v i z c : Bool) → IsWord m LEFT → IsWord m RIGHT → 1 ≤ word_in m RIGHT →
+    (f : Setup) → Fits f 8 → Holds block_part f.code → (lo hi : ℕ) (text answers : List ℕ) (m : ℕ → ℕ) (a x y : ℕ) (n v i z c : Bool) → IsWord m LEFT → IsWord m RIGHT → 1 ≤ word_in m RIGHT →
     Comes f (view a x y n v i z c DIVIDE_AT (lo ∷ hi ∷ []) m text answers) (Back lo hi text answers (Gives m RESULT (quotient (word_in m LEFT) (word_in m RIGHT)))) [] 316
 
 -- by 0, Divide comes to Fault with 2, with memory as it was
 abbrev pub DivideByZeroLaw : Type 0
 DivideByZeroLaw =
-    (f : Setup) → Fits f 2 → Holds divide_part f.code → (lo hi : ℕ) (text answers : List ℕ) (m : ℕ → ℕ) (a x y : ℕ) (n v i z c : Bool) → word_in m RIGHT ≡ 0 →
+    (f : Setup) → Fits f 2 → Holds block_part f.code → (lo hi : ℕ) (text answers : List ℕ) (m : ℕ → ℕ) (a x y : ℕ) (n v i z c : Bool) → word_in m RIGHT ≡ 0 →
     Comes f (view a x y n v i z c DIVIDE_AT (lo ∷ hi ∷ []) m text answers) (Faults lo hi text answers m 2) [] 6
 
 -- ---- Number
@@ -165,7 +165,7 @@ pub record Written (m0 : ℕ → ℕ) (t : List ℕ) (m : ℕ → ℕ) : Type 0 
 -- Number sends the shortest decimal text of the signed word at LEFT
 abbrev pub NumberLaw : Type 0
 NumberLaw =
-    (f : Setup) → Fits f 11 → Holds number_part f.code → Holds divide_part f.code → Holds send_part f.code → (lo hi : ℕ) (text answers : List ℕ) (m : ℕ → ℕ) (a x y : ℕ) (n v i z c : Bool) → IsWord m LEFT → m COLUMN < 256 →
+    (f : Setup) → Fits f 11 → Holds block_part f.code → (lo hi : ℕ) (text answers : List ℕ) (m : ℕ → ℕ) (a x y : ℕ) (n v i z c : Bool) → IsWord m LEFT → m COLUMN < 256 →
     Comes f (view a x y n v i z c NUMBER_AT (lo ∷ hi ∷ []) m text answers) (Back lo hi text answers (Written m (digits_of (word_in m LEFT)))) (digits_of (word_in m LEFT)) 1440
 
 -- ---- Random
@@ -190,11 +190,11 @@ pub record Drawn (m0 : ℕ → ℕ) (bound seed : ℕ) (m : ℕ → ℕ) : Type 
 -- Random takes the next seed, and gives what the bound leaves of it
 abbrev pub RandomLaw : Type 0
 RandomLaw =
-    (f : Setup) → Fits f 6 → Holds random_part f.code → Holds divide_part f.code → Holds multiply_part f.code → (lo hi : ℕ) (text answers : List ℕ) (m : ℕ → ℕ) (a x y : ℕ) (n v i z c : Bool) → IsWord m LEFT → IsWord m RIGHT → IsWord m SEED → 1 ≤ word_in m LEFT → word_in m LEFT < 32768 →
+    (f : Setup) → Fits f 6 → Holds block_part f.code → (lo hi : ℕ) (text answers : List ℕ) (m : ℕ → ℕ) (a x y : ℕ) (n v i z c : Bool) → IsWord m LEFT → IsWord m RIGHT → IsWord m SEED → 1 ≤ word_in m LEFT → word_in m LEFT < 32768 →
     Comes f (view a x y n v i z c RANDOM_AT (lo ∷ hi ∷ []) m text answers) (Back lo hi text answers (Drawn m (word_in m LEFT) (seed_of m))) [] 540
 
 -- for a bound below 1, Random comes to Fault with 3, with memory as it was
 abbrev pub RandomRangeLaw : Type 0
 RandomRangeLaw =
-    (f : Setup) → Fits f 2 → Holds random_part f.code → (lo hi : ℕ) (text answers : List ℕ) (m : ℕ → ℕ) (a x y : ℕ) (n v i z c : Bool) → IsWord m LEFT → (word_in m LEFT ≡ 0) ⊎ (32768 ≤ word_in m LEFT) →
+    (f : Setup) → Fits f 2 → Holds block_part f.code → (lo hi : ℕ) (text answers : List ℕ) (m : ℕ → ℕ) (a x y : ℕ) (n v i z c : Bool) → IsWord m LEFT → (word_in m LEFT ≡ 0) ⊎ (32768 ≤ word_in m LEFT) →
     Comes f (view a x y n v i z c RANDOM_AT (lo ∷ hi ∷ []) m text answers) (Faults lo hi text answers m 3) [] 7

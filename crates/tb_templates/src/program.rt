@@ -21,7 +21,8 @@ use std::alloc::{AllocError, Global};
 use tb_asm::{Item, Operand};
 use tb_lower::{SlotCode, SlotInstr, SlotLine};
 use tb_opcodes::Mnemonic;
-use tb_runtime16::{BLOCK_AT, COUNT, LINE, LINES_AT, Routine, TABLE, block, entry};
+use tb_routines::block;
+use tb_runtime16::{BLOCK_AT, COUNT, LINE, LINES_AT, Routine, TABLE, entry};
 
 // About the most items that lines have in the mean; only the speed hangs on it.
 const ITEMS_IN_A_LINE: usize = 32;
@@ -59,9 +60,9 @@ fn put_block(items: &mut Vec<Item>) -> Result<(), AllocError>
     ensures { OnOk result (map entry_of items.new.items ≡ map entry_of items.old.items ++ program.block_code) }
 {
     let alloc = *items.allocator();
-    let block = block();
+    let block = block(alloc)?;
     let gap = usize::from(LINES_AT - BLOCK_AT) - block.len();
-    put(items, Item::Bytes(block.to_vec(alloc)?))?;
+    put(items, Item::Bytes(block))?;
     put(items, Item::Bytes(zeros(alloc, gap)?))
 }
 

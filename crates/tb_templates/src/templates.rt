@@ -24,7 +24,7 @@ use std::alloc::AllocError;
 use tb_asm::{Item, Operand};
 use tb_lower::SlotInstr;
 use tb_opcodes::{Mnemonic, Mode};
-use tb_runtime16::{HELD, LEFT, LENGTH, POINTER, RESULT, RIGHT, Routine, SEND, SLOTS, VARS};
+use tb_runtime16::{HELD, LEFT, LENGTH, POINTER, RESULT, RIGHT, Routine, SEND_AT, SLOTS, VARS};
 use tb_syntax::Operator;
 use tb_words::{Letter, Rel};
 
@@ -335,7 +335,7 @@ pub fn put_instruction(
         SlotInstr::SendZone => put_call(items, Routine::Zone),
         SlotInstr::SendNewline => {
             put_const(items, Mnemonic::Lda, b'\r')?;
-            put_at(items, Mnemonic::Jsr, SEND)
+            put_at(items, Mnemonic::Jsr, SEND_AT)
         }
         SlotInstr::Input(letter) => {
             put_call(items, Routine::Input)?;
