@@ -1,5 +1,5 @@
 -- The return list: Push and Pop.
-use Rattle.std.specs.Prelude.{◌≡◌, ◌<◌, ◌≤◌, Bool, false, ℕ, List, [], ◌∷◌, ◌++◌, ◌+◌, ◌*◌, ◌||◌, length}
+use Rattle.std.specs.Prelude.{◌≡◌, ◌<◌, ◌≤◌, Bool, false, ℕ, List, [], ◌∷◌, ◌+◌, ◌*◌, ◌||◌, length}
 use Rattle.tb_cpu.specs.Operands.{word_in}
 use Rattle.tb_memmap.specs.Regions.{within}
 use Rattle.tb_reaching.specs.View.{View, Setup, Holds, Fits, Comes, view, back_at}
