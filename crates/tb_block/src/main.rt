@@ -67,16 +67,15 @@ fn laid(alloc: Global, text: &[u8]) -> Result<Image, Difference> {
     })
 }
 
-fn compare_bytes(alloc: Global, made: &[u8]) -> Result<(), Difference>
+fn compare_bytes(made: &[u8]) -> Result<(), Difference>
     ensures { IfOk result (λ _. made.now ≡ block_bytes) }
 {
-    let block = block(alloc).map_err(|_| Difference::NoMemory)?;
-    if made == block.as_slice() {
+    if made == block() {
         return Ok(());
     }
     let same = made
         .iter()
-        .zip(block.as_slice())
+        .zip(block())
         .take_while(|(one, other)| one == other)
         .count();
     Err(Difference::Bytes(same.saturating_add(BLOCK_AT.into())))
@@ -94,7 +93,7 @@ fn compare_label(image: &Image, label: &'static str, address: u16) -> Result<(),
 // Whether a text is the block's.
 fn compare(alloc: Global, text: &[u8]) -> Result<(), Difference> {
     let image = laid(alloc, text)?;
-    compare_bytes(alloc, image.bytes.as_slice())?;
+    compare_bytes(image.bytes.as_slice())?;
     for (label, address) in parts() {
         compare_label(&image, label, address)?;
     }

@@ -135,7 +135,7 @@ pub fn run_beside(machine: &mut Machine, rom: Option<u16>) -> Result<Status, Fai
 /// A memory with the block, noise from $C000 on, and a return to $A100 above S.
 pub fn memory_with_block(alloc: Global, s: u8) -> Result<Memory, Fail> {
     let mut memory = Memory::new(alloc)?;
-    memory.load(BLOCK_AT, &block(alloc)?)?;
+    memory.load(BLOCK_AT, block())?;
     memory.load(VARS, &[NOISE; 256])?;
     memory.load(u16::from_le_bytes([s, 1]).saturating_add(1), &[0xff, 0xa0])?;
     Ok(memory)

@@ -102,6 +102,8 @@ pub const POP_AT: u16 = PUSH_AT + PUSH_LENGTH as u16;
 pub const FAULT_AT: u16 = POP_AT + POP_LENGTH as u16;
 /// Where Poll begins.
 pub const POLL_AT: u16 = FAULT_AT + FAULT_LENGTH as u16;
+/// How many bytes the block has.
+pub const BLOCK_LENGTH: usize = (POLL_AT - BLOCK_AT) as usize + POLL_LENGTH;
 
 /// A routine that the code of lines calls.
 #[derive(Clone, Copy, Debug, PartialEq, Eq, Drop)]

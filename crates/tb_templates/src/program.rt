@@ -60,9 +60,9 @@ fn put_block(items: &mut Vec<Item>) -> Result<(), AllocError>
     ensures { OnOk result (map entry_of items.new.items ≡ map entry_of items.old.items ++ program.block_code) }
 {
     let alloc = *items.allocator();
-    let block = block(alloc)?;
+    let block = block();
     let gap = usize::from(LINES_AT - BLOCK_AT) - block.len();
-    put(items, Item::Bytes(block))?;
+    put(items, Item::Bytes(block.to_vec(alloc)?))?;
     put(items, Item::Bytes(zeros(alloc, gap)?))
 }
 
