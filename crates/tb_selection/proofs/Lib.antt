@@ -1,0 +1,5 @@
+pub mod Bracketed
+pub mod Chosen
+pub mod Stacked
+pub mod GroupRuns
+pub mod Closed

@@ -1,0 +1,5 @@
+use Rattle.tb_selection.proofs.laws.omitted_words_are_dead.Goals as goal
+use Rattle.tb_selection.proofs.Chosen.{chosen}
+
+pub returns : goal.returns
+returns c = chosen

@@ -1,0 +1,71 @@
+-- Groups: consecutive slot instructions that have one template.
+use Rattle.std.specs.Prelude.{ℕ, ◌+◌, List, [], ◌∷◌, ◌++◌}
+use Rattle.tb_words.specs.declared.Rel.{Rel}
+use Rattle.tb_syntax.specs.declared.expressions.Operator.{Operator}
+use Rattle.tb_lower.specs.Slots.{Instr, Put, Load, Store, Compute, Hold, LeaveUnless}
+
+-- where a word comes from: a constant, a variable, or the slot in which it stands already
+pub data Operand : Type 0 where
+  Constant : (w : ℕ) → Operand
+  Variable : (letter : ℕ) → Operand
+  InSlot : Operand
+
+-- where slot 0 goes: into a variable or into the held word
+pub data Home : Type 0 where
+  IntoVariable : (letter : ℕ) → Home
+  IntoHeld : Home
+
+-- where a result goes: it stays in its slot, or goes from slot 0 to a home
+pub data Destination : Type 0 where
+  IntoSlot : (k : ℕ) → Destination
+  IntoHome : (home : Home) → Destination
+
+-- the left word of a test: the one held before, or one that is held now
+pub data Tested : Type 0 where
+  HeldBefore : Tested
+  HeldNow : (a : Operand) → Tested
+
+-- consecutive slot instructions with one template: a calculation, a move, a test, or a single instruction
+pub data Group : Type 0 where
+  Calculate : (op : Operator) (a b : Operand) (d : Destination) → Group
+  Move : (a : Operand) (home : Home) → Group
+  Test : (rel : Rel) (a : Tested) (b : Operand) → Group
+  Single : (i : Instr) → Group
+
+-- an operand into slot k
+abbrev pub fetch : ℕ → Operand → List Instr
+fetch k (Constant w) = Put k w ∷ []
+fetch k (Variable x) = Load k x ∷ []
+fetch k InSlot = []
+
+-- slot 0 into its home
+abbrev pub keep : Home → Instr
+keep (IntoVariable x) = Store x
+keep IntoHeld = Hold
+
+-- the slot in which a result is worked out
+abbrev pub slot_of : Destination → ℕ
+slot_of (IntoSlot k) = k
+slot_of (IntoHome home) = 0
+
+-- the result to where it goes
+abbrev pub kept : Destination → List Instr
+kept (IntoSlot k) = []
+kept (IntoHome home) = keep home ∷ []
+
+-- the left word of a test is held
+abbrev pub held : Tested → List Instr
+held HeldBefore = []
+held (HeldNow a) = fetch 0 a ++ Hold ∷ []
+
+-- the slot instructions of a group
+abbrev pub expand : Group → List Instr
+expand (Calculate op a b d) = fetch (slot_of d) a ++ (fetch (slot_of d + 1) b ++ Compute op (slot_of d) ∷ kept d)
+expand (Move a home) = fetch 0 a ++ keep home ∷ []
+expand (Test rel a b) = held a ++ (fetch 0 b ++ LeaveUnless rel ∷ [])
+expand (Single i) = i ∷ []
+
+-- the slot instructions of groups, one behind the other
+abbrev pub expand_all : List Group → List Instr
+expand_all [] = []
+expand_all (g ∷ gs) = expand g ++ expand_all gs

@@ -1,0 +1,46 @@
+-- What is promised of groups, beside that they are the list.
+use Rattle.std.specs.Prelude.{◌≡◌, ℕ, ◌≤◌, true, List, [], ◌∷◌, Some}
+use Rattle.tb_syntax.specs.Source.{Program}
+use Rattle.tb_lower.specs.Steps.{Run, advance_by}
+use Rattle.tb_lower.specs.Control.{content_at}
+use Rattle.tb_lower.specs.Slots.{Instr, SlotCode, SlotState, slot_step, beginnings}
+use Rattle.tb_lower.specs.Lowered.{program_code}
+use Rattle.tb_selection.specs.Groups.{Group, expand_all}
+use Rattle.tb_selection.specs.GroupSteps.{group_step, groups_begin, IsInside}
+use Rattle.tb_selection.specs.Liveness.{live, nothing_live}
+use Rattle.tb_selection.specs.Select.{omits_only_dead, select}
+
+-- what each of these groups omits is dead behind it, and the groups behind it are the groups of their list
+abbrev pub AreChosen : List Group → Type 0
+AreChosen [] = Unit {0}
+AreChosen (g ∷ gs) = (omits_only_dead g (live (expand_all gs)) ≡ true) × (select (expand_all gs) ≡ gs) × AreChosen gs
+
+-- so it is with the groups of every list
+abbrev pub ChoiceLaw : Type 0
+ChoiceLaw = (is : List Instr) → AreChosen (select is)
+
+-- nothing is live before any list of slot code
+abbrev pub AreClosed : SlotCode → Type 0
+AreClosed code = (n : ℕ) (is : List Instr) → content_at code n ≡ Some is → live is ≡ nothing_live
+
+-- so it is with the slot code of every program
+abbrev pub ClosedLaw : Type 0
+ClosedLaw = (program : Program) → AreClosed (program_code program)
+
+-- after j groups a run is where it is after some k instructions, k at least j, having passed as many beginnings of lists
+pub record Reached (code : SlotCode) (j : ℕ) (r : Run SlotState) : Type 0 where
+  pub count : ℕ
+  pub enough : j ≤ count
+  pub same : advance_by (group_step code) j r ≡ advance_by (slot_step code) count r
+  pub begun : groups_begin code j r ≡ beginnings code count r
+
+-- where a run is after k instructions, it is after some j groups, j at most k, having passed as many beginnings of lists
+pub record Found (code : SlotCode) (k : ℕ) (r : Run SlotState) : Type 0 where
+  pub count : ℕ
+  pub few : count ≤ k
+  pub same : advance_by (group_step code) count r ≡ advance_by (slot_step code) k r
+  pub begun : groups_begin code count r ≡ beginnings code k r
+
+-- each run by groups is a run by instructions, which it follows wherever that one is not inside a line
+abbrev pub RunLaw : Type 0
+RunLaw = (code : SlotCode) (r : Run SlotState) → ((j : ℕ) → Reached code j r) × ((k : ℕ) → (IsInside (advance_by (slot_step code) k r) → ⊥) → Found code k r)

@@ -1,0 +1,6 @@
+pub mod Groups
+pub mod Liveness
+pub mod Select
+pub mod GroupSteps
+pub mod Laws
+pub mod Shown

@@ -1,0 +1,47 @@
+-- The crate's groups as plain data.
+use Rattle.std.specs.Prelude.{List, map, reverse}
+use Rattle.tb_words.specs.Letters.{place}
+use Rattle.tb_lower.specs.Shown.{instr_of}
+use Rattle.tb_selection.specs.declared.groups.Operand as operand
+use Rattle.tb_selection.specs.declared.groups.Operand.TheVariants as operands
+use Rattle.tb_selection.specs.declared.groups.Home as home
+use Rattle.tb_selection.specs.declared.groups.Home.TheVariants as homes
+use Rattle.tb_selection.specs.declared.groups.Destination as destination
+use Rattle.tb_selection.specs.declared.groups.Destination.TheVariants as destinations
+use Rattle.tb_selection.specs.declared.groups.Tested as tested
+use Rattle.tb_selection.specs.declared.groups.Tested.TheVariants as testeds
+use Rattle.tb_selection.specs.declared.groups.Group as group
+use Rattle.tb_selection.specs.declared.groups.Group.TheVariants as groups
+use Rattle.tb_selection.specs.Groups.{Operand, Constant, Variable, InSlot, Home, IntoVariable, IntoHeld, Destination, IntoSlot, IntoHome, Tested, HeldBefore, HeldNow, Group, Calculate, Move, Test, Single}
+
+-- an operand; a letter by its place from 0 for A
+abbrev pub operand_of : operand.Operand → Operand
+operand_of (operands.Constant w) = Constant w
+operand_of (operands.Variable x) = Variable (place x)
+operand_of operands.InSlot = InSlot
+
+-- where slot 0 goes
+abbrev pub home_of : home.Home → Home
+home_of (homes.IntoVariable x) = IntoVariable (place x)
+home_of homes.IntoHeld = IntoHeld
+
+-- where a result goes
+abbrev pub destination_of : destination.Destination → Destination
+destination_of (destinations.IntoSlot k) = IntoSlot k
+destination_of (destinations.IntoHome h) = IntoHome (home_of h)
+
+-- the left word of a test
+abbrev pub tested_of : tested.Tested → Tested
+tested_of testeds.HeldBefore = HeldBefore
+tested_of (testeds.HeldNow a) = HeldNow (operand_of a)
+
+-- a group
+abbrev pub group_of : group.Group → Group
+group_of (groups.Calculate op a b d) = Calculate op (operand_of a) (operand_of b) (destination_of d)
+group_of (groups.Move a h) = Move (operand_of a) (home_of h)
+group_of (groups.Test rel a b) = Test rel (tested_of a) (operand_of b)
+group_of (groups.Single i) = Single (instr_of i.now)
+
+-- groups of which the last one stands first
+abbrev pub in_order : List group.Group → List Group
+in_order gs = reverse (map group_of gs)
