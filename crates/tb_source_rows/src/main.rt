@@ -1,6 +1,6 @@
-//! Worked rows of the grammar, the parser, the slot code and the runs of sources. The rows lie in text files in the folder
-//! where the program runs. A row is a word that names a call, and what the call is given; it is printed with what the
-//! call answers. Comments and blank lines are printed as they are.
+//! Worked rows of the grammar, the parser, the slot code, its groups and the runs of sources. The rows lie in text
+//! files in the folder where the program runs. A row is a word that names a call, and what the call is given; it is
+//! printed with what the call answers. Comments and blank lines are printed as they are.
 #![tactic(auto)]
 
 mod failure;
@@ -15,6 +15,7 @@ use std::fs;
 use std::process::ExitCode;
 use std::rt::Files;
 use tb_grammar::{expressions_are_unique, statements_are_unique};
+use tb_selection::{groups_run_as_slot_code, lines_are_closed, omitted_words_are_dead};
 
 const FILES: [&str; 4] = ["grammar.txt", "refusals.txt", "parsing.txt", "runs.txt"];
 
@@ -39,6 +40,7 @@ fn show_answer(
         "jump" => runs::show_jump(alloc, out, text),
         "value" => runs::show_value(alloc, out, text),
         "lower" => runs::show_slot_code(alloc, out, text),
+        "groups" => runs::show_groups(alloc, out, text),
         "missing" => runs::show_missing(alloc, out, text),
         _ => Err(Failure::Word),
     }
@@ -88,9 +90,12 @@ fn show_file<R: Files + AllocGlobal>(
 }
 
 fn main(rt: HostRuntime) -> ExitCode {
-    // That no text has two readings is proved where these stand.
+    // That no text has two readings, and that groups do what slot code does, is proved where these stand.
     expressions_are_unique();
     statements_are_unique();
+    omitted_words_are_dead();
+    lines_are_closed();
+    groups_run_as_slot_code();
     let mut out = String::new(rt.alloc());
     let ending = show_files(&rt, &mut out);
     // Nobody can be told that the standard streams fail.

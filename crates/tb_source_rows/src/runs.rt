@@ -3,6 +3,7 @@ use crate::failure::Failure;
 use std::alloc::Global;
 use tb_lower::{LowerError, SlotCode, SourceRun, Warning, eval, lower, run_source, warnings};
 use tb_parser::{Expr, Program, parse, parse_expr};
+use tb_selection::select;
 
 /// The first state of RND.
 const SEED: u16 = 1;
@@ -119,6 +120,27 @@ fn show_code_lines(out: &mut String, code: &SlotCode) -> Result<(), Failure> {
 
 fn show_lower_error(out: &mut String, error: LowerError) -> Result<(), Failure> {
     write!(out, " {error:?}")?;
+    Ok(())
+}
+
+/// The groups of each line's slot code.
+pub fn show_groups(alloc: Global, out: &mut String, source: &[u8]) -> Result<(), Failure> {
+    let program = program(alloc, source)?;
+    show_selected(alloc, out, &program)
+}
+
+fn show_selected(alloc: Global, out: &mut String, program: &Program) -> Result<(), Failure> {
+    match lower(alloc, program) {
+        Ok(code) => show_group_lines(alloc, out, &code),
+        Err(error) => show_lower_error(out, error),
+    }
+}
+
+fn show_group_lines(alloc: Global, out: &mut String, code: &SlotCode) -> Result<(), Failure> {
+    for line in code.lines() {
+        let groups = select(alloc, &line.code)?;
+        write!(out, " {} {groups:?};", line.number)?;
+    }
     Ok(())
 }
 
