@@ -22,13 +22,13 @@ use Rattle.tb_lower.specs.Slots as slots
 
 -- ---- the text that is left
 -- a turn leaves bytes, at most so many
-abbrev Leaves : ℕ → Turn → Type 0
+abbrev pub Leaves : ℕ → Turn → Type 0
 Leaves k (Got v stays left) = (length left ≤ k) × AllBytes left
 Leaves k Bad = Unit {0}
 Leaves k Dry = Unit {0}
 
-record Short (k : ℕ) (t : Turn) : Type 0 where
-  few : Leaves k t
+pub record Short (k : ℕ) (t : Turn) : Type 0 where
+  pub few : Leaves k t
 
 short_more : (k : ℕ) (t : Turn) → Short k t → Short (suc k) t
 short_more k (Got v stays left) h = record { few = (omega (arith, h.few.0), h.few.1) }
@@ -49,7 +49,7 @@ short_signed k Nothing t h = h
 short_signed k (Sign negative) t h = record { few = tt }
 short_signed k (Digits negative n) t h = record { few = tt }
 
-turn_short : (text : List ℕ) (r : Reading) → AllBytes text → Short (length text) (turn r text)
+pub turn_short : (text : List ℕ) (r : Reading) → AllBytes text → Short (length text) (turn r text)
 turn_short [] r h = record { few = tt }
 turn_short (b ∷ text) r h =
     let k = suc (length text) in

@@ -1,0 +1,86 @@
+-- The laws of sums and differences.
+use Rattle.std.proofs.Common.{not, ◌≡◌, ℕ, ◌+◌, ◌-◌, ◌/◌, ◌%◌, ◌<◌, Bool, true, false, List, [], ◌∷◌, refl, sym, subst, arith}
+use Rattle.std.specs.Prelude.{nat_lt, nat_le}
+use Rattle.std.proofs.lemmas.Bool.{ltb-true, ltb-false, leb-true, leb-false}
+use Rattle.tb_cpu.specs.Effects.{bit}
+use Rattle.tb_words.specs.Words.{word}
+use Rattle.tb_syntax.specs.declared.expressions.Operator.{Operator}
+use Rattle.tb_syntax.specs.declared.expressions.Operator.TheVariants as op
+use Rattle.tb_lower.specs.Control.{State}
+use Rattle.tb_lower.specs.Slots.{Instr, Slots, SlotCode}
+use Rattle.tb_lower.specs.Steps.{Goes}
+use Rattle.tb_reaching.proofs.Comes.{looser}
+use Rattle.tb_reaching.specs.View.{Comes, Fits, Setup, View}
+use Rattle.tb_keeping.specs.Layout.{Layout}
+use Rattle.tb_keeping.proofs.Joins.{sent_in}
+use Rattle.tb_keeping.proofs.Resolved.{size}
+use Rattle.tb_selection.specs.Groups.{Operand, Destination, Calculate, slot_of, expand}
+use Rattle.tb_selection.specs.Select.{select}
+use Rattle.tb_selection.specs.GroupSteps.{steps}
+use Rattle.tb_grouping.proofs.Coded.{GroupsLie, source_of, destination_at, summed, taken}
+use Rattle.tb_grouping.proofs.Matching.{Matches, Target}
+use Rattle.tb_grouping.proofs.SlotSide.{line, landed, calculated, spread, fetched, calculate_goes, left_asked, right_asked}
+use Rattle.tb_grouping.proofs.Operands.{calc_fits, operand_held, operand_grounded, dest_in_data}
+use Rattle.tb_grouping.proofs.Sums.{sums, differs}
+use Rattle.tb_grouping.proofs.Ready.{Ready, here, calculate_lands}
+
+-- the carry of a sum
+carried_over : (n : ℕ) → n < 512 → bit (nat_lt 255 n) ≡ n / 256
+carried_over n h = go (nat_lt 255 n) refl
+  where
+    go : (t : Bool) → nat_lt 255 n ≡ t → bit t ≡ n / 256
+    go true e = omega (arith, h, ltb-true _ _ e)
+    go false e = omega (arith, h, ltb-false _ _ e)
+
+-- the sum of two words, and their difference, by bytes
+added_word : (al ah bl bh a b : ℕ) → al ≡ a % 256 → ah ≡ a / 256 → bl ≡ b % 256 → bh ≡ b / 256 → a < 65536 → b < 65536 → ((al + bl + 0) % 256 ≡ word (a + b) % 256) × ((ah + bh + bit (nat_lt 255 (al + bl + 0))) % 256 ≡ word (a + b) / 256)
+added_word al ah bl bh a b p q s t ra rb =
+    let c = carried_over (al + bl + 0) (omega (arith, p, s)) in
+    (omega (arith, p, s), omega (arith, c, p, q, s, t, ra, rb))
+
+subtracted_word : (al ah bl bh a b : ℕ) → al ≡ a % 256 → ah ≡ a / 256 → bl ≡ b % 256 → bh ≡ b / 256 → a < 65536 → b < 65536 → ((al + 256 - (bl + 0)) % 256 ≡ word (a + (65536 - b)) % 256) × ((ah + 256 - (bh + bit (not (nat_le (bl + 0) al)))) % 256 ≡ word (a + (65536 - b)) / 256)
+subtracted_word al ah bl bh a b p q s t ra rb = (omega (arith, p, s, rb), go (nat_le (bl + 0) al) refl)
+  where
+    go : (x : Bool) → nat_le (bl + 0) al ≡ x → (ah + 256 - (bh + bit (not x))) % 256 ≡ word (a + (65536 - b)) / 256
+    go true e = omega (arith, leb-true _ _ e, p, q, s, t, ra, rb)
+    go false e = omega (arith, leb-false _ _ e, p, q, s, t, ra, rb)
+
+module _ (ly : Layout) (f : Setup) (lo hi keys : ℕ) (fits : Fits f 16) (code : SlotCode) (n : ℕ) (a b : Operand) (d : Destination) (is : List Instr) (s : State) (r : Slots) (w : View) where
+  -- where the slot steps lead
+  abbrev pub Leads : Operator → ℕ → Type 0
+  Leads op k = Comes f w (Target ly f lo hi keys (steps code (expand (Calculate op a b d)) (line code n (spread op a b d is) s r))) (sent_in (steps code (expand (Calculate op a b d)) (line code n (spread op a b d is) s r))) k
+
+  goes : (op : Operator) (v k : ℕ) → steps code (expand (Calculate op a b d)) (line code n (spread op a b d is) s r) ≡ Goes (line code n is (landed d v s) (calculated s r a b d v)) [] → Comes f w (Matches ly f lo hi keys (line code n is (landed d v s) (calculated s r a b d v))) [] k → Leads op k
+  goes op v k e h = subst (λ x. Comes f w (Target ly f lo hi keys x) (sent_in x) k) (sym e) h
+
+  pub add_law : Ready ly f lo hi keys fits n (Calculate op.Add a b d) (spread op.Add a b d is) is s r w → Leads op.Add 7
+  add_law h =
+      let k = slot_of d in
+      let fit = calc_fits op.Add a b d h.ranged in
+      let x = fetched s r k a in
+      let y = fetched s r (k + 1) b in
+      let ha = operand_held ly s _ r w.mem k a h.state h.read fit.left (left_asked op.Add a b d is) in
+      let hb = operand_held ly s _ r w.mem (k + 1) b h.state h.read fit.right (right_asked op.Add a b d is) in
+      let sum = added_word _ _ _ _ x y ha.low_byte ha.high_byte hb.low_byte hb.high_byte ha.small hb.small in
+      let text = summed (source_of k a) (source_of (k + 1) b) (destination_at d) in
+      let behind : w.regs.pc + (size text + 0) ≡ w.regs.pc + size text = omega arith in
+      goes op.Add (word (x + y)) 7 (calculate_goes code n op.Add a b d is s r h.read.all_words fit.slot (word (x + y)) refl)
+      (looser f w _ _ [] 7 7 (omega arith)
+      (calculate_lands ly f lo hi keys fits code n h.small op.Add a b d is s r (word (x + y)) _ _ (w.regs.pc + size text) w.mem w.text w.answers sum.0 sum.1 (omega arith) fit.dest h.free (subst (λ p. GroupsLie ly f.code n p (select is)) behind h.rest) h.state h.read h.homed h.text h.answers h.short)
+      (sums f 16 fits w.regs.pc (lo ∷ hi ∷ []) w.mem w.text w.answers refl (source_of k a) (source_of (k + 1) b) (destination_at d) h.lies.0 (operand_grounded k a d (omega (arith, fit.slot)) fit.left) (operand_grounded (k + 1) b d fit.slot fit.right) (dest_in_data d fit.dest) h.lies.1 w (here ly f lo hi keys fits w [] [] h.stack h.binary)))
+
+  pub subtract_law : Ready ly f lo hi keys fits n (Calculate op.Subtract a b d) (spread op.Subtract a b d is) is s r w → Leads op.Subtract 7
+  subtract_law h =
+      let k = slot_of d in
+      let fit = calc_fits op.Subtract a b d h.ranged in
+      let x = fetched s r k a in
+      let y = fetched s r (k + 1) b in
+      let ha = operand_held ly s _ r w.mem k a h.state h.read fit.left (left_asked op.Subtract a b d is) in
+      let hb = operand_held ly s _ r w.mem (k + 1) b h.state h.read fit.right (right_asked op.Subtract a b d is) in
+      let sum = subtracted_word _ _ _ _ x y ha.low_byte ha.high_byte hb.low_byte hb.high_byte ha.small hb.small in
+      let text = taken (source_of k a) (source_of (k + 1) b) (destination_at d) in
+      let behind : w.regs.pc + (size text + 0) ≡ w.regs.pc + size text = omega arith in
+      goes op.Subtract (word (x + (65536 - y))) 7 (calculate_goes code n op.Subtract a b d is s r h.read.all_words fit.slot (word (x + (65536 - y))) refl)
+      (looser f w _ _ [] 7 7 (omega arith)
+      (calculate_lands ly f lo hi keys fits code n h.small op.Subtract a b d is s r (word (x + (65536 - y))) _ _ (w.regs.pc + size text) w.mem w.text w.answers sum.0 sum.1 (omega arith) fit.dest h.free (subst (λ p. GroupsLie ly f.code n p (select is)) behind h.rest) h.state h.read h.homed h.text h.answers h.short)
+      (differs f 16 fits w.regs.pc (lo ∷ hi ∷ []) w.mem w.text w.answers refl (source_of k a) (source_of (k + 1) b) (destination_at d) h.lies.0 (operand_grounded k a d (omega (arith, fit.slot)) fit.left) (operand_grounded (k + 1) b d fit.slot fit.right) (dest_in_data d fit.dest) h.lies.1 w (here ly f lo hi keys fits w [] [] h.stack h.binary)))

@@ -1,0 +1,116 @@
+-- An instruction that is a group of its own: what it does, and what holds while its code runs and behind it.
+use Rattle.std.proofs.Common.{◌≡◌, ◌≢◌, ℕ, ◌+◌, ◌/◌, ◌%◌, ◌≤◌, ◌<◌, true, false, List, [], ◌∷◌, length, refl, sym, ap, ◌∙◌, subst, arith, append-nil}
+use Rattle.tb_lower.specs.Control.{State, column_after}
+use Rattle.tb_lower.specs.Slots.{Instr, Rest, Whole, Left, Slots, SlotCode, SlotState, slot_step, with_word}
+use Rattle.tb_lower.specs.Steps.{Step, Goes, Stops, and_then}
+use Rattle.tb_reaching.proofs.Comes.{chained}
+use Rattle.tb_reaching.proofs.Instr.{Stands}
+use Rattle.tb_reaching.specs.View.{Comes, Fits, Setup, View}
+use Rattle.tb_routines.specs.Routines.{Entered, Here, Moves, Told, WordAt, is_owned}
+use Rattle.tb_runtime16.specs.Places.{HOME_S, LINE}
+use Rattle.tb_templates.specs.Templates.{slot_at}
+use Rattle.tb_keeping.specs.Layout.{Layout, place_at}
+use Rattle.tb_keeping.proofs.Frames.{owned_low, put_away, word_put}
+use Rattle.tb_keeping.proofs.Mirrors.{Typable}
+use Rattle.tb_keeping.proofs.Pieces.{put_word, sets}
+use Rattle.tb_keeping.proofs.Resolved.{constant, highest_code}
+use Rattle.tb_keeping.proofs.Templates.{homed_kept}
+use Rattle.tb_selection.specs.declared.liveness.Live.{Live}
+use Rattle.tb_selection.specs.Groups.{IntoSlot, Single}
+use Rattle.tb_selection.specs.Liveness.{live}
+use Rattle.tb_selection.specs.Select.{select}
+use Rattle.tb_selection.specs.GroupSteps.{inside, steps}
+use Rattle.tb_grouping.proofs.Beginnings.{nothing_read}
+use Rattle.tb_grouping.proofs.Coded.{GroupsLie}
+use Rattle.tb_grouping.proofs.Matching.{HoldsState, HoldsLive, Matches}
+use Rattle.tb_grouping.proofs.SlotSide.{line}
+use Rattle.tb_grouping.proofs.Landing.{Elsewhere, home_kept, read_lined, scratch_put, state_landed, state_lined, state_scratch}
+use Rattle.tb_grouping.proofs.Frames.{live_same, live_with, state_told}
+use Rattle.tb_grouping.proofs.Ready.{Ready, here, stood}
+
+-- its steps are one step
+pub one_step : (code : SlotCode) (i : Instr) (c : SlotState) → steps code (i ∷ []) c ≡ slot_step code c
+one_step code i c = by (slot_step code c)
+  where
+    on : (r : Rest) (c : SlotState) (t : List ℕ) → and_then (Goes c t) (λ d. inside (steps code []) r c) ≡ Goes c t
+    on Whole c t = ap (λ l. Goes c l) (append-nil t)
+    on (Left n is) c t = ap (λ l. Goes c l) (append-nil t)
+
+    by : (x : Step SlotState) → and_then x (λ c. inside (steps code []) c.rest c) ≡ x
+    by (Stops e t) = refl
+    by (Goes c t) = on c.rest c t
+
+module _ (ly : Layout) (f : Setup) (lo hi keys : ℕ) (fits : Fits f 16) where
+  -- what holds while its code runs: the state, what is live, and the way home
+  pub record Kept (u : Live) (s : State) (r : Slots) (m : ℕ → ℕ) : Type 0 where
+    pub state : HoldsState ly s m
+    pub read : HoldsLive u r m
+    pub homed : Entered f lo hi m
+
+  pub kept_scratch : (u : Live) (s : State) (r : Slots) (m m' : ℕ → ℕ) → u.slots ≤ 16 → ((a : ℕ) → is_owned a ≡ true → m' a ≡ m a) → Kept u s r m → Kept u s r m'
+  kept_scratch u s r m m' few e c = record {
+    state = state_scratch ly s m m' c.state e;
+    read = live_same u r m m' few (λ a lo hi. e a (owned_low a (omega (arith, lo)) hi)) c.read;
+    homed = homed_kept ly f lo hi keys fits m m' (e HOME_S (owned_low HOME_S (omega arith) (omega arith))) c.homed;
+  }
+
+  pub kept_put : (u : Live) (s : State) (r : Slots) (m : ℕ → ℕ) (p l h : ℕ) → u.slots ≤ 16 → is_owned p ≡ false → is_owned (p + 1) ≡ false → Kept u s r m → Kept u s r (put_word m p l h)
+  kept_put u s r m p l h few k k' c = kept_scratch u s r m (put_word m p l h) few (scratch_put m p l h k k') c
+
+  -- bytes were sent
+  pub kept_told : (u : Live) (s : State) (r : Slots) (m : ℕ → ℕ) (t : List ℕ) (at : ℕ) (bs text gets : List ℕ) (v : View) → u.slots ≤ 16 → Told at bs m text gets t v → Kept u s r m → Kept u (record s { column = column_after s.column t }) r v.mem
+  kept_told u s r m t at bs text gets v few g c = record {
+    state = state_told ly s m v.mem c.state t g.column g.others;
+    read = live_same u r m v.mem few (λ a lo hi. g.others a (owned_low a (omega (arith, lo)) hi) (λ e. omega (arith, e, lo))) c.read;
+    homed = homed_kept ly f lo hi keys fits m v.mem (g.others HOME_S (owned_low HOME_S (omega arith) (omega arith)) (λ e. omega (arith, e))) c.homed;
+  }
+
+  module _ (code : SlotCode) where
+    -- behind it, where a word was written into slot k
+    pub slot_lands : (n : ℕ) → n < 65536 → (u : Live) (is : List Instr) (s : State) (r : Slots) (k v l h at : ℕ) (m : ℕ → ℕ) (t gets : List ℕ) → l ≡ v % 256 → h ≡ v / 256 → v < 65536 → k < 16 → ((j : ℕ) → j < (live is).slots → j ≢ k → j < u.slots) → ((live is).held ≡ true → u.held ≡ true) → GroupsLie ly f.code n at (select is) → Kept u s r m → t ≡ s.text → gets ≡ s.answers → Typable keys s.text s.answers → (w : View) → Here at (lo ∷ hi ∷ []) (put_word m (slot_at k) l h) t gets w → Matches ly f lo hi keys (line code n is s (with_word r k v)) w
+    slot_lands n number u is s r k v l h at m t gets el eh small fit few held rl c text got short w e =
+        let m' = put_word m (slot_at k) l h in
+        let there : WordAt m' (slot_at k) v = word_put m (slot_at k) l h v el eh small in
+        let away : Elsewhere m m' (slot_at k) = λ p x y. put_away m (slot_at k) l h p x y in
+        stood ly f lo hi keys fits code n number is s (with_word r k v) at m' t gets rl
+        (state_landed ly s m m' (IntoSlot k) v fit c.state there away)
+        (live_with u (live is) r m m' k v fit few held c.read there away)
+        (homed_kept ly f lo hi keys fits m m' (home_kept (IntoSlot k) fit m m' away) c.homed)
+        text got short w e
+
+    -- where it has left the line
+    pub arrived : (s : State) (r : Slots) (at : ℕ) (m : ℕ → ℕ) (t gets : List ℕ) → at ≡ place_at ly s.place → HoldsState ly s m → length r.words ≡ 16 → Entered f lo hi m → t ≡ s.text → gets ≡ s.answers → Typable keys s.text s.answers → (w : View) → Here at (lo ∷ hi ∷ []) m t gets w → Matches ly f lo hi keys (record { state = s; rest = Whole; slots = r }) w
+    arrived s r at m t gets there hs all en text got short w e = record {
+      pc = e.pc ∙ there;
+      stack = e.stack;
+      binary = e.binary;
+      text = e.text ∙ text;
+      answers = e.answers ∙ got;
+      state = subst (HoldsState ly s) (sym e.mem) hs;
+      read = nothing_read r w.mem all;
+      homed = subst (Entered f lo hi) (sym e.mem) en;
+      short = short;
+    }
+
+  -- from its beginning
+  module _ (n : ℕ) (i : Instr) (is : List Instr) (s : State) (r : Slots) (w : View) (h : Ready ly f lo hi keys fits n (Single i) (i ∷ is) is s r w) where
+    pub kept : Kept (live (i ∷ is)) s r w.mem
+    kept = record { state = h.state; read = h.read; homed = h.homed }
+
+    -- memory with the line's number
+    abbrev pub lined : ℕ → ℕ
+    lined = put_word w.mem LINE (n % 256) (n / 256)
+
+    pub numbered : WordAt lined LINE n
+    numbered = word_put w.mem LINE (n % 256) (n / 256) n refl refl h.small
+
+    pub kept_lined : Kept (live (i ∷ is)) s r lined
+    kept_lined = record {
+      state = state_lined ly s w.mem (n % 256) (n / 256) h.state;
+      read = read_lined (live (i ∷ is)) r w.mem (n % 256) (n / 256) h.read;
+      homed = homed_kept ly f lo hi keys fits w.mem lined (put_away w.mem LINE (n % 256) (n / 256) HOME_S (λ q. omega (arith, q)) (λ q. omega (arith, q))) h.homed;
+    }
+
+    -- the line's number is set first
+    pub lines : w.regs.pc + 10 ≤ highest_code → Stands f.code w.regs.pc (constant n LINE) → (q : View → Type 0) (t : List ℕ) (k : ℕ) → Moves f (Here (w.regs.pc + 10) (lo ∷ hi ∷ []) lined w.text w.answers) q t k → Comes f w q t (4 + k)
+    lines room lies q t k next = chained f w _ q [] t 4 k (sets f 16 fits w.regs.pc (lo ∷ hi ∷ []) w.mem w.text w.answers refl n LINE room (omega arith, omega arith) lies w (here ly f lo hi keys fits w [] [] h.stack h.binary)) next

@@ -1,0 +1,111 @@
+-- The laws of what PRINT sends.
+use Rattle.std.proofs.Common.{◌≡◌, ℕ, ◌+◌, ◌-◌, ◌/◌, ◌%◌, ◌≤◌, List, [], ◌∷◌, length, refl, ap, ◌∙◌, subst, arith, append-nil}
+use Rattle.std.specs.Prelude.{slice_index, replicate}
+use Rattle.tb_words.specs.Words.{digits_of}
+use Rattle.tb_lower.specs.Control.{State, column_after, zone}
+use Rattle.tb_lower.specs.Slots.{Instr, SendText, SendNumber, SendZone, SendNewline, Slots, SlotCode}
+use Rattle.tb_memmap.specs.Bytes.{with_byte}
+use Rattle.tb_reaching.proofs.Comes.{chained, looser}
+use Rattle.tb_reaching.proofs.Memory.{put_other}
+use Rattle.tb_reaching.proofs.Placed.{along}
+use Rattle.tb_reaching.specs.View.{Bytes, Comes, Fits, Setup, View, back_at, view}
+use Rattle.tb_routines.specs.Routines.{Here, Moves, Routines, Told}
+use Rattle.tb_runtime16.specs.Places.{COLUMN, LEFT, LENGTH, NUMBER_AT, SEND_AT, TEXT_AT, ZONE_AT}
+use Rattle.tb_templates.specs.Templates.{slot_at}
+use Rattle.tb_keeping.specs.Layout.{Layout}
+use Rattle.tb_keeping.proofs.Frames.{word_put}
+use Rattle.tb_keeping.proofs.Pieces.{calls, copies, jumps, put_word, whatever}
+use Rattle.tb_keeping.proofs.Resolved.{byte_call, highest_code, text_call}
+use Rattle.tb_keeping.proofs.Templates.{apart, behind_call, moved, told_here}
+use Rattle.tb_selection.specs.Groups.{Single}
+use Rattle.tb_selection.specs.Liveness.{live}
+use Rattle.tb_selection.specs.Select.{select}
+use Rattle.tb_grouping.proofs.Coded.{GroupsLie}
+use Rattle.tb_grouping.proofs.Frames.{live_less}
+use Rattle.tb_grouping.proofs.Lone.{Kept, kept, kept_put, kept_scratch, kept_told}
+use Rattle.tb_grouping.proofs.Matching.{Matches}
+use Rattle.tb_grouping.proofs.Ready.{Ready, here, stood}
+use Rattle.tb_grouping.proofs.SlotSide.{line}
+
+module _ (ly : Layout) (f : Setup) (lo hi keys : ℕ) (fits : Fits f 16) (limit : ℕ) (rs : Routines ly.table ly.seed ly.numbers ly.start f lo hi keys limit) (code : SlotCode) (n : ℕ) (is : List Instr) (s : State) (r : Slots) (w : View) where
+  abbrev own : List ℕ
+  own = lo ∷ hi ∷ []
+
+  -- where bytes were sent
+  abbrev sent : List ℕ → State
+  sent t = record s { column = column_after s.column t }
+
+  -- behind the call of a routine that sends bytes
+  told_lands : (i : Instr) (h : Ready ly f lo hi keys fits n (Single i) (i ∷ is) is s r w) → (live is).slots ≤ (live (i ∷ is)).slots → (live (i ∷ is)).held ≡ (live is).held → (t : List ℕ) (at back : ℕ) (m : ℕ → ℕ) → GroupsLie ly f.code n at (select is) → Kept ly f lo hi keys fits (live (i ∷ is)) s r m → back ≡ at → (v : View) → Told back own m w.text w.answers t v → Matches ly f lo hi keys (line code n is (sent t) r) v
+  told_lands i h few held t at back m rest c e v g =
+      let c' = kept_told ly f lo hi keys fits (live (i ∷ is)) s r m t back own w.text w.answers v h.some_read g c in
+      stood ly f lo hi keys fits code n h.small is (sent t) r at v.mem w.text w.answers rest c'.state
+      (live_less (live (i ∷ is)) (live is) r v.mem few (λ q. held ∙ q) c'.read) c'.homed h.text h.answers h.short v
+      (told_here ly f lo hi keys fits back at m t w.text w.answers v g e)
+
+  pub newline_law : Ready ly f lo hi keys fits n (Single SendNewline) (SendNewline ∷ is) is s r w → Comes f w (Matches ly f lo hi keys (line code n is (sent (13 ∷ [])) r)) (13 ∷ []) (2 + limit)
+  newline_law h =
+      whatever f 16 fits w.regs.pc own w.mem w.text w.answers _ (13 ∷ []) (2 + limit) (λ a x y n' v i z c'.
+      along f 16 fits (byte_call SEND_AT 13) w.regs.pc (view a x y n' v i z c' w.regs.pc own w.mem w.text w.answers) _ _ (13 ∷ []) limit h.lies.1 (refl, refl, (refl, refl, tt)) refl
+      (looser f _ _ _ (13 ∷ []) limit limit (omega arith)
+      (told_lands SendNewline h (omega arith) refl (13 ∷ []) (w.regs.pc + 5) _ w.mem h.rest (kept ly f lo hi keys fits n SendNewline is s r w h) (returns_to w.regs.pc h.lies.0))
+      (rs.send _ _ w.mem w.text w.answers 13 (omega arith) _ (record { here = record { pc = refl; stack = refl; binary = refl; mem = refl; text = refl; answers = refl }; number = refl })))) w (here ly f lo hi keys fits w [] [] h.stack h.binary)
+    where
+      returns_to : (at : ℕ) → at + 5 ≤ highest_code → back_at ((((at + 2) % 65536 + 3) % 65536 + 65535) % 65536 % 256) ((((at + 2) % 65536 + 3) % 65536 + 65535) % 65536 / 256) ≡ at + 5
+      returns_to at b = let e : (((at + 2) % 65536 + 3) % 65536 + 65535) % 65536 ≡ at + 4 = omega arith in ap (λ p. back_at (p % 256) (p / 256)) e ∙ (let e' : back_at ((at + 4) % 256) ((at + 4) / 256) ≡ at + 5 = omega arith in e')
+
+  -- from the call of Text on
+  text_sent : (t : List ℕ) (h : Ready ly f lo hi keys fits n (Single (SendText t)) (SendText t ∷ is) is s r w) (low high : ℕ) → back_at low high ≡ w.regs.pc + 16 → (m : ℕ → ℕ) → Kept ly f lo hi keys fits (live is) s r m → m 0xFB ≡ (w.regs.pc + 19) % 256 → m 0xFC ≡ (w.regs.pc + 19) / 256 → m LENGTH ≡ length t → Moves f (Here TEXT_AT (low ∷ high ∷ own) m w.text w.answers) (Matches ly f lo hi keys (line code n is (sent t) r)) t (limit + 1)
+  text_sent t h low high e0 m c el eh en v e =
+      let lies = h.lies in
+      let shown = subst (λ p. Bytes f.code p t) (let e : w.regs.pc + 16 + 3 ≡ w.regs.pc + 19 = omega arith in e) lies.2.2.1.0 in
+      subst (λ l. Comes f v (Matches ly f lo hi keys (line code n is (sent t) r)) l (limit + 1)) (append-nil t)
+      (chained f v _ _ t [] limit 1
+      (rs.text low high m w.text w.answers (w.regs.pc + 19) t (record { low = el; high = eh; small = omega (arith, lies.2.2.0) }) en shown lies.2.2.1.1 (omega (arith, h.above)) (omega (arith, lies.2.2.0)) h.ranged.0 (omega (arith, c.state.column)) v e)
+      (λ u g.
+      let c' = kept_told ly f lo hi keys fits (live is) s r m t _ own w.text w.answers u h.few_behind g c in
+      looser f u _ _ [] 1 1 (omega arith)
+      (λ v e. stood ly f lo hi keys fits code n h.small is (sent t) r (w.regs.pc + (16 + (3 + (length t + 0)))) u.mem w.text w.answers h.rest c'.state c'.read c'.homed h.text h.answers h.short v (moved ly f lo hi keys fits _ _ own _ w.text w.answers v e (omega arith)))
+      (jumps f 16 fits (w.regs.pc + 16) own u.mem w.text w.answers refl (w.regs.pc + 19 + length t) lies.2.1 u (told_here ly f lo hi keys fits _ (w.regs.pc + 16) m t w.text w.answers u g e0))))
+
+  pub text_law : (t : List ℕ) → Ready ly f lo hi keys fits n (Single (SendText t)) (SendText t ∷ is) is s r w → Comes f w (Matches ly f lo hi keys (line code n is (sent t) r)) t (8 + limit)
+  text_law t h =
+      let m = with_byte w.mem 0xFB ((w.regs.pc + 19) % 256) in
+      let m' = with_byte m 0xFC ((w.regs.pc + 19) / 256) in
+      let c = kept_scratch ly f lo hi keys fits (live is) s r w.mem (with_byte m' LENGTH (length t)) h.few_behind (λ a o. put_other m' LENGTH (length t) a (apart ly f lo hi keys fits a LENGTH o refl) ∙ put_other m 0xFC ((w.regs.pc + 19) / 256) a (apart ly f lo hi keys fits a 0xFC o refl) ∙ put_other w.mem 0xFB ((w.regs.pc + 19) % 256) a (apart ly f lo hi keys fits a 0xFB o refl)) (kept ly f lo hi keys fits n (SendText t) is s r w h) in
+      whatever f 16 fits w.regs.pc own w.mem w.text w.answers _ t (8 + limit) (λ a x y n' v i z c'.
+      looser f _ _ _ t (7 + (limit + 1)) (8 + limit) (omega arith) (λ u g. g)
+      (along f 16 fits (text_call TEXT_AT (w.regs.pc + 19) (length t)) w.regs.pc (view a x y n' v i z c' w.regs.pc own w.mem w.text w.answers) _ _ t (limit + 1) h.lies.1 (refl, refl, (refl, refl, (refl, refl, (refl, refl, (refl, refl, (refl, refl, (refl, refl, tt))))))) refl
+      (text_sent t h _ _ (returns_to w.regs.pc h.lies.0) (with_byte m' LENGTH (length t)) c refl refl refl _ (record { pc = refl; stack = refl; binary = refl; mem = refl; text = refl; answers = refl })))) w (here ly f lo hi keys fits w [] [] h.stack h.binary)
+    where
+      returns_to : (at : ℕ) → at + 16 ≤ highest_code → back_at ((((((((((at + 2) % 65536 + 2) % 65536 + 2) % 65536 + 2) % 65536 + 2) % 65536) + 3) % 65536 + 3) % 65536 + 65535) % 65536 % 256) ((((((((((at + 2) % 65536 + 2) % 65536 + 2) % 65536 + 2) % 65536 + 2) % 65536) + 3) % 65536 + 3) % 65536 + 65535) % 65536 / 256) ≡ at + 16
+      returns_to at b = let e : (((((((((at + 2) % 65536 + 2) % 65536 + 2) % 65536 + 2) % 65536 + 2) % 65536) + 3) % 65536 + 3) % 65536 + 65535) % 65536 ≡ at + 15 = omega arith in ap (λ p. back_at (p % 256) (p / 256)) e ∙ (let e' : back_at ((at + 15) % 256) ((at + 15) / 256) ≡ at + 16 = omega arith in e')
+
+  pub zone_law : Ready ly f lo hi keys fits n (Single SendZone) (SendZone ∷ is) is s r w → Comes f w (Matches ly f lo hi keys (line code n is (sent (zone s.column)) r)) (zone s.column) (1 + limit)
+  zone_law h =
+      let same : zone (w.mem COLUMN) ≡ zone s.column = ap zone' h.state.column ∙ zone_mod s.column in
+      subst (λ t. Comes f w (Matches ly f lo hi keys (line code n is (sent t) r)) t (1 + limit)) same
+      (chained f w _ _ [] (zone (w.mem COLUMN)) 1 limit (calls f 16 fits w.regs.pc own w.mem w.text w.answers refl ZONE_AT refl h.lies.0 h.lies.1 w (here ly f lo hi keys fits w [] [] h.stack h.binary)) (λ u e.
+      looser f u _ _ (zone (w.mem COLUMN)) limit limit (omega arith)
+      (told_lands SendZone h (omega arith) refl (zone (w.mem COLUMN)) (w.regs.pc + 3) _ w.mem h.rest (kept ly f lo hi keys fits n SendZone is s r w h) (behind_call ly f lo hi keys fits w.regs.pc h.lies.0))
+      (rs.zone _ _ w.mem w.text w.answers (omega (arith, h.state.column)) u e)))
+    where
+      zone' : ℕ → List ℕ
+      zone' c = zone c
+
+      zone_mod : (c : ℕ) → zone (c % 256) ≡ zone c
+      zone_mod c = ap (λ k. replicate (8 - k) 32) (let e : c % 256 % 8 ≡ c % 8 = omega arith in e)
+
+  pub number_law : Ready ly f lo hi keys fits n (Single SendNumber) (SendNumber ∷ is) is s r w → Comes f w (Matches ly f lo hi keys (line code n is (sent (digits_of (slice_index r.words 0))) r)) (digits_of (slice_index r.words 0)) (5 + limit)
+  number_law h =
+      let lies = h.lies in
+      let t = digits_of (slice_index r.words 0) in
+      let v = h.read.words 0 (omega arith) in
+      let m = put_word w.mem LEFT (w.mem (slot_at 0)) (w.mem (slot_at 0 + 1)) in
+      let c = kept_put ly f lo hi keys fits (live (SendNumber ∷ is)) s r w.mem LEFT (w.mem (slot_at 0)) (w.mem (slot_at 0 + 1)) h.some_read refl refl (kept ly f lo hi keys fits n SendNumber is s r w h) in
+      looser f w _ _ t (4 + (1 + limit)) (5 + limit) (omega arith) (λ u x. x)
+      (chained f w _ _ [] t 4 (1 + limit) (copies f 16 fits w.regs.pc own w.mem w.text w.answers refl (slot_at 0) LEFT lies.0 (omega arith, omega arith) (omega arith, omega arith) (λ e. omega (arith, e)) lies.1 w (here ly f lo hi keys fits w [] [] h.stack h.binary)) (λ u e.
+      chained f u _ _ [] t 1 limit (calls f 16 fits (w.regs.pc + 12) own m w.text w.answers refl NUMBER_AT refl lies.2.0 lies.2.1 u e) (λ u e.
+      looser f u _ _ t limit limit (omega arith)
+      (told_lands SendNumber h (omega arith) refl t (w.regs.pc + 15) _ m h.rest c (behind_call ly f lo hi keys fits (w.regs.pc + 12) lies.2.0 ∙ (let q : w.regs.pc + 12 + 3 ≡ w.regs.pc + 15 = omega arith in q)))
+      (rs.number _ _ m w.text w.answers (slice_index r.words 0) (word_put w.mem LEFT (w.mem (slot_at 0)) (w.mem (slot_at 0 + 1)) _ v.low v.high v.small) (omega (arith, c.state.column)) u e))))
