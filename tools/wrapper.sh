@@ -1,0 +1,196 @@
+#!/usr/bin/env bash
+# Tries ./tbc in copies of this repository: one that is built, one that isn't. Another rt, which only writes what the
+# toolchain would, stands for the toolchain, but for one trial run. Prints what differs, and then ends with status 1.
+. "$(dirname "${BASH_SOURCE[0]}")/setup.sh"
+needs_program
+needs rt python3
+slowest=16 # ./tbc may take so many times what the program takes to start; it is 20 ms where that is 1.25
+
+rows=0
+failed=0
+real_path=$PATH
+row() { # STATUS SAID SHOWN WORD..: SAID and SHOWN are patterns of standard error and output, without the last line end
+    local status=0 wanted=$1 said=$2 shown=$3
+    shift 3
+    rows=$((rows + 1))
+    "$@" >shown 2>said </dev/null || status=$?
+    [[ $status == "$wanted" && $(<said) == $said && $(<shown) == $shown ]] && return
+    failed=$((failed + 1))
+    printf '%s\n  status %s, wanted %s\n  said %q, wanted %q\n  shown %q, wanted %q\n' \
+        "$*" "$status" "$wanted" "$(<said)" "$said" "$(<shown)" "$shown"
+}
+plain() { sed 's/[][*?\\]/\\&/g' <<<"$1"; } # TEXT: a pattern of this text alone
+is_so() { # OTHERWISE WORD..: says OTHERWISE where WORD.. fails
+    local otherwise=$1
+    shift
+    rows=$((rows + 1))
+    "$@" >/dev/null 2>&1 && return
+    failed=$((failed + 1))
+    echo "$otherwise"
+}
+# Runs a command as a terminal does, in a group of its own that an interrupt can end.
+interruptible() {
+    local start='import os, signal, sys; os.setsid(); signal.signal(signal.SIGINT, signal.SIG_DFL); os.execv(sys.argv[1], sys.argv[1:])'
+    exec python3 -c "$start" "$@"
+}
+at_terminal() { python3 -c 'import pty, sys; sys.exit(pty.spawn(sys.argv[1:]) >> 8)' "$@"; }
+
+# Copies of what a clone has, with the proved program in one of them.
+copy() { # NAME
+    local part
+    mkdir -p "$1/tools"
+    cp "$root/tbc" "$root/crates.txt" "$root/HANDLES" "$1"
+    cp "$root/tools/help.txt" "$1/tools"
+    (cd "$root" && find crates -name out -prune -o -type f \( -path '*/src/*' -o -path '*/specs/*' \) -print) >files
+    tar -C "$root" -cf - -T files | tar -C "$1" -xf -
+}
+copy unbuilt
+copy built
+mkdir -p built/crates/tbc/out
+cp "$tbc" built/crates/tbc/out/tbc
+
+# The other rt: it writes down its words and its input, and then does what $AS says.
+mkdir stub
+cat >stub/rt <<'END'
+#!/usr/bin/env bash
+printf '%s\n' "$PWD" "$@" >"$STUB/words"
+case $1:${AS-} in
+    try:answer)
+        cat >"$STUB/input"
+        echo SHOWN
+        printf 'tbc: step limit\nchecked: ended status=5\nraces: not looked for\nrun=ended status=5 runners=1 proved=no\n' >&2
+        exit 5
+        ;;
+    try:silent)
+        printf 'interpreter: no-answer: a call\nchecked: no-answer: the program did not end within the time limit\n' >&2
+        printf 'run=no-answer proved=no\n' >&2
+        exit 6
+        ;;
+    try:*) echo 'error[some]: no such thing' >&2; exit 1 ;;
+    all:good) printf '== tb_words\n== tb_opcodes\nfn f: proved\nlogic=proved functions=1\n== summary\n2 of 2 crates ok\n' ;;
+    all:bad) printf '== tb_words\nfn f: not proved\nlogic=unproved\n'; exec sleep 1000 ;;
+    all:long) echo $$ >"$STUB/pid"; exec sleep 1000 ;;
+    run:*) cp "$TBC" out/tbc ;;
+esac
+END
+chmod +x stub/rt
+export STUB=$work/stub TBC=$tbc
+printf '10 PRINT "HELLO"\n20 END\n' >hello.bas
+printf '10 INPUT A\n' >wait.bas
+
+# A copy that is built: the program's own answers, wherever it is called from, and no slower than it may be.
+PATH=/usr/bin:/bin
+row 0 '' HELLO built/tbc run hello.bas
+row 6 'tbc: waits for a key' '\? ' built/tbc run wait.bas
+row 2 'error: *' '' built/tbc jump
+row 3 'tbc: read fault' '' built/tbc run --prg=nowhere.prg
+ln -s built/tbc link
+row 0 '' HELLO ./link run hello.bas
+row 0 '' HELLO bash built/tbc run hello.bas
+row 0 '' HELLO env -C built/crates ../tbc run "$work/hello.bas"
+row 0 '' HELLO env PATH="$work/built:$PATH" tbc run hello.bas
+row 0 '' "$(plain "$("$tbc" --version)")" built/tbc --version
+row 0 '' "$(plain "$("$tbc" run --help)")" built/tbc run --help
+row 0 '' "$(plain "$("$tbc" --help)")*--build *--install DIR *vice FILE.prg *" built/tbc --help
+row 2 "$(plain "$("$tbc" 2>&1 || true)")" '' built/tbc
+for ((i = 0; i < 21; i++)); do
+    timed program "$tbc" --version
+    timed wrapper built/tbc --version
+done
+rows=$((rows + 1))
+ratio=$(awk -v a="$(median wrapper)" -v b="$(median program)" 'BEGIN { printf "%.1f", a / b }')
+echo "the program starts in $(median program) us, ./tbc in $(median wrapper) us: $ratio times"
+awk -v a="$ratio" -v b="$slowest" 'BEGIN { exit a > b }' || { failed=$((failed + 1)) && echo "that is more than $slowest times"; }
+
+# Installing
+row 0 "tbc: installed as $work/bin/tbc" '' built/tbc --install "$work/bin"
+row 0 '' HELLO bin/tbc run hello.bas
+row 2 'tbc: --install takes a folder' '' built/tbc --install
+row 3 '*tbc: write fault' '' built/tbc --install hello.bas/bin
+row 3 'tbc: the proved program is not built yet: ./tbc --build first' '' unbuilt/tbc --install "$work/bin"
+
+# The emulator, and one that writes what it is started with
+row 3 'tbc: x64sc is not there: *' '' env PATH="$work/nowhere" "$BASH" built/tbc vice hello.prg
+mkdir emulator
+printf '#!/bin/sh\necho x64sc "$@"\n' >emulator/x64sc
+chmod +x emulator/x64sc
+PATH=$work/emulator:$PATH
+touch game.prg named.prg named.labels
+row 0 '' 'x64sc -autostart game.prg' built/tbc vice game.prg
+row 0 '' 'x64sc -autostart named.prg -moncommands named.labels' unbuilt/tbc vice named.prg
+row 3 'tbc: read fault' '' built/tbc vice nowhere.prg
+row 2 'tbc: vice takes a PRG file' '' built/tbc vice
+
+# A copy that isn't built, with no toolchain at all: texts come at once, and are the program's
+"$root/tools/help_text.sh" >texts
+is_so 'tools/help.txt is not what the program says (tools/help_text.sh >tools/help.txt)' cmp texts "$root/tools/help.txt"
+row 0 '' "$(plain "$("$tbc" --version)")" unbuilt/tbc --version
+row 0 '' "$(plain "$("$tbc" -V)")" unbuilt/tbc -V
+row 0 '' "$(plain "$("$tbc" --help)")*--build *--install DIR *vice FILE.prg *" unbuilt/tbc --help
+row 0 '' "$(plain "$("$tbc" -h)")*--build *" unbuilt/tbc -h
+row 0 '' "$(plain "$("$tbc" build -h)")" unbuilt/tbc build -h
+row 2 "$(plain "$("$tbc" 2>&1 || true)")" '' unbuilt/tbc
+command -v rt >/dev/null || row 3 'tbc: the proved program is not built yet, and the command rt *' '' unbuilt/tbc run hello.bas
+
+# Trial runs: what the toolchain says of itself does not show, and files are found from its own folder
+PATH=$work/stub:$real_path
+export AS=answer
+trial='tbc: the proved program is not built yet (./tbc --build): a trial run, not proved, takes *'
+row 5 "$trial"$'\n''tbc: step limit' SHOWN unbuilt/tbc run hello.bas
+words() { # WORD..: what the program of a trial run was started with
+    rows=$((rows + 1))
+    [[ $(sed '1,/^--$/d' stub/words | tr '\n' ' ') == "$* " ]] && return
+    failed=$((failed + 1))
+    echo "a trial run was started with $(tr '\n' ' ' <stub/words), wanted $*"
+}
+words run "$work/hello.bas"
+row 5 '*' SHOWN unbuilt/tbc run --keys 31 hello.bas --seed=3
+words run --keys 31 "$work/hello.bas" --seed=3
+row 5 '*' SHOWN unbuilt/tbc run --prg game.prg --limit 5
+words run --prg "$work/game.prg" --limit 5
+row 5 '*' SHOWN unbuilt/tbc run --prg=game.prg
+words run --prg="$work/game.prg"
+row 5 '*' SHOWN unbuilt/tbc run "--prg=$work/game.prg"
+words run --prg="$work/game.prg"
+row 5 '*' SHOWN unbuilt/tbc asm hello.s out.prg --at c000
+words asm "$work/hello.s" "$work/out.prg" --at c000
+printf 's\nq\n' | unbuilt/tbc step hello.bas >/dev/null 2>&1 || true
+is_so 'the commands of step do not reach the program' test "$(<stub/input)" = $'s\nq'
+AS=silent row 3 "$trial"$'\n''tbc: the trial run had not ended after * s: ./tbc --build first, *' '' unbuilt/tbc run hello.bas
+AS=refuses row 3 "$trial"$'\n''tbc: the trial run has no answer: see *' '' unbuilt/tbc run hello.bas
+beyond='needs the proved program, which is not built yet: ./tbc --build first'
+row 3 "tbc: a run of up to 1000000000 events $beyond" '' unbuilt/tbc run hello.bas --limit 1000000000
+row 3 "tbc: a run of up to 1000000000 events $beyond" '' unbuilt/tbc run --limit=1000000000 hello.bas
+row 3 '' "tbc: step at a keyboard $beyond"* at_terminal unbuilt/tbc step hello.bas
+
+# What is stale: sources, definitions and the list of crates of what the program stands on, and nothing else
+mkdir -p built/crates/tb_words/proofs
+touch built/crates/tb_words/proofs/Lib.antt built/crates/tb_program_rows/src/main.rt
+row 0 '' HELLO built/tbc run hello.bas
+for file in crates/tb_words/src/lib.rt crates/tb_memmap/specs/Lib.antt crates.txt; do
+    touch "built/$file"
+    row 5 "tbc: the proved program is older than $file (./tbc --build): *" SHOWN built/tbc run hello.bas
+    touch built/crates/tbc/out/tbc
+done
+
+# Building: how far it is, what it took, the first crate that fails, and no prover left behind
+AS=good row 0 'tbc: proving the * crates of the program, * side by side
+tbc: 2 of * crates, *
+tbc: linking
+tbc: built in * s: */out/tbc' '' unbuilt/tbc --build
+row 0 '' HELLO unbuilt/tbc run hello.bas
+AS=good row 0 'tbc: proving the *; last time 1 of them took 0 min * s*' '' unbuilt/tbc --build
+AS=bad row 3 '*tbc: tb_words is not proved: see */out/build.log' '' unbuilt/tbc --build
+AS=long interruptible unbuilt/tbc --build >/dev/null 2>&1 &
+for ((i = 0; i < 100; i++)); do [ -s stub/pid ] && break || sleep 0.1; done
+kill -INT -- "-$!"
+wait "$!" || true
+is_so 'a build that is stopped leaves a prover' test ! -d "/proc/$(<stub/pid)"
+
+# One trial run by the toolchain itself
+PATH=$real_path
+rm -f unbuilt/crates/tbc/out/tbc
+row 0 "$trial" HELLO unbuilt/tbc run hello.bas
+
+echo "$rows calls of ./tbc, $failed other than they should be"
+[ "$failed" = 0 ]
