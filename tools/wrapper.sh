@@ -175,7 +175,7 @@ done
 
 # Building: how far it is, what it took, the first crate that fails, and no prover left behind
 AS=good row 0 'tbc: proving the * crates of the program, * side by side
-tbc: 2 of * crates, *
+tbc: 2 of * crates done, *
 tbc: linking
 tbc: built in * s: */out/tbc' '' unbuilt/tbc --build
 row 0 '' HELLO unbuilt/tbc run hello.bas
