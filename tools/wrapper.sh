@@ -37,7 +37,6 @@ at_terminal() { python3 -c 'import pty, sys; sys.exit(pty.spawn(sys.argv[1:]) >>
 
 # Copies of what a clone has, with the proved program in one of them.
 copy() { # NAME
-    local part
     mkdir -p "$1/tools"
     cp "$root/tbc" "$root/crates.txt" "$root/HANDLES" "$1"
     cp "$root/tools/help.txt" "$1/tools"
