@@ -1,5 +1,6 @@
 -- What is delivered of a source and commands.
 use Rattle.std.proofs.Common.{◌≡◌, ℕ, List, [], Option, Result, Ok, Err, refl, subst, sym, ap, ◌∙◌}
+use Rattle.std.specs.Io.KnownBytes.{Consumes}
 use Rattle.tb_lower.specs.declared.missing.Warning.{Warning}
 use Rattle.tb_kernal.specs.declared.outside.Quiet.{Quiet}
 use Rattle.tb_kernal.specs.Machine.{Content}
@@ -12,11 +13,10 @@ use Rattle.tb_stepper.specs.Notes.{Holds}
 use Rattle.tb_commands.specs.Lines.{lines_of}
 use Rattle.tb_commands.specs.Dialogue.{Dialogue}
 use Rattle.tb_streams.specs.Streams.{Reads}
-use Rattle.tb_engines.specs.Outcomes.{MadeFrom}
 use Rattle.tb_engines.specs.Made.{Makes}
 use Rattle.tb_engines.specs.Programs.{start}
 use Rattle.tb_driver.specs.Sources.{Compiles, IsCompiled, stop_of, FromSource}
-use Rattle.tb_driver.specs.Stepping.{IsLoadable, gives_quiet, start_of_history, Steps, StepsThrough}
+use Rattle.tb_driver.specs.Stepping.{IsLoadable, gives_quiet, start_of_history, Steps, StepsThrough, MadeFromTaken}
 use Rattle.tb_engines.specs.declared.made.Text.{Text}
 use Rattle.tb_engines.specs.declared.made.Stop.{Stop}
 use Rattle.tb_engines.specs.declared.outcome.End.TheVariants.{Done}
@@ -44,18 +44,18 @@ module _ (text answers : List ℕ) (limit : ℕ) where
       (k, subst (λ x. Dialogue gives_quiet limit x (lines_of commands) said k) whole talked, refl)
 
   -- what was made of a source's program and of commands that were read
-  pub steps_made : (seed : ℕ) (had_commands : Option (List ℕ)) (source typed commands : List ℕ) (program : Compiled) (warnings : List Warning)
-      (made : Result Text Stop) → Reads had_commands typed → commands ≡ typed → Compiles seed source (Ok program) → warnings ≡ warnings_of program
+  pub steps_made : (seed : ℕ) (had_commands left_commands : Option (List ℕ)) (source typed commands : List ℕ) (program : Compiled) (warnings : List Warning)
+      (made : Result Text Stop) → Reads had_commands typed → Consumes had_commands left_commands typed → commands ≡ typed → Compiles seed source (Ok program) → warnings ≡ warnings_of program
       → Makes (Steps text answers limit program commands) made
-      → Makes (MadeFrom had_commands (StepsThrough seed text answers limit warnings source)) made
-  steps_made seed had_commands source typed commands program warnings made reads same compiled warned m =
+      → Makes (MadeFromTaken had_commands left_commands (StepsThrough seed text answers limit warnings source)) made
+  steps_made seed had_commands left_commands source typed commands program warnings made reads taken same compiled warned m =
       let here = subst (λ c. Makes (Steps text answers limit program c) made) same m in
-      makes_as (FromSource seed (λ p. Steps text answers limit p typed) warnings source) (MadeFrom had_commands (StepsThrough seed text answers limit warnings source))
-      (λ x h. (typed, reads, h)) made (from_compiled seed (λ p. Steps text answers limit p typed) source program warnings made compiled warned here)
+      makes_as (FromSource seed (λ p. Steps text answers limit p typed) warnings source) (MadeFromTaken had_commands left_commands (StepsThrough seed text answers limit warnings source))
+      (λ x h. (typed, reads, taken, h)) made (from_compiled seed (λ p. Steps text answers limit p typed) source program warnings made compiled warned here)
 
   -- what was made of a source that is refused
-  pub steps_refused : (seed : ℕ) (had_commands : Option (List ℕ)) (source typed : List ℕ) (e : CompileError) → Reads had_commands typed → IsCompiled seed source (Err e)
-      → Makes (MadeFrom had_commands (StepsThrough seed text answers limit [] source)) (Err (stop_of e))
-  steps_refused seed had_commands source typed e reads refused =
-      makes_as (FromSource seed (λ p. Steps text answers limit p typed) [] source) (MadeFrom had_commands (StepsThrough seed text answers limit [] source))
-      (λ x h. (typed, reads, h)) (Err (stop_of e)) (from_refusal seed (λ p. Steps text answers limit p typed) source e refused)
+  pub steps_refused : (seed : ℕ) (had_commands left_commands : Option (List ℕ)) (source typed : List ℕ) (e : CompileError) → Reads had_commands typed → Consumes had_commands left_commands typed → IsCompiled seed source (Err e)
+      → Makes (MadeFromTaken had_commands left_commands (StepsThrough seed text answers limit [] source)) (Err (stop_of e))
+  steps_refused seed had_commands left_commands source typed e reads taken refused =
+      makes_as (FromSource seed (λ p. Steps text answers limit p typed) [] source) (MadeFromTaken had_commands left_commands (StepsThrough seed text answers limit [] source))
+      (λ x h. (typed, reads, taken, h)) (Err (stop_of e)) (from_refusal seed (λ p. Steps text answers limit p typed) source e refused)

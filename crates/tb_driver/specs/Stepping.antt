@@ -1,5 +1,6 @@
 -- What comes of a source and of commands.
 use Rattle.std.specs.Prelude.{ℕ, ◌≡◌, ◌≢◌, ◌⊎◌, List, [], length, Option, Result, Ok, Err}
+use Rattle.std.specs.Io.KnownBytes.{Consumes}
 use Rattle.tb_memmap.specs.Bytes.{IsOpenRange}
 use Rattle.tb_prg.specs.Prg.{content_of}
 use Rattle.tb_lower.specs.declared.missing.Warning.{Warning}
@@ -12,7 +13,7 @@ use Rattle.tb_codegen.specs.declared.compiled.Compiled.{Compiled}
 use Rattle.tb_stepper.specs.Notes.{Holds}
 use Rattle.tb_commands.specs.Lines.{lines_of}
 use Rattle.tb_commands.specs.Dialogue.{Dialogue}
-use Rattle.tb_streams.specs.Streams.{MayPassMost}
+use Rattle.tb_streams.specs.Streams.{MayPassMost, Reads}
 use Rattle.tb_engines.specs.Outcomes.{Product, MadeFrom}
 use Rattle.tb_engines.specs.Programs.{start}
 use Rattle.tb_driver.specs.Sources.{FromSource}
@@ -45,10 +46,14 @@ abbrev pub StepsThrough : ℕ → List ℕ → List ℕ → ℕ → List Warning
 StepsThrough seed text answers limit warnings source commands product =
     FromSource seed (λ program. Steps text answers limit program commands) warnings source product
 
--- made from all that two readers had
-abbrev pub MadeFromBoth : Option (List ℕ) → Option (List ℕ) → (List ℕ → List ℕ → Product → Type 0) → Product → Type 0
-MadeFromBoth had_source had_commands makes product =
-    MadeFrom had_source (λ source. MadeFrom had_commands (makes source)) product
+-- made from all that a reader had, all of which was taken from it
+abbrev pub MadeFromTaken : Option (List ℕ) → Option (List ℕ) → (List ℕ → Product → Type 0) → Product → Type 0
+MadeFromTaken had left makes product = (input : List ℕ) × Reads had input × Consumes had left input × makes input product
+
+-- made from all that two readers had; the second is read to its end also where the source is refused
+abbrev pub MadeFromBoth : Option (List ℕ) → Option (List ℕ) → Option (List ℕ) → (List ℕ → List ℕ → Product → Type 0) → Product → Type 0
+MadeFromBoth had_source had_commands left_commands makes product =
+    MadeFrom had_source (λ source. MadeFromTaken had_commands left_commands (makes source)) product
 
 -- a reader failed in this call, by its count of failures, or gave too many bytes
 abbrev pub MayFault : Option (List ℕ) → ℕ → ℕ → Type 0

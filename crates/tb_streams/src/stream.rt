@@ -1,6 +1,6 @@
 //! A whole input, and a whole output.
 ghost use Rattle.std.specs.Prelude.{◌≡◌, ◌≤◌, ◌+◌, IfOk, OnOk, OnErr, is_err, vec_len};
-ghost use Rattle.std.specs.Io.KnownBytes.{Appends};
+ghost use Rattle.std.specs.Io.KnownBytes.{Appends, Consumes};
 ghost use Rattle.tb_streams.specs.Streams.{most_input, counted, Reads, ConsumesAtMost, AppendsPrefix};
 ghost use Rattle.tb_streams.specs.Inputs.{InputFaults};
 ghost use Rattle.tb_streams.specs.Failures.{failures_of};
@@ -32,6 +32,8 @@ pub fn read_input<R: Read>(alloc: Global, reader: &mut Tracked<R>) -> Result<Vec
         (failures_of reader.old) (failures_of reader.new) }
     ensures taken { ConsumesAtMost (R.remaining reader.old.stream) (R.remaining reader.new.stream)
         (most_input + 1) }
+    ensures consumed { IfOk result (λ input. Consumes (R.remaining reader.old.stream)
+        (R.remaining reader.new.stream) input.items) }
 {
     let mut input = Vec::new(alloc);
     let mut chunk = [0u8; CHUNK];
