@@ -4,15 +4,14 @@
 
 ghost use Rattle.std.specs.Prelude.{◌≡◌, IfOk, Some};
 ghost use Rattle.tb_asm.specs.Layout.{address_in};
-ghost use Rattle.tb_routines.specs.Block.{block_bytes};
+ghost use Rattle.tb_runtime16.specs.Block.{block_bytes};
 
 use std::alloc::Global;
 use std::fs;
 use std::process::ExitCode;
 use std::rt::Files;
 use tb_asm::{AsmErrorKind, Image, Name, TextError, assemble, read_text};
-use tb_routines::block;
-use tb_runtime16::{BLOCK_AT, Routine, SEND_AT, entry};
+use tb_runtime16::{BLOCK_AT, Routine, SEND_AT, block, entry};
 use thiserror::Error;
 
 const PATH: &str = "block.asm";

@@ -1,6 +1,6 @@
 //! Compiling a source, and running it.
 ghost use Rattle.std.specs.Prelude.{◌≡◌, ◌+◌, ℕ, [], List, Ok, Err, IfOk};
-ghost use Rattle.tb_routines.specs.Laws.{AllBytes};
+ghost use Rattle.tb_runtime16.specs.Laws.{AllBytes};
 ghost use Rattle.tb_streams.specs.Streams.{most_input, ConsumesAtMost};
 ghost use Rattle.tb_streams.specs.Failures.{failures_of};
 ghost use Rattle.tb_engines.specs.Outcomes.{Answers, Faults, MadeFrom};

@@ -11,8 +11,8 @@ use Rattle.tb_lower.specs.Steps.{Goes, Step, after_sending}
 use Rattle.tb_lower.specs.Values.{Fails, Gives}
 use Rattle.tb_reaching.proofs.Comes.{looser}
 use Rattle.tb_reaching.specs.View.{Comes, Fits, Setup, View}
-use Rattle.tb_routines.specs.Laws.{AllBytes}
-use Rattle.tb_routines.specs.Routines.{Routines}
+use Rattle.tb_runtime16.specs.Laws.{AllBytes}
+use Rattle.tb_runtime16.specs.Routines.{Routines}
 use Rattle.tb_keeping.specs.Layout.{Layout}
 use Rattle.tb_keeping.proofs.Joins.{sent_in}
 use Rattle.tb_selection.specs.Groups.{Single}

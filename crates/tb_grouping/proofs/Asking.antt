@@ -9,9 +9,9 @@ use Rattle.tb_lower.specs.Slots.{Instr, Input, Poll, Slots, SlotCode}
 use Rattle.tb_reaching.proofs.Comes.{chained, looser}
 use Rattle.tb_reaching.specs.Start.{IsHome}
 use Rattle.tb_reaching.specs.View.{Comes, Fits, Setup, View}
-use Rattle.tb_routines.specs.Input.{prompt}
-use Rattle.tb_routines.specs.Laws.{AllBytes}
-use Rattle.tb_routines.specs.Routines.{Asked, Here, Moves, Routines, Waiting, WordAt, line_end}
+use Rattle.tb_runtime16.specs.Input.{prompt}
+use Rattle.tb_runtime16.specs.Laws.{AllBytes}
+use Rattle.tb_runtime16.specs.Routines.{Asked, Here, Moves, Routines, Waiting, WordAt, line_end}
 use Rattle.tb_runtime16.specs.Places.{HOME_S, INPUT_AT, LINE, OPEN, POLL_AT, RESULT}
 use Rattle.tb_templates.specs.Templates.{var_at}
 use Rattle.tb_keeping.specs.Layout.{Layout}

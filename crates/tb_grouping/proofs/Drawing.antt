@@ -7,7 +7,7 @@ use Rattle.tb_lower.specs.Slots.{Instr, Random, Slots, SlotCode, with_word}
 use Rattle.tb_reaching.proofs.Comes.{chained, looser}
 use Rattle.tb_reaching.specs.Start.{IsHome}
 use Rattle.tb_reaching.specs.View.{Comes, Fits, Setup, View}
-use Rattle.tb_routines.specs.Routines.{Drawn, Here, Moves, Routines, WordAt}
+use Rattle.tb_runtime16.specs.Routines.{Drawn, Here, Moves, Routines, WordAt}
 use Rattle.tb_runtime16.specs.Places.{HOME_S, LEFT, LINE, RANDOM_AT, RESULT, RIGHT}
 use Rattle.tb_templates.specs.Templates.{slot_at}
 use Rattle.tb_keeping.specs.Layout.{Layout}

@@ -8,7 +8,7 @@ use Rattle.tb_lower.specs.Slots.{Instr, Jump, Call, Return, Slots, SlotCode, Who
 use Rattle.tb_reaching.proofs.Comes.{chained, looser}
 use Rattle.tb_reaching.specs.Start.{IsHome}
 use Rattle.tb_reaching.specs.View.{Comes, Fits, Setup, View}
-use Rattle.tb_routines.specs.Routines.{Here, Moves, Noted, Routines, WordAt}
+use Rattle.tb_runtime16.specs.Routines.{Here, Moves, Noted, Routines, WordAt}
 use Rattle.tb_runtime16.specs.Places.{COUNT, HOME_S, LEFT, LINE, NOTES, POP_AT, PUSH_AT, RESULT, SEARCH_AT, TABLE}
 use Rattle.tb_templates.specs.Templates.{slot_at}
 use Rattle.tb_keeping.specs.Layout.{Layout, next_at, place_at}

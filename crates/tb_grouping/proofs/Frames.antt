@@ -9,7 +9,7 @@ use Rattle.tb_lower.specs.Control.{Place, State, column_after}
 use Rattle.tb_lower.specs.Slots.{Slots, with_word}
 use Rattle.tb_runtime16.specs.Places.{COLUMN, HELD, NOTES, OPEN, SEED, SEEDED}
 use Rattle.tb_templates.specs.Templates.{slot_at}
-use Rattle.tb_routines.specs.Routines.{Noted, WordAt, is_owned}
+use Rattle.tb_runtime16.specs.Routines.{Noted, WordAt, is_owned}
 use Rattle.tb_keeping.specs.Layout.{Layout, place_at}
 use Rattle.std.proofs.lemmas.List.{length-map}
 use Rattle.tb_keeping.proofs.Frames.{asked, drawn, noted_kept, popped, pushed, told, word_kept}

@@ -10,7 +10,7 @@ use Rattle.tb_lower.specs.Control.{State}
 use Rattle.tb_lower.specs.Slots.{Instr, Rest, Whole, Left, Slots, SlotState, SlotCode, act, settled}
 use Rattle.tb_reaching.proofs.Comes.{looser}
 use Rattle.tb_reaching.specs.View.{Comes, Fits, Setup, View}
-use Rattle.tb_routines.specs.Routines.{Routines}
+use Rattle.tb_runtime16.specs.Routines.{Routines}
 use Rattle.tb_keeping.specs.Layout.{Layout, next_at}
 use Rattle.tb_keeping.proofs.Joins.{LawAt, sent_in}
 use Rattle.tb_keeping.proofs.Pieces.{jumps}

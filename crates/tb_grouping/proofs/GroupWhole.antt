@@ -11,8 +11,8 @@ use Rattle.tb_lower.specs.Slots.{SlotCode}
 use Rattle.tb_runtime16.specs.Places.{LINES_AT}
 use Rattle.tb_keeping.specs.Kept.{Starts, Keeps}
 use Rattle.tb_keeping.specs.Layout.{Layout, inner, place_at}
-use Rattle.tb_routines.specs.Routines.{Routines}
-use Rattle.tb_routines.specs.Ends.{Begun}
+use Rattle.tb_runtime16.specs.Routines.{Routines}
+use Rattle.tb_runtime16.specs.Ends.{Begun}
 use Rattle.tb_keeping.proofs.Headline.{setup, room_so}
 use Rattle.tb_keeping.proofs.Opening.{some_slots, some_length, opened}
 use Rattle.tb_selection.specs.Laws.{AreClosed}

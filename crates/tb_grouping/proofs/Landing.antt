@@ -7,7 +7,7 @@ use Rattle.tb_lower.specs.Slots.{Instr, Slots}
 use Rattle.tb_syntax.specs.declared.expressions.Operator.{Operator}
 use Rattle.tb_runtime16.specs.Places.{COLUMN, HELD, HOME_S, LINE, NOTES, OPEN, SEED, SEEDED}
 use Rattle.tb_templates.specs.Templates.{slot_at, var_at}
-use Rattle.tb_routines.specs.Routines.{SeedAt, WordAt, first, is_owned, stored}
+use Rattle.tb_runtime16.specs.Routines.{SeedAt, WordAt, first, is_owned, stored}
 use Rattle.tb_keeping.specs.Layout.{Layout}
 use Rattle.tb_keeping.proofs.Frames.{Same, SameSingles, notes_kept, owned_low, owned_note, put_away, word_kept}
 use Rattle.tb_keeping.proofs.Pieces.{put_word}

@@ -10,7 +10,7 @@ use Rattle.tb_reaching.proofs.Instr.{ins}
 use Rattle.tb_reaching.proofs.Placed.{along, placed_last}
 use Rattle.tb_reaching.specs.Start.{IsHome}
 use Rattle.tb_reaching.specs.View.{Comes, Fits, Setup, View, view}
-use Rattle.tb_routines.specs.Routines.{Here, Moves, Routines, WordAt}
+use Rattle.tb_runtime16.specs.Routines.{Here, Moves, Routines, WordAt}
 use Rattle.tb_runtime16.specs.Places.{HOME_S, LEFT, LINE, NOTES, PUSH_AT}
 use Rattle.tb_keeping.specs.Layout.{Layout, next_at, place_at}
 use Rattle.tb_keeping.proofs.Frames.{word_away, word_put}

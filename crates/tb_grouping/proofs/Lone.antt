@@ -6,7 +6,7 @@ use Rattle.tb_lower.specs.Steps.{Step, Goes, Stops, and_then}
 use Rattle.tb_reaching.proofs.Comes.{chained}
 use Rattle.tb_reaching.proofs.Instr.{Stands}
 use Rattle.tb_reaching.specs.View.{Comes, Fits, Setup, View}
-use Rattle.tb_routines.specs.Routines.{Entered, Here, Moves, Told, WordAt, is_owned}
+use Rattle.tb_runtime16.specs.Routines.{Entered, Here, Moves, Told, WordAt, is_owned}
 use Rattle.tb_runtime16.specs.Places.{HOME_S, LINE}
 use Rattle.tb_templates.specs.Templates.{slot_at}
 use Rattle.tb_keeping.specs.Layout.{Layout, place_at}

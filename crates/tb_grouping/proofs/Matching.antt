@@ -8,7 +8,7 @@ use Rattle.tb_lower.specs.Control.{Place, State}
 use Rattle.tb_lower.specs.Slots.{Rest, Whole, Left, Slots, SlotState}
 use Rattle.tb_runtime16.specs.Places.{COLUMN, OPEN, NOTES, HELD}
 use Rattle.tb_templates.specs.Templates.{var_at, slot_at}
-use Rattle.tb_routines.specs.Routines.{WordAt, SeedAt, Noted, Entered, Waiting}
+use Rattle.tb_runtime16.specs.Routines.{WordAt, SeedAt, Noted, Entered, Waiting}
 use Rattle.tb_keeping.specs.Layout.{Layout, place_at}
 use Rattle.tb_keeping.proofs.Mirrors.{Holds, notes_of, Typable}
 use Rattle.tb_selection.specs.declared.liveness.Live.{Live}

@@ -8,8 +8,8 @@ use Rattle.tb_lower.specs.Slots.{Instr, Store, Slots, SlotCode}
 use Rattle.tb_lower.specs.Steps.{Goes}
 use Rattle.tb_reaching.proofs.Comes.{looser}
 use Rattle.tb_reaching.specs.View.{Comes, Fits, Setup, View}
-use Rattle.tb_routines.specs.Laws.{AllBytes}
-use Rattle.tb_routines.specs.Routines.{WordAt}
+use Rattle.tb_runtime16.specs.Laws.{AllBytes}
+use Rattle.tb_runtime16.specs.Routines.{WordAt}
 use Rattle.tb_runtime16.specs.Places.{HELD}
 use Rattle.tb_templates.specs.Templates.{slot_at}
 use Rattle.tb_keeping.specs.Layout.{Layout}

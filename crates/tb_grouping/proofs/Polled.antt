@@ -14,8 +14,8 @@ use Rattle.tb_reaching.proofs.Placed.{along}
 use Rattle.tb_reaching.proofs.Services.{served_last}
 use Rattle.tb_reaching.specs.Start.{IsHome}
 use Rattle.tb_reaching.specs.View.{Comes, Fits, Part, Setup, View, view}
-use Rattle.tb_routines.specs.Laws.{AllBytes}
-use Rattle.tb_routines.specs.Routines.{Here, Moves, Routines, WithA}
+use Rattle.tb_runtime16.specs.Laws.{AllBytes}
+use Rattle.tb_runtime16.specs.Routines.{Here, Moves, Routines, WithA}
 use Rattle.tb_runtime16.specs.Places.{FAULT_AT, HOME_S, LINE}
 use Rattle.tb_keeping.specs.Layout.{Layout, place_at}
 use Rattle.tb_keeping.proofs.Frames.{put_away, word_put}

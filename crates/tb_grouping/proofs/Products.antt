@@ -6,7 +6,7 @@ use Rattle.tb_lower.specs.Control.{State}
 use Rattle.tb_lower.specs.Slots.{Instr, Slots, SlotCode}
 use Rattle.tb_reaching.proofs.Comes.{chained, looser}
 use Rattle.tb_reaching.specs.View.{Comes, Fits, Setup, View}
-use Rattle.tb_routines.specs.Routines.{Entered, Here, Moves, Routines, WordAt, is_owned}
+use Rattle.tb_runtime16.specs.Routines.{Entered, Here, Moves, Routines, WordAt, is_owned}
 use Rattle.tb_runtime16.specs.Places.{MULTIPLY_AT, HOME_S, LEFT, RESULT, RIGHT}
 use Rattle.tb_keeping.specs.Layout.{Layout}
 use Rattle.tb_keeping.proofs.Frames.{owned_low, word_away, word_put}

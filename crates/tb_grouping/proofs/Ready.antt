@@ -5,8 +5,8 @@ use Rattle.tb_lower.specs.Control.{State}
 use Rattle.tb_lower.specs.Ranges.{AreInRange}
 use Rattle.tb_lower.specs.Slots.{Instr, Slots, SlotCode}
 use Rattle.tb_reaching.specs.View.{Comes, Fits, Setup, View}
-use Rattle.tb_routines.specs.Laws.{AllBytes}
-use Rattle.tb_routines.specs.Routines.{Entered, Here, WordAt}
+use Rattle.tb_runtime16.specs.Laws.{AllBytes}
+use Rattle.tb_runtime16.specs.Routines.{Entered, Here, WordAt}
 use Rattle.tb_keeping.specs.Layout.{Layout}
 use Rattle.tb_keeping.proofs.Frames.{put_away, word_put}
 use Rattle.tb_keeping.proofs.Joins.{sent_in}

@@ -9,7 +9,7 @@ use Rattle.tb_reaching.proofs.Comes.{chained, looser}
 use Rattle.tb_reaching.proofs.Memory.{put_other}
 use Rattle.tb_reaching.proofs.Placed.{along}
 use Rattle.tb_reaching.specs.View.{Bytes, Comes, Fits, Setup, View, back_at, view}
-use Rattle.tb_routines.specs.Routines.{Here, Moves, Routines, Told}
+use Rattle.tb_runtime16.specs.Routines.{Here, Moves, Routines, Told}
 use Rattle.tb_runtime16.specs.Places.{COLUMN, LEFT, LENGTH, NUMBER_AT, SEND_AT, TEXT_AT, ZONE_AT}
 use Rattle.tb_templates.specs.Templates.{slot_at}
 use Rattle.tb_keeping.specs.Layout.{Layout}

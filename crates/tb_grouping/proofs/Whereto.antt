@@ -4,7 +4,7 @@ use Rattle.tb_syntax.specs.Source.{numbers}
 use Rattle.tb_lower.specs.Control.{State, next_after}
 use Rattle.tb_lower.specs.Slots.{Whole, Slots, SlotCode}
 use Rattle.tb_reaching.specs.View.{Fits, Setup, View}
-use Rattle.tb_routines.specs.Routines.{Entered, Here}
+use Rattle.tb_runtime16.specs.Routines.{Entered, Here}
 use Rattle.tb_keeping.specs.Layout.{Layout, next_at, place_at}
 use Rattle.tb_keeping.proofs.Mirrors.{Typable}
 use Rattle.tb_selection.specs.Groups.{Tested, HeldBefore, HeldNow}

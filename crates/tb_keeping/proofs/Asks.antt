@@ -6,10 +6,10 @@ use Rattle.tb_keeping.proofs.Frames.{asked, column_mod, owned_low, put_away, var
 use Rattle.tb_keeping.proofs.Mirrors.{Mirrors}
 use Rattle.tb_keeping.proofs.Pieces.{calls, copies}
 use Rattle.tb_keeping.proofs.Templates.{Carried, behind_call, carried, carried_by, in_line, moved, stood}
-use Rattle.tb_routines.specs.Laws.{AllBytes}
+use Rattle.tb_runtime16.specs.Laws.{AllBytes}
 use Rattle.tb_keeping.specs.Layout.{Layout}
-use Rattle.tb_routines.specs.Input.{prompt}
-use Rattle.tb_routines.specs.Routines.{Asked, Here, Moves, Routines, Waiting, line_end}
+use Rattle.tb_runtime16.specs.Input.{prompt}
+use Rattle.tb_runtime16.specs.Routines.{Asked, Here, Moves, Routines, Waiting, line_end}
 use Rattle.tb_lower.specs.Control.{State, column_after, fault_text}
 use Rattle.tb_lower.specs.Input.{Bad, Digits, Dry, Got, Nothing, Reading, Sign, Turn, number_end, signed_turn, turn, with_digit}
 use Rattle.tb_lower.specs.Slots.{Slots}

@@ -3,7 +3,7 @@ use Rattle.std.proofs.Common.{◌≡◌, ℕ, ◌+◌, ◌*◌, ◌≤◌, ◌<�
 use Rattle.tb_reaching.specs.View.{View, Setup, Fits, Comes, view}
 use Rattle.tb_reaching.proofs.Calls.{under, stacked_on, framed}
 use Rattle.tb_reaching.proofs.Comes.{looser}
-use Rattle.tb_routines.specs.Routines.{WordAt, Here, Moves}
+use Rattle.tb_runtime16.specs.Routines.{WordAt, Here, Moves}
 use Rattle.tb_keeping.proofs.Pieces.{whatever}
 
 -- a word by its two bytes, and back

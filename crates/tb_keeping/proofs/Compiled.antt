@@ -11,7 +11,7 @@ use Rattle.tb_lower.specs.Follows.{Follows, longest}
 use Rattle.tb_lower.specs.Slots.{SlotCode}
 use Rattle.tb_runtime16.specs.Places.{PROLOGUE_AT}
 use Rattle.tb_templates.specs.Program.{program_code, AreCodable, RisingFrom}
-use Rattle.tb_routines.specs.Routines.{limit_by}
+use Rattle.tb_runtime16.specs.Routines.{limit_by}
 use Rattle.tb_keeping.specs.Kept.{Starts, Keeps}
 use Rattle.tb_keeping.specs.Layout.{layout_of, Laid}
 use Rattle.tb_keeping.proofs.Headline.{begins_so}

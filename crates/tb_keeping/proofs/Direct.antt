@@ -8,7 +8,7 @@ use Rattle.tb_keeping.proofs.Pieces.{calls, jumps, put_word, sets, whatever}
 use Rattle.tb_keeping.proofs.Resolved.{Code, LaidOut, Lies, call_to, faulting, jump_to}
 use Rattle.tb_keeping.proofs.Templates.{Carried, behind_call, carried, carried_put, here, homed_kept, in_line, reached}
 use Rattle.tb_keeping.specs.Layout.{Layout, next_at, place_at}
-use Rattle.tb_routines.specs.Routines.{Entered, Here, Moves, Routines, WordAt}
+use Rattle.tb_runtime16.specs.Routines.{Entered, Here, Moves, Routines, WordAt}
 use Rattle.tb_lower.specs.Control.{State, deepest, fault_text, has_line, next_after, At}
 use Rattle.tb_lower.specs.Slots.{Slots, Whole}
 use Rattle.tb_reaching.proofs.Comes.{chained, looser}

@@ -14,9 +14,9 @@ use Rattle.tb_keeping.proofs.Polls.{poll_breaks, poll_law}
 use Rattle.tb_keeping.proofs.Relations.{at_least_law, at_most_law, greater_law, less_law, unequal_law}
 use Rattle.tb_keeping.proofs.Resolved.{LaidOut, RestLies}
 use Rattle.tb_keeping.proofs.Templates.{add_law, divide_fails, divide_law, end_law, fall_law, hold_law, homed_kept, in_line, jump_fails, jump_found, leave_equal, load_law, multiply_law, negate_law, newline_law, number_law, put_law, return_fails, return_law, stay_equal, store_law, subtract_law, text_law, zone_law}
-use Rattle.tb_routines.specs.Laws.{AllBytes}
+use Rattle.tb_runtime16.specs.Laws.{AllBytes}
 use Rattle.tb_keeping.specs.Layout.{Layout, place_at}
-use Rattle.tb_routines.specs.Routines.{Entered, Moves, Routines, WithA, WordAt}
+use Rattle.tb_runtime16.specs.Routines.{Entered, Moves, Routines, WithA, WordAt}
 use Rattle.tb_kernal.specs.Machine.{first_or_zero}
 use Rattle.tb_lower.specs.Control.{At, Past, Place, State, answered, column_after, content_at, deepest, fall, fault, fault_text, has_line, highest, next_after, return_to, zone}
 use Rattle.tb_lower.specs.Input.{Bad, Dry, Got, Nothing, Turn, take_turn, turn}

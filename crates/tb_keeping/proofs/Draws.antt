@@ -7,7 +7,7 @@ use Rattle.tb_keeping.proofs.Pieces.{calls, copies, put_word, sets}
 use Rattle.tb_keeping.proofs.Resolved.{LaidOut}
 use Rattle.tb_keeping.proofs.Templates.{Carried, behind_call, carried, carried_put, carried_slot, here, homed_kept, in_line, moved, stood}
 use Rattle.tb_keeping.specs.Layout.{Layout}
-use Rattle.tb_routines.specs.Routines.{Drawn, Here, Moves, Routines, WordAt}
+use Rattle.tb_runtime16.specs.Routines.{Drawn, Here, Moves, Routines, WordAt}
 use Rattle.tb_lower.specs.Control.{State, fault_text}
 use Rattle.tb_lower.specs.Slots.{Slots, with_word}
 use Rattle.tb_reaching.proofs.Comes.{chained, looser}

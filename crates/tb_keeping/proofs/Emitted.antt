@@ -4,7 +4,7 @@ use Rattle.tb_reaching.specs.View.{Part}
 use Rattle.tb_reaching.specs.View.{Bytes}
 use Rattle.tb_reaching.proofs.Instr.{Instr, instr_bytes, flat}
 use Rattle.tb_reaching.proofs.Parts.{bytes_front, bytes_back, stands}
-use Rattle.tb_routines.specs.Laws.{AllBytes}
+use Rattle.tb_runtime16.specs.Laws.{AllBytes}
 use Rattle.tb_keeping.proofs.Resolved.{Piece, Code, Text, size, piece_size, pieces_size, Lies, PieceLies, highest_code}
 
 abbrev pub piece_bytes : Piece → List ℕ

@@ -7,7 +7,7 @@ use Rattle.tb_cpu.specs.Effects.{bit}
 use Rattle.tb_keeping.proofs.Mirrors.{Holds, notes_of}
 use Rattle.tb_keeping.proofs.Pieces.{put_word}
 use Rattle.tb_keeping.specs.Layout.{Layout, place_at}
-use Rattle.tb_routines.specs.Routines.{Noted, SeedAt, WordAt, first, is_owned, stored}
+use Rattle.tb_runtime16.specs.Routines.{Noted, SeedAt, WordAt, first, is_owned, stored}
 use Rattle.tb_lower.specs.Control.{Place, State, column_after}
 use Rattle.tb_lower.specs.Meaning as meaning
 use Rattle.tb_lower.specs.Slots.{Slots, with_word}

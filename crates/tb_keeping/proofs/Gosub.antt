@@ -8,7 +8,7 @@ use Rattle.tb_keeping.proofs.Pieces.{calls, jumps_through, put_word, sets}
 use Rattle.tb_keeping.proofs.Resolved.{Code, LaidOut, Piece, call, constant, jump_through}
 use Rattle.tb_keeping.proofs.Templates.{Carried, back_here, behind_call, carried_put, carried_scratch, counted, homed_kept, in_line, in_table, moved, searches, sought, sought_carried, wanted}
 use Rattle.tb_keeping.specs.Layout.{Layout, next_at, place_at}
-use Rattle.tb_routines.specs.Routines.{Entered, Here, Moves, Routines, WordAt}
+use Rattle.tb_runtime16.specs.Routines.{Entered, Here, Moves, Routines, WordAt}
 use Rattle.tb_lower.specs.Control.{State, deepest, fault_text, has_line, next_after, At}
 use Rattle.tb_lower.specs.Slots.{Slots, Whole}
 use Rattle.tb_reaching.proofs.Comes.{chained, looser}

@@ -11,7 +11,7 @@ use Rattle.tb_lower.specs.Control.{has_line, content_at, first_place}
 use Rattle.tb_lower.specs.Slots.{Instr, SlotCode}
 use Rattle.tb_lower.specs.Ranges.{AreInRange}
 use Rattle.tb_runtime16.specs.Places.{PROLOGUE_AT, LINES_AT}
-use Rattle.tb_routines.specs.Block.{block_bytes}
+use Rattle.tb_runtime16.specs.Block.{block_bytes}
 use Rattle.tb_templates.specs.declared.labels.Target.TheVariants as target
 use Rattle.tb_templates.specs.Program.{line_code, lines_code, past_code, find_code, table_code, block_code, program_code, AreCodable, RisingFrom}
 use Rattle.tb_templates.proofs.Fitting.{size_append}

@@ -22,7 +22,7 @@ use Rattle.tb_lower.specs.Follows.{IsPrefix}
 use Rattle.tb_lower.specs.Slots.{SlotCode, SlotState, Rest, Whole, Left, slot_step}
 use Rattle.tb_keeping.specs.Kept.{HasEnded}
 use Rattle.tb_keeping.specs.Layout.{Layout}
-use Rattle.tb_routines.specs.Routines.{Waiting}
+use Rattle.tb_runtime16.specs.Routines.{Waiting}
 use Rattle.tb_keeping.proofs.Inductions as keeps
 use Rattle.tb_keeping.proofs.Inductions.{still, there, on_way}
 use Rattle.tb_keeping.proofs.Mirrors.{Mirrors, Target}

@@ -22,7 +22,7 @@ use Rattle.tb_templates.specs.Templates as product
 use Rattle.tb_templates.specs.Templates.{next_line}
 use Rattle.tb_templates.specs.Program as program
 use Rattle.tb_templates.proofs.Fitting.{size_append}
-use Rattle.tb_routines.specs.Block.{block_bytes}
+use Rattle.tb_runtime16.specs.Block.{block_bytes}
 use Rattle.tb_keeping.specs.Layout.{Layout, Lies, place_of, layout_of, place_at, next_at, is_start, inner, IsClear, LineLies, Laid}
 use Rattle.tb_keeping.proofs.Resolved as resolved
 use Rattle.tb_keeping.proofs.Resolved.{Piece, pieces_size, RestLies, LaidOut, constant, faulting, jump, highest_code}

@@ -26,7 +26,7 @@ use Rattle.tb_runtime16.specs.Places.{NOTES}
 use Rattle.tb_templates.specs.Templates.{var_at}
 use Rattle.tb_keeping.specs.Kept.{Starts}
 use Rattle.tb_keeping.specs.Layout.{Layout, is_start, inner, place_at}
-use Rattle.tb_routines.specs.Routines.{WordAt}
+use Rattle.tb_runtime16.specs.Routines.{WordAt}
 use Rattle.tb_keeping.proofs.Inductions as keeps
 use Rattle.tb_keeping.proofs.Inductions.{on_way, there}
 use Rattle.tb_keeping.proofs.Starts as lines

@@ -18,7 +18,7 @@ use Rattle.tb_lower.specs.Slots.{SlotCode}
 use Rattle.tb_keeping.specs.Kept.{Starts}
 use Rattle.tb_keeping.specs.Layout.{Layout, Laid, is_start}
 use Rattle.tb_keeping.specs.LineStarts.{begun, BeginsLine, LineComes, MarksLines}
-use Rattle.tb_routines.specs.Routines.{WordAt}
+use Rattle.tb_runtime16.specs.Routines.{WordAt}
 use Rattle.tb_keeping.proofs.Starts as lines
 use Rattle.tb_keeping.proofs.Starts.{count}
 use Rattle.tb_keeping.proofs.Joins.{move, IsLawful, is_go, sent, same_goes, same_after, all_are_lawful}

@@ -8,9 +8,9 @@ use Rattle.tb_lower.specs.Control.{Place, State}
 use Rattle.tb_lower.specs.Slots.{Rest, Whole, Left, Slots, SlotState}
 use Rattle.tb_runtime16.specs.Places.{COLUMN, OPEN, LINE, NOTES, HELD}
 use Rattle.tb_templates.specs.Templates.{var_at, slot_at}
-use Rattle.tb_routines.specs.Laws.{AllBytes}
+use Rattle.tb_runtime16.specs.Laws.{AllBytes}
 use Rattle.tb_keeping.specs.Layout.{Layout, place_at}
-use Rattle.tb_routines.specs.Routines.{WordAt, SeedAt, Noted, Entered, Here, Waiting}
+use Rattle.tb_runtime16.specs.Routines.{WordAt, SeedAt, Noted, Entered, Here, Waiting}
 use Rattle.tb_keeping.proofs.Resolved.{RestLies}
 
 -- the addresses of the places to return to

@@ -11,10 +11,10 @@ use Rattle.tb_lower.specs.Control.{first_place}
 use Rattle.tb_lower.specs.Slots.{SlotCode, Slots}
 use Rattle.tb_runtime16.specs.Places.{COLUMN, OPEN, SEEDED, SEED, NOTES, HELD, SLOTS, LINES_AT}
 use Rattle.tb_templates.specs.Templates.{var_at}
-use Rattle.tb_routines.specs.Laws.{AllBytes}
+use Rattle.tb_runtime16.specs.Laws.{AllBytes}
 use Rattle.tb_keeping.specs.Layout.{Layout, place_at}
-use Rattle.tb_routines.specs.Routines.{WordAt, first}
-use Rattle.tb_routines.specs.Ends.{Begun}
+use Rattle.tb_runtime16.specs.Routines.{WordAt, first}
+use Rattle.tb_runtime16.specs.Ends.{Begun}
 use Rattle.tb_keeping.proofs.Mirrors.{Mirrors}
 use Rattle.tb_keeping.proofs.Headline.{begun}
 

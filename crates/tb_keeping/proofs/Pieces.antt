@@ -4,7 +4,7 @@ use Rattle.std.proofs.lemmas.Bool.{lt-ltb, cases_eq, eq-eqb, ne_eqb}
 use Rattle.tb_cpu.specs.Effects.{bit as carry}
 use Rattle.tb_keeping.proofs.Mirrors.{Flagged, Carrying}
 use Rattle.tb_keeping.proofs.Resolved.{added, beq, bne, call, compare, constant, copied, highest_code, jump, jump_through, opposite, subtracted}
-use Rattle.tb_routines.specs.Routines.{Here, WithA, Moves, WordAt}
+use Rattle.tb_runtime16.specs.Routines.{Here, WithA, Moves, WordAt}
 use Rattle.tb_memmap.specs.Bytes.{with_byte}
 use Rattle.tb_opcodes.specs.declared.Mnemonic.TheVariants.{Adc, Cmp, Lda, Sbc, Sta}
 use Rattle.tb_opcodes.specs.declared.Mnemonic.{Mnemonic}

@@ -4,9 +4,9 @@ use Rattle.std.specs.Prelude.{nat_eq, drop}
 use Rattle.tb_keeping.proofs.Mirrors.{Mirrors}
 use Rattle.tb_keeping.proofs.Pieces.{calls}
 use Rattle.tb_keeping.proofs.Templates.{Carried, back_here, behind_call, carried, carried_scratch, here, in_line, stood}
-use Rattle.tb_routines.specs.Laws.{AllBytes}
+use Rattle.tb_runtime16.specs.Laws.{AllBytes}
 use Rattle.tb_keeping.specs.Layout.{Layout}
-use Rattle.tb_routines.specs.Routines.{Routines}
+use Rattle.tb_runtime16.specs.Routines.{Routines}
 use Rattle.tb_kernal.specs.Machine.{first_or_zero}
 use Rattle.tb_lower.specs.Control.{State, fault_text}
 use Rattle.tb_lower.specs.Slots.{Slots}

@@ -9,7 +9,7 @@ use Rattle.tb_keeping.proofs.Pieces.{InData, bne_leads, compares, does, ends, fo
 use Rattle.tb_keeping.proofs.Resolved.{RestLies, compared, highest_code, leave_if_less, leave_unless_less}
 use Rattle.tb_keeping.proofs.Templates.{Carried, carried, carried_put, here, in_line, moved, reached, stood}
 use Rattle.tb_keeping.specs.Layout.{Layout, next_at}
-use Rattle.tb_routines.specs.Routines.{Here, Moves}
+use Rattle.tb_runtime16.specs.Routines.{Here, Moves}
 use Rattle.tb_lower.specs.Control.{State, fall, next_after}
 use Rattle.tb_lower.specs.Slots.{Slots, Stays, leaving, settled}
 use Rattle.tb_lower.specs.Steps.{Goes}

@@ -13,7 +13,7 @@ use Rattle.tb_lower.specs.Slots as slots
 use Rattle.tb_lower.specs.Ranges.{IsInRange}
 use Rattle.tb_runtime16.specs.Places.{POINTER, LINE, HELD, LEFT, RIGHT, RESULT, TABLE, COUNT, LENGTH, SCRATCH, SEND_AT, MULTIPLY_AT, DIVIDE_AT, RANDOM_AT, NUMBER_AT, TEXT_AT, ZONE_AT, INPUT_AT, SEARCH_AT, PUSH_AT, POP_AT, FAULT_AT, POLL_AT}
 use Rattle.tb_templates.specs.Templates.{var_at, slot_at}
-use Rattle.tb_routines.specs.Laws.{AllBytes}
+use Rattle.tb_runtime16.specs.Laws.{AllBytes}
 use Rattle.tb_keeping.specs.Layout.{Layout, place_at, next_at}
 
 -- ---- pieces of code

@@ -15,13 +15,13 @@ use Rattle.tb_lower.specs.Control.{has_line}
 use Rattle.tb_lower.specs.Slots.{SlotCode}
 use Rattle.tb_runtime16.specs.Places.{PROLOGUE_AT}
 use Rattle.tb_templates.specs.Program.{rows_code}
-use Rattle.tb_routines.specs.Block.{block_bytes, block_part}
-use Rattle.tb_routines.specs.Search as table
-use Rattle.tb_routines.specs.Search.{Line, Shows, table_bytes, Rising, AllWords}
-use Rattle.tb_routines.specs.Ends.{Begun}
-use Rattle.tb_routines.specs.Routines.{Routines, Tabled, entries, limit_by}
-use Rattle.tb_routines.proofs.AllLaws.{all_laws}
-use Rattle.tb_routines.proofs.PrologueRuns.{prologue_law}
+use Rattle.tb_runtime16.specs.Block.{block_bytes, block_part}
+use Rattle.tb_runtime16.specs.Search as table
+use Rattle.tb_runtime16.specs.Search.{Line, Shows, table_bytes, Rising, AllWords}
+use Rattle.tb_runtime16.specs.Ends.{Begun}
+use Rattle.tb_runtime16.specs.Routines.{Routines, Tabled, entries, limit_by}
+use Rattle.tb_runtime16.proofs.AllLaws.{all_laws}
+use Rattle.tb_runtime16.proofs.PrologueRuns.{prologue_law}
 use Rattle.tb_keeping.specs.Kept.{Starts}
 use Rattle.tb_keeping.specs.Layout.{Layout, layout_of, start_at, inner, IsBelowAll, AreRising, Laid}
 use Rattle.tb_keeping.proofs.Numbers.{or_true, start_of_line}

@@ -8,7 +8,7 @@ use Rattle.tb_keeping.proofs.Mirrors.{Flagged, Holds, Mirrors, Typable, notes_of
 use Rattle.tb_keeping.proofs.Pieces.{adds, beq_leads, bne_leads, calls, compares, copies, jumps, jumps_through, negates, put_word, sets, subtracts, whatever}
 use Rattle.tb_keeping.proofs.Resolved.{Code, LaidOut, Lies, Piece, RestLies, byte_call, call, copied, highest_code, jump_through, text_call}
 use Rattle.tb_keeping.specs.Layout.{Layout, next_at, place_at}
-use Rattle.tb_routines.specs.Routines.{Back, Entered, Here, Moves, Noted, Routines, Told, WordAt, is_owned}
+use Rattle.tb_runtime16.specs.Routines.{Back, Entered, Here, Moves, Noted, Routines, Told, WordAt, is_owned}
 use Rattle.tb_lower.specs.Control.{Place, State, column_after, fault_text, has_line, next_after, zone, At}
 use Rattle.tb_lower.specs.Slots.{Left, SlotState, Slots, Whole, with_word}
 use Rattle.tb_memmap.specs.Bytes.{with_byte}

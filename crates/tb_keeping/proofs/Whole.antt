@@ -10,8 +10,8 @@ use Rattle.tb_lower.specs.Follows.{Follows}
 use Rattle.tb_lower.specs.Slots.{SlotCode}
 use Rattle.tb_keeping.specs.Kept.{Starts, Keeps}
 use Rattle.tb_keeping.specs.Layout.{Layout, layout_of, Laid}
-use Rattle.tb_routines.specs.Routines.{Routines}
-use Rattle.tb_routines.specs.Ends.{Begun}
+use Rattle.tb_runtime16.specs.Routines.{Routines}
+use Rattle.tb_runtime16.specs.Ends.{Begun}
 use Rattle.tb_keeping.proofs.Headline.{setup, room_so, OpeningLaw, InstrLaws, headline}
 use Rattle.tb_keeping.proofs.Opening.{some_slots, some_length, opened}
 use Rattle.tb_keeping.proofs.Laying.{laid_out}

@@ -12,7 +12,7 @@ use Rattle.tb_lower.specs.Steps.{End, Ended, Faulted, Waits, Run, GoesOn, Over, 
 use Rattle.tb_lower.specs.Control.{State}
 use Rattle.tb_lower.specs.Meaning.{source_run}
 use Rattle.tb_lower.specs.Follows.{IsPrefix}
-use Rattle.tb_routines.specs.Laws.{AllBytes}
+use Rattle.tb_runtime16.specs.Laws.{AllBytes}
 
 -- a start of a program whose keyboard gives bytes; all else is arbitrary
 pub record Starts (place : ℕ) (bytes : List ℕ) (s : machine.State) : Type 0 where

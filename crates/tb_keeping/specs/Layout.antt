@@ -8,7 +8,7 @@ use Rattle.tb_lower.specs.Control.{Place, At, Past, next_after, first_place, has
 use Rattle.tb_lower.specs.Slots.{Instr, SlotCode}
 use Rattle.tb_lower.specs.Ranges.{AreInRange}
 use Rattle.tb_runtime16.specs.Places.{PROLOGUE_AT, LINES_AT}
-use Rattle.tb_routines.specs.Block.{block_bytes}
+use Rattle.tb_runtime16.specs.Block.{block_bytes}
 use Rattle.tb_templates.specs.declared.labels.Target.{Target}
 use Rattle.tb_templates.specs.declared.labels.Target.TheVariants as target
 use Rattle.tb_templates.specs.Labels.{label_of}

@@ -4,8 +4,7 @@ use std::test::Fail;
 use tb_cpu::{Flags, Regs};
 use tb_kernal::{Keyboard, Machine, Quiet, Rude, Status, run};
 use tb_memmap::{Closed, Memory};
-use tb_routines::block;
-use tb_runtime16::{BLOCK_AT, HOME_S, LINE, RESULT, Routine, VARS, entry};
+use tb_runtime16::{BLOCK_AT, HOME_S, LINE, RESULT, Routine, VARS, block, entry};
 use tb_words::next_seed;
 
 /// Where the caller lies, which is where a program's lines begin.

@@ -1,2 +1,9 @@
 pub mod Places
 pub mod Pinned
+pub mod Block
+pub mod Laws
+pub mod Ends
+pub mod Input
+pub mod Notes
+pub mod Search
+pub mod Routines

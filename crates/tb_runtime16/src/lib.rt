@@ -1,15 +1,22 @@
-//! Where the routine block begins and each of its routines, and where the data of a program stands.
+//! The routine block, the machine code that every compiled program shares: where it and the data of a program stand, its
+//! bytes, and the laws of its routines. Each law is the contract of a function that does nothing, about the block's bytes.
 #![tactic(auto)]
 
+mod code;
 mod laws;
 mod places;
+mod routines;
+mod targets;
+mod whole;
 
 pub use laws::constants_are_places;
 pub use places::{
-    BLOCK_AT, BLOCK_LENGTH, BYTE, COLUMN, COUNT, DIVIDE_AT, DIVIDE_LENGTH, FAULT_AT, FAULT_LENGTH,
-    HELD, HOME_S, INPUT_AT, INPUT_LENGTH, LEFT, LENGTH, LINE, LINES_AT, MULTIPLY_AT,
-    MULTIPLY_LENGTH, NOTE_LIST, NOTES, NUMBER_AT, NUMBER_LENGTH, OPEN, POINTER, POLL_AT,
-    POLL_LENGTH, POP_AT, POP_LENGTH, PROLOGUE_LENGTH, PUSH_AT, PUSH_LENGTH, RANDOM_AT,
-    RANDOM_LENGTH, RESULT, RIGHT, Routine, SCRATCH, SEARCH_AT, SEARCH_LENGTH, SEED, SEEDED,
-    SEND_AT, SEND_LENGTH, SLOTS, TABLE, TEXT_AT, TEXT_LENGTH, VARS, ZONE_AT, ZONE_LENGTH, entry,
+    BLOCK_AT, BYTE, COLUMN, COUNT, HELD, HOME_S, LEFT, LENGTH, LINE, LINES_AT, NOTE_LIST, NOTES,
+    OPEN, POINTER, RESULT, RIGHT, Routine, SCRATCH, SEED, SEEDED, SEND_AT, SLOTS, TABLE,
+    VARS, entry,
 };
+pub use routines::{
+    all_routines, divide, divide_by_zero, divide_unsigned, fault, input, multiply, number, poll,
+    pop, pop_none, prologue, push, push_full, random, random_range, search, send, text, zone,
+};
+pub use whole::block;

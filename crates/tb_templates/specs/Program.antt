@@ -7,7 +7,7 @@ use Rattle.tb_syntax.specs.Source.{Numbered, numbers}
 use Rattle.tb_lower.specs.Control.{highest}
 use Rattle.tb_lower.specs.Slots.{Instr, SlotCode}
 use Rattle.tb_lower.specs.Ranges.{AreInRange}
-use Rattle.tb_routines.specs.Block.{block_bytes}
+use Rattle.tb_runtime16.specs.Block.{block_bytes}
 use Rattle.tb_runtime16.specs.Places.{PROLOGUE_AT, LINES_AT, LINE, TABLE, COUNT, SEARCH_AT}
 use Rattle.tb_templates.specs.declared.labels.Target.{Target}
 use Rattle.tb_templates.specs.declared.labels.Target.TheVariants.{Line, Past, Find, Table}

@@ -21,8 +21,7 @@ use std::alloc::{AllocError, Global};
 use tb_asm::{Item, Operand};
 use tb_lower::{SlotCode, SlotInstr, SlotLine};
 use tb_opcodes::Mnemonic;
-use tb_routines::block;
-use tb_runtime16::{BLOCK_AT, COUNT, LINE, LINES_AT, Routine, TABLE, entry};
+use tb_runtime16::{BLOCK_AT, COUNT, LINE, LINES_AT, Routine, TABLE, block, entry};
 
 // About the most items that lines have in the mean; only the speed hangs on it.
 const ITEMS_IN_A_LINE: usize = 32;

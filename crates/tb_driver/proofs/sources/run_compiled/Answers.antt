@@ -1,5 +1,5 @@
 use Rattle.std.proofs.Common.{subst}
-use Rattle.tb_routines.specs.Laws.{AllBytes}
+use Rattle.tb_runtime16.specs.Laws.{AllBytes}
 use Rattle.tb_driver.proofs.Output.{all_bytes, made_of_source}
 use Rattle.tb_driver.proofs.sources.run_compiled.Goals as goal
 

@@ -1,6 +1,6 @@
 use Rattle.tb_keeping.proofs.promises.keeps.Goals as goal
 use Rattle.tb_keeping.proofs.Whole.{keeps}
-use Rattle.tb_routines.specs.Routines.{limit_by}
+use Rattle.tb_runtime16.specs.Routines.{limit_by}
 use Rattle.tb_keeping.proofs.Served.{routines, prologue}
 
 pub returns : goal.returns

@@ -1,5 +1,0 @@
-use Rattle.tb_routines.proofs.routines.divide_by_zero.Goals as goal
-use Rattle.tb_routines.proofs.DivideRuns.{divide_by_zero_law}
-
-pub returns : goal.returns
-returns c = divide_by_zero_law

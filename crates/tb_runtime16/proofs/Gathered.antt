@@ -1,0 +1,116 @@
+-- From a routine's law to the form in which the code of the lines needs it.
+use Rattle.std.proofs.Common.{◌≡◌, ◌≢◌, ℕ, zero, suc, ◌+◌, ◌/◌, ◌%◌, ◌<◌, ◌≤◌, Bool, true, false, ◌||◌, List, [], ◌∷◌, ◌++◌, length, refl, sym, ap, ◌∙◌, subst, ⊎_elim, arith, Some, None}
+use Rattle.std.specs.Prelude.{nat_lt, if◌then◌else◌}
+use Rattle.std.proofs.lemmas.Bool.{ne_eqb, eq-eqb, cases_eq}
+use Rattle.tb_cpu.specs.Operands.{word_in}
+use Rattle.tb_words.specs.Words.{is_negative, magnitude, digits_before, digits_of}
+use Rattle.tb_lower.specs.Control.{fault_text, column_after, has_line}
+use Rattle.tb_runtime16.specs.Places.{HOME_S, LINE, FAULT_AT}
+use Rattle.tb_reaching.specs.View.{View, Setup, Holds, Fits, Comes, view}
+use Rattle.tb_reaching.specs.Start.{IsHome}
+use Rattle.tb_reaching.proofs.Comes.{known, looser}
+use Rattle.tb_reaching.proofs.Calls.{calling, framed, under, stacked_on}
+use Rattle.tb_runtime16.specs.Block.{block_part}
+use Rattle.tb_runtime16.specs.Laws.{IsWord}
+use Rattle.tb_runtime16.specs.Search.{address_of}
+use Rattle.tb_runtime16.specs.Routines.{WordAt, Entered, Here, WithA, Moves, entries}
+use Rattle.tb_runtime16.proofs.FaultRuns.{fault_law}
+
+-- ---- words
+pub value : (m : ℕ → ℕ) (at w : ℕ) → WordAt m at w → word_in m at ≡ w
+value m at w h = omega (arith, h.low, h.high)
+
+pub small_bytes : (m : ℕ → ℕ) (at w : ℕ) → WordAt m at w → IsWord m at
+small_bytes m at w h = (omega (arith, h.low), omega (arith, h.high, h.small))
+
+pub holds_word : (m : ℕ → ℕ) (at w : ℕ) → IsWord m at → word_in m at ≡ w → WordAt m at w
+holds_word m at w h e = record { low = omega (arith, h.0, h.1, e); high = omega (arith, h.0, h.1, e); small = omega (arith, h.0, h.1, e) }
+
+pub same_place : (m k : ℕ → ℕ) (at w : ℕ) → WordAt m at w → k at ≡ m at → k (at + 1) ≡ m (at + 1) → WordAt k at w
+same_place m k at w h p q = record { low = p ∙ h.low; high = q ∙ h.high; small = h.small }
+
+-- ---- views
+pub from_here : (f : Setup) (at : ℕ) (bs : List ℕ) (m : ℕ → ℕ) (keys gets : List ℕ) (q : View → Type 0) (t : List ℕ) (n : ℕ) → ((a x y : ℕ) (b v i z c : Bool) → Comes f (view a x y b v i z c at bs m keys gets) q t n) → Moves f (Here at bs m keys gets) q t n
+from_here f at bs m keys gets q t n go w h =
+    known f w at bs keys gets q t n h.pc h.stack h.binary h.text h.answers
+    (subst (λ k. Comes f (view w.regs.a w.regs.x w.regs.y w.regs.flags.n w.regs.flags.v w.regs.flags.i w.regs.flags.z w.regs.flags.c at bs k keys gets) q t n) (sym h.mem) (go _ _ _ _ _ _ _ _))
+
+pub from_a : (f : Setup) (at k : ℕ) (bs : List ℕ) (m : ℕ → ℕ) (keys gets : List ℕ) (q : View → Type 0) (t : List ℕ) (n : ℕ) → ((x y : ℕ) (b v i z c : Bool) → Comes f (view k x y b v i z c at bs m keys gets) q t n) → Moves f (WithA at k bs m keys gets) q t n
+from_a f at k bs m keys gets q t n go w h =
+    known f w at bs keys gets q t n h.here.pc h.here.stack h.here.binary h.here.text h.here.answers
+    (subst (λ j. Comes f (view w.regs.a w.regs.x w.regs.y w.regs.flags.n w.regs.flags.v w.regs.flags.i w.regs.flags.z w.regs.flags.c at bs j keys gets) q t n) (sym h.here.mem)
+    (subst (λ j. Comes f (view j w.regs.x w.regs.y w.regs.flags.n w.regs.flags.v w.regs.flags.i w.regs.flags.z w.regs.flags.c at bs m keys gets) q t n) (sym h.number) (go _ _ _ _ _ _ _)))
+
+-- a law beside what the caller keeps, with a larger bound and less said
+pub beside : (f : Setup) (own : List ℕ) (v : View) (p q : View → Type 0) (t : List ℕ) (n limit : ℕ) → n ≤ limit → Comes (under f own) v p t n → ((u : View) → p u → q (stacked_on own u)) → Comes f (stacked_on own v) q t limit
+beside f own v p q t n limit le c go =
+    looser f _ _ q t n limit le (λ w k. subst q k.2 (go k.0 k.1)) (framed f own v p t n c)
+
+-- ---- faults
+-- at the entry of Fault, with the line and the start's stack pointer as they were
+pub record AtFault (k l h : ℕ) (m : ℕ → ℕ) (keys gets : List ℕ) (u : View) : Type 0 where
+  pub pc : u.regs.pc ≡ FAULT_AT
+  pub stack : u.stack ≡ l ∷ h ∷ []
+  pub binary : u.regs.flags.d ≡ false
+  pub text : u.text ≡ keys
+  pub answers : u.answers ≡ gets
+  pub number : u.regs.a ≡ k
+  pub line : (u.mem LINE ≡ m LINE) × (u.mem (LINE + 1) ≡ m (LINE + 1))
+  pub home_s : u.mem HOME_S ≡ m HOME_S
+
+-- the fault's text is sent, and the machine has returned
+pub told : (f : Setup) (lo hi : ℕ) (bs : List ℕ) → length bs + 2 ≤ 14 → Fits f 16 → Holds block_part f.code → (k : ℕ) → k < 10 → (m : ℕ → ℕ) (keys gets : List ℕ) (n : ℕ) → WordAt m LINE n → Entered f lo hi m → (x y : ℕ) (b v i z c : Bool) → Comes f (view k x y b v i z c FAULT_AT (bs ++ lo ∷ hi ∷ []) m keys gets) (IsHome f) (fault_text k n) 1522
+told f lo hi bs few fits block k small m keys gets n line e x y b v i z c =
+    subst (λ j. Comes f (view k x y b v i z c FAULT_AT (bs ++ lo ∷ hi ∷ []) m keys gets) (IsHome f) (fault_text k j) 1522) (value m LINE n line)
+    (fault_law f 14 (let le : 13 ≤ 14 = omega arith in le) (omega (arith, fits)) block lo hi bs few keys gets m (record { homed = e.homed; kept = e.kept; line = small_bytes m LINE n line }) k x y b v i z c small)
+
+pub faulting : (f : Setup) (lo hi : ℕ) → Fits f 16 → Holds block_part f.code → (l h k : ℕ) → k < 10 → (m : ℕ → ℕ) (keys gets : List ℕ) (n : ℕ) → WordAt m LINE n → Entered f lo hi m → (v : View) (p : View → Type 0) (j limit : ℕ) → j + 1522 ≤ limit → Comes (under f (lo ∷ hi ∷ [])) v p [] j → ((u : View) → p u → AtFault k l h m keys gets u) → Comes f (stacked_on (lo ∷ hi ∷ []) v) (IsHome f) (fault_text k n) limit
+faulting f lo hi fits block l h k small m keys gets n line e v p j limit le c go =
+    looser f _ _ _ (fault_text k n) (j + 1522) limit le (λ w h. h)
+    (calling f (lo ∷ hi ∷ []) v p (IsHome f) [] (fault_text k n) j 1522 c (λ u pu.
+    let a = go u pu in
+    known f (stacked_on (lo ∷ hi ∷ []) u) FAULT_AT (l ∷ h ∷ lo ∷ hi ∷ []) keys gets (IsHome f) (fault_text k n) 1522 a.pc (ap (λ s. s ++ (lo ∷ hi ∷ [])) a.stack) a.binary a.text a.answers
+    (subst (λ r. Comes f (view r u.regs.x u.regs.y u.regs.flags.n u.regs.flags.v u.regs.flags.i u.regs.flags.z u.regs.flags.c FAULT_AT (l ∷ h ∷ lo ∷ hi ∷ []) u.mem keys gets) (IsHome f) (fault_text k n) 1522) (sym a.number)
+    (told f lo hi (l ∷ h ∷ []) (let le : 4 ≤ 14 = omega arith in le) fits block k small u.mem keys gets n (same_place m u.mem LINE n line a.line.0 a.line.1) (record { homed = e.homed; kept = ap (λ s. s + 2) a.home_s ∙ e.kept }) _ _ _ _ _ _ _))))
+
+-- ---- columns: no digit is a return
+abbrev Plain : List ℕ → Type 0
+Plain [] = Unit {0}
+Plain (b ∷ bs) = (b ≢ 13) × Plain bs
+
+plain_column : (c : ℕ) (bs : List ℕ) → Plain bs → column_after c bs ≡ c + length bs
+plain_column c [] h = omega arith
+plain_column c (b ∷ bs) h = ap (λ t. column_after (if t then 0 else c + 1) bs) (ne_eqb b 13 h.0) ∙ plain_column (c + 1) bs h.1 ∙ omega arith
+
+plain_either : (t : Bool) (a b : List ℕ) → Plain a → Plain b → Plain (if t then a else b)
+plain_either true a b p q = p
+plain_either false a b p q = q
+
+plain_digits : (k n : ℕ) (text : List ℕ) → Plain text → Plain (digits_before k n text)
+plain_digits zero n text h = h
+plain_digits (suc k) n text h = plain_either (nat_lt n 10) ((48 + n) ∷ text) (digits_before k (n / 10) ((48 + n % 10) ∷ text)) ((λ e. omega arith), h) (plain_digits k (n / 10) ((48 + n % 10) ∷ text) ((λ e. omega arith), h))
+
+plain_number : (w : ℕ) → Plain (digits_of w)
+plain_number w = plain_either (is_negative w) (45 ∷ digits_before 5 (magnitude w) []) (digits_before 5 w []) ((λ e. omega arith), plain_digits 5 (magnitude w) [] tt) (plain_digits 5 w [] tt)
+
+pub number_column : (c w : ℕ) → (c + length (digits_of w)) % 256 ≡ column_after c (digits_of w) % 256
+number_column c w = ap (λ n. n % 256) (sym (plain_column c (digits_of w) (plain_number w)))
+
+-- ---- the line table
+pub entries_length : (start : ℕ → ℕ) (ns : List ℕ) → length (entries start ns) ≡ length ns
+entries_length start [] = refl
+entries_length start (n ∷ ns) = ap (λ k. suc k) (entries_length start ns)
+
+pub found : (start : ℕ → ℕ) (ns : List ℕ) (n : ℕ) → has_line ns n ≡ true → address_of n (entries start ns) ≡ Some (start n)
+found start [] n h = cc
+found start (k ∷ ns) n h = ⊎_elim
+    (λ e. ap (λ t. if t then Some (start k) else address_of n (entries start ns)) (eq-eqb k n e) ∙ ap (λ j. Some (start j)) e)
+    (λ e. ap (λ t. if t then Some (start k) else address_of n (entries start ns)) (ne_eqb k n e) ∙ found start ns n (sym (ap (λ t. t || has_line ns n) (ne_eqb k n e)) ∙ h))
+    (cases_eq k n)
+
+pub not_found : (start : ℕ → ℕ) (ns : List ℕ) (n : ℕ) → has_line ns n ≡ false → address_of n (entries start ns) ≡ None
+not_found start [] n h = refl
+not_found start (k ∷ ns) n h = ⊎_elim
+    (λ e. let bad : true ≡ false = sym (ap (λ t. t || has_line ns n) (eq-eqb k n e)) ∙ h in cc)
+    (λ e. ap (λ t. if t then Some (start k) else address_of n (entries start ns)) (ne_eqb k n e) ∙ not_found start ns n (sym (ap (λ t. t || has_line ns n) (ne_eqb k n e)) ∙ h))
+    (cases_eq k n)

@@ -1,0 +1,385 @@
+-- Input.
+use Rattle.std.proofs.Common.{◌≡◌, ◌≢◌, ℕ, ◌+◌, ◌-◌, ◌*◌, ◌%◌, ◌/◌, ◌<◌, ◌≤◌, Bool, true, false, ◌&&◌, ◌||◌, List, [], ◌∷◌, ◌++◌, length, refl, sym, ap, ap₂, ◌∙◌, subst, ⊎_elim, inl, inr, ◌⊎◌, arith, eqb, leb, if◌then◌else◌, length-append}
+use Rattle.std.proofs.lemmas.Bool.{ne_eqb, eq-eqb, cases_eq, cases_lt, lt-leb, le-leb, false≢true, and_left, and_right}
+use Rattle.tb_cpu.specs.Operands.{word_in}
+use Rattle.tb_memmap.specs.Bytes.{with_byte}
+use Rattle.tb_kernal.specs.declared.places.Service.TheVariants.{Chrin}
+use Rattle.tb_reaching.specs.View.{View, Setup, Holds, Fits, Comes, view, back_at}
+use Rattle.tb_reaching.specs.Start.{IsHome}
+use Rattle.tb_reaching.proofs.Memory.{put_other}
+use Rattle.tb_reaching.proofs.Comes.{looser}
+use Rattle.tb_reaching.proofs.Services.{serving}
+use Rattle.tb_reaching.proofs.Calls.{framed, under}
+use Rattle.tb_lower.specs.Control.{column_after, fault_text}
+use Rattle.tb_lower.specs.Input.{Reading, Nothing, Sign, Digits, Turn, Got, Bad, with_digit, number_end, signed_turn, turn}
+use Rattle.tb_runtime16.specs.Places.{INPUT_AT, SEND_AT, COLUMN, LEFT, RESULT, HOME_S, LINE, BYTE, OPEN, SCRATCH}
+use Rattle.tb_runtime16.specs.Block.{block_part}
+use Rattle.tb_runtime16.specs.Ends.{Entered}
+use Rattle.tb_runtime16.specs.Input.{MINUS, is_changed, turn_sends, Ended, InputLaw}
+use Rattle.tb_runtime16.specs.Laws.{IsWord, AllBytes, Said}
+use Rattle.tb_runtime16.proofs.Words.{taken_from_zero}
+use Rattle.tb_runtime16.proofs.Tens.{times_ten}
+use Rattle.tb_runtime16.proofs.Within.{input_part, input_in}
+use Rattle.tb_runtime16.proofs.Called.{after_on, calls, ending_on}
+use Rattle.tb_runtime16.proofs.SendRuns.{send_law}
+use Rattle.tb_runtime16.proofs.FaultRuns.{fault_law}
+
+-- a comparison of bytes
+abbrev same_byte : ℕ → ℕ → Bool
+same_byte b k = eqb ((b + 256 - k) % 256) 0
+
+other_byte : (b k : ℕ) → b < 256 → k < 256 → b ≢ k → same_byte b k ≡ false
+other_byte b k p q n = ne_eqb _ _ (λ h. n (omega (arith, p, q, h)))
+
+-- a call of Send, and then
+saying : (f : Setup) (own : List ℕ) → Fits (under f own) 2 → Holds block_part f.code → (lo hi : ℕ) (text answers : List ℕ) (m : ℕ → ℕ) (a x y : ℕ) (n v i z c : Bool) → a < 256 → (q : View → Type 0) (u : List ℕ) (k : ℕ) → ((a' x y : ℕ) (n v i z c : Bool) (m' : ℕ → ℕ) → m' COLUMN ≡ column_after (m COLUMN) (a ∷ []) % 256 → ((p : ℕ) → p ≢ COLUMN → m' p ≡ m p) → Comes f (view a' x y n v i z c (back_at lo hi) own m' text answers) q u k) → Comes f (view a x y n v i z c SEND_AT (lo ∷ hi ∷ own) m text answers) q (a ∷ u) (7 + k)
+saying f own fits block lo hi text answers m a x y n v i z c small q u k next =
+    calls f own a x y n v i z c SEND_AT lo hi m text answers (Said m (a ∷ [])) q (a ∷ []) u 7 k (send_law (under f own) fits block lo hi text answers m a x y n v i z c small)
+    (λ a' x y n v i z c w s. next a' x y n v i z c w s.column s.others)
+
+-- ---- a reading, in memory
+abbrev state : Reading → ℕ
+state Nothing = 0
+state (Sign negative) = 1
+state (Digits negative n) = 2
+
+abbrev is_minus : Reading → Bool
+is_minus Nothing = false
+is_minus (Sign negative) = negative
+is_minus (Digits negative n) = negative
+
+abbrev number : Reading → ℕ
+number Nothing = 0
+number (Sign negative) = 0
+number (Digits negative n) = n
+
+state_digit : (r : Reading) (d : ℕ) → 2 ≡ state (with_digit r d)
+state_digit Nothing d = refl
+state_digit (Sign negative) d = refl
+state_digit (Digits negative n) d = refl
+
+minus_digit : (r : Reading) (d : ℕ) → is_minus r ≡ is_minus (with_digit r d)
+minus_digit Nothing d = refl
+minus_digit (Sign negative) d = refl
+minus_digit (Digits negative n) d = refl
+
+number_digit : (r : Reading) (d : ℕ) → number (with_digit r d) ≡ number r * 10 + d
+number_digit Nothing d = omega arith
+number_digit (Sign negative) d = omega arith
+number_digit (Digits negative n) d = refl
+
+-- ---- a turn's next byte
+turn_digit : (r : Reading) (b : ℕ) (text : List ℕ) → 48 ≤ b → b ≤ 57 → turn (with_digit r (b - 48)) text ≡ turn r (b ∷ text)
+turn_digit r b text lo hi =
+    let rest = λ (x y z : Bool). if x then turn r text else (if y && z then turn (with_digit r (b - 48)) text else (if eqb b 43 || eqb b 45 then signed_turn r (turn (Sign (eqb b 45)) text) else (if eqb b 44 then number_end r true text else (if eqb b 13 then number_end r false text else Bad)))) in
+    sym (ap (λ x. rest x (leb 48 b) (leb b 57)) (ne_eqb b 32 (λ e. omega arith)) ∙ ap (λ x. rest false x (leb b 57)) (le-leb 48 b lo) ∙ ap (λ x. rest false true x) (le-leb b 57 hi))
+
+turn_bad : (r : Reading) (b : ℕ) (text : List ℕ) → b ≢ 32 → b ≢ 43 → b ≢ 45 → b ≢ 44 → b ≢ 13 → (leb 48 b && leb b 57) ≡ false → Bad ≡ turn r (b ∷ text)
+turn_bad r b text n32 n43 n45 n44 n13 out =
+    let rest = λ (x y p q s t : Bool). if x then turn r text else (if y then turn (with_digit r (b - 48)) text else (if p || q then signed_turn r (turn (Sign (eqb b 45)) text) else (if s then number_end r true text else (if t then number_end r false text else Bad)))) in
+    sym (ap (λ x. rest x (leb 48 b && leb b 57) (eqb b 43) (eqb b 45) (eqb b 44) (eqb b 13)) (ne_eqb b 32 n32)
+    ∙ ap (λ x. rest false x (eqb b 43) (eqb b 45) (eqb b 44) (eqb b 13)) out
+    ∙ ap (λ x. rest false false x (eqb b 45) (eqb b 44) (eqb b 13)) (ne_eqb b 43 n43)
+    ∙ ap (λ x. rest false false false x (eqb b 44) (eqb b 13)) (ne_eqb b 45 n45)
+    ∙ ap (λ x. rest false false false false x (eqb b 13)) (ne_eqb b 44 n44)
+    ∙ ap (λ x. rest false false false false false x) (ne_eqb b 13 n13))
+
+small_byte : (n : ℕ) → n % 256 < 256
+small_byte n = omega arith
+
+-- what stands outside the changed places
+abbrev Frame : (ℕ → ℕ) → (ℕ → ℕ) → Type 0
+Frame m0 m = (a : ℕ) → is_changed a ≡ false → m a ≡ m0 a
+
+frame_put : (m0 m : ℕ → ℕ) (at b : ℕ) → is_changed at ≡ true → Frame m0 m → Frame m0 (with_byte m at b)
+frame_put m0 m at b h k a e = put_other m at b a (λ x. false≢true (sym e ∙ ap is_changed x ∙ h)) ∙ k a e
+
+apart : (a at : ℕ) → is_changed a ≡ false → is_changed at ≡ true → eqb a at ≡ false
+apart a at t h = ne_eqb a at (λ x. false≢true (sym t ∙ ap is_changed x ∙ h))
+
+module _ (f : Setup) (room : ℕ) (most : 13 ≤ room) (fits : Fits f room) (block : Holds block_part f.code) (hlo hhi : ℕ) (above : List ℕ) (deep : length above + 6 ≤ room) (lo hi : ℕ) (answers : List ℕ) (m0 : ℕ → ℕ) (entered : Entered f hlo hhi m0) (col : ℕ) (before : List ℕ) where
+  abbrev own : List ℕ
+  own = above ++ hlo ∷ hhi ∷ []
+
+  -- room for a call, above what the caller keeps
+  free : Fits (under f own) 4
+  free = omega (arith, fits, deep, length-append own f.rest, length-append above (hlo ∷ hhi ∷ []))
+
+  st : Holds input_part f.code
+  st = input_in f.code block
+
+  abbrev Goal : Turn → View → Type 0
+  Goal = Ended f lo hi own m0 answers col before
+
+  abbrev sends : Turn → List ℕ
+  sends = turn_sends (word_in m0 LINE)
+
+  record Held (r : Reading) (m : ℕ → ℕ) : Type 0 where
+    seen : m SCRATCH ≡ state r
+    minus : same_byte (m MINUS) 45 ≡ is_minus r
+    is_word : IsWord m RESULT
+    value : word_in m RESULT ≡ number r % 65536
+    line_open : m OPEN ≡ 1
+    column : m COLUMN ≡ column_after col before % 256
+    others : Frame m0 m
+
+  held_byte : (r : Reading) (m : ℕ → ℕ) (b : ℕ) → Held r m → Held r (with_byte m BYTE b)
+  held_byte r m b h = record { seen = h.seen; minus = h.minus; is_word = h.is_word; value = h.value; line_open = h.line_open; column = h.column; others = frame_put _ _ BYTE _ refl h.others }
+
+  -- fault 6
+  bad : (a x y : ℕ) (n v i z c : Bool) (m : ℕ → ℕ) (text : List ℕ) → Frame m0 m → Comes f (view a x y n v i z c (INPUT_AT + 0xA4) (lo ∷ hi ∷ own) m text answers) (IsHome f) (fault_text 6 (word_in m0 LINE)) (84 + 1440)
+  bad a x y n v i z c m text k =
+      let here : Entered f hlo hhi m = record { homed = entered.homed; kept = ap (λ s. s + 2) (k HOME_S refl) ∙ entered.kept; line = (omega (arith, k LINE refl, entered.line.0), omega (arith, k 0xc03B refl, entered.line.1)) } in
+      subst (λ w. Comes f (view a x y n v i z c (INPUT_AT + 0xA4) (lo ∷ hi ∷ own) m text answers) (IsHome f) (fault_text 6 w) (84 + 1440)) (ap₂ (λ a b. a + 256 * b) (k LINE refl) (k 0xc03B refl))
+      (looser f _ _ _ (fault_text 6 (word_in m LINE)) (2 + (82 + 1440)) (84 + 1440) (omega arith) (λ w h. h)
+      (after_on f own 4 free input_part st 1 (view a x y n v i z c (INPUT_AT + 0xA4) (lo ∷ hi ∷ []) m text answers) _ _ (82 + 1440) refl
+      (fault_law f room most fits block hlo hhi (lo ∷ hi ∷ above) (omega (arith, deep)) text answers m here 6 _ _ _ _ _ _ _ (omega arith))))
+
+  -- ---- the end
+  record Read (value : ℕ) (m : ℕ → ℕ) : Type 0 where
+    is_word : IsWord m RESULT
+    value_is : word_in m RESULT ≡ value
+    line_open : m OPEN ≡ 1
+    column : m COLUMN ≡ column_after col before % 256
+    others : Frame m0 m
+
+  finish : (value : ℕ) (stays : Bool) (a x y : ℕ) (n v i z c : Bool) (m : ℕ → ℕ) (text : List ℕ) → Read value m → same_byte (m BYTE) 44 ≡ stays → Comes f (view a x y n v i z c (INPUT_AT + 0xC8) (lo ∷ hi ∷ own) m text answers) (Goal (Got value stays text)) (sends (Got value stays text)) 14
+  finish value true a x y n v i z c m text h e =
+      looser f _ _ _ [] (3 + 1) 14 (omega arith) (λ w h. h)
+      (after_on f own 4 free input_part st 2 (view a x y n v i z c (INPUT_AT + 0xC8) (lo ∷ hi ∷ []) m text answers) _ _ 1 refl
+      (rw e (ending_on f own 4 free input_part st 0 (view _ _ _ _ _ _ _ _ (INPUT_AT + 0xD9) (lo ∷ hi ∷ []) m text answers) _ refl
+      (record { pc = refl; stack = refl; binary = refl; left = refl; same_answers = refl; is_word = h.is_word; result = h.value_is; line_open = h.line_open; column_is = h.column; others = h.others }))))
+  finish value false a x y n v i z c m text h e =
+      after_on f own 4 free input_part st 2 (view a x y n v i z c (INPUT_AT + 0xC8) (lo ∷ hi ∷ []) m text answers) _ _ (4 + 7) refl
+      (rw e (after_on f own 4 free input_part st 3 (view _ _ _ _ _ _ _ _ (INPUT_AT + 0xCF) (lo ∷ hi ∷ []) m text answers) _ _ 7 refl
+      (looser f _ _ _ (13 ∷ []) 7 7 (omega arith) (λ w g. subst (Goal (Got value false text)) g.2
+      (record {
+        pc = g.1.pc;
+        stack = ap (λ l. l ++ own) g.1.stack_is;
+        binary = g.1.binary;
+        left = g.1.same_text;
+        same_answers = g.1.same_answers;
+        is_word = (omega (arith, g.1.memory.others RESULT (λ e. omega (arith, e)), h.is_word.0), omega (arith, g.1.memory.others 0xc067 (λ e. omega (arith, e)), h.is_word.1));
+        result = ap₂ (λ a b. a + 256 * b) (g.1.memory.others RESULT (λ e. omega (arith, e))) (g.1.memory.others 0xc067 (λ e. omega (arith, e))) ∙ h.value_is;
+        line_open = g.1.memory.others OPEN (λ e. omega (arith, e));
+        column_is = g.1.memory.column;
+        others = λ a t. g.1.memory.others a (λ x. false≢true (sym t ∙ ap is_changed x)) ∙ frame_put _ _ OPEN _ refl h.others a t;
+      }))
+      (framed f own (view 13 _ _ _ _ _ _ _ SEND_AT (lo ∷ hi ∷ []) (with_byte m OPEN 0) text answers) _ (13 ∷ []) 7
+      (send_law (under f own) (omega (arith, free)) block lo hi text answers _ _ _ _ _ _ _ _ _ (omega arith))))))
+
+  -- the number ends
+  done : (r : Reading) (stays : Bool) (a x y : ℕ) (n v i z c : Bool) (m : ℕ → ℕ) (text : List ℕ) → Held r m → same_byte (m BYTE) 44 ≡ stays → Comes f (view a x y n v i z c (INPUT_AT + 0xA9) (lo ∷ hi ∷ own) m text answers) (Goal (number_end r stays text)) (sends (number_end r stays text)) (87 + 1440)
+  done Nothing stays a x y n v i z c m text h e =
+      let t : same_byte (m SCRATCH) 2 ≡ false = ne_eqb _ _ (λ e. omega (arith, h.seen, e)) in
+      looser f _ _ _ (fault_text 6 (word_in m0 LINE)) (3 + (84 + 1440)) (87 + 1440) (omega arith) (λ w h. h)
+      (after_on f own 4 free input_part st 2 (view a x y n v i z c (INPUT_AT + 0xA9) (lo ∷ hi ∷ []) m text answers) _ _ (84 + 1440) refl
+      (rw t (bad _ _ _ _ _ _ _ _ m text h.others)))
+  done (Sign negative) stays a x y n v i z c m text h e =
+      let t : same_byte (m SCRATCH) 2 ≡ false = ne_eqb _ _ (λ e. omega (arith, h.seen, e)) in
+      looser f _ _ _ (fault_text 6 (word_in m0 LINE)) (3 + (84 + 1440)) (87 + 1440) (omega arith) (λ w h. h)
+      (after_on f own 4 free input_part st 2 (view a x y n v i z c (INPUT_AT + 0xA9) (lo ∷ hi ∷ []) m text answers) _ _ (84 + 1440) refl
+      (rw t (bad _ _ _ _ _ _ _ _ m text h.others)))
+  done (Digits false k) stays a x y n v i z c m text h e =
+      let t : same_byte (m SCRATCH) 2 ≡ true = eq-eqb _ _ (omega (arith, h.seen)) in
+      looser f _ _ _ (sends (Got (k % 65536) stays text)) (3 + (3 + 14)) (87 + 1440) (omega arith) (λ w h. h)
+      (after_on f own 4 free input_part st 2 (view a x y n v i z c (INPUT_AT + 0xA9) (lo ∷ hi ∷ []) m text answers) _ _ (3 + 14) refl
+      (rw t (after_on f own 4 free input_part st 2 (view _ _ _ _ _ _ _ _ (INPUT_AT + 0xB0) (lo ∷ hi ∷ []) m text answers) _ _ 14 refl
+      (rw h.minus (finish (k % 65536) stays _ _ _ _ _ _ _ _ m text (record { is_word = h.is_word; value_is = h.value; line_open = h.line_open; column = h.column; others = h.others }) e)))))
+  done (Digits true k) stays a x y n v i z c m text h e =
+      let t : same_byte (m SCRATCH) 2 ≡ true = eq-eqb _ _ (omega (arith, h.seen)) in
+      looser f _ _ _ (sends (Got ((65536 - k % 65536) % 65536) stays text)) (3 + (3 + (7 + 14))) (87 + 1440) (omega arith) (λ w h. h)
+      (after_on f own 4 free input_part st 2 (view a x y n v i z c (INPUT_AT + 0xA9) (lo ∷ hi ∷ []) m text answers) _ _ (3 + (7 + 14)) refl
+      (rw t (after_on f own 4 free input_part st 2 (view _ _ _ _ _ _ _ _ (INPUT_AT + 0xB0) (lo ∷ hi ∷ []) m text answers) _ _ (7 + 14) refl
+      (rw h.minus (after_on f own 4 free input_part st 6 (view _ _ _ _ _ _ _ _ (INPUT_AT + 0xB7) (lo ∷ hi ∷ []) m text answers) _ _ 14 refl
+      (finish ((65536 - k % 65536) % 65536) stays _ _ _ _ _ _ _ _ _ text
+      (record {
+        is_word = (small_byte _, small_byte _);
+        value_is = taken_from_zero (m RESULT) (m 0xc067) h.is_word.0 h.is_word.1 ∙ ap (λ w. (65536 - w) % 65536) h.value;
+        line_open = h.line_open;
+        column = h.column;
+        others = frame_put _ _ 0xc067 _ refl (frame_put _ _ RESULT _ refl h.others);
+      }) e))))))
+
+  -- ---- a turn goes on
+  Reads : List ℕ → Type 0
+  Reads text = (r : Reading) (a x y : ℕ) (n v i z c : Bool) (m : ℕ → ℕ) → Held r m → AllBytes text → Comes f (view a x y n v i z c (INPUT_AT + 0x22) (lo ∷ hi ∷ own) m text answers) (Goal (turn r text)) (sends (turn r text)) (45 * length text + (102 + 1440))
+
+  -- a sign
+  at_sign : (r : Reading) (negative : Bool) (a x y : ℕ) (n v i z c : Bool) (m : ℕ → ℕ) (text : List ℕ) → Reads text → Held r m → same_byte (m BYTE) 45 ≡ negative → AllBytes text → Comes f (view a x y n v i z c (INPUT_AT + 0x91) (lo ∷ hi ∷ own) m text answers) (Goal (signed_turn r (turn (Sign negative) text))) (sends (signed_turn r (turn (Sign negative) text))) (45 * length text + (109 + 1440))
+  unfolding Reads
+  at_sign Nothing negative a x y n v i z c m text go h e bs =
+      let t : eqb (m SCRATCH) 0 ≡ true = eq-eqb _ _ h.seen in
+      looser f _ _ _ (sends (turn (Sign negative) text)) (2 + (5 + (45 * length text + (102 + 1440)))) (45 * length text + (109 + 1440)) (omega arith) (λ w h. h)
+      (after_on f own 4 free input_part st 1 (view a x y n v i z c (INPUT_AT + 0x91) (lo ∷ hi ∷ []) m text answers) _ _ (5 + (45 * length text + (102 + 1440))) refl
+      (rw t (after_on f own 4 free input_part st 4 (view _ _ _ _ _ _ _ _ (INPUT_AT + 0x96) (lo ∷ hi ∷ []) m text answers) _ _ (45 * length text + (102 + 1440)) refl
+      (go (Sign negative) _ _ _ _ _ _ _ _ _
+      (record { seen = refl; minus = e; is_word = h.is_word; value = h.value; line_open = h.line_open; column = h.column; others = frame_put _ _ SCRATCH _ refl (frame_put _ _ MINUS _ refl h.others) }) bs))))
+  at_sign (Sign before) negative a x y n v i z c m text go h e bs =
+      let t : eqb (m SCRATCH) 0 ≡ false = ne_eqb _ _ (λ e. omega (arith, h.seen, e)) in
+      looser f _ _ _ (fault_text 6 (word_in m0 LINE)) (2 + (84 + 1440)) (45 * length text + (109 + 1440)) (omega arith) (λ w h. h)
+      (after_on f own 4 free input_part st 1 (view a x y n v i z c (INPUT_AT + 0x91) (lo ∷ hi ∷ []) m text answers) _ _ (84 + 1440) refl
+      (rw t (bad _ _ _ _ _ _ _ _ m text h.others)))
+  at_sign (Digits before k) negative a x y n v i z c m text go h e bs =
+      let t : eqb (m SCRATCH) 0 ≡ false = ne_eqb _ _ (λ e. omega (arith, h.seen, e)) in
+      looser f _ _ _ (fault_text 6 (word_in m0 LINE)) (2 + (84 + 1440)) (45 * length text + (109 + 1440)) (omega arith) (λ w h. h)
+      (after_on f own 4 free input_part st 1 (view a x y n v i z c (INPUT_AT + 0x91) (lo ∷ hi ∷ []) m text answers) _ _ (84 + 1440) refl
+      (rw t (bad _ _ _ _ _ _ _ _ m text h.others)))
+
+  -- a digit, which BYTE holds
+  at_digit : (r : Reading) (d : ℕ) (a x y : ℕ) (n v i z c : Bool) (m : ℕ → ℕ) (text : List ℕ) → Reads text → Held r m → m BYTE ≡ d → d < 10 → AllBytes text → Comes f (view a x y n v i z c (INPUT_AT + 0x46) (lo ∷ hi ∷ own) m text answers) (Goal (turn (with_digit r d) text)) (sends (turn (with_digit r d) text)) (27 + (45 * length text + (102 + 1440)))
+  unfolding Reads
+  at_digit r d a x y n v i z c m text go h e small bs =
+      let ten = times_ten (m RESULT) (m 0xc067) (m BYTE) h.is_word.0 h.is_word.1 (omega (arith, e)) in
+      after_on f own 4 free input_part st 26 (view a x y n v i z c (INPUT_AT + 0x46) (lo ∷ hi ∷ []) m text answers) _ _ (45 * length text + (102 + 1440)) refl
+      (go (with_digit r d) _ _ _ _ _ _ _ _ _
+      (record {
+        seen = state_digit r d;
+        minus = h.minus ∙ minus_digit r d;
+        is_word = (small_byte _, small_byte _);
+        value = ten ∙ omega (arith, e, h.value, number_digit r d);
+        line_open = h.line_open;
+        column = h.column;
+        others = λ a t.
+            let e1 : eqb a SCRATCH ≡ false = apart a SCRATCH t refl in
+            let e2 : eqb a 0xc067 ≡ false = apart a 0xc067 t refl in
+            let e3 : eqb a RESULT ≡ false = apart a RESULT t refl in
+            let e4 : eqb a 0xc063 ≡ false = apart a 0xc063 t refl in
+            let e5 : eqb a LEFT ≡ false = apart a LEFT t refl in
+            rw e1 (rw e2 (rw e3 (rw e4 (rw e5 (h.others a t)))));
+      }) bs)
+
+  -- ---- a byte has come
+  abbrev Byte : ℕ → List ℕ → Reading → Type 0
+  Byte b text r = (x y : ℕ) (n v i z c : Bool) (m : ℕ → ℕ) → Held r m → AllBytes text → Comes f (view b x y n v i z c (INPUT_AT + 0x25) (lo ∷ hi ∷ own) m text answers) (Goal (turn r (b ∷ text))) (sends (turn r (b ∷ text))) (45 * length text + (145 + 1440))
+
+  space : (text : List ℕ) → Reads text → (r : Reading) → Byte 32 text r
+  unfolding Reads
+  space text go r x y n v i z c m h bs =
+      looser f _ _ _ (sends (turn r text)) (3 + (45 * length text + (102 + 1440))) (45 * length text + (145 + 1440)) (omega arith) (λ w h. h)
+      (after_on f own 4 free input_part st 2 (view 32 x y n v i z c (INPUT_AT + 0x25) (lo ∷ hi ∷ []) m text answers) _ _ (45 * length text + (102 + 1440)) refl
+      (go r _ _ _ _ _ _ _ _ _ (held_byte r m 32 h) bs))
+
+  plus : (text : List ℕ) → Reads text → (r : Reading) → Byte 43 text r
+  plus text go r x y n v i z c m h bs =
+      looser f _ _ _ (sends (signed_turn r (turn (Sign false) text))) (5 + (45 * length text + (109 + 1440))) (45 * length text + (145 + 1440)) (omega arith) (λ w h. h)
+      (after_on f own 4 free input_part st 4 (view 43 x y n v i z c (INPUT_AT + 0x25) (lo ∷ hi ∷ []) m text answers) _ _ (45 * length text + (109 + 1440)) refl
+      (at_sign r false _ _ _ _ _ _ _ _ _ text go (held_byte r m 43 h) refl bs))
+
+  minus : (text : List ℕ) → Reads text → (r : Reading) → Byte 45 text r
+  minus text go r x y n v i z c m h bs =
+      looser f _ _ _ (sends (signed_turn r (turn (Sign true) text))) (7 + (45 * length text + (109 + 1440))) (45 * length text + (145 + 1440)) (omega arith) (λ w h. h)
+      (after_on f own 4 free input_part st 6 (view 45 x y n v i z c (INPUT_AT + 0x25) (lo ∷ hi ∷ []) m text answers) _ _ (45 * length text + (109 + 1440)) refl
+      (at_sign r true _ _ _ _ _ _ _ _ _ text go (held_byte r m 45 h) refl bs))
+
+  comma : (text : List ℕ) (r : Reading) → Byte 44 text r
+  comma text r x y n v i z c m h bs =
+      looser f _ _ _ (sends (number_end r true text)) (9 + (87 + 1440)) (45 * length text + (145 + 1440)) (omega arith) (λ w h. h)
+      (after_on f own 4 free input_part st 8 (view 44 x y n v i z c (INPUT_AT + 0x25) (lo ∷ hi ∷ []) m text answers) _ _ (87 + 1440) refl
+      (done r true _ _ _ _ _ _ _ _ _ text (held_byte r m 44 h) refl))
+
+  return : (text : List ℕ) (r : Reading) → Byte 13 text r
+  return text r x y n v i z c m h bs =
+      looser f _ _ _ (sends (number_end r false text)) (11 + (87 + 1440)) (45 * length text + (145 + 1440)) (omega arith) (λ w h. h)
+      (after_on f own 4 free input_part st 10 (view 13 x y n v i z c (INPUT_AT + 0x25) (lo ∷ hi ∷ []) m text answers) _ _ (87 + 1440) refl
+      (done r false _ _ _ _ _ _ _ _ _ text (held_byte r m 13 h) refl))
+
+  -- a byte that may be a digit
+  digit : (text : List ℕ) → Reads text → (r : Reading) (b : ℕ) → 48 ≤ b → b ≤ 57 → (x y : ℕ) (n v i z c : Bool) (m : ℕ → ℕ) → Held r m → AllBytes text → Comes f (view b x y n v i z c (INPUT_AT + 0x3C) (lo ∷ hi ∷ own) m text answers) (Goal (turn r (b ∷ text))) (sends (turn r (b ∷ text))) (5 + (27 + (45 * length text + (102 + 1440))))
+  digit text go r b from to x y n v i z c m h bs =
+      let d : (b + 256 - 48) % 256 ≡ b - 48 = omega arith in
+      let t : leb 10 ((b + 256 - 48) % 256) ≡ false = lt-leb 10 _ (omega arith) in
+      subst (λ u. Comes f (view b x y n v i z c (INPUT_AT + 0x3C) (lo ∷ hi ∷ own) m text answers) (Goal u) (sends u) (5 + (27 + (45 * length text + (102 + 1440))))) (turn_digit r b text from to)
+      (after_on f own 4 free input_part st 4 (view b x y n v i z c (INPUT_AT + 0x3C) (lo ∷ hi ∷ []) m text answers) _ _ (27 + (45 * length text + (102 + 1440))) refl
+      (rw t (at_digit r (b - 48) _ _ _ _ _ _ _ _ _ text go (held_byte r m _ h) d (omega arith) bs)))
+
+  stray : (text : List ℕ) (r : Reading) (b : ℕ) → b < 256 → (leb 48 b && leb b 57) ≡ false → leb 10 ((b + 256 - 48) % 256) ≡ true → (x y : ℕ) (n v i z c : Bool) (m : ℕ → ℕ) → Held r m → Comes f (view b x y n v i z c (INPUT_AT + 0x3C) (lo ∷ hi ∷ own) m text answers) (IsHome f) (fault_text 6 (word_in m0 LINE)) (5 + (84 + 1440))
+  stray text r b small out t x y n v i z c m h =
+      after_on f own 4 free input_part st 4 (view b x y n v i z c (INPUT_AT + 0x3C) (lo ∷ hi ∷ []) m text answers) _ _ (84 + 1440) refl
+      (rw t (bad _ _ _ _ _ _ _ _ _ text (frame_put _ _ BYTE _ refl h.others)))
+
+  -- past the five tests
+  past : (text : List ℕ) (b : ℕ) (u : Turn) (k : ℕ) → b < 256 → b ≢ 32 → b ≢ 43 → b ≢ 45 → b ≢ 44 → b ≢ 13 → (x y : ℕ) (n v i z c : Bool) (m : ℕ → ℕ) → ((n z c : Bool) → Comes f (view b x y n v i z c (INPUT_AT + 0x3C) (lo ∷ hi ∷ own) (with_byte m BYTE b) text answers) (Goal u) (sends u) k) → Comes f (view b x y n v i z c (INPUT_AT + 0x25) (lo ∷ hi ∷ own) m text answers) (Goal u) (sends u) (3 + (2 + (2 + (2 + (2 + k)))))
+  past text b u k small n32 n43 n45 n44 n13 x y n v i z c m next =
+      let t32 : same_byte b 32 ≡ false = other_byte b 32 small (omega arith) n32 in
+      let t43 : same_byte b 43 ≡ false = other_byte b 43 small (omega arith) n43 in
+      let t45 : same_byte b 45 ≡ false = other_byte b 45 small (omega arith) n45 in
+      let t44 : same_byte b 44 ≡ false = other_byte b 44 small (omega arith) n44 in
+      let t13 : same_byte b 13 ≡ false = other_byte b 13 small (omega arith) n13 in
+      after_on f own 4 free input_part st 2 (view b x y n v i z c (INPUT_AT + 0x25) (lo ∷ hi ∷ []) m text answers) _ _ (2 + (2 + (2 + (2 + k)))) refl
+      (rw t32 (after_on f own 4 free input_part st 1 (view _ _ _ _ _ _ _ _ (INPUT_AT + 0x2C) (lo ∷ hi ∷ []) (with_byte m BYTE b) text answers) _ _ (2 + (2 + (2 + k))) refl
+      (rw t43 (after_on f own 4 free input_part st 1 (view _ _ _ _ _ _ _ _ (INPUT_AT + 0x30) (lo ∷ hi ∷ []) (with_byte m BYTE b) text answers) _ _ (2 + (2 + k)) refl
+      (rw t45 (after_on f own 4 free input_part st 1 (view _ _ _ _ _ _ _ _ (INPUT_AT + 0x34) (lo ∷ hi ∷ []) (with_byte m BYTE b) text answers) _ _ (2 + k) refl
+      (rw t44 (after_on f own 4 free input_part st 1 (view _ _ _ _ _ _ _ _ (INPUT_AT + 0x38) (lo ∷ hi ∷ []) (with_byte m BYTE b) text answers) _ _ k refl
+      (rw t13 (next _ _ _))))))))))
+
+  not_digit : (b : ℕ) → b < 256 → (b < 48) ⊎ (57 < b) → ((leb 48 b && leb b 57) ≡ false) × (leb 10 ((b + 256 - 48) % 256) ≡ true)
+  not_digit b small out = ⊎_elim (λ h. (and_left _ _ (lt-leb 48 b h), le-leb 10 _ (omega arith))) (λ h. (and_right _ _ (lt-leb b 57 h), le-leb 10 _ (omega arith))) out
+
+  other_stray : (text : List ℕ) (r : Reading) (b : ℕ) → b < 256 → b ≢ 32 → b ≢ 43 → b ≢ 45 → b ≢ 44 → b ≢ 13 → (b < 48) ⊎ (57 < b) → Byte b text r
+  other_stray text r b small n32 n43 n45 n44 n13 out x y n v i z c m h bs =
+      let p = not_digit b small out in
+      subst (λ u. Comes f (view b x y n v i z c (INPUT_AT + 0x25) (lo ∷ hi ∷ own) m text answers) (Goal u) (sends u) (45 * length text + (145 + 1440))) (turn_bad r b text n32 n43 n45 n44 n13 p.0)
+      (looser f _ _ _ (sends Bad) (3 + (2 + (2 + (2 + (2 + (5 + (84 + 1440))))))) (45 * length text + (145 + 1440)) (omega arith) (λ w h. h)
+      (past text b Bad (5 + (84 + 1440)) small n32 n43 n45 n44 n13 x y n v i z c m (λ n z c. stray text r b small p.0 p.1 x y n v i z c (with_byte m BYTE b) (held_byte r m b h))))
+
+  other_digit : (text : List ℕ) → Reads text → (r : Reading) (b : ℕ) → b ≢ 32 → b ≢ 43 → b ≢ 45 → b ≢ 44 → b ≢ 13 → 48 ≤ b → b ≤ 57 → Byte b text r
+  other_digit text go r b n32 n43 n45 n44 n13 from to x y n v i z c m h bs =
+      looser f _ _ _ (sends (turn r (b ∷ text))) (3 + (2 + (2 + (2 + (2 + (5 + (27 + (45 * length text + (102 + 1440))))))))) (45 * length text + (145 + 1440)) (omega arith) (λ w h. h)
+      (past text b (turn r (b ∷ text)) (5 + (27 + (45 * length text + (102 + 1440)))) (omega (arith, to)) n32 n43 n45 n44 n13 x y n v i z c m (λ n z c. digit text go r b from to x y n v i z c (with_byte m BYTE b) (held_byte r m b h) bs))
+
+  any : (text : List ℕ) → Reads text → (r : Reading) (b : ℕ) → b < 256 → Byte b text r
+  any text go r b small =
+      ⊎_elim (λ e. subst (λ b. Byte b text r) (sym e) (space text go r))
+      (λ n32. ⊎_elim (λ e. subst (λ b. Byte b text r) (sym e) (plus text go r))
+      (λ n43. ⊎_elim (λ e. subst (λ b. Byte b text r) (sym e) (minus text go r))
+      (λ n45. ⊎_elim (λ e. subst (λ b. Byte b text r) (sym e) (comma text r))
+      (λ n44. ⊎_elim (λ e. subst (λ b. Byte b text r) (sym e) (return text r))
+      (λ n13. ⊎_elim (λ low. other_stray text r b small n32 n43 n45 n44 n13 (inl low))
+      (λ from. ⊎_elim (λ to. other_digit text go r b n32 n43 n45 n44 n13 from (omega arith)) (λ high. other_stray text r b small n32 n43 n45 n44 n13 (inr high)) (cases_lt b 58))
+      (cases_lt b 48)) (cases_eq b 13)) (cases_eq b 44)) (cases_eq b 45)) (cases_eq b 43)) (cases_eq b 32)
+
+  reads_all : (text : List ℕ) → Reads text
+  unfolding Reads
+  reads_all [] r a x y n v i z c m h bs =
+      looser f _ _ _ [] 1 (45 * 0 + (102 + 1440)) (omega arith) (λ w h. h)
+      (ending_on f own 4 free input_part st 0 (view a x y n v i z c (INPUT_AT + 0x22) (lo ∷ hi ∷ []) m [] answers) _ refl (record { pc = refl; text = refl }, (omega arith)))
+  reads_all (b ∷ text) r a x y n v i z c m h bs =
+      looser f _ _ _ (sends (turn r (b ∷ text))) (1 + (1 + (45 * length text + (145 + 1440)))) (45 * length (b ∷ text) + (102 + 1440)) (omega arith) (λ w h. h)
+      (after_on f own 4 free input_part st 0 (view a x y n v i z c (INPUT_AT + 0x22) (lo ∷ hi ∷ []) m (b ∷ text) answers) _ _ (1 + (45 * length text + (145 + 1440))) refl
+      (serving f room fits Chrin _ _ _ _ _ (sends (turn r (b ∷ text))) (45 * length text + (145 + 1440)) (le-leb _ _ (omega (arith, deep, length-append above (hlo ∷ hhi ∷ [])))) refl refl refl (λ j.
+      any text (reads_all text) r b bs.0 j.x j.y j.n j.v j.i j.z j.c m h bs.1)))
+
+  start : (a x y : ℕ) (n v i z c : Bool) (m : ℕ → ℕ) (text : List ℕ) → AllBytes text → m OPEN ≡ 1 → m COLUMN ≡ column_after col before % 256 → Frame m0 m → Comes f (view a x y n v i z c (INPUT_AT + 0x14) (lo ∷ hi ∷ own) m text answers) (Goal (turn Nothing text)) (sends (turn Nothing text)) (5 + (45 * length text + (102 + 1440)))
+  unfolding Reads
+  start a x y n v i z c m text bs o e k =
+      after_on f own 4 free input_part st 4 (view a x y n v i z c (INPUT_AT + 0x14) (lo ∷ hi ∷ []) m text answers) _ _ (45 * length text + (102 + 1440)) refl
+      (reads_all text Nothing _ _ _ _ _ _ _ _ _
+      (record { seen = refl; minus = refl; is_word = (small_byte 0, small_byte 0); value = refl; line_open = o; column = e; others = frame_put _ _ MINUS _ refl (frame_put _ _ SCRATCH _ refl (frame_put _ _ 0xc067 _ refl (frame_put _ _ RESULT _ refl k))) }) bs)
+
+pub input_law : InputLaw
+input_law f room most fits block hlo hhi above deep lo hi text answers m e bs true o col column a x y n v i z c =
+    let own = above ++ hlo ∷ hhi ∷ [] in
+    let free : Fits (under f own) 4 = omega (arith, fits, deep, length-append own f.rest, length-append above (hlo ∷ hhi ∷ [])) in
+    let t : eqb (m OPEN) 0 ≡ false = ne_eqb _ _ (λ e. omega (arith, o, e)) in
+    looser f _ _ _ (turn_sends (word_in m LINE) (turn Nothing text)) (2 + (5 + (45 * length text + (102 + 1440)))) (45 * length text + (129 + 1440)) (omega arith) (λ w h. h)
+    (after_on f own 4 free input_part (input_in f.code block) 1 (view a x y n v i z c INPUT_AT (lo ∷ hi ∷ []) m text answers) _ _ (5 + (45 * length text + (102 + 1440))) refl
+    (rw t (start f room most fits block hlo hhi above deep lo hi answers m e col [] _ _ _ _ _ _ _ _ m text bs o column (λ a t. refl))))
+input_law f room most fits block hlo hhi above deep lo hi text answers m e bs false o col column a x y n v i z c =
+    let own = above ++ hlo ∷ hhi ∷ [] in
+    let size = length-append above (hlo ∷ hhi ∷ []) in
+    let free : Fits (under f own) 4 = omega (arith, fits, deep, length-append own f.rest, size) in
+    let inside : Fits (under f (lo ∷ hi ∷ own)) 2 = omega (arith, fits, deep, length-append own f.rest, size) in
+    let st = input_in f.code block in
+    let t : eqb (m OPEN) 0 ≡ true = eq-eqb _ _ o in
+    let rest = 2 + (5 + (45 * length text + (102 + 1440))) in
+    let last = turn_sends (word_in m LINE) (turn Nothing text) in
+    looser f _ _ _ (63 ∷ 32 ∷ last) (2 + (2 + (7 + (2 + (7 + rest))))) (45 * length text + (129 + 1440)) (omega arith) (λ w h. h)
+    (after_on f own 4 free input_part st 1 (view a x y n v i z c INPUT_AT (lo ∷ hi ∷ []) m text answers) _ _ (2 + (7 + (2 + (7 + rest)))) refl
+    (rw t (after_on f own 4 free input_part st 1 (view _ _ _ _ _ _ _ _ (INPUT_AT + 0x5) (lo ∷ hi ∷ []) m text answers) _ _ (7 + (2 + (7 + rest))) refl
+    (saying f (lo ∷ hi ∷ own) inside block ((INPUT_AT + 0x9) % 256) ((INPUT_AT + 0x9) / 256) text answers m 63 _ _ _ _ _ _ _ (omega arith) _ (32 ∷ last) (2 + (7 + rest)) (λ a x y n v i z c m1 c1 k1.
+    after_on f own 4 free input_part st 1 (view a x y n v i z c (INPUT_AT + 0xA) (lo ∷ hi ∷ []) m1 text answers) _ _ (7 + rest) refl
+    (saying f (lo ∷ hi ∷ own) inside block ((INPUT_AT + 0xE) % 256) ((INPUT_AT + 0xE) / 256) text answers m1 32 _ _ _ _ _ _ _ (omega arith) _ last rest (λ a x y n v i z c m2 c2 k2.
+    after_on f own 4 free input_part st 1 (view a x y n v i z c (INPUT_AT + 0xF) (lo ∷ hi ∷ []) m2 text answers) _ _ (5 + (45 * length text + (102 + 1440))) refl
+    (start f room most fits block hlo hhi above deep lo hi answers m e col (63 ∷ 32 ∷ []) _ _ _ _ _ _ _ _ _ text bs refl (omega (arith, column, c1, c2))
+    (frame_put _ _ OPEN _ refl (λ a t. let away : a ≢ COLUMN = λ x. false≢true (sym t ∙ ap is_changed x) in k2 a away ∙ k1 a away))))))))))

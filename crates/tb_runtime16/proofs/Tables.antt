@@ -1,0 +1,103 @@
+-- Parts of a table.
+use Rattle.std.proofs.Common.{◌≡◌, ◌≢◌, ℕ, zero, suc, ◌+◌, ◌*◌, ◌%◌, ◌<◌, ◌≤◌, List, [], ◌∷◌, ◌++◌, length, refl, ap, ◌∙◌, subst, arith, if◌then◌else◌, eqb, Some, None}
+use Rattle.std.proofs.lemmas.Bool.{ne_eqb}
+use Rattle.tb_reaching.specs.View.{Part, Bytes}
+use Rattle.tb_runtime16.specs.Search.{Line, Shows, table_bytes, AllAbove, Rising, AllWords, address_of}
+
+-- a table cut before its entry h
+pub record Cut (es : List Line) (h : ℕ) : Type 0 where
+  pub front : List Line
+  pub here : Line
+  pub back : List Line
+  pub whole : es ≡ front ++ (here ∷ back)
+  pub size : length front ≡ h
+
+pub cut : (es : List Line) (h : ℕ) → h < length es → Cut es h
+cut [] h l = absurd (let no : ⊥ = omega arith in no)
+cut (e ∷ es) zero l = record { front = []; here = e; back = es; whole = refl; size = refl }
+cut (e ∷ es) (suc h) l =
+    let c = cut es h (omega arith) in
+    record { front = e ∷ c.front; here = c.here; back = c.back; whole = ap (λ l. e ∷ l) c.whole; size = omega (arith, c.size) }
+
+-- ---- the bytes
+pub shows_front : (code : Part) (at : ℕ) (a b : List Line) → Shows code at (table_bytes (a ++ b)) → Shows code at (table_bytes a)
+shows_front code at [] b h = tt
+shows_front code at (e ∷ a) b h = (h.0, (h.1.0, (h.1.1.0, (h.1.1.1.0, shows_front code (at + 1 + 1 + 1 + 1) a b h.1.1.1.1))))
+
+pub shows_back : (code : Part) (at : ℕ) (a b : List Line) → Shows code at (table_bytes (a ++ b)) → Shows code (at + 4 * length a) (table_bytes b)
+shows_back code at [] b h = subst (λ n. Shows code n (table_bytes b)) (let e : at ≡ at + 4 * 0 = omega arith in e) h
+shows_back code at (e ∷ a) b h = subst (λ n. Shows code n (table_bytes b)) (let e : at + 1 + 1 + 1 + 1 + 4 * length a ≡ at + 4 * suc (length a) = omega arith in e) (shows_back code (at + 1 + 1 + 1 + 1) a b h.1.1.1.1)
+
+-- ---- the order
+pub above_front : (k : ℕ) (a b : List Line) → AllAbove k (a ++ b) → AllAbove k a
+above_front k [] b h = tt
+above_front k (e ∷ a) b h = (h.0, above_front k a b h.1)
+
+pub above_here : (k : ℕ) (a : List Line) (e : Line) (b : List Line) → AllAbove k (a ++ (e ∷ b)) → k < e.0
+above_here k [] e b h = h.0
+above_here k (x ∷ a) e b h = above_here k a e b h.1
+
+pub rising_front : (a b : List Line) → Rising (a ++ b) → Rising a
+rising_front [] b h = tt
+rising_front (e ∷ a) b h = (above_front e.0 a b h.0, rising_front a b h.1)
+
+pub rising_back : (a b : List Line) → Rising (a ++ b) → Rising b
+rising_back [] b h = h
+rising_back (e ∷ a) b h = rising_back a b h.1
+
+pub words_front : (a b : List Line) → AllWords (a ++ b) → AllWords a
+words_front [] b h = tt
+words_front (e ∷ a) b h = (h.0, h.1, words_front a b h.2)
+
+pub words_back : (a b : List Line) → AllWords (a ++ b) → AllWords b
+words_back [] b h = h
+words_back (e ∷ a) b h = words_back a b h.2
+
+-- ---- the look-up
+pub other_line : (t : ℕ) (e : Line) (es : List Line) → e.0 ≢ t → address_of t (e ∷ es) ≡ address_of t es
+other_line t e es h = ap (λ b. if b then Some e.1 else address_of t es) (ne_eqb e.0 t h)
+
+pub none_above : (k t : ℕ) (es : List Line) → AllAbove k es → t ≤ k → address_of t es ≡ None
+none_above k t [] h l = refl
+none_above k t (e ∷ es) h l = other_line t e es (λ x. let p = h.0 in omega arith) ∙ none_above k t es h.1 l
+
+-- a number below an entry's is before it
+pub address_front : (t : ℕ) (a : List Line) (e : Line) (b : List Line) → Rising (a ++ (e ∷ b)) → t < e.0 → address_of t (a ++ (e ∷ b)) ≡ address_of t a
+address_front t [] e b h l = other_line t e b (λ x. omega arith) ∙ none_above e.0 t b h.0 (omega arith)
+address_front t (x ∷ a) e b h l = ap (λ o. if eqb x.0 t then Some x.1 else o) (address_front t a e b h.1 l)
+
+-- and any other from it on
+pub address_back : (t : ℕ) (a : List Line) (e : Line) (b : List Line) → Rising (a ++ (e ∷ b)) → e.0 ≤ t → address_of t (a ++ (e ∷ b)) ≡ address_of t (e ∷ b)
+address_back t [] e b h l = refl
+address_back t (x ∷ a) e b h l =
+    let less = above_here x.0 a e b h.0 in
+    other_line t x (a ++ (e ∷ b)) (λ y. omega arith) ∙ address_back t a e b h.1 l
+
+-- ---- a table in which each number is above the one before
+abbrev pub Climbing : List Line → Type 0
+Climbing [] = Unit {0}
+Climbing (e ∷ []) = Unit {0}
+Climbing (e ∷ d ∷ es) = (e.0 < d.0) × Climbing (d ∷ es)
+
+above_weaker : (k j : ℕ) (es : List Line) → k ≤ j → AllAbove j es → AllAbove k es
+above_weaker k j [] l h = tt
+above_weaker k j (e ∷ es) l h = ((let p = h.0 in omega arith), above_weaker k j es l h.1)
+
+pub climbing_rising : (es : List Line) → Climbing es → Rising es
+climbing_rising [] h = tt
+climbing_rising (e ∷ []) h = (tt, tt)
+climbing_rising (e ∷ d ∷ es) h =
+    let up = h.0 in
+    let rest = climbing_rising (d ∷ es) h.1 in
+    ((up, above_weaker e.0 d.0 es (omega arith) rest.0), rest)
+
+-- bytes of an image that stand are shown
+pub shows_bytes : (code : Part) (at : ℕ) (bs : List ℕ) → at + length bs < 65536 → Bytes code at bs → Shows code at bs
+shows_bytes code at [] r h = tt
+shows_bytes code at (b ∷ bs) r h =
+    let e : (at + 1) % 65536 ≡ at + 1 = omega arith in
+    (h.0, shows_bytes code (at + 1) bs (omega arith) (subst (λ n. Bytes code n bs) e h.1))
+
+pub table_size : (es : List Line) → length (table_bytes es) ≡ 4 * length es
+table_size [] = refl
+table_size (e ∷ es) = omega (arith, table_size es)

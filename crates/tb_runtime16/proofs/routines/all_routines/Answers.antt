@@ -1,0 +1,5 @@
+use Rattle.tb_runtime16.proofs.routines.all_routines.Goals as goal
+use Rattle.tb_runtime16.proofs.AllLaws.{all_laws}
+
+pub returns : goal.returns
+returns c = all_laws

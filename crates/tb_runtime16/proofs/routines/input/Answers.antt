@@ -1,0 +1,5 @@
+use Rattle.tb_runtime16.proofs.routines.input.Goals as goal
+use Rattle.tb_runtime16.proofs.InputRuns.{input_law}
+
+pub returns : goal.returns
+returns c = input_law

@@ -1,0 +1,5 @@
+use Rattle.tb_runtime16.proofs.routines.multiply.Goals as goal
+use Rattle.tb_runtime16.proofs.MultiplyRuns.{multiply_law}
+
+pub returns : goal.returns
+returns c = multiply_law

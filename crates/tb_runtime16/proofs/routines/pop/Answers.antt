@@ -1,0 +1,5 @@
+use Rattle.tb_runtime16.proofs.routines.pop.Goals as goal
+use Rattle.tb_runtime16.proofs.NotesRuns.{pop_law}
+
+pub returns : goal.returns
+returns c = pop_law

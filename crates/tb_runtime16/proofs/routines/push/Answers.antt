@@ -1,0 +1,5 @@
+use Rattle.tb_runtime16.proofs.routines.push.Goals as goal
+use Rattle.tb_runtime16.proofs.NotesRuns.{push_law}
+
+pub returns : goal.returns
+returns c = push_law

@@ -1,0 +1,5 @@
+use Rattle.tb_runtime16.proofs.routines.send.Goals as goal
+use Rattle.tb_runtime16.proofs.SendRuns.{send_law}
+
+pub returns : goal.returns
+returns c = send_law

@@ -1,0 +1,60 @@
+-- What Input promises: one variable's turn.
+use Rattle.std.specs.Prelude.{◌≡◌, ℕ, ◌+◌, ◌*◌, ◌%◌, ◌≤◌, Bool, true, false, ◌&&◌, ◌||◌, List, [], ◌∷◌, ◌++◌, length, nat_le, ◌==◌}
+use Rattle.tb_cpu.specs.Operands.{word_in}
+use Rattle.tb_cpu.specs.Effects.{bit}
+use Rattle.tb_reaching.specs.View.{View, Setup, Holds, Fits, Comes, view, back_at}
+use Rattle.tb_reaching.specs.Start.{IsHome, IsWaiting}
+use Rattle.tb_lower.specs.Control.{column_after, fault_text}
+use Rattle.tb_lower.specs.Input.{Nothing, Turn, Got, Bad, Dry, turn}
+use Rattle.tb_runtime16.specs.Places.{INPUT_AT, COLUMN, LEFT, RESULT, LINE, BYTE, OPEN}
+use Rattle.tb_runtime16.specs.Block.{block_part}
+use Rattle.tb_runtime16.specs.Ends.{Entered}
+use Rattle.tb_runtime16.specs.Laws.{IsWord, AllBytes}
+
+-- ---- the law
+
+-- where Input keeps the sign it read, or 0 before one: the byte behind SCRATCH
+abbrev pub MINUS : ℕ
+MINUS = 0xc06f
+
+-- the places that Input changes
+abbrev pub is_changed : ℕ → Bool
+is_changed a = (nat_le LEFT a && nat_le a 0xc067) || ((nat_le BYTE a && nat_le a MINUS) || (a == OPEN || a == COLUMN))
+
+-- what Input sends before it reads: nothing where a line is open, else a question mark and a space
+abbrev pub prompt : Bool → List ℕ
+prompt true = []
+prompt false = 63 ∷ 32 ∷ []
+
+-- what a turn sends behind the prompt, at a line
+abbrev pub turn_sends : ℕ → Turn → List ℕ
+turn_sends line (Got v true rest) = []
+turn_sends line (Got v false rest) = 13 ∷ []
+turn_sends line Bad = fault_text 6 line
+turn_sends line Dry = []
+
+-- back with a number, and own on the stack
+pub record Taken (lo hi : ℕ) (own : List ℕ) (m : ℕ → ℕ) (replies : List ℕ) (column number : ℕ) (stays : Bool) (keys : List ℕ) (w : View) : Type 0 where
+  pub pc : w.regs.pc ≡ back_at lo hi
+  pub stack : w.stack ≡ own
+  pub binary : w.regs.flags.d ≡ false
+  pub left : w.text ≡ keys
+  pub same_answers : w.answers ≡ replies
+  pub is_word : IsWord w.mem RESULT
+  pub result : word_in w.mem RESULT ≡ number
+  pub line_open : w.mem OPEN ≡ bit stays
+  pub column_is : w.mem COLUMN ≡ column
+  pub others : (a : ℕ) → is_changed a ≡ false → w.mem a ≡ m a
+
+-- the end of a turn, from column c, when so much was sent before, with own on the stack of the caller
+abbrev pub Ended : Setup → ℕ → ℕ → List ℕ → (ℕ → ℕ) → List ℕ → ℕ → List ℕ → Turn → View → Type 0
+Ended f lo hi own m replies c before (Got v true rest) w = Taken lo hi own m replies (column_after c before % 256) v true rest w
+Ended f lo hi own m replies c before (Got v false rest) w = Taken lo hi own m replies 0 v false rest w
+Ended f lo hi own m replies c before Bad w = IsHome f w
+Ended f lo hi own m replies c before Dry w = IsWaiting w × (length w.stack ≤ length own + 4)
+
+-- Input does one variable's turn: back with a number, a fault 6, or waiting for a key, from any depth
+abbrev pub InputLaw : Type 0
+InputLaw =
+    (f : Setup) (room : ℕ) → 13 ≤ room → Fits f room → Holds block_part f.code → (hlo hhi : ℕ) (above : List ℕ) → length above + 6 ≤ room → (lo hi : ℕ) (text answers : List ℕ) (m : ℕ → ℕ) → Entered f hlo hhi m → AllBytes text → (is_open : Bool) → m OPEN ≡ bit is_open → (c : ℕ) → m COLUMN ≡ c % 256 → (a x y : ℕ) (n v i z carry : Bool) →
+    Comes f (view a x y n v i z carry INPUT_AT (lo ∷ hi ∷ above ++ hlo ∷ hhi ∷ []) m text answers) (Ended f lo hi (above ++ hlo ∷ hhi ∷ []) m answers c (prompt is_open) (turn Nothing text)) (prompt is_open ++ turn_sends (word_in m LINE) (turn Nothing text)) (45 * length text + 1569)

@@ -1,0 +1,200 @@
+-- What the routines promise, whatever the ROM does.
+use Rattle.std.specs.Prelude.{◌≡◌, ◌⊎◌, ◌≢◌, ℕ, ◌+◌, ◌*◌, ◌/◌, ◌%◌, ◌<◌, ◌≤◌, Bool, false, ◌||◌, ◌==◌, if◌then◌else◌, List, [], ◌∷◌, length}
+use Rattle.tb_cpu.specs.Operands.{word_in}
+use Rattle.tb_memmap.specs.Regions.{within}
+use Rattle.tb_reaching.specs.View.{View, Setup, Holds, Fits, Comes, view, back_at, Bytes}
+use Rattle.tb_words.specs.Words.{quotient, seed_after, digits_of}
+use Rattle.tb_lower.specs.Control.{zone, column_after}
+use Rattle.tb_runtime16.specs.Places.{SEND_AT, MULTIPLY_AT, DIVIDE_AT, RANDOM_AT, NUMBER_AT, TEXT_AT, ZONE_AT, FAULT_AT, COLUMN, SEEDED, SEED, LEFT, RIGHT, RESULT, LENGTH, SCRATCH, POINTER}
+use Rattle.tb_runtime16.specs.Block.{block_part}
+
+-- an address and the one behind it hold bytes
+abbrev pub IsWord : (ℕ → ℕ) → ℕ → Type 0
+IsWord m at = (m at < 256) × (m (at + 1) < 256)
+
+-- LEFT, RIGHT and RESULT
+abbrev pub is_argument : ℕ → Bool
+is_argument a = within 0xc062 0xc067 a
+
+-- ---- how a routine ends
+
+-- at a place with this on the stack, and this said of the memory
+pub record Leaves (at : ℕ) (stack text answers : List ℕ) (q : (ℕ → ℕ) → Type 0) (w : View) : Type 0 where
+  pub pc : w.regs.pc ≡ at
+  pub stack_is : w.stack ≡ stack
+  pub binary : w.regs.flags.d ≡ false
+  pub same_text : w.text ≡ text
+  pub same_answers : w.answers ≡ answers
+  pub memory : q w.mem
+
+-- back at the caller
+abbrev pub Back : (lo hi : ℕ) (text answers : List ℕ) (q : (ℕ → ℕ) → Type 0) → View → Type 0
+Back lo hi text answers q = Leaves (back_at lo hi) [] text answers q
+
+-- at the entry of Fault, with the fault's number in A and S as at the routine's entry
+pub record Faults (lo hi : ℕ) (text answers : List ℕ) (m : ℕ → ℕ) (k : ℕ) (w : View) : Type 0 where
+  pub pc : w.regs.pc ≡ FAULT_AT
+  pub stack : w.stack ≡ lo ∷ hi ∷ []
+  pub binary : w.regs.flags.d ≡ false
+  pub same_text : w.text ≡ text
+  pub same_answers : w.answers ≡ answers
+  pub number : w.regs.a ≡ k
+  pub memory : w.mem ≡ m
+
+-- ---- Send
+
+-- memory after bytes were sent: COLUMN is the column behind them, modulo 256, and all else is as it was
+pub record Said (m0 : ℕ → ℕ) (sent : List ℕ) (m : ℕ → ℕ) : Type 0 where
+  pub column : m COLUMN ≡ column_after (m0 COLUMN) sent % 256
+  pub others : (a : ℕ) → a ≢ COLUMN → m a ≡ m0 a
+
+-- the byte in A is sent
+abbrev pub SendLaw : Type 0
+SendLaw =
+    (f : Setup) → Fits f 2 → Holds block_part f.code → (lo hi : ℕ) (text answers : List ℕ) (m : ℕ → ℕ) (a x y : ℕ) (n v i z c : Bool) → a < 256 →
+    Comes f (view a x y n v i z c SEND_AT (lo ∷ hi ∷ []) m text answers) (Back lo hi text answers (Said m (a ∷ []))) (a ∷ []) 7
+
+-- ---- Text
+
+-- each number of a list is below 256
+abbrev pub AllBytes : List ℕ → Type 0
+AllBytes [] = Unit {0}
+AllBytes (b ∷ bs) = (b < 256) × AllBytes bs
+
+-- a text of at most 255 bytes in the program, and where it begins and how long it is, as the routine is told
+pub record Points (f : Setup) (m : ℕ → ℕ) (bytes : List ℕ) : Type 0 where
+  pub is_word : IsWord m POINTER
+  pub shown : Bytes f.code (word_in m POINTER) bytes
+  pub from : 0x0800 ≤ word_in m POINTER
+  pub to : word_in m POINTER + length bytes ≤ 0xa000
+  pub count : m LENGTH ≡ length bytes
+  pub few : length bytes < 256
+  pub bytes_small : AllBytes bytes
+
+-- memory after Text sent bytes: COLUMN as behind them, POINTER and LENGTH lost, and all else as it was
+pub record Told (m0 : ℕ → ℕ) (sent : List ℕ) (m : ℕ → ℕ) : Type 0 where
+  pub column : m COLUMN % 256 ≡ column_after (m0 COLUMN) sent % 256
+  pub column_small : m0 COLUMN < 256 → m COLUMN < 256
+  pub others : (a : ℕ) → a ≢ COLUMN → a ≢ POINTER → a ≢ POINTER + 1 → a ≢ LENGTH → m a ≡ m0 a
+
+-- Text sends the bytes it is pointed to, in 15 Go events a byte and 3
+abbrev pub TextLaw : Type 0
+TextLaw =
+    (f : Setup) → Fits f 4 → Holds block_part f.code → (lo hi : ℕ) (text answers : List ℕ) (m : ℕ → ℕ) (a x y : ℕ) (n v i z c : Bool) (bytes : List ℕ) → Points f m bytes →
+    Comes f (view a x y n v i z c TEXT_AT (lo ∷ hi ∷ []) m text answers) (Back lo hi text answers (Told m bytes)) bytes (15 * length bytes + 3)
+
+-- ---- Zone
+
+-- spaces up to the next column that 8 divides
+abbrev pub ZoneLaw : Type 0
+ZoneLaw =
+    (f : Setup) → Fits f 4 → Holds block_part f.code → (lo hi : ℕ) (text answers : List ℕ) (m : ℕ → ℕ) (a x y : ℕ) (n v i z c : Bool) → m COLUMN < 256 →
+    Comes f (view a x y n v i z c ZONE_AT (lo ∷ hi ∷ []) m text answers) (Back lo hi text answers (Said m (zone (m COLUMN)))) (zone (m COLUMN)) 97
+
+-- ---- Multiply
+
+-- the arguments and the counter of Multiply
+abbrev pub is_used : ℕ → Bool
+is_used a = is_argument a || a == SCRATCH
+
+-- the result, and the memory but for these places as it was
+pub record Multiplied (m0 : ℕ → ℕ) (product : ℕ) (m : ℕ → ℕ) : Type 0 where
+  pub is_word : IsWord m RESULT
+  pub value : word_in m RESULT ≡ product
+  pub others : (a : ℕ) → is_used a ≡ false → m a ≡ m0 a
+
+-- Multiply gives the product modulo 65,536 within 240 Go events
+abbrev pub MultiplyLaw : Type 0
+MultiplyLaw =
+    (f : Setup) → Fits f 2 → Holds block_part f.code → (lo hi : ℕ) (text answers : List ℕ) (m : ℕ → ℕ) (a x y : ℕ) (n v i z c : Bool) → IsWord m LEFT → IsWord m RIGHT →
+    Comes f (view a x y n v i z c MULTIPLY_AT (lo ∷ hi ∷ []) m text answers) (Back lo hi text answers (Multiplied m ((word_in m LEFT * word_in m RIGHT) % 65536))) [] 240
+
+-- ---- division without signs, inside Divide
+
+-- the entry of the division without signs, inside Divide
+abbrev pub unsigned_at : ℕ
+unsigned_at = DIVIDE_AT + 78
+
+-- memory after the division without signs: quotient q at LEFT, remainder r at RESULT, and all else as it was
+pub record Parted (m0 : ℕ → ℕ) (q r : ℕ) (m : ℕ → ℕ) : Type 0 where
+  pub left_is : IsWord m LEFT
+  pub left : word_in m LEFT ≡ q
+  pub result_is : IsWord m RESULT
+  pub result : word_in m RESULT ≡ r
+  pub right_low : m RIGHT ≡ m0 RIGHT
+  pub right_high : m 0xc065 ≡ m0 0xc065
+  pub others : (a : ℕ) → is_argument a ≡ false → m a ≡ m0 a
+
+-- inside Divide: quotient and remainder of words without signs
+abbrev pub UnsignedLaw : Type 0
+UnsignedLaw =
+    (f : Setup) → Fits f 2 → Holds block_part f.code → (lo hi : ℕ) (text answers : List ℕ) (m : ℕ → ℕ) (a x y : ℕ) (n v i z c : Bool) → IsWord m LEFT → IsWord m RIGHT → 1 ≤ word_in m RIGHT → word_in m RIGHT ≤ 32768 →
+    Comes f (view a x y n v i z c unsigned_at (lo ∷ hi ∷ []) m text answers) (Back lo hi text answers (Parted m (word_in m LEFT / word_in m RIGHT) (word_in m LEFT % word_in m RIGHT))) [] 261
+
+-- ---- Divide
+
+-- the entry of what turns the sign of LEFT, inside Divide
+abbrev pub negate_left_at : ℕ
+negate_left_at = DIVIDE_AT + 42
+
+-- a word at a place, and the memory but for the arguments as it was
+pub record Gives (m0 : ℕ → ℕ) (at q : ℕ) (m : ℕ → ℕ) : Type 0 where
+  pub is_word : IsWord m at
+  pub value : word_in m at ≡ q
+  pub others : (a : ℕ) → is_argument a ≡ false → m a ≡ m0 a
+
+-- Divide gives the quotient of signed words, truncated toward zero, within 316 Go events
+abbrev pub DivideLaw : Type 0
+DivideLaw =
+    (f : Setup) → Fits f 8 → Holds block_part f.code → (lo hi : ℕ) (text answers : List ℕ) (m : ℕ → ℕ) (a x y : ℕ) (n v i z c : Bool) → IsWord m LEFT → IsWord m RIGHT → 1 ≤ word_in m RIGHT →
+    Comes f (view a x y n v i z c DIVIDE_AT (lo ∷ hi ∷ []) m text answers) (Back lo hi text answers (Gives m RESULT (quotient (word_in m LEFT) (word_in m RIGHT)))) [] 316
+
+-- by 0, Divide comes to Fault with 2, with memory as it was
+abbrev pub DivideByZeroLaw : Type 0
+DivideByZeroLaw =
+    (f : Setup) → Fits f 2 → Holds block_part f.code → (lo hi : ℕ) (text answers : List ℕ) (m : ℕ → ℕ) (a x y : ℕ) (n v i z c : Bool) → word_in m RIGHT ≡ 0 →
+    Comes f (view a x y n v i z c DIVIDE_AT (lo ∷ hi ∷ []) m text answers) (Faults lo hi text answers m 2) [] 6
+
+-- ---- Number
+
+-- memory after Number sent a text: COLUMN on by its length, modulo 256, the arguments lost, all else as it was
+pub record Written (m0 : ℕ → ℕ) (t : List ℕ) (m : ℕ → ℕ) : Type 0 where
+  pub column : m COLUMN ≡ (m0 COLUMN + length t) % 256
+  pub others : (a : ℕ) → is_argument a ≡ false → a ≢ COLUMN → m a ≡ m0 a
+
+-- Number sends the shortest decimal text of the signed word at LEFT
+abbrev pub NumberLaw : Type 0
+NumberLaw =
+    (f : Setup) → Fits f 11 → Holds block_part f.code → (lo hi : ℕ) (text answers : List ℕ) (m : ℕ → ℕ) (a x y : ℕ) (n v i z c : Bool) → IsWord m LEFT → m COLUMN < 256 →
+    Comes f (view a x y n v i z c NUMBER_AT (lo ∷ hi ∷ []) m text answers) (Back lo hi text answers (Written m (digits_of (word_in m LEFT)))) (digits_of (word_in m LEFT)) 1440
+
+-- ---- Random
+
+-- whether an address is that of SEEDED or one of the two of SEED
+abbrev pub is_seed : ℕ → Bool
+is_seed a = a == SEEDED || within 0xc038 0xc039 a
+
+-- the state of RND before a call
+abbrev pub seed_of : (ℕ → ℕ) → ℕ
+seed_of m = if m SEEDED == 0 then word_in m RIGHT else word_in m SEED
+
+-- memory after Random: the state after seed is stored, RESULT is it modulo bound; LEFT, RIGHT and SCRATCH are lost
+pub record Drawn (m0 : ℕ → ℕ) (bound seed : ℕ) (m : ℕ → ℕ) : Type 0 where
+  pub is_word : IsWord m RESULT
+  pub value : word_in m RESULT ≡ seed_after seed % bound
+  pub seed_is : IsWord m SEED
+  pub seed_at : word_in m SEED ≡ seed_after seed
+  pub seeded : m SEEDED ≡ 1
+  pub others : (a : ℕ) → is_argument a ≡ false → (a == SCRATCH) ≡ false → is_seed a ≡ false → m a ≡ m0 a
+
+-- Random takes the next seed, and gives what the bound leaves of it
+abbrev pub RandomLaw : Type 0
+RandomLaw =
+    (f : Setup) → Fits f 6 → Holds block_part f.code → (lo hi : ℕ) (text answers : List ℕ) (m : ℕ → ℕ) (a x y : ℕ) (n v i z c : Bool) → IsWord m LEFT → IsWord m RIGHT → IsWord m SEED → 1 ≤ word_in m LEFT → word_in m LEFT < 32768 →
+    Comes f (view a x y n v i z c RANDOM_AT (lo ∷ hi ∷ []) m text answers) (Back lo hi text answers (Drawn m (word_in m LEFT) (seed_of m))) [] 540
+
+-- for a bound below 1, Random comes to Fault with 3, with memory as it was
+abbrev pub RandomRangeLaw : Type 0
+RandomRangeLaw =
+    (f : Setup) → Fits f 2 → Holds block_part f.code → (lo hi : ℕ) (text answers : List ℕ) (m : ℕ → ℕ) (a x y : ℕ) (n v i z c : Bool) → IsWord m LEFT → (word_in m LEFT ≡ 0) ⊎ (32768 ≤ word_in m LEFT) →
+    Comes f (view a x y n v i z c RANDOM_AT (lo ∷ hi ∷ []) m text answers) (Faults lo hi text answers m 3) [] 7

@@ -1,0 +1,63 @@
+-- The line table and Search.
+use Rattle.std.specs.Prelude.{◌≡◌, ◌<◌, ◌≤◌, Bool, ℕ, List, [], ◌∷◌, ◌+◌, ◌*◌, ◌/◌, ◌%◌, ◌||◌, if◌then◌else◌, nat_eq, length, Option, Some, None}
+use Rattle.tb_cpu.specs.Operands.{word_in}
+use Rattle.tb_memmap.specs.Regions.{within}
+use Rattle.tb_reaching.specs.View.{View, Setup, Part, Holds, Fits, Comes, view}
+use Rattle.tb_runtime16.specs.Places.{SEARCH_AT, LEFT, RESULT, TABLE, COUNT}
+use Rattle.tb_runtime16.specs.Block.{block_part}
+use Rattle.tb_runtime16.specs.Laws.{IsWord}
+use Rattle.tb_runtime16.specs.Notes.{Returned, Faulted}
+
+-- these bytes stand in the program
+abbrev pub Shows : Part → ℕ → List ℕ → Type 0
+Shows code at [] = Unit {0}
+Shows code at (b ∷ bs) = (code at ≡ Some b) × Shows code (at + 1) bs
+
+-- ---- the table: pairs of a line's number and its code's address
+-- a line: its number, and the address of its code
+abbrev pub Line : Type 0
+Line = ℕ × ℕ
+
+-- the bytes of the line table, four a line: its number and its address, each low byte first
+abbrev pub table_bytes : List Line → List ℕ
+table_bytes [] = []
+table_bytes (e ∷ es) = e.0 % 256 ∷ e.0 / 256 ∷ e.1 % 256 ∷ e.1 / 256 ∷ table_bytes es
+
+-- each of these lines has a number above k
+abbrev pub AllAbove : ℕ → List Line → Type 0
+AllAbove k [] = Unit {0}
+AllAbove k (e ∷ es) = (k < e.0) × AllAbove k es
+
+-- the numbers of the lines rise
+abbrev pub Rising : List Line → Type 0
+Rising [] = Unit {0}
+Rising (e ∷ es) = AllAbove e.0 es × Rising es
+
+-- numbers and addresses of the lines are below 65,536
+abbrev pub AllWords : List Line → Type 0
+AllWords [] = Unit {0}
+AllWords (e ∷ es) = (e.0 < 65536) × (e.1 < 65536) × AllWords es
+
+-- the address of the line with a number
+abbrev pub address_of : ℕ → List Line → Option ℕ
+address_of t [] = None
+address_of t (e ∷ es) = let later = address_of t es in if nat_eq e.0 t then Some e.1 else later
+
+-- the places that Search may change: POINTER, SECOND, RESULT, COUNT and the two bytes from SCRATCH on
+abbrev pub search_changes : ℕ → Bool
+search_changes a = within 0xfb 0xfe a || (within 0xc066 0xc067 a || (within 0xc06a 0xc06b a || within 0xc06e 0xc06f a))
+
+-- back from Search with a line's address at RESULT
+pub record Found (lo hi : ℕ) (m : ℕ → ℕ) (text answers : List ℕ) (address : ℕ) (w : View) : Type 0 where
+  pub back : Returned lo hi search_changes m text answers w
+  pub is_word : IsWord w.mem RESULT
+  pub result : word_in w.mem RESULT ≡ address
+
+-- back with the address, or at Fault with 1
+abbrev pub Searched : ℕ → ℕ → (ℕ → ℕ) → List ℕ → List ℕ → Option ℕ → View → Type 0
+Searched lo hi m text answers (Some address) w = Found lo hi m text answers address w
+Searched lo hi m text answers None w = Faulted 1 lo hi search_changes m text answers w
+
+-- Search gives the address of the line with the number at LEFT, or comes to Fault with 1, within 600 Go events for every table
+abbrev pub SearchLaw : Type 0
+SearchLaw = (f : Setup) → Fits f 2 → Holds block_part f.code → (lo hi : ℕ) (text answers : List ℕ) (m : ℕ → ℕ) (a x y : ℕ) (n v i z c : Bool) (lines : List Line) → IsWord m LEFT → IsWord m TABLE → IsWord m COUNT → Shows f.code (word_in m TABLE) (table_bytes lines) → 0x0800 ≤ word_in m TABLE → word_in m TABLE + 4 * length lines ≤ 0xA000 → word_in m COUNT ≡ length lines → 1 ≤ length lines → Rising lines → AllWords lines → Comes f (view a x y n v i z c SEARCH_AT (lo ∷ hi ∷ []) m text answers) (Searched lo hi m text answers (address_of (word_in m LEFT) lines)) [] 600

@@ -1,0 +1,40 @@
+//! The places of the block that its own code jumps to or calls, each as its two bytes, low byte first.
+use crate::places::{
+    DIVIDE_AT, FAULT_AT, INPUT_AT, LINES_AT, MULTIPLY_AT, NUMBER_AT, PUSH_AT, SEARCH_AT, SEND_AT,
+};
+
+// The two bytes of an address.
+macro_rules! word {
+    ($address:expr) => {
+        (($address % 256) as u8, ($address / 256) as u8)
+    };
+}
+
+/// The lines' code, behind the block.
+pub const LINES: (u8, u8) = word!(LINES_AT);
+/// Send.
+pub const SEND: (u8, u8) = word!(SEND_AT);
+/// Multiply.
+pub const MULTIPLY: (u8, u8) = word!(MULTIPLY_AT);
+/// Number.
+pub const NUMBER: (u8, u8) = word!(NUMBER_AT);
+/// Fault.
+pub const FAULT: (u8, u8) = word!(FAULT_AT);
+/// Divide's DIVIDESIGNED: the signed division.
+pub const SIGNED: (u8, u8) = word!(DIVIDE_AT + 31);
+/// Divide's NEGATELEFT: LEFT becomes its opposite.
+pub const OPPOSITE: (u8, u8) = word!(DIVIDE_AT + 42);
+/// Divide's NEGATE: so does the word X behind LEFT.
+pub const NEGATE: (u8, u8) = word!(DIVIDE_AT + 44);
+/// Divide's DIVIDEBY: the division of a LEFT without a sign.
+pub const DIVIDEBY: (u8, u8) = word!(DIVIDE_AT + 62);
+/// Divide's UNSIGNED: the division without signs.
+pub const UNSIGNED: (u8, u8) = word!(DIVIDE_AT + 78);
+/// Number's NUMBERSEND: the digits on the stack are sent.
+pub const DIGITS: (u8, u8) = word!(NUMBER_AT + 44);
+/// Input's READ: the next byte.
+pub const READ: (u8, u8) = word!(INPUT_AT + 34);
+/// Search's SEARCH_PROBE: the next entry in question.
+pub const PROBE: (u8, u8) = word!(SEARCH_AT + 10);
+/// Push's NOTE_PLACE: POINTER leads to a note.
+pub const PLACE: (u8, u8) = word!(PUSH_AT + 42);
