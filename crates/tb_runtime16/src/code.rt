@@ -3,14 +3,14 @@
 //! makes the block and each routine by itself.
 //! Addresses inside the block are those of `targets`, which follow from the routines' lengths.
 
-use crate::targets::{
-    DIGITS, DIVIDEBY, FAULT, LINES, MULTIPLY, NEGATE, NUMBER, OPPOSITE, PLACE, PROBE, READ, SEND,
-    SIGNED, UNSIGNED,
-};
 use crate::places::{
     BLOCK_LENGTH, DIVIDE_LENGTH, FAULT_LENGTH, INPUT_LENGTH, MULTIPLY_LENGTH, NUMBER_LENGTH,
     POLL_LENGTH, POP_LENGTH, PROLOGUE_LENGTH, PUSH_LENGTH, RANDOM_LENGTH, SEARCH_LENGTH,
     SEND_LENGTH, TEXT_LENGTH, ZONE_LENGTH,
+};
+use crate::targets::{
+    DIGITS, DIVIDEBY, FAULT, LINES, MULTIPLY, NEGATE, NUMBER, OPPOSITE, PLACE, PROBE, READ, SEND,
+    SIGNED, UNSIGNED,
 };
 
 // The prologue: decimal mode off, $C000 to $C03D cleared, S kept at HOME_S, and on to the first line.

@@ -12,8 +12,8 @@ mod whole;
 pub use laws::constants_are_places;
 pub use places::{
     BLOCK_AT, BYTE, COLUMN, COUNT, HELD, HOME_S, LEFT, LENGTH, LINE, LINES_AT, NOTE_LIST, NOTES,
-    OPEN, POINTER, RESULT, RIGHT, Routine, SCRATCH, SEED, SEEDED, SEND_AT, SLOTS, TABLE,
-    VARS, entry,
+    OPEN, POINTER, RESULT, RIGHT, Routine, SCRATCH, SEED, SEEDED, SEND_AT, SLOTS, TABLE, VARS,
+    entry,
 };
 pub use routines::{
     all_routines, divide, divide_by_zero, divide_unsigned, fault, input, multiply, number, poll,
