@@ -1,6 +1,6 @@
 ; The routine block: the machine code that every compiled program shares.
 ;
-; It lies at $080D, right behind the BASIC line "10 SYS2061", takes 940 bytes and is the same in every program.
+; It lies at $080D, right behind the BASIC line "10 SYS2061", takes 937 bytes and is the same in every program.
 ; The program's own lines begin at $0C00 and call these routines.
 ;
 ; This text is the source of the bytes that tb_runtime16 holds. The program tb_block assembles it and compares;
@@ -92,33 +92,33 @@ SEND1:
 ;
 ; In:      LEFT, RIGHT.
 ; Out:     RESULT.
-; Changes: SCRATCH: the rounds left.
-; Stack:   0.  Time: 240.
+; Stack:   0.  Time: 262.
 ;
-; Sixteen rounds, one for each bit of RIGHT from the lowest on: the bit is shifted out, and where it is 1, LEFT
-; is added to RESULT. LEFT doubles at the end of each round.
+; A round for each bit of RIGHT from the lowest on, up to the last that is 1: the bit is shifted out, and where it
+; is 1, LEFT is added to the sum, whose low byte is in A and whose high byte is RESULT's. LEFT doubles in each round.
 MULTIPLY:
-        LDA #$00
-        STA $C066               ; RESULT = 0
-        STA $C067
-        LDA #$10
-        STA $C06E               ; SCRATCH: 16 rounds
+        LDX #$00
+        STX $C067               ; RESULT's high byte = 0; its low byte stays in A
+        TXA
 MULTIPLY1:
         LSR $C065               ; RIGHT = RIGHT / 2, its lowest bit in C
         ROR $C064
         BCC MULTIPLY2
         CLC
-        LDA $C066               ; RESULT = RESULT + LEFT
-        ADC $C062
-        STA $C066
+        ADC $C062               ; RESULT = RESULT + LEFT
+        TAY
         LDA $C067
         ADC $C063
         STA $C067
+        TYA
 MULTIPLY2:
         ASL $C062               ; LEFT = LEFT * 2
         ROL $C063
-        DEC $C06E               ; SCRATCH
+        LDX $C064               ; on while RIGHT has a bit left
         BNE MULTIPLY1
+        LDX $C065
+        BNE MULTIPLY1
+        STA $C066
         RTS
 
 ; ---- Divide: RESULT = LEFT / RIGHT, signed, truncated toward zero
@@ -212,7 +212,7 @@ UNSIGNEDLESS:
 ; Out:     RESULT: 0 to LEFT - 1.
 ; Changes: SEED: 25173 times the state before, plus 13849, modulo 65,536; SEEDED: 1; SCRATCH.
 ; Fault:   3 where LEFT is below 1.
-; Stack:   4.  Time: 540, and 7 up to the fault.
+; Stack:   4.  Time: 562, and 7 up to the fault.
 ;
 ; The bound waits on the stack while Multiply has LEFT and RIGHT. The state is read without a sign, as Unsigned
 ; does, and the remainder that Unsigned leaves in RESULT is the answer.

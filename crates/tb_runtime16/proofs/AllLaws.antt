@@ -40,9 +40,6 @@ use Rattle.tb_runtime16.proofs.PollRuns.{poll_law}
 not_argument : (a : ℕ) → is_owned a ≡ true → laws.is_argument a ≡ false
 not_argument a h = grind (arith, nat_tests)
 
-not_used : (a : ℕ) → is_owned a ≡ true → laws.is_used a ≡ false
-not_used a h = grind (arith, nat_tests)
-
 not_scratch : (a : ℕ) → is_owned a ≡ true → (a == 0xc06e) ≡ false
 not_scratch a h = grind (arith, nat_tests)
 
@@ -131,10 +128,10 @@ module _ (table seed_option : ℕ) (numbers : List ℕ) (start : ℕ → ℕ) (f
       Moves f (Here MULTIPLY_AT (l ∷ h ∷ lo ∷ hi ∷ []) m text answers) (Gives (back_at l h) (lo ∷ hi ∷ []) m text answers (word (a * b))) [] (limit_by keys)
   multiply_clause l h m text answers a b left right =
       from_here f _ _ m text answers _ [] (limit_by keys) (λ x y z n v i c d.
-      beside f own _ _ _ [] 240 (limit_by keys) (omega arith)
+      beside f own _ _ _ [] 262 (limit_by keys) (omega arith)
       (multiply_law (under f own) (omega (arith, fits)) block l h text answers m x y z n v i c d (small_bytes m LEFT a left) (small_bytes m RIGHT b right))
       (λ u k. record {
-        back = record { pc = k.pc; stack = ap (λ s. s ++ own) k.stack_is; binary = k.binary; text = k.same_text; answers = k.same_answers; others = λ p o. k.memory.others p (not_used p o) };
+        back = record { pc = k.pc; stack = ap (λ s. s ++ own) k.stack_is; binary = k.binary; text = k.same_text; answers = k.same_answers; others = λ p o. k.memory.others p (not_argument p o) };
         result = holds_word u.mem RESULT (word (a * b)) k.memory.is_word (k.memory.value ∙ ap (λ n. n % 65536) (ap (λ n. n * word_in m RIGHT) (value m LEFT a left) ∙ ap (λ n. a * n) (value m RIGHT b right)));
       }))
 
@@ -244,7 +241,7 @@ module _ (table seed_option : ℕ) (numbers : List ℕ) (start : ℕ → ℕ) (f
       let w = value m LEFT a left in
       let now = seed_at m seed_option seed right stored_at in
       from_here f _ _ m text answers _ [] (limit_by keys) (λ x y z n v i c d.
-      beside f own _ _ _ [] 540 (limit_by keys) (omega arith)
+      beside f own _ _ _ [] 562 (limit_by keys) (omega arith)
       (random_law (under f own) (omega (arith, fits)) block l h text answers m x y z n v i c d (small_bytes m LEFT a left) (small_bytes m RIGHT seed_option right) now.0 (omega (arith, w, g.0)) (omega (arith, w, g.1)))
       (λ u k. record {
         pc = k.pc;

@@ -1,5 +1,5 @@
 -- Random.
-use Rattle.std.proofs.Common.{◌≡◌, ℕ, ◌+◌, ◌*◌, ◌/◌, ◌%◌, ◌<◌, ◌≤◌, Bool, true, false, ◌||◌, if◌then◌else◌, List, [], ◌∷◌, refl, sym, ap, ◌∙◌, subst, ⊎_elim, inl, inr, arith, eqb}
+use Rattle.std.proofs.Common.{◌≡◌, ℕ, ◌+◌, ◌*◌, ◌/◌, ◌%◌, ◌<◌, ◌≤◌, Bool, true, false, if◌then◌else◌, List, [], ◌∷◌, refl, sym, ap, ◌∙◌, subst, ⊎_elim, inl, inr, arith, eqb}
 use Rattle.std.specs.Prelude.{◌==◌, nat_lt}
 use Rattle.std.proofs.lemmas.Bool.{ne_eqb, eq-eqb, cases_eq}
 use Rattle.std.proofs.Math.Nat.{mod-add-mod}
@@ -19,10 +19,6 @@ use Rattle.tb_runtime16.proofs.Frames.{skip}
 use Rattle.tb_runtime16.proofs.Called.{calls, back_looser}
 use Rattle.tb_runtime16.proofs.MultiplyRuns.{multiply_law}
 use Rattle.tb_runtime16.proofs.UnsignedRuns.{byte_of, unsigned_law}
-
-neither : (b c : Bool) → b ≡ false → c ≡ false → (b || c) ≡ false
-neither true c p q = p
-neither false c p q = q
 
 module _ (f : Setup) (fits : Fits f 6) (block : Holds block_part f.code) (lo hi : ℕ) (text answers : List ℕ) (m0 : ℕ → ℕ) (p : IsWord m0 LEFT) (least : 1 ≤ word_in m0 LEFT) (most : word_in m0 LEFT < 32768) where
   Rest : (ℕ → ℕ) → Type 0
@@ -74,48 +70,48 @@ module _ (f : Setup) (fits : Fits f 6) (block : Holds block_part f.code) (lo hi 
           ∙ skip is_seed w SEED (new_low (w RESULT)) a refl e
 
   -- the old state is in RIGHT
-  advance : (a x y : ℕ) (n v i z c : Bool) (m : ℕ → ℕ) (seed : ℕ) → m LEFT ≡ m0 LEFT → m 0xc063 ≡ m0 0xc063 → IsWord m RIGHT → word_in m RIGHT ≡ seed → Rest m → Goal seed (view a x y n v i z c (RANDOM_AT + 34) (lo ∷ hi ∷ []) m text answers) (11 + (240 + (14 + 261)))
+  advance : (a x y : ℕ) (n v i z c : Bool) (m : ℕ → ℕ) (seed : ℕ) → m LEFT ≡ m0 LEFT → m 0xc063 ≡ m0 0xc063 → IsWord m RIGHT → word_in m RIGHT ≡ seed → Rest m → Goal seed (view a x y n v i z c (RANDOM_AT + 34) (lo ∷ hi ∷ []) m text answers) (11 + (262 + (14 + 261)))
   unfolding Rest
   advance a x y n v i z c m seed low high k e r =
       let w = with_byte (with_byte (with_byte m SEEDED 1) LEFT 85) 0xc063 98 in
-      after f 6 fits random_part (random_in f.code block) 10 (view a x y n v i z c (RANDOM_AT + 34) (lo ∷ hi ∷ []) m text answers) _ _ (240 + (14 + 261)) refl
-      (calls f (m 0xc063 ∷ m LEFT ∷ lo ∷ hi ∷ []) _ _ _ _ _ _ _ _ MULTIPLY_AT ((RANDOM_AT + 59) % 256) ((RANDOM_AT + 59) / 256) w text answers _ _ [] [] 240 (14 + 261)
+      after f 6 fits random_part (random_in f.code block) 10 (view a x y n v i z c (RANDOM_AT + 34) (lo ∷ hi ∷ []) m text answers) _ _ (262 + (14 + 261)) refl
+      (calls f (m 0xc063 ∷ m LEFT ∷ lo ∷ hi ∷ []) _ _ _ _ _ _ _ _ MULTIPLY_AT ((RANDOM_AT + 59) % 256) ((RANDOM_AT + 59) / 256) w text answers _ _ [] [] 262 (14 + 261)
       (multiply_law (under f (m 0xc063 ∷ m LEFT ∷ lo ∷ hi ∷ [])) (omega (arith, fits)) block ((RANDOM_AT + 59) % 256) ((RANDOM_AT + 59) / 256) text answers w _ _ _ _ _ _ _ _ (omega arith, omega arith) k)
       (λ a x y n v i z c u g. subst (λ s. Goal seed (view a x y n v i z c (RANDOM_AT + 60) s u text answers) (14 + 261)) (ap (λ h. h ∷ m0 LEFT ∷ lo ∷ hi ∷ []) (sym high) ∙ ap (λ l. m 0xc063 ∷ l ∷ lo ∷ hi ∷ []) (sym low))
       (store a x y n v i z c u seed g.is_word (g.value ∙ ap (λ s. 25173 * s % 65536) e) (g.others SEEDED refl)
-      (λ a b d e. g.others a (neither (is_argument a) (a == SCRATCH) b d) ∙ skip is_argument (with_byte (with_byte m SEEDED 1) LEFT 85) 0xc063 98 a refl b ∙ skip is_argument (with_byte m SEEDED 1) LEFT 85 a refl b ∙ skip is_seed m SEEDED 1 a refl e ∙ r a b d e))))
+      (λ a b d e. g.others a b ∙ skip is_argument (with_byte (with_byte m SEEDED 1) LEFT 85) 0xc063 98 a refl b ∙ skip is_argument (with_byte m SEEDED 1) LEFT 85 a refl b ∙ skip is_seed m SEEDED 1 a refl e ∙ r a b d e))))
 
   -- ---- which state
-  seeding : (a x y : ℕ) (n v i z c : Bool) (seed : ℕ) → seed ≡ seed_of m0 → IsWord m0 RIGHT → IsWord m0 SEED → Goal seed (view a x y n v i z c (RANDOM_AT + 17) (lo ∷ hi ∷ []) m0 text answers) (2 + (4 + (11 + (240 + (14 + 261)))))
+  seeding : (a x y : ℕ) (n v i z c : Bool) (seed : ℕ) → seed ≡ seed_of m0 → IsWord m0 RIGHT → IsWord m0 SEED → Goal seed (view a x y n v i z c (RANDOM_AT + 17) (lo ∷ hi ∷ []) m0 text answers) (2 + (4 + (11 + (262 + (14 + 261)))))
   unfolding Rest
   seeding a x y n v i z c seed e q s =
       ⊎_elim
       (λ none. let b : eqb (m0 SEEDED) 0 ≡ true = eq-eqb _ _ none in
-      looser f _ _ _ [] (2 + (11 + (240 + (14 + 261)))) (2 + (4 + (11 + (240 + (14 + 261))))) (omega arith) (λ w h. h)
-      (after f 6 fits random_part (random_in f.code block) 1 (view a x y n v i z c (RANDOM_AT + 17) (lo ∷ hi ∷ []) m0 text answers) _ _ (11 + (240 + (14 + 261))) refl
+      looser f _ _ _ [] (2 + (11 + (262 + (14 + 261)))) (2 + (4 + (11 + (262 + (14 + 261))))) (omega arith) (λ w h. h)
+      (after f 6 fits random_part (random_in f.code block) 1 (view a x y n v i z c (RANDOM_AT + 17) (lo ∷ hi ∷ []) m0 text answers) _ _ (11 + (262 + (14 + 261))) refl
       (rw b (advance _ _ _ _ _ _ _ _ m0 seed refl refl q (sym (e ∙ ap (λ b. if b then word_in m0 RIGHT else word_in m0 SEED) b)) (λ a b d e. refl)))))
       (λ some. let b : eqb (m0 SEEDED) 0 ≡ false = ne_eqb _ _ some in
-      after f 6 fits random_part (random_in f.code block) 1 (view a x y n v i z c (RANDOM_AT + 17) (lo ∷ hi ∷ []) m0 text answers) _ _ (4 + (11 + (240 + (14 + 261)))) refl
-      (rw b (after f 6 fits random_part (random_in f.code block) 3 (view _ _ _ _ _ _ _ _ (RANDOM_AT + 22) (lo ∷ hi ∷ []) m0 text answers) _ _ (11 + (240 + (14 + 261))) refl
+      after f 6 fits random_part (random_in f.code block) 1 (view a x y n v i z c (RANDOM_AT + 17) (lo ∷ hi ∷ []) m0 text answers) _ _ (4 + (11 + (262 + (14 + 261)))) refl
+      (rw b (after f 6 fits random_part (random_in f.code block) 3 (view _ _ _ _ _ _ _ _ (RANDOM_AT + 22) (lo ∷ hi ∷ []) m0 text answers) _ _ (11 + (262 + (14 + 261))) refl
       (advance _ _ _ _ _ _ _ _ (with_byte (with_byte m0 RIGHT (m0 SEED)) 0xc065 (m0 0xc039)) seed refl refl s (sym (e ∙ ap (λ b. if b then word_in m0 RIGHT else word_in m0 SEED) b))
       (λ a b d e. skip is_argument (with_byte m0 RIGHT (m0 SEED)) 0xc065 (m0 0xc039) a refl b ∙ skip is_argument m0 RIGHT (m0 SEED) a refl b)))))
       (cases_eq (m0 SEEDED) 0)
 
-  whole : (a x y : ℕ) (n v i z c : Bool) → IsWord m0 RIGHT → IsWord m0 SEED → Goal (seed_of m0) (view a x y n v i z c RANDOM_AT (lo ∷ hi ∷ []) m0 text answers) 540
+  whole : (a x y : ℕ) (n v i z c : Bool) → IsWord m0 RIGHT → IsWord m0 SEED → Goal (seed_of m0) (view a x y n v i z c RANDOM_AT (lo ∷ hi ∷ []) m0 text answers) 562
   whole a x y n v i z c q s =
       let sign : eqb (m0 0xc063 / 128 % 2) 1 ≡ false = ne_eqb _ _ (λ e. omega (arith, most, e)) in
       ⊎_elim
       (λ none. let b : eqb (m0 0xc063) 0 ≡ true = eq-eqb _ _ none in
       let b' : eqb (m0 LEFT) 0 ≡ false = ne_eqb _ _ (λ h. omega (arith, none, h, least)) in
-      looser f _ _ _ [] (2 + (1 + (2 + (2 + (4 + (11 + (240 + (14 + 261)))))))) 540 (omega arith) (λ w h. h)
-      (after f 6 fits random_part (random_in f.code block) 1 (view a x y n v i z c RANDOM_AT (lo ∷ hi ∷ []) m0 text answers) _ _ (1 + (2 + (2 + (4 + (11 + (240 + (14 + 261))))))) refl
-      (rw sign (after f 6 fits random_part (random_in f.code block) 0 (view (m0 0xc063) x y _ v i (eqb (m0 0xc063) 0) c (RANDOM_AT + 5) (lo ∷ hi ∷ []) m0 text answers) _ _ (2 + (2 + (4 + (11 + (240 + (14 + 261)))))) refl
-      (rw b (after f 6 fits random_part (random_in f.code block) 1 (view _ _ _ _ _ _ _ _ (RANDOM_AT + 7) (lo ∷ hi ∷ []) m0 text answers) _ _ (2 + (4 + (11 + (240 + (14 + 261))))) refl
+      looser f _ _ _ [] (2 + (1 + (2 + (2 + (4 + (11 + (262 + (14 + 261)))))))) 562 (omega arith) (λ w h. h)
+      (after f 6 fits random_part (random_in f.code block) 1 (view a x y n v i z c RANDOM_AT (lo ∷ hi ∷ []) m0 text answers) _ _ (1 + (2 + (2 + (4 + (11 + (262 + (14 + 261))))))) refl
+      (rw sign (after f 6 fits random_part (random_in f.code block) 0 (view (m0 0xc063) x y _ v i (eqb (m0 0xc063) 0) c (RANDOM_AT + 5) (lo ∷ hi ∷ []) m0 text answers) _ _ (2 + (2 + (4 + (11 + (262 + (14 + 261)))))) refl
+      (rw b (after f 6 fits random_part (random_in f.code block) 1 (view _ _ _ _ _ _ _ _ (RANDOM_AT + 7) (lo ∷ hi ∷ []) m0 text answers) _ _ (2 + (4 + (11 + (262 + (14 + 261))))) refl
       (rw b' (seeding _ _ _ _ _ _ _ _ (seed_of m0) refl q s))))))))
       (λ some. let b : eqb (m0 0xc063) 0 ≡ false = ne_eqb _ _ some in
-      looser f _ _ _ [] (2 + (1 + (2 + (4 + (11 + (240 + (14 + 261))))))) 540 (omega arith) (λ w h. h)
-      (after f 6 fits random_part (random_in f.code block) 1 (view a x y n v i z c RANDOM_AT (lo ∷ hi ∷ []) m0 text answers) _ _ (1 + (2 + (4 + (11 + (240 + (14 + 261)))))) refl
-      (rw sign (after f 6 fits random_part (random_in f.code block) 0 (view (m0 0xc063) x y _ v i (eqb (m0 0xc063) 0) c (RANDOM_AT + 5) (lo ∷ hi ∷ []) m0 text answers) _ _ (2 + (4 + (11 + (240 + (14 + 261))))) refl
+      looser f _ _ _ [] (2 + (1 + (2 + (4 + (11 + (262 + (14 + 261))))))) 562 (omega arith) (λ w h. h)
+      (after f 6 fits random_part (random_in f.code block) 1 (view a x y n v i z c RANDOM_AT (lo ∷ hi ∷ []) m0 text answers) _ _ (1 + (2 + (4 + (11 + (262 + (14 + 261)))))) refl
+      (rw sign (after f 6 fits random_part (random_in f.code block) 0 (view (m0 0xc063) x y _ v i (eqb (m0 0xc063) 0) c (RANDOM_AT + 5) (lo ∷ hi ∷ []) m0 text answers) _ _ (2 + (4 + (11 + (262 + (14 + 261))))) refl
       (rw b (seeding _ _ _ _ _ _ _ _ (seed_of m0) refl q s))))))
       (cases_eq (m0 0xc063) 0)
 

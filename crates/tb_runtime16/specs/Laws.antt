@@ -93,21 +93,17 @@ ZoneLaw =
 
 -- ---- Multiply
 
--- the arguments and the counter of Multiply
-abbrev pub is_used : ℕ → Bool
-is_used a = is_argument a || a == SCRATCH
-
--- the result, and the memory but for these places as it was
+-- the result, and the memory but for the arguments as it was
 pub record Multiplied (m0 : ℕ → ℕ) (product : ℕ) (m : ℕ → ℕ) : Type 0 where
   pub is_word : IsWord m RESULT
   pub value : word_in m RESULT ≡ product
-  pub others : (a : ℕ) → is_used a ≡ false → m a ≡ m0 a
+  pub others : (a : ℕ) → is_argument a ≡ false → m a ≡ m0 a
 
--- Multiply gives the product modulo 65,536 within 240 Go events
+-- Multiply gives the product modulo 65,536 within 262 Go events
 abbrev pub MultiplyLaw : Type 0
 MultiplyLaw =
     (f : Setup) → Fits f 2 → Holds block_part f.code → (lo hi : ℕ) (text answers : List ℕ) (m : ℕ → ℕ) (a x y : ℕ) (n v i z c : Bool) → IsWord m LEFT → IsWord m RIGHT →
-    Comes f (view a x y n v i z c MULTIPLY_AT (lo ∷ hi ∷ []) m text answers) (Back lo hi text answers (Multiplied m ((word_in m LEFT * word_in m RIGHT) % 65536))) [] 240
+    Comes f (view a x y n v i z c MULTIPLY_AT (lo ∷ hi ∷ []) m text answers) (Back lo hi text answers (Multiplied m ((word_in m LEFT * word_in m RIGHT) % 65536))) [] 262
 
 -- ---- division without signs, inside Divide
 
@@ -191,7 +187,7 @@ pub record Drawn (m0 : ℕ → ℕ) (bound seed : ℕ) (m : ℕ → ℕ) : Type 
 abbrev pub RandomLaw : Type 0
 RandomLaw =
     (f : Setup) → Fits f 6 → Holds block_part f.code → (lo hi : ℕ) (text answers : List ℕ) (m : ℕ → ℕ) (a x y : ℕ) (n v i z c : Bool) → IsWord m LEFT → IsWord m RIGHT → IsWord m SEED → 1 ≤ word_in m LEFT → word_in m LEFT < 32768 →
-    Comes f (view a x y n v i z c RANDOM_AT (lo ∷ hi ∷ []) m text answers) (Back lo hi text answers (Drawn m (word_in m LEFT) (seed_of m))) [] 540
+    Comes f (view a x y n v i z c RANDOM_AT (lo ∷ hi ∷ []) m text answers) (Back lo hi text answers (Drawn m (word_in m LEFT) (seed_of m))) [] 562
 
 -- for a bound below 1, Random comes to Fault with 3, with memory as it was
 abbrev pub RandomRangeLaw : Type 0

@@ -51,7 +51,7 @@ pub const PROLOGUE_LENGTH: usize = 18;
 /// Bytes of Send.
 pub const SEND_LENGTH: usize = 15;
 /// Bytes of Multiply.
-pub const MULTIPLY_LENGTH: usize = 52;
+pub const MULTIPLY_LENGTH: usize = 49;
 /// Bytes of Divide.
 pub const DIVIDE_LENGTH: usize = 129;
 /// Bytes of Random.
