@@ -1,0 +1,12 @@
+mod Catalog
+mod Chains
+mod Filling
+mod Joining
+mod Laying
+mod Listing
+mod Mapping
+mod Pieces
+mod Reading
+mod Sectors
+mod Walking
+mod Whole

@@ -1,0 +1,6 @@
+use Rattle.std.proofs.Common.{◌≡◌, ◌≤◌, take, sum_by}
+use Rattle.tb_disk.specs.Made.{blocks_of}
+use Rattle.tb_disk.proofs.image.blocks_in.Given as goal
+
+abbrev pub invariant-counting : goal.invariant-counting
+invariant-counting l = (l.blocks ≡ sum_by blocks_of (take l.file-index l.files)) × (l.blocks ≤ 664)

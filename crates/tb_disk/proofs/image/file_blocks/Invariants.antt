@@ -1,0 +1,5 @@
+use Rattle.tb_disk.proofs.Listing.{AreLaid}
+use Rattle.tb_disk.proofs.image.file_blocks.Given as goal
+
+abbrev pub invariant-laying : goal.invariant-laying
+invariant-laying l = AreLaid l.files l.file-index l.block l.blocks.items
