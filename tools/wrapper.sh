@@ -167,9 +167,9 @@ mkdir -p built/crates/tb_words/proofs
 touch built/crates/tb_words/proofs/Lib.antt built/crates/tb_program_rows/src/main.rt
 row 0 '' HELLO built/tbc run hello.bas
 for file in crates/tb_words/src/lib.rt crates/tb_memmap/specs/Lib.antt crates.txt; do
-    touch "built/$file"
+    touch -d '1 minute' "built/$file"
     row 5 "tbc: the proved program is older than $file (./tbc --build): *" SHOWN built/tbc run hello.bas
-    touch built/crates/tbc/out/tbc
+    touch -d '1 hour ago' "built/$file"
 done
 
 # Building: how far it is, what it took, the first crate that fails, and no prover left behind
