@@ -1,11 +1,11 @@
 -- The public constants are the places that the definitions speak of.
 use Rattle.std.specs.Prelude.{◌≡◌}
 use Rattle.tb_runtime16.specs.declared.places.TheConstants as public
-use Rattle.tb_runtime16.specs.Places.{LINES_AT, POINTER, VARS, COLUMN, OPEN, SEEDED, HOME_S, SEED, LINE, NOTES, SLOTS, HELD, LEFT, RIGHT, RESULT, TABLE, COUNT, LENGTH, BYTE, SCRATCH, NOTE_LIST}
+use Rattle.tb_runtime16.specs.Places.{PROLOGUE_AT, LINES_AT, POINTER, VARS, COLUMN, OPEN, SEEDED, HOME_S, SEED, LINE, NOTES, SLOTS, HELD, LEFT, RIGHT, RESULT, TABLE, COUNT, LENGTH, BYTE, SCRATCH, NOTE_LIST}
 
 -- of the code
 abbrev pub CodeStands : Type 0
-CodeStands = public.LINES_AT ≡ LINES_AT
+CodeStands = (public.BLOCK_AT ≡ PROLOGUE_AT) × (public.LINES_AT ≡ LINES_AT)
 
 -- what routines are given, and what they give
 abbrev pub ArgumentsStand : Type 0

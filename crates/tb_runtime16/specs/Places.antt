@@ -111,7 +111,7 @@ LINES_AT = 0x0C00
 -- ── the block and its routines ──
 -- where the block begins: the prologue, which a program starts with
 abbrev pub PROLOGUE_AT : ℕ
-PROLOGUE_AT = place.BLOCK_AT
+PROLOGUE_AT = 0x080D
 
 -- the entry of Send
 abbrev pub SEND_AT : ℕ

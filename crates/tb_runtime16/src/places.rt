@@ -1,5 +1,6 @@
 //! Where a program's data and the block's routines stand. All data places are owned: no ROM writes them. A word stands low byte first.
 ghost use Rattle.std.specs.Prelude.{◌≡◌};
+ghost use Rattle.tb_runtime16.specs.Block.{StandAt, bytes_of};
 ghost use Rattle.tb_runtime16.specs.Places.{entry_of};
 
 /// Where the code of the lines begins.
@@ -134,9 +135,10 @@ pub enum Routine {
     Poll,
 }
 
-/// The address at which a routine is called.
+/// The address at which a routine is called, where its bytes stand in the block.
 pub fn entry(routine: Routine) -> u16
-    ensures { result ≡ entry_of routine }
+    ensures entry { result ≡ entry_of routine }
+    ensures bytes { StandAt result (bytes_of routine) }
 {
     match routine {
         Routine::Multiply => MULTIPLY_AT,
