@@ -14,6 +14,15 @@ needs() { # COMMAND..: ends the script where one of them is missing
     done
 }
 
+installs() { # COMMAND PACKAGE: installs a package of Debian where the command is missing
+    command -v "$1" >/dev/null && return
+    local as=
+    [ "$(id -u)" = 0 ] || as=sudo
+    echo "installing $2" >&2
+    $as apt-get update -qq >/dev/null && $as env DEBIAN_FRONTEND=noninteractive apt-get install -qq -y --no-install-recommends "$2" >/dev/null
+    needs "$1"
+}
+
 needs_program() { [ -x "$tbc" ] || { echo "build the program first: ./tbc --build" >&2; exit 1; }; }
 
 now() { printf '%s' "${EPOCHREALTIME/[.,]/}"; }

@@ -1,5 +1,5 @@
 -- The image is that of a disk with the files.
-use Rattle.std.proofs.Common.{◌≡◌, ℕ, suc, ◌+◌, ◌-◌, ◌*◌, ◌/◌, ◌≤◌, Bool, true, false, List, ◌∷◌, ◌++◌, length, take, drop, map, Some, refl, sym, ap, subst, ◌∙◌, arith, length-append, length-drop}
+use Rattle.std.proofs.Common.{◌≡◌, ℕ, suc, ◌+◌, ◌-◌, ◌*◌, ◌/◌, ◌≤◌, Bool, true, false, List, [], ◌∷◌, ◌++◌, length, take, drop, map, Some, refl, sym, ap, subst, ◌∙◌, arith, append_assoc, length-append, length-drop}
 use Rattle.std.specs.Prelude.{replicate, slice_index, option_map, option_and_then, sum_by, if◌then◌else◌}
 use Rattle.std.specs.List.{range_with_len}
 use Rattle.std.proofs.lemmas.List.{take_at, drop_at, length-take-le, length-replicate}
@@ -51,6 +51,15 @@ unfolding head_block
 title_read used d field e =
     ap (take 16) (drop_at (free_map used d) (title field) 140 (free_map_length used d))
     ∙ take_at field (0xa0 ∷ 0xa0 ∷ 84 ∷ 66 ∷ 0xa0 ∷ 50 ∷ 65 ∷ 0xa0 ∷ 0xa0 ∷ 0xa0 ∷ 0xa0 ∷ replicate 85 0) 16 e
+
+mark_read : (used d : ℕ) (field : List ℕ) → length field ≡ 16
+    → take 7 (drop 160 (head_block used d field)) ≡ 0xa0 ∷ 0xa0 ∷ 84 ∷ 66 ∷ 0xa0 ∷ 50 ∷ 65 ∷ []
+unfolding head_block
+mark_read used d field e =
+    let behind : List ℕ = 0xa0 ∷ 0xa0 ∷ 84 ∷ 66 ∷ 0xa0 ∷ 50 ∷ 65 ∷ 0xa0 ∷ 0xa0 ∷ 0xa0 ∷ 0xa0 ∷ replicate 85 0 in
+    let before : length (free_map used d ++ field) ≡ 156 = length-append (free_map used d) field ∙ omega (arith, free_map_length used d, e) in
+    ap (λ x. take 7 (drop 156 x)) (sym (append_assoc (free_map used d) field behind))
+    ∙ ap (take 7) (drop_at (free_map used d ++ field) behind 156 before)
 
 format_read : (used d : ℕ) (field : List ℕ) → slice_index (head_block used d field) 2 ≡ 65
 unfolding head_block
@@ -110,6 +119,7 @@ disk_of name files few small =
       };
       format = ap (λ b. slice_index b 2) at_head ∙ format_read used d name.field;
       titled = ap (λ b. name_in (take 16 (drop 144 b))) at_head ∙ ap name_in (title_read used d name.field name.full);
+      marked = ap (λ b. take 7 (drop 160 b)) at_head ∙ mark_read used d name.field name.full;
     }
 
 pub whole : (name : Name) (files : List File) (image : List ℕ) → length files ≤ 144 → sum_by blocks_of files ≤ 664 → image ≡ image_of name files

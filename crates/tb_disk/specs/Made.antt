@@ -1,5 +1,5 @@
 -- What the image of a disk with files is.
-use Rattle.std.specs.Prelude.{ℕ, ◌≡◌, ◌<◌, ◌≤◌, ◌-◌, ◌+◌, ◌*◌, ◌/◌, ◌==◌, List, map, length, take, drop, slice_index, sum_by, count_by, Some, if◌then◌else◌}
+use Rattle.std.specs.Prelude.{ℕ, ◌≡◌, ◌<◌, ◌≤◌, ◌-◌, ◌+◌, ◌*◌, ◌/◌, ◌==◌, List, [], ◌∷◌, map, length, take, drop, slice_index, sum_by, count_by, Some, if◌then◌else◌}
 use Rattle.std.specs.List.{range_with_len}
 use Rattle.tb_disk.specs.D64.{Walk, walk, block, head, sectors, in_use, map_bit, free_on, name_in, is_on_disk, place}
 use Rattle.tb_disk.specs.declared.names.Name.{Name}
@@ -32,8 +32,8 @@ pub record IsMapped (image : List ℕ) (w : Walk) : Type 0 where
 abbrev pub Fits : List File → Type 0
 Fits files = (sum_by blocks_of files ≤ 664) × (length files ≤ 144)
 
--- the image of a disk with a name and files: walking it finds exactly the files, in order; its map is right, and its
--- format is `A`
+-- the image of a disk with a name and files: walking it finds exactly the files, in order; its map is right, its format
+-- is `A`, and behind its name stands the mark `TB`, `2A`
 pub record IsDiskOf (name : Name) (files : List File) (image : List ℕ) : Type 0 where
   pub fits : Fits files
   pub size : length image ≡ 256 * sectors
@@ -44,6 +44,7 @@ pub record IsDiskOf (name : Name) (files : List File) (image : List ℕ) : Type 
   pub mapped : IsMapped image walked
   pub format : slice_index (block image head) 2 ≡ 65
   pub titled : name_in (take 16 (drop 144 (block image head))) ≡ text_of name
+  pub marked : take 7 (drop 160 (block image head)) ≡ 0xa0 ∷ 0xa0 ∷ 84 ∷ 66 ∷ 0xa0 ∷ 50 ∷ 65 ∷ []
 
 -- why there is no image
 abbrev pub Refuses : List File → DiskError → Type 0

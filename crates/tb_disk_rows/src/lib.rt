@@ -1,6 +1,9 @@
-//! Tests of disk images: what `cc1541` makes of the same files, and what a disk holds at most. They stand apart from the
-//! crate that they test, since a crate with tests is proved twice.
+//! Tests of disk images and of their engine: what `cc1541` makes of the same files, what a disk holds at most, names,
+//! refusals, and streams that fail. They stand apart from the crates that they test, since a crate with tests is proved
+//! twice.
 #![tactic(auto)]
 
+#[cfg(test)]
+mod engine;
 #[cfg(test)]
 mod rows;

@@ -1,0 +1,12 @@
+-- The name that a disk gets.
+use Rattle.std.proofs.Common.{◌≡◌, ℕ, List, ◌∷◌, [], sym, subst, ◌∙◌, inl, inr}
+use Rattle.tb_disk.specs.declared.names.Name.{Name}
+use Rattle.tb_disk.specs.Names.{IsName}
+use Rattle.tb_disk.specs.Made.{text_of}
+use Rattle.tb_disk_engine.specs.Names.{disk_text, NamesDisk}
+
+pub named : (path text : List ℕ) (name : Name) → text ≡ disk_text path → IsName text → text_of name ≡ text → NamesDisk path name
+named path text name same is back = inl (subst IsName same is, back ∙ same)
+
+pub unnamed : (path text : List ℕ) (name : Name) → text ≡ disk_text path → ¬ (IsName text) → text_of name ≡ 84 ∷ 66 ∷ 67 ∷ [] → NamesDisk path name
+unnamed path text name same none back = inr ((λ is. none (subst IsName (sym same) is)), back)

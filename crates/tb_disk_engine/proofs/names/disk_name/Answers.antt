@@ -1,0 +1,16 @@
+use Rattle.std.proofs.Common.{◌∷◌, [], take, ap, ◌∙◌, rules}
+use Rattle.tb_disk_engine.specs.Names.{without}
+use Rattle.tb_disk_engine.proofs.Naming.{named, unnamed}
+use Rattle.tb_disk_engine.proofs.names.disk_name.Goals as goal
+
+pub returns-in-Some : goal.returns-in-Some
+returns-in-Some c =
+    named c.args.path.now c.cut.result.now c.in-Some.name
+    (c.cut.ensures ∙ ap (take 16) (c.without.ensures ∙ ap (without (46 ∷ 68 ∷ 54 ∷ 52 ∷ [])) (c.as_slice.ensures.value ∙ c.in_ok-signs.ensures)))
+    (search rules) c.in-Some.ensures.back
+
+pub returns : goal.returns
+returns c =
+    unnamed c.args.path.now c.cut.result.now c.default_name.result
+    (c.cut.ensures ∙ ap (take 16) (c.without.ensures ∙ ap (without (46 ∷ 68 ∷ 54 ∷ 52 ∷ [])) (c.as_slice.ensures.value ∙ c.in_ok-signs.ensures)))
+    (search rules) c.default_name.ensures

@@ -1,0 +1,103 @@
+-- What taking files in and making a disk of them come to.
+use Rattle.std.specs.Prelude.{ℕ, ◌≡◌, ◌≢◌, ◌⊎◌, List, [], ◌∷◌, ◌++◌, map, Contains, Option, Result, Ok, Err, is_ok, true, ⊤}
+use Rattle.std.specs.Io.KnownBytes.{Appends, Keeps}
+use Rattle.tb_streams.specs.Streams.{Reads, MayPassMost, AppendsPrefix}
+use Rattle.tb_prg.specs.Prg.{content_of}
+use Rattle.tb_disk.specs.declared.names.Name.{Name}
+use Rattle.tb_disk.specs.declared.image.File.{File}
+use Rattle.tb_disk.specs.Names.{IsName, field_of}
+use Rattle.tb_disk.specs.Made.{Fits, IsDiskOf}
+use Rattle.tb_disk.specs.declared.image.DiskError.{DiskError}
+use Rattle.tb_disk.specs.declared.image.DiskError.TheVariants.{Full as DiskFull, NoMemory as NoRoom}
+use Rattle.tb_disk_engine.specs.Names.{file_text, Unnamed, NamesDisk}
+use Rattle.tb_disk_engine.specs.declared.files.Taken.{Taken}
+use Rattle.tb_disk_engine.specs.declared.files.DiskFiles.{DiskFiles}
+use Rattle.tb_disk_engine.specs.declared.outcome.DiskOutcome.{DiskOutcome}
+use Rattle.tb_disk_engine.specs.declared.outcome.DiskOutcome.TheVariants.{Done, Refused, ReadFault, WriteFault, NoMemory}
+use Rattle.tb_disk_engine.specs.declared.outcome.DiskRefusal.TheVariants.{BadName, NameTwice, Prg, Full}
+
+-- a file on a disk: its name's field, and its bytes
+abbrev pub Entry : Type 0
+Entry = List ℕ × List ℕ
+
+abbrev pub entry_of : Taken → Entry
+entry_of t = (t.name.field, t.bytes.items)
+
+abbrev pub entry_in : File → Entry
+entry_in f = (f.name.field, f.bytes.now)
+
+-- the files that were taken in
+abbrev pub entries : DiskFiles → List Entry
+entries d = map entry_of d.files.items
+
+-- one of them has this field
+abbrev pub IsUsed : DiskFiles → List ℕ → Type 0
+IsUsed d field = Contains (map (λ t. t.name.field) d.files.items) field
+
+-- the name of a file that may come next, or why it may not; a bad name is found first
+abbrev pub NamesNext : DiskFiles → List ℕ → Result Name DiskOutcome → Type 0
+NamesNext d path (Ok name) = IsName (file_text path) × (name.field ≡ field_of (file_text path)) × ¬ (IsUsed d name.field)
+NamesNext d path (Err (Refused NameTwice)) = IsName (file_text path) × IsUsed d (field_of (file_text path))
+NamesNext d path (Err e) = Unnamed path e
+
+-- the bytes of a PRG file
+abbrev pub IsPrg : List ℕ → Type 0
+IsPrg bytes = is_ok (content_of bytes) ≡ true
+
+-- the files with one more at their end, or why it was not taken in: no PRG file, or a fault of its reader
+abbrev pub Adds : DiskFiles → Name → Option (List ℕ) → Result DiskFiles DiskOutcome → Type 0
+Adds old name had (Ok new) = (bytes : List ℕ) × Reads had bytes × IsPrg bytes × (entries new ≡ entries old ++ (name.field, bytes) ∷ [])
+Adds old name had (Err (Refused (Prg e))) = (bytes : List ℕ) × Reads had bytes × (content_of bytes ≡ Err e)
+Adds old name had (Err (Refused BadName)) = ⊥
+Adds old name had (Err (Refused NameTwice)) = ⊥
+Adds old name had (Err (Refused Full)) = ⊥
+Adds old name had (Err ReadFault) = ⊤
+Adds old name had (Err NoMemory) = ⊤
+Adds old name had (Err Done) = ⊥
+Adds old name had (Err WriteFault) = ⊥
+
+-- a fault comes only where the reader failed in this call, by its count of failures, or gave too many bytes
+abbrev pub AddFaults : Result DiskFiles DiskOutcome → Option (List ℕ) → ℕ → ℕ → Type 0
+AddFaults (Ok new) had old new' = new' ≡ old
+AddFaults (Err ReadFault) had old new' = (new' ≢ old) ⊎ MayPassMost had
+AddFaults (Err (Refused e)) had old new' = new' ≡ old
+AddFaults (Err NoMemory) had old new' = new' ≡ old
+AddFaults (Err Done) had old new' = ⊥
+AddFaults (Err WriteFault) had old new' = ⊥
+
+-- these are the files that were taken in
+abbrev pub AreTaken : DiskFiles → List File → Type 0
+AreTaken d files = map entry_in files ≡ entries d
+
+-- the image of the disk with the files, named like a path
+abbrev pub IsImageOf : DiskFiles → List ℕ → List ℕ → Type 0
+IsImageOf d path image =
+    (title : Name) × (files : List File) × NamesDisk path title × AreTaken d files × IsDiskOf title files image
+
+-- the files are too many or too large for a disk
+abbrev pub IsFull : DiskFiles → Type 0
+IsFull d = (files : List File) × AreTaken d files × ¬ Fits files
+
+-- why there is no image
+abbrev pub HasNoImage : DiskFiles → DiskError → Type 0
+HasNoImage d DiskFull = IsFull d
+HasNoImage d NoRoom = ⊤
+
+-- what was written by how it ended
+abbrev pub Writes : DiskFiles → List ℕ → DiskOutcome → Option (List ℕ) → Option (List ℕ) → Type 0
+Writes d path Done old new = (image : List ℕ) × IsImageOf d path image × Appends old new image
+Writes d path (Refused Full) old new = IsFull d × Keeps old new
+Writes d path (Refused BadName) old new = ⊥
+Writes d path (Refused NameTwice) old new = ⊥
+Writes d path (Refused (Prg e)) old new = ⊥
+Writes d path ReadFault old new = ⊥
+Writes d path WriteFault old new = (image : List ℕ) × IsImageOf d path image × AppendsPrefix old new image
+Writes d path NoMemory old new = Keeps old new
+
+-- a write fault comes only where the writer failed in this call
+abbrev pub WriteFaults : DiskOutcome → ℕ → ℕ → Type 0
+WriteFaults WriteFault old new = new ≢ old
+WriteFaults Done old new = new ≡ old
+WriteFaults (Refused e) old new = new ≡ old
+WriteFaults ReadFault old new = ⊥
+WriteFaults NoMemory old new = new ≡ old

@@ -1,0 +1,91 @@
+//! The names that files and disks get, from the names of files on the host.
+ghost use Rattle.std.specs.Prelude.{◌≡◌, [], ◌∷◌, IfOk, MatchResult, take};
+ghost use Rattle.tb_disk.specs.Names.{IsName, field_of};
+ghost use Rattle.tb_disk.specs.Made.{text_of};
+ghost use Rattle.tb_disk_engine.specs.Names.{sign_of, signs_of, without, file_text, Unnamed, NamesDisk};
+
+use crate::outcome::{DiskOutcome, DiskRefusal};
+use std::alloc::{AllocError, Global};
+use std::path::Path;
+use tb_disk::Name;
+
+/// The most signs of a name.
+const MOST_SIGNS: usize = 16;
+
+// A letter in upper case, `_` as `-`.
+fn sign_of(byte: u8) -> u8
+    ensures { result ≡ sign_of byte }
+{
+    if byte == b'_' {
+        b'-'
+    } else {
+        byte.to_ascii_uppercase()
+    }
+}
+
+// The last part of a path, in these signs.
+fn signs_of(alloc: Global, path: &str) -> Result<Vec<u8>, AllocError>
+    ensures { IfOk result (λ signs. signs.items ≡ signs_of path.now) }
+{
+    let base = Path::new(path).file_name().unwrap_or("");
+    base.as_bytes()
+        .iter()
+        .map(|byte| sign_of(*byte))
+        .collect(alloc)
+}
+
+// The signs without an ending, where they have it.
+fn without<'a>(ending: &[u8], signs: &'a [u8]) -> &'a [u8]
+    ensures { result.now ≡ without ending.now signs.now }
+{
+    if signs.ends_with(ending) {
+        &signs[..signs.len() - ending.len()]
+    } else {
+        signs
+    }
+}
+
+// The first signs, as many as a name has.
+#[tactic(auto, using(std::proofs::lemmas::List::take_all))]
+fn cut(signs: &[u8]) -> &[u8]
+    ensures { result.now ≡ take 16 signs.now }
+{
+    if signs.len() > MOST_SIGNS {
+        &signs[..MOST_SIGNS]
+    } else {
+        signs
+    }
+}
+
+/// The name that a file gets.
+pub fn file_name(alloc: Global, path: &str) -> Result<Name, DiskOutcome>
+    ensures { MatchResult result
+        (λ n. IsName (file_text path.now) × (n.field ≡ field_of (file_text path.now)))
+        (Unnamed path.now) }
+{
+    let signs = signs_of(alloc, path)?;
+    match Name::new(without(b".PRG", signs.as_slice())) {
+        Some(name) => Ok(name),
+        None => Err(DiskOutcome::Refused(DiskRefusal::BadName)),
+    }
+}
+
+// The name of a disk whose path's last part is none.
+fn default_name() -> Name
+    ensures { text_of result ≡ 84 ∷ 66 ∷ 67 ∷ [] }
+{
+    Name {
+        field: *b"TBC\xa0\xa0\xa0\xa0\xa0\xa0\xa0\xa0\xa0\xa0\xa0\xa0\xa0",
+    }
+}
+
+/// The name that a disk gets.
+pub fn disk_name(alloc: Global, path: &str) -> Result<Name, AllocError>
+    ensures { IfOk result (NamesDisk path.now) }
+{
+    let signs = signs_of(alloc, path)?;
+    match Name::new(cut(without(b".D64", signs.as_slice()))) {
+        Some(name) => Ok(name),
+        None => Ok(default_name()),
+    }
+}

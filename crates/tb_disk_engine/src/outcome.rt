@@ -1,0 +1,66 @@
+//! How making a disk ended.
+ghost use Rattle.std.specs.Prelude.{◌≡◌};
+ghost use Rattle.tb_disk_engine.specs.Outcomes.{status_of};
+
+use std::alloc::AllocError;
+use tb_prg::PrgError;
+use thiserror::Error;
+
+/// Why there is no disk.
+#[derive(Clone, Copy, PartialEq, Eq, Debug, Drop, Error)]
+pub enum DiskRefusal {
+    /// A file's name is no name of a disk's file.
+    #[error("bad name")]
+    BadName,
+    /// An earlier file has this name.
+    #[error("name twice")]
+    NameTwice,
+    /// A file is no PRG file.
+    #[error("not a PRG: {0}")]
+    Prg(PrgError),
+    /// The files take more than 664 blocks, or there are more than 144.
+    #[error("disk full")]
+    Full,
+}
+
+/// How making a disk ended. At `Done` its whole image was written, at `WriteFault` a prefix of it, and else nothing.
+#[derive(Clone, Copy, PartialEq, Eq, Debug, Drop, Error)]
+pub enum DiskOutcome {
+    #[error("")]
+    Done,
+    #[error("{0}")]
+    Refused(DiskRefusal),
+    /// A reader failed, or gave too many bytes.
+    #[error("read fault")]
+    ReadFault,
+    /// The writer failed.
+    #[error("write fault")]
+    WriteFault,
+    /// A growth was refused.
+    #[error("out of memory")]
+    NoMemory,
+}
+
+impl DiskOutcome {
+    /// The exit status of the program.
+    pub fn status(&self) -> u8
+        ensures { result ≡ status_of self.now }
+    {
+        match self {
+            DiskOutcome::Done => 0,
+            DiskOutcome::Refused(_) => 1,
+            DiskOutcome::ReadFault | DiskOutcome::WriteFault => 3,
+            DiskOutcome::NoMemory => 4,
+        }
+    }
+}
+
+impl From<AllocError> for DiskOutcome {
+    ghost use Rattle.tb_disk_engine.specs.declared.outcome.DiskOutcome.TheVariants.{NoMemory};
+
+    ghost from_gives = { λ _ outcome. outcome ≡ NoMemory };
+
+    fn from(_error: AllocError) -> DiskOutcome {
+        DiskOutcome::NoMemory
+    }
+}

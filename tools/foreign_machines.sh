@@ -1,0 +1,80 @@
+#!/usr/bin/env bash
+# Runs compiled programs, and random ones, on machines that are not this project's:
+#
+#   every example and every program of tools/bench, with keys, in sim65 (of cc65): each sends byte for byte what `tbc run`
+#     shows, and ends the same way; each service spoils every register and bytes of the ROM's memory (foreign/sim65.asm);
+#   the same programs on the Commodore 64 of VICE, where x64sc is there, beside a ROM of our own (foreign/kernal.asm);
+#   random PRGs of 64 bytes here and in sim65: registers and memory are the same (foreign/random_programs.py).
+#
+# Each run has a negative case: a wrong wanted byte must be found.
+#
+#   tools/foreign_machines.sh [COUNT]    how many random PRGs; 20,000 by default
+. "$(dirname "${BASH_SOURCE[0]}")/setup.sh"
+needs_program
+end_states=$root/crates/tb_end_states/out/tb_end_states
+[ -x "$end_states" ] || { echo "build the program of end states first: cd crates/tb_end_states && rt run <stdin" >&2; exit 1; }
+needs python3
+installs sim65 cc65
+foreign=$root/tools/foreign
+
+rows=0
+failed=0
+machines=(sim65)
+"$tbc" asm "$foreign/sim65.asm" sim65.prg --at A000
+if command -v x64sc >/dev/null; then
+    machines+=(vice)
+    "$tbc" asm "$foreign/kernal.asm" vice.prg --at E000
+else
+    echo "x64sc is not there: the runs in VICE are left out"
+fi
+
+same() { # MACHINE NAME KEYS STATUS: NAME.prg sends what NAME.wanted shows, and ends with that status
+    python3 "$foreign/foreign_run.py" "$1" "$1.prg" "$2.prg" "$3" "$2.wanted" "$4"
+}
+typed() { printf "$1" | od -An -v -tx1 | tr -d ' \n'; } # TEXT: its bytes as hexadecimal digits
+
+program() { # SOURCE KEYS: a row for each machine
+    local name keys status=0 machine
+    name=$(basename "$(dirname "$1")")_$(basename "$1" .bas)
+    keys=$(typed "$2")
+    "$tbc" build "$1" "$name.prg"
+    "$tbc" run --prg "$name.prg" --keys "$keys" --limit 100000000 >"$name.wanted" 2>said || status=$?
+    rows=$((rows + 1))
+    case $status in
+        0 | 6) ;;
+        *) failed=$((failed + 1)) && echo "$name: tbc run ended with status $status: $(<said)" && return ;;
+    esac
+    for machine in "${machines[@]}"; do
+        rows=$((rows + 1))
+        same "$machine" "$name" "$keys" "$status" || failed=$((failed + 1))
+    done
+}
+
+spoilt() { # NAME KEYS STATUS: each machine finds that the last wanted byte is another
+    local machine
+    cp "$1.prg" spoilt.prg
+    { head -c -1 "$1.wanted" && printf '?'; } >spoilt.wanted
+    for machine in "${machines[@]}"; do
+        rows=$((rows + 1))
+        if ! same "$machine" spoilt "$(typed "$2")" "$3" >said && grep -q 'another byte' said; then continue; fi
+        failed=$((failed + 1))
+        echo "a wrong byte is not found in $machine: $(<said)"
+    done
+}
+
+program "$root/examples/cave.bas" '1\r6\r2\r3\r1\r4\r5\r6\r1\r2\r'
+program "$root/examples/collatz.bas" '27\r7\r'
+program "$root/examples/dice.bas" '17\r'
+program "$root/examples/guess.bas" '50\r25\r12\r6\r3\r75\r88\r94\r'
+program "$root/examples/hamurabi.bas" '30\r0\r0\r2000\r500\r0\r0\r1800\r400\r10\r0\r1500\r300\r'
+program "$root/examples/hello.bas" ''
+program "$root/examples/lander.bas" '0\r0\r5\r10\r20\r30\r30\r20\r10\r10\r10\r10\r'
+program "$root/examples/primes.bas" ''
+program "$root/examples/times.bas" ''
+for source in "$root"/tools/bench/*.bas; do program "$source" ''; done
+spoilt examples_hello '' 0
+spoilt examples_collatz '27\r7\r' 6
+
+echo "$rows runs on ${machines[*]}, $failed other than they should be"
+python3 "$foreign/random_programs.py" "$end_states" "${1:-20000}" || failed=$((failed + 1))
+[ "$failed" = 0 ]
