@@ -14,5 +14,5 @@ pub use assembly::{asm_text, dis_text};
 pub use loading::start_machine;
 pub use made::{Stop, Text, deliver, without_input};
 pub use outcome::{End, Outcome, Refusal};
-pub use programs::{run_file, run_prg};
+pub use programs::{end_of, run_file, run_prg};
 pub use report::Report;

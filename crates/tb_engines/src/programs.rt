@@ -15,7 +15,8 @@ use tb_kernal::{Keyboard, Outside, Status, run};
 use tb_prg::Loaded;
 use tb_streams::{Tracked, host_form, read_input};
 
-fn end_of(status: Status, pc: u16) -> End
+/// How a run ends, by the status of its machine and its PC.
+pub fn end_of(status: Status, pc: u16) -> End
     ensures { result ≡ end_of status pc }
 {
     match status {

@@ -1,0 +1,4 @@
+mod Reading
+mod Sending
+mod Talking
+mod Whole

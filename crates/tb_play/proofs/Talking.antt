@@ -1,0 +1,108 @@
+-- One more line of a talk.
+use Rattle.std.proofs.Common.{◌≡◌, ◌≢◌, ℕ, true, false, inl, inr, ◌⊎◌, ◌<◌, Err, ◌+◌, List, [], ◌∷◌, ◌++◌, Option, length, take, refl, sym, ap, subst, ◌∙◌, append-nil, append_assoc}
+use Rattle.std.proofs.KnownBytes.{Appends-trans, Appends-kept}
+use Rattle.std.proofs.Math.Seq.{take-append-add}
+use Rattle.std.specs.Prelude.{flat_map}
+use Rattle.std.specs.Io.KnownBytes.{Appends}
+use Rattle.tb_kernal.specs.declared.status.Status.{Status}
+use Rattle.tb_kernal.specs.declared.status.Status.TheVariants.{Running, Waits, Returned, Wrong}
+use Rattle.tb_engines.specs.declared.outcome.Outcome.{Outcome}
+use Rattle.tb_engines.specs.declared.outcome.Outcome.TheVariants.{Ended, Refused, ReadFault, WriteFault, NoMemory}
+use Rattle.tb_kernal.specs.Machine.{Content, state_of}
+use Rattle.tb_kernal.specs.Typing.{with_more}
+use Rattle.tb_streams.specs.HostForm.{host_byte, host_form_of}
+use Rattle.tb_streams.specs.Streams.{AppendsPrefix}
+use Rattle.tb_play.specs.Lines.{most_typed, keys_of, typed_of, TakesLine, TakesLines}
+use Rattle.tb_play.specs.Talks.{Stretch, Talked, IsBehind, Comes, Stops, Plays, GoesOn, Hears, is_waiting, sent_since}
+use Rattle.tb_play.proofs.Sending.{stretch_sends}
+
+flat_map_append : (f : ℕ → List ℕ) (xs ys : List ℕ) → flat_map f (xs ++ ys) ≡ flat_map f xs ++ flat_map f ys
+flat_map_append f [] ys = refl
+flat_map_append f (x ∷ xs) ys = ap (λ l. f x ++ l) (flat_map_append f xs ys) ∙ sym (append_assoc (f x) (flat_map f xs) (flat_map f ys))
+
+-- the lines and one more
+pub typed_more : (lines : List (List ℕ)) (line : List ℕ) → typed_of (lines ++ line ∷ []) ≡ typed_of lines ++ keys_of line
+typed_more [] line = append-nil (keys_of line)
+typed_more (l ∷ lines) line = ap (λ x. keys_of l ++ x) (typed_more lines line) ∙ sym (append_assoc (keys_of l) (typed_of lines) (keys_of line))
+
+talked_more : (limit : ℕ) (lines : List (List ℕ)) (m n w typed : Content) (line : List ℕ) → Talked limit m lines n → Stretch limit n Waits w
+    → state_of typed ≡ with_more (keys_of line) (state_of w) → Talked limit m (lines ++ line ∷ []) typed
+talked_more limit [] m n w typed line same ran more = (w, typed, subst (λ x. Stretch limit x Waits w) same ran, more, refl)
+talked_more limit (l ∷ lines) m n w typed line (v, next, before, then, rest) ran more =
+    (v, next, before, then, talked_more limit lines next n w typed line rest ran more)
+
+taken_more : (lines : List (List ℕ)) (line : List ℕ) (had mid left : Option (List ℕ)) → TakesLines had lines mid → TakesLine mid line left
+    → TakesLines had (lines ++ line ∷ []) left
+taken_more [] line had mid left same last = (left, subst (λ x. TakesLine x line left) same last, refl)
+taken_more (l ∷ lines) line had mid left (next, first, rest) last = (next, first, taken_more lines line next mid left rest last)
+
+-- what was written of all that was sent
+pub written_more : (limit : ℕ) (m n : Content) (t : Status) (a b c : Option (List ℕ)) → Stretch limit m t n
+    → Appends a b (host_form_of m.sent) → Appends b c (host_form_of (sent_since m n)) → Appends a c (host_form_of n.sent)
+written_more limit m n t a b c ran before since =
+    let whole = ap host_form_of (stretch_sends limit m n t ran) ∙ flat_map_append host_byte m.sent (sent_since m n) in
+    subst (Appends a c) (sym whole) (Appends-trans a b c _ _ before since)
+
+pub written_part : (limit : ℕ) (m n : Content) (t : Status) (a b c : Option (List ℕ)) → Stretch limit m t n
+    → Appends a b (host_form_of m.sent) → AppendsPrefix b c (host_form_of (sent_since m n)) → AppendsPrefix a c (host_form_of n.sent)
+written_part limit m n t a b c ran before (k, since) =
+    let whole = ap host_form_of (stretch_sends limit m n t ran) ∙ flat_map_append host_byte m.sent (sent_since m n) in
+    let shown = host_form_of m.sent in
+    let cut = ap (take (length shown + k)) whole ∙ take-append-add shown (host_form_of (sent_since m n)) k in
+    (length shown + k, subst (Appends a c) (sym cut) (Appends-trans a b c _ _ before since))
+
+-- a talk goes on by a stretch
+pub comes : (limit : ℕ) (m : Content) (lines : List (List ℕ)) (n w : Content) (t : Status) (had left old new : Option (List ℕ))
+    → IsBehind limit m lines n had left old new → Stretch limit n t w → Comes limit m lines t w had left
+comes limit m lines n w t had left old new behind ran = record { typed = n; talked = behind.talked; stretch = ran; taken = behind.taken }
+
+-- and by a line
+pub behind_more : (limit : ℕ) (m : Content) (lines : List (List ℕ)) (line : List ℕ) (n w typed : Content) (had mid left old now new : Option (List ℕ))
+    → IsBehind limit m lines n had mid old now → Stretch limit n Waits w → Appends now new (host_form_of (sent_since n w))
+    → TakesLine mid line left → state_of typed ≡ with_more (keys_of line) (state_of w)
+    → IsBehind limit m (lines ++ line ∷ []) typed had left old new
+behind_more limit m lines line n w typed had mid left old now new behind ran since took more =
+    let same : typed.sent ≡ w.sent = ap (λ s. s.sent) more in
+    record {
+      talked = talked_more limit lines m n w typed line behind.talked ran more;
+      taken = taken_more lines line had mid left behind.taken took;
+      written = subst (λ x. Appends old new (host_form_of x)) (sym same) (written_more limit n w Waits old now new ran behind.written since);
+    }
+
+-- a machine that doesn't wait is asked no more
+pub stops : (t : Status) (had left : Option (List ℕ)) → is_waiting t ≡ false → left ≡ had → Stops t had left
+stops Running had left h same = same
+stops Waits had left h same = absurd (cc)
+stops Returned had left h same = same
+stops (Wrong w) had left h same = same
+
+pub waits : (t : Status) → is_waiting t ≡ true → t ≡ Waits
+waits Running h = absurd (cc)
+waits Waits h = refl
+waits Returned h = absurd (cc)
+waits (Wrong w) h = absurd (cc)
+
+-- a talk that ends where it goes on
+pub went_wrong : (limit : ℕ) (m n w : Content) (lines : List (List ℕ)) (outcome : Outcome) (wrote wrote' read read' : ℕ) (typed : List ℕ)
+    (had left old now new : Option (List ℕ)) → IsBehind limit m lines n had left old now → GoesOn limit n (Err outcome) w wrote wrote' now new
+    → Plays limit m outcome typed had left read read' old new
+went_wrong limit m n w lines WriteFault wrote wrote' read read' typed had left old now new behind (t, ran, part, same) =
+    (lines, t, w, comes limit m lines n w t had left old now behind ran, written_part limit n w t old now new ran behind.written part)
+went_wrong limit m n w lines NoMemory wrote wrote' read read' typed had left old now new behind (kept, same) =
+    inl (lines, n, record { talked = behind.talked; taken = behind.taken; written = Appends-kept old now new (host_form_of n.sent) behind.written kept })
+went_wrong limit m n w lines (Ended end) wrote wrote' read read' typed had left old now new behind h = absurd h
+went_wrong limit m n w lines (Refused e) wrote wrote' read read' typed had left old now new behind h = absurd h
+went_wrong limit m n w lines ReadFault wrote wrote' read read' typed had left old now new behind h = absurd h
+
+-- a talk that ends where a line is read
+pub heard_wrong : (limit : ℕ) (m w n : Content) (lines : List (List ℕ)) (outcome : Outcome) (first read read' : ℕ) (typed typed' : List ℕ)
+    (had mid left old new : Option (List ℕ)) → Comes limit m lines Waits w had mid → Appends old new (host_form_of w.sent) → typed ≡ typed_of lines
+    → read ≡ first → Hears w typed (Err outcome) n typed' mid left read read' → Plays limit m outcome typed' had left first read' old new
+heard_wrong limit m w n lines ReadFault first read read' typed typed' had mid left old new came written same sound (line, took, why, _) =
+    let P : ℕ → List ℕ → Type 0 = λ x y. (read' ≢ x) ⊎ (most_typed < length y + length (keys_of line)) in
+    (lines, w, mid, line, came, took, subst (λ y. P first y) same (subst (λ x. P x typed) sound why), written)
+heard_wrong limit m w n lines NoMemory first read read' typed typed' had mid left old new came written same sound (line, took, _, _) =
+    inr (lines, w, mid, line, came, took, written)
+heard_wrong limit m w n lines (Ended end) first read read' typed typed' had mid left old new came written same sound h = absurd h
+heard_wrong limit m w n lines (Refused e) first read read' typed typed' had mid left old new came written same sound h = absurd h
+heard_wrong limit m w n lines WriteFault first read read' typed typed' had mid left old new came written same sound h = absurd h

@@ -1,0 +1,6 @@
+use Rattle.tb_play.proofs.Whole.{one_run}
+use Rattle.tb_play.proofs.files.play_file.Goals as goal
+
+pub returns-in-Ok-clause-whole : goal.returns-in-Ok-clause-whole
+returns-in-Ok-clause-whole g c =
+    one_run _ _ _ _ _ _ _ _ _ _ _ c.in-Ok.ensures c.play.ensures.dialogue

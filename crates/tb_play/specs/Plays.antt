@@ -1,0 +1,75 @@
+-- Playing a PRG file.
+use Rattle.std.specs.Prelude.{ℕ, ◌≡◌, ◌≢◌, ◌⊎◌, List, [], length, Option, Result, Ok, Err}
+use Rattle.std.specs.Io.KnownBytes.{Appends, Keeps}
+use Rattle.tb_memmap.specs.Bytes.{IsOpenRange}
+use Rattle.tb_kernal.specs.Machine.{Content}
+use Rattle.tb_prg.specs.Prg.{content_of}
+use Rattle.tb_streams.specs.Streams.{AppendsPrefix}
+use Rattle.tb_engines.specs.Outcomes.{Product}
+use Rattle.tb_engines.specs.Programs.{start, RunsPrg}
+use Rattle.tb_engines.specs.declared.made.Stop.{Stop}
+use Rattle.tb_engines.specs.declared.made.Stop.TheVariants.{Refused as StopRefused, NoMemory as StopNoMemory}
+use Rattle.tb_engines.specs.declared.outcome.End.{End}
+use Rattle.tb_engines.specs.declared.outcome.End.TheVariants.{WaitsForKey}
+use Rattle.tb_engines.specs.declared.outcome.Outcome.{Outcome}
+use Rattle.tb_engines.specs.declared.outcome.Outcome.TheVariants.{Ended, Refused, ReadFault, WriteFault, NoMemory}
+use Rattle.tb_play.specs.Lines.{AreBytes}
+use Rattle.tb_play.specs.Talks.{gives_quiet, Plays}
+
+-- ---- the dialogue
+
+-- the start machine of a PRG file with nothing typed
+pub record IsStart (file : List ℕ) (m : Content) : Type 0 where
+  pub address : ℕ
+  pub bytes : List ℕ
+  pub content : content_of file ≡ Ok (address, bytes)
+  pub in_ram : IsOpenRange address (length bytes)
+  pub machine : m ≡ start address bytes [] []
+
+-- the start machine, or why there is none: it is what a run of the file comes to
+abbrev pub IsStarted : List ℕ → Result Content Stop → Type 0
+IsStarted file (Ok m) = IsStart file m
+IsStarted file (Err (StopRefused e)) = RunsPrg gives_quiet (record {}) [] [] 0 file (Err e)
+IsStarted file (Err StopNoMemory) = Unit {0}
+
+-- what playing a PRG file came to: its start machine was played, or nothing was done
+abbrev pub PlaysFile : ℕ → List ℕ → Outcome → List ℕ → Option (List ℕ) → Option (List ℕ) → ℕ → ℕ → Option (List ℕ) → Option (List ℕ) → Type 0
+PlaysFile limit file (Refused e) typed had left read read' old new =
+    RunsPrg gives_quiet (record {}) [] [] 0 file (Err e) × (left ≡ had) × Keeps old new
+PlaysFile limit file NoMemory typed had left read read' old new =
+    ((left ≡ had) × Keeps old new)
+    ⊎ ((m : Content) × IsStart file m × Plays limit m NoMemory typed had left read read' old new)
+PlaysFile limit file (Ended end) typed had left read read' old new =
+    (m : Content) × IsStart file m × Plays limit m (Ended end) typed had left read read' old new
+PlaysFile limit file ReadFault typed had left read read' old new =
+    (m : Content) × IsStart file m × Plays limit m ReadFault typed had left read read' old new
+PlaysFile limit file WriteFault typed had left read read' old new =
+    (m : Content) × IsStart file m × Plays limit m WriteFault typed had left read read' old new
+
+-- ---- one run on all that was typed
+
+-- what comes of a run of a PRG file from the start, on a keyboard text of bytes that is there from the start, at some limit
+abbrev pub RunsTyped : List ℕ → List ℕ → Product → Type 0
+RunsTyped file text product = AreBytes text × ((limit : ℕ) × RunsPrg gives_quiet (record {}) text [] limit file product)
+
+-- What was written, by how playing ended; `runs` says what comes of a keyboard text. All of the run's text on what was
+-- typed; at a fault, and at want of memory, that of a text that was typed up to there: at a write fault a prefix of it.
+abbrev pub Shows : (List ℕ → Product → Type 0) → Outcome → List ℕ → Option (List ℕ) → Option (List ℕ) → Type 0
+Shows runs (Ended end) typed old new = (text : List ℕ) × runs typed (Ok (text, end)) × Appends old new text
+Shows runs (Refused e) typed old new = runs [] (Err e) × Keeps old new
+Shows runs ReadFault typed old new =
+    (so_far : List ℕ) × (text : List ℕ) × runs so_far (Ok (text, WaitsForKey)) × Appends old new text
+Shows runs WriteFault typed old new =
+    (so_far : List ℕ) × (text : List ℕ) × (end : End) × runs so_far (Ok (text, end)) × AppendsPrefix old new text
+Shows runs NoMemory typed old new =
+    Keeps old new ⊎ ((so_far : List ℕ) × (text : List ℕ) × (end : End) × runs so_far (Ok (text, end)) × Appends old new text)
+
+-- ---- faults
+
+-- a fault comes only where a stream failed, or more was read than is handed over; at every other outcome none failed
+abbrev pub PlayFaults : Outcome → ℕ → ℕ → ℕ → ℕ → Type 0
+PlayFaults ReadFault read read' wrote wrote' = wrote' ≡ wrote
+PlayFaults WriteFault read read' wrote wrote' = (read' ≡ read) × (wrote' ≢ wrote)
+PlayFaults (Ended end) read read' wrote wrote' = (read' ≡ read) × (wrote' ≡ wrote)
+PlayFaults (Refused e) read read' wrote wrote' = (read' ≡ read) × (wrote' ≡ wrote)
+PlayFaults NoMemory read read' wrote wrote' = (read' ≡ read) × (wrote' ≡ wrote)

@@ -1,0 +1,54 @@
+//! Playing a PRG file.
+ghost use Rattle.std.specs.Prelude.{◌≡◌, ◌≤◌, [], vec_len};
+ghost use Rattle.tb_streams.specs.Failures.{failures_of};
+ghost use Rattle.tb_play.specs.Plays.{IsStarted, PlaysFile, PlayFaults, RunsTyped, Shows};
+
+use crate::talk::{Played, play};
+use std::alloc::Global;
+use std::io::{Read, Write};
+use tb_engines::{Refusal, Stop, deliver, start_machine};
+use tb_kernal::{Keyboard, Machine};
+use tb_streams::Tracked;
+
+// The machine at the start of a PRG file, with nothing typed.
+fn start(alloc: Global, file: &[u8]) -> Result<Machine, Stop>
+    ensures { IsStarted file.now result }
+{
+    let keyboard = Keyboard {
+        text: Vec::new(alloc),
+        answers: Vec::new(alloc),
+    };
+    match tb_prg::read(file) {
+        Ok(program) => start_machine(alloc, program, keyboard),
+        Err(error) => Err(Stop::Refused(Refusal::Prg(error))),
+    }
+}
+
+/// Plays a PRG file: its machine starts as `run_prg` starts it, beside a quiet ROM, and is played by `play`.
+///
+/// What was written is the host form of what that machine sends in one run whose keyboard text is all that was typed:
+/// so `run_prg` on that text, and a limit that is large enough, writes the same.
+pub fn play_file<R: Read, W: Write>(
+    alloc: Global,
+    file: &[u8],
+    keys: &mut Tracked<R>,
+    writer: &mut Tracked<W>,
+    limit: u64,
+) -> Played
+    ensures dialogue { PlaysFile limit file.now result.outcome result.typed.items
+        (R.remaining keys.old.stream) (R.remaining keys.new.stream) (failures_of keys.old) (failures_of keys.new)
+        (W.contents writer.old.stream) (W.contents writer.new.stream) }
+    ensures whole { Shows (RunsTyped file.now) result.outcome result.typed.items
+        (W.contents writer.old.stream) (W.contents writer.new.stream) }
+    ensures within { vec_len result.typed ≤ 1048576 }
+    ensures faults { PlayFaults result.outcome (failures_of keys.old) (failures_of keys.new)
+        (failures_of writer.old) (failures_of writer.new) }
+{
+    match start(alloc, file) {
+        Ok(mut machine) => play(alloc, &mut machine, keys, writer, limit),
+        Err(stop) => Played {
+            outcome: deliver(writer, Err(stop)),
+            typed: Vec::new(alloc),
+        },
+    }
+}

@@ -1,0 +1,141 @@
+//! A machine that is talked to.
+ghost use Rattle.std.specs.Prelude.{◌≡◌, ◌≤◌, [], drop, length, vec_len};
+ghost use Rattle.tb_streams.specs.Failures.{failures_of};
+ghost use Rattle.tb_play.specs.Talks.{is_waiting, GoesOn, Hears, Plays};
+ghost use Rattle.tb_play.specs.Plays.{PlayFaults};
+
+use crate::lines::{MOST_TYPED, read_keys};
+use std::alloc::Global;
+use std::io::{Read, Write};
+use tb_engines::{End, Outcome, end_of, without_input};
+use tb_kernal::{Machine, Quiet, Status, run};
+use tb_streams::{Tracked, host_form, write_output};
+
+/// How playing ended, and all that was typed.
+#[derive(Debug, Drop)]
+pub struct Played {
+    pub outcome: Outcome,
+    /// The bytes that were handed to the keyboard, in order.
+    pub typed: Vec<u8>,
+}
+
+fn is_waiting(status: Status) -> bool
+    ensures { result ≡ is_waiting status }
+{
+    matches!(status, Status::Waits)
+}
+
+// What a machine sent behind the first bytes.
+fn sent_behind(machine: &Machine, written: usize) -> &[u8]
+    requires { written ≤ length machine.now.sent }
+    ensures { result.now ≡ drop written machine.now.sent }
+{
+    &machine.sent()[written..]
+}
+
+// Runs a machine for at most `limit` events, and writes what it sent meanwhile.
+fn go_on<W: Write>(
+    alloc: Global,
+    machine: &mut Machine,
+    writer: &mut Tracked<W>,
+    limit: u64,
+) -> Result<Status, Outcome>
+    ensures { GoesOn limit machine.old result machine.new (failures_of writer.old) (failures_of writer.new)
+        (W.contents writer.old.stream) (W.contents writer.new.stream) }
+{
+    let written = machine.sent().len();
+    let Ok(status) = run(machine, &mut Quiet, limit) else {
+        return Err(Outcome::NoMemory);
+    };
+    let Ok(text) = host_form(alloc, sent_behind(machine, written)) else {
+        return Err(Outcome::NoMemory);
+    };
+    match write_output(writer, text.as_slice()) {
+        Ok(()) => Ok(status),
+        Err(_) => Err(Outcome::WriteFault),
+    }
+}
+
+// Reads a line and types it: whether there was one.
+fn hear<R: Read>(
+    alloc: Global,
+    machine: &mut Machine,
+    keys: &mut Tracked<R>,
+    typed: &mut Vec<u8>,
+) -> Result<bool, Outcome>
+    requires { vec_len typed.old ≤ 1048576 }
+    ensures { Hears machine.old typed.old.items result machine.new typed.new.items
+        (R.remaining keys.old.stream) (R.remaining keys.new.stream)
+        (failures_of keys.old) (failures_of keys.new) }
+{
+    let line = match read_keys(alloc, keys, MOST_TYPED - typed.len()) {
+        Ok(Some(line)) => line,
+        Ok(None) => return Ok(false),
+        Err(error) => return Err(without_input(error)),
+    };
+    if machine.type_text(line.as_slice()).is_err() {
+        return Err(Outcome::NoMemory);
+    }
+    if typed.extend_from_slice(line.as_slice()).is_err() {
+        return Err(Outcome::NoMemory);
+    }
+    Ok(true)
+}
+
+// Runs and hears in turn, until the machine stops or nothing is left to be typed.
+fn talk<R: Read, W: Write>(
+    alloc: Global,
+    machine: &mut Machine,
+    keys: &mut Tracked<R>,
+    writer: &mut Tracked<W>,
+    limit: u64,
+    typed: &mut Vec<u8>,
+) -> Outcome
+    requires nothing_typed { typed.old.items ≡ [] }
+    requires nothing_sent { machine.old.sent ≡ [] }
+    ensures dialogue { Plays limit machine.old result typed.new.items
+        (R.remaining keys.old.stream) (R.remaining keys.new.stream) (failures_of keys.old) (failures_of keys.new)
+        (W.contents writer.old.stream) (W.contents writer.new.stream) }
+    ensures within { vec_len typed.new ≤ 1048576 }
+    ensures faults { PlayFaults result (failures_of keys.old) (failures_of keys.new)
+        (failures_of writer.old) (failures_of writer.new) }
+{
+    'talking: while typed.len() <= MOST_TYPED {
+        let status = match go_on(alloc, machine, writer, limit) {
+            Ok(status) => status,
+            Err(outcome) => return outcome,
+        };
+        if !is_waiting(status) {
+            return Outcome::Ended(end_of(status, machine.regs().pc));
+        }
+        match hear(alloc, machine, keys, typed) {
+            Ok(true) => {}
+            Ok(false) => return Outcome::Ended(End::WaitsForKey),
+            Err(outcome) => return outcome,
+        }
+    }
+    unreachable!()
+}
+
+/// Plays a machine to which nothing is typed yet and which has sent nothing. It runs until it waits for a key, stops
+/// or takes `limit` events; what it sent since the last time is written in the host form, and flushed. Where it waits,
+/// a line is read and typed, its letters as capitals and a return behind it, and it runs on, until no line is left.
+pub fn play<R: Read, W: Write>(
+    alloc: Global,
+    machine: &mut Machine,
+    keys: &mut Tracked<R>,
+    writer: &mut Tracked<W>,
+    limit: u64,
+) -> Played
+    requires { machine.old.sent ≡ [] }
+    ensures dialogue { Plays limit machine.old result.outcome result.typed.items
+        (R.remaining keys.old.stream) (R.remaining keys.new.stream) (failures_of keys.old) (failures_of keys.new)
+        (W.contents writer.old.stream) (W.contents writer.new.stream) }
+    ensures within { vec_len result.typed ≤ 1048576 }
+    ensures faults { PlayFaults result.outcome (failures_of keys.old) (failures_of keys.new)
+        (failures_of writer.old) (failures_of writer.new) }
+{
+    let mut typed = Vec::new(alloc);
+    let outcome = talk(alloc, machine, keys, writer, limit, &mut typed);
+    Played { outcome, typed }
+}

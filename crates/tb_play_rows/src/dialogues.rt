@@ -1,0 +1,189 @@
+//! An echo, over readers and writers that fail, hand on few bytes at a time, and count.
+use std::alloc::Global;
+use std::io;
+use std::io::{Read, Write};
+use std::test::Fail;
+use tb_engines::Outcome;
+use tb_failing_streams::{FailingReader, FailingWriter};
+use tb_play::{Played, play_file};
+use tb_streams::Tracked;
+
+/// At `$C000`: sends a `?`, and then in turn takes a byte and sends it.
+const ECHO: [u8; 16] = [
+    0x00, 0xc0, 0xa9, 0x3f, 0x20, 0xd2, 0xff, 0x20, 0xcf, 0xff, 0x20, 0xd2, 0xff, 0x4c, 0x05, 0xc0,
+];
+
+/// At `$C000`: takes a byte, sends it, and returns.
+const ONE_BYTE: [u8; 9] = [0x00, 0xc0, 0x20, 0xcf, 0xff, 0x20, 0xd2, 0xff, 0x60];
+
+const LIMIT: u64 = 1_000_000_000;
+
+/// What is typed to the echo: letters, a 13 before the 10, an empty line, and a last line without its 10.
+const TYPED: &[u8] = b"ab\nC1z{\r\n\n\r\nx";
+
+/// What the echo shows of it.
+const SHOWN: &[u8] = b"?AB\nC1Z{7B}\n\n\nX\n";
+
+/// What was handed over.
+const HANDED: &[u8] = b"AB\rC1Z{\r\r\rX\r";
+
+fn plays<R: Read, W: Write>(
+    alloc: Global,
+    file: &[u8],
+    reader: &mut Tracked<R>,
+    writer: &mut Tracked<W>,
+) -> (u8, Vec<u8>) {
+    let Played { outcome, typed } = play_file(alloc, file, reader, writer, LIMIT);
+    (outcome.status(), typed)
+}
+
+// The status, and whether this was shown and that was handed over.
+fn echoes<R: Read + Drop>(alloc: Global, reader: R, shown: &[u8], handed: &[u8]) -> (u8, bool) {
+    let mut writer = Tracked::new(Vec::new(alloc));
+    let (status, typed) = plays(alloc, &ECHO, &mut Tracked::new(reader), &mut writer);
+    (
+        status,
+        writer.stream.as_slice() == shown && typed.as_slice() == handed,
+    )
+}
+
+#[test]
+fn lines_are_typed_however_few_bytes_come_at_once(rt: HostRuntime) -> Result<(), Fail> {
+    for most in 1..16 {
+        let reader = FailingReader {
+            rest: TYPED,
+            until_fault: usize::MAX,
+            most,
+        };
+        assert_eq!(rt; echoes(rt.alloc(), reader, SHOWN, HANDED), (6, true));
+    }
+    Ok(())
+}
+
+#[test]
+fn nothing_typed_is_a_wait(rt: HostRuntime) -> Result<(), Fail> {
+    assert_eq!(rt; echoes(rt.alloc(), b"".as_slice(), b"?", b""), (6, true));
+    Ok(())
+}
+
+#[test]
+fn only_the_lines_that_are_wanted_are_taken(rt: HostRuntime) -> Result<(), Fail> {
+    let mut reader = Tracked::new(b"q\nrest".as_slice());
+    let mut writer = Tracked::new(Vec::new(rt.alloc()));
+    let (status, typed) = plays(rt.alloc(), &ONE_BYTE, &mut reader, &mut writer);
+    assert_eq!(rt; status, 0);
+    assert_eq!(rt; typed.as_slice(), b"Q\r".as_slice());
+    assert_eq!(rt; writer.stream.as_slice(), b"Q".as_slice());
+    assert_eq!(rt; reader.stream, b"rest".as_slice());
+    Ok(())
+}
+
+// What was shown where the reader fails after so many bytes: all up to the wait, and nothing of the line.
+#[test]
+fn a_reader_that_fails(rt: HostRuntime) -> Result<(), Fail> {
+    for until_fault in 0..=TYPED.len() {
+        let reader = FailingReader {
+            rest: TYPED,
+            until_fault,
+            most: 3,
+        };
+        let mut writer = Tracked::new(Vec::new(rt.alloc()));
+        let (status, _) = plays(rt.alloc(), &ECHO, &mut Tracked::new(reader), &mut writer);
+        let lines = TYPED[..until_fault]
+            .iter()
+            .filter(|byte| **byte == b'\n')
+            .count();
+        let shown = writer.stream.iter().filter(|byte| **byte == b'\n').count();
+        assert_eq!(rt; (status, shown), (3, lines));
+        assert!(rt; SHOWN.starts_with(writer.stream.as_slice()));
+    }
+    Ok(())
+}
+
+#[test]
+fn a_writer_that_fails(rt: HostRuntime) -> Result<(), Fail> {
+    for until_fault in 0..SHOWN.len() {
+        let writer = FailingWriter {
+            taken: Vec::new(rt.alloc()),
+            until_fault,
+            most: 3,
+        };
+        let mut writer = Tracked::new(writer);
+        let (status, _) = plays(rt.alloc(), &ECHO, &mut Tracked::new(TYPED), &mut writer);
+        assert_eq!(rt; status, 3);
+        assert_eq!(rt; writer.stream.taken.as_slice(), &SHOWN[..until_fault]);
+    }
+    Ok(())
+}
+
+/// Notes how many bytes it had taken at each flush.
+#[derive(Drop)]
+struct CountingWriter {
+    taken: usize,
+    flushed_at: Vec<usize>,
+}
+
+impl Write for CountingWriter {
+    fn write(&mut self, buf: &[u8]) -> io::Result<usize> {
+        self.taken = self.taken.wrapping_add(buf.len());
+        Ok(buf.len())
+    }
+
+    fn flush(&mut self) -> io::Result<()> {
+        self.flushed_at.push(self.taken)?;
+        Ok(())
+    }
+}
+
+#[test]
+fn each_answer_is_flushed_once(rt: HostRuntime) -> Result<(), Fail> {
+    let mut writer = Tracked::new(CountingWriter {
+        taken: 0,
+        flushed_at: Vec::new(rt.alloc()),
+    });
+    let (status, _) = plays(rt.alloc(), &ECHO, &mut Tracked::new(TYPED), &mut writer);
+    assert_eq!(rt; status, 6);
+    assert_eq!(rt;
+        writer.stream.flushed_at.as_slice(),
+        [1, 4, 12, 13, 14, 16].as_slice()
+    );
+    Ok(())
+}
+
+// The status where a line of so many bytes is typed, with its end.
+fn status_of_line(alloc: Global, length: usize, end: &[u8]) -> Result<u8, Fail> {
+    let mut line = Vec::from_elem(alloc, b'A', length)?;
+    line.extend_from_slice(end)?;
+    let mut writer = Tracked::new(Vec::new(alloc));
+    let (status, _) = plays(
+        alloc,
+        &ONE_BYTE,
+        &mut Tracked::new(line.as_slice()),
+        &mut writer,
+    );
+    Ok(status)
+}
+
+#[test]
+fn long_lines(rt: HostRuntime) -> Result<(), Fail> {
+    for length in [255, 256] {
+        assert_eq!(rt; status_of_line(rt.alloc(), length, b"\n")?, 0);
+        assert_eq!(rt; status_of_line(rt.alloc(), length, b"\r\n")?, 0);
+    }
+    Ok(())
+}
+
+#[test]
+fn what_is_no_program_is_refused(rt: HostRuntime) -> Result<(), Fail> {
+    let mut reader = Tracked::new(TYPED);
+    let played = play_file(
+        rt.alloc(),
+        b"\x01",
+        &mut reader,
+        &mut Tracked::new(Vec::new(rt.alloc())),
+        LIMIT,
+    );
+    assert!(rt; matches!(played.outcome, Outcome::Refused(_)));
+    assert_eq!(rt; reader.stream, TYPED);
+    Ok(())
+}
