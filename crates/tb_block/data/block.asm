@@ -1,6 +1,6 @@
 ; The routine block: the machine code that every compiled program shares.
 ;
-; It lies at $080D, right behind the BASIC line "10 SYS2061", takes 937 bytes and is the same in every program.
+; It lies at $080D, right behind the BASIC line "10 SYS2061", takes 1006 bytes and is the same in every program.
 ; The program's own lines begin at $0C00 and call these routines.
 ;
 ; This text is the source of the bytes that tb_runtime16 holds. The program tb_block assembles it and compares;
@@ -92,7 +92,7 @@ SEND1:
 ;
 ; In:      LEFT, RIGHT.
 ; Out:     RESULT.
-; Stack:   0.  Time: 262.
+; Stack:   0.  Time: 245.
 ;
 ; A round for each bit of RIGHT from the lowest on, up to the last that is 1: the bit is shifted out, and where it
 ; is 1, LEFT is added to the sum, whose low byte is in A and whose high byte is RESULT's. LEFT doubles in each round.
@@ -121,28 +121,20 @@ MULTIPLY2:
         STA $C066
         RTS
 
-; ---- Divide: RESULT = LEFT / RIGHT, signed, truncated toward zero
+; ---- Divide: LEFT = LEFT / RIGHT, signed, truncated toward zero; RESULT = the remainder without its sign
 ;
 ; In:      LEFT, RIGHT.
-; Out:     RESULT. -32768 / -1 gives -32768: as a word it is its own negative, and all three negations keep it.
+; Out:     LEFT, RESULT. -32768 / -1 gives -32768: as a word it is its own negative, and all three negations keep it.
 ; Fault:   2 where RIGHT is 0.
-; Stack:   6.  Time: 316, and 6 up to the fault.
+; Stack:   4.  Time: 316, and 5 up to the fault.
 DIVIDE:
         LDA $C064               ; RIGHT
-        BNE DIVIDEGO
-        LDA $C065
-        BNE DIVIDEGO
+        ORA $C065
+        BNE DIVIDESIGNED
         LDA #$02
         JMP FAULT
-DIVIDEGO:
-        JSR DIVIDESIGNED
-        LDA $C062               ; RESULT = LEFT
-        STA $C066
-        LDA $C063
-        STA $C067
-        RTS
 
-; LEFT = LEFT / RIGHT, signed. A negative LEFT is negated before, and the quotient after: that is what follows.
+; A negative LEFT is negated before, and the quotient after: that is what follows.
 DIVIDESIGNED:
         LDA $C063               ; LEFT's sign
         BPL DIVIDEBY
@@ -153,7 +145,7 @@ DIVIDESIGNED:
 NEGATELEFT:
         LDX #$00
 
-; The word at LEFT + X is negated: X is 0 for LEFT, 2 for RIGHT.
+; The word at LEFT + X is negated: X is 0 for LEFT, 2 for RIGHT, 4 for RESULT.
 NEGATE:
         SEC
         LDA #$00
@@ -175,18 +167,48 @@ DIVIDEBY:
         JMP NEGATELEFT
 
 ; LEFT = LEFT / RIGHT, RESULT = the remainder, without signs, for RIGHT from 1 to 32768. RIGHT stands.
-; Divide, Random and Number divide by it. Stack: 0. Time: 261.
+; Divide and Random divide by it. Stack: 0. Time: 268.
 ;
-; Sixteen rounds, counted in Y, since no service is called. Each moves the highest bit of LEFT into the lowest of
+; Where RIGHT is below 128 and LEFT's high byte below RIGHT, the quotient fits a byte: then that high byte is the
+; remainder of the first eight rounds, and stays in A, with eight rounds left on LEFT's low byte. A is below RIGHT at
+; the head of a round, so it fits a byte when it is doubled and takes a bit more. X counts the rounds.
+UNSIGNED:
+        LDA $C065               ; RIGHT
+        BNE WIDE
+        LDA $C064
+        BMI WIDE
+        LDA $C063               ; LEFT
+        CMP $C064
+        BCS WIDE
+        LDX #$00
+        STX $C063
+        STX $C067               ; RESULT
+        LDX #$08
+NARROW:
+        ASL $C062               ; LEFT, its highest bit into A
+        ROL A
+        CMP $C064               ; RIGHT
+        BCC NARROWLESS
+        SBC $C064
+        INC $C062
+NARROWLESS:
+        DEX
+        BNE NARROW
+        STA $C066
+        RTS
+
+; The same by sixteen rounds, whatever the words. Time: 261.
+;
+; The rounds are counted in Y, since no service is called. Each moves the highest bit of LEFT into the lowest of
 ; RESULT, and where RIGHT goes into RESULT, takes it off and sets the lowest bit of LEFT, which the shift made 0.
 ; So the quotient comes into LEFT from below while the dividend leaves it above. RESULT is below RIGHT at the head
 ; of a round, so it fits a word when it is doubled and takes a bit more.
-UNSIGNED:
+WIDE:
         LDA #$00
         STA $C066               ; RESULT = 0
         STA $C067
         LDY #$10
-UNSIGNEDNEXT:
+WIDENEXT:
         ASL $C062               ; LEFT
         ROL $C063
         ROL $C066               ; RESULT
@@ -197,13 +219,13 @@ UNSIGNEDNEXT:
         TAX
         LDA $C067
         SBC $C065
-        BCC UNSIGNEDLESS
+        BCC WIDELESS
         STX $C066
         STA $C067
         INC $C062               ; LEFT
-UNSIGNEDLESS:
+WIDELESS:
         DEY
-        BNE UNSIGNEDNEXT
+        BNE WIDENEXT
         RTS
 
 ; ---- Random: RESULT = the next RND state modulo LEFT
@@ -212,7 +234,7 @@ UNSIGNEDLESS:
 ; Out:     RESULT: 0 to LEFT - 1.
 ; Changes: SEED: 25173 times the state before, plus 13849, modulo 65,536; SEEDED: 1; SCRATCH.
 ; Fault:   3 where LEFT is below 1.
-; Stack:   4.  Time: 562, and 7 up to the fault.
+; Stack:   4.  Time: 549, and 7 up to the fault.
 ;
 ; The bound waits on the stack while Multiply has LEFT and RIGHT. The state is read without a sign, as Unsigned
 ; does, and the remainder that Unsigned leaves in RESULT is the answer.
@@ -262,12 +284,13 @@ RANDOMFIRST:
 ; ---- Number: sends a signed word in decimal, as short as can be
 ;
 ; In:      LEFT.
-; Changes: RIGHT, RESULT, COLUMN.
-; Stack:   7.  Time: 1440.
+; Changes: RIGHT, COLUMN.
+; Stack:   2.  Time: 458.
 ;
-; A negative word sends its sign and is negated. Then it is divided by 10 until nothing is left: the remainders
-; are the digits, the last one first, so they wait on the stack, over a 0 that says where they end. There they
-; stand above the stack pointer, where no interrupt writes.
+; A negative word sends its sign and is negated. Then 10,000, 1,000, 100 and 10 are taken from LEFT, each as often as
+; it goes in, and what is left is the last digit. X counts the powers, and begins at 100 where LEFT is below 256. Y
+; counts how often one went in, from RIGHT on, which is 0 as long as no digit was sent, and then the text of the digit
+; 0: so where Y is 0 a digit is left out. X waits in RIGHT + 1 while a digit is sent.
 NUMBER:
         LDA $C063               ; LEFT's sign
         BPL NUMBERPLAIN
@@ -275,28 +298,45 @@ NUMBER:
         JSR SEND
         JSR NEGATELEFT
 NUMBERPLAIN:
-        LDA #$0A                ; RIGHT = 10
-        STA $C064
         LDA #$00
-        STA $C065
-        PHA                     ; behind the last digit
-NUMBERNEXT:
-        JSR UNSIGNED
-        LDA $C066               ; RESULT: a digit
-        CLC
-        ADC #$30
-        PHA
-        LDA $C062               ; LEFT: what is left of the word
-        BNE NUMBERNEXT
+        STA $C064               ; RIGHT: no digit was sent
+        LDX #$03
         LDA $C063
         BNE NUMBERNEXT
-NUMBERSEND:
-        PLA
-        BEQ NUMBEREND
+        LDX #$01
+NUMBERNEXT:
+        LDY $C064
+NUMBERTAKE:
+        LDA $C062               ; LEFT - the power: C clear where LEFT is below
+        CMP POWERSLOW,X
+        LDA $C063
+        SBC POWERSHIGH,X
+        BCC NUMBERDIGIT
+        STA $C063               ; LEFT = LEFT - the power
+        LDA $C062
+        SBC POWERSLOW,X
+        STA $C062
+        INY
+        BNE NUMBERTAKE          ; always
+NUMBERDIGIT:
+        TYA
+        BEQ NUMBERSKIP
+        ORA #$30
+        LDY #$30
+        STY $C064               ; RIGHT: a digit was sent
+        STX $C065
         JSR SEND
-        JMP NUMBERSEND
-NUMBEREND:
-        RTS
+        LDX $C065
+NUMBERSKIP:
+        DEX
+        BPL NUMBERNEXT
+        LDA $C062               ; LEFT: the last digit
+        ORA #$30
+        JMP SEND
+POWERSLOW:
+        .byte $0A,$64,$E8,$10   ; 10, 100, 1000, 10000
+POWERSHIGH:
+        .byte $00,$00,$03,$27
 
 ; ---- Text: sends bytes of the program
 ;
@@ -340,7 +380,7 @@ ZONE:
 ;          SCRATCH + 1: the sign's byte, or 0.
 ; Fault:   6 at a byte that is not the number's next.
 ; Waits:   in CHRIN where the keyboard's text ends.
-; Stack:   2.  Time: 45 for each byte of the keyboard's text, and 1569 (with the fault).
+; Stack:   2.  Time: 45 for each byte of the keyboard's text, and 587 (with the fault).
 ;
 ; Where no line is open, "? " is sent and a line is open. Spaces are passed over, before, inside and behind the
 ; number. It ends at a comma, which leaves the line open for the next turn, or at a 13, which is sent and closes
@@ -424,13 +464,8 @@ DONE:
         LDA $C06F               ; SCRATCH + 1
         CMP #$2D
         BNE DONE1
-        SEC
-        LDA #$00                ; RESULT = -RESULT
-        SBC $C066
-        STA $C066
-        LDA #$00
-        SBC $C067
-        STA $C067
+        LDX #$04                ; RESULT = -RESULT
+        JSR NEGATE
 DONE1:
         LDA $C06D               ; BYTE
         CMP #$2C
@@ -598,10 +633,15 @@ POP_NONE:
 ; ---- Fault: ends the program with the text of a fault: 13, !k AT n, 13
 ;
 ; In:      A: the fault's number k, 0 to 7. LINE: n. HOME_S.
-; Stack:   9 below the start's.  Time: 1522.
+; Stack:   4 below the start's.  Time: 540, and 542 from FAULTLINE on.
+;
+; FAULTLINE takes n in X (low byte) and Y, and puts it into LINE.
 ;
 ; Goes back to where SYS came from, from any depth: S is set to what it was at the start, and the last CHROUT
 ; returns there. Nothing is called that could fault.
+FAULTLINE:
+        STX $C03A               ; LINE = n
+        STY $C03B
 FAULT:
         CLC
         ADC #$30
@@ -633,7 +673,7 @@ FAULT:
 ; ---- Poll: one look at the keyboard
 ;
 ; Fault:   0 where the STOP key is down, that is where GETIN gives 3; any other answer is lost.
-; Stack:   2.  Time: 5, and 1528 with the fault.
+; Stack:   2.  Time: 5, and 546 with the fault.
 POLL:
         JSR $FFE4               ; GETIN
         CMP #$03

@@ -35,7 +35,7 @@ enum Difference {
 }
 
 // Where each part of the block begins, by its label.
-fn parts() -> [(&'static str, u16); 14] {
+fn parts() -> [(&'static str, u16); 15] {
     [
         ("PROLOGUE", BLOCK_AT),
         ("SEND", SEND_AT),
@@ -49,6 +49,7 @@ fn parts() -> [(&'static str, u16); 14] {
         ("SEARCH", entry(Routine::Search)),
         ("PUSH", entry(Routine::Push)),
         ("POP", entry(Routine::Pop)),
+        ("FAULTLINE", entry(Routine::FaultLine)),
         ("FAULT", entry(Routine::Fault)),
         ("POLL", entry(Routine::Poll)),
     ]

@@ -19,13 +19,21 @@ fn multiplies(alloc: Global, pair: Pair, product: u16) -> Result<bool, Fail> {
     Ok(on_two(alloc, Routine::Multiply, pair)?.gives(product)?)
 }
 
-// Whether Divide gives a quotient, or is fault 2 where there is none.
-fn divides(alloc: Global, pair: Pair, quotient: Option<i16>) -> Result<bool, Fail> {
+// Whether Divide gives a quotient, and the size of the remainder, or is fault 2 where there is none.
+fn divides(alloc: Global, pair: Pair, parts: Option<(i16, i16)>) -> Result<bool, Fail> {
     let called = on_two(alloc, Routine::Divide, pair)?;
-    match quotient {
-        Some(quotient) => Ok(called.gives(quotient.cast_unsigned())?),
+    match parts {
+        Some((quotient, rest)) => Ok(
+            called.gives(rest.unsigned_abs())? && called.word(LEFT)? == quotient.cast_unsigned(),
+        ),
         None => called.faults(alloc, b"", 2),
     }
+}
+
+// Whether Divide does what the function of words does.
+fn divides_as_words(alloc: Global, pair: Pair) -> Result<bool, Fail> {
+    let parts = div_rem(pair.left.cast_signed(), pair.right.cast_signed());
+    divides(alloc, pair, parts)
 }
 
 #[test]
@@ -54,12 +62,35 @@ fn divide_is_the_quotient(rt: HostRuntime) -> Result<(), Fail> {
             left: 32768,
             right: 65535,
         };
-        assert!(rt; divides(rt.alloc(), pair, Some(-32768))?);
+        assert!(rt; divides(rt.alloc(), pair, Some((-32768, 0)))?);
+        let pair = Pair {
+            rom,
+            left: 65429,
+            right: 10,
+        };
+        assert!(rt; divides(rt.alloc(), pair, Some((-10, -7)))?);
     }
     for pair in pairs(rt.alloc())? {
-        let division = div_rem(pair.left.cast_signed(), pair.right.cast_signed());
-        let holds = divides(rt.alloc(), pair, division.map(|parts| parts.0))?;
+        let holds = divides_as_words(rt.alloc(), pair)?;
         assert!(rt; holds, "{} / {}", pair.left, pair.right);
+    }
+    Ok(())
+}
+
+// Divisors about the largest that eight rounds do, over dividends about the largest whose quotient is a byte.
+#[test]
+fn divide_takes_each_way(rt: HostRuntime) -> Result<(), Fail> {
+    for right in [1_u8, 2, 10, 126, 127, 128, 129, 255] {
+        let edge = u16::from_be_bytes([right, 0]);
+        for left in [0, edge.wrapping_sub(1), edge, edge.wrapping_add(1)] {
+            let pair = Pair {
+                rom: None,
+                left,
+                right: right.into(),
+            };
+            let holds = divides_as_words(rt.alloc(), pair)?;
+            assert!(rt; holds, "{left} / {right}");
+        }
     }
     Ok(())
 }

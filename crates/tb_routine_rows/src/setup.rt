@@ -30,6 +30,8 @@ pub const ROMS: [Option<u16>; 2] = [None, Some(1)];
 pub struct Call<'a> {
     pub routine: Routine,
     pub a: u8,
+    pub x: u8,
+    pub y: u8,
     /// Words that stand in data places.
     pub words: &'a [(u16, u16)],
     /// Bytes that stand in data places.
@@ -46,6 +48,8 @@ pub fn plain(routine: Routine) -> Call<'static> {
     Call {
         routine,
         a: NOISE,
+        x: NOISE,
+        y: NOISE,
         words: &[],
         bytes: &[],
         loaded: &[],
@@ -96,6 +100,8 @@ impl Call<'_> {
         };
         let regs = Regs {
             a: self.a,
+            x: self.x,
+            y: self.y,
             ..noisy_regs(CALLER, 0xf0, false)
         };
         Ok(

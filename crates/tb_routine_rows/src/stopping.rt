@@ -28,6 +28,31 @@ fn faults_have_their_texts(rt: HostRuntime) -> Result<(), Fail> {
     Ok(())
 }
 
+// Whether Fault, entered with a line's number in X and Y, sends the text of a fault at that line, and ends.
+fn faults_at(alloc: Global, rom: Option<u16>, a: u8, line: u16) -> Result<bool, Fail> {
+    let [x, y] = line.to_le_bytes();
+    let called = Call {
+        a,
+        x,
+        y,
+        ..plain(Routine::FaultLine)
+    }
+    .run(alloc, rom)?;
+    Ok(called.faults(alloc, b"", a)? && called.word(LINE)? == line)
+}
+
+#[test]
+fn faults_may_name_their_line(rt: HostRuntime) -> Result<(), Fail> {
+    for rom in ROMS {
+        for a in 0..=7 {
+            for line in [1, 10, 255, 256, 1000, 32767] {
+                assert!(rt; faults_at(rt.alloc(), rom, a, line)?, "{a} at {line}");
+            }
+        }
+    }
+    Ok(())
+}
+
 // Whether Poll takes the first answer, if there is one, and only 3 is fault 0.
 fn polls(alloc: Global, rom: Option<u16>, answers: &[u8]) -> Result<bool, Fail> {
     let called = Call {

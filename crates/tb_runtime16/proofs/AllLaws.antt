@@ -1,15 +1,15 @@
 -- The laws of all routines in one form, from the block's bytes.
-use Rattle.std.proofs.Common.{◌≡◌, ◌≢◌, ℕ, suc, ◌+◌, ◌*◌, ◌%◌, ◌<◌, ◌≤◌, Bool, true, false, ◌||◌, List, [], ◌∷◌, ◌++◌, length, refl, sym, ap, ◌∙◌, subst, ⊎_elim, inl, inr, ◌⊎◌, arith, drop, append-nil}
+use Rattle.std.proofs.Common.{◌≡◌, ◌≢◌, ℕ, suc, ◌+◌, ◌*◌, ◌/◌, ◌%◌, ◌<◌, ◌≤◌, Bool, true, false, ◌||◌, List, [], ◌∷◌, ◌++◌, length, refl, sym, ap, ◌∙◌, subst, ⊎_elim, inl, inr, ◌⊎◌, arith, drop, append-nil}
 use Rattle.std.specs.Prelude.{nat_eq, nat_le, ◌==◌, if◌then◌else◌}
 use Rattle.std.proofs.lemmas.Bool.{eq-eqb, cases_eq, or_cases, eqb-true, leb-true}
 use Rattle.std.proofs.lemmas.Bool.Decides.{nat_tests}
 use Rattle.tb_cpu.specs.Operands.{word_in}
 use Rattle.tb_cpu.specs.Effects.{bit}
 use Rattle.tb_kernal.specs.Machine.{first_or_zero}
-use Rattle.tb_words.specs.Words.{word, quotient, digits_of, seed_after}
+use Rattle.tb_words.specs.Words.{word, magnitude, quotient, digits_of, seed_after}
 use Rattle.tb_lower.specs.Control.{fault_text, zone, column_after, has_line}
 use Rattle.tb_lower.specs.Input.{Got, Bad, Dry, Nothing, turn}
-use Rattle.tb_runtime16.specs.Places.{POINTER, COLUMN, OPEN, SEEDED, HOME_S, SEED, LINE, NOTES, LEFT, RIGHT, RESULT, TABLE, COUNT, LENGTH, NOTE_LIST, SEND_AT, MULTIPLY_AT, DIVIDE_AT, RANDOM_AT, NUMBER_AT, TEXT_AT, ZONE_AT, INPUT_AT, SEARCH_AT, PUSH_AT, POP_AT, FAULT_AT, POLL_AT}
+use Rattle.tb_runtime16.specs.Places.{POINTER, COLUMN, OPEN, SEEDED, HOME_S, SEED, LINE, NOTES, LEFT, RIGHT, RESULT, TABLE, COUNT, LENGTH, NOTE_LIST, SEND_AT, MULTIPLY_AT, DIVIDE_AT, RANDOM_AT, NUMBER_AT, TEXT_AT, ZONE_AT, INPUT_AT, SEARCH_AT, PUSH_AT, POP_AT, FAULT_LINE_AT, FAULT_AT, POLL_AT}
 use Rattle.tb_reaching.specs.View.{View, Setup, Holds, Fits, Comes, view, back_at, Bytes}
 use Rattle.tb_reaching.specs.Start.{IsHome, IsWaiting}
 use Rattle.tb_reaching.proofs.Comes.{looser}
@@ -22,8 +22,8 @@ use Rattle.tb_runtime16.specs.Input.{prompt}
 use Rattle.tb_runtime16.specs.Notes.{Held, Notes, Faulted}
 use Rattle.tb_runtime16.specs.Notes as listed
 use Rattle.tb_runtime16.specs.Search.{search_changes, Shows, table_bytes, address_of, Searched, Found}
-use Rattle.tb_runtime16.specs.Routines.{WordAt, is_owned, Noted, SeedAt, stored, first, Entered, Here, WithA, Moves, Waiting, Back, Gives, Told, Popped, Pushed, Drawn, Asked, line_end, Tabled, entries, limit_by, AllLaws}
-use Rattle.tb_runtime16.proofs.Gathered.{value, small_bytes, holds_word, from_here, from_a, beside, AtFault, told, faulting, number_column, entries_length, found, not_found}
+use Rattle.tb_runtime16.specs.Routines.{WordAt, is_owned, Noted, SeedAt, stored, first, Entered, Here, WithA, WithLine, Moves, Waiting, Back, Gives, Parts, Told, Popped, Pushed, Drawn, Asked, line_end, Tabled, entries, limit_by, AllLaws}
+use Rattle.tb_runtime16.proofs.Gathered.{value, small_bytes, holds_word, from_here, from_a, from_line, beside, AtFault, told, faulting, number_column, entries_length, found, not_found}
 use Rattle.tb_runtime16.proofs.SendRuns.{send_law}
 use Rattle.tb_runtime16.proofs.TextRuns.{text_law}
 use Rattle.tb_runtime16.proofs.ZoneRuns.{zone_law}
@@ -34,6 +34,7 @@ use Rattle.tb_runtime16.proofs.RandomRuns.{random_law, random_range_law}
 use Rattle.tb_runtime16.proofs.InputRuns.{input_law}
 use Rattle.tb_runtime16.proofs.NotesRuns.{push_law, push_full_law, pop_law, pop_none_law}
 use Rattle.tb_runtime16.proofs.SearchRuns.{search_law}
+use Rattle.tb_runtime16.proofs.FaultRuns.{fault_line_law}
 use Rattle.tb_runtime16.proofs.PollRuns.{poll_law}
 
 -- ---- places: what is owned is none of a routine's own
@@ -114,7 +115,7 @@ module _ (table seed_option : ℕ) (numbers : List ℕ) (start : ℕ → ℕ) (f
       search_law (under f own) (omega (arith, fits)) block l h text answers m x y z b v i c d (entries start numbers) (small_bytes m LEFT n left) (small_bytes m TABLE table at) (small_bytes m COUNT _ count)
       (subst (λ p. Shows f.code p (table_bytes (entries start numbers))) (sym t) laid.shown) (omega (arith, t, laid.from)) (omega (arith, t, size, laid.to)) (omega (arith, s, size)) (omega (arith, size, laid.some)) laid.rising laid.words
 
-  asks : (l h : ℕ) (m : ℕ → ℕ) (text answers : List ℕ) (o : Bool) (j : ℕ) → m OPEN ≡ bit o → m COLUMN < 256 → AllBytes text → WordAt m LINE j → Entered f lo hi m → (x y z : ℕ) (n b i c d : Bool) → Comes f (view x y z n b i c d INPUT_AT (l ∷ h ∷ own) m text answers) (asking.Ended f l h own m answers (m COLUMN) (prompt o) (turn Nothing text)) (prompt o ++ asking.turn_sends (word_in m LINE) (turn Nothing text)) (45 * length text + 1569)
+  asks : (l h : ℕ) (m : ℕ → ℕ) (text answers : List ℕ) (o : Bool) (j : ℕ) → m OPEN ≡ bit o → m COLUMN < 256 → AllBytes text → WordAt m LINE j → Entered f lo hi m → (x y z : ℕ) (n b i c d : Bool) → Comes f (view x y z n b i c d INPUT_AT (l ∷ h ∷ own) m text answers) (asking.Ended f l h own m answers (m COLUMN) (prompt o) (turn Nothing text)) (prompt o ++ asking.turn_sends (word_in m LINE) (turn Nothing text)) (45 * length text + 587)
   asks l h m text answers o j is_open column small line e x y z n b i c d =
       input_law f 16 (let most : 13 ≤ 16 = omega arith in most) fits block lo hi [] (let deep : 6 ≤ 16 = omega arith in deep) l h text answers m (record { homed = e.homed; kept = e.kept; line = small_bytes m LINE j line }) small o is_open (m COLUMN) (let r : m COLUMN ≡ m COLUMN % 256 = omega (arith, column) in r) x y z n b i c d
 
@@ -128,7 +129,7 @@ module _ (table seed_option : ℕ) (numbers : List ℕ) (start : ℕ → ℕ) (f
       Moves f (Here MULTIPLY_AT (l ∷ h ∷ lo ∷ hi ∷ []) m text answers) (Gives (back_at l h) (lo ∷ hi ∷ []) m text answers (word (a * b))) [] (limit_by keys)
   multiply_clause l h m text answers a b left right =
       from_here f _ _ m text answers _ [] (limit_by keys) (λ x y z n v i c d.
-      beside f own _ _ _ [] 262 (limit_by keys) (omega arith)
+      beside f own _ _ _ [] 245 (limit_by keys) (omega arith)
       (multiply_law (under f own) (omega (arith, fits)) block l h text answers m x y z n v i c d (small_bytes m LEFT a left) (small_bytes m RIGHT b right))
       (λ u k. record {
         back = record { pc = k.pc; stack = ap (λ s. s ++ own) k.stack_is; binary = k.binary; text = k.same_text; answers = k.same_answers; others = λ p o. k.memory.others p (not_argument p o) };
@@ -136,7 +137,7 @@ module _ (table seed_option : ℕ) (numbers : List ℕ) (start : ℕ → ℕ) (f
       }))
 
   divide_clause : (l h : ℕ) (m : ℕ → ℕ) (text answers : List ℕ) (a b : ℕ) → WordAt m LEFT a → WordAt m RIGHT b → b ≢ 0 →
-      Moves f (Here DIVIDE_AT (l ∷ h ∷ lo ∷ hi ∷ []) m text answers) (Gives (back_at l h) (lo ∷ hi ∷ []) m text answers (quotient a b)) [] (limit_by keys)
+      Moves f (Here DIVIDE_AT (l ∷ h ∷ lo ∷ hi ∷ []) m text answers) (Parts (back_at l h) (lo ∷ hi ∷ []) m text answers (quotient a b) (magnitude a % magnitude b)) [] (limit_by keys)
   divide_clause l h m text answers a b left right some =
       from_here f _ _ m text answers _ [] (limit_by keys) (λ x y z n v i c d.
       beside f own _ _ _ [] 316 (limit_by keys) (omega arith)
@@ -144,14 +145,15 @@ module _ (table seed_option : ℕ) (numbers : List ℕ) (start : ℕ → ℕ) (f
       (let r = value m RIGHT b right in let p : 1 ≤ word_in m RIGHT = ⊎_elim (λ e. absurd (some e)) (λ e. omega arith) (zero_or b) in p))
       (λ u k. record {
         back = record { pc = k.pc; stack = ap (λ s. s ++ own) k.stack_is; binary = k.binary; text = k.same_text; answers = k.same_answers; others = λ p o. k.memory.others p (not_argument p o) };
-        result = holds_word u.mem RESULT (quotient a b) k.memory.is_word (k.memory.value ∙ ap (λ n. quotient n (word_in m RIGHT)) (value m LEFT a left) ∙ ap (λ n. quotient a n) (value m RIGHT b right));
+        left = holds_word u.mem LEFT (quotient a b) k.memory.left_is (k.memory.left ∙ ap (λ n. quotient n (word_in m RIGHT)) (value m LEFT a left) ∙ ap (λ n. quotient a n) (value m RIGHT b right));
+        rest = holds_word u.mem RESULT (magnitude a % magnitude b) k.memory.result_is (k.memory.result ∙ ap (λ n. magnitude n % magnitude (word_in m RIGHT)) (value m LEFT a left) ∙ ap (λ n. magnitude a % magnitude n) (value m RIGHT b right));
       }))
 
   divide_by_zero_clause : (l h : ℕ) (m : ℕ → ℕ) (text answers : List ℕ) (a n : ℕ) → WordAt m LEFT a → WordAt m RIGHT 0 → WordAt m LINE n → Entered f lo hi m →
       Moves f (Here DIVIDE_AT (l ∷ h ∷ lo ∷ hi ∷ []) m text answers) (IsHome f) (fault_text 2 n) (limit_by keys)
   divide_by_zero_clause l h m text answers a j left right line e =
       from_here f _ _ m text answers _ (fault_text 2 j) (limit_by keys) (λ x y z n v i c d.
-      faulting f lo hi fits block l h 2 (let s : 2 < 10 = omega arith in s) m text answers j line e _ _ 6 (limit_by keys) (omega arith)
+      faulting f lo hi fits block l h 2 (let s : 2 < 10 = omega arith in s) m text answers j line e _ _ 5 (limit_by keys) (omega arith)
       (divide_by_zero_law (under f own) (omega (arith, fits)) block l h text answers m x y z n v i c d (value m RIGHT 0 right))
       (λ u k. same_at_fault 2 l h m text answers u k))
 
@@ -160,7 +162,7 @@ module _ (table seed_option : ℕ) (numbers : List ℕ) (start : ℕ → ℕ) (f
   number_clause l h m text answers a left column =
       from_here f _ _ m text answers _ (digits_of a) (limit_by keys) (λ x y z n v i c d.
       subst (λ j. Comes f (view x y z n v i c d NUMBER_AT (l ∷ h ∷ own) m text answers) (Told (back_at l h) own m text answers (digits_of j)) (digits_of j) (limit_by keys)) (value m LEFT a left)
-      (beside f own _ _ _ (digits_of (word_in m LEFT)) 1440 (limit_by keys) (omega arith)
+      (beside f own _ _ _ (digits_of (word_in m LEFT)) 458 (limit_by keys) (omega arith)
       (number_law (under f own) (omega (arith, fits)) block l h text answers m x y z n v i c d (small_bytes m LEFT a left) column)
       (λ u k. record { pc = k.pc; stack = ap (λ s. s ++ own) k.stack_is; binary = k.binary; text = k.same_text; answers = k.same_answers; column = k.memory.column ∙ number_column (m COLUMN) (word_in m LEFT); others = λ p o q. k.memory.others p (not_argument p o) q })))
 
@@ -215,8 +217,16 @@ module _ (table seed_option : ℕ) (numbers : List ℕ) (start : ℕ → ℕ) (f
       Moves f (WithA FAULT_AT k (lo ∷ hi ∷ []) m text answers) (IsHome f) (fault_text k n) (limit_by keys)
   fault_clause k small m text answers n line e =
       from_a f _ k _ m text answers _ (fault_text k n) (limit_by keys) (λ y z b v i c d.
-      looser f _ _ _ (fault_text k n) 1522 (limit_by keys) (omega arith) (λ w h. h)
+      looser f _ _ _ (fault_text k n) 540 (limit_by keys) (omega arith) (λ w h. h)
       (told f lo hi [] (let s : 2 ≤ 14 = omega arith in s) fits block k small m text answers n line e y z b v i c d))
+
+  fault_line_clause : (k : ℕ) → k < 10 → (m : ℕ → ℕ) (text answers : List ℕ) (n : ℕ) → n < 65536 → Entered f lo hi m →
+      Moves f (WithLine FAULT_LINE_AT k n (lo ∷ hi ∷ []) m text answers) (IsHome f) (fault_text k n) (limit_by keys)
+  fault_line_clause k small m text answers n few e =
+      from_line f _ k n _ m text answers _ (fault_text k n) (limit_by keys) (λ b v i c d.
+      looser f _ _ _ (fault_text k n) 542 (limit_by keys) (omega arith) (λ w h. h)
+      (subst (λ j. Comes f (view k (n % 256) (n / 256) b v i c d FAULT_LINE_AT own m text answers) (IsHome f) (fault_text k j) 542) (let s : n % 256 + 256 * (n / 256) ≡ n = omega arith in s)
+      (fault_line_law f 16 (let most : 13 ≤ 16 = omega arith in most) fits block lo hi [] (let deep : 2 ≤ 16 = omega arith in deep) text answers m e.homed e.kept k (n % 256) (n / 256) b v i c d small (omega arith) (omega (arith, few)))))
 
   pop_clause : (l h : ℕ) (m : ℕ → ℕ) (text answers : List ℕ) (note : ℕ) (notes : List ℕ) → WordAt m NOTES (suc (length notes)) → Noted m (note ∷ notes) → suc (length notes) ≤ 500 →
       Moves f (Here POP_AT (l ∷ h ∷ lo ∷ hi ∷ []) m text answers) (Popped (back_at l h) (lo ∷ hi ∷ []) m text answers (length notes) note) [] (limit_by keys)
@@ -241,7 +251,7 @@ module _ (table seed_option : ℕ) (numbers : List ℕ) (start : ℕ → ℕ) (f
       let w = value m LEFT a left in
       let now = seed_at m seed_option seed right stored_at in
       from_here f _ _ m text answers _ [] (limit_by keys) (λ x y z n v i c d.
-      beside f own _ _ _ [] 562 (limit_by keys) (omega arith)
+      beside f own _ _ _ [] 549 (limit_by keys) (omega arith)
       (random_law (under f own) (omega (arith, fits)) block l h text answers m x y z n v i c d (small_bytes m LEFT a left) (small_bytes m RIGHT seed_option right) now.0 (omega (arith, w, g.0)) (omega (arith, w, g.1)))
       (λ u k. record {
         pc = k.pc;
@@ -284,27 +294,27 @@ module _ (table seed_option : ℕ) (numbers : List ℕ) (start : ℕ → ℕ) (f
       Moves f (Here INPUT_AT (l ∷ h ∷ lo ∷ hi ∷ []) m text answers) (Asked (back_at l h) (lo ∷ hi ∷ []) m left answers (prompt o ++ line_end stays) stays v) (prompt o ++ line_end stays) (limit_by keys)
   input_clause l h m text answers o stays v left j is_open column small few line e got =
       from_here f _ _ m text answers _ (prompt o ++ line_end stays) (limit_by keys) (λ x y z n b i c d.
-      looser f _ _ _ (prompt o ++ line_end stays) (45 * length text + 1569) (limit_by keys) (omega (arith, few)) (λ w k. taken l h m answers stays v left o w k)
-      (subst (λ s. Comes f (view x y z n b i c d INPUT_AT (l ∷ h ∷ own) m text answers) (asking.Ended f l h own m answers (m COLUMN) (prompt o) (Got v stays left)) s (45 * length text + 1569)) (ends_with o stays v left (word_in m LINE))
-      (subst (λ t. Comes f (view x y z n b i c d INPUT_AT (l ∷ h ∷ own) m text answers) (asking.Ended f l h own m answers (m COLUMN) (prompt o) t) (prompt o ++ asking.turn_sends (word_in m LINE) t) (45 * length text + 1569)) got
+      looser f _ _ _ (prompt o ++ line_end stays) (45 * length text + 587) (limit_by keys) (omega (arith, few)) (λ w k. taken l h m answers stays v left o w k)
+      (subst (λ s. Comes f (view x y z n b i c d INPUT_AT (l ∷ h ∷ own) m text answers) (asking.Ended f l h own m answers (m COLUMN) (prompt o) (Got v stays left)) s (45 * length text + 587)) (ends_with o stays v left (word_in m LINE))
+      (subst (λ t. Comes f (view x y z n b i c d INPUT_AT (l ∷ h ∷ own) m text answers) (asking.Ended f l h own m answers (m COLUMN) (prompt o) t) (prompt o ++ asking.turn_sends (word_in m LINE) t) (45 * length text + 587)) got
       (asks l h m text answers o j is_open column small line e x y z n b i c d))))
 
   input_fails_clause : (l h : ℕ) (m : ℕ → ℕ) (text answers : List ℕ) (o : Bool) (n : ℕ) → m OPEN ≡ bit o → m COLUMN < 256 → AllBytes text → length text ≤ keys → turn Nothing text ≡ Bad → WordAt m LINE n → Entered f lo hi m →
       Moves f (Here INPUT_AT (l ∷ h ∷ lo ∷ hi ∷ []) m text answers) (IsHome f) (prompt o ++ fault_text 6 n) (limit_by keys)
   input_fails_clause l h m text answers o j is_open column small few got line e =
       from_here f _ _ m text answers _ (prompt o ++ fault_text 6 j) (limit_by keys) (λ x y z n b i c d.
-      looser f _ _ _ (prompt o ++ fault_text 6 j) (45 * length text + 1569) (limit_by keys) (omega (arith, few)) (λ w k. k)
-      (subst (λ s. Comes f (view x y z n b i c d INPUT_AT (l ∷ h ∷ own) m text answers) (IsHome f) s (45 * length text + 1569)) (ap (λ n. prompt o ++ fault_text 6 n) (value m LINE j line))
-      (subst (λ t. Comes f (view x y z n b i c d INPUT_AT (l ∷ h ∷ own) m text answers) (asking.Ended f l h own m answers (m COLUMN) (prompt o) t) (prompt o ++ asking.turn_sends (word_in m LINE) t) (45 * length text + 1569)) got
+      looser f _ _ _ (prompt o ++ fault_text 6 j) (45 * length text + 587) (limit_by keys) (omega (arith, few)) (λ w k. k)
+      (subst (λ s. Comes f (view x y z n b i c d INPUT_AT (l ∷ h ∷ own) m text answers) (IsHome f) s (45 * length text + 587)) (ap (λ n. prompt o ++ fault_text 6 n) (value m LINE j line))
+      (subst (λ t. Comes f (view x y z n b i c d INPUT_AT (l ∷ h ∷ own) m text answers) (asking.Ended f l h own m answers (m COLUMN) (prompt o) t) (prompt o ++ asking.turn_sends (word_in m LINE) t) (45 * length text + 587)) got
       (asks l h m text answers o j is_open column small line e x y z n b i c d))))
 
   input_waits_clause : (l h : ℕ) (m : ℕ → ℕ) (text answers : List ℕ) (o : Bool) (n : ℕ) → m OPEN ≡ bit o → m COLUMN < 256 → AllBytes text → length text ≤ keys → turn Nothing text ≡ Dry → WordAt m LINE n → Entered f lo hi m →
       Moves f (Here INPUT_AT (l ∷ h ∷ lo ∷ hi ∷ []) m text answers) Waiting (prompt o) (limit_by keys)
   input_waits_clause l h m text answers o j is_open column small few got line e =
       from_here f _ _ m text answers _ (prompt o) (limit_by keys) (λ x y z n b i c d.
-      looser f _ _ _ (prompt o) (45 * length text + 1569) (limit_by keys) (omega (arith, few)) (λ w k. record { waits = k.0; deep = omega (arith, k.1) })
-      (subst (λ s. Comes f (view x y z n b i c d INPUT_AT (l ∷ h ∷ own) m text answers) (λ w. IsWaiting w × (length w.stack ≤ 6)) s (45 * length text + 1569)) (append-nil (prompt o))
-      (subst (λ t. Comes f (view x y z n b i c d INPUT_AT (l ∷ h ∷ own) m text answers) (asking.Ended f l h own m answers (m COLUMN) (prompt o) t) (prompt o ++ asking.turn_sends (word_in m LINE) t) (45 * length text + 1569)) got
+      looser f _ _ _ (prompt o) (45 * length text + 587) (limit_by keys) (omega (arith, few)) (λ w k. record { waits = k.0; deep = omega (arith, k.1) })
+      (subst (λ s. Comes f (view x y z n b i c d INPUT_AT (l ∷ h ∷ own) m text answers) (λ w. IsWaiting w × (length w.stack ≤ 6)) s (45 * length text + 587)) (append-nil (prompt o))
+      (subst (λ t. Comes f (view x y z n b i c d INPUT_AT (l ∷ h ∷ own) m text answers) (asking.Ended f l h own m answers (m COLUMN) (prompt o) t) (prompt o ++ asking.turn_sends (word_in m LINE) t) (45 * length text + 587)) got
       (asks l h m text answers o j is_open column small line e x y z n b i c d))))
 
   poll_clause : (l h : ℕ) (m : ℕ → ℕ) (text answers : List ℕ) (n : ℕ) → AllBytes answers → nat_eq (first_or_zero answers) 3 ≡ false → WordAt m LINE n → Entered f lo hi m →
@@ -319,8 +329,8 @@ module _ (table seed_option : ℕ) (numbers : List ℕ) (start : ℕ → ℕ) (f
       Moves f (Here POLL_AT (l ∷ h ∷ lo ∷ hi ∷ []) m text answers) (IsHome f) (fault_text 0 n) (limit_by keys)
   poll_breaks_clause l h m text answers j small stop line e =
       from_here f _ _ m text answers _ (fault_text 0 j) (limit_by keys) (λ x y z n v i c d.
-      looser f _ _ _ (fault_text 0 j) 1528 (limit_by keys) (omega arith) (λ w k. k)
-      (subst (λ s. Comes f (view x y z n v i c d POLL_AT (l ∷ h ∷ own) m text answers) (IsHome f) (fault_text 0 s) 1528) (value m LINE j line)
+      looser f _ _ _ (fault_text 0 j) 546 (limit_by keys) (omega arith) (λ w k. k)
+      (subst (λ s. Comes f (view x y z n v i c d POLL_AT (l ∷ h ∷ own) m text answers) (IsHome f) (fault_text 0 s) 546) (value m LINE j line)
       ((poll_law f 16 (let most : 13 ≤ 16 = omega arith in most) fits block lo hi [] (let deep : 6 ≤ 16 = omega arith in deep) l h text answers m (record { homed = e.homed; kept = e.kept; line = small_bytes m LINE j line }) (first_small answers small) x y z n v i c d).1
       (eqb-true (first_or_zero answers) 3 stop))))
 
@@ -336,6 +346,7 @@ all_laws table seed_option numbers start f lo hi keys fits block laid = record {
   search = search_clause table seed_option numbers start f lo hi keys fits block laid;
   search_fails = search_fails_clause table seed_option numbers start f lo hi keys fits block laid;
   fault = fault_clause table seed_option numbers start f lo hi keys fits block laid;
+  fault_line = fault_line_clause table seed_option numbers start f lo hi keys fits block laid;
   pop = pop_clause table seed_option numbers start f lo hi keys fits block laid;
   pop_fails = pop_fails_clause table seed_option numbers start f lo hi keys fits block laid;
   random = random_clause table seed_option numbers start f lo hi keys fits block laid;

@@ -1,6 +1,7 @@
 -- Fault.
 use Rattle.std.proofs.Common.{◌≡◌, ℕ, ◌+◌, ◌*◌, ◌%◌, ◌/◌, ◌<◌, Bool, List, [], ◌∷◌, ◌++◌, refl, sym, ap, ap₂, ◌∙◌, subst, arith, eqb, le-leb, Some, length-append}
 use Rattle.tb_cpu.specs.Operands.{word_in}
+use Rattle.tb_memmap.specs.Bytes.{with_byte}
 use Rattle.tb_reaching.specs.View.{Setup, Holds, Fits, Comes, view, back_at}
 use Rattle.tb_reaching.proofs.Acting.{the, run_view}
 use Rattle.tb_reaching.specs.Start.{IsHome}
@@ -9,12 +10,12 @@ use Rattle.tb_reaching.proofs.Calls.{calling, under, stacked_on}
 use Rattle.tb_reaching.proofs.Special.{putting_s}
 use Rattle.tb_words.specs.Words.{digits_of}
 use Rattle.tb_lower.specs.Control.{fault_text}
-use Rattle.tb_runtime16.specs.Places.{SEND_AT, FAULT_AT, NUMBER_AT, COLUMN, LINE, BYTE}
+use Rattle.tb_runtime16.specs.Places.{SEND_AT, FAULT_LINE_AT, FAULT_AT, NUMBER_AT, COLUMN, LINE, BYTE}
 use Rattle.tb_runtime16.specs.Block.{block_part}
-use Rattle.tb_runtime16.specs.Ends.{FaultLaw}
+use Rattle.tb_runtime16.specs.Ends.{FaultLaw, FaultLineLaw}
 use Rattle.tb_runtime16.specs.Laws.{Said}
-use Rattle.tb_runtime16.proofs.Within.{fault_part, fault_in}
-use Rattle.tb_runtime16.proofs.Called.{calls}
+use Rattle.tb_runtime16.proofs.Within.{fault_line_part, fault_line_in, fault_part, fault_in}
+use Rattle.tb_runtime16.proofs.Called.{after_on, calls}
 use Rattle.tb_runtime16.proofs.SendRuns.{send_law}
 use Rattle.tb_runtime16.proofs.NumberRuns.{number_law}
 
@@ -45,13 +46,13 @@ module _ (f : Setup) (fits : Fits f 13) (block : Holds block_part f.code) (hlo h
       (looser f _ _ _ (13 ∷ []) 7 7 (omega arith) (λ w h. record { pc = h.pc ∙ sym home; stack = h.stack_is; binary = h.binary })
       (send_law f (omega (arith, fits)) block hlo hhi text answers _ _ _ _ _ _ _ _ _ (omega arith)))
 
-  tell : Later (FAULT_AT + 0x2e) (digits_of (l + 256 * h) ++ 13 ∷ []) (5 + (1440 + 9))
+  tell : Later (FAULT_AT + 0x2e) (digits_of (l + 256 * h) ++ 13 ∷ []) (5 + (458 + 9))
   unfolding Later
   tell a x y n v i z c m k small =
       let line : m LINE + 256 * m 0xc03b ≡ l + 256 * h = ap₂ (λ a b. a + 256 * b) k.low k.high in
-      subst (λ w. Comes f (view a x y n v i z c (FAULT_AT + 0x2e) own m text answers) (IsHome f) (digits_of w ++ 13 ∷ []) (5 + (1440 + 9))) line
-      (after f 13 fits fault_part (fault_in f.code block) 4 (view a x y n v i z c (FAULT_AT + 0x2e) own m text answers) _ _ (1440 + 9) refl
-      (calls f own _ _ _ _ _ _ _ _ NUMBER_AT ((FAULT_AT + 0x3c) % 256) ((FAULT_AT + 0x3c) / 256) _ text answers _ (IsHome f) (digits_of (m LINE + 256 * m 0xc03b)) (13 ∷ []) 1440 9
+      subst (λ w. Comes f (view a x y n v i z c (FAULT_AT + 0x2e) own m text answers) (IsHome f) (digits_of w ++ 13 ∷ []) (5 + (458 + 9))) line
+      (after f 13 fits fault_part (fault_in f.code block) 4 (view a x y n v i z c (FAULT_AT + 0x2e) own m text answers) _ _ (458 + 9) refl
+      (calls f own _ _ _ _ _ _ _ _ NUMBER_AT ((FAULT_AT + 0x3c) % 256) ((FAULT_AT + 0x3c) / 256) _ text answers _ (IsHome f) (digits_of (m LINE + 256 * m 0xc03b)) (13 ∷ []) 458 9
       (number_law (under f own) (omega (arith, fits)) block ((FAULT_AT + 0x3c) % 256) ((FAULT_AT + 0x3c) / 256) text answers _ _ _ _ _ _ _ _ _ (omega (arith, k.low, is_word.0), omega (arith, k.high, is_word.1)) small)
       (λ a x y n v i z c w g. last a x y n v i z c w)))
 
@@ -65,15 +66,15 @@ module _ (f : Setup) (fits : Fits f 13) (block : Holds block_part f.code) (hlo h
       (λ a x y n v i z c m' s. next a x y n v i z c m'
       (record { low = s.others LINE (λ e. omega (arith, e)) ∙ kept.low; high = s.others 0xc03b (λ e. omega (arith, e)) ∙ kept.high; byte = s.others BYTE (λ e. omega (arith, e)) ∙ kept.byte }) (omega (arith, s.column))))
 
-  text_sent : From (FAULT_AT + 0xa) (13 ∷ 33 ∷ d ∷ 32 ∷ 65 ∷ 84 ∷ 32 ∷ (digits_of (l + 256 * h) ++ 13 ∷ [])) (2 + (7 + (2 + (7 + (2 + (7 + (2 + (7 + (2 + (7 + (2 + (7 + (2 + (7 + (5 + (1440 + 9))))))))))))))))
+  text_sent : From (FAULT_AT + 0xa) (13 ∷ 33 ∷ d ∷ 32 ∷ 65 ∷ 84 ∷ 32 ∷ (digits_of (l + 256 * h) ++ 13 ∷ [])) (2 + (7 + (2 + (7 + (2 + (7 + (2 + (7 + (2 + (7 + (2 + (7 + (2 + (7 + (5 + (458 + 9))))))))))))))))
   text_sent =
-      say (FAULT_AT + 0xa) 13 ((FAULT_AT + 0xe) % 256) ((FAULT_AT + 0xe) / 256) _ (2 + (7 + (2 + (7 + (2 + (7 + (2 + (7 + (2 + (7 + (2 + (7 + (5 + (1440 + 9)))))))))))))) (omega arith) (λ a x y n v i z c m k. refl)
-      (later _ _ _ (say (FAULT_AT + 0xf) 33 ((FAULT_AT + 0x13) % 256) ((FAULT_AT + 0x13) / 256) _ (2 + (7 + (2 + (7 + (2 + (7 + (2 + (7 + (2 + (7 + (5 + (1440 + 9)))))))))))) (omega arith) (λ a x y n v i z c m k. refl)
-      (later _ _ _ (say (FAULT_AT + 0x14) d ((FAULT_AT + 0x19) % 256) ((FAULT_AT + 0x19) / 256) _ (2 + (7 + (2 + (7 + (2 + (7 + (2 + (7 + (5 + (1440 + 9)))))))))) d_small (λ a x y n v i z c m k. ap (λ b. Some (view b x y (eqb (b / 128 % 2) 1) v i (eqb b 0) c SEND_AT ((FAULT_AT + 0x19) % 256 ∷ (FAULT_AT + 0x19) / 256 ∷ own) m text answers)) k.byte)
-      (later _ _ _ (say (FAULT_AT + 0x1a) 32 ((FAULT_AT + 0x1e) % 256) ((FAULT_AT + 0x1e) / 256) _ (2 + (7 + (2 + (7 + (2 + (7 + (5 + (1440 + 9)))))))) (omega arith) (λ a x y n v i z c m k. refl)
-      (later _ _ _ (say (FAULT_AT + 0x1f) 65 ((FAULT_AT + 0x23) % 256) ((FAULT_AT + 0x23) / 256) _ (2 + (7 + (2 + (7 + (5 + (1440 + 9)))))) (omega arith) (λ a x y n v i z c m k. refl)
-      (later _ _ _ (say (FAULT_AT + 0x24) 84 ((FAULT_AT + 0x28) % 256) ((FAULT_AT + 0x28) / 256) _ (2 + (7 + (5 + (1440 + 9)))) (omega arith) (λ a x y n v i z c m k. refl)
-      (later _ _ _ (say (FAULT_AT + 0x29) 32 ((FAULT_AT + 0x2d) % 256) ((FAULT_AT + 0x2d) / 256) _ (5 + (1440 + 9)) (omega arith) (λ a x y n v i z c m k. refl) tell))))))))))))
+      say (FAULT_AT + 0xa) 13 ((FAULT_AT + 0xe) % 256) ((FAULT_AT + 0xe) / 256) _ (2 + (7 + (2 + (7 + (2 + (7 + (2 + (7 + (2 + (7 + (2 + (7 + (5 + (458 + 9)))))))))))))) (omega arith) (λ a x y n v i z c m k. refl)
+      (later _ _ _ (say (FAULT_AT + 0xf) 33 ((FAULT_AT + 0x13) % 256) ((FAULT_AT + 0x13) / 256) _ (2 + (7 + (2 + (7 + (2 + (7 + (2 + (7 + (2 + (7 + (5 + (458 + 9)))))))))))) (omega arith) (λ a x y n v i z c m k. refl)
+      (later _ _ _ (say (FAULT_AT + 0x14) d ((FAULT_AT + 0x19) % 256) ((FAULT_AT + 0x19) / 256) _ (2 + (7 + (2 + (7 + (2 + (7 + (2 + (7 + (5 + (458 + 9)))))))))) d_small (λ a x y n v i z c m k. ap (λ b. Some (view b x y (eqb (b / 128 % 2) 1) v i (eqb b 0) c SEND_AT ((FAULT_AT + 0x19) % 256 ∷ (FAULT_AT + 0x19) / 256 ∷ own) m text answers)) k.byte)
+      (later _ _ _ (say (FAULT_AT + 0x1a) 32 ((FAULT_AT + 0x1e) % 256) ((FAULT_AT + 0x1e) / 256) _ (2 + (7 + (2 + (7 + (2 + (7 + (5 + (458 + 9)))))))) (omega arith) (λ a x y n v i z c m k. refl)
+      (later _ _ _ (say (FAULT_AT + 0x1f) 65 ((FAULT_AT + 0x23) % 256) ((FAULT_AT + 0x23) / 256) _ (2 + (7 + (2 + (7 + (5 + (458 + 9)))))) (omega arith) (λ a x y n v i z c m k. refl)
+      (later _ _ _ (say (FAULT_AT + 0x24) 84 ((FAULT_AT + 0x28) % 256) ((FAULT_AT + 0x28) / 256) _ (2 + (7 + (5 + (458 + 9)))) (omega arith) (λ a x y n v i z c m k. refl)
+      (later _ _ _ (say (FAULT_AT + 0x29) 32 ((FAULT_AT + 0x2d) % 256) ((FAULT_AT + 0x2d) / 256) _ (5 + (458 + 9)) (omega arith) (λ a x y n v i z c m k. refl) tell))))))))))))
 
 pub fault_law : FaultLaw
 unfolding From
@@ -81,10 +82,16 @@ fault_law f room most fits block hlo hhi above deep text answers m e k x y n v i
     let own = above ++ hlo ∷ hhi ∷ [] in
     let start = view k x y n v i z c FAULT_AT [] m text answers in
     let next = the start (run_view fault_part 0 4 start) in
-    let rest = 2 + (7 + (2 + (7 + (2 + (7 + (2 + (7 + (2 + (7 + (2 + (7 + (2 + (7 + (5 + (1440 + 9))))))))))))))) in
-    looser f _ _ _ (fault_text k (word_in m LINE)) (4 + (1 + rest)) 1522 (omega arith) (λ w h. h)
+    let rest = 2 + (7 + (2 + (7 + (2 + (7 + (2 + (7 + (2 + (7 + (2 + (7 + (2 + (7 + (5 + (458 + 9))))))))))))))) in
+    looser f _ _ _ (fault_text k (word_in m LINE)) (4 + (1 + rest)) 540 (omega arith) (λ w h. h)
     (calling f own start (λ w. w ≡ next) (IsHome f) [] (fault_text k (word_in m LINE)) 4 (1 + rest)
     (ending (under f own) 0 (omega (arith, fits, deep, length-append own f.rest, length-append above (hlo ∷ hhi ∷ []))) fault_part (fault_in f.code block) 3 start (λ w. w ≡ next) refl refl)
     (λ w same. subst (λ w. Comes f (stacked_on own w) (IsHome f) (fault_text k (word_in m LINE)) (1 + rest)) (sym same)
     (putting_s f room fits (stacked_on own next) above (hlo ∷ hhi ∷ []) (IsHome f) (fault_text k (word_in m LINE)) rest (fault_in f.code block _ _ refl) (le-leb _ _ (omega (arith, deep, length-append above (hlo ∷ hhi ∷ [])))) refl (omega (arith, e.kept, e.homed.above))
     (text_sent f (omega (arith, most, fits)) block hlo hhi e.homed.home text answers (m LINE) (m 0xc03b) (48 + k) e.line (omega (arith, small)) _ _ _ _ _ _ _ _ _ (record { low = refl; high = refl; byte = omega (arith, small) })))))
+
+pub fault_line_law : FaultLineLaw
+fault_line_law f room most fits block hlo hhi above deep text answers m homed kept k x y n v i z c small low high =
+    let own = above ++ hlo ∷ hhi ∷ [] in
+    after_on f own 0 (omega (arith, fits, deep, length-append own f.rest, length-append above (hlo ∷ hhi ∷ []))) fault_line_part (fault_line_in f.code block) 1 (view k x y n v i z c FAULT_LINE_AT [] m text answers) (IsHome f) (fault_text k (x + 256 * y)) 540 refl
+    (fault_law f room most fits block hlo hhi above deep text answers (with_byte (with_byte m LINE x) 0xc03b y) (record { homed = homed; kept = kept; line = (low, high) }) k x y n v i z c small)

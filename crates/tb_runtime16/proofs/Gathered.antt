@@ -13,7 +13,7 @@ use Rattle.tb_reaching.proofs.Calls.{calling, framed, under, stacked_on}
 use Rattle.tb_runtime16.specs.Block.{block_part}
 use Rattle.tb_runtime16.specs.Laws.{IsWord}
 use Rattle.tb_runtime16.specs.Search.{address_of}
-use Rattle.tb_runtime16.specs.Routines.{WordAt, Entered, Here, WithA, Moves, entries}
+use Rattle.tb_runtime16.specs.Routines.{WordAt, Entered, Here, WithA, WithLine, Moves, entries}
 use Rattle.tb_runtime16.proofs.FaultRuns.{fault_law}
 
 -- ---- words
@@ -41,6 +41,15 @@ from_a f at k bs m keys gets q t n go w h =
     (subst (λ j. Comes f (view w.regs.a w.regs.x w.regs.y w.regs.flags.n w.regs.flags.v w.regs.flags.i w.regs.flags.z w.regs.flags.c at bs j keys gets) q t n) (sym h.here.mem)
     (subst (λ j. Comes f (view j w.regs.x w.regs.y w.regs.flags.n w.regs.flags.v w.regs.flags.i w.regs.flags.z w.regs.flags.c at bs m keys gets) q t n) (sym h.number) (go _ _ _ _ _ _ _)))
 
+pub from_line : (f : Setup) (at k j : ℕ) (bs : List ℕ) (m : ℕ → ℕ) (keys gets : List ℕ) (q : View → Type 0) (t : List ℕ) (n : ℕ) → ((b v i z c : Bool) → Comes f (view k (j % 256) (j / 256) b v i z c at bs m keys gets) q t n) → Moves f (WithLine at k j bs m keys gets) q t n
+from_line f at k j bs m keys gets q t n go w h =
+    let g = h.with_a.here in
+    known f w at bs keys gets q t n g.pc g.stack g.binary g.text g.answers
+    (subst (λ r. Comes f (view w.regs.a w.regs.x w.regs.y w.regs.flags.n w.regs.flags.v w.regs.flags.i w.regs.flags.z w.regs.flags.c at bs r keys gets) q t n) (sym g.mem)
+    (subst (λ r. Comes f (view r w.regs.x w.regs.y w.regs.flags.n w.regs.flags.v w.regs.flags.i w.regs.flags.z w.regs.flags.c at bs m keys gets) q t n) (sym h.with_a.number)
+    (subst (λ r. Comes f (view k r w.regs.y w.regs.flags.n w.regs.flags.v w.regs.flags.i w.regs.flags.z w.regs.flags.c at bs m keys gets) q t n) (sym h.low)
+    (subst (λ r. Comes f (view k (j % 256) r w.regs.flags.n w.regs.flags.v w.regs.flags.i w.regs.flags.z w.regs.flags.c at bs m keys gets) q t n) (sym h.high) (go _ _ _ _ _)))))
+
 -- a law beside what the caller keeps, with a larger bound and less said
 pub beside : (f : Setup) (own : List ℕ) (v : View) (p q : View → Type 0) (t : List ℕ) (n limit : ℕ) → n ≤ limit → Comes (under f own) v p t n → ((u : View) → p u → q (stacked_on own u)) → Comes f (stacked_on own v) q t limit
 beside f own v p q t n limit le c go =
@@ -59,18 +68,18 @@ pub record AtFault (k l h : ℕ) (m : ℕ → ℕ) (keys gets : List ℕ) (u : V
   pub home_s : u.mem HOME_S ≡ m HOME_S
 
 -- the fault's text is sent, and the machine has returned
-pub told : (f : Setup) (lo hi : ℕ) (bs : List ℕ) → length bs + 2 ≤ 14 → Fits f 16 → Holds block_part f.code → (k : ℕ) → k < 10 → (m : ℕ → ℕ) (keys gets : List ℕ) (n : ℕ) → WordAt m LINE n → Entered f lo hi m → (x y : ℕ) (b v i z c : Bool) → Comes f (view k x y b v i z c FAULT_AT (bs ++ lo ∷ hi ∷ []) m keys gets) (IsHome f) (fault_text k n) 1522
+pub told : (f : Setup) (lo hi : ℕ) (bs : List ℕ) → length bs + 2 ≤ 14 → Fits f 16 → Holds block_part f.code → (k : ℕ) → k < 10 → (m : ℕ → ℕ) (keys gets : List ℕ) (n : ℕ) → WordAt m LINE n → Entered f lo hi m → (x y : ℕ) (b v i z c : Bool) → Comes f (view k x y b v i z c FAULT_AT (bs ++ lo ∷ hi ∷ []) m keys gets) (IsHome f) (fault_text k n) 540
 told f lo hi bs few fits block k small m keys gets n line e x y b v i z c =
-    subst (λ j. Comes f (view k x y b v i z c FAULT_AT (bs ++ lo ∷ hi ∷ []) m keys gets) (IsHome f) (fault_text k j) 1522) (value m LINE n line)
+    subst (λ j. Comes f (view k x y b v i z c FAULT_AT (bs ++ lo ∷ hi ∷ []) m keys gets) (IsHome f) (fault_text k j) 540) (value m LINE n line)
     (fault_law f 14 (let le : 13 ≤ 14 = omega arith in le) (omega (arith, fits)) block lo hi bs few keys gets m (record { homed = e.homed; kept = e.kept; line = small_bytes m LINE n line }) k x y b v i z c small)
 
-pub faulting : (f : Setup) (lo hi : ℕ) → Fits f 16 → Holds block_part f.code → (l h k : ℕ) → k < 10 → (m : ℕ → ℕ) (keys gets : List ℕ) (n : ℕ) → WordAt m LINE n → Entered f lo hi m → (v : View) (p : View → Type 0) (j limit : ℕ) → j + 1522 ≤ limit → Comes (under f (lo ∷ hi ∷ [])) v p [] j → ((u : View) → p u → AtFault k l h m keys gets u) → Comes f (stacked_on (lo ∷ hi ∷ []) v) (IsHome f) (fault_text k n) limit
+pub faulting : (f : Setup) (lo hi : ℕ) → Fits f 16 → Holds block_part f.code → (l h k : ℕ) → k < 10 → (m : ℕ → ℕ) (keys gets : List ℕ) (n : ℕ) → WordAt m LINE n → Entered f lo hi m → (v : View) (p : View → Type 0) (j limit : ℕ) → j + 540 ≤ limit → Comes (under f (lo ∷ hi ∷ [])) v p [] j → ((u : View) → p u → AtFault k l h m keys gets u) → Comes f (stacked_on (lo ∷ hi ∷ []) v) (IsHome f) (fault_text k n) limit
 faulting f lo hi fits block l h k small m keys gets n line e v p j limit le c go =
-    looser f _ _ _ (fault_text k n) (j + 1522) limit le (λ w h. h)
-    (calling f (lo ∷ hi ∷ []) v p (IsHome f) [] (fault_text k n) j 1522 c (λ u pu.
+    looser f _ _ _ (fault_text k n) (j + 540) limit le (λ w h. h)
+    (calling f (lo ∷ hi ∷ []) v p (IsHome f) [] (fault_text k n) j 540 c (λ u pu.
     let a = go u pu in
-    known f (stacked_on (lo ∷ hi ∷ []) u) FAULT_AT (l ∷ h ∷ lo ∷ hi ∷ []) keys gets (IsHome f) (fault_text k n) 1522 a.pc (ap (λ s. s ++ (lo ∷ hi ∷ [])) a.stack) a.binary a.text a.answers
-    (subst (λ r. Comes f (view r u.regs.x u.regs.y u.regs.flags.n u.regs.flags.v u.regs.flags.i u.regs.flags.z u.regs.flags.c FAULT_AT (l ∷ h ∷ lo ∷ hi ∷ []) u.mem keys gets) (IsHome f) (fault_text k n) 1522) (sym a.number)
+    known f (stacked_on (lo ∷ hi ∷ []) u) FAULT_AT (l ∷ h ∷ lo ∷ hi ∷ []) keys gets (IsHome f) (fault_text k n) 540 a.pc (ap (λ s. s ++ (lo ∷ hi ∷ [])) a.stack) a.binary a.text a.answers
+    (subst (λ r. Comes f (view r u.regs.x u.regs.y u.regs.flags.n u.regs.flags.v u.regs.flags.i u.regs.flags.z u.regs.flags.c FAULT_AT (l ∷ h ∷ lo ∷ hi ∷ []) u.mem keys gets) (IsHome f) (fault_text k n) 540) (sym a.number)
     (told f lo hi (l ∷ h ∷ []) (let le : 4 ≤ 14 = omega arith in le) fits block k small u.mem keys gets n (same_place m u.mem LINE n line a.line.0 a.line.1) (record { homed = e.homed; kept = ap (λ s. s + 2) a.home_s ∙ e.kept }) _ _ _ _ _ _ _))))
 
 -- ---- columns: no digit is a return

@@ -12,14 +12,14 @@ use Rattle.tb_reaching.proofs.Services.{serving}
 use Rattle.tb_reaching.proofs.Calls.{framed, under}
 use Rattle.tb_lower.specs.Control.{column_after, fault_text}
 use Rattle.tb_lower.specs.Input.{Reading, Nothing, Sign, Digits, Turn, Got, Bad, with_digit, number_end, signed_turn, turn}
-use Rattle.tb_runtime16.specs.Places.{INPUT_AT, SEND_AT, COLUMN, LEFT, RESULT, HOME_S, LINE, BYTE, OPEN, SCRATCH}
+use Rattle.tb_runtime16.specs.Places.{DIVIDE_AT, INPUT_AT, SEND_AT, COLUMN, LEFT, RESULT, HOME_S, LINE, BYTE, OPEN, SCRATCH}
 use Rattle.tb_runtime16.specs.Block.{block_part}
 use Rattle.tb_runtime16.specs.Ends.{Entered}
 use Rattle.tb_runtime16.specs.Input.{MINUS, is_changed, turn_sends, Ended, InputLaw}
 use Rattle.tb_runtime16.specs.Laws.{IsWord, AllBytes, Said}
 use Rattle.tb_runtime16.proofs.Words.{taken_from_zero}
 use Rattle.tb_runtime16.proofs.Tens.{times_ten}
-use Rattle.tb_runtime16.proofs.Within.{input_part, input_in}
+use Rattle.tb_runtime16.proofs.Within.{divide_part, divide_in, input_part, input_in}
 use Rattle.tb_runtime16.proofs.Called.{after_on, calls, ending_on}
 use Rattle.tb_runtime16.proofs.SendRuns.{send_law}
 use Rattle.tb_runtime16.proofs.FaultRuns.{fault_law}
@@ -127,12 +127,12 @@ module _ (f : Setup) (room : ℕ) (most : 13 ≤ room) (fits : Fits f room) (blo
   held_byte r m b h = record { seen = h.seen; minus = h.minus; is_word = h.is_word; value = h.value; line_open = h.line_open; column = h.column; others = frame_put _ _ BYTE _ refl h.others }
 
   -- fault 6
-  bad : (a x y : ℕ) (n v i z c : Bool) (m : ℕ → ℕ) (text : List ℕ) → Frame m0 m → Comes f (view a x y n v i z c (INPUT_AT + 0xA4) (lo ∷ hi ∷ own) m text answers) (IsHome f) (fault_text 6 (word_in m0 LINE)) (84 + 1440)
+  bad : (a x y : ℕ) (n v i z c : Bool) (m : ℕ → ℕ) (text : List ℕ) → Frame m0 m → Comes f (view a x y n v i z c (INPUT_AT + 0xA4) (lo ∷ hi ∷ own) m text answers) (IsHome f) (fault_text 6 (word_in m0 LINE)) (84 + 458)
   bad a x y n v i z c m text k =
       let here : Entered f hlo hhi m = record { homed = entered.homed; kept = ap (λ s. s + 2) (k HOME_S refl) ∙ entered.kept; line = (omega (arith, k LINE refl, entered.line.0), omega (arith, k 0xc03B refl, entered.line.1)) } in
-      subst (λ w. Comes f (view a x y n v i z c (INPUT_AT + 0xA4) (lo ∷ hi ∷ own) m text answers) (IsHome f) (fault_text 6 w) (84 + 1440)) (ap₂ (λ a b. a + 256 * b) (k LINE refl) (k 0xc03B refl))
-      (looser f _ _ _ (fault_text 6 (word_in m LINE)) (2 + (82 + 1440)) (84 + 1440) (omega arith) (λ w h. h)
-      (after_on f own 4 free input_part st 1 (view a x y n v i z c (INPUT_AT + 0xA4) (lo ∷ hi ∷ []) m text answers) _ _ (82 + 1440) refl
+      subst (λ w. Comes f (view a x y n v i z c (INPUT_AT + 0xA4) (lo ∷ hi ∷ own) m text answers) (IsHome f) (fault_text 6 w) (84 + 458)) (ap₂ (λ a b. a + 256 * b) (k LINE refl) (k 0xc03B refl))
+      (looser f _ _ _ (fault_text 6 (word_in m LINE)) (2 + (82 + 458)) (84 + 458) (omega arith) (λ w h. h)
+      (after_on f own 4 free input_part st 1 (view a x y n v i z c (INPUT_AT + 0xA4) (lo ∷ hi ∷ []) m text answers) _ _ (82 + 458) refl
       (fault_law f room most fits block hlo hhi (lo ∷ hi ∷ above) (omega (arith, deep)) text answers m here 6 _ _ _ _ _ _ _ (omega arith))))
 
   -- ---- the end
@@ -143,15 +143,15 @@ module _ (f : Setup) (room : ℕ) (most : 13 ≤ room) (fits : Fits f room) (blo
     column : m COLUMN ≡ column_after col before % 256
     others : Frame m0 m
 
-  finish : (value : ℕ) (stays : Bool) (a x y : ℕ) (n v i z c : Bool) (m : ℕ → ℕ) (text : List ℕ) → Read value m → same_byte (m BYTE) 44 ≡ stays → Comes f (view a x y n v i z c (INPUT_AT + 0xC8) (lo ∷ hi ∷ own) m text answers) (Goal (Got value stays text)) (sends (Got value stays text)) 14
+  finish : (value : ℕ) (stays : Bool) (a x y : ℕ) (n v i z c : Bool) (m : ℕ → ℕ) (text : List ℕ) → Read value m → same_byte (m BYTE) 44 ≡ stays → Comes f (view a x y n v i z c (INPUT_AT + 0xBC) (lo ∷ hi ∷ own) m text answers) (Goal (Got value stays text)) (sends (Got value stays text)) 14
   finish value true a x y n v i z c m text h e =
       looser f _ _ _ [] (3 + 1) 14 (omega arith) (λ w h. h)
-      (after_on f own 4 free input_part st 2 (view a x y n v i z c (INPUT_AT + 0xC8) (lo ∷ hi ∷ []) m text answers) _ _ 1 refl
-      (rw e (ending_on f own 4 free input_part st 0 (view _ _ _ _ _ _ _ _ (INPUT_AT + 0xD9) (lo ∷ hi ∷ []) m text answers) _ refl
+      (after_on f own 4 free input_part st 2 (view a x y n v i z c (INPUT_AT + 0xBC) (lo ∷ hi ∷ []) m text answers) _ _ 1 refl
+      (rw e (ending_on f own 4 free input_part st 0 (view _ _ _ _ _ _ _ _ (INPUT_AT + 0xCD) (lo ∷ hi ∷ []) m text answers) _ refl
       (record { pc = refl; stack = refl; binary = refl; left = refl; same_answers = refl; is_word = h.is_word; result = h.value_is; line_open = h.line_open; column_is = h.column; others = h.others }))))
   finish value false a x y n v i z c m text h e =
-      after_on f own 4 free input_part st 2 (view a x y n v i z c (INPUT_AT + 0xC8) (lo ∷ hi ∷ []) m text answers) _ _ (4 + 7) refl
-      (rw e (after_on f own 4 free input_part st 3 (view _ _ _ _ _ _ _ _ (INPUT_AT + 0xCF) (lo ∷ hi ∷ []) m text answers) _ _ 7 refl
+      after_on f own 4 free input_part st 2 (view a x y n v i z c (INPUT_AT + 0xBC) (lo ∷ hi ∷ []) m text answers) _ _ (4 + 7) refl
+      (rw e (after_on f own 4 free input_part st 3 (view _ _ _ _ _ _ _ _ (INPUT_AT + 0xC3) (lo ∷ hi ∷ []) m text answers) _ _ 7 refl
       (looser f _ _ _ (13 ∷ []) 7 7 (omega arith) (λ w g. subst (Goal (Got value false text)) g.2
       (record {
         pc = g.1.pc;
@@ -169,29 +169,30 @@ module _ (f : Setup) (room : ℕ) (most : 13 ≤ room) (fits : Fits f room) (blo
       (send_law (under f own) (omega (arith, free)) block lo hi text answers _ _ _ _ _ _ _ _ _ (omega arith))))))
 
   -- the number ends
-  done : (r : Reading) (stays : Bool) (a x y : ℕ) (n v i z c : Bool) (m : ℕ → ℕ) (text : List ℕ) → Held r m → same_byte (m BYTE) 44 ≡ stays → Comes f (view a x y n v i z c (INPUT_AT + 0xA9) (lo ∷ hi ∷ own) m text answers) (Goal (number_end r stays text)) (sends (number_end r stays text)) (87 + 1440)
+  done : (r : Reading) (stays : Bool) (a x y : ℕ) (n v i z c : Bool) (m : ℕ → ℕ) (text : List ℕ) → Held r m → same_byte (m BYTE) 44 ≡ stays → Comes f (view a x y n v i z c (INPUT_AT + 0xA9) (lo ∷ hi ∷ own) m text answers) (Goal (number_end r stays text)) (sends (number_end r stays text)) (87 + 458)
   done Nothing stays a x y n v i z c m text h e =
       let t : same_byte (m SCRATCH) 2 ≡ false = ne_eqb _ _ (λ e. omega (arith, h.seen, e)) in
-      looser f _ _ _ (fault_text 6 (word_in m0 LINE)) (3 + (84 + 1440)) (87 + 1440) (omega arith) (λ w h. h)
-      (after_on f own 4 free input_part st 2 (view a x y n v i z c (INPUT_AT + 0xA9) (lo ∷ hi ∷ []) m text answers) _ _ (84 + 1440) refl
+      looser f _ _ _ (fault_text 6 (word_in m0 LINE)) (3 + (84 + 458)) (87 + 458) (omega arith) (λ w h. h)
+      (after_on f own 4 free input_part st 2 (view a x y n v i z c (INPUT_AT + 0xA9) (lo ∷ hi ∷ []) m text answers) _ _ (84 + 458) refl
       (rw t (bad _ _ _ _ _ _ _ _ m text h.others)))
   done (Sign negative) stays a x y n v i z c m text h e =
       let t : same_byte (m SCRATCH) 2 ≡ false = ne_eqb _ _ (λ e. omega (arith, h.seen, e)) in
-      looser f _ _ _ (fault_text 6 (word_in m0 LINE)) (3 + (84 + 1440)) (87 + 1440) (omega arith) (λ w h. h)
-      (after_on f own 4 free input_part st 2 (view a x y n v i z c (INPUT_AT + 0xA9) (lo ∷ hi ∷ []) m text answers) _ _ (84 + 1440) refl
+      looser f _ _ _ (fault_text 6 (word_in m0 LINE)) (3 + (84 + 458)) (87 + 458) (omega arith) (λ w h. h)
+      (after_on f own 4 free input_part st 2 (view a x y n v i z c (INPUT_AT + 0xA9) (lo ∷ hi ∷ []) m text answers) _ _ (84 + 458) refl
       (rw t (bad _ _ _ _ _ _ _ _ m text h.others)))
   done (Digits false k) stays a x y n v i z c m text h e =
       let t : same_byte (m SCRATCH) 2 ≡ true = eq-eqb _ _ (omega (arith, h.seen)) in
-      looser f _ _ _ (sends (Got (k % 65536) stays text)) (3 + (3 + 14)) (87 + 1440) (omega arith) (λ w h. h)
+      looser f _ _ _ (sends (Got (k % 65536) stays text)) (3 + (3 + 14)) (87 + 458) (omega arith) (λ w h. h)
       (after_on f own 4 free input_part st 2 (view a x y n v i z c (INPUT_AT + 0xA9) (lo ∷ hi ∷ []) m text answers) _ _ (3 + 14) refl
       (rw t (after_on f own 4 free input_part st 2 (view _ _ _ _ _ _ _ _ (INPUT_AT + 0xB0) (lo ∷ hi ∷ []) m text answers) _ _ 14 refl
       (rw h.minus (finish (k % 65536) stays _ _ _ _ _ _ _ _ m text (record { is_word = h.is_word; value_is = h.value; line_open = h.line_open; column = h.column; others = h.others }) e)))))
   done (Digits true k) stays a x y n v i z c m text h e =
       let t : same_byte (m SCRATCH) 2 ≡ true = eq-eqb _ _ (omega (arith, h.seen)) in
-      looser f _ _ _ (sends (Got ((65536 - k % 65536) % 65536) stays text)) (3 + (3 + (7 + 14))) (87 + 1440) (omega arith) (λ w h. h)
-      (after_on f own 4 free input_part st 2 (view a x y n v i z c (INPUT_AT + 0xA9) (lo ∷ hi ∷ []) m text answers) _ _ (3 + (7 + 14)) refl
-      (rw t (after_on f own 4 free input_part st 2 (view _ _ _ _ _ _ _ _ (INPUT_AT + 0xB0) (lo ∷ hi ∷ []) m text answers) _ _ (7 + 14) refl
-      (rw h.minus (after_on f own 4 free input_part st 6 (view _ _ _ _ _ _ _ _ (INPUT_AT + 0xB7) (lo ∷ hi ∷ []) m text answers) _ _ 14 refl
+      looser f _ _ _ (sends (Got ((65536 - k % 65536) % 65536) stays text)) (3 + (3 + (2 + (8 + 14)))) (87 + 458) (omega arith) (λ w h. h)
+      (after_on f own 4 free input_part st 2 (view a x y n v i z c (INPUT_AT + 0xA9) (lo ∷ hi ∷ []) m text answers) _ _ (3 + (2 + (8 + 14))) refl
+      (rw t (after_on f own 4 free input_part st 2 (view _ _ _ _ _ _ _ _ (INPUT_AT + 0xB0) (lo ∷ hi ∷ []) m text answers) _ _ (2 + (8 + 14)) refl
+      (rw h.minus (after_on f own 4 free input_part st 1 (view _ _ _ _ _ _ _ _ (INPUT_AT + 0xB7) (lo ∷ hi ∷ []) m text answers) _ _ (8 + 14) refl
+      (after_on f own 4 free divide_part (divide_in f.code block) 7 (view _ 4 _ _ _ _ _ _ (DIVIDE_AT + 26) ((INPUT_AT + 0xBB) % 256 ∷ (INPUT_AT + 0xBB) / 256 ∷ lo ∷ hi ∷ []) m text answers) _ _ 14 refl
       (finish ((65536 - k % 65536) % 65536) stays _ _ _ _ _ _ _ _ _ text
       (record {
         is_word = (small_byte _, small_byte _);
@@ -199,39 +200,39 @@ module _ (f : Setup) (room : ℕ) (most : 13 ≤ room) (fits : Fits f room) (blo
         line_open = h.line_open;
         column = h.column;
         others = frame_put _ _ 0xc067 _ refl (frame_put _ _ RESULT _ refl h.others);
-      }) e))))))
+      }) e)))))))
 
   -- ---- a turn goes on
   Reads : List ℕ → Type 0
-  Reads text = (r : Reading) (a x y : ℕ) (n v i z c : Bool) (m : ℕ → ℕ) → Held r m → AllBytes text → Comes f (view a x y n v i z c (INPUT_AT + 0x22) (lo ∷ hi ∷ own) m text answers) (Goal (turn r text)) (sends (turn r text)) (45 * length text + (102 + 1440))
+  Reads text = (r : Reading) (a x y : ℕ) (n v i z c : Bool) (m : ℕ → ℕ) → Held r m → AllBytes text → Comes f (view a x y n v i z c (INPUT_AT + 0x22) (lo ∷ hi ∷ own) m text answers) (Goal (turn r text)) (sends (turn r text)) (45 * length text + (102 + 458))
 
   -- a sign
-  at_sign : (r : Reading) (negative : Bool) (a x y : ℕ) (n v i z c : Bool) (m : ℕ → ℕ) (text : List ℕ) → Reads text → Held r m → same_byte (m BYTE) 45 ≡ negative → AllBytes text → Comes f (view a x y n v i z c (INPUT_AT + 0x91) (lo ∷ hi ∷ own) m text answers) (Goal (signed_turn r (turn (Sign negative) text))) (sends (signed_turn r (turn (Sign negative) text))) (45 * length text + (109 + 1440))
+  at_sign : (r : Reading) (negative : Bool) (a x y : ℕ) (n v i z c : Bool) (m : ℕ → ℕ) (text : List ℕ) → Reads text → Held r m → same_byte (m BYTE) 45 ≡ negative → AllBytes text → Comes f (view a x y n v i z c (INPUT_AT + 0x91) (lo ∷ hi ∷ own) m text answers) (Goal (signed_turn r (turn (Sign negative) text))) (sends (signed_turn r (turn (Sign negative) text))) (45 * length text + (109 + 458))
   unfolding Reads
   at_sign Nothing negative a x y n v i z c m text go h e bs =
       let t : eqb (m SCRATCH) 0 ≡ true = eq-eqb _ _ h.seen in
-      looser f _ _ _ (sends (turn (Sign negative) text)) (2 + (5 + (45 * length text + (102 + 1440)))) (45 * length text + (109 + 1440)) (omega arith) (λ w h. h)
-      (after_on f own 4 free input_part st 1 (view a x y n v i z c (INPUT_AT + 0x91) (lo ∷ hi ∷ []) m text answers) _ _ (5 + (45 * length text + (102 + 1440))) refl
-      (rw t (after_on f own 4 free input_part st 4 (view _ _ _ _ _ _ _ _ (INPUT_AT + 0x96) (lo ∷ hi ∷ []) m text answers) _ _ (45 * length text + (102 + 1440)) refl
+      looser f _ _ _ (sends (turn (Sign negative) text)) (2 + (5 + (45 * length text + (102 + 458)))) (45 * length text + (109 + 458)) (omega arith) (λ w h. h)
+      (after_on f own 4 free input_part st 1 (view a x y n v i z c (INPUT_AT + 0x91) (lo ∷ hi ∷ []) m text answers) _ _ (5 + (45 * length text + (102 + 458))) refl
+      (rw t (after_on f own 4 free input_part st 4 (view _ _ _ _ _ _ _ _ (INPUT_AT + 0x96) (lo ∷ hi ∷ []) m text answers) _ _ (45 * length text + (102 + 458)) refl
       (go (Sign negative) _ _ _ _ _ _ _ _ _
       (record { seen = refl; minus = e; is_word = h.is_word; value = h.value; line_open = h.line_open; column = h.column; others = frame_put _ _ SCRATCH _ refl (frame_put _ _ MINUS _ refl h.others) }) bs))))
   at_sign (Sign before) negative a x y n v i z c m text go h e bs =
       let t : eqb (m SCRATCH) 0 ≡ false = ne_eqb _ _ (λ e. omega (arith, h.seen, e)) in
-      looser f _ _ _ (fault_text 6 (word_in m0 LINE)) (2 + (84 + 1440)) (45 * length text + (109 + 1440)) (omega arith) (λ w h. h)
-      (after_on f own 4 free input_part st 1 (view a x y n v i z c (INPUT_AT + 0x91) (lo ∷ hi ∷ []) m text answers) _ _ (84 + 1440) refl
+      looser f _ _ _ (fault_text 6 (word_in m0 LINE)) (2 + (84 + 458)) (45 * length text + (109 + 458)) (omega arith) (λ w h. h)
+      (after_on f own 4 free input_part st 1 (view a x y n v i z c (INPUT_AT + 0x91) (lo ∷ hi ∷ []) m text answers) _ _ (84 + 458) refl
       (rw t (bad _ _ _ _ _ _ _ _ m text h.others)))
   at_sign (Digits before k) negative a x y n v i z c m text go h e bs =
       let t : eqb (m SCRATCH) 0 ≡ false = ne_eqb _ _ (λ e. omega (arith, h.seen, e)) in
-      looser f _ _ _ (fault_text 6 (word_in m0 LINE)) (2 + (84 + 1440)) (45 * length text + (109 + 1440)) (omega arith) (λ w h. h)
-      (after_on f own 4 free input_part st 1 (view a x y n v i z c (INPUT_AT + 0x91) (lo ∷ hi ∷ []) m text answers) _ _ (84 + 1440) refl
+      looser f _ _ _ (fault_text 6 (word_in m0 LINE)) (2 + (84 + 458)) (45 * length text + (109 + 458)) (omega arith) (λ w h. h)
+      (after_on f own 4 free input_part st 1 (view a x y n v i z c (INPUT_AT + 0x91) (lo ∷ hi ∷ []) m text answers) _ _ (84 + 458) refl
       (rw t (bad _ _ _ _ _ _ _ _ m text h.others)))
 
   -- a digit, which BYTE holds
-  at_digit : (r : Reading) (d : ℕ) (a x y : ℕ) (n v i z c : Bool) (m : ℕ → ℕ) (text : List ℕ) → Reads text → Held r m → m BYTE ≡ d → d < 10 → AllBytes text → Comes f (view a x y n v i z c (INPUT_AT + 0x46) (lo ∷ hi ∷ own) m text answers) (Goal (turn (with_digit r d) text)) (sends (turn (with_digit r d) text)) (27 + (45 * length text + (102 + 1440)))
+  at_digit : (r : Reading) (d : ℕ) (a x y : ℕ) (n v i z c : Bool) (m : ℕ → ℕ) (text : List ℕ) → Reads text → Held r m → m BYTE ≡ d → d < 10 → AllBytes text → Comes f (view a x y n v i z c (INPUT_AT + 0x46) (lo ∷ hi ∷ own) m text answers) (Goal (turn (with_digit r d) text)) (sends (turn (with_digit r d) text)) (27 + (45 * length text + (102 + 458)))
   unfolding Reads
   at_digit r d a x y n v i z c m text go h e small bs =
       let ten = times_ten (m RESULT) (m 0xc067) (m BYTE) h.is_word.0 h.is_word.1 (omega (arith, e)) in
-      after_on f own 4 free input_part st 26 (view a x y n v i z c (INPUT_AT + 0x46) (lo ∷ hi ∷ []) m text answers) _ _ (45 * length text + (102 + 1440)) refl
+      after_on f own 4 free input_part st 26 (view a x y n v i z c (INPUT_AT + 0x46) (lo ∷ hi ∷ []) m text answers) _ _ (45 * length text + (102 + 458)) refl
       (go (with_digit r d) _ _ _ _ _ _ _ _ _
       (record {
         seen = state_digit r d;
@@ -251,51 +252,51 @@ module _ (f : Setup) (room : ℕ) (most : 13 ≤ room) (fits : Fits f room) (blo
 
   -- ---- a byte has come
   abbrev Byte : ℕ → List ℕ → Reading → Type 0
-  Byte b text r = (x y : ℕ) (n v i z c : Bool) (m : ℕ → ℕ) → Held r m → AllBytes text → Comes f (view b x y n v i z c (INPUT_AT + 0x25) (lo ∷ hi ∷ own) m text answers) (Goal (turn r (b ∷ text))) (sends (turn r (b ∷ text))) (45 * length text + (145 + 1440))
+  Byte b text r = (x y : ℕ) (n v i z c : Bool) (m : ℕ → ℕ) → Held r m → AllBytes text → Comes f (view b x y n v i z c (INPUT_AT + 0x25) (lo ∷ hi ∷ own) m text answers) (Goal (turn r (b ∷ text))) (sends (turn r (b ∷ text))) (45 * length text + (145 + 458))
 
   space : (text : List ℕ) → Reads text → (r : Reading) → Byte 32 text r
   unfolding Reads
   space text go r x y n v i z c m h bs =
-      looser f _ _ _ (sends (turn r text)) (3 + (45 * length text + (102 + 1440))) (45 * length text + (145 + 1440)) (omega arith) (λ w h. h)
-      (after_on f own 4 free input_part st 2 (view 32 x y n v i z c (INPUT_AT + 0x25) (lo ∷ hi ∷ []) m text answers) _ _ (45 * length text + (102 + 1440)) refl
+      looser f _ _ _ (sends (turn r text)) (3 + (45 * length text + (102 + 458))) (45 * length text + (145 + 458)) (omega arith) (λ w h. h)
+      (after_on f own 4 free input_part st 2 (view 32 x y n v i z c (INPUT_AT + 0x25) (lo ∷ hi ∷ []) m text answers) _ _ (45 * length text + (102 + 458)) refl
       (go r _ _ _ _ _ _ _ _ _ (held_byte r m 32 h) bs))
 
   plus : (text : List ℕ) → Reads text → (r : Reading) → Byte 43 text r
   plus text go r x y n v i z c m h bs =
-      looser f _ _ _ (sends (signed_turn r (turn (Sign false) text))) (5 + (45 * length text + (109 + 1440))) (45 * length text + (145 + 1440)) (omega arith) (λ w h. h)
-      (after_on f own 4 free input_part st 4 (view 43 x y n v i z c (INPUT_AT + 0x25) (lo ∷ hi ∷ []) m text answers) _ _ (45 * length text + (109 + 1440)) refl
+      looser f _ _ _ (sends (signed_turn r (turn (Sign false) text))) (5 + (45 * length text + (109 + 458))) (45 * length text + (145 + 458)) (omega arith) (λ w h. h)
+      (after_on f own 4 free input_part st 4 (view 43 x y n v i z c (INPUT_AT + 0x25) (lo ∷ hi ∷ []) m text answers) _ _ (45 * length text + (109 + 458)) refl
       (at_sign r false _ _ _ _ _ _ _ _ _ text go (held_byte r m 43 h) refl bs))
 
   minus : (text : List ℕ) → Reads text → (r : Reading) → Byte 45 text r
   minus text go r x y n v i z c m h bs =
-      looser f _ _ _ (sends (signed_turn r (turn (Sign true) text))) (7 + (45 * length text + (109 + 1440))) (45 * length text + (145 + 1440)) (omega arith) (λ w h. h)
-      (after_on f own 4 free input_part st 6 (view 45 x y n v i z c (INPUT_AT + 0x25) (lo ∷ hi ∷ []) m text answers) _ _ (45 * length text + (109 + 1440)) refl
+      looser f _ _ _ (sends (signed_turn r (turn (Sign true) text))) (7 + (45 * length text + (109 + 458))) (45 * length text + (145 + 458)) (omega arith) (λ w h. h)
+      (after_on f own 4 free input_part st 6 (view 45 x y n v i z c (INPUT_AT + 0x25) (lo ∷ hi ∷ []) m text answers) _ _ (45 * length text + (109 + 458)) refl
       (at_sign r true _ _ _ _ _ _ _ _ _ text go (held_byte r m 45 h) refl bs))
 
   comma : (text : List ℕ) (r : Reading) → Byte 44 text r
   comma text r x y n v i z c m h bs =
-      looser f _ _ _ (sends (number_end r true text)) (9 + (87 + 1440)) (45 * length text + (145 + 1440)) (omega arith) (λ w h. h)
-      (after_on f own 4 free input_part st 8 (view 44 x y n v i z c (INPUT_AT + 0x25) (lo ∷ hi ∷ []) m text answers) _ _ (87 + 1440) refl
+      looser f _ _ _ (sends (number_end r true text)) (9 + (87 + 458)) (45 * length text + (145 + 458)) (omega arith) (λ w h. h)
+      (after_on f own 4 free input_part st 8 (view 44 x y n v i z c (INPUT_AT + 0x25) (lo ∷ hi ∷ []) m text answers) _ _ (87 + 458) refl
       (done r true _ _ _ _ _ _ _ _ _ text (held_byte r m 44 h) refl))
 
   return : (text : List ℕ) (r : Reading) → Byte 13 text r
   return text r x y n v i z c m h bs =
-      looser f _ _ _ (sends (number_end r false text)) (11 + (87 + 1440)) (45 * length text + (145 + 1440)) (omega arith) (λ w h. h)
-      (after_on f own 4 free input_part st 10 (view 13 x y n v i z c (INPUT_AT + 0x25) (lo ∷ hi ∷ []) m text answers) _ _ (87 + 1440) refl
+      looser f _ _ _ (sends (number_end r false text)) (11 + (87 + 458)) (45 * length text + (145 + 458)) (omega arith) (λ w h. h)
+      (after_on f own 4 free input_part st 10 (view 13 x y n v i z c (INPUT_AT + 0x25) (lo ∷ hi ∷ []) m text answers) _ _ (87 + 458) refl
       (done r false _ _ _ _ _ _ _ _ _ text (held_byte r m 13 h) refl))
 
   -- a byte that may be a digit
-  digit : (text : List ℕ) → Reads text → (r : Reading) (b : ℕ) → 48 ≤ b → b ≤ 57 → (x y : ℕ) (n v i z c : Bool) (m : ℕ → ℕ) → Held r m → AllBytes text → Comes f (view b x y n v i z c (INPUT_AT + 0x3C) (lo ∷ hi ∷ own) m text answers) (Goal (turn r (b ∷ text))) (sends (turn r (b ∷ text))) (5 + (27 + (45 * length text + (102 + 1440))))
+  digit : (text : List ℕ) → Reads text → (r : Reading) (b : ℕ) → 48 ≤ b → b ≤ 57 → (x y : ℕ) (n v i z c : Bool) (m : ℕ → ℕ) → Held r m → AllBytes text → Comes f (view b x y n v i z c (INPUT_AT + 0x3C) (lo ∷ hi ∷ own) m text answers) (Goal (turn r (b ∷ text))) (sends (turn r (b ∷ text))) (5 + (27 + (45 * length text + (102 + 458))))
   digit text go r b from to x y n v i z c m h bs =
       let d : (b + 256 - 48) % 256 ≡ b - 48 = omega arith in
       let t : leb 10 ((b + 256 - 48) % 256) ≡ false = lt-leb 10 _ (omega arith) in
-      subst (λ u. Comes f (view b x y n v i z c (INPUT_AT + 0x3C) (lo ∷ hi ∷ own) m text answers) (Goal u) (sends u) (5 + (27 + (45 * length text + (102 + 1440))))) (turn_digit r b text from to)
-      (after_on f own 4 free input_part st 4 (view b x y n v i z c (INPUT_AT + 0x3C) (lo ∷ hi ∷ []) m text answers) _ _ (27 + (45 * length text + (102 + 1440))) refl
+      subst (λ u. Comes f (view b x y n v i z c (INPUT_AT + 0x3C) (lo ∷ hi ∷ own) m text answers) (Goal u) (sends u) (5 + (27 + (45 * length text + (102 + 458))))) (turn_digit r b text from to)
+      (after_on f own 4 free input_part st 4 (view b x y n v i z c (INPUT_AT + 0x3C) (lo ∷ hi ∷ []) m text answers) _ _ (27 + (45 * length text + (102 + 458))) refl
       (rw t (at_digit r (b - 48) _ _ _ _ _ _ _ _ _ text go (held_byte r m _ h) d (omega arith) bs)))
 
-  stray : (text : List ℕ) (r : Reading) (b : ℕ) → b < 256 → (leb 48 b && leb b 57) ≡ false → leb 10 ((b + 256 - 48) % 256) ≡ true → (x y : ℕ) (n v i z c : Bool) (m : ℕ → ℕ) → Held r m → Comes f (view b x y n v i z c (INPUT_AT + 0x3C) (lo ∷ hi ∷ own) m text answers) (IsHome f) (fault_text 6 (word_in m0 LINE)) (5 + (84 + 1440))
+  stray : (text : List ℕ) (r : Reading) (b : ℕ) → b < 256 → (leb 48 b && leb b 57) ≡ false → leb 10 ((b + 256 - 48) % 256) ≡ true → (x y : ℕ) (n v i z c : Bool) (m : ℕ → ℕ) → Held r m → Comes f (view b x y n v i z c (INPUT_AT + 0x3C) (lo ∷ hi ∷ own) m text answers) (IsHome f) (fault_text 6 (word_in m0 LINE)) (5 + (84 + 458))
   stray text r b small out t x y n v i z c m h =
-      after_on f own 4 free input_part st 4 (view b x y n v i z c (INPUT_AT + 0x3C) (lo ∷ hi ∷ []) m text answers) _ _ (84 + 1440) refl
+      after_on f own 4 free input_part st 4 (view b x y n v i z c (INPUT_AT + 0x3C) (lo ∷ hi ∷ []) m text answers) _ _ (84 + 458) refl
       (rw t (bad _ _ _ _ _ _ _ _ _ text (frame_put _ _ BYTE _ refl h.others)))
 
   -- past the five tests
@@ -319,14 +320,14 @@ module _ (f : Setup) (room : ℕ) (most : 13 ≤ room) (fits : Fits f room) (blo
   other_stray : (text : List ℕ) (r : Reading) (b : ℕ) → b < 256 → b ≢ 32 → b ≢ 43 → b ≢ 45 → b ≢ 44 → b ≢ 13 → (b < 48) ⊎ (57 < b) → Byte b text r
   other_stray text r b small n32 n43 n45 n44 n13 out x y n v i z c m h bs =
       let p = not_digit b small out in
-      subst (λ u. Comes f (view b x y n v i z c (INPUT_AT + 0x25) (lo ∷ hi ∷ own) m text answers) (Goal u) (sends u) (45 * length text + (145 + 1440))) (turn_bad r b text n32 n43 n45 n44 n13 p.0)
-      (looser f _ _ _ (sends Bad) (3 + (2 + (2 + (2 + (2 + (5 + (84 + 1440))))))) (45 * length text + (145 + 1440)) (omega arith) (λ w h. h)
-      (past text b Bad (5 + (84 + 1440)) small n32 n43 n45 n44 n13 x y n v i z c m (λ n z c. stray text r b small p.0 p.1 x y n v i z c (with_byte m BYTE b) (held_byte r m b h))))
+      subst (λ u. Comes f (view b x y n v i z c (INPUT_AT + 0x25) (lo ∷ hi ∷ own) m text answers) (Goal u) (sends u) (45 * length text + (145 + 458))) (turn_bad r b text n32 n43 n45 n44 n13 p.0)
+      (looser f _ _ _ (sends Bad) (3 + (2 + (2 + (2 + (2 + (5 + (84 + 458))))))) (45 * length text + (145 + 458)) (omega arith) (λ w h. h)
+      (past text b Bad (5 + (84 + 458)) small n32 n43 n45 n44 n13 x y n v i z c m (λ n z c. stray text r b small p.0 p.1 x y n v i z c (with_byte m BYTE b) (held_byte r m b h))))
 
   other_digit : (text : List ℕ) → Reads text → (r : Reading) (b : ℕ) → b ≢ 32 → b ≢ 43 → b ≢ 45 → b ≢ 44 → b ≢ 13 → 48 ≤ b → b ≤ 57 → Byte b text r
   other_digit text go r b n32 n43 n45 n44 n13 from to x y n v i z c m h bs =
-      looser f _ _ _ (sends (turn r (b ∷ text))) (3 + (2 + (2 + (2 + (2 + (5 + (27 + (45 * length text + (102 + 1440))))))))) (45 * length text + (145 + 1440)) (omega arith) (λ w h. h)
-      (past text b (turn r (b ∷ text)) (5 + (27 + (45 * length text + (102 + 1440)))) (omega (arith, to)) n32 n43 n45 n44 n13 x y n v i z c m (λ n z c. digit text go r b from to x y n v i z c (with_byte m BYTE b) (held_byte r m b h) bs))
+      looser f _ _ _ (sends (turn r (b ∷ text))) (3 + (2 + (2 + (2 + (2 + (5 + (27 + (45 * length text + (102 + 458))))))))) (45 * length text + (145 + 458)) (omega arith) (λ w h. h)
+      (past text b (turn r (b ∷ text)) (5 + (27 + (45 * length text + (102 + 458)))) (omega (arith, to)) n32 n43 n45 n44 n13 x y n v i z c m (λ n z c. digit text go r b from to x y n v i z c (with_byte m BYTE b) (held_byte r m b h) bs))
 
   any : (text : List ℕ) → Reads text → (r : Reading) (b : ℕ) → b < 256 → Byte b text r
   any text go r b small =
@@ -342,18 +343,18 @@ module _ (f : Setup) (room : ℕ) (most : 13 ≤ room) (fits : Fits f room) (blo
   reads_all : (text : List ℕ) → Reads text
   unfolding Reads
   reads_all [] r a x y n v i z c m h bs =
-      looser f _ _ _ [] 1 (45 * 0 + (102 + 1440)) (omega arith) (λ w h. h)
+      looser f _ _ _ [] 1 (45 * 0 + (102 + 458)) (omega arith) (λ w h. h)
       (ending_on f own 4 free input_part st 0 (view a x y n v i z c (INPUT_AT + 0x22) (lo ∷ hi ∷ []) m [] answers) _ refl (record { pc = refl; text = refl }, (omega arith)))
   reads_all (b ∷ text) r a x y n v i z c m h bs =
-      looser f _ _ _ (sends (turn r (b ∷ text))) (1 + (1 + (45 * length text + (145 + 1440)))) (45 * length (b ∷ text) + (102 + 1440)) (omega arith) (λ w h. h)
-      (after_on f own 4 free input_part st 0 (view a x y n v i z c (INPUT_AT + 0x22) (lo ∷ hi ∷ []) m (b ∷ text) answers) _ _ (1 + (45 * length text + (145 + 1440))) refl
-      (serving f room fits Chrin _ _ _ _ _ (sends (turn r (b ∷ text))) (45 * length text + (145 + 1440)) (le-leb _ _ (omega (arith, deep, length-append above (hlo ∷ hhi ∷ [])))) refl refl refl (λ j.
+      looser f _ _ _ (sends (turn r (b ∷ text))) (1 + (1 + (45 * length text + (145 + 458)))) (45 * length (b ∷ text) + (102 + 458)) (omega arith) (λ w h. h)
+      (after_on f own 4 free input_part st 0 (view a x y n v i z c (INPUT_AT + 0x22) (lo ∷ hi ∷ []) m (b ∷ text) answers) _ _ (1 + (45 * length text + (145 + 458))) refl
+      (serving f room fits Chrin _ _ _ _ _ (sends (turn r (b ∷ text))) (45 * length text + (145 + 458)) (le-leb _ _ (omega (arith, deep, length-append above (hlo ∷ hhi ∷ [])))) refl refl refl (λ j.
       any text (reads_all text) r b bs.0 j.x j.y j.n j.v j.i j.z j.c m h bs.1)))
 
-  start : (a x y : ℕ) (n v i z c : Bool) (m : ℕ → ℕ) (text : List ℕ) → AllBytes text → m OPEN ≡ 1 → m COLUMN ≡ column_after col before % 256 → Frame m0 m → Comes f (view a x y n v i z c (INPUT_AT + 0x14) (lo ∷ hi ∷ own) m text answers) (Goal (turn Nothing text)) (sends (turn Nothing text)) (5 + (45 * length text + (102 + 1440)))
+  start : (a x y : ℕ) (n v i z c : Bool) (m : ℕ → ℕ) (text : List ℕ) → AllBytes text → m OPEN ≡ 1 → m COLUMN ≡ column_after col before % 256 → Frame m0 m → Comes f (view a x y n v i z c (INPUT_AT + 0x14) (lo ∷ hi ∷ own) m text answers) (Goal (turn Nothing text)) (sends (turn Nothing text)) (5 + (45 * length text + (102 + 458)))
   unfolding Reads
   start a x y n v i z c m text bs o e k =
-      after_on f own 4 free input_part st 4 (view a x y n v i z c (INPUT_AT + 0x14) (lo ∷ hi ∷ []) m text answers) _ _ (45 * length text + (102 + 1440)) refl
+      after_on f own 4 free input_part st 4 (view a x y n v i z c (INPUT_AT + 0x14) (lo ∷ hi ∷ []) m text answers) _ _ (45 * length text + (102 + 458)) refl
       (reads_all text Nothing _ _ _ _ _ _ _ _ _
       (record { seen = refl; minus = refl; is_word = (small_byte 0, small_byte 0); value = refl; line_open = o; column = e; others = frame_put _ _ MINUS _ refl (frame_put _ _ SCRATCH _ refl (frame_put _ _ 0xc067 _ refl (frame_put _ _ RESULT _ refl k))) }) bs)
 
@@ -362,8 +363,8 @@ input_law f room most fits block hlo hhi above deep lo hi text answers m e bs tr
     let own = above ++ hlo ∷ hhi ∷ [] in
     let free : Fits (under f own) 4 = omega (arith, fits, deep, length-append own f.rest, length-append above (hlo ∷ hhi ∷ [])) in
     let t : eqb (m OPEN) 0 ≡ false = ne_eqb _ _ (λ e. omega (arith, o, e)) in
-    looser f _ _ _ (turn_sends (word_in m LINE) (turn Nothing text)) (2 + (5 + (45 * length text + (102 + 1440)))) (45 * length text + (129 + 1440)) (omega arith) (λ w h. h)
-    (after_on f own 4 free input_part (input_in f.code block) 1 (view a x y n v i z c INPUT_AT (lo ∷ hi ∷ []) m text answers) _ _ (5 + (45 * length text + (102 + 1440))) refl
+    looser f _ _ _ (turn_sends (word_in m LINE) (turn Nothing text)) (2 + (5 + (45 * length text + (102 + 458)))) (45 * length text + (129 + 458)) (omega arith) (λ w h. h)
+    (after_on f own 4 free input_part (input_in f.code block) 1 (view a x y n v i z c INPUT_AT (lo ∷ hi ∷ []) m text answers) _ _ (5 + (45 * length text + (102 + 458))) refl
     (rw t (start f room most fits block hlo hhi above deep lo hi answers m e col [] _ _ _ _ _ _ _ _ m text bs o column (λ a t. refl))))
 input_law f room most fits block hlo hhi above deep lo hi text answers m e bs false o col column a x y n v i z c =
     let own = above ++ hlo ∷ hhi ∷ [] in
@@ -372,14 +373,14 @@ input_law f room most fits block hlo hhi above deep lo hi text answers m e bs fa
     let inside : Fits (under f (lo ∷ hi ∷ own)) 2 = omega (arith, fits, deep, length-append own f.rest, size) in
     let st = input_in f.code block in
     let t : eqb (m OPEN) 0 ≡ true = eq-eqb _ _ o in
-    let rest = 2 + (5 + (45 * length text + (102 + 1440))) in
+    let rest = 2 + (5 + (45 * length text + (102 + 458))) in
     let last = turn_sends (word_in m LINE) (turn Nothing text) in
-    looser f _ _ _ (63 ∷ 32 ∷ last) (2 + (2 + (7 + (2 + (7 + rest))))) (45 * length text + (129 + 1440)) (omega arith) (λ w h. h)
+    looser f _ _ _ (63 ∷ 32 ∷ last) (2 + (2 + (7 + (2 + (7 + rest))))) (45 * length text + (129 + 458)) (omega arith) (λ w h. h)
     (after_on f own 4 free input_part st 1 (view a x y n v i z c INPUT_AT (lo ∷ hi ∷ []) m text answers) _ _ (2 + (7 + (2 + (7 + rest)))) refl
     (rw t (after_on f own 4 free input_part st 1 (view _ _ _ _ _ _ _ _ (INPUT_AT + 0x5) (lo ∷ hi ∷ []) m text answers) _ _ (7 + (2 + (7 + rest))) refl
     (saying f (lo ∷ hi ∷ own) inside block ((INPUT_AT + 0x9) % 256) ((INPUT_AT + 0x9) / 256) text answers m 63 _ _ _ _ _ _ _ (omega arith) _ (32 ∷ last) (2 + (7 + rest)) (λ a x y n v i z c m1 c1 k1.
     after_on f own 4 free input_part st 1 (view a x y n v i z c (INPUT_AT + 0xA) (lo ∷ hi ∷ []) m1 text answers) _ _ (7 + rest) refl
     (saying f (lo ∷ hi ∷ own) inside block ((INPUT_AT + 0xE) % 256) ((INPUT_AT + 0xE) / 256) text answers m1 32 _ _ _ _ _ _ _ (omega arith) _ last rest (λ a x y n v i z c m2 c2 k2.
-    after_on f own 4 free input_part st 1 (view a x y n v i z c (INPUT_AT + 0xF) (lo ∷ hi ∷ []) m2 text answers) _ _ (5 + (45 * length text + (102 + 1440))) refl
+    after_on f own 4 free input_part st 1 (view a x y n v i z c (INPUT_AT + 0xF) (lo ∷ hi ∷ []) m2 text answers) _ _ (5 + (45 * length text + (102 + 458))) refl
     (start f room most fits block hlo hhi above deep lo hi answers m e col (63 ∷ 32 ∷ []) _ _ _ _ _ _ _ _ _ text bs refl (omega (arith, column, c1, c2))
     (frame_put _ _ OPEN _ refl (λ a t. let away : a ≢ COLUMN = λ x. false≢true (sym t ∙ ap is_changed x) in k2 a away ∙ k1 a away))))))))))

@@ -7,8 +7,11 @@ pub mod ZoneRuns
 pub mod TextRuns
 pub mod Words
 pub mod MultiplyRuns
+pub mod WideRuns
+pub mod NarrowRuns
 pub mod UnsignedRuns
 pub mod DivideRuns
+pub mod DigitTexts
 pub mod NumberRuns
 pub mod RandomRuns
 pub mod PrologueRuns

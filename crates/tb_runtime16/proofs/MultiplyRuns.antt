@@ -1,6 +1,6 @@
 -- Multiply.
-use Rattle.std.proofs.Common.{◌≡◌, ◌≢◌, ℕ, zero, suc, ◌+◌, ◌*◌, ◌/◌, ◌%◌, ◌<◌, Bool, true, false, List, [], ◌∷◌, refl, sym, ap, ◌∙◌, ⊎_elim, arith, eqb}
-use Rattle.std.proofs.lemmas.Bool.{ne_eqb, eq-eqb, cases_eq}
+use Rattle.std.proofs.Common.{◌≡◌, ◌≢◌, ℕ, zero, suc, ◌+◌, ◌-◌, ◌*◌, ◌/◌, ◌%◌, ◌<◌, ◌≤◌, Bool, true, false, List, [], ◌∷◌, refl, sym, ap, ◌∙◌, subst, ⊎_elim, arith, eqb}
+use Rattle.std.proofs.lemmas.Bool.{ne_eqb, eq-eqb, cases_eq, cases_lt}
 use Rattle.tb_cpu.specs.Operands.{word_in}
 use Rattle.tb_cpu.specs.Effects.{bit}
 use Rattle.tb_memmap.specs.Bytes.{with_byte}
@@ -24,6 +24,23 @@ abbrev pow2 : ℕ → ℕ
 pow2 zero = 1
 pow2 (suc k) = pow2 k + pow2 k
 
+pow2_rises : (k j : ℕ) → pow2 k ≤ pow2 (k + j)
+pow2_rises k zero = let e : k ≡ k + 0 = omega arith in subst (λ n. pow2 k ≤ pow2 n) e (omega arith)
+pow2_rises k (suc j) =
+    let e : suc (k + j) ≡ k + suc j = omega arith in
+    let s : pow2 (suc (k + j)) ≡ pow2 (k + j) + pow2 (k + j) = refl in
+    subst (λ n. pow2 k ≤ pow2 n) e (omega (arith, s, pow2_rises k j))
+
+byte_bits : (k : ℕ) → k < 8 → pow2 k ≤ 128
+byte_bits k h =
+    let e : k + (7 - k) ≡ 7 = omega (arith, h) in
+    let s : pow2 (k + (7 - k)) ≡ 128 = ap pow2 e in
+    omega (arith, pow2_rises k (7 - k), s)
+
+-- how many Go events k rounds take at most: 14 each, and two more where RIGHT's high byte is looked at
+abbrev rounds : ℕ → ℕ
+rounds k = 14 * k + 2 * (k - 8)
+
 module _ (f : Setup) (fits : Fits f 2) (block : Holds block_part f.code) (lo hi : ℕ) (text answers : List ℕ) (m0 : ℕ → ℕ) where
   record Held (m : ℕ → ℕ) : Type 0 where
     p : IsWord m LEFT
@@ -33,10 +50,10 @@ module _ (f : Setup) (fits : Fits f 2) (block : Holds block_part f.code) (lo hi 
 
   -- behind the sum, the low byte of the result in A: RIGHT has k bits left
   Skip : ℕ → Type 0
-  Skip k = (a x y : ℕ) (n v i z c : Bool) (m : ℕ → ℕ) (product : ℕ) → a < 256 → Held m → word_in m RIGHT < pow2 k → product ≡ (a + 256 * m 0xc067 + 2 * word_in m LEFT * word_in m RIGHT) % 65536 → Comes f (view a x y n v i z c (MULTIPLY_AT + 29) (lo ∷ hi ∷ []) m text answers) (Back lo hi text answers (Multiplied m0 product)) [] (16 * k + 8)
+  Skip k = (a x y : ℕ) (n v i z c : Bool) (m : ℕ → ℕ) (product : ℕ) → a < 256 → Held m → word_in m RIGHT < pow2 k → product ≡ (a + 256 * m 0xc067 + 2 * word_in m LEFT * word_in m RIGHT) % 65536 → Comes f (view a x y n v i z c (MULTIPLY_AT + 29) (lo ∷ hi ∷ []) m text answers) (Back lo hi text answers (Multiplied m0 product)) [] (rounds k + 8)
 
   Turn : ℕ → Type 0
-  Turn k = (a x y : ℕ) (n v i z c : Bool) (m : ℕ → ℕ) (product : ℕ) → a < 256 → Held m → word_in m RIGHT < pow2 k + pow2 k → product ≡ (a + 256 * m 0xc067 + word_in m LEFT * word_in m RIGHT) % 65536 → Comes f (view a x y n v i z c (MULTIPLY_AT + 6) (lo ∷ hi ∷ []) m text answers) (Back lo hi text answers (Multiplied m0 product)) [] (16 * k + 18)
+  Turn k = (a x y : ℕ) (n v i z c : Bool) (m : ℕ → ℕ) (product : ℕ) → a < 256 → Held m → word_in m RIGHT < pow2 k + pow2 k → product ≡ (a + 256 * m 0xc067 + word_in m LEFT * word_in m RIGHT) % 65536 → Comes f (view a x y n v i z c (MULTIPLY_AT + 6) (lo ∷ hi ∷ []) m text answers) (Back lo hi text answers (Multiplied m0 product)) [] (rounds k + 18)
 
   last : (a x y : ℕ) (n v i z c : Bool) (m : ℕ → ℕ) (product : ℕ) → a < 256 → Held m → product ≡ a + 256 * m 0xc067 → Comes f (view a x y n v i z c (MULTIPLY_AT + 45) (lo ∷ hi ∷ []) m text answers) (Back lo hi text answers (Multiplied m0 product)) [] 2
   last a x y n v i z c m product small h e = ending f 2 fits multiply_part (multiply_in f.code block) 1 (view a x y n v i z c (MULTIPLY_AT + 45) (lo ∷ hi ∷ []) m text answers) _ refl
@@ -57,11 +74,11 @@ module _ (f : Setup) (fits : Fits f 2) (block : Holds block_part f.code) (lo hi 
       after f 2 fits multiply_part (multiply_in f.code block) 1 (view a x y n v i z c (MULTIPLY_AT + 40) (lo ∷ hi ∷ []) m text answers) _ _ 2 refl
       (rw t (last _ _ _ _ _ _ _ _ m product small h e))
 
-  high_more : (k : ℕ) → Turn k → (a x y : ℕ) (n v i z c : Bool) (m : ℕ → ℕ) (product : ℕ) → a < 256 → Held m → m 0xc065 ≢ 0 → word_in m RIGHT < pow2 k + pow2 k → product ≡ (a + 256 * m 0xc067 + word_in m LEFT * word_in m RIGHT) % 65536 → Comes f (view a x y n v i z c (MULTIPLY_AT + 40) (lo ∷ hi ∷ []) m text answers) (Back lo hi text answers (Multiplied m0 product)) [] (2 + (16 * k + 18))
+  high_more : (k : ℕ) → Turn k → (a x y : ℕ) (n v i z c : Bool) (m : ℕ → ℕ) (product : ℕ) → a < 256 → Held m → m 0xc065 ≢ 0 → word_in m RIGHT < pow2 k + pow2 k → product ≡ (a + 256 * m 0xc067 + word_in m LEFT * word_in m RIGHT) % 65536 → Comes f (view a x y n v i z c (MULTIPLY_AT + 40) (lo ∷ hi ∷ []) m text answers) (Back lo hi text answers (Multiplied m0 product)) [] (2 + (rounds k + 18))
   unfolding Turn
   high_more k go a x y n v i z c m product small h some bound e =
       let t : eqb (m 0xc065) 0 ≡ false = ne_eqb _ _ some in
-      after f 2 fits multiply_part (multiply_in f.code block) 1 (view a x y n v i z c (MULTIPLY_AT + 40) (lo ∷ hi ∷ []) m text answers) _ _ (16 * k + 18) refl
+      after f 2 fits multiply_part (multiply_in f.code block) 1 (view a x y n v i z c (MULTIPLY_AT + 40) (lo ∷ hi ∷ []) m text answers) _ _ (rounds k + 18) refl
       (rw t (go _ _ _ _ _ _ _ _ m product small h bound e))
 
   -- LEFT is doubled, and nothing of RIGHT is left
@@ -81,17 +98,17 @@ module _ (f : Setup) (fits : Fits f 2) (block : Holds block_part f.code) (lo hi 
   twice : (a : ℕ) (m : ℕ → ℕ) (product : ℕ) → Held m → product ≡ (a + 256 * m 0xc067 + 2 * word_in m LEFT * word_in m RIGHT) % 65536 → product ≡ (a + 256 * m 0xc067 + (2 * m LEFT % 256 + 256 * (2 * m 0xc063 % 256 + bit (eqb (m LEFT / 128 % 2) 1))) * word_in m RIGHT) % 65536
   twice a m product h e = e ∙ sym (turn_double (a + 256 * m 0xc067) (word_in m LEFT) (word_in m RIGHT)) ∙ ap (λ x. (a + 256 * m 0xc067 + x * word_in m RIGHT) % 65536) (sym (doubled (m LEFT) (m 0xc063) h.p.0 h.p.1))
 
-  goes_on : (k : ℕ) → Turn k → (a x y : ℕ) (n v i z c : Bool) (m : ℕ → ℕ) (product : ℕ) → a < 256 → Held m → m RIGHT ≢ 0 → word_in m RIGHT < pow2 k + pow2 k → product ≡ (a + 256 * m 0xc067 + 2 * word_in m LEFT * word_in m RIGHT) % 65536 → Comes f (view a x y n v i z c (MULTIPLY_AT + 29) (lo ∷ hi ∷ []) m text answers) (Back lo hi text answers (Multiplied m0 product)) [] (4 + (16 * k + 18))
+  goes_on : (k : ℕ) → Turn k → (a x y : ℕ) (n v i z c : Bool) (m : ℕ → ℕ) (product : ℕ) → a < 256 → Held m → m RIGHT ≢ 0 → word_in m RIGHT < pow2 k + pow2 k → product ≡ (a + 256 * m 0xc067 + 2 * word_in m LEFT * word_in m RIGHT) % 65536 → Comes f (view a x y n v i z c (MULTIPLY_AT + 29) (lo ∷ hi ∷ []) m text answers) (Back lo hi text answers (Multiplied m0 product)) [] (4 + (rounds k + 18))
   unfolding Turn
   goes_on k go a x y n v i z c m product small h some bound e =
       let t : eqb (m RIGHT) 0 ≡ false = ne_eqb _ _ some in
-      after f 2 fits multiply_part (multiply_in f.code block) 3 (view a x y n v i z c (MULTIPLY_AT + 29) (lo ∷ hi ∷ []) m text answers) _ _ (16 * k + 18) refl
+      after f 2 fits multiply_part (multiply_in f.code block) 3 (view a x y n v i z c (MULTIPLY_AT + 29) (lo ∷ hi ∷ []) m text answers) _ _ (rounds k + 18) refl
       (rw t (go _ _ _ _ _ _ _ _ _ product small (doubled_held m h) bound (twice a m product h e)))
 
-  goes_high : (k : ℕ) → Turn k → (a x y : ℕ) (n v i z c : Bool) (m : ℕ → ℕ) (product : ℕ) → a < 256 → Held m → m RIGHT ≡ 0 → m 0xc065 ≢ 0 → word_in m RIGHT < pow2 k + pow2 k → product ≡ (a + 256 * m 0xc067 + 2 * word_in m LEFT * word_in m RIGHT) % 65536 → Comes f (view a x y n v i z c (MULTIPLY_AT + 29) (lo ∷ hi ∷ []) m text answers) (Back lo hi text answers (Multiplied m0 product)) [] (4 + (2 + (16 * k + 18)))
+  goes_high : (k : ℕ) → Turn k → (a x y : ℕ) (n v i z c : Bool) (m : ℕ → ℕ) (product : ℕ) → a < 256 → Held m → m RIGHT ≡ 0 → m 0xc065 ≢ 0 → word_in m RIGHT < pow2 k + pow2 k → product ≡ (a + 256 * m 0xc067 + 2 * word_in m LEFT * word_in m RIGHT) % 65536 → Comes f (view a x y n v i z c (MULTIPLY_AT + 29) (lo ∷ hi ∷ []) m text answers) (Back lo hi text answers (Multiplied m0 product)) [] (4 + (2 + (rounds k + 18)))
   goes_high k go a x y n v i z c m product small h low some bound e =
       let t : eqb (m RIGHT) 0 ≡ true = eq-eqb _ _ low in
-      after f 2 fits multiply_part (multiply_in f.code block) 3 (view a x y n v i z c (MULTIPLY_AT + 29) (lo ∷ hi ∷ []) m text answers) _ _ (2 + (16 * k + 18)) refl
+      after f 2 fits multiply_part (multiply_in f.code block) 3 (view a x y n v i z c (MULTIPLY_AT + 29) (lo ∷ hi ∷ []) m text answers) _ _ (2 + (rounds k + 18)) refl
       (rw t (high_more k go _ _ _ _ _ _ _ _ _ product small (doubled_held m h) some bound (twice a m product h e)))
 
   skip_more : (k : ℕ) → Turn k → Skip (suc k)
@@ -99,18 +116,21 @@ module _ (f : Setup) (fits : Fits f 2) (block : Holds block_part f.code) (lo hi 
   skip_more k go a x y n v i z c m product small h bound e =
       ⊎_elim
       (λ low. ⊎_elim
-      (λ high. looser f _ _ _ [] 8 (16 * suc k + 8) (omega arith) (λ w h. h) (stops a x y n v i z c m product small h low high e))
-      (λ some. looser f _ _ _ [] (4 + (2 + (16 * k + 18))) (16 * suc k + 8) (omega arith) (λ w h. h) (goes_high k go a x y n v i z c m product small h low some bound e))
+      (λ high. looser f _ _ _ [] 8 (rounds (suc k) + 8) (omega arith) (λ w h. h) (stops a x y n v i z c m product small h low high e))
+      (λ some. ⊎_elim
+      (λ few. let none : m 0xc065 ≡ 0 = omega (arith, bound, byte_bits k few) in absurd (some none))
+      (λ many. looser f _ _ _ [] (4 + (2 + (rounds k + 18))) (rounds (suc k) + 8) (omega (arith, many)) (λ w h. h) (goes_high k go a x y n v i z c m product small h low some bound e))
+      (cases_lt k 8))
       (cases_eq (m 0xc065) 0))
-      (λ some. looser f _ _ _ [] (4 + (16 * k + 18)) (16 * suc k + 8) (omega arith) (λ w h. h) (goes_on k go a x y n v i z c m product small h some bound e))
+      (λ some. looser f _ _ _ [] (4 + (rounds k + 18)) (rounds (suc k) + 8) (omega arith) (λ w h. h) (goes_on k go a x y n v i z c m product small h some bound e))
       (cases_eq (m RIGHT) 0)
 
   -- the result and LEFT
-  sum : (k : ℕ) → Skip k → (a x y : ℕ) (n v i z c : Bool) (m : ℕ → ℕ) (product : ℕ) → a < 256 → Held m → word_in m RIGHT < pow2 k → product ≡ ((a + 256 * m 0xc067 + word_in m LEFT) % 65536 + 2 * word_in m LEFT * word_in m RIGHT) % 65536 → Comes f (view a x y n v i z c (MULTIPLY_AT + 14) (lo ∷ hi ∷ []) m text answers) (Back lo hi text answers (Multiplied m0 product)) [] (7 + (16 * k + 8))
+  sum : (k : ℕ) → Skip k → (a x y : ℕ) (n v i z c : Bool) (m : ℕ → ℕ) (product : ℕ) → a < 256 → Held m → word_in m RIGHT < pow2 k → product ≡ ((a + 256 * m 0xc067 + word_in m LEFT) % 65536 + 2 * word_in m LEFT * word_in m RIGHT) % 65536 → Comes f (view a x y n v i z c (MULTIPLY_AT + 14) (lo ∷ hi ∷ []) m text answers) (Back lo hi text answers (Multiplied m0 product)) [] (7 + (rounds k + 8))
   unfolding Skip
   sum k go a x y n v i z c m product small h bound e =
       let s = added a (m 0xc067) (m LEFT) (m 0xc063) small h.r h.p.0 h.p.1 in
-      after f 2 fits multiply_part (multiply_in f.code block) 6 (view a x y n v i z c (MULTIPLY_AT + 14) (lo ∷ hi ∷ []) m text answers) _ _ (16 * k + 8) refl
+      after f 2 fits multiply_part (multiply_in f.code block) 6 (view a x y n v i z c (MULTIPLY_AT + 14) (lo ∷ hi ∷ []) m text answers) _ _ (rounds k + 8) refl
       (go _ _ _ _ _ _ _ _ _ product (omega arith)
       (record { p = h.p; q = h.q; r = omega arith; others = frame_put _ _ 0xc067 _ refl h.others })
       bound (e ∙ ap (λ x. (x + 2 * word_in m LEFT * word_in m RIGHT) % 65536) (sym s)))
@@ -124,13 +144,13 @@ module _ (f : Setup) (fits : Fits f 2) (block : Holds block_part f.code) (lo hi 
       record { p = h.p; q = (omega (arith, half, h.q.0, h.q.1), omega (arith, h.q.1)); r = h.r; others = frame_put _ _ RIGHT _ refl (frame_put _ _ 0xc065 _ refl h.others) } in
       ⊎_elim
       (λ odd. let b : eqb (m RIGHT / 1 % 2) 1 ≡ true = eq-eqb _ _ (omega (arith, odd)) in
-      looser f _ _ _ [] (3 + (7 + (16 * k + 8))) (16 * k + 18) (omega arith) (λ w h. h)
-      (after f 2 fits multiply_part (multiply_in f.code block) 2 (view a x y n v i z c (MULTIPLY_AT + 6) (lo ∷ hi ∷ []) m text answers) _ _ (7 + (16 * k + 8)) refl
+      looser f _ _ _ [] (3 + (7 + (rounds k + 8))) (rounds k + 18) (omega arith) (λ w h. h)
+      (after f 2 fits multiply_part (multiply_in f.code block) 2 (view a x y n v i z c (MULTIPLY_AT + 6) (lo ∷ hi ∷ []) m text answers) _ _ (7 + (rounds k + 8)) refl
       (rw b (sum k go _ _ _ _ _ _ _ _ _ product small shifted less
       (e ∙ sym (turn_odd (a + 256 * m 0xc067) (word_in m LEFT) (word_in m RIGHT) (omega arith)) ∙ ap (λ q. ((a + 256 * m 0xc067 + word_in m LEFT) % 65536 + 2 * word_in m LEFT * q) % 65536) (sym half))))))
       (λ even. let b : eqb (m RIGHT / 1 % 2) 1 ≡ false = ne_eqb _ _ (λ h. even (omega (arith, h))) in
-      looser f _ _ _ [] (3 + (16 * k + 8)) (16 * k + 18) (omega arith) (λ w h. h)
-      (after f 2 fits multiply_part (multiply_in f.code block) 2 (view a x y n v i z c (MULTIPLY_AT + 6) (lo ∷ hi ∷ []) m text answers) _ _ (16 * k + 8) refl
+      looser f _ _ _ [] (3 + (rounds k + 8)) (rounds k + 18) (omega arith) (λ w h. h)
+      (after f 2 fits multiply_part (multiply_in f.code block) 2 (view a x y n v i z c (MULTIPLY_AT + 6) (lo ∷ hi ∷ []) m text answers) _ _ (rounds k + 8) refl
       (rw b (go _ _ _ _ _ _ _ _ _ product small shifted less
       (e ∙ sym (turn_even (a + 256 * m 0xc067) (word_in m LEFT) (word_in m RIGHT) (omega arith)) ∙ ap (λ q. (a + 256 * m 0xc067 + 2 * word_in m LEFT * q) % 65536) (sym half))))))
       (cases_eq (m RIGHT % 2) 1)
@@ -139,11 +159,11 @@ module _ (f : Setup) (fits : Fits f 2) (block : Holds block_part f.code) (lo hi 
   skips zero = skip_none
   skips (suc k) = skip_more k (turn k (skips k))
 
-  whole : (a x y : ℕ) (n v i z c : Bool) → IsWord m0 LEFT → IsWord m0 RIGHT → Comes f (view a x y n v i z c MULTIPLY_AT (lo ∷ hi ∷ []) m0 text answers) (Back lo hi text answers (Multiplied m0 ((word_in m0 LEFT * word_in m0 RIGHT) % 65536))) [] 262
+  whole : (a x y : ℕ) (n v i z c : Bool) → IsWord m0 LEFT → IsWord m0 RIGHT → Comes f (view a x y n v i z c MULTIPLY_AT (lo ∷ hi ∷ []) m0 text answers) (Back lo hi text answers (Multiplied m0 ((word_in m0 LEFT * word_in m0 RIGHT) % 65536))) [] 245
   unfolding Turn
   whole a x y n v i z c p q =
-      looser f _ _ _ [] (3 + 258) 262 (omega arith) (λ w h. h)
-      (after f 2 fits multiply_part (multiply_in f.code block) 2 (view a x y n v i z c MULTIPLY_AT (lo ∷ hi ∷ []) m0 text answers) _ _ 258 refl
+      looser f _ _ _ [] (3 + 242) 245 (omega arith) (λ w h. h)
+      (after f 2 fits multiply_part (multiply_in f.code block) 2 (view a x y n v i z c MULTIPLY_AT (lo ∷ hi ∷ []) m0 text answers) _ _ 242 refl
       (turn 15 (skips 15) _ _ _ _ _ _ _ _ _ ((word_in m0 LEFT * word_in m0 RIGHT) % 65536) (omega arith)
       (record { p = p; q = q; r = omega arith; others = frame_put _ _ 0xc067 _ refl (λ a e. refl) })
       (omega (arith, p, q)) (let z : 0 + 256 * 0 + word_in m0 LEFT * word_in m0 RIGHT ≡ word_in m0 LEFT * word_in m0 RIGHT = omega arith in ap (λ x. x % 65536) (sym z))))

@@ -1,59 +1,43 @@
 -- Number.
-use Rattle.std.proofs.Common.{◌≡◌, ◌≢◌, ℕ, zero, suc, ◌+◌, ◌-◌, ◌*◌, ◌/◌, ◌%◌, ◌<◌, ◌≤◌, Bool, true, false, if◌then◌else◌, List, [], ◌∷◌, ◌++◌, length, refl, sym, ap, ◌∙◌, subst, ⊎_elim, arith, eqb, length-append}
-use Rattle.std.proofs.lemmas.Bool.{ne_eqb, eq-eqb, cases_eq, cases_lt, le-leb, lt-leb}
+use Rattle.std.proofs.Common.{◌≡◌, ◌≢◌, ℕ, zero, suc, ◌+◌, ◌-◌, ◌*◌, ◌/◌, ◌%◌, ◌<◌, ◌≤◌, Bool, true, false, not, if◌then◌else◌, List, [], ◌∷◌, length, refl, sym, ap, ◌∙◌, subst, ⊎_elim, arith, eqb}
+use Rattle.std.specs.Prelude.{nat_le, bit_or}
+use Rattle.std.proofs.lemmas.Bool.{false≢true, ne_eqb, eq-eqb, cases_eq}
 use Rattle.tb_cpu.specs.Operands.{word_in}
+use Rattle.tb_cpu.specs.Effects.{bit}
 use Rattle.tb_memmap.specs.Bytes.{with_byte}
-use Rattle.tb_reaching.specs.View.{Setup, Holds, Fits, Comes, view}
-use Rattle.tb_reaching.proofs.Comes.{after, ending, looser}
+use Rattle.tb_reaching.specs.View.{Setup, View, Holds, Fits, Comes, view}
+use Rattle.tb_reaching.proofs.Comes.{after, looser}
 use Rattle.tb_reaching.proofs.Calls.{under}
+use Rattle.tb_reaching.proofs.Memory.{put_other}
 use Rattle.tb_words.specs.Words.{is_negative, magnitude, negated, digits_before, digits_of}
-use Rattle.tb_runtime16.specs.Places.{SEND_AT, NUMBER_AT, COLUMN, LEFT, RIGHT, RESULT}
+use Rattle.tb_runtime16.specs.Places.{SEND_AT, NUMBER_AT, COLUMN, LEFT, RIGHT}
 use Rattle.tb_runtime16.specs.Block.{block_part}
-use Rattle.tb_runtime16.specs.Laws.{is_argument, negate_left_at, IsWord, Leaves, Back, Parted, NumberLaw}
+use Rattle.tb_runtime16.specs.Laws.{is_argument, negate_left_at, IsWord, Back, NumberLaw}
 use Rattle.tb_runtime16.proofs.Within.{number_part, number_in}
-use Rattle.tb_runtime16.proofs.Words.{sign_of, sign_small, sign_none, magnitude_negative}
+use Rattle.tb_runtime16.proofs.Words.{borrow, sign_of, sign_small, sign_none, negated_size}
 use Rattle.tb_runtime16.proofs.Frames.{skip}
-use Rattle.tb_runtime16.proofs.Called.{above, calls, back_looser}
-use Rattle.tb_runtime16.proofs.SendRuns.{send_law}
-use Rattle.tb_runtime16.proofs.UnsignedRuns.{unsigned_law}
-use Rattle.tb_runtime16.proofs.DivideRuns.{sign_case, negate_left}
-
--- Send, with a column that is a byte
-record Counted (m0 : ℕ → ℕ) (b : ℕ) (m : ℕ → ℕ) : Type 0 where
-  column : m COLUMN ≡ (if eqb b 13 then 0 else (m0 COLUMN + 1) % 256)
-  others : (a : ℕ) → a ≢ COLUMN → m a ≡ m0 a
-
-byte_column : (t : Bool) (c : ℕ) → (if t then 0 else c + 1) % 256 ≡ (if t then 0 else (c + 1) % 256)
-byte_column true c = refl
-byte_column false c = refl
-
-send_works : (g : Setup) → Holds block_part g.code → Fits g 4 → (lo hi : ℕ) (text answers : List ℕ) (m : ℕ → ℕ) (a x y : ℕ) (n v i z c : Bool) → a < 256 → m COLUMN < 256 → Comes g (view a x y n v i z c SEND_AT (lo ∷ hi ∷ []) m text answers) (Back lo hi text answers (Counted m a)) (a ∷ []) 8
-send_works g block fits lo hi text answers m a x y n v i z c small w =
-    back_looser g _ lo hi text answers _ _ (a ∷ []) 7 8 (omega arith) (send_law g (omega (arith, fits)) block lo hi text answers m a x y n v i z c small)
-    (λ u h. record { column = h.column ∙ byte_column (eqb a 13) (m COLUMN); others = h.others })
-
--- decimal digits_of as bytes
-abbrev Digits : List ℕ → Type 0
-Digits [] = Unit {0}
-Digits (d ∷ ds) = (48 ≤ d) × (d < 58) × Digits ds
-
-abbrev ten : ℕ → ℕ
-ten zero = 10
-ten (suc k) = 10 * ten k
-
-left_column : LEFT ≢ COLUMN
-left_column e = omega (arith, e)
-
-high_column : 0xc063 ≢ COLUMN
-high_column e = omega (arith, e)
+use Rattle.tb_runtime16.proofs.Pointed.{carry_at_least, carry_below}
+use Rattle.tb_runtime16.proofs.Called.{calls, back_looser}
+use Rattle.tb_runtime16.proofs.SendRuns.{column_on, send_law}
+use Rattle.tb_runtime16.proofs.DivideRuns.{Turned, turned, sign_case, negate_left}
+use Rattle.tb_runtime16.proofs.DigitTexts.{sent, base, digit_alone, digit_text, skipped, begins, hundreds, ten_thousands}
 
 one_later : (c d l : ℕ) → d ≡ (c + 1) % 256 → (d + l) % 256 ≡ (c + suc l) % 256
 one_later c d l e = omega arith
 
-module _ (f : Setup) (fits : Fits f 11) (block : Holds block_part f.code) (lo hi : ℕ) (text answers : List ℕ) (m0 : ℕ → ℕ) where
-  -- the stack under the digits_of
-  abbrev base : List ℕ
-  base = 0 ∷ lo ∷ hi ∷ []
+times_more : (d p : ℕ) → suc d * p ≡ d * p + p
+times_more d p = grind arith
+
+counts_fit : (s : Bool) (d : ℕ) → d < 10 → base s + d < 256
+counts_fit true d h = omega (arith, h)
+counts_fit false d h = omega (arith, h)
+
+no_argument : (a at : ℕ) → is_argument a ≡ false → is_argument at ≡ true → a ≢ at
+no_argument a at s t q = false≢true (sym s ∙ ap is_argument q ∙ t)
+
+module _ (f : Setup) (fits : Fits f 6) (block : Holds block_part f.code) (lo hi : ℕ) (text answers : List ℕ) (m0 : ℕ → ℕ) where
+  abbrev own : List ℕ
+  own = lo ∷ hi ∷ []
 
   Rest : (ℕ → ℕ) → Type 0
   Rest m = (a : ℕ) → is_argument a ≡ false → a ≢ COLUMN → m a ≡ m0 a
@@ -62,195 +46,253 @@ module _ (f : Setup) (fits : Fits f 11) (block : Holds block_part f.code) (lo hi
   abbrev Done : ℕ → (ℕ → ℕ) → Type 0
   Done col m = (m COLUMN ≡ col) × Rest m
 
-  fits_above : (ds : List ℕ) → length ds ≤ 4 → Fits (under f (ds ++ base)) 4
-  fits_above ds h = omega (arith, fits, length-append (ds ++ base) f.rest, length-append ds base)
-
-  -- ---- the digits_of are sent
-  Emit : List ℕ → Type 0
-  Emit ds = (a x y : ℕ) (n v i z c : Bool) (m : ℕ → ℕ) (col : ℕ) → Digits ds → length ds ≤ 5 → Rest m → m COLUMN < 256 → (m COLUMN + length ds) % 256 ≡ col → Comes f (view a x y n v i z c (NUMBER_AT + 44) (ds ++ base) m text answers) (Back lo hi text answers (Done col)) ds (12 * length ds + 3)
-
-  emit_none : Emit []
-  unfolding Emit
-  emit_none a x y n v i z c m col d l r w e = ending f 11 fits number_part (number_in f.code block) 2 (view a x y n v i z c (NUMBER_AT + 44) (0 ∷ lo ∷ hi ∷ []) m text answers) _ refl
-      (record { pc = refl; stack_is = refl; binary = refl; same_text = refl; same_answers = refl; memory = (omega (arith, w, e), r) })
-
-  -- one byte, above what is left
-  emit_one : (ds : List ℕ) (a x y : ℕ) (n v i z c : Bool) (m : ℕ → ℕ) (d : ℕ) → length ds ≤ 4 → 48 ≤ d → d < 58 → m COLUMN < 256 → Comes (under f (ds ++ base)) (view a x y n v i z c (NUMBER_AT + 44) (d ∷ []) m text answers) (Leaves (NUMBER_AT + 44) [] text answers (Counted m d)) (d ∷ []) (2 + (1 + (8 + 1)))
-  emit_one ds a x y n v i z c m d l from to w =
-      let some : eqb d 0 ≡ false = ne_eqb _ _ (λ e. omega arith) in
-      let g = under f (ds ++ base) in
-      let room = fits_above ds l in
-      after g 4 room number_part (number_in f.code block) 1 (view a x y n v i z c (NUMBER_AT + 44) (d ∷ []) m text answers) _ _ (1 + (8 + 1)) refl
-      (rw some (after g 4 room number_part (number_in f.code block) 0 (view d x y _ v i _ c (NUMBER_AT + 47) [] m text answers) _ _ (8 + 1) refl
-      (calls g [] d x y _ v i _ c SEND_AT ((NUMBER_AT + 49) % 256) ((NUMBER_AT + 49) / 256) m text answers _ _ (d ∷ []) [] 8 1
-      (send_works g block room ((NUMBER_AT + 49) % 256) ((NUMBER_AT + 49) / 256) text answers m d x y _ v i _ c (omega arith) w)
-      (λ a x y n v i z c w h. ending g 4 room number_part (number_in f.code block) 0 (view a x y n v i z c (NUMBER_AT + 50) [] w text answers) _ refl
-      (record { pc = refl; stack_is = refl; binary = refl; same_text = refl; same_answers = refl; memory = h })))))
-
-  emit : (ds : List ℕ) → Emit ds
-  unfolding Emit Rest
-  emit [] a x y n v i z c m col h l r w e = emit_none a x y n v i z c m col h l r w e
-  emit (d ∷ ds) a x y n v i z c m col h l r w e =
-      let other : eqb d 13 ≡ false = ne_eqb _ _ (λ e. omega (arith, h.0)) in
-      looser f _ _ _ (d ∷ ds) ((2 + (1 + (8 + 1))) + (12 * length ds + 3)) (12 * length (d ∷ ds) + 3) (omega arith) (λ w h. h)
-      (above f (ds ++ base) (d ∷ []) [] a x y n v i z c (NUMBER_AT + 44) (NUMBER_AT + 44) m text answers _ _ (d ∷ []) ds (2 + (1 + (8 + 1))) (12 * length ds + 3)
-      (emit_one ds a x y n v i z c m d (omega (arith, l)) h.0 h.1 w)
-      (λ a x y n v i z c u g.
-      let next : u COLUMN ≡ (m COLUMN + 1) % 256 = g.column ∙ ap (λ b. if b then 0 else ((m COLUMN + 1) % 256)) other in
-      emit ds a x y n v i z c u col h.2 (omega (arith, l)) (λ a p q. g.others a q ∙ r a p q) (omega (arith, next)) (omega (arith, next, e))))
-
-  -- ---- the digits_of are found
-  Same : (ℕ → ℕ) → (ℕ → ℕ) → Type 0
-  Same m w = (a : ℕ) → w a ≡ m a
-
-  digit_is : (r : ℕ) → r < 10 → (r + 48 + 0) % 256 ≡ 48 + r
-  digit_is r h = omega arith
-
-  -- a digit on the stack, and on
-  digit_more : (ds : List ℕ) (a x y : ℕ) (n v i z c : Bool) (m : ℕ → ℕ) (r : ℕ) → length ds ≤ 4 → IsWord m LEFT → 1 ≤ word_in m LEFT → m RESULT ≡ r → r < 10 → Comes (under f (ds ++ base)) (view a x y n v i z c (NUMBER_AT + 27) [] m text answers) (Leaves (NUMBER_AT + 24) ((48 + r) ∷ []) text answers (Same m)) [] 8
-  unfolding Same
-  digit_more ds a x y n v i z c m r l p some e small =
-      let g = under f (ds ++ base) in
-      let room = fits_above ds l in
-      let d : (m RESULT + 48 + 0) % 256 ≡ 48 + r = ap (λ r. (r + 48 + 0) % 256) e ∙ digit_is r small in
-      ⊎_elim
-      (λ none. let b : eqb (m LEFT) 0 ≡ true = eq-eqb _ _ none in
-      let b' : eqb (m 0xc063) 0 ≡ false = ne_eqb _ _ (λ h. omega (arith, none, h, some)) in
-      after g 4 room number_part (number_in f.code block) 5 (view a x y n v i z c (NUMBER_AT + 27) [] m text answers) _ _ 2 refl
-      (rw b (ending g 4 room number_part (number_in f.code block) 1 (view _ _ _ _ _ _ _ _ (NUMBER_AT + 39) ((m RESULT + 48 + 0) % 256 ∷ []) m text answers) _ refl
-      (rw b' (record { pc = refl; stack_is = ap (λ d. d ∷ []) d; binary = refl; same_text = refl; same_answers = refl; memory = λ a. refl })))))
-      (λ any. let b : eqb (m LEFT) 0 ≡ false = ne_eqb _ _ any in
-      looser g _ _ _ [] 6 8 (omega arith) (λ w h. h)
-      (ending g 4 room number_part (number_in f.code block) 5 (view a x y n v i z c (NUMBER_AT + 27) [] m text answers) _ refl
-      (rw b (record { pc = refl; stack_is = ap (λ d. d ∷ []) d; binary = refl; same_text = refl; same_answers = refl; memory = λ a. refl }))))
-      (cases_eq (m LEFT) 0)
-
-  digit_last : (ds : List ℕ) (a x y : ℕ) (n v i z c : Bool) (m : ℕ → ℕ) (r : ℕ) → length ds ≤ 4 → IsWord m LEFT → word_in m LEFT ≡ 0 → m RESULT ≡ r → r < 10 → Comes (under f (ds ++ base)) (view a x y n v i z c (NUMBER_AT + 27) [] m text answers) (Leaves (NUMBER_AT + 44) ((48 + r) ∷ []) text answers (Same m)) [] 8
-  unfolding Same
-  digit_last ds a x y n v i z c m r l p none e small =
-      let g = under f (ds ++ base) in
-      let room = fits_above ds l in
-      let d : (m RESULT + 48 + 0) % 256 ≡ 48 + r = ap (λ r. (r + 48 + 0) % 256) e ∙ digit_is r small in
-      let b : eqb (m LEFT) 0 ≡ true = eq-eqb _ _ (omega (arith, none)) in
-      let b' : eqb (m 0xc063) 0 ≡ true = eq-eqb _ _ (omega (arith, none)) in
-      after g 4 room number_part (number_in f.code block) 5 (view a x y n v i z c (NUMBER_AT + 27) [] m text answers) _ _ 2 refl
-      (rw b (ending g 4 room number_part (number_in f.code block) 1 (view _ _ _ _ _ _ _ _ (NUMBER_AT + 39) ((m RESULT + 48 + 0) % 256 ∷ []) m text answers) _ refl
-      (rw b' (record { pc = refl; stack_is = ap (λ d. d ∷ []) d; binary = refl; same_text = refl; same_answers = refl; memory = λ a. refl }))))
-
-  -- what stands before each division
-  record Held (ds : List ℕ) (n : ℕ) (m : ℕ → ℕ) : Type 0 where
-    shown : Digits ds
-    left : IsWord m LEFT
-    is : word_in m LEFT ≡ n
-    low : m RIGHT ≡ 10
-    high : m 0xc065 ≡ 0
+  -- what stands before a digit, of a number w
+  record Left (begun : Bool) (w : ℕ) (m : ℕ → ℕ) : Type 0 where
+    is_word : IsWord m LEFT
+    is : word_in m LEFT ≡ w
+    counts : m RIGHT ≡ base begun
     others : Rest m
     column : m COLUMN < 256
 
-  Find : ℕ → Type 0
-  Find k = (a x y : ℕ) (n v i z c : Bool) (m : ℕ → ℕ) (ds : List ℕ) (w col : ℕ) → Held ds w m → w < ten k → length ds + suc k ≡ 5 → (m COLUMN + length (digits_before (suc k) w ds)) % 256 ≡ col → Comes f (view a x y n v i z c (NUMBER_AT + 24) (ds ++ base) m text answers) (Back lo hi text answers (Done col)) (digits_before (suc k) w ds) (270 * suc k + 63)
+  -- from a place, with the powers ps to come and the number below top
+  From : ℕ → ℕ → Bool → List ℕ → ℕ → ℕ → Type 0
+  From pc x begun ps top k = (a y : ℕ) (n v i z c : Bool) (m : ℕ → ℕ) (w col : ℕ) → Left begun w m → w < top → (m COLUMN + length (sent ps begun w)) % 256 ≡ col → Comes f (view a x y n v i z c pc own m text answers) (Back lo hi text answers (Done col)) (sent ps begun w) k
 
-  -- a division by ten, above the digits_of
-  divided : (ds : List ℕ) (a x y : ℕ) (n v i z c : Bool) (m : ℕ → ℕ) (w : ℕ) → length ds ≤ 4 → Held ds w m → Comes (under f (ds ++ base)) (view a x y n v i z c (NUMBER_AT + 24) [] m text answers) (Leaves (NUMBER_AT + 27) [] text answers (Parted m (w / 10) (w % 10))) [] (1 + 261)
-  divided ds a x y n v i z c m w l h =
-      let g = under f (ds ++ base) in
-      let room = fits_above ds l in
-      let ten_is : word_in m RIGHT ≡ 10 = omega (arith, h.low, h.high) in
-      after g 4 room number_part (number_in f.code block) 0 (view a x y n v i z c (NUMBER_AT + 24) [] m text answers) _ _ 261 refl
-      (back_looser g _ ((NUMBER_AT + 26) % 256) ((NUMBER_AT + 26) / 256) text answers _ _ [] 261 261 (omega arith)
-      (unsigned_law g (omega (arith, room)) block ((NUMBER_AT + 26) % 256) ((NUMBER_AT + 26) / 256) text answers m a x y n v i z c h.left (omega (arith, h.low), omega (arith, h.high)) (omega (arith, ten_is)) (omega (arith, ten_is)))
-      (λ u p. record { left_is = p.left_is; left = p.left ∙ ap (λ d. word_in m LEFT / d) ten_is ∙ ap (λ n. n / 10) h.is; result_is = p.result_is; result = p.result ∙ ap (λ d. word_in m LEFT % d) ten_is ∙ ap (λ n. n % 10) h.is; right_low = p.right_low; right_high = p.right_high; others = p.others }))
+  -- ---- the last digit
+  last : (begun : Bool) → From (NUMBER_AT + 78) 0 begun [] 10 12
+  unfolding From Rest
+  last begun a y n v i z c m w col h small e =
+      let low : m LEFT ≡ w = omega (arith, h.is, small, h.is_word) in
+      let d : bit_or (m LEFT) 48 ≡ 48 + w = ap (λ l. bit_or l 48) low ∙ digit_alone w small in
+      after f 6 fits number_part (number_in f.code block) 4 (view a 0 y n v i z c (NUMBER_AT + 78) own m text answers) _ _ 7 refl
+      (rw d (back_looser f _ lo hi text answers _ _ ((48 + w) ∷ []) 7 7 (omega arith)
+      (send_law f (omega (arith, fits)) block lo hi text answers m (48 + w) _ _ _ _ _ _ _ (omega (arith, small)))
+      (λ u g. (g.column ∙ ap (λ n. n % 256) (column_on (m COLUMN) (48 + w) (λ x. omega (arith, x))) ∙ e, λ a s t. g.others a t ∙ h.others a s t))))
 
-  column_free : is_argument COLUMN ≡ false
-  column_free = refl
+  -- ---- on to the next power
+  on : (begun : Bool) (ps : List ℕ) (x top k : ℕ) → x < 3 → From (NUMBER_AT + 27) x begun ps top k → From (NUMBER_AT + 78) (suc x) begun ps top (2 + k)
+  unfolding From
+  on begun ps x top k few go a y n v i z c m w col h small e =
+      let d : (suc x + 255) % 256 ≡ x = omega (arith, few) in
+      let b : eqb (x / 128 % 2) 1 ≡ false = ne_eqb _ _ (λ q. omega (arith, few, q)) in
+      looser f _ _ _ (sent ps begun w) (1 + (1 + k)) (2 + k) (omega arith) (λ w h. h)
+      (after f 6 fits number_part (number_in f.code block) 0 (view a (suc x) y n v i z c (NUMBER_AT + 78) own m text answers) _ _ (1 + k) refl
+      (rw d (after f 6 fits number_part (number_in f.code block) 0 (view a x y (eqb (x / 128 % 2) 1) v i (eqb x 0) c (NUMBER_AT + 79) own m text answers) _ _ k refl
+      (rw b (go _ _ _ _ _ _ _ m w col h small e)))))
 
-  -- after a division: the last digit, or on
-  found_last : (k : ℕ) (a x y : ℕ) (n v i z c : Bool) (m u : ℕ → ℕ) (ds : List ℕ) (w col : ℕ) → Held ds w m → w < 10 → length ds + suc k ≡ 5 → (m COLUMN + length (digits_before (suc k) w ds)) % 256 ≡ col → Parted m (w / 10) (w % 10) u → Comes f (view a x y n v i z c (NUMBER_AT + 27) (ds ++ base) u text answers) (Back lo hi text answers (Done col)) (digits_before (suc k) w ds) (8 + (12 * 5 + 3))
-  unfolding Rest Same Emit
-  found_last k a x y n v i z c m u ds w col h small l e p =
-      let t : digits_before (suc k) w ds ≡ (48 + w) ∷ ds = ap (λ b. if b then (48 + w) ∷ ds else digits_before k (w / 10) ((48 + w % 10) ∷ ds)) (le-leb (suc w) 10 small) in
-      let same : u COLUMN ≡ m COLUMN = p.others COLUMN refl in
-      subst (λ s. Comes f (view a x y n v i z c (NUMBER_AT + 27) (ds ++ base) u text answers) (Back lo hi text answers (Done col)) s (8 + (12 * 5 + 3))) (sym t)
-      (above f (ds ++ base) [] ((48 + w) ∷ []) a x y n v i z c (NUMBER_AT + 27) (NUMBER_AT + 44) u text answers (Same u) _ [] ((48 + w) ∷ ds) 8 (12 * 5 + 3)
-      (digit_last ds a x y n v i z c u w (omega (arith, l)) p.left_is (omega (arith, p.left, small)) (omega (arith, p.result, p.result_is, small)) small)
-      (λ a x y n v i z c r g. looser f _ _ _ ((48 + w) ∷ ds) (12 * length ((48 + w) ∷ ds) + 3) (12 * 5 + 3) (omega (arith, l)) (λ w h. h)
-      (emit ((48 + w) ∷ ds) a x y n v i z c r col (omega arith, omega (arith, small), h.shown) (omega (arith, l)) (λ a b q. g a ∙ p.others a b ∙ h.others a b q) (omega (arith, g COLUMN, same, h.column)) (ap (λ x. (x + length ((48 + w) ∷ ds)) % 256) (g COLUMN ∙ same) ∙ ap (λ s. (m COLUMN + length s) % 256) (sym t) ∙ e))))
-
-  found_more : (k : ℕ) → Find k → (a x y : ℕ) (n v i z c : Bool) (m u : ℕ → ℕ) (ds : List ℕ) (w col : ℕ) → Held ds w m → 10 ≤ w → w < ten (suc k) → length ds + suc (suc k) ≡ 5 → (m COLUMN + length (digits_before (suc (suc k)) w ds)) % 256 ≡ col → Parted m (w / 10) (w % 10) u → Comes f (view a x y n v i z c (NUMBER_AT + 27) (ds ++ base) u text answers) (Back lo hi text answers (Done col)) (digits_before (suc (suc k)) w ds) (8 + (270 * suc k + 63))
-  unfolding Rest Same Find
-  found_more k go a x y n v i z c m u ds w col h big small l e p =
-      let t : digits_before (suc (suc k)) w ds ≡ digits_before (suc k) (w / 10) ((48 + w % 10) ∷ ds) = ap (λ b. if b then (48 + w) ∷ ds else digits_before (suc k) (w / 10) ((48 + w % 10) ∷ ds)) (lt-leb (suc w) 10 (omega (arith, big))) in
-      let same : u COLUMN ≡ m COLUMN = p.others COLUMN refl in
-      let digit : w % 10 < 10 = omega arith in
-      subst (λ s. Comes f (view a x y n v i z c (NUMBER_AT + 27) (ds ++ base) u text answers) (Back lo hi text answers (Done col)) s (8 + (270 * suc k + 63))) (sym t)
-      (above f (ds ++ base) [] ((48 + w % 10) ∷ []) a x y n v i z c (NUMBER_AT + 27) (NUMBER_AT + 24) u text answers (Same u) _ [] (digits_before (suc k) (w / 10) ((48 + w % 10) ∷ ds)) 8 (270 * suc k + 63)
-      (digit_more ds a x y n v i z c u (w % 10) (omega (arith, l)) p.left_is (omega (arith, p.left, big)) (omega (arith, p.result, p.result_is, digit)) digit)
-      (λ a x y n v i z c r g. go a x y n v i z c r ((48 + w % 10) ∷ ds) (w / 10) col
+  -- ---- a digit is sent
+  digit : (begun : Bool) (ps : List ℕ) (x top k : ℕ) → From (NUMBER_AT + 78) x true ps top k → (d : ℕ) → d < 10 → (a y : ℕ) (n v i z c : Bool) (m : ℕ → ℕ) (w col : ℕ) → y ≡ base begun + d → y ≢ 0 → Left begun w m → w < top → (m COLUMN + length ((48 + d) ∷ sent ps true w)) % 256 ≡ col → Comes f (view a x y n v i z c (NUMBER_AT + 59) own m text answers) (Back lo hi text answers (Done col)) ((48 + d) ∷ sent ps true w) (2 + (5 + (7 + (1 + k))))
+  unfolding From Rest
+  digit begun ps x top k go d few a y n v i z c m w col counted some h small e =
+      let t : eqb y 0 ≡ false = ne_eqb _ _ some in
+      let b : bit_or y 48 ≡ 48 + d = ap (λ y. bit_or y 48) counted ∙ digit_text begun d few in
+      let m1 = with_byte (with_byte m RIGHT 48) 0xc065 x in
+      after f 6 fits number_part (number_in f.code block) 1 (view a x y n v i z c (NUMBER_AT + 59) own m text answers) _ _ (5 + (7 + (1 + k))) refl
+      (rw t (after f 6 fits number_part (number_in f.code block) 4 (view y x y _ v i _ c (NUMBER_AT + 62) own m text answers) _ _ (7 + (1 + k)) refl
+      (rw b (calls f own _ _ _ _ _ _ _ _ SEND_AT ((NUMBER_AT + 74) % 256) ((NUMBER_AT + 74) / 256) m1 text answers _ _ ((48 + d) ∷ []) (sent ps true w) 7 (1 + k)
+      (send_law (under f own) (omega (arith, fits)) block ((NUMBER_AT + 74) % 256) ((NUMBER_AT + 74) / 256) text answers m1 (48 + d) _ _ _ _ _ _ _ (omega (arith, few)))
+      (λ a x' y n v i z c u g.
+      let kept : (p : ℕ) → p ≢ COLUMN → u p ≡ m1 p = g.others in
+      let x_is : u 0xc065 ≡ x = kept 0xc065 (λ q. omega (arith, q)) in
+      let low : u LEFT ≡ m LEFT = kept LEFT (λ q. omega (arith, q)) in
+      let high : u 0xc063 ≡ m 0xc063 = kept 0xc063 (λ q. omega (arith, q)) in
+      let next : u COLUMN ≡ (m COLUMN + 1) % 256 = g.column ∙ ap (λ n. n % 256) (column_on (m COLUMN) (48 + d) (λ q. omega (arith, q))) in
+      after f 6 fits number_part (number_in f.code block) 0 (view a x' y n v i z c (NUMBER_AT + 75) own u text answers) _ _ k refl
+      (rw x_is (go _ _ _ _ _ _ _ u w col
       (record {
-        shown = (omega arith, omega (arith, digit), h.shown);
-        left = (omega (arith, g LEFT, p.left_is), omega (arith, g 0xc063, p.left_is));
-        is = omega (arith, g LEFT, g 0xc063, p.left);
-        low = g RIGHT ∙ p.right_low ∙ h.low;
-        high = g 0xc065 ∙ p.right_high ∙ h.high;
-        others = λ a b q. g a ∙ p.others a b ∙ h.others a b q;
-        column = omega (arith, g COLUMN, same, h.column);
-      })
-      (omega (arith, small)) (omega (arith, l)) (ap (λ x. (x + length (digits_before (suc k) (w / 10) ((48 + w % 10) ∷ ds))) % 256) (g COLUMN ∙ same) ∙ ap (λ s. (m COLUMN + length s) % 256) (sym t) ∙ e)))
+        is_word = (omega (arith, low, h.is_word), omega (arith, high, h.is_word));
+        is = omega (arith, low, high, h.is);
+        counts = kept RIGHT (λ q. omega (arith, q));
+        others = λ p s t. kept p t ∙ skip is_argument (with_byte m RIGHT 48) 0xc065 x p refl s ∙ skip is_argument m RIGHT 48 p refl s ∙ h.others p s t;
+        column = omega (arith, next);
+      }) small (one_later (m COLUMN) (u COLUMN) (length (sent ps true w)) next ∙ e))))))))
 
-  find : (k : ℕ) → Find k
-  unfolding Find
-  find zero a x y n v i z c m ds w col h small l e =
-      looser f _ _ _ _ ((1 + 261) + (8 + (12 * 5 + 3))) (270 * 1 + 63) (omega arith) (λ w h. h)
-      (above f (ds ++ base) [] [] a x y n v i z c (NUMBER_AT + 24) (NUMBER_AT + 27) m text answers (Parted m (w / 10) (w % 10)) _ [] (digits_before 1 w ds) (1 + 261) (8 + (12 * 5 + 3))
-      (divided ds a x y n v i z c m w (omega (arith, l)) h)
-      (λ a x y n v i z c u p. found_last 0 a x y n v i z c m u ds w col h small l e p))
-  find (suc k) a x y n v i z c m ds w col h small l e =
-      looser f _ _ _ _ ((1 + 261) + (8 + (270 * suc k + 63))) (270 * suc (suc k) + 63) (omega arith) (λ w h. h)
-      (above f (ds ++ base) [] [] a x y n v i z c (NUMBER_AT + 24) (NUMBER_AT + 27) m text answers (Parted m (w / 10) (w % 10)) _ [] (digits_before (suc (suc k)) w ds) (1 + 261) (8 + (270 * suc k + 63))
-      (divided ds a x y n v i z c m w (omega (arith, l)) h)
-      (λ a x y n v i z c u p. ⊎_elim
-      (λ less. looser f _ _ _ _ (8 + (12 * 5 + 3)) (8 + (270 * suc k + 63)) (omega arith) (λ w h. h) (found_last (suc k) a x y n v i z c m u ds w col h less l e p))
-      (λ more. found_more k (find k) a x y n v i z c m u ds w col h more small l e p)
-      (cases_lt w 10)))
+  -- ---- one power, l + 256 * h, whose bytes stand at X in the tables
+  abbrev low_left : (ℕ → ℕ) → ℕ → ℕ
+  low_left m l = (m LEFT + 256 - l) % 256
+
+  abbrev high_left : (ℕ → ℕ) → ℕ → ℕ → ℕ
+  high_left m l h = (m 0xc063 + 256 - (h + bit (not (nat_le l (m LEFT))))) % 256
+
+  abbrev goes_in : (ℕ → ℕ) → ℕ → ℕ → Bool
+  goes_in m l h = nat_le (h + bit (not (nat_le l (m LEFT)))) (m 0xc063)
+
+  -- a comparison of LEFT with the power at X, and then
+  abbrev Weighs : ℕ → ℕ → ℕ → Type 1
+  Weighs x l h = (a y : ℕ) (n v i z c : Bool) (m : ℕ → ℕ) (q : View → Type 0) (t : List ℕ) (k : ℕ) → ((n v z : Bool) → Comes f (view (high_left m l h) x y n v i z (goes_in m l h) (NUMBER_AT + 42) own m text answers) q t k) → Comes f (view a x y n v i z c (NUMBER_AT + 30) own m text answers) q t (4 + k)
+
+  -- the power is taken from LEFT and counted, and then
+  abbrev Takes : ℕ → ℕ → Type 1
+  Takes x l = (a y : ℕ) (n v i z : Bool) (m : ℕ → ℕ) (q : View → Type 0) (t : List ℕ) (k : ℕ) → ((n v c : Bool) → Comes f (view (low_left m l) x ((y + 1) % 256) n v i (eqb ((y + 1) % 256) 0) c (NUMBER_AT + 57) own (with_byte (with_byte m 0xc063 a) LEFT (low_left m l)) text answers) q t k) → Comes f (view a x y n v i z true (NUMBER_AT + 44) own m text answers) q t (5 + k)
+
+  module _ (x l h : ℕ) (l_small : l < 256) (h_small : h < 256) (weighs : Weighs x l h) (takes : Takes x l) where
+    abbrev p : ℕ
+    p = l + 256 * h
+
+    abbrev Away : (ℕ → ℕ) → (ℕ → ℕ) → Type 0
+    Away m m' = (a : ℕ) → a ≢ LEFT → a ≢ 0xc063 → m' a ≡ m a
+
+    -- behind the comparison that fails, with the count y and the rest r
+    abbrev Stops : (ℕ → ℕ) → Bool → ℕ → ℕ → (View → Type 0) → List ℕ → ℕ → Type 0
+    Stops m i y r q t k = (a y' : ℕ) (n v z c : Bool) (m' : ℕ → ℕ) → y' ≡ y → IsWord m' LEFT → word_in m' LEFT ≡ r → Away m m' → Comes f (view a x y' n v i z c (NUMBER_AT + 59) own m' text answers) q t k
+
+    -- d times the power, and a rest
+    down : (d r : ℕ) → r < p → (a y : ℕ) (n v i z c : Bool) (m : ℕ → ℕ) (q : View → Type 0) (t : List ℕ) (k : ℕ) → IsWord m LEFT → word_in m LEFT ≡ d * p + r → y + d < 256 → Stops m i (y + d) r q t k → Comes f (view a x y n v i z c (NUMBER_AT + 30) own m text answers) q t (11 * d + (5 + k))
+    down zero r less a y n v i z c m q t k w e few stop =
+        let total : m LEFT + 256 * m 0xc063 ≡ r = e ∙ (let z : 0 * p + r ≡ r = omega arith in z) in
+        let b = carry_below (m LEFT) (m 0xc063) l h w.0 w.1 l_small h_small (omega (arith, total, less)) in
+        looser f _ _ _ t (4 + (1 + k)) (11 * 0 + (5 + k)) (omega arith) (λ w h. h)
+        (weighs a y n v i z c m q t (1 + k) (λ n v z.
+        after f 6 fits number_part (number_in f.code block) 0 (view (high_left m l h) x y n v i z (goes_in m l h) (NUMBER_AT + 42) own m text answers) _ _ k refl
+        (rw b (stop _ y _ _ _ _ m (let s : y ≡ y + 0 = omega arith in s) w total (λ a s t. refl)))))
+    down (suc d) r less a y n v i z c m q t k w e few stop =
+        let total : m LEFT + 256 * m 0xc063 ≡ d * p + p + r = e ∙ ap (λ n. n + r) (times_more d p) in
+        let b = carry_at_least (m LEFT) (m 0xc063) l h w.0 w.1 l_small h_small (omega (arith, total)) in
+        let nz : eqb ((y + 1) % 256) 0 ≡ false = ne_eqb _ _ (λ q. omega (arith, few, q)) in
+        let up : (y + 1) % 256 + d ≡ y + suc d = omega (arith, few) in
+        let high = high_left m l h in
+        let m1 = with_byte (with_byte m 0xc063 high) LEFT (low_left m l) in
+        let left : low_left m l + 256 * high ≡ d * p + r = omega (arith, total, borrow l (m LEFT) (omega (arith, l_small)) w.0, w, l_small, h_small) in
+        looser f _ _ _ t (4 + (1 + (5 + (1 + (11 * d + (5 + k)))))) (11 * suc d + (5 + k)) (omega arith) (λ w h. h)
+        (weighs a y n v i z c m q t (1 + (5 + (1 + (11 * d + (5 + k))))) (λ n v z.
+        after f 6 fits number_part (number_in f.code block) 0 (view high x y n v i z (goes_in m l h) (NUMBER_AT + 42) own m text answers) _ _ (5 + (1 + (11 * d + (5 + k)))) refl
+        (rw b (takes high y n v i z m q t (1 + (11 * d + (5 + k))) (λ n v c.
+        after f 6 fits number_part (number_in f.code block) 0 (view (low_left m l) x ((y + 1) % 256) n v i (eqb ((y + 1) % 256) 0) c (NUMBER_AT + 57) own m1 text answers) _ _ (11 * d + (5 + k)) refl
+        (rw nz (down d r less _ ((y + 1) % 256) _ _ _ _ _ m1 q t k (omega arith, omega arith) left (omega (arith, up, few))
+        (λ a y' n v z c m' s g u away. stop a y' n v z c m' (s ∙ up) g u (λ a p1 p2. away a p1 p2 ∙ put_other (with_byte m 0xc063 high) LEFT (low_left m l) a p1 ∙ put_other m 0xc063 high a p2)))))))))
+
+    left_of : (begun : Bool) (m m' : ℕ → ℕ) (w r : ℕ) → Left begun w m → IsWord m' LEFT → word_in m' LEFT ≡ r → Away m m' → Left begun r m'
+    unfolding Rest
+    left_of begun m m' w r g is_word is away = record {
+      is_word = is_word;
+      is = is;
+      counts = away RIGHT (λ q. omega (arith, q)) (λ q. omega (arith, q)) ∙ g.counts;
+      others = λ a s t. away a (no_argument a LEFT s refl) (no_argument a 0xc063 s refl) ∙ g.others a s t;
+      column = omega (arith, g.column, away COLUMN (λ q. omega (arith, q)) (λ q. omega (arith, q)));
+    }
+
+    -- behind the count: a digit, or none
+    counted : (begun : Bool) (ps : List ℕ) (k : ℕ) → ((s : Bool) → From (NUMBER_AT + 78) x s ps p k) → (a y : ℕ) (n v i z c : Bool) (m m' : ℕ → ℕ) (w col : ℕ) → Left begun w m → (m COLUMN + length (sent (p ∷ ps) begun w)) % 256 ≡ col → w % p < p → w / p < 10 → y ≡ base begun + w / p → IsWord m' LEFT → word_in m' LEFT ≡ w % p → Away m m' → Comes f (view a x y n v i z c (NUMBER_AT + 59) own m' text answers) (Back lo hi text answers (Done col)) (sent (p ∷ ps) begun w) (2 + (5 + (7 + (1 + k))))
+    unfolding From
+    counted true ps k go a y n v i z c m m' w col g e less small is_y is_word is away =
+        let same : m' COLUMN ≡ m COLUMN = away COLUMN (λ q. omega (arith, q)) (λ q. omega (arith, q)) in
+        digit true ps x p k (go true) (w / p) small a y n v i z c m' (w % p) col is_y (λ q. let start : y ≡ 48 + w / p = is_y in omega (arith, q, start)) (left_of true m m' w (w % p) g is_word is away) less (ap (λ c. (c + length (sent (p ∷ ps) true w)) % 256) same ∙ e)
+    counted false ps k go a y n v i z c m m' w col g e less small is_y is_word is away =
+        let same : m' COLUMN ≡ m COLUMN = away COLUMN (λ q. omega (arith, q)) (λ q. omega (arith, q)) in
+        let held = left_of false m m' w (w % p) g is_word is away in
+        ⊎_elim
+        (λ none. let t : sent (p ∷ ps) false w ≡ sent ps false (w % p) = skipped p ps w none in
+        let start : y ≡ 0 + w / p = is_y in
+        let b : eqb y 0 ≡ true = eq-eqb _ _ (omega (arith, start, none)) in
+        subst (λ s. Comes f (view a x y n v i z c (NUMBER_AT + 59) own m' text answers) (Back lo hi text answers (Done col)) s (2 + (5 + (7 + (1 + k))))) (sym t)
+        (looser f _ _ _ (sent ps false (w % p)) (2 + k) (2 + (5 + (7 + (1 + k)))) (omega arith) (λ w h. h)
+        (after f 6 fits number_part (number_in f.code block) 1 (view a x y n v i z c (NUMBER_AT + 59) own m' text answers) _ _ k refl
+        (rw b (go false _ _ _ _ _ _ _ m' (w % p) col held less (ap (λ c. (c + length (sent ps false (w % p))) % 256) same ∙ ap (λ s. (m COLUMN + length s) % 256) (sym t) ∙ e))))))
+        (λ some. let t : sent (p ∷ ps) false w ≡ (48 + w / p) ∷ sent ps true (w % p) = begins p ps w some in
+        subst (λ s. Comes f (view a x y n v i z c (NUMBER_AT + 59) own m' text answers) (Back lo hi text answers (Done col)) s (2 + (5 + (7 + (1 + k))))) (sym t)
+        (digit false ps x p k (go true) (w / p) small a y n v i z c m' (w % p) col is_y (λ q. some (let start : y ≡ 0 + w / p = is_y in omega (arith, start, q))) held less (ap (λ c. (c + length ((48 + w / p) ∷ sent ps true (w % p))) % 256) same ∙ ap (λ s. (m COLUMN + length s) % 256) (sym t) ∙ e)))
+        (cases_eq (w / p) 0)
+
+    -- the digit of the power, which is at most a number, and what comes behind it
+    power : (begun : Bool) (ps : List ℕ) (top most k : ℕ) → most < 10 → ((w : ℕ) → w < top → (w / p ≤ most) × (w / p * p + w % p ≡ w) × (w % p < p)) → ((s : Bool) → From (NUMBER_AT + 78) x s ps p k) → From (NUMBER_AT + 27) x begun (p ∷ ps) top (1 + (11 * most + (5 + (2 + (5 + (7 + (1 + k)))))))
+    unfolding From
+    power begun ps top most k few splits go a y n v i z c m w col g small e =
+        let s = splits w small in
+        let d = w / p in
+        let r = w % p in
+        after f 6 fits number_part (number_in f.code block) 0 (view a x y n v i z c (NUMBER_AT + 27) own m text answers) _ _ (11 * most + (5 + (2 + (5 + (7 + (1 + k)))))) refl
+        (rw g.counts
+        (looser f _ _ _ (sent (p ∷ ps) begun w) (11 * d + (5 + (2 + (5 + (7 + (1 + k)))))) (11 * most + (5 + (2 + (5 + (7 + (1 + k)))))) (omega (arith, s.0)) (λ w h. h)
+        (down d r s.2 _ (base begun) _ _ _ _ _ m _ (sent (p ∷ ps) begun w) (2 + (5 + (7 + (1 + k)))) g.is_word (g.is ∙ sym s.1) (counts_fit begun d (omega (arith, s.0, few)))
+        (λ a y' n v z c m' is_y is_word is away. counted begun ps k go a y' n v _ z c m m' w col g e s.2 (omega (arith, s.0, few)) is_y is_word is away))))
+
+  -- ---- the four powers
+  tens : (begun : Bool) → From (NUMBER_AT + 27) 0 begun (10 ∷ []) 100 132
+  tens begun = power 0 10 0 (omega arith) (omega arith)
+      (λ a y n v i z c m q t k next. after f 6 fits number_part (number_in f.code block) 3 (view a 0 y n v i z c (NUMBER_AT + 30) own m text answers) q t k refl (next _ _ _))
+      (λ a y n v i z m q t k next. after f 6 fits number_part (number_in f.code block) 4 (view a 0 y n v i z true (NUMBER_AT + 44) own m text answers) q t k refl (next _ _ _))
+      begun [] 100 9 12 (omega arith) (λ w h. (omega (arith, h), omega arith, omega arith)) last
+
+  hundreds_on : (begun : Bool) → From (NUMBER_AT + 27) 1 begun (100 ∷ 10 ∷ []) 1000 254
+  hundreds_on begun = power 1 100 0 (omega arith) (omega arith)
+      (λ a y n v i z c m q t k next. after f 6 fits number_part (number_in f.code block) 3 (view a 1 y n v i z c (NUMBER_AT + 30) own m text answers) q t k refl (next _ _ _))
+      (λ a y n v i z m q t k next. after f 6 fits number_part (number_in f.code block) 4 (view a 1 y n v i z true (NUMBER_AT + 44) own m text answers) q t k refl (next _ _ _))
+      begun (10 ∷ []) 1000 9 134 (omega arith) (λ w h. (omega (arith, h), omega arith, omega arith)) (λ s. on s (10 ∷ []) 0 100 132 (omega arith) (tens s))
+
+  thousands_on : (begun : Bool) → From (NUMBER_AT + 27) 2 begun (1000 ∷ 100 ∷ 10 ∷ []) 10000 376
+  thousands_on begun = power 2 232 3 (omega arith) (omega arith)
+      (λ a y n v i z c m q t k next. after f 6 fits number_part (number_in f.code block) 3 (view a 2 y n v i z c (NUMBER_AT + 30) own m text answers) q t k refl (next _ _ _))
+      (λ a y n v i z m q t k next. after f 6 fits number_part (number_in f.code block) 4 (view a 2 y n v i z true (NUMBER_AT + 44) own m text answers) q t k refl (next _ _ _))
+      begun (100 ∷ 10 ∷ []) 10000 9 256 (omega arith) (λ w h. (omega (arith, h), omega arith, omega arith)) (λ s. on s (100 ∷ 10 ∷ []) 1 1000 254 (omega arith) (hundreds_on s))
+
+  all_on : (begun : Bool) → From (NUMBER_AT + 27) 3 begun (10000 ∷ 1000 ∷ 100 ∷ 10 ∷ []) 40000 432
+  all_on begun = power 3 16 39 (omega arith) (omega arith)
+      (λ a y n v i z c m q t k next. after f 6 fits number_part (number_in f.code block) 3 (view a 3 y n v i z c (NUMBER_AT + 30) own m text answers) q t k refl (next _ _ _))
+      (λ a y n v i z m q t k next. after f 6 fits number_part (number_in f.code block) 4 (view a 3 y n v i z true (NUMBER_AT + 44) own m text answers) q t k refl (next _ _ _))
+      begun (1000 ∷ 100 ∷ 10 ∷ []) 40000 3 378 (omega arith) (λ w h. (omega (arith, h), omega arith, omega arith)) (λ s. on s (1000 ∷ 100 ∷ 10 ∷ []) 2 10000 376 (omega arith) (thousands_on s))
 
   -- ---- the whole
-  plain : (a x y : ℕ) (n v i z c : Bool) (m : ℕ → ℕ) (w col : ℕ) → IsWord m LEFT → word_in m LEFT ≡ w → w ≤ 32768 → Rest m → m COLUMN < 256 → (m COLUMN + length (digits_before 5 w [])) % 256 ≡ col → Comes f (view a x y n v i z c (NUMBER_AT + 13) (lo ∷ hi ∷ []) m text answers) (Back lo hi text answers (Done col)) (digits_before 5 w []) (5 + (270 * 5 + 63))
-  unfolding Rest Find
+  -- from 100 on where the number is below 256
+  plain_byte : (a x y : ℕ) (n v i z c : Bool) (m : ℕ → ℕ) (w col : ℕ) → m 0xc063 ≡ 0 → Left false w (with_byte m RIGHT 0) → w < 1000 → (m COLUMN + length (digits_before 5 w [])) % 256 ≡ col → Comes f (view a x y n v i z c (NUMBER_AT + 13) own m text answers) (Back lo hi text answers (Done col)) (digits_before 5 w []) (5 + (1 + 254))
+  unfolding From
+  plain_byte a x y n v i z c m w col none ready few l =
+      let t : sent (100 ∷ 10 ∷ []) false w ≡ digits_before 5 w [] = hundreds 2 w few in
+      let b : eqb (m 0xc063) 0 ≡ true = eq-eqb _ _ none in
+      subst (λ s. Comes f (view a x y n v i z c (NUMBER_AT + 13) own m text answers) (Back lo hi text answers (Done col)) s (5 + (1 + 254))) t
+      (after f 6 fits number_part (number_in f.code block) 4 (view a x y n v i z c (NUMBER_AT + 13) own m text answers) _ _ (1 + 254) refl
+      (rw b (after f 6 fits number_part (number_in f.code block) 0 (view _ _ _ _ _ _ _ _ (NUMBER_AT + 25) own (with_byte m RIGHT 0) text answers) _ _ 254 refl
+      (hundreds_on false _ _ _ _ _ _ _ (with_byte m RIGHT 0) w col ready few (ap (λ s. (m COLUMN + length s) % 256) t ∙ l)))))
+
+  plain_word : (a x y : ℕ) (n v i z c : Bool) (m : ℕ → ℕ) (w col : ℕ) → m 0xc063 ≢ 0 → Left false w (with_byte m RIGHT 0) → w < 40000 → w < 100000 → (m COLUMN + length (digits_before 5 w [])) % 256 ≡ col → Comes f (view a x y n v i z c (NUMBER_AT + 13) own m text answers) (Back lo hi text answers (Done col)) (digits_before 5 w []) (5 + 432)
+  unfolding From
+  plain_word a x y n v i z c m w col some ready few many l =
+      let t : sent (10000 ∷ 1000 ∷ 100 ∷ 10 ∷ []) false w ≡ digits_before 5 w [] = ten_thousands w many in
+      let b : eqb (m 0xc063) 0 ≡ false = ne_eqb _ _ some in
+      subst (λ s. Comes f (view a x y n v i z c (NUMBER_AT + 13) own m text answers) (Back lo hi text answers (Done col)) s (5 + 432)) t
+      (after f 6 fits number_part (number_in f.code block) 4 (view a x y n v i z c (NUMBER_AT + 13) own m text answers) _ _ 432 refl
+      (rw b (all_on false _ _ _ _ _ _ _ (with_byte m RIGHT 0) w col ready few (ap (λ s. (m COLUMN + length s) % 256) t ∙ l))))
+
+  plain : (a x y : ℕ) (n v i z c : Bool) (m : ℕ → ℕ) (w col : ℕ) → IsWord m LEFT → word_in m LEFT ≡ w → w ≤ 32768 → Rest m → m COLUMN < 256 → (m COLUMN + length (digits_before 5 w [])) % 256 ≡ col → Comes f (view a x y n v i z c (NUMBER_AT + 13) own m text answers) (Back lo hi text answers (Done col)) (digits_before 5 w []) 437
+  unfolding Rest
   plain a x y n v i z c m w col p e small r q l =
-      after f 11 fits number_part (number_in f.code block) 4 (view a x y n v i z c (NUMBER_AT + 13) (lo ∷ hi ∷ []) m text answers) _ _ (270 * 5 + 63) refl
-      (find 4 _ _ _ _ _ _ _ _ (with_byte (with_byte m RIGHT 10) 0xc065 0) [] w col
-      (record { shown = tt; left = p; is = e; low = refl; high = refl; others = λ a b d. skip is_argument (with_byte m RIGHT 10) 0xc065 0 a refl b ∙ skip is_argument m RIGHT 10 a refl b ∙ r a b d; column = q })
-      (omega (arith, small)) refl l)
+      let ready : Left false w (with_byte m RIGHT 0) = record { is_word = p; is = e; counts = refl; others = λ a s t. skip is_argument m RIGHT 0 a refl s ∙ r a s t; column = q } in
+      let few : w < 40000 = omega (arith, small) in
+      let many : w < 100000 = omega (arith, small) in
+      ⊎_elim
+      (λ none. looser f _ _ _ (digits_before 5 w []) (5 + (1 + 254)) 437 (omega arith) (λ w h. h)
+      (plain_byte a x y n v i z c m w col none ready (omega (arith, e, none, p)) l))
+      (λ some. plain_word a x y n v i z c m w col some ready few many l)
+      (cases_eq (m 0xc063) 0)
 
   -- behind the sign
-  negative : (a x y : ℕ) (n v i z c : Bool) (m : ℕ → ℕ) (col : ℕ) → IsWord m LEFT → is_negative (word_in m LEFT) ≡ true → Rest m → m COLUMN < 256 → (m COLUMN + length (digits_before 5 (magnitude (word_in m LEFT)) [])) % 256 ≡ col → Comes f (view a x y n v i z c (NUMBER_AT + 10) (lo ∷ hi ∷ []) m text answers) (Back lo hi text answers (Done col)) (digits_before 5 (magnitude (word_in m LEFT)) []) (1 + (9 + (5 + (270 * 5 + 63))))
+  negative : (a x y : ℕ) (n v i z c : Bool) (m : ℕ → ℕ) (col : ℕ) → IsWord m LEFT → is_negative (word_in m LEFT) ≡ true → Rest m → m COLUMN < 256 → (m COLUMN + length (digits_before 5 (magnitude (word_in m LEFT)) [])) % 256 ≡ col → Comes f (view a x y n v i z c (NUMBER_AT + 10) own m text answers) (Back lo hi text answers (Done col)) (digits_before 5 (magnitude (word_in m LEFT)) []) (1 + (9 + 437))
   unfolding Rest
   negative a x y n v i z c m col p t r q l =
       let w = word_in m LEFT in
       let big = sign_small w t in
       let wide : w < 65536 = omega (arith, p) in
-      let size : negated w ≡ magnitude w = (let s : negated w ≡ 65536 - w = omega (arith, big, wide) in s) ∙ sym (magnitude_negative w t) in
+      let size = negated_size w wide t in
       let few : magnitude w ≤ 32768 = subst (λ s. s ≤ 32768) size (let s : negated w ≤ 32768 = omega (arith, big, wide) in s) in
-      after f 11 fits number_part (number_in f.code block) 0 (view a x y n v i z c (NUMBER_AT + 10) (lo ∷ hi ∷ []) m text answers) _ _ (9 + (5 + (270 * 5 + 63))) refl
-      (calls f (lo ∷ hi ∷ []) a x y n v i z c negate_left_at ((NUMBER_AT + 12) % 256) ((NUMBER_AT + 12) / 256) m text answers _ _ [] _ 9 (5 + (270 * 5 + 63))
-      (negate_left (under f (lo ∷ hi ∷ [])) (omega (arith, fits)) block ((NUMBER_AT + 12) % 256) ((NUMBER_AT + 12) / 256) text answers a x y n v i z c m m w p refl (λ a e. refl))
+      after f 6 fits number_part (number_in f.code block) 0 (view a x y n v i z c (NUMBER_AT + 10) own m text answers) _ _ (9 + 437) refl
+      (calls f own a x y n v i z c negate_left_at ((NUMBER_AT + 12) % 256) ((NUMBER_AT + 12) / 256) m text answers _ _ [] _ 9 437
+      (negate_left (under f own) (omega (arith, fits)) block ((NUMBER_AT + 12) % 256) ((NUMBER_AT + 12) / 256) text answers a x y n v i z c m (Turned m (negated w)) (turned m p))
       (λ a x y n v i z c u g. plain a x y n v i z c u (magnitude w) col g.is_word (g.value ∙ size) few (λ a b d. g.others a b ∙ r a b d) (omega (arith, g.others COLUMN refl, q)) (ap (λ c. (c + length (digits_before 5 (magnitude w) [])) % 256) (g.others COLUMN refl) ∙ l)))
 
-  minus : (a x y : ℕ) (n v i z c : Bool) (m : ℕ → ℕ) (col : ℕ) → IsWord m LEFT → is_negative (word_in m LEFT) ≡ true → Rest m → m COLUMN < 256 → (m COLUMN + length (45 ∷ digits_before 5 (magnitude (word_in m LEFT)) [])) % 256 ≡ col → Comes f (view a x y n v i z c (NUMBER_AT + 5) (lo ∷ hi ∷ []) m text answers) (Back lo hi text answers (Done col)) (45 ∷ digits_before 5 (magnitude (word_in m LEFT)) []) (2 + (8 + (1 + (9 + (5 + (270 * 5 + 63))))))
+  minus : (a x y : ℕ) (n v i z c : Bool) (m : ℕ → ℕ) (col : ℕ) → IsWord m LEFT → is_negative (word_in m LEFT) ≡ true → Rest m → (m COLUMN + length (45 ∷ digits_before 5 (magnitude (word_in m LEFT)) [])) % 256 ≡ col → Comes f (view a x y n v i z c (NUMBER_AT + 5) own m text answers) (Back lo hi text answers (Done col)) (45 ∷ digits_before 5 (magnitude (word_in m LEFT)) []) (2 + (7 + (1 + (9 + 437))))
   unfolding Rest
-  minus a x y n v i z c m col p t r q l =
-      after f 11 fits number_part (number_in f.code block) 1 (view a x y n v i z c (NUMBER_AT + 5) (lo ∷ hi ∷ []) m text answers) _ _ (8 + (1 + (9 + (5 + (270 * 5 + 63))))) refl
-      (calls f (lo ∷ hi ∷ []) 45 x y _ v i _ c SEND_AT ((NUMBER_AT + 9) % 256) ((NUMBER_AT + 9) / 256) m text answers _ _ (45 ∷ []) _ 8 (1 + (9 + (5 + (270 * 5 + 63))))
-      (send_works (under f (lo ∷ hi ∷ [])) block (omega (arith, fits)) ((NUMBER_AT + 9) % 256) ((NUMBER_AT + 9) / 256) text answers m 45 x y _ v i _ c (omega arith) q)
+  minus a x y n v i z c m col p t r l =
+      after f 6 fits number_part (number_in f.code block) 1 (view a x y n v i z c (NUMBER_AT + 5) own m text answers) _ _ (7 + (1 + (9 + 437))) refl
+      (calls f own 45 x y _ v i _ c SEND_AT ((NUMBER_AT + 9) % 256) ((NUMBER_AT + 9) / 256) m text answers _ _ (45 ∷ []) _ 7 (1 + (9 + 437))
+      (send_law (under f own) (omega (arith, fits)) block ((NUMBER_AT + 9) % 256) ((NUMBER_AT + 9) / 256) text answers m 45 x y _ v i _ c (omega arith))
       (λ a x y n v i z c u g.
-      let low = g.others LEFT left_column in
-      let high = g.others 0xc063 high_column in
+      let low : u LEFT ≡ m LEFT = g.others LEFT (λ q. omega (arith, q)) in
+      let high : u 0xc063 ≡ m 0xc063 = g.others 0xc063 (λ q. omega (arith, q)) in
       let same : word_in u LEFT ≡ word_in m LEFT = omega (arith, low, high) in
       let next : u COLUMN ≡ (m COLUMN + 1) % 256 = g.column in
-      subst (λ w. Comes f (view a x y n v i z c (NUMBER_AT + 10) (lo ∷ hi ∷ []) u text answers) (Back lo hi text answers (Done col)) (digits_before 5 (magnitude w) []) (1 + (9 + (5 + (270 * 5 + 63))))) same
-      (negative a x y n v i z c u col (omega (arith, low, p), omega (arith, high, p)) (ap is_negative same ∙ t) (λ a b d. g.others a d ∙ r a b d) (omega (arith, next)) (ap (λ w. (u COLUMN + length (digits_before 5 (magnitude w) [])) % 256) same ∙ (let s : (u COLUMN + length (digits_before 5 (magnitude (word_in m LEFT)) [])) % 256 ≡ (m COLUMN + suc (length (digits_before 5 (magnitude (word_in m LEFT)) []))) % 256 = one_later _ _ _ next in s) ∙ l))))
+      subst (λ w. Comes f (view a x y n v i z c (NUMBER_AT + 10) own u text answers) (Back lo hi text answers (Done col)) (digits_before 5 (magnitude w) []) (1 + (9 + 437))) same
+      (negative a x y n v i z c u col (omega (arith, low, p), omega (arith, high, p)) (ap is_negative same ∙ t) (λ a b d. g.others a d ∙ r a b d) (omega (arith, next)) (ap (λ w. (u COLUMN + length (digits_before 5 (magnitude w) [])) % 256) same ∙ one_later (m COLUMN) (u COLUMN) (length (digits_before 5 (magnitude (word_in m LEFT)) [])) next ∙ l))))
 
-  whole : (a x y : ℕ) (n v i z c : Bool) → IsWord m0 LEFT → m0 COLUMN < 256 → Comes f (view a x y n v i z c NUMBER_AT (lo ∷ hi ∷ []) m0 text answers) (Back lo hi text answers (Done ((m0 COLUMN + length (digits_of (word_in m0 LEFT))) % 256))) (digits_of (word_in m0 LEFT)) 1440
+  whole : (a x y : ℕ) (n v i z c : Bool) → IsWord m0 LEFT → m0 COLUMN < 256 → Comes f (view a x y n v i z c NUMBER_AT own m0 text answers) (Back lo hi text answers (Done ((m0 COLUMN + length (digits_of (word_in m0 LEFT))) % 256))) (digits_of (word_in m0 LEFT)) 458
   unfolding Rest
   whole a x y n v i z c p q =
       let w = word_in m0 LEFT in
@@ -258,21 +300,20 @@ module _ (f : Setup) (fits : Fits f 11) (block : Holds block_part f.code) (lo hi
       ⊎_elim
       (λ t. let b : eqb (m0 0xc063 / 128 % 2) 1 ≡ true = s ∙ t in
       let d : digits_of w ≡ 45 ∷ digits_before 5 (magnitude w) [] = ap (λ b. if b then 45 ∷ digits_before 5 (magnitude w) [] else digits_before 5 w []) t in
-      subst (λ d. Comes f (view a x y n v i z c NUMBER_AT (lo ∷ hi ∷ []) m0 text answers) (Back lo hi text answers (Done ((m0 COLUMN + length d) % 256))) d 1440) (sym d)
-      (looser f _ _ _ _ (2 + (2 + (8 + (1 + (9 + (5 + (270 * 5 + 63))))))) 1440 (omega arith) (λ w h. h)
-      (after f 11 fits number_part (number_in f.code block) 1 (view a x y n v i z c NUMBER_AT (lo ∷ hi ∷ []) m0 text answers) _ _ (2 + (8 + (1 + (9 + (5 + (270 * 5 + 63)))))) refl
-      (rw b (minus _ _ _ _ _ _ _ _ m0 _ p t (λ a b d. refl) q refl)))))
+      subst (λ d. Comes f (view a x y n v i z c NUMBER_AT own m0 text answers) (Back lo hi text answers (Done ((m0 COLUMN + length d) % 256))) d 458) (sym d)
+      (after f 6 fits number_part (number_in f.code block) 1 (view a x y n v i z c NUMBER_AT own m0 text answers) _ _ (2 + (7 + (1 + (9 + 437)))) refl
+      (rw b (minus _ _ _ _ _ _ _ _ m0 _ p t (λ a b d. refl) refl))))
       (λ t. let b : eqb (m0 0xc063 / 128 % 2) 1 ≡ false = s ∙ t in
       let below = sign_none w t in
       let d : digits_of w ≡ digits_before 5 w [] = ap (λ b. if b then 45 ∷ digits_before 5 (magnitude w) [] else digits_before 5 w []) t in
-      subst (λ d. Comes f (view a x y n v i z c NUMBER_AT (lo ∷ hi ∷ []) m0 text answers) (Back lo hi text answers (Done ((m0 COLUMN + length d) % 256))) d 1440) (sym d)
-      (looser f _ _ _ _ (2 + (5 + (270 * 5 + 63))) 1440 (omega arith) (λ w h. h)
-      (after f 11 fits number_part (number_in f.code block) 1 (view a x y n v i z c NUMBER_AT (lo ∷ hi ∷ []) m0 text answers) _ _ (5 + (270 * 5 + 63)) refl
+      subst (λ d. Comes f (view a x y n v i z c NUMBER_AT own m0 text answers) (Back lo hi text answers (Done ((m0 COLUMN + length d) % 256))) d 458) (sym d)
+      (looser f _ _ _ _ (2 + 437) 458 (omega arith) (λ w h. h)
+      (after f 6 fits number_part (number_in f.code block) 1 (view a x y n v i z c NUMBER_AT own m0 text answers) _ _ 437 refl
       (rw b (plain _ _ _ _ _ _ _ _ m0 w _ p refl (omega (arith, below)) (λ a b d. refl) q refl)))))
       (sign_case (is_negative w))
 
 pub number_law : NumberLaw
 unfolding Rest
 number_law f fits block lo hi text answers m a x y n v i z c p w =
-    back_looser f _ lo hi text answers _ _ _ 1440 1440 (omega arith) (whole f fits block lo hi text answers m a x y n v i z c p w)
+    back_looser f _ lo hi text answers _ _ _ 458 458 (omega arith) (whole f fits block lo hi text answers m a x y n v i z c p w)
     (λ u h. record { column = h.0; others = h.1 })

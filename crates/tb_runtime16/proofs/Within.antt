@@ -2,8 +2,8 @@
 use Rattle.std.proofs.Common.{ℕ, List, ◌++◌}
 use Rattle.tb_reaching.specs.View.{Part, Holds, part_at}
 use Rattle.tb_reaching.proofs.Parts.{holds_itself, holds_then, part_front, part_back}
-use Rattle.tb_runtime16.specs.Places.{PROLOGUE_AT, SEND_AT, MULTIPLY_AT, DIVIDE_AT, RANDOM_AT, NUMBER_AT, TEXT_AT, ZONE_AT, INPUT_AT, SEARCH_AT, PUSH_AT, POP_AT, FAULT_AT, POLL_AT}
-use Rattle.tb_runtime16.specs.declared.code.TheConstants.{PROLOGUE_BYTES, SEND_BYTES, MULTIPLY_BYTES, DIVIDE_BYTES, RANDOM_BYTES, NUMBER_BYTES, TEXT_BYTES, ZONE_BYTES, INPUT_BYTES, SEARCH_BYTES, PUSH_BYTES, POP_BYTES, FAULT_BYTES, POLL_BYTES}
+use Rattle.tb_runtime16.specs.Places.{PROLOGUE_AT, SEND_AT, MULTIPLY_AT, DIVIDE_AT, RANDOM_AT, NUMBER_AT, TEXT_AT, ZONE_AT, INPUT_AT, SEARCH_AT, PUSH_AT, POP_AT, FAULT_LINE_AT, FAULT_AT, POLL_AT}
+use Rattle.tb_runtime16.specs.declared.code.TheConstants.{PROLOGUE_BYTES, SEND_BYTES, MULTIPLY_BYTES, DIVIDE_BYTES, RANDOM_BYTES, NUMBER_BYTES, TEXT_BYTES, ZONE_BYTES, INPUT_BYTES, SEARCH_BYTES, PUSH_BYTES, POP_BYTES, FAULT_LINE_BYTES, FAULT_BYTES, POLL_BYTES}
 use Rattle.tb_runtime16.specs.Block.{block_part}
 
 -- ---- the routines' bytes at their addresses, each by itself, so that a run looks a byte up among few
@@ -43,6 +43,9 @@ push_part = part_at PUSH_AT PUSH_BYTES
 abbrev pub pop_part : Part
 pop_part = part_at POP_AT POP_BYTES
 
+abbrev pub fault_line_part : Part
+fault_line_part = part_at FAULT_LINE_AT FAULT_LINE_BYTES
+
 abbrev pub fault_part : Part
 fault_part = part_at FAULT_AT FAULT_BYTES
 
@@ -60,8 +63,11 @@ poll_on = POLL_BYTES
 abbrev fault_on : List ℕ
 fault_on = FAULT_BYTES ++ poll_on
 
+abbrev fault_line_on : List ℕ
+fault_line_on = FAULT_LINE_BYTES ++ fault_on
+
 abbrev pop_on : List ℕ
-pop_on = POP_BYTES ++ fault_on
+pop_on = POP_BYTES ++ fault_line_on
 
 abbrev push_on : List ℕ
 push_on = PUSH_BYTES ++ pop_on
@@ -132,8 +138,11 @@ from_push = holds_then (part_at PUSH_AT push_on) (part_at SEARCH_AT search_on) b
 from_pop : Holds (part_at POP_AT pop_on) block_part
 from_pop = holds_then (part_at POP_AT pop_on) (part_at PUSH_AT push_on) block_part (part_back PUSH_AT PUSH_BYTES pop_on) from_push
 
+from_fault_line : Holds (part_at FAULT_LINE_AT fault_line_on) block_part
+from_fault_line = holds_then (part_at FAULT_LINE_AT fault_line_on) (part_at POP_AT pop_on) block_part (part_back POP_AT POP_BYTES fault_line_on) from_pop
+
 from_fault : Holds (part_at FAULT_AT fault_on) block_part
-from_fault = holds_then (part_at FAULT_AT fault_on) (part_at POP_AT pop_on) block_part (part_back POP_AT POP_BYTES fault_on) from_pop
+from_fault = holds_then (part_at FAULT_AT fault_on) (part_at FAULT_LINE_AT fault_line_on) block_part (part_back FAULT_LINE_AT FAULT_LINE_BYTES fault_on) from_fault_line
 
 from_poll : Holds (part_at POLL_AT poll_on) block_part
 from_poll = holds_then (part_at POLL_AT poll_on) (part_at FAULT_AT fault_on) block_part (part_back FAULT_AT FAULT_BYTES poll_on) from_fault
@@ -169,6 +178,9 @@ input_in code block = holds_then input_part block_part code (holds_then input_pa
 pub search_in : (code : Part) → Holds block_part code → Holds search_part code
 search_in code block = holds_then search_part block_part code (holds_then search_part (part_at SEARCH_AT search_on) block_part (part_front SEARCH_AT SEARCH_BYTES push_on) from_search) block
 
+pub fault_line_in : (code : Part) → Holds block_part code → Holds fault_line_part code
+fault_line_in code block = holds_then fault_line_part block_part code (holds_then fault_line_part (part_at FAULT_LINE_AT fault_line_on) block_part (part_front FAULT_LINE_AT FAULT_LINE_BYTES fault_on) from_fault_line) block
+
 pub fault_in : (code : Part) → Holds block_part code → Holds fault_part code
 fault_in code block = holds_then fault_part block_part code (holds_then fault_part (part_at FAULT_AT fault_on) block_part (part_front FAULT_AT FAULT_BYTES poll_on) from_fault) block
 
@@ -176,4 +188,4 @@ pub poll_in : (code : Part) → Holds block_part code → Holds poll_part code
 poll_in code block = holds_then poll_part block_part code from_poll block
 
 pub notes_in : (code : Part) → Holds block_part code → Holds notes_part code
-notes_in code block = holds_then notes_part block_part code (holds_then notes_part (part_at PUSH_AT push_on) block_part (part_front PUSH_AT (PUSH_BYTES ++ POP_BYTES) fault_on) from_push) block
+notes_in code block = holds_then notes_part block_part code (holds_then notes_part (part_at PUSH_AT push_on) block_part (part_front PUSH_AT (PUSH_BYTES ++ POP_BYTES) fault_line_on) from_push) block

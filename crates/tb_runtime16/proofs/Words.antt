@@ -98,9 +98,9 @@ quotient_negative n d p e =
     let h = sign_small n e in
     ap (λ b. with_sign (differ b (is_negative d)) ((if b then 65536 - n else n) / magnitude d)) e ∙ ap (λ x. with_sign (not (is_negative d)) (x / magnitude d)) (let t : 65536 - n ≡ negated n = omega (arith, h) in t)
 
--- a quotient by a word that is read as negative
-pub by_negated : (n d : ℕ) → d < 65536 → is_negative d ≡ true → n / negated d ≡ n / magnitude d
-by_negated n d p e = let h = sign_small d e in ap (λ x. n / x) (let t : negated d ≡ 65536 - d = omega (arith, h) in t ∙ sym (magnitude_negative d e))
+-- a word that is read as negative, turned round
+pub negated_size : (d : ℕ) → d < 65536 → is_negative d ≡ true → negated d ≡ magnitude d
+negated_size d p e = let h = sign_small d e in let t : negated d ≡ 65536 - d = omega (arith, h, p) in t ∙ sym (magnitude_negative d e)
 
 pub with_sign_positive : (d n : ℕ) → n ≤ 32768 → is_negative d ≡ false → with_sign (is_negative d) (n / magnitude d) ≡ n / d
 with_sign_positive d n h e = ap (λ b. with_sign b (n / magnitude d)) e ∙ ap (λ x. word (n / x)) (magnitude_positive d e) ∙ (let s = div-le_self n d in let t : n / d % 65536 ≡ n / d = omega (arith, s) in t)

@@ -3,13 +3,13 @@ use Rattle.std.specs.Prelude.{◌≡◌, ℕ, ◌-◌, List, ◌++◌, length, t
 use Rattle.tb_reaching.specs.View.{Part, part_at}
 use Rattle.tb_runtime16.specs.Places.{PROLOGUE_AT}
 use Rattle.tb_runtime16.specs.declared.places.Routine.{Routine}
-use Rattle.tb_runtime16.specs.declared.places.Routine.TheVariants.{Multiply, Divide, Random, Number, Text, Zone, Input, Search, Push, Pop, Fault, Poll}
-use Rattle.tb_runtime16.specs.declared.code.TheConstants.{PROLOGUE_BYTES, SEND_BYTES, MULTIPLY_BYTES, DIVIDE_BYTES, RANDOM_BYTES, NUMBER_BYTES, TEXT_BYTES, ZONE_BYTES, INPUT_BYTES, SEARCH_BYTES, PUSH_BYTES, POP_BYTES, FAULT_BYTES, POLL_BYTES}
+use Rattle.tb_runtime16.specs.declared.places.Routine.TheVariants.{Multiply, Divide, Random, Number, Text, Zone, Input, Search, Push, Pop, FaultLine, Fault, Poll}
+use Rattle.tb_runtime16.specs.declared.code.TheConstants.{PROLOGUE_BYTES, SEND_BYTES, MULTIPLY_BYTES, DIVIDE_BYTES, RANDOM_BYTES, NUMBER_BYTES, TEXT_BYTES, ZONE_BYTES, INPUT_BYTES, SEARCH_BYTES, PUSH_BYTES, POP_BYTES, FAULT_LINE_BYTES, FAULT_BYTES, POLL_BYTES}
 
 -- the bytes of the block, which are those of the code's table, a routine behind the other
 abbrev pub block_bytes : List ℕ
 block_bytes =
-    PROLOGUE_BYTES ++ SEND_BYTES ++ MULTIPLY_BYTES ++ DIVIDE_BYTES ++ RANDOM_BYTES ++ NUMBER_BYTES ++ TEXT_BYTES ++ ZONE_BYTES ++ INPUT_BYTES ++ SEARCH_BYTES ++ PUSH_BYTES ++ POP_BYTES ++ FAULT_BYTES ++ POLL_BYTES
+    PROLOGUE_BYTES ++ SEND_BYTES ++ MULTIPLY_BYTES ++ DIVIDE_BYTES ++ RANDOM_BYTES ++ NUMBER_BYTES ++ TEXT_BYTES ++ ZONE_BYTES ++ INPUT_BYTES ++ SEARCH_BYTES ++ PUSH_BYTES ++ POP_BYTES ++ FAULT_LINE_BYTES ++ FAULT_BYTES ++ POLL_BYTES
 
 -- the bytes of the block at their addresses
 abbrev pub block_part : Part
@@ -27,6 +27,7 @@ bytes_of Input = INPUT_BYTES
 bytes_of Search = SEARCH_BYTES
 bytes_of Push = PUSH_BYTES
 bytes_of Pop = POP_BYTES
+bytes_of FaultLine = FAULT_LINE_BYTES
 bytes_of Fault = FAULT_BYTES
 bytes_of Poll = POLL_BYTES
 

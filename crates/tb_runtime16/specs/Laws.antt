@@ -3,7 +3,7 @@ use Rattle.std.specs.Prelude.{◌≡◌, ◌⊎◌, ◌≢◌, ℕ, ◌+◌, ◌
 use Rattle.tb_cpu.specs.Operands.{word_in}
 use Rattle.tb_memmap.specs.Regions.{within}
 use Rattle.tb_reaching.specs.View.{View, Setup, Holds, Fits, Comes, view, back_at, Bytes}
-use Rattle.tb_words.specs.Words.{quotient, seed_after, digits_of}
+use Rattle.tb_words.specs.Words.{magnitude, quotient, seed_after, digits_of}
 use Rattle.tb_lower.specs.Control.{zone, column_after}
 use Rattle.tb_runtime16.specs.Places.{SEND_AT, MULTIPLY_AT, DIVIDE_AT, RANDOM_AT, NUMBER_AT, TEXT_AT, ZONE_AT, FAULT_AT, COLUMN, SEEDED, SEED, LEFT, RIGHT, RESULT, LENGTH, SCRATCH, POINTER}
 use Rattle.tb_runtime16.specs.Block.{block_part}
@@ -99,17 +99,17 @@ pub record Multiplied (m0 : ℕ → ℕ) (product : ℕ) (m : ℕ → ℕ) : Typ
   pub value : word_in m RESULT ≡ product
   pub others : (a : ℕ) → is_argument a ≡ false → m a ≡ m0 a
 
--- Multiply gives the product modulo 65,536 within 262 Go events
+-- Multiply gives the product modulo 65,536 within 245 Go events
 abbrev pub MultiplyLaw : Type 0
 MultiplyLaw =
     (f : Setup) → Fits f 2 → Holds block_part f.code → (lo hi : ℕ) (text answers : List ℕ) (m : ℕ → ℕ) (a x y : ℕ) (n v i z c : Bool) → IsWord m LEFT → IsWord m RIGHT →
-    Comes f (view a x y n v i z c MULTIPLY_AT (lo ∷ hi ∷ []) m text answers) (Back lo hi text answers (Multiplied m ((word_in m LEFT * word_in m RIGHT) % 65536))) [] 262
+    Comes f (view a x y n v i z c MULTIPLY_AT (lo ∷ hi ∷ []) m text answers) (Back lo hi text answers (Multiplied m ((word_in m LEFT * word_in m RIGHT) % 65536))) [] 245
 
 -- ---- division without signs, inside Divide
 
 -- the entry of the division without signs, inside Divide
 abbrev pub unsigned_at : ℕ
-unsigned_at = DIVIDE_AT + 78
+unsigned_at = DIVIDE_AT + 60
 
 -- memory after the division without signs: quotient q at LEFT, remainder r at RESULT, and all else as it was
 pub record Parted (m0 : ℕ → ℕ) (q r : ℕ) (m : ℕ → ℕ) : Type 0 where
@@ -125,31 +125,33 @@ pub record Parted (m0 : ℕ → ℕ) (q r : ℕ) (m : ℕ → ℕ) : Type 0 wher
 abbrev pub UnsignedLaw : Type 0
 UnsignedLaw =
     (f : Setup) → Fits f 2 → Holds block_part f.code → (lo hi : ℕ) (text answers : List ℕ) (m : ℕ → ℕ) (a x y : ℕ) (n v i z c : Bool) → IsWord m LEFT → IsWord m RIGHT → 1 ≤ word_in m RIGHT → word_in m RIGHT ≤ 32768 →
-    Comes f (view a x y n v i z c unsigned_at (lo ∷ hi ∷ []) m text answers) (Back lo hi text answers (Parted m (word_in m LEFT / word_in m RIGHT) (word_in m LEFT % word_in m RIGHT))) [] 261
+    Comes f (view a x y n v i z c unsigned_at (lo ∷ hi ∷ []) m text answers) (Back lo hi text answers (Parted m (word_in m LEFT / word_in m RIGHT) (word_in m LEFT % word_in m RIGHT))) [] 268
 
 -- ---- Divide
 
 -- the entry of what turns the sign of LEFT, inside Divide
 abbrev pub negate_left_at : ℕ
-negate_left_at = DIVIDE_AT + 42
+negate_left_at = DIVIDE_AT + 24
 
--- a word at a place, and the memory but for the arguments as it was
-pub record Gives (m0 : ℕ → ℕ) (at q : ℕ) (m : ℕ → ℕ) : Type 0 where
-  pub is_word : IsWord m at
-  pub value : word_in m at ≡ q
+-- memory after Divide: quotient q at LEFT, the size r of the remainder at RESULT, and all but the arguments as it was
+pub record Divided (m0 : ℕ → ℕ) (q r : ℕ) (m : ℕ → ℕ) : Type 0 where
+  pub left_is : IsWord m LEFT
+  pub left : word_in m LEFT ≡ q
+  pub result_is : IsWord m RESULT
+  pub result : word_in m RESULT ≡ r
   pub others : (a : ℕ) → is_argument a ≡ false → m a ≡ m0 a
 
--- Divide gives the quotient of signed words, truncated toward zero, within 316 Go events
+-- Divide gives the quotient of signed words, truncated toward zero, and the remainder's size, within 316 Go events
 abbrev pub DivideLaw : Type 0
 DivideLaw =
-    (f : Setup) → Fits f 8 → Holds block_part f.code → (lo hi : ℕ) (text answers : List ℕ) (m : ℕ → ℕ) (a x y : ℕ) (n v i z c : Bool) → IsWord m LEFT → IsWord m RIGHT → 1 ≤ word_in m RIGHT →
-    Comes f (view a x y n v i z c DIVIDE_AT (lo ∷ hi ∷ []) m text answers) (Back lo hi text answers (Gives m RESULT (quotient (word_in m LEFT) (word_in m RIGHT)))) [] 316
+    (f : Setup) → Fits f 6 → Holds block_part f.code → (lo hi : ℕ) (text answers : List ℕ) (m : ℕ → ℕ) (a x y : ℕ) (n v i z c : Bool) → IsWord m LEFT → IsWord m RIGHT → 1 ≤ word_in m RIGHT →
+    Comes f (view a x y n v i z c DIVIDE_AT (lo ∷ hi ∷ []) m text answers) (Back lo hi text answers (Divided m (quotient (word_in m LEFT) (word_in m RIGHT)) (magnitude (word_in m LEFT) % magnitude (word_in m RIGHT)))) [] 316
 
 -- by 0, Divide comes to Fault with 2, with memory as it was
 abbrev pub DivideByZeroLaw : Type 0
 DivideByZeroLaw =
     (f : Setup) → Fits f 2 → Holds block_part f.code → (lo hi : ℕ) (text answers : List ℕ) (m : ℕ → ℕ) (a x y : ℕ) (n v i z c : Bool) → word_in m RIGHT ≡ 0 →
-    Comes f (view a x y n v i z c DIVIDE_AT (lo ∷ hi ∷ []) m text answers) (Faults lo hi text answers m 2) [] 6
+    Comes f (view a x y n v i z c DIVIDE_AT (lo ∷ hi ∷ []) m text answers) (Faults lo hi text answers m 2) [] 5
 
 -- ---- Number
 
@@ -161,8 +163,8 @@ pub record Written (m0 : ℕ → ℕ) (t : List ℕ) (m : ℕ → ℕ) : Type 0 
 -- Number sends the shortest decimal text of the signed word at LEFT
 abbrev pub NumberLaw : Type 0
 NumberLaw =
-    (f : Setup) → Fits f 11 → Holds block_part f.code → (lo hi : ℕ) (text answers : List ℕ) (m : ℕ → ℕ) (a x y : ℕ) (n v i z c : Bool) → IsWord m LEFT → m COLUMN < 256 →
-    Comes f (view a x y n v i z c NUMBER_AT (lo ∷ hi ∷ []) m text answers) (Back lo hi text answers (Written m (digits_of (word_in m LEFT)))) (digits_of (word_in m LEFT)) 1440
+    (f : Setup) → Fits f 6 → Holds block_part f.code → (lo hi : ℕ) (text answers : List ℕ) (m : ℕ → ℕ) (a x y : ℕ) (n v i z c : Bool) → IsWord m LEFT → m COLUMN < 256 →
+    Comes f (view a x y n v i z c NUMBER_AT (lo ∷ hi ∷ []) m text answers) (Back lo hi text answers (Written m (digits_of (word_in m LEFT)))) (digits_of (word_in m LEFT)) 458
 
 -- ---- Random
 
@@ -187,7 +189,7 @@ pub record Drawn (m0 : ℕ → ℕ) (bound seed : ℕ) (m : ℕ → ℕ) : Type 
 abbrev pub RandomLaw : Type 0
 RandomLaw =
     (f : Setup) → Fits f 6 → Holds block_part f.code → (lo hi : ℕ) (text answers : List ℕ) (m : ℕ → ℕ) (a x y : ℕ) (n v i z c : Bool) → IsWord m LEFT → IsWord m RIGHT → IsWord m SEED → 1 ≤ word_in m LEFT → word_in m LEFT < 32768 →
-    Comes f (view a x y n v i z c RANDOM_AT (lo ∷ hi ∷ []) m text answers) (Back lo hi text answers (Drawn m (word_in m LEFT) (seed_of m))) [] 562
+    Comes f (view a x y n v i z c RANDOM_AT (lo ∷ hi ∷ []) m text answers) (Back lo hi text answers (Drawn m (word_in m LEFT) (seed_of m))) [] 549
 
 -- for a bound below 1, Random comes to Fault with 3, with memory as it was
 abbrev pub RandomRangeLaw : Type 0

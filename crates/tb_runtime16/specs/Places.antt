@@ -2,7 +2,7 @@
 use Rattle.std.specs.Prelude.{ℕ}
 use Rattle.tb_runtime16.specs.declared.places.TheConstants as place
 use Rattle.tb_runtime16.specs.declared.places.Routine.{Routine}
-use Rattle.tb_runtime16.specs.declared.places.Routine.TheVariants.{Multiply, Divide, Random, Number, Text, Zone, Input, Search, Push, Pop, Fault, Poll}
+use Rattle.tb_runtime16.specs.declared.places.Routine.TheVariants.{Multiply, Divide, Random, Number, Text, Zone, Input, Search, Push, Pop, FaultLine, Fault, Poll}
 
 -- ── pointers of page zero ──
 -- the pointer to the byte, the table entry or the note that is looked at
@@ -157,6 +157,10 @@ PUSH_AT = place.PUSH_AT
 abbrev pub POP_AT : ℕ
 POP_AT = place.POP_AT
 
+-- the entry of Fault that takes the line's number in X and Y
+abbrev pub FAULT_LINE_AT : ℕ
+FAULT_LINE_AT = place.FAULT_LINE_AT
+
 -- the entry of Fault
 abbrev pub FAULT_AT : ℕ
 FAULT_AT = place.FAULT_AT
@@ -177,5 +181,6 @@ entry_of Input = INPUT_AT
 entry_of Search = SEARCH_AT
 entry_of Push = PUSH_AT
 entry_of Pop = POP_AT
+entry_of FaultLine = FAULT_LINE_AT
 entry_of Fault = FAULT_AT
 entry_of Poll = POLL_AT

@@ -3,10 +3,10 @@ use Rattle.std.specs.Prelude.{◌≡◌, ◌≢◌, ℕ, suc, ◌+◌, ◌*◌, 
 use Rattle.tb_cpu.specs.Effects.{bit}
 use Rattle.tb_kernal.specs.Machine.{first_or_zero}
 use Rattle.tb_memmap.specs.Regions.{within}
-use Rattle.tb_words.specs.Words.{word, quotient, digits_of, seed_after}
+use Rattle.tb_words.specs.Words.{word, magnitude, quotient, digits_of, seed_after}
 use Rattle.tb_lower.specs.Control.{fault_text, zone, column_after, has_line}
 use Rattle.tb_lower.specs.Input.{Got, Bad, Dry, Nothing, turn}
-use Rattle.tb_runtime16.specs.Places.{POINTER, COLUMN, OPEN, SEEDED, HOME_S, SEED, LINE, NOTES, LEFT, RIGHT, RESULT, TABLE, COUNT, LENGTH, NOTE_LIST, SEND_AT, MULTIPLY_AT, DIVIDE_AT, RANDOM_AT, NUMBER_AT, TEXT_AT, ZONE_AT, INPUT_AT, SEARCH_AT, PUSH_AT, POP_AT, FAULT_AT, POLL_AT}
+use Rattle.tb_runtime16.specs.Places.{POINTER, COLUMN, OPEN, SEEDED, HOME_S, SEED, LINE, NOTES, LEFT, RIGHT, RESULT, TABLE, COUNT, LENGTH, NOTE_LIST, SEND_AT, MULTIPLY_AT, DIVIDE_AT, RANDOM_AT, NUMBER_AT, TEXT_AT, ZONE_AT, INPUT_AT, SEARCH_AT, PUSH_AT, POP_AT, FAULT_LINE_AT, FAULT_AT, POLL_AT}
 use Rattle.tb_reaching.specs.View.{View, Setup, Part, Holds, Fits, Comes, back_at, Bytes}
 use Rattle.tb_reaching.specs.Start.{IsHome, IsWaiting, Homed}
 use Rattle.tb_runtime16.specs.Block.{block_part}
@@ -57,6 +57,12 @@ pub record WithA (at k : ℕ) (bs : List ℕ) (m : ℕ → ℕ) (keys gets : Lis
   pub here : Here at bs m keys gets w
   pub number : w.regs.a ≡ k
 
+-- the same with a known A, and a line's number in X and Y
+pub record WithLine (at k n : ℕ) (bs : List ℕ) (m : ℕ → ℕ) (keys gets : List ℕ) (w : View) : Type 0 where
+  pub with_a : WithA at k bs m keys gets w
+  pub low : w.regs.x ≡ n % 256
+  pub high : w.regs.y ≡ n / 256
+
 -- from each view of a set
 abbrev pub Moves : Setup → (View → Type 0) → (View → Type 0) → List ℕ → ℕ → Type 0
 Moves f p q t n = (w : View) → p w → Comes f w q t n
@@ -80,7 +86,13 @@ pub record Gives (at : ℕ) (bs : List ℕ) (m : ℕ → ℕ) (keys gets : List 
   pub back : Back at bs m keys gets w
   pub result : WordAt w.mem RESULT v
 
--- the same with bytes sent
+-- the same with a quotient, and the size of the remainder
+pub record Parts (at : ℕ) (bs : List ℕ) (m : ℕ → ℕ) (keys gets : List ℕ) (q r : ℕ) (w : View) : Type 0 where
+  pub back : Back at bs m keys gets w
+  pub left : WordAt w.mem LEFT q
+  pub rest : WordAt w.mem RESULT r
+
+-- back with bytes sent
 pub record Told (at : ℕ) (bs : List ℕ) (m : ℕ → ℕ) (keys gets sent : List ℕ) (w : View) : Type 0 where
   pub pc : w.regs.pc ≡ at
   pub stack : w.stack ≡ bs
@@ -150,7 +162,7 @@ pub record Routines (table seed_option : ℕ) (numbers : List ℕ) (start : ℕ 
   pub multiply : (l h : ℕ) (m : ℕ → ℕ) (text answers : List ℕ) (a b : ℕ) → WordAt m LEFT a → WordAt m RIGHT b →
       Moves f (Here MULTIPLY_AT (l ∷ h ∷ lo ∷ hi ∷ []) m text answers) (Gives (back_at l h) (lo ∷ hi ∷ []) m text answers (word (a * b))) [] limit
   pub divide : (l h : ℕ) (m : ℕ → ℕ) (text answers : List ℕ) (a b : ℕ) → WordAt m LEFT a → WordAt m RIGHT b → b ≢ 0 →
-      Moves f (Here DIVIDE_AT (l ∷ h ∷ lo ∷ hi ∷ []) m text answers) (Gives (back_at l h) (lo ∷ hi ∷ []) m text answers (quotient a b)) [] limit
+      Moves f (Here DIVIDE_AT (l ∷ h ∷ lo ∷ hi ∷ []) m text answers) (Parts (back_at l h) (lo ∷ hi ∷ []) m text answers (quotient a b) (magnitude a % magnitude b)) [] limit
   pub divide_by_zero : (l h : ℕ) (m : ℕ → ℕ) (text answers : List ℕ) (a n : ℕ) → WordAt m LEFT a → WordAt m RIGHT 0 → WordAt m LINE n → Entered f lo hi m →
       Moves f (Here DIVIDE_AT (l ∷ h ∷ lo ∷ hi ∷ []) m text answers) (IsHome f) (fault_text 2 n) limit
   pub number : (l h : ℕ) (m : ℕ → ℕ) (text answers : List ℕ) (a : ℕ) → WordAt m LEFT a → m COLUMN < 256 →
@@ -167,6 +179,8 @@ pub record Routines (table seed_option : ℕ) (numbers : List ℕ) (start : ℕ 
       Moves f (Here SEARCH_AT (l ∷ h ∷ lo ∷ hi ∷ []) m text answers) (IsHome f) (fault_text 1 at) limit
   pub fault : (k : ℕ) → k < 10 → (m : ℕ → ℕ) (text answers : List ℕ) (n : ℕ) → WordAt m LINE n → Entered f lo hi m →
       Moves f (WithA FAULT_AT k (lo ∷ hi ∷ []) m text answers) (IsHome f) (fault_text k n) limit
+  pub fault_line : (k : ℕ) → k < 10 → (m : ℕ → ℕ) (text answers : List ℕ) (n : ℕ) → n < 65536 → Entered f lo hi m →
+      Moves f (WithLine FAULT_LINE_AT k n (lo ∷ hi ∷ []) m text answers) (IsHome f) (fault_text k n) limit
   pub pop : (l h : ℕ) (m : ℕ → ℕ) (text answers : List ℕ) (note : ℕ) (notes : List ℕ) → WordAt m NOTES (suc (length notes)) → Noted m (note ∷ notes) → suc (length notes) ≤ 500 →
       Moves f (Here POP_AT (l ∷ h ∷ lo ∷ hi ∷ []) m text answers) (Popped (back_at l h) (lo ∷ hi ∷ []) m text answers (length notes) note) [] limit
   pub pop_fails : (l h : ℕ) (m : ℕ → ℕ) (text answers : List ℕ) (n : ℕ) → WordAt m NOTES 0 → WordAt m LINE n → Entered f lo hi m →

@@ -4,13 +4,13 @@
 //! Addresses inside the block are those of `targets`, which follow from the routines' lengths.
 
 use crate::places::{
-    BLOCK_LENGTH, DIVIDE_LENGTH, FAULT_LENGTH, INPUT_LENGTH, MULTIPLY_LENGTH, NUMBER_LENGTH,
-    POLL_LENGTH, POP_LENGTH, PROLOGUE_LENGTH, PUSH_LENGTH, RANDOM_LENGTH, SEARCH_LENGTH,
-    SEND_LENGTH, TEXT_LENGTH, ZONE_LENGTH,
+    BLOCK_LENGTH, DIVIDE_LENGTH, FAULT_LENGTH, FAULT_LINE_LENGTH, INPUT_LENGTH, MULTIPLY_LENGTH,
+    NUMBER_LENGTH, POLL_LENGTH, POP_LENGTH, PROLOGUE_LENGTH, PUSH_LENGTH, RANDOM_LENGTH,
+    SEARCH_LENGTH, SEND_LENGTH, TEXT_LENGTH, ZONE_LENGTH,
 };
 use crate::targets::{
-    DIGITS, DIVIDEBY, FAULT, LINES, MULTIPLY, NEGATE, NUMBER, OPPOSITE, PLACE, PROBE, READ, SEND,
-    SIGNED, UNSIGNED,
+    DIVIDEBY, FAULT, LINES, MULTIPLY, NEGATE, NUMBER, OPPOSITE, PLACE, POWERS_HIGH, POWERS_LOW,
+    PROBE, READ, SEND, UNSIGNED,
 };
 
 // The prologue: decimal mode off, $C000 to $C03D cleared, S kept at HOME_S, and on to the first line.
@@ -73,62 +73,77 @@ macro_rules! multiply {
     };
 }
 
-// Divide: the quotient of the signed words at LEFT and RIGHT into RESULT; fault 2 where RIGHT is 0.
+// Divide: the quotient of the signed words at LEFT and RIGHT into LEFT, the remainder's size into RESULT; fault 2 where
+// RIGHT is 0.
 macro_rules! divide {
     ([$($before:tt)*] $next:ident $($others:ident)*) => {
         $next!([$($before)*
         0xad, 0x64, 0xc0, // 0 DIVIDE: LDA RIGHT
-        0xd0, 0x0a, // 3: BNE DIVIDEGO
-        0xad, 0x65, 0xc0, // 5: LDA RIGHT+1
-        0xd0, 0x05, // 8: BNE DIVIDEGO
-        0xa9, 0x02, // 10: LDA #$02
-        0x4c, FAULT.0, FAULT.1, // 12: JMP FAULT
-        0x20, SIGNED.0, SIGNED.1, // 15 DIVIDEGO: JSR DIVIDESIGNED
-        0xad, 0x62, 0xc0, // 18: LDA LEFT
-        0x8d, 0x66, 0xc0, // 21: STA RESULT
-        0xad, 0x63, 0xc0, // 24: LDA LEFT+1
-        0x8d, 0x67, 0xc0, // 27: STA RESULT+1
-        0x60, // 30: RTS
-        0xad, 0x63, 0xc0, // 31 DIVIDESIGNED: LDA LEFT+1
-        0x10, 0x1a, // 34: BPL DIVIDEBY
-        0x20, OPPOSITE.0, OPPOSITE.1, // 36: JSR NEGATELEFT
-        0x20, DIVIDEBY.0, DIVIDEBY.1, // 39: JSR DIVIDEBY
-        0xa2, 0x00, // 42 NEGATELEFT: LDX #$00
-        0x38, // 44 NEGATE: SEC
-        0xa9, 0x00, // 45: LDA #$00
-        0xfd, 0x62, 0xc0, // 47: SBC LEFT,X
-        0x9d, 0x62, 0xc0, // 50: STA LEFT,X
-        0xa9, 0x00, // 53: LDA #$00
-        0xfd, 0x63, 0xc0, // 55: SBC LEFT+1,X
-        0x9d, 0x63, 0xc0, // 58: STA LEFT+1,X
-        0x60, // 61: RTS
-        0xad, 0x65, 0xc0, // 62 DIVIDEBY: LDA RIGHT+1
-        0x10, 0x0b, // 65: BPL UNSIGNED
-        0xa2, 0x02, // 67: LDX #$02
-        0x20, NEGATE.0, NEGATE.1, // 69: JSR NEGATE
-        0x20, UNSIGNED.0, UNSIGNED.1, // 72: JSR UNSIGNED
-        0x4c, OPPOSITE.0, OPPOSITE.1, // 75: JMP NEGATELEFT
-        0xa9, 0x00, // 78 UNSIGNED: LDA #$00
-        0x8d, 0x66, 0xc0, // 80: STA RESULT
-        0x8d, 0x67, 0xc0, // 83: STA RESULT+1
-        0xa0, 0x10, // 86: LDY #$10
-        0x0e, 0x62, 0xc0, // 88 UNSIGNEDNEXT: ASL LEFT
-        0x2e, 0x63, 0xc0, // 91: ROL LEFT+1
-        0x2e, 0x66, 0xc0, // 94: ROL RESULT
-        0x2e, 0x67, 0xc0, // 97: ROL RESULT+1
-        0xad, 0x66, 0xc0, // 100: LDA RESULT
-        0x38, // 103: SEC
-        0xed, 0x64, 0xc0, // 104: SBC RIGHT
-        0xaa, // 107: TAX
-        0xad, 0x67, 0xc0, // 108: LDA RESULT+1
-        0xed, 0x65, 0xc0, // 111: SBC RIGHT+1
-        0x90, 0x09, // 114: BCC UNSIGNEDLESS
-        0x8e, 0x66, 0xc0, // 116: STX RESULT
-        0x8d, 0x67, 0xc0, // 119: STA RESULT+1
-        0xee, 0x62, 0xc0, // 122: INC LEFT
-        0x88, // 125 UNSIGNEDLESS: DEY
-        0xd0, 0xd8, // 126: BNE UNSIGNEDNEXT
-        0x60, // 128: RTS
+        0x0d, 0x65, 0xc0, // 3: ORA RIGHT+1
+        0xd0, 0x05, // 6: BNE DIVIDESIGNED
+        0xa9, 0x02, // 8: LDA #$02
+        0x4c, FAULT.0, FAULT.1, // 10: JMP FAULT
+        0xad, 0x63, 0xc0, // 13 DIVIDESIGNED: LDA LEFT+1
+        0x10, 0x1a, // 16: BPL DIVIDEBY
+        0x20, OPPOSITE.0, OPPOSITE.1, // 18: JSR NEGATELEFT
+        0x20, DIVIDEBY.0, DIVIDEBY.1, // 21: JSR DIVIDEBY
+        0xa2, 0x00, // 24 NEGATELEFT: LDX #$00
+        0x38, // 26 NEGATE: SEC
+        0xa9, 0x00, // 27: LDA #$00
+        0xfd, 0x62, 0xc0, // 29: SBC LEFT,X
+        0x9d, 0x62, 0xc0, // 32: STA LEFT,X
+        0xa9, 0x00, // 35: LDA #$00
+        0xfd, 0x63, 0xc0, // 37: SBC LEFT+1,X
+        0x9d, 0x63, 0xc0, // 40: STA LEFT+1,X
+        0x60, // 43: RTS
+        0xad, 0x65, 0xc0, // 44 DIVIDEBY: LDA RIGHT+1
+        0x10, 0x0b, // 47: BPL UNSIGNED
+        0xa2, 0x02, // 49: LDX #$02
+        0x20, NEGATE.0, NEGATE.1, // 51: JSR NEGATE
+        0x20, UNSIGNED.0, UNSIGNED.1, // 54: JSR UNSIGNED
+        0x4c, OPPOSITE.0, OPPOSITE.1, // 57: JMP NEGATELEFT
+        0xad, 0x65, 0xc0, // 60 UNSIGNED: LDA RIGHT+1
+        0xd0, 0x2d, // 63: BNE WIDE
+        0xad, 0x64, 0xc0, // 65: LDA RIGHT
+        0x30, 0x28, // 68: BMI WIDE
+        0xad, 0x63, 0xc0, // 70: LDA LEFT+1
+        0xcd, 0x64, 0xc0, // 73: CMP RIGHT
+        0xb0, 0x20, // 76: BCS WIDE
+        0xa2, 0x00, // 78: LDX #$00
+        0x8e, 0x63, 0xc0, // 80: STX LEFT+1
+        0x8e, 0x67, 0xc0, // 83: STX RESULT+1
+        0xa2, 0x08, // 86: LDX #$08
+        0x0e, 0x62, 0xc0, // 88 NARROW: ASL LEFT
+        0x2a, // 91: ROL A
+        0xcd, 0x64, 0xc0, // 92: CMP RIGHT
+        0x90, 0x06, // 95: BCC NARROWLESS
+        0xed, 0x64, 0xc0, // 97: SBC RIGHT
+        0xee, 0x62, 0xc0, // 100: INC LEFT
+        0xca, // 103 NARROWLESS: DEX
+        0xd0, 0xee, // 104: BNE NARROW
+        0x8d, 0x66, 0xc0, // 106: STA RESULT
+        0x60, // 109: RTS
+        0xa9, 0x00, // 110 WIDE: LDA #$00
+        0x8d, 0x66, 0xc0, // 112: STA RESULT
+        0x8d, 0x67, 0xc0, // 115: STA RESULT+1
+        0xa0, 0x10, // 118: LDY #$10
+        0x0e, 0x62, 0xc0, // 120 WIDENEXT: ASL LEFT
+        0x2e, 0x63, 0xc0, // 123: ROL LEFT+1
+        0x2e, 0x66, 0xc0, // 126: ROL RESULT
+        0x2e, 0x67, 0xc0, // 129: ROL RESULT+1
+        0xad, 0x66, 0xc0, // 132: LDA RESULT
+        0x38, // 135: SEC
+        0xed, 0x64, 0xc0, // 136: SBC RIGHT
+        0xaa, // 139: TAX
+        0xad, 0x67, 0xc0, // 140: LDA RESULT+1
+        0xed, 0x65, 0xc0, // 143: SBC RIGHT+1
+        0x90, 0x09, // 146: BCC WIDELESS
+        0x8e, 0x66, 0xc0, // 148: STX RESULT
+        0x8d, 0x67, 0xc0, // 151: STA RESULT+1
+        0xee, 0x62, 0xc0, // 154: INC LEFT
+        0x88, // 157 WIDELESS: DEY
+        0xd0, 0xd8, // 158: BNE WIDENEXT
+        0x60, // 160: RTS
         ] $($others)*)
     };
 }
@@ -188,25 +203,39 @@ macro_rules! number {
         0xa9, 0x2d, // 5: LDA #$2D
         0x20, SEND.0, SEND.1, // 7: JSR SEND
         0x20, OPPOSITE.0, OPPOSITE.1, // 10: JSR NEGATELEFT
-        0xa9, 0x0a, // 13 NUMBERPLAIN: LDA #$0A
+        0xa9, 0x00, // 13 NUMBERPLAIN: LDA #$00
         0x8d, 0x64, 0xc0, // 15: STA RIGHT
-        0xa9, 0x00, // 18: LDA #$00
-        0x8d, 0x65, 0xc0, // 20: STA RIGHT+1
-        0x48, // 23: PHA
-        0x20, UNSIGNED.0, UNSIGNED.1, // 24 NUMBERNEXT: JSR UNSIGNED
-        0xad, 0x66, 0xc0, // 27: LDA RESULT
-        0x18, // 30: CLC
-        0x69, 0x30, // 31: ADC #$30
-        0x48, // 33: PHA
-        0xad, 0x62, 0xc0, // 34: LDA LEFT
-        0xd0, 0xf1, // 37: BNE NUMBERNEXT
-        0xad, 0x63, 0xc0, // 39: LDA LEFT+1
-        0xd0, 0xec, // 42: BNE NUMBERNEXT
-        0x68, // 44 NUMBERSEND: PLA
-        0xf0, 0x06, // 45: BEQ NUMBEREND
-        0x20, SEND.0, SEND.1, // 47: JSR SEND
-        0x4c, DIGITS.0, DIGITS.1, // 50: JMP NUMBERSEND
-        0x60, // 53 NUMBEREND: RTS
+        0xa2, 0x03, // 18: LDX #$03
+        0xad, 0x63, 0xc0, // 20: LDA LEFT+1
+        0xd0, 0x02, // 23: BNE NUMBERNEXT
+        0xa2, 0x01, // 25: LDX #$01
+        0xac, 0x64, 0xc0, // 27 NUMBERNEXT: LDY RIGHT
+        0xad, 0x62, 0xc0, // 30 NUMBERTAKE: LDA LEFT
+        0xdd, POWERS_LOW.0, POWERS_LOW.1, // 33: CMP POWERSLOW,X
+        0xad, 0x63, 0xc0, // 36: LDA LEFT+1
+        0xfd, POWERS_HIGH.0, POWERS_HIGH.1, // 39: SBC POWERSHIGH,X
+        0x90, 0x0f, // 42: BCC NUMBERDIGIT
+        0x8d, 0x63, 0xc0, // 44: STA LEFT+1
+        0xad, 0x62, 0xc0, // 47: LDA LEFT
+        0xfd, POWERS_LOW.0, POWERS_LOW.1, // 50: SBC POWERSLOW,X
+        0x8d, 0x62, 0xc0, // 53: STA LEFT
+        0xc8, // 56: INY
+        0xd0, 0xe3, // 57: BNE NUMBERTAKE
+        0x98, // 59 NUMBERDIGIT: TYA
+        0xf0, 0x10, // 60: BEQ NUMBERSKIP
+        0x09, 0x30, // 62: ORA #$30
+        0xa0, 0x30, // 64: LDY #$30
+        0x8c, 0x64, 0xc0, // 66: STY RIGHT
+        0x8e, 0x65, 0xc0, // 69: STX RIGHT+1
+        0x20, SEND.0, SEND.1, // 72: JSR SEND
+        0xae, 0x65, 0xc0, // 75: LDX RIGHT+1
+        0xca, // 78 NUMBERSKIP: DEX
+        0x10, 0xca, // 79: BPL NUMBERNEXT
+        0xad, 0x62, 0xc0, // 81: LDA LEFT
+        0x09, 0x30, // 84: ORA #$30
+        0x4c, SEND.0, SEND.1, // 86: JMP SEND
+        0x0a, 0x64, 0xe8, 0x10, // 89 POWERSLOW: 10, 100, 1000 and 10000, their low bytes
+        0x00, 0x00, 0x03, 0x27, // 93 POWERSHIGH: their high bytes
         ] $($others)*)
     };
 }
@@ -319,22 +348,17 @@ macro_rules! input {
         0xd0, 0xf4, // 174: BNE BAD
         0xad, 0x6f, 0xc0, // 176: LDA SCRATCH+1
         0xc9, 0x2d, // 179: CMP #$2D
-        0xd0, 0x11, // 181: BNE DONE1
-        0x38, // 183: SEC
-        0xa9, 0x00, // 184: LDA #$00
-        0xed, 0x66, 0xc0, // 186: SBC RESULT
-        0x8d, 0x66, 0xc0, // 189: STA RESULT
-        0xa9, 0x00, // 192: LDA #$00
-        0xed, 0x67, 0xc0, // 194: SBC RESULT+1
-        0x8d, 0x67, 0xc0, // 197: STA RESULT+1
-        0xad, 0x6d, 0xc0, // 200 DONE1: LDA BYTE
-        0xc9, 0x2c, // 203: CMP #$2C
-        0xf0, 0x0a, // 205: BEQ DONE2
-        0xa9, 0x00, // 207: LDA #$00
-        0x8d, 0x35, 0xc0, // 209: STA OPEN
-        0xa9, 0x0d, // 212: LDA #$0D
-        0x4c, SEND.0, SEND.1, // 214: JMP SEND
-        0x60, // 217 DONE2: RTS
+        0xd0, 0x05, // 181: BNE DONE1
+        0xa2, 0x04, // 183: LDX #$04
+        0x20, NEGATE.0, NEGATE.1, // 185: JSR NEGATE
+        0xad, 0x6d, 0xc0, // 188 DONE1: LDA BYTE
+        0xc9, 0x2c, // 191: CMP #$2C
+        0xf0, 0x0a, // 193: BEQ DONE2
+        0xa9, 0x00, // 195: LDA #$00
+        0x8d, 0x35, 0xc0, // 197: STA OPEN
+        0xa9, 0x0d, // 200: LDA #$0D
+        0x4c, SEND.0, SEND.1, // 202: JMP SEND
+        0x60, // 205 DONE2: RTS
         ] $($others)*)
     };
 }
@@ -472,6 +496,16 @@ macro_rules! pop {
     };
 }
 
+// The entry of Fault that takes the line's number in X and Y, and goes on into Fault.
+macro_rules! fault_line {
+    ([$($before:tt)*] $next:ident $($others:ident)*) => {
+        $next!([$($before)*
+        0x8e, 0x3a, 0xc0, // 0 FAULTLINE: STX LINE
+        0x8c, 0x3b, 0xc0, // 3: STY LINE+1
+        ] $($others)*)
+    };
+}
+
 // Fault: from any depth, sends the text of the fault whose number is in A, at the line in LINE, and ends the program.
 macro_rules! fault {
     ([$($before:tt)*] $next:ident $($others:ident)*) => {
@@ -529,7 +563,7 @@ macro_rules! array {
 
 /// The block: its routines one behind the other.
 pub static BLOCK: [u8; BLOCK_LENGTH] = prologue!(
-    [] send multiply divide random number text zone input search push pop fault poll array
+    [] send multiply divide random number text zone input search push pop fault_line fault poll array
 );
 
 // Each routine by itself.
@@ -556,6 +590,8 @@ pub const SEARCH_BYTES: [u8; SEARCH_LENGTH] = search!([] array);
 pub const PUSH_BYTES: [u8; PUSH_LENGTH] = push!([] array);
 
 pub const POP_BYTES: [u8; POP_LENGTH] = pop!([] array);
+
+pub const FAULT_LINE_BYTES: [u8; FAULT_LINE_LENGTH] = fault_line!([] array);
 
 pub const FAULT_BYTES: [u8; FAULT_LENGTH] = fault!([] array);
 

@@ -16,7 +16,8 @@ pub use places::{
     entry,
 };
 pub use routines::{
-    all_routines, divide, divide_by_zero, divide_unsigned, fault, input, multiply, number, poll,
-    pop, pop_none, prologue, push, push_full, random, random_range, search, send, text, zone,
+    all_routines, divide, divide_by_zero, divide_unsigned, fault, fault_line, input, multiply,
+    number, poll, pop, pop_none, prologue, push, push_full, random, random_range, search, send,
+    text, zone,
 };
 pub use whole::block;

@@ -27,11 +27,11 @@ pub const NOTES: u16 = 0xc03c;
 pub const SLOTS: u16 = 0xc040;
 /// The held word.
 pub const HELD: u16 = 0xc060;
-/// A routine's first argument.
+/// A routine's first argument; of Divide, its result too.
 pub const LEFT: u16 = 0xc062;
 /// A routine's second argument.
 pub const RIGHT: u16 = 0xc064;
-/// A routine's result.
+/// A routine's result; of Divide, the remainder's size.
 pub const RESULT: u16 = 0xc066;
 /// The line table's address.
 pub const TABLE: u16 = 0xc068;
@@ -54,23 +54,25 @@ pub const SEND_LENGTH: usize = 15;
 /// Bytes of Multiply.
 pub const MULTIPLY_LENGTH: usize = 49;
 /// Bytes of Divide.
-pub const DIVIDE_LENGTH: usize = 129;
+pub const DIVIDE_LENGTH: usize = 161;
 /// Bytes of Random.
 pub const RANDOM_LENGTH: usize = 94;
 /// Bytes of Number.
-pub const NUMBER_LENGTH: usize = 54;
+pub const NUMBER_LENGTH: usize = 97;
 /// Bytes of Text.
 pub const TEXT_LENGTH: usize = 24;
 /// Bytes of Zone.
 pub const ZONE_LENGTH: usize = 13;
 /// Bytes of Input.
-pub const INPUT_LENGTH: usize = 218;
+pub const INPUT_LENGTH: usize = 206;
 /// Bytes of Search.
 pub const SEARCH_LENGTH: usize = 148;
 /// Bytes of Push, with the place of a note behind it.
 pub const PUSH_LENGTH: usize = 58;
 /// Bytes of Pop.
 pub const POP_LENGTH: usize = 38;
+/// Bytes of Fault's entry with a line, up to Fault.
+pub const FAULT_LINE_LENGTH: usize = 6;
 /// Bytes of Fault.
 pub const FAULT_LENGTH: usize = 66;
 /// Bytes of Poll.
@@ -99,8 +101,10 @@ pub const SEARCH_AT: u16 = INPUT_AT + INPUT_LENGTH as u16;
 pub const PUSH_AT: u16 = SEARCH_AT + SEARCH_LENGTH as u16;
 /// Where Pop begins.
 pub const POP_AT: u16 = PUSH_AT + PUSH_LENGTH as u16;
+/// Where Fault is entered with a line's number in X and Y.
+pub const FAULT_LINE_AT: u16 = POP_AT + POP_LENGTH as u16;
 /// Where Fault begins.
-pub const FAULT_AT: u16 = POP_AT + POP_LENGTH as u16;
+pub const FAULT_AT: u16 = FAULT_LINE_AT + FAULT_LINE_LENGTH as u16;
 /// Where Poll begins.
 pub const POLL_AT: u16 = FAULT_AT + FAULT_LENGTH as u16;
 /// How many bytes the block has.
@@ -111,7 +115,7 @@ pub const BLOCK_LENGTH: usize = (POLL_AT - BLOCK_AT) as usize + POLL_LENGTH;
 pub enum Routine {
     /// `RESULT` = `LEFT` * `RIGHT`, modulo 65,536.
     Multiply,
-    /// `RESULT` = `LEFT` / `RIGHT`, signed; fault 2 where `RIGHT` is 0.
+    /// `LEFT` = `LEFT` / `RIGHT`, signed, `RESULT` = the remainder's size; fault 2 where `RIGHT` is 0.
     Divide,
     /// `RESULT` = the next RND state modulo `LEFT`; the first state is in `RIGHT`; fault 3 where `LEFT` is below 1.
     Random,
@@ -129,6 +133,8 @@ pub enum Routine {
     Push,
     /// Takes the last note off the return list into `RESULT`; fault 5 where there is none.
     Pop,
+    /// Ends the program with the fault whose number is in A, at the line whose number is in X (low byte) and Y.
+    FaultLine,
     /// Ends the program with the fault whose number is in A, at the line in `LINE`.
     Fault,
     /// Looks at the keyboard once; fault 0 where the STOP key is down.
@@ -151,6 +157,7 @@ pub fn entry(routine: Routine) -> u16
         Routine::Search => SEARCH_AT,
         Routine::Push => PUSH_AT,
         Routine::Pop => POP_AT,
+        Routine::FaultLine => FAULT_LINE_AT,
         Routine::Fault => FAULT_AT,
         Routine::Poll => POLL_AT,
     }

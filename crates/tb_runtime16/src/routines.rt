@@ -1,6 +1,6 @@
 //! The routines, each by its law.
 ghost use Rattle.tb_runtime16.specs.Laws.{SendLaw, TextLaw, ZoneLaw, MultiplyLaw, UnsignedLaw, DivideLaw, DivideByZeroLaw, NumberLaw, RandomLaw, RandomRangeLaw};
-ghost use Rattle.tb_runtime16.specs.Ends.{FaultLaw, PollLaw, PrologueLaw};
+ghost use Rattle.tb_runtime16.specs.Ends.{FaultLaw, FaultLineLaw, PollLaw, PrologueLaw};
 ghost use Rattle.tb_runtime16.specs.Input.{InputLaw};
 ghost use Rattle.tb_runtime16.specs.Notes.{PushLaw, PushFullLaw, PopLaw, PopNoneLaw};
 ghost use Rattle.tb_runtime16.specs.Search.{SearchLaw};
@@ -59,6 +59,11 @@ pub fn random_range()
 /// Fault: the fault's text is sent, and the machine has returned.
 pub fn fault()
     ensures { FaultLaw }
+{}
+
+/// Fault, entered with a line's number in X and Y.
+pub fn fault_line()
+    ensures { FaultLineLaw }
 {}
 
 /// Poll: an answer is taken, and 3 is fault 0.

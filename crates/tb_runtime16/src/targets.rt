@@ -20,18 +20,18 @@ pub const MULTIPLY: (u8, u8) = word!(MULTIPLY_AT);
 pub const NUMBER: (u8, u8) = word!(NUMBER_AT);
 /// Fault.
 pub const FAULT: (u8, u8) = word!(FAULT_AT);
-/// Divide's DIVIDESIGNED: the signed division.
-pub const SIGNED: (u8, u8) = word!(DIVIDE_AT + 31);
 /// Divide's NEGATELEFT: LEFT becomes its opposite.
-pub const OPPOSITE: (u8, u8) = word!(DIVIDE_AT + 42);
+pub const OPPOSITE: (u8, u8) = word!(DIVIDE_AT + 24);
 /// Divide's NEGATE: so does the word X behind LEFT.
-pub const NEGATE: (u8, u8) = word!(DIVIDE_AT + 44);
+pub const NEGATE: (u8, u8) = word!(DIVIDE_AT + 26);
 /// Divide's DIVIDEBY: the division of a LEFT without a sign.
-pub const DIVIDEBY: (u8, u8) = word!(DIVIDE_AT + 62);
+pub const DIVIDEBY: (u8, u8) = word!(DIVIDE_AT + 44);
 /// Divide's UNSIGNED: the division without signs.
-pub const UNSIGNED: (u8, u8) = word!(DIVIDE_AT + 78);
-/// Number's NUMBERSEND: the digits on the stack are sent.
-pub const DIGITS: (u8, u8) = word!(NUMBER_AT + 44);
+pub const UNSIGNED: (u8, u8) = word!(DIVIDE_AT + 60);
+/// Number's POWERSLOW: the low bytes of the powers of ten from 10 to 10,000.
+pub const POWERS_LOW: (u8, u8) = word!(NUMBER_AT + 89);
+/// Number's POWERSHIGH: their high bytes.
+pub const POWERS_HIGH: (u8, u8) = word!(NUMBER_AT + 93);
 /// Input's READ: the next byte.
 pub const READ: (u8, u8) = word!(INPUT_AT + 34);
 /// Search's SEARCH_PROBE: the next entry in question.

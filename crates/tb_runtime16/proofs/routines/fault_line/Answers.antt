@@ -1,0 +1,5 @@
+use Rattle.tb_runtime16.proofs.routines.fault_line.Goals as goal
+use Rattle.tb_runtime16.proofs.FaultRuns.{fault_line_law}
+
+pub returns : goal.returns
+returns c = fault_line_law
