@@ -13,7 +13,7 @@ to=shown
 row() { # STATUS SAID SHOWN WORD..: SAID and SHOWN are patterns of standard error and output, without the last line end
     local status=0 made=new wanted=$1 said=$2 shown=$3 wanted_made=old
     shift 3
-    case $wanted:${1:-} in 0:build | 0:asm) wanted_made=new ;; esac
+    case $wanted:${1:-} in 0:build | 0:asm | 0:disk) wanted_made=new ;; esac
     rows=$((rows + 1))
     printf old | tee old.prg >out.prg
     : >shown
@@ -95,6 +95,31 @@ row 0 '' FAR95 run far.bas --seed 2
 row 0 '' .A run --prg spoilt.prg
 row 0 '' '.{F0}' run --prg spoilt.prg --rude 1
 row 0 '' '.{E6}' run --prg spoilt.prg --rude 3
+
+# Disk images: the bytes are looked at in tools/disk.sh
+cp routine.prg maze_1.prg
+: >many
+for ((i = 1; i <= 145; i++)); do
+    cp routine.prg "many$i.prg"
+    echo "many$i.prg" >>many
+done
+row 0 '' '' disk out.prg routine.prg maze_1.prg
+row 0 '' '' disk out.prg $(head -n 144 many)
+row 1 'tbc: disk full' '' disk out.prg $(<many)
+head -c 63489 /dev/zero >large1.prg
+for i in 2 3; do cp large1.prg large$i.prg; done
+row 0 '' '' disk out.prg large1.prg large2.prg
+row 1 'tbc: disk full' '' disk out.prg large1.prg large2.prg large3.prg
+row 1 'tbc: bad name' '' disk out.prg routine.prg bad+name.prg
+row 1 'tbc: name twice' '' disk out.prg routine.prg ./ROUTINE
+row 3 'tbc: read fault' '' disk out.prg routine.prg nowhere.prg maze_1+.prg
+row 3 'tbc: read fault' '' disk out.prg routine.prg folder
+row 1 'tbc: name twice' '' disk out.prg $(<many) ./many1.prg
+each 1 bad.prg disk out.prg routine.prg bad.prg bad+.prg <<'END'
+not a PRG: too short|\x01
+not a PRG: runs past the end|\xff\xff\x60\x60
+END
+row 2 'error: *' '' disk out.prg
 
 # Warnings stand before anything else
 row 0 'tbc: warning: line 20: no line 30' '' build warn.bas out.prg
@@ -178,6 +203,7 @@ done
 for name in /dev/full nowhere/out.prg folder; do
     row 3 'tbc: write fault' '' build hello.bas $name
     row 3 'tbc: write fault' '' asm routine.s $name --at c000
+    row 3 'tbc: write fault' '' disk $name routine.prg
 done
 to=/dev/full
 row 3 'tbc: write fault' '' run hello.bas

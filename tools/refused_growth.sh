@@ -148,6 +148,15 @@ check asm mixed.s out.prg --at c000
 check asm bad.s out.prg --at c000
 check asm unknown.s out.prg --at c000
 check asm text.s out.prg --at c00
+cp hello.prg maze_1.prg
+printf '\001' >short.prg
+check disk out.prg hello.prg maze_1.prg
+check disk out.prg hello.prg hello.prg
+check disk out.prg hello.prg bad+.prg
+check disk out.prg short.prg
+check disk out.prg nowhere.prg
+check disk nowhere/out.prg hello.prg
+check disk
 check --version
 check --help
 check run --help
@@ -166,8 +175,8 @@ step_rows() {
 [ $with_step = no ] || step_rows
 
 : >commands
-for call in host_form key_list compile parse parse_expr tokens lower warnings assemble settle read_text write \
-    disassemble Listing::text Memory::new reserve run Stepper::new step to_line; do
+for call in host_form key_list compile parse parse_expr tokens lower warnings assemble settle assemble_settled read_text write \
+    disassemble Listing::text disk Memory::new reserve run Stepper::new step to_line; do
     check_call $call
 done
 

@@ -61,7 +61,7 @@ module _ (at : ℕ) (es : List Entry) (placed : place_refusal at es ≡ None) wh
       by n m (Some b) e s = ap (λ x. decoded (unwrap_or x 0)) e ∙ decodes_back b n m e
 
 -- items that suit
-names_append : (xs ys : List Entry) → names_of (xs ++ ys) ≡ names_of xs ++ names_of ys
+pub names_append : (xs ys : List Entry) → names_of (xs ++ ys) ≡ names_of xs ++ names_of ys
 names_append [] ys = refl
 names_append (x ∷ xs) ys = ap (λ ns. name_at x ++ ns) (names_append xs ys) ∙ sym (append_assoc (name_at x) (names_of xs) (names_of ys))
 
@@ -100,13 +100,13 @@ new_label at before (bytes bs) es h = refl
 new_label at before (word o) es h = refl
 new_label at before (label n) es h = absent n at before (distinct_behind (names_of before) n (names_of es) (subst AreDistinct (names_append before (label n ∷ es)) h))
 
-ends_below : (a : ℕ) (e : Entry) → a + size_of e < 65536 → runs_past a e ≡ false
+pub ends_below : (a : ℕ) (e : Entry) → a + size_of e < 65536 → runs_past a e ≡ false
 ends_below a (instr n m o) h = grind (arith, nat_tests)
 ends_below a (label n) h = grind (arith, nat_tests)
 ends_below a (bytes bs) h = grind (arith, nat_tests)
 ends_below a (word o) h = grind (arith, nat_tests)
 
-placed_suits : (at : ℕ) (before es : List Entry) → list_all has_mode es ≡ true → AreDistinct (names_of (before ++ es)) → at + size before + size es < 65536
+pub placed_suits : (at : ℕ) (before es : List Entry) → list_all has_mode es ≡ true → AreDistinct (names_of (before ++ es)) → at + size before + size es < 65536
     → first_fault (place_fault_in at) before es ≡ None
 placed_suits at before [] m d l = refl
 placed_suits at before (e ∷ es) m d l =

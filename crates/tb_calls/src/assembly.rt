@@ -1,10 +1,12 @@
-//! Calls of the assembler, of the disassembler and on PRG files.
+//! Calls of the assembler, of the disassembler, on PRG files and on disks.
 use crate::failure::Failure;
 use crate::sources::{SOURCES, compiled, show_bytes, show_each, show_letters};
 use std::alloc::Global;
 use tb_asm::{AsmErrorKind, Image, Item, TextError, assemble, read_text, settle};
 use tb_disasm::{Listing, disassemble};
+use tb_disk::{File, Name, disk};
 use tb_prg::write;
+use tb_settling::assemble_settled;
 
 /// The bytes of the worked rows: a program, and instructions among bytes that are none.
 const LISTED: [&[u8]; 2] = [
@@ -24,6 +26,9 @@ struct Branch {
     zeros: usize,
     is_forward: bool,
 }
+
+/// Where the directory of a disk begins.
+const DIRECTORY: usize = 358 * 256;
 
 /// The branches of the worked rows: the last that reaches and the first that does not, each way.
 const BRANCHES: [Branch; 4] = [
@@ -150,6 +155,19 @@ pub fn show_settle(alloc: Global, text: &mut String) -> Result<(), Failure> {
     Ok(())
 }
 
+fn show_laid(alloc: Global, branch: Branch, text: &mut String) -> Result<(), Failure> {
+    let items = branch.items(alloc)?;
+    let image = assemble_settled(alloc, 0x1000, items.as_slice())?;
+    show_image(&image, text)
+}
+
+pub fn show_assemble_settled(alloc: Global, text: &mut String) -> Result<(), Failure> {
+    for branch in BRANCHES {
+        show_laid(alloc, branch, text)?;
+    }
+    Ok(())
+}
+
 fn show_read(alloc: Global, row: &[u8], text: &mut String) -> Result<(), Failure> {
     match read_text(alloc, row) {
         Ok(items) => show_each(text, items.as_slice()),
@@ -229,4 +247,27 @@ pub fn show_listing_text(alloc: Global, text: &mut String) -> Result<(), Failure
         show_listing_text_of(alloc, bytes, text)?;
     }
     Ok(())
+}
+
+// The disk of a name with this file.
+fn show_disk_of(alloc: Global, name: &Name, text: &mut String) -> Result<(), Failure> {
+    let file = File {
+        name: *name,
+        bytes: LISTED[0],
+    };
+    let image = disk(alloc, name, &[file])?;
+    // The first block of the file, and the directory's first block.
+    show_bytes(text, image.as_slice().get(..16).ok_or(Failure::Refused)?)?;
+    show_bytes(
+        text,
+        image
+            .as_slice()
+            .get(DIRECTORY..DIRECTORY + 32)
+            .ok_or(Failure::Refused)?,
+    )
+}
+
+pub fn show_disk(alloc: Global, text: &mut String) -> Result<(), Failure> {
+    let name = Name::new(b"A").ok_or(Failure::Refused)?;
+    show_disk_of(alloc, &name, text)
 }

@@ -3,6 +3,7 @@ use std::alloc::{AllocError, AllocFailed};
 use tb_asm::{AsmError, AsmErrorKind, TextError};
 use tb_codegen::CompileError;
 use tb_disasm::ListError;
+use tb_disk::DiskError;
 use tb_driver::KeyError;
 use tb_lower::LowerError;
 use tb_memmap::{LoadError, NoMemory};
@@ -112,6 +113,12 @@ impl From<ListError> for Failure {
 impl From<KeyError> for Failure {
     fn from(error: KeyError) -> Failure {
         Failure::of(error == KeyError::NoMemory)
+    }
+}
+
+impl From<DiskError> for Failure {
+    fn from(error: DiskError) -> Failure {
+        Failure::of(error == DiskError::NoMemory)
     }
 }
 

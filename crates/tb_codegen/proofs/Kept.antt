@@ -1,28 +1,37 @@
 -- What is compiled keeps its program.
 use Rattle.std.proofs.Common.{Ok, ◌≡◌, ℕ, suc, ◌+◌, ◌≤◌, ◌<◌, List, [], ◌∷◌, ◌++◌, drop, length, refl, sym, ap, ◌∙◌, subst, arith}
-use Rattle.tb_asm.specs.Layout.{image_of}
+use Rattle.tb_asm.specs.declared.names.Name.{Name}
 use Rattle.tb_lower.specs.Follows.{Follows}
 use Rattle.tb_lower.specs.Lowered as lowered
 use Rattle.tb_lower.specs.Slots.{SlotCode}
-use Rattle.tb_parser.specs.Files.{RisesFrom, LinesAre, Outcome, edited, end, bad, good}
+use Rattle.tb_parser.specs.Files.{LinesAre, Outcome, edited, end, bad, good}
 use Rattle.tb_prg.specs.Prg.{header}
 use Rattle.tb_runtime16.specs.Places.{PROLOGUE_AT}
 use Rattle.tb_syntax.specs.Source.{Program, numbers}
-use Rattle.tb_templates.specs.Program.{program_code, RisingFrom}
+use Rattle.tb_selection.specs.Laws.{AreClosed}
+use Rattle.tb_selection.proofs.Closed.{all_closed}
+use Rattle.tb_settling.specs.Settled.{IsLaid}
+use Rattle.tb_templates.specs.Program.{program_code}
 use Rattle.tb_keeping.specs.Kept.{Keeps}
-use Rattle.tb_keeping.proofs.Compiled.{image_keeps}
-use Rattle.tb_codegen.proofs.Sized.{IsLaid, code_rises, same_numbers}
+use Rattle.tb_grouping.specs.Laid.{ArePolled}
+use Rattle.tb_grouping.proofs.Compiled.{image_keeps}
+use Rattle.tb_codegen.proofs.Sized.{IsSettling, items_end, same_numbers}
 
 pub count_numbers : (p : Program) → length (numbers p) ≡ length p
 count_numbers [] = refl
 count_numbers (line ∷ lines) = ap suc (count_numbers lines)
 
-pub file_keeps : (seed : ℕ) (p : Program) (code : SlotCode) (file : List ℕ) → seed < 65536 → 1 ≤ length p → code ≡ lowered.program_code p → Follows p code → RisesFrom 0 (numbers p) → IsLaid seed code → file ≡ header ++ image_of PROLOGUE_AT (program_code seed code) → Keeps 0x0801 (drop 2 file) p seed
-file_keeps seed p code file small some same follows rises l is =
+-- each line of a program takes an answer first
+pub all_polled : (p : Program) → ArePolled (lowered.program_code p)
+all_polled [] = tt
+all_polled (line ∷ lines) = ((lowered.command_code line.content, refl), all_polled lines)
+
+pub file_keeps : (seed : ℕ) (p : Program) (code : SlotCode) (file from_image : List ℕ) (from : ℕ) (labels : List (Name × ℕ)) → seed < 65536 → 1 ≤ length p → code ≡ lowered.program_code p → Follows p code → (s : IsSettling seed code) (l : IsLaid PROLOGUE_AT (program_code seed code) from from_image labels) → file ≡ header ++ from_image → Keeps 0x0801 (drop 2 file) p seed
+file_keeps seed p code file image from labels small some same follows s l is =
     let n : numbers code ≡ numbers p = ap numbers same ∙ same_numbers p in
     let some_numbers : 1 ≤ length (numbers code) = (let a = ap length n in let b = count_numbers p in omega (arith, a, b, some)) in
-    subst (λ f. Keeps 0x0801 (drop 2 f) p seed) (sym is)
-    (image_keeps seed p code small follows (subst (λ k. RisingFrom 0 (numbers k)) (sym same) (code_rises p rises)) l.lists some_numbers l.lines l.ends (drop 2 header) refl)
+    subst (λ f. Keeps 0x0801 (drop 2 f) p seed) (sym (is ∙ ap (λ b. header ++ b) l.bytes_are))
+    (image_keeps seed p code small follows s.rising s.lists (subst ArePolled (sym same) (all_polled p)) (subst AreClosed (sym same) (all_closed p)) some_numbers s.lines l.items l.settled (items_end seed code s from image labels l) (drop 2 header) refl)
 
 same_made : (a b : Program) → ◌≡◌ {A = Outcome} (Ok a) (Ok b) → a ≡ b
 same_made a b e = cc

@@ -1,6 +1,7 @@
 pub mod Reading
 pub mod Sized
 pub mod Small
+pub mod Placed
 pub mod Texts
 pub mod Kept
 pub mod Marked

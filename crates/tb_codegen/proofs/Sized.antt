@@ -1,33 +1,35 @@
--- Small programs have code that the assembler takes, and where their lines lie.
-use Rattle.std.proofs.Common.{◌≡◌, ℕ, ◌+◌, ◌<◌, ◌≤◌, List, [], ◌∷◌, ◌++◌, length, map, ap, sym, subst, ◌∙◌, arith, refl, None, Some, unwrap_or, is_some, append_assoc, length-append}
+-- Small programs have code that settles and that the assembler takes, and where their lines lie.
+use Rattle.std.proofs.Common.{◌≡◌, ℕ, ◌+◌, ◌<◌, ◌≤◌, List, [], ◌∷◌, ◌++◌, length, map, ap, sym, subst, ◌∙◌, arith, refl, true, None, Some, is_some, append_assoc, length-append}
 use Rattle.tb_asm.specs.declared.names.Name.{Name}
-use Rattle.tb_asm.specs.Layout.{size, address_in, labels_from, image_of, bytes_from}
-use Rattle.tb_asm.specs.Assembled.{refusal}
+use Rattle.tb_asm.specs.Layout.{Entry, size, address_in, labels_from, image_of, bytes_from}
+use Rattle.tb_asm.specs.Settle.{items_from, SettlesTo}
+use Rattle.tb_asm.proofs.Laws.{all_size, bytes_append}
 use Rattle.tb_syntax.specs.Source.{Program, numbers}
+use Rattle.tb_syntax.specs.Texts.{HasShortTexts}
 use Rattle.tb_lower.specs.Cost.{cost}
 use Rattle.tb_lower.specs.Lowered as lowered
-use Rattle.tb_lower.specs.Ranges.{IsCodeInRange}
-use Rattle.tb_syntax.specs.Texts.{HasShortTexts}
-use Rattle.tb_lower.specs.Slots.{Instr, Put, Load, Store, Negate, Compute, Random, SendText, SendNumber, SendZone, SendNewline, Input, Poll, Hold, LeaveUnless, Jump, Call, JumpTo, CallTo, Return, End, SlotCode}
-use Rattle.tb_parser.specs.Files.{AreStated, RisesFrom}
-use Rattle.tb_runtime16.specs.Places.{PROLOGUE_AT, LINES_AT}
-use Rattle.tb_templates.specs.Labels.{label_of}
-use Rattle.tb_templates.specs.declared.labels.Target.TheVariants.{Table}
-use Rattle.tb_templates.specs.Layout.{LabelsAt}
-use Rattle.tb_templates.specs.Sizes.{room, list_room, lines_room}
-use Rattle.tb_templates.specs.Program.{line_code, lines_code, past_code, find_code, table_code, block_code, program_code, AreCodable, RisingFrom}
-use Rattle.tb_templates.proofs.Fitting.{program_fits}
-use Rattle.tb_templates.proofs.Reached.{labels_split}
-use Rattle.tb_templates.proofs.Taken.{block_size, program_size, program_labels, accepted}
-use Rattle.tb_words.specs.Words.{word_of}
-use Rattle.tb_prg.specs.Prg.{header}
 use Rattle.tb_lower.specs.Missing.{missing_targets}
 use Rattle.tb_lower.specs.Need.{too_deep}
+use Rattle.tb_lower.specs.Ranges.{IsCodeInRange}
+use Rattle.tb_lower.specs.Slots.{Instr, Put, Load, Store, Negate, Compute, Random, SendText, SendNumber, SendZone, SendNewline, Input, Poll, Hold, LeaveUnless, Jump, Call, JumpTo, CallTo, Return, End, SlotCode}
+use Rattle.tb_parser.specs.Files.{AreStated, RisesFrom}
+use Rattle.tb_prg.specs.Prg.{header}
+use Rattle.tb_runtime16.specs.Places.{PROLOGUE_AT, LINES_AT}
+use Rattle.tb_settling.specs.Settled.{IsLaid, Suits, most as most_bytes}
+use Rattle.tb_settling.proofs.Forms.{forms_most, items_size}
+use Rattle.tb_templates.specs.declared.labels.Target.TheVariants.{Past, Table}
+use Rattle.tb_templates.specs.Labels.{label_of}
+use Rattle.tb_templates.specs.Sizes.{room, list_room, lines_room}
+use Rattle.tb_templates.specs.Program.{past_code, find_code, table_code, block_code, program_code, AreCodable, RisingFrom}
+use Rattle.tb_templates.proofs.Fitting.{program_fits}
+use Rattle.tb_templates.proofs.Taken.{block_size, program_most, program_suits}
+use Rattle.tb_words.specs.Words.{word_of}
 use Rattle.tb_codegen.specs.declared.compiled.Compiled.{Compiled}
-use Rattle.tb_codegen.specs.Compiled.{prg_of, starts_of, table_of, warnings_of, IsCompiled, starts_from, starts_in, AreKnown, StartsRise, table_at, lines_offset, most}
-use Rattle.tb_codegen.specs.Texts.{LinesHoldTexts}
+use Rattle.tb_codegen.specs.Compiled.{prg_of, starts_of, table_of, warnings_of, IsCompiled, starts_in, stands_at, AreKnown, StartsRise, most}
+use Rattle.tb_codegen.specs.Texts.{LinesHoldTexts, offset_of}
+use Rattle.tb_templates.proofs.Settled.{Sections, sections}
+use Rattle.tb_codegen.proofs.Placed.{lines_known, lines_begin_in_order, start_numbers}
 use Rattle.tb_codegen.proofs.Texts.{lines_texts}
-use Rattle.tb_asm.proofs.Laws.{all_size, bytes_append}
 use Rattle.tb_codegen.proofs.Small.{AreSmall, are_small, small_spaced, small_short}
 
 -- ── counts ──
@@ -81,132 +83,105 @@ rising_zero (n ∷ ns) h = (omega arith, h.1, h.2)
 pub code_rises : (p : Program) → RisesFrom 0 (numbers p) → RisingFrom 0 (numbers (lowered.program_code p))
 code_rises p h = subst (RisingFrom 0) (sym (same_numbers p)) (rising_zero (numbers p) (rising_words 0 (numbers p) h))
 
--- ── starts ──
-pub starts_laid : (labels : List (Name × ℕ)) (ns : List ℕ) (seed a : ℕ) (lines : SlotCode) → LabelsAt labels a (lines_code ns seed lines) → starts_in labels (numbers lines) ≡ starts_from ns seed a lines
-starts_laid labels ns seed a [] h = refl
-starts_laid labels ns seed a (line ∷ lines) h =
-    let s = labels_split labels a (line_code ns seed line) (lines_code ns seed lines) h in
-    let rest = starts_laid labels ns seed (a + size (line_code ns seed line)) lines s.1 in
-    λ i. (line.number, unwrap_or (s.0.0 i) 0) ∷ rest i
-
-starts_low : (low low' : ℕ) (starts : List (ℕ × ℕ)) → low ≤ low' → StartsRise low' starts → StartsRise low starts
-starts_low low low' [] l h = tt
-starts_low low low' (s ∷ starts) l h = (omega (arith, l, h.0), h.1)
-
-pub starts_rise : (ns : List ℕ) (seed a : ℕ) (lines : SlotCode) → StartsRise a (starts_from ns seed a lines)
-starts_rise ns seed a [] = tt
-starts_rise ns seed a (line ∷ lines) =
-    let b = a + size (line_code ns seed line) in
-    (omega arith, starts_low (a + 1) b (starts_from ns seed b lines) (omega arith) (starts_rise ns seed b lines))
-
-lines_known : (labels : List (Name × ℕ)) (ns : List ℕ) (seed a : ℕ) (lines : SlotCode) → LabelsAt labels a (lines_code ns seed lines) → AreKnown labels (numbers lines)
-lines_known labels ns seed a [] h = tt
-lines_known labels ns seed a (line ∷ lines) h =
-    let s = labels_split labels a (line_code ns seed line) (lines_code ns seed lines) h in
-    (ap is_some s.0.0, lines_known labels ns seed (a + size (line_code ns seed line)) lines s.1)
-
--- where the labels of a program stand
-pub record Found (seed : ℕ) (code : SlotCode) (labels : List (Name × ℕ)) : Type 0 where
-  pub lines : LabelsAt labels LINES_AT (lines_code (numbers code) seed code)
-  pub past : LabelsAt labels (LINES_AT + size (lines_code (numbers code) seed code)) (past_code (numbers code))
-  pub find : LabelsAt labels (LINES_AT + size (lines_code (numbers code) seed code) + size (past_code (numbers code))) (find_code (numbers code))
-  pub rows : LabelsAt labels (LINES_AT + size (lines_code (numbers code) seed code) + size (past_code (numbers code)) + size (find_code (numbers code))) (table_code (numbers code))
-  pub table : address_in labels (label_of Table) ≡ Some (table_at seed code)
-
-pub found : (seed : ℕ) (code : SlotCode) (labels : List (Name × ℕ)) → LabelsAt labels PROLOGUE_AT (program_code seed code) → Found seed code labels
-found seed code labels h =
-    let ns = numbers code in
-    let lines = lines_code ns seed code in let past = past_code ns in let search = find_code ns in let table = table_code ns in
-    let s = labels_split labels PROLOGUE_AT block_code (lines ++ (past ++ (search ++ table))) h in
-    let here : PROLOGUE_AT + size block_code ≡ LINES_AT = (let b = block_size in omega (arith, b)) in
-    let t = labels_split labels LINES_AT lines (past ++ (search ++ table)) (subst (λ a. LabelsAt labels a (lines ++ (past ++ (search ++ table)))) here s.1) in
-    let u = labels_split labels (LINES_AT + size lines) past (search ++ table) t.1 in
-    let v = labels_split labels (LINES_AT + size lines + size past) search table u.1 in
-    let there : LINES_AT + size lines + size past + size search ≡ table_at seed code = omega arith in
-    record { lines = t.0; past = u.0; find = v.0; rows = v.1; table = v.1.0 ∙ ap Some there }
-
 -- ── a small program's code ──
-pub record IsLaid (seed : ℕ) (code : SlotCode) : Type 0 where
+pub record IsSettling (seed : ℕ) (code : SlotCode) : Type 0 where
   pub lists : AreCodable code
   pub lines : length code < 65536
-  pub ends : PROLOGUE_AT + size (program_code seed code) ≤ 0xA000
-  pub accepted : refusal PROLOGUE_AT (program_code seed code) ≡ None
-  pub known : AreKnown (labels_from PROLOGUE_AT (program_code seed code)) (numbers code)
-  pub starts : starts_in (labels_from PROLOGUE_AT (program_code seed code)) (numbers code) ≡ starts_from (numbers code) seed LINES_AT code
-  pub table : address_in (labels_from PROLOGUE_AT (program_code seed code)) (label_of Table) ≡ Some (table_at seed code)
+  pub rising : RisingFrom 0 (numbers code)
+  pub ends : PROLOGUE_AT + most_bytes (program_code seed code) ≤ 0xA000
+  pub suits : Suits PROLOGUE_AT (program_code seed code)
 
-laid_code : (seed : ℕ) (p : Program) → AreSmall p → RisesFrom 0 (numbers p) → IsCodeInRange 256 (lowered.program_code p) → cost p ≤ most → IsLaid seed (lowered.program_code p)
-laid_code seed p small rises ranges cheap =
+settling_code : (seed : ℕ) (p : Program) → AreSmall p → RisesFrom 0 (numbers p) → IsCodeInRange 256 (lowered.program_code p) → cost p ≤ most → IsSettling seed (lowered.program_code p)
+settling_code seed p small rises ranges cheap =
     let code = lowered.program_code p in
     let a = program_fits p (small_spaced p small) in
     let b = lines_length code in
-    let c = program_size seed code in
+    let c = program_most seed code in
     let lists : AreCodable code = codable code ranges (omega (arith, a, cheap)) in
-    let labels = labels_from PROLOGUE_AT (program_code seed code) in
-    let f : Found seed code labels = found seed code labels (program_labels seed code (code_rises p rises) lists) in
     record {
       lists = lists;
       lines = omega (arith, a, b, cheap);
+      rising = code_rises p rises;
       ends = omega (arith, a, c, cheap);
-      accepted = accepted seed code (code_rises p rises) lists (omega (arith, a, c, cheap));
-      known = lines_known labels (numbers code) seed LINES_AT code f.lines;
-      starts = starts_laid labels (numbers code) seed LINES_AT code f.lines;
-      table = f.table;
+      suits = program_suits seed code (code_rises p rises) lists (omega (arith, a, c, cheap));
     }
 
-pub laid : (seed : ℕ) (p : Program) (code : SlotCode) → code ≡ lowered.program_code p → AreStated p → RisesFrom 0 (numbers p) → ((limit : ℕ) → HasShortTexts limit p → IsCodeInRange limit code) → cost p ≤ most → IsLaid seed code
-laid seed p code same stated rises ranges cheap =
+pub settling : (seed : ℕ) (p : Program) (code : SlotCode) → code ≡ lowered.program_code p → AreStated p → RisesFrom 0 (numbers p) → ((limit : ℕ) → HasShortTexts limit p → IsCodeInRange limit code) → cost p ≤ most → IsSettling seed code
+settling seed p code same stated rises ranges cheap =
     let small = are_small p stated in
-    subst (IsLaid seed) (sym same) (laid_code seed p small rises (subst (IsCodeInRange 256) same (ranges 256 (small_short p small))) cheap)
+    subst (IsSettling seed) (sym same) (settling_code seed p small rises (subst (IsCodeInRange 256) same (ranges 256 (small_short p small))) cheap)
+
+-- ── its image ──
+module _ (seed : ℕ) (code : SlotCode) (s : IsSettling seed code) (from : ℕ) (image : List ℕ) (labels : List (Name × ℕ)) (l : IsLaid PROLOGUE_AT (program_code seed code) from image labels) where
+  abbrev items : List Entry
+  items = l.items
+
+  abbrev own : List (Name × ℕ)
+  own = labels_from PROLOGUE_AT items
+
+  pub placed : Sections seed code items own
+  placed = sections seed code s.lists s.rising items l.settled
+
+  pub known : AreKnown labels (numbers code)
+  known = subst (λ ls. AreKnown ls (numbers code)) (sym l.labels_are) (lines_known own (numbers code) seed LINES_AT code placed.lines placed.of_lines placed.line_labels)
+
+  pub has_table : is_some (address_in labels (label_of Table)) ≡ true
+  has_table = ap (λ ls. is_some (address_in ls (label_of Table))) l.labels_are ∙ ap is_some placed.table
+
+  pub items_end : PROLOGUE_AT + size items ≤ 0xA000
+  items_end =
+      let a = forms_most (program_code seed code) l.settled.forms l.settled.of in
+      let b = items_size PROLOGUE_AT l.settled.forms in
+      let c = ap size l.settled.are in
+      let d = s.ends in
+      omega (arith, a, b, c, d)
 
 -- ── what is compiled ──
-starts_numbers : (ns : List ℕ) (seed a : ℕ) (lines : SlotCode) → map (λ s. s.0) (starts_from ns seed a lines) ≡ numbers lines
-starts_numbers ns seed a [] = refl
-starts_numbers ns seed a (line ∷ lines) = ap (λ ms. line.number ∷ ms) (starts_numbers ns seed (a + size (line_code ns seed line)) lines)
-
-same_value : (a b : ℕ) → Some a ≡ Some b → a ≡ b
-same_value a b e = cc
-
 -- the texts of a PRG file's program
-file_texts : (seed : ℕ) (p : Program) (file : List ℕ) → file ≡ header ++ image_of PROLOGUE_AT (program_code seed (lowered.program_code p)) → LinesHoldTexts file (numbers p) seed lines_offset p
-file_texts seed p file is =
+file_texts : (seed : ℕ) (p : Program) (items : List Entry) (file : List ℕ) → Sections seed (lowered.program_code p) items (labels_from PROLOGUE_AT items) → file ≡ header ++ image_of PROLOGUE_AT items
+    → LinesHoldTexts file (stands_at (labels_from PROLOGUE_AT items) (label_of Past)) (starts_in (labels_from PROLOGUE_AT items) (numbers p)) p
+file_texts seed p items file g is =
     let code = lowered.program_code p in
     let ns = numbers code in
-    let labels = labels_from PROLOGUE_AT (program_code seed code) in
-    let lines = lines_code ns seed code in
+    let labels = labels_from PROLOGUE_AT items in
+    let lines = items_from LINES_AT g.lines in
     let tail = past_code ns ++ (find_code ns ++ table_code ns) in
     let start = PROLOGUE_AT + size block_code in
+    let here : start ≡ LINES_AT = (let b = block_size in omega (arith, b)) in
     let block = bytes_from labels PROLOGUE_AT block_code in
-    let body = bytes_from labels start lines in
-    let back = bytes_from labels (start + size lines) tail in
-    let whole : (header ++ block) ++ (body ++ back) ≡ file =
-    append_assoc header block (body ++ back) ∙ ap (λ b. header ++ (block ++ b)) (sym (bytes_append labels start lines tail))
-    ∙ ap (λ b. header ++ b) (sym (bytes_append labels PROLOGUE_AT block_code (lines ++ tail))) ∙ sym is in
-    let before : length (header ++ block) ≡ lines_offset =
+    let body = bytes_from labels LINES_AT lines in
+    let back = bytes_from labels (LINES_AT + size lines) tail in
+    let image : image_of PROLOGUE_AT items ≡ block ++ (body ++ back) =
+    ap (bytes_from labels PROLOGUE_AT) g.are ∙ bytes_append labels PROLOGUE_AT block_code (lines ++ tail)
+    ∙ ap (λ a. block ++ bytes_from labels a (lines ++ tail)) here ∙ ap (λ b. block ++ b) (bytes_append labels LINES_AT lines tail) in
+    let whole : (header ++ block) ++ (body ++ back) ≡ file = append_assoc header block (body ++ back) ∙ ap (λ b. header ++ b) (sym image) ∙ sym is in
+    let before : length (header ++ block) ≡ offset_of LINES_AT =
     (let a = length-append header block in let b = all_size labels PROLOGUE_AT block_code in let c = block_size in omega (arith, a, b, c)) in
-    subst (λ ms. LinesHoldTexts file ms seed lines_offset p) (same_numbers p)
-    (subst (λ o. LinesHoldTexts file ns seed o p) before (subst (λ f. LinesHoldTexts f ns seed (length (header ++ block)) p) whole (lines_texts labels ns seed start p (header ++ block) back)))
+    subst (λ f. LinesHoldTexts f (stands_at labels (label_of Past)) (starts_in labels (numbers p)) p) whole
+    (lines_texts labels ns seed (stands_at labels (label_of Past)) LINES_AT p g.lines (header ++ block) back g.of_lines g.line_labels g.past (omega arith) before)
 
 -- a program's compiled form, from its image's bytes and labels
-pub made : (seed : ℕ) (p : Program) (code : SlotCode) (c : Compiled) (image : List ℕ) (labels : List (Name × ℕ)) → code ≡ lowered.program_code p → IsLaid seed code → too_deep p ≡ None → cost p ≤ most
-    → image ≡ image_of PROLOGUE_AT (program_code seed code) → labels ≡ labels_from PROLOGUE_AT (program_code seed code)
+pub made : (seed : ℕ) (p : Program) (code : SlotCode) (c : Compiled) (from : ℕ) (image : List ℕ) (labels : List (Name × ℕ)) → code ≡ lowered.program_code p → IsSettling seed code → too_deep p ≡ None → cost p ≤ most
+    → IsLaid PROLOGUE_AT (program_code seed code) from image labels
     → prg_of c ≡ header ++ image → starts_of c ≡ starts_in labels (numbers code) → address_in labels (label_of Table) ≡ Some (table_of c)
     → map (λ w. (w.line, word_of w.target)) (warnings_of c) ≡ missing_targets p → IsCompiled seed p c
-made seed p code c image labels same l shallow small is named file starts table warned =
-    let all : starts_of c ≡ starts_from (numbers p) seed LINES_AT (lowered.program_code p) =
-    starts ∙ ap (λ ls. starts_in ls (numbers code)) named ∙ l.starts ∙ ap (λ k. starts_from (numbers k) seed LINES_AT k) same
-    ∙ ap (λ ns. starts_from ns seed LINES_AT (lowered.program_code p)) (same_numbers p) in
-    let bytes : prg_of c ≡ header ++ image_of PROLOGUE_AT (program_code seed (lowered.program_code p)) =
-    file ∙ ap (λ b. header ++ b) is ∙ ap (λ k. header ++ image_of PROLOGUE_AT (program_code seed k)) same in
+made seed p code c from image labels same s shallow small l file starts table warned =
+    let own = labels_from PROLOGUE_AT l.items in
+    let own_numbers : numbers code ≡ numbers p = ap numbers same ∙ same_numbers p in
+    let all : starts_of c ≡ starts_in own (numbers p) = starts ∙ ap (λ ls. starts_in ls (numbers code)) l.labels_are ∙ ap (starts_in own) own_numbers in
+    let bytes : prg_of c ≡ header ++ image_of PROLOGUE_AT l.items = file ∙ ap (λ b. header ++ b) l.bytes_are in
+    let g : Sections seed (lowered.program_code p) l.items own = subst (λ k. Sections seed k l.items own) same (placed seed code s from image labels l) in
     record {
       shallow = shallow;
       small = small;
+      items = l.items;
+      settled = subst (λ k. SettlesTo PROLOGUE_AT (program_code seed k) l.items) same l.rounds;
       prg = bytes;
-      texts = file_texts seed p (prg_of c) bytes;
-      ends = subst (λ k. PROLOGUE_AT + size (program_code seed k) ≤ 0xA000) same l.ends;
+      texts = subst (λ ss. LinesHoldTexts (prg_of c) (stands_at own (label_of Past)) ss p) (sym all) (file_texts seed p l.items (prg_of c) g bytes);
+      ends = items_end seed code s from image labels l;
       starts = all;
-      lines = ap (map (λ s. s.0)) all ∙ starts_numbers (numbers p) seed LINES_AT (lowered.program_code p) ∙ same_numbers p;
-      rising = subst (StartsRise LINES_AT) (sym all) (starts_rise (numbers p) seed LINES_AT (lowered.program_code p));
-      table = same_value (table_of c) (table_at seed code) (sym table ∙ ap (λ ls. address_in ls (label_of Table)) named ∙ l.table) ∙ ap (table_at seed) same;
+      lines = ap (map (λ s. s.0)) all ∙ start_numbers own (numbers p);
+      rising = subst (StartsRise LINES_AT) (sym all) (lines_begin_in_order own (numbers (lowered.program_code p)) seed LINES_AT p g.lines g.of_lines g.line_labels);
+      table = ap (λ ls. address_in ls (label_of Table)) (sym l.labels_are) ∙ table;
       warned = warned;
     }

@@ -1,9 +1,18 @@
--- The texts of a line stand in its code.
-use Rattle.std.proofs.Common.{◌≡◌, ℕ, ◌+◌, ◌≤◌, List, [], ◌∷◌, ◌++◌, length, take, drop, refl, sym, ap, subst, ◌∙◌, arith, append_assoc, length-append}
+-- The texts of a line stand in its settled code.
+use Rattle.std.proofs.Common.{◌≡◌, ℕ, ◌+◌, ◌≤◌, List, [], ◌∷◌, ◌++◌, length, take, drop, map, true, refl, sym, ap, subst, ◌∙◌, arith, append_assoc, length-append}
+use Rattle.std.specs.Prelude.{unwrap_or}
+use Rattle.std.specs.List.{list_all}
+use Rattle.tb_words.specs.declared.Rel.{Rel}
+use Rattle.tb_syntax.specs.declared.expressions.Operator.{Operator}
+use Rattle.tb_templates.specs.Labels.{label_of}
+use Rattle.tb_runtime16.specs.Places.{PROLOGUE_AT}
 use Rattle.tb_asm.specs.declared.names.Name.{Name}
 use Rattle.tb_asm.specs.Layout.{Entry, bytes, size, bytes_from}
+use Rattle.tb_asm.specs.Settle as settle
+use Rattle.tb_asm.specs.Settle.{Form, items_from}
+use Rattle.tb_asm.proofs.Settled.{items_kept}
 use Rattle.tb_asm.proofs.Laws.{all_size, bytes_append}
-use Rattle.tb_syntax.specs.Source.{Program, Command}
+use Rattle.tb_syntax.specs.Source.{Program, Command, Numbered, numbers}
 use Rattle.tb_lower.specs.Lowered as lowered
 use Rattle.tb_lower.specs.Slots.{Instr, Put, Load, Store, Negate, Compute, Random, SendText, SendNumber, SendZone, SendNewline, Input, Poll, Hold, LeaveUnless, Jump, Call, JumpTo, CallTo, Return, End}
 use Rattle.tb_lower.specs.Weights.{instr_texts}
@@ -11,11 +20,18 @@ use Rattle.tb_syntax.specs.Texts.{command_texts}
 use Rattle.tb_lower.proofs.Weighed.{same_texts}
 use Rattle.tb_templates.specs.declared.labels.Inner.TheVariants as inner
 use Rattle.tb_templates.specs.declared.labels.Target.TheVariants as target
-use Rattle.tb_templates.specs.Templates.{template, pointed, text_call, jump, here, constant}
-use Rattle.tb_runtime16.specs.Places.{LINE}
+use Rattle.tb_templates.specs.Templates.{pointed, text_call, jump, here}
+use Rattle.tb_templates.specs.GroupTemplates.{group_template, polled}
+use Rattle.tb_templates.specs.Layout.{LabelsAt}
 use Rattle.tb_templates.specs.Program.{rest_code, line_code, lines_code}
-use Rattle.tb_templates.proofs.Fitting.{size_append}
-use Rattle.tb_codegen.specs.Texts.{TextsStand, none, text, LinesHoldTexts}
+use Rattle.tb_settling.specs.Settled.{AreFormsOf}
+use Rattle.tb_settling.proofs.Forms.{forms_size, items_append, items_size, size_append, split, is_straight, straight_forms}
+use Rattle.tb_selection.specs.Groups.{Operand, Constant, Variable, InSlot, Home, IntoVariable, IntoHeld, Destination, IntoSlot, IntoHome, Tested, HeldBefore, HeldNow, Conversion, Negated, Drawn, Usage, AsNumber, AsLine, AsSubroutine, Group, Calculate, Convert, Move, Use, Test, TestGo, Single, fetch, keep, kept, held, convert, use_of, slot_of, expand, expand_all}
+use Rattle.tb_selection.specs.Select.{select}
+use Rattle.tb_selection.proofs.Bracketed.{brackets}
+use Rattle.tb_codegen.specs.Compiled.{stands_at, starts_in}
+use Rattle.tb_templates.proofs.Settled.{joined_items, labels_behind, line_at, total_size}
+use Rattle.tb_codegen.specs.Texts.{TextsStand, none, text, offset_of, end_before, LinesHoldTexts}
 
 lower : (image : List ℕ) (to from from' : ℕ) (texts : List (List ℕ)) → from ≤ from' → TextsStand image to from' texts → TextsStand image to from texts
 lower image to from from' _ l (none _ h) = none from (omega (arith, l, h))
@@ -73,57 +89,183 @@ loud labels a xs ys t texts h front back =
     text (length front) (length front + size xs) t texts (omega arith) stands
     (lower image (length front + size (es ++ ys)) (length front + size xs + length t) (length front + size es) texts (omega (arith, s)) (later labels a es ys texts h front back))
 
+-- ---- settled items
+-- the settled items of a piece without texts before others
+quiet_forms : (labels : List (Name × ℕ)) (a : ℕ) (xs ys : List Entry) (fs : List Form) (texts : List (List ℕ)) → AreFormsOf (xs ++ ys) fs
+    → ((b : ℕ) (gs : List Form) → AreFormsOf ys gs → Holds labels b (items_from b gs) texts) → Holds labels a (items_from a fs) texts
+quiet_forms labels a xs ys fs texts h rest =
+    let s = split xs ys fs h in
+    let front = items_from a s.front in
+    let there : a + forms_size s.front ≡ a + size front = (let e = items_size a s.front in omega (arith, e)) in
+    subst (λ es. Holds labels a es texts) (sym (ap (items_from a) s.are ∙ items_append a s.front s.back))
+    (quiet labels a front (items_from (a + forms_size s.front) s.back) texts
+    (subst (λ b. Holds labels b (items_from (a + forms_size s.front) s.back) texts) there (rest (a + forms_size s.front) s.back s.of_back)))
+
+-- and of one that ends by a text and a label
+loud_forms : (labels : List (Name × ℕ)) (a : ℕ) (xs : List Entry) (t : List ℕ) (l : Entry) (ys : List Entry) (fs : List Form) (texts : List (List ℕ)) → list_all is_straight ((xs ++ bytes t ∷ []) ++ l ∷ []) ≡ true
+    → AreFormsOf (((xs ++ bytes t ∷ []) ++ l ∷ []) ++ ys) fs → ((b : ℕ) (gs : List Form) → AreFormsOf ys gs → Holds labels b (items_from b gs) texts) → Holds labels a (items_from a fs) (t ∷ texts)
+loud_forms labels a xs t l ys fs texts straight h rest =
+    let own = (xs ++ bytes t ∷ []) ++ l ∷ [] in
+    let s = split own ys fs h in
+    let same : s.front ≡ map settle.kept own = straight_forms own s.front straight s.of_front in
+    let front : items_from a s.front ≡ own = ap (items_from a) same ∙ items_kept a own in
+    let b = a + forms_size s.front in
+    let back = items_from b s.back in
+    let whole : items_from a fs ≡ (xs ++ bytes t ∷ []) ++ (l ∷ back) = ap (items_from a) s.are ∙ items_append a s.front s.back ∙ ap (λ es. es ++ back) front ∙ append_assoc (xs ++ bytes t ∷ []) (l ∷ []) back in
+    let there : b ≡ a + size (xs ++ bytes t ∷ []) + size (l ∷ []) = (let e = items_size a s.front in let f = ap size front in let g = size_append (xs ++ bytes t ∷ []) (l ∷ []) in omega (arith, e, f, g)) in
+    subst (λ es. Holds labels a es (t ∷ texts)) (sym whole)
+    (loud labels a xs (l ∷ back) t texts
+    (quiet labels (a + size (xs ++ bytes t ∷ [])) (l ∷ []) back texts (subst (λ c. Holds labels c back texts) there (rest b s.back s.of_back))))
+
+-- ---- the texts of groups
+fetch_texts : (k : ℕ) (a : Operand) (is : List Instr) → instr_texts (fetch k a ++ is) ≡ instr_texts is
+fetch_texts k (Constant w) is = refl
+fetch_texts k (Variable x) is = refl
+fetch_texts k InSlot is = refl
+
+home_texts : (home : Home) (is : List Instr) → instr_texts (keep home ∷ is) ≡ instr_texts is
+home_texts (IntoVariable x) is = refl
+home_texts IntoHeld is = refl
+
+kept_texts : (d : Destination) (is : List Instr) → instr_texts (kept d ++ is) ≡ instr_texts is
+kept_texts (IntoSlot k) is = refl
+kept_texts (IntoHome home) is = home_texts home is
+
+held_texts : (a : Tested) (is : List Instr) → instr_texts (held a ++ is) ≡ instr_texts is
+held_texts HeldBefore is = refl
+held_texts (HeldNow a) is = ap instr_texts (append_assoc (fetch 0 a) (Hold ∷ []) is) ∙ fetch_texts 0 a (Hold ∷ is)
+
+-- a group of several words has no text
+calculate_texts : (op : Operator) (a b : Operand) (d : Destination) (is : List Instr) → instr_texts (expand (Calculate op a b d) ++ is) ≡ instr_texts is
+calculate_texts op a b d is =
+    let k = slot_of d in
+    ap instr_texts (append_assoc (fetch k a) (fetch (k + 1) b ++ Compute op k ∷ kept d) is) ∙ fetch_texts k a ((fetch (k + 1) b ++ Compute op k ∷ kept d) ++ is)
+    ∙ ap instr_texts (append_assoc (fetch (k + 1) b) (Compute op k ∷ kept d) is) ∙ fetch_texts (k + 1) b (Compute op k ∷ (kept d ++ is)) ∙ kept_texts d is
+
+convert_texts : (what : Conversion) (a : Operand) (d : Destination) (is : List Instr) → instr_texts (expand (Convert what a d) ++ is) ≡ instr_texts is
+convert_texts what a d is =
+    let k = slot_of d in
+    ap instr_texts (append_assoc (fetch k a) (convert what k ∷ kept d) is) ∙ fetch_texts k a (convert what k ∷ (kept d ++ is)) ∙ by what ∙ kept_texts d is
+  where
+    by : (what : Conversion) → instr_texts (convert what (slot_of d) ∷ (kept d ++ is)) ≡ instr_texts (kept d ++ is)
+    by Negated = refl
+    by Drawn = refl
+
+use_texts : (how : Usage) (a : Operand) (is : List Instr) → instr_texts (expand (Use how a) ++ is) ≡ instr_texts is
+use_texts how a is = ap instr_texts (append_assoc (fetch 0 a) (use_of how ∷ []) is) ∙ fetch_texts 0 a (use_of how ∷ is) ∙ by how
+  where
+    by : (how : Usage) → instr_texts (use_of how ∷ is) ≡ instr_texts is
+    by AsNumber = refl
+    by AsLine = refl
+    by AsSubroutine = refl
+
+move_texts : (a : Operand) (home : Home) (is : List Instr) → instr_texts (expand (Move a home) ++ is) ≡ instr_texts is
+move_texts a home is = ap instr_texts (append_assoc (fetch 0 a) (keep home ∷ []) is) ∙ fetch_texts 0 a (keep home ∷ is) ∙ home_texts home is
+
+test_texts : (rel : Rel) (a : Tested) (b : Operand) (js is : List Instr) → instr_texts (js ++ is) ≡ instr_texts is → instr_texts ((held a ++ (fetch 0 b ++ LeaveUnless rel ∷ js)) ++ is) ≡ instr_texts is
+test_texts rel a b js is e =
+    ap instr_texts (append_assoc (held a) (fetch 0 b ++ LeaveUnless rel ∷ js) is) ∙ held_texts a ((fetch 0 b ++ LeaveUnless rel ∷ js) ++ is)
+    ∙ ap instr_texts (append_assoc (fetch 0 b) (LeaveUnless rel ∷ js) is) ∙ fetch_texts 0 b (LeaveUnless rel ∷ (js ++ is)) ∙ e
+
 module _ (labels : List (Name × ℕ)) (ns : List ℕ) (seed n : ℕ) where
   -- what stands before the text
   abbrev before_text : ℕ → List ℕ → List Entry
   before_text i t = pointed (target.Inside inner.Text n i) ++ (text_call (length t) ++ (jump (target.Inside inner.Behind n i) ∷ here (target.Inside inner.Text n i) ∷ []))
 
-  -- the texts of a list stand in its code
-  rest_texts : (i a : ℕ) (is : List Instr) → Holds labels a (rest_code ns seed n i is) (instr_texts is)
-  rest_texts i a [] = λ front back. none (length front) (omega arith)
-  rest_texts i a (SendText t ∷ is) =
-      loud labels a (before_text i t) (here (target.Inside inner.Behind n i) ∷ rest_code ns seed n (i + 1) is) t (instr_texts is)
-      (quiet labels (a + size (before_text i t ++ bytes t ∷ [])) (here (target.Inside inner.Behind n i) ∷ []) (rest_code ns seed n (i + 1) is) (instr_texts is) (rest_texts (i + 1) (a + size (before_text i t ++ bytes t ∷ []) + 0) is))
-  rest_texts i a (Put k w ∷ is) = quiet labels a (template ns seed n i (Put k w)) (rest_code ns seed n (i + 1) is) (instr_texts is) (rest_texts (i + 1) (a + size (template ns seed n i (Put k w))) is)
-  rest_texts i a (Load k x ∷ is) = quiet labels a (template ns seed n i (Load k x)) (rest_code ns seed n (i + 1) is) (instr_texts is) (rest_texts (i + 1) (a + size (template ns seed n i (Load k x))) is)
-  rest_texts i a (Store x ∷ is) = quiet labels a (template ns seed n i (Store x)) (rest_code ns seed n (i + 1) is) (instr_texts is) (rest_texts (i + 1) (a + size (template ns seed n i (Store x))) is)
-  rest_texts i a (Negate k ∷ is) = quiet labels a (template ns seed n i (Negate k)) (rest_code ns seed n (i + 1) is) (instr_texts is) (rest_texts (i + 1) (a + size (template ns seed n i (Negate k))) is)
-  rest_texts i a (Compute op k ∷ is) = quiet labels a (template ns seed n i (Compute op k)) (rest_code ns seed n (i + 1) is) (instr_texts is) (rest_texts (i + 1) (a + size (template ns seed n i (Compute op k))) is)
-  rest_texts i a (Random k ∷ is) = quiet labels a (template ns seed n i (Random k)) (rest_code ns seed n (i + 1) is) (instr_texts is) (rest_texts (i + 1) (a + size (template ns seed n i (Random k))) is)
-  rest_texts i a (SendNumber ∷ is) = quiet labels a (template ns seed n i SendNumber) (rest_code ns seed n (i + 1) is) (instr_texts is) (rest_texts (i + 1) (a + size (template ns seed n i SendNumber)) is)
-  rest_texts i a (SendZone ∷ is) = quiet labels a (template ns seed n i SendZone) (rest_code ns seed n (i + 1) is) (instr_texts is) (rest_texts (i + 1) (a + size (template ns seed n i SendZone)) is)
-  rest_texts i a (SendNewline ∷ is) = quiet labels a (template ns seed n i SendNewline) (rest_code ns seed n (i + 1) is) (instr_texts is) (rest_texts (i + 1) (a + size (template ns seed n i SendNewline)) is)
-  rest_texts i a (Input x ∷ is) = quiet labels a (template ns seed n i (Input x)) (rest_code ns seed n (i + 1) is) (instr_texts is) (rest_texts (i + 1) (a + size (template ns seed n i (Input x))) is)
-  rest_texts i a (Poll ∷ is) = quiet labels a (template ns seed n i Poll) (rest_code ns seed n (i + 1) is) (instr_texts is) (rest_texts (i + 1) (a + size (template ns seed n i Poll)) is)
-  rest_texts i a (Hold ∷ is) = quiet labels a (template ns seed n i Hold) (rest_code ns seed n (i + 1) is) (instr_texts is) (rest_texts (i + 1) (a + size (template ns seed n i Hold)) is)
-  rest_texts i a (LeaveUnless rel ∷ is) = quiet labels a (template ns seed n i (LeaveUnless rel)) (rest_code ns seed n (i + 1) is) (instr_texts is) (rest_texts (i + 1) (a + size (template ns seed n i (LeaveUnless rel))) is)
-  rest_texts i a (Jump ∷ is) = quiet labels a (template ns seed n i Jump) (rest_code ns seed n (i + 1) is) (instr_texts is) (rest_texts (i + 1) (a + size (template ns seed n i Jump)) is)
-  rest_texts i a (Call ∷ is) = quiet labels a (template ns seed n i Call) (rest_code ns seed n (i + 1) is) (instr_texts is) (rest_texts (i + 1) (a + size (template ns seed n i Call)) is)
-  rest_texts i a (JumpTo to ∷ is) = quiet labels a (template ns seed n i (JumpTo to)) (rest_code ns seed n (i + 1) is) (instr_texts is) (rest_texts (i + 1) (a + size (template ns seed n i (JumpTo to))) is)
-  rest_texts i a (CallTo to ∷ is) = quiet labels a (template ns seed n i (CallTo to)) (rest_code ns seed n (i + 1) is) (instr_texts is) (rest_texts (i + 1) (a + size (template ns seed n i (CallTo to))) is)
-  rest_texts i a (Return ∷ is) = quiet labels a (template ns seed n i Return) (rest_code ns seed n (i + 1) is) (instr_texts is) (rest_texts (i + 1) (a + size (template ns seed n i Return)) is)
-  rest_texts i a (End ∷ is) = quiet labels a (template ns seed n i End) (rest_code ns seed n (i + 1) is) (instr_texts is) (rest_texts (i + 1) (a + size (template ns seed n i End)) is)
+  -- settled forms of groups from group i on hold texts, wherever they lie
+  abbrev RestHolds : ℕ → List Group → List (List ℕ) → Type 0
+  RestHolds i gs texts = (a : ℕ) (fs : List Form) → AreFormsOf (rest_code ns seed n i gs) fs → Holds labels a (items_from a fs) texts
 
--- those of a line's command stand in the line's code
-line_texts : (labels : List (Name × ℕ)) (ns : List ℕ) (seed a n : ℕ) (c : Command) → Holds labels a (line_code ns seed (record { number = n; content = lowered.list_code c })) (command_texts c)
-line_texts labels ns seed a n c =
-    let head = here (target.Line n) ∷ constant n LINE in
-    subst (Holds labels a (line_code ns seed (record { number = n; content = lowered.list_code c }))) (same_texts c)
-    (quiet labels a head (rest_code ns seed n 0 (lowered.list_code c)) (instr_texts (lowered.command_code c)) (rest_texts labels ns seed n 0 (a + size head) (lowered.list_code c)))
+  -- a group without texts before others
+  silent : (i : ℕ) (g : Group) (gs : List Group) (texts : List (List ℕ)) → texts ≡ instr_texts (expand_all gs) → RestHolds (i + 1) gs (instr_texts (expand_all gs)) → RestHolds i (g ∷ gs) texts
+  silent i g gs texts e rest a fs h =
+      quiet_forms labels a (group_template ns seed n i g) (rest_code ns seed n (i + 1) gs) fs texts h (λ b fs' h'. subst (Holds labels b (items_from b fs')) (sym e) (rest b fs' h'))
 
--- where the code of lines stands in an image, so do their texts
-pub lines_texts : (labels : List (Name × ℕ)) (ns : List ℕ) (seed a : ℕ) (p : Program) (front back : List ℕ)
-    → LinesHoldTexts (front ++ (bytes_from labels a (lines_code ns seed (lowered.program_code p)) ++ back)) ns seed (length front) p
-lines_texts labels ns seed a [] front back = tt
-lines_texts labels ns seed a (line ∷ lines) front back =
-    let code = line_code ns seed (record { number = line.number; content = lowered.list_code line.content }) in
-    let rest = lines_code ns seed (lowered.program_code lines) in
-    let image = front ++ (bytes_from labels a (code ++ rest) ++ back) in
-    let there = sym (joined labels a code rest front back) in
-    let whole : front ++ (bytes_from labels a code ++ (bytes_from labels (a + size code) rest ++ back)) ≡ image =
-    sym (append_assoc front (bytes_from labels a code) (bytes_from labels (a + size code) rest ++ back)) ∙ there in (
-      subst (λ i. TextsStand i (length front + size code) (length front) (command_texts line.content)) whole (line_texts labels ns seed a line.number line.content front (bytes_from labels (a + size code) rest ++ back)),
-      subst (λ i. LinesHoldTexts i ns seed (length front + size code) lines) there
-          (subst (λ o. LinesHoldTexts ((front ++ bytes_from labels a code) ++ (bytes_from labels (a + size code) rest ++ back)) ns seed o lines) (front_length labels a code front)
-          (lines_texts labels ns seed (a + size code) lines (front ++ bytes_from labels a code) back)),
-    )
+  nothing : (a : ℕ) (fs : List Form) → AreFormsOf [] fs → Holds labels a (items_from a fs) []
+  nothing a [] h = λ front back. none (length front) (omega arith)
+  nothing a (f ∷ fs) h = absurd h
+
+  rest_texts : (i : ℕ) (gs : List Group) → RestHolds i gs (instr_texts (expand_all gs))
+  rest_texts i [] = nothing
+  rest_texts i (Calculate op x y d ∷ gs) = silent i (Calculate op x y d) gs _ (calculate_texts op x y d (expand_all gs)) (rest_texts (i + 1) gs)
+  rest_texts i (Convert what x d ∷ gs) = silent i (Convert what x d) gs _ (convert_texts what x d (expand_all gs)) (rest_texts (i + 1) gs)
+  rest_texts i (Use how x ∷ gs) = silent i (Use how x) gs _ (use_texts how x (expand_all gs)) (rest_texts (i + 1) gs)
+  rest_texts i (Move x home ∷ gs) = silent i (Move x home) gs _ (move_texts x home (expand_all gs)) (rest_texts (i + 1) gs)
+  rest_texts i (Test rel x y ∷ gs) = silent i (Test rel x y) gs _ (test_texts rel x y [] (expand_all gs) refl) (rest_texts (i + 1) gs)
+  rest_texts i (TestGo rel x y to ∷ gs) = silent i (TestGo rel x y to) gs _ (test_texts rel x y (JumpTo to ∷ []) (expand_all gs) refl) (rest_texts (i + 1) gs)
+  rest_texts i (Single (SendText t) ∷ gs) = λ a fs h.
+      loud_forms labels a (before_text i t) t (here (target.Inside inner.Behind n i)) (rest_code ns seed n (i + 1) gs) fs (instr_texts (expand_all gs)) refl h (rest_texts (i + 1) gs)
+  rest_texts i (Single (Put k w) ∷ gs) = silent i (Single (Put k w)) gs _ refl (rest_texts (i + 1) gs)
+  rest_texts i (Single (Load k x) ∷ gs) = silent i (Single (Load k x)) gs _ refl (rest_texts (i + 1) gs)
+  rest_texts i (Single (Store x) ∷ gs) = silent i (Single (Store x)) gs _ refl (rest_texts (i + 1) gs)
+  rest_texts i (Single (Negate k) ∷ gs) = silent i (Single (Negate k)) gs _ refl (rest_texts (i + 1) gs)
+  rest_texts i (Single (Compute op k) ∷ gs) = silent i (Single (Compute op k)) gs _ refl (rest_texts (i + 1) gs)
+  rest_texts i (Single (Random k) ∷ gs) = silent i (Single (Random k)) gs _ refl (rest_texts (i + 1) gs)
+  rest_texts i (Single SendNumber ∷ gs) = silent i (Single SendNumber) gs _ refl (rest_texts (i + 1) gs)
+  rest_texts i (Single SendZone ∷ gs) = silent i (Single SendZone) gs _ refl (rest_texts (i + 1) gs)
+  rest_texts i (Single SendNewline ∷ gs) = silent i (Single SendNewline) gs _ refl (rest_texts (i + 1) gs)
+  rest_texts i (Single (Input x) ∷ gs) = silent i (Single (Input x)) gs _ refl (rest_texts (i + 1) gs)
+  rest_texts i (Single Poll ∷ gs) = silent i (Single Poll) gs _ refl (rest_texts (i + 1) gs)
+  rest_texts i (Single Hold ∷ gs) = silent i (Single Hold) gs _ refl (rest_texts (i + 1) gs)
+  rest_texts i (Single (LeaveUnless rel) ∷ gs) = silent i (Single (LeaveUnless rel)) gs _ refl (rest_texts (i + 1) gs)
+  rest_texts i (Single Jump ∷ gs) = silent i (Single Jump) gs _ refl (rest_texts (i + 1) gs)
+  rest_texts i (Single Call ∷ gs) = silent i (Single Call) gs _ refl (rest_texts (i + 1) gs)
+  rest_texts i (Single (JumpTo to) ∷ gs) = silent i (Single (JumpTo to)) gs _ refl (rest_texts (i + 1) gs)
+  rest_texts i (Single (CallTo to) ∷ gs) = silent i (Single (CallTo to)) gs _ refl (rest_texts (i + 1) gs)
+  rest_texts i (Single Return ∷ gs) = silent i (Single Return) gs _ refl (rest_texts (i + 1) gs)
+  rest_texts i (Single End ∷ gs) = silent i (Single End) gs _ refl (rest_texts (i + 1) gs)
+
+  -- those of a line's command stand in the line's code
+  line_texts : (a : ℕ) (c : Command) (fs : List Form) → AreFormsOf (line_code ns seed (record { number = n; content = lowered.list_code c })) fs → Holds labels a (items_from a fs) (command_texts c)
+  line_texts a c fs h =
+      subst (Holds labels a (items_from a fs)) (ap instr_texts (brackets (lowered.command_code c)) ∙ same_texts c)
+      (quiet_forms labels a (here (target.Line n) ∷ polled n) (rest_code ns seed n 1 (select (lowered.command_code c))) fs (instr_texts (expand_all (select (lowered.command_code c)))) h (rest_texts 1 (select (lowered.command_code c))))
+
+-- ---- lines
+module _ (labels : List (Name × ℕ)) (ns : List ℕ) (seed past : ℕ) where
+  -- a line begins where its label stands
+  begins : (a : ℕ) (line : Numbered Command) (fs : List Form) → AreFormsOf (line_code ns seed (record { number = line.number; content = lowered.list_code line.content })) fs → LabelsAt labels a (items_from a fs) → stands_at labels (label_of (target.Line line.number)) ≡ a
+  begins a line fs h l = ap (λ o. unwrap_or o 0) (line_at labels ns seed a (record { number = line.number; content = lowered.list_code line.content }) fs h l)
+
+  -- where these lines begin, or what is behind them
+  ends_there : (a : ℕ) (p : Program) (fs : List Form) → AreFormsOf (lines_code ns seed (lowered.program_code p)) fs → LabelsAt labels a (items_from a fs) → past ≡ a + forms_size fs → end_before past (starts_in labels (numbers p)) ≡ a
+  ends_there a [] [] h l e = e ∙ (let q : a + 0 ≡ a = omega arith in q)
+  ends_there a [] (f ∷ fs) h l e = absurd h
+  ends_there a (line ∷ lines) fs h l e =
+      let code = line_code ns seed (record { number = line.number; content = lowered.list_code line.content }) in
+      let s = split code (lines_code ns seed (lowered.program_code lines)) fs h in
+      begins a line s.front s.of_front (labels_behind labels a fs s.front s.back s.are l).0
+
+  -- where the settled code of lines stands in a file, so do their texts
+  pub lines_texts : (a : ℕ) (p : Program) (fs : List Form) (front back : List ℕ) → AreFormsOf (lines_code ns seed (lowered.program_code p)) fs → LabelsAt labels a (items_from a fs) → past ≡ a + forms_size fs → PROLOGUE_AT ≤ a → length front ≡ offset_of a
+      → LinesHoldTexts (front ++ (bytes_from labels a (items_from a fs) ++ back)) past (starts_in labels (numbers p)) p
+  lines_texts a [] fs front back h l e low at = tt
+  lines_texts a (line ∷ lines) fs front back h l e low at =
+      let code = line_code ns seed (record { number = line.number; content = lowered.list_code line.content }) in
+      let more = lines_code ns seed (lowered.program_code lines) in
+      let s = split code more fs h in
+      let b = a + forms_size s.front in
+      let own = items_from a s.front in let rest = items_from b s.back in
+      let whole : items_from a fs ≡ own ++ rest = joined_items a fs s.front s.back s.are in
+      let ls = labels_behind labels a fs s.front s.back s.are l in
+      let long : size own ≡ forms_size s.front = items_size a s.front in
+      let total : forms_size fs ≡ forms_size s.front + forms_size s.back = total_size a fs s.front s.back s.are in
+      let there : a + size own ≡ b = omega (arith, long) in
+      let past_is : past ≡ b + forms_size s.back = omega (arith, e, total) in
+      let file = front ++ (bytes_from labels a (items_from a fs) ++ back) in
+      let own_bytes = bytes_from labels a own in let rest_bytes = bytes_from labels b rest in
+      let shown : file ≡ (front ++ own_bytes) ++ (rest_bytes ++ back) =
+      ap (λ es. front ++ (bytes_from labels a es ++ back)) whole ∙ joined labels a own rest front back ∙ ap (λ c. (front ++ own_bytes) ++ (bytes_from labels c rest ++ back)) there in
+      let starts_there : stands_at labels (label_of (target.Line line.number)) ≡ a = begins a line s.front s.of_front ls.0 in
+      let ends : end_before past (starts_in labels (numbers lines)) ≡ b = ends_there b lines s.back s.of_back ls.1 past_is in
+      let here_from : length front ≡ offset_of (stands_at labels (label_of (target.Line line.number))) = at ∙ ap offset_of (sym starts_there) in
+      let here_to : length front + size own ≡ offset_of (end_before past (starts_in labels (numbers lines))) = (let q = ap offset_of ends in omega (arith, q, at, long, low)) in
+      let first : TextsStand file (length front + size own) (length front) (command_texts line.content) =
+      subst (λ f. TextsStand f (length front + size own) (length front) (command_texts line.content)) (sym (shown ∙ append_assoc front own_bytes (rest_bytes ++ back)))
+      (line_texts labels ns seed line.number a line.content s.front s.of_front front (rest_bytes ++ back)) in
+      let next : length (front ++ own_bytes) ≡ offset_of b = (let q = front_length labels a own front in omega (arith, q, at, long, low)) in (
+        subst (λ to. TextsStand file to (offset_of (stands_at labels (label_of (target.Line line.number)))) (command_texts line.content)) here_to
+            (subst (λ from. TextsStand file (length front + size own) from (command_texts line.content)) here_from first),
+        subst (λ f. LinesHoldTexts f past (starts_in labels (numbers lines)) lines) (sym shown)
+            (lines_texts b lines s.back (front ++ own_bytes) back s.of_back ls.1 past_is (omega (arith, low)) next),
+      )

@@ -3,7 +3,6 @@ use Rattle.std.specs.Prelude.{◌≡◌, ℕ, ◌<◌, List, [], Option, Some, N
 use Rattle.tb_syntax.specs.Source.{Program}
 use Rattle.tb_lower.specs.Cost.{cost}
 use Rattle.tb_lower.specs.Need.{too_deep}
-use Rattle.tb_lower.specs.declared.lowering.LowerError.{LowerError}
 use Rattle.tb_lower.specs.declared.lowering.LowerError.TheVariants as deep
 use Rattle.tb_parser.specs.Answers.{refusal_of}
 use Rattle.tb_parser.specs.Files.{FileRefusal, Outcome, LinesAre, refused_at}

@@ -1,20 +1,20 @@
 -- Compiled programs: where the code of lines begins and ends, and what the PRG file is.
-use Rattle.std.specs.Prelude.{◌≡◌, ℕ, ◌+◌, ◌-◌, ◌≤◌, length, true, is_some, List, [], ◌∷◌, ◌++◌, drop, map, Bool, ◌&&◌, nat_le, nat_lt, nat_eq, if◌then◌else◌, Option, Some, None, unwrap_or}
+use Rattle.std.specs.Prelude.{◌≡◌, ℕ, ◌+◌, ◌≤◌, true, is_some, List, [], ◌∷◌, ◌++◌, drop, map, Bool, ◌&&◌, nat_le, nat_lt, nat_eq, if◌then◌else◌, Option, Some, None, unwrap_or}
 use Rattle.tb_words.specs.Words.{word_of}
 use Rattle.tb_syntax.specs.Source.{Program, numbers}
 use Rattle.tb_asm.specs.declared.names.Name.{Name}
-use Rattle.tb_asm.specs.Layout.{size, image_of, address_in}
+use Rattle.tb_asm.specs.Layout.{Entry, size, image_of, labels_from, address_in}
+use Rattle.tb_asm.specs.Settle.{SettlesTo}
 use Rattle.tb_prg.specs.Prg.{header}
 use Rattle.tb_lower.specs.Cost.{cost}
 use Rattle.tb_lower.specs.Lowered as lowered
 use Rattle.tb_lower.specs.Missing.{missing_targets}
 use Rattle.tb_lower.specs.Need.{too_deep}
-use Rattle.tb_lower.specs.Slots.{SlotCode}
 use Rattle.tb_lower.specs.declared.missing.Warning.{Warning}
 use Rattle.tb_runtime16.specs.Places.{PROLOGUE_AT, LINES_AT}
-use Rattle.tb_templates.specs.declared.labels.Target.TheVariants.{Line}
+use Rattle.tb_templates.specs.declared.labels.Target.TheVariants.{Line, Past, Table}
 use Rattle.tb_templates.specs.Labels.{label_of}
-use Rattle.tb_templates.specs.Program.{line_code, lines_code, past_code, find_code, program_code}
+use Rattle.tb_templates.specs.Program.{program_code}
 use Rattle.tb_codegen.specs.Texts.{LinesHoldTexts}
 use Rattle.tb_codegen.specs.declared.compiled.LineStart.{LineStart}
 use Rattle.tb_codegen.specs.declared.compiled.Compiled.{Compiled}
@@ -65,47 +65,41 @@ line_in (s ∷ []) table a = if lies s.1 table a then Some s.0 else None
 line_in (s ∷ next ∷ starts) table a = if lies s.1 next.1 a then Some s.0 else line_in (next ∷ starts) table a
 
 -- ── where code lies ──
--- each line of slot code with the address of its code, where the first lies at `a`
-abbrev pub starts_from : List ℕ → ℕ → ℕ → SlotCode → List (ℕ × ℕ)
-starts_from ns seed a [] = []
-starts_from ns seed a (line ∷ lines) = (line.number, a) ∷ starts_from ns seed (a + size (line_code ns seed line)) lines
-
--- the line table, behind the code of all lines and what belongs to none of them
-abbrev pub table_at : ℕ → SlotCode → ℕ
-table_at seed code = LINES_AT + (size (lines_code (numbers code) seed code) + (size (past_code (numbers code)) + size (find_code (numbers code))))
-
 -- starts that rise strictly, from an address on
 abbrev pub StartsRise : ℕ → List (ℕ × ℕ) → Type 0
 StartsRise low [] = Unit {0}
 StartsRise low (s ∷ starts) = (low ≤ s.1) × StartsRise (s.1 + 1) starts
 
+-- where a label stands; 0 where none has its name
+abbrev pub stands_at : List (Name × ℕ) → Name → ℕ
+stands_at labels name = unwrap_or (address_in labels name) 0
+
 -- the lines with the places of their labels
 abbrev pub starts_in : List (Name × ℕ) → List ℕ → List (ℕ × ℕ)
 starts_in labels [] = []
-starts_in labels (n ∷ ns) = (n, unwrap_or (address_in labels (label_of (Line n))) 0) ∷ starts_in labels ns
+starts_in labels (n ∷ ns) = (n, stands_at labels (label_of (Line n))) ∷ starts_in labels ns
 
 -- each of these lines has a label
 abbrev pub AreKnown : List (Name × ℕ) → List ℕ → Type 0
 AreKnown labels [] = Unit {0}
 AreKnown labels (n ∷ ns) = (is_some (address_in labels (label_of (Line n))) ≡ true) × AreKnown labels ns
 
--- the bytes of a PRG file before the code of lines
-abbrev pub lines_offset : ℕ
-lines_offset = length header + (LINES_AT - PROLOGUE_AT)
-
 -- the most that a program may cost
 abbrev pub most : ℕ
 most = 37888
 
--- Compiled, a program is a PRG file with its code from the block's address on; code and table end by $9FFF.
+-- Compiled, a program is a PRG file with its settled items from the block's address on; code and table end by $9FFF. A
+-- line begins where its label stands among them, and so does the line table.
 pub record IsCompiled (seed : ℕ) (program : Program) (c : Compiled) : Type 0 where
   pub shallow : too_deep program ≡ None
   pub small : cost program ≤ most
-  pub prg : prg_of c ≡ header ++ image_of PROLOGUE_AT (program_code seed (lowered.program_code program))
-  pub texts : LinesHoldTexts (prg_of c) (numbers program) seed lines_offset program
-  pub ends : PROLOGUE_AT + size (program_code seed (lowered.program_code program)) ≤ 0xA000
-  pub starts : starts_of c ≡ starts_from (numbers program) seed LINES_AT (lowered.program_code program)
+  pub items : List Entry
+  pub settled : SettlesTo PROLOGUE_AT (program_code seed (lowered.program_code program)) items
+  pub prg : prg_of c ≡ header ++ image_of PROLOGUE_AT items
+  pub texts : LinesHoldTexts (prg_of c) (stands_at (labels_from PROLOGUE_AT items) (label_of Past)) (starts_of c) program
+  pub ends : PROLOGUE_AT + size items ≤ 0xA000
+  pub starts : starts_of c ≡ starts_in (labels_from PROLOGUE_AT items) (numbers program)
   pub lines : map (λ s. s.0) (starts_of c) ≡ numbers program
   pub rising : StartsRise LINES_AT (starts_of c)
-  pub table : table_of c ≡ table_at seed (lowered.program_code program)
+  pub table : address_in (labels_from PROLOGUE_AT items) (label_of Table) ≡ Some (table_of c)
   pub warned : map (λ w. (w.line, word_of w.target)) (warnings_of c) ≡ missing_targets program

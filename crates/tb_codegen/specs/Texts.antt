@@ -1,20 +1,28 @@
--- The texts of lines in an image.
-use Rattle.std.specs.Prelude.{◌≡◌, ℕ, ◌+◌, ◌≤◌, List, [], ◌∷◌, length, take, drop}
+-- The texts of lines in a PRG file.
+use Rattle.std.specs.Prelude.{◌≡◌, ℕ, ◌+◌, ◌-◌, ◌≤◌, List, [], ◌∷◌, length, take, drop}
 use Rattle.tb_syntax.specs.Source.{Program}
-use Rattle.tb_lower.specs.Lowered.{list_code}
 use Rattle.tb_syntax.specs.Texts.{command_texts}
-use Rattle.tb_asm.specs.Layout.{size}
-use Rattle.tb_templates.specs.Program.{line_code}
+use Rattle.tb_prg.specs.Prg.{header}
+use Rattle.tb_runtime16.specs.Places.{PROLOGUE_AT}
 
--- Texts stand byte for byte in an image, one behind the other, from an offset on and up to another.
-pub data TextsStand (image : List ℕ) (to : ℕ) : ℕ → List (List ℕ) → Type 0 where
-  none : (from : ℕ) → from ≤ to → TextsStand image to from []
-  text : (from place : ℕ) (t : List ℕ) (texts : List (List ℕ)) → from ≤ place → take (length t) (drop place image) ≡ t
-      → TextsStand image to (place + length t) texts → TextsStand image to from (t ∷ texts)
+-- Texts stand byte for byte in a file, one behind the other, from an offset on and up to another.
+pub data TextsStand (file : List ℕ) (to : ℕ) : ℕ → List (List ℕ) → Type 0 where
+  none : (from : ℕ) → from ≤ to → TextsStand file to from []
+  text : (from place : ℕ) (t : List ℕ) (texts : List (List ℕ)) → from ≤ place → take (length t) (drop place file) ≡ t
+      → TextsStand file to (place + length t) texts → TextsStand file to from (t ∷ texts)
 
--- The code of lines begins at an offset of the image, and the texts of each line stand in its code.
-abbrev pub LinesHoldTexts : List ℕ → List ℕ → ℕ → ℕ → Program → Type 0
-LinesHoldTexts image ns seed offset [] = Unit {0}
-LinesHoldTexts image ns seed offset (line ∷ lines) =
-    let behind = offset + size (line_code ns seed (record { number = line.number; content = list_code line.content })) in
-    TextsStand image behind offset (command_texts line.content) × LinesHoldTexts image ns seed behind lines
+-- where in a PRG file the byte of an address from the block's on stands
+abbrev pub offset_of : ℕ → ℕ
+offset_of a = length header + (a - PROLOGUE_AT)
+
+-- where the code before these lines ends: the next of them begins there, or what is behind all lines
+abbrev pub end_before : ℕ → List (ℕ × ℕ) → ℕ
+end_before past [] = past
+end_before past (s ∷ starts) = s.1
+
+-- The texts of each line stand in its code, from where it begins up to the next one, and the last one's up to `past`.
+abbrev pub LinesHoldTexts : List ℕ → ℕ → List (ℕ × ℕ) → Program → Type 0
+LinesHoldTexts file past starts [] = Unit {0}
+LinesHoldTexts file past [] (line ∷ lines) = ⊥
+LinesHoldTexts file past (s ∷ starts) (line ∷ lines) =
+    TextsStand file (offset_of (end_before past starts)) (offset_of s.1) (command_texts line.content) × LinesHoldTexts file past starts lines

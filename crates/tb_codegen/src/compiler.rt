@@ -1,7 +1,6 @@
 //! From a source text to a PRG file.
 ghost use Rattle.std.specs.Prelude.{◌≡◌, ◌<◌, ◌≤◌, ℕ, Ok, All, IfOk, IfErr, Some, None, true, is_some, length, map};
-ghost use Rattle.tb_asm.specs.Assembled.{refusal};
-ghost use Rattle.tb_asm.specs.Layout.{address_in, image_of, labels_from};
+ghost use Rattle.tb_asm.specs.Layout.{address_in};
 ghost use Rattle.tb_syntax.specs.Shown.{lines_of};
 ghost use Rattle.tb_syntax.specs.Source.{Program as SourceProgram, numbers};
 ghost use Rattle.tb_lower.specs.Cost as costs;
@@ -10,6 +9,7 @@ ghost use Rattle.tb_lower.specs.Need.{too_deep};
 ghost use Rattle.tb_lower.specs.Shown.{code_of};
 ghost use Rattle.tb_parser.specs.Files.{AreStated, Outcome, RisesFrom};
 ghost use Rattle.tb_runtime16.specs.Places.{PROLOGUE_AT};
+ghost use Rattle.tb_settling.specs.Settled.{IsLaid, Suits};
 ghost use Rattle.tb_templates.specs.Labels.{label_of};
 ghost use Rattle.tb_templates.specs.Program.{AreCodable, RisingFrom, program_code};
 ghost use Rattle.tb_refusals.specs.declared.refusals.CompileError.TheVariants as error;
@@ -21,12 +21,13 @@ ghost use Rattle.tb_codegen.specs.Compiled.{loaded_of, start_of, AreKnown, pair_
 use crate::compiled::{Compiled, LineStart};
 use crate::costs::cost;
 use std::alloc::{AllocError, Global};
-use tb_asm::{AsmErrorKind, Image, assemble};
+use tb_asm::{AsmErrorKind, Image};
 use tb_lower::{SlotCode, SlotLine, lower, warnings};
 use tb_parser::parse;
 use tb_prg::write;
 use tb_refusals::CompileError;
 use tb_runtime16::BLOCK_AT;
+use tb_settling::assemble_settled;
 use tb_syntax::Program;
 use tb_templates::{Target, label, program_items};
 
@@ -82,12 +83,12 @@ fn laid(alloc: Global, code: &SlotCode, seed: u16) -> Result<Image, CompileError
     requires lists { AreCodable (code_of code.now) }
     requires lines { length (code_of code.now) < 65536 }
     requires rising { RisingFrom 0 (numbers (code_of code.now)) }
-    requires accepted { refusal PROLOGUE_AT (program_code seed (code_of code.now)) ≡ None }
-    ensures ok { IfOk result (λ image. (image.at ≡ PROLOGUE_AT) × (image.bytes.items ≡ image_of PROLOGUE_AT (program_code seed (code_of code.now))) × (image.labels.entries ≡ labels_from PROLOGUE_AT (program_code seed (code_of code.now)))) }
+    requires suited { Suits PROLOGUE_AT (program_code seed (code_of code.now)) }
+    ensures ok { IfOk result (λ image. IsLaid PROLOGUE_AT (program_code seed (code_of code.now)) image.at image.bytes.items image.labels.entries) }
     ensures err { IfErr result (λ e. e ≡ error.NoMemory) }
 {
     let items = program_items(alloc, seed, code)?;
-    match assemble(alloc, BLOCK_AT, &items) {
+    match assemble_settled(alloc, BLOCK_AT, &items) {
         Ok(image) => Ok(image),
         Err(e) => match e.kind {
             AsmErrorKind::NoMemory => Err(CompileError::NoMemory),

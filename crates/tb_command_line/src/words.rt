@@ -56,7 +56,8 @@ fn command<'a>(alloc: Global) -> Result<Command<'a>, AllocError> {
     let command = with_subcommand(command, run_command(alloc))?;
     let command = with_subcommand(command, asm_command(alloc))?;
     let command = with_subcommand(command, dis_command(alloc))?;
-    with_subcommand(command, step_command(alloc))
+    let command = with_subcommand(command, step_command(alloc))?;
+    with_subcommand(command, disk_command(alloc))
 }
 
 // (what is held and what can fail stand apart, which the prover is glad of)
@@ -117,6 +118,13 @@ fn step_command<'a>(alloc: Global) -> Result<Command<'a>, AllocError> {
         .arg(keys_option(alloc))?
         .arg(answers_option(alloc))?
         .arg(limit_option(alloc))
+}
+
+fn disk_command<'a>(alloc: Global) -> Result<Command<'a>, AllocError> {
+    Command::new(alloc, "disk")
+        .about("Make a disk image of PRG files")
+        .arg(file(alloc, "OUT", "The disk image that is written, a D64 file"))?
+        .arg(file(alloc, "FILE", "The PRG files, in order").num_args(1..))
 }
 
 fn file<'a>(alloc: Global, id: &'a str, help: &'a str) -> Arg<'a> {
@@ -208,6 +216,10 @@ fn job_of(alloc: Global, name: &str, found: &ArgMatches<'_>) -> Result<Job, Allo
         "dis" => Job::Dis {
             prg: text(alloc, found, "FILE")?,
         },
+        "disk" => Job::Disk {
+            out: text(alloc, found, "OUT")?,
+            files: texts(alloc, found, "FILE")?,
+        },
         _ => Job::Step {
             source: text(alloc, found, "SOURCE")?,
             seed: seed_of(found),
@@ -241,6 +253,15 @@ fn runnable_of(alloc: Global, found: &ArgMatches<'_>) -> Result<Runnable, AllocE
 // A copy of the text of an argument, or an empty one where the parser let it be missing.
 fn text(alloc: Global, found: &ArgMatches<'_>, id: &str) -> Result<String, AllocError> {
     String::from_str(alloc, found.get_str(id).unwrap_or(""))
+}
+
+// Copies of the texts of an argument that may have several.
+fn texts(alloc: Global, found: &ArgMatches<'_>, id: &str) -> Result<Vec<String>, AllocError> {
+    let mut texts = Vec::new(alloc);
+    for text in found.get_strs(id).unwrap_or(&[]) {
+        texts.push(String::from_str(alloc, text)?)?;
+    }
+    Ok(texts)
 }
 
 fn seed_of(found: &ArgMatches<'_>) -> u16 {

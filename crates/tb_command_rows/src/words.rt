@@ -40,6 +40,7 @@ fn shown(alloc: Global, words: &[&str]) -> Result<String, Fail> {
             "step {source} {seed} [{keys}] [{answers}] {}",
             limit.events
         )?,
+        Ok(Job::Disk { out, files }) => format!(in alloc; "disk {out} {files:?}")?,
         Ok(Job::Show { text }) => format!(in alloc; "show {text}")?,
         Err(JobError::Words(text)) => format!(in alloc; "words {text}")?,
         Err(JobError::NoMemory) => return Err(Fail::from("no memory")),
@@ -48,7 +49,7 @@ fn shown(alloc: Global, words: &[&str]) -> Result<String, Fail> {
 
 #[test]
 fn words_become_jobs(rt: HostRuntime) -> Result<(), Fail> {
-    let rows: [(&[&str], &[u8]); 9] = [
+    let rows: [(&[&str], &[u8]); 11] = [
         (&["build", "a", "b"], b"build a b 1"),
         (&["build", "--seed", "65535", "a", "b"], b"build a b 65535"),
         (&["run", "a"], b"run source a 1 [] [] 10000000 None"),
@@ -72,6 +73,11 @@ fn words_become_jobs(rt: HostRuntime) -> Result<(), Fail> {
         ),
         (&["asm", "a", "b", "--at", "c00"], b"asm a b c00"),
         (&["dis", "a"], b"dis a"),
+        (&["disk", "o", "a"], b"disk o [\"a\"]"),
+        (
+            &["disk", "o", "b", "--", "a", "-b"],
+            b"disk o [\"b\", \"a\", \"-b\"]",
+        ),
         (&["step", "a"], b"step a 1 [] [] 10000000"),
         (
             &[

@@ -2,3 +2,4 @@ mod Delivered
 mod Output
 mod Loadable
 mod Stepped
+mod Shown

@@ -5,12 +5,10 @@ use Rattle.std.proofs.lemmas.Bool.Decides.{nat_tests}
 use Rattle.tb_memmap.specs.Regions.{is_open}
 use Rattle.tb_asm.specs.Layout.{size, image_of, labels_from}
 use Rattle.tb_asm.proofs.Laws.{all_size}
-use Rattle.tb_lower.specs.Lowered as lowered
 use Rattle.tb_syntax.specs.Source.{Program}
 use Rattle.tb_parser.specs.Files.{Outcome}
 use Rattle.tb_prg.specs.Prg.{header, content_of, within}
 use Rattle.tb_runtime16.specs.Places.{PROLOGUE_AT}
-use Rattle.tb_templates.specs.Program.{program_code}
 use Rattle.tb_codegen.specs.Answers.{HasOutcome, OutcomeAnswer}
 use Rattle.tb_codegen.specs.Compiled.{IsCompiled, prg_of, loaded_of}
 use Rattle.tb_codegen.specs.declared.compiled.Compiled.{Compiled}
@@ -35,9 +33,8 @@ loads c image prg ends =
 
 compiled_loads : (seed : ℕ) (program : Program) (c : Compiled) → IsCompiled seed program c → IsLoadable c
 compiled_loads seed program c is =
-    let code = program_code seed (lowered.program_code program) in
-    let image = image_of PROLOGUE_AT code in
-    let sized : length image ≡ size code = all_size (labels_from PROLOGUE_AT code) PROLOGUE_AT code in
+    let image = image_of PROLOGUE_AT is.items in
+    let sized : length image ≡ size is.items = all_size (labels_from PROLOGUE_AT is.items) PROLOGUE_AT is.items in
     loads c image is.prg (omega (arith, sized, is.ends))
 
 outcome_loads : (seed : ℕ) (c : Compiled) (outcome : Outcome) → OutcomeAnswer seed outcome (Ok c) → IsLoadable c

@@ -15,12 +15,10 @@ use Rattle.tb_kernal.specs.declared.status.Status.TheVariants.{Running, Waits as
 use Rattle.tb_kernal.specs.Machine.{State, Content, state_of, status}
 use Rattle.tb_kernal.specs.Starts.{LieAt, HoldsBytes}
 use Rattle.tb_syntax.specs.Source.{Program}
-use Rattle.tb_lower.specs.Lowered as lowered
 use Rattle.tb_lower.specs.Meaning.{source_run}
 use Rattle.tb_lower.specs.Steps.{End, Ended, Faulted, Waits, Over}
 use Rattle.tb_parser.specs.Files.{Outcome}
 use Rattle.tb_runtime16.specs.Places.{PROLOGUE_AT}
-use Rattle.tb_templates.specs.Program.{program_code}
 use Rattle.tb_runtime16.specs.Laws.{AllBytes}
 use Rattle.tb_keeping.specs.Kept.{Starts, HasEnded, IsSound, Keeps}
 use Rattle.tb_codegen.specs.declared.compiled.Compiled.{Compiled}
@@ -158,7 +156,7 @@ module _ {O : Type 0} (gives : O → Content → Event → O → Type 0) (o : O)
       (kept.program, kept.made, subst (λ x. ShowsOutput kept.program seed keys answers x.1 x.0) (sym is) (shows kept.program seed begun (state_of n) n.regs.pc t sound ran.answer.0))
   runs_loaded (Err e) (is, closed) = absurd (closed (in_ram (length bytes) kept.ends))
 
-  runs_source : (x : Product) → RunsPrg gives o keys answers limit file x → RunsSource seed keys answers source x
+  pub runs_source : (x : Product) → RunsPrg gives o keys answers limit file x → RunsSource seed keys answers source x
   runs_source x runs = runs_loaded x (subst (λ c. RunsContent gives o c keys answers limit x) kept.content runs)
 
   -- what is made by running the file is made by running the source
@@ -180,9 +178,8 @@ image_loads image h =
 module _ (seed : ℕ) (source : List ℕ) (c : Compiled) where
   answer_loads : (outcome : Outcome) → OutcomeAnswer seed outcome (Ok c) → IsLoaded (prg_of c)
   answer_loads (Ok program) is =
-      let items = program_code seed (lowered.program_code program) in
-      let l = all_size (labels_from PROLOGUE_AT items) PROLOGUE_AT items in
-      subst IsLoaded (sym is.prg) (image_loads (image_of PROLOGUE_AT items) (omega (arith, l, is.ends)))
+      let l = all_size (labels_from PROLOGUE_AT is.items) PROLOGUE_AT is.items in
+      subst IsLoaded (sym is.prg) (image_loads (image_of PROLOGUE_AT is.items) (omega (arith, l, is.ends)))
   answer_loads (Err r) none = absurd none
 
   -- a compiled file keeps its source

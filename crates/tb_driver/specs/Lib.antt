@@ -1,3 +1,4 @@
 pub mod Sources
 pub mod Output
 pub mod Stepping
+pub mod Playing

@@ -1,5 +1,5 @@
 -- What comes of a source and of commands.
-use Rattle.std.specs.Prelude.{ℕ, ◌≡◌, ◌≢◌, ◌⊎◌, List, [], length, Option, Result, Ok, Err}
+use Rattle.std.specs.Prelude.{ℕ, ◌≡◌, ◌≢◌, ◌⊎◌, List, [], length, Option, Ok, Err}
 use Rattle.std.specs.Io.KnownBytes.{Consumes}
 use Rattle.tb_memmap.specs.Bytes.{IsOpenRange}
 use Rattle.tb_prg.specs.Prg.{content_of}

@@ -2,12 +2,15 @@
 //! that is to be written, and then writes it. Those of sources stand here.
 #![tactic(auto)]
 
+mod playing;
 mod sources;
 mod stepping;
 
-pub use sources::{build, run_text};
+pub use playing::{play_compiled, read_source};
+pub use sources::{Program, build, run_text};
 pub use stepping::step_text;
-pub use tb_engines::{End, Outcome, Refusal, Report, asm_text, dis_text, run_prg};
+pub use tb_engines::{End, Outcome, Refusal, Report, asm_text, dis_text, run_prg, without_input};
+pub use tb_play::{MOST_TYPED, Played, play_file};
 pub use tb_streams::{
     Fault, InputError, KeyError, MOST_INPUT, Tracked, address, host_form, key_list, read_input,
     write_output,

@@ -20,13 +20,15 @@ use tb_streams::{Tracked, read_input};
 
 /// A program that was compiled.
 #[derive(Drop)]
-struct Program {
-    prg: Vec<u8>,
-    warnings: Vec<Warning>,
+pub struct Program {
+    /// The PRG file.
+    pub prg: Vec<u8>,
+    /// The jumps to lines that aren't there.
+    pub warnings: Vec<Warning>,
 }
 
-// Compiles a source with a first state of RND.
-fn compile_source(alloc: Global, source: &[u8], seed: u16) -> Result<Program, CompileError>
+/// Compiles a source with a first state of RND.
+pub fn compile_source(alloc: Global, source: &[u8], seed: u16) -> Result<Program, CompileError>
     ensures compiled { IsCompiled seed source.now result }
     ensures keeps { IfOk result (λ program. KeepsSource seed source.now program.prg.items) }
 {
@@ -83,8 +85,8 @@ pub fn build<R: Read, W: Write>(
     }
 }
 
-// Keys are bytes: nothing is done, the proof of `run_compiled` takes it from here.
-fn are_bytes(keys: &[u8])
+// Keys are bytes: nothing is done, the proofs of `run_compiled` and `play_compiled` take it from here.
+pub fn are_bytes(keys: &[u8])
     ensures { AllBytes keys.now }
 {}
 

@@ -1,14 +1,11 @@
 -- The law of each instruction that is a group of its own.
-use Rattle.std.proofs.Common.{◌≡◌, ℕ, ◌+◌, ◌%◌, Bool, true, false, ◌||◌, if◌then◌else◌, List, [], ◌∷◌, length, refl, sym, ap, ◌∙◌, subst, arith}
-use Rattle.std.specs.Prelude.{slice_index, nat_eq, nat_le, nat_lt, drop}
-use Rattle.tb_words.specs.Words.{digits_of, seed_after}
+use Rattle.std.proofs.Common.{◌≡◌, ℕ, ◌+◌, Bool, true, false, if◌then◌else◌, List, [], ◌∷◌, length, refl, sym, ap, ◌∙◌, subst, arith}
+use Rattle.std.specs.Prelude.{nat_eq, nat_lt, drop}
 use Rattle.tb_kernal.specs.Machine.{first_or_zero}
 use Rattle.tb_lower.specs.Control.{At, Place, State, answered, column_after, deepest, fault, fault_text, has_line, next_after, return_to, zone}
 use Rattle.tb_lower.specs.Input.{Bad, Dry, Got, Nothing, Turn, take_turn, turn}
-use Rattle.tb_lower.specs.Meaning.{with_value}
-use Rattle.tb_lower.specs.Slots.{Instr, Put, Load, Store, Negate, Compute, Random, SendText, SendNumber, SendZone, SendNewline, Input, Poll, Hold, LeaveUnless, Jump, Call, JumpTo, CallTo, Return, End, Slots, SlotCode, SlotState, Stays, act, leaving, settled, staying, with_word}
+use Rattle.tb_lower.specs.Slots.{Instr, Put, Load, Store, Negate, Compute, Random, SendText, SendNumber, SendZone, SendNewline, Input, Poll, Hold, LeaveUnless, Jump, Call, JumpTo, CallTo, Return, End, Slots, SlotCode, SlotState, act, leaving, settled, staying}
 use Rattle.tb_lower.specs.Steps.{Goes, Step, after_sending}
-use Rattle.tb_lower.specs.Values.{Fails, Gives}
 use Rattle.tb_reaching.proofs.Comes.{looser}
 use Rattle.tb_reaching.specs.View.{Comes, Fits, Setup, View}
 use Rattle.tb_runtime16.specs.Laws.{AllBytes}
@@ -18,14 +15,13 @@ use Rattle.tb_keeping.proofs.Joins.{sent_in}
 use Rattle.tb_selection.specs.Groups.{Single}
 use Rattle.tb_selection.specs.Select.{alone}
 use Rattle.tb_grouping.proofs.Asking.{input_fails, input_law, input_waits, poll_breaks, poll_law}
-use Rattle.tb_grouping.proofs.Drawing.{random_fails, random_law}
-use Rattle.tb_grouping.proofs.Finding.{call_fails, call_found, call_full, jump_fails, jump_found, return_fails, return_law}
+use Rattle.tb_grouping.proofs.Finding.{return_fails, return_law}
 use Rattle.tb_grouping.proofs.Leaving.{call_to_fails, call_to_found, call_to_full, end_law, to_fails, to_found}
 use Rattle.tb_grouping.proofs.Matching.{Target}
-use Rattle.tb_grouping.proofs.Polled.{GroupsLaid}
-use Rattle.tb_grouping.proofs.Quiet.{load_law, negate_law, put_law}
+use Rattle.tb_grouping.proofs.Coded.{GroupsLaid}
+use Rattle.tb_grouping.proofs.Quiet.{load_law, put_law}
 use Rattle.tb_grouping.proofs.Ready.{Ready}
-use Rattle.tb_grouping.proofs.Sending.{newline_law, number_law, text_law, zone_law}
+use Rattle.tb_grouping.proofs.Sending.{newline_law, text_law, zone_law}
 
 module _ (ly : Layout) (f : Setup) (lo hi keys : ℕ) (fits : Fits f 16) (limit : ℕ) (rs : Routines ly.table ly.seed ly.numbers ly.start f lo hi keys limit) (code : SlotCode) (laid : GroupsLaid ly f.code f.whole code) where
   abbrev most : ℕ
@@ -38,19 +34,6 @@ module _ (ly : Layout) (f : Setup) (lo hi keys : ℕ) (fits : Fits f 16) (limit 
   module _ (n : ℕ) (is : List Instr) (s : State) (r : Slots) (w : View) where
     abbrev Begins : Instr → Type 0
     Begins i = Ready ly f lo hi keys fits n (Single i) (i ∷ is) is s r w
-
-    by_bound : (k : ℕ) → Begins (Random k) → (t : Bool) → (nat_eq (slice_index r.words k) 0 || nat_le 32768 (slice_index r.words k)) ≡ t → Leads w (settled n is r (with_value n (if t then Fails 3 else Gives (seed_after s.seed % slice_index r.words k) (seed_after s.seed)) s (λ v s'. Goes (Stays s' (with_word r k v)) [])))
-    by_bound k h true e = looser f w _ _ (fault_text 3 n) (17 + limit) most (omega arith) (λ u x. x) (random_fails ly f lo hi keys fits limit rs laid.seed_small code n is s r w k h e)
-    by_bound k h false e = looser f w _ _ [] (17 + limit) most (omega arith) (λ u x. x) (random_law ly f lo hi keys fits limit rs laid.seed_small code n is s r w k h e)
-
-    by_line : Begins Jump → (t : Bool) → has_line ly.numbers (slice_index r.words 0) ≡ t → Leads w (settled n is r (leaving (if t then Goes (record s { place = At (slice_index r.words 0) }) [] else fault 1 n)))
-    by_line h true e = looser f w _ _ [] (19 + limit) most (omega arith) (λ u x. x) (jump_found ly f lo hi keys fits limit rs code laid n is s r w h e)
-    by_line h false e = looser f w _ _ (fault_text 1 n) (19 + limit) most (omega arith) (λ u x. x) (jump_fails ly f lo hi keys fits limit rs code laid n is s r w h e)
-
-    by_room : Begins Call → (t u : Bool) → has_line ly.numbers (slice_index r.words 0) ≡ t → nat_lt (length s.returns) deepest ≡ u → Leads w (settled n is r (leaving (if t then (if u then Goes (record s { place = At (slice_index r.words 0); returns = next_after ly.numbers n ∷ s.returns }) [] else fault 4 n) else fault 1 n)))
-    by_room h false u e e' = looser f w _ _ (fault_text 1 n) (19 + limit) most (omega arith) (λ u x. x) (call_fails ly f lo hi keys fits limit rs code laid n is s r w h e)
-    by_room h true false e e' = call_full ly f lo hi keys fits limit rs code laid n is s r w h e e'
-    by_room h true true e e' = call_found ly f lo hi keys fits limit rs code laid n is s r w h e e'
 
     by_number : (k : ℕ) → Begins (JumpTo k) → (t : Bool) → has_line ly.numbers k ≡ t → Leads w (settled n is r (leaving (if t then Goes (record s { place = At k }) [] else fault 1 n)))
     by_number k h true e = looser f w _ _ [] 1 most (omega arith) (λ u x. x) (to_found ly f lo hi keys fits limit rs code laid n is s r w k h e)
@@ -87,19 +70,19 @@ module _ (ly : Layout) (f : Setup) (lo hi keys : ℕ) (fits : Fits f 16) (limit 
     act_law (Put k v) a h = looser f w _ _ [] 4 most (omega arith) (λ u x. x) (put_law ly f lo hi keys fits code n is s r w k v h)
     act_law (Load k x) a h = looser f w _ _ [] 4 most (omega arith) (λ u x. x) (load_law ly f lo hi keys fits code n is s r w k x h)
     act_law (Store x) a h = absurd (let no : ⊥ = cc in no)
-    act_law (Negate k) a h = looser f w _ _ [] 7 most (omega arith) (λ u x. x) (negate_law ly f lo hi keys fits code n is s r w k h)
+    act_law (Negate k) a h = absurd (let no : ⊥ = cc in no)
     act_law (Compute op k) a h = absurd (let no : ⊥ = cc in no)
-    act_law (Random k) a h = by_bound k h (nat_eq (slice_index r.words k) 0 || nat_le 32768 (slice_index r.words k)) refl
+    act_law (Random k) a h = absurd (let no : ⊥ = cc in no)
     act_law (SendText t) a h = looser f w _ _ t (8 + limit) most (omega arith) (λ u x. x) (text_law ly f lo hi keys fits limit rs code n is s r w t h)
-    act_law SendNumber a h = looser f w _ _ (digits_of (slice_index r.words 0)) (5 + limit) most (omega arith) (λ u x. x) (number_law ly f lo hi keys fits limit rs code n is s r w h)
+    act_law SendNumber a h = absurd (let no : ⊥ = cc in no)
     act_law SendZone a h = looser f w _ _ (zone s.column) (1 + limit) most (omega arith) (λ u x. x) (zone_law ly f lo hi keys fits limit rs code n is s r w h)
     act_law SendNewline a h = looser f w _ _ (13 ∷ []) (2 + limit) most (omega arith) (λ u x. x) (newline_law ly f lo hi keys fits limit rs code n is s r w h)
     act_law (Input x) a h = by_turn x h s.open_line refl (turn Nothing s.text) refl
     act_law Poll a h = by_answers h s.answers refl
     act_law Hold a h = absurd (let no : ⊥ = cc in no)
     act_law (LeaveUnless rel) a h = absurd (let no : ⊥ = cc in no)
-    act_law Jump a h = by_line h (has_line ly.numbers (slice_index r.words 0)) refl
-    act_law Call a h = by_room h (has_line ly.numbers (slice_index r.words 0)) (nat_lt (length s.returns) deepest) refl refl
+    act_law Jump a h = absurd (let no : ⊥ = cc in no)
+    act_law Call a h = absurd (let no : ⊥ = cc in no)
     act_law (JumpTo k) a h = by_number k h (has_line ly.numbers k) refl
     act_law (CallTo k) a h = by_number_room k h (has_line ly.numbers k) (nat_lt (length s.returns) deepest) refl refl
     act_law Return a h = by_notes h s.returns refl

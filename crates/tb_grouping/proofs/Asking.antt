@@ -15,10 +15,10 @@ use Rattle.tb_runtime16.specs.Routines.{Asked, Here, Moves, Routines, Waiting, W
 use Rattle.tb_runtime16.specs.Places.{HOME_S, INPUT_AT, LINE, OPEN, POLL_AT, RESULT}
 use Rattle.tb_templates.specs.Templates.{var_at}
 use Rattle.tb_keeping.specs.Layout.{Layout}
-use Rattle.tb_keeping.proofs.Asks.{Leaves, turn_short}
+use Rattle.tb_keeping.proofs.Turns.{Leaves, turn_short}
 use Rattle.tb_keeping.proofs.Frames.{column_mod, owned_low, put_away, word_put}
 use Rattle.tb_keeping.proofs.Pieces.{calls, copies, put_word}
-use Rattle.tb_keeping.proofs.Templates.{back_here, behind_call, homed_kept, moved}
+use Rattle.tb_keeping.proofs.Returning.{back_here, behind_call, homed_kept, moved}
 use Rattle.tb_selection.specs.Groups.{IntoHome, IntoVariable, Single}
 use Rattle.tb_selection.specs.Liveness.{live}
 use Rattle.tb_grouping.proofs.Frames.{live_same, state_asked}
@@ -37,13 +37,13 @@ module _ (ly : Layout) (f : Setup) (lo hi keys : ℕ) (fits : Fits f 16) (limit 
 
   module _ (x : ℕ) (h : Ready ly f lo hi keys fits n (Single (Input x)) (Input x ∷ is) is s r w) (o : Bool) (opened : s.open_line ≡ o) where
     abbrev m : ℕ → ℕ
-    m = lined ly f lo hi keys fits n (Input x) is s r w h
+    m = lined ly f lo hi keys fits n _ _ is s r w h
 
     c : Kept ly f lo hi keys fits (live is) s r m
-    c = kept_lined ly f lo hi keys fits n (Input x) is s r w h
+    c = kept_lined ly f lo hi keys fits n _ _ is s r w h
 
     number : WordAt m LINE n
-    number = numbered ly f lo hi keys fits n (Input x) is s r w h
+    number = numbered ly f lo hi keys fits n _ _ is s r w h
 
     -- the state behind a number that was read, without and with it
     abbrev read_state : Bool → List ℕ → State
@@ -55,7 +55,7 @@ module _ (ly : Layout) (f : Setup) (lo hi keys : ℕ) (fits : Fits f 16) (limit 
     asks : (q : View → Type 0) (t : List ℕ) (b : ℕ) → Moves f (Here INPUT_AT ((at + 2) % 256 ∷ (at + 2) / 256 ∷ own) m s.text w.answers) q t b → Comes f w q t (4 + (1 + b))
     asks q t b next =
         let lies = h.lies.2 in
-        lines ly f lo hi keys fits n (Input x) is s r w h h.lies.0 h.lies.1 q t (1 + b) (λ u e.
+        lines ly f lo hi keys fits n _ _ is s r w h h.lies.0 h.lies.1 q t (1 + b) (λ u e.
         chained f u _ q [] t 1 b (calls f 16 fits at own m s.text w.answers refl INPUT_AT refl lies.0 lies.1 u (record { pc = e.pc; stack = e.stack; binary = e.binary; mem = e.mem; text = e.text ∙ h.text; answers = e.answers })) next)
 
     is_open : m OPEN ≡ bit o
@@ -104,10 +104,10 @@ module _ (ly : Layout) (f : Setup) (lo hi keys : ℕ) (fits : Fits f 16) (limit 
 
   module _ (h : Ready ly f lo hi keys fits n (Single Poll) (Poll ∷ is) is s r w) where
     abbrev polled : ℕ → ℕ
-    polled = lined ly f lo hi keys fits n Poll is s r w h
+    polled = lined ly f lo hi keys fits n _ _ is s r w h
 
     kept_polled : Kept ly f lo hi keys fits (live is) s r polled
-    kept_polled = kept_lined ly f lo hi keys fits n Poll is s r w h
+    kept_polled = kept_lined ly f lo hi keys fits n _ _ is s r w h
 
     answered_state : (left : List ℕ) (m : ℕ → ℕ) → HoldsState ly s m → HoldsState ly (record s { answers = left }) m
     answered_state left m hs = record { vars = hs.vars; column = hs.column; opened = hs.opened; seeded = hs.seeded; count = hs.count; notes = hs.notes; few = hs.few; all_vars = hs.all_vars }
@@ -116,19 +116,19 @@ module _ (ly : Layout) (f : Setup) (lo hi keys : ℕ) (fits : Fits f 16) (limit 
     poll_law left q small other =
         let lies = h.lies.2 in
         looser f w _ _ [] (4 + (1 + limit)) (5 + limit) (omega arith) (λ u x. x)
-        (lines ly f lo hi keys fits n Poll is s r w h h.lies.0 h.lies.1 _ [] (1 + limit) (λ u e.
+        (lines ly f lo hi keys fits n _ _ is s r w h h.lies.0 h.lies.1 _ [] (1 + limit) (λ u e.
         chained f u _ _ [] [] 1 limit (calls f 16 fits at own polled w.text w.answers refl POLL_AT refl lies.0 lies.1 u e) (λ u e.
         looser f u _ _ [] limit limit (omega arith)
         (λ v g.
         let k = kept_scratch ly f lo hi keys fits (live is) s r polled v.mem h.few_behind g.others kept_polled in
         stood ly f lo hi keys fits code n h.small is (record s { answers = left }) r (w.regs.pc + 13) v.mem w.text (drop 1 w.answers) h.rest (answered_state left v.mem k.state) k.read k.homed h.text (ap (drop 1) h.answers ∙ q) (record { short = h.short.short; text_bytes = h.short.text_bytes; answer_bytes = small }) v
         (back_here ly f lo hi keys fits _ (w.regs.pc + 13) polled w.text (drop 1 w.answers) v g (behind_call ly f lo hi keys fits at lies.0 ∙ (let e : at + 3 ≡ w.regs.pc + 13 = omega arith in e))))
-        (rs.poll _ _ polled w.text w.answers n (subst AllBytes (sym h.answers) h.short.answer_bytes) (ap (λ l. nat_eq (first_or_zero l) 3) h.answers ∙ other) (numbered ly f lo hi keys fits n Poll is s r w h) kept_polled.homed u e))))
+        (rs.poll _ _ polled w.text w.answers n (subst AllBytes (sym h.answers) h.short.answer_bytes) (ap (λ l. nat_eq (first_or_zero l) 3) h.answers ∙ other) (numbered ly f lo hi keys fits n _ _ is s r w h) kept_polled.homed u e))))
 
     pub poll_breaks : nat_eq (first_or_zero s.answers) 3 ≡ true → Comes f w (IsHome f) (fault_text 0 n) (5 + limit)
     poll_breaks three =
         let lies = h.lies.2 in
         looser f w _ _ (fault_text 0 n) (4 + (1 + limit)) (5 + limit) (omega arith) (λ u x. x)
-        (lines ly f lo hi keys fits n Poll is s r w h h.lies.0 h.lies.1 _ (fault_text 0 n) (1 + limit) (λ u e.
+        (lines ly f lo hi keys fits n _ _ is s r w h h.lies.0 h.lies.1 _ (fault_text 0 n) (1 + limit) (λ u e.
         chained f u _ _ [] (fault_text 0 n) 1 limit (calls f 16 fits at own polled w.text w.answers refl POLL_AT refl lies.0 lies.1 u e)
-        (rs.poll_breaks _ _ polled w.text w.answers n (subst AllBytes (sym h.answers) h.short.answer_bytes) (ap (λ l. nat_eq (first_or_zero l) 3) h.answers ∙ three) (numbered ly f lo hi keys fits n Poll is s r w h) kept_polled.homed)))
+        (rs.poll_breaks _ _ polled w.text w.answers n (subst AllBytes (sym h.answers) h.short.answer_bytes) (ap (λ l. nat_eq (first_or_zero l) 3) h.answers ∙ three) (numbered ly f lo hi keys fits n _ _ is s r w h) kept_polled.homed)))

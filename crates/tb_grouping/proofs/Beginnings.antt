@@ -6,11 +6,11 @@ use Rattle.tb_lower.specs.Slots.{Instr, SlotCode, Whole, Slots, SlotState, slot_
 use Rattle.tb_syntax.specs.Source.{numbers}
 use Rattle.tb_reaching.specs.View.{Setup, View}
 use Rattle.tb_keeping.specs.Layout.{Layout, place_at}
-use Rattle.tb_keeping.proofs.Mirrors.{Mirrors}
+use Rattle.tb_keeping.proofs.Mirrors.{Opens}
 use Rattle.tb_selection.specs.Groups.{Group, expand}
 use Rattle.tb_selection.specs.Liveness.{nothing_live}
 use Rattle.tb_selection.specs.Select.{select}
-use Rattle.tb_selection.specs.GroupSteps.{inside, steps, ahead, or_empty, first, group_step}
+use Rattle.tb_selection.specs.GroupSteps.{inside, steps, ahead, or_empty, first, first_group}
 use Rattle.tb_selection.specs.Laws.{AreClosed}
 use Rattle.tb_selection.proofs.GroupRuns.{expand_some}
 use Rattle.tb_grouping.proofs.Coded.{GroupsLie}
@@ -22,9 +22,9 @@ pub nothing_read : (r : Slots) (m : ℕ → ℕ) → length r.words ≡ 16 → H
 nothing_read r m all = record { words = λ k lt. absurd (omega (arith, lt)); held = λ q. absurd (let no : ⊥ = cc in no); all_words = all }
 
 module _ (ly : Layout) (f : Setup) (lo hi keys : ℕ) where
-  -- the old relation at a place gives the new one, from its facts on the state alone
-  pub from_old : (s : State) (r : Slots) (w : View) → Mirrors ly f lo hi keys (record { state = s; rest = Whole; slots = r }) w → Matches ly f lo hi keys (record { state = s; rest = Whole; slots = r }) w
-  from_old s r w h = record {
+  -- the start of a run is related
+  pub from_opened : (s : State) (r : Slots) (w : View) → Opens ly f lo hi keys s r w → Matches ly f lo hi keys (record { state = s; rest = Whole; slots = r }) w
+  from_opened s r w h = record {
     pc = h.pc;
     stack = h.stack;
     binary = h.binary;
@@ -68,5 +68,5 @@ module _ (code : SlotCode) (n : ℕ) (is : List Instr) (s : State) (r : Slots) (
       by : (i : Instr) × (js : List Instr) × (expand g ≡ i ∷ js) → steps code (expand g) at_line ≡ steps code (expand g) (line code n is s r)
       by e = subst (λ l. steps code l at_line ≡ steps code l (line code n is s r)) (sym e.2) (same_steps e.0 e.1)
 
-  pub line_step : group_step code at_line ≡ group_step code (line code n is s r)
+  pub line_step : first_group code at_line ≡ first_group code (line code n is s r)
   line_step = ap (λ p. first code (select (ahead code Whole p)) at_line) here ∙ ap (λ o. first code (select (or_empty o)) at_line) some ∙ same_first (select is)

@@ -15,14 +15,17 @@ use Rattle.tb_keeping.specs.Layout.{Layout}
 use Rattle.tb_keeping.proofs.Joins.{sent_in}
 use Rattle.tb_keeping.proofs.Resolved.{size}
 use Rattle.tb_selection.specs.Groups.{Operand, Destination, Calculate, slot_of, expand}
+use Rattle.tb_selection.specs.Liveness.{live}
 use Rattle.tb_selection.specs.Select.{select}
 use Rattle.tb_selection.specs.GroupSteps.{steps}
-use Rattle.tb_grouping.proofs.Coded.{GroupsLie, source_of, destination_at, summed, taken}
+use Rattle.tb_templates.specs.Sources.{source_of, destination_at}
+use Rattle.tb_grouping.proofs.Coded.{GroupsLie, summed, taken}
+use Rattle.tb_grouping.proofs.Lone.{kept, word_lands}
 use Rattle.tb_grouping.proofs.Matching.{Matches, Target}
-use Rattle.tb_grouping.proofs.SlotSide.{line, landed, calculated, spread, fetched, calculate_goes, left_asked, right_asked}
+use Rattle.tb_grouping.proofs.SlotSide.{line, landed, calculate_lasting, calculated, spread, fetched, with_fetched, calculate_goes, left_asked, right_asked}
 use Rattle.tb_grouping.proofs.Operands.{calc_fits, operand_held, operand_grounded, dest_in_data}
 use Rattle.tb_grouping.proofs.Sums.{sums, differs}
-use Rattle.tb_grouping.proofs.Ready.{Ready, here, calculate_lands}
+use Rattle.tb_grouping.proofs.Ready.{Ready, here}
 
 -- the carry of a sum
 carried_over : (n : ℕ) → n < 512 → bit (nat_lt 255 n) ≡ n / 256
@@ -38,7 +41,7 @@ added_word al ah bl bh a b p q s t ra rb =
     let c = carried_over (al + bl + 0) (omega (arith, p, s)) in
     (omega (arith, p, s), omega (arith, c, p, q, s, t, ra, rb))
 
-subtracted_word : (al ah bl bh a b : ℕ) → al ≡ a % 256 → ah ≡ a / 256 → bl ≡ b % 256 → bh ≡ b / 256 → a < 65536 → b < 65536 → ((al + 256 - (bl + 0)) % 256 ≡ word (a + (65536 - b)) % 256) × ((ah + 256 - (bh + bit (not (nat_le (bl + 0) al)))) % 256 ≡ word (a + (65536 - b)) / 256)
+pub subtracted_word : (al ah bl bh a b : ℕ) → al ≡ a % 256 → ah ≡ a / 256 → bl ≡ b % 256 → bh ≡ b / 256 → a < 65536 → b < 65536 → ((al + 256 - (bl + 0)) % 256 ≡ word (a + (65536 - b)) % 256) × ((ah + 256 - (bh + bit (not (nat_le (bl + 0) al)))) % 256 ≡ word (a + (65536 - b)) / 256)
 subtracted_word al ah bl bh a b p q s t ra rb = (omega (arith, p, s, rb), go (nat_le (bl + 0) al) refl)
   where
     go : (x : Bool) → nat_le (bl + 0) al ≡ x → (ah + 256 - (bh + bit (not x))) % 256 ≡ word (a + (65536 - b)) / 256
@@ -66,7 +69,7 @@ module _ (ly : Layout) (f : Setup) (lo hi keys : ℕ) (fits : Fits f 16) (code :
       let behind : w.regs.pc + (size text + 0) ≡ w.regs.pc + size text = omega arith in
       goes op.Add (word (x + y)) 7 (calculate_goes code n op.Add a b d is s r h.read.all_words fit.slot (word (x + y)) refl)
       (looser f w _ _ [] 7 7 (omega arith)
-      (calculate_lands ly f lo hi keys fits code n h.small op.Add a b d is s r (word (x + y)) _ _ (w.regs.pc + size text) w.mem w.text w.answers sum.0 sum.1 (omega arith) fit.dest h.free (subst (λ p. GroupsLie ly f.code n p (select is)) behind h.rest) h.state h.read h.homed h.text h.answers h.short)
+      (word_lands ly f lo hi keys fits code n h.small (live (spread op.Add a b d is)) d is s r (with_fetched s (with_fetched s r k a) (k + 1) b) (word (x + y)) _ _ (w.regs.pc + size text) w.mem w.text w.answers sum.0 sum.1 (omega arith) fit.dest (calculate_lasting op.Add a b d is s r h.free) (subst (λ p. GroupsLie ly f.code n p (select is)) behind h.rest) (kept ly f lo hi keys fits n _ _ is s r w h) h.text h.answers h.short)
       (sums f 16 fits w.regs.pc (lo ∷ hi ∷ []) w.mem w.text w.answers refl (source_of k a) (source_of (k + 1) b) (destination_at d) h.lies.0 (operand_grounded k a d (omega (arith, fit.slot)) fit.left) (operand_grounded (k + 1) b d fit.slot fit.right) (dest_in_data d fit.dest) h.lies.1 w (here ly f lo hi keys fits w [] [] h.stack h.binary)))
 
   pub subtract_law : Ready ly f lo hi keys fits n (Calculate op.Subtract a b d) (spread op.Subtract a b d is) is s r w → Leads op.Subtract 7
@@ -82,5 +85,5 @@ module _ (ly : Layout) (f : Setup) (lo hi keys : ℕ) (fits : Fits f 16) (code :
       let behind : w.regs.pc + (size text + 0) ≡ w.regs.pc + size text = omega arith in
       goes op.Subtract (word (x + (65536 - y))) 7 (calculate_goes code n op.Subtract a b d is s r h.read.all_words fit.slot (word (x + (65536 - y))) refl)
       (looser f w _ _ [] 7 7 (omega arith)
-      (calculate_lands ly f lo hi keys fits code n h.small op.Subtract a b d is s r (word (x + (65536 - y))) _ _ (w.regs.pc + size text) w.mem w.text w.answers sum.0 sum.1 (omega arith) fit.dest h.free (subst (λ p. GroupsLie ly f.code n p (select is)) behind h.rest) h.state h.read h.homed h.text h.answers h.short)
+      (word_lands ly f lo hi keys fits code n h.small (live (spread op.Subtract a b d is)) d is s r (with_fetched s (with_fetched s r k a) (k + 1) b) (word (x + (65536 - y))) _ _ (w.regs.pc + size text) w.mem w.text w.answers sum.0 sum.1 (omega arith) fit.dest (calculate_lasting op.Subtract a b d is s r h.free) (subst (λ p. GroupsLie ly f.code n p (select is)) behind h.rest) (kept ly f lo hi keys fits n _ _ is s r w h) h.text h.answers h.short)
       (differs f 16 fits w.regs.pc (lo ∷ hi ∷ []) w.mem w.text w.answers refl (source_of k a) (source_of (k + 1) b) (destination_at d) h.lies.0 (operand_grounded k a d (omega (arith, fit.slot)) fit.left) (operand_grounded (k + 1) b d fit.slot fit.right) (dest_in_data d fit.dest) h.lies.1 w (here ly f lo hi keys fits w [] [] h.stack h.binary)))

@@ -1,54 +1,35 @@
 -- The code of groups as instructions at their places.
-use Rattle.std.specs.Prelude.{ℕ, ◌+◌, ◌-◌, ◌/◌, ◌%◌, ◌≤◌, ◌<◌, List, [], ◌∷◌, Bool, true, false, not, if◌then◌else◌}
+use Rattle.std.specs.Prelude.{◌≡◌, ℕ, ◌+◌, ◌/◌, ◌%◌, ◌≤◌, ◌<◌, List, [], ◌∷◌, ◌++◌, length, Bool, true, false, if◌then◌else◌, bit_xor, Some, None}
+use Rattle.tb_asm.specs.Layout.{distance, is_near}
+use Rattle.tb_syntax.specs.Source.{numbers}
 use Rattle.tb_reaching.specs.View.{Part}
-use Rattle.tb_reaching.proofs.Instr.{Instr, ins}
-use Rattle.tb_words.specs.Words.{word}
+use Rattle.tb_reaching.proofs.Instr.{Instr, ins, Stands}
 use Rattle.tb_words.specs.declared.Rel.{Rel}
 use Rattle.tb_words.specs.declared.Rel.TheVariants as rel
 use Rattle.tb_syntax.specs.declared.expressions.Operator.{Operator}
 use Rattle.tb_syntax.specs.declared.expressions.Operator.TheVariants.{Add, Subtract, Multiply, Divide}
-use Rattle.tb_lower.specs.Control.{has_line}
+use Rattle.tb_lower.specs.Control.{Place, content_at, has_line, highest}
 use Rattle.tb_lower.specs.Ranges.{AreInRange}
 use Rattle.tb_lower.specs.Slots as slots
-use Rattle.tb_runtime16.specs.Places.{HELD, LEFT, RIGHT, RESULT, LINE, MULTIPLY_AT, DIVIDE_AT}
-use Rattle.tb_templates.specs.Templates.{var_at, slot_at}
-use Rattle.tb_keeping.specs.Layout.{Layout, next_at}
-use Rattle.tb_keeping.proofs.Resolved.{Piece, Code, Lies, pieces_size, size, copied, constant, call, jump, template, highest_code}
-use Rattle.tb_selection.specs.Groups.{Operand, Constant, Variable, InSlot, Home, IntoVariable, IntoHeld, Destination, IntoSlot, IntoHome, Tested, HeldBefore, HeldNow, Group, Calculate, Move, Test, Single, slot_of, expand}
+use Rattle.tb_runtime16.specs.Places.{LEFT, RIGHT, RESULT, LINE, MULTIPLY_AT, DIVIDE_AT, RANDOM_AT, NUMBER_AT, PUSH_AT}
+use Rattle.tb_templates.specs.declared.sources.Source.{Source}
+use Rattle.tb_templates.specs.declared.sources.Source.TheVariants.{FixedWord, AtPlace}
+use Rattle.tb_templates.specs.GroupTemplates.{may_fault}
+use Rattle.tb_templates.specs.Sources.{source_of, tested_source, home_at, destination_at}
+use Rattle.tb_keeping.specs.Layout.{Layout, next_at, place_at}
+use Rattle.tb_keeping.proofs.Resolved.{Piece, Code, Lies, pieces_size, size, copied, constant, call, faulting, jump, jump_through, template, highest_code, locate_code, past_code}
+use Rattle.tb_selection.specs.Groups.{Conversion, Negated, Drawn, Usage, AsNumber, AsLine, AsSubroutine, Group, Calculate, Convert, Move, Use, Test, TestGo, Single, denied, slot_of, expand}
+use Rattle.tb_selection.specs.Select.{select}
 use Rattle.tb_grouping.proofs.Sources.{Byte, Fixed, At, lda, adc, sbc, cmp}
-
--- a word: a constant, or what stands at a place
-pub data Source : Type 0 where
-  Fixed_word : (w : ℕ) → Source
-  At_place : (p : ℕ) → Source
 
 -- its bytes
 abbrev pub low : Source → Byte
-low (Fixed_word w) = Fixed (w % 256)
-low (At_place p) = At p
+low (FixedWord w) = Fixed (w % 256)
+low (AtPlace p) = At p
 
 abbrev pub high : Source → Byte
-high (Fixed_word w) = Fixed (w / 256)
-high (At_place p) = At (p + 1)
-
--- where an operand comes from, where its slot is k
-abbrev pub source_of : ℕ → Operand → Source
-source_of k (Constant w) = Fixed_word (word w)
-source_of k (Variable x) = At_place (var_at x)
-source_of k InSlot = At_place (slot_at k)
-
-abbrev pub tested_source : Tested → Source
-tested_source HeldBefore = At_place HELD
-tested_source (HeldNow a) = source_of 0 a
-
--- where a result goes
-abbrev pub home_at : Home → ℕ
-home_at (IntoVariable x) = var_at x
-home_at IntoHeld = HELD
-
-abbrev pub destination_at : Destination → ℕ
-destination_at (IntoSlot k) = slot_at k
-destination_at (IntoHome home) = home_at home
+high (FixedWord w) = Fixed (w / 256)
+high (AtPlace p) = At (p + 1)
 
 -- ---- pieces
 abbrev pub brought : Source → ℕ → List Instr
@@ -64,98 +45,194 @@ taken a b to = ins 0x38 0 ∷ lda (low a) ∷ sbc (low b) ∷ ins 0x8D to ∷ ld
 abbrev pub weighed : Byte → Byte → List Instr
 weighed a b = lda a ∷ cmp b ∷ []
 
-abbrev pub routine : ℕ → Source → Source → ℕ → List Piece
-routine entry a b to = Code (brought a LEFT) ∷ Code (brought b RIGHT) ∷ Code (call entry) ∷ Code (copied RESULT to) ∷ []
+-- a routine's result is taken from where the routine leaves it
+abbrev pub routine : ℕ → ℕ → Source → Source → ℕ → List Piece
+routine entry from a b to = Code (brought a LEFT) ∷ Code (brought b RIGHT) ∷ Code (call entry) ∷ Code (copied from to) ∷ []
 
 -- a calculation of line n
 abbrev pub calc_code : ℕ → Operator → Source → Source → ℕ → List Piece
 calc_code n Add a b to = Code (summed a b to) ∷ []
 calc_code n Subtract a b to = Code (taken a b to) ∷ []
-calc_code n Multiply a b to = routine MULTIPLY_AT a b to
-calc_code n Divide a b to = Code (constant n LINE) ∷ routine DIVIDE_AT a b to
+calc_code n Multiply a b to = routine MULTIPLY_AT RESULT a b to
+calc_code n Divide a b to = Code (constant n LINE) ∷ routine DIVIDE_AT LEFT a b to
 
--- how far it is to the next line from behind a branch at an address
-abbrev pub ahead_to : ℕ → ℕ → ℕ
-ahead_to at next = next - (at + 2)
+-- a conversion of a word of line n: 0 minus it, or a random number below it
+abbrev pub convert_code : Layout → ℕ → Conversion → Source → ℕ → List Piece
+convert_code ly n Negated a to = Code (taken (FixedWord 0) a to) ∷ []
+convert_code ly n Drawn a to = Code (constant n LINE) ∷ routine RANDOM_AT RESULT a (FixedWord ly.seed) to
 
--- both bytes equal, else on to the next line
-abbrev pub equal_code : ℕ → Source → Source → ℕ → List Piece
-equal_code at a b next =
-    let first = at + size (weighed (low a) (low b)) in
-    let second = first + 2 + size (weighed (high a) (high b)) in
-    Code (weighed (low a) (low b)) ∷ Code (ins 0xD0 (ahead_to first next) ∷ []) ∷ Code (weighed (high a) (high b)) ∷ Code (ins 0xD0 (ahead_to second next) ∷ []) ∷ []
+-- the line table is searched for a word
+abbrev pub searched : Layout → ℕ → Source → List Piece → List Piece
+searched ly n a others = Code (constant n LINE) ∷ Code (brought a LEFT) ∷ Code (call ly.locate) ∷ others
 
--- the words' order: N behind the difference, turned where V is set, is whether a is below b; on to the next line else
-abbrev pub order_code : Source → Source → List Instr
-order_code a b = lda (low a) ∷ cmp (low b) ∷ lda (high a) ∷ sbc (high b) ∷ ins 0x50 2 ∷ ins 0x49 128 ∷ []
+-- a use of a word
+abbrev pub use_code : Layout → ℕ → Usage → Source → List Piece
+use_code ly n AsNumber a = Code (brought a LEFT) ∷ Code (call NUMBER_AT) ∷ []
+use_code ly n AsLine a = searched ly n a (Code jump_through ∷ [])
+use_code ly n AsSubroutine a = searched ly n a (Code (constant (next_at ly n) LEFT) ∷ Code (call PUSH_AT) ∷ Code jump_through ∷ [])
 
-abbrev pub less_code : ℕ → Source → Source → ℕ → List Piece
-less_code at a b next = Code (order_code a b) ∷ Code (ins 0x10 (ahead_to (at + size (order_code a b)) next) ∷ []) ∷ []
+-- ---- branches
+-- a flag that a branch asks
+pub data Flag : Type 0 where
+  Negative Overflow Carry Zero : Flag
 
--- and on to the next line where a is below b
-abbrev pub not_less_code : ℕ → Source → Source → ℕ → List Piece
-not_less_code at a b next = Code (order_code a b) ∷ Code (ins 0x30 (ahead_to (at + size (order_code a b)) next) ∷ []) ∷ []
+-- the opcode of the branch that is taken where a flag has this value
+abbrev pub branch_on : Flag → Bool → ℕ
+branch_on Negative false = 0x10
+branch_on Negative true = 0x30
+branch_on Overflow false = 0x50
+branch_on Overflow true = 0x70
+branch_on Carry false = 0x90
+branch_on Carry true = 0xB0
+branch_on Zero false = 0xD0
+branch_on Zero true = 0xF0
 
--- one byte differs, else on to the next line
-abbrev pub unequal_code : ℕ → Source → Source → ℕ → List Piece
-unequal_code at a b next =
-    let first = at + size (weighed (low a) (low b)) in
-    let second = first + 2 + size (weighed (high a) (high b)) in
-    Code (weighed (low a) (low b)) ∷ Code (ins 0xD0 (size (weighed (high a) (high b)) + 2) ∷ []) ∷ Code (weighed (high a) (high b)) ∷ Code (ins 0xF0 (ahead_to second next) ∷ []) ∷ []
+-- the opcode of the branch on the flag's other value: the two differ in bit 5
+abbrev pub opposite : ℕ → ℕ
+opposite opcode = bit_xor opcode 0x20
+
+-- a branch goes to its place by itself, or over a jump that does
+pub data Way : Type 0 where
+  Short Long : Way
+
+abbrev pub way_size : Way → ℕ
+way_size Short = 2
+way_size Long = 5
+
+-- a branch at an address to a place
+abbrev pub branch_code : Way → (opcode at to : ℕ) → List Instr
+branch_code Short opcode at to = ins opcode (distance at to % 256) ∷ []
+branch_code Long opcode at to = ins (opposite opcode) 3 ∷ jump to
+
+-- it gets there
+abbrev pub BranchReaches : Way → (at to : ℕ) → Type 0
+BranchReaches Short at to = (is_near (distance at to) ≡ true) × (to ≤ highest_code)
+BranchReaches Long at to = to ≤ highest_code
+
+-- ---- tests
+-- where the second branch of a test for equality is
+abbrev pub second_at : Way → (at : ℕ) → Source → Source → ℕ
+second_at first at a b = at + size (weighed (low a) (low b)) + way_size first + size (weighed (high a) (high b))
+
+-- where the first branch of such a test leads: out of the line, or behind the test where a difference is wanted
+abbrev pub first_to : Bool → (first second : Way) (at : ℕ) → Source → Source → ℕ → ℕ
+first_to false first second at a b next = next
+first_to true first second at a b next = second_at first at a b + way_size second
+
+-- on to the next line where two words differ, or, where a difference is wanted, where they are equal
+abbrev pub equality_code : Bool → (first second : Way) (at : ℕ) → Source → Source → ℕ → List Piece
+equality_code differ first second at a b next =
+    Code (weighed (low a) (low b))
+    ∷ Code (branch_code first (branch_on Zero false) (at + size (weighed (low a) (low b))) (first_to differ first second at a b next))
+    ∷ Code (weighed (high a) (high b))
+    ∷ Code (branch_code second (branch_on Zero differ) (second_at first at a b) next)
+    ∷ []
+
+abbrev pub EqualityReaches : Bool → (first second : Way) (at : ℕ) → Source → Source → ℕ → Type 0
+EqualityReaches differ first second at a b next =
+    BranchReaches first (at + size (weighed (low a) (low b))) (first_to differ first second at a b next) × BranchReaches second (second_at first at a b) next
+
+-- the difference of two words, of which N and V are looked at
+abbrev pub difference : Source → Source → List Instr
+difference a b = lda (low a) ∷ cmp (low b) ∷ lda (high a) ∷ sbc (high b) ∷ []
+
+-- where the branch over EOR of a test for order leads, and where its second branch is
+abbrev pub turned_at : Way → (at : ℕ) → Source → Source → ℕ
+turned_at first at a b = at + size (difference a b) + way_size first + 2
+
+-- N, turned where V is set, is whether a is below b: on to the next line where it is not, or, where that is wanted, where it is
+abbrev pub order_code : Bool → (first second : Way) (at : ℕ) → Source → Source → ℕ → List Piece
+order_code below first second at a b next =
+    Code (difference a b)
+    ∷ Code (branch_code first (branch_on Overflow false) (at + size (difference a b)) (turned_at first at a b))
+    ∷ Code (ins 0x49 128 ∷ [])
+    ∷ Code (branch_code second (branch_on Negative below) (turned_at first at a b) next)
+    ∷ []
+
+abbrev pub OrderReaches : (first second : Way) (at : ℕ) → Source → Source → ℕ → Type 0
+OrderReaches first second at a b next =
+    BranchReaches first (at + size (difference a b)) (turned_at first at a b) × BranchReaches second (turned_at first at a b) next
 
 -- a test by its relation
-abbrev pub test_code : Rel → ℕ → Source → Source → ℕ → List Piece
-test_code rel.Eq at a b next = equal_code at a b next
-test_code rel.Lt at a b next = less_code at a b next
-test_code rel.Ne at a b next = unequal_code at a b next
-test_code rel.Ge at a b next = not_less_code at a b next
-test_code rel.Gt at a b next = less_code at b a next
-test_code rel.Le at a b next = not_less_code at b a next
+abbrev pub test_code : Rel → (first second : Way) (at : ℕ) → Source → Source → ℕ → List Piece
+test_code rel.Eq first second at a b next = equality_code false first second at a b next
+test_code rel.Ne first second at a b next = equality_code true first second at a b next
+test_code rel.Lt first second at a b next = order_code false first second at a b next
+test_code rel.Ge first second at a b next = order_code true first second at a b next
+test_code rel.Gt first second at a b next = order_code false first second at b a next
+test_code rel.Le first second at a b next = order_code true first second at b a next
 
--- whether an instruction may fault, and so sets LINE first
-abbrev pub may_fault : Layout → slots.Instr → Bool
-may_fault ly (slots.Compute op k) = true
-may_fault ly (slots.Random k) = true
-may_fault ly (slots.Input x) = true
-may_fault ly slots.Poll = true
-may_fault ly slots.Jump = true
-may_fault ly slots.Call = true
-may_fault ly (slots.JumpTo target) = not (has_line ly.numbers target)
-may_fault ly (slots.CallTo target) = true
-may_fault ly slots.Return = true
-may_fault ly _ = false
+abbrev pub TestReaches : Rel → (first second : Way) (at : ℕ) → Source → Source → ℕ → Type 0
+TestReaches rel.Eq first second at a b next = EqualityReaches false first second at a b next
+TestReaches rel.Ne first second at a b next = EqualityReaches true first second at a b next
+TestReaches rel.Lt first second at a b next = OrderReaches first second at a b next
+TestReaches rel.Ge first second at a b next = OrderReaches first second at a b next
+TestReaches rel.Gt first second at a b next = OrderReaches first second at b a next
+TestReaches rel.Le first second at a b next = OrderReaches first second at b a next
 
--- an instruction alone: today's text, with LINE set before it where it may fault
+-- straight to a line where a test holds, and else on to the next line, which is behind it; where there is no such line,
+-- the test and then fault 1
+abbrev pub go_code : Layout → (n at : ℕ) (first second : Way) → Rel → Source → Source → Bool → ℕ → List Piece
+go_code ly n at first second rel a b true to = test_code (denied rel) first second at a b (ly.start to)
+go_code ly n at first second rel a b false to = test_code rel first second at a b (next_at ly n) ++ Code (constant n LINE) ∷ Code (faulting 1) ∷ []
+
+abbrev pub GoReaches : Layout → (n at : ℕ) (first second : Way) → Rel → Source → Source → Bool → ℕ → Type 0
+GoReaches ly n at first second rel a b true to = TestReaches (denied rel) first second at a b (ly.start to)
+GoReaches ly n at first second rel a b false to = TestReaches rel first second at a b (next_at ly n)
+
+-- ---- groups
+-- an instruction alone, with LINE set before it where it may fault
 abbrev pub alone_code : Layout → ℕ → ℕ → slots.Instr → List Piece
-alone_code ly n at i = if may_fault ly i then Code (constant n LINE) ∷ template ly n (at + 10) i else template ly n at i
+alone_code ly n at i = if may_fault ly.numbers i then Code (constant n LINE) ∷ template ly n (at + 10) i else template ly n at i
 
--- the code of a group of line n, at an address
-abbrev pub group_code : Layout → ℕ → ℕ → Group → List Piece
-group_code ly n at (Calculate op a b d) = calc_code n op (source_of (slot_of d) a) (source_of (slot_of d + 1) b) (destination_at d)
-group_code ly n at (Move a home) = Code (brought (source_of 0 a) (home_at home)) ∷ []
-group_code ly n at (Test rel a b) = test_code rel at (tested_source a) (source_of 0 b) (next_at ly n)
-group_code ly n at (Single i) = alone_code ly n at i
-
--- a branch at an address reaches
-abbrev pub Reaches : ℕ → ℕ → Type 0
-Reaches at next = (at + 2 ≤ next) × (next < at + 130) × (next ≤ highest_code)
-
--- the branches of a test reach
-abbrev pub TestReaches : Rel → ℕ → Source → Source → ℕ → Type 0
-TestReaches rel.Eq at a b next = Reaches (at + size (weighed (low a) (low b))) next × Reaches (at + size (weighed (low a) (low b)) + 2 + size (weighed (high a) (high b))) next
-TestReaches rel.Lt at a b next = Reaches (at + size (order_code a b)) next
-TestReaches rel.Ne at a b next = Reaches (at + size (weighed (low a) (low b)) + 2 + size (weighed (high a) (high b))) next
-TestReaches rel.Ge at a b next = Reaches (at + size (order_code a b)) next
-TestReaches rel.Gt at a b next = Reaches (at + size (order_code b a)) next
-TestReaches rel.Le at a b next = Reaches (at + size (order_code b a)) next
+-- the code of a group of line n, at an address, with the ways of its branches
+abbrev pub group_code : Layout → (n at : ℕ) (first second : Way) → Group → List Piece
+group_code ly n at first second (Calculate op a b d) = calc_code n op (source_of (slot_of d) a) (source_of (slot_of d + 1) b) (destination_at d)
+group_code ly n at first second (Convert what a d) = convert_code ly n what (source_of (slot_of d) a) (destination_at d)
+group_code ly n at first second (Move a home) = Code (brought (source_of 0 a) (home_at home)) ∷ []
+group_code ly n at first second (Use how a) = use_code ly n how (source_of 0 a)
+group_code ly n at first second (Test rel a b) = test_code rel first second at (tested_source a) (source_of 0 b) (next_at ly n)
+group_code ly n at first second (TestGo rel a b to) = go_code ly n at first second rel (tested_source a) (source_of 0 b) (has_line ly.numbers to) to
+group_code ly n at first second (Single i) = alone_code ly n at i
 
 -- the branches of a group reach
-abbrev pub BranchesReach : Layout → ℕ → ℕ → Group → Type 0
-BranchesReach ly n at (Test rel a b) = TestReaches rel at (tested_source a) (source_of 0 b) (next_at ly n)
-BranchesReach ly n at _ = Unit {0}
+abbrev pub BranchesReach : Layout → (n at : ℕ) (first second : Way) → Group → Type 0
+BranchesReach ly n at first second (Test rel a b) = TestReaches rel first second at (tested_source a) (source_of 0 b) (next_at ly n)
+BranchesReach ly n at first second (TestGo rel a b to) = GoReaches ly n at first second rel (tested_source a) (source_of 0 b) (has_line ly.numbers to) to
+BranchesReach ly n at first second _ = Unit {0}
 
--- the groups of the rest of line n, with the way to the next line behind them
-abbrev pub GroupsLie : Layout → Part → ℕ → ℕ → List Group → Type 0
-GroupsLie ly code n at [] = Lies code at (Code (jump (next_at ly n)) ∷ [])
+-- the groups of the rest of line n, behind which the next line begins
+abbrev pub GroupsLie : Layout → Part → (n at : ℕ) → List Group → Type 0
+GroupsLie ly code n at [] = at ≡ next_at ly n
 GroupsLie ly code n at (g ∷ gs) =
-    AreInRange 256 (expand g) × Lies code at (group_code ly n at g) × GroupsLie ly code n (at + pieces_size (group_code ly n at g)) gs × BranchesReach ly n at g × (0x0800 ≤ at)
+    (first second : Way) × AreInRange 256 (expand g) × Lies code at (group_code ly n at first second g) × GroupsLie ly code n (at + pieces_size (group_code ly n at first second g)) gs × BranchesReach ly n at first second g × (0x0800 ≤ at)
+
+-- ---- lines
+-- behind the call of GETIN, at an address: a break sets the line's number and faults
+abbrev pub poll_code : (n at : ℕ) → Way → List Piece
+poll_code n at way = Code (ins 0xC9 3 ∷ []) ∷ Code (branch_code way (branch_on Zero false) (at + 2) (at + 17 + way_size way)) ∷ Code (constant n LINE) ∷ Code (faulting 0) ∷ []
+
+-- a line whose list begins with a poll; its first instruction is among all the program's bytes only
+abbrev pub LineStands : Layout → (code whole : Part) (n at : ℕ) → List slots.Instr → Type 0
+LineStands ly code whole n at is =
+    (way : Way) × (at + 3 ≤ highest_code) × Stands whole at (call 0xFFE4) × Lies code (at + 3) (poll_code n (at + 3) way) × BranchReaches way (at + 5) (at + 20 + way_size way) × GroupsLie ly code n (at + 20 + way_size way) (select is)
+
+-- a list that begins with a poll, the rest of which stands behind it
+pub record PolledLine (ly : Layout) (code whole : Part) (n : ℕ) (js : List slots.Instr) : Type 0 where
+  pub rest : List slots.Instr
+  pub polled : js ≡ slots.Poll ∷ rest
+  pub stands : LineStands ly code whole n (ly.start n) rest
+  pub small : n < 65536
+
+-- a program's code by groups, with and without the first byte of each line
+pub record GroupsLaid (ly : Layout) (code whole : Part) (program : slots.SlotCode) : Type 0 where
+  pub numbered : numbers program ≡ ly.numbers
+  pub lines : (n : ℕ) (js : List slots.Instr) → content_at program n ≡ Some js → PolledLine ly code whole n js
+  pub absent : (n : ℕ) → content_at program n ≡ None → ly.start n ≡ ly.past
+  pub places : (p : Place) → place_at ly p < 65536
+  pub past : Lies code ly.past (past_code ly)
+  pub locate : Lies code ly.locate (locate_code ly)
+  pub top : highest ly.numbers < 65536
+  pub table_small : ly.table < 65536
+  pub count_small : length ly.numbers < 65536
+  pub seed_small : ly.seed < 65536

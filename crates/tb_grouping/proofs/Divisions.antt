@@ -1,44 +1,34 @@
 -- The laws of a division, which may fault: it sets the line's number just before its call.
-use Rattle.std.proofs.Common.{◌≡◌, ◌≢◌, ℕ, ◌+◌, ◌/◌, ◌%◌, true, if◌then◌else◌, List, [], ◌∷◌, refl, sym, ap, subst, arith, Some, None}
+use Rattle.std.proofs.Common.{◌≡◌, ◌≢◌, ℕ, ◌+◌, if◌then◌else◌, List, [], refl, sym, ap, subst, arith, Some, None}
 use Rattle.std.proofs.lemmas.Bool.{eq-eqb, ne_eqb}
 use Rattle.tb_words.specs.Words.{quotient}
 use Rattle.tb_syntax.specs.declared.expressions.Operator.TheVariants as op
 use Rattle.tb_lower.specs.Control.{State, fault_text}
 use Rattle.tb_lower.specs.Slots.{Instr, Slots, SlotCode}
 use Rattle.tb_lower.specs.Values.{apply}
-use Rattle.tb_reaching.proofs.Comes.{chained, looser}
+use Rattle.tb_reaching.proofs.Comes.{looser}
 use Rattle.tb_reaching.specs.View.{Comes, Fits, Setup, View}
-use Rattle.tb_runtime16.specs.Routines.{Entered, Here, Moves, Routines, WordAt, is_owned}
-use Rattle.tb_runtime16.specs.Places.{DIVIDE_AT, HOME_S, LEFT, LINE, RESULT, RIGHT}
+use Rattle.tb_runtime16.specs.Routines.{Routines, WordAt}
+use Rattle.tb_runtime16.specs.Places.{DIVIDE_AT, LEFT, RIGHT}
 use Rattle.tb_keeping.specs.Layout.{Layout}
-use Rattle.tb_keeping.proofs.Frames.{owned_low, put_away, word_away, word_put}
 use Rattle.tb_keeping.proofs.Joins.{sent_in}
-use Rattle.tb_keeping.proofs.Pieces.{calls, copies, put_word, sets}
-use Rattle.tb_keeping.proofs.Resolved.{size}
-use Rattle.tb_keeping.proofs.Templates.{back_here, behind_call, homed_kept}
-use Rattle.tb_selection.specs.Groups.{Operand, IntoVariable, IntoHeld, Destination, IntoSlot, IntoHome, Calculate, slot_of}
+use Rattle.tb_keeping.proofs.Resolved.{pieces_size}
+use Rattle.tb_keeping.proofs.Returning.{back_here}
+use Rattle.tb_selection.specs.Groups.{Operand, Destination, Calculate, slot_of}
 use Rattle.tb_selection.specs.Liveness.{live}
 use Rattle.tb_selection.specs.Select.{select}
-use Rattle.tb_grouping.proofs.Sources.{value}
-use Rattle.tb_grouping.proofs.Coded.{GroupsLie, source_of, destination_at, low, high, brought}
-use Rattle.tb_grouping.proofs.Matching.{HoldsState, HoldsLive, Target}
-use Rattle.tb_grouping.proofs.SlotSide.{spread, fetched, calculate_goes, calculate_fails, left_asked, right_asked}
-use Rattle.tb_grouping.proofs.Landing.{DestFits, state_lined, read_lined, state_scratch, read_scratch, scratch_put}
-use Rattle.tb_grouping.proofs.Operands.{CalcFits, SourceHolds, calc_fits, operand_held, operand_apart, dest_in_data}
-use Rattle.tb_grouping.proofs.Sums.{brings}
-use Rattle.tb_grouping.proofs.Ready.{Ready, here, calculate_lands}
 use Rattle.tb_grouping.proofs.Calculations.{Leads}
-
--- the result's high byte is not where it goes
-pub result_apart : (d : Destination) → DestFits d → RESULT + 1 ≢ destination_at d
-result_apart (IntoSlot k) fit e = omega (arith, e, fit)
-result_apart (IntoHome (IntoVariable x)) fit e = omega (arith, e, fit)
-result_apart (IntoHome IntoHeld) fit e = omega (arith, e)
+use Rattle.tb_templates.specs.declared.sources.Source.{Source}
+use Rattle.tb_templates.specs.Sources.{destination_at, source_of}
+use Rattle.tb_grouping.proofs.Coded.{GroupsLie, routine}
+use Rattle.tb_grouping.proofs.Handed.{asks, gives}
+use Rattle.tb_grouping.proofs.Lone.{Kept, kept_lined, kept_scratch, lined, lines, numbered}
+use Rattle.tb_grouping.proofs.Matching.{Target}
+use Rattle.tb_grouping.proofs.Operands.{CalcFits, SourceHolds, calc_fits, operand_apart, operand_held}
+use Rattle.tb_grouping.proofs.Ready.{Ready}
+use Rattle.tb_grouping.proofs.SlotSide.{calculate_fails, calculate_goes, calculate_lasting, fetched, left_asked, right_asked, spread, with_fetched}
 
 module _ (ly : Layout) (f : Setup) (lo hi keys : ℕ) (fits : Fits f 16) (limit : ℕ) (rs : Routines ly.table ly.seed ly.numbers ly.start f lo hi keys limit) (code : SlotCode) (n : ℕ) (a b : Operand) (d : Destination) (is : List Instr) (s : State) (r : Slots) (w : View) (h : Ready ly f lo hi keys fits n (Calculate op.Divide a b d) (spread op.Divide a b d is) is s r w) where
-  abbrev own : List ℕ
-  own = lo ∷ hi ∷ []
-
   abbrev k : ℕ
   k = slot_of d
 
@@ -51,80 +41,33 @@ module _ (ly : Layout) (f : Setup) (lo hi keys : ℕ) (fits : Fits f 16) (limit 
   abbrev js : List Instr
   js = spread op.Divide a b d is
 
-  -- memory with the line's number, then with the left word, then with the right one
-  abbrev lined : ℕ → ℕ
-  lined = put_word w.mem LINE (n % 256) (n / 256)
+  -- behind the line's number
+  abbrev at : ℕ
+  at = w.regs.pc + 10
 
-  abbrev one : ℕ → ℕ
-  one = put_word lined LEFT (value lined (low (source_of k a))) (value lined (high (source_of k a)))
+  abbrev first : Source
+  first = source_of k a
 
-  abbrev two : ℕ → ℕ
-  two = put_word one RIGHT (value one (low (source_of (k + 1) b))) (value one (high (source_of (k + 1) b)))
+  abbrev second : Source
+  second = source_of (k + 1) b
+
+  abbrev m : ℕ → ℕ
+  m = lined ly f lo hi keys fits n _ js is s r w h
 
   fit : CalcFits a b d
   fit = calc_fits op.Divide a b d h.ranged
 
-  -- what is held in these memories
-  record Keeping (m : ℕ → ℕ) : Type 0 where
-    state : HoldsState ly s m
-    read : HoldsLive (live js) r m
-    homed : Entered f lo hi m
+  c : Kept ly f lo hi keys fits (live js) s r m
+  c = kept_lined ly f lo hi keys fits n _ js is s r w h
 
-  held_lined : Keeping lined
-  held_lined = record {
-    state = state_lined ly s w.mem (n % 256) (n / 256) h.state;
-    read = read_lined (live js) r w.mem (n % 256) (n / 256) h.read;
-    homed = homed_kept ly f lo hi keys fits w.mem lined (put_away w.mem LINE (n % 256) (n / 256) HOME_S (λ q. omega (arith, q)) (λ q. omega (arith, q))) h.homed;
-  }
+  left_holds : SourceHolds m first x
+  left_holds = operand_held ly s (live js) r m k a c.state c.read fit.left (left_asked op.Divide a b d is)
 
-  scratched : (m m' : ℕ → ℕ) → ((p : ℕ) → is_owned p ≡ true → m' p ≡ m p) → Keeping m → Keeping m'
-  scratched m m' e c = record {
-    state = state_scratch ly s m m' c.state e;
-    read = read_scratch (live js) r m m' h.some_read e c.read;
-    homed = homed_kept ly f lo hi keys fits m m' (e HOME_S (owned_low HOME_S (omega arith) (omega arith))) c.homed;
-  }
+  right_holds : (m' : ℕ → ℕ) → Kept ly f lo hi keys fits (live js) s r m' → SourceHolds m' second y
+  right_holds m' q = operand_held ly s (live js) r m' (k + 1) b q.state q.read fit.right (right_asked op.Divide a b d is)
 
-  held_one : Keeping one
-  held_one = scratched lined one (scratch_put lined LEFT _ _ refl refl) held_lined
-
-  held_two : Keeping two
-  held_two = scratched one two (scratch_put one RIGHT _ _ refl refl) held_one
-
-  left_word : SourceHolds lined (source_of k a) x
-  left_word = operand_held ly s (live js) r lined k a held_lined.state held_lined.read fit.left (left_asked op.Divide a b d is)
-
-  right_word : SourceHolds one (source_of (k + 1) b) y
-  right_word = operand_held ly s (live js) r one (k + 1) b held_one.state held_one.read fit.right (right_asked op.Divide a b d is)
-
-  left : WordAt two LEFT x
-  left = word_away one RIGHT _ _ LEFT x (λ e. omega (arith, e)) (λ e. omega (arith, e)) (λ e. omega (arith, e)) (word_put lined LEFT _ _ x left_word.low_byte left_word.high_byte left_word.small)
-
-  right : WordAt two RIGHT y
-  right = word_put one RIGHT _ _ y right_word.low_byte right_word.high_byte right_word.small
-
-  numbered : WordAt two LINE n
-  numbered =
-      word_away one RIGHT _ _ LINE n (λ e. omega (arith, e)) (λ e. omega (arith, e)) (λ e. omega (arith, e))
-      (word_away lined LEFT _ _ LINE n (λ e. omega (arith, e)) (λ e. omega (arith, e)) (λ e. omega (arith, e))
-      (word_put w.mem LINE (n % 256) (n / 256) n refl refl h.small))
-
-  abbrev p1 : ℕ
-  p1 = w.regs.pc + 10
-
-  abbrev p2 : ℕ
-  p2 = p1 + size (brought (source_of k a) LEFT)
-
-  abbrev p3 : ℕ
-  p3 = p2 + size (brought (source_of (k + 1) b) RIGHT)
-
-  -- up to the call
-  asks : (q : View → Type 0) (t : List ℕ) (c : ℕ) → Moves f (Here DIVIDE_AT ((p3 + 2) % 256 ∷ (p3 + 2) / 256 ∷ own) two w.text w.answers) q t c → Comes f w q t (4 + (4 + (4 + (1 + c))))
-  asks q t c next =
-      let g = h.lies in
-      chained f w _ q [] t 4 (4 + (4 + (1 + c))) (sets f 16 fits w.regs.pc own w.mem w.text w.answers refl n LINE g.0 (omega arith, omega arith) g.1 w (here ly f lo hi keys fits w [] [] h.stack h.binary)) (λ u e.
-      chained f u _ q [] t 4 (4 + (1 + c)) (brings f 16 fits p1 own lined w.text w.answers refl (source_of k a) LEFT g.2.0 (operand_apart k a LEFT 24625 refl (omega (arith, fit.slot)) fit.left) (omega arith, omega arith) g.2.1 u e) (λ u e.
-      chained f u _ q [] t 4 (1 + c) (brings f 16 fits p2 own one w.text w.answers refl (source_of (k + 1) b) RIGHT g.2.2.0 (operand_apart (k + 1) b RIGHT 24626 refl fit.slot fit.right) (omega arith, omega arith) g.2.2.1 u e) (λ u e.
-      chained f u _ q [] t 1 c (calls f 16 fits p3 own two w.text w.answers refl DIVIDE_AT refl g.2.2.2.0 g.2.2.2.1 u e) next)))
+  rest : GroupsLie ly f.code n (at + pieces_size (routine DIVIDE_AT LEFT first second (destination_at d))) (select is)
+  rest = subst (λ p. GroupsLie ly f.code n p (select is)) (let e : w.regs.pc + (10 + pieces_size (routine DIVIDE_AT LEFT first second (destination_at d))) ≡ at + pieces_size (routine DIVIDE_AT LEFT first second (destination_at d)) = omega arith in e) h.rest
 
   quotient_is : y ≢ 0 → apply op.Divide x y ≡ Some (quotient x y)
   quotient_is some = ap (λ t. if t then None else Some (quotient x y)) (ne_eqb y 0 some)
@@ -135,19 +78,25 @@ module _ (ly : Layout) (f : Setup) (lo hi keys : ℕ) (fits : Fits f 16) (limit 
   pub divide_law : y ≢ 0 → Leads ly f lo hi keys fits code n a b d is s r w op.Divide (17 + limit)
   divide_law some =
       let v = quotient x y in
-      let g = h.lies in
       subst (λ x. Comes f w (Target ly f lo hi keys x) (sent_in x) (17 + limit)) (sym (calculate_goes code n op.Divide a b d is s r h.read.all_words fit.slot v (quotient_is some)))
-      (looser f w _ _ [] (4 + (4 + (4 + (1 + (limit + 4))))) (17 + limit) (omega arith) (λ u z. z)
-      (asks _ [] (limit + 4) (λ u e.
-      chained f u _ _ [] [] limit 4 (rs.divide _ _ two w.text w.answers x y left right some u e) (λ u g'.
-      let c = scratched two u.mem g'.back.others held_two in
-      let behind : w.regs.pc + (10 + (size (brought (source_of k a) LEFT) + (size (brought (source_of (k + 1) b) RIGHT) + (3 + (12 + 0))))) ≡ p3 + 3 + 12 = omega arith in
-      looser f u _ _ [] 4 4 (omega arith)
-      (calculate_lands ly f lo hi keys fits code n h.small op.Divide a b d is s r v _ _ (p3 + 3 + 12) u.mem w.text w.answers g'.result.low g'.result.high g'.result.small fit.dest h.free (subst (λ p. GroupsLie ly f.code n p (select is)) behind h.rest) c.state c.read c.homed h.text h.answers h.short)
-      (copies f 16 fits (p3 + 3) own u.mem w.text w.answers refl RESULT (destination_at d) g.2.2.2.2.0 (omega arith, omega arith) (dest_in_data d fit.dest) (result_apart d fit.dest) g.2.2.2.2.1 u (back_here ly f lo hi keys fits _ _ two w.text w.answers u g'.back (behind_call ly f lo hi keys fits p3 g.2.2.2.0)))))))
+      (looser f w _ _ [] (4 + (13 + limit)) (17 + limit) (omega arith) (λ u z. z)
+      (lines ly f lo hi keys fits n _ js is s r w h h.lies.0 h.lies.1 _ [] (13 + limit)
+      (gives ly f lo hi keys fits n _ js is s r w h DIVIDE_AT LEFT at first second d m c h.lies.2 x y
+      (operand_apart k a LEFT 24625 refl (omega (arith, fit.slot)) fit.left) (operand_apart (k + 1) b RIGHT 24626 refl fit.slot fit.right) left_holds right_holds
+      code s (with_fetched s (with_fetched s r k a) (k + 1) b) v limit (omega arith, omega arith) fit.dest (calculate_lasting op.Divide a b d is s r h.free) rest h.text h.answers h.short
+      (λ l k' m g u e. looser f u _ _ [] limit limit (omega arith)
+      (λ u q. record {
+        here = back_here ly f lo hi keys fits _ _ m w.text w.answers u q.back refl;
+        result = q.left;
+        kept = kept_scratch ly f lo hi keys fits (live js) s r m u.mem h.some_read q.back.others g.kept;
+      })
+      (rs.divide l k' m w.text w.answers x y g.left g.right some u e)))))
 
   pub divide_fails : y ≡ 0 → Leads ly f lo hi keys fits code n a b d is s r w op.Divide (17 + limit)
   divide_fails zero =
       subst (λ x. Comes f w (Target ly f lo hi keys x) (sent_in x) (17 + limit)) (sym (calculate_fails code n op.Divide a b d is s r h.read.all_words fit.slot (none_is zero)))
-      (looser f w _ _ (fault_text 2 n) (4 + (4 + (4 + (1 + limit)))) (17 + limit) (omega arith) (λ u z. z)
-      (asks _ (fault_text 2 n) limit (rs.divide_by_zero _ _ two w.text w.answers x n left (subst (WordAt two RIGHT) zero right) numbered held_two.homed)))
+      (looser f w _ _ (fault_text 2 n) (4 + (9 + limit)) (17 + limit) (omega arith) (λ u z. z)
+      (lines ly f lo hi keys fits n _ js is s r w h h.lies.0 h.lies.1 _ (fault_text 2 n) (9 + limit)
+      (asks ly f lo hi keys fits n _ js is s r w h DIVIDE_AT LEFT at first second d m c h.lies.2 x y
+      (operand_apart k a LEFT 24625 refl (omega (arith, fit.slot)) fit.left) (operand_apart (k + 1) b RIGHT 24626 refl fit.slot fit.right) left_holds right_holds
+      _ (fault_text 2 n) limit (λ m' g. rs.divide_by_zero _ _ m' w.text w.answers x n g.left (subst (WordAt m' RIGHT) zero g.right) (g.line (numbered ly f lo hi keys fits n _ js is s r w h)) g.kept.homed))))

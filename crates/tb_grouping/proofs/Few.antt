@@ -47,4 +47,4 @@ range_few (i ∷ is) js r h = before_few i (live (is ++ js)) r.0 (range_few is j
 
 pub groups_few : (ly : Layout) (code : Part) (n at : ℕ) (gs : List Group) → GroupsLie ly code n at gs → (live (expand_all gs)).slots ≤ 16
 groups_few ly code n at [] h = omega arith
-groups_few ly code n at (g ∷ gs) h = range_few (expand g) (expand_all gs) h.0 (groups_few ly code n (at + pieces_size (group_code ly n at g)) gs h.2)
+groups_few ly code n at (g ∷ gs) h = range_few (expand g) (expand_all gs) h.2 (groups_few ly code n (at + pieces_size (group_code ly n at h.0 h.1 g)) gs h.4)

@@ -1,30 +1,36 @@
--- The laws of jumps to a line whose number slot 0 has, and of RETURN.
+-- The laws of jumps to a line whose number a word is, and of RETURN.
 use Rattle.std.proofs.Common.{◌≡◌, ℕ, suc, ◌+◌, ◌/◌, ◌%◌, ◌≤◌, ◌<◌, true, false, List, [], ◌∷◌, length, refl, sym, ◌∙◌, subst, arith}
-use Rattle.std.specs.Prelude.{slice_index, nat_lt}
+use Rattle.std.specs.Prelude.{nat_lt}
 use Rattle.std.proofs.lemmas.Bool.{ltb-true, ltb-false}
 use Rattle.std.proofs.lemmas.List.{length-map}
 use Rattle.tb_lower.specs.Control.{At, Place, State, deepest, fault_text, has_line, next_after}
-use Rattle.tb_lower.specs.Slots.{Instr, Jump, Call, Return, Slots, SlotCode, Whole}
+use Rattle.tb_lower.specs.Slots.{Instr, Return, Slots, SlotCode, Whole}
 use Rattle.tb_reaching.proofs.Comes.{chained, looser}
 use Rattle.tb_reaching.specs.Start.{IsHome}
 use Rattle.tb_reaching.specs.View.{Comes, Fits, Setup, View}
 use Rattle.tb_runtime16.specs.Routines.{Here, Moves, Noted, Routines, WordAt}
 use Rattle.tb_runtime16.specs.Places.{COUNT, HOME_S, LEFT, LINE, NOTES, POP_AT, PUSH_AT, RESULT, SEARCH_AT, TABLE}
-use Rattle.tb_templates.specs.Templates.{slot_at}
 use Rattle.tb_keeping.specs.Layout.{Layout, next_at, place_at}
 use Rattle.tb_keeping.proofs.Frames.{owned_low, word_away, word_kept, word_put}
 use Rattle.tb_keeping.proofs.Mirrors.{notes_of}
-use Rattle.tb_keeping.proofs.Pieces.{calls, copies, jumps, jumps_through, put_word, sets}
-use Rattle.tb_keeping.proofs.Resolved.{Code, Lies, Piece, call, constant, copied, jump_through}
-use Rattle.tb_keeping.proofs.Templates.{back_here, behind_call, homed_kept}
+use Rattle.tb_keeping.proofs.Pieces.{calls, jumps, jumps_through, put_word, sets}
+use Rattle.tb_keeping.proofs.Resolved.{Code, Lies, Piece, call, constant, jump_through, size}
+use Rattle.tb_keeping.proofs.Returning.{back_here, behind_call, homed_kept}
 use Rattle.tb_selection.specs.declared.liveness.Live.{Live}
-use Rattle.tb_selection.specs.Groups.{Single}
+use Rattle.tb_selection.specs.Groups.{AsLine, AsSubroutine, Operand, Single, Usage, Use, use_of}
 use Rattle.tb_selection.specs.Liveness.{live}
 use Rattle.tb_grouping.proofs.Frames.{state_placed, state_popped, state_pushed}
 use Rattle.tb_grouping.proofs.Lone.{Kept, arrived, kept_lined, kept_put, kept_scratch, lined, lines, numbered}
 use Rattle.tb_grouping.proofs.Matching.{Matches}
-use Rattle.tb_grouping.proofs.Polled.{GroupsLaid}
+use Rattle.tb_templates.specs.declared.sources.Source.{Source}
+use Rattle.tb_templates.specs.Sources.{source_of}
+use Rattle.tb_grouping.proofs.Coded.{GroupsLaid, brought, high, low, searched}
+use Rattle.tb_grouping.proofs.OneWord.{spread_use, use_fits, use_reads, word_asked}
+use Rattle.tb_grouping.proofs.Operands.{OperandFits, operand_apart, operand_held}
 use Rattle.tb_grouping.proofs.Ready.{Ready}
+use Rattle.tb_grouping.proofs.SlotSide.{fetched, fetched_length, with_fetched}
+use Rattle.tb_grouping.proofs.Sources.{value}
+use Rattle.tb_grouping.proofs.Sums.{brings}
 
 module _ (ly : Layout) (f : Setup) (lo hi keys : ℕ) (fits : Fits f 16) (limit : ℕ) (rs : Routines ly.table ly.seed ly.numbers ly.start f lo hi keys limit) (code : SlotCode) (laid : GroupsLaid ly f.code f.whole code) (n : ℕ) (is : List Instr) (s : State) (r : Slots) (w : View) where
   abbrev own : List ℕ
@@ -33,20 +39,30 @@ module _ (ly : Layout) (f : Setup) (lo hi keys : ℕ) (fits : Fits f 16) (limit 
   abbrev at : ℕ
   at = w.regs.pc + 10
 
-  abbrev wish : ℕ
-  wish = slice_index r.words 0
+  -- ---- a use that searches the line table first
+  module _ (how : Usage) (a : Operand) (others : List Piece) (h : Ready ly f lo hi keys fits n (Use how a) (spread_use how a is) is s r w) (lies : Lies f.code w.regs.pc (searched ly n (source_of 0 a) others)) where
+    abbrev wish : ℕ
+    wish = fetched s r 0 a
 
-  -- ---- an instruction that searches the line table first
-  module _ (i : Instr) (others : List Piece) (h : Ready ly f lo hi keys fits n (Single i) (i ∷ is) is s r w) (asks : 1 ≤ (live (i ∷ is)).slots) (lies : Lies f.code w.regs.pc (Code (constant n LINE) ∷ Code (copied (slot_at 0) LEFT) ∷ Code (call ly.locate) ∷ others)) where
+    abbrev src : Source
+    src = source_of 0 a
+
     abbrev asked : Live
-    asked = live (i ∷ is)
+    asked = live (spread_use how a is)
+
+    fit : OperandFits a
+    fit = use_fits how a h.ranged
+
+    -- where the search is called
+    abbrev call_at : ℕ
+    call_at = at + size (brought src LEFT)
 
     -- memory with the line's number, the number that is sought, the table and its count
     abbrev one : ℕ → ℕ
-    one = lined ly f lo hi keys fits n i is s r w h
+    one = lined ly f lo hi keys fits n _ _ is s r w h
 
     abbrev two : ℕ → ℕ
-    two = put_word one LEFT (one (slot_at 0)) (one (slot_at 0 + 1))
+    two = put_word one LEFT (value one (low src)) (value one (high src))
 
     abbrev three : ℕ → ℕ
     three = put_word two TABLE (ly.table % 256) (ly.table / 256)
@@ -55,43 +71,43 @@ module _ (ly : Layout) (f : Setup) (lo hi keys : ℕ) (fits : Fits f 16) (limit 
     sought = put_word three COUNT (length ly.numbers % 256) (length ly.numbers / 256)
 
     kept_one : Kept ly f lo hi keys fits asked s r one
-    kept_one = kept_lined ly f lo hi keys fits n i is s r w h
+    kept_one = kept_lined ly f lo hi keys fits n _ _ is s r w h
 
     kept_sought : Kept ly f lo hi keys fits asked s r sought
     kept_sought =
         kept_put ly f lo hi keys fits asked s r three COUNT (length ly.numbers % 256) (length ly.numbers / 256) h.some_read refl refl
         (kept_put ly f lo hi keys fits asked s r two TABLE (ly.table % 256) (ly.table / 256) h.some_read refl refl
-        (kept_put ly f lo hi keys fits asked s r one LEFT (one (slot_at 0)) (one (slot_at 0 + 1)) h.some_read refl refl kept_one))
+        (kept_put ly f lo hi keys fits asked s r one LEFT _ _ h.some_read refl refl kept_one))
 
     number : WordAt sought LINE n
     number =
         word_away three COUNT _ _ LINE n (λ e. omega (arith, e)) (λ e. omega (arith, e)) (λ e. omega (arith, e))
         (word_away two TABLE _ _ LINE n (λ e. omega (arith, e)) (λ e. omega (arith, e)) (λ e. omega (arith, e))
-        (word_away one LEFT _ _ LINE n (λ e. omega (arith, e)) (λ e. omega (arith, e)) (λ e. omega (arith, e)) (numbered ly f lo hi keys fits n i is s r w h)))
+        (word_away one LEFT _ _ LINE n (λ e. omega (arith, e)) (λ e. omega (arith, e)) (λ e. omega (arith, e)) (numbered ly f lo hi keys fits n _ _ is s r w h)))
 
     abbrev back_low : ℕ
-    back_low = (at + 12 + 2) % 256
+    back_low = (call_at + 2) % 256
 
     abbrev back_high : ℕ
-    back_high = (at + 12 + 2) / 256
+    back_high = (call_at + 2) / 256
 
     -- up to the search
     searches : (q : View → Type 0) (t : List ℕ) (k : ℕ) → Moves f (Here SEARCH_AT (back_low ∷ back_high ∷ own) sought w.text w.answers) q t k → Comes f w q t (4 + (4 + (1 + (4 + (4 + (1 + k))))))
     searches q t k next =
         let bs = back_low ∷ back_high ∷ own in
-        lines ly f lo hi keys fits n i is s r w h lies.0 lies.1 q t (4 + (1 + (4 + (4 + (1 + k))))) (λ u e.
-        chained f u _ q [] t 4 (1 + (4 + (4 + (1 + k)))) (copies f 16 fits at own one w.text w.answers refl (slot_at 0) LEFT lies.2.0 (omega arith, omega arith) (omega arith, omega arith) (λ e. omega (arith, e)) lies.2.1 u e) (λ u e.
-        chained f u _ q [] t 1 (4 + (4 + (1 + k))) (calls f 16 fits (at + 12) own two w.text w.answers refl ly.locate refl lies.2.2.0 lies.2.2.1 u e) (λ u e.
+        lines ly f lo hi keys fits n _ _ is s r w h lies.0 lies.1 q t (4 + (1 + (4 + (4 + (1 + k))))) (λ u e.
+        chained f u _ q [] t 4 (1 + (4 + (4 + (1 + k)))) (brings f 16 fits at own one w.text w.answers refl src LEFT lies.2.0 (operand_apart 0 a LEFT 24625 refl (omega arith) fit) (omega arith, omega arith) lies.2.1 u e) (λ u e.
+        chained f u _ q [] t 1 (4 + (4 + (1 + k))) (calls f 16 fits call_at own two w.text w.answers refl ly.locate refl lies.2.2.0 lies.2.2.1 u e) (λ u e.
         chained f u _ q [] t 4 (4 + (1 + k)) (sets f 16 fits ly.locate bs two w.text w.answers refl ly.table TABLE laid.locate.0 (omega arith, omega arith) laid.locate.1 u e) (λ u e.
         chained f u _ q [] t 4 (1 + k) (sets f 16 fits (ly.locate + 10) bs three w.text w.answers refl (length ly.numbers) COUNT laid.locate.2.0 (omega arith, omega arith) laid.locate.2.1 u e) (λ u e.
         chained f u _ q [] t 1 k (jumps f 16 fits (ly.locate + 10 + 10) bs sought w.text w.answers refl SEARCH_AT laid.locate.2.2.1 u e) next)))))
 
     wanted : WordAt sought LEFT wish
     wanted =
-        let v = kept_one.read.words 0 (omega (arith, asks)) in
+        let v = operand_held ly s asked r one 0 a kept_one.state kept_one.read fit (word_asked 0 a (use_of how) is (use_reads how is)) in
         word_away three COUNT _ _ LEFT _ (λ e. omega (arith, e)) (λ e. omega (arith, e)) (λ e. omega (arith, e))
         (word_away two TABLE _ _ LEFT _ (λ e. omega (arith, e)) (λ e. omega (arith, e)) (λ e. omega (arith, e))
-        (word_put one LEFT (one (slot_at 0)) (one (slot_at 0 + 1)) _ v.low v.high v.small))
+        (word_put one LEFT _ _ _ v.low_byte v.high_byte v.small))
 
     in_table : WordAt sought TABLE ly.table
     in_table = word_away three COUNT _ _ TABLE _ (λ e. omega (arith, e)) (λ e. omega (arith, e)) (λ e. omega (arith, e)) (word_put two TABLE (ly.table % 256) (ly.table / 256) _ refl refl laid.table_small)
@@ -100,83 +116,98 @@ module _ (ly : Layout) (f : Setup) (lo hi keys : ℕ) (fits : Fits f 16) (limit 
     counted = word_put three COUNT (length ly.numbers % 256) (length ly.numbers / 256) _ refl refl laid.count_small
 
     -- behind the search, with the line's address
-    finds : has_line ly.numbers wish ≡ true → (q : View → Type 0) (t : List ℕ) (k : ℕ) → ((u : View) → Kept ly f lo hi keys fits asked s r u.mem → WordAt u.mem LINE n → WordAt u.mem RESULT (ly.start wish) → Here (at + 12 + 3) own u.mem w.text w.answers u → Comes f u q t k) → Comes f w q t (4 + (4 + (1 + (4 + (4 + (1 + (limit + k)))))))
+    finds : has_line ly.numbers wish ≡ true → (q : View → Type 0) (t : List ℕ) (k : ℕ) → ((u : View) → Kept ly f lo hi keys fits asked s r u.mem → WordAt u.mem LINE n → WordAt u.mem RESULT (ly.start wish) → Here (call_at + 3) own u.mem w.text w.answers u → Comes f u q t k) → Comes f w q t (4 + (4 + (1 + (4 + (4 + (1 + (limit + k)))))))
     finds found q t k next =
         searches q t (limit + k) (λ u e.
         chained f u _ q [] t limit k (rs.search back_low back_high sought w.text w.answers wish wanted in_table counted found u e) (λ u g.
         next u (kept_scratch ly f lo hi keys fits asked s r sought u.mem h.some_read g.back.others kept_sought)
         (word_kept sought u.mem LINE n (g.back.others LINE (owned_low LINE (omega arith) (omega arith))) (g.back.others (LINE + 1) (owned_low (LINE + 1) (omega arith) (omega arith))) number)
         g.result
-        (back_here ly f lo hi keys fits _ _ sought w.text w.answers u g.back (behind_call ly f lo hi keys fits (at + 12) lies.2.2.0))))
+        (back_here ly f lo hi keys fits _ _ sought w.text w.answers u g.back (behind_call ly f lo hi keys fits call_at lies.2.2.0))))
 
     lost_line : has_line ly.numbers wish ≡ false → Comes f w (IsHome f) (fault_text 1 n) (4 + (4 + (1 + (4 + (4 + (1 + limit))))))
     lost_line lost = searches (IsHome f) (fault_text 1 n) limit (rs.search_fails back_low back_high sought w.text w.answers wish n wanted in_table counted lost number kept_sought.homed)
 
-  module _ (h : Ready ly f lo hi keys fits n (Single Jump) (Jump ∷ is) is s r w) where
-    pub jump_found : has_line ly.numbers wish ≡ true → Comes f w (Matches ly f lo hi keys (record { state = record s { place = At wish }; rest = Whole; slots = r })) [] (19 + limit)
-    jump_found found =
-        looser f w _ _ [] (4 + (4 + (1 + (4 + (4 + (1 + (limit + 1))))))) (19 + limit) (omega arith) (λ u x. x)
-        (finds Jump (Code jump_through ∷ []) h (omega arith) h.lies found _ [] 1 (λ u c l result e.
-        looser f u _ _ [] 1 1 (omega arith)
-        (arrived ly f lo hi keys fits code (record s { place = At wish }) r (ly.start wish) u.mem w.text w.answers refl (state_placed ly (At wish) s u.mem c.state) h.read.all_words c.homed h.text h.answers h.short)
-        (jumps_through f 16 fits (at + 12 + 3) own u.mem w.text w.answers refl (ly.start wish) result h.lies.2.2.2.1 u e)))
+  module _ (a : Operand) where
+    abbrev place : ℕ
+    place = fetched s r 0 a
 
-    pub jump_fails : has_line ly.numbers wish ≡ false → Comes f w (IsHome f) (fault_text 1 n) (19 + limit)
-    jump_fails lost = looser f w _ _ (fault_text 1 n) (4 + (4 + (1 + (4 + (4 + (1 + limit)))))) (19 + limit) (omega arith) (λ u x. x) (lost_line Jump (Code jump_through ∷ []) h (omega arith) h.lies lost)
+    -- the slots behind it
+    abbrev slots : Slots
+    slots = with_fetched s r 0 a
 
-  module _ (h : Ready ly f lo hi keys fits n (Single Call) (Call ∷ is) is s r w) where
-    -- the template behind the search
-    abbrev behind : List Piece
-    behind = Code (constant (next_at ly n) LEFT) ∷ Code (call PUSH_AT) ∷ Code jump_through ∷ []
+    all_slots : length r.words ≡ 16 → length slots.words ≡ 16
+    all_slots e = fetched_length s r 0 a ∙ e
 
-    abbrev calls_for : Live
-    calls_for = live (Call ∷ is)
+    -- behind the search
+    abbrev found_at : ℕ
+    found_at = at + size (brought (source_of 0 a) LEFT) + 3
 
-    abbrev returning : View → ℕ → ℕ
-    returning u = put_word u.mem LEFT (next_at ly n % 256) (next_at ly n / 256)
+    module _ (h : Ready ly f lo hi keys fits n (Use AsLine a) (spread_use AsLine a is) is s r w) where
+      pub jump_found : has_line ly.numbers place ≡ true → Comes f w (Matches ly f lo hi keys (record { state = record s { place = At place }; rest = Whole; slots = slots })) [] (19 + limit)
+      jump_found found =
+          looser f w _ _ [] (4 + (4 + (1 + (4 + (4 + (1 + (limit + 1))))))) (19 + limit) (omega arith) (λ u x. x)
+          (finds AsLine a (Code jump_through ∷ []) h h.lies found _ [] 1 (λ u c l result e.
+          looser f u _ _ [] 1 1 (omega arith)
+          (arrived ly f lo hi keys fits code (record s { place = At place }) slots (ly.start place) u.mem w.text w.answers refl (state_placed ly (At place) s u.mem c.state) (all_slots h.read.all_words) c.homed h.text h.answers h.short)
+          (jumps_through f 16 fits found_at own u.mem w.text w.answers refl (ly.start place) result h.lies.2.2.2.1 u e)))
 
-    -- up to Push, where the line was found
-    calls_push : has_line ly.numbers wish ≡ true → (q : View → Type 0) (t : List ℕ) (b : ℕ) → ((u : View) → WordAt (returning u) RESULT (ly.start wish) → WordAt (returning u) LINE n → Kept ly f lo hi keys fits calls_for s r (returning u) → Moves f (Here PUSH_AT ((at + 12 + 3 + 10 + 2) % 256 ∷ (at + 12 + 3 + 10 + 2) / 256 ∷ own) (returning u) w.text w.answers) q t b) → Comes f w q t (4 + (4 + (1 + (4 + (4 + (1 + (limit + (4 + (1 + b)))))))))
-    calls_push found q t b next =
-        let lies = h.lies.2.2.2 in
-        finds Call behind h (omega arith) h.lies found q t (4 + (1 + b)) (λ u c l result e.
-        chained f u _ q [] t 4 (1 + b) (sets f 16 fits (at + 12 + 3) own u.mem w.text w.answers refl (next_at ly n) LEFT lies.0 (omega arith, omega arith) lies.1 u e) (λ v e.
-        chained f v _ q [] t 1 b (calls f 16 fits (at + 12 + 3 + 10) own (returning u) w.text w.answers refl PUSH_AT refl lies.2.0 lies.2.1 v e)
-        (next u
-        (word_away u.mem LEFT _ _ RESULT _ (λ e. omega (arith, e)) (λ e. omega (arith, e)) (λ e. omega (arith, e)) result)
-        (word_away u.mem LEFT _ _ LINE n (λ e. omega (arith, e)) (λ e. omega (arith, e)) (λ e. omega (arith, e)) l)
-        (kept_put ly f lo hi keys fits calls_for s r u.mem LEFT _ _ h.some_read refl refl c))))
+      pub jump_fails : has_line ly.numbers place ≡ false → Comes f w (IsHome f) (fault_text 1 n) (19 + limit)
+      jump_fails lost = looser f w _ _ (fault_text 1 n) (4 + (4 + (1 + (4 + (4 + (1 + limit)))))) (19 + limit) (omega arith) (λ u x. x) (lost_line AsLine a (Code jump_through ∷ []) h h.lies lost)
 
-    pub call_found : has_line ly.numbers wish ≡ true → nat_lt (length s.returns) deepest ≡ true → Comes f w (Matches ly f lo hi keys (record { state = record s { place = At wish; returns = next_after ly.numbers n ∷ s.returns }; rest = Whole; slots = r })) [] (24 + (limit + limit))
-    call_found found free =
-        let few : length s.returns < 500 = omega (arith, ltb-true _ _ free) in
-        let same : length (notes_of ly s.returns) ≡ length s.returns = length-map s.returns (place_at ly) in
-        looser f w _ _ [] (4 + (4 + (1 + (4 + (4 + (1 + (limit + (4 + (1 + (limit + 1)))))))))) (24 + (limit + limit)) (omega arith) (λ u x. x)
-        (calls_push found _ [] (limit + 1) (λ u result l c v e.
-        chained f v _ _ [] [] limit 1 (rs.push _ _ (returning u) w.text w.answers (next_at ly n) (notes_of ly s.returns) (word_put u.mem LEFT _ _ _ refl refl (laid.places (next_after ly.numbers n))) (subst (λ k. WordAt (returning u) NOTES k) (sym same) c.state.count) c.state.notes (omega (arith, few, same)) v e) (λ x g.
-        looser f x _ _ [] 1 1 (omega arith)
-        (arrived ly f lo hi keys fits code (record s { place = At wish; returns = next_after ly.numbers n ∷ s.returns }) r (ly.start wish) x.mem w.text w.answers refl
-        (state_pushed ly s (returning u) x.mem c.state (At wish) (next_after ly.numbers n) few (subst (λ k. WordAt x.mem NOTES (suc k)) same g.count) g.noted g.others) h.read.all_words
-        (homed_kept ly f lo hi keys fits (returning u) x.mem (g.others HOME_S (omega arith) (omega arith) (λ e. omega (arith, e)) (λ e. omega (arith, e))) c.homed)
-        h.text h.answers h.short)
-        (jumps_through f 16 fits (at + 12 + 3 + 10 + 3) own x.mem w.text w.answers refl (ly.start wish) (word_kept (returning u) x.mem RESULT _ g.result g.result_high result) h.lies.2.2.2.2.2.1 x
-        (record { pc = g.pc ∙ behind_call ly f lo hi keys fits (at + 12 + 3 + 10) h.lies.2.2.2.2.0; stack = g.stack; binary = g.binary; mem = refl; text = g.text; answers = g.answers })))))
+    module _ (h : Ready ly f lo hi keys fits n (Use AsSubroutine a) (spread_use AsSubroutine a is) is s r w) where
+      -- the template behind the search
+      abbrev behind : List Piece
+      behind = Code (constant (next_at ly n) LEFT) ∷ Code (call PUSH_AT) ∷ Code jump_through ∷ []
 
-    pub call_full : has_line ly.numbers wish ≡ true → nat_lt (length s.returns) deepest ≡ false → Comes f w (IsHome f) (fault_text 4 n) (24 + (limit + limit))
-    call_full found full =
-        let t = fault_text 4 n in
-        looser f w _ _ t (4 + (4 + (1 + (4 + (4 + (1 + (limit + (4 + (1 + limit))))))))) (24 + (limit + limit)) (omega arith) (λ u x. x)
-        (calls_push found _ t limit (λ u result l c. rs.push_fails _ _ (returning u) w.text w.answers (notes_of ly s.returns) n (subst (λ k. WordAt (returning u) NOTES k) (sym (length-map s.returns (place_at ly))) c.state.count) c.state.notes (omega (arith, ltb-false _ _ full, c.state.few, length-map s.returns (place_at ly))) l c.homed))
+      abbrev calls_for : Live
+      calls_for = live (spread_use AsSubroutine a is)
 
-    pub call_fails : has_line ly.numbers wish ≡ false → Comes f w (IsHome f) (fault_text 1 n) (19 + limit)
-    call_fails lost = looser f w _ _ (fault_text 1 n) (4 + (4 + (1 + (4 + (4 + (1 + limit)))))) (19 + limit) (omega arith) (λ u x. x) (lost_line Call behind h (omega arith) h.lies lost)
+      abbrev returning : View → ℕ → ℕ
+      returning u = put_word u.mem LEFT (next_at ly n % 256) (next_at ly n / 256)
+
+      -- up to Push, where the line was found
+      calls_push : has_line ly.numbers place ≡ true → (q : View → Type 0) (t : List ℕ) (b : ℕ) → ((u : View) → WordAt (returning u) RESULT (ly.start place) → WordAt (returning u) LINE n → Kept ly f lo hi keys fits calls_for s r (returning u) → Moves f (Here PUSH_AT ((found_at + 10 + 2) % 256 ∷ (found_at + 10 + 2) / 256 ∷ own) (returning u) w.text w.answers) q t b) → Comes f w q t (4 + (4 + (1 + (4 + (4 + (1 + (limit + (4 + (1 + b)))))))))
+      calls_push found q t b next =
+          let lies = h.lies.2.2.2 in
+          finds AsSubroutine a behind h h.lies found q t (4 + (1 + b)) (λ u c l result e.
+          chained f u _ q [] t 4 (1 + b) (sets f 16 fits found_at own u.mem w.text w.answers refl (next_at ly n) LEFT lies.0 (omega arith, omega arith) lies.1 u e) (λ v e.
+          chained f v _ q [] t 1 b (calls f 16 fits (found_at + 10) own (returning u) w.text w.answers refl PUSH_AT refl lies.2.0 lies.2.1 v e)
+          (next u
+          (word_away u.mem LEFT _ _ RESULT _ (λ e. omega (arith, e)) (λ e. omega (arith, e)) (λ e. omega (arith, e)) result)
+          (word_away u.mem LEFT _ _ LINE n (λ e. omega (arith, e)) (λ e. omega (arith, e)) (λ e. omega (arith, e)) l)
+          (kept_put ly f lo hi keys fits calls_for s r u.mem LEFT _ _ h.some_read refl refl c))))
+
+      pub call_found : has_line ly.numbers place ≡ true → nat_lt (length s.returns) deepest ≡ true → Comes f w (Matches ly f lo hi keys (record { state = record s { place = At place; returns = next_after ly.numbers n ∷ s.returns }; rest = Whole; slots = slots })) [] (24 + (limit + limit))
+      call_found found free =
+          let few : length s.returns < 500 = omega (arith, ltb-true _ _ free) in
+          let same : length (notes_of ly s.returns) ≡ length s.returns = length-map s.returns (place_at ly) in
+          looser f w _ _ [] (4 + (4 + (1 + (4 + (4 + (1 + (limit + (4 + (1 + (limit + 1)))))))))) (24 + (limit + limit)) (omega arith) (λ u x. x)
+          (calls_push found _ [] (limit + 1) (λ u result l c v e.
+          chained f v _ _ [] [] limit 1 (rs.push _ _ (returning u) w.text w.answers (next_at ly n) (notes_of ly s.returns) (word_put u.mem LEFT _ _ _ refl refl (laid.places (next_after ly.numbers n))) (subst (λ k. WordAt (returning u) NOTES k) (sym same) c.state.count) c.state.notes (omega (arith, few, same)) v e) (λ x g.
+          looser f x _ _ [] 1 1 (omega arith)
+          (arrived ly f lo hi keys fits code (record s { place = At place; returns = next_after ly.numbers n ∷ s.returns }) slots (ly.start place) x.mem w.text w.answers refl
+          (state_pushed ly s (returning u) x.mem c.state (At place) (next_after ly.numbers n) few (subst (λ k. WordAt x.mem NOTES (suc k)) same g.count) g.noted g.others) (all_slots h.read.all_words)
+          (homed_kept ly f lo hi keys fits (returning u) x.mem (g.others HOME_S (omega arith) (omega arith) (λ e. omega (arith, e)) (λ e. omega (arith, e))) c.homed)
+          h.text h.answers h.short)
+          (jumps_through f 16 fits (found_at + 10 + 3) own x.mem w.text w.answers refl (ly.start place) (word_kept (returning u) x.mem RESULT _ g.result g.result_high result) h.lies.2.2.2.2.2.1 x
+          (record { pc = g.pc ∙ behind_call ly f lo hi keys fits (found_at + 10) h.lies.2.2.2.2.0; stack = g.stack; binary = g.binary; mem = refl; text = g.text; answers = g.answers })))))
+
+      pub call_full : has_line ly.numbers place ≡ true → nat_lt (length s.returns) deepest ≡ false → Comes f w (IsHome f) (fault_text 4 n) (24 + (limit + limit))
+      call_full found full =
+          let t = fault_text 4 n in
+          looser f w _ _ t (4 + (4 + (1 + (4 + (4 + (1 + (limit + (4 + (1 + limit))))))))) (24 + (limit + limit)) (omega arith) (λ u x. x)
+          (calls_push found _ t limit (λ u result l c. rs.push_fails _ _ (returning u) w.text w.answers (notes_of ly s.returns) n (subst (λ k. WordAt (returning u) NOTES k) (sym (length-map s.returns (place_at ly))) c.state.count) c.state.notes (omega (arith, ltb-false _ _ full, c.state.few, length-map s.returns (place_at ly))) l c.homed))
+
+      pub call_fails : has_line ly.numbers place ≡ false → Comes f w (IsHome f) (fault_text 1 n) (19 + limit)
+      call_fails lost = looser f w _ _ (fault_text 1 n) (4 + (4 + (1 + (4 + (4 + (1 + limit)))))) (19 + limit) (omega arith) (λ u x. x) (lost_line AsSubroutine a behind h h.lies lost)
 
   module _ (h : Ready ly f lo hi keys fits n (Single Return) (Return ∷ is) is s r w) where
     abbrev numbered_memory : ℕ → ℕ
-    numbered_memory = lined ly f lo hi keys fits n Return is s r w h
+    numbered_memory = lined ly f lo hi keys fits n _ _ is s r w h
 
     kept_here : Kept ly f lo hi keys fits (live (Return ∷ is)) s r numbered_memory
-    kept_here = kept_lined ly f lo hi keys fits n Return is s r w h
+    kept_here = kept_lined ly f lo hi keys fits n _ _ is s r w h
 
     pub return_law : (p : Place) (ps : List Place) → s.returns ≡ p ∷ ps → Comes f w (Matches ly f lo hi keys (record { state = record s { place = p; returns = ps }; rest = Whole; slots = r })) [] (6 + limit)
     return_law p ps q =
@@ -188,7 +219,7 @@ module _ (ly : Layout) (f : Setup) (lo hi keys : ℕ) (fits : Fits f 16) (limit 
         let same : length (notes_of ly ps) ≡ length ps = length-map ps (place_at ly) in
         let count : WordAt m NOTES (suc (length ps)) = subst (λ l. WordAt m NOTES (length l)) q c.state.count in
         looser f w _ _ [] (4 + (1 + (limit + 1))) (6 + limit) (omega arith) (λ u x. x)
-        (lines ly f lo hi keys fits n Return is s r w h h.lies.0 h.lies.1 _ [] (1 + (limit + 1)) (λ u e.
+        (lines ly f lo hi keys fits n _ _ is s r w h h.lies.0 h.lies.1 _ [] (1 + (limit + 1)) (λ u e.
         chained f u _ _ [] [] 1 (limit + 1) (calls f 16 fits at own m w.text w.answers refl POP_AT refl lies.0 lies.1 u e) (λ u e.
         chained f u _ _ [] [] limit 1 (rs.pop _ _ m w.text w.answers (place_at ly p) (notes_of ly ps) (subst (λ k. WordAt m NOTES (suc k)) (sym same) count) notes (omega (arith, few, same)) u e) (λ u g.
         looser f u _ _ [] 1 1 (omega arith)
@@ -204,6 +235,6 @@ module _ (ly : Layout) (f : Setup) (lo hi keys : ℕ) (fits : Fits f 16) (limit 
         let m = numbered_memory in
         let count : WordAt m NOTES 0 = subst (λ l. WordAt m NOTES (length l)) q kept_here.state.count in
         looser f w _ _ (fault_text 5 n) (4 + (1 + limit)) (6 + limit) (omega arith) (λ u x. x)
-        (lines ly f lo hi keys fits n Return is s r w h h.lies.0 h.lies.1 _ (fault_text 5 n) (1 + limit) (λ u e.
+        (lines ly f lo hi keys fits n _ _ is s r w h h.lies.0 h.lies.1 _ (fault_text 5 n) (1 + limit) (λ u e.
         chained f u _ _ [] (fault_text 5 n) 1 limit (calls f 16 fits at own m w.text w.answers refl POP_AT refl lies.0 lies.1 u e)
-        (rs.pop_fails _ _ m w.text w.answers n count (numbered ly f lo hi keys fits n Return is s r w h) kept_here.homed)))
+        (rs.pop_fails _ _ m w.text w.answers n count (numbered ly f lo hi keys fits n _ _ is s r w h) kept_here.homed)))

@@ -1,12 +1,11 @@
 -- What stays of the weaker relation while the code of an instruction runs.
-use Rattle.std.proofs.Common.{◌≡◌, ◌≢◌, ℕ, zero, suc, ◌+◌, ◌%◌, ◌≤◌, ◌<◌, true, false, List, ◌∷◌, length, refl, sym, ap, ◌∙◌, subst, arith, ⊎_elim, get_or-set_same, get_or-set_other, length-set, if◌then◌else◌, Bool}
-use Rattle.std.specs.Prelude.{slice_index, slice_set, replicate}
-use Rattle.std.proofs.lemmas.Bool.{cases_eq}
+use Rattle.std.proofs.Common.{◌≡◌, ◌≢◌, ℕ, zero, suc, ◌+◌, ◌%◌, ◌≤◌, ◌<◌, true, false, List, ◌∷◌, length, refl, sym, ap, ◌∙◌, arith, if◌then◌else◌, Bool}
+use Rattle.std.specs.Prelude.{slice_index, replicate}
 use Rattle.std.proofs.lemmas.Bool.Decides.{nat_tests}
 use Rattle.tb_cpu.specs.Effects.{bit}
 use Rattle.tb_memmap.specs.Regions.{within}
 use Rattle.tb_lower.specs.Control.{Place, State, column_after}
-use Rattle.tb_lower.specs.Slots.{Slots, with_word}
+use Rattle.tb_lower.specs.Slots.{Slots}
 use Rattle.tb_runtime16.specs.Places.{COLUMN, HELD, NOTES, OPEN, SEED, SEEDED}
 use Rattle.tb_templates.specs.Templates.{slot_at}
 use Rattle.tb_runtime16.specs.Routines.{Noted, WordAt, is_owned}
@@ -15,7 +14,7 @@ use Rattle.std.proofs.lemmas.List.{length-map}
 use Rattle.tb_keeping.proofs.Frames.{asked, drawn, noted_kept, popped, pushed, told, word_kept}
 use Rattle.tb_keeping.proofs.Mirrors.{Holds, notes_of}
 use Rattle.tb_selection.specs.declared.liveness.Live.{Live}
-use Rattle.tb_grouping.proofs.Landing.{Elsewhere, state_same}
+use Rattle.tb_grouping.proofs.Landing.{state_same}
 use Rattle.tb_grouping.proofs.Matching.{HoldsState, HoldsLive, state_of}
 
 -- ---- memory without its slots: what is known of a state and all slots is so known of the state alone
@@ -109,20 +108,6 @@ module _ (ly : Layout) where
   state_placed p s m h = record { vars = h.vars; column = h.column; opened = h.opened; seeded = h.seeded; count = h.count; notes = h.notes; few = h.few; all_vars = h.all_vars }
 
 -- ---- what is live
--- behind an instruction less is live than before it, but for what it writes
-pub live_less : (u u' : Live) (r : Slots) (m : ℕ → ℕ) → u'.slots ≤ u.slots → (u'.held ≡ true → u.held ≡ true) → HoldsLive u r m → HoldsLive u' r m
-live_less u u' r m few held h = record { words = λ k lt. h.words k (omega (arith, lt, few)); held = λ q. h.held (held q); all_words = h.all_words }
-
-pub live_with : (u u' : Live) (r : Slots) (m m' : ℕ → ℕ) (k v : ℕ) → k < 16 → ((j : ℕ) → j < u'.slots → j ≢ k → j < u.slots) → (u'.held ≡ true → u.held ≡ true) → HoldsLive u r m → WordAt m' (slot_at k) v → Elsewhere m m' (slot_at k) → HoldsLive u' (with_word r k v) m'
-live_with u u' r m m' k v fit few held h there e = record {
-  words = λ j lt. ⊎_elim
-      (λ q. subst (λ j. WordAt m' (slot_at j) (slice_index (slice_set r.words k v) j)) (sym q) (subst (λ y. WordAt m' (slot_at k) y) (sym (get_or-set_same r.words k v 0 (omega (arith, fit, h.all_words)))) there))
-      (λ n. subst (λ y. WordAt m' (slot_at j) y) (sym (get_or-set_other r.words k j v 0 n)) (word_kept m m' (slot_at j) _ (e _ (λ q. n (omega (arith, q))) (λ q. omega (arith, q))) (e _ (λ q. omega (arith, q)) (λ q. n (omega (arith, q)))) (h.words j (few j lt n))))
-      (cases_eq j k);
-  held = λ q. word_kept m m' HELD _ (e HELD (λ q. omega (arith, q, fit)) (λ q. omega (arith, q, fit))) (e (HELD + 1) (λ q. omega (arith, q, fit)) (λ q. omega (arith, q, fit))) (h.held (held q));
-  all_words = length-set r.words k v ∙ h.all_words;
-}
-
 -- slots and the held word stand
 pub live_same : (u : Live) (r : Slots) (m m' : ℕ → ℕ) → u.slots ≤ 16 → ((a : ℕ) → 0xC040 ≤ a → a ≤ 0xC061 → m' a ≡ m a) → HoldsLive u r m → HoldsLive u r m'
 live_same u r m m' few e h = record {

@@ -1,25 +1,32 @@
--- The code of a program by groups keeps the program.
-use Rattle.std.proofs.Common.{◌≡◌, ℕ, ◌+◌, ◌≤◌, List, [], length, arith}
+-- The code of a program by groups keeps the program, and marks its lines.
+use Rattle.std.proofs.Common.{◌≡◌, ℕ, ◌+◌, ◌≤◌, List, [], length, subst, arith}
 use Rattle.tb_kernal.specs.Machine as machine
-use Rattle.tb_reaching.specs.View.{Comes, part_at}
+use Rattle.tb_reaching.specs.View.{Comes, View, part_at}
 use Rattle.tb_reaching.specs.Start.{view_of, home_low, home_high}
 use Rattle.tb_reaching.proofs.Comes.{looser}
 use Rattle.tb_syntax.specs.Source.{Program, numbers}
 use Rattle.tb_lower.specs.Control.{first_place}
 use Rattle.tb_lower.specs.Follows.{Follows}
-use Rattle.tb_lower.specs.Slots.{SlotCode}
+use Rattle.tb_lower.specs.Slots.{SlotCode, SlotState, Whole}
 use Rattle.tb_runtime16.specs.Places.{LINES_AT}
 use Rattle.tb_keeping.specs.Kept.{Starts, Keeps}
+use Rattle.tb_keeping.specs.LineStarts.{MarksLines}
 use Rattle.tb_keeping.specs.Layout.{Layout, inner, place_at}
 use Rattle.tb_runtime16.specs.Routines.{Routines}
 use Rattle.tb_runtime16.specs.Ends.{Begun}
-use Rattle.tb_keeping.proofs.Headline.{setup, room_so}
+use Rattle.tb_keeping.proofs.Headline.{setup, room_so, OpeningLaw, StepLaws, headline}
+use Rattle.tb_keeping.proofs.LineStarts.{Known}
+use Rattle.tb_keeping.proofs.Marks.{all_marks}
 use Rattle.tb_keeping.proofs.Opening.{some_slots, some_length, opened}
+use Rattle.tb_selection.specs.GroupSteps.{group_step}
 use Rattle.tb_selection.specs.Laws.{AreClosed}
-use Rattle.tb_grouping.proofs.Beginnings.{from_old}
-use Rattle.tb_grouping.proofs.Polled.{GroupsLaid}
+use Rattle.tb_grouping.proofs.Beginnings.{from_opened}
+use Rattle.tb_grouping.proofs.Coded.{GroupsLaid}
 use Rattle.tb_grouping.proofs.GroupLaws.{step_law}
-use Rattle.tb_grouping.proofs.GroupHeadline.{OpeningLaw, InstrLaws, headline}
+use Rattle.tb_grouping.proofs.Falling.{Between}
+use Rattle.tb_grouping.proofs.GroupStrides.{group_stride}
+use Rattle.tb_grouping.proofs.GroupStarts.{lines_apart}
+use Rattle.tb_grouping.proofs.Matching.{StandsAt}
 use Rattle.tb_lower.specs.Meaning.{start}
 
 module _ (place : ℕ) (bytes : List ℕ) (from : 0x0800 ≤ place) (to : place + length bytes ≤ 0xa000) (ly : Layout) (program : Program) (sc : SlotCode) (follows : Follows program sc) (closed : AreClosed sc) (first_at : place_at ly (first_place (numbers sc)) ≡ LINES_AT) (laid : GroupsLaid ly (inner ly (part_at place bytes)) (part_at place bytes) sc) where
@@ -30,23 +37,33 @@ module _ (place : ℕ) (bytes : List ℕ) (from : 0x0800 ≤ place) (to : place 
   abbrev pub PrologueLaw : ℕ → Type 0
   PrologueLaw n = (s : machine.State) → Starts place bytes s → Comes (setup place bytes from to ly s) (view_of s) (Begun (setup place bytes from to ly s) s) [] n
 
+  -- the relation between groups, at each start
+  abbrev pub Related : machine.State → SlotState → View → Type 0
+  Related s = Between ly (setup place bytes from to ly s) (home_low s) (home_high s) (length s.text)
+
+  pub known : (s : machine.State) (c : SlotState) (w : View) → Related s c w → c.rest ≡ Whole → Known ly c.state w
+  known s c w m e = record { pc = subst (λ q. StandsAt ly (setup place bytes from to ly s).code w.regs.pc q c.state.place) e m.0.pc; vars = m.0.state.vars; count = m.0.state.count }
+
   module _ (limit : ℕ → ℕ) (n : ℕ) (routines : RoutineLaws limit) (prologue : PrologueLaw n) where
-    pub opening : OpeningLaw place bytes from to ly sc n
+    pub opening : OpeningLaw place bytes from to ly Related sc n
     opening s h =
         let f = setup place bytes from to ly s in
         looser f (view_of s) (Begun f s) _ [] n n (omega arith)
         (λ w b. (
           some_slots ly f sc laid.numbered first_at laid.seed_small s h.text h.answers w b,
           some_length ly f sc laid.numbered first_at laid.seed_small s h.text h.answers w b,
-          from_old ly f (home_low s) (home_high s) (length s.text) (start (numbers sc) ly.seed s.text s.answers) (some_slots ly f sc laid.numbered first_at laid.seed_small s h.text h.answers w b) w (opened ly f sc laid.numbered first_at laid.seed_small s h.text h.answers w b),
+          (from_opened ly f (home_low s) (home_high s) (length s.text) (start (numbers sc) ly.seed s.text s.answers) (some_slots ly f sc laid.numbered first_at laid.seed_small s h.text h.answers w b) w (opened ly f sc laid.numbered first_at laid.seed_small s h.text h.answers w b), tt),
         ))
         (prologue s h)
 
-    pub laws : InstrLaws place bytes from to ly sc (λ k. 24 + (limit k + limit k))
+    pub laws : StepLaws place bytes from to ly Related (group_step sc) (λ k. 24 + (limit k + limit k))
     laws s h c w m = step_law ly (setup place bytes from to ly s) (home_low s) (home_high s) (length s.text) (room_so place bytes from to ly s h) (limit (length s.text)) sc laid.numbered (routines s h) closed laid c w m
 
     pub positive : (k : ℕ) → 1 ≤ 24 + (limit k + limit k)
     positive k = omega arith
 
     abbrev pub keeps : Keeps place bytes program ly.seed
-    keeps = headline place bytes from to ly program sc follows (λ k. 24 + (limit k + limit k)) positive n opening laws
+    keeps = headline place bytes from to ly program sc follows (group_step sc) (group_stride sc) Related (λ k. 24 + (limit k + limit k)) positive n opening laws
+
+    abbrev pub marks : MarksLines place bytes program ly.seed ly.start
+    marks = all_marks place bytes from to ly program sc follows (lines_apart ly (part_at place bytes) sc laid) (group_step sc) (group_stride sc) Related known (λ k. 24 + (limit k + limit k)) positive n opening laws

@@ -1,10 +1,9 @@
 -- What stays of the weaker relation where a word is written to where a result goes.
 use Rattle.std.proofs.Common.{◌≡◌, ◌≢◌, ℕ, ◌+◌, ◌≤◌, ◌<◌, true, false, List, length, sym, ap, ◌∙◌, subst, arith, ⊎_elim, get_or-set_same, get_or-set_other, length-set}
 use Rattle.std.specs.Prelude.{slice_index, slice_set}
-use Rattle.std.proofs.lemmas.Bool.{cases_eq, leb-true}
+use Rattle.std.proofs.lemmas.Bool.{cases_eq}
 use Rattle.tb_lower.specs.Control.{State}
-use Rattle.tb_lower.specs.Slots.{Instr, Slots}
-use Rattle.tb_syntax.specs.declared.expressions.Operator.{Operator}
+use Rattle.tb_lower.specs.Slots.{Instr, Slots, with_word}
 use Rattle.tb_runtime16.specs.Places.{COLUMN, HELD, HOME_S, LINE, NOTES, OPEN, SEED, SEEDED}
 use Rattle.tb_templates.specs.Templates.{slot_at, var_at}
 use Rattle.tb_runtime16.specs.Routines.{SeedAt, WordAt, first, is_owned, stored}
@@ -12,12 +11,11 @@ use Rattle.tb_keeping.specs.Layout.{Layout}
 use Rattle.tb_keeping.proofs.Frames.{Same, SameSingles, notes_kept, owned_low, owned_note, put_away, word_kept}
 use Rattle.tb_keeping.proofs.Pieces.{put_word}
 use Rattle.tb_selection.specs.declared.liveness.Live.{Live}
-use Rattle.tb_selection.specs.Groups.{Operand, IntoVariable, IntoHeld, Destination, IntoSlot, IntoHome, Calculate}
+use Rattle.tb_selection.specs.Groups.{IntoVariable, IntoHeld, Destination, IntoSlot, IntoHome, slot_of}
 use Rattle.tb_selection.specs.Liveness.{live}
-use Rattle.tb_selection.specs.Select.{omits_only_dead}
-use Rattle.tb_grouping.proofs.Coded.{destination_at}
+use Rattle.tb_templates.specs.Sources.{destination_at}
 use Rattle.tb_grouping.proofs.Matching.{HoldsState, HoldsLive}
-use Rattle.tb_grouping.proofs.SlotSide.{calculated, calculated_length, calculated_same, fetched_held, with_fetched, held_asked, landed, other_asked, spread}
+use Rattle.tb_grouping.proofs.SlotSide.{Lasting, landed, slots_landed}
 
 pub seed_kept : (m m' : ℕ → ℕ) (option seed : ℕ) → SameSingles m m' → SeedAt m option seed → SeedAt m' option seed
 seed_kept m m' option seed e (stored k w) = stored (e SEEDED (omega arith) (omega arith) (λ q. omega (arith, q)) (λ q. omega (arith, q)) ∙ k) (word_kept m m' SEED _ (e SEED (omega arith) (omega arith) (λ q. omega (arith, q)) (λ q. omega (arith, q))) (e (SEED + 1) (omega arith) (omega arith) (λ q. omega (arith, q)) (λ q. omega (arith, q))) w)
@@ -83,31 +81,25 @@ state_landed ly s m m' (IntoHome (IntoVariable x)) v fit h w e =
     (λ a lo hi n n'. e a (λ q. omega (arith, q, lo, fit)) (λ q. omega (arith, q, lo, fit)))
     (λ a lo hi. e a (λ q. omega (arith, q, lo, fit)) (λ q. omega (arith, q, lo, fit)))
 
-pub read_landed : (op : Operator) (a b : Operand) (d : Destination) (is : List Instr) (s : State) (r : Slots) (m m' : ℕ → ℕ) (v : ℕ) → DestFits d → omits_only_dead (Calculate op a b d) (live is) ≡ true → HoldsLive (live (spread op a b d is)) r m → WordAt m' (destination_at d) v → Elsewhere m m' (destination_at d) → HoldsLive (live is) (calculated s r a b d v) m'
-read_landed op a b (IntoSlot k) is s r m m' v fit free h w e = record {
+pub read_landed : (u : Live) (d : Destination) (is : List Instr) (r q : Slots) (m m' : ℕ → ℕ) (v : ℕ) → DestFits d → Lasting u d is r q → HoldsLive u r m → WordAt m' (destination_at d) v → Elsewhere m m' (destination_at d) → HoldsLive (live is) (slots_landed d v (with_word q (slot_of d) v)) m'
+read_landed u (IntoSlot k) is r q m m' v fit l h w e = record {
   words = λ j lt. ⊎_elim
-      (λ q. subst (λ j. WordAt m' (slot_at j) (slice_index (calculated s r a b (IntoSlot k) v).words j)) (sym q) (subst (λ y. WordAt m' (slot_at k) y) (sym (calculated_same s r a b k v (omega (arith, fit, h.all_words)))) w))
-      (λ n. let o = other_asked op a b (IntoSlot k) is s r v j free lt n in
-      subst (λ y. WordAt m' (slot_at j) y) (sym o.1) (word_kept m m' (slot_at j) _ (e _ (λ q. n (omega (arith, q))) (λ q. omega (arith, q))) (e _ (λ q. omega (arith, q)) (λ q. n (omega (arith, q)))) (h.words j o.0)))
+      (λ p. subst (λ j. WordAt m' (slot_at j) (slice_index (slice_set q.words k v) j)) (sym p) (subst (λ y. WordAt m' (slot_at k) y) (sym (get_or-set_same q.words k v 0 (omega (arith, fit, h.all_words, l.all)))) w))
+      (λ n. let o = l.others j lt n in
+      subst (λ y. WordAt m' (slot_at j) y) (sym (get_or-set_other q.words k j v 0 n ∙ o.1)) (word_kept m m' (slot_at j) _ (e _ (λ q. n (omega (arith, q))) (λ q. omega (arith, q))) (e _ (λ q. omega (arith, q)) (λ q. n (omega (arith, q)))) (h.words j o.0)))
       (cases_eq j k);
-  held = λ q. subst (λ y. WordAt m' HELD y) (sym (held_same k)) (word_kept m m' HELD _ (e HELD (λ q. omega (arith, q, fit)) (λ q. omega (arith, q, fit))) (e (HELD + 1) (λ q. omega (arith, q, fit)) (λ q. omega (arith, q, fit))) (h.held (held_asked op a b (IntoSlot k) is q)));
-  all_words = calculated_length s r a b (IntoSlot k) v ∙ h.all_words;
+  held = λ p. subst (λ y. WordAt m' HELD y) (sym l.same_held) (word_kept m m' HELD _ (e HELD (λ q. omega (arith, q, fit)) (λ q. omega (arith, q, fit))) (e (HELD + 1) (λ q. omega (arith, q, fit)) (λ q. omega (arith, q, fit))) (h.held (l.held p)));
+  all_words = length-set q.words k v ∙ l.all ∙ h.all_words;
 }
-  where
-    held_same : (k : ℕ) → (calculated s r a b (IntoSlot k) v).held ≡ r.held
-    held_same k = fetched_held s (with_fetched s r k a) (k + 1) b ∙ fetched_held s r k a
-read_landed op a b (IntoHome (IntoVariable x)) is s r m m' v fit free h w e = record {
-  words = λ j lt. absurd (omega (arith, lt, leb-true _ _ free));
-  held = λ q. subst (λ y. WordAt m' HELD y) (sym held_same) (word_kept m m' HELD _ (e HELD (λ q. omega (arith, q, fit)) (λ q. omega (arith, q, fit))) (e (HELD + 1) (λ q. omega (arith, q, fit)) (λ q. omega (arith, q, fit))) (h.held (held_asked op a b (IntoHome (IntoVariable x)) is q)));
-  all_words = calculated_length s r a b (IntoHome (IntoVariable x)) v ∙ h.all_words;
+read_landed u (IntoHome (IntoVariable x)) is r q m m' v fit l h w e = record {
+  words = λ j lt. absurd (omega (arith, lt, l.dead));
+  held = λ p. subst (λ y. WordAt m' HELD y) (sym l.same_held) (word_kept m m' HELD _ (e HELD (λ q. omega (arith, q, fit)) (λ q. omega (arith, q, fit))) (e (HELD + 1) (λ q. omega (arith, q, fit)) (λ q. omega (arith, q, fit))) (h.held (l.held p)));
+  all_words = length-set q.words 0 v ∙ l.all ∙ h.all_words;
 }
-  where
-    held_same : (calculated s r a b (IntoHome (IntoVariable x)) v).held ≡ r.held
-    held_same = fetched_held s (with_fetched s r 0 a) 1 b ∙ fetched_held s r 0 a
-read_landed op a b (IntoHome IntoHeld) is s r m m' v fit free h w e = record {
-  words = λ j lt. absurd (omega (arith, lt, leb-true _ _ free));
+read_landed u (IntoHome IntoHeld) is r q m m' v fit l h w e = record {
+  words = λ j lt. absurd (omega (arith, lt, l.dead));
   held = λ q. w;
-  all_words = calculated_length s r a b (IntoHome IntoHeld) v ∙ h.all_words;
+  all_words = length-set q.words 0 v ∙ l.all ∙ h.all_words;
 }
 
 -- ---- the line's number set

@@ -7,7 +7,7 @@ use Rattle.tb_lower.specs.Control.{At, State, deepest, fault_text, has_line, nex
 use Rattle.tb_lower.specs.Slots.{Instr, JumpTo, CallTo, End, Slots, SlotCode, Whole}
 use Rattle.tb_reaching.proofs.Comes.{chained, looser}
 use Rattle.tb_reaching.proofs.Instr.{ins}
-use Rattle.tb_reaching.proofs.Placed.{along, placed_last}
+use Rattle.tb_reaching.proofs.Placed.{placed_last}
 use Rattle.tb_reaching.specs.Start.{IsHome}
 use Rattle.tb_reaching.specs.View.{Comes, Fits, Setup, View, view}
 use Rattle.tb_runtime16.specs.Routines.{Here, Moves, Routines, WordAt}
@@ -17,13 +17,14 @@ use Rattle.tb_keeping.proofs.Frames.{word_away, word_put}
 use Rattle.tb_keeping.proofs.Mirrors.{notes_of}
 use Rattle.tb_keeping.proofs.Pieces.{calls, jumps, put_word, sets, whatever}
 use Rattle.tb_keeping.proofs.Resolved.{Code, Lies, call_to, constant, faulting, jump_to}
-use Rattle.tb_keeping.proofs.Templates.{behind_call, homed_kept}
+use Rattle.tb_keeping.proofs.Returning.{behind_call, homed_kept}
 use Rattle.tb_selection.specs.Groups.{Single}
 use Rattle.tb_selection.specs.Liveness.{live}
+use Rattle.tb_grouping.proofs.Faults.{faults_at}
 use Rattle.tb_grouping.proofs.Frames.{state_placed, state_pushed}
 use Rattle.tb_grouping.proofs.Lone.{Kept, arrived, kept_lined, kept_put, lined, lines, numbered}
 use Rattle.tb_grouping.proofs.Matching.{Matches}
-use Rattle.tb_grouping.proofs.Polled.{GroupsLaid}
+use Rattle.tb_grouping.proofs.Coded.{GroupsLaid}
 use Rattle.tb_grouping.proofs.Ready.{Ready, here}
 
 module _ (ly : Layout) (f : Setup) (lo hi keys : ℕ) (fits : Fits f 16) where
@@ -38,13 +39,7 @@ module _ (ly : Layout) (f : Setup) (lo hi keys : ℕ) (fits : Fits f 16) where
 
     -- no such line
     faults : (i : Instr) (h : Ready ly f lo hi keys fits n (Single i) (i ∷ is) is s r w) → Lies f.code w.regs.pc (Code (constant n LINE) ∷ Code (faulting 1) ∷ []) → Comes f w (IsHome f) (fault_text 1 n) (6 + limit)
-    faults i h lies =
-        let m = lined ly f lo hi keys fits n i is s r w h in
-        looser f w _ _ (fault_text 1 n) (4 + (2 + limit)) (6 + limit) (omega arith) (λ u x. x)
-        (lines ly f lo hi keys fits n i is s r w h lies.0 lies.1 (IsHome f) (fault_text 1 n) (2 + limit)
-        (whatever f 16 fits (w.regs.pc + 10) own m w.text w.answers (IsHome f) (fault_text 1 n) (2 + limit) (λ a x y n' v i' z c.
-        along f 16 fits (faulting 1) (w.regs.pc + 10) (view a x y n' v i' z c (w.regs.pc + 10) own m w.text w.answers) _ (IsHome f) (fault_text 1 n) limit lies.2.1 (refl, refl, (refl, refl, tt)) refl
-        (rs.fault 1 (omega arith) m w.text w.answers n (numbered ly f lo hi keys fits n i is s r w h) (kept_lined ly f lo hi keys fits n i is s r w h).homed _ (record { here = record { pc = refl; stack = refl; binary = refl; mem = refl; text = refl; answers = refl }; number = refl })))))
+    faults i h lies = faults_at ly f lo hi keys fits limit rs n 1 h.small (omega arith) w.regs.pc w.mem w.text w.answers lies h.homed w (here ly f lo hi keys fits w [] [] h.stack h.binary)
 
     module _ (h : Ready ly f lo hi keys fits n (Single (JumpTo t)) (JumpTo t ∷ is) is s r w) where
       jump_lies : (b : Bool) → has_line ly.numbers t ≡ b → Lies f.code w.regs.pc (if not b then Code (constant n LINE) ∷ jump_to ly b t else jump_to ly b t)
@@ -69,21 +64,21 @@ module _ (ly : Layout) (f : Setup) (lo hi keys : ℕ) (fits : Fits f 16) where
 
       -- memory with the line's number, then with the address to return to
       abbrev one : ℕ → ℕ
-      one = lined ly f lo hi keys fits n (CallTo t) is s r w h
+      one = lined ly f lo hi keys fits n _ _ is s r w h
 
       abbrev two : ℕ → ℕ
       two = put_word one LEFT (next_at ly n % 256) (next_at ly n / 256)
 
       kept_two : Kept ly f lo hi keys fits (live (CallTo t ∷ is)) s r two
-      kept_two = kept_put ly f lo hi keys fits (live (CallTo t ∷ is)) s r one LEFT (next_at ly n % 256) (next_at ly n / 256) h.some_read refl refl (kept_lined ly f lo hi keys fits n (CallTo t) is s r w h)
+      kept_two = kept_put ly f lo hi keys fits (live (CallTo t ∷ is)) s r one LEFT (next_at ly n % 256) (next_at ly n / 256) h.some_read refl refl (kept_lined ly f lo hi keys fits n _ _ is s r w h)
 
       number : WordAt two LINE n
-      number = word_away one LEFT _ _ LINE n (λ e. omega (arith, e)) (λ e. omega (arith, e)) (λ e. omega (arith, e)) (numbered ly f lo hi keys fits n (CallTo t) is s r w h)
+      number = word_away one LEFT _ _ LINE n (λ e. omega (arith, e)) (λ e. omega (arith, e)) (λ e. omega (arith, e)) (numbered ly f lo hi keys fits n _ _ is s r w h)
 
       up_to_push : has_line ly.numbers t ≡ true → (q : View → Type 0) (l : List ℕ) (b : ℕ) → Moves f (Here PUSH_AT ((at + 10 + 2) % 256 ∷ (at + 10 + 2) / 256 ∷ own) two w.text w.answers) q l b → Comes f w q l (4 + (4 + (1 + b)))
       up_to_push found q l b next =
           let lies = call_lies true found in
-          lines ly f lo hi keys fits n (CallTo t) is s r w h lies.0 lies.1 q l (4 + (1 + b)) (λ u e.
+          lines ly f lo hi keys fits n _ _ is s r w h lies.0 lies.1 q l (4 + (1 + b)) (λ u e.
           chained f u _ q [] l 4 (1 + b) (sets f 16 fits at own one w.text w.answers refl (next_at ly n) LEFT lies.2.0 (omega arith, omega arith) lies.2.1 u e) (λ v e.
           chained f v _ q [] l 1 b (calls f 16 fits (at + 10) own two w.text w.answers refl PUSH_AT refl lies.2.2.0 lies.2.2.1 v e) next))
 

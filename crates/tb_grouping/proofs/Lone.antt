@@ -1,32 +1,33 @@
--- An instruction that is a group of its own: what it does, and what holds while its code runs and behind it.
-use Rattle.std.proofs.Common.{◌≡◌, ◌≢◌, ℕ, ◌+◌, ◌/◌, ◌%◌, ◌≤◌, ◌<◌, true, false, List, [], ◌∷◌, length, refl, sym, ap, ◌∙◌, subst, arith, append-nil}
+-- What holds while the code of a group runs, and behind it; and that an instruction alone is one step.
+use Rattle.std.proofs.Common.{◌≡◌, ℕ, ◌+◌, ◌/◌, ◌%◌, ◌≤◌, ◌<◌, true, false, List, [], ◌∷◌, length, refl, sym, ap, ◌∙◌, subst, arith, append-nil}
 use Rattle.tb_lower.specs.Control.{State, column_after}
 use Rattle.tb_lower.specs.Slots.{Instr, Rest, Whole, Left, Slots, SlotCode, SlotState, slot_step, with_word}
 use Rattle.tb_lower.specs.Steps.{Step, Goes, Stops, and_then}
 use Rattle.tb_reaching.proofs.Comes.{chained}
 use Rattle.tb_reaching.proofs.Instr.{Stands}
 use Rattle.tb_reaching.specs.View.{Comes, Fits, Setup, View}
+use Rattle.tb_runtime16.specs.Laws.{AllBytes}
 use Rattle.tb_runtime16.specs.Routines.{Entered, Here, Moves, Told, WordAt, is_owned}
 use Rattle.tb_runtime16.specs.Places.{HOME_S, LINE}
-use Rattle.tb_templates.specs.Templates.{slot_at}
 use Rattle.tb_keeping.specs.Layout.{Layout, place_at}
 use Rattle.tb_keeping.proofs.Frames.{owned_low, put_away, word_put}
 use Rattle.tb_keeping.proofs.Mirrors.{Typable}
 use Rattle.tb_keeping.proofs.Pieces.{put_word, sets}
 use Rattle.tb_keeping.proofs.Resolved.{constant, highest_code}
-use Rattle.tb_keeping.proofs.Templates.{homed_kept}
+use Rattle.tb_keeping.proofs.Returning.{homed_kept}
 use Rattle.tb_selection.specs.declared.liveness.Live.{Live}
-use Rattle.tb_selection.specs.Groups.{IntoSlot, Single}
+use Rattle.tb_selection.specs.Groups.{Destination, Group, slot_of}
 use Rattle.tb_selection.specs.Liveness.{live}
 use Rattle.tb_selection.specs.Select.{select}
 use Rattle.tb_selection.specs.GroupSteps.{inside, steps}
 use Rattle.tb_grouping.proofs.Beginnings.{nothing_read}
+use Rattle.tb_templates.specs.Sources.{destination_at}
 use Rattle.tb_grouping.proofs.Coded.{GroupsLie}
 use Rattle.tb_grouping.proofs.Matching.{HoldsState, HoldsLive, Matches}
-use Rattle.tb_grouping.proofs.SlotSide.{line}
-use Rattle.tb_grouping.proofs.Landing.{Elsewhere, home_kept, read_lined, scratch_put, state_landed, state_lined, state_scratch}
-use Rattle.tb_grouping.proofs.Frames.{live_same, live_with, state_told}
-use Rattle.tb_grouping.proofs.Ready.{Ready, here, stood}
+use Rattle.tb_grouping.proofs.SlotSide.{Lasting, landed, line, slots_landed}
+use Rattle.tb_grouping.proofs.Landing.{DestFits, Elsewhere, home_kept, read_landed, read_lined, scratch_put, state_landed, state_lined, state_scratch}
+use Rattle.tb_grouping.proofs.Frames.{live_same, state_told}
+use Rattle.tb_grouping.proofs.Ready.{Ready, here, landed_answers, landed_text, stood}
 
 -- its steps are one step
 pub one_step : (code : SlotCode) (i : Instr) (c : SlotState) → steps code (i ∷ []) c ≡ slot_step code c
@@ -66,17 +67,21 @@ module _ (ly : Layout) (f : Setup) (lo hi keys : ℕ) (fits : Fits f 16) where
   }
 
   module _ (code : SlotCode) where
-    -- behind it, where a word was written into slot k
-    pub slot_lands : (n : ℕ) → n < 65536 → (u : Live) (is : List Instr) (s : State) (r : Slots) (k v l h at : ℕ) (m : ℕ → ℕ) (t gets : List ℕ) → l ≡ v % 256 → h ≡ v / 256 → v < 65536 → k < 16 → ((j : ℕ) → j < (live is).slots → j ≢ k → j < u.slots) → ((live is).held ≡ true → u.held ≡ true) → GroupsLie ly f.code n at (select is) → Kept u s r m → t ≡ s.text → gets ≡ s.answers → Typable keys s.text s.answers → (w : View) → Here at (lo ∷ hi ∷ []) (put_word m (slot_at k) l h) t gets w → Matches ly f lo hi keys (line code n is s (with_word r k v)) w
-    slot_lands n number u is s r k v l h at m t gets el eh small fit few held rl c text got short w e =
-        let m' = put_word m (slot_at k) l h in
-        let there : WordAt m' (slot_at k) v = word_put m (slot_at k) l h v el eh small in
-        let away : Elsewhere m m' (slot_at k) = λ p x y. put_away m (slot_at k) l h p x y in
-        stood ly f lo hi keys fits code n number is s (with_word r k v) at m' t gets rl
-        (state_landed ly s m m' (IntoSlot k) v fit c.state there away)
-        (live_with u (live is) r m m' k v fit few held c.read there away)
-        (homed_kept ly f lo hi keys fits m m' (home_kept (IntoSlot k) fit m m' away) c.homed)
-        text got short w e
+    -- a word was written to where it goes, over a memory that still held all
+    pub word_lands : (n : ℕ) → n < 65536 → (u : Live) (d : Destination) (is : List Instr) (s : State) (r q : Slots) (v l h at : ℕ) (m : ℕ → ℕ) (t gets : List ℕ) → l ≡ v % 256 → h ≡ v / 256 → v < 65536 → DestFits d → Lasting u d is r q → GroupsLie ly f.code n at (select is) → Kept u s r m → t ≡ s.text → gets ≡ s.answers → Typable keys s.text s.answers → (w : View) → Here at (lo ∷ hi ∷ []) (put_word m (destination_at d) l h) t gets w → Matches ly f lo hi keys (line code n is (landed d v s) (slots_landed d v (with_word q (slot_of d) v))) w
+    word_lands n number u d is s r q v l h at m t gets el eh small fit last rl c text got short w e =
+        let m' = put_word m (destination_at d) l h in
+        let there : WordAt m' (destination_at d) v = word_put m (destination_at d) l h v el eh small in
+        let away : Elsewhere m m' (destination_at d) = λ p x y. put_away m (destination_at d) l h p x y in
+        let same = landed_text ly f lo hi keys fits d v s in
+        let left = landed_answers ly f lo hi keys fits d v s in
+        stood ly f lo hi keys fits code n number is (landed d v s) (slots_landed d v (with_word q (slot_of d) v)) at m' t gets rl
+        (state_landed ly s m m' d v fit c.state there away)
+        (read_landed u d is r q m m' v fit last c.read there away)
+        (homed_kept ly f lo hi keys fits m m' (home_kept d fit m m' away) c.homed)
+        (text ∙ sym same) (got ∙ sym left)
+        (record { short = subst (λ t. length t ≤ keys) (sym same) short.short; text_bytes = subst AllBytes (sym same) short.text_bytes; answer_bytes = subst AllBytes (sym left) short.answer_bytes })
+        w e
 
     -- where it has left the line
     pub arrived : (s : State) (r : Slots) (at : ℕ) (m : ℕ → ℕ) (t gets : List ℕ) → at ≡ place_at ly s.place → HoldsState ly s m → length r.words ≡ 16 → Entered f lo hi m → t ≡ s.text → gets ≡ s.answers → Typable keys s.text s.answers → (w : View) → Here at (lo ∷ hi ∷ []) m t gets w → Matches ly f lo hi keys (record { state = s; rest = Whole; slots = r }) w
@@ -92,9 +97,9 @@ module _ (ly : Layout) (f : Setup) (lo hi keys : ℕ) (fits : Fits f 16) where
       short = short;
     }
 
-  -- from its beginning
-  module _ (n : ℕ) (i : Instr) (is : List Instr) (s : State) (r : Slots) (w : View) (h : Ready ly f lo hi keys fits n (Single i) (i ∷ is) is s r w) where
-    pub kept : Kept (live (i ∷ is)) s r w.mem
+  -- from the beginning of a group
+  module _ (n : ℕ) (g : Group) (js is : List Instr) (s : State) (r : Slots) (w : View) (h : Ready ly f lo hi keys fits n g js is s r w) where
+    pub kept : Kept (live js) s r w.mem
     kept = record { state = h.state; read = h.read; homed = h.homed }
 
     -- memory with the line's number
@@ -104,10 +109,10 @@ module _ (ly : Layout) (f : Setup) (lo hi keys : ℕ) (fits : Fits f 16) where
     pub numbered : WordAt lined LINE n
     numbered = word_put w.mem LINE (n % 256) (n / 256) n refl refl h.small
 
-    pub kept_lined : Kept (live (i ∷ is)) s r lined
+    pub kept_lined : Kept (live js) s r lined
     kept_lined = record {
       state = state_lined ly s w.mem (n % 256) (n / 256) h.state;
-      read = read_lined (live (i ∷ is)) r w.mem (n % 256) (n / 256) h.read;
+      read = read_lined (live js) r w.mem (n % 256) (n / 256) h.read;
       homed = homed_kept ly f lo hi keys fits w.mem lined (put_away w.mem LINE (n % 256) (n / 256) HOME_S (λ q. omega (arith, q)) (λ q. omega (arith, q))) h.homed;
     }
 

@@ -2,15 +2,14 @@
 use Rattle.std.specs.Prelude.{◌≡◌, ℕ, ◌%◌, ◌≤◌, ◌<◌, true, false, [], ◌∷◌, length, slice_index}
 use Rattle.tb_cpu.specs.Effects.{bit}
 use Rattle.tb_reaching.specs.View.{View, Setup, Part}
-use Rattle.tb_reaching.specs.Start.{IsHome}
-use Rattle.tb_lower.specs.Steps.{Step, Goes, Stops, Ended, Faulted, Waits}
+use Rattle.tb_lower.specs.Steps.{Step}
 use Rattle.tb_lower.specs.Control.{Place, State}
 use Rattle.tb_lower.specs.Slots.{Rest, Whole, Left, Slots, SlotState}
 use Rattle.tb_runtime16.specs.Places.{COLUMN, OPEN, NOTES, HELD}
 use Rattle.tb_templates.specs.Templates.{var_at, slot_at}
-use Rattle.tb_runtime16.specs.Routines.{WordAt, SeedAt, Noted, Entered, Waiting}
+use Rattle.tb_runtime16.specs.Routines.{WordAt, SeedAt, Noted, Entered}
 use Rattle.tb_keeping.specs.Layout.{Layout, place_at}
-use Rattle.tb_keeping.proofs.Mirrors.{Holds, notes_of, Typable}
+use Rattle.tb_keeping.proofs.Mirrors.{Holds, notes_of, Typable, Leads}
 use Rattle.tb_selection.specs.declared.liveness.Live.{Live}
 use Rattle.tb_selection.specs.Liveness.{live, nothing_live}
 use Rattle.tb_selection.specs.Select.{select}
@@ -56,10 +55,7 @@ pub record Matches (ly : Layout) (f : Setup) (lo hi : ℕ) (keys : ℕ) (c : Slo
 
 -- where a step leads
 abbrev pub Target : Layout → Setup → ℕ → ℕ → ℕ → Step SlotState → View → Type 0
-Target ly f lo hi keys (Goes c t) w = Matches ly f lo hi keys c w
-Target ly f lo hi keys (Stops Ended t) w = IsHome f w
-Target ly f lo hi keys (Stops Faulted t) w = IsHome f w
-Target ly f lo hi keys (Stops Waits t) w = Waiting w
+Target ly f lo hi keys = Leads f (Matches ly f lo hi keys)
 
 -- ---- what the relation of all slots gives
 pub state_of : (ly : Layout) (s : State) (slots : Slots) (m : ℕ → ℕ) → Holds ly s slots m → HoldsState ly s m

@@ -17,13 +17,14 @@ use Rattle.tb_keeping.proofs.Frames.{put_away, word_kept, word_put}
 use Rattle.tb_keeping.proofs.Joins.{sent_in}
 use Rattle.tb_keeping.proofs.Pieces.{put_word}
 use Rattle.tb_keeping.proofs.Resolved.{size}
-use Rattle.tb_keeping.proofs.Templates.{homed_kept}
+use Rattle.tb_keeping.proofs.Returning.{homed_kept}
 use Rattle.tb_selection.specs.Groups.{Operand, Constant, Variable, InSlot, Home, IntoVariable, IntoHeld, IntoHome, Move, fetch, keep, expand}
 use Rattle.tb_selection.specs.Liveness.{live}
 use Rattle.tb_selection.specs.Select.{omits_only_dead, select}
 use Rattle.tb_selection.specs.GroupSteps.{steps}
 use Rattle.tb_grouping.proofs.Sources.{value}
-use Rattle.tb_grouping.proofs.Coded.{GroupsLie, source_of, home_at, low, high, brought}
+use Rattle.tb_templates.specs.Sources.{source_of, home_at}
+use Rattle.tb_grouping.proofs.Coded.{GroupsLie, low, high, brought}
 use Rattle.tb_grouping.proofs.Matching.{HoldsLive, Target}
 use Rattle.tb_grouping.proofs.SlotSide.{line, fetches, keeps, fetched, with_fetched, fetched_same, fetched_held, fetched_length, fetch_held, landed, slots_landed, StandsIn}
 use Rattle.tb_grouping.proofs.Landing.{DestFits, Elsewhere, home_kept, state_landed}

@@ -9,7 +9,9 @@ use Rattle.tb_keeping.proofs.Pieces.{InData}
 use Rattle.tb_selection.specs.declared.liveness.Live.{Live}
 use Rattle.tb_selection.specs.Groups.{Operand, Constant, Variable, InSlot, IntoVariable, IntoHeld, Destination, IntoSlot, IntoHome, Calculate, fetch, kept, slot_of, expand}
 use Rattle.tb_grouping.proofs.Sources.{value}
-use Rattle.tb_grouping.proofs.Coded.{Source, low, high, source_of, destination_at}
+use Rattle.tb_templates.specs.declared.sources.Source.{Source}
+use Rattle.tb_templates.specs.Sources.{source_of, destination_at}
+use Rattle.tb_grouping.proofs.Coded.{low, high}
 use Rattle.tb_grouping.proofs.Matching.{HoldsState, HoldsLive}
 use Rattle.tb_grouping.proofs.SlotSide.{fetched, StandsIn}
 use Rattle.tb_grouping.proofs.Landing.{DestFits}
@@ -32,8 +34,9 @@ pub record CalcFits (a b : Operand) (d : Destination) : Type 0 where
   pub slot : slot_of d + 1 < 16
   pub dest : DestFits d
 
-dest_fits : (d : Destination) → slot_of d + 1 < 16 → AreInRange 256 (kept d) → DestFits d
-dest_fits (IntoSlot k) lt h = omega (arith, lt)
+-- where a result goes, by the range of what takes it there
+pub dest_fits : (d : Destination) → slot_of d < 16 → AreInRange 256 (kept d) → DestFits d
+dest_fits (IntoSlot k) lt h = lt
 dest_fits (IntoHome (IntoVariable x)) lt h = h.0
 dest_fits (IntoHome IntoHeld) lt h = tt
 
@@ -41,7 +44,7 @@ pub calc_fits : (op : Operator) (a b : Operand) (d : Destination) → AreInRange
 calc_fits op a b d h =
     let l = range_fetch (slot_of d) a (fetch (slot_of d + 1) b ++ Compute op (slot_of d) ∷ kept d) h in
     let r = range_fetch (slot_of d + 1) b (Compute op (slot_of d) ∷ kept d) l.1 in
-    record { left = l.0; right = r.0; slot = r.1.0; dest = dest_fits d r.1.0 r.1.1 }
+    record { left = l.0; right = r.0; slot = r.1.0; dest = dest_fits d (omega (arith, r.1.0)) r.1.1 }
 
 -- a source has a word in a memory
 pub record SourceHolds (m : ℕ → ℕ) (a : Source) (w : ℕ) : Type 0 where

@@ -1,6 +1,6 @@
 -- The laws of what PRINT sends.
 use Rattle.std.proofs.Common.{◌≡◌, ℕ, ◌+◌, ◌-◌, ◌/◌, ◌%◌, ◌≤◌, List, [], ◌∷◌, length, refl, ap, ◌∙◌, subst, arith, append-nil}
-use Rattle.std.specs.Prelude.{slice_index, replicate}
+use Rattle.std.specs.Prelude.{replicate}
 use Rattle.tb_words.specs.Words.{digits_of}
 use Rattle.tb_lower.specs.Control.{State, column_after, zone}
 use Rattle.tb_lower.specs.Slots.{Instr, SendText, SendNumber, SendZone, SendNewline, Slots, SlotCode}
@@ -11,21 +11,24 @@ use Rattle.tb_reaching.proofs.Placed.{along}
 use Rattle.tb_reaching.specs.View.{Bytes, Comes, Fits, Setup, View, back_at, view}
 use Rattle.tb_runtime16.specs.Routines.{Here, Moves, Routines, Told}
 use Rattle.tb_runtime16.specs.Places.{COLUMN, LEFT, LENGTH, NUMBER_AT, SEND_AT, TEXT_AT, ZONE_AT}
-use Rattle.tb_templates.specs.Templates.{slot_at}
 use Rattle.tb_keeping.specs.Layout.{Layout}
 use Rattle.tb_keeping.proofs.Frames.{word_put}
-use Rattle.tb_keeping.proofs.Pieces.{calls, copies, jumps, put_word, whatever}
-use Rattle.tb_keeping.proofs.Resolved.{byte_call, highest_code, text_call}
-use Rattle.tb_keeping.proofs.Templates.{apart, behind_call, moved, told_here}
-use Rattle.tb_selection.specs.Groups.{Single}
+use Rattle.tb_keeping.proofs.Pieces.{calls, jumps, put_word, whatever}
+use Rattle.tb_keeping.proofs.Resolved.{byte_call, highest_code, size, text_call}
+use Rattle.tb_keeping.proofs.Returning.{apart, behind_call, moved, told_here}
+use Rattle.tb_selection.specs.Groups.{AsNumber, Group, Operand, Single, Use}
 use Rattle.tb_selection.specs.Liveness.{live}
 use Rattle.tb_selection.specs.Select.{select}
-use Rattle.tb_grouping.proofs.Coded.{GroupsLie}
-use Rattle.tb_grouping.proofs.Frames.{live_less}
+use Rattle.tb_templates.specs.Sources.{source_of}
+use Rattle.tb_grouping.proofs.Coded.{GroupsLie, brought, high, low}
 use Rattle.tb_grouping.proofs.Lone.{Kept, kept, kept_put, kept_scratch, kept_told}
-use Rattle.tb_grouping.proofs.Matching.{Matches}
+use Rattle.tb_grouping.proofs.Matching.{HoldsLive, Matches}
+use Rattle.tb_grouping.proofs.OneWord.{spread_use, use_fits, used_read, word_asked}
+use Rattle.tb_grouping.proofs.Operands.{operand_apart, operand_held}
 use Rattle.tb_grouping.proofs.Ready.{Ready, here, stood}
-use Rattle.tb_grouping.proofs.SlotSide.{line}
+use Rattle.tb_grouping.proofs.SlotSide.{fetched, line, with_fetched}
+use Rattle.tb_grouping.proofs.Sources.{value}
+use Rattle.tb_grouping.proofs.Sums.{brings}
 
 module _ (ly : Layout) (f : Setup) (lo hi keys : ℕ) (fits : Fits f 16) (limit : ℕ) (rs : Routines ly.table ly.seed ly.numbers ly.start f lo hi keys limit) (code : SlotCode) (n : ℕ) (is : List Instr) (s : State) (r : Slots) (w : View) where
   abbrev own : List ℕ
@@ -36,19 +39,18 @@ module _ (ly : Layout) (f : Setup) (lo hi keys : ℕ) (fits : Fits f 16) (limit 
   sent t = record s { column = column_after s.column t }
 
   -- behind the call of a routine that sends bytes
-  told_lands : (i : Instr) (h : Ready ly f lo hi keys fits n (Single i) (i ∷ is) is s r w) → (live is).slots ≤ (live (i ∷ is)).slots → (live (i ∷ is)).held ≡ (live is).held → (t : List ℕ) (at back : ℕ) (m : ℕ → ℕ) → GroupsLie ly f.code n at (select is) → Kept ly f lo hi keys fits (live (i ∷ is)) s r m → back ≡ at → (v : View) → Told back own m w.text w.answers t v → Matches ly f lo hi keys (line code n is (sent t) r) v
-  told_lands i h few held t at back m rest c e v g =
-      let c' = kept_told ly f lo hi keys fits (live (i ∷ is)) s r m t back own w.text w.answers v h.some_read g c in
-      stood ly f lo hi keys fits code n h.small is (sent t) r at v.mem w.text w.answers rest c'.state
-      (live_less (live (i ∷ is)) (live is) r v.mem few (λ q. held ∙ q) c'.read) c'.homed h.text h.answers h.short v
-      (told_here ly f lo hi keys fits back at m t w.text w.answers v g e)
+  told_lands : (g : Group) (js : List Instr) (h : Ready ly f lo hi keys fits n g js is s r w) (r' : Slots) → ((m : ℕ → ℕ) → HoldsLive (live js) r m → HoldsLive (live is) r' m) → (t : List ℕ) (at back : ℕ) (m : ℕ → ℕ) → GroupsLie ly f.code n at (select is) → Kept ly f lo hi keys fits (live js) s r m → back ≡ at → (v : View) → Told back own m w.text w.answers t v → Matches ly f lo hi keys (line code n is (sent t) r') v
+  told_lands g js h r' read t at back m rest c e v q =
+      let c' = kept_told ly f lo hi keys fits (live js) s r m t back own w.text w.answers v h.some_read q c in
+      stood ly f lo hi keys fits code n h.small is (sent t) r' at v.mem w.text w.answers rest c'.state (read v.mem c'.read) c'.homed h.text h.answers h.short v
+      (told_here ly f lo hi keys fits back at m t w.text w.answers v q e)
 
   pub newline_law : Ready ly f lo hi keys fits n (Single SendNewline) (SendNewline ∷ is) is s r w → Comes f w (Matches ly f lo hi keys (line code n is (sent (13 ∷ [])) r)) (13 ∷ []) (2 + limit)
   newline_law h =
       whatever f 16 fits w.regs.pc own w.mem w.text w.answers _ (13 ∷ []) (2 + limit) (λ a x y n' v i z c'.
       along f 16 fits (byte_call SEND_AT 13) w.regs.pc (view a x y n' v i z c' w.regs.pc own w.mem w.text w.answers) _ _ (13 ∷ []) limit h.lies.1 (refl, refl, (refl, refl, tt)) refl
       (looser f _ _ _ (13 ∷ []) limit limit (omega arith)
-      (told_lands SendNewline h (omega arith) refl (13 ∷ []) (w.regs.pc + 5) _ w.mem h.rest (kept ly f lo hi keys fits n SendNewline is s r w h) (returns_to w.regs.pc h.lies.0))
+      (told_lands _ _ h r (λ m k. k) (13 ∷ []) (w.regs.pc + 5) _ w.mem h.rest (kept ly f lo hi keys fits n _ _ is s r w h) (returns_to w.regs.pc h.lies.0))
       (rs.send _ _ w.mem w.text w.answers 13 (omega arith) _ (record { here = record { pc = refl; stack = refl; binary = refl; mem = refl; text = refl; answers = refl }; number = refl })))) w (here ly f lo hi keys fits w [] [] h.stack h.binary)
     where
       returns_to : (at : ℕ) → at + 5 ≤ highest_code → back_at ((((at + 2) % 65536 + 3) % 65536 + 65535) % 65536 % 256) ((((at + 2) % 65536 + 3) % 65536 + 65535) % 65536 / 256) ≡ at + 5
@@ -72,7 +74,7 @@ module _ (ly : Layout) (f : Setup) (lo hi keys : ℕ) (fits : Fits f 16) (limit 
   text_law t h =
       let m = with_byte w.mem 0xFB ((w.regs.pc + 19) % 256) in
       let m' = with_byte m 0xFC ((w.regs.pc + 19) / 256) in
-      let c = kept_scratch ly f lo hi keys fits (live is) s r w.mem (with_byte m' LENGTH (length t)) h.few_behind (λ a o. put_other m' LENGTH (length t) a (apart ly f lo hi keys fits a LENGTH o refl) ∙ put_other m 0xFC ((w.regs.pc + 19) / 256) a (apart ly f lo hi keys fits a 0xFC o refl) ∙ put_other w.mem 0xFB ((w.regs.pc + 19) % 256) a (apart ly f lo hi keys fits a 0xFB o refl)) (kept ly f lo hi keys fits n (SendText t) is s r w h) in
+      let c = kept_scratch ly f lo hi keys fits (live is) s r w.mem (with_byte m' LENGTH (length t)) h.few_behind (λ a o. put_other m' LENGTH (length t) a (apart ly f lo hi keys fits a LENGTH o refl) ∙ put_other m 0xFC ((w.regs.pc + 19) / 256) a (apart ly f lo hi keys fits a 0xFC o refl) ∙ put_other w.mem 0xFB ((w.regs.pc + 19) % 256) a (apart ly f lo hi keys fits a 0xFB o refl)) (kept ly f lo hi keys fits n _ _ is s r w h) in
       whatever f 16 fits w.regs.pc own w.mem w.text w.answers _ t (8 + limit) (λ a x y n' v i z c'.
       looser f _ _ _ t (7 + (limit + 1)) (8 + limit) (omega arith) (λ u g. g)
       (along f 16 fits (text_call TEXT_AT (w.regs.pc + 19) (length t)) w.regs.pc (view a x y n' v i z c' w.regs.pc own w.mem w.text w.answers) _ _ t (limit + 1) h.lies.1 (refl, refl, (refl, refl, (refl, refl, (refl, refl, (refl, refl, (refl, refl, (refl, refl, tt))))))) refl
@@ -87,7 +89,7 @@ module _ (ly : Layout) (f : Setup) (lo hi keys : ℕ) (fits : Fits f 16) (limit 
       subst (λ t. Comes f w (Matches ly f lo hi keys (line code n is (sent t) r)) t (1 + limit)) same
       (chained f w _ _ [] (zone (w.mem COLUMN)) 1 limit (calls f 16 fits w.regs.pc own w.mem w.text w.answers refl ZONE_AT refl h.lies.0 h.lies.1 w (here ly f lo hi keys fits w [] [] h.stack h.binary)) (λ u e.
       looser f u _ _ (zone (w.mem COLUMN)) limit limit (omega arith)
-      (told_lands SendZone h (omega arith) refl (zone (w.mem COLUMN)) (w.regs.pc + 3) _ w.mem h.rest (kept ly f lo hi keys fits n SendZone is s r w h) (behind_call ly f lo hi keys fits w.regs.pc h.lies.0))
+      (told_lands _ _ h r (λ m k. k) (zone (w.mem COLUMN)) (w.regs.pc + 3) _ w.mem h.rest (kept ly f lo hi keys fits n _ _ is s r w h) (behind_call ly f lo hi keys fits w.regs.pc h.lies.0))
       (rs.zone _ _ w.mem w.text w.answers (omega (arith, h.state.column)) u e)))
     where
       zone' : ℕ → List ℕ
@@ -96,16 +98,20 @@ module _ (ly : Layout) (f : Setup) (lo hi keys : ℕ) (fits : Fits f 16) (limit 
       zone_mod : (c : ℕ) → zone (c % 256) ≡ zone c
       zone_mod c = ap (λ k. replicate (8 - k) 32) (let e : c % 256 % 8 ≡ c % 8 = omega arith in e)
 
-  pub number_law : Ready ly f lo hi keys fits n (Single SendNumber) (SendNumber ∷ is) is s r w → Comes f w (Matches ly f lo hi keys (line code n is (sent (digits_of (slice_index r.words 0))) r)) (digits_of (slice_index r.words 0)) (5 + limit)
-  number_law h =
+  pub number_law : (a : Operand) → Ready ly f lo hi keys fits n (Use AsNumber a) (spread_use AsNumber a is) is s r w → Comes f w (Matches ly f lo hi keys (line code n is (sent (digits_of (fetched s r 0 a))) (with_fetched s r 0 a))) (digits_of (fetched s r 0 a)) (5 + limit)
+  number_law a h =
       let lies = h.lies in
-      let t = digits_of (slice_index r.words 0) in
-      let v = h.read.words 0 (omega arith) in
-      let m = put_word w.mem LEFT (w.mem (slot_at 0)) (w.mem (slot_at 0 + 1)) in
-      let c = kept_put ly f lo hi keys fits (live (SendNumber ∷ is)) s r w.mem LEFT (w.mem (slot_at 0)) (w.mem (slot_at 0 + 1)) h.some_read refl refl (kept ly f lo hi keys fits n SendNumber is s r w h) in
+      let fit = use_fits AsNumber a h.ranged in
+      let t = digits_of (fetched s r 0 a) in
+      let src = source_of 0 a in
+      let u = live (spread_use AsNumber a is) in
+      let v = operand_held ly s u r w.mem 0 a h.state h.read fit (word_asked 0 a SendNumber is refl) in
+      let m = put_word w.mem LEFT (value w.mem (low src)) (value w.mem (high src)) in
+      let c = kept_put ly f lo hi keys fits u s r w.mem LEFT _ _ h.some_read refl refl (kept ly f lo hi keys fits n _ _ is s r w h) in
+      let p = w.regs.pc + size (brought src LEFT) in
       looser f w _ _ t (4 + (1 + limit)) (5 + limit) (omega arith) (λ u x. x)
-      (chained f w _ _ [] t 4 (1 + limit) (copies f 16 fits w.regs.pc own w.mem w.text w.answers refl (slot_at 0) LEFT lies.0 (omega arith, omega arith) (omega arith, omega arith) (λ e. omega (arith, e)) lies.1 w (here ly f lo hi keys fits w [] [] h.stack h.binary)) (λ u e.
-      chained f u _ _ [] t 1 limit (calls f 16 fits (w.regs.pc + 12) own m w.text w.answers refl NUMBER_AT refl lies.2.0 lies.2.1 u e) (λ u e.
+      (chained f w _ _ [] t 4 (1 + limit) (brings f 16 fits w.regs.pc own w.mem w.text w.answers refl src LEFT lies.0 (operand_apart 0 a LEFT 24625 refl (omega arith) fit) (omega arith, omega arith) lies.1 w (here ly f lo hi keys fits w [] [] h.stack h.binary)) (λ u e.
+      chained f u _ _ [] t 1 limit (calls f 16 fits p own m w.text w.answers refl NUMBER_AT refl lies.2.0 lies.2.1 u e) (λ u e.
       looser f u _ _ t limit limit (omega arith)
-      (told_lands SendNumber h (omega arith) refl t (w.regs.pc + 15) _ m h.rest c (behind_call ly f lo hi keys fits (w.regs.pc + 12) lies.2.0 ∙ (let q : w.regs.pc + 12 + 3 ≡ w.regs.pc + 15 = omega arith in q)))
-      (rs.number _ _ m w.text w.answers (slice_index r.words 0) (word_put w.mem LEFT (w.mem (slot_at 0)) (w.mem (slot_at 0 + 1)) _ v.low v.high v.small) (omega (arith, c.state.column)) u e))))
+      (told_lands _ _ h (with_fetched s r 0 a) (λ m k. used_read AsNumber a is s r m h.free k) t (w.regs.pc + (size (brought src LEFT) + 3)) _ m h.rest c (behind_call ly f lo hi keys fits p lies.2.0 ∙ (let q : p + 3 ≡ w.regs.pc + (size (brought src LEFT) + 3) = omega arith in q)))
+      (rs.number _ _ m w.text w.answers (fetched s r 0 a) (word_put w.mem LEFT _ _ _ v.low_byte v.high_byte v.small) (omega (arith, c.state.column)) u e))))

@@ -8,7 +8,8 @@ use Rattle.tb_lower.specs.Steps.{Step, Goes, Stops, Faulted, and_then}
 use Rattle.tb_lower.specs.Control.{State, fault_text}
 use Rattle.tb_lower.specs.Values.{apply, given}
 use Rattle.tb_lower.specs.Meaning as meaning
-use Rattle.tb_lower.specs.Slots.{Instr, Compute, SlotCode, Left, Slots, SlotState, settled, into, with_word}
+use Rattle.tb_syntax.specs.Source.{numbers}
+use Rattle.tb_lower.specs.Slots.{Instr, Compute, SlotCode, Left, Slots, SlotState, Stays, act, settled, into, with_word}
 use Rattle.tb_lower.proofs.Runs.{after_nothing}
 use Rattle.tb_selection.specs.declared.liveness.Live.{Live}
 use Rattle.tb_selection.specs.Groups.{Operand, Constant, Variable, InSlot, IntoVariable, IntoHeld, Destination, IntoSlot, IntoHome, Calculate, fetch, kept, slot_of, expand}
@@ -53,31 +54,6 @@ spread_is op a b d is =
     append_assoc (fetch (slot_of d) a) (fetch (slot_of d + 1) b ++ Compute op (slot_of d) ∷ kept d) is
     ∙ ap (λ l. fetch (slot_of d) a ++ l) (append_assoc (fetch (slot_of d + 1) b) (Compute op (slot_of d) ∷ kept d) is)
 
-module _ (code : SlotCode) (n : ℕ) where
-  -- a state of the slot code in the line
-  abbrev pub line : List Instr → State → Slots → SlotState
-  line is s r = record { state = s; rest = Left n is; slots = r }
-
-  pub fetches : (k : ℕ) (a : Operand) (js back : List Instr) (s : State) (r : Slots) → steps code (fetch k a ++ js) (line (fetch k a ++ back) s r) ≡ steps code js (line back s (with_fetched s r k a))
-  fetches k (Constant w) js back s r = after_nothing (steps code js (line back s (with_word r k (word w))))
-  fetches k (Variable x) js back s r = after_nothing (steps code js (line back s (with_word r k (slice_index s.vars x))))
-  fetches k InSlot js back s r = refl
-
-  -- behind an instruction that stays
-  abbrev pub next : List Instr → Step SlotState → Step SlotState
-  next js x = and_then x (λ c. inside (steps code js) c.rest c)
-
-  pub computes : (op : Operator) (k v : ℕ) (js back : List Instr) (s : State) (r : Slots) → apply op (slice_index r.words k) (slice_index r.words (k + 1)) ≡ Some v → steps code (Compute op k ∷ js) (line (Compute op k ∷ back) s r) ≡ steps code js (line back s (with_word r k v))
-  computes op k v js back s r e = ap (λ o. next js (settled n back r (into n k (given o s.seed) s r))) e ∙ after_nothing (steps code js (line back s (with_word r k v)))
-
-  pub fails : (op : Operator) (k : ℕ) (js back : List Instr) (s : State) (r : Slots) → apply op (slice_index r.words k) (slice_index r.words (k + 1)) ≡ None → steps code (Compute op k ∷ js) (line (Compute op k ∷ back) s r) ≡ Stops Faulted (fault_text 2 n)
-  fails op k js back s r e = ap (λ o. next js (settled n back r (into n k (given o s.seed) s r))) e
-
-  pub keeps : (d : Destination) (is : List Instr) (s : State) (r : Slots) → steps code (kept d) (line (kept d ++ is) s r) ≡ Goes (line is (landed d (slice_index r.words (slot_of d)) s) (slots_landed d (slice_index r.words (slot_of d)) r)) []
-  keeps (IntoSlot k) is s r = refl
-  keeps (IntoHome (IntoVariable x)) is s r = refl
-  keeps (IntoHome IntoHeld) is s r = refl
-
 -- ---- slots looked at
 same_slot : (r : Slots) (k v : ℕ) → k < length r.words → slice_index (slice_set r.words k v) k ≡ v
 same_slot r k v h = get_or-set_same r.words k v 0 h
@@ -111,6 +87,40 @@ fetched_behind s r k j a (Constant w) h = refl
 fetched_behind s r k j a (Variable x) h = refl
 fetched_behind s r k j a InSlot h = fetched_other s r k j a h
 
+-- ---- what steps do
+module _ (code : SlotCode) (n : ℕ) where
+  -- a state of the slot code in the line
+  abbrev pub line : List Instr → State → Slots → SlotState
+  line is s r = record { state = s; rest = Left n is; slots = r }
+
+  pub fetches : (k : ℕ) (a : Operand) (js back : List Instr) (s : State) (r : Slots) → steps code (fetch k a ++ js) (line (fetch k a ++ back) s r) ≡ steps code js (line back s (with_fetched s r k a))
+  fetches k (Constant w) js back s r = after_nothing (steps code js (line back s (with_word r k (word w))))
+  fetches k (Variable x) js back s r = after_nothing (steps code js (line back s (with_word r k (slice_index s.vars x))))
+  fetches k InSlot js back s r = refl
+
+  -- behind an instruction that stays
+  abbrev pub next : List Instr → Step SlotState → Step SlotState
+  next js x = and_then x (λ c. inside (steps code js) c.rest c)
+
+  -- an instruction that stays, and one that faults
+  pub acts : (i : Instr) (js back : List Instr) (s s' : State) (r r' : Slots) → act (numbers code) n i s r ≡ Goes (Stays s' r') [] → steps code (i ∷ js) (line (i ∷ back) s r) ≡ steps code js (line back s' r')
+  acts i js back s s' r r' e = ap (λ x. next js (settled n back r x)) e ∙ after_nothing (steps code js (line back s' r'))
+
+  pub stops : (i : Instr) (js back : List Instr) (s : State) (r : Slots) (t : List ℕ) → act (numbers code) n i s r ≡ Stops Faulted t → steps code (i ∷ js) (line (i ∷ back) s r) ≡ Stops Faulted t
+  stops i js back s r t e = ap (λ x. next js (settled n back r x)) e
+
+  pub keeps : (d : Destination) (is : List Instr) (s : State) (r : Slots) → steps code (kept d) (line (kept d ++ is) s r) ≡ Goes (line is (landed d (slice_index r.words (slot_of d)) s) (slots_landed d (slice_index r.words (slot_of d)) r)) []
+  keeps (IntoSlot k) is s r = refl
+  keeps (IntoHome (IntoVariable x)) is s r = refl
+  keeps (IntoHome IntoHeld) is s r = refl
+
+  -- the word that is worked out goes to where it goes
+  pub ends : (i : Instr) (d : Destination) (is : List Instr) (s s' : State) (q : Slots) (v : ℕ) → slot_of d < length q.words → act (numbers code) n i s q ≡ Goes (Stays s' (with_word q (slot_of d) v)) [] → steps code (i ∷ kept d) (line (i ∷ (kept d ++ is)) s q) ≡ Goes (line is (landed d v s') (slots_landed d v (with_word q (slot_of d) v))) []
+  ends i d is s s' q v lt e =
+      acts i (kept d) (kept d ++ is) s s' q (with_word q (slot_of d) v) e
+      ∙ keeps d is s' (with_word q (slot_of d) v)
+      ∙ ap (λ v'. Goes (line is (landed d v' s') (slots_landed d v' (with_word q (slot_of d) v))) []) (same_slot q (slot_of d) v lt)
+
 -- ---- a calculation
 module _ (code : SlotCode) (n : ℕ) (op : Operator) (a b : Operand) (d : Destination) (is : List Instr) (s : State) (r : Slots) (all : length r.words ≡ 16) (room : slot_of d + 1 < 16) where
   abbrev k : ℕ
@@ -139,17 +149,13 @@ module _ (code : SlotCode) (n : ℕ) (op : Operator) (a b : Operand) (d : Destin
   pub calculate_goes : (v : ℕ) → apply op (fetched s r k a) (fetched s r (k + 1) b) ≡ Some v → steps code (expand (Calculate op a b d)) (line code n (spread op a b d is) s r) ≡ Goes (line code n is (landed d v s) (calculated s r a b d v)) []
   calculate_goes v e =
       let got : apply op (slice_index both.words k) (slice_index both.words (k + 1)) ≡ Some v = ap (λ x. apply op x (slice_index both.words (k + 1))) left_is ∙ ap (λ y. apply op (fetched s r k a) y) right_is ∙ e in
-      let last = with_word both k v in
-      so_far
-      ∙ computes code n op k v (kept d) (kept d ++ is) s both got
-      ∙ keeps code n d is s last
-      ∙ ap (λ v'. Goes (line code n is (landed d v' s) (slots_landed d v' last)) []) (same_slot both k v (omega (arith, both_length, room)))
+      so_far ∙ ends code n (Compute op k) d is s s both v (omega (arith, both_length, room)) (ap (λ o. into n k (given o s.seed) s both) got)
 
   -- and where it has none
   pub calculate_fails : apply op (fetched s r k a) (fetched s r (k + 1) b) ≡ None → steps code (expand (Calculate op a b d)) (line code n (spread op a b d is) s r) ≡ Stops Faulted (fault_text 2 n)
   calculate_fails e =
       let got : apply op (slice_index both.words k) (slice_index both.words (k + 1)) ≡ None = ap (λ x. apply op x (slice_index both.words (k + 1))) left_is ∙ ap (λ y. apply op (fetched s r k a) y) right_is ∙ e in
-      so_far ∙ fails code n op k (kept d) (kept d ++ is) s both got
+      so_far ∙ stops code n (Compute op k) (kept d) (kept d ++ is) s both (fault_text 2 n) (ap (λ o. into n k (given o s.seed) s both) got)
 
 -- ---- what is read
 pub written_reads : (j k : ℕ) (u : Live) → j < u.slots → j ≢ k → j < (written k u).slots
@@ -176,19 +182,29 @@ StandsIn InSlot k u = k < u.slots
 StandsIn (Constant w) k u = Unit {0}
 StandsIn (Variable x) k u = Unit {0}
 
+-- slot 0 is dead where its word goes to a home
+abbrev pub IsDead : Destination → Live → Type 0
+IsDead (IntoSlot k) u = Unit {0}
+IsDead (IntoHome home) u = u.slots ≤ 0
+
+-- where slots q have taken the place of r, what is read behind a word that goes to d is read before it too, and stands
+pub record Lasting (u : Live) (d : Destination) (is : List Instr) (r q : Slots) : Type 0 where
+  pub all : length q.words ≡ length r.words
+  pub same_held : q.held ≡ r.held
+  pub dead : IsDead d (live is)
+  pub others : (j : ℕ) → j < (live is).slots → j ≢ slot_of d → (j < u.slots) × (slice_index q.words j ≡ slice_index r.words j)
+  pub held : (live (kept d ++ is)).held ≡ true → u.held ≡ true
+
+pub kept_reads : (d : Destination) (is : List Instr) (j : ℕ) → j < (live is).slots → j < (live (kept d ++ is)).slots
+kept_reads (IntoSlot k) is j lt = lt
+kept_reads (IntoHome (IntoVariable x)) is j lt = omega (arith, lt)
+kept_reads (IntoHome IntoHeld) is j lt = omega (arith, lt)
+
 -- ---- a calculation, read
 -- what a calculation reads, and that it leaves out nothing that is read behind it
 module _ (op : Operator) (a b : Operand) (d : Destination) (is : List Instr) where
   abbrev pub asked : Live
   asked = live (spread op a b d is)
-
-  kept_reads : (j : ℕ) → j < (live is).slots → j < (live (kept d ++ is)).slots
-  kept_reads j lt = by d
-    where
-      by : (d : Destination) → j < (live (kept d ++ is)).slots
-      by (IntoSlot k) = lt
-      by (IntoHome (IntoVariable x)) = omega (arith, lt)
-      by (IntoHome IntoHeld) = omega (arith, lt)
 
   abbrev computed : List Instr
   computed = Compute op (slot_of d) ∷ (kept d ++ is)
@@ -212,64 +228,63 @@ module _ (op : Operator) (a b : Operand) (d : Destination) (is : List Instr) whe
       by (Constant w) = tt
       by (Variable x) = tt
 
-  -- another slot that is read behind it is read before it, and is the same
-  pub other_asked : (s : State) (r : Slots) (v j : ℕ) → omits_only_dead (Calculate op a b d) (live is) ≡ true → j < (live is).slots → j ≢ slot_of d → (j < asked.slots) × (slice_index (calculated s r a b d v).words j ≡ slice_index r.words j)
-  other_asked s r v j free lt ne = by d free ne
-    where
-      -- a slot that is not the right operand's, or that one where nothing is fetched into it
-      apart : (k : ℕ) → right_slot_dead a b k (live is) ≡ true → j ≢ k → (j ≢ k + 1) ⊎ (b ≡ InSlot)
-      apart k = go a b
-        where
-          go : (a b : Operand) → right_slot_dead a b k (live is) ≡ true → j ≢ k → (j ≢ k + 1) ⊎ (b ≡ InSlot)
-          go InSlot InSlot f n = inr refl
-          go InSlot (Constant w) f n = inl (λ e. omega (arith, e, lt, leb-true _ _ f))
-          go InSlot (Variable x) f n = inl (λ e. omega (arith, e, lt, leb-true _ _ f))
-          go (Constant w) b f n = inl (λ e. omega (arith, e, lt, low w b f))
-            where
-              low : (w : ℕ) (b : Operand) → right_slot_dead (Constant w) b k (live is) ≡ true → (live is).slots ≤ k + 1
-              low w InSlot f = leb-true _ _ f
-              low w (Constant v) f = leb-true _ _ f
-              low w (Variable x) f = leb-true _ _ f
-          go (Variable x) b f n = inl (λ e. omega (arith, e, lt, low x b f))
-            where
-              low : (x : ℕ) (b : Operand) → right_slot_dead (Variable x) b k (live is) ≡ true → (live is).slots ≤ k + 1
-              low x InSlot f = leb-true _ _ f
-              low x (Constant v) f = leb-true _ _ f
-              low x (Variable y) f = leb-true _ _ f
+  module _ (s : State) (r : Slots) (free : omits_only_dead (Calculate op a b d) (live is) ≡ true) where
+    -- the slots once both operands are fetched
+    abbrev given_both : Slots
+    given_both = with_fetched s (with_fetched s r (slot_of d) a) (slot_of d + 1) b
 
-      in_slot : (k : ℕ) → j ≢ k → (j ≢ k + 1) ⊎ (b ≡ InSlot) → (j < (live (fetch k a ++ (fetch (k + 1) b ++ Compute op k ∷ is))).slots) × (slice_index (slice_set (with_fetched s (with_fetched s r k a) (k + 1) b).words k v) j ≡ slice_index r.words j)
-      in_slot k n q = (
-        fetch_reads j k a (fetch (k + 1) b ++ Compute op k ∷ is) (right q) n,
-        get_or-set_other (with_fetched s (with_fetched s r k a) (k + 1) b).words k j v 0 n ∙ same q ∙ fetched_other s r k j a n,
-      )
-        where
-          right : (j ≢ k + 1) ⊎ (b ≡ InSlot) → j < (live (fetch (k + 1) b ++ Compute op k ∷ is)).slots
-          right (inl x) = fetch_reads j (k + 1) b (Compute op k ∷ is) (omega (arith, lt)) x
-          right (inr e) = subst (λ b. j < (live (fetch (k + 1) b ++ Compute op k ∷ is)).slots) (sym e) (omega (arith, lt))
+    -- another slot that is read behind it is read before it, and is the same
+    other_asked : (j : ℕ) → j < (live is).slots → j ≢ slot_of d → (j < asked.slots) × (slice_index given_both.words j ≡ slice_index r.words j)
+    other_asked j lt ne = by d free ne
+      where
+        -- a slot that is not the right operand's, or that one where nothing is fetched into it
+        apart : (k : ℕ) → right_slot_dead a b k (live is) ≡ true → j ≢ k → (j ≢ k + 1) ⊎ (b ≡ InSlot)
+        apart k = go a b
+          where
+            go : (a b : Operand) → right_slot_dead a b k (live is) ≡ true → j ≢ k → (j ≢ k + 1) ⊎ (b ≡ InSlot)
+            go InSlot InSlot f n = inr refl
+            go InSlot (Constant w) f n = inl (λ e. omega (arith, e, lt, leb-true _ _ f))
+            go InSlot (Variable x) f n = inl (λ e. omega (arith, e, lt, leb-true _ _ f))
+            go (Constant w) b f n = inl (λ e. omega (arith, e, lt, low w b f))
+              where
+                low : (w : ℕ) (b : Operand) → right_slot_dead (Constant w) b k (live is) ≡ true → (live is).slots ≤ k + 1
+                low w InSlot f = leb-true _ _ f
+                low w (Constant v) f = leb-true _ _ f
+                low w (Variable x) f = leb-true _ _ f
+            go (Variable x) b f n = inl (λ e. omega (arith, e, lt, low x b f))
+              where
+                low : (x : ℕ) (b : Operand) → right_slot_dead (Variable x) b k (live is) ≡ true → (live is).slots ≤ k + 1
+                low x InSlot f = leb-true _ _ f
+                low x (Constant v) f = leb-true _ _ f
+                low x (Variable y) f = leb-true _ _ f
 
-          same : (j ≢ k + 1) ⊎ (b ≡ InSlot) → slice_index (with_fetched s (with_fetched s r k a) (k + 1) b).words j ≡ slice_index (with_fetched s r k a).words j
-          same (inl x) = fetched_other s (with_fetched s r k a) (k + 1) j b x
-          same (inr e) = ap (λ b. slice_index (with_fetched s (with_fetched s r k a) (k + 1) b).words j) e
+        in_slot : (k : ℕ) → j ≢ k → (j ≢ k + 1) ⊎ (b ≡ InSlot) → (j < (live (fetch k a ++ (fetch (k + 1) b ++ Compute op k ∷ is))).slots) × (slice_index (with_fetched s (with_fetched s r k a) (k + 1) b).words j ≡ slice_index r.words j)
+        in_slot k n q = (
+          fetch_reads j k a (fetch (k + 1) b ++ Compute op k ∷ is) (right q) n,
+          same q ∙ fetched_other s r k j a n,
+        )
+          where
+            right : (j ≢ k + 1) ⊎ (b ≡ InSlot) → j < (live (fetch (k + 1) b ++ Compute op k ∷ is)).slots
+            right (inl x) = fetch_reads j (k + 1) b (Compute op k ∷ is) (omega (arith, lt)) x
+            right (inr e) = subst (λ b. j < (live (fetch (k + 1) b ++ Compute op k ∷ is)).slots) (sym e) (omega (arith, lt))
 
-      by : (d : Destination) → omits_only_dead (Calculate op a b d) (live is) ≡ true → j ≢ slot_of d → (j < (live (spread op a b d is)).slots) × (slice_index (calculated s r a b d v).words j ≡ slice_index r.words j)
-      by (IntoSlot k) f n = in_slot k n (apart k f n)
-      by (IntoHome home) f n = absurd (omega (arith, lt, leb-true _ _ f))
+            same : (j ≢ k + 1) ⊎ (b ≡ InSlot) → slice_index (with_fetched s (with_fetched s r k a) (k + 1) b).words j ≡ slice_index (with_fetched s r k a).words j
+            same (inl x) = fetched_other s (with_fetched s r k a) (k + 1) j b x
+            same (inr e) = ap (λ b. slice_index (with_fetched s (with_fetched s r k a) (k + 1) b).words j) e
 
-  -- the held word is read before it where it is read behind it, if it does not go there
-  pub held_asked : (live (kept d ++ is)).held ≡ true → asked.held ≡ true
-  held_asked h = fetch_held (slot_of d) a right_first ∙ fetch_held (slot_of d + 1) b computed ∙ h
+        by : (d : Destination) → omits_only_dead (Calculate op a b d) (live is) ≡ true → j ≢ slot_of d → (j < (live (spread op a b d is)).slots) × (slice_index (with_fetched s (with_fetched s r (slot_of d) a) (slot_of d + 1) b).words j ≡ slice_index r.words j)
+        by (IntoSlot k) f n = in_slot k n (apart k f n)
+        by (IntoHome home) f n = absurd (omega (arith, lt, leb-true _ _ f))
 
-pub calculated_length : (s : State) (r : Slots) (a b : Operand) (d : Destination) (v : ℕ) → length (calculated s r a b d v).words ≡ length r.words
-calculated_length s r a b d v = by d
-  where
-    three : (k : ℕ) → length (slice_set (with_fetched s (with_fetched s r k a) (k + 1) b).words k v) ≡ length r.words
-    three k = length-set (with_fetched s (with_fetched s r k a) (k + 1) b).words k v ∙ fetched_length s (with_fetched s r k a) (k + 1) b ∙ fetched_length s r k a
-
-    by : (d : Destination) → length (calculated s r a b d v).words ≡ length r.words
-    by (IntoSlot k) = three k
-    by (IntoHome (IntoVariable x)) = three 0
-    by (IntoHome IntoHeld) = three 0
-
--- the slots after a calculation, looked at
-pub calculated_same : (s : State) (r : Slots) (a b : Operand) (k v : ℕ) → k < length r.words → slice_index (calculated s r a b (IntoSlot k) v).words k ≡ v
-calculated_same s r a b k v lt = same_slot (with_fetched s (with_fetched s r k a) (k + 1) b) k v (omega (arith, lt, fetched_length s (with_fetched s r k a) (k + 1) b, fetched_length s r k a))
+    pub calculate_lasting : Lasting asked d is r given_both
+    calculate_lasting = record {
+      all = fetched_length s (with_fetched s r (slot_of d) a) (slot_of d + 1) b ∙ fetched_length s r (slot_of d) a;
+      same_held = fetched_held s (with_fetched s r (slot_of d) a) (slot_of d + 1) b ∙ fetched_held s r (slot_of d) a;
+      dead = by d free;
+      others = other_asked;
+      held = λ h. fetch_held (slot_of d) a right_first ∙ fetch_held (slot_of d + 1) b computed ∙ h;
+    }
+      where
+        by : (d : Destination) → omits_only_dead (Calculate op a b d) (live is) ≡ true → IsDead d (live is)
+        by (IntoSlot k) f = tt
+        by (IntoHome home) f = leb-true _ _ f

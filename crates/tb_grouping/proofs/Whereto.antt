@@ -9,7 +9,7 @@ use Rattle.tb_keeping.specs.Layout.{Layout, next_at, place_at}
 use Rattle.tb_keeping.proofs.Mirrors.{Typable}
 use Rattle.tb_selection.specs.Groups.{Tested, HeldBefore, HeldNow}
 use Rattle.tb_selection.specs.Liveness.{nothing_live}
-use Rattle.tb_grouping.proofs.Coded.{tested_source}
+use Rattle.tb_templates.specs.Sources.{tested_source}
 use Rattle.tb_grouping.proofs.Matching.{HoldsState, HoldsLive, Matches}
 use Rattle.tb_grouping.proofs.TestSide.{TestedFits}
 use Rattle.tb_grouping.proofs.Operands.{operand_apart}

@@ -6,11 +6,11 @@ ghost use Rattle.tb_parser.specs.Files.{AreStated, RisesFrom};
 ghost use Rattle.tb_keeping.specs.Kept.{Keeps};
 
 use std::alloc::Global;
-use tb_asm::assemble;
 use tb_codegen::{CompileError, cost};
 use tb_lower::lower;
 use tb_prg::write;
 use tb_runtime16::BLOCK_AT;
+use tb_settling::assemble_settled;
 use tb_syntax::Program;
 use tb_templates::program_items;
 
@@ -30,7 +30,7 @@ pub fn keeping_file(alloc: Global, program: &Program, seed: u16) -> Result<Vec<u
         return Err(CompileError::TooLarge(cost));
     }
     let items = program_items(alloc, seed, &code)?;
-    let Ok(image) = assemble(alloc, BLOCK_AT, &items) else {
+    let Ok(image) = assemble_settled(alloc, BLOCK_AT, &items) else {
         return Err(CompileError::NoMemory);
     };
     Ok(write(alloc, &image)?)

@@ -85,6 +85,12 @@ pub enum Job {
         answers: String,
         limit: Limit,
     },
+    /// Writes a disk image.
+    Disk {
+        out: String,
+        /// The PRG files, in order.
+        files: Vec<String>,
+    },
     /// A help text or the version, to be shown.
     Show {
         text: String,

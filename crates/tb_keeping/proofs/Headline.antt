@@ -1,4 +1,4 @@
--- The code keeps the program, from the laws of the prologue and of the slot instructions.
+-- The code keeps the program, from the laws of the prologue and of the steps.
 use Rattle.std.proofs.Common.{◌≡◌, ◌≢◌, ℕ, ◌+◌, ◌-◌, ◌*◌, ◌≤◌, Bool, true, false, List, [], ◌++◌, length, sym, ap, ◌∙◌, subst, inl, inr, ⊎_elim, arith, append-nil, append_assoc, length-append, Some, None}
 use Rattle.std.specs.Prelude.{if◌then◌else◌}
 use Rattle.tb_cpu.specs.declared.wrong.Wrong.{Wrong}
@@ -9,11 +9,11 @@ use Rattle.tb_kernal.specs.Machine.{status}
 use Rattle.tb_kernal.specs.Runs.{run, all_lawful, goes}
 use Rattle.tb_reaching.specs.Reaching.{Arrived, OnTheWay}
 use Rattle.tb_reaching.specs.View.{View, Setup, Part, Holds as PartHolds, At, Among, UnderWay, Comes, Fits, part_at}
-use Rattle.tb_reaching.specs.Start.{setup_of, view_of, home_low, home_high}
+use Rattle.tb_reaching.specs.Start.{setup_of, view_of}
 use Rattle.tb_reaching.proofs.Laws.{run_append, goes_append, lawful_after}
 use Rattle.tb_reaching.proofs.Start.{at_start, fits_start, homed_start, length_from}
 use Rattle.tb_syntax.specs.Source.{Program, numbers}
-use Rattle.tb_lower.specs.Steps.{End, Ended, Faulted, Run, GoesOn, Over, sent_by}
+use Rattle.tb_lower.specs.Steps.{End, Ended, Faulted, Step, Run, GoesOn, Over, sent_by}
 use Rattle.tb_lower.specs.Steps as steps
 use Rattle.tb_lower.specs.Control.{State}
 use Rattle.tb_lower.specs.Meaning.{start, source_run}
@@ -22,7 +22,7 @@ use Rattle.tb_lower.specs.Slots.{SlotCode, SlotState, Slots, Whole}
 use Rattle.tb_keeping.specs.Kept.{Starts, HasEnded, IsSound, HasDone, Keeps}
 use Rattle.tb_keeping.specs.Layout.{Layout, is_start, inner}
 use Rattle.tb_keeping.proofs.Inductions as keeps
-use Rattle.tb_keeping.proofs.Mirrors.{Mirrors}
+use Rattle.tb_keeping.proofs.Strides.{IsStride}
 use Rattle.tb_keeping.proofs.Joins.{move, IsLawful, is_go, sent, same_goes, same_after, all_are_lawful, sends, IsEnd, end_stays, R, Law, Runs, under_way_runs, reaches, fine, ended}
 
 -- ---- the start
@@ -64,19 +64,19 @@ module _ (place : ℕ) (bytes : List ℕ) (from : 0x0800 ≤ place) (to : place 
     pub above_so : (setup s).home_s + length (setup s).rest ≡ 255
     above_so = (homed_start place bytes from to (inner ly (part_at place bytes)) (inner_within ly (part_at place bytes)) s h.start).above
 
-  -- what the prologue leaves: the state at its start, with some slots
-  abbrev pub Opened : SlotCode → machine.State → View → Type 0
-  Opened sc s w =
-      (slots : Slots) × (length slots.words ≡ 16) × Mirrors ly (setup s) (home_low s) (home_high s) (length s.text) (begun sc ly.seed s.text s.answers slots) w
+  module _ (M : machine.State → SlotState → View → Type 0) where
+    -- what the prologue leaves: the state at its start, with some slots
+    abbrev pub Opened : SlotCode → machine.State → View → Type 0
+    Opened sc s w = (slots : Slots) × (length slots.words ≡ 16) × M s (begun sc ly.seed s.text s.answers slots) w
 
-  abbrev pub OpeningLaw : SlotCode → ℕ → Type 0
-  OpeningLaw sc n = (s : machine.State) → Starts place bytes s → Comes (setup s) (view_of s) (Opened sc s) [] n
+    abbrev pub OpeningLaw : SlotCode → ℕ → Type 0
+    OpeningLaw sc n = (s : machine.State) → Starts place bytes s → Comes (setup s) (view_of s) (Opened sc s) [] n
 
-  -- the laws of all slot instructions, with a bound by the keyboard's length
-  abbrev pub InstrLaws : SlotCode → (ℕ → ℕ) → Type 0
-  InstrLaws sc limit = (s : machine.State) (h : Starts place bytes s) → Law ly (setup s) (home_low s) (home_high s) (above_so s h) (length s.text) sc (limit (length s.text))
+    -- the laws of all steps, with a bound by the keyboard's length
+    abbrev pub StepLaws : (SlotState → Step SlotState) → (ℕ → ℕ) → Type 0
+    StepLaws step limit = (s : machine.State) (h : Starts place bytes s) → Law (setup s) (above_so s h) (M s) step (limit (length s.text))
 
-  module _ (program : Program) (sc : SlotCode) (follows : Follows program sc) (limit : ℕ → ℕ) (positive : (k : ℕ) → 1 ≤ limit k) (n : ℕ) (opening : OpeningLaw sc n) (laws : InstrLaws sc limit) where
+  module _ (program : Program) (sc : SlotCode) (follows : Follows program sc) (step : SlotState → Step SlotState) (stride : IsStride sc step) (M : machine.State → SlotState → View → Type 0) (limit : ℕ → ℕ) (positive : (k : ℕ) → 1 ≤ limit k) (n : ℕ) (opening : OpeningLaw M sc n) (laws : StepLaws M step limit) where
     module _ (s : machine.State) (h : Starts place bytes s) where
       abbrev f : Setup
       f = setup s
@@ -84,20 +84,14 @@ module _ (place : ℕ) (bytes : List ℕ) (from : 0x0800 ≤ place) (to : place 
       abbrev k : ℕ
       k = length s.text
 
-      abbrev lo : ℕ
-      lo = home_low s
-
-      abbrev hi : ℕ
-      hi = home_high s
-
       abbrev seed : ℕ
       seed = ly.seed
 
       abbrev Ends : End → machine.State → Type 0
-      Ends = IsEnd ly f lo hi (above_so s h)
+      Ends = IsEnd f (above_so s h)
 
-      abbrev Mirrored : SlotState → machine.State → Type 0
-      Mirrored = R ly f lo hi (above_so s h) k sc (limit k)
+      abbrev Related : SlotState → machine.State → Type 0
+      Related = R f (above_so s h) (M s) step (limit k)
 
       is_fine : (t : machine.State) (m : ℕ) → Runs f t → IsPrefix t.sent (sent_by (source_run program seed s.text s.answers m)) → IsSound program seed s t
       is_fine t m fi p = record {
@@ -121,7 +115,7 @@ module _ (place : ℕ) (bytes : List ℕ) (from : 0x0800 ≤ place) (to : place 
 
       is_over : (t : machine.State) (m : ℕ) (why : End) → source_run program seed s.text s.answers m ≡ Over why t.sent → Ends why t → IsSound program seed s t
       is_over t m why e end =
-          let done = ended ly f lo hi (above_so s h) k sc (limit k) why t end in
+          let done = ended f (above_so s h) why t end in
           record {
             never_wrong = λ w. not_wrong_at_end why t w done;
             not_below = (bounds why t end).0;
@@ -136,7 +130,7 @@ module _ (place : ℕ) (bytes : List ℕ) (from : 0x0800 ≤ place) (to : place 
       early es a = is_fine (run es s) 0 (under_way_runs f (run es s) a.kept) (a.to_come, ap (λ l. l ++ a.to_come) a.sent ∙ append_assoc s.sent a.so_far a.to_come ∙ ap (λ l. s.sent ++ l) (sym a.whole) ∙ append-nil s.sent ∙ h.start.nothing_sent)
 
       -- behind it
-      module _ (es : List Event) (l : all_lawful es s ≡ true) (a : Arrived (Among f (Opened sc s)) [] n s es) where
+      module _ (es : List Event) (l : all_lawful es s ≡ true) (a : Arrived (Among f (Opened M sc s)) [] n s es) where
         silent : (run a.before s).sent ≡ []
         silent = a.sent ∙ append-nil s.sent ∙ h.start.nothing_sent
 
@@ -146,27 +140,27 @@ module _ (place : ℕ) (bytes : List ℕ) (from : 0x0800 ≤ place) (to : place 
         same_end : keeps.after machine.State Event move IsLawful is_go sent a.after (run a.before s) ≡ run es s
         same_end = same_after a.after (run a.before s) ∙ sym (run_append a.before a.after s) ∙ ap (λ l. run l s) (sym a.split)
 
-        kept : (m : ℕ) × keeps.IsKept machine.State Event move IsLawful is_go sent sends Ends (end_stays ly f lo hi (above_so s h)) program sc follows Mirrored (UnderWay f) (limit k) (positive k) (reaches ly f lo hi (above_so s h) k sc (limit k) (laws s h)) (source_run program seed s.text s.answers m) (run es s)
+        kept : (m : ℕ) × keeps.IsKept machine.State Event move IsLawful is_go sent sends Ends (end_stays f (above_so s h)) program sc follows step stride Related (UnderWay f) (limit k) (positive k) (reaches f (above_so s h) (M s) step (limit k) (laws s h)) (source_run program seed s.text s.answers m) (run es s)
         kept =
-            let r = keeps.kept machine.State Event move IsLawful is_go sent sends Ends (end_stays ly f lo hi (above_so s h)) program sc follows Mirrored (UnderWay f) (limit k) (positive k) (reaches ly f lo hi (above_so s h) k sc (limit k) (laws s h)) seed s.text s.answers a.there.2.0 a.there.2.1 (run a.before s) silent (a.there.0, a.there.1, a.there.2.2) a.after (all_are_lawful a.after (run a.before s) lawful_rest) in
-            (r.0, subst (keeps.IsKept machine.State Event move IsLawful is_go sent sends Ends (end_stays ly f lo hi (above_so s h)) program sc follows Mirrored (UnderWay f) (limit k) (positive k) (reaches ly f lo hi (above_so s h) k sc (limit k) (laws s h)) (source_run program seed s.text s.answers r.0)) same_end r.1)
+            let r = keeps.kept machine.State Event move IsLawful is_go sent sends Ends (end_stays f (above_so s h)) program sc follows step stride Related (UnderWay f) (limit k) (positive k) (reaches f (above_so s h) (M s) step (limit k) (laws s h)) seed s.text s.answers a.there.2.0 a.there.2.1 (run a.before s) silent (a.there.0, a.there.1, a.there.2.2) a.after (all_are_lawful a.after (run a.before s) lawful_rest) in
+            (r.0, subst (keeps.IsKept machine.State Event move IsLawful is_go sent sends Ends (end_stays f (above_so s h)) program sc follows step stride Related (UnderWay f) (limit k) (positive k) (reaches f (above_so s h) (M s) step (limit k) (laws s h)) (source_run program seed s.text s.answers r.0)) same_end r.1)
 
         late : IsSound program seed s (run es s)
         late = ⊎_elim
-            (λ p. is_fine (run es s) kept.0 (⊎_elim (λ fi. under_way_runs f (run es s) fi) (λ c. fine ly f lo hi (above_so s h) k sc (limit k) (laws s h) c.0 (run es s) c.1) p.1) p.0)
+            (λ p. is_fine (run es s) kept.0 (⊎_elim (λ fi. under_way_runs f (run es s) fi) (λ c. fine f (above_so s h) (M s) step (limit k) (laws s h) c.0 (run es s) c.1) p.1) p.0)
             (λ e. is_over (run es s) kept.0 e.0 e.1 e.2)
             kept.1
 
         passed : (m : ℕ) → n + m * (longest sc + 1) * limit k ≤ goes es → HasDone (source_run program seed s.text s.answers m) (run es s)
         passed m le =
             let more : m * (longest sc + 1) * limit k ≤ keeps.goes machine.State Event move IsLawful is_go sent a.after = subst (λ g. m * (longest sc + 1) * limit k ≤ g) (sym (same_goes a.after)) (omega (arith, le, a.few, ap goes a.split, goes_append a.before a.after)) in
-            to_done (source_run program seed s.text s.answers m) (keeps.paced machine.State Event move IsLawful is_go sent sends Ends (end_stays ly f lo hi (above_so s h)) program sc follows Mirrored (UnderWay f) (limit k) (positive k) (reaches ly f lo hi (above_so s h) k sc (limit k) (laws s h)) seed s.text s.answers a.there.2.0 a.there.2.1 (run a.before s) silent (a.there.0, a.there.1, a.there.2.2) a.after (all_are_lawful a.after (run a.before s) lawful_rest) m more)
+            to_done (source_run program seed s.text s.answers m) (keeps.paced machine.State Event move IsLawful is_go sent sends Ends (end_stays f (above_so s h)) program sc follows step stride Related (UnderWay f) (limit k) (positive k) (reaches f (above_so s h) (M s) step (limit k) (laws s h)) seed s.text s.answers a.there.2.0 a.there.2.1 (run a.before s) silent (a.there.0, a.there.1, a.there.2.2) a.after (all_are_lawful a.after (run a.before s) lawful_rest) m more)
           where
-            to_done : (r : Run State) → keeps.HasPassed machine.State Event move IsLawful is_go sent sends Ends (end_stays ly f lo hi (above_so s h)) program sc follows Mirrored (UnderWay f) (limit k) (positive k) (reaches ly f lo hi (above_so s h) k sc (limit k) (laws s h)) seed s.text s.answers a.there.2.0 a.there.2.1 (run a.before s) silent (a.there.0, a.there.1, a.there.2.2) a.after (all_are_lawful a.after (run a.before s) lawful_rest) r (keeps.after machine.State Event move IsLawful is_go sent a.after (run a.before s)) → HasDone r (run es s)
+            to_done : (r : Run State) → keeps.HasPassed machine.State Event move IsLawful is_go sent sends Ends (end_stays f (above_so s h)) program sc follows step stride Related (UnderWay f) (limit k) (positive k) (reaches f (above_so s h) (M s) step (limit k) (laws s h)) seed s.text s.answers a.there.2.0 a.there.2.1 (run a.before s) silent (a.there.0, a.there.1, a.there.2.2) a.after (all_are_lawful a.after (run a.before s) lawful_rest) r (keeps.after machine.State Event move IsLawful is_go sent a.after (run a.before s)) → HasDone r (run es s)
             to_done (GoesOn c out) p = subst (λ t. IsPrefix out t.sent) same_end p
             to_done (Over why out) p =
                 let q = subst (λ t. (sent t ≡ out) × Ends why t) same_end p in
-                (q.0, ended ly f lo hi (above_so s h) k sc (limit k) why (run es s) q.1)
+                (q.0, ended f (above_so s h) why (run es s) q.1)
 
       pub sound : (es : List Event) → all_lawful es s ≡ true → IsSound program seed s (run es s)
       sound es l = ⊎_elim (λ a. late es l a) (λ a. early es a) ((opening s h).reaches.leads s (begins_so s h) es l)

@@ -10,7 +10,8 @@ use Rattle.tb_kernal.specs.Runs.{run, all_lawful, goes}
 use Rattle.tb_reaching.specs.Reaching.{Arrived, OnTheWay}
 use Rattle.tb_reaching.specs.View.{View, Setup, At, Among, UnderWay, Comes}
 use Rattle.tb_reaching.specs.Start.{IsHome, IsWaiting}
-use Rattle.tb_reaching.proofs.Barred.{Enters}
+use Rattle.tb_reaching.proofs.Barred.{Enters, opened}
+use Rattle.tb_reaching.proofs.Comes.{looser}
 use Rattle.tb_reaching.proofs.Laws.{goes_append}
 use Rattle.tb_reaching.proofs.Services.{waits_on}
 use Rattle.tb_reaching.proofs.Grows.{sends_on}
@@ -19,13 +20,12 @@ use Rattle.tb_reaching.proofs.Barred.{quiet, begins, enters, open_up}
 use Rattle.tb_lower.specs.Steps.{End, Ended, Faulted, Step, Goes, Stops}
 use Rattle.tb_lower.specs.Steps as steps
 use Rattle.tb_lower.specs.Follows.{IsPrefix}
-use Rattle.tb_lower.specs.Slots.{SlotCode, SlotState, Rest, Whole, Left, slot_step}
+use Rattle.tb_lower.specs.Slots.{SlotState, Rest, Whole, Left}
 use Rattle.tb_keeping.specs.Kept.{HasEnded}
-use Rattle.tb_keeping.specs.Layout.{Layout}
 use Rattle.tb_runtime16.specs.Routines.{Waiting}
 use Rattle.tb_keeping.proofs.Inductions as keeps
 use Rattle.tb_keeping.proofs.Inductions.{still, there, on_way}
-use Rattle.tb_keeping.proofs.Mirrors.{Mirrors, Target}
+use Rattle.tb_keeping.proofs.Mirrors.{Leads}
 
 -- ---- the machine as one that runs by events
 abbrev pub move : Event → machine.State → machine.State
@@ -66,6 +66,12 @@ abbrev pub LawAt : Rest → Setup → View → (View → Type 0) → List ℕ �
 LawAt (Left n is) f v q t k = Comes f v q t k
 LawAt Whole f v q t k = Comes f v q t k ⊎ Enters f v q t k
 
+-- a larger goal
+pub law_looser : (r : Rest) (f : Setup) (v : View) (p q : View → Type 0) (t : List ℕ) (k : ℕ) → ((w : View) → p w → q w) → LawAt r f v p t k → LawAt r f v q t k
+law_looser (Left n is) f v p q t k g c = looser f v p q t k k (omega arith) g c
+law_looser Whole f v p q t k g (inl c) = inl (looser f v p q t k k (omega arith) g c)
+law_looser Whole f v p q t k g (inr e) = inr (record { rest = e.rest; few = e.few; one = looser (opened f) v _ _ [] 1 1 (omega arith) (λ u c. looser f u p q t e.rest e.rest (omega arith) g c) e.one })
+
 -- the machine runs within its part of the stack
 pub record Runs (f : Setup) (s : machine.State) : Type 0 where
   pub runs : status s ≡ Running
@@ -93,7 +99,7 @@ abbrev pub sent_in : Step SlotState → List ℕ
 sent_in (Goes c t) = t
 sent_in (Stops why t) = t
 
-module _ (ly : Layout) (f : Setup) (lo hi : ℕ) (above : f.home_s + length f.rest ≡ 255) where
+module _ (f : Setup) (above : f.home_s + length f.rest ≡ 255) where
   abbrev pub IsEnd : End → machine.State → Type 0
   IsEnd Ended s = Among f (IsHome f) s
   IsEnd Faulted s = Among f (IsHome f) s
@@ -107,20 +113,27 @@ module _ (ly : Layout) (f : Setup) (lo hi : ℕ) (above : f.home_s + length f.re
   end_stays Faulted e s l h = (home_rests f above).stays s h e l
   end_stays steps.Waits e s l h = let a = waits_on f h.0 s h.1 h.2.waits.pc h.2.waits.text e l in ((h.0, a.0, h.2), a.1)
 
-  module _ (keyboard : ℕ) (code : SlotCode) (limit : ℕ) where
+  -- the status at an end
+  pub ended : (why : End) (s : machine.State) → IsEnd why s → HasEnded why s
+  ended Ended s h = home_returned f above s h
+  ended Faulted s h = home_returned f above s h
+  ended steps.Waits s h = waiting_waits f s (waits_so s h)
+
+  -- a relation of states with views, and a step
+  module _ (M : SlotState → View → Type 0) (step : SlotState → Step SlotState) (limit : ℕ) where
     abbrev pub R : SlotState → machine.State → Type 0
-    R c s = (w : View) × At f w s × Mirrors ly f lo hi keyboard c w
+    R c s = (w : View) × At f w s × M c w
 
     abbrev pub Law : Type 0
-    Law = (c : SlotState) (w : View) → Mirrors ly f lo hi keyboard c w → LawAt c.rest f w (Target ly f lo hi keyboard (slot_step code c)) (sent_in (slot_step code c)) limit
+    Law = (c : SlotState) (w : View) → M c w → LawAt c.rest f w (Leads f M (step c)) (sent_in (step c)) limit
 
     abbrev pub Goal : Step SlotState → machine.State → Type 0
-    Goal = keeps.Goal machine.State Event move IsLawful is_go sent sends IsEnd end_stays SlotState (slot_step code) R (UnderWay f) limit
+    Goal = keeps.Goal machine.State Event move IsLawful is_go sent sends IsEnd end_stays SlotState step R (UnderWay f) limit
 
     abbrev pub sent_of : Step SlotState → List ℕ
-    sent_of = keeps.sent_of machine.State Event move IsLawful is_go sent sends IsEnd end_stays SlotState (slot_step code) R (UnderWay f) limit
+    sent_of = keeps.sent_of machine.State Event move IsLawful is_go sent sends IsEnd end_stays SlotState step R (UnderWay f) limit
 
-    goal : (st : Step SlotState) (s : machine.State) → Among f (Target ly f lo hi keyboard st) s → Goal st s
+    goal : (st : Step SlotState) (s : machine.State) → Among f (Leads f M st) s → Goal st s
     goal (Goes c t) s h = h
     goal (Stops Ended t) s h = h
     goal (Stops Faulted t) s h = h
@@ -130,33 +143,27 @@ module _ (ly : Layout) (f : Setup) (lo hi : ℕ) (above : f.home_s + length f.re
     same_sent (Goes c t) = refl
     same_sent (Stops why t) = refl
 
-    pub reaches : Law → (c : SlotState) → keeps.Reaches machine.State Event move IsLawful is_go sent (R c) (Goal (slot_step code c)) (UnderWay f) (sent_of (slot_step code c)) limit
-    reaches law c s h es l = ⊎_elim yet (⊎_elim arrived on) (law_leads f h.0 (Target ly f lo hi keyboard (slot_step code c)) (sent_in (slot_step code c)) limit c.rest (law c h.0 h.2) s h.1 es (lawful_all es s l))
+    pub reaches : Law → (c : SlotState) → keeps.Reaches machine.State Event move IsLawful is_go sent (R c) (Goal (step c)) (UnderWay f) (sent_of (step c)) limit
+    reaches law c s h es l = ⊎_elim yet (⊎_elim arrived on) (law_leads f h.0 (Leads f M (step c)) (sent_in (step c)) limit c.rest (law c h.0 h.2) s h.1 es (lawful_all es s l))
       where
-        yet : goes es ≡ 0 → keeps.Way machine.State Event move IsLawful is_go sent (R c) (Goal (slot_step code c)) (UnderWay f) (sent_of (slot_step code c)) limit s es
+        yet : goes es ≡ 0 → keeps.Way machine.State Event move IsLawful is_go sent (R c) (Goal (step c)) (UnderWay f) (sent_of (step c)) limit s es
         yet z =
             let k = quiet f h.0 es s h.1 (lawful_all es s l) z in
             still (same_goes es ∙ z) (subst (R c) (sym (same_after es s)) (h.0, k.0, h.2)) (ap (λ x. x.sent) (same_after es s) ∙ k.1)
 
-        arrived : Arrived (Among f (Target ly f lo hi keyboard (slot_step code c))) (sent_in (slot_step code c)) limit s es → keeps.Way machine.State Event move IsLawful is_go sent (R c) (Goal (slot_step code c)) (UnderWay f) (sent_of (slot_step code c)) limit s es
+        arrived : Arrived (Among f (Leads f M (step c))) (sent_in (step c)) limit s es → keeps.Way machine.State Event move IsLawful is_go sent (R c) (Goal (step c)) (UnderWay f) (sent_of (step c)) limit s es
         arrived a = there a.before a.after (sym a.split)
             (subst (λ n. 1 ≤ n) (sym (same_goes a.before)) a.some)
             (subst (λ n. n ≤ limit) (sym (same_goes a.before)) a.few)
-            (subst (Goal (slot_step code c)) (sym (same_after a.before s)) (goal (slot_step code c) (run a.before s) a.there))
-            (ap (λ x. x.sent) (same_after a.before s) ∙ a.sent ∙ ap (λ t. s.sent ++ t) (same_sent (slot_step code c)))
+            (subst (Goal (step c)) (sym (same_after a.before s)) (goal (step c) (run a.before s) a.there))
+            (ap (λ x. x.sent) (same_after a.before s) ∙ a.sent ∙ ap (λ t. s.sent ++ t) (same_sent (step c)))
 
-        on : OnTheWay (UnderWay f) (sent_in (slot_step code c)) limit s es → keeps.Way machine.State Event move IsLawful is_go sent (R c) (Goal (slot_step code c)) (UnderWay f) (sent_of (slot_step code c)) limit s es
+        on : OnTheWay (UnderWay f) (sent_in (step c)) limit s es → keeps.Way machine.State Event move IsLawful is_go sent (R c) (Goal (step c)) (UnderWay f) (sent_of (step c)) limit s es
         on a = on_way
             (subst (λ n. n < limit) (sym (same_goes es)) a.few)
             (subst (UnderWay f) (sym (same_after es s)) a.kept)
-            (a.to_come, ap (λ x. x.sent ++ a.to_come) (same_after es s) ∙ ap (λ l. l ++ a.to_come) a.sent ∙ append_assoc s.sent a.so_far a.to_come ∙ ap (λ t. s.sent ++ t) (sym a.whole ∙ same_sent (slot_step code c)))
+            (a.to_come, ap (λ x. x.sent ++ a.to_come) (same_after es s) ∙ ap (λ l. l ++ a.to_come) a.sent ∙ append_assoc s.sent a.so_far a.to_come ∙ ap (λ t. s.sent ++ t) (sym a.whole ∙ same_sent (step c)))
 
     -- where a law is, the machine runs
     pub fine : Law → (c : SlotState) (s : machine.State) → R c s → Runs f s
-    fine law c s h = law_runs f h.0 (Target ly f lo hi keyboard (slot_step code c)) (sent_in (slot_step code c)) limit c.rest (law c h.0 h.2) s h.1
-
-    -- the status at an end
-    pub ended : (why : End) (s : machine.State) → IsEnd why s → HasEnded why s
-    ended Ended s h = home_returned f above s h
-    ended Faulted s h = home_returned f above s h
-    ended steps.Waits s h = waiting_waits f s (waits_so s h)
+    fine law c s h = law_runs f h.0 (Leads f M (step c)) (sent_in (step c)) limit c.rest (law c h.0 h.2) s h.1

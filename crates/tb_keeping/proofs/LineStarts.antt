@@ -10,18 +10,18 @@ use Rattle.tb_kernal.specs.Machine as machine
 use Rattle.tb_kernal.specs.Machine.{happens}
 use Rattle.tb_reaching.proofs.Laws.{interrupt_sends_nothing}
 use Rattle.tb_reaching.specs.Reaching.{Arrived, OnTheWay}
-use Rattle.tb_reaching.specs.View.{Setup, Part, At, Among, UnderWay, is_data, is_program, part_at}
-use Rattle.tb_reaching.specs.Start.{view_of, home_low, home_high}
+use Rattle.tb_reaching.specs.View.{View, Setup, Part, At, Among, UnderWay, is_data, is_program, part_at}
+use Rattle.tb_reaching.specs.Start.{view_of}
 use Rattle.tb_reaching.proofs.Act.{kept_by_interrupt, pc_here}
 use Rattle.tb_reaching.proofs.Barred.{begins}
 use Rattle.tb_syntax.specs.Source.{Program, numbers}
-use Rattle.tb_lower.specs.Steps.{End, Ended, Faulted, GoesOn}
+use Rattle.tb_lower.specs.Steps.{End, Ended, Faulted, Step, GoesOn}
 use Rattle.tb_lower.specs.Steps as steps
-use Rattle.tb_lower.specs.Control.{Place, Past, State, content_at}
+use Rattle.tb_lower.specs.Control.{Place, Past, State, content_at, has_line}
 use Rattle.tb_lower.specs.Control as control
 use Rattle.tb_lower.specs.Meaning.{source_run}
 use Rattle.tb_lower.specs.Follows.{Follows, longest}
-use Rattle.tb_lower.specs.Slots.{Instr, SlotCode, SlotState, Rest, Whole, Left, slot_step}
+use Rattle.tb_lower.specs.Slots.{Instr, SlotCode, SlotState, Rest, Whole, Left}
 use Rattle.tb_runtime16.specs.Places.{NOTES}
 use Rattle.tb_templates.specs.Templates.{var_at}
 use Rattle.tb_keeping.specs.Kept.{Starts}
@@ -30,14 +30,14 @@ use Rattle.tb_runtime16.specs.Routines.{WordAt}
 use Rattle.tb_keeping.proofs.Inductions as keeps
 use Rattle.tb_keeping.proofs.Inductions.{on_way, there}
 use Rattle.tb_keeping.proofs.Starts as lines
-use Rattle.tb_keeping.proofs.Starts.{count, lines_at, found_line, before, between, behind}
-use Rattle.tb_keeping.proofs.Resolved.{LaidOut}
-use Rattle.tb_keeping.proofs.Mirrors.{Target, RestAt}
+use Rattle.tb_keeping.proofs.Starts.{count, before, between, behind}
+use Rattle.tb_keeping.proofs.Strides.{IsStride, found_line, lines_at}
+use Rattle.tb_keeping.proofs.Mirrors.{Leads}
 use Rattle.tb_keeping.proofs.Pieces.{low_data, high_data}
 use Rattle.tb_keeping.proofs.Frames.{word_kept}
 use Rattle.tb_keeping.proofs.Joins.{move, IsLawful, is_go, sent, same_goes, same_after, lawful_all, sends, IsEnd, end_stays, R, LawAt, reaches, sent_in}
 use Rattle.tb_keeping.proofs.Numbers.{or_true}
-use Rattle.tb_keeping.proofs.Headline.{setup, begins_so, above_so, Opened, OpeningLaw, InstrLaws}
+use Rattle.tb_keeping.proofs.Headline.{setup, begins_so, above_so, Opened, OpeningLaw, StepLaws}
 
 -- whether a state stands at a line's start
 abbrev pub starts : Layout → machine.State → ℕ
@@ -56,7 +56,7 @@ service_above a q some = ⊎_elim (λ lt. (let no : None ≡ Some q = sym (none 
         ∙ ap (λ b. if b then Some Chrin else (if eqb a 0xFFE4 then Some Getin else None)) (ne_eqb a 0xFFCF (λ e. omega (arith, e, lt)))
         ∙ ap (λ b. if b then Some Getin else None) (ne_eqb a 0xFFE4 (λ e. omega (arith, e, lt)))
 
-not_inner : (ly : Layout) (code : Part) (a b : ℕ) → inner ly code a ≡ Some b → is_start ly.start ly.numbers a ≡ false
+pub not_inner : (ly : Layout) (code : Part) (a b : ℕ) → inner ly code a ≡ Some b → is_start ly.start ly.numbers a ≡ false
 not_inner ly code a b e = go (is_start ly.start ly.numbers a) e
   where
     go : (t : Bool) → (if t then None else code a) ≡ Some b → t ≡ false
@@ -72,9 +72,32 @@ found_start start (l ∷ ls) n is e = go (eqb l.number n) refl (found_start star
     go true q next e = ap (λ b. b || is_start start (numbers ls) (start n)) (eq-eqb (start n) (start l.number) (ap start (sym (eqb-true l.number n q))))
     go false q next e = ap (λ b. nat_eq (start n) (start l.number) || b) (next e) ∙ or_true (nat_eq (start n) (start l.number))
 
-module _ (place : ℕ) (bytes : List ℕ) (from : 0x0800 ≤ place) (to : place + length bytes ≤ 0xa000) (ly : Layout) (program : Program) (sc : SlotCode) (follows : Follows program sc) (laid : LaidOut ly (inner ly (part_at place bytes)) (part_at place bytes) sc)
-    (below : (n : ℕ) → ly.start n < 0xA000) (apart : is_start ly.start ly.numbers ly.past ≡ false)
-    (limit : ℕ → ℕ) (positive : (k : ℕ) → 1 ≤ limit k) (n : ℕ) (prologue : OpeningLaw place bytes from to ly sc n) (laws : InstrLaws place bytes from to ly sc limit)
+-- a number among the lines' has a list
+pub has_content : (lines : SlotCode) (n : ℕ) → has_line (numbers lines) n ≡ true → (is : List Instr) × (content_at lines n ≡ Some is)
+has_content [] n e = cc
+has_content (l ∷ ls) n e = go (nat_eq l.number n) (has_content ls n) e
+  where
+    go : (t : Bool) → (has_line (numbers ls) n ≡ true → (is : List Instr) × (content_at ls n ≡ Some is)) → (t || has_line (numbers ls) n) ≡ true → (is : List Instr) × ((if t then Some l.content else content_at ls n) ≡ Some is)
+    go true later e = (l.content, refl)
+    go false later e = later e
+
+-- where the lines of a program begin: below $A000, no two at one place, and none where fault 7 does
+pub record AreApart (ly : Layout) (sc : SlotCode) : Type 0 where
+  pub numbered : numbers sc ≡ ly.numbers
+  pub absent : (n : ℕ) → content_at sc n ≡ None → ly.start n ≡ ly.past
+  pub below : (n : ℕ) → ly.start n < 0xA000
+  pub past : is_start ly.start ly.numbers ly.past ≡ false
+  pub distinct : (n m : ℕ) → has_line ly.numbers n ≡ true → has_line ly.numbers m ≡ true → ly.start n ≡ ly.start m → n ≡ m
+
+-- what stands in a view where a run is between lines
+pub record Known (ly : Layout) (s : State) (w : View) : Type 0 where
+  pub pc : w.regs.pc ≡ place_at ly s.place
+  pub vars : (x : ℕ) → x < 26 → WordAt w.mem (var_at x) (slice_index s.vars x)
+  pub count : WordAt w.mem NOTES (length s.returns)
+
+module _ (place : ℕ) (bytes : List ℕ) (from : 0x0800 ≤ place) (to : place + length bytes ≤ 0xa000) (ly : Layout) (program : Program) (sc : SlotCode) (follows : Follows program sc) (apart : AreApart ly sc)
+    (step : SlotState → Step SlotState) (stride : IsStride sc step) (M : machine.State → SlotState → View → Type 0) (known : (s : machine.State) (c : SlotState) (w : View) → M s c w → c.rest ≡ Whole → Known ly c.state w)
+    (limit : ℕ → ℕ) (positive : (k : ℕ) → 1 ≤ limit k) (n : ℕ) (prologue : OpeningLaw place bytes from to ly M sc n) (laws : StepLaws place bytes from to ly M step limit)
     (s : machine.State) (h : Starts place bytes s) where
   abbrev f : Setup
   f = setup place bytes from to ly s
@@ -89,13 +112,13 @@ module _ (place : ℕ) (bytes : List ℕ) (from : 0x0800 ≤ place) (to : place 
   k = length s.text
 
   abbrev Ends : End → machine.State → Type 0
-  Ends = IsEnd ly f (home_low s) (home_high s) (above_so place bytes from to ly s h)
+  Ends = IsEnd f (above_so place bytes from to ly s h)
 
-  abbrev Mirrored : SlotState → machine.State → Type 0
-  Mirrored = R ly f (home_low s) (home_high s) (above_so place bytes from to ly s h) k sc (limit k)
+  abbrev Related : SlotState → machine.State → Type 0
+  Related = R f (above_so place bytes from to ly s h) (M s) step (limit k)
 
   none_high : (t : machine.State) → 0xA000 ≤ t.regs.pc → starts ly t ≡ 0
-  none_high t le = ap (count 1) (not_above ly.start below ly.numbers t.regs.pc le)
+  none_high t le = ap (count 1) (not_above ly.start apart.below ly.numbers t.regs.pc le)
 
   no_start : (t : machine.State) → UnderWay f t → starts ly t ≡ 0
   no_start t fi = ⊎_elim (λ q. none_high t (service_above t.regs.pc q.0 q.1)) (λ c. ap (count 1) (not_inner ly code t.regs.pc c.0 c.1)) fi.on_code
@@ -105,25 +128,28 @@ module _ (place : ℕ) (bytes : List ℕ) (from : 0x0800 ≤ place) (to : place 
   no_start_at_end Faulted t e = none_high t (omega (arith, pc_here f e.0 t e.1, e.2.pc, e.1.stays.far))
   no_start_at_end steps.Waits t e = none_high t (omega (arith, pc_here f e.0 t e.1, e.2.waits.pc))
 
-  others_keep : (c : SlotState) (e : Event) (t : machine.State) → is_go e ≡ false → IsLawful e t → Mirrored c t → Mirrored c (move e t) × (sent (move e t) ≡ sent t)
+  others_keep : (c : SlotState) (e : Event) (t : machine.State) → is_go e ≡ false → IsLawful e t → Related c t → Related c (move e t) × (sent (move e t) ≡ sent t)
   others_keep c (Go k) t not_go l r = cc
   others_keep c (Interrupt ws) t not_go l r = let a = kept_by_interrupt f r.0 t r.1 ws l in ((r.0, a, r.2), interrupt_sends_nothing t ws)
 
-  entry : (c : SlotState) (t : machine.State) → Mirrored c t → starts ly t ≡ lines_at sc c.rest c.state.place
-  entry c t r = by c.rest c.state.place (laws s h c r.0 r.2) r.2.pc
+  entry : (c : SlotState) (t : machine.State) → Related c t → starts ly t ≡ lines_at sc c.rest c.state.place
+  entry c t r = by c.rest refl
     where
       at_number : (m : ℕ) (o : Option (List Instr)) → content_at sc m ≡ o → r.0.regs.pc ≡ ly.start m → starts ly t ≡ found_line o
-      at_number m (Some is) e p = ap (λ a. count 1 (is_start ly.start ly.numbers a)) (pc_here f r.0 t r.1 ∙ p) ∙ ap (λ ns. count 1 (is_start ly.start ns (ly.start m))) (sym laid.numbered) ∙ ap (count 1) (found_start ly.start sc m is e)
-      at_number m None e p = ap (λ a. count 1 (is_start ly.start ly.numbers a)) (pc_here f r.0 t r.1 ∙ p ∙ laid.absent m e) ∙ ap (count 1) apart
+      at_number m (Some is) e p = ap (λ a. count 1 (is_start ly.start ly.numbers a)) (pc_here f r.0 t r.1 ∙ p) ∙ ap (λ ns. count 1 (is_start ly.start ns (ly.start m))) (sym apart.numbered) ∙ ap (count 1) (found_start ly.start sc m is e)
+      at_number m None e p = ap (λ a. count 1 (is_start ly.start ly.numbers a)) (pc_here f r.0 t r.1 ∙ p ∙ apart.absent m e) ∙ ap (count 1) apart.past
 
-      by : (q : Rest) (p : Place) → LawAt q f r.0 (Target ly f (home_low s) (home_high s) k (slot_step sc c)) (sent_in (slot_step sc c)) (limit k) → RestAt ly f.code r.0.regs.pc r.0.mem q p → starts ly t ≡ lines_at sc q p
-      by (Left m is) p law at = no_start t (begins f r.0 _ _ _ law t r.1)
-      by Whole Past law at = ap (λ a. count 1 (is_start ly.start ly.numbers a)) (pc_here f r.0 t r.1 ∙ at) ∙ ap (count 1) apart
-      by Whole (control.At m) law at = at_number m (content_at sc m) refl at
+      at_place : (p : Place) → r.0.regs.pc ≡ place_at ly p → starts ly t ≡ lines_at sc Whole p
+      at_place Past at = ap (λ a. count 1 (is_start ly.start ly.numbers a)) (pc_here f r.0 t r.1 ∙ at) ∙ ap (count 1) apart.past
+      at_place (control.At m) at = at_number m (content_at sc m) refl at
+
+      by : (q : Rest) → c.rest ≡ q → starts ly t ≡ lines_at sc q c.state.place
+      by (Left m is) e = no_start t (begins f r.0 (Leads f (M s) (step c)) (sent_in (step c)) (limit k) (subst (λ q. LawAt q f r.0 (Leads f (M s) (step c)) (sent_in (step c)) (limit k)) e (laws s h c r.0 r.2)) t r.1)
+      by Whole e = at_place c.state.place (known s c r.0 r.2 e).pc
 
   -- ---- the prologue
   abbrev Entered : machine.State → Type 0
-  Entered t = Among f (Opened place bytes from to ly sc s) t
+  Entered t = Among f (Opened place bytes from to ly M sc s) t
 
   prologue_reaches : keeps.Reaches machine.State Event move IsLawful is_go sent (At f (view_of s)) Entered (UnderWay f) [] n
   prologue_reaches x a es l = ⊎_elim arrived on ((prologue s h).reaches.leads x a es (lawful_all es x l))
@@ -168,9 +194,10 @@ module _ (place : ℕ) (bytes : List ℕ) (from : 0x0800 ≤ place) (to : place 
     pub vars : (x : ℕ) → x < 26 → WordAt t.mem (var_at x) (slice_index state.vars x)
     pub notes : WordAt t.mem NOTES (length state.returns)
 
-  line_begun : (m : ℕ) (t : machine.State) → lines.AtLine machine.State Event move IsLawful is_go sent sends Ends (end_stays ly f (home_low s) (home_high s) (above_so place bytes from to ly s h)) program sc follows Mirrored (UnderWay f) (limit k) (positive k) (reaches ly f (home_low s) (home_high s) (above_so place bytes from to ly s h) k sc (limit k) (laws s h)) (starts ly) others_keep no_start no_start_at_end entry seed s.text s.answers m t → LineBegun m t
+  line_begun : (m : ℕ) (t : machine.State) → lines.AtLine machine.State Event move IsLawful is_go sent sends Ends (end_stays f (above_so place bytes from to ly s h)) program sc follows step stride Related (UnderWay f) (limit k) (positive k) (reaches f (above_so place bytes from to ly s h) (M s) step (limit k) (laws s h)) (starts ly) others_keep no_start no_start_at_end entry seed s.text s.answers m t → LineBegun m t
   line_begun m t a =
       let w = a.related.0 in
+      let there = known s _ w a.related.2 refl in
       let at = a.related.1 in
       let fixed : (p : ℕ) → is_data p ≡ true → t.mem p ≡ w.mem p = λ p d. at.bytes p (ap (λ b. b || is_program p) d) in
       record {
@@ -178,9 +205,9 @@ module _ (place : ℕ) (bytes : List ℕ) (from : 0x0800 ≤ place) (to : place 
         number = a.number;
         done = a.done;
         at_place = a.place;
-        pc = pc_here f w t at ∙ a.related.2.pc ∙ ap (place_at ly) a.place;
-        vars = λ x lt. word_kept w.mem t.mem (var_at x) (slice_index a.state.vars x) (fixed (var_at x) (low_data (var_at x) (omega arith, omega (arith, lt)))) (fixed (var_at x + 1) (high_data (var_at x) (omega arith, omega (arith, lt)))) (a.related.2.holds.vars x lt);
-        notes = word_kept w.mem t.mem NOTES (length a.state.returns) (fixed NOTES refl) (fixed (NOTES + 1) refl) a.related.2.holds.count;
+        pc = pc_here f w t at ∙ there.pc ∙ ap (place_at ly) a.place;
+        vars = λ x lt. word_kept w.mem t.mem (var_at x) (slice_index a.state.vars x) (fixed (var_at x) (low_data (var_at x) (omega arith, omega (arith, lt)))) (fixed (var_at x + 1) (high_data (var_at x) (omega arith, omega (arith, lt)))) (there.vars x lt);
+        notes = word_kept w.mem t.mem NOTES (length a.state.returns) (fixed NOTES refl) (fixed (NOTES + 1) refl) there.count;
       }
 
   pub at_line : (es : List Event) → keeps.AllLawful machine.State Event move IsLawful is_go sent es s → starts ly (after_all es s) ≡ 1 → LineBegun (met es) (after_all es s)
@@ -193,7 +220,7 @@ module _ (place : ℕ) (bytes : List ℕ) (from : 0x0800 ≤ place) (to : place 
           let y = after_all front s in
           let join : after_all back y ≡ after_all es s = sym (keeps.after_append machine.State Event move IsLawful is_go sent front back s) ∙ ap (λ l. after_all l s) eq in
           let lb = keeps.lawful_back machine.State Event move IsLawful is_go sent front back s (subst (λ q. keeps.AllLawful machine.State Event move IsLawful is_go sent q s) (sym eq) l) in
-          let a = lines.at_line machine.State Event move IsLawful is_go sent sends Ends (end_stays ly f (home_low s) (home_high s) (above_so place bytes from to ly s h)) program sc follows Mirrored (UnderWay f) (limit k) (positive k) (reaches ly f (home_low s) (home_high s) (above_so place bytes from to ly s h) k sc (limit k) (laws s h)) (starts ly) others_keep no_start no_start_at_end entry seed s.text s.answers b.2.0 b.2.1 y (all ∙ append-nil s.sent ∙ h.start.nothing_sent) (b.0, b.1, b.2.2) back lb (ap (starts ly) join ∙ one) in
+          let a = lines.at_line machine.State Event move IsLawful is_go sent sends Ends (end_stays f (above_so place bytes from to ly s h)) program sc follows step stride Related (UnderWay f) (limit k) (positive k) (reaches f (above_so place bytes from to ly s h) (M s) step (limit k) (laws s h)) (starts ly) others_keep no_start no_start_at_end entry seed s.text s.answers b.2.0 b.2.1 y (all ∙ append-nil s.sent ∙ h.start.nothing_sent) (b.0, b.1, b.2.2) back lb (ap (starts ly) join ∙ one) in
           let sum : lines.met machine.State Event move IsLawful is_go sent (starts ly) back y ≡ met es = omega (arith, v, ap met (sym eq), lines.met_append machine.State Event move IsLawful is_go sent (starts ly) front back s) in
           subst (λ m. LineBegun m (after_all es s)) sum (subst (λ t. LineBegun (lines.met machine.State Event move IsLawful is_go sent (starts ly) back y) t) join (line_begun (lines.met machine.State Event move IsLawful is_go sent (starts ly) back y) (after_all back y) a))
 
@@ -221,7 +248,7 @@ module _ (place : ℕ) (bytes : List ℕ) (from : 0x0800 ≤ place) (to : place 
           let y = after_all front s in
           let lb = keeps.lawful_back machine.State Event move IsLawful is_go sent front back s (subst (λ q. keeps.AllLawful machine.State Event move IsLawful is_go sent q s) (sym eq) l) in
           let g = keeps.goes_append machine.State Event move IsLawful is_go sent front back in
-          let a = lines.line_comes machine.State Event move IsLawful is_go sent sends Ends (end_stays ly f (home_low s) (home_high s) (above_so place bytes from to ly s h)) program sc follows Mirrored (UnderWay f) (limit k) (positive k) (reaches ly f (home_low s) (home_high s) (above_so place bytes from to ly s h) k sc (limit k) (laws s h)) (starts ly) others_keep no_start no_start_at_end entry seed s.text s.answers b.2.0 b.2.1 y (all ∙ append-nil s.sent ∙ h.start.nothing_sent) (b.0, b.1, b.2.2) m state out number is done here found back lb (omega (arith, le, few, g, ap own eq)) in
+          let a = lines.line_comes machine.State Event move IsLawful is_go sent sends Ends (end_stays f (above_so place bytes from to ly s h)) program sc follows step stride Related (UnderWay f) (limit k) (positive k) (reaches f (above_so place bytes from to ly s h) (M s) step (limit k) (laws s h)) (starts ly) others_keep no_start no_start_at_end entry seed s.text s.answers b.2.0 b.2.1 y (all ∙ append-nil s.sent ∙ h.start.nothing_sent) (b.0, b.1, b.2.2) m state out number is done here found back lb (omega (arith, le, few, g, ap own eq)) in
           let join : after_all (front ++ a.front) s ≡ after_all a.front y = keeps.after_append machine.State Event move IsLawful is_go sent front a.front s in
           record {
             front = front ++ a.front;

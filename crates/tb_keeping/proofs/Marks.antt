@@ -1,32 +1,31 @@
 -- The promise on line starts, from what was shown of one start.
-use Rattle.std.proofs.Common.{zero-add, ◌≡◌, ℕ, ◌+◌, ◌*◌, ◌≤◌, ◌<◌, Bool, true, false, List, [], ◌∷◌, ◌++◌, length, refl, sym, ap, ◌∙◌, subst, arith}
+use Rattle.std.proofs.Common.{zero-add, ◌≡◌, ℕ, ◌+◌, ◌*◌, ◌≤◌, ◌<◌, Bool, true, false, List, [], ◌∷◌, ◌++◌, Some, length, refl, sym, ap, ◌∙◌, subst, arith}
 use Rattle.std.specs.Prelude.{if◌then◌else◌}
-use Rattle.tb_asm.specs.declared.names.Name.{Name}
 use Rattle.tb_cpu.specs.Operands.{word_in}
 use Rattle.tb_kernal.specs.declared.events.Event.{Event}
 use Rattle.tb_kernal.specs.declared.events.Event.TheVariants.{Go, Interrupt}
 use Rattle.tb_kernal.specs.Machine as machine
 use Rattle.tb_kernal.specs.Machine.{happens}
 use Rattle.tb_kernal.specs.Runs.{run, all_lawful, goes}
-use Rattle.tb_reaching.specs.View.{part_at}
+use Rattle.tb_reaching.specs.View.{View}
 use Rattle.tb_syntax.specs.Source.{Program, numbers}
-use Rattle.tb_lower.specs.Steps.{GoesOn}
-use Rattle.tb_lower.specs.Control.{At, State, has_line}
+use Rattle.tb_lower.specs.Steps.{Step, GoesOn}
+use Rattle.tb_lower.specs.Control.{At, State, content_at, has_line}
 use Rattle.tb_lower.specs.Meaning.{source_run}
 use Rattle.tb_lower.specs.Follows.{Follows, longest}
-use Rattle.tb_lower.specs.Slots.{SlotCode}
+use Rattle.tb_lower.specs.Slots.{Instr, SlotCode, SlotState, Whole}
 use Rattle.tb_keeping.specs.Kept.{Starts}
-use Rattle.tb_keeping.specs.Layout.{Layout, Laid, is_start}
+use Rattle.tb_keeping.specs.Layout.{Layout, is_start}
 use Rattle.tb_keeping.specs.LineStarts.{begun, BeginsLine, LineComes, MarksLines}
 use Rattle.tb_runtime16.specs.Routines.{WordAt}
 use Rattle.tb_keeping.proofs.Starts as lines
 use Rattle.tb_keeping.proofs.Starts.{count}
 use Rattle.tb_keeping.proofs.Joins.{move, IsLawful, is_go, sent, same_goes, same_after, all_are_lawful}
-use Rattle.tb_keeping.proofs.Laying.{laid_out, start_small, past_apart, content_of, distinct}
 use Rattle.tb_keeping.proofs.Placed.{HasLine, at_lines}
-use Rattle.tb_keeping.proofs.Whole as whole
+use Rattle.tb_keeping.proofs.Strides.{IsStride}
+use Rattle.tb_keeping.proofs.Headline.{OpeningLaw, StepLaws}
 use Rattle.tb_keeping.proofs.LineStarts as one
-use Rattle.tb_keeping.proofs.LineStarts.{starts, found_start}
+use Rattle.tb_keeping.proofs.LineStarts.{AreApart, Known, starts, found_start, has_content}
 
 value_of : (m : ℕ → ℕ) (at w : ℕ) → WordAt m at w → word_in m at ≡ w
 value_of m at w h = omega (arith, h.low, h.high)
@@ -44,32 +43,31 @@ at_one : (b : Bool) → count 1 b ≡ 1 → b ≡ true
 at_one true e = refl
 at_one false e = absurd (let no : ⊥ = omega (arith, e) in no)
 
-module _ (place : ℕ) (bytes : List ℕ) (from : 0x0800 ≤ place) (to : place + length bytes ≤ 0xa000) (labels : List (Name × ℕ)) (seed : ℕ) (program : Program) (sc : SlotCode) (follows : Follows program sc) (laid : Laid labels seed (part_at place bytes) sc)
-    (limit : ℕ → ℕ) (n : ℕ) (routines : whole.RoutineLaws place bytes from to labels seed program sc follows laid limit) (prologue : whole.PrologueLaw place bytes from to labels seed program sc follows laid n) where
-  abbrev ly : Layout
-  ly = whole.ly place bytes from to labels seed program sc follows laid
-
+module _ (place : ℕ) (bytes : List ℕ) (from : 0x0800 ≤ place) (to : place + length bytes ≤ 0xa000) (ly : Layout) (program : Program) (sc : SlotCode) (follows : Follows program sc) (apart : AreApart ly sc)
+    (step : SlotState → Step SlotState) (stride : IsStride sc step) (M : machine.State → SlotState → View → Type 0) (known : (s : machine.State) (c : SlotState) (w : View) → M s c w → c.rest ≡ Whole → Known ly c.state w)
+    (limit : ℕ → ℕ) (positive : (k : ℕ) → 1 ≤ limit k) (n : ℕ) (prologue : OpeningLaw place bytes from to ly M sc n) (laws : StepLaws place bytes from to ly M step limit) where
   abbrev bound : ℕ → ℕ → ℕ
-  bound k m = n + (m * (longest sc + 1) * (24 + (limit k + limit k)) + 1)
+  bound k m = n + (m * (longest sc + 1) * limit k + 1)
 
-  abbrev Begun : (s : machine.State) → Starts place bytes s → ℕ → machine.State → Type 0
-  Begun s h m t = one.LineBegun place bytes from to ly program sc follows (laid_out labels seed (part_at place bytes) sc laid) (start_small labels seed (part_at place bytes) sc laid) (past_apart labels seed (part_at place bytes) sc laid) (λ k. 24 + (limit k + limit k)) (whole.positive place bytes from to labels seed program sc follows laid limit n routines prologue) n (whole.opening place bytes from to labels seed program sc follows laid limit n routines prologue) (whole.laws place bytes from to labels seed program sc follows laid limit n routines prologue) s h m t
+  -- a number of the layout has a list
+  lined : (number : ℕ) → has_line (numbers program) number ≡ true → (is : List Instr) × (content_at sc number ≡ Some is)
+  lined number has = has_content sc number (ap (λ ns. has_line ns number) follows.same_numbers ∙ has)
 
-  pub at_line : (s : machine.State) (h : Starts place bytes s) (es : List Event) → all_lawful es s ≡ true → (number : ℕ) → has_line (numbers program) number ≡ true → (run es s).regs.pc ≡ ly.start number → BeginsLine program seed s (begun ly.start (numbers program) es s) number (run es s)
+  pub at_line : (s : machine.State) (h : Starts place bytes s) (es : List Event) → all_lawful es s ≡ true → (number : ℕ) → has_line (numbers program) number ≡ true → (run es s).regs.pc ≡ ly.start number → BeginsLine program ly.seed s (begun ly.start (numbers program) es s) number (run es s)
   at_line s h es l number has pc =
-      let lined : has_line ly.numbers number ≡ true = ap (λ ns. has_line ns number) follows.same_numbers ∙ has in
-      let list = content_of labels seed (part_at place bytes) sc laid number lined in
-      let here : is_start ly.start ly.numbers (run es s).regs.pc ≡ true = ap (is_start ly.start ly.numbers) pc ∙ found_start ly.start sc number list.0 list.1 in
+      let list = lined number has in
+      let same_numbers : ly.numbers ≡ numbers program = sym apart.numbered ∙ follows.same_numbers in
+      let here : is_start ly.start ly.numbers (run es s).regs.pc ≡ true = ap (is_start ly.start ly.numbers) pc ∙ ap (λ ns. is_start ly.start ns (ly.start number)) (sym apart.numbered) ∙ found_start ly.start sc number list.0 list.1 in
       let y = lines.run machine.State Event move IsLawful is_go sent (starts ly) es s in
       let same : y ≡ run es s = same_after es s in
       let now : starts ly y ≡ 1 = ap (starts ly) same ∙ one_at (is_start ly.start ly.numbers (run es s).regs.pc) here in
-      let b = one.at_line place bytes from to ly program sc follows (laid_out labels seed (part_at place bytes) sc laid) (start_small labels seed (part_at place bytes) sc laid) (past_apart labels seed (part_at place bytes) sc laid) (λ k. 24 + (limit k + limit k)) (whole.positive place bytes from to labels seed program sc follows laid limit n routines prologue) n (whole.opening place bytes from to labels seed program sc follows laid limit n routines prologue) (whole.laws place bytes from to labels seed program sc follows laid limit n routines prologue) s h es (all_are_lawful es s l) now in
-      let counted : lines.met machine.State Event move IsLawful is_go sent (starts ly) es s ≡ begun ly.start (numbers program) es s = same_begun ly es s ∙ ap (λ ns. begun ly.start ns es s) follows.same_numbers in
+      let b = one.at_line place bytes from to ly program sc follows apart step stride M known limit positive n prologue laws s h es (all_are_lawful es s l) now in
+      let counted : lines.met machine.State Event move IsLawful is_go sent (starts ly) es s ≡ begun ly.start (numbers program) es s = same_begun ly es s ∙ ap (λ ns. begun ly.start ns es s) same_numbers in
       let met = lines.met machine.State Event move IsLawful is_go sent (starts ly) es s in
-      let there : has_line (numbers program) b.number ≡ true = subst (HasLine (numbers program)) b.at_place (at_lines program seed s.text s.answers met b.state y.sent b.done).here in
-      let which : b.number ≡ number = distinct labels seed (part_at place bytes) sc laid b.number number (ap (λ ns. has_line ns b.number) follows.same_numbers ∙ there) lined (sym b.pc ∙ ap (λ t. t.regs.pc) same ∙ pc) in
-      subst (λ m. BeginsLine program seed s m number (run es s)) counted
-      (subst (λ t. BeginsLine program seed s met number t) same
+      let there : has_line (numbers program) b.number ≡ true = subst (HasLine (numbers program)) b.at_place (at_lines program ly.seed s.text s.answers met b.state y.sent b.done).here in
+      let which : b.number ≡ number = apart.distinct b.number number (ap (λ ns. has_line ns b.number) same_numbers ∙ there) (ap (λ ns. has_line ns number) same_numbers ∙ has) (sym b.pc ∙ ap (λ t. t.regs.pc) same ∙ pc) in
+      subst (λ m. BeginsLine program ly.seed s m number (run es s)) counted
+      (subst (λ t. BeginsLine program ly.seed s met number t) same
       (record {
         state = b.state;
         done = b.done;
@@ -78,18 +76,19 @@ module _ (place : ℕ) (bytes : List ℕ) (from : 0x0800 ≤ place) (to : place 
         notes = value_of y.mem _ _ b.notes;
       }))
 
-  pub comes : (s : machine.State) (h : Starts place bytes s) (m : ℕ) (state : State) (out : List ℕ) (number : ℕ) → source_run program seed s.text s.answers m ≡ GoesOn state out → state.place ≡ At number → (es : List Event) → all_lawful es s ≡ true → bound (length s.text) m ≤ goes es → LineComes program ly.start s m (bound (length s.text) m) es
+  pub comes : (s : machine.State) (h : Starts place bytes s) (m : ℕ) (state : State) (out : List ℕ) (number : ℕ) → source_run program ly.seed s.text s.answers m ≡ GoesOn state out → state.place ≡ At number → (es : List Event) → all_lawful es s ≡ true → bound (length s.text) m ≤ goes es → LineComes program ly.start s m (bound (length s.text) m) es
   comes s h m state out number done here es l le =
-      let has : has_line (numbers program) number ≡ true = subst (HasLine (numbers program)) here (at_lines program seed s.text s.answers m state out done).here in
-      let list = content_of labels seed (part_at place bytes) sc laid number (ap (λ ns. has_line ns number) follows.same_numbers ∙ has) in
-      let c = one.line_comes place bytes from to ly program sc follows (laid_out labels seed (part_at place bytes) sc laid) (start_small labels seed (part_at place bytes) sc laid) (past_apart labels seed (part_at place bytes) sc laid) (λ k. 24 + (limit k + limit k)) (whole.positive place bytes from to labels seed program sc follows laid limit n routines prologue) n (whole.opening place bytes from to labels seed program sc follows laid limit n routines prologue) (whole.laws place bytes from to labels seed program sc follows laid limit n routines prologue) s h m state out number list.0 done here list.1 es (all_are_lawful es s l) (omega (arith, le, same_goes es)) in
+      let has : has_line (numbers program) number ≡ true = subst (HasLine (numbers program)) here (at_lines program ly.seed s.text s.answers m state out done).here in
+      let list = lined number has in
+      let same_numbers : numbers program ≡ ly.numbers = sym follows.same_numbers ∙ apart.numbered in
+      let c = one.line_comes place bytes from to ly program sc follows apart step stride M known limit positive n prologue laws s h m state out number list.0 done here list.1 es (all_are_lawful es s l) (omega (arith, le, same_goes es)) in
       by c.event c.is_own c.front c.back c.split (omega (arith, c.few, same_goes c.front))
-      (ap (λ ns. is_start ly.start ns (run c.front s).regs.pc) (sym follows.same_numbers) ∙ at_one (is_start ly.start ly.numbers (run c.front s).regs.pc) (ap (starts ly) (sym (same_after c.front s)) ∙ c.starts_here))
-      (ap (λ ns. begun ly.start ns c.front s) (sym follows.same_numbers) ∙ sym (same_begun ly c.front s) ∙ c.begun)
+      (ap (λ ns. is_start ly.start ns (run c.front s).regs.pc) same_numbers ∙ at_one (is_start ly.start ly.numbers (run c.front s).regs.pc) (ap (starts ly) (sym (same_after c.front s)) ∙ c.starts_here))
+      (ap (λ ns. begun ly.start ns c.front s) same_numbers ∙ sym (same_begun ly c.front s) ∙ c.begun)
     where
       by : (e : Event) → is_go e ≡ true → (front back : List Event) → front ++ (e ∷ back) ≡ es → goes front < bound (length s.text) m → is_start ly.start (numbers program) (run front s).regs.pc ≡ true → begun ly.start (numbers program) front s ≡ m → LineComes program ly.start s m (bound (length s.text) m) es
       by (Go k) own front back split few at met = record { front = front; clobber = k; back = back; split = split; few = few; here = at; begun_before = met }
       by (Interrupt ws) own front back split few at met = cc
 
-  abbrev pub marks : MarksLines place bytes program seed ly.start
-  marks = record { begins = at_line; pace = λ text answers m. bound (length text) m; comes = comes }
+  abbrev pub all_marks : MarksLines place bytes program ly.seed ly.start
+  all_marks = record { begins = at_line; pace = λ text answers m. bound (length text) m; comes = comes }

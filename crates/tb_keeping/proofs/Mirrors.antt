@@ -1,17 +1,16 @@
 -- How a view of the machine stands for a state of the slot code.
 use Rattle.std.specs.Prelude.{◌≡◌, ℕ, ◌%◌, ◌≤◌, ◌<◌, Bool, false, List, [], ◌∷◌, length, map, slice_index}
 use Rattle.tb_cpu.specs.Effects.{bit}
-use Rattle.tb_reaching.specs.View.{View, Setup, Part}
+use Rattle.tb_reaching.specs.View.{View, Setup}
 use Rattle.tb_reaching.specs.Start.{IsHome}
 use Rattle.tb_lower.specs.Steps.{Step, Goes, Stops, Ended, Faulted, Waits}
 use Rattle.tb_lower.specs.Control.{Place, State}
-use Rattle.tb_lower.specs.Slots.{Rest, Whole, Left, Slots, SlotState}
-use Rattle.tb_runtime16.specs.Places.{COLUMN, OPEN, LINE, NOTES, HELD}
+use Rattle.tb_lower.specs.Slots.{Slots, SlotState}
+use Rattle.tb_runtime16.specs.Places.{COLUMN, OPEN, NOTES, HELD}
 use Rattle.tb_templates.specs.Templates.{var_at, slot_at}
 use Rattle.tb_runtime16.specs.Laws.{AllBytes}
 use Rattle.tb_keeping.specs.Layout.{Layout, place_at}
 use Rattle.tb_runtime16.specs.Routines.{WordAt, SeedAt, Noted, Entered, Here, Waiting}
-use Rattle.tb_keeping.proofs.Resolved.{RestLies}
 
 -- the addresses of the places to return to
 abbrev pub notes_of : Layout → List Place → List ℕ
@@ -40,30 +39,26 @@ pub record Carrying (at : ℕ) (bs : List ℕ) (m : ℕ → ℕ) (keys gets : Li
   pub here : Here at bs m keys gets w
   pub carry : w.regs.flags.c ≡ c
 
--- the code of the rest of a line stands at PC, or PC is where the place begins
-abbrev pub RestAt : Layout → Part → ℕ → (ℕ → ℕ) → Rest → Place → Type 0
-RestAt ly code pc m (Left n is) place = RestLies ly code n pc is × WordAt m LINE n
-RestAt ly code pc m Whole place = pc ≡ place_at ly place
-
 -- the keyboard's text is at most so long, and it and the answers are bytes
 pub record Typable (keys : ℕ) (text answers : List ℕ) : Type 0 where
   pub short : length text ≤ keys
   pub text_bytes : AllBytes text
   pub answer_bytes : AllBytes answers
 
-pub record Mirrors (ly : Layout) (f : Setup) (lo hi : ℕ) (keys : ℕ) (c : SlotState) (w : View) : Type 0 where
-  pub pc : RestAt ly f.code w.regs.pc w.mem c.rest c.state.place
+-- a run stands at the beginning of a place, the memory holding its state and all slots
+pub record Opens (ly : Layout) (f : Setup) (lo hi : ℕ) (keys : ℕ) (s : State) (slots : Slots) (w : View) : Type 0 where
+  pub pc : w.regs.pc ≡ place_at ly s.place
   pub stack : w.stack ≡ lo ∷ hi ∷ []
   pub binary : w.regs.flags.d ≡ false
-  pub text : w.text ≡ c.state.text
-  pub answers : w.answers ≡ c.state.answers
-  pub holds : Holds ly c.state c.slots w.mem
+  pub text : w.text ≡ s.text
+  pub answers : w.answers ≡ s.answers
+  pub holds : Holds ly s slots w.mem
   pub homed : Entered f lo hi w.mem
-  pub short : Typable keys c.state.text c.state.answers
+  pub short : Typable keys s.text s.answers
 
--- where a step leads
-abbrev pub Target : Layout → Setup → ℕ → ℕ → ℕ → Step SlotState → View → Type 0
-Target ly f lo hi keys (Goes c t) w = Mirrors ly f lo hi keys c w
-Target ly f lo hi keys (Stops Ended t) w = IsHome f w
-Target ly f lo hi keys (Stops Faulted t) w = IsHome f w
-Target ly f lo hi keys (Stops Waits t) w = Waiting w
+-- where a step leads, by a relation of states with views
+abbrev pub Leads : Setup → (SlotState → View → Type 0) → Step SlotState → View → Type 0
+Leads f related (Goes c t) w = related c w
+Leads f related (Stops Ended t) w = IsHome f w
+Leads f related (Stops Faulted t) w = IsHome f w
+Leads f related (Stops Waits t) w = Waiting w

@@ -8,6 +8,7 @@ use Rattle.tb_reaching.specs.View.{View, Setup}
 use Rattle.tb_reaching.specs.Start.{home_low, home_high}
 use Rattle.tb_syntax.specs.Source.{numbers}
 use Rattle.tb_lower.specs.Control.{first_place}
+use Rattle.tb_lower.specs.Meaning.{start}
 use Rattle.tb_lower.specs.Slots.{SlotCode, Slots}
 use Rattle.tb_runtime16.specs.Places.{COLUMN, OPEN, SEEDED, SEED, NOTES, HELD, SLOTS, LINES_AT}
 use Rattle.tb_templates.specs.Templates.{var_at}
@@ -15,8 +16,7 @@ use Rattle.tb_runtime16.specs.Laws.{AllBytes}
 use Rattle.tb_keeping.specs.Layout.{Layout, place_at}
 use Rattle.tb_runtime16.specs.Routines.{WordAt, first}
 use Rattle.tb_runtime16.specs.Ends.{Begun}
-use Rattle.tb_keeping.proofs.Mirrors.{Mirrors}
-use Rattle.tb_keeping.proofs.Headline.{begun}
+use Rattle.tb_keeping.proofs.Mirrors.{Opens}
 
 -- the words in memory from a place on
 abbrev words_from : (ℕ → ℕ) → ℕ → ℕ → List ℕ
@@ -56,7 +56,7 @@ module _ (ly : Layout) (f : Setup) (sc : SlotCode) (numbered : numbers sc ≡ ly
   pub some_length : length some_slots.words ≡ 16
   some_length = words_length w.mem SLOTS 16
 
-  pub opened : Mirrors ly f (home_low s) (home_high s) (length s.text) (begun sc ly.seed s.text s.answers some_slots) w
+  pub opened : Opens ly f (home_low s) (home_high s) (length s.text) (start (numbers sc) ly.seed s.text s.answers) some_slots w
   opened = record {
     pc = b.pc ∙ sym first_at;
     stack = b.stack;

@@ -1,12 +1,12 @@
 -- Pieces of code at any address, on data at any place.
-use Rattle.std.proofs.Common.{not, ⊎_elim, ◌≡◌, ◌≢◌, ◌-◌, ℕ, ◌+◌, ◌/◌, ◌%◌, ◌≤◌, ◌<◌, Bool, true, false, cond, List, [], ◌∷◌, ◌++◌, length, refl, sym, ap, ◌∙◌, subst, arith, leb, eqb, Some, None, Ok}
+use Rattle.std.proofs.Common.{not, ⊎_elim, ◌≡◌, ◌≢◌, ◌-◌, ℕ, ◌+◌, ◌/◌, ◌%◌, ◌≤◌, ◌<◌, Bool, true, false, List, [], ◌∷◌, ◌++◌, length, refl, sym, ap, ◌∙◌, subst, arith, leb, eqb, Some, None, Ok}
 use Rattle.std.proofs.lemmas.Bool.{lt-ltb, cases_eq, eq-eqb, ne_eqb}
 use Rattle.tb_cpu.specs.Effects.{bit as carry}
-use Rattle.tb_keeping.proofs.Mirrors.{Flagged, Carrying}
-use Rattle.tb_keeping.proofs.Resolved.{added, beq, bne, call, compare, constant, copied, highest_code, jump, jump_through, opposite, subtracted}
+use Rattle.tb_keeping.proofs.Mirrors.{Carrying}
+use Rattle.tb_keeping.proofs.Resolved.{call, constant, copied, highest_code, jump, jump_through}
 use Rattle.tb_runtime16.specs.Routines.{Here, WithA, Moves, WordAt}
 use Rattle.tb_memmap.specs.Bytes.{with_byte}
-use Rattle.tb_opcodes.specs.declared.Mnemonic.TheVariants.{Adc, Cmp, Lda, Sbc, Sta}
+use Rattle.tb_opcodes.specs.declared.Mnemonic.TheVariants.{Adc, Lda, Sbc, Sta}
 use Rattle.tb_opcodes.specs.declared.Mnemonic.{Mnemonic}
 use Rattle.tb_opcodes.specs.declared.Mode.TheVariants.{Absolute}
 use Rattle.tb_reaching.proofs.Comes.{chained, known, looser}
@@ -190,66 +190,3 @@ module _ (f : Setup) (room : ℕ) (fits : Fits f room) where
     pub calls : (to : ℕ) → leb (length (0 ∷ 0 ∷ bs)) room ≡ true → at + 3 ≤ highest_code → Stands f.code at (call to) → Moves f (Here at bs m keys gets) (Here to ((at + 2) % 256 ∷ (at + 2) / 256 ∷ bs) m keys gets) [] 1
     calls to deep r st = whatever at bs m keys gets _ [] 1 (λ a x y n v i z c.
         placed_last f room fits (ins 0x20 to) (view a x y n v i z c at bs m keys gets) _ _ small st.0 (ap (λ t. if t then (Some (view a x y n v i z c to (((at + 3) % 65536 + 65535) % 65536 % 256 ∷ ((at + 3) % 65536 + 65535) % 65536 / 256 ∷ bs) m keys gets)) else None) deep) (record { pc = refl; stack = called at bs r; binary = refl; mem = refl; text = refl; answers = refl }))
-
-    pub compares : (l r : ℕ) → at + 6 ≤ highest_code → InData l → InData r → Stands f.code at (compare l r) → m l < 256 → m r < 256 → Moves f (Here at bs m keys gets) (Flagged (at + 6) bs m keys gets (eqb (m l) (m r))) [] 2
-    compares l r b dl dr st ls rs = whatever at bs m keys gets _ [] 2 (λ a x y n v i z c.
-        loads 0xAD l Lda (view a x y n v i z c at bs m keys gets) _ _ [] 1 refl refl refl small st.0 (low_data l dl) refl
-        (loads_last 0xCD r Cmp (view (m l) x y _ v i _ c ((at + 3) % 65536) bs m keys gets) _ _ refl refl refl small st.1.0 (low_data r dr) refl
-        (record { here = record { pc = let e : ((at + 3) % 65536 + 3) % 65536 ≡ at + 6 = omega arith in e; stack = refl; binary = refl; mem = refl; text = refl; answers = refl }; zero = same_byte (m l) (m r) ls rs })))
-
-    branches : (k d : ℕ) (z : Bool) (to : ℕ) (q : View → Type 0) → Bytes f.code at (instr_bytes (ins k d)) → ((a x y : ℕ) (n v i c : Bool) → (w : View) × (act_instr f.code room (ins k d) (view a x y n v i z c at bs m keys gets) ≡ Some w) × Here to bs m keys gets w) → Moves f (Flagged at bs m keys gets z) (Here to bs m keys gets) [] 1
-    branches k d z to q st g w e =
-        known f w at bs keys gets (Here to bs m keys gets) [] 1 e.here.pc e.here.stack e.here.binary e.here.text e.here.answers
-        (subst (λ m'. Comes f (view w.regs.a w.regs.x w.regs.y w.regs.flags.n w.regs.flags.v w.regs.flags.i w.regs.flags.z w.regs.flags.c at bs m' keys gets) (Here to bs m keys gets) [] 1) (sym e.here.mem)
-        (subst (λ z. Comes f (view w.regs.a w.regs.x w.regs.y w.regs.flags.n w.regs.flags.v w.regs.flags.i z w.regs.flags.c at bs m keys gets) (Here to bs m keys gets) [] 1) (sym e.zero)
-        (let h = g w.regs.a w.regs.x w.regs.y w.regs.flags.n w.regs.flags.v w.regs.flags.i w.regs.flags.c in
-        placed_last f room fits (ins k d) (view w.regs.a w.regs.x w.regs.y w.regs.flags.n w.regs.flags.v w.regs.flags.i z w.regs.flags.c at bs m keys gets) h.0 _ small st h.1 h.2)))
-
-    -- where a branch on Z leads
-    pub bne_leads : (d : ℕ) (z : Bool) → at + 2 + d ≤ highest_code → d < 128 → Stands f.code at (bne d) → Moves f (Flagged at bs m keys gets z) (Here (cond z (at + 2) (at + 2 + d)) bs m keys gets) [] 1
-    bne_leads d true b s st = branches 0xD0 d true (at + 2) (λ w. Unit {0}) st.0 (λ a x y n v i c. (_, refl, record { pc = let e : (at + 2) % 65536 ≡ at + 2 = omega arith in e; stack = refl; binary = refl; mem = refl; text = refl; answers = refl }))
-    bne_leads d false b s st = branches 0xD0 d false (at + 2 + d) (λ w. Unit {0}) st.0 (λ a x y n v i c. (_, refl, record { pc = forward at d b s; stack = refl; binary = refl; mem = refl; text = refl; answers = refl }))
-
-    pub beq_leads : (d : ℕ) (z : Bool) → at + 2 + d ≤ highest_code → d < 128 → Stands f.code at (beq d) → Moves f (Flagged at bs m keys gets z) (Here (cond z (at + 2 + d) (at + 2)) bs m keys gets) [] 1
-    beq_leads d false b s st = branches 0xF0 d false (at + 2) (λ w. Unit {0}) st.0 (λ a x y n v i c. (_, refl, record { pc = let e : (at + 2) % 65536 ≡ at + 2 = omega arith in e; stack = refl; binary = refl; mem = refl; text = refl; answers = refl }))
-    beq_leads d true b s st = branches 0xF0 d true (at + 2 + d) (λ w. Unit {0}) st.0 (λ a x y n v i c. (_, refl, record { pc = forward at d b s; stack = refl; binary = refl; mem = refl; text = refl; answers = refl }))
-
-module _ (f : Setup) (room : ℕ) (fits : Fits f room) (at : ℕ) (bs : List ℕ) (m : ℕ → ℕ) (keys gets : List ℕ) (small : leb (length bs) room ≡ true) where
-  -- words added, taken away and turned
-  pub adds : (to from : ℕ) → at + 19 ≤ highest_code → InData from → InData to → from + 1 ≢ to → from ≢ to → Stands f.code at (added to from) → Moves f (Here at bs m keys gets) (Here (at + 19) bs (put_word m to ((m to + m from + 0) % 256) ((m (to + 1) + m (from + 1) + carry (nat_lt 255 (m to + m from + 0))) % 256)) keys gets) [] 7
-  adds to from r df dt apart other st =
-      let s = (m to + m from + 0) % 256 in
-      let m' = with_byte m to s in
-      let c = nat_lt 255 (m to + m from + 0) in
-      let e : ((((at + 1) % 65536 + 3) % 65536 + 3) % 65536 + 3) % 65536 ≡ at + 10 = omega arith in
-      let high : m' (to + 1) ≡ m (to + 1) = put_other m to s (to + 1) (after_itself to) in
-      let same : m' (from + 1) ≡ m (from + 1) = put_other m to s (from + 1) apart in
-      moves_then f _ _ _ [] [] 4 3 (adds_low f room fits at bs m keys gets small to from (omega arith) (low_data from df) (low_data to dt) (st.0, (st.1.0, (st.1.1.0, (st.1.1.1.0, tt)))))
-      (moves_looser f _ _ _ [] 3 3 (omega arith)
-      (λ w h. record { pc = h.pc ∙ (let q : at + 10 + 9 ≡ at + 19 = omega arith in q); stack = h.stack; binary = h.binary; mem = h.mem ∙ ap (λ b. with_byte m' (to + 1) ((b + m' (from + 1) + carry c) % 256)) high ∙ ap (λ b. with_byte m' (to + 1) ((m (to + 1) + b + carry c) % 256)) same; text = h.text; answers = h.answers })
-      (adds_high f room fits (at + 10) bs m' keys gets small (to + 1) (from + 1) c (omega arith) (high_data from df) (high_data to dt) (subst (λ p. Stands f.code p (ins 0xAD (to + 1) ∷ ins 0x6D (from + 1) ∷ ins 0x8D (to + 1) ∷ [])) e st.1.1.1.1)))
-
-  pub subtracts : (to from : ℕ) → at + 19 ≤ highest_code → InData from → InData to → from + 1 ≢ to → from ≢ to → Stands f.code at (subtracted to from) → Moves f (Here at bs m keys gets) (Here (at + 19) bs (put_word m to ((m to + 256 - (m from + 0)) % 256) ((m (to + 1) + 256 - (m (from + 1) + carry (not (nat_le (m from + 0) (m to))))) % 256)) keys gets) [] 7
-  subtracts to from r df dt apart other st =
-      let s = (m to + 256 - (m from + 0)) % 256 in
-      let m' = with_byte m to s in
-      let c = nat_le (m from + 0) (m to) in
-      let e : ((((at + 1) % 65536 + 3) % 65536 + 3) % 65536 + 3) % 65536 ≡ at + 10 = omega arith in
-      let high : m' (to + 1) ≡ m (to + 1) = put_other m to s (to + 1) (after_itself to) in
-      let same : m' (from + 1) ≡ m (from + 1) = put_other m to s (from + 1) apart in
-      moves_then f _ _ _ [] [] 4 3 (takes_low f room fits at bs m keys gets small to from (omega arith) (low_data from df) (low_data to dt) (st.0, (st.1.0, (st.1.1.0, (st.1.1.1.0, tt)))))
-      (moves_looser f _ _ _ [] 3 3 (omega arith)
-      (λ w h. record { pc = h.pc ∙ (let q : at + 10 + 9 ≡ at + 19 = omega arith in q); stack = h.stack; binary = h.binary; mem = h.mem ∙ ap (λ b. with_byte m' (to + 1) ((b + 256 - (m' (from + 1) + carry (not c))) % 256)) high ∙ ap (λ b. with_byte m' (to + 1) ((m (to + 1) + 256 - (b + carry (not c))) % 256)) same; text = h.text; answers = h.answers })
-      (takes_high f room fits (at + 10) bs m' keys gets small (to + 1) (from + 1) c (omega arith) (high_data from df) (high_data to dt) (subst (λ p. Stands f.code p (ins 0xAD (to + 1) ∷ ins 0xED (from + 1) ∷ ins 0x8D (to + 1) ∷ [])) e st.1.1.1.1)))
-
-  pub negates : (to : ℕ) → at + 17 ≤ highest_code → InData to → Stands f.code at (opposite to) → Moves f (Here at bs m keys gets) (Here (at + 17) bs (put_word m to ((0 + 256 - (m to + 0)) % 256) ((0 + 256 - (m (to + 1) + carry (not (nat_le (m to + 0) 0)))) % 256)) keys gets) [] 7
-  negates to r dt st =
-      let s = (0 + 256 - (m to + 0)) % 256 in
-      let m' = with_byte m to s in
-      let c = nat_le (m to + 0) 0 in
-      let e : ((((at + 1) % 65536 + 2) % 65536 + 3) % 65536 + 3) % 65536 ≡ at + 9 = omega arith in
-      let high : m' (to + 1) ≡ m (to + 1) = put_other m to s (to + 1) (after_itself to) in
-      moves_then f _ _ _ [] [] 4 3 (turns_low f room fits at bs m keys gets small to (omega arith) (low_data to dt) (st.0, (st.1.0, (st.1.1.0, (st.1.1.1.0, tt)))))
-      (moves_looser f _ _ _ [] 3 3 (omega arith)
-      (λ w h. record { pc = h.pc ∙ (let q : at + 9 + 8 ≡ at + 17 = omega arith in q); stack = h.stack; binary = h.binary; mem = h.mem ∙ ap (λ b. with_byte m' (to + 1) ((0 + 256 - (b + carry (not c))) % 256)) high; text = h.text; answers = h.answers })
-      (turns_high f room fits (at + 9) bs m' keys gets small (to + 1) c (omega arith) (high_data to dt) (subst (λ p. Stands f.code p (ins 0xA9 0 ∷ ins 0xED (to + 1) ∷ ins 0x8D (to + 1) ∷ [])) e st.1.1.1.1)))

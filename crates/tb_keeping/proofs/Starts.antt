@@ -1,39 +1,20 @@
 -- Where a machine that runs a program's code begins a line, the program does.
-use Rattle.std.proofs.Common.{◌≡◌, ℕ, zero, suc, ◌+◌, ◌-◌, ◌*◌, ◌≤◌, ◌<◌, Bool, true, false, if◌then◌else◌, List, [], ◌∷◌, ◌++◌, refl, sym, ap, ◌∙◌, subst, arith, length, Option, Some, None, append_assoc, zero-add, suc-add, ⊎_elim, ap₂, mul-le-mul_right}
+use Rattle.std.proofs.Common.{◌≡◌, ℕ, zero, suc, ◌+◌, ◌-◌, ◌*◌, ◌≤◌, ◌<◌, Bool, true, false, if◌then◌else◌, List, [], ◌∷◌, ◌++◌, refl, sym, ap, ◌∙◌, subst, arith, length, Option, Some, None, append_assoc, zero-add, suc-add, ⊎_elim, ap₂, mul-le-mul_right, le_trans}
 use Rattle.std.proofs.lemmas.Bool.{cases_lt}
 use Rattle.tb_lower.specs.Steps.{End, Step, Goes, Stops, Run, GoesOn, Over, joined, advance, advance_by}
 use Rattle.tb_syntax.specs.Source.{Program, numbers}
 use Rattle.tb_lower.specs.Control.{Place, At, Past, State, content_at}
 use Rattle.tb_lower.specs.Meaning.{start, source_run}
-use Rattle.tb_lower.specs.Slots.{Instr, SlotCode, Rest, Whole, Left, Slots, SlotState, slot_step, slot_run, slot_start, instr_at, instr_found, begins, begins_in, beginnings}
+use Rattle.tb_lower.specs.Slots.{Instr, SlotCode, Rest, Whole, Left, Slots, SlotState, slot_step, slot_run, slot_start, instr_at, begins, begins_in, beginnings}
 use Rattle.tb_lower.specs.Follows.{longest, IsPrefix, Meets, Follows}
 use Rattle.tb_lower.proofs.Runs.{over_stays, advance_sum}
 use Rattle.tb_keeping.proofs.Inductions.{AllLawful, after, goes, after_append, goes_append, lawful_back, Way, still, on_way, there, Reaches}
 use Rattle.tb_keeping.proofs.Inductions as keeps
+use Rattle.tb_keeping.proofs.Strides.{IsStride, IsOutside, found_line, lines_at, passed}
 
 -- a number where a test holds
 abbrev pub count : ℕ → Bool → ℕ
 count n b = if b then n else 0
-
--- how many lines a state of the slot code is at the beginning of
-abbrev pub found_line : Option (List Instr) → ℕ
-found_line None = 0
-found_line (Some is) = 1
-
-abbrev pub lines_at : SlotCode → Rest → Place → ℕ
-lines_at code (Left n is) place = 0
-lines_at code Whole (At n) = found_line (content_at code n)
-lines_at code Whole Past = 0
-
--- a state that goes on is at the beginning of a line where it is at that of a list
-goes_begins : (code : SlotCode) (q : Rest) (p : Place) (s : State) (r : Slots) (c : SlotState) (t : List ℕ) → instr_at code q p s r ≡ Goes c t → begins q p ≡ lines_at code q p
-goes_begins code (Left n is) p s r c t e = refl
-goes_begins code Whole Past s r c t e = refl
-goes_begins code Whole (At n) s r c t e = found (content_at code n) e
-  where
-    found : (o : Option (List Instr)) → instr_found (numbers code) n o s r ≡ Goes c t → 1 ≡ found_line o
-    found (Some is) e = refl
-    found None e = cc
 
 module _ (X E : Type 0) (move : E → X → X) (IsLawful : E → X → Type 0) (is_go : E → Bool) (sent : X → List ℕ) (starts : X → ℕ) where
   abbrev pub run : List E → X → X
@@ -161,9 +142,9 @@ IsGoing : Run SlotState → Type 0
 IsGoing (GoesOn c out) = Unit {0}
 IsGoing (Over why out) = ⊥
 
-ended_before : (code : SlotCode) (d : ℕ) (r : Run SlotState) (why : End) (out : List ℕ) (c : SlotState) (o : List ℕ) → r ≡ Over why out → advance_by (slot_step code) d r ≡ GoesOn c o → ⊥
+ended_before : (step : SlotState → Step SlotState) (d : ℕ) (r : Run SlotState) (why : End) (out : List ℕ) (c : SlotState) (o : List ℕ) → r ≡ Over why out → advance_by step d r ≡ GoesOn c o → ⊥
 unfolding IsGoing
-ended_before code d r why out c o e h = subst IsGoing (sym h ∙ ap (advance_by (slot_step code) d) e ∙ over_stays (slot_step code) d why out) tt
+ended_before step d r why out c o e h = subst IsGoing (sym h ∙ ap (advance_by step d) e ∙ over_stays step d why out) tt
 
 -- at the beginning of a line with m beginnings before it, the source has done m lines
 module _ (code : SlotCode) (m : ℕ) (r : Run SlotState) (k : ℕ) (c : SlotState) (out : List ℕ) (now : advance_by (slot_step code) k r ≡ GoesOn c out) (met : beginnings code k r ≡ m) (begins_here : begins c.rest c.state.place ≡ 1) where
@@ -182,14 +163,14 @@ module _ (code : SlotCode) (m : ℕ) (r : Run SlotState) (k : ℕ) (c : SlotStat
       omega (arith, t, q, b, met)
   behind_place Past s w o j here lt e b =
       let d : k ≡ j + suc (k - j - 1) = omega (arith, lt) in
-      ended_before code (k - j - 1) (advance (slot_step code) (advance_by (slot_step code) j r)) _ _ c out
+      ended_before (slot_step code) (k - j - 1) (advance (slot_step code) (advance_by (slot_step code) j r)) _ _ c out
       (ap (advance (slot_step code)) e ∙ ap (λ p. joined o (instr_at code Whole p s w)) here)
       (sym (advance_sum (slot_step code) j (suc (k - j - 1)) r) ∙ ap (λ n. advance_by (slot_step code) n r) (sym d) ∙ now)
 
   same_line : (source : Run State) (j : ℕ) → Meets m source (advance_by (slot_step code) j r) (beginnings code j r) → source ≡ GoesOn c.state out
   same_line (Over why o) j h =
       ⊎_elim (λ lt. absurd (let no : ⊥ = omega (arith, too_late j lt, h.1) in no))
-      (λ le. absurd (let d : k ≡ j + (k - j) = omega (arith, le) in ended_before code (k - j) (advance_by (slot_step code) j r) why o c out h.0 (sym (advance_sum (slot_step code) j (k - j) r) ∙ ap (λ n. advance_by (slot_step code) n r) (sym d) ∙ now)))
+      (λ le. absurd (let d : k ≡ j + (k - j) = omega (arith, le) in ended_before (slot_step code) (k - j) (advance_by (slot_step code) j r) why o c out h.0 (sym (advance_sum (slot_step code) j (k - j) r) ∙ ap (λ n. advance_by (slot_step code) n r) (sym d) ∙ now)))
       (cases_lt k j)
   same_line (GoesOn s o) j h =
       ⊎_elim (λ lt. absurd (let no : ⊥ = omega (arith, too_late j lt, h.3) in no))
@@ -207,9 +188,9 @@ module _ (X E : Type 0) (move : E → X → X) (IsLawful : E → X → Type 0) (
     (sends : (e : E) (x : X) → IsLawful e x → IsPrefix (sent x) (sent (move e x)))
     (IsEnd : End → X → Type 0)
     (end_stays : (why : End) (e : E) (x : X) → IsLawful e x → IsEnd why x → IsEnd why (move e x) × (sent (move e x) ≡ sent x))
-    (program : Program) (code : SlotCode) (follows : Follows program code)
+    (program : Program) (code : SlotCode) (follows : Follows program code) (step : SlotState → Step SlotState) (stride : IsStride code step)
     (R : SlotState → X → Type 0) (W : X → Type 0) (limit : ℕ) (positive : 1 ≤ limit)
-    (law : (c : SlotState) → Reaches X E move IsLawful is_go sent (R c) (keeps.Goal X E move IsLawful is_go sent sends IsEnd end_stays SlotState (slot_step code) R W limit (slot_step code c)) W (keeps.sent_of X E move IsLawful is_go sent sends IsEnd end_stays SlotState (slot_step code) R W limit (slot_step code c)) limit)
+    (law : (c : SlotState) → Reaches X E move IsLawful is_go sent (R c) (keeps.Goal X E move IsLawful is_go sent sends IsEnd end_stays SlotState step R W limit (step c)) W (keeps.sent_of X E move IsLawful is_go sent sends IsEnd end_stays SlotState step R W limit (step c)) limit)
     (starts : X → ℕ)
     (others_keep : (c : SlotState) (e : E) (x : X) → is_go e ≡ false → IsLawful e x → R c x → R c (move e x) × (sent (move e x) ≡ sent x))
     (no_start : (y : X) → W y → starts y ≡ 0)
@@ -228,16 +209,16 @@ module _ (X E : Type 0) (move : E → X → X) (IsLawful : E → X → Type 0) (
   AllFair es x = AllLawful X E move IsLawful is_go sent es x
 
   abbrev Goal : Step SlotState → X → Type 0
-  Goal = keeps.Goal X E move IsLawful is_go sent sends IsEnd end_stays SlotState (slot_step code) R W limit
+  Goal = keeps.Goal X E move IsLawful is_go sent sends IsEnd end_stays SlotState step R W limit
 
   abbrev sent_of : Step SlotState → List ℕ
-  sent_of = keeps.sent_of X E move IsLawful is_go sent sends IsEnd end_stays SlotState (slot_step code) R W limit
+  sent_of = keeps.sent_of X E move IsLawful is_go sent sends IsEnd end_stays SlotState step R W limit
 
   abbrev Law : SlotState → X → List E → Type 0
-  Law c x es = Counted X E move IsLawful is_go sent starts (R c) (Goal (slot_step code c)) W (sent_of (slot_step code c)) (lines_at code c.rest c.state.place) limit x es
+  Law c x es = Counted X E move IsLawful is_go sent starts (R c) (Goal (step c)) W (sent_of (step c)) (lines_at code c.rest c.state.place) limit x es
 
   step_law : (c : SlotState) (es : List E) (x : X) → R c x → AllFair es x → Law c x es
-  step_law c es x r l = counted X E move IsLawful is_go sent starts (R c) (Goal (slot_step code c)) W (sent_of (slot_step code c)) (lines_at code c.rest c.state.place) limit (law c) (others_keep c) no_start (entry c) es x r l
+  step_law c es x r l = counted X E move IsLawful is_go sent starts (R c) (Goal (step c)) W (sent_of (step c)) (lines_at code c.rest c.state.place) limit (law c) (others_keep c) no_start (entry c) es x r l
 
   joins : (front back es : List E) (x : X) → front ++ back ≡ es → go_on back (go_on front x) ≡ go_on es x
   joins front back es x e = sym (after_append X E move IsLawful is_go sent front back x) ∙ ap (λ l. go_on l x) e
@@ -255,27 +236,27 @@ module _ (X E : Type 0) (move : E → X → X) (IsLawful : E → X → Type 0) (
   record Stood (r : Run SlotState) (y : X) (b : ℕ) : Type 0 where
     k : ℕ
     c : SlotState
-    now : advance_by (slot_step code) k r ≡ GoesOn c (sent y)
+    now : advance_by step k r ≡ GoesOn c (sent y)
     related : R c y
-    begun : beginnings code k r ≡ b
+    begun : passed step k r ≡ b
 
   stood : (fuel : ℕ) (c : SlotState) (x : X) (es : List E) → own_in es < fuel → R c x → AllFair es x → starts (go_on es x) ≡ 1 → Stood (GoesOn c (sent x)) (go_on es x) (met_in es x)
   stood zero c x es lt r l one = absurd (omega arith)
   stood (suc fuel) c x es lt r l one = by (step_law c es x r l) (λ c' y back lt' r' l' one'. stood fuel c' y back lt' r' l' one')
     where
-      past_goal : (st : Step SlotState) → slot_step code c ≡ st → (front back : List E) → front ++ back ≡ es → 1 ≤ own_in front → Goal st (go_on front x) → sent (go_on front x) ≡ sent x ++ sent_of st → met_in front x ≡ lines_at code c.rest c.state.place → ((c' : SlotState) (y : X) (back : List E) → own_in back < fuel → R c' y → AllFair back y → starts (go_on back y) ≡ 1 → Stood (GoesOn c' (sent y)) (go_on back y) (met_in back y)) → Stood (GoesOn c (sent x)) (go_on es x) (met_in es x)
+      past_goal : (st : Step SlotState) → step c ≡ st → (front back : List E) → front ++ back ≡ es → 1 ≤ own_in front → Goal st (go_on front x) → sent (go_on front x) ≡ sent x ++ sent_of st → met_in front x ≡ lines_at code c.rest c.state.place → ((c' : SlotState) (y : X) (back : List E) → own_in back < fuel → R c' y → AllFair back y → starts (go_on back y) ≡ 1 → Stood (GoesOn c' (sent y)) (go_on back y) (met_in back y)) → Stood (GoesOn c (sent x)) (go_on es x) (met_in es x)
       past_goal (Stops why t) e front back eq some goal same v next =
-          let stay = keeps.ends_stay X E move IsLawful is_go sent sends IsEnd end_stays SlotState (slot_step code) R W limit why back (go_on front x) (fair_back front back es x eq l) goal in
+          let stay = keeps.ends_stay X E move IsLawful is_go sent sends IsEnd end_stays SlotState step R W limit why back (go_on front x) (fair_back front back es x eq l) goal in
           absurd (let no : ⊥ = omega (arith, one, ap starts (joins front back es x eq), no_start_at_end why _ stay.0) in no)
       past_goal (Goes c' t) e front back eq some goal same v next =
           let j = joins front back es x eq in
           let s = next c' (go_on front x) back (omega (arith, lt, some, own_sum front back es eq)) goal (fair_back front back es x eq l) (ap starts j ∙ one) in
-          let b : beginnings code s.k (joined (sent x) (slot_step code c)) ≡ met_in back (go_on front x) = ap (λ st. beginnings code s.k (joined (sent x) st)) e ∙ ap (λ o. beginnings code s.k (GoesOn c' o)) (sym same) ∙ s.begun in
-          let g = goes_begins code c.rest c.state.place c.state c.slots c' t e in
+          let b : passed step s.k (joined (sent x) (step c)) ≡ met_in back (go_on front x) = ap (λ st. passed step s.k (joined (sent x) st)) e ∙ ap (λ o. passed step s.k (GoesOn c' o)) (sym same) ∙ s.begun in
+          let g = stride.begins_line c c' t e in
           record {
             k = suc s.k;
             c = s.c;
-            now = ap (λ st. advance_by (slot_step code) s.k (joined (sent x) st)) e ∙ ap (λ o. advance_by (slot_step code) s.k (GoesOn c' o)) (sym same) ∙ s.now ∙ ap (λ y. GoesOn s.c (sent y)) j;
+            now = ap (λ st. advance_by step s.k (joined (sent x) st)) e ∙ ap (λ o. advance_by step s.k (GoesOn c' o)) (sym same) ∙ s.now ∙ ap (λ y. GoesOn s.c (sent y)) j;
             related = subst (R s.c) j s.related;
             begun = omega (arith, b, g, v, met_sum front back es x eq);
           }
@@ -283,7 +264,7 @@ module _ (X E : Type 0) (move : E → X → X) (IsLawful : E → X → Type 0) (
       by : Law c x es → ((c' : SlotState) (y : X) (back : List E) → own_in back < fuel → R c' y → AllFair back y → starts (go_on back y) ≡ 1 → Stood (GoesOn c' (sent y)) (go_on back y) (met_in back y)) → Stood (GoesOn c (sent x)) (go_on es x) (met_in es x)
       by (before none a same v) next = record { k = 0; c = c; now = ap (λ o. GoesOn c o) (sym same); related = a; begun = sym v }
       by (between w v few) next = absurd (let no : ⊥ = omega (arith, one, no_start _ w) in no)
-      by (behind front back eq some few goal same v) next = past_goal (slot_step code c) refl front back eq some goal same v next
+      by (behind front back eq some few goal same v) next = past_goal (step c) refl front back eq some goal same v next
 
   -- the machine comes to the state after k steps of a run
   record Come (r : Run SlotState) (c : SlotState) (out : List ℕ) (k : ℕ) (x : X) (es : List E) : Type 0 where
@@ -293,20 +274,20 @@ module _ (X E : Type 0) (move : E → X → X) (IsLawful : E → X → Type 0) (
     few : own_in front ≤ k * limit
     related : R c (go_on front x)
     all : sent (go_on front x) ≡ out
-    begun : met_in front x ≡ beginnings code k r
+    begun : met_in front x ≡ passed step k r
 
-  comes : (k : ℕ) (c : SlotState) (x : X) (es : List E) → R c x → AllFair es x → k * limit ≤ own_in es → (c' : SlotState) (out : List ℕ) → advance_by (slot_step code) k (GoesOn c (sent x)) ≡ GoesOn c' out → Come (GoesOn c (sent x)) c' out k x es
+  comes : (k : ℕ) (c : SlotState) (x : X) (es : List E) → R c x → AllFair es x → k * limit ≤ own_in es → (c' : SlotState) (out : List ℕ) → advance_by step k (GoesOn c (sent x)) ≡ GoesOn c' out → Come (GoesOn c (sent x)) c' out k x es
   comes zero c x es r l le c' out e = let a : c ≡ c' = cc in let o : sent x ≡ out = cc in record { front = []; back = es; split = refl; few = omega arith; related = subst (λ c. R c x) a r; all = o; begun = refl }
   comes (suc k) c x es r l le c' out e = by (step_law c es x r l) (λ d y back r' l' le' e'. comes k d y back r' l' le' c' out e')
     where
-      past_goal : (st : Step SlotState) → slot_step code c ≡ st → (front back : List E) → front ++ back ≡ es → own_in front ≤ limit → Goal st (go_on front x) → sent (go_on front x) ≡ sent x ++ sent_of st → met_in front x ≡ lines_at code c.rest c.state.place → ((d : SlotState) (y : X) (back : List E) → R d y → AllFair back y → k * limit ≤ own_in back → advance_by (slot_step code) k (GoesOn d (sent y)) ≡ GoesOn c' out → Come (GoesOn d (sent y)) c' out k y back) → Come (GoesOn c (sent x)) c' out (suc k) x es
+      past_goal : (st : Step SlotState) → step c ≡ st → (front back : List E) → front ++ back ≡ es → own_in front ≤ limit → Goal st (go_on front x) → sent (go_on front x) ≡ sent x ++ sent_of st → met_in front x ≡ lines_at code c.rest c.state.place → ((d : SlotState) (y : X) (back : List E) → R d y → AllFair back y → k * limit ≤ own_in back → advance_by step k (GoesOn d (sent y)) ≡ GoesOn c' out → Come (GoesOn d (sent y)) c' out k y back) → Come (GoesOn c (sent x)) c' out (suc k) x es
       past_goal (Stops why t) q front back eq few goal same v next =
-          absurd (ended_before code k (joined (sent x) (slot_step code c)) why (sent x ++ t) c' out (ap (joined (sent x)) q) e)
+          absurd (ended_before step k (joined (sent x) (step c)) why (sent x ++ t) c' out (ap (joined (sent x)) q) e)
       past_goal (Goes d t) q front back eq few goal same v next =
           let s = next d (go_on front x) back goal (fair_back front back es x eq l) (omega (arith, le, few, own_sum front back es eq))
-          (ap (λ o. advance_by (slot_step code) k (GoesOn d o)) same ∙ ap (λ st. advance_by (slot_step code) k (joined (sent x) st)) (sym q) ∙ e) in
-          let b : beginnings code k (joined (sent x) (slot_step code c)) ≡ met_in s.front (go_on front x) = ap (λ st. beginnings code k (joined (sent x) st)) q ∙ ap (λ o. beginnings code k (GoesOn d o)) (sym same) ∙ sym s.begun in
-          let g = goes_begins code c.rest c.state.place c.state c.slots d t q in
+          (ap (λ o. advance_by step k (GoesOn d o)) same ∙ ap (λ st. advance_by step k (joined (sent x) st)) (sym q) ∙ e) in
+          let b : passed step k (joined (sent x) (step c)) ≡ met_in s.front (go_on front x) = ap (λ st. passed step k (joined (sent x) st)) q ∙ ap (λ o. passed step k (GoesOn d o)) (sym same) ∙ sym s.begun in
+          let g = stride.begins_line c d t q in
           let j = joins front s.front (front ++ s.front) x refl in
           record {
             front = front ++ s.front;
@@ -318,10 +299,10 @@ module _ (X E : Type 0) (move : E → X → X) (IsLawful : E → X → Type 0) (
             begun = omega (arith, b, g, v, met_sum front s.front (front ++ s.front) x refl);
           }
 
-      by : Law c x es → ((d : SlotState) (y : X) (back : List E) → R d y → AllFair back y → k * limit ≤ own_in back → advance_by (slot_step code) k (GoesOn d (sent y)) ≡ GoesOn c' out → Come (GoesOn d (sent y)) c' out k y back) → Come (GoesOn c (sent x)) c' out (suc k) x es
+      by : Law c x es → ((d : SlotState) (y : X) (back : List E) → R d y → AllFair back y → k * limit ≤ own_in back → advance_by step k (GoesOn d (sent y)) ≡ GoesOn c' out → Come (GoesOn d (sent y)) c' out k y back) → Come (GoesOn c (sent x)) c' out (suc k) x es
       by (before none a same v) next = absurd (let no : ⊥ = omega (arith, none, le, positive) in no)
       by (between w v few) next = absurd (let no : ⊥ = omega (arith, few, le) in no)
-      by (behind front back eq some few goal same v) next = past_goal (slot_step code c) refl front back eq few goal same v next
+      by (behind front back eq some few goal same v) next = past_goal (step c) refl front back eq few goal same v next
 
   -- the machine's own next event
   record Own (c : SlotState) (x : X) (es : List E) : Type 0 where
@@ -384,12 +365,13 @@ module _ (X E : Type 0) (move : E → X → X) (IsLawful : E → X → Type 0) (
         let w = is_line code s.c.rest s.c.state.place e in
         let b : begins s.c.rest s.c.state.place ≡ 1 = ap₂ begins w.2 w.3 in
         let f = follows.reaches seed keys answers slots size (met_in es x) in
-        let now : slot_run code seed keys answers slots s.k ≡ GoesOn s.c (sent (go_on es x)) = ap (λ o. advance_by (slot_step code) s.k (GoesOn first o)) (sym silent) ∙ s.now in
-        let begun : beginnings code s.k (slot_start code seed keys answers slots) ≡ met_in es x = ap (λ o. beginnings code s.k (GoesOn first o)) (sym silent) ∙ s.begun in
+        let k = stride.reached s.k (GoesOn first []) in
+        let now : slot_run code seed keys answers slots k.count ≡ GoesOn s.c (sent (go_on es x)) = sym k.same ∙ ap (λ o. advance_by step s.k (GoesOn first o)) (sym silent) ∙ s.now in
+        let begun : beginnings code k.count (slot_start code seed keys answers slots) ≡ met_in es x = sym k.begun ∙ ap (λ o. passed step s.k (GoesOn first o)) (sym silent) ∙ s.begun in
         record {
           state = s.c.state;
           slots = s.c.slots;
-          done = same_line code (met_in es x) (slot_start code seed keys answers slots) s.k s.c (sent (go_on es x)) now begun b (source_run program seed keys answers (met_in es x)) f.0 f.2;
+          done = same_line code (met_in es x) (slot_start code seed keys answers slots) k.count s.c (sent (go_on es x)) now begun b (source_run program seed keys answers (met_in es x)) f.0 f.2;
           related = subst (λ q. R (record { state = s.c.state; rest = q; slots = s.c.slots }) (go_on es x)) w.2 s.related;
           number = w.0;
           list = w.1;
@@ -403,11 +385,12 @@ module _ (X E : Type 0) (move : E → X → X) (IsLawful : E → X → Type 0) (
         let f = follows.reaches seed keys answers slots size m in
         let h : Meets m (GoesOn s out) (slot_run code seed keys answers slots f.0) (beginnings code f.0 (slot_start code seed keys answers slots)) = subst (λ q. Meets m q (slot_run code seed keys answers slots f.0) (beginnings code f.0 (slot_start code seed keys answers slots))) e f.2 in
         let c : SlotState = record { state = s; rest = Whole; slots = h.0 } in
-        let small : f.0 * limit ≤ m * (longest code + 1) * limit = mul-le-mul_right limit f.1 in
-        let a = comes f.0 first x es entered l (omega (arith, small, le)) c out (ap (λ o. advance_by (slot_step code) f.0 (GoesOn first o)) silent ∙ h.2) in
+        let k = stride.found f.0 (GoesOn first []) (subst IsOutside (sym h.2) refl) in
+        let small : k.count * limit ≤ m * (longest code + 1) * limit = mul-le-mul_right limit (le_trans k.few f.1) in
+        let a = comes k.count first x es entered l (omega (arith, small, le)) c out (ap (λ o. advance_by step k.count (GoesOn first o)) silent ∙ k.same ∙ h.2) in
         let o = own_event c (go_on a.front x) a.back a.related (fair_back a.front a.back es x a.split l) (omega (arith, le, small, a.few, own_sum a.front a.back es a.split)) in
         let j = joins a.front o.front (a.front ++ o.front) x refl in
-        let b : beginnings code f.0 (GoesOn first (sent x)) ≡ m = ap (λ o. beginnings code f.0 (GoesOn first o)) silent ∙ h.3 in
+        let b : passed step k.count (GoesOn first (sent x)) ≡ m = ap (λ o. passed step k.count (GoesOn first o)) silent ∙ k.begun ∙ h.3 in
         record {
           front = a.front ++ o.front;
           event = o.event;

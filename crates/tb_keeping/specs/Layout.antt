@@ -1,18 +1,12 @@
 -- Where the code of a program lies in its image.
-use Rattle.std.specs.Prelude.{◌≡◌, ◌⊎◌, ℕ, ◌+◌, ◌≤◌, ◌<◌, Bool, true, false, ◌||◌, nat_eq, if◌then◌else◌, List, [], ◌∷◌, length, Some}
+use Rattle.std.specs.Prelude.{ℕ, ◌+◌, ◌≤◌, Bool, false, ◌||◌, nat_eq, if◌then◌else◌, List, [], ◌∷◌}
 use Rattle.tb_asm.specs.declared.names.Name.{Name}
 use Rattle.tb_asm.specs.declared.items.Operand.TheVariants.{Label}
 use Rattle.tb_asm.specs.Layout.{Entry, number_in, bytes_from, size}
-use Rattle.tb_syntax.specs.Source.{numbers}
-use Rattle.tb_lower.specs.Control.{Place, At, Past, next_after, first_place, has_line, content_at}
-use Rattle.tb_lower.specs.Slots.{Instr, SlotCode}
-use Rattle.tb_lower.specs.Ranges.{AreInRange}
-use Rattle.tb_runtime16.specs.Places.{PROLOGUE_AT, LINES_AT}
-use Rattle.tb_runtime16.specs.Block.{block_bytes}
+use Rattle.tb_lower.specs.Control.{Place, At, Past, next_after, has_line}
 use Rattle.tb_templates.specs.declared.labels.Target.{Target}
 use Rattle.tb_templates.specs.declared.labels.Target.TheVariants as target
 use Rattle.tb_templates.specs.Labels.{label_of}
-use Rattle.tb_templates.specs.Program.{line_code, past_code, find_code, table_code}
 use Rattle.tb_templates.specs.Layout.{LabelsAt}
 use Rattle.tb_reaching.specs.View.{Part}
 use Rattle.tb_reaching.specs.View.{without}
@@ -73,46 +67,3 @@ is_start start (n ∷ ns) a = nat_eq a (start n) || is_start start ns a
 -- the program's bytes but for the first one of each line
 abbrev pub inner : Layout → Part → Part
 inner ly code = without (is_start ly.start ly.numbers) code
-
--- ---- a whole program
-
--- no line begins inside these items
-abbrev pub IsClear : List (Name × ℕ) → List ℕ → ℕ → List Entry → Type 0
-IsClear labels ns at es =
-    (n : ℕ) → has_line ns n ≡ true → (place_of labels (target.Line n) < at) ⊎ (at + size es ≤ place_of labels (target.Line n))
-
--- a line's code lies at its label, and no line begins inside it but itself
-pub record LineLies (labels : List (Name × ℕ)) (code : Part) (ns : List ℕ) (seed n : ℕ) (is : List Instr) : Type 0 where
-  pub lies : Lies code labels (place_of labels (target.Line n)) (line_code ns seed (record { number = n; content = is }))
-  pub clear : (m : ℕ) → has_line ns m ≡ true → (place_of labels (target.Line m) ≤ place_of labels (target.Line n)) ⊎ (place_of labels (target.Line n) + size (line_code ns seed (record { number = n; content = is })) ≤ place_of labels (target.Line m))
-  pub ranged : AreInRange 256 is
-  pub small : n < 65536
-  pub after_block : LINES_AT ≤ place_of labels (target.Line n)
-
--- each number is below all behind it
-abbrev pub IsBelowAll : ℕ → List ℕ → Type 0
-IsBelowAll k [] = Unit {0}
-IsBelowAll k (n ∷ ns) = (k < n) × IsBelowAll k ns
-
--- the numbers of a list rise
-abbrev pub AreRising : List ℕ → Type 0
-AreRising [] = Unit {0}
-AreRising (n ∷ ns) = IsBelowAll n ns × AreRising ns
-
--- the code of a program lies where the labels say
-pub record Laid (labels : List (Name × ℕ)) (seed : ℕ) (code : Part) (program : SlotCode) : Type 0 where
-  pub block : Bytes code PROLOGUE_AT block_bytes
-  pub lines : (n : ℕ) (is : List Instr) → content_at program n ≡ Some is → LineLies labels code (numbers program) seed n is
-  pub past : Lies code labels (place_of labels target.Past) (past_code (numbers program))
-  pub past_clear : IsClear labels (numbers program) (place_of labels target.Past) (past_code (numbers program))
-  pub find : Lies code labels (place_of labels target.Find) (find_code (numbers program))
-  pub find_clear : IsClear labels (numbers program) (place_of labels target.Find) (find_code (numbers program))
-  pub table : Lies code labels (place_of labels target.Table) (table_code (numbers program))
-  pub table_clear : IsClear labels (numbers program) (place_of labels target.Table) (table_code (numbers program))
-  -- the lines begin behind the block
-  pub first : place_at (layout_of labels (numbers program) seed) (first_place (numbers program)) ≡ LINES_AT
-  pub some : 1 ≤ length (numbers program)
-  pub rising : AreRising (numbers program)
-  pub seed_small : seed < 65536
-  pub count_small : length (numbers program) < 65536
-  pub bytes_small : (a b : ℕ) → code a ≡ Some b → b < 256

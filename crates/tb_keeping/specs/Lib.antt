@@ -1,4 +1,3 @@
 pub mod Layout
 pub mod Kept
 pub mod LineStarts
-pub mod Laws

@@ -3,4 +3,4 @@
 
 mod promises;
 
-pub use promises::{keeps, marks_lines};
+pub use promises::nothing;

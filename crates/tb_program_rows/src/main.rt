@@ -23,6 +23,7 @@ fn show_row<R: Files + AllocGlobal>(rt: &R, row: &str, out: &mut String) -> Resu
         "alike" => programs::show_alike(alloc, rest, out),
         "start_of" => programs::show_start(alloc, rest, out),
         "line_at" => programs::show_line(alloc, rest, out),
+        "code" => programs::show_code(alloc, rest, out),
         "warnings" => programs::show_warnings(alloc, rest, out),
         "compile_gives_up_for_memory" => programs::show_cuts(alloc, rest, out),
         "run" => programs::show_run(rt, rest, out),

@@ -129,6 +129,24 @@ pub fn show_line(alloc: Global, row: &str, out: &mut String) -> Result<(), Failu
     show_number(compiled(alloc, source)?.line_at(address), out)
 }
 
+// Appends so many bytes of a program from an address on.
+fn append_code(program: &Compiled, at: u16, count: usize, out: &mut String) -> Result<(), Failure> {
+    let file = tb_prg::read(program.prg())?;
+    let before = usize::from(at.checked_sub(file.at).ok_or(Failure)?);
+    for byte in file.bytes.iter().skip(before).take(count) {
+        write!(out, "{byte:02X}")?;
+    }
+    Ok(out.push('\n')?)
+}
+
+/// Appends so many bytes of a program's code from an address on.
+pub fn show_code(alloc: Global, row: &str, out: &mut String) -> Result<(), Failure> {
+    let (address, rest) = row.split_once(' ').ok_or(Failure)?;
+    let (count, source) = rest.split_once(' ').ok_or(Failure)?;
+    let at = tb_driver::address(address).ok_or(Failure)?;
+    append_code(&compiled(alloc, source)?, at, count.parse()?, out)
+}
+
 /// Appends the jumps to lines that aren't there.
 pub fn show_warnings(alloc: Global, source: &str, out: &mut String) -> Result<(), Failure> {
     writeln!(out, "{:?}", compiled(alloc, source)?.warnings())?;

@@ -1,13 +1,13 @@
 -- The groups of a list are the list, and none leaves out what is read behind it.
 use Rattle.std.proofs.Common.{◌≡◌, ℕ, ◌+◌, Bool, true, false, if◌then◌else◌, List, [], ◌∷◌, ◌++◌, refl, sym, ap, ◌∙◌, append_assoc, Option, Some, None}
-use Rattle.std.specs.Prelude.{nat_eq}
+use Rattle.std.specs.Prelude.{◌&&◌, nat_eq, option_map}
 use Rattle.std.proofs.lemmas.Bool.{eqb-true}
 use Rattle.tb_words.specs.declared.Rel.{Rel}
 use Rattle.tb_syntax.specs.declared.expressions.Operator.{Operator}
 use Rattle.tb_lower.specs.Slots.{Instr, Put, Load, Store, Negate, Compute, Random, SendText, SendNumber, SendZone, SendNewline, Input, Poll, Hold, LeaveUnless, Jump, Call, JumpTo, CallTo, Return, End}
-use Rattle.tb_selection.specs.Groups.{Operand, Constant, Variable, InSlot, Home, Destination, IntoHome, Tested, HeldBefore, HeldNow, Group, Calculate, Move, Test, Single, fetch, keep, slot_of, kept, expand, expand_all}
+use Rattle.tb_selection.specs.Groups.{Operand, Constant, Variable, InSlot, Home, Destination, IntoHome, Tested, HeldBefore, HeldNow, Conversion, Negated, Drawn, Usage, Group, Calculate, Convert, Move, Use, Test, TestGo, Single, fetch, keep, slot_of, kept, held, convert, use_of, expand, expand_all}
 use Rattle.tb_selection.specs.Liveness.{live}
-use Rattle.tb_selection.specs.Select.{alone, provided, calculate_with, move_with, test_with, with_word, calculated, held_before, merged, omits_only_dead, tried, attach, select}
+use Rattle.tb_selection.specs.Select.{alone, provided, calculate_with, convert_with, move_with, use_with, words_with, with_word, calculated, converted, held_before, gone, merged, omits_only_dead, may_stand, tried, attach, select}
 
 -- an instruction alone is itself
 pub alone_is : (i : Instr) → expand (alone i) ≡ i ∷ []
@@ -50,6 +50,23 @@ at_slot : (t : Bool) (g : Group) (is : List Instr) → (t ≡ true → expand g 
 at_slot true g is h = h refl
 at_slot false g is h = tt
 
+-- the words of a test that is these instructions with some more behind it, if there are such words
+abbrev TestThis : Rel → (behind is : List Instr) → Option (Tested × Operand) → Type 0
+TestThis rel behind is None = Unit {0}
+TestThis rel behind is (Some words) = held words.0 ++ (fetch 0 words.1 ++ LeaveUnless rel ∷ behind) ≡ is
+
+at_zero : (rel : Rel) (behind is : List Instr) (t : Bool) (a : Tested) (b : Operand) → (t ≡ true → held a ++ (fetch 0 b ++ LeaveUnless rel ∷ behind) ≡ is) → TestThis rel behind is (if t then Some (a, b) else None)
+at_zero rel behind is true a b h = h refl
+at_zero rel behind is false a b h = tt
+
+test_this : (rel : Rel) (is : List Instr) (o : Option (Tested × Operand)) → TestThis rel [] is o → IsThis is (option_map (λ words. Test rel words.0 words.1) o)
+test_this rel is None h = tt
+test_this rel is (Some words) h = h
+
+go_this : (rel : Rel) (to : ℕ) (is : List Instr) (o : Option (Tested × Operand)) → TestThis rel (JumpTo to ∷ []) is o → IsThis is (option_map (λ words. TestGo rel words.0 words.1 to) o)
+go_this rel to is None h = tt
+go_this rel to is (Some words) h = h
+
 module _ (k : ℕ) (i : Instr) (l : Operand) (h : Fetches k i l) where
   -- the same before more
   more : (j : ℕ) (is : List Instr) → nat_eq k j ≡ true → fetch j l ++ is ≡ i ∷ is
@@ -67,18 +84,31 @@ module _ (k : ℕ) (i : Instr) (l : Operand) (h : Fetches k i l) where
   move_is (Constant v) home = tt
   move_is (Variable y) home = tt
 
-  test_is : (rel : Rel) (a : Tested) (b : Operand) → IsThis (i ∷ expand (Test rel a b)) (test_with k l rel a b)
-  test_is rel HeldBefore InSlot = at_slot (nat_eq k 0) (Test rel HeldBefore l) _ (more 0 (LeaveUnless rel ∷ []))
-  test_is rel HeldBefore (Constant v) = tt
-  test_is rel HeldBefore (Variable y) = tt
-  test_is rel (HeldNow InSlot) b = at_slot (nat_eq k 0) (Test rel (HeldNow l) b) _ (λ e. append_assoc (fetch 0 l) (Hold ∷ []) (fetch 0 b ++ LeaveUnless rel ∷ []) ∙ more 0 (Hold ∷ (fetch 0 b ++ LeaveUnless rel ∷ [])) e)
-  test_is rel (HeldNow (Constant v)) b = tt
-  test_is rel (HeldNow (Variable y)) b = tt
+  convert_is : (what : Conversion) (a : Operand) (d : Destination) → IsThis (i ∷ expand (Convert what a d)) (convert_with k l what a d)
+  convert_is what InSlot d = at_slot (nat_eq k (slot_of d)) (Convert what l d) _ (more (slot_of d) (convert what (slot_of d) ∷ kept d))
+  convert_is what (Constant v) d = tt
+  convert_is what (Variable y) d = tt
+
+  use_is : (how : Usage) (a : Operand) → IsThis (i ∷ expand (Use how a)) (use_with k l how a)
+  use_is how InSlot = at_slot (nat_eq k 0) (Use how l) _ (more 0 (use_of how ∷ []))
+  use_is how (Constant v) = tt
+  use_is how (Variable y) = tt
+
+  words_are : (rel : Rel) (behind : List Instr) (a : Tested) (b : Operand) → TestThis rel behind (i ∷ (held a ++ (fetch 0 b ++ LeaveUnless rel ∷ behind))) (words_with k l a b)
+  words_are rel behind HeldBefore InSlot = at_zero rel behind _ (nat_eq k 0) HeldBefore l (more 0 (LeaveUnless rel ∷ behind))
+  words_are rel behind HeldBefore (Constant v) = tt
+  words_are rel behind HeldBefore (Variable y) = tt
+  words_are rel behind (HeldNow InSlot) b = at_zero rel behind _ (nat_eq k 0) (HeldNow l) b (λ e. append_assoc (fetch 0 l) (Hold ∷ []) (fetch 0 b ++ LeaveUnless rel ∷ behind) ∙ more 0 (Hold ∷ (fetch 0 b ++ LeaveUnless rel ∷ behind)) e)
+  words_are rel behind (HeldNow (Constant v)) b = tt
+  words_are rel behind (HeldNow (Variable y)) b = tt
 
   with_is : (g : Group) → IsThis (i ∷ expand g) (with_word k l g)
   with_is (Calculate op a b d) = calculate_is op a b d
   with_is (Move a home) = move_is a home
-  with_is (Test rel a b) = test_is rel a b
+  with_is (Convert what a d) = convert_is what a d
+  with_is (Use how a) = use_is how a
+  with_is (Test rel a b) = test_this rel _ (words_with k l a b) (words_are rel [] a b)
+  with_is (TestGo rel a b to) = go_this rel to _ (words_with k l a b) (words_are rel (JumpTo to ∷ []) a b)
   with_is (Single j) = tt
 
 calculated_is : (op : Operator) (k : ℕ) (g : Group) → IsThis (Compute op k ∷ expand g) (calculated op k g)
@@ -86,13 +116,59 @@ calculated_is op k (Move InSlot home) = at_slot (nat_eq k 0) (Calculate op InSlo
 calculated_is op k (Move (Constant w) home) = tt
 calculated_is op k (Move (Variable x) home) = tt
 calculated_is op k (Calculate op' a b d) = tt
+calculated_is op k (Convert what a d) = tt
+calculated_is op k (Use how a) = tt
 calculated_is op k (Test rel a b) = tt
+calculated_is op k (TestGo rel a b to) = tt
 calculated_is op k (Single i) = tt
+
+converted_is : (what : Conversion) (k : ℕ) (g : Group) → IsThis (convert what k ∷ expand g) (converted what k g)
+converted_is what k (Move InSlot home) = at_slot (nat_eq k 0) (Convert what InSlot (IntoHome home)) _ (λ e. ap (λ j. convert what j ∷ keep home ∷ []) (sym (eqb-true k 0 e)))
+converted_is what k (Move (Constant w) home) = tt
+converted_is what k (Move (Variable x) home) = tt
+converted_is what k (Calculate op a b d) = tt
+converted_is what k (Convert what' a d) = tt
+converted_is what k (Use how a) = tt
+converted_is what k (Test rel a b) = tt
+converted_is what k (TestGo rel a b to) = tt
+converted_is what k (Single i) = tt
+
+gone_is : (rel : Rel) (g : Group) → IsThis (LeaveUnless rel ∷ expand g) (gone rel g)
+gone_is rel (Single (JumpTo to)) = refl
+gone_is rel (Single (Put k w)) = tt
+gone_is rel (Single (Load k x)) = tt
+gone_is rel (Single (Store x)) = tt
+gone_is rel (Single (Negate k)) = tt
+gone_is rel (Single (Compute op k)) = tt
+gone_is rel (Single (Random k)) = tt
+gone_is rel (Single (SendText t)) = tt
+gone_is rel (Single SendNumber) = tt
+gone_is rel (Single SendZone) = tt
+gone_is rel (Single SendNewline) = tt
+gone_is rel (Single (Input x)) = tt
+gone_is rel (Single Poll) = tt
+gone_is rel (Single Hold) = tt
+gone_is rel (Single (LeaveUnless rel')) = tt
+gone_is rel (Single Jump) = tt
+gone_is rel (Single Call) = tt
+gone_is rel (Single (CallTo target)) = tt
+gone_is rel (Single Return) = tt
+gone_is rel (Single End) = tt
+gone_is rel (Calculate op a b d) = tt
+gone_is rel (Convert what a d) = tt
+gone_is rel (Move a home) = tt
+gone_is rel (Use how a) = tt
+gone_is rel (Test rel' a b) = tt
+gone_is rel (TestGo rel' a b to) = tt
 
 held_is : (g : Group) → IsThis (Hold ∷ expand g) (held_before g)
 held_is (Test rel HeldBefore b) = refl
 held_is (Test rel (HeldNow a) b) = tt
+held_is (TestGo rel HeldBefore b to) = refl
+held_is (TestGo rel (HeldNow a) b to) = tt
 held_is (Calculate op a b d) = tt
+held_is (Convert what a d) = tt
+held_is (Use how a) = tt
 held_is (Move a home) = tt
 held_is (Single i) = tt
 
@@ -103,15 +179,15 @@ merged_is (Load k x) g = with_is k (Load k x) (Variable x) (loads x refl) g
 merged_is (Compute op k) g = calculated_is op k g
 merged_is Hold g = held_is g
 merged_is (Store x) g = tt
-merged_is (Negate k) g = tt
-merged_is (Random k) g = tt
+merged_is (Negate k) g = converted_is Negated k g
+merged_is (Random k) g = converted_is Drawn k g
 merged_is (SendText t) g = tt
 merged_is SendNumber g = tt
 merged_is SendZone g = tt
 merged_is SendNewline g = tt
 merged_is (Input x) g = tt
 merged_is Poll g = tt
-merged_is (LeaveUnless rel) g = tt
+merged_is (LeaveUnless rel) g = gone_is rel g
 merged_is Jump g = tt
 merged_is Call g = tt
 merged_is (JumpTo target) g = tt
@@ -124,7 +200,7 @@ alone_before i gs = ap (λ l. l ++ expand_all gs) (alone_is i)
 
 tried_is : (o : Option Group) (i : Instr) (g : Group) (gs : List Group) → IsThis (i ∷ expand g) o → expand_all (tried o (live (expand_all gs)) i g gs) ≡ i ∷ expand_all (g ∷ gs)
 tried_is None i g gs h = alone_before i (g ∷ gs)
-tried_is (Some m) i g gs h = by (omits_only_dead m (live (expand_all gs)))
+tried_is (Some m) i g gs h = by (omits_only_dead m (live (expand_all gs)) && may_stand m gs)
   where
     by : (t : Bool) → expand_all (if t then m ∷ gs else alone i ∷ g ∷ gs) ≡ i ∷ expand_all (g ∷ gs)
     by true = ap (λ l. l ++ expand_all gs) h

@@ -1,10 +1,12 @@
 -- What a group omits is dead behind it, and the groups behind one are those of the rest.
 use Rattle.std.proofs.Common.{◌≡◌, Bool, true, false, if◌then◌else◌, List, [], ◌∷◌, refl, sym, ap, ◌∙◌, Option, Some, None}
+use Rattle.std.specs.Prelude.{◌&&◌}
+use Rattle.std.proofs.lemmas.Bool.{and_parts}
 use Rattle.tb_lower.specs.Slots.{Instr, Put, Load, Store, Negate, Compute, Random, SendText, SendNumber, SendZone, SendNewline, Input, Poll, Hold, LeaveUnless, Jump, Call, JumpTo, CallTo, Return, End}
 use Rattle.tb_selection.specs.declared.liveness.Live.{Live}
 use Rattle.tb_selection.specs.Groups.{Group, expand_all}
 use Rattle.tb_selection.specs.Liveness.{live}
-use Rattle.tb_selection.specs.Select.{alone, merged, omits_only_dead, tried, attach, select}
+use Rattle.tb_selection.specs.Select.{alone, merged, may_stand, omits_only_dead, tried, attach, select}
 use Rattle.tb_selection.specs.Laws.{AreChosen}
 use Rattle.tb_selection.proofs.Bracketed.{brackets}
 
@@ -31,20 +33,46 @@ alone_free (CallTo target) r = refl
 alone_free Return r = refl
 alone_free End r = refl
 
+-- and it may stand anywhere
+alone_stands : (i : Instr) (gs : List Group) → may_stand (alone i) gs ≡ true
+alone_stands (Put k w) gs = refl
+alone_stands (Load k x) gs = refl
+alone_stands (Store x) gs = refl
+alone_stands (Negate k) gs = refl
+alone_stands (Compute op k) gs = refl
+alone_stands (Random k) gs = refl
+alone_stands (SendText t) gs = refl
+alone_stands SendNumber gs = refl
+alone_stands SendZone gs = refl
+alone_stands SendNewline gs = refl
+alone_stands (Input x) gs = refl
+alone_stands Poll gs = refl
+alone_stands Hold gs = refl
+alone_stands (LeaveUnless r) gs = refl
+alone_stands Jump gs = refl
+alone_stands Call gs = refl
+alone_stands (JumpTo to) gs = refl
+alone_stands (CallTo to) gs = refl
+alone_stands Return gs = refl
+alone_stands End gs = refl
+
 attach_chosen : (i : Instr) (is : List Instr) (gs : List Group) → select is ≡ gs → AreChosen gs → AreChosen (attach i gs)
-attach_chosen i is [] e h = (alone_free i _, refl, tt)
+attach_chosen i is [] e h = (alone_free i _, refl, alone_stands i [], tt)
 attach_chosen i is (g ∷ gs) e h = by (merged i g)
   where
     again : select (expand_all (g ∷ gs)) ≡ g ∷ gs
     again = ap (λ l. select (expand_all l)) (sym e) ∙ ap select (brackets is) ∙ e
 
-    by_free : (m : Group) (t : Bool) → omits_only_dead m (live (expand_all gs)) ≡ t → AreChosen (if t then m ∷ gs else alone i ∷ g ∷ gs)
-    by_free m true q = (q, h.1, h.2)
-    by_free m false q = (alone_free i _, again, h)
+    single : AreChosen (alone i ∷ g ∷ gs)
+    single = (alone_free i _, again, alone_stands i (g ∷ gs), h)
+
+    by_free : (m : Group) (t : Bool) → (omits_only_dead m (live (expand_all gs)) && may_stand m gs) ≡ t → AreChosen (if t then m ∷ gs else alone i ∷ g ∷ gs)
+    by_free m true q = let p = and_parts (omits_only_dead m (live (expand_all gs))) (may_stand m gs) q in (p.0, h.1, p.1, h.3)
+    by_free m false q = single
 
     by : (o : Option Group) → AreChosen (tried o (live (expand_all gs)) i g gs)
-    by None = (alone_free i _, again, h)
-    by (Some m) = by_free m (omits_only_dead m (live (expand_all gs))) refl
+    by None = single
+    by (Some m) = by_free m (omits_only_dead m (live (expand_all gs)) && may_stand m gs) refl
 
 -- so it is with the groups of every list
 pub chosen : (is : List Instr) → AreChosen (select is)

@@ -2,11 +2,11 @@
 use Rattle.std.proofs.Common.{◌≡◌, ℕ, zero, suc, ◌+◌, ◌-◌, ◌≤◌, ◌<◌, List, [], ◌∷◌, ◌++◌, refl, sym, ap, ◌∙◌, subst, append-nil, arith, ⊎_elim, zero-add, suc-add}
 use Rattle.std.proofs.lemmas.Bool.{cases_lt}
 use Rattle.tb_lower.specs.Steps.{End, Step, Goes, Stops, and_then, after_sending, Run, GoesOn, Over, joined, advance, advance_by}
-use Rattle.tb_lower.specs.Slots.{Instr, Compute, LeaveUnless, SlotCode, Rest, Whole, Left, SlotState, slot_step, begins, beginnings}
+use Rattle.tb_lower.specs.Slots.{Instr, Compute, LeaveUnless, JumpTo, SlotCode, Rest, Whole, Left, SlotState, slot_step, begins, beginnings}
 use Rattle.tb_lower.proofs.Runs.{advance_sum, joined_after}
-use Rattle.tb_selection.specs.Groups.{Operand, Constant, Variable, InSlot, HeldBefore, HeldNow, Group, Calculate, Move, Test, Single, fetch, keep, kept, slot_of, expand}
+use Rattle.tb_selection.specs.Groups.{Operand, Constant, Variable, InSlot, HeldBefore, HeldNow, Group, Calculate, Convert, Move, Use, Test, TestGo, Single, fetch, keep, kept, convert, use_of, slot_of, expand}
 use Rattle.tb_selection.specs.Select.{select}
-use Rattle.tb_selection.specs.GroupSteps.{inside, steps, ahead, first, group_step, groups_begin, InsideRest, IsInside}
+use Rattle.tb_selection.specs.GroupSteps.{inside, steps, ahead, first, first_group, fallen, group_step, groups_begin, InsideRest, IsInside}
 use Rattle.tb_selection.specs.Laws.{Reached, Found}
 
 -- a group has an instruction
@@ -19,11 +19,17 @@ pub expand_some : (g : Group) → (i : Instr) × (is : List Instr) × (expand g 
 expand_some (Calculate op (Constant w) b d) = (_, _, refl)
 expand_some (Calculate op (Variable x) b d) = (_, _, refl)
 expand_some (Calculate op InSlot b d) = operand_some (slot_of d + 1) b (Compute op (slot_of d)) (kept d)
+expand_some (Convert what a d) = operand_some (slot_of d) a (convert what (slot_of d)) (kept d)
+expand_some (Use how a) = operand_some 0 a (use_of how) []
 expand_some (Move a home) = operand_some 0 a (keep home) []
 expand_some (Test rel HeldBefore b) = operand_some 0 b (LeaveUnless rel) []
 expand_some (Test rel (HeldNow (Constant w)) b) = (_, _, refl)
 expand_some (Test rel (HeldNow (Variable x)) b) = (_, _, refl)
 expand_some (Test rel (HeldNow InSlot) b) = (_, _, refl)
+expand_some (TestGo rel HeldBefore b to) = operand_some 0 b (LeaveUnless rel) (JumpTo to ∷ [])
+expand_some (TestGo rel (HeldNow (Constant w)) b to) = (_, _, refl)
+expand_some (TestGo rel (HeldNow (Variable x)) b to) = (_, _, refl)
+expand_some (TestGo rel (HeldNow InSlot) b to) = (_, _, refl)
 expand_some (Single i) = (_, _, refl)
 
 module _ (code : SlotCode) where
@@ -92,19 +98,43 @@ module _ (code : SlotCode) where
       by : (i : Instr) × (is : List Instr) × (expand g ≡ i ∷ is) → Covers c out (steps code (expand g) c)
       by p = subst (λ l. Covers c out (steps code l c)) (sym p.2) (covers p.0 p.1 c out)
 
+  beginnings_sum : (a b : ℕ) (r : Run SlotState) → beginnings code (a + b) r ≡ beginnings code a r + beginnings code b (advance_by (slot_step code) a r)
+  beginnings_sum zero b r = ap (λ n. beginnings code n r) (zero-add b) ∙ sym (zero-add (beginnings code b r))
+  beginnings_sum (suc a) b r = ap (λ n. beginnings code n r) (suc-add a b) ∙ (let s = beginnings_sum a b (advance (slot_step code) r) in omega (arith, s))
+
+  -- steps, and the fall into the next line where they leave nothing of theirs
+  then_fallen : (c : SlotState) (out : List ℕ) (x : Step SlotState) → Covers c out x → Covers c out (and_then x (λ d. fallen code d.rest d))
+  then_fallen c out (Stops e t) h = record { more = h.more; leads = h.leads; none_begins = h.none_begins; within = h.within }
+  then_fallen c out (Goes d t) h = by d.rest refl
+    where
+      stays : Covers c out (Goes d (t ++ []))
+      stays = record { more = h.more; leads = h.leads ∙ ap (λ l. GoesOn d (out ++ l)) (sym (append-nil t)); none_begins = h.none_begins; within = h.within }
+
+      by : (q : Rest) → d.rest ≡ q → Covers c out (after_sending t (fallen code q d))
+      by Whole e = stays
+      by (Left n (i ∷ is)) e = stays
+      by (Left n []) e =
+          let r = advance (slot_step code) (GoesOn c out) in
+          let sum = beginnings_sum h.more 1 r in
+          let at = ap (λ q. beginnings code 1 q) h.leads in
+          let none = begins_not d.rest d refl (subst InsideRest (sym e) tt) in
+          let before = h.none_begins in
+          record {
+            more = h.more + 1;
+            leads = advance_sum (slot_step code) h.more 1 r ∙ ap (advance (slot_step code)) h.leads ∙ sym (joined_after out t (slot_step code d));
+            none_begins = omega (arith, sum, at, none, before);
+            within = λ m lt. ⊎_elim (λ less. h.within m less) (λ ge. let same : m ≡ h.more = omega (arith, lt, ge) in subst IsInside (sym (ap (λ k. advance_by (slot_step code) k r) same ∙ h.leads)) (subst InsideRest (sym e) tt)) (cases_lt m h.more);
+          }
+
   -- one group
   pub group_covers : (c : SlotState) (out : List ℕ) → Covers c out (group_step code c)
-  group_covers c out = by (select (ahead code c.rest c.state.place))
+  group_covers c out = then_fallen c out (first_group code c) (by (select (ahead code c.rest c.state.place)))
     where
       by : (gs : List Group) → Covers c out (first code gs c)
       by [] = one_covers c out
       by (g ∷ gs) = some g c out
 
   -- ---- runs
-  beginnings_sum : (a b : ℕ) (r : Run SlotState) → beginnings code (a + b) r ≡ beginnings code a r + beginnings code b (advance_by (slot_step code) a r)
-  beginnings_sum zero b r = ap (λ n. beginnings code n r) (zero-add b) ∙ sym (zero-add (beginnings code b r))
-  beginnings_sum (suc a) b r = ap (λ n. beginnings code n r) (suc-add a b) ∙ (let s = beginnings_sum a b (advance (slot_step code) r) in omega (arith, s))
-
   none_begin : (j : ℕ) (e : End) (out : List ℕ) → groups_begin code j (Over e out) ≡ 0
   none_begin zero e out = refl
   none_begin (suc j) e out = omega (arith, none_begin j e out)

@@ -1,4 +1,5 @@
--- What a group does: the steps of its slot instructions, while they stay in the line.
+-- What a group does: the steps of its slot instructions, while they stay in the line, and behind the last one the fall
+-- into the next line.
 use Rattle.std.specs.Prelude.{ℕ, zero, suc, ◌+◌, List, [], ◌∷◌, Option, Some, None}
 use Rattle.tb_lower.specs.Steps.{Step, Goes, and_then, Run, GoesOn, Over, advance}
 use Rattle.tb_lower.specs.Control.{Place, At, Past, content_at}
@@ -32,9 +33,19 @@ abbrev pub first : SlotCode → List Group → SlotState → Step SlotState
 first code [] c = slot_step code c
 first code (g ∷ gs) c = steps code (expand g) c
 
--- one group
+-- the first group of what is ahead
+abbrev pub first_group : SlotCode → SlotState → Step SlotState
+first_group code c = first code (select (ahead code c.rest c.state.place)) c
+
+-- where nothing is left of a line, on to the next one, or past the last one
+abbrev pub fallen : SlotCode → Rest → SlotState → Step SlotState
+fallen code (Left n []) c = slot_step code c
+fallen code (Left n (i ∷ is)) c = Goes c []
+fallen code Whole c = Goes c []
+
+-- one group: the first one ahead, and then the fall into the next line
 abbrev pub group_step : SlotCode → SlotState → Step SlotState
-group_step code c = first code (select (ahead code c.rest c.state.place)) c
+group_step code c = and_then (first_group code c) (λ c'. fallen code c'.rest c')
 
 -- how many beginnings of lists the next j groups of a run pass
 abbrev pub groups_begin : SlotCode → ℕ → Run SlotState → ℕ

@@ -1,8 +1,9 @@
 -- Groups: consecutive slot instructions that have one template.
 use Rattle.std.specs.Prelude.{ℕ, ◌+◌, List, [], ◌∷◌, ◌++◌}
 use Rattle.tb_words.specs.declared.Rel.{Rel}
+use Rattle.tb_words.specs.declared.Rel.TheVariants as rel
 use Rattle.tb_syntax.specs.declared.expressions.Operator.{Operator}
-use Rattle.tb_lower.specs.Slots.{Instr, Put, Load, Store, Compute, Hold, LeaveUnless}
+use Rattle.tb_lower.specs.Slots.{Instr, Put, Load, Store, Negate, Compute, Random, SendNumber, Hold, LeaveUnless, Jump, Call, JumpTo}
 
 -- where a word comes from: a constant, a variable, or the slot in which it stands already
 pub data Operand : Type 0 where
@@ -25,11 +26,23 @@ pub data Tested : Type 0 where
   HeldBefore : Tested
   HeldNow : (a : Operand) → Tested
 
--- consecutive slot instructions with one template: a calculation, a move, a test, or a single instruction
+-- what is made of one word
+pub data Conversion : Type 0 where
+  Negated Drawn : Conversion
+
+-- what one word is used as: a number that is sent, a line that is gone to, a line that is called
+pub data Usage : Type 0 where
+  AsNumber AsLine AsSubroutine : Usage
+
+-- consecutive slot instructions with one template: a calculation with two words or with one, a move, a use, a test, a
+-- test that goes straight to a line where it holds, or a single instruction
 pub data Group : Type 0 where
   Calculate : (op : Operator) (a b : Operand) (d : Destination) → Group
+  Convert : (what : Conversion) (a : Operand) (d : Destination) → Group
   Move : (a : Operand) (home : Home) → Group
+  Use : (how : Usage) (a : Operand) → Group
   Test : (rel : Rel) (a : Tested) (b : Operand) → Group
+  TestGo : (rel : Rel) (a : Tested) (b : Operand) (to : ℕ) → Group
   Single : (i : Instr) → Group
 
 -- an operand into slot k
@@ -58,11 +71,34 @@ abbrev pub held : Tested → List Instr
 held HeldBefore = []
 held (HeldNow a) = fetch 0 a ++ Hold ∷ []
 
+-- the instruction that converts the word in slot k
+abbrev pub convert : Conversion → ℕ → Instr
+convert Negated k = Negate k
+convert Drawn k = Random k
+
+-- the instruction that uses slot 0
+abbrev pub use_of : Usage → Instr
+use_of AsNumber = SendNumber
+use_of AsLine = Jump
+use_of AsSubroutine = Call
+
+-- the relation that holds where this one does not
+abbrev pub denied : Rel → Rel
+denied rel.Eq = rel.Ne
+denied rel.Ne = rel.Eq
+denied rel.Lt = rel.Ge
+denied rel.Ge = rel.Lt
+denied rel.Gt = rel.Le
+denied rel.Le = rel.Gt
+
 -- the slot instructions of a group
 abbrev pub expand : Group → List Instr
 expand (Calculate op a b d) = fetch (slot_of d) a ++ (fetch (slot_of d + 1) b ++ Compute op (slot_of d) ∷ kept d)
+expand (Convert what a d) = fetch (slot_of d) a ++ convert what (slot_of d) ∷ kept d
 expand (Move a home) = fetch 0 a ++ keep home ∷ []
+expand (Use how a) = fetch 0 a ++ use_of how ∷ []
 expand (Test rel a b) = held a ++ (fetch 0 b ++ LeaveUnless rel ∷ [])
+expand (TestGo rel a b to) = held a ++ (fetch 0 b ++ LeaveUnless rel ∷ JumpTo to ∷ [])
 expand (Single i) = i ∷ []
 
 -- the slot instructions of groups, one behind the other

@@ -8,12 +8,13 @@ use Rattle.tb_lower.specs.Lowered.{program_code}
 use Rattle.tb_selection.specs.Groups.{Group, expand_all}
 use Rattle.tb_selection.specs.GroupSteps.{group_step, groups_begin, IsInside}
 use Rattle.tb_selection.specs.Liveness.{live, nothing_live}
-use Rattle.tb_selection.specs.Select.{omits_only_dead, select}
+use Rattle.tb_selection.specs.Select.{may_stand, omits_only_dead, select}
 
--- what each of these groups omits is dead behind it, and the groups behind it are the groups of their list
+-- what each of these groups omits is dead behind it, the groups behind it are the groups of their list, and it may stand
+-- before them
 abbrev pub AreChosen : List Group → Type 0
 AreChosen [] = Unit {0}
-AreChosen (g ∷ gs) = (omits_only_dead g (live (expand_all gs)) ≡ true) × (select (expand_all gs) ≡ gs) × AreChosen gs
+AreChosen (g ∷ gs) = (omits_only_dead g (live (expand_all gs)) ≡ true) × (select (expand_all gs) ≡ gs) × (may_stand g gs ≡ true) × AreChosen gs
 
 -- so it is with the groups of every list
 abbrev pub ChoiceLaw : Type 0

@@ -10,9 +10,13 @@ use Rattle.tb_selection.specs.declared.groups.Destination as destination
 use Rattle.tb_selection.specs.declared.groups.Destination.TheVariants as destinations
 use Rattle.tb_selection.specs.declared.groups.Tested as tested
 use Rattle.tb_selection.specs.declared.groups.Tested.TheVariants as testeds
+use Rattle.tb_selection.specs.declared.groups.Conversion as conversion
+use Rattle.tb_selection.specs.declared.groups.Conversion.TheVariants as conversions
+use Rattle.tb_selection.specs.declared.groups.Usage as usage
+use Rattle.tb_selection.specs.declared.groups.Usage.TheVariants as usages
 use Rattle.tb_selection.specs.declared.groups.Group as group
 use Rattle.tb_selection.specs.declared.groups.Group.TheVariants as groups
-use Rattle.tb_selection.specs.Groups.{Operand, Constant, Variable, InSlot, Home, IntoVariable, IntoHeld, Destination, IntoSlot, IntoHome, Tested, HeldBefore, HeldNow, Group, Calculate, Move, Test, Single}
+use Rattle.tb_selection.specs.Groups.{Operand, Constant, Variable, InSlot, Home, IntoVariable, IntoHeld, Destination, IntoSlot, IntoHome, Tested, HeldBefore, HeldNow, Conversion, Negated, Drawn, Usage, AsNumber, AsLine, AsSubroutine, Group, Calculate, Convert, Move, Use, Test, TestGo, Single}
 
 -- an operand; a letter by its place from 0 for A
 abbrev pub operand_of : operand.Operand → Operand
@@ -35,11 +39,29 @@ abbrev pub tested_of : tested.Tested → Tested
 tested_of testeds.HeldBefore = HeldBefore
 tested_of (testeds.HeldNow a) = HeldNow (operand_of a)
 
+-- the two words of a test
+abbrev pub words_of : tested.Tested × operand.Operand → Tested × Operand
+words_of words = (tested_of words.0, operand_of words.1)
+
+-- what is made of one word
+abbrev pub conversion_of : conversion.Conversion → Conversion
+conversion_of conversions.Negated = Negated
+conversion_of conversions.Drawn = Drawn
+
+-- what one word is used as
+abbrev pub usage_of : usage.Usage → Usage
+usage_of usages.AsNumber = AsNumber
+usage_of usages.AsLine = AsLine
+usage_of usages.AsSubroutine = AsSubroutine
+
 -- a group
 abbrev pub group_of : group.Group → Group
 group_of (groups.Calculate op a b d) = Calculate op (operand_of a) (operand_of b) (destination_of d)
+group_of (groups.Convert what a d) = Convert (conversion_of what) (operand_of a) (destination_of d)
 group_of (groups.Move a h) = Move (operand_of a) (home_of h)
+group_of (groups.Use how a) = Use (usage_of how) (operand_of a)
 group_of (groups.Test rel a b) = Test rel (tested_of a) (operand_of b)
+group_of (groups.TestGo rel a b to) = TestGo rel (tested_of a) (operand_of b) to
 group_of (groups.Single i) = Single (instr_of i.now)
 
 -- groups of which the last one stands first

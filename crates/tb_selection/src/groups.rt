@@ -41,15 +41,41 @@ pub enum Tested {
     HeldNow(Operand),
 }
 
+/// What is made of one word.
+#[derive(Clone, Copy, Debug, Drop)]
+pub enum Conversion {
+    /// Its negation.
+    Negated,
+    /// A random number below it.
+    Drawn,
+}
+
+/// What one word is used as.
+#[derive(Clone, Copy, Debug, Drop)]
+pub enum Usage {
+    /// A number that is sent.
+    AsNumber,
+    /// The number of a line that is gone to.
+    AsLine,
+    /// The number of a line that is called.
+    AsSubroutine,
+}
+
 /// Consecutive slot instructions that have one template.
 #[derive(Clone, Copy, Debug, Drop)]
 pub enum Group<'a> {
     /// A left operand joined with a right one, and where the result goes.
     Calculate(Operator, Operand, Operand, Destination),
+    /// A word made of one operand, and where it goes.
+    Convert(Conversion, Operand, Destination),
     /// A word to its home.
     Move(Operand, Home),
+    /// A word that is used.
+    Use(Usage, Operand),
     /// A test that leaves the line unless the two words are so related.
     Test(Rel, Tested, Operand),
+    /// A test that goes straight to the line of this number where the two words are so related, and else leaves the line.
+    TestGo(Rel, Tested, Operand, u16),
     /// A single instruction.
     Single(&'a SlotInstr),
 }

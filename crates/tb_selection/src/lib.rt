@@ -15,6 +15,6 @@ mod laws;
 mod liveness;
 mod selecting;
 
-pub use groups::{Destination, Group, Home, Operand, Tested};
+pub use groups::{Conversion, Destination, Group, Home, Operand, Tested, Usage};
 pub use laws::{groups_run_as_slot_code, lines_are_closed, omitted_words_are_dead};
 pub use selecting::select;

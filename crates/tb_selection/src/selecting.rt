@@ -4,9 +4,9 @@ ghost use Rattle.tb_lower.specs.Shown.{instr_of};
 ghost use Rattle.tb_selection.specs.Groups.{expand_all};
 ghost use Rattle.tb_selection.specs.Liveness.{live};
 ghost use Rattle.tb_selection.specs.Select as select;
-ghost use Rattle.tb_selection.specs.Shown.{in_order, group_of, operand_of, destination_of, tested_of};
+ghost use Rattle.tb_selection.specs.Shown.{in_order, conversion_of, group_of, operand_of, destination_of, tested_of, words_of};
 
-use crate::groups::{Destination, Group, Home, Operand, Tested};
+use crate::groups::{Conversion, Destination, Group, Home, Operand, Tested, Usage};
 use crate::liveness::{Live, live_before};
 use std::alloc::{AllocError, Global};
 use tb_lower::SlotInstr;
@@ -26,9 +26,21 @@ fn alone(instr: &SlotInstr) -> Group<'_>
             Operand::InSlot,
             Destination::IntoSlot(*slot),
         ),
+        SlotInstr::Negate(slot) => convert_in_slot(Conversion::Negated, *slot),
+        SlotInstr::Random(slot) => convert_in_slot(Conversion::Drawn, *slot),
+        SlotInstr::SendNumber => Group::Use(Usage::AsNumber, Operand::InSlot),
+        SlotInstr::Jump => Group::Use(Usage::AsLine, Operand::InSlot),
+        SlotInstr::Call => Group::Use(Usage::AsSubroutine, Operand::InSlot),
         SlotInstr::LeaveUnless(rel) => Group::Test(*rel, Tested::HeldBefore, Operand::InSlot),
         _ => Group::Single(instr),
     }
+}
+
+// A conversion of the word in a slot.
+fn convert_in_slot<'a>(what: Conversion, slot: u8) -> Group<'a>
+    ensures { group_of result ≡ Rattle.tb_selection.specs.Groups.Convert (conversion_of what) Rattle.tb_selection.specs.Groups.InSlot (Rattle.tb_selection.specs.Groups.IntoSlot slot) }
+{
+    Group::Convert(what, Operand::InSlot, Destination::IntoSlot(slot))
 }
 
 // The slot in which a result is worked out.
@@ -64,26 +76,16 @@ fn calculate_with<'a>(
     }
 }
 
-// A test with a word fetched into a slot before it.
-fn test_with<'a>(
-    slot: u8,
-    word: Operand,
-    rel: Rel,
-    left: Tested,
-    right: Operand,
-) -> Option<Group<'a>>
-    ensures { option_map group_of result ≡ select.test_with slot (operand_of word) rel (tested_of left) (operand_of right) }
+// The words of a test with a word fetched into a slot before it.
+fn words_with(slot: u8, word: Operand, left: Tested, right: Operand) -> Option<(Tested, Operand)>
+    ensures { option_map words_of result ≡ select.words_with slot (operand_of word) (tested_of left) (operand_of right) }
 {
     if slot > 0 {
         return None;
     }
     match (left, right) {
-        (Tested::HeldBefore, Operand::InSlot) => Some(Group::Test(rel, left, word)),
-        (Tested::HeldNow(Operand::InSlot), _) => Some(Group::Test(
-            rel,
-            Tested::HeldNow(word),
-            right,
-        )),
+        (Tested::HeldBefore, Operand::InSlot) => Some((left, word)),
+        (Tested::HeldNow(Operand::InSlot), _) => Some((Tested::HeldNow(word), right)),
         _ => None,
     }
 }
@@ -96,8 +98,47 @@ fn with_word(slot: u8, word: Operand, group: Group<'_>) -> Option<Group<'_>>
         Group::Calculate(op, left, right, destination) => {
             calculate_with(slot, word, op, left, right, destination)
         }
+        Group::Convert(what, Operand::InSlot, destination) => {
+            (slot == slot_of(destination)).then_some(Group::Convert(what, word, destination))
+        }
         Group::Move(Operand::InSlot, home) => (slot == 0).then_some(Group::Move(word, home)),
-        Group::Test(rel, left, right) => test_with(slot, word, rel, left, right),
+        Group::Use(how, Operand::InSlot) => (slot == 0).then_some(Group::Use(how, word)),
+        Group::Test(rel, left, right) => {
+            let (left, right) = words_with(slot, word, left, right)?;
+            Some(Group::Test(rel, left, right))
+        }
+        Group::TestGo(rel, left, right, to) => {
+            let (left, right) = words_with(slot, word, left, right)?;
+            Some(Group::TestGo(rel, left, right, to))
+        }
+        _ => None,
+    }
+}
+
+// The conversion of slot 0 before a move of it.
+fn converted(what: Conversion, slot: u8, group: Group<'_>) -> Option<Group<'_>>
+    ensures { option_map group_of result ≡ select.converted (conversion_of what) slot (group_of group.entry) }
+{
+    match group {
+        Group::Move(Operand::InSlot, home) => (slot == 0).then_some(Group::Convert(
+            what,
+            Operand::InSlot,
+            Destination::IntoHome(home),
+        )),
+        _ => None,
+    }
+}
+
+// Slot 0 held before a test of the held word.
+fn held_before(group: Group<'_>) -> Option<Group<'_>>
+    ensures { option_map group_of result ≡ select.held_before (group_of group.entry) }
+{
+    let held = Tested::HeldNow(Operand::InSlot);
+    match group {
+        Group::Test(rel, Tested::HeldBefore, right) => Some(Group::Test(rel, held, right)),
+        Group::TestGo(rel, Tested::HeldBefore, right, to) => {
+            Some(Group::TestGo(rel, held, right, to))
+        }
         _ => None,
     }
 }
@@ -115,10 +156,28 @@ fn merged<'a>(instr: &SlotInstr, group: Group<'a>) -> Option<Group<'a>>
             Operand::InSlot,
             Destination::IntoHome(home),
         )),
-        (SlotInstr::Hold, Group::Test(rel, Tested::HeldBefore, right)) => {
-            Some(Group::Test(rel, Tested::HeldNow(Operand::InSlot), right))
-        }
+        (SlotInstr::Negate(slot), _) => converted(Conversion::Negated, *slot, group),
+        (SlotInstr::Random(slot), _) => converted(Conversion::Drawn, *slot, group),
+        (SlotInstr::Hold, _) => held_before(group),
+        (SlotInstr::LeaveUnless(rel), Group::Single(SlotInstr::JumpTo(to))) => Some(Group::TestGo(
+            *rel,
+            Tested::HeldBefore,
+            Operand::InSlot,
+            *to,
+        )),
         _ => None,
+    }
+}
+
+// Whether what the template of a test need not write is dead behind it.
+fn test_words_dead(left: Tested, right: Operand, behind: Live) -> bool
+    ensures { result ≡ select.test_words_dead (tested_of left) (operand_of right) behind }
+{
+    match (left, right) {
+        (Tested::HeldBefore, Operand::InSlot) => true,
+        (Tested::HeldBefore, _) => behind.slots == 0,
+        (Tested::HeldNow(_), Operand::InSlot) => false,
+        (Tested::HeldNow(_), _) => behind.slots == 0 && !behind.held,
     }
 }
 
@@ -131,14 +190,25 @@ fn omits_only_dead(group: Group<'_>, behind: Live) -> bool
         Group::Calculate(_, _, _, Destination::IntoSlot(slot)) => {
             behind.slots <= u16::from(slot) + 1
         }
-        Group::Calculate(_, _, _, Destination::IntoHome(_)) => behind.slots == 0,
-        Group::Move(Operand::InSlot, _) => true,
-        Group::Move(_, _) => behind.slots == 0,
-        Group::Test(_, Tested::HeldBefore, Operand::InSlot) => true,
-        Group::Test(_, Tested::HeldBefore, _) => behind.slots == 0,
-        Group::Test(_, Tested::HeldNow(_), Operand::InSlot) => false,
-        Group::Test(_, Tested::HeldNow(_), _) => behind.slots == 0 && !behind.held,
+        Group::Convert(_, _, Destination::IntoSlot(_)) => true,
+        Group::Calculate(_, _, _, Destination::IntoHome(_))
+        | Group::Convert(_, _, Destination::IntoHome(_)) => behind.slots == 0,
+        Group::Move(Operand::InSlot, _) | Group::Use(_, Operand::InSlot) => true,
+        Group::Move(_, _) | Group::Use(_, _) => behind.slots == 0,
+        Group::Test(_, left, right) | Group::TestGo(_, left, right, _) => {
+            test_words_dead(left, right, behind)
+        }
         Group::Single(_) => true,
+    }
+}
+
+// Whether a group may stand before these groups, the first of which stands last.
+fn may_stand(group: Group<'_>, behind: &[Group<'_>]) -> bool
+    ensures { result ≡ select.may_stand (group_of group.entry) (in_order behind.now) }
+{
+    match group {
+        Group::TestGo(_, _, _, _) => behind.is_empty(),
+        _ => true,
     }
 }
 
@@ -160,7 +230,7 @@ fn attach<'a>(
         return Ok(all);
     };
     match merged(instr, group) {
-        Some(whole) if omits_only_dead(whole, behind) => {
+        Some(whole) if omits_only_dead(whole, behind) && may_stand(whole, groups) => {
             groups.push(whole)?;
             Ok(behind)
         }

@@ -1,21 +1,35 @@
--- The assembler refuses nothing of a program's code.
+-- The items of a program's code are of forms that there are, they may move, and no name stands twice.
 use Rattle.std.proofs.Common.{◌≡◌, ℕ, ◌+◌, ◌<◌, ◌≤◌, Bool, true, false, List, [], ◌∷◌, ◌++◌, refl, sym, ap, ◌∙◌, arith, is_some, true≢false}
-use Rattle.std.specs.Prelude.{◌&&◌, ◌||◌}
+use Rattle.std.specs.Prelude.{◌&&◌, ◌||◌, if◌then◌else◌}
 use Rattle.std.specs.List.{list_all, list_any}
 use lib.Pointwise.{bytes_decides}
 use Rattle.tb_opcodes.specs.declared.Mnemonic.{Mnemonic}
+use Rattle.tb_opcodes.specs.declared.Mnemonic.TheVariants.{Bmi, Bpl}
 use Rattle.tb_opcodes.specs.declared.Mode.{Mode}
+use Rattle.tb_opcodes.specs.declared.Mode.TheVariants.{Relative}
 use Rattle.tb_opcodes.specs.Opcodes.{rows, find_opcode, encoded}
+use Rattle.tb_words.specs.declared.Rel.{Rel}
 use Rattle.tb_words.specs.declared.Rel.TheVariants.{Eq, Lt, Gt, Le, Ge, Ne}
+use Rattle.tb_syntax.specs.declared.expressions.Operator.{Operator}
 use Rattle.tb_syntax.specs.declared.expressions.Operator.TheVariants.{Add, Subtract, Multiply, Divide}
 use Rattle.tb_asm.specs.declared.names.Name.{Name}
 use Rattle.tb_asm.specs.Layout.{Entry, instr, label, bytes, word, suits, is_place, has_mode, same_name}
 use Rattle.tb_asm.specs.Suited.{names_of, AreDistinct}
 use Rattle.tb_lower.specs.Control.{has_line}
 use Rattle.tb_lower.specs.Slots.{Instr, Put, Load, Store, Negate, Compute, Random, SendText, SendNumber, SendZone, SendNewline, Input, Poll, Hold, LeaveUnless, Jump, Call, JumpTo, CallTo, Return, End, SlotCode}
-use Rattle.tb_templates.specs.Templates.{template, jump_to, call_to, next_line}
-use Rattle.tb_templates.specs.Program.{rest_code, line_code, lines_code, past_code, find_code, rows_code, table_code, program_code}
+use Rattle.tb_selection.specs.Groups.{Conversion, Negated, Drawn, Usage, AsNumber, AsLine, AsSubroutine, Group, Calculate, Convert, Move, Use, Test, TestGo, Single, denied, slot_of}
+use Rattle.tb_selection.specs.Select.{select}
+use Rattle.tb_runtime16.specs.Places.{LEFT, RIGHT, RESULT, LINE, MULTIPLY_AT, DIVIDE_AT, RANDOM_AT}
+use Rattle.tb_templates.specs.declared.labels.Inner.TheVariants.{Skip}
+use Rattle.tb_templates.specs.declared.labels.Target.{Target}
+use Rattle.tb_templates.specs.declared.labels.Target.TheVariants.{Inside, Line}
+use Rattle.tb_templates.specs.Templates.{template, jump_to, call_to, next_line, call, copied, constant}
+use Rattle.tb_templates.specs.Sources.{Source, FixedWord, AtPlace, source_of, tested_source, home_at, destination_at}
+use Rattle.tb_templates.specs.GroupTemplates.{brought, summed, taken, handed, calculated, converted, used, equal, unequal, ordered, tested, faulted, gone, may_fault, group_template, polled}
+use Rattle.tb_templates.specs.Program.{rest_code, list_code, line_code, lines_code, past_code, find_code, rows_code, table_code, program_code}
+use Rattle.tb_settling.specs.Settled.{may_move}
 use Rattle.tb_syntax.specs.Source.{numbers}
+use Rattle.tb_templates.proofs.Listed.{by_poll}
 use Rattle.tb_templates.proofs.Rising.{key, key_of, Rising}
 
 -- ── forms ──
@@ -23,18 +37,12 @@ encoded_by : (n : Mnemonic) (m : Mode) → encoded n m ≡ find_opcode rows n m
 unfolding encoded
 encoded_by n m = refl
 
--- whether an item is of a form that there is
+-- whether an item is of a form that there is, and may stand anywhere
 abbrev has_form : Entry → Bool
-has_form (instr n m o) = is_some (find_opcode rows n m) && suits m o
+has_form (instr n m o) = is_some (find_opcode rows n m) && (suits m o && may_move (instr n m o))
 has_form (label n) = true
 has_form (bytes bs) = true
 has_form (word o) = is_place o
-
-has_form_mode : (e : Entry) → has_form e ≡ true → has_mode e ≡ true
-has_form_mode (instr n m o) h = ap (λ c. is_some c && suits m o) (encoded_by n m) ∙ h
-has_form_mode (label n) h = refl
-has_form_mode (bytes bs) h = refl
-has_form_mode (word o) h = h
 
 both : (p q : Bool) → p ≡ true → q ≡ true → (p && q) ≡ true
 both p q h k = ap (λ b. b && q) h ∙ k
@@ -47,16 +55,32 @@ right_true : (p q : Bool) → (p && q) ≡ true → q ≡ true
 right_true true q h = h
 right_true false q h = absurd (true≢false (sym h))
 
-all_modes : (es : List Entry) → list_all has_form es ≡ true → list_all has_mode es ≡ true
-all_modes [] h = refl
-all_modes (e ∷ es) h =
-    both (has_mode e) (list_all has_mode es) (has_form_mode e (left_true (has_form e) (list_all has_form es) h)) (all_modes es (right_true (has_form e) (list_all has_form es) h))
+has_form_mode : (e : Entry) → has_form e ≡ true → has_mode e ≡ true
+has_form_mode (instr n m o) h =
+    let rest = right_true (is_some (find_opcode rows n m)) (suits m o && may_move (instr n m o)) h in
+    both (is_some (encoded n m)) (suits m o) (ap is_some (encoded_by n m) ∙ left_true (is_some (find_opcode rows n m)) (suits m o && may_move (instr n m o)) h) (left_true (suits m o) (may_move (instr n m o)) rest)
+has_form_mode (label n) h = refl
+has_form_mode (bytes bs) h = refl
+has_form_mode (word o) h = h
+
+has_form_moves : (e : Entry) → has_form e ≡ true → may_move e ≡ true
+has_form_moves (instr n m o) h =
+    right_true (suits m o) (may_move (instr n m o)) (right_true (is_some (find_opcode rows n m)) (suits m o && may_move (instr n m o)) h)
+has_form_moves (label n) h = refl
+has_form_moves (bytes bs) h = refl
+has_form_moves (word o) h = refl
+
+all_by : (p q : Entry → Bool) → ((e : Entry) → p e ≡ true → q e ≡ true) → (es : List Entry) → list_all p es ≡ true → list_all q es ≡ true
+all_by p q f [] h = refl
+all_by p q f (e ∷ es) h =
+    both (q e) (list_all q es) (f e (left_true (p e) (list_all p es) h)) (all_by p q f es (right_true (p e) (list_all p es) h))
 
 forms_append : (xs ys : List Entry) → list_all has_form xs ≡ true → list_all has_form ys ≡ true → list_all has_form (xs ++ ys) ≡ true
 forms_append [] ys h k = k
 forms_append (x ∷ xs) ys h k =
     both (has_form x) (list_all has_form (xs ++ ys)) (left_true (has_form x) (list_all has_form xs) h) (forms_append xs ys (right_true (has_form x) (list_all has_form xs) h) k)
 
+-- ── single instructions ──
 jump_forms : (ns : List ℕ) (to : ℕ) (t : Bool) → has_line ns to ≡ t → list_all has_form (jump_to ns to) ≡ true
 jump_forms ns to true e = rw e refl
 jump_forms ns to false e = rw e refl
@@ -65,54 +89,139 @@ call_forms : (ns : List ℕ) (n to : ℕ) (t : Bool) → has_line ns to ≡ t �
 call_forms ns n to true e = rw e refl
 call_forms ns n to false e = rw e refl
 
-template_forms : (ns : List ℕ) (seed n i : ℕ) (c : Instr) → list_all has_form (template ns seed n i c) ≡ true
-template_forms ns seed n i (Put k w) = refl
-template_forms ns seed n i (Load k x) = refl
-template_forms ns seed n i (Store x) = refl
-template_forms ns seed n i (Negate k) = refl
-template_forms ns seed n i (Compute Add k) = refl
-template_forms ns seed n i (Compute Subtract k) = refl
-template_forms ns seed n i (Compute Multiply k) = refl
-template_forms ns seed n i (Compute Divide k) = refl
-template_forms ns seed n i (Random k) = refl
-template_forms ns seed n i (SendText bs) = refl
-template_forms ns seed n i SendNumber = refl
-template_forms ns seed n i SendZone = refl
-template_forms ns seed n i SendNewline = refl
-template_forms ns seed n i (Input x) = refl
-template_forms ns seed n i Poll = refl
-template_forms ns seed n i Hold = refl
-template_forms ns seed n i (LeaveUnless Eq) = refl
-template_forms ns seed n i (LeaveUnless Ne) = refl
-template_forms ns seed n i (LeaveUnless Lt) = refl
-template_forms ns seed n i (LeaveUnless Gt) = refl
-template_forms ns seed n i (LeaveUnless Le) = refl
-template_forms ns seed n i (LeaveUnless Ge) = refl
-template_forms ns seed n i Jump = refl
-template_forms ns seed n i Call = refl
-template_forms ns seed n i (JumpTo to) = jump_forms ns to (has_line ns to) refl
-template_forms ns seed n i (CallTo to) = call_forms ns n to (has_line ns to) refl
-template_forms ns seed n i Return = refl
-template_forms ns seed n i End = refl
+template_forms : (ns : List ℕ) (n i : ℕ) (c : Instr) → list_all has_form (template ns n i c) ≡ true
+template_forms ns n i (Put k w) = refl
+template_forms ns n i (Load k x) = refl
+template_forms ns n i (Store x) = refl
+template_forms ns n i (Negate k) = refl
+template_forms ns n i (Compute op k) = refl
+template_forms ns n i (Random k) = refl
+template_forms ns n i (SendText bs) = refl
+template_forms ns n i SendNumber = refl
+template_forms ns n i SendZone = refl
+template_forms ns n i SendNewline = refl
+template_forms ns n i (Input x) = refl
+template_forms ns n i Poll = refl
+template_forms ns n i Hold = refl
+template_forms ns n i (LeaveUnless rel) = refl
+template_forms ns n i Jump = refl
+template_forms ns n i Call = refl
+template_forms ns n i (JumpTo to) = jump_forms ns to (has_line ns to) refl
+template_forms ns n i (CallTo to) = call_forms ns n to (has_line ns to) refl
+template_forms ns n i Return = refl
+template_forms ns n i End = refl
 
-rest_forms : (ns : List ℕ) (seed n i : ℕ) (is : List Instr) → list_all has_form (rest_code ns seed n i is) ≡ true
+single_forms : (t : Bool) (ns : List ℕ) (n i : ℕ) (c : Instr) → list_all has_form (if t then constant n LINE ++ template ns n i c else template ns n i c) ≡ true
+single_forms true ns n i c = template_forms ns n i c
+single_forms false ns n i c = template_forms ns n i c
+
+-- ── groups ──
+brought_forms : (a : Source) (to : ℕ) → list_all has_form (brought a to) ≡ true
+brought_forms (FixedWord v) to = refl
+brought_forms (AtPlace p) to = refl
+
+summed_forms : (a b : Source) (to : ℕ) → list_all has_form (summed a b to) ≡ true
+summed_forms (FixedWord v) (FixedWord w) to = refl
+summed_forms (FixedWord v) (AtPlace q) to = refl
+summed_forms (AtPlace p) (FixedWord w) to = refl
+summed_forms (AtPlace p) (AtPlace q) to = refl
+
+taken_forms : (a b : Source) (to : ℕ) → list_all has_form (taken a b to) ≡ true
+taken_forms (FixedWord v) (FixedWord w) to = refl
+taken_forms (FixedWord v) (AtPlace q) to = refl
+taken_forms (AtPlace p) (FixedWord w) to = refl
+taken_forms (AtPlace p) (AtPlace q) to = refl
+
+handed_forms : (routine from : ℕ) (a b : Source) (to : ℕ) → list_all has_form (handed routine from a b to) ≡ true
+handed_forms routine from a b to =
+    forms_append (brought a LEFT) (brought b RIGHT ++ (call routine ∷ copied from to)) (brought_forms a LEFT) (forms_append (brought b RIGHT) (call routine ∷ copied from to) (brought_forms b RIGHT) refl)
+
+calculated_forms : (n : ℕ) (op : Operator) (a b : Source) (to : ℕ) → list_all has_form (calculated n op a b to) ≡ true
+calculated_forms n Add a b to = summed_forms a b to
+calculated_forms n Subtract a b to = taken_forms a b to
+calculated_forms n Multiply a b to = handed_forms MULTIPLY_AT RESULT a b to
+calculated_forms n Divide a b to = handed_forms DIVIDE_AT LEFT a b to
+
+converted_forms : (n seed : ℕ) (what : Conversion) (a : Source) (to : ℕ) → list_all has_form (converted n seed what a to) ≡ true
+converted_forms n seed Negated a to = taken_forms (FixedWord 0) a to
+converted_forms n seed Drawn a to = handed_forms RANDOM_AT RESULT a (FixedWord seed) to
+
+used_forms : (n : ℕ) (next : Target) (how : Usage) (a : Source) → list_all has_form (used n next how a) ≡ true
+used_forms n next AsNumber (FixedWord w) = refl
+used_forms n next AsNumber (AtPlace p) = refl
+used_forms n next AsLine (FixedWord w) = refl
+used_forms n next AsLine (AtPlace p) = refl
+used_forms n next AsSubroutine (FixedWord w) = refl
+used_forms n next AsSubroutine (AtPlace p) = refl
+
+equal_forms : (a b : Source) (next : Target) → list_all has_form (equal a b next) ≡ true
+equal_forms (FixedWord v) (FixedWord w) next = refl
+equal_forms (FixedWord v) (AtPlace q) next = refl
+equal_forms (AtPlace p) (FixedWord w) next = refl
+equal_forms (AtPlace p) (AtPlace q) next = refl
+
+unequal_forms : (a b : Source) (stays next : Target) → list_all has_form (unequal a b stays next) ≡ true
+unequal_forms (FixedWord v) (FixedWord w) stays next = refl
+unequal_forms (FixedWord v) (AtPlace q) stays next = refl
+unequal_forms (AtPlace p) (FixedWord w) stays next = refl
+unequal_forms (AtPlace p) (AtPlace q) stays next = refl
+
+ordered_forms : (leaves : Mnemonic) (a b : Source) (skip next : Target) → is_some (find_opcode rows leaves Relative) ≡ true → list_all has_form (ordered leaves a b skip next) ≡ true
+ordered_forms leaves (FixedWord v) (FixedWord w) skip next h = rw h refl
+ordered_forms leaves (FixedWord v) (AtPlace q) skip next h = rw h refl
+ordered_forms leaves (AtPlace p) (FixedWord w) skip next h = rw h refl
+ordered_forms leaves (AtPlace p) (AtPlace q) skip next h = rw h refl
+
+tested_forms : (rel : Rel) (a b : Source) (skip next : Target) → list_all has_form (tested rel a b skip next) ≡ true
+tested_forms Eq a b skip next = equal_forms a b next
+tested_forms Ne a b skip next = unequal_forms a b skip next
+tested_forms Lt a b skip next = ordered_forms Bpl a b skip next refl
+tested_forms Ge a b skip next = ordered_forms Bmi a b skip next refl
+tested_forms Gt a b skip next = ordered_forms Bpl b a skip next refl
+tested_forms Le a b skip next = ordered_forms Bmi b a skip next refl
+
+gone_forms : (n : ℕ) (rel : Rel) (a b : Source) (skip next : Target) (t : Bool) (to : ℕ) → list_all has_form (gone n rel a b skip next t to) ≡ true
+gone_forms n rel a b skip next true to = tested_forms (denied rel) a b skip (Line to)
+gone_forms n rel a b skip next false to = forms_append (tested rel a b skip next) (faulted n 1) (tested_forms rel a b skip next) refl
+
+group_forms : (ns : List ℕ) (seed n i : ℕ) (g : Group) → list_all has_form (group_template ns seed n i g) ≡ true
+group_forms ns seed n i (Calculate op a b d) = calculated_forms n op (source_of (slot_of d) a) (source_of (slot_of d + 1) b) (destination_at d)
+group_forms ns seed n i (Convert what a d) = converted_forms n seed what (source_of (slot_of d) a) (destination_at d)
+group_forms ns seed n i (Move a home) = brought_forms (source_of 0 a) (home_at home)
+group_forms ns seed n i (Use how a) = used_forms n (next_line ns n) how (source_of 0 a)
+group_forms ns seed n i (Test rel a b) = tested_forms rel (tested_source a) (source_of 0 b) (Inside Skip n i) (next_line ns n)
+group_forms ns seed n i (TestGo rel a b to) =
+    gone_forms n rel (tested_source a) (source_of 0 b) (Inside Skip n i) (next_line ns n) (has_line ns to) to
+group_forms ns seed n i (Single c) = single_forms (may_fault ns c) ns n i c
+
+-- ── a program ──
+rest_forms : (ns : List ℕ) (seed n i : ℕ) (gs : List Group) → list_all has_form (rest_code ns seed n i gs) ≡ true
 rest_forms ns seed n i [] = refl
-rest_forms ns seed n i (c ∷ is) = forms_append (template ns seed n i c) (rest_code ns seed n (i + 1) is) (template_forms ns seed n i c) (rest_forms ns seed n (i + 1) is)
+rest_forms ns seed n i (g ∷ gs) = forms_append (group_template ns seed n i g) (rest_code ns seed n (i + 1) gs) (group_forms ns seed n i g) (rest_forms ns seed n (i + 1) gs)
+
+line_forms : (ns : List ℕ) (seed n : ℕ) (is : List Instr) → list_all has_form (list_code ns seed n is) ≡ true
+line_forms ns seed n is =
+    by_poll (λ es. list_all has_form es ≡ true) ns seed n is (λ js e. forms_append (polled n) (rest_code ns seed n 1 (select js)) refl (rest_forms ns seed n 1 (select js))) (rest_forms ns seed n 1 (select is))
 
 lines_forms : (ns : List ℕ) (seed : ℕ) (lines : SlotCode) → list_all has_form (lines_code ns seed lines) ≡ true
 lines_forms ns seed [] = refl
 lines_forms ns seed (line ∷ lines) =
-    forms_append (line_code ns seed line) (lines_code ns seed lines) (rest_forms ns seed line.number 0 line.content) (lines_forms ns seed lines)
+    forms_append (line_code ns seed line) (lines_code ns seed lines) (line_forms ns seed line.number line.content) (lines_forms ns seed lines)
 
 rows_forms : (ns : List ℕ) → list_all has_form (rows_code ns) ≡ true
 rows_forms [] = refl
 rows_forms (n ∷ ns) = rows_forms ns
 
-pub program_modes : (seed : ℕ) (code : SlotCode) → list_all has_mode (program_code seed code) ≡ true
-program_modes seed code =
+program_forms : (seed : ℕ) (code : SlotCode) → list_all has_form (program_code seed code) ≡ true
+program_forms seed code =
     let ns = numbers code in
-    all_modes (program_code seed code)
-    (forms_append (lines_code ns seed code) (past_code ns ++ (find_code ns ++ table_code ns)) (lines_forms ns seed code) (rows_forms ns))
+    forms_append (lines_code ns seed code) (past_code ns ++ (find_code ns ++ table_code ns)) (lines_forms ns seed code) (rows_forms ns)
+
+pub program_modes : (seed : ℕ) (code : SlotCode) → list_all has_mode (program_code seed code) ≡ true
+program_modes seed code = all_by has_form has_mode has_form_mode (program_code seed code) (program_forms seed code)
+
+pub program_moves : (seed : ℕ) (code : SlotCode) → list_all may_move (program_code seed code) ≡ true
+program_moves seed code = all_by has_form may_move has_form_moves (program_code seed code) (program_forms seed code)
 
 -- ── names ──
 -- each of these names has a number from one on

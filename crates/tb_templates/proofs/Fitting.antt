@@ -1,75 +1,184 @@
--- The code of a program is no longer than its cost.
-use Rattle.std.proofs.Common.{◌≡◌, ℕ, ◌+◌, ◌*◌, ◌≤◌, Bool, true, false, List, [], ◌∷◌, ◌++◌, length, refl, sym, ap, ◌∙◌, arith, sum_by, Option, Some, None}
-use Rattle.tb_asm.specs.Layout.{Entry, size}
+-- The code of a program is no longer than its cost, however many branches are replaced.
+use Rattle.std.proofs.Common.{◌≡◌, ℕ, ◌+◌, ◌*◌, ◌≤◌, Bool, true, false, List, [], ◌∷◌, ◌++◌, length, refl, sym, ap, ◌∙◌, arith, subst, sum_by, Option, Some, None}
+use Rattle.std.proofs.lemmas.List.Sums.{sum_by-cons}
+use Rattle.tb_opcodes.specs.declared.Mnemonic.{Mnemonic}
+use Rattle.tb_opcodes.specs.declared.Mnemonic.TheVariants.{Adc, Bmi, Bpl, Cmp, Lda, Sbc}
+use Rattle.tb_words.specs.declared.Rel.{Rel}
 use Rattle.tb_words.specs.declared.Rel.TheVariants.{Eq, Lt, Gt, Le, Ge, Ne}
+use Rattle.tb_syntax.specs.declared.expressions.Operator.{Operator}
 use Rattle.tb_syntax.specs.declared.expressions.Operator.TheVariants.{Add, Subtract, Multiply, Divide}
 use Rattle.tb_syntax.specs.Source.{Expression, Number, Variable, Binary, Item, Text, Value, Zone, Command, Let, Print, If, Goto, Gosub, Remark, Numbered, Program, numbers}
 use Rattle.tb_syntax.specs.Source as source
 use Rattle.tb_lower.specs.Control.{has_line}
 use Rattle.tb_lower.specs.Cost.{nodes, item_cost, command_cost, cost}
-use Rattle.std.proofs.lemmas.List.Sums.{sum_by-cons}
 use Rattle.tb_lower.specs.Lowered.{value_code, constant, or_constant, target_code, item_code, items_code, inputs_code, newline_code, command_code, program_code}
 use Rattle.tb_lower.specs.Slots.{Instr, Put, Load, Store, Negate, Compute, Random, SendText, SendNumber, SendZone, SendNewline, Input, Poll, Hold, LeaveUnless, Jump, Call, JumpTo, CallTo, Return, End}
-use Rattle.tb_templates.specs.Templates.{template, jump_to, call_to, next_line}
-use Rattle.tb_templates.specs.Program.{rest_code}
+use Rattle.tb_selection.specs.Groups.{Conversion, Negated, Drawn, Usage, AsNumber, AsLine, AsSubroutine, Group, Calculate, Convert, Move, Use, Test, TestGo, Single, Home, IntoVariable, IntoHeld, slot_of, fetch, keep, kept, held, convert, use_of, denied, expand, expand_all}
+use Rattle.tb_selection.specs.Select.{select}
+use Rattle.tb_selection.proofs.Bracketed.{brackets}
+use Rattle.tb_runtime16.specs.Places.{LEFT, RIGHT, RESULT, MULTIPLY_AT, DIVIDE_AT, RANDOM_AT}
+use Rattle.tb_templates.specs.declared.labels.Inner.TheVariants.{Skip}
+use Rattle.tb_templates.specs.declared.labels.Target.{Target}
+use Rattle.tb_templates.specs.declared.labels.Target.TheVariants.{Inside, Line}
+use Rattle.tb_templates.specs.Templates.{next_line, call, copied}
+use Rattle.tb_templates.specs.Sources.{Source, FixedWord, AtPlace, source_of, tested_source, home_at, destination_at}
+use Rattle.tb_templates.specs.GroupTemplates.{low_of, high_of, brought, joined, handed, calculated, converted, used, equal, unequal, ordered, tested, faulted, gone, group_template, polled}
+use Rattle.tb_templates.specs.Program.{rest_code, list_code}
+use Rattle.tb_settling.specs.Settled.{most_of, most}
+use Rattle.tb_settling.proofs.Forms.{most_append}
 use Rattle.tb_templates.specs.Sizes.{room, list_room, lines_room, rest_room, items_cost, AreApart, IsSpaced, AreSpaced}
+use Rattle.tb_templates.proofs.Listed.{by_poll}
 
-pub size_append : (xs ys : List Entry) → size (xs ++ ys) ≡ size xs + size ys
-size_append [] ys = omega arith
-size_append (x ∷ xs) ys = let e = size_append xs ys in omega (arith, e)
-
--- ── a template ──
-jump_fits : (ns : List ℕ) (to : ℕ) (t : Bool) → has_line ns to ≡ t → size (jump_to ns to) ≤ 5
-jump_fits ns to true e = rw e (omega arith)
-jump_fits ns to false e = rw e (omega arith)
-
-call_fits : (ns : List ℕ) (n to : ℕ) (t : Bool) → has_line ns to ≡ t → size (call_to ns to (next_line ns n)) ≤ 16
-call_fits ns n to true e = rw e (omega arith)
-call_fits ns n to false e = rw e (omega arith)
-
-pub template_fits : (ns : List ℕ) (seed n i : ℕ) (c : Instr) → size (template ns seed n i c) ≤ room c
-template_fits ns seed n i (Put k w) = omega arith
-template_fits ns seed n i (Load k x) = omega arith
-template_fits ns seed n i (Store x) = omega arith
-template_fits ns seed n i (Negate k) = omega arith
-template_fits ns seed n i (Compute Add k) = omega arith
-template_fits ns seed n i (Compute Subtract k) = omega arith
-template_fits ns seed n i (Compute Multiply k) = omega arith
-template_fits ns seed n i (Compute Divide k) = omega arith
-template_fits ns seed n i (Random k) = omega arith
-template_fits ns seed n i (SendText bs) = omega arith
-template_fits ns seed n i SendNumber = omega arith
-template_fits ns seed n i SendZone = omega arith
-template_fits ns seed n i SendNewline = omega arith
-template_fits ns seed n i (Input x) = omega arith
-template_fits ns seed n i Poll = omega arith
-template_fits ns seed n i Hold = omega arith
-template_fits ns seed n i (LeaveUnless Eq) = omega arith
-template_fits ns seed n i (LeaveUnless Ne) = omega arith
-template_fits ns seed n i (LeaveUnless Lt) = omega arith
-template_fits ns seed n i (LeaveUnless Gt) = omega arith
-template_fits ns seed n i (LeaveUnless Le) = omega arith
-template_fits ns seed n i (LeaveUnless Ge) = omega arith
-template_fits ns seed n i Jump = omega arith
-template_fits ns seed n i Call = omega arith
-template_fits ns seed n i (JumpTo to) = jump_fits ns to (has_line ns to) refl
-template_fits ns seed n i (CallTo to) = call_fits ns n to (has_line ns to) refl
-template_fits ns seed n i Return = omega arith
-template_fits ns seed n i End = omega arith
-
-pub rest_fits : (ns : List ℕ) (seed n i : ℕ) (is : List Instr) → size (rest_code ns seed n i is) ≤ 3 + list_room is
-rest_fits ns seed n i [] = omega arith
-rest_fits ns seed n i (c ∷ is) =
-    let e = size_append (template ns seed n i c) (rest_code ns seed n (i + 1) is) in
-    let a = template_fits ns seed n i c in
-    let b = rest_fits ns seed n (i + 1) is in
-    omega (arith, e, a, b)
-
--- ── the code of a command ──
 list_append : (xs ys : List Instr) → list_room (xs ++ ys) ≡ list_room xs + list_room ys
 list_append [] ys = omega arith
 list_append (x ∷ xs) ys = let e = list_append xs ys in omega (arith, e)
 
+-- ── a single instruction ──
+jump_fits : (ns : List ℕ) (seed n i to : ℕ) (t : Bool) → has_line ns to ≡ t → most (group_template ns seed n i (Single (JumpTo to))) ≤ 15
+jump_fits ns seed n i to true e = rw e (omega arith)
+jump_fits ns seed n i to false e = rw e (omega arith)
+
+call_fits : (ns : List ℕ) (seed n i to : ℕ) (t : Bool) → has_line ns to ≡ t → most (group_template ns seed n i (Single (CallTo to))) ≤ 26
+call_fits ns seed n i to true e = rw e (omega arith)
+call_fits ns seed n i to false e = rw e (omega arith)
+
+single_fits : (ns : List ℕ) (seed n i : ℕ) (c : Instr) → most (group_template ns seed n i (Single c)) ≤ room c
+single_fits ns seed n i (Put k w) = omega arith
+single_fits ns seed n i (Load k x) = omega arith
+single_fits ns seed n i (Store x) = omega arith
+single_fits ns seed n i (Negate k) = omega arith
+single_fits ns seed n i (Compute op k) = omega arith
+single_fits ns seed n i (Random k) = omega arith
+single_fits ns seed n i (SendText bs) = omega arith
+single_fits ns seed n i SendNumber = omega arith
+single_fits ns seed n i SendZone = omega arith
+single_fits ns seed n i SendNewline = omega arith
+single_fits ns seed n i (Input x) = omega arith
+single_fits ns seed n i Poll = omega arith
+single_fits ns seed n i Hold = omega arith
+single_fits ns seed n i (LeaveUnless rel) = omega arith
+single_fits ns seed n i Jump = omega arith
+single_fits ns seed n i Call = omega arith
+single_fits ns seed n i (JumpTo to) = jump_fits ns seed n i to (has_line ns to) refl
+single_fits ns seed n i (CallTo to) = call_fits ns seed n i to (has_line ns to) refl
+single_fits ns seed n i Return = omega arith
+single_fits ns seed n i End = omega arith
+
+-- ── a group ──
+low_most : (m : Mnemonic) (a : Source) → most_of (low_of m a) ≤ 3
+low_most m (FixedWord w) = omega arith
+low_most m (AtPlace p) = omega arith
+
+high_most : (m : Mnemonic) (a : Source) → most_of (high_of m a) ≤ 3
+high_most m (FixedWord w) = omega arith
+high_most m (AtPlace p) = omega arith
+
+brought_fits : (a : Source) (to : ℕ) → most (brought a to) ≤ 12
+brought_fits a to = let l = low_most Lda a in let h = high_most Lda a in omega (arith, l, h)
+
+joined_fits : (m : Mnemonic) (a b : Source) (to : ℕ) → most (joined m a b to) ≤ 18
+joined_fits m a b to =
+    let l = low_most Lda a in let h = high_most Lda a in let p = low_most m b in let q = high_most m b in omega (arith, l, h, p, q)
+
+handed_fits : (routine from : ℕ) (a b : Source) (to : ℕ) → most (handed routine from a b to) ≤ 39
+handed_fits routine from a b to =
+    let e = most_append (brought a LEFT) (brought b RIGHT ++ (call routine ∷ copied from to)) in
+    let f = most_append (brought b RIGHT) (call routine ∷ copied from to) in
+    let l = brought_fits a LEFT in let r = brought_fits b RIGHT in
+    omega (arith, e, f, l, r)
+
+calculated_fits : (n : ℕ) (op : Operator) (a b : Source) (to : ℕ) → most (calculated n op a b to) ≤ 49
+calculated_fits n Add a b to = let h = joined_fits Adc a b to in omega (arith, h)
+calculated_fits n Subtract a b to = let h = joined_fits Sbc a b to in omega (arith, h)
+calculated_fits n Multiply a b to = let h = handed_fits MULTIPLY_AT RESULT a b to in omega (arith, h)
+calculated_fits n Divide a b to = let h = handed_fits DIVIDE_AT LEFT a b to in omega (arith, h)
+
+converted_fits : (n seed k : ℕ) (what : Conversion) (a : Source) (to : ℕ) → most (converted n seed what a to) ≤ room (convert what k)
+converted_fits n seed k Negated a to = let p = low_most Sbc a in let q = high_most Sbc a in omega (arith, p, q)
+converted_fits n seed k Drawn a to =
+    let e = most_append (brought a LEFT) (brought (FixedWord seed) RIGHT ++ (call RANDOM_AT ∷ copied RESULT to)) in let l = brought_fits a LEFT in
+    omega (arith, e, l)
+
+used_fits : (n : ℕ) (next : Target) (how : Usage) (a : Source) → most (used n next how a) ≤ room (use_of how)
+used_fits n next AsNumber a = let l = low_most Lda a in let h = high_most Lda a in omega (arith, l, h)
+used_fits n next AsLine a = let l = low_most Lda a in let h = high_most Lda a in omega (arith, l, h)
+used_fits n next AsSubroutine a = let l = low_most Lda a in let h = high_most Lda a in omega (arith, l, h)
+
+equal_fits : (a b : Source) (next : Target) → most (equal a b next) ≤ 24
+equal_fits a b next =
+    let l = low_most Lda a in let h = high_most Lda a in let p = low_most Cmp b in let q = high_most Cmp b in omega (arith, l, h, p, q)
+
+unequal_fits : (a b : Source) (stays next : Target) → most (unequal a b stays next) ≤ 24
+unequal_fits a b stays next =
+    let l = low_most Lda a in let h = high_most Lda a in let p = low_most Cmp b in let q = high_most Cmp b in omega (arith, l, h, p, q)
+
+ordered_fits : (leaves : Mnemonic) (a b : Source) (skip next : Target) → most (ordered leaves a b skip next) ≤ 24
+ordered_fits leaves a b skip next =
+    let l = low_most Lda a in let h = high_most Lda a in let p = low_most Cmp b in let q = high_most Sbc b in omega (arith, l, h, p, q)
+
+tested_fits : (rel : Rel) (a b : Source) (skip next : Target) → most (tested rel a b skip next) ≤ 24
+tested_fits Eq a b skip next = equal_fits a b next
+tested_fits Ne a b skip next = unequal_fits a b skip next
+tested_fits Lt a b skip next = ordered_fits Bpl a b skip next
+tested_fits Ge a b skip next = ordered_fits Bmi a b skip next
+tested_fits Gt a b skip next = ordered_fits Bpl b a skip next
+tested_fits Le a b skip next = ordered_fits Bmi b a skip next
+
+gone_fits : (n : ℕ) (rel : Rel) (a b : Source) (skip next : Target) (t : Bool) (to : ℕ) → most (gone n rel a b skip next t to) ≤ 39
+gone_fits n rel a b skip next true to = let h = tested_fits (denied rel) a b skip (Line to) in omega (arith, h)
+gone_fits n rel a b skip next false to =
+    let h = tested_fits rel a b skip next in let e = most_append (tested rel a b skip next) (faulted n 1) in omega (arith, h, e)
+
+keep_room : (home : Home) → room (keep home) ≡ 12
+keep_room (IntoVariable x) = refl
+keep_room IntoHeld = refl
+
+group_fits : (ns : List ℕ) (seed n i : ℕ) (g : Group) → most (group_template ns seed n i g) ≤ list_room (expand g)
+group_fits ns seed n i (Calculate op a b d) =
+    let h = calculated_fits n op (source_of (slot_of d) a) (source_of (slot_of d + 1) b) (destination_at d) in
+    let e = list_append (fetch (slot_of d) a) (fetch (slot_of d + 1) b ++ Compute op (slot_of d) ∷ kept d) in
+    let f = list_append (fetch (slot_of d + 1) b) (Compute op (slot_of d) ∷ kept d) in
+    omega (arith, h, e, f)
+group_fits ns seed n i (Convert what a d) =
+    let h = converted_fits n seed (slot_of d) what (source_of (slot_of d) a) (destination_at d) in
+    let e = list_append (fetch (slot_of d) a) (convert what (slot_of d) ∷ kept d) in
+    omega (arith, h, e)
+group_fits ns seed n i (Move a home) =
+    let h = brought_fits (source_of 0 a) (home_at home) in let e = list_append (fetch 0 a) (keep home ∷ []) in let k = keep_room home in
+    omega (arith, h, e, k)
+group_fits ns seed n i (Use how a) =
+    let h = used_fits n (next_line ns n) how (source_of 0 a) in let e = list_append (fetch 0 a) (use_of how ∷ []) in omega (arith, h, e)
+group_fits ns seed n i (Test rel a b) =
+    let h = tested_fits rel (tested_source a) (source_of 0 b) (Inside Skip n i) (next_line ns n) in
+    let e = list_append (held a) (fetch 0 b ++ LeaveUnless rel ∷ []) in
+    let f = list_append (fetch 0 b) (LeaveUnless rel ∷ []) in
+    omega (arith, h, e, f)
+group_fits ns seed n i (TestGo rel a b to) =
+    let h = gone_fits n rel (tested_source a) (source_of 0 b) (Inside Skip n i) (next_line ns n) (has_line ns to) to in
+    let e = list_append (held a) (fetch 0 b ++ LeaveUnless rel ∷ JumpTo to ∷ []) in
+    let f = list_append (fetch 0 b) (LeaveUnless rel ∷ JumpTo to ∷ []) in
+    omega (arith, h, e, f)
+group_fits ns seed n i (Single c) = let h = single_fits ns seed n i c in omega (arith, h)
+
+rest_fits : (ns : List ℕ) (seed n i : ℕ) (gs : List Group) → most (rest_code ns seed n i gs) ≤ list_room (expand_all gs)
+rest_fits ns seed n i [] = omega arith
+rest_fits ns seed n i (g ∷ gs) =
+    let e = most_append (group_template ns seed n i g) (rest_code ns seed n (i + 1) gs) in
+    let f = list_append (expand g) (expand_all gs) in
+    let a = group_fits ns seed n i g in
+    let b = rest_fits ns seed n (i + 1) gs in
+    omega (arith, e, f, a, b)
+
+selected_fits : (ns : List ℕ) (seed n i : ℕ) (is : List Instr) → most (rest_code ns seed n i (select is)) ≤ list_room is
+selected_fits ns seed n i is = subst (λ js. most (rest_code ns seed n i (select is)) ≤ list_room js) (brackets is) (rest_fits ns seed n i (select is))
+
+pub list_fits : (ns : List ℕ) (seed n : ℕ) (is : List Instr) → most (list_code ns seed n is) ≤ list_room is
+list_fits ns seed n is =
+    by_poll (λ es. most es ≤ list_room is) ns seed n is
+    (λ js e. let p = ap list_room e in let q = most_append (polled n) (rest_code ns seed n 1 (select js)) in let r = selected_fits ns seed n 1 js in omega (arith, p, q, r))
+    (selected_fits ns seed n 1 is)
+
+-- ── the code of a command ──
 pub one_node : (e : Expression) → 1 ≤ nodes e
 one_node (Number n) = omega arith
 one_node (Variable x) = omega arith
@@ -77,11 +186,12 @@ one_node (source.Negate e) = omega arith
 one_node (Binary op l r) = omega arith
 one_node (source.Random e) = omega arith
 
-constant_room : (v : Option ℕ) (k b : ℕ) (code : List Instr) → 10 ≤ b → list_room code ≤ b → list_room (or_constant v k code) ≤ b
+constant_room : (v : Option ℕ) (k b : ℕ) (code : List Instr) → 46 ≤ b → list_room code + 36 ≤ b → list_room (or_constant v k code) + 36 ≤ b
 constant_room (Some v) k b code p q = omega (arith, p)
 constant_room None k b code p q = q
 
-value_room : (e : Expression) (k : ℕ) → list_room (value_code e k) ≤ 48 * nodes e
+-- a number or a variable costs 36 more than its code takes: so there is room for what an operator takes beyond its cost
+value_room : (e : Expression) (k : ℕ) → list_room (value_code e k) + 36 ≤ 48 * nodes e
 value_room (Number n) k = omega arith
 value_room (Variable x) k = omega arith
 value_room (source.Negate e) k =
@@ -132,7 +242,7 @@ pub items_pay : (is : List Item) → items_cost is ≡ sum_by item_cost is
 items_pay [] = refl
 items_pay (i ∷ is) = ap (λ n. item_cost i + n) (items_pay is) ∙ sym (sum_by-cons item_cost i is)
 
-pub command_room : (c : Command) → IsSpaced c → list_room (command_code c) ≤ 12 + command_cost c
+pub command_room : (c : Command) → IsSpaced c → list_room (command_code c) ≤ 7 + command_cost c
 command_room (Let x e) h = let a = value_room e 0 in let b = list_append (value_code e 0) (Store x ∷ []) in omega (arith, a, b)
 command_room (Print items ends) h =
     let a = items_room false items h in let b = newline_room ends in
@@ -146,10 +256,10 @@ command_room (If l rel r c) h =
     omega (arith, a, b, d, e, f)
 command_room (Goto e) h =
     let a = value_room e 0 in let b = list_append (value_code e 0) (Jump ∷ []) in
-    target_room (constant e) JumpTo 5 (12 + (48 + 48 * nodes e)) (value_code e 0 ++ Jump ∷ []) (λ n. omega arith) (omega arith) (omega (arith, a, b))
+    target_room (constant e) JumpTo 15 (7 + (48 + 48 * nodes e)) (value_code e 0 ++ Jump ∷ []) (λ n. omega arith) (omega arith) (omega (arith, a, b))
 command_room (Gosub e) h =
     let a = value_room e 0 in let b = list_append (value_code e 0) (Call ∷ []) in
-    target_room (constant e) CallTo 16 (12 + (48 + 48 * nodes e)) (value_code e 0 ++ Call ∷ []) (λ n. omega arith) (omega arith) (omega (arith, a, b))
+    target_room (constant e) CallTo 26 (7 + (48 + 48 * nodes e)) (value_code e 0 ++ Call ∷ []) (λ n. omega arith) (omega arith) (omega (arith, a, b))
 command_room source.Return h = omega arith
 command_room source.End h = omega arith
 command_room Remark h = omega arith

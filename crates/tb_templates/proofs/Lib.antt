@@ -1,7 +1,12 @@
 pub mod Accepted
 pub mod Appends
 pub mod Fitting
+pub mod Listed
 pub mod Ordered
+pub mod Ranged
 pub mod Reached
 pub mod Rising
+pub mod Rows
+pub mod Searched
 pub mod Taken
+pub mod Settled

@@ -2,19 +2,32 @@
 use Rattle.std.proofs.Common.{◌≡◌, ℕ, ◌+◌, ◌<◌, ◌≤◌, Bool, true, false, List, [], ◌∷◌, ◌++◌, length, refl, sym, ap, ◌∙◌, arith, subst, nat_lt}
 use Rattle.std.specs.Prelude.{if◌then◌else◌}
 use Rattle.std.proofs.lemmas.Bool.Decides.{nat_tests}
+use Rattle.tb_opcodes.specs.declared.Mnemonic.{Mnemonic}
+use Rattle.tb_opcodes.specs.declared.Mnemonic.TheVariants.{Adc, Bmi, Bpl, Sbc}
+use Rattle.tb_words.specs.declared.Rel.{Rel}
 use Rattle.tb_words.specs.declared.Rel.TheVariants.{Eq, Lt, Gt, Le, Ge, Ne}
+use Rattle.tb_syntax.specs.declared.expressions.Operator.{Operator}
 use Rattle.tb_syntax.specs.declared.expressions.Operator.TheVariants.{Add, Subtract, Multiply, Divide}
 use Rattle.tb_syntax.specs.Source.{numbers}
 use Rattle.tb_lower.specs.Control.{At, has_line, next_after}
 use Rattle.tb_lower.specs.Slots.{Instr, Put, Load, Store, Negate, Compute, Random, SendText, SendNumber, SendZone, SendNewline, Input, Poll, Hold, LeaveUnless, Jump, Call, JumpTo, CallTo, Return, End, SlotCode}
+use Rattle.tb_selection.specs.Groups.{Conversion, Negated, Drawn, Usage, AsNumber, AsLine, AsSubroutine, Group, Calculate, Convert, Move, Use, Test, TestGo, Single, denied, slot_of}
+use Rattle.tb_selection.specs.Select.{select}
+use Rattle.tb_runtime16.specs.Places.{LEFT, RIGHT, RESULT, LINE, MULTIPLY_AT, DIVIDE_AT, RANDOM_AT}
 use Rattle.tb_templates.specs.declared.labels.Inner.{Inner}
 use Rattle.tb_templates.specs.declared.labels.Inner.TheVariants as inner
 use Rattle.tb_templates.specs.Labels.{label_of, letter_of}
+use Rattle.tb_templates.specs.declared.labels.Target.{Target}
 use Rattle.tb_templates.specs.declared.labels.Target.TheVariants.{Line, Inside, Table}
-use Rattle.tb_templates.specs.Templates.{template, jump_to, call_to, next_line, target_of}
-use Rattle.tb_templates.specs.Program.{rest_code, line_code, lines_code, past_code, find_code, rows_code, table_code, program_code, AreCodable, RisingFrom, first_of, AreInTurn}
-use Rattle.tb_templates.proofs.Rising.{key_of, base, line_key, inside_key, Rising, rising_append, rising_lower, rising_higher}
+use Rattle.tb_templates.specs.Templates.{template, jump_to, call_to, next_line, target_of, call, copied, constant}
+use Rattle.tb_templates.specs.Sources.{Source, FixedWord, AtPlace, source_of, tested_source, home_at, destination_at}
+use Rattle.tb_templates.specs.GroupTemplates.{brought, joined, handed, calculated, converted, used, equal, unequal, ordered, tested, faulted, gone, may_fault, group_template, polled}
+use Rattle.tb_templates.specs.Program.{rest_code, list_code, line_code, lines_code, past_code, find_code, rows_code, table_code, program_code, AreCodable, RisingFrom, first_of, AreInTurn}
+use Rattle.tb_templates.proofs.Listed.{by_poll}
+use Rattle.tb_templates.proofs.Ranged.{selected_few}
+use Rattle.tb_templates.proofs.Rising.{key_of, base, line_key, inside_key, Rising, rising_append, rising_lower}
 
+-- ── single instructions ──
 jump_rises : (ns : List ℕ) (to low high : ℕ) (t : Bool) → has_line ns to ≡ t → low ≤ high → Rising low (jump_to ns to) high
 jump_rises ns to low high true e h = rw e h
 jump_rises ns to low high false e h = rw e h
@@ -23,22 +36,84 @@ call_rises : (ns : List ℕ) (n to low high : ℕ) (t : Bool) → has_line ns to
 call_rises ns n to low high true e h = rw e h
 call_rises ns n to low high false e h = rw e h
 
+-- ── words and tests ──
+module _ (low high : ℕ) (up : low ≤ high) where
+  brought_rises : (a : Source) (to : ℕ) → Rising low (brought a to) high
+  brought_rises (FixedWord w) to = up
+  brought_rises (AtPlace p) to = up
+
+  joined_rises : (m : Mnemonic) (a b : Source) (to : ℕ) → Rising low (joined m a b to) high
+  joined_rises m (FixedWord v) (FixedWord w) to = up
+  joined_rises m (FixedWord v) (AtPlace q) to = up
+  joined_rises m (AtPlace p) (FixedWord w) to = up
+  joined_rises m (AtPlace p) (AtPlace q) to = up
+
+  equal_rises : (a b : Source) (next : Target) → Rising low (equal a b next) high
+  equal_rises (FixedWord v) (FixedWord w) next = up
+  equal_rises (FixedWord v) (AtPlace q) next = up
+  equal_rises (AtPlace p) (FixedWord w) next = up
+  equal_rises (AtPlace p) (AtPlace q) next = up
+
+-- code with no label but one
+module _ (low high : ℕ) (skip : Target) (above : low ≤ key_of (label_of skip)) (below : key_of (label_of skip) + 1 ≤ high) where
+  unequal_rises : (a b : Source) (next : Target) → Rising low (unequal a b skip next) high
+  unequal_rises (FixedWord v) (FixedWord w) next = (above, below)
+  unequal_rises (FixedWord v) (AtPlace q) next = (above, below)
+  unequal_rises (AtPlace p) (FixedWord w) next = (above, below)
+  unequal_rises (AtPlace p) (AtPlace q) next = (above, below)
+
+  ordered_rises : (leaves : Mnemonic) (a b : Source) (next : Target) → Rising low (ordered leaves a b skip next) high
+  ordered_rises leaves (FixedWord v) (FixedWord w) next = (above, below)
+  ordered_rises leaves (FixedWord v) (AtPlace q) next = (above, below)
+  ordered_rises leaves (AtPlace p) (FixedWord w) next = (above, below)
+  ordered_rises leaves (AtPlace p) (AtPlace q) next = (above, below)
+
+  tested_rises : (up : low ≤ high) (rel : Rel) (a b : Source) (next : Target) → Rising low (tested rel a b skip next) high
+  tested_rises up Eq a b next = equal_rises low high up a b next
+  tested_rises up Ne a b next = unequal_rises a b next
+  tested_rises up Lt a b next = ordered_rises Bpl a b next
+  tested_rises up Ge a b next = ordered_rises Bmi a b next
+  tested_rises up Gt a b next = ordered_rises Bpl b a next
+  tested_rises up Le a b next = ordered_rises Bmi b a next
+
+handed_rises : (low high : ℕ) (routine from : ℕ) (a b : Source) (to : ℕ) → low ≤ high → Rising low (handed routine from a b to) high
+handed_rises low high routine from a b to up =
+    let none : low ≤ low = omega arith in
+    rising_append low low high (brought a LEFT) (brought b RIGHT ++ (call routine ∷ copied from to)) (brought_rises low low none a LEFT)
+    (rising_append low low high (brought b RIGHT) (call routine ∷ copied from to) (brought_rises low low none b RIGHT) up)
+
+calculated_rises : (low high n : ℕ) (op : Operator) (a b : Source) (to : ℕ) → low ≤ high → Rising low (calculated n op a b to) high
+calculated_rises low high n Add a b to up = joined_rises low high up Adc a b to
+calculated_rises low high n Subtract a b to up = joined_rises low high up Sbc a b to
+calculated_rises low high n Multiply a b to up = handed_rises low high MULTIPLY_AT RESULT a b to up
+calculated_rises low high n Divide a b to up = handed_rises low high DIVIDE_AT LEFT a b to up
+
+converted_rises : (low high n seed : ℕ) (what : Conversion) (a : Source) (to : ℕ) → low ≤ high → Rising low (converted n seed what a to) high
+converted_rises low high n seed Negated a to up = joined_rises low high up Sbc (FixedWord 0) a to
+converted_rises low high n seed Drawn a to up = handed_rises low high RANDOM_AT RESULT a (FixedWord seed) to up
+
+used_rises : (low high n : ℕ) (next : Target) (how : Usage) (a : Source) → low ≤ high → Rising low (used n next how a) high
+used_rises low high n next AsNumber (FixedWord w) up = up
+used_rises low high n next AsNumber (AtPlace p) up = up
+used_rises low high n next AsLine (FixedWord w) up = up
+used_rises low high n next AsLine (AtPlace p) up = up
+used_rises low high n next AsSubroutine (FixedWord w) up = up
+used_rises low high n next AsSubroutine (AtPlace p) up = up
+
+-- ── groups ──
 module _ (ns : List ℕ) (seed n i : ℕ) (small : n < 65536) (index : i < 65536) where
-  up : base n i + 1 ≤ base n (i + 1)
+  up : base n i ≤ base n (i + 1)
   up = omega arith
 
   keyed : (x : Inner) → key_of (label_of (Inside x n i)) ≡ base n i + letter_of x
   keyed x = inside_key x n i small index
 
-  pub template_rises : (c : Instr) → Rising (base n i + 1) (template ns seed n i c) (base n (i + 1))
+  template_rises : (c : Instr) → Rising (base n i) (template ns n i c) (base n (i + 1))
   template_rises (Put k w) = up
   template_rises (Load k x) = up
   template_rises (Store x) = up
   template_rises (Negate k) = up
-  template_rises (Compute Add k) = up
-  template_rises (Compute Subtract k) = up
-  template_rises (Compute Multiply k) = up
-  template_rises (Compute Divide k) = up
+  template_rises (Compute op k) = up
   template_rises (Random k) = up
   template_rises (SendText bs) = (let t = keyed inner.Text in omega (arith, t), (let t = keyed inner.Text in let u = keyed inner.Behind in omega (arith, t, u), let u = keyed inner.Behind in omega (arith, u)))
   template_rises SendNumber = up
@@ -47,25 +122,55 @@ module _ (ns : List ℕ) (seed n i : ℕ) (small : n < 65536) (index : i < 65536
   template_rises (Input x) = up
   template_rises Poll = up
   template_rises Hold = up
-  template_rises (LeaveUnless Eq) = (let s = keyed inner.Skip in omega (arith, s), (let s = keyed inner.Skip in let t = keyed inner.Here in omega (arith, s, t), let t = keyed inner.Here in omega (arith, t)))
-  template_rises (LeaveUnless Ne) = (let t = keyed inner.Here in omega (arith, t), let t = keyed inner.Here in omega (arith, t))
-  template_rises (LeaveUnless Lt) = (let t = keyed inner.Here in omega (arith, t), let t = keyed inner.Here in omega (arith, t))
-  template_rises (LeaveUnless Gt) = (let t = keyed inner.Here in omega (arith, t), let t = keyed inner.Here in omega (arith, t))
-  template_rises (LeaveUnless Le) = (let t = keyed inner.Here in omega (arith, t), let t = keyed inner.Here in omega (arith, t))
-  template_rises (LeaveUnless Ge) = (let t = keyed inner.Here in omega (arith, t), let t = keyed inner.Here in omega (arith, t))
+  template_rises (LeaveUnless rel) = up
   template_rises Jump = up
   template_rises Call = up
-  template_rises (JumpTo to) = jump_rises ns to (base n i + 1) (base n (i + 1)) (has_line ns to) refl up
-  template_rises (CallTo to) = call_rises ns n to (base n i + 1) (base n (i + 1)) (has_line ns to) refl up
+  template_rises (JumpTo to) = jump_rises ns to (base n i) (base n (i + 1)) (has_line ns to) refl up
+  template_rises (CallTo to) = call_rises ns n to (base n i) (base n (i + 1)) (has_line ns to) refl up
   template_rises Return = up
   template_rises End = up
 
-pub rest_rises : (ns : List ℕ) (seed n i : ℕ) (is : List Instr) → n < 65536 → i + length is < 65536 → Rising (base n i + 1) (rest_code ns seed n i is) (base (n + 1) 0)
+  single_rises : (t : Bool) (c : Instr) → Rising (base n i) (if t then constant n LINE ++ template ns n i c else template ns n i c) (base n (i + 1))
+  single_rises true c = template_rises c
+  single_rises false c = template_rises c
+
+  -- the label of a test in its code
+  test_rises : (rel : Rel) (a b : Source) (next : Target) → Rising (base n i) (tested rel a b (Inside inner.Skip n i) next) (base n (i + 1))
+  test_rises rel a b next =
+      let s = keyed inner.Skip in
+      tested_rises (base n i) (base n (i + 1)) (Inside inner.Skip n i) (omega (arith, s)) (omega (arith, s)) up rel a b next
+
+  gone_rises : (rel : Rel) (a b : Source) (t : Bool) (to : ℕ) → Rising (base n i) (gone n rel a b (Inside inner.Skip n i) (next_line ns n) t to) (base n (i + 1))
+  gone_rises rel a b true to = test_rises (denied rel) a b (Line to)
+  gone_rises rel a b false to =
+      rising_append (base n i) (base n (i + 1)) (base n (i + 1)) (tested rel a b (Inside inner.Skip n i) (next_line ns n)) (faulted n 1) (test_rises rel a b (next_line ns n)) (omega arith)
+
+  group_rises : (g : Group) → Rising (base n i) (group_template ns seed n i g) (base n (i + 1))
+  group_rises (Calculate op a b d) = calculated_rises (base n i) (base n (i + 1)) n op (source_of (slot_of d) a) (source_of (slot_of d + 1) b) (destination_at d) up
+  group_rises (Convert what a d) = converted_rises (base n i) (base n (i + 1)) n seed what (source_of (slot_of d) a) (destination_at d) up
+  group_rises (Move a home) = brought_rises (base n i) (base n (i + 1)) up (source_of 0 a) (home_at home)
+  group_rises (Use how a) = used_rises (base n i) (base n (i + 1)) n (next_line ns n) how (source_of 0 a) up
+  group_rises (Test rel a b) = test_rises rel (tested_source a) (source_of 0 b) (next_line ns n)
+  group_rises (TestGo rel a b to) = gone_rises rel (tested_source a) (source_of 0 b) (has_line ns to) to
+  group_rises (Single c) = single_rises (may_fault ns c) c
+
+rest_rises : (ns : List ℕ) (seed n i : ℕ) (gs : List Group) → n < 65536 → i + length gs ≤ 65536 → Rising (base n i) (rest_code ns seed n i gs) (base (n + 1) 0)
 rest_rises ns seed n i [] h k = omega (arith, h, k)
-rest_rises ns seed n i (c ∷ is) h k =
-    rising_append (base n i + 1) (base n (i + 1) + 1) (base (n + 1) 0) (template ns seed n i c) (rest_code ns seed n (i + 1) is)
-    (rising_higher (base n i + 1) (base n (i + 1)) (base n (i + 1) + 1) (template ns seed n i c) (omega arith) (template_rises ns seed n i h (omega (arith, k)) c))
-    (rest_rises ns seed n (i + 1) is h (omega (arith, k)))
+rest_rises ns seed n i (g ∷ gs) h k =
+    rising_append (base n i) (base n (i + 1)) (base (n + 1) 0) (group_template ns seed n i g) (rest_code ns seed n (i + 1) gs) (group_rises ns seed n i h (omega (arith, k)) g)
+    (rest_rises ns seed n (i + 1) gs h (omega (arith, k)))
+
+-- ── lines ──
+polled_rises : (n : ℕ) → n < 65536 → Rising (base n 0 + 1) (polled n) (base n 1)
+polled_rises n h = let s = inside_key inner.Skip n 0 h (omega arith) in (omega (arith, s), omega (arith, s))
+
+list_rises : (ns : List ℕ) (seed n : ℕ) (is : List Instr) → n < 65536 → length is < 65536 → Rising (base n 0 + 1) (list_code ns seed n is) (base (n + 1) 0)
+list_rises ns seed n is h l =
+    by_poll (λ es. Rising (base n 0 + 1) es (base (n + 1) 0)) ns seed n is (λ js e. rising_append (base n 0 + 1) (base n 1) (base (n + 1) 0) (polled n) (rest_code ns seed n 1 (select js)) (polled_rises n h) (groups js (let s = ap length e in omega (arith, s, l))))
+    (rising_lower (base n 0 + 1) (base n 1) (base (n + 1) 0) (rest_code ns seed n 1 (select is)) (omega arith) (groups is l))
+  where
+    groups : (js : List Instr) → length js < 65536 → Rising (base n 1) (rest_code ns seed n 1 (select js)) (base (n + 1) 0)
+    groups js k = rest_rises ns seed n 1 (select js) h (let f = selected_few js in omega (arith, f, k))
 
 -- behind a line comes the first of the lines that rise from it
 first_behind : (n : ℕ) (lines : SlotCode) → RisingFrom (n + 1) (numbers lines) → first_of lines ≡ next_line (numbers lines) n
@@ -101,7 +206,7 @@ lines_rise ns seed low (line ∷ lines) l r c =
     let n = line.number in
     let k = line_key n r.1 in
     rising_append (base low 0) (base (n + 1) 0) (base 65536 0) (line_code ns seed line) (lines_code ns seed lines)
-    (omega (arith, k, r.0), subst (λ x. Rising (x + 1) (rest_code ns seed n 0 line.content) (base (n + 1) 0)) (sym k) (rest_rises ns seed n 0 line.content r.1 (omega (arith, c.1))))
+    (omega (arith, k, r.0), subst (λ x. Rising (x + 1) (list_code ns seed n line.content) (base (n + 1) 0)) (sym k) (list_rises ns seed n line.content r.1 c.1))
     (lines_rise ns seed (n + 1) lines (omega (arith, r.1)) r.2 c.2)
 
 rows_rise : (ns : List ℕ) (low high : ℕ) → low ≤ high → Rising low (rows_code ns) high

@@ -1,30 +1,34 @@
--- Every operand of a program's code has its value, and every branch reaches.
-use Rattle.std.proofs.Common.{◌≡◌, ℕ, ◌+◌, ◌%◌, ◌/◌, ◌<◌, Bool, true, false, List, [], ◌∷◌, ◌++◌, refl, sym, ap, ◌∙◌, arith, subst, Option, Some, None, is_some, true≢false}
+-- Each label that a program's code names is known.
+use Rattle.std.proofs.Common.{◌≡◌, ℕ, ◌+◌, ◌%◌, ◌/◌, Bool, true, false, List, [], ◌∷◌, ◌++◌, refl, sym, ap, arith, subst, Option, Some, None, is_some, true≢false}
 use Rattle.std.specs.Prelude.{option_map, if◌then◌else◌, ◌||◌, nat_lt, nat_eq}
 use Rattle.std.proofs.lemmas.Bool.Decides.{nat_tests}
 use Rattle.tb_opcodes.specs.declared.Mnemonic.{Mnemonic}
-use Rattle.tb_opcodes.specs.declared.Mnemonic.TheVariants.{Bcc, Bcs, Beq, Bne}
-use Rattle.tb_opcodes.specs.declared.Mode.TheVariants.{Relative}
+use Rattle.tb_opcodes.specs.declared.Mnemonic.TheVariants.{Adc, Bmi, Bpl, Cmp, Lda, Sbc}
 use Rattle.tb_words.specs.declared.Rel.{Rel}
 use Rattle.tb_words.specs.declared.Rel.TheVariants.{Eq, Lt, Gt, Le, Ge, Ne}
+use Rattle.tb_syntax.specs.declared.expressions.Operator.{Operator}
 use Rattle.tb_syntax.specs.declared.expressions.Operator.TheVariants.{Add, Subtract, Multiply, Divide}
 use Rattle.tb_asm.specs.declared.names.Name.{Name}
-use Rattle.tb_asm.specs.declared.errors.AsmErrorKind.{AsmErrorKind}
-use Rattle.tb_asm.specs.declared.errors.AsmErrorKind.TheVariants.{BranchOutOfRange}
-use Rattle.tb_asm.specs.declared.items.Operand.TheVariants as operand
-use Rattle.tb_asm.specs.Layout.{Entry, instr, size, size_of, address_in, with_value, reach_fault, code_fault, distance, is_near}
-use Rattle.tb_asm.specs.Suited.{AllReachFrom}
+use Rattle.tb_asm.specs.declared.errors.AsmErrorKind.TheVariants.{UnknownLabel}
+use Rattle.tb_asm.specs.Layout.{Entry, size, size_of, address_in}
+use Rattle.tb_asm.specs.Settle.{unknown_fault}
 use Rattle.tb_lower.specs.Control.{At, has_line, next_after}
 use Rattle.tb_lower.specs.Slots.{Instr, Put, Load, Store, Negate, Compute, Random, SendText, SendNumber, SendZone, SendNewline, Input, Poll, Hold, LeaveUnless, Jump, Call, JumpTo, CallTo, Return, End, SlotCode}
+use Rattle.tb_selection.specs.Groups.{Conversion, Negated, Drawn, Usage, AsNumber, AsLine, AsSubroutine, Group, Calculate, Convert, Move, Use, Test, TestGo, Single, denied, slot_of}
+use Rattle.tb_selection.specs.Select.{select}
 use Rattle.tb_syntax.specs.Source.{numbers}
+use Rattle.tb_runtime16.specs.Places.{LEFT, RIGHT, RESULT, LINE, MULTIPLY_AT, DIVIDE_AT, RANDOM_AT, NUMBER_AT}
 use Rattle.tb_templates.specs.declared.labels.Inner.TheVariants as inner
 use Rattle.tb_templates.specs.declared.labels.Target.{Target}
 use Rattle.tb_templates.specs.declared.labels.Target.TheVariants as target
 use Rattle.tb_templates.specs.Labels.{label_of}
 use Rattle.tb_templates.specs.Layout.{LabelsAt}
-use Rattle.tb_templates.specs.Templates.{template, jump, fault, note, target_of, next_line, ordered, stays_by}
-use Rattle.tb_runtime16.specs.Places.{HELD, SLOTS}
-use Rattle.tb_templates.specs.Program.{rest_code, line_code, lines_code, past_code, find_code, rows_code, table_code, block_code, program_code}
+use Rattle.tb_templates.specs.Templates.{template, jump, fault, find, note, jump_through, target_of, next_line, call, copied, constant}
+use Rattle.tb_templates.specs.Sources.{Source, FixedWord, AtPlace, source_of, tested_source, home_at, destination_at}
+use Rattle.tb_templates.specs.GroupTemplates.{low_of, high_of, brought, joined, handed, calculated, converted, searched, used, equal, unequal, ordered, tested, faulted, gone, may_fault, group_template, polled}
+use Rattle.tb_templates.specs.Program.{rest_code, list_code, line_code, lines_code, past_code, find_code, rows_code, table_code, block_code, program_code}
+use Rattle.tb_settling.specs.Settled.{AllKnown}
+use Rattle.tb_templates.proofs.Listed.{by_poll}
 
 -- ── lists one behind the other ──
 pub labels_split : (labels : List (Name × ℕ)) (a : ℕ) (xs ys : List Entry) → LabelsAt labels a (xs ++ ys) → LabelsAt labels a xs × LabelsAt labels (a + size xs) ys
@@ -33,32 +37,14 @@ labels_split labels a (x ∷ xs) ys h =
     let rest = labels_split labels (a + size_of x) xs ys h.1 in
     ((h.0, rest.0), subst (λ b. LabelsAt labels b ys) (let e : a + size_of x + size xs ≡ a + (size_of x + size xs) = omega arith in e) rest.1)
 
-pub reach_append : (labels : List (Name × ℕ)) (a : ℕ) (xs ys : List Entry) → AllReachFrom labels a xs → AllReachFrom labels (a + size xs) ys → AllReachFrom labels a (xs ++ ys)
-reach_append labels a [] ys h k = subst (λ b. AllReachFrom labels b ys) (let e : a + 0 ≡ a = omega arith in e) k
-reach_append labels a (x ∷ xs) ys h k =
-    (h.0, reach_append labels (a + size_of x) xs ys h.1 (subst (λ b. AllReachFrom labels b ys) (let e : a + (size_of x + size xs) ≡ a + size_of x + size xs = omega arith in e) k))
+known_append : (labels : List (Name × ℕ)) (xs ys : List Entry) → AllKnown labels xs → AllKnown labels ys → AllKnown labels (xs ++ ys)
+known_append labels [] ys h k = k
+known_append labels (x ∷ xs) ys h k = (h.0, known_append labels xs ys h.1 k)
 
 -- one fact and the facts behind it
 infixr 5 ◌▹◌
 ◌▹◌ : {P Q : Type 0} → P → Q → P × Q
 p ▹ q = (p, q)
-
--- ── single operands ──
-has_value : (v : Option ℕ) (fault : ℕ → Option AsmErrorKind) → is_some v ≡ true → ((x : ℕ) → fault x ≡ None) → with_value v fault ≡ None
-has_value (Some x) fault h k = k x
-has_value None fault h k = absurd (true≢false (sym h))
-
-has_part : (v : Option ℕ) (f : ℕ → ℕ) (fault : ℕ → Option AsmErrorKind) → is_some v ≡ true → ((x : ℕ) → fault x ≡ None) → with_value (option_map f v) fault ≡ None
-has_part (Some x) f fault h k = k (f x)
-has_part None f fault h k = absurd (true≢false (sym h))
-
-near_ahead : (a d : ℕ) → d < 128 → is_near (distance a (a + 2 + d)) ≡ true
-near_ahead a d h = let e : distance a (a + 2 + d) ≡ d = omega (arith, h) in rw e (grind (arith, nat_tests))
-
-branch_ahead : (labels : List (Name × ℕ)) (a d target : ℕ) (n : Mnemonic) (to : Name) → address_in labels to ≡ Some target → target ≡ a + 2 + d → d < 128
-    → code_fault labels a (instr n Relative (operand.Label to)) ≡ None
-branch_ahead labels a d target n to at e h =
-    ap (λ v. with_value v (reach_fault Relative a)) (at ∙ ap Some e) ∙ ap (λ b. if b then None else Some BranchOutOfRange) (near_ahead a d h)
 
 -- ── what labels there are ──
 abbrev pub Stands : List (Name × ℕ) → Target → Type 0
@@ -92,98 +78,185 @@ next_stands labels (m ∷ ms) n h p = choose (nat_lt n m) (next_stands labels ms
     choose false k = k
 
 -- ── the code of a line ──
+part_stands : (f : ℕ → ℕ) (v : Option ℕ) → is_some v ≡ true → is_some (option_map f v) ≡ true
+part_stands f (Some x) h = refl
+part_stands f None h = h
+
 module _ (labels : List (Name × ℕ)) (ns : List ℕ) (known : Known labels ns) where
   next_known : (n : ℕ) → Stands labels (next_line ns n)
   next_known n = next_stands labels ns n known.lines known.past
 
-  to_label : (to : Target) → Stands labels to → with_value (address_in labels (label_of to)) (λ v. None) ≡ None
-  to_label to h = has_value (address_in labels (label_of to)) (λ v. None) h (λ v. refl)
+  found : (b : Bool) → b ≡ true → (if b then None else Some UnknownLabel) ≡ None
+  found b h = ap (λ c. if c then None else Some UnknownLabel) h
 
-  low_of : (to : Target) → Stands labels to → with_value (option_map (λ v. v % 256) (address_in labels (label_of to))) (λ v. None) ≡ None
-  low_of to h = has_part (address_in labels (label_of to)) (λ v. v % 256) (λ v. None) h (λ v. refl)
+  to_label : (to : Target) → Stands labels to → (if is_some (address_in labels (label_of to)) then None else Some UnknownLabel) ≡ None
+  to_label to h = found (is_some (address_in labels (label_of to))) h
 
-  high_of : (to : Target) → Stands labels to → with_value (option_map (λ v. v / 256) (address_in labels (label_of to))) (λ v. None) ≡ None
-  high_of to h = has_part (address_in labels (label_of to)) (λ v. v / 256) (λ v. None) h (λ v. refl)
+  low_label : (to : Target) → Stands labels to → (if is_some (option_map (λ v. v % 256) (address_in labels (label_of to))) then None else Some UnknownLabel) ≡ None
+  low_label to h = found (is_some (option_map (λ v. v % 256) (address_in labels (label_of to)))) (part_stands (λ v. v % 256) (address_in labels (label_of to)) h)
 
-  jump_reaches : (a to : ℕ) (t : Bool) → has_line ns to ≡ t → AllReachFrom labels a (if t then jump (target.Line to) ∷ [] else fault 1)
-  jump_reaches a to true e = (to_label (target.Line to) (known.lines to e) ▹ tt)
-  jump_reaches a to false e = (refl ▹ refl ▹ tt)
+  high_label : (to : Target) → Stands labels to → (if is_some (option_map (λ v. v / 256) (address_in labels (label_of to))) then None else Some UnknownLabel) ≡ None
+  high_label to h = found (is_some (option_map (λ v. v / 256) (address_in labels (label_of to)))) (part_stands (λ v. v / 256) (address_in labels (label_of to)) h)
 
-  call_reaches : (a to : ℕ) (next : Target) (t : Bool) → has_line ns to ≡ t → Stands labels next → AllReachFrom labels a (if t then note next ++ (jump (target.Line to) ∷ []) else fault 1)
-  call_reaches a to next true e h = (low_of next h ▹ refl ▹ high_of next h ▹ refl ▹ refl ▹ to_label (target.Line to) (known.lines to e) ▹ tt)
-  call_reaches a to next false e h = (refl ▹ refl ▹ tt)
+  jump_known : (to : ℕ) (t : Bool) → has_line ns to ≡ t → AllKnown labels (if t then jump (target.Line to) ∷ [] else fault 1)
+  jump_known to true e = (to_label (target.Line to) (known.lines to e) ▹ tt)
+  jump_known to false e = (refl ▹ refl ▹ tt)
 
-  ordered_reaches : (l r a : ℕ) (n : Mnemonic) (stays next : Target) → Stands labels next → LabelsAt labels a (ordered l r ++ stays_by n stays next) → AllReachFrom labels a (ordered l r ++ stays_by n stays next)
-  ordered_reaches l r a n stays next k h =
-      (refl ▹ refl ▹ refl ▹ refl ▹ refl ▹ refl ▹ refl ▹ refl ▹ refl ▹ refl ▹ refl ▹ refl ▹
-      branch_ahead labels (a + 3 + 1 + 2 + 3 + 3 + 1 + 2 + 3 + 3 + 3 + 3 + 3) 3 (a + 3 + 1 + 2 + 3 + 3 + 1 + 2 + 3 + 3 + 3 + 3 + 3 + 2 + 3) n (label_of stays) h.1.1.1.1.1.1.1.1.1.1.1.1.1.1.0 (omega arith) (omega arith) ▹
-      to_label next k ▹ refl ▹ tt)
+  call_known : (to : ℕ) (next : Target) (t : Bool) → has_line ns to ≡ t → Stands labels next → AllKnown labels (if t then note next ++ (jump (target.Line to) ∷ []) else fault 1)
+  call_known to next true e h = (low_label next h ▹ refl ▹ high_label next h ▹ refl ▹ refl ▹ to_label (target.Line to) (known.lines to e) ▹ tt)
+  call_known to next false e h = (refl ▹ refl ▹ tt)
 
-  leave_reaches : (n i a : ℕ) (rel : Rel) → LabelsAt labels a (template ns 0 n i (LeaveUnless rel)) → AllReachFrom labels a (template ns 0 n i (LeaveUnless rel))
-  leave_reaches n i a Eq h =
-      (refl ▹ refl ▹ branch_ahead labels (a + 3 + 3) 8 (a + 3 + 3 + 2 + 3 + 3 + 2) Bne (label_of (target.Inside inner.Skip n i)) h.1.1.1.1.1.1.0 (omega arith) (omega arith) ▹
-      refl ▹ refl ▹ branch_ahead labels (a + 3 + 3 + 2 + 3 + 3) 3 (a + 3 + 3 + 2 + 3 + 3 + 2 + 0 + 3) Beq (label_of (target.Inside inner.Here n i)) h.1.1.1.1.1.1.1.1.0 (omega arith) (omega arith) ▹
-      refl ▹ to_label (next_line ns n) (next_known n) ▹ refl ▹ tt)
-  leave_reaches n i a Ne h =
-      (refl ▹ refl ▹ branch_ahead labels (a + 3 + 3) 11 (a + 3 + 3 + 2 + 3 + 3 + 2 + 3) Bne (label_of (target.Inside inner.Here n i)) h.1.1.1.1.1.1.1.0 (omega arith) (omega arith) ▹
-      refl ▹ refl ▹ branch_ahead labels (a + 3 + 3 + 2 + 3 + 3) 3 (a + 3 + 3 + 2 + 3 + 3 + 2 + 3) Bne (label_of (target.Inside inner.Here n i)) h.1.1.1.1.1.1.1.0 (omega arith) (omega arith) ▹
-      to_label (next_line ns n) (next_known n) ▹ refl ▹ tt)
-  leave_reaches n i a Lt h = ordered_reaches HELD SLOTS a Bcc (target.Inside inner.Here n i) (next_line ns n) (next_known n) h
-  leave_reaches n i a Ge h = ordered_reaches HELD SLOTS a Bcs (target.Inside inner.Here n i) (next_line ns n) (next_known n) h
-  leave_reaches n i a Gt h = ordered_reaches SLOTS HELD a Bcc (target.Inside inner.Here n i) (next_line ns n) (next_known n) h
-  leave_reaches n i a Le h = ordered_reaches SLOTS HELD a Bcs (target.Inside inner.Here n i) (next_line ns n) (next_known n) h
-
-  text_reaches : (n i a : ℕ) (bs : List ℕ) → LabelsAt labels a (template ns 0 n i (SendText bs)) → AllReachFrom labels a (template ns 0 n i (SendText bs))
-  text_reaches n i a bs h =
+  text_known : (n i a : ℕ) (bs : List ℕ) → LabelsAt labels a (template ns n i (SendText bs)) → AllKnown labels (template ns n i (SendText bs))
+  text_known n i a bs h =
       let of : Stands labels (target.Inside inner.Text n i) = ap is_some h.1.1.1.1.1.1.1.1.0 in
       let behind : Stands labels (target.Inside inner.Behind n i) = ap is_some h.1.1.1.1.1.1.1.1.1.1.0 in
-      (low_of (target.Inside inner.Text n i) of ▹ refl ▹ high_of (target.Inside inner.Text n i) of ▹ refl ▹ refl ▹ refl ▹ refl ▹
+      (low_label (target.Inside inner.Text n i) of ▹ refl ▹ high_label (target.Inside inner.Text n i) of ▹ refl ▹ refl ▹ refl ▹ refl ▹
       to_label (target.Inside inner.Behind n i) behind ▹ refl ▹ refl ▹ refl ▹ tt)
 
-  template_reaches : (seed n i a : ℕ) (c : Instr) → LabelsAt labels a (template ns seed n i c) → AllReachFrom labels a (template ns seed n i c)
-  template_reaches seed n i a (Put k w) h = (refl ▹ refl ▹ refl ▹ refl ▹ tt)
-  template_reaches seed n i a (Load k x) h = (refl ▹ refl ▹ refl ▹ refl ▹ tt)
-  template_reaches seed n i a (Store x) h = (refl ▹ refl ▹ refl ▹ refl ▹ tt)
-  template_reaches seed n i a (Negate k) h = (refl ▹ refl ▹ refl ▹ refl ▹ refl ▹ refl ▹ refl ▹ tt)
-  template_reaches seed n i a (Compute Add k) h = (refl ▹ refl ▹ refl ▹ refl ▹ refl ▹ refl ▹ refl ▹ tt)
-  template_reaches seed n i a (Compute Subtract k) h = (refl ▹ refl ▹ refl ▹ refl ▹ refl ▹ refl ▹ refl ▹ tt)
-  template_reaches seed n i a (Compute Multiply k) h = (refl ▹ refl ▹ refl ▹ refl ▹ refl ▹ refl ▹ refl ▹ refl ▹ refl ▹ refl ▹ refl ▹ refl ▹ refl ▹ tt)
-  template_reaches seed n i a (Compute Divide k) h = (refl ▹ refl ▹ refl ▹ refl ▹ refl ▹ refl ▹ refl ▹ refl ▹ refl ▹ refl ▹ refl ▹ refl ▹ refl ▹ tt)
-  template_reaches seed n i a (Random k) h = (refl ▹ refl ▹ refl ▹ refl ▹ refl ▹ refl ▹ refl ▹ refl ▹ refl ▹ refl ▹ refl ▹ refl ▹ refl ▹ tt)
-  template_reaches seed n i a (SendText bs) h = text_reaches n i a bs h
-  template_reaches seed n i a SendNumber h = (refl ▹ refl ▹ refl ▹ refl ▹ refl ▹ tt)
-  template_reaches seed n i a SendZone h = (refl ▹ tt)
-  template_reaches seed n i a SendNewline h = (refl ▹ refl ▹ tt)
-  template_reaches seed n i a (Input x) h = (refl ▹ refl ▹ refl ▹ refl ▹ refl ▹ tt)
-  template_reaches seed n i a Poll h = (refl ▹ tt)
-  template_reaches seed n i a Hold h = (refl ▹ refl ▹ refl ▹ refl ▹ tt)
-  template_reaches seed n i a (LeaveUnless rel) h = leave_reaches n i a rel h
-  template_reaches seed n i a Jump h = (refl ▹ refl ▹ refl ▹ refl ▹ to_label target.Find known.find ▹ refl ▹ tt)
-  template_reaches seed n i a Call h =
-      (refl ▹ refl ▹ refl ▹ refl ▹ to_label target.Find known.find ▹ low_of (next_line ns n) (next_known n) ▹ refl ▹ high_of (next_line ns n) (next_known n) ▹ refl ▹ refl ▹ refl ▹ tt)
-  template_reaches seed n i a (JumpTo to) h = jump_reaches a to (has_line ns to) refl
-  template_reaches seed n i a (CallTo to) h = call_reaches a to (next_line ns n) (has_line ns to) refl (next_known n)
-  template_reaches seed n i a Return h = (refl ▹ refl ▹ tt)
-  template_reaches seed n i a End h = (refl ▹ tt)
+  template_known : (n i a : ℕ) (c : Instr) → LabelsAt labels a (template ns n i c) → AllKnown labels (template ns n i c)
+  template_known n i a (Put k w) h = (refl ▹ refl ▹ refl ▹ refl ▹ tt)
+  template_known n i a (Load k x) h = (refl ▹ refl ▹ refl ▹ refl ▹ tt)
+  template_known n i a (Store x) h = tt
+  template_known n i a (Negate k) h = tt
+  template_known n i a (Compute op k) h = tt
+  template_known n i a (Random k) h = tt
+  template_known n i a (SendText bs) h = text_known n i a bs h
+  template_known n i a SendNumber h = tt
+  template_known n i a SendZone h = (refl ▹ tt)
+  template_known n i a SendNewline h = (refl ▹ refl ▹ tt)
+  template_known n i a (Input x) h = (refl ▹ refl ▹ refl ▹ refl ▹ refl ▹ tt)
+  template_known n i a Poll h = (refl ▹ tt)
+  template_known n i a Hold h = tt
+  template_known n i a (LeaveUnless rel) h = tt
+  template_known n i a Jump h = tt
+  template_known n i a Call h = tt
+  template_known n i a (JumpTo to) h = jump_known to (has_line ns to) refl
+  template_known n i a (CallTo to) h = call_known to (next_line ns n) (has_line ns to) refl (next_known n)
+  template_known n i a Return h = (refl ▹ refl ▹ tt)
+  template_known n i a End h = (refl ▹ tt)
 
-  rest_reaches : (seed n i a : ℕ) (is : List Instr) → LabelsAt labels a (rest_code ns seed n i is) → AllReachFrom labels a (rest_code ns seed n i is)
-  rest_reaches seed n i a [] h = (to_label (next_line ns n) (next_known n) ▹ tt)
-  rest_reaches seed n i a (c ∷ is) h =
-      let code = template ns seed n i c in let rest = rest_code ns seed n (i + 1) is in
+  single_known : (n i a : ℕ) (t : Bool) (c : Instr) → LabelsAt labels a (if t then constant n LINE ++ template ns n i c else template ns n i c)
+      → AllKnown labels (if t then constant n LINE ++ template ns n i c else template ns n i c)
+  single_known n i a true c h = (refl ▹ refl ▹ refl ▹ refl ▹ template_known n i (a + 2 + 3 + 2 + 3) c h.1.1.1.1)
+  single_known n i a false c h = template_known n i a c h
+
+  -- ── words and tests ──
+  low_known : (m : Mnemonic) (a : Source) → unknown_fault labels (low_of m a) ≡ None
+  low_known m (FixedWord w) = refl
+  low_known m (AtPlace p) = refl
+
+  high_known : (m : Mnemonic) (a : Source) → unknown_fault labels (high_of m a) ≡ None
+  high_known m (FixedWord w) = refl
+  high_known m (AtPlace p) = refl
+
+  brought_known : (a : Source) (to : ℕ) → AllKnown labels (brought a to)
+  brought_known a to = (low_known Lda a ▹ refl ▹ high_known Lda a ▹ refl ▹ tt)
+
+  joined_known : (m : Mnemonic) (a b : Source) (to : ℕ) → AllKnown labels (joined m a b to)
+  joined_known m a b to = (low_known Lda a ▹ low_known m b ▹ refl ▹ high_known Lda a ▹ high_known m b ▹ refl ▹ tt)
+
+  handed_known : (routine from : ℕ) (a b : Source) (to : ℕ) → AllKnown labels (handed routine from a b to)
+  handed_known routine from a b to =
+      known_append labels (brought a LEFT) (brought b RIGHT ++ (call routine ∷ copied from to)) (brought_known a LEFT)
+      (known_append labels (brought b RIGHT) (call routine ∷ copied from to) (brought_known b RIGHT) (refl ▹ refl ▹ refl ▹ refl ▹ refl ▹ tt))
+
+  calculated_known : (n : ℕ) (op : Operator) (a b : Source) (to : ℕ) → AllKnown labels (calculated n op a b to)
+  calculated_known n Add a b to = (refl ▹ joined_known Adc a b to)
+  calculated_known n Subtract a b to = (refl ▹ joined_known Sbc a b to)
+  calculated_known n Multiply a b to = handed_known MULTIPLY_AT RESULT a b to
+  calculated_known n Divide a b to = (refl ▹ refl ▹ refl ▹ refl ▹ handed_known DIVIDE_AT LEFT a b to)
+
+  converted_known : (n seed : ℕ) (what : Conversion) (a : Source) (to : ℕ) → AllKnown labels (converted n seed what a to)
+  converted_known n seed Negated a to = (refl ▹ joined_known Sbc (FixedWord 0) a to)
+  converted_known n seed Drawn a to = (refl ▹ refl ▹ refl ▹ refl ▹ handed_known RANDOM_AT RESULT a (FixedWord seed) to)
+
+  searched_known : (n : ℕ) (a : Source) → AllKnown labels (searched n a)
+  searched_known n a =
+      (refl ▹ refl ▹ refl ▹ refl ▹ known_append labels (brought a LEFT) (find ∷ []) (brought_known a LEFT) (to_label target.Find known.find ▹ tt))
+
+  used_known : (n : ℕ) (next : Target) (how : Usage) (a : Source) → Stands labels next → AllKnown labels (used n next how a)
+  used_known n next AsNumber a h = known_append labels (brought a LEFT) (call NUMBER_AT ∷ []) (brought_known a LEFT) (refl ▹ tt)
+  used_known n next AsLine a h = known_append labels (searched n a) jump_through (searched_known n a) (refl ▹ tt)
+  used_known n next AsSubroutine a h =
+      known_append labels (searched n a) (note next ++ jump_through) (searched_known n a) (low_label next h ▹ refl ▹ high_label next h ▹ refl ▹ refl ▹ refl ▹ tt)
+
+  ordered_known : (leaves : Mnemonic) (a b : Source) (skip next : Target) → Stands labels skip → Stands labels next → AllKnown labels (ordered leaves a b skip next)
+  ordered_known leaves a b skip next s t =
+      (low_known Lda a ▹ low_known Cmp b ▹ high_known Lda a ▹ high_known Sbc b ▹ to_label skip s ▹ refl ▹ refl ▹ to_label next t ▹ tt)
+
+  equal_known : (a b : Source) (next : Target) → Stands labels next → AllKnown labels (equal a b next)
+  equal_known a b next t = (low_known Lda a ▹ low_known Cmp b ▹ to_label next t ▹ high_known Lda a ▹ high_known Cmp b ▹ to_label next t ▹ tt)
+
+  unequal_known : (a b : Source) (stays next : Target) → Stands labels stays → Stands labels next → AllKnown labels (unequal a b stays next)
+  unequal_known a b stays next s t = (low_known Lda a ▹ low_known Cmp b ▹ to_label stays s ▹ high_known Lda a ▹ high_known Cmp b ▹ to_label next t ▹ refl ▹ tt)
+
+  -- the label of a test, where it has one, stands in its code
+  unequal_skip : (a : ℕ) (l r : Source) (skip next : Target) → LabelsAt labels a (unequal l r skip next) → Stands labels skip
+  unequal_skip a (FixedWord v) (FixedWord w) skip next h = ap is_some h.1.1.1.1.1.1.0
+  unequal_skip a (FixedWord v) (AtPlace q) skip next h = ap is_some h.1.1.1.1.1.1.0
+  unequal_skip a (AtPlace p) (FixedWord w) skip next h = ap is_some h.1.1.1.1.1.1.0
+  unequal_skip a (AtPlace p) (AtPlace q) skip next h = ap is_some h.1.1.1.1.1.1.0
+
+  ordered_skip : (a : ℕ) (leaves : Mnemonic) (l r : Source) (skip next : Target) → LabelsAt labels a (ordered leaves l r skip next) → Stands labels skip
+  ordered_skip a leaves (FixedWord v) (FixedWord w) skip next h = ap is_some h.1.1.1.1.1.1.0
+  ordered_skip a leaves (FixedWord v) (AtPlace q) skip next h = ap is_some h.1.1.1.1.1.1.0
+  ordered_skip a leaves (AtPlace p) (FixedWord w) skip next h = ap is_some h.1.1.1.1.1.1.0
+  ordered_skip a leaves (AtPlace p) (AtPlace q) skip next h = ap is_some h.1.1.1.1.1.1.0
+
+  tested_known : (at : ℕ) (rel : Rel) (a b : Source) (skip next : Target) → Stands labels next → LabelsAt labels at (tested rel a b skip next) → AllKnown labels (tested rel a b skip next)
+  tested_known at Eq a b skip next t h = equal_known a b next t
+  tested_known at Ne a b skip next t h = unequal_known a b skip next (unequal_skip at a b skip next h) t
+  tested_known at Lt a b skip next t h = ordered_known Bpl a b skip next (ordered_skip at Bpl a b skip next h) t
+  tested_known at Ge a b skip next t h = ordered_known Bmi a b skip next (ordered_skip at Bmi a b skip next h) t
+  tested_known at Gt a b skip next t h = ordered_known Bpl b a skip next (ordered_skip at Bpl b a skip next h) t
+  tested_known at Le a b skip next t h = ordered_known Bmi b a skip next (ordered_skip at Bmi b a skip next h) t
+
+  gone_known : (n at : ℕ) (rel : Rel) (a b : Source) (skip next : Target) (t : Bool) (to : ℕ) → has_line ns to ≡ t → Stands labels next
+      → LabelsAt labels at (gone n rel a b skip next t to) → AllKnown labels (gone n rel a b skip next t to)
+  gone_known n at rel a b skip next true to e t h = tested_known at (denied rel) a b skip (target.Line to) (known.lines to e) h
+  gone_known n at rel a b skip next false to e t h =
+      let code = tested rel a b skip next in
+      known_append labels code (faulted n 1) (tested_known at rel a b skip next t (labels_split labels at code (faulted n 1) h).0) (refl ▹ refl ▹ refl ▹ refl ▹ refl ▹ refl ▹ tt)
+
+  -- ── groups ──
+  group_known : (seed n i at : ℕ) (g : Group) → LabelsAt labels at (group_template ns seed n i g) → AllKnown labels (group_template ns seed n i g)
+  group_known seed n i at (Calculate op a b d) h = calculated_known n op (source_of (slot_of d) a) (source_of (slot_of d + 1) b) (destination_at d)
+  group_known seed n i at (Convert what a d) h = converted_known n seed what (source_of (slot_of d) a) (destination_at d)
+  group_known seed n i at (Move a home) h = brought_known (source_of 0 a) (home_at home)
+  group_known seed n i at (Use how a) h = used_known n (next_line ns n) how (source_of 0 a) (next_known n)
+  group_known seed n i at (Test rel a b) h = tested_known at rel (tested_source a) (source_of 0 b) (target.Inside inner.Skip n i) (next_line ns n) (next_known n) h
+  group_known seed n i at (TestGo rel a b to) h =
+      gone_known n at rel (tested_source a) (source_of 0 b) (target.Inside inner.Skip n i) (next_line ns n) (has_line ns to) to refl (next_known n) h
+  group_known seed n i at (Single c) h = single_known n i at (may_fault ns c) c h
+
+  rest_known : (seed n i a : ℕ) (gs : List Group) → LabelsAt labels a (rest_code ns seed n i gs) → AllKnown labels (rest_code ns seed n i gs)
+  rest_known seed n i a [] h = tt
+  rest_known seed n i a (g ∷ gs) h =
+      let code = group_template ns seed n i g in let rest = rest_code ns seed n (i + 1) gs in
       let s = labels_split labels a code rest h in
-      reach_append labels a code rest (template_reaches seed n i a c s.0) (rest_reaches seed n (i + 1) (a + size code) is s.1)
+      known_append labels code rest (group_known seed n i a g s.0) (rest_known seed n (i + 1) (a + size code) gs s.1)
 
-  lines_reach : (seed a : ℕ) (lines : SlotCode) → LabelsAt labels a (lines_code ns seed lines) → AllReachFrom labels a (lines_code ns seed lines)
-  lines_reach seed a [] h = tt
-  lines_reach seed a (line ∷ lines) h =
+  polled_known : (n a : ℕ) → LabelsAt labels a (polled n) → AllKnown labels (polled n)
+  polled_known n a h = (refl ▹ refl ▹ to_label (target.Inside inner.Skip n 0) (ap is_some h.1.1.1.1.1.1.1.1.1.0) ▹ refl ▹ refl ▹ refl ▹ refl ▹ refl ▹ refl ▹ refl ▹ tt)
+
+  list_known : (seed n a : ℕ) (is : List Instr) → LabelsAt labels a (list_code ns seed n is) → AllKnown labels (list_code ns seed n is)
+  list_known seed n a is =
+      by_poll (λ es. LabelsAt labels a es → AllKnown labels es) ns seed n is
+      (λ js e h. let s = labels_split labels a (polled n) (rest_code ns seed n 1 (select js)) h in
+      known_append labels (polled n) (rest_code ns seed n 1 (select js)) (polled_known n a s.0) (rest_known seed n 1 (a + size (polled n)) (select js) s.1))
+      (rest_known seed n 1 a (select is))
+
+  lines_known : (seed a : ℕ) (lines : SlotCode) → LabelsAt labels a (lines_code ns seed lines) → AllKnown labels (lines_code ns seed lines)
+  lines_known seed a [] h = tt
+  lines_known seed a (line ∷ lines) h =
       let code = line_code ns seed line in let rest = lines_code ns seed lines in
       let s = labels_split labels a code rest h in
-      reach_append labels a code rest (refl ▹ refl ▹ refl ▹ refl ▹ refl ▹ rest_reaches seed line.number 0 (a + 0 + 2 + 3 + 2 + 3) line.content s.0.1.1.1.1.1) (lines_reach seed (a + size code) lines s.1)
+      known_append labels code rest (refl ▹ list_known seed line.number (a + 0) line.content s.0.1) (lines_known seed (a + size code) lines s.1)
 
-  rows_reach : (a : ℕ) (ms : List ℕ) → LinesStand labels ms → AllReachFrom labels a (rows_code ms)
-  rows_reach a [] h = tt
-  rows_reach a (m ∷ ms) h =
-      (refl ▹ has_value (address_in labels (label_of (target.Line m))) (λ v. None) (h m (first_line m ms)) (λ v. refl) ▹ rows_reach (a + 2 + 2) ms (λ n e. h n (or_right (nat_eq m n) (has_line ms n) e)))
+  rows_known : (ms : List ℕ) → LinesStand labels ms → AllKnown labels (rows_code ms)
+  rows_known [] h = tt
+  rows_known (m ∷ ms) h =
+      (refl ▹ to_label (target.Line m) (h m (first_line m ms)) ▹ rows_known ms (λ n e. h n (or_right (nat_eq m n) (has_line ms n) e)))
 
 -- ── a program ──
 lines_stand : (labels : List (Name × ℕ)) (ns : List ℕ) (seed a : ℕ) (lines : SlotCode) → LabelsAt labels a (lines_code ns seed lines) → LinesStand labels (numbers lines)
@@ -198,9 +271,9 @@ lines_stand labels ns seed a (line ∷ lines) h =
     by n true e k here rest = subst (λ m. Stands labels (target.Line m)) (let same : line.number ≡ n = grind (arith, nat_tests, e) in same) here
     by n false e k here rest = rest k
 
--- each operand has its value, and each branch reaches
-pub program_reaches : (labels : List (Name × ℕ)) (a seed : ℕ) (code : SlotCode) → LabelsAt labels a (program_code seed code) → AllReachFrom labels a (program_code seed code)
-program_reaches labels a seed code h =
+-- each label that is named is known
+pub program_known : (labels : List (Name × ℕ)) (a seed : ℕ) (code : SlotCode) → LabelsAt labels a (program_code seed code) → AllKnown labels (program_code seed code)
+program_known labels a seed code h =
     let ns = numbers code in
     let lines = lines_code ns seed code in let past = past_code ns in let search = find_code ns in let table = table_code ns in
     let s = labels_split labels a block_code (lines ++ (past ++ (search ++ table))) h in
@@ -210,10 +283,8 @@ program_reaches labels a seed code h =
     let u = labels_split labels c past (search ++ table) t.1 in
     let d = c + size past in
     let v = labels_split labels d search table u.1 in
-    let e = d + size search in
     let known : Known labels ns = record { lines = lines_stand labels ns seed b code t.0; past = ap is_some u.0.0; find = ap is_some v.0.0; table = ap is_some v.1.0 } in
-    reach_append labels a block_code (lines ++ (past ++ (search ++ table))) (refl ▹ refl ▹ tt)
-    (reach_append labels b lines (past ++ (search ++ table)) (lines_reach labels ns known seed b code t.0)
-    (reach_append labels c past (search ++ table) (refl ▹ refl ▹ refl ▹ refl ▹ refl ▹ refl ▹ refl ▹ tt)
-    (reach_append labels d search table (refl ▹ low_of labels ns known target.Table known.table ▹ refl ▹ high_of labels ns known target.Table known.table ▹ refl ▹ refl ▹ refl ▹ refl ▹ refl ▹ refl ▹ tt)
-    (refl ▹ rows_reach labels ns known (e + 0) ns known.lines))))
+    (refl ▹ refl ▹ known_append labels lines (past ++ (search ++ table)) (lines_known labels ns known seed b code t.0)
+    (refl ▹ refl ▹ refl ▹ refl ▹ refl ▹ refl ▹ refl ▹
+    refl ▹ low_label labels ns known target.Table known.table ▹ refl ▹ high_label labels ns known target.Table known.table ▹ refl ▹ refl ▹ refl ▹ refl ▹ refl ▹ refl ▹
+    refl ▹ rows_known labels ns known ns known.lines))

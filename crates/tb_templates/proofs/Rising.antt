@@ -21,7 +21,7 @@ word_value l p = 4096 * digit_value (slice_index l p) + 256 * digit_value (slice
 abbrev pub key : List ℕ → ℕ
 key l = ((slice_index l 0 * 65536 + word_value l 1) * 65536 + word_value l 5) * 256 + slice_index l 9
 
--- where the labels of instruction i of line n lie
+-- where the labels of group i of line n lie
 abbrev pub base : ℕ → ℕ → ℕ
 base n i = ((76 * 65536 + n) * 65536 + i) * 256
 
@@ -63,13 +63,6 @@ rising_lower low low' high (instr n m o ∷ es) l h = rising_lower low low' high
 rising_lower low low' high (label n ∷ es) l h = (omega (arith, l, h.0), h.1)
 rising_lower low low' high (bytes bs ∷ es) l h = rising_lower low low' high es l h
 rising_lower low low' high (word o ∷ es) l h = rising_lower low low' high es l h
-
-pub rising_higher : (low high high' : ℕ) (es : List Entry) → high ≤ high' → Rising low es high → Rising low es high'
-rising_higher low high high' [] l h = omega (arith, l, h)
-rising_higher low high high' (instr n m o ∷ es) l h = rising_higher low high high' es l h
-rising_higher low high high' (label n ∷ es) l h = (h.0, rising_higher (key_of n + 1) high high' es l h.1)
-rising_higher low high high' (bytes bs ∷ es) l h = rising_higher low high high' es l h
-rising_higher low high high' (word o ∷ es) l h = rising_higher low high high' es l h
 
 pub rising_append : (low middle high : ℕ) (xs ys : List Entry) → Rising low xs middle → Rising middle ys high → Rising low (xs ++ ys) high
 rising_append low middle high [] ys h k = rising_lower low middle high ys h k

@@ -2,7 +2,7 @@
 use Rattle.std.specs.Prelude.{ℕ, ◌+◌, ◌/◌, ◌%◌, List, [], ◌∷◌, nat_lt, if◌then◌else◌, codes}
 use Rattle.tb_asm.specs.declared.names.Name.{Name}
 use Rattle.tb_templates.specs.declared.labels.Inner.{Inner}
-use Rattle.tb_templates.specs.declared.labels.Inner.TheVariants.{Text, Behind, Skip, Here}
+use Rattle.tb_templates.specs.declared.labels.Inner.TheVariants.{Text, Behind, Skip}
 use Rattle.tb_templates.specs.declared.labels.Target.{Target}
 use Rattle.tb_templates.specs.declared.labels.Target.TheVariants.{Line, Inside, Past, Find, Table}
 
@@ -23,10 +23,10 @@ abbrev pub letter_of : Inner → ℕ
 letter_of Text = 84
 letter_of Behind = 85
 letter_of Skip = 83
-letter_of Here = 84
 
--- A line is L and its number; a place in the code of its instruction i has the index and a letter behind. Fault 7, the
--- search in the line table and the table itself are words. In a program's code the labels rise in the order of letters.
+-- A line is L and its number; a place in the code of its group i has the index, from 1 on, and a letter behind, and one
+-- where an answer is taken the index 0. Fault 7, the search in the line table and the table itself are words. In a
+-- program's code the labels rise in the order of letters.
 abbrev pub label_of : Target → Name
 label_of (Line n) = named (76 ∷ four_digits n [])
 label_of (Inside inner n i) = named (76 ∷ four_digits n (four_digits i (letter_of inner ∷ [])))

@@ -5,30 +5,38 @@ use Rattle.tb_asm.specs.declared.items.Operand.TheVariants as operand
 use Rattle.tb_asm.specs.Layout.{Entry, bytes, word}
 use Rattle.tb_syntax.specs.Source.{Numbered, numbers}
 use Rattle.tb_lower.specs.Control.{highest}
-use Rattle.tb_lower.specs.Slots.{Instr, SlotCode}
+use Rattle.tb_lower.specs.Slots.{Instr, Poll, SlotCode}
 use Rattle.tb_lower.specs.Ranges.{AreInRange}
+use Rattle.tb_selection.specs.Groups.{Group}
+use Rattle.tb_selection.specs.Select.{select}
 use Rattle.tb_runtime16.specs.Block.{block_bytes}
 use Rattle.tb_runtime16.specs.Places.{PROLOGUE_AT, LINES_AT, LINE, TABLE, COUNT, SEARCH_AT}
 use Rattle.tb_templates.specs.declared.labels.Target.{Target}
 use Rattle.tb_templates.specs.declared.labels.Target.TheVariants.{Line, Past, Find, Table}
 use Rattle.tb_templates.specs.Labels.{label_of}
-use Rattle.tb_templates.specs.Templates.{at, jump, here, constant, address, fault, next_line, template}
+use Rattle.tb_templates.specs.Templates.{at, here, constant, address, fault, next_line}
+use Rattle.tb_templates.specs.GroupTemplates.{group_template, polled}
 
--- the rest of a line's list from instruction i on, and the jump to the next line
-abbrev pub rest_code : List ℕ → ℕ → ℕ → ℕ → List Instr → List Entry
-rest_code ns seed n i [] = jump (next_line ns n) ∷ []
-rest_code ns seed n i (instruction ∷ is) = template ns seed n i instruction ++ rest_code ns seed n (i + 1) is
+-- the groups of a line from group i on, one behind the other
+abbrev pub rest_code : List ℕ → ℕ → ℕ → ℕ → List Group → List Entry
+rest_code ns seed n i [] = []
+rest_code ns seed n i (g ∷ gs) = group_template ns seed n i g ++ rest_code ns seed n (i + 1) gs
 
--- a line begins by noting its number
+-- a line's list: it takes an answer in line and then does its groups
+abbrev pub list_code : List ℕ → ℕ → ℕ → List Instr → List Entry
+list_code ns seed n (Poll ∷ is) = polled n ++ rest_code ns seed n 1 (select is)
+list_code ns seed n is = rest_code ns seed n 1 (select is)
+
+-- a line at its label; behind its list it falls into what is behind it
 abbrev pub line_code : List ℕ → ℕ → Numbered (List Instr) → List Entry
-line_code ns seed line = here (Line line.number) ∷ (constant line.number LINE ++ rest_code ns seed line.number 0 line.content)
+line_code ns seed line = here (Line line.number) ∷ list_code ns seed line.number line.content
 
 -- the code of lines, one behind the other
 abbrev pub lines_code : List ℕ → ℕ → SlotCode → List Entry
 lines_code ns seed [] = []
 lines_code ns seed (line ∷ lines) = line_code ns seed line ++ lines_code ns seed lines
 
--- fault 7, at the highest line
+-- fault 7, at the highest line: the last line falls into it
 abbrev pub past_code : List ℕ → List Entry
 past_code ns = here Past ∷ (constant (highest ns) LINE ++ fault 7)
 

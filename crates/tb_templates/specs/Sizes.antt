@@ -1,30 +1,30 @@
--- How many bytes the code of an instruction takes at most, and that of a program.
+-- How many bytes the code of a group takes at most, by its instructions, and that of a program.
 use Rattle.std.specs.Prelude.{ℕ, ◌+◌, Bool, true, false, List, [], ◌∷◌, length}
 use Rattle.tb_syntax.specs.Source.{Item, Text, Value, Zone, Command, Print, If, Program}
 use Rattle.tb_lower.specs.Cost.{item_cost}
 use Rattle.tb_lower.specs.Slots.{Instr, Put, Load, Store, Negate, Compute, Random, SendText, SendNumber, SendZone, SendNewline, Input, Poll, Hold, LeaveUnless, Jump, Call, JumpTo, CallTo, Return, End, SlotCode}
 
--- the bytes of one instruction
+-- what an instruction adds at most to the code of its group, whatever the group; of a poll, that at a line's beginning
 abbrev pub room : Instr → ℕ
 room (Put k w) = 10
 room (Load k x) = 12
 room (Store x) = 12
 room (Negate k) = 17
-room (Compute op k) = 39
-room (Random k) = 37
+room (Compute op k) = 49
+room (Random k) = 47
 room (SendText bs) = 19 + length bs
 room SendNumber = 15
 room SendZone = 3
 room SendNewline = 5
-room (Input x) = 15
-room Poll = 3
+room (Input x) = 25
+room Poll = 25
 room Hold = 12
-room (LeaveUnless rel) = 35
-room Jump = 18
-room Call = 31
-room (JumpTo target) = 5
-room (CallTo target) = 16
-room Return = 6
+room (LeaveUnless rel) = 24
+room Jump = 28
+room Call = 41
+room (JumpTo target) = 15
+room (CallTo target) = 26
+room Return = 16
 room End = 1
 
 -- of a list
@@ -32,10 +32,10 @@ abbrev pub list_room : List Instr → ℕ
 list_room [] = 0
 list_room (i ∷ is) = room i + list_room is
 
--- of a program's lines with their entries in the line table: a line notes its number and ends by a jump
+-- of a program's lines with their entries in the line table, 4 bytes each
 abbrev pub lines_room : SlotCode → ℕ
 lines_room [] = 0
-lines_room (line ∷ lines) = 17 + list_room line.content + lines_room lines
+lines_room (line ∷ lines) = 4 + list_room line.content + lines_room lines
 
 -- of fault 7 and the search
 abbrev pub rest_room : ℕ

@@ -6,17 +6,15 @@ ghost use Rattle.tb_templates.specs.Labels.{label_of, letter_of, digit_of, four_
 use arrayvec::ArrayVec;
 use tb_asm::Name;
 
-/// A place inside the code of one slot instruction.
+/// A place inside the code of a group.
 #[derive(Clone, Copy, Debug, PartialEq, Eq, Drop)]
 pub enum Inner {
     /// A text.
     Text,
     /// What is behind a text.
     Behind,
-    /// The jump out of a line.
+    /// What a branch skips to.
     Skip,
-    /// What is behind such a jump.
-    Here,
 }
 
 /// A place that code goes to or speaks of.
@@ -24,7 +22,8 @@ pub enum Inner {
 pub enum Target {
     /// The line of this number.
     Line(u16),
-    /// A place in the code of an instruction: the line's number and the instruction's index.
+    /// A place in the code of a group: the line's number and the group's index, from 1 on, or 0 where the line takes an
+    /// answer.
     Inside(Inner, u16, u16),
     /// Fault 7, behind the last line.
     Past,
@@ -40,7 +39,7 @@ pub fn label(target: Target) -> Name
 {
     match target {
         Target::Line(line) => line_label(line),
-        Target::Inside(inner, line, instruction) => inner_label(inner, line, instruction),
+        Target::Inside(inner, line, group) => inner_label(inner, line, group),
         Target::Past => word_label(b'P', b'A', b'S', b'T'),
         Target::Find => word_label(b'S', b'E', b'E', b'K'),
         Target::Table => word_label(b'T', b'R', b'O', b'W'),
@@ -80,13 +79,13 @@ fn line_label(line: u16) -> Name
     Name { letters }
 }
 
-fn inner_label(inner: Inner, line: u16, instruction: u16) -> Name
-    ensures { result ≡ named (76 ∷ four_digits line (four_digits instruction (letter_of inner ∷ []))) }
+fn inner_label(inner: Inner, line: u16, group: u16) -> Name
+    ensures { result ≡ named (76 ∷ four_digits line (four_digits group (letter_of inner ∷ []))) }
 {
     let mut letters = ArrayVec::new();
     letters.push(b'L');
     push_digits(&mut letters, line);
-    push_digits(&mut letters, instruction);
+    push_digits(&mut letters, group);
     letters.push(letter(inner));
     Name { letters }
 }
@@ -97,7 +96,7 @@ fn letter(inner: Inner) -> u8
 {
     match inner {
         Inner::Skip => b'S',
-        Inner::Text | Inner::Here => b'T',
+        Inner::Text => b'T',
         Inner::Behind => b'U',
     }
 }

@@ -1,9 +1,11 @@
-//! The code of slot instructions and of whole programs, as items of the assembler.
+//! The code of groups of slot instructions and of whole programs, as items of the assembler.
 #![tactic(auto)]
 
+mod groups;
 mod labels;
 mod pieces;
 mod program;
+mod sources;
 mod templates;
 
 pub use labels::{Inner, Target, label};

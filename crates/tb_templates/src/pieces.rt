@@ -3,13 +3,12 @@ ghost use Rattle.std.specs.Prelude.{◌≡◌, ◌+◌, ◌<◌, ◌≤◌, OnOk
 ghost use Rattle.tb_asm.specs.Layout.{entry_of};
 ghost use Rattle.tb_templates.specs.Templates as templates;
 ghost use Rattle.tb_runtime16.specs.Places as places;
-ghost use Rattle.tb_opcodes.specs.declared.Mnemonic.TheVariants.{Lda, Sta};
 
 use crate::labels::{Target, label};
 use std::alloc::AllocError;
 use tb_asm::{Item, Operand};
 use tb_opcodes::{Mnemonic, Mode};
-use tb_runtime16::{LEFT, RESULT, RIGHT, Routine, SCRATCH, entry};
+use tb_runtime16::{LEFT, RESULT, Routine, entry};
 
 /// One more item.
 pub fn put(items: &mut Vec<Item>, item: Item) -> Result<(), AllocError>
@@ -122,49 +121,26 @@ pub fn put_address(items: &mut Vec<Item>, of: Target, to: u16) -> Result<(), All
     put_at(items, Mnemonic::Sta, to + 1)
 }
 
-/// Adds the word behind to a word.
-pub fn put_added(items: &mut Vec<Item>, to: u16) -> Result<(), AllocError>
-    requires { to < 65533 }
-    ensures { OnOk result (map entry_of items.new.items ≡ map entry_of items.old.items ++ templates.added to) }
+/// Notes the next line on the return list.
+pub fn put_note(items: &mut Vec<Item>, next: Target) -> Result<(), AllocError>
+    ensures { OnOk result (map entry_of items.new.items ≡ map entry_of items.old.items ++ templates.note next) }
 {
-    put_alone(items, Mnemonic::Clc)?;
-    put_sum(items, Mnemonic::Adc, to)
+    put_address(items, next, LEFT)?;
+    put_call(items, Routine::Push)
 }
 
-/// Takes the word behind away from a word.
-pub fn put_subtracted(items: &mut Vec<Item>, to: u16) -> Result<(), AllocError>
-    requires { to < 65533 }
-    ensures { OnOk result (map entry_of items.new.items ≡ map entry_of items.old.items ++ templates.subtracted to) }
+/// Calls the search in the line table.
+pub fn put_find(items: &mut Vec<Item>) -> Result<(), AllocError>
+    ensures { OnOk result (map entry_of items.new.items ≡ map entry_of items.old.items ++ templates.find ∷ []) }
 {
-    put_alone(items, Mnemonic::Sec)?;
-    put_sum(items, Mnemonic::Sbc, to)
-}
-
-// The two bytes of a sum or a difference.
-fn put_sum(items: &mut Vec<Item>, mnemonic: Mnemonic, to: u16) -> Result<(), AllocError>
-    requires { to < 65533 }
-    ensures { OnOk result (map entry_of items.new.items ≡ map entry_of items.old.items ++ templates.at Lda to ∷ templates.at mnemonic (to + 2) ∷ templates.at Sta to ∷ templates.at Lda (to + 1) ∷ templates.at mnemonic (to + 3) ∷ templates.at Sta (to + 1) ∷ []) }
-{
-    put_at(items, Mnemonic::Lda, to)?;
-    put_at(items, mnemonic, to + 2)?;
-    put_at(items, Mnemonic::Sta, to)?;
-    put_at(items, Mnemonic::Lda, to + 1)?;
-    put_at(items, mnemonic, to + 3)?;
-    put_at(items, Mnemonic::Sta, to + 1)
-}
-
-/// Turns a word's sign.
-pub fn put_opposite(items: &mut Vec<Item>, to: u16) -> Result<(), AllocError>
-    requires { to < 65535 }
-    ensures { OnOk result (map entry_of items.new.items ≡ map entry_of items.old.items ++ templates.opposite to) }
-{
-    put_alone(items, Mnemonic::Sec)?;
-    put_const(items, Mnemonic::Lda, 0)?;
-    put_at(items, Mnemonic::Sbc, to)?;
-    put_at(items, Mnemonic::Sta, to)?;
-    put_const(items, Mnemonic::Lda, 0)?;
-    put_at(items, Mnemonic::Sbc, to + 1)?;
-    put_at(items, Mnemonic::Sta, to + 1)
+    put(
+        items,
+        Item::Instr(
+            Mnemonic::Jsr,
+            Mode::Absolute,
+            Operand::Label(label(Target::Find)),
+        ),
+    )
 }
 
 /// Goes on where a note or the search said.
@@ -183,34 +159,4 @@ pub fn put_fault(items: &mut Vec<Item>, number: u8) -> Result<(), AllocError>
 {
     put_const(items, Mnemonic::Lda, number)?;
     put_at(items, Mnemonic::Jmp, entry(Routine::Fault))
-}
-
-/// The order of two signed words: C is clear behind it where the left one is below the right one.
-pub fn put_ordered(items: &mut Vec<Item>, left: u16, right: u16) -> Result<(), AllocError>
-    requires { (left < 65535) × (right < 65535) }
-    ensures { OnOk result (map entry_of items.new.items ≡ map entry_of items.old.items ++ templates.ordered left right) }
-{
-    put_raised(items, right + 1, SCRATCH)?;
-    put_raised(items, left + 1, SCRATCH + 1)?;
-    put_compared(items, left, right)
-}
-
-// The comparison of two words with such high bytes.
-fn put_compared(items: &mut Vec<Item>, left: u16, right: u16) -> Result<(), AllocError>
-    ensures { OnOk result (map entry_of items.new.items ≡ map entry_of items.old.items ++ templates.compared left right) }
-{
-    put_at(items, Mnemonic::Lda, left)?;
-    put_at(items, Mnemonic::Cmp, right)?;
-    put_at(items, Mnemonic::Lda, SCRATCH + 1)?;
-    put_at(items, Mnemonic::Sbc, SCRATCH)
-}
-
-// Adds 128 to a high byte, into another place.
-fn put_raised(items: &mut Vec<Item>, from: u16, to: u16) -> Result<(), AllocError>
-    ensures { OnOk result (map entry_of items.new.items ≡ map entry_of items.old.items ++ templates.raised from to) }
-{
-    put_at(items, Mnemonic::Lda, from)?;
-    put_alone(items, Mnemonic::Clc)?;
-    put_const(items, Mnemonic::Adc, 128)?;
-    put_at(items, Mnemonic::Sta, to)
 }

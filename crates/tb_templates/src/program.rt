@@ -10,18 +10,21 @@ ghost use Rattle.tb_syntax.specs.Source.{numbers};
 ghost use Rattle.tb_lower.specs.Control.{highest};
 ghost use Rattle.tb_lower.specs.Ranges.{AreInRange};
 ghost use Rattle.tb_lower.specs.Shown.{instr_of, slot_line_of, code_of};
+ghost use Rattle.tb_selection.specs.Select.{select};
 ghost use Rattle.tb_templates.specs.Program as program;
 ghost use Rattle.tb_templates.specs.Program.{AreCodable, AreInTurn, RisingFrom, first_of, program_code};
 ghost use Rattle.tb_templates.specs.Templates as templates;
 
+use crate::groups::{put_group, put_polled};
 use crate::labels::{Target, label};
-use crate::pieces::{put, put_address, put_at, put_constant, put_fault, put_here, put_jump};
-use crate::templates::{Spot, put_instruction};
+use crate::pieces::{put, put_address, put_at, put_constant, put_fault, put_here};
+use crate::templates::Spot;
 use std::alloc::{AllocError, Global};
 use tb_asm::{Item, Operand};
 use tb_lower::{SlotCode, SlotInstr, SlotLine};
 use tb_opcodes::Mnemonic;
 use tb_runtime16::{BLOCK_AT, COUNT, LINE, LINES_AT, Routine, TABLE, block, entry};
+use tb_selection::select;
 
 // About the most items that lines have in the mean; only the speed hangs on it.
 const ITEMS_IN_A_LINE: usize = 32;
@@ -79,6 +82,7 @@ fn put_lines(
     seed: u16,
     lines: &[SlotLine],
 ) -> Result<(), AllocError>
+    requires rising { RisingFrom 0 numbers.now }
     requires lists { AreCodable (code_of lines.now) }
     requires in_turn { AreInTurn numbers.now (code_of lines.now) }
     ensures { OnOk result (map entry_of items.new.items ≡ map entry_of items.old.items ++ program.lines_code numbers.now seed (code_of lines.now)) }
@@ -101,7 +105,7 @@ fn first_of(lines: &[SlotLine]) -> Target
     }
 }
 
-// A line: it notes its number, does its list and goes on to the next line.
+// A line at its label.
 fn put_line(
     items: &mut Vec<Item>,
     numbers: &[u16],
@@ -109,17 +113,17 @@ fn put_line(
     line: &SlotLine,
     next: Target,
 ) -> Result<(), AllocError>
+    requires rising { RisingFrom 0 numbers.now }
     requires lists { AreInRange 256 (map instr_of line.now.code.items) × (length line.now.code.items < 65536) }
     requires next { next ≡ templates.next_line numbers.now line.now.number }
     ensures { OnOk result (map entry_of items.new.items ≡ map entry_of items.old.items ++ program.line_code numbers.now seed (slot_line_of line.now)) }
 {
     put_here(items, Target::Line(line.number))?;
-    put_constant(items, line.number, LINE)?;
     put_list(items, numbers, seed, line.number, next, &line.code)?;
     Ok(())
 }
 
-// A line's list, and the jump to the next line.
+// A line's list: it takes an answer in line and then does its groups.
 fn put_list(
     items: &mut Vec<Item>,
     numbers: &[u16],
@@ -128,22 +132,41 @@ fn put_list(
     next: Target,
     list: &[SlotInstr],
 ) -> Result<(), AllocError>
+    requires rising { RisingFrom 0 numbers.now }
     requires list { AreInRange 256 (map instr_of list.now) × (length list.now < 65536) }
     requires next { next ≡ templates.next_line numbers.now line }
-    ensures { OnOk result (map entry_of items.new.items ≡ map entry_of items.old.items ++ program.rest_code numbers.now seed line 0 (map instr_of list.now)) }
+    ensures { OnOk result (map entry_of items.new.items ≡ map entry_of items.old.items ++ program.list_code numbers.now seed line (map instr_of list.now)) }
 {
-    let mut index = 0;
-    for instruction in list {
-        put_instruction(
-            items,
-            numbers,
-            seed,
-            Spot { line, index, next },
-            instruction,
-        )?;
-        index += 1;
+    match list {
+        [SlotInstr::Poll, behind @ ..] => {
+            put_polled(items, line)?;
+            put_groups(items, numbers, seed, line, next, behind)
+        }
+        _ => put_groups(items, numbers, seed, line, next, list),
     }
-    put_jump(items, next)
+}
+
+// The groups of a list.
+fn put_groups(
+    items: &mut Vec<Item>,
+    numbers: &[u16],
+    seed: u16,
+    line: u16,
+    next: Target,
+    list: &[SlotInstr],
+) -> Result<(), AllocError>
+    requires rising { RisingFrom 0 numbers.now }
+    requires list { AreInRange 256 (map instr_of list.now) × (length list.now < 65536) }
+    requires next { next ≡ templates.next_line numbers.now line }
+    ensures { OnOk result (map entry_of items.new.items ≡ map entry_of items.old.items ++ program.rest_code numbers.now seed line 1 (select (map instr_of list.now))) }
+{
+    let groups = select(*items.allocator(), list)?;
+    let mut index = 0;
+    for group in &groups {
+        index += 1;
+        put_group(items, numbers, seed, Spot { line, index, next }, *group)?;
+    }
+    Ok(())
 }
 
 // Fault 7, at the highest line.

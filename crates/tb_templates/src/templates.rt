@@ -1,34 +1,32 @@
-//! The code of each slot instruction.
+//! The code of slot instructions that stand alone.
 ghost use Rattle.std.specs.Prelude.{◌≡◌, ◌+◌, ◌<◌, ◌≤◌, OnOk, [], ◌∷◌, ◌++◌, map, length};
 ghost use Rattle.tb_asm.specs.Layout as layout;
-ghost use Rattle.tb_words.specs.declared.Rel.TheVariants.{Eq, Ne};
-ghost use Rattle.tb_templates.specs.declared.labels.Target.{Target};
-ghost use Rattle.tb_templates.specs.declared.labels.Target.TheVariants as target;
-ghost use Rattle.tb_templates.specs.declared.labels.Inner.TheVariants as inner;
 ghost use Rattle.tb_asm.specs.Layout.{entry_of};
 ghost use Rattle.tb_lower.specs.Control.{has_line};
 ghost use Rattle.tb_lower.specs.Ranges.{IsInRange};
 ghost use Rattle.tb_lower.specs.Shown.{instr_of};
+ghost use Rattle.tb_templates.specs.declared.labels.Inner.TheVariants as inner;
+ghost use Rattle.tb_templates.specs.declared.labels.Target.TheVariants as target;
 ghost use Rattle.tb_templates.specs.Templates as templates;
-ghost use Rattle.tb_templates.specs.Templates.{var_at, slot_at, template};
-ghost use Rattle.tb_words.specs.Letters.{place};
-ghost use Rattle.tb_runtime16.specs.Places as places;
+ghost use Rattle.tb_templates.specs.Templates.{template};
+ghost use Rattle.tb_templates.specs.Program.{RisingFrom};
 
 use crate::labels::{Inner, Target, label};
 use crate::pieces::{
-    put, put_added, put_address, put_alone, put_at, put_branch, put_call, put_const, put_constant,
-    put_copied, put_fault, put_here, put_jump, put_jump_through, put_opposite, put_ordered,
-    put_subtracted,
+    put, put_alone, put_at, put_call, put_const, put_constant, put_copied, put_fault, put_here,
+    put_jump, put_jump_through, put_note,
 };
+use crate::sources::{slot_address, variable_at};
 use std::alloc::AllocError;
 use tb_asm::{Item, Operand};
 use tb_lower::SlotInstr;
 use tb_opcodes::{Mnemonic, Mode};
-use tb_runtime16::{HELD, LEFT, LENGTH, POINTER, RESULT, RIGHT, Routine, SEND_AT, SLOTS, VARS};
-use tb_syntax::Operator;
-use tb_words::{Letter, Rel};
+use tb_runtime16::{LENGTH, POINTER, RESULT, Routine, SEND_AT};
 
-/// Where an instruction stands: its line, its index in the line's list, and the place of the line behind.
+/// The fault of a line that is not there.
+pub const NO_LINE: u8 = 1;
+
+/// Where a group stands: its line, its index in the line, from 1 on, and the place of the line behind.
 #[derive(Clone, Copy, Debug, Drop)]
 pub struct Spot {
     pub line: u16,
@@ -36,45 +34,13 @@ pub struct Spot {
     pub next: Target,
 }
 
-// Where a variable stands.
-fn variable_at(letter: Letter) -> u16
-    ensures at { result ≡ var_at (place letter) }
-    ensures below { result < 65000 }
-{
-    VARS + 2 * letter.index() as u16
-}
-
-// Where a slot stands.
-fn slot_address(slot: u8) -> u16
-    requires { slot < 16 }
-    ensures at { result ≡ slot_at slot }
-    ensures below { result < 65000 }
-{
-    SLOTS + 2 * u16::from(slot)
-}
-
-// A routine on two words one behind the other, its result in the first.
-fn put_on_two(items: &mut Vec<Item>, first: u16, routine: Routine) -> Result<(), AllocError>
-    requires { first < 65000 }
-    ensures { OnOk result (map entry_of items.new.items ≡ map entry_of items.old.items ++ templates.on_two first (places.entry_of routine)) }
-{
-    put_copied(items, first, LEFT)?;
-    put_copied(items, first + 2, RIGHT)?;
-    put_call(items, routine)?;
-    put_copied(items, RESULT, first)?;
-    Ok(())
-}
-
-// RND on a word, its bound.
-fn put_drawn(items: &mut Vec<Item>, first: u16, seed: u16) -> Result<(), AllocError>
-    requires { first < 65000 }
-    ensures { OnOk result (map entry_of items.new.items ≡ map entry_of items.old.items ++ templates.drawn first seed) }
-{
-    put_copied(items, first, LEFT)?;
-    put_constant(items, seed, RIGHT)?;
-    put_call(items, Routine::Random)?;
-    put_copied(items, RESULT, first)?;
-    Ok(())
+impl Spot {
+    /// What a branch of its group skips to.
+    pub fn skip(self) -> Target
+        ensures { result ≡ target.Inside inner.Skip self.line self.index }
+    {
+        Target::Inside(Inner::Skip, self.line, self.index)
+    }
 }
 
 // A text inside the code, and the jump over it.
@@ -146,130 +112,22 @@ fn put_bytes(items: &mut Vec<Item>, bytes: &[u8]) -> Result<(), AllocError>
     put(items, Item::Bytes(bytes.to_vec(*items.allocator())?))
 }
 
-// Leaves the line unless the held word and slot 0 are so related.
-fn put_leave_unless(
-    items: &mut Vec<Item>,
-    rel: Rel,
-    leaves: Target,
-    stays: Target,
-    next: Target,
-) -> Result<(), AllocError>
-    ensures { OnOk result (map entry_of items.new.items ≡ map entry_of items.old.items ++ templates.leave_unless rel leaves stays next) }
-{
-    match rel {
-        Rel::Eq => put_leave_unless_equal(items, leaves, stays, next),
-        Rel::Ne => put_leave_unless_unequal(items, stays, next),
-        Rel::Lt => put_leave_by_order(items, HELD, SLOTS, Mnemonic::Bcc, stays, next),
-        Rel::Ge => put_leave_by_order(items, HELD, SLOTS, Mnemonic::Bcs, stays, next),
-        Rel::Gt => put_leave_by_order(items, SLOTS, HELD, Mnemonic::Bcc, stays, next),
-        Rel::Le => put_leave_by_order(items, SLOTS, HELD, Mnemonic::Bcs, stays, next),
-    }
-}
-
-// Stays in the line where a branch on the order of two words is taken.
-fn put_leave_by_order(
-    items: &mut Vec<Item>,
-    left: u16,
-    right: u16,
-    mnemonic: Mnemonic,
-    stays: Target,
-    next: Target,
-) -> Result<(), AllocError>
-    requires { (left < 65535) × (right < 65535) }
-    ensures { OnOk result (map entry_of items.new.items ≡ map entry_of items.old.items ++ (templates.ordered left right ++ templates.stays_by mnemonic stays next)) }
-{
-    put_ordered(items, left, right)?;
-    put_stays_by(items, mnemonic, stays, next)
-}
-
-// A branch over the jump to the next line.
-fn put_stays_by(
-    items: &mut Vec<Item>,
-    mnemonic: Mnemonic,
-    stays: Target,
-    next: Target,
-) -> Result<(), AllocError>
-    ensures { OnOk result (map entry_of items.new.items ≡ map entry_of items.old.items ++ templates.stays_by mnemonic stays next) }
-{
-    put_branch(items, mnemonic, stays)?;
-    put_jump(items, next)?;
-    put_here(items, stays)
-}
-
-fn put_leave_unless_equal(
-    items: &mut Vec<Item>,
-    leaves: Target,
-    stays: Target,
-    next: Target,
-) -> Result<(), AllocError>
-    ensures { OnOk result (map entry_of items.new.items ≡ map entry_of items.old.items ++ templates.leave_unless Eq leaves stays next) }
-{
-    put_at(items, Mnemonic::Lda, HELD)?;
-    put_at(items, Mnemonic::Cmp, SLOTS)?;
-    put_branch(items, Mnemonic::Bne, leaves)?;
-    put_at(items, Mnemonic::Lda, HELD + 1)?;
-    put_at(items, Mnemonic::Cmp, SLOTS + 1)?;
-    put_branch(items, Mnemonic::Beq, stays)?;
-    put_here(items, leaves)?;
-    put_jump(items, next)?;
-    put_here(items, stays)
-}
-
-fn put_leave_unless_unequal(
-    items: &mut Vec<Item>,
-    stays: Target,
-    next: Target,
-) -> Result<(), AllocError>
-    ensures { OnOk result (map entry_of items.new.items ≡ map entry_of items.old.items ++ templates.unequal stays next) }
-{
-    put_at(items, Mnemonic::Lda, HELD)?;
-    put_at(items, Mnemonic::Cmp, SLOTS)?;
-    put_branch(items, Mnemonic::Bne, stays)?;
-    put_at(items, Mnemonic::Lda, HELD + 1)?;
-    put_at(items, Mnemonic::Cmp, SLOTS + 1)?;
-    put_stays_by(items, Mnemonic::Bne, stays, next)
-}
-
-// The search in the line table for slot 0.
-fn put_find(items: &mut Vec<Item>) -> Result<(), AllocError>
-    ensures { OnOk result (map entry_of items.new.items ≡ map entry_of items.old.items ++ templates.find) }
-{
-    put_copied(items, SLOTS, LEFT)?;
-    put(
-        items,
-        Item::Instr(
-            Mnemonic::Jsr,
-            Mode::Absolute,
-            Operand::Label(label(Target::Find)),
-        ),
-    )
-}
-
-// Notes the next line on the return list.
-fn put_note(items: &mut Vec<Item>, next: Target) -> Result<(), AllocError>
-    ensures { OnOk result (map entry_of items.new.items ≡ map entry_of items.old.items ++ templates.note next) }
-{
-    put_address(items, next, LEFT)?;
-    put_call(items, Routine::Push)
-}
-
-// Whether a program has a line.
-fn has_number(numbers: &[u16], line: u16) -> bool
+/// Whether a program with these numbers has a line.
+pub fn has_number(numbers: &[u16], line: u16) -> bool
+    requires rising { RisingFrom 0 numbers.now }
     ensures { result ≡ has_line numbers.now line }
 {
-    match numbers {
-        [] => false,
-        [first, rest @ ..] => *first == line || has_number(rest, line),
-    }
+    numbers.binary_search(&line).is_ok()
 }
 
 fn put_jump_to(items: &mut Vec<Item>, numbers: &[u16], to: u16) -> Result<(), AllocError>
+    requires rising { RisingFrom 0 numbers.now }
     ensures { OnOk result (map entry_of items.new.items ≡ map entry_of items.old.items ++ templates.jump_to numbers.now to) }
 {
     if has_number(numbers, to) {
         put_jump(items, Target::Line(to))
     } else {
-        put_fault(items, 1)
+        put_fault(items, NO_LINE)
     }
 }
 
@@ -279,27 +137,29 @@ fn put_call_to(
     to: u16,
     next: Target,
 ) -> Result<(), AllocError>
+    requires rising { RisingFrom 0 numbers.now }
     ensures { OnOk result (map entry_of items.new.items ≡ map entry_of items.old.items ++ templates.call_to numbers.now to next) }
 {
     if has_number(numbers, to) {
         put_note(items, next)?;
         put_jump(items, Target::Line(to))
     } else {
-        put_fault(items, 1)
+        put_fault(items, NO_LINE)
     }
 }
 
-/// The code of an instruction of a program with these numbers; the seed is the option's RND state.
+/// The code of a single instruction of a program with these numbers. Of one that has another kind of group nothing is
+/// written.
 pub fn put_instruction(
     items: &mut Vec<Item>,
     numbers: &[u16],
-    seed: u16,
     spot: Spot,
     instruction: &SlotInstr,
 ) -> Result<(), AllocError>
+    requires rising { RisingFrom 0 numbers.now }
     requires in_range { IsInRange 256 (instr_of instruction.now) }
     requires next { spot.next ≡ templates.next_line numbers.now spot.line }
-    ensures { OnOk result (map entry_of items.new.items ≡ map entry_of items.old.items ++ template numbers.now seed spot.line spot.index (instr_of instruction.now)) }
+    ensures { OnOk result (map entry_of items.new.items ≡ map entry_of items.old.items ++ template numbers.now spot.line spot.index (instr_of instruction.now)) }
 {
     match instruction {
         SlotInstr::Put(slot, word) => put_constant(items, *word, slot_address(*slot)),
@@ -308,29 +168,10 @@ pub fn put_instruction(
             variable_at(*letter),
             slot_address(*slot),
         ),
-        SlotInstr::Store(letter) => put_copied(items, SLOTS, variable_at(*letter)),
-        SlotInstr::Negate(slot) => put_opposite(items, slot_address(*slot)),
-        SlotInstr::Compute(Operator::Add, slot) => put_added(items, slot_address(*slot)),
-        SlotInstr::Compute(Operator::Subtract, slot) => put_subtracted(items, slot_address(*slot)),
-        SlotInstr::Compute(Operator::Multiply, slot) => put_on_two(
-            items,
-            slot_address(*slot),
-            Routine::Multiply,
-        ),
-        SlotInstr::Compute(Operator::Divide, slot) => put_on_two(
-            items,
-            slot_address(*slot),
-            Routine::Divide,
-        ),
-        SlotInstr::Random(slot) => put_drawn(items, slot_address(*slot), seed),
         SlotInstr::SendText(text) => {
             let of = Target::Inside(Inner::Text, spot.line, spot.index);
             let behind = Target::Inside(Inner::Behind, spot.line, spot.index);
             put_text(items, of, behind, text)
-        }
-        SlotInstr::SendNumber => {
-            put_copied(items, SLOTS, LEFT)?;
-            put_call(items, Routine::Number)
         }
         SlotInstr::SendZone => put_call(items, Routine::Zone),
         SlotInstr::SendNewline => {
@@ -342,21 +183,6 @@ pub fn put_instruction(
             put_copied(items, RESULT, variable_at(*letter))
         }
         SlotInstr::Poll => put_call(items, Routine::Poll),
-        SlotInstr::Hold => put_copied(items, SLOTS, HELD),
-        SlotInstr::LeaveUnless(rel) => {
-            let leaves = Target::Inside(Inner::Skip, spot.line, spot.index);
-            let stays = Target::Inside(Inner::Here, spot.line, spot.index);
-            put_leave_unless(items, *rel, leaves, stays, spot.next)
-        }
-        SlotInstr::Jump => {
-            put_find(items)?;
-            put_jump_through(items)
-        }
-        SlotInstr::Call => {
-            put_find(items)?;
-            put_note(items, spot.next)?;
-            put_jump_through(items)
-        }
         SlotInstr::JumpTo(to) => put_jump_to(items, numbers, *to),
         SlotInstr::CallTo(to) => put_call_to(items, numbers, *to, spot.next),
         SlotInstr::Return => {
@@ -364,5 +190,14 @@ pub fn put_instruction(
             put_jump_through(items)
         }
         SlotInstr::End => put_alone(items, Mnemonic::Rts),
+        SlotInstr::Store(_)
+        | SlotInstr::Negate(_)
+        | SlotInstr::Compute(_, _)
+        | SlotInstr::Random(_)
+        | SlotInstr::SendNumber
+        | SlotInstr::Hold
+        | SlotInstr::LeaveUnless(_)
+        | SlotInstr::Jump
+        | SlotInstr::Call => Ok(()),
     }
 }

@@ -4,6 +4,7 @@ use std::alloc::Global;
 use std::fmt::Write;
 use tb_asm::{Image, Item, Name, Operand, assemble, read_text, settle};
 use tb_opcodes::{Mnemonic, Mode};
+use tb_settling::assemble_settled;
 
 fn append_zeros(count: u64, text: &mut Vec<u8>) -> Result<(), Failure> {
     text.extend_from_slice(b".byte $00")?;
@@ -47,6 +48,19 @@ fn append_settled(alloc: Global, row: &str, out: &mut String) -> Result<(), Fail
     Ok(())
 }
 
+// The bytes of a text that is settled and assembled at once, and its labels' addresses.
+fn append_laid(alloc: Global, row: &str, out: &mut String) -> Result<(), Failure> {
+    let (at, text) = address_of(row)?;
+    let items = items_of(alloc, text)?;
+    let image = assemble_settled(alloc, at, items.as_slice()).map_err(Failure::Item)?;
+    append_bytes(image.bytes.as_slice(), out)?;
+    write!(out, ", from {:04X}:", image.at)?;
+    for address in image.labels.values() {
+        write!(out, " {address:04X}")?;
+    }
+    Ok(())
+}
+
 // The refusal of an instruction whose operand is a byte where its mode takes a word.
 fn append_one_byte(alloc: Global, row: &str, out: &mut String) -> Result<(), Failure> {
     let (at, _) = address_of(row)?;
@@ -86,6 +100,7 @@ pub fn answer(alloc: Global, row: &str, out: &mut String) -> Result<(), Failure>
     match word {
         "assemble" => Ok(append_bytes(image_of(alloc, rest)?.bytes.as_slice(), out)?),
         "settle" => append_settled(alloc, rest, out),
+        "lay" => append_laid(alloc, rest, out),
         "one-byte-absolute" => append_one_byte(alloc, rest, out),
         "label" => append_labels(alloc, rest, out),
         "name" => append_name(rest, out),

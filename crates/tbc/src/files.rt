@@ -14,7 +14,20 @@ pub fn open<R: Files>(rt: &R, path: &str) -> Result<Tracked<R::File>, Outcome> {
     }
 }
 
-/// Opens a file for writing, and writes what an engine made in memory, where it made all.
+/// Opens a file for writing, and writes these bytes.
+pub fn write_file<R: Files>(rt: &R, path: &str, bytes: &[u8]) -> Result<(), Outcome> {
+    let file = match fs::create(rt, path) {
+        Ok(file) => file,
+        Err(error) if error.kind() == io::ErrorKind::OutOfMemory => return Err(Outcome::NoMemory),
+        Err(_) => return Err(Outcome::WriteFault),
+    };
+    match write_output(&mut Tracked::new(file), bytes) {
+        Ok(()) => Ok(()),
+        Err(_) => Err(Outcome::WriteFault),
+    }
+}
+
+/// Writes what an engine made in memory to a file, where it made all.
 pub fn save<R: Files>(rt: &R, path: &str, made: Outcome, bytes: &[u8]) -> Outcome {
     match made {
         Outcome::Ended(End::Done) => {}
@@ -22,13 +35,8 @@ pub fn save<R: Files>(rt: &R, path: &str, made: Outcome, bytes: &[u8]) -> Outcom
         Outcome::WriteFault => return Outcome::NoMemory,
         _ => return made,
     }
-    let file = match fs::create(rt, path) {
-        Ok(file) => file,
-        Err(error) if error.kind() == io::ErrorKind::OutOfMemory => return Outcome::NoMemory,
-        Err(_) => return Outcome::WriteFault,
-    };
-    match write_output(&mut Tracked::new(file), bytes) {
+    match write_file(rt, path, bytes) {
         Ok(()) => made,
-        Err(_) => Outcome::WriteFault,
+        Err(outcome) => outcome,
     }
 }

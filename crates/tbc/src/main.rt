@@ -1,14 +1,16 @@
 //! The program `tbc`: its words become a job, and an engine does it over files and standard streams.
 #![tactic(auto)]
 
+mod disks;
+mod ending;
 mod files;
 mod tasks;
 
+use ending::Ending;
 use std::process::ExitCode;
 use std::rt::{Env, Files};
 use std::{env, io};
 use tb_command_line::{Failure, Job, job};
-use tb_driver::Report;
 
 // All words, the program's own name the first of them.
 fn words<R: Env + AllocGlobal>(rt: &R) -> Result<Vec<String>, Failure> {
@@ -29,7 +31,7 @@ fn job_of_words<R: Env + AllocGlobal>(rt: &R) -> Result<Job, Failure> {
     Ok(job(rt.alloc(), words.as_slice())?)
 }
 
-fn start<R: Files + Env + Print + Input + AllocGlobal>(rt: &R) -> Result<Report, Failure> {
+fn start<R: Files + Env + Print + Input + AllocGlobal>(rt: &R) -> Result<Ending, Failure> {
     let job = job_of_words(rt)?;
     tasks::perform(rt, &job)
 }
@@ -37,9 +39,9 @@ fn start<R: Files + Env + Print + Input + AllocGlobal>(rt: &R) -> Result<Report,
 fn main(rt: HostRuntime) -> ExitCode {
     // Nobody can be told that standard error fails.
     let status = match start(&rt) {
-        Ok(report) => {
-            let _ = eprint!(rt; "{report}");
-            report.status()
+        Ok(ending) => {
+            let _ = eprint!(rt; "{ending}");
+            ending.status()
         }
         Err(failure) => {
             let _ = eprint!(rt; "{failure}");

@@ -1,4 +1,6 @@
 //! The commands. Key lists and addresses are looked at before any file is opened.
+use crate::disks::make_disk;
+use crate::ending::Ending;
 use crate::files::{open, save};
 use std::alloc::Global;
 use std::io;
@@ -14,10 +16,10 @@ use tb_kernal::{Keyboard, Outside, Quiet, Rude};
 pub fn perform<R: Files + Print + Input + AllocGlobal>(
     rt: &R,
     job: &Job,
-) -> Result<Report, Failure> {
+) -> Result<Ending, Failure> {
     match job {
         Job::Build { source, out, seed } => {
-            Ok(build_file(rt, source.as_str(), out.as_str(), *seed))
+            Ok(Ending::Report(build_file(rt, source.as_str(), out.as_str(), *seed)))
         }
         Job::Run {
             what,
@@ -29,14 +31,17 @@ pub fn perform<R: Files + Print + Input + AllocGlobal>(
         } => {
             let keyboard = keyboard(rt.alloc(), keys.as_str(), answers.as_str())?;
             let limit = u64::from(limit.events);
-            Ok(run_beside(rt, what, *seed, keyboard, limit, *rude))
+            Ok(Ending::Report(run_beside(rt, what, *seed, keyboard, limit, *rude)))
         }
         Job::Asm { text, out, at } => match address(at.as_str()) {
-            Some(at) => Ok(plain(rt, assemble_file(rt, text.as_str(), out.as_str(), at))),
+            Some(at) => Ok(plain_ending(rt, assemble_file(rt, text.as_str(), out.as_str(), at))),
             None => Err(Failure::BadAddress),
         },
-        Job::Dis { prg } => Ok(plain(rt, list_file(rt, prg.as_str()))),
-        Job::Show { text } => Ok(plain(rt, show(rt, text.as_str()))),
+        Job::Dis { prg } => Ok(plain_ending(rt, list_file(rt, prg.as_str()))),
+        Job::Disk { out, files } => {
+            Ok(Ending::Disk(make_disk(rt, out.as_str(), files.as_slice())))
+        }
+        Job::Show { text } => Ok(plain_ending(rt, show(rt, text.as_str()))),
         Job::Step {
             source,
             seed,
@@ -46,7 +51,7 @@ pub fn perform<R: Files + Print + Input + AllocGlobal>(
         } => {
             let keyboard = keyboard(rt.alloc(), keys.as_str(), answers.as_str())?;
             let limit = u64::from(limit.events);
-            Ok(step_file(rt, source.as_str(), *seed, keyboard, limit))
+            Ok(Ending::Report(step_file(rt, source.as_str(), *seed, keyboard, limit)))
         }
     }
 }
@@ -69,6 +74,10 @@ fn run_beside<R: Files + Print + AllocGlobal>(
 // An outcome with no warnings.
 fn plain<R: AllocGlobal>(rt: &R, outcome: Outcome) -> Report {
     Report::new(rt.alloc(), outcome)
+}
+
+fn plain_ending<R: AllocGlobal>(rt: &R, outcome: Outcome) -> Ending {
+    Ending::Report(plain(rt, outcome))
 }
 
 fn keyboard(alloc: Global, keys: &str, answers: &str) -> Result<Keyboard, Failure> {

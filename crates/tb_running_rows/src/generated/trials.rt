@@ -16,8 +16,8 @@ const MOST_LINES: u64 = 3000;
 /// Enough events for a program whose source ends within `MOST_LINES` lines.
 const AMPLE: u64 = 100_000_000;
 
-/// Too few events for `MOST_LINES` lines, of which each takes seven at least.
-const SCANT: u64 = 20_000;
+/// Too few events for `MOST_LINES` lines, of which each takes four at least.
+const SCANT: u64 = 10_000;
 
 /// How a source's run ended.
 #[derive(Clone, Copy, PartialEq, Eq, Debug, Drop)]

@@ -1,0 +1,6 @@
+use Rattle.tb_driver.proofs.Shown.{shows_source}
+use Rattle.tb_driver.proofs.playing.play_compiled.Goals as goal
+
+pub returns-clause-output : goal.returns-clause-output
+returns-clause-output g c seed source kept =
+    shows_source seed source c.args.file.now kept c.are_bytes.ensures _ _ _ _ c.play_file.ensures.whole

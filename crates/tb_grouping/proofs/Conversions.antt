@@ -1,0 +1,129 @@
+-- The laws of conversions: 0 minus a word, and RND, which may fault.
+use Rattle.std.proofs.Common.{◌≡◌, ℕ, ◌+◌, ◌-◌, ◌/◌, ◌%◌, ◌<◌, true, false, ◌||◌, List, [], ◌∷◌, ◌++◌, refl, sym, ap, ◌∙◌, subst, arith}
+use Rattle.std.specs.Prelude.{nat_eq, nat_le}
+use Rattle.tb_words.specs.Words.{negated, seed_after, word}
+use Rattle.tb_lower.specs.Control.{State, fault_text}
+use Rattle.tb_lower.specs.Slots.{Instr, Slots, SlotCode}
+use Rattle.tb_reaching.proofs.Comes.{looser}
+use Rattle.tb_reaching.specs.View.{Comes, Fits, Setup, View}
+use Rattle.tb_runtime16.specs.Routines.{Drawn, Routines}
+use Rattle.tb_runtime16.specs.Places.{HOME_S, LEFT, RANDOM_AT, RESULT}
+use Rattle.tb_keeping.specs.Layout.{Layout}
+use Rattle.tb_keeping.proofs.Frames.{owned_low}
+use Rattle.tb_keeping.proofs.Joins.{sent_in}
+use Rattle.tb_keeping.proofs.Resolved.{pieces_size, size}
+use Rattle.tb_keeping.proofs.Returning.{homed_kept}
+use Rattle.tb_selection.specs.Groups.{Operand, Destination, Conversion, Negated, Drawn as IsDrawn, Convert, convert, expand, kept, slot_of}
+use Rattle.tb_selection.specs.Liveness.{live}
+use Rattle.tb_selection.specs.Select.{select}
+use Rattle.tb_selection.specs.GroupSteps.{steps}
+use Rattle.tb_grouping.proofs.Calculations.{subtracted_word}
+use Rattle.tb_templates.specs.declared.sources.Source.{Source}
+use Rattle.tb_templates.specs.declared.sources.Source.TheVariants.{FixedWord}
+use Rattle.tb_templates.specs.Sources.{destination_at, source_of}
+use Rattle.tb_grouping.proofs.Coded.{GroupsLie, routine, taken}
+use Rattle.tb_grouping.proofs.Frames.{live_same, state_drawn}
+use Rattle.tb_grouping.proofs.Handed.{asks, gives}
+use Rattle.tb_grouping.proofs.Lone.{Kept, kept as kept_first, kept_lined, lined, lines, numbered, word_lands}
+use Rattle.tb_grouping.proofs.Matching.{Target}
+use Rattle.tb_grouping.proofs.OneWord.{ConvertFits, convert_fits, convert_lasting, convert_reads, draw_fails, draw_goes, negate_goes, spread_convert, word_asked}
+use Rattle.tb_grouping.proofs.Operands.{SourceHolds, dest_in_data, operand_apart, operand_grounded, operand_held}
+use Rattle.tb_grouping.proofs.Ready.{Ready, here}
+use Rattle.tb_grouping.proofs.SlotSide.{StandsIn, fetched, line, with_fetched}
+use Rattle.tb_grouping.proofs.Sums.{differs}
+
+module _ (ly : Layout) (f : Setup) (lo hi keys : ℕ) (fits : Fits f 16) (code : SlotCode) (n : ℕ) (a : Operand) (d : Destination) (is : List Instr) (s : State) (r : Slots) (w : View) where
+  abbrev k : ℕ
+  k = slot_of d
+
+  abbrev x : ℕ
+  x = fetched s r k a
+
+  abbrev src : Source
+  src = source_of k a
+
+  abbrev Begins : Conversion → Type 0
+  Begins what = Ready ly f lo hi keys fits n (Convert what a d) (spread_convert what a d is) is s r w
+
+  -- where the slot steps lead
+  abbrev pub ConvertLeads : Conversion → ℕ → Type 0
+  ConvertLeads what k = Comes f w (Target ly f lo hi keys (steps code (expand (Convert what a d)) (line code n (spread_convert what a d is) s r))) (sent_in (steps code (expand (Convert what a d)) (line code n (spread_convert what a d is) s r))) k
+
+  asked : (what : Conversion) → StandsIn a k (live (spread_convert what a d is))
+  asked what = word_asked k a (convert what k) (kept d ++ is) (convert_reads what k (kept d ++ is))
+
+  pub negate_law : Begins Negated → ConvertLeads Negated 7
+  negate_law h =
+      let fit = convert_fits Negated a d h.ranged in
+      let held = operand_held ly s _ r w.mem k a h.state h.read fit.word (asked Negated) in
+      let difference = subtracted_word 0 0 _ _ 0 x refl refl held.low_byte held.high_byte (omega arith) held.small in
+      let same : 0 + (65536 - x) ≡ 65536 - x = omega arith in
+      let text = taken (FixedWord 0) src (destination_at d) in
+      let behind : w.regs.pc + (size text + 0) ≡ w.regs.pc + size text = omega arith in
+      subst (λ x. Comes f w (Target ly f lo hi keys x) (sent_in x) 7) (sym (negate_goes code n a d is s r h.read.all_words fit.slot))
+      (looser f w _ _ [] 7 7 (omega arith)
+      (word_lands ly f lo hi keys fits code n h.small (live (spread_convert Negated a d is)) d is s r (with_fetched s r k a) (negated x) _ _ (w.regs.pc + size text) w.mem w.text w.answers (difference.0 ∙ ap (λ y. word y % 256) same) (difference.1 ∙ ap (λ y. word y / 256) same) (omega arith) fit.dest (convert_lasting Negated a d is s r h.free) (subst (λ p. GroupsLie ly f.code n p (select is)) behind h.rest) (kept_first ly f lo hi keys fits n _ _ is s r w h) h.text h.answers h.short)
+      (differs f 16 fits w.regs.pc (lo ∷ hi ∷ []) w.mem w.text w.answers refl (FixedWord 0) src (destination_at d) h.lies.0 tt (operand_grounded k a d fit.slot fit.word) (dest_in_data d fit.dest) h.lies.1 w (here ly f lo hi keys fits w [] [] h.stack h.binary)))
+
+  -- ---- RND
+  module _ (limit : ℕ) (rs : Routines ly.table ly.seed ly.numbers ly.start f lo hi keys limit) (seed_small : ly.seed < 65536) (h : Begins IsDrawn) where
+    abbrev js : List Instr
+    js = spread_convert IsDrawn a d is
+
+    -- behind the line's number
+    abbrev at : ℕ
+    at = w.regs.pc + 10
+
+    abbrev m : ℕ → ℕ
+    m = lined ly f lo hi keys fits n _ js is s r w h
+
+    fit : ConvertFits a d
+    fit = convert_fits IsDrawn a d h.ranged
+
+    c : Kept ly f lo hi keys fits (live js) s r m
+    c = kept_lined ly f lo hi keys fits n _ js is s r w h
+
+    bound_holds : SourceHolds m src x
+    bound_holds = operand_held ly s (live js) r m k a c.state c.read fit.word (asked IsDrawn)
+
+    option_holds : (m' : ℕ → ℕ) → Kept ly f lo hi keys fits (live js) s r m' → SourceHolds m' (FixedWord ly.seed) ly.seed
+    option_holds m' q = record { low_byte = refl; high_byte = refl; small = seed_small }
+
+    rest : GroupsLie ly f.code n (at + pieces_size (routine RANDOM_AT RESULT src (FixedWord ly.seed) (destination_at d))) (select is)
+    rest = subst (λ p. GroupsLie ly f.code n p (select is)) (let e : w.regs.pc + (10 + pieces_size (routine RANDOM_AT RESULT src (FixedWord ly.seed) (destination_at d))) ≡ at + pieces_size (routine RANDOM_AT RESULT src (FixedWord ly.seed) (destination_at d)) = omega arith in e) h.rest
+
+    -- the state behind it
+    abbrev drawn : State
+    drawn = record s { seed = seed_after s.seed }
+
+    drawn_kept : (back : ℕ) (bs text gets : List ℕ) (v : ℕ) (m' : ℕ → ℕ) (u : View) → Kept ly f lo hi keys fits (live js) s r m' → Drawn back bs m' text gets v (seed_after s.seed) u → Kept ly f lo hi keys fits (live js) drawn r u.mem
+    drawn_kept back bs text gets v m' u q g = record {
+      state = state_drawn ly s m' u.mem q.state (seed_after s.seed) g.seeded g.seed_at g.others;
+      read = live_same (live js) r m' u.mem h.some_read (λ a lo hi. g.others a (owned_low a (omega (arith, lo)) hi) (λ e. omega (arith, e, lo)) (λ e. omega (arith, e, lo)) (λ e. omega (arith, e, lo))) q.read;
+      homed = homed_kept ly f lo hi keys fits m' u.mem (g.others HOME_S (owned_low HOME_S (omega arith) (omega arith)) (λ e. omega (arith, e)) (λ e. omega (arith, e)) (λ e. omega (arith, e))) q.homed;
+    }
+
+    pub draw_law : (nat_eq x 0 || nat_le 32768 x) ≡ false → ConvertLeads IsDrawn (17 + limit)
+    draw_law good =
+        subst (λ x. Comes f w (Target ly f lo hi keys x) (sent_in x) (17 + limit)) (sym (draw_goes code n a d is s r h.read.all_words fit.slot good))
+        (looser f w _ _ [] (4 + (13 + limit)) (17 + limit) (omega arith) (λ u z. z)
+        (lines ly f lo hi keys fits n _ js is s r w h h.lies.0 h.lies.1 _ [] (13 + limit)
+        (gives ly f lo hi keys fits n _ js is s r w h RANDOM_AT RESULT at src (FixedWord ly.seed) d m c h.lies.2 x ly.seed
+        (operand_apart k a LEFT 24625 refl fit.slot fit.word) tt bound_holds option_holds
+        code drawn (with_fetched s r k a) (seed_after s.seed % x) limit (omega arith, omega arith) fit.dest (convert_lasting IsDrawn a d is s r h.free) rest h.text h.answers h.short
+        (λ l k' m' g u e. looser f u _ _ [] limit limit (omega arith)
+        (λ u q. record {
+          here = record { pc = q.pc; stack = q.stack; binary = q.binary; mem = refl; text = q.text; answers = q.answers };
+          result = q.result;
+          kept = drawn_kept _ _ _ _ _ m' u g.kept q;
+        })
+        (rs.random l k' m' w.text w.answers x s.seed g.left g.right g.kept.state.seeded good u e)))))
+
+    pub draw_fails_law : (nat_eq x 0 || nat_le 32768 x) ≡ true → ConvertLeads IsDrawn (17 + limit)
+    draw_fails_law bad =
+        subst (λ x. Comes f w (Target ly f lo hi keys x) (sent_in x) (17 + limit)) (sym (draw_fails code n a d is s r h.read.all_words fit.slot bad))
+        (looser f w _ _ (fault_text 3 n) (4 + (9 + limit)) (17 + limit) (omega arith) (λ u z. z)
+        (lines ly f lo hi keys fits n _ js is s r w h h.lies.0 h.lies.1 _ (fault_text 3 n) (9 + limit)
+        (asks ly f lo hi keys fits n _ js is s r w h RANDOM_AT RESULT at src (FixedWord ly.seed) d m c h.lies.2 x ly.seed
+        (operand_apart k a LEFT 24625 refl fit.slot fit.word) tt bound_holds option_holds
+        _ (fault_text 3 n) limit (λ m' g. rs.random_fails _ _ m' w.text w.answers x n g.left bad (g.line (numbered ly f lo hi keys fits n _ js is s r w h)) g.kept.homed))))

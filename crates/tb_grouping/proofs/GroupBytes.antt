@@ -1,0 +1,696 @@
+-- The bytes of groups, whatever the ways of their branches.
+use Rattle.std.proofs.Common.{◌≡◌, ℕ, ◌+◌, ◌/◌, ◌%◌, ◌≤◌, ◌<◌, Bool, true, false, ◌&&◌, List, [], ◌∷◌, ◌++◌, map, refl, sym, ap, ◌∙◌, subst, arith, Some}
+use Rattle.std.specs.Prelude.{if◌then◌else◌, unwrap_or}
+use Rattle.std.specs.List.{list_all}
+use Rattle.tb_opcodes.specs.Opcodes as opcodes
+use Rattle.tb_opcodes.specs.declared.Mnemonic.{Mnemonic}
+use Rattle.tb_opcodes.specs.declared.Mnemonic.TheVariants.{Adc, Beq, Bne, Bvc, Clc, Cmp, Lda, Sbc, Sec, Sta, Eor}
+use Rattle.tb_opcodes.specs.declared.Mode.TheVariants.{Relative}
+use Rattle.tb_asm.specs.declared.names.Name.{Name}
+use Rattle.tb_asm.specs.declared.items.Operand.TheVariants.{Label}
+use Rattle.tb_asm.specs.Layout.{Entry, instr, label, size_of, size, bytes_of, bytes_from, address_in, number_in}
+use Rattle.tb_asm.specs.Settle.{Form, kept, items_from, form_size, some_branch_far}
+use Rattle.tb_asm.proofs.Settled.{items_kept}
+use Rattle.tb_asm.proofs.Suits.{and_true}
+use Rattle.tb_settling.specs.Settled.{AreFormsOf}
+use Rattle.tb_settling.proofs.Forms.{forms_append, forms_size, items_size, items_append, kept_size, is_straight, straight_forms, split, near_split}
+use Rattle.tb_reaching.proofs.Instr.{Instr, ins, instr_bytes, flat}
+use Rattle.tb_words.specs.declared.Rel.{Rel}
+use Rattle.tb_words.specs.declared.Rel.TheVariants as rel
+use Rattle.tb_syntax.specs.declared.expressions.Operator.{Operator}
+use Rattle.tb_syntax.specs.declared.expressions.Operator.TheVariants as op
+use Rattle.tb_lower.specs.Control.{has_line}
+use Rattle.tb_lower.specs.Ranges.{AreInRange, IsInRange}
+use Rattle.tb_lower.specs.Slots as slots
+use Rattle.tb_runtime16.specs.Places.{LINE, LEFT, RIGHT, RESULT, MULTIPLY_AT, DIVIDE_AT, RANDOM_AT, NUMBER_AT, PUSH_AT}
+use Rattle.tb_selection.specs.Select.{alone}
+use Rattle.tb_selection.specs.Groups.{Operand, Constant, Variable, InSlot, Tested, HeldBefore, HeldNow, Conversion, Negated, Drawn, Usage, AsNumber, AsLine, AsSubroutine, Group, Calculate, Convert, Move, Use, Test, TestGo, Single, denied, slot_of, expand}
+use Rattle.tb_templates.specs.declared.labels.Inner.TheVariants as inside
+use Rattle.tb_templates.specs.declared.labels.Target.{Target}
+use Rattle.tb_templates.specs.declared.labels.Target.TheVariants as target
+use Rattle.tb_templates.specs.Labels.{label_of}
+use Rattle.tb_templates.specs.Layout.{LabelsAt}
+use Rattle.tb_templates.specs.declared.sources.Source.{Source}
+use Rattle.tb_templates.specs.declared.sources.Source.TheVariants.{FixedWord, AtPlace}
+use Rattle.tb_templates.specs.Sources.{source_of, tested_source, home_at, destination_at}
+use Rattle.tb_templates.specs.Templates as product
+use Rattle.tb_templates.specs.Templates.{next_line}
+use Rattle.tb_templates.specs.GroupTemplates as items
+use Rattle.tb_keeping.specs.Layout.{Layout, layout_of, next_at}
+use Rattle.tb_keeping.proofs.Resolved as resolved
+use Rattle.tb_keeping.proofs.Resolved.{Piece, Code, pieces_size, highest_code}
+use Rattle.tb_grouping.proofs.Sources.{lda, adc, sbc, cmp}
+use Rattle.tb_grouping.proofs.Coded as coded
+use Rattle.tb_grouping.proofs.Coded.{low, high, weighed, difference, Way, Short, Long, way_size, Zero, Overflow, Negative, BranchReaches, second_at, turned_at, test_code, TestReaches, group_code, BranchesReach}
+use Rattle.tb_grouping.proofs.Singles.{IsAlone}
+use Rattle.tb_grouping.proofs.Emits.{formed, formed_size, branch_formed, branch_by, Emits, emits_append, emitted_size, ends, block, labelled, branches, reaches}
+use Rattle.tb_keeping.proofs.Numbers.{address_bytes, constant_bytes, next_same}
+use Rattle.tb_grouping.proofs.SingleBytes.{template_bytes}
+
+-- ---- lists of forms, cut
+-- items without a branch stand as they are before the others
+pub record Cut (xs ys : List Entry) (fs : List Form) : Type 0 where
+  pub rest : List Form
+  pub is : fs ≡ map kept xs ++ rest
+  pub of : AreFormsOf ys rest
+
+pub cut : (xs ys : List Entry) (fs : List Form) → list_all is_straight xs ≡ true → AreFormsOf (xs ++ ys) fs → Cut xs ys fs
+cut xs ys fs s h =
+    let t = split xs ys fs h in
+    record { rest = t.back; is = t.are ∙ ap (λ k. k ++ t.back) (straight_forms xs t.front s t.of_front); of = t.of_back }
+
+-- a branch to a label stands by a way before the others
+pub record CutBranch (n : Mnemonic) (l : Name) (ys : List Entry) (fs : List Form) : Type 0 where
+  pub way : Way
+  pub rest : List Form
+  pub is : fs ≡ formed way n l ∷ rest
+  pub of : AreFormsOf ys rest
+
+pub cut_branch : (n : Mnemonic) (l : Name) (ys : List Entry) (fs : List Form) → AreFormsOf (instr n Relative (Label l) ∷ ys) fs → CutBranch n l ys fs
+cut_branch n l ys [] h = absurd h
+cut_branch n l ys (f ∷ fs) h = let b = branch_formed n l f h.0 in record { way = b.way; rest = fs; is = ap (λ g. g ∷ fs) b.is; of = h.1 }
+
+module _ (labels : List (Name × ℕ)) where
+  -- the labels of settled items stand for their places, their branches reach, and they end below $A000
+  pub record Rest (at : ℕ) (fs : List Form) : Type 0 where
+    pub labels_at : LabelsAt labels at (items_from at fs)
+    pub near : some_branch_far labels at (items_from at fs) ≡ false
+    pub below : at + forms_size fs ≤ 0xa000
+
+  labels_behind : (at : ℕ) (xs ys : List Entry) → LabelsAt labels at (xs ++ ys) → LabelsAt labels (at + size xs) ys
+  labels_behind at [] ys h = subst (λ a. LabelsAt labels a ys) (let e : at ≡ at + 0 = omega arith in e) h
+  labels_behind at (x ∷ xs) ys h = subst (λ a. LabelsAt labels a ys) (let e : at + size_of x + size xs ≡ at + (size_of x + size xs) = omega arith in e) (labels_behind (at + size_of x) xs ys h.1)
+
+  pub labels_before : (at : ℕ) (xs ys : List Entry) → LabelsAt labels at (xs ++ ys) → LabelsAt labels at xs
+  labels_before at [] ys h = tt
+  labels_before at (x ∷ xs) ys h = (h.0, labels_before (at + size_of x) xs ys h.1)
+
+  pub rest_before : (at : ℕ) (fs gs : List Form) → Rest at (fs ++ gs) → Rest at fs
+  rest_before at fs gs r =
+      let xs = items_from at fs in let ys = items_from (at + forms_size fs) gs in
+      let both : items_from at (fs ++ gs) ≡ xs ++ ys = items_append at fs gs in
+      record {
+        labels_at = labels_before at xs ys (subst (LabelsAt labels at) both r.labels_at);
+        near = (near_split labels at xs ys (ap (some_branch_far labels at) (sym both) ∙ r.near)).0;
+        below = let l = r.below in let e = forms_append fs gs in omega (arith, l, e);
+      }
+
+  pub rest_behind : (at to : ℕ) (fs gs : List Form) → at + forms_size fs ≡ to → Rest at (fs ++ gs) → Rest to gs
+  rest_behind at to fs gs e r = subst (λ a. Rest a gs) e (record {
+    labels_at = subst (λ n. LabelsAt labels (at + n) ys) (items_size at fs) (labels_behind at xs ys (subst (LabelsAt labels at) both r.labels_at));
+    near = ap (λ n. some_branch_far labels (at + n) ys) (sym (items_size at fs)) ∙ (near_split labels at xs ys (ap (some_branch_far labels at) (sym both) ∙ r.near)).1;
+    below = let l = r.below in let q = forms_append fs gs in omega (arith, l, q);
+  })
+    where
+      xs : List Entry
+      xs = items_from at fs
+
+      ys : List Entry
+      ys = items_from (at + forms_size fs) gs
+
+      both : items_from at (fs ++ gs) ≡ xs ++ ys
+      both = items_append at fs gs
+
+  -- ---- single bytes
+  -- a constant is a word
+  abbrev pub IsWord : Source → Type 0
+  IsWord (FixedWord w) = w < 65536
+  IsWord (AtPlace p) = Unit {0}
+
+  pub source_word : (k : ℕ) (o : Operand) → IsWord (source_of k o)
+  source_word k (Constant w) = omega arith
+  source_word k (Variable x) = tt
+  source_word k InSlot = tt
+
+  pub tested_word : (a : Tested) → IsWord (tested_source a)
+  tested_word HeldBefore = tt
+  tested_word (HeldNow a) = source_word 0 a
+
+  low_byte : (w : ℕ) → w % 256 % 256 ≡ w % 256
+  low_byte w = omega arith
+
+  high_byte : (w : ℕ) → w < 65536 → w / 256 % 256 ≡ w / 256
+  high_byte w h = omega (arith, h)
+
+  -- an item has the bytes of an instruction, wherever it stands; so have items those of instructions
+  pub record Makes (e : Entry) (i : Instr) : Type 0 where
+    pub same : (a : ℕ) → bytes_of labels a e ≡ instr_bytes i
+
+  pub record AllMake (es : List Entry) (is : List Instr) : Type 0 where
+    pub same : (a : ℕ) → bytes_from labels a es ≡ flat is
+
+  lda_low : (s : Source) → Makes (items.low_of Lda s) (lda (low s))
+  unfolding opcodes.encoded
+  lda_low (FixedWord w) = record { same = λ a. ap (λ b. 0xa9 ∷ b ∷ []) (low_byte w) }
+  lda_low (AtPlace p) = record { same = λ a. refl }
+
+  adc_low : (s : Source) → Makes (items.low_of Adc s) (adc (low s))
+  unfolding opcodes.encoded
+  adc_low (FixedWord w) = record { same = λ a. ap (λ b. 0x69 ∷ b ∷ []) (low_byte w) }
+  adc_low (AtPlace p) = record { same = λ a. refl }
+
+  sbc_low : (s : Source) → Makes (items.low_of Sbc s) (sbc (low s))
+  unfolding opcodes.encoded
+  sbc_low (FixedWord w) = record { same = λ a. ap (λ b. 0xe9 ∷ b ∷ []) (low_byte w) }
+  sbc_low (AtPlace p) = record { same = λ a. refl }
+
+  cmp_low : (s : Source) → Makes (items.low_of Cmp s) (cmp (low s))
+  unfolding opcodes.encoded
+  cmp_low (FixedWord w) = record { same = λ a. ap (λ b. 0xc9 ∷ b ∷ []) (low_byte w) }
+  cmp_low (AtPlace p) = record { same = λ a. refl }
+
+  lda_high : (s : Source) → IsWord s → Makes (items.high_of Lda s) (lda (high s))
+  unfolding opcodes.encoded
+  lda_high (FixedWord w) h = record { same = λ a. ap (λ b. 0xa9 ∷ b ∷ []) (high_byte w h) }
+  lda_high (AtPlace p) h = record { same = λ a. refl }
+
+  adc_high : (s : Source) → IsWord s → Makes (items.high_of Adc s) (adc (high s))
+  unfolding opcodes.encoded
+  adc_high (FixedWord w) h = record { same = λ a. ap (λ b. 0x69 ∷ b ∷ []) (high_byte w h) }
+  adc_high (AtPlace p) h = record { same = λ a. refl }
+
+  sbc_high : (s : Source) → IsWord s → Makes (items.high_of Sbc s) (sbc (high s))
+  unfolding opcodes.encoded
+  sbc_high (FixedWord w) h = record { same = λ a. ap (λ b. 0xe9 ∷ b ∷ []) (high_byte w h) }
+  sbc_high (AtPlace p) h = record { same = λ a. refl }
+
+  cmp_high : (s : Source) → IsWord s → Makes (items.high_of Cmp s) (cmp (high s))
+  unfolding opcodes.encoded
+  cmp_high (FixedWord w) h = record { same = λ a. ap (λ b. 0xc9 ∷ b ∷ []) (high_byte w h) }
+  cmp_high (AtPlace p) h = record { same = λ a. refl }
+
+  none : AllMake [] []
+  none = record { same = λ a. refl }
+
+  infixr 5 ◌▹◌
+  ◌▹◌ : {e : Entry} {es : List Entry} {i : Instr} {is : List Instr} → Makes e i → AllMake es is → AllMake (e ∷ es) (i ∷ is)
+  ◌▹◌ {e} {es} {i} {is} h k = record { same = λ a. λ j. h.same a j ++ k.same (a + size_of e) j }
+
+  store : (to : ℕ) → Makes (product.at Sta to) (ins 0x8d to)
+  unfolding opcodes.encoded
+  store to = record { same = λ a. refl }
+
+  clear : Makes (product.alone Clc) (ins 0x18 0)
+  unfolding opcodes.encoded
+  clear = record { same = λ a. refl }
+
+  set : Makes (product.alone Sec) (ins 0x38 0)
+  unfolding opcodes.encoded
+  set = record { same = λ a. refl }
+
+  brought_bytes : (s : Source) (to : ℕ) → IsWord s → AllMake (items.brought s to) (coded.brought s to)
+  brought_bytes s to h = lda_low s ▹ store to ▹ lda_high s h ▹ store (to + 1) ▹ none
+
+  summed_bytes : (s t : Source) (to : ℕ) → IsWord s → IsWord t → AllMake (items.summed s t to) (coded.summed s t to)
+  summed_bytes s t to h k = clear ▹ lda_low s ▹ adc_low t ▹ store to ▹ lda_high s h ▹ adc_high t k ▹ store (to + 1) ▹ none
+
+  taken_bytes : (s t : Source) (to : ℕ) → IsWord s → IsWord t → AllMake (items.taken s t to) (coded.taken s t to)
+  taken_bytes s t to h k = set ▹ lda_low s ▹ sbc_low t ▹ store to ▹ lda_high s h ▹ sbc_high t k ▹ store (to + 1) ▹ none
+
+  weighed_low : (s t : Source) → AllMake (items.low_of Lda s ∷ items.low_of Cmp t ∷ []) (weighed (low s) (low t))
+  weighed_low s t = lda_low s ▹ cmp_low t ▹ none
+
+  weighed_high : (s t : Source) → IsWord s → IsWord t → AllMake (items.high_of Lda s ∷ items.high_of Cmp t ∷ []) (weighed (high s) (high t))
+  weighed_high s t h k = lda_high s h ▹ cmp_high t k ▹ none
+
+  difference_bytes : (s t : Source) → IsWord s → IsWord t → AllMake (items.low_of Lda s ∷ items.low_of Cmp t ∷ items.high_of Lda s ∷ items.high_of Sbc t ∷ []) (difference s t)
+  difference_bytes s t h k = lda_low s ▹ cmp_low t ▹ lda_high s h ▹ sbc_high t k ▹ none
+
+  -- ---- groups without a branch
+  low_straight : (m : Mnemonic) (s : Source) → is_straight (items.low_of m s) ≡ true
+  low_straight m (FixedWord w) = refl
+  low_straight m (AtPlace p) = refl
+
+  high_straight : (m : Mnemonic) (s : Source) → is_straight (items.high_of m s) ≡ true
+  high_straight m (FixedWord w) = refl
+  high_straight m (AtPlace p) = refl
+
+  all_straight : (xs ys : List Entry) → list_all is_straight xs ≡ true → list_all is_straight ys ≡ true → list_all is_straight (xs ++ ys) ≡ true
+  all_straight [] ys h k = k
+  all_straight (x ∷ xs) ys h k = let t = and_true (is_straight x) (list_all is_straight xs) h in λ i. t.0 i && all_straight xs ys t.1 k i
+
+  brought_straight : (s : Source) (to : ℕ) → list_all is_straight (items.brought s to) ≡ true
+  brought_straight s to = λ i. low_straight Lda s i && (true && (high_straight Lda s i && true))
+
+  joined_straight : (m : Mnemonic) (s t : Source) (to : ℕ) → list_all is_straight (items.joined m s t to) ≡ true
+  joined_straight m s t to = λ i. low_straight Lda s i && (low_straight m t i && (true && (high_straight Lda s i && (high_straight m t i && true))))
+
+  handed_straight : (entry from : ℕ) (s t : Source) (to : ℕ) → list_all is_straight (items.handed entry from s t to) ≡ true
+  handed_straight entry from s t to =
+      all_straight (items.brought s LEFT) (items.brought t RIGHT ++ (product.call entry ∷ product.copied from to)) (brought_straight s LEFT)
+      (all_straight (items.brought t RIGHT) (product.call entry ∷ product.copied from to) (brought_straight t RIGHT) refl)
+
+  calculated_straight : (n : ℕ) (o : Operator) (s t : Source) (to : ℕ) → list_all is_straight (items.calculated n o s t to) ≡ true
+  calculated_straight n op.Add s t to = joined_straight Adc s t to
+  calculated_straight n op.Subtract s t to = joined_straight Sbc s t to
+  calculated_straight n op.Multiply s t to = handed_straight MULTIPLY_AT RESULT s t to
+  calculated_straight n op.Divide s t to = handed_straight DIVIDE_AT LEFT s t to
+
+  jump_straight : (ns : List ℕ) (to : ℕ) (t : Bool) → has_line ns to ≡ t → list_all is_straight (product.jump_to ns to) ≡ true
+  jump_straight ns to true e = rw e refl
+  jump_straight ns to false e = rw e refl
+
+  call_straight : (ns : List ℕ) (n to : ℕ) (t : Bool) → has_line ns to ≡ t → list_all is_straight (product.call_to ns to (next_line ns n)) ≡ true
+  call_straight ns n to true e = rw e refl
+  call_straight ns n to false e = rw e refl
+
+  template_straight : (ns : List ℕ) (n i : ℕ) (c : slots.Instr) → list_all is_straight (product.template ns n i c) ≡ true
+  template_straight ns n i (slots.Put k w) = refl
+  template_straight ns n i (slots.Load k x) = refl
+  template_straight ns n i (slots.Store x) = refl
+  template_straight ns n i (slots.Negate k) = refl
+  template_straight ns n i (slots.Compute op k) = refl
+  template_straight ns n i (slots.Random k) = refl
+  template_straight ns n i (slots.SendText bs) = refl
+  template_straight ns n i slots.SendNumber = refl
+  template_straight ns n i slots.SendZone = refl
+  template_straight ns n i slots.SendNewline = refl
+  template_straight ns n i (slots.Input x) = refl
+  template_straight ns n i slots.Poll = refl
+  template_straight ns n i slots.Hold = refl
+  template_straight ns n i (slots.LeaveUnless rel) = refl
+  template_straight ns n i slots.Jump = refl
+  template_straight ns n i slots.Call = refl
+  template_straight ns n i (slots.JumpTo to) = jump_straight ns to (has_line ns to) refl
+  template_straight ns n i (slots.CallTo to) = call_straight ns n to (has_line ns to) refl
+  template_straight ns n i slots.Return = refl
+  template_straight ns n i slots.End = refl
+
+  handed_emits : {at : ℕ} (entry from : ℕ) (s t : Source) (to : ℕ) → IsWord s → IsWord t → Emits labels at (map kept (items.handed entry from s t to)) (coded.routine entry from s t to)
+  unfolding opcodes.encoded
+  handed_emits entry from s t to h k =
+      block labels (items.brought s LEFT) (coded.brought s LEFT) ((brought_bytes s LEFT h).same _)
+      (block labels (items.brought t RIGHT) (coded.brought t RIGHT) ((brought_bytes t RIGHT k).same _)
+      (block labels (product.call entry ∷ []) (resolved.call entry) refl
+      (block labels (product.copied from to) (resolved.copied from to) refl (ends labels))))
+
+  calculated_emits : (n at : ℕ) (o : Operator) (s t : Source) (to : ℕ) → n < 65536 → IsWord s → IsWord t → Emits labels at (map kept (items.calculated n o s t to)) (coded.calc_code n o s t to)
+  unfolding opcodes.encoded
+  calculated_emits n at op.Add s t to l h k = block labels (items.summed s t to) (coded.summed s t to) ((summed_bytes s t to h k).same at) (ends labels)
+  calculated_emits n at op.Subtract s t to l h k = block labels (items.taken s t to) (coded.taken s t to) ((taken_bytes s t to h k).same at) (ends labels)
+  calculated_emits n at op.Multiply s t to l h k = handed_emits MULTIPLY_AT RESULT s t to h k
+  calculated_emits n at op.Divide s t to l h k =
+      block labels (product.constant n LINE) (resolved.constant n LINE) (constant_bytes labels [] 0 at n LINE l) (handed_emits DIVIDE_AT LEFT s t to h k)
+
+  -- ---- cut behind straight items and behind a branch
+  make_size : (es : List Entry) (is : List Instr) → AllMake es is → size es ≡ resolved.size is
+  make_size es is m =
+      let one : Emits labels 0 (map kept es ++ []) (Code is ∷ []) = block labels es is (m.same 0) (ends labels) in
+      let a = emitted_size labels one in let b = kept_size es in let c = forms_append (map kept es) [] in omega (arith, a, b, c)
+
+  pub behind_straight : (at : ℕ) (es : List Entry) (is : List Instr) (fs : List Form) → AllMake es is → Rest at (map kept es ++ fs) → Rest (at + resolved.size is) fs
+  behind_straight at es is fs m r = rest_behind at (at + resolved.size is) (map kept es) fs (let s = make_size es is m in let k = kept_size es in omega (arith, s, k)) r
+
+  pub behind_branch : (at : ℕ) (way : Way) (n : Mnemonic) (l : Name) (fs : List Form) → Rest at (formed way n l ∷ fs) → Rest (at + way_size way) fs
+  behind_branch at way n l fs r = rest_behind at (at + way_size way) (formed way n l ∷ []) fs (let s = formed_size way n l in omega (arith, s)) r
+
+  -- a label stands for where it is, and takes no room
+  pub label_here : (at : ℕ) (l : Name) (fs : List Form) → Rest at (kept (label l) ∷ fs) → address_in labels l ≡ Some at
+  label_here at l fs r = r.labels_at.0
+
+  pub behind_label : (at : ℕ) (l : Name) (fs : List Form) → Rest at (kept (label l) ∷ fs) → Rest at fs
+  behind_label at l fs r = rest_behind at at (kept (label l) ∷ []) fs (omega arith) r
+
+  pub value_of : (l : Name) (a : ℕ) → address_in labels l ≡ Some a → number_in labels (Label l) ≡ a
+  value_of l a e = ap (λ o. unwrap_or o 0) e
+
+  -- a branch of these forms reaches
+  pub gets_there : (at to : ℕ) (way : Way) (n : Mnemonic) (l : Name) (fs : List Form) → address_in labels l ≡ Some to → to ≤ highest_code → Rest at (formed way n l ∷ fs) → BranchReaches way at to
+  gets_there at to way n l fs h top r = reaches labels way n at to l (items_from (at + form_size (formed way n l)) fs) h top r.near
+
+  pub no_more : (fs : List Form) → AreFormsOf [] fs → fs ≡ []
+  no_more [] h = refl
+  no_more (f ∷ fs) h = absurd h
+
+  -- ---- tests
+  module _ (a b : Source) (a_word : IsWord a) (b_word : IsWord b) (next : ℕ) (leaves : Name) (there : address_in labels leaves ≡ Some next) (top : next ≤ highest_code) where
+    abbrev low_pair : List Entry
+    low_pair = items.low_of Lda a ∷ items.low_of Cmp b ∷ []
+
+    abbrev high_pair : List Entry
+    high_pair = items.high_of Lda a ∷ items.high_of Cmp b ∷ []
+
+    abbrev both_pairs : List Entry
+    both_pairs = items.low_of Lda a ∷ items.low_of Cmp b ∷ items.high_of Lda a ∷ items.high_of Sbc b ∷ []
+
+    low_pair_straight : list_all is_straight low_pair ≡ true
+    low_pair_straight = λ i. low_straight Lda a i && (low_straight Cmp b i && true)
+
+    high_pair_straight : list_all is_straight high_pair ≡ true
+    high_pair_straight = λ i. high_straight Lda a i && (high_straight Cmp b i && true)
+
+    both_straight : list_all is_straight both_pairs ≡ true
+    both_straight = λ i. low_straight Lda a i && (low_straight Cmp b i && (high_straight Lda a i && (high_straight Sbc b i && true)))
+
+    -- ---- equality
+    pub record Equality (differ : Bool) (at : ℕ) (fs : List Form) : Type 0 where
+      pub first : Way
+      pub second : Way
+      pub emits : Emits labels at fs (coded.equality_code differ first second at a b next)
+      pub reach : coded.EqualityReaches differ first second at a b next
+
+    abbrev equality_forms : Bool → (first second : Way) → Name → List Form → List Form
+    equality_forms differ first second l tail = map kept low_pair ++ (formed first (branch_by Zero false) l ∷ (map kept high_pair ++ (formed second (branch_by Zero differ) leaves ∷ tail)))
+
+    module _ (differ : Bool) (first second : Way) (at : ℕ) (l : Name) (tail : List Form) (r : Rest at (equality_forms differ first second l tail)) where
+      r1 : Rest (at + resolved.size (weighed (low a) (low b))) (formed first (branch_by Zero false) l ∷ (map kept high_pair ++ (formed second (branch_by Zero differ) leaves ∷ tail)))
+      r1 = behind_straight at low_pair (weighed (low a) (low b)) _ (weighed_low a b) r
+
+      r2 : Rest (at + resolved.size (weighed (low a) (low b)) + way_size first) (map kept high_pair ++ (formed second (branch_by Zero differ) leaves ∷ tail))
+      r2 = behind_branch _ first (branch_by Zero false) l _ r1
+
+      r3 : Rest (second_at first at a b) (formed second (branch_by Zero differ) leaves ∷ tail)
+      r3 = behind_straight _ high_pair (weighed (high a) (high b)) _ (weighed_high a b a_word b_word) r2
+
+      r4 : Rest (second_at first at a b + way_size second) tail
+      r4 = behind_branch _ second (branch_by Zero differ) leaves _ r3
+
+      equality : address_in labels l ≡ Some (coded.first_to differ first second at a b next) → coded.first_to differ first second at a b next ≤ highest_code
+          → Emits labels (second_at first at a b + way_size second) tail [] → Equality differ at (equality_forms differ first second l tail)
+      equality h t e = record {
+        first = first;
+        second = second;
+        emits =
+            block labels low_pair (weighed (low a) (low b)) ((weighed_low a b).same at)
+            (branches labels first Zero false l (let q = r1.below in omega (arith, q)) (value_of l _ h)
+            (block labels high_pair (weighed (high a) (high b)) ((weighed_high a b a_word b_word).same _)
+            (branches labels second Zero differ leaves (let q = r3.below in omega (arith, q)) (value_of leaves next there) e)));
+        reach = (
+          gets_there _ _ first (branch_by Zero false) l _ h t r1,
+          gets_there _ next second (branch_by Zero differ) leaves _ there top r3,
+        );
+      }
+
+    pub equal_emitted : (at : ℕ) (fs : List Form) → AreFormsOf (low_pair ++ (instr Bne Relative (Label leaves) ∷ (high_pair ++ (instr Bne Relative (Label leaves) ∷ [])))) fs → Rest at fs → Equality false at fs
+    equal_emitted at fs h r =
+        let c1 = cut low_pair (instr Bne Relative (Label leaves) ∷ (high_pair ++ (instr Bne Relative (Label leaves) ∷ []))) fs low_pair_straight h in
+        let b1 = cut_branch Bne leaves (high_pair ++ (instr Bne Relative (Label leaves) ∷ [])) c1.rest c1.of in
+        let c2 = cut high_pair (instr Bne Relative (Label leaves) ∷ []) b1.rest high_pair_straight b1.of in
+        let b2 = cut_branch Bne leaves [] c2.rest c2.of in
+        let is : fs ≡ equality_forms false b1.way b2.way leaves [] =
+        c1.is ∙ ap (λ t. map kept low_pair ++ t) (b1.is ∙ ap (λ t. formed b1.way Bne leaves ∷ t) (c2.is ∙ ap (λ t. map kept high_pair ++ t) (b2.is ∙ ap (λ t. formed b2.way Bne leaves ∷ t) (no_more b2.rest b2.of)))) in
+        subst (Equality false at) (sym is) (equality false b1.way b2.way at leaves [] (subst (Rest at) is r) there top (ends labels))
+
+    pub unequal_emitted : (at : ℕ) (skip : Name) (fs : List Form)
+        → AreFormsOf (low_pair ++ (instr Bne Relative (Label skip) ∷ (high_pair ++ (instr Beq Relative (Label leaves) ∷ (label skip ∷ []))))) fs → Rest at fs → Equality true at fs
+    unequal_emitted at skip fs h r =
+        let c1 = cut low_pair (instr Bne Relative (Label skip) ∷ (high_pair ++ (instr Beq Relative (Label leaves) ∷ (label skip ∷ [])))) fs low_pair_straight h in
+        let b1 = cut_branch Bne skip (high_pair ++ (instr Beq Relative (Label leaves) ∷ (label skip ∷ []))) c1.rest c1.of in
+        let c2 = cut high_pair (instr Beq Relative (Label leaves) ∷ (label skip ∷ [])) b1.rest high_pair_straight b1.of in
+        let b2 = cut_branch Beq leaves (label skip ∷ []) c2.rest c2.of in
+        let c3 = cut (label skip ∷ []) [] b2.rest refl b2.of in
+        let tail : List Form = kept (label skip) ∷ [] in
+        let is : fs ≡ equality_forms true b1.way b2.way skip tail =
+        c1.is ∙ ap (λ t. map kept low_pair ++ t) (b1.is ∙ ap (λ t. formed b1.way Bne skip ∷ t) (c2.is ∙ ap (λ t. map kept high_pair ++ t) (b2.is ∙ ap (λ t. formed b2.way Beq leaves ∷ t) (c3.is ∙ ap (λ t. kept (label skip) ∷ t) (no_more c3.rest c3.of))))) in
+        let r' = subst (Rest at) is r in
+        let end = r4 true b1.way b2.way at skip tail r' in
+        subst (Equality true at) (sym is)
+        (equality true b1.way b2.way at skip tail r' (label_here _ skip [] end) (let q = end.below in omega (arith, q)) (labelled labels skip (ends labels)))
+
+    -- ---- order
+    pub record Order (below : Bool) (at : ℕ) (fs : List Form) : Type 0 where
+      pub first : Way
+      pub second : Way
+      pub emits : Emits labels at fs (coded.order_code below first second at a b next)
+      pub reach : coded.OrderReaches first second at a b next
+
+    abbrev turn : List Entry
+    turn = product.const Eor 128 ∷ []
+
+    turn_bytes : AllMake turn (ins 0x49 128 ∷ [])
+    unfolding opcodes.encoded
+    turn_bytes = record { same = λ a. refl }
+
+    abbrev order_forms : Bool → (first second : Way) → Name → List Form
+    order_forms below first second skip =
+        map kept both_pairs ++ (formed first (branch_by Overflow false) skip ∷ (map kept turn ++ (kept (label skip) ∷ formed second (branch_by Negative below) leaves ∷ [])))
+
+    module _ (below : Bool) (first second : Way) (at : ℕ) (skip : Name) (r : Rest at (order_forms below first second skip)) where
+      o1 : Rest (at + resolved.size (difference a b)) (formed first (branch_by Overflow false) skip ∷ (map kept turn ++ (kept (label skip) ∷ formed second (branch_by Negative below) leaves ∷ [])))
+      o1 = behind_straight at both_pairs (difference a b) _ (difference_bytes a b a_word b_word) r
+
+      o2 : Rest (at + resolved.size (difference a b) + way_size first) (map kept turn ++ (kept (label skip) ∷ formed second (branch_by Negative below) leaves ∷ []))
+      o2 = behind_branch _ first (branch_by Overflow false) skip _ o1
+
+      o3 : Rest (turned_at first at a b) (kept (label skip) ∷ formed second (branch_by Negative below) leaves ∷ [])
+      o3 = behind_straight _ turn (ins 0x49 128 ∷ []) _ turn_bytes o2
+
+      o4 : Rest (turned_at first at a b) (formed second (branch_by Negative below) leaves ∷ [])
+      o4 = behind_label _ skip _ o3
+
+      order : Order below at (order_forms below first second skip)
+      order =
+          let h = label_here _ skip _ o3 in record {
+            first = first;
+            second = second;
+            emits =
+                block labels both_pairs (difference a b) ((difference_bytes a b a_word b_word).same at)
+                (branches labels first Overflow false skip (let q = o1.below in omega (arith, q)) (value_of skip _ h)
+                (block labels turn (ins 0x49 128 ∷ []) (turn_bytes.same 0)
+                (labelled labels skip (branches labels second Negative below leaves (let q = o4.below in omega (arith, q)) (value_of leaves next there) (ends labels)))));
+            reach = (
+              gets_there _ _ first (branch_by Overflow false) skip _ h (let q = o3.below in omega (arith, q)) o1,
+              gets_there _ next second (branch_by Negative below) leaves _ there top o4,
+            );
+          }
+
+    pub order_emitted : (below : Bool) (at : ℕ) (skip : Name) (fs : List Form)
+        → AreFormsOf (both_pairs ++ (instr Bvc Relative (Label skip) ∷ ((product.const Eor 128 ∷ label skip ∷ []) ++ (instr (branch_by Negative below) Relative (Label leaves) ∷ [])))) fs → Rest at fs → Order below at fs
+    order_emitted below at skip fs h r =
+        let c1 = cut both_pairs (instr Bvc Relative (Label skip) ∷ ((product.const Eor 128 ∷ label skip ∷ []) ++ (instr (branch_by Negative below) Relative (Label leaves) ∷ []))) fs both_straight h in
+        let b1 = cut_branch Bvc skip ((product.const Eor 128 ∷ label skip ∷ []) ++ (instr (branch_by Negative below) Relative (Label leaves) ∷ [])) c1.rest c1.of in
+        let c2 = cut (product.const Eor 128 ∷ label skip ∷ []) (instr (branch_by Negative below) Relative (Label leaves) ∷ []) b1.rest refl b1.of in
+        let b2 = cut_branch (branch_by Negative below) leaves [] c2.rest c2.of in
+        let is : fs ≡ order_forms below b1.way b2.way skip =
+        c1.is ∙ ap (λ t. map kept both_pairs ++ t) (b1.is ∙ ap (λ t. formed b1.way Bvc skip ∷ t) (c2.is ∙ ap (λ t. kept (product.const Eor 128) ∷ kept (label skip) ∷ t) (b2.is ∙ ap (λ t. formed b2.way (branch_by Negative below) leaves ∷ t) (no_more b2.rest b2.of)))) in
+        subst (Order below at) (sym is) (order below b1.way b2.way at skip (subst (Rest at) is r))
+
+-- ---- groups
+-- forms that emit a test whose branches go to a place, by their ways, which reach
+pub record TestEmitted (labels : List (Name × ℕ)) (r : Rel) (at : ℕ) (a b : Source) (to : ℕ) (fs : List Form) : Type 0 where
+  pub first : Way
+  pub second : Way
+  pub emits : Emits labels at fs (test_code r first second at a b to)
+  pub reach : TestReaches r first second at a b to
+
+-- forms that emit a group by the ways of its branches, which reach
+pub record GroupEmitted (labels : List (Name × ℕ)) (ly : Layout) (n at : ℕ) (g : Group) (fs : List Form) : Type 0 where
+  pub first : Way
+  pub second : Way
+  pub emits : Emits labels at fs (group_code ly n at first second g)
+  pub reach : BranchesReach ly n at first second g
+
+module _ (labels : List (Name × ℕ)) (ns : List ℕ) (seed n : ℕ) (seed_small : seed < 65536) (n_small : n < 65536) where
+  abbrev ly : Layout
+  ly = layout_of labels ns seed
+
+  module _ (there : address_in labels (label_of (next_line ns n)) ≡ Some (next_at ly n)) (top : next_at ly n ≤ highest_code)
+      (lines_there : (m : ℕ) → has_line ns m ≡ true → address_in labels (label_of (target.Line m)) ≡ Some (ly.start m)) (starts_top : (m : ℕ) → ly.start m ≤ highest_code) where
+    next_small : next_at ly n < 65536
+    next_small = omega (arith, top)
+
+    -- a single instruction, with the line's number set before it where it may fault
+    abbrev alone_items : ℕ → slots.Instr → Bool → List Entry
+    alone_items i c t = if t then product.constant n LINE ++ product.template ns n i c else product.template ns n i c
+
+    abbrev alone_pieces : ℕ → slots.Instr → Bool → List Piece
+    alone_pieces at c t = if t then Code (resolved.constant n LINE) ∷ resolved.template ly n (at + 10) c else resolved.template ly n at c
+
+    alone_straight : (i : ℕ) (c : slots.Instr) (t : Bool) → list_all is_straight (alone_items i c t) ≡ true
+    alone_straight i c true = template_straight labels ns n i c
+    alone_straight i c false = template_straight labels ns n i c
+
+    line_set : AllMake labels (product.constant n LINE) (resolved.constant n LINE)
+    line_set = record { same = λ a. constant_bytes labels ns seed a n LINE n_small }
+
+    template_emits : (i at : ℕ) (c : slots.Instr) → alone c ≡ Single c → IsInRange 256 c → Rest labels at (map kept (product.template ns n i c))
+        → Emits labels at (map kept (product.template ns n i c)) (resolved.template ly n at c)
+    template_emits i at c q range r =
+        let es = product.template ns n i c in
+        let below = r.below in let k = kept_size es in
+        record {
+          bytes = ap (bytes_from labels at) (items_kept at es)
+              ∙ template_bytes labels ns seed seed_small n next_small i at c q range (omega (arith, below, k)) (subst (LabelsAt labels at) (items_kept at es) r.labels_at);
+        }
+
+    alone_emits : (i at : ℕ) (c : slots.Instr) (t : Bool) → alone c ≡ Single c → IsInRange 256 c → Rest labels at (map kept (alone_items i c t))
+        → Emits labels at (map kept (alone_items i c t)) (alone_pieces at c t)
+    alone_emits i at c true q range r =
+        block labels (product.constant n LINE) (resolved.constant n LINE) (line_set.same at)
+        (template_emits i (at + 10) c q range (behind_straight labels at (product.constant n LINE) (resolved.constant n LINE) (map kept (product.template ns n i c)) line_set r))
+    alone_emits i at c false q range r = template_emits i at c q range r
+
+    straight_emitted : (at : ℕ) (g : Group) (es : List Entry) (fs : List Form) → list_all is_straight es ≡ true → AreFormsOf es fs → Rest labels at fs
+        → (Rest labels at (map kept es) → GroupEmitted labels ly n at g (map kept es)) → GroupEmitted labels ly n at g fs
+    straight_emitted at g es fs s h r k =
+        let is : fs ≡ map kept es = straight_forms es fs s h in
+        subst (GroupEmitted labels ly n at g) (sym is) (k (subst (Rest labels at) is r))
+
+    -- a test whose branches go to any label
+    module _ (to : ℕ) (goal skip : Target) (goal_there : address_in labels (label_of goal) ≡ Some to) (goal_top : to ≤ highest_code) where
+      tested_emitted : (r : Rel) (at : ℕ) (x : Tested) (b : Operand) (fs : List Form) → AreFormsOf (items.tested r (tested_source x) (source_of 0 b) skip goal) fs → Rest labels at fs → TestEmitted labels r at (tested_source x) (source_of 0 b) to fs
+      tested_emitted rel.Eq at x b fs h r =
+          let e = equal_emitted labels (tested_source x) (source_of 0 b) (tested_word labels x) (source_word labels 0 b) to (label_of goal) goal_there goal_top at fs h r in
+          record { first = e.first; second = e.second; emits = e.emits; reach = e.reach }
+      tested_emitted rel.Ne at x b fs h r =
+          let e = unequal_emitted labels (tested_source x) (source_of 0 b) (tested_word labels x) (source_word labels 0 b) to (label_of goal) goal_there goal_top at (label_of skip) fs h r in
+          record { first = e.first; second = e.second; emits = e.emits; reach = e.reach }
+      tested_emitted rel.Lt at x b fs h r =
+          let e = order_emitted labels (tested_source x) (source_of 0 b) (tested_word labels x) (source_word labels 0 b) to (label_of goal) goal_there goal_top false at (label_of skip) fs h r in
+          record { first = e.first; second = e.second; emits = e.emits; reach = e.reach }
+      tested_emitted rel.Ge at x b fs h r =
+          let e = order_emitted labels (tested_source x) (source_of 0 b) (tested_word labels x) (source_word labels 0 b) to (label_of goal) goal_there goal_top true at (label_of skip) fs h r in
+          record { first = e.first; second = e.second; emits = e.emits; reach = e.reach }
+      tested_emitted rel.Gt at x b fs h r =
+          let e = order_emitted labels (source_of 0 b) (tested_source x) (source_word labels 0 b) (tested_word labels x) to (label_of goal) goal_there goal_top false at (label_of skip) fs h r in
+          record { first = e.first; second = e.second; emits = e.emits; reach = e.reach }
+      tested_emitted rel.Le at x b fs h r =
+          let e = order_emitted labels (source_of 0 b) (tested_source x) (source_word labels 0 b) (tested_word labels x) to (label_of goal) goal_there goal_top true at (label_of skip) fs h r in
+          record { first = e.first; second = e.second; emits = e.emits; reach = e.reach }
+
+    -- a fault in line n
+    fault_emits : {at : ℕ} → Emits labels at (map kept (items.faulted n 1)) (Code (resolved.constant n LINE) ∷ Code (resolved.faulting 1) ∷ [])
+    unfolding opcodes.encoded
+    fault_emits = block labels (product.constant n LINE) (resolved.constant n LINE) (line_set.same 0) (block labels (product.fault 1) (resolved.faulting 1) refl (ends labels))
+
+    -- a test that goes straight to a line, by whether there is one
+    go_emitted : (i at : ℕ) (r : Rel) (x : Tested) (b : Operand) (to : ℕ) (has : Bool) → has_line ns to ≡ has → (fs : List Form)
+        → AreFormsOf (items.gone n r (tested_source x) (source_of 0 b) (target.Inside inside.Skip n i) (next_line ns n) has to) fs → Rest labels at fs
+        → (first second : Way) × Emits labels at fs (coded.go_code ly n at first second r (tested_source x) (source_of 0 b) has to) × coded.GoReaches ly n at first second r (tested_source x) (source_of 0 b) has to
+    go_emitted i at r x b to true has fs h rest =
+        let e = tested_emitted (ly.start to) (target.Line to) (target.Inside inside.Skip n i) (lines_there to has) (starts_top to) (denied r) at x b fs h rest in
+        (e.first, e.second, e.emits, e.reach)
+    go_emitted i at r x b to false has fs h rest =
+        let test = items.tested r (tested_source x) (source_of 0 b) (target.Inside inside.Skip n i) (next_line ns n) in
+        let s = split test (items.faulted n 1) fs h in
+        let parts = subst (Rest labels at) s.are rest in
+        let e = tested_emitted (next_at ly n) (next_line ns n) (target.Inside inside.Skip n i) there top r at x b s.front s.of_front (rest_before labels at s.front s.back parts) in
+        let behind : s.back ≡ map kept (items.faulted n 1) = straight_forms (items.faulted n 1) s.back refl s.of_back in
+        (e.first, e.second, subst (λ k. Emits labels at k (coded.go_code ly n at e.first e.second r (tested_source x) (source_of 0 b) false to)) (sym (s.are ∙ ap (λ k. s.front ++ k) behind)) (emits_append labels e.emits fault_emits), e.reach)
+
+    -- the search in the line table for a word, and what is behind it
+    searched_emits : {at : ℕ} {fs : List Form} {ps : List Piece} (x : Source) → IsWord labels x → Emits labels (at + 10 + resolved.size (coded.brought x LEFT) + 3) fs ps → Emits labels at (map kept (items.searched n x) ++ fs) (coded.searched ly n x ps)
+    unfolding opcodes.encoded
+    searched_emits x w e =
+        block labels (product.constant n LINE) (resolved.constant n LINE) (line_set.same 0)
+        (block labels (items.brought x LEFT) (coded.brought x LEFT) ((brought_bytes labels x LEFT w).same _)
+        (block labels (product.find ∷ []) (resolved.call ly.locate) refl e))
+
+    used_straight : (how : Usage) (x : Source) → list_all is_straight (items.used n (next_line ns n) how x) ≡ true
+    used_straight AsNumber x = all_straight labels (items.brought x LEFT) (product.call NUMBER_AT ∷ []) (brought_straight labels x LEFT) refl
+    used_straight AsLine x = all_straight labels (items.brought x LEFT) (product.find ∷ product.jump_through) (brought_straight labels x LEFT) refl
+    used_straight AsSubroutine x = all_straight labels (items.brought x LEFT) (product.find ∷ (product.note (next_line ns n) ++ product.jump_through)) (brought_straight labels x LEFT) refl
+
+    used_emits : {at : ℕ} (how : Usage) (x : Source) → IsWord labels x → Emits labels at (map kept (items.used n (next_line ns n) how x)) (coded.use_code ly n how x)
+    unfolding opcodes.encoded
+    used_emits AsNumber x w = block labels (items.brought x LEFT) (coded.brought x LEFT) ((brought_bytes labels x LEFT w).same _) (block labels (product.call NUMBER_AT ∷ []) (resolved.call NUMBER_AT) refl (ends labels))
+    used_emits AsLine x w = searched_emits x w (block labels product.jump_through resolved.jump_through refl (ends labels))
+    used_emits AsSubroutine x w =
+        searched_emits x w
+        (block labels (product.address (next_line ns n) LEFT) (resolved.constant (next_at ly n) LEFT) (address_bytes labels ns seed 0 (next_line ns n) (next_at ly n) LEFT (next_same labels ns seed n) next_small)
+        (block labels (product.call PUSH_AT ∷ []) (resolved.call PUSH_AT) refl (block labels product.jump_through resolved.jump_through refl (ends labels))))
+
+    converted_straight : (what : Conversion) (x : Source) (to : ℕ) → list_all is_straight (items.converted n seed what x to) ≡ true
+    converted_straight Negated x to = joined_straight labels Sbc (FixedWord 0) x to
+    converted_straight Drawn x to = handed_straight labels RANDOM_AT RESULT x (FixedWord seed) to
+
+    converted_emits : {at : ℕ} (what : Conversion) (x : Source) (to : ℕ) → IsWord labels x → Emits labels at (map kept (items.converted n seed what x to)) (coded.convert_code ly n what x to)
+    converted_emits Negated x to w = block labels (items.taken (FixedWord 0) x to) (coded.taken (FixedWord 0) x to) ((taken_bytes labels (FixedWord 0) x to (omega arith) w).same _) (ends labels)
+    converted_emits Drawn x to w = block labels (product.constant n LINE) (resolved.constant n LINE) (line_set.same 0) (handed_emits labels RANDOM_AT RESULT x (FixedWord seed) to w seed_small)
+
+    -- the forms of each group emit it
+    pub group_emitted : (i at : ℕ) (g : Group) (fs : List Form) → IsAlone g → AreInRange 256 (expand g) → AreFormsOf (items.group_template ns seed n i g) fs → Rest labels at fs
+        → GroupEmitted labels ly n at g fs
+    group_emitted i at (Calculate o a b d) fs q range h r =
+        let x = source_of (slot_of d) a in let y = source_of (slot_of d + 1) b in let to = destination_at d in
+        straight_emitted at (Calculate o a b d) (items.calculated n o x y to) fs (calculated_straight labels n o x y to) h r
+        (λ s. record { first = Short; second = Short; emits = calculated_emits labels n at o x y to n_small (source_word labels (slot_of d) a) (source_word labels (slot_of d + 1) b); reach = tt })
+    group_emitted i at (Move a home) fs q range h r =
+        let x = source_of 0 a in let to = home_at home in
+        straight_emitted at (Move a home) (items.brought x to) fs (brought_straight labels x to) h r
+        (λ s. record { first = Short; second = Short; emits = block labels (items.brought x to) (coded.brought x to) ((brought_bytes labels x to (source_word labels 0 a)).same at) (ends labels); reach = tt })
+    group_emitted i at (Convert what a d) fs q range h r =
+        let x = source_of (slot_of d) a in let to = destination_at d in
+        straight_emitted at (Convert what a d) (items.converted n seed what x to) fs (converted_straight what x to) h r
+        (λ s. record { first = Short; second = Short; emits = converted_emits what x to (source_word labels (slot_of d) a); reach = tt })
+    group_emitted i at (Use how a) fs q range h r =
+        straight_emitted at (Use how a) (items.used n (next_line ns n) how (source_of 0 a)) fs (used_straight how (source_of 0 a)) h r
+        (λ s. record { first = Short; second = Short; emits = used_emits how (source_of 0 a) (source_word labels 0 a); reach = tt })
+    group_emitted i at (Test rel x b) fs q range h r =
+        let e = tested_emitted (next_at ly n) (next_line ns n) (target.Inside inside.Skip n i) there top rel at x b fs h r in
+        record { first = e.first; second = e.second; emits = e.emits; reach = e.reach }
+    group_emitted i at (TestGo rel x b to) fs q range h r =
+        let e = go_emitted i at rel x b to (has_line ns to) refl fs h r in
+        record { first = e.0; second = e.1; emits = e.2; reach = e.3 }
+    group_emitted i at (Single c) fs q range h r =
+        straight_emitted at (Single c) (alone_items i c (items.may_fault ns c)) fs (alone_straight i c (items.may_fault ns c)) h r
+        (λ s. record {
+          first = Short;
+          second = Short;
+          emits = alone_emits i at c (items.may_fault ns c) q range.0 s;
+          reach = tt;
+        })
+
+  -- ---- the poll at a line's beginning
+  -- the forms of a poll behind its call emit it by the way of its branch, which reaches
+  pub record PollEmitted (at : ℕ) (fs : List Form) : Type 0 where
+    pub way : Way
+    pub emits : Emits labels at fs (coded.poll_code n at way)
+    pub reach : BranchReaches way (at + 2) (at + 17 + way_size way)
+
+  module _ (skip : Name) where
+    abbrev asked : List Entry
+    asked = product.const Cmp 3 ∷ []
+
+    abbrev broken : List Entry
+    broken = product.constant n LINE ++ (product.fault 0 ++ (label skip ∷ []))
+
+    asked_bytes : AllMake labels asked (ins 0xC9 3 ∷ [])
+    unfolding opcodes.encoded
+    asked_bytes = record { same = λ a. refl }
+
+    fault_bytes : AllMake labels (product.fault 0) (resolved.faulting 0)
+    unfolding opcodes.encoded
+    fault_bytes = record { same = λ a. refl }
+
+    set_bytes : AllMake labels (product.constant n LINE) (resolved.constant n LINE)
+    set_bytes = record { same = λ a. constant_bytes labels ns seed a n LINE n_small }
+
+    module _ (way : Way) (at : ℕ) (r : Rest labels at (map kept asked ++ (formed way Bne skip ∷ map kept broken))) where
+      p1 : Rest labels (at + 2) (formed way Bne skip ∷ map kept broken)
+      p1 = behind_straight labels at asked (ins 0xC9 3 ∷ []) _ asked_bytes r
+
+      p2 : Rest labels (at + 2 + way_size way) (map kept broken)
+      p2 = behind_branch labels _ way Bne skip _ p1
+
+      p3 : Rest labels (at + 2 + way_size way + 10) (map kept (product.fault 0 ++ (label skip ∷ [])))
+      p3 = behind_straight labels _ (product.constant n LINE) (resolved.constant n LINE) _ set_bytes p2
+
+      p4 : Rest labels (at + 2 + way_size way + 10 + 5) (kept (label skip) ∷ [])
+      p4 = behind_straight labels _ (product.fault 0) (resolved.faulting 0) _ fault_bytes p3
+
+      place : at + 2 + way_size way + 10 + 5 ≡ at + 17 + way_size way
+      place = omega arith
+
+      skipped : address_in labels skip ≡ Some (at + 17 + way_size way)
+      skipped = label_here labels _ skip [] p4 ∙ ap Some place
+
+      poll : PollEmitted at (map kept asked ++ (formed way Bne skip ∷ map kept broken))
+      poll = record {
+        way = way;
+        emits =
+            block labels asked (ins 0xC9 3 ∷ []) (asked_bytes.same at)
+            (branches labels way Zero false skip (let q = p1.below in omega (arith, q)) (value_of labels skip _ skipped)
+            (block labels (product.constant n LINE) (resolved.constant n LINE) (set_bytes.same 0)
+            (block labels (product.fault 0) (resolved.faulting 0) (fault_bytes.same 0) (labelled labels skip (ends labels)))));
+        reach = gets_there labels (at + 2) _ way Bne skip _ skipped (let q = p4.below in omega (arith, q, place)) p1;
+      }
+
+    pub poll_emitted : (at : ℕ) (fs : List Form) → AreFormsOf (asked ++ (instr Bne Relative (Label skip) ∷ (broken ++ []))) fs → Rest labels at fs → PollEmitted at fs
+    poll_emitted at fs h r =
+        let c1 = cut asked (instr Bne Relative (Label skip) ∷ (broken ++ [])) fs refl h in
+        let b1 = cut_branch Bne skip (broken ++ []) c1.rest c1.of in
+        let c2 = cut broken [] b1.rest refl b1.of in
+        let is : fs ≡ map kept asked ++ (formed b1.way Bne skip ∷ map kept broken) =
+        c1.is ∙ ap (λ t. map kept asked ++ t) (b1.is ∙ ap (λ t. formed b1.way Bne skip ∷ t) (c2.is ∙ ap (λ t. map kept broken ++ t) (no_more labels c2.rest c2.of))) in
+        subst (PollEmitted at) (sym is) (poll b1.way at (subst (Rest labels at) is r))

@@ -1,0 +1,108 @@
+-- A routine that is handed two words and gives one: up to its call, and behind it.
+use Rattle.std.proofs.Common.{◌≡◌, ◌≢◌, ◌≤◌, ℕ, ◌+◌, ◌/◌, ◌%◌, List, [], ◌∷◌, refl, ◌∙◌, subst, arith}
+use Rattle.tb_lower.specs.Control.{State}
+use Rattle.tb_lower.specs.Slots.{Instr, Slots, SlotCode, with_word}
+use Rattle.tb_reaching.proofs.Comes.{chained, looser}
+use Rattle.tb_reaching.specs.View.{Fits, Setup, View, back_at}
+use Rattle.tb_runtime16.specs.Routines.{Here, Moves, WordAt}
+use Rattle.tb_runtime16.specs.Places.{LEFT, LINE, RESULT, RIGHT}
+use Rattle.tb_keeping.specs.Layout.{Layout}
+use Rattle.tb_keeping.proofs.Frames.{word_away, word_put}
+use Rattle.tb_keeping.proofs.Mirrors.{Typable}
+use Rattle.tb_keeping.proofs.Pieces.{calls, copies, put_word}
+use Rattle.tb_keeping.proofs.Resolved.{Lies, pieces_size, size}
+use Rattle.tb_keeping.proofs.Returning.{behind_call}
+use Rattle.tb_selection.specs.Groups.{IntoHeld, IntoHome, IntoSlot, IntoVariable, Destination, Group, slot_of}
+use Rattle.tb_selection.specs.Liveness.{live}
+use Rattle.tb_selection.specs.Select.{select}
+use Rattle.tb_templates.specs.declared.sources.Source.{Source}
+use Rattle.tb_templates.specs.Sources.{destination_at}
+use Rattle.tb_grouping.proofs.Coded.{GroupsLie, brought, high, low, routine}
+use Rattle.tb_grouping.proofs.Landing.{DestFits}
+use Rattle.tb_grouping.proofs.Lone.{Kept, kept_put, word_lands}
+use Rattle.tb_grouping.proofs.Matching.{Matches}
+use Rattle.tb_grouping.proofs.Operands.{SourceHolds, dest_in_data}
+use Rattle.tb_grouping.proofs.Ready.{Ready}
+use Rattle.tb_grouping.proofs.SlotSide.{Lasting, landed, line, slots_landed}
+use Rattle.tb_grouping.proofs.Sources.{value}
+use Rattle.tb_grouping.proofs.Sums.{Grounded, brings}
+
+-- where a routine may leave what it gives
+abbrev Gives : ℕ → Type 0
+Gives from = (LEFT ≤ from) × (from ≤ RESULT)
+
+-- its high byte is not where it goes
+given_apart : (from : ℕ) (d : Destination) → Gives from → DestFits d → from + 1 ≢ destination_at d
+given_apart from (IntoSlot k) g fit e = omega (arith, e, fit, g.0, g.1)
+given_apart from (IntoHome (IntoVariable x)) g fit e = omega (arith, e, fit, g.0, g.1)
+given_apart from (IntoHome IntoHeld) g fit e = omega (arith, e, g.0, g.1)
+
+module _ (ly : Layout) (f : Setup) (lo hi keys : ℕ) (fits : Fits f 16) (n : ℕ) (g : Group) (js is : List Instr) (s : State) (r : Slots) (w : View) (h : Ready ly f lo hi keys fits n g js is s r w) where
+  abbrev own : List ℕ
+  own = lo ∷ hi ∷ []
+
+  -- the routine is back, with a word and a state
+  pub record Given (from at : ℕ) (s' : State) (v : ℕ) (u : View) : Type 0 where
+    pub here : Here at own u.mem w.text w.answers u
+    pub result : WordAt u.mem from v
+    pub kept : Kept ly f lo hi keys fits (live js) s' r u.mem
+
+  -- a memory in which it finds its words, at its call
+  pub record Handed (m : ℕ → ℕ) (x y : ℕ) (m' : ℕ → ℕ) : Type 0 where
+    pub left : WordAt m' LEFT x
+    pub right : WordAt m' RIGHT y
+    pub line : WordAt m LINE n → WordAt m' LINE n
+    pub kept : Kept ly f lo hi keys fits (live js) s r m'
+
+  module _ (entry from at : ℕ) (a b : Source) (d : Destination) (m : ℕ → ℕ) (c : Kept ly f lo hi keys fits (live js) s r m) (lies : Lies f.code at (routine entry from a b (destination_at d))) (x y : ℕ) (ga : Grounded a LEFT) (gb : Grounded b RIGHT) (ha : SourceHolds m a x) (hb : (m' : ℕ → ℕ) → Kept ly f lo hi keys fits (live js) s r m' → SourceHolds m' b y) where
+    -- memory with the left word, then with the right one
+    abbrev one : ℕ → ℕ
+    one = put_word m LEFT (value m (low a)) (value m (high a))
+
+    abbrev two : ℕ → ℕ
+    two = put_word one RIGHT (value one (low b)) (value one (high b))
+
+    kept_one : Kept ly f lo hi keys fits (live js) s r one
+    kept_one = kept_put ly f lo hi keys fits (live js) s r m LEFT _ _ h.some_read refl refl c
+
+    handed : Handed m x y two
+    handed = record {
+      left = word_away one RIGHT _ _ LEFT x (λ e. omega (arith, e)) (λ e. omega (arith, e)) (λ e. omega (arith, e)) (word_put m LEFT _ _ x ha.low_byte ha.high_byte ha.small);
+      right = let k = hb one kept_one in word_put one RIGHT _ _ y k.low_byte k.high_byte k.small;
+      line = λ k.
+          word_away one RIGHT _ _ LINE n (λ e. omega (arith, e)) (λ e. omega (arith, e)) (λ e. omega (arith, e))
+          (word_away m LEFT _ _ LINE n (λ e. omega (arith, e)) (λ e. omega (arith, e)) (λ e. omega (arith, e)) k);
+      kept = kept_put ly f lo hi keys fits (live js) s r one RIGHT _ _ h.some_read refl refl kept_one;
+    }
+
+    -- where the right word is brought, and the call
+    abbrev second_at : ℕ
+    second_at = at + size (brought a LEFT)
+
+    abbrev call_at : ℕ
+    call_at = second_at + size (brought b RIGHT)
+
+    -- up to the call
+    pub asks : (q : View → Type 0) (t : List ℕ) (k : ℕ) → ((m' : ℕ → ℕ) → Handed m x y m' → Moves f (Here entry ((call_at + 2) % 256 ∷ (call_at + 2) / 256 ∷ own) m' w.text w.answers) q t k) → Moves f (Here at own m w.text w.answers) q t (9 + k)
+    asks q t k next u e =
+        looser f u q q t (4 + (4 + (1 + k))) (9 + k) (omega arith) (λ v z. z)
+        (chained f u _ q [] t 4 (4 + (1 + k)) (brings f 16 fits at own m w.text w.answers refl a LEFT lies.0 ga (omega arith, omega arith) lies.1 u e) (λ u e.
+        chained f u _ q [] t 4 (1 + k) (brings f 16 fits second_at own one w.text w.answers refl b RIGHT lies.2.0 gb (omega arith, omega arith) lies.2.1 u e) (λ u e.
+        chained f u _ q [] t 1 k (calls f 16 fits call_at own two w.text w.answers refl entry refl lies.2.2.0 lies.2.2.1 u e) (next two handed))))
+
+    comes_back : back_at ((call_at + 2) % 256) ((call_at + 2) / 256) ≡ call_at + 3
+    comes_back = behind_call ly f lo hi keys fits call_at lies.2.2.0
+
+    behind_is : at + pieces_size (routine entry from a b (destination_at d)) ≡ call_at + 3 + 12
+    behind_is = let e : at + (size (brought a LEFT) + (size (brought b RIGHT) + (3 + (12 + 0)))) ≡ call_at + 3 + 12 = omega arith in e
+
+    -- and on, where it gives a word
+    pub gives : (code : SlotCode) (s' : State) (q : Slots) (v limit : ℕ) → Gives from → DestFits d → Lasting (live js) d is r q → GroupsLie ly f.code n (at + pieces_size (routine entry from a b (destination_at d))) (select is) → w.text ≡ s'.text → w.answers ≡ s'.answers → Typable keys s'.text s'.answers → ((l k : ℕ) (m' : ℕ → ℕ) → Handed m x y m' → Moves f (Here entry (l ∷ k ∷ own) m' w.text w.answers) (Given from (back_at l k) s' v) [] limit) → Moves f (Here at own m w.text w.answers) (Matches ly f lo hi keys (line code n is (landed d v s') (slots_landed d v (with_word q (slot_of d) v)))) [] (13 + limit)
+    gives code s' q v limit g fit last rest text gets short does u e =
+        looser f u _ _ [] (9 + (limit + 4)) (13 + limit) (omega arith) (λ v z. z)
+        (asks _ [] (limit + 4) (λ m' k u e.
+        chained f u _ _ [] [] limit 4 (does _ _ m' k u e) (λ u c'.
+        looser f u _ _ [] 4 4 (omega arith)
+        (word_lands ly f lo hi keys fits code n h.small (live js) d is s' r q v _ _ (call_at + 3 + 12) u.mem w.text w.answers c'.result.low c'.result.high c'.result.small fit last (subst (λ p. GroupsLie ly f.code n p (select is)) behind_is rest) c'.kept text gets short)
+        (copies f 16 fits (call_at + 3) own u.mem w.text w.answers refl from (destination_at d) lies.2.2.2.0 (omega (arith, g.0), omega (arith, g.1)) (dest_in_data d fit) (given_apart from d g fit) lies.2.2.2.1 u
+        (record { pc = c'.here.pc ∙ comes_back; stack = c'.here.stack; binary = c'.here.binary; mem = refl; text = c'.here.text; answers = c'.here.answers })))) u e)

@@ -1,0 +1,13 @@
+use Rattle.tb_syntax.specs.Source.{numbers}
+use Rattle.tb_reaching.specs.View.{part_at}
+use Rattle.tb_runtime16.specs.Routines.{limit_by}
+use Rattle.tb_keeping.specs.Layout.{layout_of}
+use Rattle.tb_grouping.proofs.GroupWhole.{keeps}
+use Rattle.tb_grouping.proofs.Lines.{groups_laid}
+use Rattle.tb_grouping.proofs.Served.{routines, prologue}
+use Rattle.tb_grouping.proofs.promises.keeps.Goals as goal
+
+pub returns : goal.returns
+returns c place bytes labels seed program code i =
+    keeps place bytes i.from i.to (layout_of labels (numbers code) seed) program code i.follows i.closed i.laid.first (groups_laid labels seed (part_at place bytes) code i.laid i.polled)
+    limit_by 192 (routines place bytes i.from i.to labels seed code i.laid) (prologue place bytes i.from i.to labels seed code i.laid)

@@ -1,0 +1,48 @@
+-- A search by halves in line numbers that rise finds a number where it is one of them.
+use Rattle.std.proofs.Common.{◌≡◌, ℕ, zero, suc, ◌+◌, ◌<◌, ◌≤◌, Bool, true, false, List, [], ◌∷◌, length, refl, sym, ap, arith, get_or, Result, Ok, Err}
+use Rattle.std.specs.Prelude.{◌||◌, nat_eq, nat_lt, is_ok}
+use Rattle.std.specs.Ordering.{nat_cmp}
+use Rattle.std.specs.List.Sorted.{IsBinarySearchResult}
+use Rattle.std.proofs.lemmas.List.Sorted.{searched}
+use Rattle.std.proofs.lemmas.Bool.Decides.{nat_tests}
+use Rattle.tb_lower.specs.Control.{has_line}
+use Rattle.tb_templates.specs.Program.{RisingFrom}
+
+-- each of them is at least the lowest
+at_least : (low : ℕ) (ns : List ℕ) (i : ℕ) → RisingFrom low ns → i < length ns → low ≤ get_or ns i 0
+at_least low [] i r h = absurd (let no : ⊥ = omega (arith, h) in no)
+at_least low (n ∷ ns) zero r h = r.0
+at_least low (n ∷ ns) (suc i) r h = let k = at_least (n + 1) ns i r.2 (omega (arith, h)) in let l = r.0 in omega (arith, k, l)
+
+rises : (low : ℕ) (ns : List ℕ) → RisingFrom low ns → (i j : ℕ) → i ≤ j → j < length ns → get_or ns i 0 ≤ get_or ns j 0
+rises low [] r i j le h = absurd (let no : ⊥ = omega (arith, h) in no)
+rises low (n ∷ ns) r zero zero le h = omega arith
+rises low (n ∷ ns) r zero (suc j) le h = let k = at_least (n + 1) ns j r.2 (omega (arith, h)) in omega (arith, k)
+rises low (n ∷ ns) r (suc i) zero le h = absurd (let no : ⊥ = omega (arith, le) in no)
+rises low (n ∷ ns) r (suc i) (suc j) le h = rises (n + 1) ns r.2 i j (omega (arith, le)) (omega (arith, h))
+
+or_right : (p q : Bool) → q ≡ true → (p || q) ≡ true
+or_right true q h = refl
+or_right false q h = h
+
+there : (ns : List ℕ) (i x : ℕ) → i < length ns → get_or ns i 0 ≡ x → has_line ns x ≡ true
+there [] i x h e = absurd (let no : ⊥ = omega (arith, h) in no)
+there (n ∷ ns) zero x h e = ap (λ b. b || has_line ns x) (let same : nat_eq n x ≡ true = grind (arith, nat_tests, e) in same)
+there (n ∷ ns) (suc i) x h e = or_right (nat_eq n x) (has_line ns x) (there ns i x (omega (arith, h)) e)
+
+absent : (ns : List ℕ) (x : ℕ) → ((k : ℕ) → k < length ns → get_or ns k 0 ≡ x → ⊥) → has_line ns x ≡ false
+absent [] x none = refl
+absent (n ∷ ns) x none = by (nat_eq n x) refl (absent ns x (λ k h e. none (suc k) (omega (arith, h)) e))
+  where
+    by : (t : Bool) → nat_eq n x ≡ t → has_line ns x ≡ false → (t || has_line ns x) ≡ false
+    by true e rest = absurd (none 0 (omega arith) (let same : n ≡ x = grind (arith, nat_tests, e) in same))
+    by false e rest = rest
+
+pub found : (low : ℕ) (ns : List ℕ) → RisingFrom low ns → (x : ℕ) (r : Result ℕ ℕ) → IsBinarySearchResult (λ y. nat_cmp y x) ns r → is_ok r ≡ has_line ns x
+found low ns rising x (Ok i) h = let s = searched ns x (Ok i) h (rises low ns rising) in sym (there ns i x s.0 s.1)
+found low ns rising x (Err i) h = sym (absent ns x (λ k l e. other k l e (nat_lt k i) refl (searched ns x (Err i) h (rises low ns rising))))
+  where
+    other : (k : ℕ) → k < length ns → get_or ns k 0 ≡ x → (t : Bool) → nat_lt k i ≡ t
+        → (i ≤ length ns) × ((k : ℕ) → k < i → get_or ns k 0 < x) × ((k : ℕ) → i ≤ k → k < length ns → x < get_or ns k 0) → ⊥
+    other k l e true t s = let b = s.1 k (let b : k < i = grind (arith, nat_tests, t) in b) in omega (arith, b, e)
+    other k l e false t s = let b = s.2 k (let b : i ≤ k = grind (arith, nat_tests, t) in b) l in omega (arith, b, e)

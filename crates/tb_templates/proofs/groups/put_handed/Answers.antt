@@ -1,0 +1,5 @@
+use Rattle.tb_templates.proofs.Appends.{four}
+use Rattle.tb_templates.proofs.groups.put_handed.Goals as goal
+
+pub returns : goal.returns
+returns c = four _ _ _ _ _ _ _ _ _ c.in_ok-put_brought.ensures c.in_ok-put_brought-2.ensures c.in_ok-put_call.ensures c.in_ok-put_copied.ensures

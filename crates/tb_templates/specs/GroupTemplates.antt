@@ -1,0 +1,139 @@
+-- The code of each group, as items of the assembler.
+use Rattle.std.specs.Prelude.{ℕ, ◌+◌, ◌/◌, ◌%◌, Bool, true, false, not, List, [], ◌∷◌, ◌++◌, if◌then◌else◌}
+use Rattle.tb_opcodes.specs.declared.Mnemonic.{Mnemonic}
+use Rattle.tb_opcodes.specs.declared.Mnemonic.TheVariants.{Adc, Beq, Bmi, Bne, Bpl, Bvc, Clc, Cmp, Eor, Jsr, Lda, Sbc, Sec, Sta}
+use Rattle.tb_asm.specs.Layout.{Entry}
+use Rattle.tb_words.specs.declared.Rel.{Rel}
+use Rattle.tb_words.specs.declared.Rel.TheVariants.{Eq, Lt, Gt, Le, Ge, Ne}
+use Rattle.tb_syntax.specs.declared.expressions.Operator.{Operator}
+use Rattle.tb_syntax.specs.declared.expressions.Operator.TheVariants.{Add, Subtract, Multiply, Divide}
+use Rattle.tb_lower.specs.Control.{has_line}
+use Rattle.tb_lower.specs.Slots.{Instr, Input, Poll, JumpTo, CallTo, Return}
+use Rattle.tb_selection.specs.Groups.{Conversion, Negated, Drawn, Usage, AsNumber, AsLine, AsSubroutine, Group, Calculate, Convert, Move, Use, Test, TestGo, Single, denied, slot_of}
+use Rattle.tb_runtime16.specs.Places.{LEFT, RIGHT, RESULT, LINE, GETIN, MULTIPLY_AT, DIVIDE_AT, RANDOM_AT, NUMBER_AT}
+use Rattle.tb_templates.specs.declared.labels.Inner.TheVariants.{Skip}
+use Rattle.tb_templates.specs.declared.labels.Target.{Target}
+use Rattle.tb_templates.specs.declared.labels.Target.TheVariants.{Inside, Line}
+use Rattle.tb_templates.specs.Templates.{at, const, alone, branch, here, call, copied, constant, fault, find, note, jump_through, next_line, template}
+use Rattle.tb_templates.specs.Sources.{Source, FixedWord, AtPlace, source_of, tested_source, home_at, destination_at}
+
+-- ── single instructions ──
+-- an instruction on the low byte of a word
+abbrev pub low_of : Mnemonic → Source → Entry
+low_of mnemonic (FixedWord w) = const mnemonic (w % 256)
+low_of mnemonic (AtPlace p) = at mnemonic p
+
+-- an instruction on the high byte of a word
+abbrev pub high_of : Mnemonic → Source → Entry
+high_of mnemonic (FixedWord w) = const mnemonic (w / 256)
+high_of mnemonic (AtPlace p) = at mnemonic (p + 1)
+
+-- ── words ──
+-- a word to a place
+abbrev pub brought : Source → ℕ → List Entry
+brought a to = low_of Lda a ∷ at Sta to ∷ high_of Lda a ∷ at Sta (to + 1) ∷ []
+
+-- two words joined byte by byte, with C from the low bytes to the high ones
+abbrev pub joined : Mnemonic → Source → Source → ℕ → List Entry
+joined mnemonic a b to = low_of Lda a ∷ low_of mnemonic b ∷ at Sta to ∷ high_of Lda a ∷ high_of mnemonic b ∷ at Sta (to + 1) ∷ []
+
+-- the sum of two words
+abbrev pub summed : Source → Source → ℕ → List Entry
+summed a b to = alone Clc ∷ joined Adc a b to
+
+-- the left word less the right one
+abbrev pub taken : Source → Source → ℕ → List Entry
+taken a b to = alone Sec ∷ joined Sbc a b to
+
+-- what a routine makes of two words, from where it leaves it
+abbrev pub handed : ℕ → ℕ → Source → Source → ℕ → List Entry
+handed routine from a b to = brought a LEFT ++ (brought b RIGHT ++ (call routine ∷ copied from to))
+
+-- a calculation of line n; a division may fault, and so sets the line's number first
+abbrev pub calculated : ℕ → Operator → Source → Source → ℕ → List Entry
+calculated n Add a b to = summed a b to
+calculated n Subtract a b to = taken a b to
+calculated n Multiply a b to = handed MULTIPLY_AT RESULT a b to
+calculated n Divide a b to = constant n LINE ++ handed DIVIDE_AT LEFT a b to
+
+-- a word made of one in line n: 0 minus it, or a random number below it, where the first state is the seed; a draw may
+-- fault, and so sets the line's number first
+abbrev pub converted : ℕ → ℕ → Conversion → Source → ℕ → List Entry
+converted n seed Negated a to = taken (FixedWord 0) a to
+converted n seed Drawn a to = constant n LINE ++ handed RANDOM_AT RESULT a (FixedWord seed) to
+
+-- the search in the line table for a word: it may fault, and so the line's number is set first
+abbrev pub searched : ℕ → Source → List Entry
+searched n a = constant n LINE ++ (brought a LEFT ++ (find ∷ []))
+
+-- a word used in line n: it is sent, or the line of this number is gone to or called
+abbrev pub used : ℕ → Target → Usage → Source → List Entry
+used n next AsNumber a = brought a LEFT ++ (call NUMBER_AT ∷ [])
+used n next AsLine a = searched n a ++ jump_through
+used n next AsSubroutine a = searched n a ++ (note next ++ jump_through)
+
+-- ── tests ──
+-- stays where both bytes are equal
+abbrev pub equal : Source → Source → Target → List Entry
+equal a b next = low_of Lda a ∷ low_of Cmp b ∷ branch Bne next ∷ high_of Lda a ∷ high_of Cmp b ∷ branch Bne next ∷ []
+
+-- stays where one of the two bytes differs
+abbrev pub unequal : Source → Source → Target → Target → List Entry
+unequal a b stays next = low_of Lda a ∷ low_of Cmp b ∷ branch Bne stays ∷ high_of Lda a ∷ high_of Cmp b ∷ branch Beq next ∷ here stays ∷ []
+
+-- the order of two signed words: N, turned where V is set, is whether a is below b; by it a branch goes to the next line
+abbrev pub ordered : Mnemonic → Source → Source → Target → Target → List Entry
+ordered leaves a b skip next =
+    low_of Lda a ∷ low_of Cmp b ∷ high_of Lda a ∷ high_of Sbc b ∷ branch Bvc skip ∷ const Eor 128 ∷ here skip ∷ branch leaves next ∷ []
+
+-- leaves the line unless two words are so related
+abbrev pub tested : Rel → Source → Source → Target → Target → List Entry
+tested Eq a b skip next = equal a b next
+tested Ne a b skip next = unequal a b skip next
+tested Lt a b skip next = ordered Bpl a b skip next
+tested Ge a b skip next = ordered Bmi a b skip next
+tested Gt a b skip next = ordered Bpl b a skip next
+tested Le a b skip next = ordered Bmi b a skip next
+
+-- fault k in line n
+abbrev pub faulted : ℕ → ℕ → List Entry
+faulted n k = constant n LINE ++ fault k
+
+-- from line n straight to a line where two words are so related, and else on to the next line, which is behind; where the
+-- program has no such line, the test and then fault 1
+abbrev pub gone : ℕ → Rel → Source → Source → Target → Target → Bool → ℕ → List Entry
+gone n rel a b skip next true to = tested (denied rel) a b skip (Line to)
+gone n rel a b skip next false to = tested rel a b skip next ++ faulted n 1
+
+-- ── templates ──
+-- whether a single instruction of a program with these line numbers may fault: then the line's number is set first
+abbrev pub may_fault : List ℕ → Instr → Bool
+may_fault numbers (Input x) = true
+may_fault numbers Poll = true
+may_fault numbers (JumpTo to) = not (has_line numbers to)
+may_fault numbers (CallTo to) = true
+may_fault numbers Return = true
+may_fault numbers _ = false
+
+-- the code of a single instruction, with the line's number before it where it may fault
+abbrev pub single : List ℕ → ℕ → ℕ → Instr → List Entry
+single numbers n i c = if may_fault numbers c then constant n LINE ++ template numbers n i c else template numbers n i c
+
+-- the code of group i of line n, from 1 on, where the program has these numbers and the option's RND state is the seed
+abbrev pub group_template : List ℕ → ℕ → ℕ → ℕ → Group → List Entry
+group_template numbers seed n i (Calculate op a b d) = calculated n op (source_of (slot_of d) a) (source_of (slot_of d + 1) b) (destination_at d)
+group_template numbers seed n i (Convert what a d) = converted n seed what (source_of (slot_of d) a) (destination_at d)
+group_template numbers seed n i (Move a home) = brought (source_of 0 a) (home_at home)
+group_template numbers seed n i (Use how a) = used n (next_line numbers n) how (source_of 0 a)
+group_template numbers seed n i (Test rel a b) = tested rel (tested_source a) (source_of 0 b) (Inside Skip n i) (next_line numbers n)
+group_template numbers seed n i (TestGo rel a b to) =
+    gone n rel (tested_source a) (source_of 0 b) (Inside Skip n i) (next_line numbers n) (has_line numbers to) to
+group_template numbers seed n i (Single c) = single numbers n i c
+
+-- asks for an answer, and skips what is done for the STOP key, 3, where it is another one or none
+abbrev pub asked : Target → List Entry
+asked skip = at Jsr GETIN ∷ const Cmp 3 ∷ branch Bne skip ∷ []
+
+-- takes an answer at the beginning of line n; a break is fault 0
+abbrev pub polled : ℕ → List Entry
+polled n = asked (Inside Skip n 0) ++ (faulted n 0 ++ (here (Inside Skip n 0) ∷ []))

@@ -1,0 +1,34 @@
+-- Where the operands of a group come from, and where its result goes.
+use Rattle.std.specs.Prelude.{ℕ, ◌+◌, ◌<◌}
+use Rattle.tb_words.specs.Words.{word}
+use Rattle.tb_selection.specs.Groups.{Operand, Constant, Variable, InSlot, Home, IntoVariable, IntoHeld, Destination, IntoSlot, IntoHome, Tested, HeldBefore, HeldNow}
+use Rattle.tb_runtime16.specs.Places.{HELD}
+use Rattle.tb_templates.specs.Templates.{var_at, slot_at}
+pub use Rattle.tb_templates.specs.declared.sources.Source.{Source}
+pub use Rattle.tb_templates.specs.declared.sources.Source.TheVariants.{FixedWord, AtPlace}
+
+-- where an operand comes from that belongs into slot k
+abbrev pub source_of : ℕ → Operand → Source
+source_of k (Constant w) = FixedWord (word w)
+source_of k (Variable x) = AtPlace (var_at x)
+source_of k InSlot = AtPlace (slot_at k)
+
+-- where the left word of a test comes from
+abbrev pub tested_source : Tested → Source
+tested_source HeldBefore = AtPlace HELD
+tested_source (HeldNow a) = source_of 0 a
+
+-- where slot 0 goes
+abbrev pub home_at : Home → ℕ
+home_at (IntoVariable x) = var_at x
+home_at IntoHeld = HELD
+
+-- where a result goes
+abbrev pub destination_at : Destination → ℕ
+destination_at (IntoSlot k) = slot_at k
+destination_at (IntoHome home) = home_at home
+
+-- the place of a word's high byte is an address too
+abbrev pub IsWhole : Source → Type 0
+IsWhole (FixedWord w) = Unit {0}
+IsWhole (AtPlace p) = p + 1 < 65536

@@ -1,0 +1,498 @@
+//! The code of each group.
+ghost use Rattle.std.specs.Prelude.{◌≡◌, ◌+◌, ◌<◌, ◌≤◌, OnOk, [], ◌∷◌, ◌++◌, map, length};
+ghost use Rattle.tb_asm.specs.Layout.{entry_of};
+ghost use Rattle.tb_lower.specs.Control.{has_line};
+ghost use Rattle.tb_lower.specs.Ranges.{AreInRange, IsInRange};
+ghost use Rattle.tb_lower.specs.Shown.{instr_of};
+ghost use Rattle.tb_selection.specs.Groups as selection;
+ghost use Rattle.tb_selection.specs.Groups.{expand};
+ghost use Rattle.tb_selection.specs.Shown.{conversion_of, usage_of, group_of};
+ghost use Rattle.tb_runtime16.specs.Places as places;
+ghost use Rattle.tb_templates.specs.declared.labels.Inner.TheVariants.{Skip};
+ghost use Rattle.tb_templates.specs.declared.labels.Target.TheVariants.{Inside};
+ghost use Rattle.tb_templates.specs.Templates as templates;
+ghost use Rattle.tb_templates.specs.Sources.{IsWhole};
+ghost use Rattle.tb_templates.specs.GroupTemplates as groups;
+ghost use Rattle.tb_templates.specs.Program.{RisingFrom};
+
+use crate::labels::{Inner, Target};
+use crate::pieces::{
+    put_alone, put_at, put_branch, put_call, put_const, put_constant, put_copied, put_fault,
+    put_find, put_here, put_jump_through, put_note,
+};
+use crate::sources::{Source, destination_at, home_at, slot_of, source_of, tested_source};
+use crate::templates::{NO_LINE, Spot, has_number, put_instruction};
+use std::alloc::AllocError;
+use tb_asm::Item;
+use tb_lower::SlotInstr;
+use tb_opcodes::Mnemonic;
+use tb_runtime16::{LEFT, LINE, RESULT, RIGHT, Routine};
+use tb_selection::{Conversion, Group, Usage};
+use tb_syntax::Operator;
+use tb_words::Rel;
+
+// The service that gives the keyboard's next answer, 0 where there is none.
+const GETIN: u16 = 0xffe4;
+
+// What GETIN gives for the STOP key.
+const STOP: u8 = 3;
+
+// The fault of the STOP key.
+const BREAK: u8 = 0;
+
+// An instruction on the low byte of a word.
+fn put_low(items: &mut Vec<Item>, mnemonic: Mnemonic, word: Source) -> Result<(), AllocError>
+    ensures { OnOk result (map entry_of items.new.items ≡ map entry_of items.old.items ++ groups.low_of mnemonic word ∷ []) }
+{
+    match word {
+        Source::FixedWord(word) => put_const(items, mnemonic, (word % 256) as u8),
+        Source::AtPlace(place) => put_at(items, mnemonic, place),
+    }
+}
+
+// An instruction on the high byte of a word.
+fn put_high(items: &mut Vec<Item>, mnemonic: Mnemonic, word: Source) -> Result<(), AllocError>
+    requires { IsWhole word }
+    ensures { OnOk result (map entry_of items.new.items ≡ map entry_of items.old.items ++ groups.high_of mnemonic word ∷ []) }
+{
+    match word {
+        Source::FixedWord(word) => put_const(items, mnemonic, (word / 256) as u8),
+        Source::AtPlace(place) => put_at(items, mnemonic, place + 1),
+    }
+}
+
+// A word to a place.
+fn put_brought(items: &mut Vec<Item>, word: Source, to: u16) -> Result<(), AllocError>
+    requires { IsWhole word × (to < 65535) }
+    ensures { OnOk result (map entry_of items.new.items ≡ map entry_of items.old.items ++ groups.brought word to) }
+{
+    put_low(items, Mnemonic::Lda, word)?;
+    put_at(items, Mnemonic::Sta, to)?;
+    put_high(items, Mnemonic::Lda, word)?;
+    put_at(items, Mnemonic::Sta, to + 1)
+}
+
+// Two words joined byte by byte.
+fn put_joined(
+    items: &mut Vec<Item>,
+    mnemonic: Mnemonic,
+    left: Source,
+    right: Source,
+    to: u16,
+) -> Result<(), AllocError>
+    requires { IsWhole left × IsWhole right × (to < 65535) }
+    ensures { OnOk result (map entry_of items.new.items ≡ map entry_of items.old.items ++ groups.joined mnemonic left right to) }
+{
+    put_low(items, Mnemonic::Lda, left)?;
+    put_low(items, mnemonic, right)?;
+    put_at(items, Mnemonic::Sta, to)?;
+    put_high(items, Mnemonic::Lda, left)?;
+    put_high(items, mnemonic, right)?;
+    put_at(items, Mnemonic::Sta, to + 1)
+}
+
+// The sum of two words.
+fn put_summed(items: &mut Vec<Item>, left: Source, right: Source, to: u16) -> Result<(), AllocError>
+    requires { IsWhole left × IsWhole right × (to < 65535) }
+    ensures { OnOk result (map entry_of items.new.items ≡ map entry_of items.old.items ++ groups.summed left right to) }
+{
+    put_alone(items, Mnemonic::Clc)?;
+    put_joined(items, Mnemonic::Adc, left, right, to)
+}
+
+// The left word less the right one.
+fn put_taken(items: &mut Vec<Item>, left: Source, right: Source, to: u16) -> Result<(), AllocError>
+    requires { IsWhole left × IsWhole right × (to < 65535) }
+    ensures { OnOk result (map entry_of items.new.items ≡ map entry_of items.old.items ++ groups.taken left right to) }
+{
+    put_alone(items, Mnemonic::Sec)?;
+    put_joined(items, Mnemonic::Sbc, left, right, to)
+}
+
+// What a routine makes of two words, from where it leaves it.
+fn put_handed(
+    items: &mut Vec<Item>,
+    routine: Routine,
+    from: u16,
+    left: Source,
+    right: Source,
+    to: u16,
+) -> Result<(), AllocError>
+    requires { IsWhole left × IsWhole right × (from < 65535) × (to < 65535) }
+    ensures { OnOk result (map entry_of items.new.items ≡ map entry_of items.old.items ++ groups.handed (places.entry_of routine) from left right to) }
+{
+    put_brought(items, left, LEFT)?;
+    put_brought(items, right, RIGHT)?;
+    put_call(items, routine)?;
+    put_copied(items, from, to)?;
+    Ok(())
+}
+
+// What a routine makes of two words. It may fault, and so the line's number is set first.
+fn put_risky(
+    items: &mut Vec<Item>,
+    line: u16,
+    routine: Routine,
+    from: u16,
+    left: Source,
+    right: Source,
+    to: u16,
+) -> Result<(), AllocError>
+    requires { IsWhole left × IsWhole right × (from < 65535) × (to < 65535) }
+    ensures { OnOk result (map entry_of items.new.items ≡ map entry_of items.old.items ++ (templates.constant line places.LINE ++ groups.handed (places.entry_of routine) from left right to)) }
+{
+    put_constant(items, line, LINE)?;
+    put_handed(items, routine, from, left, right, to)?;
+    Ok(())
+}
+
+// A calculation of a line.
+fn put_calculated(
+    items: &mut Vec<Item>,
+    line: u16,
+    operator: Operator,
+    left: Source,
+    right: Source,
+    to: u16,
+) -> Result<(), AllocError>
+    requires { IsWhole left × IsWhole right × (to < 65535) }
+    ensures { OnOk result (map entry_of items.new.items ≡ map entry_of items.old.items ++ groups.calculated line operator left right to) }
+{
+    match operator {
+        Operator::Add => put_summed(items, left, right, to),
+        Operator::Subtract => put_taken(items, left, right, to),
+        Operator::Multiply => put_handed(items, Routine::Multiply, RESULT, left, right, to),
+        Operator::Divide => put_risky(items, line, Routine::Divide, LEFT, left, right, to),
+    }
+}
+
+// A word made of one in a line; the seed is the option's RND state.
+fn put_converted(
+    items: &mut Vec<Item>,
+    line: u16,
+    seed: u16,
+    conversion: Conversion,
+    word: Source,
+    to: u16,
+) -> Result<(), AllocError>
+    requires { IsWhole word × (to < 65535) }
+    ensures { OnOk result (map entry_of items.new.items ≡ map entry_of items.old.items ++ groups.converted line seed (conversion_of conversion) word to) }
+{
+    match conversion {
+        Conversion::Negated => put_taken(items, Source::FixedWord(0), word, to),
+        Conversion::Drawn => {
+            let seed = Source::FixedWord(seed);
+            put_risky(items, line, Routine::Random, RESULT, word, seed, to)
+        }
+    }
+}
+
+// The search in the line table for a word.
+fn put_searched(items: &mut Vec<Item>, line: u16, word: Source) -> Result<(), AllocError>
+    requires { IsWhole word }
+    ensures { OnOk result (map entry_of items.new.items ≡ map entry_of items.old.items ++ groups.searched line word) }
+{
+    put_constant(items, line, LINE)?;
+    put_brought(items, word, LEFT)?;
+    put_find(items)?;
+    Ok(())
+}
+
+// A number that is sent.
+fn put_sent(items: &mut Vec<Item>, word: Source) -> Result<(), AllocError>
+    requires { IsWhole word }
+    ensures { OnOk result (map entry_of items.new.items ≡ map entry_of items.old.items ++ (groups.brought word places.LEFT ++ (templates.call places.NUMBER_AT ∷ []))) }
+{
+    put_brought(items, word, LEFT)?;
+    put_call(items, Routine::Number)?;
+    Ok(())
+}
+
+// The line of a number is gone to.
+fn put_gone_to(items: &mut Vec<Item>, line: u16, word: Source) -> Result<(), AllocError>
+    requires { IsWhole word }
+    ensures { OnOk result (map entry_of items.new.items ≡ map entry_of items.old.items ++ (groups.searched line word ++ templates.jump_through)) }
+{
+    put_searched(items, line, word)?;
+    put_jump_through(items)?;
+    Ok(())
+}
+
+// The line of a number is called.
+fn put_called(
+    items: &mut Vec<Item>,
+    line: u16,
+    next: Target,
+    word: Source,
+) -> Result<(), AllocError>
+    requires { IsWhole word }
+    ensures { OnOk result (map entry_of items.new.items ≡ map entry_of items.old.items ++ (groups.searched line word ++ (templates.note next ++ templates.jump_through))) }
+{
+    put_searched(items, line, word)?;
+    put_note(items, next)?;
+    put_jump_through(items)?;
+    Ok(())
+}
+
+// A use of a word in a line.
+fn put_used(
+    items: &mut Vec<Item>,
+    line: u16,
+    next: Target,
+    usage: Usage,
+    word: Source,
+) -> Result<(), AllocError>
+    requires { IsWhole word }
+    ensures { OnOk result (map entry_of items.new.items ≡ map entry_of items.old.items ++ groups.used line next (usage_of usage) word) }
+{
+    match usage {
+        Usage::AsNumber => put_sent(items, word),
+        Usage::AsLine => put_gone_to(items, line, word),
+        Usage::AsSubroutine => put_called(items, line, next, word),
+    }
+}
+
+// Stays where both bytes are equal.
+fn put_equal(
+    items: &mut Vec<Item>,
+    left: Source,
+    right: Source,
+    next: Target,
+) -> Result<(), AllocError>
+    requires { IsWhole left × IsWhole right }
+    ensures { OnOk result (map entry_of items.new.items ≡ map entry_of items.old.items ++ groups.equal left right next) }
+{
+    put_low(items, Mnemonic::Lda, left)?;
+    put_low(items, Mnemonic::Cmp, right)?;
+    put_branch(items, Mnemonic::Bne, next)?;
+    put_high(items, Mnemonic::Lda, left)?;
+    put_high(items, Mnemonic::Cmp, right)?;
+    put_branch(items, Mnemonic::Bne, next)
+}
+
+// Stays where one of the two bytes differs.
+fn put_unequal(
+    items: &mut Vec<Item>,
+    left: Source,
+    right: Source,
+    stays: Target,
+    next: Target,
+) -> Result<(), AllocError>
+    requires { IsWhole left × IsWhole right }
+    ensures { OnOk result (map entry_of items.new.items ≡ map entry_of items.old.items ++ groups.unequal left right stays next) }
+{
+    put_low(items, Mnemonic::Lda, left)?;
+    put_low(items, Mnemonic::Cmp, right)?;
+    put_branch(items, Mnemonic::Bne, stays)?;
+    put_high(items, Mnemonic::Lda, left)?;
+    put_high(items, Mnemonic::Cmp, right)?;
+    put_branch(items, Mnemonic::Beq, next)?;
+    put_here(items, stays)
+}
+
+// The order of two signed words, and the branch that leaves the line by it.
+fn put_ordered(
+    items: &mut Vec<Item>,
+    leaves: Mnemonic,
+    left: Source,
+    right: Source,
+    skip: Target,
+    next: Target,
+) -> Result<(), AllocError>
+    requires { IsWhole left × IsWhole right }
+    ensures { OnOk result (map entry_of items.new.items ≡ map entry_of items.old.items ++ groups.ordered leaves left right skip next) }
+{
+    put_low(items, Mnemonic::Lda, left)?;
+    put_low(items, Mnemonic::Cmp, right)?;
+    put_high(items, Mnemonic::Lda, left)?;
+    put_high(items, Mnemonic::Sbc, right)?;
+    put_branch(items, Mnemonic::Bvc, skip)?;
+    put_const(items, Mnemonic::Eor, 128)?;
+    put_here(items, skip)?;
+    put_branch(items, leaves, next)
+}
+
+// Leaves the line unless two words are so related.
+fn put_tested(
+    items: &mut Vec<Item>,
+    rel: Rel,
+    left: Source,
+    right: Source,
+    skip: Target,
+    next: Target,
+) -> Result<(), AllocError>
+    requires { IsWhole left × IsWhole right }
+    ensures { OnOk result (map entry_of items.new.items ≡ map entry_of items.old.items ++ groups.tested rel left right skip next) }
+{
+    match rel {
+        Rel::Eq => put_equal(items, left, right, next),
+        Rel::Ne => put_unequal(items, left, right, skip, next),
+        Rel::Lt => put_ordered(items, Mnemonic::Bpl, left, right, skip, next),
+        Rel::Ge => put_ordered(items, Mnemonic::Bmi, left, right, skip, next),
+        Rel::Gt => put_ordered(items, Mnemonic::Bpl, right, left, skip, next),
+        Rel::Le => put_ordered(items, Mnemonic::Bmi, right, left, skip, next),
+    }
+}
+
+// The relation that holds where this one does not.
+fn denied(rel: Rel) -> Rel
+    ensures { result ≡ selection.denied rel }
+{
+    match rel {
+        Rel::Eq => Rel::Ne,
+        Rel::Ne => Rel::Eq,
+        Rel::Lt => Rel::Ge,
+        Rel::Ge => Rel::Lt,
+        Rel::Gt => Rel::Le,
+        Rel::Le => Rel::Gt,
+    }
+}
+
+// A fault of a line.
+fn put_faulted(items: &mut Vec<Item>, line: u16, number: u8) -> Result<(), AllocError>
+    ensures { OnOk result (map entry_of items.new.items ≡ map entry_of items.old.items ++ groups.faulted line number) }
+{
+    put_constant(items, line, LINE)?;
+    put_fault(items, number)?;
+    Ok(())
+}
+
+// Leaves the line unless two words are so related, and else faults for want of a line.
+fn put_lost(
+    items: &mut Vec<Item>,
+    spot: Spot,
+    rel: Rel,
+    left: Source,
+    right: Source,
+) -> Result<(), AllocError>
+    requires { IsWhole left × IsWhole right }
+    ensures { OnOk result (map entry_of items.new.items ≡ map entry_of items.old.items ++ (groups.tested rel left right (Inside Skip spot.line spot.index) spot.next ++ groups.faulted spot.line 1)) }
+{
+    put_tested(items, rel, left, right, spot.skip(), spot.next)?;
+    put_faulted(items, spot.line, NO_LINE)?;
+    Ok(())
+}
+
+// Goes straight to a line where two words are so related. Where there is no such line, it is fault 1.
+fn put_gone(
+    items: &mut Vec<Item>,
+    numbers: &[u16],
+    spot: Spot,
+    rel: Rel,
+    left: Source,
+    right: Source,
+    to: u16,
+) -> Result<(), AllocError>
+    requires rising { RisingFrom 0 numbers.now }
+    requires whole { IsWhole left × IsWhole right }
+    ensures { OnOk result (map entry_of items.new.items ≡ map entry_of items.old.items ++ groups.gone spot.line rel left right (Inside Skip spot.line spot.index) spot.next (has_line numbers.now to) to) }
+{
+    if has_number(numbers, to) {
+        put_tested(
+            items,
+            denied(rel),
+            left,
+            right,
+            spot.skip(),
+            Target::Line(to),
+        )
+    } else {
+        put_lost(items, spot, rel, left, right)
+    }
+}
+
+// Whether a single instruction of a program with these line numbers may fault.
+fn may_fault(numbers: &[u16], instruction: &SlotInstr) -> bool
+    requires rising { RisingFrom 0 numbers.now }
+    ensures { result ≡ groups.may_fault numbers.now (instr_of instruction.now) }
+{
+    match instruction {
+        SlotInstr::Input(_) | SlotInstr::Poll | SlotInstr::CallTo(_) | SlotInstr::Return => true,
+        SlotInstr::JumpTo(to) => !has_number(numbers, *to),
+        _ => false,
+    }
+}
+
+// A single instruction; where it may fault, it sets the line's number first.
+fn put_single(
+    items: &mut Vec<Item>,
+    numbers: &[u16],
+    spot: Spot,
+    instruction: &SlotInstr,
+) -> Result<(), AllocError>
+    requires rising { RisingFrom 0 numbers.now }
+    requires in_range { IsInRange 256 (instr_of instruction.now) }
+    requires next { spot.next ≡ templates.next_line numbers.now spot.line }
+    ensures { OnOk result (map entry_of items.new.items ≡ map entry_of items.old.items ++ groups.single numbers.now spot.line spot.index (instr_of instruction.now)) }
+{
+    if may_fault(numbers, instruction) {
+        put_constant(items, spot.line, LINE)?;
+    }
+    put_instruction(items, numbers, spot, instruction)
+}
+
+/// The code of a group of a program with these numbers; the seed is the option's RND state.
+pub fn put_group(
+    items: &mut Vec<Item>,
+    numbers: &[u16],
+    seed: u16,
+    spot: Spot,
+    group: Group<'_>,
+) -> Result<(), AllocError>
+    requires rising { RisingFrom 0 numbers.now }
+    requires in_range { AreInRange 256 (expand (group_of group)) }
+    requires next { spot.next ≡ templates.next_line numbers.now spot.line }
+    ensures { OnOk result (map entry_of items.new.items ≡ map entry_of items.old.items ++ groups.group_template numbers.now seed spot.line spot.index (group_of group.entry)) }
+{
+    match group {
+        Group::Calculate(operator, left, right, destination) => {
+            let slot = slot_of(destination);
+            put_calculated(
+                items,
+                spot.line,
+                operator,
+                source_of(slot, left),
+                source_of(slot + 1, right),
+                destination_at(destination),
+            )
+        }
+        Group::Convert(conversion, word, destination) => {
+            let word = source_of(slot_of(destination), word);
+            let to = destination_at(destination);
+            put_converted(items, spot.line, seed, conversion, word, to)
+        }
+        Group::Move(word, home) => put_brought(items, source_of(0, word), home_at(home)),
+        Group::Use(usage, word) => {
+            put_used(items, spot.line, spot.next, usage, source_of(0, word))
+        }
+        Group::Test(rel, left, right) => {
+            let (left, right) = (tested_source(left), source_of(0, right));
+            put_tested(items, rel, left, right, spot.skip(), spot.next)
+        }
+        Group::TestGo(rel, left, right, to) => {
+            let (left, right) = (tested_source(left), source_of(0, right));
+            put_gone(items, numbers, spot, rel, left, right, to)
+        }
+        Group::Single(instruction) => put_single(items, numbers, spot, instruction),
+    }
+}
+
+// Asks for an answer, and skips what is done for the STOP key where it is another one or none.
+fn put_asked(items: &mut Vec<Item>, skip: Target) -> Result<(), AllocError>
+    ensures { OnOk result (map entry_of items.new.items ≡ map entry_of items.old.items ++ groups.asked skip) }
+{
+    put_at(items, Mnemonic::Jsr, GETIN)?;
+    put_const(items, Mnemonic::Cmp, STOP)?;
+    put_branch(items, Mnemonic::Bne, skip)
+}
+
+/// Takes an answer at the beginning of a line: the STOP key is a break.
+pub fn put_polled(items: &mut Vec<Item>, line: u16) -> Result<(), AllocError>
+    ensures { OnOk result (map entry_of items.new.items ≡ map entry_of items.old.items ++ groups.polled line) }
+{
+    let skip = Target::Inside(Inner::Skip, line, 0);
+    put_asked(items, skip)?;
+    put_faulted(items, line, BREAK)?;
+    put_here(items, skip)?;
+    Ok(())
+}

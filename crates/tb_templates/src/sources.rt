@@ -1,0 +1,95 @@
+//! Where the operands of a group come from, and where its result goes.
+ghost use Rattle.std.specs.Prelude.{◌≡◌, ◌+◌, ◌<◌, ◌≤◌};
+ghost use Rattle.tb_words.specs.Letters.{place};
+ghost use Rattle.tb_selection.specs.Groups as groups;
+ghost use Rattle.tb_selection.specs.Shown.{operand_of, home_of, tested_of, destination_of};
+ghost use Rattle.tb_templates.specs.Templates.{var_at, slot_at};
+ghost use Rattle.tb_templates.specs.Sources as sources;
+ghost use Rattle.tb_templates.specs.Sources.{IsWhole};
+
+use tb_runtime16::{HELD, SLOTS, VARS};
+use tb_selection::{Destination, Home, Operand, Tested};
+use tb_words::Letter;
+
+/// Where a word comes from.
+#[derive(Clone, Copy, Debug, Drop)]
+pub enum Source {
+    /// It is this constant.
+    FixedWord(u16),
+    /// It stands here, low byte first.
+    AtPlace(u16),
+}
+
+/// Where a variable stands.
+pub fn variable_at(letter: Letter) -> u16
+    ensures at { result ≡ var_at (place letter) }
+    ensures below { result < 65000 }
+{
+    VARS + 2 * letter.index() as u16
+}
+
+/// Where a slot stands.
+pub fn slot_address(slot: u8) -> u16
+    requires { slot < 16 }
+    ensures at { result ≡ slot_at slot }
+    ensures below { result < 65000 }
+{
+    SLOTS + 2 * u16::from(slot)
+}
+
+/// Where an operand comes from that belongs into this slot.
+pub fn source_of(slot: u8, operand: Operand) -> Source
+    requires { slot < 16 }
+    ensures source { result ≡ sources.source_of slot (operand_of operand) }
+    ensures whole { IsWhole result }
+{
+    match operand {
+        Operand::Constant(word) => Source::FixedWord(word),
+        Operand::Variable(letter) => Source::AtPlace(variable_at(letter)),
+        Operand::InSlot => Source::AtPlace(slot_address(slot)),
+    }
+}
+
+/// Where the left word of a test comes from.
+pub fn tested_source(tested: Tested) -> Source
+    ensures source { result ≡ sources.tested_source (tested_of tested) }
+    ensures whole { IsWhole result }
+{
+    match tested {
+        Tested::HeldBefore => Source::AtPlace(HELD),
+        Tested::HeldNow(operand) => source_of(0, operand),
+    }
+}
+
+/// Where slot 0 goes.
+pub fn home_at(home: Home) -> u16
+    ensures at { result ≡ sources.home_at (home_of home) }
+    ensures below { result < 65000 }
+{
+    match home {
+        Home::IntoVariable(letter) => variable_at(letter),
+        Home::IntoHeld => HELD,
+    }
+}
+
+/// The slot in which a result is worked out.
+pub fn slot_of(destination: Destination) -> u8
+    ensures { result ≡ groups.slot_of (destination_of destination) }
+{
+    match destination {
+        Destination::IntoSlot(slot) => slot,
+        Destination::IntoHome(_) => 0,
+    }
+}
+
+/// Where a result goes.
+pub fn destination_at(destination: Destination) -> u16
+    requires { groups.slot_of (destination_of destination) < 16 }
+    ensures at { result ≡ sources.destination_at (destination_of destination) }
+    ensures below { result < 65000 }
+{
+    match destination {
+        Destination::IntoSlot(slot) => slot_address(slot),
+        Destination::IntoHome(home) => home_at(home),
+    }
+}

@@ -1,0 +1,34 @@
+//! How a job ended.
+use std::fmt;
+use tb_disk_engine::DiskOutcome;
+use tb_driver::Report;
+
+/// How a job ended.
+#[derive(Debug, Drop)]
+pub enum Ending {
+    /// A call of an engine, with its warnings.
+    Report(Report),
+    /// The making of a disk.
+    Disk(DiskOutcome),
+}
+
+impl Ending {
+    /// The exit status of the program.
+    pub fn status(&self) -> u8 {
+        match self {
+            Ending::Report(report) => report.status(),
+            Ending::Disk(outcome) => outcome.status(),
+        }
+    }
+}
+
+/// The whole text for standard error, with its line ends.
+impl fmt::Display for Ending {
+    fn fmt<W: fmt::Write>(&self, f: &mut fmt::Formatter<W>) -> fmt::Result {
+        match self {
+            Ending::Report(report) => report.fmt(f),
+            Ending::Disk(DiskOutcome::Done) => Ok(()),
+            Ending::Disk(outcome) => writeln!(f, "tbc: {outcome}"),
+        }
+    }
+}
