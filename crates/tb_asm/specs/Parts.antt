@@ -1,5 +1,5 @@
 -- The parts of a line, read from the left.
-use Rattle.std.specs.Prelude.{ℕ, ◌+◌, ◌-◌, ◌*◌, Bool, ◌||◌, Option, Some, None, List, [], ◌∷◌, ◌++◌, length, nat_lt, eqb, if◌then◌else◌}
+use Rattle.std.specs.Prelude.{ℕ, ◌+◌, ◌-◌, ◌*◌, ◌||◌, Option, Some, None, List, [], ◌∷◌, ◌++◌, length, nat_lt, eqb, if◌then◌else◌}
 use Rattle.tb_asm.specs.declared.parts.Part.{Part}
 use Rattle.tb_asm.specs.declared.parts.Part.TheVariants.{Identifier, TwoDigits, FourDigits, Hash, Less, Greater, Left, Right, Comma, Colon}
 use Rattle.tb_asm.specs.Names.{within, is_letter, may_follow, fold_byte}

@@ -52,7 +52,7 @@ fn refuse_early(alloc: Global, at: u16, items: &[Item]) -> Result<(), AsmError>
     ensures accepted { refusal at (map entry_of items.now) ≡ None → IfErr result (λ e. e.kind ≡ AsmErrorKind.NoMemory) }
 {
     match place_all(alloc, at, items) {
-        Ok(labels) => match first_unknown(&labels, items) {
+        Ok((labels, _)) => match first_unknown(&labels, items) {
             Some(item) => Err(AsmError {
                 kind: AsmErrorKind::UnknownLabel,
                 item,

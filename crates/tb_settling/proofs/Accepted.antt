@@ -19,6 +19,7 @@ use Rattle.tb_asm.specs.Settle.{Form, kept, long, inverse, items_at, items_from,
 use Rattle.tb_asm.specs.Marks.{SettleErr}
 use Rattle.tb_asm.specs.Suited.{names_of, AreDistinct, AllReachFrom, Suited}
 use Rattle.tb_asm.proofs.Faults.{first_none}
+use Rattle.tb_asm.proofs.Settled.{settled_as_they_are, settled_reaches}
 use Rattle.tb_asm.proofs.Suits.{and_true, placed_suits, ends_below, suited_accepted}
 use Rattle.tb_settling.specs.Settled.{IsFormOf, AreFormsOf, IsSettled, IsLaid, most, may_move, AllKnown, Suits}
 use Rattle.tb_settling.proofs.Forms.{is_branch, kept_forms, settled_forms, settled_by, forms_size, kept_size, items_size, forms_most, items_names}
@@ -247,6 +248,13 @@ laid_by at es items from image labels rounds reach h = record {
   bytes_are = h.2;
   labels_are = h.3;
 }
+
+-- items that assemble as they are
+pub laid_at_once : (at : ℕ) (es : List Entry) (from : ℕ) (image : List ℕ) (labels : List (Name × ℕ))
+    → (refusal at es ≡ None) × (from ≡ at) × (image ≡ image_of at es) × (labels ≡ labels_from at es) → IsLaid at es from image labels
+laid_at_once at es from image labels h =
+    let rounds = settled_as_they_are at es h.0 in
+    laid_by at es es from image labels rounds (settled_reaches at es es rounds) h
 
 -- where nothing is refused, it was memory that was short
 pub memory_short : (at : ℕ) (es items : List Entry) → SettlesTo at es items → AllReach at items → Suits at es → (k : AsmErrorKind) (i : ℕ) → RefusesAt (refusal at items) k i → k ≡ NoMemory

@@ -17,6 +17,10 @@ pub fn assemble_settled(alloc: Global, at: u16, items: &[Item]) -> Result<Image,
     // Items that suit are refused for want of memory alone.
     ensures suited { Suits at (map entry_of items.now) → IfErr result (λ e. e.kind ≡ AsmErrorKind.NoMemory) }
 {
+    // Items that assemble are settled as they are.
+    if let Ok(image) = assemble(alloc, at, items) {
+        return Ok(image);
+    }
     let settled = settle(alloc, at, items)?;
     assemble(alloc, at, &settled)
 }

@@ -4,7 +4,7 @@ use Rattle.tb_asm.specs.Layout.{entry_of}
 use Rattle.tb_asm.specs.Assembled.{refusal, RefusesAt}
 use Rattle.tb_asm.specs.Settle.{SettlesTo, AllReach}
 use Rattle.tb_settling.specs.Settled.{settled}
-use Rattle.tb_settling.proofs.Accepted.{laid_by, memory_short}
+use Rattle.tb_settling.proofs.Accepted.{laid_by, laid_at_once, memory_short}
 use Rattle.tb_settling.proofs.settling.assemble_settled.Goals as goal
 
 on_ok : {C E : Type 0} (P Q : C → Type 0) (r : Result C E) → ((c : C) → P c → Q c) → IfOk r P → IfOk r Q
@@ -15,22 +15,27 @@ on_err : {C E : Type 0} (P Q : E → Type 0) (r : Result C E) → ((e : E) → P
 on_err P Q (Ok c) f h = tt
 on_err P Q (Err e) f h = f e h
 
+pub returns-in-Ok-clause-laid : goal.returns-in-Ok-clause-laid
+returns-in-Ok-clause-laid c =
+    let image = c.in-Ok.image in
+    laid_at_once c.args.at (map entry_of c.args.items.now) image.at image.bytes.items image.labels.entries c.in-Ok.ensures.laid
+
 pub returns-clause-laid : goal.returns-clause-laid
 returns-clause-laid c =
     let at = c.args.at in let es = map entry_of c.args.items.now in let items = map entry_of c.deref.result.now in
     let rounds = subst (λ xs. SettlesTo at es (map entry_of xs)) (sym c.deref.ensures.value) c.in_ok-settled.ensures.settled in
     let reach = subst (λ xs. AllReach at (map entry_of xs)) (sym c.deref.ensures.value) c.in_ok-settled.ensures.reach in
-    on_ok _ _ c.assemble.result (λ image h. laid_by at es items image.at image.bytes.items image.labels.entries rounds reach h) c.assemble.ensures.laid
+    on_ok _ _ c.assemble-2.result (λ image h. laid_by at es items image.at image.bytes.items image.labels.entries rounds reach h) c.assemble-2.ensures.laid
 
 pub returns-clause-refused : goal.returns-clause-refused
 returns-clause-refused c =
     let at = c.args.at in let es = map entry_of c.args.items.now in let items = map entry_of c.deref.result.now in
     let rounds = subst (λ xs. SettlesTo at es (map entry_of xs)) (sym c.deref.ensures.value) c.in_ok-settled.ensures.settled in
-    on_err (λ e. RefusesAt (refusal at items) e.kind e.item) _ c.assemble.result (λ e h. settled items e.kind e.item rounds h) c.assemble.ensures.refused
+    on_err (λ e. RefusesAt (refusal at items) e.kind e.item) _ c.assemble-2.result (λ e h. settled items e.kind e.item rounds h) c.assemble-2.ensures.refused
 
 pub returns-clause-suited : goal.returns-clause-suited
 returns-clause-suited c s =
     let at = c.args.at in let es = map entry_of c.args.items.now in let items = map entry_of c.deref.result.now in
     let rounds = subst (λ xs. SettlesTo at es (map entry_of xs)) (sym c.deref.ensures.value) c.in_ok-settled.ensures.settled in
     let reach = subst (λ xs. AllReach at (map entry_of xs)) (sym c.deref.ensures.value) c.in_ok-settled.ensures.reach in
-    on_err (λ e. RefusesAt (refusal at items) e.kind e.item) _ c.assemble.result (λ e h. memory_short at es items rounds reach s e.kind e.item h) c.assemble.ensures.refused
+    on_err (λ e. RefusesAt (refusal at items) e.kind e.item) _ c.assemble-2.result (λ e h. memory_short at es items rounds reach s e.kind e.item h) c.assemble-2.ensures.refused
