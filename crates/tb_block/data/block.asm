@@ -1,6 +1,6 @@
 ; The routine block: the machine code that every compiled program shares.
 ;
-; It lies at $080D, right behind the BASIC line "10 SYS2061", takes 1006 bytes and is the same in every program.
+; It lies at $080D, right behind the BASIC line "10 SYS2061", takes 996 bytes and is the same in every program.
 ; The program's own lines begin at $0C00 and call these routines.
 ;
 ; This text is the source of the bytes that tb_runtime16 holds. The program tb_block assembles it and compares;
@@ -12,8 +12,8 @@
 ;
 ; A word stands low byte first. All these places belong to the program: no ROM writes them.
 ;
-;   $00FB  POINTER    word: the byte, the table entry or the note that is looked at
-;   $00FD  SECOND     word: the first table entry that Search still has to look at
+;   $00FB  LEFT       word: first argument; POINTER, the byte or the table entry that is looked at
+;   $00FD  RIGHT      word: second argument; TABLE, the line table's address
 ;   $C000  VARS       26 words, the variables A to Z
 ;   $C034  COLUMN     byte: bytes sent since the last 13 or the start, modulo 256
 ;   $C035  OPEN       byte: 1 where an input line is open, else 0
@@ -24,15 +24,14 @@
 ;   $C03C  NOTES      word: how many notes the return list holds, 0 to 500
 ;   $C040  SLOTS      16 words, of the lines' code
 ;   $C060  HELD       word, of the lines' code
-;   $C062  LEFT       word: first argument
-;   $C064  RIGHT      word: second argument
 ;   $C066  RESULT     word: result
-;   $C068  TABLE      word: the line table's address
+;   $C068  WANTED     word: the number of the line that Search looks for
 ;   $C06A  COUNT      word: how many entries the line table has
 ;   $C06C  LENGTH     byte: a text's length
 ;   $C06D  BYTE       byte: the byte that is sent or was read
 ;   $C06E  SCRATCH    18 bytes, up to $C07F
-;   $C100  NOTE_LIST  500 words, one a note
+;   $C100  NOTE_LOW   500 bytes, the notes' low bytes
+;   $C300  NOTE_HIGH  500 bytes, their high bytes
 ;
 ;
 ; ---- Rules
@@ -101,22 +100,22 @@ MULTIPLY:
         STX $C067               ; RESULT's high byte = 0; its low byte stays in A
         TXA
 MULTIPLY1:
-        LSR $C065               ; RIGHT = RIGHT / 2, its lowest bit in C
-        ROR $C064
+        LSR $FE                 ; RIGHT = RIGHT / 2, its lowest bit in C
+        ROR $FD
         BCC MULTIPLY2
         CLC
-        ADC $C062               ; RESULT = RESULT + LEFT
+        ADC $FB                 ; RESULT = RESULT + LEFT
         TAY
         LDA $C067
-        ADC $C063
+        ADC $FC
         STA $C067
         TYA
 MULTIPLY2:
-        ASL $C062               ; LEFT = LEFT * 2
-        ROL $C063
-        LDX $C064               ; on while RIGHT has a bit left
+        ASL $FB                 ; LEFT = LEFT * 2
+        ROL $FC
+        LDX $FD                 ; on while RIGHT has a bit left
         BNE MULTIPLY1
-        LDX $C065
+        LDX $FE
         BNE MULTIPLY1
         STA $C066
         RTS
@@ -128,15 +127,15 @@ MULTIPLY2:
 ; Fault:   2 where RIGHT is 0.
 ; Stack:   4.  Time: 316, and 5 up to the fault.
 DIVIDE:
-        LDA $C064               ; RIGHT
-        ORA $C065
+        LDA $FD                 ; RIGHT
+        ORA $FE
         BNE DIVIDESIGNED
         LDA #$02
         JMP FAULT
 
 ; A negative LEFT is negated before, and the quotient after: that is what follows.
 DIVIDESIGNED:
-        LDA $C063               ; LEFT's sign
+        LDA $FC                 ; LEFT's sign
         BPL DIVIDEBY
         JSR NEGATELEFT
         JSR DIVIDEBY
@@ -145,21 +144,21 @@ DIVIDESIGNED:
 NEGATELEFT:
         LDX #$00
 
-; The word at LEFT + X is negated: X is 0 for LEFT, 2 for RIGHT, 4 for RESULT.
+; The word at LEFT + X is negated: X is 0 for LEFT, 2 for RIGHT.
 NEGATE:
         SEC
         LDA #$00
-        SBC $C062,X             ; LEFT + X
-        STA $C062,X
+        SBC $FB,X               ; LEFT + X
+        STA $FB,X
         LDA #$00
-        SBC $C063,X
-        STA $C063,X
+        SBC $FC,X
+        STA $FC,X
         RTS
 
 ; LEFT = LEFT / RIGHT, where LEFT is 0 to 32768 and RIGHT is signed. A negative RIGHT is negated before, and the
 ; quotient after.
 DIVIDEBY:
-        LDA $C065               ; RIGHT's sign
+        LDA $FE                 ; RIGHT's sign
         BPL UNSIGNED
         LDX #$02
         JSR NEGATE
@@ -173,24 +172,24 @@ DIVIDEBY:
 ; remainder of the first eight rounds, and stays in A, with eight rounds left on LEFT's low byte. A is below RIGHT at
 ; the head of a round, so it fits a byte when it is doubled and takes a bit more. X counts the rounds.
 UNSIGNED:
-        LDA $C065               ; RIGHT
+        LDA $FE                 ; RIGHT
         BNE WIDE
-        LDA $C064
+        LDA $FD
         BMI WIDE
-        LDA $C063               ; LEFT
-        CMP $C064
+        LDA $FC                 ; LEFT
+        CMP $FD
         BCS WIDE
         LDX #$00
-        STX $C063
+        STX $FC
         STX $C067               ; RESULT
         LDX #$08
 NARROW:
-        ASL $C062               ; LEFT, its highest bit into A
+        ASL $FB                 ; LEFT, its highest bit into A
         ROL A
-        CMP $C064               ; RIGHT
+        CMP $FD                 ; RIGHT
         BCC NARROWLESS
-        SBC $C064
-        INC $C062
+        SBC $FD
+        INC $FB
 NARROWLESS:
         DEX
         BNE NARROW
@@ -209,20 +208,20 @@ WIDE:
         STA $C067
         LDY #$10
 WIDENEXT:
-        ASL $C062               ; LEFT
-        ROL $C063
+        ASL $FB                 ; LEFT
+        ROL $FC
         ROL $C066               ; RESULT
         ROL $C067
         LDA $C066               ; RESULT - RIGHT in A and X, C clear where RIGHT is greater
         SEC
-        SBC $C064
+        SBC $FD
         TAX
         LDA $C067
-        SBC $C065
+        SBC $FE
         BCC WIDELESS
         STX $C066
         STA $C067
-        INC $C062               ; LEFT
+        INC $FB                 ; LEFT
 WIDELESS:
         DEY
         BNE WIDENEXT
@@ -239,10 +238,10 @@ WIDELESS:
 ; The bound waits on the stack while Multiply has LEFT and RIGHT. The state is read without a sign, as Unsigned
 ; does, and the remainder that Unsigned leaves in RESULT is the answer.
 RANDOM:
-        LDA $C063               ; LEFT
+        LDA $FC                 ; LEFT
         BMI RANDOMBAD
         BNE RANDOMGO
-        LDA $C062
+        LDA $FB
         BNE RANDOMGO
 RANDOMBAD:
         LDA #$03
@@ -251,34 +250,34 @@ RANDOMGO:
         LDA $C036               ; SEEDED
         BEQ RANDOMFIRST
         LDA $C038               ; RIGHT = SEED
-        STA $C064
+        STA $FD
         LDA $C039
-        STA $C065
+        STA $FE
 RANDOMFIRST:
         LDA #$01
         STA $C036               ; SEEDED
-        LDA $C062               ; the bound
+        LDA $FB                 ; the bound
         PHA
-        LDA $C063
+        LDA $FC
         PHA
         LDA #$55                ; LEFT = 25173
-        STA $C062
+        STA $FB
         LDA #$62
-        STA $C063
+        STA $FC
         JSR MULTIPLY
         CLC
         LDA $C066               ; SEED = LEFT = RESULT + 13849
         ADC #$19
         STA $C038
-        STA $C062
+        STA $FB
         LDA $C067
         ADC #$36
         STA $C039
-        STA $C063
+        STA $FC
         PLA                     ; RIGHT = the bound
-        STA $C065
+        STA $FE
         PLA
-        STA $C064
+        STA $FD
         JMP UNSIGNED
 
 ; ---- Number: sends a signed word in decimal, as short as can be
@@ -292,30 +291,30 @@ RANDOMFIRST:
 ; counts how often one went in, from RIGHT on, which is 0 as long as no digit was sent, and then the text of the digit
 ; 0: so where Y is 0 a digit is left out. X waits in RIGHT + 1 while a digit is sent.
 NUMBER:
-        LDA $C063               ; LEFT's sign
+        LDA $FC                 ; LEFT's sign
         BPL NUMBERPLAIN
         LDA #$2D                ; -
         JSR SEND
         JSR NEGATELEFT
 NUMBERPLAIN:
         LDA #$00
-        STA $C064               ; RIGHT: no digit was sent
+        STA $FD                 ; RIGHT: no digit was sent
         LDX #$03
-        LDA $C063
+        LDA $FC
         BNE NUMBERNEXT
         LDX #$01
 NUMBERNEXT:
-        LDY $C064
+        LDY $FD
 NUMBERTAKE:
-        LDA $C062               ; LEFT - the power: C clear where LEFT is below
+        LDA $FB                 ; LEFT - the power: C clear where LEFT is below
         CMP POWERSLOW,X
-        LDA $C063
+        LDA $FC
         SBC POWERSHIGH,X
         BCC NUMBERDIGIT
-        STA $C063               ; LEFT = LEFT - the power
-        LDA $C062
+        STA $FC                 ; LEFT = LEFT - the power
+        LDA $FB
         SBC POWERSLOW,X
-        STA $C062
+        STA $FB
         INY
         BNE NUMBERTAKE          ; always
 NUMBERDIGIT:
@@ -323,14 +322,14 @@ NUMBERDIGIT:
         BEQ NUMBERSKIP
         ORA #$30
         LDY #$30
-        STY $C064               ; RIGHT: a digit was sent
-        STX $C065
+        STY $FD                 ; RIGHT: a digit was sent
+        STX $FE
         JSR SEND
-        LDX $C065
+        LDX $FE
 NUMBERSKIP:
         DEX
         BPL NUMBERNEXT
-        LDA $C062               ; LEFT: the last digit
+        LDA $FB                 ; LEFT: the last digit
         ORA #$30
         JMP SEND
 POWERSLOW:
@@ -420,19 +419,19 @@ READ:
         CMP #$0A
         BCS BAD
         LDA $C066               ; LEFT = RESULT
-        STA $C062
+        STA $FB
         LDA $C067
-        STA $C063
+        STA $FC
         ASL $C066               ; RESULT = RESULT * 4
         ROL $C067
         ASL $C066
         ROL $C067
         CLC
         LDA $C066               ; RESULT = RESULT + LEFT: 5 times
-        ADC $C062
+        ADC $FB
         STA $C066
         LDA $C067
-        ADC $C063
+        ADC $FC
         STA $C067
         ASL $C066               ; 10 times
         ROL $C067
@@ -464,8 +463,13 @@ DONE:
         LDA $C06F               ; SCRATCH + 1
         CMP #$2D
         BNE DONE1
-        LDX #$04                ; RESULT = -RESULT
-        JSR NEGATE
+        SEC                     ; RESULT = -RESULT
+        LDA #$00
+        SBC $C066
+        STA $C066
+        LDA #$00
+        SBC $C067
+        STA $C067
 DONE1:
         LDA $C06D               ; BYTE
         CMP #$2C
@@ -477,26 +481,27 @@ DONE1:
 DONE2:
         RTS
 
-; ---- Search: RESULT = the code address of the line with the number LEFT
+; ---- Search: RESULT = the code address of the line with the number WANTED
 ;
-; In:      LEFT: the number, which stands. TABLE, COUNT: the line table, of at least one entry; TABLE stands.
+; In:      WANTED: the number, which stands. TABLE, COUNT: the line table, of at least one entry.
 ; Out:     RESULT.
-; Changes: POINTER, SECOND; SCRATCH: a word, HALF.
+; Changes: POINTER, TABLE, COUNT; SCRATCH: a word, HALF.
 ; Fault:   1 where no entry has the number.
-; Stack:   0.  Time: 600, whatever the table that memory holds.
+; Stack:   0.  Time: 510, whatever the table that memory holds.
 ;
 ; An entry is four bytes, a line's number and its code's address, and the numbers rise. All is compared without
-; signs, so a negative LEFT is above every number.
+; signs, so a negative WANTED is above every number.
 ;
-; By halving: the entry is, if anywhere, among the COUNT entries from SECOND on. HALF is COUNT / 2. While it is
-; not 0, the entry HALF further on is probed: where LEFT is below its number, the HALF entries before it are
-; left, else those from it on, COUNT - HALF. The last entry is compared by itself.
+; By halving: the entry is, if anywhere, among the COUNT entries from TABLE on. HALF is COUNT / 2. The entry HALF
+; further on is probed: where WANTED is below its number, the HALF entries before it are left, else those from it on,
+; COUNT - HALF.
 SEARCH:
-        LDA $C068               ; SECOND = TABLE
-        STA $FD
-        LDA $C069
-        STA $FE
-SEARCH_PROBE:
+        LDA $C06B               ; 64 entries or more?
+        BNE SEARCH_WIDE
+        LDA $C06A
+        CMP #$40
+        BCC SEARCH_SHORT
+SEARCH_WIDE:
         LDA $C06B               ; HALF = COUNT / 2, its high byte in POINTER + 1 too
         LSR A
         STA $C06F
@@ -504,54 +509,80 @@ SEARCH_PROBE:
         LDA $C06A
         ROR A
         STA $C06E
-        BNE SEARCH_SPLIT
-        LDA $C06F
-        BEQ SEARCH_LAST
-SEARCH_SPLIT:
-        LDA $C06E               ; POINTER + 1 and A: HALF * 4
-        ASL A
+        ASL A                   ; POINTER + 1 and A: HALF * 4
         ROL $FC
         ASL A
         ROL $FC
         CLC
-        ADC $FD                 ; POINTER = SECOND + HALF * 4
+        ADC $FD                 ; POINTER = TABLE + HALF * 4
         STA $FB
         LDA $FC
         ADC $FE
         STA $FC
         LDY #$00
-        LDA $C062               ; LEFT - the number there: C clear where LEFT is below
+        LDA $C068               ; WANTED - the number there: C clear where WANTED is below
         CMP ($FB),Y
         INY
-        LDA $C063
+        LDA $C069
         SBC ($FB),Y
         BCC SEARCH_LOWER
-        LDA $FB                 ; SECOND = POINTER
+        LDA $FB                 ; TABLE = POINTER
         STA $FD
         LDA $FC
         STA $FE
-        SEC
-        LDA $C06A               ; COUNT = COUNT - HALF
+        LDA $C06A               ; COUNT = COUNT - HALF: C is set still
         SBC $C06E
         STA $C06A
         LDA $C06B
         SBC $C06F
         STA $C06B
-        JMP SEARCH_PROBE
+        BCS SEARCH              ; always: HALF is not above COUNT
 SEARCH_LOWER:
         LDA $C06E               ; COUNT = HALF
         STA $C06A
         LDA $C06F
         STA $C06B
-        JMP SEARCH_PROBE
-SEARCH_LAST:
+        JMP SEARCH
+;
+; Fewer than 64 entries are fewer than 256 bytes: TABLE stands, and POINTER's low byte is how far the entries in
+; question lie behind it. A is COUNT at the head of a round, X is HALF. The last entry is compared by itself.
+SEARCH_SHORT:
         LDY #$00
+        STY $FB
+SEARCH_HALVE:
+        LSR A
+        BEQ SEARCH_LAST
+        TAX
+        ASL A                   ; Y = POINTER + HALF * 4
+        ASL A
+        CLC
+        ADC $FB
+        TAY
+        LDA $C068               ; WANTED - the number there: C clear where WANTED is below
+        CMP ($FD),Y
+        INY
+        LDA $C069
+        SBC ($FD),Y
+        BCC SEARCH_FRONT
+        DEY
+        STY $FB                 ; POINTER = Y
+        STX $FC
+        LDA $C06A               ; COUNT = COUNT - HALF: C is set still
+        SBC $FC
+        STA $C06A
+        BCS SEARCH_HALVE        ; always
+SEARCH_FRONT:
+        STX $C06A               ; COUNT = HALF
+        TXA
+        BNE SEARCH_HALVE        ; always
+SEARCH_LAST:
+        LDY $FB
         LDA ($FD),Y             ; the number
-        CMP $C062               ; LEFT
+        CMP $C068               ; WANTED
         BNE SEARCH_NONE
         INY
         LDA ($FD),Y
-        CMP $C063
+        CMP $C069
         BNE SEARCH_NONE
         INY
         LDA ($FD),Y             ; RESULT = the address
@@ -567,65 +598,65 @@ SEARCH_NONE:
 ; ---- Push: one more note on the return list
 ;
 ; In:      LEFT: the note, a code address; it stands.
-; Changes: NOTES, one more; NOTE_LIST; POINTER. RESULT stands: GOSUB keeps its target there.
+; Changes: NOTES, one more; NOTE_LOW, NOTE_HIGH. RESULT stands: GOSUB keeps its target there.
 ; Fault:   4 where NOTES is 500 already.
-; Stack:   2.  Time: 25, and 7 up to the fault.
+; Stack:   0.  Time: 13, and 7 up to the fault.
+;
+; The low byte of NOTES is the note's place on a page: on the first pages of NOTE_LOW and NOTE_HIGH where the high
+; byte is 0, else on the second ones.
 PUSH:
-        LDA $C03C               ; NOTES - 500: C set where it is not negative
-        CMP #$F4
+        LDX $C03C               ; NOTES
         LDA $C03D
-        SBC #$01
-        BCS PUSH_FULL
-        JSR NOTE_PLACE
+        BNE PUSH_FAR
+        LDA $FB                 ; LEFT
+        STA $C100,X             ; NOTE_LOW
+        LDA $FC
+        STA $C300,X             ; NOTE_HIGH
+PUSH_COUNT:
         INC $C03C               ; NOTES = NOTES + 1
-        BNE PUSH_STORE
+        BNE PUSH_END
         INC $C03D
-PUSH_STORE:
-        LDY #$00
-        LDA $C062               ; LEFT
-        STA ($FB),Y
-        INY
-        LDA $C063
-        STA ($FB),Y
+PUSH_END:
         RTS
+PUSH_FAR:
+        CPX #$F4                ; NOTES - 500: C set where it is not negative
+        BCS PUSH_FULL
+        LDA $FB                 ; LEFT
+        STA $C200,X
+        LDA $FC
+        STA $C400,X
+        BCC PUSH_COUNT          ; always: C is clear still
 PUSH_FULL:
         LDA #$04
         JMP FAULT
 
-; POINTER = NOTE_LIST + 2 * NOTES: where the next note goes. NOTE_LIST is $C100, so its low byte adds nothing.
-NOTE_PLACE:
-        LDA $C03C               ; NOTES
-        ASL A
-        STA $FB
-        LDA $C03D
-        ROL A
-        CLC
-        ADC #$C1
-        STA $FC
-        RTS
-
 ; ---- Pop: RESULT = the newest note, which leaves the return list
 ;
 ; Out:     RESULT.
-; Changes: NOTES, one less; POINTER.
+; Changes: NOTES, one less.
 ; Fault:   5 where NOTES is 0.
-; Stack:   2.  Time: 23, and 6 up to the fault.
+; Stack:   0.  Time: 14, and 6 up to the fault.
 POP:
-        LDA $C03C               ; NOTES = NOTES - 1, borrowing where the low byte is 0
+        LDX $C03C               ; NOTES = NOTES - 1, borrowing where the low byte is 0
         BNE POP_LOW
         LDA $C03D
         BEQ POP_NONE
         DEC $C03D
 POP_LOW:
-        DEC $C03C
-        JSR NOTE_PLACE
-        LDY #$00
-        LDA ($FB),Y
+        DEX
+        STX $C03C
+        LDA $C03D
+        BNE POP_FAR
+        LDY $C300,X             ; NOTE_HIGH
+        LDA $C100,X             ; NOTE_LOW
+POP_STORE:
         STA $C066               ; RESULT
-        INY
-        LDA ($FB),Y
-        STA $C067
+        STY $C067
         RTS
+POP_FAR:
+        LDY $C400,X
+        LDA $C200,X
+        JMP POP_STORE
 POP_NONE:
         LDA #$05
         JMP FAULT
@@ -663,9 +694,9 @@ FAULT:
         LDA #$20
         JSR SEND
         LDA $C03A               ; LEFT = LINE
-        STA $C062
+        STA $FB
         LDA $C03B
-        STA $C063
+        STA $FC
         JSR NUMBER
         LDA #$0D
         JMP SEND

@@ -37,10 +37,10 @@ module _ (ly : Layout) (f : Setup) (lo hi keys : ℕ) (fits : Fits f 16) (limit 
 
     by_number : (k : ℕ) → Begins (JumpTo k) → (t : Bool) → has_line ly.numbers k ≡ t → Leads w (settled n is r (leaving (if t then Goes (record s { place = At k }) [] else fault 1 n)))
     by_number k h true e = looser f w _ _ [] 1 most (omega arith) (λ u x. x) (to_found ly f lo hi keys fits limit rs code laid n is s r w k h e)
-    by_number k h false e = looser f w _ _ (fault_text 1 n) (6 + limit) most (omega arith) (λ u x. x) (to_fails ly f lo hi keys fits limit rs code laid n is s r w k h e)
+    by_number k h false e = looser f w _ _ (fault_text 1 n) (4 + limit) most (omega arith) (λ u x. x) (to_fails ly f lo hi keys fits limit rs code laid n is s r w k h e)
 
     by_number_room : (k : ℕ) → Begins (CallTo k) → (t u : Bool) → has_line ly.numbers k ≡ t → nat_lt (length s.returns) deepest ≡ u → Leads w (settled n is r (leaving (if t then (if u then Goes (record s { place = At k; returns = next_after ly.numbers n ∷ s.returns }) [] else fault 4 n) else fault 1 n)))
-    by_number_room k h false u e e' = looser f w _ _ (fault_text 1 n) (6 + limit) most (omega arith) (λ u x. x) (call_to_fails ly f lo hi keys fits limit rs code laid n is s r w k h e)
+    by_number_room k h false u e e' = looser f w _ _ (fault_text 1 n) (4 + limit) most (omega arith) (λ u x. x) (call_to_fails ly f lo hi keys fits limit rs code laid n is s r w k h e)
     by_number_room k h true false e e' = looser f w _ _ (fault_text 4 n) (9 + limit) most (omega arith) (λ u x. x) (call_to_full ly f lo hi keys fits limit rs code laid n is s r w k h e e')
     by_number_room k h true true e e' = looser f w _ _ [] (10 + limit) most (omega arith) (λ u x. x) (call_to_found ly f lo hi keys fits limit rs code laid n is s r w k h e e')
 

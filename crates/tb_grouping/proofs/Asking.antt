@@ -17,7 +17,7 @@ use Rattle.tb_templates.specs.Templates.{var_at}
 use Rattle.tb_keeping.specs.Layout.{Layout}
 use Rattle.tb_keeping.proofs.Turns.{Leaves, turn_short}
 use Rattle.tb_keeping.proofs.Frames.{column_mod, owned_low, put_away, word_put}
-use Rattle.tb_keeping.proofs.Pieces.{calls, copies, put_word}
+use Rattle.tb_keeping.proofs.Pieces.{calls, copies, put_word, word_in_data}
 use Rattle.tb_keeping.proofs.Returning.{back_here, behind_call, homed_kept, moved}
 use Rattle.tb_selection.specs.Groups.{IntoHome, IntoVariable, Single}
 use Rattle.tb_selection.specs.Liveness.{live}
@@ -88,7 +88,7 @@ module _ (ly : Layout) (f : Setup) (lo hi keys : ℕ) (fits : Fits f 16) (limit 
         (live_same (live is) r u.mem m' h.few_behind (λ a lo hi. away a (λ e. omega (arith, e, lo, fit)) (λ e. omega (arith, e, lo, fit))) k.read)
         (homed_kept ly f lo hi keys fits u.mem m' (home_kept (IntoHome (IntoVariable x)) fit u.mem m' away) k.homed)
         refl h.answers (record { short = omega (arith, shorter.0, h.short.short); text_bytes = shorter.1; answer_bytes = h.short.answer_bytes }) y (moved ly f lo hi keys fits _ (w.regs.pc + 25) own _ left w.answers y e (omega arith)))
-        (copies f 16 fits (at + 3) own u.mem left w.answers refl RESULT (var_at x) lies.2.0 (omega arith, omega arith) (omega arith, omega (arith, fit)) (λ e. omega (arith, e, fit)) lies.2.1 u
+        (copies f 16 fits (at + 3) own u.mem left w.answers refl RESULT (var_at x) lies.2.0 (refl, refl) (word_in_data (var_at x) (omega arith) (omega (arith, fit))) (λ e. omega (arith, e, fit)) lies.2.1 u
         (record { pc = g.pc ∙ behind_call ly f lo hi keys fits at lies.0; stack = g.stack; binary = g.binary; mem = refl; text = g.text; answers = g.answers }))))))
 
     pub input_fails : turn Nothing s.text ≡ Bad → Comes f w (IsHome f) (prompt o ++ fault_text 6 n) (9 + limit)

@@ -11,7 +11,7 @@ use Rattle.tb_syntax.specs.declared.expressions.Operator.TheVariants.{Add, Subtr
 use Rattle.tb_lower.specs.Control.{Place, content_at, has_line, highest}
 use Rattle.tb_lower.specs.Ranges.{AreInRange}
 use Rattle.tb_lower.specs.Slots as slots
-use Rattle.tb_runtime16.specs.Places.{LEFT, RIGHT, RESULT, LINE, MULTIPLY_AT, DIVIDE_AT, RANDOM_AT, NUMBER_AT, PUSH_AT}
+use Rattle.tb_runtime16.specs.Places.{LEFT, RIGHT, RESULT, WANTED, LINE, MULTIPLY_AT, DIVIDE_AT, RANDOM_AT, NUMBER_AT, PUSH_AT}
 use Rattle.tb_templates.specs.declared.sources.Source.{Source}
 use Rattle.tb_templates.specs.declared.sources.Source.TheVariants.{FixedWord, AtPlace}
 use Rattle.tb_templates.specs.GroupTemplates.{may_fault}
@@ -63,7 +63,7 @@ convert_code ly n Drawn a to = Code (constant n LINE) ∷ routine RANDOM_AT RESU
 
 -- the line table is searched for a word
 abbrev pub searched : Layout → ℕ → Source → List Piece → List Piece
-searched ly n a others = Code (constant n LINE) ∷ Code (brought a LEFT) ∷ Code (call ly.locate) ∷ others
+searched ly n a others = Code (constant n LINE) ∷ Code (brought a WANTED) ∷ Code (call ly.locate) ∷ others
 
 -- a use of a word
 abbrev pub use_code : Layout → ℕ → Usage → Source → List Piece
@@ -174,7 +174,7 @@ TestReaches rel.Le first second at a b next = OrderReaches first second at b a n
 -- the test and then fault 1
 abbrev pub go_code : Layout → (n at : ℕ) (first second : Way) → Rel → Source → Source → Bool → ℕ → List Piece
 go_code ly n at first second rel a b true to = test_code (denied rel) first second at a b (ly.start to)
-go_code ly n at first second rel a b false to = test_code rel first second at a b (next_at ly n) ++ Code (constant n LINE) ∷ Code (faulting 1) ∷ []
+go_code ly n at first second rel a b false to = test_code rel first second at a b (next_at ly n) ++ Code (faulting n 1) ∷ []
 
 abbrev pub GoReaches : Layout → (n at : ℕ) (first second : Way) → Rel → Source → Source → Bool → ℕ → Type 0
 GoReaches ly n at first second rel a b true to = TestReaches (denied rel) first second at a b (ly.start to)
@@ -208,14 +208,14 @@ GroupsLie ly code n at (g ∷ gs) =
     (first second : Way) × AreInRange 256 (expand g) × Lies code at (group_code ly n at first second g) × GroupsLie ly code n (at + pieces_size (group_code ly n at first second g)) gs × BranchesReach ly n at first second g × (0x0800 ≤ at)
 
 -- ---- lines
--- behind the call of GETIN, at an address: a break sets the line's number and faults
+-- behind the call of GETIN, at an address: a break faults
 abbrev pub poll_code : (n at : ℕ) → Way → List Piece
-poll_code n at way = Code (ins 0xC9 3 ∷ []) ∷ Code (branch_code way (branch_on Zero false) (at + 2) (at + 17 + way_size way)) ∷ Code (constant n LINE) ∷ Code (faulting 0) ∷ []
+poll_code n at way = Code (ins 0xC9 3 ∷ []) ∷ Code (branch_code way (branch_on Zero false) (at + 2) (at + 11 + way_size way)) ∷ Code (faulting n 0) ∷ []
 
 -- a line whose list begins with a poll; its first instruction is among all the program's bytes only
 abbrev pub LineStands : Layout → (code whole : Part) (n at : ℕ) → List slots.Instr → Type 0
 LineStands ly code whole n at is =
-    (way : Way) × (at + 3 ≤ highest_code) × Stands whole at (call 0xFFE4) × Lies code (at + 3) (poll_code n (at + 3) way) × BranchReaches way (at + 5) (at + 20 + way_size way) × GroupsLie ly code n (at + 20 + way_size way) (select is)
+    (way : Way) × (at + 3 ≤ highest_code) × Stands whole at (call 0xFFE4) × Lies code (at + 3) (poll_code n (at + 3) way) × BranchReaches way (at + 5) (at + 14 + way_size way) × GroupsLie ly code n (at + 14 + way_size way) (select is)
 
 -- a list that begins with a poll, the rest of which stands behind it
 pub record PolledLine (ly : Layout) (code whole : Part) (n : ℕ) (js : List slots.Instr) : Type 0 where

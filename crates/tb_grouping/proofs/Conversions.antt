@@ -23,7 +23,7 @@ use Rattle.tb_templates.specs.declared.sources.Source.TheVariants.{FixedWord}
 use Rattle.tb_templates.specs.Sources.{destination_at, source_of}
 use Rattle.tb_grouping.proofs.Coded.{GroupsLie, routine, taken}
 use Rattle.tb_grouping.proofs.Frames.{live_same, state_drawn}
-use Rattle.tb_grouping.proofs.Handed.{asks, gives}
+use Rattle.tb_grouping.proofs.Handed.{asks, gives, result_gives}
 use Rattle.tb_grouping.proofs.Lone.{Kept, kept as kept_first, kept_lined, lined, lines, numbered, word_lands}
 use Rattle.tb_grouping.proofs.Matching.{Target}
 use Rattle.tb_grouping.proofs.OneWord.{ConvertFits, convert_fits, convert_lasting, convert_reads, draw_fails, draw_goes, negate_goes, spread_convert, word_asked}
@@ -109,8 +109,8 @@ module _ (ly : Layout) (f : Setup) (lo hi keys : ℕ) (fits : Fits f 16) (code :
         (looser f w _ _ [] (4 + (13 + limit)) (17 + limit) (omega arith) (λ u z. z)
         (lines ly f lo hi keys fits n _ js is s r w h h.lies.0 h.lies.1 _ [] (13 + limit)
         (gives ly f lo hi keys fits n _ js is s r w h RANDOM_AT RESULT at src (FixedWord ly.seed) d m c h.lies.2 x ly.seed
-        (operand_apart k a LEFT 24625 refl fit.slot fit.word) tt bound_holds option_holds
-        code drawn (with_fetched s r k a) (seed_after s.seed % x) limit (omega arith, omega arith) fit.dest (convert_lasting IsDrawn a d is s r h.free) rest h.text h.answers h.short
+        (operand_apart k a LEFT (omega arith) fit.slot fit.word) tt bound_holds option_holds
+        code drawn (with_fetched s r k a) (seed_after s.seed % x) limit result_gives fit.dest (convert_lasting IsDrawn a d is s r h.free) rest h.text h.answers h.short
         (λ l k' m' g u e. looser f u _ _ [] limit limit (omega arith)
         (λ u q. record {
           here = record { pc = q.pc; stack = q.stack; binary = q.binary; mem = refl; text = q.text; answers = q.answers };
@@ -125,5 +125,5 @@ module _ (ly : Layout) (f : Setup) (lo hi keys : ℕ) (fits : Fits f 16) (code :
         (looser f w _ _ (fault_text 3 n) (4 + (9 + limit)) (17 + limit) (omega arith) (λ u z. z)
         (lines ly f lo hi keys fits n _ js is s r w h h.lies.0 h.lies.1 _ (fault_text 3 n) (9 + limit)
         (asks ly f lo hi keys fits n _ js is s r w h RANDOM_AT RESULT at src (FixedWord ly.seed) d m c h.lies.2 x ly.seed
-        (operand_apart k a LEFT 24625 refl fit.slot fit.word) tt bound_holds option_holds
+        (operand_apart k a LEFT (omega arith) fit.slot fit.word) tt bound_holds option_holds
         _ (fault_text 3 n) limit (λ m' g. rs.random_fails _ _ m' w.text w.answers x n g.left bad (g.line (numbered ly f lo hi keys fits n _ js is s r w h)) g.kept.homed))))

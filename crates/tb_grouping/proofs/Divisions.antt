@@ -21,7 +21,7 @@ use Rattle.tb_grouping.proofs.Calculations.{Leads}
 use Rattle.tb_templates.specs.declared.sources.Source.{Source}
 use Rattle.tb_templates.specs.Sources.{destination_at, source_of}
 use Rattle.tb_grouping.proofs.Coded.{GroupsLie, routine}
-use Rattle.tb_grouping.proofs.Handed.{asks, gives}
+use Rattle.tb_grouping.proofs.Handed.{asks, gives, left_gives}
 use Rattle.tb_grouping.proofs.Lone.{Kept, kept_lined, kept_scratch, lined, lines, numbered}
 use Rattle.tb_grouping.proofs.Matching.{Target}
 use Rattle.tb_grouping.proofs.Operands.{CalcFits, SourceHolds, calc_fits, operand_apart, operand_held}
@@ -82,8 +82,8 @@ module _ (ly : Layout) (f : Setup) (lo hi keys : ℕ) (fits : Fits f 16) (limit 
       (looser f w _ _ [] (4 + (13 + limit)) (17 + limit) (omega arith) (λ u z. z)
       (lines ly f lo hi keys fits n _ js is s r w h h.lies.0 h.lies.1 _ [] (13 + limit)
       (gives ly f lo hi keys fits n _ js is s r w h DIVIDE_AT LEFT at first second d m c h.lies.2 x y
-      (operand_apart k a LEFT 24625 refl (omega (arith, fit.slot)) fit.left) (operand_apart (k + 1) b RIGHT 24626 refl fit.slot fit.right) left_holds right_holds
-      code s (with_fetched s (with_fetched s r k a) (k + 1) b) v limit (omega arith, omega arith) fit.dest (calculate_lasting op.Divide a b d is s r h.free) rest h.text h.answers h.short
+      (operand_apart k a LEFT (omega arith) (omega (arith, fit.slot)) fit.left) (operand_apart (k + 1) b RIGHT (omega arith) fit.slot fit.right) left_holds right_holds
+      code s (with_fetched s (with_fetched s r k a) (k + 1) b) v limit left_gives fit.dest (calculate_lasting op.Divide a b d is s r h.free) rest h.text h.answers h.short
       (λ l k' m g u e. looser f u _ _ [] limit limit (omega arith)
       (λ u q. record {
         here = back_here ly f lo hi keys fits _ _ m w.text w.answers u q.back refl;
@@ -98,5 +98,5 @@ module _ (ly : Layout) (f : Setup) (lo hi keys : ℕ) (fits : Fits f 16) (limit 
       (looser f w _ _ (fault_text 2 n) (4 + (9 + limit)) (17 + limit) (omega arith) (λ u z. z)
       (lines ly f lo hi keys fits n _ js is s r w h h.lies.0 h.lies.1 _ (fault_text 2 n) (9 + limit)
       (asks ly f lo hi keys fits n _ js is s r w h DIVIDE_AT LEFT at first second d m c h.lies.2 x y
-      (operand_apart k a LEFT 24625 refl (omega (arith, fit.slot)) fit.left) (operand_apart (k + 1) b RIGHT 24626 refl fit.slot fit.right) left_holds right_holds
+      (operand_apart k a LEFT (omega arith) (omega (arith, fit.slot)) fit.left) (operand_apart (k + 1) b RIGHT (omega arith) fit.slot fit.right) left_holds right_holds
       _ (fault_text 2 n) limit (λ m' g. rs.divide_by_zero _ _ m' w.text w.answers x n g.left (subst (WordAt m' RIGHT) zero g.right) (g.line (numbered ly f lo hi keys fits n _ js is s r w h)) g.kept.homed))))

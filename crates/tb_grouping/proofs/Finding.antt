@@ -9,7 +9,7 @@ use Rattle.tb_reaching.proofs.Comes.{chained, looser}
 use Rattle.tb_reaching.specs.Start.{IsHome}
 use Rattle.tb_reaching.specs.View.{Comes, Fits, Setup, View}
 use Rattle.tb_runtime16.specs.Routines.{Here, Moves, Noted, Routines, WordAt}
-use Rattle.tb_runtime16.specs.Places.{COUNT, HOME_S, LEFT, LINE, NOTES, POP_AT, PUSH_AT, RESULT, SEARCH_AT, TABLE}
+use Rattle.tb_runtime16.specs.Places.{COUNT, HOME_S, LEFT, LINE, NOTES, POP_AT, PUSH_AT, RESULT, SEARCH_AT, TABLE, WANTED}
 use Rattle.tb_keeping.specs.Layout.{Layout, next_at, place_at}
 use Rattle.tb_keeping.proofs.Frames.{owned_low, word_away, word_kept, word_put}
 use Rattle.tb_keeping.proofs.Mirrors.{notes_of}
@@ -26,7 +26,7 @@ use Rattle.tb_templates.specs.declared.sources.Source.{Source}
 use Rattle.tb_templates.specs.Sources.{source_of}
 use Rattle.tb_grouping.proofs.Coded.{GroupsLaid, brought, high, low, searched}
 use Rattle.tb_grouping.proofs.OneWord.{spread_use, use_fits, use_reads, word_asked}
-use Rattle.tb_grouping.proofs.Operands.{OperandFits, operand_apart, operand_held}
+use Rattle.tb_grouping.proofs.Operands.{OperandFits, operand_before, operand_held}
 use Rattle.tb_grouping.proofs.Ready.{Ready}
 use Rattle.tb_grouping.proofs.SlotSide.{fetched, fetched_length, with_fetched}
 use Rattle.tb_grouping.proofs.Sources.{value}
@@ -55,14 +55,14 @@ module _ (ly : Layout) (f : Setup) (lo hi keys : ℕ) (fits : Fits f 16) (limit 
 
     -- where the search is called
     abbrev call_at : ℕ
-    call_at = at + size (brought src LEFT)
+    call_at = at + size (brought src WANTED)
 
     -- memory with the line's number, the number that is sought, the table and its count
     abbrev one : ℕ → ℕ
     one = lined ly f lo hi keys fits n _ _ is s r w h
 
     abbrev two : ℕ → ℕ
-    two = put_word one LEFT (value one (low src)) (value one (high src))
+    two = put_word one WANTED (value one (low src)) (value one (high src))
 
     abbrev three : ℕ → ℕ
     three = put_word two TABLE (ly.table % 256) (ly.table / 256)
@@ -77,13 +77,13 @@ module _ (ly : Layout) (f : Setup) (lo hi keys : ℕ) (fits : Fits f 16) (limit 
     kept_sought =
         kept_put ly f lo hi keys fits asked s r three COUNT (length ly.numbers % 256) (length ly.numbers / 256) h.some_read refl refl
         (kept_put ly f lo hi keys fits asked s r two TABLE (ly.table % 256) (ly.table / 256) h.some_read refl refl
-        (kept_put ly f lo hi keys fits asked s r one LEFT _ _ h.some_read refl refl kept_one))
+        (kept_put ly f lo hi keys fits asked s r one WANTED _ _ h.some_read refl refl kept_one))
 
     number : WordAt sought LINE n
     number =
         word_away three COUNT _ _ LINE n (λ e. omega (arith, e)) (λ e. omega (arith, e)) (λ e. omega (arith, e))
         (word_away two TABLE _ _ LINE n (λ e. omega (arith, e)) (λ e. omega (arith, e)) (λ e. omega (arith, e))
-        (word_away one LEFT _ _ LINE n (λ e. omega (arith, e)) (λ e. omega (arith, e)) (λ e. omega (arith, e)) (numbered ly f lo hi keys fits n _ _ is s r w h)))
+        (word_away one WANTED _ _ LINE n (λ e. omega (arith, e)) (λ e. omega (arith, e)) (λ e. omega (arith, e)) (numbered ly f lo hi keys fits n _ _ is s r w h)))
 
     abbrev back_low : ℕ
     back_low = (call_at + 2) % 256
@@ -96,18 +96,18 @@ module _ (ly : Layout) (f : Setup) (lo hi keys : ℕ) (fits : Fits f 16) (limit 
     searches q t k next =
         let bs = back_low ∷ back_high ∷ own in
         lines ly f lo hi keys fits n _ _ is s r w h lies.0 lies.1 q t (4 + (1 + (4 + (4 + (1 + k))))) (λ u e.
-        chained f u _ q [] t 4 (1 + (4 + (4 + (1 + k)))) (brings f 16 fits at own one w.text w.answers refl src LEFT lies.2.0 (operand_apart 0 a LEFT 24625 refl (omega arith) fit) (omega arith, omega arith) lies.2.1 u e) (λ u e.
+        chained f u _ q [] t 4 (1 + (4 + (4 + (1 + k)))) (brings f 16 fits at own one w.text w.answers refl src WANTED lies.2.0 (operand_before 0 a WANTED (omega arith) (omega arith) fit) (refl, refl) lies.2.1 u e) (λ u e.
         chained f u _ q [] t 1 (4 + (4 + (1 + k))) (calls f 16 fits call_at own two w.text w.answers refl ly.locate refl lies.2.2.0 lies.2.2.1 u e) (λ u e.
-        chained f u _ q [] t 4 (4 + (1 + k)) (sets f 16 fits ly.locate bs two w.text w.answers refl ly.table TABLE laid.locate.0 (omega arith, omega arith) laid.locate.1 u e) (λ u e.
-        chained f u _ q [] t 4 (1 + k) (sets f 16 fits (ly.locate + 10) bs three w.text w.answers refl (length ly.numbers) COUNT laid.locate.2.0 (omega arith, omega arith) laid.locate.2.1 u e) (λ u e.
+        chained f u _ q [] t 4 (4 + (1 + k)) (sets f 16 fits ly.locate bs two w.text w.answers refl ly.table TABLE laid.locate.0 (refl, refl) laid.locate.1 u e) (λ u e.
+        chained f u _ q [] t 4 (1 + k) (sets f 16 fits (ly.locate + 10) bs three w.text w.answers refl (length ly.numbers) COUNT laid.locate.2.0 (refl, refl) laid.locate.2.1 u e) (λ u e.
         chained f u _ q [] t 1 k (jumps f 16 fits (ly.locate + 10 + 10) bs sought w.text w.answers refl SEARCH_AT laid.locate.2.2.1 u e) next)))))
 
-    wanted : WordAt sought LEFT wish
+    wanted : WordAt sought WANTED wish
     wanted =
         let v = operand_held ly s asked r one 0 a kept_one.state kept_one.read fit (word_asked 0 a (use_of how) is (use_reads how is)) in
-        word_away three COUNT _ _ LEFT _ (λ e. omega (arith, e)) (λ e. omega (arith, e)) (λ e. omega (arith, e))
-        (word_away two TABLE _ _ LEFT _ (λ e. omega (arith, e)) (λ e. omega (arith, e)) (λ e. omega (arith, e))
-        (word_put one LEFT _ _ _ v.low_byte v.high_byte v.small))
+        word_away three COUNT _ _ WANTED _ (λ e. omega (arith, e)) (λ e. omega (arith, e)) (λ e. omega (arith, e))
+        (word_away two TABLE _ _ WANTED _ (λ e. omega (arith, e)) (λ e. omega (arith, e)) (λ e. omega (arith, e))
+        (word_put one WANTED _ _ _ v.low_byte v.high_byte v.small))
 
     in_table : WordAt sought TABLE ly.table
     in_table = word_away three COUNT _ _ TABLE _ (λ e. omega (arith, e)) (λ e. omega (arith, e)) (λ e. omega (arith, e)) (word_put two TABLE (ly.table % 256) (ly.table / 256) _ refl refl laid.table_small)
@@ -141,7 +141,7 @@ module _ (ly : Layout) (f : Setup) (lo hi keys : ℕ) (fits : Fits f 16) (limit 
 
     -- behind the search
     abbrev found_at : ℕ
-    found_at = at + size (brought (source_of 0 a) LEFT) + 3
+    found_at = at + size (brought (source_of 0 a) WANTED) + 3
 
     module _ (h : Ready ly f lo hi keys fits n (Use AsLine a) (spread_use AsLine a is) is s r w) where
       pub jump_found : has_line ly.numbers place ≡ true → Comes f w (Matches ly f lo hi keys (record { state = record s { place = At place }; rest = Whole; slots = slots })) [] (19 + limit)
@@ -171,7 +171,7 @@ module _ (ly : Layout) (f : Setup) (lo hi keys : ℕ) (fits : Fits f 16) (limit 
       calls_push found q t b next =
           let lies = h.lies.2.2.2 in
           finds AsSubroutine a behind h h.lies found q t (4 + (1 + b)) (λ u c l result e.
-          chained f u _ q [] t 4 (1 + b) (sets f 16 fits found_at own u.mem w.text w.answers refl (next_at ly n) LEFT lies.0 (omega arith, omega arith) lies.1 u e) (λ v e.
+          chained f u _ q [] t 4 (1 + b) (sets f 16 fits found_at own u.mem w.text w.answers refl (next_at ly n) LEFT lies.0 (refl, refl) lies.1 u e) (λ v e.
           chained f v _ q [] t 1 b (calls f 16 fits (found_at + 10) own (returning u) w.text w.answers refl PUSH_AT refl lies.2.0 lies.2.1 v e)
           (next u
           (word_away u.mem LEFT _ _ RESULT _ (λ e. omega (arith, e)) (λ e. omega (arith, e)) (λ e. omega (arith, e)) result)

@@ -22,7 +22,7 @@ use Rattle.tb_syntax.specs.declared.expressions.Operator.TheVariants as op
 use Rattle.tb_lower.specs.Control.{has_line}
 use Rattle.tb_lower.specs.Ranges.{AreInRange, IsInRange}
 use Rattle.tb_lower.specs.Slots as slots
-use Rattle.tb_runtime16.specs.Places.{LINE, LEFT, RIGHT, RESULT, MULTIPLY_AT, DIVIDE_AT, RANDOM_AT, NUMBER_AT, PUSH_AT}
+use Rattle.tb_runtime16.specs.Places.{LINE, LEFT, RIGHT, RESULT, WANTED, MULTIPLY_AT, DIVIDE_AT, RANDOM_AT, NUMBER_AT, PUSH_AT}
 use Rattle.tb_selection.specs.Select.{alone}
 use Rattle.tb_selection.specs.Groups.{Operand, Constant, Variable, InSlot, Tested, HeldBefore, HeldNow, Conversion, Negated, Drawn, Usage, AsNumber, AsLine, AsSubroutine, Group, Calculate, Convert, Move, Use, Test, TestGo, Single, denied, slot_of, expand}
 use Rattle.tb_templates.specs.declared.labels.Inner.TheVariants as inside
@@ -44,7 +44,7 @@ use Rattle.tb_grouping.proofs.Coded as coded
 use Rattle.tb_grouping.proofs.Coded.{low, high, weighed, difference, Way, Short, Long, way_size, Zero, Overflow, Negative, BranchReaches, second_at, turned_at, test_code, TestReaches, group_code, BranchesReach}
 use Rattle.tb_grouping.proofs.Singles.{IsAlone}
 use Rattle.tb_grouping.proofs.Emits.{formed, formed_size, branch_formed, branch_by, Emits, emits_append, emitted_size, ends, block, labelled, branches, reaches}
-use Rattle.tb_keeping.proofs.Numbers.{address_bytes, constant_bytes, next_same}
+use Rattle.tb_keeping.proofs.Numbers.{address_bytes, constant_bytes, faulted_bytes, next_same}
 use Rattle.tb_grouping.proofs.SingleBytes.{template_bytes}
 
 -- ---- lists of forms, cut
@@ -246,11 +246,11 @@ module _ (labels : List (Name × ℕ)) where
   calculated_straight n op.Multiply s t to = handed_straight MULTIPLY_AT RESULT s t to
   calculated_straight n op.Divide s t to = handed_straight DIVIDE_AT LEFT s t to
 
-  jump_straight : (ns : List ℕ) (to : ℕ) (t : Bool) → has_line ns to ≡ t → list_all is_straight (product.jump_to ns to) ≡ true
-  jump_straight ns to true e = rw e refl
-  jump_straight ns to false e = rw e refl
+  jump_straight : (ns : List ℕ) (n to : ℕ) (t : Bool) → has_line ns to ≡ t → list_all is_straight (product.jump_to ns n to) ≡ true
+  jump_straight ns n to true e = rw e refl
+  jump_straight ns n to false e = rw e refl
 
-  call_straight : (ns : List ℕ) (n to : ℕ) (t : Bool) → has_line ns to ≡ t → list_all is_straight (product.call_to ns to (next_line ns n)) ≡ true
+  call_straight : (ns : List ℕ) (n to : ℕ) (t : Bool) → has_line ns to ≡ t → list_all is_straight (product.call_to ns n to (next_line ns n)) ≡ true
   call_straight ns n to true e = rw e refl
   call_straight ns n to false e = rw e refl
 
@@ -271,7 +271,7 @@ module _ (labels : List (Name × ℕ)) where
   template_straight ns n i (slots.LeaveUnless rel) = refl
   template_straight ns n i slots.Jump = refl
   template_straight ns n i slots.Call = refl
-  template_straight ns n i (slots.JumpTo to) = jump_straight ns to (has_line ns to) refl
+  template_straight ns n i (slots.JumpTo to) = jump_straight ns n to (has_line ns to) refl
   template_straight ns n i (slots.CallTo to) = call_straight ns n to (has_line ns to) refl
   template_straight ns n i slots.Return = refl
   template_straight ns n i slots.End = refl
@@ -510,7 +510,7 @@ module _ (labels : List (Name × ℕ)) (ns : List ℕ) (seed n : ℕ) (seed_smal
         let below = r.below in let k = kept_size es in
         record {
           bytes = ap (bytes_from labels at) (items_kept at es)
-              ∙ template_bytes labels ns seed seed_small n next_small i at c q range (omega (arith, below, k)) (subst (LabelsAt labels at) (items_kept at es) r.labels_at);
+              ∙ template_bytes labels ns seed seed_small n n_small next_small i at c q range (omega (arith, below, k)) (subst (LabelsAt labels at) (items_kept at es) r.labels_at);
         }
 
     alone_emits : (i at : ℕ) (c : slots.Instr) (t : Bool) → alone c ≡ Single c → IsInRange 256 c → Rest labels at (map kept (alone_items i c t))
@@ -549,9 +549,8 @@ module _ (labels : List (Name × ℕ)) (ns : List ℕ) (seed n : ℕ) (seed_smal
           record { first = e.first; second = e.second; emits = e.emits; reach = e.reach }
 
     -- a fault in line n
-    fault_emits : {at : ℕ} → Emits labels at (map kept (items.faulted n 1)) (Code (resolved.constant n LINE) ∷ Code (resolved.faulting 1) ∷ [])
-    unfolding opcodes.encoded
-    fault_emits = block labels (product.constant n LINE) (resolved.constant n LINE) (line_set.same 0) (block labels (product.fault 1) (resolved.faulting 1) refl (ends labels))
+    fault_emits : {at : ℕ} → Emits labels at (map kept (product.faulted n 1)) (Code (resolved.faulting n 1) ∷ [])
+    fault_emits = block labels (product.faulted n 1) (resolved.faulting n 1) (faulted_bytes labels ns seed 0 n 1 n_small (omega arith)) (ends labels)
 
     -- a test that goes straight to a line, by whether there is one
     go_emitted : (i at : ℕ) (r : Rel) (x : Tested) (b : Operand) (to : ℕ) (has : Bool) → has_line ns to ≡ has → (fs : List Form)
@@ -562,24 +561,24 @@ module _ (labels : List (Name × ℕ)) (ns : List ℕ) (seed n : ℕ) (seed_smal
         (e.first, e.second, e.emits, e.reach)
     go_emitted i at r x b to false has fs h rest =
         let test = items.tested r (tested_source x) (source_of 0 b) (target.Inside inside.Skip n i) (next_line ns n) in
-        let s = split test (items.faulted n 1) fs h in
+        let s = split test (product.faulted n 1) fs h in
         let parts = subst (Rest labels at) s.are rest in
         let e = tested_emitted (next_at ly n) (next_line ns n) (target.Inside inside.Skip n i) there top r at x b s.front s.of_front (rest_before labels at s.front s.back parts) in
-        let behind : s.back ≡ map kept (items.faulted n 1) = straight_forms (items.faulted n 1) s.back refl s.of_back in
+        let behind : s.back ≡ map kept (product.faulted n 1) = straight_forms (product.faulted n 1) s.back refl s.of_back in
         (e.first, e.second, subst (λ k. Emits labels at k (coded.go_code ly n at e.first e.second r (tested_source x) (source_of 0 b) false to)) (sym (s.are ∙ ap (λ k. s.front ++ k) behind)) (emits_append labels e.emits fault_emits), e.reach)
 
     -- the search in the line table for a word, and what is behind it
-    searched_emits : {at : ℕ} {fs : List Form} {ps : List Piece} (x : Source) → IsWord labels x → Emits labels (at + 10 + resolved.size (coded.brought x LEFT) + 3) fs ps → Emits labels at (map kept (items.searched n x) ++ fs) (coded.searched ly n x ps)
+    searched_emits : {at : ℕ} {fs : List Form} {ps : List Piece} (x : Source) → IsWord labels x → Emits labels (at + 10 + resolved.size (coded.brought x WANTED) + 3) fs ps → Emits labels at (map kept (items.searched n x) ++ fs) (coded.searched ly n x ps)
     unfolding opcodes.encoded
     searched_emits x w e =
         block labels (product.constant n LINE) (resolved.constant n LINE) (line_set.same 0)
-        (block labels (items.brought x LEFT) (coded.brought x LEFT) ((brought_bytes labels x LEFT w).same _)
+        (block labels (items.brought x WANTED) (coded.brought x WANTED) ((brought_bytes labels x WANTED w).same _)
         (block labels (product.find ∷ []) (resolved.call ly.locate) refl e))
 
     used_straight : (how : Usage) (x : Source) → list_all is_straight (items.used n (next_line ns n) how x) ≡ true
     used_straight AsNumber x = all_straight labels (items.brought x LEFT) (product.call NUMBER_AT ∷ []) (brought_straight labels x LEFT) refl
-    used_straight AsLine x = all_straight labels (items.brought x LEFT) (product.find ∷ product.jump_through) (brought_straight labels x LEFT) refl
-    used_straight AsSubroutine x = all_straight labels (items.brought x LEFT) (product.find ∷ (product.note (next_line ns n) ++ product.jump_through)) (brought_straight labels x LEFT) refl
+    used_straight AsLine x = all_straight labels (items.brought x WANTED) (product.find ∷ product.jump_through) (brought_straight labels x WANTED) refl
+    used_straight AsSubroutine x = all_straight labels (items.brought x WANTED) (product.find ∷ (product.note (next_line ns n) ++ product.jump_through)) (brought_straight labels x WANTED) refl
 
     used_emits : {at : ℕ} (how : Usage) (x : Source) → IsWord labels x → Emits labels at (map kept (items.used n (next_line ns n) how x)) (coded.use_code ly n how x)
     unfolding opcodes.encoded
@@ -636,25 +635,21 @@ module _ (labels : List (Name × ℕ)) (ns : List ℕ) (seed n : ℕ) (seed_smal
   pub record PollEmitted (at : ℕ) (fs : List Form) : Type 0 where
     pub way : Way
     pub emits : Emits labels at fs (coded.poll_code n at way)
-    pub reach : BranchReaches way (at + 2) (at + 17 + way_size way)
+    pub reach : BranchReaches way (at + 2) (at + 11 + way_size way)
 
   module _ (skip : Name) where
     abbrev asked : List Entry
     asked = product.const Cmp 3 ∷ []
 
     abbrev broken : List Entry
-    broken = product.constant n LINE ++ (product.fault 0 ++ (label skip ∷ []))
+    broken = product.faulted n 0 ++ (label skip ∷ [])
 
     asked_bytes : AllMake labels asked (ins 0xC9 3 ∷ [])
     unfolding opcodes.encoded
     asked_bytes = record { same = λ a. refl }
 
-    fault_bytes : AllMake labels (product.fault 0) (resolved.faulting 0)
-    unfolding opcodes.encoded
-    fault_bytes = record { same = λ a. refl }
-
-    set_bytes : AllMake labels (product.constant n LINE) (resolved.constant n LINE)
-    set_bytes = record { same = λ a. constant_bytes labels ns seed a n LINE n_small }
+    fault_bytes : AllMake labels (product.faulted n 0) (resolved.faulting n 0)
+    fault_bytes = record { same = λ a. faulted_bytes labels ns seed a n 0 n_small (omega arith) }
 
     module _ (way : Way) (at : ℕ) (r : Rest labels at (map kept asked ++ (formed way Bne skip ∷ map kept broken))) where
       p1 : Rest labels (at + 2) (formed way Bne skip ∷ map kept broken)
@@ -663,17 +658,14 @@ module _ (labels : List (Name × ℕ)) (ns : List ℕ) (seed n : ℕ) (seed_smal
       p2 : Rest labels (at + 2 + way_size way) (map kept broken)
       p2 = behind_branch labels _ way Bne skip _ p1
 
-      p3 : Rest labels (at + 2 + way_size way + 10) (map kept (product.fault 0 ++ (label skip ∷ [])))
-      p3 = behind_straight labels _ (product.constant n LINE) (resolved.constant n LINE) _ set_bytes p2
+      p3 : Rest labels (at + 2 + way_size way + 9) (kept (label skip) ∷ [])
+      p3 = behind_straight labels _ (product.faulted n 0) (resolved.faulting n 0) _ fault_bytes p2
 
-      p4 : Rest labels (at + 2 + way_size way + 10 + 5) (kept (label skip) ∷ [])
-      p4 = behind_straight labels _ (product.fault 0) (resolved.faulting 0) _ fault_bytes p3
-
-      place : at + 2 + way_size way + 10 + 5 ≡ at + 17 + way_size way
+      place : at + 2 + way_size way + 9 ≡ at + 11 + way_size way
       place = omega arith
 
-      skipped : address_in labels skip ≡ Some (at + 17 + way_size way)
-      skipped = label_here labels _ skip [] p4 ∙ ap Some place
+      skipped : address_in labels skip ≡ Some (at + 11 + way_size way)
+      skipped = label_here labels _ skip [] p3 ∙ ap Some place
 
       poll : PollEmitted at (map kept asked ++ (formed way Bne skip ∷ map kept broken))
       poll = record {
@@ -681,9 +673,8 @@ module _ (labels : List (Name × ℕ)) (ns : List ℕ) (seed n : ℕ) (seed_smal
         emits =
             block labels asked (ins 0xC9 3 ∷ []) (asked_bytes.same at)
             (branches labels way Zero false skip (let q = p1.below in omega (arith, q)) (value_of labels skip _ skipped)
-            (block labels (product.constant n LINE) (resolved.constant n LINE) (set_bytes.same 0)
-            (block labels (product.fault 0) (resolved.faulting 0) (fault_bytes.same 0) (labelled labels skip (ends labels)))));
-        reach = gets_there labels (at + 2) _ way Bne skip _ skipped (let q = p4.below in omega (arith, q, place)) p1;
+            (block labels (product.faulted n 0) (resolved.faulting n 0) (fault_bytes.same 0) (labelled labels skip (ends labels))));
+        reach = gets_there labels (at + 2) _ way Bne skip _ skipped (let q = p3.below in omega (arith, q, place)) p1;
       }
 
     pub poll_emitted : (at : ℕ) (fs : List Form) → AreFormsOf (asked ++ (instr Bne Relative (Label skip) ∷ (broken ++ []))) fs → Rest labels at fs → PollEmitted at fs

@@ -8,7 +8,7 @@ use Rattle.tb_keeping.proofs.LineStarts.{AreApart, has_content, not_inner}
 use Rattle.tb_keeping.proofs.Resolved.{Lies}
 use Rattle.tb_grouping.proofs.Coded.{GroupsLaid, LineStands, Way, Short, Long, poll_code}
 
--- a line's number is read where its poll sets it
+-- a line's number is read where its poll hands it over
 module _ (code : Part) (at : ℕ) where
   same_byte : (p a b : ℕ) → code p ≡ Some a → code p ≡ Some b → a ≡ b
   same_byte p a b h k = let e : Some a ≡ Some b = sym h ∙ k in cc
@@ -16,11 +16,11 @@ module _ (code : Part) (at : ℕ) where
   same_number : (n m : ℕ) → n < 65536 → m < 65536 → (way other : Way) → Lies code at (poll_code n at way) → Lies code at (poll_code m at other) → n ≡ m
   same_number n m small small' Short Short h k =
       let low = same_byte _ (n % 256) (m % 256) h.2.2.1.0.1.0 k.2.2.1.0.1.0 in
-      let high = same_byte _ (n / 256) (m / 256) h.2.2.1.1.1.0.1.0 k.2.2.1.1.1.0.1.0 in
+      let high = same_byte _ (n / 256) (m / 256) h.2.2.1.1.0.1.0 k.2.2.1.1.0.1.0 in
       omega (arith, low, high, small, small')
   same_number n m small small' Long Long h k =
       let low = same_byte _ (n % 256) (m % 256) h.2.2.1.0.1.0 k.2.2.1.0.1.0 in
-      let high = same_byte _ (n / 256) (m / 256) h.2.2.1.1.1.0.1.0 k.2.2.1.1.1.0.1.0 in
+      let high = same_byte _ (n / 256) (m / 256) h.2.2.1.1.0.1.0 k.2.2.1.1.0.1.0 in
       omega (arith, low, high, small, small')
   same_number n m small small' Short Long h k = absurd (let no = same_byte _ _ _ h.2.1.0.0 k.2.1.0.0 in omega (arith, no))
   same_number n m small small' Long Short h k = absurd (let no = same_byte _ _ _ h.2.1.0.0 k.2.1.0.0 in omega (arith, no))

@@ -1,5 +1,5 @@
 -- A routine that is handed two words and gives one: up to its call, and behind it.
-use Rattle.std.proofs.Common.{◌≡◌, ◌≢◌, ◌≤◌, ℕ, ◌+◌, ◌/◌, ◌%◌, List, [], ◌∷◌, refl, ◌∙◌, subst, arith}
+use Rattle.std.proofs.Common.{◌≡◌, ◌≢◌, ℕ, ◌+◌, ◌/◌, ◌%◌, List, [], ◌∷◌, refl, ◌∙◌, subst, arith}
 use Rattle.tb_lower.specs.Control.{State}
 use Rattle.tb_lower.specs.Slots.{Instr, Slots, SlotCode, with_word}
 use Rattle.tb_reaching.proofs.Comes.{chained, looser}
@@ -9,7 +9,7 @@ use Rattle.tb_runtime16.specs.Places.{LEFT, LINE, RESULT, RIGHT}
 use Rattle.tb_keeping.specs.Layout.{Layout}
 use Rattle.tb_keeping.proofs.Frames.{word_away, word_put}
 use Rattle.tb_keeping.proofs.Mirrors.{Typable}
-use Rattle.tb_keeping.proofs.Pieces.{calls, copies, put_word}
+use Rattle.tb_keeping.proofs.Pieces.{InData, calls, copies, put_word}
 use Rattle.tb_keeping.proofs.Resolved.{Lies, pieces_size, size}
 use Rattle.tb_keeping.proofs.Returning.{behind_call}
 use Rattle.tb_selection.specs.Groups.{IntoHeld, IntoHome, IntoSlot, IntoVariable, Destination, Group, slot_of}
@@ -27,15 +27,25 @@ use Rattle.tb_grouping.proofs.SlotSide.{Lasting, landed, line, slots_landed}
 use Rattle.tb_grouping.proofs.Sources.{value}
 use Rattle.tb_grouping.proofs.Sums.{Grounded, brings}
 
--- where a routine may leave what it gives
+-- where a routine may leave what it gives: among the data, and its high byte is not where it goes
 abbrev Gives : ℕ → Type 0
-Gives from = (LEFT ≤ from) × (from ≤ RESULT)
+Gives from = InData from × ((d : Destination) → DestFits d → from + 1 ≢ destination_at d)
 
--- its high byte is not where it goes
-given_apart : (from : ℕ) (d : Destination) → Gives from → DestFits d → from + 1 ≢ destination_at d
-given_apart from (IntoSlot k) g fit e = omega (arith, e, fit, g.0, g.1)
-given_apart from (IntoHome (IntoVariable x)) g fit e = omega (arith, e, fit, g.0, g.1)
-given_apart from (IntoHome IntoHeld) g fit e = omega (arith, e, g.0, g.1)
+pub left_gives : Gives LEFT
+left_gives = ((refl, refl), apart)
+  where
+    apart : (d : Destination) → DestFits d → LEFT + 1 ≢ destination_at d
+    apart (IntoSlot k) fit e = omega (arith, e)
+    apart (IntoHome (IntoVariable x)) fit e = omega (arith, e)
+    apart (IntoHome IntoHeld) fit e = omega (arith, e)
+
+pub result_gives : Gives RESULT
+result_gives = ((refl, refl), apart)
+  where
+    apart : (d : Destination) → DestFits d → RESULT + 1 ≢ destination_at d
+    apart (IntoSlot k) fit e = omega (arith, e, fit)
+    apart (IntoHome (IntoVariable x)) fit e = omega (arith, e, fit)
+    apart (IntoHome IntoHeld) fit e = omega (arith, e)
 
 module _ (ly : Layout) (f : Setup) (lo hi keys : ℕ) (fits : Fits f 16) (n : ℕ) (g : Group) (js is : List Instr) (s : State) (r : Slots) (w : View) (h : Ready ly f lo hi keys fits n g js is s r w) where
   abbrev own : List ℕ
@@ -86,8 +96,8 @@ module _ (ly : Layout) (f : Setup) (lo hi keys : ℕ) (fits : Fits f 16) (n : �
     pub asks : (q : View → Type 0) (t : List ℕ) (k : ℕ) → ((m' : ℕ → ℕ) → Handed m x y m' → Moves f (Here entry ((call_at + 2) % 256 ∷ (call_at + 2) / 256 ∷ own) m' w.text w.answers) q t k) → Moves f (Here at own m w.text w.answers) q t (9 + k)
     asks q t k next u e =
         looser f u q q t (4 + (4 + (1 + k))) (9 + k) (omega arith) (λ v z. z)
-        (chained f u _ q [] t 4 (4 + (1 + k)) (brings f 16 fits at own m w.text w.answers refl a LEFT lies.0 ga (omega arith, omega arith) lies.1 u e) (λ u e.
-        chained f u _ q [] t 4 (1 + k) (brings f 16 fits second_at own one w.text w.answers refl b RIGHT lies.2.0 gb (omega arith, omega arith) lies.2.1 u e) (λ u e.
+        (chained f u _ q [] t 4 (4 + (1 + k)) (brings f 16 fits at own m w.text w.answers refl a LEFT lies.0 ga (refl, refl) lies.1 u e) (λ u e.
+        chained f u _ q [] t 4 (1 + k) (brings f 16 fits second_at own one w.text w.answers refl b RIGHT lies.2.0 gb (refl, refl) lies.2.1 u e) (λ u e.
         chained f u _ q [] t 1 k (calls f 16 fits call_at own two w.text w.answers refl entry refl lies.2.2.0 lies.2.2.1 u e) (next two handed))))
 
     comes_back : back_at ((call_at + 2) % 256) ((call_at + 2) / 256) ≡ call_at + 3
@@ -104,5 +114,5 @@ module _ (ly : Layout) (f : Setup) (lo hi keys : ℕ) (fits : Fits f 16) (n : �
         chained f u _ _ [] [] limit 4 (does _ _ m' k u e) (λ u c'.
         looser f u _ _ [] 4 4 (omega arith)
         (word_lands ly f lo hi keys fits code n h.small (live js) d is s' r q v _ _ (call_at + 3 + 12) u.mem w.text w.answers c'.result.low c'.result.high c'.result.small fit last (subst (λ p. GroupsLie ly f.code n p (select is)) behind_is rest) c'.kept text gets short)
-        (copies f 16 fits (call_at + 3) own u.mem w.text w.answers refl from (destination_at d) lies.2.2.2.0 (omega (arith, g.0), omega (arith, g.1)) (dest_in_data d fit) (given_apart from d g fit) lies.2.2.2.1 u
+        (copies f 16 fits (call_at + 3) own u.mem w.text w.answers refl from (destination_at d) lies.2.2.2.0 g.0 (dest_in_data d fit) (g.1 d fit) lies.2.2.2.1 u
         (record { pc = c'.here.pc ∙ comes_back; stack = c'.here.stack; binary = c'.here.binary; mem = refl; text = c'.here.text; answers = c'.here.answers })))) u e)

@@ -23,7 +23,7 @@ seed_kept m m' option seed e (first k q r old w) = first (e SEEDED (omega arith)
 
 module _ (ly : Layout) (s : State) (m m' : ℕ → ℕ) (h : HoldsState ly s m) where
   -- new variables; the rest stands
-  pub state_with : (vs : List ℕ) → length vs ≡ 26 → ((x : ℕ) → x < 26 → WordAt m' (var_at x) (slice_index vs x)) → m' COLUMN ≡ m COLUMN → SameSingles m m' → Same m m' 0xC100 0xC4E7 → HoldsState ly (record s { vars = vs }) m'
+  pub state_with : (vs : List ℕ) → length vs ≡ 26 → ((x : ℕ) → x < 26 → WordAt m' (var_at x) (slice_index vs x)) → m' COLUMN ≡ m COLUMN → SameSingles m m' → Same m m' 0xC100 0xC4F3 → HoldsState ly (record s { vars = vs }) m'
   state_with vs lv v co e e' = record {
     vars = v;
     column = co ∙ h.column;
@@ -35,7 +35,7 @@ module _ (ly : Layout) (s : State) (m m' : ℕ → ℕ) (h : HoldsState ly s m) 
     all_vars = lv;
   }
 
-  pub state_same : Same m m' 0xC000 0xC034 → SameSingles m m' → Same m m' 0xC100 0xC4E7 → HoldsState ly s m'
+  pub state_same : Same m m' 0xC000 0xC034 → SameSingles m m' → Same m m' 0xC100 0xC4F3 → HoldsState ly s m'
   state_same v e e' = state_with s.vars h.all_vars (λ x lt. word_kept m m' (var_at x) _ (v _ (omega arith) (omega (arith, lt))) (v _ (omega arith) (omega (arith, lt))) (h.vars x lt)) (v COLUMN (omega arith) (omega arith)) e e'
 
   -- scratch was written

@@ -12,7 +12,7 @@ use Rattle.tb_reaching.proofs.Parts.{bytes_front}
 use Rattle.tb_syntax.specs.Source.{numbers}
 use Rattle.tb_lower.specs.Control.{Place, At, Past, next_after, has_line, highest, content_at}
 use Rattle.tb_lower.specs.Slots as slots
-use Rattle.tb_runtime16.specs.Places.{COUNT, LINE, LINES_AT, PROLOGUE_AT, SEARCH_AT, TABLE}
+use Rattle.tb_runtime16.specs.Places.{COUNT, LINES_AT, PROLOGUE_AT, SEARCH_AT, TABLE}
 use Rattle.tb_runtime16.specs.Block.{block_bytes}
 use Rattle.tb_settling.proofs.Forms.{size_append}
 use Rattle.tb_templates.specs.declared.labels.Target.TheVariants as target
@@ -24,7 +24,7 @@ use Rattle.tb_keeping.proofs.Resolved as resolved
 use Rattle.tb_keeping.proofs.Resolved.{Piece, pieces_size}
 use Rattle.tb_keeping.proofs.Emitted.{pieces_bytes, pieces_length, behind, lies}
 use Rattle.tb_keeping.proofs.LineStarts.{has_content}
-use Rattle.tb_keeping.proofs.Numbers.{or_true, joined, constant_bytes, address_bytes, start_of_line}
+use Rattle.tb_keeping.proofs.Numbers.{or_true, joined, constant_bytes, faulted_bytes, address_bytes, start_of_line}
 use Rattle.tb_grouping.specs.Laid.{IsClear, LineLies, Laid}
 
 -- ---- one list of items behind the other
@@ -157,7 +157,7 @@ module _ (labels : List (Name × ℕ)) (seed : ℕ) (code : Part) (sc : slots.Sl
   past_lies =
       let at = place_of labels target.Past in
       (pieces at (program.past_code ns) (resolved.past_code laid_layout) (inside at (program.past_code ns) laid.past laid.past_clear)
-      (joined labels ns seed at 10 (product.here target.Past ∷ product.constant (highest ns) LINE) (product.fault 7) _ _ refl (constant_bytes labels ns seed at (highest ns) LINE (top_small sc (λ n e. (line_of n e).1.small))) refl)).1
+      (faulted_bytes labels ns seed at (highest ns) 7 (top_small sc (λ n e. (line_of n e).1.small)) (omega arith))).1
 
   pub table_small : place_of labels target.Table < 65536
   table_small = omega (arith, laid.table.below)

@@ -1,5 +1,5 @@
 -- The laws of END, and of jumps to a line's number.
-use Rattle.std.proofs.Common.{◌≡◌, ℕ, suc, ◌+◌, ◌/◌, ◌%◌, ◌<◌, Bool, true, false, if◌then◌else◌, not, List, [], ◌∷◌, length, refl, sym, ◌∙◌, subst, arith}
+use Rattle.std.proofs.Common.{◌≡◌, ℕ, suc, ◌+◌, ◌/◌, ◌%◌, ◌<◌, Bool, true, false, if◌then◌else◌, List, [], ◌∷◌, length, refl, sym, ◌∙◌, subst, arith}
 use Rattle.std.specs.Prelude.{nat_lt}
 use Rattle.std.proofs.lemmas.Bool.{ltb-true, ltb-false}
 use Rattle.std.proofs.lemmas.List.{length-map}
@@ -38,12 +38,12 @@ module _ (ly : Layout) (f : Setup) (lo hi keys : ℕ) (fits : Fits f 16) where
     own = lo ∷ hi ∷ []
 
     -- no such line
-    faults : (i : Instr) (h : Ready ly f lo hi keys fits n (Single i) (i ∷ is) is s r w) → Lies f.code w.regs.pc (Code (constant n LINE) ∷ Code (faulting 1) ∷ []) → Comes f w (IsHome f) (fault_text 1 n) (6 + limit)
+    faults : (i : Instr) (h : Ready ly f lo hi keys fits n (Single i) (i ∷ is) is s r w) → Lies f.code w.regs.pc (Code (faulting n 1) ∷ []) → Comes f w (IsHome f) (fault_text 1 n) (4 + limit)
     faults i h lies = faults_at ly f lo hi keys fits limit rs n 1 h.small (omega arith) w.regs.pc w.mem w.text w.answers lies h.homed w (here ly f lo hi keys fits w [] [] h.stack h.binary)
 
     module _ (h : Ready ly f lo hi keys fits n (Single (JumpTo t)) (JumpTo t ∷ is) is s r w) where
-      jump_lies : (b : Bool) → has_line ly.numbers t ≡ b → Lies f.code w.regs.pc (if not b then Code (constant n LINE) ∷ jump_to ly b t else jump_to ly b t)
-      jump_lies b e = subst (λ b. Lies f.code w.regs.pc (if not b then Code (constant n LINE) ∷ jump_to ly b t else jump_to ly b t)) e h.lies
+      jump_lies : (b : Bool) → has_line ly.numbers t ≡ b → Lies f.code w.regs.pc (jump_to ly n b t)
+      jump_lies b e = subst (λ b. Lies f.code w.regs.pc (jump_to ly n b t)) e h.lies
 
       pub to_found : has_line ly.numbers t ≡ true → Comes f w (Matches ly f lo hi keys (record { state = record s { place = At t }; rest = Whole; slots = r })) [] 1
       to_found found =
@@ -52,12 +52,12 @@ module _ (ly : Layout) (f : Setup) (lo hi keys : ℕ) (fits : Fits f 16) where
           (arrived ly f lo hi keys fits code (record s { place = At t }) r (ly.start t) w.mem w.text w.answers refl (state_placed ly (At t) s w.mem h.state) h.read.all_words h.homed h.text h.answers h.short)
           (jumps f 16 fits w.regs.pc own w.mem w.text w.answers refl (ly.start t) lies.1 w (here ly f lo hi keys fits w [] [] h.stack h.binary))
 
-      pub to_fails : has_line ly.numbers t ≡ false → Comes f w (IsHome f) (fault_text 1 n) (6 + limit)
+      pub to_fails : has_line ly.numbers t ≡ false → Comes f w (IsHome f) (fault_text 1 n) (4 + limit)
       to_fails lost = faults (JumpTo t) h (jump_lies false lost)
 
     module _ (h : Ready ly f lo hi keys fits n (Single (CallTo t)) (CallTo t ∷ is) is s r w) where
-      call_lies : (b : Bool) → has_line ly.numbers t ≡ b → Lies f.code w.regs.pc (Code (constant n LINE) ∷ call_to ly n b t)
-      call_lies b e = subst (λ b. Lies f.code w.regs.pc (Code (constant n LINE) ∷ call_to ly n b t)) e h.lies
+      call_lies : (b : Bool) → has_line ly.numbers t ≡ b → Lies f.code w.regs.pc (if b then Code (constant n LINE) ∷ call_to ly n b t else call_to ly n b t)
+      call_lies b e = subst (λ b. Lies f.code w.regs.pc (if b then Code (constant n LINE) ∷ call_to ly n b t else call_to ly n b t)) e h.lies
 
       abbrev at : ℕ
       at = w.regs.pc + 10
@@ -79,7 +79,7 @@ module _ (ly : Layout) (f : Setup) (lo hi keys : ℕ) (fits : Fits f 16) where
       up_to_push found q l b next =
           let lies = call_lies true found in
           lines ly f lo hi keys fits n _ _ is s r w h lies.0 lies.1 q l (4 + (1 + b)) (λ u e.
-          chained f u _ q [] l 4 (1 + b) (sets f 16 fits at own one w.text w.answers refl (next_at ly n) LEFT lies.2.0 (omega arith, omega arith) lies.2.1 u e) (λ v e.
+          chained f u _ q [] l 4 (1 + b) (sets f 16 fits at own one w.text w.answers refl (next_at ly n) LEFT lies.2.0 (refl, refl) lies.2.1 u e) (λ v e.
           chained f v _ q [] l 1 b (calls f 16 fits (at + 10) own two w.text w.answers refl PUSH_AT refl lies.2.2.0 lies.2.2.1 v e) next))
 
       pub call_to_found : has_line ly.numbers t ≡ true → nat_lt (length s.returns) deepest ≡ true → Comes f w (Matches ly f lo hi keys (record { state = record s { place = At t; returns = next_after ly.numbers n ∷ s.returns }; rest = Whole; slots = r })) [] (10 + limit)
@@ -105,5 +105,5 @@ module _ (ly : Layout) (f : Setup) (lo hi keys : ℕ) (fits : Fits f 16) where
           looser f w _ _ (fault_text 4 n) (4 + (4 + (1 + limit))) (9 + limit) (omega arith) (λ u x. x)
           (up_to_push found _ (fault_text 4 n) limit (rs.push_fails _ _ two w.text w.answers (notes_of ly s.returns) n (subst (λ k. WordAt two NOTES k) (sym (length-map s.returns (place_at ly))) c.state.count) c.state.notes (omega (arith, ltb-false _ _ full, c.state.few, length-map s.returns (place_at ly))) number c.homed))
 
-      pub call_to_fails : has_line ly.numbers t ≡ false → Comes f w (IsHome f) (fault_text 1 n) (6 + limit)
+      pub call_to_fails : has_line ly.numbers t ≡ false → Comes f w (IsHome f) (fault_text 1 n) (4 + limit)
       call_to_fails lost = faults (CallTo t) h (call_lies false lost)

@@ -14,7 +14,7 @@ use Rattle.tb_syntax.specs.Source.{numbers}
 use Rattle.tb_lower.specs.Control.{Place, At, Past, next_after, has_line, content_at}
 use Rattle.tb_lower.specs.Slots as slots
 use Rattle.tb_lower.specs.Ranges.{AreInRange}
-use Rattle.tb_runtime16.specs.Places.{GETIN, LINE}
+use Rattle.tb_runtime16.specs.Places.{GETIN}
 use Rattle.tb_selection.specs.Groups.{Group, expand, expand_all}
 use Rattle.tb_selection.specs.Select.{select}
 use Rattle.tb_selection.proofs.Bracketed.{brackets}
@@ -42,8 +42,8 @@ use Rattle.tb_grouping.proofs.Laying.{inner_bytes, line_of, none_between, start_
 use Rattle.tb_grouping.proofs.Singles.{AreAlone, all_alone}
 
 -- the poll's code behind the call of GETIN
-poll_size : (n at : ℕ) (way : Way) → pieces_size (poll_code n at way) ≡ 17 + way_size way
-poll_size n at way = let b = branch_size way Zero false (at + 2) (at + 17 + way_size way) in omega (arith, b)
+poll_size : (n at : ℕ) (way : Way) → pieces_size (poll_code n at way) ≡ 11 + way_size way
+poll_size n at way = let b = branch_size way Zero false (at + 2) (at + 11 + way_size way) in omega (arith, b)
 
 -- the instructions of a list in range
 range_split : (is js : List slots.Instr) → AreInRange 256 (is ++ js) → AreInRange 256 is × AreInRange 256 js
@@ -135,7 +135,7 @@ module _ (labels : List (Name × ℕ)) (seed : ℕ) (code : Part) (sc : slots.Sl
     asks = product.here (target.Line n) ∷ product.at Jsr GETIN ∷ []
 
     abbrev answered : List Entry
-    answered = product.const Cmp 3 ∷ product.branch Bne (target.Inside inside.Skip n 0) ∷ (product.constant n LINE ++ (product.fault 0 ++ (product.here (target.Inside inside.Skip n 0) ∷ [])))
+    answered = product.const Cmp 3 ∷ product.branch Bne (target.Inside inside.Skip n 0) ∷ (product.faulted n 0 ++ (product.here (target.Inside inside.Skip n 0) ∷ []))
 
     line_lies : (rest : List slots.Instr) → LineLies labels code ns seed n (slots.Poll ∷ rest) → LineStands ly within code n (place_of labels (target.Line n)) rest
     unfolding opcodes.encoded
@@ -166,15 +166,15 @@ module _ (labels : List (Name × ℕ)) (seed : ℕ) (code : Part) (sc : slots.Sl
         let behind_below = behind_call.below in
         let parts = part_bytes within (at + 3) t.front t.back behind_below inner_later in
         let sum = forms_append t.front t.back in
-        let groups_at : at + 3 + forms_size t.front ≡ at + 20 + way_size p.way = (let q = poll_size n (at + 3) p.way in omega (arith, poll_long, q)) in (
+        let groups_at : at + 3 + forms_size t.front ≡ at + 14 + way_size p.way = (let q = poll_size n (at + 3) p.way in omega (arith, poll_long, q)) in (
           p.way,
           omega (arith, below, total, three),
           stands_there code at (call 0xFFE4) (omega (arith, below, total, three)) call_bytes,
           lies within (within_small labels seed code sc laid) (at + 3) ps (omega (arith, behind_below, sum, poll_long)) (subst (Bytes within (at + 3)) p.emits.bytes parts.0),
-          subst (λ a. BranchReaches p.way a (at + 20 + way_size p.way)) (let q : at + 3 + 2 ≡ at + 5 = omega arith in q)
-              (subst (BranchReaches p.way (at + 3 + 2)) (let q : at + 3 + 17 + way_size p.way ≡ at + 20 + way_size p.way = omega arith in q) p.reach),
-          rest_lies 1 (at + 20 + way_size p.way) gs t.back (let b = l.after_block in omega (arith, b)) (subst (AreInRange 256) (sym (brackets rest)) l.ranged.1) (all_alone rest) t.of_back
-              (rest_behind labels (at + 3) (at + 20 + way_size p.way) t.front t.back groups_at behind_call)
+          subst (λ a. BranchReaches p.way a (at + 14 + way_size p.way)) (let q : at + 3 + 2 ≡ at + 5 = omega arith in q)
+              (subst (BranchReaches p.way (at + 3 + 2)) (let q : at + 3 + 11 + way_size p.way ≡ at + 14 + way_size p.way = omega arith in q) p.reach),
+          rest_lies 1 (at + 14 + way_size p.way) gs t.back (let b = l.after_block in omega (arith, b)) (subst (AreInRange 256) (sym (brackets rest)) l.ranged.1) (all_alone rest) t.of_back
+              (rest_behind labels (at + 3) (at + 14 + way_size p.way) t.front t.back groups_at behind_call)
               (subst (λ a. Bytes within a (bytes_from labels a (items_from a t.back))) groups_at parts.1)
               (line_end at l.forms s.front t.front t.back p.way three total long groups_at l.next ∙ next_same labels ns seed n),
         )
@@ -185,8 +185,8 @@ module _ (labels : List (Name × ℕ)) (seed : ℕ) (code : Part) (sc : slots.Sl
         later_inside : (at : ℕ) (f g h fs : List Form) → forms_size f ≡ 3 → forms_size fs ≡ forms_size f + (forms_size g + forms_size h) → size (items_from at fs) ≡ forms_size fs → (a : ℕ) → a < at + 3 + length (bytes_from labels (at + 3) (items_from (at + 3) (g ++ h))) → a < at + size (items_from at fs)
         later_inside at f g h fs three total long x hi = let a = all_size labels (at + 3) (items_from (at + 3) (g ++ h)) in let b = items_size (at + 3) (g ++ h) in let c = forms_append g h in omega (arith, a, b, c, three, total, long, hi)
 
-        line_end : (at : ℕ) (fs f g h : List Form) (way : Way) → forms_size f ≡ 3 → forms_size fs ≡ forms_size f + (forms_size g + forms_size h) → size (items_from at fs) ≡ forms_size fs → at + 3 + forms_size g ≡ at + 20 + way_size way → at + size (items_from at fs) ≡ place_of labels (next_line ns n) → at + 20 + way_size way + forms_size h ≡ place_of labels (next_line ns n)
-        line_end at fs f g h way three total long there next = (let q : at + 20 + way_size way + forms_size h ≡ at + size (items_from at fs) = omega (arith, three, total, long, there) in q) ∙ next
+        line_end : (at : ℕ) (fs f g h : List Form) (way : Way) → forms_size f ≡ 3 → forms_size fs ≡ forms_size f + (forms_size g + forms_size h) → size (items_from at fs) ≡ forms_size fs → at + 3 + forms_size g ≡ at + 14 + way_size way → at + size (items_from at fs) ≡ place_of labels (next_line ns n) → at + 14 + way_size way + forms_size h ≡ place_of labels (next_line ns n)
+        line_end at fs f g h way three total long there next = (let q : at + 14 + way_size way + forms_size h ≡ at + size (items_from at fs) = omega (arith, three, total, long, there) in q) ∙ next
 
   -- the whole program
   polled_at : (lines : slots.SlotCode) → ArePolled lines → (n : ℕ) (is : List slots.Instr) → content_at lines n ≡ Some is → (rest : List slots.Instr) × (is ≡ slots.Poll ∷ rest)

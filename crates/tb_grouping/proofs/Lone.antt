@@ -118,4 +118,4 @@ module _ (ly : Layout) (f : Setup) (lo hi keys : ℕ) (fits : Fits f 16) where
 
     -- the line's number is set first
     pub lines : w.regs.pc + 10 ≤ highest_code → Stands f.code w.regs.pc (constant n LINE) → (q : View → Type 0) (t : List ℕ) (k : ℕ) → Moves f (Here (w.regs.pc + 10) (lo ∷ hi ∷ []) lined w.text w.answers) q t k → Comes f w q t (4 + k)
-    lines room lies q t k next = chained f w _ q [] t 4 k (sets f 16 fits w.regs.pc (lo ∷ hi ∷ []) w.mem w.text w.answers refl n LINE room (omega arith, omega arith) lies w (here ly f lo hi keys fits w [] [] h.stack h.binary)) next
+    lines room lies q t k next = chained f w _ q [] t 4 k (sets f 16 fits w.regs.pc (lo ∷ hi ∷ []) w.mem w.text w.answers refl n LINE room (refl, refl) lies w (here ly f lo hi keys fits w [] [] h.stack h.binary)) next

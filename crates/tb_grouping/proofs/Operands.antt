@@ -1,14 +1,15 @@
 -- Operands of a group: what their ranges give, and what the relation says of them.
-use Rattle.std.proofs.Common.{◌≡◌, ℕ, ◌+◌, ◌*◌, ◌/◌, ◌%◌, ◌<◌, List, ◌∷◌, ◌++◌, refl, arith}
+use Rattle.std.proofs.Common.{◌≡◌, ℕ, ◌+◌, ◌/◌, ◌%◌, ◌<◌, List, ◌∷◌, ◌++◌, refl, arith, ◌≤◌}
 use Rattle.tb_syntax.specs.declared.expressions.Operator.{Operator}
 use Rattle.tb_lower.specs.Control.{State}
 use Rattle.tb_lower.specs.Ranges.{AreInRange}
 use Rattle.tb_lower.specs.Slots.{Instr, Compute, Slots}
 use Rattle.tb_keeping.specs.Layout.{Layout}
-use Rattle.tb_keeping.proofs.Pieces.{InData}
+use Rattle.tb_keeping.proofs.Pieces.{InData, word_in_data}
 use Rattle.tb_selection.specs.declared.liveness.Live.{Live}
 use Rattle.tb_selection.specs.Groups.{Operand, Constant, Variable, InSlot, IntoVariable, IntoHeld, Destination, IntoSlot, IntoHome, Calculate, fetch, kept, slot_of, expand}
 use Rattle.tb_grouping.proofs.Sources.{value}
+use Rattle.tb_templates.specs.Templates.{slot_at, var_at}
 use Rattle.tb_templates.specs.declared.sources.Source.{Source}
 use Rattle.tb_templates.specs.Sources.{source_of, destination_at}
 use Rattle.tb_grouping.proofs.Coded.{low, high}
@@ -60,20 +61,26 @@ operand_held ly s u r m k InSlot hs hr fit st = let v = hr.words k st in record 
 -- words stand at even places
 pub operand_grounded : (k : ℕ) (a : Operand) (d : Destination) → k < 16 → OperandFits a → Grounded (source_of k a) (destination_at d)
 operand_grounded k (Constant w) d lt fit = tt
-operand_grounded k (Variable x) (IntoSlot j) lt fit = ((omega arith, omega (arith, fit)), λ e. omega (arith, e))
-operand_grounded k (Variable x) (IntoHome (IntoVariable y)) lt fit = ((omega arith, omega (arith, fit)), λ e. omega (arith, e))
-operand_grounded k (Variable x) (IntoHome IntoHeld) lt fit = ((omega arith, omega (arith, fit)), λ e. omega (arith, e))
-operand_grounded k InSlot (IntoSlot j) lt fit = ((omega arith, omega (arith, lt)), λ e. omega (arith, e))
-operand_grounded k InSlot (IntoHome (IntoVariable y)) lt fit = ((omega arith, omega (arith, lt)), λ e. omega (arith, e))
-operand_grounded k InSlot (IntoHome IntoHeld) lt fit = ((omega arith, omega (arith, lt)), λ e. omega (arith, e))
+operand_grounded k (Variable x) (IntoSlot j) lt fit = (word_in_data (var_at x) (omega arith) (omega (arith, fit)), λ e. omega (arith, e))
+operand_grounded k (Variable x) (IntoHome (IntoVariable y)) lt fit = (word_in_data (var_at x) (omega arith) (omega (arith, fit)), λ e. omega (arith, e))
+operand_grounded k (Variable x) (IntoHome IntoHeld) lt fit = (word_in_data (var_at x) (omega arith) (omega (arith, fit)), λ e. omega (arith, e))
+operand_grounded k InSlot (IntoSlot j) lt fit = (word_in_data (slot_at k) (omega arith) (omega (arith, lt)), λ e. omega (arith, e))
+operand_grounded k InSlot (IntoHome (IntoVariable y)) lt fit = (word_in_data (slot_at k) (omega arith) (omega (arith, lt)), λ e. omega (arith, e))
+operand_grounded k InSlot (IntoHome IntoHeld) lt fit = (word_in_data (slot_at k) (omega arith) (omega (arith, lt)), λ e. omega (arith, e))
 
 pub dest_in_data : (d : Destination) → DestFits d → InData (destination_at d)
-dest_in_data (IntoSlot k) fit = (omega arith, omega (arith, fit))
-dest_in_data (IntoHome (IntoVariable x)) fit = (omega arith, omega (arith, fit))
-dest_in_data (IntoHome IntoHeld) fit = (omega arith, omega arith)
+dest_in_data (IntoSlot k) fit = word_in_data (slot_at k) (omega arith) (omega (arith, fit))
+dest_in_data (IntoHome (IntoVariable x)) fit = word_in_data (var_at x) (omega arith) (omega (arith, fit))
+dest_in_data (IntoHome IntoHeld) fit = (refl, refl)
 
--- the same for any even place
-pub operand_apart : (k : ℕ) (a : Operand) (to half : ℕ) → to ≡ 2 * half → k < 16 → OperandFits a → Grounded (source_of k a) to
-operand_apart k (Constant w) to half e lt fit = tt
-operand_apart k (Variable x) to half e lt fit = ((omega arith, omega (arith, fit)), λ q. omega (arith, q, e))
-operand_apart k InSlot to half e lt fit = ((omega arith, omega (arith, lt)), λ q. omega (arith, q, e))
+-- the same for a place below all variables and slots
+pub operand_apart : (k : ℕ) (a : Operand) (to : ℕ) → to ≤ 0xC000 → k < 16 → OperandFits a → Grounded (source_of k a) to
+operand_apart k (Constant w) to e lt fit = tt
+operand_apart k (Variable x) to e lt fit = (word_in_data (var_at x) (omega arith) (omega (arith, fit)), λ q. omega (arith, q, e))
+operand_apart k InSlot to e lt fit = (word_in_data (slot_at k) (omega arith) (omega (arith, lt)), λ q. omega (arith, q, e))
+
+-- and for one behind them
+pub operand_before : (k : ℕ) (a : Operand) (to : ℕ) → 0xC060 ≤ to → k < 16 → OperandFits a → Grounded (source_of k a) to
+operand_before k (Constant w) to e lt fit = tt
+operand_before k (Variable x) to e lt fit = (word_in_data (var_at x) (omega arith) (omega (arith, fit)), λ q. omega (arith, q, e, fit))
+operand_before k InSlot to e lt fit = (word_in_data (slot_at k) (omega arith) (omega (arith, lt)), λ q. omega (arith, q, e, lt))

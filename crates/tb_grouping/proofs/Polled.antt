@@ -1,4 +1,4 @@
--- The law of a line's beginning: an answer is taken in line, and LINE is set only where it is a break.
+-- The law of a line's beginning: an answer is taken in line; LINE is left alone.
 use Rattle.std.proofs.Common.{◌≡◌, ℕ, ◌+◌, ◌/◌, ◌%◌, ◌≤◌, ◌<◌, not, cond, Bool, true, false, if◌then◌else◌, List, [], ◌∷◌, drop, refl, sym, ap, ◌∙◌, subst, arith, eqb, Option, Some, None, inl, inr}
 use Rattle.std.specs.Prelude.{nat_eq}
 use Rattle.tb_syntax.specs.Source.{numbers}
@@ -14,12 +14,11 @@ use Rattle.tb_reaching.specs.Start.{IsHome}
 use Rattle.tb_reaching.specs.View.{Comes, Fits, Setup, View, view}
 use Rattle.tb_runtime16.specs.Laws.{AllBytes}
 use Rattle.tb_runtime16.specs.Routines.{Here, Moves, Routines, WithA}
-use Rattle.tb_runtime16.specs.Places.{LINE}
 use Rattle.tb_keeping.specs.Layout.{Layout, place_at}
 use Rattle.tb_keeping.proofs.Joins.{LawAt, sent_in}
 use Rattle.tb_keeping.proofs.Mirrors.{Flagged, Typable}
 use Rattle.tb_keeping.proofs.Pieces.{calls, moves_looser, moves_then, whatever}
-use Rattle.tb_keeping.proofs.Resolved.{Code, Lies, Piece, constant, faulting, highest_code}
+use Rattle.tb_keeping.proofs.Resolved.{Code, Lies, Piece, faulting, highest_code}
 use Rattle.tb_keeping.proofs.Returning.{behind_call}
 use Rattle.tb_selection.specs.Groups.{Group, Single}
 use Rattle.tb_selection.specs.Select.{select, attach}
@@ -84,16 +83,16 @@ module _ (ly : Layout) (f : Setup) (lo hi keys : ℕ) (fits : Fits f 16) (limit 
     near = at + 3 + 2
 
     abbrev far : ℕ
-    far = at + 3 + 17 + way_size way
+    far = at + 3 + 11 + way_size way
 
     reach : BranchReaches way near far
-    reach = subst (λ p. BranchReaches way p far) (let e : at + 5 ≡ near = omega arith in e) (subst (λ p. BranchReaches way (at + 5) p) (let e : at + 20 + way_size way ≡ far = omega arith in e) lies.4)
+    reach = subst (λ p. BranchReaches way p far) (let e : at + 5 ≡ near = omega arith in e) (subst (λ p. BranchReaches way (at + 5) p) (let e : at + 14 + way_size way ≡ far = omega arith in e) lies.4)
 
     rest : GroupsLie ly f.code n far (select is)
-    rest = subst (λ p. GroupsLie ly f.code n p (select is)) (let e : at + 20 + way_size way ≡ far = omega arith in e) lies.5
+    rest = subst (λ p. GroupsLie ly f.code n p (select is)) (let e : at + 14 + way_size way ≡ far = omega arith in e) lies.5
 
     abbrev text : List Piece
-    text = Code (constant n LINE) ∷ Code (faulting 0) ∷ []
+    text = Code (faulting n 0) ∷ []
 
     -- behind the comparison
     compared : (z : Bool) → eqb stop 3 ≡ z → stop < 256 → Moves f (WithA (at + 3) stop own w.mem s.text (drop 1 s.answers)) (Flagged near own w.mem s.text (drop 1 s.answers) z) [] 1
@@ -108,9 +107,9 @@ module _ (ly : Layout) (f : Setup) (lo hi keys : ℕ) (fits : Fits f 16) (limit 
     parts z u g = looser f u _ _ [] 2 2 (omega arith) (λ v k. k.here) (branches f 16 fits own w.mem s.text (drop 1 s.answers) refl near way Zero false z far setting.0 reach lies.3.2.1 u g.here g.zero)
 
     -- a break
-    breaks : Moves f (Flagged near own w.mem s.text (drop 1 s.answers) true) (IsHome f) (fault_text 0 n) (2 + (6 + limit))
+    breaks : Moves f (Flagged near own w.mem s.text (drop 1 s.answers) true) (IsHome f) (fault_text 0 n) (2 + (4 + limit))
     breaks =
-        moves_then f _ _ _ [] (fault_text 0 n) 2 (6 + limit) (parts true)
+        moves_then f _ _ _ [] (fault_text 0 n) 2 (4 + limit) (parts true)
         (faults_at ly f lo hi keys fits limit rs n 0 small (omega arith) (near + way_size way) w.mem s.text (drop 1 s.answers) setting.1 h.homed)
 
     -- no break
@@ -128,8 +127,8 @@ module _ (ly : Layout) (f : Setup) (lo hi keys : ℕ) (fits : Fits f 16) (limit 
     by_break : (a : ℕ) (l : List ℕ) → s.answers ≡ a ∷ l → AllBytes (a ∷ l) → (t : Bool) → nat_eq a 3 ≡ t → Led (if t then Stops Faulted (fault_text 0 n) else Goes (line code n is (record s { answers = l }) r) [])
     by_break a l e bytes true q u g =
         let stop_is : stop ≡ a = ap first_or_zero e in
-        looser f u _ _ (fault_text 0 n) (1 + (2 + (6 + limit))) (10 + limit) (omega arith) (λ v x. x)
-        (chained f u _ _ [] (fault_text 0 n) 1 (2 + (6 + limit)) (compared true (ap (λ x. eqb x 3) stop_is ∙ q) (omega (arith, stop_is, bytes.0)) u g) breaks)
+        looser f u _ _ (fault_text 0 n) (1 + (2 + (4 + limit))) (10 + limit) (omega arith) (λ v x. x)
+        (chained f u _ _ [] (fault_text 0 n) 1 (2 + (4 + limit)) (compared true (ap (λ x. eqb x 3) stop_is ∙ q) (omega (arith, stop_is, bytes.0)) u g) breaks)
     by_break a l e bytes false q u g =
         let stop_is : stop ≡ a = ap first_or_zero e in
         looser f u _ _ [] (1 + 2) (10 + limit) (omega arith) (λ v x. x)
@@ -168,7 +167,7 @@ module _ (ly : Layout) (f : Setup) (lo hi keys : ℕ) (fits : Fits f 16) (limit 
     past_law : w.regs.pc ≡ ly.past → Comes f w (IsHome f) (fault_text 7 (highest ly.numbers)) (24 + (limit + limit))
     past_law at =
         let n = highest ly.numbers in
-        looser f w _ _ (fault_text 7 n) (6 + limit) (24 + (limit + limit)) (omega arith) (λ u x. x)
+        looser f w _ _ (fault_text 7 n) (4 + limit) (24 + (limit + limit)) (omega arith) (λ u x. x)
         (faults_at ly f lo hi keys fits limit rs n 7 laid.top (omega arith) ly.past w.mem w.text w.answers laid.past h.homed w (record { pc = at; stack = h.stack; binary = h.binary; mem = refl; text = refl; answers = refl }))
 
     -- no line there: fault 7

@@ -15,7 +15,7 @@ use Rattle.tb_selection.specs.Groups.{Operand, Destination, Calculate, slot_of}
 use Rattle.tb_selection.specs.Liveness.{live}
 use Rattle.tb_grouping.proofs.Calculations.{Leads}
 use Rattle.tb_templates.specs.Sources.{source_of}
-use Rattle.tb_grouping.proofs.Handed.{gives}
+use Rattle.tb_grouping.proofs.Handed.{gives, result_gives}
 use Rattle.tb_grouping.proofs.Lone.{kept, kept_scratch}
 use Rattle.tb_grouping.proofs.Matching.{Target}
 use Rattle.tb_grouping.proofs.Operands.{CalcFits, calc_fits, operand_apart, operand_held}
@@ -44,10 +44,10 @@ module _ (ly : Layout) (f : Setup) (lo hi keys : ℕ) (fits : Fits f 16) (limit 
       let c = kept ly f lo hi keys fits n _ js is s r w h in
       subst (λ x. Comes f w (Target ly f lo hi keys x) (sent_in x) (13 + limit)) (sym (calculate_goes code n op.Multiply a b d is s r h.read.all_words fit.slot v refl))
       (gives ly f lo hi keys fits n _ js is s r w h MULTIPLY_AT RESULT w.regs.pc (source_of k a) (source_of (k + 1) b) d w.mem c h.lies x y
-      (operand_apart k a LEFT 24625 refl (omega (arith, fit.slot)) fit.left) (operand_apart (k + 1) b RIGHT 24626 refl fit.slot fit.right)
+      (operand_apart k a LEFT (omega arith) (omega (arith, fit.slot)) fit.left) (operand_apart (k + 1) b RIGHT (omega arith) fit.slot fit.right)
       (operand_held ly s (live js) r w.mem k a c.state c.read fit.left (left_asked op.Multiply a b d is))
       (λ m k'. operand_held ly s (live js) r m (k + 1) b k'.state k'.read fit.right (right_asked op.Multiply a b d is))
-      code s (with_fetched s (with_fetched s r k a) (k + 1) b) v limit (omega arith, omega arith) fit.dest (calculate_lasting op.Multiply a b d is s r h.free) h.rest h.text h.answers h.short
+      code s (with_fetched s (with_fetched s r k a) (k + 1) b) v limit result_gives fit.dest (calculate_lasting op.Multiply a b d is s r h.free) h.rest h.text h.answers h.short
       (λ l k' m g u e. looser f u _ _ [] limit limit (omega arith)
       (λ u q. record {
         here = back_here ly f lo hi keys fits _ _ m w.text w.answers u q.back refl;

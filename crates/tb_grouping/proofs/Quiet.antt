@@ -8,7 +8,7 @@ use Rattle.tb_reaching.proofs.Comes.{looser}
 use Rattle.tb_reaching.specs.View.{Comes, Fits, Setup, View}
 use Rattle.tb_templates.specs.Templates.{slot_at, var_at}
 use Rattle.tb_keeping.specs.Layout.{Layout}
-use Rattle.tb_keeping.proofs.Pieces.{copies, sets}
+use Rattle.tb_keeping.proofs.Pieces.{copies, sets, word_in_data}
 use Rattle.tb_selection.specs.Groups.{IntoSlot, Single}
 use Rattle.tb_selection.specs.Liveness.{live}
 use Rattle.tb_grouping.proofs.Matching.{Matches}
@@ -25,7 +25,7 @@ module _ (ly : Layout) (f : Setup) (lo hi keys : ℕ) (fits : Fits f 16) (code :
       let fit = h.ranged.0.0 in
       looser f w _ _ [] 4 4 (omega arith)
       (word_lands ly f lo hi keys fits code n h.small (live (Put k v ∷ is)) (IntoSlot k) is s r r (word v) (word v % 256) (word v / 256) (w.regs.pc + 10) w.mem w.text w.answers refl refl (omega arith) fit lasting h.rest (kept ly f lo hi keys fits n _ _ is s r w h) h.text h.answers h.short)
-      (sets f 16 fits w.regs.pc own w.mem w.text w.answers refl (word v) (slot_at k) h.lies.0 (omega arith, omega (arith, fit)) h.lies.1 w (here ly f lo hi keys fits w [] [] h.stack h.binary))
+      (sets f 16 fits w.regs.pc own w.mem w.text w.answers refl (word v) (slot_at k) h.lies.0 (word_in_data (slot_at k) (omega arith) (omega (arith, fit))) h.lies.1 w (here ly f lo hi keys fits w [] [] h.stack h.binary))
     where
       lasting : Lasting (live (Put k v ∷ is)) (IntoSlot k) is r r
       lasting = record { all = refl; same_held = refl; dead = tt; others = λ j lt ne. (written_reads j k (live is) lt ne, refl); held = λ q. q }
@@ -36,7 +36,7 @@ module _ (ly : Layout) (f : Setup) (lo hi keys : ℕ) (fits : Fits f 16) (code :
       let v = h.state.vars x fit.1 in
       looser f w _ _ [] 4 4 (omega arith)
       (word_lands ly f lo hi keys fits code n h.small (live (Load k x ∷ is)) (IntoSlot k) is s r r (slice_index s.vars x) _ _ (w.regs.pc + 12) w.mem w.text w.answers v.low v.high v.small fit.0 lasting h.rest (kept ly f lo hi keys fits n _ _ is s r w h) h.text h.answers h.short)
-      (copies f 16 fits w.regs.pc own w.mem w.text w.answers refl (var_at x) (slot_at k) h.lies.0 (omega arith, omega (arith, fit.1)) (omega arith, omega (arith, fit.0)) (λ e. omega (arith, e, fit.1)) h.lies.1 w (here ly f lo hi keys fits w [] [] h.stack h.binary))
+      (copies f 16 fits w.regs.pc own w.mem w.text w.answers refl (var_at x) (slot_at k) h.lies.0 (word_in_data (var_at x) (omega arith) (omega (arith, fit.1))) (word_in_data (slot_at k) (omega arith) (omega (arith, fit.0))) (λ e. omega (arith, e, fit.1)) h.lies.1 w (here ly f lo hi keys fits w [] [] h.stack h.binary))
     where
       lasting : Lasting (live (Load k x ∷ is)) (IntoSlot k) is r r
       lasting = record { all = refl; same_held = refl; dead = tt; others = λ j lt ne. (written_reads j k (live is) lt ne, refl); held = λ q. q }

@@ -110,7 +110,7 @@ module _ (ly : Layout) (f : Setup) (lo hi keys : ℕ) (fits : Fits f 16) (limit 
       let c = kept_put ly f lo hi keys fits u s r w.mem LEFT _ _ h.some_read refl refl (kept ly f lo hi keys fits n _ _ is s r w h) in
       let p = w.regs.pc + size (brought src LEFT) in
       looser f w _ _ t (4 + (1 + limit)) (5 + limit) (omega arith) (λ u x. x)
-      (chained f w _ _ [] t 4 (1 + limit) (brings f 16 fits w.regs.pc own w.mem w.text w.answers refl src LEFT lies.0 (operand_apart 0 a LEFT 24625 refl (omega arith) fit) (omega arith, omega arith) lies.1 w (here ly f lo hi keys fits w [] [] h.stack h.binary)) (λ u e.
+      (chained f w _ _ [] t 4 (1 + limit) (brings f 16 fits w.regs.pc own w.mem w.text w.answers refl src LEFT lies.0 (operand_apart 0 a LEFT (omega arith) (omega arith) fit) (refl, refl) lies.1 w (here ly f lo hi keys fits w [] [] h.stack h.binary)) (λ u e.
       chained f u _ _ [] t 1 limit (calls f 16 fits p own m w.text w.answers refl NUMBER_AT refl lies.2.0 lies.2.1 u e) (λ u e.
       looser f u _ _ t limit limit (omega arith)
       (told_lands _ _ h (with_fetched s r 0 a) (λ m k. used_read AsNumber a is s r m h.free k) t (w.regs.pc + (size (brought src LEFT) + 3)) _ m h.rest c (behind_call ly f lo hi keys fits p lies.2.0 ∙ (let q : p + 3 ≡ w.regs.pc + (size (brought src LEFT) + 3) = omega arith in q)))

@@ -17,7 +17,7 @@ use Rattle.tb_templates.specs.Layout.{LabelsAt}
 use Rattle.tb_templates.specs.Templates as product
 use Rattle.tb_templates.specs.Templates.{var_at, slot_at, target_of, next_line}
 use Rattle.tb_keeping.specs.Layout.{Layout, place_of, layout_of, next_at}
-use Rattle.tb_keeping.proofs.Numbers.{low_of, high_of, start_of_line, next_same, joined, constant_bytes, jump_bytes, note_bytes}
+use Rattle.tb_keeping.proofs.Numbers.{low_of, high_of, start_of_line, next_same, joined, constant_bytes, faulted_bytes, jump_bytes, note_bytes}
 use Rattle.tb_keeping.proofs.Resolved.{Piece, template, jump_to, call_to}
 use Rattle.tb_selection.specs.Groups.{Group, Calculate, Convert, Move, Use, Test, TestGo, Single}
 use Rattle.tb_selection.specs.Select.{alone}
@@ -29,7 +29,7 @@ ly labels ns seed = layout_of labels ns seed
 of_label : (labels : List (Name × ℕ)) (ns : List ℕ) (seed : ℕ) (n : Name) (a : ℕ) → address_in labels n ≡ Some a → number_in labels (Label n) ≡ a
 of_label labels ns seed n a e = ap (λ o. unwrap_or o 0) e
 
-module _ (labels : List (Name × ℕ)) (ns : List ℕ) (seed : ℕ) (seed_small : seed < 65536) (n : ℕ) (next_small : next_at (ly labels ns seed) n < 65536) where
+module _ (labels : List (Name × ℕ)) (ns : List ℕ) (seed : ℕ) (seed_small : seed < 65536) (n : ℕ) (n_small : n < 65536) (next_small : next_at (ly labels ns seed) n < 65536) where
   abbrev resolved : ℕ → slots.Instr → List Piece
   resolved at i = template (ly labels ns seed) n at i
 
@@ -64,15 +64,15 @@ module _ (labels : List (Name × ℕ)) (ns : List ℕ) (seed : ℕ) (seed_small 
   not_alone : {g : Group} {c : slots.Instr} → is_single g ≡ false → g ≡ Single c → ⊥
   not_alone f q = true≢false (ap is_single (sym q) ∙ f)
 
-  to_bytes : (i at to : ℕ) (t : Bool) → has_line ns to ≡ t → bytes_from labels at (if t then product.jump (target.Line to) ∷ [] else product.fault 1) ≡ pieces_bytes (jump_to (ly labels ns seed) t to)
+  to_bytes : (i at to : ℕ) (t : Bool) → has_line ns to ≡ t → bytes_from labels at (if t then product.jump (target.Line to) ∷ [] else product.faulted n 1) ≡ pieces_bytes (jump_to (ly labels ns seed) n t to)
   unfolding opcodes.encoded
   to_bytes i at to true e = jump_bytes labels ns seed at (target.Line to) _ (start_of_line labels ns seed to e)
-  to_bytes i at to false e = refl
+  to_bytes i at to false e = faulted_bytes labels ns seed at n 1 n_small (omega arith)
 
-  sub_bytes : (i at to : ℕ) (t : Bool) → has_line ns to ≡ t → bytes_from labels at (if t then product.note (next_line ns n) ++ (product.jump (target.Line to) ∷ []) else product.fault 1) ≡ pieces_bytes (call_to (ly labels ns seed) n t to)
+  sub_bytes : (i at to : ℕ) (t : Bool) → has_line ns to ≡ t → bytes_from labels at (if t then product.note (next_line ns n) ++ (product.jump (target.Line to) ∷ []) else product.faulted n 1) ≡ pieces_bytes (call_to (ly labels ns seed) n t to)
   unfolding opcodes.encoded
   sub_bytes i at to true e = joined labels ns seed at 13 (product.note (next_line ns n)) (product.jump (target.Line to) ∷ []) _ _ refl (note_bytes labels ns seed at n next_small) (jump_bytes labels ns seed (at + 13) (target.Line to) _ (start_of_line labels ns seed to e))
-  sub_bytes i at to false e = refl
+  sub_bytes i at to false e = faulted_bytes labels ns seed at n 1 n_small (omega arith)
 
   -- the bytes of each template
   pub template_bytes : (i at : ℕ) (c : slots.Instr) → alone c ≡ Single c → IsInRange 256 c → at + size (product.template ns n i c) ≤ 0xa000 → LabelsAt labels at (product.template ns n i c) → bytes_from labels at (product.template ns n i c) ≡ pieces_bytes (resolved at c)

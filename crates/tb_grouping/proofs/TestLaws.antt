@@ -15,13 +15,12 @@ use Rattle.tb_lower.specs.Steps.{Step, Goes, Stops, Faulted}
 use Rattle.tb_lower.proofs.Runs.{after_nothing}
 use Rattle.tb_reaching.proofs.Comes.{chained, looser}
 use Rattle.tb_reaching.specs.View.{Comes, Fits, Part, Setup, View}
-use Rattle.tb_runtime16.specs.Places.{LINE}
 use Rattle.tb_runtime16.specs.Routines.{Entered, Here, Moves, Routines}
 use Rattle.tb_keeping.specs.Layout.{Layout, next_at}
 use Rattle.tb_keeping.proofs.Joins.{sent_in}
 use Rattle.tb_keeping.proofs.Mirrors.{Typable}
 use Rattle.tb_keeping.proofs.Pieces.{moves_looser}
-use Rattle.tb_keeping.proofs.Resolved.{Code, Lies, Piece, constant, faulting, piece_size, pieces_size}
+use Rattle.tb_keeping.proofs.Resolved.{Code, Lies, Piece, faulting, piece_size, pieces_size}
 use Rattle.tb_selection.specs.Groups.{Operand, Tested, Test, TestGo, denied, expand}
 use Rattle.tb_selection.specs.GroupSteps.{steps}
 use Rattle.tb_selection.specs.Liveness.{live}
@@ -143,7 +142,7 @@ module _ (ly : Layout) (f : Setup) (lo hi keys : ℕ) (fits : Fits f 16) (code :
       let fit = test_fits rel a b js ranged in
       record {
         left_apart = tested_apart a fit.left;
-        right_apart = operand_apart 0 b 0 0 refl (omega arith) fit.right;
+        right_apart = operand_apart 0 b 0 (omega arith) (omega arith) fit.right;
         left_word = left_held ly rel a b is s r w.mem state read fit.left;
         right_word = right_held ly rel a b is s r w.mem free state read fit.right;
       }
@@ -222,7 +221,7 @@ module _ (ly : Layout) (f : Setup) (lo hi keys : ℕ) (fits : Fits f 16) (code :
       code_lost = test_code rel h.first h.second w.regs.pc left right next_line
 
       abbrev faulty : List Piece
-      faulty = Code (constant n LINE) ∷ Code (faulting 1) ∷ []
+      faulty = Code (faulting n 1) ∷ []
 
       parts : Lies f.code w.regs.pc code_lost × Lies f.code (w.regs.pc + pieces_size code_lost) faulty
       parts = lies_parts f.code w.regs.pc code_lost faulty (subst (λ d. Lies f.code w.regs.pc (go_code ly n w.regs.pc h.first h.second rel left right d to)) lost h.lies)
@@ -232,8 +231,8 @@ module _ (ly : Layout) (f : Setup) (lo hi keys : ℕ) (fits : Fits f 16) (code :
         where
           by : (t : Bool) → Comes f w (At (cond t (w.regs.pc + pieces_size code_lost) next_line)) [] 9 → Gone (outcome t false)
           by true c =
-              looser f w _ _ (fault_text 1 n) (9 + (6 + limit)) (15 + limit) (omega arith) (λ u g. g)
-              (chained f w _ _ [] (fault_text 1 n) 9 (6 + limit) c (faults_at ly f lo hi keys fits limit rs n 1 h.small (omega arith) (w.regs.pc + pieces_size code_lost) w.mem w.text w.answers parts.1 h.homed))
+              looser f w _ _ (fault_text 1 n) (9 + (4 + limit)) (15 + limit) (omega arith) (λ u g. g)
+              (chained f w _ _ [] (fault_text 1 n) 9 (4 + limit) c (faults_at ly f lo hi keys fits limit rs n 1 h.small (omega arith) (w.regs.pc + pieces_size code_lost) w.mem w.text w.answers parts.1 h.homed))
           by false c = looser f w _ _ [] 9 (15 + limit) (omega arith) (out false) c
 
     by_line : (found : Bool) → has_line ly.numbers to ≡ found → Gone (outcome (holds rel x y) found)

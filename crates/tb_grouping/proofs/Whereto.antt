@@ -17,8 +17,8 @@ use Rattle.tb_grouping.proofs.Sums.{Grounded}
 
 -- the left word's bytes are among the data
 pub tested_apart : (a : Tested) → TestedFits a → Grounded (tested_source a) 0
-tested_apart HeldBefore fit = ((omega arith, omega arith), λ e. omega (arith, e))
-tested_apart (HeldNow a) fit = operand_apart 0 a 0 0 refl (omega arith) fit
+tested_apart HeldBefore fit = ((refl, refl), λ e. omega (arith, e))
+tested_apart (HeldNow a) fit = operand_apart 0 a 0 (omega arith) (omega arith) fit
 
 module _ (ly : Layout) (f : Setup) (lo hi keys : ℕ) (fits : Fits f 16) (code : SlotCode) (same_numbers : numbers code ≡ ly.numbers) (n : ℕ) (s : State) (r : Slots) where
   pub left_at : (m : ℕ → ℕ) (t gets : List ℕ) → HoldsState ly s m → HoldsLive nothing_live r m → Entered f lo hi m → t ≡ s.text → gets ≡ s.answers → Typable keys s.text s.answers → (w : View) → Here (next_at ly n) (lo ∷ hi ∷ []) m t gets w → Matches ly f lo hi keys (record { state = record s { place = next_after (numbers code) n }; rest = Whole; slots = r }) w

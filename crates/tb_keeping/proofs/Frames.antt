@@ -41,7 +41,7 @@ word_away m at lo hi a w n n' n'' h = word_kept m (put_word m at lo hi) a w (put
 pub owned_low : (a : ℕ) → 0xC000 ≤ a → a ≤ 0xC061 → is_owned a ≡ true
 owned_low a lo hi = grind (arith, nat_tests)
 
-pub owned_note : (a : ℕ) → 0xC100 ≤ a → a ≤ 0xC4E7 → is_owned a ≡ true
+pub owned_note : (a : ℕ) → 0xC100 ≤ a → a ≤ 0xC4F3 → is_owned a ≡ true
 owned_note a lo hi = grind (arith, nat_tests)
 
 -- ---- parts of the state
@@ -53,14 +53,14 @@ SameSingles m m' = (a : ℕ) → 0xC035 ≤ a → a ≤ 0xC03F → a ≢ LINE �
 abbrev pub Same : (ℕ → ℕ) → (ℕ → ℕ) → ℕ → ℕ → Type 0
 Same m m' lo hi = (a : ℕ) → lo ≤ a → a ≤ hi → m' a ≡ m a
 
-pub noted_kept : (m m' : ℕ → ℕ) (ns : List ℕ) → length ns ≤ 500 → Same m m' 0xC100 0xC4E7 → Noted m ns → Noted m' ns
+pub noted_kept : (m m' : ℕ → ℕ) (ns : List ℕ) → length ns ≤ 500 → Same m m' 0xC100 0xC4F3 → Noted m ns → Noted m' ns
 noted_kept m m' [] few s h = tt
 noted_kept m m' (n ∷ ns) few s h = (
-  word_kept m m' _ _ (s _ (omega arith) (omega (arith, few))) (s _ (omega arith) (omega (arith, few))) h.0,
+  record { low = s _ (omega arith) (omega (arith, few)) ∙ h.0.low; high = s _ (omega arith) (omega (arith, few)) ∙ h.0.high; small = h.0.small },
   noted_kept m m' ns (omega (arith, few)) s h.1,
 )
 
-pub notes_kept : (ly : Layout) (m m' : ℕ → ℕ) (ps : List Place) → length ps ≤ 500 → Same m m' 0xC100 0xC4E7 → Noted m (notes_of ly ps) → Noted m' (notes_of ly ps)
+pub notes_kept : (ly : Layout) (m m' : ℕ → ℕ) (ps : List Place) → length ps ≤ 500 → Same m m' 0xC100 0xC4F3 → Noted m (notes_of ly ps) → Noted m' (notes_of ly ps)
 notes_kept ly m m' ps few s h = noted_kept m m' (notes_of ly ps) (omega (arith, few, length-map ps (place_at ly))) s h
 
 module _ (ly : Layout) (s : State) (slots : Slots) (m m' : ℕ → ℕ) (h : Holds ly s slots m) where
@@ -78,7 +78,7 @@ module _ (ly : Layout) (s : State) (slots : Slots) (m m' : ℕ → ℕ) (h : Hol
       go (first k q r old w) = first (e SEEDED (omega arith) (omega arith) (λ q. omega (arith, q)) (λ q. omega (arith, q)) ∙ k) q r old (word_kept m m' SEED _ (e SEED (omega arith) (omega arith) (λ q. omega (arith, q)) (λ q. omega (arith, q))) (e (SEED + 1) (omega arith) (omega arith) (λ q. omega (arith, q)) (λ q. omega (arith, q))) w)
 
   -- new variables, column, slots and held word; the rest stands
-  pub holds_with : (vs : List ℕ) (c : ℕ) (slots' : Slots) → length vs ≡ 26 → length slots'.words ≡ 16 → ((x : ℕ) → x < 26 → WordAt m' (var_at x) (slice_index vs x)) → ((k : ℕ) → k < 16 → WordAt m' (slot_at k) (slice_index slots'.words k)) → WordAt m' HELD slots'.held → m' COLUMN ≡ c % 256 → SameSingles m m' → Same m m' 0xC100 0xC4E7 → Holds ly (record s { vars = vs; column = c }) slots' m'
+  pub holds_with : (vs : List ℕ) (c : ℕ) (slots' : Slots) → length vs ≡ 26 → length slots'.words ≡ 16 → ((x : ℕ) → x < 26 → WordAt m' (var_at x) (slice_index vs x)) → ((k : ℕ) → k < 16 → WordAt m' (slot_at k) (slice_index slots'.words k)) → WordAt m' HELD slots'.held → m' COLUMN ≡ c % 256 → SameSingles m m' → Same m m' 0xC100 0xC4F3 → Holds ly (record s { vars = vs; column = c }) slots' m'
   holds_with vs c slots' lv lw v w d co e e' = record {
     vars = v;
     words = w;

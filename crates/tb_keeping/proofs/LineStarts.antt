@@ -33,7 +33,7 @@ use Rattle.tb_keeping.proofs.Starts as lines
 use Rattle.tb_keeping.proofs.Starts.{count, before, between, behind}
 use Rattle.tb_keeping.proofs.Strides.{IsStride, found_line, lines_at}
 use Rattle.tb_keeping.proofs.Mirrors.{Leads}
-use Rattle.tb_keeping.proofs.Pieces.{low_data, high_data}
+use Rattle.tb_keeping.proofs.Pieces.{word_in_data}
 use Rattle.tb_keeping.proofs.Frames.{word_kept}
 use Rattle.tb_keeping.proofs.Joins.{move, IsLawful, is_go, sent, same_goes, same_after, lawful_all, sends, IsEnd, end_stays, R, LawAt, reaches, sent_in}
 use Rattle.tb_keeping.proofs.Numbers.{or_true}
@@ -206,7 +206,7 @@ module _ (place : ℕ) (bytes : List ℕ) (from : 0x0800 ≤ place) (to : place 
         done = a.done;
         at_place = a.place;
         pc = pc_here f w t at ∙ there.pc ∙ ap (place_at ly) a.place;
-        vars = λ x lt. word_kept w.mem t.mem (var_at x) (slice_index a.state.vars x) (fixed (var_at x) (low_data (var_at x) (omega arith, omega (arith, lt)))) (fixed (var_at x + 1) (high_data (var_at x) (omega arith, omega (arith, lt)))) (there.vars x lt);
+        vars = λ x lt. word_kept w.mem t.mem (var_at x) (slice_index a.state.vars x) (fixed (var_at x) (word_in_data (var_at x) (omega arith) (omega (arith, lt))).0) (fixed (var_at x + 1) (word_in_data (var_at x) (omega arith) (omega (arith, lt))).1) (there.vars x lt);
         notes = word_kept w.mem t.mem NOTES (length a.state.returns) (fixed NOTES refl) (fixed (NOTES + 1) refl) there.count;
       }
 

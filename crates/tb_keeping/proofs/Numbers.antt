@@ -10,14 +10,14 @@ use Rattle.std.specs.Option.{option_map}
 use Rattle.tb_asm.proofs.Laws.{bytes_append}
 use Rattle.tb_reaching.proofs.Instr.{flat}
 use Rattle.tb_lower.specs.Control.{Place, At, Past, next_after, has_line}
-use Rattle.tb_runtime16.specs.Places.{LEFT, PUSH_AT}
+use Rattle.tb_runtime16.specs.Places.{LEFT, PUSH_AT, FAULT_LINE_AT}
 use Rattle.tb_templates.specs.declared.labels.Target.{Target}
 use Rattle.tb_templates.specs.declared.labels.Target.TheVariants as target
 use Rattle.tb_templates.specs.Labels.{label_of}
 use Rattle.tb_templates.specs.Templates as product
 use Rattle.tb_templates.specs.Templates.{var_at, slot_at, target_of, next_line}
 use Rattle.tb_keeping.specs.Layout.{Layout, place_of, layout_of, place_at, next_at}
-use Rattle.tb_keeping.proofs.Resolved.{constant, call, jump}
+use Rattle.tb_keeping.proofs.Resolved.{constant, call, faulting, jump}
 
 pub or_true : (b : Bool) → (b || true) ≡ true
 or_true true = refl
@@ -76,6 +76,12 @@ module _ (labels : List (Name × ℕ)) (ns : List ℕ) (seed : ℕ) where
   pub constant_bytes : (at w to : ℕ) → w < 65536 → bytes_from labels at (product.constant w to) ≡ flat (constant w to)
   unfolding opcodes.encoded
   constant_bytes at w to h = λ i. 0xa9 ∷ low_byte w i ∷ 0x8d ∷ to % 256 ∷ to / 256 ∷ 0xa9 ∷ high_byte w h i ∷ 0x8d ∷ (to + 1) % 256 ∷ (to + 1) / 256 ∷ []
+
+  pub faulted_bytes : (at n k : ℕ) → n < 65536 → k < 256 → bytes_from labels at (product.faulted n k) ≡ flat (faulting n k)
+  unfolding opcodes.encoded
+  faulted_bytes at n k h few =
+      let number : k % 256 ≡ k = omega (arith, few) in
+      λ i. 0xa2 ∷ low_byte n i ∷ 0xa0 ∷ high_byte n h i ∷ 0xa9 ∷ number i ∷ 0x4c ∷ FAULT_LINE_AT % 256 ∷ FAULT_LINE_AT / 256 ∷ []
 
   pub address_bytes : (at : ℕ) (of : Target) (p to : ℕ) → place_of labels of ≡ p → p < 65536 → bytes_from labels at (product.address of to) ≡ flat (constant p to)
   unfolding opcodes.encoded

@@ -37,14 +37,12 @@ moves_looser f p q r t n k le g a w h = looser f w q r t n k le g (a w h)
 in_data : (a : ℕ) → 0xC000 ≤ a → a ≤ 0xCFFF → is_data a ≡ true
 in_data a lo hi = grind (arith, nat_tests)
 
+-- a word of data: its low byte and its high byte
 abbrev pub InData : ℕ → Type 0
-InData a = (0xC000 ≤ a) × (a ≤ 0xCFFE)
+InData a = (is_data a ≡ true) × (is_data (a + 1) ≡ true)
 
-pub low_data : (a : ℕ) → InData a → is_data a ≡ true
-low_data a h = in_data a h.0 (omega (arith, h.1))
-
-pub high_data : (a : ℕ) → InData a → is_data (a + 1) ≡ true
-high_data a h = in_data (a + 1) (omega (arith, h.0)) (omega (arith, h.1))
+pub word_in_data : (a : ℕ) → 0xC000 ≤ a → a ≤ 0xCFFE → InData a
+word_in_data a lo hi = (in_data a lo (omega (arith, hi)), in_data (a + 1) (omega (arith, lo)) (omega (arith, hi)))
 
 called : (at : ℕ) (bs : List ℕ) → at + 3 ≤ highest_code → ((at + 3) % 65536 + 65535) % 65536 % 256 ∷ ((at + 3) % 65536 + 65535) % 65536 / 256 ∷ bs ≡ (at + 2) % 256 ∷ (at + 2) / 256 ∷ bs
 called at bs r =
@@ -115,24 +113,24 @@ module _ (f : Setup) (room : ℕ) (fits : Fits f room) where
   module _ (at : ℕ) (bs : List ℕ) (m : ℕ → ℕ) (keys gets : List ℕ) (small : leb (length bs) room ≡ true) where
     pub copies : (from to : ℕ) → at + 12 ≤ highest_code → InData from → InData to → from + 1 ≢ to → Stands f.code at (copied from to) → Moves f (Here at bs m keys gets) (Here (at + 12) bs (put_word m to (m from) (m (from + 1))) keys gets) [] 4
     copies from to r df dt apart st = whatever at bs m keys gets _ [] 4 (λ a x y n v i z c.
-        loads 0xAD from Lda (view a x y n v i z c at bs m keys gets) _ _ [] 3 refl refl refl small st.0 (low_data from df) refl
-        (stores to (view _ x y _ v i _ c ((at + 3) % 65536) bs m keys gets) _ [] 2 small st.1.0 (low_data to dt)
-        (loads 0xAD (from + 1) Lda (view _ x y _ v i _ c ((((at + 3) % 65536) + 3) % 65536) bs _ keys gets) _ _ [] 1 refl refl refl small st.1.1.0 (high_data from df) refl
-        (ends (to + 1) (at + 12) (view _ x y _ v i _ c ((((((at + 3) % 65536) + 3) % 65536) + 3) % 65536) bs _ keys gets) _ bs keys gets small st.1.1.1.0 (high_data to dt) (omega arith) refl refl (ap (λ b. with_byte (with_byte m to (m from)) (to + 1) b) (put_other m to (m from) (from + 1) apart)) refl refl))))
+        loads 0xAD from Lda (view a x y n v i z c at bs m keys gets) _ _ [] 3 refl refl refl small st.0 df.0 refl
+        (stores to (view _ x y _ v i _ c ((at + 3) % 65536) bs m keys gets) _ [] 2 small st.1.0 dt.0
+        (loads 0xAD (from + 1) Lda (view _ x y _ v i _ c ((((at + 3) % 65536) + 3) % 65536) bs _ keys gets) _ _ [] 1 refl refl refl small st.1.1.0 df.1 refl
+        (ends (to + 1) (at + 12) (view _ x y _ v i _ c ((((((at + 3) % 65536) + 3) % 65536) + 3) % 65536) bs _ keys gets) _ bs keys gets small st.1.1.1.0 dt.1 (omega arith) refl refl (ap (λ b. with_byte (with_byte m to (m from)) (to + 1) b) (put_other m to (m from) (from + 1) apart)) refl refl))))
 
     pub sets : (k to : ℕ) → at + 10 ≤ highest_code → InData to → Stands f.code at (constant k to) → Moves f (Here at bs m keys gets) (Here (at + 10) bs (put_word m to (k % 256) (k / 256)) keys gets) [] 4
     sets k to r dt st = whatever at bs m keys gets _ [] 4 (λ a x y n v i z c.
         does (ins 0xA9 (k % 256)) (view a x y n v i z c at bs m keys gets) _ _ [] 3 small st.0 refl
-        (stores to (view _ x y _ v i _ c ((at + 2) % 65536) bs m keys gets) _ [] 2 small st.1.0 (low_data to dt)
+        (stores to (view _ x y _ v i _ c ((at + 2) % 65536) bs m keys gets) _ [] 2 small st.1.0 dt.0
         (does (ins 0xA9 (k / 256)) (view _ x y _ v i _ c ((((at + 2) % 65536) + 3) % 65536) bs _ keys gets) _ _ [] 1 small st.1.1.0 refl
-        (ends (to + 1) (at + 10) (view _ x y _ v i _ c ((((((at + 2) % 65536) + 3) % 65536) + 2) % 65536) bs _ keys gets) _ bs keys gets small st.1.1.1.0 (high_data to dt) (omega arith) refl refl refl refl refl))))
+        (ends (to + 1) (at + 10) (view _ x y _ v i _ c ((((((at + 2) % 65536) + 3) % 65536) + 2) % 65536) bs _ keys gets) _ bs keys gets small st.1.1.1.0 dt.1 (omega arith) refl refl refl refl refl))))
 
     -- the rest of it, with the low byte in A
     pub sets_on : (k to : ℕ) → at + 10 ≤ highest_code → InData to → Stands f.code ((at + 2) % 65536) (ins 0x8D to ∷ ins 0xA9 (k / 256) ∷ ins 0x8D (to + 1) ∷ []) → Moves f (WithA ((at + 2) % 65536) (k % 256) bs m keys gets) (Here (at + 10) bs (put_word m to (k % 256) (k / 256)) keys gets) [] 3
     sets_on k to r dt st = whatever_a ((at + 2) % 65536) (k % 256) bs m keys gets _ [] 3 (λ x y n v i z c.
-        stores to (view (k % 256) x y n v i z c ((at + 2) % 65536) bs m keys gets) _ [] 2 small st.0 (low_data to dt)
+        stores to (view (k % 256) x y n v i z c ((at + 2) % 65536) bs m keys gets) _ [] 2 small st.0 dt.0
         (does (ins 0xA9 (k / 256)) (view _ x y n v i z c ((((at + 2) % 65536) + 3) % 65536) bs _ keys gets) _ _ [] 1 small st.1.0 refl
-        (ends (to + 1) (at + 10) (view _ x y _ v i _ c ((((((at + 2) % 65536) + 3) % 65536) + 2) % 65536) bs _ keys gets) _ bs keys gets small st.1.1.0 (high_data to dt) (omega arith) refl refl refl refl refl)))
+        (ends (to + 1) (at + 10) (view _ x y _ v i _ c ((((((at + 2) % 65536) + 3) % 65536) + 2) % 65536) bs _ keys gets) _ bs keys gets small st.1.1.0 dt.1 (omega arith) refl refl refl refl refl)))
 
     -- a byte added to one, C clear before, and then one with that carry
     adds_low : (to from : ℕ) → at + 10 ≤ highest_code → is_data from ≡ true → is_data to ≡ true → Stands f.code at (ins 0x18 0 ∷ ins 0xAD to ∷ ins 0x6D from ∷ ins 0x8D to ∷ []) → Moves f (Here at bs m keys gets) (Carrying (at + 10) bs (with_byte m to ((m to + m from + 0) % 256)) keys gets (nat_lt 255 (m to + m from + 0))) [] 4

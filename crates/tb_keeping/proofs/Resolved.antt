@@ -6,7 +6,7 @@ use Rattle.tb_reaching.proofs.Instr.{Instr, ins, Stands, instr_bytes}
 use Rattle.tb_words.specs.Words.{word}
 use Rattle.tb_lower.specs.Control.{has_line, highest}
 use Rattle.tb_lower.specs.Slots as slots
-use Rattle.tb_runtime16.specs.Places.{POINTER, LINE, LEFT, RESULT, TABLE, COUNT, LENGTH, SEND_AT, TEXT_AT, ZONE_AT, INPUT_AT, SEARCH_AT, PUSH_AT, POP_AT, FAULT_AT, POLL_AT}
+use Rattle.tb_runtime16.specs.Places.{POINTER, LEFT, RESULT, TABLE, COUNT, LENGTH, SEND_AT, TEXT_AT, ZONE_AT, INPUT_AT, SEARCH_AT, PUSH_AT, POP_AT, FAULT_LINE_AT, POLL_AT}
 use Rattle.tb_templates.specs.Templates.{var_at, slot_at}
 use Rattle.tb_runtime16.specs.Laws.{AllBytes}
 use Rattle.tb_keeping.specs.Layout.{Layout, next_at}
@@ -55,18 +55,18 @@ abbrev pub pieces_size : List Piece → ℕ
 pieces_size [] = 0
 pieces_size (p ∷ ps) = piece_size p + pieces_size ps
 
--- fault k at the line that is executed
-abbrev pub faulting : ℕ → List Instr
-faulting k = ins 0xA9 k ∷ ins 0x4C FAULT_AT ∷ []
+-- fault k at line n
+abbrev pub faulting : ℕ → ℕ → List Instr
+faulting n k = ins 0xA2 (n % 256) ∷ ins 0xA0 (n / 256) ∷ ins 0xA9 k ∷ ins 0x4C FAULT_LINE_AT ∷ []
 
--- a jump to a line's number, by whether there is such a line
-abbrev pub jump_to : Layout → Bool → ℕ → List Piece
-jump_to ly true target = Code (jump (ly.start target)) ∷ []
-jump_to ly false target = Code (faulting 1) ∷ []
+-- a jump from line n to a line's number, by whether there is such a line
+abbrev pub jump_to : Layout → ℕ → Bool → ℕ → List Piece
+jump_to ly n true target = Code (jump (ly.start target)) ∷ []
+jump_to ly n false target = Code (faulting n 1) ∷ []
 
 abbrev pub call_to : Layout → ℕ → Bool → ℕ → List Piece
 call_to ly n true target = Code (constant (next_at ly n) LEFT) ∷ Code (call PUSH_AT) ∷ Code (jump (ly.start target)) ∷ []
-call_to ly n false target = Code (faulting 1) ∷ []
+call_to ly n false target = Code (faulting n 1) ∷ []
 
 -- the code of an instruction of line n, at an address
 abbrev pub template : Layout → ℕ → ℕ → slots.Instr → List Piece
@@ -86,7 +86,7 @@ template ly n at (slots.LeaveUnless rel) = []
 template ly n at slots.Jump = []
 template ly n at slots.Call = []
 template ly n at slots.Return = Code (call POP_AT) ∷ Code jump_through ∷ []
-template ly n at (slots.JumpTo target) = jump_to ly (has_line ly.numbers target) target
+template ly n at (slots.JumpTo target) = jump_to ly n (has_line ly.numbers target) target
 template ly n at (slots.CallTo target) = call_to ly n (has_line ly.numbers target) target
 template ly n at slots.Poll = Code (call POLL_AT) ∷ []
 template ly n at slots.End = Code (ins 0x60 0 ∷ []) ∷ []
@@ -105,7 +105,7 @@ Lies code at [] = Unit {0}
 Lies code at (p ∷ ps) = (at + piece_size p ≤ highest_code) × PieceLies code at p × Lies code (at + piece_size p) ps
 
 abbrev pub past_code : Layout → List Piece
-past_code ly = Code (constant (highest ly.numbers) LINE) ∷ Code (faulting 7) ∷ []
+past_code ly = Code (faulting (highest ly.numbers) 7) ∷ []
 
 abbrev pub locate_code : Layout → List Piece
 locate_code ly = Code (constant ly.table TABLE) ∷ Code (constant (length ly.numbers) COUNT) ∷ Code (jump SEARCH_AT) ∷ []

@@ -2,7 +2,7 @@
 use crate::setup::{Call, Called, ROMS, plain};
 use std::alloc::Global;
 use std::test::Fail;
-use tb_runtime16::{LEFT, LINE, NOTE_LIST, NOTES, Routine};
+use tb_runtime16::{LEFT, LINE, NOTE_HIGH, NOTE_LOW, NOTES, Routine};
 use tb_words::next_seed;
 
 // The most notes.
@@ -13,11 +13,14 @@ fn note_of(number: u16) -> u16 {
     next_seed(number)
 }
 
-// The bytes of a full list.
+// What stands from the first note's low byte to the last one's high byte, where the list is full.
 fn full_list(alloc: Global) -> Result<Vec<u8>, Fail> {
     let mut bytes = Vec::new(alloc);
+    for place in 0..NOTE_HIGH - NOTE_LOW {
+        bytes.push(note_of(place).to_le_bytes()[0])?;
+    }
     for number in 0..MOST {
-        bytes.extend_from_slice(&note_of(number).to_le_bytes())?;
+        bytes.push(note_of(number).to_le_bytes()[1])?;
     }
     Ok(bytes)
 }
@@ -33,7 +36,7 @@ fn call_with(
     Call {
         words: &[(LEFT, 0x1234), (NOTES, count), (LINE, 10)],
         loaded: list,
-        at: NOTE_LIST,
+        at: NOTE_LOW,
         ..plain(routine)
     }
     .run(alloc, rom)
@@ -41,16 +44,17 @@ fn call_with(
 
 // Whether all notes of the full list but one stand as they were, and that one is this.
 fn holds_list(called: &Called, but: Option<(u16, u16)>) -> Result<bool, Fail> {
-    let mut place = NOTE_LIST;
+    let memory = called.machine.memory();
     for number in 0..MOST {
         let note = match but {
             Some((at, note)) if at == number => note,
             _ => note_of(number),
         };
-        if called.word(place)? != note {
+        let low = memory.read(NOTE_LOW.saturating_add(number))?;
+        let high = memory.read(NOTE_HIGH.saturating_add(number))?;
+        if u16::from_le_bytes([low, high]) != note {
             return Ok(false);
         }
-        place = place.saturating_add(2);
     }
     Ok(true)
 }

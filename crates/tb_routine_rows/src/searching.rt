@@ -2,7 +2,7 @@
 use crate::setup::{Call, Called, PROGRAM, ROMS, plain};
 use std::alloc::Global;
 use std::test::Fail;
-use tb_runtime16::{COUNT, LEFT, LINE, Routine, TABLE};
+use tb_runtime16::{COUNT, LINE, Routine, TABLE, WANTED};
 use tb_words::next_seed;
 
 // The address of a line's code, if it is one of 10, 20, up to ten times the count.
@@ -28,7 +28,12 @@ fn search(
     number: u16,
 ) -> Result<Called, Fail> {
     Call {
-        words: &[(LEFT, number), (TABLE, PROGRAM), (COUNT, count), (LINE, 10)],
+        words: &[
+            (WANTED, number),
+            (TABLE, PROGRAM),
+            (COUNT, count),
+            (LINE, 10),
+        ],
         loaded: table,
         ..plain(Routine::Search)
     }
@@ -45,7 +50,7 @@ fn is_found(
 ) -> Result<bool, Fail> {
     let called = search(alloc, rom, table, count, number)?;
     match address_of(number, count) {
-        Some(address) => Ok(called.gives(address)? && called.word(LEFT)? == number),
+        Some(address) => Ok(called.gives(address)? && called.word(WANTED)? == number),
         None => called.faults(alloc, b"", 1),
     }
 }
@@ -67,7 +72,7 @@ fn finds_lines(alloc: Global, rom: Option<u16>, count: u16) -> Result<bool, Fail
 #[test]
 fn search_finds_what_is_there(rt: HostRuntime) -> Result<(), Fail> {
     for rom in ROMS {
-        for count in [1, 2, 3, 4, 5, 1000] {
+        for count in [1, 2, 3, 4, 5, 63, 64, 65, 1000] {
             assert!(rt; finds_lines(rt.alloc(), rom, count)?, "{count}");
         }
     }

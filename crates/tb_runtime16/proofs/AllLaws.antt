@@ -9,7 +9,7 @@ use Rattle.tb_kernal.specs.Machine.{first_or_zero}
 use Rattle.tb_words.specs.Words.{word, magnitude, quotient, digits_of, seed_after}
 use Rattle.tb_lower.specs.Control.{fault_text, zone, column_after, has_line}
 use Rattle.tb_lower.specs.Input.{Got, Bad, Dry, Nothing, turn}
-use Rattle.tb_runtime16.specs.Places.{POINTER, COLUMN, OPEN, SEEDED, HOME_S, SEED, LINE, NOTES, LEFT, RIGHT, RESULT, TABLE, COUNT, LENGTH, NOTE_LIST, SEND_AT, MULTIPLY_AT, DIVIDE_AT, RANDOM_AT, NUMBER_AT, TEXT_AT, ZONE_AT, INPUT_AT, SEARCH_AT, PUSH_AT, POP_AT, FAULT_LINE_AT, FAULT_AT, POLL_AT}
+use Rattle.tb_runtime16.specs.Places.{POINTER, COLUMN, OPEN, SEEDED, HOME_S, SEED, LINE, NOTES, LEFT, RIGHT, RESULT, TABLE, WANTED, COUNT, LENGTH, SEND_AT, MULTIPLY_AT, DIVIDE_AT, RANDOM_AT, NUMBER_AT, TEXT_AT, ZONE_AT, INPUT_AT, SEARCH_AT, PUSH_AT, POP_AT, FAULT_LINE_AT, FAULT_AT, POLL_AT}
 use Rattle.tb_reaching.specs.View.{View, Setup, Holds, Fits, Comes, view, back_at, Bytes}
 use Rattle.tb_reaching.specs.Start.{IsHome, IsWaiting}
 use Rattle.tb_reaching.proofs.Comes.{looser}
@@ -19,10 +19,10 @@ use Rattle.tb_runtime16.specs.Laws.{AllBytes, IsWord}
 use Rattle.tb_runtime16.specs.Laws as laws
 use Rattle.tb_runtime16.specs.Input as asking
 use Rattle.tb_runtime16.specs.Input.{prompt}
-use Rattle.tb_runtime16.specs.Notes.{Held, Notes, Faulted}
+use Rattle.tb_runtime16.specs.Notes.{Noted, Notes, Faulted}
 use Rattle.tb_runtime16.specs.Notes as listed
 use Rattle.tb_runtime16.specs.Search.{search_changes, Shows, table_bytes, address_of, Searched, Found}
-use Rattle.tb_runtime16.specs.Routines.{WordAt, is_owned, Noted, SeedAt, stored, first, Entered, Here, WithA, WithLine, Moves, Waiting, Back, Gives, Parts, Told, Popped, Pushed, Drawn, Asked, line_end, Tabled, entries, limit_by, AllLaws}
+use Rattle.tb_runtime16.specs.Routines.{WordAt, is_owned, SeedAt, stored, first, Entered, Here, WithA, WithLine, Moves, Waiting, Back, Gives, Parts, Told, Popped, Pushed, Drawn, Asked, line_end, Tabled, entries, limit_by, AllLaws}
 use Rattle.tb_runtime16.proofs.Gathered.{value, small_bytes, holds_word, from_here, from_a, from_line, beside, AtFault, told, faulting, number_column, entries_length, found, not_found}
 use Rattle.tb_runtime16.proofs.SendRuns.{send_law}
 use Rattle.tb_runtime16.proofs.TextRuns.{text_law}
@@ -63,16 +63,8 @@ not_pointer : (a : ℕ) → is_owned a ≡ true → (a ≢ POINTER) × (a ≢ PO
 not_pointer a h = ((λ e. grind (arith, nat_tests)), (λ e. grind (arith, nat_tests)), (λ e. grind (arith, nat_tests)))
 
 -- ---- the return list
-held : (m : ℕ → ℕ) (ns : List ℕ) → Noted m ns → Held m ns
-held m [] h = tt
-held m (n ∷ ns) h = (small_bytes m (NOTE_LIST + 2 * length ns) n h.0, value m (NOTE_LIST + 2 * length ns) n h.0, held m ns h.1)
-
-noted : (m : ℕ → ℕ) (ns : List ℕ) → Held m ns → Noted m ns
-noted m [] h = tt
-noted m (n ∷ ns) h = (holds_word m (NOTE_LIST + 2 * length ns) n h.0 h.1, noted m ns h.2)
-
 notes_of : (m : ℕ → ℕ) (ns : List ℕ) → WordAt m NOTES (length ns) → Noted m ns → length ns ≤ 500 → Notes m ns
-notes_of m ns w h few = record { is_word = small_bytes m NOTES _ w; count = value m NOTES _ w; few = few; held = held m ns h }
+notes_of m ns w h few = record { is_word = small_bytes m NOTES _ w; count = value m NOTES _ w; few = few; noted = h }
 
 -- ---- INPUT
 -- a byte is no more than one
@@ -107,12 +99,12 @@ module _ (table seed_option : ℕ) (numbers : List ℕ) (start : ℕ → ℕ) (f
   abbrev own : List ℕ
   own = lo ∷ hi ∷ []
 
-  searches : (l h : ℕ) (m : ℕ → ℕ) (text answers : List ℕ) (n : ℕ) → WordAt m LEFT n → WordAt m TABLE table → WordAt m COUNT (length numbers) → (x y z : ℕ) (b v i c d : Bool) → Comes (under f own) (view x y z b v i c d SEARCH_AT (l ∷ h ∷ []) m text answers) (Searched l h m text answers (address_of (word_in m LEFT) (entries start numbers))) [] 600
+  searches : (l h : ℕ) (m : ℕ → ℕ) (text answers : List ℕ) (n : ℕ) → WordAt m WANTED n → WordAt m TABLE table → WordAt m COUNT (length numbers) → (x y z : ℕ) (b v i c d : Bool) → Comes (under f own) (view x y z b v i c d SEARCH_AT (l ∷ h ∷ []) m text answers) (Searched l h m text answers (address_of (word_in m WANTED) (entries start numbers))) [] 510
   searches l h m text answers n left at count x y z b v i c d =
       let t = value m TABLE table at in
       let s = value m COUNT (length numbers) count in
       let size = entries_length start numbers in
-      search_law (under f own) (omega (arith, fits)) block l h text answers m x y z b v i c d (entries start numbers) (small_bytes m LEFT n left) (small_bytes m TABLE table at) (small_bytes m COUNT _ count)
+      search_law (under f own) (omega (arith, fits)) block l h text answers m x y z b v i c d (entries start numbers) (small_bytes m WANTED n left) (small_bytes m TABLE table at) (small_bytes m COUNT _ count)
       (subst (λ p. Shows f.code p (table_bytes (entries start numbers))) (sym t) laid.shown) (omega (arith, t, laid.from)) (omega (arith, t, size, laid.to)) (omega (arith, s, size)) (omega (arith, size, laid.some)) laid.rising laid.words
 
   asks : (l h : ℕ) (m : ℕ → ℕ) (text answers : List ℕ) (o : Bool) (j : ℕ) → m OPEN ≡ bit o → m COLUMN < 256 → AllBytes text → WordAt m LINE j → Entered f lo hi m → (x y z : ℕ) (n b i c d : Bool) → Comes f (view x y z n b i c d INPUT_AT (l ∷ h ∷ own) m text answers) (asking.Ended f l h own m answers (m COLUMN) (prompt o) (turn Nothing text)) (prompt o ++ asking.turn_sends (word_in m LINE) (turn Nothing text)) (45 * length text + 587)
@@ -192,25 +184,25 @@ module _ (table seed_option : ℕ) (numbers : List ℕ) (start : ℕ → ℕ) (f
       (send_law (under f own) (omega (arith, fits)) block l h text answers m b y z n v i c d small)
       (λ u k. record { pc = k.pc; stack = ap (λ s. s ++ own) k.stack_is; binary = k.binary; text = k.same_text; answers = k.same_answers; column = k.memory.column; others = λ p o q. k.memory.others p q }))
 
-  search_clause : (l h : ℕ) (m : ℕ → ℕ) (text answers : List ℕ) (n : ℕ) → WordAt m LEFT n → WordAt m TABLE table → WordAt m COUNT (length numbers) → has_line numbers n ≡ true →
+  search_clause : (l h : ℕ) (m : ℕ → ℕ) (text answers : List ℕ) (n : ℕ) → WordAt m WANTED n → WordAt m TABLE table → WordAt m COUNT (length numbers) → has_line numbers n ≡ true →
       Moves f (Here SEARCH_AT (l ∷ h ∷ lo ∷ hi ∷ []) m text answers) (Gives (back_at l h) (lo ∷ hi ∷ []) m text answers (start n)) [] (limit_by keys)
   search_clause l h m text answers n left at count is =
       from_here f _ _ m text answers _ [] (limit_by keys) (λ x y z b v i c d.
-      beside f own _ _ _ [] 600 (limit_by keys) (omega arith)
+      beside f own _ _ _ [] 510 (limit_by keys) (omega arith)
       (searches l h m text answers n left at count x y z b v i c d)
-      (λ u k. let g : Found l h m text answers (start n) u = subst (λ o. Searched l h m text answers o u) (ap (λ t. address_of t (entries start numbers)) (value m LEFT n left) ∙ found start numbers n is) k in
+      (λ u k. let g : Found l h m text answers (start n) u = subst (λ o. Searched l h m text answers o u) (ap (λ t. address_of t (entries start numbers)) (value m WANTED n left) ∙ found start numbers n is) k in
       record {
         back = record { pc = g.back.at; stack = ap (λ s. s ++ own) g.back.on_stack; binary = g.back.binary; text = g.back.same_text; answers = g.back.same_answers; others = λ p o. g.back.others p (not_searched p o) };
         result = holds_word u.mem RESULT (start n) g.is_word g.result;
       }))
 
-  search_fails_clause : (l h : ℕ) (m : ℕ → ℕ) (text answers : List ℕ) (n at : ℕ) → WordAt m LEFT n → WordAt m TABLE table → WordAt m COUNT (length numbers) → has_line numbers n ≡ false → WordAt m LINE at → Entered f lo hi m →
+  search_fails_clause : (l h : ℕ) (m : ℕ → ℕ) (text answers : List ℕ) (n at : ℕ) → WordAt m WANTED n → WordAt m TABLE table → WordAt m COUNT (length numbers) → has_line numbers n ≡ false → WordAt m LINE at → Entered f lo hi m →
       Moves f (Here SEARCH_AT (l ∷ h ∷ lo ∷ hi ∷ []) m text answers) (IsHome f) (fault_text 1 at) (limit_by keys)
   search_fails_clause l h m text answers n j left at count none line e =
       from_here f _ _ m text answers _ (fault_text 1 j) (limit_by keys) (λ x y z b v i c d.
-      faulting f lo hi fits block l h 1 (let s : 1 < 10 = omega arith in s) m text answers j line e _ _ 600 (limit_by keys) (omega arith)
+      faulting f lo hi fits block l h 1 (let s : 1 < 10 = omega arith in s) m text answers j line e _ _ 510 (limit_by keys) (omega arith)
       (searches l h m text answers n left at count x y z b v i c d)
-      (λ u k. let g : Faulted 1 l h search_changes m text answers u = subst (λ o. Searched l h m text answers o u) (ap (λ t. address_of t (entries start numbers)) (value m LEFT n left) ∙ not_found start numbers n none) k in
+      (λ u k. let g : Faulted 1 l h search_changes m text answers u = subst (λ o. Searched l h m text answers o u) (ap (λ t. address_of t (entries start numbers)) (value m WANTED n left) ∙ not_found start numbers n none) k in
       record { pc = g.ended.at; stack = g.ended.on_stack; binary = g.ended.binary; text = g.ended.same_text; answers = g.ended.same_answers; number = g.told; line = (g.ended.others LINE refl, g.ended.others (LINE + 1) refl); home_s = g.ended.others HOME_S refl }))
 
   fault_clause : (k : ℕ) → k < 10 → (m : ℕ → ℕ) (text answers : List ℕ) (n : ℕ) → WordAt m LINE n → Entered f lo hi m →
@@ -232,7 +224,7 @@ module _ (table seed_option : ℕ) (numbers : List ℕ) (start : ℕ → ℕ) (f
       Moves f (Here POP_AT (l ∷ h ∷ lo ∷ hi ∷ []) m text answers) (Popped (back_at l h) (lo ∷ hi ∷ []) m text answers (length notes) note) [] (limit_by keys)
   pop_clause l h m text answers note notes count is few =
       from_here f _ _ m text answers _ [] (limit_by keys) (λ x y z n v i c d.
-      beside f own _ _ _ [] 23 (limit_by keys) (omega arith)
+      beside f own _ _ _ [] 14 (limit_by keys) (omega arith)
       (pop_law (under f own) (omega (arith, fits)) block l h text answers m x y z n v i c d note notes (notes_of m (note ∷ notes) count is few))
       (λ u k. record { pc = k.back.at; stack = ap (λ s. s ++ own) k.back.on_stack; binary = k.back.binary; text = k.back.same_text; answers = k.back.same_answers; result = holds_word u.mem RESULT note k.is_word k.result; count = holds_word u.mem NOTES (length notes) k.notes.is_word k.notes.count; others = λ p o q r. k.back.others p (not_popped p o q r) }))
 
@@ -277,10 +269,10 @@ module _ (table seed_option : ℕ) (numbers : List ℕ) (start : ℕ → ℕ) (f
       Moves f (Here PUSH_AT (l ∷ h ∷ lo ∷ hi ∷ []) m text answers) (Pushed (back_at l h) (lo ∷ hi ∷ []) m text answers (note ∷ notes)) [] (limit_by keys)
   push_clause l h m text answers note notes left count is few =
       from_here f _ _ m text answers _ [] (limit_by keys) (λ x y z n v i c d.
-      beside f own _ _ _ [] 25 (limit_by keys) (omega arith)
-      (subst (λ j. Comes (under f own) (view x y z n v i c d PUSH_AT (l ∷ h ∷ []) m text answers) (listed.Pushed l h m text answers (j ∷ notes)) [] 25) (value m LEFT note left)
+      beside f own _ _ _ [] 13 (limit_by keys) (omega arith)
+      (subst (λ j. Comes (under f own) (view x y z n v i c d PUSH_AT (l ∷ h ∷ []) m text answers) (listed.Pushed l h m text answers (j ∷ notes)) [] 13) (value m LEFT note left)
       (push_law (under f own) (omega (arith, fits)) block l h text answers m x y z n v i c d notes (small_bytes m LEFT note left) (notes_of m notes count is (omega (arith, few))) few))
-      (λ u k. record { pc = k.back.at; stack = ap (λ s. s ++ own) k.back.on_stack; binary = k.back.binary; text = k.back.same_text; answers = k.back.same_answers; result = k.back.others RESULT refl; result_high = k.back.others (RESULT + 1) refl; count = holds_word u.mem NOTES (length (note ∷ notes)) k.notes.is_word k.notes.count; noted = noted u.mem (note ∷ notes) k.notes.held; others = λ p from to q r. k.back.others p (not_pushed p from to q r) }))
+      (λ u k. record { pc = k.back.at; stack = ap (λ s. s ++ own) k.back.on_stack; binary = k.back.binary; text = k.back.same_text; answers = k.back.same_answers; result = k.back.others RESULT refl; result_high = k.back.others (RESULT + 1) refl; count = holds_word u.mem NOTES (length (note ∷ notes)) k.notes.is_word k.notes.count; noted = k.notes.noted; others = λ p from to q r. k.back.others p (not_pushed p from to q r) }))
 
   push_fails_clause : (l h : ℕ) (m : ℕ → ℕ) (text answers notes : List ℕ) (n : ℕ) → WordAt m NOTES (length notes) → Noted m notes → length notes ≡ 500 → WordAt m LINE n → Entered f lo hi m →
       Moves f (Here PUSH_AT (l ∷ h ∷ lo ∷ hi ∷ []) m text answers) (IsHome f) (fault_text 4 n) (limit_by keys)

@@ -34,16 +34,16 @@ abbrev pub negated_high : ℕ → ℕ → ℕ
 negated_high l h = (0 + 256 - (h + bit (not (nat_le (l + 0) 0)))) % 256
 
 abbrev pub negated_left : (ℕ → ℕ) → ℕ → ℕ
-negated_left w = with_byte (with_byte w LEFT (negated_low (w LEFT))) 0xc063 (negated_high (w LEFT) (w 0xc063))
+negated_left w = with_byte (with_byte w LEFT (negated_low (w LEFT))) 0xfc (negated_high (w LEFT) (w 0xfc))
 
 abbrev negated_right : (ℕ → ℕ) → ℕ → ℕ
-negated_right w = with_byte (with_byte w RIGHT (negated_low (w RIGHT))) 0xc065 (negated_high (w RIGHT) (w 0xc065))
+negated_right w = with_byte (with_byte w RIGHT (negated_low (w RIGHT))) 0xfe (negated_high (w RIGHT) (w 0xfe))
 
 left_frame : (m w : ℕ → ℕ) → Frame m w → Frame m (negated_left w)
-left_frame m w h = frame_put m (with_byte w LEFT (negated_low (w LEFT))) 0xc063 (negated_high (w LEFT) (w 0xc063)) refl (frame_put m w LEFT (negated_low (w LEFT)) refl h)
+left_frame m w h = frame_put m (with_byte w LEFT (negated_low (w LEFT))) 0xfc (negated_high (w LEFT) (w 0xfc)) refl (frame_put m w LEFT (negated_low (w LEFT)) refl h)
 
 right_frame : (m w : ℕ → ℕ) → Frame m w → Frame m (negated_right w)
-right_frame m w h = frame_put m (with_byte w RIGHT (negated_low (w RIGHT))) 0xc065 (negated_high (w RIGHT) (w 0xc065)) refl (frame_put m w RIGHT (negated_low (w RIGHT)) refl h)
+right_frame m w h = frame_put m (with_byte w RIGHT (negated_low (w RIGHT))) 0xfe (negated_high (w RIGHT) (w 0xfe)) refl (frame_put m w RIGHT (negated_low (w RIGHT)) refl h)
 
 bytes_negated : (l h : ℕ) → (negated_low l < 256) × (negated_high l h < 256)
 bytes_negated l h = (byte_of (0 + 256 - (l + 0)), byte_of (0 + 256 - (h + bit (not (nat_le (l + 0) 0)))))
@@ -56,24 +56,24 @@ pub record Turned (m0 : ℕ → ℕ) (q : ℕ) (m : ℕ → ℕ) : Type 0 where
 
 pub turned : (m : ℕ → ℕ) → IsWord m LEFT → Turned m (negated (word_in m LEFT)) (negated_left m)
 turned m k = record {
-  is_word = bytes_negated (m LEFT) (m 0xc063);
-  value = taken_from_zero (m LEFT) (m 0xc063) k.0 k.1;
+  is_word = bytes_negated (m LEFT) (m 0xfc);
+  value = taken_from_zero (m LEFT) (m 0xfc) k.0 k.1;
   others = left_frame m m (λ a e. refl);
 }
 
 -- the same behind a division
 divided_negated : (m w : ℕ → ℕ) (q r : ℕ) → Divided m q r w → Divided m (negated q) r (negated_left w)
 divided_negated m w q r h = record {
-  left_is = bytes_negated (w LEFT) (w 0xc063);
-  left = taken_from_zero (w LEFT) (w 0xc063) h.left_is.0 h.left_is.1 ∙ ap negated h.left;
+  left_is = bytes_negated (w LEFT) (w 0xfc);
+  left = taken_from_zero (w LEFT) (w 0xfc) h.left_is.0 h.left_is.1 ∙ ap negated h.left;
   result_is = h.result_is;
   result = h.result;
   others = left_frame m w h.others;
 }
 
 module _ (f : Setup) (fits : Fits f 2) (block : Holds block_part f.code) (lo hi : ℕ) (text answers : List ℕ) where
-  negate_return : (a x y : ℕ) (n v i z c : Bool) (w : ℕ → ℕ) (q : (ℕ → ℕ) → Type 0) → q w → Comes f (view a x y n v i z c (DIVIDE_AT + 43) (lo ∷ hi ∷ []) w text answers) (Back lo hi text answers q) [] 1
-  negate_return a x y n v i z c w q h = ending f 2 fits divide_part (divide_in f.code block) 0 (view a x y n v i z c (DIVIDE_AT + 43) (lo ∷ hi ∷ []) w text answers) _ refl
+  negate_return : (a x y : ℕ) (n v i z c : Bool) (w : ℕ → ℕ) (q : (ℕ → ℕ) → Type 0) → q w → Comes f (view a x y n v i z c (DIVIDE_AT + 36) (lo ∷ hi ∷ []) w text answers) (Back lo hi text answers q) [] 1
+  negate_return a x y n v i z c w q h = ending f 2 fits divide_part (divide_in f.code block) 0 (view a x y n v i z c (DIVIDE_AT + 36) (lo ∷ hi ∷ []) w text answers) _ refl
       (record { pc = refl; stack_is = refl; binary = refl; same_text = refl; same_answers = refl; memory = h })
 
   pub negate_left : (a x y : ℕ) (n v i z c : Bool) (w : ℕ → ℕ) (q : (ℕ → ℕ) → Type 0) → q (negated_left w) → Comes f (view a x y n v i z c negate_left_at (lo ∷ hi ∷ []) w text answers) (Back lo hi text answers q) [] 9
@@ -86,7 +86,7 @@ module _ (f : Setup) (fits : Fits f 4) (block : Holds block_part f.code) (lo hi 
   abbrev Parts : (ℕ → ℕ) → Type 0
   Parts = Divided m (with_sign (is_negative (word_in m RIGHT)) (word_in m LEFT / magnitude (word_in m RIGHT))) (word_in m LEFT % magnitude (word_in m RIGHT))
 
-  by_unsigned : (a x y : ℕ) (n v i z c : Bool) (w : ℕ → ℕ) → is_negative (word_in m RIGHT) ≡ true → IsWord w LEFT → word_in w LEFT ≡ word_in m LEFT → IsWord w RIGHT → word_in w RIGHT ≡ negated (word_in m RIGHT) → Frame m w → Comes f (view a x y n v i z c unsigned_at ((DIVIDE_AT + 56) % 256 ∷ (DIVIDE_AT + 56) / 256 ∷ lo ∷ hi ∷ []) w text answers) (Back lo hi text answers Parts) [] (268 + 10)
+  by_unsigned : (a x y : ℕ) (n v i z c : Bool) (w : ℕ → ℕ) → is_negative (word_in m RIGHT) ≡ true → IsWord w LEFT → word_in w LEFT ≡ word_in m LEFT → IsWord w RIGHT → word_in w RIGHT ≡ negated (word_in m RIGHT) → Frame m w → Comes f (view a x y n v i z c unsigned_at ((DIVIDE_AT + 48) % 256 ∷ (DIVIDE_AT + 48) / 256 ∷ lo ∷ hi ∷ []) w text answers) (Back lo hi text answers Parts) [] (268 + 10)
   by_unsigned a x y n v i z c w t wl le wr re h =
       let l = word_in m LEFT in
       let d = word_in m RIGHT in
@@ -95,10 +95,10 @@ module _ (f : Setup) (fits : Fits f 4) (block : Holds block_part f.code) (lo hi 
       let least : 1 ≤ word_in w RIGHT = omega (arith, big, wide, re) in
       let most : word_in w RIGHT ≤ 32768 = omega (arith, big, wide, re) in
       let size : word_in w RIGHT ≡ magnitude d = re ∙ negated_size d wide t in
-      calls f (lo ∷ hi ∷ []) a x y n v i z c unsigned_at ((DIVIDE_AT + 56) % 256) ((DIVIDE_AT + 56) / 256) w text answers _ _ [] [] 268 10
-      (unsigned_law (under f (lo ∷ hi ∷ [])) (omega (arith, fits)) block ((DIVIDE_AT + 56) % 256) ((DIVIDE_AT + 56) / 256) text answers w a x y n v i z c wl wr least most)
-      (λ a x y n v i z c u g. subst (λ q0. Comes f (view a x y n v i z c (DIVIDE_AT + 57) (lo ∷ hi ∷ []) u text answers) (Back lo hi text answers (Divided m q0 (l % magnitude d))) [] 10) (sym (with_sign_negative d l small t))
-      (after f 4 fits divide_part (divide_in f.code block) 0 (view a x y n v i z c (DIVIDE_AT + 57) (lo ∷ hi ∷ []) u text answers) _ _ 9 refl
+      calls f (lo ∷ hi ∷ []) a x y n v i z c unsigned_at ((DIVIDE_AT + 48) % 256) ((DIVIDE_AT + 48) / 256) w text answers _ _ [] [] 268 10
+      (unsigned_law (under f (lo ∷ hi ∷ [])) (omega (arith, fits)) block ((DIVIDE_AT + 48) % 256) ((DIVIDE_AT + 48) / 256) text answers w a x y n v i z c wl wr least most)
+      (λ a x y n v i z c u g. subst (λ q0. Comes f (view a x y n v i z c (DIVIDE_AT + 49) (lo ∷ hi ∷ []) u text answers) (Back lo hi text answers (Divided m q0 (l % magnitude d))) [] 10) (sym (with_sign_negative d l small t))
+      (after f 4 fits divide_part (divide_in f.code block) 0 (view a x y n v i z c (DIVIDE_AT + 49) (lo ∷ hi ∷ []) u text answers) _ _ 9 refl
       (negate_left f (omega (arith, fits)) block lo hi text answers a x y n v i z c u _ (divided_negated m u (l / magnitude d) (l % magnitude d)
       (record {
         left_is = g.left_is;
@@ -108,24 +108,24 @@ module _ (f : Setup) (fits : Fits f 4) (block : Holds block_part f.code) (lo hi 
         others = frame_then m w u h g.others;
       })))))
 
-  by_negative : (a x y : ℕ) (n v i z c : Bool) → is_negative (word_in m RIGHT) ≡ true → Comes f (view a x y n v i z c (DIVIDE_AT + 49) (lo ∷ hi ∷ []) m text answers) (Back lo hi text answers Parts) [] (11 + (268 + 10))
+  by_negative : (a x y : ℕ) (n v i z c : Bool) → is_negative (word_in m RIGHT) ≡ true → Comes f (view a x y n v i z c (DIVIDE_AT + 41) (lo ∷ hi ∷ []) m text answers) (Back lo hi text answers Parts) [] (11 + (268 + 10))
   by_negative a x y n v i z c t =
-      after f 4 fits divide_part (divide_in f.code block) 10 (view a x y n v i z c (DIVIDE_AT + 49) (lo ∷ hi ∷ []) m text answers) _ _ (268 + 10) refl
-      (by_unsigned _ _ _ _ _ _ _ _ (negated_right m) t p refl (bytes_negated (m RIGHT) (m 0xc065)) (taken_from_zero (m RIGHT) (m 0xc065) q.0 q.1) (right_frame m m (λ a e. refl)))
+      after f 4 fits divide_part (divide_in f.code block) 10 (view a x y n v i z c (DIVIDE_AT + 41) (lo ∷ hi ∷ []) m text answers) _ _ (268 + 10) refl
+      (by_unsigned _ _ _ _ _ _ _ _ (negated_right m) t p refl (bytes_negated (m RIGHT) (m 0xfe)) (taken_from_zero (m RIGHT) (m 0xfe) q.0 q.1) (right_frame m m (λ a e. refl)))
 
-  by : (a x y : ℕ) (n v i z c : Bool) → Comes f (view a x y n v i z c (DIVIDE_AT + 44) (lo ∷ hi ∷ []) m text answers) (Back lo hi text answers Parts) [] 291
+  by : (a x y : ℕ) (n v i z c : Bool) → Comes f (view a x y n v i z c (DIVIDE_AT + 37) (lo ∷ hi ∷ []) m text answers) (Back lo hi text answers Parts) [] 291
   by a x y n v i z c =
       let l = word_in m LEFT in
       let d = word_in m RIGHT in
-      let s = sign_of (m RIGHT) (m 0xc065) q.0 q.1 in
+      let s = sign_of (m RIGHT) (m 0xfe) q.0 q.1 in
       ⊎_elim
-      (λ t. let b : eqb (m 0xc065 / 128 % 2) 1 ≡ true = s ∙ t in
-      after f 4 fits divide_part (divide_in f.code block) 1 (view a x y n v i z c (DIVIDE_AT + 44) (lo ∷ hi ∷ []) m text answers) _ _ (11 + (268 + 10)) refl
+      (λ t. let b : eqb (m 0xfe / 128 % 2) 1 ≡ true = s ∙ t in
+      after f 4 fits divide_part (divide_in f.code block) 1 (view a x y n v i z c (DIVIDE_AT + 37) (lo ∷ hi ∷ []) m text answers) _ _ (11 + (268 + 10)) refl
       (rw b (by_negative _ _ _ _ _ _ _ _ t)))
-      (λ t. let b : eqb (m 0xc065 / 128 % 2) 1 ≡ false = s ∙ t in
+      (λ t. let b : eqb (m 0xfe / 128 % 2) 1 ≡ false = s ∙ t in
       let below = sign_none d t in
       looser f _ _ _ [] (2 + 268) 291 (omega arith) (λ w h. h)
-      (after f 4 fits divide_part (divide_in f.code block) 1 (view a x y n v i z c (DIVIDE_AT + 44) (lo ∷ hi ∷ []) m text answers) _ _ 268 refl
+      (after f 4 fits divide_part (divide_in f.code block) 1 (view a x y n v i z c (DIVIDE_AT + 37) (lo ∷ hi ∷ []) m text answers) _ _ 268 refl
       (rw b (back_looser f _ lo hi text answers _ _ [] 268 268 (omega arith) (unsigned_law f (omega (arith, fits)) block lo hi text answers m _ _ _ _ _ _ _ _ p q some (omega (arith, below)))
       (λ w h. record { left_is = h.left_is; left = h.left ∙ sym (with_sign_positive d l small t); result_is = h.result_is; result = h.result ∙ ap (λ r. l % r) (sym (magnitude_positive d t)); others = h.others })))))
       (sign_case (is_negative d))
@@ -135,7 +135,7 @@ module _ (f : Setup) (fits : Fits f 6) (block : Holds block_part f.code) (lo hi 
   abbrev Goal : (ℕ → ℕ) → Type 0
   Goal = Divided m (quotient (word_in m LEFT) (word_in m RIGHT)) (magnitude (word_in m LEFT) % magnitude (word_in m RIGHT))
 
-  signed_by : (a x y : ℕ) (n v i z c : Bool) (w : ℕ → ℕ) → is_negative (word_in m LEFT) ≡ true → IsWord w LEFT → word_in w LEFT ≡ negated (word_in m LEFT) → IsWord w RIGHT → word_in w RIGHT ≡ word_in m RIGHT → Frame m w → Comes f (view a x y n v i z c (DIVIDE_AT + 44) ((DIVIDE_AT + 23) % 256 ∷ (DIVIDE_AT + 23) / 256 ∷ lo ∷ hi ∷ []) w text answers) (Back lo hi text answers Goal) [] (291 + 9)
+  signed_by : (a x y : ℕ) (n v i z c : Bool) (w : ℕ → ℕ) → is_negative (word_in m LEFT) ≡ true → IsWord w LEFT → word_in w LEFT ≡ negated (word_in m LEFT) → IsWord w RIGHT → word_in w RIGHT ≡ word_in m RIGHT → Frame m w → Comes f (view a x y n v i z c (DIVIDE_AT + 37) ((DIVIDE_AT + 20) % 256 ∷ (DIVIDE_AT + 20) / 256 ∷ lo ∷ hi ∷ []) w text answers) (Back lo hi text answers Goal) [] (291 + 9)
   signed_by a x y n v i z c w t wl le wr re h =
       let l = word_in m LEFT in
       let d = word_in m RIGHT in
@@ -143,8 +143,8 @@ module _ (f : Setup) (fits : Fits f 6) (block : Holds block_part f.code) (lo hi 
       let wide : l < 65536 = omega (arith, p) in
       let most : negated l ≤ 32768 = omega (arith, big, wide) in
       let few : negated l / magnitude d ≤ 32768 = let s = div-le_self (negated l) (magnitude d) in omega (arith, s, most) in
-      calls f (lo ∷ hi ∷ []) a x y n v i z c (DIVIDE_AT + 44) ((DIVIDE_AT + 23) % 256) ((DIVIDE_AT + 23) / 256) w text answers _ _ [] [] 291 9
-      (by (under f (lo ∷ hi ∷ [])) (omega (arith, fits)) block ((DIVIDE_AT + 23) % 256) ((DIVIDE_AT + 23) / 256) text answers w wl wr (subst (λ r. r ≤ 32768) (sym le) most) (subst (λ r. 1 ≤ r) (sym re) some) a x y n v i z c)
+      calls f (lo ∷ hi ∷ []) a x y n v i z c (DIVIDE_AT + 37) ((DIVIDE_AT + 20) % 256) ((DIVIDE_AT + 20) / 256) w text answers _ _ [] [] 291 9
+      (by (under f (lo ∷ hi ∷ [])) (omega (arith, fits)) block ((DIVIDE_AT + 20) % 256) ((DIVIDE_AT + 20) / 256) text answers w wl wr (subst (λ r. r ≤ 32768) (sym le) most) (subst (λ r. 1 ≤ r) (sym re) some) a x y n v i z c)
       (λ a x y n v i z c u g. subst (λ q0. Comes f (view a x y n v i z c negate_left_at (lo ∷ hi ∷ []) u text answers) (Back lo hi text answers (Divided m q0 (magnitude l % magnitude d))) [] 9) (negated_sign (is_negative d) (negated l / magnitude d) few ∙ sym (quotient_negative l d wide t))
       (negate_left f (omega (arith, fits)) block lo hi text answers a x y n v i z c u _ (divided_negated m u (with_sign (is_negative d) (negated l / magnitude d)) (magnitude l % magnitude d)
       (record {
@@ -155,31 +155,31 @@ module _ (f : Setup) (fits : Fits f 6) (block : Holds block_part f.code) (lo hi 
         others = frame_then m w u h g.others;
       }))))
 
-  signed_negative : (a x y : ℕ) (n v i z c : Bool) → is_negative (word_in m LEFT) ≡ true → Comes f (view a x y n v i z c (DIVIDE_AT + 18) (lo ∷ hi ∷ []) m text answers) (Back lo hi text answers Goal) [] (11 + (291 + 9))
+  signed_negative : (a x y : ℕ) (n v i z c : Bool) → is_negative (word_in m LEFT) ≡ true → Comes f (view a x y n v i z c (DIVIDE_AT + 15) (lo ∷ hi ∷ []) m text answers) (Back lo hi text answers Goal) [] (11 + (291 + 9))
   signed_negative a x y n v i z c t =
-      after f 6 fits divide_part (divide_in f.code block) 10 (view a x y n v i z c (DIVIDE_AT + 18) (lo ∷ hi ∷ []) m text answers) _ _ (291 + 9) refl
-      (signed_by _ _ _ _ _ _ _ _ (negated_left m) t (bytes_negated (m LEFT) (m 0xc063)) (taken_from_zero (m LEFT) (m 0xc063) p.0 p.1) q refl (left_frame m m (λ a e. refl)))
+      after f 6 fits divide_part (divide_in f.code block) 10 (view a x y n v i z c (DIVIDE_AT + 15) (lo ∷ hi ∷ []) m text answers) _ _ (291 + 9) refl
+      (signed_by _ _ _ _ _ _ _ _ (negated_left m) t (bytes_negated (m LEFT) (m 0xfc)) (taken_from_zero (m LEFT) (m 0xfc) p.0 p.1) q refl (left_frame m m (λ a e. refl)))
 
-  signed : (a x y : ℕ) (n v i z c : Bool) → Comes f (view a x y n v i z c (DIVIDE_AT + 13) (lo ∷ hi ∷ []) m text answers) (Back lo hi text answers Goal) [] 313
+  signed : (a x y : ℕ) (n v i z c : Bool) → Comes f (view a x y n v i z c (DIVIDE_AT + 11) (lo ∷ hi ∷ []) m text answers) (Back lo hi text answers Goal) [] 313
   signed a x y n v i z c =
       let l = word_in m LEFT in
       let d = word_in m RIGHT in
-      let s = sign_of (m LEFT) (m 0xc063) p.0 p.1 in
+      let s = sign_of (m LEFT) (m 0xfc) p.0 p.1 in
       ⊎_elim
-      (λ t. let b : eqb (m 0xc063 / 128 % 2) 1 ≡ true = s ∙ t in
-      after f 6 fits divide_part (divide_in f.code block) 1 (view a x y n v i z c (DIVIDE_AT + 13) (lo ∷ hi ∷ []) m text answers) _ _ (11 + (291 + 9)) refl
+      (λ t. let b : eqb (m 0xfc / 128 % 2) 1 ≡ true = s ∙ t in
+      after f 6 fits divide_part (divide_in f.code block) 1 (view a x y n v i z c (DIVIDE_AT + 11) (lo ∷ hi ∷ []) m text answers) _ _ (11 + (291 + 9)) refl
       (rw b (signed_negative _ _ _ _ _ _ _ _ t)))
-      (λ t. let b : eqb (m 0xc063 / 128 % 2) 1 ≡ false = s ∙ t in
+      (λ t. let b : eqb (m 0xfc / 128 % 2) 1 ≡ false = s ∙ t in
       let below = sign_none l t in
       looser f _ _ _ [] (2 + 291) 313 (omega arith) (λ w h. h)
-      (after f 6 fits divide_part (divide_in f.code block) 1 (view a x y n v i z c (DIVIDE_AT + 13) (lo ∷ hi ∷ []) m text answers) _ _ 291 refl
+      (after f 6 fits divide_part (divide_in f.code block) 1 (view a x y n v i z c (DIVIDE_AT + 11) (lo ∷ hi ∷ []) m text answers) _ _ 291 refl
       (rw b (back_looser f _ lo hi text answers _ _ [] 291 291 (omega arith) (by f (omega (arith, fits)) block lo hi text answers m p q (omega (arith, below)) some _ _ _ _ _ _ _ _)
       (λ w h. record { left_is = h.left_is; left = h.left ∙ sym (quotient_positive l d t); result_is = h.result_is; result = h.result ∙ ap (λ r. r % magnitude d) (sym (magnitude_positive l t)); others = h.others })))))
       (sign_case (is_negative l))
 
   divide : (a x y : ℕ) (n v i z c : Bool) → Comes f (view a x y n v i z c DIVIDE_AT (lo ∷ hi ∷ []) m text answers) (Back lo hi text answers Goal) [] 316
   divide a x y n v i z c =
-      let b : eqb (bit_or (m RIGHT) (m 0xc065)) 0 ≡ false = ne_eqb _ _ (λ e. omega (arith, some, e, le_or_l (m RIGHT) (m 0xc065), le_or_r (m RIGHT) (m 0xc065))) in
+      let b : eqb (bit_or (m RIGHT) (m 0xfe)) 0 ≡ false = ne_eqb _ _ (λ e. omega (arith, some, e, le_or_l (m RIGHT) (m 0xfe), le_or_r (m RIGHT) (m 0xfe))) in
       after f 6 fits divide_part (divide_in f.code block) 2 (view a x y n v i z c DIVIDE_AT (lo ∷ hi ∷ []) m text answers) _ _ 313 refl
       (rw b (signed _ _ _ _ _ _ _ _))
 
@@ -188,8 +188,8 @@ divide_law f fits block lo hi text answers m a x y n v i z c p q some = divide f
 
 pub divide_by_zero_law : DivideByZeroLaw
 divide_by_zero_law f fits block lo hi text answers m a x y n v i z c e =
-    let none : (m RIGHT ≡ 0) × (m 0xc065 ≡ 0) = (omega (arith, e), omega (arith, e)) in
-    let b : eqb (bit_or (m RIGHT) (m 0xc065)) 0 ≡ true = eq-eqb _ _ (ap₂ bit_or none.0 none.1) in
+    let none : (m RIGHT ≡ 0) × (m 0xfe ≡ 0) = (omega (arith, e), omega (arith, e)) in
+    let b : eqb (bit_or (m RIGHT) (m 0xfe)) 0 ≡ true = eq-eqb _ _ (ap₂ bit_or none.0 none.1) in
     after f 2 fits divide_part (divide_in f.code block) 2 (view a x y n v i z c DIVIDE_AT (lo ∷ hi ∷ []) m text answers) _ _ 2 refl
-    (rw b (ending f 2 fits divide_part (divide_in f.code block) 1 (view _ _ _ _ _ _ _ _ (DIVIDE_AT + 8) (lo ∷ hi ∷ []) m text answers) _ refl
+    (rw b (ending f 2 fits divide_part (divide_in f.code block) 1 (view _ _ _ _ _ _ _ _ (DIVIDE_AT + 6) (lo ∷ hi ∷ []) m text answers) _ refl
     (record { pc = refl; stack = refl; binary = refl; same_text = refl; same_answers = refl; number = refl; memory = refl })))

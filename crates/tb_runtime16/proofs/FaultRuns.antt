@@ -40,20 +40,20 @@ module _ (f : Setup) (fits : Fits f 13) (block : Holds block_part f.code) (hlo h
   unfolding From Later
   later pc out k h a x y n v i z c m kept small = h a x y n v i z c m kept
 
-  last : (a x y : ℕ) (n v i z c : Bool) (m : ℕ → ℕ) → Comes f (view a x y n v i z c (FAULT_AT + 0x3d) own m text answers) (IsHome f) (13 ∷ []) 9
+  last : (a x y : ℕ) (n v i z c : Bool) (m : ℕ → ℕ) → Comes f (view a x y n v i z c (FAULT_AT + 0x3B) own m text answers) (IsHome f) (13 ∷ []) 9
   last a x y n v i z c m =
-      after f 13 fits fault_part (fault_in f.code block) 1 (view a x y n v i z c (FAULT_AT + 0x3d) own m text answers) _ _ 7 refl
+      after f 13 fits fault_part (fault_in f.code block) 1 (view a x y n v i z c (FAULT_AT + 0x3B) own m text answers) _ _ 7 refl
       (looser f _ _ _ (13 ∷ []) 7 7 (omega arith) (λ w h. record { pc = h.pc ∙ sym home; stack = h.stack_is; binary = h.binary })
       (send_law f (omega (arith, fits)) block hlo hhi text answers _ _ _ _ _ _ _ _ _ (omega arith)))
 
-  tell : Later (FAULT_AT + 0x2e) (digits_of (l + 256 * h) ++ 13 ∷ []) (5 + (458 + 9))
+  tell : Later (FAULT_AT + 0x2E) (digits_of (l + 256 * h) ++ 13 ∷ []) (5 + (458 + 9))
   unfolding Later
   tell a x y n v i z c m k small =
       let line : m LINE + 256 * m 0xc03b ≡ l + 256 * h = ap₂ (λ a b. a + 256 * b) k.low k.high in
-      subst (λ w. Comes f (view a x y n v i z c (FAULT_AT + 0x2e) own m text answers) (IsHome f) (digits_of w ++ 13 ∷ []) (5 + (458 + 9))) line
-      (after f 13 fits fault_part (fault_in f.code block) 4 (view a x y n v i z c (FAULT_AT + 0x2e) own m text answers) _ _ (458 + 9) refl
-      (calls f own _ _ _ _ _ _ _ _ NUMBER_AT ((FAULT_AT + 0x3c) % 256) ((FAULT_AT + 0x3c) / 256) _ text answers _ (IsHome f) (digits_of (m LINE + 256 * m 0xc03b)) (13 ∷ []) 458 9
-      (number_law (under f own) (omega (arith, fits)) block ((FAULT_AT + 0x3c) % 256) ((FAULT_AT + 0x3c) / 256) text answers _ _ _ _ _ _ _ _ _ (omega (arith, k.low, is_word.0), omega (arith, k.high, is_word.1)) small)
+      subst (λ w. Comes f (view a x y n v i z c (FAULT_AT + 0x2E) own m text answers) (IsHome f) (digits_of w ++ 13 ∷ []) (5 + (458 + 9))) line
+      (after f 13 fits fault_part (fault_in f.code block) 4 (view a x y n v i z c (FAULT_AT + 0x2E) own m text answers) _ _ (458 + 9) refl
+      (calls f own _ _ _ _ _ _ _ _ NUMBER_AT ((FAULT_AT + 0x3A) % 256) ((FAULT_AT + 0x3A) / 256) _ text answers _ (IsHome f) (digits_of (m LINE + 256 * m 0xc03b)) (13 ∷ []) 458 9
+      (number_law (under f own) (omega (arith, fits)) block ((FAULT_AT + 0x3A) % 256) ((FAULT_AT + 0x3A) / 256) text answers _ _ _ _ _ _ _ _ _ (omega (arith, k.low, is_word.0), omega (arith, k.high, is_word.1)) small)
       (λ a x y n v i z c w g. last a x y n v i z c w)))
 
   -- LDA, JSR SEND
@@ -66,15 +66,15 @@ module _ (f : Setup) (fits : Fits f 13) (block : Holds block_part f.code) (hlo h
       (λ a x y n v i z c m' s. next a x y n v i z c m'
       (record { low = s.others LINE (λ e. omega (arith, e)) ∙ kept.low; high = s.others 0xc03b (λ e. omega (arith, e)) ∙ kept.high; byte = s.others BYTE (λ e. omega (arith, e)) ∙ kept.byte }) (omega (arith, s.column))))
 
-  text_sent : From (FAULT_AT + 0xa) (13 ∷ 33 ∷ d ∷ 32 ∷ 65 ∷ 84 ∷ 32 ∷ (digits_of (l + 256 * h) ++ 13 ∷ [])) (2 + (7 + (2 + (7 + (2 + (7 + (2 + (7 + (2 + (7 + (2 + (7 + (2 + (7 + (5 + (458 + 9))))))))))))))))
+  text_sent : From (FAULT_AT + 0xA) (13 ∷ 33 ∷ d ∷ 32 ∷ 65 ∷ 84 ∷ 32 ∷ (digits_of (l + 256 * h) ++ 13 ∷ [])) (2 + (7 + (2 + (7 + (2 + (7 + (2 + (7 + (2 + (7 + (2 + (7 + (2 + (7 + (5 + (458 + 9))))))))))))))))
   text_sent =
-      say (FAULT_AT + 0xa) 13 ((FAULT_AT + 0xe) % 256) ((FAULT_AT + 0xe) / 256) _ (2 + (7 + (2 + (7 + (2 + (7 + (2 + (7 + (2 + (7 + (2 + (7 + (5 + (458 + 9)))))))))))))) (omega arith) (λ a x y n v i z c m k. refl)
-      (later _ _ _ (say (FAULT_AT + 0xf) 33 ((FAULT_AT + 0x13) % 256) ((FAULT_AT + 0x13) / 256) _ (2 + (7 + (2 + (7 + (2 + (7 + (2 + (7 + (2 + (7 + (5 + (458 + 9)))))))))))) (omega arith) (λ a x y n v i z c m k. refl)
+      say (FAULT_AT + 0xA) 13 ((FAULT_AT + 0xE) % 256) ((FAULT_AT + 0xE) / 256) _ (2 + (7 + (2 + (7 + (2 + (7 + (2 + (7 + (2 + (7 + (2 + (7 + (5 + (458 + 9)))))))))))))) (omega arith) (λ a x y n v i z c m k. refl)
+      (later _ _ _ (say (FAULT_AT + 0xF) 33 ((FAULT_AT + 0x13) % 256) ((FAULT_AT + 0x13) / 256) _ (2 + (7 + (2 + (7 + (2 + (7 + (2 + (7 + (2 + (7 + (5 + (458 + 9)))))))))))) (omega arith) (λ a x y n v i z c m k. refl)
       (later _ _ _ (say (FAULT_AT + 0x14) d ((FAULT_AT + 0x19) % 256) ((FAULT_AT + 0x19) / 256) _ (2 + (7 + (2 + (7 + (2 + (7 + (2 + (7 + (5 + (458 + 9)))))))))) d_small (λ a x y n v i z c m k. ap (λ b. Some (view b x y (eqb (b / 128 % 2) 1) v i (eqb b 0) c SEND_AT ((FAULT_AT + 0x19) % 256 ∷ (FAULT_AT + 0x19) / 256 ∷ own) m text answers)) k.byte)
-      (later _ _ _ (say (FAULT_AT + 0x1a) 32 ((FAULT_AT + 0x1e) % 256) ((FAULT_AT + 0x1e) / 256) _ (2 + (7 + (2 + (7 + (2 + (7 + (5 + (458 + 9)))))))) (omega arith) (λ a x y n v i z c m k. refl)
-      (later _ _ _ (say (FAULT_AT + 0x1f) 65 ((FAULT_AT + 0x23) % 256) ((FAULT_AT + 0x23) / 256) _ (2 + (7 + (2 + (7 + (5 + (458 + 9)))))) (omega arith) (λ a x y n v i z c m k. refl)
+      (later _ _ _ (say (FAULT_AT + 0x1A) 32 ((FAULT_AT + 0x1E) % 256) ((FAULT_AT + 0x1E) / 256) _ (2 + (7 + (2 + (7 + (2 + (7 + (5 + (458 + 9)))))))) (omega arith) (λ a x y n v i z c m k. refl)
+      (later _ _ _ (say (FAULT_AT + 0x1F) 65 ((FAULT_AT + 0x23) % 256) ((FAULT_AT + 0x23) / 256) _ (2 + (7 + (2 + (7 + (5 + (458 + 9)))))) (omega arith) (λ a x y n v i z c m k. refl)
       (later _ _ _ (say (FAULT_AT + 0x24) 84 ((FAULT_AT + 0x28) % 256) ((FAULT_AT + 0x28) / 256) _ (2 + (7 + (5 + (458 + 9)))) (omega arith) (λ a x y n v i z c m k. refl)
-      (later _ _ _ (say (FAULT_AT + 0x29) 32 ((FAULT_AT + 0x2d) % 256) ((FAULT_AT + 0x2d) / 256) _ (5 + (458 + 9)) (omega arith) (λ a x y n v i z c m k. refl) tell))))))))))))
+      (later _ _ _ (say (FAULT_AT + 0x29) 32 ((FAULT_AT + 0x2D) % 256) ((FAULT_AT + 0x2D) / 256) _ (5 + (458 + 9)) (omega arith) (λ a x y n v i z c m k. refl) tell))))))))))))
 
 pub fault_law : FaultLaw
 unfolding From

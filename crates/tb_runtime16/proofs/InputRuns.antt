@@ -12,14 +12,14 @@ use Rattle.tb_reaching.proofs.Services.{serving}
 use Rattle.tb_reaching.proofs.Calls.{framed, under}
 use Rattle.tb_lower.specs.Control.{column_after, fault_text}
 use Rattle.tb_lower.specs.Input.{Reading, Nothing, Sign, Digits, Turn, Got, Bad, with_digit, number_end, signed_turn, turn}
-use Rattle.tb_runtime16.specs.Places.{DIVIDE_AT, INPUT_AT, SEND_AT, COLUMN, LEFT, RESULT, HOME_S, LINE, BYTE, OPEN, SCRATCH}
+use Rattle.tb_runtime16.specs.Places.{INPUT_AT, SEND_AT, COLUMN, LEFT, RESULT, HOME_S, LINE, BYTE, OPEN, SCRATCH}
 use Rattle.tb_runtime16.specs.Block.{block_part}
 use Rattle.tb_runtime16.specs.Ends.{Entered}
 use Rattle.tb_runtime16.specs.Input.{MINUS, is_changed, turn_sends, Ended, InputLaw}
 use Rattle.tb_runtime16.specs.Laws.{IsWord, AllBytes, Said}
 use Rattle.tb_runtime16.proofs.Words.{taken_from_zero}
 use Rattle.tb_runtime16.proofs.Tens.{times_ten}
-use Rattle.tb_runtime16.proofs.Within.{divide_part, divide_in, input_part, input_in}
+use Rattle.tb_runtime16.proofs.Within.{input_part, input_in}
 use Rattle.tb_runtime16.proofs.Called.{after_on, calls, ending_on}
 use Rattle.tb_runtime16.proofs.SendRuns.{send_law}
 use Rattle.tb_runtime16.proofs.FaultRuns.{fault_law}
@@ -127,12 +127,12 @@ module _ (f : Setup) (room : ℕ) (most : 13 ≤ room) (fits : Fits f room) (blo
   held_byte r m b h = record { seen = h.seen; minus = h.minus; is_word = h.is_word; value = h.value; line_open = h.line_open; column = h.column; others = frame_put _ _ BYTE _ refl h.others }
 
   -- fault 6
-  bad : (a x y : ℕ) (n v i z c : Bool) (m : ℕ → ℕ) (text : List ℕ) → Frame m0 m → Comes f (view a x y n v i z c (INPUT_AT + 0xA4) (lo ∷ hi ∷ own) m text answers) (IsHome f) (fault_text 6 (word_in m0 LINE)) (84 + 458)
+  bad : (a x y : ℕ) (n v i z c : Bool) (m : ℕ → ℕ) (text : List ℕ) → Frame m0 m → Comes f (view a x y n v i z c (INPUT_AT + 0xA0) (lo ∷ hi ∷ own) m text answers) (IsHome f) (fault_text 6 (word_in m0 LINE)) (84 + 458)
   bad a x y n v i z c m text k =
       let here : Entered f hlo hhi m = record { homed = entered.homed; kept = ap (λ s. s + 2) (k HOME_S refl) ∙ entered.kept; line = (omega (arith, k LINE refl, entered.line.0), omega (arith, k 0xc03B refl, entered.line.1)) } in
-      subst (λ w. Comes f (view a x y n v i z c (INPUT_AT + 0xA4) (lo ∷ hi ∷ own) m text answers) (IsHome f) (fault_text 6 w) (84 + 458)) (ap₂ (λ a b. a + 256 * b) (k LINE refl) (k 0xc03B refl))
+      subst (λ w. Comes f (view a x y n v i z c (INPUT_AT + 0xA0) (lo ∷ hi ∷ own) m text answers) (IsHome f) (fault_text 6 w) (84 + 458)) (ap₂ (λ a b. a + 256 * b) (k LINE refl) (k 0xc03B refl))
       (looser f _ _ _ (fault_text 6 (word_in m LINE)) (2 + (82 + 458)) (84 + 458) (omega arith) (λ w h. h)
-      (after_on f own 4 free input_part st 1 (view a x y n v i z c (INPUT_AT + 0xA4) (lo ∷ hi ∷ []) m text answers) _ _ (82 + 458) refl
+      (after_on f own 4 free input_part st 1 (view a x y n v i z c (INPUT_AT + 0xA0) (lo ∷ hi ∷ []) m text answers) _ _ (82 + 458) refl
       (fault_law f room most fits block hlo hhi (lo ∷ hi ∷ above) (omega (arith, deep)) text answers m here 6 _ _ _ _ _ _ _ (omega arith))))
 
   -- ---- the end
@@ -143,15 +143,15 @@ module _ (f : Setup) (room : ℕ) (most : 13 ≤ room) (fits : Fits f room) (blo
     column : m COLUMN ≡ column_after col before % 256
     others : Frame m0 m
 
-  finish : (value : ℕ) (stays : Bool) (a x y : ℕ) (n v i z c : Bool) (m : ℕ → ℕ) (text : List ℕ) → Read value m → same_byte (m BYTE) 44 ≡ stays → Comes f (view a x y n v i z c (INPUT_AT + 0xBC) (lo ∷ hi ∷ own) m text answers) (Goal (Got value stays text)) (sends (Got value stays text)) 14
+  finish : (value : ℕ) (stays : Bool) (a x y : ℕ) (n v i z c : Bool) (m : ℕ → ℕ) (text : List ℕ) → Read value m → same_byte (m BYTE) 44 ≡ stays → Comes f (view a x y n v i z c (INPUT_AT + 0xC4) (lo ∷ hi ∷ own) m text answers) (Goal (Got value stays text)) (sends (Got value stays text)) 14
   finish value true a x y n v i z c m text h e =
       looser f _ _ _ [] (3 + 1) 14 (omega arith) (λ w h. h)
-      (after_on f own 4 free input_part st 2 (view a x y n v i z c (INPUT_AT + 0xBC) (lo ∷ hi ∷ []) m text answers) _ _ 1 refl
-      (rw e (ending_on f own 4 free input_part st 0 (view _ _ _ _ _ _ _ _ (INPUT_AT + 0xCD) (lo ∷ hi ∷ []) m text answers) _ refl
+      (after_on f own 4 free input_part st 2 (view a x y n v i z c (INPUT_AT + 0xC4) (lo ∷ hi ∷ []) m text answers) _ _ 1 refl
+      (rw e (ending_on f own 4 free input_part st 0 (view _ _ _ _ _ _ _ _ (INPUT_AT + 0xD5) (lo ∷ hi ∷ []) m text answers) _ refl
       (record { pc = refl; stack = refl; binary = refl; left = refl; same_answers = refl; is_word = h.is_word; result = h.value_is; line_open = h.line_open; column_is = h.column; others = h.others }))))
   finish value false a x y n v i z c m text h e =
-      after_on f own 4 free input_part st 2 (view a x y n v i z c (INPUT_AT + 0xBC) (lo ∷ hi ∷ []) m text answers) _ _ (4 + 7) refl
-      (rw e (after_on f own 4 free input_part st 3 (view _ _ _ _ _ _ _ _ (INPUT_AT + 0xC3) (lo ∷ hi ∷ []) m text answers) _ _ 7 refl
+      after_on f own 4 free input_part st 2 (view a x y n v i z c (INPUT_AT + 0xC4) (lo ∷ hi ∷ []) m text answers) _ _ (4 + 7) refl
+      (rw e (after_on f own 4 free input_part st 3 (view _ _ _ _ _ _ _ _ (INPUT_AT + 0xCB) (lo ∷ hi ∷ []) m text answers) _ _ 7 refl
       (looser f _ _ _ (13 ∷ []) 7 7 (omega arith) (λ w g. subst (Goal (Got value false text)) g.2
       (record {
         pc = g.1.pc;
@@ -169,30 +169,29 @@ module _ (f : Setup) (room : ℕ) (most : 13 ≤ room) (fits : Fits f room) (blo
       (send_law (under f own) (omega (arith, free)) block lo hi text answers _ _ _ _ _ _ _ _ _ (omega arith))))))
 
   -- the number ends
-  done : (r : Reading) (stays : Bool) (a x y : ℕ) (n v i z c : Bool) (m : ℕ → ℕ) (text : List ℕ) → Held r m → same_byte (m BYTE) 44 ≡ stays → Comes f (view a x y n v i z c (INPUT_AT + 0xA9) (lo ∷ hi ∷ own) m text answers) (Goal (number_end r stays text)) (sends (number_end r stays text)) (87 + 458)
+  done : (r : Reading) (stays : Bool) (a x y : ℕ) (n v i z c : Bool) (m : ℕ → ℕ) (text : List ℕ) → Held r m → same_byte (m BYTE) 44 ≡ stays → Comes f (view a x y n v i z c (INPUT_AT + 0xA5) (lo ∷ hi ∷ own) m text answers) (Goal (number_end r stays text)) (sends (number_end r stays text)) (87 + 458)
   done Nothing stays a x y n v i z c m text h e =
       let t : same_byte (m SCRATCH) 2 ≡ false = ne_eqb _ _ (λ e. omega (arith, h.seen, e)) in
       looser f _ _ _ (fault_text 6 (word_in m0 LINE)) (3 + (84 + 458)) (87 + 458) (omega arith) (λ w h. h)
-      (after_on f own 4 free input_part st 2 (view a x y n v i z c (INPUT_AT + 0xA9) (lo ∷ hi ∷ []) m text answers) _ _ (84 + 458) refl
+      (after_on f own 4 free input_part st 2 (view a x y n v i z c (INPUT_AT + 0xA5) (lo ∷ hi ∷ []) m text answers) _ _ (84 + 458) refl
       (rw t (bad _ _ _ _ _ _ _ _ m text h.others)))
   done (Sign negative) stays a x y n v i z c m text h e =
       let t : same_byte (m SCRATCH) 2 ≡ false = ne_eqb _ _ (λ e. omega (arith, h.seen, e)) in
       looser f _ _ _ (fault_text 6 (word_in m0 LINE)) (3 + (84 + 458)) (87 + 458) (omega arith) (λ w h. h)
-      (after_on f own 4 free input_part st 2 (view a x y n v i z c (INPUT_AT + 0xA9) (lo ∷ hi ∷ []) m text answers) _ _ (84 + 458) refl
+      (after_on f own 4 free input_part st 2 (view a x y n v i z c (INPUT_AT + 0xA5) (lo ∷ hi ∷ []) m text answers) _ _ (84 + 458) refl
       (rw t (bad _ _ _ _ _ _ _ _ m text h.others)))
   done (Digits false k) stays a x y n v i z c m text h e =
       let t : same_byte (m SCRATCH) 2 ≡ true = eq-eqb _ _ (omega (arith, h.seen)) in
       looser f _ _ _ (sends (Got (k % 65536) stays text)) (3 + (3 + 14)) (87 + 458) (omega arith) (λ w h. h)
-      (after_on f own 4 free input_part st 2 (view a x y n v i z c (INPUT_AT + 0xA9) (lo ∷ hi ∷ []) m text answers) _ _ (3 + 14) refl
-      (rw t (after_on f own 4 free input_part st 2 (view _ _ _ _ _ _ _ _ (INPUT_AT + 0xB0) (lo ∷ hi ∷ []) m text answers) _ _ 14 refl
+      (after_on f own 4 free input_part st 2 (view a x y n v i z c (INPUT_AT + 0xA5) (lo ∷ hi ∷ []) m text answers) _ _ (3 + 14) refl
+      (rw t (after_on f own 4 free input_part st 2 (view _ _ _ _ _ _ _ _ (INPUT_AT + 0xAC) (lo ∷ hi ∷ []) m text answers) _ _ 14 refl
       (rw h.minus (finish (k % 65536) stays _ _ _ _ _ _ _ _ m text (record { is_word = h.is_word; value_is = h.value; line_open = h.line_open; column = h.column; others = h.others }) e)))))
   done (Digits true k) stays a x y n v i z c m text h e =
       let t : same_byte (m SCRATCH) 2 ≡ true = eq-eqb _ _ (omega (arith, h.seen)) in
-      looser f _ _ _ (sends (Got ((65536 - k % 65536) % 65536) stays text)) (3 + (3 + (2 + (8 + 14)))) (87 + 458) (omega arith) (λ w h. h)
-      (after_on f own 4 free input_part st 2 (view a x y n v i z c (INPUT_AT + 0xA9) (lo ∷ hi ∷ []) m text answers) _ _ (3 + (2 + (8 + 14))) refl
-      (rw t (after_on f own 4 free input_part st 2 (view _ _ _ _ _ _ _ _ (INPUT_AT + 0xB0) (lo ∷ hi ∷ []) m text answers) _ _ (2 + (8 + 14)) refl
-      (rw h.minus (after_on f own 4 free input_part st 1 (view _ _ _ _ _ _ _ _ (INPUT_AT + 0xB7) (lo ∷ hi ∷ []) m text answers) _ _ (8 + 14) refl
-      (after_on f own 4 free divide_part (divide_in f.code block) 7 (view _ 4 _ _ _ _ _ _ (DIVIDE_AT + 26) ((INPUT_AT + 0xBB) % 256 ∷ (INPUT_AT + 0xBB) / 256 ∷ lo ∷ hi ∷ []) m text answers) _ _ 14 refl
+      looser f _ _ _ (sends (Got ((65536 - k % 65536) % 65536) stays text)) (3 + (3 + (7 + 14))) (87 + 458) (omega arith) (λ w h. h)
+      (after_on f own 4 free input_part st 2 (view a x y n v i z c (INPUT_AT + 0xA5) (lo ∷ hi ∷ []) m text answers) _ _ (3 + (7 + 14)) refl
+      (rw t (after_on f own 4 free input_part st 2 (view _ _ _ _ _ _ _ _ (INPUT_AT + 0xAC) (lo ∷ hi ∷ []) m text answers) _ _ (7 + 14) refl
+      (rw h.minus (after_on f own 4 free input_part st 6 (view _ _ _ _ _ _ _ _ (INPUT_AT + 0xB3) (lo ∷ hi ∷ []) m text answers) _ _ 14 refl
       (finish ((65536 - k % 65536) % 65536) stays _ _ _ _ _ _ _ _ _ text
       (record {
         is_word = (small_byte _, small_byte _);
@@ -200,31 +199,31 @@ module _ (f : Setup) (room : ℕ) (most : 13 ≤ room) (fits : Fits f room) (blo
         line_open = h.line_open;
         column = h.column;
         others = frame_put _ _ 0xc067 _ refl (frame_put _ _ RESULT _ refl h.others);
-      }) e)))))))
+      }) e))))))
 
   -- ---- a turn goes on
   Reads : List ℕ → Type 0
   Reads text = (r : Reading) (a x y : ℕ) (n v i z c : Bool) (m : ℕ → ℕ) → Held r m → AllBytes text → Comes f (view a x y n v i z c (INPUT_AT + 0x22) (lo ∷ hi ∷ own) m text answers) (Goal (turn r text)) (sends (turn r text)) (45 * length text + (102 + 458))
 
   -- a sign
-  at_sign : (r : Reading) (negative : Bool) (a x y : ℕ) (n v i z c : Bool) (m : ℕ → ℕ) (text : List ℕ) → Reads text → Held r m → same_byte (m BYTE) 45 ≡ negative → AllBytes text → Comes f (view a x y n v i z c (INPUT_AT + 0x91) (lo ∷ hi ∷ own) m text answers) (Goal (signed_turn r (turn (Sign negative) text))) (sends (signed_turn r (turn (Sign negative) text))) (45 * length text + (109 + 458))
+  at_sign : (r : Reading) (negative : Bool) (a x y : ℕ) (n v i z c : Bool) (m : ℕ → ℕ) (text : List ℕ) → Reads text → Held r m → same_byte (m BYTE) 45 ≡ negative → AllBytes text → Comes f (view a x y n v i z c (INPUT_AT + 0x8D) (lo ∷ hi ∷ own) m text answers) (Goal (signed_turn r (turn (Sign negative) text))) (sends (signed_turn r (turn (Sign negative) text))) (45 * length text + (109 + 458))
   unfolding Reads
   at_sign Nothing negative a x y n v i z c m text go h e bs =
       let t : eqb (m SCRATCH) 0 ≡ true = eq-eqb _ _ h.seen in
       looser f _ _ _ (sends (turn (Sign negative) text)) (2 + (5 + (45 * length text + (102 + 458)))) (45 * length text + (109 + 458)) (omega arith) (λ w h. h)
-      (after_on f own 4 free input_part st 1 (view a x y n v i z c (INPUT_AT + 0x91) (lo ∷ hi ∷ []) m text answers) _ _ (5 + (45 * length text + (102 + 458))) refl
-      (rw t (after_on f own 4 free input_part st 4 (view _ _ _ _ _ _ _ _ (INPUT_AT + 0x96) (lo ∷ hi ∷ []) m text answers) _ _ (45 * length text + (102 + 458)) refl
+      (after_on f own 4 free input_part st 1 (view a x y n v i z c (INPUT_AT + 0x8D) (lo ∷ hi ∷ []) m text answers) _ _ (5 + (45 * length text + (102 + 458))) refl
+      (rw t (after_on f own 4 free input_part st 4 (view _ _ _ _ _ _ _ _ (INPUT_AT + 0x92) (lo ∷ hi ∷ []) m text answers) _ _ (45 * length text + (102 + 458)) refl
       (go (Sign negative) _ _ _ _ _ _ _ _ _
       (record { seen = refl; minus = e; is_word = h.is_word; value = h.value; line_open = h.line_open; column = h.column; others = frame_put _ _ SCRATCH _ refl (frame_put _ _ MINUS _ refl h.others) }) bs))))
   at_sign (Sign before) negative a x y n v i z c m text go h e bs =
       let t : eqb (m SCRATCH) 0 ≡ false = ne_eqb _ _ (λ e. omega (arith, h.seen, e)) in
       looser f _ _ _ (fault_text 6 (word_in m0 LINE)) (2 + (84 + 458)) (45 * length text + (109 + 458)) (omega arith) (λ w h. h)
-      (after_on f own 4 free input_part st 1 (view a x y n v i z c (INPUT_AT + 0x91) (lo ∷ hi ∷ []) m text answers) _ _ (84 + 458) refl
+      (after_on f own 4 free input_part st 1 (view a x y n v i z c (INPUT_AT + 0x8D) (lo ∷ hi ∷ []) m text answers) _ _ (84 + 458) refl
       (rw t (bad _ _ _ _ _ _ _ _ m text h.others)))
   at_sign (Digits before k) negative a x y n v i z c m text go h e bs =
       let t : eqb (m SCRATCH) 0 ≡ false = ne_eqb _ _ (λ e. omega (arith, h.seen, e)) in
       looser f _ _ _ (fault_text 6 (word_in m0 LINE)) (2 + (84 + 458)) (45 * length text + (109 + 458)) (omega arith) (λ w h. h)
-      (after_on f own 4 free input_part st 1 (view a x y n v i z c (INPUT_AT + 0x91) (lo ∷ hi ∷ []) m text answers) _ _ (84 + 458) refl
+      (after_on f own 4 free input_part st 1 (view a x y n v i z c (INPUT_AT + 0x8D) (lo ∷ hi ∷ []) m text answers) _ _ (84 + 458) refl
       (rw t (bad _ _ _ _ _ _ _ _ m text h.others)))
 
   -- a digit, which BYTE holds
@@ -245,7 +244,7 @@ module _ (f : Setup) (room : ℕ) (most : 13 ≤ room) (fits : Fits f room) (blo
             let e1 : eqb a SCRATCH ≡ false = apart a SCRATCH t refl in
             let e2 : eqb a 0xc067 ≡ false = apart a 0xc067 t refl in
             let e3 : eqb a RESULT ≡ false = apart a RESULT t refl in
-            let e4 : eqb a 0xc063 ≡ false = apart a 0xc063 t refl in
+            let e4 : eqb a 0xfc ≡ false = apart a 0xfc t refl in
             let e5 : eqb a LEFT ≡ false = apart a LEFT t refl in
             rw e1 (rw e2 (rw e3 (rw e4 (rw e5 (h.others a t)))));
       }) bs)

@@ -24,14 +24,14 @@ sum_less l r q d p n l' r' small e e' h = omega (arith, double q d, double p n)
 sum_more : (l r q d p n l' r' : ℕ) → l < 256 → l' ≡ 2 * l % 256 + 1 → r' + d ≡ 2 * r + l / 128 → r * 256 + l + q * d * 256 ≡ p * n + q → r' * 256 + l' + (q + q + 1) * d * 256 ≡ (p + p) * n + (q + q + 1)
 sum_more l r q d p n l' r' small e e' h = omega (arith, double_one q d, double p n)
 
-module _ (f : Setup) (fits : Fits f 2) (block : Holds block_part f.code) (lo hi : ℕ) (text answers : List ℕ) (m0 : ℕ → ℕ) (top : m0 0xc065 ≡ 0) (most : m0 RIGHT < 128) where
+module _ (f : Setup) (fits : Fits f 2) (block : Holds block_part f.code) (lo hi : ℕ) (text answers : List ℕ) (m0 : ℕ → ℕ) (top : m0 0xfe ≡ 0) (most : m0 RIGHT < 128) where
   -- after j turns: the quotient so far is q, the rest a
   record Held (j q a : ℕ) (m : ℕ → ℕ) : Type 0 where
     left : m LEFT < 256
-    left_high : m 0xc063 ≡ 0
+    left_high : m 0xfc ≡ 0
     rest_high : m 0xc067 ≡ 0
     low : m RIGHT ≡ m0 RIGHT
-    high : m 0xc065 ≡ m0 0xc065
+    high : m 0xfe ≡ m0 0xfe
     others : Frame m0 m
     less : a < m0 RIGHT
     few : q < pow2 j
@@ -41,10 +41,10 @@ module _ (f : Setup) (fits : Fits f 2) (block : Holds block_part f.code) (lo hi 
   Goal v n = Comes f v (Back lo hi text answers (Parted m0 (word_in m0 LEFT / word_in m0 RIGHT) (word_in m0 LEFT % word_in m0 RIGHT))) [] n
 
   Less : ℕ → Type 0
-  Less k = (a x y : ℕ) (n v i z c : Bool) (m : ℕ → ℕ) (j q : ℕ) → Held j q a m → x ≡ suc k → j + k ≡ 8 → Goal (view a x y n v i z c (DIVIDE_AT + 103) (lo ∷ hi ∷ []) m text answers) (8 * k + 4)
+  Less k = (a x y : ℕ) (n v i z c : Bool) (m : ℕ → ℕ) (j q : ℕ) → Held j q a m → x ≡ suc k → j + k ≡ 8 → Goal (view a x y n v i z c (DIVIDE_AT + 86) (lo ∷ hi ∷ []) m text answers) (8 * k + 4)
 
   Next : ℕ → Type 0
-  Next k = (a x y : ℕ) (n v i z c : Bool) (m : ℕ → ℕ) (j q : ℕ) → Held j q a m → x ≡ suc k → suc j + k ≡ 8 → Goal (view a x y n v i z c (DIVIDE_AT + 88) (lo ∷ hi ∷ []) m text answers) (8 * k + 10)
+  Next k = (a x y : ℕ) (n v i z c : Bool) (m : ℕ → ℕ) (j q : ℕ) → Held j q a m → x ≡ suc k → suc j + k ≡ 8 → Goal (view a x y n v i z c (DIVIDE_AT + 75) (lo ∷ hi ∷ []) m text answers) (8 * k + 10)
 
   parted : (m : ℕ → ℕ) (q a : ℕ) → Held 8 q a m → Parted m0 (word_in m0 LEFT / word_in m0 RIGHT) (word_in m0 LEFT % word_in m0 RIGHT) (with_byte m RESULT a)
   parted m q a h =
@@ -64,15 +64,15 @@ module _ (f : Setup) (fits : Fits f 2) (block : Holds block_part f.code) (lo hi 
         others = frame_put _ _ RESULT _ refl h.others;
       }
 
-  last : (a x y : ℕ) (n v i z c : Bool) (m : ℕ → ℕ) (q : ℕ) → Held 8 q a m → Goal (view a x y n v i z c (DIVIDE_AT + 106) (lo ∷ hi ∷ []) m text answers) 2
-  last a x y n v i z c m q h = ending f 2 fits divide_part (divide_in f.code block) 1 (view a x y n v i z c (DIVIDE_AT + 106) (lo ∷ hi ∷ []) m text answers) _ refl
+  last : (a x y : ℕ) (n v i z c : Bool) (m : ℕ → ℕ) (q : ℕ) → Held 8 q a m → Goal (view a x y n v i z c (DIVIDE_AT + 89) (lo ∷ hi ∷ []) m text answers) 2
+  last a x y n v i z c m q h = ending f 2 fits divide_part (divide_in f.code block) 1 (view a x y n v i z c (DIVIDE_AT + 89) (lo ∷ hi ∷ []) m text answers) _ refl
       (record { pc = refl; stack_is = refl; binary = refl; same_text = refl; same_answers = refl; memory = parted m q a h })
 
   less_none : Less 0
   unfolding Less
   less_none a x y n v i z c m j q h e s =
       let done : eqb ((x + 255) % 256) 0 ≡ true = eq-eqb _ _ (omega (arith, e)) in
-      after f 2 fits divide_part (divide_in f.code block) 1 (view a x y n v i z c (DIVIDE_AT + 103) (lo ∷ hi ∷ []) m text answers) _ _ 2 refl
+      after f 2 fits divide_part (divide_in f.code block) 1 (view a x y n v i z c (DIVIDE_AT + 86) (lo ∷ hi ∷ []) m text answers) _ _ 2 refl
       (rw done (last _ _ _ _ _ _ _ _ m q (subst (λ j. Held j q a m) (let t : j ≡ 8 = omega (arith, s) in t) h)))
 
   less_more : (k : ℕ) → Next k → Less (suc k)
@@ -81,14 +81,14 @@ module _ (f : Setup) (fits : Fits f 2) (block : Holds block_part f.code) (lo hi 
       let less : (x + 255) % 256 ≡ suc k = omega (arith, e, s) in
       let more : eqb ((x + 255) % 256) 0 ≡ false = ne_eqb _ _ (λ x. omega (arith, less)) in
       looser f _ _ _ [] (2 + (8 * k + 10)) (8 * suc k + 4) (omega arith) (λ w h. h)
-      (after f 2 fits divide_part (divide_in f.code block) 1 (view a x y n v i z c (DIVIDE_AT + 103) (lo ∷ hi ∷ []) m text answers) _ _ (8 * k + 10) refl
+      (after f 2 fits divide_part (divide_in f.code block) 1 (view a x y n v i z c (DIVIDE_AT + 86) (lo ∷ hi ∷ []) m text answers) _ _ (8 * k + 10) refl
       (rw more (go _ _ _ _ _ _ _ _ m j q h less (omega (arith, s)))))
 
   -- the divisor goes into the rest
-  keep : (k : ℕ) → Less k → (a x y : ℕ) (n v i z : Bool) (m : ℕ → ℕ) (j q : ℕ) → Held j q ((a + 256 - (m RIGHT + 0)) % 256) (with_byte m LEFT ((m LEFT + 1) % 256)) → x ≡ suc k → j + k ≡ 8 → Goal (view a x y n v i z true (DIVIDE_AT + 97) (lo ∷ hi ∷ []) m text answers) (2 + (8 * k + 4))
+  keep : (k : ℕ) → Less k → (a x y : ℕ) (n v i z : Bool) (m : ℕ → ℕ) (j q : ℕ) → Held j q ((a + 256 - (m RIGHT + 0)) % 256) (with_byte m LEFT ((m LEFT + 1) % 256)) → x ≡ suc k → j + k ≡ 8 → Goal (view a x y n v i z true (DIVIDE_AT + 82) (lo ∷ hi ∷ []) m text answers) (2 + (8 * k + 4))
   unfolding Less
   keep k go a x y n v i z m j q h e s =
-      after f 2 fits divide_part (divide_in f.code block) 1 (view a x y n v i z true (DIVIDE_AT + 97) (lo ∷ hi ∷ []) m text answers) _ _ (8 * k + 4) refl
+      after f 2 fits divide_part (divide_in f.code block) 1 (view a x y n v i z true (DIVIDE_AT + 82) (lo ∷ hi ∷ []) m text answers) _ _ (8 * k + 4) refl
       (go _ _ _ _ _ _ _ _ _ j q h e s)
 
   turn : (k : ℕ) → Less k → Next k
@@ -103,7 +103,7 @@ module _ (f : Setup) (fits : Fits f 2) (block : Holds block_part f.code) (lo hi 
       ⊎_elim
       (λ less. let t : nat_le (m RIGHT) r0 ≡ false = lt-leb _ _ less in
       looser f _ _ _ [] (4 + (8 * k + 4)) (8 * k + 10) (omega arith) (λ w h. h)
-      (after f 2 fits divide_part (divide_in f.code block) 3 (view a x y n v i z c (DIVIDE_AT + 88) (lo ∷ hi ∷ []) m text answers) _ _ (8 * k + 4) refl
+      (after f 2 fits divide_part (divide_in f.code block) 3 (view a x y n v i z c (DIVIDE_AT + 75) (lo ∷ hi ∷ []) m text answers) _ _ (8 * k + 4) refl
       (rw t (go _ _ _ _ _ _ _ _ _ (suc j) (q + q)
       (record {
         left = byte_of _;
@@ -119,7 +119,7 @@ module _ (f : Setup) (fits : Fits f 2) (block : Holds block_part f.code) (lo hi 
       (λ more. let t : nat_le (m RIGHT) r0 ≡ true = le-leb _ _ more in
       let rest' : (r0 + 256 - (m RIGHT + 0)) % 256 + m0 RIGHT ≡ r0 = omega (arith, more, same, small) in
       looser f _ _ _ [] (4 + (2 + (8 * k + 4))) (8 * k + 10) (omega arith) (λ w h. h)
-      (after f 2 fits divide_part (divide_in f.code block) 3 (view a x y n v i z c (DIVIDE_AT + 88) (lo ∷ hi ∷ []) m text answers) _ _ (2 + (8 * k + 4)) refl
+      (after f 2 fits divide_part (divide_in f.code block) 3 (view a x y n v i z c (DIVIDE_AT + 75) (lo ∷ hi ∷ []) m text answers) _ _ (2 + (8 * k + 4)) refl
       (rw t (keep k go _ _ _ _ _ _ _ _ (suc j) (q + q + 1)
       (record {
         left = byte_of _;
@@ -138,10 +138,10 @@ module _ (f : Setup) (fits : Fits f 2) (block : Holds block_part f.code) (lo hi 
   lesses zero = less_none
   lesses (suc k) = less_more k (turn k (lesses k))
 
-  pub narrow : (x y : ℕ) (n v i z c : Bool) → IsWord m0 LEFT → m0 0xc063 < m0 RIGHT → Goal (view (m0 0xc063) x y n v i z c (DIVIDE_AT + 78) (lo ∷ hi ∷ []) m0 text answers) 70
+  pub narrow : (x y : ℕ) (n v i z c : Bool) → IsWord m0 LEFT → m0 0xfc < m0 RIGHT → Goal (view (m0 0xfc) x y n v i z c (DIVIDE_AT + 66) (lo ∷ hi ∷ []) m0 text answers) 70
   unfolding Next
   narrow x y n v i z c p less =
-      after f 2 fits divide_part (divide_in f.code block) 3 (view (m0 0xc063) x y n v i z c (DIVIDE_AT + 78) (lo ∷ hi ∷ []) m0 text answers) _ _ 66 refl
+      after f 2 fits divide_part (divide_in f.code block) 3 (view (m0 0xfc) x y n v i z c (DIVIDE_AT + 66) (lo ∷ hi ∷ []) m0 text answers) _ _ 66 refl
       (turn 7 (lesses 7) _ _ _ _ _ _ _ _ _ 0 0
-      (record { left = p.0; left_high = refl; rest_high = refl; low = refl; high = refl; others = frame_put _ _ 0xc067 _ refl (frame_put _ _ 0xc063 _ refl (λ a e. refl)); less = less; few = omega arith; sum = omega arith })
+      (record { left = p.0; left_high = refl; rest_high = refl; low = refl; high = refl; others = frame_put _ _ 0xc067 _ refl (frame_put _ _ 0xfc _ refl (λ a e. refl)); less = less; few = omega arith; sum = omega arith })
       refl refl)

@@ -1,62 +1,43 @@
 -- Push and Pop.
-use Rattle.std.proofs.Common.{◌≡◌, ◌≢◌, ℕ, suc, ◌+◌, ◌*◌, ◌/◌, ◌%◌, ◌<◌, ◌≤◌, Bool, true, false, not, List, [], ◌∷◌, length, refl, ap, ◌∙◌, ⊎_elim, arith, eqb, ltb}
+use Rattle.std.proofs.Common.{◌≡◌, ◌≢◌, ℕ, suc, ◌+◌, ◌*◌, ◌/◌, ◌%◌, ◌<◌, ◌≤◌, Bool, true, false, List, [], ◌∷◌, length, refl, ap, ◌∙◌, ⊎_elim, arith, eqb}
 use Rattle.std.specs.Prelude.{Ok, nat_le}
-use Rattle.std.proofs.lemmas.Bool.{ne_eqb, eq-eqb, cases_eq, le-ltb}
+use Rattle.std.proofs.lemmas.Bool.{ne_eqb, eq-eqb, cases_eq, le-leb, lt-leb}
 use Rattle.std.proofs.lemmas.Bool.Decides.{nat_tests}
 use Rattle.tb_cpu.specs.Operands.{word_in}
-use Rattle.tb_cpu.specs.Effects.{bit}
 use Rattle.tb_memmap.specs.Bytes.{with_byte}
-use Rattle.tb_opcodes.specs.declared.Mnemonic.TheVariants.{Lda, Sta}
-use Rattle.tb_opcodes.specs.declared.Mode.TheVariants.{IndirectY}
+use Rattle.tb_opcodes.specs.declared.Mnemonic.TheVariants.{Lda, Ldy, Sta}
+use Rattle.tb_opcodes.specs.declared.Mode.TheVariants.{AbsoluteX}
 use Rattle.tb_reaching.specs.View.{Setup, Holds, Fits, Comes, view, is_data}
 use Rattle.tb_reaching.proofs.Instr.{ins}
 use Rattle.tb_reaching.proofs.Memory.{put_other, put_same}
 use Rattle.tb_reaching.proofs.Comes.{after, ending, looser}
 use Rattle.tb_reaching.proofs.Placed.{placing, takes_at, stores_at, reads_data}
-use Rattle.tb_runtime16.specs.Places.{PUSH_AT, POP_AT, POINTER, LEFT, RESULT, NOTES, NOTE_LIST}
+use Rattle.tb_runtime16.specs.Places.{PUSH_AT, POP_AT, LEFT, RESULT, NOTES, NOTE_LOW, NOTE_HIGH}
 use Rattle.tb_runtime16.specs.Block.{block_part}
 use Rattle.tb_runtime16.specs.Laws.{IsWord}
-use Rattle.tb_runtime16.specs.Notes.{Faulted, Held, Notes, nothing, push_changes, pop_changes, Pushed, Popped, PushLaw, PushFullLaw, PopLaw, PopNoneLaw}
+use Rattle.tb_runtime16.specs.Notes.{Faulted, NoteAt, Noted, Notes, nothing, push_changes, pop_changes, Pushed, Popped, PushLaw, PushFullLaw, PopLaw, PopNoneLaw}
 use Rattle.tb_runtime16.proofs.Within.{notes_part, notes_in}
-use Rattle.tb_runtime16.proofs.Words.{one_high}
-use Rattle.tb_runtime16.proofs.Pointed.{carry_at_least, carry_below, Changes, changes_put, same_word}
+use Rattle.tb_runtime16.proofs.Pointed.{Changes, changes_put}
 
 -- ---- the list in memory
-pub held_same : (m k : ℕ → ℕ) (ns : List ℕ) → ((a : ℕ) → NOTE_LIST ≤ a → a < NOTE_LIST + 2 * length ns → k a ≡ m a) → Held m ns → Held k ns
-held_same m k [] e h = tt
-held_same m k (n ∷ ns) e h =
-    let at = NOTE_LIST + 2 * length ns in
-    let low : k at ≡ m at = e at (omega arith) (omega arith) in
-    let high : k (at + 1) ≡ m (at + 1) = e (at + 1) (omega arith) (omega arith) in
-    (((let r : k at < 256 = omega (arith, low, h.0.0) in r), (let r : k (at + 1) < 256 = omega (arith, high, h.0.1) in r)), (let r : k at + 256 * k (at + 1) ≡ n = omega (arith, low, high, h.1) in r), held_same m k ns (λ a p q. e a p (omega arith)) h.2)
+note_same : (m k : ℕ → ℕ) (j note : ℕ) → k (NOTE_LOW + j) ≡ m (NOTE_LOW + j) → k (NOTE_HIGH + j) ≡ m (NOTE_HIGH + j) → NoteAt m j note → NoteAt k j note
+note_same m k j note e d h = record { low = e ∙ h.low; high = d ∙ h.high; small = h.small }
 
--- places that a change of which leaves the list
-abbrev below_list : ℕ → Bool
-below_list a = ltb a NOTE_LIST
-
-list_kept : (m0 m : ℕ → ℕ) (ns : List ℕ) → Changes below_list m0 m → Held m0 ns → Held m ns
-list_kept m0 m ns r h = held_same m0 m ns (λ a p q. r a (le-ltb a NOTE_LIST p)) h
-
--- an empty list, as the start leaves it
-pub no_notes : (m : ℕ → ℕ) → m NOTES ≡ 0 → m 0xc03D ≡ 0 → Notes m []
-no_notes m l h = record { is_word = (omega arith, omega arith); count = omega arith; few = omega arith; held = tt }
-
--- what leaves NOTES and the list keeps the notes
-pub notes_kept : (m k : ℕ → ℕ) (ns : List ℕ) → ((a : ℕ) → NOTES ≤ a → a ≤ 0xc03D → k a ≡ m a) → ((a : ℕ) → NOTE_LIST ≤ a → a ≤ 0xc4e7 → k a ≡ m a) → Notes m ns → Notes k ns
-notes_kept m k ns c l h =
-    let few = h.few in
-    let w = same_word (k NOTES) (k 0xc03D) (m NOTES) (m 0xc03D) (length ns) (c NOTES (omega arith) (omega arith)) (c 0xc03D (omega arith) (omega arith)) h.is_word.0 h.is_word.1 h.count in
-    record { is_word = (w.0, w.1); count = w.2; few = few; held = held_same m k ns (λ a p q. l a p (omega arith)) h.held }
+-- what changes neither low nor high bytes of a list leaves it
+noted_same : (m k : ℕ → ℕ) (ns : List ℕ) → ((j : ℕ) → j < length ns → (k (NOTE_LOW + j) ≡ m (NOTE_LOW + j)) × (k (NOTE_HIGH + j) ≡ m (NOTE_HIGH + j))) → Noted m ns → Noted k ns
+noted_same m k [] e h = tt
+noted_same m k (n ∷ ns) e h =
+    let here = e (length ns) (omega arith) in
+    (note_same m k (length ns) n here.0 here.1 h.0, noted_same m k ns (λ j p. e j (omega (arith, p))) h.1)
 
 data_place : (a : ℕ) → 0xc000 ≤ a → a ≤ 0xCFFF → is_data a ≡ true
 data_place a p q = grind (arith, nat_tests)
 
-list_place : (a : ℕ) → NOTE_LIST ≤ a → a ≤ 0xc4e7 → push_changes a ≡ true
-list_place a p q = grind (arith, nat_tests)
+low_place : (a : ℕ) → 0xc100 ≤ a → a ≤ 0xc2f3 → push_changes a ≡ true
+low_place a p q = grind (arith, nat_tests)
 
--- the pointer to a note
-placed : (l h k : ℕ) → l < 256 → l + 256 * h ≡ k → k < 500 → 2 * l % 256 + 256 * ((2 * h % 256 + bit (eqb (l / 128 % 2) 1) + 193 + 0) % 256) ≡ 0xc100 + 2 * k
-placed l h k p q r = omega (arith, one_high l p)
+high_place : (a : ℕ) → 0xc300 ≤ a → a ≤ 0xc4f3 → push_changes a ≡ true
+high_place a p q = grind (arith, nat_tests)
 
 -- a count goes up, with and without a carry
 up_carry : (l h k : ℕ) → l < 256 → l + 256 * h ≡ k → k < 500 → (l + 1) % 256 ≡ 0 → ((l + 1) % 256 < 256) × ((h + 1) % 256 < 256) × ((l + 1) % 256 + 256 * ((h + 1) % 256) ≡ suc k)
@@ -65,143 +46,242 @@ up_carry l h k p q r e = (omega arith, omega arith, omega arith)
 up_plain : (l h k : ℕ) → l < 256 → l + 256 * h ≡ k → k < 500 → (l + 1) % 256 ≢ 0 → ((l + 1) % 256 < 256) × (h < 256) × ((l + 1) % 256 + 256 * h ≡ suc k)
 up_plain l h k p q r e = (omega arith, omega arith, omega arith)
 
-module _ (f : Setup) (fits : Fits f 4) (block : Holds block_part f.code) (lo hi : ℕ) (text answers : List ℕ) (m0 : ℕ → ℕ) where
+-- the word in two bytes of a note
+note_word : (low high note : ℕ) → low ≡ note % 256 → high ≡ note / 256 → note < 65536 → (low < 256) × (high < 256) × (low + 256 * high ≡ note)
+note_word low high note l h s = (omega arith, omega (arith, h, s), omega (arith, l, h))
+
+module _ (f : Setup) (fits : Fits f 2) (block : Holds block_part f.code) (lo hi : ℕ) (text answers : List ℕ) (m0 : ℕ → ℕ) where
   -- ---- Push
-  -- the high byte
-  store_high : (a x : ℕ) (n v i z c : Bool) (m : ℕ → ℕ) (p : ℕ) (ns : List ℕ) → (m 0xfB + 256 * m 0xfC + 1) % 65536 ≡ p → is_data p ≡ true → Changes push_changes m0 (with_byte m p a) → Notes (with_byte m p a) ns → Comes f (view a x 1 n v i z c (PUSH_AT + 0x22) (lo ∷ hi ∷ []) m text answers) (Pushed lo hi m0 text answers ns) [] 2
-  store_high a x n v i z c m p ns e d r h =
-      let here = view a x 1 n v i z c (PUSH_AT + 0x22) (lo ∷ hi ∷ []) m text answers in
-      placing f 4 fits (ins 0x91 POINTER) here _ _ [] 1 refl (notes_in f.code block _ _ refl, (notes_in f.code block _ _ refl, tt)) (stores_at f.code 4 (ins 0x91 POINTER) here Sta IndirectY p refl refl refl refl (ap (λ a. Ok a) e) a d refl)
-      (ending f 4 fits notes_part (notes_in f.code block) 0 (view a x 1 n v i z c (PUSH_AT + 0x24) (lo ∷ hi ∷ []) (with_byte m p a) text answers) _ refl
-      (record { back = record { at = refl; on_stack = refl; binary = refl; same_text = refl; same_answers = refl; others = r }; notes = h }))
-
-  -- both bytes, at the place of a new note
-  store : (a x y : ℕ) (n v i z c : Bool) (m : ℕ → ℕ) (ns : List ℕ) → IsWord m LEFT → word_in m POINTER ≡ NOTE_LIST + 2 * length ns → length ns < 500 → IsWord m NOTES → word_in m NOTES ≡ suc (length ns) → Changes below_list m0 m → Held m0 ns → Changes push_changes m0 m → Comes f (view a x y n v i z c (PUSH_AT + 0x17) (lo ∷ hi ∷ []) m text answers) (Pushed lo hi m0 text answers (word_in m LEFT ∷ ns)) [] 7
-  store a x y n v i z c m ns left pointer small is count kept_part held0 r =
-      let held = list_kept m0 m ns kept_part held0 in
-      let p = NOTE_LIST + 2 * length ns in
-      let l = m LEFT in
-      let h = m 0xc063 in
-      let m1 = with_byte m p l in
-      let m2 = with_byte m1 (p + 1) h in
-      let ready = view l x 0 (eqb (l / 128 % 2) 1) v i (eqb l 0) c (PUSH_AT + 0x1C) (lo ∷ hi ∷ []) m text answers in
-      let below : (a : ℕ) → a < p → m2 a ≡ m a = λ a s. put_other m1 (p + 1) h a (λ e. omega arith) ∙ put_other m p l a (λ e. omega arith) in
-      let low : m2 p ≡ l = put_other m1 (p + 1) h p (λ e. omega arith) ∙ put_same m p l p refl in
-      let high : m2 (p + 1) ≡ h = put_same m1 (p + 1) h (p + 1) refl in
-      let n0 : m2 NOTES ≡ m NOTES = below NOTES (omega arith) in
-      let n1 : m2 0xc03D ≡ m 0xc03D = below 0xc03D (omega arith) in
-      let kept : m1 0xc063 ≡ h = put_other m p l 0xc063 (λ e. omega arith) in
-      let p0 : m1 0xfB ≡ m 0xfB = put_other m p l 0xfB (λ e. omega arith) in
-      let p1 : m1 0xfC ≡ m 0xfC = put_other m p l 0xfC (λ e. omega arith) in
-      after f 4 fits notes_part (notes_in f.code block) 1 (view a x y n v i z c (PUSH_AT + 0x17) (lo ∷ hi ∷ []) m text answers) _ _ 5 refl
-      (placing f 4 fits (ins 0x91 POINTER) ready _ _ [] 4 refl (notes_in f.code block _ _ refl, (notes_in f.code block _ _ refl, tt)) (stores_at f.code 4 (ins 0x91 POINTER) ready Sta IndirectY p refl refl refl refl (ap (λ a. Ok a) (let e : (m 0xfB + 256 * m 0xfC + 0) % 65536 ≡ p = omega arith in e)) l (data_place p (omega arith) (omega arith)) refl)
-      (after f 4 fits notes_part (notes_in f.code block) 1 (view l x 0 (eqb (l / 128 % 2) 1) v i (eqb l 0) c (PUSH_AT + 0x1E) (lo ∷ hi ∷ []) m1 text answers) _ _ 2 refl
-      (rw kept (store_high h x _ _ _ _ _ m1 (p + 1) (word_in m LEFT ∷ ns) (omega arith) (data_place (p + 1) (omega arith) (omega arith))
-      (changes_put push_changes m0 m1 (p + 1) h (list_place (p + 1) (omega arith) (omega arith)) (changes_put push_changes m0 m p l (list_place p (omega arith) (omega arith)) r))
+  -- the note's bytes stand, and NOTES goes up: with a carry
+  count_over : (a x y : ℕ) (n v i z c : Bool) (m : ℕ → ℕ) (note : ℕ) (ns : List ℕ) → m NOTES < 256 → m NOTES + 256 * m 0xc03D ≡ length ns → length ns < 500 → Noted m (note ∷ ns) → Changes push_changes m0 m → (m NOTES + 1) % 256 ≡ 0 → Comes f (view a x y n v i z c (PUSH_AT + 0x12) (lo ∷ hi ∷ []) m text answers) (Pushed lo hi m0 text answers (note ∷ ns)) [] 4
+  count_over a x y n v i z c m note ns low is small h r over =
+      let m1 = with_byte m NOTES ((m NOTES + 1) % 256) in
+      let m2 = with_byte m1 0xc03D ((m1 0xc03D + 1) % 256) in
+      let same : (a : ℕ) → NOTE_LOW ≤ a → m2 a ≡ m a = λ a p. put_other m1 0xc03D _ a (λ e. omega (arith, e, p)) ∙ put_other m NOTES _ a (λ e. omega (arith, e, p)) in
+      let u = up_carry (m NOTES) (m 0xc03D) (length ns) low is small over in
+      let t : eqb ((m NOTES + 1) % 256) 0 ≡ true = eq-eqb _ _ over in
+      after f 2 fits notes_part (notes_in f.code block) 1 (view a x y n v i z c (PUSH_AT + 0x12) (lo ∷ hi ∷ []) m text answers) _ _ 2 refl
+      (rw t (ending f 2 fits notes_part (notes_in f.code block) 1 (view _ _ _ _ _ _ _ _ (PUSH_AT + 0x17) (lo ∷ hi ∷ []) m1 text answers) _ refl
       (record {
-        is_word = (omega arith, omega arith);
-        count = omega arith;
-        few = omega arith;
-        held = (
-          (let r : (m2 p < 256) × (m2 (p + 1) < 256) = (omega (arith, left.0), omega (arith, left.1)) in r),
-          (let r : m2 p + 256 * m2 (p + 1) ≡ word_in m LEFT = omega arith in r),
-          held_same m m2 ns (λ a s t. below a t) held,
-        );
-      })))))
+        back = record { at = refl; on_stack = refl; binary = refl; same_text = refl; same_answers = refl; others = changes_put _ _ _ 0xc03D _ refl (changes_put _ _ _ NOTES _ refl r) };
+        notes = record { is_word = (u.0, u.1); count = u.2; few = omega (arith, small); noted = noted_same m m2 (note ∷ ns) (λ j p. (same _ (omega arith), same _ (omega arith))) h };
+      })))
 
-  -- NOTES goes up
-  bump : (a x y : ℕ) (n v i z c : Bool) (ns : List ℕ) → IsWord m0 LEFT → Notes m0 ns → length ns < 500 → Comes f (view a x y n v i z c (PUSH_AT + 0x0C) (lo ∷ hi ∷ []) m0 text answers) (Pushed lo hi m0 text answers (word_in m0 LEFT ∷ ns)) [] 20
-  bump a x y n v i z c ns left h small =
+  -- and without one
+  count_plain : (a x y : ℕ) (n v i z c : Bool) (m : ℕ → ℕ) (note : ℕ) (ns : List ℕ) → m NOTES < 256 → m NOTES + 256 * m 0xc03D ≡ length ns → length ns < 500 → Noted m (note ∷ ns) → Changes push_changes m0 m → (m NOTES + 1) % 256 ≢ 0 → Comes f (view a x y n v i z c (PUSH_AT + 0x12) (lo ∷ hi ∷ []) m text answers) (Pushed lo hi m0 text answers (note ∷ ns)) [] 3
+  count_plain a x y n v i z c m note ns low is small h r under =
+      let m1 = with_byte m NOTES ((m NOTES + 1) % 256) in
+      let same : (a : ℕ) → NOTE_LOW ≤ a → m1 a ≡ m a = λ a p. put_other m NOTES _ a (λ e. omega (arith, e, p)) in
+      let u = up_plain (m NOTES) (m 0xc03D) (length ns) low is small under in
+      let t : eqb ((m NOTES + 1) % 256) 0 ≡ false = ne_eqb _ _ under in
+      after f 2 fits notes_part (notes_in f.code block) 1 (view a x y n v i z c (PUSH_AT + 0x12) (lo ∷ hi ∷ []) m text answers) _ _ 1 refl
+      (rw t (ending f 2 fits notes_part (notes_in f.code block) 0 (view _ _ _ _ _ _ _ _ (PUSH_AT + 0x1A) (lo ∷ hi ∷ []) m1 text answers) _ refl
+      (record {
+        back = record { at = refl; on_stack = refl; binary = refl; same_text = refl; same_answers = refl; others = changes_put _ _ _ NOTES _ refl r };
+        notes = record { is_word = (u.0, u.1); count = u.2; few = omega (arith, small); noted = noted_same m m1 (note ∷ ns) (λ j p. (same _ (omega arith), same _ (omega arith))) h };
+      })))
+
+  count : (a x y : ℕ) (n v i z c : Bool) (m : ℕ → ℕ) (note : ℕ) (ns : List ℕ) → m NOTES < 256 → m NOTES + 256 * m 0xc03D ≡ length ns → length ns < 500 → Noted m (note ∷ ns) → Changes push_changes m0 m → Comes f (view a x y n v i z c (PUSH_AT + 0x12) (lo ∷ hi ∷ []) m text answers) (Pushed lo hi m0 text answers (note ∷ ns)) [] 4
+  count a x y n v i z c m note ns low is small h r =
+      ⊎_elim
+      (λ over. count_over a x y n v i z c m note ns low is small h r over)
+      (λ under. looser f _ _ _ [] 3 4 (omega arith) (λ w h. h) (count_plain a x y n v i z c m note ns low is small h r under))
+      (cases_eq ((m NOTES + 1) % 256) 0)
+
+  -- a new note's bytes at their places
+  abbrev with_note : ℕ → ℕ → ℕ
+  with_note j = with_byte (with_byte m0 (NOTE_LOW + j) (m0 LEFT)) (NOTE_HIGH + j) (m0 0xfc)
+
+  -- memory with a new note
+  record Stands (ns : List ℕ) : Type 0 where
+    low : with_note (length ns) NOTES < 256
+    is : with_note (length ns) NOTES + 256 * with_note (length ns) 0xc03D ≡ length ns
+    kept : with_note (length ns) 0xc03D ≡ m0 0xc03D
+    noted : Noted (with_note (length ns)) (word_in m0 LEFT ∷ ns)
+    others : Changes push_changes m0 (with_note (length ns))
+
+  stands : (ns : List ℕ) → IsWord m0 LEFT → Notes m0 ns → length ns < 500 → Stands ns
+  stands ns left h small =
+      let j = length ns in
+      let p = NOTE_LOW + j in
+      let q = NOTE_HIGH + j in
+      let m1 = with_byte m0 p (m0 LEFT) in
+      let m2 = with_note j in
+      let apart : (a : ℕ) → a ≢ p → a ≢ q → m2 a ≡ m0 a = λ a s t. put_other m1 q (m0 0xfc) a t ∙ put_other m0 p (m0 LEFT) a s in
+      let n0 : m2 NOTES ≡ m0 NOTES = apart NOTES (λ e. omega arith) (λ e. omega arith) in
+      let n1 : m2 0xc03D ≡ m0 0xc03D = apart 0xc03D (λ e. omega arith) (λ e. omega arith) in
+      let b0 : m2 p ≡ m0 LEFT = put_other m1 q (m0 0xfc) p (λ e. omega (arith, e)) ∙ put_same m0 p (m0 LEFT) p refl in
+      let b1 : m2 q ≡ m0 0xfc = put_same m1 q (m0 0xfc) q refl in
       let w = h.is_word in
       let e = h.count in
-      let p = placed (m0 NOTES) (m0 0xc03D) (length ns) w.0 e small in
-      ⊎_elim
-      (λ over. let u = up_carry (m0 NOTES) (m0 0xc03D) (length ns) w.0 e small over in
-      let t : eqb ((m0 NOTES + 1) % 256) 0 ≡ true = eq-eqb _ _ over in
-      looser f _ _ _ [] (12 + (1 + 7)) 20 (omega arith) (λ w h. h)
-      (after f 4 fits notes_part (notes_in f.code block) 11 (view a x y n v i z c (PUSH_AT + 0x0C) (lo ∷ hi ∷ []) m0 text answers) _ _ (1 + 7) refl
-      (rw t (after f 4 fits notes_part (notes_in f.code block) 0 (view _ _ _ _ _ _ _ _ (PUSH_AT + 0x14) (lo ∷ hi ∷ []) (with_byte (with_byte (with_byte m0 POINTER (2 * m0 NOTES % 256)) 0xfC ((2 * m0 0xc03D % 256 + bit (eqb (m0 NOTES / 128 % 2) 1) + 193 + 0) % 256)) NOTES ((m0 NOTES + 1) % 256)) text answers) _ _ 7 refl
-      (store _ _ _ _ _ _ _ _ _ ns left p small (u.0, u.1) u.2
-      (changes_put _ _ _ 0xc03D _ refl (changes_put _ _ _ NOTES _ refl (changes_put _ _ _ 0xfC _ refl (changes_put _ _ _ POINTER _ refl (λ a e. refl))))) h.held
-      (changes_put _ _ _ 0xc03D _ refl (changes_put _ _ _ NOTES _ refl (changes_put _ _ _ 0xfC _ refl (changes_put _ _ _ POINTER _ refl (λ a e. refl))))))))))
-      (λ under. let u = up_plain (m0 NOTES) (m0 0xc03D) (length ns) w.0 e small under in
-      let t : eqb ((m0 NOTES + 1) % 256) 0 ≡ false = ne_eqb _ _ under in
-      looser f _ _ _ [] (12 + 7) 20 (omega arith) (λ w h. h)
-      (after f 4 fits notes_part (notes_in f.code block) 11 (view a x y n v i z c (PUSH_AT + 0x0C) (lo ∷ hi ∷ []) m0 text answers) _ _ 7 refl
-      (rw t (store _ _ _ _ _ _ _ _ _ ns left p small (u.0, u.1) u.2
-      (changes_put _ _ _ NOTES _ refl (changes_put _ _ _ 0xfC _ refl (changes_put _ _ _ POINTER _ refl (λ a e. refl)))) h.held
-      (changes_put _ _ _ NOTES _ refl (changes_put _ _ _ 0xfC _ refl (changes_put _ _ _ POINTER _ refl (λ a e. refl))))))))
-      (cases_eq ((m0 NOTES + 1) % 256) 0)
+      record {
+        low = omega (arith, n0, w.0);
+        is = omega (arith, n0, n1, e);
+        kept = n1;
+        noted = (
+          record { low = omega (arith, b0, left.0); high = omega (arith, b1, left.0, left.1); small = omega (arith, left.0, left.1) },
+          noted_same m0 m2 ns (λ k l. (apart (NOTE_LOW + k) (λ e. omega (arith, e, l)) (λ e. omega (arith, e, l, small)), apart (NOTE_HIGH + k) (λ e. omega (arith, e, l, small)) (λ e. omega (arith, e, l)))) h.noted,
+        );
+        others = changes_put push_changes m0 m1 q _ (high_place q (omega arith) (omega (arith, small))) (changes_put push_changes m0 m0 p _ (low_place p (omega arith) (omega (arith, small))) (λ a e. refl));
+      }
 
-  push_whole : (a x y : ℕ) (n v i z c : Bool) (ns : List ℕ) → IsWord m0 LEFT → Notes m0 ns → length ns < 500 → Comes f (view a x y n v i z c PUSH_AT (lo ∷ hi ∷ []) m0 text answers) (Pushed lo hi m0 text answers (word_in m0 LEFT ∷ ns)) [] 25
+  -- LEFT's bytes into the list: on its first page
+  store_near : (a y : ℕ) (n v i z c : Bool) (ns : List ℕ) → IsWord m0 LEFT → Notes m0 ns → length ns < 500 → m0 0xc03D ≡ 0 → Comes f (view a (m0 NOTES) y n v i z c (PUSH_AT + 0x08) (lo ∷ hi ∷ []) m0 text answers) (Pushed lo hi m0 text answers (word_in m0 LEFT ∷ ns)) [] 8
+  store_near a y n v i z c ns left h small zero =
+      let x = m0 NOTES in
+      let p = NOTE_LOW + length ns in
+      let q = NOTE_HIGH + length ns in
+      let l = m0 LEFT in
+      let g = m0 0xfc in
+      let m1 = with_byte m0 p l in
+      let e = h.count in
+      let s = stands ns left h small in
+      let first = view l x y (eqb (l / 128 % 2) 1) v i (eqb l 0) c (PUSH_AT + 0x0A) (lo ∷ hi ∷ []) m0 text answers in
+      let second = view g x y (eqb (g / 128 % 2) 1) v i (eqb g 0) c (PUSH_AT + 0x0F) (lo ∷ hi ∷ []) m1 text answers in
+      let kept : m1 0xfc ≡ g = put_other m0 p l 0xfc (λ e. omega arith) in
+      after f 2 fits notes_part (notes_in f.code block) 0 (view a x y n v i z c (PUSH_AT + 0x08) (lo ∷ hi ∷ []) m0 text answers) _ _ 7 refl
+      (placing f 2 fits (ins 0x9D NOTE_LOW) first _ _ [] 6 refl (notes_in f.code block _ _ refl, (notes_in f.code block _ _ refl, (notes_in f.code block _ _ refl, tt))) (stores_at f.code 2 (ins 0x9D NOTE_LOW) first Sta AbsoluteX p refl refl refl refl (ap (λ a. Ok a) (let t : (NOTE_LOW + m0 NOTES) % 65536 ≡ p = omega (arith, e, zero, small) in t)) l (data_place p (omega arith) (omega (arith, small))) refl)
+      (after f 2 fits notes_part (notes_in f.code block) 0 (view l x y (eqb (l / 128 % 2) 1) v i (eqb l 0) c (PUSH_AT + 0x0D) (lo ∷ hi ∷ []) m1 text answers) _ _ 5 refl
+      (rw kept (placing f 2 fits (ins 0x9D NOTE_HIGH) second _ _ [] 4 refl (notes_in f.code block _ _ refl, (notes_in f.code block _ _ refl, (notes_in f.code block _ _ refl, tt))) (stores_at f.code 2 (ins 0x9D NOTE_HIGH) second Sta AbsoluteX q refl refl refl refl (ap (λ a. Ok a) (let t : (NOTE_HIGH + m0 NOTES) % 65536 ≡ q = omega (arith, e, zero, small) in t)) g (data_place q (omega arith) (omega (arith, small))) refl)
+      (count _ _ _ _ _ _ _ _ (with_note (length ns)) (word_in m0 LEFT) ns s.low s.is small s.noted s.others)))))
+
+  -- and on its second one
+  store_far : (a y : ℕ) (n v i z : Bool) (ns : List ℕ) → IsWord m0 LEFT → Notes m0 ns → length ns < 500 → m0 0xc03D ≡ 1 → Comes f (view a (m0 NOTES) y n v i z false (PUSH_AT + 0x1F) (lo ∷ hi ∷ []) m0 text answers) (Pushed lo hi m0 text answers (word_in m0 LEFT ∷ ns)) [] 8
+  store_far a y n v i z ns left h small one =
+      let x = m0 NOTES in
+      let p = NOTE_LOW + length ns in
+      let q = NOTE_HIGH + length ns in
+      let l = m0 LEFT in
+      let g = m0 0xfc in
+      let m1 = with_byte m0 p l in
+      let e = h.count in
+      let s = stands ns left h small in
+      let first = view l x y (eqb (l / 128 % 2) 1) v i (eqb l 0) false (PUSH_AT + 0x21) (lo ∷ hi ∷ []) m0 text answers in
+      let second = view g x y (eqb (g / 128 % 2) 1) v i (eqb g 0) false (PUSH_AT + 0x26) (lo ∷ hi ∷ []) m1 text answers in
+      let kept : m1 0xfc ≡ g = put_other m0 p l 0xfc (λ e. omega arith) in
+      after f 2 fits notes_part (notes_in f.code block) 0 (view a x y n v i z false (PUSH_AT + 0x1F) (lo ∷ hi ∷ []) m0 text answers) _ _ 7 refl
+      (placing f 2 fits (ins 0x9D 0xc200) first _ _ [] 6 refl (notes_in f.code block _ _ refl, (notes_in f.code block _ _ refl, (notes_in f.code block _ _ refl, tt))) (stores_at f.code 2 (ins 0x9D 0xc200) first Sta AbsoluteX p refl refl refl refl (ap (λ a. Ok a) (let t : (0xc200 + m0 NOTES) % 65536 ≡ p = omega (arith, e, one, small) in t)) l (data_place p (omega arith) (omega (arith, small))) refl)
+      (after f 2 fits notes_part (notes_in f.code block) 0 (view l x y (eqb (l / 128 % 2) 1) v i (eqb l 0) false (PUSH_AT + 0x24) (lo ∷ hi ∷ []) m1 text answers) _ _ 5 refl
+      (rw kept (placing f 2 fits (ins 0x9D 0xc400) second _ _ [] 4 refl (notes_in f.code block _ _ refl, (notes_in f.code block _ _ refl, (notes_in f.code block _ _ refl, tt))) (stores_at f.code 2 (ins 0x9D 0xc400) second Sta AbsoluteX q refl refl refl refl (ap (λ a. Ok a) (let t : (0xc400 + m0 NOTES) % 65536 ≡ q = omega (arith, e, one, small) in t)) g (data_place q (omega arith) (omega (arith, small))) refl)
+      (after f 2 fits notes_part (notes_in f.code block) 0 (view g x y (eqb (g / 128 % 2) 1) v i (eqb g 0) false (PUSH_AT + 0x29) (lo ∷ hi ∷ []) (with_note (length ns)) text answers) _ _ 3 refl
+      (count_plain _ _ _ _ _ _ _ _ (with_note (length ns)) (word_in m0 LEFT) ns s.low s.is small s.noted s.others (λ full. omega (arith, full, s.is, s.low, s.kept, one, e, small))))))))
+
+  push_whole : (a x y : ℕ) (n v i z c : Bool) (ns : List ℕ) → IsWord m0 LEFT → Notes m0 ns → length ns < 500 → Comes f (view a x y n v i z c PUSH_AT (lo ∷ hi ∷ []) m0 text answers) (Pushed lo hi m0 text answers (word_in m0 LEFT ∷ ns)) [] 13
   push_whole a x y n v i z c ns left h small =
       let w = h.is_word in
       let e = h.count in
-      let room : nat_le (1 + bit (not (nat_le 244 (m0 NOTES)))) (m0 0xc03D) ≡ false = carry_below (m0 NOTES) (m0 0xc03D) 244 1 w.0 w.1 (omega arith) (omega arith) (omega arith) in
-      after f 4 fits notes_part (notes_in f.code block) 4 (view a x y n v i z c PUSH_AT (lo ∷ hi ∷ []) m0 text answers) _ _ 20 refl
-      (rw room (bump _ _ _ _ _ _ _ _ ns left h small))
+      ⊎_elim
+      (λ near. let t : eqb (m0 0xc03D) 0 ≡ true = eq-eqb _ _ near in
+      looser f _ _ _ [] (3 + 8) 13 (omega arith) (λ w h. h)
+      (after f 2 fits notes_part (notes_in f.code block) 2 (view a x y n v i z c PUSH_AT (lo ∷ hi ∷ []) m0 text answers) _ _ 8 refl
+      (rw t (store_near _ _ _ _ _ _ _ ns left h small near))))
+      (λ far. let t : eqb (m0 0xc03D) 0 ≡ false = ne_eqb _ _ far in
+      let one : m0 0xc03D ≡ 1 = omega (arith, far, e, small) in
+      let room : nat_le 244 (m0 NOTES) ≡ false = lt-leb 244 (m0 NOTES) (omega (arith, one, e, small)) in
+      after f 2 fits notes_part (notes_in f.code block) 2 (view a x y n v i z c PUSH_AT (lo ∷ hi ∷ []) m0 text answers) _ _ (2 + 8) refl
+      (rw t (after f 2 fits notes_part (notes_in f.code block) 1 (view _ (m0 NOTES) y _ v i _ c (PUSH_AT + 0x1B) (lo ∷ hi ∷ []) m0 text answers) _ _ 8 refl
+      (rw room (store_far _ _ _ _ _ _ ns left h small one)))))
+      (cases_eq (m0 0xc03D) 0)
 
   push_full : (a x y : ℕ) (n v i z c : Bool) (ns : List ℕ) → Notes m0 ns → length ns ≡ 500 → Comes f (view a x y n v i z c PUSH_AT (lo ∷ hi ∷ []) m0 text answers) (Faulted 4 lo hi nothing m0 text answers) [] 7
   push_full a x y n v i z c ns h full =
       let w = h.is_word in
       let e = h.count in
-      let room : nat_le (1 + bit (not (nat_le 244 (m0 NOTES)))) (m0 0xc03D) ≡ true = carry_at_least (m0 NOTES) (m0 0xc03D) 244 1 w.0 w.1 (omega arith) (omega arith) (omega arith) in
-      after f 4 fits notes_part (notes_in f.code block) 4 (view a x y n v i z c PUSH_AT (lo ∷ hi ∷ []) m0 text answers) _ _ 2 refl
-      (rw room (ending f 4 fits notes_part (notes_in f.code block) 1 (view _ _ _ _ _ _ _ _ (PUSH_AT + 0x25) (lo ∷ hi ∷ []) m0 text answers) _ refl
-      (record { ended = record { at = refl; on_stack = refl; binary = refl; same_text = refl; same_answers = refl; others = λ a e. refl }; told = refl })))
+      let t : eqb (m0 0xc03D) 0 ≡ false = ne_eqb _ _ (λ q. omega (arith, q, w.0, e, full)) in
+      let room : nat_le 244 (m0 NOTES) ≡ true = le-leb 244 (m0 NOTES) (omega (arith, w.0, e, full)) in
+      after f 2 fits notes_part (notes_in f.code block) 2 (view a x y n v i z c PUSH_AT (lo ∷ hi ∷ []) m0 text answers) _ _ (2 + 2) refl
+      (rw t (after f 2 fits notes_part (notes_in f.code block) 1 (view _ (m0 NOTES) y _ v i _ c (PUSH_AT + 0x1B) (lo ∷ hi ∷ []) m0 text answers) _ _ 2 refl
+      (rw room (ending f 2 fits notes_part (notes_in f.code block) 1 (view _ _ _ _ _ _ _ _ (PUSH_AT + 0x2B) (lo ∷ hi ∷ []) m0 text answers) _ refl
+      (record { ended = record { at = refl; on_stack = refl; binary = refl; same_text = refl; same_answers = refl; others = λ a e. refl }; told = refl })))))
 
   -- ---- Pop
-  -- the note is read
-  pop_low : (a x y : ℕ) (n v i z c : Bool) (m : ℕ → ℕ) (n1 : ℕ) (ns : List ℕ) → m 0xc03D < 256 → (m NOTES + 255) % 256 + 256 * m 0xc03D ≡ length ns → length ns < 500 → Changes below_list m0 m → Held m0 (n1 ∷ ns) → Changes pop_changes m0 m → Comes f (view a x y n v i z c (PUSH_AT + 0x47) (lo ∷ hi ∷ []) m text answers) (Popped lo hi m0 text answers n1 ns) [] 18
-  pop_low a x y n v i z c m n1 ns top count small kept_part held0 r =
-      let held = list_kept m0 m (n1 ∷ ns) kept_part held0 in
-      let p = NOTE_LIST + 2 * length ns in
-      let l = (m NOTES + 255) % 256 in
-      let place = placed l (m 0xc03D) (length ns) (omega arith) count small in
-      let m1 = with_byte m NOTES l in
-      let m2 = with_byte m1 POINTER (2 * l % 256) in
-      let m3 = with_byte m2 0xfC ((2 * m 0xc03D % 256 + bit (eqb (l / 128 % 2) 1) + 193 + 0) % 256) in
-      let m4 = with_byte m3 RESULT (m3 p) in
-      let m5 = with_byte m4 0xc067 (m4 (p + 1)) in
-      let above : (a : ℕ) → NOTE_LIST ≤ a → m4 a ≡ m a = λ a s. put_other m3 RESULT (m3 p) a (λ e. omega arith) ∙ put_other m2 0xfC _ a (λ e. omega arith) ∙ put_other m1 POINTER _ a (λ e. omega arith) ∙ put_other m NOTES _ a (λ e. omega arith) in
-      let low : m3 p ≡ m p = put_other m2 0xfC _ p (λ e. omega arith) ∙ put_other m1 POINTER _ p (λ e. omega arith) ∙ put_other m NOTES _ p (λ e. omega arith) in
-      let high : m4 (p + 1) ≡ m (p + 1) = above (p + 1) (omega arith) in
-      let got = same_word (m3 p) (m4 (p + 1)) (m p) (m (p + 1)) n1 low high held.0.0 held.0.1 held.1 in
-      let small_low : l < 256 = omega arith in
-      let few : length ns ≤ 500 = omega arith in
-      let e0 : (m3 0xfB + 256 * m3 0xfC + 0) % 65536 ≡ p = omega (arith, place, small) in
-      let e1 : (m4 0xfB + 256 * m4 0xfC + 1) % 65536 ≡ p + 1 = omega (arith, place, small) in
-      let ready = view _ x 0 false _ i true _ (PUSH_AT + 0x4F) (lo ∷ hi ∷ []) m3 text answers in
-      let second = view (m3 p) x 1 false _ i false _ (PUSH_AT + 0x55) (lo ∷ hi ∷ []) m4 text answers in
-      after f 4 fits notes_part (notes_in f.code block) 11 (view a x y n v i z c (PUSH_AT + 0x47) (lo ∷ hi ∷ []) m text answers) _ _ 6 refl
-      (placing f 4 fits (ins 0xB1 POINTER) ready _ _ [] 5 refl (notes_in f.code block _ _ refl, (notes_in f.code block _ _ refl, tt)) (takes_at f.code 4 (ins 0xB1 POINTER) ready Lda IndirectY p refl refl refl refl (ap (λ a. Ok a) e0) (m3 p) _ (reads_data f.code m3 p (data_place p (omega arith) (omega arith))) refl)
-      (after f 4 fits notes_part (notes_in f.code block) 1 (view (m3 p) x 0 _ _ i _ _ (PUSH_AT + 0x51) (lo ∷ hi ∷ []) m3 text answers) _ _ 3 refl
-      (placing f 4 fits (ins 0xB1 POINTER) second _ _ [] 2 refl (notes_in f.code block _ _ refl, (notes_in f.code block _ _ refl, tt)) (takes_at f.code 4 (ins 0xB1 POINTER) second Lda IndirectY (p + 1) refl refl refl refl (ap (λ a. Ok a) e1) (m4 (p + 1)) _ (reads_data f.code m4 (p + 1) (data_place (p + 1) (omega arith) (omega arith))) refl)
-      (ending f 4 fits notes_part (notes_in f.code block) 1 (view (m4 (p + 1)) x 1 _ _ i _ _ (PUSH_AT + 0x57) (lo ∷ hi ∷ []) m4 text answers) _ refl
-      (record {
-        back = record { at = refl; on_stack = refl; binary = refl; same_text = refl; same_answers = refl; others = changes_put _ _ _ 0xc067 _ refl (changes_put _ _ _ RESULT _ refl (changes_put _ _ _ 0xfC _ refl (changes_put _ _ _ POINTER _ refl (changes_put _ _ _ NOTES _ refl r)))) };
-        is_word = (got.0, got.1);
-        result = got.2;
-        notes = record { is_word = (small_low, top); count = count; few = few; held = held_same m m5 ns (λ a s t. put_other m4 0xc067 _ a (λ e. omega arith) ∙ above a s) held.2 };
-      })))))
+  -- memory without the newest note
+  abbrev counted : (ℕ → ℕ) → ℕ → ℕ
+  counted m = with_byte m NOTES ((m NOTES + 255) % 256)
 
-  pop_whole : (a x y : ℕ) (n v i z c : Bool) (n1 : ℕ) (ns : List ℕ) → Notes m0 (n1 ∷ ns) → Comes f (view a x y n v i z c POP_AT (lo ∷ hi ∷ []) m0 text answers) (Popped lo hi m0 text answers n1 ns) [] 23
-  pop_whole a x y n v i z c n1 ns h =
+  -- the note's bytes into RESULT
+  record Fetched (m : ℕ → ℕ) (note : ℕ) (ns : List ℕ) : Type 0 where
+    word : (counted m (NOTE_LOW + length ns) < 256) × (counted m (NOTE_HIGH + length ns) < 256) × (counted m (NOTE_LOW + length ns) + 256 * counted m (NOTE_HIGH + length ns) ≡ note)
+    noted : (m' : ℕ → ℕ) → ((a : ℕ) → NOTE_LOW ≤ a → m' a ≡ counted m a) → Noted m' ns
+
+  fetched : (m : ℕ → ℕ) (note : ℕ) (ns : List ℕ) → Noted m (note ∷ ns) → Fetched m note ns
+  fetched m note ns h =
+      let same : (a : ℕ) → NOTE_LOW ≤ a → counted m a ≡ m a = λ a p. put_other m NOTES _ a (λ e. omega (arith, e, p)) in
+      record {
+        word = note_word _ _ note (same _ (omega arith) ∙ h.0.low) (same _ (omega arith) ∙ h.0.high) h.0.small;
+        noted = λ m' e. noted_same m m' ns (λ j p. (e _ (omega arith) ∙ same _ (omega arith), e _ (omega arith) ∙ same _ (omega arith))) h.1;
+      }
+
+  -- RESULT takes A and Y
+  give : (a x y : ℕ) (n v i z c : Bool) (m : ℕ → ℕ) (note : ℕ) (ns : List ℕ) → (a < 256) × (y < 256) × (a + 256 * y ≡ note) → m NOTES < 256 → m 0xc03D < 256 → m NOTES + 256 * m 0xc03D ≡ length ns → length ns < 500 → ((m' : ℕ → ℕ) → ((a : ℕ) → NOTE_LOW ≤ a → m' a ≡ m a) → Noted m' ns) → Changes pop_changes m0 m → Comes f (view a x y n v i z c (PUSH_AT + 0x4C) (lo ∷ hi ∷ []) m text answers) (Popped lo hi m0 text answers note ns) [] 3
+  give a x y n v i z c m note ns word low top is small noted r =
+      let m1 = with_byte m RESULT a in
+      let m2 = with_byte m1 0xc067 y in
+      ending f 2 fits notes_part (notes_in f.code block) 2 (view a x y n v i z c (PUSH_AT + 0x4C) (lo ∷ hi ∷ []) m text answers) _ refl
+      (record {
+        back = record { at = refl; on_stack = refl; binary = refl; same_text = refl; same_answers = refl; others = changes_put _ _ _ 0xc067 _ refl (changes_put _ _ _ RESULT _ refl r) };
+        is_word = (word.0, word.1);
+        result = word.2;
+        notes = record { is_word = (low, top); count = is; few = omega (arith, small); noted = noted m2 (λ a p. put_other m1 0xc067 y a (λ e. omega (arith, e, p)) ∙ put_other m RESULT _ a (λ e. omega (arith, e, p))) };
+      })
+
+  -- the newest note, on the first page
+  take_near : (a y : ℕ) (n v i z c : Bool) (m : ℕ → ℕ) (note : ℕ) (ns : List ℕ) → m 0xc03D ≡ 0 → (m NOTES + 255) % 256 + 256 * m 0xc03D ≡ length ns → length ns < 500 → Noted m (note ∷ ns) → Changes pop_changes m0 m → Comes f (view a (m NOTES) y n v i z c (PUSH_AT + 0x3D) (lo ∷ hi ∷ []) m text answers) (Popped lo hi m0 text answers note ns) [] 9
+  take_near a y n v i z c m note ns near is small h r =
+      let x = (m NOTES + 255) % 256 in
+      let p = NOTE_LOW + length ns in
+      let q = NOTE_HIGH + length ns in
+      let m1 = counted m in
+      let g = fetched m note ns h in
+      let b = m1 p in
+      let d = m1 q in
+      let t : eqb (m 0xc03D) 0 ≡ true = eq-eqb _ _ near in
+      let first = view (m 0xc03D) x y (eqb (m 0xc03D / 128 % 2) 1) v i true c (PUSH_AT + 0x46) (lo ∷ hi ∷ []) m1 text answers in
+      let second = view (m 0xc03D) x d (eqb (d / 128 % 2) 1) v i (eqb d 0) c (PUSH_AT + 0x49) (lo ∷ hi ∷ []) m1 text answers in
+      after f 2 fits notes_part (notes_in f.code block) 3 (view a (m NOTES) y n v i z c (PUSH_AT + 0x3D) (lo ∷ hi ∷ []) m text answers) _ _ (1 + (1 + 3)) refl
+      (rw t (placing f 2 fits (ins 0xBC NOTE_HIGH) first _ _ [] (1 + 3) refl (notes_in f.code block _ _ refl, (notes_in f.code block _ _ refl, (notes_in f.code block _ _ refl, tt))) (takes_at f.code 2 (ins 0xBC NOTE_HIGH) first Ldy AbsoluteX q refl refl refl refl (ap (λ a. Ok a) (let t : (NOTE_HIGH + x) % 65536 ≡ q = omega (arith, is, near, small) in t)) d _ (reads_data f.code m1 q (data_place q (omega arith) (omega (arith, small)))) refl)
+      (placing f 2 fits (ins 0xBD NOTE_LOW) second _ _ [] 3 refl (notes_in f.code block _ _ refl, (notes_in f.code block _ _ refl, (notes_in f.code block _ _ refl, tt))) (takes_at f.code 2 (ins 0xBD NOTE_LOW) second Lda AbsoluteX p refl refl refl refl (ap (λ a. Ok a) (let t : (NOTE_LOW + x) % 65536 ≡ p = omega (arith, is, near, small) in t)) b _ (reads_data f.code m1 p (data_place p (omega arith) (omega (arith, small)))) refl)
+      (give b x d _ _ _ _ _ m1 note ns g.word (omega arith) (omega (arith, near)) is small g.noted (changes_put pop_changes m0 m NOTES x refl r)))))
+
+  -- and on the second one
+  take_far : (a y : ℕ) (n v i z c : Bool) (m : ℕ → ℕ) (note : ℕ) (ns : List ℕ) → m 0xc03D ≡ 1 → (m NOTES + 255) % 256 + 256 * m 0xc03D ≡ length ns → length ns < 500 → Noted m (note ∷ ns) → Changes pop_changes m0 m → Comes f (view a (m NOTES) y n v i z c (PUSH_AT + 0x3D) (lo ∷ hi ∷ []) m text answers) (Popped lo hi m0 text answers note ns) [] 10
+  take_far a y n v i z c m note ns far is small h r =
+      let x = (m NOTES + 255) % 256 in
+      let p = NOTE_LOW + length ns in
+      let q = NOTE_HIGH + length ns in
+      let m1 = counted m in
+      let g = fetched m note ns h in
+      let b = m1 p in
+      let d = m1 q in
+      let t : eqb (m 0xc03D) 0 ≡ false = ne_eqb _ _ (λ e. omega (arith, e, far)) in
+      let first = view (m 0xc03D) x y (eqb (m 0xc03D / 128 % 2) 1) v i false c (PUSH_AT + 0x53) (lo ∷ hi ∷ []) m1 text answers in
+      let second = view (m 0xc03D) x d (eqb (d / 128 % 2) 1) v i (eqb d 0) c (PUSH_AT + 0x56) (lo ∷ hi ∷ []) m1 text answers in
+      after f 2 fits notes_part (notes_in f.code block) 3 (view a (m NOTES) y n v i z c (PUSH_AT + 0x3D) (lo ∷ hi ∷ []) m text answers) _ _ (1 + (1 + (1 + 3))) refl
+      (rw t (placing f 2 fits (ins 0xBC 0xc400) first _ _ [] (1 + (1 + 3)) refl (notes_in f.code block _ _ refl, (notes_in f.code block _ _ refl, (notes_in f.code block _ _ refl, tt))) (takes_at f.code 2 (ins 0xBC 0xc400) first Ldy AbsoluteX q refl refl refl refl (ap (λ a. Ok a) (let t : (0xc400 + x) % 65536 ≡ q = omega (arith, is, far, small) in t)) d _ (reads_data f.code m1 q (data_place q (omega arith) (omega (arith, small)))) refl)
+      (placing f 2 fits (ins 0xBD 0xc200) second _ _ [] (1 + 3) refl (notes_in f.code block _ _ refl, (notes_in f.code block _ _ refl, (notes_in f.code block _ _ refl, tt))) (takes_at f.code 2 (ins 0xBD 0xc200) second Lda AbsoluteX p refl refl refl refl (ap (λ a. Ok a) (let t : (0xc200 + x) % 65536 ≡ p = omega (arith, is, far, small) in t)) b _ (reads_data f.code m1 p (data_place p (omega arith) (omega (arith, small)))) refl)
+      (after f 2 fits notes_part (notes_in f.code block) 0 (view b x d _ _ _ _ _ (PUSH_AT + 0x59) (lo ∷ hi ∷ []) m1 text answers) _ _ 3 refl
+      (give b x d _ _ _ _ _ m1 note ns g.word (omega arith) (omega (arith, far)) is small g.noted (changes_put pop_changes m0 m NOTES x refl r))))))
+
+  pop_whole : (a x y : ℕ) (n v i z c : Bool) (note : ℕ) (ns : List ℕ) → Notes m0 (note ∷ ns) → Comes f (view a x y n v i z c POP_AT (lo ∷ hi ∷ []) m0 text answers) (Popped lo hi m0 text answers note ns) [] 14
+  pop_whole a x y n v i z c note ns h =
       let w = h.is_word in
       let e = h.count in
       let few = h.few in
       ⊎_elim
       (λ none. let t : eqb (m0 NOTES) 0 ≡ true = eq-eqb _ _ none in
       let s : eqb (m0 0xc03D) 0 ≡ false = ne_eqb _ _ (λ x. omega arith) in
-      after f 4 fits notes_part (notes_in f.code block) 1 (view a x y n v i z c POP_AT (lo ∷ hi ∷ []) m0 text answers) _ _ (2 + (1 + 18)) refl
-      (rw t (after f 4 fits notes_part (notes_in f.code block) 1 (view _ _ _ _ _ _ _ _ (PUSH_AT + 0x3F) (lo ∷ hi ∷ []) m0 text answers) _ _ (1 + 18) refl
-      (rw s (after f 4 fits notes_part (notes_in f.code block) 0 (view _ _ _ _ _ _ _ _ (PUSH_AT + 0x44) (lo ∷ hi ∷ []) m0 text answers) _ _ 18 refl
-      (pop_low _ _ _ _ _ _ _ _ (with_byte m0 0xc03D ((m0 0xc03D + 255) % 256)) n1 ns (omega arith) (omega arith) (omega arith)
-      (changes_put _ _ _ 0xc03D _ refl (λ a e. refl)) h.held (changes_put _ _ _ 0xc03D _ refl (λ a e. refl))))))))
+      after f 2 fits notes_part (notes_in f.code block) 1 (view a x y n v i z c POP_AT (lo ∷ hi ∷ []) m0 text answers) _ _ (2 + (1 + 9)) refl
+      (rw t (after f 2 fits notes_part (notes_in f.code block) 1 (view _ (m0 NOTES) _ _ _ _ _ _ (PUSH_AT + 0x35) (lo ∷ hi ∷ []) m0 text answers) _ _ (1 + 9) refl
+      (rw s (after f 2 fits notes_part (notes_in f.code block) 0 (view _ (m0 NOTES) _ _ _ _ _ _ (PUSH_AT + 0x3A) (lo ∷ hi ∷ []) m0 text answers) _ _ 9 refl
+      (take_near _ _ _ _ _ _ _ (with_byte m0 0xc03D ((m0 0xc03D + 255) % 256)) note ns (omega arith) (omega arith) (omega arith)
+      (noted_same m0 _ (note ∷ ns) (λ j p. (put_other m0 0xc03D _ _ (λ e. omega arith), put_other m0 0xc03D _ _ (λ e. omega arith))) h.noted) (changes_put _ _ _ 0xc03D _ refl (λ a e. refl))))))))
       (λ some. let t : eqb (m0 NOTES) 0 ≡ false = ne_eqb _ _ some in
-      looser f _ _ _ [] (2 + 18) 23 (omega arith) (λ w h. h)
-      (after f 4 fits notes_part (notes_in f.code block) 1 (view a x y n v i z c POP_AT (lo ∷ hi ∷ []) m0 text answers) _ _ 18 refl
-      (rw t (pop_low _ _ _ _ _ _ _ _ m0 n1 ns w.1 (omega arith) (omega arith) (λ a e. refl) h.held (λ a e. refl)))))
+      looser f _ _ _ [] (2 + 10) 14 (omega arith) (λ w h. h)
+      (after f 2 fits notes_part (notes_in f.code block) 1 (view a x y n v i z c POP_AT (lo ∷ hi ∷ []) m0 text answers) _ _ 10 refl
+      (rw t (⊎_elim
+      (λ near. looser f _ _ _ [] 9 10 (omega arith) (λ w h. h) (take_near _ _ _ _ _ _ _ m0 note ns near (omega arith) (omega arith) h.noted (λ a e. refl)))
+      (λ far. take_far _ _ _ _ _ _ _ m0 note ns (omega arith) (omega arith) (omega arith) h.noted (λ a e. refl))
+      (cases_eq (m0 0xc03D) 0)))))
       (cases_eq (m0 NOTES) 0)
 
   pop_none : (a x y : ℕ) (n v i z c : Bool) → Notes m0 [] → Comes f (view a x y n v i z c POP_AT (lo ∷ hi ∷ []) m0 text answers) (Faulted 5 lo hi nothing m0 text answers) [] 6
@@ -209,9 +289,9 @@ module _ (f : Setup) (fits : Fits f 4) (block : Holds block_part f.code) (lo hi 
       let e = h.count in
       let t : eqb (m0 NOTES) 0 ≡ true = eq-eqb _ _ (omega arith) in
       let s : eqb (m0 0xc03D) 0 ≡ true = eq-eqb _ _ (omega arith) in
-      after f 4 fits notes_part (notes_in f.code block) 1 (view a x y n v i z c POP_AT (lo ∷ hi ∷ []) m0 text answers) _ _ (2 + 2) refl
-      (rw t (after f 4 fits notes_part (notes_in f.code block) 1 (view _ _ _ _ _ _ _ _ (PUSH_AT + 0x3F) (lo ∷ hi ∷ []) m0 text answers) _ _ 2 refl
-      (rw s (ending f 4 fits notes_part (notes_in f.code block) 1 (view _ _ _ _ _ _ _ _ (PUSH_AT + 0x5B) (lo ∷ hi ∷ []) m0 text answers) _ refl
+      after f 2 fits notes_part (notes_in f.code block) 1 (view a x y n v i z c POP_AT (lo ∷ hi ∷ []) m0 text answers) _ _ (2 + 2) refl
+      (rw t (after f 2 fits notes_part (notes_in f.code block) 1 (view _ (m0 NOTES) _ _ _ _ _ _ (PUSH_AT + 0x35) (lo ∷ hi ∷ []) m0 text answers) _ _ 2 refl
+      (rw s (ending f 2 fits notes_part (notes_in f.code block) 1 (view _ _ _ _ _ _ _ _ (PUSH_AT + 0x5C) (lo ∷ hi ∷ []) m0 text answers) _ refl
       (record { ended = record { at = refl; on_stack = refl; binary = refl; same_text = refl; same_answers = refl; others = λ a e. refl }; told = refl })))))
 
 pub push_law : PushLaw

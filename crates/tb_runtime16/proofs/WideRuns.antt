@@ -57,7 +57,7 @@ module _ (f : Setup) (fits : Fits f 2) (block : Holds block_part f.code) (lo hi 
     left : IsWord m LEFT
     rest : IsWord m RESULT
     low : m RIGHT ≡ m0 RIGHT
-    high : m 0xc065 ≡ m0 0xc065
+    high : m 0xfe ≡ m0 0xfe
     others : Frame m0 m
     less : word_in m RESULT < word_in m0 RIGHT
     few : q < pow2 j
@@ -67,10 +67,10 @@ module _ (f : Setup) (fits : Fits f 2) (block : Holds block_part f.code) (lo hi 
   Goal v n = Comes f v (Back lo hi text answers (Parted m0 (word_in m0 LEFT / word_in m0 RIGHT) (word_in m0 LEFT % word_in m0 RIGHT))) [] n
 
   Less : ℕ → Type 0
-  Less k = (a x y : ℕ) (n v i z c : Bool) (m : ℕ → ℕ) (j q : ℕ) → Held j q m → y ≡ suc k → j + k ≡ 16 → Goal (view a x y n v i z c (DIVIDE_AT + 157) (lo ∷ hi ∷ []) m text answers) (16 * k + 3)
+  Less k = (a x y : ℕ) (n v i z c : Bool) (m : ℕ → ℕ) (j q : ℕ) → Held j q m → y ≡ suc k → j + k ≡ 16 → Goal (view a x y n v i z c (DIVIDE_AT + 135) (lo ∷ hi ∷ []) m text answers) (16 * k + 3)
 
   Next : ℕ → Type 0
-  Next k = (a x y : ℕ) (n v i z c : Bool) (m : ℕ → ℕ) (j q : ℕ) → Held j q m → y ≡ suc k → suc j + k ≡ 16 → Goal (view a x y n v i z c (DIVIDE_AT + 120) (lo ∷ hi ∷ []) m text answers) (16 * k + 17)
+  Next k = (a x y : ℕ) (n v i z c : Bool) (m : ℕ → ℕ) (j q : ℕ) → Held j q m → y ≡ suc k → suc j + k ≡ 16 → Goal (view a x y n v i z c (DIVIDE_AT + 103) (lo ∷ hi ∷ []) m text answers) (16 * k + 17)
 
   parted : (m : ℕ → ℕ) (q : ℕ) → Held 16 q m → Parted m0 (word_in m0 LEFT / word_in m0 RIGHT) (word_in m0 LEFT % word_in m0 RIGHT) m
   parted m q h =
@@ -86,8 +86,8 @@ module _ (f : Setup) (fits : Fits f 2) (block : Holds block_part f.code) (lo hi 
         others = h.others;
       }
 
-  last : (a x y : ℕ) (n v i z c : Bool) (m : ℕ → ℕ) (q : ℕ) → Held 16 q m → Goal (view a x y n v i z c (DIVIDE_AT + 160) (lo ∷ hi ∷ []) m text answers) 1
-  last a x y n v i z c m q h = ending f 2 fits divide_part (divide_in f.code block) 0 (view a x y n v i z c (DIVIDE_AT + 160) (lo ∷ hi ∷ []) m text answers) _ refl
+  last : (a x y : ℕ) (n v i z c : Bool) (m : ℕ → ℕ) (q : ℕ) → Held 16 q m → Goal (view a x y n v i z c (DIVIDE_AT + 138) (lo ∷ hi ∷ []) m text answers) 1
+  last a x y n v i z c m q h = ending f 2 fits divide_part (divide_in f.code block) 0 (view a x y n v i z c (DIVIDE_AT + 138) (lo ∷ hi ∷ []) m text answers) _ refl
       (record { pc = refl; stack_is = refl; binary = refl; same_text = refl; same_answers = refl; memory = parted m q h })
 
   less_none : Less 0
@@ -95,7 +95,7 @@ module _ (f : Setup) (fits : Fits f 2) (block : Holds block_part f.code) (lo hi 
   less_none a x y n v i z c m j q h e s =
       let done : eqb ((y + 255) % 256) 0 ≡ true = eq-eqb _ _ (omega (arith, e)) in
       looser f _ _ _ [] (2 + 1) 3 (omega arith) (λ w h. h)
-      (after f 2 fits divide_part (divide_in f.code block) 1 (view a x y n v i z c (DIVIDE_AT + 157) (lo ∷ hi ∷ []) m text answers) _ _ 1 refl
+      (after f 2 fits divide_part (divide_in f.code block) 1 (view a x y n v i z c (DIVIDE_AT + 135) (lo ∷ hi ∷ []) m text answers) _ _ 1 refl
       (rw done (last _ _ _ _ _ _ _ _ m q (subst (λ j. Held j q m) (let t : j ≡ 16 = omega (arith, s) in t) h))))
 
   less_more : (k : ℕ) → Next k → Less (suc k)
@@ -104,26 +104,26 @@ module _ (f : Setup) (fits : Fits f 2) (block : Holds block_part f.code) (lo hi 
       let less : (y + 255) % 256 ≡ suc k = omega (arith, e, s) in
       let more : eqb ((y + 255) % 256) 0 ≡ false = ne_eqb _ _ (λ x. omega (arith, less)) in
       looser f _ _ _ [] (2 + (16 * k + 17)) (16 * suc k + 3) (omega arith) (λ w h. h)
-      (after f 2 fits divide_part (divide_in f.code block) 1 (view a x y n v i z c (DIVIDE_AT + 157) (lo ∷ hi ∷ []) m text answers) _ _ (16 * k + 17) refl
+      (after f 2 fits divide_part (divide_in f.code block) 1 (view a x y n v i z c (DIVIDE_AT + 135) (lo ∷ hi ∷ []) m text answers) _ _ (16 * k + 17) refl
       (rw more (go _ _ _ _ _ _ _ _ m j q h less (omega (arith, s)))))
 
   -- the divisor goes into the rest: X, A and 1
-  keep : (k : ℕ) → Less k → (a x y : ℕ) (n v i z c : Bool) (m : ℕ → ℕ) (j q : ℕ) → Held j q (with_byte (with_byte (with_byte m RESULT x) 0xc067 a) LEFT ((m LEFT + 1) % 256)) → y ≡ suc k → j + k ≡ 16 → Goal (view a x y n v i z c (DIVIDE_AT + 148) (lo ∷ hi ∷ []) m text answers) (3 + (16 * k + 3))
+  keep : (k : ℕ) → Less k → (a x y : ℕ) (n v i z c : Bool) (m : ℕ → ℕ) (j q : ℕ) → Held j q (with_byte (with_byte (with_byte m RESULT x) 0xc067 a) LEFT ((m LEFT + 1) % 256)) → y ≡ suc k → j + k ≡ 16 → Goal (view a x y n v i z c (DIVIDE_AT + 127) (lo ∷ hi ∷ []) m text answers) (3 + (16 * k + 3))
   unfolding Less
   keep k go a x y n v i z c m j q h e s =
-      after f 2 fits divide_part (divide_in f.code block) 2 (view a x y n v i z c (DIVIDE_AT + 148) (lo ∷ hi ∷ []) m text answers) _ _ (16 * k + 3) refl
+      after f 2 fits divide_part (divide_in f.code block) 2 (view a x y n v i z c (DIVIDE_AT + 127) (lo ∷ hi ∷ []) m text answers) _ _ (16 * k + 3) refl
       (go _ _ _ _ _ _ _ _ _ j q h e s)
 
   turn : (k : ℕ) → Less k → Next k
   unfolding Less Next
   turn k go a x y n v i z c m j q h e s =
       let l0 = 2 * m LEFT % 256 in
-      let l1 = 2 * m 0xc063 % 256 + bit (eqb (m LEFT / 128 % 2) 1) in
-      let r0 = 2 * m RESULT % 256 + bit (eqb (m 0xc063 / 128 % 2) 1) in
+      let l1 = 2 * m 0xfc % 256 + bit (eqb (m LEFT / 128 % 2) 1) in
+      let r0 = 2 * m RESULT % 256 + bit (eqb (m 0xfc / 128 % 2) 1) in
       let r1 = 2 * m 0xc067 % 256 + bit (eqb (m RESULT / 128 % 2) 1) in
-      let top = carried (m LEFT) (m 0xc063) h.left.0 h.left.1 in
-      let left = doubled (m LEFT) (m 0xc063) h.left.0 h.left.1 in
-      let rest : r0 + 256 * r1 ≡ 2 * word_in m RESULT + word_in m LEFT / 32768 = omega (arith, top, h.left, h.less, most, doubled_in (m RESULT) (m 0xc067) (bit (eqb (m 0xc063 / 128 % 2) 1)) h.rest.0 h.rest.1 (omega (arith, top, h.left))) in
+      let top = carried (m LEFT) (m 0xfc) h.left.0 h.left.1 in
+      let left = doubled (m LEFT) (m 0xfc) h.left.0 h.left.1 in
+      let rest : r0 + 256 * r1 ≡ 2 * word_in m RESULT + word_in m LEFT / 32768 = omega (arith, top, h.left, h.less, most, doubled_in (m RESULT) (m 0xc067) (bit (eqb (m 0xfc / 128 % 2) 1)) h.rest.0 h.rest.1 (omega (arith, top, h.left))) in
       let small0 : r0 < 256 = omega (arith, top, h.left) in
       let small1 : r1 < 256 = omega (arith, rest, h.left, h.less, most) in
       let right : IsWord m RIGHT = (omega (arith, h.low, d), omega (arith, h.high, d)) in
@@ -133,31 +133,31 @@ module _ (f : Setup) (fits : Fits f 2) (block : Holds block_part f.code) (lo hi 
       let small3 : l1 < 256 = omega (arith, left, h.left) in
       let few : word_in m LEFT < 65536 = omega (arith, h.left) in
       ⊎_elim
-      (λ less. let t = compared_less r0 r1 (m RIGHT) (m 0xc065) small0 small1 right.0 right.1 less in
+      (λ less. let t = compared_less r0 r1 (m RIGHT) (m 0xfe) small0 small1 right.0 right.1 less in
       looser f _ _ _ [] (11 + (16 * k + 3)) (16 * k + 17) (omega arith) (λ w h. h)
-      (after f 2 fits divide_part (divide_in f.code block) 10 (view a x y n v i z c (DIVIDE_AT + 120) (lo ∷ hi ∷ []) m text answers) _ _ (16 * k + 3) refl
+      (after f 2 fits divide_part (divide_in f.code block) 10 (view a x y n v i z c (DIVIDE_AT + 103) (lo ∷ hi ∷ []) m text answers) _ _ (16 * k + 3) refl
       (rw t (go _ _ _ _ _ _ _ _ _ (suc j) (q + q)
       (record {
         left = (small2, small3);
         rest = (small0, small1);
         low = h.low;
         high = h.high;
-        others = frame_put _ _ 0xc067 _ refl (frame_put _ _ RESULT _ refl (frame_put _ _ 0xc063 _ refl (frame_put _ _ LEFT _ refl h.others)));
+        others = frame_put _ _ 0xc067 _ refl (frame_put _ _ RESULT _ refl (frame_put _ _ 0xfc _ refl (frame_put _ _ LEFT _ refl h.others)));
         less = subst (λ d. r0 + 256 * r1 < d) same less;
         few = few_less q (pow2 j) h.few;
         sum = sum_less (word_in m LEFT) (word_in m RESULT) q (word_in m0 RIGHT) (pow2 j) (word_in m0 LEFT) (l0 + 256 * l1) (r0 + 256 * r1) few left rest h.sum;
       }) e s))))
-      (λ more. let t = compared r0 r1 (m RIGHT) (m 0xc065) small0 small1 right.0 right.1 more in
-      let rest' = taken_from (r0 + 256 * r1) (word_in m0 RIGHT) _ wide (subst (λ d. d ≤ r0 + 256 * r1) same more) (subtracted r0 r1 (m RIGHT) (m 0xc065) small0 small1 right.0 right.1 ∙ ap (λ d. (r0 + 256 * r1 + (65536 - d)) % 65536) same) in
+      (λ more. let t = compared r0 r1 (m RIGHT) (m 0xfe) small0 small1 right.0 right.1 more in
+      let rest' = taken_from (r0 + 256 * r1) (word_in m0 RIGHT) _ wide (subst (λ d. d ≤ r0 + 256 * r1) same more) (subtracted r0 r1 (m RIGHT) (m 0xfe) small0 small1 right.0 right.1 ∙ ap (λ d. (r0 + 256 * r1 + (65536 - d)) % 65536) same) in
       looser f _ _ _ [] (11 + (3 + (16 * k + 3))) (16 * k + 17) (omega arith) (λ w h. h)
-      (after f 2 fits divide_part (divide_in f.code block) 10 (view a x y n v i z c (DIVIDE_AT + 120) (lo ∷ hi ∷ []) m text answers) _ _ (3 + (16 * k + 3)) refl
+      (after f 2 fits divide_part (divide_in f.code block) 10 (view a x y n v i z c (DIVIDE_AT + 103) (lo ∷ hi ∷ []) m text answers) _ _ (3 + (16 * k + 3)) refl
       (rw t (keep k go _ _ _ _ _ _ _ _ _ (suc j) (q + q + 1)
       (record {
         left = (byte_of _, small3);
         rest = (byte_of _, byte_of _);
         low = h.low;
         high = h.high;
-        others = frame_put _ _ LEFT _ refl (frame_put _ _ 0xc067 _ refl (frame_put _ _ RESULT _ refl (frame_put _ _ 0xc067 _ refl (frame_put _ _ RESULT _ refl (frame_put _ _ 0xc063 _ refl (frame_put _ _ LEFT _ refl h.others))))));
+        others = frame_put _ _ LEFT _ refl (frame_put _ _ 0xc067 _ refl (frame_put _ _ RESULT _ refl (frame_put _ _ 0xc067 _ refl (frame_put _ _ RESULT _ refl (frame_put _ _ 0xfc _ refl (frame_put _ _ LEFT _ refl h.others))))));
         less = rest_small _ (word_in m0 RIGHT) (word_in m RESULT) (word_in m LEFT) (rest' ∙ rest) h.less few;
         few = few_more q (pow2 j) h.few;
         sum = sum_more (word_in m LEFT) (word_in m RESULT) q (word_in m0 RIGHT) (pow2 j) (word_in m0 LEFT) _ _ few (up l0 l1 (word_in m LEFT) small2 small3 left) (rest' ∙ rest) h.sum;
@@ -168,11 +168,11 @@ module _ (f : Setup) (fits : Fits f 2) (block : Holds block_part f.code) (lo hi 
   lesses zero = less_none
   lesses (suc k) = less_more k (turn k (lesses k))
 
-  pub wide : (a x y : ℕ) (n v i z c : Bool) → IsWord m0 LEFT → 1 ≤ word_in m0 RIGHT → Goal (view a x y n v i z c (DIVIDE_AT + 110) (lo ∷ hi ∷ []) m0 text answers) 261
+  pub wide : (a x y : ℕ) (n v i z c : Bool) → IsWord m0 LEFT → 1 ≤ word_in m0 RIGHT → Goal (view a x y n v i z c (DIVIDE_AT + 93) (lo ∷ hi ∷ []) m0 text answers) 261
   unfolding Next
   wide a x y n v i z c p some =
       looser f _ _ _ [] (4 + 257) 261 (omega arith) (λ w h. h)
-      (after f 2 fits divide_part (divide_in f.code block) 3 (view a x y n v i z c (DIVIDE_AT + 110) (lo ∷ hi ∷ []) m0 text answers) _ _ 257 refl
+      (after f 2 fits divide_part (divide_in f.code block) 3 (view a x y n v i z c (DIVIDE_AT + 93) (lo ∷ hi ∷ []) m0 text answers) _ _ 257 refl
       (turn 15 (lesses 15) _ _ _ _ _ _ _ _ _ 0 0
       (record { left = p; rest = (omega arith, omega arith); low = refl; high = refl; others = frame_put _ _ 0xc067 _ refl (frame_put _ _ RESULT _ refl (λ a e. refl)); less = omega (arith, some); few = omega arith; sum = omega arith })
       refl refl))

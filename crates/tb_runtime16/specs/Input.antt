@@ -19,7 +19,7 @@ MINUS = 0xc06f
 
 -- the places that Input changes
 abbrev pub is_changed : ℕ → Bool
-is_changed a = (nat_le LEFT a && nat_le a 0xc067) || ((nat_le BYTE a && nat_le a MINUS) || (a == OPEN || a == COLUMN))
+is_changed a = (nat_le LEFT a && nat_le a 0xfc) || ((nat_le RESULT a && nat_le a 0xc067) || ((nat_le BYTE a && nat_le a MINUS) || (a == OPEN || a == COLUMN)))
 
 -- what Input sends before it reads: nothing where a line is open, else a question mark and a space
 abbrev pub prompt : Bool → List ℕ

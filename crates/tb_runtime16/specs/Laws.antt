@@ -14,7 +14,7 @@ IsWord m at = (m at < 256) × (m (at + 1) < 256)
 
 -- LEFT, RIGHT and RESULT
 abbrev pub is_argument : ℕ → Bool
-is_argument a = within 0xc062 0xc067 a
+is_argument a = within 0xfb 0xfe a || within 0xc066 0xc067 a
 
 -- ---- how a routine ends
 
@@ -109,7 +109,7 @@ MultiplyLaw =
 
 -- the entry of the division without signs, inside Divide
 abbrev pub unsigned_at : ℕ
-unsigned_at = DIVIDE_AT + 60
+unsigned_at = DIVIDE_AT + 52
 
 -- memory after the division without signs: quotient q at LEFT, remainder r at RESULT, and all else as it was
 pub record Parted (m0 : ℕ → ℕ) (q r : ℕ) (m : ℕ → ℕ) : Type 0 where
@@ -118,7 +118,7 @@ pub record Parted (m0 : ℕ → ℕ) (q r : ℕ) (m : ℕ → ℕ) : Type 0 wher
   pub result_is : IsWord m RESULT
   pub result : word_in m RESULT ≡ r
   pub right_low : m RIGHT ≡ m0 RIGHT
-  pub right_high : m 0xc065 ≡ m0 0xc065
+  pub right_high : m 0xfe ≡ m0 0xfe
   pub others : (a : ℕ) → is_argument a ≡ false → m a ≡ m0 a
 
 -- inside Divide: quotient and remainder of words without signs
@@ -131,7 +131,7 @@ UnsignedLaw =
 
 -- the entry of what turns the sign of LEFT, inside Divide
 abbrev pub negate_left_at : ℕ
-negate_left_at = DIVIDE_AT + 24
+negate_left_at = DIVIDE_AT + 21
 
 -- memory after Divide: quotient q at LEFT, the size r of the remainder at RESULT, and all but the arguments as it was
 pub record Divided (m0 : ℕ → ℕ) (q r : ℕ) (m : ℕ → ℕ) : Type 0 where

@@ -4,14 +4,22 @@ use Rattle.tb_runtime16.specs.declared.places.TheConstants as place
 use Rattle.tb_runtime16.specs.declared.places.Routine.{Routine}
 use Rattle.tb_runtime16.specs.declared.places.Routine.TheVariants.{Multiply, Divide, Random, Number, Text, Zone, Input, Search, Push, Pop, FaultLine, Fault, Poll}
 
--- ── pointers of page zero ──
--- the pointer to the byte, the table entry or the note that is looked at
+-- ── page zero: arguments, and pointers in the same places ──
+-- a routine's first argument
+abbrev pub LEFT : ℕ
+LEFT = 0xFB
+
+-- a routine's second argument
+abbrev pub RIGHT : ℕ
+RIGHT = 0xFD
+
+-- the pointer to the byte or the table entry that is looked at
 abbrev pub POINTER : ℕ
 POINTER = 0xFB
 
--- the pointer of Search to the first entry of the line table that is still in question
-abbrev pub SECOND : ℕ
-SECOND = 0xFD
+-- the line table's address, and then the first entry of the table that is still in question
+abbrev pub TABLE : ℕ
+TABLE = 0xFD
 
 -- ── data ──
 -- 26 words, one a variable
@@ -54,21 +62,13 @@ SLOTS = 0xC040
 abbrev pub HELD : ℕ
 HELD = 0xC060
 
--- a routine's first argument
-abbrev pub LEFT : ℕ
-LEFT = 0xC062
-
--- a routine's second argument
-abbrev pub RIGHT : ℕ
-RIGHT = 0xC064
-
 -- a routine's result
 abbrev pub RESULT : ℕ
 RESULT = 0xC066
 
--- the line table's address
-abbrev pub TABLE : ℕ
-TABLE = 0xC068
+-- the number of the line that Search looks for
+abbrev pub WANTED : ℕ
+WANTED = 0xC068
 
 -- how many entries the line table has
 abbrev pub COUNT : ℕ
@@ -86,9 +86,13 @@ BYTE = 0xC06D
 abbrev pub SCRATCH : ℕ
 SCRATCH = 0xC06E
 
--- 500 words, one a note: code addresses
-abbrev pub NOTE_LIST : ℕ
-NOTE_LIST = 0xC100
+-- the low bytes of 500 notes, which are code addresses
+abbrev pub NOTE_LOW : ℕ
+NOTE_LOW = 0xC100
+
+-- their high bytes
+abbrev pub NOTE_HIGH : ℕ
+NOTE_HIGH = 0xC300
 
 -- ── services ──
 -- the service that sends the byte in A

@@ -6,12 +6,13 @@ use Rattle.tb_memmap.specs.Regions.{within}
 use Rattle.tb_words.specs.Words.{word, magnitude, quotient, digits_of, seed_after}
 use Rattle.tb_lower.specs.Control.{fault_text, zone, column_after, has_line}
 use Rattle.tb_lower.specs.Input.{Got, Bad, Dry, Nothing, turn}
-use Rattle.tb_runtime16.specs.Places.{POINTER, COLUMN, OPEN, SEEDED, HOME_S, SEED, LINE, NOTES, LEFT, RIGHT, RESULT, TABLE, COUNT, LENGTH, NOTE_LIST, SEND_AT, MULTIPLY_AT, DIVIDE_AT, RANDOM_AT, NUMBER_AT, TEXT_AT, ZONE_AT, INPUT_AT, SEARCH_AT, PUSH_AT, POP_AT, FAULT_LINE_AT, FAULT_AT, POLL_AT}
+use Rattle.tb_runtime16.specs.Places.{POINTER, COLUMN, OPEN, SEEDED, HOME_S, SEED, LINE, NOTES, LEFT, RIGHT, RESULT, TABLE, WANTED, COUNT, LENGTH, SEND_AT, MULTIPLY_AT, DIVIDE_AT, RANDOM_AT, NUMBER_AT, TEXT_AT, ZONE_AT, INPUT_AT, SEARCH_AT, PUSH_AT, POP_AT, FAULT_LINE_AT, FAULT_AT, POLL_AT}
 use Rattle.tb_reaching.specs.View.{View, Setup, Part, Holds, Fits, Comes, back_at, Bytes}
 use Rattle.tb_reaching.specs.Start.{IsHome, IsWaiting, Homed}
 use Rattle.tb_runtime16.specs.Block.{block_part}
 use Rattle.tb_runtime16.specs.Laws.{AllBytes}
 use Rattle.tb_runtime16.specs.Input.{prompt}
+pub use Rattle.tb_runtime16.specs.Notes.{Noted}
 use Rattle.tb_runtime16.specs.Search.{Line, Shows, table_bytes, Rising, AllWords}
 
 -- ---- memory
@@ -24,12 +25,7 @@ pub record WordAt (m : ℕ → ℕ) (at w : ℕ) : Type 0 where
 
 -- the places that a program's state is kept at; all others are scratch
 abbrev pub is_owned : ℕ → Bool
-is_owned a = within 0xc000 0xc061 a || within 0xc100 0xc4e7 a
-
--- the return list, the newest note first
-abbrev pub Noted : (ℕ → ℕ) → List ℕ → Type 0
-Noted m [] = Unit {0}
-Noted m (n ∷ ns) = WordAt m (NOTE_LIST + 2 * length ns) n × Noted m ns
+is_owned a = within 0xc000 0xc061 a || within 0xc100 0xc4f3 a
 
 -- the RND state is stored, or still the option's
 pub data SeedAt (m : ℕ → ℕ) (option seed : ℕ) : Type 0 where
@@ -173,9 +169,9 @@ pub record Routines (table seed_option : ℕ) (numbers : List ℕ) (start : ℕ 
       Moves f (Here ZONE_AT (l ∷ h ∷ lo ∷ hi ∷ []) m text answers) (Told (back_at l h) (lo ∷ hi ∷ []) m text answers (zone (m COLUMN))) (zone (m COLUMN)) limit
   pub send : (l h : ℕ) (m : ℕ → ℕ) (text answers : List ℕ) (b : ℕ) → b < 256 →
       Moves f (WithA SEND_AT b (l ∷ h ∷ lo ∷ hi ∷ []) m text answers) (Told (back_at l h) (lo ∷ hi ∷ []) m text answers (b ∷ [])) (b ∷ []) limit
-  pub search : (l h : ℕ) (m : ℕ → ℕ) (text answers : List ℕ) (n : ℕ) → WordAt m LEFT n → WordAt m TABLE table → WordAt m COUNT (length numbers) → has_line numbers n ≡ true →
+  pub search : (l h : ℕ) (m : ℕ → ℕ) (text answers : List ℕ) (n : ℕ) → WordAt m WANTED n → WordAt m TABLE table → WordAt m COUNT (length numbers) → has_line numbers n ≡ true →
       Moves f (Here SEARCH_AT (l ∷ h ∷ lo ∷ hi ∷ []) m text answers) (Gives (back_at l h) (lo ∷ hi ∷ []) m text answers (start n)) [] limit
-  pub search_fails : (l h : ℕ) (m : ℕ → ℕ) (text answers : List ℕ) (n at : ℕ) → WordAt m LEFT n → WordAt m TABLE table → WordAt m COUNT (length numbers) → has_line numbers n ≡ false → WordAt m LINE at → Entered f lo hi m →
+  pub search_fails : (l h : ℕ) (m : ℕ → ℕ) (text answers : List ℕ) (n at : ℕ) → WordAt m WANTED n → WordAt m TABLE table → WordAt m COUNT (length numbers) → has_line numbers n ≡ false → WordAt m LINE at → Entered f lo hi m →
       Moves f (Here SEARCH_AT (l ∷ h ∷ lo ∷ hi ∷ []) m text answers) (IsHome f) (fault_text 1 at) limit
   pub fault : (k : ℕ) → k < 10 → (m : ℕ → ℕ) (text answers : List ℕ) (n : ℕ) → WordAt m LINE n → Entered f lo hi m →
       Moves f (WithA FAULT_AT k (lo ∷ hi ∷ []) m text answers) (IsHome f) (fault_text k n) limit

@@ -3,7 +3,7 @@ use Rattle.std.specs.Prelude.{◌≡◌, ◌<◌, ◌≤◌, Bool, ℕ, List, []
 use Rattle.tb_cpu.specs.Operands.{word_in}
 use Rattle.tb_memmap.specs.Regions.{within}
 use Rattle.tb_reaching.specs.View.{View, Setup, Part, Holds, Fits, Comes, view}
-use Rattle.tb_runtime16.specs.Places.{SEARCH_AT, LEFT, RESULT, TABLE, COUNT}
+use Rattle.tb_runtime16.specs.Places.{SEARCH_AT, WANTED, RESULT, TABLE, COUNT}
 use Rattle.tb_runtime16.specs.Block.{block_part}
 use Rattle.tb_runtime16.specs.Laws.{IsWord}
 use Rattle.tb_runtime16.specs.Notes.{Returned, Faulted}
@@ -43,7 +43,7 @@ abbrev pub address_of : ℕ → List Line → Option ℕ
 address_of t [] = None
 address_of t (e ∷ es) = let later = address_of t es in if nat_eq e.0 t then Some e.1 else later
 
--- the places that Search may change: POINTER, SECOND, RESULT, COUNT and the two bytes from SCRATCH on
+-- the places that Search may change: POINTER, TABLE, RESULT, COUNT and the two bytes from SCRATCH on
 abbrev pub search_changes : ℕ → Bool
 search_changes a = within 0xfb 0xfe a || (within 0xc066 0xc067 a || (within 0xc06a 0xc06b a || within 0xc06e 0xc06f a))
 
@@ -58,6 +58,6 @@ abbrev pub Searched : ℕ → ℕ → (ℕ → ℕ) → List ℕ → List ℕ �
 Searched lo hi m text answers (Some address) w = Found lo hi m text answers address w
 Searched lo hi m text answers None w = Faulted 1 lo hi search_changes m text answers w
 
--- Search gives the address of the line with the number at LEFT, or comes to Fault with 1, within 600 Go events for every table
+-- Search gives the address of the line with the number at WANTED, or comes to Fault with 1, within 510 Go events for every table
 abbrev pub SearchLaw : Type 0
-SearchLaw = (f : Setup) → Fits f 2 → Holds block_part f.code → (lo hi : ℕ) (text answers : List ℕ) (m : ℕ → ℕ) (a x y : ℕ) (n v i z c : Bool) (lines : List Line) → IsWord m LEFT → IsWord m TABLE → IsWord m COUNT → Shows f.code (word_in m TABLE) (table_bytes lines) → 0x0800 ≤ word_in m TABLE → word_in m TABLE + 4 * length lines ≤ 0xA000 → word_in m COUNT ≡ length lines → 1 ≤ length lines → Rising lines → AllWords lines → Comes f (view a x y n v i z c SEARCH_AT (lo ∷ hi ∷ []) m text answers) (Searched lo hi m text answers (address_of (word_in m LEFT) lines)) [] 600
+SearchLaw = (f : Setup) → Fits f 2 → Holds block_part f.code → (lo hi : ℕ) (text answers : List ℕ) (m : ℕ → ℕ) (a x y : ℕ) (n v i z c : Bool) (lines : List Line) → IsWord m WANTED → IsWord m TABLE → IsWord m COUNT → Shows f.code (word_in m TABLE) (table_bytes lines) → 0x0800 ≤ word_in m TABLE → word_in m TABLE + 4 * length lines ≤ 0xA000 → word_in m COUNT ≡ length lines → 1 ≤ length lines → Rising lines → AllWords lines → Comes f (view a x y n v i z c SEARCH_AT (lo ∷ hi ∷ []) m text answers) (Searched lo hi m text answers (address_of (word_in m WANTED) lines)) [] 510

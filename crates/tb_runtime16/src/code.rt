@@ -9,8 +9,8 @@ use crate::places::{
     SEARCH_LENGTH, SEND_LENGTH, TEXT_LENGTH, ZONE_LENGTH,
 };
 use crate::targets::{
-    DIVIDEBY, FAULT, LINES, MULTIPLY, NEGATE, NUMBER, OPPOSITE, PLACE, POWERS_HIGH, POWERS_LOW,
-    PROBE, READ, SEND, UNSIGNED,
+    DIVIDEBY, FAULT, LINES, MULTIPLY, NEGATE, NUMBER, OPPOSITE, POWERS_HIGH, POWERS_LOW, READ,
+    SEARCH, SEND, STORE, UNSIGNED,
 };
 
 // The prologue: decimal mode off, $C000 to $C03D cleared, S kept at HOME_S, and on to the first line.
@@ -51,24 +51,24 @@ macro_rules! multiply {
         0xa2, 0x00, // 0 MULTIPLY: LDX #$00
         0x8e, 0x67, 0xc0, // 2: STX RESULT+1
         0x8a, // 5: TXA
-        0x4e, 0x65, 0xc0, // 6 MULTIPLY1: LSR RIGHT+1
-        0x6e, 0x64, 0xc0, // 9: ROR RIGHT
-        0x90, 0x0f, // 12: BCC MULTIPLY2
-        0x18, // 14: CLC
-        0x6d, 0x62, 0xc0, // 15: ADC LEFT
-        0xa8, // 18: TAY
-        0xad, 0x67, 0xc0, // 19: LDA RESULT+1
-        0x6d, 0x63, 0xc0, // 22: ADC LEFT+1
-        0x8d, 0x67, 0xc0, // 25: STA RESULT+1
-        0x98, // 28: TYA
-        0x0e, 0x62, 0xc0, // 29 MULTIPLY2: ASL LEFT
-        0x2e, 0x63, 0xc0, // 32: ROL LEFT+1
-        0xae, 0x64, 0xc0, // 35: LDX RIGHT
-        0xd0, 0xde, // 38: BNE MULTIPLY1
-        0xae, 0x65, 0xc0, // 40: LDX RIGHT+1
-        0xd0, 0xd9, // 43: BNE MULTIPLY1
-        0x8d, 0x66, 0xc0, // 45: STA RESULT
-        0x60, // 48: RTS
+        0x46, 0xfe, // 6 MULTIPLY1: LSR RIGHT+1
+        0x66, 0xfd, // 8: ROR RIGHT
+        0x90, 0x0d, // 10: BCC MULTIPLY2
+        0x18, // 12: CLC
+        0x65, 0xfb, // 13: ADC LEFT
+        0xa8, // 15: TAY
+        0xad, 0x67, 0xc0, // 16: LDA RESULT+1
+        0x65, 0xfc, // 19: ADC LEFT+1
+        0x8d, 0x67, 0xc0, // 21: STA RESULT+1
+        0x98, // 24: TYA
+        0x06, 0xfb, // 25 MULTIPLY2: ASL LEFT
+        0x26, 0xfc, // 27: ROL LEFT+1
+        0xa6, 0xfd, // 29: LDX RIGHT
+        0xd0, 0xe5, // 31: BNE MULTIPLY1
+        0xa6, 0xfe, // 33: LDX RIGHT+1
+        0xd0, 0xe1, // 35: BNE MULTIPLY1
+        0x8d, 0x66, 0xc0, // 37: STA RESULT
+        0x60, // 40: RTS
         ] $($others)*)
     };
 }
@@ -78,72 +78,72 @@ macro_rules! multiply {
 macro_rules! divide {
     ([$($before:tt)*] $next:ident $($others:ident)*) => {
         $next!([$($before)*
-        0xad, 0x64, 0xc0, // 0 DIVIDE: LDA RIGHT
-        0x0d, 0x65, 0xc0, // 3: ORA RIGHT+1
-        0xd0, 0x05, // 6: BNE DIVIDESIGNED
-        0xa9, 0x02, // 8: LDA #$02
-        0x4c, FAULT.0, FAULT.1, // 10: JMP FAULT
-        0xad, 0x63, 0xc0, // 13 DIVIDESIGNED: LDA LEFT+1
-        0x10, 0x1a, // 16: BPL DIVIDEBY
-        0x20, OPPOSITE.0, OPPOSITE.1, // 18: JSR NEGATELEFT
-        0x20, DIVIDEBY.0, DIVIDEBY.1, // 21: JSR DIVIDEBY
-        0xa2, 0x00, // 24 NEGATELEFT: LDX #$00
-        0x38, // 26 NEGATE: SEC
-        0xa9, 0x00, // 27: LDA #$00
-        0xfd, 0x62, 0xc0, // 29: SBC LEFT,X
-        0x9d, 0x62, 0xc0, // 32: STA LEFT,X
-        0xa9, 0x00, // 35: LDA #$00
-        0xfd, 0x63, 0xc0, // 37: SBC LEFT+1,X
-        0x9d, 0x63, 0xc0, // 40: STA LEFT+1,X
-        0x60, // 43: RTS
-        0xad, 0x65, 0xc0, // 44 DIVIDEBY: LDA RIGHT+1
-        0x10, 0x0b, // 47: BPL UNSIGNED
-        0xa2, 0x02, // 49: LDX #$02
-        0x20, NEGATE.0, NEGATE.1, // 51: JSR NEGATE
-        0x20, UNSIGNED.0, UNSIGNED.1, // 54: JSR UNSIGNED
-        0x4c, OPPOSITE.0, OPPOSITE.1, // 57: JMP NEGATELEFT
-        0xad, 0x65, 0xc0, // 60 UNSIGNED: LDA RIGHT+1
-        0xd0, 0x2d, // 63: BNE WIDE
-        0xad, 0x64, 0xc0, // 65: LDA RIGHT
-        0x30, 0x28, // 68: BMI WIDE
-        0xad, 0x63, 0xc0, // 70: LDA LEFT+1
-        0xcd, 0x64, 0xc0, // 73: CMP RIGHT
-        0xb0, 0x20, // 76: BCS WIDE
-        0xa2, 0x00, // 78: LDX #$00
-        0x8e, 0x63, 0xc0, // 80: STX LEFT+1
-        0x8e, 0x67, 0xc0, // 83: STX RESULT+1
-        0xa2, 0x08, // 86: LDX #$08
-        0x0e, 0x62, 0xc0, // 88 NARROW: ASL LEFT
-        0x2a, // 91: ROL A
-        0xcd, 0x64, 0xc0, // 92: CMP RIGHT
-        0x90, 0x06, // 95: BCC NARROWLESS
-        0xed, 0x64, 0xc0, // 97: SBC RIGHT
-        0xee, 0x62, 0xc0, // 100: INC LEFT
-        0xca, // 103 NARROWLESS: DEX
-        0xd0, 0xee, // 104: BNE NARROW
-        0x8d, 0x66, 0xc0, // 106: STA RESULT
-        0x60, // 109: RTS
-        0xa9, 0x00, // 110 WIDE: LDA #$00
-        0x8d, 0x66, 0xc0, // 112: STA RESULT
-        0x8d, 0x67, 0xc0, // 115: STA RESULT+1
-        0xa0, 0x10, // 118: LDY #$10
-        0x0e, 0x62, 0xc0, // 120 WIDENEXT: ASL LEFT
-        0x2e, 0x63, 0xc0, // 123: ROL LEFT+1
-        0x2e, 0x66, 0xc0, // 126: ROL RESULT
-        0x2e, 0x67, 0xc0, // 129: ROL RESULT+1
-        0xad, 0x66, 0xc0, // 132: LDA RESULT
-        0x38, // 135: SEC
-        0xed, 0x64, 0xc0, // 136: SBC RIGHT
-        0xaa, // 139: TAX
-        0xad, 0x67, 0xc0, // 140: LDA RESULT+1
-        0xed, 0x65, 0xc0, // 143: SBC RIGHT+1
-        0x90, 0x09, // 146: BCC WIDELESS
-        0x8e, 0x66, 0xc0, // 148: STX RESULT
-        0x8d, 0x67, 0xc0, // 151: STA RESULT+1
-        0xee, 0x62, 0xc0, // 154: INC LEFT
-        0x88, // 157 WIDELESS: DEY
-        0xd0, 0xd8, // 158: BNE WIDENEXT
-        0x60, // 160: RTS
+        0xa5, 0xfd, // 0 DIVIDE: LDA RIGHT
+        0x05, 0xfe, // 2: ORA RIGHT+1
+        0xd0, 0x05, // 4: BNE DIVIDESIGNED
+        0xa9, 0x02, // 6: LDA #$02
+        0x4c, FAULT.0, FAULT.1, // 8: JMP FAULT
+        0xa5, 0xfc, // 11 DIVIDESIGNED: LDA LEFT+1
+        0x10, 0x16, // 13: BPL DIVIDEBY
+        0x20, OPPOSITE.0, OPPOSITE.1, // 15: JSR NEGATELEFT
+        0x20, DIVIDEBY.0, DIVIDEBY.1, // 18: JSR DIVIDEBY
+        0xa2, 0x00, // 21 NEGATELEFT: LDX #$00
+        0x38, // 23 NEGATE: SEC
+        0xa9, 0x00, // 24: LDA #$00
+        0xf5, 0xfb, // 26: SBC LEFT,X
+        0x95, 0xfb, // 28: STA LEFT,X
+        0xa9, 0x00, // 30: LDA #$00
+        0xf5, 0xfc, // 32: SBC LEFT+1,X
+        0x95, 0xfc, // 34: STA LEFT+1,X
+        0x60, // 36: RTS
+        0xa5, 0xfe, // 37 DIVIDEBY: LDA RIGHT+1
+        0x10, 0x0b, // 39: BPL UNSIGNED
+        0xa2, 0x02, // 41: LDX #$02
+        0x20, NEGATE.0, NEGATE.1, // 43: JSR NEGATE
+        0x20, UNSIGNED.0, UNSIGNED.1, // 46: JSR UNSIGNED
+        0x4c, OPPOSITE.0, OPPOSITE.1, // 49: JMP NEGATELEFT
+        0xa5, 0xfe, // 52 UNSIGNED: LDA RIGHT+1
+        0xd0, 0x25, // 54: BNE WIDE
+        0xa5, 0xfd, // 56: LDA RIGHT
+        0x30, 0x21, // 58: BMI WIDE
+        0xa5, 0xfc, // 60: LDA LEFT+1
+        0xc5, 0xfd, // 62: CMP RIGHT
+        0xb0, 0x1b, // 64: BCS WIDE
+        0xa2, 0x00, // 66: LDX #$00
+        0x86, 0xfc, // 68: STX LEFT+1
+        0x8e, 0x67, 0xc0, // 70: STX RESULT+1
+        0xa2, 0x08, // 73: LDX #$08
+        0x06, 0xfb, // 75 NARROW: ASL LEFT
+        0x2a, // 77: ROL A
+        0xc5, 0xfd, // 78: CMP RIGHT
+        0x90, 0x04, // 80: BCC NARROWLESS
+        0xe5, 0xfd, // 82: SBC RIGHT
+        0xe6, 0xfb, // 84: INC LEFT
+        0xca, // 86 NARROWLESS: DEX
+        0xd0, 0xf2, // 87: BNE NARROW
+        0x8d, 0x66, 0xc0, // 89: STA RESULT
+        0x60, // 92: RTS
+        0xa9, 0x00, // 93 WIDE: LDA #$00
+        0x8d, 0x66, 0xc0, // 95: STA RESULT
+        0x8d, 0x67, 0xc0, // 98: STA RESULT+1
+        0xa0, 0x10, // 101: LDY #$10
+        0x06, 0xfb, // 103 WIDENEXT: ASL LEFT
+        0x26, 0xfc, // 105: ROL LEFT+1
+        0x2e, 0x66, 0xc0, // 107: ROL RESULT
+        0x2e, 0x67, 0xc0, // 110: ROL RESULT+1
+        0xad, 0x66, 0xc0, // 113: LDA RESULT
+        0x38, // 116: SEC
+        0xe5, 0xfd, // 117: SBC RIGHT
+        0xaa, // 119: TAX
+        0xad, 0x67, 0xc0, // 120: LDA RESULT+1
+        0xe5, 0xfe, // 123: SBC RIGHT+1
+        0x90, 0x08, // 125: BCC WIDELESS
+        0x8e, 0x66, 0xc0, // 127: STX RESULT
+        0x8d, 0x67, 0xc0, // 130: STA RESULT+1
+        0xe6, 0xfb, // 133: INC LEFT
+        0x88, // 135 WIDELESS: DEY
+        0xd0, 0xdd, // 136: BNE WIDENEXT
+        0x60, // 138: RTS
         ] $($others)*)
     };
 }
@@ -152,44 +152,44 @@ macro_rules! divide {
 macro_rules! random {
     ([$($before:tt)*] $next:ident $($others:ident)*) => {
         $next!([$($before)*
-        0xad, 0x63, 0xc0, // 0 RANDOM: LDA LEFT+1
-        0x30, 0x07, // 3: BMI RANDOMBAD
-        0xd0, 0x0a, // 5: BNE RANDOMGO
-        0xad, 0x62, 0xc0, // 7: LDA LEFT
-        0xd0, 0x05, // 10: BNE RANDOMGO
-        0xa9, 0x03, // 12 RANDOMBAD: LDA #$03
-        0x4c, FAULT.0, FAULT.1, // 14: JMP FAULT
-        0xad, 0x36, 0xc0, // 17 RANDOMGO: LDA SEEDED
-        0xf0, 0x0c, // 20: BEQ RANDOMFIRST
-        0xad, 0x38, 0xc0, // 22: LDA SEED
-        0x8d, 0x64, 0xc0, // 25: STA RIGHT
-        0xad, 0x39, 0xc0, // 28: LDA SEED+1
-        0x8d, 0x65, 0xc0, // 31: STA RIGHT+1
-        0xa9, 0x01, // 34 RANDOMFIRST: LDA #$01
-        0x8d, 0x36, 0xc0, // 36: STA SEEDED
-        0xad, 0x62, 0xc0, // 39: LDA LEFT
-        0x48, // 42: PHA
-        0xad, 0x63, 0xc0, // 43: LDA LEFT+1
-        0x48, // 46: PHA
-        0xa9, 0x55, // 47: LDA #$55
-        0x8d, 0x62, 0xc0, // 49: STA LEFT
-        0xa9, 0x62, // 52: LDA #$62
-        0x8d, 0x63, 0xc0, // 54: STA LEFT+1
-        0x20, MULTIPLY.0, MULTIPLY.1, // 57: JSR MULTIPLY
-        0x18, // 60: CLC
-        0xad, 0x66, 0xc0, // 61: LDA RESULT
-        0x69, 0x19, // 64: ADC #$19
-        0x8d, 0x38, 0xc0, // 66: STA SEED
-        0x8d, 0x62, 0xc0, // 69: STA LEFT
-        0xad, 0x67, 0xc0, // 72: LDA RESULT+1
-        0x69, 0x36, // 75: ADC #$36
-        0x8d, 0x39, 0xc0, // 77: STA SEED+1
-        0x8d, 0x63, 0xc0, // 80: STA LEFT+1
-        0x68, // 83: PLA
-        0x8d, 0x65, 0xc0, // 84: STA RIGHT+1
-        0x68, // 87: PLA
-        0x8d, 0x64, 0xc0, // 88: STA RIGHT
-        0x4c, UNSIGNED.0, UNSIGNED.1, // 91: JMP UNSIGNED
+        0xa5, 0xfc, // 0 RANDOM: LDA LEFT+1
+        0x30, 0x06, // 2: BMI RANDOMBAD
+        0xd0, 0x09, // 4: BNE RANDOMGO
+        0xa5, 0xfb, // 6: LDA LEFT
+        0xd0, 0x05, // 8: BNE RANDOMGO
+        0xa9, 0x03, // 10 RANDOMBAD: LDA #$03
+        0x4c, FAULT.0, FAULT.1, // 12: JMP FAULT
+        0xad, 0x36, 0xc0, // 15 RANDOMGO: LDA SEEDED
+        0xf0, 0x0a, // 18: BEQ RANDOMFIRST
+        0xad, 0x38, 0xc0, // 20: LDA SEED
+        0x85, 0xfd, // 23: STA RIGHT
+        0xad, 0x39, 0xc0, // 25: LDA SEED+1
+        0x85, 0xfe, // 28: STA RIGHT+1
+        0xa9, 0x01, // 30 RANDOMFIRST: LDA #$01
+        0x8d, 0x36, 0xc0, // 32: STA SEEDED
+        0xa5, 0xfb, // 35: LDA LEFT
+        0x48, // 37: PHA
+        0xa5, 0xfc, // 38: LDA LEFT+1
+        0x48, // 40: PHA
+        0xa9, 0x55, // 41: LDA #$55
+        0x85, 0xfb, // 43: STA LEFT
+        0xa9, 0x62, // 45: LDA #$62
+        0x85, 0xfc, // 47: STA LEFT+1
+        0x20, MULTIPLY.0, MULTIPLY.1, // 49: JSR MULTIPLY
+        0x18, // 52: CLC
+        0xad, 0x66, 0xc0, // 53: LDA RESULT
+        0x69, 0x19, // 56: ADC #$19
+        0x8d, 0x38, 0xc0, // 58: STA SEED
+        0x85, 0xfb, // 61: STA LEFT
+        0xad, 0x67, 0xc0, // 63: LDA RESULT+1
+        0x69, 0x36, // 66: ADC #$36
+        0x8d, 0x39, 0xc0, // 68: STA SEED+1
+        0x85, 0xfc, // 71: STA LEFT+1
+        0x68, // 73: PLA
+        0x85, 0xfe, // 74: STA RIGHT+1
+        0x68, // 76: PLA
+        0x85, 0xfd, // 77: STA RIGHT
+        0x4c, UNSIGNED.0, UNSIGNED.1, // 79: JMP UNSIGNED
         ] $($others)*)
     };
 }
@@ -198,44 +198,44 @@ macro_rules! random {
 macro_rules! number {
     ([$($before:tt)*] $next:ident $($others:ident)*) => {
         $next!([$($before)*
-        0xad, 0x63, 0xc0, // 0 NUMBER: LDA LEFT+1
-        0x10, 0x08, // 3: BPL NUMBERPLAIN
-        0xa9, 0x2d, // 5: LDA #$2D
-        0x20, SEND.0, SEND.1, // 7: JSR SEND
-        0x20, OPPOSITE.0, OPPOSITE.1, // 10: JSR NEGATELEFT
-        0xa9, 0x00, // 13 NUMBERPLAIN: LDA #$00
-        0x8d, 0x64, 0xc0, // 15: STA RIGHT
-        0xa2, 0x03, // 18: LDX #$03
-        0xad, 0x63, 0xc0, // 20: LDA LEFT+1
-        0xd0, 0x02, // 23: BNE NUMBERNEXT
-        0xa2, 0x01, // 25: LDX #$01
-        0xac, 0x64, 0xc0, // 27 NUMBERNEXT: LDY RIGHT
-        0xad, 0x62, 0xc0, // 30 NUMBERTAKE: LDA LEFT
-        0xdd, POWERS_LOW.0, POWERS_LOW.1, // 33: CMP POWERSLOW,X
-        0xad, 0x63, 0xc0, // 36: LDA LEFT+1
-        0xfd, POWERS_HIGH.0, POWERS_HIGH.1, // 39: SBC POWERSHIGH,X
-        0x90, 0x0f, // 42: BCC NUMBERDIGIT
-        0x8d, 0x63, 0xc0, // 44: STA LEFT+1
-        0xad, 0x62, 0xc0, // 47: LDA LEFT
-        0xfd, POWERS_LOW.0, POWERS_LOW.1, // 50: SBC POWERSLOW,X
-        0x8d, 0x62, 0xc0, // 53: STA LEFT
-        0xc8, // 56: INY
-        0xd0, 0xe3, // 57: BNE NUMBERTAKE
-        0x98, // 59 NUMBERDIGIT: TYA
-        0xf0, 0x10, // 60: BEQ NUMBERSKIP
-        0x09, 0x30, // 62: ORA #$30
-        0xa0, 0x30, // 64: LDY #$30
-        0x8c, 0x64, 0xc0, // 66: STY RIGHT
-        0x8e, 0x65, 0xc0, // 69: STX RIGHT+1
-        0x20, SEND.0, SEND.1, // 72: JSR SEND
-        0xae, 0x65, 0xc0, // 75: LDX RIGHT+1
-        0xca, // 78 NUMBERSKIP: DEX
-        0x10, 0xca, // 79: BPL NUMBERNEXT
-        0xad, 0x62, 0xc0, // 81: LDA LEFT
-        0x09, 0x30, // 84: ORA #$30
-        0x4c, SEND.0, SEND.1, // 86: JMP SEND
-        0x0a, 0x64, 0xe8, 0x10, // 89 POWERSLOW: 10, 100, 1000 and 10000, their low bytes
-        0x00, 0x00, 0x03, 0x27, // 93 POWERSHIGH: their high bytes
+        0xa5, 0xfc, // 0 NUMBER: LDA LEFT+1
+        0x10, 0x08, // 2: BPL NUMBERPLAIN
+        0xa9, 0x2d, // 4: LDA #$2D
+        0x20, SEND.0, SEND.1, // 6: JSR SEND
+        0x20, OPPOSITE.0, OPPOSITE.1, // 9: JSR NEGATELEFT
+        0xa9, 0x00, // 12 NUMBERPLAIN: LDA #$00
+        0x85, 0xfd, // 14: STA RIGHT
+        0xa2, 0x03, // 16: LDX #$03
+        0xa5, 0xfc, // 18: LDA LEFT+1
+        0xd0, 0x02, // 20: BNE NUMBERNEXT
+        0xa2, 0x01, // 22: LDX #$01
+        0xa4, 0xfd, // 24 NUMBERNEXT: LDY RIGHT
+        0xa5, 0xfb, // 26 NUMBERTAKE: LDA LEFT
+        0xdd, POWERS_LOW.0, POWERS_LOW.1, // 28: CMP POWERSLOW,X
+        0xa5, 0xfc, // 31: LDA LEFT+1
+        0xfd, POWERS_HIGH.0, POWERS_HIGH.1, // 33: SBC POWERSHIGH,X
+        0x90, 0x0c, // 36: BCC NUMBERDIGIT
+        0x85, 0xfc, // 38: STA LEFT+1
+        0xa5, 0xfb, // 40: LDA LEFT
+        0xfd, POWERS_LOW.0, POWERS_LOW.1, // 42: SBC POWERSLOW,X
+        0x85, 0xfb, // 45: STA LEFT
+        0xc8, // 47: INY
+        0xd0, 0xe8, // 48: BNE NUMBERTAKE
+        0x98, // 50 NUMBERDIGIT: TYA
+        0xf0, 0x0d, // 51: BEQ NUMBERSKIP
+        0x09, 0x30, // 53: ORA #$30
+        0xa0, 0x30, // 55: LDY #$30
+        0x84, 0xfd, // 57: STY RIGHT
+        0x86, 0xfe, // 59: STX RIGHT+1
+        0x20, SEND.0, SEND.1, // 61: JSR SEND
+        0xa6, 0xfe, // 64: LDX RIGHT+1
+        0xca, // 66 NUMBERSKIP: DEX
+        0x10, 0xd3, // 67: BPL NUMBERNEXT
+        0xa5, 0xfb, // 69: LDA LEFT
+        0x09, 0x30, // 71: ORA #$30
+        0x4c, SEND.0, SEND.1, // 73: JMP SEND
+        0x0a, 0x64, 0xe8, 0x10, // 76 POWERSLOW: 10, 100, 1000 and 10000, their low bytes
+        0x00, 0x00, 0x03, 0x27, // 80 POWERSHIGH: their high bytes
         ] $($others)*)
     };
 }
@@ -295,179 +295,199 @@ macro_rules! input {
         0xc9, 0x20, // 40: CMP #$20
         0xf0, 0xf6, // 42: BEQ READ
         0xc9, 0x2b, // 44: CMP #$2B
-        0xf0, 0x61, // 46: BEQ SIGN
+        0xf0, 0x5d, // 46: BEQ SIGN
         0xc9, 0x2d, // 48: CMP #$2D
-        0xf0, 0x5d, // 50: BEQ SIGN
+        0xf0, 0x59, // 50: BEQ SIGN
         0xc9, 0x2c, // 52: CMP #$2C
-        0xf0, 0x71, // 54: BEQ DONE
+        0xf0, 0x6d, // 54: BEQ DONE
         0xc9, 0x0d, // 56: CMP #$0D
-        0xf0, 0x6d, // 58: BEQ DONE
+        0xf0, 0x69, // 58: BEQ DONE
         0x38, // 60: SEC
         0xe9, 0x30, // 61: SBC #$30
         0x8d, 0x6d, 0xc0, // 63: STA BYTE
         0xc9, 0x0a, // 66: CMP #$0A
-        0xb0, 0x5e, // 68: BCS BAD
+        0xb0, 0x5a, // 68: BCS BAD
         0xad, 0x66, 0xc0, // 70: LDA RESULT
-        0x8d, 0x62, 0xc0, // 73: STA LEFT
-        0xad, 0x67, 0xc0, // 76: LDA RESULT+1
-        0x8d, 0x63, 0xc0, // 79: STA LEFT+1
-        0x0e, 0x66, 0xc0, // 82: ASL RESULT
-        0x2e, 0x67, 0xc0, // 85: ROL RESULT+1
-        0x0e, 0x66, 0xc0, // 88: ASL RESULT
-        0x2e, 0x67, 0xc0, // 91: ROL RESULT+1
-        0x18, // 94: CLC
-        0xad, 0x66, 0xc0, // 95: LDA RESULT
-        0x6d, 0x62, 0xc0, // 98: ADC LEFT
-        0x8d, 0x66, 0xc0, // 101: STA RESULT
-        0xad, 0x67, 0xc0, // 104: LDA RESULT+1
-        0x6d, 0x63, 0xc0, // 107: ADC LEFT+1
-        0x8d, 0x67, 0xc0, // 110: STA RESULT+1
-        0x0e, 0x66, 0xc0, // 113: ASL RESULT
-        0x2e, 0x67, 0xc0, // 116: ROL RESULT+1
-        0x18, // 119: CLC
-        0xad, 0x66, 0xc0, // 120: LDA RESULT
-        0x6d, 0x6d, 0xc0, // 123: ADC BYTE
-        0x8d, 0x66, 0xc0, // 126: STA RESULT
-        0xad, 0x67, 0xc0, // 129: LDA RESULT+1
-        0x69, 0x00, // 132: ADC #$00
-        0x8d, 0x67, 0xc0, // 134: STA RESULT+1
-        0xa9, 0x02, // 137: LDA #$02
-        0x8d, 0x6e, 0xc0, // 139: STA SCRATCH
-        0x4c, READ.0, READ.1, // 142: JMP READ
-        0xad, 0x6e, 0xc0, // 145 SIGN: LDA SCRATCH
-        0xd0, 0x0e, // 148: BNE BAD
-        0xad, 0x6d, 0xc0, // 150: LDA BYTE
-        0x8d, 0x6f, 0xc0, // 153: STA SCRATCH+1
-        0xa9, 0x01, // 156: LDA #$01
-        0x8d, 0x6e, 0xc0, // 158: STA SCRATCH
-        0x4c, READ.0, READ.1, // 161: JMP READ
-        0xa9, 0x06, // 164 BAD: LDA #$06
-        0x4c, FAULT.0, FAULT.1, // 166: JMP FAULT
-        0xad, 0x6e, 0xc0, // 169 DONE: LDA SCRATCH
-        0xc9, 0x02, // 172: CMP #$02
-        0xd0, 0xf4, // 174: BNE BAD
-        0xad, 0x6f, 0xc0, // 176: LDA SCRATCH+1
-        0xc9, 0x2d, // 179: CMP #$2D
-        0xd0, 0x05, // 181: BNE DONE1
-        0xa2, 0x04, // 183: LDX #$04
-        0x20, NEGATE.0, NEGATE.1, // 185: JSR NEGATE
-        0xad, 0x6d, 0xc0, // 188 DONE1: LDA BYTE
-        0xc9, 0x2c, // 191: CMP #$2C
-        0xf0, 0x0a, // 193: BEQ DONE2
-        0xa9, 0x00, // 195: LDA #$00
-        0x8d, 0x35, 0xc0, // 197: STA OPEN
-        0xa9, 0x0d, // 200: LDA #$0D
-        0x4c, SEND.0, SEND.1, // 202: JMP SEND
-        0x60, // 205 DONE2: RTS
+        0x85, 0xfb, // 73: STA LEFT
+        0xad, 0x67, 0xc0, // 75: LDA RESULT+1
+        0x85, 0xfc, // 78: STA LEFT+1
+        0x0e, 0x66, 0xc0, // 80: ASL RESULT
+        0x2e, 0x67, 0xc0, // 83: ROL RESULT+1
+        0x0e, 0x66, 0xc0, // 86: ASL RESULT
+        0x2e, 0x67, 0xc0, // 89: ROL RESULT+1
+        0x18, // 92: CLC
+        0xad, 0x66, 0xc0, // 93: LDA RESULT
+        0x65, 0xfb, // 96: ADC LEFT
+        0x8d, 0x66, 0xc0, // 98: STA RESULT
+        0xad, 0x67, 0xc0, // 101: LDA RESULT+1
+        0x65, 0xfc, // 104: ADC LEFT+1
+        0x8d, 0x67, 0xc0, // 106: STA RESULT+1
+        0x0e, 0x66, 0xc0, // 109: ASL RESULT
+        0x2e, 0x67, 0xc0, // 112: ROL RESULT+1
+        0x18, // 115: CLC
+        0xad, 0x66, 0xc0, // 116: LDA RESULT
+        0x6d, 0x6d, 0xc0, // 119: ADC BYTE
+        0x8d, 0x66, 0xc0, // 122: STA RESULT
+        0xad, 0x67, 0xc0, // 125: LDA RESULT+1
+        0x69, 0x00, // 128: ADC #$00
+        0x8d, 0x67, 0xc0, // 130: STA RESULT+1
+        0xa9, 0x02, // 133: LDA #$02
+        0x8d, 0x6e, 0xc0, // 135: STA SCRATCH
+        0x4c, READ.0, READ.1, // 138: JMP READ
+        0xad, 0x6e, 0xc0, // 141 SIGN: LDA SCRATCH
+        0xd0, 0x0e, // 144: BNE BAD
+        0xad, 0x6d, 0xc0, // 146: LDA BYTE
+        0x8d, 0x6f, 0xc0, // 149: STA SCRATCH+1
+        0xa9, 0x01, // 152: LDA #$01
+        0x8d, 0x6e, 0xc0, // 154: STA SCRATCH
+        0x4c, READ.0, READ.1, // 157: JMP READ
+        0xa9, 0x06, // 160 BAD: LDA #$06
+        0x4c, FAULT.0, FAULT.1, // 162: JMP FAULT
+        0xad, 0x6e, 0xc0, // 165 DONE: LDA SCRATCH
+        0xc9, 0x02, // 168: CMP #$02
+        0xd0, 0xf4, // 170: BNE BAD
+        0xad, 0x6f, 0xc0, // 172: LDA SCRATCH+1
+        0xc9, 0x2d, // 175: CMP #$2D
+        0xd0, 0x11, // 177: BNE DONE1
+        0x38, // 179: SEC
+        0xa9, 0x00, // 180: LDA #$00
+        0xed, 0x66, 0xc0, // 182: SBC RESULT
+        0x8d, 0x66, 0xc0, // 185: STA RESULT
+        0xa9, 0x00, // 188: LDA #$00
+        0xed, 0x67, 0xc0, // 190: SBC RESULT+1
+        0x8d, 0x67, 0xc0, // 193: STA RESULT+1
+        0xad, 0x6d, 0xc0, // 196 DONE1: LDA BYTE
+        0xc9, 0x2c, // 199: CMP #$2C
+        0xf0, 0x0a, // 201: BEQ DONE2
+        0xa9, 0x00, // 203: LDA #$00
+        0x8d, 0x35, 0xc0, // 205: STA OPEN
+        0xa9, 0x0d, // 208: LDA #$0D
+        0x4c, SEND.0, SEND.1, // 210: JMP SEND
+        0x60, // 213 DONE2: RTS
         ] $($others)*)
     };
 }
 
-// Search: the address of the line whose number is at LEFT, by TABLE and COUNT, into RESULT; fault 1 where none is.
+// Search: the address of the line whose number is at WANTED, by TABLE and COUNT, into RESULT; fault 1 where none is.
 macro_rules! search {
     ([$($before:tt)*] $next:ident $($others:ident)*) => {
         $next!([$($before)*
-        0xad, 0x68, 0xc0, // 0 SEARCH: LDA TABLE
-        0x85, 0xfd, // 3: STA SECOND
-        0xad, 0x69, 0xc0, // 5: LDA TABLE+1
-        0x85, 0xfe, // 8: STA SECOND+1
-        0xad, 0x6b, 0xc0, // 10 SEARCH_PROBE: LDA COUNT+1
-        0x4a, // 13: LSR A
-        0x8d, 0x6f, 0xc0, // 14: STA SCRATCH+1
-        0x85, 0xfc, // 17: STA POINTER+1
-        0xad, 0x6a, 0xc0, // 19: LDA COUNT
-        0x6a, // 22: ROR A
-        0x8d, 0x6e, 0xc0, // 23: STA SCRATCH
-        0xd0, 0x05, // 26: BNE SEARCH_SPLIT
-        0xad, 0x6f, 0xc0, // 28: LDA SCRATCH+1
-        0xf0, 0x50, // 31: BEQ SEARCH_LAST
-        0xad, 0x6e, 0xc0, // 33 SEARCH_SPLIT: LDA SCRATCH
-        0x0a, // 36: ASL A
-        0x26, 0xfc, // 37: ROL POINTER+1
-        0x0a, // 39: ASL A
-        0x26, 0xfc, // 40: ROL POINTER+1
-        0x18, // 42: CLC
-        0x65, 0xfd, // 43: ADC SECOND
-        0x85, 0xfb, // 45: STA POINTER
-        0xa5, 0xfc, // 47: LDA POINTER+1
-        0x65, 0xfe, // 49: ADC SECOND+1
-        0x85, 0xfc, // 51: STA POINTER+1
-        0xa0, 0x00, // 53: LDY #$00
-        0xad, 0x62, 0xc0, // 55: LDA LEFT
-        0xd1, 0xfb, // 58: CMP (POINTER),Y
-        0xc8, // 60: INY
-        0xad, 0x63, 0xc0, // 61: LDA LEFT+1
-        0xf1, 0xfb, // 64: SBC (POINTER),Y
-        0x90, 0x1e, // 66: BCC SEARCH_LOWER
-        0xa5, 0xfb, // 68: LDA POINTER
-        0x85, 0xfd, // 70: STA SECOND
-        0xa5, 0xfc, // 72: LDA POINTER+1
-        0x85, 0xfe, // 74: STA SECOND+1
-        0x38, // 76: SEC
-        0xad, 0x6a, 0xc0, // 77: LDA COUNT
-        0xed, 0x6e, 0xc0, // 80: SBC SCRATCH
-        0x8d, 0x6a, 0xc0, // 83: STA COUNT
-        0xad, 0x6b, 0xc0, // 86: LDA COUNT+1
-        0xed, 0x6f, 0xc0, // 89: SBC SCRATCH+1
-        0x8d, 0x6b, 0xc0, // 92: STA COUNT+1
-        0x4c, PROBE.0, PROBE.1, // 95: JMP SEARCH_PROBE
-        0xad, 0x6e, 0xc0, // 98 SEARCH_LOWER: LDA SCRATCH
-        0x8d, 0x6a, 0xc0, // 101: STA COUNT
-        0xad, 0x6f, 0xc0, // 104: LDA SCRATCH+1
-        0x8d, 0x6b, 0xc0, // 107: STA COUNT+1
-        0x4c, PROBE.0, PROBE.1, // 110: JMP SEARCH_PROBE
-        0xa0, 0x00, // 113 SEARCH_LAST: LDY #$00
-        0xb1, 0xfd, // 115: LDA (SECOND),Y
-        0xcd, 0x62, 0xc0, // 117: CMP LEFT
-        0xd0, 0x15, // 120: BNE SEARCH_NONE
+        0xad, 0x6b, 0xc0, // 0 SEARCH: LDA COUNT+1
+        0xd0, 0x07, // 3: BNE SEARCH_WIDE
+        0xad, 0x6a, 0xc0, // 5: LDA COUNT
+        0xc9, 0x40, // 8: CMP #$40
+        0x90, 0x5b, // 10: BCC SEARCH_SHORT
+        0xad, 0x6b, 0xc0, // 12 SEARCH_WIDE: LDA COUNT+1
+        0x4a, // 15: LSR A
+        0x8d, 0x6f, 0xc0, // 16: STA SCRATCH+1
+        0x85, 0xfc, // 19: STA POINTER+1
+        0xad, 0x6a, 0xc0, // 21: LDA COUNT
+        0x6a, // 24: ROR A
+        0x8d, 0x6e, 0xc0, // 25: STA SCRATCH
+        0x0a, // 28: ASL A
+        0x26, 0xfc, // 29: ROL POINTER+1
+        0x0a, // 31: ASL A
+        0x26, 0xfc, // 32: ROL POINTER+1
+        0x18, // 34: CLC
+        0x65, 0xfd, // 35: ADC TABLE
+        0x85, 0xfb, // 37: STA POINTER
+        0xa5, 0xfc, // 39: LDA POINTER+1
+        0x65, 0xfe, // 41: ADC TABLE+1
+        0x85, 0xfc, // 43: STA POINTER+1
+        0xa0, 0x00, // 45: LDY #$00
+        0xad, 0x68, 0xc0, // 47: LDA WANTED
+        0xd1, 0xfb, // 50: CMP (POINTER),Y
+        0xc8, // 52: INY
+        0xad, 0x69, 0xc0, // 53: LDA WANTED+1
+        0xf1, 0xfb, // 56: SBC (POINTER),Y
+        0x90, 0x1c, // 58: BCC SEARCH_LOWER
+        0xa5, 0xfb, // 60: LDA POINTER
+        0x85, 0xfd, // 62: STA TABLE
+        0xa5, 0xfc, // 64: LDA POINTER+1
+        0x85, 0xfe, // 66: STA TABLE+1
+        0xad, 0x6a, 0xc0, // 68: LDA COUNT
+        0xed, 0x6e, 0xc0, // 71: SBC SCRATCH
+        0x8d, 0x6a, 0xc0, // 74: STA COUNT
+        0xad, 0x6b, 0xc0, // 77: LDA COUNT+1
+        0xed, 0x6f, 0xc0, // 80: SBC SCRATCH+1
+        0x8d, 0x6b, 0xc0, // 83: STA COUNT+1
+        0xb0, 0xa8, // 86: BCS SEARCH
+        0xad, 0x6e, 0xc0, // 88 SEARCH_LOWER: LDA SCRATCH
+        0x8d, 0x6a, 0xc0, // 91: STA COUNT
+        0xad, 0x6f, 0xc0, // 94: LDA SCRATCH+1
+        0x8d, 0x6b, 0xc0, // 97: STA COUNT+1
+        0x4c, SEARCH.0, SEARCH.1, // 100: JMP SEARCH
+        0xa0, 0x00, // 103 SEARCH_SHORT: LDY #$00
+        0x84, 0xfb, // 105: STY POINTER
+        0x4a, // 107 SEARCH_HALVE: LSR A
+        0xf0, 0x29, // 108: BEQ SEARCH_LAST
+        0xaa, // 110: TAX
+        0x0a, // 111: ASL A
+        0x0a, // 112: ASL A
+        0x18, // 113: CLC
+        0x65, 0xfb, // 114: ADC POINTER
+        0xa8, // 116: TAY
+        0xad, 0x68, 0xc0, // 117: LDA WANTED
+        0xd1, 0xfd, // 120: CMP (TABLE),Y
         0xc8, // 122: INY
-        0xb1, 0xfd, // 123: LDA (SECOND),Y
-        0xcd, 0x63, 0xc0, // 125: CMP LEFT+1
-        0xd0, 0x0d, // 128: BNE SEARCH_NONE
-        0xc8, // 130: INY
-        0xb1, 0xfd, // 131: LDA (SECOND),Y
-        0x8d, 0x66, 0xc0, // 133: STA RESULT
-        0xc8, // 136: INY
-        0xb1, 0xfd, // 137: LDA (SECOND),Y
-        0x8d, 0x67, 0xc0, // 139: STA RESULT+1
-        0x60, // 142: RTS
-        0xa9, 0x01, // 143 SEARCH_NONE: LDA #$01
-        0x4c, FAULT.0, FAULT.1, // 145: JMP FAULT
+        0xad, 0x69, 0xc0, // 123: LDA WANTED+1
+        0xf1, 0xfd, // 126: SBC (TABLE),Y
+        0x90, 0x0f, // 128: BCC SEARCH_FRONT
+        0x88, // 130: DEY
+        0x84, 0xfb, // 131: STY POINTER
+        0x86, 0xfc, // 133: STX POINTER+1
+        0xad, 0x6a, 0xc0, // 135: LDA COUNT
+        0xe5, 0xfc, // 138: SBC POINTER+1
+        0x8d, 0x6a, 0xc0, // 140: STA COUNT
+        0xb0, 0xda, // 143: BCS SEARCH_HALVE
+        0x8e, 0x6a, 0xc0, // 145 SEARCH_FRONT: STX COUNT
+        0x8a, // 148: TXA
+        0xd0, 0xd4, // 149: BNE SEARCH_HALVE
+        0xa4, 0xfb, // 151 SEARCH_LAST: LDY POINTER
+        0xb1, 0xfd, // 153: LDA (TABLE),Y
+        0xcd, 0x68, 0xc0, // 155: CMP WANTED
+        0xd0, 0x15, // 158: BNE SEARCH_NONE
+        0xc8, // 160: INY
+        0xb1, 0xfd, // 161: LDA (TABLE),Y
+        0xcd, 0x69, 0xc0, // 163: CMP WANTED+1
+        0xd0, 0x0d, // 166: BNE SEARCH_NONE
+        0xc8, // 168: INY
+        0xb1, 0xfd, // 169: LDA (TABLE),Y
+        0x8d, 0x66, 0xc0, // 171: STA RESULT
+        0xc8, // 174: INY
+        0xb1, 0xfd, // 175: LDA (TABLE),Y
+        0x8d, 0x67, 0xc0, // 177: STA RESULT+1
+        0x60, // 180: RTS
+        0xa9, 0x01, // 181 SEARCH_NONE: LDA #$01
+        0x4c, FAULT.0, FAULT.1, // 183: JMP FAULT
         ] $($others)*)
     };
 }
 
-// Push: the word at LEFT onto the return list, fault 4 where that is full; and the place of a note, for Pop too.
+// Push: the word at LEFT onto the return list; fault 4 where that is full.
 macro_rules! push {
     ([$($before:tt)*] $next:ident $($others:ident)*) => {
         $next!([$($before)*
-        0xad, 0x3c, 0xc0, // 0 PUSH: LDA NOTES
-        0xc9, 0xf4, // 3: CMP #$F4
-        0xad, 0x3d, 0xc0, // 5: LDA NOTES+1
-        0xe9, 0x01, // 8: SBC #$01
-        0xb0, 0x19, // 10: BCS PUSH_FULL
-        0x20, PLACE.0, PLACE.1, // 12: JSR NOTE_PLACE
-        0xee, 0x3c, 0xc0, // 15: INC NOTES
-        0xd0, 0x03, // 18: BNE PUSH_STORE
-        0xee, 0x3d, 0xc0, // 20: INC NOTES+1
-        0xa0, 0x00, // 23 PUSH_STORE: LDY #$00
-        0xad, 0x62, 0xc0, // 25: LDA LEFT
-        0x91, 0xfb, // 28: STA (POINTER),Y
-        0xc8, // 30: INY
-        0xad, 0x63, 0xc0, // 31: LDA LEFT+1
-        0x91, 0xfb, // 34: STA (POINTER),Y
-        0x60, // 36: RTS
-        0xa9, 0x04, // 37 PUSH_FULL: LDA #$04
-        0x4c, FAULT.0, FAULT.1, // 39: JMP FAULT
-        0xad, 0x3c, 0xc0, // 42 NOTE_PLACE: LDA NOTES
-        0x0a, // 45: ASL A
-        0x85, 0xfb, // 46: STA POINTER
-        0xad, 0x3d, 0xc0, // 48: LDA NOTES+1
-        0x2a, // 51: ROL A
-        0x18, // 52: CLC
-        0x69, 0xc1, // 53: ADC #$C1
-        0x85, 0xfc, // 55: STA POINTER+1
-        0x60, // 57: RTS
+        0xae, 0x3c, 0xc0, // 0 PUSH: LDX NOTES
+        0xad, 0x3d, 0xc0, // 3: LDA NOTES+1
+        0xd0, 0x13, // 6: BNE PUSH_FAR
+        0xa5, 0xfb, // 8: LDA LEFT
+        0x9d, 0x00, 0xc1, // 10: STA NOTE_LOW,X
+        0xa5, 0xfc, // 13: LDA LEFT+1
+        0x9d, 0x00, 0xc3, // 15: STA NOTE_HIGH,X
+        0xee, 0x3c, 0xc0, // 18 PUSH_COUNT: INC NOTES
+        0xd0, 0x03, // 21: BNE PUSH_END
+        0xee, 0x3d, 0xc0, // 23: INC NOTES+1
+        0x60, // 26 PUSH_END: RTS
+        0xe0, 0xf4, // 27 PUSH_FAR: CPX #$F4
+        0xb0, 0x0c, // 29: BCS PUSH_FULL
+        0xa5, 0xfb, // 31: LDA LEFT
+        0x9d, 0x00, 0xc2, // 33: STA NOTE_LOW+256,X
+        0xa5, 0xfc, // 36: LDA LEFT+1
+        0x9d, 0x00, 0xc4, // 38: STA NOTE_HIGH+256,X
+        0x90, 0xe7, // 41: BCC PUSH_COUNT
+        0xa9, 0x04, // 43 PUSH_FULL: LDA #$04
+        0x4c, FAULT.0, FAULT.1, // 45: JMP FAULT
         ] $($others)*)
     };
 }
@@ -476,22 +496,25 @@ macro_rules! push {
 macro_rules! pop {
     ([$($before:tt)*] $next:ident $($others:ident)*) => {
         $next!([$($before)*
-        0xad, 0x3c, 0xc0, // 0 POP: LDA NOTES
+        0xae, 0x3c, 0xc0, // 0 POP: LDX NOTES
         0xd0, 0x08, // 3: BNE POP_LOW
         0xad, 0x3d, 0xc0, // 5: LDA NOTES+1
-        0xf0, 0x17, // 8: BEQ POP_NONE
+        0xf0, 0x22, // 8: BEQ POP_NONE
         0xce, 0x3d, 0xc0, // 10: DEC NOTES+1
-        0xce, 0x3c, 0xc0, // 13 POP_LOW: DEC NOTES
-        0x20, PLACE.0, PLACE.1, // 16: JSR NOTE_PLACE
-        0xa0, 0x00, // 19: LDY #$00
-        0xb1, 0xfb, // 21: LDA (POINTER),Y
-        0x8d, 0x66, 0xc0, // 23: STA RESULT
-        0xc8, // 26: INY
-        0xb1, 0xfb, // 27: LDA (POINTER),Y
-        0x8d, 0x67, 0xc0, // 29: STA RESULT+1
-        0x60, // 32: RTS
-        0xa9, 0x05, // 33 POP_NONE: LDA #$05
-        0x4c, FAULT.0, FAULT.1, // 35: JMP FAULT
+        0xca, // 13 POP_LOW: DEX
+        0x8e, 0x3c, 0xc0, // 14: STX NOTES
+        0xad, 0x3d, 0xc0, // 17: LDA NOTES+1
+        0xd0, 0x0d, // 20: BNE POP_FAR
+        0xbc, 0x00, 0xc3, // 22: LDY NOTE_HIGH,X
+        0xbd, 0x00, 0xc1, // 25: LDA NOTE_LOW,X
+        0x8d, 0x66, 0xc0, // 28 POP_STORE: STA RESULT
+        0x8c, 0x67, 0xc0, // 31: STY RESULT+1
+        0x60, // 34: RTS
+        0xbc, 0x00, 0xc4, // 35 POP_FAR: LDY NOTE_HIGH+256,X
+        0xbd, 0x00, 0xc2, // 38: LDA NOTE_LOW+256,X
+        0x4c, STORE.0, STORE.1, // 41: JMP POP_STORE
+        0xa9, 0x05, // 44 POP_NONE: LDA #$05
+        0x4c, FAULT.0, FAULT.1, // 46: JMP FAULT
         ] $($others)*)
     };
 }
@@ -530,12 +553,12 @@ macro_rules! fault {
         0xa9, 0x20, // 41: LDA #$20
         0x20, SEND.0, SEND.1, // 43: JSR SEND
         0xad, 0x3a, 0xc0, // 46: LDA LINE
-        0x8d, 0x62, 0xc0, // 49: STA LEFT
-        0xad, 0x3b, 0xc0, // 52: LDA LINE+1
-        0x8d, 0x63, 0xc0, // 55: STA LEFT+1
-        0x20, NUMBER.0, NUMBER.1, // 58: JSR NUMBER
-        0xa9, 0x0d, // 61: LDA #$0D
-        0x4c, SEND.0, SEND.1, // 63: JMP SEND
+        0x85, 0xfb, // 49: STA LEFT
+        0xad, 0x3b, 0xc0, // 51: LDA LINE+1
+        0x85, 0xfc, // 54: STA LEFT+1
+        0x20, NUMBER.0, NUMBER.1, // 56: JSR NUMBER
+        0xa9, 0x0d, // 59: LDA #$0D
+        0x4c, SEND.0, SEND.1, // 61: JMP SEND
         ] $($others)*)
     };
 }

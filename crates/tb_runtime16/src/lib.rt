@@ -11,9 +11,9 @@ mod whole;
 
 pub use laws::constants_are_places;
 pub use places::{
-    BLOCK_AT, BYTE, COLUMN, COUNT, HELD, HOME_S, LEFT, LENGTH, LINE, LINES_AT, NOTE_LIST, NOTES,
-    OPEN, POINTER, RESULT, RIGHT, Routine, SCRATCH, SEED, SEEDED, SEND_AT, SLOTS, TABLE, VARS,
-    entry,
+    BLOCK_AT, BYTE, COLUMN, COUNT, HELD, HOME_S, LEFT, LENGTH, LINE, LINES_AT, NOTE_HIGH, NOTE_LOW,
+    NOTES, OPEN, POINTER, RESULT, RIGHT, Routine, SCRATCH, SEED, SEEDED, SEND_AT, SLOTS, TABLE,
+    VARS, WANTED, entry,
 };
 pub use routines::{
     all_routines, divide, divide_by_zero, divide_unsigned, fault, fault_line, input, multiply,

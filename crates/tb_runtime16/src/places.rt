@@ -5,8 +5,14 @@ ghost use Rattle.tb_runtime16.specs.Places.{entry_of};
 
 /// Where the code of the lines begins.
 pub const LINES_AT: u16 = 0x0c00;
-/// The pointer of page zero for the bytes of a text.
+/// A routine's first argument; of Divide, its result too.
+pub const LEFT: u16 = 0xfb;
+/// A routine's second argument.
+pub const RIGHT: u16 = 0xfd;
+/// The pointer of page zero for the bytes of a text, in the place of `LEFT`.
 pub const POINTER: u8 = 0xfb;
+/// The line table's address, in the place of `RIGHT`.
+pub const TABLE: u16 = 0xfd;
 /// 26 words, one a variable.
 pub const VARS: u16 = 0xc000;
 /// Bytes sent since the last 13 or the start, modulo 256.
@@ -27,14 +33,10 @@ pub const NOTES: u16 = 0xc03c;
 pub const SLOTS: u16 = 0xc040;
 /// The held word.
 pub const HELD: u16 = 0xc060;
-/// A routine's first argument; of Divide, its result too.
-pub const LEFT: u16 = 0xc062;
-/// A routine's second argument.
-pub const RIGHT: u16 = 0xc064;
 /// A routine's result; of Divide, the remainder's size.
 pub const RESULT: u16 = 0xc066;
-/// The line table's address.
-pub const TABLE: u16 = 0xc068;
+/// The number of the line that Search looks for.
+pub const WANTED: u16 = 0xc068;
 /// How many entries the line table has.
 pub const COUNT: u16 = 0xc06a;
 /// A text's length, a byte.
@@ -43,8 +45,10 @@ pub const LENGTH: u16 = 0xc06c;
 pub const BYTE: u16 = 0xc06d;
 /// Scratch places of the routines, up to $C07F.
 pub const SCRATCH: u16 = 0xc06e;
-/// 500 words, one a note: code addresses.
-pub const NOTE_LIST: u16 = 0xc100;
+/// The low bytes of 500 notes, which are code addresses.
+pub const NOTE_LOW: u16 = 0xc100;
+/// Their high bytes.
+pub const NOTE_HIGH: u16 = 0xc300;
 
 // How many bytes each part of the block has, in the order in which they lie: the entries follow.
 /// Bytes of the prologue.
@@ -52,29 +56,29 @@ pub const PROLOGUE_LENGTH: usize = 18;
 /// Bytes of Send.
 pub const SEND_LENGTH: usize = 15;
 /// Bytes of Multiply.
-pub const MULTIPLY_LENGTH: usize = 49;
+pub const MULTIPLY_LENGTH: usize = 41;
 /// Bytes of Divide.
-pub const DIVIDE_LENGTH: usize = 161;
+pub const DIVIDE_LENGTH: usize = 139;
 /// Bytes of Random.
-pub const RANDOM_LENGTH: usize = 94;
+pub const RANDOM_LENGTH: usize = 82;
 /// Bytes of Number.
-pub const NUMBER_LENGTH: usize = 97;
+pub const NUMBER_LENGTH: usize = 84;
 /// Bytes of Text.
 pub const TEXT_LENGTH: usize = 24;
 /// Bytes of Zone.
 pub const ZONE_LENGTH: usize = 13;
 /// Bytes of Input.
-pub const INPUT_LENGTH: usize = 206;
+pub const INPUT_LENGTH: usize = 214;
 /// Bytes of Search.
-pub const SEARCH_LENGTH: usize = 148;
-/// Bytes of Push, with the place of a note behind it.
-pub const PUSH_LENGTH: usize = 58;
+pub const SEARCH_LENGTH: usize = 186;
+/// Bytes of Push.
+pub const PUSH_LENGTH: usize = 48;
 /// Bytes of Pop.
-pub const POP_LENGTH: usize = 38;
+pub const POP_LENGTH: usize = 49;
 /// Bytes of Fault's entry with a line, up to Fault.
 pub const FAULT_LINE_LENGTH: usize = 6;
 /// Bytes of Fault.
-pub const FAULT_LENGTH: usize = 66;
+pub const FAULT_LENGTH: usize = 64;
 /// Bytes of Poll.
 pub const POLL_LENGTH: usize = 13;
 /// Where the block begins: the prologue, which a program starts with.
@@ -127,7 +131,7 @@ pub enum Routine {
     Zone,
     /// One variable's turn of INPUT, its value in `RESULT`; fault 6 at a bad byte; waits where the text ends.
     Input,
-    /// `RESULT` = the code address of the line `LEFT`, by `TABLE` and `COUNT`; fault 1 where there is none.
+    /// `RESULT` = the code address of the line `WANTED`, by `TABLE` and `COUNT`; fault 1 where there is none.
     Search,
     /// Notes the word in `LEFT` on the return list; fault 4 where it holds 500.
     Push,

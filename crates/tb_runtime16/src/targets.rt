@@ -1,6 +1,6 @@
 //! The places of the block that its own code jumps to or calls, each as its two bytes, low byte first.
 use crate::places::{
-    DIVIDE_AT, FAULT_AT, INPUT_AT, LINES_AT, MULTIPLY_AT, NUMBER_AT, PUSH_AT, SEARCH_AT, SEND_AT,
+    DIVIDE_AT, FAULT_AT, INPUT_AT, LINES_AT, MULTIPLY_AT, NUMBER_AT, POP_AT, SEARCH_AT, SEND_AT,
 };
 
 // The two bytes of an address.
@@ -21,20 +21,20 @@ pub const NUMBER: (u8, u8) = word!(NUMBER_AT);
 /// Fault.
 pub const FAULT: (u8, u8) = word!(FAULT_AT);
 /// Divide's NEGATELEFT: LEFT becomes its opposite.
-pub const OPPOSITE: (u8, u8) = word!(DIVIDE_AT + 24);
+pub const OPPOSITE: (u8, u8) = word!(DIVIDE_AT + 21);
 /// Divide's NEGATE: so does the word X behind LEFT.
-pub const NEGATE: (u8, u8) = word!(DIVIDE_AT + 26);
+pub const NEGATE: (u8, u8) = word!(DIVIDE_AT + 23);
 /// Divide's DIVIDEBY: the division of a LEFT without a sign.
-pub const DIVIDEBY: (u8, u8) = word!(DIVIDE_AT + 44);
+pub const DIVIDEBY: (u8, u8) = word!(DIVIDE_AT + 37);
 /// Divide's UNSIGNED: the division without signs.
-pub const UNSIGNED: (u8, u8) = word!(DIVIDE_AT + 60);
+pub const UNSIGNED: (u8, u8) = word!(DIVIDE_AT + 52);
 /// Number's POWERSLOW: the low bytes of the powers of ten from 10 to 10,000.
-pub const POWERS_LOW: (u8, u8) = word!(NUMBER_AT + 89);
+pub const POWERS_LOW: (u8, u8) = word!(NUMBER_AT + 76);
 /// Number's POWERSHIGH: their high bytes.
-pub const POWERS_HIGH: (u8, u8) = word!(NUMBER_AT + 93);
+pub const POWERS_HIGH: (u8, u8) = word!(NUMBER_AT + 80);
 /// Input's READ: the next byte.
 pub const READ: (u8, u8) = word!(INPUT_AT + 34);
-/// Search's SEARCH_PROBE: the next entry in question.
-pub const PROBE: (u8, u8) = word!(SEARCH_AT + 10);
-/// Push's NOTE_PLACE: POINTER leads to a note.
-pub const PLACE: (u8, u8) = word!(PUSH_AT + 42);
+/// Search.
+pub const SEARCH: (u8, u8) = word!(SEARCH_AT);
+/// Pop's POP_STORE: A and Y are the note.
+pub const STORE: (u8, u8) = word!(POP_AT + 28);

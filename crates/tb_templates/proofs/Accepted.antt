@@ -23,9 +23,9 @@ use Rattle.tb_runtime16.specs.Places.{LEFT, RIGHT, RESULT, LINE, MULTIPLY_AT, DI
 use Rattle.tb_templates.specs.declared.labels.Inner.TheVariants.{Skip}
 use Rattle.tb_templates.specs.declared.labels.Target.{Target}
 use Rattle.tb_templates.specs.declared.labels.Target.TheVariants.{Inside, Line}
-use Rattle.tb_templates.specs.Templates.{template, jump_to, call_to, next_line, call, copied, constant}
+use Rattle.tb_templates.specs.Templates.{template, faulted, jump_to, call_to, next_line, call, copied, constant}
 use Rattle.tb_templates.specs.Sources.{Source, FixedWord, AtPlace, source_of, tested_source, home_at, destination_at}
-use Rattle.tb_templates.specs.GroupTemplates.{brought, summed, taken, handed, calculated, converted, used, equal, unequal, ordered, tested, faulted, gone, may_fault, group_template, polled}
+use Rattle.tb_templates.specs.GroupTemplates.{brought, summed, taken, handed, calculated, converted, used, equal, unequal, ordered, tested, gone, may_fault, group_template, polled}
 use Rattle.tb_templates.specs.Program.{rest_code, list_code, line_code, lines_code, past_code, find_code, rows_code, table_code, program_code}
 use Rattle.tb_settling.specs.Settled.{may_move}
 use Rattle.tb_syntax.specs.Source.{numbers}
@@ -81,11 +81,11 @@ forms_append (x ∷ xs) ys h k =
     both (has_form x) (list_all has_form (xs ++ ys)) (left_true (has_form x) (list_all has_form xs) h) (forms_append xs ys (right_true (has_form x) (list_all has_form xs) h) k)
 
 -- ── single instructions ──
-jump_forms : (ns : List ℕ) (to : ℕ) (t : Bool) → has_line ns to ≡ t → list_all has_form (jump_to ns to) ≡ true
-jump_forms ns to true e = rw e refl
-jump_forms ns to false e = rw e refl
+jump_forms : (ns : List ℕ) (n to : ℕ) (t : Bool) → has_line ns to ≡ t → list_all has_form (jump_to ns n to) ≡ true
+jump_forms ns n to true e = rw e refl
+jump_forms ns n to false e = rw e refl
 
-call_forms : (ns : List ℕ) (n to : ℕ) (t : Bool) → has_line ns to ≡ t → list_all has_form (call_to ns to (next_line ns n)) ≡ true
+call_forms : (ns : List ℕ) (n to : ℕ) (t : Bool) → has_line ns to ≡ t → list_all has_form (call_to ns n to (next_line ns n)) ≡ true
 call_forms ns n to true e = rw e refl
 call_forms ns n to false e = rw e refl
 
@@ -106,7 +106,7 @@ template_forms ns n i Hold = refl
 template_forms ns n i (LeaveUnless rel) = refl
 template_forms ns n i Jump = refl
 template_forms ns n i Call = refl
-template_forms ns n i (JumpTo to) = jump_forms ns to (has_line ns to) refl
+template_forms ns n i (JumpTo to) = jump_forms ns n to (has_line ns to) refl
 template_forms ns n i (CallTo to) = call_forms ns n to (has_line ns to) refl
 template_forms ns n i Return = refl
 template_forms ns n i End = refl

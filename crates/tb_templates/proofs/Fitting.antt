@@ -20,9 +20,9 @@ use Rattle.tb_runtime16.specs.Places.{LEFT, RIGHT, RESULT, MULTIPLY_AT, DIVIDE_A
 use Rattle.tb_templates.specs.declared.labels.Inner.TheVariants.{Skip}
 use Rattle.tb_templates.specs.declared.labels.Target.{Target}
 use Rattle.tb_templates.specs.declared.labels.Target.TheVariants.{Inside, Line}
-use Rattle.tb_templates.specs.Templates.{next_line, call, copied}
+use Rattle.tb_templates.specs.Templates.{next_line, call, copied, faulted}
 use Rattle.tb_templates.specs.Sources.{Source, FixedWord, AtPlace, source_of, tested_source, home_at, destination_at}
-use Rattle.tb_templates.specs.GroupTemplates.{low_of, high_of, brought, joined, handed, calculated, converted, used, equal, unequal, ordered, tested, faulted, gone, group_template, polled}
+use Rattle.tb_templates.specs.GroupTemplates.{low_of, high_of, brought, joined, handed, calculated, converted, used, equal, unequal, ordered, tested, gone, group_template, polled}
 use Rattle.tb_templates.specs.Program.{rest_code, list_code}
 use Rattle.tb_settling.specs.Settled.{most_of, most}
 use Rattle.tb_settling.proofs.Forms.{most_append}
@@ -34,7 +34,7 @@ list_append [] ys = omega arith
 list_append (x ∷ xs) ys = let e = list_append xs ys in omega (arith, e)
 
 -- ── a single instruction ──
-jump_fits : (ns : List ℕ) (seed n i to : ℕ) (t : Bool) → has_line ns to ≡ t → most (group_template ns seed n i (Single (JumpTo to))) ≤ 15
+jump_fits : (ns : List ℕ) (seed n i to : ℕ) (t : Bool) → has_line ns to ≡ t → most (group_template ns seed n i (Single (JumpTo to))) ≤ 9
 jump_fits ns seed n i to true e = rw e (omega arith)
 jump_fits ns seed n i to false e = rw e (omega arith)
 
@@ -124,7 +124,7 @@ tested_fits Ge a b skip next = ordered_fits Bmi a b skip next
 tested_fits Gt a b skip next = ordered_fits Bpl b a skip next
 tested_fits Le a b skip next = ordered_fits Bmi b a skip next
 
-gone_fits : (n : ℕ) (rel : Rel) (a b : Source) (skip next : Target) (t : Bool) (to : ℕ) → most (gone n rel a b skip next t to) ≤ 39
+gone_fits : (n : ℕ) (rel : Rel) (a b : Source) (skip next : Target) (t : Bool) (to : ℕ) → most (gone n rel a b skip next t to) ≤ 33
 gone_fits n rel a b skip next true to = let h = tested_fits (denied rel) a b skip (Line to) in omega (arith, h)
 gone_fits n rel a b skip next false to =
     let h = tested_fits rel a b skip next in let e = most_append (tested rel a b skip next) (faulted n 1) in omega (arith, h, e)

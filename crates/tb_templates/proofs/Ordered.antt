@@ -19,20 +19,20 @@ use Rattle.tb_templates.specs.declared.labels.Inner.TheVariants as inner
 use Rattle.tb_templates.specs.Labels.{label_of, letter_of}
 use Rattle.tb_templates.specs.declared.labels.Target.{Target}
 use Rattle.tb_templates.specs.declared.labels.Target.TheVariants.{Line, Inside, Table}
-use Rattle.tb_templates.specs.Templates.{template, jump_to, call_to, next_line, target_of, call, copied, constant}
+use Rattle.tb_templates.specs.Templates.{template, faulted, jump_to, call_to, next_line, target_of, call, copied, constant}
 use Rattle.tb_templates.specs.Sources.{Source, FixedWord, AtPlace, source_of, tested_source, home_at, destination_at}
-use Rattle.tb_templates.specs.GroupTemplates.{brought, joined, handed, calculated, converted, used, equal, unequal, ordered, tested, faulted, gone, may_fault, group_template, polled}
+use Rattle.tb_templates.specs.GroupTemplates.{brought, joined, handed, calculated, converted, used, equal, unequal, ordered, tested, gone, may_fault, group_template, polled}
 use Rattle.tb_templates.specs.Program.{rest_code, list_code, line_code, lines_code, past_code, find_code, rows_code, table_code, program_code, AreCodable, RisingFrom, first_of, AreInTurn}
 use Rattle.tb_templates.proofs.Listed.{by_poll}
 use Rattle.tb_templates.proofs.Ranged.{selected_few}
 use Rattle.tb_templates.proofs.Rising.{key_of, base, line_key, inside_key, Rising, rising_append, rising_lower}
 
 -- ── single instructions ──
-jump_rises : (ns : List ℕ) (to low high : ℕ) (t : Bool) → has_line ns to ≡ t → low ≤ high → Rising low (jump_to ns to) high
-jump_rises ns to low high true e h = rw e h
-jump_rises ns to low high false e h = rw e h
+jump_rises : (ns : List ℕ) (n to low high : ℕ) (t : Bool) → has_line ns to ≡ t → low ≤ high → Rising low (jump_to ns n to) high
+jump_rises ns n to low high true e h = rw e h
+jump_rises ns n to low high false e h = rw e h
 
-call_rises : (ns : List ℕ) (n to low high : ℕ) (t : Bool) → has_line ns to ≡ t → low ≤ high → Rising low (call_to ns to (next_line ns n)) high
+call_rises : (ns : List ℕ) (n to low high : ℕ) (t : Bool) → has_line ns to ≡ t → low ≤ high → Rising low (call_to ns n to (next_line ns n)) high
 call_rises ns n to low high true e h = rw e h
 call_rises ns n to low high false e h = rw e h
 
@@ -125,7 +125,7 @@ module _ (ns : List ℕ) (seed n i : ℕ) (small : n < 65536) (index : i < 65536
   template_rises (LeaveUnless rel) = up
   template_rises Jump = up
   template_rises Call = up
-  template_rises (JumpTo to) = jump_rises ns to (base n i) (base n (i + 1)) (has_line ns to) refl up
+  template_rises (JumpTo to) = jump_rises ns n to (base n i) (base n (i + 1)) (has_line ns to) refl up
   template_rises (CallTo to) = call_rises ns n to (base n i) (base n (i + 1)) (has_line ns to) refl up
   template_rises Return = up
   template_rises End = up

@@ -23,9 +23,9 @@ use Rattle.tb_templates.specs.declared.labels.Target.{Target}
 use Rattle.tb_templates.specs.declared.labels.Target.TheVariants as target
 use Rattle.tb_templates.specs.Labels.{label_of}
 use Rattle.tb_templates.specs.Layout.{LabelsAt}
-use Rattle.tb_templates.specs.Templates.{template, jump, fault, find, note, jump_through, target_of, next_line, call, copied, constant}
+use Rattle.tb_templates.specs.Templates.{template, jump, faulted, find, note, jump_through, target_of, next_line, call, copied, constant}
 use Rattle.tb_templates.specs.Sources.{Source, FixedWord, AtPlace, source_of, tested_source, home_at, destination_at}
-use Rattle.tb_templates.specs.GroupTemplates.{low_of, high_of, brought, joined, handed, calculated, converted, searched, used, equal, unequal, ordered, tested, faulted, gone, may_fault, group_template, polled}
+use Rattle.tb_templates.specs.GroupTemplates.{low_of, high_of, brought, joined, handed, calculated, converted, searched, used, equal, unequal, ordered, tested, gone, may_fault, group_template, polled}
 use Rattle.tb_templates.specs.Program.{rest_code, list_code, line_code, lines_code, past_code, find_code, rows_code, table_code, block_code, program_code}
 use Rattle.tb_settling.specs.Settled.{AllKnown}
 use Rattle.tb_templates.proofs.Listed.{by_poll}
@@ -98,13 +98,13 @@ module _ (labels : List (Name × ℕ)) (ns : List ℕ) (known : Known labels ns)
   high_label : (to : Target) → Stands labels to → (if is_some (option_map (λ v. v / 256) (address_in labels (label_of to))) then None else Some UnknownLabel) ≡ None
   high_label to h = found (is_some (option_map (λ v. v / 256) (address_in labels (label_of to)))) (part_stands (λ v. v / 256) (address_in labels (label_of to)) h)
 
-  jump_known : (to : ℕ) (t : Bool) → has_line ns to ≡ t → AllKnown labels (if t then jump (target.Line to) ∷ [] else fault 1)
-  jump_known to true e = (to_label (target.Line to) (known.lines to e) ▹ tt)
-  jump_known to false e = (refl ▹ refl ▹ tt)
+  jump_known : (n to : ℕ) (t : Bool) → has_line ns to ≡ t → AllKnown labels (if t then jump (target.Line to) ∷ [] else faulted n 1)
+  jump_known n to true e = (to_label (target.Line to) (known.lines to e) ▹ tt)
+  jump_known n to false e = (refl ▹ refl ▹ refl ▹ refl ▹ tt)
 
-  call_known : (to : ℕ) (next : Target) (t : Bool) → has_line ns to ≡ t → Stands labels next → AllKnown labels (if t then note next ++ (jump (target.Line to) ∷ []) else fault 1)
-  call_known to next true e h = (low_label next h ▹ refl ▹ high_label next h ▹ refl ▹ refl ▹ to_label (target.Line to) (known.lines to e) ▹ tt)
-  call_known to next false e h = (refl ▹ refl ▹ tt)
+  call_known : (n to : ℕ) (next : Target) (t : Bool) → has_line ns to ≡ t → Stands labels next → AllKnown labels (if t then note next ++ (jump (target.Line to) ∷ []) else faulted n 1)
+  call_known n to next true e h = (low_label next h ▹ refl ▹ high_label next h ▹ refl ▹ refl ▹ to_label (target.Line to) (known.lines to e) ▹ tt)
+  call_known n to next false e h = (refl ▹ refl ▹ refl ▹ refl ▹ tt)
 
   text_known : (n i a : ℕ) (bs : List ℕ) → LabelsAt labels a (template ns n i (SendText bs)) → AllKnown labels (template ns n i (SendText bs))
   text_known n i a bs h =
@@ -130,8 +130,8 @@ module _ (labels : List (Name × ℕ)) (ns : List ℕ) (known : Known labels ns)
   template_known n i a (LeaveUnless rel) h = tt
   template_known n i a Jump h = tt
   template_known n i a Call h = tt
-  template_known n i a (JumpTo to) h = jump_known to (has_line ns to) refl
-  template_known n i a (CallTo to) h = call_known to (next_line ns n) (has_line ns to) refl (next_known n)
+  template_known n i a (JumpTo to) h = jump_known n to (has_line ns to) refl
+  template_known n i a (CallTo to) h = call_known n to (next_line ns n) (has_line ns to) refl (next_known n)
   template_known n i a Return h = (refl ▹ refl ▹ tt)
   template_known n i a End h = (refl ▹ tt)
 
@@ -216,7 +216,7 @@ module _ (labels : List (Name × ℕ)) (ns : List ℕ) (known : Known labels ns)
   gone_known n at rel a b skip next true to e t h = tested_known at (denied rel) a b skip (target.Line to) (known.lines to e) h
   gone_known n at rel a b skip next false to e t h =
       let code = tested rel a b skip next in
-      known_append labels code (faulted n 1) (tested_known at rel a b skip next t (labels_split labels at code (faulted n 1) h).0) (refl ▹ refl ▹ refl ▹ refl ▹ refl ▹ refl ▹ tt)
+      known_append labels code (faulted n 1) (tested_known at rel a b skip next t (labels_split labels at code (faulted n 1) h).0) (refl ▹ refl ▹ refl ▹ refl ▹ tt)
 
   -- ── groups ──
   group_known : (seed n i at : ℕ) (g : Group) → LabelsAt labels at (group_template ns seed n i g) → AllKnown labels (group_template ns seed n i g)
@@ -237,7 +237,7 @@ module _ (labels : List (Name × ℕ)) (ns : List ℕ) (known : Known labels ns)
       known_append labels code rest (group_known seed n i a g s.0) (rest_known seed n (i + 1) (a + size code) gs s.1)
 
   polled_known : (n a : ℕ) → LabelsAt labels a (polled n) → AllKnown labels (polled n)
-  polled_known n a h = (refl ▹ refl ▹ to_label (target.Inside inner.Skip n 0) (ap is_some h.1.1.1.1.1.1.1.1.1.0) ▹ refl ▹ refl ▹ refl ▹ refl ▹ refl ▹ refl ▹ refl ▹ tt)
+  polled_known n a h = (refl ▹ refl ▹ to_label (target.Inside inner.Skip n 0) (ap is_some h.1.1.1.1.1.1.1.0) ▹ refl ▹ refl ▹ refl ▹ refl ▹ refl ▹ tt)
 
   list_known : (seed n a : ℕ) (is : List Instr) → LabelsAt labels a (list_code ns seed n is) → AllKnown labels (list_code ns seed n is)
   list_known seed n a is =
@@ -285,6 +285,6 @@ program_known labels a seed code h =
     let v = labels_split labels d search table u.1 in
     let known : Known labels ns = record { lines = lines_stand labels ns seed b code t.0; past = ap is_some u.0.0; find = ap is_some v.0.0; table = ap is_some v.1.0 } in
     (refl ▹ refl ▹ known_append labels lines (past ++ (search ++ table)) (lines_known labels ns known seed b code t.0)
-    (refl ▹ refl ▹ refl ▹ refl ▹ refl ▹ refl ▹ refl ▹
+    (refl ▹ refl ▹ refl ▹ refl ▹ refl ▹
     refl ▹ low_label labels ns known target.Table known.table ▹ refl ▹ high_label labels ns known target.Table known.table ▹ refl ▹ refl ▹ refl ▹ refl ▹ refl ▹ refl ▹
     refl ▹ rows_known labels ns known ns known.lines))

@@ -1,12 +1,12 @@
 -- Worked rows: the items of lines.
 use Rattle.std.specs.Prelude.{◌≡◌, ℕ, true, List, [], ◌∷◌, ◌++◌, refl}
-use Rattle.tb_opcodes.specs.declared.Mnemonic.TheVariants.{Adc, Bmi, Bne, Bpl, Bvc, Clc, Cmp, Eor, Jmp, Lda, Rts, Sbc, Sec, Sta}
+use Rattle.tb_opcodes.specs.declared.Mnemonic.TheVariants.{Adc, Bmi, Bne, Bpl, Bvc, Clc, Cmp, Eor, Jmp, Lda, Ldx, Ldy, Rts, Sbc, Sec, Sta}
 use Rattle.tb_words.specs.declared.Rel.TheVariants.{Eq, Lt}
 use Rattle.tb_syntax.specs.declared.expressions.Operator.TheVariants.{Add, Divide}
 use Rattle.tb_syntax.specs.Source.{Number, Variable, Negate, Random, Value, Binary, Command, Let, Print, If, Goto, Gosub, End}
 use Rattle.tb_lower.specs.Lowered as lowered
 use Rattle.tb_asm.specs.Layout.{Entry}
-use Rattle.tb_runtime16.specs.Places.{LEFT, DIVIDE_AT, RANDOM_AT, NUMBER_AT, SEND_AT, PUSH_AT, FAULT_AT}
+use Rattle.tb_runtime16.specs.Places.{LEFT, DIVIDE_AT, RANDOM_AT, NUMBER_AT, SEND_AT, PUSH_AT, FAULT_LINE_AT}
 use Rattle.tb_templates.specs.declared.labels.Inner.TheVariants.{Skip}
 use Rattle.tb_templates.specs.declared.labels.Target.TheVariants.{Line, Inside}
 use Rattle.tb_templates.specs.Templates.{at, const, alone, branch, here, call, address, find, jump_through}
@@ -18,56 +18,56 @@ items n c = line_code (10 ∷ 20 ∷ 30 ∷ []) 1 (record { number = n; content 
 
 -- 10 LET A=B+1: the variables stand at $C000 and $C002, the line's number at $C03A
 sum : items 10 (Let 0 (Binary Add (Variable 1) (Number 1)))
-    ≡ here (Line 10) ∷ call 0xFFE4 ∷ const Cmp 3 ∷ branch Bne (Inside Skip 10 0) ∷ const Lda 10 ∷ at Sta 0xC03A ∷ const Lda 0 ∷ at Sta 0xC03B ∷ const Lda 0 ∷ at Jmp FAULT_AT ∷ here (Inside Skip 10 0)
+    ≡ here (Line 10) ∷ call 0xFFE4 ∷ const Cmp 3 ∷ branch Bne (Inside Skip 10 0) ∷ const Ldx 10 ∷ const Ldy 0 ∷ const Lda 0 ∷ at Jmp FAULT_LINE_AT ∷ here (Inside Skip 10 0)
     ∷ alone Clc ∷ at Lda 0xC002 ∷ const Adc 1 ∷ at Sta 0xC000 ∷ at Lda 0xC003 ∷ const Adc 0 ∷ at Sta 0xC001 ∷ []
 sum = refl
 
 -- 10 LET B=-A
 negation : items 10 (Let 1 (Negate (Variable 0)))
-    ≡ here (Line 10) ∷ call 0xFFE4 ∷ const Cmp 3 ∷ branch Bne (Inside Skip 10 0) ∷ const Lda 10 ∷ at Sta 0xC03A ∷ const Lda 0 ∷ at Sta 0xC03B ∷ const Lda 0 ∷ at Jmp FAULT_AT ∷ here (Inside Skip 10 0)
+    ≡ here (Line 10) ∷ call 0xFFE4 ∷ const Cmp 3 ∷ branch Bne (Inside Skip 10 0) ∷ const Ldx 10 ∷ const Ldy 0 ∷ const Lda 0 ∷ at Jmp FAULT_LINE_AT ∷ here (Inside Skip 10 0)
     ∷ alone Sec ∷ const Lda 0 ∷ at Sbc 0xC000 ∷ at Sta 0xC002 ∷ const Lda 0 ∷ at Sbc 0xC001 ∷ at Sta 0xC003 ∷ []
 negation = refl
 
 -- 10 LET A=RND(6), of which the first state is 1: the two go to $C062 and $C064, the number comes at $C066
 draw : items 10 (Let 0 (Random (Number 6)))
-    ≡ here (Line 10) ∷ call 0xFFE4 ∷ const Cmp 3 ∷ branch Bne (Inside Skip 10 0) ∷ const Lda 10 ∷ at Sta 0xC03A ∷ const Lda 0 ∷ at Sta 0xC03B ∷ const Lda 0 ∷ at Jmp FAULT_AT ∷ here (Inside Skip 10 0)
+    ≡ here (Line 10) ∷ call 0xFFE4 ∷ const Cmp 3 ∷ branch Bne (Inside Skip 10 0) ∷ const Ldx 10 ∷ const Ldy 0 ∷ const Lda 0 ∷ at Jmp FAULT_LINE_AT ∷ here (Inside Skip 10 0)
     ∷ const Lda 10 ∷ at Sta 0xC03A ∷ const Lda 0 ∷ at Sta 0xC03B
-    ∷ const Lda 6 ∷ at Sta 0xC062 ∷ const Lda 0 ∷ at Sta 0xC063 ∷ const Lda 1 ∷ at Sta 0xC064 ∷ const Lda 0 ∷ at Sta 0xC065 ∷ call RANDOM_AT
+    ∷ const Lda 6 ∷ at Sta 0xFB ∷ const Lda 0 ∷ at Sta 0xFC ∷ const Lda 1 ∷ at Sta 0xFD ∷ const Lda 0 ∷ at Sta 0xFE ∷ call RANDOM_AT
     ∷ at Lda 0xC066 ∷ at Sta 0xC000 ∷ at Lda 0xC067 ∷ at Sta 0xC001 ∷ []
 draw = refl
 
 -- 20 GOSUB A: the line is searched for, and line 30 noted
 subroutine : items 20 (Gosub (Variable 0))
-    ≡ here (Line 20) ∷ call 0xFFE4 ∷ const Cmp 3 ∷ branch Bne (Inside Skip 20 0) ∷ const Lda 20 ∷ at Sta 0xC03A ∷ const Lda 0 ∷ at Sta 0xC03B ∷ const Lda 0 ∷ at Jmp FAULT_AT ∷ here (Inside Skip 20 0)
-    ∷ const Lda 20 ∷ at Sta 0xC03A ∷ const Lda 0 ∷ at Sta 0xC03B ∷ at Lda 0xC000 ∷ at Sta 0xC062 ∷ at Lda 0xC001 ∷ at Sta 0xC063 ∷ find
+    ≡ here (Line 20) ∷ call 0xFFE4 ∷ const Cmp 3 ∷ branch Bne (Inside Skip 20 0) ∷ const Ldx 20 ∷ const Ldy 0 ∷ const Lda 0 ∷ at Jmp FAULT_LINE_AT ∷ here (Inside Skip 20 0)
+    ∷ const Lda 20 ∷ at Sta 0xC03A ∷ const Lda 0 ∷ at Sta 0xC03B ∷ at Lda 0xC000 ∷ at Sta 0xC068 ∷ at Lda 0xC001 ∷ at Sta 0xC069 ∷ find
     ∷ (address (Line 30) LEFT ++ (call PUSH_AT ∷ jump_through))
 subroutine = refl
 
 -- 20 IF A<B END: the line is left where A is not below B
 test : items 20 (If (Variable 0) Lt (Variable 1) End)
-    ≡ here (Line 20) ∷ call 0xFFE4 ∷ const Cmp 3 ∷ branch Bne (Inside Skip 20 0) ∷ const Lda 20 ∷ at Sta 0xC03A ∷ const Lda 0 ∷ at Sta 0xC03B ∷ const Lda 0 ∷ at Jmp FAULT_AT ∷ here (Inside Skip 20 0)
+    ≡ here (Line 20) ∷ call 0xFFE4 ∷ const Cmp 3 ∷ branch Bne (Inside Skip 20 0) ∷ const Ldx 20 ∷ const Ldy 0 ∷ const Lda 0 ∷ at Jmp FAULT_LINE_AT ∷ here (Inside Skip 20 0)
     ∷ at Lda 0xC000 ∷ at Cmp 0xC002 ∷ at Lda 0xC001 ∷ at Sbc 0xC003 ∷ branch Bvc (Inside Skip 20 1) ∷ const Eor 128 ∷ here (Inside Skip 20 1) ∷ branch Bpl (Line 30)
     ∷ alone Rts ∷ []
 test = refl
 
 -- 20 IF A<B GOTO 10: straight to line 10 where A is below B, and else on into line 30
 straight : items 20 (If (Variable 0) Lt (Variable 1) (Goto (Number 10)))
-    ≡ here (Line 20) ∷ call 0xFFE4 ∷ const Cmp 3 ∷ branch Bne (Inside Skip 20 0) ∷ const Lda 20 ∷ at Sta 0xC03A ∷ const Lda 0 ∷ at Sta 0xC03B ∷ const Lda 0 ∷ at Jmp FAULT_AT ∷ here (Inside Skip 20 0)
+    ≡ here (Line 20) ∷ call 0xFFE4 ∷ const Cmp 3 ∷ branch Bne (Inside Skip 20 0) ∷ const Ldx 20 ∷ const Ldy 0 ∷ const Lda 0 ∷ at Jmp FAULT_LINE_AT ∷ here (Inside Skip 20 0)
     ∷ at Lda 0xC000 ∷ at Cmp 0xC002 ∷ at Lda 0xC001 ∷ at Sbc 0xC003 ∷ branch Bvc (Inside Skip 20 1) ∷ const Eor 128 ∷ here (Inside Skip 20 1) ∷ branch Bmi (Line 10) ∷ []
 straight = refl
 
 -- 20 IF A=1 GOTO 40: there is no line 40, so it is the test and then fault 1
 nowhere : items 20 (If (Variable 0) Eq (Number 1) (Goto (Number 40)))
-    ≡ here (Line 20) ∷ call 0xFFE4 ∷ const Cmp 3 ∷ branch Bne (Inside Skip 20 0) ∷ const Lda 20 ∷ at Sta 0xC03A ∷ const Lda 0 ∷ at Sta 0xC03B ∷ const Lda 0 ∷ at Jmp FAULT_AT ∷ here (Inside Skip 20 0)
+    ≡ here (Line 20) ∷ call 0xFFE4 ∷ const Cmp 3 ∷ branch Bne (Inside Skip 20 0) ∷ const Ldx 20 ∷ const Ldy 0 ∷ const Lda 0 ∷ at Jmp FAULT_LINE_AT ∷ here (Inside Skip 20 0)
     ∷ at Lda 0xC000 ∷ const Cmp 1 ∷ branch Bne (Line 30) ∷ at Lda 0xC001 ∷ const Cmp 0 ∷ branch Bne (Line 30)
-    ∷ const Lda 20 ∷ at Sta 0xC03A ∷ const Lda 0 ∷ at Sta 0xC03B ∷ const Lda 1 ∷ at Jmp FAULT_AT ∷ []
+    ∷ const Ldx 20 ∷ const Ldy 0 ∷ const Lda 1 ∷ at Jmp FAULT_LINE_AT ∷ []
 nowhere = refl
 
 -- 30 PRINT A/B: the operands go to $C062 and $C064, the quotient comes at $C062, slot 0 stands at $C040
 quotient : items 30 (Print (Value (Binary Divide (Variable 0) (Variable 1)) ∷ []) true)
-    ≡ here (Line 30) ∷ call 0xFFE4 ∷ const Cmp 3 ∷ branch Bne (Inside Skip 30 0) ∷ const Lda 30 ∷ at Sta 0xC03A ∷ const Lda 0 ∷ at Sta 0xC03B ∷ const Lda 0 ∷ at Jmp FAULT_AT ∷ here (Inside Skip 30 0)
+    ≡ here (Line 30) ∷ call 0xFFE4 ∷ const Cmp 3 ∷ branch Bne (Inside Skip 30 0) ∷ const Ldx 30 ∷ const Ldy 0 ∷ const Lda 0 ∷ at Jmp FAULT_LINE_AT ∷ here (Inside Skip 30 0)
     ∷ const Lda 30 ∷ at Sta 0xC03A ∷ const Lda 0 ∷ at Sta 0xC03B
-    ∷ at Lda 0xC000 ∷ at Sta 0xC062 ∷ at Lda 0xC001 ∷ at Sta 0xC063 ∷ at Lda 0xC002 ∷ at Sta 0xC064 ∷ at Lda 0xC003 ∷ at Sta 0xC065 ∷ call DIVIDE_AT
-    ∷ at Lda 0xC062 ∷ at Sta 0xC040 ∷ at Lda 0xC063 ∷ at Sta 0xC041
-    ∷ at Lda 0xC040 ∷ at Sta 0xC062 ∷ at Lda 0xC041 ∷ at Sta 0xC063 ∷ call NUMBER_AT ∷ const Lda 13 ∷ call SEND_AT ∷ []
+    ∷ at Lda 0xC000 ∷ at Sta 0xFB ∷ at Lda 0xC001 ∷ at Sta 0xFC ∷ at Lda 0xC002 ∷ at Sta 0xFD ∷ at Lda 0xC003 ∷ at Sta 0xFE ∷ call DIVIDE_AT
+    ∷ at Lda 0xFB ∷ at Sta 0xC040 ∷ at Lda 0xFC ∷ at Sta 0xC041
+    ∷ at Lda 0xC040 ∷ at Sta 0xFB ∷ at Lda 0xC041 ∷ at Sta 0xFC ∷ call NUMBER_AT ∷ const Lda 13 ∷ call SEND_AT ∷ []
 quotient = refl

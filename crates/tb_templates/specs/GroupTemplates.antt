@@ -1,5 +1,5 @@
 -- The code of each group, as items of the assembler.
-use Rattle.std.specs.Prelude.{ℕ, ◌+◌, ◌/◌, ◌%◌, Bool, true, false, not, List, [], ◌∷◌, ◌++◌, if◌then◌else◌}
+use Rattle.std.specs.Prelude.{ℕ, ◌+◌, ◌/◌, ◌%◌, Bool, true, false, List, [], ◌∷◌, ◌++◌, if◌then◌else◌}
 use Rattle.tb_opcodes.specs.declared.Mnemonic.{Mnemonic}
 use Rattle.tb_opcodes.specs.declared.Mnemonic.TheVariants.{Adc, Beq, Bmi, Bne, Bpl, Bvc, Clc, Cmp, Eor, Jsr, Lda, Sbc, Sec, Sta}
 use Rattle.tb_asm.specs.Layout.{Entry}
@@ -8,13 +8,13 @@ use Rattle.tb_words.specs.declared.Rel.TheVariants.{Eq, Lt, Gt, Le, Ge, Ne}
 use Rattle.tb_syntax.specs.declared.expressions.Operator.{Operator}
 use Rattle.tb_syntax.specs.declared.expressions.Operator.TheVariants.{Add, Subtract, Multiply, Divide}
 use Rattle.tb_lower.specs.Control.{has_line}
-use Rattle.tb_lower.specs.Slots.{Instr, Input, Poll, JumpTo, CallTo, Return}
+use Rattle.tb_lower.specs.Slots.{Instr, Input, Poll, CallTo, Return}
 use Rattle.tb_selection.specs.Groups.{Conversion, Negated, Drawn, Usage, AsNumber, AsLine, AsSubroutine, Group, Calculate, Convert, Move, Use, Test, TestGo, Single, denied, slot_of}
-use Rattle.tb_runtime16.specs.Places.{LEFT, RIGHT, RESULT, LINE, GETIN, MULTIPLY_AT, DIVIDE_AT, RANDOM_AT, NUMBER_AT}
+use Rattle.tb_runtime16.specs.Places.{LEFT, RIGHT, RESULT, WANTED, LINE, GETIN, MULTIPLY_AT, DIVIDE_AT, RANDOM_AT, NUMBER_AT}
 use Rattle.tb_templates.specs.declared.labels.Inner.TheVariants.{Skip}
 use Rattle.tb_templates.specs.declared.labels.Target.{Target}
 use Rattle.tb_templates.specs.declared.labels.Target.TheVariants.{Inside, Line}
-use Rattle.tb_templates.specs.Templates.{at, const, alone, branch, here, call, copied, constant, fault, find, note, jump_through, next_line, template}
+use Rattle.tb_templates.specs.Templates.{at, const, alone, branch, here, call, copied, constant, faulted, find, note, jump_through, next_line, template}
 use Rattle.tb_templates.specs.Sources.{Source, FixedWord, AtPlace, source_of, tested_source, home_at, destination_at}
 
 -- ── single instructions ──
@@ -64,7 +64,7 @@ converted n seed Drawn a to = constant n LINE ++ handed RANDOM_AT RESULT a (Fixe
 
 -- the search in the line table for a word: it may fault, and so the line's number is set first
 abbrev pub searched : ℕ → Source → List Entry
-searched n a = constant n LINE ++ (brought a LEFT ++ (find ∷ []))
+searched n a = constant n LINE ++ (brought a WANTED ++ (find ∷ []))
 
 -- a word used in line n: it is sent, or the line of this number is gone to or called
 abbrev pub used : ℕ → Target → Usage → Source → List Entry
@@ -95,10 +95,6 @@ tested Ge a b skip next = ordered Bmi a b skip next
 tested Gt a b skip next = ordered Bpl b a skip next
 tested Le a b skip next = ordered Bmi b a skip next
 
--- fault k in line n
-abbrev pub faulted : ℕ → ℕ → List Entry
-faulted n k = constant n LINE ++ fault k
-
 -- from line n straight to a line where two words are so related, and else on to the next line, which is behind; where the
 -- program has no such line, the test and then fault 1
 abbrev pub gone : ℕ → Rel → Source → Source → Target → Target → Bool → ℕ → List Entry
@@ -106,12 +102,12 @@ gone n rel a b skip next true to = tested (denied rel) a b skip (Line to)
 gone n rel a b skip next false to = tested rel a b skip next ++ faulted n 1
 
 -- ── templates ──
--- whether a single instruction of a program with these line numbers may fault: then the line's number is set first
+-- whether a routine that a single instruction of a program with these line numbers calls may fault: then the line's
+-- number is set first
 abbrev pub may_fault : List ℕ → Instr → Bool
 may_fault numbers (Input x) = true
 may_fault numbers Poll = true
-may_fault numbers (JumpTo to) = not (has_line numbers to)
-may_fault numbers (CallTo to) = true
+may_fault numbers (CallTo to) = has_line numbers to
 may_fault numbers Return = true
 may_fault numbers _ = false
 

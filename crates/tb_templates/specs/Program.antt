@@ -10,11 +10,11 @@ use Rattle.tb_lower.specs.Ranges.{AreInRange}
 use Rattle.tb_selection.specs.Groups.{Group}
 use Rattle.tb_selection.specs.Select.{select}
 use Rattle.tb_runtime16.specs.Block.{block_bytes}
-use Rattle.tb_runtime16.specs.Places.{PROLOGUE_AT, LINES_AT, LINE, TABLE, COUNT, SEARCH_AT}
+use Rattle.tb_runtime16.specs.Places.{PROLOGUE_AT, LINES_AT, TABLE, COUNT, SEARCH_AT}
 use Rattle.tb_templates.specs.declared.labels.Target.{Target}
 use Rattle.tb_templates.specs.declared.labels.Target.TheVariants.{Line, Past, Find, Table}
 use Rattle.tb_templates.specs.Labels.{label_of}
-use Rattle.tb_templates.specs.Templates.{at, here, constant, address, fault, next_line}
+use Rattle.tb_templates.specs.Templates.{at, here, constant, address, faulted, next_line}
 use Rattle.tb_templates.specs.GroupTemplates.{group_template, polled}
 
 -- the groups of a line from group i on, one behind the other
@@ -38,7 +38,7 @@ lines_code ns seed (line ∷ lines) = line_code ns seed line ++ lines_code ns se
 
 -- fault 7, at the highest line: the last line falls into it
 abbrev pub past_code : List ℕ → List Entry
-past_code ns = here Past ∷ (constant (highest ns) LINE ++ fault 7)
+past_code ns = here Past ∷ faulted (highest ns) 7
 
 -- the search in the line table
 abbrev pub find_code : List ℕ → List Entry

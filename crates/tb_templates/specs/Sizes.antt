@@ -17,12 +17,12 @@ room SendNumber = 15
 room SendZone = 3
 room SendNewline = 5
 room (Input x) = 25
-room Poll = 25
+room Poll = 19
 room Hold = 12
 room (LeaveUnless rel) = 24
 room Jump = 28
 room Call = 41
-room (JumpTo target) = 15
+room (JumpTo target) = 9
 room (CallTo target) = 26
 room Return = 16
 room End = 1
@@ -39,7 +39,7 @@ lines_room (line ∷ lines) = 4 + list_room line.content + lines_room lines
 
 -- of fault 7 and the search
 abbrev pub rest_room : ℕ
-rest_room = 38
+rest_room = 32
 
 -- ── zones ──
 -- a comma stands behind a text or a value of its own, so that these pay for it; the Bool says whether one stands before

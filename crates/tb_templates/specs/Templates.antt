@@ -1,14 +1,14 @@
 -- The code of slot instructions that stand alone, as items of the assembler.
 use Rattle.std.specs.Prelude.{ℕ, ◌+◌, ◌*◌, ◌/◌, ◌%◌, List, [], ◌∷◌, ◌++◌, length, if◌then◌else◌}
 use Rattle.tb_opcodes.specs.declared.Mnemonic.{Mnemonic}
-use Rattle.tb_opcodes.specs.declared.Mnemonic.TheVariants.{Jmp, Jsr, Lda, Rts, Sta}
+use Rattle.tb_opcodes.specs.declared.Mnemonic.TheVariants.{Jmp, Jsr, Lda, Ldx, Ldy, Rts, Sta}
 use Rattle.tb_opcodes.specs.declared.Mode.TheVariants.{Implied, Immediate, ZeroPage, Relative, Absolute, Indirect}
 use Rattle.tb_asm.specs.declared.items.Operand.TheVariants.{Nothing, Byte, Word, Label, LowOf, HighOf}
 use Rattle.tb_asm.specs.Layout.{Entry, instr, label, bytes}
 use Rattle.tb_words.specs.Words.{word}
 use Rattle.tb_lower.specs.Control.{Place, At, Past, next_after, has_line}
 use Rattle.tb_lower.specs.Slots.{Instr, Put, Load, Store, Negate, Compute, Random, SendText, SendNumber, SendZone, SendNewline, Input, Poll, Hold, LeaveUnless, Jump, Call, JumpTo, CallTo, Return, End}
-use Rattle.tb_runtime16.specs.Places.{POINTER, LENGTH, LEFT, RESULT, VARS, SLOTS, SEND_AT, TEXT_AT, ZONE_AT, INPUT_AT, PUSH_AT, POP_AT, FAULT_AT, POLL_AT}
+use Rattle.tb_runtime16.specs.Places.{POINTER, LENGTH, LEFT, RESULT, VARS, SLOTS, SEND_AT, TEXT_AT, ZONE_AT, INPUT_AT, PUSH_AT, POP_AT, FAULT_LINE_AT, POLL_AT}
 use Rattle.tb_templates.specs.declared.labels.Inner.TheVariants as inner
 use Rattle.tb_templates.specs.declared.labels.Target.{Target}
 use Rattle.tb_templates.specs.declared.labels.Target.TheVariants as target
@@ -68,9 +68,9 @@ address of to = instr Lda Immediate (LowOf (label_of of)) ∷ at Sta to ∷ inst
 abbrev pub jump_through : List Entry
 jump_through = instr Jmp Indirect (Word RESULT) ∷ []
 
--- a fault
-abbrev pub fault : ℕ → List Entry
-fault k = const Lda k ∷ at Jmp FAULT_AT ∷ []
+-- fault k in line n
+abbrev pub faulted : ℕ → ℕ → List Entry
+faulted n k = const Ldx (n % 256) ∷ const Ldy (n / 256) ∷ const Lda k ∷ at Jmp FAULT_LINE_AT ∷ []
 
 -- a call of the search in the line table
 abbrev pub find : Entry
@@ -106,13 +106,13 @@ target_of Past = target.Past
 abbrev pub next_line : List ℕ → ℕ → Target
 next_line numbers n = target_of (next_after numbers n)
 
--- goes to a constant line; fault 1 where the program has no such line
-abbrev pub jump_to : List ℕ → ℕ → List Entry
-jump_to numbers to = if has_line numbers to then jump (target.Line to) ∷ [] else fault 1
+-- goes from line n to a constant line; fault 1 where the program has no such line
+abbrev pub jump_to : List ℕ → ℕ → ℕ → List Entry
+jump_to numbers n to = if has_line numbers to then jump (target.Line to) ∷ [] else faulted n 1
 
--- notes the next line and goes to a constant line; fault 1 where the program has no such line
-abbrev pub call_to : List ℕ → ℕ → Target → List Entry
-call_to numbers to next = if has_line numbers to then note next ++ (jump (target.Line to) ∷ []) else fault 1
+-- notes the next line and goes from line n to a constant line; fault 1 where the program has no such line
+abbrev pub call_to : List ℕ → ℕ → ℕ → Target → List Entry
+call_to numbers n to next = if has_line numbers to then note next ++ (jump (target.Line to) ∷ []) else faulted n 1
 
 -- the code of a single instruction, which is group i of line n, where the program has these numbers. What has another
 -- kind of group has no code here.
@@ -133,7 +133,7 @@ template numbers n i Hold = []
 template numbers n i (LeaveUnless rel) = []
 template numbers n i Jump = []
 template numbers n i Call = []
-template numbers n i (JumpTo to) = jump_to numbers to
-template numbers n i (CallTo to) = call_to numbers to (next_line numbers n)
+template numbers n i (JumpTo to) = jump_to numbers n to
+template numbers n i (CallTo to) = call_to numbers n to (next_line numbers n)
 template numbers n i Return = call POP_AT ∷ jump_through
 template numbers n i End = alone Rts ∷ []

@@ -17,7 +17,7 @@ ghost use Rattle.tb_templates.specs.Program.{RisingFrom};
 
 use crate::labels::{Inner, Target};
 use crate::pieces::{
-    put_alone, put_at, put_branch, put_call, put_const, put_constant, put_copied, put_fault,
+    put_alone, put_at, put_branch, put_call, put_const, put_constant, put_copied, put_faulted,
     put_find, put_here, put_jump_through, put_note,
 };
 use crate::sources::{Source, destination_at, home_at, slot_of, source_of, tested_source};
@@ -26,7 +26,7 @@ use std::alloc::AllocError;
 use tb_asm::Item;
 use tb_lower::SlotInstr;
 use tb_opcodes::Mnemonic;
-use tb_runtime16::{LEFT, LINE, RESULT, RIGHT, Routine};
+use tb_runtime16::{LEFT, LINE, RESULT, RIGHT, Routine, WANTED};
 use tb_selection::{Conversion, Group, Usage};
 use tb_syntax::Operator;
 use tb_words::Rel;
@@ -193,7 +193,7 @@ fn put_searched(items: &mut Vec<Item>, line: u16, word: Source) -> Result<(), Al
     ensures { OnOk result (map entry_of items.new.items ≡ map entry_of items.old.items ++ groups.searched line word) }
 {
     put_constant(items, line, LINE)?;
-    put_brought(items, word, LEFT)?;
+    put_brought(items, word, WANTED)?;
     put_find(items)?;
     Ok(())
 }
@@ -348,15 +348,6 @@ fn denied(rel: Rel) -> Rel
     }
 }
 
-// A fault of a line.
-fn put_faulted(items: &mut Vec<Item>, line: u16, number: u8) -> Result<(), AllocError>
-    ensures { OnOk result (map entry_of items.new.items ≡ map entry_of items.old.items ++ groups.faulted line number) }
-{
-    put_constant(items, line, LINE)?;
-    put_fault(items, number)?;
-    Ok(())
-}
-
 // Leaves the line unless two words are so related, and else faults for want of a line.
 fn put_lost(
     items: &mut Vec<Item>,
@@ -366,7 +357,7 @@ fn put_lost(
     right: Source,
 ) -> Result<(), AllocError>
     requires { IsWhole left × IsWhole right }
-    ensures { OnOk result (map entry_of items.new.items ≡ map entry_of items.old.items ++ (groups.tested rel left right (Inside Skip spot.line spot.index) spot.next ++ groups.faulted spot.line 1)) }
+    ensures { OnOk result (map entry_of items.new.items ≡ map entry_of items.old.items ++ (groups.tested rel left right (Inside Skip spot.line spot.index) spot.next ++ templates.faulted spot.line 1)) }
 {
     put_tested(items, rel, left, right, spot.skip(), spot.next)?;
     put_faulted(items, spot.line, NO_LINE)?;
@@ -401,19 +392,19 @@ fn put_gone(
     }
 }
 
-// Whether a single instruction of a program with these line numbers may fault.
+// Whether a routine that a single instruction of a program with these line numbers calls may fault.
 fn may_fault(numbers: &[u16], instruction: &SlotInstr) -> bool
     requires rising { RisingFrom 0 numbers.now }
     ensures { result ≡ groups.may_fault numbers.now (instr_of instruction.now) }
 {
     match instruction {
-        SlotInstr::Input(_) | SlotInstr::Poll | SlotInstr::CallTo(_) | SlotInstr::Return => true,
-        SlotInstr::JumpTo(to) => !has_number(numbers, *to),
+        SlotInstr::Input(_) | SlotInstr::Poll | SlotInstr::Return => true,
+        SlotInstr::CallTo(to) => has_number(numbers, *to),
         _ => false,
     }
 }
 
-// A single instruction; where it may fault, it sets the line's number first.
+// A single instruction; where a routine that it calls may fault, it sets the line's number first.
 fn put_single(
     items: &mut Vec<Item>,
     numbers: &[u16],

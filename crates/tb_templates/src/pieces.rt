@@ -153,10 +153,12 @@ pub fn put_jump_through(items: &mut Vec<Item>) -> Result<(), AllocError>
     )
 }
 
-/// A fault, by its number.
-pub fn put_fault(items: &mut Vec<Item>, number: u8) -> Result<(), AllocError>
-    ensures { OnOk result (map entry_of items.new.items ≡ map entry_of items.old.items ++ templates.fault number) }
+/// A fault of a line, by its number.
+pub fn put_faulted(items: &mut Vec<Item>, line: u16, number: u8) -> Result<(), AllocError>
+    ensures { OnOk result (map entry_of items.new.items ≡ map entry_of items.old.items ++ templates.faulted line number) }
 {
+    put_const(items, Mnemonic::Ldx, (line % 256) as u8)?;
+    put_const(items, Mnemonic::Ldy, (line / 256) as u8)?;
     put_const(items, Mnemonic::Lda, number)?;
-    put_at(items, Mnemonic::Jmp, entry(Routine::Fault))
+    put_at(items, Mnemonic::Jmp, entry(Routine::FaultLine))
 }

@@ -17,7 +17,7 @@ ghost use Rattle.tb_templates.specs.Templates as templates;
 
 use crate::groups::{put_group, put_polled};
 use crate::labels::{Target, label};
-use crate::pieces::{put, put_address, put_at, put_constant, put_fault, put_here};
+use crate::pieces::{put, put_address, put_at, put_constant, put_faulted, put_here};
 use crate::templates::Spot;
 use std::alloc::{AllocError, Global};
 use tb_asm::{Item, Operand};
@@ -28,6 +28,9 @@ use tb_selection::select;
 
 // About the most items that lines have in the mean; only the speed hangs on it.
 const ITEMS_IN_A_LINE: usize = 32;
+
+// The fault of a program that runs past its last line.
+const RUN_PAST: u8 = 7;
 
 /// The items of a program, from the block's address on; the seed is the option's RND state.
 pub fn program_items(alloc: Global, seed: u16, code: &SlotCode) -> Result<Vec<Item>, AllocError>
@@ -174,8 +177,7 @@ fn put_past(items: &mut Vec<Item>, numbers: &[u16]) -> Result<(), AllocError>
     ensures { OnOk result (map entry_of items.new.items ≡ map entry_of items.old.items ++ program.past_code numbers.now) }
 {
     put_here(items, Target::Past)?;
-    put_constant(items, last(numbers), LINE)?;
-    put_fault(items, 7)?;
+    put_faulted(items, last(numbers), RUN_PAST)?;
     Ok(())
 }
 

@@ -13,7 +13,7 @@ ghost use Rattle.tb_templates.specs.Program.{RisingFrom};
 
 use crate::labels::{Inner, Target, label};
 use crate::pieces::{
-    put, put_alone, put_at, put_call, put_const, put_constant, put_copied, put_fault, put_here,
+    put, put_alone, put_at, put_call, put_const, put_constant, put_copied, put_faulted, put_here,
     put_jump, put_jump_through, put_note,
 };
 use crate::sources::{slot_address, variable_at};
@@ -120,31 +120,32 @@ pub fn has_number(numbers: &[u16], line: u16) -> bool
     numbers.binary_search(&line).is_ok()
 }
 
-fn put_jump_to(items: &mut Vec<Item>, numbers: &[u16], to: u16) -> Result<(), AllocError>
+fn put_jump_to(items: &mut Vec<Item>, numbers: &[u16], line: u16, to: u16) -> Result<(), AllocError>
     requires rising { RisingFrom 0 numbers.now }
-    ensures { OnOk result (map entry_of items.new.items ≡ map entry_of items.old.items ++ templates.jump_to numbers.now to) }
+    ensures { OnOk result (map entry_of items.new.items ≡ map entry_of items.old.items ++ templates.jump_to numbers.now line to) }
 {
     if has_number(numbers, to) {
         put_jump(items, Target::Line(to))
     } else {
-        put_fault(items, NO_LINE)
+        put_faulted(items, line, NO_LINE)
     }
 }
 
 fn put_call_to(
     items: &mut Vec<Item>,
     numbers: &[u16],
+    line: u16,
     to: u16,
     next: Target,
 ) -> Result<(), AllocError>
     requires rising { RisingFrom 0 numbers.now }
-    ensures { OnOk result (map entry_of items.new.items ≡ map entry_of items.old.items ++ templates.call_to numbers.now to next) }
+    ensures { OnOk result (map entry_of items.new.items ≡ map entry_of items.old.items ++ templates.call_to numbers.now line to next) }
 {
     if has_number(numbers, to) {
         put_note(items, next)?;
         put_jump(items, Target::Line(to))
     } else {
-        put_fault(items, NO_LINE)
+        put_faulted(items, line, NO_LINE)
     }
 }
 
@@ -183,8 +184,8 @@ pub fn put_instruction(
             put_copied(items, RESULT, variable_at(*letter))
         }
         SlotInstr::Poll => put_call(items, Routine::Poll),
-        SlotInstr::JumpTo(to) => put_jump_to(items, numbers, *to),
-        SlotInstr::CallTo(to) => put_call_to(items, numbers, *to, spot.next),
+        SlotInstr::JumpTo(to) => put_jump_to(items, numbers, spot.line, *to),
+        SlotInstr::CallTo(to) => put_call_to(items, numbers, spot.line, *to, spot.next),
         SlotInstr::Return => {
             put_call(items, Routine::Pop)?;
             put_jump_through(items)

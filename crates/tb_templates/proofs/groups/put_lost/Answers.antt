@@ -1,6 +1,7 @@
 use Rattle.std.proofs.Common.{◌++◌, map, ap, ◌∙◌}
 use Rattle.tb_asm.specs.Layout.{entry_of}
-use Rattle.tb_templates.specs.GroupTemplates.{tested, faulted}
+use Rattle.tb_templates.specs.GroupTemplates.{tested}
+use Rattle.tb_templates.specs.Templates.{faulted}
 use Rattle.tb_templates.proofs.Appends.{two}
 use Rattle.tb_templates.proofs.groups.put_lost.Goals as goal
 
