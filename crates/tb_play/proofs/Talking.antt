@@ -12,7 +12,7 @@ use Rattle.tb_kernal.specs.Machine.{Content, state_of}
 use Rattle.tb_kernal.specs.Typing.{with_more}
 use Rattle.tb_streams.specs.HostForm.{host_byte, host_form_of}
 use Rattle.tb_streams.specs.Streams.{AppendsPrefix}
-use Rattle.tb_play.specs.Lines.{most_typed, keys_of, typed_of, TakesLine, TakesLines}
+use Rattle.tb_play.specs.Lines.{most_typed, keys_of, typed_of, TakesLine, TakesLines, TakesSome}
 use Rattle.tb_play.specs.Talks.{Stretch, Talked, IsBehind, Comes, Stops, Plays, GoesOn, Hears, is_waiting, sent_since}
 use Rattle.tb_play.proofs.Sending.{stretch_sends}
 
@@ -99,7 +99,7 @@ pub heard_wrong : (limit : ℕ) (m w n : Content) (lines : List (List ℕ)) (out
     (had mid left old new : Option (List ℕ)) → Comes limit m lines Waits w had mid → Appends old new (host_form_of w.sent) → typed ≡ typed_of lines
     → read ≡ first → Hears w typed (Err outcome) n typed' mid left read read' → Plays limit m outcome typed' had left first read' old new
 heard_wrong limit m w n lines ReadFault first read read' typed typed' had mid left old new came written same sound (line, took, why, _) =
-    let P : ℕ → List ℕ → Type 0 = λ x y. (read' ≢ x) ⊎ (most_typed < length y + length (keys_of line)) in
+    let P : ℕ → List ℕ → Type 0 = λ x y. (read' ≢ x) ⊎ ((most_typed < length y + length (keys_of line)) × TakesSome mid line left) in
     (lines, w, mid, line, came, took, subst (λ y. P first y) same (subst (λ x. P x typed) sound why), written)
 heard_wrong limit m w n lines NoMemory first read read' typed typed' had mid left old new came written same sound (line, took, _, _) =
     inr (lines, w, mid, line, came, took, written)

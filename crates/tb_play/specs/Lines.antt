@@ -47,6 +47,10 @@ TakesLines had (line ∷ lines) left = (mid : Option (List ℕ)) × TakesLine ha
 abbrev pub TakesPart : Option (List ℕ) → List ℕ → Option (List ℕ) → Type 0
 TakesPart had line left = IsLine line × (Consumes had left line ⊎ Consumes had left (line ++ 10 ∷ []))
 
+-- a byte of a line was taken, or the 10 of its end
+abbrev pub TakesSome : Option (List ℕ) → List ℕ → Option (List ℕ) → Type 0
+TakesSome had line left = (0 < length line) ⊎ Consumes had left (line ++ 10 ∷ [])
+
 -- nothing was left to be taken
 abbrev pub TakesNothing : Option (List ℕ) → Option (List ℕ) → Type 0
 TakesNothing had left = Consumes had left [] × IsAtEnd left
@@ -65,5 +69,5 @@ ReadsKeys (Ok None) room had left read read' = TakesNothing had left × (read' �
 ReadsKeys (Ok (Some keys)) room had left read read' =
     (line : List ℕ) × TakesLine had line left × (keys.items ≡ keys_of line) × (length keys.items ≤ room) × (read' ≡ read)
 ReadsKeys (Err Fault) room had left read read' =
-    (line : List ℕ) × TakesPart had line left × ((read' ≢ read) ⊎ (room < length (keys_of line)))
+    (line : List ℕ) × TakesPart had line left × ((read' ≢ read) ⊎ ((room < length (keys_of line)) × TakesSome had line left))
 ReadsKeys (Err NoMemory) room had left read read' = (line : List ℕ) × TakesPart had line left × (read' ≡ read)

@@ -13,7 +13,7 @@ use Rattle.tb_streams.specs.Streams.{AppendsPrefix}
 use Rattle.tb_engines.specs.Programs.{end_of}
 use Rattle.tb_engines.specs.declared.outcome.Outcome.{Outcome}
 use Rattle.tb_engines.specs.declared.outcome.Outcome.TheVariants.{Ended, Refused, ReadFault, WriteFault, NoMemory}
-use Rattle.tb_play.specs.Lines.{most_typed, keys_of, typed_of, TakesLine, TakesLines, TakesPart, TakesNothing}
+use Rattle.tb_play.specs.Lines.{most_typed, keys_of, typed_of, TakesLine, TakesLines, TakesPart, TakesSome, TakesNothing}
 
 -- what the quiet outside gives
 abbrev pub gives_quiet : Quiet → Content → Event → Quiet → Type 0
@@ -66,7 +66,7 @@ Plays limit m (Refused e) typed had left read read' old new = ⊥
 Plays limit m ReadFault typed had left read read' old new =
     (lines : List (List ℕ)) × (n : Content) × (mid : Option (List ℕ)) × (line : List ℕ)
     × Comes limit m lines Waits n had mid × TakesPart mid line left
-    × ((read' ≢ read) ⊎ (most_typed < length (typed_of lines) + length (keys_of line)))
+    × ((read' ≢ read) ⊎ ((most_typed < length (typed_of lines) + length (keys_of line)) × TakesSome mid line left))
     × Appends old new (host_form_of n.sent)
 Plays limit m WriteFault typed had left read read' old new =
     (lines : List (List ℕ)) × (t : Status) × (n : Content)
@@ -99,8 +99,8 @@ Hears m typed (Ok true) n typed' had left read read' =
 Hears m typed (Ok false) n typed' had left read read' =
     TakesNothing had left × (n ≡ m) × (typed' ≡ typed) × (read' ≡ read)
 Hears m typed (Err ReadFault) n typed' had left read read' =
-    (line : List ℕ) × TakesPart had line left × ((read' ≢ read) ⊎ (most_typed < length typed + length (keys_of line)))
-    × (typed' ≡ typed)
+    (line : List ℕ) × TakesPart had line left
+    × ((read' ≢ read) ⊎ ((most_typed < length typed + length (keys_of line)) × TakesSome had line left)) × (typed' ≡ typed)
 Hears m typed (Err NoMemory) n typed' had left read read' =
     (line : List ℕ) × TakesPart had line left × (typed' ≡ typed) × (read' ≡ read)
 Hears m typed (Err (Ended end)) n typed' had left read read' = ⊥

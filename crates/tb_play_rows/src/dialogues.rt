@@ -3,10 +3,11 @@ use std::alloc::Global;
 use std::io;
 use std::io::{Read, Write};
 use std::test::Fail;
-use tb_engines::Outcome;
-use tb_failing_streams::{FailingReader, FailingWriter};
-use tb_play::{Played, play_file};
-use tb_streams::Tracked;
+use tb_engines::{Outcome, run_prg};
+use tb_failing_streams::{FailingReader, FailingWriter, HoldingWriter};
+use tb_kernal::{Keyboard, Quiet};
+use tb_play::{MOST_TYPED, Played, play_file};
+use tb_streams::{Tracked, host_form};
 
 /// At `$C000`: sends a `?`, and then in turn takes a byte and sends it.
 const ECHO: [u8; 16] = [
@@ -15,6 +16,9 @@ const ECHO: [u8; 16] = [
 
 /// At `$C000`: takes a byte, sends it, and returns.
 const ONE_BYTE: [u8; 9] = [0x00, 0xc0, 0x20, 0xcf, 0xff, 0x20, 0xd2, 0xff, 0x60];
+
+/// At `$C000`: takes bytes, and sends nothing.
+const SINK: [u8; 8] = [0x00, 0xc0, 0x20, 0xcf, 0xff, 0x4c, 0x00, 0xc0];
 
 const LIMIT: u64 = 1_000_000_000;
 
@@ -56,6 +60,54 @@ fn lines_are_typed_however_few_bytes_come_at_once(rt: HostRuntime) -> Result<(),
             most,
         };
         assert_eq!(rt; echoes(rt.alloc(), reader, SHOWN, HANDED), (6, true));
+    }
+    Ok(())
+}
+
+/// What is handed over of each beginning of what is typed.
+const HANDED_OF_BEGINNINGS: [&[u8]; 14] = [
+    b"",
+    b"A\r",
+    b"AB\r",
+    b"AB\r",
+    b"AB\rC\r",
+    b"AB\rC1\r",
+    b"AB\rC1Z\r",
+    b"AB\rC1Z{\r",
+    b"AB\rC1Z{\r",
+    b"AB\rC1Z{\r",
+    b"AB\rC1Z{\r\r",
+    b"AB\rC1Z{\r\r\r",
+    b"AB\rC1Z{\r\r\r",
+    HANDED,
+];
+
+// What a run shows whose keyboard text is all there from the start, and its status.
+fn run_on(alloc: Global, keys: &[u8], shown: &mut Tracked<Vec<u8>>) -> Result<u8, Fail> {
+    let keyboard = Keyboard {
+        text: Vec::from_slice(alloc, keys)?,
+        answers: Vec::new(alloc),
+    };
+    let mut file = Tracked::new(ECHO.as_slice());
+    Ok(run_prg(alloc, &mut file, shown, keyboard, LIMIT, &mut Quiet).status())
+}
+
+// Whether the echo shows of a beginning what a run shows on the keys that are handed over of it.
+fn is_one_run(alloc: Global, beginning: &[u8], handed: &[u8]) -> Result<bool, Fail> {
+    let mut shown = Tracked::new(Vec::new(alloc));
+    let status = run_on(alloc, handed, &mut shown)?;
+    let echo = host_form(alloc, handed)?;
+    let is_echo = shown.stream.len().checked_sub(1) == Some(echo.len())
+        && shown.stream.starts_with(b"?")
+        && shown.stream.ends_with(&echo);
+    Ok(is_echo && status == 6 && echoes(alloc, beginning, &shown.stream, handed) == (6, true))
+}
+
+#[test]
+fn each_beginning_of_a_dialogue_is_one_run(rt: HostRuntime) -> Result<(), Fail> {
+    for (length, handed) in HANDED_OF_BEGINNINGS.iter().enumerate() {
+        let beginning = &TYPED[..length.min(TYPED.len())];
+        assert!(rt; is_one_run(rt.alloc(), beginning, handed)?, "{length}");
     }
     Ok(())
 }
@@ -170,6 +222,47 @@ fn long_lines(rt: HostRuntime) -> Result<(), Fail> {
         assert_eq!(rt; status_of_line(rt.alloc(), length, b"\n")?, 0);
         assert_eq!(rt; status_of_line(rt.alloc(), length, b"\r\n")?, 0);
     }
+    Ok(())
+}
+
+// The status, and how many bytes were handed over, where a first line of `A` has so many bytes, and then come so many
+// empty lines.
+fn sinks(alloc: Global, first: usize, empty: usize) -> Result<(u8, usize), Fail> {
+    let mut lines = Vec::from_elem(alloc, b'A', first)?;
+    for _ in 0..=empty {
+        lines.push(b'\n')?;
+    }
+    let mut reader = Tracked::new(lines.as_slice());
+    let mut writer = Tracked::new(Vec::new(alloc));
+    let (status, typed) = plays(alloc, &SINK, &mut reader, &mut writer);
+    Ok((status, typed.len()))
+}
+
+#[test]
+fn so_much_may_be_typed_in_a_line(rt: HostRuntime) -> Result<(), Fail> {
+    assert_eq!(rt; sinks(rt.alloc(), MOST_TYPED - 1, 0)?, (6, MOST_TYPED));
+    assert_eq!(rt; sinks(rt.alloc(), MOST_TYPED, 0)?, (3, 0));
+    Ok(())
+}
+
+#[test]
+fn so_much_may_be_typed_in_all(rt: HostRuntime) -> Result<(), Fail> {
+    assert_eq!(rt; sinks(rt.alloc(), MOST_TYPED - 3, 2)?, (6, MOST_TYPED));
+    assert_eq!(rt; sinks(rt.alloc(), MOST_TYPED - 3, 3)?, (3, MOST_TYPED));
+    Ok(())
+}
+
+#[test]
+fn a_flush_that_fails_ends_it(rt: HostRuntime) -> Result<(), Fail> {
+    let mut reader = Tracked::new(TYPED);
+    let mut writer = Tracked::new(HoldingWriter {
+        taken: Vec::new(rt.alloc()),
+        handed_on: 0,
+        fails: true,
+    });
+    let (status, typed) = plays(rt.alloc(), &ECHO, &mut reader, &mut writer);
+    assert_eq!(rt; (status, typed.len()), (3, 0));
+    assert_eq!(rt; reader.stream, TYPED);
     Ok(())
 }
 

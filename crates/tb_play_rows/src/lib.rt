@@ -1,5 +1,7 @@
-//! Dialogues with a program that sends what is typed, as tests. The crate has nothing else.
+//! Dialogues with a program that sends what is typed, and key files, as tests. The crate has nothing else.
 #![tactic(auto)]
 
 #[cfg(test)]
 mod dialogues;
+#[cfg(test)]
+mod records;

@@ -1,4 +1,5 @@
 //! Generated programs: each sends what its source sends.
 mod grammar;
+mod played;
 mod programs;
 mod trials;

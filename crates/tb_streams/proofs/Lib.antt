@@ -1,2 +1,3 @@
 pub mod Counting
+mod KeyFiles
 mod Written

@@ -2,3 +2,4 @@ pub mod HostForm
 pub mod Streams
 pub mod Inputs
 pub mod Failures
+pub mod KeyFiles

@@ -10,10 +10,14 @@ most_input = 1048576
 abbrev pub counted : ℕ → Bool → ℕ
 counted failures has_failed = if has_failed then (failures + 1) % 2 ^ 64 else failures
 
+-- the reader gave more than so many bytes, as far as is known
+abbrev pub MayPass : ℕ → Option (List ℕ) → Type 0
+MayPass most None = ⊤
+MayPass most (Some xs) = most < length xs
+
 -- the reader gave more than an engine takes, as far as is known
 abbrev pub MayPassMost : Option (List ℕ) → Type 0
-MayPassMost None = ⊤
-MayPassMost (Some xs) = most_input < length xs
+MayPassMost had = MayPass most_input had
 
 -- the bytes that were read are all that the reader had, where it tells them
 abbrev pub Reads : Option (List ℕ) → List ℕ → Type 0

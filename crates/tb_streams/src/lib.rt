@@ -2,11 +2,13 @@
 //! text in which sent bytes are shown.
 #![tactic(auto)]
 
+mod key_files;
 mod keys;
 mod screen;
 mod stream;
 mod tracked;
 
+pub use key_files::{KeyFileError, MOST_KEY_FILE, key_file, read_key_file};
 pub use keys::{KeyError, address, key_list};
 pub use screen::host_form;
 pub use stream::{InputError, MOST_INPUT, read_input, write_output};

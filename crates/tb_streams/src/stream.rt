@@ -1,8 +1,8 @@
 //! A whole input, and a whole output.
-ghost use Rattle.std.specs.Prelude.{◌≡◌, ◌≤◌, ◌+◌, IfOk, OnOk, OnErr, is_err, vec_len};
+ghost use Rattle.std.specs.Prelude.{◌≡◌, ◌<◌, ◌≤◌, ◌+◌, IfOk, OnOk, OnErr, is_err, vec_len};
 ghost use Rattle.std.specs.Io.KnownBytes.{Appends, Consumes};
 ghost use Rattle.tb_streams.specs.Streams.{most_input, counted, Reads, ConsumesAtMost, AppendsPrefix};
-ghost use Rattle.tb_streams.specs.Inputs.{InputFaults};
+ghost use Rattle.tb_streams.specs.Inputs.{InputFaults, ReadsUpTo};
 ghost use Rattle.tb_streams.specs.Failures.{failures_of};
 
 use crate::tracked::{Fault, Tracked};
@@ -23,8 +23,36 @@ pub enum InputError {
     NoMemory,
 }
 
-/// Reads all that a reader gives.
+/// Reads all that a reader gives, at most so many bytes; nothing where it gives more.
 #[tactic(auto, using(crate::proofs::Counting::counted_differs))]
+pub fn read_up_to<R: Read>(
+    alloc: Global,
+    reader: &mut Tracked<R>,
+    most: usize,
+) -> Result<Option<Vec<u8>>, InputError>
+    requires { most < 4294967296 }
+    ensures { ReadsUpTo most result (R.remaining reader.old.stream) (R.remaining reader.new.stream)
+        (failures_of reader.old) (failures_of reader.new) }
+{
+    let mut input = Vec::new(alloc);
+    let mut chunk = [0u8; CHUNK];
+    'reading: while input.len() <= most {
+        let room = CHUNK.min(most + 1 - input.len());
+        let count = match reader.pull(&mut chunk[..room]) {
+            Ok(count) => count,
+            Err(_) => return Err(InputError::Fault),
+        };
+        if count == 0 {
+            return Ok(Some(input));
+        }
+        if input.extend_from_slice(&chunk[..count]).is_err() {
+            return Err(InputError::NoMemory);
+        }
+    }
+    Ok(None)
+}
+
+/// Reads all that a reader gives, at most `MOST_INPUT` bytes.
 pub fn read_input<R: Read>(alloc: Global, reader: &mut Tracked<R>) -> Result<Vec<u8>, InputError>
     ensures whole { IfOk result (λ input. Reads (R.remaining reader.old.stream) input.items) }
     ensures within { IfOk result (λ input. vec_len input ≤ most_input) }
@@ -35,22 +63,7 @@ pub fn read_input<R: Read>(alloc: Global, reader: &mut Tracked<R>) -> Result<Vec
     ensures consumed { IfOk result (λ input. Consumes (R.remaining reader.old.stream)
         (R.remaining reader.new.stream) input.items) }
 {
-    let mut input = Vec::new(alloc);
-    let mut chunk = [0u8; CHUNK];
-    'reading: while input.len() <= MOST_INPUT {
-        let room = CHUNK.min(MOST_INPUT + 1 - input.len());
-        let count = match reader.pull(&mut chunk[..room]) {
-            Ok(count) => count,
-            Err(_) => return Err(InputError::Fault),
-        };
-        if count == 0 {
-            return Ok(input);
-        }
-        if input.extend_from_slice(&chunk[..count]).is_err() {
-            return Err(InputError::NoMemory);
-        }
-    }
-    Err(InputError::Fault)
+    read_up_to(alloc, reader, MOST_INPUT)?.ok_or(InputError::Fault)
 }
 
 /// Writes a text, all of it or up to where the writer failed.

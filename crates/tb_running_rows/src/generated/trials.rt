@@ -14,10 +14,10 @@ const PROGRAMS: u16 = 500;
 const MOST_LINES: u64 = 3000;
 
 /// Enough events for a program whose source ends within `MOST_LINES` lines.
-const AMPLE: u64 = 100_000_000;
+pub const AMPLE: u64 = 100_000_000;
 
 /// Too few events for `MOST_LINES` lines, of which each takes four at least.
-const SCANT: u64 = 10_000;
+pub const SCANT: u64 = 10_000;
 
 /// How a source's run ended.
 #[derive(Clone, Copy, PartialEq, Eq, Debug, Drop)]
@@ -61,7 +61,8 @@ fn ending_of(run: &SourceRun) -> Ending {
     }
 }
 
-fn run_of(alloc: Global, case: &Case) -> Result<SourceRun, Fail> {
+/// The run of a source.
+pub fn run_of(alloc: Global, case: &Case) -> Result<SourceRun, Fail> {
     let program = parse(alloc, &case.source)?;
     Ok(run_source(
         alloc,
@@ -75,9 +76,9 @@ fn run_of(alloc: Global, case: &Case) -> Result<SourceRun, Fail> {
 
 /// What a run of a PRG file came to.
 #[derive(Debug, Drop)]
-struct Ran {
-    outcome: Outcome,
-    shown: Vec<u8>,
+pub struct Ran {
+    pub outcome: Outcome,
+    pub shown: Vec<u8>,
 }
 
 fn keyboard_of(case: &Case) -> Result<Keyboard, AllocError> {
@@ -115,8 +116,8 @@ fn run_file(
     })
 }
 
-// Whether a PRG file's run is what the source's run comes to. A run that goes on shows a beginning of it.
-fn agrees(alloc: Global, run: &SourceRun, ran: &Ran) -> Result<bool, AllocError> {
+/// Whether a PRG file's run is what the source's run comes to. A run that goes on shows a beginning of it.
+pub fn agrees(alloc: Global, run: &SourceRun, ran: &Ran) -> Result<bool, AllocError> {
     let wanted = host_form(alloc, &run.sent)?;
     let (shown, wanted) = (ran.shown.as_slice(), wanted.as_slice());
     Ok(match run.end {
