@@ -6,8 +6,10 @@ use tb_lower::Warning;
 
 /// Where the code of a line begins.
 #[derive(Clone, Copy, Debug, Drop)]
-pub(crate) struct LineStart {
+pub struct LineStart {
+    /// The line's number.
     pub number: u16,
+    /// The address of its first byte.
     pub at: u16,
 }
 
@@ -41,6 +43,20 @@ impl Compiled {
         ensures { result ≡ start_in (starts_of self.now) line }
     {
         start_in(&self.starts, line)
+    }
+
+    /// The lines with the places where their code begins, in rising order of both.
+    pub fn starts(&self) -> &[LineStart]
+        ensures { map pair_of result.now ≡ starts_of self.now }
+    {
+        &self.starts
+    }
+
+    /// Where the line table begins, behind all code.
+    pub fn table(&self) -> u16
+        ensures { result ≡ table_of self.now }
+    {
+        self.table
     }
 
     /// The warnings of the program, in the order of lines.

@@ -1,5 +1,5 @@
 //! What a program costs: a bound on the bytes of its code and line table.
-ghost use Rattle.std.specs.Prelude.{◌≡◌, ◌<◌, map};
+ghost use Rattle.std.specs.Prelude.{◌≡◌, ◌+◌, ◌<◌, map};
 ghost use Rattle.tb_syntax.specs.Shown.{expression_of, item_of, command_of, lines_of};
 ghost use Rattle.tb_templates.specs.Sizes.{items_cost};
 ghost use Rattle.tb_lower.specs.Cost as lower;
@@ -13,12 +13,20 @@ pub fn cost(program: &Program) -> u32
 {
     let mut sum = 64;
     for (_, statement) in program.lines() {
-        sum += 36 + statement_cost(statement);
+        sum += line_cost(statement);
     }
     sum
 }
 
-// What a statement lower.
+/// What a line with this statement costs in bytes, where it can be counted by 32 bits.
+pub fn line_cost(statement: &Statement) -> u32
+    requires { 36 + lower.command_cost (command_of statement.now) < 4294967296 }
+    ensures { result ≡ 36 + lower.command_cost (command_of statement.now) }
+{
+    36 + statement_cost(statement)
+}
+
+// What a statement costs.
 fn statement_cost(statement: &Statement) -> u32
     requires { lower.command_cost (command_of statement.now) < 4294967296 }
     ensures { result ≡ lower.command_cost (command_of statement.now) }

@@ -5,7 +5,7 @@ mod compiled;
 mod compiler;
 mod costs;
 
-pub use compiled::Compiled;
+pub use compiled::{Compiled, LineStart};
 pub use compiler::{Options, compile};
-pub use costs::cost;
+pub use costs::{cost, line_cost};
 pub use tb_refusals::CompileError;

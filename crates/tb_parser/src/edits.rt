@@ -10,16 +10,18 @@ use tb_syntax::{Program, Statement};
 
 /// What a line does to the program.
 #[derive(Drop)]
-pub(crate) enum LineEdit {
+pub enum LineEdit {
     /// A blank line.
     Nothing,
+    /// A line with a statement: its number's entry is this one from here on.
     Set(u16, Statement),
+    /// A bare number: it has no entry from here on.
     Delete(u16),
 }
 
 /// Does it.
 #[tactic(auto, using(crate::proofs::Maps::lines_of_insert, crate::proofs::Maps::lines_of_remove))]
-pub(crate) fn apply(program: &mut Program, edit: LineEdit) -> Result<(), SourceError>
+pub fn apply(program: &mut Program, edit: LineEdit) -> Result<(), SourceError>
     ensures ok { OnOk result (lines_of program.new ≡ edited (edit_of edit) (lines_of program.old)) }
     ensures err { IfErr result (λ e. e ≡ out_of_memory) }
 {

@@ -56,9 +56,11 @@ impl<T: Drop> From<AllocFailed<T>> for SourceError {
 }
 
 /// What is wrong in a line, and at which byte of it, from 1.
-#[derive(Clone, Copy)]
-pub(crate) struct Fault {
+#[derive(Clone, Copy, Debug, PartialEq, Eq)]
+pub struct Fault {
+    /// What is wrong.
     pub kind: SourceErrorKind,
+    /// The byte of the line, from 1.
     pub column: usize,
 }
 

@@ -12,8 +12,10 @@ mod parser;
 mod scans;
 mod squeeze;
 
-pub use errors::{NoMemory, SourceError, SourceErrorKind};
+pub use edits::{LineEdit, apply};
+pub use errors::{Fault, NoMemory, SourceError, SourceErrorKind};
 pub use lexer::{Keyword, Token, TokenKind, tokens};
-pub use parser::{parse, parse_expr};
+pub use lines::next_line;
+pub use parser::{parse, parse_expr, read_line};
 pub use tb_syntax::{Expr, Operator, PrintItem, Program, Statement};
 pub use tb_words::{Letter, Rel};

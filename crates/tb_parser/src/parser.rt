@@ -73,8 +73,8 @@ pub fn parse_expr(alloc: Global, text: &[u8]) -> Result<Expr, SourceError>
     }
 }
 
-// What a line of a file does.
-fn read_line(alloc: Global, line: &[u8]) -> Result<LineEdit, Fault>
+/// What a line of a file does, or its first fault. Want of memory is a fault too, of column 0.
+pub fn read_line(alloc: Global, line: &[u8]) -> Result<LineEdit, Fault>
     ensures { Says edit_of result (LineIs line.now) }
 {
     let Some(first) = written(line) else {

@@ -1,0 +1,57 @@
+-- What the loop over lines has found, and what the first bad line is.
+use Rattle.std.proofs.Common.{◌≡◌, ℕ, ◌+◌, List, [], ◌∷◌, ◌++◌, Some, Ok, Err, sym, subst, append_assoc, append-nil, inl, inr}
+use Rattle.tb_syntax.specs.Source.{Program}
+use Rattle.tb_parser.specs.declared.errors.SourceError.{SourceError}
+use Rattle.tb_parser.specs.Answers.{refusal_of}
+use Rattle.tb_parser.specs.Files.{LinesAre, edited, end as lines_end, bad as lines_bad, good as lines_good, at_end, refused_at}
+use Rattle.tb_parser.specs.Lines.{lines_from, lines_of_file}
+use Rattle.tb_parser.specs.Readings.{Edit, LineIs, Refusal}
+use Rattle.tb_check.specs.BadLines.{BadLinesAre, none, good, bad, FirstIs, LooksAt}
+
+-- of a program that the lines before made
+FirstOf : ℕ → Program → List (List ℕ) → List SourceError → Type 0
+FirstOf n p lines [] = (q : Program) × LinesAre n p lines (at_end q)
+FirstOf n p lines (e ∷ found) = (r : Refusal) × (refusal_of e.kind e.column ≡ Some r) × LinesAre n p lines (Err (refused_at e.line r))
+
+past_good : (n : ℕ) (p : Program) (line : List ℕ) (lines : List (List ℕ)) (found : List SourceError) (edit : Edit) → LineIs line (Ok edit)
+    → FirstOf (n + 1) (edited edit p) lines found → FirstOf n p (line ∷ lines) found
+unfolding FirstOf
+past_good n p line lines [] edit is h = (h.0, lines_good n p line lines edit (at_end h.0) is h.1)
+past_good n p line lines (e ∷ found) edit is h = (h.0, h.1, lines_good n p line lines edit (Err (refused_at e.line h.0)) is h.2)
+
+first_of : (n : ℕ) (p : Program) (lines : List (List ℕ)) (found : List SourceError) → BadLinesAre n lines found → FirstOf n p lines found
+unfolding FirstOf
+first_of n p lines found (none m) = (p, lines_end m p)
+first_of n p lines found (good m line ls fs edit is more) = past_good m p line ls fs edit is (first_of (m + 1) (edited edit p) ls fs more)
+first_of n p lines found (bad line ls fs e r is says more) = (r, says, lines_bad e.line p line ls r is)
+
+pub first_is : (source : List ℕ) (found : List SourceError) → BadLinesAre 1 (lines_of_file source) found → FirstIs source found
+unfolding FirstOf
+first_is source [] h = first_of 1 [] (lines_of_file source) [] h
+first_is source (e ∷ found) h = first_of 1 [] (lines_of_file source) (e ∷ found) h
+
+-- what was found so far, where the lines from n on are left
+abbrev pub FoundTo : List ℕ → List SourceError → ℕ → List ℕ → Type 0
+FoundTo source found n rest = (more : List SourceError) → BadLinesAre n (lines_of_file rest) more → BadLinesAre 1 (lines_of_file source) (found ++ more)
+
+pub past_good_line : (source : List ℕ) (found : List SourceError) (n : ℕ) (rest line behind : List ℕ) (edit : Edit)
+    → lines_of_file rest ≡ line ∷ lines_of_file behind → LineIs line (Ok edit) → FoundTo source found n rest → FoundTo source found (n + 1) behind
+past_good_line source found n rest line behind edit first is h more are = h more (rw first (good n line (lines_of_file behind) more edit is are))
+
+pub past_bad_line : (source : List ℕ) (found new : List SourceError) (n : ℕ) (rest line behind : List ℕ) (e : SourceError) (r : Refusal)
+    → lines_of_file rest ≡ line ∷ lines_of_file behind → LineIs line (Err r) → refusal_of e.kind e.column ≡ Some r → e.line ≡ n → new ≡ found ++ e ∷ []
+    → FoundTo source found n rest → FoundTo source new (n + 1) behind
+past_bad_line source found new n rest line behind e r first is says at grown h more are =
+    let one : BadLinesAre n (lines_of_file rest) (e ∷ more) =
+    subst (λ m. BadLinesAre m (lines_of_file rest) (e ∷ more)) at
+    (rw first (bad line (lines_of_file behind) more e r is says (subst (λ m. BadLinesAre (m + 1) (lines_of_file behind) more) (sym at) are))) in
+    rw grown (rw (append_assoc found (e ∷ []) more) (h (e ∷ more) one))
+
+pub past_line : (source : List ℕ) (found new : List SourceError) (n : ℕ) (rest line behind : List ℕ) → lines_of_file rest ≡ line ∷ lines_of_file behind
+    → LooksAt n line found new → FoundTo source found n rest → FoundTo source new (n + 1) behind
+past_line source found new n rest line behind first (inl g) h = rw g.2 (past_good_line source found n rest line behind g.0 first g.1 h)
+past_line source found new n rest line behind first (inr b) h = past_bad_line source found new n rest line behind b.0 b.1 first b.2 b.3 b.4 b.5 h
+
+pub no_line : (source : List ℕ) (found : List SourceError) (n : ℕ) (rest : List ℕ) → rest ≡ [] → FoundTo source found n rest → BadLinesAre 1 (lines_of_file source) found
+unfolding lines_from
+no_line source found n rest e h = subst (BadLinesAre 1 (lines_of_file source)) (append-nil found) (h [] (rw e (none n)))

@@ -1,0 +1,4 @@
+pub mod Appending
+pub mod Built
+pub mod Reading
+pub mod Sized

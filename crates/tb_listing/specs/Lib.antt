@@ -1,0 +1,4 @@
+pub mod Labels
+pub mod Map
+pub mod Made
+pub mod Rows

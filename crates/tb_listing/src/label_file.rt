@@ -1,0 +1,148 @@
+//! The label file that VICE's monitor reads: a line for each place that has a name, by rising address.
+ghost use Rattle.std.specs.Prelude.{◌≡◌, ◌<◌, ◌++◌, OnOk, IfOk, map};
+ghost use Rattle.tb_runtime16.specs.Places.{entry_of};
+ghost use Rattle.tb_codegen.specs.Compiled.{pair_of};
+ghost use Rattle.tb_listing.specs.Labels.{name_of, label_text, line_label, variable_label, routine_labels, variable_labels, block_labels, line_labels, data_labels, labels_text};
+
+use hex::encode;
+use std::alloc::{AllocError, Global};
+use tb_codegen::LineStart;
+use tb_runtime16::{BLOCK_AT, NOTES, Routine, SEND_AT, VARS, entry};
+
+/// How many variables there are.
+const VARIABLES: u16 = 26;
+
+// The services of the ROM that a program calls.
+const CHRIN: u16 = 0xffcf;
+
+const CHROUT: u16 = 0xffd2;
+
+const GETIN: u16 = 0xffe4;
+
+/// The routines by rising address.
+pub const ROUTINES: [Routine; 13] = [
+    Routine::Multiply,
+    Routine::Divide,
+    Routine::Random,
+    Routine::Number,
+    Routine::Text,
+    Routine::Zone,
+    Routine::Input,
+    Routine::Search,
+    Routine::Push,
+    Routine::Pop,
+    Routine::FaultLine,
+    Routine::Fault,
+    Routine::Poll,
+];
+
+/// The label file of a program whose lines begin at these places, with its line table at `table`.
+pub fn labels(alloc: Global, starts: &[LineStart], table: u16) -> Result<Vec<u8>, AllocError>
+    ensures { IfOk result (λ text. text.items ≡ labels_text (map pair_of starts.now) table) }
+{
+    let mut text = Vec::new(alloc);
+    push_block(alloc, &mut text)?;
+    push_lines(alloc, &mut text, starts)?;
+    push_label(alloc, &mut text, b"line_table", table)?;
+    push_data(alloc, &mut text)?;
+    Ok(text)
+}
+
+// Appends the line of a place.
+fn push_label(alloc: Global, text: &mut Vec<u8>, name: &[u8], at: u16) -> Result<(), AllocError>
+    ensures { OnOk result (text.new.items ≡ text.old.items ++ label_text name.now at) }
+{
+    text.extend_from_slice(b"al C:")?;
+    text.extend_from_slice(encode(alloc, at.to_be_bytes())?.as_bytes())?;
+    text.extend_from_slice(b" .")?;
+    text.extend_from_slice(name)?;
+    text.extend_from_slice(b"\n")
+}
+
+// Appends the places of the block.
+fn push_block(alloc: Global, text: &mut Vec<u8>) -> Result<(), AllocError>
+    ensures { OnOk result (text.new.items ≡ text.old.items ++ block_labels) }
+{
+    push_label(alloc, text, b"prologue", BLOCK_AT)?;
+    push_label(alloc, text, b"send", SEND_AT)?;
+    push_routines(alloc, text)
+}
+
+fn push_routines(alloc: Global, text: &mut Vec<u8>) -> Result<(), AllocError>
+    ensures { OnOk result (text.new.items ≡ text.old.items ++ routine_labels) }
+{
+    for routine in ROUTINES {
+        push_label(alloc, text, name(routine), entry(routine))?;
+    }
+    Ok(())
+}
+
+/// The name of a routine.
+pub fn name(routine: Routine) -> &'static [u8]
+    ensures { result.now ≡ name_of routine }
+{
+    match routine {
+        Routine::Multiply => b"multiply",
+        Routine::Divide => b"divide",
+        Routine::Random => b"random",
+        Routine::Number => b"number",
+        Routine::Text => b"text",
+        Routine::Zone => b"zone",
+        Routine::Input => b"input",
+        Routine::Search => b"search",
+        Routine::Push => b"push",
+        Routine::Pop => b"pop",
+        Routine::FaultLine => b"fault_line",
+        Routine::Fault => b"fault",
+        Routine::Poll => b"poll",
+    }
+}
+
+// Appends where the code of each line begins.
+fn push_lines(alloc: Global, text: &mut Vec<u8>, starts: &[LineStart]) -> Result<(), AllocError>
+    ensures { OnOk result (text.new.items ≡ text.old.items ++ line_labels (map pair_of starts.now)) }
+{
+    for start in starts {
+        push_line(alloc, text, start.number, start.at)?;
+    }
+    Ok(())
+}
+
+fn push_line(alloc: Global, text: &mut Vec<u8>, number: u16, at: u16) -> Result<(), AllocError>
+    ensures { OnOk result (text.new.items ≡ text.old.items ++ line_label (number, at)) }
+{
+    let name = format!(in alloc; "line{number}")?;
+    push_label(alloc, text, name.as_bytes(), at)
+}
+
+// Appends the variables, the count of notes, and the services.
+fn push_data(alloc: Global, text: &mut Vec<u8>) -> Result<(), AllocError>
+    ensures { OnOk result (text.new.items ≡ text.old.items ++ data_labels) }
+{
+    push_variables(alloc, text)?;
+    push_label(alloc, text, b"notes", NOTES)?;
+    push_label(alloc, text, b"chrin", CHRIN)?;
+    push_label(alloc, text, b"chrout", CHROUT)?;
+    push_label(alloc, text, b"getin", GETIN)
+}
+
+fn push_variables(alloc: Global, text: &mut Vec<u8>) -> Result<(), AllocError>
+    ensures { OnOk result (text.new.items ≡ text.old.items ++ variable_labels) }
+{
+    'variables: for index in 0..VARIABLES {
+        push_variable(alloc, text, index)?;
+    }
+    Ok(())
+}
+
+fn push_variable(alloc: Global, text: &mut Vec<u8>, index: u16) -> Result<(), AllocError>
+    requires { index < 26 }
+    ensures { OnOk result (text.new.items ≡ text.old.items ++ variable_label index) }
+{
+    push_label(
+        alloc,
+        text,
+        &[b'v', b'a', b'r', b'A' + index as u8],
+        VARS + 2 * index,
+    )
+}

@@ -1,0 +1,16 @@
+//! What a programmer reads of a compiled program: its labels for a debugger, its listing, and its map.
+#![tactic(auto)]
+
+mod label_file;
+mod listing;
+mod made;
+mod map;
+mod rows;
+mod sources;
+
+pub use label_file::labels;
+pub use listing::list;
+pub use made::{Made, make};
+pub use map::chart;
+pub use rows::Row;
+pub use tb_codegen::CompileError;
