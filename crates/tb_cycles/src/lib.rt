@@ -1,0 +1,178 @@
+//! The cycles of instructions of the NMOS 6502, as the MCS6500 Programming Manual gives them.
+//!
+//! The definition is `specs/Cycles.antt`: a base by kind and mode, one more for a page that a reading instruction's
+//! index crosses, one for a branch that is taken, and two where that branch leads into another page. The code has a
+//! table of its own, in the order of the opcodes, and the proof compares the two. No call takes memory.
+#![tactic(auto)]
+
+ghost use Rattle.std.specs.Prelude.{◌≡◌, ◌+◌, ◌≤◌, ◌%◌, ◌<◌};
+ghost use Rattle.tb_opcodes.specs.Opcodes.{decoded};
+ghost use Rattle.tb_opcodes.specs.declared.Mode.TheVariants.{Relative};
+ghost use Rattle.tb_memmap.specs.Bytes.{at};
+ghost use Rattle.tb_cpu.specs.Operands.{reading};
+ghost use Rattle.tb_cpu.specs.Instructions.{advanced, branch_target};
+ghost use Rattle.tb_cycles.specs.Cycles.{base_by, reads_indexed, crosses_page, index_extra, is_taken, taken_extra, branch_extra, extra_of, same_page, cycles_at};
+
+use tb_cpu::{Flags, Regs, operand_place};
+use tb_memmap::Memory;
+use tb_opcodes::{Mnemonic, Mode, decode};
+
+/// The base cycles of each opcode: 16 rows of 16, the high digit first. 0 stands where a byte is no opcode.
+static BASE: [u8; 256] = [
+    7, 6, 0, 0, 0, 3, 5, 0, 3, 2, 2, 0, 0, 4, 6, 0, //
+    2, 5, 0, 0, 0, 4, 6, 0, 2, 4, 0, 0, 0, 4, 7, 0, //
+    6, 6, 0, 0, 3, 3, 5, 0, 4, 2, 2, 0, 4, 4, 6, 0, //
+    2, 5, 0, 0, 0, 4, 6, 0, 2, 4, 0, 0, 0, 4, 7, 0, //
+    6, 6, 0, 0, 0, 3, 5, 0, 3, 2, 2, 0, 3, 4, 6, 0, //
+    2, 5, 0, 0, 0, 4, 6, 0, 2, 4, 0, 0, 0, 4, 7, 0, //
+    6, 6, 0, 0, 0, 3, 5, 0, 4, 2, 2, 0, 5, 4, 6, 0, //
+    2, 5, 0, 0, 0, 4, 6, 0, 2, 4, 0, 0, 0, 4, 7, 0, //
+    0, 6, 0, 0, 3, 3, 3, 0, 2, 0, 2, 0, 4, 4, 4, 0, //
+    2, 6, 0, 0, 4, 4, 4, 0, 2, 5, 2, 0, 0, 5, 0, 0, //
+    2, 6, 2, 0, 3, 3, 3, 0, 2, 2, 2, 0, 4, 4, 4, 0, //
+    2, 5, 0, 0, 4, 4, 4, 0, 2, 4, 2, 0, 4, 4, 4, 0, //
+    2, 6, 0, 0, 3, 3, 5, 0, 2, 2, 2, 0, 4, 4, 6, 0, //
+    2, 5, 0, 0, 0, 4, 6, 0, 2, 4, 0, 0, 0, 4, 7, 0, //
+    2, 6, 0, 0, 3, 3, 5, 0, 2, 2, 2, 0, 4, 4, 6, 0, //
+    2, 5, 0, 0, 0, 4, 6, 0, 2, 4, 0, 0, 0, 4, 7, 0, //
+];
+
+/// The cycles of an opcode where no page is crossed and no branch taken; 0 where the byte is no opcode.
+pub fn base(opcode: u8) -> u8
+    ensures value { result ≡ base_by (decoded opcode) }
+    ensures few { result ≤ 7 }
+{
+    BASE[opcode as usize]
+}
+
+// Whether two addresses lie in one page.
+fn is_same_page(a: u16, b: u16) -> bool
+    ensures { result ≡ same_page a b }
+{
+    a / 256 == b / 256
+}
+
+// Whether an instruction reads its operand and has an indexed mode.
+fn reads_indexed(mnemonic: Mnemonic) -> bool
+    ensures { result ≡ reads_indexed mnemonic }
+{
+    matches!(
+        mnemonic,
+        Mnemonic::Adc
+            | Mnemonic::And
+            | Mnemonic::Cmp
+            | Mnemonic::Eor
+            | Mnemonic::Lda
+            | Mnemonic::Ldx
+            | Mnemonic::Ldy
+            | Mnemonic::Ora
+            | Mnemonic::Sbc
+    )
+}
+
+// Whether the index of the instruction at PC leads out of the page.
+fn crosses_page(regs: &Regs, memory: &Memory) -> bool
+    ensures { result ≡ crosses_page regs.now (reading (at memory.now)) }
+{
+    let unindexed = Regs {
+        x: 0,
+        y: 0,
+        ..*regs
+    };
+    !is_same_page(
+        operand_place(regs, memory),
+        operand_place(&unindexed, memory),
+    )
+}
+
+// What a crossed page adds.
+fn index_extra(mnemonic: Mnemonic, regs: &Regs, memory: &Memory) -> u8
+    ensures value { result ≡ index_extra mnemonic regs.now (reading (at memory.now)) }
+    ensures few { result ≤ 1 }
+{
+    if reads_indexed(mnemonic) && crosses_page(regs, memory) {
+        1
+    } else {
+        0
+    }
+}
+
+// Whether a branch is taken.
+fn is_taken(mnemonic: Mnemonic, flags: Flags) -> bool
+    ensures { result ≡ is_taken mnemonic flags }
+{
+    match mnemonic {
+        Mnemonic::Bpl => !flags.n,
+        Mnemonic::Bmi => flags.n,
+        Mnemonic::Bvc => !flags.v,
+        Mnemonic::Bvs => flags.v,
+        Mnemonic::Bcc => !flags.c,
+        Mnemonic::Bcs => flags.c,
+        Mnemonic::Bne => !flags.z,
+        Mnemonic::Beq => flags.z,
+        _ => false,
+    }
+}
+
+// What a taken branch adds, by its distance; PC is already at the next instruction.
+fn taken_extra(next: &Regs, distance: u8) -> u8
+    ensures value { result ≡ taken_extra next.now.pc (branch_target next.now distance) }
+    ensures few { result ≤ 2 }
+{
+    let offset = if distance & 0x80 != 0 {
+        0xff00 | u16::from(distance)
+    } else {
+        u16::from(distance)
+    };
+    if is_same_page(next.pc, next.pc.wrapping_add(offset)) {
+        1
+    } else {
+        2
+    }
+}
+
+// What a branch adds.
+fn branch_extra(mnemonic: Mnemonic, regs: &Regs, memory: &Memory) -> u8
+    ensures value { result ≡ branch_extra mnemonic regs.now (reading (at memory.now)) }
+    ensures few { result ≤ 2 }
+{
+    if !is_taken(mnemonic, regs.flags) {
+        return 0;
+    }
+    match memory.read(regs.pc.wrapping_add(1)) {
+        Ok(distance) => {
+            let next = Regs {
+                pc: regs.pc.wrapping_add(2),
+                ..*regs
+            };
+            taken_extra(&next, distance)
+        }
+        Err(_) => 0,
+    }
+}
+
+// What comes on top of the base.
+fn extra(mnemonic: Mnemonic, mode: Mode, regs: &Regs, memory: &Memory) -> u8
+    ensures value { result ≡ extra_of mnemonic mode regs.now (reading (at memory.now)) }
+    ensures few { result ≤ 2 }
+{
+    match mode {
+        Mode::AbsoluteX | Mode::AbsoluteY | Mode::IndirectY => index_extra(mnemonic, regs, memory),
+        Mode::Relative => branch_extra(mnemonic, regs, memory),
+        _ => 0,
+    }
+}
+
+/// The cycles of the instruction at PC; 0 where there is none.
+pub fn cycles(regs: &Regs, memory: &Memory) -> u8
+    ensures value { result ≡ cycles_at regs.now (reading (at memory.now)) }
+    ensures few { result ≤ 9 }
+{
+    let Ok(opcode) = memory.read(regs.pc) else {
+        return 0;
+    };
+    match decode(opcode) {
+        None => 0,
+        Some((mnemonic, mode)) => base(opcode) + extra(mnemonic, mode, regs, memory),
+    }
+}

@@ -1,0 +1,114 @@
+//! Runs that are counted.
+ghost use Rattle.std.specs.Prelude.{◌≡◌, ◌<◌, ◌≤◌, ◌*◌, ◌^◌, OnOk, not};
+ghost use Rattle.tb_memmap.specs.Bytes.{at};
+ghost use Rattle.tb_cpu.specs.Operands.{reading};
+ghost use Rattle.tb_kernal.specs.Machine.{state_of, status, is_running, is_no_service};
+ghost use Rattle.tb_kernal.specs.Places.{service_at};
+ghost use Rattle.tb_kernal.specs.declared.status.Status.TheVariants.{Running};
+ghost use Rattle.tb_profile.specs.Steps.{cycles_of_go};
+ghost use Rattle.tb_profile.specs.Tallies.{CountsEvent, Took, most_cycles};
+ghost use Rattle.tb_profile.specs.Profiles.{Profiled};
+
+use crate::tally::Tally;
+use std::alloc::Global;
+use tb_cycles::cycles;
+use tb_kernal::{Event, Machine, Outside, Status};
+use tb_memmap::NoMemory;
+
+/// What a service counts, whose time isn't the program's: its RTS.
+const SERVICE_CYCLES: u8 = 6;
+
+const CHROUT: u16 = 0xffd2;
+
+const CHRIN: u16 = 0xffcf;
+
+const GETIN: u16 = 0xffe4;
+
+/// How a machine stands after a run, and what was counted.
+#[derive(Drop)]
+pub struct Profile {
+    pub status: Status,
+    pub tally: Tally,
+}
+
+fn is_running(status: Status) -> bool
+    ensures { result ≡ is_running status }
+{
+    matches!(status, Status::Running)
+}
+
+// Whether a service stands at an address.
+fn is_service(address: u16) -> bool
+    ensures { result ≡ not (is_no_service (service_at address)) }
+{
+    address == CHROUT || address == CHRIN || address == GETIN
+}
+
+// The cycles of the instruction or the service at PC.
+fn cycles_of_go(machine: &Machine) -> u8
+    ensures value { result ≡ cycles_of_go machine.now.regs (reading (at machine.now.memory)) }
+    ensures few { result ≤ most_cycles }
+{
+    let regs = machine.regs();
+    if is_service(regs.pc) {
+        SERVICE_CYCLES
+    } else {
+        cycles(&regs, machine.memory())
+    }
+}
+
+// Counts the next event of a machine, where it is the program's own.
+fn count_event(tally: &mut Tally, event: &Event, machine: &Machine)
+    requires few { tally.old.taken < 2 ^ 32 }
+    ensures { CountsEvent event.now (state_of machine.now) tally.old tally.new }
+{
+    if let Event::Go(_) = event {
+        tally.count(machine.regs().pc, cycles_of_go(machine));
+    }
+}
+
+// Lets an outside's next event happen in a running machine, and counts it where it is the program's own.
+fn take_event<O: Outside>(
+    machine: &mut Machine,
+    outside: &mut O,
+    tally: &mut Tally,
+) -> Result<(), NoMemory>
+    requires running { status (state_of machine.old) ≡ Running }
+    requires few { tally.old.taken < 2 ^ 32 }
+    ensures { OnOk result (Took O.gives outside.old machine.old tally.old outside.new machine.new tally.new) }
+{
+    if machine.reserve(1).is_err() {
+        return Err(NoMemory);
+    }
+    let event = outside.next(machine);
+    count_event(tally, &event, machine);
+    match machine.event(event) {
+        Ok(_) => Ok(()),
+        Err(_) => unreachable!(),
+    }
+}
+
+/// Lets the events of an outside happen as `run` does, and counts the program's own by the lines that begin at these
+/// places.
+pub fn run_counted<O: Outside>(
+    alloc: Global,
+    machine: &mut Machine,
+    outside: &mut O,
+    places: &[u16],
+    limit: u32,
+) -> Result<Profile, NoMemory>
+    ensures { Profiled O.gives outside.old machine.old places.now limit result outside.new machine.new }
+{
+    let mut tally = Tally::new(alloc, places)?;
+    for _ in 0..limit {
+        let status = machine.status();
+        if !is_running(status) {
+            return Ok(Profile { status, tally });
+        }
+        take_event(machine, outside, &mut tally)?;
+    }
+    Ok(Profile {
+        status: machine.status(),
+        tally,
+    })
+}

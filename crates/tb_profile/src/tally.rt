@@ -1,0 +1,151 @@
+//! What is counted, by address.
+ghost use Rattle.std.specs.Prelude.{◌≡◌, ◌<◌, ◌≤◌, ◌+◌, ◌*◌, ◌^◌, ◌||◌, ℕ, [], length, slice_index, slice_index_or, vec_len, IfOk, false, replicate};
+ghost use Rattle.tb_profile.specs.Steps.{is_place};
+ghost use Rattle.tb_profile.specs.Tallies.{IsTally, with_more, after_step, most_cycles};
+
+use std::alloc::Global;
+use std::marker::Model;
+use tb_memmap::NoMemory;
+
+/// As many addresses as there are.
+const ADDRESSES: usize = 65_536;
+
+/// The steps of a run, counted by the addresses where lines begin.
+#[derive(Drop)]
+pub struct Tally {
+    begins: Vec<bool>,
+    times: Vec<u64>,
+    instructions: Vec<u64>,
+    cycles: Vec<u64>,
+    line: u16,
+    taken: u64,
+    spent: u64,
+}
+
+impl Model for Tally {
+    ghost use Rattle.std.specs.Prelude.{◌≡◌, ◌≤◌, ◌*◌, vec_len};
+    ghost use Rattle.tb_profile.specs.Tallies.{Counted, AreAtMost, most_cycles};
+
+    ghost Value = { Counted };
+
+    ghost view = { λ t. record {
+      begins = t.begins.items;
+      times = t.times.items;
+      instructions = t.instructions.items;
+      cycles = t.cycles.items;
+      line = t.line;
+      taken = t.taken;
+      spent = t.spent;
+    } };
+
+    ghost invariant = { λ t. (vec_len t.begins ≡ 65536) × (vec_len t.times ≡ 65536)
+        × (vec_len t.instructions ≡ 65536) × (vec_len t.cycles ≡ 65536)
+        × AreAtMost t.taken t.times.items × AreAtMost t.taken t.instructions.items
+        × AreAtMost (most_cycles * t.taken) t.cycles.items × (t.spent ≤ most_cycles * t.taken) };
+}
+
+impl Tally {
+    /// The tally of no steps, of a program whose lines begin at these places.
+    pub fn new(alloc: Global, places: &[u16]) -> Result<Tally, NoMemory>
+        ensures { IfOk result (λ t. IsTally places.now [] t) }
+    {
+        Ok(Tally {
+            begins: marks(alloc, places)?,
+            times: zeros(alloc)?,
+            instructions: zeros(alloc)?,
+            cycles: zeros(alloc)?,
+            line: 0,
+            taken: 0,
+            spent: 0,
+        })
+    }
+
+    /// Counts a step at an address.
+    pub(crate) fn count(&mut self, pc: u16, cycles: u8)
+        requires few { cycles ≤ most_cycles }
+        requires taken { self.old.taken < 2 ^ 32 }
+        ensures { self.new ≡ after_step self.old pc cycles }
+    {
+        if self.begins[pc as usize] {
+            self.line = pc;
+        }
+        add(&mut self.times, pc, 1);
+        add(&mut self.instructions, self.line, 1);
+        add(&mut self.cycles, self.line, u64::from(cycles));
+        self.taken += 1;
+        self.spent += u64::from(cycles);
+    }
+
+    /// How often a step began at an address.
+    pub fn times(&self, place: u16) -> u64
+        ensures { result ≡ slice_index self.now.times place }
+    {
+        self.times[place as usize]
+    }
+
+    /// How many steps belong to the line that begins at an address; at 0 those before the first line.
+    pub fn instructions(&self, place: u16) -> u64
+        ensures { result ≡ slice_index self.now.instructions place }
+    {
+        self.instructions[place as usize]
+    }
+
+    /// The cycles of these steps.
+    pub fn cycles(&self, place: u16) -> u64
+        ensures { result ≡ slice_index self.now.cycles place }
+    {
+        self.cycles[place as usize]
+    }
+
+    /// How many steps were counted in all.
+    pub fn taken(&self) -> u64
+        ensures { result ≡ self.now.taken }
+    {
+        self.taken
+    }
+
+    /// The cycles of all steps.
+    pub fn spent(&self) -> u64
+        ensures { result ≡ self.now.spent }
+    {
+        self.spent
+    }
+}
+
+fn zeros(alloc: Global) -> Result<Vec<u64>, NoMemory>
+    ensures { IfOk result (λ v. v.items ≡ replicate 65536 0) }
+{
+    match vec![in alloc; 0u64; ADDRESSES] {
+        Ok(counts) => Ok(counts),
+        Err(_) => Err(NoMemory),
+    }
+}
+
+// Whether a line begins, address by address.
+fn marks(alloc: Global, places: &[u16]) -> Result<Vec<bool>, NoMemory>
+    ensures { IfOk result (λ v. (vec_len v ≡ 65536)
+        × ((a : ℕ) → a < 65536 → slice_index_or v.items a false ≡ is_place places.now a)) }
+{
+    let mut begins = no_marks(alloc)?;
+    for place in places {
+        begins[*place as usize] = true;
+    }
+    Ok(begins)
+}
+
+fn no_marks(alloc: Global) -> Result<Vec<bool>, NoMemory>
+    ensures { IfOk result (λ v. v.items ≡ replicate 65536 false) }
+{
+    match vec![in alloc; false; ADDRESSES] {
+        Ok(begins) => Ok(begins),
+        Err(_) => Err(NoMemory),
+    }
+}
+
+fn add(counts: &mut Vec<u64>, place: u16, more: u64)
+    requires length { vec_len counts.old ≡ 65536 }
+    requires fits { slice_index counts.old.items place + more < 2 ^ 64 }
+    ensures { counts.new.items ≡ with_more counts.old.items place more }
+{
+    counts[place as usize] += more;
+}
