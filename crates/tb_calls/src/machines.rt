@@ -113,6 +113,24 @@ pub fn show_reserve(alloc: Global, text: &mut String) -> Result<(), Failure> {
     show_reserved(&mut machine, text)
 }
 
+fn show_typed(machine: &mut Machine, text: &mut String) -> Result<(), Failure> {
+    let before = seen(machine);
+    if machine.type_text(b"A\r").is_err() {
+        let (left, _) = machine.keys_left();
+        return Err(Failure::of_memory(seen(machine) == before && left.is_empty()));
+    }
+    let status = go(machine)?;
+    writeln!(text, "{status:?} {:?}", machine.regs())?;
+    show_bytes(text, machine.keys_left().0)
+}
+
+pub fn show_type_text(alloc: Global, text: &mut String) -> Result<(), Failure> {
+    let regs = regs_at(0xc000, 0);
+    let mut machine = machine_with(alloc, 0xc000, &[0x20, 0xcf, 0xff], regs)?;
+    go(&mut machine)?;
+    show_typed(&mut machine, text)
+}
+
 // Runs a machine. A refused run leaves one that goes on once it has room.
 fn show_run_on<O: Outside>(
     machine: &mut Machine,

@@ -44,6 +44,7 @@ fn show(alloc: Global, name: &str, text: &mut String) -> Result<(), Failure> {
         "disk" => assembly::show_disk(alloc, text),
         "Memory::new" => machines::show_memory(alloc, text),
         "reserve" => machines::show_reserve(alloc, text),
+        "type_text" => machines::show_type_text(alloc, text),
         "run" => machines::show_run(alloc, text),
         "Stepper::new" => machines::show_stepper(alloc, StepperCall::New, text),
         "step" => machines::show_stepper(alloc, StepperCall::Step, text),

@@ -5,7 +5,7 @@ ghost use Rattle.tb_jobs.specs.Limits.{IsWithinLimit};
 use clap::error::ErrorKind;
 use clap::{Arg, ArgMatches, Command, value_parser};
 use std::alloc::{AllocError, Global};
-use tb_jobs::{Job, JobError, Limit, Runnable};
+use tb_jobs::{Beside, Job, JobError, Limit, Runnable, Settings, Typed};
 
 /// Reads the words after the program's own name.
 pub fn job(alloc: Global, words: &[&str]) -> Result<Job, JobError>
@@ -46,7 +46,9 @@ fn without_matches(alloc: Global, error: &clap::Error) -> Result<Job, JobError>
 
 fn command<'a>(alloc: Global) -> Result<Command<'a>, AllocError> {
     let command = Command::new(alloc, "tbc")
-        .about("Compiles Tiny BASIC for the Commodore 64, assembles, lists, runs and steps")
+        .about(
+            "Compiles Tiny BASIC for the Commodore 64, assembles, lists, runs, plays, steps and profiles",
+        )
         .version("1.0.0")
         .no_binary_name(true)
         .bin_name("tbc")?
@@ -54,9 +56,11 @@ fn command<'a>(alloc: Global) -> Result<Command<'a>, AllocError> {
         .subcommand_required(true);
     let command = with_subcommand(command, build_command(alloc))?;
     let command = with_subcommand(command, run_command(alloc))?;
+    let command = with_subcommand(command, play_command(alloc))?;
     let command = with_subcommand(command, asm_command(alloc))?;
     let command = with_subcommand(command, dis_command(alloc))?;
     let command = with_subcommand(command, step_command(alloc))?;
+    let command = with_subcommand(command, profile_command(alloc))?;
     with_subcommand(command, disk_command(alloc))
 }
 
@@ -80,7 +84,22 @@ fn build_command<'a>(alloc: Global) -> Result<Command<'a>, AllocError> {
         .about("Compile a Tiny BASIC source to a PRG file")
         .arg(file(alloc, "SOURCE", "The source file"))?
         .arg(file(alloc, "OUT", "The PRG file that is written"))?
-        .arg(seed_option(alloc))
+        .arg(seed_option(alloc))?
+        .arg(file_option(alloc, "labels", "Write a label file for VICE's monitor"))?
+        .arg(file_option(
+            alloc,
+            "list",
+            "Write a listing, which assembles to the same bytes",
+        ))?
+        .arg(file_option(alloc, "map", "Write a map: what each line takes and costs"))
+}
+
+// A file that is written where it is asked for.
+fn file_option<'a>(alloc: Global, name: &'a str, help: &'a str) -> Arg<'a> {
+    Arg::new(alloc, name)
+        .long(name)
+        .value_name("FILE")
+        .help(help)
 }
 
 fn run_command<'a>(alloc: Global) -> Result<Command<'a>, AllocError> {
@@ -88,12 +107,27 @@ fn run_command<'a>(alloc: Global) -> Result<Command<'a>, AllocError> {
         .about("Run a source or a PRG file, and show what it sends")
         .override_usage("tbc run [OPTIONS] <SOURCE>\n       tbc run [OPTIONS] --prg <FILE>");
     let command = with_argument(command, source_or_prg(alloc))?;
+    let command = with_argument(command, prg_option(alloc))?;
+    with_settings(command, alloc)?.arg(rude_option(alloc))
+}
+
+fn play_command<'a>(alloc: Global) -> Result<Command<'a>, AllocError> {
+    let command = Command::new(alloc, "play")
+        .about("Play a source or a PRG file: what you type is its keyboard")
+        .override_usage("tbc play [OPTIONS] <SOURCE>\n       tbc play [OPTIONS] --prg <FILE>");
+    let command = with_argument(command, source_or_prg(alloc))?;
     with_argument(command, prg_option(alloc))?
         .arg(seed_option(alloc))?
-        .arg(keys_option(alloc))?
+        .arg(play_limit_option(alloc))?
+        .arg(record_option(alloc))
+}
+
+// The options of a run.
+fn with_settings<'a>(command: Command<'a>, alloc: Global) -> Result<Command<'a>, AllocError> {
+    let command = command.arg(seed_option(alloc))?.arg(keys_option(alloc))?;
+    with_argument(command, key_file_option(alloc))?
         .arg(answers_option(alloc))?
-        .arg(limit_option(alloc))?
-        .arg(rude_option(alloc))
+        .arg(limit_option(alloc))
 }
 
 fn asm_command<'a>(alloc: Global) -> Result<Command<'a>, AllocError> {
@@ -111,13 +145,19 @@ fn dis_command<'a>(alloc: Global) -> Result<Command<'a>, AllocError> {
 }
 
 fn step_command<'a>(alloc: Global) -> Result<Command<'a>, AllocError> {
-    Command::new(alloc, "step")
+    let command = Command::new(alloc, "step")
         .about("Step through a source by commands from standard input")
-        .arg(file(alloc, "SOURCE", "The source file"))?
-        .arg(seed_option(alloc))?
-        .arg(keys_option(alloc))?
-        .arg(answers_option(alloc))?
-        .arg(limit_option(alloc))
+        .arg(file(alloc, "SOURCE", "The source file"))?;
+    with_settings(command, alloc)
+}
+
+fn profile_command<'a>(alloc: Global) -> Result<Command<'a>, AllocError> {
+    let command = Command::new(alloc, "profile")
+        .about("Run a source, and show what each of its lines took")
+        .arg(file(alloc, "SOURCE", "The source file"))?;
+    with_settings(command, alloc)?
+        .arg(rude_option(alloc))?
+        .arg(html_option(alloc))
 }
 
 fn disk_command<'a>(alloc: Global) -> Result<Command<'a>, AllocError> {
@@ -180,6 +220,14 @@ fn keys_option<'a>(alloc: Global) -> Arg<'a> {
         .help("What is typed, as pairs of hexadecimal digits: 350d is a 5 and return")
 }
 
+fn key_file_option<'a>(alloc: Global) -> Result<Arg<'a>, AllocError> {
+    Arg::new(alloc, "keys-file")
+        .long("keys-file")
+        .value_name("FILE")
+        .help("A file of what is typed, as pairs of hexadecimal digits")
+        .conflicts_with("keys")
+}
+
 fn answers_option<'a>(alloc: Global) -> Arg<'a> {
     Arg::new(alloc, "answers")
         .long("answers")
@@ -198,6 +246,29 @@ fn limit_option<'a>(alloc: Global) -> Arg<'a> {
         .help("The most events, 1 to 1000000000")
 }
 
+fn play_limit_option<'a>(alloc: Global) -> Arg<'a> {
+    Arg::new(alloc, "limit")
+        .long("limit")
+        .value_name("N")
+        .value_parser(value_parser!(u32).range(1..=1_000_000_000))
+        .default_value("1000000000")
+        .help("The most events from one line that is typed to the next, 1 to 1000000000")
+}
+
+fn record_option<'a>(alloc: Global) -> Arg<'a> {
+    Arg::new(alloc, "record")
+        .long("record")
+        .value_name("FILE")
+        .help("Write all that was typed to this file at the end, for run --keys-file")
+}
+
+fn html_option<'a>(alloc: Global) -> Arg<'a> {
+    Arg::new(alloc, "html")
+        .long("html")
+        .value_name("FILE")
+        .help("Write a page with the same figures to this file too")
+}
+
 fn job_of(alloc: Global, name: &str, found: &ArgMatches<'_>) -> Result<Job, AllocError>
     ensures { IfOk result IsWithinLimit }
 {
@@ -206,8 +277,19 @@ fn job_of(alloc: Global, name: &str, found: &ArgMatches<'_>) -> Result<Job, Allo
             source: text(alloc, found, "SOURCE")?,
             out: text(alloc, found, "OUT")?,
             seed: seed_of(found),
+            beside: beside_of(alloc, found)?,
         },
-        "run" => run_job(alloc, found)?,
+        "run" => Job::Run {
+            what: runnable_of(alloc, found)?,
+            settings: settings_of(alloc, found)?,
+            rude: found.get_one::<u16>("rude"),
+        },
+        "play" => Job::Play {
+            what: runnable_of(alloc, found)?,
+            seed: seed_of(found),
+            limit: limit_of(found, Limit::most()),
+            record: optional_text(alloc, found, "record")?,
+        },
         "asm" => Job::Asm {
             text: text(alloc, found, "IN")?,
             out: text(alloc, found, "OUT")?,
@@ -220,32 +302,38 @@ fn job_of(alloc: Global, name: &str, found: &ArgMatches<'_>) -> Result<Job, Allo
             out: text(alloc, found, "OUT")?,
             files: texts(alloc, found, "FILE")?,
         },
+        "profile" => Job::Profile {
+            source: text(alloc, found, "SOURCE")?,
+            settings: settings_of(alloc, found)?,
+            rude: found.get_one::<u16>("rude"),
+            html: optional_text(alloc, found, "html")?,
+        },
         _ => Job::Step {
             source: text(alloc, found, "SOURCE")?,
-            seed: seed_of(found),
-            keys: text(alloc, found, "keys")?,
-            answers: text(alloc, found, "answers")?,
-            limit: limit_of(found),
+            settings: settings_of(alloc, found)?,
         },
     })
 }
 
-fn run_job(alloc: Global, found: &ArgMatches<'_>) -> Result<Job, AllocError>
-    ensures { IfOk result IsWithinLimit }
-{
-    Ok(Job::Run {
-        what: runnable_of(alloc, found)?,
+fn settings_of(alloc: Global, found: &ArgMatches<'_>) -> Result<Settings, AllocError> {
+    Ok(Settings {
         seed: seed_of(found),
-        keys: text(alloc, found, "keys")?,
+        keys: typed_of(alloc, found)?,
         answers: text(alloc, found, "answers")?,
-        limit: limit_of(found),
-        rude: found.get_one::<u16>("rude"),
+        limit: limit_of(found, Limit::default_limit()),
+    })
+}
+
+fn typed_of(alloc: Global, found: &ArgMatches<'_>) -> Result<Typed, AllocError> {
+    Ok(match optional_text(alloc, found, "keys-file")? {
+        Some(file) => Typed::File(file),
+        None => Typed::Digits(text(alloc, found, "keys")?),
     })
 }
 
 fn runnable_of(alloc: Global, found: &ArgMatches<'_>) -> Result<Runnable, AllocError> {
-    Ok(match found.get_str("prg") {
-        Some(prg) => Runnable::Prg(String::from_str(alloc, prg)?),
+    Ok(match optional_text(alloc, found, "prg")? {
+        Some(prg) => Runnable::Prg(prg),
         None => Runnable::Source(text(alloc, found, "SOURCE")?),
     })
 }
@@ -253,6 +341,26 @@ fn runnable_of(alloc: Global, found: &ArgMatches<'_>) -> Result<Runnable, AllocE
 // A copy of the text of an argument, or an empty one where the parser let it be missing.
 fn text(alloc: Global, found: &ArgMatches<'_>, id: &str) -> Result<String, AllocError> {
     String::from_str(alloc, found.get_str(id).unwrap_or(""))
+}
+
+// A copy of the text of an argument, where it is there.
+fn beside_of(alloc: Global, found: &ArgMatches<'_>) -> Result<Beside, AllocError> {
+    Ok(Beside {
+        labels: optional_text(alloc, found, "labels")?,
+        listing: optional_text(alloc, found, "list")?,
+        map: optional_text(alloc, found, "map")?,
+    })
+}
+
+fn optional_text(
+    alloc: Global,
+    found: &ArgMatches<'_>,
+    id: &str,
+) -> Result<Option<String>, AllocError> {
+    Ok(match found.get_str(id) {
+        Some(text) => Some(String::from_str(alloc, text)?),
+        None => None,
+    })
 }
 
 // Copies of the texts of an argument that may have several.
@@ -268,9 +376,9 @@ fn seed_of(found: &ArgMatches<'_>) -> u16 {
     found.get_one::<u16>("seed").unwrap_or(1)
 }
 
-fn limit_of(found: &ArgMatches<'_>) -> Limit {
+fn limit_of(found: &ArgMatches<'_>, default_limit: Limit) -> Limit {
     found
         .get_one::<u32>("limit")
         .and_then(Limit::new)
-        .unwrap_or(Limit::default_limit())
+        .unwrap_or(default_limit)
 }

@@ -1,45 +1,86 @@
 //! Words and their jobs.
 use std::alloc::Global;
 use std::test::Fail;
-use tb_command_line::{Failure, Job, JobError, Runnable, job};
+use tb_command_line::{Beside, Failure, Job, JobError, Runnable, Settings, Typed, job};
+
+fn runnable_shown(alloc: Global, what: Runnable) -> Result<String, Fail> {
+    Ok(match what {
+        Runnable::Source(source) => format!(in alloc; "source {source}")?,
+        Runnable::Prg(prg) => format!(in alloc; "prg {prg}")?,
+    })
+}
+
+fn settings_shown(alloc: Global, settings: Settings) -> Result<String, Fail> {
+    let Settings {
+        seed,
+        keys,
+        answers,
+        limit,
+    } = settings;
+    let keys = match keys {
+        Typed::Digits(digits) => format!(in alloc; "[{digits}]")?,
+        Typed::File(file) => format!(in alloc; "in {file}")?,
+    };
+    Ok(format!(in alloc; "{seed} {keys} [{answers}] {}", limit.events)?)
+}
 
 /// A job as one text, so that a table can hold it.
 fn shown(alloc: Global, words: &[&str]) -> Result<String, Fail> {
     Ok(match job(alloc, words) {
-        Ok(Job::Build { source, out, seed }) => format!(in alloc; "build {source} {out} {seed}")?,
+        Ok(
+            Job::Build {
+                source,
+                out,
+                seed,
+                beside,
+            },
+        ) => {
+            let Beside {
+                labels,
+                listing,
+                map,
+            } = beside;
+            format!(in alloc; "build {source} {out} {seed} {labels:?} {listing:?} {map:?}")?
+        }
         Ok(
             Job::Run {
                 what,
-                seed,
-                keys,
-                answers,
-                limit,
+                settings,
                 rude,
             },
         ) => {
-            let file = match what {
-                Runnable::Source(source) => format!(in alloc; "source {source}")?,
-                Runnable::Prg(prg) => format!(in alloc; "prg {prg}")?,
-            };
-            format!(in alloc;
-                "run {file} {seed} [{keys}] [{answers}] {} {rude:?}",
-                limit.events
-            )?
+            let file = runnable_shown(alloc, what)?;
+            let settings = settings_shown(alloc, settings)?;
+            format!(in alloc; "run {file} {settings} {rude:?}")?
+        }
+        Ok(
+            Job::Play {
+                what,
+                seed,
+                limit,
+                record,
+            },
+        ) => {
+            let file = runnable_shown(alloc, what)?;
+            format!(in alloc; "play {file} {seed} {} {record:?}", limit.events)?
         }
         Ok(Job::Asm { text, out, at }) => format!(in alloc; "asm {text} {out} {at}")?,
         Ok(Job::Dis { prg }) => format!(in alloc; "dis {prg}")?,
+        Ok(Job::Step { source, settings }) => {
+            let settings = settings_shown(alloc, settings)?;
+            format!(in alloc; "step {source} {settings}")?
+        }
         Ok(
-            Job::Step {
+            Job::Profile {
                 source,
-                seed,
-                keys,
-                answers,
-                limit,
+                settings,
+                rude,
+                html,
             },
-        ) => format!(in alloc;
-            "step {source} {seed} [{keys}] [{answers}] {}",
-            limit.events
-        )?,
+        ) => {
+            let settings = settings_shown(alloc, settings)?;
+            format!(in alloc; "profile {source} {settings} {rude:?} {html:?}")?
+        }
         Ok(Job::Disk { out, files }) => format!(in alloc; "disk {out} {files:?}")?,
         Ok(Job::Show { text }) => format!(in alloc; "show {text}")?,
         Err(JobError::Words(text)) => format!(in alloc; "words {text}")?,
@@ -49,9 +90,16 @@ fn shown(alloc: Global, words: &[&str]) -> Result<String, Fail> {
 
 #[test]
 fn words_become_jobs(rt: HostRuntime) -> Result<(), Fail> {
-    let rows: [(&[&str], &[u8]); 11] = [
-        (&["build", "a", "b"], b"build a b 1"),
-        (&["build", "--seed", "65535", "a", "b"], b"build a b 65535"),
+    let rows: [(&[&str], &[u8]); 18] = [
+        (&["build", "a", "b"], b"build a b 1 None None None"),
+        (
+            &["build", "--seed", "65535", "a", "b"],
+            b"build a b 65535 None None None",
+        ),
+        (
+            &["build", "a", "b", "--map=m", "--labels", "v", "--list", "s"],
+            b"build a b 1 Some(\"v\") Some(\"s\") Some(\"m\")",
+        ),
         (&["run", "a"], b"run source a 1 [] [] 10000000 None"),
         (
             &[
@@ -71,14 +119,44 @@ fn words_become_jobs(rt: HostRuntime) -> Result<(), Fail> {
             &["run", "--prg", "p", "--seed", "0", "--limit", "1"],
             b"run prg p 0 [] [] 1 None",
         ),
+        (
+            &["run", "a", "--keys-file", "k", "--answers", "03"],
+            b"run source a 1 in k [03] 10000000 None",
+        ),
+        (&["play", "a"], b"play source a 1 1000000000 None"),
+        (
+            &[
+                "play", "--prg=p", "--seed", "9", "--limit", "5", "--record", "r",
+            ],
+            b"play prg p 9 5 Some(\"r\")",
+        ),
         (&["asm", "a", "b", "--at", "c00"], b"asm a b c00"),
         (&["dis", "a"], b"dis a"),
+        (&["profile", "a"], b"profile a 1 [] [] 10000000 None None"),
+        (
+            &[
+                "profile",
+                "a",
+                "--html",
+                "p",
+                "--keys-file=k",
+                "--rude",
+                "7",
+                "--limit",
+                "9",
+            ],
+            b"profile a 1 in k [] 9 Some(7) Some(\"p\")",
+        ),
         (&["disk", "o", "a"], b"disk o [\"a\"]"),
         (
             &["disk", "o", "b", "--", "a", "-b"],
             b"disk o [\"b\", \"a\", \"-b\"]",
         ),
         (&["step", "a"], b"step a 1 [] [] 10000000"),
+        (
+            &["step", "--keys-file=k", "a"],
+            b"step a 1 in k [] 10000000",
+        ),
         (
             &[
                 "step",
@@ -104,7 +182,7 @@ fn words_become_jobs(rt: HostRuntime) -> Result<(), Fail> {
 
 #[test]
 fn words_that_are_refused(rt: HostRuntime) -> Result<(), Fail> {
-    let rows: [&[&str]; 16] = [
+    let rows: [&[&str]; 24] = [
         &[],
         &["jump"],
         &["run"],
@@ -121,6 +199,14 @@ fn words_that_are_refused(rt: HostRuntime) -> Result<(), Fail> {
         &["build", "a"],
         &["build", "a", "b", "--keys", "31"],
         &["step", "a", "--rude", "1"],
+        &["step", "a", "--keys-file", "k", "--keys", "31"],
+        &["run", "a", "--keys", "", "--keys-file", "k"],
+        &["play"],
+        &["play", "a", "--prg", "b"],
+        &["play", "a", "--keys", "31"],
+        &["play", "a", "--answers", "03"],
+        &["play", "a", "--limit", "1000000001"],
+        &["play", "a", "--record"],
     ];
     for words in rows {
         let shown = shown(rt.alloc(), words)?;
@@ -131,10 +217,11 @@ fn words_that_are_refused(rt: HostRuntime) -> Result<(), Fail> {
 
 #[test]
 fn help_is_shown(rt: HostRuntime) -> Result<(), Fail> {
-    let rows: [(&[&str], &[u8]); 4] = [
+    let rows: [(&[&str], &[u8]); 5] = [
         (&["--help"], b"show Compiles Tiny BASIC"),
         (&["-h"], b"show Compiles Tiny BASIC"),
         (&["run", "--help"], b"show Run a source or a PRG file"),
+        (&["play", "-h"], b"show Play a source or a PRG file"),
         (&["--version"], b"show tbc "),
     ];
     for (words, beginning) in rows {
@@ -147,11 +234,12 @@ fn help_is_shown(rt: HostRuntime) -> Result<(), Fail> {
 #[test]
 fn failures_have_their_texts(rt: HostRuntime) -> Result<(), Fail> {
     let text = String::from_str(rt.alloc(), "error: no\n")?;
-    let rows: [(Failure, u8, &[u8]); 5] = [
+    let rows: [(Failure, u8, &[u8]); 6] = [
         (Failure::Words(text), 2, b"error: no\n"),
         (Failure::NotUtf8, 2, b"tbc: an argument is not UTF-8\n"),
         (Failure::BadKeys, 2, b"tbc: bad key list\n"),
         (Failure::BadAddress, 2, b"tbc: bad address\n"),
+        (Failure::ReadFault, 3, b"tbc: read fault\n"),
         (Failure::NoMemory, 4, b"tbc: out of memory\n"),
     ];
     for (failure, status, said) in rows {

@@ -1,5 +1,5 @@
-mod Delivered
+pub mod Delivered
 mod Output
-mod Loadable
+pub mod Loadable
 mod Stepped
 mod Shown

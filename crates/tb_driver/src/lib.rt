@@ -7,11 +7,11 @@ mod sources;
 mod stepping;
 
 pub use playing::{play_compiled, read_source};
-pub use sources::{Program, build, run_text};
+pub use sources::{Program, build, run_text, stop_of};
 pub use stepping::step_text;
 pub use tb_engines::{End, Outcome, Refusal, Report, asm_text, dis_text, run_prg, without_input};
 pub use tb_play::{MOST_TYPED, Played, play_file};
 pub use tb_streams::{
-    Fault, InputError, KeyError, MOST_INPUT, Tracked, address, host_form, key_list, read_input,
-    write_output,
+    Fault, InputError, KeyError, KeyFileError, MOST_INPUT, Tracked, address, host_form, key_file,
+    key_list, read_input, read_key_file, write_output,
 };

@@ -2,7 +2,7 @@
 use Rattle.std.specs.Prelude.{◌≤◌, ⊤}
 use Rattle.tb_jobs.specs.declared.jobs.Limit.{Limit}
 use Rattle.tb_jobs.specs.declared.jobs.Job.{Job}
-use Rattle.tb_jobs.specs.declared.jobs.Job.TheVariants.{Build, Run, Asm, Dis, Step, Disk, Show}
+use Rattle.tb_jobs.specs.declared.jobs.Job.TheVariants.{Build, Run, Play, Asm, Dis, Step, Profile, Disk, Show}
 
 -- a limit of 1 to 1,000,000,000 events
 abbrev pub IsWithin : Limit → Type 0
@@ -10,10 +10,12 @@ IsWithin limit = (1 ≤ limit.events) × (limit.events ≤ 1000000000)
 
 -- a run takes 1 to 1,000,000,000 events
 abbrev pub IsWithinLimit : Job → Type 0
-IsWithinLimit (Build source out seed) = ⊤
-IsWithinLimit (Run what seed keys answers limit rude) = IsWithin limit
+IsWithinLimit (Build source out seed beside) = ⊤
+IsWithinLimit (Run what settings rude) = IsWithin settings.limit
+IsWithinLimit (Play what seed limit made) = IsWithin limit
 IsWithinLimit (Asm text out at) = ⊤
 IsWithinLimit (Dis prg) = ⊤
-IsWithinLimit (Step source seed keys answers limit) = IsWithin limit
+IsWithinLimit (Step source settings) = IsWithin settings.limit
+IsWithinLimit (Profile source settings rude html) = IsWithin settings.limit
 IsWithinLimit (Disk out files) = ⊤
 IsWithinLimit (Show text) = ⊤

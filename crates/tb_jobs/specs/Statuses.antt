@@ -1,7 +1,7 @@
 -- The exit statuses where no engine is called.
 use Rattle.std.specs.Prelude.{ℕ}
 use Rattle.tb_jobs.specs.declared.failure.Failure.{Failure}
-use Rattle.tb_jobs.specs.declared.failure.Failure.TheVariants.{Words, NotUtf8, BadKeys, BadAddress, NoMemory}
+use Rattle.tb_jobs.specs.declared.failure.Failure.TheVariants.{Words, NotUtf8, BadKeys, BadAddress, SameFile, ReadFault, NoMemory}
 use Rattle.tb_jobs.specs.declared.jobs.JobError.{JobError}
 use Rattle.tb_jobs.specs.declared.jobs.JobError.TheVariants.{Words as JobWords, NoMemory as NoJobMemory}
 
@@ -16,4 +16,6 @@ status_of (Words text) = 2
 status_of NotUtf8 = 2
 status_of BadKeys = 2
 status_of BadAddress = 2
+status_of SameFile = 2
+status_of ReadFault = 3
 status_of NoMemory = 4

@@ -13,10 +13,14 @@ pub enum Failure {
     Words(String),
     /// A word is no UTF-8.
     NotUtf8,
-    /// A key list is no even number of hexadecimal digits.
+    /// A key list is no even number of hexadecimal digits, or a key file is too large.
     BadKeys,
     /// An address is no four hexadecimal digits.
     BadAddress,
+    /// Two of the files of a build, its source one of them, have the same name.
+    SameFile,
+    /// A key file can't be read.
+    ReadFault,
     /// A growth was refused.
     NoMemory,
 }
@@ -27,6 +31,7 @@ impl Failure {
         ensures { result ≡ status_of self.now }
     {
         match self {
+            Failure::ReadFault => 3,
             Failure::NoMemory => 4,
             _ => 2,
         }
@@ -41,6 +46,8 @@ impl fmt::Display for Failure {
             Failure::NotUtf8 => writeln!(f, "tbc: an argument is not UTF-8"),
             Failure::BadKeys => writeln!(f, "tbc: bad key list"),
             Failure::BadAddress => writeln!(f, "tbc: bad address"),
+            Failure::SameFile => writeln!(f, "tbc: same file twice"),
+            Failure::ReadFault => writeln!(f, "tbc: read fault"),
             Failure::NoMemory => writeln!(f, "tbc: out of memory"),
         }
     }

@@ -22,6 +22,15 @@ impl Limit {
         Limit { events: 10_000_000 }
     }
 
+    /// What a program that is played may take where the words don't say.
+    pub fn most() -> Limit
+        ensures { result.events ≡ 1000000000 }
+    {
+        Limit {
+            events: MOST_EVENTS,
+        }
+    }
+
     /// A limit of so many events.
     pub fn new(events: u32) -> Option<Limit>
         ensures found { IsSome result ↔ ((1 ≤ events) × (events ≤ 1000000000)) }
@@ -44,27 +53,65 @@ pub enum Runnable {
     Prg(String),
 }
 
+/// What is typed: the keyboard text for CHRIN.
+#[derive(Debug, Drop)]
+pub enum Typed {
+    /// Hexadecimal digits.
+    Digits(String),
+    /// A file of them, by its name.
+    File(String),
+}
+
+/// How a program is run.
+#[derive(Debug, Drop)]
+pub struct Settings {
+    /// The first state of RND.
+    pub seed: u16,
+    pub keys: Typed,
+    /// The answers for GETIN.
+    pub answers: String,
+    pub limit: Limit,
+}
+
+/// The files that a build writes beside the PRG file, where they are wanted.
+#[derive(Debug, Drop)]
+pub struct Beside {
+    /// The label file.
+    pub labels: Option<String>,
+    /// The listing.
+    pub listing: Option<String>,
+    /// The map.
+    pub map: Option<String>,
+}
+
 /// A command with its words. File names, key lists and addresses are still texts.
 #[derive(Debug, Drop)]
 pub enum Job {
-    /// Compiles a source, and writes a PRG file.
+    /// Compiles a source, and writes a PRG file and what is wanted beside it.
     Build {
         source: String,
         out: String,
         /// The first state of RND.
         seed: u16,
+        /// The files of the texts that tell of it.
+        beside: Beside,
     },
     /// Runs a program, and shows what it sends.
     Run {
         what: Runnable,
-        seed: u16,
-        /// The keyboard text for CHRIN.
-        keys: String,
-        /// The answers for GETIN.
-        answers: String,
-        limit: Limit,
+        settings: Settings,
         /// The seed of rude events, where they are wanted.
         rude: Option<u16>,
+    },
+    /// Plays a program: standard input is its keyboard.
+    Play {
+        what: Runnable,
+        /// The first state of RND.
+        seed: u16,
+        /// How many events it may take between two lines.
+        limit: Limit,
+        /// The key file that is written of all that was typed, where it is wanted.
+        record: Option<String>,
     },
     /// Assembles a text, and writes a PRG file.
     Asm {
@@ -80,10 +127,16 @@ pub enum Job {
     /// Steps through a source by commands from standard input.
     Step {
         source: String,
-        seed: u16,
-        keys: String,
-        answers: String,
-        limit: Limit,
+        settings: Settings,
+    },
+    /// Runs a source, and shows what its lines took.
+    Profile {
+        source: String,
+        settings: Settings,
+        /// The seed of rude events, where they are wanted.
+        rude: Option<u16>,
+        /// The page that is written, where it is wanted.
+        html: Option<String>,
     },
     /// Writes a disk image.
     Disk {

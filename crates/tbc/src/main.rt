@@ -1,9 +1,12 @@
 //! The program `tbc`: its words become a job, and an engine does it over files and standard streams.
 #![tactic(auto)]
 
+mod building;
 mod disks;
 mod ending;
 mod files;
+mod playing;
+mod profiling;
 mod tasks;
 
 use ending::Ending;
@@ -31,7 +34,7 @@ fn job_of_words<R: Env + AllocGlobal>(rt: &R) -> Result<Job, Failure> {
     Ok(job(rt.alloc(), words.as_slice())?)
 }
 
-fn start<R: Files + Env + Print + Input + AllocGlobal>(rt: &R) -> Result<Ending, Failure> {
+fn start<R: Files + Env + Print + Eprint + Input + AllocGlobal>(rt: &R) -> Result<Ending, Failure> {
     let job = job_of_words(rt)?;
     tasks::perform(rt, &job)
 }

@@ -1,37 +1,46 @@
-//! The commands. Key lists and addresses are looked at before any file is opened.
+//! The commands. Key lists, key files and addresses are looked at before any other file is opened.
+use crate::building::build_files;
 use crate::disks::make_disk;
 use crate::ending::Ending;
 use crate::files::{open, save};
+use crate::playing::play;
+use crate::profiling::profile_file;
 use std::alloc::Global;
 use std::io;
 use std::rt::Files;
-use tb_command_line::{Failure, Job, Runnable};
+use tb_command_line::{Failure, Job, Runnable, Settings, Typed};
 use tb_driver::{
-    End, KeyError, Outcome, Report, Tracked, address, asm_text, build, dis_text, key_list, run_prg,
-    run_text, step_text, write_output,
+    End, KeyError, KeyFileError, Outcome, Report, Tracked, address, asm_text, dis_text, key_list,
+    read_key_file, run_prg, run_text, step_text, write_output,
 };
 use tb_kernal::{Keyboard, Outside, Quiet, Rude};
 
 /// Does what the words ask for.
-pub fn perform<R: Files + Print + Input + AllocGlobal>(
+pub fn perform<R: Files + Print + Eprint + Input + AllocGlobal>(
     rt: &R,
     job: &Job,
 ) -> Result<Ending, Failure> {
     match job {
-        Job::Build { source, out, seed } => {
-            Ok(Ending::Report(build_file(rt, source.as_str(), out.as_str(), *seed)))
-        }
+        Job::Build {
+            source,
+            out,
+            seed,
+            beside,
+        } => Ok(Ending::Report(build_files(rt, source.as_str(), out.as_str(), *seed, beside)?)),
         Job::Run {
             what,
-            seed,
-            keys,
-            answers,
-            limit,
+            settings,
             rude,
+        } => Ok(Ending::Report(run_beside(rt, what, settings, *rude)?)),
+        Job::Play {
+            what,
+            seed,
+            limit,
+            record,
         } => {
-            let keyboard = keyboard(rt.alloc(), keys.as_str(), answers.as_str())?;
+            let record = record.as_ref().map(|file| file.as_str());
             let limit = u64::from(limit.events);
-            Ok(Ending::Report(run_beside(rt, what, *seed, keyboard, limit, *rude)))
+            Ok(plain_ending(rt, play(rt, what, *seed, limit, record)))
         }
         Job::Asm { text, out, at } => match address(at.as_str()) {
             Some(at) => Ok(plain_ending(rt, assemble_file(rt, text.as_str(), out.as_str(), at))),
@@ -42,16 +51,17 @@ pub fn perform<R: Files + Print + Input + AllocGlobal>(
             Ok(Ending::Disk(make_disk(rt, out.as_str(), files.as_slice())))
         }
         Job::Show { text } => Ok(plain_ending(rt, show(rt, text.as_str()))),
-        Job::Step {
+        Job::Profile {
             source,
-            seed,
-            keys,
-            answers,
-            limit,
+            settings,
+            rude,
+            html,
         } => {
-            let keyboard = keyboard(rt.alloc(), keys.as_str(), answers.as_str())?;
-            let limit = u64::from(limit.events);
-            Ok(Ending::Report(step_file(rt, source.as_str(), *seed, keyboard, limit)))
+            let html = html.as_ref().map(|file| file.as_str());
+            Ok(Ending::Report(profile_beside(rt, source.as_str(), settings, *rude, html)?))
+        }
+        Job::Step { source, settings } => {
+            Ok(Ending::Report(step_file(rt, source.as_str(), settings)?))
         }
     }
 }
@@ -60,15 +70,29 @@ pub fn perform<R: Files + Print + Input + AllocGlobal>(
 fn run_beside<R: Files + Print + AllocGlobal>(
     rt: &R,
     what: &Runnable,
-    seed: u16,
-    keyboard: Keyboard,
-    limit: u64,
+    settings: &Settings,
     rude: Option<u16>,
-) -> Report {
-    match rude {
-        Some(rude) => run_file(rt, what, seed, keyboard, limit, &mut Rude::new(rude)),
-        None => run_file(rt, what, seed, keyboard, limit, &mut Quiet),
-    }
+) -> Result<Report, Failure> {
+    let keyboard = keyboard(rt, settings)?;
+    Ok(match rude {
+        Some(rude) => run_file(rt, what, settings, keyboard, &mut Rude::new(rude)),
+        None => run_file(rt, what, settings, keyboard, &mut Quiet),
+    })
+}
+
+// A profile beside a rude ROM, where one is asked for.
+fn profile_beside<R: Files + Print + AllocGlobal>(
+    rt: &R,
+    source: &str,
+    settings: &Settings,
+    rude: Option<u16>,
+    html: Option<&str>,
+) -> Result<Report, Failure> {
+    let keyboard = keyboard(rt, settings)?;
+    Ok(match rude {
+        Some(rude) => { profile_file(rt, source, settings, keyboard, &mut Rude::new(rude), html) }
+        None => profile_file(rt, source, settings, keyboard, &mut Quiet, html),
+    })
 }
 
 // An outcome with no warnings.
@@ -80,17 +104,41 @@ fn plain_ending<R: AllocGlobal>(rt: &R, outcome: Outcome) -> Ending {
     Ending::Report(plain(rt, outcome))
 }
 
-fn keyboard(alloc: Global, keys: &str, answers: &str) -> Result<Keyboard, Failure> {
-    Ok(Keyboard {
-        text: key_list(alloc, keys).map_err(of_keys)?,
-        answers: key_list(alloc, answers).map_err(of_keys)?,
-    })
+// What the words say is looked at before the key file is opened.
+fn keyboard<R: Files + AllocGlobal>(rt: &R, settings: &Settings) -> Result<Keyboard, Failure> {
+    let answers = key_list(rt.alloc(), settings.answers.as_str()).map_err(of_keys)?;
+    let text = match &settings.keys {
+        Typed::Digits(digits) => key_list(rt.alloc(), digits.as_str()).map_err(of_keys)?,
+        Typed::File(path) => keys_in(rt, path.as_str())?,
+    };
+    Ok(Keyboard { text, answers })
+}
+
+fn keys_in<R: Files + AllocGlobal>(rt: &R, path: &str) -> Result<Vec<u8>, Failure> {
+    let mut file = open(rt, path).map_err(of_file)?;
+    read_key_file(rt.alloc(), &mut file).map_err(of_key_file)
 }
 
 fn of_keys(error: KeyError) -> Failure {
     match error {
         KeyError::BadKeys => Failure::BadKeys,
         KeyError::NoMemory => Failure::NoMemory,
+    }
+}
+
+fn of_key_file(error: KeyFileError) -> Failure {
+    match error {
+        KeyFileError::BadKeys => Failure::BadKeys,
+        KeyFileError::Fault => Failure::ReadFault,
+        KeyFileError::NoMemory => Failure::NoMemory,
+    }
+}
+
+// Why a key file was not opened.
+fn of_file(outcome: Outcome) -> Failure {
+    match outcome {
+        Outcome::NoMemory => Failure::NoMemory,
+        _ => Failure::ReadFault,
     }
 }
 
@@ -101,25 +149,11 @@ fn show<R: Print>(rt: &R, text: &str) -> Outcome {
     }
 }
 
-fn build_file<R: Files + AllocGlobal>(rt: &R, source: &str, out: &str, seed: u16) -> Report {
-    let mut file = match open(rt, source) {
-        Ok(file) => file,
-        Err(outcome) => return plain(rt, outcome),
-    };
-    let mut made = Tracked::new(Vec::new(rt.alloc()));
-    let report = build(rt.alloc(), &mut file, &mut made, seed);
-    Report {
-        outcome: save(rt, out, report.outcome, made.stream.as_slice()),
-        warnings: report.warnings,
-    }
-}
-
 fn run_file<R: Files + Print + AllocGlobal, O: Outside>(
     rt: &R,
     what: &Runnable,
-    seed: u16,
+    settings: &Settings,
     keyboard: Keyboard,
-    limit: u64,
     outside: &mut O,
 ) -> Report {
     let (Runnable::Source(path) | Runnable::Prg(path)) = what;
@@ -129,13 +163,14 @@ fn run_file<R: Files + Print + AllocGlobal, O: Outside>(
     };
     let mut screen = Tracked::new(io::writer(rt));
     let alloc = rt.alloc();
+    let limit = u64::from(settings.limit.events);
     match what {
         Runnable::Source(_) => {
             run_text(
                 alloc,
                 &mut file,
                 &mut screen,
-                seed,
+                settings.seed,
                 keyboard,
                 limit,
                 outside,
@@ -152,25 +187,24 @@ fn run_file<R: Files + Print + AllocGlobal, O: Outside>(
 fn step_file<R: Files + Print + Input + AllocGlobal>(
     rt: &R,
     source: &str,
-    seed: u16,
-    keyboard: Keyboard,
-    limit: u64,
-) -> Report {
+    settings: &Settings,
+) -> Result<Report, Failure> {
+    let keyboard = keyboard(rt, settings)?;
     let mut file = match open(rt, source) {
         Ok(file) => file,
-        Err(outcome) => return plain(rt, outcome),
+        Err(outcome) => return Ok(plain(rt, outcome)),
     };
     let mut commands = Tracked::new(rt.reader());
     let mut screen = Tracked::new(io::writer(rt));
-    step_text(
+    Ok(step_text(
         rt.alloc(),
         &mut file,
         &mut commands,
         &mut screen,
-        seed,
+        settings.seed,
         keyboard,
-        limit,
-    )
+        u64::from(settings.limit.events),
+    ))
 }
 
 fn assemble_file<R: Files + AllocGlobal>(rt: &R, text: &str, out: &str, at: u16) -> Outcome {

@@ -1,0 +1,110 @@
+//! Building: a PRG file, and the files of the texts that tell of it. All is made before a file is opened for writing.
+use crate::files::{open, save, write_file};
+use std::alloc::{AllocError, Global};
+use std::rt::Files;
+use tb_command_line::{Beside, Failure};
+use tb_driver::{End, Outcome, Refusal, Report, Tracked, build, read_input, without_input};
+use tb_listing::{CompileError, Made, make};
+
+/// Compiles a source, and writes its PRG file and what is wanted beside it. No name of a file may come twice then.
+pub fn build_files<R: Files + AllocGlobal>(
+    rt: &R,
+    source: &str,
+    out: &str,
+    seed: u16,
+    beside: &Beside,
+) -> Result<Report, Failure> {
+    let names = names_of(rt.alloc(), beside)?;
+    if names.is_empty() {
+        return Ok(build_file(rt, source, out, seed));
+    }
+    if comes_twice(source, out, names.as_slice()) {
+        return Err(Failure::SameFile);
+    }
+    Ok(match made_of(rt, source, seed) {
+        Ok(made) => Report {
+            outcome: write_all(rt, out, beside, &made),
+            warnings: made.warnings,
+        },
+        Err(outcome) => Report::new(rt.alloc(), outcome),
+    })
+}
+
+// The names of the files that are wanted.
+fn names_of(alloc: Global, beside: &Beside) -> Result<Vec<&str>, AllocError> {
+    let mut names = Vec::new(alloc);
+    for name in [&beside.labels, &beside.listing, &beside.map] {
+        if let Some(name) = name {
+            names.push(name.as_str())?;
+        }
+    }
+    Ok(names)
+}
+
+// Whether a name comes twice among all of them.
+fn comes_twice(source: &str, out: &str, names: &[&str]) -> bool {
+    if source == out {
+        return true;
+    }
+    for index in 0..names.len() {
+        if names[index] == source || names[index] == out {
+            return true;
+        }
+        for other in index + 1..names.len() {
+            if names[index] == names[other] {
+                return true;
+            }
+        }
+    }
+    false
+}
+
+fn made_of<R: Files + AllocGlobal>(rt: &R, source: &str, seed: u16) -> Result<Made, Outcome> {
+    let mut file = open(rt, source)?;
+    match read_input(rt.alloc(), &mut file) {
+        Ok(text) => make(rt.alloc(), text.as_slice(), seed).map_err(of_source),
+        Err(error) => Err(without_input(error)),
+    }
+}
+
+fn of_source(error: CompileError) -> Outcome {
+    match error {
+        CompileError::NoMemory => Outcome::NoMemory,
+        _ => Outcome::Refused(Refusal::Source(error)),
+    }
+}
+
+// Each file is written whole before the next one is opened.
+fn write_all<R: Files>(rt: &R, out: &str, beside: &Beside, made: &Made) -> Outcome {
+    match write_each(rt, out, beside, made) {
+        Ok(()) => Outcome::Ended(End::Done),
+        Err(outcome) => outcome,
+    }
+}
+
+fn write_each<R: Files>(rt: &R, out: &str, beside: &Beside, made: &Made) -> Result<(), Outcome> {
+    write_file(rt, out, made.prg.as_slice())?;
+    write_wanted(rt, &beside.labels, made.labels.as_slice())?;
+    write_wanted(rt, &beside.listing, made.listing.as_slice())?;
+    write_wanted(rt, &beside.map, made.map.as_slice())
+}
+
+fn write_wanted<R: Files>(rt: &R, name: &Option<String>, bytes: &[u8]) -> Result<(), Outcome> {
+    match name {
+        Some(name) => write_file(rt, name.as_str(), bytes),
+        None => Ok(()),
+    }
+}
+
+fn build_file<R: Files + AllocGlobal>(rt: &R, source: &str, out: &str, seed: u16) -> Report {
+    let mut file = match open(rt, source) {
+        Ok(file) => file,
+        Err(outcome) => return Report::new(rt.alloc(), outcome),
+    };
+    let mut made = Tracked::new(Vec::new(rt.alloc()));
+    let report = build(rt.alloc(), &mut file, &mut made, seed);
+    Report {
+        outcome: save(rt, out, report.outcome, made.stream.as_slice()),
+        warnings: report.warnings,
+    }
+}

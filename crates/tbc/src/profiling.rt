@@ -1,0 +1,46 @@
+//! Profiles: the table is written on standard output, and then the page to its file.
+use crate::files::{open, write_file};
+use std::io;
+use std::rt::Files;
+use tb_command_line::Settings;
+use tb_driver::{Outcome, Report, Tracked};
+use tb_kernal::{Keyboard, Outside};
+use tb_profile_engine::{Profiled, profile_text};
+
+/// Profiles a source, and writes the page where there is a table and the page is wanted.
+pub fn profile_file<R: Files + Print + AllocGlobal, O: Outside>(
+    rt: &R,
+    source: &str,
+    settings: &Settings,
+    keyboard: Keyboard,
+    outside: &mut O,
+    html: Option<&str>,
+) -> Report {
+    let mut file = match open(rt, source) {
+        Ok(file) => file,
+        Err(outcome) => return Report::new(rt.alloc(), outcome),
+    };
+    let Profiled { report, page } = profile_text(
+        rt.alloc(),
+        &mut file,
+        &mut Tracked::new(io::writer(rt)),
+        settings.seed,
+        keyboard,
+        settings.limit.events,
+        outside,
+    );
+    match (report.outcome, html) {
+        (Outcome::Ended(_), Some(path)) => Report {
+            outcome: write_page(rt, path, page.as_slice(), report.outcome),
+            warnings: report.warnings,
+        },
+        _ => report,
+    }
+}
+
+fn write_page<R: Files>(rt: &R, path: &str, page: &[u8], ended: Outcome) -> Outcome {
+    match write_file(rt, path, page) {
+        Ok(()) => ended,
+        Err(outcome) => outcome,
+    }
+}
