@@ -4,12 +4,14 @@
 # Prints what differs, and then ends with status 1.
 . "$(dirname "${BASH_SOURCE[0]}")/setup.sh"
 needs_program
+needs python3
 with_step=yes
 
 rows=0
 failed=0
 from=/dev/null
 to=shown
+by=() # what starts the program, where it is not the shell
 row() { # STATUS SAID SHOWN WORD..: SAID and SHOWN are patterns of standard error and output, without the last line end
     local status=0 made=new wanted=$1 said=$2 shown=$3 wanted_made=old
     shift 3
@@ -17,7 +19,7 @@ row() { # STATUS SAID SHOWN WORD..: SAID and SHOWN are patterns of standard erro
     rows=$((rows + 1))
     printf old | tee old.prg >out.prg
     : >shown
-    "$tbc" "$@" <"$from" >"$to" 2>said || status=$?
+    "${by[@]}" "$tbc" "$@" <"$from" >"$to" 2>said || status=$?
     ! cmp -s old.prg out.prg || made=old
     [[ $status == "$wanted" && $(<said) == $said && $(<shown) == $shown && $made == "$wanted_made" ]] && return
     failed=$((failed + 1))
@@ -25,11 +27,16 @@ row() { # STATUS SAID SHOWN WORD..: SAID and SHOWN are patterns of standard erro
         "$*" "$status" "$wanted" "$(<said)" "$said" "$(<shown)" "$shown" "$made" "$wanted_made"
 }
 
-same() { # FILE: a row: OUT holds the bytes of FILE
+same() { # FILE OTHER: a row: both have the same bytes
     rows=$((rows + 1))
-    cmp -s out.prg "$1" && return
+    cmp -s "$1" "$2" && return
     failed=$((failed + 1))
-    printf 'OUT has not the bytes of %s\n' "$1"
+    printf '%s has not the bytes of %s: %q\n' "$1" "$2" "$(head -c 80 "$1")"
+}
+
+holds() { # FILE TEXT: a row
+    file wanted "$2"
+    same "$1" wanted
 }
 
 built() { # SHOWN WORD..: rows: a call of `build`, and a run of the PRG file that it wrote
@@ -65,6 +72,8 @@ file routine.s 'LDA #$48\nJSR $FFD2\nRTS\n'
 file routine.prg '\x00\xc0\xa9\x48\x20\xd2\xff\x60'
 file echo.prg '\x00\xc0\x20\xcf\xff\x20\xd2\xff\x4c\x00\xc0'
 file poll.prg '\x00\xc0\x20\xe4\xff\x20\xd2\xff\x60'
+file once.prg '\x00\xc0\x20\xcf\xff\x20\xd2\xff\x60'
+file double.bas '10 INPUT A\n20 PRINT A*2\n30 GOTO 10\n'
 file spoilt.prg '\x00\xc0\xa2\x41\xa9\x2e\x20\xd2\xff\x8a\x20\xd2\xff\x60'
 mkdir folder
 
@@ -78,7 +87,7 @@ row 0 '' $'\n!0 AT 10' run hello.bas --answers 03
 row 0 '' H run --prg routine.prg
 row 0 '' A run --prg poll.prg --answers 41
 row 0 '' '' asm routine.s out.prg --at c000
-same routine.prg
+same out.prg routine.prg
 row 0 '' $'LDA #$48 ; C000\nJSR $FFD2 ; C002\nRTS ; C005' dis routine.prg
 row 0 '' 'tbc 1.0.0' --version
 row 0 '' 'Compiles Tiny BASIC*Usage: tbc *' --help
@@ -213,6 +222,92 @@ row 3 'tbc: write fault' '' --help
 row 3 'tbc: write fault' '' --version
 to=shown
 
+# What a build writes beside the PRG file
+beside() { # NAME: rows: the listing of NAME.bas assembles to the bytes behind the BASIC line
+    row 0 '*' '' build $1.bas out.prg --labels out.vs --list out.s --map out.map
+    cp out.prg built.prg
+    row 0 '' '' asm out.s out.prg --at 080d
+    tail -c +15 built.prg >wanted
+    tail -c +3 out.prg >image
+    same image wanted
+}
+beside hello
+"$tbc" build hello.bas plain.prg
+same built.prg plain.prg
+holds out.map "$(cat <<'END'
+part        addr   bytes    cost
+block       080D    1011      64
+line 10     0C00      51      65
+line 20     0C33      61      36
+line_table  0C70       8       0
+sum         080D    1131     165
+left        0C78   37768   37723
+END
+)\n"
+for name in wait forever warn both ask far; do beside $name; done
+for source in "$root"/examples/*.bas; do
+    cp "$source" example.bas
+    beside example
+done
+awk 'BEGIN { for (n = 1; n <= 1050; n++) print n " REM \x01\xff\t" n }' >dense.bas
+awk 'BEGIN { for (n = 1; n <= 127; n++) { printf "%d PRINT \"", n; for (k = 0; k < 236; k++) printf "%c", 97 + k % 26; print "\"" } }' >texts.bas
+for name in dense texts; do
+    beside $name
+    rows=$((rows + 1))
+    [ "$(wc -c <out.s)" -le 1048576 ] || failed=$((failed + 1))
+done
+generate() { # SEED: a source of lines drawn by it
+    awk -v seed="$1" 'function pick(n) { return int(rand() * n) }
+        function name() { return substr("ABCDEFGHIJKLMNOPQRSTUVWXYZ", 1 + pick(26), 1) }
+        function value(d) {
+            if (d == 0 || pick(3) == 0) return pick(2) ? name() : pick(65536)
+            return pick(5) ? "(" value(d - 1) substr("+-*/", 1 + pick(4), 1) value(d - 1) ")" : "RND(" value(d - 1) ")"
+        }
+        function statement(d, k) {
+            k = pick(9)
+            if (k == 0) return "LET " name() "=" value(3)
+            if (k == 1) return "PRINT \"" substr("THE QUICK BROWN FOX! 0123456789", 1 + pick(16), 1 + pick(15)) "\";" value(2)
+            if (k == 2) return "PRINT " value(2) "," name()
+            if (k == 3) return "INPUT " name() "," name()
+            if (k == 4 && d) return "IF " value(2) substr("=<>", 1 + pick(3), 1) value(2) " THEN " statement(d - 1)
+            if (k == 5) return "GOTO " (pick(3) ? 10 * (1 + pick(30)) : value(1))
+            if (k == 6) return "GOSUB " 10 * (1 + pick(30))
+            return k == 7 ? "RETURN" : "REM " pick(1000)
+        }
+        BEGIN { srand(seed); for (n = 10; n <= 300; n += 10) print n, statement(2) }'
+}
+for ((seed = 1; seed <= 200; seed++)); do
+    generate "$seed" >drawn.bas
+    rows=$((rows + 1))
+    "$tbc" build drawn.bas drawn.prg --list drawn.s 2>said && "$tbc" asm drawn.s again.prg --at 080d \
+        && cmp -s <(tail -c +15 drawn.prg) <(tail -c +3 again.prg) || { failed=$((failed + 1)); echo "drawn by $seed: $(<said)"; }
+done
+for words in '--labels out.prg' '--list hello.bas' '--map a --labels a' '--list a --map a'; do
+    row 2 'tbc: same file twice' '' build hello.bas out.prg $words
+done
+row 2 'tbc: same file twice' '' build out.prg out.prg --map a
+row 2 'tbc: same file twice' '' build nowhere.bas nowhere.bas --map a
+[ ! -e a ] || failed=$((failed + 1))
+row 2 'error: *' '' build hello.bas out.prg --labels
+row 1 'tbc: empty program' '' build most.bas out.prg --labels a --list b --map c
+row 3 'tbc: read fault' '' build nowhere.bas out.prg --labels a --list b --map c
+[ ! -e a ] && [ ! -e b ] && [ ! -e c ] || failed=$((failed + 1))
+row 3 'tbc: write fault' '' build hello.bas folder --labels a
+[ ! -e a ] || failed=$((failed + 1))
+"$tbc" build hello.bas made.prg --labels made.vs --list made.s --map made.map
+for name in /dev/full nowhere/made folder; do
+    # The files before the one that can't be written stand.
+    for words in "--labels $name" "--labels a --list $name" "--labels a --list b --map $name"; do
+        rows=$((rows + 1))
+        status=0
+        rm -f a b c
+        "$tbc" build hello.bas out.prg $words 2>said || status=$?
+        [ "$status" = 3 ] && [ "$(cat said)" = 'tbc: write fault' ] && cmp -s out.prg made.prg \
+            && { [ ! -e a ] || cmp -s a made.vs; } && { [ ! -e b ] || cmp -s b made.s; } || failed=$((failed + 1))
+    done
+done
+row 0 'tbc: warning: line 20: no line 30' '' build warn.bas out.prg --map a
+
 # Runs that end otherwise
 row 5 'tbc: step limit' A run forever.bas
 row 6 'tbc: waits for a key' 12 run --prg echo.prg --keys 3132
@@ -228,6 +323,108 @@ END
 # A limit is the number of events that a run may take, and no other: this routine takes four
 row 0 '' H run --prg routine.prg --limit 4
 row 5 'tbc: step limit' H run --prg routine.prg --limit 3
+
+# Key files
+printf '%0*d' 2097152 0 >most.keys
+for end in '' '\n' '\r\n'; do
+    file some.keys "32310D$end"
+    row 0 '' $'A\n? \n42\n\n!7 AT 30' run wait.bas --keys-file some.keys
+done
+file no.keys '\n'
+row 6 'tbc: waits for a key' $'A\n\\? ' run wait.bas --keys-file no.keys
+{ cat most.keys && printf '\r\n'; } >end.keys
+{ cat most.keys && printf 00; } >digits.keys
+row 0 '' A run --prg poll.prg --keys-file end.keys --answers 41
+row 0 '' A run --prg poll.prg --keys-file digits.keys --answers 41
+{ cat end.keys && printf '\n'; } >more.keys
+row 2 'tbc: bad key list' '' run nowhere.bas --keys-file more.keys
+each 2 bad.keys run nowhere.bas --keys-file bad.keys <<'END'
+bad key list|0
+bad key list|0g
+bad key list| 00
+bad key list|00\r
+bad key list|00\n\n
+END
+row 3 'tbc: read fault' '' run nowhere.bas --keys-file nowhere.keys
+row 3 'tbc: read fault' '' run hello.bas --keys-file folder
+row 2 'tbc: bad key list' '' run hello.bas --keys-file nowhere.keys --answers 0
+row 2 'error: *' '' run hello.bas --keys 00 --keys-file no.keys
+row 2 'tbc: bad key list' '' step nowhere.bas --keys-file bad.keys
+
+# Playing: what is typed, and what is recorded of it
+plays() { # STATUS SAID SHOWN RECORD TYPED WORD..: rows: a call of `play`, and a run on what it recorded
+    local status=$1 said=$2 shown=$3 record=$4
+    file typed "$5"
+    from=typed
+    row "$status" "$said" "$shown" play "${@:6}" --record out.keys
+    from=/dev/null
+    holds out.keys "$record"
+    cp shown played
+    row "$status" "$said" "$shown" run "${@:6}" --keys-file out.keys
+    same shown played
+}
+rest() { # SHOWN TYPED WORD..: rows: what `play` and then `cat` show, of a file and of a pipe
+    file typed "$2"
+    { "$tbc" play "${@:3}" && cat; } <typed >shown
+    holds shown "$1"
+    cat typed | { "$tbc" play "${@:3}" && cat; } >shown
+    holds shown "$1"
+}
+plays 6 'tbc: waits for a key' '\? ' '\n' '' double.bas
+plays 6 'tbc: waits for a key' $'\\? \n2\n\\? \n4\n\\? ' '310d320d\n' '1\n2\r\n' double.bas
+plays 6 'tbc: waits for a key' $'\\? \n8\n\\? ' '340d\n' 4 double.bas
+plays 0 '' $'\\? \n!6 AT 10' '580d\n' 'x\ny\n' double.bas
+plays 6 'tbc: waits for a key' $'AB1\n{7B}Z' '4142310d7b5a0d\n' 'aB1\n{z\r' --prg echo.prg
+plays 6 'tbc: waits for a key' '' '0d0d0d0d\n' '\n\r\n\r\r\n' --prg echo.prg
+plays 0 '' HELLO '\n' 'unread\n' hello.bas
+plays 0 '' FAR95 '\n' '' far.bas --seed 2
+plays 5 'tbc: step limit' A '\n' '' forever.bas --limit 5000
+file wrong.prg '\x00\xc0\x20\xcf\xff\xea\x00'
+plays 7 'tbc: wrong: brk at C004' '' '380d\n' '8\n' --prg wrong.prg
+rest 'A\n? \n14\n\n!7 AT 30\n8\n9' '7\n8\n9' wait.bas
+rest 'Qrest\n' 'q\r\nrest\n' --prg once.prg
+rest 'HELLO\nall\n' 'all\n' hello.bas
+
+# The limit is that of one line
+yes 1 | head -n 40 >typed
+from=typed
+row 6 'tbc: waits for a key' '*2*' play double.bas --limit 300
+row 5 'tbc: step limit' '' play double.bas --limit 100
+row 0 'tbc: warning: line 20: no line 30' $'\\? \n\n!1 AT 20' play ask.bas
+from=/dev/null
+
+# All that may be typed, and a byte more
+head -c 1048575 /dev/zero | tr '\0' a >most.typed
+{ cat most.typed && printf a; } >more.typed
+from=most.typed
+row 0 '' A play --prg once.prg --record out.keys
+row 0 '' A run --prg once.prg --keys-file out.keys
+file out.keys old
+from=more.typed
+row 3 'tbc: read fault' '' play --prg once.prg --record out.keys
+from=folder
+row 3 'tbc: read fault' '\? ' play double.bas --record out.keys
+from=/dev/null
+row 3 'tbc: read fault' '' play nowhere.bas --record out.keys
+row 3 'tbc: read fault' '' play --prg nowhere.prg --record out.keys
+row 1 'tbc: not a PRG: runs past the end' '' play --prg bad.prg --record out.keys
+refused_sources play SOURCE --record out.keys
+to=/dev/full
+row 3 'tbc: write fault' '' play hello.bas --record out.keys
+row 3 'tbc: write fault' '' play --prg routine.prg
+to=shown
+holds out.keys old
+for name in /dev/full nowhere/out.keys folder; do row 3 'tbc: write fault' HELLO play hello.bas --record $name; done
+row 2 'error: *' '' play
+row 2 'error: *' '' play hello.bas --keys 00
+
+# At a terminal a prompt is seen before its answer is typed, and a warning before either
+at_terminal() { by=(python3 "$root/tools/at_a_terminal.py" "$@" --); }
+at_terminal '? ' 7 '? ' 21 '? ' ''
+row 6 '' $'\\? 7\n\n14\n\\? 21\n\n42\n\\? tbc: waits for a key' play double.bas
+at_terminal $'30\r\n? ' 5
+row 0 '' $'tbc: warning: line 20: no line 30\n\\? 5\n\n\n!1 AT 20' play ask.bas
+by=()
 
 steps() { # SHOWN COMMANDS WORD..
     local shown=$1
@@ -277,6 +474,25 @@ step_rows() {
     from=/dev/null
 }
 [ $with_step = no ] || step_rows
+
+profile_rows() {
+    row 0 '' $' line *statement\nstart *\n   10 *\n  sum *100.0%' profile let.bas
+    row 5 'tbc: step limit' $' line *\n  sum *' profile let.bas --limit 5
+    row 6 'tbc: waits for a key' $' line *\n  sum *' profile wait.bas
+    row 0 '' $' line *\n  sum *' profile let.bas --rude 7
+    file less.bas '10 PRINT "<&>"\n20 GOTO 40\n30 PRINT\n40 END\n'
+    row 0 '' $'*\n   30          0            0             0    0.0%  PRINT\n   40 *' profile less.bas --html page.html
+    rows=$((rows + 1))
+    grep -q '>PRINT &quot;&lt;&amp;&gt;&quot;<' page.html || { failed=$((failed + 1)) && echo 'the page has not its statement'; }
+    row 3 'tbc: write fault' $' line *\n  sum *' profile less.bas --html folder
+    refused_sources profile SOURCE
+    row 2 'tbc: bad key list' '' profile nowhere.bas --keys 0
+    row 3 'tbc: read fault' '' profile nowhere.bas
+    to=/dev/full
+    row 3 'tbc: write fault' '' profile let.bas
+    to=shown
+}
+profile_rows
 
 echo "$rows calls of tbc, $failed other than they should be"
 [ "$failed" = 0 ]

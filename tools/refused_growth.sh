@@ -1,8 +1,9 @@
 #!/usr/bin/env bash
 # Runs each command of the built program with the first, the second, .. growth of its memory refused, until a run
-# meets no refusal. Each run must end with status 4, `tbc: out of memory` and nothing written, or answer exactly what
-# the command answers with ample memory; where no growth was refused, it must not be out of memory. So must the calls that no command makes or shows, each a word of `tb_calls`.
-# The refusing malloc is preloaded, so this needs a C compiler (cc) and glibc.
+# meets no refusal. Each run must end with status 4, `tbc: out of memory` and nothing written (of a program that is
+# played, its warnings and a beginning of what it shows), or answer exactly what the command answers with ample memory;
+# where no growth was refused, it must not be out of memory. So must the calls that no command makes or shows, each a
+# word of `tb_calls`. The refusing malloc is preloaded, so this needs a C compiler (cc) and glibc.
 . "$(dirname "${BASH_SOURCE[0]}")/setup.sh"
 needs_program
 calls=$root/crates/tb_calls/out/tb_calls
@@ -46,6 +47,15 @@ answer() { # GROWTH PROGRAM WORD..: a run with that growth refused, with none fo
 
 same_made() { if [ -e made.wanted ]; then cmp -s out.prg made.wanted; else [ ! -e out.prg ]; fi; }
 
+begins() { cmp -s -n "$(stat -c %s "$1")" "$1" "$2"; } # FILE OTHER: whether it is a beginning of the other
+
+# Whether a run out of memory said so and wrote nothing. A program that is played has warned and shown a beginning.
+is_out_of_memory() { # NAME WORD..
+    [ "$(tail -n 1 said)" = "$1: out of memory" ] && [ ! -e out.prg ] || return
+    head -n -1 said >before
+    if [ "${2-}" = play ]; then begins before said.wanted && begins shown shown.wanted; else [ ! -s before ] && [ ! -s shown ]; fi
+}
+
 rows=0
 runs=0
 failed=0
@@ -70,7 +80,7 @@ refuse_each() { # PROGRAM WORD..: what it answers, with each growth refused in t
             failed=$((failed + 1))
         elif [ "$status" = "$wanted" ] && cmp -s said said.wanted && cmp -s shown shown.wanted && same_made; then
             again=$((again + 1))
-        elif [ "$status" = 4 ] && [ "$(<said)" = "$name: out of memory" ] && [ ! -s shown ] && [ ! -e out.prg ]; then
+        elif [ "$status" = 4 ] && is_out_of_memory "$name" "${@:2}"; then
             want=$((want + 1))
         else
             echo "$name $words: another answer at growth $growth: status $status, $(head -c 80 said)" >&2
@@ -112,6 +122,7 @@ printf '10\n' >empty.bas
 
 check build hello.bas out.prg
 check build all.bas out.prg --seed 7
+check build all.bas beside.prg --labels beside.vs --list beside.s --map beside.map
 check build bad.bas out.prg
 check build deep.bas out.prg
 check build large.bas out.prg
@@ -148,6 +159,24 @@ check asm mixed.s out.prg --at c000
 check asm bad.s out.prg --at c000
 check asm unknown.s out.prg --at c000
 check asm text.s out.prg --at c00
+printf '310d3\n' >bad.keys
+printf '332c350d\r\n' >some.keys
+check run all.bas --keys-file some.keys
+check run all.bas --keys-file bad.keys
+check run all.bas --keys-file nowhere.keys
+printf 'x\n' >commands
+check play all.bas --record out.prg
+printf '3,5\r\n' >commands
+check play all.bas --record out.prg
+check play all.bas --limit 900
+check play hello.bas --record nowhere/out.prg
+check play bad.bas
+check play nowhere.bas
+printf '123\nabc\n\nz' >commands
+check play --prg echo.prg --record out.prg
+check play --prg wrong.prg
+check play --prg nowhere.prg
+: >commands
 cp hello.prg maze_1.prg
 printf '\001' >short.prg
 check disk out.prg hello.prg maze_1.prg
@@ -176,7 +205,7 @@ step_rows() {
 
 : >commands
 for call in host_form key_list compile parse parse_expr tokens lower warnings assemble settle assemble_settled read_text write \
-    disassemble Listing::text disk Memory::new reserve run Stepper::new step to_line; do
+    disassemble Listing::text disk Memory::new reserve type_text run Stepper::new step to_line; do
     check_call $call
 done
 

@@ -81,6 +81,7 @@ printf '10 INPUT A\n' >wait.bas
 PATH=/usr/bin:/bin
 row 0 '' HELLO built/tbc run hello.bas
 row 6 'tbc: waits for a key' '\? ' built/tbc run wait.bas
+row 6 '' '\? tbc: waits for a key' "$root/tools/at_a_terminal.py" '? ' '' -- built/tbc play wait.bas
 row 2 'error: *' '' built/tbc jump
 row 3 'tbc: read fault' '' built/tbc run --prg=nowhere.prg
 ln -s built/tbc link
@@ -153,6 +154,12 @@ row 5 '*' SHOWN unbuilt/tbc run "--prg=$work/game.prg"
 words run --prg="$work/game.prg"
 row 5 '*' SHOWN unbuilt/tbc asm hello.s out.prg --at c000
 words asm "$work/hello.s" "$work/out.prg" --at c000
+row 5 '*' SHOWN unbuilt/tbc run hello.bas --keys-file game.keys
+words run "$work/hello.bas" --keys-file "$work/game.keys"
+row 5 '*' SHOWN unbuilt/tbc play --record=game.keys hello.bas
+words play --record="$work/game.keys" "$work/hello.bas"
+printf '50\nno\n' | unbuilt/tbc play hello.bas >/dev/null 2>&1 || true
+is_so 'what is typed does not reach the program that is played' test "$(<stub/input)" = $'50\nno'
 printf 's\nq\n' | unbuilt/tbc step hello.bas >/dev/null 2>&1 || true
 is_so 'the commands of step do not reach the program' test "$(<stub/input)" = $'s\nq'
 AS=silent row 3 "$trial"$'\n''tbc: the trial run had not ended after * s: ./tbc --build first, *' '' unbuilt/tbc run hello.bas
@@ -160,6 +167,7 @@ AS=refuses row 3 "$trial"$'\n''tbc: the trial run has no answer: see *' '' unbui
 beyond='needs the proved program, which is not built yet: ./tbc --build first'
 row 3 "tbc: a run of up to 1000000000 events $beyond" '' unbuilt/tbc run hello.bas --limit 1000000000
 row 3 "tbc: a run of up to 1000000000 events $beyond" '' unbuilt/tbc run --limit=1000000000 hello.bas
+row 3 '' "tbc: play at a keyboard $beyond"* at_terminal unbuilt/tbc play hello.bas
 row 3 '' "tbc: step at a keyboard $beyond"* at_terminal unbuilt/tbc step hello.bas
 
 # What is stale: sources, definitions and the list of crates of what the program stands on, and nothing else

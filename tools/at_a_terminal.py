@@ -1,0 +1,49 @@
+#!/usr/bin/env python3
+"""Plays a program at a pseudo-terminal: at_a_terminal.py PROMPT LINE .. -- COMMAND ..
+
+Waits for each prompt before it types the line behind it, so a prompt that comes only with the key that it asks for is
+never seen; an empty line is the end of the input. Writes what the terminal showed, with plain line ends, and ends with
+the command's status; or with 124 after so many seconds without a prompt, and with 125 where none comes any more.
+"""
+import os
+import pty
+import select
+import sys
+
+SECONDS = 5
+END_OF_INPUT = b"\x04"
+
+
+def shown_next(terminal):
+    """What the terminal shows next, nothing where the command has ended."""
+    if not select.select([terminal], [], [], SECONDS)[0]:
+        sys.exit(124)
+    try:
+        return os.read(terminal, 4096)
+    except OSError:
+        return b""
+
+
+def main():
+    at = sys.argv.index("--")
+    turns, command = sys.argv[1:at], sys.argv[at + 1:]
+    child, terminal = pty.fork()
+    if child == 0:
+        os.execvp(command[0], command)
+    shown = b""
+    for prompt, line in zip(turns[::2], turns[1::2]):
+        since = b""
+        while not since.endswith(prompt.encode()):
+            more = shown_next(terminal)
+            if not more:
+                sys.exit(125)
+            since += more
+        shown += since
+        os.write(terminal, line.encode() + b"\n" if line else END_OF_INPUT)
+    while more := shown_next(terminal):
+        shown += more
+    sys.stdout.write(shown.replace(b"\r\n", b"\n").decode())
+    sys.exit(os.waitstatus_to_exitcode(os.waitpid(child, 0)[1]))
+
+
+main()
