@@ -237,11 +237,11 @@ same built.prg plain.prg
 holds out.map "$(cat <<'END'
 part        addr   bytes    cost
 block       080D    1011      64
-line 10     0C00      51      65
-line 20     0C33      61      36
-line_table  0C70       8       0
-sum         080D    1131     165
-left        0C78   37768   37723
+line 10     0C00      45      65
+line 20     0C2D      49      36
+line_table  0C5E       8       0
+sum         080D    1113     165
+left        0C66   37786   37723
 END
 )\n"
 for name in wait forever warn both ask far; do beside $name; done

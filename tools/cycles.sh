@@ -60,11 +60,20 @@ sys.exit(0 if any(code[at] & 0x1F == 0x10 for at in ends) else 1)
 END
 }
 
+agrees() { # NAME KEYS TIMES CYCLES: sim65 counts as many for NAME.prg
+    local there keys wanted
+    image "$1.prg" "$2" >"$1.sim"
+    read -r there keys < <(counts "$1.sim")
+    wanted=$(($4 + around + 2 * $3 + 13 * keys))
+    echo "$1: sim65 counts $there, profile $4 and $3 times, so that sim65 should count $wanted" >said
+    [ "$there" = "$wanted" ]
+}
+
 rows=0
 failed=0
 left_out=0
 program() { # SOURCE KEYS
-    local name typed status=0 times cycles there keys wanted
+    local name typed status=0 times cycles
     name=$(basename "$1" .bas)
     typed=$(printf "$2" | od -An -v -tx1 | tr -d ' \n')
     "$tbc" build "$1" "$name.prg"
@@ -75,13 +84,10 @@ program() { # SOURCE KEYS
         left_out=$((left_out + 1))
         return
     fi
-    image "$name.prg" "$2" >"$name.sim"
-    read -r there keys < <(counts "$name.sim")
-    wanted=$((cycles + around + 2 * times + 13 * keys))
     rows=$((rows + 1))
-    [ "$there" = "$wanted" ] && return
+    agrees "$name" "$2" "$times" "$cycles" && return
     failed=$((failed + 1))
-    echo "$name: sim65 counts $there, profile $cycles and $times times, so that sim65 should count $wanted"
+    cat said
 }
 
 program "$root/examples/cave.bas" '1\r6\r2\r3\r1\r4\r5\r6\r1\r2\r'
@@ -93,5 +99,10 @@ program "$root/examples/lander.bas" '0\r0\r5\r10\r20\r30\r30\r20\r10\r10\r10\r10
 for source in "$root"/tools/bench/*.bas; do program "$source" ''; done
 python3 "$root/tools/foreign/looping_programs.py" . "${1:-30}" "${2:-1}"
 for source in looping_*.bas; do program "$source" ''; done
-echo "$rows programs, the cycles of $((rows - failed)) as sim65 counts them; $left_out left out"
+read -r _ times _ cycles _ < <(tail -n 1 hello.table)
+if agrees hello '' "$times" $((cycles + 1)); then
+    failed=$((failed + 1))
+    echo "a cycle too many is not seen"
+fi
+echo "$rows programs, $failed with other cycles than sim65 counts; $left_out left out"
 [ "$failed" = 0 ] && [ "$rows" -ge 20 ]
