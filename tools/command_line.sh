@@ -406,6 +406,8 @@ from=folder
 row 3 'tbc: read fault' '\? ' play double.bas --record out.keys
 from=/dev/null
 row 3 'tbc: read fault' '' play nowhere.bas --record out.keys
+row 2 'tbc: same file twice' '' play hello.bas --record hello.bas
+row 2 'tbc: same file twice' '' play --prg once.prg --record once.prg
 row 3 'tbc: read fault' '' play --prg nowhere.prg --record out.keys
 row 1 'tbc: not a PRG: runs past the end' '' play --prg bad.prg --record out.keys
 refused_sources play SOURCE --record out.keys
@@ -488,6 +490,7 @@ profile_rows() {
     refused_sources profile SOURCE
     row 2 'tbc: bad key list' '' profile nowhere.bas --keys 0
     row 3 'tbc: read fault' '' profile nowhere.bas
+    row 2 'tbc: same file twice' '' profile less.bas --html less.bas
     to=/dev/full
     row 3 'tbc: write fault' '' profile let.bas
     to=shown

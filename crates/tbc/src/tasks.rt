@@ -38,7 +38,8 @@ pub fn perform<R: Files + Print + Eprint + Input + AllocGlobal>(
             limit,
             record,
         } => {
-            let record = record.as_ref().map(|file| file.as_str());
+            let (Runnable::Source(program) | Runnable::Prg(program)) = what;
+            let record = beside(program.as_str(), record)?;
             let limit = u64::from(limit.events);
             Ok(plain_ending(rt, play(rt, what, *seed, limit, record)))
         }
@@ -57,12 +58,21 @@ pub fn perform<R: Files + Print + Eprint + Input + AllocGlobal>(
             rude,
             html,
         } => {
-            let html = html.as_ref().map(|file| file.as_str());
+            let html = beside(source.as_str(), html)?;
             Ok(Ending::Report(profile_beside(rt, source.as_str(), settings, *rude, html)?))
         }
         Job::Step { source, settings } => {
             Ok(Ending::Report(step_file(rt, source.as_str(), settings)?))
         }
+    }
+}
+
+// The name of a file that is written at the end, which must not take the program's place.
+fn beside<'a>(program: &str, file: &'a Option<String>) -> Result<Option<&'a str>, Failure> {
+    match file {
+        Some(file) if file.as_str() == program => Err(Failure::SameFile),
+        Some(file) => Ok(Some(file.as_str())),
+        None => Ok(None),
     }
 }
 
