@@ -4,7 +4,8 @@
 #   tools/measure_machine.sh [EVENTS] [ROUNDS]      default: 100000000 events, 5 rounds; needs rt and sim65 (Debian's cc65)
 #   tools/measure_machine.sh --instructions         instructions of this processor for each event; needs valgrind
 #
-# Each program runs on the machine (`run` with nothing outside) and by the processor's `step` alone.
+# Each program runs on the machine (`run` with nothing outside), by the processor's `step` alone and, where the program
+# is built, by the command line (`tbc run --prg`).
 # The runs go in turn, and the best round of each counts, since other load only ever makes a round longer.
 . "$(dirname "${BASH_SOURCE[0]}")/setup.sh"
 needs rt
@@ -40,6 +41,13 @@ mark='sim65\x02\x00\x00\x00\x0c\x00\x0c'
 printf "$mark"'\xe8\xd0\xfd\xc8\xd0\xfa\xee\x00\xc0\x4c\x00\x0c' >loop
 printf "$mark"'\xad\x00\xc0\x18\x6d\x02\xc0\x8d\x00\xc0\xad\x01\xc0\x6d\x03\xc0\x8d\x01\xc0\xce\x04\xc0\xd0\xe8\x4c\x00\x0c' >sums
 
+# The same as a PRG file, which starts at $080D: its load address and its BASIC line, 10 SYS2061.
+line='\x01\x08\x0b\x08\x0a\x00\x9e2061\x00\x00\x00'
+printf "$line"'\xe8\xd0\xfd\xc8\xd0\xfa\xee\x00\xc0\x4c\x0d\x08' >loop.prg
+printf "$line"'\xad\x00\xc0\x18\x6d\x02\xc0\x8d\x00\xc0\xad\x01\xc0\x6d\x03\xc0\x8d\x01\xc0\xce\x04\xc0\xd0\xe8\x4c\x0d\x08' >sums.prg
+ways='steps events'
+[ ! -x "$tbc" ] || ways="$ways line"
+
 # sim65 stops after a count of cycles: 514 instructions of the loop take 1284, and 9 of the sums take 35.
 cycles_of() {
     case $1 in
@@ -55,10 +63,12 @@ for name in loop sums; do
     for _ in $(seq "$rounds"); do
         timed "$name.events" "$speed" "$name" "$events"
         timed "$name.steps" "$speed" "$name" "$events" steps
+        [ ! -x "$tbc" ] || timed "$name.line" "$tbc" run --prg "$name.prg" --limit "$events" # ends at the limit
         timed "$name.sim65" sim65 -x "$cycles" "$name" # ends with a status of its own where the cycles are used up
     done
-    for way in steps events; do
+    for way in $ways; do
         awk -v name="$name" -v way="$way" -v n="$events" -v a="$(best "$name.$way")" -v b="$(best "$name.sim65")" \
-            'BEGIN { printf "%s: %.0f million %s a second, sim65 %.0f, ratio %.2f\n", name, n / a, way, n / b, b / a }'
+            'BEGIN { if (way == "line") way = "events by the command line"
+                printf "%s: %.0f million %s a second, sim65 %.0f, ratio %.2f\n", name, n / a, way, n / b, b / a }'
     done
 done

@@ -1,0 +1,48 @@
+//! A machine that stands as another one does.
+ghost use Rattle.std.specs.Prelude.{◌≡◌, IfOk};
+
+use crate::machine::{Keyboard, Machine};
+use std::alloc::Global;
+use tb_memmap::NoMemory;
+
+impl Machine {
+    /// A machine of its own that stands as this one does, but has sent these bytes, and has no room.
+    pub fn copied(&self, alloc: Global, sent: &[u8]) -> Result<Machine, NoMemory>
+        ensures { IfOk result (λ m. m ≡ record self.now { sent = sent.now; room = 0 }) }
+    {
+        Ok(Machine {
+            regs: self.regs,
+            memory: self.memory.copied(alloc)?,
+            keyboard: self.keyboard.copied(alloc)?,
+            text_taken: self.text_taken,
+            answers_taken: self.answers_taken,
+            sent: own_bytes(alloc, sent)?,
+            room: 0,
+            wrong: self.wrong,
+            home: self.home,
+            home_s: self.home_s,
+        })
+    }
+}
+
+impl Keyboard {
+    // A keyboard of its own that gives the same.
+    fn copied(&self, alloc: Global) -> Result<Keyboard, NoMemory>
+        ensures text { IfOk result (λ k. k.text.items ≡ self.now.text.items) }
+        ensures answers { IfOk result (λ k. k.answers.items ≡ self.now.answers.items) }
+    {
+        Ok(Keyboard {
+            text: own_bytes(alloc, self.text.as_slice())?,
+            answers: own_bytes(alloc, self.answers.as_slice())?,
+        })
+    }
+}
+
+fn own_bytes(alloc: Global, bytes: &[u8]) -> Result<Vec<u8>, NoMemory>
+    ensures { IfOk result (λ own. own.items ≡ bytes.now) }
+{
+    match Vec::from_slice(alloc, bytes) {
+        Ok(own) => Ok(own),
+        Err(_) => Err(NoMemory),
+    }
+}
