@@ -148,13 +148,6 @@ builds_more f fs built new address end {all} p grown ends =
           ∙ append_assoc built (items_at p.place f) (items_from (p.place + form_size f) fs) ∙ p.items;
     }
 
-pub builds_done : (built : List Entry) (address : ℕ) (all : List Entry) → BuildsTo [] built address all → built ≡ all
-builds_done built address all p = sym (append-nil built) ∙ p.items
-
-pub form_ends : (a : ℕ) (f : Form) → a ≤ 65536 → form_past a f ≡ false → a + form_size f ≤ 65536
-form_ends a (kept e) l h = ends_by a e l h
-form_ends a (long n l) le h = grind (arith, nat_tests)
-
 -- a label is added to those that are found
 only_memory : (k : AsmErrorKind) → Refuses None k → k ≡ NoMemory
 only_memory NoMemory h = refl

@@ -59,9 +59,6 @@ sign_no_term sign op rest e =
       ]
     ]
 
-operator_read : (part : Part) (sign : ℕ) (op : Operator) (rest : List ℕ) → operator part sign ≡ Some op → operator_at part (sign ∷ rest) ≡ Some (op, rest)
-operator_read part sign op rest e = rw e refl
-
 is_digit_true : (b : ℕ) → IsDigit b → is_digit b ≡ true
 is_digit_true b h = grind (arith, nat_tests)
 

@@ -32,29 +32,9 @@ is_longer (b ∷ text) e = omega arith
 abbrev pub text_behind : List ℕ → List ℕ → Option FoundItem
 text_behind bytes rest = quotation_at rest >>= λ q. Some (as_text (bytes ++ q.0, q.1))
 
-pub text_closes : (bytes tail : List ℕ) → text_behind bytes (34 ∷ tail) ≡ Some (as_text (bytes, tail))
-text_closes bytes tail = ap (λ (bytes : List ℕ). Some (as_text (bytes, tail))) (append-nil bytes)
-
-pub text_goes_on : (bytes : List ℕ) (b : ℕ) (tail : List ℕ) → b ≢ 34 → text_behind bytes (b ∷ tail) ≡ text_behind (bytes ++ b ∷ []) tail
-text_goes_on bytes b tail h = rw (not_that b 34 h) (go (quotation_at tail))
-  where
-    go : (o : Option (List ℕ × List ℕ)) → (◌>>=◌ {B = List ℕ × List ℕ} o (λ q. Some (b ∷ q.0, q.1)) >>= λ q. Some (as_text (bytes ++ q.0, q.1))) ≡ (o >>= λ q. Some (as_text ((bytes ++ b ∷ []) ++ q.0, q.1)))
-    go None = refl
-    go (Some q) = ap (λ (bytes : List ℕ). Some (as_text (bytes, q.1))) (sym (append_assoc bytes (b ∷ []) q.0))
-
 -- the rest of the items of PRINT behind those that were read
 abbrev pub printed_behind : ℕ → Bool → List Item → Option ℕ → List ℕ → Option Printed
 printed_behind k ends items large rest = items_at k ends rest >>= λ p. Some (with_items items large p)
-
-pub printed_starts : (k : ℕ) (text : List ℕ) → printed_behind k true [] None text ≡ items_at k true text
-printed_starts k text = go (items_at k true text)
-  where
-    go : (o : Option Printed) → (o >>= λ p. Some (with_items [] None p)) ≡ o
-    go None = refl
-    go (Some p) = refl
-
-pub printed_ends : (k : ℕ) (ends : Bool) (items : List Item) (large : Option ℕ) → printed_behind k ends items large [] ≡ Some (record { items = items; ends_line = ends; large = large })
-printed_ends k ends items large = rw (append-nil items, no_second large) refl
 
 or_assoc : (a b c : Option ℕ) → option_or a (option_or b c) ≡ option_or (option_or a b) c
 or_assoc None b c = refl
@@ -111,13 +91,6 @@ module _ (k : ℕ) (ends : Bool) (items : List Item) (large : Option ℕ) (rest 
 -- the rest of the variables of INPUT behind those that were read
 abbrev pub letters_behind : ℕ → List ℕ → List ℕ → Option (List ℕ)
 letters_behind k letters rest = letters_at k rest >>= λ others. Some (letters ++ others)
-
-pub letters_start : (k : ℕ) (text : List ℕ) → letters_behind k [] text ≡ letters_at k text
-letters_start k text = go (letters_at k text)
-  where
-    go : (o : Option (List ℕ)) → (o >>= λ others. Some ([] ++ others)) ≡ o
-    go None = refl
-    go (Some letters) = refl
 
 module _ (k : ℕ) (letters rest : List ℕ) (v : ℕ) (others : List ℕ) (fits : length rest ≤ k) (is : letter_at rest ≡ Some (v, others)) where
   pub shorter_by_one : length rest ≡ suc (length others)

@@ -42,15 +42,6 @@ module _ (ly : Layout) (s : State) (m m' : ℕ → ℕ) (h : HoldsState ly s m) 
   pub state_scratch : ((a : ℕ) → is_owned a ≡ true → m' a ≡ m a) → HoldsState ly s m'
   state_scratch e = state_same (λ a lo hi. e a (owned_low a lo (omega (arith, hi)))) (λ a lo hi n n'. e a (owned_low a (omega (arith, lo)) (omega (arith, hi)))) (λ a lo hi. e a (owned_note a lo hi))
 
-pub read_scratch : (u : Live) (r : Slots) (m m' : ℕ → ℕ) → u.slots ≤ 16 → ((a : ℕ) → is_owned a ≡ true → m' a ≡ m a) → HoldsLive u r m → HoldsLive u r m'
-read_scratch u r m m' few e h =
-    let low : (a : ℕ) → 0xC000 ≤ a → a ≤ 0xC061 → m' a ≡ m a = λ a lo hi. e a (owned_low a lo hi) in
-    record {
-      words = λ k lt. word_kept m m' (slot_at k) _ (low _ (omega arith) (omega (arith, lt, few))) (low _ (omega arith) (omega (arith, lt, few))) (h.words k lt);
-      held = λ q. word_kept m m' HELD _ (low _ (omega arith) (omega arith)) (low _ (omega arith) (omega arith)) (h.held q);
-      all_words = h.all_words;
-    }
-
 -- ---- a result written
 abbrev pub DestFits : Destination → Type 0
 DestFits (IntoSlot k) = k < 16

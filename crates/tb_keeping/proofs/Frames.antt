@@ -93,18 +93,6 @@ module _ (ly : Layout) (s : State) (slots : Slots) (m m' : ℕ → ℕ) (h : Hol
     all_words = lw;
   }
 
--- scratch was written
-pub scratch_written : (ly : Layout) (s : State) (slots : Slots) (m m' : ℕ → ℕ) → ((a : ℕ) → is_owned a ≡ true → m' a ≡ m a) → Holds ly s slots m → Holds ly s slots m'
-scratch_written ly s slots m m' e h =
-    let low : Same m m' 0xC000 0xC061 = λ a lo hi. e a (owned_low a lo hi) in
-    holds_with ly s slots m m' h s.vars s.column slots h.all_vars h.all_words
-    (vars_kept ly s slots m m' h (λ a lo hi. low a lo (omega (arith, hi))))
-    (words_kept ly s slots m m' h (λ a lo hi. low a (omega (arith, lo)) (omega (arith, hi))))
-    (word_kept m m' HELD _ (low _ (omega arith) (omega arith)) (low _ (omega arith) (omega arith)) h.held)
-    (low COLUMN (omega arith) (omega arith) ∙ h.column)
-    (λ a lo hi n n'. low a (omega (arith, lo)) (omega (arith, hi)))
-    (λ a lo hi. e a (owned_note a lo hi))
-
 -- a word at a place between the parts
 module _ (ly : Layout) (s : State) (slots : Slots) (m : ℕ → ℕ) (h : Holds ly s slots m) where
   pub slot_written : (k lo hi w : ℕ) → k < 16 → lo ≡ w % 256 → hi ≡ w / 256 → w < 65536 → Holds ly s (with_word slots k w) (put_word m (slot_at k) lo hi)

@@ -43,9 +43,6 @@ zeros (suc n) (suc x) = zeros n x
 cleared_low : (a : ℕ) → 0xC000 ≤ a → a ≤ 0xC036 → (within 0xc000 0xc036 a || within 0xc038 0xc03d a) ≡ true
 cleared_low a lo hi = grind (arith, nat_tests)
 
-cleared_high : (a : ℕ) → 0xC038 ≤ a → a ≤ 0xC03D → (within 0xc000 0xc036 a || within 0xc038 0xc03d a) ≡ true
-cleared_high a lo hi = grind (arith, nat_tests)
-
 zero_word : (m : ℕ → ℕ) (at : ℕ) → m at ≡ 0 → m (at + 1) ≡ 0 → WordAt m at 0
 zero_word m at l h = record { low = l; high = h; small = omega arith }
 

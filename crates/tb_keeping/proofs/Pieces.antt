@@ -56,9 +56,6 @@ forward at d b s = ap (λ t. ((at + 2) % 65536 + (if t then d else d + 65280)) %
 same_byte : (l r : ℕ) → l < 256 → r < 256 → eqb ((l + 256 - r) % 256) 0 ≡ eqb l r
 same_byte l r ls rs = ⊎_elim (λ e. eq-eqb _ _ (omega (arith, e)) ∙ sym (eq-eqb l r e)) (λ n. ne_eqb _ _ (λ z. n (omega (arith, z, ls, rs))) ∙ sym (ne_eqb l r n)) (cases_eq l r)
 
-after_itself : (a : ℕ) → a + 1 ≢ a
-after_itself a e = omega (arith, e)
-
 module _ (f : Setup) (room : ℕ) (fits : Fits f room) where
   -- one instruction, and then
   pub does : (i : Instr) (v w : View) (q : View → Type 0) (t : List ℕ) (n : ℕ) → leb (length v.stack) room ≡ true → Bytes f.code v.regs.pc (instr_bytes i) → act_instr f.code room i v ≡ Some w → Comes f w q t n → Comes f v q t (1 + n)

@@ -11,19 +11,6 @@ use Rattle.tb_reaching.specs.View.{View, Setup, At, Part, without, Holds, UnderW
 use Rattle.tb_reaching.proofs.Laws.{interrupt_sends_nothing, goes_append, lawful_after, then_arrived, then_on_the_way}
 use Rattle.tb_reaching.proofs.Act.{kept_by_interrupt}
 
--- ---- bytes but those at some places
--- what is left of a part where places are barred
-pub without_holds : (barred : ℕ → Bool) (p : Part) → Holds (without barred p) p
-without_holds barred p a b e = go (barred a) e
-  where
-    go : (t : Bool) → (if t then None else p a) ≡ Some b → p a ≡ Some b
-    go true e = cc
-    go false e = e
-
--- a byte at a place that isn't barred is left
-pub holds_without : (barred : ℕ → Bool) (p q : Part) → ((a b : ℕ) → q a ≡ Some b → barred a ≡ false) → Holds q p → Holds q (without barred p)
-holds_without barred p q apart h a b e = ap (λ t. if t then None else p a) (apart a b e) ∙ h a b e
-
 -- ---- a law that begins there
 -- all the program's bytes may be fetched
 abbrev pub opened : Setup → Setup

@@ -58,10 +58,3 @@ module _ (f : Setup) (above : f.home_s + length f.rest ≡ 255) where
 
 pub waiting_waits : (f : Setup) (s : State) → Among f IsWaiting s → status s ≡ Waits
 waiting_waits f s h = waits f h.0 s h.1 h.2.pc h.2.text
-
-pub waiting_rests : (f : Setup) → Rests (Among f IsWaiting)
-waiting_rests f = record { stays = λ s h e l. let a = waits_on f h.0 s h.1 h.2.pc h.2.text e l in ((h.0, a.0, h.2), a.1) }
-
--- RTS to the start's return address is home
-pub home_by : (f : Setup) (lo hi : ℕ) (w : View) → Homed f lo hi → w.regs.pc ≡ back_at lo hi → w.stack ≡ [] → w.regs.flags.d ≡ false → IsHome f w
-home_by f lo hi w h p s d = record { pc = p ∙ sym h.home; stack = s; binary = d }

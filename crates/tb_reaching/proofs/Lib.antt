@@ -14,5 +14,4 @@ pub mod Start
 pub mod Grows
 pub mod Ends
 pub mod HelloRuns
-pub mod Straight
 pub mod Barred

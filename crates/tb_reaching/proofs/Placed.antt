@@ -138,12 +138,3 @@ module _ (part : Part) (room : ℕ) (i : Instr) (v : View) (m : Mnemonic) (mode 
       let r = advanced v.regs mode in
       acts_so (r, (o, b) ∷ []) (h ∙ ap (λ t. if t then Ok (r, (o, b) ∷ []) else Err (Closed o)) (fixed_open o (data_fixed o d)))
       ∙ ap (λ t. if t && true then Some (record v { regs = r; mem = with_byte v.mem o b }) else None) d
-
--- JMP through a word of data, at any place
-pub jump_law : (f : Setup) (room : ℕ) (fits : Fits f room) (p : ℕ) (v : View) (q : View → Type 0) (t : List ℕ) (n : ℕ) → leb (length v.stack) room ≡ true → Bytes f.code v.regs.pc (instr_bytes (ins 0x6c p)) → is_data p ≡ true → is_data (p / 256 * 256 + (p % 256 + 1) % 256) ≡ true → Comes f (record v { regs = record v.regs { pc = word (v.mem p) (v.mem (p / 256 * 256 + (p % 256 + 1) % 256)) } }) q t n → Comes f v q t (1 + n)
-jump_law f room fits p v q t n small st low high next =
-    let hi = p / 256 * 256 + (p % 256 + 1) % 256 in
-    let read = read_view f.code v.mem in
-    let there : indirect_address read p ≡ Ok (word (v.mem p) (v.mem hi)) = known _ (v.mem p) _ (word (v.mem p) (v.mem hi)) (reads_data f.code v.mem p low) (known _ (v.mem hi) _ (word (v.mem p) (v.mem hi)) (reads_data f.code v.mem hi high) refl) in
-    placing f room fits (ins 0x6c p) v (record v { regs = record v.regs { pc = word (v.mem p) (v.mem hi) } }) q t n small st
-    (ap (λ x. elim x as (λ _. Option View) [ Ok o ↦ Some (record v { regs = record v.regs { pc = o } }) | Err e ↦ None ]) there) next

@@ -14,10 +14,6 @@ carry_at_least l h k j p q r s e = le-leb _ h (omega (arith, borrow k l (omega a
 pub carry_below : (l h k j : ℕ) → l < 256 → h < 256 → k < 256 → j < 256 → l + 256 * h < k + 256 * j → nat_le (j + bit (not (nat_le k l))) h ≡ false
 carry_below l h k j p q r s e = lt-leb _ h (omega (arith, borrow k l (omega arith) p))
 
--- ---- words
-pub same_word : (l h k j n : ℕ) → l ≡ k → h ≡ j → k < 256 → j < 256 → k + 256 * j ≡ n → (l < 256) × (h < 256) × (l + 256 * h ≡ n)
-same_word l h k j n p q r s e = (omega arith, omega arith, omega arith)
-
 -- ---- frames
 -- only these places changed
 abbrev pub Changes : (ℕ → Bool) → (ℕ → ℕ) → (ℕ → ℕ) → Type 0

@@ -37,12 +37,6 @@ input_part = part_at INPUT_AT INPUT_BYTES
 abbrev pub search_part : Part
 search_part = part_at SEARCH_AT SEARCH_BYTES
 
-abbrev pub push_part : Part
-push_part = part_at PUSH_AT PUSH_BYTES
-
-abbrev pub pop_part : Part
-pop_part = part_at POP_AT POP_BYTES
-
 abbrev pub fault_line_part : Part
 fault_line_part = part_at FAULT_LINE_AT FAULT_LINE_BYTES
 

@@ -13,11 +13,6 @@ use Rattle.tb_words.proofs.Division.{read, read_quotient}
 use Rattle.tb_words.proofs.Decimal.{at_most_five_digits}
 use Rattle.tb_words.specs.Words.{word, word_of, signed, is_negative, magnitude, negated, with_sign, differ, quotient, digits_of}
 
--- a word is below 65,536
-pub word_of_below : (z : ℤ) → word_of z < 65536
-word_of_below (pos n) = omega arith
-word_of_below (negsuc n) = omega arith
-
 -- the bits of a signed number are its word
 pub bits_are : (z : ℤ) → FitsSigned w16 z → cast_unsigned w16 z ≡ word_of z
 bits_are (pos n) f = omega (arith, f.sfits)
@@ -43,14 +38,6 @@ magnitude_is (negsuc n) f = let h = f.sfits in grind (arith, nat_tests)
 pub signed-word_of : (z : ℤ) → FitsSigned w16 z → signed (word_of z) ≡ z
 signed-word_of (pos n) f = let h = f.sfits in let t : nat_lt 32767 (n % 65536) ≡ false = grind (arith, nat_tests) in rw t (omega (arith, ints))
 signed-word_of (negsuc n) f = let h = f.sfits in let t : nat_lt 32767 (65535 - n % 65536) ≡ true = grind (arith, nat_tests) in rw t (omega (arith, ints))
-
--- a word is that of the signed number that it is read as
-pub word_of-signed : (w : ℕ) → w < 65536 → word_of (signed w) ≡ w
-word_of-signed w h = by (nat_lt 32767 w) refl
-  where
-    by : (t : Bool) → nat_lt 32767 w ≡ t → word_of (signed w) ≡ w
-    by true e = let d : pos w -ℤ pos 65536 ≡ negsuc (65535 - w) = omega (arith, ints) in rw (e, d) (omega arith)
-    by false e = rw e (omega arith)
 
 -- ---- division
 

@@ -1,0 +1,49 @@
+//! Machine code as text.
+ghost use Rattle.std.specs.Prelude.{◌≡◌, None, IfOk, IfErr, map};
+ghost use Rattle.tb_asm.specs.Names.{name_in, fold_byte};
+ghost use Rattle.tb_asm.specs.Layout.{address_in, entry_of, image_of, labels_from};
+ghost use Rattle.tb_asm.specs.Assembled.{RefusesAt, refusal};
+ghost use Rattle.tb_asm.specs.Settle.{SettlesTo};
+ghost use Rattle.tb_asm.specs.Marks.{SettleErr};
+ghost use Rattle.tb_asm.specs.Text.{items_of_text};
+ghost use Rattle.tb_asm.specs.Reads.{ReadsText};
+
+use std::alloc::Global;
+use tb_asm::{AsmError, Image, Item, Name, TextError, assemble, read_text, settle};
+
+/// `Name::read`.
+pub fn name_of(text: &[u8]) -> Option<Name>
+    ensures { result ≡ name_in (map fold_byte text.now) }
+{
+    Name::read(text)
+}
+
+/// `assemble`.
+pub fn assembled(alloc: Global, at: u16, items: &[Item]) -> Result<Image, AsmError>
+    ensures laid { IfOk result (λ image. (image.at ≡ at) × (image.bytes.items ≡ image_of at (map entry_of items.now)) × (image.labels.entries ≡ labels_from at (map entry_of items.now))) }
+    ensures refused { IfErr result (λ e. RefusesAt (refusal at (map entry_of items.now)) e.kind e.item) }
+{
+    assemble(alloc, at, items)
+}
+
+/// `Image::address_of`.
+pub fn address_of(image: &Image, name: &Name) -> Option<u16>
+    ensures { result ≡ address_in image.now.labels.entries name.now }
+{
+    image.address_of(name)
+}
+
+/// `settle`.
+pub fn settled(alloc: Global, at: u16, items: &[Item]) -> Result<Vec<Item>, AsmError>
+    ensures settled { IfOk result (λ settled. SettlesTo at (map entry_of items.now) (map entry_of settled.items)) }
+    ensures refused { IfErr result (λ e. SettleErr at (map entry_of items.now) e.kind e.item) }
+{
+    settle(alloc, at, items)
+}
+
+/// `read_text`.
+pub fn text_items(alloc: Global, text: &[u8]) -> Result<Vec<Item>, TextError>
+    ensures { ReadsText (λ items. map entry_of items.items) (items_of_text text.now) result }
+{
+    read_text(alloc, text)
+}

@@ -1,0 +1,55 @@
+//! Sources as programs.
+ghost use Rattle.std.specs.Prelude.{◌≡◌, ℕ, Option, Result, IfOk, []};
+ghost use Rattle.tb_syntax.specs.Source.{Command, Expression};
+ghost use Rattle.tb_syntax.specs.Shown.{command_of, expression_of, lines_of};
+ghost use Rattle.tb_grammar.specs.Grammar.{Whole, Reads};
+ghost use Rattle.tb_grammar.specs.Statements.{States};
+ghost use Rattle.tb_grammar.specs.Shown as shown;
+ghost use Rattle.tb_parser.specs.Answers.{Answers, InLineOne};
+ghost use Rattle.tb_parser.specs.Files.{FileRefusal, LinesAre, Outcome};
+ghost use Rattle.tb_parser.specs.Lines.{lines_of_file};
+ghost use Rattle.tb_parser.specs.Readings.{ExpressionIs};
+ghost use Rattle.tb_parser.specs.Tokens.{AreTokens};
+
+use std::alloc::Global;
+use tb_grammar::{ReadExpression, ReadStatement, Stop, read_expression, read_statement};
+use tb_parser::{Expr, NoMemory, Program, SourceError, Token, parse, parse_expr, tokens};
+
+/// `read_statement`.
+pub fn statement_of(alloc: Global, text: &[u8]) -> Result<ReadStatement, Stop>
+    ensures found { IfOk result (λ r. States text.now (command_of r.statement) r.large) }
+    ensures only { (s : Command) (large : Option ℕ) → States text.now s large → shown.Answers result (λ r. (command_of r.statement ≡ s) × (r.large ≡ large)) }
+{
+    read_statement(alloc, text)
+}
+
+/// `read_expression`.
+pub fn expression_of(alloc: Global, text: &[u8]) -> Result<ReadExpression, Stop>
+    ensures found { IfOk result (λ r. Reads Whole text.now (expression_of r.expr) r.large []) }
+    ensures only { (e : Expression) (large : Option ℕ) → Reads Whole text.now e large [] → shown.Answers result (λ r. (expression_of r.expr ≡ e) × (r.large ≡ large)) }
+{
+    read_expression(alloc, text)
+}
+
+/// `tokens`.
+pub fn tokens_of(alloc: Global, line: &[u8]) -> Result<Vec<Token<'_>>, NoMemory>
+    ensures { IfOk result (λ v. AreTokens line.now 0 v.items) }
+{
+    tokens(alloc, line)
+}
+
+/// `parse`.
+pub fn parsed(alloc: Global, source: &[u8]) -> Result<Program, SourceError>
+    ensures found { Answers lines_of result (LinesAre 1 [] (lines_of_file source.now)) }
+    ensures only { (outcome : Outcome) → LinesAre 1 [] (lines_of_file source.now) outcome → Answers lines_of result (λ said. said ≡ outcome) }
+{
+    parse(alloc, source)
+}
+
+/// `parse_expr`.
+pub fn parsed_expression(alloc: Global, text: &[u8]) -> Result<Expr, SourceError>
+    ensures found { Answers expression_of result (InLineOne (ExpressionIs text.now)) }
+    ensures only { (outcome : Result Expression FileRefusal) → InLineOne (ExpressionIs text.now) outcome → Answers expression_of result (λ said. said ≡ outcome) }
+{
+    parse_expr(alloc, text)
+}

@@ -1,0 +1,18 @@
+//! What the lower layers promise, once more and in one place: functions that only hand a call on, each with the contract
+//! of the call.
+//!
+//! A promise that says less than it did would leave the function here unproved. Wrong bodies are tried here too
+//! (`must-fail/`): what refuses them is the promise alone, and not one body's proof.
+#![tactic(auto)]
+
+mod assembler;
+mod language;
+mod meaning;
+mod opcodes;
+mod processor;
+
+pub use assembler::{address_of, assembled, name_of, settled, text_items};
+pub use language::{expression_of, parsed, parsed_expression, statement_of, tokens_of};
+pub use meaning::{lists_of, lowered, run_of, value_of, warnings_of};
+pub use opcodes::{instruction_of, length_of, opcode_of};
+pub use processor::{byte_of, flags_of, place_of_operand, stepped, stepped_quickly};

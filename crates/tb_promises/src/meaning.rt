@@ -1,0 +1,62 @@
+//! What a program means, and its slot code.
+ghost use Rattle.std.specs.Prelude.{◌≡◌, IfOk, IfErr, map};
+ghost use Rattle.tb_words.specs.Words.{word_of};
+ghost use Rattle.tb_syntax.specs.Shown as shown;
+ghost use Rattle.tb_lower.specs.Evaluation.{IsEvaluation};
+ghost use Rattle.tb_lower.specs.Interpreted.{IsRun};
+ghost use Rattle.tb_lower.specs.Lowered.{program_code};
+ghost use Rattle.tb_lower.specs.Meaning.{source_run};
+ghost use Rattle.tb_lower.specs.Missing.{missing_targets};
+ghost use Rattle.tb_lower.specs.Parts.{place_of};
+ghost use Rattle.tb_lower.specs.Refusals.{IsRefusal};
+ghost use Rattle.tb_lower.specs.Shown.{code_of};
+
+use std::alloc::{AllocError, Global};
+use tb_lower::{
+    EvalError, LowerError, SlotCode, SlotLine, SourceRun, Warning, eval, lower, run_source,
+    warnings,
+};
+use tb_syntax::{Expr, Program};
+
+/// `eval`.
+pub fn value_of(expr: &Expr, variables: &[i16; 26]) -> Result<i16, EvalError>
+    ensures { IsEvaluation (shown.expression_of expr.now) (map word_of variables.now) result }
+{
+    eval(expr, variables)
+}
+
+/// `warnings`.
+pub fn warnings_of(alloc: Global, program: &Program) -> Result<Vec<Warning>, AllocError>
+    ensures { IfOk result (λ found. map (λ w. (w.line, word_of w.target)) found.items ≡ missing_targets (shown.lines_of program.now)) }
+{
+    warnings(alloc, program)
+}
+
+/// `run_source`.
+pub fn run_of(
+    alloc: Global,
+    program: &Program,
+    seed: u16,
+    text: &[u8],
+    answers: &[u8],
+    limit: u64,
+) -> Result<SourceRun, AllocError>
+    ensures { IfOk result (λ run. IsRun (source_run (shown.lines_of program.now) seed text.now answers.now limit) run.end run.sent.items (place_of run.place) run.variables) }
+{
+    run_source(alloc, program, seed, text, answers, limit)
+}
+
+/// `lower`.
+pub fn lowered(alloc: Global, program: &Program) -> Result<SlotCode, LowerError>
+    ensures lowered { IfOk result (λ code. code_of code ≡ program_code (shown.lines_of program.now)) }
+    ensures refused { IfErr result (λ e. IsRefusal (shown.lines_of program.now) e) }
+{
+    lower(alloc, program)
+}
+
+/// `SlotCode::lines`.
+pub fn lists_of(code: &SlotCode) -> &[SlotLine]
+    ensures { result.now ≡ code.now }
+{
+    code.lines()
+}
