@@ -1,1 +1,3 @@
+pub mod Agreed
 pub mod Checked
+pub mod Emptied

@@ -1,1 +1,4 @@
 pub mod BadLines
+pub mod Verdicts
+pub mod Agreement
+pub mod Findings

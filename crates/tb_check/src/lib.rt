@@ -1,7 +1,20 @@
-//! Everything that is wrong with a source: each bad line, by the table of faults that `compile` uses.
+//! Everything that is wrong with a source, as data: each bad line, by the table of faults that `compile` uses, what
+//! is wrong with the whole, what helps, and what there is to warn of.
 #![tactic(auto)]
 
+mod advice;
 mod checking;
+mod examination;
+mod judging;
+mod lines;
+mod notes;
+mod words;
 
+pub use advice::{LineWarning, Warning, warnings};
 pub use checking::bad_lines;
+pub use examination::{BadLine, Findings, examine};
+pub use judging::{ProgramFaults, Verdict, judge};
+pub use lines::{NumberedLine, numbered_lines, texts_of_lines};
+pub use notes::{Note, note_of};
 pub use tb_parser::{NoMemory, SourceError, SourceErrorKind};
+pub use words::Missing;

@@ -29,8 +29,11 @@ fn write_wrong<W: fmt::Write>(wrong: Wrong, f: &mut fmt::Formatter<W>) -> fmt::R
     }
 }
 
-// What is wrong with a line of a source, or that no line is left.
-fn source_text(kind: SourceErrorKind) -> &'static str {
+/// What is said of a line whose expression is too deep.
+pub const TOO_DEEP: &str = "expression too deep";
+
+/// What is wrong with a line of a source, or that no line is left.
+pub fn source_text(kind: SourceErrorKind) -> &'static str {
     match kind {
         SourceErrorKind::LineTooLong => "line too long",
         SourceErrorKind::BadByte => "bad byte",
@@ -57,9 +60,7 @@ fn write_compile_error<W: fmt::Write>(
 ) -> fmt::Result {
     match error {
         CompileError::Source(error) => write_source_error(error, f),
-        CompileError::Lower(LowerError::TooDeep(line)) => {
-            write!(f, "line {line}: expression too deep")
-        }
+        CompileError::Lower(LowerError::TooDeep(line)) => { write!(f, "line {line}: {TOO_DEEP}") }
         CompileError::TooLarge(cost) => write!(f, "program too large ({cost} bytes)"),
         CompileError::Lower(LowerError::NoMemory) | CompileError::NoMemory => {
             write!(f, "out of memory")

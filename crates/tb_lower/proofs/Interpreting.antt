@@ -31,13 +31,6 @@ pub ran_then : (x : Step State) (f : State → Step State) (old mid new : Interp
 ran_then x f old mid new r h h' =
     ran_by (and_then x f) (f (state_of mid)) old mid new r (joined_then old.output.sent.items x f ∙ ap (λ q. run_then q f) h) h'
 
--- two steps, the first of which stops
-pub stopped_then : (x : Step State) (f : State → Step State) (before after : List ℕ) (why : Stop) → IsStopped (joined before x) after why → IsStopped (joined before (and_then x f)) after why
-stopped_then x f before after stop.Ended h = joined_then before x f ∙ ap (λ q. run_then q f) h
-stopped_then x f before after stop.Waits h = joined_then before x f ∙ ap (λ q. run_then q f) h
-stopped_then x f before after (stop.Fault k n) h = joined_then before x f ∙ ap (λ q. run_then q f) h
-stopped_then x f before after stop.NoMemory h = tt
-
 -- the last of eight spaces
 pub spaces : (m : ℕ) → take {A = ℕ} (8 - m) (drop {A = ℕ} m (replicate 8 32)) ≡ replicate (8 - m) 32
 spaces m = ap (take {A = ℕ} (8 - m)) (drop-replicate m 8 32) ∙ take-replicate (8 - m) (8 - m) 32 (omega arith)

@@ -9,8 +9,5 @@ pub mod Lettered
 pub mod Evaluated
 pub mod Interpreting
 pub mod Turning
-pub mod Keeps
-pub mod Visits
-pub mod Starts
 pub mod Rows
 pub mod Found

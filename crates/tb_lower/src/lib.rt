@@ -15,9 +15,10 @@ mod places;
 mod slot_code;
 mod turns;
 
-pub use evaluation::{EvalError, eval};
+pub use evaluation::{EvalError, constant, eval};
 pub use interpreter::{RunEnd, SourceRun, run_source};
 pub use lowering::{LowerError, lower};
 pub use missing::{Warning, warnings};
+pub use needs::{SLOTS, command_need};
 pub use places::Place;
 pub use slot_code::{SlotCode, SlotInstr, SlotLine};

@@ -1,0 +1,7 @@
+use Rattle.std.proofs.Common.{◌≡◌, ◌++◌}
+use Rattle.tb_syntax.specs.Shown.{lines_of}
+use Rattle.tb_check.specs.Verdicts.{deep_lines}
+use Rattle.tb_check.proofs.judging.deep_lines.Given as goal
+
+abbrev pub invariant-loop-number : goal.invariant-loop-number
+invariant-loop-number l = l.deep.items ++ deep_lines (lines_of l.number-iterator) ≡ deep_lines (lines_of l.program)

@@ -1,0 +1,6 @@
+use Rattle.tb_syntax.specs.Shown.{lines_of}
+use Rattle.tb_codegen.proofs.Small.{are_small, cost_small}
+use Rattle.tb_check.proofs.judging.judge_program.Goals as goal
+
+pub faults_of-requires : goal.faults_of-requires
+faults_of-requires c = cost_small (lines_of c.args.program) (are_small (lines_of c.args.program) c.requires.stated) c.requires.rising

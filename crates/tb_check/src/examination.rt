@@ -1,0 +1,101 @@
+//! All that there is to say of a source.
+ghost use Rattle.std.specs.Prelude.{◌≡◌, IfOk, map};
+ghost use Rattle.tb_check.specs.Findings.{AreFindings};
+
+use crate::advice::{LineWarning, warnings};
+use crate::judging::{Verdict, judge};
+use crate::lines::{NumberedLine, last_lines, numbered_lines, outdone_by, texts_of_lines};
+use crate::notes::{Note, note_of};
+use std::alloc::{AllocError, Global};
+use tb_parser::{NoMemory, SourceError};
+
+/// A bad line's first fault, with a note where there is one.
+#[derive(Clone, Copy, PartialEq, Eq, Debug, Drop)]
+pub struct BadLine {
+    pub error: SourceError,
+    pub note: Option<Note>,
+}
+
+/// All that there is to say of a source.
+#[derive(Debug, Drop)]
+pub enum Findings {
+    /// These lines are bad, in the order of the file.
+    BadLines(Vec<BadLine>),
+    /// No line is left at the end.
+    Empty,
+    /// What is wrong with its program.
+    Refused {
+        /// The lines of the file, from 1, with an expression that is too deep.
+        deep: Vec<usize>,
+        /// What the program costs, where that is too much.
+        too_large: Option<u32>,
+    },
+    /// It is compiled. The warnings are in the order of the file.
+    Accepted(Vec<LineWarning>),
+}
+
+/// Looks at a source.
+pub fn examine(alloc: Global, source: &[u8]) -> Result<Findings, NoMemory>
+    ensures { IfOk result (AreFindings source.now) }
+{
+    match judge(alloc, source)? {
+        Verdict::BadLines(errors) => Ok(Findings::BadLines(with_notes(alloc, source, &errors)?)),
+        Verdict::Empty => Ok(Findings::Empty),
+        Verdict::Refused(faults) => Ok(Findings::Refused {
+            deep: deep_lines(alloc, source, &faults.deep)?,
+            too_large: faults.too_large,
+        }),
+        Verdict::Accepted(program) => {
+            let lines = numbered_lines(alloc, source)?;
+            Ok(Findings::Accepted(warnings(alloc, &program, &lines)?))
+        }
+    }
+}
+
+// Bad lines with their notes.
+fn with_notes(
+    alloc: Global,
+    source: &[u8],
+    errors: &[SourceError],
+) -> Result<Vec<BadLine>, NoMemory>
+    ensures { IfOk result (λ lines. map (λ l. l.error) lines.items ≡ errors.now) }
+{
+    let texts = texts_of_lines(alloc, source)?;
+    let mut found = Vec::new(alloc);
+    for error in errors {
+        found.push(with_note(alloc, &texts, *error)?)?;
+    }
+    Ok(found)
+}
+
+fn with_note(alloc: Global, texts: &[&[u8]], error: SourceError) -> Result<BadLine, NoMemory>
+    ensures { IfOk result (λ line. line.error ≡ error) }
+{
+    let note = match texts.get(error.line.saturating_sub(1)) {
+        Some(text) => note_of(alloc, text, error)?,
+        None => None,
+    };
+    Ok(BadLine { error, note })
+}
+
+// The lines of a file that give these numbers their statements.
+fn deep_lines(alloc: Global, source: &[u8], numbers: &[u16]) -> Result<Vec<usize>, NoMemory> {
+    let lines = numbered_lines(alloc, source)?;
+    places(alloc, &lines, numbers)
+}
+
+// Those of the lines that give these numbers their statements.
+fn places(
+    alloc: Global,
+    lines: &[NumberedLine],
+    numbers: &[u16],
+) -> Result<Vec<usize>, AllocError> {
+    let last = last_lines(alloc, lines)?;
+    let mut found = Vec::new(alloc);
+    for line in lines {
+        if numbers.binary_search(&line.number).is_ok() && outdone_by(&last, line).is_none() {
+            found.push(line.line)?;
+        }
+    }
+    Ok(found)
+}

@@ -1,0 +1,116 @@
+//! Whether a source is compiled, and if not, all the reasons.
+ghost use Rattle.std.specs.Prelude.{◌≡◌, ◌<◌, ℕ, [], Result, IfOk};
+ghost use Rattle.tb_syntax.specs.Source.{Program as SourceProgram, numbers};
+ghost use Rattle.tb_syntax.specs.Shown.{lines_of};
+ghost use Rattle.tb_lower.specs.Cost as costs;
+ghost use Rattle.tb_parser.specs.Files.{AreStated, RisesFrom, at_end};
+ghost use Rattle.tb_refusals.specs.declared.refusals.CompileError.{CompileError};
+ghost use Rattle.tb_codegen.specs.Answers.{Makes};
+ghost use Rattle.tb_codegen.specs.declared.compiled.Compiled.{Compiled};
+ghost use Rattle.tb_check.specs.Agreement.{AgreesWith, Compiles};
+ghost use Rattle.tb_check.specs.Verdicts.{HasFaults, Judges, JudgesProgram, deep_lines, excess};
+
+use crate::checking::bad_lines;
+use std::alloc::{AllocError, Global};
+use tb_codegen::cost;
+use tb_lower::{SLOTS, command_need};
+use tb_parser::{NoMemory, SourceError, SourceErrorKind, parse};
+use tb_syntax::Program;
+
+/// The most that a program may cost.
+const MOST: u32 = 37_888;
+
+/// What is wrong with a program.
+#[derive(Debug, Drop)]
+pub struct ProgramFaults {
+    /// The numbers of the lines with an expression that is too deep.
+    pub deep: Vec<u16>,
+    /// What the program costs, where that is too much.
+    pub too_large: Option<u32>,
+}
+
+/// What becomes of a source.
+#[derive(Drop)]
+pub enum Verdict {
+    /// These lines are bad.
+    BadLines(Vec<SourceError>),
+    /// No line is left at the end.
+    Empty,
+    /// This is wrong with its program.
+    Refused(ProgramFaults),
+    /// It is compiled: its program.
+    Accepted(Program),
+}
+
+/// Judges a source.
+pub fn judge(alloc: Global, source: &[u8]) -> Result<Verdict, NoMemory>
+    ensures judged { IfOk result (Judges source.now) }
+    // What the compiler answers agrees with it.
+    ensures agrees { IfOk result (λ v. (seed : ℕ) (answer : Result Compiled CompileError) → Compiles seed source.now answer → AgreesWith v answer) }
+{
+    let bad = bad_lines(alloc, source)?;
+    if bad.is_empty() {
+        judge_lines(alloc, source)
+    } else {
+        Ok(Verdict::BadLines(bad))
+    }
+}
+
+// Judges a source without bad lines.
+fn judge_lines(alloc: Global, source: &[u8]) -> Result<Verdict, NoMemory>
+    requires { (p : SourceProgram) × Makes source.now (at_end p) }
+    ensures { IfOk result (Judges source.now) }
+{
+    match parse(alloc, source) {
+        Ok(program) => judge_program(alloc, program),
+        Err(error) => match error.kind {
+            SourceErrorKind::NoMemory => Err(AllocError),
+            _ => Ok(Verdict::Empty),
+        },
+    }
+}
+
+fn judge_program(alloc: Global, program: Program) -> Result<Verdict, NoMemory>
+    requires stated { AreStated (lines_of program) }
+    requires rising { RisesFrom 0 (numbers (lines_of program)) }
+    ensures { IfOk result (JudgesProgram (lines_of program)) }
+{
+    let faults = faults_of(alloc, &program)?;
+    Ok(if faults.deep.is_empty() && faults.too_large.is_none() {
+        Verdict::Accepted(program)
+    } else {
+        Verdict::Refused(faults)
+    })
+}
+
+fn faults_of(alloc: Global, program: &Program) -> Result<ProgramFaults, NoMemory>
+    requires { costs.cost (lines_of program.now) < 4294967296 }
+    ensures { IfOk result (HasFaults (lines_of program.now)) }
+{
+    Ok(ProgramFaults {
+        deep: deep_lines(alloc, program)?,
+        too_large: excess(program),
+    })
+}
+
+// The lines with an expression that is too deep.
+fn deep_lines(alloc: Global, program: &Program) -> Result<Vec<u16>, NoMemory>
+    ensures { IfOk result (λ deep. deep.items ≡ deep_lines (lines_of program.now)) }
+{
+    let mut deep = Vec::new(alloc);
+    for (number, statement) in program.lines() {
+        if command_need(statement) > SLOTS {
+            deep.push(*number)?;
+        }
+    }
+    Ok(deep)
+}
+
+// What a program costs, where that is too much.
+fn excess(program: &Program) -> Option<u32>
+    requires { costs.cost (lines_of program.now) < 4294967296 }
+    ensures { result ≡ excess (costs.cost (lines_of program.now)) }
+{
+    let cost = cost(program);
+    if cost > MOST { Some(cost) } else { None }
+}

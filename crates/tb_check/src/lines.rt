@@ -1,0 +1,94 @@
+//! The lines of a file.
+use std::alloc::{AllocError, Global};
+use std::collections::BTreeMap;
+use tb_parser::{LineEdit, NoMemory, SourceErrorKind, next_line, read_line};
+use tb_syntax::Statement;
+
+/// A line of a file that has a number.
+#[derive(Debug, Drop)]
+pub struct NumberedLine {
+    /// Which line of the file it is, from 1.
+    pub line: usize,
+    pub number: u16,
+    /// None where the number is bare.
+    pub statement: Option<Statement>,
+}
+
+/// The lines of a file as they stand there.
+pub fn texts_of_lines(alloc: Global, source: &[u8]) -> Result<Vec<&[u8]>, NoMemory> {
+    let mut texts = Vec::new(alloc);
+    let mut rest = source;
+    while let Some((line, behind)) = next_line(rest) {
+        texts.push(line)?;
+        rest = behind;
+    }
+    Ok(texts)
+}
+
+/// The lines of a file that have a number, in order. Bad lines are left out.
+pub fn numbered_lines(alloc: Global, source: &[u8]) -> Result<Vec<NumberedLine>, NoMemory> {
+    let mut found = Vec::new(alloc);
+    let mut rest = source;
+    let mut line = 1;
+    while let Some((text, behind)) = next_line(rest) {
+        if let Some((number, statement)) = numbered(alloc, text)? {
+            found.push(NumberedLine {
+                line,
+                number,
+                statement,
+            })?;
+        }
+        rest = behind;
+        line += 1;
+    }
+    Ok(found)
+}
+
+// A line's number and its statement, where it has them.
+fn numbered(alloc: Global, text: &[u8]) -> Result<Option<(u16, Option<Statement>)>, NoMemory> {
+    match read_line(alloc, text) {
+        Ok(LineEdit::Nothing) => Ok(None),
+        Ok(LineEdit::Set(number, statement)) => Ok(Some((number, Some(statement)))),
+        Ok(LineEdit::Delete(number)) => Ok(Some((number, None))),
+        Err(fault) => match fault.kind {
+            SourceErrorKind::NoMemory => Err(AllocError),
+            _ => Ok(None),
+        },
+    }
+}
+
+/// The last line of a file with a number.
+#[derive(Clone, Copy, Debug, Drop)]
+pub struct LastLine {
+    /// Which line of the file it is, from 1.
+    pub line: usize,
+    /// Whether the number is bare.
+    pub is_bare: bool,
+}
+
+/// The last line with each number.
+pub fn last_lines(
+    alloc: Global,
+    lines: &[NumberedLine],
+) -> Result<BTreeMap<u16, LastLine>, AllocError> {
+    let mut last = BTreeMap::new(alloc);
+    for line in lines {
+        let is_bare = line.statement.is_none();
+        last.insert(
+            line.number,
+            LastLine {
+                line: line.line,
+                is_bare,
+            },
+        )?;
+    }
+    Ok(last)
+}
+
+/// The line that takes the place of another one, where there is one.
+pub fn outdone_by(last: &BTreeMap<u16, LastLine>, line: &NumberedLine) -> Option<LastLine> {
+    match last.get(&line.number) {
+        Some(by) if by.line != line.line => Some(*by),
+        _ => None,
+    }
+}

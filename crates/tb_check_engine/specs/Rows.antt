@@ -1,0 +1,20 @@
+-- The rows that show a line of a source, and a place in it.
+use Rattle.std.specs.Prelude.{ℕ, ◌-◌, max, List, [], ◌∷◌, ◌++◌, length, map, take, replicate, nat_lt, ◌||◌, ◌==◌, if◌then◌else◌}
+
+-- a byte as it is shown: `?` below 32 and above 126
+abbrev pub shown : ℕ → ℕ
+shown b = if nat_lt b 32 || nat_lt 126 b then 63 else b
+
+-- a space, a bar, a space
+abbrev pub bar : List ℕ
+bar = 32 ∷ 124 ∷ 32 ∷ []
+
+-- the first 120 bytes of a line, behind its number at the right of five columns
+abbrev pub line_row : List ℕ → List ℕ → List ℕ
+line_row number line = replicate (5 - length number) 32 ++ number ++ bar ++ map shown (take 120 line) ++ 10 ∷ []
+
+-- a caret under a column of it, counted from 1, where it is one of the first 121
+abbrev pub caret_row : List ℕ → ℕ → List ℕ
+caret_row number column =
+    if (column == 0) || nat_lt 121 column then []
+    else replicate (max 5 (length number)) 32 ++ bar ++ replicate (column - 1) 32 ++ 94 ∷ 10 ∷ []

@@ -1,0 +1,11 @@
+//! What there is to say of sources, as a text, over any readers and any writer.
+#![tactic(auto)]
+
+mod engine;
+mod outcome;
+mod reports;
+mod rows;
+mod texts;
+
+pub use engine::Checked;
+pub use outcome::CheckOutcome;

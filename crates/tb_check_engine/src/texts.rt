@@ -1,0 +1,96 @@
+//! The texts of notes and warnings.
+use std::fmt;
+use tb_check::{Missing, Note, Warning};
+
+/// The largest bound of RND that is advised.
+const ADVISED: u32 = 30_000;
+
+/// What is said of a note.
+#[derive(Drop)]
+pub struct NoteText(pub Note);
+
+/// What is said of a warning.
+#[derive(Drop)]
+pub struct WarningText(pub Warning);
+
+// What helps where a word of other BASICs is missing.
+fn advice(missing: Missing) -> &'static str {
+    match missing {
+        Missing::For | Missing::Next | Missing::Step => "count with LET, IF and GOTO",
+        Missing::Poke | Missing::Peek => "a program has its variables and no other memory",
+        Missing::Dim => "there are the variables A to Z and no arrays",
+        Missing::Get => "INPUT takes numbers from the keyboard",
+        Missing::On => "GOTO and GOSUB take an expression, as GOTO 100*X",
+        Missing::Read | Missing::Data => "set variables with LET",
+        Missing::Def => "write the expression where it is used, or GOSUB",
+        Missing::Else => "write a second IF, or GOTO",
+        Missing::And => "an IF may stand behind an IF: IF A=1 IF B=2 GOTO 100",
+        Missing::Or => "write an IF for each side, on lines of their own",
+        Missing::Not => "turn the relation round: <> for =, >= for <",
+        Missing::Stop => "END ends the run",
+        Missing::Cls => "PRINT writes new lines",
+        Missing::Abs => "IF X<0 LET X=-X does it",
+        Missing::Tab => "a comma in PRINT goes on to the next zone of 8 columns",
+        Missing::Chr => "PRINT takes texts between quotes",
+    }
+}
+
+impl fmt::Display for NoteText {
+    fn fmt<W: fmt::Write>(&self, f: &mut fmt::Formatter<W>) -> fmt::Result {
+        match self.0 {
+            Note::Missing(missing) => {
+                write!(
+                    f,
+                    "Tiny BASIC has no {}; {}",
+                    missing.name(),
+                    advice(missing)
+                )
+            }
+            Note::QuestionMark => write!(f, "Tiny BASIC has no ? for PRINT; write PRINT or PR"),
+            Note::Colon => write!(
+                f,
+                "a line has one statement; give the next one a line of its own"
+            ),
+            Note::LongName => write!(f, "a variable's name is one letter, A to Z"),
+            Note::TextName => write!(f, "variables hold numbers alone; texts stand in PRINT"),
+            Note::ThenNumber => write!(f, "a statement follows THEN; write THEN GOTO"),
+            Note::OpenText => write!(f, "the text has no second quote"),
+            Note::Tab => write!(f, "this is a tab; write spaces"),
+            Note::ByteOrderMark => {
+                write!(
+                    f,
+                    "the file begins with a byte order mark (EF BB BF); save it without one"
+                )
+            }
+            Note::Near(statement) => write!(f, "did you mean {statement}"),
+        }
+    }
+}
+
+fn write_bound<W: fmt::Write>(bound: u16, f: &mut fmt::Formatter<W>) -> fmt::Result {
+    let times = match ADVISED.checked_div(u32::from(bound)) {
+        Some(times) => times,
+        None => 1,
+    };
+    let larger = times.saturating_mul(u32::from(bound));
+    write!(
+        f,
+        "RND({bound}): odd and even take turns; RND({larger})/{times} is better"
+    )
+}
+
+impl fmt::Display for WarningText {
+    fn fmt<W: fmt::Write>(&self, f: &mut fmt::Formatter<W>) -> fmt::Result {
+        match self.0 {
+            Warning::NoLine(target) => write!(f, "no line {target}"),
+            Warning::Replaced { number, by } => {
+                write!(f, "line {number} is replaced by line {by} of the file")
+            }
+            Warning::TakenOut { number, by } => {
+                write!(f, "line {number} is taken out by line {by} of the file")
+            }
+            Warning::RunsPast => write!(f, "runs past the last line (fault 7)"),
+            Warning::EvenBound(bound) => write_bound(bound, f),
+        }
+    }
+}
