@@ -29,6 +29,8 @@ fn show(alloc: Global, name: &str, text: &mut String) -> Result<(), Failure> {
         "host_form" => sources::show_host_form(alloc, text),
         "key_list" => sources::show_key_list(alloc, text),
         "compile" => sources::show_compile(alloc, text),
+        "make" => sources::show_make(alloc, text),
+        "bad_lines" => sources::show_bad_lines(alloc, text),
         "parse" => sources::show_parse(alloc, text),
         "parse_expr" => sources::show_parse_expr(alloc, text),
         "tokens" => sources::show_tokens(alloc, text),

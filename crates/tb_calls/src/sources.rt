@@ -2,8 +2,10 @@
 use crate::failure::Failure;
 use std::alloc::Global;
 use std::fmt::Debug;
+use tb_check::bad_lines;
 use tb_codegen::{Compiled, Options, compile};
 use tb_driver::{host_form, key_list};
+use tb_listing::{Made, make};
 use tb_lower::{SlotCode, lower, warnings};
 use tb_parser::{Program, Token, parse, parse_expr, tokens};
 
@@ -22,6 +24,9 @@ pub const SOURCES: [&[u8]; 5] = [
 
 /// The keyboard texts of the worked rows, as they are typed in.
 const KEY_LISTS: [&str; 6] = ["332c202d340d", "37303030302c300d", "350d", "58", "0d", "31"];
+
+/// Has good lines between bad ones.
+const BAD: &[u8] = b"10 PRINT 1\n20 PRINT (1\n30 END\n40 FOR I=1\n";
 
 /// Sets a variable.
 pub const ASSIGNMENT: &[u8] = b"10 A=5\n20 END\n";
@@ -110,6 +115,31 @@ pub fn show_compile(alloc: Global, text: &mut String) -> Result<(), Failure> {
         show_compile_of(alloc, source, text)?;
     }
     Ok(())
+}
+
+fn show_made(made: &Made, text: &mut String) -> Result<(), Failure> {
+    show_bytes(text, &made.prg)?;
+    for beside in [&made.labels, &made.listing, &made.map] {
+        show_letters(text, beside)?;
+    }
+    show_each(text, &made.warnings)
+}
+
+fn show_make_of(alloc: Global, source: &[u8], text: &mut String) -> Result<(), Failure> {
+    let made = make(alloc, source, 1)?;
+    show_made(&made, text)
+}
+
+pub fn show_make(alloc: Global, text: &mut String) -> Result<(), Failure> {
+    for source in SOURCES {
+        show_make_of(alloc, source, text)?;
+    }
+    Ok(())
+}
+
+pub fn show_bad_lines(alloc: Global, text: &mut String) -> Result<(), Failure> {
+    let found = bad_lines(alloc, BAD)?;
+    show_each(text, &found)
 }
 
 fn show_program(program: &Program, text: &mut String) -> Result<(), Failure> {

@@ -1,38 +1,26 @@
--- What the loops over lists and ranges have appended.
-use Rattle.std.proofs.Common.{◌≡◌, ℕ, suc, ◌+◌, ◌-◌, ◌<◌, ◌≤◌, List, ◌++◌, length, drop, get_or, map, sym, ap, ◌∙◌, arith, append_assoc, append-nil}
-use Rattle.std.specs.Prelude.{flat_map}
+-- What the loops over lists and ranges have appended. F makes a text of a list, f of each of its items.
+use Rattle.std.proofs.Common.{◌≡◌, ℕ, suc, ◌+◌, ◌-◌, ◌<◌, List, ◌∷◌, ◌++◌, length, drop, get_or, [], sym, ap, ◌∙◌, arith, append_assoc, append-nil}
 use Rattle.std.specs.List.{range_with_len}
-use Rattle.std.proofs.lemmas.List.{drop_more, drop_all}
+use Rattle.std.proofs.lemmas.List.{drop_more}
 
 -- one item more of those that are still to come
-pub more : {A : Type 0} (f : A → List ℕ) (xs : List A) (i : ℕ) (d : A) (now new whole : List ℕ) → i < length xs
-    → now ++ flat_map f (drop i xs) ≡ whole → new ≡ now ++ f (get_or xs i d) → new ++ flat_map f (drop (i + 1) xs) ≡ whole
-more f xs i d now new whole l e a =
-    let coming : List ℕ = flat_map f (drop (i + 1) xs) in
-    ap (λ t. t ++ coming) a ∙ append_assoc now (f (get_or xs i d)) coming ∙ ap (λ t. now ++ flat_map f t) (sym (drop_more xs i d l)) ∙ e
-
--- the same of what is shown of the items
-pub shown_more : {A B : Type 0} (f : B → List ℕ) (g : A → B) (xs : List A) (i : ℕ) (d : A) (now new whole : List ℕ) → i < length xs
-    → now ++ flat_map f (map g (drop i xs)) ≡ whole → new ≡ now ++ f (g (get_or xs i d)) → new ++ flat_map f (map g (drop (i + 1) xs)) ≡ whole
-shown_more f g xs i d now new whole l e a =
-    let coming : List ℕ = flat_map f (map g (drop (i + 1) xs)) in
-    ap (λ t. t ++ coming) a ∙ append_assoc now (f (g (get_or xs i d))) coming ∙ ap (λ t. now ++ flat_map f (map g t)) (sym (drop_more xs i d l)) ∙ e
-
--- none is left
-pub shown_all : {A B : Type 0} (f : B → List ℕ) (g : A → B) (xs : List A) (i : ℕ) (now whole : List ℕ) → length xs ≤ i → now ++ flat_map f (map g (drop i xs)) ≡ whole → now ≡ whole
-shown_all f g xs i now whole l e = sym (append-nil now) ∙ ap (λ t. now ++ flat_map f (map g t)) (sym (drop_all i xs l)) ∙ e
-
-pub all : {A : Type 0} (f : A → List ℕ) (xs : List A) (i : ℕ) (now whole : List ℕ) → length xs ≤ i → now ++ flat_map f (drop i xs) ≡ whole → now ≡ whole
-all f xs i now whole l e = sym (append-nil now) ∙ ap (λ t. now ++ flat_map f t) (sym (drop_all i xs l)) ∙ e
+pub more : {A : Type 0} (F : List A → List ℕ) (f : A → List ℕ) → ((x : A) (xs : List A) → F (x ∷ xs) ≡ f x ++ F xs) → (xs : List A) (i : ℕ) (d : A) (now new whole : List ℕ) → i < length xs
+    → now ++ F (drop i xs) ≡ whole → new ≡ now ++ f (get_or xs i d) → new ++ F (drop (i + 1) xs) ≡ whole
+more F f each xs i d now new whole l e a =
+    let x = get_or xs i d in let rest = drop (i + 1) xs in
+    ap (λ t. t ++ F rest) a ∙ append_assoc now (f x) (F rest) ∙ ap (λ t. now ++ t) (sym (each x rest)) ∙ ap (λ t. now ++ F t) (sym (drop_more xs i d l)) ∙ e
 
 -- the same of a range
-pub range_more : (f : ℕ → List ℕ) (i end : ℕ) (now new whole : List ℕ) → i < end
-    → now ++ flat_map f (range_with_len i (end - i)) ≡ whole → new ≡ now ++ f i → new ++ flat_map f (range_with_len (i + 1) (end - (i + 1))) ≡ whole
-range_more f i end now new whole l e a =
+pub range_more : (F : List ℕ → List ℕ) (f : ℕ → List ℕ) → ((x : ℕ) (xs : List ℕ) → F (x ∷ xs) ≡ f x ++ F xs) → (i end : ℕ) (now new whole : List ℕ) → i < end
+    → now ++ F (range_with_len i (end - i)) ≡ whole → new ≡ now ++ f i → new ++ F (range_with_len (i + 1) (end - (i + 1))) ≡ whole
+range_more F f each i end now new whole l e a =
     let n : end - i ≡ suc (end - (i + 1)) = omega arith in
-    ap (λ t. t ++ flat_map f (range_with_len (i + 1) (end - (i + 1)))) a
-    ∙ append_assoc now (f i) (flat_map f (range_with_len (i + 1) (end - (i + 1))))
-    ∙ ap (λ k. now ++ flat_map f (range_with_len i k)) (sym n) ∙ e
+    let rest = range_with_len (i + 1) (end - (i + 1)) in
+    ap (λ t. t ++ F rest) a ∙ append_assoc now (f i) (F rest) ∙ ap (λ t. now ++ t) (sym (each i rest)) ∙ ap (λ k. now ++ F (range_with_len i k)) (sym n) ∙ e
 
-pub range_all : (f : ℕ → List ℕ) (i end : ℕ) (now whole : List ℕ) → end ≤ i → now ++ flat_map f (range_with_len i (end - i)) ≡ whole → now ≡ whole
-range_all f i end now whole l e = let n : end - i ≡ 0 = omega arith in sym (append-nil now) ∙ ap (λ k. now ++ flat_map f (range_with_len i k)) (sym n) ∙ e
+-- what was appended piece by piece, from the last one on
+pub last : (t u x : List ℕ) → u ≡ t ++ x → u ≡ t ++ (x ++ [])
+last t u x e = e ∙ ap (λ z. t ++ z) (sym (append-nil x))
+
+pub before : (t u w x y : List ℕ) → u ≡ t ++ x → w ≡ u ++ y → w ≡ t ++ (x ++ y)
+before t u w x y e f = f ∙ ap (λ z. z ++ y) e ∙ append_assoc t x y

@@ -1,4 +1,6 @@
 pub mod Appending
-pub mod Built
-pub mod Reading
-pub mod Sized
+pub mod Laid
+pub mod Parts
+pub mod Short
+pub mod Sorted
+pub mod Sums

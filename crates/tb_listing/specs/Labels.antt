@@ -1,5 +1,5 @@
 -- VICE's label file: a line for each place that has a name, by rising address.
-use Rattle.std.specs.Prelude.{ℕ, ◌+◌, ◌*◌, ◌/◌, ◌%◌, List, [], ◌∷◌, ◌++◌, codes, flat_map}
+use Rattle.std.specs.Prelude.{ℕ, ◌≤◌, ◌+◌, ◌*◌, ◌/◌, ◌%◌, List, [], ◌∷◌, ◌++◌, codes, map, flat_map}
 use Rattle.std.specs.List.{range_with_len}
 use Rattle.std.specs.Fmt.{decimal}
 use Rattle.hex.specs.Hex.{encode_lower}
@@ -7,10 +7,7 @@ use Rattle.tb_runtime16.specs.Places.{VARS, NOTES, CHRIN, CHROUT, GETIN, PROLOGU
 use Rattle.tb_runtime16.specs.declared.places.Routine.{Routine}
 use Rattle.tb_runtime16.specs.declared.places.Routine.TheVariants.{Multiply, Divide, Random, Number, Text, Zone, Input, Search, Push, Pop, FaultLine, Fault, Poll}
 
--- `al C:0c00 .line10`: the line of a place
-abbrev pub label_text : List ℕ → ℕ → List ℕ
-label_text name at = codes "al C:" ++ encode_lower (at / 256 ∷ at % 256 ∷ []) ++ codes " ." ++ name ++ 10 ∷ []
-
+-- ── places: each a name and an address ──
 -- the name of a routine
 abbrev pub name_of : Routine → List ℕ
 name_of Multiply = codes "multiply"
@@ -31,34 +28,44 @@ name_of Poll = codes "poll"
 abbrev pub all_routines : List Routine
 all_routines = Multiply ∷ Divide ∷ Random ∷ Number ∷ Text ∷ Zone ∷ Input ∷ Search ∷ Push ∷ Pop ∷ FaultLine ∷ Fault ∷ Poll ∷ []
 
--- each routine where it is called
-abbrev pub routine_labels : List ℕ
-routine_labels = flat_map (λ r. label_text (name_of r) (entry_of r)) all_routines
+-- a routine where it is called
+abbrev pub routine_place : Routine → List ℕ × ℕ
+routine_place r = (name_of r, entry_of r)
 
 -- the places of the block
-abbrev pub block_labels : List ℕ
-block_labels = label_text (codes "prologue") PROLOGUE_AT ++ label_text (codes "send") SEND_AT ++ routine_labels
+abbrev pub block_places : List (List ℕ × ℕ)
+block_places = (codes "prologue", PROLOGUE_AT) ∷ (codes "send", SEND_AT) ∷ map routine_place all_routines
 
 -- a line by its number and the address where its code begins
-abbrev pub line_label : ℕ × ℕ → List ℕ
-line_label start = label_text (codes "line" ++ decimal start.0) start.1
-
--- the lines of a program
-abbrev pub line_labels : List (ℕ × ℕ) → List ℕ
-line_labels starts = flat_map line_label starts
+abbrev pub line_place : ℕ × ℕ → List ℕ × ℕ
+line_place start = (codes "line" ++ decimal start.0, start.1)
 
 -- the variable of a letter, 0 for A
-abbrev pub variable_label : ℕ → List ℕ
-variable_label i = label_text (codes "var" ++ (65 + i) ∷ []) (VARS + 2 * i)
+abbrev pub variable_place : ℕ → List ℕ × ℕ
+variable_place i = (codes "var" ++ (65 + i) ∷ [], VARS + 2 * i)
 
--- the 26 variables
-abbrev pub variable_labels : List ℕ
-variable_labels = flat_map variable_label (range_with_len 0 26)
+-- how many notes there are, and the services
+abbrev pub service_places : List (List ℕ × ℕ)
+service_places = (codes "notes", NOTES) ∷ (codes "chrin", CHRIN) ∷ (codes "chrout", CHROUT) ∷ (codes "getin", GETIN) ∷ []
 
--- the variables, how many notes there are, and the services
-abbrev pub data_labels : List ℕ
-data_labels = variable_labels ++ label_text (codes "notes") NOTES ++ label_text (codes "chrin") CHRIN ++ label_text (codes "chrout") CHROUT ++ label_text (codes "getin") GETIN
+-- the 26 variables, and what lies behind them
+abbrev pub data_places : List (List ℕ × ℕ)
+data_places = map variable_place (range_with_len 0 26) ++ service_places
 
--- a program's label file, by where its lines begin and where its line table does
-abbrev pub labels_text : List (ℕ × ℕ) → ℕ → List ℕ
-labels_text starts table = block_labels ++ line_labels starts ++ label_text (codes "line_table") table ++ data_labels
+-- a program's places, by where its lines begin and where its line table does
+abbrev pub places : List (ℕ × ℕ) → ℕ → List (List ℕ × ℕ)
+places starts table = block_places ++ (map line_place starts ++ ((codes "line_table", table) ∷ data_places))
+
+-- addresses that rise strictly, from one on
+abbrev pub Rise : ℕ → List (List ℕ × ℕ) → Type 0
+Rise low [] = Unit {0}
+Rise low (p ∷ ps) = (low ≤ p.1) × Rise (p.1 + 1) ps
+
+-- ── their text ──
+-- `al C:0c00 .line10`: the line of a place
+abbrev pub label_text : List ℕ × ℕ → List ℕ
+label_text p = codes "al C:" ++ encode_lower (p.1 / 256 ∷ p.1 % 256 ∷ []) ++ codes " ." ++ p.0 ++ 10 ∷ []
+
+-- the lines of places
+abbrev pub labels_text : List (List ℕ × ℕ) → List ℕ
+labels_text ps = flat_map label_text ps

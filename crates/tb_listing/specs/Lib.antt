@@ -1,4 +1,3 @@
 pub mod Labels
 pub mod Map
 pub mod Made
-pub mod Rows

@@ -1,6 +1,7 @@
 -- What a build makes of a source.
-use Rattle.std.specs.Prelude.{◌≡◌, ℕ, List, Ok, Err, drop}
+use Rattle.std.specs.Prelude.{◌≡◌, ℕ, ◌-◌, ◌≤◌, List, Ok, Err, drop, length, sum_by}
 use Rattle.tb_syntax.specs.Source.{Program}
+use Rattle.tb_lower.specs.Cost.{cost}
 use Rattle.tb_parser.specs.Files.{Outcome}
 use Rattle.tb_runtime16.specs.Places.{PROLOGUE_AT}
 use Rattle.tb_refusals.specs.declared.refusals.CompileError.{CompileError}
@@ -9,22 +10,29 @@ use Rattle.tb_codegen.specs.Answers.{HasOutcome, Makes, OutcomeAnswer}
 use Rattle.tb_codegen.specs.Compiled.{prg_of, starts_of, table_of, warnings_of}
 use Rattle.tb_disasm.specs.Back.{GivesBack}
 use Rattle.tb_listing.specs.declared.made.Made.{Made}
-use Rattle.tb_listing.specs.Labels.{labels_text}
-use Rattle.tb_listing.specs.Map.{map_text}
-use Rattle.std.specs.Prelude.{length, ◌-◌}
+use Rattle.tb_listing.specs.Labels.{places, labels_text, Rise}
+use Rattle.tb_listing.specs.Map.{parts, map_text}
+
+-- how many bytes the image of a compiled program has, which stand in its file behind the load address and the BASIC line
+abbrev pub image_size : Compiled → ℕ
+image_size c = length (prg_of c) - 14
 
 -- the PRG file of a compiled program, the labels of its places, a listing that gives its image back, and the map of its
--- lines: all of one compilation
+-- parts: all of one compilation
 pub record IsMade (seed : ℕ) (source : List ℕ) (made : Made) : Type 0 where
   pub compiled : Compiled
   pub answered : HasOutcome seed source (Ok compiled)
   pub only : (outcome : Outcome) → Makes source outcome → OutcomeAnswer seed outcome (Ok compiled)
   pub prg : made.prg.items ≡ prg_of compiled
-  pub labels : made.labels.items ≡ labels_text (starts_of compiled) (table_of compiled)
+  pub labels : made.labels.items ≡ labels_text (places (starts_of compiled) (table_of compiled))
+  pub sorted : Rise 0 (places (starts_of compiled) (table_of compiled))
   pub listing : GivesBack PROLOGUE_AT made.listing.items (drop 14 (prg_of compiled))
+  pub readable : length made.listing.items ≤ 1048576
   pub program : Program
   pub makes : Makes source (Ok program)
-  pub map : made.map.items ≡ map_text (starts_of compiled) (table_of compiled) (length (prg_of compiled) - 14) program
+  pub map : made.map.items ≡ map_text (starts_of compiled) (table_of compiled) (image_size compiled) program
+  pub bytes : sum_by (λ p. p.bytes) (parts (starts_of compiled) (table_of compiled) (image_size compiled) program) ≡ image_size compiled
+  pub prices : sum_by (λ p. p.price) (parts (starts_of compiled) (table_of compiled) (image_size compiled) program) ≡ cost program
   pub warnings : made.warnings.items ≡ warnings_of compiled
 
 -- the compiler's refusal

@@ -1,19 +1,44 @@
 -- The map of a program: what each of its parts takes, and what it costs.
-use Rattle.std.specs.Prelude.{ℕ, ◌+◌, ◌-◌, ◌/◌, ◌%◌, List, [], ◌∷◌, ◌++◌, codes, length, replicate, flat_map, nat_eq, if◌then◌else◌}
+use Rattle.std.specs.Prelude.{ℕ, ◌+◌, ◌-◌, ◌/◌, ◌%◌, List, [], ◌∷◌, ◌++◌, codes, drop, length, replicate, flat_map}
 use Rattle.std.specs.Fmt.{decimal}
 use Rattle.hex.specs.Hex.{encode_upper}
 use Rattle.tb_syntax.specs.Source.{Program}
 use Rattle.tb_lower.specs.Cost.{command_cost, cost}
-use Rattle.tb_runtime16.specs.Places.{PROLOGUE_AT, LINES_AT}
+use Rattle.tb_runtime16.specs.Places.{PROLOGUE_AT}
 use Rattle.tb_codegen.specs.Compiled.{most}
+use Rattle.tb_codegen.specs.Texts.{end_before}
 
--- where the code of a line begins and ends: it ends where that of the next line begins, and the last one's where the
--- line table does
-abbrev pub bounds_in : List (ℕ × ℕ) → ℕ → ℕ → ℕ × ℕ
-bounds_in [] table n = (table, table)
-bounds_in (s ∷ []) table n = if nat_eq s.0 n then (s.1, table) else (table, table)
-bounds_in (s ∷ next ∷ starts) table n = if nat_eq s.0 n then (s.1, next.1) else bounds_in (next ∷ starts) table n
+-- ── parts ──
+-- a part of a program: its name, where it begins, how many bytes it takes, and what it costs
+pub record Part : Type 0 where
+  pub name : List ℕ
+  pub at : ℕ
+  pub bytes : ℕ
+  pub price : ℕ
 
+-- the code of the first of these lines, up to where that of the next one begins, and of the last one up to the line table
+abbrev pub first_part : List (ℕ × ℕ) → ℕ → ℕ → ℕ → List Part
+first_part [] table n price = []
+first_part (s ∷ starts) table n price = record { name = codes "line " ++ decimal n; at = s.1; bytes = end_before table starts - s.1; price = price } ∷ []
+
+-- the lines, by where they begin and the line table does
+abbrev pub line_parts : List (ℕ × ℕ) → ℕ → Program → List Part
+line_parts starts table [] = []
+line_parts starts table (line ∷ lines) = first_part starts table line.number (36 + command_cost line.content) ++ line_parts (drop 1 starts) table lines
+
+-- the block, up to the first line, and what every program costs
+abbrev pub block_part : List (ℕ × ℕ) → ℕ → Part
+block_part starts table = record { name = codes "block"; at = PROLOGUE_AT; bytes = end_before table starts - PROLOGUE_AT; price = 64 }
+
+-- the line table, up to the end of an image of so many bytes
+abbrev pub table_part : ℕ → ℕ → Part
+table_part table size = record { name = codes "line_table"; at = table; bytes = PROLOGUE_AT + size - table; price = 0 }
+
+-- the parts of a program whose image has so many bytes
+abbrev pub parts : List (ℕ × ℕ) → ℕ → ℕ → Program → List Part
+parts starts table size program = block_part starts table ∷ (line_parts starts table program ++ table_part table size ∷ [])
+
+-- ── their text ──
 -- a text filled up with spaces behind it, or a number with spaces before it
 abbrev pub left : ℕ → List ℕ → List ℕ
 left width t = t ++ replicate (width - length t) 32
@@ -21,24 +46,22 @@ left width t = t ++ replicate (width - length t) 32
 abbrev pub right : ℕ → ℕ → List ℕ
 right width n = replicate (width - length (decimal n)) 32 ++ decimal n
 
--- a row: a name, an address, bytes and cost
-abbrev pub row_map : List ℕ → ℕ → ℕ → ℕ → List ℕ
-row_map name at bytes price = left 12 name ++ encode_upper (at / 256 ∷ at % 256 ∷ []) ++ right 8 bytes ++ right 8 price ++ 10 ∷ []
+-- the row of a part
+abbrev pub row_text : Part → List ℕ
+row_text p = left 12 p.name ++ encode_upper (p.at / 256 ∷ p.at % 256 ∷ []) ++ right 8 p.bytes ++ right 8 p.price ++ 10 ∷ []
 
--- the row of a line, by where lines begin and the line table does
-abbrev pub line_map : List (ℕ × ℕ) → ℕ → ℕ → ℕ → List ℕ
-line_map starts table n price = row_map (codes "line " ++ decimal n) (bounds_in starts table n).0 ((bounds_in starts table n).1 - (bounds_in starts table n).0) price
+abbrev pub rows_text : List Part → List ℕ
+rows_text ps = flat_map row_text ps
 
--- the rows of lines
-abbrev pub line_maps : List (ℕ × ℕ) → ℕ → Program → List ℕ
-line_maps starts table lines = flat_map (λ line. line_map starts table line.number (36 + command_cost line.content)) lines
+-- the whole program
+abbrev pub sum_part : ℕ → Program → Part
+sum_part size program = record { name = codes "sum"; at = PROLOGUE_AT; bytes = size; price = cost program }
 
--- the map: the block, the lines, the line table, the sums, and what is left of both rooms
+-- what is left of both rooms
+abbrev pub left_part : ℕ → Program → Part
+left_part size program = record { name = codes "left"; at = PROLOGUE_AT + size; bytes = 0xA000 - (PROLOGUE_AT + size); price = most - cost program }
+
+-- the map: a heading, the parts, their sums, and what is left
 abbrev pub map_text : List (ℕ × ℕ) → ℕ → ℕ → Program → List ℕ
-map_text starts table bytes program =
-    codes "part        addr   bytes    cost" ++ 10 ∷ []
-    ++ row_map (codes "block") PROLOGUE_AT (LINES_AT - PROLOGUE_AT) 64
-    ++ line_maps starts table program
-    ++ row_map (codes "line_table") table (PROLOGUE_AT + bytes - table) 0
-    ++ row_map (codes "sum") PROLOGUE_AT bytes (cost program)
-    ++ row_map (codes "left") (PROLOGUE_AT + bytes) (0xA000 - (PROLOGUE_AT + bytes)) (most - cost program)
+map_text starts table size program =
+    codes "part        addr   bytes    cost" ++ 10 ∷ [] ++ rows_text (parts starts table size program) ++ row_text (sum_part size program) ++ row_text (left_part size program)

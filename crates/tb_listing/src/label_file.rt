@@ -1,8 +1,8 @@
 //! The label file that VICE's monitor reads: a line for each place that has a name, by rising address.
 ghost use Rattle.std.specs.Prelude.{◌≡◌, ◌<◌, ◌++◌, OnOk, IfOk, map};
-ghost use Rattle.tb_runtime16.specs.Places.{entry_of};
+ghost use Rattle.std.specs.List.{range_with_len};
 ghost use Rattle.tb_codegen.specs.Compiled.{pair_of};
-ghost use Rattle.tb_listing.specs.Labels.{name_of, label_text, line_label, variable_label, routine_labels, variable_labels, block_labels, line_labels, data_labels, labels_text};
+ghost use Rattle.tb_listing.specs.Labels.{name_of, all_routines, routine_place, line_place, variable_place, block_places, data_places, places, label_text, labels_text};
 
 use hex::encode;
 use std::alloc::{AllocError, Global};
@@ -13,11 +13,11 @@ use tb_runtime16::{BLOCK_AT, NOTES, Routine, SEND_AT, VARS, entry};
 const VARIABLES: u16 = 26;
 
 // The services of the ROM that a program calls.
-const CHRIN: u16 = 0xffcf;
+pub const CHRIN: u16 = 0xffcf;
 
-const CHROUT: u16 = 0xffd2;
+pub const CHROUT: u16 = 0xffd2;
 
-const GETIN: u16 = 0xffe4;
+pub const GETIN: u16 = 0xffe4;
 
 /// The routines by rising address.
 pub const ROUTINES: [Routine; 13] = [
@@ -38,7 +38,7 @@ pub const ROUTINES: [Routine; 13] = [
 
 /// The label file of a program whose lines begin at these places, with its line table at `table`.
 pub fn labels(alloc: Global, starts: &[LineStart], table: u16) -> Result<Vec<u8>, AllocError>
-    ensures { IfOk result (λ text. text.items ≡ labels_text (map pair_of starts.now) table) }
+    ensures { IfOk result (λ text. text.items ≡ labels_text (places (map pair_of starts.now) table)) }
 {
     let mut text = Vec::new(alloc);
     push_block(alloc, &mut text)?;
@@ -50,7 +50,7 @@ pub fn labels(alloc: Global, starts: &[LineStart], table: u16) -> Result<Vec<u8>
 
 // Appends the line of a place.
 fn push_label(alloc: Global, text: &mut Vec<u8>, name: &[u8], at: u16) -> Result<(), AllocError>
-    ensures { OnOk result (text.new.items ≡ text.old.items ++ label_text name.now at) }
+    ensures { OnOk result (text.new.items ≡ text.old.items ++ label_text (name.now, at)) }
 {
     text.extend_from_slice(b"al C:")?;
     text.extend_from_slice(encode(alloc, at.to_be_bytes())?.as_bytes())?;
@@ -61,15 +61,16 @@ fn push_label(alloc: Global, text: &mut Vec<u8>, name: &[u8], at: u16) -> Result
 
 // Appends the places of the block.
 fn push_block(alloc: Global, text: &mut Vec<u8>) -> Result<(), AllocError>
-    ensures { OnOk result (text.new.items ≡ text.old.items ++ block_labels) }
+    ensures { OnOk result (text.new.items ≡ text.old.items ++ labels_text block_places) }
 {
     push_label(alloc, text, b"prologue", BLOCK_AT)?;
     push_label(alloc, text, b"send", SEND_AT)?;
-    push_routines(alloc, text)
+    push_routines(alloc, text)?;
+    Ok(())
 }
 
 fn push_routines(alloc: Global, text: &mut Vec<u8>) -> Result<(), AllocError>
-    ensures { OnOk result (text.new.items ≡ text.old.items ++ routine_labels) }
+    ensures { OnOk result (text.new.items ≡ text.old.items ++ labels_text (map routine_place all_routines)) }
 {
     for routine in ROUTINES {
         push_label(alloc, text, name(routine), entry(routine))?;
@@ -100,7 +101,7 @@ pub fn name(routine: Routine) -> &'static [u8]
 
 // Appends where the code of each line begins.
 fn push_lines(alloc: Global, text: &mut Vec<u8>, starts: &[LineStart]) -> Result<(), AllocError>
-    ensures { OnOk result (text.new.items ≡ text.old.items ++ line_labels (map pair_of starts.now)) }
+    ensures { OnOk result (text.new.items ≡ text.old.items ++ labels_text (map line_place (map pair_of starts.now))) }
 {
     for start in starts {
         push_line(alloc, text, start.number, start.at)?;
@@ -109,7 +110,7 @@ fn push_lines(alloc: Global, text: &mut Vec<u8>, starts: &[LineStart]) -> Result
 }
 
 fn push_line(alloc: Global, text: &mut Vec<u8>, number: u16, at: u16) -> Result<(), AllocError>
-    ensures { OnOk result (text.new.items ≡ text.old.items ++ line_label (number, at)) }
+    ensures { OnOk result (text.new.items ≡ text.old.items ++ label_text (line_place (number, at))) }
 {
     let name = format!(in alloc; "line{number}")?;
     push_label(alloc, text, name.as_bytes(), at)
@@ -117,17 +118,18 @@ fn push_line(alloc: Global, text: &mut Vec<u8>, number: u16, at: u16) -> Result<
 
 // Appends the variables, the count of notes, and the services.
 fn push_data(alloc: Global, text: &mut Vec<u8>) -> Result<(), AllocError>
-    ensures { OnOk result (text.new.items ≡ text.old.items ++ data_labels) }
+    ensures { OnOk result (text.new.items ≡ text.old.items ++ labels_text data_places) }
 {
     push_variables(alloc, text)?;
     push_label(alloc, text, b"notes", NOTES)?;
     push_label(alloc, text, b"chrin", CHRIN)?;
     push_label(alloc, text, b"chrout", CHROUT)?;
-    push_label(alloc, text, b"getin", GETIN)
+    push_label(alloc, text, b"getin", GETIN)?;
+    Ok(())
 }
 
 fn push_variables(alloc: Global, text: &mut Vec<u8>) -> Result<(), AllocError>
-    ensures { OnOk result (text.new.items ≡ text.old.items ++ variable_labels) }
+    ensures { OnOk result (text.new.items ≡ text.old.items ++ labels_text (map variable_place (range_with_len 0 26))) }
 {
     'variables: for index in 0..VARIABLES {
         push_variable(alloc, text, index)?;
@@ -137,7 +139,7 @@ fn push_variables(alloc: Global, text: &mut Vec<u8>) -> Result<(), AllocError>
 
 fn push_variable(alloc: Global, text: &mut Vec<u8>, index: u16) -> Result<(), AllocError>
     requires { index < 26 }
-    ensures { OnOk result (text.new.items ≡ text.old.items ++ variable_label index) }
+    ensures { OnOk result (text.new.items ≡ text.old.items ++ label_text (variable_place index)) }
 {
     push_label(
         alloc,

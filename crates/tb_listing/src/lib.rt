@@ -2,15 +2,17 @@
 #![tactic(auto)]
 
 mod label_file;
+mod labelled;
 mod listing;
 mod made;
 mod map;
-mod rows;
+mod marks;
+mod names;
+mod pieces;
 mod sources;
 
 pub use label_file::labels;
 pub use listing::list;
 pub use made::{Made, make};
 pub use map::chart;
-pub use rows::Row;
 pub use tb_codegen::CompileError;

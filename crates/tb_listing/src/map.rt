@@ -1,15 +1,16 @@
 //! The map of a program: where each part lies, what it takes and what it costs.
-ghost use Rattle.std.specs.Prelude.{◌≡◌, ◌≤◌, ◌<◌, ◌+◌, ◌-◌, ◌++◌, IfOk, OnOk, map, length, replicate};
+ghost use Rattle.std.specs.Prelude.{◌≡◌, ◌≤◌, ◌+◌, ◌-◌, ◌++◌, ◌∷◌, [], IfOk, OnOk, map, drop, length, replicate};
 ghost use Rattle.tb_syntax.specs.Shown.{lines_of};
 ghost use Rattle.tb_lower.specs.Cost as lower;
 ghost use Rattle.tb_runtime16.specs.Places.{PROLOGUE_AT};
 ghost use Rattle.tb_codegen.specs.Compiled.{pair_of, prg_of, starts_of, table_of};
-ghost use Rattle.tb_listing.specs.Map.{bounds_in, left, right, row_map, line_map, line_maps, map_text};
+ghost use Rattle.tb_codegen.specs.Texts.{end_before};
+ghost use Rattle.tb_listing.specs.Map.{left, right, row_text, rows_text, first_part, line_parts, block_part, table_part, map_text};
 
 use hex::encode_upper;
 use std::alloc::{AllocError, Global};
 use tb_codegen::{Compiled, LineStart, line_cost};
-use tb_runtime16::{BLOCK_AT, LINES_AT};
+use tb_runtime16::BLOCK_AT;
 use tb_syntax::Program;
 
 /// The most that a program may cost.
@@ -35,38 +36,51 @@ pub fn chart(alloc: Global, compiled: &Compiled, program: &Program) -> Result<Ve
     requires ends { PROLOGUE_AT + (length (prg_of compiled.now) - 14) ≤ 0xA000 }
     ensures { IfOk result (λ text. text.items ≡ map_text (starts_of compiled.now) (table_of compiled.now) (length (prg_of compiled.now) - 14) (lines_of program.now)) }
 {
-    let bytes = compiled.prg().len().saturating_sub(HEADER);
-    let table = compiled.table();
-    let mut text = Vec::new(alloc);
-    text.extend_from_slice(b"part        addr   bytes    cost\n")?;
-    push_row(
-        alloc,
-        &mut text,
-        b"block",
-        BLOCK_AT,
-        usize::from(LINES_AT - BLOCK_AT),
-        BASE,
-    )?;
-    let cost = push_lines(alloc, &mut text, compiled.starts(), table, program)?;
-    let end = usize::from(BLOCK_AT) + bytes;
-    push_row(
-        alloc,
-        &mut text,
-        b"line_table",
-        table,
-        end.saturating_sub(usize::from(table)),
-        0,
-    )?;
-    push_row(alloc, &mut text, b"sum", BLOCK_AT, bytes, cost)?;
-    push_row(
-        alloc,
-        &mut text,
-        b"left",
-        end as u16,
-        END - end,
-        MOST - cost,
-    )?;
+    let size = compiled.prg().len().saturating_sub(HEADER);
+    let end = usize::from(BLOCK_AT) + size;
+    let mut text = Vec::from_slice(alloc, b"part        addr   bytes    cost\n")?;
+    let cost = push_parts(alloc, &mut text, compiled, size, program)?;
+    push_row(alloc, &mut text, b"sum", BLOCK_AT, size, cost)?;
+    let (left, budget) = (END - end, MOST - cost);
+    push_row(alloc, &mut text, b"left", end as u16, left, budget)?;
     Ok(text)
+}
+
+// Appends the rows of the parts of a program whose image has so many bytes, and answers its cost.
+fn push_parts(
+    alloc: Global,
+    text: &mut Vec<u8>,
+    compiled: &Compiled,
+    size: usize,
+    program: &Program,
+) -> Result<u32, AllocError>
+    requires small { lower.cost (lines_of program.now) ≤ 37888 }
+    requires ends { PROLOGUE_AT + size ≤ 0xA000 }
+    ensures sum { IfOk result (λ sum. sum ≡ lower.cost (lines_of program.now)) }
+    ensures rows { OnOk result (text.new.items ≡ text.old.items ++ (row_text (block_part (starts_of compiled.now) (table_of compiled.now)) ++ (rows_text (line_parts (starts_of compiled.now) (table_of compiled.now) (lines_of program.now)) ++ row_text (table_part (table_of compiled.now) size)))) }
+{
+    push_row(alloc, text, b"block", BLOCK_AT, block_size(compiled), BASE)?;
+    let (starts, table) = (compiled.starts(), compiled.table());
+    let cost = push_lines(alloc, text, starts, table, program)?;
+    let rest = table_size(table, size);
+    push_row(alloc, text, b"line_table", table, rest, 0)?;
+    Ok(cost)
+}
+
+// How many bytes the block takes, up to the first line.
+fn block_size(compiled: &Compiled) -> usize
+    ensures { result ≡ end_before (table_of compiled.now) (starts_of compiled.now) - PROLOGUE_AT }
+{
+    let end = end_before(compiled.table(), compiled.starts());
+    usize::from(end.saturating_sub(BLOCK_AT))
+}
+
+// How many bytes the line table takes in an image of so many.
+fn table_size(table: u16, size: usize) -> usize
+    requires { PROLOGUE_AT + size ≤ 0xA000 }
+    ensures { result ≡ PROLOGUE_AT + size - table }
+{
+    (usize::from(BLOCK_AT) + size).saturating_sub(usize::from(table))
 }
 
 // Appends the rows of the lines, and answers the cost of the program.
@@ -78,19 +92,21 @@ fn push_lines(
     program: &Program,
 ) -> Result<u32, AllocError>
     requires { lower.cost (lines_of program.now) ≤ 37888 }
-    ensures { IfOk result (λ sum. (sum ≡ lower.cost (lines_of program.now)) × (text.new.items ≡ text.old.items ++ line_maps (map pair_of starts.now) table (lines_of program.now))) }
+    ensures { IfOk result (λ sum. (sum ≡ lower.cost (lines_of program.now)) × (text.new.items ≡ text.old.items ++ rows_text (line_parts (map pair_of starts.now) table (lines_of program.now)))) }
 {
     let mut sum = BASE;
+    let mut rest = starts;
     for (number, statement) in program.lines() {
         let cost = line_cost(statement);
-        push_line(alloc, text, starts, table, *number, cost)?;
+        push_first(alloc, text, rest, table, *number, cost)?;
+        rest = behind_first(rest);
         sum += cost;
     }
     Ok(sum)
 }
 
-// Appends the row of a line.
-fn push_line(
+// Appends the row of the first of these lines.
+fn push_first(
     alloc: Global,
     text: &mut Vec<u8>,
     starts: &[LineStart],
@@ -98,36 +114,39 @@ fn push_line(
     number: u16,
     cost: u32,
 ) -> Result<(), AllocError>
-    ensures { OnOk result (text.new.items ≡ text.old.items ++ line_map (map pair_of starts.now) table number cost) }
+    ensures { OnOk result (text.new.items ≡ text.old.items ++ rows_text (first_part (map pair_of starts.now) table number cost)) }
 {
-    let (from, to) = bounds_in(starts, table, number);
+    let [first, behind @ ..] = starts else {
+        return Ok(());
+    };
     let name = format!(in alloc; "line {number}")?;
+    let bytes = end_before(table, behind).saturating_sub(first.at);
     push_row(
         alloc,
         text,
         name.as_bytes(),
-        from,
-        usize::from(to.saturating_sub(from)),
+        first.at,
+        usize::from(bytes),
         cost,
     )
 }
 
-// Where the code of a line begins and ends.
-fn bounds_in(starts: &[LineStart], table: u16, number: u16) -> (u16, u16)
-    ensures { result ≡ bounds_in (map pair_of starts.now) table number }
+fn behind_first(starts: &[LineStart]) -> &[LineStart]
+    ensures { map pair_of result.now ≡ drop 1 (map pair_of starts.now) }
 {
     match starts {
-        [] => (table, table),
-        [only] => if only.number == number {
-            (only.at, table)
-        } else {
-            (table, table)
-        },
-        [first, next, ..] => if first.number == number {
-            (first.at, next.at)
-        } else {
-            bounds_in(&starts[1..], table, number)
-        },
+        [] => starts,
+        [_, behind @ ..] => behind,
+    }
+}
+
+// Where the code before these lines ends.
+fn end_before(table: u16, starts: &[LineStart]) -> u16
+    ensures { result ≡ end_before table (map pair_of starts.now) }
+{
+    match starts {
+        [] => table,
+        [first, ..] => first.at,
     }
 }
 
@@ -140,7 +159,7 @@ fn push_row(
     bytes: usize,
     cost: u32,
 ) -> Result<(), AllocError>
-    ensures { OnOk result (text.new.items ≡ text.old.items ++ row_map name.now at bytes cost) }
+    ensures { OnOk result (text.new.items ≡ text.old.items ++ row_text (record { name = name.now; at = at; bytes = bytes; price = cost })) }
 {
     push_left(text, name)?;
     text.extend_from_slice(encode_upper(alloc, at.to_be_bytes())?.as_bytes())?;

@@ -1,8 +1,7 @@
 use Rattle.std.proofs.Common.{◌≡◌, ◌++◌, drop, map}
 use Rattle.tb_codegen.specs.Compiled.{pair_of}
-use Rattle.tb_listing.specs.Labels.{line_label}
-use Rattle.std.specs.Prelude.{flat_map}
+use Rattle.tb_listing.specs.Labels.{line_place, labels_text}
 use Rattle.tb_listing.proofs.label_file.push_lines.Given as goal
 
 abbrev pub invariant-loop-start : goal.invariant-loop-start
-invariant-loop-start l = l.text.items ++ flat_map line_label (map pair_of (drop l.start-index l.starts)) ≡ l.initial.text.items ++ flat_map line_label (map pair_of l.starts)
+invariant-loop-start l = l.text.items ++ labels_text (map line_place (map pair_of (drop l.start-index l.starts))) ≡ l.initial.text.items ++ labels_text (map line_place (map pair_of l.starts))

@@ -1,29 +1,37 @@
-use Rattle.std.proofs.Common.{◌∙◌, Ok, length, ◌-◌}
+use Rattle.std.proofs.Common.{◌∙◌, Ok}
 use Rattle.tb_syntax.specs.Shown.{lines_of}
-use Rattle.tb_codegen.specs.Compiled.{prg_of}
-use Rattle.tb_listing.specs.Labels.{labels_text}
-use Rattle.tb_listing.proofs.Sized.{image_ends, image_fits}
+use Rattle.tb_codegen.specs.Compiled.{IsCompiled, starts_of, table_of}
+use Rattle.tb_listing.specs.Labels.{places, labels_text}
+use Rattle.tb_listing.specs.Made.{image_size}
+use Rattle.tb_listing.proofs.Laid.{are_laid}
+use Rattle.tb_listing.proofs.Sorted.{places_rise}
+use Rattle.tb_listing.proofs.Sums.{bytes_add_up, prices_add_up}
 use Rattle.tb_listing.proofs.made.make.Goals as goal
 
-pub list-requires-clause-fits : goal.list-requires-clause-fits
-list-requires-clause-fits c =
-    image_fits (length (prg_of c.in_ok-compiled.compiled) - 14)
-    (image_ends c.args.seed (lines_of c.in-Ok.program) c.in_ok-compiled.compiled (c.in_ok-compiled.ensures.only (Ok (lines_of c.in-Ok.program)) c.in-Ok.ensures.found))
+pub list-requires-clause-ends : goal.list-requires-clause-ends
+list-requires-clause-ends c = (are_laid c.args.seed c.in-Ok.program c.in_ok-compiled.compiled c.in-Ok.ensures.stated c.in-Ok.ensures.rising (c.in_ok-compiled.ensures.only (Ok (lines_of c.in-Ok.program)) c.in-Ok.ensures.found)).ends
 
 pub chart-requires-clause-ends : goal.chart-requires-clause-ends
-chart-requires-clause-ends c =
-    image_ends c.args.seed (lines_of c.in-Ok.program) c.in_ok-compiled.compiled (c.in_ok-compiled.ensures.only (Ok (lines_of c.in-Ok.program)) c.in-Ok.ensures.found)
+chart-requires-clause-ends c = (are_laid c.args.seed c.in-Ok.program c.in_ok-compiled.compiled c.in-Ok.ensures.stated c.in-Ok.ensures.rising (c.in_ok-compiled.ensures.only (Ok (lines_of c.in-Ok.program)) c.in-Ok.ensures.found)).ends
 
 pub returns-clause-made : goal.returns-clause-made
-returns-clause-made c = record {
-  compiled = c.in_ok-compiled.compiled;
-  answered = c.in_ok-compiled.ensures.found;
-  only = c.in_ok-compiled.ensures.only;
-  prg = c.in_ok-from_slice.ensures.items ∙ c.prg.ensures;
-  labels = c.in_ok-labels.ensures ∙ (λ i. labels_text (c.starts.ensures i) (c.table.ensures i));
-  listing = c.in_ok-list.ensures;
-  program = lines_of c.in-Ok.program;
-  makes = c.in-Ok.ensures.found;
-  map = c.in_ok-chart.ensures;
-  warnings = c.in_ok-from_slice-2.ensures.items ∙ c.warnings.ensures;
-}
+returns-clause-made c =
+    let compiled = c.in_ok-compiled.compiled in
+    let is : IsCompiled c.args.seed (lines_of c.in-Ok.program) compiled = c.in_ok-compiled.ensures.only (Ok (lines_of c.in-Ok.program)) c.in-Ok.ensures.found in
+    let laid = are_laid c.args.seed c.in-Ok.program compiled c.in-Ok.ensures.stated c.in-Ok.ensures.rising is in
+    record {
+      compiled = compiled;
+      answered = c.in_ok-compiled.ensures.found;
+      only = c.in_ok-compiled.ensures.only;
+      prg = c.in_ok-from_slice.ensures.items ∙ c.prg.ensures;
+      labels = c.in_ok-labels.ensures ∙ (λ i. labels_text (places (c.starts.ensures i) (c.table.ensures i)));
+      sorted = places_rise (starts_of compiled) (table_of compiled) (image_size compiled) laid;
+      listing = c.in_ok-list.ensures.back;
+      readable = c.in_ok-list.ensures.readable;
+      program = lines_of c.in-Ok.program;
+      makes = c.in-Ok.ensures.found;
+      map = c.in_ok-chart.ensures;
+      bytes = bytes_add_up (starts_of compiled) (table_of compiled) (image_size compiled) (lines_of c.in-Ok.program) laid is.lines;
+      prices = prices_add_up (starts_of compiled) (table_of compiled) (image_size compiled) (lines_of c.in-Ok.program) is.lines;
+      warnings = c.in_ok-from_slice-2.ensures.items ∙ c.warnings.ensures;
+    }

@@ -2,11 +2,11 @@ use Rattle.std.proofs.Common.{◌≡◌, ◌+◌, ◌++◌, map, sum_by}
 use Rattle.tb_syntax.specs.Shown.{lines_of}
 use Rattle.tb_lower.specs.Cost.{command_cost, cost}
 use Rattle.tb_codegen.specs.Compiled.{pair_of}
-use Rattle.tb_listing.specs.Map.{line_maps}
+use Rattle.tb_listing.specs.Map.{line_parts, rows_text}
 use Rattle.tb_listing.proofs.map.push_lines.Given as goal
 
 abbrev pub invariant-loop-number : goal.invariant-loop-number
 invariant-loop-number l = record {
   costs : l.sum + sum_by (λ line. 36 + command_cost line.content) (lines_of l.number-iterator) ≡ cost (lines_of l.program);
-  rows : l.text.items ++ line_maps (map pair_of l.starts) l.table (lines_of l.number-iterator) ≡ l.initial.text.items ++ line_maps (map pair_of l.starts) l.table (lines_of l.program);
+  rows : l.text.items ++ rows_text (line_parts (map pair_of l.rest) l.table (lines_of l.number-iterator)) ≡ l.initial.text.items ++ rows_text (line_parts (map pair_of l.starts) l.table (lines_of l.program));
 }

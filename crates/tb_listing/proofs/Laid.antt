@@ -1,0 +1,84 @@
+-- Where the parts of a compiled program lie: the block, its lines, and the line table behind them.
+use Rattle.std.proofs.Common.{◌≡◌, ℕ, ◌+◌, ◌-◌, ◌≤◌, List, [], ◌∷◌, ◌++◌, length, ap, sym, subst, ◌∙◌, arith, refl, length-append}
+use Rattle.std.specs.Prelude.{unwrap_or}
+use Rattle.tb_asm.specs.declared.names.Name.{Name}
+use Rattle.tb_asm.specs.Layout.{labels_from, image_of, size}
+use Rattle.tb_asm.specs.Settle.{Form, items_from}
+use Rattle.tb_asm.proofs.Laws.{all_size}
+use Rattle.tb_asm.proofs.Settled.{settled_reaches}
+use Rattle.tb_syntax.specs.Source.{Numbered, Program, numbers}
+use Rattle.tb_syntax.specs.Shown.{lines_of}
+use Rattle.tb_syntax.specs.declared.statements.Statement.{Statement}
+use Rattle.tb_lower.specs.Lowered as lowered
+use Rattle.tb_lower.specs.Slots.{Instr}
+use Rattle.tb_lower.proofs.Ranged.{in_range}
+use Rattle.tb_parser.specs.Files.{AreStated, RisesFrom}
+use Rattle.tb_prg.specs.Prg.{header}
+use Rattle.tb_runtime16.specs.Places.{PROLOGUE_AT, LINES_AT}
+use Rattle.tb_settling.specs.Settled.{AreFormsOf}
+use Rattle.tb_settling.proofs.Forms.{forms_size, items_size, size_append, split, settled_by}
+use Rattle.tb_templates.specs.declared.labels.Target.TheVariants.{Line}
+use Rattle.tb_templates.specs.Labels.{label_of}
+use Rattle.tb_templates.specs.Layout.{LabelsAt}
+use Rattle.tb_templates.specs.Program.{line_code, lines_code, past_code, find_code, table_code, block_code, program_code}
+use Rattle.tb_templates.proofs.Settled.{Sections, sections, labels_behind, line_at, some_bytes, total_size}
+use Rattle.tb_templates.proofs.Taken.{block_size}
+use Rattle.tb_codegen.specs.declared.compiled.Compiled.{Compiled}
+use Rattle.tb_codegen.specs.Compiled.{IsCompiled, StartsRise, prg_of, starts_of, table_of, starts_in, stands_at}
+use Rattle.tb_codegen.proofs.Sized.{IsSettling, settling}
+
+-- lines that begin one behind the other from $0C00 on, and a line table behind them in an image of so many bytes
+pub record AreLaid (starts : List (ℕ × ℕ)) (table bytes : ℕ) : Type 0 where
+  pub rising : StartsRise LINES_AT (starts ++ (0, table) ∷ [])
+  pub within : table ≤ PROLOGUE_AT + bytes
+  pub ends : PROLOGUE_AT + bytes ≤ 0xA000
+
+starts_low : (low low' : ℕ) (starts : List (ℕ × ℕ)) → low ≤ low' → StartsRise low' starts → StartsRise low starts
+starts_low low low' [] l h = tt
+starts_low low low' (s ∷ starts) l h = (omega (arith, l, h.0), h.1)
+
+-- lines begin one behind the other, and what lies behind their code comes behind them
+lines_rise : (labels : List (Name × ℕ)) (ns : List ℕ) (seed a : ℕ) (p : Program) (fs : List Form) (end : ℕ) → AreFormsOf (lines_code ns seed (lowered.program_code p)) fs → LabelsAt labels a (items_from a fs) → a + forms_size fs ≤ end
+    → StartsRise a (starts_in labels (numbers p) ++ (0, end) ∷ [])
+lines_rise labels ns seed a [] fs end h l le = (omega (arith, le), tt)
+lines_rise labels ns seed a (line ∷ lines) fs end h l le =
+    let own : Numbered (List Instr) = record { number = line.number; content = lowered.list_code line.content } in
+    let s = split (line_code ns seed own) (lines_code ns seed (lowered.program_code lines)) fs h in
+    let ls = labels_behind labels a fs s.front s.back s.are l in
+    let there : stands_at labels (label_of (Line line.number)) ≡ a = ap (λ o. unwrap_or o 0) (line_at labels ns seed a own s.front s.of_front ls.0) in
+    let long = some_bytes ns seed line.number (lowered.command_code line.content) s.front s.of_front in
+    let all = total_size a fs s.front s.back s.are in
+    let b = a + forms_size s.front in (
+      omega (arith, there),
+      starts_low (stands_at labels (label_of (Line line.number)) + 1) b (starts_in labels (numbers lines) ++ (0, end) ∷ []) (omega (arith, there, long))
+          (lines_rise labels ns seed b lines s.back end s.of_back ls.1 (omega (arith, all, le))),
+    )
+
+pub are_laid : (seed : ℕ) (ls : List (ℕ × Statement)) (c : Compiled) → AreStated (lines_of ls) → RisesFrom 0 (numbers (lines_of ls)) → IsCompiled seed (lines_of ls) c → AreLaid (starts_of c) (table_of c) (length (prg_of c) - 14)
+are_laid seed ls c stated rises h =
+    let p = lines_of ls in
+    let code = lowered.program_code p in
+    let ns = numbers code in
+    let s : IsSettling seed code = settling seed p code refl stated rises (in_range ls code h.shallow refl) h.small in
+    let labels = labels_from PROLOGUE_AT h.items in
+    let g : Sections seed code h.items labels = sections seed code s.lists s.rising h.items (settled_by PROLOGUE_AT (program_code seed code) h.items h.settled (settled_reaches PROLOGUE_AT (program_code seed code) h.items h.settled)) in
+    let own = items_from LINES_AT g.lines in
+    let past = past_code ns in let find = find_code ns in let rows = table_code ns in
+    let table : table_of c ≡ LINES_AT + forms_size g.lines + size past + size find = ap (λ o. unwrap_or o 0) (sym h.table ∙ g.table) in
+    let all : size h.items ≡ size block_code + (size own + (size past + (size find + size rows))) =
+    ap size g.are ∙ size_append block_code (own ++ (past ++ (find ++ rows))) ∙ ap (λ n. size block_code + n) (size_append own (past ++ (find ++ rows)) ∙ ap (λ n. size own + n) (size_append past (find ++ rows) ∙ ap (λ n. size past + n) (size_append find rows))) in
+    let own_size : size own ≡ forms_size g.lines = items_size LINES_AT g.lines in
+    let file : length (prg_of c) ≡ length header + length (image_of PROLOGUE_AT h.items) = ap length h.prg ∙ length-append header (image_of PROLOGUE_AT h.items) in
+    let image : length (image_of PROLOGUE_AT h.items) ≡ size h.items = all_size labels PROLOGUE_AT h.items in
+    record {
+      rising = subst (λ ss. StartsRise LINES_AT (ss ++ (0, table_of c) ∷ [])) (sym h.starts)
+          (lines_rise labels ns seed LINES_AT p g.lines (table_of c) g.of_lines g.line_labels (let t = table in omega (arith, t)));
+      within = lies (table_of c) (length (prg_of c)) (length (image_of PROLOGUE_AT h.items)) (size h.items) (forms_size g.lines) (size past) (size find) (size rows) (size own) table all own_size file image;
+      ends = fits (length (prg_of c)) (length (image_of PROLOGUE_AT h.items)) (size h.items) file image h.ends;
+    }
+  where
+    lies : (t n m k l past find rows own : ℕ) → t ≡ LINES_AT + l + past + find → k ≡ size block_code + (own + (past + (find + rows))) → own ≡ l → n ≡ 14 + m → m ≡ k → t ≤ PROLOGUE_AT + (n - 14)
+    lies t n m k l past find rows own e a o f i = let b = block_size in omega (arith, b)
+
+    fits : (n m k : ℕ) → n ≡ 14 + m → m ≡ k → PROLOGUE_AT + k ≤ 0xA000 → PROLOGUE_AT + (n - 14) ≤ 0xA000
+    fits n m k e f l = omega arith

@@ -1,5 +1,0 @@
-use Rattle.std.proofs.Common.{length}
-use Rattle.tb_listing.proofs.rows.+push_joined.Given as goal
-
-abbrev pub decreases-push_joined : goal.decreases-push_joined
-decreases-push_joined l = length l.bytes.now

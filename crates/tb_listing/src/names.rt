@@ -1,0 +1,161 @@
+//! The names of places.
+use crate::label_file::{CHRIN, CHROUT, GETIN, ROUTINES, name};
+use crate::marks::Marks;
+use crate::pieces::{Kind, Program};
+use std::alloc::{AllocError, Global};
+use tb_codegen::LineStart;
+use tb_disasm::write_word;
+use tb_runtime16::{
+    BLOCK_AT, BYTE, COLUMN, COUNT, HELD, HOME_S, LEFT, LENGTH, LINE, LINES_AT, NOTE_HIGH, NOTE_LOW,
+    NOTES, OPEN, RESULT, RIGHT, SCRATCH, SEED, SEEDED, SEND_AT, SLOTS, VARS, WANTED, entry,
+};
+
+/// Where the variables, the slots and the scratch places of the routines end.
+const VARS_END: u16 = VARS + 52;
+
+const SLOTS_END: u16 = SLOTS + 32;
+
+const SCRATCH_END: u16 = 0xc080;
+
+/// The number of the line that begins at an address.
+pub fn line_at(starts: &[LineStart], at: u16) -> Option<u16> {
+    for start in starts {
+        if start.at == at {
+            return Some(start.number);
+        }
+    }
+    None
+}
+
+/// Whether the piece at an address stands under a name: it has one of its own, or is named.
+pub fn has_label(program: &Program<'_>, marks: &Marks, at: u16) -> bool {
+    marks.at(at).is_named
+        || !own_name(program, at).is_empty()
+        || line_at(program.starts, at).is_some()
+}
+
+/// Appends the name of a place of the image.
+pub fn push_name(
+    alloc: Global,
+    text: &mut Vec<u8>,
+    program: &Program<'_>,
+    marks: &Marks,
+    at: u16,
+) -> Result<(), AllocError> {
+    let name = own_name(program, at);
+    if !name.is_empty() {
+        return text.extend_from_slice(name);
+    }
+    match line_at(program.starts, at) {
+        Some(number) => push_number(alloc, text, b"line", number),
+        None => write_word(text, inner_name(marks, at), at, b""),
+    }
+}
+
+// What a name begins with that ends by its address: of a place in the code, or in the data of routines or lines.
+fn inner_name(marks: &Marks, at: u16) -> &'static [u8] {
+    match marks.at(at).begins {
+        Some(Kind::Data) => if at < LINES_AT { b"data" } else { b"text" },
+        _ => b"at",
+    }
+}
+
+// Appends a name that ends by a number.
+fn push_number(
+    alloc: Global,
+    text: &mut Vec<u8>,
+    name: &[u8],
+    number: u16,
+) -> Result<(), AllocError> {
+    text.extend_from_slice(name)?;
+    text.extend_from_slice(format!(in alloc; "{number}")?.as_bytes())
+}
+
+// The name of a place that every program has; empty for another place.
+fn own_name(program: &Program<'_>, at: u16) -> &'static [u8] {
+    if at == BLOCK_AT {
+        b"prologue"
+    } else if at == SEND_AT {
+        b"send"
+    } else if at == program.past() {
+        b"past"
+    } else if at == program.search() {
+        b"find"
+    } else if at == program.table {
+        b"line_table"
+    } else {
+        routine_name(at)
+    }
+}
+
+fn routine_name(at: u16) -> &'static [u8] {
+    for routine in ROUTINES {
+        if entry(routine) == at {
+            return name(routine);
+        }
+    }
+    b""
+}
+
+/// Appends the name of a place outside the image behind two spaces, where it has one.
+pub fn push_outside(alloc: Global, text: &mut Vec<u8>, at: u16) -> Result<(), AllocError> {
+    if VARS <= at && at < VARS_END {
+        let letter = b'A' + ((at - VARS) / 2) as u8;
+        text.extend_from_slice(&[b' ', b' ', b'v', b'a', b'r', letter])?;
+        push_offset(alloc, text, (at - VARS) % 2)
+    } else if SLOTS <= at && at < SLOTS_END {
+        text.extend_from_slice(b"  slots")?;
+        push_offset(alloc, text, at - SLOTS)
+    } else if SCRATCH <= at && at < SCRATCH_END {
+        text.extend_from_slice(b"  scratch")?;
+        push_offset(alloc, text, at - SCRATCH)
+    } else {
+        push_word_name(alloc, text, at)
+    }
+}
+
+// The name of a place, or of the word whose high byte it is.
+fn push_word_name(alloc: Global, text: &mut Vec<u8>, at: u16) -> Result<(), AllocError> {
+    for offset in [0u16, 1] {
+        let name = outside_name(at.wrapping_sub(offset));
+        if !name.is_empty() {
+            text.extend_from_slice(b"  ")?;
+            text.extend_from_slice(name)?;
+            return push_offset(alloc, text, offset);
+        }
+    }
+    Ok(())
+}
+
+fn push_offset(alloc: Global, text: &mut Vec<u8>, offset: u16) -> Result<(), AllocError> {
+    if offset == 0 {
+        return Ok(());
+    }
+    push_number(alloc, text, b"+", offset)
+}
+
+fn outside_name(at: u16) -> &'static [u8] {
+    match at {
+        LEFT => b"left",
+        RIGHT => b"right",
+        COLUMN => b"column",
+        OPEN => b"open",
+        SEEDED => b"seeded",
+        HOME_S => b"home_s",
+        SEED => b"seed",
+        LINE => b"line",
+        NOTES => b"notes",
+        HELD => b"held",
+        RESULT => b"result",
+        WANTED => b"wanted",
+        COUNT => b"count",
+        LENGTH => b"length",
+        BYTE => b"byte",
+        NOTE_LOW => b"note_low",
+        NOTE_HIGH => b"note_high",
+        CHRIN => b"chrin",
+        CHROUT => b"chrout",
+        GETIN => b"getin",
+        _ => b"",
+    }
+}

@@ -1,0 +1,290 @@
+//! An image in pieces: what each line of a listing stands for, and which addresses it names.
+ghost use Rattle.std.specs.Prelude.{◌≡◌, ◌≤◌, length, drop};
+
+use std::alloc::{AllocError, Global};
+use tb_asm::Operand;
+use tb_codegen::LineStart;
+use tb_disasm::{Content, first_line};
+use tb_opcodes::Mode;
+use tb_runtime16::{BLOCK_AT, LINES_AT, Routine, block, entry};
+
+// The opcodes by which texts and addresses are found.
+const JSR: u8 = 0x20;
+
+const JMP: u8 = 0x4c;
+
+const LDA: u8 = 0xa9;
+
+const STA: u8 = 0x8d;
+
+const STA_ZERO_PAGE: u8 = 0x85;
+
+/// How many bytes a call and a jump take.
+const CALL_AND_JUMP: u16 = 6;
+
+/// How many bytes the low bytes of Number's powers of ten take, and so do the high ones. They lie behind its code.
+const POWERS: u16 = 4;
+
+/// How many bytes the search for a line takes, which lies before the line table.
+const SEARCH: u16 = 23;
+
+/// How many bytes fault 7 takes, which lies before the search.
+const PAST: u16 = 9;
+
+/// How many bytes a word of the line table takes.
+const WORD: usize = 2;
+
+/// A compiled program: the bytes behind its BASIC line, where its lines begin, and where its line table does.
+#[derive(Clone, Copy, Drop)]
+pub struct Program<'a> {
+    pub image: &'a [u8],
+    pub starts: &'a [LineStart],
+    pub table: u16,
+}
+
+impl Program<'_> {
+    /// The search for a line in the line table.
+    pub fn search(&self) -> u16 {
+        self.table.wrapping_sub(SEARCH)
+    }
+
+    /// Fault 7, behind the last line.
+    pub fn past(&self) -> u16 {
+        self.search().wrapping_sub(PAST)
+    }
+}
+
+/// What a piece is.
+#[derive(Clone, Copy, PartialEq, Eq, Drop)]
+pub enum Kind {
+    /// An instruction, or a byte that begins none.
+    Code,
+    /// Bytes as they are.
+    Data,
+    /// A word that is no address.
+    Number,
+    /// An address.
+    Address,
+}
+
+/// An address that a piece names, whole or by one of its bytes.
+#[derive(Clone, Copy, Drop)]
+pub enum Named {
+    Nothing,
+    Whole(u16),
+    Low(u16),
+    High(u16),
+}
+
+impl Named {
+    /// The address, where one is named.
+    pub fn address(self) -> Option<u16> {
+        match self {
+            Named::Nothing => None,
+            Named::Whole(address) | Named::Low(address) | Named::High(address) => Some(address),
+        }
+    }
+}
+
+/// Bytes that stand on one line.
+#[derive(Clone, Copy, Drop)]
+pub struct Piece {
+    pub at: u16,
+    pub size: usize,
+    pub kind: Kind,
+    pub named: Named,
+}
+
+/// The pieces of a program's image, one behind the other.
+pub fn pieces(alloc: Global, program: &Program<'_>) -> Result<Vec<Piece>, AllocError> {
+    let mut pieces = Vec::new(alloc);
+    let mut rest = program.image;
+    let mut at = BLOCK_AT;
+    let mut text = Span { from: 0, to: 0 };
+    while !rest.is_empty() {
+        if let Some(found) = text_behind_call(at, rest) {
+            text = found;
+        }
+        let (kind, size) = first_kind(program, text, at, rest);
+        let named = what_is_named(program, kind, at, rest);
+        pieces.push(Piece {
+            at,
+            size,
+            kind,
+            named,
+        })?;
+        at = at.wrapping_add(low_word(size));
+        rest = behind(rest, size);
+    }
+    Ok(pieces)
+}
+
+/// The bytes behind the first ones.
+pub fn behind(bytes: &[u8], size: usize) -> &[u8]
+    requires { size ≤ length bytes.now }
+    ensures { result.now ≡ drop size bytes.now }
+{
+    bytes.split_at(size).1
+}
+
+// A number modulo 65,536.
+fn low_word(number: usize) -> u16 {
+    (number % 0x1_0000) as u16
+}
+
+// Bytes from an address up to before another one.
+#[derive(Clone, Copy, Drop)]
+struct Span {
+    from: u16,
+    to: u16,
+}
+
+// Where the text of a PRINT lies, where its call of Text stands here: the jump behind it leads past the text.
+fn text_behind_call(at: u16, rest: &[u8]) -> Option<Span> {
+    match rest {
+        [JSR, low, high, JMP, to_low, to_high, ..]
+            if u16::from_le_bytes([*low, *high]) == entry(Routine::Text) => {
+            Some(Span {
+                from: at.wrapping_add(CALL_AND_JUMP),
+                to: u16::from_le_bytes([*to_low, *to_high]),
+            })
+        }
+        _ => None,
+    }
+}
+
+// What stands first, and how many bytes it has: one at least, and no more than there are.
+fn first_kind(program: &Program<'_>, text: Span, at: u16, rest: &[u8]) -> (Kind, usize)
+    requires { 1 ≤ length rest.now }
+    ensures some { 1 ≤ result.1 }
+    ensures within { result.1 ≤ length rest.now }
+{
+    let data = data_size(text, at);
+    let (kind, size) = if data > 0 {
+        (Kind::Data, data)
+    } else if at < program.table {
+        (Kind::Code, first_line(at, rest).1)
+    } else if (at - program.table) % 4 == 0 {
+        (Kind::Number, WORD)
+    } else {
+        (Kind::Address, WORD)
+    };
+    (kind, size.max(1).min(rest.len()))
+}
+
+// How many bytes of data lie here; none where code or the line table does.
+fn data_size(text: Span, at: u16) -> usize {
+    let block_end = BLOCK_AT.wrapping_add(low_word(block().len()));
+    let behind_number = entry(Routine::Text);
+    usize::from(if at == text.from {
+        text.to.saturating_sub(text.from)
+    } else if at == behind_number - 2 * POWERS || at == behind_number - POWERS {
+        POWERS
+    } else if at == block_end {
+        LINES_AT.saturating_sub(block_end)
+    } else {
+        0
+    })
+}
+
+// What the first piece names.
+fn what_is_named(program: &Program<'_>, kind: Kind, at: u16, rest: &[u8]) -> Named {
+    match (kind, rest) {
+        (Kind::Address, [low, high, ..]) => Named::Whole(u16::from_le_bytes([*low, *high])),
+        (Kind::Code, [LDA, ..]) => loaded(program, at, rest),
+        (Kind::Code, [_, ..]) => match first_line(at, rest).0.content {
+            Content::Instr(_, _, Operand::Word(address)) => Named::Whole(address),
+            Content::Instr(_, mode, Operand::Byte(byte)) if mode != Mode::Immediate => {
+                Named::Whole(u16::from(byte))
+            }
+            _ => Named::Nothing,
+        },
+        _ => Named::Nothing,
+    }
+}
+
+// An address that is loaded byte by byte.
+#[derive(Clone, Copy, Drop)]
+struct Load {
+    address: u16,
+    // How many bytes lie between the loads of its low byte and of its high one, the first load with them.
+    apart: usize,
+}
+
+// The address of which the first instruction loads a byte, where it is known for one.
+fn loaded(program: &Program<'_>, at: u16, rest: &[u8]) -> Named {
+    if let Some(load) = first_load(program, at, rest) {
+        return Named::Low(load.address);
+    }
+    for apart in [4u16, 5] {
+        let before = last(program.image, rest.len().saturating_add(usize::from(apart)));
+        if let Some(load) = first_load(program, at.wrapping_sub(apart), before) {
+            if load.apart == usize::from(apart) {
+                return Named::High(load.address);
+            }
+        }
+    }
+    Named::Nothing
+}
+
+fn last(bytes: &[u8], count: usize) -> &[u8] {
+    bytes.split_at(bytes.len().saturating_sub(count)).1
+}
+
+// The load that begins here: of the line that Push notes, of the line table for the search, or of a text.
+fn first_load(program: &Program<'_>, at: u16, rest: &[u8]) -> Option<Load> {
+    match rest {
+        [
+            LDA,
+            low,
+            STA,
+            _,
+            0,
+            LDA,
+            high,
+            STA,
+            _,
+            0,
+            JSR,
+            to_low,
+            to_high,
+            ..
+        ] if u16::from_le_bytes([*to_low, *to_high]) == entry(Routine::Push) => {
+            Some(Load {
+                address: u16::from_le_bytes([*low, *high]),
+                apart: 5,
+            })
+        }
+        [LDA, low, STA, _, 0, LDA, high, ..] if at == program.search() => {
+            Some(Load {
+                address: u16::from_le_bytes([*low, *high]),
+                apart: 5,
+            })
+        }
+        [
+            LDA,
+            low,
+            STA_ZERO_PAGE,
+            _,
+            LDA,
+            high,
+            STA_ZERO_PAGE,
+            _,
+            LDA,
+            _,
+            STA,
+            _,
+            _,
+            JSR,
+            to_low,
+            to_high,
+            ..
+        ] if u16::from_le_bytes([*to_low, *to_high]) == entry(Routine::Text) => {
+            Some(Load {
+                address: u16::from_le_bytes([*low, *high]),
+                apart: 4,
+            })
+        }
+        _ => None,
+    }
+}
