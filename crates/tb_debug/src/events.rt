@@ -1,0 +1,28 @@
+//! Events of a machine that an outside gives.
+ghost use Rattle.std.specs.Prelude.{◌≡◌, IfOk};
+ghost use Rattle.tb_debug.specs.Events.{Took, is_own};
+
+use tb_kernal::{Event, Machine, Outside};
+use tb_memmap::NoMemory;
+
+// Whether an event is the program's own.
+fn is_own(event: &Event) -> bool
+    ensures { result ≡ is_own event.now }
+{
+    matches!(event, Event::Go(_))
+}
+
+/// Lets an outside's next event happen: whether it was the program's own.
+pub fn take_event<O: Outside>(machine: &mut Machine, outside: &mut O) -> Result<bool, NoMemory>
+    ensures { IfOk result (λ own. Took O.gives outside.old machine.old own outside.new machine.new) }
+{
+    if machine.reserve(1).is_err() {
+        return Err(NoMemory);
+    }
+    let event = outside.next(machine);
+    let own = is_own(&event);
+    match machine.event(event) {
+        Ok(_) => Ok(own),
+        Err(_) => unreachable!(),
+    }
+}

@@ -1,0 +1,25 @@
+//! A debugger over the run of a compiled program, which goes both ways.
+//!
+//! Time M is the number of lines that are done. A run is a function of its events, so going back is running again, from
+//! the start or from one of the machines that are kept meanwhile.
+#![tactic(auto)]
+
+mod answer;
+mod beside;
+mod command;
+mod debugger;
+mod events;
+mod history;
+mod moment;
+mod readings;
+mod respond;
+mod searching;
+mod starts;
+mod stops;
+
+pub use answer::{Answer, Place, Stand};
+pub use beside::Beside;
+pub use command::{Command, read_command};
+pub use debugger::{Debugger, MOST_OPENING};
+pub use history::{MOST_KEPT, SPACING};
+pub use moment::Reached;

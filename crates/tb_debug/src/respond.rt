@@ -1,0 +1,243 @@
+//! What commands do, and their answers.
+use crate::answer::{Answer, Place, Stand};
+use crate::command::Command;
+use crate::debugger::Debugger;
+use crate::moment::Reached;
+use crate::readings::{bytes_from, line_from, returns, variables};
+use std::alloc::Global;
+use tb_disasm::{Line, first_line};
+use tb_kernal::Status;
+use tb_lower::{EvalError, eval};
+use tb_memmap::NoMemory;
+use tb_parser::{SourceErrorKind, parse_expr};
+use tb_words::Letter;
+
+/// What the return key gives.
+const RETURN: u8 = 13;
+
+/// How many lines of code are shown.
+const CODE_LINES: usize = 8;
+
+/// The most bytes of an instruction.
+const MOST_LENGTH: usize = 3;
+
+impl<'a> Debugger<'a> {
+    /// Does what a command asks for, and answers it; there is no answer to `Quit`. Going on takes at most `limit` events.
+    pub fn respond(
+        &mut self,
+        alloc: Global,
+        command: Command<'_>,
+        limit: u64,
+    ) -> Result<Option<Answer>, NoMemory> {
+        let reached = match command {
+            Command::On(lines) => self.on(alloc, lines, limit)?,
+            Command::Back(lines) => self.back(alloc, lines)?,
+            Command::GoOn => self.go_on(alloc, limit)?,
+            Command::GoBack => self.go_back(alloc)?,
+            Command::ToTime(time) => self.to_time(alloc, time, limit)?,
+            Command::Step(events) => self.step(events)?,
+            Command::ToLine(line) => match self.program.start_of(line) {
+                Some(address) => self.on_to(alloc, address, limit)?,
+                None => return Ok(Some(Answer::NoSuchLine)),
+            },
+            Command::Quit => return Ok(None),
+            _ => return Ok(Some(self.tell(alloc, command)?)),
+        };
+        Ok(Some(self.stop(alloc, reached)?))
+    }
+
+    /// The stop at which the run stands.
+    pub fn stop(&mut self, alloc: Global, reached: Reached) -> Result<Answer, NoMemory> {
+        let sent = self.now.machine.sent();
+        let from = self.shown.min(sent.len());
+        let Ok(since) = Vec::from_slice(alloc, &sent[from..]) else {
+            return Err(NoMemory);
+        };
+        self.shown = sent.len();
+        Ok(Answer::Stop(Stand {
+            sent: since,
+            is_limit: matches!(reached, Reached::Limit),
+            place: self.place(),
+        }))
+    }
+
+    // Where the run stands.
+    fn place(&self) -> Place {
+        match self.now.machine.status() {
+            Status::Running => match self.line() {
+                Some(line) => Place::Line(line),
+                None => Place::Opening,
+            },
+            status => Place::Ended {
+                status,
+                pc: self.now.machine.regs().pc,
+            },
+        }
+    }
+
+    // The line that begins here, or else the one that was begun last.
+    fn line(&self) -> Option<u16> {
+        line_from(self.program, self.now.line_start(&self.starts))
+    }
+
+    // What a command that doesn't move the run is answered by.
+    fn tell(&mut self, alloc: Global, command: Command<'_>) -> Result<Answer, NoMemory> {
+        match command {
+            Command::Breakpoint(line) => self.turn_breakpoint(line),
+            Command::Watch(letter) => self.turn_watch(letter),
+            Command::Type(text) => self.type_line(alloc, text),
+            Command::Value(text) => self.value(alloc, text),
+            Command::Breakpoints => self.breakpoints(alloc),
+            Command::Returns => self.return_list(alloc),
+            Command::Output => self.output(alloc),
+            Command::Memory { at, count } => self.bytes(alloc, at, count),
+            Command::Code => self.code(alloc),
+            Command::List(line) if self.program.start_of(line).is_none() => Ok(Answer::NoSuchLine),
+            _ => Ok(self.show(command)),
+        }
+    }
+
+    // What a command is answered by that only looks, and for which no memory is needed.
+    fn show(&self, command: Command<'_>) -> Answer {
+        match command {
+            Command::ListHere => Answer::List {
+                round: self.line(),
+                place: self.line(),
+            },
+            Command::List(line) => Answer::List {
+                round: Some(line),
+                place: self.line(),
+            },
+            Command::Variables => Answer::Variables(variables(self.now.machine.memory())),
+            Command::Variable(letter) => self.variable(letter),
+            Command::Registers => Answer::Registers {
+                regs: self.now.machine.regs(),
+                line: self.program.line_at(self.now.machine.regs().pc),
+                status: self.now.machine.status(),
+            },
+            Command::Help => Answer::Help,
+            _ => Answer::What,
+        }
+    }
+
+    fn turn_breakpoint(&mut self, line: u16) -> Result<Answer, NoMemory> {
+        if self.program.start_of(line).is_none() {
+            return Ok(Answer::NoSuchLine);
+        }
+        match self.stops.turn_breakpoint(line) {
+            Ok(is_set) => Ok(turned(is_set)),
+            Err(_) => Err(NoMemory),
+        }
+    }
+
+    fn turn_watch(&mut self, letter: Letter) -> Result<Answer, NoMemory> {
+        match self.stops.turn_watch(letter) {
+            Ok(is_set) => Ok(turned(is_set)),
+            Err(_) => Err(NoMemory),
+        }
+    }
+
+    fn breakpoints(&self, alloc: Global) -> Result<Answer, NoMemory> {
+        match Vec::from_slice(alloc, self.stops.breakpoints()) {
+            Ok(lines) => Ok(Answer::Breakpoints(lines)),
+            Err(_) => Err(NoMemory),
+        }
+    }
+
+    fn variable(&self, letter: Letter) -> Answer {
+        let values = variables(self.now.machine.memory());
+        Answer::Variable {
+            index: letter.index(),
+            value: values[letter.index()],
+        }
+    }
+
+    fn value(&self, alloc: Global, text: &[u8]) -> Result<Answer, NoMemory> {
+        match parse_expr(alloc, text) {
+            Ok(expression) => {
+                Ok(value_answer(eval(&expression, &variables(self.now.machine.memory()))))
+            }
+            Err(error) => match error.kind {
+                SourceErrorKind::NoMemory => Err(NoMemory),
+                _ => Ok(Answer::What),
+            },
+        }
+    }
+
+    fn return_list(&self, alloc: Global) -> Result<Answer, NoMemory> {
+        match returns(alloc, self.now.machine.memory(), self.program) {
+            Ok(lines) => Ok(Answer::Returns(lines)),
+            Err(_) => Err(NoMemory),
+        }
+    }
+
+    fn output(&self, alloc: Global) -> Result<Answer, NoMemory> {
+        match Vec::from_slice(alloc, self.now.machine.sent()) {
+            Ok(sent) => Ok(Answer::Output(sent)),
+            Err(_) => Err(NoMemory),
+        }
+    }
+
+    fn bytes(&self, alloc: Global, at: u16, count: u16) -> Result<Answer, NoMemory> {
+        match bytes_from(alloc, self.now.machine.memory(), at, usize::from(count)) {
+            Ok(bytes) => Ok(Answer::Memory { at, bytes }),
+            Err(_) => Err(NoMemory),
+        }
+    }
+
+    // The code from PC on, up to a closed place.
+    fn code(&self, alloc: Global) -> Result<Answer, NoMemory> {
+        let mut lines = Vec::new(alloc);
+        let mut address = self.now.machine.regs().pc;
+        for _ in 0..CODE_LINES {
+            let Some((line, size)) = self.code_line(address) else {
+                return Ok(Answer::Code(lines));
+            };
+            if lines.push(line).is_err() {
+                return Err(NoMemory);
+            }
+            address = address.wrapping_add(size.min(MOST_LENGTH) as u16);
+        }
+        Ok(Answer::Code(lines))
+    }
+
+    // The line of code at an address, and its size; none at a closed place.
+    fn code_line(&self, address: u16) -> Option<(Line, usize)> {
+        let memory = self.now.machine.memory();
+        let first = memory.read(address).ok()?;
+        let second = memory.read(address.wrapping_add(1));
+        let third = memory.read(address.wrapping_add(2));
+        Some(match (second, third) {
+            (Ok(second), Ok(third)) => first_line(address, &[first, second, third]),
+            (Ok(second), Err(_)) => first_line(address, &[first, second]),
+            (Err(_), _) => first_line(address, &[first]),
+        })
+    }
+
+    // Types a line: its letters as capitals, and a return.
+    fn type_line(&mut self, alloc: Global, text: &[u8]) -> Result<Answer, NoMemory> {
+        let mut keys = Vec::new(alloc);
+        for byte in text {
+            if keys.push(byte.to_ascii_uppercase()).is_err() {
+                return Err(NoMemory);
+            }
+        }
+        if keys.push(RETURN).is_err() {
+            return Err(NoMemory);
+        }
+        self.type_text(keys.as_slice())?;
+        Ok(Answer::Typed)
+    }
+}
+
+fn turned(is_set: bool) -> Answer {
+    if is_set { Answer::Set } else { Answer::Cleared }
+}
+
+fn value_answer(value: Result<i16, EvalError>) -> Answer {
+    match value {
+        Ok(value) => Answer::Number(value),
+        Err(EvalError::DivideByZero) => Answer::DivisionByZero,
+        Err(EvalError::HasRnd) => Answer::HasRnd,
+    }
+}

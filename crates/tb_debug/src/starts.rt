@@ -1,0 +1,67 @@
+//! Where lines begin.
+ghost use Rattle.std.specs.Prelude.{◌≡◌, ◌<◌, ℕ, false, map, replicate, vec_len, IfOk};
+ghost use Rattle.tb_codegen.specs.Compiled.{pair_of, starts_of};
+ghost use Rattle.tb_debug.specs.Runs.{begins_at, is_marked};
+
+use std::alloc::Global;
+use std::marker::Model;
+use tb_codegen::{Compiled, LineStart};
+use tb_memmap::NoMemory;
+
+/// As many addresses as there are.
+const ADDRESSES: usize = 65_536;
+
+/// The addresses where the lines of a program begin.
+#[derive(Drop)]
+pub struct Starts {
+    begins: Vec<bool>,
+}
+
+impl Model for Starts {
+    ghost use Rattle.std.specs.Prelude.{◌≡◌, List, Bool, vec_len};
+
+    ghost Value = { List Bool };
+
+    ghost view = { λ s. s.begins.items };
+
+    ghost invariant = { λ s. vec_len s.begins ≡ 65536 };
+}
+
+impl Starts {
+    /// Those of a compiled program.
+    pub fn new(alloc: Global, program: &Compiled) -> Result<Starts, NoMemory>
+        ensures { IfOk result (λ s. (a : ℕ) → a < 65536 → is_marked s a ≡ begins_at (starts_of program.now) a) }
+    {
+        Ok(Starts {
+            begins: marks(alloc, program.starts())?,
+        })
+    }
+
+    /// Whether a line begins at an address.
+    pub fn begins(&self, address: u16) -> bool
+        ensures { result ≡ is_marked self.now address }
+    {
+        self.begins[address as usize]
+    }
+}
+
+// Whether a line begins, address by address.
+fn marks(alloc: Global, starts: &[LineStart]) -> Result<Vec<bool>, NoMemory>
+    ensures { IfOk result (λ v. (vec_len v ≡ 65536)
+        × ((a : ℕ) → a < 65536 → is_marked v.items a ≡ begins_at (map pair_of starts.now) a)) }
+{
+    let mut begins = no_marks(alloc)?;
+    for start in starts {
+        begins[start.at as usize] = true;
+    }
+    Ok(begins)
+}
+
+fn no_marks(alloc: Global) -> Result<Vec<bool>, NoMemory>
+    ensures { IfOk result (λ v. v.items ≡ replicate 65536 false) }
+{
+    match vec![in alloc; false; ADDRESSES] {
+        Ok(begins) => Ok(begins),
+        Err(_) => Err(NoMemory),
+    }
+}

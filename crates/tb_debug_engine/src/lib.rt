@@ -1,0 +1,12 @@
+//! The debugger's dialogue: each command is a line, and its answer is written and flushed before the next one is read.
+#![tactic(auto)]
+
+mod dialogue;
+mod lines;
+mod lists;
+mod sources;
+mod texts;
+
+pub use dialogue::{Setting, debug};
+pub use sources::{Sources, read_sources, warnings};
+pub use tb_debug::Beside;
