@@ -3,6 +3,7 @@ use crate::setup::{Call, NOISE, ROMS, memory_with_block, noisy_regs, plain, run_
 use std::alloc::Global;
 use std::test::Fail;
 use tb_kernal::{Keyboard, Machine, Status};
+use tb_memmap::Memory;
 use tb_runtime16::{BLOCK_AT, COLUMN, HOME_S, LINE, LINES_AT, NOTES, Routine, SEED, VARS};
 
 // Whether Fault sends the text of a fault at a line, and ends.
@@ -99,13 +100,17 @@ fn at_start(alloc: Global, s: u8) -> Result<Machine, Fail> {
 fn begins(alloc: Global, rom: Option<u16>, s: u8) -> Result<bool, Fail> {
     let mut machine = at_start(alloc, s)?;
     let status = run_beside(&mut machine, rom)?;
-    let memory = machine.memory();
+    Ok(status == Status::Returned && is_cleared(machine.memory(), s)?)
+}
+
+// Whether data is cleared, S is kept, and the first note is left as it was.
+fn is_cleared(memory: &Memory, s: u8) -> Result<bool, Fail> {
     for place in (VARS..HOME_S).chain(SEED..NOTES + 2) {
         if memory.read(place)? != 0 {
             return Ok(false);
         }
     }
-    Ok(status == Status::Returned && memory.read(HOME_S)? == s && memory.read(NOTES + 2)? == NOISE)
+    Ok(memory.read(HOME_S)? == s && memory.read(NOTES + 2)? == NOISE)
 }
 
 #[test]

@@ -1,0 +1,5 @@
+//! The debugger: dialogues, streams that fail, and walks both ways beside the interpreter.
+mod dialogues;
+mod programs;
+mod streams;
+mod walks;

@@ -1,0 +1,3 @@
+//! Listings, labels and maps of whole programs.
+mod back;
+mod texts;
