@@ -158,6 +158,62 @@ END
 refused_sources build SOURCE out.prg
 refused_sources run SOURCE
 
+# Checks. What is said of which source stands in tb_rows
+file slips.bas '10 FOR I=1 TO 10\n20 PRINT "\xe4"\n\n30 PRIMT I\n10 END\n'
+file dice.bas '10 PRINT RND(6)+1\n20 GOTO 100\n10 PRINT RND(6)/5000+1\n'
+cat >slips.said <<'END'
+slips.bas:1:4: error: syntax
+    1 | 10 FOR I=1 TO 10
+      |    ^
+slips.bas:1:4: note: Tiny BASIC has no FOR; count with LET, IF and GOTO
+slips.bas:2:11: error: bad byte
+    2 | 20 PRINT "?"
+      |           ^
+slips.bas:4:7: error: syntax
+    4 | 30 PRIMT I
+      |       ^
+slips.bas:4:7: note: did you mean PRINT
+END
+cat >dice.said <<'END'
+dice.bas:1: warning: line 10 is replaced by line 3 of the file
+    1 | 10 PRINT RND(6)+1
+dice.bas:2: warning: no line 100
+    2 | 20 GOTO 100
+dice.bas:3: warning: RND(6): odd and even take turns; RND(30000)/5000 is better
+    3 | 10 PRINT RND(6)/5000+1
+END
+row 0 '' '' check hello.bas
+row 0 '' "$(<dice.said)" check dice.bas hello.bas
+row 1 '' "$(<slips.said)" check slips.bas
+row 1 '' "$(cat dice.said slips.said dice.said)" check dice.bas hello.bas slips.bas dice.bas
+row 1 '' 'large.bas: error: program too large (37889 bytes)' check large.bas
+row 3 'tbc: read fault' "$(cat slips.said dice.said)" check nowhere.bas slips.bas folder dice.bas
+row 3 'tbc: read fault' '' check hello.bas nowhere.bas nowhere.bas
+row 2 'error: *' '' check
+row 2 'error: *' '' check hello.bas --seed 1
+to=/dev/full
+row 3 'tbc: write fault' '' check slips.bas
+row 0 '' '' check hello.bas
+to=shown
+for source in "$root"/examples/*.bas; do
+    cp "$source" example.bas
+    "$tbc" check example.bas >shown || { failed=$((failed + 1)); cat shown; }
+    rows=$((rows + 1))
+done
+
+# vim's default errorformat reads each line that names a place. (It takes `RND(6):` for a file and a line, too.)
+if vim --version 2>/dev/null | grep -q -e +quickfix; then
+    "$tbc" check slips.bas dice.bas nowhere.bas hello.bas 2>/dev/null | grep -v 'RND(.*):' >places || true
+    printf '%s\n' 'cgetfile places' \
+        "call writefile(map(filter(getqflist(), 'v:val.valid'), {_, e -> bufname(e.bufnr) . ':' . e.lnum . ':' . (e.col ? e.col . ':' : '') . e.text}), 'entries')" \
+        'qa!' >read.vim
+    vim -e -s -u NONE -i NONE -S read.vim </dev/null || true
+    grep -E '^[a-z]+\.bas:[0-9]+:' places >wanted
+    same entries wanted
+else
+    echo 'vim is not installed: what it reads of a check was not tried'
+fi
+
 # Refused texts and PRG files
 each 1 bad.s asm bad.s out.prg --at 1000 <<'END'
 text line 3|RTS\n\nLDA 5
@@ -223,9 +279,11 @@ row 3 'tbc: write fault' '' --version
 to=shown
 
 # What a build writes beside the PRG file
-beside() { # NAME: rows: the listing of NAME.bas assembles to the bytes behind the BASIC line
+beside() { # NAME: rows: the listing of NAME.bas has its lines by name, and assembles to the bytes behind the BASIC line
     row 0 '*' '' build $1.bas out.prg --labels out.vs --list out.s --map out.map
     cp out.prg built.prg
+    rows=$((rows + 1))
+    grep -q '^line[0-9]*:$' out.s || { failed=$((failed + 1)) && echo "the listing of $1.bas has no names"; }
     row 0 '' '' asm out.s out.prg --at 080d
     tail -c +15 built.prg >wanted
     tail -c +3 out.prg >image
@@ -491,11 +549,39 @@ profile_rows() {
     row 2 'tbc: bad key list' '' profile nowhere.bas --keys 0
     row 3 'tbc: read fault' '' profile nowhere.bas
     row 2 'tbc: same file twice' '' profile less.bas --html less.bas
+    row 2 'tbc: same file twice' '' profile less.bas --keys-file typed.txt --html typed.txt
     to=/dev/full
     row 3 'tbc: write fault' '' profile let.bas
     to=shown
 }
 profile_rows
+
+debug_rows() {
+    file let.bas '10 A=5\n20 END\n'
+    file commands 'n\nv\nn\np 2\nrc\nx\nz\nq\nn\n'
+    from=commands
+    row 0 '' $'10 A=5\n20 END\nA=5\nreturned\n10 A=5\n10 A=5\n0C00 A=* 10 running\nwhat\\?' debug let.bas
+    row 0 '' $'10 A=5\n20 END\nA=5\nreturned\n10 A=5\n10 A=5\n0C00 A=* 10 running\nwhat\\?' debug let.bas --rude 7
+    file commands 'c\nc\nk 5\nb 40\nc\nrc\n'
+    row 0 '' $'*\nwaits\nwaits\ntyped\n*' debug wait.bas
+    row 0 '' $'*\nlimit\n*' debug forever.bas --limit 500
+    row 0 'tbc: warning: line 20: no line 30' '10 *' debug warn.bas
+    refused_sources debug SOURCE
+    row 2 'tbc: bad key list' '' debug nowhere.bas --keys 0
+    row 3 'tbc: read fault' '' debug nowhere.bas
+    from=folder
+    row 3 'tbc: read fault' '10 A=5' debug let.bas
+    from=commands
+    to=/dev/full
+    row 3 'tbc: write fault' '' debug let.bas
+    to=shown
+    at_terminal '> ' n '> ' q
+    row 0 '' $'10 A=5\n> n\n20 END\n> q' debug let.bas
+    by=()
+    from=/dev/null
+    row 0 '' '10 A=5' debug let.bas
+}
+debug_rows
 
 echo "$rows calls of tbc, $failed other than they should be"
 [ "$failed" = 0 ]

@@ -1,7 +1,7 @@
 #!/usr/bin/env bash
 # Runs each command of the built program with the first, the second, .. growth of its memory refused, until a run
 # meets no refusal. Each run must end with status 4, `tbc: out of memory` and nothing written (of a program that is
-# played, its warnings and a beginning of what it shows), or answer exactly what the command answers with ample memory;
+# played, debugged or profiled, its warnings and a beginning of what it shows), or answer exactly what the command answers with ample memory;
 # where no growth was refused, it must not be out of memory. So must the calls that no command makes or shows, each a
 # word of `tb_calls`. The refusing malloc is preloaded, so this needs a C compiler (cc) and glibc.
 . "$(dirname "${BASH_SOURCE[0]}")/setup.sh"
@@ -49,11 +49,15 @@ same_made() { if [ -e made.wanted ]; then cmp -s out.prg made.wanted; else [ ! -
 
 begins() { cmp -s -n "$(stat -c %s "$1")" "$1" "$2"; } # FILE OTHER: whether it is a beginning of the other
 
-# Whether a run out of memory said so and wrote nothing. A program that is played has warned and shown a beginning.
+# Whether a run out of memory said so and wrote nothing. A program that is played or debugged has warned and shown a
+# beginning, and so has a profile whose page there is no memory to open.
 is_out_of_memory() { # NAME WORD..
     [ "$(tail -n 1 said)" = "$1: out of memory" ] && [ ! -e out.prg ] || return
     head -n -1 said >before
-    if [ "${2-}" = play ]; then begins before said.wanted && begins shown shown.wanted; else [ ! -s before ] && [ ! -s shown ]; fi
+    case ${2-} in
+        play | debug | profile) begins before said.wanted && begins shown shown.wanted ;;
+        *) [ ! -s before ] && [ ! -s shown ] ;;
+    esac
 }
 
 rows=0
@@ -186,6 +190,27 @@ check disk out.prg short.prg
 check disk out.prg nowhere.prg
 check disk nowhere/out.prg hello.prg
 check disk
+printf '10 FOR I=1 TO 10\n20 PRIMT "X"\n30 PRINT "Y\nEND\n' >slips.bas
+printf '10 PRINT RND(6)\n20 IF A=1 GOTO 99\n10 REM\n' >dice.bas
+check check hello.bas
+check check slips.bas
+check check dice.bas
+check check deep.bas
+check check large.bas
+check check empty.bas
+check check slips.bas nowhere.bas dice.bas
+check check
+check profile all.bas --keys 332c350d0d --rude 7
+check profile hello.bas --html page.html
+check profile warned.bas
+check profile bad.bas
+check profile nowhere.bas
+printf 'n 3\np\nb 30\nb\nw A\nc\nrc\nt 9\nt 2\nl\nv\nv A\ne A*2-1\nr\no\nk 7,8\nc\ns 9\nx\nm C000\ni\nh\nz\nq\n' >commands
+check debug all.bas
+check debug all.bas --keys 332c350d --rude 7
+check debug bad.bas
+check debug nowhere.bas
+: >commands
 check --version
 check --help
 check run --help
@@ -204,7 +229,7 @@ step_rows() {
 [ $with_step = no ] || step_rows
 
 : >commands
-for call in host_form key_list compile parse parse_expr tokens lower warnings assemble settle assemble_settled read_text write \
+for call in host_form key_list compile make bad_lines parse parse_expr tokens lower warnings assemble settle assemble_settled read_text write \
     disassemble Listing::text disk Memory::new reserve type_text run Stepper::new step to_line; do
     check_call $call
 done

@@ -44,32 +44,115 @@ fn without_matches(alloc: Global, error: &clap::Error) -> Result<Job, JobError>
     }
 }
 
+/// The commands, in the order of the help text.
+const COMMANDS: [CommandName; 10] = [
+    CommandName::Build,
+    CommandName::Run,
+    CommandName::Play,
+    CommandName::Asm,
+    CommandName::Dis,
+    CommandName::Step,
+    CommandName::Debug,
+    CommandName::Profile,
+    CommandName::Disk,
+    CommandName::Check,
+];
+
+#[derive(Clone, Copy)]
+enum CommandName {
+    Build,
+    Run,
+    Play,
+    Asm,
+    Dis,
+    Step,
+    Debug,
+    Profile,
+    Disk,
+    Check,
+}
+
+// An argument of a command.
+#[derive(Clone, Copy)]
+enum Word<'a> {
+    // A file that must be named: its word and its help.
+    File(&'a str, &'a str),
+    // One file or more.
+    Files(&'a str, &'a str),
+    // A file that is written where it is asked for: its option and its help.
+    Written(&'a str, &'a str),
+    SourceOrPrg,
+    Prg,
+    Seed,
+    Keys,
+    KeyFile,
+    Answers,
+    Limit,
+    PlayLimit,
+    Rude,
+    At,
+}
+
+const SOURCE: Word<'static> = Word::File("SOURCE", "The source file");
+
+// The options of a run.
+const SETTINGS: [Word<'static>; 5] = [
+    Word::Seed,
+    Word::Keys,
+    Word::KeyFile,
+    Word::Answers,
+    Word::Limit,
+];
+
+// (what is held and what can fail stand apart, which the prover is glad of: a command and an argument are large)
 fn command<'a>(alloc: Global) -> Result<Command<'a>, AllocError> {
-    let command = Command::new(alloc, "tbc")
+    let mut command = Command::new(alloc, "tbc")
         .about(
-            "Compiles Tiny BASIC for the Commodore 64, assembles, lists, runs, plays, steps and profiles",
+            "Compiles Tiny BASIC for the Commodore 64, assembles, lists, runs, plays, steps, debugs, profiles and checks",
         )
         .version("1.0.0")
         .no_binary_name(true)
         .bin_name("tbc")?
         .disable_help_subcommand(true)
         .subcommand_required(true);
-    let command = with_subcommand(command, build_command(alloc))?;
-    let command = with_subcommand(command, run_command(alloc))?;
-    let command = with_subcommand(command, play_command(alloc))?;
-    let command = with_subcommand(command, asm_command(alloc))?;
-    let command = with_subcommand(command, dis_command(alloc))?;
-    let command = with_subcommand(command, step_command(alloc))?;
-    let command = with_subcommand(command, profile_command(alloc))?;
-    with_subcommand(command, disk_command(alloc))
+    for name in COMMANDS {
+        command = with_subcommand(command, subcommand(alloc, name))?;
+    }
+    Ok(command)
 }
 
-// (what is held and what can fail stand apart, which the prover is glad of)
 fn with_subcommand<'a>(
     command: Command<'a>,
     subcommand: Result<Command<'a>, AllocError>,
 ) -> Result<Command<'a>, AllocError> {
     command.subcommand(subcommand?)
+}
+
+fn subcommand<'a>(alloc: Global, name: CommandName) -> Result<Command<'a>, AllocError> {
+    match name {
+        CommandName::Build => build_command(alloc),
+        CommandName::Run => run_command(alloc),
+        CommandName::Play => play_command(alloc),
+        CommandName::Asm => asm_command(alloc),
+        CommandName::Dis => dis_command(alloc),
+        CommandName::Step => step_command(alloc),
+        CommandName::Debug => debug_command(alloc),
+        CommandName::Profile => profile_command(alloc),
+        CommandName::Disk => disk_command(alloc),
+        CommandName::Check => check_command(alloc),
+    }
+}
+
+fn with_words<'a>(
+    command: Command<'a>,
+    alloc: Global,
+    words: &[Word<'a>],
+) -> Result<Command<'a>, AllocError> {
+    let mut command = command;
+    for word in words {
+        command = with_argument(command, argument(alloc, *word))?;
+    }
+    Ok(command)
 }
 
 fn with_argument<'a>(
@@ -79,96 +162,133 @@ fn with_argument<'a>(
     command.arg(argument?)
 }
 
-fn build_command<'a>(alloc: Global) -> Result<Command<'a>, AllocError> {
-    Command::new(alloc, "build")
-        .about("Compile a Tiny BASIC source to a PRG file")
-        .arg(file(alloc, "SOURCE", "The source file"))?
-        .arg(file(alloc, "OUT", "The PRG file that is written"))?
-        .arg(seed_option(alloc))?
-        .arg(file_option(alloc, "labels", "Write a label file for VICE's monitor"))?
-        .arg(file_option(
-            alloc,
-            "list",
-            "Write a listing, which assembles to the same bytes",
-        ))?
-        .arg(file_option(alloc, "map", "Write a map: what each line takes and costs"))
+fn argument<'a>(alloc: Global, word: Word<'a>) -> Result<Arg<'a>, AllocError> {
+    Ok(match word {
+        Word::File(name, help) => file(alloc, name, help),
+        Word::Files(name, help) => file(alloc, name, help).num_args(1..),
+        Word::Written(name, help) => written_option(alloc, name, help),
+        Word::SourceOrPrg => return source_or_prg(alloc),
+        Word::Prg => return prg_option(alloc),
+        Word::Seed => seed_option(alloc),
+        Word::Keys => keys_option(alloc),
+        Word::KeyFile => return key_file_option(alloc),
+        Word::Answers => answers_option(alloc),
+        Word::Limit => limit_option(alloc),
+        Word::PlayLimit => play_limit_option(alloc),
+        Word::Rude => rude_option(alloc),
+        Word::At => at_option(alloc),
+    })
 }
 
-// A file that is written where it is asked for.
-fn file_option<'a>(alloc: Global, name: &'a str, help: &'a str) -> Arg<'a> {
-    Arg::new(alloc, name)
-        .long(name)
-        .value_name("FILE")
-        .help(help)
+fn build_command<'a>(alloc: Global) -> Result<Command<'a>, AllocError> {
+    let command = Command::new(alloc, "build").about("Compile a Tiny BASIC source to a PRG file");
+    let words = [
+        SOURCE,
+        Word::File("OUT", "The PRG file that is written"),
+        Word::Seed,
+        Word::Written("labels", "Write a label file for VICE's monitor"),
+        Word::Written("list", "Write a listing, which assembles to the same bytes"),
+        Word::Written("map", "Write a map: what each line takes and costs"),
+    ];
+    with_words(command, alloc, &words)
 }
 
 fn run_command<'a>(alloc: Global) -> Result<Command<'a>, AllocError> {
     let command = Command::new(alloc, "run")
         .about("Run a source or a PRG file, and show what it sends")
         .override_usage("tbc run [OPTIONS] <SOURCE>\n       tbc run [OPTIONS] --prg <FILE>");
-    let command = with_argument(command, source_or_prg(alloc))?;
-    let command = with_argument(command, prg_option(alloc))?;
-    with_settings(command, alloc)?.arg(rude_option(alloc))
+    let command = with_words(command, alloc, &[Word::SourceOrPrg, Word::Prg])?;
+    let command = with_words(command, alloc, &SETTINGS)?;
+    with_words(command, alloc, &[Word::Rude])
 }
 
 fn play_command<'a>(alloc: Global) -> Result<Command<'a>, AllocError> {
     let command = Command::new(alloc, "play")
         .about("Play a source or a PRG file: what you type is its keyboard")
         .override_usage("tbc play [OPTIONS] <SOURCE>\n       tbc play [OPTIONS] --prg <FILE>");
-    let command = with_argument(command, source_or_prg(alloc))?;
-    with_argument(command, prg_option(alloc))?
-        .arg(seed_option(alloc))?
-        .arg(play_limit_option(alloc))?
-        .arg(record_option(alloc))
-}
-
-// The options of a run.
-fn with_settings<'a>(command: Command<'a>, alloc: Global) -> Result<Command<'a>, AllocError> {
-    let command = command.arg(seed_option(alloc))?.arg(keys_option(alloc))?;
-    with_argument(command, key_file_option(alloc))?
-        .arg(answers_option(alloc))?
-        .arg(limit_option(alloc))
+    let words = [
+        Word::SourceOrPrg,
+        Word::Prg,
+        Word::Seed,
+        Word::PlayLimit,
+        Word::Written(
+            "record",
+            "Write all that was typed to this file at the end, for run --keys-file",
+        ),
+    ];
+    with_words(command, alloc, &words)
 }
 
 fn asm_command<'a>(alloc: Global) -> Result<Command<'a>, AllocError> {
-    Command::new(alloc, "asm")
-        .about("Assemble a text to a PRG file")
-        .arg(file(alloc, "IN", "The assembler text"))?
-        .arg(file(alloc, "OUT", "The PRG file that is written"))?
-        .arg(at_option(alloc))
+    let command = Command::new(alloc, "asm").about("Assemble a text to a PRG file");
+    let words = [
+        Word::File("IN", "The assembler text"),
+        Word::File("OUT", "The PRG file that is written"),
+        Word::At,
+    ];
+    with_words(command, alloc, &words)
 }
 
 fn dis_command<'a>(alloc: Global) -> Result<Command<'a>, AllocError> {
-    Command::new(alloc, "dis")
-        .about("List a PRG file as assembler text")
-        .arg(file(alloc, "FILE", "The PRG file"))
+    let command = Command::new(alloc, "dis").about("List a PRG file as assembler text");
+    with_words(command, alloc, &[Word::File("FILE", "The PRG file")])
 }
 
 fn step_command<'a>(alloc: Global) -> Result<Command<'a>, AllocError> {
-    let command = Command::new(alloc, "step")
-        .about("Step through a source by commands from standard input")
-        .arg(file(alloc, "SOURCE", "The source file"))?;
-    with_settings(command, alloc)
+    let command = Command::new(alloc, "step").about(
+        "Step through a source by commands from standard input",
+    );
+    let command = with_words(command, alloc, &[SOURCE])?;
+    with_words(command, alloc, &SETTINGS)
+}
+
+fn debug_command<'a>(alloc: Global) -> Result<Command<'a>, AllocError> {
+    let command = Command::new(alloc, "debug").about(
+        "Debug a source forth and back by commands from standard input; h lists them",
+    );
+    let command = with_words(command, alloc, &[SOURCE])?;
+    let command = with_words(command, alloc, &SETTINGS)?;
+    with_words(command, alloc, &[Word::Rude])
 }
 
 fn profile_command<'a>(alloc: Global) -> Result<Command<'a>, AllocError> {
-    let command = Command::new(alloc, "profile")
-        .about("Run a source, and show what each of its lines took")
-        .arg(file(alloc, "SOURCE", "The source file"))?;
-    with_settings(command, alloc)?
-        .arg(rude_option(alloc))?
-        .arg(html_option(alloc))
+    let command = Command::new(alloc, "profile").about(
+        "Run a source, and show what each of its lines took",
+    );
+    let command = with_words(command, alloc, &[SOURCE])?;
+    let command = with_words(command, alloc, &SETTINGS)?;
+    let page = Word::Written(
+        "html",
+        "Write a page with the same figures to this file too",
+    );
+    with_words(command, alloc, &[Word::Rude, page])
 }
 
 fn disk_command<'a>(alloc: Global) -> Result<Command<'a>, AllocError> {
-    Command::new(alloc, "disk")
-        .about("Make a disk image of PRG files")
-        .arg(file(alloc, "OUT", "The disk image that is written, a D64 file"))?
-        .arg(file(alloc, "FILE", "The PRG files, in order").num_args(1..))
+    let command = Command::new(alloc, "disk").about("Make a disk image of PRG files");
+    let words = [
+        Word::File("OUT", "The disk image that is written, a D64 file"),
+        Word::Files("FILE", "The PRG files, in order"),
+    ];
+    with_words(command, alloc, &words)
+}
+
+fn check_command<'a>(alloc: Global) -> Result<Command<'a>, AllocError> {
+    let command = Command::new(alloc, "check").about(
+        "Show everything that is wrong with sources, and what helps",
+    );
+    with_words(command, alloc, &[Word::Files("SOURCE", "The source files")])
 }
 
 fn file<'a>(alloc: Global, id: &'a str, help: &'a str) -> Arg<'a> {
     Arg::new(alloc, id).help(help).required(true)
+}
+
+fn written_option<'a>(alloc: Global, name: &'a str, help: &'a str) -> Arg<'a> {
+    Arg::new(alloc, name)
+        .long(name)
+        .value_name("FILE")
+        .help(help)
 }
 
 // A source that may be missing beside a PRG file.
@@ -255,63 +375,105 @@ fn play_limit_option<'a>(alloc: Global) -> Arg<'a> {
         .help("The most events from one line that is typed to the next, 1 to 1000000000")
 }
 
-fn record_option<'a>(alloc: Global) -> Arg<'a> {
-    Arg::new(alloc, "record")
-        .long("record")
-        .value_name("FILE")
-        .help("Write all that was typed to this file at the end, for run --keys-file")
-}
-
-fn html_option<'a>(alloc: Global) -> Arg<'a> {
-    Arg::new(alloc, "html")
-        .long("html")
-        .value_name("FILE")
-        .help("Write a page with the same figures to this file too")
-}
-
 fn job_of(alloc: Global, name: &str, found: &ArgMatches<'_>) -> Result<Job, AllocError>
     ensures { IfOk result IsWithinLimit }
 {
-    Ok(match name {
-        "build" => Job::Build {
-            source: text(alloc, found, "SOURCE")?,
-            out: text(alloc, found, "OUT")?,
-            seed: seed_of(found),
-            beside: beside_of(alloc, found)?,
-        },
-        "run" => Job::Run {
-            what: runnable_of(alloc, found)?,
-            settings: settings_of(alloc, found)?,
-            rude: found.get_one::<u16>("rude"),
-        },
-        "play" => Job::Play {
-            what: runnable_of(alloc, found)?,
-            seed: seed_of(found),
-            limit: limit_of(found, Limit::most()),
-            record: optional_text(alloc, found, "record")?,
-        },
-        "asm" => Job::Asm {
-            text: text(alloc, found, "IN")?,
-            out: text(alloc, found, "OUT")?,
-            at: text(alloc, found, "at")?,
-        },
-        "dis" => Job::Dis {
+    match name {
+        "build" => build_job(alloc, found),
+        "run" => run_job(alloc, found),
+        "play" => play_job(alloc, found),
+        "asm" => asm_job(alloc, found),
+        "dis" => Ok(Job::Dis {
             prg: text(alloc, found, "FILE")?,
-        },
-        "disk" => Job::Disk {
-            out: text(alloc, found, "OUT")?,
-            files: texts(alloc, found, "FILE")?,
-        },
-        "profile" => Job::Profile {
-            source: text(alloc, found, "SOURCE")?,
-            settings: settings_of(alloc, found)?,
-            rude: found.get_one::<u16>("rude"),
-            html: optional_text(alloc, found, "html")?,
-        },
-        _ => Job::Step {
-            source: text(alloc, found, "SOURCE")?,
-            settings: settings_of(alloc, found)?,
-        },
+        }),
+        "disk" => disk_job(alloc, found),
+        "check" => Ok(Job::Check {
+            sources: texts(alloc, found, "SOURCE")?,
+        }),
+        "debug" => debug_job(alloc, found),
+        "profile" => profile_job(alloc, found),
+        _ => step_job(alloc, found),
+    }
+}
+
+fn build_job(alloc: Global, found: &ArgMatches<'_>) -> Result<Job, AllocError>
+    ensures { IfOk result IsWithinLimit }
+{
+    Ok(Job::Build {
+        source: text(alloc, found, "SOURCE")?,
+        out: text(alloc, found, "OUT")?,
+        seed: seed_of(found),
+        beside: beside_of(alloc, found)?,
+    })
+}
+
+fn run_job(alloc: Global, found: &ArgMatches<'_>) -> Result<Job, AllocError>
+    ensures { IfOk result IsWithinLimit }
+{
+    Ok(Job::Run {
+        what: runnable_of(alloc, found)?,
+        settings: settings_of(alloc, found)?,
+        rude: found.get_one::<u16>("rude"),
+    })
+}
+
+fn play_job(alloc: Global, found: &ArgMatches<'_>) -> Result<Job, AllocError>
+    ensures { IfOk result IsWithinLimit }
+{
+    Ok(Job::Play {
+        what: runnable_of(alloc, found)?,
+        seed: seed_of(found),
+        limit: limit_of(found, Limit::most()),
+        record: optional_text(alloc, found, "record")?,
+    })
+}
+
+fn asm_job(alloc: Global, found: &ArgMatches<'_>) -> Result<Job, AllocError>
+    ensures { IfOk result IsWithinLimit }
+{
+    Ok(Job::Asm {
+        text: text(alloc, found, "IN")?,
+        out: text(alloc, found, "OUT")?,
+        at: text(alloc, found, "at")?,
+    })
+}
+
+fn disk_job(alloc: Global, found: &ArgMatches<'_>) -> Result<Job, AllocError>
+    ensures { IfOk result IsWithinLimit }
+{
+    Ok(Job::Disk {
+        out: text(alloc, found, "OUT")?,
+        files: texts(alloc, found, "FILE")?,
+    })
+}
+
+fn debug_job(alloc: Global, found: &ArgMatches<'_>) -> Result<Job, AllocError>
+    ensures { IfOk result IsWithinLimit }
+{
+    Ok(Job::Debug {
+        source: text(alloc, found, "SOURCE")?,
+        settings: settings_of(alloc, found)?,
+        rude: found.get_one::<u16>("rude"),
+    })
+}
+
+fn profile_job(alloc: Global, found: &ArgMatches<'_>) -> Result<Job, AllocError>
+    ensures { IfOk result IsWithinLimit }
+{
+    Ok(Job::Profile {
+        source: text(alloc, found, "SOURCE")?,
+        settings: settings_of(alloc, found)?,
+        rude: found.get_one::<u16>("rude"),
+        html: optional_text(alloc, found, "html")?,
+    })
+}
+
+fn step_job(alloc: Global, found: &ArgMatches<'_>) -> Result<Job, AllocError>
+    ensures { IfOk result IsWithinLimit }
+{
+    Ok(Job::Step {
+        source: text(alloc, found, "SOURCE")?,
+        settings: settings_of(alloc, found)?,
     })
 }
 

@@ -2,7 +2,7 @@
 use Rattle.std.specs.Prelude.{◌≤◌, ⊤}
 use Rattle.tb_jobs.specs.declared.jobs.Limit.{Limit}
 use Rattle.tb_jobs.specs.declared.jobs.Job.{Job}
-use Rattle.tb_jobs.specs.declared.jobs.Job.TheVariants.{Build, Run, Play, Asm, Dis, Step, Profile, Disk, Show}
+use Rattle.tb_jobs.specs.declared.jobs.Job.TheVariants.{Build, Run, Play, Asm, Dis, Step, Debug, Profile, Disk, Check, Show}
 
 -- a limit of 1 to 1,000,000,000 events
 abbrev pub IsWithin : Limit → Type 0
@@ -16,6 +16,8 @@ IsWithinLimit (Play what seed limit made) = IsWithin limit
 IsWithinLimit (Asm text out at) = ⊤
 IsWithinLimit (Dis prg) = ⊤
 IsWithinLimit (Step source settings) = IsWithin settings.limit
+IsWithinLimit (Debug source settings rude) = IsWithin settings.limit
 IsWithinLimit (Profile source settings rude html) = IsWithin settings.limit
 IsWithinLimit (Disk out files) = ⊤
+IsWithinLimit (Check sources) = ⊤
 IsWithinLimit (Show text) = ⊤

@@ -129,6 +129,13 @@ pub enum Job {
         source: String,
         settings: Settings,
     },
+    /// Debugs a source by commands from standard input.
+    Debug {
+        source: String,
+        settings: Settings,
+        /// The seed of rude events, where they are wanted.
+        rude: Option<u16>,
+    },
     /// Runs a source, and shows what its lines took.
     Profile {
         source: String,
@@ -143,6 +150,11 @@ pub enum Job {
         out: String,
         /// The PRG files, in order.
         files: Vec<String>,
+    },
+    /// Shows everything that is wrong with sources.
+    Check {
+        /// The sources, in order.
+        sources: Vec<String>,
     },
     /// A help text or the version, to be shown.
     Show {

@@ -20,7 +20,7 @@ use tb_parser::{SourceErrorKind, parse};
 use tb_streams::{Tracked, read_input};
 
 /// How profiling ended, and the page, which is empty where there is no table.
-#[derive(Debug, Drop)]
+#[derive(Drop)]
 pub struct Profiled {
     pub report: Report,
     pub page: Vec<u8>,

@@ -19,7 +19,7 @@ table { border-collapse: collapse; }
 caption { text-align: left; padding: 0 0 0.5em; }
 th, td { padding: 0.15em 0.7em; text-align: right; border-bottom: 1px solid #cccccc; }
 th.source, td.source { text-align: left; white-space: pre; font-family: monospace; }
-td.share { min-width: 15em; text-align: left; }
+th.share, td.share { min-width: 15em; text-align: left; }
 .bar { display: inline-block; height: 0.8em; border: 1px solid #555555; background: #777777; vertical-align: middle; }
 .sums { margin: 0 0 1.5em; }
 .sums th { text-align: left; }
@@ -36,7 +36,7 @@ const ROWS: &[u8] = b"<table>
 <caption>Each line, with what it took. A service counts as one instruction and 6 cycles.</caption>
 <thead>
 <tr><th scope=\"col\">line</th><th scope=\"col\">times</th><th scope=\"col\">instructions</th><th scope=\"col\">cycles</th>\
-<th scope=\"col\">share</th><th scope=\"col\" class=\"source\">statement</th></tr>
+<th scope=\"col\" class=\"share\">share</th><th scope=\"col\" class=\"source\">statement</th></tr>
 </thead>
 <tbody>
 ";

@@ -14,7 +14,7 @@ use tb_profile::{Tally, run_counted};
 use tb_syntax::Program;
 
 /// What a line took: how often it was begun, and the instructions and cycles of its steps.
-#[derive(Clone, Copy, PartialEq, Eq, Debug, Drop)]
+#[derive(Clone, Copy, Drop)]
 pub struct Row {
     pub line: u16,
     pub times: u64,
@@ -23,7 +23,7 @@ pub struct Row {
 }
 
 /// What a run took.
-#[derive(Debug, Drop)]
+#[derive(Drop)]
 pub struct Table {
     /// What came before the first line.
     pub start: Row,

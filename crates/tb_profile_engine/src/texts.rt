@@ -41,9 +41,8 @@ pub fn percent(alloc: Global, thousandths: u64) -> Result<String, AllocError> {
 
 /// A byte as it is shown: `?` below 32 and above 126.
 pub fn shown(byte: u8) -> u8 {
-    if (32..=126).contains(&byte) {
-        byte
-    } else {
-        b'?'
+    match byte {
+        32..=126 => byte,
+        _ => b'?',
     }
 }

@@ -1,5 +1,6 @@
 //! How a job ended.
 use std::fmt;
+use tb_check_engine::CheckOutcome;
 use tb_disk_engine::DiskOutcome;
 use tb_driver::Report;
 
@@ -10,6 +11,8 @@ pub enum Ending {
     Report(Report),
     /// The making of a disk.
     Disk(DiskOutcome),
+    /// A check of sources.
+    Check(CheckOutcome),
 }
 
 impl Ending {
@@ -18,6 +21,7 @@ impl Ending {
         match self {
             Ending::Report(report) => report.status(),
             Ending::Disk(outcome) => outcome.status(),
+            Ending::Check(outcome) => outcome.status(),
         }
     }
 }
@@ -29,6 +33,8 @@ impl fmt::Display for Ending {
             Ending::Report(report) => report.fmt(f),
             Ending::Disk(DiskOutcome::Done) => Ok(()),
             Ending::Disk(outcome) => writeln!(f, "tbc: {outcome}"),
+            Ending::Check(CheckOutcome::Accepted | CheckOutcome::Refused) => Ok(()),
+            Ending::Check(outcome) => writeln!(f, "tbc: {outcome}"),
         }
     }
 }

@@ -2,6 +2,8 @@
 #![tactic(auto)]
 
 mod building;
+mod checking;
+mod debugging;
 mod disks;
 mod ending;
 mod files;
@@ -10,6 +12,7 @@ mod profiling;
 mod tasks;
 
 use ending::Ending;
+use std::io::IsTerminal;
 use std::process::ExitCode;
 use std::rt::{Env, Files};
 use std::{env, io};
@@ -34,14 +37,18 @@ fn job_of_words<R: Env + AllocGlobal>(rt: &R) -> Result<Job, Failure> {
     Ok(job(rt.alloc(), words.as_slice())?)
 }
 
-fn start<R: Files + Env + Print + Eprint + Input + AllocGlobal>(rt: &R) -> Result<Ending, Failure> {
+fn start<R: Files + Env + Print + Eprint + Input + AllocGlobal>(
+    rt: &R,
+    prompts: bool,
+) -> Result<Ending, Failure> {
     let job = job_of_words(rt)?;
-    tasks::perform(rt, &job)
+    tasks::perform(rt, &job, prompts)
 }
 
 fn main(rt: HostRuntime) -> ExitCode {
     // Nobody can be told that standard error fails.
-    let status = match start(&rt) {
+    let prompts = rt.stdin().is_terminal();
+    let status = match start(&rt, prompts) {
         Ok(ending) => {
             let _ = eprint!(rt; "{ending}");
             ending.status()

@@ -1,5 +1,7 @@
 //! The commands. Key lists, key files and addresses are looked at before any other file is opened.
 use crate::building::build_files;
+use crate::checking::check_files;
+use crate::debugging::debug_file;
 use crate::disks::make_disk;
 use crate::ending::Ending;
 use crate::files::{open, save};
@@ -15,10 +17,11 @@ use tb_driver::{
 };
 use tb_kernal::{Keyboard, Outside, Quiet, Rude};
 
-/// Does what the words ask for.
+/// Does what the words ask for. A prompt is shown before a debugger's command where that is wanted.
 pub fn perform<R: Files + Print + Eprint + Input + AllocGlobal>(
     rt: &R,
     job: &Job,
+    prompts: bool,
 ) -> Result<Ending, Failure> {
     match job {
         Job::Build {
@@ -51,6 +54,7 @@ pub fn perform<R: Files + Print + Eprint + Input + AllocGlobal>(
         Job::Disk { out, files } => {
             Ok(Ending::Disk(make_disk(rt, out.as_str(), files.as_slice())))
         }
+        Job::Check { sources } => Ok(Ending::Check(check_files(rt, sources.as_slice()))),
         Job::Show { text } => Ok(plain_ending(rt, show(rt, text.as_str()))),
         Job::Profile {
             source,
@@ -59,7 +63,20 @@ pub fn perform<R: Files + Print + Eprint + Input + AllocGlobal>(
             html,
         } => {
             let html = beside(source.as_str(), html)?;
+            apart_from_keys(&settings.keys, html)?;
             Ok(Ending::Report(profile_beside(rt, source.as_str(), settings, *rude, html)?))
+        }
+        Job::Debug {
+            source,
+            settings,
+            rude,
+        } => {
+            let keyboard = keyboard(rt, settings)?;
+            let source = source.as_str();
+            Ok(plain_ending(
+                rt,
+                debug_file(rt, source, settings, keyboard, *rude, prompts),
+            ))
         }
         Job::Step { source, settings } => {
             Ok(Ending::Report(step_file(rt, source.as_str(), settings)?))
@@ -73,6 +90,14 @@ fn beside<'a>(program: &str, file: &'a Option<String>) -> Result<Option<&'a str>
         Some(file) if file.as_str() == program => Err(Failure::SameFile),
         Some(file) => Ok(Some(file.as_str())),
         None => Ok(None),
+    }
+}
+
+// A page must not take the key file's place either.
+fn apart_from_keys(typed: &Typed, page: Option<&str>) -> Result<(), Failure> {
+    match (typed, page) {
+        (Typed::File(keys), Some(page)) if keys.as_str() == page => Err(Failure::SameFile),
+        _ => Ok(()),
     }
 }
 
