@@ -46,8 +46,8 @@ fn start<R: Files + Env + Print + Eprint + Input + AllocGlobal>(
 }
 
 fn main(rt: HostRuntime) -> ExitCode {
+    let prompts = rt.stdin().is_terminal() && rt.stdout().is_terminal();
     // Nobody can be told that standard error fails.
-    let prompts = rt.stdin().is_terminal();
     let status = match start(&rt, prompts) {
         Ok(ending) => {
             let _ = eprint!(rt; "{ending}");

@@ -40,16 +40,8 @@ pub fn perform<R: Files + Print + Eprint + Input + AllocGlobal>(
             seed,
             limit,
             record,
-        } => {
-            let (Runnable::Source(program) | Runnable::Prg(program)) = what;
-            let record = beside(program.as_str(), record)?;
-            let limit = u64::from(limit.events);
-            Ok(plain_ending(rt, play(rt, what, *seed, limit, record)))
-        }
-        Job::Asm { text, out, at } => match address(at.as_str()) {
-            Some(at) => Ok(plain_ending(rt, assemble_file(rt, text.as_str(), out.as_str(), at))),
-            None => Err(Failure::BadAddress),
-        },
+        } => play_recorded(rt, what, *seed, limit.events, record),
+        Job::Asm { text, out, at } => { assemble_at(rt, text.as_str(), out.as_str(), at.as_str()) }
         Job::Dis { prg } => Ok(plain_ending(rt, list_file(rt, prg.as_str()))),
         Job::Disk { out, files } => {
             Ok(Ending::Disk(make_disk(rt, out.as_str(), files.as_slice())))
@@ -61,27 +53,56 @@ pub fn perform<R: Files + Print + Eprint + Input + AllocGlobal>(
             settings,
             rude,
             html,
-        } => {
-            let html = beside(source.as_str(), html)?;
-            apart_from_keys(&settings.keys, html)?;
-            Ok(Ending::Report(profile_beside(rt, source.as_str(), settings, *rude, html)?))
-        }
+        } => profile_with_page(rt, source.as_str(), settings, *rude, html),
         Job::Debug {
             source,
             settings,
             rude,
         } => {
             let keyboard = keyboard(rt, settings)?;
-            let source = source.as_str();
-            Ok(plain_ending(
-                rt,
-                debug_file(rt, source, settings, keyboard, *rude, prompts),
-            ))
+            let outcome = debug_file(rt, source.as_str(), settings, keyboard, *rude, prompts);
+            Ok(plain_ending(rt, outcome))
         }
         Job::Step { source, settings } => {
             Ok(Ending::Report(step_file(rt, source.as_str(), settings)?))
         }
     }
+}
+
+fn play_recorded<R: Files + Print + Eprint + Input + AllocGlobal>(
+    rt: &R,
+    what: &Runnable,
+    seed: u16,
+    limit: u32,
+    record: &Option<String>,
+) -> Result<Ending, Failure> {
+    let (Runnable::Source(program) | Runnable::Prg(program)) = what;
+    let record = beside(program.as_str(), record)?;
+    Ok(plain_ending(rt, play(rt, what, seed, u64::from(limit), record)))
+}
+
+fn assemble_at<R: Files + AllocGlobal>(
+    rt: &R,
+    text: &str,
+    out: &str,
+    at: &str,
+) -> Result<Ending, Failure> {
+    match address(at) {
+        Some(at) => Ok(plain_ending(rt, assemble_file(rt, text, out, at))),
+        None => Err(Failure::BadAddress),
+    }
+}
+
+fn profile_with_page<R: Files + Print + AllocGlobal>(
+    rt: &R,
+    source: &str,
+    settings: &Settings,
+    rude: Option<u16>,
+    html: &Option<String>,
+) -> Result<Ending, Failure> {
+    let html = beside(source, html)?;
+    apart_from_keys(&settings.keys, html)?;
+    Ok(Ending::Report(profile_beside(rt, source, settings, rude, html)?))
 }
 
 // The name of a file that is written at the end, which must not take the program's place.

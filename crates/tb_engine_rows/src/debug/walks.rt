@@ -59,20 +59,32 @@ impl Outlook {
 
     // Whether a breakpoint stands at a time.
     fn breaks(&self, time: usize, wanted: Wanted) -> bool {
-        (time < self.last() || !self.ends) && self.runs[time].place == Place::At(wanted.line)
+        match self.runs.get(time) {
+            Some(run) => {
+                (time < self.last() || !self.ends) && run.place == Place::At(wanted.line)
+            }
+            None => false,
+        }
     }
 
     // Whether the line of a time gives the watched variable another value.
     fn changes(&self, time: usize, wanted: Wanted) -> bool {
         time < self.last()
-            && self.runs[time].variables[wanted.index]
-                != self.runs[time + 1].variables[wanted.index]
+            && self.watched(time, wanted) != self.watched(time.saturating_add(1), wanted)
+    }
+
+    // The watched variable's value at a time.
+    fn watched(&self, time: usize, wanted: Wanted) -> Option<u16> {
+        match self.runs.get(time) {
+            Some(run) => run.variables.get(wanted.index).copied(),
+            None => None,
+        }
     }
 
     // Where `c` stops; none where it runs off.
     fn on_from(&self, time: usize, wanted: Wanted) -> Option<usize> {
-        for next in time + 1..=self.last() {
-            if self.breaks(next, wanted) || self.changes(next - 1, wanted) {
+        for next in time.saturating_add(1)..self.runs.len() {
+            if self.breaks(next, wanted) || self.changes(next.saturating_sub(1), wanted) {
                 return Some(next);
             }
         }
@@ -91,7 +103,9 @@ impl Outlook {
 
     // Whether the debugger shows what the interpreter says of a time.
     fn agrees(&self, debugger: &Debugger<'_>, program: &Compiled, time: usize) -> bool {
-        let run = &self.runs[time];
+        let Some(run) = self.runs.get(time) else {
+            return false;
+        };
         let is_line = debugger.standing() == Reached::Line;
         let line = program.line_at(debugger.machine().regs().pc);
         let is_place = match run.place {
@@ -137,13 +151,13 @@ fn command(
     let last = course.last();
     let lines = dice.throw(5);
     match dice.throw(7) {
-        0 => (
-            Command::On(lines.min(last - time) as u64),
-            time + lines.min(last - time),
-        ),
+        0 => {
+            let lines = lines.min(last.saturating_sub(time));
+            (Command::On(lines as u64), time.saturating_add(lines))
+        }
         1 => (Command::Back(lines as u64), time.saturating_sub(lines)),
         2 => {
-            let to = dice.throw(last + 1);
+            let to = dice.throw(last.saturating_add(1));
             (Command::ToTime(to as u64), to)
         }
         3 | 4 => match course.on_from(time, wanted) {
@@ -173,17 +187,21 @@ fn walks(
     let beside = if dice.throw(2) == 0 {
         Beside::Quiet
     } else {
-        Beside::Rude(dice.throw(9) as u16)
+        Beside::Rude(u16::try_from(dice.throw(9)).unwrap_or(0))
     };
     let Ok(mut debugger) = Debugger::new(alloc, &program, machine, beside) else {
         return Ok(0);
     };
     let starts = program.starts();
+    let Some(start) = starts.get(dice.throw(starts.len())) else {
+        return Ok(0);
+    };
     let wanted = Wanted {
-        line: starts[dice.throw(starts.len())].number,
+        line: start.number,
         index: dice.throw(26),
     };
-    let Some(letter) = Letter::read(b'A' + wanted.index as u8) else {
+    let place = u8::try_from(wanted.index).unwrap_or(0);
+    let Some(letter) = Letter::read(b'A'.wrapping_add(place)) else {
         return Ok(0);
     };
     debugger.respond(alloc, Command::Breakpoint(wanted.line), 0)?;
@@ -205,7 +223,7 @@ fn walks_agree_with_the_interpreter(rt: HostRuntime) -> Result<(), Fail> {
     for (index, source) in ALL.iter().enumerate() {
         let course = course(rt.alloc(), source)?;
         let mut dice = Dice {
-            state: index as u32,
+            state: u32::try_from(index).unwrap_or(0),
         };
         for walk in 0..WALKS {
             let agreed = walks(rt.alloc(), source, &course, &mut dice, MOVES)?;
