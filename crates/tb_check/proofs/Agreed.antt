@@ -1,5 +1,5 @@
 -- The verdict and the compiler's answer.
-use Rattle.std.proofs.Common.{◌≡◌, ◌≢◌, ℕ, ◌≤◌, ◌<◌, nat_le, true, false, List, [], ◌∷◌, Option, Some, None, Result, Ok, Err, if◌then◌else◌, refl, sym, ap, ◌∙◌, subst, arith, is_some, is_err, true≢false}
+use Rattle.std.proofs.Common.{◌≡◌, ◌≢◌, ℕ, ◌≤◌, ◌<◌, nat_le, true, false, List, [], ◌∷◌, Option, Some, None, Result, Ok, Err, if◌then◌else◌, refl, sym, ap, ◌∙◌, subst, arith, is_some, true≢false}
 use Rattle.std.specs.Prelude.{IfOk}
 use Rattle.tb_syntax.specs.Source.{Program}
 use Rattle.tb_lower.specs.Cost.{cost}

@@ -1,12 +1,11 @@
 -- A file without bad lines that is refused has no line left.
-use Rattle.std.proofs.Common.{◌≡◌, ◌≢◌, ℕ, List, [], ◌∷◌, Some, Result, Ok, Err, refl, ap, subst, is_ok, sym, true≢false}
+use Rattle.std.proofs.Common.{◌≡◌, ◌≢◌, ℕ, List, [], ◌∷◌, Err, refl, ap, subst, is_ok, sym, true≢false}
 use Rattle.std.specs.Prelude.{IfSome}
 use Rattle.tb_syntax.specs.Source.{Program}
 use Rattle.tb_parser.specs.declared.errors.SourceErrorKind.{SourceErrorKind}
 use Rattle.tb_parser.specs.declared.errors.SourceErrorKind.TheVariants.{LineTooLong, BadByte, Unnumbered, BadLineNumber, NotCompiled, Syntax, NumberTooLarge, Empty, NoMemory}
 use Rattle.tb_parser.specs.Answers.{refusal_of}
-use Rattle.tb_parser.specs.Files.{Outcome, at_end, refused_at}
-use Rattle.tb_parser.specs.Readings.{Refusal}
+use Rattle.tb_parser.specs.Files.{at_end, refused_at}
 use Rattle.tb_codegen.specs.Answers.{Makes}
 
 refused_is_none : (p : Program) (kind : SourceErrorKind) (column line : ℕ) → kind ≢ NoMemory
