@@ -2,7 +2,8 @@
 # Measures the machine against sim65 of cc65 on the same 6502 code, and prints events a second of both and their ratio.
 #
 #   tools/measure_machine.sh [EVENTS] [ROUNDS]      default: 100000000 events, 5 rounds; needs rt and sim65 (Debian's cc65)
-#   tools/measure_machine.sh --instructions         instructions of this processor for each event; needs valgrind
+#   tools/measure_machine.sh --instructions         instructions of this processor for each event, and for each of sim65's
+#                                                   instructions where it is installed; needs valgrind
 #
 # Each program runs on the machine (`run` with nothing outside), by the processor's `step` alone and, where the program
 # is built, by the command line (`tbc run --prg`).
@@ -13,18 +14,30 @@ speed=$root/crates/tb_speed/out/tb_speed
 
 (cd "$root/crates/tb_speed" && rt run >"$work/build.txt" 2>&1) || { cat build.txt; exit 1; }
 
+# A program for sim65: its mark, version 2, a 6502, stack pointer at 0, load address and start $0C00, the bytes of tb_speed's program.
+mark='sim65\x02\x00\x00\x00\x0c\x00\x0c'
+printf "$mark"'\xe8\xd0\xfd\xc8\xd0\xfa\xee\x00\xc0\x4c\x00\x0c' >loop
+printf "$mark"'\xad\x00\xc0\x18\x6d\x02\xc0\x8d\x00\xc0\xad\x01\xc0\x6d\x03\xc0\x8d\x01\xc0\xce\x04\xc0\xd0\xe8\x4c\x00\x0c' >sums
+
+# sim65 stops after a count of cycles: 514 instructions of the loop take 1284, and 9 of the sums take 35.
+cycles_of() { # NAME INSTRUCTIONS
+    case $1 in
+        loop) awk -v n="$2" 'BEGIN { printf "%.0f", n * 1284 / 514 }' ;;
+        sums) awk -v n="$2" 'BEGIN { printf "%.0f", n * 35 / 9 }' ;;
+    esac
+}
+
 if [ "${1:-}" = --instructions ]; then
     needs valgrind
+    sim65=$(command -v sim65 || true)
     for name in loop sums; do
         for events in 1000000 2000000; do
-            for way in events steps; do
-                words=("$name" "$events")
-                [ "$way" = events ] || words+=(steps)
-                counted "$speed" "${words[@]}" >"$way.$events"
-            done
+            counted "$speed" "$name" "$events" >"events.$events"
+            counted "$speed" "$name" "$events" steps >"steps.$events"
+            [ -z "$sim65" ] || counted "$sim65" -x "$(cycles_of "$name" "$events")" "$name" >"sim65.$events"
         done
         # the difference leaves out what start and end cost
-        for way in events steps; do
+        for way in events steps ${sim65:+sim65}; do
             awk -v name="$name" -v way="$way" '{ count[NR] = $1 }
                 END { printf "%s, %s: %.1f instructions each\n", name, way, (count[2] - count[1]) / 1000000 }' "$way.1000000" "$way.2000000"
         done
@@ -36,11 +49,6 @@ needs sim65
 events=${1:-100000000}
 rounds=${2:-5}
 
-# A program for sim65: its mark, version 2, a 6502, stack pointer at 0, load address and start $0C00, the bytes of tb_speed's program.
-mark='sim65\x02\x00\x00\x00\x0c\x00\x0c'
-printf "$mark"'\xe8\xd0\xfd\xc8\xd0\xfa\xee\x00\xc0\x4c\x00\x0c' >loop
-printf "$mark"'\xad\x00\xc0\x18\x6d\x02\xc0\x8d\x00\xc0\xad\x01\xc0\x6d\x03\xc0\x8d\x01\xc0\xce\x04\xc0\xd0\xe8\x4c\x00\x0c' >sums
-
 # The same as a PRG file, which starts at $080D: its load address and its BASIC line, 10 SYS2061.
 line='\x01\x08\x0b\x08\x0a\x00\x9e2061\x00\x00\x00'
 printf "$line"'\xe8\xd0\xfd\xc8\xd0\xfa\xee\x00\xc0\x4c\x0d\x08' >loop.prg
@@ -48,18 +56,10 @@ printf "$line"'\xad\x00\xc0\x18\x6d\x02\xc0\x8d\x00\xc0\xad\x01\xc0\x6d\x03\xc0\
 ways='steps events'
 [ ! -x "$tbc" ] || ways="$ways line"
 
-# sim65 stops after a count of cycles: 514 instructions of the loop take 1284, and 9 of the sums take 35.
-cycles_of() {
-    case $1 in
-        loop) awk -v n="$events" 'BEGIN { printf "%.0f", n * 1284 / 514 }' ;;
-        sums) awk -v n="$events" 'BEGIN { printf "%.0f", n * 35 / 9 }' ;;
-    esac
-}
-
 best() { sort -n "$1.us" | head -1; }
 
 for name in loop sums; do
-    cycles=$(cycles_of "$name")
+    cycles=$(cycles_of "$name" "$events")
     for _ in $(seq "$rounds"); do
         timed "$name.events" "$speed" "$name" "$events"
         timed "$name.steps" "$speed" "$name" "$events" steps

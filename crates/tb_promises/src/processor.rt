@@ -1,11 +1,11 @@
 //! One instruction of the processor.
-ghost use Rattle.std.specs.Prelude.{◌≡◌};
+ghost use Rattle.std.specs.Prelude.{◌≡◌, ◌≤◌};
 ghost use Rattle.tb_memmap.specs.Bytes.{at};
 ghost use Rattle.tb_cpu.specs.Effects.{status_byte, status_flags};
-ghost use Rattle.tb_cpu.specs.Instructions.{Stepped, Tried, next, outcome, place_of};
+ghost use Rattle.tb_cpu.specs.Instructions.{Stepped, Went, next, place_of};
 ghost use Rattle.tb_cpu.specs.Operands.{reading};
 
-use tb_cpu::{Flags, Regs, Wrong, operand_place, step, step_quickly};
+use tb_cpu::{Flags, Regs, Wrong, operand_place, run_quickly, step};
 use tb_memmap::Memory;
 
 /// `step`.
@@ -15,11 +15,12 @@ pub fn stepped(regs: &mut Regs, memory: &mut Memory) -> Result<(), Wrong>
     step(regs, memory)
 }
 
-/// `step_quickly`.
-pub fn stepped_quickly(regs: &mut Regs, memory: &mut Memory) -> bool
-    ensures { Tried (outcome regs.old (reading (at memory.old))) (regs.old, at memory.old) result (regs.new, at memory.new) }
+/// `run_quickly`.
+pub fn ran_quickly(regs: &mut Regs, memory: &mut Memory, home: u16, limit: u64) -> u64
+    ensures went { Went home regs.old memory.old result regs.new memory.new }
+    ensures few { result ≤ limit }
 {
-    step_quickly(regs, memory)
+    run_quickly(regs, memory, home, limit)
 }
 
 /// `operand_place`.
