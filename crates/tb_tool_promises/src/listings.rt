@@ -1,0 +1,40 @@
+//! Labels, listing and map of a compiled program.
+ghost use Rattle.std.specs.Prelude.{◌≡◌, ◌+◌, ◌-◌, ◌≤◌, length, drop, map, IfOk};
+ghost use Rattle.tb_syntax.specs.Shown.{lines_of};
+ghost use Rattle.tb_lower.specs.Cost as lower;
+ghost use Rattle.tb_runtime16.specs.Places.{PROLOGUE_AT};
+ghost use Rattle.tb_disasm.specs.Back.{GivesBack};
+ghost use Rattle.tb_codegen.specs.Compiled.{pair_of, prg_of, starts_of, table_of};
+ghost use Rattle.tb_listing.specs.Labels.{places, labels_text};
+ghost use Rattle.tb_listing.specs.Map.{map_text};
+
+use std::alloc::{AllocError, Global};
+use tb_codegen::{Compiled, LineStart};
+use tb_listing::{chart, labels, list};
+use tb_syntax::Program;
+
+/// `labels`.
+pub fn labels_of(alloc: Global, starts: &[LineStart], table: u16) -> Result<Vec<u8>, AllocError>
+    ensures { IfOk result (λ text. text.items ≡ labels_text (places (map pair_of starts.now) table)) }
+{
+    labels(alloc, starts, table)
+}
+
+/// `list`.
+pub fn listing_of(alloc: Global, compiled: &Compiled, source: &[u8]) -> Result<Vec<u8>, AllocError>
+    requires headed { 14 ≤ length (prg_of compiled.now) }
+    requires ends { PROLOGUE_AT + (length (prg_of compiled.now) - 14) ≤ 0xA000 }
+    ensures back { IfOk result (λ text. GivesBack PROLOGUE_AT text.items (drop 14 (prg_of compiled.now))) }
+    ensures readable { IfOk result (λ text. length text.items ≤ 1048576) }
+{
+    list(alloc, compiled, source)
+}
+
+/// `chart`.
+pub fn map_of(alloc: Global, compiled: &Compiled, program: &Program) -> Result<Vec<u8>, AllocError>
+    requires small { lower.cost (lines_of program.now) ≤ 37888 }
+    requires ends { PROLOGUE_AT + (length (prg_of compiled.now) - 14) ≤ 0xA000 }
+    ensures { IfOk result (λ text. text.items ≡ map_text (starts_of compiled.now) (table_of compiled.now) (length (prg_of compiled.now) - 14) (lines_of program.now)) }
+{
+    chart(alloc, compiled, program)
+}
