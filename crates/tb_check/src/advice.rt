@@ -10,7 +10,7 @@ use tb_syntax::{Expr, PrintItem, Program, Statement};
 const LARGEST_BOUND: u16 = 15_000;
 
 /// What there is to warn of.
-#[derive(Clone, Copy, PartialEq, Eq, Debug, Drop)]
+#[derive(Clone, Copy, Drop)]
 pub enum Warning {
     /// A GOTO or GOSUB goes to this line, which isn't there.
     NoLine(i16),
@@ -25,7 +25,7 @@ pub enum Warning {
 }
 
 /// A warning at its line of the file, from 1.
-#[derive(Clone, Copy, PartialEq, Eq, Debug, Drop)]
+#[derive(Clone, Copy, Drop)]
 pub struct LineWarning {
     pub line: usize,
     pub warning: Warning,
@@ -45,14 +45,27 @@ pub fn warnings(
     program: &Program,
     lines: &[NumberedLine],
 ) -> Result<Vec<LineWarning>, NoMemory> {
-    let facts = Facts {
-        last: last_lines(alloc, lines)?,
+    let facts = facts_of(alloc, program, lines)?;
+    warnings_by(alloc, &facts, lines)
+}
+
+fn facts_of(alloc: Global, program: &Program, lines: &[NumberedLine]) -> Result<Facts, NoMemory> {
+    let last = last_lines(alloc, lines)?;
+    Ok(Facts {
+        last,
         jumps: missing_jumps(alloc, program)?,
         highest: highest_line(program),
-    };
+    })
+}
+
+fn warnings_by(
+    alloc: Global,
+    facts: &Facts,
+    lines: &[NumberedLine],
+) -> Result<Vec<LineWarning>, AllocError> {
     let mut found = Vec::new(alloc);
     for line in lines {
-        warn(alloc, &facts, line, &mut found)?;
+        warn(alloc, facts, line, &mut found)?;
     }
     Ok(found)
 }
@@ -111,10 +124,18 @@ fn warn_of_statement(
     if line.number == facts.highest && goes_on(statement) {
         push(found, line.line, Warning::RunsPast)?;
     }
-    let mut bounds = Vec::new(alloc);
-    statement_bounds(statement, &mut bounds)?;
-    for bound in &bounds {
-        push(found, line.line, Warning::EvenBound(*bound))?;
+    let bounds = bounds_of(alloc, statement)?;
+    warn_of_bounds(line.line, &bounds, found)
+}
+
+// Appends a warning on each of these bounds.
+fn warn_of_bounds(
+    line: usize,
+    bounds: &[u16],
+    found: &mut Vec<LineWarning>,
+) -> Result<(), AllocError> {
+    for bound in bounds {
+        push(found, line, Warning::EvenBound(*bound))?;
     }
     Ok(())
 }
@@ -127,7 +148,14 @@ fn goes_on(statement: &Statement) -> bool {
     )
 }
 
-// Appends the even bounds of RND in a statement, each once.
+// The even bounds of RND in a statement, each once.
+fn bounds_of(alloc: Global, statement: &Statement) -> Result<Vec<u16>, AllocError> {
+    let mut bounds = Vec::new(alloc);
+    statement_bounds(statement, &mut bounds)?;
+    Ok(bounds)
+}
+
+// Appends those of them that are not there yet.
 fn statement_bounds(statement: &Statement, bounds: &mut Vec<u16>) -> Result<(), AllocError> {
     match statement {
         Statement::Let(_, e) | Statement::Goto(e) | Statement::Gosub(e) => {

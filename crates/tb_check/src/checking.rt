@@ -1,6 +1,7 @@
 //! The bad lines of a source.
-ghost use Rattle.std.specs.Prelude.{IfOk, OnOk};
+ghost use Rattle.std.specs.Prelude.{◌≡◌, ◌≢◌, ◌∷◌, ◌++◌, [], Some, IfOk, OnOk};
 ghost use Rattle.tb_parser.specs.Lines.{lines_of_file};
+ghost use Rattle.tb_parser.specs.declared.errors.SourceErrorKind.TheVariants as kind;
 ghost use Rattle.tb_check.specs.BadLines.{BadLinesAre, FirstIs, IsFaultOf, LooksAt};
 
 use std::alloc::{AllocError, Global};
@@ -35,9 +36,22 @@ fn look_at(
     ensures { OnOk result (LooksAt number line.now found.old.items found.new.items) }
 {
     match fault_of(alloc, line)? {
-        None => {}
-        Some(fault) => found.push(fault.at_line(number))?,
+        None => Ok(()),
+        Some(Fault { kind, column }) => push(
+            found,
+            SourceError {
+                kind,
+                line: number,
+                column,
+            },
+        ),
     }
+}
+
+fn push(found: &mut Vec<SourceError>, error: SourceError) -> Result<(), NoMemory>
+    ensures { OnOk result (found.new.items ≡ found.old.items ++ error ∷ []) }
+{
+    found.push(error)?;
     Ok(())
 }
 
@@ -47,9 +61,16 @@ fn fault_of(alloc: Global, line: &[u8]) -> Result<Option<Fault>, NoMemory>
 {
     match read_line(alloc, line) {
         Ok(_) => Ok(None),
-        Err(fault) => match fault.kind {
-            SourceErrorKind::NoMemory => Err(AllocError),
-            _ => Ok(Some(fault)),
-        },
+        Err(fault) => told(fault),
+    }
+}
+
+// A fault, where it is none of memory.
+fn told(fault: Fault) -> Result<Option<Fault>, NoMemory>
+    ensures { IfOk result (λ told. (told ≡ Some fault) × (fault.kind ≢ kind.NoMemory)) }
+{
+    match fault.kind {
+        SourceErrorKind::NoMemory => Err(AllocError),
+        _ => Ok(Some(fault)),
     }
 }

@@ -1,23 +1,27 @@
 //! All that there is to say of a source.
-ghost use Rattle.std.specs.Prelude.{◌≡◌, IfOk, map};
-ghost use Rattle.tb_check.specs.Findings.{AreFindings};
+ghost use Rattle.std.specs.Prelude.{◌≡◌, ◌∷◌, ◌++◌, [], IfOk, OnOk, map};
+ghost use Rattle.tb_check.specs.Findings.{AreFindings, Tells};
 
 use crate::advice::{LineWarning, warnings};
 use crate::judging::{Verdict, judge};
-use crate::lines::{NumberedLine, last_lines, numbered_lines, outdone_by, texts_of_lines};
+use crate::lines::{
+    LastLine, NumberedLine, last_lines, numbered_lines, outdone_by, texts_of_lines,
+};
 use crate::notes::{Note, note_of};
 use std::alloc::{AllocError, Global};
+use std::collections::BTreeMap;
 use tb_parser::{NoMemory, SourceError};
+use tb_syntax::Program;
 
 /// A bad line's first fault, with a note where there is one.
-#[derive(Clone, Copy, PartialEq, Eq, Debug, Drop)]
+#[derive(Clone, Copy, Drop)]
 pub struct BadLine {
     pub error: SourceError,
     pub note: Option<Note>,
 }
 
 /// All that there is to say of a source.
-#[derive(Debug, Drop)]
+#[derive(Drop)]
 pub enum Findings {
     /// These lines are bad, in the order of the file.
     BadLines(Vec<BadLine>),
@@ -38,18 +42,34 @@ pub enum Findings {
 pub fn examine(alloc: Global, source: &[u8]) -> Result<Findings, NoMemory>
     ensures { IfOk result (AreFindings source.now) }
 {
-    match judge(alloc, source)? {
-        Verdict::BadLines(errors) => Ok(Findings::BadLines(with_notes(alloc, source, &errors)?)),
+    let verdict = judge(alloc, source)?;
+    findings_by(alloc, source, &verdict)
+}
+
+// What there is to say of a source, by what becomes of it.
+fn findings_by(alloc: Global, source: &[u8], verdict: &Verdict) -> Result<Findings, NoMemory>
+    ensures { IfOk result (Tells verdict.now) }
+{
+    match verdict {
+        Verdict::BadLines(errors) => Ok(Findings::BadLines(with_notes(alloc, source, errors)?)),
         Verdict::Empty => Ok(Findings::Empty),
         Verdict::Refused(faults) => Ok(Findings::Refused {
             deep: deep_lines(alloc, source, &faults.deep)?,
             too_large: faults.too_large,
         }),
         Verdict::Accepted(program) => {
-            let lines = numbered_lines(alloc, source)?;
-            Ok(Findings::Accepted(warnings(alloc, &program, &lines)?))
+            Ok(Findings::Accepted(warnings_on(alloc, source, program)?))
         }
     }
+}
+
+fn warnings_on(
+    alloc: Global,
+    source: &[u8],
+    program: &Program,
+) -> Result<Vec<LineWarning>, NoMemory> {
+    let lines = numbered_lines(alloc, source)?;
+    warnings(alloc, program, &lines)
 }
 
 // Bad lines with their notes.
@@ -61,11 +81,30 @@ fn with_notes(
     ensures { IfOk result (λ lines. map (λ l. l.error) lines.items ≡ errors.now) }
 {
     let texts = texts_of_lines(alloc, source)?;
+    noted(alloc, &texts, errors)
+}
+
+// Bad lines with their notes, by the lines of their file.
+fn noted(alloc: Global, texts: &[&[u8]], errors: &[SourceError]) -> Result<Vec<BadLine>, NoMemory>
+    ensures { IfOk result (λ lines. map (λ l. l.error) lines.items ≡ errors.now) }
+{
     let mut found = Vec::new(alloc);
     for error in errors {
-        found.push(with_note(alloc, &texts, *error)?)?;
+        push_noted(alloc, texts, *error, &mut found)?;
     }
     Ok(found)
+}
+
+fn push_noted(
+    alloc: Global,
+    texts: &[&[u8]],
+    error: SourceError,
+    found: &mut Vec<BadLine>,
+) -> Result<(), NoMemory>
+    ensures { OnOk result (map (λ l. l.error) found.new.items ≡ map (λ l. l.error) found.old.items ++ error ∷ []) }
+{
+    found.push(with_note(alloc, texts, error)?)?;
+    Ok(())
 }
 
 fn with_note(alloc: Global, texts: &[&[u8]], error: SourceError) -> Result<BadLine, NoMemory>
@@ -91,9 +130,18 @@ fn places(
     numbers: &[u16],
 ) -> Result<Vec<usize>, AllocError> {
     let last = last_lines(alloc, lines)?;
+    places_by(alloc, &last, lines, numbers)
+}
+
+fn places_by(
+    alloc: Global,
+    last: &BTreeMap<u16, LastLine>,
+    lines: &[NumberedLine],
+    numbers: &[u16],
+) -> Result<Vec<usize>, AllocError> {
     let mut found = Vec::new(alloc);
     for line in lines {
-        if numbers.binary_search(&line.number).is_ok() && outdone_by(&last, line).is_none() {
+        if numbers.binary_search(&line.number).is_ok() && outdone_by(last, line).is_none() {
             found.push(line.line)?;
         }
     }

@@ -21,7 +21,7 @@ use tb_syntax::Program;
 const MOST: u32 = 37_888;
 
 /// What is wrong with a program.
-#[derive(Debug, Drop)]
+#[derive(Drop)]
 pub struct ProgramFaults {
     /// The numbers of the lines with an expression that is too deep.
     pub deep: Vec<u16>,

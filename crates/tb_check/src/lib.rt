@@ -10,11 +10,11 @@ mod lines;
 mod notes;
 mod words;
 
-pub use advice::{LineWarning, Warning, warnings};
+pub use advice::{LineWarning, Warning};
 pub use checking::bad_lines;
 pub use examination::{BadLine, Findings, examine};
 pub use judging::{ProgramFaults, Verdict, judge};
-pub use lines::{NumberedLine, numbered_lines, texts_of_lines};
-pub use notes::{Note, note_of};
+pub use lines::texts_of_lines;
+pub use notes::Note;
 pub use tb_parser::{NoMemory, SourceError, SourceErrorKind};
 pub use words::Missing;

@@ -1,11 +1,14 @@
 //! The lines of a file.
+ghost use Rattle.std.specs.Prelude.{◌≡◌, IfOk, map};
+ghost use Rattle.tb_parser.specs.Lines.{lines_of_file};
+
 use std::alloc::{AllocError, Global};
 use std::collections::BTreeMap;
 use tb_parser::{LineEdit, NoMemory, SourceErrorKind, next_line, read_line};
 use tb_syntax::Statement;
 
 /// A line of a file that has a number.
-#[derive(Debug, Drop)]
+#[derive(Drop)]
 pub struct NumberedLine {
     /// Which line of the file it is, from 1.
     pub line: usize,
@@ -15,7 +18,9 @@ pub struct NumberedLine {
 }
 
 /// The lines of a file as they stand there.
-pub fn texts_of_lines(alloc: Global, source: &[u8]) -> Result<Vec<&[u8]>, NoMemory> {
+pub fn texts_of_lines(alloc: Global, source: &[u8]) -> Result<Vec<&[u8]>, NoMemory>
+    ensures { IfOk result (λ texts. map (λ t. t.now) texts.items ≡ lines_of_file source.now) }
+{
     let mut texts = Vec::new(alloc);
     let mut rest = source;
     while let Some((line, behind)) = next_line(rest) {
@@ -31,17 +36,27 @@ pub fn numbered_lines(alloc: Global, source: &[u8]) -> Result<Vec<NumberedLine>,
     let mut rest = source;
     let mut line = 1;
     while let Some((text, behind)) = next_line(rest) {
-        if let Some((number, statement)) = numbered(alloc, text)? {
-            found.push(NumberedLine {
-                line,
-                number,
-                statement,
-            })?;
-        }
+        push_numbered(alloc, text, line, &mut found)?;
         rest = behind;
         line += 1;
     }
     Ok(found)
+}
+
+fn push_numbered(
+    alloc: Global,
+    text: &[u8],
+    line: usize,
+    found: &mut Vec<NumberedLine>,
+) -> Result<(), NoMemory> {
+    if let Some((number, statement)) = numbered(alloc, text)? {
+        found.push(NumberedLine {
+            line,
+            number,
+            statement,
+        })?;
+    }
+    Ok(())
 }
 
 // A line's number and its statement, where it has them.
@@ -58,7 +73,7 @@ fn numbered(alloc: Global, text: &[u8]) -> Result<Option<(u16, Option<Statement>
 }
 
 /// The last line of a file with a number.
-#[derive(Clone, Copy, Debug, Drop)]
+#[derive(Clone, Copy, Drop)]
 pub struct LastLine {
     /// Which line of the file it is, from 1.
     pub line: usize,

@@ -9,7 +9,7 @@ use tb_parser::{NoMemory, SourceError, SourceErrorKind};
 const BYTE_ORDER_MARK: &[u8] = &[0xef, 0xbb, 0xbf];
 
 /// What may help with a bad line.
-#[derive(Clone, Copy, PartialEq, Eq, Debug, Drop)]
+#[derive(Clone, Copy, Drop)]
 pub enum Note {
     /// A word of other BASICs.
     Missing(Missing),
@@ -54,7 +54,11 @@ fn note_on_byte(line: &[u8], error: SourceError) -> Option<Note> {
 // The note on a place of a line, from 0, where no line of the language goes on like this.
 fn note_on_syntax(alloc: Global, line: &[u8], place: usize) -> Result<Option<Note>, NoMemory> {
     let line = in_upper_case(alloc, line)?;
-    let line = line.as_slice();
+    note_at(alloc, &line, place)
+}
+
+// The same on a line in upper case.
+fn note_at(alloc: Global, line: &[u8], place: usize) -> Result<Option<Note>, NoMemory> {
     match line.get(place) {
         None => Ok(note_on_end(line)),
         Some(b'?') => Ok(Some(Note::QuestionMark)),

@@ -4,7 +4,7 @@ use strsim::generic_levenshtein;
 use tb_parser::NoMemory;
 
 /// A word of other BASICs that Tiny BASIC has not.
-#[derive(Clone, Copy, PartialEq, Eq, Debug, Drop)]
+#[derive(Clone, Copy, Drop)]
 pub enum Missing {
     For,
     Next,

@@ -34,12 +34,21 @@ fn look_at(alloc: Global, name: &str, source: &[u8]) -> Result<Said, AllocError>
     ensures { IfOk result (λ said. Finds source.now said.is_refused) }
 {
     let found = examine(alloc, source)?;
-    let lines = texts_of_lines(alloc, source)?;
-    let text = report(alloc, &Source { name, lines }, &found)?;
+    let text = text_on(alloc, name, source, &found)?;
     Ok(Said {
         text,
         is_refused: !matches!(&found, Findings::Accepted(_)),
     })
+}
+
+fn text_on(
+    alloc: Global,
+    name: &str,
+    source: &[u8],
+    found: &Findings,
+) -> Result<Vec<u8>, AllocError> {
+    let lines = texts_of_lines(alloc, source)?;
+    report(alloc, &Source { name, lines }, found)
 }
 
 impl Checked {

@@ -9,3 +9,4 @@ mod texts;
 
 pub use engine::Checked;
 pub use outcome::CheckOutcome;
+pub use rows::push_caret;

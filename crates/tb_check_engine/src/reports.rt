@@ -2,7 +2,7 @@
 use crate::rows::{push_caret, push_line};
 use crate::texts::{NoteText, WarningText};
 use std::alloc::{AllocError, Global};
-use tb_check::{BadLine, Findings, LineWarning, SourceErrorKind};
+use tb_check::{BadLine, Findings, LineWarning, Note, SourceError, SourceErrorKind};
 use tb_engines::{Refusal, TOO_DEEP, source_text};
 use tb_refusals::CompileError;
 
@@ -31,23 +31,25 @@ pub fn report(
     findings: &Findings,
 ) -> Result<Vec<u8>, AllocError> {
     let mut text = Vec::new(alloc);
-    match findings {
-        Findings::BadLines(lines) => push_bad_lines(alloc, &mut text, source, lines)?,
-        Findings::Empty => {
-            push_fault(
-                alloc,
-                &mut text,
-                source.name,
-                source_text(SourceErrorKind::Empty),
-            )?;
-        }
-        Findings::Refused { deep, too_large } => {
-            push_deep_lines(alloc, &mut text, source, deep)?;
-            push_too_large(alloc, &mut text, source.name, *too_large)?;
-        }
-        Findings::Accepted(warnings) => push_warnings(alloc, &mut text, source, warnings)?,
-    }
+    push_findings(alloc, &mut text, source, findings)?;
     Ok(text)
+}
+
+fn push_findings(
+    alloc: Global,
+    text: &mut Vec<u8>,
+    source: &Source<'_>,
+    findings: &Findings,
+) -> Result<(), AllocError> {
+    match findings {
+        Findings::BadLines(lines) => push_bad_lines(alloc, text, source, lines),
+        Findings::Empty => push_empty(alloc, text, source.name),
+        Findings::Refused { deep, too_large } => {
+            push_deep_lines(alloc, text, source, deep)?;
+            push_too_large(alloc, text, source.name, *too_large)
+        }
+        Findings::Accepted(warnings) => push_warnings(alloc, text, source, warnings),
+    }
 }
 
 fn push_bad_lines(
@@ -68,26 +70,67 @@ fn push_bad_line(
     source: &Source<'_>,
     bad: &BadLine,
 ) -> Result<(), AllocError> {
-    let name = source.name;
-    let (line, column) = (bad.error.line, bad.error.column);
-    let fault = source_text(bad.error.kind);
+    push_error(alloc, text, source.name, bad.error)?;
+    push_place(alloc, text, source, bad.error)?;
+    match bad.note {
+        Some(note) => push_note(alloc, text, source.name, bad.error, note),
+        None => Ok(()),
+    }
+}
+
+fn push_error(
+    alloc: Global,
+    text: &mut Vec<u8>,
+    name: &str,
+    error: SourceError,
+) -> Result<(), AllocError> {
+    let (line, column) = (error.line, error.column);
+    let fault = source_text(error.kind);
     push_row(
         text,
         format!(in alloc; "{name}:{line}:{column}: error: {fault}\n")?,
-    )?;
-    let number = format!(in alloc; "{line}")?;
-    push_line(text, number.as_bytes(), source.line(line))?;
-    push_caret(text, number.as_bytes(), column)?;
-    match bad.note {
-        Some(note) => {
-            let note = NoteText(note);
-            push_row(
-                text,
-                format!(in alloc; "{name}:{line}:{column}: note: {note}\n")?,
-            )
-        }
-        None => Ok(()),
-    }
+    )
+}
+
+// Appends the line of an error, and a caret below its column.
+fn push_place(
+    alloc: Global,
+    text: &mut Vec<u8>,
+    source: &Source<'_>,
+    error: SourceError,
+) -> Result<(), AllocError> {
+    let number = format!(in alloc; "{}", error.line)?;
+    push_marked(
+        text,
+        number.as_bytes(),
+        source.line(error.line),
+        error.column,
+    )
+}
+
+fn push_marked(
+    text: &mut Vec<u8>,
+    number: &[u8],
+    line: &[u8],
+    column: usize,
+) -> Result<(), AllocError> {
+    push_line(text, number, line)?;
+    push_caret(text, number, column)
+}
+
+fn push_note(
+    alloc: Global,
+    text: &mut Vec<u8>,
+    name: &str,
+    error: SourceError,
+    note: Note,
+) -> Result<(), AllocError> {
+    let (line, column) = (error.line, error.column);
+    let note = NoteText(note);
+    push_row(
+        text,
+        format!(in alloc; "{name}:{line}:{column}: note: {note}\n")?,
+    )
 }
 
 // Appends a line of the file.
@@ -105,13 +148,8 @@ fn push_row(text: &mut Vec<u8>, row: String) -> Result<(), AllocError> {
     text.extend_from_slice(row.as_bytes())
 }
 
-// Appends a fault of the whole.
-fn push_fault(
-    alloc: Global,
-    text: &mut Vec<u8>,
-    name: &str,
-    fault: &str,
-) -> Result<(), AllocError> {
+fn push_empty(alloc: Global, text: &mut Vec<u8>, name: &str) -> Result<(), AllocError> {
+    let fault = source_text(SourceErrorKind::Empty);
     push_row(text, format!(in alloc; "{name}: error: {fault}\n")?)
 }
 
@@ -121,15 +159,24 @@ fn push_deep_lines(
     source: &Source<'_>,
     lines: &[usize],
 ) -> Result<(), AllocError> {
-    let name = source.name;
-    for &line in lines {
-        push_row(
-            text,
-            format!(in alloc; "{name}:{line}: error: {TOO_DEEP}\n")?,
-        )?;
-        push_source_line(alloc, text, source, line)?;
+    for line in lines {
+        push_deep_line(alloc, text, source, *line)?;
     }
     Ok(())
+}
+
+fn push_deep_line(
+    alloc: Global,
+    text: &mut Vec<u8>,
+    source: &Source<'_>,
+    line: usize,
+) -> Result<(), AllocError> {
+    let name = source.name;
+    push_row(
+        text,
+        format!(in alloc; "{name}:{line}: error: {TOO_DEEP}\n")?,
+    )?;
+    push_source_line(alloc, text, source, line)
 }
 
 fn push_too_large(
@@ -153,12 +200,20 @@ fn push_warnings(
     source: &Source<'_>,
     warnings: &[LineWarning],
 ) -> Result<(), AllocError> {
-    let name = source.name;
     for warning in warnings {
-        let line = warning.line;
-        let said = WarningText(warning.warning);
-        push_row(text, format!(in alloc; "{name}:{line}: warning: {said}\n")?)?;
-        push_source_line(alloc, text, source, line)?;
+        push_warning(alloc, text, source, *warning)?;
     }
     Ok(())
+}
+
+fn push_warning(
+    alloc: Global,
+    text: &mut Vec<u8>,
+    source: &Source<'_>,
+    warning: LineWarning,
+) -> Result<(), AllocError> {
+    let (name, line) = (source.name, warning.line);
+    let said = WarningText(warning.warning);
+    push_row(text, format!(in alloc; "{name}:{line}: warning: {said}\n")?)?;
+    push_source_line(alloc, text, source, line)
 }

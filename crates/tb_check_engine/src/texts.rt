@@ -46,22 +46,18 @@ impl fmt::Display for NoteText {
                     advice(missing)
                 )
             }
-            Note::QuestionMark => write!(f, "Tiny BASIC has no ? for PRINT; write PRINT or PR"),
-            Note::Colon => write!(
-                f,
-                "a line has one statement; give the next one a line of its own"
-            ),
-            Note::LongName => write!(f, "a variable's name is one letter, A to Z"),
-            Note::TextName => write!(f, "variables hold numbers alone; texts stand in PRINT"),
-            Note::ThenNumber => write!(f, "a statement follows THEN; write THEN GOTO"),
-            Note::OpenText => write!(f, "the text has no second quote"),
-            Note::Tab => write!(f, "this is a tab; write spaces"),
-            Note::ByteOrderMark => {
-                write!(
-                    f,
-                    "the file begins with a byte order mark (EF BB BF); save it without one"
-                )
+            Note::QuestionMark => f.write_str("Tiny BASIC has no ? for PRINT; write PRINT or PR"),
+            Note::Colon => {
+                f.write_str("a line has one statement; give the next one a line of its own")
             }
+            Note::LongName => f.write_str("a variable's name is one letter, A to Z"),
+            Note::TextName => f.write_str("variables hold numbers alone; texts stand in PRINT"),
+            Note::ThenNumber => f.write_str("a statement follows THEN; write THEN GOTO"),
+            Note::OpenText => f.write_str("the text has no second quote"),
+            Note::Tab => f.write_str("this is a tab; write spaces"),
+            Note::ByteOrderMark => f.write_str(
+                "the file begins with a byte order mark (EF BB BF); save it without one",
+            ),
             Note::Near(statement) => write!(f, "did you mean {statement}"),
         }
     }
@@ -75,7 +71,7 @@ fn write_bound<W: fmt::Write>(bound: u16, f: &mut fmt::Formatter<W>) -> fmt::Res
     let larger = times.saturating_mul(u32::from(bound));
     write!(
         f,
-        "RND({bound}): odd and even take turns; RND({larger})/{times} is better"
+        "RND({bound}) is odd and even in turns; RND({larger})/{times} is better"
     )
 }
 
@@ -89,7 +85,7 @@ impl fmt::Display for WarningText {
             Warning::TakenOut { number, by } => {
                 write!(f, "line {number} is taken out by line {by} of the file")
             }
-            Warning::RunsPast => write!(f, "runs past the last line (fault 7)"),
+            Warning::RunsPast => f.write_str("runs past the last line (fault 7)"),
             Warning::EvenBound(bound) => write_bound(bound, f),
         }
     }

@@ -33,6 +33,22 @@ pub record AreLaid (starts : List (ℕ × ℕ)) (table bytes : ℕ) : Type 0 whe
   pub within : table ≤ PROLOGUE_AT + bytes
   pub ends : PROLOGUE_AT + bytes ≤ 0xA000
 
+-- sums of places (by themselves, so that no proof about them reads what lies there)
+front_within : (a front end : ℕ) → a + front ≤ end → a ≤ end
+front_within a front end le = omega arith
+
+not_below : (a there : ℕ) → there ≡ a → a ≤ there
+not_below a there e = omega arith
+
+past_first : (a front there : ℕ) → there ≡ a → 1 ≤ front → there + 1 ≤ a + front
+past_first a front there e some = omega arith
+
+back_within : (a whole front back end : ℕ) → whole ≡ front + back → a + whole ≤ end → a + front + back ≤ end
+back_within a whole front back end e le = omega arith
+
+before_table : (table own past find : ℕ) → table ≡ LINES_AT + own + past + find → LINES_AT + own ≤ table
+before_table table own past find e = omega arith
+
 starts_low : (low low' : ℕ) (starts : List (ℕ × ℕ)) → low ≤ low' → StartsRise low' starts → StartsRise low starts
 starts_low low low' [] l h = tt
 starts_low low low' (s ∷ starts) l h = (omega (arith, l, h.0), h.1)
@@ -40,18 +56,19 @@ starts_low low low' (s ∷ starts) l h = (omega (arith, l, h.0), h.1)
 -- lines begin one behind the other, and what lies behind their code comes behind them
 lines_rise : (labels : List (Name × ℕ)) (ns : List ℕ) (seed a : ℕ) (p : Program) (fs : List Form) (end : ℕ) → AreFormsOf (lines_code ns seed (lowered.program_code p)) fs → LabelsAt labels a (items_from a fs) → a + forms_size fs ≤ end
     → StartsRise a (starts_in labels (numbers p) ++ (0, end) ∷ [])
-lines_rise labels ns seed a [] fs end h l le = (omega (arith, le), tt)
+lines_rise labels ns seed a [] fs end h l le = (front_within a (forms_size fs) end le, tt)
 lines_rise labels ns seed a (line ∷ lines) fs end h l le =
     let own : Numbered (List Instr) = record { number = line.number; content = lowered.list_code line.content } in
     let s = split (line_code ns seed own) (lines_code ns seed (lowered.program_code lines)) fs h in
     let ls = labels_behind labels a fs s.front s.back s.are l in
-    let there : stands_at labels (label_of (Line line.number)) ≡ a = ap (λ o. unwrap_or o 0) (line_at labels ns seed a own s.front s.of_front ls.0) in
+    let at = stands_at labels (label_of (Line line.number)) in
+    let there : at ≡ a = ap (λ o. unwrap_or o 0) (line_at labels ns seed a own s.front s.of_front ls.0) in
     let long = some_bytes ns seed line.number (lowered.command_code line.content) s.front s.of_front in
     let all = total_size a fs s.front s.back s.are in
     let b = a + forms_size s.front in (
-      omega (arith, there),
-      starts_low (stands_at labels (label_of (Line line.number)) + 1) b (starts_in labels (numbers lines) ++ (0, end) ∷ []) (omega (arith, there, long))
-          (lines_rise labels ns seed b lines s.back end s.of_back ls.1 (omega (arith, all, le))),
+      not_below a at there,
+      starts_low (at + 1) b (starts_in labels (numbers lines) ++ (0, end) ∷ []) (past_first a (forms_size s.front) at there long)
+          (lines_rise labels ns seed b lines s.back end s.of_back ls.1 (back_within a (forms_size fs) (forms_size s.front) (forms_size s.back) end all le)),
     )
 
 pub are_laid : (seed : ℕ) (ls : List (ℕ × Statement)) (c : Compiled) → AreStated (lines_of ls) → RisesFrom 0 (numbers (lines_of ls)) → IsCompiled seed (lines_of ls) c → AreLaid (starts_of c) (table_of c) (length (prg_of c) - 14)
@@ -72,13 +89,13 @@ are_laid seed ls c stated rises h =
     let image : length (image_of PROLOGUE_AT h.items) ≡ size h.items = all_size labels PROLOGUE_AT h.items in
     record {
       rising = subst (λ ss. StartsRise LINES_AT (ss ++ (0, table_of c) ∷ [])) (sym h.starts)
-          (lines_rise labels ns seed LINES_AT p g.lines (table_of c) g.of_lines g.line_labels (let t = table in omega (arith, t)));
-      within = lies (table_of c) (length (prg_of c)) (length (image_of PROLOGUE_AT h.items)) (size h.items) (forms_size g.lines) (size past) (size find) (size rows) (size own) table all own_size file image;
+          (lines_rise labels ns seed LINES_AT p g.lines (table_of c) g.of_lines g.line_labels (before_table (table_of c) (forms_size g.lines) (size past) (size find) table));
+      within = lies (table_of c) (length (prg_of c)) (length (image_of PROLOGUE_AT h.items)) (size h.items) (forms_size g.lines) (size block_code) (size past) (size find) (size rows) (size own) table all block_size own_size file image;
       ends = fits (length (prg_of c)) (length (image_of PROLOGUE_AT h.items)) (size h.items) file image h.ends;
     }
   where
-    lies : (t n m k l past find rows own : ℕ) → t ≡ LINES_AT + l + past + find → k ≡ size block_code + (own + (past + (find + rows))) → own ≡ l → n ≡ 14 + m → m ≡ k → t ≤ PROLOGUE_AT + (n - 14)
-    lies t n m k l past find rows own e a o f i = let b = block_size in omega (arith, b)
+    lies : (t n m k l block past find rows own : ℕ) → t ≡ LINES_AT + l + past + find → k ≡ block + (own + (past + (find + rows))) → block ≡ 1011 → own ≡ l → n ≡ 14 + m → m ≡ k → t ≤ PROLOGUE_AT + (n - 14)
+    lies t n m k l block past find rows own e a b o f i = omega arith
 
     fits : (n m k : ℕ) → n ≡ 14 + m → m ≡ k → PROLOGUE_AT + k ≤ 0xA000 → PROLOGUE_AT + (n - 14) ≤ 0xA000
     fits n m k e f l = omega arith

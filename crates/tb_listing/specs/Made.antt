@@ -17,23 +17,27 @@ use Rattle.tb_listing.specs.Map.{parts, map_text}
 abbrev pub image_size : Compiled → ℕ
 image_size c = length (prg_of c) - 14
 
--- the PRG file of a compiled program, the labels of its places, a listing that gives its image back, and the map of its
--- parts: all of one compilation
+-- the PRG file of a compiled program, the labels of its places, a listing that gives its image back, the map of its
+-- parts, and the warnings
+pub record Tells (compiled : Compiled) (program : Program) (made : Made) : Type 0 where
+  pub prg : made.prg.items ≡ prg_of compiled
+  pub labels : made.labels.items ≡ labels_text (places (starts_of compiled) (table_of compiled))
+  pub listing : GivesBack PROLOGUE_AT made.listing.items (drop 14 (prg_of compiled))
+  pub readable : length made.listing.items ≤ 1048576
+  pub map : made.map.items ≡ map_text (starts_of compiled) (table_of compiled) (image_size compiled) program
+  pub warnings : made.warnings.items ≡ warnings_of compiled
+
+-- what tells of a source's compilation: of one and the same
 pub record IsMade (seed : ℕ) (source : List ℕ) (made : Made) : Type 0 where
   pub compiled : Compiled
   pub answered : HasOutcome seed source (Ok compiled)
   pub only : (outcome : Outcome) → Makes source outcome → OutcomeAnswer seed outcome (Ok compiled)
-  pub prg : made.prg.items ≡ prg_of compiled
-  pub labels : made.labels.items ≡ labels_text (places (starts_of compiled) (table_of compiled))
   pub sorted : Rise 0 (places (starts_of compiled) (table_of compiled))
-  pub listing : GivesBack PROLOGUE_AT made.listing.items (drop 14 (prg_of compiled))
-  pub readable : length made.listing.items ≤ 1048576
   pub program : Program
   pub makes : Makes source (Ok program)
-  pub map : made.map.items ≡ map_text (starts_of compiled) (table_of compiled) (image_size compiled) program
+  pub tells : Tells compiled program made
   pub bytes : sum_by (λ p. p.bytes) (parts (starts_of compiled) (table_of compiled) (image_size compiled) program) ≡ image_size compiled
   pub prices : sum_by (λ p. p.price) (parts (starts_of compiled) (table_of compiled) (image_size compiled) program) ≡ cost program
-  pub warnings : made.warnings.items ≡ warnings_of compiled
 
 -- the compiler's refusal
 pub record IsRefused (seed : ℕ) (source : List ℕ) (e : CompileError) : Type 0 where

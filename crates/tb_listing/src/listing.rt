@@ -1,5 +1,5 @@
 //! The listing of a program: assembler text that gives its image back.
-ghost use Rattle.std.specs.Prelude.{◌≡◌, ◌+◌, ◌-◌, ◌≤◌, true, None, length, drop, map, IfOk};
+ghost use Rattle.std.specs.Prelude.{◌≡◌, ◌+◌, ◌-◌, ◌≤◌, true, false, None, length, drop, map, IfOk};
 ghost use Rattle.tb_asm.specs.Layout.{entry_of, image_of};
 ghost use Rattle.tb_asm.specs.Assembled.{refusal};
 ghost use Rattle.tb_runtime16.specs.Places.{PROLOGUE_AT};
@@ -91,10 +91,17 @@ fn assembles_to(alloc: Global, items: &[Item], image: &[u8]) -> Result<bool, All
 {
     match assemble(alloc, BLOCK_AT, items) {
         Ok(made) => Ok(made.bytes.as_slice() == image),
-        Err(error) => match error.kind {
-            AsmErrorKind::NoMemory => Err(AllocError),
-            _ => Ok(false),
-        },
+        Err(error) => unequal(error.kind),
+    }
+}
+
+// What is not assembled gives no image.
+fn unequal(kind: AsmErrorKind) -> Result<bool, AllocError>
+    ensures { IfOk result (λ same. same ≡ false) }
+{
+    match kind {
+        AsmErrorKind::NoMemory => Err(AllocError),
+        _ => Ok(false),
     }
 }
 

@@ -1,14 +1,19 @@
 //! All that a build makes, from one compilation.
-ghost use Rattle.std.specs.Prelude.{◌≡◌, IfOk, IfErr};
-ghost use Rattle.tb_listing.specs.Made.{IsMade, IsRefused};
+ghost use Rattle.std.specs.Prelude.{◌≡◌, ◌+◌, ◌-◌, ◌≤◌, length, IfOk, IfErr};
+ghost use Rattle.tb_syntax.specs.Shown.{lines_of};
+ghost use Rattle.tb_lower.specs.Cost.{cost};
+ghost use Rattle.tb_runtime16.specs.Places.{PROLOGUE_AT};
+ghost use Rattle.tb_codegen.specs.Compiled.{prg_of};
+ghost use Rattle.tb_listing.specs.Made.{IsMade, IsRefused, Tells};
 
 use crate::label_file::labels;
 use crate::listing::list;
 use crate::map::chart;
-use std::alloc::Global;
-use tb_codegen::{CompileError, Options, compile};
+use std::alloc::{AllocError, Global};
+use tb_codegen::{CompileError, Compiled, Options, compile};
 use tb_lower::Warning;
 use tb_parser::parse;
+use tb_syntax::Program;
 
 /// A PRG file, the texts that tell of it, and what there is to warn of.
 #[derive(Drop)]
@@ -35,11 +40,26 @@ pub fn make(alloc: Global, source: &[u8], seed: u16) -> Result<Made, CompileErro
     let Ok(program) = parse(alloc, source) else {
         return Err(CompileError::NoMemory);
     };
+    Ok(all_of(alloc, source, &compiled, &program)?)
+}
+
+// All that is made of a compiled source.
+fn all_of(
+    alloc: Global,
+    source: &[u8],
+    compiled: &Compiled,
+    program: &Program,
+) -> Result<Made, AllocError>
+    requires small { cost (lines_of program.now) ≤ 37888 }
+    requires headed { 14 ≤ length (prg_of compiled.now) }
+    requires ends { PROLOGUE_AT + (length (prg_of compiled.now) - 14) ≤ 0xA000 }
+    ensures { IfOk result (Tells compiled.now (lines_of program.now)) }
+{
     Ok(Made {
         prg: Vec::from_slice(alloc, compiled.prg())?,
         labels: labels(alloc, compiled.starts(), compiled.table())?,
-        listing: list(alloc, &compiled, source)?,
-        map: chart(alloc, &compiled, &program)?,
+        listing: list(alloc, compiled, source)?,
+        map: chart(alloc, compiled, program)?,
         warnings: Vec::from_slice(alloc, compiled.warnings())?,
     })
 }

@@ -14,19 +14,38 @@ pub fn source_lines(alloc: Global, source: &[u8]) -> Result<Vec<SourceLine<'_>>,
     let mut lines = Vec::new(alloc);
     let mut rest = source;
     while let Some((text, behind)) = next_line(rest) {
-        match read_line(alloc, text) {
-            Ok(LineEdit::Set(number, _)) => lines.push(SourceLine { number, text })?,
-            Err(
-                Fault {
-                    kind: SourceErrorKind::NoMemory,
-                    ..
-                },
-            ) => return Err(AllocError),
-            _ => {}
-        }
+        push_line(alloc, text, &mut lines)?;
         rest = behind;
     }
     Ok(lines)
+}
+
+fn push_line<'a>(
+    alloc: Global,
+    text: &'a [u8],
+    lines: &mut Vec<SourceLine<'a>>,
+) -> Result<(), AllocError> {
+    if let Some(number) = number_of(alloc, text)? {
+        lines.push(SourceLine { number, text })?;
+    }
+    Ok(())
+}
+
+// The number of a line that has a statement.
+fn number_of(alloc: Global, text: &[u8]) -> Result<Option<u16>, AllocError> {
+    match read_line(alloc, text) {
+        Ok(LineEdit::Set(number, _)) => Ok(Some(number)),
+        Ok(_) => Ok(None),
+        Err(fault) => no_number(fault),
+    }
+}
+
+// A bad line has none.
+fn no_number(fault: Fault) -> Result<Option<u16>, AllocError> {
+    match fault.kind {
+        SourceErrorKind::NoMemory => Err(AllocError),
+        _ => Ok(None),
+    }
 }
 
 /// The text of a line: the last that has its number, since that one takes the place of those before.

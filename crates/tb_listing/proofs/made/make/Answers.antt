@@ -1,18 +1,14 @@
-use Rattle.std.proofs.Common.{◌∙◌, Ok}
+use Rattle.std.proofs.Common.{Ok}
 use Rattle.tb_syntax.specs.Shown.{lines_of}
 use Rattle.tb_codegen.specs.Compiled.{IsCompiled, starts_of, table_of}
-use Rattle.tb_listing.specs.Labels.{places, labels_text}
 use Rattle.tb_listing.specs.Made.{image_size}
 use Rattle.tb_listing.proofs.Laid.{are_laid}
 use Rattle.tb_listing.proofs.Sorted.{places_rise}
 use Rattle.tb_listing.proofs.Sums.{bytes_add_up, prices_add_up}
 use Rattle.tb_listing.proofs.made.make.Goals as goal
 
-pub list-requires-clause-ends : goal.list-requires-clause-ends
-list-requires-clause-ends c = (are_laid c.args.seed c.in-Ok.program c.in_ok-compiled.compiled c.in-Ok.ensures.stated c.in-Ok.ensures.rising (c.in_ok-compiled.ensures.only (Ok (lines_of c.in-Ok.program)) c.in-Ok.ensures.found)).ends
-
-pub chart-requires-clause-ends : goal.chart-requires-clause-ends
-chart-requires-clause-ends c = (are_laid c.args.seed c.in-Ok.program c.in_ok-compiled.compiled c.in-Ok.ensures.stated c.in-Ok.ensures.rising (c.in_ok-compiled.ensures.only (Ok (lines_of c.in-Ok.program)) c.in-Ok.ensures.found)).ends
+pub all_of-requires-clause-ends : goal.all_of-requires-clause-ends
+all_of-requires-clause-ends c = (are_laid c.args.seed c.in-Ok.program c.in_ok-compiled.compiled c.in-Ok.ensures.stated c.in-Ok.ensures.rising (c.in_ok-compiled.ensures.only (Ok (lines_of c.in-Ok.program)) c.in-Ok.ensures.found)).ends
 
 pub returns-clause-made : goal.returns-clause-made
 returns-clause-made c =
@@ -23,15 +19,10 @@ returns-clause-made c =
       compiled = compiled;
       answered = c.in_ok-compiled.ensures.found;
       only = c.in_ok-compiled.ensures.only;
-      prg = c.in_ok-from_slice.ensures.items ∙ c.prg.ensures;
-      labels = c.in_ok-labels.ensures ∙ (λ i. labels_text (places (c.starts.ensures i) (c.table.ensures i)));
       sorted = places_rise (starts_of compiled) (table_of compiled) (image_size compiled) laid;
-      listing = c.in_ok-list.ensures.back;
-      readable = c.in_ok-list.ensures.readable;
       program = lines_of c.in-Ok.program;
       makes = c.in-Ok.ensures.found;
-      map = c.in_ok-chart.ensures;
+      tells = c.in_ok-all_of.ensures;
       bytes = bytes_add_up (starts_of compiled) (table_of compiled) (image_size compiled) (lines_of c.in-Ok.program) laid is.lines;
       prices = prices_add_up (starts_of compiled) (table_of compiled) (image_size compiled) (lines_of c.in-Ok.program) is.lines;
-      warnings = c.in_ok-from_slice-2.ensures.items ∙ c.warnings.ensures;
     }

@@ -1,5 +1,5 @@
 use Rattle.std.proofs.Common.{◌≡◌, map, take}
-use Rattle.tb_check.proofs.examination.with_notes.Given as goal
+use Rattle.tb_check.proofs.examination.noted.Given as goal
 
 abbrev pub invariant-loop-error : goal.invariant-loop-error
 invariant-loop-error l = map (λ b. b.error) l.found.items ≡ take l.error-index l.errors

@@ -1,0 +1,13 @@
+use Rattle.std.proofs.Common.{◌∙◌}
+use Rattle.tb_listing.specs.Labels.{places, labels_text}
+use Rattle.tb_listing.proofs.made.all_of.Goals as goal
+
+pub returns : goal.returns
+returns c = record {
+  prg = c.in_ok-from_slice.ensures.items ∙ c.prg.ensures;
+  labels = c.in_ok-labels.ensures ∙ (λ i. labels_text (places (c.starts.ensures i) (c.table.ensures i)));
+  listing = c.in_ok-list.ensures.back;
+  readable = c.in_ok-list.ensures.readable;
+  map = c.in_ok-chart.ensures;
+  warnings = c.in_ok-from_slice-2.ensures.items ∙ c.warnings.ensures;
+}
