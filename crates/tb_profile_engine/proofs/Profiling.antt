@@ -1,36 +1,35 @@
--- What the rows of a tally are.
-use Rattle.std.proofs.Common.{◌≡◌, ℕ, suc, ◌<◌, List, [], ◌∷◌, Result, Ok, Err, map, refl, subst, sym, ap, ◌∙◌, slice_index, lit<}
+-- The run of a program from its start machine, and the profile of the source that makes it.
+use Rattle.std.proofs.Common.{◌≡◌, ℕ, ◌+◌, ◌<◌, ◌≤◌, false, ◌||◌, List, [], ◌∷◌, Result, Ok, Err, map, refl, subst, sym, ap, ◌∙◌, arith}
+use Rattle.std.specs.Prelude.{◌==◌}
+use Rattle.std.proofs.lemmas.Bool.Decides.{nat_tests}
 use Rattle.tb_kernal.specs.declared.events.Event.{Event}
 use Rattle.tb_kernal.specs.Machine.{Content}
 use Rattle.tb_prg.specs.declared.PrgError.{PrgError}
 use Rattle.tb_prg.specs.Prg.{content_of}
-use Rattle.tb_codegen.specs.Compiled.{prg_of, loaded_of, start_of}
+use Rattle.tb_syntax.specs.Source.{Program}
+use Rattle.tb_parser.specs.Files.{Outcome as FileOutcome}
+use Rattle.tb_lower.specs.declared.missing.Warning.{Warning}
+use Rattle.tb_runtime16.specs.Places.{LINES_AT}
+use Rattle.tb_codegen.specs.Answers.{HasOutcome, OutcomeAnswer, Makes as LinesMake}
+use Rattle.tb_codegen.specs.Compiled.{prg_of, loaded_of, starts_of, IsCompiled, StartsRise}
 use Rattle.tb_codegen.specs.declared.compiled.Compiled.{Compiled}
-use Rattle.tb_engines.specs.Programs.{start, end_of}
+use Rattle.tb_engines.specs.Programs.{start}
+use Rattle.tb_engines.specs.Outcomes.{Product}
+use Rattle.tb_engines.specs.declared.made.Stop.{Stop}
+use Rattle.tb_engines.specs.declared.made.Stop.TheVariants.{Refused, NoMemory}
 use Rattle.tb_driver.specs.Stepping.{IsLoadable}
-use Rattle.tb_profile.specs.declared.run.Profile.{Profile}
-use Rattle.tb_profile.specs.Steps.{Step}
-use Rattle.tb_profile.specs.Tallies.{Counted, IsTally}
-use Rattle.tb_profile.specs.Profiles.{Profiled}
-use Rattle.tb_profile_engine.specs.declared.rows.Row.{Row}
-use Rattle.tb_profile_engine.specs.declared.rows.Table.{Table}
-use Rattle.tb_profile_engine.specs.Rows.{row_in, row_of, IsProfile}
+use Rattle.tb_profile.specs.Steps.{Step, is_place}
+use Rattle.tb_profile_table.specs.declared.rows.Row.{Row}
+use Rattle.tb_profile_table.specs.declared.texts.Texts.{Texts}
+use Rattle.tb_profile_table.specs.Rows.{AreApart, row_of}
+use Rattle.tb_profile_table.specs.Texts.{Shows}
+use Rattle.tb_profile_engine.specs.declared.running.Ran.{Ran}
+use Rattle.tb_profile_engine.specs.declared.engine.Made.{Made}
+use Rattle.tb_profile_engine.specs.declared.engine.Prepared.{Prepared}
+use Rattle.tb_profile_engine.specs.Running.{RunsFrom, IsProfile, ComesTo}
+use Rattle.tb_profile_engine.specs.Profiles.{IsProfileOf, Profiles, MakesTexts, IsPrepared, Prepares, PreparesText}
 
-same_row : (places : List ℕ) (ts : List Step) (t : Counted) (n a : ℕ) → IsTally places ts t → a < 65536 → row_in t n a ≡ row_of ts n a
-same_row places ts t n a h inside = λ i. record {
-  line = n;
-  times = h.times a inside i;
-  instructions = h.instructions a inside i;
-  cycles = h.cycles a inside i;
-}
-
-same_rows : (places : List ℕ) (ts : List Step) (t : Counted) (f : ℕ → ℕ) (ns : List ℕ) → IsTally places ts t
-    → ((k : ℕ) → slice_index (map f ns) k < 65536) → map (λ n. row_in t n (f n)) ns ≡ map (λ n. row_of ts n (f n)) ns
-same_rows places ts t f [] h below = refl
-same_rows places ts t f (n ∷ ns) h below =
-    let first : row_in t n (f n) ≡ row_of ts n (f n) = same_row places ts t n (f n) h (below 0) in
-    let rest : map (λ n. row_in t n (f n)) ns ≡ map (λ n. row_of ts n (f n)) ns = same_rows places ts t f ns h (λ k. below (suc k)) in
-    λ i. first i ∷ rest i
+-- ---- the machine
 
 -- the address and the bytes of a file that was read
 abbrev address_in : Result (ℕ × List ℕ) PrgError → ℕ
@@ -41,44 +40,71 @@ abbrev bytes_in : Result (ℕ × List ℕ) PrgError → List ℕ
 bytes_in (Ok p) = p.1
 bytes_in (Err e) = []
 
-module _ {O : Type 0} (gives : O → Content → Event → O → Type 0) (o : O) (text answers : List ℕ) (limit : ℕ) (program : Compiled) where
-  -- the table of a tally of a program's run from its start
-  from_start : (lines : List ℕ) (table : Table) (n : Content) (q : O) (profile : Profile) → ((k : ℕ) → slice_index (map (start_of program) lines) k < 65536)
-      → Profiled gives o (start 0x0801 (loaded_of program) text answers) (map (start_of program) lines) limit (Ok profile) q n
-      → table.rows.items ≡ map (λ k. row_in profile.tally k (start_of program k)) lines
-      → table.start ≡ record (row_in profile.tally 0 0) { times = 1 }
-      → table.instructions ≡ profile.tally.taken → table.cycles ≡ profile.tally.spent → table.end ≡ end_of profile.status n.regs.pc
-      → IsProfile gives o text answers limit program lines table
-  from_start lines table n q profile below (ran, counted) rows before instructions cycles end =
+-- a run of the machine that was started is a profile
+pub started : {O : Type 0} (gives : O → Content → Event → O → Type 0) (o : O) (text answers : List ℕ) (limit : ℕ) (program : Compiled)
+    (at : ℕ) (bytes : List ℕ) (m : Content) (result : Result Ran Stop) → IsLoadable program → content_of (prg_of program) ≡ Ok (at, bytes)
+    → m ≡ start at bytes text answers → ComesTo (RunsFrom gives o limit program m) result → ComesTo (IsProfile gives o text answers limit program) result
+started gives o text answers limit program at bytes m result loadable content machine ran =
+    let first : at ≡ 0x0801 = ap address_in (sym content ∙ loadable.0) in
+    let rest : bytes ≡ loaded_of program = ap bytes_in (sym content ∙ loadable.0) in
+    let there : m ≡ start 0x0801 (loaded_of program) text answers = machine ∙ (λ i. start (first i) (rest i) text answers) in
+    subst (λ s. ComesTo (RunsFrom gives o limit program s) result) there ran
+
+-- ---- lines begin at places of their own
+
+-- no start below an address is that address
+below : (low a : ℕ) (starts : List (ℕ × ℕ)) → a < low → StartsRise low starts → is_place (map (λ s. s.1) starts) a ≡ false
+below low a [] less rise = refl
+below low a (s ∷ starts) less rise =
+    let from : low ≤ s.1 = rise.0 in
+    let e : (a == s.1) ≡ false = grind (arith, nat_tests) in
+    ap (λ b. b || is_place (map (λ (x : ℕ × ℕ). x.1) starts) a) e ∙ below (s.1 + 1) a starts (omega arith) rise.1
+
+apart : (low : ℕ) (starts : List (ℕ × ℕ)) → 0 < low → StartsRise low starts → AreApart (map (λ s. s.1) starts)
+apart low [] above rise = tt
+apart low (s ∷ starts) above rise =
+    let from : low ≤ s.1 = rise.0 in
+    (omega arith, below (s.1 + 1) s.1 starts (omega arith) rise.1, apart (s.1 + 1) starts (omega arith) rise.1)
+
+-- ---- the profile
+
+row_lines : (ts : List Step) (starts : List (ℕ × ℕ)) → map (λ r. r.line) (map (λ s. row_of ts s.0 s.1) starts) ≡ map (λ s. s.0) starts
+row_lines ts [] = refl
+row_lines ts (s ∷ starts) = ap (λ ns. s.0 ∷ ns) (row_lines ts starts)
+
+module _ {O : Type 0} (gives : O → Content → Event → O → Type 0) (o : O) (text answers : List ℕ) (limit : ℕ) (source : List ℕ) (c : Compiled) where
+  of_program : (seed : ℕ) (program : Program) (ran : Ran) (texts : Texts) → LinesMake source (Ok program) → IsCompiled seed program c
+      → IsProfile gives o text answers limit c ran → Shows source ran.table texts
+      → IsProfileOf gives o text answers limit source c texts.page.items texts.table.items ran
+  of_program seed program ran texts made compiled is shows =
       record {
-        status = profile.status;
-        outside = q;
-        machine = n;
-        ran = ran;
-        taken = _;
-        are_steps = refl;
-        rows = rows ∙ same_rows _ _ profile.tally (start_of program) lines counted below;
-        before = before ∙ ap (λ (r : Row). record r { times = 1 }) (same_row _ _ profile.tally 0 0 counted (lit< tt));
-        instructions = instructions ∙ counted.taken;
-        cycles = cycles ∙ counted.spent;
-        end = end;
+        program = program;
+        made = made;
+        is = is;
+        lines = ap (map (λ (r : Row). r.line)) is.tabled.is.rows ∙ row_lines is.tabled.taken (starts_of c) ∙ compiled.lines;
+        adds_up = is.tabled.adds_up (apart LINES_AT (starts_of c) (omega arith) compiled.rising);
+        table = shows.table;
+        page = shows.page;
       }
 
-  pub made : (lines numbers places : List ℕ) (table : Table) (at : ℕ) (bytes : List ℕ) (m n : Content) (q : O) (profile : Profile)
-      → IsLoadable program → content_of (prg_of program) ≡ Ok (at, bytes) → m ≡ start at bytes text answers
-      → numbers ≡ lines → places ≡ map (start_of program) numbers → ((k : ℕ) → slice_index places k < 65536)
-      → Profiled gives o m places limit (Ok profile) q n
-      → table.rows.items ≡ map (λ k. row_in profile.tally k (start_of program k)) numbers
-      → table.start ≡ record (row_in profile.tally 0 0) { times = 1 }
-      → table.instructions ≡ profile.tally.taken → table.cycles ≡ profile.tally.spent → table.end ≡ end_of profile.status n.regs.pc
-      → IsProfile gives o text answers limit program lines table
-  made lines numbers places table at bytes m n q profile loadable content machine same are below counted rows before instructions cycles end =
-      let first : at ≡ 0x0801 = ap address_in (sym content ∙ loadable.0) in
-      let rest : bytes ≡ loaded_of program = ap bytes_in (sym content ∙ loadable.0) in
-      let started : m ≡ start 0x0801 (loaded_of program) text answers = machine ∙ (λ i. start (first i) (rest i) text answers) in
-      let there : places ≡ map (start_of program) lines = are ∙ ap (map (start_of program)) same in
-      from_start lines table n q profile
-      (subst (λ (ps : List ℕ). (k : ℕ) → slice_index ps k < 65536) there below)
-      (subst (λ s. Profiled gives o s (map (start_of program) lines) limit (Ok profile) q n) started
-      (subst (λ ps. Profiled gives o m ps limit (Ok profile) q n) there counted))
-      (rows ∙ ap (map (λ k. row_in profile.tally k (start_of program k))) same) before instructions cycles end
+  of_outcome : (seed : ℕ) (outcome : FileOutcome) (ran : Ran) (texts : Texts) → LinesMake source outcome → OutcomeAnswer seed outcome (Ok c)
+      → IsProfile gives o text answers limit c ran → Shows source ran.table texts
+      → IsProfileOf gives o text answers limit source c texts.page.items texts.table.items ran
+  of_outcome seed (Ok program) ran texts made answer is shows = of_program seed program ran texts made answer is shows
+  of_outcome seed (Err r) ran texts made answer is shows = absurd answer
+
+  pub profiles : (seed : ℕ) (ran : Ran) (made : Made) → HasOutcome seed source (Ok c) → IsProfile gives o text answers limit c ran
+      → Shows source ran.table made.texts → made.end ≡ ran.end
+      → MakesTexts (Profiles gives o text answers limit source c) (Ok made)
+  profiles seed ran made found is shows ends = (ran, of_outcome seed found.outcome ran made.texts found.made found.answer is shows, ends)
+
+-- ---- what is prepared
+
+pub prepares : (makes : List ℕ → Product → Type 0) (warnings warned : List Warning) (made : Result Made Stop) (p : Prepared)
+    → warned ≡ warnings → MakesTexts makes made → IsPrepared made warned p → Prepares makes warnings p
+prepares makes warnings warned (Ok made) p same m is =
+    subst (λ t. PreparesText makes warnings p.warnings.items p.page.items t) (sym is.0)
+    (is.1 ∙ same, subst (λ page. makes page (Ok (made.texts.table.items, made.end))) (sym is.2) m)
+prepares makes warnings warned (Err (Refused e)) p same m is = absurd m
+prepares makes warnings warned (Err NoMemory) p same m is =
+    subst (λ t. PreparesText makes warnings p.warnings.items p.page.items t) (sym is.text) tt

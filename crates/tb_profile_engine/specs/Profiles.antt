@@ -1,38 +1,75 @@
 -- What comes of profiling a source.
-use Rattle.std.specs.Prelude.{ℕ, ◌≡◌, List, Result, Ok, Err}
+use Rattle.std.specs.Prelude.{ℕ, ◌≡◌, List, map, Result, Ok, Err}
 use Rattle.tb_kernal.specs.declared.events.Event.{Event}
 use Rattle.tb_kernal.specs.Machine.{Content}
 use Rattle.tb_syntax.specs.Source.{Program, numbers}
-use Rattle.tb_codegen.specs.Answers.{Makes}
 use Rattle.tb_codegen.specs.declared.compiled.Compiled.{Compiled}
-use Rattle.tb_codegen.specs.Answers.{HasOutcome}
+use Rattle.tb_codegen.specs.Answers.{HasOutcome, Makes}
 use Rattle.tb_driver.specs.Sources.{FromSource}
 use Rattle.tb_lower.specs.declared.missing.Warning.{Warning}
 use Rattle.tb_engines.specs.Outcomes.{Product}
 use Rattle.tb_engines.specs.declared.made.Stop.{Stop}
 use Rattle.tb_engines.specs.declared.made.Stop.TheVariants.{Refused, NoMemory}
-use Rattle.tb_profile_engine.specs.declared.engine.Texts.{Texts}
-use Rattle.tb_profile_engine.specs.declared.rows.Table.{Table}
-use Rattle.tb_profile_engine.specs.Rows.{IsProfile}
+use Rattle.tb_profile_table.specs.Rows.{AddsUp}
+use Rattle.tb_profile_table.specs.Lines.{stated}
+use Rattle.tb_profile_table.specs.Table.{table_of}
+use Rattle.tb_profile_table.specs.Page.{page_of}
+use Rattle.tb_profile_engine.specs.declared.engine.Made.{Made}
+use Rattle.tb_profile_engine.specs.declared.engine.Prepared.{Prepared}
+use Rattle.tb_engines.specs.declared.made.Text.{Text}
+use Rattle.tb_profile_engine.specs.declared.running.Ran.{Ran}
+use Rattle.tb_profile_engine.specs.Running.{IsProfile}
 
--- the text of a table of the program that a source makes
-abbrev pub Profiles : {O : Type 0} → (O → Content → Event → O → Type 0) → O → List ℕ → List ℕ → ℕ → List ℕ → Compiled → Product → Type 0
-Profiles gives o text answers limit source compiled (Ok shown) =
-    (program : Program) × (table : Table) × Makes source (Ok program)
-    × IsProfile gives o text answers limit compiled (numbers program) table × (shown.1 ≡ table.end)
-Profiles gives o text answers limit source compiled (Err e) = ⊥
+-- A profile of the program that a source makes: a row for each of its lines in order, rows that add up to the whole run,
+-- and the table and the page of these rows with the statements of the source.
+pub record IsProfileOf {O : Type 0} (gives : O → Content → Event → O → Type 0) (o : O) (text answers : List ℕ) (limit : ℕ) (source : List ℕ) (compiled : Compiled) (html shown : List ℕ) (ran : Ran) : Type 0 where
+  pub program : Program
+  pub made : Makes source (Ok program)
+  pub is : IsProfile gives o text answers limit compiled ran
+  pub lines : map (λ r. r.line) ran.table.rows.items ≡ numbers program
+  pub adds_up : AddsUp ran.table
+  pub table : shown ≡ table_of ran.table.whole (stated source ran.table.rows.items)
+  pub page : html ≡ page_of ran.table.whole (stated source ran.table.rows.items)
+
+-- the table and the page of a profile, and how its run ended
+abbrev pub Profiles : {O : Type 0} → (O → Content → Event → O → Type 0) → O → List ℕ → List ℕ → ℕ → List ℕ → Compiled → List ℕ → Product → Type 0
+Profiles gives o text answers limit source compiled page (Ok shown) =
+    (ran : Ran) × IsProfileOf gives o text answers limit source compiled page shown.0 ran × (shown.1 ≡ ran.end)
+Profiles gives o text answers limit source compiled page (Err e) = ⊥
 
 -- the compiler answered this program for the source
 abbrev pub IsProgramOf : List ℕ → Compiled → Type 0
 IsProgramOf source compiled = (seed : ℕ) × HasOutcome seed source (Ok compiled)
 
 -- what was made of a program; there is nothing where memory was wanting
-abbrev pub MakesTexts : (Product → Type 0) → Result Texts Stop → Type 0
-MakesTexts makes (Ok texts) = makes (Ok (texts.table.bytes.items, texts.table.end))
+abbrev pub MakesTexts : (List ℕ → Product → Type 0) → Result Made Stop → Type 0
+MakesTexts makes (Ok made) = makes made.texts.page.items (Ok (made.texts.table.items, made.end))
 MakesTexts makes (Err (Refused e)) = ⊥
 MakesTexts makes (Err NoMemory) = Unit {0}
 
--- what comes of profiling a source: a table, or the compiler's refusal
-abbrev pub ProfilesSource : {O : Type 0} → (O → Content → Event → O → Type 0) → O → ℕ → List ℕ → List ℕ → ℕ → List Warning → List ℕ → Product → Type 0
-ProfilesSource gives o seed text answers limit warnings source product =
-    FromSource seed (Profiles gives o text answers limit source) warnings source product
+-- what comes of profiling a source: a table with its page, or the compiler's refusal
+abbrev pub ProfilesSource : {O : Type 0} → (O → Content → Event → O → Type 0) → O → ℕ → List ℕ → List ℕ → ℕ → List Warning → List ℕ → List ℕ → Product → Type 0
+ProfilesSource gives o seed text answers limit warnings page source product =
+    FromSource seed (λ compiled. Profiles gives o text answers limit source compiled page) warnings source product
+
+-- ---- steps of the engine
+
+-- nothing is to be written
+pub record IsStopped (stop : Stop) (warned : List Warning) (p : Prepared) : Type 0 where
+  pub text : p.text ≡ Err stop
+  pub warnings : p.warnings.items ≡ warned
+
+-- what was made is to be written, with the page beside it
+abbrev pub IsPrepared : Result Made Stop → List Warning → Prepared → Type 0
+IsPrepared (Ok made) warnings p =
+    (p.text ≡ Ok (record { bytes = made.texts.table; end = made.end })) × (p.warnings.items ≡ warnings) × (p.page.items ≡ made.texts.page.items)
+IsPrepared (Err stop) warnings p = IsStopped stop warnings p
+
+-- a text of its kind, with the warnings; nothing is said of them where memory was wanting
+abbrev pub PreparesText : (List ℕ → Product → Type 0) → List Warning → List Warning → List ℕ → Result Text Stop → Type 0
+PreparesText makes warnings warned page (Ok text) = (warned ≡ warnings) × makes page (Ok (text.bytes.items, text.end))
+PreparesText makes warnings warned page (Err (Refused e)) = ⊥
+PreparesText makes warnings warned page (Err NoMemory) = Unit {0}
+
+abbrev pub Prepares : (List ℕ → Product → Type 0) → List Warning → Prepared → Type 0
+Prepares makes warnings p = PreparesText makes warnings p.warnings.items p.page.items p.text

@@ -1,22 +1,22 @@
 //! Profiling a source.
-ghost use Rattle.std.specs.Prelude.{◌≡◌, ◌+◌, IfOk};
+ghost use Rattle.std.specs.Prelude.{◌≡◌, ◌+◌};
 ghost use Rattle.tb_streams.specs.Streams.{most_input, ConsumesAtMost};
 ghost use Rattle.tb_streams.specs.Failures.{failures_of};
 ghost use Rattle.tb_engines.specs.Outcomes.{Answers, Faults, MadeFrom};
-ghost use Rattle.tb_driver.specs.Sources.{FromSource, WarnsOfRead};
-ghost use Rattle.tb_profile_engine.specs.Profiles.{IsProgramOf, MakesTexts, Profiles, ProfilesSource};
+ghost use Rattle.tb_engines.specs.Made.{Makes};
+ghost use Rattle.tb_codegen.specs.Compiled.{warnings_of};
+ghost use Rattle.tb_driver.specs.Sources.{WarnsOfRead};
+ghost use Rattle.tb_profile_engine.specs.Profiles.{IsPrepared, IsProgramOf, IsStopped, MakesTexts, Prepares, Profiles, ProfilesSource};
 
-use crate::page::page;
-use crate::rows::{Table, profile_program};
-use crate::statements::statements;
-use crate::table::table_text;
-use std::alloc::{AllocError, Global};
+use crate::running::profile_program;
+use std::alloc::Global;
 use std::io::{Read, Write};
 use tb_codegen::{Compiled, Options, compile};
 use tb_driver::stop_of;
-use tb_engines::{Outcome, Report, Stop, Text, deliver, without_input};
+use tb_engines::{End, Report, Stop, Text, deliver, without_input};
 use tb_kernal::{Keyboard, Outside};
-use tb_parser::{SourceErrorKind, parse};
+use tb_lower::Warning;
+use tb_profile_table::{Texts, texts_of};
 use tb_streams::{Tracked, read_input};
 
 /// How profiling ended, and the page, which is empty where there is no table.
@@ -26,24 +26,19 @@ pub struct Profiled {
     pub page: Vec<u8>,
 }
 
-// The texts of a profile.
+// Both texts, and how the run ended.
 #[derive(Drop)]
-struct Texts {
-    table: Text,
-    page: Vec<u8>,
+struct Made {
+    texts: Texts,
+    end: End,
 }
 
-fn texts_of(alloc: Global, table: &Table, source: &[u8]) -> Result<Texts, AllocError>
-    ensures { IfOk result (λ texts. texts.table.end ≡ table.now.end) }
-{
-    let found = statements(alloc, source, &table.rows)?;
-    Ok(Texts {
-        table: Text {
-            bytes: table_text(alloc, table, &found)?,
-            end: table.end,
-        },
-        page: page(alloc, table, &found)?,
-    })
+// What is to be written of a source, the warnings, and the page.
+#[derive(Drop)]
+struct Prepared {
+    text: Result<Text, Stop>,
+    warnings: Vec<Warning>,
+    page: Vec<u8>,
 }
 
 // Runs the program of a source, and makes its texts.
@@ -54,30 +49,86 @@ fn make_texts<O: Outside>(
     keyboard: Keyboard,
     limit: u32,
     outside: &mut O,
-) -> Result<Texts, Stop>
+) -> Result<Made, Stop>
     requires { IsProgramOf source.now program.now }
     ensures { MakesTexts (Profiles O.gives outside.old keyboard.text.items keyboard.answers.items limit source.now
         program.now) result }
 {
-    let lines = match parse(alloc, source) {
-        Ok(lines) => lines,
-        Err(error) if error.kind == SourceErrorKind::NoMemory => return Err(Stop::NoMemory),
-        Err(_) => unreachable!(),
-    };
-    let table = profile_program(alloc, program, &lines, keyboard, limit, outside)?;
-    match texts_of(alloc, &table, source) {
-        Ok(texts) => Ok(texts),
+    let ran = profile_program(alloc, program, keyboard, limit, outside)?;
+    match texts_of(alloc, &ran.table, source) {
+        Ok(texts) => Ok(Made {
+            texts,
+            end: ran.end,
+        }),
         Err(_) => Err(Stop::NoMemory),
     }
 }
 
-// Where there is no page.
-fn without_page(alloc: Global, report: Report) -> Profiled
-    ensures { result.report ≡ report }
+// Where there is no table.
+fn without_page(alloc: Global, stop: Stop, warnings: Vec<Warning>) -> Prepared
+    ensures { IsStopped stop warnings.items result }
 {
-    Profiled {
-        report,
+    Prepared {
+        text: Err(stop),
+        warnings,
         page: Vec::new(alloc),
+    }
+}
+
+fn prepare(alloc: Global, made: Result<Made, Stop>, warnings: Vec<Warning>) -> Prepared
+    ensures { IsPrepared made warnings.items result }
+{
+    match made {
+        Ok(Made { texts, end }) => Prepared {
+            text: Ok(Text {
+                bytes: texts.table,
+                end,
+            }),
+            warnings,
+            page: texts.page,
+        },
+        Err(stop) => without_page(alloc, stop, warnings),
+    }
+}
+
+// Runs the program of a source, which has these warnings.
+fn profile_compiled<O: Outside>(
+    alloc: Global,
+    source: &[u8],
+    program: &Compiled,
+    keyboard: Keyboard,
+    limit: u32,
+    outside: &mut O,
+) -> Prepared
+    requires { IsProgramOf source.now program.now }
+    ensures { Prepares (Profiles O.gives outside.old keyboard.text.items keyboard.answers.items limit source.now
+        program.now) (warnings_of program.now) result }
+{
+    let Ok(warnings) = Vec::from_slice(alloc, program.warnings()) else {
+        return without_page(alloc, Stop::NoMemory, Vec::new(alloc));
+    };
+    prepare(
+        alloc,
+        make_texts(alloc, source, program, keyboard, limit, outside),
+        warnings,
+    )
+}
+
+// Compiles a source with a first state of RND, and runs it.
+fn profile_source<O: Outside>(
+    alloc: Global,
+    source: &[u8],
+    seed: u16,
+    keyboard: Keyboard,
+    limit: u32,
+    outside: &mut O,
+) -> Prepared
+    ensures { Makes (ProfilesSource O.gives outside.old seed keyboard.text.items keyboard.answers.items limit
+        result.warnings.items result.page.items source.now) result.text }
+{
+    match compile(alloc, source, Options { seed }) {
+        Ok(program) => profile_compiled(alloc, source, &program, keyboard, limit, outside),
+        Err(error) => without_page(alloc, stop_of(error), Vec::new(alloc)),
     }
 }
 
@@ -93,8 +144,8 @@ pub fn profile_text<R: Read, W: Write, O: Outside>(
     outside: &mut O,
 ) -> Profiled
     ensures answers { Answers (MadeFrom (R.remaining reader.old.stream) (ProfilesSource O.gives outside.old seed
-        keyboard.text.items keyboard.answers.items limit result.report.warnings.items)) result.report.outcome
-        (W.contents writer.old.stream) (W.contents writer.new.stream) }
+        keyboard.text.items keyboard.answers.items limit result.report.warnings.items result.page.items))
+        result.report.outcome (W.contents writer.old.stream) (W.contents writer.new.stream) }
     ensures warned { WarnsOfRead result.report.outcome result.report.warnings.items }
     ensures faults { Faults result.report.outcome (R.remaining reader.old.stream)
         (failures_of reader.old) (failures_of reader.new)
@@ -104,34 +155,23 @@ pub fn profile_text<R: Read, W: Write, O: Outside>(
 {
     let source = match read_input(alloc, reader) {
         Ok(source) => source,
-        Err(error) => return without_page(alloc, Report::new(alloc, without_input(error))),
-    };
-    let program = match compile(alloc, source.as_slice(), Options { seed }) {
-        Ok(program) => program,
         Err(error) => {
-            return without_page(
-                alloc,
-                Report::new(alloc, deliver(writer, Err(stop_of(error)))),
-            );
+            return Profiled {
+                report: Report::new(alloc, without_input(error)),
+                page: Vec::new(alloc),
+            };
         }
     };
-    let Ok(warnings) = Vec::from_slice(alloc, program.warnings()) else {
-        return without_page(alloc, Report::new(alloc, Outcome::NoMemory));
-    };
-    match make_texts(alloc, source.as_slice(), &program, keyboard, limit, outside) {
-        Ok(Texts { table, page }) => Profiled {
-            report: Report {
-                outcome: deliver(writer, Ok(table)),
-                warnings,
-            },
-            page,
+    let Prepared {
+        text,
+        warnings,
+        page,
+    } = profile_source(alloc, source.as_slice(), seed, keyboard, limit, outside);
+    Profiled {
+        report: Report {
+            outcome: deliver(writer, text),
+            warnings,
         },
-        Err(stop) => without_page(
-            alloc,
-            Report {
-                outcome: deliver(writer, Err(stop)),
-                warnings,
-            },
-        ),
+        page,
     }
 }

@@ -3,11 +3,6 @@
 #![tactic(auto)]
 
 mod engine;
-mod page;
-mod rows;
-mod statements;
-mod table;
-mod texts;
+mod running;
 
 pub use engine::{Profiled, profile_text};
-pub use rows::{Row, Table};

@@ -1,8 +1,12 @@
+use Rattle.std.proofs.Common.{refl}
 use Rattle.tb_driver.proofs.Loadable.{answer_loads}
+use Rattle.tb_profile_engine.proofs.Profiling.{profiles}
 use Rattle.tb_profile_engine.proofs.engine.make_texts.Goals as goal
 
 pub profile_program-requires : goal.profile_program-requires
 profile_program-requires g c = answer_loads c.requires.0 c.args.source.now c.args.program.now c.requires.1
 
-pub returns-in-Ok-texts_of : goal.returns-in-Ok-texts_of
-returns-in-Ok-texts_of g c = (_, c.in_ok-table.table, c.in-Ok.ensures.found, c.in_ok-table.ensures, c.in-Ok-texts_of.ensures)
+pub returns-in-Ok : goal.returns-in-Ok
+returns-in-Ok g c =
+    profiles g.O.Outside.gives c.args.outside.now c.args.keyboard.text.items c.args.keyboard.answers.items c.args.limit c.args.source.now c.args.program.now
+    c.requires.0 c.in_ok-ran.ran (record { texts = c.in-Ok.texts; end = c.in_ok-ran.ran.end }) c.requires.1 c.in_ok-ran.ensures c.in-Ok.ensures refl

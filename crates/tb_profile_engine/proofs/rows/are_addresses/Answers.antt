@@ -1,4 +1,0 @@
-use Rattle.tb_profile_engine.proofs.rows.are_addresses.Goals as goal
-
-pub returns : goal.returns
-returns c = λ k. (c.type_inv.places k).fits

@@ -1,0 +1,7 @@
+use Rattle.std.proofs.Common.{◌≡◌, map, take}
+use Rattle.tb_codegen.specs.Compiled.{pair_of}
+use Rattle.tb_profile_table.specs.Rows.{start_pair}
+use Rattle.tb_profile_engine.proofs.running.starts_of.Given as goal
+
+abbrev pub invariant-loop-start : goal.invariant-loop-start
+invariant-loop-start l = map start_pair l.starts.items ≡ map pair_of (take l.start-index l.given)

@@ -1,0 +1,29 @@
+-- What the lines of a program took on a run.
+use Rattle.std.specs.Prelude.{ℕ, ◌≡◌, List, Result, Ok, Err}
+use Rattle.tb_kernal.specs.declared.events.Event.{Event}
+use Rattle.tb_kernal.specs.Machine.{Content}
+use Rattle.tb_codegen.specs.Compiled.{starts_of, loaded_of}
+use Rattle.tb_codegen.specs.declared.compiled.Compiled.{Compiled}
+use Rattle.tb_engines.specs.Programs.{start, end_of}
+use Rattle.tb_engines.specs.declared.made.Stop.{Stop}
+use Rattle.tb_engines.specs.declared.made.Stop.TheVariants.{Refused, NoMemory}
+use Rattle.tb_profile_table.specs.Rows.{Tabled}
+use Rattle.tb_profile_engine.specs.declared.running.Ran.{Ran}
+
+-- A run of at most `limit` events that an outside gave a machine, the table of the program's lines at the places where
+-- their code begins, and how it ended.
+pub record RunsFrom {O : Type 0} (gives : O → Content → Event → O → Type 0) (o : O) (limit : ℕ) (program : Compiled) (m : Content) (ran : Ran) : Type 0 where
+  pub outside : O
+  pub machine : Content
+  pub tabled : Tabled gives o m (starts_of program) limit ran.table outside machine
+  pub end : ran.end ≡ end_of ran.table.status machine.regs.pc
+
+-- the same from a program's start machine
+abbrev pub IsProfile : {O : Type 0} → (O → Content → Event → O → Type 0) → O → List ℕ → List ℕ → ℕ → Compiled → Ran → Type 0
+IsProfile gives o text answers limit program ran = RunsFrom gives o limit program (start 0x0801 (loaded_of program) text answers) ran
+
+-- a run, where memory was not wanting
+abbrev pub ComesTo : (Ran → Type 0) → Result Ran Stop → Type 0
+ComesTo is (Ok ran) = is ran
+ComesTo is (Err (Refused e)) = ⊥
+ComesTo is (Err NoMemory) = Unit {0}

@@ -1,0 +1,74 @@
+//! Runs of programs that are counted.
+ghost use Rattle.std.specs.Prelude.{◌≡◌, IfOk, map};
+ghost use Rattle.tb_codegen.specs.Compiled.{starts_of};
+ghost use Rattle.tb_driver.specs.Stepping.{IsLoadable};
+ghost use Rattle.tb_profile_table.specs.Rows.{start_pair};
+ghost use Rattle.tb_profile_engine.specs.Running.{ComesTo, IsProfile, RunsFrom};
+
+use std::alloc::{AllocError, Global};
+use tb_codegen::Compiled;
+use tb_engines::{End, Stop, end_of, start_machine};
+use tb_kernal::{Keyboard, Machine, Outside};
+use tb_profile_table::{Start, Table, profile};
+
+/// What a run took, and how it ended.
+#[derive(Drop)]
+pub struct Ran {
+    pub table: Table,
+    pub end: End,
+}
+
+// The lines of a program with the places where they begin.
+fn starts_of(alloc: Global, program: &Compiled) -> Result<Vec<Start>, AllocError>
+    ensures { IfOk result (λ starts. map start_pair starts.items ≡ starts_of program.now) }
+{
+    let given = program.starts();
+    let mut starts = Vec::new(alloc);
+    for start in given {
+        starts.push(Start {
+            line: start.number,
+            place: start.at,
+        })?;
+    }
+    Ok(starts)
+}
+
+// Runs a program's machine.
+fn profile_machine<O: Outside>(
+    alloc: Global,
+    machine: &mut Machine,
+    program: &Compiled,
+    limit: u32,
+    outside: &mut O,
+) -> Result<Ran, Stop>
+    ensures { ComesTo (RunsFrom O.gives outside.old limit program.now machine.old) result }
+{
+    let Ok(starts) = starts_of(alloc, program) else {
+        return Err(Stop::NoMemory);
+    };
+    match profile(alloc, machine, outside, &starts, limit) {
+        Ok(table) => Ok(Ran {
+            end: end_of(table.status, machine.regs().pc),
+            table,
+        }),
+        Err(_) => Err(Stop::NoMemory),
+    }
+}
+
+/// Runs a compiled program for at most `limit` events, and counts what its lines take.
+pub fn profile_program<O: Outside>(
+    alloc: Global,
+    program: &Compiled,
+    keyboard: Keyboard,
+    limit: u32,
+    outside: &mut O,
+) -> Result<Ran, Stop>
+    requires { IsLoadable program.now }
+    ensures { ComesTo (IsProfile O.gives outside.old keyboard.text.items keyboard.answers.items limit program.now) result }
+{
+    let Ok(loaded) = tb_prg::read(program.prg()) else {
+        unreachable!()
+    };
+    let mut machine = start_machine(alloc, loaded, keyboard)?;
+    profile_machine(alloc, &mut machine, program, limit, outside)
+}

@@ -1,0 +1,53 @@
+-- The first line of a text.
+use Rattle.std.proofs.Common.{◌≡◌, ◌≢◌, ℕ, zero, suc, ◌+◌, ◌-◌, ◌<◌, ◌≤◌, ◌⊎◌, inl, inr, false, true, ◌||◌, List, [], ◌∷◌, length, get_or, take, drop, refl, arith, ◌==◌, add-one}
+use Rattle.std.proofs.lemmas.Bool.Decides.{nat_tests}
+use Rattle.std.proofs.lemmas.List.{take_all, length-drop}
+use Rattle.tb_profile_table.specs.Lines.{lines_of}
+
+goes_on : (b : ℕ) → b ≢ 10 → b ≢ 13 → ((b == 10) || (b == 13)) ≡ false
+goes_on b h k = grind (arith, nat_tests, h, k)
+
+ends : (b : ℕ) → (b ≡ 10) ⊎ (b ≡ 13) → ((b == 10) || (b == 13)) ≡ true
+ends b (inl h) = rw h refl
+ends b (inr h) = rw h refl
+
+-- the first line ends at the first byte that ends one
+first_line : (text : List ℕ) (i : ℕ) → i < length text → (get_or text i 0 ≡ 10) ⊎ (get_or text i 0 ≡ 13)
+    → ((k : ℕ) → k < i → (get_or text k 0 ≢ 10) × (get_or text k 0 ≢ 13))
+    → lines_of text ≡ take i text ∷ lines_of (drop (suc i) text)
+unfolding lines_of
+first_line [] i lt e inside = absurd (omega arith)
+first_line (b ∷ text) zero lt e inside = rw (ends b e) refl
+first_line (b ∷ text) (suc i) lt e inside =
+    let h = inside 0 (omega arith) in
+    let rest = first_line text i (omega arith) e (λ k below. inside (suc k) (omega arith)) in
+    rw (goes_on b h.0 h.1, rest) refl
+
+-- the same, with what is left as the code has it
+pub first_line_and_rest : (text : List ℕ) (i : ℕ) → i < length text → (get_or text i 0 ≡ 10) ⊎ (get_or text i 0 ≡ 13)
+    → ((k : ℕ) → k < i → (get_or text k 0 ≢ 10) × (get_or text k 0 ≢ 13))
+    → lines_of text ≡ take i text ∷ lines_of (take (length text - (i + 1)) (drop (i + 1) text))
+first_line_and_rest text i lt e inside =
+    let whole : take (length text - (i + 1)) (drop (i + 1) text) ≡ drop (i + 1) text = take_all (length text - (i + 1)) (drop (i + 1) text) (omega (arith, length-drop (i + 1) text)) in
+    rw whole (rw add-one (first_line text i lt e inside))
+
+-- a text without such a byte is one line
+last_line : (text : List ℕ) → text ≢ [] → ((k : ℕ) → k < length text → (get_or text k 0 ≢ 10) × (get_or text k 0 ≢ 13)) → lines_of text ≡ text ∷ lines_of []
+unfolding lines_of
+last_line [] ne inside = absurd (ne refl)
+last_line (b ∷ []) ne inside = let h = inside 0 (omega arith) in rw (goes_on b h.0 h.1) refl
+last_line (b ∷ c ∷ text) ne inside =
+    let h = inside 0 (omega arith) in
+    let rest = last_line (c ∷ text) (λ e. cc) (λ k below. inside (suc k) (omega arith)) in
+    rw (goes_on b h.0 h.1, rest) refl
+
+pub only_line : (text : List ℕ) (i : ℕ) → (length text == 0) ≡ false → length text ≤ i → ((k : ℕ) → k < i → (get_or text k 0 ≢ 10) × (get_or text k 0 ≢ 13))
+    → (lines_of text ≡ text ∷ lines_of []) × (0 < length text)
+unfolding lines_of
+only_line [] i e le inside = absurd cc
+only_line (b ∷ text) i e le inside = (last_line (b ∷ text) (λ h. cc) (λ k below. inside k (omega arith)), omega arith)
+
+-- an empty text has no line
+pub no_lines : (text : List ℕ) → text ≡ [] → lines_of text ≡ []
+unfolding lines_of
+no_lines text e = rw e refl

@@ -1,0 +1,14 @@
+use Rattle.std.proofs.Common.{rules, ◌≡◌, ◌++◌}
+use Rattle.std.specs.Prelude.{codes}
+use Rattle.tb_profile_table.specs.Figures.{percent}
+use Rattle.tb_profile_table.specs.Page.{share_cell}
+use Rattle.tb_profile_table.proofs.Appending.{three}
+use Rattle.tb_profile_table.proofs.page.push_share.Goals as goal
+
+pub returns : goal.returns
+unfolding share_cell
+returns c =
+    let first : c.extend_from_slice.new.self.items ≡ c.args.text.now.items ++ codes "<td>" = c.in_ok-extend_from_slice.ensures.items in
+    let shown : c.extend_from_slice-2.new.self.items ≡ c.extend_from_slice.new.self.items ++ percent c.args.thousandths = search rules in
+    three c.extend_from_slice-3.result c.args.text.now.items c.extend_from_slice.new.self.items c.extend_from_slice-2.new.self.items c.extend_from_slice-3.new.self.items
+    (codes "<td>") (percent c.args.thousandths) (codes "</td><td class=\"bar\"><span style=\"width: ") first shown c.extend_from_slice-3.ensures.items

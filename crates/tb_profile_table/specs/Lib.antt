@@ -1,0 +1,6 @@
+pub mod Figures
+pub mod Rows
+pub mod Lines
+pub mod Table
+pub mod Page
+pub mod Texts

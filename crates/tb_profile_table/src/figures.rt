@@ -1,0 +1,70 @@
+//! Numbers and words in texts.
+ghost use Rattle.std.specs.Prelude.{◌≡◌, ◌<◌, ◌++◌, ◌^◌, OnOk, IfOk, replicate, string_bytes};
+ghost use Rattle.std.specs.Fmt.{decimal};
+ghost use Rattle.tb_profile_table.specs.Figures.{percent, right, share, shown};
+
+use std::alloc::{AllocError, Global};
+
+/// Appends a number.
+pub fn push_number(alloc: Global, text: &mut Vec<u8>, number: u128) -> Result<(), AllocError>
+    ensures { OnOk result (text.new.items ≡ text.old.items ++ decimal number) }
+{
+    text.extend_from_slice(format!(in alloc; "{number}")?.as_bytes())
+}
+
+fn push_spaces(text: &mut Vec<u8>, count: usize) -> Result<(), AllocError>
+    ensures { OnOk result (text.new.items ≡ text.old.items ++ replicate count 32) }
+{
+    let size = text.len();
+    text.resize(size.saturating_add(count), b' ')
+}
+
+/// Appends a word at the right of so many columns, or as many as it has.
+#[tactic(auto, unfolding(crate::specs::Figures::right))]
+pub fn push_right(text: &mut Vec<u8>, columns: usize, word: &[u8]) -> Result<(), AllocError>
+    ensures { OnOk result (text.new.items ≡ text.old.items ++ right columns word.now) }
+{
+    push_spaces(text, columns.saturating_sub(word.len()))?;
+    text.extend_from_slice(word)
+}
+
+/// Appends a number at the right of so many columns.
+pub fn push_column(
+    alloc: Global,
+    text: &mut Vec<u8>,
+    columns: usize,
+    number: u128,
+) -> Result<(), AllocError>
+    ensures { OnOk result (text.new.items ≡ text.old.items ++ right columns (decimal number)) }
+{
+    push_right(text, columns, format!(in alloc; "{number}")?.as_bytes())
+}
+
+/// How many thousandths of all cycles these are, to the nearest; 0 where there are none at all.
+#[tactic(auto, unfolding(crate::specs::Figures::share))]
+pub fn share(cycles: u64, all: u64) -> u128
+    ensures value { result ≡ share cycles all }
+    ensures few { result < 2 ^ 80 }
+{
+    if all == 0 {
+        return 0;
+    }
+    (u128::from(cycles) * 1000 + u128::from(all / 2)) / u128::from(all)
+}
+
+/// The percent of so many thousandths, with one digit.
+#[tactic(auto, unfolding(crate::specs::Figures::percent))]
+pub fn percent(alloc: Global, thousandths: u128) -> Result<String, AllocError>
+    ensures { IfOk result (λ text. string_bytes text ≡ percent thousandths) }
+{
+    let whole = thousandths / 10;
+    let tenth = thousandths % 10;
+    format!(in alloc; "{whole}.{tenth}%")
+}
+
+/// A byte as it is shown.
+pub fn shown(byte: u8) -> u8
+    ensures { result ≡ shown byte }
+{
+    if byte < 32 || 126 < byte { b'?' } else { byte }
+}

@@ -1,0 +1,12 @@
+//! Profiles as a table and as a page: what the lines of a program took on a run, each line's statement, and the texts.
+#![tactic(auto)]
+
+mod figures;
+mod lines;
+mod page;
+mod rows;
+mod table;
+mod texts;
+
+pub use rows::{Row, Start, Table, Whole, profile};
+pub use texts::{Texts, texts_of};

@@ -1,0 +1,133 @@
+//! What the lines of a program took on a run.
+ghost use Rattle.std.specs.Prelude.{◌≡◌, ◌<◌, ℕ, map, slice_index, IfOk};
+ghost use Rattle.tb_profile_table.specs.Rows.{IsTableOf, Profiles, row_in, start_pair, whole_in};
+
+use std::alloc::Global;
+use tb_kernal::{Machine, Outside, Status};
+use tb_memmap::NoMemory;
+use tb_profile::{Tally, run_counted};
+
+/// Where a line begins.
+#[derive(Clone, Copy, Drop)]
+pub struct Start {
+    pub line: u16,
+    pub place: u16,
+}
+
+/// What a line took: how often it was begun, and the instructions and cycles of its steps.
+#[derive(Clone, Copy, Drop)]
+pub struct Row {
+    pub line: u16,
+    pub times: u64,
+    pub instructions: u64,
+    pub cycles: u64,
+}
+
+/// What a run took.
+#[derive(Clone, Copy, Drop)]
+pub struct Whole {
+    /// What came before the first line.
+    pub start: Row,
+    /// The instructions and services of the whole run.
+    pub instructions: u64,
+    /// Their cycles.
+    pub cycles: u64,
+}
+
+/// What a run and its lines took, and how its machine stands.
+#[derive(Drop)]
+pub struct Table {
+    pub whole: Whole,
+    /// The lines, as their starts were given.
+    pub rows: Vec<Row>,
+    pub status: Status,
+}
+
+// Where lines begin.
+fn places_of(alloc: Global, starts: &[Start]) -> Result<Vec<u16>, NoMemory>
+    ensures { IfOk result (λ places. places.items ≡ map (λ s. s.place) starts.now) }
+{
+    let mut places = Vec::new(alloc);
+    for start in starts {
+        if places.push(start.place).is_err() {
+            return Err(NoMemory);
+        }
+    }
+    Ok(places)
+}
+
+// Places are addresses: nothing is done, the proof of `profile` takes it from here.
+fn are_addresses(places: &[u16])
+    ensures { (k : ℕ) → slice_index places.now k < 65536 }
+{}
+
+// What the line that begins at a place took.
+fn row_at(tally: &Tally, line: u16, place: u16) -> Row
+    ensures { result ≡ row_in tally.now line place }
+{
+    Row {
+        line,
+        times: tally.times(place),
+        instructions: tally.instructions(place),
+        cycles: tally.cycles(place),
+    }
+}
+
+// What these lines took.
+fn rows_of(alloc: Global, tally: &Tally, starts: &[Start]) -> Result<Vec<Row>, NoMemory>
+    ensures { IfOk result (λ rows. rows.items ≡ map (λ s. row_in tally.now s.line s.place) starts.now) }
+{
+    let mut rows = Vec::new(alloc);
+    for start in starts {
+        if rows.push(row_at(tally, start.line, start.place)).is_err() {
+            return Err(NoMemory);
+        }
+    }
+    Ok(rows)
+}
+
+// What the whole run took.
+fn whole_of(tally: &Tally) -> Whole
+    ensures { result ≡ whole_in tally.now }
+{
+    Whole {
+        start: Row {
+            times: 1,
+            ..row_at(tally, 0, 0)
+        },
+        instructions: tally.taken(),
+        cycles: tally.spent(),
+    }
+}
+
+// The table of a tally.
+fn table_of(
+    alloc: Global,
+    tally: &Tally,
+    starts: &[Start],
+    status: Status,
+) -> Result<Table, NoMemory>
+    ensures { IfOk result (IsTableOf tally.now starts.now status) }
+{
+    Ok(Table {
+        whole: whole_of(tally),
+        rows: rows_of(alloc, tally, starts)?,
+        status,
+    })
+}
+
+/// Lets the events of an outside happen as `run` does, and counts what the lines take that begin at these places.
+pub fn profile<O: Outside>(
+    alloc: Global,
+    machine: &mut Machine,
+    outside: &mut O,
+    starts: &[Start],
+    limit: u32,
+) -> Result<Table, NoMemory>
+    ensures { Profiles O.gives outside.old machine.old (map start_pair starts.now) limit result outside.new machine.new }
+{
+    let places = places_of(alloc, starts)?;
+    are_addresses(&places);
+    let profile = run_counted(alloc, machine, outside, &places, limit)?;
+    table_of(alloc, &profile.tally, starts, profile.status)
+}

@@ -1,0 +1,27 @@
+//! The texts of a table.
+ghost use Rattle.std.specs.Prelude.{IfOk};
+ghost use Rattle.tb_profile_table.specs.Texts.{Shows};
+
+use crate::lines::lines_of;
+use crate::page::page_text;
+use crate::rows::Table;
+use crate::table::table_text;
+use std::alloc::{AllocError, Global};
+
+/// A table as a text and as a page.
+#[derive(Drop)]
+pub struct Texts {
+    pub table: Vec<u8>,
+    pub page: Vec<u8>,
+}
+
+/// The texts of a table of the lines of a source.
+pub fn texts_of(alloc: Global, table: &Table, source: &[u8]) -> Result<Texts, AllocError>
+    ensures { IfOk result (Shows source.now table.now) }
+{
+    let lines = lines_of(alloc, source, &table.rows)?;
+    Ok(Texts {
+        table: table_text(alloc, &table.whole, &lines)?,
+        page: page_text(alloc, &table.whole, &lines)?,
+    })
+}
