@@ -1,2 +1,9 @@
+pub mod Besides
+pub mod EventLists
+pub mod Keeping
 pub mod Marking
+pub mod Responding
 pub mod Running
+pub mod Sources
+pub mod TypedLists
+pub mod Typing

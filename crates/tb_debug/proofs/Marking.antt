@@ -1,5 +1,5 @@
 -- Marks of places.
-use Rattle.std.proofs.Common.{◌≡◌, ℕ, ◌<◌, Bool, true, false, ◌||◌, List, length, refl, sym, ap, ◌∙◌, arith, inl, inr, slice_index_or, slice_set}
+use Rattle.std.proofs.Common.{◌≡◌, ℕ, zero, suc, replicate, ◌<◌, Bool, true, false, ◌||◌, List, length, refl, sym, ap, ◌∙◌, arith, inl, inr, slice_index_or, slice_set}
 use Rattle.std.specs.Prelude.{◌==◌}
 use Rattle.std.proofs.lemmas.Bool.{cases_eq}
 use Rattle.std.proofs.lemmas.Bool.Decides.{nat_tests}
@@ -28,3 +28,8 @@ mark_one begins p a rest goal inside h =
 pub or_false : (b : Bool) → (b || false) ≡ b
 or_false true = refl
 or_false false = refl
+
+pub none_marked : (n a : ℕ) → slice_index_or (replicate n false) a false ≡ false
+none_marked zero a = refl
+none_marked (suc n) zero = refl
+none_marked (suc n) (suc a) = none_marked n a

@@ -1,14 +1,72 @@
--- One event more of a run.
-use Rattle.std.proofs.Common.{◌≡◌, ℕ, ◌+◌, Bool, true, List, sym, ap, ◌∙◌, subst}
-use Rattle.std.specs.Prelude.{if◌then◌else◌}
+-- Places of a run.
+use Rattle.std.proofs.Common.{◌≡◌, append-nil, append_assoc, ℕ, zero, suc, ◌+◌, ◌-◌, ◌<◌, ◌≤◌, Bool, List, [], ◌++◌, length, take, refl, sym, ap, ◌∙◌, subst, add-one, arith}
+use Rattle.std.proofs.Math.Seq.{take-append_seam, take-length}
+use borrow.Author.Count.{below_more}
 use Rattle.tb_kernal.specs.declared.events.Event.{Event}
-use Rattle.tb_kernal.specs.Machine.{State, happens, is_lawful}
-use Rattle.tb_debug.specs.Runs.{Leads, later, is_begin}
+use Rattle.tb_kernal.specs.declared.status.Status.TheVariants.{Running}
+use Rattle.tb_kernal.specs.Machine.{status, happens}
+use Rattle.tb_reaching.specs.Reaching.{IsPrefix}
+use Rattle.tb_reaching.proofs.Grows.{sends_on}
+use Rattle.std.specs.Prelude.{if◌then◌else◌}
+use Rattle.tb_debug.specs.Besides.{after, event_at}
+use Rattle.tb_debug.specs.Runs.{Point, RunsUpTo, behind, is_begin, next_point, point_at}
 
-pub one_more : (marks : List Bool) (start : State) (events begun n b : ℕ) (s t : State) (e : Event) (begins : Bool)
-    → Leads marks start events begun s → is_lawful s e ≡ true → t ≡ happens s e → begins ≡ is_begin marks s e
-    → n ≡ events + 1 → b ≡ begun + (if begins then 1 else 0) → Leads marks start n b t
-one_more marks start events begun n b s t e begins h lawful happened is_begins counted grown =
-    let more = later events begun s t e h lawful happened in
-    let b' : begun + (if is_begin marks s e then 1 else 0) ≡ b = ap (λ x. begun + (if x then 1 else 0)) (sym is_begins) ∙ sym grown in
-    subst (λ x. Leads marks start n x t) b' (subst (λ x. Leads marks start x (begun + (if is_begin marks s e then 1 else 0)) t) (sym counted) more)
+pub at_start : (marks : List Bool) (start : Point) → point_at marks start 0 ≡ start
+unfolding point_at
+at_start marks start = refl
+
+pub at_next : (marks : List Bool) (start : Point) (n : ℕ) → point_at marks start (suc n) ≡ next_point marks (point_at marks start n)
+unfolding point_at
+at_next marks start n = refl
+
+-- what an event leaves, part by part
+pub behind_by : (marks : List Bool) (p q : Point) (e : Event) (begins : Bool) → q.state ≡ happens p.state e → q.beside ≡ after p.beside
+    → begins ≡ is_begin marks p.state e → q.begun ≡ p.begun + (if begins then 1 else 0) → q.last ≡ (if begins then p.state.regs.pc else p.last)
+    → q ≡ behind marks p e
+behind_by marks p q e begins happened left is counted moved =
+    let count : q.begun ≡ p.begun + (if is_begin marks p.state e then 1 else 0) = counted ∙ ap (λ x. p.begun + (if x then 1 else 0)) is in
+    let place : q.last ≡ (if is_begin marks p.state e then p.state.regs.pc else p.last) = moved ∙ ap (λ x. if x then p.state.regs.pc else p.last) is in
+    λ i. record { state = happened i; beside = left i; begun = count i; last = place i }
+
+-- one event more
+pub one_more : (marks : List Bool) (start p q : Point) (n m : ℕ) (e : Event) → p ≡ point_at marks start n → e ≡ event_at p.beside p.state.regs
+    → q ≡ behind marks p e → m ≡ n + 1 → q ≡ point_at marks start m
+one_more marks start p q n m e here given moved counted =
+    moved ∙ ap (behind marks p) given ∙ ap (next_point marks) here ∙ sym (at_next marks start n) ∙ ap (point_at marks start) (sym (counted ∙ add-one n))
+
+-- the machine ran up to there, and runs
+pub runs_on : (marks : List Bool) (start p : Point) (n m : ℕ) → RunsUpTo marks start n → p ≡ point_at marks start n → status p.state ≡ Running
+    → m ≡ n + 1 → RunsUpTo marks start m
+runs_on marks start p n m ran here runs counted =
+    let now : status (point_at marks start n).state ≡ Running = ap (λ q. status q.state) (sym here) ∙ runs in
+    subst (RunsUpTo marks start) (sym counted) (below_more (λ k. status (point_at marks start k).state ≡ Running) n ran now)
+
+same : (a b : List ℕ) → b ≡ a → IsPrefix a b
+same a b e = record { rest = []; split = e ∙ sym (append-nil a) }
+
+then_longer : (a b c : List ℕ) → IsPrefix a b → IsPrefix b c → IsPrefix a c
+then_longer a b c p q = record { rest = p.rest ++ q.rest; split = q.split ∙ ap (λ l. l ++ q.rest) p.split ∙ append_assoc a p.rest q.rest }
+
+-- what was sent stays sent
+sent_on : (marks : List Bool) (start : Point) (n more : ℕ) → IsPrefix (point_at marks start n).state.sent (point_at marks start (more + n)).state.sent
+sent_on marks start n zero =
+    let e : zero + n ≡ n = omega arith in
+    same _ _ (ap (λ k. (point_at marks start k).state.sent) e)
+sent_on marks start n (suc more) =
+    let p = point_at marks start (more + n) in
+    let next = sends_on (event_at p.beside p.state.regs) p.state in
+    let one : suc more + n ≡ suc (more + n) = omega arith in
+    let e : (point_at marks start (suc more + n)).state.sent ≡ (next_point marks p).state.sent =
+    ap (λ k. (point_at marks start k).state.sent) one ∙ ap (λ q. q.state.sent) (at_next marks start (more + n)) in
+    subst (IsPrefix (point_at marks start n).state.sent) (sym e) (then_longer _ _ _ (sent_on marks start n more) next)
+
+cut : (xs ys : List ℕ) → IsPrefix xs ys → take (length xs) ys ≡ xs
+cut xs ys p = ap (take (length xs)) p.split ∙ take-append_seam xs p.rest
+
+-- what was sent up to a place is the beginning of what was sent up to a later one
+pub sent_before : (marks : List Bool) (start : Point) (n m : ℕ) → n ≤ m
+    → take (length (point_at marks start n).state.sent) (point_at marks start m).state.sent ≡ (point_at marks start n).state.sent
+sent_before marks start n m few =
+    let e : m ≡ (m - n) + n = omega (arith, few) in
+    ap (λ k. take (length (point_at marks start n).state.sent) (point_at marks start k).state.sent) e
+    ∙ cut _ _ (sent_on marks start n (m - n))

@@ -1,9 +1,10 @@
 -- The events that a ROM beside the program gives.
-use Rattle.std.proofs.Common.{◌≡◌, true, refl, ap, ◌∙◌}
+use Rattle.std.proofs.Common.{◌≡◌, true, [], refl, ap, ◌∙◌}
 use Rattle.tb_words.specs.Words.{seed_after}
+use Rattle.tb_cpu.specs.declared.registers.Regs.{Regs}
 use Rattle.tb_kernal.specs.declared.events.Event.{Event}
 use Rattle.tb_kernal.specs.declared.events.Event.TheVariants.{Go}
-use Rattle.tb_kernal.specs.Machine.{Content, is_lawful, state_of}
+use Rattle.tb_kernal.specs.Machine.{Content, entered, is_lawful, state_of}
 use Rattle.tb_kernal.specs.Runs.{quiet}
 use Rattle.tb_kernal.specs.Outsides.{rude_event}
 use Rattle.tb_kernal.specs.LawfulEvents.{quiet_is_lawful, rude_is_lawful}
@@ -15,12 +16,16 @@ abbrev pub event_of : Beside → Content → Event
 event_of Quiet m = Go (quiet m)
 event_of (Rude seed) m = rude_event (seed_after seed) m
 
+-- the event that it gives where these are the registers: it looks at nothing else
+abbrev pub event_at : Beside → Regs → Event
+event_at beside r = event_of beside (entered [] r [] [])
+
 -- what it is behind an event
 abbrev pub after : Beside → Beside
 after Quiet = Quiet
 after (Rude seed) = Rude (seed_after seed)
 
-event_is_lawful : (b : Beside) (m : Content) → is_lawful (state_of m) (event_of b m) ≡ true
+pub event_is_lawful : (b : Beside) (m : Content) → is_lawful (state_of m) (event_of b m) ≡ true
 event_is_lawful Quiet m = quiet_is_lawful m (Go (quiet m)) refl
 event_is_lawful (Rude seed) m = rude_is_lawful (seed_after seed) m
 

@@ -1,14 +1,26 @@
--- The moments of a run.
-use Rattle.std.specs.Prelude.{◌≡◌, ℕ, ◌+◌, ◌==◌, ◌&&◌, ◌||◌, Bool, true, false, if◌then◌else◌, List, [], ◌∷◌, slice_index_or}
+-- The run of a machine beside a ROM, and its moments.
+use Rattle.std.specs.Prelude.{◌≡◌, ℕ, zero, suc, ◌+◌, ◌<◌, ◌≤◌, ◌==◌, ◌&&◌, ◌||◌, Bool, true, false, if◌then◌else◌, List, [], ◌∷◌, Option, Some, None, All, length, slice_index_or}
 use Rattle.tb_kernal.specs.declared.events.Event.{Event}
-use Rattle.tb_kernal.specs.Machine.{State, state_of, happens, is_lawful}
+use Rattle.tb_kernal.specs.declared.status.Status.TheVariants.{Running}
+use Rattle.tb_kernal.specs.Machine.{State, state_of, happens, status}
+use Rattle.tb_kernal.specs.Typing.{with_more}
+use Rattle.tb_debug.specs.Besides.{after, event_at}
 use Rattle.tb_debug.specs.Events.{is_own}
+use Rattle.tb_debug.specs.declared.beside.Beside.{Beside}
+use Rattle.tb_debug.specs.declared.history.Kept.{Kept}
 use Rattle.tb_debug.specs.declared.moment.Moment.{Moment}
+
+-- ---- where lines begin
 
 -- a line begins at an address; the lines are given by their numbers and the places where they begin
 abbrev pub begins_at : List (ℕ × ℕ) → ℕ → Bool
 begins_at [] a = false
 begins_at (s ∷ starts) a = (a == s.1) || begins_at starts a
+
+-- the line that begins at an address
+abbrev pub line_at : List (ℕ × ℕ) → ℕ → Option ℕ
+line_at [] a = None
+line_at (s ∷ starts) a = if a == s.1 then Some s.0 else line_at starts a
 
 -- a line begins at an address, by marks of all addresses
 abbrev pub is_marked : List Bool → ℕ → Bool
@@ -18,16 +30,86 @@ is_marked marks a = slice_index_or marks a false
 abbrev pub is_begin : List Bool → State → Event → Bool
 is_begin marks s e = is_own e && is_marked marks s.regs.pc
 
--- so many lawful events lead from a start to a state, and so many of them began a line
-pub data Leads (marks : List Bool) (start : State) : ℕ → ℕ → State → Type 0 where
-  here : Leads marks start 0 0 start
-  later : (events begun : ℕ) (s t : State) (e : Event) → Leads marks start events begun s → is_lawful s e ≡ true → t ≡ happens s e
-      → Leads marks start (events + 1) (begun + (if is_begin marks s e then 1 else 0)) t
+-- ---- the run
 
--- a moment of the run from a start: its machine stands behind so many events, so many of which began a line
-abbrev pub IsOfRun : List Bool → State → Moment → Type 0
-IsOfRun marks start m = Leads marks start m.events m.begun (state_of m.machine)
+-- a place of a run: the machine, the ROM beside it, how many lines were begun, and where the last of them begins
+pub record Point : Type 0 where
+  pub state : State
+  pub beside : Beside
+  pub begun : ℕ
+  pub last : ℕ
 
--- what stays on the run of each start
-abbrev pub StaysOnRun : List Bool → Moment → Moment → Type 0
-StaysOnRun marks m n = (start : State) → IsOfRun marks start m → IsOfRun marks start n
+-- where a run starts
+abbrev pub first_point : State → Beside → Point
+first_point s beside = record { state = s; beside = beside; begun = 0; last = 0 }
+
+-- the place behind an event
+abbrev pub behind : List Bool → Point → Event → Point
+behind marks p e =
+    record {
+      state = happens p.state e;
+      beside = after p.beside;
+      begun = p.begun + (if is_begin marks p.state e then 1 else 0);
+      last = if is_begin marks p.state e then p.state.regs.pc else p.last;
+    }
+
+-- the place behind the event that the ROM gives there
+abbrev pub next_point : List Bool → Point → Point
+next_point marks p = behind marks p (event_at p.beside p.state.regs)
+
+-- the place behind so many events: the run is a function of its start
+unfoldable pub point_at : List Bool → Point → ℕ → Point
+point_at marks start zero = start
+point_at marks start (suc n) = next_point marks (point_at marks start n)
+
+-- the machine runs at each place before the one behind so many events
+abbrev pub RunsUpTo : List Bool → Point → ℕ → Type 0
+RunsUpTo marks start n = (k : ℕ) → k < n → status (point_at marks start k).state ≡ Running
+
+-- ---- moments
+
+-- the place of a run that a moment shows
+abbrev pub shown : Moment → Point
+shown m = record { state = state_of m.machine; beside = m.beside; begun = m.begun; last = m.last }
+
+-- a moment of the run from a start: it shows the place behind as many events as it counts, before each of which the machine ran
+pub record IsOfRun (marks : List Bool) (start : Point) (m : Moment) : Type 0 where
+  pub stands : shown m ≡ point_at marks start m.events
+  pub ran : RunsUpTo marks start m.events
+
+-- from one moment to a later one of the same run, whatever its start
+pub record StaysOnRun (marks : List Bool) (m n : Moment) : Type 0 where
+  pub on : (start : Point) → IsOfRun marks start m → IsOfRun marks start n
+  pub later : m.events ≤ n.events
+
+-- ---- moments that are kept
+
+-- a place without what was sent
+abbrev pub unsent : Point → Point
+unsent p = record p { state = record p.state { sent = [] } }
+
+-- a kept moment of the run from a start: it shows its place but for what was sent, and counts that
+pub record IsKept (marks : List Bool) (start : Point) (k : Kept) : Type 0 where
+  pub stands : shown k.moment ≡ unsent (point_at marks start k.moment.events)
+  pub counts : k.sent ≡ length (point_at marks start k.moment.events).state.sent
+
+-- kept moments of the run from a start, of its first so many events
+abbrev pub AreKept : List Bool → Point → ℕ → List Kept → Type 0
+AreKept marks start n ks = All (λ k. IsKept marks start k × (k.moment.events ≤ n)) ks
+
+-- ---- typing
+
+-- a place with more behind the keyboard's text
+abbrev pub typed : List ℕ → Point → Point
+typed more p = record p { state = with_more more p.state }
+
+-- the same moment with more behind the keyboard's text
+pub record IsTyped (more : List ℕ) (m n : Moment) : Type 0 where
+  pub place : shown n ≡ typed more (shown m)
+  pub events : n.events ≡ m.events
+
+-- the same kept moments, each with more behind the keyboard's text
+pub record AreTyped (more : List ℕ) (ks ls : List Kept) : Type 0 where
+  pub many : length ls ≡ length ks
+  pub each : (i : ℕ) (d : Kept) → i < length ks → IsTyped more (slice_index_or ks i d).moment (slice_index_or ls i d).moment
+  pub sent : (i : ℕ) (d : Kept) → i < length ks → (slice_index_or ls i d).sent ≡ (slice_index_or ks i d).sent

@@ -1,12 +1,17 @@
 //! A run that can be walked both ways.
-ghost use Rattle.std.specs.Prelude.{◌≡◌, IfOk, OnOk};
-ghost use Rattle.tb_kernal.specs.Machine.{state_of};
-ghost use Rattle.tb_debug.specs.Runs.{IsOfRun, StaysOnRun};
+ghost use Rattle.std.specs.Prelude.{◌≡◌, ◌-◌, ◌<◌, ℕ, IfOk, IfSome, OnOk};
+ghost use Rattle.tb_kernal.specs.Machine.{State, state_of};
+ghost use Rattle.tb_syntax.specs.Source.{Program};
+ghost use Rattle.tb_codegen.specs.Compiled.{starts_of};
+ghost use Rattle.tb_debug.specs.Runs.{first_point, line_at};
+ghost use Rattle.tb_debug.specs.Sources.{Debugs, ShowsLine};
+ghost use Rattle.tb_debug.specs.declared.beside.Beside.{Beside};
+ghost use Rattle.tb_debug.specs.Debuggers.{OnRun, KeepsRun, KeepsRunTyped, IsAtTime};
 
 use crate::beside::Beside;
 use crate::history::{History, Kept};
 use crate::moment::{Moment, Reached};
-use crate::readings::variables;
+use crate::readings::{line_from, variables};
 use crate::starts::Starts;
 use crate::stops::{Stops, Variables};
 use std::alloc::Global;
@@ -23,7 +28,7 @@ pub struct Debugger<'a> {
     pub(crate) program: &'a Compiled,
     pub(crate) starts: Starts,
     pub(crate) history: History,
-    pub(crate) now: Moment,
+    pub(crate) present: Moment,
     pub(crate) stops: Stops,
     /// How many of the sent bytes were shown.
     pub(crate) shown: usize,
@@ -37,17 +42,17 @@ impl<'a> Debugger<'a> {
         machine: Machine,
         beside: Beside,
     ) -> Result<Debugger<'a>, NoMemory>
-        ensures { IfOk result (λ d. IsOfRun d.starts (state_of machine) d.now) }
+        ensures { IfOk result (λ d. (d.program.now ≡ program.now) × OnRun (first_point (state_of machine) beside) d) }
     {
         let starts = Starts::new(alloc, program)?;
-        let mut now = Moment::first(machine, beside);
-        let history = History::new(alloc, Kept::of(alloc, &now)?)?;
-        now.to_next_start(&starts, MOST_OPENING)?;
+        let mut present = Moment::first(machine, beside);
+        let history = History::new(alloc, Kept::of(alloc, &present)?)?;
+        present.to_next_start(&starts, MOST_OPENING)?;
         Ok(Debugger {
             program,
             starts,
             history,
-            now,
+            present,
             stops: Stops::new(alloc),
             shown: 0,
         })
@@ -55,22 +60,33 @@ impl<'a> Debugger<'a> {
 
     /// The present machine.
     pub fn machine(&self) -> &Machine {
-        &self.now.machine
+        &self.present.machine
+    }
+
+    /// The line that begins here.
+    pub fn line_here(&self) -> Option<u16>
+        ensures line { result ≡ line_at (starts_of self.now.program.now) self.now.present.machine.regs.pc }
+        // Where the program is one that `compile` made, and the run one from its start, the source goes on at that line after
+        // as many lines as were begun, with what stands in the machine.
+        ensures source { (source : Program) (seed : ℕ) (start : State) (beside : Beside) → Debugs source seed start beside self.now
+            → IfSome result (λ line. ShowsLine source seed start self.now line) }
+    {
+        line_from(self.program, self.present.machine.regs().pc)
     }
 
     /// How many lines were begun; at the beginning of a line that is the time.
     pub fn begun(&self) -> u64 {
-        self.now.begun
+        self.present.begun
     }
 
     /// How many events came before.
     pub fn events(&self) -> u64 {
-        self.now.events
+        self.present.events
     }
 
     /// The values of A to Z.
     pub fn variables(&self) -> Variables {
-        variables(self.now.machine.memory())
+        variables(self.present.machine.memory())
     }
 
     /// How many moments are kept.
@@ -80,32 +96,30 @@ impl<'a> Debugger<'a> {
 
     /// How it stands.
     pub fn standing(&self) -> Reached {
-        self.now.standing(&self.starts)
+        self.present.standing(&self.starts)
     }
 
     // Goes on to the next beginning of a line, by at most `limit` events.
     pub(crate) fn next_line(&mut self, alloc: Global, limit: u64) -> Result<Reached, NoMemory>
-        ensures run { OnOk result (StaysOnRun self.old.starts self.old.now self.new.now) }
-        ensures starts { self.new.starts ≡ self.old.starts }
+        ensures { OnOk result (KeepsRun self.old self.new) }
     {
-        let reached = self.now.to_next_start(&self.starts, limit)?;
+        let reached = self.present.to_next_start(&self.starts, limit)?;
         if let Reached::Line = reached {
-            self.history.keep(alloc, &self.now)?;
+            self.history.keep(alloc, &self.present)?;
         }
         Ok(reached)
     }
 
     // How many events are left up to a count of events.
     pub(crate) fn left(&self, last: u64) -> u64 {
-        last.saturating_sub(self.now.events)
+        last.saturating_sub(self.present.events)
     }
 
     /// On by so many lines.
     pub fn on(&mut self, alloc: Global, lines: u64, limit: u64) -> Result<Reached, NoMemory>
-        ensures run { OnOk result (StaysOnRun self.old.starts self.old.now self.new.now) }
-        ensures starts { self.new.starts ≡ self.old.starts }
+        ensures { OnOk result (KeepsRun self.old self.new) }
     {
-        let last = self.now.events.saturating_add(limit);
+        let last = self.present.events.saturating_add(limit);
         for _ in 0..lines {
             match self.next_line(alloc, self.left(last))? {
                 Reached::Line => {}
@@ -117,13 +131,12 @@ impl<'a> Debugger<'a> {
 
     /// On to the beginning of the line at an address.
     pub fn on_to(&mut self, alloc: Global, address: u16, limit: u64) -> Result<Reached, NoMemory>
-        ensures run { OnOk result (StaysOnRun self.old.starts self.old.now self.new.now) }
-        ensures starts { self.new.starts ≡ self.old.starts }
+        ensures { OnOk result (KeepsRun self.old self.new) }
     {
-        let last = self.now.events.saturating_add(limit);
+        let last = self.present.events.saturating_add(limit);
         for _ in 0..u64::MAX {
             match self.next_line(alloc, self.left(last))? {
-                Reached::Line if self.now.machine.regs().pc != address => {}
+                Reached::Line if self.present.machine.regs().pc != address => {}
                 reached => return Ok(reached),
             }
         }
@@ -131,8 +144,11 @@ impl<'a> Debugger<'a> {
     }
 
     /// To a time, on or back.
-    pub fn to_time(&mut self, alloc: Global, time: u64, limit: u64) -> Result<Reached, NoMemory> {
-        if time < self.now.begun {
+    pub fn to_time(&mut self, alloc: Global, time: u64, limit: u64) -> Result<Reached, NoMemory>
+        ensures run { OnOk result (KeepsRun self.old self.new) }
+        ensures time { IfOk result (λ reached. IsAtTime time reached self.new) }
+    {
+        if time < self.present.begun {
             self.back_to(alloc, time)
         } else {
             self.on_to_time(alloc, time, limit)
@@ -141,12 +157,12 @@ impl<'a> Debugger<'a> {
 
     // On to a time that has not passed.
     fn on_to_time(&mut self, alloc: Global, time: u64, limit: u64) -> Result<Reached, NoMemory>
-        ensures run { OnOk result (StaysOnRun self.old.starts self.old.now self.new.now) }
-        ensures starts { self.new.starts ≡ self.old.starts }
+        ensures run { OnOk result (KeepsRun self.old self.new) }
+        ensures time { IfOk result (λ reached. IsAtTime time reached self.new) }
     {
-        let last = self.now.events.saturating_add(limit);
+        let last = self.present.events.saturating_add(limit);
         for _ in 0..u64::MAX {
-            if self.now.is_at(&self.starts, time) {
+            if self.present.is_at(&self.starts, time) {
                 return Ok(Reached::Line);
             }
             match self.next_line(alloc, self.left(last))? {
@@ -158,40 +174,58 @@ impl<'a> Debugger<'a> {
     }
 
     /// Back to a time that has passed: the run is run again from the newest moment that is kept of before.
-    pub fn back_to(&mut self, alloc: Global, time: u64) -> Result<Reached, NoMemory> {
-        let index = self.history.newest_until(time);
-        if let Some(kept) = self.history.get(index) {
-            self.now = kept.again(alloc, self.now.machine.sent())?;
-        }
-        self.history.forget_behind(index);
+    pub fn back_to(&mut self, alloc: Global, time: u64) -> Result<Reached, NoMemory>
+        ensures run { OnOk result (KeepsRun self.old self.new) }
+        ensures time { IfOk result (λ reached. IsAtTime time reached self.new) }
+    {
+        let newest = self.history.newest_until(time);
+        self.back_to_kept(alloc, newest)?;
         self.on_to_time(alloc, time, u64::MAX)
     }
 
+    // Back to a kept moment, by its place among them; those behind it are forgotten.
+    fn back_to_kept(&mut self, alloc: Global, index: usize) -> Result<(), NoMemory>
+        ensures { OnOk result (KeepsRun self.old self.new) }
+    {
+        let Some(kept) = self.history.get(index) else {
+            return Ok(());
+        };
+        let moment = kept.again(alloc, self.present.machine.sent())?;
+        self.history.forget_behind(moment.events);
+        self.present = moment;
+        Ok(())
+    }
+
     /// Back by so many lines. From within a line the first one back is its beginning.
-    pub fn back(&mut self, alloc: Global, lines: u64) -> Result<Reached, NoMemory> {
-        if lines == 0 || self.now.begun == 0 {
+    pub fn back(&mut self, alloc: Global, lines: u64) -> Result<Reached, NoMemory>
+        ensures run { OnOk result (KeepsRun self.old self.new) }
+        ensures time { 0 < lines → 0 < self.old.present.begun → IfOk result (λ reached. IsAtTime (self.old.present.begun - lines) reached self.new) }
+    {
+        if lines == 0 || self.present.begun == 0 {
             return Ok(self.standing());
         }
-        self.back_to(alloc, self.now.begun.saturating_sub(lines))
+        self.back_to(alloc, self.present.begun.saturating_sub(lines))
     }
 
     /// On by so many events.
     pub fn step(&mut self, events: u64) -> Result<Reached, NoMemory>
-        ensures run { OnOk result (StaysOnRun self.old.starts self.old.now self.new.now) }
-        ensures starts { self.new.starts ≡ self.old.starts }
+        ensures { OnOk result (KeepsRun self.old self.new) }
     {
-        self.now.step(&self.starts, events)?;
+        self.present.step(&self.starts, events)?;
         Ok(self.standing())
     }
 
     /// Puts bytes behind the keyboard's text, in each moment of the run.
-    pub fn type_text(&mut self, bytes: &[u8]) -> Result<(), NoMemory> {
-        self.now.machine.type_text(bytes)?;
-        self.history.type_text(bytes)
+    pub fn type_text(&mut self, bytes: &[u8]) -> Result<(), NoMemory>
+        ensures { OnOk result (KeepsRunTyped bytes.now self.old self.new) }
+    {
+        self.present.type_text(bytes)?;
+        self.history.type_text(bytes)?;
+        Ok(())
     }
 
     /// Whether the machine runs.
     pub fn runs(&self) -> bool {
-        self.now.machine.status() == Status::Running
+        self.present.machine.status() == Status::Running
     }
 }

@@ -1,4 +1,7 @@
 //! The moments that are kept, from which a run is run again.
+ghost use Rattle.std.specs.Prelude.{◌≡◌, ◌∷◌, ◌++◌, ◌≤◌, [], ℕ, List, Bool, IfOk, IfSome, OnOk, length};
+ghost use Rattle.tb_debug.specs.Runs.{Point, IsOfRun, IsKept, AreKept, AreTyped};
+
 use crate::moment::Moment;
 use std::alloc::Global;
 use tb_memmap::NoMemory;
@@ -19,7 +22,10 @@ pub struct Kept {
 
 impl Kept {
     /// The same moment.
-    pub fn of(alloc: Global, moment: &Moment) -> Result<Kept, NoMemory> {
+    pub fn of(alloc: Global, moment: &Moment) -> Result<Kept, NoMemory>
+        ensures kept { IfOk result (λ k. (marks : List Bool) (start : Point) → IsOfRun marks start moment.now → IsKept marks start k) }
+        ensures events { IfOk result (λ k. k.moment.events ≡ moment.now.events) }
+    {
         Ok(Kept {
             moment: moment.copied(alloc, &[])?,
             sent: moment.machine.sent().len(),
@@ -27,21 +33,28 @@ impl Kept {
     }
 
     /// The moment that was kept, of a run that has sent at least these bytes.
-    pub fn again(&self, alloc: Global, sent: &[u8]) -> Result<Moment, NoMemory> {
-        self.moment
-            .copied(alloc, &sent[..self.sent.min(sent.len())])
+    pub fn again(&self, alloc: Global, sent: &[u8]) -> Result<Moment, NoMemory>
+        ensures again { IfOk result (λ m. (marks : List Bool) (start : Point) (now : Moment) → IsOfRun marks start now → sent.now ≡ now.machine.sent
+            → IsKept marks start self.now → self.now.moment.events ≤ now.events → IsOfRun marks start m) }
+        ensures events { IfOk result (λ m. m.events ≡ self.now.moment.events) }
+    {
+        let count = self.sent.min(sent.len());
+        let moment = self.moment.copied(alloc, &sent[..count])?;
+        Ok(moment)
     }
 }
 
 /// The kept moments, in the order of their times: the first one is the run's first, and is always kept.
 #[derive(Drop)]
 pub struct History {
-    kept: Vec<Kept>,
+    pub(crate) kept: Vec<Kept>,
 }
 
 impl History {
     /// That of a run of which no more than this moment is known.
-    pub fn new(alloc: Global, first: Kept) -> Result<History, NoMemory> {
+    pub fn new(alloc: Global, first: Kept) -> Result<History, NoMemory>
+        ensures { IfOk result (λ h. h.kept.items ≡ first ∷ []) }
+    {
         let mut kept = Vec::new(alloc);
         match kept.push(first) {
             Ok(()) => Ok(History { kept }),
@@ -50,24 +63,37 @@ impl History {
     }
 
     /// How many moments are kept.
-    pub fn len(&self) -> usize {
+    pub fn len(&self) -> usize
+        ensures { result ≡ length self.now.kept.items }
+    {
         self.kept.len()
     }
 
     /// A kept moment, by its place among them.
-    pub fn get(&self, index: usize) -> Option<&Kept> {
+    pub fn get(&self, index: usize) -> Option<&Kept>
+        ensures { (marks : List Bool) (start : Point) (n : ℕ) → AreKept marks start n self.now.kept.items
+            → IfSome result (λ k. IsKept marks start k.now × (k.now.moment.events ≤ n)) }
+    {
         self.kept.get(index)
     }
 
     /// Keeps a moment, where enough events lie before it.
-    pub fn keep(&mut self, alloc: Global, moment: &Moment) -> Result<(), NoMemory> {
+    pub fn keep(&mut self, alloc: Global, moment: &Moment) -> Result<(), NoMemory>
+        ensures { OnOk result ((marks : List Bool) (start : Point) → IsOfRun marks start moment.now
+            → AreKept marks start moment.now.events self.old.kept.items → AreKept marks start moment.now.events self.new.kept.items) }
+    {
         if !self.is_due(moment.events) {
             return Ok(());
         }
         let kept = Kept::of(alloc, moment)?;
-        if MOST_KEPT <= self.kept.len() {
-            self.leave_out(moment.events);
-        }
+        self.make_room(moment.events);
+        self.push(kept)?;
+        Ok(())
+    }
+
+    fn push(&mut self, kept: Kept) -> Result<(), NoMemory>
+        ensures { OnOk result (self.new.kept.items ≡ self.old.kept.items ++ kept ∷ []) }
+    {
         match self.kept.push(kept) {
             Ok(()) => Ok(()),
             Err(_) => Err(NoMemory),
@@ -82,10 +108,12 @@ impl History {
         }
     }
 
-    // Leaves the moment out that can be spared.
-    fn leave_out(&mut self, now: u64) {
+    // Leaves the moment out that can be spared, where as many are kept as may be.
+    fn make_room(&mut self, now: u64)
+        ensures { (marks : List Bool) (start : Point) (n : ℕ) → AreKept marks start n self.old.kept.items → AreKept marks start n self.new.kept.items }
+    {
         let index = self.spare(now);
-        if index < self.kept.len() {
+        if MOST_KEPT <= self.kept.len() && index < self.kept.len() {
             self.kept.remove(index);
         }
     }
@@ -115,15 +143,19 @@ impl History {
         found
     }
 
-    /// Forgets all moments behind a place.
-    pub fn forget_behind(&mut self, index: usize) {
-        self.kept.truncate(index.saturating_add(1));
+    /// Forgets all moments behind so many events.
+    pub fn forget_behind(&mut self, events: u64)
+        ensures { (marks : List Bool) (start : Point) (n : ℕ) → AreKept marks start n self.old.kept.items → AreKept marks start events self.new.kept.items }
+    {
+        self.kept.retain(|kept| kept.moment.events <= events);
     }
 
     /// Puts bytes behind the keyboard's text in each moment.
-    pub fn type_text(&mut self, bytes: &[u8]) -> Result<(), NoMemory> {
-        for kept in self.kept.iter_mut() {
-            kept.moment.machine.type_text(bytes)?;
+    pub fn type_text(&mut self, bytes: &[u8]) -> Result<(), NoMemory>
+        ensures { OnOk result (AreTyped bytes.now self.old.kept.items self.new.kept.items) }
+    {
+        for index in 0..self.kept.len() {
+            self.kept[index].moment.type_text(bytes)?;
         }
         Ok(())
     }

@@ -1,7 +1,8 @@
 //! A moment of a run: a machine, and how much of the run lies before it.
-ghost use Rattle.std.specs.Prelude.{◌≡◌, ◌<◌, ◌+◌, ◌&&◌, if◌then◌else◌, List, Bool, IfOk, OnOk};
-ghost use Rattle.tb_kernal.specs.Machine.{State, state_of};
-ghost use Rattle.tb_debug.specs.Runs.{IsOfRun, StaysOnRun};
+ghost use Rattle.std.specs.Prelude.{◌≡◌, ◌<◌, ◌+◌, ◌==◌, ◌&&◌, if◌then◌else◌, List, Bool, IfOk, OnOk};
+ghost use Rattle.tb_kernal.specs.Machine.{state_of, status};
+ghost use Rattle.tb_kernal.specs.declared.status.Status.TheVariants as status;
+ghost use Rattle.tb_debug.specs.Runs.{IsOfRun, IsTyped, StaysOnRun, first_point, is_marked};
 
 use crate::beside::Beside;
 use crate::events::take_event;
@@ -43,7 +44,7 @@ pub struct Moment {
 impl Moment {
     /// The first moment of a run.
     pub fn first(machine: Machine, beside: Beside) -> Moment
-        ensures { (marks : List Bool) → IsOfRun marks (state_of machine) result }
+        ensures { (marks : List Bool) → IsOfRun marks (first_point (state_of machine) beside) result }
     {
         Moment {
             machine,
@@ -68,22 +69,24 @@ impl Moment {
     }
 
     /// Whether a line begins here.
-    pub fn begins(&self, starts: &Starts) -> bool {
+    pub fn begins(&self, starts: &Starts) -> bool
+        ensures { result ≡ is_marked starts.now self.now.machine.regs.pc }
+    {
         starts.begins(self.machine.regs().pc)
     }
 
     /// Whether this is the beginning of a line at a time.
-    pub fn is_at(&self, starts: &Starts, time: u64) -> bool {
+    pub fn is_at(&self, starts: &Starts, time: u64) -> bool
+        ensures { result ≡ (self.now.begun == time && is_marked starts.now self.now.machine.regs.pc) }
+    {
         self.begun == time && self.begins(starts)
     }
 
-    /// Where the line begins that begins here, or else the one that was begun last; 0 where none was.
-    pub fn line_start(&self, starts: &Starts) -> u16 {
-        if self.begins(starts) {
-            self.machine.regs().pc
-        } else {
-            self.last
-        }
+    /// Puts bytes behind the keyboard's text.
+    pub fn type_text(&mut self, bytes: &[u8]) -> Result<(), NoMemory>
+        ensures { OnOk result (IsTyped bytes.now self.old self.new) }
+    {
+        self.machine.type_text(bytes)
     }
 
     /// How it stands.
@@ -97,7 +100,8 @@ impl Moment {
 
     // Takes the next event of a machine that runs: whether it was the program's own.
     fn take_event(&mut self, starts: &Starts) -> Result<bool, NoMemory>
-        requires { (self.old.events < 18446744073709551615) × (self.old.begun < 18446744073709551615) }
+        requires countable { (self.old.events < 18446744073709551615) × (self.old.begun < 18446744073709551615) }
+        requires runs { status (state_of self.old.machine) ≡ status.Running }
         ensures { OnOk result (StaysOnRun starts.now self.old self.new) }
     {
         let pc = self.machine.regs().pc;
@@ -169,6 +173,8 @@ fn counted(count: u64, counts: bool) -> u64
 }
 
 // Where the line begins that was begun last: here, or where it did before.
-fn begun_last(begins: bool, here: u16, before: u16) -> u16 {
+fn begun_last(begins: bool, here: u16, before: u16) -> u16
+    ensures { result ≡ (if begins then here else before) }
+{
     if begins { here } else { before }
 }

@@ -1,7 +1,11 @@
 //! What stands in a machine's memory.
+ghost use Rattle.std.specs.Prelude.{◌≡◌, map};
+ghost use Rattle.tb_codegen.specs.Compiled.{pair_of, starts_of};
+ghost use Rattle.tb_debug.specs.Runs.{line_at};
+
 use crate::stops::Variables;
 use std::alloc::{AllocError, Global};
-use tb_codegen::Compiled;
+use tb_codegen::{Compiled, LineStart};
 use tb_memmap::Memory;
 use tb_runtime16::{NOTE_HIGH, NOTE_LOW, NOTES, VARS};
 
@@ -42,13 +46,23 @@ pub fn returns(
 }
 
 /// The line that begins at an address.
-pub fn line_from(program: &Compiled, address: u16) -> Option<u16> {
-    for start in program.starts() {
-        if start.at == address {
-            return Some(start.number);
-        }
+pub fn line_from(program: &Compiled, address: u16) -> Option<u16>
+    ensures { result ≡ line_at (starts_of program.now) address }
+{
+    first_at(program.starts(), address)
+}
+
+fn first_at(starts: &[LineStart], address: u16) -> Option<u16>
+    ensures { result ≡ line_at (map pair_of starts.now) address }
+{
+    match starts {
+        [] => None,
+        [first, rest @ ..] => if address == first.at {
+            Some(first.number)
+        } else {
+            first_at(rest, address)
+        },
     }
-    None
 }
 
 /// The bytes from an address on; none for a closed place.

@@ -1,10 +1,13 @@
 //! What commands do, and their answers.
+ghost use Rattle.std.specs.Prelude.{◌≡◌, OnOk, IfOk};
+ghost use Rattle.tb_debug.specs.Debuggers.{KeepsRun, KeepsRunTyped, Responds, keys_of};
+
 use crate::answer::{Answer, Place, Stand};
 use crate::command::Command;
 use crate::debugger::Debugger;
 use crate::moment::Reached;
 use crate::readings::{bytes_from, line_from, returns, variables};
-use std::alloc::Global;
+use std::alloc::{AllocError, Global};
 use tb_disasm::{Line, first_line};
 use tb_kernal::Status;
 use tb_lower::{EvalError, eval};
@@ -28,27 +31,67 @@ impl<'a> Debugger<'a> {
         alloc: Global,
         command: Command<'_>,
         limit: u64,
-    ) -> Result<Option<Answer>, NoMemory> {
-        let reached = match command {
-            Command::On(lines) => self.on(alloc, lines, limit)?,
-            Command::Back(lines) => self.back(alloc, lines)?,
-            Command::GoOn => self.go_on(alloc, limit)?,
-            Command::GoBack => self.go_back(alloc)?,
-            Command::ToTime(time) => self.to_time(alloc, time, limit)?,
-            Command::Step(events) => self.step(events)?,
+    ) -> Result<Option<Answer>, NoMemory>
+        ensures { OnOk result (Responds command.entry self.old self.new) }
+    {
+        match command {
+            Command::Type(text) => {
+                self.type_line(alloc, text)?;
+                Ok(Some(Answer::Typed))
+            }
+            Command::Quit => Ok(None),
+            _ => {
+                let answer = self.act(alloc, command, limit)?;
+                Ok(Some(answer))
+            }
+        }
+    }
+
+    // The same, of a command that types nothing.
+    fn act(&mut self, alloc: Global, command: Command<'_>, limit: u64) -> Result<Answer, NoMemory>
+        ensures { OnOk result (KeepsRun self.old self.new) }
+    {
+        match self.walk(alloc, command, limit)? {
+            Some(reached) => {
+                let answer = self.stop(alloc, reached)?;
+                Ok(answer)
+            }
+            None => {
+                let answer = self.tell(alloc, command)?;
+                Ok(answer)
+            }
+        }
+    }
+
+    // Where a command leads that moves the run.
+    fn walk(
+        &mut self,
+        alloc: Global,
+        command: Command<'_>,
+        limit: u64,
+    ) -> Result<Option<Reached>, NoMemory>
+        ensures { OnOk result (KeepsRun self.old self.new) }
+    {
+        match command {
+            Command::On(lines) => Ok(Some(self.on(alloc, lines, limit)?)),
+            Command::Back(lines) => Ok(Some(self.back(alloc, lines)?)),
+            Command::GoOn => Ok(Some(self.go_on(alloc, limit)?)),
+            Command::GoBack => Ok(Some(self.go_back(alloc)?)),
+            Command::ToTime(time) => Ok(Some(self.to_time(alloc, time, limit)?)),
+            Command::Step(events) => Ok(Some(self.step(events)?)),
             Command::ToLine(line) => match self.program.start_of(line) {
-                Some(address) => self.on_to(alloc, address, limit)?,
-                None => return Ok(Some(Answer::NoSuchLine)),
+                Some(address) => Ok(Some(self.on_to(alloc, address, limit)?)),
+                None => Ok(None),
             },
-            Command::Quit => return Ok(None),
-            _ => return Ok(Some(self.tell(alloc, command)?)),
-        };
-        Ok(Some(self.stop(alloc, reached)?))
+            _ => Ok(None),
+        }
     }
 
     /// The stop at which the run stands.
-    pub fn stop(&mut self, alloc: Global, reached: Reached) -> Result<Answer, NoMemory> {
-        let sent = self.now.machine.sent();
+    pub fn stop(&mut self, alloc: Global, reached: Reached) -> Result<Answer, NoMemory>
+        ensures { OnOk result (KeepsRun self.old self.new) }
+    {
+        let sent = self.present.machine.sent();
         let from = self.shown.min(sent.len());
         let Ok(since) = Vec::from_slice(alloc, &sent[from..]) else {
             return Err(NoMemory);
@@ -63,35 +106,40 @@ impl<'a> Debugger<'a> {
 
     // Where the run stands.
     fn place(&self) -> Place {
-        match self.now.machine.status() {
+        match self.present.machine.status() {
             Status::Running => match self.line() {
                 Some(line) => Place::Line(line),
                 None => Place::Opening,
             },
             status => Place::Ended {
                 status,
-                pc: self.now.machine.regs().pc,
+                pc: self.present.machine.regs().pc,
             },
         }
     }
 
     // The line that begins here, or else the one that was begun last.
     fn line(&self) -> Option<u16> {
-        line_from(self.program, self.now.line_start(&self.starts))
+        match self.line_here() {
+            Some(line) => Some(line),
+            None => line_from(self.program, self.present.last),
+        }
     }
 
     // What a command that doesn't move the run is answered by.
-    fn tell(&mut self, alloc: Global, command: Command<'_>) -> Result<Answer, NoMemory> {
+    fn tell(&mut self, alloc: Global, command: Command<'_>) -> Result<Answer, NoMemory>
+        ensures { OnOk result (KeepsRun self.old self.new) }
+    {
         match command {
             Command::Breakpoint(line) => self.turn_breakpoint(line),
             Command::Watch(letter) => self.turn_watch(letter),
-            Command::Type(text) => self.type_line(alloc, text),
             Command::Value(text) => self.value(alloc, text),
             Command::Breakpoints => self.breakpoints(alloc),
             Command::Returns => self.return_list(alloc),
             Command::Output => self.output(alloc),
             Command::Memory { at, count } => self.bytes(alloc, at, count),
             Command::Code => self.code(alloc),
+            Command::ToLine(_) => Ok(Answer::NoSuchLine),
             Command::List(line) if self.program.start_of(line).is_none() => Ok(Answer::NoSuchLine),
             _ => Ok(self.show(command)),
         }
@@ -108,19 +156,21 @@ impl<'a> Debugger<'a> {
                 round: Some(line),
                 place: self.line(),
             },
-            Command::Variables => Answer::Variables(variables(self.now.machine.memory())),
+            Command::Variables => Answer::Variables(variables(self.present.machine.memory())),
             Command::Variable(letter) => self.variable(letter),
             Command::Registers => Answer::Registers {
-                regs: self.now.machine.regs(),
-                line: self.program.line_at(self.now.machine.regs().pc),
-                status: self.now.machine.status(),
+                regs: self.present.machine.regs(),
+                line: self.program.line_at(self.present.machine.regs().pc),
+                status: self.present.machine.status(),
             },
             Command::Help => Answer::Help,
             _ => Answer::What,
         }
     }
 
-    fn turn_breakpoint(&mut self, line: u16) -> Result<Answer, NoMemory> {
+    fn turn_breakpoint(&mut self, line: u16) -> Result<Answer, NoMemory>
+        ensures { OnOk result (KeepsRun self.old self.new) }
+    {
         if self.program.start_of(line).is_none() {
             return Ok(Answer::NoSuchLine);
         }
@@ -130,7 +180,9 @@ impl<'a> Debugger<'a> {
         }
     }
 
-    fn turn_watch(&mut self, letter: Letter) -> Result<Answer, NoMemory> {
+    fn turn_watch(&mut self, letter: Letter) -> Result<Answer, NoMemory>
+        ensures { OnOk result (KeepsRun self.old self.new) }
+    {
         match self.stops.turn_watch(letter) {
             Ok(is_set) => Ok(turned(is_set)),
             Err(_) => Err(NoMemory),
@@ -145,7 +197,7 @@ impl<'a> Debugger<'a> {
     }
 
     fn variable(&self, letter: Letter) -> Answer {
-        let values = variables(self.now.machine.memory());
+        let values = variables(self.present.machine.memory());
         Answer::Variable {
             index: letter.index(),
             value: values[letter.index()],
@@ -155,7 +207,7 @@ impl<'a> Debugger<'a> {
     fn value(&self, alloc: Global, text: &[u8]) -> Result<Answer, NoMemory> {
         match parse_expr(alloc, text) {
             Ok(expression) => {
-                Ok(value_answer(eval(&expression, &variables(self.now.machine.memory()))))
+                Ok(value_answer(eval(&expression, &variables(self.present.machine.memory()))))
             }
             Err(error) => match error.kind {
                 SourceErrorKind::NoMemory => Err(NoMemory),
@@ -165,21 +217,21 @@ impl<'a> Debugger<'a> {
     }
 
     fn return_list(&self, alloc: Global) -> Result<Answer, NoMemory> {
-        match returns(alloc, self.now.machine.memory(), self.program) {
+        match returns(alloc, self.present.machine.memory(), self.program) {
             Ok(lines) => Ok(Answer::Returns(lines)),
             Err(_) => Err(NoMemory),
         }
     }
 
     fn output(&self, alloc: Global) -> Result<Answer, NoMemory> {
-        match Vec::from_slice(alloc, self.now.machine.sent()) {
+        match Vec::from_slice(alloc, self.present.machine.sent()) {
             Ok(sent) => Ok(Answer::Output(sent)),
             Err(_) => Err(NoMemory),
         }
     }
 
     fn bytes(&self, alloc: Global, at: u16, count: u16) -> Result<Answer, NoMemory> {
-        match bytes_from(alloc, self.now.machine.memory(), at, usize::from(count)) {
+        match bytes_from(alloc, self.present.machine.memory(), at, usize::from(count)) {
             Ok(bytes) => Ok(Answer::Memory { at, bytes }),
             Err(_) => Err(NoMemory),
         }
@@ -188,7 +240,7 @@ impl<'a> Debugger<'a> {
     // The code from PC on, up to a closed place.
     fn code(&self, alloc: Global) -> Result<Answer, NoMemory> {
         let mut lines = Vec::new(alloc);
-        let mut address = self.now.machine.regs().pc;
+        let mut address = self.present.machine.regs().pc;
         for _ in 0..CODE_LINES {
             let Some((line, size)) = self.code_line(address) else {
                 return Ok(Answer::Code(lines));
@@ -203,7 +255,7 @@ impl<'a> Debugger<'a> {
 
     // The line of code at an address, and its size; none at a closed place.
     fn code_line(&self, address: u16) -> Option<(Line, usize)> {
-        let memory = self.now.machine.memory();
+        let memory = self.present.machine.memory();
         let first = memory.read(address).ok()?;
         let second = memory.read(address.wrapping_add(1));
         let third = memory.read(address.wrapping_add(2));
@@ -215,19 +267,34 @@ impl<'a> Debugger<'a> {
     }
 
     // Types a line: its letters as capitals, and a return.
-    fn type_line(&mut self, alloc: Global, text: &[u8]) -> Result<Answer, NoMemory> {
-        let mut keys = Vec::new(alloc);
-        for byte in text {
-            if keys.push(byte.to_ascii_uppercase()).is_err() {
-                return Err(NoMemory);
-            }
-        }
-        if keys.push(RETURN).is_err() {
-            return Err(NoMemory);
-        }
+    fn type_line(&mut self, alloc: Global, text: &[u8]) -> Result<(), NoMemory>
+        ensures { OnOk result (KeepsRunTyped (keys_of text.now) self.old self.new) }
+    {
+        let keys = keys(alloc, text)?;
         self.type_text(keys.as_slice())?;
-        Ok(Answer::Typed)
+        Ok(())
     }
+}
+
+// What a typed line hands over.
+fn keys(alloc: Global, text: &[u8]) -> Result<Vec<u8>, NoMemory>
+    ensures { IfOk result (λ keys. keys.items ≡ keys_of text.now) }
+{
+    match capitals(alloc, text) {
+        Ok(keys) => Ok(keys),
+        Err(_) => Err(NoMemory),
+    }
+}
+
+fn capitals(alloc: Global, text: &[u8]) -> Result<Vec<u8>, AllocError>
+    ensures { IfOk result (λ keys. keys.items ≡ keys_of text.now) }
+{
+    let mut keys = Vec::new(alloc);
+    for byte in text {
+        keys.push(byte.to_ascii_uppercase())?;
+    }
+    keys.push(RETURN)?;
+    Ok(keys)
 }
 
 fn turned(is_set: bool) -> Answer {

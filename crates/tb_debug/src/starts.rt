@@ -30,7 +30,7 @@ impl Model for Starts {
 impl Starts {
     /// Those of a compiled program.
     pub fn new(alloc: Global, program: &Compiled) -> Result<Starts, NoMemory>
-        ensures { IfOk result (λ s. (a : ℕ) → a < 65536 → is_marked s a ≡ begins_at (starts_of program.now) a) }
+        ensures { IfOk result (λ s. (a : ℕ) → is_marked s a ≡ begins_at (starts_of program.now) a) }
     {
         Ok(Starts {
             begins: marks(alloc, program.starts())?,
@@ -48,7 +48,7 @@ impl Starts {
 // Whether a line begins, address by address.
 fn marks(alloc: Global, starts: &[LineStart]) -> Result<Vec<bool>, NoMemory>
     ensures { IfOk result (λ v. (vec_len v ≡ 65536)
-        × ((a : ℕ) → a < 65536 → is_marked v.items a ≡ begins_at (map pair_of starts.now) a)) }
+        × ((a : ℕ) → is_marked v.items a ≡ begins_at (map pair_of starts.now) a)) }
 {
     let mut begins = no_marks(alloc)?;
     for start in starts {

@@ -1,14 +1,13 @@
 use Rattle.std.proofs.Common.{rules, ◌||◌, false, map, slice_index_or, ap, ◌∙◌}
-use Rattle.std.proofs.lemmas.List.{get_or-replicate}
 use Rattle.tb_codegen.specs.Compiled.{pair_of}
 use Rattle.tb_debug.specs.Runs.{begins_at}
-use Rattle.tb_debug.proofs.Marking.{or_false}
+use Rattle.tb_debug.proofs.Marking.{none_marked, or_false}
 use Rattle.tb_debug.proofs.starts.marks.Goals as goal
 
 pub loop-start-init : goal.loop-start-init
 loop-start-init c =
     let items = c.in_ok-begins.ensures in (
       search rules,
-      λ a inside. ap (λ b. begins_at (map pair_of c.args.starts.now) a || b) (ap (λ xs. slice_index_or xs a false) items ∙ get_or-replicate 65536 a false false inside)
+      λ a. ap (λ b. begins_at (map pair_of c.args.starts.now) a || b) (ap (λ xs. slice_index_or xs a false) items ∙ none_marked 65536 a)
           ∙ or_false (begins_at (map pair_of c.args.starts.now) a),
     )

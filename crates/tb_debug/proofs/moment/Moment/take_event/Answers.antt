@@ -1,15 +1,24 @@
-use Rattle.std.proofs.Common.{ap, sym, refl, ◌∙◌}
-use Rattle.std.specs.Prelude.{◌&&◌}
-use Rattle.tb_kernal.specs.Machine.{is_lawful}
-use Rattle.tb_debug.specs.Besides.{given_is_lawful}
-use Rattle.tb_debug.specs.Runs.{is_marked}
-use Rattle.tb_debug.proofs.Running.{one_more}
+use Rattle.std.proofs.Common.{ap, sym, refl, ◌∙◌, arith}
+use Rattle.std.specs.Prelude.{◌&&◌, if◌then◌else◌}
+use Rattle.tb_debug.specs.Runs.{is_marked, shown}
+use Rattle.tb_debug.proofs.Besides.{given_at}
+use Rattle.tb_debug.proofs.Running.{behind_by, one_more, runs_on}
 use Rattle.tb_debug.proofs.moment.Moment.take_event.Goals as goal
 
 pub returns : goal.returns
-returns c = λ start h.
+returns c =
     let took = c.in_ok-is_own.ensures in
-    let lawful = ap (λ s. is_lawful s took.event) (sym took.same) ∙ given_is_lawful c.args.self.now.beside took.ready took.event took.given.0 in
-    let marked = c.begins-marked.ensures ∙ ap (λ r. is_marked c.args.starts.now r.pc) c.regs-pc.ensures in
-    one_more c.args.starts.now start _ _ _ _ _ _ took.event c.both-begins.result h lawful took.happened
-    (c.both-begins.ensures ∙ (λ i. took.is_own i && marked i)) refl c.counted-self.ensures
+    let marks = c.args.starts.now in
+    let before = c.args.self.now in
+    let given = given_at before.beside took.ready before.machine took.event took.same took.given.0 in
+    let marked = c.begins-marked.ensures ∙ ap (λ r. is_marked marks r.pc) c.regs-pc.ensures in
+    let begins = c.both-begins.ensures ∙ (λ i. took.is_own i && marked i) in
+    record {
+      on = λ start h. record {
+        stands = one_more marks start (shown before) _ before.events _ took.event h.stands given
+            (behind_by marks (shown before) _ took.event c.both-begins.result took.happened took.given.1 begins c.counted-self.ensures
+            (c.begun_last-self.ensures ∙ ap (λ r. if c.both-begins.result then r.pc else before.last) c.regs-pc.ensures)) refl;
+        ran = runs_on marks start (shown before) before.events _ h.ran h.stands c.requires.runs refl;
+      };
+      later = omega arith;
+    }

@@ -1,0 +1,44 @@
+-- Kept moments are of the run.
+use Rattle.std.proofs.Common.{◌≡◌, ℕ, ◌≤◌, Bool, List, [], length, take, sym, ap, ◌∙◌, arith}
+use Rattle.std.proofs.lemmas.List.Elements.{All-weaker}
+use Rattle.tb_debug.specs.Runs.{Point, IsOfRun, IsKept, AreKept, point_at, shown, unsent}
+use Rattle.tb_debug.specs.declared.history.Kept.{Kept}
+use Rattle.tb_debug.specs.declared.moment.Moment.{Moment}
+use Rattle.tb_debug.proofs.Running.{sent_before}
+
+-- a moment as it is kept
+pub kept_of : (marks : List Bool) (start : Point) (m : Moment) (k : Kept)
+    → k.moment ≡ record m { machine = record m.machine { sent = []; room = 0 } } → k.sent ≡ length m.machine.sent
+    → IsOfRun marks start m → IsKept marks start k
+kept_of marks start m k copied counted h =
+    let same : m.events ≡ k.moment.events = sym (ap (λ x. x.events) copied) in
+    record {
+      stands = ap shown copied ∙ ap unsent h.stands ∙ ap (λ n. unsent (point_at marks start n)) same;
+      counts = counted ∙ ap (λ p. length p.state.sent) h.stands ∙ ap (λ n. length (point_at marks start n).state.sent) same;
+    }
+
+-- a place at which these bytes were sent
+abbrev resent : List ℕ → Point → Point
+resent sent p = record p { state = record p.state { sent = sent } }
+
+-- a kept moment as it was, by what a later moment has sent
+pub again_of : (marks : List Bool) (start : Point) (k : Kept) (m now : Moment) (sent : List ℕ)
+    → m ≡ record k.moment { machine = record k.moment.machine { sent = sent; room = 0 } } → sent ≡ take k.sent now.machine.sent
+    → IsOfRun marks start now → IsKept marks start k → k.moment.events ≤ now.events → IsOfRun marks start m
+again_of marks start k m now sent copied begins h kept before =
+    let same : k.moment.events ≡ m.events = sym (ap (λ x. x.events) copied) in
+    let p = point_at marks start k.moment.events in
+    let cut : sent ≡ p.state.sent =
+    begins ∙ ap (λ n. take n now.machine.sent) kept.counts ∙ ap (λ q. take (length p.state.sent) q.state.sent) h.stands
+    ∙ sent_before marks start k.moment.events now.events before in
+    record {
+      stands = ap shown copied ∙ ap (resent sent) kept.stands ∙ ap (λ xs. resent xs p) cut
+          ∙ ap (point_at marks start) same;
+      ran = λ j below. h.ran j (omega (arith, below, same, before));
+    }
+
+-- what is kept of so many events is kept of more
+pub kept_later : (marks : List Bool) (start : Point) (n m : ℕ) (ks : List Kept) → n ≤ m → AreKept marks start n ks → AreKept marks start m ks
+kept_later marks start n m ks few all =
+    All-weaker (λ k. IsKept marks start k × (k.moment.events ≤ n)) (λ k. IsKept marks start k × (k.moment.events ≤ m))
+    (λ k h. (h.0, omega (arith, few, h.1))) ks all

@@ -1,0 +1,96 @@
+-- A debugger at a line's beginning shows the source.
+use Rattle.std.proofs.Common.{◌≡◌, ℕ, ◌+◌, Bool, true, false, ◌||◌, List, [], ◌∷◌, Some, refl, sym, ap, ◌∙◌, subst, arith}
+use Rattle.std.specs.Prelude.{nat_eq, unwrap_or, Option, None, IfSome, if◌then◌else◌}
+use Rattle.std.proofs.lemmas.Bool.{eqb-true, or_right}
+use Rattle.std.proofs.lemmas.Bool.Decides.{nat_tests}
+use Rattle.tb_asm.specs.declared.names.Name.{Name}
+use Rattle.tb_asm.specs.Layout.{labels_from}
+use Rattle.tb_runtime16.specs.Places.{PROLOGUE_AT}
+use Rattle.tb_kernal.specs.Machine.{State, state_of}
+use Rattle.tb_kernal.specs.Runs.{run}
+use Rattle.tb_keeping.specs.Layout.{is_start}
+use Rattle.tb_keeping.specs.LineStarts.{BeginsLine, begun}
+use Rattle.tb_lower.specs.Control.{has_line}
+use Rattle.tb_syntax.specs.Source.{Program, numbers}
+use Rattle.tb_templates.specs.declared.labels.Target.TheVariants.{Line}
+use Rattle.tb_templates.specs.Labels.{label_of}
+use Rattle.tb_codegen.specs.Compiled.{stands_at, start_in, start_of, starts_in, starts_of}
+use Rattle.tb_codegen.specs.declared.compiled.Compiled.{Compiled}
+use Rattle.tb_debug.specs.declared.beside.Beside.{Beside}
+use Rattle.tb_debug.specs.declared.debugger.Debugger.{Debugger}
+use Rattle.tb_debug.specs.Runs.{begins_at, first_point, is_marked, line_at}
+use Rattle.tb_debug.specs.Sources.{Debugs, ShowsLine}
+use Rattle.tb_debug.proofs.EventLists.{begun_to, events_to, lawful_to, run_to}
+
+module _ (labels : List (Name × ℕ)) where
+  abbrev at_label : ℕ → ℕ
+  at_label n = stands_at labels (label_of (Line n))
+
+  abbrev first_in : List ℕ → ℕ → ℕ
+  first_in ns n = unwrap_or (start_in (starts_in labels ns) n) 0
+
+  found : (ns : List ℕ) (n : ℕ) → has_line ns n ≡ true → first_in ns n ≡ at_label n
+  found [] n e = cc
+  found (m ∷ ns) n e = go (nat_eq m n) refl (found ns n) e
+    where
+      go : (t : Bool) → nat_eq m n ≡ t → (has_line ns n ≡ true → first_in ns n ≡ at_label n) → (t || has_line ns n) ≡ true
+          → unwrap_or (if t then Some (at_label m) else start_in (starts_in labels ns) n) 0 ≡ at_label n
+      go true q later e = ap at_label (eqb-true m n q)
+      go false q later e = later e
+
+  itself : (n : ℕ) → nat_eq n n ≡ true
+  itself n = grind (arith, nat_tests)
+
+  has_itself : (n : ℕ) (rest : Bool) → (nat_eq n n || rest) ≡ true
+  has_itself n rest = ap (λ b. b || rest) (itself n)
+
+  -- the two ways of saying where lines begin
+  starts_same : (first : ℕ → ℕ) (ns : List ℕ) (a : ℕ) → ((n : ℕ) → has_line ns n ≡ true → first n ≡ at_label n)
+      → is_start first ns a ≡ begins_at (starts_in labels ns) a
+  starts_same first [] a h = refl
+  starts_same first (m ∷ ns) a h =
+      let rest = starts_same first ns a (λ n has. h n (or_right (nat_eq m n) (has_line ns n) has)) in
+      ap (λ k. nat_eq a k || is_start first ns a) (h m (has_itself m (has_line ns m))) ∙ ap (λ b. nat_eq a (at_label m) || b) rest
+
+  -- a line that begins at an address is one of the program's, and begins there
+  line_there : (ns : List ℕ) (a n : ℕ) → line_at (starts_in labels ns) a ≡ Some n → (has_line ns n ≡ true) × (at_label n ≡ a)
+  line_there [] a n e = cc
+  line_there (m ∷ ns) a n e = go (nat_eq a (at_label m)) refl (line_there ns a n) e
+    where
+      go : (t : Bool) → nat_eq a (at_label m) ≡ t
+          → (line_at (starts_in labels ns) a ≡ Some n → (has_line ns n ≡ true) × (at_label n ≡ a)) → (if t then Some m else line_at (starts_in labels ns) a) ≡ Some n
+          → ((nat_eq m n || has_line ns n) ≡ true) × (at_label n ≡ a)
+      go true q later found =
+          let is : m ≡ n = cc in (
+            subst (λ k. (nat_eq m k || has_line ns k) ≡ true) is (has_itself m (has_line ns m)),
+            subst (λ k. at_label k ≡ a) is (sym (eqb-true a (at_label m) q)),
+          )
+      go false q later found = let rest = later found in (or_right (nat_eq m n) (has_line ns n) rest.0, rest.1)
+
+-- where a debugger stands at a line's beginning, the source goes on at that line
+pub shows_line : (source : Program) (seed : ℕ) (start : State) (beside : Beside) (d : Debugger) (n : ℕ) → Debugs source seed start beside d
+    → line_at (starts_of d.program.now) d.present.machine.regs.pc ≡ Some n → ShowsLine source seed start d n
+shows_line source seed start beside d n h here =
+    let c = d.program.now in
+    let told = h.made.compiled.starts in
+    let ns = numbers source in
+    let labels = labels_from PROLOGUE_AT h.made.compiled.items in
+    let firsts : (k : ℕ) → has_line ns k ≡ true → start_of c k ≡ at_label labels k =
+    λ k has. ap (λ ss. unwrap_or (start_in ss k) 0) told ∙ found labels ns k has in
+    let same : (a : ℕ) → is_start (start_of c) ns a ≡ is_marked d.starts a =
+    λ a. starts_same labels (start_of c) ns a firsts ∙ sym (ap (λ ss. begins_at ss a) told) ∙ sym (h.on.marked a) in
+    let first = first_point start beside in
+    let es = events_to d.starts first d.present.events in
+    let ran : run es start ≡ state_of d.present.machine = run_to d.starts first d.present.events ∙ sym (ap (λ p. p.state) h.on.of_run.stands) in
+    let count : begun (start_of c) ns es start ≡ d.present.begun =
+    begun_to d.starts first (start_of c) ns same refl d.present.events ∙ sym (ap (λ p. p.begun) h.on.of_run.stands) in
+    let there = line_there labels ns d.present.machine.regs.pc n (sym (ap (λ ss. line_at ss d.present.machine.regs.pc) told) ∙ here) in
+    let at : (run es start).regs.pc ≡ start_of c n = ap (λ s. s.regs.pc) ran ∙ sym there.1 ∙ sym (firsts n there.0) in
+    let shown = h.made.marks.begins start h.starts es (lawful_to d.starts first d.present.events) n there.0 at in
+    subst (λ m. BeginsLine source seed start m n (state_of d.present.machine)) count
+    (subst (λ t. BeginsLine source seed start (begun (start_of c) ns es start) n t) ran shown)
+
+pub shows_some : (source : Program) (seed : ℕ) (start : State) (beside : Beside) (d : Debugger) (o : Option ℕ) → Debugs source seed start beside d
+    → o ≡ line_at (starts_of d.program.now) d.present.machine.regs.pc → IfSome o (λ line. ShowsLine source seed start d line)
+shows_some source seed start beside d None h is = tt
+shows_some source seed start beside d (Some n) h is = shows_line source seed start beside d n h (sym is)

@@ -1,0 +1,17 @@
+use Rattle.std.proofs.Common.{refl}
+use Rattle.tb_debug.proofs.debugger.Debugger.back_to_kept.Goals as goal
+
+pub returns : goal.returns
+returns c = (
+  refl,
+  refl,
+  λ start h.
+      let marks = c.args.self.now.starts in
+      let present = c.args.self.now.present in
+      let kept = c.in-Some.ensures marks start present.events h.of_past in
+      record {
+        marked = h.marked;
+        of_run = c.in_ok-moment.ensures.again marks start present h.of_run c.sent.ensures kept.0 kept.1;
+        of_past = c.forget_behind.ensures marks start present.events h.of_past;
+      },
+)

@@ -1,0 +1,10 @@
+use Rattle.std.proofs.Common.{ap, ◌∙◌}
+use Rattle.tb_codegen.specs.Compiled.{starts_of}
+use Rattle.tb_debug.specs.Runs.{line_at}
+use Rattle.tb_debug.proofs.Sources.{shows_some}
+use Rattle.tb_debug.proofs.debugger.Debugger.line_here.Goals as goal
+
+pub returns-clause-source : goal.returns-clause-source
+returns-clause-source c = λ source seed start beside h.
+    shows_some source seed start beside c.args.self.now c.line_from.result h
+    (c.line_from.ensures ∙ ap (λ r. line_at (starts_of c.args.self.now.program.now) r.pc) c.regs.ensures)

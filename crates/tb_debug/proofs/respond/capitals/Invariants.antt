@@ -1,0 +1,7 @@
+use Rattle.std.proofs.Common.{◌≡◌, take}
+use Rattle.std.specs.Prelude.{map}
+use Rattle.std.specs.Char.{to_ascii_uppercase}
+use Rattle.tb_debug.proofs.respond.capitals.Given as goal
+
+abbrev pub invariant-loop-byte : goal.invariant-loop-byte
+invariant-loop-byte l = l.keys.items ≡ map to_ascii_uppercase (take l.byte-index l.text)
