@@ -11,4 +11,8 @@ mod listing;
 #[cfg(test)]
 mod play;
 #[cfg(test)]
+mod profile;
+#[cfg(test)]
+mod streams;
+#[cfg(test)]
 mod words;

@@ -27,5 +27,3 @@ pub const FOREVER: &[u8] = b"10 LET A=RND(6)\n20 LET B=B+1\n30 IF A>2 PRINT B\n4
 
 /// What is typed to all of them.
 pub const TYPED: &[u8] = b"3,4\r7\r-2,9,1\r12";
-
-pub const ALL: [&[u8]; 7] = [LOOP, DRAWS, NESTS, ASKS, FAULTS, RUNS_PAST, FOREVER];

@@ -1,19 +1,19 @@
 //! Walks back and forth, at random, beside what the interpreter says of each time.
-use crate::debug::programs::{ALL, TYPED};
-use std::alloc::Global;
+use crate::debug::programs::{ASKS, DRAWS, FAULTS, FOREVER, LOOP, NESTS, RUNS_PAST, TYPED};
+use std::alloc::{AllocError, Global};
 use std::test::Fail;
 use tb_codegen::{Compiled, Options, compile};
 use tb_debug::{Beside, Command, Debugger, Reached};
 use tb_engines::start_machine;
-use tb_kernal::Keyboard;
+use tb_kernal::{Keyboard, Machine};
 use tb_lower::{Place, RunEnd, SourceRun, run_source};
-use tb_parser::{Letter, parse};
+use tb_parser::{Letter, Program, parse};
 
 /// How many lines of a run are looked at.
 const MOST_TIME: u64 = 150;
 
 /// How many walks there are of each program.
-const WALKS: usize = 12;
+const WALKS: usize = 1_430;
 
 /// How many commands a walk has.
 const MOVES: usize = 12;
@@ -28,21 +28,35 @@ struct Outlook {
     ends: bool,
 }
 
-fn course(alloc: Global, source: &[u8]) -> Result<Outlook, Fail> {
-    let program = parse(alloc, source)?;
-    let mut runs = Vec::new(alloc);
+// The interpreter's run of so many lines, or one more where it has run past the last line.
+fn run_of(alloc: Global, program: &Program, time: u64) -> Result<SourceRun, AllocError> {
+    let run = run_source(alloc, program, SEED, TYPED, &[], time)?;
+    let past = u64::from(run.place == Place::Past);
+    run_source(alloc, program, SEED, TYPED, &[], time.saturating_add(past))
+}
+
+// Appends the run of each time, up to an end. Answers whether there is one.
+fn push_runs(
+    alloc: Global,
+    program: &Program,
+    runs: &mut Vec<SourceRun>,
+) -> Result<bool, AllocError> {
     for time in 0..=MOST_TIME {
-        let mut run = run_source(alloc, &program, SEED, TYPED, &[], time)?;
-        if run.place == Place::Past {
-            run = run_source(alloc, &program, SEED, TYPED, &[], time.saturating_add(1))?;
-        }
+        let run = run_of(alloc, program, time)?;
         let ends = run.end != RunEnd::GoesOn;
         runs.push(run)?;
         if ends {
-            return Ok(Outlook { runs, ends: true });
+            return Ok(true);
         }
     }
-    Ok(Outlook { runs, ends: false })
+    Ok(false)
+}
+
+fn course(alloc: Global, source: &[u8]) -> Result<Outlook, Fail> {
+    let program = parse(alloc, source)?;
+    let mut runs = Vec::new(alloc);
+    let ends = push_runs(alloc, &program, &mut runs)?;
+    Ok(Outlook { runs, ends })
 }
 
 /// Stops of a walk: a line with a breakpoint, and a watched variable.
@@ -103,26 +117,37 @@ impl Outlook {
 
     // Whether the debugger shows what the interpreter says of a time.
     fn agrees(&self, debugger: &Debugger<'_>, program: &Compiled, time: usize) -> bool {
-        let Some(run) = self.runs.get(time) else {
-            return false;
-        };
-        let is_line = debugger.standing() == Reached::Line;
-        let line = program.line_at(debugger.machine().regs().pc);
-        let is_place = match run.place {
-            Place::At(number) => line == Some(number),
-            Place::Past => false,
-        };
         let is_end = self.ends && time == self.last();
-        let stands = if is_end {
-            !is_line
-        } else {
-            is_line && is_place
-        };
-        stands
-            && debugger.begun() == time as u64
-            && debugger.machine().sent() == run.sent.as_slice()
-            && (is_end || debugger.variables().map(|value| value.cast_unsigned()) == run.variables)
+        match self.runs.get(time) {
+            Some(run) => {
+                stands(debugger, program, run.place, is_end)
+                    && debugger.begun() == time as u64
+                    && shows(debugger, run, is_end)
+            }
+            None => false,
+        }
     }
+}
+
+// Whether the debugger stands at a place, or at the end.
+fn stands(debugger: &Debugger<'_>, program: &Compiled, place: Place, is_end: bool) -> bool {
+    let is_line = debugger.standing() == Reached::Line;
+    let line = program.line_at(debugger.machine().regs().pc);
+    let is_place = match place {
+        Place::At(number) => line == Some(number),
+        Place::Past => false,
+    };
+    if is_end {
+        !is_line
+    } else {
+        is_line && is_place
+    }
+}
+
+// Whether the debugger's machine has sent what a run sent, and has its variables.
+fn shows(debugger: &Debugger<'_>, run: &SourceRun, is_end: bool) -> bool {
+    debugger.machine().sent() == run.sent.as_slice()
+        && (is_end || debugger.variables().map(|value| value.cast_unsigned()) == run.variables)
 }
 
 /// Numbers that look random.
@@ -168,67 +193,137 @@ fn command(
     }
 }
 
-// Walks by so many commands, each awaited: by how many the debugger agrees with the interpreter.
-fn walks(
-    alloc: Global,
-    source: &[u8],
-    course: &Outlook,
-    dice: &mut Dice,
-    moves: usize,
-) -> Result<usize, Fail> {
-    let program = compile(alloc, source, Options { seed: SEED })?;
+fn machine_of(alloc: Global, program: &Compiled) -> Result<Machine, Fail> {
     let keyboard = Keyboard {
         text: Vec::from_slice(alloc, TYPED)?,
         answers: Vec::new(alloc),
     };
-    let Ok(machine) = start_machine(alloc, tb_prg::read(program.prg())?, keyboard) else {
-        return Ok(0);
-    };
-    let beside = if dice.throw(2) == 0 {
+    let file = tb_prg::read(program.prg())?;
+    Ok(
+        start_machine(alloc, file, keyboard)
+            .ok()
+            .ok_or("no machine")?,
+    )
+}
+
+// The ROM of a walk.
+fn beside(dice: &mut Dice) -> Beside {
+    if dice.throw(2) == 0 {
         Beside::Quiet
     } else {
         Beside::Rude(u16::try_from(dice.throw(9)).unwrap_or(0))
-    };
-    let Ok(mut debugger) = Debugger::new(alloc, &program, machine, beside) else {
-        return Ok(0);
-    };
+    }
+}
+
+// The stops of a walk.
+fn stops(dice: &mut Dice, program: &Compiled) -> Wanted {
     let starts = program.starts();
-    let Some(start) = starts.get(dice.throw(starts.len())) else {
-        return Ok(0);
+    let line = match starts.get(dice.throw(starts.len())) {
+        Some(start) => start.number,
+        None => 0,
     };
-    let wanted = Wanted {
-        line: start.number,
+    Wanted {
+        line,
         index: dice.throw(26),
-    };
+    }
+}
+
+fn set_stops(alloc: Global, debugger: &mut Debugger<'_>, wanted: Wanted) -> Result<(), Fail> {
     let place = u8::try_from(wanted.index).unwrap_or(0);
-    let Some(letter) = Letter::read(b'A'.wrapping_add(place)) else {
-        return Ok(0);
-    };
+    let letter = Letter::read(b'A'.wrapping_add(place)).ok_or("no letter")?;
     debugger.respond(alloc, Command::Breakpoint(wanted.line), 0)?;
     debugger.respond(alloc, Command::Watch(letter), 0)?;
+    Ok(())
+}
+
+// By how many commands, each awaited, the debugger agrees with the interpreter.
+fn walk_on(
+    alloc: Global,
+    debugger: &mut Debugger<'_>,
+    program: &Compiled,
+    course: &Outlook,
+    dice: &mut Dice,
+    wanted: Wanted,
+) -> Result<usize, Fail> {
     let mut time = 0;
-    for step in 0..moves {
+    for step in 0..MOVES {
         let (command, to) = command(dice, course, time, wanted);
         debugger.respond(alloc, command, 100_000)?;
         time = to;
-        if !course.agrees(&debugger, &program, time) {
+        if !course.agrees(debugger, program, time) {
             return Ok(step);
         }
     }
-    Ok(moves)
+    Ok(MOVES)
+}
+
+// Walks, beside a ROM and with stops that the dice choose.
+fn walk(
+    alloc: Global,
+    program: &Compiled,
+    course: &Outlook,
+    dice: &mut Dice,
+) -> Result<usize, Fail> {
+    let machine = machine_of(alloc, program)?;
+    let mut debugger = Debugger::new(alloc, program, machine, beside(dice))
+        .ok()
+        .ok_or("no debugger")?;
+    let wanted = stops(dice, program);
+    set_stops(alloc, &mut debugger, wanted)?;
+    walk_on(alloc, &mut debugger, program, course, dice, wanted)
+}
+
+// The first walk of a program that strays from what the interpreter says.
+fn first_strayed(alloc: Global, source: &[u8], index: u32) -> Result<Option<usize>, Fail> {
+    let course = course(alloc, source)?;
+    let program = compile(alloc, source, Options { seed: SEED })?;
+    let mut dice = Dice { state: index };
+    for number in 0..WALKS {
+        if walk(alloc, &program, &course, &mut dice)? != MOVES {
+            return Ok(Some(number));
+        }
+    }
+    Ok(None)
 }
 
 #[test]
-fn walks_agree_with_the_interpreter(rt: HostRuntime) -> Result<(), Fail> {
-    for (index, source) in ALL.iter().enumerate() {
-        let course = course(rt.alloc(), source)?;
-        let mut dice = Dice {
-            state: u32::try_from(index).unwrap_or(0),
-        };
-        for walk in 0..WALKS {
-            let agreed = walks(rt.alloc(), source, &course, &mut dice, MOVES)?;
-            assert_eq!(rt; (index, walk, agreed), (index, walk, MOVES));
-        }
-    }
+fn walks_in_a_loop(rt: HostRuntime) -> Result<(), Fail> {
+    assert_eq!(rt; first_strayed(rt.alloc(), LOOP, 0)?, None);
+    Ok(())
+}
+
+#[test]
+fn walks_where_it_draws(rt: HostRuntime) -> Result<(), Fail> {
+    assert_eq!(rt; first_strayed(rt.alloc(), DRAWS, 1)?, None);
+    Ok(())
+}
+
+#[test]
+fn walks_through_nested_calls(rt: HostRuntime) -> Result<(), Fail> {
+    assert_eq!(rt; first_strayed(rt.alloc(), NESTS, 2)?, None);
+    Ok(())
+}
+
+#[test]
+fn walks_where_it_asks(rt: HostRuntime) -> Result<(), Fail> {
+    assert_eq!(rt; first_strayed(rt.alloc(), ASKS, 3)?, None);
+    Ok(())
+}
+
+#[test]
+fn walks_up_to_a_fault(rt: HostRuntime) -> Result<(), Fail> {
+    assert_eq!(rt; first_strayed(rt.alloc(), FAULTS, 4)?, None);
+    Ok(())
+}
+
+#[test]
+fn walks_past_the_last_line(rt: HostRuntime) -> Result<(), Fail> {
+    assert_eq!(rt; first_strayed(rt.alloc(), RUNS_PAST, 5)?, None);
+    Ok(())
+}
+
+#[test]
+fn walks_without_an_end(rt: HostRuntime) -> Result<(), Fail> {
+    assert_eq!(rt; first_strayed(rt.alloc(), FOREVER, 6)?, None);
     Ok(())
 }

@@ -1,6 +1,6 @@
 //! An echo, over readers and writers that fail, hand on few bytes at a time, and count.
+use crate::streams::CountingWriter;
 use std::alloc::Global;
-use std::io;
 use std::io::{Read, Write};
 use std::test::Fail;
 use tb_engines::{Outcome, run_prg};
@@ -166,25 +166,6 @@ fn a_writer_that_fails(rt: HostRuntime) -> Result<(), Fail> {
         assert_eq!(rt; writer.stream.taken.as_slice(), &SHOWN[..until_fault]);
     }
     Ok(())
-}
-
-/// Notes how many bytes it had taken at each flush.
-#[derive(Drop)]
-struct CountingWriter {
-    taken: usize,
-    flushed_at: Vec<usize>,
-}
-
-impl Write for CountingWriter {
-    fn write(&mut self, buf: &[u8]) -> io::Result<usize> {
-        self.taken = self.taken.wrapping_add(buf.len());
-        Ok(buf.len())
-    }
-
-    fn flush(&mut self) -> io::Result<()> {
-        self.flushed_at.push(self.taken)?;
-        Ok(())
-    }
 }
 
 #[test]

@@ -1,8 +1,7 @@
 //! Checks of sources that lie in memory.
-use crate::check::failure::Failure;
-use crate::check::notation::decoded;
+use crate::notation::decoded;
+use crate::page::Page;
 use std::alloc::Global;
-use std::fmt::Write;
 use std::io::Read;
 use std::str;
 use tb_check_engine::{CheckOutcome, Checked};
@@ -26,21 +25,17 @@ pub struct Ending {
 }
 
 /// The sources of a row.
-pub fn files_of(alloc: Global, given: &str) -> Result<Vec<File>, Failure> {
-    let mut files = Vec::new(alloc);
-    for part in given.split(" | ") {
-        let name = NAMES.get(files.len()).copied().ok_or(Failure::Files)?;
-        let bytes = bytes_of(alloc, part)?;
-        files.push(File { name, bytes })?;
+pub fn files_of(page: &mut Page, given: &str) -> Vec<File> {
+    let mut files = Vec::new(page.alloc());
+    for (part, name) in given.split(" | ").zip(NAMES) {
+        let bytes = match part {
+            "!" => None,
+            _ => Some(decoded(page, part)),
+        };
+        let filed = files.push(File { name, bytes });
+        page.held(filed);
     }
-    Ok(files)
-}
-
-fn bytes_of(alloc: Global, part: &str) -> Result<Option<Vec<u8>>, Failure> {
-    Ok(match part {
-        "!" => None,
-        _ => Some(decoded(alloc, part)?),
-    })
+    files
 }
 
 /// The check with one more source.
@@ -81,17 +76,23 @@ pub fn ending_of(alloc: Global, checked: &Checked) -> Ending {
 }
 
 /// Appends what a check of sources writes, and how it ends.
-pub fn show(alloc: Global, out: &mut String, files: &[File]) -> Result<(), Failure> {
-    let ending = ending_of(alloc, &checked(alloc, files)?);
-    let Ok(text) = str::from_utf8(ending.wrote.as_slice()) else {
-        return Err(Failure::Notation);
-    };
-    out.push_str(text)?;
-    show_outcome(out, ending.outcome)
+pub fn put_check(page: &mut Page, files: &[File]) {
+    let checked = checked(page.alloc(), files);
+    if let Some(checked) = page.held(checked) {
+        let ending = ending_of(page.alloc(), &checked);
+        put_ending(page, &ending);
+    }
+}
+
+fn put_ending(page: &mut Page, ending: &Ending) {
+    let text = str::from_utf8(&ending.wrote);
+    if let Some(text) = page.held(text) {
+        page.put(text);
+    }
+    put_outcome(page, ending.outcome);
 }
 
 /// Appends a status, and what standard error says.
-pub fn show_outcome(out: &mut String, outcome: CheckOutcome) -> Result<(), Failure> {
-    writeln!(out, "=> {} \"{outcome}\"", outcome.status())?;
-    Ok(())
+pub fn put_outcome(page: &mut Page, outcome: CheckOutcome) {
+    page.put(format_args!("=> {} \"{outcome}\"\n", outcome.status()));
 }

@@ -1,24 +1,23 @@
 //! Checks over readers and writers that fail anywhere.
-use crate::check::checks::{
-    Ending, File, checked, ending_of, show_outcome, with_file, with_reader,
-};
-use crate::check::failure::Failure;
+use crate::check::checks::{Ending, File, checked, ending_of, put_outcome, with_file, with_reader};
+use crate::page::Page;
 use std::alloc::Global;
-use std::fmt::Write;
 use tb_check_engine::{CheckOutcome, Checked};
 use tb_failing_streams::{FailingReader, FailingWriter};
 use tb_streams::Tracked;
 
+/// The source that a reader fails to give.
+const FIRST: &[u8] = b"10 FOR\n20 END\n";
+
 // A check whose first source comes from a reader that fails behind so many bytes.
 fn over_reader(
     alloc: Global,
-    first: &[u8],
     files: &[File],
     until_fault: usize,
     most: usize,
-) -> Result<Ending, CheckOutcome> {
+) -> Result<Checked, CheckOutcome> {
     let reader = FailingReader {
-        rest: first,
+        rest: FIRST,
         until_fault,
         most,
     };
@@ -26,27 +25,46 @@ fn over_reader(
     for file in files {
         checked = with_file(alloc, checked, file)?;
     }
-    Ok(ending_of(alloc, &checked))
+    Ok(checked)
+}
+
+// Whether it ends in a read fault, and writes what a check of the others does.
+fn reader_fails(
+    alloc: Global,
+    files: &[File],
+    whole: &Ending,
+    until_fault: usize,
+    most: usize,
+) -> bool {
+    match over_reader(alloc, files, until_fault, most) {
+        Ok(checked) => {
+            let ending = ending_of(alloc, &checked);
+            ending.outcome == CheckOutcome::ReadFault && ending.wrote == whole.wrote
+        }
+        Err(_) => false,
+    }
 }
 
 /// Appends what a check writes whose first source comes from a reader that fails anywhere: always the same, of the
 /// others.
-pub fn show_readers(alloc: Global, out: &mut String, files: &[File]) -> Result<(), Failure> {
-    let whole = ending_of(alloc, &checked(alloc, files)?);
-    let first = b"10 FOR\n20 END\n";
-    for until_fault in 0..=first.len() {
+pub fn put_readers(page: &mut Page, files: &[File]) {
+    let checked = checked(page.alloc(), files);
+    if let Some(checked) = page.held(checked) {
+        let whole = ending_of(page.alloc(), &checked);
+        put_failing_readers(page, files, &whole);
+    }
+}
+
+fn put_failing_readers(page: &mut Page, files: &[File], whole: &Ending) {
+    for until_fault in 0..=FIRST.len() {
         for most in [1, 7, 4096] {
-            let ending = over_reader(alloc, first, files, until_fault, most)?;
-            if ending.outcome != CheckOutcome::ReadFault || ending.wrote != whole.wrote {
-                writeln!(
-                    out,
-                    "=> another answer behind {until_fault}, {most} at once"
-                )?;
-                return Ok(());
+            if !reader_fails(page.alloc(), files, whole, until_fault, most) {
+                page.put(format_args!("=> another answer behind {until_fault}, {most} at once\n"));
+                return;
             }
         }
     }
-    show_outcome(out, CheckOutcome::ReadFault)
+    put_outcome(page, CheckOutcome::ReadFault);
 }
 
 // Whether a check writes what its writer takes, and tells of a fault where that is not all.
@@ -72,17 +90,23 @@ fn is_prefix(
 }
 
 /// Appends how many writers that fail took a prefix of what a check writes, or the first that did not.
-pub fn show_writers(alloc: Global, out: &mut String, files: &[File]) -> Result<(), Failure> {
-    let checked = checked(alloc, files)?;
-    let whole = ending_of(alloc, &checked);
-    for until_fault in 0..=whole.wrote.len() {
+pub fn put_writers(page: &mut Page, files: &[File]) {
+    let checked = checked(page.alloc(), files);
+    if let Some(checked) = page.held(checked) {
+        let whole = ending_of(page.alloc(), &checked);
+        put_failing_writers(page, &checked, &whole);
+    }
+}
+
+fn put_failing_writers(page: &mut Page, checked: &Checked, whole: &Ending) {
+    let length = whole.wrote.len();
+    for until_fault in 0..=length {
         for most in [1, 2, 4096] {
-            if !is_prefix(alloc, &checked, &whole, until_fault, most) {
-                writeln!(out, "=> no prefix behind {until_fault}, {most} at once")?;
-                return Ok(());
+            if !is_prefix(page.alloc(), checked, whole, until_fault, most) {
+                page.put(format_args!("=> no prefix behind {until_fault}, {most} at once\n"));
+                return;
             }
         }
     }
-    writeln!(out, "=> a prefix up to each of {} bytes", whole.wrote.len())?;
-    Ok(())
+    page.put(format_args!("=> a prefix up to each of {length} bytes\n"));
 }

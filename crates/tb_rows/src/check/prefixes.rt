@@ -1,8 +1,7 @@
 //! Sources that are cut off anywhere: what the check says of them is what the compiler does.
 use crate::check::checks::File;
-use crate::check::failure::Failure;
+use crate::page::Page;
 use std::alloc::{AllocError, Global};
-use std::fmt::Write;
 use tb_check::{Findings, SourceErrorKind, examine};
 use tb_codegen::{CompileError, Options, compile};
 use tb_lower::LowerError;
@@ -38,22 +37,21 @@ fn is_refusal(found: &Findings, error: CompileError) -> bool {
 }
 
 /// Appends on how many beginnings of the sources the check and the compiler agree, or the first on which they don't.
-pub fn show(alloc: Global, out: &mut String, files: &[File]) -> Result<(), Failure> {
+pub fn put_cuts(page: &mut Page, files: &[File]) {
     for file in files {
         if let Some(bytes) = &file.bytes {
-            show_cuts(alloc, out, bytes)?;
+            put_cuts_of(page, bytes);
         }
     }
-    Ok(())
 }
 
-fn show_cuts(alloc: Global, out: &mut String, source: &[u8]) -> Result<(), Failure> {
+fn put_cuts_of(page: &mut Page, source: &[u8]) {
     for length in 0..=source.len() {
-        if !agrees(alloc, &source[..length])? {
-            writeln!(out, "=> not on the first {length} bytes")?;
-            return Ok(());
+        let agree = agrees(page.alloc(), &source[..length]);
+        if page.held(agree) != Some(true) {
+            page.put(format_args!("=> not on the first {length} bytes\n"));
+            return;
         }
     }
-    writeln!(out, "=> on all beginnings of {} bytes", source.len())?;
-    Ok(())
+    page.put(format_args!("=> on all beginnings of {} bytes\n", source.len()));
 }

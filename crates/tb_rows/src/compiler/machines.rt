@@ -1,9 +1,8 @@
 //! Machines beside compiled programs, at their start.
-use crate::failure::Failure;
-use std::alloc::Global;
+use crate::notation::{bytes_of, hex_word};
+use crate::page::Page;
 use tb_codegen::Compiled;
 use tb_cpu::{Flags, Regs};
-use tb_driver::{address, key_list};
 use tb_kernal::{Keyboard, Machine, Outside};
 use tb_memmap::Memory;
 use tb_stepper::Stepper;
@@ -34,51 +33,58 @@ pub struct Start<'a> {
     pub answers: &'a [u8],
 }
 
+fn load(page: &mut Page, memory: &mut Memory, at: u16, bytes: &[u8]) {
+    let loaded = memory.load(at, bytes);
+    page.held(loaded);
+}
+
 // Loads `080D=A90560`.
-fn load_bytes(alloc: Global, load: &str, memory: &mut Memory) -> Result<(), Failure> {
-    let (at, bytes) = load.split_once('=').ok_or(Failure)?;
-    let at = address(at).ok_or(Failure)?;
-    Ok(memory.load(at, key_list(alloc, bytes)?.as_slice())?)
+fn load_digits(page: &mut Page, memory: &mut Memory, digits: &str) {
+    let (at, bytes) = digits.split_once('=').unwrap_or(("", ""));
+    let at = hex_word(page, at);
+    let bytes = bytes_of(page, bytes);
+    load(page, memory, at, &bytes);
 }
 
 impl<'a> Start<'a> {
     // Loads what lies in memory, with a return to $A100.
-    fn load(self, alloc: Global, memory: &mut Memory) -> Result<(), Failure> {
+    fn load(self, page: &mut Page, memory: &mut Memory) {
         if self.loads.is_empty() {
-            let file = tb_prg::read(self.program.prg())?;
-            memory.load(file.at, file.bytes)?;
+            let file = tb_prg::read(self.program.prg());
+            if let Some(file) = page.held(file) {
+                load(page, memory, file.at, file.bytes);
+            }
         }
-        for load in self.loads.split_whitespace() {
-            load_bytes(alloc, load, memory)?;
+        for digits in self.loads.split_whitespace() {
+            load_digits(page, memory, digits);
         }
-        Ok(memory.load(0x01f1, &[0xff, 0xa0])?)
+        load(page, memory, 0x01f1, &[0xff, 0xa0]);
     }
 
-    fn memory(self, alloc: Global) -> Result<Memory, Failure> {
-        let mut memory = Memory::new(alloc)?;
-        self.load(alloc, &mut memory)?;
-        Ok(memory)
+    fn keyboard(self, page: &mut Page) -> Option<Keyboard> {
+        let text = Vec::from_slice(page.alloc(), self.text);
+        let answers = Vec::from_slice(page.alloc(), self.answers);
+        Some(Keyboard {
+            text: page.held(text)?,
+            answers: page.held(answers)?,
+        })
     }
 
     /// The machine.
-    pub fn machine(self, alloc: Global) -> Result<Machine, Failure> {
-        let memory = self.memory(alloc)?;
-        let text = Vec::from_slice(alloc, self.text)?;
-        let answers = Vec::from_slice(alloc, self.answers)?;
-        Machine::enter(alloc, memory, START, Keyboard { text, answers })
-            .ok()
-            .ok_or(Failure)
+    pub fn machine(self, page: &mut Page) -> Option<Machine> {
+        let keyboard = self.keyboard(page)?;
+        let memory = Memory::new(page.alloc());
+        let mut memory = page.held(memory)?;
+        self.load(page, &mut memory);
+        let machine = Machine::enter(page.alloc(), memory, START, keyboard);
+        page.held(machine)
     }
 
     /// A stepper of the machine.
-    pub fn stepper<O: Outside + Drop>(
-        self,
-        alloc: Global,
-        outside: O,
-    ) -> Result<Stepper<'a, O>, Failure> {
-        Stepper::new(alloc, self.machine(alloc)?, self.program, outside)
-            .ok()
-            .ok_or(Failure)
+    pub fn stepper<O: Outside + Drop>(self, page: &mut Page, outside: O) -> Option<Stepper<'a, O>> {
+        let machine = self.machine(page)?;
+        let stepper = Stepper::new(page.alloc(), machine, self.program, outside);
+        page.held(stepper)
     }
 }
 

@@ -1,24 +1,28 @@
 //! The stepper: what it answers to calls and to commands, and steps taken back.
 use crate::compiler::machines::{Start, are_same};
-use crate::compiler::programs::no_keys;
-use crate::compiler::texts::{source_of, text_of};
-use crate::failure::Failure;
-use std::alloc::Global;
-use tb_codegen::{Compiled, Options, compile};
+use crate::compiler::sources::{compiled, source_of};
+use crate::notation::{cut, decoded, number, word};
+use crate::page::Page;
+use crate::text::engines::no_keys;
+use tb_codegen::Compiled;
 use tb_driver::{Tracked, step_text};
 use tb_kernal::{Machine, Outside, Quiet, Rude, Status};
 use tb_parser::parse_expr;
 use tb_stepper::Stepper;
 use tb_words::Letter;
 
-// Appends the status and the answers of `step_text` on a source and commands.
-fn show_steps(
-    alloc: Global,
-    source: &[u8],
-    commands: &[u8],
-    limit: u64,
-    out: &mut String,
-) -> Result<(), Failure> {
+/// Appends the status and the answers of `step_text`: `LIMIT SOURCE |COMMANDS`.
+pub fn put_commands(page: &mut Page, row: &str) {
+    let (limit, rest) = cut(row);
+    let limit = number(page, limit);
+    let (source, commands) = rest.split_once(" |").unwrap_or((rest, ""));
+    let source = source_of(page, source);
+    let commands = decoded(page, commands);
+    put_steps(page, &source, &commands, limit);
+}
+
+fn put_steps(page: &mut Page, source: &[u8], commands: &[u8], limit: u64) {
+    let alloc = page.alloc();
     let mut screen = Tracked::new(Vec::new(alloc));
     let report = step_text(
         alloc,
@@ -29,261 +33,202 @@ fn show_steps(
         no_keys(alloc),
         limit,
     );
-    show_answers(report.status(), screen.stream.as_slice(), out)
-}
-
-fn show_answers(status: u8, answers: &[u8], out: &mut String) -> Result<(), Failure> {
-    writeln!(out, "status {status}")?;
-    for byte in answers {
-        out.push(char::from(*byte))?;
-    }
-    Ok(())
-}
-
-/// Appends the status and the answers of `step_text`: `LIMIT SOURCE |COMMANDS`.
-pub fn show_commands(alloc: Global, row: &str, out: &mut String) -> Result<(), Failure> {
-    let (limit, rest) = row.split_once(' ').ok_or(Failure)?;
-    let (source, commands) = rest.split_once(" |").ok_or(Failure)?;
-    let limit = limit.parse()?;
-    let source = source_of(alloc, source)?;
-    let commands = text_of(alloc, commands)?;
-    show_steps(alloc, source.as_slice(), commands.as_slice(), limit, out)
+    page.put(format_args!("status {}\n", report.status()));
+    page.put_ascii(&screen.stream);
 }
 
 // What stands behind a word at the beginning of a row; nothing where no row has it. A block begins with a comment.
 fn field<'a>(block: &'a str, word: &str) -> &'a str {
-    match block.split_once(word) {
-        Some((_, rest)) => rest.split_once('\n').map_or(rest, |(row, _)| row),
-        None => "",
+    let (_, rest) = block.split_once(word).unwrap_or(("", ""));
+    let (row, _) = rest.split_once('\n').unwrap_or((rest, ""));
+    row
+}
+
+/// Appends blocks: what a machine starts with, and then calls of its stepper, each with its answer.
+pub fn put_blocks(page: &mut Page, blocks: &str) {
+    for block in blocks.split("\n\n") {
+        put_block(page, block);
+        page.put("\n");
     }
 }
 
-/// Appends a block: what a machine starts with, and then calls of its stepper, each with its answer.
-pub fn show_block(alloc: Global, block: &str, out: &mut String) -> Result<(), Failure> {
-    let (seed, source) = field(block, "\nsource ").split_once(' ').ok_or(Failure)?;
-    let source = source_of(alloc, source)?;
-    let options = Options {
-        seed: seed.parse()?,
-    };
-    let program = compile(alloc, source.as_slice(), options)?;
-    show_program(alloc, &program, block, out)
+fn put_block(page: &mut Page, block: &str) {
+    let (seed, source) = cut(field(block, "\nsource "));
+    let seed = word(page, seed);
+    let source = source_of(page, source);
+    if let Some(program) = compiled(page, &source, seed) {
+        put_program(page, &program, block);
+    }
 }
 
 // Appends a block about this program.
-fn show_program(
-    alloc: Global,
-    program: &Compiled,
-    block: &str,
-    out: &mut String,
-) -> Result<(), Failure> {
-    let text = text_of(alloc, field(block, "\ntext "))?;
-    let answers = text_of(alloc, field(block, "\nanswers "))?;
+fn put_program(page: &mut Page, program: &Compiled, block: &str) {
+    let text = decoded(page, field(block, "\ntext "));
+    let answers = decoded(page, field(block, "\nanswers "));
     let start = Start {
         program,
         loads: field(block, "\nloads "),
-        text: text.as_slice(),
-        answers: answers.as_slice(),
+        text: &text,
+        answers: &answers,
     };
-    show_started(alloc, start, block, out)
+    put_started(page, start, block);
 }
 
 // Appends a block about the machine that starts so.
-fn show_started(
-    alloc: Global,
-    start: Start<'_>,
-    block: &str,
-    out: &mut String,
-) -> Result<(), Failure> {
-    let mut stepper = start.stepper(alloc, Quiet)?;
-    show_calls(alloc, start, &mut stepper, block, out)
+fn put_started(page: &mut Page, start: Start<'_>, block: &str) {
+    if let Some(mut stepper) = start.stepper(page, Quiet) {
+        for row in block.lines() {
+            page.put(row);
+            put_row(page, start, &mut stepper, row);
+            page.put("\n");
+        }
+    }
 }
 
-// Appends the rows of a block, with the answers of this stepper or of another one with this start.
-fn show_calls(
-    alloc: Global,
-    start: Start<'_>,
-    stepper: &mut Stepper<'_, Quiet>,
-    block: &str,
-    out: &mut String,
-) -> Result<(), Failure> {
-    for row in block.lines() {
-        out.push_str(row)?;
-        let (word, rest) = row.split_once(' ').unwrap_or((row, ""));
-        match word {
-            "#" | "source" | "text" | "answers" | "loads" => {}
-            "kept" => show_kept(alloc, start, rest.parse()?, out)?,
-            "back_over_rude" => show_back(alloc, start, rest.parse()?, out)?,
-            "back_over_rude_up_to" => show_each_back(alloc, start, rest.parse()?, out)?,
-            _ => show_call(alloc, stepper, word, rest, out)?,
+// Appends what this stepper answers to a row of a block, or another one with this start.
+fn put_row(page: &mut Page, start: Start<'_>, stepper: &mut Stepper<'_, Quiet>, row: &str) {
+    let (name, rest) = cut(row);
+    match name {
+        "#" | "source" | "text" | "answers" | "loads" => {}
+        "kept" => put_kept(page, start, rest),
+        "back_over_rude" => put_back(page, start, rest),
+        "back_over_rude_up_to" => put_each_back(page, start, rest),
+        _ => {
+            page.put(" => ");
+            put_call(page, stepper, name, rest);
         }
-        out.push('\n')?;
     }
-    Ok(())
 }
 
 // Appends what a call of a stepper answers.
-fn show_call(
-    alloc: Global,
-    stepper: &mut Stepper<'_, Quiet>,
-    word: &str,
-    rest: &str,
-    out: &mut String,
-) -> Result<(), Failure> {
-    match word {
-        "step" => write!(out, " => {:?}", stepper.step())?,
-        "back" => write!(out, " => {:?}", stepper.back())?,
-        "regs" => write!(out, " => {:?}", stepper.machine().regs())?,
-        "status" => write!(out, " => {:?}", stepper.machine().status())?,
-        "line" => write!(out, " => {:?}", stepper.line())?,
-        "depth" => write!(out, " => {}", stepper.depth())?,
-        "to_line" => {
-            let (line, limit) = rest.split_once(' ').ok_or(Failure)?;
-            let reached = stepper.to_line(line.parse()?, limit.parse()?);
-            write!(out, " => {reached:?}")?;
+fn put_call(page: &mut Page, stepper: &mut Stepper<'_, Quiet>, name: &str, rest: &str) {
+    match name {
+        "step" => {
+            let stepped = stepper.step();
+            page.put(format_args!("{stepped:?}"));
         }
-        "variable" => {
-            let name = rest.as_bytes().first().ok_or(Failure)?;
-            let letter = Letter::read(*name).ok_or(Failure)?;
-            write!(out, " => {}", stepper.variable(letter))?;
+        "back" => {
+            let taken = stepper.back();
+            page.put(format_args!("{taken:?}"));
         }
-        "value_of" => show_value(alloc, stepper, rest, out)?,
-        _ => return Err(Failure),
+        "to_line" => put_reached(page, stepper, rest),
+        _ => put_seen(page, stepper, name, rest),
     }
-    Ok(())
 }
 
-fn show_value(
-    alloc: Global,
-    stepper: &Stepper<'_, Quiet>,
-    text: &str,
-    out: &mut String,
-) -> Result<(), Failure> {
-    let expression = parse_expr(alloc, text.as_bytes())?;
-    Ok(write!(out, " => {:?}", stepper.value_of(&expression))?)
+fn put_reached(page: &mut Page, stepper: &mut Stepper<'_, Quiet>, rest: &str) {
+    let (line, limit) = cut(rest);
+    let reached = stepper.to_line(word(page, line), number(page, limit));
+    page.put(format_args!("{reached:?}"));
+}
+
+// Appends what is seen of a stepper's machine.
+fn put_seen(page: &mut Page, stepper: &Stepper<'_, Quiet>, name: &str, rest: &str) {
+    match name {
+        "regs" => page.put(format_args!("{:?}", stepper.machine().regs())),
+        "status" => page.put(format_args!("{:?}", stepper.machine().status())),
+        "line" => page.put(format_args!("{:?}", stepper.line())),
+        "depth" => page.put(format_args!("{}", stepper.depth())),
+        "variable" => put_variable(page, stepper, rest.as_bytes()),
+        "value_of" => put_value(page, stepper, rest),
+        _ => page.fail(),
+    }
+}
+
+fn put_variable(page: &mut Page, stepper: &Stepper<'_, Quiet>, name: &[u8]) {
+    match Letter::read(*name.first().unwrap_or(&0)) {
+        Some(letter) => page.put(format_args!("{}", stepper.variable(letter))),
+        None => page.fail(),
+    }
+}
+
+fn put_value(page: &mut Page, stepper: &Stepper<'_, Quiet>, text: &str) {
+    let expression = parse_expr(page.alloc(), text.as_bytes());
+    if let Some(expression) = page.held(expression) {
+        let value = stepper.value_of(&expression);
+        page.put(format_args!("{value:?}"));
+    }
 }
 
 // Takes so many steps, or fewer where the program returns. Answers how many are noted.
-fn take_steps<O: Outside + Drop>(
-    stepper: &mut Stepper<'_, O>,
-    count: usize,
-) -> Result<usize, Failure> {
+fn take_steps<O: Outside + Drop>(stepper: &mut Stepper<'_, O>, count: u64) -> u64 {
     for taken in 0..count {
-        if stepper.machine().status() == Status::Returned {
-            return Ok(taken);
+        if stepper.machine().status() == Status::Returned || stepper.step().is_err() {
+            return taken;
         }
-        stepper.step()?;
     }
-    Ok(count)
+    count
 }
 
 // Takes back all steps that are noted, and answers how many they were.
-fn take_back<O: Outside + Drop>(stepper: &mut Stepper<'_, O>) -> usize {
-    for taken in 0..usize::MAX {
+fn take_back<O: Outside + Drop>(stepper: &mut Stepper<'_, O>) -> u64 {
+    for taken in 0..u64::MAX {
         if stepper.back().is_err() {
             return taken;
         }
     }
-    usize::MAX
+    u64::MAX
 }
 
-// Whether as many `back` as noted steps, and no more, lead back to the start.
-fn goes_back(
-    stepper: &mut Stepper<'_, Rude>,
-    first: &Machine,
-    count: usize,
-) -> Result<bool, Failure> {
-    let noted = take_steps(stepper, count)?;
-    Ok(take_back(stepper) == noted && are_same(stepper.machine(), first))
-}
-
-// Whether so many steps beside a rude ROM are taken back.
-fn is_taken_back(
-    alloc: Global,
-    start: Start<'_>,
-    first: &Machine,
-    count: usize,
-) -> Result<bool, Failure> {
-    let mut stepper = start.stepper(alloc, Rude::new(7))?;
-    goes_back(&mut stepper, first, count)
-}
-
-fn show_back(
-    alloc: Global,
-    start: Start<'_>,
-    count: usize,
-    out: &mut String,
-) -> Result<(), Failure> {
-    let first = start.machine(alloc)?;
-    let is_back = is_taken_back(alloc, start, &first, count)?;
-    Ok(write!(out, " => {is_back}")?)
-}
-
-// The first number of steps, up to this one, that is not taken back.
-fn first_kept(
-    alloc: Global,
-    start: Start<'_>,
-    first: &Machine,
-    most: usize,
-) -> Result<Option<usize>, Failure> {
-    for count in 1..=most {
-        if !is_taken_back(alloc, start, first, count)? {
-            return Ok(Some(count));
+// Whether so many steps beside a rude ROM are taken back: as many `back` as noted steps, and no more, lead back to the
+// start.
+fn is_taken_back(page: &mut Page, start: Start<'_>, first: &Machine, count: u64) -> bool {
+    match start.stepper(page, Rude::new(7)) {
+        Some(mut stepper) => {
+            let noted = take_steps(&mut stepper, count);
+            take_back(&mut stepper) == noted && are_same(stepper.machine(), first)
         }
+        None => false,
     }
-    Ok(None)
 }
 
-fn show_each_back(
-    alloc: Global,
-    start: Start<'_>,
-    most: usize,
-    out: &mut String,
-) -> Result<(), Failure> {
-    let first = start.machine(alloc)?;
-    match first_kept(alloc, start, &first, most)? {
-        Some(count) => write!(out, " => not {count}")?,
-        None => write!(out, " => each is taken back")?,
+fn put_back(page: &mut Page, start: Start<'_>, count: &str) {
+    let count = number(page, count);
+    if let Some(first) = start.machine(page) {
+        let is_back = is_taken_back(page, start, &first, count);
+        page.put(format_args!(" => {is_back}"));
     }
-    Ok(())
+}
+
+// Appends the first number of steps, up to this one, that is not taken back.
+fn put_each_back(page: &mut Page, start: Start<'_>, most: &str) {
+    let most = number(page, most);
+    if let Some(first) = start.machine(page) {
+        for count in 1..=most {
+            if !is_taken_back(page, start, &first, count) {
+                page.put(format_args!(" => not {count}"));
+                return;
+            }
+        }
+        page.put(" => each is taken back");
+    }
 }
 
 // How many of so many steps leave the machine running, whatever it comes to.
-fn count_running(stepper: &mut Stepper<'_, Quiet>, count: usize) -> Result<usize, Failure> {
-    let mut running = 0usize;
+fn count_running(stepper: &mut Stepper<'_, Quiet>, count: u64) -> u64 {
+    let mut running = 0u64;
     for _ in 0..count {
-        if stepper.step()? == Status::Running {
+        if let Ok(Status::Running) = stepper.step() {
             running = running.saturating_add(1);
         }
     }
-    Ok(running)
+    running
 }
 
 // Appends how many of so many steps left the machine running, how many of them are taken back, and whether it then
 // stands as another one does after the others.
-fn compare_kept(
-    stepper: &mut Stepper<'_, Quiet>,
-    other: &mut Stepper<'_, Quiet>,
-    count: usize,
-    out: &mut String,
-) -> Result<(), Failure> {
-    let running = count_running(stepper, count)?;
-    let back = take_back(stepper);
-    take_steps(other, count.saturating_sub(back))?;
-    let is_same = are_same(stepper.machine(), other.machine());
-    write!(
-        out,
-        " => {running} running, {back} taken back, as after the first: {is_same}"
-    )?;
-    Ok(())
-}
-
-fn show_kept(
-    alloc: Global,
-    start: Start<'_>,
-    count: usize,
-    out: &mut String,
-) -> Result<(), Failure> {
-    let mut stepper = start.stepper(alloc, Quiet)?;
-    let mut other = start.stepper(alloc, Quiet)?;
-    compare_kept(&mut stepper, &mut other, count, out)
+fn put_kept(page: &mut Page, start: Start<'_>, count: &str) {
+    let count = number(page, count);
+    let Some(mut stepper) = start.stepper(page, Quiet) else {
+        return;
+    };
+    let running = count_running(&mut stepper, count);
+    let back = take_back(&mut stepper);
+    if let Some(mut other) = start.stepper(page, Quiet) {
+        take_steps(&mut other, count.saturating_sub(back));
+        let is_same = are_same(stepper.machine(), other.machine());
+        page.put(format_args!(
+            " => {running} running, {back} taken back, as after the first: {is_same}"
+        ));
+    }
 }

@@ -1,13 +1,77 @@
-//! Rows of a machine that moves by events, and of the events that outsides give it.
-use crate::machine::failure::Failure;
+//! Rows of a machine that moves by single events, and of the events that outsides give it.
+use crate::machine::Bench;
 use crate::machine::setting::{START, Setting};
 use crate::machine::writing::{
-    put, put_debug, put_flags, put_indexes, put_place, put_registers, put_status, put_text,
+    put_flags, put_indexes, put_quoted, put_read, put_registers, put_status,
 };
+use crate::notation::{number, word};
+use crate::page::Page;
 use arrayvec::ArrayVec;
-use std::alloc::Global;
 use tb_cpu::Flags;
-use tb_kernal::{Clobber, Event, Machine, Outside, Recorded, Writes};
+use tb_kernal::{Clobber, EnterError, Event, Machine, Outside, Recorded, Rude, Writes};
+use tb_memmap::Memory;
+
+pub fn put_answer(page: &mut Page, bench: &mut Bench, name: &str, rest: &str) {
+    bench
+        .setting
+        .read(page, START, if is_number(name) { "" } else { rest });
+    if name == "machine" {
+        return put_entered(page, bench);
+    }
+    match &mut bench.machine {
+        Some(machine) => put_moved(page, machine, &bench.setting, name, rest),
+        None => page.fail(),
+    }
+}
+
+// Whether a number stands behind the name.
+fn is_number(name: &str) -> bool {
+    name == "reserve" || name == "rude"
+}
+
+// Enters the machine that the next rows move.
+fn put_entered(page: &mut Page, bench: &mut Bench) {
+    match enter(page, &mut bench.setting) {
+        Some(Ok(machine)) => {
+            put_registers(page, &machine.regs());
+            bench.machine = Some(machine);
+        }
+        Some(Err(error)) => put_refused(page, &error),
+        None => page.fail(),
+    }
+}
+
+/// A machine of a setting, whose memory also has a return to `$A100` on the stack.
+pub fn enter(page: &mut Page, setting: &mut Setting) -> Option<Result<Machine, EnterError>> {
+    let memory = Memory::new(page.alloc());
+    let mut memory = page.held(memory)?;
+    let loaded = memory.load(0x01f1, &[0xff, 0xa0]);
+    page.held(loaded);
+    setting.put(page, &mut memory);
+    let keyboard = setting.keyboard(page.alloc());
+    Some(Machine::enter(page.alloc(), memory, setting.regs, keyboard))
+}
+
+fn put_refused(page: &mut Page, error: &EnterError) {
+    let kind = error.kind;
+    page.put(format_args!(" {kind:?}"));
+    put_read(page, error.memory.read(START.pc));
+    put_quoted(page, error.keyboard.text.as_slice());
+}
+
+fn put_moved(page: &mut Page, machine: &mut Machine, setting: &Setting, name: &str, rest: &str) {
+    match name {
+        "go" => put_event(page, machine, go()),
+        "interrupt" => put_interrupted(page, machine, setting),
+        "reserve" => put_reserved(page, machine, rest),
+        "look" => setting.put_asked(page, machine.memory()),
+        "recorded" => put_recorded(page, machine, setting),
+        _ => {
+            let mut rude = Rude::new(word(page, rest));
+            put_three(page, machine, &mut rude);
+        }
+    }
+}
 
 /// A Go whose clobber is all zero and writes nothing.
 pub fn go() -> Event {
@@ -31,76 +95,70 @@ fn interrupt(address: u16, value: u8) -> Event {
     Event::Interrupt(writes)
 }
 
-/// The Interrupt that a row's words tell.
-pub fn interrupt_of(alloc: Global, rest: &str) -> Result<Event, Failure> {
-    let setting = Setting::read(alloc, START, rest)?;
-    let &(address, value) = setting.bytes.first().ok_or(Failure::Word)?;
-    Ok(interrupt(address, value))
+fn put_interrupted(page: &mut Page, machine: &mut Machine, setting: &Setting) {
+    match setting.bytes.first() {
+        Some(&(address, value)) => put_event(page, machine, interrupt(address, value)),
+        None => page.fail(),
+    }
 }
 
-/// What an event comes to, the registers, what was sent so far, and how much room the event took.
-pub fn put_event(out: &mut String, machine: &mut Machine, event: Event) -> Result<(), Failure> {
+// What an event comes to, the registers, what was sent so far, and how much room the event took.
+fn put_event(page: &mut Page, machine: &mut Machine, event: Event) {
     let room = machine.room();
     match machine.event(event) {
-        Ok(status) => put_status(out, status)?,
-        Err(error) => put_debug(out, &error)?,
+        Ok(status) => put_status(page, status),
+        Err(error) => page.put(format_args!(" {error:?}")),
     }
-    put_registers(out, &machine.regs())?;
-    put_text(out, machine.sent())?;
-    put_debug(out, &room.saturating_sub(machine.room()))
+    put_registers(page, &machine.regs());
+    put_quoted(page, machine.sent());
+    let taken = room.saturating_sub(machine.room());
+    page.put(format_args!(" {taken}"));
 }
 
-/// Makes room, and says whether there is room.
-pub fn put_reserved(out: &mut String, machine: &mut Machine, rest: &str) -> Result<(), Failure> {
-    let reserved = machine.reserve(rest.parse::<usize>()?);
-    put_debug(out, &reserved)?;
-    put(
-        out,
-        if machine.room() > 0 {
-            "room"
-        } else {
-            "no room"
-        },
-    )
+// Makes room, and says whether there is room.
+fn put_reserved(page: &mut Page, machine: &mut Machine, rest: &str) {
+    let count = usize::try_from(number(page, rest)).unwrap_or(0);
+    let reserved = machine.reserve(count);
+    let room = if machine.room() > 0 {
+        "room"
+    } else {
+        "no room"
+    };
+    page.put(format_args!(" {reserved:?} {room}"));
 }
 
-/// Three events of an outside after one another.
-pub fn put_three(
-    out: &mut String,
-    machine: &Machine,
-    outside: &mut impl Outside,
-) -> Result<(), Failure> {
+// Three events of an outside after one another.
+fn put_three<O: Outside>(page: &mut Page, machine: &Machine, outside: &mut O) {
     for _ in 0..3 {
-        put_given(out, &outside.next(machine))?;
+        put_given(page, &outside.next(machine));
     }
-    Ok(())
 }
 
-/// An outside that gives the Interrupts that a row's words tell, each of one byte.
-pub fn recorded_of(alloc: Global, rest: &str) -> Result<Recorded, Failure> {
-    let setting = Setting::read(alloc, START, rest)?;
-    let mut events = Vec::new(alloc);
+// What an outside gives of the Interrupts of a row's words, each of one byte.
+fn put_recorded(page: &mut Page, machine: &Machine, setting: &Setting) {
+    let mut events = Vec::new(page.alloc());
     for &(address, value) in &setting.bytes {
-        events.push(interrupt(address, value))?;
+        let recorded = events.push(interrupt(address, value));
+        page.held(recorded);
     }
-    Ok(Recorded::new(events))
+    put_three(page, machine, &mut Recorded::new(events));
 }
 
-fn put_given(out: &mut String, event: &Event) -> Result<(), Failure> {
+fn put_given(page: &mut Page, event: &Event) {
     match event {
         Event::Go(clobber) => {
-            out.push_str("\n  Go")?;
-            put_clobber(out, clobber)
+            page.put("\n  Go");
+            put_clobber(page, clobber);
         }
         Event::Interrupt(writes) => {
-            out.push_str("\n  Interrupt")?;
-            put_writes(out, writes)
+            page.put("\n  Interrupt");
+            put_writes(page, writes);
         }
     }
 }
 
-fn put_clobber(out: &mut String, clobber: &Clobber) -> Result<(), Failure> {
-    put_indexes(out, clobber.a, clobber.x, clobber.y)?;
+fn put_clobber(page: &mut Page, clobber: &Clobber) {
+    put_indexes(page, clobber.a, clobber.x, clobber.y);
     let flags = Flags {
         n: clobber.n,
         v: clobber.v,
@@ -109,13 +167,12 @@ fn put_clobber(out: &mut String, clobber: &Clobber) -> Result<(), Failure> {
         z: clobber.z,
         c: clobber.c,
     };
-    put_flags(out, flags)?;
-    put_writes(out, &clobber.writes)
+    put_flags(page, flags);
+    put_writes(page, &clobber.writes);
 }
 
-fn put_writes(out: &mut String, writes: &Writes) -> Result<(), Failure> {
+fn put_writes(page: &mut Page, writes: &Writes) {
     for &(address, value) in writes.as_slice() {
-        put_place(out, address, value)?;
+        page.put(format_args!(" {address:04x}: {value:02x}"));
     }
-    Ok(())
 }

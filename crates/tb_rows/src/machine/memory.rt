@@ -1,57 +1,46 @@
 //! Rows of the memory map.
 use crate::machine::Bench;
-use crate::machine::failure::Failure;
-use crate::machine::setting::{cut, hex_byte, hex_word, no_bytes};
-use crate::machine::writing::{put, put_debug, put_read};
-use tb_memmap::{Closed, is_open_at, region};
+use crate::machine::writing::put_read;
+use crate::notation::{bytes_of, cut, hex_byte, hex_word};
+use crate::page::Page;
+use tb_memmap::{Memory, is_open_at, region};
 
-pub fn put_answer(
-    out: &mut String,
-    bench: &mut Bench,
-    word: &str,
-    rest: &str,
-) -> Result<(), Failure> {
-    if word == "memory" {
-        bench.memory = no_bytes(bench.alloc)?;
-        return put(out, "new");
+pub fn put_answer(page: &mut Page, bench: &mut Bench, name: &str, rest: &str) {
+    if name == "memory" {
+        bench.restart(page);
+        page.put(" new");
+        return;
     }
     let (first, bytes) = cut(rest);
-    let address = hex_word(first)?;
-    match word {
-        "region" => put_region(out, address),
-        "read" => put_read(out, bench.memory.read(address)),
-        "write" => {
-            let value = hex_byte(bytes)?;
-            match bench.memory.write(address, value) {
-                Ok(()) => put(out, "Ok"),
-                Err(Closed(address)) => put_read(out, Err(Closed(address))),
-            }
-        }
-        _ => put_loaded(out, bench, address, bytes),
+    let address = hex_word(page, first);
+    match name {
+        "region" => put_region(page, address),
+        "read" => put_read(page, bench.memory.read(address)),
+        "write" => put_written(page, &mut bench.memory, address, bytes),
+        _ => put_loaded(page, &mut bench.memory, address, bytes),
     }
 }
 
-fn put_region(out: &mut String, address: u16) -> Result<(), Failure> {
-    put_debug(out, &region(address))?;
-    put(
-        out,
-        if is_open_at(address) {
-            "open"
-        } else {
-            "refused"
-        },
-    )
+fn put_region(page: &mut Page, address: u16) {
+    let region = region(address);
+    let access = if is_open_at(address) {
+        "open"
+    } else {
+        "refused"
+    };
+    page.put(format_args!(" {region:?} {access}"));
 }
 
-fn put_loaded(
-    out: &mut String,
-    bench: &mut Bench,
-    address: u16,
-    texts: &str,
-) -> Result<(), Failure> {
-    let mut bytes = Vec::new(bench.alloc);
-    for text in texts.split_whitespace() {
-        bytes.push(hex_byte(text)?)?;
+fn put_written(page: &mut Page, memory: &mut Memory, address: u16, byte: &str) {
+    let byte = hex_byte(page, byte);
+    match memory.write(address, byte) {
+        Ok(()) => page.put(" Ok"),
+        Err(closed) => put_read(page, Err(closed)),
     }
-    put_debug(out, &bench.memory.load(address, bytes.as_slice()))
+}
+
+fn put_loaded(page: &mut Page, memory: &mut Memory, address: u16, groups: &str) {
+    let bytes = bytes_of(page, groups);
+    let loaded = memory.load(address, bytes.as_slice());
+    page.put(format_args!(" {loaded:?}"));
 }

@@ -1,64 +1,67 @@
 //! Rows of the opcode table.
-use crate::machine::failure::Failure;
-use crate::machine::setting::{cut, hex_byte};
-use crate::machine::writing::{put, put_debug};
+use crate::notation::{cut, hex_byte};
+use crate::page::Page;
 use tb_opcodes::{Mnemonic, Mode, decode, encode, length};
 
-pub fn put_answer(out: &mut String, word: &str, rest: &str) -> Result<(), Failure> {
-    match word {
-        "columns" => put_columns(out, hex_byte(rest)?),
-        "documented" => put_debug(out, &documented()),
-        "encode" => put_encoded(out, rest),
-        _ => put_length(out, rest),
+pub fn put_answer(page: &mut Page, name: &str, rest: &str) {
+    match name {
+        "columns" => put_columns(page, rest),
+        "documented" => put_documented(page),
+        "encode" => put_encoded(page, rest),
+        _ => put_length(page, rest),
     }
 }
 
 // The instruction of an opcode that a row names.
-fn instruction(opcode: &str) -> Result<(Mnemonic, Mode), Failure> {
-    decode(hex_byte(opcode)?).ok_or(Failure::Word)
+fn instruction(page: &mut Page, opcode: &str) -> (Mnemonic, Mode) {
+    match decode(hex_byte(page, opcode)) {
+        Some(found) => found,
+        None => {
+            page.fail();
+            (Mnemonic::Nop, Mode::Implied)
+        }
+    }
 }
 
-fn put_encoded(out: &mut String, rest: &str) -> Result<(), Failure> {
+fn put_encoded(page: &mut Page, rest: &str) {
     let (first, second) = cut(rest);
-    let (mnemonic, _) = instruction(first)?;
-    let (_, mode) = instruction(second)?;
-    put_debug(out, &(mnemonic, mode))?;
-    put_debug(out, &encode(mnemonic, mode))
+    let (mnemonic, _) = instruction(page, first);
+    let (_, mode) = instruction(page, second);
+    let opcode = encode(mnemonic, mode);
+    page.put(format_args!(" ({mnemonic:?}, {mode:?}) {opcode:?}"));
 }
 
-fn put_length(out: &mut String, rest: &str) -> Result<(), Failure> {
-    let (_, mode) = instruction(rest)?;
-    put_debug(out, &mode)?;
-    put_debug(out, &length(mode))
+fn put_length(page: &mut Page, rest: &str) {
+    let (_, mode) = instruction(page, rest);
+    let length = length(mode);
+    page.put(format_args!(" {mode:?} {length:?}"));
 }
 
-fn documented() -> u16 {
+fn put_documented(page: &mut Page) {
     let mut count = 0u16;
     for opcode in 0..=255u8 {
         if decode(opcode).is_some() {
             count = count.saturating_add(1);
         }
     }
-    count
+    page.put(format_args!(" {count}"));
 }
 
 // The eight opcodes that differ from one in the three bits of the column.
-fn put_columns(out: &mut String, first: u8) -> Result<(), Failure> {
+fn put_columns(page: &mut Page, rest: &str) {
+    let first = hex_byte(page, rest);
     for column in 0..8u8 {
-        put_column(out, first | column.wrapping_mul(4))?;
+        put_column(page, first | column.wrapping_mul(4));
     }
-    Ok(())
 }
 
-fn put_column(out: &mut String, opcode: u8) -> Result<(), Failure> {
+fn put_column(page: &mut Page, opcode: u8) {
     match decode(opcode) {
-        None => put(out, "| -"),
+        None => page.put(" | -"),
         Some((mnemonic, mode)) => {
-            write!(out, " | {mnemonic:?} {mode:?}")?;
-            if encode(mnemonic, mode) == Some(opcode) {
-                Ok(())
-            } else {
-                put(out, "is encoded otherwise")
+            page.put(format_args!(" | {mnemonic:?} {mode:?}"));
+            if encode(mnemonic, mode) != Some(opcode) {
+                page.put(" is encoded otherwise");
             }
         }
     }

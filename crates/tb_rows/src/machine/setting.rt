@@ -1,12 +1,15 @@
 //! What the words of a row say of registers, memory and keyboard.
 //!
-//! `A=46` sets a register. `P=N.D..C` sets the flags that it names, and clears the others. A byte in hex goes to the place that `C100:` or `PC=C100`
-//! names, and each further byte to the next place. `?0020` asks for a byte. `text=K` and `answer=03` are the keyboard's. `hello` stands for the bytes of
-//! the example of reaching.
-use crate::machine::failure::Failure;
-use crate::machine::writing::put_place;
+//! `A=46` sets a register. `P=N.D..C` sets the flags that it names, and clears the others. A byte in hex goes to the
+//! place that `C100:` or `PC=C100` names, and each further byte to the next place. `?0020` asks for a byte. `text=K` and
+//! `answer=03` are the keyboard's. `hello` stands for the bytes of the example of reaching.
+use crate::machine::writing::put_read;
+use crate::notation::{hex_byte, hex_word};
+use crate::page::Page;
 use std::alloc::Global;
+use std::mem;
 use tb_cpu::{Flags, Regs};
+use tb_kernal::Keyboard;
 use tb_memmap::Memory;
 use tb_reaching::HELLO;
 
@@ -27,117 +30,119 @@ pub const START: Regs = Regs {
     },
 };
 
-/// A text's first word, and the rest.
-pub fn cut(text: &str) -> (&str, &str) {
-    text.split_once(' ').unwrap_or((text, ""))
-}
-
-pub fn hex_byte(text: &str) -> Result<u8, Failure> {
-    Ok(u8::from_str_radix(text, 16)?)
-}
-
-pub fn hex_word(text: &str) -> Result<u16, Failure> {
-    Ok(u16::from_str_radix(text, 16)?)
-}
-
-/// A memory whose bytes are all 0.
-pub fn no_bytes(alloc: Global) -> Result<Memory, Failure> {
-    Memory::new(alloc).or(Err(Failure::Word))
-}
-
 #[derive(Drop)]
 pub struct Setting {
     pub regs: Regs,
     pub bytes: Vec<(u16, u8)>,
-    pub asked: Vec<u16>,
-    pub text: Vec<u8>,
-    pub answers: Vec<u8>,
+    asked: Vec<u16>,
+    text: Vec<u8>,
+    answers: Vec<u8>,
     place: u16,
 }
 
 impl Setting {
-    pub fn read(alloc: Global, regs: Regs, words: &str) -> Result<Setting, Failure> {
-        let mut setting = Setting {
-            regs,
+    pub fn new(alloc: Global) -> Setting {
+        Setting {
+            regs: START,
             bytes: Vec::new(alloc),
             asked: Vec::new(alloc),
             text: Vec::new(alloc),
             answers: Vec::new(alloc),
-            place: regs.pc,
-        };
-        for word in words.split_whitespace() {
-            setting.take(word)?;
+            place: 0,
         }
-        Ok(setting)
     }
 
-    fn take(&mut self, word: &str) -> Result<(), Failure> {
+    /// Takes the words of a row in place of those of the row before.
+    pub fn read(&mut self, page: &mut Page, regs: Regs, words: &str) {
+        self.regs = regs;
+        self.place = regs.pc;
+        self.bytes.clear();
+        self.asked.clear();
+        self.text.clear();
+        self.answers.clear();
+        for word in words.split_whitespace() {
+            self.take(page, word);
+        }
+    }
+
+    fn take(&mut self, page: &mut Page, word: &str) {
         if let Some((name, value)) = word.split_once('=') {
-            return self.set(name, value);
+            self.set(page, name, value);
+        } else if let Some(address) = word.strip_prefix('?') {
+            let asked = self.asked.push(hex_word(page, address));
+            page.held(asked);
+        } else if let Some((address, _)) = word.split_once(':') {
+            self.place = hex_word(page, address);
+        } else if word == "hello" {
+            self.put_next(page, &HELLO);
+        } else {
+            let byte = hex_byte(page, word);
+            self.put_next(page, &[byte]);
         }
-        if let Some(address) = word.strip_prefix('?') {
-            self.asked.push(hex_word(address)?)?;
-            return Ok(());
-        }
-        if let Some((address, _)) = word.split_once(':') {
-            self.place = hex_word(address)?;
-            return Ok(());
-        }
-        if word == "hello" {
-            return self.put_next(&HELLO);
-        }
-        self.put_next(&[hex_byte(word)?])
     }
 
     /// Has bytes put to the next places.
-    pub fn put_next(&mut self, bytes: &[u8]) -> Result<(), Failure> {
+    pub fn put_next(&mut self, page: &mut Page, bytes: &[u8]) {
         for &byte in bytes {
-            self.bytes.push((self.place, byte))?;
+            let put = self.bytes.push((self.place, byte));
+            page.held(put);
             self.place = self.place.wrapping_add(1);
         }
-        Ok(())
     }
 
-    fn set(&mut self, name: &str, value: &str) -> Result<(), Failure> {
+    fn set(&mut self, page: &mut Page, name: &str, value: &str) {
         match name {
             "P" => self.regs.flags = flags(value),
             "PC" => {
-                self.place = hex_word(value)?;
+                self.place = hex_word(page, value);
                 self.regs.pc = self.place;
             }
-            "text" => self.text.extend_from_slice(value.as_bytes())?,
-            _ => return self.set_byte(name, hex_byte(value)?),
+            "text" => {
+                let typed = self.text.extend_from_slice(value.as_bytes());
+                page.held(typed);
+            }
+            _ => {
+                let byte = hex_byte(page, value);
+                self.set_byte(page, name, byte);
+            }
         }
-        Ok(())
     }
 
-    fn set_byte(&mut self, name: &str, value: u8) -> Result<(), Failure> {
+    fn set_byte(&mut self, page: &mut Page, name: &str, value: u8) {
         match name {
             "A" => self.regs.a = value,
             "X" => self.regs.x = value,
             "Y" => self.regs.y = value,
             "S" => self.regs.s = value,
-            "answer" => self.answers.push(value)?,
-            _ => return Err(Failure::Word),
+            _ => {
+                let answered = self.answers.push(value);
+                page.held(answered);
+            }
         }
-        Ok(())
     }
 
     /// Puts the bytes into a memory.
-    pub fn put(&self, memory: &mut Memory) -> Result<(), Failure> {
+    pub fn put(&self, page: &mut Page, memory: &mut Memory) {
         for &(address, byte) in &self.bytes {
-            memory.write(address, byte).or(Err(Failure::Word))?;
+            let written = memory.write(address, byte);
+            page.held(written);
         }
-        Ok(())
     }
 
-    /// Writes the bytes that are asked for, each of an open address.
-    pub fn put_asked(&self, out: &mut String, memory: &Memory) -> Result<(), Failure> {
-        for &address in &self.asked {
-            let byte = memory.read(address).or(Err(Failure::Word))?;
-            put_place(out, address, byte)?;
+    /// The keyboard, which is then empty here.
+    pub fn keyboard(&mut self, alloc: Global) -> Keyboard {
+        Keyboard {
+            text: mem::replace(&mut self.text, Vec::new(alloc)),
+            answers: mem::replace(&mut self.answers, Vec::new(alloc)),
         }
-        Ok(())
+    }
+
+    /// Writes the bytes that are asked for.
+    pub fn put_asked(&self, page: &mut Page, memory: &Memory) {
+        for &address in &self.asked {
+            page.put(format_args!(" {address:04x}:"));
+            put_read(page, memory.read(address));
+        }
     }
 }
 

@@ -1,51 +1,72 @@
 //! Rows of the words.
-use crate::machine::failure::Failure;
-use crate::machine::setting::cut;
-use crate::machine::writing::{put_debug, put_text};
+use crate::machine::writing::put_quoted;
+use crate::notation::{cut, word};
+use crate::page::Page;
 use tb_words::{Letter, Rel, add, digits, div_rem, holds, mul, neg, next_seed, sub};
 
-pub fn put_answer(out: &mut String, word: &str, rest: &str) -> Result<(), Failure> {
-    match word {
-        "letter" => put_letter(out, rest.as_bytes()),
-        "seed" => put_debug(out, &next_seed(rest.parse::<u16>()?)),
-        _ => put_number(out, word, rest),
+pub fn put_answer(page: &mut Page, name: &str, rest: &str) {
+    match name {
+        "letter" => put_letter(page, rest.as_bytes()),
+        "seed" => {
+            let next = next_seed(word(page, rest));
+            page.put(format_args!(" {next}"));
+        }
+        _ => put_number(page, name, rest),
     }
 }
 
 // The place of a letter in the alphabet.
-fn put_letter(out: &mut String, bytes: &[u8]) -> Result<(), Failure> {
-    let &byte = bytes.first().ok_or(Failure::Word)?;
+fn put_letter(page: &mut Page, bytes: &[u8]) {
+    let &byte = bytes.first().unwrap_or(&0);
     match Letter::read(byte) {
-        Some(letter) => put_debug(out, &letter.index()),
-        None => put_debug(out, &None::<usize>),
+        Some(letter) => {
+            let index = letter.index();
+            page.put(format_args!(" {index}"));
+        }
+        None => page.put(" None"),
     }
 }
 
-fn put_number(out: &mut String, word: &str, rest: &str) -> Result<(), Failure> {
+fn signed(page: &mut Page, text: &str) -> i16 {
+    let read = text.parse::<i16>();
+    page.held(read).unwrap_or(0)
+}
+
+fn put_number(page: &mut Page, name: &str, rest: &str) {
     let (first, second) = cut(rest);
-    let a = first.parse::<i16>()?;
-    if word == "digits" {
-        return put_text(out, digits(a).as_slice());
+    let a = signed(page, first);
+    match name {
+        "digits" => put_quoted(page, digits(a).as_slice()),
+        "negate" => {
+            let negative = neg(a);
+            page.put(format_args!(" {negative}"));
+        }
+        _ => {
+            let b = signed(page, second);
+            put_calculated(page, name, a, b);
+        }
     }
-    if word == "negate" {
-        return put_debug(out, &neg(a));
-    }
-    let b = second.parse::<i16>()?;
-    match word {
-        "divide" => put_debug(out, &div_rem(a, b)),
-        "add" => put_debug(out, &add(a, b)),
-        "subtract" => put_debug(out, &sub(a, b)),
-        "multiply" => put_debug(out, &mul(a, b)),
-        _ => put_relations(out, a, b),
-    }
+}
+
+fn put_calculated(page: &mut Page, name: &str, a: i16, b: i16) {
+    let result = match name {
+        "divide" => {
+            let parts = div_rem(a, b);
+            return page.put(format_args!(" {parts:?}"));
+        }
+        "add" => add(a, b),
+        "subtract" => sub(a, b),
+        "multiply" => mul(a, b),
+        _ => return put_relations(page, a, b),
+    };
+    page.put(format_args!(" {result}"));
 }
 
 // The relations that hold between two words.
-fn put_relations(out: &mut String, a: i16, b: i16) -> Result<(), Failure> {
+fn put_relations(page: &mut Page, a: i16, b: i16) {
     for rel in [Rel::Eq, Rel::Lt, Rel::Gt, Rel::Le, Rel::Ge, Rel::Ne] {
         if holds(rel, a, b) {
-            put_debug(out, &rel)?;
+            page.put(format_args!(" {rel:?}"));
         }
     }
-    Ok(())
 }

@@ -1,93 +1,67 @@
 //! How answers are written. Each part begins with a space.
-use crate::machine::failure::Failure;
-use std::fmt::Debug;
+use crate::page::Page;
 use tb_cpu::{Flags, Regs, Wrong};
 use tb_kernal::Status;
 use tb_memmap::Closed;
 
-pub fn put(out: &mut String, text: &str) -> Result<(), Failure> {
-    write!(out, " {text}")?;
-    Ok(())
-}
-
-pub fn put_debug(out: &mut String, value: &impl Debug) -> Result<(), Failure> {
-    write!(out, " {value:?}")?;
-    Ok(())
-}
-
-pub fn put_address(out: &mut String, address: u16) -> Result<(), Failure> {
-    write!(out, " {address:04x}")?;
-    Ok(())
-}
-
-/// An address and the byte there.
-pub fn put_place(out: &mut String, address: u16, byte: u8) -> Result<(), Failure> {
-    write!(out, " {address:04x}: {byte:02x}")?;
-    Ok(())
-}
-
 /// Bytes as text in quotes.
-pub fn put_text(out: &mut String, bytes: &[u8]) -> Result<(), Failure> {
-    write!(out, " \"{}\"", bytes.escape_ascii())?;
-    Ok(())
+pub fn put_quoted(page: &mut Page, bytes: &[u8]) {
+    let shown = bytes.escape_ascii();
+    page.put(format_args!(" \"{shown}\""));
 }
 
 /// A byte that was read or written.
-pub fn put_read(out: &mut String, read: Result<u8, Closed>) -> Result<(), Failure> {
+pub fn put_read(page: &mut Page, read: Result<u8, Closed>) {
     match read {
-        Ok(byte) => {
-            write!(out, " {byte:02x}")?;
-            Ok(())
-        }
-        Err(Closed(address)) => put_closed(out, address),
+        Ok(byte) => page.put(format_args!(" {byte:02x}")),
+        Err(Closed(address)) => put_closed(page, address),
     }
 }
 
-fn put_closed(out: &mut String, address: u16) -> Result<(), Failure> {
-    write!(out, " Closed {address:04x}")?;
-    Ok(())
+fn put_closed(page: &mut Page, address: u16) {
+    page.put(format_args!(" Closed {address:04x}"));
 }
 
 /// Why an instruction was refused.
-pub fn put_wrong(out: &mut String, wrong: Wrong) -> Result<(), Failure> {
+pub fn put_wrong(page: &mut Page, wrong: Wrong) {
     match wrong {
-        Wrong::Closed(address) => put_closed(out, address),
-        other => put_debug(out, &other),
+        Wrong::Closed(address) => put_closed(page, address),
+        other => page.put(format_args!(" {other:?}")),
     }
 }
 
 /// How a machine stands.
-pub fn put_status(out: &mut String, status: Status) -> Result<(), Failure> {
+pub fn put_status(page: &mut Page, status: Status) {
     match status {
-        Status::Wrong(wrong) => put_wrong(out, wrong),
-        other => put_debug(out, &other),
+        Status::Wrong(wrong) => put_wrong(page, wrong),
+        other => page.put(format_args!(" {other:?}")),
     }
 }
 
-pub fn put_registers(out: &mut String, regs: &Regs) -> Result<(), Failure> {
-    put_indexes(out, regs.a, regs.x, regs.y)?;
-    write!(out, " S={:02x} PC={:04x}", regs.s, regs.pc)?;
-    put_flags(out, regs.flags)
+pub fn put_registers(page: &mut Page, regs: &Regs) {
+    put_indexes(page, regs.a, regs.x, regs.y);
+    let Regs { s, pc, .. } = *regs;
+    page.put(format_args!(" S={s:02x} PC={pc:04x}"));
+    put_flags(page, regs.flags);
 }
 
 /// A, X and Y.
-pub fn put_indexes(out: &mut String, a: u8, x: u8, y: u8) -> Result<(), Failure> {
-    write!(out, " A={a:02x} X={x:02x} Y={y:02x}")?;
-    Ok(())
+pub fn put_indexes(page: &mut Page, a: u8, x: u8, y: u8) {
+    page.put(format_args!(" A={a:02x} X={x:02x} Y={y:02x}"));
 }
 
 /// Flags, with a dot in place of a clear one.
-pub fn put_flags(out: &mut String, flags: Flags) -> Result<(), Failure> {
-    out.push_str(" P=")?;
-    put_mark(out, flags.n, 'N')?;
-    put_mark(out, flags.v, 'V')?;
-    put_mark(out, flags.d, 'D')?;
-    put_mark(out, flags.i, 'I')?;
-    put_mark(out, flags.z, 'Z')?;
-    put_mark(out, flags.c, 'C')
-}
-
-fn put_mark(out: &mut String, is_set: bool, letter: char) -> Result<(), Failure> {
-    out.push(if is_set { letter } else { '.' })?;
-    Ok(())
+pub fn put_flags(page: &mut Page, flags: Flags) {
+    page.put(" P=");
+    let marks = [
+        (flags.n, "N"),
+        (flags.v, "V"),
+        (flags.d, "D"),
+        (flags.i, "I"),
+        (flags.z, "Z"),
+        (flags.c, "C"),
+    ];
+    for (is_set, letter) in marks {
+        page.put(if is_set { letter } else { "." });
+    }
 }

@@ -1,105 +1,81 @@
 //! What the grammar and the parser answer.
-use crate::source::failure::Failure;
-use std::alloc::Global;
-use tb_grammar::{ReadExpression, ReadStatement, Stop, read_expression, read_statement};
-use tb_parser::{Expr, Program, SourceError, Token, parse, parse_expr, tokens};
+use crate::page::Page;
+use tb_grammar::{read_expression, read_statement};
+use tb_parser::{SourceError, parse, parse_expr, tokens};
 
 // How many bytes are left at the first literal above 65,535.
-fn show_large(out: &mut String, large: Option<usize>) -> Result<(), Failure> {
+fn put_large(page: &mut Page, large: Option<usize>) {
     if let Some(left) = large {
-        write!(out, ", too large with {left} left")?;
+        page.put(format_args!(", too large with {left} left"));
     }
-    Ok(())
 }
 
 /// An expression over squeezed text.
-pub fn show_expression(alloc: Global, out: &mut String, text: &[u8]) -> Result<(), Failure> {
-    match read_expression(alloc, text) {
-        Ok(read) => show_read_expression(out, &read),
-        Err(stop) => show_stop(out, &stop),
+pub fn put_expression(page: &mut Page, text: &[u8]) {
+    match read_expression(page.alloc(), text) {
+        Ok(read) => {
+            page.put(format_args!(" {:?}", read.expr));
+            put_large(page, read.large);
+        }
+        Err(stop) => page.put(format_args!(" {stop:?}")),
     }
-}
-
-fn show_read_expression(out: &mut String, read: &ReadExpression) -> Result<(), Failure> {
-    write!(out, " {:?}", read.expr)?;
-    show_large(out, read.large)
-}
-
-// Why nothing was read.
-fn show_stop(out: &mut String, stop: &Stop) -> Result<(), Failure> {
-    write!(out, " {stop:?}")?;
-    Ok(())
 }
 
 /// A statement over squeezed text.
-pub fn show_statement(alloc: Global, out: &mut String, text: &[u8]) -> Result<(), Failure> {
-    match read_statement(alloc, text) {
-        Ok(read) => show_read_statement(out, &read),
-        Err(stop) => show_stop(out, &stop),
+pub fn put_statement(page: &mut Page, text: &[u8]) {
+    match read_statement(page.alloc(), text) {
+        Ok(read) => {
+            page.put(format_args!(" {:?}", read.statement));
+            put_large(page, read.large);
+        }
+        Err(stop) => page.put(format_args!(" {stop:?}")),
     }
-}
-
-fn show_read_statement(out: &mut String, read: &ReadStatement) -> Result<(), Failure> {
-    write!(out, " {:?}", read.statement)?;
-    show_large(out, read.large)
 }
 
 // What is wrong, and the line and the column.
-fn show_refusal(out: &mut String, error: SourceError) -> Result<(), Failure> {
-    write!(out, " {:?} {}:{}", error.kind, error.line, error.column)?;
-    Ok(())
+fn put_refusal(page: &mut Page, error: SourceError) {
+    let SourceError { kind, line, column } = error;
+    page.put(format_args!(" {kind:?} {line}:{column}"));
 }
 
 /// The lines of a source's map, each with its number.
-pub fn show_parsed(alloc: Global, out: &mut String, source: &[u8]) -> Result<(), Failure> {
-    match parse(alloc, source) {
-        Ok(program) => show_lines(out, &program),
-        Err(error) => show_refusal(out, error),
+pub fn put_parsed(page: &mut Page, source: &[u8]) {
+    match parse(page.alloc(), source) {
+        Ok(program) => {
+            for (number, statement) in program.lines() {
+                page.put(format_args!(" {number} {statement:?};"));
+            }
+        }
+        Err(error) => put_refusal(page, error),
     }
-}
-
-fn show_lines(out: &mut String, program: &Program) -> Result<(), Failure> {
-    for (number, statement) in program.lines() {
-        write!(out, " {number} {statement:?};")?;
-    }
-    Ok(())
 }
 
 /// An expression as a user writes it.
-pub fn show_parsed_expression(alloc: Global, out: &mut String, text: &[u8]) -> Result<(), Failure> {
-    match parse_expr(alloc, text) {
-        Ok(expr) => show_tree(out, &expr),
-        Err(error) => show_refusal(out, error),
+pub fn put_parsed_expression(page: &mut Page, text: &[u8]) {
+    match parse_expr(page.alloc(), text) {
+        Ok(expr) => page.put(format_args!(" {expr:?}")),
+        Err(error) => put_refusal(page, error),
     }
-}
-
-fn show_tree(out: &mut String, expr: &Expr) -> Result<(), Failure> {
-    write!(out, " {expr:?}")?;
-    Ok(())
 }
 
 /// The texts of a line's tokens.
-pub fn show_tokens(alloc: Global, out: &mut String, line: &[u8]) -> Result<(), Failure> {
-    let tokens = tokens(alloc, line)?;
-    show_each_text(out, &tokens)
-}
-
-fn show_each_text(out: &mut String, tokens: &[Token<'_>]) -> Result<(), Failure> {
-    for token in tokens {
-        write!(out, " \"{}\"", token.text.escape_ascii())?;
+pub fn put_tokens(page: &mut Page, line: &[u8]) {
+    let tokens = tokens(page.alloc(), line);
+    if let Some(tokens) = page.held(tokens) {
+        for token in tokens.as_slice() {
+            let text = token.text.escape_ascii();
+            page.put(format_args!(" \"{text}\""));
+        }
     }
-    Ok(())
 }
 
 /// What the tokens of a line are.
-pub fn show_kinds(alloc: Global, out: &mut String, line: &[u8]) -> Result<(), Failure> {
-    let tokens = tokens(alloc, line)?;
-    show_each_kind(out, &tokens)
-}
-
-fn show_each_kind(out: &mut String, tokens: &[Token<'_>]) -> Result<(), Failure> {
-    for token in tokens {
-        write!(out, " {:?}", token.kind)?;
+pub fn put_kinds(page: &mut Page, line: &[u8]) {
+    let tokens = tokens(page.alloc(), line);
+    if let Some(tokens) = page.held(tokens) {
+        for token in tokens.as_slice() {
+            let kind = token.kind;
+            page.put(format_args!(" {kind:?}"));
+        }
     }
-    Ok(())
 }

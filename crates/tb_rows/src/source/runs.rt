@@ -1,8 +1,7 @@
 //! What programs do when they run as sources, their slot code, and the values of expressions.
-use crate::source::failure::Failure;
-use std::alloc::Global;
-use tb_lower::{LowerError, SlotCode, SourceRun, Warning, eval, lower, run_source, warnings};
-use tb_parser::{Expr, Program, parse, parse_expr};
+use crate::page::Page;
+use tb_lower::{SlotCode, eval, lower, run_source, warnings};
+use tb_parser::{Program, parse, parse_expr};
 use tb_selection::select;
 
 /// The first state of RND.
@@ -11,153 +10,97 @@ const SEED: u16 = 1;
 /// More lines than any program takes that ends.
 const LIMIT: u64 = 2000;
 
-fn program(alloc: Global, source: &[u8]) -> Result<Program, Failure> {
-    parse(alloc, source).or(Err(Failure::Source))
+/// What a call answers that is given a program.
+pub fn put_program(page: &mut Page, name: &str, source: &[u8], beside: &[u8]) {
+    let program = parse(page.alloc(), source);
+    let Some(program) = page.held(program) else {
+        return;
+    };
+    match name {
+        "run" => put_run(page, &program, beside, &[]),
+        "poll" => put_run(page, &program, &[], beside),
+        "ten_lines" => put_ten_lines(page, &program),
+        "lower" | "groups" => put_lowered(page, name, &program),
+        "missing" => put_missing(page, &program),
+        _ => page.fail(),
+    }
 }
 
-/// How a run ends and what it sends.
-pub fn show_run(
-    alloc: Global,
-    out: &mut String,
-    source: &[u8],
-    keys: &[u8],
-    answers: &[u8],
-) -> Result<(), Failure> {
-    let program = program(alloc, source)?;
-    show_program_run(alloc, out, &program, keys, answers)
+// How a run ends and what it sends.
+fn put_run(page: &mut Page, program: &Program, keys: &[u8], answers: &[u8]) {
+    let run = run_source(page.alloc(), program, SEED, keys, answers, LIMIT);
+    if let Some(run) = page.held(run) {
+        let sent = run.sent.escape_ascii();
+        page.put(format_args!(" {:?} \"{sent}\"", run.end));
+    }
 }
 
-fn show_program_run(
-    alloc: Global,
-    out: &mut String,
-    program: &Program,
-    keys: &[u8],
-    answers: &[u8],
-) -> Result<(), Failure> {
-    let run = run_source(alloc, program, SEED, keys, answers, LIMIT)?;
-    show_ending(out, &run)
-}
-
-fn show_ending(out: &mut String, run: &SourceRun) -> Result<(), Failure> {
-    write!(out, " {:?} \"{}\"", run.end, run.sent.escape_ascii())?;
-    Ok(())
-}
-
-/// What ten lines of a run send, where it goes on and with which variables.
-pub fn show_ten_lines(alloc: Global, out: &mut String, source: &[u8]) -> Result<(), Failure> {
-    let program = program(alloc, source)?;
-    show_program_ten_lines(alloc, out, &program)
-}
-
-fn show_program_ten_lines(
-    alloc: Global,
-    out: &mut String,
-    program: &Program,
-) -> Result<(), Failure> {
-    let run = run_source(alloc, program, SEED, &[], &[], 10)?;
-    show_stand(out, &run)
-}
-
-fn show_stand(out: &mut String, run: &SourceRun) -> Result<(), Failure> {
-    show_ending(out, run)?;
-    write!(out, " {:?} {:?}", run.place, run.variables)?;
-    Ok(())
+// What ten lines of a run send, where it goes on and with which variables.
+fn put_ten_lines(page: &mut Page, program: &Program) {
+    let run = run_source(page.alloc(), program, SEED, &[], &[], 10);
+    if let Some(run) = page.held(run) {
+        let sent = run.sent.escape_ascii();
+        page.put(format_args!(
+            " {:?} \"{sent}\" {:?} {:?}",
+            run.end, run.place, run.variables
+        ));
+    }
 }
 
 /// The run of a long program that goes to the line that is typed in: lines 30, 40, .. 2990 each end, and 3000 prints.
-pub fn show_jump(alloc: Global, out: &mut String, keys: &[u8]) -> Result<(), Failure> {
-    let source = jump_source(alloc)?;
-    show_run(alloc, out, source.as_bytes(), keys, &[])
-}
-
-fn jump_source(alloc: Global) -> Result<String, Failure> {
-    let mut source = String::new(alloc);
-    push_jump_lines(&mut source)?;
-    Ok(source)
-}
-
-fn push_jump_lines(source: &mut String) -> Result<(), Failure> {
-    source.push_str("10 INPUT A\n20 GOTO A\n")?;
+pub fn put_jump(page: &mut Page, keys: &[u8]) {
+    let mut source = Page::new(page.alloc());
+    source.put("10 INPUT A\n20 GOTO A\n");
     for tens in 3u16..300 {
-        writeln!(source, "{tens}0 END")?;
+        source.put(format_args!("{tens}0 END\n"));
     }
-    source.push_str("3000 PRINT \"Z\"")?;
-    Ok(())
+    source.put("3000 PRINT \"Z\"");
+    put_program(page, "run", source.text().as_bytes(), keys);
 }
 
 /// The value of an expression where A is 5 and the other variables are 0.
-pub fn show_value(alloc: Global, out: &mut String, text: &[u8]) -> Result<(), Failure> {
-    let expr = parse_expr(alloc, text).or(Err(Failure::Source))?;
-    show_evaluated(out, &expr)
-}
-
-fn show_evaluated(out: &mut String, expr: &Expr) -> Result<(), Failure> {
-    let mut variables = [0; 26];
-    variables[0] = 5;
-    write!(out, " {:?}", eval(expr, &variables))?;
-    Ok(())
-}
-
-/// The slot code of each line of a program.
-pub fn show_slot_code(alloc: Global, out: &mut String, source: &[u8]) -> Result<(), Failure> {
-    let program = program(alloc, source)?;
-    show_lowered(alloc, out, &program)
-}
-
-fn show_lowered(alloc: Global, out: &mut String, program: &Program) -> Result<(), Failure> {
-    match lower(alloc, program) {
-        Ok(code) => show_code_lines(out, &code),
-        Err(error) => show_lower_error(out, error),
+pub fn put_value(page: &mut Page, text: &[u8]) {
+    let expr = parse_expr(page.alloc(), text);
+    if let Some(expr) = page.held(expr) {
+        let mut variables = [0; 26];
+        variables[0] = 5;
+        let value = eval(&expr, &variables);
+        page.put(format_args!(" {value:?}"));
     }
 }
 
-fn show_code_lines(out: &mut String, code: &SlotCode) -> Result<(), Failure> {
+// A program's slot code, or its groups.
+fn put_lowered(page: &mut Page, name: &str, program: &Program) {
+    match lower(page.alloc(), program) {
+        Ok(code) if name == "lower" => put_code(page, &code),
+        Ok(code) => put_groups(page, &code),
+        Err(error) => page.put(format_args!(" {error:?}")),
+    }
+}
+
+// The slot code of each line.
+fn put_code(page: &mut Page, code: &SlotCode) {
     for line in code.lines() {
-        write!(out, " {} {:?};", line.number, line.code)?;
-    }
-    Ok(())
-}
-
-fn show_lower_error(out: &mut String, error: LowerError) -> Result<(), Failure> {
-    write!(out, " {error:?}")?;
-    Ok(())
-}
-
-/// The groups of each line's slot code.
-pub fn show_groups(alloc: Global, out: &mut String, source: &[u8]) -> Result<(), Failure> {
-    let program = program(alloc, source)?;
-    show_selected(alloc, out, &program)
-}
-
-fn show_selected(alloc: Global, out: &mut String, program: &Program) -> Result<(), Failure> {
-    match lower(alloc, program) {
-        Ok(code) => show_group_lines(alloc, out, &code),
-        Err(error) => show_lower_error(out, error),
+        page.put(format_args!(" {} {:?};", line.number, line.code));
     }
 }
 
-fn show_group_lines(alloc: Global, out: &mut String, code: &SlotCode) -> Result<(), Failure> {
+// The groups of each line's slot code.
+fn put_groups(page: &mut Page, code: &SlotCode) {
     for line in code.lines() {
-        let groups = select(alloc, &line.code)?;
-        write!(out, " {} {groups:?};", line.number)?;
+        let groups = select(page.alloc(), &line.code);
+        if let Some(groups) = page.held(groups) {
+            page.put(format_args!(" {} {groups:?};", line.number));
+        }
     }
-    Ok(())
 }
 
-/// The constant targets that a program lacks, each behind its line's number.
-pub fn show_missing(alloc: Global, out: &mut String, source: &[u8]) -> Result<(), Failure> {
-    let program = program(alloc, source)?;
-    show_program_missing(alloc, out, &program)
-}
-
-fn show_program_missing(alloc: Global, out: &mut String, program: &Program) -> Result<(), Failure> {
-    let warnings = warnings(alloc, program)?;
-    show_warnings(out, &warnings)
-}
-
-fn show_warnings(out: &mut String, warnings: &[Warning]) -> Result<(), Failure> {
-    for warning in warnings {
-        write!(out, " {} to {}", warning.line, warning.target)?;
+// The constant targets that a program lacks, each behind its line's number.
+fn put_missing(page: &mut Page, program: &Program) {
+    let warnings = warnings(page.alloc(), program);
+    if let Some(warnings) = page.held(warnings) {
+        for warning in warnings.as_slice() {
+            page.put(format_args!(" {} to {}", warning.line, warning.target));
+        }
     }
-    Ok(())
 }

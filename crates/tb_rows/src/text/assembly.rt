@@ -1,111 +1,158 @@
 //! The assembler.
-use crate::text::rows::{
-    Failure, address_of, append_bytes, append_text, number_of, text_of, word_of,
-};
-use std::alloc::Global;
-use std::fmt::Write;
-use tb_asm::{Image, Item, Name, Operand, assemble, read_text, settle};
+use crate::notation::{cut, decoded, hex_word, number};
+use crate::page::Page;
+use crate::text::writing::{put_bytes, put_text};
+use tb_asm::{AsmError, Image, Item, Name, Operand, assemble, read_text, settle};
 use tb_opcodes::{Mnemonic, Mode};
 use tb_settling::assemble_settled;
 
-fn append_zeros(count: u64, text: &mut Vec<u8>) -> Result<(), Failure> {
-    text.extend_from_slice(b".byte $00")?;
-    for _ in 1..count {
-        text.extend_from_slice(b",$00")?;
+/// Appends the answer of a row.
+pub fn put_answer(page: &mut Page, name: &str, rest: &str) {
+    match name {
+        "assemble" => put_image_of(page, rest),
+        "settle" => put_settled(page, rest),
+        "lay" => put_laid(page, rest),
+        "one-byte-absolute" => put_one_byte(page, rest),
+        "label" => put_label(page, rest),
+        "name" => put_name(page, rest),
+        _ => page.fail(),
     }
-    Ok(())
 }
 
-// The items of a text, in which `[9]` stands for `.byte` and nine zeros.
-fn items_of(alloc: Global, escaped: &str) -> Result<Vec<Item>, Failure> {
+/// The items of a text. Says why there are none.
+pub fn items_in(page: &mut Page, text: &[u8]) -> Option<Vec<Item>> {
+    match read_text(page.alloc(), text) {
+        Ok(items) => Some(items),
+        Err(error) => {
+            page.put(format_args!("Text({error:?})"));
+            None
+        }
+    }
+}
+
+// The items of a row's text, in which `[9]` stands for `.byte` and nine zeros.
+fn items_of(page: &mut Page, escaped: &str) -> Option<Vec<Item>> {
     let (before, rest) = escaped.split_once('[').unwrap_or((escaped, ""));
-    let mut text = text_of(alloc, before)?;
+    let mut text = Page::new(page.alloc());
+    text.put(before);
     if let Some((count, behind)) = rest.split_once(']') {
-        append_zeros(number_of(count)?.0, &mut text)?;
-        text.extend_from_slice(text_of(alloc, behind)?.as_slice())?;
+        text.put(".byte $00");
+        for _ in 1..number(page, count) {
+            text.put(",$00");
+        }
+        text.put(behind);
     }
-    read_text(alloc, text.as_slice()).map_err(Failure::Text)
+    let text = decoded(page, text.text());
+    items_in(page, &text)
 }
 
-fn assembled(alloc: Global, at: u16, items: &[Item]) -> Result<Image, Failure> {
-    assemble(alloc, at, items).map_err(Failure::Item)
+/// Says why items were not assembled.
+pub fn put_refusal(page: &mut Page, error: AsmError) {
+    page.put(format_args!("Item({error:?})"));
 }
 
-// The image of a row's text at its address.
-fn image_of(alloc: Global, row: &str) -> Result<Image, Failure> {
-    let (at, text) = address_of(row)?;
-    assembled(alloc, at, items_of(alloc, text)?.as_slice())
+/// The image of items at an address. Says why there is none.
+pub fn assembled(page: &mut Page, at: u16, items: &[Item]) -> Option<Image> {
+    match assemble(page.alloc(), at, items) {
+        Ok(image) => Some(image),
+        Err(error) => {
+            put_refusal(page, error);
+            None
+        }
+    }
+}
+
+fn put_assembled(page: &mut Page, at: u16, items: &[Item]) {
+    if let Some(image) = assembled(page, at, items) {
+        put_bytes(page, &image.bytes);
+    }
+}
+
+// The bytes of a row's text at its address.
+fn put_image_of(page: &mut Page, row: &str) {
+    let (at, text) = cut(row);
+    let at = hex_word(page, at);
+    if let Some(items) = items_of(page, text) {
+        put_assembled(page, at, &items);
+    }
 }
 
 // The bytes of a text whose branches are settled.
-fn append_settled(alloc: Global, row: &str, out: &mut String) -> Result<(), Failure> {
-    let (at, text) = address_of(row)?;
-    let items = items_of(alloc, text)?;
-    let settled = settle(alloc, at, items.as_slice()).map_err(Failure::Item)?;
-    if settled.as_slice() == items.as_slice() {
-        out.push_str("the same items, ")?;
+fn put_settled(page: &mut Page, row: &str) {
+    let (at, text) = cut(row);
+    let at = hex_word(page, at);
+    let Some(items) = items_of(page, text) else {
+        return;
+    };
+    match settle(page.alloc(), at, &items) {
+        Ok(settled) => {
+            if settled.as_slice() == items.as_slice() {
+                page.put("the same items, ");
+            }
+            put_assembled(page, at, &settled);
+        }
+        Err(error) => put_refusal(page, error),
     }
-    let image = assembled(alloc, at, settled.as_slice())?;
-    append_bytes(image.bytes.as_slice(), out)?;
-    Ok(())
+}
+
+fn put_labels(page: &mut Page, image: &Image) {
+    page.put(format_args!(", from {:04X}:", image.at));
+    for address in image.labels.values() {
+        page.put(format_args!(" {address:04X}"));
+    }
 }
 
 // The bytes of a text that is settled and assembled at once, and its labels' addresses.
-fn append_laid(alloc: Global, row: &str, out: &mut String) -> Result<(), Failure> {
-    let (at, text) = address_of(row)?;
-    let items = items_of(alloc, text)?;
-    let image = assemble_settled(alloc, at, items.as_slice()).map_err(Failure::Item)?;
-    append_bytes(image.bytes.as_slice(), out)?;
-    write!(out, ", from {:04X}:", image.at)?;
-    for address in image.labels.values() {
-        write!(out, " {address:04X}")?;
+fn put_laid(page: &mut Page, row: &str) {
+    let (at, text) = cut(row);
+    let at = hex_word(page, at);
+    let Some(items) = items_of(page, text) else {
+        return;
+    };
+    match assemble_settled(page.alloc(), at, &items) {
+        Ok(image) => {
+            put_bytes(page, &image.bytes);
+            put_labels(page, &image);
+        }
+        Err(error) => put_refusal(page, error),
     }
-    Ok(())
 }
 
 // The refusal of an instruction whose operand is a byte where its mode takes a word.
-fn append_one_byte(alloc: Global, row: &str, out: &mut String) -> Result<(), Failure> {
-    let (at, _) = address_of(row)?;
+fn put_one_byte(page: &mut Page, row: &str) {
+    let (at, _) = cut(row);
+    let at = hex_word(page, at);
     let items = [Item::Instr(Mnemonic::Lda, Mode::Absolute, Operand::Byte(5))];
-    let image = assembled(alloc, at, items.as_slice())?;
-    append_bytes(image.bytes.as_slice(), out)?;
-    Ok(())
+    put_assembled(page, at, &items);
 }
 
 // The address of the label with a name, and those of all labels in order.
-fn append_labels(alloc: Global, row: &str, out: &mut String) -> Result<(), Failure> {
-    let (name, rest) = word_of(row);
-    let image = image_of(alloc, rest)?;
+fn put_label(page: &mut Page, row: &str) {
+    let (name, rest) = cut(row);
+    let (at, text) = cut(rest);
+    let at = hex_word(page, at);
+    let Some(items) = items_of(page, text) else {
+        return;
+    };
+    if let Some(image) = assembled(page, at, &items) {
+        put_found(page, &image, name);
+        put_labels(page, &image);
+    }
+}
+
+fn put_found(page: &mut Page, image: &Image, name: &str) {
     let Some(name) = Name::read(name.as_bytes()) else {
-        return Err(Failure::Row);
+        return page.fail();
     };
     match image.address_of(&name) {
-        Some(address) => write!(out, "{address:04X}, from {:04X}:", image.at)?,
-        None => write!(out, "none, from {:04X}:", image.at)?,
+        Some(address) => page.put(format_args!("{address:04X}")),
+        None => page.put("none"),
     }
-    for address in image.labels.values() {
-        write!(out, " {address:04X}")?;
-    }
-    Ok(())
 }
 
-fn append_name(text: &str, out: &mut String) -> Result<(), Failure> {
+fn put_name(page: &mut Page, text: &str) {
     match Name::read(text.as_bytes()) {
-        Some(name) => append_text(name.letters.as_slice(), out),
-        None => Ok(out.push_str("none")?),
-    }
-}
-
-/// Appends the answer of a row.
-pub fn answer(alloc: Global, row: &str, out: &mut String) -> Result<(), Failure> {
-    let (word, rest) = word_of(row);
-    match word {
-        "assemble" => Ok(append_bytes(image_of(alloc, rest)?.bytes.as_slice(), out)?),
-        "settle" => append_settled(alloc, rest, out),
-        "lay" => append_laid(alloc, rest, out),
-        "one-byte-absolute" => append_one_byte(alloc, rest, out),
-        "label" => append_labels(alloc, rest, out),
-        "name" => append_name(rest, out),
-        _ => Err(Failure::Row),
+        Some(name) => put_text(page, name.letters.as_slice()),
+        None => page.put("none"),
     }
 }

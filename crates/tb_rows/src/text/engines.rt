@@ -1,10 +1,9 @@
 //! The engines, and what they answer.
-use crate::text::failing::{append_prefixes, failing_readers, failing_writers, flushed_writers};
-use crate::text::rows::{
-    Failure, address_of, append_bytes, append_text, bytes_of, number_of, text_of, word_of,
-};
+use crate::notation::{bytes_of, cut, decoded, hex_word, number};
+use crate::page::Page;
+use crate::text::failing::{put_failing_readers, put_failing_writers, put_flushed, put_prefixes};
+use crate::text::writing::{put_bytes, put_text};
 use std::alloc::Global;
-use std::fmt::Write as _;
 use std::io::{Read, Write};
 use tb_engines::{Outcome, asm_text, dis_text, run_prg};
 use tb_kernal::{Keyboard, Quiet, Rude};
@@ -18,13 +17,6 @@ pub enum Engine {
     List,
 }
 
-/// An engine with its input.
-#[derive(Drop)]
-pub struct Job {
-    pub engine: Engine,
-    pub input: Vec<u8>,
-}
-
 /// What an engine wrote, and how it ended.
 #[derive(Drop)]
 pub struct Ending {
@@ -32,21 +24,49 @@ pub struct Ending {
     pub wrote: Vec<u8>,
 }
 
-fn job_of(alloc: Global, row: &str) -> Result<Job, Failure> {
-    let (word, rest) = word_of(row);
-    let (engine, input) = match word {
-        "run" => {
-            let (limit, file) = number_of(rest)?;
-            (Engine::Run(limit), bytes_of(alloc, file)?)
-        }
-        "asm" => {
-            let (at, text) = address_of(rest)?;
-            (Engine::Assemble(at), text_of(alloc, text)?)
-        }
-        "dis" => (Engine::List, bytes_of(alloc, rest)?),
-        _ => return Err(Failure::Row),
-    };
-    Ok(Job { engine, input })
+/// Appends the answer of a row.
+pub fn put_answer(page: &mut Page, name: &str, rest: &str, row: &str) {
+    match name {
+        "keyed" => put_keyed(page, rest),
+        "repeated" => put_repeated(page, rest),
+        "faults" => put_faults(page),
+        "run" | "asm" | "dis" => put_job(page, "", row),
+        _ => put_job(page, name, rest),
+    }
+}
+
+// What is tried on an engine and its input.
+fn put_job(page: &mut Page, name: &str, row: &str) {
+    let (word, rest) = cut(row);
+    let (engine, input) = job_of(page, word, rest);
+    match name {
+        "" => put_whole(page, engine, &input),
+        "prefixes" => put_prefixes(page, engine, &input),
+        "reader-fails" => put_failing_readers(page, engine, &input),
+        "writer-fails" => put_failing_writers(page, engine, &input),
+        "flushed" => put_flushed(page, engine, &input),
+        _ => page.fail(),
+    }
+}
+
+fn job_of(page: &mut Page, word: &str, rest: &str) -> (Engine, Vec<u8>) {
+    let (first, input) = cut(rest);
+    match word {
+        "run" => (Engine::Run(number(page, first)), bytes_of(page, input)),
+        "asm" => (
+            Engine::Assemble(hex_word(page, first)),
+            decoded(page, input),
+        ),
+        _ => (Engine::List, bytes_of(page, rest)),
+    }
+}
+
+/// No keys.
+pub fn no_keys(alloc: Global) -> Keyboard {
+    Keyboard {
+        text: Vec::new(alloc),
+        answers: Vec::new(alloc),
+    }
 }
 
 /// Calls an engine, with no keys for a program and a quiet outside.
@@ -57,13 +77,7 @@ pub fn call<R: Read, W: Write>(
     writer: &mut Tracked<W>,
 ) -> Outcome {
     match engine {
-        Engine::Run(limit) => {
-            let no_keys = Keyboard {
-                text: Vec::new(alloc),
-                answers: Vec::new(alloc),
-            };
-            run_prg(alloc, reader, writer, no_keys, limit, &mut Quiet)
-        }
+        Engine::Run(limit) => run_prg(alloc, reader, writer, no_keys(alloc), limit, &mut Quiet),
         Engine::Assemble(at) => asm_text(alloc, reader, writer, at),
         Engine::List => dis_text(alloc, reader, writer),
     }
@@ -80,76 +94,75 @@ pub fn ending_of(alloc: Global, engine: Engine, input: &[u8]) -> Ending {
 }
 
 /// Appends the status and the text for standard error.
-pub fn append_status(outcome: Outcome, out: &mut String) -> Result<(), Failure> {
-    write!(out, "{} \"{outcome}\"", outcome.status())?;
-    Ok(())
+pub fn put_status(page: &mut Page, outcome: Outcome) {
+    page.put(format_args!("{} \"{outcome}\"", outcome.status()));
 }
 
 /// Appends the status, the text for standard error, and what was written: of the assembler bytes, else a text.
-pub fn append_ending(engine: Engine, ending: &Ending, out: &mut String) -> Result<(), Failure> {
-    append_status(ending.outcome, out)?;
-    out.push(' ')?;
+pub fn put_ending(page: &mut Page, engine: Engine, ending: &Ending) {
+    put_status(page, ending.outcome);
+    page.put(" ");
     match engine {
-        Engine::Assemble(_) => Ok(append_bytes(ending.wrote.as_slice(), out)?),
-        Engine::Run(_) | Engine::List => append_text(ending.wrote.as_slice(), out),
+        Engine::Assemble(_) => put_bytes(page, &ending.wrote),
+        Engine::Run(_) | Engine::List => put_text(page, &ending.wrote),
     }
 }
 
-fn append_job(alloc: Global, job: &Job, out: &mut String) -> Result<(), Failure> {
-    let ending = ending_of(alloc, job.engine, job.input.as_slice());
-    append_ending(job.engine, &ending, out)
+fn put_whole(page: &mut Page, engine: Engine, input: &[u8]) {
+    let ending = ending_of(page.alloc(), engine, input);
+    put_ending(page, engine, &ending);
 }
 
 // Runs a program that is given keys, beside a hostile ROM.
-fn append_keyed(alloc: Global, row: &str, out: &mut String) -> Result<(), Failure> {
-    let (limit, rest) = number_of(row)?;
-    let (text, rest) = word_of(rest);
-    let (answers, file) = word_of(rest);
+fn put_keyed(page: &mut Page, row: &str) {
+    let (limit, rest) = cut(row);
+    let limit = number(page, limit);
+    let (text, rest) = cut(rest);
+    let (answers, file) = cut(rest);
     let keyboard = Keyboard {
-        text: bytes_of(alloc, text)?,
-        answers: bytes_of(alloc, answers)?,
+        text: bytes_of(page, text),
+        answers: bytes_of(page, answers),
     };
-    let file = bytes_of(alloc, file)?;
-    let mut reader = Tracked::new(file.as_slice());
+    let file = bytes_of(page, file);
+    let ending = keyed(page.alloc(), &file, keyboard, limit);
+    put_ending(page, Engine::Run(limit), &ending);
+}
+
+fn keyed(alloc: Global, file: &[u8], keyboard: Keyboard, limit: u64) -> Ending {
     let mut writer = Tracked::new(Vec::new(alloc));
-    let outside = &mut Rude::new(1);
-    let outcome = run_prg(alloc, &mut reader, &mut writer, keyboard, limit, outside);
-    let wrote = writer.stream;
-    append_ending(Engine::Run(limit), &Ending { outcome, wrote }, out)
+    let mut reader = Tracked::new(file);
+    let outcome = run_prg(
+        alloc,
+        &mut reader,
+        &mut writer,
+        keyboard,
+        limit,
+        &mut Rude::new(1),
+    );
+    Ending {
+        outcome,
+        wrote: writer.stream,
+    }
 }
 
 // Calls an engine with one byte so many times in place of its input.
-fn append_repeated(alloc: Global, row: &str, out: &mut String) -> Result<(), Failure> {
-    let (count, rest) = number_of(row)?;
-    let (byte, rest) = word_of(rest);
-    let byte = bytes_of(alloc, byte)?;
-    let mut input = Vec::new(alloc);
-    for _ in 0..count {
-        input.extend_from_slice(byte.as_slice())?;
+fn put_repeated(page: &mut Page, row: &str) {
+    let (count, rest) = cut(row);
+    let (byte, rest) = cut(rest);
+    let mut input = Vec::new(page.alloc());
+    for _ in 0..number(page, count) {
+        let grown = input.extend_from_slice(&bytes_of(page, byte));
+        page.held(grown);
     }
-    let engine = job_of(alloc, rest)?.engine;
-    append_job(alloc, &Job { engine, input }, out)
+    let (word, rest) = cut(rest);
+    let (engine, _) = job_of(page, word, rest);
+    put_whole(page, engine, &input);
 }
 
-fn append_faults(out: &mut String) -> Result<(), Failure> {
-    append_status(Outcome::ReadFault, out)?;
-    out.push_str(", ")?;
-    append_status(Outcome::WriteFault, out)?;
-    out.push_str(", ")?;
-    append_status(Outcome::NoMemory, out)
-}
-
-/// Appends the answer of a row.
-pub fn answer(alloc: Global, row: &str, out: &mut String) -> Result<(), Failure> {
-    let (word, rest) = word_of(row);
-    match word {
-        "keyed" => append_keyed(alloc, rest, out),
-        "prefixes" => append_prefixes(alloc, &job_of(alloc, rest)?, out),
-        "reader-fails" => failing_readers(alloc, &job_of(alloc, rest)?, out),
-        "writer-fails" => failing_writers(alloc, &job_of(alloc, rest)?, out),
-        "flushed" => flushed_writers(alloc, &job_of(alloc, rest)?, out),
-        "repeated" => append_repeated(alloc, rest, out),
-        "faults" => append_faults(out),
-        _ => append_job(alloc, &job_of(alloc, row)?, out),
-    }
+fn put_faults(page: &mut Page) {
+    put_status(page, Outcome::ReadFault);
+    page.put(", ");
+    put_status(page, Outcome::WriteFault);
+    page.put(", ");
+    put_status(page, Outcome::NoMemory);
 }

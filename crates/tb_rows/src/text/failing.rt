@@ -1,66 +1,75 @@
 //! Engines over inputs that are cut off anywhere, over readers and writers that fail anywhere, and over writers that hold
 //! bytes back.
-use crate::text::engines::{Job, append_ending, append_status, call, ending_of};
-use crate::text::rows::Failure;
+use crate::page::Page;
+use crate::text::engines::{Engine, call, ending_of, put_ending, put_status};
 use std::alloc::Global;
-use std::fmt::Write;
 use tb_engines::{End, Outcome};
 use tb_failing_streams::{FailingReader, FailingWriter, HoldingWriter};
 use tb_streams::Tracked;
 
 /// Appends a line for each length of input from which on the answer is another than before.
-pub fn append_prefixes(alloc: Global, job: &Job, out: &mut String) -> Result<(), Failure> {
-    out.push_str("by length")?;
-    let mut last = String::new(alloc);
-    for length in 0..=job.input.len() {
-        let ending = ending_of(alloc, job.engine, &job.input[..length]);
-        let mut shown = String::new(alloc);
-        append_ending(job.engine, &ending, &mut shown)?;
-        if shown != last {
-            write!(out, "\n  from {length} on {shown}")?;
+pub fn put_prefixes(page: &mut Page, engine: Engine, input: &[u8]) {
+    page.put("by length");
+    let mut last = Page::new(page.alloc());
+    for length in 0..=input.len() {
+        let ending = ending_of(page.alloc(), engine, &input[..length]);
+        let mut shown = Page::new(page.alloc());
+        put_ending(&mut shown, engine, &ending);
+        if shown.text() != last.text() {
+            page.put(format_args!("\n  from {length} on {}", shown.text()));
         }
         last = shown;
     }
-    Ok(())
 }
 
 // Whether an engine ends in a read fault, and writes nothing, where its reader fails behind so many bytes.
-fn reader_fails(alloc: Global, job: &Job, until_fault: usize, most: usize) -> bool {
+fn reader_fails(
+    alloc: Global,
+    engine: Engine,
+    input: &[u8],
+    until_fault: usize,
+    most: usize,
+) -> bool {
     let mut reader = Tracked::new(FailingReader {
-        rest: job.input.as_slice(),
+        rest: input,
         until_fault,
         most,
     });
     let mut writer = Tracked::new(Vec::new(alloc));
-    let outcome = call(alloc, job.engine, &mut reader, &mut writer);
+    let outcome = call(alloc, engine, &mut reader, &mut writer);
     outcome == Outcome::ReadFault && reader.failures() == 1 && writer.stream.is_empty()
 }
 
 /// Appends how many readers that fail were met by a read fault, or the first that was not.
-pub fn failing_readers(alloc: Global, job: &Job, out: &mut String) -> Result<(), Failure> {
+pub fn put_failing_readers(page: &mut Page, engine: Engine, input: &[u8]) {
     let mut met = 0u64;
-    for until_fault in 0..=job.input.len() {
+    for until_fault in 0..=input.len() {
         for most in [1, 7, 4096] {
-            if !reader_fails(alloc, job, until_fault, most) {
-                write!(out, "no fault behind {until_fault}, {most} at once")?;
-                return Ok(());
+            if !reader_fails(page.alloc(), engine, input, until_fault, most) {
+                page.put(format_args!("no fault behind {until_fault}, {most} at once"));
+                return;
             }
             met = met.saturating_add(1);
         }
     }
-    write!(out, "{met} faults, and nothing written")?;
-    Ok(())
+    page.put(format_args!("{met} faults, and nothing written"));
 }
 
 // Whether an engine writes what its writer takes of the whole text, and tells of a fault where that is not all.
-fn writer_fails(alloc: Global, job: &Job, whole: &[u8], until_fault: usize, most: usize) -> bool {
+fn writer_fails(
+    alloc: Global,
+    engine: Engine,
+    input: &[u8],
+    whole: &[u8],
+    until_fault: usize,
+    most: usize,
+) -> bool {
     let mut writer = Tracked::new(FailingWriter {
         taken: Vec::new(alloc),
         until_fault,
         most,
     });
-    let mut reader = Tracked::new(job.input.as_slice());
-    let outcome = call(alloc, job.engine, &mut reader, &mut writer);
+    let outcome = call(alloc, engine, &mut Tracked::new(input), &mut writer);
     let wanted = if until_fault < whole.len() {
         Outcome::WriteFault
     } else {
@@ -71,47 +80,38 @@ fn writer_fails(alloc: Global, job: &Job, whole: &[u8], until_fault: usize, most
 
 /// Appends the answer over a writer that does not fail, and how many that fail took a prefix of it, or the first
 /// that did not.
-pub fn failing_writers(alloc: Global, job: &Job, out: &mut String) -> Result<(), Failure> {
-    let whole = ending_of(alloc, job.engine, job.input.as_slice());
-    append_ending(job.engine, &whole, out)?;
+pub fn put_failing_writers(page: &mut Page, engine: Engine, input: &[u8]) {
+    let whole = ending_of(page.alloc(), engine, input);
+    put_ending(page, engine, &whole);
     let mut met = 0u64;
     for until_fault in 0..=whole.wrote.len() {
         for most in [1, 2, 4096] {
-            if !writer_fails(alloc, job, whole.wrote.as_slice(), until_fault, most) {
-                write!(out, ", and no prefix behind {until_fault}, {most} at once")?;
-                return Ok(());
+            if !writer_fails(page.alloc(), engine, input, &whole.wrote, until_fault, most) {
+                page.put(format_args!(", and no prefix behind {until_fault}, {most} at once"));
+                return;
             }
             met = met.saturating_add(1);
         }
     }
-    write!(out, ", and a prefix of it {met} times")?;
-    Ok(())
-}
-
-// Calls an engine with a writer that hands bytes on when it is flushed, and appends how the call ended, and how many of
-// the bytes written were handed on.
-fn append_flushed(alloc: Global, job: &Job, fails: bool, out: &mut String) -> Result<(), Failure> {
-    let mut writer = Tracked::new(HoldingWriter {
-        taken: Vec::new(alloc),
-        handed_on: 0,
-        fails,
-    });
-    let mut reader = Tracked::new(job.input.as_slice());
-    let outcome = call(alloc, job.engine, &mut reader, &mut writer);
-    append_status(outcome, out)?;
-    let held = writer.stream;
-    write!(
-        out,
-        ", {} of {} handed on",
-        held.handed_on,
-        held.taken.len()
-    )?;
-    Ok(())
+    page.put(format_args!(", and a prefix of it {met} times"));
 }
 
 /// Appends what comes of a writer that hands bytes on when it is flushed, and of one whose flush fails.
-pub fn flushed_writers(alloc: Global, job: &Job, out: &mut String) -> Result<(), Failure> {
-    append_flushed(alloc, job, false, out)?;
-    out.push_str(", else ")?;
-    append_flushed(alloc, job, true, out)
+pub fn put_flushed(page: &mut Page, engine: Engine, input: &[u8]) {
+    put_held(page, engine, input, false);
+    page.put(", else ");
+    put_held(page, engine, input, true);
+}
+
+// How a call ends with such a writer, and how many of the bytes written were handed on.
+fn put_held(page: &mut Page, engine: Engine, input: &[u8], fails: bool) {
+    let mut writer = Tracked::new(HoldingWriter {
+        taken: Vec::new(page.alloc()),
+        handed_on: 0,
+        fails,
+    });
+    let outcome = call(page.alloc(), engine, &mut Tracked::new(input), &mut writer);
+    put_status(page, outcome);
+    let (handed_on, taken) = (writer.stream.handed_on, writer.stream.taken.len());
+    page.put(format_args!(", {handed_on} of {taken} handed on"));
 }

@@ -1,34 +1,47 @@
 //! Key lists, addresses, and the text in which sent bytes are shown.
-use crate::text::rows::{Failure, append_bytes, append_text, bytes_of, text_of, word_of};
-use std::alloc::Global;
-use std::fmt::Write;
+use crate::notation::{bytes_of, decoded};
+use crate::page::Page;
+use crate::text::writing::{put_bytes, put_text};
 use std::str;
 use tb_streams::{KeyError, address, host_form, key_list};
 
-fn append_keys(alloc: Global, escaped: &str, out: &mut String) -> Result<(), Failure> {
-    let text = text_of(alloc, escaped)?;
-    let Ok(text) = str::from_utf8(text.as_slice()) else {
-        return Err(Failure::Row);
-    };
-    let keys = key_list(alloc, text).map_err(Failure::Keys)?;
-    append_bytes(keys.as_slice(), out)?;
-    Ok(())
+/// Appends the answer of a row.
+pub fn put_answer(page: &mut Page, name: &str, rest: &str) {
+    match name {
+        "keys" => put_keys(page, rest),
+        "address" => put_address(page, rest),
+        "key-errors" => page.put(format_args!("{}, {}", KeyError::BadKeys, KeyError::NoMemory)),
+        "sent" => put_sent(page, rest),
+        _ => page.fail(),
+    }
 }
 
-/// Appends the answer of a row.
-pub fn answer(alloc: Global, row: &str, out: &mut String) -> Result<(), Failure> {
-    let (word, rest) = word_of(row);
-    match word {
-        "keys" => append_keys(alloc, rest, out),
-        "address" => match address(rest) {
-            Some(address) => Ok(write!(out, "{address:04X}")?),
-            None => Ok(out.push_str("none")?),
-        },
-        "key-errors" => Ok(write!(out, "{}, {}", KeyError::BadKeys, KeyError::NoMemory)?),
-        "sent" => {
-            let sent = bytes_of(alloc, rest)?;
-            append_text(host_form(alloc, sent.as_slice())?.as_slice(), out)
-        }
-        _ => Err(Failure::Row),
+fn put_keys(page: &mut Page, escaped: &str) {
+    let text = decoded(page, escaped);
+    match str::from_utf8(&text) {
+        Ok(text) => put_key_list(page, text),
+        Err(_) => page.fail(),
+    }
+}
+
+fn put_key_list(page: &mut Page, text: &str) {
+    match key_list(page.alloc(), text) {
+        Ok(keys) => put_bytes(page, &keys),
+        Err(error) => page.put(format_args!("Keys({error:?})")),
+    }
+}
+
+fn put_address(page: &mut Page, text: &str) {
+    match address(text) {
+        Some(address) => page.put(format_args!("{address:04X}")),
+        None => page.put("none"),
+    }
+}
+
+fn put_sent(page: &mut Page, groups: &str) {
+    let sent = bytes_of(page, groups);
+    let shown = host_form(page.alloc(), &sent);
+    if let Some(shown) = page.held(shown) {
+        put_text(page, &shown);
     }
 }

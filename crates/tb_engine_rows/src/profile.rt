@@ -1,0 +1,5 @@
+//! Profiles of sources beside tables that an independent processor counted, pages, and streams that fail.
+mod pages;
+mod programs;
+mod streams;
+mod tables;

@@ -1,0 +1,162 @@
+//! The programs that are profiled, with their tables.
+use std::alloc::Global;
+use std::io::{Read, Write};
+use tb_kernal::{Keyboard, Quiet};
+use tb_profile_engine::{Profiled, profile_text};
+use tb_streams::Tracked;
+
+/// A source, what is typed, a limit of events, and what comes of it.
+pub struct Program {
+    pub name: &'static str,
+    pub source: &'static [u8],
+    pub keys: &'static [u8],
+    pub limit: u32,
+    pub status: u8,
+    pub table: &'static [u8],
+}
+
+/// The status and the page of a profile.
+pub fn profiles<R: Read, W: Write>(
+    alloc: Global,
+    program: &Program,
+    reader: &mut Tracked<R>,
+    writer: &mut Tracked<W>,
+) -> (u8, Vec<u8>) {
+    let Ok(text) = Vec::from_slice(alloc, program.keys) else {
+        return (4, Vec::new(alloc));
+    };
+    let keyboard = Keyboard {
+        text,
+        answers: Vec::new(alloc),
+    };
+    let Profiled { report, page } = profile_text(
+        alloc,
+        reader,
+        writer,
+        1,
+        keyboard,
+        program.limit,
+        &mut Quiet,
+    );
+    (report.outcome.status(), page)
+}
+
+pub const PROGRAMS: [Program; 8] = [
+    Program {
+        name: "a loop",
+        source: b"10 LET I=1\n20 PRINT I\n30 LET I=I+1\n40 IF I<6 GOTO 20\n50 END\n",
+        keys: b"",
+        limit: 100_000,
+        status: 0,
+        table: b" line      times instructions        cycles   share  statement
+start          1          192           634   32.5%
+   10          1            8            29    1.5%  LET I=1
+   20          5          270           895   45.9%  PRINT I
+   30          5           55           195   10.0%  LET I=I+1
+   40          5           50           174    8.9%  IF I<6 GOTO 20
+   50          1            5            23    1.2%  END
+  sum         17          580          1950  100.0%
+",
+    },
+    Program {
+        name: "GOSUB",
+        source: b"10 LET A=7\n20 GOSUB 100\n30 GOSUB 100\n40 END\n100 PRINT A*A\n110 RETURN\n",
+        keys: b"",
+        limit: 100_000,
+        status: 0,
+        table: b" line      times instructions        cycles   share  statement
+start          1          192           634   29.1%
+   10          1            8            29    1.3%  LET A=7
+   20          1           24            91    4.2%  GOSUB 100
+   30          1           24            91    4.2%  GOSUB 100
+   40          1            5            23    1.1%  END
+  100          2          342          1146   52.7%  PRINT A*A
+  110          2           42           162    7.4%  RETURN
+  sum          8          637          2176  100.0%
+",
+    },
+    Program {
+        name: "a fault",
+        source: b"10 LET A=0\n20 PRINT 1/A\n30 PRINT 2\n",
+        keys: b"",
+        limit: 100_000,
+        status: 0,
+        table: b" line      times instructions        cycles   share  statement
+start          1          192           634   52.0%
+   10          1            8            29    2.4%  LET A=0
+   20          1          161           556   45.6%  PRINT 1/A
+   30          0            0             0    0.0%  PRINT 2
+  sum          2          361          1219  100.0%
+",
+    },
+    Program {
+        name: "a wait for a key",
+        source: b"10 PRINT \"HOW MANY\"\n20 INPUT A,B\n30 PRINT A+B\n",
+        keys: b"12\r",
+        limit: 100_000,
+        status: 6,
+        table: b" line      times instructions        cycles   share  statement
+start          1          192           634   35.7%
+   10          1          120           486   27.4%  PRINT \"HOW MANY\"
+   20          1          188           656   36.9%  INPUT A,B
+   30          0            0             0    0.0%  PRINT A+B
+  sum          2          500          1776  100.0%
+",
+    },
+    Program {
+        name: "an end before any line",
+        source: b"10 PRINT 1\n20 END\n",
+        keys: b"",
+        limit: 100,
+        status: 5,
+        table: b" line      times instructions        cycles   share  statement
+start          1          100           331  100.0%
+   10          0            0             0    0.0%  PRINT 1
+   20          0            0             0    0.0%  END
+  sum          0          100           331  100.0%
+",
+    },
+    Program {
+        name: "a line that is never reached",
+        source: b"10 GOTO 30\n20 PRINT \"NO\"\n30 PRINT \"YES\"\n40 END\n",
+        keys: b"",
+        limit: 100_000,
+        status: 0,
+        table: b" line      times instructions        cycles   share  statement
+start          1          192           634   69.4%
+   10          1            5            20    2.2%  GOTO 30
+   20          0            0             0    0.0%  PRINT \"NO\"
+   30          1           60           236   25.8%  PRINT \"YES\"
+   40          1            5            23    2.5%  END
+  sum          3          262           913  100.0%
+",
+    },
+    Program {
+        name: "a limit in a loop",
+        source: b"10 LET A=A+1\n20 GOTO 10\n",
+        keys: b"",
+        limit: 5_000,
+        status: 5,
+        table: b" line      times instructions        cycles   share  statement
+start          1          192           634    3.5%
+   10        301         3308         11729   63.9%  LET A=A+1
+   20        300         1500          6000   32.7%  GOTO 10
+  sum        601         5000         18363  100.0%
+",
+    },
+    Program {
+        name: "lines of any look",
+        source: b" 1 0 LET A = 1\r\n20 PRINT \"OLD\"\r\n\r\n5REM a b\r\n 2 0  PRINT \"<A & 'B'>\",A\r30 PRINT\r\n30\n40 END",
+        keys: b"",
+        limit: 100_000,
+        status: 0,
+        table: b" line      times instructions        cycles   share  statement
+start          1          192           634   38.7%
+    5          1            4            17    1.0%  REM a b
+   10          1            8            29    1.8%  LET A = 1
+   20          1          245           935   57.1%  PRINT \"<A & 'B'>\",A
+   40          1            5            23    1.4%  END
+  sum          4          454          1638  100.0%
+",
+    },
+];

@@ -1,0 +1,77 @@
+//! Streams that fail, and that hand on few bytes at a time.
+use crate::profile::programs::{PROGRAMS, profiles};
+use std::test::Fail;
+use tb_failing_streams::{FailingReader, FailingWriter};
+use tb_streams::Tracked;
+
+#[test]
+fn a_source_is_read_however_few_bytes_come_at_once(rt: HostRuntime) -> Result<(), Fail> {
+    let program = &PROGRAMS[0];
+    for most in 1..12 {
+        let reader = FailingReader {
+            rest: program.source,
+            until_fault: usize::MAX,
+            most,
+        };
+        let mut writer = Tracked::new(Vec::new(rt.alloc()));
+        let (status, _) = profiles(rt.alloc(), program, &mut Tracked::new(reader), &mut writer);
+        assert_eq!(rt; status, program.status);
+        assert_eq!(rt; writer.stream.as_slice(), program.table);
+    }
+    Ok(())
+}
+
+#[test]
+fn a_reader_of_a_source_that_fails(rt: HostRuntime) -> Result<(), Fail> {
+    let program = &PROGRAMS[0];
+    for until_fault in 0..=program.source.len() {
+        let reader = FailingReader {
+            rest: program.source,
+            until_fault,
+            most: 5,
+        };
+        let mut writer = Tracked::new(Vec::new(rt.alloc()));
+        let (status, page) = profiles(rt.alloc(), program, &mut Tracked::new(reader), &mut writer);
+        assert_eq!(rt; status, 3);
+        assert!(rt; writer.stream.is_empty() && page.is_empty());
+    }
+    Ok(())
+}
+
+#[test]
+fn a_writer_of_a_table_that_fails(rt: HostRuntime) -> Result<(), Fail> {
+    let program = &PROGRAMS[0];
+    for until_fault in 0..program.table.len() {
+        let writer = FailingWriter {
+            taken: Vec::new(rt.alloc()),
+            until_fault,
+            most: 7,
+        };
+        let mut writer = Tracked::new(writer);
+        let (status, _) = profiles(
+            rt.alloc(),
+            program,
+            &mut Tracked::new(program.source),
+            &mut writer,
+        );
+        assert_eq!(rt; status, 3);
+        let beginning = program.table.get(..until_fault);
+        assert_eq!(rt; Some(writer.stream.taken.as_slice()), beginning);
+    }
+    Ok(())
+}
+
+#[test]
+fn a_refused_source_has_no_table(rt: HostRuntime) -> Result<(), Fail> {
+    let program = &PROGRAMS[0];
+    let mut writer = Tracked::new(Vec::new(rt.alloc()));
+    let (status, page) = profiles(
+        rt.alloc(),
+        program,
+        &mut Tracked::new(b"10 PRINT 1\n20 FOR I\n".as_slice()),
+        &mut writer,
+    );
+    assert_eq!(rt; status, 1);
+    assert!(rt; writer.stream.is_empty() && page.is_empty());
+    Ok(())
+}

@@ -1,0 +1,61 @@
+//! What is written.
+use std::alloc::Global;
+use std::fmt::Display;
+
+/// A text that grows. What fails on the way is noted (a growth is refused, a row says nothing), so that those who write
+/// need not hand failures on: the prover pays for each way out of a function.
+#[derive(Drop)]
+pub struct Page {
+    text: String,
+    has_failed: bool,
+}
+
+impl Page {
+    pub fn new(alloc: Global) -> Page {
+        Page {
+            text: String::new(alloc),
+            has_failed: false,
+        }
+    }
+
+    pub fn alloc(&self) -> Global {
+        *self.text.allocator()
+    }
+
+    pub fn text(&self) -> &str {
+        self.text.as_str()
+    }
+
+    pub fn has_failed(&self) -> bool {
+        self.has_failed
+    }
+
+    /// Notes that a row has no answer.
+    pub fn fail(&mut self) {
+        self.has_failed = true;
+    }
+
+    /// What an answer holds. Notes where it is a refusal.
+    pub fn held<T: Drop, E: Drop>(&mut self, answer: Result<T, E>) -> Option<T> {
+        match answer {
+            Ok(value) => Some(value),
+            Err(_) => {
+                self.fail();
+                None
+            }
+        }
+    }
+
+    pub fn put<D: Display + Drop>(&mut self, shown: D) {
+        let grown = write!(self.text, "{shown}");
+        self.has_failed = self.has_failed || grown.is_err();
+    }
+
+    /// Appends bytes of ASCII as they are.
+    pub fn put_ascii(&mut self, bytes: &[u8]) {
+        for byte in bytes {
+            let grown = self.text.push(char::from(*byte));
+            self.has_failed = self.has_failed || grown.is_err();
+        }
+    }
+}
