@@ -179,7 +179,7 @@ dice.bas:1: warning: line 10 is replaced by line 3 of the file
     1 | 10 PRINT RND(6)+1
 dice.bas:2: warning: no line 100
     2 | 20 GOTO 100
-dice.bas:3: warning: RND(6): odd and even take turns; RND(30000)/5000 is better
+dice.bas:3: warning: RND(6) is odd and even in turns; RND(30000)/5000 is better
     3 | 10 PRINT RND(6)/5000+1
 END
 row 0 '' '' check hello.bas
@@ -201,9 +201,10 @@ for source in "$root"/examples/*.bas; do
     rows=$((rows + 1))
 done
 
-# vim's default errorformat reads each line that names a place. (It takes `RND(6):` for a file and a line, too.)
+# vim's default errorformat reads each line that names a place, in what is written here and in all rows, and no other
 if vim --version 2>/dev/null | grep -q -e +quickfix; then
-    "$tbc" check slips.bas dice.bas nowhere.bas hello.bas 2>/dev/null | grep -v 'RND(.*):' >places || true
+    "$tbc" check slips.bas dice.bas nowhere.bas hello.bas >places 2>/dev/null || true
+    sed -n '/^check /,/^=> /{/^check /d;/^=> /d;p;}' "$root"/crates/*/stdout >>places
     printf '%s\n' 'cgetfile places' \
         "call writefile(map(filter(getqflist(), 'v:val.valid'), {_, e -> bufname(e.bufnr) . ':' . e.lnum . ':' . (e.col ? e.col . ':' : '') . e.text}), 'entries')" \
         'qa!' >read.vim
