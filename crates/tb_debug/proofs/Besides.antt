@@ -1,7 +1,7 @@
 -- What a ROM gives a machine, it gives its registers.
 use Rattle.std.proofs.Common.{◌≡◌, refl, ap, ◌∙◌}
 use Rattle.tb_kernal.specs.declared.events.Event.{Event}
-use Rattle.tb_kernal.specs.Machine.{Content, State, state_of}
+use Rattle.tb_kernal.specs.Machine.{Content, state_of}
 use Rattle.tb_debug.specs.Besides.{event_at, event_of}
 use Rattle.tb_debug.specs.declared.beside.Beside.{Beside}
 use Rattle.tb_debug.specs.declared.beside.Beside.TheVariants.{Quiet, Rude}

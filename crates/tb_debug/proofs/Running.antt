@@ -1,6 +1,6 @@
 -- Places of a run.
-use Rattle.std.proofs.Common.{◌≡◌, append-nil, append_assoc, ℕ, zero, suc, ◌+◌, ◌-◌, ◌<◌, ◌≤◌, Bool, List, [], ◌++◌, length, take, refl, sym, ap, ◌∙◌, subst, add-one, arith}
-use Rattle.std.proofs.Math.Seq.{take-append_seam, take-length}
+use Rattle.std.proofs.Common.{◌≡◌, append-nil, append_assoc, ℕ, zero, suc, ◌+◌, ◌-◌, ◌≤◌, Bool, List, [], ◌++◌, length, take, refl, sym, ap, ◌∙◌, subst, add-one, arith}
+use Rattle.std.proofs.Math.Seq.{take-append_seam}
 use borrow.Author.Count.{below_more}
 use Rattle.tb_kernal.specs.declared.events.Event.{Event}
 use Rattle.tb_kernal.specs.declared.status.Status.TheVariants.{Running}

@@ -1,5 +1,5 @@
 -- What a debugger shows at a line's beginning is what the source's interpreter has.
-use Rattle.std.specs.Prelude.{◌≡◌, ℕ, List}
+use Rattle.std.specs.Prelude.{ℕ}
 use Rattle.tb_kernal.specs.Machine.{State, state_of}
 use Rattle.tb_keeping.specs.Kept.{Starts}
 use Rattle.tb_keeping.specs.LineStarts.{BeginsLine, MarksLines}

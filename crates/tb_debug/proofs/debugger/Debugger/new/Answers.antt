@@ -1,4 +1,4 @@
-use Rattle.std.proofs.Common.{refl, sym, subst, arith, [], ◌∷◌, ◌≤◌}
+use Rattle.std.proofs.Common.{refl, sym, subst, arith, [], ◌≤◌}
 use Rattle.std.proofs.lemmas.List.Elements.{All-cons, All-nil}
 use Rattle.tb_kernal.specs.Machine.{state_of}
 use Rattle.tb_debug.specs.Runs.{AreKept, IsKept, first_point}

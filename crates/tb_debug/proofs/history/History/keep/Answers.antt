@@ -1,4 +1,4 @@
-use Rattle.std.proofs.Common.{arith, [], ◌∷◌, ◌++◌, ◌≤◌, subst, sym}
+use Rattle.std.proofs.Common.{arith, ◌≤◌, subst, sym}
 use Rattle.std.proofs.lemmas.List.Elements.{All-push}
 use Rattle.tb_debug.specs.Runs.{AreKept, IsKept}
 use Rattle.tb_debug.proofs.history.History.keep.Goals as goal

@@ -1,4 +1,4 @@
-use Rattle.std.proofs.Common.{take, min, length, ap, ◌∙◌, ◌≡◌}
+use Rattle.std.proofs.Common.{take, ap, ◌∙◌}
 use Rattle.std.proofs.lemmas.List.{take_min}
 use Rattle.tb_debug.proofs.Keeping.{again_of}
 use Rattle.tb_debug.proofs.history.Kept.again.Goals as goal
