@@ -1,3 +1,4 @@
 pub mod Agreed
 pub mod Checked
 pub mod Emptied
+pub mod Entered

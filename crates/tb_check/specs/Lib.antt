@@ -1,4 +1,6 @@
+pub mod Entries
 pub mod BadLines
 pub mod Verdicts
 pub mod Agreement
 pub mod Findings
+pub mod Words

@@ -65,8 +65,8 @@ fn fault_of(alloc: Global, line: &[u8]) -> Result<Option<Fault>, NoMemory>
     }
 }
 
-// A fault, where it is none of memory.
-fn told(fault: Fault) -> Result<Option<Fault>, NoMemory>
+/// A fault, where it is none of memory.
+pub fn told(fault: Fault) -> Result<Option<Fault>, NoMemory>
     ensures { IfOk result (λ told. (told ≡ Some fault) × (fault.kind ≢ kind.NoMemory)) }
 {
     match fault.kind {

@@ -3,13 +3,11 @@ ghost use Rattle.std.specs.Prelude.{◌≡◌, ◌∷◌, ◌++◌, [], IfOk, On
 ghost use Rattle.tb_check.specs.Findings.{AreFindings, Tells};
 
 use crate::advice::{LineWarning, warnings};
+use crate::deep::deep_lines;
 use crate::judging::{Verdict, judge};
-use crate::lines::{
-    LastLine, NumberedLine, last_lines, numbered_lines, outdone_by, texts_of_lines,
-};
+use crate::lines::{numbered_lines, texts_of_lines};
 use crate::notes::{Note, note_of};
 use std::alloc::{AllocError, Global};
-use std::collections::BTreeMap;
 use tb_parser::{NoMemory, SourceError};
 use tb_syntax::Program;
 
@@ -29,7 +27,7 @@ pub enum Findings {
     Empty,
     /// What is wrong with its program.
     Refused {
-        /// The lines of the file, from 1, with an expression that is too deep.
+        /// The lines of the file, from 1, with an expression that is too deep, which no later line outdoes.
         deep: Vec<usize>,
         /// What the program costs, where that is too much.
         too_large: Option<u32>,
@@ -48,13 +46,13 @@ pub fn examine(alloc: Global, source: &[u8]) -> Result<Findings, NoMemory>
 
 // What there is to say of a source, by what becomes of it.
 fn findings_by(alloc: Global, source: &[u8], verdict: &Verdict) -> Result<Findings, NoMemory>
-    ensures { IfOk result (Tells verdict.now) }
+    ensures { IfOk result (Tells source.now verdict.now) }
 {
     match verdict {
         Verdict::BadLines(errors) => Ok(Findings::BadLines(with_notes(alloc, source, errors)?)),
         Verdict::Empty => Ok(Findings::Empty),
         Verdict::Refused(faults) => Ok(Findings::Refused {
-            deep: deep_lines(alloc, source, &faults.deep)?,
+            deep: deep_lines(alloc, source)?,
             too_large: faults.too_large,
         }),
         Verdict::Accepted(program) => {
@@ -115,35 +113,4 @@ fn with_note(alloc: Global, texts: &[&[u8]], error: SourceError) -> Result<BadLi
         None => None,
     };
     Ok(BadLine { error, note })
-}
-
-// The lines of a file that give these numbers their statements.
-fn deep_lines(alloc: Global, source: &[u8], numbers: &[u16]) -> Result<Vec<usize>, NoMemory> {
-    let lines = numbered_lines(alloc, source)?;
-    places(alloc, &lines, numbers)
-}
-
-// Those of the lines that give these numbers their statements.
-fn places(
-    alloc: Global,
-    lines: &[NumberedLine],
-    numbers: &[u16],
-) -> Result<Vec<usize>, AllocError> {
-    let last = last_lines(alloc, lines)?;
-    places_by(alloc, &last, lines, numbers)
-}
-
-fn places_by(
-    alloc: Global,
-    last: &BTreeMap<u16, LastLine>,
-    lines: &[NumberedLine],
-    numbers: &[u16],
-) -> Result<Vec<usize>, AllocError> {
-    let mut found = Vec::new(alloc);
-    for line in lines {
-        if numbers.binary_search(&line.number).is_ok() && outdone_by(last, line).is_none() {
-            found.push(line.line)?;
-        }
-    }
-    Ok(found)
 }

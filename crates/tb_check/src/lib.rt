@@ -4,6 +4,7 @@
 
 mod advice;
 mod checking;
+mod deep;
 mod examination;
 mod judging;
 mod lines;

@@ -1,10 +1,12 @@
 //! The lines of a file.
-ghost use Rattle.std.specs.Prelude.{◌≡◌, IfOk, map};
+ghost use Rattle.std.specs.Prelude.{◌≡◌, IfOk, OnOk, map};
 ghost use Rattle.tb_parser.specs.Lines.{lines_of_file};
+ghost use Rattle.tb_check.specs.Entries.{EntriesAre, Enters, IsEntry, entry_of, number_and_command};
 
+use crate::checking::told;
 use std::alloc::{AllocError, Global};
 use std::collections::BTreeMap;
-use tb_parser::{LineEdit, NoMemory, SourceErrorKind, next_line, read_line};
+use tb_parser::{LineEdit, NoMemory, next_line, read_line};
 use tb_syntax::Statement;
 
 /// A line of a file that has a number.
@@ -31,7 +33,9 @@ pub fn texts_of_lines(alloc: Global, source: &[u8]) -> Result<Vec<&[u8]>, NoMemo
 }
 
 /// The lines of a file that have a number, in order. Bad lines are left out.
-pub fn numbered_lines(alloc: Global, source: &[u8]) -> Result<Vec<NumberedLine>, NoMemory> {
+pub fn numbered_lines(alloc: Global, source: &[u8]) -> Result<Vec<NumberedLine>, NoMemory>
+    ensures { IfOk result (λ found. EntriesAre 1 (lines_of_file source.now) (map entry_of found.items)) }
+{
     let mut found = Vec::new(alloc);
     let mut rest = source;
     let mut line = 1;
@@ -48,7 +52,9 @@ fn push_numbered(
     text: &[u8],
     line: usize,
     found: &mut Vec<NumberedLine>,
-) -> Result<(), NoMemory> {
+) -> Result<(), NoMemory>
+    ensures { OnOk result (Enters line text.now (map entry_of found.old.items) (map entry_of found.new.items)) }
+{
     if let Some((number, statement)) = numbered(alloc, text)? {
         found.push(NumberedLine {
             line,
@@ -60,15 +66,17 @@ fn push_numbered(
 }
 
 // A line's number and its statement, where it has them.
-fn numbered(alloc: Global, text: &[u8]) -> Result<Option<(u16, Option<Statement>)>, NoMemory> {
+fn numbered(alloc: Global, text: &[u8]) -> Result<Option<(u16, Option<Statement>)>, NoMemory>
+    ensures { IfOk result (λ found. IsEntry text.now (number_and_command found)) }
+{
     match read_line(alloc, text) {
         Ok(LineEdit::Nothing) => Ok(None),
         Ok(LineEdit::Set(number, statement)) => Ok(Some((number, Some(statement)))),
         Ok(LineEdit::Delete(number)) => Ok(Some((number, None))),
-        Err(fault) => match fault.kind {
-            SourceErrorKind::NoMemory => Err(AllocError),
-            _ => Ok(None),
-        },
+        Err(fault) => {
+            told(fault)?;
+            Ok(None)
+        }
     }
 }
 

@@ -57,8 +57,13 @@ const STATEMENTS: [&str; 10] = [
 ];
 
 impl Missing {
+    ghost use Rattle.std.specs.Prelude.{◌≡◌};
+    ghost use Rattle.tb_check.specs.Words.{name_of};
+
     /// How it is written.
-    pub fn name(self) -> &'static str {
+    pub fn name(self) -> &'static str
+        ensures { result.now ≡ name_of self }
+    {
         match self {
             Missing::For => "FOR",
             Missing::Next => "NEXT",

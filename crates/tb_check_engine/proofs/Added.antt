@@ -8,9 +8,9 @@ use Rattle.tb_check_engine.specs.declared.engine.Said.{Said}
 use Rattle.tb_check_engine.specs.declared.outcome.CheckOutcome.{CheckOutcome}
 use Rattle.tb_check_engine.specs.declared.outcome.CheckOutcome.TheVariants.{NoMemory}
 
-pub added : (old : Checked) (had : Option (List ℕ)) (failures failures' : ℕ) (read source : List ℕ) (said : Said) (r : Result Checked CheckOutcome)
-    → Reads had read → source ≡ read → Finds source said.is_refused → failures' ≡ failures → MatchResult r (Follows old said) (λ e. e ≡ NoMemory)
-    → Adds old had failures failures' r
-added old had failures failures' read source said (Ok new) reads same finds kept follows =
+pub added : (old : Checked) (name : List ℕ) (had : Option (List ℕ)) (failures failures' : ℕ) (read source : List ℕ) (said : Said) (r : Result Checked CheckOutcome)
+    → Reads had read → source ≡ read → Finds name source said → failures' ≡ failures → MatchResult r (Follows old said) (λ e. e ≡ NoMemory)
+    → Adds old name had failures failures' r
+added old name had failures failures' read source said (Ok new) reads same finds kept follows =
     inl (source, subst (Reads had) (sym same) reads, record { said = said; finds = finds; follows = follows }, kept)
-added old had failures failures' read source said (Err e) reads same finds kept none = (none, kept)
+added old name had failures failures' read source said (Err e) reads same finds kept none = (none, kept)

@@ -2,9 +2,11 @@
 use Rattle.std.specs.Prelude.{ℕ, ◌≡◌, ◌≢◌, ◌⊎◌, Bool, true, false, ◌||◌, List, ◌++◌, Option, Result, Ok, Err}
 use Rattle.std.specs.Io.KnownBytes.{Appends}
 use Rattle.tb_streams.specs.Streams.{Reads, MayPassMost, AppendsPrefix}
+use Rattle.tb_parser.specs.Lines.{lines_of_file}
 use Rattle.tb_check.specs.Findings.{AreFindings}
 use Rattle.tb_check.specs.declared.examination.Findings.{Findings}
 use Rattle.tb_check.specs.declared.examination.Findings.TheVariants as findings
+use Rattle.tb_check_engine.specs.Reports.{report}
 use Rattle.tb_check_engine.specs.declared.engine.Checked.{Checked}
 use Rattle.tb_check_engine.specs.declared.engine.Said.{Said}
 use Rattle.tb_check_engine.specs.declared.outcome.CheckOutcome.{CheckOutcome}
@@ -17,9 +19,12 @@ is_refused findings.Empty = true
 is_refused (findings.Refused deep too_large) = true
 is_refused (findings.Accepted warnings) = false
 
--- whether a source is refused, by what is found in it
-abbrev pub Finds : List ℕ → Bool → Type 0
-Finds source refused = (found : Findings) × AreFindings source found × (refused ≡ is_refused found)
+-- what is said of a source under a name, and whether it is refused, by what is found in it
+pub record Finds (name source : List ℕ) (said : Said) : Type 0 where
+  pub found : Findings
+  pub are : AreFindings source found
+  pub refused : said.is_refused ≡ is_refused found
+  pub text : said.text.items ≡ report name (lines_of_file source) found
 
 -- what was told of a source stands behind what was told before, and a refusal is kept
 pub record Follows (old : Checked) (said : Said) (new : Checked) : Type 0 where
@@ -27,10 +32,10 @@ pub record Follows (old : Checked) (said : Said) (new : Checked) : Type 0 where
   pub kept : new.is_refused ≡ (said.is_refused || old.is_refused)
   pub unread : new.is_unread ≡ old.is_unread
 
--- a source was looked at
-pub record LooksAt (old : Checked) (source : List ℕ) (new : Checked) : Type 0 where
+-- a source was looked at under a name
+pub record LooksAt (old : Checked) (name source : List ℕ) (new : Checked) : Type 0 where
   pub said : Said
-  pub finds : Finds source said.is_refused
+  pub finds : Finds name source said
   pub follows : Follows old said new
 
 -- a source could not be read
@@ -40,11 +45,11 @@ pub record PassesOver (old new : Checked) : Type 0 where
   pub unread : new.is_unread ≡ true
 
 -- a reader's source was looked at, or the reader failed in this call, by its count of failures, or gave too many bytes
-abbrev pub Adds : Checked → Option (List ℕ) → ℕ → ℕ → Result Checked CheckOutcome → Type 0
-Adds old had failures failures' (Ok new) =
-    ((source : List ℕ) × Reads had source × LooksAt old source new × (failures' ≡ failures))
+abbrev pub Adds : Checked → List ℕ → Option (List ℕ) → ℕ → ℕ → Result Checked CheckOutcome → Type 0
+Adds old name had failures failures' (Ok new) =
+    ((source : List ℕ) × Reads had source × LooksAt old name source new × (failures' ≡ failures))
     ⊎ (PassesOver old new × ((failures' ≢ failures) ⊎ MayPassMost had))
-Adds old had failures failures' (Err e) = (e ≡ NoMemory) × (failures' ≡ failures)
+Adds old name had failures failures' (Err e) = (e ≡ NoMemory) × (failures' ≡ failures)
 
 -- what was written, by how it ended
 abbrev pub Writes : Checked → CheckOutcome → Option (List ℕ) → Option (List ℕ) → Type 0

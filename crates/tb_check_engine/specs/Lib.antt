@@ -1,3 +1,5 @@
 pub mod Checks
 pub mod Outcomes
+pub mod Reports
 pub mod Rows
+pub mod Texts

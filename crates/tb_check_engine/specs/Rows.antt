@@ -1,9 +1,6 @@
 -- The rows that show a line of a source, and a place in it.
 use Rattle.std.specs.Prelude.{ℕ, ◌-◌, max, List, [], ◌∷◌, ◌++◌, length, map, take, replicate, nat_lt, ◌||◌, ◌==◌, if◌then◌else◌}
-
--- a byte as it is shown: `?` below 32 and above 126
-abbrev pub shown : ℕ → ℕ
-shown b = if nat_lt b 32 || nat_lt 126 b then 63 else b
+use Rattle.tb_written.specs.Shown.{shown}
 
 -- a space, a bar, a space
 abbrev pub bar : List ℕ

@@ -2,7 +2,9 @@
 ghost use Rattle.std.specs.Prelude.{◌≡◌, ◌+◌, [], false, IfOk, MatchResult};
 ghost use Rattle.tb_streams.specs.Streams.{most_input, ConsumesAtMost};
 ghost use Rattle.tb_streams.specs.Failures.{failures_of};
+ghost use Rattle.tb_parser.specs.Lines.{lines_of_file};
 ghost use Rattle.tb_check_engine.specs.Checks.{Adds, Finds, Follows, PassesOver, Writes, WriteFaults};
+ghost use Rattle.tb_check_engine.specs.Reports.{report};
 ghost use Rattle.tb_check_engine.specs.declared.outcome.CheckOutcome.TheVariants.{NoMemory};
 
 use crate::outcome::CheckOutcome;
@@ -31,7 +33,7 @@ struct Said {
 
 // Looks at a source under a name.
 fn look_at(alloc: Global, name: &str, source: &[u8]) -> Result<Said, AllocError>
-    ensures { IfOk result (λ said. Finds source.now said.is_refused) }
+    ensures { IfOk result (Finds name.now source.now) }
 {
     let found = examine(alloc, source)?;
     let text = text_on(alloc, name, source, &found)?;
@@ -46,9 +48,18 @@ fn text_on(
     name: &str,
     source: &[u8],
     found: &Findings,
-) -> Result<Vec<u8>, AllocError> {
+) -> Result<Vec<u8>, AllocError>
+    ensures { IfOk result (λ text. text.items ≡ report name.now (lines_of_file source.now) found.now) }
+{
     let lines = texts_of_lines(alloc, source)?;
-    report(alloc, &Source { name, lines }, found)
+    report(
+        alloc,
+        &Source {
+            name,
+            lines: lines.as_slice(),
+        },
+        found,
+    )
 }
 
 impl Checked {
@@ -81,7 +92,7 @@ impl Checked {
         name: &str,
         reader: &mut Tracked<R>,
     ) -> Result<Checked, CheckOutcome>
-        ensures adds { Adds self (R.remaining reader.old.stream) (failures_of reader.old) (failures_of reader.new) result }
+        ensures adds { Adds self name.now (R.remaining reader.old.stream) (failures_of reader.old) (failures_of reader.new) result }
         ensures taken { ConsumesAtMost (R.remaining reader.old.stream) (R.remaining reader.new.stream)
             (most_input + 1) }
     {

@@ -1,22 +1,29 @@
 //! What there is to say of a file, as a text.
+ghost use Rattle.std.specs.Prelude.{◌≡◌, ◌++◌, IfOk, OnOk, flat_map, map, string_bytes};
+ghost use Rattle.std.specs.Fmt.{decimal};
+ghost use Rattle.tb_engines.specs.Texts.{too_deep_text};
+ghost use Rattle.tb_check_engine.specs.Reports.{bad_line_rows, deep_rows, error_row, file_row, line_at, note_row, place_rows, report, too_large_row, warning_rows};
+ghost use Rattle.tb_check_engine.specs.Rows.{line_row};
+
 use crate::rows::{push_caret, push_line};
 use crate::texts::{NoteText, WarningText};
 use std::alloc::{AllocError, Global};
 use tb_check::{BadLine, Findings, LineWarning, Note, SourceError, SourceErrorKind};
-use tb_engines::{Refusal, TOO_DEEP, source_text};
-use tb_refusals::CompileError;
+use tb_engines::{TOO_DEEP, TooLarge, source_text};
 
 /// A file of which something is said.
-#[derive(Drop)]
+#[derive(Clone, Copy, Drop)]
 pub struct Source<'a> {
     pub name: &'a str,
     /// Its lines as they stand there.
-    pub lines: Vec<&'a [u8]>,
+    pub lines: &'a [&'a [u8]],
 }
 
 impl Source<'_> {
     // A line, counted from 1.
-    fn line(&self, number: usize) -> &[u8] {
+    fn line(&self, number: usize) -> &[u8]
+        ensures { result.now ≡ line_at (map (λ t. t.now) self.now.lines.now) number }
+    {
         match self.lines.get(number.saturating_sub(1)) {
             Some(line) => line,
             None => b"",
@@ -29,7 +36,9 @@ pub fn report(
     alloc: Global,
     source: &Source<'_>,
     findings: &Findings,
-) -> Result<Vec<u8>, AllocError> {
+) -> Result<Vec<u8>, AllocError>
+    ensures { IfOk result (λ text. text.items ≡ report source.now.name.now (map (λ t. t.now) source.now.lines.now) findings.now) }
+{
     let mut text = Vec::new(alloc);
     push_findings(alloc, &mut text, source, findings)?;
     Ok(text)
@@ -40,16 +49,42 @@ fn push_findings(
     text: &mut Vec<u8>,
     source: &Source<'_>,
     findings: &Findings,
-) -> Result<(), AllocError> {
+) -> Result<(), AllocError>
+    ensures { OnOk result (text.new.items ≡ text.old.items ++ report source.now.name.now (map (λ t. t.now) source.now.lines.now) findings.now) }
+{
     match findings {
         Findings::BadLines(lines) => push_bad_lines(alloc, text, source, lines),
-        Findings::Empty => push_empty(alloc, text, source.name),
+        Findings::Empty => push_about_file(
+            alloc,
+            text,
+            source,
+            source_text(SourceErrorKind::Empty),
+        ),
         Findings::Refused { deep, too_large } => {
             push_deep_lines(alloc, text, source, deep)?;
-            push_too_large(alloc, text, source.name, *too_large)
+            push_too_large(alloc, text, source, *too_large)
         }
         Findings::Accepted(warnings) => push_warnings(alloc, text, source, warnings),
     }
+}
+
+fn push_row(text: &mut Vec<u8>, row: &str) -> Result<(), AllocError>
+    ensures { OnOk result (text.new.items ≡ text.old.items ++ row.now) }
+{
+    text.extend_from_slice(row.as_bytes())
+}
+
+// Appends what is said of the whole file.
+fn push_about_file(
+    alloc: Global,
+    text: &mut Vec<u8>,
+    source: &Source<'_>,
+    fault: &str,
+) -> Result<(), AllocError>
+    ensures { OnOk result (text.new.items ≡ text.old.items ++ file_row source.now.name.now fault.now) }
+{
+    let name = source.name;
+    push_row(text, &format!(in alloc; "{name}: error: {fault}\n")?)
 }
 
 fn push_bad_lines(
@@ -57,7 +92,9 @@ fn push_bad_lines(
     text: &mut Vec<u8>,
     source: &Source<'_>,
     lines: &[BadLine],
-) -> Result<(), AllocError> {
+) -> Result<(), AllocError>
+    ensures { OnOk result (text.new.items ≡ text.old.items ++ flat_map (bad_line_rows source.now.name.now (map (λ t. t.now) source.now.lines.now)) lines.now) }
+{
     for line in lines {
         push_bad_line(alloc, text, source, line)?;
     }
@@ -69,26 +106,27 @@ fn push_bad_line(
     text: &mut Vec<u8>,
     source: &Source<'_>,
     bad: &BadLine,
-) -> Result<(), AllocError> {
-    push_error(alloc, text, source.name, bad.error)?;
+) -> Result<(), AllocError>
+    ensures { OnOk result (text.new.items ≡ text.old.items ++ bad_line_rows source.now.name.now (map (λ t. t.now) source.now.lines.now) bad.now) }
+{
+    push_error(alloc, text, source, bad.error)?;
     push_place(alloc, text, source, bad.error)?;
-    match bad.note {
-        Some(note) => push_note(alloc, text, source.name, bad.error, note),
-        None => Ok(()),
-    }
+    push_note(alloc, text, source, bad.error, bad.note)
 }
 
 fn push_error(
     alloc: Global,
     text: &mut Vec<u8>,
-    name: &str,
+    source: &Source<'_>,
     error: SourceError,
-) -> Result<(), AllocError> {
-    let (line, column) = (error.line, error.column);
+) -> Result<(), AllocError>
+    ensures { OnOk result (text.new.items ≡ text.old.items ++ error_row source.now.name.now error) }
+{
+    let (name, line, column) = (source.name, error.line, error.column);
     let fault = source_text(error.kind);
     push_row(
         text,
-        format!(in alloc; "{name}:{line}:{column}: error: {fault}\n")?,
+        &format!(in alloc; "{name}:{line}:{column}: error: {fault}\n")?,
     )
 }
 
@@ -98,38 +136,32 @@ fn push_place(
     text: &mut Vec<u8>,
     source: &Source<'_>,
     error: SourceError,
-) -> Result<(), AllocError> {
-    let number = format!(in alloc; "{}", error.line)?;
-    push_marked(
-        text,
-        number.as_bytes(),
-        source.line(error.line),
-        error.column,
-    )
-}
-
-fn push_marked(
-    text: &mut Vec<u8>,
-    number: &[u8],
-    line: &[u8],
-    column: usize,
-) -> Result<(), AllocError> {
-    push_line(text, number, line)?;
-    push_caret(text, number, column)
+) -> Result<(), AllocError>
+    ensures { OnOk result (text.new.items ≡ text.old.items ++ place_rows (map (λ t. t.now) source.now.lines.now) error) }
+{
+    let line = error.line;
+    let number = format!(in alloc; "{line}")?;
+    push_line(text, number.as_bytes(), source.line(line))?;
+    push_caret(text, number.as_bytes(), error.column)
 }
 
 fn push_note(
     alloc: Global,
     text: &mut Vec<u8>,
-    name: &str,
+    source: &Source<'_>,
     error: SourceError,
-    note: Note,
-) -> Result<(), AllocError> {
-    let (line, column) = (error.line, error.column);
+    note: Option<Note>,
+) -> Result<(), AllocError>
+    ensures { OnOk result (text.new.items ≡ text.old.items ++ note_row source.now.name.now error note) }
+{
+    let Some(note) = note else {
+        return Ok(());
+    };
+    let (name, line, column) = (source.name, error.line, error.column);
     let note = NoteText(note);
     push_row(
         text,
-        format!(in alloc; "{name}:{line}:{column}: note: {note}\n")?,
+        &format!(in alloc; "{name}:{line}:{column}: note: {note}\n")?,
     )
 }
 
@@ -139,18 +171,11 @@ fn push_source_line(
     text: &mut Vec<u8>,
     source: &Source<'_>,
     line: usize,
-) -> Result<(), AllocError> {
+) -> Result<(), AllocError>
+    ensures { OnOk result (text.new.items ≡ text.old.items ++ line_row (decimal line) (line_at (map (λ t. t.now) source.now.lines.now) line)) }
+{
     let number = format!(in alloc; "{line}")?;
     push_line(text, number.as_bytes(), source.line(line))
-}
-
-fn push_row(text: &mut Vec<u8>, row: String) -> Result<(), AllocError> {
-    text.extend_from_slice(row.as_bytes())
-}
-
-fn push_empty(alloc: Global, text: &mut Vec<u8>, name: &str) -> Result<(), AllocError> {
-    let fault = source_text(SourceErrorKind::Empty);
-    push_row(text, format!(in alloc; "{name}: error: {fault}\n")?)
 }
 
 fn push_deep_lines(
@@ -158,11 +183,20 @@ fn push_deep_lines(
     text: &mut Vec<u8>,
     source: &Source<'_>,
     lines: &[usize],
-) -> Result<(), AllocError> {
+) -> Result<(), AllocError>
+    ensures { OnOk result (text.new.items ≡ text.old.items ++ flat_map (deep_rows source.now.name.now (map (λ t. t.now) source.now.lines.now)) lines.now) }
+{
     for line in lines {
         push_deep_line(alloc, text, source, *line)?;
     }
     Ok(())
+}
+
+// What is said of a line that is too deep.
+fn too_deep() -> &'static str
+    ensures { result.now ≡ too_deep_text }
+{
+    TOO_DEEP
 }
 
 fn push_deep_line(
@@ -170,25 +204,27 @@ fn push_deep_line(
     text: &mut Vec<u8>,
     source: &Source<'_>,
     line: usize,
-) -> Result<(), AllocError> {
+) -> Result<(), AllocError>
+    ensures { OnOk result (text.new.items ≡ text.old.items ++ deep_rows source.now.name.now (map (λ t. t.now) source.now.lines.now) line) }
+{
     let name = source.name;
-    push_row(
-        text,
-        format!(in alloc; "{name}:{line}: error: {TOO_DEEP}\n")?,
-    )?;
+    let fault = too_deep();
+    push_row(text, &format!(in alloc; "{name}:{line}: error: {fault}\n")?)?;
     push_source_line(alloc, text, source, line)
 }
 
 fn push_too_large(
     alloc: Global,
     text: &mut Vec<u8>,
-    name: &str,
+    source: &Source<'_>,
     cost: Option<u32>,
-) -> Result<(), AllocError> {
+) -> Result<(), AllocError>
+    ensures { OnOk result (text.new.items ≡ text.old.items ++ too_large_row source.now.name.now cost) }
+{
     match cost {
         Some(cost) => {
-            let fault = Refusal::Source(CompileError::TooLarge(cost));
-            push_row(text, format!(in alloc; "{name}: error: {fault}\n")?)
+            let fault = TooLarge(cost);
+            push_about_file(alloc, text, source, &format!(in alloc; "{fault}")?)
         }
         None => Ok(()),
     }
@@ -199,7 +235,9 @@ fn push_warnings(
     text: &mut Vec<u8>,
     source: &Source<'_>,
     warnings: &[LineWarning],
-) -> Result<(), AllocError> {
+) -> Result<(), AllocError>
+    ensures { OnOk result (text.new.items ≡ text.old.items ++ flat_map (warning_rows source.now.name.now (map (λ t. t.now) source.now.lines.now)) warnings.now) }
+{
     for warning in warnings {
         push_warning(alloc, text, source, *warning)?;
     }
@@ -211,9 +249,14 @@ fn push_warning(
     text: &mut Vec<u8>,
     source: &Source<'_>,
     warning: LineWarning,
-) -> Result<(), AllocError> {
+) -> Result<(), AllocError>
+    ensures { OnOk result (text.new.items ≡ text.old.items ++ warning_rows source.now.name.now (map (λ t. t.now) source.now.lines.now) warning) }
+{
     let (name, line) = (source.name, warning.line);
     let said = WarningText(warning.warning);
-    push_row(text, format!(in alloc; "{name}:{line}: warning: {said}\n")?)?;
+    push_row(
+        text,
+        &format!(in alloc; "{name}:{line}: warning: {said}\n")?,
+    )?;
     push_source_line(alloc, text, source, line)
 }

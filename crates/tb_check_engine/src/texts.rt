@@ -1,4 +1,7 @@
 //! The texts of notes and warnings.
+ghost use Rattle.std.specs.Prelude.{◌≡◌, ◌≤◌, Some};
+ghost use Rattle.tb_check_engine.specs.Texts.{advice, note_text, times_of, warning_text};
+
 use std::fmt;
 use tb_check::{Missing, Note, Warning};
 
@@ -14,7 +17,9 @@ pub struct NoteText(pub Note);
 pub struct WarningText(pub Warning);
 
 // What helps where a word of other BASICs is missing.
-fn advice(missing: Missing) -> &'static str {
+fn advice(missing: Missing) -> &'static str
+    ensures { result.now ≡ advice missing }
+{
     match missing {
         Missing::For | Missing::Next | Missing::Step => "count with LET, IF and GOTO",
         Missing::Poke | Missing::Peek => "a program has its variables and no other memory",
@@ -36,6 +41,8 @@ fn advice(missing: Missing) -> &'static str {
 }
 
 impl fmt::Display for NoteText {
+    ghost output = { λ n. Some (note_text n.0) };
+
     fn fmt<W: fmt::Write>(&self, f: &mut fmt::Formatter<W>) -> fmt::Result {
         match self.0 {
             Note::Missing(missing) => {
@@ -63,19 +70,21 @@ impl fmt::Display for NoteText {
     }
 }
 
-fn write_bound<W: fmt::Write>(bound: u16, f: &mut fmt::Formatter<W>) -> fmt::Result {
-    let times = match ADVISED.checked_div(u32::from(bound)) {
-        Some(times) => times,
-        None => 1,
-    };
-    let larger = times.saturating_mul(u32::from(bound));
-    write!(
-        f,
-        "RND({bound}) is odd and even in turns; RND({larger})/{times} is better"
-    )
+// How often a bound goes into the largest one that is advised.
+fn times_of(bound: u16) -> u32
+    ensures value { result ≡ times_of bound }
+    ensures few { result ≤ 30000 }
+{
+    if bound == 0 {
+        1
+    } else {
+        ADVISED / u32::from(bound)
+    }
 }
 
 impl fmt::Display for WarningText {
+    ghost output = { λ w. Some (warning_text w.0) };
+
     fn fmt<W: fmt::Write>(&self, f: &mut fmt::Formatter<W>) -> fmt::Result {
         match self.0 {
             Warning::NoLine(target) => write!(f, "no line {target}"),
@@ -86,7 +95,14 @@ impl fmt::Display for WarningText {
                 write!(f, "line {number} is taken out by line {by} of the file")
             }
             Warning::RunsPast => f.write_str("runs past the last line (fault 7)"),
-            Warning::EvenBound(bound) => write_bound(bound, f),
+            Warning::EvenBound(bound) => {
+                let times = times_of(bound);
+                let larger = times * u32::from(bound);
+                write!(
+                    f,
+                    "RND({bound}) is odd and even in turns; RND({larger})/{times} is better"
+                )
+            }
         }
     }
 }

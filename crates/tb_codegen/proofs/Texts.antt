@@ -20,7 +20,8 @@ use Rattle.tb_syntax.specs.Texts.{command_texts}
 use Rattle.tb_lower.proofs.Weighed.{same_texts}
 use Rattle.tb_templates.specs.declared.labels.Inner.TheVariants as inner
 use Rattle.tb_templates.specs.declared.labels.Target.TheVariants as target
-use Rattle.tb_templates.specs.Templates.{pointed, text_call, jump, here}
+use Rattle.tb_runtime16.specs.Places.{POINTER}
+use Rattle.tb_templates.specs.Templates.{address, text_call, jump, here}
 use Rattle.tb_templates.specs.GroupTemplates.{group_template, polled}
 use Rattle.tb_templates.specs.Layout.{LabelsAt}
 use Rattle.tb_templates.specs.Program.{rest_code, line_code, lines_code}
@@ -170,7 +171,7 @@ test_texts rel a b js is e =
 module _ (labels : List (Name × ℕ)) (ns : List ℕ) (seed n : ℕ) where
   -- what stands before the text
   abbrev before_text : ℕ → List ℕ → List Entry
-  before_text i t = pointed (target.Inside inner.Text n i) ++ (text_call (length t) ++ (jump (target.Inside inner.Behind n i) ∷ here (target.Inside inner.Text n i) ∷ []))
+  before_text i t = address (target.Inside inner.Text n i) POINTER ++ (text_call (length t) ++ (jump (target.Inside inner.Behind n i) ∷ here (target.Inside inner.Text n i) ∷ []))
 
   -- settled forms of groups from group i on hold texts, wherever they lie
   abbrev RestHolds : ℕ → List Group → List (List ℕ) → Type 0

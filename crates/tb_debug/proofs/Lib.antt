@@ -1,9 +1,13 @@
+pub mod Beginning
 pub mod Besides
+pub mod Counting
 pub mod EventLists
 pub mod Keeping
 pub mod Marking
 pub mod Responding
+pub mod Returns
 pub mod Running
 pub mod Sources
+pub mod Stopping
 pub mod TypedLists
 pub mod Typing

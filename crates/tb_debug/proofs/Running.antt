@@ -7,8 +7,9 @@ use Rattle.tb_kernal.specs.declared.status.Status.TheVariants.{Running}
 use Rattle.tb_kernal.specs.Machine.{status, happens}
 use Rattle.tb_reaching.specs.Reaching.{IsPrefix}
 use Rattle.tb_reaching.proofs.Grows.{sends_on}
-use Rattle.std.specs.Prelude.{if◌then◌else◌}
+use Rattle.std.specs.Prelude.{ℤ, ◌&&◌, true, false, if◌then◌else◌}
 use Rattle.tb_debug.specs.Besides.{after, event_at}
+use Rattle.tb_debug.specs.Readings.{variables_of}
 use Rattle.tb_debug.specs.Runs.{Point, RunsUpTo, behind, is_begin, next_point, point_at}
 
 pub at_start : (marks : List Bool) (start : Point) → point_at marks start 0 ≡ start
@@ -22,11 +23,21 @@ at_next marks start n = refl
 -- what an event leaves, part by part
 pub behind_by : (marks : List Bool) (p q : Point) (e : Event) (begins : Bool) → q.state ≡ happens p.state e → q.beside ≡ after p.beside
     → begins ≡ is_begin marks p.state e → q.begun ≡ p.begun + (if begins then 1 else 0) → q.last ≡ (if begins then p.state.regs.pc else p.last)
-    → q ≡ behind marks p e
-behind_by marks p q e begins happened left is counted moved =
+    → q.opened ≡ (if begins then variables_of p.state.mem else p.opened) → q ≡ behind marks p e
+behind_by marks p q e begins happened left is counted moved told =
     let count : q.begun ≡ p.begun + (if is_begin marks p.state e then 1 else 0) = counted ∙ ap (λ x. p.begun + (if x then 1 else 0)) is in
     let place : q.last ≡ (if is_begin marks p.state e then p.state.regs.pc else p.last) = moved ∙ ap (λ x. if x then p.state.regs.pc else p.last) is in
-    λ i. record { state = happened i; beside = left i; begun = count i; last = place i }
+    let values : q.opened ≡ (if is_begin marks p.state e then variables_of p.state.mem else p.opened) =
+    told ∙ ap (λ x. if x then variables_of p.state.mem else p.opened) is in
+    λ i. record { state = happened i; beside = left i; begun = count i; last = place i; opened = values i }
+
+-- values that are read where a line may begin, and kept where one does
+pub opened_where : (begins own marked : Bool) (here before : List ℤ) → begins ≡ (own && marked)
+    → (if begins then (if marked then here else before) else before) ≡ (if begins then here else before)
+opened_where false own marked here before e = refl
+opened_where true true true here before e = refl
+opened_where true true false here before e = cc
+opened_where true false marked here before e = cc
 
 -- one event more
 pub one_more : (marks : List Bool) (start p q : Point) (n m : ℕ) (e : Event) → p ≡ point_at marks start n → e ≡ event_at p.beside p.state.regs

@@ -17,7 +17,8 @@ use Rattle.tb_templates.specs.Labels.{label_of}
 use Rattle.tb_codegen.specs.Compiled.{stands_at, start_in, start_of, starts_in, starts_of}
 use Rattle.tb_debug.specs.declared.beside.Beside.{Beside}
 use Rattle.tb_debug.specs.declared.debugger.Debugger.{Debugger}
-use Rattle.tb_debug.specs.Runs.{begins_at, first_point, is_marked, line_at}
+use Rattle.tb_debug.specs.Runs.{begins_at, first_point, is_marked}
+use Rattle.tb_debug.specs.Lines.{line_at}
 use Rattle.tb_debug.specs.Sources.{Debugs, ShowsLine}
 use Rattle.tb_debug.proofs.EventLists.{begun_to, events_to, lawful_to, run_to}
 

@@ -41,7 +41,7 @@ typed_moment marks start more m n t h = record {
   ran = λ k below. typed_ran marks start more m.events h.ran k (omega (arith, below, t.events));
 }
 
-typed_kept : (marks : List Bool) (start : Point) (more : List ℕ) (n : ℕ) (k l : Kept) → RunsUpTo marks start n → IsTyped more k.moment l.moment
+pub typed_kept : (marks : List Bool) (start : Point) (more : List ℕ) (n : ℕ) (k l : Kept) → RunsUpTo marks start n → IsTyped more k.moment l.moment
     → l.sent ≡ k.sent → IsKept marks start k × (k.moment.events ≤ n) → IsKept marks (typed more start) l × (l.moment.events ≤ n)
 typed_kept marks start more n k l ran t sent (h, few) =
     let there = typed_at marks start more k.moment.events (λ j below. ran j (omega (arith, below, few))) in

@@ -1,5 +1,11 @@
+pub mod Begins
 pub mod Besides
 pub mod Debuggers
 pub mod Events
+pub mod Lines
+pub mod Readings
 pub mod Runs
+pub mod Searching
 pub mod Sources
+pub mod Stopping
+pub mod Telling

@@ -1,11 +1,12 @@
 -- The run of a machine beside a ROM, and its moments.
-use Rattle.std.specs.Prelude.{◌≡◌, ℕ, zero, suc, ◌+◌, ◌<◌, ◌≤◌, ◌==◌, ◌&&◌, ◌||◌, Bool, false, if◌then◌else◌, List, [], ◌∷◌, Option, Some, None, All, length, slice_index_or}
+use Rattle.std.specs.Prelude.{◌≡◌, ℕ, zero, suc, ◌+◌, ◌<◌, ◌≤◌, ◌==◌, ◌&&◌, ◌||◌, Bool, false, if◌then◌else◌, ℤ, List, [], ◌∷◌, All, length, slice_index_or}
 use Rattle.tb_kernal.specs.declared.events.Event.{Event}
 use Rattle.tb_kernal.specs.declared.status.Status.TheVariants.{Running}
 use Rattle.tb_kernal.specs.Machine.{State, state_of, happens, status}
 use Rattle.tb_kernal.specs.Typing.{with_more}
 use Rattle.tb_debug.specs.Besides.{after, event_at}
 use Rattle.tb_debug.specs.Events.{is_own}
+use Rattle.tb_debug.specs.Readings.{variables_of}
 use Rattle.tb_debug.specs.declared.beside.Beside.{Beside}
 use Rattle.tb_debug.specs.declared.history.Kept.{Kept}
 use Rattle.tb_debug.specs.declared.moment.Moment.{Moment}
@@ -17,11 +18,6 @@ abbrev pub begins_at : List (ℕ × ℕ) → ℕ → Bool
 begins_at [] a = false
 begins_at (s ∷ starts) a = (a == s.1) || begins_at starts a
 
--- the line that begins at an address
-abbrev pub line_at : List (ℕ × ℕ) → ℕ → Option ℕ
-line_at [] a = None
-line_at (s ∷ starts) a = if a == s.1 then Some s.0 else line_at starts a
-
 -- a line begins at an address, by marks of all addresses
 abbrev pub is_marked : List Bool → ℕ → Bool
 is_marked marks a = slice_index_or marks a false
@@ -32,16 +28,18 @@ is_begin marks s e = is_own e && is_marked marks s.regs.pc
 
 -- ---- the run
 
--- a place of a run: the machine, the ROM beside it, how many lines were begun, and where the last of them begins
+-- a place of a run: the machine, the ROM beside it, how many lines were begun, where the last of them begins, and the
+-- variables as it began; as the run did, where none was begun
 pub record Point : Type 0 where
   pub state : State
   pub beside : Beside
   pub begun : ℕ
   pub last : ℕ
+  pub opened : List ℤ
 
 -- where a run starts
 abbrev pub first_point : State → Beside → Point
-first_point s beside = record { state = s; beside = beside; begun = 0; last = 0 }
+first_point s beside = record { state = s; beside = beside; begun = 0; last = 0; opened = variables_of s.mem }
 
 -- the place behind an event
 abbrev pub behind : List Bool → Point → Event → Point
@@ -51,6 +49,7 @@ behind marks p e =
       beside = after p.beside;
       begun = p.begun + (if is_begin marks p.state e then 1 else 0);
       last = if is_begin marks p.state e then p.state.regs.pc else p.last;
+      opened = if is_begin marks p.state e then variables_of p.state.mem else p.opened;
     }
 
 -- the place behind the event that the ROM gives there
@@ -70,7 +69,7 @@ RunsUpTo marks start n = (k : ℕ) → k < n → status (point_at marks start k)
 
 -- the place of a run that a moment shows
 abbrev pub shown : Moment → Point
-shown m = record { state = state_of m.machine; beside = m.beside; begun = m.begun; last = m.last }
+shown m = record { state = state_of m.machine; beside = m.beside; begun = m.begun; last = m.last; opened = m.opened }
 
 -- a moment of the run from a start: it shows the place behind as many events as it counts, before each of which the machine ran
 pub record IsOfRun (marks : List Bool) (start : Point) (m : Moment) : Type 0 where
@@ -92,6 +91,10 @@ unsent p = record p { state = record p.state { sent = [] } }
 pub record IsKept (marks : List Bool) (start : Point) (k : Kept) : Type 0 where
   pub stands : shown k.moment ≡ unsent (point_at marks start k.moment.events)
   pub counts : k.sent ≡ length (point_at marks start k.moment.events).state.sent
+
+-- the run's first moment, as it is kept
+abbrev pub IsFirst : List Bool → Point → Kept → Type 0
+IsFirst marks start k = IsKept marks start k × (k.moment.events ≡ 0)
 
 -- kept moments of the run from a start, of its first so many events
 abbrev pub AreKept : List Bool → Point → ℕ → List Kept → Type 0

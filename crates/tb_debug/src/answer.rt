@@ -1,8 +1,8 @@
 //! What commands are answered by.
-use crate::stops::Variables;
 use tb_cpu::Regs;
 use tb_disasm::Line;
 use tb_kernal::Status;
+use tb_stops::Variables;
 
 /// Where a run stands.
 #[derive(Clone, Copy, PartialEq, Eq, Debug, Drop)]

@@ -3,21 +3,24 @@ ghost use Rattle.std.specs.Prelude.{◌≡◌, ◌-◌, ◌<◌, ℕ, IfOk, IfSo
 ghost use Rattle.tb_kernal.specs.Machine.{State, state_of};
 ghost use Rattle.tb_syntax.specs.Source.{Program};
 ghost use Rattle.tb_codegen.specs.Compiled.{starts_of};
-ghost use Rattle.tb_debug.specs.Runs.{first_point, line_at};
+ghost use Rattle.tb_debug.specs.Begins.{EndsAt, StandsBy};
+ghost use Rattle.tb_debug.specs.Readings.{variables_of};
+ghost use Rattle.tb_debug.specs.Lines.{line_at};
+ghost use Rattle.tb_debug.specs.Runs.{Point, IsOfRun, first_point};
 ghost use Rattle.tb_debug.specs.Sources.{Debugs, ShowsLine};
 ghost use Rattle.tb_debug.specs.declared.beside.Beside.{Beside};
-ghost use Rattle.tb_debug.specs.Debuggers.{OnRun, KeepsRun, KeepsRunTyped, IsAtTime};
+ghost use Rattle.tb_debug.specs.Debuggers.{OnRun, KeepsRun, KeepsRunTyped, IsAtTime, begun_by};
 
 use crate::beside::Beside;
 use crate::history::{History, Kept};
 use crate::moment::{Moment, Reached};
-use crate::readings::{line_from, variables};
+use crate::readings::{line_from, variables_in};
 use crate::starts::Starts;
-use crate::stops::{Stops, Variables};
 use std::alloc::Global;
 use tb_codegen::Compiled;
 use tb_kernal::{Machine, Status};
 use tb_memmap::NoMemory;
+use tb_stops::{Stops, Variables};
 
 /// The most events that come before the first line.
 pub const MOST_OPENING: u64 = 1_000_000;
@@ -46,7 +49,8 @@ impl<'a> Debugger<'a> {
     {
         let starts = Starts::new(alloc, program)?;
         let mut present = Moment::first(machine, beside);
-        let history = History::new(alloc, Kept::of(alloc, &present)?)?;
+        let first = Kept::of(alloc, &present)?;
+        let history = History::new(alloc, first);
         present.to_next_start(&starts, MOST_OPENING)?;
         Ok(Debugger {
             program,
@@ -75,7 +79,9 @@ impl<'a> Debugger<'a> {
     }
 
     /// How many lines were begun; at the beginning of a line that is the time.
-    pub fn begun(&self) -> u64 {
+    pub fn begun(&self) -> u64
+        ensures { result ≡ begun_by self.now }
+    {
         self.present.begun
     }
 
@@ -85,8 +91,10 @@ impl<'a> Debugger<'a> {
     }
 
     /// The values of A to Z.
-    pub fn variables(&self) -> Variables {
-        variables(self.present.machine.memory())
+    pub fn variables(&self) -> Variables
+        ensures { result ≡ variables_of (state_of self.now.present.machine).mem }
+    {
+        variables_in(&self.present.machine)
     }
 
     /// How many moments are kept.
@@ -95,13 +103,18 @@ impl<'a> Debugger<'a> {
     }
 
     /// How it stands.
-    pub fn standing(&self) -> Reached {
+    pub fn standing(&self) -> Reached
+        ensures { StandsBy self.now.starts result self.now.present }
+    {
         self.present.standing(&self.starts)
     }
 
     // Goes on to the next beginning of a line, by at most `limit` events.
     pub(crate) fn next_line(&mut self, alloc: Global, limit: u64) -> Result<Reached, NoMemory>
-        ensures { OnOk result (KeepsRun self.old self.new) }
+        ensures run { OnOk result (KeepsRun self.old self.new) }
+        ensures stops { OnOk result (self.new.stops ≡ self.old.stops) }
+        ensures ends { IfOk result (λ reached. (start : Point) → IsOfRun self.old.starts start self.old.present
+            → EndsAt self.old.starts start limit self.old.present reached self.new.present) }
     {
         let reached = self.present.to_next_start(&self.starts, limit)?;
         if let Reached::Line = reached {
@@ -199,7 +212,7 @@ impl<'a> Debugger<'a> {
     /// Back by so many lines. From within a line the first one back is its beginning.
     pub fn back(&mut self, alloc: Global, lines: u64) -> Result<Reached, NoMemory>
         ensures run { OnOk result (KeepsRun self.old self.new) }
-        ensures time { 0 < lines → 0 < self.old.present.begun → IfOk result (λ reached. IsAtTime (self.old.present.begun - lines) reached self.new) }
+        ensures time { 0 < lines → 0 < begun_by self.old → IfOk result (λ reached. IsAtTime (begun_by self.old - lines) reached self.new) }
     {
         if lines == 0 || self.present.begun == 0 {
             return Ok(self.standing());

@@ -1,6 +1,6 @@
 //! The moments that are kept, from which a run is run again.
-ghost use Rattle.std.specs.Prelude.{◌≡◌, ◌∷◌, ◌++◌, ◌≤◌, [], ℕ, List, Bool, IfOk, IfSome, OnOk, length};
-ghost use Rattle.tb_debug.specs.Runs.{Point, IsOfRun, IsKept, AreKept, AreTyped};
+ghost use Rattle.std.specs.Prelude.{◌≡◌, ◌∷◌, ◌++◌, ◌≤◌, [], ℕ, List, Bool, IfOk, IfSome, OnOk};
+ghost use Rattle.tb_debug.specs.Runs.{Point, IsOfRun, IsFirst, IsKept, IsTyped, AreKept, AreTyped};
 
 use crate::moment::Moment;
 use std::alloc::Global;
@@ -44,43 +44,46 @@ impl Kept {
     }
 }
 
-/// The kept moments, in the order of their times: the first one is the run's first, and is always kept.
+/// The kept moments: the run's first one, and later ones in the order of their times.
 #[derive(Drop)]
 pub struct History {
-    pub(crate) kept: Vec<Kept>,
+    pub(crate) first: Kept,
+    pub(crate) later: Vec<Kept>,
 }
 
 impl History {
     /// That of a run of which no more than this moment is known.
-    pub fn new(alloc: Global, first: Kept) -> Result<History, NoMemory>
-        ensures { IfOk result (λ h. h.kept.items ≡ first ∷ []) }
+    pub fn new(alloc: Global, first: Kept) -> History
+        ensures first { result.first ≡ first }
+        ensures later { result.later.items ≡ [] }
     {
-        let mut kept = Vec::new(alloc);
-        match kept.push(first) {
-            Ok(()) => Ok(History { kept }),
-            Err(_) => Err(NoMemory),
+        History {
+            first,
+            later: Vec::new(alloc),
         }
     }
 
     /// How many moments are kept.
-    pub fn len(&self) -> usize
-        ensures { result ≡ length self.now.kept.items }
-    {
-        self.kept.len()
+    pub fn len(&self) -> usize {
+        self.later.len().saturating_add(1)
     }
 
-    /// A kept moment, by its place among them.
+    /// The kept moment at a place among them, from the first one on.
     pub fn get(&self, index: usize) -> Option<&Kept>
-        ensures { (marks : List Bool) (start : Point) (n : ℕ) → AreKept marks start n self.now.kept.items
+        ensures { (marks : List Bool) (start : Point) (n : ℕ) → IsFirst marks start self.now.first → AreKept marks start n self.now.later.items
             → IfSome result (λ k. IsKept marks start k.now × (k.now.moment.events ≤ n)) }
     {
-        self.kept.get(index)
+        match index.checked_sub(1) {
+            Some(place) => self.later.get(place),
+            None => Some(&self.first),
+        }
     }
 
     /// Keeps a moment, where enough events lie before it.
     pub fn keep(&mut self, alloc: Global, moment: &Moment) -> Result<(), NoMemory>
-        ensures { OnOk result ((marks : List Bool) (start : Point) → IsOfRun marks start moment.now
-            → AreKept marks start moment.now.events self.old.kept.items → AreKept marks start moment.now.events self.new.kept.items) }
+        ensures first { self.new.first ≡ self.old.first }
+        ensures later { OnOk result ((marks : List Bool) (start : Point) → IsOfRun marks start moment.now
+            → AreKept marks start moment.now.events self.old.later.items → AreKept marks start moment.now.events self.new.later.items) }
     {
         if !self.is_due(moment.events) {
             return Ok(());
@@ -92,9 +95,10 @@ impl History {
     }
 
     fn push(&mut self, kept: Kept) -> Result<(), NoMemory>
-        ensures { OnOk result (self.new.kept.items ≡ self.old.kept.items ++ kept ∷ []) }
+        ensures first { self.new.first ≡ self.old.first }
+        ensures later { OnOk result (self.new.later.items ≡ self.old.later.items ++ kept ∷ []) }
     {
-        match self.kept.push(kept) {
+        match self.later.push(kept) {
             Ok(()) => Ok(()),
             Err(_) => Err(NoMemory),
         }
@@ -102,29 +106,35 @@ impl History {
 
     // Whether a moment behind so many events is worth keeping.
     fn is_due(&self, events: u64) -> bool {
-        match self.kept.last() {
-            Some(last) => SPACING <= events.saturating_sub(last.moment.events),
-            None => false,
+        SPACING <= events.saturating_sub(self.newest_events())
+    }
+
+    // How many events came before the newest kept moment.
+    fn newest_events(&self) -> u64 {
+        match self.later.last() {
+            Some(last) => last.moment.events,
+            None => self.first.moment.events,
         }
     }
 
     // Leaves the moment out that can be spared, where as many are kept as may be.
     fn make_room(&mut self, now: u64)
-        ensures { (marks : List Bool) (start : Point) (n : ℕ) → AreKept marks start n self.old.kept.items → AreKept marks start n self.new.kept.items }
+        ensures first { self.new.first ≡ self.old.first }
+        ensures later { (marks : List Bool) (start : Point) (n : ℕ) → AreKept marks start n self.old.later.items → AreKept marks start n self.new.later.items }
     {
         let index = self.spare(now);
-        if MOST_KEPT <= self.kept.len() && index < self.kept.len() {
-            self.kept.remove(index);
+        if MOST_KEPT <= self.len() && index < self.later.len() {
+            self.later.remove(index);
         }
     }
 
-    // The newest moment whose neighbours are no farther apart than they are from here; the second where there is none. So
-    // what lies farther back is kept less densely.
+    // The newest of the later moments whose neighbours are no farther apart than they are from here; the first of them
+    // where there is none. So what lies farther back is kept less densely.
     fn spare(&self, now: u64) -> usize {
-        let mut found = 1;
-        for index in 2..self.kept.len().saturating_sub(1) {
-            let before = self.kept[index - 1].moment.events;
-            let after = self.kept[index + 1].moment.events;
+        let mut found = 0;
+        for index in 1..self.later.len().saturating_sub(1) {
+            let before = self.later[index - 1].moment.events;
+            let after = self.later[index + 1].moment.events;
             if after.saturating_sub(before) <= now.saturating_sub(after) {
                 found = index;
             }
@@ -135,28 +145,39 @@ impl History {
     /// The place of the newest kept moment that comes before a time, or at it; the first where there is none.
     pub fn newest_until(&self, time: u64) -> usize {
         let mut found = 0;
-        for (index, kept) in self.kept.iter().enumerate() {
+        for (index, kept) in self.later.iter().enumerate() {
             if kept.moment.begun <= time {
-                found = index;
+                found = index.saturating_add(1);
             }
         }
         found
     }
 
-    /// Forgets all moments behind so many events.
+    /// Forgets all moments behind so many events, but the first one.
     pub fn forget_behind(&mut self, events: u64)
-        ensures { (marks : List Bool) (start : Point) (n : ℕ) → AreKept marks start n self.old.kept.items → AreKept marks start events self.new.kept.items }
+        ensures first { self.new.first ≡ self.old.first }
+        ensures later { (marks : List Bool) (start : Point) (n : ℕ) → AreKept marks start n self.old.later.items → AreKept marks start events self.new.later.items }
     {
-        self.kept.retain(|kept| kept.moment.events <= events);
+        self.later.retain(|kept| kept.moment.events <= events);
     }
 
     /// Puts bytes behind the keyboard's text in each moment.
     pub fn type_text(&mut self, bytes: &[u8]) -> Result<(), NoMemory>
-        ensures { OnOk result (AreTyped bytes.now self.old.kept.items self.new.kept.items) }
+        ensures first { OnOk result (IsTyped bytes.now self.old.first.moment self.new.first.moment) }
+        ensures sent { self.new.first.sent ≡ self.old.first.sent }
+        ensures later { OnOk result (AreTyped bytes.now self.old.later.items self.new.later.items) }
     {
-        for index in 0..self.kept.len() {
-            self.kept[index].moment.type_text(bytes)?;
-        }
-        Ok(())
+        self.first.moment.type_text(bytes)?;
+        type_to_all(&mut self.later, bytes)
     }
+}
+
+// Puts bytes behind the keyboard's text in each of these moments.
+fn type_to_all(moments: &mut Vec<Kept>, bytes: &[u8]) -> Result<(), NoMemory>
+    ensures { OnOk result (AreTyped bytes.now moments.old.items moments.new.items) }
+{
+    for index in 0..moments.len() {
+        moments[index].moment.type_text(bytes)?;
+    }
+    Ok(())
 }

@@ -6,7 +6,6 @@
 
 mod answer;
 mod beside;
-mod command;
 mod debugger;
 mod events;
 mod history;
@@ -15,11 +14,10 @@ mod readings;
 mod respond;
 mod searching;
 mod starts;
-mod stops;
 
 pub use answer::{Answer, Place, Stand};
 pub use beside::Beside;
-pub use command::{Command, read_command};
 pub use debugger::{Debugger, MOST_OPENING};
 pub use history::{MOST_KEPT, SPACING};
 pub use moment::Reached;
+pub use tb_debug_commands::{Command, read_command};

@@ -1,15 +1,19 @@
 //! A moment of a run: a machine, and how much of the run lies before it.
-ghost use Rattle.std.specs.Prelude.{◌≡◌, ◌<◌, ◌+◌, ◌==◌, ◌&&◌, if◌then◌else◌, List, Bool, IfOk, OnOk};
+ghost use Rattle.std.specs.Prelude.{◌≡◌, ◌<◌, ◌≤◌, ◌+◌, ◌==◌, ◌&&◌, if◌then◌else◌, List, Bool, IfOk, OnOk};
 ghost use Rattle.tb_kernal.specs.Machine.{state_of, status};
 ghost use Rattle.tb_kernal.specs.declared.status.Status.TheVariants as status;
-ghost use Rattle.tb_debug.specs.Runs.{IsOfRun, IsTyped, StaysOnRun, first_point, is_marked};
+ghost use Rattle.tb_debug.specs.Begins.{Advances, EndsAt, StandsBy, at_limit, own_at};
+ghost use Rattle.tb_debug.specs.Readings.{variables_of};
+ghost use Rattle.tb_debug.specs.Runs.{Point, IsOfRun, IsTyped, StaysOnRun, first_point, is_marked};
 
 use crate::beside::Beside;
 use crate::events::take_event;
+use crate::readings::variables_in;
 use crate::starts::Starts;
 use std::alloc::Global;
 use tb_kernal::{Machine, Status};
 use tb_memmap::NoMemory;
+use tb_stops::Variables;
 
 /// Where a walk ended.
 #[derive(Clone, Copy, PartialEq, Eq, Debug, Drop)]
@@ -39,19 +43,24 @@ pub struct Moment {
     pub begun: u64,
     /// Where the line that was begun last begins; 0 where none was.
     pub last: u16,
+    /// The variables as that line began; as the run did where none was.
+    pub opened: Variables,
 }
 
 impl Moment {
     /// The first moment of a run.
     pub fn first(machine: Machine, beside: Beside) -> Moment
-        ensures { (marks : List Bool) → IsOfRun marks (first_point (state_of machine) beside) result }
+        ensures run { (marks : List Bool) → IsOfRun marks (first_point (state_of machine) beside) result }
+        ensures events { result.events ≡ 0 }
     {
+        let opened = variables_in(&machine);
         Moment {
             machine,
             beside,
             events: 0,
             begun: 0,
             last: 0,
+            opened,
         }
     }
 
@@ -65,6 +74,7 @@ impl Moment {
             events: self.events,
             begun: self.begun,
             last: self.last,
+            opened: self.opened,
         })
     }
 
@@ -90,7 +100,9 @@ impl Moment {
     }
 
     /// How it stands.
-    pub fn standing(&self, starts: &Starts) -> Reached {
+    pub fn standing(&self, starts: &Starts) -> Reached
+        ensures { StandsBy starts.now result self.now }
+    {
         match self.machine.status() {
             Status::Running if self.begins(starts) => Reached::Line,
             Status::Running => Reached::Within,
@@ -98,35 +110,56 @@ impl Moment {
         }
     }
 
+    // The variables here where a line begins, or else as they were where the last one did.
+    fn opened_by(&self, marked: bool) -> Variables
+        ensures { result ≡ (if marked then variables_of (state_of self.now.machine).mem else self.now.opened) }
+    {
+        if marked {
+            variables_in(&self.machine)
+        } else {
+            self.opened
+        }
+    }
+
     // Takes the next event of a machine that runs: whether it was the program's own.
     fn take_event(&mut self, starts: &Starts) -> Result<bool, NoMemory>
         requires countable { (self.old.events < 18446744073709551615) × (self.old.begun < 18446744073709551615) }
         requires runs { status (state_of self.old.machine) ≡ status.Running }
-        ensures { OnOk result (StaysOnRun starts.now self.old self.new) }
+        ensures run { OnOk result (StaysOnRun starts.now self.old self.new) }
+        ensures one { OnOk result (self.new.events ≡ self.old.events + 1) }
+        ensures own { IfOk result (λ own. (start : Point) → IsOfRun starts.now start self.old → own ≡ own_at starts.now start self.old.events) }
     {
         let pc = self.machine.regs().pc;
-        let is_own = take_event(&mut self.machine, &mut self.beside)?;
         let marked = starts.begins(pc);
+        let here = self.opened_by(marked);
+        let is_own = take_event(&mut self.machine, &mut self.beside)?;
         let begins = both(is_own, marked);
         self.events += 1;
         self.begun = counted(self.begun, begins);
         self.last = begun_last(begins, pc, self.last);
+        self.opened = opened_last(begins, here, self.opened);
         Ok(is_own)
     }
 
     /// Goes on until a line begins or the machine doesn't run, by at most `limit` events.
     pub fn to_next_start(&mut self, starts: &Starts, limit: u64) -> Result<Reached, NoMemory>
-        ensures { OnOk result (StaysOnRun starts.now self.old self.new) }
+        ensures run { OnOk result (StaysOnRun starts.now self.old self.new) }
+        ensures within { OnOk result (self.new.events ≤ self.old.events + limit) }
+        ensures advances { IfOk result (λ reached. Advances reached self.old self.new) }
+        ensures ends { IfOk result (λ reached. (start : Point) → IsOfRun starts.now start self.old → EndsAt starts.now start limit self.old reached self.new) }
     {
-        for _ in 0..limit {
+        let last = self.events.saturating_add(limit);
+        while self.events < last {
             match self.machine.status() {
                 Status::Running => {}
                 status => return Ok(Reached::Ended(status)),
             }
-            if self.events == MOST_EVENTS || self.begun == MOST_EVENTS {
+            if self.begun == MOST_EVENTS {
                 return Ok(Reached::Limit);
             }
-            if self.take_event(starts)? && self.begins(starts) {
+            let own = self.take_event(starts)?;
+            let marked = self.begins(starts);
+            if both(own, marked) {
                 return Ok(Reached::Line);
             }
         }
@@ -134,7 +167,9 @@ impl Moment {
     }
 
     // How it stands behind the last event that it might take.
-    fn at_limit(&self) -> Reached {
+    fn at_limit(&self) -> Reached
+        ensures { result ≡ at_limit (status (state_of self.now.machine)) }
+    {
         match self.machine.status() {
             Status::Running => Reached::Limit,
             status => Reached::Ended(status),
@@ -174,6 +209,13 @@ fn counted(count: u64, counts: bool) -> u64
 
 // Where the line begins that was begun last: here, or where it did before.
 fn begun_last(begins: bool, here: u16, before: u16) -> u16
+    ensures { result ≡ (if begins then here else before) }
+{
+    if begins { here } else { before }
+}
+
+// The variables as the line began that was begun last: here, or where it did before.
+fn opened_last(begins: bool, here: Variables, before: Variables) -> Variables
     ensures { result ≡ (if begins then here else before) }
 {
     if begins { here } else { before }

@@ -1,13 +1,14 @@
 //! What commands do, and their answers.
 ghost use Rattle.std.specs.Prelude.{◌≡◌, OnOk, IfOk};
 ghost use Rattle.tb_debug.specs.Debuggers.{KeepsRun, KeepsRunTyped, Responds, keys_of};
+ghost use Rattle.tb_debug.specs.Telling.{Tells, TellsValue, output_told, returns_here, returns_told};
 
 use crate::answer::{Answer, Place, Stand};
-use crate::command::Command;
 use crate::debugger::Debugger;
 use crate::moment::Reached;
-use crate::readings::{bytes_from, line_from, returns, variables};
+use crate::readings::{bytes_from, line_from, returns};
 use std::alloc::{AllocError, Global};
+use tb_debug_commands::Command;
 use tb_disasm::{Line, first_line};
 use tb_kernal::Status;
 use tb_lower::{EvalError, eval};
@@ -32,7 +33,8 @@ impl<'a> Debugger<'a> {
         command: Command<'_>,
         limit: u64,
     ) -> Result<Option<Answer>, NoMemory>
-        ensures { OnOk result (Responds command.entry self.old self.new) }
+        ensures run { OnOk result (Responds command.entry self.old self.new) }
+        ensures tells { IfOk result (Tells command.entry self.new) }
     {
         match command {
             Command::Type(text) => {
@@ -40,6 +42,10 @@ impl<'a> Debugger<'a> {
                 Ok(Some(Answer::Typed))
             }
             Command::Quit => Ok(None),
+            Command::Variables => Ok(Some(Answer::Variables(self.variables()))),
+            Command::Variable(letter) => Ok(Some(self.variable(letter))),
+            Command::Returns => Ok(Some(self.return_list(alloc)?)),
+            Command::Output => Ok(Some(self.output(alloc)?)),
             _ => {
                 let answer = self.act(alloc, command, limit)?;
                 Ok(Some(answer))
@@ -135,8 +141,6 @@ impl<'a> Debugger<'a> {
             Command::Watch(letter) => self.turn_watch(letter),
             Command::Value(text) => self.value(alloc, text),
             Command::Breakpoints => self.breakpoints(alloc),
-            Command::Returns => self.return_list(alloc),
-            Command::Output => self.output(alloc),
             Command::Memory { at, count } => self.bytes(alloc, at, count),
             Command::Code => self.code(alloc),
             Command::ToLine(_) => Ok(Answer::NoSuchLine),
@@ -156,8 +160,6 @@ impl<'a> Debugger<'a> {
                 round: Some(line),
                 place: self.line(),
             },
-            Command::Variables => Answer::Variables(variables(self.present.machine.memory())),
-            Command::Variable(letter) => self.variable(letter),
             Command::Registers => Answer::Registers {
                 regs: self.present.machine.regs(),
                 line: self.program.line_at(self.present.machine.regs().pc),
@@ -196,8 +198,10 @@ impl<'a> Debugger<'a> {
         }
     }
 
-    fn variable(&self, letter: Letter) -> Answer {
-        let values = variables(self.present.machine.memory());
+    fn variable(&self, letter: Letter) -> Answer
+        ensures { TellsValue letter self.now (Some result) }
+    {
+        let values = self.variables();
         Answer::Variable {
             index: letter.index(),
             value: values[letter.index()],
@@ -206,9 +210,7 @@ impl<'a> Debugger<'a> {
 
     fn value(&self, alloc: Global, text: &[u8]) -> Result<Answer, NoMemory> {
         match parse_expr(alloc, text) {
-            Ok(expression) => {
-                Ok(value_answer(eval(&expression, &variables(self.present.machine.memory()))))
-            }
+            Ok(expression) => { Ok(value_answer(eval(&expression, &self.variables()))) }
             Err(error) => match error.kind {
                 SourceErrorKind::NoMemory => Err(NoMemory),
                 _ => Ok(Answer::What),
@@ -216,14 +218,18 @@ impl<'a> Debugger<'a> {
         }
     }
 
-    fn return_list(&self, alloc: Global) -> Result<Answer, NoMemory> {
+    fn return_list(&self, alloc: Global) -> Result<Answer, NoMemory>
+        ensures { IfOk result (λ answer. returns_told (Some answer) ≡ Some (returns_here self.now)) }
+    {
         match returns(alloc, self.present.machine.memory(), self.program) {
             Ok(lines) => Ok(Answer::Returns(lines)),
             Err(_) => Err(NoMemory),
         }
     }
 
-    fn output(&self, alloc: Global) -> Result<Answer, NoMemory> {
+    fn output(&self, alloc: Global) -> Result<Answer, NoMemory>
+        ensures { IfOk result (λ answer. output_told (Some answer) ≡ Some self.now.present.machine.sent) }
+    {
         match Vec::from_slice(alloc, self.present.machine.sent()) {
             Ok(sent) => Ok(Answer::Output(sent)),
             Err(_) => Err(NoMemory),

@@ -1,39 +1,50 @@
 //! Going on and back to a breakpoint or a watch.
-ghost use Rattle.std.specs.Prelude.{OnOk};
-ghost use Rattle.tb_debug.specs.Debuggers.{KeepsRun};
+ghost use Rattle.std.specs.Prelude.{◌≡◌, ◌⊎◌, ◌||◌, ◌≤◌, ℕ, IfOk, OnOk};
+ghost use Rattle.tb_codegen.specs.Compiled.{starts_of};
+ghost use Rattle.tb_debug.specs.Debuggers.{IsAtTime, KeepsRun, OnRun};
+ghost use Rattle.tb_debug.specs.Runs.{Point, IsKept, IsOfRun, shown};
+ghost use Rattle.tb_debug.specs.Searching.{KnowsBehind, NewestBetween};
+ghost use Rattle.tb_debug.specs.Stopping.{GoesToStop, IsNewest, breaks_at, changes, leads_back};
 
 use crate::debugger::Debugger;
+use crate::history::Kept;
 use crate::moment::{Moment, Reached};
-use crate::readings::{line_from, variables};
-use crate::stops::Variables;
+use crate::readings::{line_from, variables_in};
 use std::alloc::Global;
 use tb_memmap::NoMemory;
 
 impl<'a> Debugger<'a> {
     /// On to the next line with a breakpoint, or behind the next line that gives a watched variable another value.
     pub fn go_on(&mut self, alloc: Global, limit: u64) -> Result<Reached, NoMemory>
-        ensures { OnOk result (KeepsRun self.old self.new) }
+        ensures run { OnOk result (KeepsRun self.old self.new) }
+        ensures stop { IfOk result (λ reached. (start : Point) → OnRun start self.old → GoesToStop start reached self.old self.new) }
     {
         let last = self.present.events.saturating_add(limit);
-        let mut before = self.variables_at_begin(alloc)?;
         for _ in 0..u64::MAX {
             match self.next_line(alloc, self.left(last))? {
                 Reached::Line => {}
                 reached => return Ok(reached),
             }
-            let now = self.watched(&self.present);
-            if self.has_breakpoint(&self.present) || self.stops.differ(&before, &now) {
+            if self.is_stop() {
                 return Ok(Reached::Line);
             }
-            before = now;
         }
         Ok(Reached::Limit)
+    }
+
+    // Whether going on stops at the line that begins here.
+    fn is_stop(&self) -> bool
+        ensures { result ≡ (breaks_at (starts_of self.now.program.now) self.now.stops (shown self.now.present) || changes self.now.stops (shown self.now.present)) }
+    {
+        self.has_breakpoint(&self.present) || self.has_changed(&self.present)
     }
 
     /// Back to the newest line before with a breakpoint, or that gave a watched variable another value; to the first line
     /// where there is none.
     pub fn go_back(&mut self, alloc: Global) -> Result<Reached, NoMemory>
-        ensures { OnOk result (KeepsRun self.old self.new) }
+        ensures run { OnOk result (KeepsRun self.old self.new) }
+        ensures stop { IfOk result (λ reached. (start : Point) → start.begun ≡ 0 → OnRun start self.old
+            → (time : ℕ) × IsNewest self.old start time × IsAtTime time reached self.new) }
     {
         if self.present.begun == 0 {
             return Ok(self.standing());
@@ -42,93 +53,101 @@ impl<'a> Debugger<'a> {
         self.back_to(alloc, time)
     }
 
-    // The time of the newest stop before; 0 where there is none.
-    fn newest_stop(&self, alloc: Global) -> Result<u64, NoMemory> {
-        let mut end = self.present.begun;
+    // The newest time to which going back leads.
+    fn newest_stop(&self, alloc: Global) -> Result<u64, NoMemory>
+        ensures { IfOk result (λ time. (start : Point) → start.begun ≡ 0 → OnRun start self.now → IsNewest self.now start time) }
+    {
+        let mut newest = self.leads_back(&self.present);
+        let mut last = self.present.events;
         for index in (0..self.history.len()).rev() {
             if let Some(kept) = self.history.get(index) {
-                let begun = kept.moment.begun;
-                if begun < end {
-                    let moment = kept.again(alloc, self.present.machine.sent())?;
-                    if let Some(time) = self.newest_between(moment, end)? {
-                        return Ok(time);
-                    }
-                    end = begun;
+                newest = self.with_kept(alloc, kept, last, newest)?;
+                if kept.moment.begun <= newest {
+                    return Ok(newest);
                 }
+                last = kept.moment.events;
             }
         }
-        Ok(0)
-    }
-
-    // The time of the newest stop of the lines from a moment on and before a time.
-    fn newest_between(&self, moment: Moment, end: u64) -> Result<Option<u64>, NoMemory> {
-        let mut moment = moment;
-        let mut found = None;
-        if !moment.begins(&self.starts) {
-            moment.to_next_start(&self.starts, u64::MAX)?;
-        }
-        for _ in moment.begun..end {
-            let time = moment.begun;
-            let has_breakpoint = self.has_breakpoint(&moment);
-            let before = self.watched(&moment);
-            let after = self.values_behind(&mut moment)?;
-            if has_breakpoint || self.stops.differ(&before, &after) {
-                found = Some(time);
-            }
-        }
+        let found = self.with_kept(alloc, &self.history.first, last, newest)?;
         Ok(found)
     }
 
-    // The watched values behind the line that a moment begins, or where the present moment stands within it.
-    fn values_behind(&self, moment: &mut Moment) -> Result<Variables, NoMemory> {
-        if self.present.begun <= moment.begun.saturating_add(1)
-            && !self.present.begins(&self.starts)
-        {
-            return Ok(self.watched(&self.present));
+    // The newest time to which going back leads from behind a kept moment, where from behind so many events it is known.
+    fn with_kept(&self, alloc: Global, kept: &Kept, last: u64, newest: u64) -> Result<u64, NoMemory>
+        ensures { IfOk result (λ time. (start : Point) → start.begun ≡ 0 → OnRun start self.now → IsKept self.now.starts start kept.now
+            → kept.now.moment.events ≤ self.now.present.events
+            → last ≤ self.now.present.events → KnowsBehind self.now start last newest → KnowsBehind self.now start kept.now.moment.events time) }
+    {
+        if last <= kept.moment.events {
+            return Ok(newest);
         }
-        moment.to_next_start(&self.starts, u64::MAX)?;
-        Ok(self.watched(moment))
+        let moment = kept.again(alloc, self.present.machine.sent())?;
+        let found = self.newest_between(moment, last)?;
+        Ok(later(newest, found))
     }
 
-    // The variables of a moment, where any is watched.
-    fn watched(&self, moment: &Moment) -> Variables {
-        if self.stops.has_watches() {
-            variables(moment.machine.memory())
-        } else {
-            [0; 26]
-        }
-    }
-
-    // The watched values at the beginning of the line that was begun last.
-    fn variables_at_begin(&self, alloc: Global) -> Result<Variables, NoMemory> {
-        if !self.stops.has_watches()
-            || self.present.begins(&self.starts)
-            || self.present.begun == 0
-        {
-            return Ok(self.watched(&self.present));
-        }
-        let time = self.present.begun - 1;
-        let Some(kept) = self.history.get(self.history.newest_until(time)) else {
-            return Ok(self.watched(&self.present));
-        };
-        let mut moment = kept.again(alloc, self.present.machine.sent())?;
-        for _ in 0..u64::MAX {
-            if moment.is_at(&self.starts, time) {
-                break;
+    // The newest time to which the lines lead back that begin behind a moment and up to so many events.
+    fn newest_between(&self, from: Moment, last: u64) -> Result<u64, NoMemory>
+        ensures { IfOk result (λ time. (start : Point) → start.begun ≡ 0 → OnRun start self.now → IsOfRun self.now.starts start from
+            → last ≤ self.now.present.events → NewestBetween self.now start from.events last time) }
+    {
+        let mut moment = from;
+        let mut newest = 0;
+        while moment.events < last {
+            let left = last - moment.events;
+            match moment.to_next_start(&self.starts, left)? {
+                Reached::Line => {
+                    let time = self.leads_back(&moment);
+                    newest = later(newest, time);
+                }
+                _ => return Ok(newest),
             }
-            moment.to_next_start(&self.starts, u64::MAX)?;
         }
-        Ok(self.watched(&moment))
+        Ok(newest)
+    }
+
+    // The time to which a moment leads back: its own where a line with a breakpoint begins there, or else that of the line
+    // before it where this changed a watched variable; 0 for none.
+    fn leads_back(&self, moment: &Moment) -> u64
+        ensures { result ≡ leads_back (starts_of self.now.program.now) self.now.stops self.now.present.begun (shown moment.now) }
+    {
+        if moment.begun < self.present.begun && self.has_breakpoint(moment) {
+            moment.begun
+        } else if self.has_changed(moment) {
+            moment.begun.saturating_sub(1)
+        } else {
+            0
+        }
     }
 
     // Whether a moment begins a line with a breakpoint.
-    fn has_breakpoint(&self, moment: &Moment) -> bool {
-        if self.stops.breakpoints().is_empty() {
+    fn has_breakpoint(&self, moment: &Moment) -> bool
+        ensures { result ≡ breaks_at (starts_of self.now.program.now) self.now.stops (shown moment.now) }
+    {
+        if self.stops.breaks_nowhere() {
             return false;
         }
-        match line_from(self.program, moment.machine.regs().pc) {
-            Some(line) => self.stops.stops_at(line),
-            None => false,
-        }
+        self.stops
+            .breaks(line_from(self.program, moment.machine.regs().pc))
     }
+
+    // Whether the line that a moment has begun last has given a watched variable another value.
+    fn has_changed(&self, moment: &Moment) -> bool
+        ensures { result ≡ changes self.now.stops (shown moment.now) }
+    {
+        if self.stops.watches_none() {
+            return false;
+        }
+        let values = variables_in(&moment.machine);
+        self.stops.differ(&moment.opened, &values)
+    }
+}
+
+// The later of two times.
+fn later(one: u64, other: u64) -> u64
+    ensures one { one ≤ result }
+    ensures other { other ≤ result }
+    ensures which { (result ≡ one) ⊎ (result ≡ other) }
+{
+    if one < other { other } else { one }
 }

@@ -2,10 +2,10 @@
 ghost use Rattle.std.specs.Prelude.{◌+◌};
 ghost use Rattle.tb_streams.specs.Failures.{failures_of};
 ghost use Rattle.tb_streams.specs.Streams.{most_input, ConsumesAtMost};
-ghost use Rattle.tb_disk_engine.specs.Files.{Adds, AddFaults, Writes, WriteFaults};
+ghost use Rattle.tb_disk_engine.specs.Files.{Adds, AddFaults};
 
 use std::alloc::Global;
-use std::io::{Read, Write};
+use std::io::Read;
 use tb_disk_engine::{DiskFiles, DiskOutcome, Name};
 use tb_streams::Tracked;
 
@@ -23,18 +23,4 @@ pub fn with_file<R: Read>(
         (most_input + 1) }
 {
     files.add(alloc, name, reader)
-}
-
-/// `DiskFiles::write`.
-pub fn disk_written<W: Write>(
-    files: &DiskFiles,
-    alloc: Global,
-    path: &str,
-    writer: &mut Tracked<W>,
-) -> DiskOutcome
-    ensures writes { Writes files.now path.now result
-        (W.contents writer.old.stream) (W.contents writer.new.stream) }
-    ensures faults { WriteFaults result (failures_of writer.old) (failures_of writer.new) }
-{
-    files.write(alloc, path, writer)
 }

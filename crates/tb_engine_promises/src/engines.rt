@@ -1,24 +1,17 @@
 //! Running, assembling and listing.
-ghost use Rattle.std.specs.Prelude.{◌≡◌, ◌+◌};
+ghost use Rattle.std.specs.Prelude.{◌+◌};
 ghost use Rattle.tb_streams.specs.Streams.{most_input, ConsumesAtMost};
 ghost use Rattle.tb_streams.specs.Failures.{failures_of};
-ghost use Rattle.tb_engines.specs.Assembly.{Assembles, ListsPrg};
+ghost use Rattle.tb_engines.specs.Assembly.{ListsPrg};
 ghost use Rattle.tb_engines.specs.Made.{Makes, Shows, DeliveryFaults};
-ghost use Rattle.tb_engines.specs.Outcomes.{Answers, Faults, MadeFrom, status_of};
+ghost use Rattle.tb_engines.specs.Outcomes.{Answers, Faults, MadeFrom};
 ghost use Rattle.tb_engines.specs.Programs.{RunsPrg};
 
 use std::alloc::Global;
 use std::io::{Read, Write};
-use tb_engines::{Outcome, Stop, Text, asm_text, deliver, dis_text, run_file};
+use tb_engines::{Outcome, Stop, Text, deliver, dis_text, run_file};
 use tb_kernal::{Keyboard, Outside};
 use tb_streams::Tracked;
-
-/// `Outcome::status`.
-pub fn status_of(outcome: &Outcome) -> u8
-    ensures { result ≡ status_of outcome.now }
-{
-    outcome.status()
-}
 
 /// `deliver`.
 pub fn delivered<W: Write>(writer: &mut Tracked<W>, made: Result<Text, Stop>) -> Outcome
@@ -41,24 +34,6 @@ pub fn run_of_file<O: Outside>(
         file.now) result }
 {
     run_file(alloc, file, keyboard, limit, outside)
-}
-
-/// `asm_text`.
-pub fn assembled_text<R: Read, W: Write>(
-    alloc: Global,
-    reader: &mut Tracked<R>,
-    writer: &mut Tracked<W>,
-    at: u16,
-) -> Outcome
-    ensures answers { Answers (MadeFrom (R.remaining reader.old.stream) (Assembles at)) result
-        (W.contents writer.old.stream) (W.contents writer.new.stream) }
-    ensures faults { Faults result (R.remaining reader.old.stream)
-        (failures_of reader.old) (failures_of reader.new)
-        (failures_of writer.old) (failures_of writer.new) }
-    ensures taken { ConsumesAtMost (R.remaining reader.old.stream) (R.remaining reader.new.stream)
-        (most_input + 1) }
-{
-    asm_text(alloc, reader, writer, at)
 }
 
 /// `dis_text`.

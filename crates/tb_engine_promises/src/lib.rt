@@ -8,5 +8,5 @@
 mod disks;
 mod engines;
 
-pub use disks::{disk_written, with_file};
-pub use engines::{assembled_text, delivered, listed_file, run_of_file, status_of};
+pub use disks::with_file;
+pub use engines::{delivered, listed_file, run_of_file};

@@ -2,3 +2,4 @@ pub mod Outcomes
 pub mod Made
 pub mod Programs
 pub mod Assembly
+pub mod Texts

@@ -16,4 +16,4 @@ pub use made::{Stop, Text, deliver, without_input};
 pub use outcome::{End, Outcome, Refusal};
 pub use programs::{end_of, run_file, run_prg};
 pub use report::Report;
-pub use texts::{TOO_DEEP, source_text};
+pub use texts::{TOO_DEEP, TooLarge, source_text};

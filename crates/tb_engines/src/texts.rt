@@ -1,4 +1,7 @@
 //! What standard error says of an outcome, behind `tbc: `. There is nothing to say where all is done.
+ghost use Rattle.std.specs.Prelude.{◌≡◌, Some};
+ghost use Rattle.tb_engines.specs.Texts.{source_text, too_large_text};
+
 use crate::outcome::{End, Outcome, Refusal};
 use std::fmt;
 use tb_asm::AsmErrorKind;
@@ -22,10 +25,10 @@ fn kind_text(kind: AsmErrorKind) -> &'static str {
 
 fn write_wrong<W: fmt::Write>(wrong: Wrong, f: &mut fmt::Formatter<W>) -> fmt::Result {
     match wrong {
-        Wrong::UnknownOpcode => write!(f, "unknown opcode"),
-        Wrong::BadDecimal => write!(f, "bad decimal"),
+        Wrong::UnknownOpcode => f.write_str("unknown opcode"),
+        Wrong::BadDecimal => f.write_str("bad decimal"),
         Wrong::Closed(address) => write!(f, "closed address {address:04X}"),
-        Wrong::Brk => write!(f, "brk"),
+        Wrong::Brk => f.write_str("brk"),
     }
 }
 
@@ -33,7 +36,9 @@ fn write_wrong<W: fmt::Write>(wrong: Wrong, f: &mut fmt::Formatter<W>) -> fmt::R
 pub const TOO_DEEP: &str = "expression too deep";
 
 /// What is wrong with a line of a source, or that no line is left.
-pub fn source_text(kind: SourceErrorKind) -> &'static str {
+pub fn source_text(kind: SourceErrorKind) -> &'static str
+    ensures { result.now ≡ source_text kind }
+{
     match kind {
         SourceErrorKind::LineTooLong => "line too long",
         SourceErrorKind::BadByte => "bad byte",
@@ -47,11 +52,23 @@ pub fn source_text(kind: SourceErrorKind) -> &'static str {
     }
 }
 
+/// What is said of a program that costs so much.
+#[derive(Drop)]
+pub struct TooLarge(pub u32);
+
+impl fmt::Display for TooLarge {
+    ghost output = { λ n. Some (too_large_text n.0) };
+
+    fn fmt<W: fmt::Write>(&self, f: &mut fmt::Formatter<W>) -> fmt::Result {
+        write!(f, "program too large ({} bytes)", self.0)
+    }
+}
+
 fn write_source_error<W: fmt::Write>(error: SourceError, f: &mut fmt::Formatter<W>) -> fmt::Result {
     if 0 < error.line {
         write!(f, "{}:{}: ", error.line, error.column)?;
     }
-    write!(f, "{}", source_text(error.kind))
+    f.write_str(source_text(error.kind))
 }
 
 fn write_compile_error<W: fmt::Write>(
@@ -61,9 +78,9 @@ fn write_compile_error<W: fmt::Write>(
     match error {
         CompileError::Source(error) => write_source_error(error, f),
         CompileError::Lower(LowerError::TooDeep(line)) => { write!(f, "line {line}: {TOO_DEEP}") }
-        CompileError::TooLarge(cost) => write!(f, "program too large ({cost} bytes)"),
+        CompileError::TooLarge(cost) => write!(f, "{}", TooLarge(cost)),
         CompileError::Lower(LowerError::NoMemory) | CompileError::NoMemory => {
-            write!(f, "out of memory")
+            f.write_str("out of memory")
         }
     }
 }
@@ -73,9 +90,9 @@ impl fmt::Display for Refusal {
         match self {
             Refusal::TextLine(line) => write!(f, "text line {line}"),
             Refusal::Item(error) => write!(f, "item {}: {}", error.item, kind_text(error.kind)),
-            Refusal::Prg(PrgError::TooShort) => write!(f, "not a PRG: too short"),
-            Refusal::Prg(PrgError::RunsPast) => write!(f, "not a PRG: runs past the end"),
-            Refusal::NotRam => write!(f, "not a PRG: not RAM"),
+            Refusal::Prg(PrgError::TooShort) => f.write_str("not a PRG: too short"),
+            Refusal::Prg(PrgError::RunsPast) => f.write_str("not a PRG: runs past the end"),
+            Refusal::NotRam => f.write_str("not a PRG: not RAM"),
             Refusal::Source(error) => write_compile_error(*error, f),
         }
     }
@@ -85,10 +102,10 @@ impl fmt::Display for End {
     fn fmt<W: fmt::Write>(&self, f: &mut fmt::Formatter<W>) -> fmt::Result {
         match self {
             End::Done => Ok(()),
-            End::StepLimit => write!(f, "step limit"),
-            End::WaitsForKey => write!(f, "waits for a key"),
+            End::StepLimit => f.write_str("step limit"),
+            End::WaitsForKey => f.write_str("waits for a key"),
             End::WentWrong { wrong, pc } => {
-                write!(f, "wrong: ")?;
+                f.write_str("wrong: ")?;
                 write_wrong(*wrong, f)?;
                 write!(f, " at {pc:04X}")
             }
@@ -101,9 +118,9 @@ impl fmt::Display for Outcome {
         match self {
             Outcome::Ended(end) => end.fmt(f),
             Outcome::Refused(refusal) => refusal.fmt(f),
-            Outcome::ReadFault => write!(f, "read fault"),
-            Outcome::WriteFault => write!(f, "write fault"),
-            Outcome::NoMemory => write!(f, "out of memory"),
+            Outcome::ReadFault => f.write_str("read fault"),
+            Outcome::WriteFault => f.write_str("write fault"),
+            Outcome::NoMemory => f.write_str("out of memory"),
         }
     }
 }

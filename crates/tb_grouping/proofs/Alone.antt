@@ -15,8 +15,8 @@ use Rattle.tb_keeping.proofs.Joins.{sent_in}
 use Rattle.tb_selection.specs.Groups.{Single}
 use Rattle.tb_selection.specs.Select.{alone}
 use Rattle.tb_grouping.proofs.Asking.{input_fails, input_law, input_waits, poll_breaks, poll_law}
-use Rattle.tb_grouping.proofs.Finding.{return_fails, return_law}
-use Rattle.tb_grouping.proofs.Leaving.{call_to_fails, call_to_found, call_to_full, end_law, to_fails, to_found}
+use Rattle.tb_grouping.proofs.Calling.{call_to_fails, call_to_found, call_to_full, return_fails, return_law}
+use Rattle.tb_grouping.proofs.Leaving.{end_law, to_fails, to_found}
 use Rattle.tb_grouping.proofs.Matching.{Target}
 use Rattle.tb_grouping.proofs.Coded.{GroupsLaid}
 use Rattle.tb_grouping.proofs.Quiet.{load_law, put_law}
@@ -41,12 +41,12 @@ module _ (ly : Layout) (f : Setup) (lo hi keys : ℕ) (fits : Fits f 16) (limit 
 
     by_number_room : (k : ℕ) → Begins (CallTo k) → (t u : Bool) → has_line ly.numbers k ≡ t → nat_lt (length s.returns) deepest ≡ u → Leads w (settled n is r (leaving (if t then (if u then Goes (record s { place = At k; returns = next_after ly.numbers n ∷ s.returns }) [] else fault 4 n) else fault 1 n)))
     by_number_room k h false u e e' = looser f w _ _ (fault_text 1 n) (4 + limit) most (omega arith) (λ u x. x) (call_to_fails ly f lo hi keys fits limit rs code laid n is s r w k h e)
-    by_number_room k h true false e e' = looser f w _ _ (fault_text 4 n) (9 + limit) most (omega arith) (λ u x. x) (call_to_full ly f lo hi keys fits limit rs code laid n is s r w k h e e')
-    by_number_room k h true true e e' = looser f w _ _ [] (10 + limit) most (omega arith) (λ u x. x) (call_to_found ly f lo hi keys fits limit rs code laid n is s r w k h e e')
+    by_number_room k h true false e e' = looser f w _ _ (fault_text 4 n) (12 + limit) most (omega arith) (λ u x. x) (call_to_full ly f lo hi keys fits limit rs code laid n is s r w k h e e')
+    by_number_room k h true true e e' = looser f w _ _ [] (13 + limit) most (omega arith) (λ u x. x) (call_to_found ly f lo hi keys fits limit rs code laid n is s r w k h e e')
 
     by_notes : Begins Return → (l : List Place) → s.returns ≡ l → Leads w (settled n is r (leaving (return_to n l s)))
-    by_notes h [] e = looser f w _ _ (fault_text 5 n) (6 + limit) most (omega arith) (λ u x. x) (return_fails ly f lo hi keys fits limit rs code laid n is s r w h e)
-    by_notes h (p ∷ ps) e = looser f w _ _ [] (6 + limit) most (omega arith) (λ u x. x) (return_law ly f lo hi keys fits limit rs code laid n is s r w h p ps e)
+    by_notes h [] e = looser f w _ _ (fault_text 5 n) (11 + limit) most (omega arith) (λ u x. x) (return_fails ly f lo hi keys fits limit rs code laid n is s r w h e)
+    by_notes h (p ∷ ps) e = looser f w _ _ [] (13 + limit) most (omega arith) (λ u x. x) (return_law ly f lo hi keys fits limit rs code laid n is s r w h p ps e)
 
     by_turn : (x : ℕ) → Begins (Input x) → (o : Bool) → s.open_line ≡ o → (t : Turn) → turn Nothing s.text ≡ t → Leads w (settled n is r (staying r (if o then take_turn n x t s else after_sending (63 ∷ 32 ∷ []) (take_turn n x t (record s { column = column_after s.column (63 ∷ 32 ∷ []) })))))
     by_turn x h true e (Got v true left) e' = looser f w _ _ [] (9 + limit) most (omega arith) (λ u x. x) (input_law ly f lo hi keys fits limit rs code n is s r w x h true e true v left e')

@@ -17,7 +17,7 @@ use Rattle.tb_templates.specs.Templates.{var_at}
 use Rattle.tb_keeping.specs.Layout.{Layout}
 use Rattle.tb_keeping.proofs.Turns.{Leaves, turn_short}
 use Rattle.tb_keeping.proofs.Frames.{column_mod, owned_low, put_away, word_put}
-use Rattle.tb_keeping.proofs.Pieces.{calls, copies, put_word, word_in_data}
+use Rattle.tb_keeping.proofs.Pieces.{calls, put_word, word_in_data}
 use Rattle.tb_keeping.proofs.Returning.{back_here, behind_call, homed_kept, moved}
 use Rattle.tb_selection.specs.Groups.{IntoHome, IntoVariable, Single}
 use Rattle.tb_selection.specs.Liveness.{live}
@@ -27,6 +27,7 @@ use Rattle.tb_grouping.proofs.Lone.{Kept, kept_lined, kept_scratch, lined, lines
 use Rattle.tb_grouping.proofs.Matching.{HoldsState, Matches}
 use Rattle.tb_grouping.proofs.Ready.{Ready, stood}
 use Rattle.tb_grouping.proofs.SlotSide.{line}
+use Rattle.tb_grouping.proofs.Sums.{copies}
 
 module _ (ly : Layout) (f : Setup) (lo hi keys : ℕ) (fits : Fits f 16) (limit : ℕ) (rs : Routines ly.table ly.seed ly.numbers ly.start f lo hi keys limit) (code : SlotCode) (n : ℕ) (is : List Instr) (s : State) (r : Slots) (w : View) where
   abbrev own : List ℕ

@@ -1,5 +1,5 @@
 -- The code of groups as instructions at their places.
-use Rattle.std.specs.Prelude.{◌≡◌, ℕ, ◌+◌, ◌/◌, ◌%◌, ◌≤◌, ◌<◌, List, [], ◌∷◌, ◌++◌, length, Bool, true, false, if◌then◌else◌, bit_xor, Some, None}
+use Rattle.std.specs.Prelude.{◌≡◌, ℕ, zero, suc, ◌+◌, ◌/◌, ◌%◌, ◌≤◌, ◌<◌, List, [], ◌∷◌, ◌++◌, length, Bool, true, false, if◌then◌else◌, bit_xor, nat_eq, nat_lt, Option, Some, None}
 use Rattle.tb_asm.specs.Layout.{distance, is_near}
 use Rattle.tb_syntax.specs.Source.{numbers}
 use Rattle.tb_reaching.specs.View.{Part}
@@ -11,13 +11,14 @@ use Rattle.tb_syntax.specs.declared.expressions.Operator.TheVariants.{Add, Subtr
 use Rattle.tb_lower.specs.Control.{Place, content_at, has_line, highest}
 use Rattle.tb_lower.specs.Ranges.{AreInRange}
 use Rattle.tb_lower.specs.Slots as slots
-use Rattle.tb_runtime16.specs.Places.{LEFT, RIGHT, RESULT, WANTED, LINE, MULTIPLY_AT, DIVIDE_AT, RANDOM_AT, NUMBER_AT, PUSH_AT}
+use Rattle.tb_runtime16.specs.Places.{LEFT, RIGHT, RESULT, WANTED, LINE, NOTES, NOTE_LOW, NOTE_HIGH, MULTIPLY_AT, DIVIDE_AT, RANDOM_AT, NUMBER_AT, PUSH_AT, POP_AT}
 use Rattle.tb_templates.specs.declared.sources.Source.{Source}
 use Rattle.tb_templates.specs.declared.sources.Source.TheVariants.{FixedWord, AtPlace}
-use Rattle.tb_templates.specs.GroupTemplates.{may_fault}
+use Rattle.tb_templates.specs.GroupTemplates.{may_fault, may_be_zero, may_have_none, is_zero}
+use Rattle.tb_templates.specs.Scaled.{all_but_lowest, scaling, shifts}
 use Rattle.tb_templates.specs.Sources.{source_of, tested_source, home_at, destination_at}
 use Rattle.tb_keeping.specs.Layout.{Layout, next_at, place_at}
-use Rattle.tb_keeping.proofs.Resolved.{Piece, Code, Lies, pieces_size, size, copied, constant, call, faulting, jump, jump_through, template, highest_code, locate_code, past_code}
+use Rattle.tb_keeping.proofs.Resolved.{Piece, Code, Lies, pieces_size, size, sta_at, copied, constant, pointed, call, faulting, jump, jump_through, template, highest_code, locate_code, past_code}
 use Rattle.tb_selection.specs.Groups.{Conversion, Negated, Drawn, Usage, AsNumber, AsLine, AsSubroutine, Group, Calculate, Convert, Move, Use, Test, TestGo, Single, denied, slot_of, expand}
 use Rattle.tb_selection.specs.Select.{select}
 use Rattle.tb_grouping.proofs.Sources.{Byte, Fixed, At, lda, adc, sbc, cmp}
@@ -33,7 +34,7 @@ high (AtPlace p) = At (p + 1)
 
 -- ---- pieces
 abbrev pub brought : Source → ℕ → List Instr
-brought a to = lda (low a) ∷ ins 0x8D to ∷ lda (high a) ∷ ins 0x8D (to + 1) ∷ []
+brought a to = lda (low a) ∷ sta_at to ∷ lda (high a) ∷ sta_at (to + 1) ∷ []
 
 abbrev pub summed : Source → Source → ℕ → List Instr
 summed a b to = ins 0x18 0 ∷ lda (low a) ∷ adc (low b) ∷ ins 0x8D to ∷ lda (high a) ∷ adc (high b) ∷ ins 0x8D (to + 1) ∷ []
@@ -49,17 +50,80 @@ weighed a b = lda a ∷ cmp b ∷ []
 abbrev pub routine : ℕ → ℕ → Source → Source → ℕ → List Piece
 routine entry from a b to = Code (brought a LEFT) ∷ Code (brought b RIGHT) ∷ Code (call entry) ∷ Code (copied from to) ∷ []
 
+-- code with LINE set before it where it may fault
+abbrev pub lined_code : Bool → ℕ → List Piece → List Piece
+lined_code true n ps = Code (constant n LINE) ∷ ps
+lined_code false n ps = ps
+
+-- a word over 2^(k + 1): its high byte in A, its low byte in LEFT
+abbrev pub rounded : ℕ → Source → List Instr
+rounded zero a = lda (low a) ∷ adc (Fixed 0) ∷ []
+rounded (suc k) a = lda (Fixed 0) ∷ adc (Fixed 255) ∷ ins 0x29 (all_but_lowest (suc k)) ∷ ins 0x49 (all_but_lowest (suc k)) ∷ adc (low a) ∷ []
+
+abbrev pub signed : Source → List Instr
+signed a = lda (high a) ∷ cmp (Fixed 128) ∷ []
+
+abbrev pub carried : Source → List Instr
+carried a = ins 0x85 LEFT ∷ lda (high a) ∷ adc (Fixed 0) ∷ []
+
+abbrev pub halved : List Instr
+halved = ins 0xC9 128 ∷ ins 0x6A 0 ∷ ins 0x66 LEFT ∷ []
+
+abbrev pub halvings : ℕ → List Instr
+halvings zero = []
+halvings (suc k) = halvings k ++ halved
+
+abbrev pub high_first : ℕ → List Instr
+high_first to = ins 0x8D (to + 1) ∷ ins 0xA5 LEFT ∷ ins 0x8D to ∷ []
+
+abbrev pub shifted : ℕ → Source → ℕ → List Instr
+shifted k a to = signed a ++ (rounded k a ++ (carried a ++ (halvings (suc k) ++ high_first to)))
+
+-- a word times a factor: the product's low byte in A, its high byte in LEFT
+abbrev pub doubled : List Instr
+doubled = ins 0x0A 0 ∷ ins 0x26 LEFT ∷ []
+
+abbrev pub increased : Source → List Instr
+increased a = ins 0x18 0 ∷ adc (low a) ∷ ins 0xAA 0 ∷ ins 0xA5 LEFT ∷ adc (high a) ∷ ins 0x85 LEFT ∷ ins 0x8A 0 ∷ []
+
+abbrev pub by_bit : Bool → Source → List Instr
+by_bit false a = doubled
+by_bit true a = doubled ++ increased a
+
+abbrev pub by_bits : ℕ → ℕ → Source → List Instr
+by_bits zero factor a = []
+by_bits (suc k) factor a = if nat_lt factor 2 then [] else by_bits k (factor / 2) a ++ by_bit (nat_eq (factor % 2) 1) a
+
+abbrev pub begun : Source → List Instr
+begun a = lda (high a) ∷ ins 0x85 LEFT ∷ lda (low a) ∷ []
+
+abbrev pub low_first : ℕ → List Instr
+low_first to = ins 0x8D to ∷ ins 0xA5 LEFT ∷ ins 0x8D (to + 1) ∷ []
+
+abbrev pub times : ℕ → Source → ℕ → List Instr
+times factor a to = begun a ++ (by_bits 15 factor a ++ low_first to)
+
+-- a product: of a constant and a word by the constant's bits, where they are few
+abbrev pub product_code : Option (ℕ × Source) → Source → Source → ℕ → List Piece
+product_code (Some scaled) a b to = Code (times scaled.0 scaled.1 to) ∷ []
+product_code None a b to = routine MULTIPLY_AT RESULT a b to
+
+-- a quotient of line n: over 2^(k + 1) by shifts
+abbrev pub quotient_code : ℕ → Option ℕ → Source → Source → ℕ → List Piece
+quotient_code n (Some k) a b to = Code (shifted k a to) ∷ []
+quotient_code n None a b to = lined_code (may_be_zero b) n (routine DIVIDE_AT LEFT a b to)
+
 -- a calculation of line n
 abbrev pub calc_code : ℕ → Operator → Source → Source → ℕ → List Piece
 calc_code n Add a b to = Code (summed a b to) ∷ []
 calc_code n Subtract a b to = Code (taken a b to) ∷ []
-calc_code n Multiply a b to = routine MULTIPLY_AT RESULT a b to
-calc_code n Divide a b to = Code (constant n LINE) ∷ routine DIVIDE_AT LEFT a b to
+calc_code n Multiply a b to = product_code (scaling a b) a b to
+calc_code n Divide a b to = quotient_code n (shifts b) a b to
 
 -- a conversion of a word of line n: 0 minus it, or a random number below it
 abbrev pub convert_code : Layout → ℕ → Conversion → Source → ℕ → List Piece
 convert_code ly n Negated a to = Code (taken (FixedWord 0) a to) ∷ []
-convert_code ly n Drawn a to = Code (constant n LINE) ∷ routine RANDOM_AT RESULT a (FixedWord ly.seed) to
+convert_code ly n Drawn a to = lined_code (may_have_none a) n (routine RANDOM_AT RESULT a (FixedWord ly.seed) to)
 
 -- the line table is searched for a word
 abbrev pub searched : Layout → ℕ → Source → List Piece → List Piece
@@ -69,7 +133,7 @@ searched ly n a others = Code (constant n LINE) ∷ Code (brought a WANTED) ∷ 
 abbrev pub use_code : Layout → ℕ → Usage → Source → List Piece
 use_code ly n AsNumber a = Code (brought a LEFT) ∷ Code (call NUMBER_AT) ∷ []
 use_code ly n AsLine a = searched ly n a (Code jump_through ∷ [])
-use_code ly n AsSubroutine a = searched ly n a (Code (constant (next_at ly n) LEFT) ∷ Code (call PUSH_AT) ∷ Code jump_through ∷ [])
+use_code ly n AsSubroutine a = searched ly n a (Code (pointed (next_at ly n) LEFT) ∷ Code (call PUSH_AT) ∷ Code jump_through ∷ [])
 
 -- ---- branches
 -- a flag that a branch asks
@@ -141,17 +205,39 @@ abbrev pub turned_at : Way → (at : ℕ) → Source → Source → ℕ
 turned_at first at a b = at + size (difference a b) + way_size first + 2
 
 -- N, turned where V is set, is whether a is below b: on to the next line where it is not, or, where that is wanted, where it is
-abbrev pub order_code : Bool → (first second : Way) (at : ℕ) → Source → Source → ℕ → List Piece
-order_code below first second at a b next =
+abbrev pub weighing_code : Bool → (first second : Way) (at : ℕ) → Source → Source → ℕ → List Piece
+weighing_code below first second at a b next =
     Code (difference a b)
     ∷ Code (branch_code first (branch_on Overflow false) (at + size (difference a b)) (turned_at first at a b))
     ∷ Code (ins 0x49 128 ∷ [])
     ∷ Code (branch_code second (branch_on Negative below) (turned_at first at a b) next)
     ∷ []
 
-abbrev pub OrderReaches : (first second : Way) (at : ℕ) → Source → Source → ℕ → Type 0
-OrderReaches first second at a b next =
+abbrev pub WeighingReaches : (first second : Way) (at : ℕ) → Source → Source → ℕ → Type 0
+WeighingReaches first second at a b next =
     BranchReaches first (at + size (difference a b)) (turned_at first at a b) × BranchReaches second (turned_at first at a b) next
+
+-- the same of a and 0: N behind the high byte is whether a is below
+abbrev pub sign_code : Bool → (first : Way) (at : ℕ) → Source → ℕ → List Piece
+sign_code below first at a next = Code (lda (high a) ∷ []) ∷ Code (branch_code first (branch_on Negative below) (at + size (lda (high a) ∷ [])) next) ∷ []
+
+abbrev pub SignReaches : (first : Way) (at : ℕ) → Source → ℕ → Type 0
+SignReaches first at a next = BranchReaches first (at + size (lda (high a) ∷ [])) next
+
+-- a test for order, by whether the right word is a constant 0
+abbrev pub order_by : Bool → Bool → (first second : Way) (at : ℕ) → Source → Source → ℕ → List Piece
+order_by true below first second at a b next = sign_code below first at a next
+order_by false below first second at a b next = weighing_code below first second at a b next
+
+abbrev pub ReachesBy : Bool → (first second : Way) (at : ℕ) → Source → Source → ℕ → Type 0
+ReachesBy true first second at a b next = SignReaches first at a next
+ReachesBy false first second at a b next = WeighingReaches first second at a b next
+
+abbrev pub order_code : Bool → (first second : Way) (at : ℕ) → Source → Source → ℕ → List Piece
+order_code below first second at a b next = order_by (is_zero b) below first second at a b next
+
+abbrev pub OrderReaches : (first second : Way) (at : ℕ) → Source → Source → ℕ → Type 0
+OrderReaches first second at a b next = ReachesBy (is_zero b) first second at a b next
 
 -- a test by its relation
 abbrev pub test_code : Rel → (first second : Way) (at : ℕ) → Source → Source → ℕ → List Piece
@@ -180,10 +266,121 @@ abbrev pub GoReaches : Layout → (n at : ℕ) (first second : Way) → Rel → 
 GoReaches ly n at first second rel a b true to = TestReaches (denied rel) first second at a b (ly.start to)
 GoReaches ly n at first second rel a b false to = TestReaches rel first second at a b (next_at ly n)
 
+-- ---- GOSUB and RETURN in line
+-- a byte goes to X, and to a flag whether it is 0
+abbrev pub asked : ℕ → List Instr
+asked place = ins 0xAE place ∷ []
+
+-- a note's two bytes go behind the others, and the low byte of their count goes up
+abbrev pub note_stored : (low high : ℕ) → List Instr
+note_stored low high = ins 0xAE NOTES ∷ ins 0xA9 low ∷ ins 0x9D NOTE_LOW ∷ ins 0xA9 high ∷ ins 0x9D NOTE_HIGH ∷ ins 0xEE NOTES ∷ []
+
+-- X is the low byte of the count of notes: it goes down, and the newest note's two bytes go to the result
+abbrev pub note_taken : List Instr
+note_taken = ins 0xCA 0 ∷ ins 0x8E NOTES ∷ ins 0xBD NOTE_LOW ∷ ins 0x8D RESULT ∷ ins 0xBD NOTE_HIGH ∷ ins 0x8D (RESULT + 1) ∷ []
+
+-- where the second branch of a call is, where the next line is noted, and where the routine does it
+abbrev pub counted_at : Way → ℕ → ℕ
+counted_at first at = at + 3 + way_size first + 16
+
+abbrev pub noted_at : (first second : Way) → ℕ → ℕ
+noted_at first second at = counted_at first at + way_size second + 3
+
+abbrev pub pushing_at : (first second : Way) → ℕ → ℕ
+pushing_at first second at = noted_at first second at + 3
+
+-- the next line is noted by the routine
+abbrev pub pushing_code : Layout → ℕ → ℕ → List Piece
+pushing_code ly n to = Code (constant n LINE) ∷ Code (pointed (next_at ly n) LEFT) ∷ Code (call PUSH_AT) ∷ Code (jump (ly.start to)) ∷ []
+
+-- the line is gone to
+abbrev pub going_code : Layout → ℕ → ℕ → List Piece
+going_code ly n to = Code (jump (ly.start to)) ∷ pushing_code ly n to
+
+-- the count of notes has a carry
+abbrev pub raising_code : Layout → ℕ → ℕ → List Piece
+raising_code ly n to = Code (ins 0xEE (NOTES + 1) ∷ []) ∷ going_code ly n to
+
+-- the next line is noted in line
+abbrev pub noting_code : Layout → (n at : ℕ) (first second : Way) → ℕ → List Piece
+noting_code ly n at first second to =
+    Code (note_stored (next_at ly n % 256) (next_at ly n / 256))
+    ∷ Code (branch_code second (branch_on Zero false) (counted_at first at) (noted_at first second at))
+    ∷ raising_code ly n to
+
+-- a call of a line
+abbrev pub called_code : Layout → (n at : ℕ) (first second : Way) → ℕ → List Piece
+called_code ly n at first second to =
+    Code (asked (NOTES + 1)) ∷ Code (branch_code first (branch_on Zero false) (at + 3) (pushing_at first second at)) ∷ noting_code ly n at first second to
+
+-- by whether there is such a line
+abbrev pub call_code : Layout → (n at : ℕ) (first second : Way) → Bool → ℕ → List Piece
+call_code ly n at first second true to = called_code ly n at first second to
+call_code ly n at first second false to = Code (faulting n 1) ∷ []
+
+abbrev pub CallReaches : (first second : Way) → ℕ → Bool → Type 0
+CallReaches first second at true = BranchReaches first (at + 3) (pushing_at first second at) × BranchReaches second (counted_at first at) (noted_at first second at)
+CallReaches first second at false = Unit {0}
+
+-- where a return asks for the low byte, and where the routine takes the note
+abbrev pub some_at : Way → ℕ → ℕ
+some_at first at = at + 3 + way_size first
+
+abbrev pub popping_at : (first second : Way) → ℕ → ℕ
+popping_at first second at = some_at first at + 3 + way_size second + 16 + 3
+
+-- the newest note is taken by the routine
+abbrev pub popping_code : ℕ → List Piece
+popping_code n = Code (constant n LINE) ∷ Code (call POP_AT) ∷ Code jump_through ∷ []
+
+-- the newest note is taken in line
+abbrev pub taking_code : ℕ → List Piece
+taking_code n = Code note_taken ∷ Code jump_through ∷ popping_code n
+
+-- a return, behind the question for the count's high byte
+abbrev pub low_code : (n at : ℕ) (first second : Way) → List Piece
+low_code n at first second =
+    Code (asked NOTES) ∷ Code (branch_code second (branch_on Zero true) (some_at first at + 3) (popping_at first second at)) ∷ taking_code n
+
+abbrev pub returned_code : (n at : ℕ) (first second : Way) → List Piece
+returned_code n at first second =
+    Code (asked (NOTES + 1)) ∷ Code (branch_code first (branch_on Zero false) (at + 3) (popping_at first second at)) ∷ low_code n at first second
+
+abbrev pub ReturnReaches : (first second : Way) → ℕ → Type 0
+ReturnReaches first second at = BranchReaches first (at + 3) (popping_at first second at) × BranchReaches second (some_at first at + 3) (popping_at first second at)
+
 -- ---- groups
--- an instruction alone, with LINE set before it where it may fault
-abbrev pub alone_code : Layout → ℕ → ℕ → slots.Instr → List Piece
-alone_code ly n at i = if may_fault ly.numbers i then Code (constant n LINE) ∷ template ly n (at + 10) i else template ly n at i
+-- whether an instruction alone has branches
+abbrev pub has_branches : slots.Instr → Bool
+has_branches (slots.CallTo to) = true
+has_branches slots.Return = true
+has_branches _ = false
+
+abbrev pub is_branching : Group → Bool
+is_branching (Single i) = has_branches i
+is_branching _ = false
+
+-- the code of one that has, and that its branches reach
+abbrev pub branching_code : Layout → (n at : ℕ) (first second : Way) → slots.Instr → List Piece
+branching_code ly n at first second (slots.CallTo to) = call_code ly n at first second (has_line ly.numbers to) to
+branching_code ly n at first second slots.Return = returned_code n at first second
+branching_code ly n at first second _ = []
+
+abbrev pub BranchingReaches : Layout → (first second : Way) → ℕ → slots.Instr → Type 0
+BranchingReaches ly first second at (slots.CallTo to) = CallReaches first second at (has_line ly.numbers to)
+BranchingReaches ly first second at slots.Return = ReturnReaches first second at
+BranchingReaches ly first second at _ = Unit {0}
+
+abbrev pub OnlyIf : Bool → Type 0 → Type 0
+OnlyIf true claim = claim
+OnlyIf false claim = Unit {0}
+
+-- an instruction alone without branches, with LINE set before it where it may fault
+abbrev pub plain_code : Layout → ℕ → ℕ → slots.Instr → List Piece
+plain_code ly n at i = if may_fault i then Code (constant n LINE) ∷ template ly n (at + 10) i else template ly n at i
+
+abbrev pub alone_code : Layout → (n at : ℕ) (first second : Way) → slots.Instr → List Piece
+alone_code ly n at first second i = if has_branches i then branching_code ly n at first second i else plain_code ly n at i
 
 -- the code of a group of line n, at an address, with the ways of its branches
 abbrev pub group_code : Layout → (n at : ℕ) (first second : Way) → Group → List Piece
@@ -193,12 +390,13 @@ group_code ly n at first second (Move a home) = Code (brought (source_of 0 a) (h
 group_code ly n at first second (Use how a) = use_code ly n how (source_of 0 a)
 group_code ly n at first second (Test rel a b) = test_code rel first second at (tested_source a) (source_of 0 b) (next_at ly n)
 group_code ly n at first second (TestGo rel a b to) = go_code ly n at first second rel (tested_source a) (source_of 0 b) (has_line ly.numbers to) to
-group_code ly n at first second (Single i) = alone_code ly n at i
+group_code ly n at first second (Single i) = alone_code ly n at first second i
 
 -- the branches of a group reach
 abbrev pub BranchesReach : Layout → (n at : ℕ) (first second : Way) → Group → Type 0
 BranchesReach ly n at first second (Test rel a b) = TestReaches rel first second at (tested_source a) (source_of 0 b) (next_at ly n)
 BranchesReach ly n at first second (TestGo rel a b to) = GoReaches ly n at first second rel (tested_source a) (source_of 0 b) (has_line ly.numbers to) to
+BranchesReach ly n at first second (Single i) = OnlyIf (has_branches i) (BranchingReaches ly first second at i)
 BranchesReach ly n at first second _ = Unit {0}
 
 -- the groups of the rest of line n, behind which the next line begins

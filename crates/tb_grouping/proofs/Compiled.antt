@@ -58,7 +58,7 @@ module _ (seed : ℕ) (program : Program) (code : SlotCode) (seed_small : seed <
   abbrev kept : (s : machine.State) → Starts 0x0801 bytes s → Keeps 0x0801 bytes program seed
   kept s h =
       let l = laid s h in
-      whole.keeps 0x0801 bytes from to (layout_of labels (numbers code) seed) program code follows closed l.first (groups_laid labels seed part code l polled) limit_by 192 (routines 0x0801 bytes from to labels seed code l) (prologue 0x0801 bytes from to labels seed code l)
+      whole.keeps 0x0801 bytes from to (layout_of labels (numbers code) seed) program code follows closed l.first (groups_laid labels seed part code l polled) limit_by (λ k. omega arith) 192 (routines 0x0801 bytes from to labels seed code l) (prologue 0x0801 bytes from to labels seed code l)
 
   pub image_keeps : Keeps 0x0801 bytes program seed
   image_keeps = record {
@@ -70,7 +70,7 @@ module _ (seed : ℕ) (program : Program) (code : SlotCode) (seed_small : seed <
   abbrev marked : (s : machine.State) → Starts 0x0801 bytes s → MarksLines 0x0801 bytes program seed (layout_of labels (numbers code) seed).start
   marked s h =
       let l = laid s h in
-      whole.marks 0x0801 bytes from to (layout_of labels (numbers code) seed) program code follows closed l.first (groups_laid labels seed part code l polled) limit_by 192 (routines 0x0801 bytes from to labels seed code l) (prologue 0x0801 bytes from to labels seed code l)
+      whole.marks 0x0801 bytes from to (layout_of labels (numbers code) seed) program code follows closed l.first (groups_laid labels seed part code l polled) limit_by (λ k. omega arith) 192 (routines 0x0801 bytes from to labels seed code l) (prologue 0x0801 bytes from to labels seed code l)
 
   pub image_marks : (start : ℕ → ℕ) → Agree (layout_of labels (numbers code) seed).start start (numbers program) → MarksLines 0x0801 bytes program seed start
   image_marks start agree = told_so (layout_of labels (numbers code) seed).start start 0x0801 bytes program seed agree

@@ -1,19 +1,20 @@
 -- The laws of conversions: 0 minus a word, and RND, which may fault.
-use Rattle.std.proofs.Common.{◌≡◌, ℕ, ◌+◌, ◌-◌, ◌/◌, ◌%◌, ◌<◌, true, false, ◌||◌, List, [], ◌∷◌, ◌++◌, refl, sym, ap, ◌∙◌, subst, arith}
+use Rattle.std.proofs.Common.{◌≡◌, ℕ, ◌+◌, ◌-◌, ◌/◌, ◌%◌, ◌<◌, Bool, true, false, true≢false, ◌||◌, List, [], ◌∷◌, ◌++◌, refl, sym, ap, ◌∙◌, subst, arith}
 use Rattle.std.specs.Prelude.{nat_eq, nat_le}
 use Rattle.tb_words.specs.Words.{negated, seed_after, word}
 use Rattle.tb_lower.specs.Control.{State, fault_text}
 use Rattle.tb_lower.specs.Slots.{Instr, Slots, SlotCode}
 use Rattle.tb_reaching.proofs.Comes.{looser}
 use Rattle.tb_reaching.specs.View.{Comes, Fits, Setup, View}
-use Rattle.tb_runtime16.specs.Routines.{Drawn, Routines}
-use Rattle.tb_runtime16.specs.Places.{HOME_S, LEFT, RANDOM_AT, RESULT}
+use Rattle.tb_runtime16.specs.Routines.{Drawn, Routines, WordAt}
+use Rattle.tb_templates.specs.GroupTemplates.{may_have_none}
+use Rattle.tb_runtime16.specs.Places.{HOME_S, LEFT, LINE, RANDOM_AT, RESULT}
 use Rattle.tb_keeping.specs.Layout.{Layout}
 use Rattle.tb_keeping.proofs.Frames.{owned_low}
 use Rattle.tb_keeping.proofs.Joins.{sent_in}
-use Rattle.tb_keeping.proofs.Resolved.{pieces_size, size}
+use Rattle.tb_keeping.proofs.Resolved.{Lies, Piece, pieces_size, size}
 use Rattle.tb_keeping.proofs.Returning.{homed_kept}
-use Rattle.tb_selection.specs.Groups.{Operand, Destination, Conversion, Negated, Drawn as IsDrawn, Convert, convert, expand, kept, slot_of}
+use Rattle.tb_selection.specs.Groups.{Operand, Constant, Variable, InSlot, Destination, Conversion, Negated, Drawn as IsDrawn, Convert, convert, expand, kept, slot_of}
 use Rattle.tb_selection.specs.Liveness.{live}
 use Rattle.tb_selection.specs.Select.{select}
 use Rattle.tb_selection.specs.GroupSteps.{steps}
@@ -24,7 +25,7 @@ use Rattle.tb_templates.specs.Sources.{destination_at, source_of}
 use Rattle.tb_grouping.proofs.Coded.{GroupsLie, routine, taken}
 use Rattle.tb_grouping.proofs.Frames.{live_same, state_drawn}
 use Rattle.tb_grouping.proofs.Handed.{asks, gives, result_gives}
-use Rattle.tb_grouping.proofs.Lone.{Kept, kept as kept_first, kept_lined, lined, lines, numbered, word_lands}
+use Rattle.tb_grouping.proofs.Lone.{Kept, behind_line, kept as kept_first, kept_by, lies_by, lined_by, lines_by, numbered, rest_by, word_lands}
 use Rattle.tb_grouping.proofs.Matching.{Target}
 use Rattle.tb_grouping.proofs.OneWord.{ConvertFits, convert_fits, convert_lasting, convert_reads, draw_fails, draw_goes, negate_goes, spread_convert, word_asked}
 use Rattle.tb_grouping.proofs.Operands.{SourceHolds, dest_in_data, operand_apart, operand_grounded, operand_held}
@@ -70,18 +71,27 @@ module _ (ly : Layout) (f : Setup) (lo hi keys : ℕ) (fits : Fits f 16) (code :
     abbrev js : List Instr
     js = spread_convert IsDrawn a d is
 
-    -- behind the line's number
+    -- whether it may fault; behind the line's number, where it may
+    abbrev risky : Bool
+    risky = may_have_none src
+
+    abbrev code_of : List Piece
+    code_of = routine RANDOM_AT RESULT src (FixedWord ly.seed) (destination_at d)
+
     abbrev at : ℕ
-    at = w.regs.pc + 10
+    at = behind_line ly f lo hi keys fits n _ js is s r w h risky
 
     abbrev m : ℕ → ℕ
-    m = lined ly f lo hi keys fits n _ js is s r w h
+    m = lined_by ly f lo hi keys fits n _ js is s r w h risky
+
+    lies : Lies f.code at code_of
+    lies = lies_by ly f lo hi keys fits n _ js is s r w h risky code_of h.lies
 
     fit : ConvertFits a d
     fit = convert_fits IsDrawn a d h.ranged
 
     c : Kept ly f lo hi keys fits (live js) s r m
-    c = kept_lined ly f lo hi keys fits n _ js is s r w h
+    c = kept_by ly f lo hi keys fits n _ js is s r w h risky
 
     bound_holds : SourceHolds m src x
     bound_holds = operand_held ly s (live js) r m k a c.state c.read fit.word (asked IsDrawn)
@@ -90,7 +100,7 @@ module _ (ly : Layout) (f : Setup) (lo hi keys : ℕ) (fits : Fits f 16) (code :
     option_holds m' q = record { low_byte = refl; high_byte = refl; small = seed_small }
 
     rest : GroupsLie ly f.code n (at + pieces_size (routine RANDOM_AT RESULT src (FixedWord ly.seed) (destination_at d))) (select is)
-    rest = subst (λ p. GroupsLie ly f.code n p (select is)) (let e : w.regs.pc + (10 + pieces_size (routine RANDOM_AT RESULT src (FixedWord ly.seed) (destination_at d))) ≡ at + pieces_size (routine RANDOM_AT RESULT src (FixedWord ly.seed) (destination_at d)) = omega arith in e) h.rest
+    rest = rest_by ly f lo hi keys fits n _ js is s r w h risky code_of h.rest
 
     -- the state behind it
     abbrev drawn : State
@@ -107,8 +117,8 @@ module _ (ly : Layout) (f : Setup) (lo hi keys : ℕ) (fits : Fits f 16) (code :
     draw_law good =
         subst (λ x. Comes f w (Target ly f lo hi keys x) (sent_in x) (17 + limit)) (sym (draw_goes code n a d is s r h.read.all_words fit.slot good))
         (looser f w _ _ [] (4 + (13 + limit)) (17 + limit) (omega arith) (λ u z. z)
-        (lines ly f lo hi keys fits n _ js is s r w h h.lies.0 h.lies.1 _ [] (13 + limit)
-        (gives ly f lo hi keys fits n _ js is s r w h RANDOM_AT RESULT at src (FixedWord ly.seed) d m c h.lies.2 x ly.seed
+        (lines_by ly f lo hi keys fits n _ js is s r w h risky code_of h.lies _ [] (13 + limit)
+        (gives ly f lo hi keys fits n _ js is s r w h RANDOM_AT RESULT at src (FixedWord ly.seed) d m c lies x ly.seed
         (operand_apart k a LEFT (omega arith) fit.slot fit.word) tt bound_holds option_holds
         code drawn (with_fetched s r k a) (seed_after s.seed % x) limit result_gives fit.dest (convert_lasting IsDrawn a d is s r h.free) rest h.text h.answers h.short
         (λ l k' m' g u e. looser f u _ _ [] limit limit (omega arith)
@@ -119,11 +129,21 @@ module _ (ly : Layout) (f : Setup) (lo hi keys : ℕ) (fits : Fits f 16) (code :
         })
         (rs.random l k' m' w.text w.answers x s.seed g.left g.right g.kept.state.seeded good u e)))))
 
+    -- a constant from 1 to 32,767 is known
+    never : (k : ℕ) (a : Operand) → may_have_none (source_of k a) ≡ false → (nat_eq (fetched s r k a) 0 || nat_le 32768 (fetched s r k a)) ≡ false
+    never k (Constant v) e = e
+    never k (Variable x) e = absurd (true≢false e)
+    never k InSlot e = absurd (true≢false e)
+
+    line_set : (t : Bool) → risky ≡ t → (nat_eq x 0 || nat_le 32768 x) ≡ true → WordAt (lined_by ly f lo hi keys fits n _ js is s r w h t) LINE n
+    line_set true e bad = numbered ly f lo hi keys fits n _ js is s r w h
+    line_set false e bad = absurd (true≢false (sym bad ∙ never k a e))
+
     pub draw_fails_law : (nat_eq x 0 || nat_le 32768 x) ≡ true → ConvertLeads IsDrawn (17 + limit)
     draw_fails_law bad =
         subst (λ x. Comes f w (Target ly f lo hi keys x) (sent_in x) (17 + limit)) (sym (draw_fails code n a d is s r h.read.all_words fit.slot bad))
         (looser f w _ _ (fault_text 3 n) (4 + (9 + limit)) (17 + limit) (omega arith) (λ u z. z)
-        (lines ly f lo hi keys fits n _ js is s r w h h.lies.0 h.lies.1 _ (fault_text 3 n) (9 + limit)
-        (asks ly f lo hi keys fits n _ js is s r w h RANDOM_AT RESULT at src (FixedWord ly.seed) d m c h.lies.2 x ly.seed
+        (lines_by ly f lo hi keys fits n _ js is s r w h risky code_of h.lies _ (fault_text 3 n) (9 + limit)
+        (asks ly f lo hi keys fits n _ js is s r w h RANDOM_AT RESULT at src (FixedWord ly.seed) d m c lies x ly.seed
         (operand_apart k a LEFT (omega arith) fit.slot fit.word) tt bound_holds option_holds
-        _ (fault_text 3 n) limit (λ m' g. rs.random_fails _ _ m' w.text w.answers x n g.left bad (g.line (numbered ly f lo hi keys fits n _ js is s r w h)) g.kept.homed))))
+        _ (fault_text 3 n) limit (λ m' g. rs.random_fails _ _ m' w.text w.answers x n g.left bad (g.line (line_set risky refl bad)) g.kept.homed))))

@@ -1,4 +1,4 @@
--- The laws of jumps to a line whose number a word is, and of RETURN.
+-- The laws of jumps to a line whose number a word is.
 use Rattle.std.proofs.Common.{◌≡◌, ℕ, suc, ◌+◌, ◌/◌, ◌%◌, ◌≤◌, ◌<◌, true, false, List, [], ◌∷◌, length, refl, sym, ◌∙◌, subst, arith}
 use Rattle.std.specs.Prelude.{nat_lt}
 use Rattle.std.proofs.lemmas.Bool.{ltb-true, ltb-false}
@@ -13,8 +13,8 @@ use Rattle.tb_runtime16.specs.Places.{COUNT, HOME_S, LEFT, LINE, NOTES, POP_AT, 
 use Rattle.tb_keeping.specs.Layout.{Layout, next_at, place_at}
 use Rattle.tb_keeping.proofs.Frames.{owned_low, word_away, word_kept, word_put}
 use Rattle.tb_keeping.proofs.Mirrors.{notes_of}
-use Rattle.tb_keeping.proofs.Pieces.{calls, jumps, jumps_through, put_word, sets}
-use Rattle.tb_keeping.proofs.Resolved.{Code, Lies, Piece, call, constant, jump_through, size}
+use Rattle.tb_keeping.proofs.Pieces.{calls, jumps, jumps_through, points, put_word, sets}
+use Rattle.tb_keeping.proofs.Resolved.{Code, Lies, Piece, call, jump_through, pointed, size}
 use Rattle.tb_keeping.proofs.Returning.{back_here, behind_call, homed_kept}
 use Rattle.tb_selection.specs.declared.liveness.Live.{Live}
 use Rattle.tb_selection.specs.Groups.{AsLine, AsSubroutine, Operand, Single, Usage, Use, use_of}
@@ -98,9 +98,9 @@ module _ (ly : Layout) (f : Setup) (lo hi keys : ℕ) (fits : Fits f 16) (limit 
         lines ly f lo hi keys fits n _ _ is s r w h lies.0 lies.1 q t (4 + (1 + (4 + (4 + (1 + k))))) (λ u e.
         chained f u _ q [] t 4 (1 + (4 + (4 + (1 + k)))) (brings f 16 fits at own one w.text w.answers refl src WANTED lies.2.0 (operand_before 0 a WANTED (omega arith) (omega arith) fit) (refl, refl) lies.2.1 u e) (λ u e.
         chained f u _ q [] t 1 (4 + (4 + (1 + k))) (calls f 16 fits call_at own two w.text w.answers refl ly.locate refl lies.2.2.0 lies.2.2.1 u e) (λ u e.
-        chained f u _ q [] t 4 (4 + (1 + k)) (sets f 16 fits ly.locate bs two w.text w.answers refl ly.table TABLE laid.locate.0 (refl, refl) laid.locate.1 u e) (λ u e.
-        chained f u _ q [] t 4 (1 + k) (sets f 16 fits (ly.locate + 10) bs three w.text w.answers refl (length ly.numbers) COUNT laid.locate.2.0 (refl, refl) laid.locate.2.1 u e) (λ u e.
-        chained f u _ q [] t 1 k (jumps f 16 fits (ly.locate + 10 + 10) bs sought w.text w.answers refl SEARCH_AT laid.locate.2.2.1 u e) next)))))
+        chained f u _ q [] t 4 (4 + (1 + k)) (points f 16 fits ly.locate bs two w.text w.answers refl ly.table TABLE laid.locate.0 (refl, refl) laid.locate.1 u e) (λ u e.
+        chained f u _ q [] t 4 (1 + k) (sets f 16 fits (ly.locate + 8) bs three w.text w.answers refl (length ly.numbers) COUNT laid.locate.2.0 (refl, refl) laid.locate.2.1 u e) (λ u e.
+        chained f u _ q [] t 1 k (jumps f 16 fits (ly.locate + 8 + 10) bs sought w.text w.answers refl SEARCH_AT laid.locate.2.2.1 u e) next)))))
 
     wanted : WordAt sought WANTED wish
     wanted =
@@ -158,7 +158,7 @@ module _ (ly : Layout) (f : Setup) (lo hi keys : ℕ) (fits : Fits f 16) (limit 
     module _ (h : Ready ly f lo hi keys fits n (Use AsSubroutine a) (spread_use AsSubroutine a is) is s r w) where
       -- the template behind the search
       abbrev behind : List Piece
-      behind = Code (constant (next_at ly n) LEFT) ∷ Code (call PUSH_AT) ∷ Code jump_through ∷ []
+      behind = Code (pointed (next_at ly n) LEFT) ∷ Code (call PUSH_AT) ∷ Code jump_through ∷ []
 
       abbrev calls_for : Live
       calls_for = live (spread_use AsSubroutine a is)
@@ -167,12 +167,12 @@ module _ (ly : Layout) (f : Setup) (lo hi keys : ℕ) (fits : Fits f 16) (limit 
       returning u = put_word u.mem LEFT (next_at ly n % 256) (next_at ly n / 256)
 
       -- up to Push, where the line was found
-      calls_push : has_line ly.numbers place ≡ true → (q : View → Type 0) (t : List ℕ) (b : ℕ) → ((u : View) → WordAt (returning u) RESULT (ly.start place) → WordAt (returning u) LINE n → Kept ly f lo hi keys fits calls_for s r (returning u) → Moves f (Here PUSH_AT ((found_at + 10 + 2) % 256 ∷ (found_at + 10 + 2) / 256 ∷ own) (returning u) w.text w.answers) q t b) → Comes f w q t (4 + (4 + (1 + (4 + (4 + (1 + (limit + (4 + (1 + b)))))))))
+      calls_push : has_line ly.numbers place ≡ true → (q : View → Type 0) (t : List ℕ) (b : ℕ) → ((u : View) → WordAt (returning u) RESULT (ly.start place) → WordAt (returning u) LINE n → Kept ly f lo hi keys fits calls_for s r (returning u) → Moves f (Here PUSH_AT ((found_at + 8 + 2) % 256 ∷ (found_at + 8 + 2) / 256 ∷ own) (returning u) w.text w.answers) q t b) → Comes f w q t (4 + (4 + (1 + (4 + (4 + (1 + (limit + (4 + (1 + b)))))))))
       calls_push found q t b next =
           let lies = h.lies.2.2.2 in
           finds AsSubroutine a behind h h.lies found q t (4 + (1 + b)) (λ u c l result e.
-          chained f u _ q [] t 4 (1 + b) (sets f 16 fits found_at own u.mem w.text w.answers refl (next_at ly n) LEFT lies.0 (refl, refl) lies.1 u e) (λ v e.
-          chained f v _ q [] t 1 b (calls f 16 fits (found_at + 10) own (returning u) w.text w.answers refl PUSH_AT refl lies.2.0 lies.2.1 v e)
+          chained f u _ q [] t 4 (1 + b) (points f 16 fits found_at own u.mem w.text w.answers refl (next_at ly n) LEFT lies.0 (refl, refl) lies.1 u e) (λ v e.
+          chained f v _ q [] t 1 b (calls f 16 fits (found_at + 8) own (returning u) w.text w.answers refl PUSH_AT refl lies.2.0 lies.2.1 v e)
           (next u
           (word_away u.mem LEFT _ _ RESULT _ (λ e. omega (arith, e)) (λ e. omega (arith, e)) (λ e. omega (arith, e)) result)
           (word_away u.mem LEFT _ _ LINE n (λ e. omega (arith, e)) (λ e. omega (arith, e)) (λ e. omega (arith, e)) l)
@@ -190,8 +190,8 @@ module _ (ly : Layout) (f : Setup) (lo hi keys : ℕ) (fits : Fits f 16) (limit 
           (state_pushed ly s (returning u) x.mem c.state (At place) (next_after ly.numbers n) few (subst (λ k. WordAt x.mem NOTES (suc k)) same g.count) g.noted g.others) (all_slots h.read.all_words)
           (homed_kept ly f lo hi keys fits (returning u) x.mem (g.others HOME_S (omega arith) (omega arith) (λ e. omega (arith, e)) (λ e. omega (arith, e))) c.homed)
           h.text h.answers h.short)
-          (jumps_through f 16 fits (found_at + 10 + 3) own x.mem w.text w.answers refl (ly.start place) (word_kept (returning u) x.mem RESULT _ g.result g.result_high result) h.lies.2.2.2.2.2.1 x
-          (record { pc = g.pc ∙ behind_call ly f lo hi keys fits (found_at + 10) h.lies.2.2.2.2.0; stack = g.stack; binary = g.binary; mem = refl; text = g.text; answers = g.answers })))))
+          (jumps_through f 16 fits (found_at + 8 + 3) own x.mem w.text w.answers refl (ly.start place) (word_kept (returning u) x.mem RESULT _ g.result g.result_high result) h.lies.2.2.2.2.2.1 x
+          (record { pc = g.pc ∙ behind_call ly f lo hi keys fits (found_at + 8) h.lies.2.2.2.2.0; stack = g.stack; binary = g.binary; mem = refl; text = g.text; answers = g.answers })))))
 
       pub call_full : has_line ly.numbers place ≡ true → nat_lt (length s.returns) deepest ≡ false → Comes f w (IsHome f) (fault_text 4 n) (24 + (limit + limit))
       call_full found full =
@@ -201,40 +201,3 @@ module _ (ly : Layout) (f : Setup) (lo hi keys : ℕ) (fits : Fits f 16) (limit 
 
       pub call_fails : has_line ly.numbers place ≡ false → Comes f w (IsHome f) (fault_text 1 n) (19 + limit)
       call_fails lost = looser f w _ _ (fault_text 1 n) (4 + (4 + (1 + (4 + (4 + (1 + limit)))))) (19 + limit) (omega arith) (λ u x. x) (lost_line AsSubroutine a behind h h.lies lost)
-
-  module _ (h : Ready ly f lo hi keys fits n (Single Return) (Return ∷ is) is s r w) where
-    abbrev numbered_memory : ℕ → ℕ
-    numbered_memory = lined ly f lo hi keys fits n _ _ is s r w h
-
-    kept_here : Kept ly f lo hi keys fits (live (Return ∷ is)) s r numbered_memory
-    kept_here = kept_lined ly f lo hi keys fits n _ _ is s r w h
-
-    pub return_law : (p : Place) (ps : List Place) → s.returns ≡ p ∷ ps → Comes f w (Matches ly f lo hi keys (record { state = record s { place = p; returns = ps }; rest = Whole; slots = r })) [] (6 + limit)
-    return_law p ps q =
-        let lies = h.lies.2 in
-        let m = numbered_memory in
-        let c = kept_here in
-        let few : suc (length ps) ≤ 500 = subst (λ l. length l ≤ 500) q c.state.few in
-        let notes : Noted m (notes_of ly (p ∷ ps)) = subst (λ l. Noted m (notes_of ly l)) q c.state.notes in
-        let same : length (notes_of ly ps) ≡ length ps = length-map ps (place_at ly) in
-        let count : WordAt m NOTES (suc (length ps)) = subst (λ l. WordAt m NOTES (length l)) q c.state.count in
-        looser f w _ _ [] (4 + (1 + (limit + 1))) (6 + limit) (omega arith) (λ u x. x)
-        (lines ly f lo hi keys fits n _ _ is s r w h h.lies.0 h.lies.1 _ [] (1 + (limit + 1)) (λ u e.
-        chained f u _ _ [] [] 1 (limit + 1) (calls f 16 fits at own m w.text w.answers refl POP_AT refl lies.0 lies.1 u e) (λ u e.
-        chained f u _ _ [] [] limit 1 (rs.pop _ _ m w.text w.answers (place_at ly p) (notes_of ly ps) (subst (λ k. WordAt m NOTES (suc k)) (sym same) count) notes (omega (arith, few, same)) u e) (λ u g.
-        looser f u _ _ [] 1 1 (omega arith)
-        (arrived ly f lo hi keys fits code (record s { place = p; returns = ps }) r (place_at ly p) u.mem w.text w.answers refl
-        (state_popped ly s m u.mem c.state p ps q (subst (λ k. WordAt u.mem NOTES k) same g.count) g.others) h.read.all_words
-        (homed_kept ly f lo hi keys fits m u.mem (g.others HOME_S (owned_low HOME_S (omega arith) (omega arith)) (λ e. omega (arith, e)) (λ e. omega (arith, e))) c.homed)
-        h.text h.answers h.short)
-        (jumps_through f 16 fits (at + 3) own u.mem w.text w.answers refl (place_at ly p) g.result lies.2.1 u (record { pc = g.pc ∙ behind_call ly f lo hi keys fits at lies.0; stack = g.stack; binary = g.binary; mem = refl; text = g.text; answers = g.answers }))))))
-
-    pub return_fails : s.returns ≡ [] → Comes f w (IsHome f) (fault_text 5 n) (6 + limit)
-    return_fails q =
-        let lies = h.lies.2 in
-        let m = numbered_memory in
-        let count : WordAt m NOTES 0 = subst (λ l. WordAt m NOTES (length l)) q kept_here.state.count in
-        looser f w _ _ (fault_text 5 n) (4 + (1 + limit)) (6 + limit) (omega arith) (λ u x. x)
-        (lines ly f lo hi keys fits n _ _ is s r w h h.lies.0 h.lies.1 _ (fault_text 5 n) (1 + limit) (λ u e.
-        chained f u _ _ [] (fault_text 5 n) 1 limit (calls f 16 fits at own m w.text w.answers refl POP_AT refl lies.0 lies.1 u e)
-        (rs.pop_fails _ _ m w.text w.answers n count (numbered ly f lo hi keys fits n _ _ is s r w h) kept_here.homed)))

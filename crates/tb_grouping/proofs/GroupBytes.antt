@@ -1,15 +1,17 @@
 -- The bytes of groups, whatever the ways of their branches.
-use Rattle.std.proofs.Common.{◌≡◌, ℕ, ◌+◌, ◌/◌, ◌%◌, ◌≤◌, ◌<◌, Bool, true, false, ◌&&◌, List, [], ◌∷◌, ◌++◌, map, refl, sym, ap, ◌∙◌, subst, arith, Some}
-use Rattle.std.specs.Prelude.{if◌then◌else◌, unwrap_or}
+use Rattle.std.proofs.Common.{◌≡◌, ℕ, ◌+◌, ◌/◌, ◌%◌, ◌≤◌, ◌<◌, Bool, true, false, ◌&&◌, List, [], ◌∷◌, ◌++◌, map, refl, sym, ap, ◌∙◌, subst, arith, Some, append_assoc, true≢false}
+use Rattle.std.specs.Prelude.{zero, suc, if◌then◌else◌, nat_eq, nat_lt, unwrap_or, Option, None}
+use Rattle.std.proofs.lemmas.List.{append-nil}
 use Rattle.std.specs.List.{list_all}
 use Rattle.tb_opcodes.specs.Opcodes as opcodes
 use Rattle.tb_opcodes.specs.declared.Mnemonic.{Mnemonic}
 use Rattle.tb_opcodes.specs.declared.Mnemonic.TheVariants.{Adc, Beq, Bne, Bvc, Clc, Cmp, Lda, Sbc, Sec, Sta, Eor}
-use Rattle.tb_opcodes.specs.declared.Mode.TheVariants.{Relative}
+use Rattle.tb_opcodes.specs.declared.Mode.TheVariants.{Absolute, Relative, ZeroPage}
 use Rattle.tb_asm.specs.declared.names.Name.{Name}
-use Rattle.tb_asm.specs.declared.items.Operand.TheVariants.{Label}
+use Rattle.tb_asm.specs.declared.items.Operand.TheVariants.{Byte, Label, Word}
 use Rattle.tb_asm.specs.Layout.{Entry, instr, label, size_of, size, bytes_of, bytes_from, address_in, number_in}
 use Rattle.tb_asm.specs.Settle.{Form, kept, items_from, form_size, some_branch_far}
+use Rattle.tb_asm.proofs.Laws.{bytes_append}
 use Rattle.tb_asm.proofs.Settled.{items_kept}
 use Rattle.tb_asm.proofs.Suits.{and_true}
 use Rattle.tb_settling.specs.Settled.{AreFormsOf}
@@ -36,15 +38,20 @@ use Rattle.tb_templates.specs.Sources.{source_of, tested_source, home_at, destin
 use Rattle.tb_templates.specs.Templates as product
 use Rattle.tb_templates.specs.Templates.{next_line}
 use Rattle.tb_templates.specs.GroupTemplates as items
+use Rattle.tb_templates.specs.Scaled as scaled
+use Rattle.tb_templates.specs.Scaled.{scaling, shifts}
+use Rattle.tb_templates.proofs.Factors.{IsScaling, by_right, by_left, by_routine, scaling_is, IsShifting, by_shifts, by_call, shifting_is}
+use Rattle.tb_templates.proofs.Plain.{plain_straight, times_plain, shifted_plain}
 use Rattle.tb_keeping.specs.Layout.{Layout, layout_of, next_at}
 use Rattle.tb_keeping.proofs.Resolved as resolved
 use Rattle.tb_keeping.proofs.Resolved.{Piece, Code, pieces_size, highest_code}
 use Rattle.tb_grouping.proofs.Sources.{lda, adc, sbc, cmp}
 use Rattle.tb_grouping.proofs.Coded as coded
 use Rattle.tb_grouping.proofs.Coded.{low, high, weighed, difference, Way, Short, Long, way_size, Zero, Overflow, Negative, BranchReaches, second_at, turned_at, test_code, TestReaches, group_code, BranchesReach}
+use Rattle.tb_grouping.proofs.Halves.{power_small}
 use Rattle.tb_grouping.proofs.Singles.{IsAlone}
 use Rattle.tb_grouping.proofs.Emits.{formed, formed_size, branch_formed, branch_by, Emits, emits_append, emitted_size, ends, block, labelled, branches, reaches}
-use Rattle.tb_keeping.proofs.Numbers.{address_bytes, constant_bytes, faulted_bytes, next_same}
+use Rattle.tb_keeping.proofs.Numbers.{address_bytes, constant_bytes, copied_bytes, store_bytes, faulted_bytes, next_same}
 use Rattle.tb_grouping.proofs.SingleBytes.{template_bytes}
 
 -- ---- lists of forms, cut
@@ -190,6 +197,9 @@ module _ (labels : List (Name × ℕ)) where
   unfolding opcodes.encoded
   store to = record { same = λ a. refl }
 
+  store_at : (to : ℕ) → Makes (product.on Sta to) (resolved.sta_at to)
+  store_at to = record { same = store_bytes labels [] 0 to }
+
   clear : Makes (product.alone Clc) (ins 0x18 0)
   unfolding opcodes.encoded
   clear = record { same = λ a. refl }
@@ -199,7 +209,7 @@ module _ (labels : List (Name × ℕ)) where
   set = record { same = λ a. refl }
 
   brought_bytes : (s : Source) (to : ℕ) → IsWord s → AllMake (items.brought s to) (coded.brought s to)
-  brought_bytes s to h = lda_low s ▹ store to ▹ lda_high s h ▹ store (to + 1) ▹ none
+  brought_bytes s to h = lda_low s ▹ store_at to ▹ lda_high s h ▹ store_at (to + 1) ▹ none
 
   summed_bytes : (s t : Source) (to : ℕ) → IsWord s → IsWord t → AllMake (items.summed s t to) (coded.summed s t to)
   summed_bytes s t to h k = clear ▹ lda_low s ▹ adc_low t ▹ store to ▹ lda_high s h ▹ adc_high t k ▹ store (to + 1) ▹ none
@@ -207,6 +217,91 @@ module _ (labels : List (Name × ℕ)) where
   taken_bytes : (s t : Source) (to : ℕ) → IsWord s → IsWord t → AllMake (items.taken s t to) (coded.taken s t to)
   taken_bytes s t to h k = set ▹ lda_low s ▹ sbc_low t ▹ store to ▹ lda_high s h ▹ sbc_high t k ▹ store (to + 1) ▹ none
 
+  -- ---- shifts and sums
+  flat_append : (is js : List Instr) → flat (is ++ js) ≡ flat is ++ flat js
+  flat_append [] js = refl
+  flat_append (i ∷ is) js = ap (λ t. instr_bytes i ++ t) (flat_append is js) ∙ sym (append_assoc (instr_bytes i) (flat is) (flat js))
+
+  made_append : (xs ys : List Entry) (is js : List Instr) → AllMake xs is → AllMake ys js → AllMake (xs ++ ys) (is ++ js)
+  made_append xs ys is js h k = record { same = λ a. bytes_append labels a xs ys ∙ (λ j. h.same a j ++ k.same (a + size xs) j) ∙ sym (flat_append is js) }
+
+  all_made : {at : ℕ} (es : List Entry) (is : List Instr) → AllMake es is → Emits labels at (map kept es) (Code is ∷ [])
+  all_made {at} es is m = record { bytes = ap (bytes_from labels at) (items_kept at es) ∙ m.same at ∙ sym (append-nil (flat is)) }
+
+  masked : (k : ℕ) → k < 6 → scaled.all_but_lowest k % 256 ≡ scaled.all_but_lowest k
+  masked k few = let p = power_small k few in omega (arith, p)
+
+  rounded_bytes : (k : ℕ) (s : Source) → k < 6 → AllMake (scaled.rounded k s) (coded.rounded k s)
+  unfolding opcodes.encoded
+  rounded_bytes zero s few = lda_low s ▹ record { same = λ a. refl } ▹ none
+  rounded_bytes (suc k) s few =
+      record { same = λ a. refl } ▹ record { same = λ a. refl } ▹ record { same = λ a. ap (λ b. 0x29 ∷ b ∷ []) (masked (suc k) few) } ▹ record { same = λ a. ap (λ b. 0x49 ∷ b ∷ []) (masked (suc k) few) } ▹ adc_low s ▹ none
+
+  signed_bytes : (s : Source) → IsWord s → AllMake (items.high_of Lda s ∷ product.const Cmp 128 ∷ []) (coded.signed s)
+  unfolding opcodes.encoded
+  signed_bytes s h = lda_high s h ▹ record { same = λ a. refl } ▹ none
+
+  carried_bytes : (s : Source) → IsWord s → AllMake (scaled.at_zero Sta LEFT ∷ items.high_of Lda s ∷ product.const Adc 0 ∷ []) (coded.carried s)
+  unfolding opcodes.encoded
+  carried_bytes s h = record { same = λ a. refl } ▹ lda_high s h ▹ record { same = λ a. refl } ▹ none
+
+  halved_bytes : AllMake scaled.halved coded.halved
+  unfolding opcodes.encoded
+  halved_bytes = record { same = λ a. refl }
+
+  halvings_bytes : (k : ℕ) → AllMake (scaled.halvings k) (coded.halvings k)
+  halvings_bytes zero = none
+  halvings_bytes (suc k) = made_append (scaled.halvings k) scaled.halved (coded.halvings k) coded.halved (halvings_bytes k) halved_bytes
+
+  high_first_bytes : (to : ℕ) → AllMake (scaled.high_first to) (coded.high_first to)
+  unfolding opcodes.encoded
+  high_first_bytes to = record { same = λ a. refl }
+
+  shifted_bytes : (k : ℕ) (s : Source) (to : ℕ) → k < 6 → IsWord s → AllMake (scaled.shifted k s to) (coded.shifted k s to)
+  shifted_bytes k s to few h =
+      let tail = made_append (scaled.halvings (suc k)) (scaled.high_first to) (coded.halvings (suc k)) (coded.high_first to) (halvings_bytes (suc k)) (high_first_bytes to) in
+      let front = made_append (scaled.rounded k s) (scaled.at_zero Sta LEFT ∷ items.high_of Lda s ∷ product.const Adc 0 ∷ []) (coded.rounded k s) (coded.carried s) (rounded_bytes k s few) (carried_bytes s h) in
+      let raised = made_append (items.high_of Lda s ∷ product.const Cmp 128 ∷ []) (scaled.rounded k s ++ (scaled.at_zero Sta LEFT ∷ items.high_of Lda s ∷ product.const Adc 0 ∷ [])) (coded.signed s) (coded.rounded k s ++ coded.carried s) (signed_bytes s h) front in
+      let all = made_append (scaled.raised k s) (scaled.halvings (suc k) ++ scaled.high_first to) (coded.signed s ++ (coded.rounded k s ++ coded.carried s)) (coded.halvings (suc k) ++ coded.high_first to) raised tail in
+      subst (AllMake (scaled.shifted k s to)) (ap (λ is. coded.signed s ++ is) (append_assoc (coded.rounded k s) (coded.carried s) (coded.halvings (suc k) ++ coded.high_first to))) all
+
+  doubled_bytes : AllMake scaled.doubled coded.doubled
+  unfolding opcodes.encoded
+  doubled_bytes = record { same = λ a. refl }
+
+  increased_bytes : (s : Source) → IsWord s → AllMake (scaled.increased s) (coded.increased s)
+  unfolding opcodes.encoded
+  increased_bytes s h = clear ▹ adc_low s ▹ record { same = λ a. refl } ▹ record { same = λ a. refl } ▹ adc_high s h ▹ record { same = λ a. refl } ▹ record { same = λ a. refl } ▹ none
+
+  bit_bytes : (t : Bool) (s : Source) → IsWord s → AllMake (scaled.by_bit t s) (coded.by_bit t s)
+  bit_bytes false s h = doubled_bytes
+  bit_bytes true s h = made_append scaled.doubled (scaled.increased s) coded.doubled (coded.increased s) doubled_bytes (increased_bytes s h)
+
+  bits_bytes : (k factor : ℕ) (s : Source) → IsWord s → AllMake (scaled.by_bits k factor s) (coded.by_bits k factor s)
+  bits_bytes zero factor s h = none
+  bits_bytes (suc k) factor s h = by (bits_bytes k (factor / 2) s h) (nat_lt factor 2)
+    where
+      odd : Bool
+      odd = nat_eq (factor % 2) 1
+
+      by : AllMake (scaled.by_bits k (factor / 2) s) (coded.by_bits k (factor / 2) s) → (t : Bool) → AllMake (if t then [] else scaled.by_bits k (factor / 2) s ++ scaled.by_bit odd s) (if t then [] else coded.by_bits k (factor / 2) s ++ coded.by_bit odd s)
+      by b true = none
+      by b false = made_append (scaled.by_bits k (factor / 2) s) (scaled.by_bit odd s) (coded.by_bits k (factor / 2) s) (coded.by_bit odd s) b (bit_bytes odd s h)
+
+  begun_bytes : (s : Source) → IsWord s → AllMake (items.high_of Lda s ∷ scaled.at_zero Sta LEFT ∷ items.low_of Lda s ∷ []) (coded.begun s)
+  unfolding opcodes.encoded
+  begun_bytes s h = lda_high s h ▹ record { same = λ a. refl } ▹ lda_low s ▹ none
+
+  low_first_bytes : (to : ℕ) → AllMake (scaled.low_first to) (coded.low_first to)
+  unfolding opcodes.encoded
+  low_first_bytes to = record { same = λ a. refl }
+
+  times_bytes : (factor : ℕ) (s : Source) (to : ℕ) → IsWord s → AllMake (scaled.times factor s to) (coded.times factor s to)
+  times_bytes factor s to h =
+      let tail = made_append (scaled.by_bits 15 factor s) (scaled.low_first to) (coded.by_bits 15 factor s) (coded.low_first to) (bits_bytes 15 factor s h) (low_first_bytes to) in
+      made_append (items.high_of Lda s ∷ scaled.at_zero Sta LEFT ∷ items.low_of Lda s ∷ []) (scaled.by_bits 15 factor s ++ scaled.low_first to) (coded.begun s) (coded.by_bits 15 factor s ++ coded.low_first to) (begun_bytes s h) tail
+
+  -- ---- tests by bytes
   weighed_low : (s t : Source) → AllMake (items.low_of Lda s ∷ items.low_of Cmp t ∷ []) (weighed (low s) (low t))
   weighed_low s t = lda_low s ▹ cmp_low t ▹ none
 
@@ -225,12 +320,22 @@ module _ (labels : List (Name × ℕ)) where
   high_straight m (FixedWord w) = refl
   high_straight m (AtPlace p) = refl
 
+  place_straight : (m : Mnemonic) (p : ℕ) → is_straight (product.on m p) ≡ true
+  place_straight m p = by (nat_lt p 256)
+    where
+      by : (t : Bool) → is_straight (instr m (if t then ZeroPage else Absolute) (if t then Byte p else Word p)) ≡ true
+      by true = refl
+      by false = refl
+
   all_straight : (xs ys : List Entry) → list_all is_straight xs ≡ true → list_all is_straight ys ≡ true → list_all is_straight (xs ++ ys) ≡ true
   all_straight [] ys h k = k
   all_straight (x ∷ xs) ys h k = let t = and_true (is_straight x) (list_all is_straight xs) h in λ i. t.0 i && all_straight xs ys t.1 k i
 
   brought_straight : (s : Source) (to : ℕ) → list_all is_straight (items.brought s to) ≡ true
-  brought_straight s to = λ i. low_straight Lda s i && (true && (high_straight Lda s i && true))
+  brought_straight s to = λ i. low_straight Lda s i && (place_straight Sta to i && (high_straight Lda s i && (place_straight Sta (to + 1) i && true)))
+
+  copied_straight : (from to : ℕ) → list_all is_straight (product.copied from to) ≡ true
+  copied_straight from to = λ i. place_straight Lda from i && (place_straight Lda (from + 1) i && true)
 
   joined_straight : (m : Mnemonic) (s t : Source) (to : ℕ) → list_all is_straight (items.joined m s t to) ≡ true
   joined_straight m s t to = λ i. low_straight Lda s i && (low_straight m t i && (true && (high_straight Lda s i && (high_straight m t i && true))))
@@ -238,43 +343,51 @@ module _ (labels : List (Name × ℕ)) where
   handed_straight : (entry from : ℕ) (s t : Source) (to : ℕ) → list_all is_straight (items.handed entry from s t to) ≡ true
   handed_straight entry from s t to =
       all_straight (items.brought s LEFT) (items.brought t RIGHT ++ (product.call entry ∷ product.copied from to)) (brought_straight s LEFT)
-      (all_straight (items.brought t RIGHT) (product.call entry ∷ product.copied from to) (brought_straight t RIGHT) refl)
+      (all_straight (items.brought t RIGHT) (product.call entry ∷ product.copied from to) (brought_straight t RIGHT) (copied_straight from to))
+
+  lined_straight : (t : Bool) (n : ℕ) (es : List Entry) → list_all is_straight es ≡ true → list_all is_straight (items.lined t n es) ≡ true
+  lined_straight true n es h = h
+  lined_straight false n es h = h
+
+  product_straight : (o : Option (ℕ × Source)) (s t : Source) (to : ℕ) → list_all is_straight (items.multiplied o s t to) ≡ true
+  product_straight (Some p) s t to = plain_straight (scaled.times p.0 p.1 to) (times_plain p.0 p.1 to)
+  product_straight None s t to = handed_straight MULTIPLY_AT RESULT s t to
+
+  quotient_straight : (n : ℕ) (o : Option ℕ) (s t : Source) (to : ℕ) → list_all is_straight (items.divided n o s t to) ≡ true
+  quotient_straight n (Some k) s t to = plain_straight (scaled.shifted k s to) (shifted_plain k s to)
+  quotient_straight n None s t to = lined_straight (items.may_be_zero t) n (items.handed DIVIDE_AT LEFT s t to) (handed_straight DIVIDE_AT LEFT s t to)
 
   calculated_straight : (n : ℕ) (o : Operator) (s t : Source) (to : ℕ) → list_all is_straight (items.calculated n o s t to) ≡ true
   calculated_straight n op.Add s t to = joined_straight Adc s t to
   calculated_straight n op.Subtract s t to = joined_straight Sbc s t to
-  calculated_straight n op.Multiply s t to = handed_straight MULTIPLY_AT RESULT s t to
-  calculated_straight n op.Divide s t to = handed_straight DIVIDE_AT LEFT s t to
+  calculated_straight n op.Multiply s t to = product_straight (scaling s t) s t to
+  calculated_straight n op.Divide s t to = quotient_straight n (shifts t) s t to
 
   jump_straight : (ns : List ℕ) (n to : ℕ) (t : Bool) → has_line ns to ≡ t → list_all is_straight (product.jump_to ns n to) ≡ true
   jump_straight ns n to true e = rw e refl
   jump_straight ns n to false e = rw e refl
 
-  call_straight : (ns : List ℕ) (n to : ℕ) (t : Bool) → has_line ns to ≡ t → list_all is_straight (product.call_to ns n to (next_line ns n)) ≡ true
-  call_straight ns n to true e = rw e refl
-  call_straight ns n to false e = rw e refl
-
-  template_straight : (ns : List ℕ) (n i : ℕ) (c : slots.Instr) → list_all is_straight (product.template ns n i c) ≡ true
-  template_straight ns n i (slots.Put k w) = refl
-  template_straight ns n i (slots.Load k x) = refl
-  template_straight ns n i (slots.Store x) = refl
-  template_straight ns n i (slots.Negate k) = refl
-  template_straight ns n i (slots.Compute op k) = refl
-  template_straight ns n i (slots.Random k) = refl
-  template_straight ns n i (slots.SendText bs) = refl
-  template_straight ns n i slots.SendNumber = refl
-  template_straight ns n i slots.SendZone = refl
-  template_straight ns n i slots.SendNewline = refl
-  template_straight ns n i (slots.Input x) = refl
-  template_straight ns n i slots.Poll = refl
-  template_straight ns n i slots.Hold = refl
-  template_straight ns n i (slots.LeaveUnless rel) = refl
-  template_straight ns n i slots.Jump = refl
-  template_straight ns n i slots.Call = refl
-  template_straight ns n i (slots.JumpTo to) = jump_straight ns n to (has_line ns to) refl
-  template_straight ns n i (slots.CallTo to) = call_straight ns n to (has_line ns to) refl
-  template_straight ns n i slots.Return = refl
-  template_straight ns n i slots.End = refl
+  template_straight : (ns : List ℕ) (n i : ℕ) (c : slots.Instr) → coded.has_branches c ≡ false → list_all is_straight (product.template ns n i c) ≡ true
+  template_straight ns n i (slots.Put k w) b = refl
+  template_straight ns n i (slots.Load k x) b = copied_straight (product.var_at x) (product.slot_at k)
+  template_straight ns n i (slots.Store x) b = refl
+  template_straight ns n i (slots.Negate k) b = refl
+  template_straight ns n i (slots.Compute op k) b = refl
+  template_straight ns n i (slots.Random k) b = refl
+  template_straight ns n i (slots.SendText bs) b = refl
+  template_straight ns n i slots.SendNumber b = refl
+  template_straight ns n i slots.SendZone b = refl
+  template_straight ns n i slots.SendNewline b = refl
+  template_straight ns n i (slots.Input x) b = refl
+  template_straight ns n i slots.Poll b = refl
+  template_straight ns n i slots.Hold b = refl
+  template_straight ns n i (slots.LeaveUnless rel) b = refl
+  template_straight ns n i slots.Jump b = refl
+  template_straight ns n i slots.Call b = refl
+  template_straight ns n i (slots.JumpTo to) b = jump_straight ns n to (has_line ns to) refl
+  template_straight ns n i (slots.CallTo to) b = absurd (true≢false b)
+  template_straight ns n i slots.Return b = absurd (true≢false b)
+  template_straight ns n i slots.End b = refl
 
   handed_emits : {at : ℕ} (entry from : ℕ) (s t : Source) (to : ℕ) → IsWord s → IsWord t → Emits labels at (map kept (items.handed entry from s t to)) (coded.routine entry from s t to)
   unfolding opcodes.encoded
@@ -282,15 +395,29 @@ module _ (labels : List (Name × ℕ)) where
       block labels (items.brought s LEFT) (coded.brought s LEFT) ((brought_bytes s LEFT h).same _)
       (block labels (items.brought t RIGHT) (coded.brought t RIGHT) ((brought_bytes t RIGHT k).same _)
       (block labels (product.call entry ∷ []) (resolved.call entry) refl
-      (block labels (product.copied from to) (resolved.copied from to) refl (ends labels))))
+      (block labels (product.copied from to) (resolved.copied from to) (copied_bytes labels [] 0 _ from to) (ends labels))))
+
+  lined_emits : (at : ℕ) (t : Bool) (n : ℕ) → n < 65536 → (es : List Entry) (ps : List Piece) → ((b : ℕ) → Emits labels b (map kept es) ps) → Emits labels at (map kept (items.lined t n es)) (coded.lined_code t n ps)
+  lined_emits at true n l es ps e = block labels (product.constant n LINE) (resolved.constant n LINE) (constant_bytes labels [] 0 at n LINE l) (e (at + 10))
+  lined_emits at false n l es ps e = e at
+
+  product_emits : {at : ℕ} (o : Option (ℕ × Source)) (s t : Source) (to : ℕ) → IsScaling s t o → IsWord s → IsWord t → Emits labels at (map kept (items.multiplied o s t to)) (coded.product_code o s t to)
+  product_emits _ s t to (by_right w e good) h k = all_made (scaled.times w s to) (coded.times w s to) (times_bytes w s to h)
+  product_emits _ s t to (by_left v e good) h k = all_made (scaled.times v t to) (coded.times v t to) (times_bytes v t to k)
+  product_emits _ s t to by_routine h k = handed_emits MULTIPLY_AT RESULT s t to h k
+
+  quotient_emits : (n at : ℕ) (o : Option ℕ) (s t : Source) (to : ℕ) → IsShifting t o → n < 65536 → IsWord s → IsWord t → Emits labels at (map kept (items.divided n o s t to)) (coded.quotient_code n o s t to)
+  unfolding opcodes.encoded
+  quotient_emits n at _ s t to (by_shifts w j e few p) l h k = all_made (scaled.shifted j s to) (coded.shifted j s to) (shifted_bytes j s to few h)
+  quotient_emits n at _ s t to by_call l h k =
+      lined_emits at (items.may_be_zero t) n l (items.handed DIVIDE_AT LEFT s t to) (coded.routine DIVIDE_AT LEFT s t to) (λ b. handed_emits {at = b} DIVIDE_AT LEFT s t to h k)
 
   calculated_emits : (n at : ℕ) (o : Operator) (s t : Source) (to : ℕ) → n < 65536 → IsWord s → IsWord t → Emits labels at (map kept (items.calculated n o s t to)) (coded.calc_code n o s t to)
   unfolding opcodes.encoded
   calculated_emits n at op.Add s t to l h k = block labels (items.summed s t to) (coded.summed s t to) ((summed_bytes s t to h k).same at) (ends labels)
   calculated_emits n at op.Subtract s t to l h k = block labels (items.taken s t to) (coded.taken s t to) ((taken_bytes s t to h k).same at) (ends labels)
-  calculated_emits n at op.Multiply s t to l h k = handed_emits MULTIPLY_AT RESULT s t to h k
-  calculated_emits n at op.Divide s t to l h k =
-      block labels (product.constant n LINE) (resolved.constant n LINE) (constant_bytes labels [] 0 at n LINE l) (handed_emits DIVIDE_AT LEFT s t to h k)
+  calculated_emits n at op.Multiply s t to l h k = product_emits (scaling s t) s t to (scaling_is s t) h k
+  calculated_emits n at op.Divide s t to l h k = quotient_emits n at (shifts t) s t to (shifting_is t) l h k
 
   -- ---- cut behind straight items and behind a branch
   make_size : (es : List Entry) (is : List Instr) → AllMake es is → size es ≡ resolved.size is
@@ -407,12 +534,36 @@ module _ (labels : List (Name × ℕ)) where
         subst (Equality true at) (sym is)
         (equality true b1.way b2.way at skip tail r' (label_here _ skip [] end) (let q = end.below in omega (arith, q)) (labelled labels skip (ends labels)))
 
-    -- ---- order
-    pub record Order (below : Bool) (at : ℕ) (fs : List Form) : Type 0 where
+    -- ---- order, by whether the right word is a constant 0
+    pub record Order (zero below : Bool) (at : ℕ) (fs : List Form) : Type 0 where
       pub first : Way
       pub second : Way
-      pub emits : Emits labels at fs (coded.order_code below first second at a b next)
-      pub reach : coded.OrderReaches first second at a b next
+      pub emits : Emits labels at fs (coded.order_by zero below first second at a b next)
+      pub reach : coded.ReachesBy zero first second at a b next
+
+    abbrev sign : List Entry
+    sign = items.high_of Lda a ∷ []
+
+    sign_straight : list_all is_straight sign ≡ true
+    sign_straight = λ i. high_straight Lda a i && true
+
+    sign_bytes : AllMake sign (lda (high a) ∷ [])
+    sign_bytes = lda_high a a_word ▹ none
+
+    sign_emitted : (below : Bool) (at : ℕ) (fs : List Form) → AreFormsOf (sign ++ (instr (branch_by Negative below) Relative (Label leaves) ∷ [])) fs → Rest at fs → Order true below at fs
+    sign_emitted below at fs h r =
+        let c1 = cut sign (instr (branch_by Negative below) Relative (Label leaves) ∷ []) fs sign_straight h in
+        let b1 = cut_branch (branch_by Negative below) leaves [] c1.rest c1.of in
+        let is : fs ≡ map kept sign ++ (formed b1.way (branch_by Negative below) leaves ∷ []) =
+        c1.is ∙ ap (λ t. map kept sign ++ t) (b1.is ∙ ap (λ t. formed b1.way (branch_by Negative below) leaves ∷ t) (no_more b1.rest b1.of)) in
+        let r1 = behind_straight at sign (lda (high a) ∷ []) _ sign_bytes (subst (Rest at) is r) in
+        subst (Order true below at) (sym is)
+        (record {
+          first = b1.way;
+          second = Short;
+          emits = block labels sign (lda (high a) ∷ []) (sign_bytes.same at) (branches labels b1.way Negative below leaves (let q = r1.below in omega (arith, q)) (value_of leaves next there) (ends labels));
+          reach = gets_there _ next b1.way (branch_by Negative below) leaves _ there top r1;
+        })
 
     abbrev turn : List Entry
     turn = product.const Eor 128 ∷ []
@@ -438,7 +589,7 @@ module _ (labels : List (Name × ℕ)) where
       o4 : Rest (turned_at first at a b) (formed second (branch_by Negative below) leaves ∷ [])
       o4 = behind_label _ skip _ o3
 
-      order : Order below at (order_forms below first second skip)
+      order : Order false below at (order_forms below first second skip)
       order =
           let h = label_here _ skip _ o3 in record {
             first = first;
@@ -454,16 +605,21 @@ module _ (labels : List (Name × ℕ)) where
             );
           }
 
-    pub order_emitted : (below : Bool) (at : ℕ) (skip : Name) (fs : List Form)
-        → AreFormsOf (both_pairs ++ (instr Bvc Relative (Label skip) ∷ ((product.const Eor 128 ∷ label skip ∷ []) ++ (instr (branch_by Negative below) Relative (Label leaves) ∷ [])))) fs → Rest at fs → Order below at fs
-    order_emitted below at skip fs h r =
+    weighing_emitted : (below : Bool) (at : ℕ) (skip : Name) (fs : List Form)
+        → AreFormsOf (both_pairs ++ (instr Bvc Relative (Label skip) ∷ ((product.const Eor 128 ∷ label skip ∷ []) ++ (instr (branch_by Negative below) Relative (Label leaves) ∷ [])))) fs → Rest at fs → Order false below at fs
+    weighing_emitted below at skip fs h r =
         let c1 = cut both_pairs (instr Bvc Relative (Label skip) ∷ ((product.const Eor 128 ∷ label skip ∷ []) ++ (instr (branch_by Negative below) Relative (Label leaves) ∷ []))) fs both_straight h in
         let b1 = cut_branch Bvc skip ((product.const Eor 128 ∷ label skip ∷ []) ++ (instr (branch_by Negative below) Relative (Label leaves) ∷ [])) c1.rest c1.of in
         let c2 = cut (product.const Eor 128 ∷ label skip ∷ []) (instr (branch_by Negative below) Relative (Label leaves) ∷ []) b1.rest refl b1.of in
         let b2 = cut_branch (branch_by Negative below) leaves [] c2.rest c2.of in
         let is : fs ≡ order_forms below b1.way b2.way skip =
         c1.is ∙ ap (λ t. map kept both_pairs ++ t) (b1.is ∙ ap (λ t. formed b1.way Bvc skip ∷ t) (c2.is ∙ ap (λ t. kept (product.const Eor 128) ∷ kept (label skip) ∷ t) (b2.is ∙ ap (λ t. formed b2.way (branch_by Negative below) leaves ∷ t) (no_more b2.rest b2.of)))) in
-        subst (Order below at) (sym is) (order below b1.way b2.way at skip (subst (Rest at) is r))
+        subst (Order false below at) (sym is) (order below b1.way b2.way at skip (subst (Rest at) is r))
+
+    pub order_emitted : (zero below : Bool) (at : ℕ) (skip : Name) (fs : List Form)
+        → AreFormsOf (if zero then sign ++ (instr (branch_by Negative below) Relative (Label leaves) ∷ []) else both_pairs ++ (instr Bvc Relative (Label skip) ∷ ((product.const Eor 128 ∷ label skip ∷ []) ++ (instr (branch_by Negative below) Relative (Label leaves) ∷ [])))) fs → Rest at fs → Order zero below at fs
+    order_emitted true below at skip fs h r = sign_emitted below at fs h r
+    order_emitted false below at skip fs h r = weighing_emitted below at skip fs h r
 
 -- ---- groups
 -- forms that emit a test whose branches go to a place, by their ways, which reach
@@ -496,29 +652,35 @@ module _ (labels : List (Name × ℕ)) (ns : List ℕ) (seed n : ℕ) (seed_smal
     abbrev alone_pieces : ℕ → slots.Instr → Bool → List Piece
     alone_pieces at c t = if t then Code (resolved.constant n LINE) ∷ resolved.template ly n (at + 10) c else resolved.template ly n at c
 
-    alone_straight : (i : ℕ) (c : slots.Instr) (t : Bool) → list_all is_straight (alone_items i c t) ≡ true
-    alone_straight i c true = template_straight labels ns n i c
-    alone_straight i c false = template_straight labels ns n i c
+    alone_straight : (i : ℕ) (c : slots.Instr) (t : Bool) → coded.has_branches c ≡ false → list_all is_straight (alone_items i c t) ≡ true
+    alone_straight i c true b = template_straight labels ns n i c b
+    alone_straight i c false b = template_straight labels ns n i c b
 
     line_set : AllMake labels (product.constant n LINE) (resolved.constant n LINE)
     line_set = record { same = λ a. constant_bytes labels ns seed a n LINE n_small }
 
-    template_emits : (i at : ℕ) (c : slots.Instr) → alone c ≡ Single c → IsInRange 256 c → Rest labels at (map kept (product.template ns n i c))
+    template_emits : (i at : ℕ) (c : slots.Instr) → coded.has_branches c ≡ false → alone c ≡ Single c → IsInRange 256 c → Rest labels at (map kept (product.template ns n i c))
         → Emits labels at (map kept (product.template ns n i c)) (resolved.template ly n at c)
-    template_emits i at c q range r =
+    template_emits i at c b q range r =
         let es = product.template ns n i c in
         let below = r.below in let k = kept_size es in
         record {
           bytes = ap (bytes_from labels at) (items_kept at es)
-              ∙ template_bytes labels ns seed seed_small n n_small next_small i at c q range (omega (arith, below, k)) (subst (LabelsAt labels at) (items_kept at es) r.labels_at);
+              ∙ template_bytes labels ns seed seed_small n n_small next_small i at c b q range (omega (arith, below, k)) (subst (LabelsAt labels at) (items_kept at es) r.labels_at);
         }
 
-    alone_emits : (i at : ℕ) (c : slots.Instr) (t : Bool) → alone c ≡ Single c → IsInRange 256 c → Rest labels at (map kept (alone_items i c t))
+    alone_emits : (i at : ℕ) (c : slots.Instr) (t : Bool) → coded.has_branches c ≡ false → alone c ≡ Single c → IsInRange 256 c → Rest labels at (map kept (alone_items i c t))
         → Emits labels at (map kept (alone_items i c t)) (alone_pieces at c t)
-    alone_emits i at c true q range r =
+    alone_emits i at c true b q range r =
         block labels (product.constant n LINE) (resolved.constant n LINE) (line_set.same at)
-        (template_emits i (at + 10) c q range (behind_straight labels at (product.constant n LINE) (resolved.constant n LINE) (map kept (product.template ns n i c)) line_set r))
-    alone_emits i at c false q range r = template_emits i at c q range r
+        (template_emits i (at + 10) c b q range (behind_straight labels at (product.constant n LINE) (resolved.constant n LINE) (map kept (product.template ns n i c)) line_set r))
+    alone_emits i at c false b q range r = template_emits i at c b q range r
+
+    -- an instruction alone without branches
+    plain_emitted : (at : ℕ) (c : slots.Instr) (fs : List Form) (t : Bool) → t ≡ false → Emits labels at fs (coded.plain_code ly n at c)
+        → (first second : Way) × Emits labels at fs (if t then coded.branching_code ly n at first second c else coded.plain_code ly n at c) × coded.OnlyIf t (coded.BranchingReaches ly first second at c)
+    plain_emitted at c fs true e h = absurd (true≢false e)
+    plain_emitted at c fs false e h = (Short, Short, h, tt)
 
     straight_emitted : (at : ℕ) (g : Group) (es : List Entry) (fs : List Form) → list_all is_straight es ≡ true → AreFormsOf es fs → Rest labels at fs
         → (Rest labels at (map kept es) → GroupEmitted labels ly n at g (map kept es)) → GroupEmitted labels ly n at g fs
@@ -536,16 +698,16 @@ module _ (labels : List (Name × ℕ)) (ns : List ℕ) (seed n : ℕ) (seed_smal
           let e = unequal_emitted labels (tested_source x) (source_of 0 b) (tested_word labels x) (source_word labels 0 b) to (label_of goal) goal_there goal_top at (label_of skip) fs h r in
           record { first = e.first; second = e.second; emits = e.emits; reach = e.reach }
       tested_emitted rel.Lt at x b fs h r =
-          let e = order_emitted labels (tested_source x) (source_of 0 b) (tested_word labels x) (source_word labels 0 b) to (label_of goal) goal_there goal_top false at (label_of skip) fs h r in
+          let e = order_emitted labels (tested_source x) (source_of 0 b) (tested_word labels x) (source_word labels 0 b) to (label_of goal) goal_there goal_top (items.is_zero (source_of 0 b)) false at (label_of skip) fs h r in
           record { first = e.first; second = e.second; emits = e.emits; reach = e.reach }
       tested_emitted rel.Ge at x b fs h r =
-          let e = order_emitted labels (tested_source x) (source_of 0 b) (tested_word labels x) (source_word labels 0 b) to (label_of goal) goal_there goal_top true at (label_of skip) fs h r in
+          let e = order_emitted labels (tested_source x) (source_of 0 b) (tested_word labels x) (source_word labels 0 b) to (label_of goal) goal_there goal_top (items.is_zero (source_of 0 b)) true at (label_of skip) fs h r in
           record { first = e.first; second = e.second; emits = e.emits; reach = e.reach }
       tested_emitted rel.Gt at x b fs h r =
-          let e = order_emitted labels (source_of 0 b) (tested_source x) (source_word labels 0 b) (tested_word labels x) to (label_of goal) goal_there goal_top false at (label_of skip) fs h r in
+          let e = order_emitted labels (source_of 0 b) (tested_source x) (source_word labels 0 b) (tested_word labels x) to (label_of goal) goal_there goal_top (items.is_zero (tested_source x)) false at (label_of skip) fs h r in
           record { first = e.first; second = e.second; emits = e.emits; reach = e.reach }
       tested_emitted rel.Le at x b fs h r =
-          let e = order_emitted labels (source_of 0 b) (tested_source x) (source_word labels 0 b) (tested_word labels x) to (label_of goal) goal_there goal_top true at (label_of skip) fs h r in
+          let e = order_emitted labels (source_of 0 b) (tested_source x) (source_word labels 0 b) (tested_word labels x) to (label_of goal) goal_there goal_top (items.is_zero (tested_source x)) true at (label_of skip) fs h r in
           record { first = e.first; second = e.second; emits = e.emits; reach = e.reach }
 
     -- a fault in line n
@@ -586,49 +748,46 @@ module _ (labels : List (Name × ℕ)) (ns : List ℕ) (seed n : ℕ) (seed_smal
     used_emits AsLine x w = searched_emits x w (block labels product.jump_through resolved.jump_through refl (ends labels))
     used_emits AsSubroutine x w =
         searched_emits x w
-        (block labels (product.address (next_line ns n) LEFT) (resolved.constant (next_at ly n) LEFT) (address_bytes labels ns seed 0 (next_line ns n) (next_at ly n) LEFT (next_same labels ns seed n) next_small)
+        (block labels (product.address (next_line ns n) LEFT) (resolved.pointed (next_at ly n) LEFT) (address_bytes labels ns seed 0 (next_line ns n) (next_at ly n) LEFT (next_same labels ns seed n) next_small (omega arith))
         (block labels (product.call PUSH_AT ∷ []) (resolved.call PUSH_AT) refl (block labels product.jump_through resolved.jump_through refl (ends labels))))
 
     converted_straight : (what : Conversion) (x : Source) (to : ℕ) → list_all is_straight (items.converted n seed what x to) ≡ true
     converted_straight Negated x to = joined_straight labels Sbc (FixedWord 0) x to
-    converted_straight Drawn x to = handed_straight labels RANDOM_AT RESULT x (FixedWord seed) to
+    converted_straight Drawn x to = lined_straight labels (items.may_have_none x) n (items.handed RANDOM_AT RESULT x (FixedWord seed) to) (handed_straight labels RANDOM_AT RESULT x (FixedWord seed) to)
 
-    converted_emits : {at : ℕ} (what : Conversion) (x : Source) (to : ℕ) → IsWord labels x → Emits labels at (map kept (items.converted n seed what x to)) (coded.convert_code ly n what x to)
-    converted_emits Negated x to w = block labels (items.taken (FixedWord 0) x to) (coded.taken (FixedWord 0) x to) ((taken_bytes labels (FixedWord 0) x to (omega arith) w).same _) (ends labels)
-    converted_emits Drawn x to w = block labels (product.constant n LINE) (resolved.constant n LINE) (line_set.same 0) (handed_emits labels RANDOM_AT RESULT x (FixedWord seed) to w seed_small)
+    converted_emits : (at : ℕ) (what : Conversion) (x : Source) (to : ℕ) → IsWord labels x → Emits labels at (map kept (items.converted n seed what x to)) (coded.convert_code ly n what x to)
+    converted_emits at Negated x to w = block labels (items.taken (FixedWord 0) x to) (coded.taken (FixedWord 0) x to) ((taken_bytes labels (FixedWord 0) x to (omega arith) w).same _) (ends labels)
+    converted_emits at Drawn x to w =
+        lined_emits labels at (items.may_have_none x) n n_small (items.handed RANDOM_AT RESULT x (FixedWord seed) to) (coded.routine RANDOM_AT RESULT x (FixedWord seed) to) (λ b. handed_emits labels {at = b} RANDOM_AT RESULT x (FixedWord seed) to w seed_small)
 
-    -- the forms of each group emit it
-    pub group_emitted : (i at : ℕ) (g : Group) (fs : List Form) → IsAlone g → AreInRange 256 (expand g) → AreFormsOf (items.group_template ns seed n i g) fs → Rest labels at fs
+    -- the forms of each group without branches of a single instruction emit it
+    pub group_emitted : (i at : ℕ) (g : Group) (fs : List Form) → coded.is_branching g ≡ false → IsAlone g → AreInRange 256 (expand g) → AreFormsOf (items.group_template ns seed n i g) fs → Rest labels at fs
         → GroupEmitted labels ly n at g fs
-    group_emitted i at (Calculate o a b d) fs q range h r =
+    group_emitted i at (Calculate o a b d) fs plain q range h r =
         let x = source_of (slot_of d) a in let y = source_of (slot_of d + 1) b in let to = destination_at d in
         straight_emitted at (Calculate o a b d) (items.calculated n o x y to) fs (calculated_straight labels n o x y to) h r
         (λ s. record { first = Short; second = Short; emits = calculated_emits labels n at o x y to n_small (source_word labels (slot_of d) a) (source_word labels (slot_of d + 1) b); reach = tt })
-    group_emitted i at (Move a home) fs q range h r =
+    group_emitted i at (Move a home) fs plain q range h r =
         let x = source_of 0 a in let to = home_at home in
         straight_emitted at (Move a home) (items.brought x to) fs (brought_straight labels x to) h r
         (λ s. record { first = Short; second = Short; emits = block labels (items.brought x to) (coded.brought x to) ((brought_bytes labels x to (source_word labels 0 a)).same at) (ends labels); reach = tt })
-    group_emitted i at (Convert what a d) fs q range h r =
+    group_emitted i at (Convert what a d) fs plain q range h r =
         let x = source_of (slot_of d) a in let to = destination_at d in
         straight_emitted at (Convert what a d) (items.converted n seed what x to) fs (converted_straight what x to) h r
-        (λ s. record { first = Short; second = Short; emits = converted_emits what x to (source_word labels (slot_of d) a); reach = tt })
-    group_emitted i at (Use how a) fs q range h r =
+        (λ s. record { first = Short; second = Short; emits = converted_emits at what x to (source_word labels (slot_of d) a); reach = tt })
+    group_emitted i at (Use how a) fs plain q range h r =
         straight_emitted at (Use how a) (items.used n (next_line ns n) how (source_of 0 a)) fs (used_straight how (source_of 0 a)) h r
         (λ s. record { first = Short; second = Short; emits = used_emits how (source_of 0 a) (source_word labels 0 a); reach = tt })
-    group_emitted i at (Test rel x b) fs q range h r =
+    group_emitted i at (Test rel x b) fs plain q range h r =
         let e = tested_emitted (next_at ly n) (next_line ns n) (target.Inside inside.Skip n i) there top rel at x b fs h r in
         record { first = e.first; second = e.second; emits = e.emits; reach = e.reach }
-    group_emitted i at (TestGo rel x b to) fs q range h r =
+    group_emitted i at (TestGo rel x b to) fs plain q range h r =
         let e = go_emitted i at rel x b to (has_line ns to) refl fs h r in
         record { first = e.0; second = e.1; emits = e.2; reach = e.3 }
-    group_emitted i at (Single c) fs q range h r =
-        straight_emitted at (Single c) (alone_items i c (items.may_fault ns c)) fs (alone_straight i c (items.may_fault ns c)) h r
-        (λ s. record {
-          first = Short;
-          second = Short;
-          emits = alone_emits i at c (items.may_fault ns c) q range.0 s;
-          reach = tt;
-        })
+    group_emitted i at (Single c) fs plain q range h r =
+        straight_emitted at (Single c) (alone_items i c (items.may_fault c)) fs (alone_straight i c (items.may_fault c) plain) h r
+        (λ s. let e = plain_emitted at c _ (coded.has_branches c) plain (alone_emits i at c (items.may_fault c) plain q range.0 s) in
+        record { first = e.0; second = e.1; emits = e.2; reach = e.3 })
 
   -- ---- the poll at a line's beginning
   -- the forms of a poll behind its call emit it by the way of its branch, which reaches

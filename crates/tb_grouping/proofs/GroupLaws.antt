@@ -1,7 +1,6 @@
 -- The law of each group, and from them that of the step.
-use Rattle.std.proofs.Common.{◌≡◌, ℕ, ◌+◌, ◌≤◌, Bool, true, false, ◌||◌, List, [], ◌∷◌, ◌++◌, refl, sym, ap, ◌∙◌, subst, arith, ⊎_elim}
+use Rattle.std.proofs.Common.{◌≡◌, ℕ, ◌+◌, ◌≤◌, Bool, true, false, ◌||◌, List, [], ◌∷◌, ◌++◌, refl, sym, ap, ◌∙◌, subst, arith}
 use Rattle.std.specs.Prelude.{nat_eq, nat_le}
-use Rattle.std.proofs.lemmas.Bool.{cases_eq}
 use Rattle.tb_words.specs.declared.Rel.{Rel}
 use Rattle.tb_syntax.specs.declared.expressions.Operator.{Operator}
 use Rattle.tb_syntax.specs.declared.expressions.Operator.TheVariants as op
@@ -18,6 +17,9 @@ use Rattle.tb_selection.specs.Groups.{Operand, Home, Destination, Tested, Conver
 use Rattle.tb_selection.specs.Select.{alone, select}
 use Rattle.tb_selection.specs.GroupSteps.{steps, first_group, group_step}
 use Rattle.tb_selection.proofs.Bracketed.{brackets}
+use Rattle.tb_templates.specs.Scaled.{scaling, shifts}
+use Rattle.tb_templates.specs.Sources.{source_of}
+use Rattle.tb_templates.proofs.Factors.{scaling_is, shifting_is}
 use Rattle.tb_grouping.proofs.Alone.{act_law}
 use Rattle.tb_grouping.proofs.Coded.{GroupsLaid}
 use Rattle.tb_grouping.proofs.Falling.{IsSome, Between, falls_on}
@@ -31,8 +33,7 @@ use Rattle.tb_grouping.proofs.Calculations.{add_law, subtract_law}
 use Rattle.tb_grouping.proofs.Conversions.{ConvertLeads, draw_fails_law, draw_law, negate_law}
 use Rattle.tb_grouping.proofs.OneWord.{spread_convert, spread_convert_is, spread_use, spread_use_is}
 use Rattle.tb_grouping.proofs.Uses.{use_law}
-use Rattle.tb_grouping.proofs.Divisions.{divide_law, divide_fails}
-use Rattle.tb_grouping.proofs.Products.{multiply_law}
+use Rattle.tb_grouping.proofs.Constants.{product_law, quotient_law}
 use Rattle.tb_grouping.proofs.Moves.{spread_move, spread_move_is, move_law}
 use Rattle.tb_grouping.proofs.Polled.{lines_law}
 use Rattle.tb_grouping.proofs.TestLaws.{go_law, test_law}
@@ -80,19 +81,17 @@ module _ (ly : Layout) (f : Setup) (lo hi keys : ℕ) (fits : Fits f 16) (limit 
   pub moves : (a : Operand) (home : Home) → GroupLaw (Move a home)
   moves a home = by_steps (Move a home) 4 (omega arith) (bracketed (Move a home) 4 (spread_move a home) (spread_move_is a home) (λ is n s r w h. move_law ly f lo hi keys fits code n a home is s r w h))
 
-  module _ (rs : Routines ly.table ly.seed ly.numbers ly.start f lo hi keys limit) where
+  module _ (rs : Routines ly.table ly.seed ly.numbers ly.start f lo hi keys limit) (wide : 200 ≤ limit) where
     pub divides : (a b : Operand) (d : Destination) → GroupLaw (Calculate op.Divide a b d)
     divides a b d = by_steps (Calculate op.Divide a b d) (17 + limit) (omega arith) (calculate_steps op.Divide a b d (17 + limit) (λ is n s r w h.
-        ⊎_elim
-        (λ zero. divide_fails ly f lo hi keys fits limit rs code n a b d is s r w h zero)
-        (λ some. divide_law ly f lo hi keys fits limit rs code n a b d is s r w h some)
-        (cases_eq (fetched s r (slot_of d + 1) b) 0)))
+        quotient_law ly f lo hi keys fits limit rs wide code n a b d is s r w h (shifts (source_of (slot_of d + 1) b)) (shifting_is (source_of (slot_of d + 1) b)) h.lies h.rest))
 
     pub tests_going : (rel : Rel) (a : Tested) (b : Operand) (to : ℕ) → GroupLaw (TestGo rel a b to)
     tests_going rel a b to = by_steps (TestGo rel a b to) (15 + limit) (omega arith) (bracketed (TestGo rel a b to) (15 + limit) (λ is. spread_test rel a b (JumpTo to ∷ is)) (spread_test_is rel a b (JumpTo to ∷ [])) (λ is n s r w h. go_law ly f lo hi keys fits code same_numbers n a b s r w limit rs rel to is h))
 
     pub multiplies : (a b : Operand) (d : Destination) → GroupLaw (Calculate op.Multiply a b d)
-    multiplies a b d = by_steps (Calculate op.Multiply a b d) (13 + limit) (omega arith) (calculate_steps op.Multiply a b d (13 + limit) (λ is n s r w h. multiply_law ly f lo hi keys fits limit rs code n a b d is s r w h))
+    multiplies a b d = by_steps (Calculate op.Multiply a b d) (13 + limit) (omega arith) (calculate_steps op.Multiply a b d (13 + limit) (λ is n s r w h.
+        product_law ly f lo hi keys fits limit rs wide code n a b d is s r w h (scaling (source_of (slot_of d) a) (source_of (slot_of d + 1) b)) (scaling_is (source_of (slot_of d) a) (source_of (slot_of d + 1) b)) h.lies h.rest))
 
     module _ (closed : AreClosed code) (laid : GroupsLaid ly f.code f.whole code) where
       pub draws : (a : Operand) (d : Destination) → GroupLaw (Convert Drawn a d)

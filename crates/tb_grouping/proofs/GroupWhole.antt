@@ -44,7 +44,7 @@ module _ (place : ℕ) (bytes : List ℕ) (from : 0x0800 ≤ place) (to : place 
   pub known : (s : machine.State) (c : SlotState) (w : View) → Related s c w → c.rest ≡ Whole → Known ly c.state w
   known s c w m e = record { pc = subst (λ q. StandsAt ly (setup place bytes from to ly s).code w.regs.pc q c.state.place) e m.0.pc; vars = m.0.state.vars; count = m.0.state.count }
 
-  module _ (limit : ℕ → ℕ) (n : ℕ) (routines : RoutineLaws limit) (prologue : PrologueLaw n) where
+  module _ (limit : ℕ → ℕ) (wide : (k : ℕ) → 200 ≤ limit k) (n : ℕ) (routines : RoutineLaws limit) (prologue : PrologueLaw n) where
     pub opening : OpeningLaw place bytes from to ly Related sc n
     opening s h =
         let f = setup place bytes from to ly s in
@@ -57,7 +57,7 @@ module _ (place : ℕ) (bytes : List ℕ) (from : 0x0800 ≤ place) (to : place 
         (prologue s h)
 
     pub laws : StepLaws place bytes from to ly Related (group_step sc) (λ k. 24 + (limit k + limit k))
-    laws s h c w m = step_law ly (setup place bytes from to ly s) (home_low s) (home_high s) (length s.text) (room_so place bytes from to ly s h) (limit (length s.text)) sc laid.numbered (routines s h) closed laid c w m
+    laws s h c w m = step_law ly (setup place bytes from to ly s) (home_low s) (home_high s) (length s.text) (room_so place bytes from to ly s h) (limit (length s.text)) sc laid.numbered (routines s h) (wide (length s.text)) closed laid c w m
 
     pub positive : (k : ℕ) → 1 ≤ 24 + (limit k + limit k)
     positive k = omega arith

@@ -9,8 +9,8 @@ use Rattle.tb_runtime16.specs.Places.{LEFT, LINE, RESULT, RIGHT}
 use Rattle.tb_keeping.specs.Layout.{Layout}
 use Rattle.tb_keeping.proofs.Frames.{word_away, word_put}
 use Rattle.tb_keeping.proofs.Mirrors.{Typable}
-use Rattle.tb_keeping.proofs.Pieces.{InData, calls, copies, put_word}
-use Rattle.tb_keeping.proofs.Resolved.{Lies, pieces_size, size}
+use Rattle.tb_keeping.proofs.Pieces.{InData, calls, put_word}
+use Rattle.tb_keeping.proofs.Resolved.{Lies, copied, pieces_size, size}
 use Rattle.tb_keeping.proofs.Returning.{behind_call}
 use Rattle.tb_selection.specs.Groups.{IntoHeld, IntoHome, IntoSlot, IntoVariable, Destination, Group, slot_of}
 use Rattle.tb_selection.specs.Liveness.{live}
@@ -25,7 +25,7 @@ use Rattle.tb_grouping.proofs.Operands.{SourceHolds, dest_in_data}
 use Rattle.tb_grouping.proofs.Ready.{Ready}
 use Rattle.tb_grouping.proofs.SlotSide.{Lasting, landed, line, slots_landed}
 use Rattle.tb_grouping.proofs.Sources.{value}
-use Rattle.tb_grouping.proofs.Sums.{Grounded, brings}
+use Rattle.tb_grouping.proofs.Sums.{Grounded, brings, copies}
 
 -- where a routine may leave what it gives: among the data, and its high byte is not where it goes
 abbrev Gives : ℕ → Type 0
@@ -103,8 +103,11 @@ module _ (ly : Layout) (f : Setup) (lo hi keys : ℕ) (fits : Fits f 16) (n : �
     comes_back : back_at ((call_at + 2) % 256) ((call_at + 2) / 256) ≡ call_at + 3
     comes_back = behind_call ly f lo hi keys fits call_at lies.2.2.0
 
-    behind_is : at + pieces_size (routine entry from a b (destination_at d)) ≡ call_at + 3 + 12
-    behind_is = let e : at + (size (brought a LEFT) + (size (brought b RIGHT) + (3 + (12 + 0)))) ≡ call_at + 3 + 12 = omega arith in e
+    abbrev end_at : ℕ
+    end_at = call_at + 3 + size (copied from (destination_at d))
+
+    behind_is : at + pieces_size (routine entry from a b (destination_at d)) ≡ end_at
+    behind_is = let e : at + (size (brought a LEFT) + (size (brought b RIGHT) + (3 + (size (copied from (destination_at d)) + 0)))) ≡ end_at = omega arith in e
 
     -- and on, where it gives a word
     pub gives : (code : SlotCode) (s' : State) (q : Slots) (v limit : ℕ) → Gives from → DestFits d → Lasting (live js) d is r q → GroupsLie ly f.code n (at + pieces_size (routine entry from a b (destination_at d))) (select is) → w.text ≡ s'.text → w.answers ≡ s'.answers → Typable keys s'.text s'.answers → ((l k : ℕ) (m' : ℕ → ℕ) → Handed m x y m' → Moves f (Here entry (l ∷ k ∷ own) m' w.text w.answers) (Given from (back_at l k) s' v) [] limit) → Moves f (Here at own m w.text w.answers) (Matches ly f lo hi keys (line code n is (landed d v s') (slots_landed d v (with_word q (slot_of d) v)))) [] (13 + limit)
@@ -113,6 +116,6 @@ module _ (ly : Layout) (f : Setup) (lo hi keys : ℕ) (fits : Fits f 16) (n : �
         (asks _ [] (limit + 4) (λ m' k u e.
         chained f u _ _ [] [] limit 4 (does _ _ m' k u e) (λ u c'.
         looser f u _ _ [] 4 4 (omega arith)
-        (word_lands ly f lo hi keys fits code n h.small (live js) d is s' r q v _ _ (call_at + 3 + 12) u.mem w.text w.answers c'.result.low c'.result.high c'.result.small fit last (subst (λ p. GroupsLie ly f.code n p (select is)) behind_is rest) c'.kept text gets short)
+        (word_lands ly f lo hi keys fits code n h.small (live js) d is s' r q v _ _ end_at u.mem w.text w.answers c'.result.low c'.result.high c'.result.small fit last (subst (λ p. GroupsLie ly f.code n p (select is)) behind_is rest) c'.kept text gets short)
         (copies f 16 fits (call_at + 3) own u.mem w.text w.answers refl from (destination_at d) lies.2.2.2.0 g.0 (dest_in_data d fit) (g.1 d fit) lies.2.2.2.1 u
         (record { pc = c'.here.pc ∙ comes_back; stack = c'.here.stack; binary = c'.here.binary; mem = refl; text = c'.here.text; answers = c'.here.answers })))) u e)

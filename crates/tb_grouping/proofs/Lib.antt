@@ -10,6 +10,11 @@ pub mod Ready
 pub mod Calculations
 pub mod Few
 pub mod Divisions
+pub mod Halves
+pub mod ShiftSteps
+pub mod Shifts
+pub mod Multiples
+pub mod Constants
 pub mod TestSide
 pub mod Whereto
 pub mod Tests
@@ -31,6 +36,9 @@ pub mod Sending
 pub mod Conversions
 pub mod Leaving
 pub mod Finding
+pub mod Noting
+pub mod Calling
+pub mod CallBytes
 pub mod Asking
 pub mod Singles
 pub mod Alone

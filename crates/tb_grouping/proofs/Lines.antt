@@ -37,7 +37,8 @@ use Rattle.tb_grouping.specs.Laid.{ArePolled, LineLies, Laid}
 use Rattle.tb_grouping.proofs.Coded.{GroupsLie, GroupsLaid, LineStands, Way, BranchReaches, group_code, poll_code, way_size, Zero}
 use Rattle.tb_grouping.proofs.Branches.{branch_size}
 use Rattle.tb_grouping.proofs.Emits.{bytes_behind, emitted_size}
-use Rattle.tb_grouping.proofs.GroupBytes.{Rest, group_emitted, poll_emitted, rest_before, rest_behind}
+use Rattle.tb_grouping.proofs.CallBytes.{each_emitted}
+use Rattle.tb_grouping.proofs.GroupBytes.{Rest, poll_emitted, rest_before, rest_behind}
 use Rattle.tb_grouping.proofs.Laying.{inner_bytes, line_of, none_between, start_small, place_small, within_small, past_lies, find_lies, top_small, table_small, content_has, content_none}
 use Rattle.tb_grouping.proofs.Singles.{AreAlone, all_alone}
 
@@ -109,7 +110,7 @@ module _ (labels : List (Name × ℕ)) (seed : ℕ) (code : Part) (sc : slots.Sl
         let rs = subst (Rest labels at) s.are r in
         let below = rs.below in
         let range = range_split (expand g) (expand_all gs) ranged in
-        let m = group_emitted labels ns seed n laid.seed_small small (next_stands n) (next_below n) starts_there starts_below i at g s.front alone.0 range.0 s.of_front (rest_before labels at s.front s.back rs) in
+        let m = each_emitted labels ns seed n laid.seed_small small (next_stands n) (next_below n) starts_there starts_below i at g s.front alone.0 range.0 s.of_front (rest_before labels at s.front s.back rs) in
         let ps = group_code ly n at m.first m.second g in
         let long : forms_size s.front ≡ pieces_size ps = emitted_size labels m.emits in
         let bs = part_bytes within at s.front s.back below (subst (λ k. Bytes within at (bytes_from labels at (items_from at k))) s.are b) in

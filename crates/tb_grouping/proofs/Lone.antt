@@ -1,9 +1,9 @@
 -- What holds while the code of a group runs, and behind it; and that an instruction alone is one step.
-use Rattle.std.proofs.Common.{◌≡◌, ℕ, ◌+◌, ◌/◌, ◌%◌, ◌≤◌, ◌<◌, true, false, List, [], ◌∷◌, length, refl, sym, ap, ◌∙◌, subst, arith, append-nil}
+use Rattle.std.proofs.Common.{◌≡◌, ℕ, ◌+◌, ◌/◌, ◌%◌, ◌≤◌, ◌<◌, Bool, true, false, List, [], ◌∷◌, length, refl, sym, ap, ◌∙◌, subst, arith, append-nil}
 use Rattle.tb_lower.specs.Control.{State, column_after}
 use Rattle.tb_lower.specs.Slots.{Instr, Rest, Whole, Left, Slots, SlotCode, SlotState, slot_step, with_word}
 use Rattle.tb_lower.specs.Steps.{Step, Goes, Stops, and_then}
-use Rattle.tb_reaching.proofs.Comes.{chained}
+use Rattle.tb_reaching.proofs.Comes.{chained, looser}
 use Rattle.tb_reaching.proofs.Instr.{Stands}
 use Rattle.tb_reaching.specs.View.{Comes, Fits, Setup, View}
 use Rattle.tb_runtime16.specs.Laws.{AllBytes}
@@ -13,7 +13,7 @@ use Rattle.tb_keeping.specs.Layout.{Layout, place_at}
 use Rattle.tb_keeping.proofs.Frames.{owned_low, put_away, word_put}
 use Rattle.tb_keeping.proofs.Mirrors.{Typable}
 use Rattle.tb_keeping.proofs.Pieces.{put_word, sets}
-use Rattle.tb_keeping.proofs.Resolved.{constant, highest_code}
+use Rattle.tb_keeping.proofs.Resolved.{Lies, Piece, constant, highest_code, pieces_size}
 use Rattle.tb_keeping.proofs.Returning.{homed_kept}
 use Rattle.tb_selection.specs.declared.liveness.Live.{Live}
 use Rattle.tb_selection.specs.Groups.{Destination, Group, slot_of}
@@ -22,7 +22,7 @@ use Rattle.tb_selection.specs.Select.{select}
 use Rattle.tb_selection.specs.GroupSteps.{inside, steps}
 use Rattle.tb_grouping.proofs.Beginnings.{nothing_read}
 use Rattle.tb_templates.specs.Sources.{destination_at}
-use Rattle.tb_grouping.proofs.Coded.{GroupsLie}
+use Rattle.tb_grouping.proofs.Coded.{GroupsLie, lined_code}
 use Rattle.tb_grouping.proofs.Matching.{HoldsState, HoldsLive, Matches}
 use Rattle.tb_grouping.proofs.SlotSide.{Lasting, landed, line, slots_landed}
 use Rattle.tb_grouping.proofs.Landing.{DestFits, Elsewhere, home_kept, read_landed, read_lined, scratch_put, state_landed, state_lined, state_scratch}
@@ -119,3 +119,28 @@ module _ (ly : Layout) (f : Setup) (lo hi keys : ℕ) (fits : Fits f 16) where
     -- the line's number is set first
     pub lines : w.regs.pc + 10 ≤ highest_code → Stands f.code w.regs.pc (constant n LINE) → (q : View → Type 0) (t : List ℕ) (k : ℕ) → Moves f (Here (w.regs.pc + 10) (lo ∷ hi ∷ []) lined w.text w.answers) q t k → Comes f w q t (4 + k)
     lines room lies q t k next = chained f w _ q [] t 4 k (sets f 16 fits w.regs.pc (lo ∷ hi ∷ []) w.mem w.text w.answers refl n LINE room (refl, refl) lies w (here ly f lo hi keys fits w [] [] h.stack h.binary)) next
+
+    -- or not, where nothing can fault
+    abbrev pub lined_by : Bool → ℕ → ℕ
+    lined_by true = lined
+    lined_by false = w.mem
+
+    abbrev pub behind_line : Bool → ℕ
+    behind_line true = w.regs.pc + 10
+    behind_line false = w.regs.pc
+
+    pub kept_by : (t : Bool) → Kept (live js) s r (lined_by t)
+    kept_by true = kept_lined
+    kept_by false = kept
+
+    pub lies_by : (t : Bool) (ps : List Piece) → Lies f.code w.regs.pc (lined_code t n ps) → Lies f.code (behind_line t) ps
+    lies_by true ps lies = lies.2
+    lies_by false ps lies = lies
+
+    pub rest_by : (t : Bool) (ps : List Piece) → GroupsLie ly f.code n (w.regs.pc + pieces_size (lined_code t n ps)) (select is) → GroupsLie ly f.code n (behind_line t + pieces_size ps) (select is)
+    rest_by true ps rest = subst (λ p. GroupsLie ly f.code n p (select is)) (let e : w.regs.pc + (10 + pieces_size ps) ≡ w.regs.pc + 10 + pieces_size ps = omega arith in e) rest
+    rest_by false ps rest = rest
+
+    pub lines_by : (t : Bool) (ps : List Piece) → Lies f.code w.regs.pc (lined_code t n ps) → (q : View → Type 0) (l : List ℕ) (k : ℕ) → Moves f (Here (behind_line t) (lo ∷ hi ∷ []) (lined_by t) w.text w.answers) q l k → Comes f w q l (4 + k)
+    lines_by true ps lies q l k next = lines lies.0 lies.1 q l k next
+    lines_by false ps lies q l k next = looser f w q q l k (4 + k) (omega arith) (λ u x. x) (next w (here ly f lo hi keys fits w [] [] h.stack h.binary))

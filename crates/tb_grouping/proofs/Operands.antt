@@ -16,7 +16,7 @@ use Rattle.tb_grouping.proofs.Coded.{low, high}
 use Rattle.tb_grouping.proofs.Matching.{HoldsState, HoldsLive}
 use Rattle.tb_grouping.proofs.SlotSide.{fetched, StandsIn}
 use Rattle.tb_grouping.proofs.Landing.{DestFits}
-use Rattle.tb_grouping.proofs.Sums.{Grounded}
+use Rattle.tb_grouping.proofs.Sums.{Grounded, Away}
 
 abbrev pub OperandFits : Operand → Type 0
 OperandFits (Constant w) = Unit {0}
@@ -84,3 +84,15 @@ pub operand_before : (k : ℕ) (a : Operand) (to : ℕ) → 0xC060 ≤ to → k 
 operand_before k (Constant w) to e lt fit = tt
 operand_before k (Variable x) to e lt fit = (word_in_data (var_at x) (omega arith) (omega (arith, fit)), λ q. omega (arith, q, e, fit))
 operand_before k InSlot to e lt fit = (word_in_data (slot_at k) (omega arith) (omega (arith, lt)), λ q. omega (arith, q, e, lt))
+
+-- a result's place is behind LEFT
+pub dest_beyond : (d : Destination) → DestFits d → InData (destination_at d) × (0xC000 ≤ destination_at d)
+dest_beyond (IntoSlot k) fit = (dest_in_data (IntoSlot k) fit, omega arith)
+dest_beyond (IntoHome (IntoVariable x)) fit = (dest_in_data (IntoHome (IntoVariable x)) fit, omega arith)
+dest_beyond (IntoHome IntoHeld) fit = (dest_in_data (IntoHome IntoHeld) fit, omega arith)
+
+-- and so is an operand's
+pub operand_beyond : (k : ℕ) (a : Operand) → Away (source_of k a)
+operand_beyond k (Constant w) = tt
+operand_beyond k (Variable x) = omega arith
+operand_beyond k InSlot = omega arith

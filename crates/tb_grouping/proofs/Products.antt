@@ -10,11 +10,14 @@ use Rattle.tb_runtime16.specs.Routines.{Routines}
 use Rattle.tb_runtime16.specs.Places.{LEFT, MULTIPLY_AT, RIGHT, RESULT}
 use Rattle.tb_keeping.specs.Layout.{Layout}
 use Rattle.tb_keeping.proofs.Joins.{sent_in}
+use Rattle.tb_keeping.proofs.Resolved.{Lies, pieces_size}
 use Rattle.tb_keeping.proofs.Returning.{back_here}
 use Rattle.tb_selection.specs.Groups.{Operand, Destination, Calculate, slot_of}
 use Rattle.tb_selection.specs.Liveness.{live}
+use Rattle.tb_selection.specs.Select.{select}
 use Rattle.tb_grouping.proofs.Calculations.{Leads}
-use Rattle.tb_templates.specs.Sources.{source_of}
+use Rattle.tb_templates.specs.Sources.{destination_at, source_of}
+use Rattle.tb_grouping.proofs.Coded.{GroupsLie, routine}
 use Rattle.tb_grouping.proofs.Handed.{gives, result_gives}
 use Rattle.tb_grouping.proofs.Lone.{kept, kept_scratch}
 use Rattle.tb_grouping.proofs.Matching.{Target}
@@ -22,7 +25,7 @@ use Rattle.tb_grouping.proofs.Operands.{CalcFits, calc_fits, operand_apart, oper
 use Rattle.tb_grouping.proofs.Ready.{Ready, here}
 use Rattle.tb_grouping.proofs.SlotSide.{calculate_goes, calculate_lasting, fetched, left_asked, right_asked, spread, with_fetched}
 
-module _ (ly : Layout) (f : Setup) (lo hi keys : ℕ) (fits : Fits f 16) (limit : ℕ) (rs : Routines ly.table ly.seed ly.numbers ly.start f lo hi keys limit) (code : SlotCode) (n : ℕ) (a b : Operand) (d : Destination) (is : List Instr) (s : State) (r : Slots) (w : View) (h : Ready ly f lo hi keys fits n (Calculate op.Multiply a b d) (spread op.Multiply a b d is) is s r w) where
+module _ (ly : Layout) (f : Setup) (lo hi keys : ℕ) (fits : Fits f 16) (limit : ℕ) (rs : Routines ly.table ly.seed ly.numbers ly.start f lo hi keys limit) (code : SlotCode) (n : ℕ) (a b : Operand) (d : Destination) (is : List Instr) (s : State) (r : Slots) (w : View) (h : Ready ly f lo hi keys fits n (Calculate op.Multiply a b d) (spread op.Multiply a b d is) is s r w) (lies : Lies f.code w.regs.pc (routine MULTIPLY_AT RESULT (source_of (slot_of d) a) (source_of (slot_of d + 1) b) (destination_at d))) (behind : GroupsLie ly f.code n (w.regs.pc + pieces_size (routine MULTIPLY_AT RESULT (source_of (slot_of d) a) (source_of (slot_of d + 1) b) (destination_at d))) (select is)) where
   abbrev k : ℕ
   k = slot_of d
 
@@ -43,11 +46,11 @@ module _ (ly : Layout) (f : Setup) (lo hi keys : ℕ) (fits : Fits f 16) (limit 
       let v = word (x * y) in
       let c = kept ly f lo hi keys fits n _ js is s r w h in
       subst (λ x. Comes f w (Target ly f lo hi keys x) (sent_in x) (13 + limit)) (sym (calculate_goes code n op.Multiply a b d is s r h.read.all_words fit.slot v refl))
-      (gives ly f lo hi keys fits n _ js is s r w h MULTIPLY_AT RESULT w.regs.pc (source_of k a) (source_of (k + 1) b) d w.mem c h.lies x y
+      (gives ly f lo hi keys fits n _ js is s r w h MULTIPLY_AT RESULT w.regs.pc (source_of k a) (source_of (k + 1) b) d w.mem c lies x y
       (operand_apart k a LEFT (omega arith) (omega (arith, fit.slot)) fit.left) (operand_apart (k + 1) b RIGHT (omega arith) fit.slot fit.right)
       (operand_held ly s (live js) r w.mem k a c.state c.read fit.left (left_asked op.Multiply a b d is))
       (λ m k'. operand_held ly s (live js) r m (k + 1) b k'.state k'.read fit.right (right_asked op.Multiply a b d is))
-      code s (with_fetched s (with_fetched s r k a) (k + 1) b) v limit result_gives fit.dest (calculate_lasting op.Multiply a b d is s r h.free) h.rest h.text h.answers h.short
+      code s (with_fetched s (with_fetched s r k a) (k + 1) b) v limit result_gives fit.dest (calculate_lasting op.Multiply a b d is s r h.free) behind h.text h.answers h.short
       (λ l k' m g u e. looser f u _ _ [] limit limit (omega arith)
       (λ u q. record {
         here = back_here ly f lo hi keys fits _ _ m w.text w.answers u q.back refl;

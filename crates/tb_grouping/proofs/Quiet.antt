@@ -1,5 +1,5 @@
 -- The laws of Put and Load as groups of their own.
-use Rattle.std.proofs.Common.{ℕ, ◌+◌, ◌/◌, ◌%◌, List, [], ◌∷◌, refl, arith}
+use Rattle.std.proofs.Common.{◌≡◌, ℕ, ◌+◌, ◌/◌, ◌%◌, List, [], ◌∷◌, refl, subst, arith}
 use Rattle.std.specs.Prelude.{slice_index}
 use Rattle.tb_words.specs.Words.{word}
 use Rattle.tb_lower.specs.Control.{State}
@@ -8,13 +8,17 @@ use Rattle.tb_reaching.proofs.Comes.{looser}
 use Rattle.tb_reaching.specs.View.{Comes, Fits, Setup, View}
 use Rattle.tb_templates.specs.Templates.{slot_at, var_at}
 use Rattle.tb_keeping.specs.Layout.{Layout}
-use Rattle.tb_keeping.proofs.Pieces.{copies, sets, word_in_data}
+use Rattle.tb_keeping.proofs.Pieces.{sets, word_in_data}
+use Rattle.tb_keeping.proofs.Resolved.{copied, size}
 use Rattle.tb_selection.specs.Groups.{IntoSlot, Single}
 use Rattle.tb_selection.specs.Liveness.{live}
+use Rattle.tb_selection.specs.Select.{select}
+use Rattle.tb_grouping.proofs.Coded.{GroupsLie}
 use Rattle.tb_grouping.proofs.Matching.{Matches}
 use Rattle.tb_grouping.proofs.SlotSide.{Lasting, line, written_reads}
 use Rattle.tb_grouping.proofs.Lone.{kept, word_lands}
 use Rattle.tb_grouping.proofs.Ready.{Ready, here}
+use Rattle.tb_grouping.proofs.Sums.{copies}
 
 module _ (ly : Layout) (f : Setup) (lo hi keys : ℕ) (fits : Fits f 16) (code : SlotCode) (n : ℕ) (is : List Instr) (s : State) (r : Slots) (w : View) where
   abbrev own : List ℕ
@@ -34,8 +38,10 @@ module _ (ly : Layout) (f : Setup) (lo hi keys : ℕ) (fits : Fits f 16) (code :
   load_law k x h =
       let fit = h.ranged.0 in
       let v = h.state.vars x fit.1 in
+      let text = copied (var_at x) (slot_at k) in
+      let behind : w.regs.pc + (size text + 0) ≡ w.regs.pc + size text = omega arith in
       looser f w _ _ [] 4 4 (omega arith)
-      (word_lands ly f lo hi keys fits code n h.small (live (Load k x ∷ is)) (IntoSlot k) is s r r (slice_index s.vars x) _ _ (w.regs.pc + 12) w.mem w.text w.answers v.low v.high v.small fit.0 lasting h.rest (kept ly f lo hi keys fits n _ _ is s r w h) h.text h.answers h.short)
+      (word_lands ly f lo hi keys fits code n h.small (live (Load k x ∷ is)) (IntoSlot k) is s r r (slice_index s.vars x) _ _ (w.regs.pc + size text) w.mem w.text w.answers v.low v.high v.small fit.0 lasting (subst (λ p. GroupsLie ly f.code n p (select is)) behind h.rest) (kept ly f lo hi keys fits n _ _ is s r w h) h.text h.answers h.short)
       (copies f 16 fits w.regs.pc own w.mem w.text w.answers refl (var_at x) (slot_at k) h.lies.0 (word_in_data (var_at x) (omega arith) (omega (arith, fit.1))) (word_in_data (slot_at k) (omega arith) (omega (arith, fit.0))) (λ e. omega (arith, e, fit.1)) h.lies.1 w (here ly f lo hi keys fits w [] [] h.stack h.binary))
     where
       lasting : Lasting (live (Load k x ∷ is)) (IntoSlot k) is r r

@@ -17,8 +17,11 @@ use Rattle.tb_templates.specs.Layout.{LabelsAt}
 use Rattle.tb_templates.specs.Templates as product
 use Rattle.tb_templates.specs.Templates.{var_at, slot_at, target_of, next_line}
 use Rattle.tb_keeping.specs.Layout.{Layout, place_of, layout_of, next_at}
-use Rattle.tb_keeping.proofs.Numbers.{low_of, high_of, start_of_line, next_same, joined, constant_bytes, faulted_bytes, jump_bytes, note_bytes}
-use Rattle.tb_keeping.proofs.Resolved.{Piece, template, jump_to, call_to}
+use Rattle.tb_keeping.proofs.Numbers.{low_of, high_of, start_of_line, next_same, constant_bytes, copied_bytes, faulted_bytes, jump_bytes}
+use Rattle.std.proofs.lemmas.List.{append-nil}
+use Rattle.tb_reaching.proofs.Instr.{flat}
+use Rattle.tb_keeping.proofs.Resolved.{Piece, copied, template, jump_to}
+use Rattle.tb_grouping.proofs.Coded.{has_branches}
 use Rattle.tb_selection.specs.Groups.{Group, Calculate, Convert, Move, Use, Test, TestGo, Single}
 use Rattle.tb_selection.specs.Select.{alone}
 use Rattle.tb_keeping.proofs.Emitted.{pieces_bytes}
@@ -69,31 +72,26 @@ module _ (labels : List (Name × ℕ)) (ns : List ℕ) (seed : ℕ) (seed_small 
   to_bytes i at to true e = jump_bytes labels ns seed at (target.Line to) _ (start_of_line labels ns seed to e)
   to_bytes i at to false e = faulted_bytes labels ns seed at n 1 n_small (omega arith)
 
-  sub_bytes : (i at to : ℕ) (t : Bool) → has_line ns to ≡ t → bytes_from labels at (if t then product.note (next_line ns n) ++ (product.jump (target.Line to) ∷ []) else product.faulted n 1) ≡ pieces_bytes (call_to (ly labels ns seed) n t to)
+  -- the bytes of each template without branches
+  pub template_bytes : (i at : ℕ) (c : slots.Instr) → has_branches c ≡ false → alone c ≡ Single c → IsInRange 256 c → at + size (product.template ns n i c) ≤ 0xa000 → LabelsAt labels at (product.template ns n i c) → bytes_from labels at (product.template ns n i c) ≡ pieces_bytes (resolved at c)
   unfolding opcodes.encoded
-  sub_bytes i at to true e = joined labels ns seed at 13 (product.note (next_line ns n)) (product.jump (target.Line to) ∷ []) _ _ refl (note_bytes labels ns seed at n next_small) (jump_bytes labels ns seed (at + 13) (target.Line to) _ (start_of_line labels ns seed to e))
-  sub_bytes i at to false e = faulted_bytes labels ns seed at n 1 n_small (omega arith)
-
-  -- the bytes of each template
-  pub template_bytes : (i at : ℕ) (c : slots.Instr) → alone c ≡ Single c → IsInRange 256 c → at + size (product.template ns n i c) ≤ 0xa000 → LabelsAt labels at (product.template ns n i c) → bytes_from labels at (product.template ns n i c) ≡ pieces_bytes (resolved at c)
-  unfolding opcodes.encoded
-  template_bytes i at (slots.Put k w) q r b h = constant_bytes labels ns seed at (word w) (slot_at k) (omega arith)
-  template_bytes i at (slots.Load k x) q r b h = refl
-  template_bytes i at (slots.Store x) q r b h = absurd (not_alone refl q)
-  template_bytes i at (slots.Negate k) q r b h = absurd (not_alone refl q)
-  template_bytes i at (slots.Compute op k) q r b h = absurd (not_alone refl q)
-  template_bytes i at (slots.Random k) q r b h = absurd (not_alone refl q)
-  template_bytes i at (slots.SendText t) q r b h = text_bytes i at t r (omega (arith, b)) h
-  template_bytes i at slots.SendNumber q r b h = absurd (not_alone refl q)
-  template_bytes i at slots.SendZone q r b h = refl
-  template_bytes i at slots.SendNewline q r b h = refl
-  template_bytes i at (slots.Input x) q r b h = refl
-  template_bytes i at slots.Poll q r b h = refl
-  template_bytes i at slots.Hold q r b h = absurd (not_alone refl q)
-  template_bytes i at (slots.LeaveUnless rel) q r b h = absurd (not_alone refl q)
-  template_bytes i at slots.Jump q r b h = absurd (not_alone refl q)
-  template_bytes i at slots.Call q r b h = absurd (not_alone refl q)
-  template_bytes i at (slots.JumpTo to) q r b h = to_bytes i at to (has_line ns to) refl
-  template_bytes i at (slots.CallTo to) q r b h = sub_bytes i at to (has_line ns to) refl
-  template_bytes i at slots.Return q r b h = refl
-  template_bytes i at slots.End q r b h = refl
+  template_bytes i at (slots.Put k w) f q r b h = constant_bytes labels ns seed at (word w) (slot_at k) (omega arith)
+  template_bytes i at (slots.Load k x) f q r b h = copied_bytes labels ns seed at (var_at x) (slot_at k) ∙ sym (append-nil (flat (copied (var_at x) (slot_at k))))
+  template_bytes i at (slots.Store x) f q r b h = absurd (not_alone refl q)
+  template_bytes i at (slots.Negate k) f q r b h = absurd (not_alone refl q)
+  template_bytes i at (slots.Compute op k) f q r b h = absurd (not_alone refl q)
+  template_bytes i at (slots.Random k) f q r b h = absurd (not_alone refl q)
+  template_bytes i at (slots.SendText t) f q r b h = text_bytes i at t r (omega (arith, b)) h
+  template_bytes i at slots.SendNumber f q r b h = absurd (not_alone refl q)
+  template_bytes i at slots.SendZone f q r b h = refl
+  template_bytes i at slots.SendNewline f q r b h = refl
+  template_bytes i at (slots.Input x) f q r b h = refl
+  template_bytes i at slots.Poll f q r b h = refl
+  template_bytes i at slots.Hold f q r b h = absurd (not_alone refl q)
+  template_bytes i at (slots.LeaveUnless rel) f q r b h = absurd (not_alone refl q)
+  template_bytes i at slots.Jump f q r b h = absurd (not_alone refl q)
+  template_bytes i at slots.Call f q r b h = absurd (not_alone refl q)
+  template_bytes i at (slots.JumpTo to) f q r b h = to_bytes i at to (has_line ns to) refl
+  template_bytes i at (slots.CallTo to) f q r b h = absurd (true≢false f)
+  template_bytes i at slots.Return f q r b h = absurd (true≢false f)
+  template_bytes i at slots.End f q r b h = refl

@@ -42,13 +42,13 @@ impl Failure {
 impl fmt::Display for Failure {
     fn fmt<W: fmt::Write>(&self, f: &mut fmt::Formatter<W>) -> fmt::Result {
         match self {
-            Failure::Words(text) => write!(f, "{text}"),
-            Failure::NotUtf8 => writeln!(f, "tbc: an argument is not UTF-8"),
-            Failure::BadKeys => writeln!(f, "tbc: bad key list"),
-            Failure::BadAddress => writeln!(f, "tbc: bad address"),
-            Failure::SameFile => writeln!(f, "tbc: same file twice"),
-            Failure::ReadFault => writeln!(f, "tbc: read fault"),
-            Failure::NoMemory => writeln!(f, "tbc: out of memory"),
+            Failure::Words(text) => f.write_str(text),
+            Failure::NotUtf8 => f.write_str("tbc: an argument is not UTF-8\n"),
+            Failure::BadKeys => f.write_str("tbc: bad key list\n"),
+            Failure::BadAddress => f.write_str("tbc: bad address\n"),
+            Failure::SameFile => f.write_str("tbc: same file twice\n"),
+            Failure::ReadFault => f.write_str("tbc: read fault\n"),
+            Failure::NoMemory => f.write_str("tbc: out of memory\n"),
         }
     }
 }

@@ -1,23 +1,25 @@
 -- What labels stand for in the code of a template, and the templates' bytes.
 use Rattle.std.proofs.Common.{◌≡◌, ℕ, ◌+◌, ◌/◌, ◌%◌, ◌<◌, Bool, true, false, ◌||◌, List, [], ◌∷◌, ◌++◌, refl, sym, ap, ◌∙◌, arith, Option, Some, None}
 use Rattle.std.specs.Prelude.{if◌then◌else◌, nat_lt, nat_eq, unwrap_or}
-use Rattle.std.proofs.lemmas.Bool.{eq-eqb}
+use Rattle.std.proofs.lemmas.Bool.{eq-eqb, ltb-true}
 use Rattle.tb_opcodes.specs.Opcodes as opcodes
 use Rattle.tb_asm.specs.declared.names.Name.{Name}
-use Rattle.tb_asm.specs.declared.items.Operand.TheVariants.{Label, LowOf, HighOf}
-use Rattle.tb_asm.specs.Layout.{Entry, number_in, address_in, bytes_from, size}
+use Rattle.tb_opcodes.specs.declared.Mnemonic.TheVariants.{Lda, Sta}
+use Rattle.tb_opcodes.specs.declared.Mode.TheVariants.{Absolute, ZeroPage}
+use Rattle.tb_asm.specs.declared.items.Operand.TheVariants.{Byte, Word, Label, LowOf, HighOf}
+use Rattle.tb_asm.specs.Layout.{Entry, instr, number_in, address_in, bytes_of, bytes_from, size, size_of}
 use Rattle.std.specs.Option.{option_map}
 use Rattle.tb_asm.proofs.Laws.{bytes_append}
-use Rattle.tb_reaching.proofs.Instr.{flat}
+use Rattle.tb_reaching.proofs.Instr.{flat, ins, instr_bytes}
 use Rattle.tb_lower.specs.Control.{Place, At, Past, next_after, has_line}
-use Rattle.tb_runtime16.specs.Places.{LEFT, PUSH_AT, FAULT_LINE_AT}
+use Rattle.tb_runtime16.specs.Places.{FAULT_LINE_AT}
 use Rattle.tb_templates.specs.declared.labels.Target.{Target}
 use Rattle.tb_templates.specs.declared.labels.Target.TheVariants as target
 use Rattle.tb_templates.specs.Labels.{label_of}
 use Rattle.tb_templates.specs.Templates as product
 use Rattle.tb_templates.specs.Templates.{var_at, slot_at, target_of, next_line}
 use Rattle.tb_keeping.specs.Layout.{Layout, place_of, layout_of, place_at, next_at}
-use Rattle.tb_keeping.proofs.Resolved.{constant, call, faulting, jump}
+use Rattle.tb_keeping.proofs.Resolved.{lda_at, sta_at, copied, constant, pointed, faulting, jump}
 
 pub or_true : (b : Bool) → (b || true) ≡ true
 or_true true = refl
@@ -77,23 +79,44 @@ module _ (labels : List (Name × ℕ)) (ns : List ℕ) (seed : ℕ) where
   unfolding opcodes.encoded
   constant_bytes at w to h = λ i. 0xa9 ∷ low_byte w i ∷ 0x8d ∷ to % 256 ∷ to / 256 ∷ 0xa9 ∷ high_byte w h i ∷ 0x8d ∷ (to + 1) % 256 ∷ (to + 1) / 256 ∷ []
 
+  -- an instruction on the byte at a place has the opcode of its mode there
+  loaded_bytes : (t : Bool) (p : ℕ) → nat_lt p 256 ≡ t → (a : ℕ) → bytes_of labels a (instr Lda (if t then ZeroPage else Absolute) (if t then Byte p else Word p)) ≡ instr_bytes (ins (if t then 0xA5 else 0xAD) p)
+  unfolding opcodes.encoded
+  loaded_bytes true p e a = ap (λ b. 0xa5 ∷ b ∷ []) (let k : p % 256 ≡ p = omega (arith, ltb-true p 256 e) in k)
+  loaded_bytes false p e a = refl
+
+  stored_bytes : (t : Bool) (p : ℕ) → nat_lt p 256 ≡ t → (a : ℕ) → bytes_of labels a (instr Sta (if t then ZeroPage else Absolute) (if t then Byte p else Word p)) ≡ instr_bytes (ins (if t then 0x85 else 0x8D) p)
+  unfolding opcodes.encoded
+  stored_bytes true p e a = ap (λ b. 0x85 ∷ b ∷ []) (let k : p % 256 ≡ p = omega (arith, ltb-true p 256 e) in k)
+  stored_bytes false p e a = refl
+
+  pub load_bytes : (p a : ℕ) → bytes_of labels a (product.on Lda p) ≡ instr_bytes (lda_at p)
+  load_bytes p a = loaded_bytes (nat_lt p 256) p refl a
+
+  pub store_bytes : (p a : ℕ) → bytes_of labels a (product.on Sta p) ≡ instr_bytes (sta_at p)
+  store_bytes p a = stored_bytes (nat_lt p 256) p refl a
+
+  pub copied_bytes : (at from to : ℕ) → bytes_from labels at (product.copied from to) ≡ flat (copied from to)
+  unfolding opcodes.encoded
+  copied_bytes at from to =
+      let second = at + size_of (product.on Lda from) + 3 in
+      λ i. load_bytes from at i ++ (0x8d ∷ to % 256 ∷ to / 256 ∷ (load_bytes (from + 1) second i ++ (0x8d ∷ (to + 1) % 256 ∷ (to + 1) / 256 ∷ [])))
+
   pub faulted_bytes : (at n k : ℕ) → n < 65536 → k < 256 → bytes_from labels at (product.faulted n k) ≡ flat (faulting n k)
   unfolding opcodes.encoded
   faulted_bytes at n k h few =
       let number : k % 256 ≡ k = omega (arith, few) in
       λ i. 0xa2 ∷ low_byte n i ∷ 0xa0 ∷ high_byte n h i ∷ 0xa9 ∷ number i ∷ 0x4c ∷ FAULT_LINE_AT % 256 ∷ FAULT_LINE_AT / 256 ∷ []
 
-  pub address_bytes : (at : ℕ) (of : Target) (p to : ℕ) → place_of labels of ≡ p → p < 65536 → bytes_from labels at (product.address of to) ≡ flat (constant p to)
+  pub address_bytes : (at : ℕ) (of : Target) (p to : ℕ) → place_of labels of ≡ p → p < 65536 → to + 1 < 256 → bytes_from labels at (product.address of to) ≡ flat (pointed p to)
   unfolding opcodes.encoded
-  address_bytes at of p to e h =
+  address_bytes at of p to e h k =
+      let low_place : to % 256 ≡ to = omega (arith, k) in
+      let high_place : (to + 1) % 256 ≡ to + 1 = omega (arith, k) in
       let l : number_in labels (LowOf (label_of of)) % 256 ≡ p % 256 = omega (arith, low_of (label_of of), e) in
       let r : number_in labels (HighOf (label_of of)) % 256 ≡ p / 256 = omega (arith, high_of (label_of of), e, h) in
-      λ i. 0xa9 ∷ l i ∷ 0x8d ∷ to % 256 ∷ to / 256 ∷ 0xa9 ∷ r i ∷ 0x8d ∷ (to + 1) % 256 ∷ (to + 1) / 256 ∷ []
+      λ i. 0xa9 ∷ l i ∷ 0x85 ∷ low_place i ∷ 0xa9 ∷ r i ∷ 0x85 ∷ high_place i ∷ []
 
   pub jump_bytes : (at : ℕ) (of : Target) (p : ℕ) → place_of labels of ≡ p → bytes_from labels at (product.jump of ∷ []) ≡ flat (jump p)
   unfolding opcodes.encoded
   jump_bytes at of p e = ap (λ q. 0x4c ∷ q % 256 ∷ q / 256 ∷ []) e
-
-  pub note_bytes : (at n : ℕ) → next_at ly n < 65536 → bytes_from labels at (product.note (next_line ns n)) ≡ flat (constant (next_at ly n) LEFT) ++ flat (call PUSH_AT)
-  unfolding opcodes.encoded
-  note_bytes at n h = joined at 10 (product.address (next_line ns n) LEFT) (product.call PUSH_AT ∷ []) _ _ refl (address_bytes at (next_line ns n) (next_at ly n) LEFT (next_same n) h) refl

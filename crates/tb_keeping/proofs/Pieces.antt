@@ -1,22 +1,19 @@
 -- Pieces of code at any address, on data at any place.
-use Rattle.std.proofs.Common.{not, ⊎_elim, ◌≡◌, ◌≢◌, ◌-◌, ℕ, ◌+◌, ◌/◌, ◌%◌, ◌≤◌, ◌<◌, Bool, true, false, List, [], ◌∷◌, ◌++◌, length, refl, sym, ap, ◌∙◌, subst, arith, leb, eqb, Some, None, Ok}
-use Rattle.std.proofs.lemmas.Bool.{lt-ltb, cases_eq, eq-eqb, ne_eqb}
-use Rattle.tb_cpu.specs.Effects.{bit as carry}
+use Rattle.std.proofs.Common.{⊎_elim, ◌≡◌, ℕ, ◌+◌, ◌/◌, ◌%◌, ◌≤◌, ◌<◌, Bool, true, false, List, [], ◌∷◌, ◌++◌, length, refl, sym, ap, ◌∙◌, subst, arith, leb, eqb, Some, None, Ok}
 use Rattle.tb_keeping.proofs.Mirrors.{Carrying}
-use Rattle.tb_keeping.proofs.Resolved.{call, constant, copied, highest_code, jump, jump_through}
+use Rattle.tb_keeping.proofs.Resolved.{call, constant, highest_code, jump, jump_through, pointed}
 use Rattle.tb_runtime16.specs.Routines.{Here, WithA, Moves, WordAt}
 use Rattle.tb_memmap.specs.Bytes.{with_byte}
-use Rattle.tb_opcodes.specs.declared.Mnemonic.TheVariants.{Adc, Lda, Sbc, Sta}
+use Rattle.tb_opcodes.specs.declared.Mnemonic.TheVariants.{Lda, Sta}
 use Rattle.tb_opcodes.specs.declared.Mnemonic.{Mnemonic}
-use Rattle.tb_opcodes.specs.declared.Mode.TheVariants.{Absolute}
+use Rattle.tb_opcodes.specs.declared.Mode.TheVariants.{Absolute, ZeroPage}
 use Rattle.tb_reaching.proofs.Comes.{chained, known, looser}
-use Rattle.tb_reaching.proofs.Memory.{put_other}
 use Rattle.tb_reaching.proofs.Placed.{placing, reads_data, stores_at, takes_at, placed_last}
 use Rattle.tb_reaching.specs.View.{Bytes}
 use Rattle.tb_reaching.proofs.Instr.{Instr, Stands, act_instr, ins, instr_bytes}
 use Rattle.tb_reaching.specs.View.{Comes, Fits, Setup, View, is_data, view, with_s}
 use Rattle.tb_runtime16.specs.Places.{RESULT}
-use Rattle.std.specs.Prelude.{◌==◌, nat_lt, nat_le, if◌then◌else◌}
+use Rattle.std.specs.Prelude.{◌==◌, nat_lt, if◌then◌else◌}
 use Rattle.std.proofs.lemmas.Bool.Decides.{nat_tests}
 use Rattle.tb_opcodes.specs.Opcodes.{find_row, rows}
 use Rattle.tb_cpu.specs.declared.registers.Regs.{Regs}
@@ -49,13 +46,6 @@ called at bs r =
     let e : ((at + 3) % 65536 + 65535) % 65536 ≡ at + 2 = omega arith in
     ap (λ p. p % 256 ∷ p / 256 ∷ bs) e
 
-pub forward : (at d : ℕ) → at + 2 + d ≤ highest_code → d < 128 → ((at + 2) % 65536 + (if nat_lt d 128 then d else d + 65280)) % 65536 ≡ at + 2 + d
-forward at d b s = ap (λ t. ((at + 2) % 65536 + (if t then d else d + 65280)) % 65536) (lt-ltb d 128 s) ∙ omega arith
-
--- the difference of two bytes is 0 where they are equal
-same_byte : (l r : ℕ) → l < 256 → r < 256 → eqb ((l + 256 - r) % 256) 0 ≡ eqb l r
-same_byte l r ls rs = ⊎_elim (λ e. eq-eqb _ _ (omega (arith, e)) ∙ sym (eq-eqb l r e)) (λ n. ne_eqb _ _ (λ z. n (omega (arith, z, ls, rs))) ∙ sym (ne_eqb l r n)) (cases_eq l r)
-
 module _ (f : Setup) (room : ℕ) (fits : Fits f room) where
   -- one instruction, and then
   pub does : (i : Instr) (v w : View) (q : View → Type 0) (t : List ℕ) (n : ℕ) → leb (length v.stack) room ≡ true → Bytes f.code v.regs.pc (instr_bytes i) → act_instr f.code room i v ≡ Some w → Comes f w q t n → Comes f v q t (1 + n)
@@ -73,10 +63,20 @@ module _ (f : Setup) (room : ℕ) (fits : Fits f room) where
       placed_last f room fits (ins k p) v (record v { regs = with_s v.regs.s r }) q small b
       (takes_at f.code room (ins k p) v mn Absolute p d s e refl refl (v.mem p) r (reads_data f.code v.mem p dp) e') x
 
-  -- a write of A
+  -- the same in page zero
+  pub loads_short_last : (p : ℕ) (v : View) (r : Regs) (q : View → Type 0) → leb (length v.stack) room ≡ true → Bytes f.code v.regs.pc (instr_bytes (ins 0xA5 p)) → is_data p ≡ true → executed Lda (advanced v.regs ZeroPage) (λ a. Ok (v.mem p)) p ≡ Ok (r, []) → q (record v { regs = with_s v.regs.s r }) → Comes f v q [] 1
+  loads_short_last p v r q small b dp e' x =
+      placed_last f room fits (ins 0xA5 p) v (record v { regs = with_s v.regs.s r }) q small b
+      (takes_at f.code room (ins 0xA5 p) v Lda ZeroPage p refl refl refl refl refl (v.mem p) r (reads_data f.code v.mem p dp) e') x
+
+  -- a write of A, and one to page zero
   pub stores : (p : ℕ) (v : View) (q : View → Type 0) (t : List ℕ) (n : ℕ) → leb (length v.stack) room ≡ true → Bytes f.code v.regs.pc (instr_bytes (ins 0x8D p)) → is_data p ≡ true → Comes f (record v { regs = advanced v.regs Absolute; mem = with_byte v.mem p v.regs.a }) q t n → Comes f v q t (1 + n)
   stores p v q t n small b dp next =
       does (ins 0x8D p) v (record v { regs = advanced v.regs Absolute; mem = with_byte v.mem p v.regs.a }) q t n small b (stores_at f.code room (ins 0x8D p) v Sta Absolute p refl refl refl refl refl v.regs.a dp refl) next
+
+  pub stores_short : (p : ℕ) (v : View) (q : View → Type 0) (t : List ℕ) (n : ℕ) → leb (length v.stack) room ≡ true → Bytes f.code v.regs.pc (instr_bytes (ins 0x85 p)) → is_data p ≡ true → Comes f (record v { regs = advanced v.regs ZeroPage; mem = with_byte v.mem p v.regs.a }) q t n → Comes f v q t (1 + n)
+  stores_short p v q t n small b dp next =
+      does (ins 0x85 p) v (record v { regs = advanced v.regs ZeroPage; mem = with_byte v.mem p v.regs.a }) q t n small b (stores_at f.code room (ins 0x85 p) v Sta ZeroPage p refl refl refl refl refl v.regs.a dp refl) next
 
   -- the last write of a piece
   pub ends : (p at : ℕ) (v : View) (m : ℕ → ℕ) (bs keys gets : List ℕ) → leb (length v.stack) room ≡ true → Bytes f.code v.regs.pc (instr_bytes (ins 0x8D p)) → is_data p ≡ true → (v.regs.pc + 3) % 65536 ≡ at → v.stack ≡ bs → v.regs.flags.d ≡ false → with_byte v.mem p v.regs.a ≡ m → v.text ≡ keys → v.answers ≡ gets → Comes f v (Here at bs m keys gets) [] 1
@@ -86,6 +86,10 @@ module _ (f : Setup) (room : ℕ) (fits : Fits f room) where
   pub stores_last : (p : ℕ) (v : View) (q : View → Type 0) → leb (length v.stack) room ≡ true → Bytes f.code v.regs.pc (instr_bytes (ins 0x8D p)) → is_data p ≡ true → q (record v { regs = advanced v.regs Absolute; mem = with_byte v.mem p v.regs.a }) → Comes f v q [] 1
   stores_last p v q small b dp x =
       placed_last f room fits (ins 0x8D p) v (record v { regs = advanced v.regs Absolute; mem = with_byte v.mem p v.regs.a }) q small b (stores_at f.code room (ins 0x8D p) v Sta Absolute p refl refl refl refl refl v.regs.a dp refl) x
+
+  pub stores_short_last : (p : ℕ) (v : View) (q : View → Type 0) → leb (length v.stack) room ≡ true → Bytes f.code v.regs.pc (instr_bytes (ins 0x85 p)) → is_data p ≡ true → q (record v { regs = advanced v.regs ZeroPage; mem = with_byte v.mem p v.regs.a }) → Comes f v q [] 1
+  stores_short_last p v q small b dp x =
+      placed_last f room fits (ins 0x85 p) v (record v { regs = advanced v.regs ZeroPage; mem = with_byte v.mem p v.regs.a }) q small b (stores_at f.code room (ins 0x85 p) v Sta ZeroPage p refl refl refl refl refl v.regs.a dp refl) x
 
   -- whatever the registers and flags
   pub whatever : (at : ℕ) (bs : List ℕ) (m : ℕ → ℕ) (keys gets : List ℕ) (q : View → Type 0) (t : List ℕ) (k : ℕ) → ((a x y : ℕ) (n v i z c : Bool) → Comes f (view a x y n v i z c at bs m keys gets) q t k) → Moves f (Here at bs m keys gets) q t k
@@ -108,13 +112,6 @@ module _ (f : Setup) (room : ℕ) (fits : Fits f room) where
       (subst (λ a. Comes f (view a w.regs.x w.regs.y w.regs.flags.n w.regs.flags.v w.regs.flags.i w.regs.flags.z w.regs.flags.c at bs m keys gets) q t l) (sym e.number) (h _ _ _ _ _ _ _)))
 
   module _ (at : ℕ) (bs : List ℕ) (m : ℕ → ℕ) (keys gets : List ℕ) (small : leb (length bs) room ≡ true) where
-    pub copies : (from to : ℕ) → at + 12 ≤ highest_code → InData from → InData to → from + 1 ≢ to → Stands f.code at (copied from to) → Moves f (Here at bs m keys gets) (Here (at + 12) bs (put_word m to (m from) (m (from + 1))) keys gets) [] 4
-    copies from to r df dt apart st = whatever at bs m keys gets _ [] 4 (λ a x y n v i z c.
-        loads 0xAD from Lda (view a x y n v i z c at bs m keys gets) _ _ [] 3 refl refl refl small st.0 df.0 refl
-        (stores to (view _ x y _ v i _ c ((at + 3) % 65536) bs m keys gets) _ [] 2 small st.1.0 dt.0
-        (loads 0xAD (from + 1) Lda (view _ x y _ v i _ c ((((at + 3) % 65536) + 3) % 65536) bs _ keys gets) _ _ [] 1 refl refl refl small st.1.1.0 df.1 refl
-        (ends (to + 1) (at + 12) (view _ x y _ v i _ c ((((((at + 3) % 65536) + 3) % 65536) + 3) % 65536) bs _ keys gets) _ bs keys gets small st.1.1.1.0 dt.1 (omega arith) refl refl (ap (λ b. with_byte (with_byte m to (m from)) (to + 1) b) (put_other m to (m from) (from + 1) apart)) refl refl))))
-
     pub sets : (k to : ℕ) → at + 10 ≤ highest_code → InData to → Stands f.code at (constant k to) → Moves f (Here at bs m keys gets) (Here (at + 10) bs (put_word m to (k % 256) (k / 256)) keys gets) [] 4
     sets k to r dt st = whatever at bs m keys gets _ [] 4 (λ a x y n v i z c.
         does (ins 0xA9 (k % 256)) (view a x y n v i z c at bs m keys gets) _ _ [] 3 small st.0 refl
@@ -122,55 +119,14 @@ module _ (f : Setup) (room : ℕ) (fits : Fits f room) where
         (does (ins 0xA9 (k / 256)) (view _ x y _ v i _ c ((((at + 2) % 65536) + 3) % 65536) bs _ keys gets) _ _ [] 1 small st.1.1.0 refl
         (ends (to + 1) (at + 10) (view _ x y _ v i _ c ((((((at + 2) % 65536) + 3) % 65536) + 2) % 65536) bs _ keys gets) _ bs keys gets small st.1.1.1.0 dt.1 (omega arith) refl refl refl refl refl))))
 
-    -- the rest of it, with the low byte in A
-    pub sets_on : (k to : ℕ) → at + 10 ≤ highest_code → InData to → Stands f.code ((at + 2) % 65536) (ins 0x8D to ∷ ins 0xA9 (k / 256) ∷ ins 0x8D (to + 1) ∷ []) → Moves f (WithA ((at + 2) % 65536) (k % 256) bs m keys gets) (Here (at + 10) bs (put_word m to (k % 256) (k / 256)) keys gets) [] 3
-    sets_on k to r dt st = whatever_a ((at + 2) % 65536) (k % 256) bs m keys gets _ [] 3 (λ x y n v i z c.
-        stores to (view (k % 256) x y n v i z c ((at + 2) % 65536) bs m keys gets) _ [] 2 small st.0 dt.0
-        (does (ins 0xA9 (k / 256)) (view _ x y n v i z c ((((at + 2) % 65536) + 3) % 65536) bs _ keys gets) _ _ [] 1 small st.1.0 refl
-        (ends (to + 1) (at + 10) (view _ x y _ v i _ c ((((((at + 2) % 65536) + 3) % 65536) + 2) % 65536) bs _ keys gets) _ bs keys gets small st.1.1.0 dt.1 (omega arith) refl refl refl refl refl)))
-
-    -- a byte added to one, C clear before, and then one with that carry
-    adds_low : (to from : ℕ) → at + 10 ≤ highest_code → is_data from ≡ true → is_data to ≡ true → Stands f.code at (ins 0x18 0 ∷ ins 0xAD to ∷ ins 0x6D from ∷ ins 0x8D to ∷ []) → Moves f (Here at bs m keys gets) (Carrying (at + 10) bs (with_byte m to ((m to + m from + 0) % 256)) keys gets (nat_lt 255 (m to + m from + 0))) [] 4
-    adds_low to from r df dt st = whatever at bs m keys gets _ [] 4 (λ a x y n v i z c.
-        does (ins 0x18 0) (view a x y n v i z c at bs m keys gets) _ _ [] 3 small st.0 refl
-        (loads 0xAD to Lda (view a x y n v i z false ((at + 1) % 65536) bs m keys gets) _ _ [] 2 refl refl refl small st.1.0 dt refl
-        (loads 0x6D from Adc (view (m to) x y _ v i _ false ((((at + 1) % 65536) + 3) % 65536) bs m keys gets) _ _ [] 1 refl refl refl small st.1.1.0 df refl
-        (stores_last to (view ((m to + m from + 0) % 256) x y _ _ i _ (nat_lt 255 (m to + m from + 0)) ((((((at + 1) % 65536) + 3) % 65536) + 3) % 65536) bs m keys gets) _ small st.1.1.1.0 dt
-        (record { here = record { pc = omega arith; stack = refl; binary = refl; mem = refl; text = refl; answers = refl }; carry = refl })))))
-
-    adds_high : (to from : ℕ) (c : Bool) → at + 9 ≤ highest_code → is_data from ≡ true → is_data to ≡ true → Stands f.code at (ins 0xAD to ∷ ins 0x6D from ∷ ins 0x8D to ∷ []) → Moves f (Carrying at bs m keys gets c) (Here (at + 9) bs (with_byte m to ((m to + m from + carry c) % 256)) keys gets) [] 3
-    adds_high to from c r df dt st = whatever_with at bs m keys gets c _ [] 3 (λ a x y n v i z.
-        loads 0xAD to Lda (view a x y n v i z c at bs m keys gets) _ _ [] 2 refl refl refl small st.0 dt refl
-        (loads 0x6D from Adc (view (m to) x y _ v i _ c ((at + 3) % 65536) bs m keys gets) _ _ [] 1 refl refl refl small st.1.0 df refl
-        (ends to (at + 9) (view ((m to + m from + carry c) % 256) x y _ _ i _ _ ((((at + 3) % 65536) + 3) % 65536) bs m keys gets) _ bs keys gets small st.1.1.0 dt (omega arith) refl refl refl refl refl)))
-
-    takes_low : (to from : ℕ) → at + 10 ≤ highest_code → is_data from ≡ true → is_data to ≡ true → Stands f.code at (ins 0x38 0 ∷ ins 0xAD to ∷ ins 0xED from ∷ ins 0x8D to ∷ []) → Moves f (Here at bs m keys gets) (Carrying (at + 10) bs (with_byte m to ((m to + 256 - (m from + 0)) % 256)) keys gets (nat_le (m from + 0) (m to))) [] 4
-    takes_low to from r df dt st = whatever at bs m keys gets _ [] 4 (λ a x y n v i z c.
-        does (ins 0x38 0) (view a x y n v i z c at bs m keys gets) _ _ [] 3 small st.0 refl
-        (loads 0xAD to Lda (view a x y n v i z true ((at + 1) % 65536) bs m keys gets) _ _ [] 2 refl refl refl small st.1.0 dt refl
-        (loads 0xED from Sbc (view (m to) x y _ v i _ true ((((at + 1) % 65536) + 3) % 65536) bs m keys gets) _ _ [] 1 refl refl refl small st.1.1.0 df refl
-        (stores_last to (view ((m to + 256 - (m from + 0)) % 256) x y _ _ i _ (nat_le (m from + 0) (m to)) ((((((at + 1) % 65536) + 3) % 65536) + 3) % 65536) bs m keys gets) _ small st.1.1.1.0 dt
-        (record { here = record { pc = omega arith; stack = refl; binary = refl; mem = refl; text = refl; answers = refl }; carry = refl })))))
-
-    takes_high : (to from : ℕ) (c : Bool) → at + 9 ≤ highest_code → is_data from ≡ true → is_data to ≡ true → Stands f.code at (ins 0xAD to ∷ ins 0xED from ∷ ins 0x8D to ∷ []) → Moves f (Carrying at bs m keys gets c) (Here (at + 9) bs (with_byte m to ((m to + 256 - (m from + carry (not c))) % 256)) keys gets) [] 3
-    takes_high to from c r df dt st = whatever_with at bs m keys gets c _ [] 3 (λ a x y n v i z.
-        loads 0xAD to Lda (view a x y n v i z c at bs m keys gets) _ _ [] 2 refl refl refl small st.0 dt refl
-        (loads 0xED from Sbc (view (m to) x y _ v i _ c ((at + 3) % 65536) bs m keys gets) _ _ [] 1 refl refl refl small st.1.0 df refl
-        (ends to (at + 9) (view ((m to + 256 - (m from + carry (not c))) % 256) x y _ _ i _ _ ((((at + 3) % 65536) + 3) % 65536) bs m keys gets) _ bs keys gets small st.1.1.0 dt (omega arith) refl refl refl refl refl)))
-
-    turns_low : (to : ℕ) → at + 9 ≤ highest_code → is_data to ≡ true → Stands f.code at (ins 0x38 0 ∷ ins 0xA9 0 ∷ ins 0xED to ∷ ins 0x8D to ∷ []) → Moves f (Here at bs m keys gets) (Carrying (at + 9) bs (with_byte m to ((0 + 256 - (m to + 0)) % 256)) keys gets (nat_le (m to + 0) 0)) [] 4
-    turns_low to r dt st = whatever at bs m keys gets _ [] 4 (λ a x y n v i z c.
-        does (ins 0x38 0) (view a x y n v i z c at bs m keys gets) _ _ [] 3 small st.0 refl
-        (does (ins 0xA9 0) (view a x y n v i z true ((at + 1) % 65536) bs m keys gets) _ _ [] 2 small st.1.0 refl
-        (loads 0xED to Sbc (view 0 x y _ v i _ true ((((at + 1) % 65536) + 2) % 65536) bs m keys gets) _ _ [] 1 refl refl refl small st.1.1.0 dt refl
-        (stores_last to (view ((0 + 256 - (m to + 0)) % 256) x y _ _ i _ (nat_le (m to + 0) 0) ((((((at + 1) % 65536) + 2) % 65536) + 3) % 65536) bs m keys gets) _ small st.1.1.1.0 dt
-        (record { here = record { pc = omega arith; stack = refl; binary = refl; mem = refl; text = refl; answers = refl }; carry = refl })))))
-
-    turns_high : (to : ℕ) (c : Bool) → at + 8 ≤ highest_code → is_data to ≡ true → Stands f.code at (ins 0xA9 0 ∷ ins 0xED to ∷ ins 0x8D to ∷ []) → Moves f (Carrying at bs m keys gets c) (Here (at + 8) bs (with_byte m to ((0 + 256 - (m to + carry (not c))) % 256)) keys gets) [] 3
-    turns_high to c r dt st = whatever_with at bs m keys gets c _ [] 3 (λ a x y n v i z.
-        does (ins 0xA9 0) (view a x y n v i z c at bs m keys gets) _ _ [] 2 small st.0 refl
-        (loads 0xED to Sbc (view 0 x y _ v i _ c ((at + 2) % 65536) bs m keys gets) _ _ [] 1 refl refl refl small st.1.0 dt refl
-        (ends to (at + 8) (view ((0 + 256 - (m to + carry (not c))) % 256) x y _ _ i _ _ ((((at + 2) % 65536) + 3) % 65536) bs m keys gets) _ bs keys gets small st.1.1.0 dt (omega arith) refl refl refl refl refl)))
+    -- the same in page zero
+    pub points : (k to : ℕ) → at + 8 ≤ highest_code → InData to → Stands f.code at (pointed k to) → Moves f (Here at bs m keys gets) (Here (at + 8) bs (put_word m to (k % 256) (k / 256)) keys gets) [] 4
+    points k to r dt st = whatever at bs m keys gets _ [] 4 (λ a x y n v i z c.
+        does (ins 0xA9 (k % 256)) (view a x y n v i z c at bs m keys gets) _ _ [] 3 small st.0 refl
+        (stores_short to (view _ x y _ v i _ c ((at + 2) % 65536) bs m keys gets) _ [] 2 small st.1.0 dt.0
+        (does (ins 0xA9 (k / 256)) (view _ x y _ v i _ c ((((at + 2) % 65536) + 2) % 65536) bs _ keys gets) _ _ [] 1 small st.1.1.0 refl
+        (stores_short_last (to + 1) (view _ x y _ v i _ c ((((((at + 2) % 65536) + 2) % 65536) + 2) % 65536) bs _ keys gets) _ small st.1.1.1.0 dt.1
+        (record { pc = omega arith; stack = refl; binary = refl; mem = refl; text = refl; answers = refl })))))
 
     -- a jump, and one through the result
     pub jumps : (to : ℕ) → Stands f.code at (jump to) → Moves f (Here at bs m keys gets) (Here to bs m keys gets) [] 1

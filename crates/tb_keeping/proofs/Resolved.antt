@@ -1,28 +1,42 @@
 -- The templates as instructions at their places, each label's number put in.
-use Rattle.std.specs.Prelude.{Bool, true, false, ℕ, ◌+◌, ◌/◌, ◌%◌, ◌≤◌, List, [], ◌∷◌, length}
+use Rattle.std.specs.Prelude.{Bool, true, false, ℕ, ◌+◌, ◌/◌, ◌%◌, ◌≤◌, List, [], ◌∷◌, length, nat_lt, if◌then◌else◌}
 use Rattle.tb_reaching.specs.View.{Part}
 use Rattle.tb_reaching.specs.View.{Bytes}
 use Rattle.tb_reaching.proofs.Instr.{Instr, ins, Stands, instr_bytes}
 use Rattle.tb_words.specs.Words.{word}
 use Rattle.tb_lower.specs.Control.{has_line, highest}
 use Rattle.tb_lower.specs.Slots as slots
-use Rattle.tb_runtime16.specs.Places.{POINTER, LEFT, RESULT, TABLE, COUNT, LENGTH, SEND_AT, TEXT_AT, ZONE_AT, INPUT_AT, SEARCH_AT, PUSH_AT, POP_AT, FAULT_LINE_AT, POLL_AT}
+use Rattle.tb_runtime16.specs.Places.{POINTER, RESULT, TABLE, COUNT, LENGTH, SEND_AT, TEXT_AT, ZONE_AT, INPUT_AT, SEARCH_AT, FAULT_LINE_AT, POLL_AT}
 use Rattle.tb_templates.specs.Templates.{var_at, slot_at}
 use Rattle.tb_runtime16.specs.Laws.{AllBytes}
-use Rattle.tb_keeping.specs.Layout.{Layout, next_at}
+use Rattle.tb_keeping.specs.Layout.{Layout}
 
 -- ---- pieces of code
 abbrev pub size : List Instr → ℕ
 size [] = 0
 size (i ∷ is) = length (instr_bytes i) + size is
 
--- copies a word
+-- the opcode of an instruction on the byte at a place, of the one for page zero and the one for places behind it
+abbrev pub opcode_at : (page_zero behind place : ℕ) → ℕ
+opcode_at page_zero behind place = if nat_lt place 256 then page_zero else behind
+
+abbrev pub lda_at : ℕ → Instr
+lda_at place = ins (opcode_at 0xA5 0xAD place) place
+
+abbrev pub sta_at : ℕ → Instr
+sta_at place = ins (opcode_at 0x85 0x8D place) place
+
+-- copies a word to a place behind page zero
 abbrev pub copied : ℕ → ℕ → List Instr
-copied from to = ins 0xAD from ∷ ins 0x8D to ∷ ins 0xAD (from + 1) ∷ ins 0x8D (to + 1) ∷ []
+copied from to = lda_at from ∷ ins 0x8D to ∷ lda_at (from + 1) ∷ ins 0x8D (to + 1) ∷ []
 
 -- stores a constant word
 abbrev pub constant : ℕ → ℕ → List Instr
 constant k to = ins 0xA9 (k % 256) ∷ ins 0x8D to ∷ ins 0xA9 (k / 256) ∷ ins 0x8D (to + 1) ∷ []
+
+-- the same in page zero
+abbrev pub pointed : ℕ → ℕ → List Instr
+pointed k to = ins 0xA9 (k % 256) ∷ ins 0x85 to ∷ ins 0xA9 (k / 256) ∷ ins 0x85 (to + 1) ∷ []
 
 abbrev pub call : ℕ → List Instr
 call to = ins 0x20 to ∷ []
@@ -64,11 +78,7 @@ abbrev pub jump_to : Layout → ℕ → Bool → ℕ → List Piece
 jump_to ly n true target = Code (jump (ly.start target)) ∷ []
 jump_to ly n false target = Code (faulting n 1) ∷ []
 
-abbrev pub call_to : Layout → ℕ → Bool → ℕ → List Piece
-call_to ly n true target = Code (constant (next_at ly n) LEFT) ∷ Code (call PUSH_AT) ∷ Code (jump (ly.start target)) ∷ []
-call_to ly n false target = Code (faulting n 1) ∷ []
-
--- the code of an instruction of line n, at an address
+-- the code of an instruction of line n, at an address. What has another kind of group, or branches, has no code here.
 abbrev pub template : Layout → ℕ → ℕ → slots.Instr → List Piece
 template ly n at (slots.Put k w) = Code (constant (word w) (slot_at k)) ∷ []
 template ly n at (slots.Load k x) = Code (copied (var_at x) (slot_at k)) ∷ []
@@ -85,9 +95,9 @@ template ly n at slots.Hold = []
 template ly n at (slots.LeaveUnless rel) = []
 template ly n at slots.Jump = []
 template ly n at slots.Call = []
-template ly n at slots.Return = Code (call POP_AT) ∷ Code jump_through ∷ []
+template ly n at slots.Return = []
 template ly n at (slots.JumpTo target) = jump_to ly n (has_line ly.numbers target) target
-template ly n at (slots.CallTo target) = call_to ly n (has_line ly.numbers target) target
+template ly n at (slots.CallTo target) = []
 template ly n at slots.Poll = Code (call POLL_AT) ∷ []
 template ly n at slots.End = Code (ins 0x60 0 ∷ []) ∷ []
 
@@ -108,4 +118,4 @@ abbrev pub past_code : Layout → List Piece
 past_code ly = Code (faulting (highest ly.numbers) 7) ∷ []
 
 abbrev pub locate_code : Layout → List Piece
-locate_code ly = Code (constant ly.table TABLE) ∷ Code (constant (length ly.numbers) COUNT) ∷ Code (jump SEARCH_AT) ∷ []
+locate_code ly = Code (pointed ly.table TABLE) ∷ Code (constant (length ly.numbers) COUNT) ∷ Code (jump SEARCH_AT) ∷ []

@@ -1,4 +1,5 @@
 pub mod Appending
+pub mod Commented
 pub mod Laid
 pub mod Parts
 pub mod Short

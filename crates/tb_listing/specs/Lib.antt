@@ -1,3 +1,4 @@
 pub mod Labels
 pub mod Map
+pub mod Comments
 pub mod Made

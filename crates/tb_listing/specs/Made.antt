@@ -12,18 +12,20 @@ use Rattle.tb_disasm.specs.Back.{GivesBack}
 use Rattle.tb_listing.specs.declared.made.Made.{Made}
 use Rattle.tb_listing.specs.Labels.{places, labels_text, Rise}
 use Rattle.tb_listing.specs.Map.{parts, map_text}
+use Rattle.tb_listing.specs.Comments.{ShowsLines}
 
 -- how many bytes the image of a compiled program has, which stand in its file behind the load address and the BASIC line
 abbrev pub image_size : Compiled → ℕ
 image_size c = length (prg_of c) - 14
 
--- the PRG file of a compiled program, the labels of its places, a listing that gives its image back, the map of its
--- parts, and the warnings
-pub record Tells (compiled : Compiled) (program : Program) (made : Made) : Type 0 where
+-- the PRG file of a compiled program, the labels of its places, a listing that gives its image back and shows the lines
+-- of the source, the map of its parts, and the warnings
+pub record Tells (source : List ℕ) (compiled : Compiled) (program : Program) (made : Made) : Type 0 where
   pub prg : made.prg.items ≡ prg_of compiled
   pub labels : made.labels.items ≡ labels_text (places (starts_of compiled) (table_of compiled))
   pub listing : GivesBack PROLOGUE_AT made.listing.items (drop 14 (prg_of compiled))
   pub readable : length made.listing.items ≤ 1048576
+  pub shows : ShowsLines source (starts_of compiled) (drop 14 (prg_of compiled)) made.listing.items
   pub map : made.map.items ≡ map_text (starts_of compiled) (table_of compiled) (image_size compiled) program
   pub warnings : made.warnings.items ≡ warnings_of compiled
 
@@ -35,7 +37,7 @@ pub record IsMade (seed : ℕ) (source : List ℕ) (made : Made) : Type 0 where
   pub sorted : Rise 0 (places (starts_of compiled) (table_of compiled))
   pub program : Program
   pub makes : Makes source (Ok program)
-  pub tells : Tells compiled program made
+  pub tells : Tells source compiled program made
   pub bytes : sum_by (λ p. p.bytes) (parts (starts_of compiled) (table_of compiled) (image_size compiled) program) ≡ image_size compiled
   pub prices : sum_by (λ p. p.price) (parts (starts_of compiled) (table_of compiled) (image_size compiled) program) ≡ cost program
 

@@ -1,83 +1,140 @@
-//! The listing with names, line by line.
+//! The listing with names, row by row.
+ghost use Rattle.std.specs.Prelude.{◌≡◌, ◌≤◌, ◌∷◌, ◌++◌, [], IfOk, OnOk, length, map};
+ghost use Rattle.tb_codegen.specs.Compiled.{pair_of as start_pair};
+ghost use Rattle.tb_listing.specs.Comments.{KeepsComments, comment_on, comment_row, comments};
+ghost use Rattle.tb_written.specs.Lines.{pair_of};
+ghost use Rattle.tb_written.specs.Shown.{shown};
+
 use crate::marks::Marks;
-use crate::names::{has_label, line_at, push_name, push_outside};
-use crate::pieces::{Kind, Named, Piece, Program, behind};
-use crate::sources::{SourceLine, text_of};
+use crate::names::{has_label, name_of, push_outside};
+use crate::pieces::{Kind, Named, Piece, Program};
 use std::alloc::{AllocError, Global};
 use tb_asm::name;
 use tb_disasm::{Content, first_line, write_byte, write_item, write_word};
 use tb_opcodes::Mode;
-
-/// The most bytes of a source line that its comment shows.
-const MOST_SHOWN: usize = 120;
+use tb_written::{Numbered, cut, push_shown, text_of};
 
 /// All that a listing shows.
 #[derive(Clone, Copy, Drop)]
 pub struct View<'a> {
     pub program: Program<'a>,
-    pub pieces: &'a [Piece],
+    pub pieces: &'a [Piece<'a>],
     pub marks: &'a Marks,
-    pub sources: &'a [SourceLine<'a>],
+    pub sources: &'a [Numbered<'a>],
 }
 
-/// The text of a listing: a line for each piece, below what stands above it, each ended by 10.
-pub fn labelled(alloc: Global, view: &View<'_>) -> Result<Vec<u8>, AllocError> {
+/// The text of a listing: a row for each piece, below its label, and above the first piece of a line what the source
+/// has there. Each row is ended by 10.
+pub fn labelled(alloc: Global, view: &View<'_>) -> Result<Vec<u8>, AllocError>
+    ensures { IfOk result (λ text. comments text.items ≡ map (comment_on (map pair_of view.now.sources.now)) (map start_pair view.now.program.starts.now)) }
+{
     let mut text = Vec::new(alloc);
-    let mut rest = view.program.image;
-    for piece in view.pieces {
-        let (bytes, more) = rest.split_at(piece.size.min(rest.len()));
-        push_heading(alloc, &mut text, view, piece.at)?;
-        push_piece(alloc, &mut text, view, piece, bytes)?;
-        rest = more;
+    let mut done = 0;
+    for start in view.program.starts {
+        let next = done + count_before(&view.pieces[done..], start.at);
+        push_pieces(alloc, &mut text, view, &view.pieces[done..next])?;
+        push_comment(&mut text, text_of(view.sources, start.number))?;
+        done = next;
     }
+    push_pieces(alloc, &mut text, view, &view.pieces[done..])?;
     Ok(text)
 }
 
-// Appends the source line whose code begins here, and the label.
-fn push_heading(
+// How many of the first pieces lie before an address.
+fn count_before(pieces: &[Piece<'_>], at: u16) -> usize
+    ensures { result ≤ length pieces.now }
+{
+    for (i, piece) in pieces.iter().enumerate() {
+        if at <= piece.at {
+            return i;
+        }
+    }
+    pieces.len()
+}
+
+// Appends what a row begins with and what stands behind it.
+fn push_row(text: &mut Vec<u8>, front: &[u8], row: &[u8]) -> Result<(), AllocError>
+    ensures { OnOk result (text.new.items ≡ text.old.items ++ map shown front.now ++ map shown row.now ++ 10 ∷ []) }
+{
+    push_shown(text, front)?;
+    push_shown(text, row)?;
+    text.extend_from_slice(b"\n")
+}
+
+// Appends a line of the source as a comment.
+fn push_comment(text: &mut Vec<u8>, line: &[u8]) -> Result<(), AllocError>
+    ensures { OnOk result (text.new.items ≡ text.old.items ++ comment_row line.now) }
+{
+    push_row(text, b"; ", cut(line))
+}
+
+fn push_pieces(
     alloc: Global,
     text: &mut Vec<u8>,
     view: &View<'_>,
-    at: u16,
-) -> Result<(), AllocError> {
-    if let Some(number) = line_at(view.program.starts, at) {
-        let source = text_of(view.sources, number);
-        text.extend_from_slice(b"; ")?;
-        push_shown(text, source.split_at(source.len().min(MOST_SHOWN)).0)?;
-        text.extend_from_slice(b"\n")?;
-    }
-    if has_label(&view.program, view.marks, at) {
-        push_name(alloc, text, &view.program, view.marks, at)?;
-        text.extend_from_slice(b":\n")?;
+    pieces: &[Piece<'_>],
+) -> Result<(), AllocError>
+    ensures { OnOk result (KeepsComments text.old.items text.new.items) }
+{
+    for piece in pieces {
+        push_label(alloc, text, view, piece.at)?;
+        push_piece(alloc, text, view, piece)?;
     }
     Ok(())
 }
 
+// Appends the label of an address, where it has one.
+fn push_label(alloc: Global, text: &mut Vec<u8>, view: &View<'_>, at: u16) -> Result<(), AllocError>
+    ensures { OnOk result (KeepsComments text.old.items text.new.items) }
+{
+    if !has_label(&view.program, view.marks, at) {
+        return Ok(());
+    }
+    push_row(text, &name_of(alloc, &view.program, view.marks, at)?, b":")
+}
+
+// Appends the row of a piece.
 fn push_piece(
     alloc: Global,
     text: &mut Vec<u8>,
     view: &View<'_>,
-    piece: &Piece,
-    bytes: &[u8],
-) -> Result<(), AllocError> {
-    match piece.kind {
-        Kind::Code => push_code(alloc, text, view, piece, bytes)?,
-        Kind::Data => push_data(text, bytes)?,
-        Kind::Number => push_word(text, bytes)?,
-        Kind::Address => push_address(alloc, text, view, piece, bytes)?,
-    }
-    write_word(text, b"; ", piece.at, b" ")?;
+    piece: &Piece<'_>,
+) -> Result<(), AllocError>
+    ensures { OnOk result (KeepsComments text.old.items text.new.items) }
+{
+    push_row(text, b"  ", &row_of(alloc, view, piece)?)
+}
+
+// What stands on the row of a piece.
+fn row_of(alloc: Global, view: &View<'_>, piece: &Piece<'_>) -> Result<Vec<u8>, AllocError> {
+    let mut row = Vec::new(alloc);
+    push_content(alloc, &mut row, view, piece)?;
+    write_word(&mut row, b"; ", piece.at, b" ")?;
     match piece.kind {
         Kind::Data => {
-            text.extend_from_slice(b" ")?;
-            push_shown(text, bytes)?;
+            row.extend_from_slice(b" ")?;
+            row.extend_from_slice(piece.bytes)?;
         }
-        _ => push_bytes(text, bytes)?,
+        _ => push_bytes(&mut row, piece.bytes)?,
     }
     if let Named::Whole(address) = piece.named {
-        push_outside(alloc, text, address)?;
+        push_outside(alloc, &mut row, address)?;
     }
-    text.extend_from_slice(b"\n")
+    Ok(row)
+}
+
+fn push_content(
+    alloc: Global,
+    row: &mut Vec<u8>,
+    view: &View<'_>,
+    piece: &Piece<'_>,
+) -> Result<(), AllocError> {
+    match piece.kind {
+        Kind::Code => push_code(alloc, row, view, piece),
+        Kind::Data => push_data(row, piece.bytes),
+        Kind::Number => push_word(row, piece.bytes),
+        Kind::Address => push_address(alloc, row, view, piece),
+    }
 }
 
 // What stands before a name and behind it.
@@ -101,83 +158,79 @@ fn signs_around(mode: Mode, named: Named) -> Option<Around> {
     Some(Around { before, behind })
 }
 
-// The place of the image that a piece names, where a piece begins there.
-fn place_of(view: &View<'_>, piece: &Piece) -> Option<u16> {
-    let at = piece.named.address()?;
-    view.marks.at(at).begins.map(|_| at)
+// The name of the place of the image that a piece names, where a piece begins there.
+fn named_place(
+    alloc: Global,
+    view: &View<'_>,
+    piece: &Piece<'_>,
+) -> Result<Option<Vec<u8>>, AllocError> {
+    match piece.named.address() {
+        Some(at) if view.marks.at(at).begins.is_some() => {
+            Ok(Some(name_of(alloc, &view.program, view.marks, at)?))
+        }
+        _ => Ok(None),
+    }
 }
 
 fn push_code(
     alloc: Global,
-    text: &mut Vec<u8>,
+    row: &mut Vec<u8>,
     view: &View<'_>,
-    piece: &Piece,
-    bytes: &[u8],
+    piece: &Piece<'_>,
 ) -> Result<(), AllocError> {
-    text.extend_from_slice(b"  ")?;
-    if bytes.is_empty() {
+    if piece.bytes.is_empty() {
         return Ok(());
     }
-    let (line, _) = first_line(piece.at, bytes);
+    let (line, _) = first_line(piece.at, piece.bytes);
     if let Content::Instr(mnemonic, mode, _) = &line.content {
-        if let (Some(at), Some(around)) = (
-            place_of(view, piece),
+        if let (Some(place), Some(around)) = (
+            named_place(alloc, view, piece)?,
             signs_around(*mode, piece.named),
         ) {
-            text.extend_from_slice(name(*mnemonic).as_slice())?;
-            text.extend_from_slice(around.before)?;
-            push_name(alloc, text, &view.program, view.marks, at)?;
-            return text.extend_from_slice(around.behind);
+            row.extend_from_slice(name(*mnemonic).as_slice())?;
+            row.extend_from_slice(around.before)?;
+            row.extend_from_slice(&place)?;
+            return row.extend_from_slice(around.behind);
         }
     }
-    write_item(text, &line.content)
+    write_item(row, &line.content)
 }
 
 fn push_address(
     alloc: Global,
-    text: &mut Vec<u8>,
+    row: &mut Vec<u8>,
     view: &View<'_>,
-    piece: &Piece,
-    bytes: &[u8],
+    piece: &Piece<'_>,
 ) -> Result<(), AllocError> {
-    match place_of(view, piece) {
-        Some(at) => {
-            text.extend_from_slice(b"  .word ")?;
-            push_name(alloc, text, &view.program, view.marks, at)?;
-            text.extend_from_slice(b" ")
+    match named_place(alloc, view, piece)? {
+        Some(place) => {
+            row.extend_from_slice(b".word ")?;
+            row.extend_from_slice(&place)?;
+            row.extend_from_slice(b" ")
         }
-        None => push_word(text, bytes),
+        None => push_word(row, piece.bytes),
     }
 }
 
-fn push_word(text: &mut Vec<u8>, bytes: &[u8]) -> Result<(), AllocError> {
+fn push_word(row: &mut Vec<u8>, bytes: &[u8]) -> Result<(), AllocError> {
     match bytes {
-        [low, high] => write_word(text, b"  .word $", u16::from_le_bytes([*low, *high]), b" "),
-        _ => push_data(text, bytes),
+        [low, high] => write_word(row, b".word $", u16::from_le_bytes([*low, *high]), b" "),
+        _ => push_data(row, bytes),
     }
 }
 
-fn push_data(text: &mut Vec<u8>, bytes: &[u8]) -> Result<(), AllocError> {
-    let mut before: &'static [u8] = b"  .byte $";
+fn push_data(row: &mut Vec<u8>, bytes: &[u8]) -> Result<(), AllocError> {
+    let mut before: &'static [u8] = b".byte $";
     for byte in bytes {
-        write_byte(text, before, u16::from(*byte), b"")?;
+        write_byte(row, before, u16::from(*byte), b"")?;
         before = b",$";
     }
-    text.extend_from_slice(b" ")
+    row.extend_from_slice(b" ")
 }
 
-fn push_bytes(text: &mut Vec<u8>, bytes: &[u8]) -> Result<(), AllocError> {
+fn push_bytes(row: &mut Vec<u8>, bytes: &[u8]) -> Result<(), AllocError> {
     for byte in bytes {
-        write_byte(text, b" ", u16::from(*byte), b"")?;
-    }
-    Ok(())
-}
-
-// Appends bytes as a comment shows them: what is none of ASCII's letters and signs as `?`.
-fn push_shown(text: &mut Vec<u8>, bytes: &[u8]) -> Result<(), AllocError> {
-    for byte in bytes {
-        let is_plain = (32..=126).contains(byte);
-        text.push(if is_plain { *byte } else { b'?' })?;
+        write_byte(row, b" ", u16::from(*byte), b"")?;
     }
     Ok(())
 }

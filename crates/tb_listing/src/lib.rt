@@ -9,7 +9,6 @@ mod map;
 mod marks;
 mod names;
 mod pieces;
-mod sources;
 
 pub use label_file::labels;
 pub use listing::list;

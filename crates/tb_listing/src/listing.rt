@@ -1,20 +1,22 @@
 //! The listing of a program: assembler text that gives its image back.
-ghost use Rattle.std.specs.Prelude.{◌≡◌, ◌+◌, ◌-◌, ◌≤◌, true, false, None, length, drop, map, IfOk};
+ghost use Rattle.std.specs.Prelude.{◌≡◌, ◌⊎◌, ◌+◌, ◌-◌, ◌≤◌, true, false, None, length, drop, map, IfOk};
 ghost use Rattle.tb_asm.specs.Layout.{entry_of, image_of};
 ghost use Rattle.tb_asm.specs.Assembled.{refusal};
 ghost use Rattle.tb_runtime16.specs.Places.{PROLOGUE_AT};
-ghost use Rattle.tb_codegen.specs.Compiled.{prg_of};
+ghost use Rattle.tb_codegen.specs.Compiled.{prg_of, starts_of};
 ghost use Rattle.tb_disasm.specs.Back.{GivesBack};
+ghost use Rattle.tb_listing.specs.Comments.{ShowsLines, comment_on, comments, plain};
+ghost use Rattle.tb_written.specs.Lines.{numbered};
 
 use crate::labelled::{View, labelled};
 use crate::marks::marks_of;
 use crate::pieces::{Program, behind, pieces};
-use crate::sources::source_lines;
 use std::alloc::{AllocError, Global};
 use tb_asm::{AsmErrorKind, Item, TextError, assemble, read_text};
 use tb_codegen::Compiled;
 use tb_disasm::disassemble;
 use tb_runtime16::BLOCK_AT;
+use tb_written::numbered_lines;
 
 /// How many bytes a PRG file has before the block: its load address and the BASIC line.
 const HEADER: usize = 14;
@@ -30,6 +32,8 @@ pub fn list(alloc: Global, compiled: &Compiled, source: &[u8]) -> Result<Vec<u8>
     requires ends { PROLOGUE_AT + (length (prg_of compiled.now) - 14) ≤ 0xA000 }
     ensures back { IfOk result (λ text. GivesBack PROLOGUE_AT text.items (drop 14 (prg_of compiled.now))) }
     ensures readable { IfOk result (λ text. length text.items ≤ 1048576) }
+    // The lines of the source stand in it as comments, where it isn't the listing without names.
+    ensures shows { IfOk result (λ text. ShowsLines source.now (starts_of compiled.now) (drop 14 (prg_of compiled.now)) text.items) }
 {
     let image = behind(compiled.prg(), HEADER);
     let text = with_names(alloc, compiled, image, source)?;
@@ -42,7 +46,9 @@ fn with_names(
     compiled: &Compiled,
     image: &[u8],
     source: &[u8],
-) -> Result<Vec<u8>, AllocError> {
+) -> Result<Vec<u8>, AllocError>
+    ensures { IfOk result (λ text. comments text.items ≡ map (comment_on (numbered source.now)) (starts_of compiled.now)) }
+{
     let program = Program {
         image,
         starts: compiled.starts(),
@@ -50,7 +56,7 @@ fn with_names(
     };
     let pieces = pieces(alloc, &program)?;
     let marks = marks_of(alloc, image.len(), pieces.as_slice())?;
-    let sources = source_lines(alloc, source)?;
+    let sources = numbered_lines(alloc, source)?;
     labelled(
         alloc,
         &View {
@@ -68,6 +74,7 @@ fn checked(alloc: Global, text: Vec<u8>, image: &[u8]) -> Result<Vec<u8>, AllocE
     requires { PROLOGUE_AT + length image.now ≤ 0xA000 }
     ensures back { IfOk result (λ text. GivesBack PROLOGUE_AT text.items image.now) }
     ensures readable { IfOk result (λ text. length text.items ≤ 1048576) }
+    ensures either { IfOk result (λ shown. (shown.items ≡ text.items) ⊎ (shown.items ≡ plain image.now)) }
 {
     if text.len() <= MOST_READ && gives_back(alloc, &text, image)? {
         return Ok(text);
@@ -110,6 +117,7 @@ fn without_names(alloc: Global, image: &[u8]) -> Result<Vec<u8>, AllocError>
     requires { PROLOGUE_AT + length image.now ≤ 0xA000 }
     ensures back { IfOk result (λ text. GivesBack PROLOGUE_AT text.items image.now) }
     ensures readable { IfOk result (λ text. length text.items ≤ 1048576) }
+    ensures plain { IfOk result (λ text. text.items ≡ plain image.now) }
 {
     match disassemble(alloc, BLOCK_AT, image) {
         Ok(listing) => Ok(listing.text(alloc)?),

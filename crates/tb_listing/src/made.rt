@@ -53,7 +53,7 @@ fn all_of(
     requires small { cost (lines_of program.now) ≤ 37888 }
     requires headed { 14 ≤ length (prg_of compiled.now) }
     requires ends { PROLOGUE_AT + (length (prg_of compiled.now) - 14) ≤ 0xA000 }
-    ensures { IfOk result (Tells compiled.now (lines_of program.now)) }
+    ensures { IfOk result (Tells source.now compiled.now (lines_of program.now)) }
 {
     Ok(Made {
         prg: Vec::from_slice(alloc, compiled.prg())?,

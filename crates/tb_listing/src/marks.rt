@@ -37,7 +37,7 @@ fn offset_of(address: u16) -> usize {
 }
 
 /// The marks of an image of that length, by its pieces.
-pub fn marks_of(alloc: Global, length: usize, pieces: &[Piece]) -> Result<Marks, AllocError> {
+pub fn marks_of(alloc: Global, length: usize, pieces: &[Piece<'_>]) -> Result<Marks, AllocError> {
     let mut marks = Vec::from_elem(alloc, NO_MARK, length)?;
     for piece in pieces {
         mark_piece(&mut marks, piece);
@@ -45,7 +45,7 @@ pub fn marks_of(alloc: Global, length: usize, pieces: &[Piece]) -> Result<Marks,
     Ok(Marks { marks })
 }
 
-fn mark_piece(marks: &mut Vec<Mark>, piece: &Piece) {
+fn mark_piece(marks: &mut Vec<Mark>, piece: &Piece<'_>) {
     let here = offset_of(piece.at);
     if here < marks.len() {
         marks[here].begins = Some(piece.kind);

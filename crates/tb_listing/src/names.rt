@@ -1,4 +1,8 @@
 //! The names of places.
+ghost use Rattle.std.specs.Prelude.{◌≡◌, ◌++◌, false, true, IfOk, OnOk};
+ghost use Rattle.std.specs.Fmt.{decimal};
+ghost use Rattle.tb_listing.specs.Comments.{begins_plainly, is_comment};
+
 use crate::label_file::{CHRIN, CHROUT, GETIN, ROUTINES, name};
 use crate::marks::Marks;
 use crate::pieces::{Kind, Program};
@@ -34,26 +38,50 @@ pub fn has_label(program: &Program<'_>, marks: &Marks, at: u16) -> bool {
         || line_at(program.starts, at).is_some()
 }
 
-/// Appends the name of a place of the image.
-pub fn push_name(
+/// The name of a place of the image.
+pub fn name_of(
     alloc: Global,
-    text: &mut Vec<u8>,
     program: &Program<'_>,
     marks: &Marks,
     at: u16,
-) -> Result<(), AllocError> {
-    let name = own_name(program, at);
-    if !name.is_empty() {
-        return text.extend_from_slice(name);
-    }
-    match line_at(program.starts, at) {
-        Some(number) => push_number(alloc, text, b"line", number),
-        None => write_word(text, inner_name(marks, at), at, b""),
+) -> Result<Vec<u8>, AllocError>
+    ensures { IfOk result (λ name. is_comment name.items ≡ false) }
+{
+    let own = own_name(program, at);
+    if own.is_empty() {
+        name_of_start(
+            alloc,
+            line_at(program.starts, at),
+            inner_name(marks, at),
+            at,
+        )
+    } else {
+        Vec::from_slice(alloc, own)
     }
 }
 
+// The name of a place where a line begins, or else a piece within one.
+fn name_of_start(
+    alloc: Global,
+    line: Option<u16>,
+    inner: &[u8],
+    at: u16,
+) -> Result<Vec<u8>, AllocError>
+    requires { begins_plainly inner.now ≡ true }
+    ensures { IfOk result (λ name. is_comment name.items ≡ false) }
+{
+    let mut name = Vec::new(alloc);
+    match line {
+        Some(number) => push_number(alloc, &mut name, b"line", number)?,
+        None => write_word(&mut name, inner, at, b"")?,
+    }
+    Ok(name)
+}
+
 // What a name begins with that ends by its address: of a place in the code, or in the data of routines or lines.
-fn inner_name(marks: &Marks, at: u16) -> &'static [u8] {
+fn inner_name(marks: &Marks, at: u16) -> &'static [u8]
+    ensures { begins_plainly result.now ≡ true }
+{
     match marks.at(at).begins {
         Some(Kind::Data) => if at < LINES_AT { b"data" } else { b"text" },
         _ => b"at",
@@ -66,13 +94,17 @@ fn push_number(
     text: &mut Vec<u8>,
     name: &[u8],
     number: u16,
-) -> Result<(), AllocError> {
+) -> Result<(), AllocError>
+    ensures { OnOk result (text.new.items ≡ text.old.items ++ name.now ++ decimal number) }
+{
     text.extend_from_slice(name)?;
     text.extend_from_slice(format!(in alloc; "{number}")?.as_bytes())
 }
 
 // The name of a place that every program has; empty for another place.
-fn own_name(program: &Program<'_>, at: u16) -> &'static [u8] {
+fn own_name(program: &Program<'_>, at: u16) -> &'static [u8]
+    ensures { is_comment result.now ≡ false }
+{
     if at == BLOCK_AT {
         b"prologue"
     } else if at == SEND_AT {
@@ -88,7 +120,9 @@ fn own_name(program: &Program<'_>, at: u16) -> &'static [u8] {
     }
 }
 
-fn routine_name(at: u16) -> &'static [u8] {
+fn routine_name(at: u16) -> &'static [u8]
+    ensures { is_comment result.now ≡ false }
+{
     for routine in ROUTINES {
         if entry(routine) == at {
             return name(routine);

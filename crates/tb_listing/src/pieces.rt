@@ -6,7 +6,7 @@ use tb_asm::Operand;
 use tb_codegen::LineStart;
 use tb_disasm::{Content, first_line};
 use tb_opcodes::Mode;
-use tb_runtime16::{BLOCK_AT, LINES_AT, Routine, block, entry};
+use tb_runtime16::{BLOCK_AT, LINES_AT, NOTE_LOW, Routine, block, entry};
 
 // The opcodes by which texts and addresses are found.
 const JSR: u8 = 0x20;
@@ -19,6 +19,8 @@ const STA: u8 = 0x8d;
 
 const STA_ZERO_PAGE: u8 = 0x85;
 
+const STA_BY_X: u8 = 0x9d;
+
 /// How many bytes a call and a jump take.
 const CALL_AND_JUMP: u16 = 6;
 
@@ -26,7 +28,7 @@ const CALL_AND_JUMP: u16 = 6;
 const POWERS: u16 = 4;
 
 /// How many bytes the search for a line takes, which lies before the line table.
-const SEARCH: u16 = 23;
+const SEARCH: u16 = 21;
 
 /// How many bytes fault 7 takes, which lies before the search.
 const PAST: u16 = 9;
@@ -86,17 +88,17 @@ impl Named {
     }
 }
 
-/// Bytes that stand on one line.
+/// Bytes that stand on one row.
 #[derive(Clone, Copy, Drop)]
-pub struct Piece {
+pub struct Piece<'a> {
     pub at: u16,
-    pub size: usize,
+    pub bytes: &'a [u8],
     pub kind: Kind,
     pub named: Named,
 }
 
 /// The pieces of a program's image, one behind the other.
-pub fn pieces(alloc: Global, program: &Program<'_>) -> Result<Vec<Piece>, AllocError> {
+pub fn pieces<'a>(alloc: Global, program: &Program<'a>) -> Result<Vec<Piece<'a>>, AllocError> {
     let mut pieces = Vec::new(alloc);
     let mut rest = program.image;
     let mut at = BLOCK_AT;
@@ -107,14 +109,15 @@ pub fn pieces(alloc: Global, program: &Program<'_>) -> Result<Vec<Piece>, AllocE
         }
         let (kind, size) = first_kind(program, text, at, rest);
         let named = what_is_named(program, kind, at, rest);
+        let (bytes, more) = rest.split_at(size);
         pieces.push(Piece {
             at,
-            size,
+            bytes,
             kind,
             named,
         })?;
         at = at.wrapping_add(low_word(size));
-        rest = behind(rest, size);
+        rest = more;
     }
     Ok(pieces)
 }
@@ -231,20 +234,19 @@ fn last(bytes: &[u8], count: usize) -> &[u8] {
     bytes.split_at(bytes.len().saturating_sub(count)).1
 }
 
-// The load that begins here: of the line that Push notes, of the line table for the search, or of a text.
+// The load that begins here: of the line that is noted, in line or by Push, of the line table for the search, or of a
+// text.
 fn first_load(program: &Program<'_>, at: u16, rest: &[u8]) -> Option<Load> {
     match rest {
         [
             LDA,
             low,
-            STA,
+            STA_ZERO_PAGE,
             _,
-            0,
             LDA,
             high,
-            STA,
+            STA_ZERO_PAGE,
             _,
-            0,
             JSR,
             to_low,
             to_high,
@@ -252,13 +254,20 @@ fn first_load(program: &Program<'_>, at: u16, rest: &[u8]) -> Option<Load> {
         ] if u16::from_le_bytes([*to_low, *to_high]) == entry(Routine::Push) => {
             Some(Load {
                 address: u16::from_le_bytes([*low, *high]),
-                apart: 5,
+                apart: 4,
             })
         }
-        [LDA, low, STA, _, 0, LDA, high, ..] if at == program.search() => {
+        [LDA, low, STA_BY_X, to_low, to_high, LDA, high, STA_BY_X, ..]
+            if u16::from_le_bytes([*to_low, *to_high]) == NOTE_LOW => {
             Some(Load {
                 address: u16::from_le_bytes([*low, *high]),
                 apart: 5,
+            })
+        }
+        [LDA, low, STA_ZERO_PAGE, _, LDA, high, ..] if at == program.search() => {
+            Some(Load {
+                address: u16::from_le_bytes([*low, *high]),
+                apart: 4,
             })
         }
         [

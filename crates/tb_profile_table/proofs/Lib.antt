@@ -1,4 +1,3 @@
 pub mod Appending
 pub mod Adding
 pub mod Tabling
-pub mod LineLemmas

@@ -1,10 +1,6 @@
 -- Numbers and words in texts.
-use Rattle.std.specs.Prelude.{ℕ, ◌+◌, ◌-◌, ◌*◌, ◌/◌, ◌%◌, List, ◌++◌, codes, length, replicate, nat_lt, ◌||◌, ◌==◌, if◌then◌else◌}
+use Rattle.std.specs.Prelude.{ℕ, ◌+◌, ◌-◌, ◌*◌, ◌/◌, ◌%◌, List, ◌++◌, codes, length, replicate, ◌==◌, if◌then◌else◌}
 use Rattle.std.specs.Fmt.{decimal}
-
--- a byte as it is shown: `?` below 32 and above 126
-abbrev pub shown : ℕ → ℕ
-shown b = if nat_lt b 32 || nat_lt 126 b then 63 else b
 
 -- a word at the right of so many columns, or as many as it has
 unfoldable pub right : ℕ → List ℕ → List ℕ

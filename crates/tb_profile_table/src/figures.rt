@@ -1,22 +1,16 @@
 //! Numbers and words in texts.
-ghost use Rattle.std.specs.Prelude.{◌≡◌, ◌<◌, ◌++◌, ◌^◌, OnOk, IfOk, replicate, string_bytes};
+ghost use Rattle.std.specs.Prelude.{◌≡◌, ◌<◌, ◌++◌, ◌^◌, OnOk, IfOk, string_bytes};
 ghost use Rattle.std.specs.Fmt.{decimal};
-ghost use Rattle.tb_profile_table.specs.Figures.{percent, right, share, shown};
+ghost use Rattle.tb_profile_table.specs.Figures.{percent, right, share};
 
 use std::alloc::{AllocError, Global};
+use tb_written::push_spaces;
 
 /// Appends a number.
 pub fn push_number(alloc: Global, text: &mut Vec<u8>, number: u128) -> Result<(), AllocError>
     ensures { OnOk result (text.new.items ≡ text.old.items ++ decimal number) }
 {
     text.extend_from_slice(format!(in alloc; "{number}")?.as_bytes())
-}
-
-fn push_spaces(text: &mut Vec<u8>, count: usize) -> Result<(), AllocError>
-    ensures { OnOk result (text.new.items ≡ text.old.items ++ replicate count 32) }
-{
-    let size = text.len();
-    text.resize(size.saturating_add(count), b' ')
 }
 
 /// Appends a word at the right of so many columns, or as many as it has.
@@ -60,11 +54,4 @@ pub fn percent(alloc: Global, thousandths: u128) -> Result<String, AllocError>
     let whole = thousandths / 10;
     let tenth = thousandths % 10;
     format!(in alloc; "{whole}.{tenth}%")
-}
-
-/// A byte as it is shown.
-pub fn shown(byte: u8) -> u8
-    ensures { result ≡ shown byte }
-{
-    if byte < 32 || 126 < byte { b'?' } else { byte }
 }

@@ -3,11 +3,12 @@ ghost use Rattle.std.specs.Prelude.{◌≡◌, ◌++◌, ◌<◌, ◌^◌, OnOk,
 ghost use Rattle.tb_profile_table.specs.Lines.{line_pair};
 ghost use Rattle.tb_profile_table.specs.Page.{bar, cell, cells, escaped, line_row, numbered_row, opening, page_of, row_text, rows_of, share_cell, source, start_row, sum_row, sums};
 
-use crate::figures::{percent, push_number, share, shown};
+use crate::figures::{percent, push_number, share};
 use crate::lines::Line;
 use crate::rows::{Row, Whole};
 use crate::table::{Figures, figures_of, sum_of};
 use std::alloc::{AllocError, Global};
+use tb_written::shown;
 
 /// The page up to the sums.
 pub const HEAD: &[u8] = b"<!DOCTYPE html>

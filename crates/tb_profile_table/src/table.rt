@@ -1,13 +1,14 @@
 //! The table of a profile.
 ghost use Rattle.std.specs.Prelude.{◌≡◌, ◌++◌, OnOk, IfOk, map, flat_map};
 ghost use Rattle.tb_profile_table.specs.Lines.{line_pair};
-ghost use Rattle.tb_profile_table.specs.Figures.{percent, right, share, shown};
+ghost use Rattle.tb_profile_table.specs.Figures.{percent, right, share};
 ghost use Rattle.tb_profile_table.specs.Table.{counts, figures_of, figures_text, line_text, named, numbered, sum_of, table_of};
 
-use crate::figures::{percent, push_column, push_right, share, shown};
+use crate::figures::{percent, push_column, push_right, share};
 use crate::lines::Line;
 use crate::rows::{Row, Whole};
 use std::alloc::{AllocError, Global};
+use tb_written::push_shown;
 
 /// What stands in a row: how often its line was begun, and what it took.
 #[derive(Clone, Copy, Drop)]
@@ -88,15 +89,6 @@ fn push_figures(
     push_right(text, NUMBER, name)?;
     push_counts(alloc, text, figures)?;
     push_share(alloc, text, figures.cycles, all)
-}
-
-fn push_shown(text: &mut Vec<u8>, statement: &[u8]) -> Result<(), AllocError>
-    ensures { OnOk result (text.new.items ≡ text.old.items ++ map shown statement.now) }
-{
-    for byte in statement {
-        text.push(shown(*byte))?;
-    }
-    Ok(())
 }
 
 // Appends the number of a line, and its figures.

@@ -1,7 +1,6 @@
 //! Machine code as text.
-ghost use Rattle.std.specs.Prelude.{◌≡◌, None, IfOk, IfErr, map};
-ghost use Rattle.tb_asm.specs.Names.{name_in, fold_byte};
-ghost use Rattle.tb_asm.specs.Layout.{address_in, entry_of, image_of, labels_from};
+ghost use Rattle.std.specs.Prelude.{◌≡◌, IfOk, IfErr, map};
+ghost use Rattle.tb_asm.specs.Layout.{entry_of, image_of, labels_from};
 ghost use Rattle.tb_asm.specs.Assembled.{RefusesAt, refusal};
 ghost use Rattle.tb_asm.specs.Settle.{SettlesTo};
 ghost use Rattle.tb_asm.specs.Marks.{SettleErr};
@@ -9,14 +8,7 @@ ghost use Rattle.tb_asm.specs.Text.{items_of_text};
 ghost use Rattle.tb_asm.specs.Reads.{ReadsText};
 
 use std::alloc::Global;
-use tb_asm::{AsmError, Image, Item, Name, TextError, assemble, read_text, settle};
-
-/// `Name::read`.
-pub fn name_of(text: &[u8]) -> Option<Name>
-    ensures { result ≡ name_in (map fold_byte text.now) }
-{
-    Name::read(text)
-}
+use tb_asm::{AsmError, Image, Item, TextError, assemble, read_text, settle};
 
 /// `assemble`.
 pub fn assembled(alloc: Global, at: u16, items: &[Item]) -> Result<Image, AsmError>
@@ -24,13 +16,6 @@ pub fn assembled(alloc: Global, at: u16, items: &[Item]) -> Result<Image, AsmErr
     ensures refused { IfErr result (λ e. RefusesAt (refusal at (map entry_of items.now)) e.kind e.item) }
 {
     assemble(alloc, at, items)
-}
-
-/// `Image::address_of`.
-pub fn address_of(image: &Image, name: &Name) -> Option<u16>
-    ensures { result ≡ address_in image.now.labels.entries name.now }
-{
-    image.address_of(name)
 }
 
 /// `settle`.

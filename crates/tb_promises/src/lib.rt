@@ -11,8 +11,8 @@ mod meaning;
 mod opcodes;
 mod processor;
 
-pub use assembler::{address_of, assembled, name_of, settled, text_items};
+pub use assembler::{assembled, settled, text_items};
 pub use language::{expression_of, parsed, parsed_expression, statement_of, tokens_of};
-pub use meaning::{lists_of, lowered, run_of, value_of, warnings_of};
-pub use opcodes::{instruction_of, length_of, opcode_of};
-pub use processor::{byte_of, flags_of, place_of_operand, ran_quickly, stepped};
+pub use meaning::{lowered, run_of, value_of, warnings_of};
+pub use opcodes::instruction_of;
+pub use processor::{ran_quickly, stepped};

@@ -13,8 +13,7 @@ ghost use Rattle.tb_lower.specs.Shown.{code_of};
 
 use std::alloc::{AllocError, Global};
 use tb_lower::{
-    EvalError, LowerError, SlotCode, SlotLine, SourceRun, Warning, eval, lower, run_source,
-    warnings,
+    EvalError, LowerError, SlotCode, SourceRun, Warning, eval, lower, run_source, warnings,
 };
 use tb_syntax::{Expr, Program};
 
@@ -52,11 +51,4 @@ pub fn lowered(alloc: Global, program: &Program) -> Result<SlotCode, LowerError>
     ensures refused { IfErr result (λ e. IsRefusal (shown.lines_of program.now) e) }
 {
     lower(alloc, program)
-}
-
-/// `SlotCode::lines`.
-pub fn lists_of(code: &SlotCode) -> &[SlotLine]
-    ensures { result.now ≡ code.now }
-{
-    code.lines()
 }

@@ -30,7 +30,9 @@ pub fn put_answer<R: Files + AllocGlobal>(rt: &R, page: &mut Page, name: &str, r
 fn put_run<R: Files + AllocGlobal>(rt: &R, page: &mut Page, row: &str) {
     let (name, keys) = cut(row);
     let mut path = Page::new(page.alloc());
-    path.put(format_args!("examples/{name}.bas"));
+    path.put("examples/");
+    path.put(name);
+    path.put(".bas");
     let source = fs::read_to_string(rt, path.text());
     if let Some(source) = page.held(source) {
         programs::put_runs(page, source.as_bytes(), keys);

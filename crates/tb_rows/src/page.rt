@@ -1,6 +1,6 @@
 //! What is written.
 use std::alloc::Global;
-use std::fmt::Display;
+use std::fmt::{Debug, Display};
 
 /// A text that grows. What fails on the way is noted (a growth is refused, a row says nothing), so that those who write
 /// need not hand failures on: the prover pays for each way out of a function.
@@ -46,8 +46,39 @@ impl Page {
         }
     }
 
+    /// Appends a value as it shows itself. A call takes the prover a fraction of what a `format_args!` takes.
     pub fn put<D: Display + Drop>(&mut self, shown: D) {
         let grown = write!(self.text, "{shown}");
+        self.has_failed = self.has_failed || grown.is_err();
+    }
+
+    /// Appends a value as its type writes it for programmers.
+    pub fn put_debug<D: Debug>(&mut self, shown: &D) {
+        let grown = write!(self.text, "{shown:?}");
+        self.has_failed = self.has_failed || grown.is_err();
+    }
+
+    /// Appends a word as four hexadecimal digits.
+    pub fn put_word(&mut self, word: u16) {
+        let grown = write!(self.text, "{word:04X}");
+        self.has_failed = self.has_failed || grown.is_err();
+    }
+
+    /// Appends a word as four hexadecimal digits in small letters.
+    pub fn put_low_word(&mut self, word: u16) {
+        let grown = write!(self.text, "{word:04x}");
+        self.has_failed = self.has_failed || grown.is_err();
+    }
+
+    /// Appends a byte as two hexadecimal digits.
+    pub fn put_byte(&mut self, byte: u8) {
+        let grown = write!(self.text, "{byte:02X}");
+        self.has_failed = self.has_failed || grown.is_err();
+    }
+
+    /// Appends a byte as two hexadecimal digits in small letters.
+    pub fn put_low_byte(&mut self, byte: u8) {
+        let grown = write!(self.text, "{byte:02x}");
         self.has_failed = self.has_failed || grown.is_err();
     }
 

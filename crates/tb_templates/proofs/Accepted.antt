@@ -1,19 +1,20 @@
 -- The items of a program's code are of forms that there are, they may move, and no name stands twice.
-use Rattle.std.proofs.Common.{◌≡◌, ℕ, ◌+◌, ◌<◌, ◌≤◌, Bool, true, false, List, [], ◌∷◌, ◌++◌, refl, sym, ap, ◌∙◌, arith, is_some, true≢false}
-use Rattle.std.specs.Prelude.{◌&&◌, ◌||◌, if◌then◌else◌}
+use Rattle.std.proofs.Common.{◌≡◌, ℕ, ◌+◌, ◌<◌, ◌≤◌, Bool, true, false, List, [], ◌∷◌, ◌++◌, refl, sym, ap, ◌∙◌, arith, is_some, true≢false, Option, Some, None}
+use Rattle.std.specs.Prelude.{◌&&◌, ◌||◌, if◌then◌else◌, nat_lt}
 use Rattle.std.specs.List.{list_all, list_any}
 use lib.Pointwise.{bytes_decides}
 use Rattle.tb_opcodes.specs.declared.Mnemonic.{Mnemonic}
-use Rattle.tb_opcodes.specs.declared.Mnemonic.TheVariants.{Bmi, Bpl}
+use Rattle.tb_opcodes.specs.declared.Mnemonic.TheVariants.{Bmi, Bpl, Lda, Sta}
 use Rattle.tb_opcodes.specs.declared.Mode.{Mode}
-use Rattle.tb_opcodes.specs.declared.Mode.TheVariants.{Relative}
+use Rattle.tb_opcodes.specs.declared.Mode.TheVariants.{Absolute, Relative, ZeroPage}
 use Rattle.tb_opcodes.specs.Opcodes.{rows, find_opcode, encoded}
 use Rattle.tb_words.specs.declared.Rel.{Rel}
 use Rattle.tb_words.specs.declared.Rel.TheVariants.{Eq, Lt, Gt, Le, Ge, Ne}
 use Rattle.tb_syntax.specs.declared.expressions.Operator.{Operator}
 use Rattle.tb_syntax.specs.declared.expressions.Operator.TheVariants.{Add, Subtract, Multiply, Divide}
 use Rattle.tb_asm.specs.declared.names.Name.{Name}
-use Rattle.tb_asm.specs.Layout.{Entry, instr, label, bytes, word, suits, is_place, has_mode, same_name}
+use Rattle.tb_asm.specs.declared.items.Operand.TheVariants.{Byte, Word}
+use Rattle.tb_asm.specs.Layout.{Entry, instr, label, bytes, word, suits, has_mode, same_name}
 use Rattle.tb_asm.specs.Suited.{names_of, AreDistinct}
 use Rattle.tb_lower.specs.Control.{has_line}
 use Rattle.tb_lower.specs.Slots.{Instr, Put, Load, Store, Negate, Compute, Random, SendText, SendNumber, SendZone, SendNewline, Input, Poll, Hold, LeaveUnless, Jump, Call, JumpTo, CallTo, Return, End, SlotCode}
@@ -23,26 +24,21 @@ use Rattle.tb_runtime16.specs.Places.{LEFT, RIGHT, RESULT, LINE, MULTIPLY_AT, DI
 use Rattle.tb_templates.specs.declared.labels.Inner.TheVariants.{Skip}
 use Rattle.tb_templates.specs.declared.labels.Target.{Target}
 use Rattle.tb_templates.specs.declared.labels.Target.TheVariants.{Inside, Line}
-use Rattle.tb_templates.specs.Templates.{template, faulted, jump_to, call_to, next_line, call, copied, constant}
+use Rattle.tb_templates.specs.Templates.{slot_at, var_at, on, template, faulted, jump_to, call_to, next_line, call, copied, constant}
 use Rattle.tb_templates.specs.Sources.{Source, FixedWord, AtPlace, source_of, tested_source, home_at, destination_at}
-use Rattle.tb_templates.specs.GroupTemplates.{brought, summed, taken, handed, calculated, converted, used, equal, unequal, ordered, tested, gone, may_fault, group_template, polled}
+use Rattle.tb_templates.specs.GroupTemplates.{brought, summed, taken, handed, multiplied, divided, calculated, converted, used, equal, unequal, ordered, tested, gone, may_fault, group_template, polled, lined, may_be_zero, may_have_none, is_zero, signed, weighed}
+use Rattle.tb_templates.specs.Scaled.{scaling, times, shifts, shifted}
 use Rattle.tb_templates.specs.Program.{rest_code, list_code, line_code, lines_code, past_code, find_code, rows_code, table_code, program_code}
 use Rattle.tb_settling.specs.Settled.{may_move}
 use Rattle.tb_syntax.specs.Source.{numbers}
 use Rattle.tb_templates.proofs.Listed.{by_poll}
+use Rattle.tb_templates.proofs.Plain.{has_form, plain_forms, times_plain, shifted_plain}
 use Rattle.tb_templates.proofs.Rising.{key, key_of, Rising}
 
 -- ── forms ──
 encoded_by : (n : Mnemonic) (m : Mode) → encoded n m ≡ find_opcode rows n m
 unfolding encoded
 encoded_by n m = refl
-
--- whether an item is of a form that there is, and may stand anywhere
-abbrev has_form : Entry → Bool
-has_form (instr n m o) = is_some (find_opcode rows n m) && (suits m o && may_move (instr n m o))
-has_form (label n) = true
-has_form (bytes bs) = true
-has_form (word o) = is_place o
 
 both : (p q : Bool) → p ≡ true → q ≡ true → (p && q) ≡ true
 both p q h k = ap (λ b. b && q) h ∙ k
@@ -81,17 +77,28 @@ forms_append (x ∷ xs) ys h k =
     both (has_form x) (list_all has_form (xs ++ ys)) (left_true (has_form x) (list_all has_form xs) h) (forms_append xs ys (right_true (has_form x) (list_all has_form xs) h) k)
 
 -- ── single instructions ──
+-- by either mode of a place
+on_form : (m : Mnemonic) (p : ℕ) → has_form (instr m ZeroPage (Byte p)) ≡ true → has_form (instr m Absolute (Word p)) ≡ true → has_form (on m p) ≡ true
+on_form m p h k = by (nat_lt p 256)
+  where
+    by : (t : Bool) → has_form (instr m (if t then ZeroPage else Absolute) (if t then Byte p else Word p)) ≡ true
+    by true = h
+    by false = k
+
+copied_forms : (from to : ℕ) → list_all has_form (copied from to) ≡ true
+copied_forms from to = λ i. on_form Lda from refl refl i && (on_form Lda (from + 1) refl refl i && true)
+
 jump_forms : (ns : List ℕ) (n to : ℕ) (t : Bool) → has_line ns to ≡ t → list_all has_form (jump_to ns n to) ≡ true
 jump_forms ns n to true e = rw e refl
 jump_forms ns n to false e = rw e refl
 
-call_forms : (ns : List ℕ) (n to : ℕ) (t : Bool) → has_line ns to ≡ t → list_all has_form (call_to ns n to (next_line ns n)) ≡ true
-call_forms ns n to true e = rw e refl
-call_forms ns n to false e = rw e refl
+call_forms : (ns : List ℕ) (n i to : ℕ) (t : Bool) → has_line ns to ≡ t → list_all has_form (call_to ns n i to (next_line ns n)) ≡ true
+call_forms ns n i to true e = rw e refl
+call_forms ns n i to false e = rw e refl
 
 template_forms : (ns : List ℕ) (n i : ℕ) (c : Instr) → list_all has_form (template ns n i c) ≡ true
 template_forms ns n i (Put k w) = refl
-template_forms ns n i (Load k x) = refl
+template_forms ns n i (Load k x) = copied_forms (var_at x) (slot_at k)
 template_forms ns n i (Store x) = refl
 template_forms ns n i (Negate k) = refl
 template_forms ns n i (Compute op k) = refl
@@ -107,7 +114,7 @@ template_forms ns n i (LeaveUnless rel) = refl
 template_forms ns n i Jump = refl
 template_forms ns n i Call = refl
 template_forms ns n i (JumpTo to) = jump_forms ns n to (has_line ns to) refl
-template_forms ns n i (CallTo to) = call_forms ns n to (has_line ns to) refl
+template_forms ns n i (CallTo to) = call_forms ns n i to (has_line ns to) refl
 template_forms ns n i Return = refl
 template_forms ns n i End = refl
 
@@ -117,8 +124,8 @@ single_forms false ns n i c = template_forms ns n i c
 
 -- ── groups ──
 brought_forms : (a : Source) (to : ℕ) → list_all has_form (brought a to) ≡ true
-brought_forms (FixedWord v) to = refl
-brought_forms (AtPlace p) to = refl
+brought_forms (FixedWord v) to = λ i. on_form Sta to refl refl i && (on_form Sta (to + 1) refl refl i && true)
+brought_forms (AtPlace p) to = λ i. on_form Sta to refl refl i && (on_form Sta (to + 1) refl refl i && true)
 
 summed_forms : (a b : Source) (to : ℕ) → list_all has_form (summed a b to) ≡ true
 summed_forms (FixedWord v) (FixedWord w) to = refl
@@ -134,17 +141,29 @@ taken_forms (AtPlace p) (AtPlace q) to = refl
 
 handed_forms : (routine from : ℕ) (a b : Source) (to : ℕ) → list_all has_form (handed routine from a b to) ≡ true
 handed_forms routine from a b to =
-    forms_append (brought a LEFT) (brought b RIGHT ++ (call routine ∷ copied from to)) (brought_forms a LEFT) (forms_append (brought b RIGHT) (call routine ∷ copied from to) (brought_forms b RIGHT) refl)
+    forms_append (brought a LEFT) (brought b RIGHT ++ (call routine ∷ copied from to)) (brought_forms a LEFT) (forms_append (brought b RIGHT) (call routine ∷ copied from to) (brought_forms b RIGHT) (copied_forms from to))
+
+lined_forms : (t : Bool) (n : ℕ) (es : List Entry) → list_all has_form es ≡ true → list_all has_form (lined t n es) ≡ true
+lined_forms true n es h = h
+lined_forms false n es h = h
+
+multiplied_forms : (o : Option (ℕ × Source)) (a b : Source) (to : ℕ) → list_all has_form (multiplied o a b to) ≡ true
+multiplied_forms (Some s) a b to = plain_forms (times s.0 s.1 to) (times_plain s.0 s.1 to)
+multiplied_forms None a b to = handed_forms MULTIPLY_AT RESULT a b to
+
+divided_forms : (n : ℕ) (o : Option ℕ) (a b : Source) (to : ℕ) → list_all has_form (divided n o a b to) ≡ true
+divided_forms n (Some k) a b to = plain_forms (shifted k a to) (shifted_plain k a to)
+divided_forms n None a b to = lined_forms (may_be_zero b) n (handed DIVIDE_AT LEFT a b to) (handed_forms DIVIDE_AT LEFT a b to)
 
 calculated_forms : (n : ℕ) (op : Operator) (a b : Source) (to : ℕ) → list_all has_form (calculated n op a b to) ≡ true
 calculated_forms n Add a b to = summed_forms a b to
 calculated_forms n Subtract a b to = taken_forms a b to
-calculated_forms n Multiply a b to = handed_forms MULTIPLY_AT RESULT a b to
-calculated_forms n Divide a b to = handed_forms DIVIDE_AT LEFT a b to
+calculated_forms n Multiply a b to = multiplied_forms (scaling a b) a b to
+calculated_forms n Divide a b to = divided_forms n (shifts b) a b to
 
 converted_forms : (n seed : ℕ) (what : Conversion) (a : Source) (to : ℕ) → list_all has_form (converted n seed what a to) ≡ true
 converted_forms n seed Negated a to = taken_forms (FixedWord 0) a to
-converted_forms n seed Drawn a to = handed_forms RANDOM_AT RESULT a (FixedWord seed) to
+converted_forms n seed Drawn a to = lined_forms (may_have_none a) n (handed RANDOM_AT RESULT a (FixedWord seed) to) (handed_forms RANDOM_AT RESULT a (FixedWord seed) to)
 
 used_forms : (n : ℕ) (next : Target) (how : Usage) (a : Source) → list_all has_form (used n next how a) ≡ true
 used_forms n next AsNumber (FixedWord w) = refl
@@ -166,11 +185,22 @@ unequal_forms (FixedWord v) (AtPlace q) stays next = refl
 unequal_forms (AtPlace p) (FixedWord w) stays next = refl
 unequal_forms (AtPlace p) (AtPlace q) stays next = refl
 
+signed_forms : (leaves : Mnemonic) (a : Source) (next : Target) → is_some (find_opcode rows leaves Relative) ≡ true → list_all has_form (signed leaves a next) ≡ true
+signed_forms leaves (FixedWord v) next h = rw h refl
+signed_forms leaves (AtPlace p) next h = rw h refl
+
+weighed_forms : (leaves : Mnemonic) (a b : Source) (skip next : Target) → is_some (find_opcode rows leaves Relative) ≡ true → list_all has_form (weighed leaves a b skip next) ≡ true
+weighed_forms leaves (FixedWord v) (FixedWord w) skip next h = rw h refl
+weighed_forms leaves (FixedWord v) (AtPlace q) skip next h = rw h refl
+weighed_forms leaves (AtPlace p) (FixedWord w) skip next h = rw h refl
+weighed_forms leaves (AtPlace p) (AtPlace q) skip next h = rw h refl
+
 ordered_forms : (leaves : Mnemonic) (a b : Source) (skip next : Target) → is_some (find_opcode rows leaves Relative) ≡ true → list_all has_form (ordered leaves a b skip next) ≡ true
-ordered_forms leaves (FixedWord v) (FixedWord w) skip next h = rw h refl
-ordered_forms leaves (FixedWord v) (AtPlace q) skip next h = rw h refl
-ordered_forms leaves (AtPlace p) (FixedWord w) skip next h = rw h refl
-ordered_forms leaves (AtPlace p) (AtPlace q) skip next h = rw h refl
+ordered_forms leaves a b skip next h = by (is_zero b)
+  where
+    by : (t : Bool) → list_all has_form (if t then signed leaves a next else weighed leaves a b skip next) ≡ true
+    by true = signed_forms leaves a next h
+    by false = weighed_forms leaves a b skip next h
 
 tested_forms : (rel : Rel) (a b : Source) (skip next : Target) → list_all has_form (tested rel a b skip next) ≡ true
 tested_forms Eq a b skip next = equal_forms a b next
@@ -192,7 +222,7 @@ group_forms ns seed n i (Use how a) = used_forms n (next_line ns n) how (source_
 group_forms ns seed n i (Test rel a b) = tested_forms rel (tested_source a) (source_of 0 b) (Inside Skip n i) (next_line ns n)
 group_forms ns seed n i (TestGo rel a b to) =
     gone_forms n rel (tested_source a) (source_of 0 b) (Inside Skip n i) (next_line ns n) (has_line ns to) to
-group_forms ns seed n i (Single c) = single_forms (may_fault ns c) ns n i c
+group_forms ns seed n i (Single c) = single_forms (may_fault c) ns n i c
 
 -- ── a program ──
 rest_forms : (ns : List ℕ) (seed n i : ℕ) (gs : List Group) → list_all has_form (rest_code ns seed n i gs) ≡ true

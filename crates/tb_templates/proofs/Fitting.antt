@@ -1,8 +1,14 @@
 -- The code of a program is no longer than its cost, however many branches are replaced.
-use Rattle.std.proofs.Common.{◌≡◌, ℕ, ◌+◌, ◌*◌, ◌≤◌, Bool, true, false, List, [], ◌∷◌, ◌++◌, length, refl, sym, ap, ◌∙◌, arith, subst, sum_by, Option, Some, None}
+use Rattle.std.proofs.Common.{◌≡◌, ℕ, zero, suc, ◌+◌, ◌*◌, ◌/◌, ◌%◌, ◌<◌, ◌≤◌, Bool, true, false, List, [], ◌∷◌, ◌++◌, length, refl, sym, ap, ◌∙◌, arith, subst, sum_by, Option, Some, None}
+use Rattle.std.specs.Prelude.{if◌then◌else◌, nat_eq, nat_le, nat_lt}
+use Rattle.std.proofs.lemmas.Bool.{and_parts, leb-true}
 use Rattle.std.proofs.lemmas.List.Sums.{sum_by-cons}
+use Rattle.std.specs.Prelude.{nat_lt, if◌then◌else◌}
 use Rattle.tb_opcodes.specs.declared.Mnemonic.{Mnemonic}
-use Rattle.tb_opcodes.specs.declared.Mnemonic.TheVariants.{Adc, Bmi, Bpl, Cmp, Lda, Sbc}
+use Rattle.tb_opcodes.specs.declared.Mnemonic.TheVariants.{Adc, Bmi, Bpl, Cmp, Lda, Sbc, Sta}
+use Rattle.tb_opcodes.specs.declared.Mode.TheVariants.{Absolute, ZeroPage}
+use Rattle.tb_asm.specs.declared.items.Operand.TheVariants.{Byte, Word}
+use Rattle.tb_asm.specs.Layout.{Entry, instr}
 use Rattle.tb_words.specs.declared.Rel.{Rel}
 use Rattle.tb_words.specs.declared.Rel.TheVariants.{Eq, Lt, Gt, Le, Ge, Ne}
 use Rattle.tb_syntax.specs.declared.expressions.Operator.{Operator}
@@ -20,31 +26,44 @@ use Rattle.tb_runtime16.specs.Places.{LEFT, RIGHT, RESULT, MULTIPLY_AT, DIVIDE_A
 use Rattle.tb_templates.specs.declared.labels.Inner.TheVariants.{Skip}
 use Rattle.tb_templates.specs.declared.labels.Target.{Target}
 use Rattle.tb_templates.specs.declared.labels.Target.TheVariants.{Inside, Line}
-use Rattle.tb_templates.specs.Templates.{next_line, call, copied, faulted}
+use Rattle.tb_templates.specs.Templates.{const, next_line, call, copied, faulted, slot_at, var_at, on}
 use Rattle.tb_templates.specs.Sources.{Source, FixedWord, AtPlace, source_of, tested_source, home_at, destination_at}
-use Rattle.tb_templates.specs.GroupTemplates.{low_of, high_of, brought, joined, handed, calculated, converted, used, equal, unequal, ordered, tested, gone, group_template, polled}
+use Rattle.tb_templates.specs.GroupTemplates.{low_of, high_of, brought, joined, handed, multiplied, divided, calculated, converted, used, equal, unequal, ordered, tested, gone, group_template, polled, lined, may_be_zero, may_have_none, is_zero, signed, weighed}
+use Rattle.tb_templates.specs.Scaled.{at_zero, rounded, raised, halved, halvings, high_first, shifts, shifted, by_bit, by_bits, bits_size, is_factor, scaling, low_first, times}
 use Rattle.tb_templates.specs.Program.{rest_code, list_code}
 use Rattle.tb_settling.specs.Settled.{most_of, most}
 use Rattle.tb_settling.proofs.Forms.{most_append}
 use Rattle.tb_templates.specs.Sizes.{room, list_room, lines_room, rest_room, items_cost, AreApart, IsSpaced, AreSpaced}
 use Rattle.tb_templates.proofs.Listed.{by_poll}
+use Rattle.tb_templates.proofs.Factors.{IsScaling, by_right, by_left, by_routine, scaling_is, IsShifting, by_shifts, by_call, shifting_is}
 
 list_append : (xs ys : List Instr) → list_room (xs ++ ys) ≡ list_room xs + list_room ys
 list_append [] ys = omega arith
 list_append (x ∷ xs) ys = let e = list_append xs ys in omega (arith, e)
 
 -- ── a single instruction ──
+-- by either mode of a place
+on_most : (m : Mnemonic) (p : ℕ) → most_of (on m p) ≤ 3
+on_most m p = by (nat_lt p 256)
+  where
+    by : (t : Bool) → most_of (instr m (if t then ZeroPage else Absolute) (if t then Byte p else Word p)) ≤ 3
+    by true = omega arith
+    by false = omega arith
+
+copied_fits : (from to : ℕ) → most (copied from to) ≤ 12
+copied_fits from to = let l = on_most Lda from in let h = on_most Lda (from + 1) in omega (arith, l, h)
+
 jump_fits : (ns : List ℕ) (seed n i to : ℕ) (t : Bool) → has_line ns to ≡ t → most (group_template ns seed n i (Single (JumpTo to))) ≤ 9
 jump_fits ns seed n i to true e = rw e (omega arith)
 jump_fits ns seed n i to false e = rw e (omega arith)
 
-call_fits : (ns : List ℕ) (seed n i to : ℕ) (t : Bool) → has_line ns to ≡ t → most (group_template ns seed n i (Single (CallTo to))) ≤ 26
+call_fits : (ns : List ℕ) (seed n i to : ℕ) (t : Bool) → has_line ns to ≡ t → most (group_template ns seed n i (Single (CallTo to))) ≤ 59
 call_fits ns seed n i to true e = rw e (omega arith)
 call_fits ns seed n i to false e = rw e (omega arith)
 
 single_fits : (ns : List ℕ) (seed n i : ℕ) (c : Instr) → most (group_template ns seed n i (Single c)) ≤ room c
 single_fits ns seed n i (Put k w) = omega arith
-single_fits ns seed n i (Load k x) = omega arith
+single_fits ns seed n i (Load k x) = copied_fits (var_at x) (slot_at k)
 single_fits ns seed n i (Store x) = omega arith
 single_fits ns seed n i (Negate k) = omega arith
 single_fits ns seed n i (Compute op k) = omega arith
@@ -74,30 +93,92 @@ high_most m (FixedWord w) = omega arith
 high_most m (AtPlace p) = omega arith
 
 brought_fits : (a : Source) (to : ℕ) → most (brought a to) ≤ 12
-brought_fits a to = let l = low_most Lda a in let h = high_most Lda a in omega (arith, l, h)
+brought_fits a to =
+    let l = low_most Lda a in let h = high_most Lda a in let p = on_most Sta to in let q = on_most Sta (to + 1) in omega (arith, l, h, p, q)
 
 joined_fits : (m : Mnemonic) (a b : Source) (to : ℕ) → most (joined m a b to) ≤ 18
 joined_fits m a b to =
     let l = low_most Lda a in let h = high_most Lda a in let p = low_most m b in let q = high_most m b in omega (arith, l, h, p, q)
 
-handed_fits : (routine from : ℕ) (a b : Source) (to : ℕ) → most (handed routine from a b to) ≤ 39
-handed_fits routine from a b to =
+-- two bytes less in page zero
+left_fits : (a : Source) → most (brought a LEFT) ≤ 10
+left_fits a = let l = low_most Lda a in let h = high_most Lda a in omega (arith, l, h)
+
+right_fits : (a : Source) → most (brought a RIGHT) ≤ 10
+right_fits a = let l = low_most Lda a in let h = high_most Lda a in omega (arith, l, h)
+
+handed_fits : (routine from : ℕ) (a b : Source) (to c : ℕ) → most (copied from to) ≤ c → most (handed routine from a b to) ≤ 23 + c
+handed_fits routine from a b to c k =
     let e = most_append (brought a LEFT) (brought b RIGHT ++ (call routine ∷ copied from to)) in
     let f = most_append (brought b RIGHT) (call routine ∷ copied from to) in
-    let l = brought_fits a LEFT in let r = brought_fits b RIGHT in
-    omega (arith, e, f, l, r)
+    let l = left_fits a in let r = right_fits b in
+    omega (arith, e, f, l, r, k)
 
-calculated_fits : (n : ℕ) (op : Operator) (a b : Source) (to : ℕ) → most (calculated n op a b to) ≤ 49
+lined_most : (t : Bool) (n : ℕ) (es : List Entry) → most (lined t n es) ≤ 10 + most es
+lined_most true n es = omega arith
+lined_most false n es = omega arith
+
+rounded_fits : (k : ℕ) (a : Source) → most (rounded k a) ≤ 11
+rounded_fits zero a = let l = low_most Lda a in omega (arith, l)
+rounded_fits (suc k) a = let l = low_most Adc a in omega (arith, l)
+
+halvings_fit : (k : ℕ) → most (halvings k) ≤ 5 * k
+halvings_fit zero = omega arith
+halvings_fit (suc k) = let e = most_append (halvings k) halved in let h = halvings_fit k in omega (arith, e, h)
+
+shifted_fits : (k : ℕ) (a : Source) (to : ℕ) → k < 6 → most (shifted k a to) ≤ 61
+shifted_fits k a to few =
+    let e = most_append (raised k a) (halvings (suc k) ++ high_first to) in
+    let f = most_append (halvings (suc k)) (high_first to) in
+    let g = most_append (rounded k a) (at_zero Sta LEFT ∷ high_of Lda a ∷ const Adc 0 ∷ []) in
+    let h = high_most Lda a in let r = rounded_fits k a in let n = halvings_fit (suc k) in
+    omega (arith, e, f, g, h, r, n, few)
+
+bit_fits : (t : Bool) (a : Source) → most (by_bit t a) ≤ (if t then 16 else 3)
+bit_fits false a = omega arith
+bit_fits true a = let l = low_most Adc a in let h = high_most Adc a in omega (arith, l, h)
+
+bits_fit : (k factor : ℕ) (a : Source) → most (by_bits k factor a) ≤ bits_size k factor
+bits_fit zero factor a = omega arith
+bits_fit (suc k) factor a = by (bits_fit k (factor / 2) a) (nat_lt factor 2)
+  where
+    odd : Bool
+    odd = nat_eq (factor % 2) 1
+
+    by : most (by_bits k (factor / 2) a) ≤ bits_size k (factor / 2) → (t : Bool) → most (if t then [] else by_bits k (factor / 2) a ++ by_bit odd a) ≤ (if t then 0 else bits_size k (factor / 2) + (if odd then 16 else 3))
+    by f true = omega arith
+    by f false = let e = most_append (by_bits k (factor / 2) a) (by_bit odd a) in let g = bit_fits odd a in omega (arith, e, f, g)
+
+times_fit : (factor : ℕ) (a : Source) (to : ℕ) → is_factor factor ≡ true → most (times factor a to) ≤ 76
+times_fit factor a to h =
+    let few = leb-true (bits_size 15 factor) 60 (and_parts (nat_le 2 factor) (nat_le (bits_size 15 factor) 60) h).1 in
+    let e = most_append (by_bits 15 factor a) (low_first to) in
+    let f = bits_fit 15 factor a in let l = low_most Lda a in let g = high_most Lda a in
+    omega (arith, few, e, f, l, g)
+
+multiplied_fits : (o : Option (ℕ × Source)) (a b : Source) (to : ℕ) → IsScaling a b o → most (multiplied o a b to) ≤ 76
+multiplied_fits _ a b to (by_right w e h) = times_fit w a to h
+multiplied_fits _ a b to (by_left v e h) = times_fit v b to h
+multiplied_fits _ a b to by_routine = let h = handed_fits MULTIPLY_AT RESULT a b to 12 (copied_fits RESULT to) in omega (arith, h)
+
+divided_fits : (n : ℕ) (o : Option ℕ) (a b : Source) (to : ℕ) → IsShifting b o → most (divided n o a b to) ≤ 76
+divided_fits n _ a b to (by_shifts w k e few p) = let h = shifted_fits k a to few in omega (arith, h)
+divided_fits n _ a b to by_call =
+    let h = handed_fits DIVIDE_AT LEFT a b to 10 (omega arith) in let l = lined_most (may_be_zero b) n (handed DIVIDE_AT LEFT a b to) in omega (arith, h, l)
+
+calculated_fits : (n : ℕ) (op : Operator) (a b : Source) (to : ℕ) → most (calculated n op a b to) ≤ 76
 calculated_fits n Add a b to = let h = joined_fits Adc a b to in omega (arith, h)
 calculated_fits n Subtract a b to = let h = joined_fits Sbc a b to in omega (arith, h)
-calculated_fits n Multiply a b to = let h = handed_fits MULTIPLY_AT RESULT a b to in omega (arith, h)
-calculated_fits n Divide a b to = let h = handed_fits DIVIDE_AT LEFT a b to in omega (arith, h)
+calculated_fits n Multiply a b to = multiplied_fits (scaling a b) a b to (scaling_is a b)
+calculated_fits n Divide a b to = divided_fits n (shifts b) a b to (shifting_is b)
 
 converted_fits : (n seed k : ℕ) (what : Conversion) (a : Source) (to : ℕ) → most (converted n seed what a to) ≤ room (convert what k)
 converted_fits n seed k Negated a to = let p = low_most Sbc a in let q = high_most Sbc a in omega (arith, p, q)
 converted_fits n seed k Drawn a to =
-    let e = most_append (brought a LEFT) (brought (FixedWord seed) RIGHT ++ (call RANDOM_AT ∷ copied RESULT to)) in let l = brought_fits a LEFT in
-    omega (arith, e, l)
+    let code = handed RANDOM_AT RESULT a (FixedWord seed) to in
+    let e = most_append (brought a LEFT) (brought (FixedWord seed) RIGHT ++ (call RANDOM_AT ∷ copied RESULT to)) in
+    let l = left_fits a in let k = lined_most (may_have_none a) n code in
+    omega (arith, e, l, k)
 
 used_fits : (n : ℕ) (next : Target) (how : Usage) (a : Source) → most (used n next how a) ≤ room (use_of how)
 used_fits n next AsNumber a = let l = low_most Lda a in let h = high_most Lda a in omega (arith, l, h)
@@ -113,8 +194,11 @@ unequal_fits a b stays next =
     let l = low_most Lda a in let h = high_most Lda a in let p = low_most Cmp b in let q = high_most Cmp b in omega (arith, l, h, p, q)
 
 ordered_fits : (leaves : Mnemonic) (a b : Source) (skip next : Target) → most (ordered leaves a b skip next) ≤ 24
-ordered_fits leaves a b skip next =
-    let l = low_most Lda a in let h = high_most Lda a in let p = low_most Cmp b in let q = high_most Sbc b in omega (arith, l, h, p, q)
+ordered_fits leaves a b skip next = by (is_zero b)
+  where
+    by : (t : Bool) → most (if t then signed leaves a next else weighed leaves a b skip next) ≤ 24
+    by true = let h = high_most Lda a in omega (arith, h)
+    by false = let l = low_most Lda a in let h = high_most Lda a in let p = low_most Cmp b in let q = high_most Sbc b in omega (arith, l, h, p, q)
 
 tested_fits : (rel : Rel) (a b : Source) (skip next : Target) → most (tested rel a b skip next) ≤ 24
 tested_fits Eq a b skip next = equal_fits a b next
@@ -259,7 +343,7 @@ command_room (Goto e) h =
     target_room (constant e) JumpTo 15 (7 + (48 + 48 * nodes e)) (value_code e 0 ++ Jump ∷ []) (λ n. omega arith) (omega arith) (omega (arith, a, b))
 command_room (Gosub e) h =
     let a = value_room e 0 in let b = list_append (value_code e 0) (Call ∷ []) in
-    target_room (constant e) CallTo 26 (7 + (48 + 48 * nodes e)) (value_code e 0 ++ Call ∷ []) (λ n. omega arith) (omega arith) (omega (arith, a, b))
+    target_room (constant e) CallTo 59 (7 + (48 + 48 * nodes e)) (value_code e 0 ++ Call ∷ []) (λ n. omega arith) (omega arith) (omega (arith, a, b))
 command_room source.Return h = omega arith
 command_room source.End h = omega arith
 command_room Remark h = omega arith

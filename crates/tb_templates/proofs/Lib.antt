@@ -1,8 +1,11 @@
 pub mod Accepted
 pub mod Appends
+pub mod Bits
+pub mod Factors
 pub mod Fitting
 pub mod Listed
 pub mod Ordered
+pub mod Plain
 pub mod Ranged
 pub mod Reached
 pub mod Rising

@@ -1,5 +1,5 @@
 -- The labels of a whole program rise.
-use Rattle.std.proofs.Common.{◌≡◌, ℕ, ◌+◌, ◌<◌, ◌≤◌, Bool, true, false, List, [], ◌∷◌, ◌++◌, length, refl, sym, ap, ◌∙◌, arith, subst, nat_lt}
+use Rattle.std.proofs.Common.{◌≡◌, ℕ, ◌+◌, ◌<◌, ◌≤◌, Bool, true, false, List, [], ◌∷◌, ◌++◌, length, refl, sym, ap, ◌∙◌, arith, subst, nat_lt, Option, Some, None}
 use Rattle.std.specs.Prelude.{if◌then◌else◌}
 use Rattle.std.proofs.lemmas.Bool.Decides.{nat_tests}
 use Rattle.tb_opcodes.specs.declared.Mnemonic.{Mnemonic}
@@ -9,6 +9,7 @@ use Rattle.tb_words.specs.declared.Rel.TheVariants.{Eq, Lt, Gt, Le, Ge, Ne}
 use Rattle.tb_syntax.specs.declared.expressions.Operator.{Operator}
 use Rattle.tb_syntax.specs.declared.expressions.Operator.TheVariants.{Add, Subtract, Multiply, Divide}
 use Rattle.tb_syntax.specs.Source.{numbers}
+use Rattle.tb_asm.specs.Layout.{Entry}
 use Rattle.tb_lower.specs.Control.{At, has_line, next_after}
 use Rattle.tb_lower.specs.Slots.{Instr, Put, Load, Store, Negate, Compute, Random, SendText, SendNumber, SendZone, SendNewline, Input, Poll, Hold, LeaveUnless, Jump, Call, JumpTo, CallTo, Return, End, SlotCode}
 use Rattle.tb_selection.specs.Groups.{Conversion, Negated, Drawn, Usage, AsNumber, AsLine, AsSubroutine, Group, Calculate, Convert, Move, Use, Test, TestGo, Single, denied, slot_of}
@@ -19,11 +20,13 @@ use Rattle.tb_templates.specs.declared.labels.Inner.TheVariants as inner
 use Rattle.tb_templates.specs.Labels.{label_of, letter_of}
 use Rattle.tb_templates.specs.declared.labels.Target.{Target}
 use Rattle.tb_templates.specs.declared.labels.Target.TheVariants.{Line, Inside, Table}
-use Rattle.tb_templates.specs.Templates.{template, faulted, jump_to, call_to, next_line, target_of, call, copied, constant}
+use Rattle.tb_templates.specs.Templates.{template, faulted, called, jump_to, next_line, target_of, call, copied, constant}
 use Rattle.tb_templates.specs.Sources.{Source, FixedWord, AtPlace, source_of, tested_source, home_at, destination_at}
-use Rattle.tb_templates.specs.GroupTemplates.{brought, joined, handed, calculated, converted, used, equal, unequal, ordered, tested, gone, may_fault, group_template, polled}
+use Rattle.tb_templates.specs.GroupTemplates.{brought, joined, handed, multiplied, divided, calculated, converted, used, equal, unequal, ordered, tested, gone, may_fault, group_template, polled, lined, may_be_zero, may_have_none, is_zero, signed, weighed}
+use Rattle.tb_templates.specs.Scaled.{scaling, times, shifts, shifted}
 use Rattle.tb_templates.specs.Program.{rest_code, list_code, line_code, lines_code, past_code, find_code, rows_code, table_code, program_code, AreCodable, RisingFrom, first_of, AreInTurn}
 use Rattle.tb_templates.proofs.Listed.{by_poll}
+use Rattle.tb_templates.proofs.Plain.{plain_rises, times_plain, shifted_plain}
 use Rattle.tb_templates.proofs.Ranged.{selected_few}
 use Rattle.tb_templates.proofs.Rising.{key_of, base, line_key, inside_key, Rising, rising_append, rising_lower}
 
@@ -31,10 +34,6 @@ use Rattle.tb_templates.proofs.Rising.{key_of, base, line_key, inside_key, Risin
 jump_rises : (ns : List ℕ) (n to low high : ℕ) (t : Bool) → has_line ns to ≡ t → low ≤ high → Rising low (jump_to ns n to) high
 jump_rises ns n to low high true e h = rw e h
 jump_rises ns n to low high false e h = rw e h
-
-call_rises : (ns : List ℕ) (n to low high : ℕ) (t : Bool) → has_line ns to ≡ t → low ≤ high → Rising low (call_to ns n to (next_line ns n)) high
-call_rises ns n to low high true e h = rw e h
-call_rises ns n to low high false e h = rw e h
 
 -- ── words and tests ──
 module _ (low high : ℕ) (up : low ≤ high) where
@@ -62,11 +61,22 @@ module _ (low high : ℕ) (skip : Target) (above : low ≤ key_of (label_of skip
   unequal_rises (AtPlace p) (FixedWord w) next = (above, below)
   unequal_rises (AtPlace p) (AtPlace q) next = (above, below)
 
+  signed_rises : (leaves : Mnemonic) (a : Source) (next : Target) → Rising low (signed leaves a next) high
+  signed_rises leaves (FixedWord v) next = omega (arith, above, below)
+  signed_rises leaves (AtPlace p) next = omega (arith, above, below)
+
+  weighed_rises : (leaves : Mnemonic) (a b : Source) (next : Target) → Rising low (weighed leaves a b skip next) high
+  weighed_rises leaves (FixedWord v) (FixedWord w) next = (above, below)
+  weighed_rises leaves (FixedWord v) (AtPlace q) next = (above, below)
+  weighed_rises leaves (AtPlace p) (FixedWord w) next = (above, below)
+  weighed_rises leaves (AtPlace p) (AtPlace q) next = (above, below)
+
   ordered_rises : (leaves : Mnemonic) (a b : Source) (next : Target) → Rising low (ordered leaves a b skip next) high
-  ordered_rises leaves (FixedWord v) (FixedWord w) next = (above, below)
-  ordered_rises leaves (FixedWord v) (AtPlace q) next = (above, below)
-  ordered_rises leaves (AtPlace p) (FixedWord w) next = (above, below)
-  ordered_rises leaves (AtPlace p) (AtPlace q) next = (above, below)
+  ordered_rises leaves a b next = by (is_zero b)
+    where
+      by : (t : Bool) → Rising low (if t then signed leaves a next else weighed leaves a b skip next) high
+      by true = signed_rises leaves a next
+      by false = weighed_rises leaves a b next
 
   tested_rises : (up : low ≤ high) (rel : Rel) (a b : Source) (next : Target) → Rising low (tested rel a b skip next) high
   tested_rises up Eq a b next = equal_rises low high up a b next
@@ -82,15 +92,27 @@ handed_rises low high routine from a b to up =
     rising_append low low high (brought a LEFT) (brought b RIGHT ++ (call routine ∷ copied from to)) (brought_rises low low none a LEFT)
     (rising_append low low high (brought b RIGHT) (call routine ∷ copied from to) (brought_rises low low none b RIGHT) up)
 
+lined_rises : (low high : ℕ) (t : Bool) (n : ℕ) (es : List Entry) → Rising low es high → Rising low (lined t n es) high
+lined_rises low high true n es h = h
+lined_rises low high false n es h = h
+
+multiplied_rises : (low high : ℕ) (o : Option (ℕ × Source)) (a b : Source) (to : ℕ) → low ≤ high → Rising low (multiplied o a b to) high
+multiplied_rises low high (Some s) a b to up = plain_rises low high (times s.0 s.1 to) up (times_plain s.0 s.1 to)
+multiplied_rises low high None a b to up = handed_rises low high MULTIPLY_AT RESULT a b to up
+
+divided_rises : (low high n : ℕ) (o : Option ℕ) (a b : Source) (to : ℕ) → low ≤ high → Rising low (divided n o a b to) high
+divided_rises low high n (Some k) a b to up = plain_rises low high (shifted k a to) up (shifted_plain k a to)
+divided_rises low high n None a b to up = lined_rises low high (may_be_zero b) n (handed DIVIDE_AT LEFT a b to) (handed_rises low high DIVIDE_AT LEFT a b to up)
+
 calculated_rises : (low high n : ℕ) (op : Operator) (a b : Source) (to : ℕ) → low ≤ high → Rising low (calculated n op a b to) high
 calculated_rises low high n Add a b to up = joined_rises low high up Adc a b to
 calculated_rises low high n Subtract a b to up = joined_rises low high up Sbc a b to
-calculated_rises low high n Multiply a b to up = handed_rises low high MULTIPLY_AT RESULT a b to up
-calculated_rises low high n Divide a b to up = handed_rises low high DIVIDE_AT LEFT a b to up
+calculated_rises low high n Multiply a b to up = multiplied_rises low high (scaling a b) a b to up
+calculated_rises low high n Divide a b to up = divided_rises low high n (shifts b) a b to up
 
 converted_rises : (low high n seed : ℕ) (what : Conversion) (a : Source) (to : ℕ) → low ≤ high → Rising low (converted n seed what a to) high
 converted_rises low high n seed Negated a to up = joined_rises low high up Sbc (FixedWord 0) a to
-converted_rises low high n seed Drawn a to up = handed_rises low high RANDOM_AT RESULT a (FixedWord seed) to up
+converted_rises low high n seed Drawn a to up = lined_rises low high (may_have_none a) n (handed RANDOM_AT RESULT a (FixedWord seed) to) (handed_rises low high RANDOM_AT RESULT a (FixedWord seed) to up)
 
 used_rises : (low high n : ℕ) (next : Target) (how : Usage) (a : Source) → low ≤ high → Rising low (used n next how a) high
 used_rises low high n next AsNumber (FixedWord w) up = up
@@ -107,6 +129,10 @@ module _ (ns : List ℕ) (seed n i : ℕ) (small : n < 65536) (index : i < 65536
 
   keyed : (x : Inner) → key_of (label_of (Inside x n i)) ≡ base n i + letter_of x
   keyed x = inside_key x n i small index
+
+  call_rises : (to : ℕ) (t : Bool) → Rising (base n i) (if t then called n to (next_line ns n) (Inside inner.Skip n i) (Inside inner.Behind n i) else faulted n 1) (base n (i + 1))
+  call_rises to true = (let s = keyed inner.Skip in omega (arith, s), (let s = keyed inner.Skip in let u = keyed inner.Behind in omega (arith, s, u), let u = keyed inner.Behind in omega (arith, u)))
+  call_rises to false = up
 
   template_rises : (c : Instr) → Rising (base n i) (template ns n i c) (base n (i + 1))
   template_rises (Put k w) = up
@@ -126,8 +152,8 @@ module _ (ns : List ℕ) (seed n i : ℕ) (small : n < 65536) (index : i < 65536
   template_rises Jump = up
   template_rises Call = up
   template_rises (JumpTo to) = jump_rises ns n to (base n i) (base n (i + 1)) (has_line ns to) refl up
-  template_rises (CallTo to) = call_rises ns n to (base n i) (base n (i + 1)) (has_line ns to) refl up
-  template_rises Return = up
+  template_rises (CallTo to) = call_rises to (has_line ns to)
+  template_rises Return = (let u = keyed inner.Behind in omega (arith, u), let u = keyed inner.Behind in omega (arith, u))
   template_rises End = up
 
   single_rises : (t : Bool) (c : Instr) → Rising (base n i) (if t then constant n LINE ++ template ns n i c else template ns n i c) (base n (i + 1))
@@ -152,7 +178,7 @@ module _ (ns : List ℕ) (seed n i : ℕ) (small : n < 65536) (index : i < 65536
   group_rises (Use how a) = used_rises (base n i) (base n (i + 1)) n (next_line ns n) how (source_of 0 a) up
   group_rises (Test rel a b) = test_rises rel (tested_source a) (source_of 0 b) (next_line ns n)
   group_rises (TestGo rel a b to) = gone_rises rel (tested_source a) (source_of 0 b) (has_line ns to) to
-  group_rises (Single c) = single_rises (may_fault ns c) c
+  group_rises (Single c) = single_rises (may_fault c) c
 
 rest_rises : (ns : List ℕ) (seed n i : ℕ) (gs : List Group) → n < 65536 → i + length gs ≤ 65536 → Rising (base n i) (rest_code ns seed n i gs) (base (n + 1) 0)
 rest_rises ns seed n i [] h k = omega (arith, h, k)

@@ -3,32 +3,36 @@ use Rattle.std.proofs.Common.{◌≡◌, ℕ, ◌+◌, ◌%◌, ◌/◌, Bool, t
 use Rattle.std.specs.Prelude.{option_map, if◌then◌else◌, ◌||◌, nat_lt, nat_eq}
 use Rattle.std.proofs.lemmas.Bool.Decides.{nat_tests}
 use Rattle.tb_opcodes.specs.declared.Mnemonic.{Mnemonic}
-use Rattle.tb_opcodes.specs.declared.Mnemonic.TheVariants.{Adc, Bmi, Bpl, Cmp, Lda, Sbc}
+use Rattle.tb_opcodes.specs.declared.Mnemonic.TheVariants.{Adc, Bmi, Bpl, Cmp, Lda, Sbc, Sta}
+use Rattle.tb_opcodes.specs.declared.Mode.TheVariants.{Absolute, ZeroPage}
 use Rattle.tb_words.specs.declared.Rel.{Rel}
 use Rattle.tb_words.specs.declared.Rel.TheVariants.{Eq, Lt, Gt, Le, Ge, Ne}
 use Rattle.tb_syntax.specs.declared.expressions.Operator.{Operator}
 use Rattle.tb_syntax.specs.declared.expressions.Operator.TheVariants.{Add, Subtract, Multiply, Divide}
 use Rattle.tb_asm.specs.declared.names.Name.{Name}
 use Rattle.tb_asm.specs.declared.errors.AsmErrorKind.TheVariants.{UnknownLabel}
-use Rattle.tb_asm.specs.Layout.{Entry, size, size_of, address_in}
+use Rattle.tb_asm.specs.declared.items.Operand.TheVariants.{Byte, Word}
+use Rattle.tb_asm.specs.Layout.{Entry, instr, size, size_of, address_in}
 use Rattle.tb_asm.specs.Settle.{unknown_fault}
 use Rattle.tb_lower.specs.Control.{At, has_line, next_after}
 use Rattle.tb_lower.specs.Slots.{Instr, Put, Load, Store, Negate, Compute, Random, SendText, SendNumber, SendZone, SendNewline, Input, Poll, Hold, LeaveUnless, Jump, Call, JumpTo, CallTo, Return, End, SlotCode}
 use Rattle.tb_selection.specs.Groups.{Conversion, Negated, Drawn, Usage, AsNumber, AsLine, AsSubroutine, Group, Calculate, Convert, Move, Use, Test, TestGo, Single, denied, slot_of}
 use Rattle.tb_selection.specs.Select.{select}
 use Rattle.tb_syntax.specs.Source.{numbers}
-use Rattle.tb_runtime16.specs.Places.{LEFT, RIGHT, RESULT, LINE, MULTIPLY_AT, DIVIDE_AT, RANDOM_AT, NUMBER_AT}
+use Rattle.tb_runtime16.specs.Places.{LEFT, RIGHT, RESULT, LINE, WANTED, MULTIPLY_AT, DIVIDE_AT, RANDOM_AT, NUMBER_AT}
 use Rattle.tb_templates.specs.declared.labels.Inner.TheVariants as inner
 use Rattle.tb_templates.specs.declared.labels.Target.{Target}
 use Rattle.tb_templates.specs.declared.labels.Target.TheVariants as target
 use Rattle.tb_templates.specs.Labels.{label_of}
 use Rattle.tb_templates.specs.Layout.{LabelsAt}
-use Rattle.tb_templates.specs.Templates.{template, jump, faulted, find, note, jump_through, target_of, next_line, call, copied, constant}
+use Rattle.tb_templates.specs.Templates.{slot_at, var_at, on, template, jump, faulted, called, returned, find, note, jump_through, target_of, next_line, call, copied, constant}
 use Rattle.tb_templates.specs.Sources.{Source, FixedWord, AtPlace, source_of, tested_source, home_at, destination_at}
-use Rattle.tb_templates.specs.GroupTemplates.{low_of, high_of, brought, joined, handed, calculated, converted, searched, used, equal, unequal, ordered, tested, gone, may_fault, group_template, polled}
+use Rattle.tb_templates.specs.GroupTemplates.{low_of, high_of, brought, joined, handed, multiplied, divided, calculated, converted, searched, used, equal, unequal, ordered, tested, gone, may_fault, group_template, polled, lined, may_be_zero, may_have_none, is_zero, signed, weighed}
+use Rattle.tb_templates.specs.Scaled.{scaling, times, shifts, shifted}
 use Rattle.tb_templates.specs.Program.{rest_code, list_code, line_code, lines_code, past_code, find_code, rows_code, table_code, block_code, program_code}
 use Rattle.tb_settling.specs.Settled.{AllKnown}
 use Rattle.tb_templates.proofs.Listed.{by_poll}
+use Rattle.tb_templates.proofs.Plain.{plain_known, times_plain, shifted_plain}
 
 -- ── lists one behind the other ──
 pub labels_split : (labels : List (Name × ℕ)) (a : ℕ) (xs ys : List Entry) → LabelsAt labels a (xs ++ ys) → LabelsAt labels a xs × LabelsAt labels (a + size xs) ys
@@ -102,9 +106,21 @@ module _ (labels : List (Name × ℕ)) (ns : List ℕ) (known : Known labels ns)
   jump_known n to true e = (to_label (target.Line to) (known.lines to e) ▹ tt)
   jump_known n to false e = (refl ▹ refl ▹ refl ▹ refl ▹ tt)
 
-  call_known : (n to : ℕ) (next : Target) (t : Bool) → has_line ns to ≡ t → Stands labels next → AllKnown labels (if t then note next ++ (jump (target.Line to) ∷ []) else faulted n 1)
-  call_known n to next true e h = (low_label next h ▹ refl ▹ high_label next h ▹ refl ▹ refl ▹ to_label (target.Line to) (known.lines to e) ▹ tt)
-  call_known n to next false e h = (refl ▹ refl ▹ refl ▹ refl ▹ tt)
+  call_known : (n a to : ℕ) (next skip over : Target) (t : Bool) → has_line ns to ≡ t → Stands labels next → LabelsAt labels a (if t then called n to next skip over else faulted n 1)
+      → AllKnown labels (if t then called n to next skip over else faulted n 1)
+  call_known n a to next skip over true e s h =
+      let line = to_label (target.Line to) (known.lines to e) in
+      let noted : Stands labels skip = ap is_some h.1.1.1.1.1.1.1.1.1.1.0 in
+      let behind : Stands labels over = ap is_some h.1.1.1.1.1.1.1.1.1.1.1.1.0 in
+      (refl ▹ to_label over behind ▹ refl ▹ low_label next s ▹ refl ▹ high_label next s ▹ refl ▹ refl ▹ to_label skip noted ▹ refl ▹ refl ▹ line ▹ refl ▹
+      refl ▹ refl ▹ refl ▹ refl ▹ low_label next s ▹ refl ▹ high_label next s ▹ refl ▹ refl ▹ line ▹ tt)
+  call_known n a to next skip over false e s h = (refl ▹ refl ▹ refl ▹ refl ▹ tt)
+
+  returned_known : (n a : ℕ) (over : Target) → LabelsAt labels a (returned n over) → AllKnown labels (returned n over)
+  returned_known n a over h =
+      let behind : Stands labels over = ap is_some h.1.1.1.1.1.1.1.1.1.1.1.0 in
+      (refl ▹ to_label over behind ▹ refl ▹ to_label over behind ▹ refl ▹ refl ▹ refl ▹ refl ▹ refl ▹ refl ▹ refl ▹ refl ▹
+      refl ▹ refl ▹ refl ▹ refl ▹ refl ▹ refl ▹ tt)
 
   text_known : (n i a : ℕ) (bs : List ℕ) → LabelsAt labels a (template ns n i (SendText bs)) → AllKnown labels (template ns n i (SendText bs))
   text_known n i a bs h =
@@ -113,9 +129,20 @@ module _ (labels : List (Name × ℕ)) (ns : List ℕ) (known : Known labels ns)
       (low_label (target.Inside inner.Text n i) of ▹ refl ▹ high_label (target.Inside inner.Text n i) of ▹ refl ▹ refl ▹ refl ▹ refl ▹
       to_label (target.Inside inner.Behind n i) behind ▹ refl ▹ refl ▹ refl ▹ tt)
 
+  -- by either mode of a place
+  on_known : (m : Mnemonic) (p : ℕ) → unknown_fault labels (on m p) ≡ None
+  on_known m p = by (nat_lt p 256)
+    where
+      by : (t : Bool) → unknown_fault labels (instr m (if t then ZeroPage else Absolute) (if t then Byte p else Word p)) ≡ None
+      by true = refl
+      by false = refl
+
+  copied_known : (from to : ℕ) → AllKnown labels (copied from to)
+  copied_known from to = (on_known Lda from ▹ refl ▹ on_known Lda (from + 1) ▹ refl ▹ tt)
+
   template_known : (n i a : ℕ) (c : Instr) → LabelsAt labels a (template ns n i c) → AllKnown labels (template ns n i c)
   template_known n i a (Put k w) h = (refl ▹ refl ▹ refl ▹ refl ▹ tt)
-  template_known n i a (Load k x) h = (refl ▹ refl ▹ refl ▹ refl ▹ tt)
+  template_known n i a (Load k x) h = copied_known (var_at x) (slot_at k)
   template_known n i a (Store x) h = tt
   template_known n i a (Negate k) h = tt
   template_known n i a (Compute op k) h = tt
@@ -131,8 +158,8 @@ module _ (labels : List (Name × ℕ)) (ns : List ℕ) (known : Known labels ns)
   template_known n i a Jump h = tt
   template_known n i a Call h = tt
   template_known n i a (JumpTo to) h = jump_known n to (has_line ns to) refl
-  template_known n i a (CallTo to) h = call_known n to (next_line ns n) (has_line ns to) refl (next_known n)
-  template_known n i a Return h = (refl ▹ refl ▹ tt)
+  template_known n i a (CallTo to) h = call_known n a to (next_line ns n) (target.Inside inner.Skip n i) (target.Inside inner.Behind n i) (has_line ns to) refl (next_known n) h
+  template_known n i a Return h = returned_known n a (target.Inside inner.Behind n i) h
   template_known n i a End h = (refl ▹ tt)
 
   single_known : (n i a : ℕ) (t : Bool) (c : Instr) → LabelsAt labels a (if t then constant n LINE ++ template ns n i c else template ns n i c)
@@ -150,7 +177,7 @@ module _ (labels : List (Name × ℕ)) (ns : List ℕ) (known : Known labels ns)
   high_known m (AtPlace p) = refl
 
   brought_known : (a : Source) (to : ℕ) → AllKnown labels (brought a to)
-  brought_known a to = (low_known Lda a ▹ refl ▹ high_known Lda a ▹ refl ▹ tt)
+  brought_known a to = (low_known Lda a ▹ on_known Sta to ▹ high_known Lda a ▹ on_known Sta (to + 1) ▹ tt)
 
   joined_known : (m : Mnemonic) (a b : Source) (to : ℕ) → AllKnown labels (joined m a b to)
   joined_known m a b to = (low_known Lda a ▹ low_known m b ▹ refl ▹ high_known Lda a ▹ high_known m b ▹ refl ▹ tt)
@@ -158,21 +185,33 @@ module _ (labels : List (Name × ℕ)) (ns : List ℕ) (known : Known labels ns)
   handed_known : (routine from : ℕ) (a b : Source) (to : ℕ) → AllKnown labels (handed routine from a b to)
   handed_known routine from a b to =
       known_append labels (brought a LEFT) (brought b RIGHT ++ (call routine ∷ copied from to)) (brought_known a LEFT)
-      (known_append labels (brought b RIGHT) (call routine ∷ copied from to) (brought_known b RIGHT) (refl ▹ refl ▹ refl ▹ refl ▹ refl ▹ tt))
+      (known_append labels (brought b RIGHT) (call routine ∷ copied from to) (brought_known b RIGHT) (refl ▹ copied_known from to))
+
+  lined_known : (t : Bool) (n : ℕ) (es : List Entry) → AllKnown labels es → AllKnown labels (lined t n es)
+  lined_known true n es h = (refl ▹ refl ▹ refl ▹ refl ▹ h)
+  lined_known false n es h = h
+
+  multiplied_known : (o : Option (ℕ × Source)) (a b : Source) (to : ℕ) → AllKnown labels (multiplied o a b to)
+  multiplied_known (Some s) a b to = plain_known labels (times s.0 s.1 to) (times_plain s.0 s.1 to)
+  multiplied_known None a b to = handed_known MULTIPLY_AT RESULT a b to
+
+  divided_known : (n : ℕ) (o : Option ℕ) (a b : Source) (to : ℕ) → AllKnown labels (divided n o a b to)
+  divided_known n (Some k) a b to = plain_known labels (shifted k a to) (shifted_plain k a to)
+  divided_known n None a b to = lined_known (may_be_zero b) n (handed DIVIDE_AT LEFT a b to) (handed_known DIVIDE_AT LEFT a b to)
 
   calculated_known : (n : ℕ) (op : Operator) (a b : Source) (to : ℕ) → AllKnown labels (calculated n op a b to)
   calculated_known n Add a b to = (refl ▹ joined_known Adc a b to)
   calculated_known n Subtract a b to = (refl ▹ joined_known Sbc a b to)
-  calculated_known n Multiply a b to = handed_known MULTIPLY_AT RESULT a b to
-  calculated_known n Divide a b to = (refl ▹ refl ▹ refl ▹ refl ▹ handed_known DIVIDE_AT LEFT a b to)
+  calculated_known n Multiply a b to = multiplied_known (scaling a b) a b to
+  calculated_known n Divide a b to = divided_known n (shifts b) a b to
 
   converted_known : (n seed : ℕ) (what : Conversion) (a : Source) (to : ℕ) → AllKnown labels (converted n seed what a to)
   converted_known n seed Negated a to = (refl ▹ joined_known Sbc (FixedWord 0) a to)
-  converted_known n seed Drawn a to = (refl ▹ refl ▹ refl ▹ refl ▹ handed_known RANDOM_AT RESULT a (FixedWord seed) to)
+  converted_known n seed Drawn a to = lined_known (may_have_none a) n (handed RANDOM_AT RESULT a (FixedWord seed) to) (handed_known RANDOM_AT RESULT a (FixedWord seed) to)
 
   searched_known : (n : ℕ) (a : Source) → AllKnown labels (searched n a)
   searched_known n a =
-      (refl ▹ refl ▹ refl ▹ refl ▹ known_append labels (brought a LEFT) (find ∷ []) (brought_known a LEFT) (to_label target.Find known.find ▹ tt))
+      (refl ▹ refl ▹ refl ▹ refl ▹ known_append labels (brought a WANTED) (find ∷ []) (brought_known a WANTED) (to_label target.Find known.find ▹ tt))
 
   used_known : (n : ℕ) (next : Target) (how : Usage) (a : Source) → Stands labels next → AllKnown labels (used n next how a)
   used_known n next AsNumber a h = known_append labels (brought a LEFT) (call NUMBER_AT ∷ []) (brought_known a LEFT) (refl ▹ tt)
@@ -180,8 +219,8 @@ module _ (labels : List (Name × ℕ)) (ns : List ℕ) (known : Known labels ns)
   used_known n next AsSubroutine a h =
       known_append labels (searched n a) (note next ++ jump_through) (searched_known n a) (low_label next h ▹ refl ▹ high_label next h ▹ refl ▹ refl ▹ refl ▹ tt)
 
-  ordered_known : (leaves : Mnemonic) (a b : Source) (skip next : Target) → Stands labels skip → Stands labels next → AllKnown labels (ordered leaves a b skip next)
-  ordered_known leaves a b skip next s t =
+  weighed_known : (leaves : Mnemonic) (a b : Source) (skip next : Target) → Stands labels skip → Stands labels next → AllKnown labels (weighed leaves a b skip next)
+  weighed_known leaves a b skip next s t =
       (low_known Lda a ▹ low_known Cmp b ▹ high_known Lda a ▹ high_known Sbc b ▹ to_label skip s ▹ refl ▹ refl ▹ to_label next t ▹ tt)
 
   equal_known : (a b : Source) (next : Target) → Stands labels next → AllKnown labels (equal a b next)
@@ -197,19 +236,26 @@ module _ (labels : List (Name × ℕ)) (ns : List ℕ) (known : Known labels ns)
   unequal_skip a (AtPlace p) (FixedWord w) skip next h = ap is_some h.1.1.1.1.1.1.0
   unequal_skip a (AtPlace p) (AtPlace q) skip next h = ap is_some h.1.1.1.1.1.1.0
 
-  ordered_skip : (a : ℕ) (leaves : Mnemonic) (l r : Source) (skip next : Target) → LabelsAt labels a (ordered leaves l r skip next) → Stands labels skip
-  ordered_skip a leaves (FixedWord v) (FixedWord w) skip next h = ap is_some h.1.1.1.1.1.1.0
-  ordered_skip a leaves (FixedWord v) (AtPlace q) skip next h = ap is_some h.1.1.1.1.1.1.0
-  ordered_skip a leaves (AtPlace p) (FixedWord w) skip next h = ap is_some h.1.1.1.1.1.1.0
-  ordered_skip a leaves (AtPlace p) (AtPlace q) skip next h = ap is_some h.1.1.1.1.1.1.0
+  weighed_skip : (a : ℕ) (leaves : Mnemonic) (l r : Source) (skip next : Target) → LabelsAt labels a (weighed leaves l r skip next) → Stands labels skip
+  weighed_skip a leaves (FixedWord v) (FixedWord w) skip next h = ap is_some h.1.1.1.1.1.1.0
+  weighed_skip a leaves (FixedWord v) (AtPlace q) skip next h = ap is_some h.1.1.1.1.1.1.0
+  weighed_skip a leaves (AtPlace p) (FixedWord w) skip next h = ap is_some h.1.1.1.1.1.1.0
+  weighed_skip a leaves (AtPlace p) (AtPlace q) skip next h = ap is_some h.1.1.1.1.1.1.0
+
+  ordered_known : (at : ℕ) (leaves : Mnemonic) (a b : Source) (skip next : Target) → Stands labels next → LabelsAt labels at (ordered leaves a b skip next) → AllKnown labels (ordered leaves a b skip next)
+  ordered_known at leaves a b skip next s = by (is_zero b)
+    where
+      by : (t : Bool) → LabelsAt labels at (if t then signed leaves a next else weighed leaves a b skip next) → AllKnown labels (if t then signed leaves a next else weighed leaves a b skip next)
+      by true h = (high_known Lda a ▹ to_label next s ▹ tt)
+      by false h = weighed_known leaves a b skip next (weighed_skip at leaves a b skip next h) s
 
   tested_known : (at : ℕ) (rel : Rel) (a b : Source) (skip next : Target) → Stands labels next → LabelsAt labels at (tested rel a b skip next) → AllKnown labels (tested rel a b skip next)
   tested_known at Eq a b skip next t h = equal_known a b next t
   tested_known at Ne a b skip next t h = unequal_known a b skip next (unequal_skip at a b skip next h) t
-  tested_known at Lt a b skip next t h = ordered_known Bpl a b skip next (ordered_skip at Bpl a b skip next h) t
-  tested_known at Ge a b skip next t h = ordered_known Bmi a b skip next (ordered_skip at Bmi a b skip next h) t
-  tested_known at Gt a b skip next t h = ordered_known Bpl b a skip next (ordered_skip at Bpl b a skip next h) t
-  tested_known at Le a b skip next t h = ordered_known Bmi b a skip next (ordered_skip at Bmi b a skip next h) t
+  tested_known at Lt a b skip next t h = ordered_known at Bpl a b skip next t h
+  tested_known at Ge a b skip next t h = ordered_known at Bmi a b skip next t h
+  tested_known at Gt a b skip next t h = ordered_known at Bpl b a skip next t h
+  tested_known at Le a b skip next t h = ordered_known at Bmi b a skip next t h
 
   gone_known : (n at : ℕ) (rel : Rel) (a b : Source) (skip next : Target) (t : Bool) (to : ℕ) → has_line ns to ≡ t → Stands labels next
       → LabelsAt labels at (gone n rel a b skip next t to) → AllKnown labels (gone n rel a b skip next t to)
@@ -227,7 +273,7 @@ module _ (labels : List (Name × ℕ)) (ns : List ℕ) (known : Known labels ns)
   group_known seed n i at (Test rel a b) h = tested_known at rel (tested_source a) (source_of 0 b) (target.Inside inner.Skip n i) (next_line ns n) (next_known n) h
   group_known seed n i at (TestGo rel a b to) h =
       gone_known n at rel (tested_source a) (source_of 0 b) (target.Inside inner.Skip n i) (next_line ns n) (has_line ns to) to refl (next_known n) h
-  group_known seed n i at (Single c) h = single_known n i at (may_fault ns c) c h
+  group_known seed n i at (Single c) h = single_known n i at (may_fault c) c h
 
   rest_known : (seed n i a : ℕ) (gs : List Group) → LabelsAt labels a (rest_code ns seed n i gs) → AllKnown labels (rest_code ns seed n i gs)
   rest_known seed n i a [] h = tt

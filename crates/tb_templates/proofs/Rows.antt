@@ -1,20 +1,28 @@
 -- Worked rows: the items of lines.
-use Rattle.std.specs.Prelude.{◌≡◌, ℕ, true, List, [], ◌∷◌, ◌++◌, refl}
-use Rattle.tb_opcodes.specs.declared.Mnemonic.TheVariants.{Adc, Bmi, Bne, Bpl, Bvc, Clc, Cmp, Eor, Jmp, Lda, Ldx, Ldy, Rts, Sbc, Sec, Sta}
+use Rattle.std.specs.Prelude.{◌≡◌, ℕ, true, List, [], ◌∷◌, ◌++◌, refl, false, Some, None}
+use Rattle.tb_opcodes.specs.declared.Mnemonic.{Mnemonic}
+use Rattle.tb_opcodes.specs.declared.Mode.TheVariants.{ZeroPage}
+use Rattle.tb_opcodes.specs.declared.Mnemonic.TheVariants.{Adc, Bmi, Bne, Bpl, Bvc, Clc, Cmp, Eor, Jmp, Lda, Ldx, Ldy, Rts, Sbc, Sec, Sta, And, Asl, Rol, Ror, Tax, Txa}
 use Rattle.tb_words.specs.declared.Rel.TheVariants.{Eq, Lt}
-use Rattle.tb_syntax.specs.declared.expressions.Operator.TheVariants.{Add, Divide}
+use Rattle.tb_syntax.specs.declared.expressions.Operator.TheVariants.{Add, Divide, Multiply}
 use Rattle.tb_syntax.specs.Source.{Number, Variable, Negate, Random, Value, Binary, Command, Let, Print, If, Goto, Gosub, End}
 use Rattle.tb_lower.specs.Lowered as lowered
-use Rattle.tb_asm.specs.Layout.{Entry}
+use Rattle.tb_asm.specs.declared.items.Operand.TheVariants.{Byte}
+use Rattle.tb_asm.specs.Layout.{Entry, instr}
 use Rattle.tb_runtime16.specs.Places.{LEFT, DIVIDE_AT, RANDOM_AT, NUMBER_AT, SEND_AT, PUSH_AT, FAULT_LINE_AT}
 use Rattle.tb_templates.specs.declared.labels.Inner.TheVariants.{Skip}
 use Rattle.tb_templates.specs.declared.labels.Target.TheVariants.{Line, Inside}
 use Rattle.tb_templates.specs.Templates.{at, const, alone, branch, here, call, address, find, jump_through}
+use Rattle.tb_templates.specs.Scaled.{at_zero, is_factor, on_a, shifts_of}
 use Rattle.tb_templates.specs.Program.{line_code}
 
 -- the items of a line of a program with the lines 10, 20 and 30
 abbrev items : ℕ → Command → List Entry
 items n c = line_code (10 ∷ 20 ∷ 30 ∷ []) 1 (record { number = n; content = lowered.list_code c })
+
+-- an instruction on a byte of page zero
+abbrev page_zero : Mnemonic → ℕ → Entry
+page_zero mnemonic place = instr mnemonic ZeroPage (Byte place)
 
 -- 10 LET A=B+1: the variables stand at $C000 and $C002, the line's number at $C03A
 sum : items 10 (Let 0 (Binary Add (Variable 1) (Number 1)))
@@ -28,11 +36,10 @@ negation : items 10 (Let 1 (Negate (Variable 0)))
     ∷ alone Sec ∷ const Lda 0 ∷ at Sbc 0xC000 ∷ at Sta 0xC002 ∷ const Lda 0 ∷ at Sbc 0xC001 ∷ at Sta 0xC003 ∷ []
 negation = refl
 
--- 10 LET A=RND(6), of which the first state is 1: the two go to $C062 and $C064, the number comes at $C066
+-- 10 LET A=RND(6), which cannot fault and of which the first state is 1: the two go to $FB and $FD, the number comes at $C066
 draw : items 10 (Let 0 (Random (Number 6)))
     ≡ here (Line 10) ∷ call 0xFFE4 ∷ const Cmp 3 ∷ branch Bne (Inside Skip 10 0) ∷ const Ldx 10 ∷ const Ldy 0 ∷ const Lda 0 ∷ at Jmp FAULT_LINE_AT ∷ here (Inside Skip 10 0)
-    ∷ const Lda 10 ∷ at Sta 0xC03A ∷ const Lda 0 ∷ at Sta 0xC03B
-    ∷ const Lda 6 ∷ at Sta 0xFB ∷ const Lda 0 ∷ at Sta 0xFC ∷ const Lda 1 ∷ at Sta 0xFD ∷ const Lda 0 ∷ at Sta 0xFE ∷ call RANDOM_AT
+    ∷ const Lda 6 ∷ page_zero Sta 0xFB ∷ const Lda 0 ∷ page_zero Sta 0xFC ∷ const Lda 1 ∷ page_zero Sta 0xFD ∷ const Lda 0 ∷ page_zero Sta 0xFE ∷ call RANDOM_AT
     ∷ at Lda 0xC066 ∷ at Sta 0xC000 ∷ at Lda 0xC067 ∷ at Sta 0xC001 ∷ []
 draw = refl
 
@@ -63,11 +70,40 @@ nowhere : items 20 (If (Variable 0) Eq (Number 1) (Goto (Number 40)))
     ∷ const Ldx 20 ∷ const Ldy 0 ∷ const Lda 1 ∷ at Jmp FAULT_LINE_AT ∷ []
 nowhere = refl
 
--- 30 PRINT A/B: the operands go to $C062 and $C064, the quotient comes at $C062, slot 0 stands at $C040
+-- 30 PRINT A/B: the operands go to $FB and $FD, the quotient comes at $FB, slot 0 stands at $C040
 quotient : items 30 (Print (Value (Binary Divide (Variable 0) (Variable 1)) ∷ []) true)
     ≡ here (Line 30) ∷ call 0xFFE4 ∷ const Cmp 3 ∷ branch Bne (Inside Skip 30 0) ∷ const Ldx 30 ∷ const Ldy 0 ∷ const Lda 0 ∷ at Jmp FAULT_LINE_AT ∷ here (Inside Skip 30 0)
     ∷ const Lda 30 ∷ at Sta 0xC03A ∷ const Lda 0 ∷ at Sta 0xC03B
-    ∷ at Lda 0xC000 ∷ at Sta 0xFB ∷ at Lda 0xC001 ∷ at Sta 0xFC ∷ at Lda 0xC002 ∷ at Sta 0xFD ∷ at Lda 0xC003 ∷ at Sta 0xFE ∷ call DIVIDE_AT
-    ∷ at Lda 0xFB ∷ at Sta 0xC040 ∷ at Lda 0xFC ∷ at Sta 0xC041
-    ∷ at Lda 0xC040 ∷ at Sta 0xFB ∷ at Lda 0xC041 ∷ at Sta 0xFC ∷ call NUMBER_AT ∷ const Lda 13 ∷ call SEND_AT ∷ []
+    ∷ at Lda 0xC000 ∷ page_zero Sta 0xFB ∷ at Lda 0xC001 ∷ page_zero Sta 0xFC ∷ at Lda 0xC002 ∷ page_zero Sta 0xFD ∷ at Lda 0xC003 ∷ page_zero Sta 0xFE ∷ call DIVIDE_AT
+    ∷ page_zero Lda 0xFB ∷ at Sta 0xC040 ∷ page_zero Lda 0xFC ∷ at Sta 0xC041
+    ∷ at Lda 0xC040 ∷ page_zero Sta 0xFB ∷ at Lda 0xC041 ∷ page_zero Sta 0xFC ∷ call NUMBER_AT ∷ const Lda 13 ∷ call SEND_AT ∷ []
 quotient = refl
+
+-- 10 LET A=B/2: a negative word is raised by one first, and then shifted
+half : items 10 (Let 0 (Binary Divide (Variable 1) (Number 2)))
+    ≡ here (Line 10) ∷ call 0xFFE4 ∷ const Cmp 3 ∷ branch Bne (Inside Skip 10 0) ∷ const Ldx 10 ∷ const Ldy 0 ∷ const Lda 0 ∷ at Jmp FAULT_LINE_AT ∷ here (Inside Skip 10 0)
+    ∷ at Lda 0xC003 ∷ const Cmp 128 ∷ at Lda 0xC002 ∷ const Adc 0 ∷ at_zero Sta 0xFB ∷ at Lda 0xC003 ∷ const Adc 0
+    ∷ const Cmp 128 ∷ on_a Ror ∷ at_zero Ror 0xFB ∷ at Sta 0xC001 ∷ at_zero Lda 0xFB ∷ at Sta 0xC000 ∷ []
+half = refl
+
+-- 10 LET A=B/4: by three, and two shifts
+quarter : items 10 (Let 0 (Binary Divide (Variable 1) (Number 4)))
+    ≡ here (Line 10) ∷ call 0xFFE4 ∷ const Cmp 3 ∷ branch Bne (Inside Skip 10 0) ∷ const Ldx 10 ∷ const Ldy 0 ∷ const Lda 0 ∷ at Jmp FAULT_LINE_AT ∷ here (Inside Skip 10 0)
+    ∷ at Lda 0xC003 ∷ const Cmp 128 ∷ const Lda 0 ∷ const Adc 255 ∷ const And 2 ∷ const Eor 2 ∷ at Adc 0xC002 ∷ at_zero Sta 0xFB ∷ at Lda 0xC003 ∷ const Adc 0
+    ∷ const Cmp 128 ∷ on_a Ror ∷ at_zero Ror 0xFB ∷ const Cmp 128 ∷ on_a Ror ∷ at_zero Ror 0xFB ∷ at Sta 0xC001 ∷ at_zero Lda 0xFB ∷ at Sta 0xC000 ∷ []
+quarter = refl
+
+-- 10 LET A=3*A: twice A and A, in place
+thrice : items 10 (Let 0 (Binary Multiply (Number 3) (Variable 0)))
+    ≡ here (Line 10) ∷ call 0xFFE4 ∷ const Cmp 3 ∷ branch Bne (Inside Skip 10 0) ∷ const Ldx 10 ∷ const Ldy 0 ∷ const Lda 0 ∷ at Jmp FAULT_LINE_AT ∷ here (Inside Skip 10 0)
+    ∷ at Lda 0xC001 ∷ at_zero Sta 0xFB ∷ at Lda 0xC000 ∷ on_a Asl ∷ at_zero Rol 0xFB
+    ∷ alone Clc ∷ at Adc 0xC000 ∷ alone Tax ∷ at_zero Lda 0xFB ∷ at Adc 0xC001 ∷ at_zero Sta 0xFB ∷ alone Txa ∷ at Sta 0xC000 ∷ at_zero Lda 0xFB ∷ at Sta 0xC001 ∷ []
+thrice = refl
+
+-- the divisors 2 to 64 are shifts; 1 and 128 are not
+powers : (shifts_of 1 ≡ None) × (shifts_of 2 ≡ Some 0) × (shifts_of 3 ≡ None) × (shifts_of 64 ≡ Some 5) × (shifts_of 128 ≡ None)
+powers = (refl, refl, refl, refl, refl)
+
+-- factors: 0 and 1 are not worth it, 15 has three bits that are 1 below its highest one, and 31 has one too many
+factors : (is_factor 0 ≡ false) × (is_factor 1 ≡ false) × (is_factor 2 ≡ true) × (is_factor 15 ≡ true) × (is_factor 31 ≡ false) × (is_factor 32768 ≡ true)
+factors = (refl, refl, refl, refl, refl, refl)

@@ -1,5 +1,5 @@
 -- The code of each group, as items of the assembler.
-use Rattle.std.specs.Prelude.{ℕ, ◌+◌, ◌/◌, ◌%◌, Bool, true, false, List, [], ◌∷◌, ◌++◌, if◌then◌else◌}
+use Rattle.std.specs.Prelude.{ℕ, ◌+◌, Bool, true, false, List, [], ◌∷◌, ◌++◌, if◌then◌else◌, Option, Some, None, ◌||◌, nat_eq, nat_le}
 use Rattle.tb_opcodes.specs.declared.Mnemonic.{Mnemonic}
 use Rattle.tb_opcodes.specs.declared.Mnemonic.TheVariants.{Adc, Beq, Bmi, Bne, Bpl, Bvc, Clc, Cmp, Eor, Jsr, Lda, Sbc, Sec, Sta}
 use Rattle.tb_asm.specs.Layout.{Entry}
@@ -8,30 +8,21 @@ use Rattle.tb_words.specs.declared.Rel.TheVariants.{Eq, Lt, Gt, Le, Ge, Ne}
 use Rattle.tb_syntax.specs.declared.expressions.Operator.{Operator}
 use Rattle.tb_syntax.specs.declared.expressions.Operator.TheVariants.{Add, Subtract, Multiply, Divide}
 use Rattle.tb_lower.specs.Control.{has_line}
-use Rattle.tb_lower.specs.Slots.{Instr, Input, Poll, CallTo, Return}
+use Rattle.tb_lower.specs.Slots.{Instr, Input, Poll}
 use Rattle.tb_selection.specs.Groups.{Conversion, Negated, Drawn, Usage, AsNumber, AsLine, AsSubroutine, Group, Calculate, Convert, Move, Use, Test, TestGo, Single, denied, slot_of}
 use Rattle.tb_runtime16.specs.Places.{LEFT, RIGHT, RESULT, WANTED, LINE, GETIN, MULTIPLY_AT, DIVIDE_AT, RANDOM_AT, NUMBER_AT}
 use Rattle.tb_templates.specs.declared.labels.Inner.TheVariants.{Skip}
 use Rattle.tb_templates.specs.declared.labels.Target.{Target}
 use Rattle.tb_templates.specs.declared.labels.Target.TheVariants.{Inside, Line}
-use Rattle.tb_templates.specs.Templates.{at, const, alone, branch, here, call, copied, constant, faulted, find, note, jump_through, next_line, template}
+use Rattle.tb_templates.specs.Templates.{at, on, const, alone, branch, here, call, copied, constant, faulted, find, note, jump_through, next_line, template}
 use Rattle.tb_templates.specs.Sources.{Source, FixedWord, AtPlace, source_of, tested_source, home_at, destination_at}
-
--- ── single instructions ──
--- an instruction on the low byte of a word
-abbrev pub low_of : Mnemonic → Source → Entry
-low_of mnemonic (FixedWord w) = const mnemonic (w % 256)
-low_of mnemonic (AtPlace p) = at mnemonic p
-
--- an instruction on the high byte of a word
-abbrev pub high_of : Mnemonic → Source → Entry
-high_of mnemonic (FixedWord w) = const mnemonic (w / 256)
-high_of mnemonic (AtPlace p) = at mnemonic (p + 1)
+pub use Rattle.tb_templates.specs.Sources.{low_of, high_of}
+use Rattle.tb_templates.specs.Scaled.{scaling, times, shifts, shifted}
 
 -- ── words ──
 -- a word to a place
 abbrev pub brought : Source → ℕ → List Entry
-brought a to = low_of Lda a ∷ at Sta to ∷ high_of Lda a ∷ at Sta (to + 1) ∷ []
+brought a to = low_of Lda a ∷ on Sta to ∷ high_of Lda a ∷ on Sta (to + 1) ∷ []
 
 -- two words joined byte by byte, with C from the low bytes to the high ones
 abbrev pub joined : Mnemonic → Source → Source → ℕ → List Entry
@@ -49,18 +40,41 @@ taken a b to = alone Sec ∷ joined Sbc a b to
 abbrev pub handed : ℕ → ℕ → Source → Source → ℕ → List Entry
 handed routine from a b to = brought a LEFT ++ (brought b RIGHT ++ (call routine ∷ copied from to))
 
--- a calculation of line n; a division may fault, and so sets the line's number first
+-- code with the line's number set before it where it may fault
+abbrev pub lined : Bool → ℕ → List Entry → List Entry
+lined true n es = constant n LINE ++ es
+lined false n es = es
+
+-- whether a division by this word may fault, and whether a draw below it may: of a constant that is known
+abbrev pub may_be_zero : Source → Bool
+may_be_zero (FixedWord w) = nat_eq w 0
+may_be_zero (AtPlace p) = true
+
+abbrev pub may_have_none : Source → Bool
+may_have_none (FixedWord w) = nat_eq w 0 || nat_le 32768 w
+may_have_none (AtPlace p) = true
+
+-- a product: of a constant and a word by the constant's bits, where they are few, and else by the routine
+abbrev pub multiplied : Option (ℕ × Source) → Source → Source → ℕ → List Entry
+multiplied (Some scaled) a b to = times scaled.0 scaled.1 to
+multiplied None a b to = handed MULTIPLY_AT RESULT a b to
+
+-- a quotient of line n: over 2^(k + 1) by shifts; any other by the routine
+abbrev pub divided : ℕ → Option ℕ → Source → Source → ℕ → List Entry
+divided n (Some k) a b to = shifted k a to
+divided n None a b to = lined (may_be_zero b) n (handed DIVIDE_AT LEFT a b to)
+
+-- a calculation of line n
 abbrev pub calculated : ℕ → Operator → Source → Source → ℕ → List Entry
 calculated n Add a b to = summed a b to
 calculated n Subtract a b to = taken a b to
-calculated n Multiply a b to = handed MULTIPLY_AT RESULT a b to
-calculated n Divide a b to = constant n LINE ++ handed DIVIDE_AT LEFT a b to
+calculated n Multiply a b to = multiplied (scaling a b) a b to
+calculated n Divide a b to = divided n (shifts b) a b to
 
--- a word made of one in line n: 0 minus it, or a random number below it, where the first state is the seed; a draw may
--- fault, and so sets the line's number first
+-- a word made of one in line n: 0 minus it, or a random number below it, where the first state is the seed
 abbrev pub converted : ℕ → ℕ → Conversion → Source → ℕ → List Entry
 converted n seed Negated a to = taken (FixedWord 0) a to
-converted n seed Drawn a to = constant n LINE ++ handed RANDOM_AT RESULT a (FixedWord seed) to
+converted n seed Drawn a to = lined (may_have_none a) n (handed RANDOM_AT RESULT a (FixedWord seed) to)
 
 -- the search in the line table for a word: it may fault, and so the line's number is set first
 abbrev pub searched : ℕ → Source → List Entry
@@ -81,10 +95,23 @@ equal a b next = low_of Lda a ∷ low_of Cmp b ∷ branch Bne next ∷ high_of L
 abbrev pub unequal : Source → Source → Target → Target → List Entry
 unequal a b stays next = low_of Lda a ∷ low_of Cmp b ∷ branch Bne stays ∷ high_of Lda a ∷ high_of Cmp b ∷ branch Beq next ∷ here stays ∷ []
 
--- the order of two signed words: N, turned where V is set, is whether a is below b; by it a branch goes to the next line
-abbrev pub ordered : Mnemonic → Source → Source → Target → Target → List Entry
-ordered leaves a b skip next =
+-- whether a word is a constant 0
+abbrev pub is_zero : Source → Bool
+is_zero (FixedWord w) = nat_eq w 0
+is_zero (AtPlace p) = false
+
+-- the sign of a word is whether it is below 0; by it a branch goes to the next line
+abbrev pub signed : Mnemonic → Source → Target → List Entry
+signed leaves a next = high_of Lda a ∷ branch leaves next ∷ []
+
+-- N behind the difference of two signed words, turned where V is set, is whether a is below b
+abbrev pub weighed : Mnemonic → Source → Source → Target → Target → List Entry
+weighed leaves a b skip next =
     low_of Lda a ∷ low_of Cmp b ∷ high_of Lda a ∷ high_of Sbc b ∷ branch Bvc skip ∷ const Eor 128 ∷ here skip ∷ branch leaves next ∷ []
+
+-- the order of two signed words
+abbrev pub ordered : Mnemonic → Source → Source → Target → Target → List Entry
+ordered leaves a b skip next = if is_zero b then signed leaves a next else weighed leaves a b skip next
 
 -- leaves the line unless two words are so related
 abbrev pub tested : Rel → Source → Source → Target → Target → List Entry
@@ -102,18 +129,15 @@ gone n rel a b skip next true to = tested (denied rel) a b skip (Line to)
 gone n rel a b skip next false to = tested rel a b skip next ++ faulted n 1
 
 -- ── templates ──
--- whether a routine that a single instruction of a program with these line numbers calls may fault: then the line's
--- number is set first
-abbrev pub may_fault : List ℕ → Instr → Bool
-may_fault numbers (Input x) = true
-may_fault numbers Poll = true
-may_fault numbers (CallTo to) = has_line numbers to
-may_fault numbers Return = true
-may_fault numbers _ = false
+-- whether a routine that a single instruction calls in any case may fault: then the line's number is set first
+abbrev pub may_fault : Instr → Bool
+may_fault (Input x) = true
+may_fault Poll = true
+may_fault _ = false
 
 -- the code of a single instruction, with the line's number before it where it may fault
 abbrev pub single : List ℕ → ℕ → ℕ → Instr → List Entry
-single numbers n i c = if may_fault numbers c then constant n LINE ++ template numbers n i c else template numbers n i c
+single numbers n i c = if may_fault c then constant n LINE ++ template numbers n i c else template numbers n i c
 
 -- the code of group i of line n, from 1 on, where the program has these numbers and the option's RND state is the seed
 abbrev pub group_template : List ℕ → ℕ → ℕ → ℕ → Group → List Entry

@@ -10,10 +10,10 @@ room (Put k w) = 10
 room (Load k x) = 12
 room (Store x) = 12
 room (Negate k) = 17
-room (Compute op k) = 49
-room (Random k) = 47
+room (Compute op k) = 76
+room (Random k) = 43
 room (SendText bs) = 19 + length bs
-room SendNumber = 15
+room SendNumber = 13
 room SendZone = 3
 room SendNewline = 5
 room (Input x) = 25
@@ -21,10 +21,10 @@ room Poll = 19
 room Hold = 12
 room (LeaveUnless rel) = 24
 room Jump = 28
-room Call = 41
+room Call = 39
 room (JumpTo target) = 9
-room (CallTo target) = 26
-room Return = 16
+room (CallTo target) = 59
+room Return = 51
 room End = 1
 
 -- of a list

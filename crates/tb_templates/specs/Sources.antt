@@ -1,9 +1,11 @@
 -- Where the operands of a group come from, and where its result goes.
-use Rattle.std.specs.Prelude.{ℕ, ◌+◌, ◌<◌}
+use Rattle.std.specs.Prelude.{ℕ, ◌+◌, ◌/◌, ◌%◌, ◌<◌}
+use Rattle.tb_opcodes.specs.declared.Mnemonic.{Mnemonic}
+use Rattle.tb_asm.specs.Layout.{Entry}
 use Rattle.tb_words.specs.Words.{word}
 use Rattle.tb_selection.specs.Groups.{Operand, Constant, Variable, InSlot, Home, IntoVariable, IntoHeld, Destination, IntoSlot, IntoHome, Tested, HeldBefore, HeldNow}
 use Rattle.tb_runtime16.specs.Places.{HELD}
-use Rattle.tb_templates.specs.Templates.{var_at, slot_at}
+use Rattle.tb_templates.specs.Templates.{at, const, var_at, slot_at}
 pub use Rattle.tb_templates.specs.declared.sources.Source.{Source}
 pub use Rattle.tb_templates.specs.declared.sources.Source.TheVariants.{FixedWord, AtPlace}
 
@@ -32,3 +34,13 @@ destination_at (IntoHome home) = home_at home
 abbrev pub IsWhole : Source → Type 0
 IsWhole (FixedWord w) = Unit {0}
 IsWhole (AtPlace p) = p + 1 < 65536
+
+-- an instruction on the low byte of a word
+abbrev pub low_of : Mnemonic → Source → Entry
+low_of mnemonic (FixedWord w) = const mnemonic (w % 256)
+low_of mnemonic (AtPlace p) = at mnemonic p
+
+-- an instruction on the high byte of a word
+abbrev pub high_of : Mnemonic → Source → Entry
+high_of mnemonic (FixedWord w) = const mnemonic (w / 256)
+high_of mnemonic (AtPlace p) = at mnemonic (p + 1)

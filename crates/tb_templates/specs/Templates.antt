@@ -1,14 +1,16 @@
 -- The code of slot instructions that stand alone, as items of the assembler.
-use Rattle.std.specs.Prelude.{ℕ, ◌+◌, ◌*◌, ◌/◌, ◌%◌, List, [], ◌∷◌, ◌++◌, length, if◌then◌else◌}
+use Rattle.std.specs.Prelude.{ℕ, ◌+◌, ◌*◌, ◌/◌, ◌%◌, List, [], ◌∷◌, ◌++◌, length, nat_lt, if◌then◌else◌}
 use Rattle.tb_opcodes.specs.declared.Mnemonic.{Mnemonic}
-use Rattle.tb_opcodes.specs.declared.Mnemonic.TheVariants.{Jmp, Jsr, Lda, Ldx, Ldy, Rts, Sta}
-use Rattle.tb_opcodes.specs.declared.Mode.TheVariants.{Implied, Immediate, ZeroPage, Relative, Absolute, Indirect}
+use Rattle.tb_opcodes.specs.declared.Mnemonic.TheVariants.{Beq, Bne, Dex, Inc, Jmp, Jsr, Lda, Ldx, Ldy, Rts, Sta, Stx}
+use Rattle.tb_opcodes.specs.declared.Mode.{Mode}
+use Rattle.tb_opcodes.specs.declared.Mode.TheVariants.{Implied, Immediate, ZeroPage, Relative, Absolute, AbsoluteX, Indirect}
+use Rattle.tb_asm.specs.declared.items.Operand.{Operand}
 use Rattle.tb_asm.specs.declared.items.Operand.TheVariants.{Nothing, Byte, Word, Label, LowOf, HighOf}
 use Rattle.tb_asm.specs.Layout.{Entry, instr, label, bytes}
 use Rattle.tb_words.specs.Words.{word}
 use Rattle.tb_lower.specs.Control.{Place, At, Past, next_after, has_line}
 use Rattle.tb_lower.specs.Slots.{Instr, Put, Load, Store, Negate, Compute, Random, SendText, SendNumber, SendZone, SendNewline, Input, Poll, Hold, LeaveUnless, Jump, Call, JumpTo, CallTo, Return, End}
-use Rattle.tb_runtime16.specs.Places.{POINTER, LENGTH, LEFT, RESULT, VARS, SLOTS, SEND_AT, TEXT_AT, ZONE_AT, INPUT_AT, PUSH_AT, POP_AT, FAULT_LINE_AT, POLL_AT}
+use Rattle.tb_runtime16.specs.Places.{POINTER, LENGTH, LEFT, RESULT, LINE, NOTES, NOTE_LOW, NOTE_HIGH, VARS, SLOTS, SEND_AT, TEXT_AT, ZONE_AT, INPUT_AT, PUSH_AT, POP_AT, FAULT_LINE_AT, POLL_AT}
 use Rattle.tb_templates.specs.declared.labels.Inner.TheVariants as inner
 use Rattle.tb_templates.specs.declared.labels.Target.{Target}
 use Rattle.tb_templates.specs.declared.labels.Target.TheVariants as target
@@ -27,6 +29,21 @@ slot_at k = SLOTS + 2 * k
 abbrev pub at : Mnemonic → ℕ → Entry
 at mnemonic address = instr mnemonic Absolute (Word address)
 
+-- how the byte at an address is reached: page zero has a mode of its own
+abbrev pub mode_at : ℕ → Mode
+mode_at address = if nat_lt address 256 then ZeroPage else Absolute
+
+abbrev pub operand_at : ℕ → Operand
+operand_at address = if nat_lt address 256 then Byte address else Word address
+
+-- an instruction on the byte at an address, in the shortest mode
+abbrev pub on : Mnemonic → ℕ → Entry
+on mnemonic address = instr mnemonic (mode_at address) (operand_at address)
+
+-- an instruction on the byte behind an address by X
+abbrev pub by_x : Mnemonic → ℕ → Entry
+by_x mnemonic address = instr mnemonic AbsoluteX (Word address)
+
 -- an instruction with a constant byte as its immediate operand
 abbrev pub const : Mnemonic → ℕ → Entry
 const mnemonic byte = instr mnemonic Immediate (Byte byte)
@@ -34,6 +51,13 @@ const mnemonic byte = instr mnemonic Immediate (Byte byte)
 -- an instruction without an operand
 abbrev pub alone : Mnemonic → Entry
 alone mnemonic = instr mnemonic Implied Nothing
+
+-- loads of the two bytes of a label's address
+abbrev pub low_part : Target → Entry
+low_part of = instr Lda Immediate (LowOf (label_of of))
+
+abbrev pub high_part : Target → Entry
+high_part of = instr Lda Immediate (HighOf (label_of of))
 
 -- a branch to a label
 abbrev pub branch : Mnemonic → Target → Entry
@@ -52,17 +76,17 @@ abbrev pub call : ℕ → Entry
 call routine = at Jsr routine
 
 -- ── pieces ──
--- copies a word
+-- copies a word to a place behind page zero
 abbrev pub copied : ℕ → ℕ → List Entry
-copied from to = at Lda from ∷ at Sta to ∷ at Lda (from + 1) ∷ at Sta (to + 1) ∷ []
+copied from to = on Lda from ∷ at Sta to ∷ on Lda (from + 1) ∷ at Sta (to + 1) ∷ []
 
 -- stores a constant word
 abbrev pub constant : ℕ → ℕ → List Entry
 constant w to = const Lda (w % 256) ∷ at Sta to ∷ const Lda (w / 256) ∷ at Sta (to + 1) ∷ []
 
--- stores the address of a label as a word
+-- stores the address of a label as a word of page zero
 abbrev pub address : Target → ℕ → List Entry
-address of to = instr Lda Immediate (LowOf (label_of of)) ∷ at Sta to ∷ instr Lda Immediate (HighOf (label_of of)) ∷ at Sta (to + 1) ∷ []
+address of to = low_part of ∷ instr Sta ZeroPage (Byte to) ∷ high_part of ∷ instr Sta ZeroPage (Byte (to + 1)) ∷ []
 
 -- goes on where a note or the search said
 abbrev pub jump_through : List Entry
@@ -80,9 +104,29 @@ find = instr Jsr Absolute (Label (label_of target.Find))
 abbrev pub note : Target → List Entry
 note next = address next LEFT ++ (call PUSH_AT ∷ [])
 
--- the address of a text into the pointer
-abbrev pub pointed : Target → List Entry
-pointed of = instr Lda Immediate (LowOf (label_of of)) ∷ instr Sta ZeroPage (Byte POINTER) ∷ instr Lda Immediate (HighOf (label_of of)) ∷ instr Sta ZeroPage (Byte (POINTER + 1)) ∷ []
+-- a branch by whether a byte is 0, which stays in X
+abbrev pub by_zero : Mnemonic → ℕ → Target → List Entry
+by_zero mnemonic place to = at Ldx place ∷ branch mnemonic to ∷ []
+
+-- a note's two bytes go behind the others, and the low byte of their count goes up
+abbrev pub note_stored : Target → List Entry
+note_stored next = at Ldx NOTES ∷ low_part next ∷ by_x Sta NOTE_LOW ∷ high_part next ∷ by_x Sta NOTE_HIGH ∷ at Inc NOTES ∷ []
+
+-- a carry goes to the count's high byte
+abbrev pub carried : Target → List Entry
+carried skip = branch Bne skip ∷ at Inc (NOTES + 1) ∷ here skip ∷ []
+
+-- notes the next line in line where the count of notes has a low byte alone; else it goes to `over`
+abbrev pub noted : (next skip over : Target) → List Entry
+noted next skip over = by_zero Bne (NOTES + 1) over ++ (note_stored next ++ carried skip)
+
+-- X is the low byte of the count of notes: it goes down, and the newest note's two bytes go to the result
+abbrev pub note_taken : List Entry
+note_taken = alone Dex ∷ at Stx NOTES ∷ by_x Lda NOTE_LOW ∷ at Sta RESULT ∷ by_x Lda NOTE_HIGH ∷ at Sta (RESULT + 1) ∷ []
+
+-- takes the newest note in line and goes on there, where it is one of the first 255; else it goes to `over`
+abbrev pub taken_back : Target → List Entry
+taken_back over = by_zero Bne (NOTES + 1) over ++ (by_zero Beq NOTES over ++ (note_taken ++ jump_through))
 
 -- the call that sends a text of that length
 abbrev pub text_call : ℕ → List Entry
@@ -94,7 +138,7 @@ inline of behind bs = jump behind ∷ here of ∷ bytes bs ∷ here behind ∷ [
 
 -- a text inside the code, sent
 abbrev pub text : Target → Target → List ℕ → List Entry
-text of behind bs = pointed of ++ (text_call (length bs) ++ inline of behind bs)
+text of behind bs = address of POINTER ++ (text_call (length bs) ++ inline of behind bs)
 
 -- ── templates ──
 -- the code of a place: its line, or what stands behind the last one
@@ -110,9 +154,19 @@ next_line numbers n = target_of (next_after numbers n)
 abbrev pub jump_to : List ℕ → ℕ → ℕ → List Entry
 jump_to numbers n to = if has_line numbers to then jump (target.Line to) ∷ [] else faulted n 1
 
--- notes the next line and goes from line n to a constant line; fault 1 where the program has no such line
-abbrev pub call_to : List ℕ → ℕ → ℕ → Target → List Entry
-call_to numbers n to next = if has_line numbers to then note next ++ (jump (target.Line to) ∷ []) else faulted n 1
+-- notes the next line and goes from line n to another; the routine may fault, and so the line's number is set before it
+abbrev pub called : ℕ → ℕ → (next skip over : Target) → List Entry
+called n to next skip over =
+    noted next skip over ++ (jump (target.Line to) ∷ here over ∷ (constant n LINE ++ (note next ++ (jump (target.Line to) ∷ []))))
+
+-- the same in group i, to a constant line; fault 1 where the program has no such line
+abbrev pub call_to : List ℕ → ℕ → ℕ → ℕ → Target → List Entry
+call_to numbers n i to next =
+    if has_line numbers to then called n to next (target.Inside inner.Skip n i) (target.Inside inner.Behind n i) else faulted n 1
+
+-- goes from line n to where the newest note says
+abbrev pub returned : ℕ → Target → List Entry
+returned n over = taken_back over ++ (here over ∷ (constant n LINE ++ (call POP_AT ∷ jump_through)))
 
 -- the code of a single instruction, which is group i of line n, where the program has these numbers. What has another
 -- kind of group has no code here.
@@ -134,6 +188,6 @@ template numbers n i (LeaveUnless rel) = []
 template numbers n i Jump = []
 template numbers n i Call = []
 template numbers n i (JumpTo to) = jump_to numbers n to
-template numbers n i (CallTo to) = call_to numbers n to (next_line numbers n)
-template numbers n i Return = call POP_AT ∷ jump_through
+template numbers n i (CallTo to) = call_to numbers n i to (next_line numbers n)
+template numbers n i Return = returned n (target.Inside inner.Behind n i)
 template numbers n i End = alone Rts ∷ []

@@ -11,16 +11,21 @@ ghost use Rattle.tb_runtime16.specs.Places as places;
 ghost use Rattle.tb_templates.specs.declared.labels.Inner.TheVariants.{Skip};
 ghost use Rattle.tb_templates.specs.declared.labels.Target.TheVariants.{Inside};
 ghost use Rattle.tb_templates.specs.Templates as templates;
+ghost use Rattle.tb_templates.specs.Sources as sources;
 ghost use Rattle.tb_templates.specs.Sources.{IsWhole};
 ghost use Rattle.tb_templates.specs.GroupTemplates as groups;
+ghost use Rattle.tb_templates.specs.Scaled.{scaling, shifts};
 ghost use Rattle.tb_templates.specs.Program.{RisingFrom};
 
 use crate::labels::{Inner, Target};
 use crate::pieces::{
     put_alone, put_at, put_branch, put_call, put_const, put_constant, put_copied, put_faulted,
-    put_find, put_here, put_jump_through, put_note,
+    put_find, put_here, put_jump_through, put_note, put_on,
 };
-use crate::sources::{Source, destination_at, home_at, slot_of, source_of, tested_source};
+use crate::scaled::{put_shifted, put_times, scaling, shifts};
+use crate::sources::{
+    Source, destination_at, home_at, put_high, put_low, slot_of, source_of, tested_source,
+};
 use crate::templates::{NO_LINE, Spot, has_number, put_instruction};
 use std::alloc::AllocError;
 use tb_asm::Item;
@@ -40,36 +45,15 @@ const STOP: u8 = 3;
 // The fault of the STOP key.
 const BREAK: u8 = 0;
 
-// An instruction on the low byte of a word.
-fn put_low(items: &mut Vec<Item>, mnemonic: Mnemonic, word: Source) -> Result<(), AllocError>
-    ensures { OnOk result (map entry_of items.new.items ≡ map entry_of items.old.items ++ groups.low_of mnemonic word ∷ []) }
-{
-    match word {
-        Source::FixedWord(word) => put_const(items, mnemonic, (word % 256) as u8),
-        Source::AtPlace(place) => put_at(items, mnemonic, place),
-    }
-}
-
-// An instruction on the high byte of a word.
-fn put_high(items: &mut Vec<Item>, mnemonic: Mnemonic, word: Source) -> Result<(), AllocError>
-    requires { IsWhole word }
-    ensures { OnOk result (map entry_of items.new.items ≡ map entry_of items.old.items ++ groups.high_of mnemonic word ∷ []) }
-{
-    match word {
-        Source::FixedWord(word) => put_const(items, mnemonic, (word / 256) as u8),
-        Source::AtPlace(place) => put_at(items, mnemonic, place + 1),
-    }
-}
-
 // A word to a place.
 fn put_brought(items: &mut Vec<Item>, word: Source, to: u16) -> Result<(), AllocError>
     requires { IsWhole word × (to < 65535) }
     ensures { OnOk result (map entry_of items.new.items ≡ map entry_of items.old.items ++ groups.brought word to) }
 {
     put_low(items, Mnemonic::Lda, word)?;
-    put_at(items, Mnemonic::Sta, to)?;
+    put_on(items, Mnemonic::Sta, to)?;
     put_high(items, Mnemonic::Lda, word)?;
-    put_at(items, Mnemonic::Sta, to + 1)
+    put_on(items, Mnemonic::Sta, to + 1)
 }
 
 // Two words joined byte by byte.
@@ -128,22 +112,101 @@ fn put_handed(
     Ok(())
 }
 
-// What a routine makes of two words. It may fault, and so the line's number is set first.
-fn put_risky(
+// The line's number, where what follows may fault.
+fn put_lined(items: &mut Vec<Item>, may_fault: bool, line: u16) -> Result<(), AllocError>
+    ensures { OnOk result (map entry_of items.new.items ≡ map entry_of items.old.items ++ groups.lined may_fault line []) }
+{
+    if may_fault {
+        put_constant(items, line, LINE)
+    } else {
+        Ok(())
+    }
+}
+
+// Whether a division by this word may fault.
+fn may_be_zero(word: Source) -> bool
+    ensures { result ≡ groups.may_be_zero word }
+{
+    match word {
+        Source::FixedWord(word) => word == 0,
+        Source::AtPlace(_) => true,
+    }
+}
+
+// Whether a draw below this word may fault.
+fn may_have_none(word: Source) -> bool
+    ensures { result ≡ groups.may_have_none word }
+{
+    match word {
+        Source::FixedWord(word) => word == 0 || 32768 <= word,
+        Source::AtPlace(_) => true,
+    }
+}
+
+// The quotient of two words.
+fn put_quotient(
     items: &mut Vec<Item>,
     line: u16,
-    routine: Routine,
-    from: u16,
     left: Source,
     right: Source,
     to: u16,
 ) -> Result<(), AllocError>
-    requires { IsWhole left × IsWhole right × (from < 65535) × (to < 65535) }
-    ensures { OnOk result (map entry_of items.new.items ≡ map entry_of items.old.items ++ (templates.constant line places.LINE ++ groups.handed (places.entry_of routine) from left right to)) }
+    requires { IsWhole left × IsWhole right × (to < 65535) }
+    ensures { OnOk result (map entry_of items.new.items ≡ map entry_of items.old.items ++ groups.lined (groups.may_be_zero right) line (groups.handed places.DIVIDE_AT places.LEFT left right to)) }
 {
-    put_constant(items, line, LINE)?;
-    put_handed(items, routine, from, left, right, to)?;
+    put_lined(items, may_be_zero(right), line)?;
+    put_handed(items, Routine::Divide, LEFT, left, right, to)?;
     Ok(())
+}
+
+// A random number below a word; the seed is the option's RND state.
+fn put_drawn(
+    items: &mut Vec<Item>,
+    line: u16,
+    seed: u16,
+    bound: Source,
+    to: u16,
+) -> Result<(), AllocError>
+    requires { IsWhole bound × (to < 65535) }
+    ensures { OnOk result (map entry_of items.new.items ≡ map entry_of items.old.items ++ groups.lined (groups.may_have_none bound) line (groups.handed places.RANDOM_AT places.RESULT bound (sources.FixedWord seed) to)) }
+{
+    put_lined(items, may_have_none(bound), line)?;
+    let seed = Source::FixedWord(seed);
+    put_handed(items, Routine::Random, RESULT, bound, seed, to)?;
+    Ok(())
+}
+
+// A product: of a constant and a word by the constant's bits, where they are few.
+fn put_multiplied(
+    items: &mut Vec<Item>,
+    left: Source,
+    right: Source,
+    to: u16,
+) -> Result<(), AllocError>
+    requires { IsWhole left × IsWhole right × (to < 65535) }
+    ensures { OnOk result (map entry_of items.new.items ≡ map entry_of items.old.items ++ groups.multiplied (scaling left right) left right to) }
+{
+    match scaling(left, right) {
+        Some((factor, word)) => put_times(items, factor, word, to),
+        None => put_handed(items, Routine::Multiply, RESULT, left, right, to),
+    }
+}
+
+// A quotient of a line: over a power of two by shifts.
+fn put_divided(
+    items: &mut Vec<Item>,
+    line: u16,
+    left: Source,
+    right: Source,
+    to: u16,
+) -> Result<(), AllocError>
+    requires { IsWhole left × IsWhole right × (to < 65535) }
+    ensures { OnOk result (map entry_of items.new.items ≡ map entry_of items.old.items ++ groups.divided line (shifts right) left right to) }
+{
+    match shifts(right) {
+        Some(more) => put_shifted(items, more, left, to),
+        None => put_quotient(items, line, left, right, to),
+    }
 }
 
 // A calculation of a line.
@@ -161,8 +224,8 @@ fn put_calculated(
     match operator {
         Operator::Add => put_summed(items, left, right, to),
         Operator::Subtract => put_taken(items, left, right, to),
-        Operator::Multiply => put_handed(items, Routine::Multiply, RESULT, left, right, to),
-        Operator::Divide => put_risky(items, line, Routine::Divide, LEFT, left, right, to),
+        Operator::Multiply => put_multiplied(items, left, right, to),
+        Operator::Divide => put_divided(items, line, left, right, to),
     }
 }
 
@@ -180,10 +243,7 @@ fn put_converted(
 {
     match conversion {
         Conversion::Negated => put_taken(items, Source::FixedWord(0), word, to),
-        Conversion::Drawn => {
-            let seed = Source::FixedWord(seed);
-            put_risky(items, line, Routine::Random, RESULT, word, seed, to)
-        }
+        Conversion::Drawn => put_drawn(items, line, seed, word, to),
     }
 }
 
@@ -290,6 +350,52 @@ fn put_unequal(
     put_here(items, stays)
 }
 
+// Whether a word is a constant 0.
+fn is_zero(word: Source) -> bool
+    ensures { result ≡ groups.is_zero word }
+{
+    match word {
+        Source::FixedWord(word) => word == 0,
+        Source::AtPlace(_) => false,
+    }
+}
+
+// The sign of a word, and the branch that leaves the line by it.
+fn put_signed(
+    items: &mut Vec<Item>,
+    leaves: Mnemonic,
+    word: Source,
+    next: Target,
+) -> Result<(), AllocError>
+    requires { IsWhole word }
+    ensures { OnOk result (map entry_of items.new.items ≡ map entry_of items.old.items ++ groups.signed leaves word next) }
+{
+    put_high(items, Mnemonic::Lda, word)?;
+    put_branch(items, leaves, next)
+}
+
+// The order of two signed words by their difference, and the branch that leaves the line by it.
+fn put_weighed(
+    items: &mut Vec<Item>,
+    leaves: Mnemonic,
+    left: Source,
+    right: Source,
+    skip: Target,
+    next: Target,
+) -> Result<(), AllocError>
+    requires { IsWhole left × IsWhole right }
+    ensures { OnOk result (map entry_of items.new.items ≡ map entry_of items.old.items ++ groups.weighed leaves left right skip next) }
+{
+    put_low(items, Mnemonic::Lda, left)?;
+    put_low(items, Mnemonic::Cmp, right)?;
+    put_high(items, Mnemonic::Lda, left)?;
+    put_high(items, Mnemonic::Sbc, right)?;
+    put_branch(items, Mnemonic::Bvc, skip)?;
+    put_const(items, Mnemonic::Eor, 128)?;
+    put_here(items, skip)?;
+    put_branch(items, leaves, next)
+}
+
 // The order of two signed words, and the branch that leaves the line by it.
 fn put_ordered(
     items: &mut Vec<Item>,
@@ -302,14 +408,11 @@ fn put_ordered(
     requires { IsWhole left × IsWhole right }
     ensures { OnOk result (map entry_of items.new.items ≡ map entry_of items.old.items ++ groups.ordered leaves left right skip next) }
 {
-    put_low(items, Mnemonic::Lda, left)?;
-    put_low(items, Mnemonic::Cmp, right)?;
-    put_high(items, Mnemonic::Lda, left)?;
-    put_high(items, Mnemonic::Sbc, right)?;
-    put_branch(items, Mnemonic::Bvc, skip)?;
-    put_const(items, Mnemonic::Eor, 128)?;
-    put_here(items, skip)?;
-    put_branch(items, leaves, next)
+    if is_zero(right) {
+        put_signed(items, leaves, left, next)
+    } else {
+        put_weighed(items, leaves, left, right, skip, next)
+    }
 }
 
 // Leaves the line unless two words are so related.
@@ -392,16 +495,11 @@ fn put_gone(
     }
 }
 
-// Whether a routine that a single instruction of a program with these line numbers calls may fault.
-fn may_fault(numbers: &[u16], instruction: &SlotInstr) -> bool
-    requires rising { RisingFrom 0 numbers.now }
-    ensures { result ≡ groups.may_fault numbers.now (instr_of instruction.now) }
+// Whether a routine that a single instruction calls in any case may fault.
+fn may_fault(instruction: &SlotInstr) -> bool
+    ensures { result ≡ groups.may_fault (instr_of instruction.now) }
 {
-    match instruction {
-        SlotInstr::Input(_) | SlotInstr::Poll | SlotInstr::Return => true,
-        SlotInstr::CallTo(to) => has_number(numbers, *to),
-        _ => false,
-    }
+    matches!(instruction, SlotInstr::Input(_) | SlotInstr::Poll)
 }
 
 // A single instruction; where a routine that it calls may fault, it sets the line's number first.
@@ -416,7 +514,7 @@ fn put_single(
     requires next { spot.next ≡ templates.next_line numbers.now spot.line }
     ensures { OnOk result (map entry_of items.new.items ≡ map entry_of items.old.items ++ groups.single numbers.now spot.line spot.index (instr_of instruction.now)) }
 {
-    if may_fault(numbers, instruction) {
+    if may_fault(instruction) {
         put_constant(items, spot.line, LINE)?;
     }
     put_instruction(items, numbers, spot, instruction)

@@ -11,7 +11,7 @@ use tb_asm::Name;
 pub enum Inner {
     /// A text.
     Text,
-    /// What is behind a text.
+    /// What is behind a text, or behind what is done in line.
     Behind,
     /// What a branch skips to.
     Skip,

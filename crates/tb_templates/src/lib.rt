@@ -5,6 +5,7 @@ mod groups;
 mod labels;
 mod pieces;
 mod program;
+mod scaled;
 mod sources;
 mod templates;
 

@@ -28,6 +28,48 @@ pub fn put_at(items: &mut Vec<Item>, mnemonic: Mnemonic, address: u16) -> Result
     )
 }
 
+/// An instruction on the byte at an address, in page zero by the mode that it has of its own.
+pub fn put_on(items: &mut Vec<Item>, mnemonic: Mnemonic, address: u16) -> Result<(), AllocError>
+    ensures { OnOk result (map entry_of items.new.items ≡ map entry_of items.old.items ++ templates.on mnemonic address ∷ []) }
+{
+    if address < 256 {
+        let operand = Operand::Byte(address as u8);
+        put(items, Item::Instr(mnemonic, Mode::ZeroPage, operand))
+    } else {
+        put_at(items, mnemonic, address)
+    }
+}
+
+/// An instruction on the byte behind an address by X.
+pub fn put_by_x(items: &mut Vec<Item>, mnemonic: Mnemonic, address: u16) -> Result<(), AllocError>
+    ensures { OnOk result (map entry_of items.new.items ≡ map entry_of items.old.items ++ templates.by_x mnemonic address ∷ []) }
+{
+    put(
+        items,
+        Item::Instr(mnemonic, Mode::AbsoluteX, Operand::Word(address)),
+    )
+}
+
+/// A load of the low byte of a label's address.
+pub fn put_low_part(items: &mut Vec<Item>, of: Target) -> Result<(), AllocError>
+    ensures { OnOk result (map entry_of items.new.items ≡ map entry_of items.old.items ++ templates.low_part of ∷ []) }
+{
+    put(
+        items,
+        Item::Instr(Mnemonic::Lda, Mode::Immediate, Operand::LowOf(label(of))),
+    )
+}
+
+/// A load of its high byte.
+pub fn put_high_part(items: &mut Vec<Item>, of: Target) -> Result<(), AllocError>
+    ensures { OnOk result (map entry_of items.new.items ≡ map entry_of items.old.items ++ templates.high_part of ∷ []) }
+{
+    put(
+        items,
+        Item::Instr(Mnemonic::Lda, Mode::Immediate, Operand::HighOf(label(of))),
+    )
+}
+
 /// An instruction on a constant.
 pub fn put_const(items: &mut Vec<Item>, mnemonic: Mnemonic, byte: u8) -> Result<(), AllocError>
     ensures { OnOk result (map entry_of items.new.items ≡ map entry_of items.old.items ++ templates.const mnemonic byte ∷ []) }
@@ -82,14 +124,14 @@ pub fn put_call(items: &mut Vec<Item>, routine: Routine) -> Result<(), AllocErro
     put_at(items, Mnemonic::Jsr, entry(routine))
 }
 
-/// Copies a word.
+/// Copies a word to a place behind page zero.
 pub fn put_copied(items: &mut Vec<Item>, from: u16, to: u16) -> Result<(), AllocError>
     requires { (from < 65535) × (to < 65535) }
     ensures { OnOk result (map entry_of items.new.items ≡ map entry_of items.old.items ++ templates.copied from to) }
 {
-    put_at(items, Mnemonic::Lda, from)?;
+    put_on(items, Mnemonic::Lda, from)?;
     put_at(items, Mnemonic::Sta, to)?;
-    put_at(items, Mnemonic::Lda, from + 1)?;
+    put_on(items, Mnemonic::Lda, from + 1)?;
     put_at(items, Mnemonic::Sta, to + 1)
 }
 
@@ -104,28 +146,28 @@ pub fn put_constant(items: &mut Vec<Item>, word: u16, to: u16) -> Result<(), All
     put_at(items, Mnemonic::Sta, to + 1)
 }
 
-/// Stores the address of a label.
-pub fn put_address(items: &mut Vec<Item>, of: Target, to: u16) -> Result<(), AllocError>
-    requires { to < 65535 }
+/// Stores the address of a label in page zero.
+pub fn put_address(items: &mut Vec<Item>, of: Target, to: u8) -> Result<(), AllocError>
+    requires { to < 255 }
     ensures { OnOk result (map entry_of items.new.items ≡ map entry_of items.old.items ++ templates.address of to) }
 {
+    put_low_part(items, of)?;
     put(
         items,
-        Item::Instr(Mnemonic::Lda, Mode::Immediate, Operand::LowOf(label(of))),
+        Item::Instr(Mnemonic::Sta, Mode::ZeroPage, Operand::Byte(to)),
     )?;
-    put_at(items, Mnemonic::Sta, to)?;
+    put_high_part(items, of)?;
     put(
         items,
-        Item::Instr(Mnemonic::Lda, Mode::Immediate, Operand::HighOf(label(of))),
-    )?;
-    put_at(items, Mnemonic::Sta, to + 1)
+        Item::Instr(Mnemonic::Sta, Mode::ZeroPage, Operand::Byte(to + 1)),
+    )
 }
 
 /// Notes the next line on the return list.
 pub fn put_note(items: &mut Vec<Item>, next: Target) -> Result<(), AllocError>
     ensures { OnOk result (map entry_of items.new.items ≡ map entry_of items.old.items ++ templates.note next) }
 {
-    put_address(items, next, LEFT)?;
+    put_address(items, next, LEFT as u8)?;
     put_call(items, Routine::Push)
 }
 

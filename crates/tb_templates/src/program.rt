@@ -198,7 +198,7 @@ fn put_find(items: &mut Vec<Item>, numbers: &[u16]) -> Result<(), AllocError>
     ensures { OnOk result (map entry_of items.new.items ≡ map entry_of items.old.items ++ program.find_code numbers.now) }
 {
     put_here(items, Target::Find)?;
-    put_address(items, Target::Table, TABLE)?;
+    put_address(items, Target::Table, TABLE as u8)?;
     put_constant(items, numbers.len() as u16, COUNT)?;
     put_jump_to_routine(items, Routine::Search)?;
     Ok(())

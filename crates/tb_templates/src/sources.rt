@@ -1,5 +1,6 @@
 //! Where the operands of a group come from, and where its result goes.
-ghost use Rattle.std.specs.Prelude.{◌≡◌, ◌+◌, ◌<◌, ◌≤◌};
+ghost use Rattle.std.specs.Prelude.{◌≡◌, ◌+◌, ◌<◌, ◌≤◌, OnOk, [], ◌∷◌, ◌++◌, map};
+ghost use Rattle.tb_asm.specs.Layout.{entry_of};
 ghost use Rattle.tb_words.specs.Letters.{place};
 ghost use Rattle.tb_selection.specs.Groups as groups;
 ghost use Rattle.tb_selection.specs.Shown.{operand_of, home_of, tested_of, destination_of};
@@ -7,6 +8,10 @@ ghost use Rattle.tb_templates.specs.Templates.{var_at, slot_at};
 ghost use Rattle.tb_templates.specs.Sources as sources;
 ghost use Rattle.tb_templates.specs.Sources.{IsWhole};
 
+use crate::pieces::{put_at, put_const};
+use std::alloc::AllocError;
+use tb_asm::Item;
+use tb_opcodes::Mnemonic;
 use tb_runtime16::{HELD, SLOTS, VARS};
 use tb_selection::{Destination, Home, Operand, Tested};
 use tb_words::Letter;
@@ -91,5 +96,26 @@ pub fn destination_at(destination: Destination) -> u16
     match destination {
         Destination::IntoSlot(slot) => slot_address(slot),
         Destination::IntoHome(home) => home_at(home),
+    }
+}
+
+/// An instruction on the low byte of a word.
+pub fn put_low(items: &mut Vec<Item>, mnemonic: Mnemonic, word: Source) -> Result<(), AllocError>
+    ensures { OnOk result (map entry_of items.new.items ≡ map entry_of items.old.items ++ sources.low_of mnemonic word ∷ []) }
+{
+    match word {
+        Source::FixedWord(word) => put_const(items, mnemonic, (word % 256) as u8),
+        Source::AtPlace(place) => put_at(items, mnemonic, place),
+    }
+}
+
+/// An instruction on the high byte of a word.
+pub fn put_high(items: &mut Vec<Item>, mnemonic: Mnemonic, word: Source) -> Result<(), AllocError>
+    requires { IsWhole word }
+    ensures { OnOk result (map entry_of items.new.items ≡ map entry_of items.old.items ++ sources.high_of mnemonic word ∷ []) }
+{
+    match word {
+        Source::FixedWord(word) => put_const(items, mnemonic, (word / 256) as u8),
+        Source::AtPlace(place) => put_at(items, mnemonic, place + 1),
     }
 }

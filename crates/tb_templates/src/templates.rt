@@ -9,19 +9,21 @@ ghost use Rattle.tb_templates.specs.declared.labels.Inner.TheVariants as inner;
 ghost use Rattle.tb_templates.specs.declared.labels.Target.TheVariants as target;
 ghost use Rattle.tb_templates.specs.Templates as templates;
 ghost use Rattle.tb_templates.specs.Templates.{template};
+ghost use Rattle.tb_runtime16.specs.Places as places;
 ghost use Rattle.tb_templates.specs.Program.{RisingFrom};
 
-use crate::labels::{Inner, Target, label};
+use crate::labels::{Inner, Target};
 use crate::pieces::{
-    put, put_alone, put_at, put_call, put_const, put_constant, put_copied, put_faulted, put_here,
-    put_jump, put_jump_through, put_note,
+    put, put_address, put_alone, put_at, put_branch, put_by_x, put_call, put_const, put_constant,
+    put_copied, put_faulted, put_here, put_high_part, put_jump, put_jump_through, put_low_part,
+    put_note,
 };
 use crate::sources::{slot_address, variable_at};
 use std::alloc::AllocError;
-use tb_asm::{Item, Operand};
+use tb_asm::Item;
 use tb_lower::SlotInstr;
-use tb_opcodes::{Mnemonic, Mode};
-use tb_runtime16::{LENGTH, POINTER, RESULT, Routine, SEND_AT};
+use tb_opcodes::Mnemonic;
+use tb_runtime16::{LENGTH, LINE, NOTE_HIGH, NOTE_LOW, NOTES, POINTER, RESULT, Routine, SEND_AT};
 
 /// The fault of a line that is not there.
 pub const NO_LINE: u8 = 1;
@@ -53,7 +55,7 @@ fn put_text(
     requires { length text.now < 256 }
     ensures { OnOk result (map entry_of items.new.items ≡ map entry_of items.old.items ++ templates.text of behind text.now) }
 {
-    put_pointer(items, of)?;
+    put_address(items, of, POINTER)?;
     put_text_call(items, text.len() as u8)?;
     put_inline(items, of, behind, text)?;
     Ok(())
@@ -83,28 +85,6 @@ fn put_inline(
     put_here(items, behind)
 }
 
-// The address of a text into the pointer.
-fn put_pointer(items: &mut Vec<Item>, of: Target) -> Result<(), AllocError>
-    ensures { OnOk result (map entry_of items.new.items ≡ map entry_of items.old.items ++ templates.pointed of) }
-{
-    put(
-        items,
-        Item::Instr(Mnemonic::Lda, Mode::Immediate, Operand::LowOf(label(of))),
-    )?;
-    put(
-        items,
-        Item::Instr(Mnemonic::Sta, Mode::ZeroPage, Operand::Byte(POINTER)),
-    )?;
-    put(
-        items,
-        Item::Instr(Mnemonic::Lda, Mode::Immediate, Operand::HighOf(label(of))),
-    )?;
-    put(
-        items,
-        Item::Instr(Mnemonic::Sta, Mode::ZeroPage, Operand::Byte(POINTER + 1)),
-    )
-}
-
 // Bytes as they are.
 fn put_bytes(items: &mut Vec<Item>, bytes: &[u8]) -> Result<(), AllocError>
     ensures { OnOk result (map entry_of items.new.items ≡ map entry_of items.old.items ++ layout.bytes bytes.now ∷ []) }
@@ -131,22 +111,147 @@ fn put_jump_to(items: &mut Vec<Item>, numbers: &[u16], line: u16, to: u16) -> Re
     }
 }
 
-fn put_call_to(
+// A branch by whether a byte is 0, which stays in X.
+fn put_by_zero(
     items: &mut Vec<Item>,
-    numbers: &[u16],
+    mnemonic: Mnemonic,
+    place: u16,
+    to: Target,
+) -> Result<(), AllocError>
+    ensures { OnOk result (map entry_of items.new.items ≡ map entry_of items.old.items ++ templates.by_zero mnemonic place to) }
+{
+    put_at(items, Mnemonic::Ldx, place)?;
+    put_branch(items, mnemonic, to)
+}
+
+// A note's two bytes go behind the others, and the low byte of their count goes up.
+fn put_note_stored(items: &mut Vec<Item>, next: Target) -> Result<(), AllocError>
+    ensures { OnOk result (map entry_of items.new.items ≡ map entry_of items.old.items ++ templates.note_stored next) }
+{
+    put_at(items, Mnemonic::Ldx, NOTES)?;
+    put_low_part(items, next)?;
+    put_by_x(items, Mnemonic::Sta, NOTE_LOW)?;
+    put_high_part(items, next)?;
+    put_by_x(items, Mnemonic::Sta, NOTE_HIGH)?;
+    put_at(items, Mnemonic::Inc, NOTES)
+}
+
+// A carry goes to the count's high byte.
+fn put_carried(items: &mut Vec<Item>, skip: Target) -> Result<(), AllocError>
+    ensures { OnOk result (map entry_of items.new.items ≡ map entry_of items.old.items ++ templates.carried skip) }
+{
+    put_branch(items, Mnemonic::Bne, skip)?;
+    put_at(items, Mnemonic::Inc, NOTES + 1)?;
+    put_here(items, skip)
+}
+
+// Notes the next line in line where the count of notes has a low byte alone.
+fn put_noted(
+    items: &mut Vec<Item>,
+    next: Target,
+    skip: Target,
+    over: Target,
+) -> Result<(), AllocError>
+    ensures { OnOk result (map entry_of items.new.items ≡ map entry_of items.old.items ++ templates.noted next skip over) }
+{
+    put_by_zero(items, Mnemonic::Bne, NOTES + 1, over)?;
+    put_note_stored(items, next)?;
+    put_carried(items, skip)?;
+    Ok(())
+}
+
+// X is the low byte of the count of notes: it goes down, and the newest note's two bytes go to the result.
+fn put_note_taken(items: &mut Vec<Item>) -> Result<(), AllocError>
+    ensures { OnOk result (map entry_of items.new.items ≡ map entry_of items.old.items ++ templates.note_taken) }
+{
+    put_alone(items, Mnemonic::Dex)?;
+    put_at(items, Mnemonic::Stx, NOTES)?;
+    put_by_x(items, Mnemonic::Lda, NOTE_LOW)?;
+    put_at(items, Mnemonic::Sta, RESULT)?;
+    put_by_x(items, Mnemonic::Lda, NOTE_HIGH)?;
+    put_at(items, Mnemonic::Sta, RESULT + 1)
+}
+
+// Takes the newest note in line and goes on there, where it is one of the first 255.
+fn put_taken_back(items: &mut Vec<Item>, over: Target) -> Result<(), AllocError>
+    ensures { OnOk result (map entry_of items.new.items ≡ map entry_of items.old.items ++ templates.taken_back over) }
+{
+    put_by_zero(items, Mnemonic::Bne, NOTES + 1, over)?;
+    put_by_zero(items, Mnemonic::Beq, NOTES, over)?;
+    put_note_taken(items)?;
+    put_jump_through(items)?;
+    Ok(())
+}
+
+// Notes the next line by the routine and goes from a line to another.
+fn put_line_called_by_routine(
+    items: &mut Vec<Item>,
     line: u16,
     to: u16,
     next: Target,
 ) -> Result<(), AllocError>
+    ensures { OnOk result (map entry_of items.new.items ≡ map entry_of items.old.items ++ (templates.constant line places.LINE ++ (templates.note next ++ (templates.jump (target.Line to) ∷ [])))) }
+{
+    put_constant(items, line, LINE)?;
+    put_note(items, next)?;
+    put_jump(items, Target::Line(to))?;
+    Ok(())
+}
+
+// Notes the next line and goes from a line to another.
+fn put_line_called(
+    items: &mut Vec<Item>,
+    line: u16,
+    to: u16,
+    next: Target,
+    skip: Target,
+    over: Target,
+) -> Result<(), AllocError>
+    ensures { OnOk result (map entry_of items.new.items ≡ map entry_of items.old.items ++ templates.called line to next skip over) }
+{
+    put_noted(items, next, skip, over)?;
+    put_jump(items, Target::Line(to))?;
+    put_here(items, over)?;
+    put_line_called_by_routine(items, line, to, next)?;
+    Ok(())
+}
+
+fn put_call_to(
+    items: &mut Vec<Item>,
+    numbers: &[u16],
+    spot: Spot,
+    to: u16,
+) -> Result<(), AllocError>
     requires rising { RisingFrom 0 numbers.now }
-    ensures { OnOk result (map entry_of items.new.items ≡ map entry_of items.old.items ++ templates.call_to numbers.now line to next) }
+    ensures { OnOk result (map entry_of items.new.items ≡ map entry_of items.old.items ++ templates.call_to numbers.now spot.line spot.index to spot.next) }
 {
     if has_number(numbers, to) {
-        put_note(items, next)?;
-        put_jump(items, Target::Line(to))
+        let skip = Target::Inside(Inner::Skip, spot.line, spot.index);
+        let over = Target::Inside(Inner::Behind, spot.line, spot.index);
+        put_line_called(items, spot.line, to, spot.next, skip, over)
     } else {
-        put_faulted(items, line, NO_LINE)
+        put_faulted(items, spot.line, NO_LINE)
     }
+}
+
+// Takes the newest note by the routine and goes on there.
+fn put_returned_by_routine(items: &mut Vec<Item>, line: u16) -> Result<(), AllocError>
+    ensures { OnOk result (map entry_of items.new.items ≡ map entry_of items.old.items ++ (templates.constant line places.LINE ++ (templates.call places.POP_AT ∷ templates.jump_through))) }
+{
+    put_constant(items, line, LINE)?;
+    put_call(items, Routine::Pop)?;
+    put_jump_through(items)?;
+    Ok(())
+}
+
+// Goes from a line to where the newest note says.
+fn put_returned(items: &mut Vec<Item>, line: u16, over: Target) -> Result<(), AllocError>
+    ensures { OnOk result (map entry_of items.new.items ≡ map entry_of items.old.items ++ templates.returned line over) }
+{
+    put_taken_back(items, over)?;
+    put_here(items, over)?;
+    put_returned_by_routine(items, line)?;
+    Ok(())
 }
 
 /// The code of a single instruction of a program with these numbers. Of one that has another kind of group nothing is
@@ -185,10 +290,10 @@ pub fn put_instruction(
         }
         SlotInstr::Poll => put_call(items, Routine::Poll),
         SlotInstr::JumpTo(to) => put_jump_to(items, numbers, spot.line, *to),
-        SlotInstr::CallTo(to) => put_call_to(items, numbers, spot.line, *to, spot.next),
+        SlotInstr::CallTo(to) => put_call_to(items, numbers, spot, *to),
         SlotInstr::Return => {
-            put_call(items, Routine::Pop)?;
-            put_jump_through(items)
+            let over = Target::Inside(Inner::Behind, spot.line, spot.index);
+            put_returned(items, spot.line, over)
         }
         SlotInstr::End => put_alone(items, Mnemonic::Rts),
         SlotInstr::Store(_)

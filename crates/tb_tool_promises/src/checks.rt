@@ -7,13 +7,14 @@ ghost use Rattle.tb_streams.specs.Streams.{most_input, ConsumesAtMost};
 ghost use Rattle.tb_streams.specs.Failures.{failures_of};
 ghost use Rattle.tb_check.specs.Agreement.{AgreesWith, Compiles};
 ghost use Rattle.tb_check.specs.BadLines.{BadLinesAre, FirstIs};
+ghost use Rattle.tb_check.specs.Findings.{AreFindings};
 ghost use Rattle.tb_check.specs.Verdicts.{Judges};
 ghost use Rattle.tb_check_engine.specs.Checks.{Adds};
 ghost use Rattle.tb_check_engine.specs.Rows.{caret_row};
 
 use std::alloc::{AllocError, Global};
 use std::io::Read;
-use tb_check::{NoMemory, SourceError, Verdict, bad_lines, judge};
+use tb_check::{Findings, NoMemory, SourceError, Verdict, bad_lines, examine, judge};
 use tb_check_engine::{CheckOutcome, Checked, push_caret};
 use tb_streams::Tracked;
 
@@ -33,6 +34,13 @@ pub fn judged(alloc: Global, source: &[u8]) -> Result<Verdict, NoMemory>
     judge(alloc, source)
 }
 
+/// `examine`.
+pub fn examined(alloc: Global, source: &[u8]) -> Result<Findings, NoMemory>
+    ensures { IfOk result (AreFindings source.now) }
+{
+    examine(alloc, source)
+}
+
 /// `Checked::add`.
 pub fn with_source<R: Read>(
     checked: Checked,
@@ -40,7 +48,7 @@ pub fn with_source<R: Read>(
     name: &str,
     reader: &mut Tracked<R>,
 ) -> Result<Checked, CheckOutcome>
-    ensures adds { Adds checked (R.remaining reader.old.stream) (failures_of reader.old) (failures_of reader.new) result }
+    ensures adds { Adds checked name.now (R.remaining reader.old.stream) (failures_of reader.old) (failures_of reader.new) result }
     ensures taken { ConsumesAtMost (R.remaining reader.old.stream) (R.remaining reader.new.stream)
         (most_input + 1) }
 {

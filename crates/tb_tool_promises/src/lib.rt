@@ -8,5 +8,5 @@
 mod checks;
 mod listings;
 
-pub use checks::{caret_put, judged, lines_that_are_bad, with_source};
+pub use checks::{caret_put, examined, judged, lines_that_are_bad, with_source};
 pub use listings::{labels_of, listing_of, map_of};

@@ -5,6 +5,7 @@ ghost use Rattle.tb_lower.specs.Cost as lower;
 ghost use Rattle.tb_runtime16.specs.Places.{PROLOGUE_AT};
 ghost use Rattle.tb_disasm.specs.Back.{GivesBack};
 ghost use Rattle.tb_codegen.specs.Compiled.{pair_of, prg_of, starts_of, table_of};
+ghost use Rattle.tb_listing.specs.Comments.{ShowsLines};
 ghost use Rattle.tb_listing.specs.Labels.{places, labels_text};
 ghost use Rattle.tb_listing.specs.Map.{map_text};
 
@@ -26,6 +27,7 @@ pub fn listing_of(alloc: Global, compiled: &Compiled, source: &[u8]) -> Result<V
     requires ends { PROLOGUE_AT + (length (prg_of compiled.now) - 14) ≤ 0xA000 }
     ensures back { IfOk result (λ text. GivesBack PROLOGUE_AT text.items (drop 14 (prg_of compiled.now))) }
     ensures readable { IfOk result (λ text. length text.items ≤ 1048576) }
+    ensures shows { IfOk result (λ text. ShowsLines source.now (starts_of compiled.now) (drop 14 (prg_of compiled.now)) text.items) }
 {
     list(alloc, compiled, source)
 }

@@ -49,13 +49,13 @@ pub const PROGRAMS: [Program; 8] = [
         limit: 100_000,
         status: 0,
         table: b" line      times instructions        cycles   share  statement
-start          1          192           634   32.5%
+start          1          192           634   32.7%
    10          1            8            29    1.5%  LET I=1
-   20          5          270           895   45.9%  PRINT I
-   30          5           55           195   10.0%  LET I=I+1
-   40          5           50           174    8.9%  IF I<6 GOTO 20
+   20          5          270           885   45.6%  PRINT I
+   30          5           55           195   10.1%  LET I=I+1
+   40          5           50           174    9.0%  IF I<6 GOTO 20
    50          1            5            23    1.2%  END
-  sum         17          580          1950  100.0%
+  sum         17          580          1940  100.0%
 ",
     },
     Program {
@@ -65,14 +65,14 @@ start          1          192           634   32.5%
         limit: 100_000,
         status: 0,
         table: b" line      times instructions        cycles   share  statement
-start          1          192           634   29.1%
-   10          1            8            29    1.3%  LET A=7
-   20          1           24            91    4.2%  GOSUB 100
-   30          1           24            91    4.2%  GOSUB 100
+start          1          192           634   31.1%
+   10          1            8            29    1.4%  LET A=7
+   20          1           14            53    2.6%  GOSUB 100
+   30          1           14            53    2.6%  GOSUB 100
    40          1            5            23    1.1%  END
-  100          2          342          1146   52.7%  PRINT A*A
-  110          2           42           162    7.4%  RETURN
-  sum          8          637          2176  100.0%
+  100          2          342          1134   55.6%  PRINT A*A
+  110          2           30           112    5.5%  RETURN
+  sum          8          605          2038  100.0%
 ",
     },
     Program {
@@ -82,11 +82,11 @@ start          1          192           634   29.1%
         limit: 100_000,
         status: 0,
         table: b" line      times instructions        cycles   share  statement
-start          1          192           634   52.0%
+start          1          192           634   52.2%
    10          1            8            29    2.4%  LET A=0
-   20          1          161           556   45.6%  PRINT 1/A
+   20          1          161           552   45.4%  PRINT 1/A
    30          0            0             0    0.0%  PRINT 2
-  sum          2          361          1219  100.0%
+  sum          2          361          1215  100.0%
 ",
     },
     Program {
@@ -151,12 +151,12 @@ start          1          192           634    3.5%
         limit: 100_000,
         status: 0,
         table: b" line      times instructions        cycles   share  statement
-start          1          192           634   38.7%
+start          1          192           634   38.8%
     5          1            4            17    1.0%  REM a b
    10          1            8            29    1.8%  LET A = 1
-   20          1          245           935   57.1%  PRINT \"<A & 'B'>\",A
+   20          1          245           933   57.0%  PRINT \"<A & 'B'>\",A
    40          1            5            23    1.4%  END
-  sum          4          454          1638  100.0%
+  sum          4          454          1636  100.0%
 ",
     },
 ];

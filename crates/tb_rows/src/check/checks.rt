@@ -94,5 +94,9 @@ fn put_ending(page: &mut Page, ending: &Ending) {
 
 /// Appends a status, and what standard error says.
 pub fn put_outcome(page: &mut Page, outcome: CheckOutcome) {
-    page.put(format_args!("=> {} \"{outcome}\"\n", outcome.status()));
+    page.put("=> ");
+    page.put(outcome.status());
+    page.put(" \"");
+    page.put(outcome);
+    page.put("\"\n");
 }

@@ -59,7 +59,11 @@ fn put_failing_readers(page: &mut Page, files: &[File], whole: &Ending) {
     for until_fault in 0..=FIRST.len() {
         for most in [1, 7, 4096] {
             if !reader_fails(page.alloc(), files, whole, until_fault, most) {
-                page.put(format_args!("=> another answer behind {until_fault}, {most} at once\n"));
+                page.put("=> another answer behind ");
+                page.put(until_fault);
+                page.put(", ");
+                page.put(most);
+                page.put(" at once\n");
                 return;
             }
         }
@@ -103,10 +107,16 @@ fn put_failing_writers(page: &mut Page, checked: &Checked, whole: &Ending) {
     for until_fault in 0..=length {
         for most in [1, 2, 4096] {
             if !is_prefix(page.alloc(), checked, whole, until_fault, most) {
-                page.put(format_args!("=> no prefix behind {until_fault}, {most} at once\n"));
+                page.put("=> no prefix behind ");
+                page.put(until_fault);
+                page.put(", ");
+                page.put(most);
+                page.put(" at once\n");
                 return;
             }
         }
     }
-    page.put(format_args!("=> a prefix up to each of {length} bytes\n"));
+    page.put("=> a prefix up to each of ");
+    page.put(length);
+    page.put(" bytes\n");
 }

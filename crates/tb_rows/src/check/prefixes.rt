@@ -49,9 +49,13 @@ fn put_cuts_of(page: &mut Page, source: &[u8]) {
     for length in 0..=source.len() {
         let agree = agrees(page.alloc(), &source[..length]);
         if page.held(agree) != Some(true) {
-            page.put(format_args!("=> not on the first {length} bytes\n"));
+            page.put("=> not on the first ");
+            page.put(length);
+            page.put(" bytes\n");
             return;
         }
     }
-    page.put(format_args!("=> on all beginnings of {} bytes\n", source.len()));
+    page.put("=> on all beginnings of ");
+    page.put(source.len());
+    page.put(" bytes\n");
 }

@@ -17,7 +17,7 @@ fn built(alloc: Global, source: &[u8], seed: u16) -> Vec<u8> {
 
 fn put_bytes(page: &mut Page, bytes: &[u8]) {
     for byte in bytes {
-        page.put(format_args!("{byte:02X}"));
+        page.put_byte(*byte);
     }
 }
 
@@ -39,7 +39,8 @@ fn put_outcome(page: &mut Page, file: &[u8]) {
         100_000,
         &mut Quiet,
     );
-    page.put(format_args!("{outcome:?}: "));
+    page.put_debug(&outcome);
+    page.put(": ");
     put_shown(page, &screen.stream);
     page.put("\n");
 }
@@ -63,7 +64,9 @@ pub fn put_build(page: &mut Page, row: &str) {
     if let Some(program) = compiled(page, &source, seed) {
         put_head(page, &file);
         let is_same = file.as_slice() == program.prg();
-        page.put(format_args!(", as compile has it: {is_same}, "));
+        page.put(", as compile has it: ");
+        page.put(is_same);
+        page.put(", ");
         put_outcome(page, &file);
     }
 }
@@ -77,7 +80,9 @@ pub fn put_alike(page: &mut Page, row: &str) {
     let other = built(page.alloc(), &other, 1);
     put_head(page, &one);
     let is_same = one == other;
-    page.put(format_args!(", the same file: {is_same}\n"));
+    page.put(", the same file: ");
+    page.put(is_same);
+    page.put("\n");
 }
 
 /// Appends something of a place in a program: where the code of a line begins, the line in whose code an address lies,
@@ -105,14 +110,20 @@ pub fn put_place(page: &mut Page, name: &str, row: &str) {
 
 fn put_start(page: &mut Page, program: &Compiled, line: &str) {
     match program.start_of(word(page, line)) {
-        Some(address) => page.put(format_args!("{address:04X}\n")),
+        Some(address) => {
+            page.put_word(address);
+            page.put("\n");
+        }
         None => page.put("none\n"),
     }
 }
 
 fn put_line(page: &mut Page, program: &Compiled, address: &str) {
     match program.line_at(hex_word(page, address)) {
-        Some(line) => page.put(format_args!("{line}\n")),
+        Some(line) => {
+            page.put(line);
+            page.put("\n");
+        }
         None => page.put("none\n"),
     }
 }
@@ -124,7 +135,7 @@ fn put_code(page: &mut Page, program: &Compiled, address: &str, count: u64) {
         let before = usize::from(at.saturating_sub(file.at));
         let count = usize::try_from(count).unwrap_or(0);
         for byte in file.bytes.iter().skip(before).take(count) {
-            page.put(format_args!("{byte:02X}"));
+            page.put_byte(*byte);
         }
         page.put("\n");
     }
@@ -135,7 +146,8 @@ pub fn put_warnings(page: &mut Page, source: &str) {
     let source = source_of(page, source);
     if let Some(program) = compiled(page, &source, 1) {
         let warnings = program.warnings();
-        page.put(format_args!("{warnings:?}\n"));
+        page.put_debug(&warnings);
+        page.put("\n");
     }
 }
 
@@ -148,7 +160,11 @@ pub fn put_cuts(page: &mut Page, row: &str) {
         page.held(begun);
         push_lines(page, &mut source, 2, last, "END");
         if let Err(error) = compile(page.alloc(), &source, Options { seed: 1 }) {
-            page.put(format_args!("the first {last} lines: {error:?}\n"));
+            page.put("the first ");
+            page.put(last);
+            page.put(" lines: ");
+            page.put_debug(&error);
+            page.put("\n");
             return;
         }
     }
@@ -186,6 +202,11 @@ pub fn put_runs(page: &mut Page, source: &[u8], keys: &str) {
     let keyboard = keyboard_of(page, keys);
     let rude = ran(alloc, source, keyboard, &mut Rude::new(1), &mut other);
     let is_same = screen.stream == other.stream;
-    page.put(format_args!("{outcome:?}, beside a rude ROM {rude:?}, the same text: {is_same}\n"));
+    page.put_debug(&outcome);
+    page.put(", beside a rude ROM ");
+    page.put_debug(&rude);
+    page.put(", the same text: ");
+    page.put(is_same);
+    page.put("\n");
     page.put_ascii(&screen.stream);
 }

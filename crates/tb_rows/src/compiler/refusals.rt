@@ -10,7 +10,10 @@ use tb_kernal::Quiet;
 fn put_compiled(page: &mut Page, source: &[u8]) {
     match compile(page.alloc(), source, Options { seed: 1 }) {
         Ok(_) => page.put("compiles\n"),
-        Err(error) => page.put(format_args!("{error:?}\n")),
+        Err(error) => {
+            page.put_debug(&error);
+            page.put("\n");
+        }
     }
 }
 
@@ -18,7 +21,16 @@ fn put_compiled(page: &mut Page, source: &[u8]) {
 fn put_report(page: &mut Page, name: &str, report: &Report, written: usize) {
     let outcome = report.outcome;
     let status = report.status();
-    page.put(format_args!("  {name}: {outcome:?}, status {status}, {written} bytes, {report}"));
+    page.put("  ");
+    page.put(name);
+    page.put(": ");
+    page.put_debug(&outcome);
+    page.put(", status ");
+    page.put(status);
+    page.put(", ");
+    page.put(written);
+    page.put(" bytes, ");
+    page.put(report);
 }
 
 /// Appends what the compiler answers.

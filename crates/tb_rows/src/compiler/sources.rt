@@ -8,7 +8,10 @@ use tb_codegen::{Compiled, Options, compile};
 pub fn push_lines(page: &mut Page, source: &mut Vec<u8>, first: u16, last: u16, statement: &str) {
     let mut lines = Page::new(page.alloc());
     for number in first..=last {
-        lines.put(format_args!("{number} {statement}\n"));
+        lines.put(number);
+        lines.put(" ");
+        lines.put(statement);
+        lines.put("\n");
     }
     push_decoded(page, source, lines.text());
 }

@@ -33,7 +33,9 @@ fn put_steps(page: &mut Page, source: &[u8], commands: &[u8], limit: u64) {
         no_keys(alloc),
         limit,
     );
-    page.put(format_args!("status {}\n", report.status()));
+    page.put("status ");
+    page.put(report.status());
+    page.put("\n");
     page.put_ascii(&screen.stream);
 }
 
@@ -105,11 +107,11 @@ fn put_call(page: &mut Page, stepper: &mut Stepper<'_, Quiet>, name: &str, rest:
     match name {
         "step" => {
             let stepped = stepper.step();
-            page.put(format_args!("{stepped:?}"));
+            page.put_debug(&stepped);
         }
         "back" => {
             let taken = stepper.back();
-            page.put(format_args!("{taken:?}"));
+            page.put_debug(&taken);
         }
         "to_line" => put_reached(page, stepper, rest),
         _ => put_seen(page, stepper, name, rest),
@@ -119,16 +121,16 @@ fn put_call(page: &mut Page, stepper: &mut Stepper<'_, Quiet>, name: &str, rest:
 fn put_reached(page: &mut Page, stepper: &mut Stepper<'_, Quiet>, rest: &str) {
     let (line, limit) = cut(rest);
     let reached = stepper.to_line(word(page, line), number(page, limit));
-    page.put(format_args!("{reached:?}"));
+    page.put_debug(&reached);
 }
 
 // Appends what is seen of a stepper's machine.
 fn put_seen(page: &mut Page, stepper: &Stepper<'_, Quiet>, name: &str, rest: &str) {
     match name {
-        "regs" => page.put(format_args!("{:?}", stepper.machine().regs())),
-        "status" => page.put(format_args!("{:?}", stepper.machine().status())),
-        "line" => page.put(format_args!("{:?}", stepper.line())),
-        "depth" => page.put(format_args!("{}", stepper.depth())),
+        "regs" => page.put_debug(&stepper.machine().regs()),
+        "status" => page.put_debug(&stepper.machine().status()),
+        "line" => page.put_debug(&stepper.line()),
+        "depth" => page.put(stepper.depth()),
         "variable" => put_variable(page, stepper, rest.as_bytes()),
         "value_of" => put_value(page, stepper, rest),
         _ => page.fail(),
@@ -137,7 +139,7 @@ fn put_seen(page: &mut Page, stepper: &Stepper<'_, Quiet>, name: &str, rest: &st
 
 fn put_variable(page: &mut Page, stepper: &Stepper<'_, Quiet>, name: &[u8]) {
     match Letter::read(*name.first().unwrap_or(&0)) {
-        Some(letter) => page.put(format_args!("{}", stepper.variable(letter))),
+        Some(letter) => page.put(stepper.variable(letter)),
         None => page.fail(),
     }
 }
@@ -146,7 +148,7 @@ fn put_value(page: &mut Page, stepper: &Stepper<'_, Quiet>, text: &str) {
     let expression = parse_expr(page.alloc(), text.as_bytes());
     if let Some(expression) = page.held(expression) {
         let value = stepper.value_of(&expression);
-        page.put(format_args!("{value:?}"));
+        page.put_debug(&value);
     }
 }
 
@@ -186,7 +188,8 @@ fn put_back(page: &mut Page, start: Start<'_>, count: &str) {
     let count = number(page, count);
     if let Some(first) = start.machine(page) {
         let is_back = is_taken_back(page, start, &first, count);
-        page.put(format_args!(" => {is_back}"));
+        page.put(" => ");
+        page.put(is_back);
     }
 }
 
@@ -196,7 +199,8 @@ fn put_each_back(page: &mut Page, start: Start<'_>, most: &str) {
     if let Some(first) = start.machine(page) {
         for count in 1..=most {
             if !is_taken_back(page, start, &first, count) {
-                page.put(format_args!(" => not {count}"));
+                page.put(" => not ");
+                page.put(count);
                 return;
             }
         }
@@ -227,8 +231,11 @@ fn put_kept(page: &mut Page, start: Start<'_>, count: &str) {
     if let Some(mut other) = start.stepper(page, Quiet) {
         take_steps(&mut other, count.saturating_sub(back));
         let is_same = are_same(stepper.machine(), other.machine());
-        page.put(format_args!(
-            " => {running} running, {back} taken back, as after the first: {is_same}"
-        ));
+        page.put(" => ");
+        page.put(running);
+        page.put(" running, ");
+        page.put(back);
+        page.put(" taken back, as after the first: ");
+        page.put(is_same);
     }
 }

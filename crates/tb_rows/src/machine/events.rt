@@ -54,7 +54,8 @@ pub fn enter(page: &mut Page, setting: &mut Setting) -> Option<Result<Machine, E
 
 fn put_refused(page: &mut Page, error: &EnterError) {
     let kind = error.kind;
-    page.put(format_args!(" {kind:?}"));
+    page.put(" ");
+    page.put_debug(&kind);
     put_read(page, error.memory.read(START.pc));
     put_quoted(page, error.keyboard.text.as_slice());
 }
@@ -107,12 +108,16 @@ fn put_event(page: &mut Page, machine: &mut Machine, event: Event) {
     let room = machine.room();
     match machine.event(event) {
         Ok(status) => put_status(page, status),
-        Err(error) => page.put(format_args!(" {error:?}")),
+        Err(error) => {
+            page.put(" ");
+            page.put_debug(&error);
+        }
     }
     put_registers(page, &machine.regs());
     put_quoted(page, machine.sent());
     let taken = room.saturating_sub(machine.room());
-    page.put(format_args!(" {taken}"));
+    page.put(" ");
+    page.put(taken);
 }
 
 // Makes room, and says whether there is room.
@@ -124,7 +129,10 @@ fn put_reserved(page: &mut Page, machine: &mut Machine, rest: &str) {
     } else {
         "no room"
     };
-    page.put(format_args!(" {reserved:?} {room}"));
+    page.put(" ");
+    page.put_debug(&reserved);
+    page.put(" ");
+    page.put(room);
 }
 
 // Three events of an outside after one another.
@@ -173,6 +181,9 @@ fn put_clobber(page: &mut Page, clobber: &Clobber) {
 
 fn put_writes(page: &mut Page, writes: &Writes) {
     for &(address, value) in writes.as_slice() {
-        page.put(format_args!(" {address:04x}: {value:02x}"));
+        page.put(" ");
+        page.put_low_word(address);
+        page.put(": ");
+        page.put_low_byte(value);
     }
 }

@@ -28,7 +28,10 @@ fn put_region(page: &mut Page, address: u16) {
     } else {
         "refused"
     };
-    page.put(format_args!(" {region:?} {access}"));
+    page.put(" ");
+    page.put_debug(&region);
+    page.put(" ");
+    page.put(access);
 }
 
 fn put_written(page: &mut Page, memory: &mut Memory, address: u16, byte: &str) {
@@ -42,5 +45,6 @@ fn put_written(page: &mut Page, memory: &mut Memory, address: u16, byte: &str) {
 fn put_loaded(page: &mut Page, memory: &mut Memory, address: u16, groups: &str) {
     let bytes = bytes_of(page, groups);
     let loaded = memory.load(address, bytes.as_slice());
-    page.put(format_args!(" {loaded:?}"));
+    page.put(" ");
+    page.put_debug(&loaded);
 }

@@ -28,13 +28,21 @@ fn put_encoded(page: &mut Page, rest: &str) {
     let (mnemonic, _) = instruction(page, first);
     let (_, mode) = instruction(page, second);
     let opcode = encode(mnemonic, mode);
-    page.put(format_args!(" ({mnemonic:?}, {mode:?}) {opcode:?}"));
+    page.put(" (");
+    page.put_debug(&mnemonic);
+    page.put(", ");
+    page.put_debug(&mode);
+    page.put(") ");
+    page.put_debug(&opcode);
 }
 
 fn put_length(page: &mut Page, rest: &str) {
     let (_, mode) = instruction(page, rest);
     let length = length(mode);
-    page.put(format_args!(" {mode:?} {length:?}"));
+    page.put(" ");
+    page.put_debug(&mode);
+    page.put(" ");
+    page.put_debug(&length);
 }
 
 fn put_documented(page: &mut Page) {
@@ -44,7 +52,8 @@ fn put_documented(page: &mut Page) {
             count = count.saturating_add(1);
         }
     }
-    page.put(format_args!(" {count}"));
+    page.put(" ");
+    page.put(count);
 }
 
 // The eight opcodes that differ from one in the three bits of the column.
@@ -59,7 +68,10 @@ fn put_column(page: &mut Page, opcode: u8) {
     match decode(opcode) {
         None => page.put(" | -"),
         Some((mnemonic, mode)) => {
-            page.put(format_args!(" | {mnemonic:?} {mode:?}"));
+            page.put(" | ");
+            page.put_debug(&mnemonic);
+            page.put(" ");
+            page.put_debug(&mode);
             if encode(mnemonic, mode) != Some(opcode) {
                 page.put(" is encoded otherwise");
             }

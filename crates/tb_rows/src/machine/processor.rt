@@ -19,7 +19,10 @@ pub fn put_answer(page: &mut Page, bench: &mut Bench, name: &str, rest: &str) {
 fn put_status_byte(page: &mut Page, status: &str) {
     let flags = Flags::from_byte(hex_byte(page, status));
     let byte = flags.to_byte();
-    page.put(format_args!(" {byte:02x} {flags:?}"));
+    page.put(" ");
+    page.put_low_byte(byte);
+    page.put(" ");
+    page.put_debug(&flags);
 }
 
 // The first instruction of a program.
@@ -47,5 +50,6 @@ fn put_operand(page: &mut Page, bench: &mut Bench, rest: &str) {
     bench.setting.read(page, START, rest);
     bench.setting.put(page, &mut bench.memory);
     let place = operand_place(&bench.regs, &bench.memory);
-    page.put(format_args!(" {place:04x}"));
+    page.put(" ");
+    page.put_low_word(place);
 }

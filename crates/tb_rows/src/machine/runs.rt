@@ -55,7 +55,8 @@ fn put_run<O: Outside>(page: &mut Page, machine: &mut Machine, outside: &mut O, 
         put_status(page, status);
     }
     let pc = machine.regs().pc;
-    page.put(format_args!(" {pc:04x}"));
+    page.put(" ");
+    page.put_low_word(pc);
     put_quoted(page, machine.sent());
 }
 
@@ -90,7 +91,8 @@ fn put_random(page: &mut Page, setting: &mut Setting, count: u16) {
             held = held.saturating_add(1);
         }
     }
-    page.put(format_args!(" {held}"));
+    page.put(" ");
+    page.put(held);
 }
 
 fn random_program(seed: &mut u16) -> [u8; 64] {
@@ -131,7 +133,8 @@ fn put_undone(page: &mut Page, setting: &mut Setting, seed: u16, words: &str) {
         let reserved = machine.reserve(1);
         page.held(reserved);
         let is_undone = is_undone(page, &mut machine, seed);
-        page.put(format_args!(" {is_undone}"));
+        page.put(" ");
+        page.put(is_undone);
     }
 }
 
@@ -161,7 +164,17 @@ fn put_everything(shown: &mut Page, machine: &Machine) {
         machine.sent(),
         machine.room(),
     );
-    shown.put(format_args!("{regs:?} {status:?} {sent:?} {text:?} {answers:?} {room}"));
+    shown.put_debug(&regs);
+    shown.put(" ");
+    shown.put_debug(&status);
+    shown.put(" ");
+    shown.put_debug(&sent);
+    shown.put(" ");
+    shown.put_debug(&text);
+    shown.put(" ");
+    shown.put_debug(&answers);
+    shown.put(" ");
+    shown.put(room);
     for address in 0..=0xffff {
         let byte = machine.memory().read(address).unwrap_or(0);
         shown.put_ascii(&[byte]);

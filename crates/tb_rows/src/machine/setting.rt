@@ -140,7 +140,9 @@ impl Setting {
     /// Writes the bytes that are asked for.
     pub fn put_asked(&self, page: &mut Page, memory: &Memory) {
         for &address in &self.asked {
-            page.put(format_args!(" {address:04x}:"));
+            page.put(" ");
+            page.put_low_word(address);
+            page.put(":");
             put_read(page, memory.read(address));
         }
     }

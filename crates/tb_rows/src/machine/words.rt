@@ -9,7 +9,8 @@ pub fn put_answer(page: &mut Page, name: &str, rest: &str) {
         "letter" => put_letter(page, rest.as_bytes()),
         "seed" => {
             let next = next_seed(word(page, rest));
-            page.put(format_args!(" {next}"));
+            page.put(" ");
+            page.put(next);
         }
         _ => put_number(page, name, rest),
     }
@@ -21,7 +22,8 @@ fn put_letter(page: &mut Page, bytes: &[u8]) {
     match Letter::read(byte) {
         Some(letter) => {
             let index = letter.index();
-            page.put(format_args!(" {index}"));
+            page.put(" ");
+            page.put(index);
         }
         None => page.put(" None"),
     }
@@ -39,7 +41,8 @@ fn put_number(page: &mut Page, name: &str, rest: &str) {
         "digits" => put_quoted(page, digits(a).as_slice()),
         "negate" => {
             let negative = neg(a);
-            page.put(format_args!(" {negative}"));
+            page.put(" ");
+            page.put(negative);
         }
         _ => {
             let b = signed(page, second);
@@ -52,21 +55,25 @@ fn put_calculated(page: &mut Page, name: &str, a: i16, b: i16) {
     let result = match name {
         "divide" => {
             let parts = div_rem(a, b);
-            return page.put(format_args!(" {parts:?}"));
+            page.put(" ");
+            page.put_debug(&parts);
+            return;
         }
         "add" => add(a, b),
         "subtract" => sub(a, b),
         "multiply" => mul(a, b),
         _ => return put_relations(page, a, b),
     };
-    page.put(format_args!(" {result}"));
+    page.put(" ");
+    page.put(result);
 }
 
 // The relations that hold between two words.
 fn put_relations(page: &mut Page, a: i16, b: i16) {
     for rel in [Rel::Eq, Rel::Lt, Rel::Gt, Rel::Le, Rel::Ge, Rel::Ne] {
         if holds(rel, a, b) {
-            page.put(format_args!(" {rel:?}"));
+            page.put(" ");
+            page.put_debug(&rel);
         }
     }
 }

@@ -7,26 +7,35 @@ use tb_memmap::Closed;
 /// Bytes as text in quotes.
 pub fn put_quoted(page: &mut Page, bytes: &[u8]) {
     let shown = bytes.escape_ascii();
-    page.put(format_args!(" \"{shown}\""));
+    page.put(" \"");
+    page.put(shown);
+    page.put("\"");
 }
 
 /// A byte that was read or written.
 pub fn put_read(page: &mut Page, read: Result<u8, Closed>) {
     match read {
-        Ok(byte) => page.put(format_args!(" {byte:02x}")),
+        Ok(byte) => {
+            page.put(" ");
+            page.put_low_byte(byte);
+        }
         Err(Closed(address)) => put_closed(page, address),
     }
 }
 
 fn put_closed(page: &mut Page, address: u16) {
-    page.put(format_args!(" Closed {address:04x}"));
+    page.put(" Closed ");
+    page.put_low_word(address);
 }
 
 /// Why an instruction was refused.
 pub fn put_wrong(page: &mut Page, wrong: Wrong) {
     match wrong {
         Wrong::Closed(address) => put_closed(page, address),
-        other => page.put(format_args!(" {other:?}")),
+        other => {
+            page.put(" ");
+            page.put_debug(&other);
+        }
     }
 }
 
@@ -34,20 +43,31 @@ pub fn put_wrong(page: &mut Page, wrong: Wrong) {
 pub fn put_status(page: &mut Page, status: Status) {
     match status {
         Status::Wrong(wrong) => put_wrong(page, wrong),
-        other => page.put(format_args!(" {other:?}")),
+        other => {
+            page.put(" ");
+            page.put_debug(&other);
+        }
     }
 }
 
 pub fn put_registers(page: &mut Page, regs: &Regs) {
     put_indexes(page, regs.a, regs.x, regs.y);
     let Regs { s, pc, .. } = *regs;
-    page.put(format_args!(" S={s:02x} PC={pc:04x}"));
+    page.put(" S=");
+    page.put_low_byte(s);
+    page.put(" PC=");
+    page.put_low_word(pc);
     put_flags(page, regs.flags);
 }
 
 /// A, X and Y.
 pub fn put_indexes(page: &mut Page, a: u8, x: u8, y: u8) {
-    page.put(format_args!(" A={a:02x} X={x:02x} Y={y:02x}"));
+    page.put(" A=");
+    page.put_low_byte(a);
+    page.put(" X=");
+    page.put_low_byte(x);
+    page.put(" Y=");
+    page.put_low_byte(y);
 }
 
 /// Flags, with a dot in place of a clear one.

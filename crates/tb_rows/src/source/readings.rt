@@ -6,7 +6,9 @@ use tb_parser::{SourceError, parse, parse_expr, tokens};
 // How many bytes are left at the first literal above 65,535.
 fn put_large(page: &mut Page, large: Option<usize>) {
     if let Some(left) = large {
-        page.put(format_args!(", too large with {left} left"));
+        page.put(", too large with ");
+        page.put(left);
+        page.put(" left");
     }
 }
 
@@ -14,10 +16,14 @@ fn put_large(page: &mut Page, large: Option<usize>) {
 pub fn put_expression(page: &mut Page, text: &[u8]) {
     match read_expression(page.alloc(), text) {
         Ok(read) => {
-            page.put(format_args!(" {:?}", read.expr));
+            page.put(" ");
+            page.put_debug(&read.expr);
             put_large(page, read.large);
         }
-        Err(stop) => page.put(format_args!(" {stop:?}")),
+        Err(stop) => {
+            page.put(" ");
+            page.put_debug(&stop);
+        }
     }
 }
 
@@ -25,17 +31,26 @@ pub fn put_expression(page: &mut Page, text: &[u8]) {
 pub fn put_statement(page: &mut Page, text: &[u8]) {
     match read_statement(page.alloc(), text) {
         Ok(read) => {
-            page.put(format_args!(" {:?}", read.statement));
+            page.put(" ");
+            page.put_debug(&read.statement);
             put_large(page, read.large);
         }
-        Err(stop) => page.put(format_args!(" {stop:?}")),
+        Err(stop) => {
+            page.put(" ");
+            page.put_debug(&stop);
+        }
     }
 }
 
 // What is wrong, and the line and the column.
 fn put_refusal(page: &mut Page, error: SourceError) {
     let SourceError { kind, line, column } = error;
-    page.put(format_args!(" {kind:?} {line}:{column}"));
+    page.put(" ");
+    page.put_debug(&kind);
+    page.put(" ");
+    page.put(line);
+    page.put(":");
+    page.put(column);
 }
 
 /// The lines of a source's map, each with its number.
@@ -43,7 +58,11 @@ pub fn put_parsed(page: &mut Page, source: &[u8]) {
     match parse(page.alloc(), source) {
         Ok(program) => {
             for (number, statement) in program.lines() {
-                page.put(format_args!(" {number} {statement:?};"));
+                page.put(" ");
+                page.put(number);
+                page.put(" ");
+                page.put_debug(&statement);
+                page.put(";");
             }
         }
         Err(error) => put_refusal(page, error),
@@ -53,7 +72,10 @@ pub fn put_parsed(page: &mut Page, source: &[u8]) {
 /// An expression as a user writes it.
 pub fn put_parsed_expression(page: &mut Page, text: &[u8]) {
     match parse_expr(page.alloc(), text) {
-        Ok(expr) => page.put(format_args!(" {expr:?}")),
+        Ok(expr) => {
+            page.put(" ");
+            page.put_debug(&expr);
+        }
         Err(error) => put_refusal(page, error),
     }
 }
@@ -64,7 +86,9 @@ pub fn put_tokens(page: &mut Page, line: &[u8]) {
     if let Some(tokens) = page.held(tokens) {
         for token in tokens.as_slice() {
             let text = token.text.escape_ascii();
-            page.put(format_args!(" \"{text}\""));
+            page.put(" \"");
+            page.put(text);
+            page.put("\"");
         }
     }
 }
@@ -75,7 +99,8 @@ pub fn put_kinds(page: &mut Page, line: &[u8]) {
     if let Some(tokens) = page.held(tokens) {
         for token in tokens.as_slice() {
             let kind = token.kind;
-            page.put(format_args!(" {kind:?}"));
+            page.put(" ");
+            page.put_debug(&kind);
         }
     }
 }

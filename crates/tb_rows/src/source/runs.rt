@@ -31,7 +31,11 @@ fn put_run(page: &mut Page, program: &Program, keys: &[u8], answers: &[u8]) {
     let run = run_source(page.alloc(), program, SEED, keys, answers, LIMIT);
     if let Some(run) = page.held(run) {
         let sent = run.sent.escape_ascii();
-        page.put(format_args!(" {:?} \"{sent}\"", run.end));
+        page.put(" ");
+        page.put_debug(&run.end);
+        page.put(" \"");
+        page.put(sent);
+        page.put("\"");
     }
 }
 
@@ -40,10 +44,14 @@ fn put_ten_lines(page: &mut Page, program: &Program) {
     let run = run_source(page.alloc(), program, SEED, &[], &[], 10);
     if let Some(run) = page.held(run) {
         let sent = run.sent.escape_ascii();
-        page.put(format_args!(
-            " {:?} \"{sent}\" {:?} {:?}",
-            run.end, run.place, run.variables
-        ));
+        page.put(" ");
+        page.put_debug(&run.end);
+        page.put(" \"");
+        page.put(sent);
+        page.put("\" ");
+        page.put_debug(&run.place);
+        page.put(" ");
+        page.put_debug(&run.variables);
     }
 }
 
@@ -52,7 +60,8 @@ pub fn put_jump(page: &mut Page, keys: &[u8]) {
     let mut source = Page::new(page.alloc());
     source.put("10 INPUT A\n20 GOTO A\n");
     for tens in 3u16..300 {
-        source.put(format_args!("{tens}0 END\n"));
+        source.put(tens);
+        source.put("0 END\n");
     }
     source.put("3000 PRINT \"Z\"");
     put_program(page, "run", source.text().as_bytes(), keys);
@@ -65,7 +74,8 @@ pub fn put_value(page: &mut Page, text: &[u8]) {
         let mut variables = [0; 26];
         variables[0] = 5;
         let value = eval(&expr, &variables);
-        page.put(format_args!(" {value:?}"));
+        page.put(" ");
+        page.put_debug(&value);
     }
 }
 
@@ -74,14 +84,21 @@ fn put_lowered(page: &mut Page, name: &str, program: &Program) {
     match lower(page.alloc(), program) {
         Ok(code) if name == "lower" => put_code(page, &code),
         Ok(code) => put_groups(page, &code),
-        Err(error) => page.put(format_args!(" {error:?}")),
+        Err(error) => {
+            page.put(" ");
+            page.put_debug(&error);
+        }
     }
 }
 
 // The slot code of each line.
 fn put_code(page: &mut Page, code: &SlotCode) {
     for line in code.lines() {
-        page.put(format_args!(" {} {:?};", line.number, line.code));
+        page.put(" ");
+        page.put(line.number);
+        page.put(" ");
+        page.put_debug(&line.code);
+        page.put(";");
     }
 }
 
@@ -90,7 +107,11 @@ fn put_groups(page: &mut Page, code: &SlotCode) {
     for line in code.lines() {
         let groups = select(page.alloc(), &line.code);
         if let Some(groups) = page.held(groups) {
-            page.put(format_args!(" {} {groups:?};", line.number));
+            page.put(" ");
+            page.put(line.number);
+            page.put(" ");
+            page.put_debug(&groups);
+            page.put(";");
         }
     }
 }
@@ -100,7 +121,10 @@ fn put_missing(page: &mut Page, program: &Program) {
     let warnings = warnings(page.alloc(), program);
     if let Some(warnings) = page.held(warnings) {
         for warning in warnings.as_slice() {
-            page.put(format_args!(" {} to {}", warning.line, warning.target));
+            page.put(" ");
+            page.put(warning.line);
+            page.put(" to ");
+            page.put(warning.target);
         }
     }
 }

@@ -24,7 +24,9 @@ pub fn items_in(page: &mut Page, text: &[u8]) -> Option<Vec<Item>> {
     match read_text(page.alloc(), text) {
         Ok(items) => Some(items),
         Err(error) => {
-            page.put(format_args!("Text({error:?})"));
+            page.put("Text(");
+            page.put_debug(&error);
+            page.put(")");
             None
         }
     }
@@ -48,7 +50,9 @@ fn items_of(page: &mut Page, escaped: &str) -> Option<Vec<Item>> {
 
 /// Says why items were not assembled.
 pub fn put_refusal(page: &mut Page, error: AsmError) {
-    page.put(format_args!("Item({error:?})"));
+    page.put("Item(");
+    page.put_debug(&error);
+    page.put(")");
 }
 
 /// The image of items at an address. Says why there is none.
@@ -96,9 +100,12 @@ fn put_settled(page: &mut Page, row: &str) {
 }
 
 fn put_labels(page: &mut Page, image: &Image) {
-    page.put(format_args!(", from {:04X}:", image.at));
+    page.put(", from ");
+    page.put_word(image.at);
+    page.put(":");
     for address in image.labels.values() {
-        page.put(format_args!(" {address:04X}"));
+        page.put(" ");
+        page.put_word(*address);
     }
 }
 
@@ -145,7 +152,9 @@ fn put_found(page: &mut Page, image: &Image, name: &str) {
         return page.fail();
     };
     match image.address_of(&name) {
-        Some(address) => page.put(format_args!("{address:04X}")),
+        Some(address) => {
+            page.put_word(address);
+        }
         None => page.put("none"),
     }
 }

@@ -95,7 +95,10 @@ pub fn ending_of(alloc: Global, engine: Engine, input: &[u8]) -> Ending {
 
 /// Appends the status and the text for standard error.
 pub fn put_status(page: &mut Page, outcome: Outcome) {
-    page.put(format_args!("{} \"{outcome}\"", outcome.status()));
+    page.put(outcome.status());
+    page.put(" \"");
+    page.put(outcome);
+    page.put("\"");
 }
 
 /// Appends the status, the text for standard error, and what was written: of the assembler bytes, else a text.

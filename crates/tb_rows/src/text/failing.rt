@@ -16,7 +16,10 @@ pub fn put_prefixes(page: &mut Page, engine: Engine, input: &[u8]) {
         let mut shown = Page::new(page.alloc());
         put_ending(&mut shown, engine, &ending);
         if shown.text() != last.text() {
-            page.put(format_args!("\n  from {length} on {}", shown.text()));
+            page.put("\n  from ");
+            page.put(length);
+            page.put(" on ");
+            page.put(shown.text());
         }
         last = shown;
     }
@@ -46,13 +49,18 @@ pub fn put_failing_readers(page: &mut Page, engine: Engine, input: &[u8]) {
     for until_fault in 0..=input.len() {
         for most in [1, 7, 4096] {
             if !reader_fails(page.alloc(), engine, input, until_fault, most) {
-                page.put(format_args!("no fault behind {until_fault}, {most} at once"));
+                page.put("no fault behind ");
+                page.put(until_fault);
+                page.put(", ");
+                page.put(most);
+                page.put(" at once");
                 return;
             }
             met = met.saturating_add(1);
         }
     }
-    page.put(format_args!("{met} faults, and nothing written"));
+    page.put(met);
+    page.put(" faults, and nothing written");
 }
 
 // Whether an engine writes what its writer takes of the whole text, and tells of a fault where that is not all.
@@ -87,13 +95,19 @@ pub fn put_failing_writers(page: &mut Page, engine: Engine, input: &[u8]) {
     for until_fault in 0..=whole.wrote.len() {
         for most in [1, 2, 4096] {
             if !writer_fails(page.alloc(), engine, input, &whole.wrote, until_fault, most) {
-                page.put(format_args!(", and no prefix behind {until_fault}, {most} at once"));
+                page.put(", and no prefix behind ");
+                page.put(until_fault);
+                page.put(", ");
+                page.put(most);
+                page.put(" at once");
                 return;
             }
             met = met.saturating_add(1);
         }
     }
-    page.put(format_args!(", and a prefix of it {met} times"));
+    page.put(", and a prefix of it ");
+    page.put(met);
+    page.put(" times");
 }
 
 /// Appends what comes of a writer that hands bytes on when it is flushed, and of one whose flush fails.
@@ -113,5 +127,9 @@ fn put_held(page: &mut Page, engine: Engine, input: &[u8], fails: bool) {
     let outcome = call(page.alloc(), engine, &mut Tracked::new(input), &mut writer);
     put_status(page, outcome);
     let (handed_on, taken) = (writer.stream.handed_on, writer.stream.taken.len());
-    page.put(format_args!(", {handed_on} of {taken} handed on"));
+    page.put(", ");
+    page.put(handed_on);
+    page.put(" of ");
+    page.put(taken);
+    page.put(" handed on");
 }

@@ -10,7 +10,11 @@ pub fn put_answer(page: &mut Page, name: &str, rest: &str) {
     match name {
         "keys" => put_keys(page, rest),
         "address" => put_address(page, rest),
-        "key-errors" => page.put(format_args!("{}, {}", KeyError::BadKeys, KeyError::NoMemory)),
+        "key-errors" => {
+            page.put(KeyError::BadKeys);
+            page.put(", ");
+            page.put(KeyError::NoMemory);
+        }
         "sent" => put_sent(page, rest),
         _ => page.fail(),
     }
@@ -27,13 +31,19 @@ fn put_keys(page: &mut Page, escaped: &str) {
 fn put_key_list(page: &mut Page, text: &str) {
     match key_list(page.alloc(), text) {
         Ok(keys) => put_bytes(page, &keys),
-        Err(error) => page.put(format_args!("Keys({error:?})")),
+        Err(error) => {
+            page.put("Keys(");
+            page.put_debug(&error);
+            page.put(")");
+        }
     }
 }
 
 fn put_address(page: &mut Page, text: &str) {
     match address(text) {
-        Some(address) => page.put(format_args!("{address:04X}")),
+        Some(address) => {
+            page.put_word(address);
+        }
         None => page.put("none"),
     }
 }

@@ -15,7 +15,11 @@ pub fn put_answer(page: &mut Page, name: &str, rest: &str) {
     match name {
         "disassemble" => put_listing_of(page, rest),
         "read" => put_loaded(page, rest),
-        "prg-errors" => page.put(format_args!("{}, {}", PrgError::TooShort, PrgError::RunsPast)),
+        "prg-errors" => {
+            page.put(PrgError::TooShort);
+            page.put(", ");
+            page.put(PrgError::RunsPast);
+        }
         "write" => put_file(page, rest),
         _ => page.fail(),
     }
@@ -33,7 +37,11 @@ fn put_listing_of(page: &mut Page, row: &str) {
                 put_listing(page, at, &bytes, &text);
             }
         }
-        Err(error) => page.put(format_args!("List({error:?})")),
+        Err(error) => {
+            page.put("List(");
+            page.put_debug(&error);
+            page.put(")");
+        }
     }
 }
 
@@ -53,10 +61,15 @@ fn put_loaded(page: &mut Page, groups: &str) {
     let file = bytes_of(page, groups);
     match tb_prg::read(&file) {
         Ok(loaded) => {
-            page.put(format_args!("{:04X}: ", loaded.at));
+            page.put_word(loaded.at);
+            page.put(": ");
             put_bytes(page, loaded.bytes);
         }
-        Err(error) => page.put(format_args!("Prg({error:?})")),
+        Err(error) => {
+            page.put("Prg(");
+            page.put_debug(&error);
+            page.put(")");
+        }
     }
 }
 

@@ -11,7 +11,8 @@ const SHOWN: usize = 5;
 fn put_each(page: &mut Page, bytes: &[u8]) {
     let mut between = "";
     for byte in bytes {
-        page.put(format_args!("{between}{byte:02X}"));
+        page.put(between);
+        page.put_byte(*byte);
         between = " ";
     }
 }
@@ -24,7 +25,8 @@ pub fn put_bytes(page: &mut Page, bytes: &[u8]) {
     if bytes.len() <= MOST_SHOWN {
         return put_each(page, bytes);
     }
-    page.put(format_args!("{} bytes: ", bytes.len()));
+    page.put(bytes.len());
+    page.put(" bytes: ");
     put_each(page, &bytes[..SHOWN]);
     page.put(" .. ");
     put_each(page, &bytes[bytes.len() - SHOWN..]);
@@ -34,6 +36,6 @@ pub fn put_bytes(page: &mut Page, bytes: &[u8]) {
 pub fn put_text(page: &mut Page, text: &[u8]) {
     let text = str::from_utf8(text);
     if let Some(text) = page.held(text) {
-        page.put(format_args!("{text:?}"));
+        page.put_debug(&text);
     }
 }

@@ -1,3 +1,4 @@
+use Rattle.std.proofs.Common.{arith}
 use Rattle.tb_syntax.specs.Source.{numbers}
 use Rattle.tb_reaching.specs.View.{part_at}
 use Rattle.tb_runtime16.specs.Routines.{limit_by}
@@ -10,4 +11,4 @@ use Rattle.tb_grouping.proofs.promises.marks_lines.Goals as goal
 pub returns : goal.returns
 returns c place bytes labels seed program code i =
     marks place bytes i.from i.to (layout_of labels (numbers code) seed) program code i.follows i.closed i.laid.first (groups_laid labels seed (part_at place bytes) code i.laid i.polled)
-    limit_by 192 (routines place bytes i.from i.to labels seed code i.laid) (prologue place bytes i.from i.to labels seed code i.laid)
+    limit_by (λ k. omega arith) 192 (routines place bytes i.from i.to labels seed code i.laid) (prologue place bytes i.from i.to labels seed code i.laid)

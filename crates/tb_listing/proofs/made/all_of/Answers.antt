@@ -8,6 +8,7 @@ returns c = record {
   labels = c.in_ok-labels.ensures ∙ (λ i. labels_text (places (c.starts.ensures i) (c.table.ensures i)));
   listing = c.in_ok-list.ensures.back;
   readable = c.in_ok-list.ensures.readable;
+  shows = c.in_ok-list.ensures.shows;
   map = c.in_ok-chart.ensures;
   warnings = c.in_ok-from_slice-2.ensures.items ∙ c.warnings.ensures;
 }

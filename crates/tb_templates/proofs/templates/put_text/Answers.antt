@@ -2,4 +2,4 @@ use Rattle.tb_templates.proofs.Appends.{three}
 use Rattle.tb_templates.proofs.templates.put_text.Goals as goal
 
 pub returns : goal.returns
-returns c = three _ _ _ _ _ _ _ c.in_ok-put_pointer.ensures c.in_ok-put_text_call.ensures c.in_ok-put_inline.ensures
+returns c = three _ _ _ _ _ _ _ c.in_ok-put_address.ensures c.in_ok-put_text_call.ensures c.in_ok-put_inline.ensures

@@ -1,6 +1,6 @@
 use Rattle.std.proofs.Common.{ap, ◌∙◌}
 use Rattle.tb_codegen.specs.Compiled.{starts_of}
-use Rattle.tb_debug.specs.Runs.{line_at}
+use Rattle.tb_debug.specs.Lines.{line_at}
 use Rattle.tb_debug.proofs.Sources.{shows_some}
 use Rattle.tb_debug.proofs.debugger.Debugger.line_here.Goals as goal
 

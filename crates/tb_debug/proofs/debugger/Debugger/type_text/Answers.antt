@@ -1,6 +1,6 @@
-use Rattle.std.proofs.Common.{refl, sym, subst}
+use Rattle.std.proofs.Common.{refl, sym, subst, ◌∙◌, arith}
 use Rattle.tb_debug.specs.Runs.{AreKept, typed}
-use Rattle.tb_debug.proofs.Typing.{typed_all, typed_moment}
+use Rattle.tb_debug.proofs.Typing.{typed_all, typed_kept, typed_moment}
 use Rattle.tb_debug.proofs.debugger.Debugger.type_text.Goals as goal
 
 pub returns : goal.returns
@@ -14,7 +14,10 @@ returns c = (
       record {
         marked = h.marked;
         of_run = typed_moment marks start more _ _ now h.of_run;
-        of_past = subst (λ n. AreKept marks (typed more start) n c.type_text-2.new.self.kept.items) (sym now.events)
-            (typed_all marks start more c.args.self.now.present.events c.args.self.now.history.kept.items c.type_text-2.new.self.kept.items h.of_run.ran c.in_ok-type_text-2.ensures h.of_past);
+        of_first =
+            let first = typed_kept marks start more c.args.self.now.present.events c.args.self.now.history.first c.type_text-2.new.self.first h.of_run.ran c.in_ok-type_text-2.ensures.first c.in_ok-type_text-2.ensures.sent (h.of_first.0, omega (arith, h.of_first.1)) in
+            (first.0, c.in_ok-type_text-2.ensures.first.events ∙ h.of_first.1);
+        of_past = subst (λ n. AreKept marks (typed more start) n c.type_text-2.new.self.later.items) (sym now.events)
+            (typed_all marks start more c.args.self.now.present.events c.args.self.now.history.later.items c.type_text-2.new.self.later.items h.of_run.ran c.in_ok-type_text-2.ensures.later h.of_past);
       },
 )

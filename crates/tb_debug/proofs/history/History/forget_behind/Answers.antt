@@ -5,8 +5,8 @@ use Rattle.std.proofs.lemmas.List.Elements.{All-filter}
 use Rattle.tb_debug.specs.Runs.{AreKept, IsKept}
 use Rattle.tb_debug.proofs.history.History.forget_behind.Goals as goal
 
-pub returns : goal.returns
-returns c = λ marks start n all.
+pub returns-clause-later : goal.returns-clause-later
+returns-clause-later c = λ marks start n all.
     let events = c.args.events in
     let same = filter_same _ (λ k. nat_le k.moment.events events) _ (λ x b f' k. search rules) _ _ c.retain.ensures.filtered in
     let before = subst (AreKept marks start n) (sym same) (All-filter (λ k. nat_le k.moment.events events) (λ k. IsKept marks start k × (k.moment.events ≤ n)) _ all) in

@@ -3,10 +3,10 @@ use Rattle.std.proofs.lemmas.List.Elements.{All-push}
 use Rattle.tb_debug.specs.Runs.{AreKept, IsKept}
 use Rattle.tb_debug.proofs.history.History.keep.Goals as goal
 
-pub returns : goal.returns
-returns c = λ marks start h all.
+pub returns-clause-later : goal.returns-clause-later
+returns-clause-later c = λ marks start h all.
     let events = c.args.moment.now.events in
     let few : c.in_ok-kept.kept.moment.events ≤ events = omega (arith, c.in_ok-kept.ensures.events) in
-    subst (AreKept marks start events) (sym c.in_ok-push.ensures)
-    (All-push (λ k. IsKept marks start k × (k.moment.events ≤ events)) c.make_room.new.self.kept.items c.in_ok-kept.kept (c.make_room.ensures marks start events all)
+    subst (AreKept marks start events) (sym c.in_ok-push.ensures.later)
+    (All-push (λ k. IsKept marks start k × (k.moment.events ≤ events)) c.make_room.new.self.later.items c.in_ok-kept.kept (c.make_room.ensures.later marks start events all)
     (c.in_ok-kept.ensures.kept marks start h, few))

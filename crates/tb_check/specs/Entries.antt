@@ -1,0 +1,66 @@
+-- The lines of a file that have a number, and those of them that are too deep.
+use Rattle.std.specs.Prelude.{◌≡◌, ◌⊎◌, ℕ, ◌+◌, nat_lt, Bool, false, not, ◌&&◌, ◌||◌, ◌==◌, if◌then◌else◌, List, [], ◌∷◌, ◌++◌, Option, Some, None, option_map, Ok, Err}
+use Rattle.tb_syntax.specs.Source.{Command}
+use Rattle.tb_syntax.specs.Shown.{command_of}
+use Rattle.tb_syntax.specs.declared.statements.Statement.{Statement}
+use Rattle.tb_lower.specs.Need.{command_need}
+use Rattle.tb_parser.specs.Lines.{lines_of_file}
+use Rattle.tb_parser.specs.Readings.{LineIs, Refusal, Nothing, Sets, Deletes}
+use Rattle.tb_check.specs.declared.lines.NumberedLine.{NumberedLine}
+
+-- a line with a number: which line of the file it is, its number, and its statement, None where the number is bare
+pub record Entry : Type 0 where
+  pub line : ℕ
+  pub number : ℕ
+  pub states : Option Command
+
+abbrev pub entry_of : NumberedLine → Entry
+entry_of l = record { line = l.line; number = l.number; states = option_map command_of l.statement }
+
+-- a line's number and its statement; None where it has no number or is bad
+abbrev pub IsEntry : List ℕ → Option (ℕ × Option Command) → Type 0
+IsEntry line None = LineIs line (Ok Nothing) ⊎ ((r : Refusal) × LineIs line (Err r))
+IsEntry line (Some (number, Some c)) = LineIs line (Ok (Sets number c))
+IsEntry line (Some (number, None)) = LineIs line (Ok (Deletes number))
+
+-- the entries of lines of which the first is line n of the file
+pub data EntriesAre : ℕ → List (List ℕ) → List Entry → Type 0 where
+  none : (n : ℕ) → EntriesAre n [] []
+  left_out : (n : ℕ) (line : List ℕ) (lines : List (List ℕ)) (es : List Entry) → IsEntry line None → EntriesAre (n + 1) lines es → EntriesAre n (line ∷ lines) es
+  entered : (line : List ℕ) (lines : List (List ℕ)) (es : List Entry) (e : Entry)
+      → IsEntry line (Some (e.number, e.states)) → EntriesAre (e.line + 1) lines es → EntriesAre e.line (line ∷ lines) (e ∷ es)
+
+-- ── lines that are too deep ──
+-- whether a statement needs more than 16 slots
+abbrev pub is_deep : Option Command → Bool
+is_deep None = false
+is_deep (Some c) = nat_lt 16 (command_need c)
+
+-- whether one of these lines has the number
+abbrev pub has_number : ℕ → List Entry → Bool
+has_number n [] = false
+has_number n (e ∷ es) = (e.number == n) || has_number n es
+
+-- a line, where it is too deep and no line behind it has its number
+abbrev pub deep_here : Entry → List Entry → List ℕ
+deep_here e es = if is_deep e.states && not (has_number e.number es) then e.line ∷ [] else []
+
+-- all such lines, in the order of the file
+abbrev pub deep_of : List Entry → List ℕ
+deep_of [] = []
+deep_of (e ∷ es) = deep_here e es ++ deep_of es
+
+-- the lines of a file that are too deep and that no later line replaces or takes out
+abbrev pub DeepLinesAre : List ℕ → List ℕ → Type 0
+DeepLinesAre source deep = (es : List Entry) × EntriesAre 1 (lines_of_file source) es × (deep ≡ deep_of es)
+
+-- ── steps ──
+-- what is found in a line, as plain data
+abbrev pub number_and_command : Option (ℕ × Option Statement) → Option (ℕ × Option Command)
+number_and_command found = option_map (λ p. (p.0, option_map command_of p.1)) found
+
+-- line n was looked at: it has no entry, or its entry was appended
+abbrev pub Enters : ℕ → List ℕ → List Entry → List Entry → Type 0
+Enters n line old new =
+    (IsEntry line None × (new ≡ old))
+    ⊎ ((e : Entry) × IsEntry line (Some (e.number, e.states)) × (e.line ≡ n) × (new ≡ old ++ e ∷ []))

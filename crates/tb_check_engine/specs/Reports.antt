@@ -1,0 +1,64 @@
+-- What is said of a file.
+use Rattle.std.specs.Prelude.{ℕ, ◌-◌, List, [], ◌++◌, codes, flat_map, unwrap_or, Option, Some, None}
+use Rattle.std.specs.List.{slice_get}
+use Rattle.std.specs.Fmt.{decimal}
+use Rattle.tb_parser.specs.declared.errors.SourceError.{SourceError}
+use Rattle.tb_parser.specs.declared.errors.SourceErrorKind.TheVariants.{Empty as NothingLeft}
+use Rattle.tb_engines.specs.Texts.{source_text, too_large_text, too_deep_text}
+use Rattle.tb_check.specs.declared.advice.LineWarning.{LineWarning}
+use Rattle.tb_check.specs.declared.examination.BadLine.{BadLine}
+use Rattle.tb_check.specs.declared.examination.Findings.{Findings}
+use Rattle.tb_check.specs.declared.examination.Findings.TheVariants.{BadLines, Empty, Refused, Accepted}
+use Rattle.tb_check.specs.declared.notes.Note.{Note}
+use Rattle.tb_check_engine.specs.Rows.{caret_row, line_row}
+use Rattle.tb_check_engine.specs.Texts.{note_text, warning_text}
+
+-- a line of the file, counted from 1
+abbrev pub line_at : List (List ℕ) → ℕ → List ℕ
+line_at lines n = unwrap_or (slice_get lines (n - 1)) []
+
+-- ── rows: NAME, LINE and COLUMN, and what is said ──
+-- `NAME: TEXT`
+abbrev pub file_row : List ℕ → List ℕ → List ℕ
+file_row name said = name ++ (codes ": error: " ++ (said ++ codes "\n"))
+
+-- `NAME:LINE: error: TEXT`, with the line
+abbrev pub deep_rows : List ℕ → List (List ℕ) → ℕ → List ℕ
+deep_rows name lines line =
+    name ++ (codes ":" ++ (decimal line ++ (codes ": error: " ++ (too_deep_text ++ codes "\n")))) ++ line_row (decimal line) (line_at lines line)
+
+-- `NAME:LINE: warning: TEXT`, with the line
+abbrev pub warning_rows : List ℕ → List (List ℕ) → LineWarning → List ℕ
+warning_rows name lines w =
+    name ++ (codes ":" ++ (decimal w.line ++ (codes ": warning: " ++ (warning_text w.warning ++ codes "\n")))) ++ line_row (decimal w.line) (line_at lines w.line)
+
+-- `NAME:LINE:COLUMN: error: TEXT`
+abbrev pub error_row : List ℕ → SourceError → List ℕ
+error_row name e =
+    name ++ (codes ":" ++ (decimal e.line ++ (codes ":" ++ (decimal e.column ++ (codes ": error: " ++ (source_text e.kind ++ codes "\n"))))))
+
+-- `NAME:LINE:COLUMN: note: TEXT`
+abbrev pub note_row : List ℕ → SourceError → Option Note → List ℕ
+note_row name e None = []
+note_row name e (Some note) =
+    name ++ (codes ":" ++ (decimal e.line ++ (codes ":" ++ (decimal e.column ++ (codes ": note: " ++ (note_text note ++ codes "\n"))))))
+
+-- the line of an error, and a caret under its column
+abbrev pub place_rows : List (List ℕ) → SourceError → List ℕ
+place_rows lines e = line_row (decimal e.line) (line_at lines e.line) ++ caret_row (decimal e.line) e.column
+
+-- a bad line: its fault, the line with its place, and a note where there is one
+abbrev pub bad_line_rows : List ℕ → List (List ℕ) → BadLine → List ℕ
+bad_line_rows name lines bad = error_row name bad.error ++ place_rows lines bad.error ++ note_row name bad.error bad.note
+
+-- a program that costs too much
+abbrev pub too_large_row : List ℕ → Option ℕ → List ℕ
+too_large_row name None = []
+too_large_row name (Some cost) = file_row name (too_large_text cost)
+
+-- ── all that is said ──
+abbrev pub report : List ℕ → List (List ℕ) → Findings → List ℕ
+report name lines (BadLines bad) = flat_map (bad_line_rows name lines) bad.items
+report name lines Empty = file_row name (source_text NothingLeft)
+report name lines (Refused deep too_large) = flat_map (deep_rows name lines) deep.items ++ too_large_row name too_large
+report name lines (Accepted warnings) = flat_map (warning_rows name lines) warnings.items

@@ -1,0 +1,64 @@
+-- The texts of notes and warnings.
+use Rattle.std.specs.Prelude.{ℕ, ◌*◌, ◌/◌, ◌==◌, if◌then◌else◌, List, ◌++◌, codes}
+use Rattle.std.specs.Fmt.{decimal, signed_decimal}
+use Rattle.tb_check.specs.Words.{name_of}
+use Rattle.tb_check.specs.declared.words.Missing.{Missing}
+use Rattle.tb_check.specs.declared.words.Missing.TheVariants as missing
+use Rattle.tb_check.specs.declared.notes.Note.{Note}
+use Rattle.tb_check.specs.declared.notes.Note.TheVariants as note
+use Rattle.tb_check.specs.declared.advice.Warning.{Warning}
+use Rattle.tb_check.specs.declared.advice.Warning.TheVariants as warning
+
+-- what helps where a word of other BASICs is missing
+abbrev pub advice : Missing → List ℕ
+advice missing.For = codes "count with LET, IF and GOTO"
+advice missing.Next = codes "count with LET, IF and GOTO"
+advice missing.Step = codes "count with LET, IF and GOTO"
+advice missing.Poke = codes "a program has its variables and no other memory"
+advice missing.Peek = codes "a program has its variables and no other memory"
+advice missing.Dim = codes "there are the variables A to Z and no arrays"
+advice missing.Get = codes "INPUT takes numbers from the keyboard"
+advice missing.On = codes "GOTO and GOSUB take an expression, as GOTO 100*X"
+advice missing.Read = codes "set variables with LET"
+advice missing.Data = codes "set variables with LET"
+advice missing.Def = codes "write the expression where it is used, or GOSUB"
+advice missing.Else = codes "write a second IF, or GOTO"
+advice missing.And = codes "an IF may stand behind an IF: IF A=1 IF B=2 GOTO 100"
+advice missing.Or = codes "write an IF for each side, on lines of their own"
+advice missing.Not = codes "turn the relation round: <> for =, >= for <"
+advice missing.Stop = codes "END ends the run"
+advice missing.Cls = codes "PRINT writes new lines"
+advice missing.Abs = codes "IF X<0 LET X=-X does it"
+advice missing.Tab = codes "a comma in PRINT goes on to the next zone of 8 columns"
+advice missing.Chr = codes "PRINT takes texts between quotes"
+
+-- the text of a note
+abbrev pub note_text : Note → List ℕ
+note_text (note.Missing m) = codes "Tiny BASIC has no " ++ (name_of m ++ (codes "; " ++ advice m))
+note_text note.QuestionMark = codes "Tiny BASIC has no ? for PRINT; write PRINT or PR"
+note_text note.Colon = codes "a line has one statement; give the next one a line of its own"
+note_text note.LongName = codes "a variable's name is one letter, A to Z"
+note_text note.TextName = codes "variables hold numbers alone; texts stand in PRINT"
+note_text note.ThenNumber = codes "a statement follows THEN; write THEN GOTO"
+note_text note.OpenText = codes "the text has no second quote"
+note_text note.Tab = codes "this is a tab; write spaces"
+note_text note.ByteOrderMark = codes "the file begins with a byte order mark (EF BB BF); save it without one"
+note_text (note.Near statement) = codes "did you mean " ++ statement.now
+
+-- how often a bound of RND goes into 30,000
+abbrev pub times_of : ℕ → ℕ
+times_of bound = if bound == 0 then 1 else 30000 / bound
+
+-- what is said of a bound: the largest multiple up to 30,000 is better
+abbrev pub bound_text : ℕ → List ℕ
+bound_text bound =
+    codes "RND(" ++ (decimal bound ++ (codes ") is odd and even in turns; RND("
+    ++ (decimal (times_of bound * bound) ++ (codes ")/" ++ (decimal (times_of bound) ++ codes " is better")))))
+
+-- the text of a warning
+abbrev pub warning_text : Warning → List ℕ
+warning_text (warning.NoLine target) = codes "no line " ++ signed_decimal target
+warning_text (warning.Replaced number by) = codes "line " ++ (decimal number ++ (codes " is replaced by line " ++ (decimal by ++ codes " of the file")))
+warning_text (warning.TakenOut number by) = codes "line " ++ (decimal number ++ (codes " is taken out by line " ++ (decimal by ++ codes " of the file")))
+warning_text warning.RunsPast = codes "runs past the last line (fault 7)"
+warning_text (warning.EvenBound bound) = bound_text bound

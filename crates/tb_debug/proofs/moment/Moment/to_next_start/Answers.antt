@@ -1,0 +1,34 @@
+use Rattle.std.proofs.Common.{◌∙◌, arith}
+use Rattle.tb_debug.proofs.Beginning.{comes_by, none_before, none_more}
+use Rattle.tb_debug.proofs.moment.Moment.to_next_start.Goals as goal
+
+pub returns-then-both-clause-ends : goal.returns-then-both-clause-ends
+returns-then-both-clause-ends c = λ start h.
+    let marks = c.args.starts.now in
+    let before = c.loop-self.self in
+    let now = c.take_event.new.self in
+    let taken = c.in_ok-own.ensures in
+    let was = c.loop-self.invariant.run.on start h in
+    let comes = comes_by marks start before now c.in_ok-own.own c.begins-marked.result c.both.result (taken.run.on start was) taken.one (taken.own start was) c.begins-marked.ensures c.both.ensures in (
+      omega (arith, taken.one, c.loop-self.invariant.run.later),
+      comes ∙ c.if-both.true,
+      none_before marks start _ before.events now.events taken.one (c.loop-self.invariant.none start h),
+    )
+
+pub loop-self-preserved : goal.loop-self-preserved
+loop-self-preserved c =
+    let marks = c.args.starts.now in
+    let before = c.loop-self.self in
+    let now = c.take_event.new.self in
+    let taken = c.in_ok-own.ensures in
+    record {
+      run = record {
+        on = λ start h. taken.run.on start (c.loop-self.invariant.run.on start h);
+        later = omega (arith, taken.one, c.loop-self.invariant.run.later);
+      };
+      few = omega (arith, taken.one, c.loop-self-test.true);
+      none = λ start h.
+          let was = c.loop-self.invariant.run.on start h in
+          let comes = comes_by marks start before now c.in_ok-own.own c.begins-marked.result c.both.result (taken.run.on start was) taken.one (taken.own start was) c.begins-marked.ensures c.both.ensures in
+          none_more marks start _ before.events now.events taken.one (c.loop-self.invariant.none start h) (comes ∙ c.if-both.false);
+    }

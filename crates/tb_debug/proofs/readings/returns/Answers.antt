@@ -1,0 +1,12 @@
+use Rattle.std.proofs.Common.{ap, ◌∙◌}
+use Rattle.tb_memmap.specs.Bytes.{at}
+use Rattle.tb_codegen.specs.Compiled.{starts_of}
+use Rattle.tb_debug.specs.Lines.{line_at}
+use Rattle.tb_debug.proofs.Returns.{one_told}
+use Rattle.tb_debug.proofs.readings.returns.Goals as goal
+
+pub loop-told-preserved : goal.loop-told-preserved
+loop-told-preserved c =
+    let lines = starts_of c.args.program.now in
+    one_told lines (at c.args.memory.now) c.loop-told.lines.items c.notes-count.result c.loop-told.told c.push.new.self.items c.line_from.result
+    c.loop-told-test.true c.in_ok-push.ensures.items (c.line_from.ensures ∙ ap (line_at lines) c.note.ensures) c.loop-told.invariant

@@ -1,0 +1,181 @@
+-- The commands that lines spell.
+use Rattle.std.specs.Prelude.{ℕ, ◌+◌, ◌-◌, ◌*◌, ◌==◌, ◌&&◌, nat_le, List, [], ◌∷◌, length, Option, Some, None, if◌then◌else◌}
+use Rattle.std.specs.List.{list_all}
+use Rattle.std.specs.Option.{option_and_then}
+use Rattle.tb_words.specs.Letters.{place}
+use Rattle.tb_words.specs.declared.Letter.{Letter}
+use Rattle.tb_grammar.specs.Grammar.{value_after}
+use Rattle.tb_grammar.specs.Reading.{is_digit, is_letter}
+use Rattle.tb_debug_commands.specs.declared.command.Command.{Command}
+use Rattle.tb_debug_commands.specs.declared.command.Command.TheVariants as command
+
+-- what a line asks for: a variable is said by its place in the alphabet, a text by its bytes
+pub data Asked : Type 0 where
+  On : (lines : ℕ) → Asked
+  Back : (lines : ℕ) → Asked
+  Breakpoints : Asked
+  Breakpoint : (line : ℕ) → Asked
+  GoOn : Asked
+  GoBack : Asked
+  Watch : (index : ℕ) → Asked
+  ToLine : (line : ℕ) → Asked
+  ToTime : (time : ℕ) → Asked
+  ListHere : Asked
+  ListAt : (line : ℕ) → Asked
+  Variables : Asked
+  Variable : (index : ℕ) → Asked
+  Value : (text : List ℕ) → Asked
+  Returns : Asked
+  Output : Asked
+  Types : (text : List ℕ) → Asked
+  Step : (events : ℕ) → Asked
+  Registers : Asked
+  Memory : (address count : ℕ) → Asked
+  Code : Asked
+  Help : Asked
+  Quit : Asked
+  Unknown : Asked
+
+-- a command that was read, as what its line asks for
+abbrev pub asked_of : Command → Asked
+asked_of (command.On lines) = On lines
+asked_of (command.Back lines) = Back lines
+asked_of command.Breakpoints = Breakpoints
+asked_of (command.Breakpoint line) = Breakpoint line
+asked_of command.GoOn = GoOn
+asked_of command.GoBack = GoBack
+asked_of (command.Watch letter) = Watch (place letter)
+asked_of (command.ToLine line) = ToLine line
+asked_of (command.ToTime time) = ToTime time
+asked_of command.ListHere = ListHere
+asked_of (command.List line) = ListAt line
+asked_of command.Variables = Variables
+asked_of (command.Variable letter) = Variable (place letter)
+asked_of (command.Value text) = Value text.now
+asked_of command.Returns = Returns
+asked_of command.Output = Output
+asked_of (command.Type text) = Types text.now
+asked_of (command.Step events) = Step events
+asked_of command.Registers = Registers
+asked_of (command.Memory at count) = Memory at count
+asked_of command.Code = Code
+asked_of command.Help = Help
+asked_of command.Quit = Quit
+asked_of command.Unknown = Unknown
+
+-- ---- numbers and names
+
+-- what digits stand for behind a number, up to the largest one of 64 bits
+abbrev pub number_behind : ℕ → List ℕ → Option ℕ
+number_behind n ds = if list_all is_digit ds && nat_le (value_after n ds) 18446744073709551615 then Some (value_after n ds) else None
+
+-- the number that one to 18 digits spell
+abbrev pub number_of : List ℕ → Option ℕ
+number_of ds = if nat_le 1 (length ds) && nat_le (length ds) 18 then number_behind 0 ds else None
+
+-- the number of a line; one that no line has stands for each larger one
+abbrev pub line_of : ℕ → ℕ
+line_of n = if nat_le n 65535 then n else 65535
+
+-- what a hexadecimal digit stands for, in either case
+abbrev pub digit_of : ℕ → Option ℕ
+digit_of b =
+    if nat_le 48 b && nat_le b 57 then Some (b - 48)
+    else if nat_le 65 b && nat_le b 70 then Some (b - 65 + 10)
+    else if nat_le 97 b && nat_le b 102 then Some (b - 97 + 10)
+    else None
+
+-- the address that four hexadecimal digits spell
+abbrev pub address_of : ℕ → ℕ → ℕ → ℕ → Option ℕ
+address_of a b c d =
+    option_and_then (λ p. option_and_then (λ q. option_and_then (λ r. option_and_then (λ s. Some (4096 * p + 256 * q + 16 * r + s)) (digit_of d)) (digit_of c)) (digit_of b)) (digit_of a)
+
+-- the place of a letter, capital or small
+abbrev pub place_named : ℕ → Option ℕ
+place_named b = if is_letter b then Some (b - 65) else if nat_le 97 b && nat_le b 122 then Some (b - 97) else None
+
+-- the place of the variable that a text of one letter names
+abbrev pub variable_in : List ℕ → Option ℕ
+variable_in [] = None
+variable_in (b ∷ []) = place_named b
+variable_in (b ∷ c ∷ text) = None
+
+-- the place of a letter that was read
+abbrev pub place_of : Option Letter → Option ℕ
+place_of (Some letter) = Some (place letter)
+place_of None = None
+
+-- ---- commands
+
+-- a letter alone; `k` alone types the return
+abbrev pub alone : ℕ → Asked
+alone c =
+    if c == 110 then On 1
+    else if c == 112 then Back 1
+    else if c == 98 then Breakpoints
+    else if c == 99 then GoOn
+    else if c == 108 then ListHere
+    else if c == 118 then Variables
+    else if c == 114 then Returns
+    else if c == 111 then Output
+    else if c == 107 then Types []
+    else if c == 115 then Step 1
+    else if c == 120 then Registers
+    else if c == 105 then Code
+    else if c == 104 then Help
+    else if c == 113 then Quit
+    else Unknown
+
+-- a letter before a number: n, p, t, s, b, g or l
+abbrev pub counting : ℕ → ℕ → Asked
+counting c n =
+    if c == 110 then On n
+    else if c == 112 then Back n
+    else if c == 116 then ToTime n
+    else if c == 115 then Step n
+    else if c == 98 then Breakpoint (line_of n)
+    else if c == 103 then ToLine (line_of n)
+    else if c == 108 then ListAt (line_of n)
+    else Unknown
+
+-- the same of a text that may spell no number
+abbrev pub with_number : ℕ → Option ℕ → Asked
+with_number c (Some n) = counting c n
+with_number c None = Unknown
+
+-- v or w before what may name a variable
+abbrev pub named : (ℕ → Asked) → Option ℕ → Asked
+named asks (Some index) = asks index
+named asks None = Unknown
+
+-- 1 to 256 bytes from an address on
+abbrev pub memory_at : Option ℕ → Option ℕ → Asked
+memory_at (Some at) (Some count) = if nat_le 1 count && nat_le count 256 then Memory at count else Unknown
+memory_at (Some at) None = Unknown
+memory_at None count = Unknown
+
+-- m before an address, and a number where one stands behind a space; else 16
+abbrev pub memory_in : List ℕ → Asked
+memory_in (a ∷ b ∷ c ∷ d ∷ []) = memory_at (address_of a b c d) (Some 16)
+memory_in (a ∷ b ∷ c ∷ d ∷ space ∷ count) = if space == 32 then memory_at (address_of a b c d) (number_of count) else Unknown
+memory_in _ = Unknown
+
+-- a letter before a text
+abbrev pub with_text : ℕ → List ℕ → Asked
+with_text c text =
+    if c == 101 then Value text
+    else if c == 107 then Types text
+    else if c == 109 then memory_in text
+    else if c == 118 then named Variable (variable_in text)
+    else if c == 119 then named Watch (variable_in text)
+    else with_number c (number_of text)
+
+-- a letter and a text with a space between them, or rc
+abbrev pub words : ℕ → ℕ → List ℕ → Asked
+words c next text = if next == 32 then with_text c text else if c == 114 && next == 99 && length text == 0 then GoBack else Unknown
+
+-- a line
+abbrev pub asked_in : List ℕ → Asked
+asked_in [] = Unknown
+asked_in (c ∷ []) = alone c
+asked_in (c ∷ next ∷ text) = words c next text

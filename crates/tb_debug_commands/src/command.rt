@@ -1,0 +1,254 @@
+//! Commands, as lines spell them.
+ghost use Rattle.std.specs.Prelude.{◌≡◌, ◌≤◌, ◌<◌, length, IfSome};
+ghost use Rattle.tb_debug_commands.specs.Commands.{asked_of, asked_in, alone, words, with_text, place_of, variable_in, with_number, counting, line_of, memory_in, memory_at, address_of, digit_of, number_behind, number_of};
+
+use tb_words::Letter;
+
+/// The most digits of a number.
+const MOST_DIGITS: usize = 18;
+
+/// The most bytes that are shown of memory.
+const MOST_BYTES: u64 = 256;
+
+/// How many bytes are shown where a line doesn't say.
+const BYTES: u64 = 16;
+
+/// What a line asks for.
+#[derive(Clone, Copy, PartialEq, Eq, Debug, Drop)]
+pub enum Command<'a> {
+    /// `n [K]`: on by K lines.
+    On(u64),
+    /// `p [K]`: back by K lines.
+    Back(u64),
+    /// `b`: lists the breakpoints.
+    Breakpoints,
+    /// `b N`: sets or clears a breakpoint.
+    Breakpoint(u16),
+    /// `c`: on to a stop.
+    GoOn,
+    /// `rc`: back to a stop.
+    GoBack,
+    /// `w X`: sets or clears a watch.
+    Watch(Letter),
+    /// `g N`: on to a line.
+    ToLine(u16),
+    /// `t M`: to a time.
+    ToTime(u64),
+    /// `l`: lists the source round the place.
+    ListHere,
+    /// `l N`: lists the source round a line.
+    List(u16),
+    /// `v`: the variables that are not 0.
+    Variables,
+    /// `v X`: the value of a variable.
+    Variable(Letter),
+    /// `e EXPR`: the value of what is to be an expression.
+    Value(&'a [u8]),
+    /// `r`: the return list.
+    Returns,
+    /// `o`: all output so far.
+    Output,
+    /// `k TEXT`: types a text and a return.
+    Type(&'a [u8]),
+    /// `s [K]`: on by K events.
+    Step(u64),
+    /// `x`: the registers.
+    Registers,
+    /// `m ADDR [K]`: bytes of memory.
+    Memory { at: u16, count: u16 },
+    /// `i`: the code here.
+    Code,
+    /// `h`: help.
+    Help,
+    /// `q`: the end.
+    Quit,
+    /// Any other line.
+    Unknown,
+}
+
+/// The command that a line is. One space stands between words; a number has one to 18 digits.
+pub fn read_command(line: &[u8]) -> Command<'_>
+    ensures { asked_of result ≡ asked_in line.now }
+{
+    match line {
+        [] => Command::Unknown,
+        [letter] => alone(*letter),
+        [letter, next, text @ ..] => words(*letter, *next, text),
+    }
+}
+
+// A letter and a text with a space between them, or `rc`.
+fn words(letter: u8, next: u8, text: &[u8]) -> Command<'_>
+    ensures { asked_of result ≡ words letter next text.now }
+{
+    if next == b' ' {
+        with_text(letter, text)
+    } else if letter == b'r' && next == b'c' && text.is_empty() {
+        Command::GoBack
+    } else {
+        Command::Unknown
+    }
+}
+
+// A command of one letter.
+fn alone<'a>(letter: u8) -> Command<'a>
+    ensures { asked_of result ≡ alone letter }
+{
+    match letter {
+        b'n' => Command::On(1),
+        b'p' => Command::Back(1),
+        b'b' => Command::Breakpoints,
+        b'c' => Command::GoOn,
+        b'l' => Command::ListHere,
+        b'v' => Command::Variables,
+        b'r' => Command::Returns,
+        b'o' => Command::Output,
+        b'k' => Command::Type(&[]),
+        b's' => Command::Step(1),
+        b'x' => Command::Registers,
+        b'i' => Command::Code,
+        b'h' => Command::Help,
+        b'q' => Command::Quit,
+        _ => Command::Unknown,
+    }
+}
+
+// A command with a text behind it.
+fn with_text(letter: u8, text: &[u8]) -> Command<'_>
+    ensures { asked_of result ≡ with_text letter text.now }
+{
+    match letter {
+        b'e' => Command::Value(text),
+        b'k' => Command::Type(text),
+        b'm' => memory(text),
+        b'v' => match variable(text) {
+            Some(letter) => Command::Variable(letter),
+            None => Command::Unknown,
+        },
+        b'w' => match variable(text) {
+            Some(letter) => Command::Watch(letter),
+            None => Command::Unknown,
+        },
+        _ => with_number(letter, text),
+    }
+}
+
+// The variable that a text names.
+fn variable(text: &[u8]) -> Option<Letter>
+    ensures { place_of result ≡ variable_in text.now }
+{
+    match text {
+        [name] => Letter::read(*name),
+        _ => None,
+    }
+}
+
+// A command with a number.
+fn with_number<'a>(letter: u8, text: &[u8]) -> Command<'a>
+    ensures { asked_of result ≡ with_number letter (number_of text.now) }
+{
+    match number(text) {
+        Some(number) => counting(letter, number),
+        None => Command::Unknown,
+    }
+}
+
+fn counting<'a>(letter: u8, number: u64) -> Command<'a>
+    ensures { asked_of result ≡ counting letter number }
+{
+    match letter {
+        b'n' => Command::On(number),
+        b'p' => Command::Back(number),
+        b't' => Command::ToTime(number),
+        b's' => Command::Step(number),
+        b'b' => Command::Breakpoint(line_number(number)),
+        b'g' => Command::ToLine(line_number(number)),
+        b'l' => Command::List(line_number(number)),
+        _ => Command::Unknown,
+    }
+}
+
+// A number that no line has stands for each larger one.
+fn line_number(number: u64) -> u16
+    ensures { result ≡ line_of number }
+{
+    if number <= 65_535 {
+        number as u16
+    } else {
+        u16::MAX
+    }
+}
+
+// An address, and how many bytes.
+fn memory<'a>(text: &[u8]) -> Command<'a>
+    ensures { asked_of result ≡ memory_in text.now }
+{
+    match text {
+        [a, b, c, d] => bytes_at(address(*a, *b, *c, *d), Some(BYTES)),
+        [a, b, c, d, b' ', count @ ..] => bytes_at(address(*a, *b, *c, *d), number(count)),
+        _ => Command::Unknown,
+    }
+}
+
+fn bytes_at<'a>(address: Option<u16>, count: Option<u64>) -> Command<'a>
+    ensures { asked_of result ≡ memory_at address count }
+{
+    match (address, count) {
+        (Some(at), Some(count)) if 1 <= count && count <= MOST_BYTES => Command::Memory {
+            at,
+            count: count as u16,
+        },
+        _ => Command::Unknown,
+    }
+}
+
+// The number that four hexadecimal digits spell, in either case.
+fn address(a: u8, b: u8, c: u8, d: u8) -> Option<u16>
+    ensures { result ≡ address_of a b c d }
+{
+    let first = digit(a)?;
+    let second = digit(b)?;
+    let third = digit(c)?;
+    let fourth = digit(d)?;
+    Some(4096 * first + 256 * second + 16 * third + fourth)
+}
+
+fn digit(byte: u8) -> Option<u16>
+    ensures digit { result ≡ digit_of byte }
+    ensures few { IfSome result (λ k. k < 16) }
+{
+    match byte {
+        b'0'..=b'9' => Some(u16::from(byte - b'0')),
+        b'A'..=b'F' => Some(u16::from(byte - b'A' + 10)),
+        b'a'..=b'f' => Some(u16::from(byte - b'a' + 10)),
+        _ => None,
+    }
+}
+
+// The number that one to 18 digits spell.
+fn number(digits: &[u8]) -> Option<u64>
+    ensures { result ≡ number_of digits.now }
+{
+    if digits.is_empty() || digits.len() > MOST_DIGITS {
+        return None;
+    }
+    number_behind(0, digits)
+}
+
+// A number with more digits behind it.
+fn number_behind(number: u64, digits: &[u8]) -> Option<u64>
+    ensures { result ≡ number_behind number digits.now }
+{
+    match digits {
+        [] => Some(number),
+        [digit, rest @ ..] => {
+            if !digit.is_ascii_digit() {
+                return None;
+            }
+            let number = number
+                .checked_mul(10)?
+                .checked_add(u64::from(*digit - b'0'))?;
+            number_behind(number, rest)
+        }
+    }
+}

@@ -1,0 +1,28 @@
+//! Copies of machine and memory, and the ROM that changes nothing.
+ghost use Rattle.std.specs.Prelude.{◌≡◌, IfOk};
+ghost use Rattle.tb_kernal.specs.Runs.{is_quiet};
+
+use std::alloc::Global;
+use tb_kernal::{Event, Machine, Outside, Quiet};
+use tb_memmap::{Memory, NoMemory};
+
+/// `Memory::copied`.
+pub fn memory_copied(memory: &Memory, alloc: Global) -> Result<Memory, NoMemory>
+    ensures { IfOk result (λ m. m ≡ memory.now) }
+{
+    memory.copied(alloc)
+}
+
+/// `Machine::copied`.
+pub fn machine_copied(machine: &Machine, alloc: Global, sent: &[u8]) -> Result<Machine, NoMemory>
+    ensures { IfOk result (λ m. m ≡ record machine.now { sent = sent.now; room = 0 }) }
+{
+    machine.copied(alloc, sent)
+}
+
+/// `Quiet::next`.
+pub fn quiet_event(machine: &Machine) -> Event
+    ensures { is_quiet machine.now result }
+{
+    Quiet.next(machine)
+}

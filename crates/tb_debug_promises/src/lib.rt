@@ -1,0 +1,12 @@
+//! What the debugger promises, and the copies of machine and memory that it stands on, once more and in one place:
+//! functions that only hand a call on, each with the contract of the call.
+//!
+//! As in `tb_promises`, wrong bodies are tried here (`must-fail/`), where no proof of the debugger counts: what refuses
+//! them is the promise alone.
+#![tactic(auto)]
+
+mod copies;
+mod walks;
+
+pub use copies::{machine_copied, memory_copied, quiet_event};
+pub use walks::{answered, gone_back, gone_on, gone_to, line_begun, stepped_back, typed};

@@ -1,0 +1,203 @@
+-- A word halved as a signed one, again and again: a quotient truncated toward zero; and a product by a factor's bits.
+use Rattle.std.proofs.Common.{◌≡◌, ℕ, zero, suc, ◌+◌, ◌-◌, ◌*◌, ◌/◌, ◌%◌, ◌^◌, ◌≤◌, ◌<◌, Bool, true, false, refl, sym, ap, ◌∙◌, arith, ⊎_elim}
+use Rattle.std.specs.Prelude.{if◌then◌else◌, nat_le, nat_lt}
+use Rattle.std.proofs.lemmas.Bool.{cases_lt, lt-leb, le-leb}
+use Rattle.tb_cpu.specs.Effects.{bit, has_bit}
+use Rattle.tb_runtime16.proofs.Words.{one_odd, one_high, one_carry}
+use Rattle.tb_words.specs.Words.{word, is_negative, negated, with_sign, differ, quotient}
+
+-- ---- halves
+-- half of a word, its sign kept
+abbrev pub halve : ℕ → ℕ
+halve v = v / 2 + 32768 * bit (nat_le 32768 v)
+
+abbrev pub halve_times : ℕ → ℕ → ℕ
+halve_times zero v = v
+halve_times (suc k) v = halve (halve_times k v)
+
+pub halve_small : (v : ℕ) → v < 65536 → halve v < 65536
+halve_small v h = by (nat_le 32768 v)
+  where
+    by : (t : Bool) → v / 2 + 32768 * bit t < 65536
+    by true = omega (arith, h)
+    by false = omega (arith, h)
+
+-- by its two bytes
+pub high_half : (v : ℕ) → v < 65536 → v / 256 / 2 + 128 * bit (nat_le 128 (v / 256)) ≡ halve v / 256
+high_half v h = ⊎_elim
+    (λ e. ap (λ t. v / 256 / 2 + 128 * bit t) (lt-leb 128 (v / 256) (omega (arith, e))) ∙ omega (arith, e) ∙ sym (ap (λ t. (v / 2 + 32768 * bit t) / 256) (lt-leb 32768 v e)))
+    (λ e. ap (λ t. v / 256 / 2 + 128 * bit t) (le-leb 128 (v / 256) (omega (arith, e))) ∙ omega (arith, e, h) ∙ sym (ap (λ t. (v / 2 + 32768 * bit t) / 256) (le-leb 32768 v e)))
+    (cases_lt v 32768)
+
+pub low_half : (v : ℕ) → v < 65536 → v % 256 / 2 + 128 * bit (has_bit (v / 256) 1) ≡ halve v % 256
+low_half v h = let o = one_odd (v / 256) in ⊎_elim
+    (λ e. omega (arith, o) ∙ sym (ap (λ t. (v / 2 + 32768 * bit t) % 256) (lt-leb 32768 v e)))
+    (λ e. omega (arith, o) ∙ sym (ap (λ t. (v / 2 + 32768 * bit t) % 256) (le-leb 32768 v e)))
+    (cases_lt v 32768)
+
+-- below 32,768 it is the half
+abbrev floor : ℕ → ℕ → ℕ
+floor zero v = v
+floor (suc k) v = floor k v / 2
+
+halve_below : (v : ℕ) → v < 32768 → halve v ≡ v / 2
+halve_below v h = ap (λ t. v / 2 + 32768 * bit t) (lt-leb 32768 v h) ∙ omega arith
+
+below : (k v : ℕ) → v < 32768 → (halve_times k v ≡ floor k v) × (floor k v < 32768)
+below zero v h = (refl, h)
+below (suc k) v h =
+    let p = below k v h in
+    (halve_below (halve_times k v) (omega (arith, p.0, p.1)) ∙ ap (λ x. x / 2) p.0, omega (arith, p.1))
+
+-- from there on it is the half and 32,768 more
+abbrev sunk : ℕ → ℕ → ℕ
+sunk zero v = v
+sunk (suc k) v = sunk k v / 2 + 32768
+
+halve_above : (v : ℕ) → 32768 ≤ v → halve v ≡ v / 2 + 32768
+halve_above v h = ap (λ t. v / 2 + 32768 * bit t) (le-leb 32768 v h) ∙ omega arith
+
+above : (k v : ℕ) → 32768 ≤ v → (halve_times k v ≡ sunk k v) × (32768 ≤ sunk k v)
+above zero v h = (refl, h)
+above (suc k) v h =
+    let p = above k v h in
+    (halve_above (halve_times k v) (omega (arith, p.0, p.1)) ∙ ap (λ x. x / 2 + 32768) p.0, omega arith)
+
+floor_is : (k x : ℕ) → k < 6 → x < 32768 → floor (suc k) x ≡ word (x / 2 ^ (k + 1))
+floor_is zero x h lt = omega (arith, lt)
+floor_is (suc zero) x h lt = omega (arith, lt)
+floor_is (suc (suc zero)) x h lt = omega (arith, lt)
+floor_is (suc (suc (suc zero))) x h lt = omega (arith, lt)
+floor_is (suc (suc (suc (suc zero)))) x h lt = omega (arith, lt)
+floor_is (suc (suc (suc (suc (suc zero))))) x h lt = omega (arith, lt)
+floor_is (suc (suc (suc (suc (suc (suc k)))))) x h lt = absurd (omega (arith, h))
+
+sunk_is : (k x : ℕ) → k < 6 → 32768 ≤ x → x + (2 ^ (k + 1) - 1) < 65536 → sunk (suc k) (x + (2 ^ (k + 1) - 1)) ≡ negated (word ((65536 - x) / 2 ^ (k + 1)))
+sunk_is zero x h lo lt = omega (arith, lo, lt)
+sunk_is (suc zero) x h lo lt = omega (arith, lo, lt)
+sunk_is (suc (suc zero)) x h lo lt = omega (arith, lo, lt)
+sunk_is (suc (suc (suc zero))) x h lo lt = omega (arith, lo, lt)
+sunk_is (suc (suc (suc (suc zero)))) x h lo lt = omega (arith, lo, lt)
+sunk_is (suc (suc (suc (suc (suc zero))))) x h lo lt = omega (arith, lo, lt)
+sunk_is (suc (suc (suc (suc (suc (suc k)))))) x h lo lt = absurd (omega (arith, h))
+
+-- what is raised to 0 and above has the quotient 0
+none_is : (k x : ℕ) → k < 6 → x < 65536 → 65536 ≤ x + (2 ^ (k + 1) - 1) → (word (x + (2 ^ (k + 1) - 1)) < 32768) × (floor (suc k) (word (x + (2 ^ (k + 1) - 1))) ≡ negated (word ((65536 - x) / 2 ^ (k + 1))))
+none_is zero x h lt le = (omega (arith, lt, le), omega (arith, lt, le))
+none_is (suc zero) x h lt le = (omega (arith, lt, le), omega (arith, lt, le))
+none_is (suc (suc zero)) x h lt le = (omega (arith, lt, le), omega (arith, lt, le))
+none_is (suc (suc (suc zero))) x h lt le = (omega (arith, lt, le), omega (arith, lt, le))
+none_is (suc (suc (suc (suc zero)))) x h lt le = (omega (arith, lt, le), omega (arith, lt, le))
+none_is (suc (suc (suc (suc (suc zero))))) x h lt le = (omega (arith, lt, le), omega (arith, lt, le))
+none_is (suc (suc (suc (suc (suc (suc k)))))) x h lt le = absurd (omega (arith, h))
+
+pub power_small : (k : ℕ) → k < 6 → 2 ^ (k + 1) < 65
+power_small zero h = omega arith
+power_small (suc zero) h = omega arith
+power_small (suc (suc zero)) h = omega arith
+power_small (suc (suc (suc zero))) h = omega arith
+power_small (suc (suc (suc (suc zero)))) h = omega arith
+power_small (suc (suc (suc (suc (suc zero))))) h = omega arith
+power_small (suc (suc (suc (suc (suc (suc k)))))) h = absurd (omega (arith, h))
+
+pub power_some : (k : ℕ) → k < 6 → 1 ≤ 2 ^ (k + 1)
+power_some zero h = omega arith
+power_some (suc zero) h = omega arith
+power_some (suc (suc zero)) h = omega arith
+power_some (suc (suc (suc zero))) h = omega arith
+power_some (suc (suc (suc (suc zero)))) h = omega arith
+power_some (suc (suc (suc (suc (suc zero))))) h = omega arith
+power_some (suc (suc (suc (suc (suc (suc k)))))) h = absurd (omega (arith, h))
+
+-- a quotient with a divisor that is not negative
+quotient_by : (x d : ℕ) → d < 32768 → (t : Bool) → is_negative x ≡ t → quotient x d ≡ with_sign t ((if t then 65536 - x else x) / d)
+quotient_by x d h t e = (λ i. with_sign (differ (e i) (p i)) ((if e i then 65536 - x else x) / (if p i then 65536 - d else d))) ∙ same t
+  where
+    p : is_negative d ≡ false
+    p = lt-leb 32768 d h
+
+    same : (t : Bool) → with_sign (differ t false) ((if t then 65536 - x else x) / d) ≡ with_sign t ((if t then 65536 - x else x) / d)
+    same true = refl
+    same false = refl
+
+-- 2^(k + 1) - 1 where a word is negative
+abbrev pub more : ℕ → Bool → ℕ
+more k true = 2 ^ (k + 1) - 1
+more k false = 0
+
+-- a word that is raised so where it is negative, halved k + 1 times
+pub halves_are : (k x : ℕ) → k < 6 → x < 65536 → halve_times (suc k) (word (x + more k (nat_le 32768 x))) ≡ quotient x (2 ^ (k + 1))
+halves_are k x few small = ⊎_elim positive negative (cases_lt x 32768)
+  where
+    d : ℕ
+    d = 2 ^ (k + 1)
+
+    d_small : d < 32768
+    d_small = let p = power_small k few in omega (arith, p)
+
+    positive : x < 32768 → halve_times (suc k) (word (x + more k (nat_le 32768 x))) ≡ quotient x (2 ^ (k + 1))
+    positive lt =
+        let same : word (x + 0) ≡ x = omega (arith, lt) in
+        ap (λ t. halve_times (suc k) (word (x + more k t))) (lt-leb 32768 x lt) ∙ ap (halve_times (suc k)) same ∙ (below (suc k) x lt).0 ∙ floor_is k x few lt
+        ∙ sym (quotient_by x d d_small false (lt-leb 32768 x lt))
+
+    raised : ℕ
+    raised = x + (2 ^ (k + 1) - 1)
+
+    negative : 32768 ≤ x → halve_times (suc k) (word (x + more k (nat_le 32768 x))) ≡ quotient x (2 ^ (k + 1))
+    negative le =
+        ap (λ t. halve_times (suc k) (word (x + more k t))) (le-leb 32768 x le)
+        ∙ ⊎_elim
+        (λ lt. let same : word raised ≡ raised = omega (arith, lt) in ap (halve_times (suc k)) same ∙ (above (suc k) raised (omega (arith, le))).0 ∙ sunk_is k x few le lt)
+        (λ over. let n = none_is k x few small over in (below (suc k) (word raised) n.0).0 ∙ n.1)
+        (cases_lt raised 65536)
+        ∙ sym (quotient_by x d d_small true (le-leb 32768 x le))
+
+-- ---- a word raised, by its two bytes
+pub raised_low : (x n : ℕ) → (x % 256 + n) % 256 ≡ word (x + n) % 256
+raised_low x n = omega arith
+
+pub raised_high : (x n : ℕ) → x < 65536 → n < 256 → (x / 256 + bit (nat_lt 255 (x % 256 + n))) % 256 ≡ word (x + n) / 256
+raised_high x n h k = let c = one_carry (x % 256 + n) (omega (arith, k)) in omega (arith, c, h, k)
+
+pub sign_is : (x : ℕ) → x < 65536 → nat_le 128 (x / 256) ≡ nat_le 32768 x
+sign_is x h = ⊎_elim
+    (λ e. lt-leb 128 (x / 256) (omega (arith, e)) ∙ sym (lt-leb 32768 x e))
+    (λ e. le-leb 128 (x / 256) (omega (arith, e)) ∙ sym (le-leb 32768 x e))
+    (cases_lt x 32768)
+
+pub more_small : (k : ℕ) (t : Bool) → k < 6 → more k t < 256
+more_small k true h = let p = power_small k h in omega (arith, p)
+more_small k false h = omega arith
+
+-- ---- doubles
+pub double_low : (v : ℕ) → 2 * (v % 256) % 256 ≡ word (2 * v) % 256
+double_low v = omega arith
+
+pub double_high : (v : ℕ) → v < 65536 → 2 * (v / 256) % 256 + bit (has_bit (v % 256) 128) ≡ word (2 * v) / 256
+double_high v h = let o = one_high (v % 256) (omega arith) in omega (arith, o, h)
+
+pub sum_low : (v x : ℕ) → (v % 256 + x % 256 + 0) % 256 ≡ word (v + x) % 256
+sum_low v x = omega arith
+
+pub sum_high : (v x : ℕ) → v < 65536 → x < 65536 → (v / 256 + x / 256 + bit (nat_lt 255 (v % 256 + x % 256 + 0))) % 256 ≡ word (v + x) / 256
+sum_high v x h k = let c = one_carry (v % 256 + x % 256 + 0) (omega arith) in omega (arith, c, h, k)
+
+-- a product by half of a factor, and then by its lowest bit
+even_product : (x h : ℕ) → x * (2 * h) ≡ 2 * (x * h)
+even_product x h = grind arith
+
+odd_product : (x h : ℕ) → x * (2 * h + 1) ≡ 2 * (x * h) + x
+odd_product x h = grind arith
+
+pub by_even : (x factor : ℕ) → factor % 2 ≡ 0 → word (2 * word (x * (factor / 2))) ≡ word (x * factor)
+by_even x factor e =
+    let f : factor ≡ 2 * (factor / 2) = omega (arith, e) in
+    let q = ap (λ n. x * n) f ∙ even_product x (factor / 2) in
+    (let s : word (2 * word (x * (factor / 2))) ≡ word (2 * (x * (factor / 2))) = omega arith in s) ∙ ap word (sym q)
+
+pub by_odd : (x factor : ℕ) → factor % 2 ≡ 1 → word (word (2 * word (x * (factor / 2))) + x) ≡ word (x * factor)
+by_odd x factor e =
+    let f : factor ≡ 2 * (factor / 2) + 1 = omega (arith, e) in
+    let q = ap (λ n. x * n) f ∙ odd_product x (factor / 2) in
+    (let s : word (word (2 * word (x * (factor / 2))) + x) ≡ word (2 * (x * (factor / 2)) + x) = omega arith in s) ∙ ap word (sym q)

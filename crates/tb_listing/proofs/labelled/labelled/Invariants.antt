@@ -1,0 +1,11 @@
+use Rattle.std.proofs.Common.{◌≤◌, length, map, take}
+use Rattle.tb_codegen.specs.Compiled.{pair_of as start_pair}
+use Rattle.tb_written.specs.Lines.{pair_of}
+use Rattle.tb_listing.specs.Comments.{HasComments, comment_on}
+use Rattle.tb_listing.proofs.labelled.labelled.Given as goal
+
+abbrev pub invariant-loop-start : goal.invariant-loop-start
+invariant-loop-start l = record {
+  shown : HasComments l.text.items (map (comment_on (map pair_of l.view.sources.now)) (map start_pair (take l.start-index l.view.program.starts.now)));
+  within : l.done ≤ length l.view.pieces.now;
+}

@@ -1,0 +1,5 @@
+use Rattle.tb_listing.specs.Comments.{KeepsComments}
+use Rattle.tb_listing.proofs.labelled.push_pieces.Given as goal
+
+abbrev pub invariant-loop-piece : goal.invariant-loop-piece
+invariant-loop-piece l = KeepsComments l.initial.text.items l.text.items

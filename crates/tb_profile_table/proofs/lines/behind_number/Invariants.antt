@@ -1,6 +1,0 @@
-use Rattle.std.proofs.Common.{◌≡◌, drop}
-use Rattle.tb_profile_table.specs.Lines.{behind_number}
-use Rattle.tb_profile_table.proofs.lines.behind_number.Given as goal
-
-abbrev pub invariant-loop-i : goal.invariant-loop-i
-invariant-loop-i l = behind_number (drop l.i l.line) ≡ behind_number l.line

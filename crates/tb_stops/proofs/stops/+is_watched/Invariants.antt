@@ -1,0 +1,5 @@
+use Rattle.std.proofs.Common.{length}
+use Rattle.tb_stops.proofs.stops.+is_watched.Given as goal
+
+abbrev pub decreases-is_watched : goal.decreases-is_watched
+decreases-is_watched l = length l.letters.now

@@ -1,0 +1,50 @@
+-- Which products are made by a constant's bits, and which quotients by shifts.
+use Rattle.std.proofs.Common.{◌≡◌, ℕ, ◌+◌, ◌^◌, ◌<◌, Bool, true, false, refl, arith, Option, Some, None}
+use Rattle.std.specs.Prelude.{if◌then◌else◌, nat_eq}
+use Rattle.std.proofs.lemmas.Bool.{eqb-true}
+use Rattle.tb_templates.specs.Sources.{Source, FixedWord, AtPlace}
+use Rattle.tb_templates.specs.Scaled.{is_factor, scaling, shifts}
+
+-- a constant of a product, and the other word
+pub data IsScaling (a b : Source) : Option (ℕ × Source) → Type 0 where
+  by_right : (w : ℕ) → b ≡ FixedWord w → is_factor w ≡ true → IsScaling a b (Some (w, a))
+  by_left : (v : ℕ) → a ≡ FixedWord v → is_factor v ≡ true → IsScaling a b (Some (v, b))
+  by_routine : IsScaling a b None
+
+pub scaling_is : (a b : Source) → IsScaling a b (scaling a b)
+scaling_is a (FixedWord w) = by (is_factor w) refl
+  where
+    by : (t : Bool) → is_factor w ≡ t → IsScaling a (FixedWord w) (if t then Some (w, a) else None)
+    by true e = by_right w refl e
+    by false e = by_routine
+scaling_is (FixedWord v) (AtPlace q) = by (is_factor v) refl
+  where
+    by : (t : Bool) → is_factor v ≡ t → IsScaling (FixedWord v) (AtPlace q) (if t then Some (v, AtPlace q) else None)
+    by true e = by_left v refl e
+    by false e = by_routine
+scaling_is (AtPlace p) (AtPlace q) = by_routine
+
+-- a divisor that is 2^(k + 1)
+pub data IsShifting (b : Source) : Option ℕ → Type 0 where
+  by_shifts : (w k : ℕ) → b ≡ FixedWord w → k < 6 → w ≡ 2 ^ (k + 1) → IsShifting b (Some k)
+  by_call : IsShifting b None
+
+-- a power of two before those behind it
+one_of : (b : Source) (w v k : ℕ) (o : Option ℕ) → b ≡ FixedWord w → k < 6 → v ≡ 2 ^ (k + 1) → IsShifting b o → (t : Bool) → nat_eq w v ≡ t → IsShifting b (if t then Some k else o)
+one_of b w v k o e few p rest true q = by_shifts w k e few (omega (arith, eqb-true w v q, p))
+one_of b w v k o e few p rest false q = rest
+
+pub shifting_is : (b : Source) → IsShifting b (shifts b)
+shifting_is (FixedWord w) =
+    one_of (FixedWord w) w 2 0 _ refl (omega arith) refl
+    (one_of (FixedWord w) w 4 1 _ refl (omega arith) refl
+    (one_of (FixedWord w) w 8 2 _ refl (omega arith) refl
+    (one_of (FixedWord w) w 16 3 _ refl (omega arith) refl
+    (one_of (FixedWord w) w 32 4 _ refl (omega arith) refl
+    (one_of (FixedWord w) w 64 5 _ refl (omega arith) refl by_call (nat_eq w 64) refl)
+    (nat_eq w 32) refl)
+    (nat_eq w 16) refl)
+    (nat_eq w 8) refl)
+    (nat_eq w 4) refl)
+    (nat_eq w 2) refl
+shifting_is (AtPlace p) = by_call

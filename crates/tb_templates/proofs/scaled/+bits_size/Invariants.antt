@@ -1,0 +1,4 @@
+use Rattle.tb_templates.proofs.scaled.+bits_size.Given as goal
+
+abbrev pub decreases-bits_size : goal.decreases-bits_size
+decreases-bits_size l = l.factor

@@ -1,0 +1,4 @@
+use Rattle.tb_templates.proofs.scaled.+put_by_bits.Given as goal
+
+abbrev pub decreases-put_by_bits : goal.decreases-put_by_bits
+decreases-put_by_bits l = l.factor

@@ -1,0 +1,5 @@
+use Rattle.tb_templates.proofs.Appends.{three}
+use Rattle.tb_templates.proofs.templates.put_noted.Goals as goal
+
+pub returns : goal.returns
+returns c = three _ _ _ _ _ _ _ c.in_ok-put_by_zero.ensures c.in_ok-put_note_stored.ensures c.in_ok-put_carried.ensures

@@ -1,0 +1,107 @@
+-- Code for products with a constant and quotients over a power of two: shifts and sums.
+use Rattle.std.specs.Prelude.{ℕ, zero, suc, ◌+◌, ◌-◌, ◌/◌, ◌%◌, ◌^◌, Bool, true, false, ◌&&◌, List, [], ◌∷◌, ◌++◌, if◌then◌else◌, nat_eq, nat_le, nat_lt, Option, Some, None}
+use Rattle.tb_opcodes.specs.declared.Mnemonic.{Mnemonic}
+use Rattle.tb_opcodes.specs.declared.Mnemonic.TheVariants.{Adc, And, Asl, Clc, Cmp, Eor, Lda, Rol, Ror, Sta, Tax, Txa}
+use Rattle.tb_opcodes.specs.declared.Mode.TheVariants.{Accumulator, ZeroPage}
+use Rattle.tb_asm.specs.declared.items.Operand.TheVariants.{Nothing, Byte}
+use Rattle.tb_asm.specs.Layout.{Entry, instr}
+use Rattle.tb_runtime16.specs.Places.{LEFT}
+use Rattle.tb_templates.specs.Templates.{at, const, alone}
+use Rattle.tb_templates.specs.Sources.{Source, FixedWord, AtPlace, low_of, high_of}
+
+-- an instruction on A
+abbrev pub on_a : Mnemonic → Entry
+on_a mnemonic = instr mnemonic Accumulator Nothing
+
+-- an instruction on a byte of page zero
+abbrev pub at_zero : Mnemonic → ℕ → Entry
+at_zero mnemonic place = instr mnemonic ZeroPage (Byte place)
+
+-- ── over a power of two ──
+-- the word's low byte is in LEFT, its high byte in A
+
+-- for 2^(k + 1) k, where it is one from 2 to 64
+abbrev pub shifts_of : ℕ → Option ℕ
+shifts_of w = if nat_eq w 2 then Some 0 else if nat_eq w 4 then Some 1 else if nat_eq w 8 then Some 2 else if nat_eq w 16 then Some 3 else if nat_eq w 32 then Some 4 else if nat_eq w 64 then Some 5 else None
+
+-- so for a divisor
+abbrev pub shifts : Source → Option ℕ
+shifts (FixedWord w) = shifts_of w
+shifts (AtPlace p) = None
+
+-- 2^(k + 1) - 2
+abbrev pub all_but_lowest : ℕ → ℕ
+all_but_lowest k = 2 ^ (k + 1) - 2
+
+-- the low byte of a word, and where C is set, 2^(k + 1) - 1 more
+abbrev pub rounded : ℕ → Source → List Entry
+rounded zero a = low_of Lda a ∷ const Adc 0 ∷ []
+rounded (suc k) a = const Lda 0 ∷ const Adc 255 ∷ const And (all_but_lowest (suc k)) ∷ const Eor (all_but_lowest (suc k)) ∷ low_of Adc a ∷ []
+
+-- a word, and where it is negative 2^(k + 1) - 1 more: so the shifts round it toward zero
+abbrev pub raised : ℕ → Source → List Entry
+raised k a = high_of Lda a ∷ const Cmp 128 ∷ (rounded k a ++ (at_zero Sta LEFT ∷ high_of Lda a ∷ const Adc 0 ∷ []))
+
+-- shifted to the right, its sign kept
+abbrev pub halved : List Entry
+halved = const Cmp 128 ∷ on_a Ror ∷ at_zero Ror LEFT ∷ []
+
+-- so many times
+abbrev pub halvings : ℕ → List Entry
+halvings zero = []
+halvings (suc k) = halvings k ++ halved
+
+-- to its place
+abbrev pub high_first : ℕ → List Entry
+high_first to = at Sta (to + 1) ∷ at_zero Lda LEFT ∷ at Sta to ∷ []
+
+-- a word over 2^(k + 1)
+abbrev pub shifted : ℕ → Source → ℕ → List Entry
+shifted k a to = raised k a ++ (halvings (suc k) ++ high_first to)
+
+-- ── times a constant ──
+-- the product's low byte is in A, its high byte in LEFT
+
+-- twice the product so far
+abbrev pub doubled : List Entry
+doubled = on_a Asl ∷ at_zero Rol LEFT ∷ []
+
+-- and a word more
+abbrev pub increased : Source → List Entry
+increased a = alone Clc ∷ low_of Adc a ∷ alone Tax ∷ at_zero Lda LEFT ∷ high_of Adc a ∷ at_zero Sta LEFT ∷ alone Txa ∷ []
+
+-- by a bit of the factor
+abbrev pub by_bit : Bool → Source → List Entry
+by_bit false a = doubled
+by_bit true a = doubled ++ increased a
+
+-- by at most so many bits of a factor, those below its highest one
+abbrev pub by_bits : ℕ → ℕ → Source → List Entry
+by_bits zero factor a = []
+by_bits (suc k) factor a = if nat_lt factor 2 then [] else by_bits k (factor / 2) a ++ by_bit (nat_eq (factor % 2) 1) a
+
+-- the bytes that it takes at most
+abbrev pub bits_size : ℕ → ℕ → ℕ
+bits_size zero factor = 0
+bits_size (suc k) factor = if nat_lt factor 2 then 0 else bits_size k (factor / 2) + (if nat_eq (factor % 2) 1 then 16 else 3)
+
+-- a factor that is worth it: its bits take no more room than a product has
+abbrev pub is_factor : ℕ → Bool
+is_factor factor = nat_le 2 factor && nat_le (bits_size 15 factor) 60
+
+-- a constant that is a factor, and the other word of a product
+abbrev pub with_factor : ℕ → Source → Option (ℕ × Source)
+with_factor factor a = if is_factor factor then Some (factor, a) else None
+
+abbrev pub scaling : Source → Source → Option (ℕ × Source)
+scaling a (FixedWord w) = with_factor w a
+scaling (FixedWord v) (AtPlace q) = with_factor v (AtPlace q)
+scaling (AtPlace p) (AtPlace q) = None
+
+-- to its place
+abbrev pub low_first : ℕ → List Entry
+low_first to = at Sta to ∷ at_zero Lda LEFT ∷ at Sta (to + 1) ∷ []
+
+-- a word times a factor
+abbrev pub times : ℕ → Source → ℕ → List Entry
+times factor a to = high_of Lda a ∷ at_zero Sta LEFT ∷ low_of Lda a ∷ (by_bits 15 factor a ++ low_first to)

@@ -1,0 +1,9 @@
+use Rattle.std.proofs.Common.{◌≡◌, ◌≤◌, drop}
+use Rattle.tb_written.specs.Lines.{number_with}
+use Rattle.tb_written.proofs.lines.number_of.Given as goal
+
+abbrev pub invariant-loop-byte : goal.invariant-loop-byte
+invariant-loop-byte l = record {
+  same : number_with l.number (drop l.byte-index l.line) ≡ number_with 0 l.line;
+  few : l.number ≤ 65536;
+}

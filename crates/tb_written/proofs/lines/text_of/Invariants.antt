@@ -1,0 +1,6 @@
+use Rattle.std.proofs.Common.{◌≡◌, [], drop, map}
+use Rattle.tb_written.specs.Lines.{last_of, pair_of}
+use Rattle.tb_written.proofs.lines.text_of.Given as goal
+
+abbrev pub invariant-loop-line : goal.invariant-loop-line
+invariant-loop-line l = last_of l.text l.number (map pair_of (drop l.line-index l.lines)) ≡ last_of [] l.number (map pair_of l.lines)

@@ -1,0 +1,6 @@
+-- Bytes as they are shown.
+use Rattle.std.specs.Prelude.{ℕ, nat_lt, ◌||◌, if◌then◌else◌}
+
+-- a byte as it is shown: `?` below 32 and above 126
+abbrev pub shown : ℕ → ℕ
+shown b = if nat_lt b 32 || nat_lt 126 b then 63 else b
