@@ -26,49 +26,49 @@ line20:
 
 /// What belongs to no line.
 const BEHIND: &[u8] = b"past:
-  LDX #$08 ; 0CA8  A2 08
-  LDY #$0C ; 0CAA  A0 0C
-  LDA #$07 ; 0CAC  A9 07
-  JMP fault_line ; 0CAE  4C 9E 0B
+  LDX #$08 ; 0CCE  A2 08
+  LDY #$0C ; 0CD0  A0 0C
+  LDA #$07 ; 0CD2  A9 07
+  JMP fault_line ; 0CD4  4C 9E 0B
 find:
-  LDA #<line_table ; 0CB1  A9 C8
-  STA $00FD ; 0CB3  8D FD 00  right
-  LDA #>line_table ; 0CB6  A9 0C
-  STA $00FE ; 0CB8  8D FE 00  right+1
-  LDA #$04 ; 0CBB  A9 04
-  STA $C06A ; 0CBD  8D 6A C0  count
-  LDA #$00 ; 0CC0  A9 00
-  STA $C06B ; 0CC2  8D 6B C0  count+1
-  JMP search ; 0CC5  4C 83 0A
+  LDA #<line_table ; 0CD7  A9 EC
+  STA $FD ; 0CD9  85 FD  right
+  LDA #>line_table ; 0CDB  A9 0C
+  STA $FE ; 0CDD  85 FE  right+1
+  LDA #$04 ; 0CDF  A9 04
+  STA $C06A ; 0CE1  8D 6A C0  count
+  LDA #$00 ; 0CE4  A9 00
+  STA $C06B ; 0CE6  8D 6B C0  count+1
+  JMP search ; 0CE9  4C 83 0A
 line_table:
-  .word $000A ; 0CC8  0A 00
-  .word line10 ; 0CCA  00 0C
-  .word $0014 ; 0CCC  14 00
-  .word line20 ; 0CCE  29 0C
-  .word $0C00 ; 0CD0  00 0C
-  .word line3072 ; 0CD2  53 0C
-  .word $0C08 ; 0CD4  08 0C
-  .word line3080 ; 0CD6  88 0C
+  .word $000A ; 0CEC  0A 00
+  .word line10 ; 0CEE  00 0C
+  .word $0014 ; 0CF0  14 00
+  .word line20 ; 0CF2  29 0C
+  .word $0C00 ; 0CF4  00 0C
+  .word line3072 ; 0CF6  6E 0C
+  .word $0C08 ; 0CF8  08 0C
+  .word line3080 ; 0CFA  91 0C
 ";
 
 const LABELS: &[u8] = b"al C:0be4 .poll
 al C:0c00 .line10
 al C:0c29 .line20
-al C:0c53 .line3072
-al C:0c88 .line3080
-al C:0cc8 .line_table
+al C:0c6e .line3072
+al C:0c91 .line3080
+al C:0cec .line_table
 al C:c000 .varA
 ";
 
 const MAP: &[u8] = b"part        addr   bytes    cost
 block       080D    1011      64
 line 10     0C00      41      61
-line 20     0C29      42     132
-line 3072   0C53      53     180
-line 3080   0C88      64      84
-line_table  0CC8      16       0
-sum         080D    1227     521
-left        0CD8   37672   37367
+line 20     0C29      69     132
+line 3072   0C6E      35     180
+line 3080   0C91      91      84
+line_table  0CEC      16       0
+sum         080D    1263     521
+left        0CFC   37636   37367
 ";
 
 fn contains(text: &[u8], part: &[u8]) -> bool {
