@@ -297,10 +297,10 @@ holds out.map "$(cat <<'END'
 part        addr   bytes    cost
 block       080D    1011      64
 line 10     0C00      45      65
-line 20     0C2D      49      36
-line_table  0C5E       8       0
-sum         080D    1113     165
-left        0C66   37786   37723
+line 20     0C2D      47      36
+line_table  0C5C       8       0
+sum         080D    1111     165
+left        0C64   37788   37723
 END
 )\n"
 for name in wait forever warn both ask far; do beside $name; done
