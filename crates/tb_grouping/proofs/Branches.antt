@@ -92,12 +92,13 @@ gets_there at to below there near = by (nat_lt (distance at to) 128) refl near
         back false q = on false q (omega (arith, below, there, leb-true 65408 d n))
 
 module _ (f : Setup) (room : ℕ) (fits : Fits f room) (bs : List ℕ) (m : ℕ → ℕ) (keys gets : List ℕ) (small : leb (length bs) room ≡ true) where
-  -- at a place, with A, X and N as they were
+  -- at a place, with A, X, N and C as they were
   pub record Led (w : View) (to : ℕ) (u : View) : Type 0 where
     pub here : Here to bs m keys gets u
     pub number : u.regs.a ≡ w.regs.a
     pub index : u.regs.x ≡ w.regs.x
     pub negative : u.regs.flags.n ≡ w.regs.flags.n
+    pub carry : u.regs.flags.c ≡ w.regs.flags.c
 
   same_view : (at : ℕ) (w : View) (q : View → Type 0) → Here at bs m keys gets w → Comes f (view w.regs.a w.regs.x w.regs.y w.regs.flags.n w.regs.flags.v w.regs.flags.i w.regs.flags.z w.regs.flags.c at bs m keys gets) q [] 1 → Comes f w q [] 1
   same_view at w q h c =
@@ -120,7 +121,7 @@ module _ (f : Setup) (room : ℕ) (fits : Fits f room) (bs : List ℕ) (m : ℕ 
       same_view at w _ h
       (placed_last f room fits (ins (branch_on which wanted) d) (view w.regs.a w.regs.x w.regs.y w.regs.flags.n w.regs.flags.v w.regs.flags.i w.regs.flags.z w.regs.flags.c at bs m keys gets) _ _ small st
       (acts at which wanted d w.regs.a w.regs.x w.regs.y w.regs.flags.n w.regs.flags.v w.regs.flags.i w.regs.flags.z w.regs.flags.c)
-      (record { here = record { pc = ap (λ t. if is_taken wanted t then added at d else (at + 2) % 65536) e ∙ by (is_taken wanted there); stack = refl; binary = refl; mem = refl; text = refl; answers = refl }; number = refl; index = refl; negative = refl }))
+      (record { here = record { pc = ap (λ t. if is_taken wanted t then added at d else (at + 2) % 65536) e ∙ by (is_taken wanted there); stack = refl; binary = refl; mem = refl; text = refl; answers = refl }; number = refl; index = refl; negative = refl; carry = refl }))
     where
       by : (t : Bool) → (if t then added at d else (at + 2) % 65536) ≡ cond t to (at + 2)
       by true = leads
@@ -130,7 +131,7 @@ module _ (f : Setup) (room : ℕ) (fits : Fits f room) (bs : List ℕ) (m : ℕ 
   jumps_on at to st w h =
       same_view at w _ h
       (placed_last f room fits (ins 0x4C to) (view w.regs.a w.regs.x w.regs.y w.regs.flags.n w.regs.flags.v w.regs.flags.i w.regs.flags.z w.regs.flags.c at bs m keys gets) _ _ small st refl
-      (record { here = record { pc = refl; stack = refl; binary = refl; mem = refl; text = refl; answers = refl }; number = refl; index = refl; negative = refl }))
+      (record { here = record { pc = refl; stack = refl; binary = refl; mem = refl; text = refl; answers = refl }; number = refl; index = refl; negative = refl; carry = refl }))
 
   -- where a branch leads
   pub branches : (at : ℕ) (way : Way) (which : Flag) (wanted there : Bool) (to : ℕ) → at + way_size way ≤ highest_code → BranchReaches way at to → Stands f.code at (branch_code way (branch_on which wanted) at to) → (w : View) → Here at bs m keys gets w → asked_in which w ≡ there → Comes f w (Led w (cond (is_taken wanted there) to (at + way_size way))) [] 2
@@ -153,5 +154,5 @@ module _ (f : Setup) (room : ℕ) (fits : Fits f room) (bs : List ℕ) (m : ℕ 
       by : (t : Bool) → is_taken wanted there ≡ t → Comes f w (Led w (cond t to (at + 5))) [] 2
       by true taken =
           chained f w _ _ [] [] 1 1 (first true taken) (λ u g.
-          looser f u _ _ [] 1 1 (omega arith) (λ v k. record { here = k.here; number = k.number ∙ g.number; index = k.index ∙ g.index; negative = k.negative ∙ g.negative }) (jumps_on (at + 2) to jump_stands u g.here))
+          looser f u _ _ [] 1 1 (omega arith) (λ v k. record { here = k.here; number = k.number ∙ g.number; index = k.index ∙ g.index; negative = k.negative ∙ g.negative; carry = k.carry ∙ g.carry }) (jumps_on (at + 2) to jump_stands u g.here))
       by false taken = looser f w _ _ [] 1 2 (omega arith) (λ u g. g) (first false taken)

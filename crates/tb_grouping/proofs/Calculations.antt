@@ -13,13 +13,13 @@ use Rattle.tb_reaching.proofs.Comes.{looser}
 use Rattle.tb_reaching.specs.View.{Comes, Fits, Setup, View}
 use Rattle.tb_keeping.specs.Layout.{Layout}
 use Rattle.tb_keeping.proofs.Joins.{sent_in}
-use Rattle.tb_keeping.proofs.Resolved.{size}
+use Rattle.tb_keeping.proofs.Resolved.{Lies, pieces_size, size}
 use Rattle.tb_selection.specs.Groups.{Operand, Destination, Calculate, slot_of, expand}
 use Rattle.tb_selection.specs.Liveness.{live}
 use Rattle.tb_selection.specs.Select.{select}
 use Rattle.tb_selection.specs.GroupSteps.{steps}
 use Rattle.tb_templates.specs.Sources.{source_of, destination_at}
-use Rattle.tb_grouping.proofs.Coded.{GroupsLie, summed, taken}
+use Rattle.tb_grouping.proofs.Coded.{GroupsLie, calc_code, summed, taken}
 use Rattle.tb_grouping.proofs.Lone.{kept, word_lands}
 use Rattle.tb_grouping.proofs.Matching.{Matches, Target}
 use Rattle.tb_grouping.proofs.SlotSide.{line, landed, calculate_lasting, calculated, spread, fetched, with_fetched, calculate_goes, left_asked, right_asked}
@@ -53,11 +53,15 @@ module _ (ly : Layout) (f : Setup) (lo hi keys : ℕ) (fits : Fits f 16) (code :
   abbrev pub Leads : Operator → ℕ → Type 0
   Leads op k = Comes f w (Target ly f lo hi keys (steps code (expand (Calculate op a b d)) (line code n (spread op a b d is) s r))) (sent_in (steps code (expand (Calculate op a b d)) (line code n (spread op a b d is) s r))) k
 
-  goes : (op : Operator) (v k : ℕ) → steps code (expand (Calculate op a b d)) (line code n (spread op a b d is) s r) ≡ Goes (line code n is (landed d v s) (calculated s r a b d v)) [] → Comes f w (Matches ly f lo hi keys (line code n is (landed d v s) (calculated s r a b d v))) [] k → Leads op k
+  pub goes : (op : Operator) (v k : ℕ) → steps code (expand (Calculate op a b d)) (line code n (spread op a b d is) s r) ≡ Goes (line code n is (landed d v s) (calculated s r a b d v)) [] → Comes f w (Matches ly f lo hi keys (line code n is (landed d v s) (calculated s r a b d v))) [] k → Leads op k
   goes op v k e h = subst (λ x. Comes f w (Target ly f lo hi keys x) (sent_in x) k) (sym e) h
 
-  pub add_law : Ready ly f lo hi keys fits n (Calculate op.Add a b d) (spread op.Add a b d is) is s r w → Leads op.Add 7
-  add_law h =
+  -- its code, and the groups behind it
+  abbrev pub Lying : Operator → Type 0
+  Lying op = let ps = calc_code n op (source_of (slot_of d) a) (source_of (slot_of d + 1) b) (destination_at d) in Lies f.code w.regs.pc ps × GroupsLie ly f.code n (w.regs.pc + pieces_size ps) (select is)
+
+  pub add_law : Ready ly f lo hi keys fits n (Calculate op.Add a b d) (spread op.Add a b d is) is s r w → Lying op.Add → Leads op.Add 7
+  add_law h there =
       let k = slot_of d in
       let fit = calc_fits op.Add a b d h.ranged in
       let x = fetched s r k a in
@@ -69,11 +73,11 @@ module _ (ly : Layout) (f : Setup) (lo hi keys : ℕ) (fits : Fits f 16) (code :
       let behind : w.regs.pc + (size text + 0) ≡ w.regs.pc + size text = omega arith in
       goes op.Add (word (x + y)) 7 (calculate_goes code n op.Add a b d is s r h.read.all_words fit.slot (word (x + y)) refl)
       (looser f w _ _ [] 7 7 (omega arith)
-      (word_lands ly f lo hi keys fits code n h.small (live (spread op.Add a b d is)) d is s r (with_fetched s (with_fetched s r k a) (k + 1) b) (word (x + y)) _ _ (w.regs.pc + size text) w.mem w.text w.answers sum.0 sum.1 (omega arith) fit.dest (calculate_lasting op.Add a b d is s r h.free) (subst (λ p. GroupsLie ly f.code n p (select is)) behind h.rest) (kept ly f lo hi keys fits n _ _ is s r w h) h.text h.answers h.short)
-      (sums f 16 fits w.regs.pc (lo ∷ hi ∷ []) w.mem w.text w.answers refl (source_of k a) (source_of (k + 1) b) (destination_at d) h.lies.0 (operand_grounded k a d (omega (arith, fit.slot)) fit.left) (operand_grounded (k + 1) b d fit.slot fit.right) (dest_in_data d fit.dest) h.lies.1 w (here ly f lo hi keys fits w [] [] h.stack h.binary)))
+      (word_lands ly f lo hi keys fits code n h.small (live (spread op.Add a b d is)) d is s r (with_fetched s (with_fetched s r k a) (k + 1) b) (word (x + y)) _ _ (w.regs.pc + size text) w.mem w.text w.answers sum.0 sum.1 (omega arith) fit.dest (calculate_lasting op.Add a b d is s r h.free) (subst (λ p. GroupsLie ly f.code n p (select is)) behind there.1) (kept ly f lo hi keys fits n _ _ is s r w h) h.text h.answers h.short)
+      (sums f 16 fits w.regs.pc (lo ∷ hi ∷ []) w.mem w.text w.answers refl (source_of k a) (source_of (k + 1) b) (destination_at d) there.0.0 (operand_grounded k a d (omega (arith, fit.slot)) fit.left) (operand_grounded (k + 1) b d fit.slot fit.right) (dest_in_data d fit.dest) there.0.1 w (here ly f lo hi keys fits w [] [] h.stack h.binary)))
 
-  pub subtract_law : Ready ly f lo hi keys fits n (Calculate op.Subtract a b d) (spread op.Subtract a b d is) is s r w → Leads op.Subtract 7
-  subtract_law h =
+  pub subtract_law : Ready ly f lo hi keys fits n (Calculate op.Subtract a b d) (spread op.Subtract a b d is) is s r w → Lying op.Subtract → Leads op.Subtract 7
+  subtract_law h there =
       let k = slot_of d in
       let fit = calc_fits op.Subtract a b d h.ranged in
       let x = fetched s r k a in
@@ -85,5 +89,5 @@ module _ (ly : Layout) (f : Setup) (lo hi keys : ℕ) (fits : Fits f 16) (code :
       let behind : w.regs.pc + (size text + 0) ≡ w.regs.pc + size text = omega arith in
       goes op.Subtract (word (x + (65536 - y))) 7 (calculate_goes code n op.Subtract a b d is s r h.read.all_words fit.slot (word (x + (65536 - y))) refl)
       (looser f w _ _ [] 7 7 (omega arith)
-      (word_lands ly f lo hi keys fits code n h.small (live (spread op.Subtract a b d is)) d is s r (with_fetched s (with_fetched s r k a) (k + 1) b) (word (x + (65536 - y))) _ _ (w.regs.pc + size text) w.mem w.text w.answers sum.0 sum.1 (omega arith) fit.dest (calculate_lasting op.Subtract a b d is s r h.free) (subst (λ p. GroupsLie ly f.code n p (select is)) behind h.rest) (kept ly f lo hi keys fits n _ _ is s r w h) h.text h.answers h.short)
-      (differs f 16 fits w.regs.pc (lo ∷ hi ∷ []) w.mem w.text w.answers refl (source_of k a) (source_of (k + 1) b) (destination_at d) h.lies.0 (operand_grounded k a d (omega (arith, fit.slot)) fit.left) (operand_grounded (k + 1) b d fit.slot fit.right) (dest_in_data d fit.dest) h.lies.1 w (here ly f lo hi keys fits w [] [] h.stack h.binary)))
+      (word_lands ly f lo hi keys fits code n h.small (live (spread op.Subtract a b d is)) d is s r (with_fetched s (with_fetched s r k a) (k + 1) b) (word (x + (65536 - y))) _ _ (w.regs.pc + size text) w.mem w.text w.answers sum.0 sum.1 (omega arith) fit.dest (calculate_lasting op.Subtract a b d is s r h.free) (subst (λ p. GroupsLie ly f.code n p (select is)) behind there.1) (kept ly f lo hi keys fits n _ _ is s r w h) h.text h.answers h.short)
+      (differs f 16 fits w.regs.pc (lo ∷ hi ∷ []) w.mem w.text w.answers refl (source_of k a) (source_of (k + 1) b) (destination_at d) there.0.0 (operand_grounded k a d (omega (arith, fit.slot)) fit.left) (operand_grounded (k + 1) b d fit.slot fit.right) (dest_in_data d fit.dest) there.0.1 w (here ly f lo hi keys fits w [] [] h.stack h.binary)))

@@ -14,21 +14,25 @@ use Rattle.tb_lower.specs.Control.{has_line}
 use Rattle.tb_lower.specs.Ranges.{AreInRange}
 use Rattle.tb_lower.specs.Slots as slots
 use Rattle.tb_runtime16.specs.Places.{LEFT, LINE, NOTES, NOTE_HIGH, NOTE_LOW, POP_AT, PUSH_AT, RESULT}
-use Rattle.tb_selection.specs.Groups.{Group, Calculate, Convert, Move, Use, Test, TestGo, Single, expand}
+use Rattle.tb_selection.specs.Groups.{Group, Calculate, Convert, Move, Use, Test, TestGo, Single, slot_of, expand}
 use Rattle.tb_templates.specs.declared.labels.Inner.TheVariants as inside
 use Rattle.tb_templates.specs.declared.labels.Target.TheVariants as target
 use Rattle.tb_templates.specs.Labels.{label_of}
 use Rattle.tb_templates.specs.Templates as product
 use Rattle.tb_templates.specs.Templates.{next_line}
 use Rattle.tb_templates.specs.GroupTemplates as items
+use Rattle.tb_templates.specs.InPlace.{change_of}
+use Rattle.tb_templates.specs.Sources.{source_of, destination_at}
 use Rattle.tb_keeping.specs.Layout.{Layout, layout_of, next_at}
 use Rattle.tb_keeping.proofs.Numbers.{address_bytes, constant_bytes, faulted_bytes, high_of, jump_bytes, low_of, next_same, start_of_line}
 use Rattle.tb_keeping.proofs.Resolved as resolved
 use Rattle.tb_keeping.proofs.Resolved.{Code, highest_code}
+use Rattle.tb_grouping.proofs.ChangeBytes.{computed_emitted}
+use Rattle.tb_grouping.proofs.Changes.{change_is}
 use Rattle.tb_grouping.proofs.Coded as coded
 use Rattle.tb_grouping.proofs.Coded.{Way, Short, Zero, way_size}
 use Rattle.tb_grouping.proofs.Emits.{Emits, block, branches, ends, formed, labelled}
-use Rattle.tb_grouping.proofs.GroupBytes.{AllMake, GroupEmitted, Makes, Rest, behind_branch, behind_label, behind_straight, cut, cut_branch, gets_there, group_emitted, label_here, no_more, value_of}
+use Rattle.tb_grouping.proofs.GroupBytes.{AllMake, GroupEmitted, Makes, Rest, behind_branch, behind_label, behind_straight, cut, cut_branch, gets_there, group_emitted, label_here, no_more, source_word, value_of}
 use Rattle.tb_grouping.proofs.Singles.{IsAlone}
 
 module _ (labels : List (Name × ℕ)) (ns : List ℕ) (seed n : ℕ) (seed_small : seed < 65536) (n_small : n < 65536) where
@@ -248,7 +252,10 @@ module _ (labels : List (Name × ℕ)) (ns : List ℕ) (seed n : ℕ) (seed_smal
     each_emitted i at (Single (slots.CallTo to)) fs q range h r =
         let e = call_emitted i at to (has_line ns to) refl fs h r in record { first = e.0; second = e.1; emits = e.2; reach = e.3 }
     each_emitted i at (Single slots.Return) fs q range h r = return_emitted (label_of (target.Inside inside.Behind n i)) at fs h r
-    each_emitted i at (Calculate op a b d) fs q range h r = without_branches i at (Calculate op a b d) fs refl q range h r
+    each_emitted i at (Calculate op a b d) fs q range h r =
+        let x = source_of (slot_of d) a in let y = source_of (slot_of d + 1) b in let to = destination_at d in
+        let e = computed_emitted labels n at (target.Inside inside.Skip n i) op x y to (change_of op x y to) (change_is op x y to) n_small (source_word labels (slot_of d) a) (source_word labels (slot_of d + 1) b) fs h r in
+        record { first = e.0; second = Short; emits = e.1; reach = e.2 }
     each_emitted i at (Convert what a d) fs q range h r = without_branches i at (Convert what a d) fs refl q range h r
     each_emitted i at (Move a home) fs q range h r = without_branches i at (Move a home) fs refl q range h r
     each_emitted i at (Use how a) fs q range h r = without_branches i at (Use how a) fs refl q range h r

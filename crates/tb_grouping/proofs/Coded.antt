@@ -16,6 +16,9 @@ use Rattle.tb_templates.specs.declared.sources.Source.{Source}
 use Rattle.tb_templates.specs.declared.sources.Source.TheVariants.{FixedWord, AtPlace}
 use Rattle.tb_templates.specs.GroupTemplates.{may_fault, may_be_zero, may_have_none, is_zero}
 use Rattle.tb_templates.specs.Scaled.{all_but_lowest, scaling, shifts}
+use Rattle.tb_templates.specs.declared.in_place.Change.{Change}
+use Rattle.tb_templates.specs.declared.in_place.Change.TheVariants.{Increment, Decrement, Raise, Lower, Halve, Double}
+use Rattle.tb_templates.specs.InPlace.{change_of}
 use Rattle.tb_templates.specs.Sources.{source_of, tested_source, home_at, destination_at}
 use Rattle.tb_keeping.specs.Layout.{Layout, next_at, place_at}
 use Rattle.tb_keeping.proofs.Resolved.{Piece, Code, Lies, pieces_size, size, sta_at, copied, constant, pointed, call, faulting, jump, jump_through, template, highest_code, locate_code, past_code}
@@ -172,6 +175,67 @@ branch_code Long opcode at to = ins (opposite opcode) 3 ∷ jump to
 abbrev pub BranchReaches : Way → (at to : ℕ) → Type 0
 BranchReaches Short at to = (is_near (distance at to) ≡ true) × (to ≤ highest_code)
 BranchReaches Long at to = to ≤ highest_code
+
+-- ---- words changed in place
+-- where a branch behind code leads, over code
+abbrev pub over_at : Way → (at : ℕ) → (before skipped : List Instr) → ℕ
+over_at first at before skipped = at + size before + way_size first + size skipped
+
+-- code, a branch over more of it, and what is behind that
+abbrev pub over_code : Way → (at : ℕ) → (before : List Instr) → Flag → Bool → (skipped behind : List Instr) → List Piece
+over_code first at before which wanted skipped behind =
+    Code before ∷ Code (branch_code first (branch_on which wanted) (at + size before) (over_at first at before skipped)) ∷ Code skipped ∷ Code behind ∷ []
+
+abbrev pub OverReaches : Way → (at : ℕ) → (before skipped : List Instr) → Type 0
+OverReaches first at before skipped = BranchReaches first (at + size before) (over_at first at before skipped)
+
+-- the low byte of the word at a place is so much more, or less
+abbrev pub low_raised : ℕ → ℕ → List Instr
+low_raised c p = ins 0x18 0 ∷ ins 0xAD p ∷ ins 0x69 c ∷ ins 0x8D p ∷ []
+
+abbrev pub low_lowered : ℕ → ℕ → List Instr
+low_lowered c p = ins 0x38 0 ∷ ins 0xAD p ∷ ins 0xE9 c ∷ ins 0x8D p ∷ []
+
+-- the sign of the word goes to C
+abbrev pub sign_asked : ℕ → List Instr
+sign_asked p = ins 0xAD (p + 1) ∷ ins 0x0A 0 ∷ []
+
+-- C is added to the word, and its new sign goes to C
+abbrev pub raised_by_sign : ℕ → List Instr
+raised_by_sign p = ins 0xAD p ∷ ins 0x69 0 ∷ ins 0x8D p ∷ ins 0xAD (p + 1) ∷ ins 0x69 0 ∷ ins 0x8D (p + 1) ∷ ins 0x0A 0 ∷ []
+
+-- the word with C before it is shifted to the right
+abbrev pub turned_right : ℕ → List Instr
+turned_right p = ins 0x6E (p + 1) ∷ ins 0x6E p ∷ []
+
+-- the word at a place
+abbrev pub change_code : Way → (at : ℕ) → Change → ℕ → List Piece
+change_code first at Increment p = over_code first at (ins 0xEE p ∷ []) Zero false (ins 0xEE (p + 1) ∷ []) []
+change_code first at Decrement p = over_code first at (ins 0xAD p ∷ []) Zero false (ins 0xCE (p + 1) ∷ []) (ins 0xCE p ∷ [])
+change_code first at (Raise c) p = over_code first at (low_raised c p) Carry false (ins 0xEE (p + 1) ∷ []) []
+change_code first at (Lower c) p = over_code first at (low_lowered c p) Carry true (ins 0xCE (p + 1) ∷ []) []
+change_code first at Halve p = over_code first at (sign_asked p) Carry false (raised_by_sign p) (turned_right p)
+change_code first at Double p = Code (ins 0x0E p ∷ ins 0x2E (p + 1) ∷ []) ∷ []
+
+abbrev pub ChangeReaches : Way → (at : ℕ) → Change → ℕ → Type 0
+ChangeReaches first at Increment p = OverReaches first at (ins 0xEE p ∷ []) (ins 0xEE (p + 1) ∷ [])
+ChangeReaches first at Decrement p = OverReaches first at (ins 0xAD p ∷ []) (ins 0xCE (p + 1) ∷ [])
+ChangeReaches first at (Raise c) p = OverReaches first at (low_raised c p) (ins 0xEE (p + 1) ∷ [])
+ChangeReaches first at (Lower c) p = OverReaches first at (low_lowered c p) (ins 0xCE (p + 1) ∷ [])
+ChangeReaches first at Halve p = OverReaches first at (sign_asked p) (raised_by_sign p)
+ChangeReaches first at Double p = Unit {0}
+
+-- a calculation of line n: where it changes a word in place, there
+abbrev pub changed_or : Option Change → Way → (n at : ℕ) → Operator → Source → Source → ℕ → List Piece
+changed_or (Some c) first n at op a b to = change_code first at c to
+changed_or None first n at op a b to = calc_code n op a b to
+
+abbrev pub ChangedReaches : Option Change → Way → (at to : ℕ) → Type 0
+ChangedReaches (Some c) first at to = ChangeReaches first at c to
+ChangedReaches None first at to = Unit {0}
+
+abbrev pub computed_code : Way → (n at : ℕ) → Operator → Source → Source → ℕ → List Piece
+computed_code first n at op a b to = changed_or (change_of op a b to) first n at op a b to
 
 -- ---- tests
 -- where the second branch of a test for equality is
@@ -350,7 +414,7 @@ abbrev pub ReturnReaches : (first second : Way) → ℕ → Type 0
 ReturnReaches first second at = BranchReaches first (at + 3) (popping_at first second at) × BranchReaches second (some_at first at + 3) (popping_at first second at)
 
 -- ---- groups
--- whether an instruction alone has branches
+-- whether an instruction alone has branches; a calculation may have one
 abbrev pub has_branches : slots.Instr → Bool
 has_branches (slots.CallTo to) = true
 has_branches slots.Return = true
@@ -358,6 +422,7 @@ has_branches _ = false
 
 abbrev pub is_branching : Group → Bool
 is_branching (Single i) = has_branches i
+is_branching (Calculate op a b d) = true
 is_branching _ = false
 
 -- the code of one that has, and that its branches reach
@@ -384,7 +449,7 @@ alone_code ly n at first second i = if has_branches i then branching_code ly n a
 
 -- the code of a group of line n, at an address, with the ways of its branches
 abbrev pub group_code : Layout → (n at : ℕ) (first second : Way) → Group → List Piece
-group_code ly n at first second (Calculate op a b d) = calc_code n op (source_of (slot_of d) a) (source_of (slot_of d + 1) b) (destination_at d)
+group_code ly n at first second (Calculate op a b d) = computed_code first n at op (source_of (slot_of d) a) (source_of (slot_of d + 1) b) (destination_at d)
 group_code ly n at first second (Convert what a d) = convert_code ly n what (source_of (slot_of d) a) (destination_at d)
 group_code ly n at first second (Move a home) = Code (brought (source_of 0 a) (home_at home)) ∷ []
 group_code ly n at first second (Use how a) = use_code ly n how (source_of 0 a)
@@ -394,6 +459,7 @@ group_code ly n at first second (Single i) = alone_code ly n at first second i
 
 -- the branches of a group reach
 abbrev pub BranchesReach : Layout → (n at : ℕ) (first second : Way) → Group → Type 0
+BranchesReach ly n at first second (Calculate op a b d) = ChangedReaches (change_of op (source_of (slot_of d) a) (source_of (slot_of d + 1) b) (destination_at d)) first at (destination_at d)
 BranchesReach ly n at first second (Test rel a b) = TestReaches rel first second at (tested_source a) (source_of 0 b) (next_at ly n)
 BranchesReach ly n at first second (TestGo rel a b to) = GoReaches ly n at first second rel (tested_source a) (source_of 0 b) (has_line ly.numbers to) to
 BranchesReach ly n at first second (Single i) = OnlyIf (has_branches i) (BranchingReaches ly first second at i)

@@ -225,7 +225,7 @@ module _ (labels : List (Name × ℕ)) where
   made_append : (xs ys : List Entry) (is js : List Instr) → AllMake xs is → AllMake ys js → AllMake (xs ++ ys) (is ++ js)
   made_append xs ys is js h k = record { same = λ a. bytes_append labels a xs ys ∙ (λ j. h.same a j ++ k.same (a + size xs) j) ∙ sym (flat_append is js) }
 
-  all_made : {at : ℕ} (es : List Entry) (is : List Instr) → AllMake es is → Emits labels at (map kept es) (Code is ∷ [])
+  pub all_made : {at : ℕ} (es : List Entry) (is : List Instr) → AllMake es is → Emits labels at (map kept es) (Code is ∷ [])
   all_made {at} es is m = record { bytes = ap (bytes_from labels at) (items_kept at es) ∙ m.same at ∙ sym (append-nil (flat is)) }
 
   masked : (k : ℕ) → k < 6 → scaled.all_but_lowest k % 256 ≡ scaled.all_but_lowest k
@@ -357,7 +357,7 @@ module _ (labels : List (Name × ℕ)) where
   quotient_straight n (Some k) s t to = plain_straight (scaled.shifted k s to) (shifted_plain k s to)
   quotient_straight n None s t to = lined_straight (items.may_be_zero t) n (items.handed DIVIDE_AT LEFT s t to) (handed_straight DIVIDE_AT LEFT s t to)
 
-  calculated_straight : (n : ℕ) (o : Operator) (s t : Source) (to : ℕ) → list_all is_straight (items.calculated n o s t to) ≡ true
+  pub calculated_straight : (n : ℕ) (o : Operator) (s t : Source) (to : ℕ) → list_all is_straight (items.calculated n o s t to) ≡ true
   calculated_straight n op.Add s t to = joined_straight Adc s t to
   calculated_straight n op.Subtract s t to = joined_straight Sbc s t to
   calculated_straight n op.Multiply s t to = product_straight (scaling s t) s t to
@@ -412,7 +412,7 @@ module _ (labels : List (Name × ℕ)) where
   quotient_emits n at _ s t to by_call l h k =
       lined_emits at (items.may_be_zero t) n l (items.handed DIVIDE_AT LEFT s t to) (coded.routine DIVIDE_AT LEFT s t to) (λ b. handed_emits {at = b} DIVIDE_AT LEFT s t to h k)
 
-  calculated_emits : (n at : ℕ) (o : Operator) (s t : Source) (to : ℕ) → n < 65536 → IsWord s → IsWord t → Emits labels at (map kept (items.calculated n o s t to)) (coded.calc_code n o s t to)
+  pub calculated_emits : (n at : ℕ) (o : Operator) (s t : Source) (to : ℕ) → n < 65536 → IsWord s → IsWord t → Emits labels at (map kept (items.calculated n o s t to)) (coded.calc_code n o s t to)
   unfolding opcodes.encoded
   calculated_emits n at op.Add s t to l h k = block labels (items.summed s t to) (coded.summed s t to) ((summed_bytes s t to h k).same at) (ends labels)
   calculated_emits n at op.Subtract s t to l h k = block labels (items.taken s t to) (coded.taken s t to) ((taken_bytes s t to h k).same at) (ends labels)
@@ -763,10 +763,7 @@ module _ (labels : List (Name × ℕ)) (ns : List ℕ) (seed n : ℕ) (seed_smal
     -- the forms of each group without branches of a single instruction emit it
     pub group_emitted : (i at : ℕ) (g : Group) (fs : List Form) → coded.is_branching g ≡ false → IsAlone g → AreInRange 256 (expand g) → AreFormsOf (items.group_template ns seed n i g) fs → Rest labels at fs
         → GroupEmitted labels ly n at g fs
-    group_emitted i at (Calculate o a b d) fs plain q range h r =
-        let x = source_of (slot_of d) a in let y = source_of (slot_of d + 1) b in let to = destination_at d in
-        straight_emitted at (Calculate o a b d) (items.calculated n o x y to) fs (calculated_straight labels n o x y to) h r
-        (λ s. record { first = Short; second = Short; emits = calculated_emits labels n at o x y to n_small (source_word labels (slot_of d) a) (source_word labels (slot_of d + 1) b); reach = tt })
+    group_emitted i at (Calculate o a b d) fs plain q range h r = absurd (true≢false plain)
     group_emitted i at (Move a home) fs plain q range h r =
         let x = source_of 0 a in let to = home_at home in
         straight_emitted at (Move a home) (items.brought x to) fs (brought_straight labels x to) h r

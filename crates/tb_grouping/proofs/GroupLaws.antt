@@ -12,16 +12,19 @@ use Rattle.tb_reaching.specs.View.{Comes, Fits, Setup, View}
 use Rattle.tb_runtime16.specs.Routines.{Routines}
 use Rattle.tb_keeping.specs.Layout.{Layout}
 use Rattle.tb_keeping.proofs.Joins.{LawAt, sent_in}
-use Rattle.tb_keeping.proofs.Mirrors.{Leads}
+use Rattle.tb_keeping.proofs.Mirrors as mirrors
+use Rattle.tb_keeping.proofs.Resolved.{Lies, pieces_size}
 use Rattle.tb_selection.specs.Groups.{Operand, Home, Destination, Tested, Conversion, Negated, Drawn, Usage, Group, Calculate, Convert, Move, Use, Test, TestGo, Single, slot_of, expand, expand_all}
 use Rattle.tb_selection.specs.Select.{alone, select}
 use Rattle.tb_selection.specs.GroupSteps.{steps, first_group, group_step}
 use Rattle.tb_selection.proofs.Bracketed.{brackets}
 use Rattle.tb_templates.specs.Scaled.{scaling, shifts}
-use Rattle.tb_templates.specs.Sources.{source_of}
+use Rattle.tb_templates.specs.InPlace.{change_of}
+use Rattle.tb_templates.specs.Sources.{destination_at, source_of}
 use Rattle.tb_templates.proofs.Factors.{scaling_is, shifting_is}
 use Rattle.tb_grouping.proofs.Alone.{act_law}
-use Rattle.tb_grouping.proofs.Coded.{GroupsLaid}
+use Rattle.tb_grouping.proofs.Changes.{change_is}
+use Rattle.tb_grouping.proofs.Coded.{GroupsLaid, GroupsLie, calc_code}
 use Rattle.tb_grouping.proofs.Falling.{IsSome, Between, falls_on}
 use Rattle.tb_grouping.proofs.Lone.{one_step}
 use Rattle.tb_grouping.proofs.Singles.{FirstIsAlone, first_so}
@@ -29,7 +32,8 @@ use Rattle.tb_grouping.proofs.Matching.{Matches, Target}
 use Rattle.tb_grouping.proofs.SlotSide.{line, fetched, spread, spread_is}
 use Rattle.tb_grouping.proofs.TestSide.{spread_test, spread_test_is}
 use Rattle.tb_grouping.proofs.Ready.{Ready, ready, opened, parted}
-use Rattle.tb_grouping.proofs.Calculations.{add_law, subtract_law}
+use Rattle.tb_grouping.proofs.Calculations.{Leads, add_law, subtract_law}
+use Rattle.tb_grouping.proofs.InPlace.{computed_law}
 use Rattle.tb_grouping.proofs.Conversions.{ConvertLeads, draw_fails_law, draw_law, negate_law}
 use Rattle.tb_grouping.proofs.OneWord.{spread_convert, spread_convert_is, spread_use, spread_use_is}
 use Rattle.tb_grouping.proofs.Uses.{use_law}
@@ -62,15 +66,24 @@ module _ (ly : Layout) (f : Setup) (lo hi keys : ℕ) (fits : Fits f 16) (limit 
   calculate_steps : (op : Operator) (a b : Operand) (d : Destination) (k : ℕ) → ((is : List Instr) → StepsLaw (Calculate op a b d) (spread op a b d is) is k) → (is : List Instr) → StepsLaw (Calculate op a b d) (expand (Calculate op a b d) ++ is) is k
   calculate_steps op a b d k = bracketed (Calculate op a b d) k (spread op a b d) (spread_is op a b d)
 
+  -- a calculation: where it is a change in place that, and else as its operator does it
+  computes : (op : Operator) (a b : Operand) (d : Destination) (k : ℕ) → 16 ≤ k
+      → ((is : List Instr) (n : ℕ) (s : State) (r : Slots) (w : View) → Ready ly f lo hi keys fits n (Calculate op a b d) (spread op a b d is) is s r w → Lies f.code w.regs.pc (calc_code n op (source_of (slot_of d) a) (source_of (slot_of d + 1) b) (destination_at d))
+      → GroupsLie ly f.code n (w.regs.pc + pieces_size (calc_code n op (source_of (slot_of d) a) (source_of (slot_of d + 1) b) (destination_at d))) (select is) → Leads ly f lo hi keys fits code n a b d is s r w op k)
+      → (is : List Instr) → StepsLaw (Calculate op a b d) (expand (Calculate op a b d) ++ is) is k
+  computes op a b d k le other = calculate_steps op a b d k (λ is n s r w h.
+      let x = source_of (slot_of d) a in let y = source_of (slot_of d + 1) b in let to = destination_at d in
+      computed_law ly f lo hi keys fits code n op a b d is s r w h k le h.first (change_of op x y to) (change_is op x y to) h.lies h.rest h.reach (other is n s r w h))
+
   convert_steps : (what : Conversion) (a : Operand) (d : Destination) (k : ℕ) → ((is : List Instr) → StepsLaw (Convert what a d) (spread_convert what a d is) is k) → (is : List Instr) → StepsLaw (Convert what a d) (expand (Convert what a d) ++ is) is k
   convert_steps what a d k = bracketed (Convert what a d) k (spread_convert what a d) (spread_convert_is what a d)
 
   -- ---- the laws that are proved
   pub adds : (a b : Operand) (d : Destination) → GroupLaw (Calculate op.Add a b d)
-  adds a b d = by_steps (Calculate op.Add a b d) 7 (omega arith) (calculate_steps op.Add a b d 7 (λ is n s r w h. add_law ly f lo hi keys fits code n a b d is s r w h))
+  adds a b d = by_steps (Calculate op.Add a b d) 16 (omega arith) (computes op.Add a b d 16 (omega arith) (λ is n s r w h lies rest. looser f w _ _ _ 7 16 (omega arith) (λ u z. z) (add_law ly f lo hi keys fits code n a b d is s r w h (lies, rest))))
 
   pub subtracts : (a b : Operand) (d : Destination) → GroupLaw (Calculate op.Subtract a b d)
-  subtracts a b d = by_steps (Calculate op.Subtract a b d) 7 (omega arith) (calculate_steps op.Subtract a b d 7 (λ is n s r w h. subtract_law ly f lo hi keys fits code n a b d is s r w h))
+  subtracts a b d = by_steps (Calculate op.Subtract a b d) 16 (omega arith) (computes op.Subtract a b d 16 (omega arith) (λ is n s r w h lies rest. looser f w _ _ _ 7 16 (omega arith) (λ u z. z) (subtract_law ly f lo hi keys fits code n a b d is s r w h (lies, rest))))
 
   pub negates : (a : Operand) (d : Destination) → GroupLaw (Convert Negated a d)
   negates a d = by_steps (Convert Negated a d) 7 (omega arith) (convert_steps Negated a d 7 (λ is n s r w h. negate_law ly f lo hi keys fits code n a d is s r w h))
@@ -83,15 +96,15 @@ module _ (ly : Layout) (f : Setup) (lo hi keys : ℕ) (fits : Fits f 16) (limit 
 
   module _ (rs : Routines ly.table ly.seed ly.numbers ly.start f lo hi keys limit) (wide : 200 ≤ limit) where
     pub divides : (a b : Operand) (d : Destination) → GroupLaw (Calculate op.Divide a b d)
-    divides a b d = by_steps (Calculate op.Divide a b d) (17 + limit) (omega arith) (calculate_steps op.Divide a b d (17 + limit) (λ is n s r w h.
-        quotient_law ly f lo hi keys fits limit rs wide code n a b d is s r w h (shifts (source_of (slot_of d + 1) b)) (shifting_is (source_of (slot_of d + 1) b)) h.lies h.rest))
+    divides a b d = by_steps (Calculate op.Divide a b d) (17 + limit) (omega arith) (computes op.Divide a b d (17 + limit) (omega arith) (λ is n s r w h.
+        quotient_law ly f lo hi keys fits limit rs wide code n a b d is s r w h (shifts (source_of (slot_of d + 1) b)) (shifting_is (source_of (slot_of d + 1) b))))
 
     pub tests_going : (rel : Rel) (a : Tested) (b : Operand) (to : ℕ) → GroupLaw (TestGo rel a b to)
     tests_going rel a b to = by_steps (TestGo rel a b to) (15 + limit) (omega arith) (bracketed (TestGo rel a b to) (15 + limit) (λ is. spread_test rel a b (JumpTo to ∷ is)) (spread_test_is rel a b (JumpTo to ∷ [])) (λ is n s r w h. go_law ly f lo hi keys fits code same_numbers n a b s r w limit rs rel to is h))
 
     pub multiplies : (a b : Operand) (d : Destination) → GroupLaw (Calculate op.Multiply a b d)
-    multiplies a b d = by_steps (Calculate op.Multiply a b d) (13 + limit) (omega arith) (calculate_steps op.Multiply a b d (13 + limit) (λ is n s r w h.
-        product_law ly f lo hi keys fits limit rs wide code n a b d is s r w h (scaling (source_of (slot_of d) a) (source_of (slot_of d + 1) b)) (scaling_is (source_of (slot_of d) a) (source_of (slot_of d + 1) b)) h.lies h.rest))
+    multiplies a b d = by_steps (Calculate op.Multiply a b d) (13 + limit) (omega arith) (computes op.Multiply a b d (13 + limit) (omega (arith, wide)) (λ is n s r w h.
+        product_law ly f lo hi keys fits limit rs wide code n a b d is s r w h (scaling (source_of (slot_of d) a) (source_of (slot_of d + 1) b)) (scaling_is (source_of (slot_of d) a) (source_of (slot_of d + 1) b))))
 
     module _ (closed : AreClosed code) (laid : GroupsLaid ly f.code f.whole code) where
       pub draws : (a : Operand) (d : Destination) → GroupLaw (Convert Drawn a d)
@@ -131,7 +144,7 @@ module _ (ly : Layout) (f : Setup) (lo hi keys : ℕ) (fits : Fits f 16) (limit 
       by_rest n js s r w (g ∷ gs) e some h = by_group g n gs js s r w e h
 
       -- the law of each step
-      pub step_law : (c : SlotState) (w : View) → Between ly f lo hi keys c w → LawAt c.rest f w (Leads f (Between ly f lo hi keys) (group_step code c)) (sent_in (group_step code c)) (24 + (limit + limit))
+      pub step_law : (c : SlotState) (w : View) → Between ly f lo hi keys c w → LawAt c.rest f w (mirrors.Leads f (Between ly f lo hi keys) (group_step code c)) (sent_in (group_step code c)) (24 + (limit + limit))
       step_law c w h = falls_on ly f lo hi keys code same_numbers c.rest (first_group code c) w (24 + (limit + limit)) (by c.rest c.state c.slots h.0 h.1)
         where
           by : (q : Rest) (s : State) (r : Slots) → Matches ly f lo hi keys (record { state = s; rest = q; slots = r }) w → IsSome q → LawAt q f w (Target ly f lo hi keys (first_group code (record { state = s; rest = q; slots = r }))) (sent_in (first_group code (record { state = s; rest = q; slots = r }))) (24 + (limit + limit))

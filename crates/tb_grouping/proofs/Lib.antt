@@ -15,6 +15,8 @@ pub mod ShiftSteps
 pub mod Shifts
 pub mod Multiples
 pub mod Constants
+pub mod Changes
+pub mod InPlace
 pub mod TestSide
 pub mod Whereto
 pub mod Tests
@@ -38,6 +40,7 @@ pub mod Leaving
 pub mod Finding
 pub mod Noting
 pub mod Calling
+pub mod ChangeBytes
 pub mod CallBytes
 pub mod Asking
 pub mod Singles

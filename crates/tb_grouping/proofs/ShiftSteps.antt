@@ -36,7 +36,7 @@ stands_split code at (i ∷ is) js r h =
 
 -- ---- two bytes written
 -- in either order
-swapped : (m : ℕ → ℕ) (p q b c : ℕ) → p ≢ q → with_byte (with_byte m p b) q c ≡ with_byte (with_byte m q c) p b
+pub swapped : (m : ℕ → ℕ) (p q b c : ℕ) → p ≢ q → with_byte (with_byte m p b) q c ≡ with_byte (with_byte m q c) p b
 swapped m p q b c apart = λ i. λ a. by a (eqb a q) (eqb a p) refl refl i
   where
     by : (a : ℕ) (s t : Bool) → eqb a q ≡ s → eqb a p ≡ t → (if s then c else if t then b else m a) ≡ (if t then b else if s then c else m a)

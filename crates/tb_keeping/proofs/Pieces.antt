@@ -8,7 +8,7 @@ use Rattle.tb_opcodes.specs.declared.Mnemonic.TheVariants.{Lda, Sta}
 use Rattle.tb_opcodes.specs.declared.Mnemonic.{Mnemonic}
 use Rattle.tb_opcodes.specs.declared.Mode.TheVariants.{Absolute, ZeroPage}
 use Rattle.tb_reaching.proofs.Comes.{chained, known, looser}
-use Rattle.tb_reaching.proofs.Placed.{placing, reads_data, stores_at, takes_at, placed_last}
+use Rattle.tb_reaching.proofs.Placed.{changes_at, placing, reads_data, stores_at, takes_at, placed_last}
 use Rattle.tb_reaching.specs.View.{Bytes}
 use Rattle.tb_reaching.proofs.Instr.{Instr, Stands, act_instr, ins, instr_bytes}
 use Rattle.tb_reaching.specs.View.{Comes, Fits, Setup, View, is_data, view, with_s}
@@ -17,7 +17,7 @@ use Rattle.std.specs.Prelude.{◌==◌, nat_lt, if◌then◌else◌}
 use Rattle.std.proofs.lemmas.Bool.Decides.{nat_tests}
 use Rattle.tb_opcodes.specs.Opcodes.{find_row, rows}
 use Rattle.tb_cpu.specs.declared.registers.Regs.{Regs}
-use Rattle.tb_cpu.specs.Instructions.{executed, advanced}
+use Rattle.tb_cpu.specs.Instructions.{executed, advanced, stored}
 use Rattle.tb_reaching.proofs.Acting.{kind_of, Plain}
 
 -- a word written
@@ -77,6 +77,12 @@ module _ (f : Setup) (room : ℕ) (fits : Fits f room) where
   pub stores_short : (p : ℕ) (v : View) (q : View → Type 0) (t : List ℕ) (n : ℕ) → leb (length v.stack) room ≡ true → Bytes f.code v.regs.pc (instr_bytes (ins 0x85 p)) → is_data p ≡ true → Comes f (record v { regs = advanced v.regs ZeroPage; mem = with_byte v.mem p v.regs.a }) q t n → Comes f v q t (1 + n)
   stores_short p v q t n small b dp next =
       does (ins 0x85 p) v (record v { regs = advanced v.regs ZeroPage; mem = with_byte v.mem p v.regs.a }) q t n small b (stores_at f.code room (ins 0x85 p) v Sta ZeroPage p refl refl refl refl refl v.regs.a dp refl) next
+
+  -- a byte of data is changed where it stands, as the last of a piece
+  pub changes_last : (k p c : ℕ) (mn : Mnemonic) (v : View) (r : Regs) (q : View → Type 0) → find_row rows k ≡ Some (mn, Absolute) → (k == 0) ≡ false → kind_of mn ≡ Plain → leb (length v.stack) room ≡ true → Bytes f.code v.regs.pc (instr_bytes (ins k p)) → is_data p ≡ true → executed mn (advanced v.regs Absolute) (λ a. Ok (v.mem p)) p ≡ stored r p c → q (record v { regs = with_s v.regs.s r; mem = with_byte v.mem p c }) → Comes f v q [] 1
+  changes_last k p c mn v r q d s e small b dp e' x =
+      placed_last f room fits (ins k p) v (record v { regs = with_s v.regs.s r; mem = with_byte v.mem p c }) q small b
+      (changes_at f.code room (ins k p) v mn Absolute p d s e refl refl (v.mem p) c r dp (reads_data f.code v.mem p dp) e') x
 
   -- the last write of a piece
   pub ends : (p at : ℕ) (v : View) (m : ℕ → ℕ) (bs keys gets : List ℕ) → leb (length v.stack) room ≡ true → Bytes f.code v.regs.pc (instr_bytes (ins 0x8D p)) → is_data p ≡ true → (v.regs.pc + 3) % 65536 ≡ at → v.stack ≡ bs → v.regs.flags.d ≡ false → with_byte v.mem p v.regs.a ≡ m → v.text ≡ keys → v.answers ≡ gets → Comes f v (Here at bs m keys gets) [] 1

@@ -132,6 +132,14 @@ module _ (part : Part) (room : ℕ) (i : Instr) (v : View) (m : Mnemonic) (mode 
   pub takes_at : (b : ℕ) (r : Regs) → reader_by mode i.operand (read_view part v.mem) o ≡ Ok b → executed m (advanced v.regs mode) (λ a. Ok b) o ≡ Ok (r, []) → act_instr part room i v ≡ Some (record v { regs = with_s v.regs.s r })
   takes_at b r read h = acts_so (moved v.regs.s (r, [])) (more_executed (λ a. Ok b) (reader_by mode i.operand (read_view part v.mem)) o (λ c e. read ∙ e) v.regs.s m plain (advanced v.regs mode) (r, []) h)
 
+  -- an instruction that reads the byte b there and stores c in its place
+  pub changes_at : (b c : ℕ) (r : Regs) → is_data o ≡ true → reader_by mode i.operand (read_view part v.mem) o ≡ Ok b → executed m (advanced v.regs mode) (λ a. Ok b) o ≡ stored r o c
+      → act_instr part room i v ≡ Some (record v { regs = with_s v.regs.s r; mem = with_byte v.mem o c })
+  changes_at b c r d read h =
+      let allowed : stored r o c ≡ Ok (r, (o, c) ∷ []) = ap (λ t. if t then Ok (r, (o, c) ∷ []) else Err (Closed o)) (fixed_open o (data_fixed o d)) in
+      acts_so (moved v.regs.s (r, (o, c) ∷ [])) (more_executed (λ a. Ok b) (reader_by mode i.operand (read_view part v.mem)) o (λ x e. read ∙ e) v.regs.s m plain (advanced v.regs mode) (r, (o, c) ∷ []) (h ∙ allowed))
+      ∙ ap (λ t. if t && true then Some (record v { regs = with_s v.regs.s r; mem = with_byte v.mem o c }) else None) d
+
   -- an instruction that stores the byte b there
   pub stores_at : (b : ℕ) → is_data o ≡ true → executed m (advanced v.regs mode) (reader_by mode i.operand (read_view part v.mem)) o ≡ stored (advanced v.regs mode) o b → act_instr part room i v ≡ Some (record v { regs = advanced v.regs mode; mem = with_byte v.mem o b })
   stores_at b d h =

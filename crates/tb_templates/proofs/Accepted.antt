@@ -26,8 +26,9 @@ use Rattle.tb_templates.specs.declared.labels.Target.{Target}
 use Rattle.tb_templates.specs.declared.labels.Target.TheVariants.{Inside, Line}
 use Rattle.tb_templates.specs.Templates.{slot_at, var_at, on, template, faulted, jump_to, call_to, next_line, call, copied, constant}
 use Rattle.tb_templates.specs.Sources.{Source, FixedWord, AtPlace, source_of, tested_source, home_at, destination_at}
-use Rattle.tb_templates.specs.GroupTemplates.{brought, summed, taken, handed, multiplied, divided, calculated, converted, used, equal, unequal, ordered, tested, gone, may_fault, group_template, polled, lined, may_be_zero, may_have_none, is_zero, signed, weighed}
+use Rattle.tb_templates.specs.GroupTemplates.{brought, summed, taken, handed, multiplied, divided, calculated, changed_or, converted, used, equal, unequal, ordered, tested, gone, may_fault, group_template, polled, lined, may_be_zero, may_have_none, is_zero, signed, weighed}
 use Rattle.tb_templates.specs.Scaled.{scaling, times, shifts, shifted}
+use Rattle.tb_templates.specs.InPlace.{Change, Increment, Decrement, Raise, Lower, Halve, Double, change_of, changed}
 use Rattle.tb_templates.specs.Program.{rest_code, list_code, line_code, lines_code, past_code, find_code, rows_code, table_code, program_code}
 use Rattle.tb_settling.specs.Settled.{may_move}
 use Rattle.tb_syntax.specs.Source.{numbers}
@@ -161,6 +162,18 @@ calculated_forms n Subtract a b to = taken_forms a b to
 calculated_forms n Multiply a b to = multiplied_forms (scaling a b) a b to
 calculated_forms n Divide a b to = divided_forms n (shifts b) a b to
 
+changed_forms : (c : Change) (p : ℕ) (skip : Target) → list_all has_form (changed c p skip) ≡ true
+changed_forms Increment p skip = refl
+changed_forms Decrement p skip = refl
+changed_forms (Raise c) p skip = refl
+changed_forms (Lower c) p skip = refl
+changed_forms Halve p skip = refl
+changed_forms Double p skip = refl
+
+computed_forms : (o : Option Change) (n : ℕ) (skip : Target) (op : Operator) (a b : Source) (to : ℕ) → list_all has_form (changed_or o n skip op a b to) ≡ true
+computed_forms (Some c) n skip op a b to = changed_forms c to skip
+computed_forms None n skip op a b to = calculated_forms n op a b to
+
 converted_forms : (n seed : ℕ) (what : Conversion) (a : Source) (to : ℕ) → list_all has_form (converted n seed what a to) ≡ true
 converted_forms n seed Negated a to = taken_forms (FixedWord 0) a to
 converted_forms n seed Drawn a to = lined_forms (may_have_none a) n (handed RANDOM_AT RESULT a (FixedWord seed) to) (handed_forms RANDOM_AT RESULT a (FixedWord seed) to)
@@ -215,7 +228,9 @@ gone_forms n rel a b skip next true to = tested_forms (denied rel) a b skip (Lin
 gone_forms n rel a b skip next false to = forms_append (tested rel a b skip next) (faulted n 1) (tested_forms rel a b skip next) refl
 
 group_forms : (ns : List ℕ) (seed n i : ℕ) (g : Group) → list_all has_form (group_template ns seed n i g) ≡ true
-group_forms ns seed n i (Calculate op a b d) = calculated_forms n op (source_of (slot_of d) a) (source_of (slot_of d + 1) b) (destination_at d)
+group_forms ns seed n i (Calculate op a b d) =
+    let x = source_of (slot_of d) a in let y = source_of (slot_of d + 1) b in let to = destination_at d in
+    computed_forms (change_of op x y to) n (Inside Skip n i) op x y to
 group_forms ns seed n i (Convert what a d) = converted_forms n seed what (source_of (slot_of d) a) (destination_at d)
 group_forms ns seed n i (Move a home) = brought_forms (source_of 0 a) (home_at home)
 group_forms ns seed n i (Use how a) = used_forms n (next_line ns n) how (source_of 0 a)

@@ -28,8 +28,9 @@ use Rattle.tb_templates.specs.declared.labels.Target.{Target}
 use Rattle.tb_templates.specs.declared.labels.Target.TheVariants.{Inside, Line}
 use Rattle.tb_templates.specs.Templates.{const, next_line, call, copied, faulted, slot_at, var_at, on}
 use Rattle.tb_templates.specs.Sources.{Source, FixedWord, AtPlace, source_of, tested_source, home_at, destination_at}
-use Rattle.tb_templates.specs.GroupTemplates.{low_of, high_of, brought, joined, handed, multiplied, divided, calculated, converted, used, equal, unequal, ordered, tested, gone, group_template, polled, lined, may_be_zero, may_have_none, is_zero, signed, weighed}
+use Rattle.tb_templates.specs.GroupTemplates.{low_of, high_of, brought, joined, handed, multiplied, divided, calculated, changed_or, converted, used, equal, unequal, ordered, tested, gone, group_template, polled, lined, may_be_zero, may_have_none, is_zero, signed, weighed}
 use Rattle.tb_templates.specs.Scaled.{at_zero, rounded, raised, halved, halvings, high_first, shifts, shifted, by_bit, by_bits, bits_size, is_factor, scaling, low_first, times}
+use Rattle.tb_templates.specs.InPlace.{Change, Increment, Decrement, Raise, Lower, Halve, Double, change_of, changed}
 use Rattle.tb_templates.specs.Program.{rest_code, list_code}
 use Rattle.tb_settling.specs.Settled.{most_of, most}
 use Rattle.tb_settling.proofs.Forms.{most_append}
@@ -172,6 +173,18 @@ calculated_fits n Subtract a b to = let h = joined_fits Sbc a b to in omega (ari
 calculated_fits n Multiply a b to = multiplied_fits (scaling a b) a b to (scaling_is a b)
 calculated_fits n Divide a b to = divided_fits n (shifts b) a b to (shifting_is b)
 
+changed_fits : (c : Change) (p : ℕ) (skip : Target) → most (changed c p skip) ≤ 76
+changed_fits Increment p skip = omega arith
+changed_fits Decrement p skip = omega arith
+changed_fits (Raise c) p skip = omega arith
+changed_fits (Lower c) p skip = omega arith
+changed_fits Halve p skip = omega arith
+changed_fits Double p skip = omega arith
+
+computed_fits : (o : Option Change) (n : ℕ) (skip : Target) (op : Operator) (a b : Source) (to : ℕ) → most (changed_or o n skip op a b to) ≤ 76
+computed_fits (Some c) n skip op a b to = changed_fits c to skip
+computed_fits None n skip op a b to = calculated_fits n op a b to
+
 converted_fits : (n seed k : ℕ) (what : Conversion) (a : Source) (to : ℕ) → most (converted n seed what a to) ≤ room (convert what k)
 converted_fits n seed k Negated a to = let p = low_most Sbc a in let q = high_most Sbc a in omega (arith, p, q)
 converted_fits n seed k Drawn a to =
@@ -219,7 +232,8 @@ keep_room IntoHeld = refl
 
 group_fits : (ns : List ℕ) (seed n i : ℕ) (g : Group) → most (group_template ns seed n i g) ≤ list_room (expand g)
 group_fits ns seed n i (Calculate op a b d) =
-    let h = calculated_fits n op (source_of (slot_of d) a) (source_of (slot_of d + 1) b) (destination_at d) in
+    let x = source_of (slot_of d) a in let y = source_of (slot_of d + 1) b in let to = destination_at d in
+    let h = computed_fits (change_of op x y to) n (Inside Skip n i) op x y to in
     let e = list_append (fetch (slot_of d) a) (fetch (slot_of d + 1) b ++ Compute op (slot_of d) ∷ kept d) in
     let f = list_append (fetch (slot_of d + 1) b) (Compute op (slot_of d) ∷ kept d) in
     omega (arith, h, e, f)

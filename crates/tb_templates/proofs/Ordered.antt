@@ -22,8 +22,9 @@ use Rattle.tb_templates.specs.declared.labels.Target.{Target}
 use Rattle.tb_templates.specs.declared.labels.Target.TheVariants.{Line, Inside, Table}
 use Rattle.tb_templates.specs.Templates.{template, faulted, called, jump_to, next_line, target_of, call, copied, constant}
 use Rattle.tb_templates.specs.Sources.{Source, FixedWord, AtPlace, source_of, tested_source, home_at, destination_at}
-use Rattle.tb_templates.specs.GroupTemplates.{brought, joined, handed, multiplied, divided, calculated, converted, used, equal, unequal, ordered, tested, gone, may_fault, group_template, polled, lined, may_be_zero, may_have_none, is_zero, signed, weighed}
+use Rattle.tb_templates.specs.GroupTemplates.{brought, joined, handed, multiplied, divided, calculated, changed_or, converted, used, equal, unequal, ordered, tested, gone, may_fault, group_template, polled, lined, may_be_zero, may_have_none, is_zero, signed, weighed}
 use Rattle.tb_templates.specs.Scaled.{scaling, times, shifts, shifted}
+use Rattle.tb_templates.specs.InPlace.{Change, Increment, Decrement, Raise, Lower, Halve, Double, change_of, changed}
 use Rattle.tb_templates.specs.Program.{rest_code, list_code, line_code, lines_code, past_code, find_code, rows_code, table_code, program_code, AreCodable, RisingFrom, first_of, AreInTurn}
 use Rattle.tb_templates.proofs.Listed.{by_poll}
 use Rattle.tb_templates.proofs.Plain.{plain_rises, times_plain, shifted_plain}
@@ -70,6 +71,14 @@ module _ (low high : ℕ) (skip : Target) (above : low ≤ key_of (label_of skip
   weighed_rises leaves (FixedWord v) (AtPlace q) next = (above, below)
   weighed_rises leaves (AtPlace p) (FixedWord w) next = (above, below)
   weighed_rises leaves (AtPlace p) (AtPlace q) next = (above, below)
+
+  changed_rises : (up : low ≤ high) (c : Change) (p : ℕ) → Rising low (changed c p skip) high
+  changed_rises up Increment p = (above, below)
+  changed_rises up Decrement p = (above, below)
+  changed_rises up (Raise c) p = (above, below)
+  changed_rises up (Lower c) p = (above, below)
+  changed_rises up Halve p = (above, below)
+  changed_rises up Double p = up
 
   ordered_rises : (leaves : Mnemonic) (a b : Source) (next : Target) → Rising low (ordered leaves a b skip next) high
   ordered_rises leaves a b next = by (is_zero b)
@@ -160,6 +169,13 @@ module _ (ns : List ℕ) (seed n i : ℕ) (small : n < 65536) (index : i < 65536
   single_rises true c = template_rises c
   single_rises false c = template_rises c
 
+  -- the label of a change in place in its code
+  computed_rises : (o : Option Change) (op : Operator) (a b : Source) (to : ℕ) → Rising (base n i) (changed_or o n (Inside inner.Skip n i) op a b to) (base n (i + 1))
+  computed_rises (Some c) op a b to =
+      let s = keyed inner.Skip in
+      changed_rises (base n i) (base n (i + 1)) (Inside inner.Skip n i) (omega (arith, s)) (omega (arith, s)) up c to
+  computed_rises None op a b to = calculated_rises (base n i) (base n (i + 1)) n op a b to up
+
   -- the label of a test in its code
   test_rises : (rel : Rel) (a b : Source) (next : Target) → Rising (base n i) (tested rel a b (Inside inner.Skip n i) next) (base n (i + 1))
   test_rises rel a b next =
@@ -172,7 +188,9 @@ module _ (ns : List ℕ) (seed n i : ℕ) (small : n < 65536) (index : i < 65536
       rising_append (base n i) (base n (i + 1)) (base n (i + 1)) (tested rel a b (Inside inner.Skip n i) (next_line ns n)) (faulted n 1) (test_rises rel a b (next_line ns n)) (omega arith)
 
   group_rises : (g : Group) → Rising (base n i) (group_template ns seed n i g) (base n (i + 1))
-  group_rises (Calculate op a b d) = calculated_rises (base n i) (base n (i + 1)) n op (source_of (slot_of d) a) (source_of (slot_of d + 1) b) (destination_at d) up
+  group_rises (Calculate op a b d) =
+      let x = source_of (slot_of d) a in let y = source_of (slot_of d + 1) b in let to = destination_at d in
+      computed_rises (change_of op x y to) op x y to
   group_rises (Convert what a d) = converted_rises (base n i) (base n (i + 1)) n seed what (source_of (slot_of d) a) (destination_at d) up
   group_rises (Move a home) = brought_rises (base n i) (base n (i + 1)) up (source_of 0 a) (home_at home)
   group_rises (Use how a) = used_rises (base n i) (base n (i + 1)) n (next_line ns n) how (source_of 0 a) up

@@ -27,8 +27,9 @@ use Rattle.tb_templates.specs.Labels.{label_of}
 use Rattle.tb_templates.specs.Layout.{LabelsAt}
 use Rattle.tb_templates.specs.Templates.{slot_at, var_at, on, template, jump, faulted, called, returned, find, note, jump_through, target_of, next_line, call, copied, constant}
 use Rattle.tb_templates.specs.Sources.{Source, FixedWord, AtPlace, source_of, tested_source, home_at, destination_at}
-use Rattle.tb_templates.specs.GroupTemplates.{low_of, high_of, brought, joined, handed, multiplied, divided, calculated, converted, searched, used, equal, unequal, ordered, tested, gone, may_fault, group_template, polled, lined, may_be_zero, may_have_none, is_zero, signed, weighed}
+use Rattle.tb_templates.specs.GroupTemplates.{low_of, high_of, brought, joined, handed, multiplied, divided, calculated, changed_or, converted, searched, used, equal, unequal, ordered, tested, gone, may_fault, group_template, polled, lined, may_be_zero, may_have_none, is_zero, signed, weighed}
 use Rattle.tb_templates.specs.Scaled.{scaling, times, shifts, shifted}
+use Rattle.tb_templates.specs.InPlace.{Change, Increment, Decrement, Raise, Lower, Halve, Double, change_of, changed}
 use Rattle.tb_templates.specs.Program.{rest_code, list_code, line_code, lines_code, past_code, find_code, rows_code, table_code, block_code, program_code}
 use Rattle.tb_settling.specs.Settled.{AllKnown}
 use Rattle.tb_templates.proofs.Listed.{by_poll}
@@ -205,6 +206,20 @@ module _ (labels : List (Name × ℕ)) (ns : List ℕ) (known : Known labels ns)
   calculated_known n Multiply a b to = multiplied_known (scaling a b) a b to
   calculated_known n Divide a b to = divided_known n (shifts b) a b to
 
+  -- the label of a change in place stands in its code
+  changed_known : (at : ℕ) (c : Change) (p : ℕ) (skip : Target) → LabelsAt labels at (changed c p skip) → AllKnown labels (changed c p skip)
+  changed_known at Increment p skip h = (refl ▹ to_label skip (ap is_some h.1.1.1.0) ▹ refl ▹ refl ▹ tt)
+  changed_known at Decrement p skip h = (refl ▹ to_label skip (ap is_some h.1.1.1.0) ▹ refl ▹ refl ▹ refl ▹ tt)
+  changed_known at (Raise c) p skip h = (refl ▹ refl ▹ refl ▹ refl ▹ to_label skip (ap is_some h.1.1.1.1.1.1.0) ▹ refl ▹ refl ▹ tt)
+  changed_known at (Lower c) p skip h = (refl ▹ refl ▹ refl ▹ refl ▹ to_label skip (ap is_some h.1.1.1.1.1.1.0) ▹ refl ▹ refl ▹ tt)
+  changed_known at Halve p skip h =
+      (refl ▹ refl ▹ to_label skip (ap is_some h.1.1.1.1.1.1.1.1.1.1.0) ▹ refl ▹ refl ▹ refl ▹ refl ▹ refl ▹ refl ▹ refl ▹ refl ▹ refl ▹ refl ▹ tt)
+  changed_known at Double p skip h = (refl ▹ refl ▹ tt)
+
+  computed_known : (n at : ℕ) (o : Option Change) (skip : Target) (op : Operator) (a b : Source) (to : ℕ) → LabelsAt labels at (changed_or o n skip op a b to) → AllKnown labels (changed_or o n skip op a b to)
+  computed_known n at (Some c) skip op a b to h = changed_known at c to skip h
+  computed_known n at None skip op a b to h = calculated_known n op a b to
+
   converted_known : (n seed : ℕ) (what : Conversion) (a : Source) (to : ℕ) → AllKnown labels (converted n seed what a to)
   converted_known n seed Negated a to = (refl ▹ joined_known Sbc (FixedWord 0) a to)
   converted_known n seed Drawn a to = lined_known (may_have_none a) n (handed RANDOM_AT RESULT a (FixedWord seed) to) (handed_known RANDOM_AT RESULT a (FixedWord seed) to)
@@ -266,7 +281,9 @@ module _ (labels : List (Name × ℕ)) (ns : List ℕ) (known : Known labels ns)
 
   -- ── groups ──
   group_known : (seed n i at : ℕ) (g : Group) → LabelsAt labels at (group_template ns seed n i g) → AllKnown labels (group_template ns seed n i g)
-  group_known seed n i at (Calculate op a b d) h = calculated_known n op (source_of (slot_of d) a) (source_of (slot_of d + 1) b) (destination_at d)
+  group_known seed n i at (Calculate op a b d) h =
+      let x = source_of (slot_of d) a in let y = source_of (slot_of d + 1) b in let to = destination_at d in
+      computed_known n at (change_of op x y to) (target.Inside inner.Skip n i) op x y to h
   group_known seed n i at (Convert what a d) h = converted_known n seed what (source_of (slot_of d) a) (destination_at d)
   group_known seed n i at (Move a home) h = brought_known (source_of 0 a) (home_at home)
   group_known seed n i at (Use how a) h = used_known n (next_line ns n) how (source_of 0 a) (next_known n)

@@ -2,9 +2,9 @@
 use Rattle.std.specs.Prelude.{◌≡◌, ℕ, true, List, [], ◌∷◌, ◌++◌, refl, false, Some, None}
 use Rattle.tb_opcodes.specs.declared.Mnemonic.{Mnemonic}
 use Rattle.tb_opcodes.specs.declared.Mode.TheVariants.{ZeroPage}
-use Rattle.tb_opcodes.specs.declared.Mnemonic.TheVariants.{Adc, Bmi, Bne, Bpl, Bvc, Clc, Cmp, Eor, Jmp, Lda, Ldx, Ldy, Rts, Sbc, Sec, Sta, And, Asl, Rol, Ror, Tax, Txa}
+use Rattle.tb_opcodes.specs.declared.Mnemonic.TheVariants.{Adc, Bcc, Bcs, Bmi, Bne, Bpl, Bvc, Clc, Cmp, Eor, Dec, Inc, Jmp, Lda, Ldx, Ldy, Rts, Sbc, Sec, Sta, And, Asl, Rol, Ror, Tax, Txa}
 use Rattle.tb_words.specs.declared.Rel.TheVariants.{Eq, Lt}
-use Rattle.tb_syntax.specs.declared.expressions.Operator.TheVariants.{Add, Divide, Multiply}
+use Rattle.tb_syntax.specs.declared.expressions.Operator.TheVariants.{Add, Subtract, Divide, Multiply}
 use Rattle.tb_syntax.specs.Source.{Number, Variable, Negate, Random, Value, Binary, Command, Let, Print, If, Goto, Gosub, End}
 use Rattle.tb_lower.specs.Lowered as lowered
 use Rattle.tb_asm.specs.declared.items.Operand.TheVariants.{Byte}
@@ -92,6 +92,43 @@ quarter : items 10 (Let 0 (Binary Divide (Variable 1) (Number 4)))
     ∷ at Lda 0xC003 ∷ const Cmp 128 ∷ const Lda 0 ∷ const Adc 255 ∷ const And 2 ∷ const Eor 2 ∷ at Adc 0xC002 ∷ at_zero Sta 0xFB ∷ at Lda 0xC003 ∷ const Adc 0
     ∷ const Cmp 128 ∷ on_a Ror ∷ at_zero Ror 0xFB ∷ const Cmp 128 ∷ on_a Ror ∷ at_zero Ror 0xFB ∷ at Sta 0xC001 ∷ at_zero Lda 0xFB ∷ at Sta 0xC000 ∷ []
 quarter = refl
+
+-- 10 LET A=A+1: one more where it stands
+increment : items 10 (Let 0 (Binary Add (Variable 0) (Number 1)))
+    ≡ here (Line 10) ∷ call 0xFFE4 ∷ const Cmp 3 ∷ branch Bne (Inside Skip 10 0) ∷ const Ldx 10 ∷ const Ldy 0 ∷ const Lda 0 ∷ at Jmp FAULT_LINE_AT ∷ here (Inside Skip 10 0)
+    ∷ at Inc 0xC000 ∷ branch Bne (Inside Skip 10 1) ∷ at Inc 0xC001 ∷ here (Inside Skip 10 1) ∷ []
+increment = refl
+
+-- 10 LET B=B-1: one less
+decrement : items 10 (Let 1 (Binary Subtract (Variable 1) (Number 1)))
+    ≡ here (Line 10) ∷ call 0xFFE4 ∷ const Cmp 3 ∷ branch Bne (Inside Skip 10 0) ∷ const Ldx 10 ∷ const Ldy 0 ∷ const Lda 0 ∷ at Jmp FAULT_LINE_AT ∷ here (Inside Skip 10 0)
+    ∷ at Lda 0xC002 ∷ branch Bne (Inside Skip 10 1) ∷ at Dec 0xC003 ∷ here (Inside Skip 10 1) ∷ at Dec 0xC002 ∷ []
+decrement = refl
+
+-- 10 LET A=7+A: the high byte changes with the carry alone
+raise : items 10 (Let 0 (Binary Add (Number 7) (Variable 0)))
+    ≡ here (Line 10) ∷ call 0xFFE4 ∷ const Cmp 3 ∷ branch Bne (Inside Skip 10 0) ∷ const Ldx 10 ∷ const Ldy 0 ∷ const Lda 0 ∷ at Jmp FAULT_LINE_AT ∷ here (Inside Skip 10 0)
+    ∷ alone Clc ∷ at Lda 0xC000 ∷ const Adc 7 ∷ at Sta 0xC000 ∷ branch Bcc (Inside Skip 10 1) ∷ at Inc 0xC001 ∷ here (Inside Skip 10 1) ∷ []
+raise = refl
+
+-- 10 LET A=A+65281: 255 less
+lower : items 10 (Let 0 (Binary Add (Variable 0) (Number 65281)))
+    ≡ here (Line 10) ∷ call 0xFFE4 ∷ const Cmp 3 ∷ branch Bne (Inside Skip 10 0) ∷ const Ldx 10 ∷ const Ldy 0 ∷ const Lda 0 ∷ at Jmp FAULT_LINE_AT ∷ here (Inside Skip 10 0)
+    ∷ alone Sec ∷ at Lda 0xC000 ∷ const Sbc 255 ∷ at Sta 0xC000 ∷ branch Bcs (Inside Skip 10 1) ∷ at Dec 0xC001 ∷ here (Inside Skip 10 1) ∷ []
+lower = refl
+
+-- 10 LET A=A/2: a negative word is one more first
+half_in_place : items 10 (Let 0 (Binary Divide (Variable 0) (Number 2)))
+    ≡ here (Line 10) ∷ call 0xFFE4 ∷ const Cmp 3 ∷ branch Bne (Inside Skip 10 0) ∷ const Ldx 10 ∷ const Ldy 0 ∷ const Lda 0 ∷ at Jmp FAULT_LINE_AT ∷ here (Inside Skip 10 0)
+    ∷ at Lda 0xC001 ∷ on_a Asl ∷ branch Bcc (Inside Skip 10 1) ∷ at Lda 0xC000 ∷ const Adc 0 ∷ at Sta 0xC000 ∷ at Lda 0xC001 ∷ const Adc 0 ∷ at Sta 0xC001 ∷ on_a Asl
+    ∷ here (Inside Skip 10 1) ∷ at Ror 0xC001 ∷ at Ror 0xC000 ∷ []
+half_in_place = refl
+
+-- 10 LET A=2*A
+double : items 10 (Let 0 (Binary Multiply (Number 2) (Variable 0)))
+    ≡ here (Line 10) ∷ call 0xFFE4 ∷ const Cmp 3 ∷ branch Bne (Inside Skip 10 0) ∷ const Ldx 10 ∷ const Ldy 0 ∷ const Lda 0 ∷ at Jmp FAULT_LINE_AT ∷ here (Inside Skip 10 0)
+    ∷ at Asl 0xC000 ∷ at Rol 0xC001 ∷ []
+double = refl
 
 -- 10 LET A=3*A: twice A and A, in place
 thrice : items 10 (Let 0 (Binary Multiply (Number 3) (Variable 0)))

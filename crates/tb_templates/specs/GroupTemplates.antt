@@ -18,6 +18,7 @@ use Rattle.tb_templates.specs.Templates.{at, on, const, alone, branch, here, cal
 use Rattle.tb_templates.specs.Sources.{Source, FixedWord, AtPlace, source_of, tested_source, home_at, destination_at}
 pub use Rattle.tb_templates.specs.Sources.{low_of, high_of}
 use Rattle.tb_templates.specs.Scaled.{scaling, times, shifts, shifted}
+use Rattle.tb_templates.specs.InPlace.{Change, change_of, changed}
 
 -- ── words ──
 -- a word to a place
@@ -70,6 +71,14 @@ calculated n Add a b to = summed a b to
 calculated n Subtract a b to = taken a b to
 calculated n Multiply a b to = multiplied (scaling a b) a b to
 calculated n Divide a b to = divided n (shifts b) a b to
+
+-- the same: where it changes a word in place, there
+abbrev pub changed_or : Option Change → ℕ → Target → Operator → Source → Source → ℕ → List Entry
+changed_or (Some change) n skip op a b to = changed change to skip
+changed_or None n skip op a b to = calculated n op a b to
+
+abbrev pub computed : ℕ → Target → Operator → Source → Source → ℕ → List Entry
+computed n skip op a b to = changed_or (change_of op a b to) n skip op a b to
 
 -- a word made of one in line n: 0 minus it, or a random number below it, where the first state is the seed
 abbrev pub converted : ℕ → ℕ → Conversion → Source → ℕ → List Entry
@@ -141,7 +150,7 @@ single numbers n i c = if may_fault c then constant n LINE ++ template numbers n
 
 -- the code of group i of line n, from 1 on, where the program has these numbers and the option's RND state is the seed
 abbrev pub group_template : List ℕ → ℕ → ℕ → ℕ → Group → List Entry
-group_template numbers seed n i (Calculate op a b d) = calculated n op (source_of (slot_of d) a) (source_of (slot_of d + 1) b) (destination_at d)
+group_template numbers seed n i (Calculate op a b d) = computed n (Inside Skip n i) op (source_of (slot_of d) a) (source_of (slot_of d + 1) b) (destination_at d)
 group_template numbers seed n i (Convert what a d) = converted n seed what (source_of (slot_of d) a) (destination_at d)
 group_template numbers seed n i (Move a home) = brought (source_of 0 a) (home_at home)
 group_template numbers seed n i (Use how a) = used n (next_line numbers n) how (source_of 0 a)

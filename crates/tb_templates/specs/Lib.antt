@@ -2,6 +2,7 @@ pub mod Labels
 pub mod Templates
 pub mod Sources
 pub mod Scaled
+pub mod InPlace
 pub mod GroupTemplates
 pub mod Program
 pub mod Sizes

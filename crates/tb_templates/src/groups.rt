@@ -17,6 +17,7 @@ ghost use Rattle.tb_templates.specs.GroupTemplates as groups;
 ghost use Rattle.tb_templates.specs.Scaled.{scaling, shifts};
 ghost use Rattle.tb_templates.specs.Program.{RisingFrom};
 
+use crate::in_place::{change_of, put_changed};
 use crate::labels::{Inner, Target};
 use crate::pieces::{
     put_alone, put_at, put_branch, put_call, put_const, put_constant, put_copied, put_faulted,
@@ -226,6 +227,24 @@ fn put_calculated(
         Operator::Subtract => put_taken(items, left, right, to),
         Operator::Multiply => put_multiplied(items, left, right, to),
         Operator::Divide => put_divided(items, line, left, right, to),
+    }
+}
+
+// The same; where it changes a word in place, there.
+fn put_computed(
+    items: &mut Vec<Item>,
+    spot: Spot,
+    operator: Operator,
+    left: Source,
+    right: Source,
+    to: u16,
+) -> Result<(), AllocError>
+    requires { IsWhole left × IsWhole right × (to < 65535) }
+    ensures { OnOk result (map entry_of items.new.items ≡ map entry_of items.old.items ++ groups.computed spot.line (Inside Skip spot.line spot.index) operator left right to) }
+{
+    match change_of(operator, left, right, to) {
+        Some(change) => put_changed(items, change, to, spot.skip()),
+        None => put_calculated(items, spot.line, operator, left, right, to),
     }
 }
 
@@ -536,9 +555,9 @@ pub fn put_group(
     match group {
         Group::Calculate(operator, left, right, destination) => {
             let slot = slot_of(destination);
-            put_calculated(
+            put_computed(
                 items,
-                spot.line,
+                spot,
                 operator,
                 source_of(slot, left),
                 source_of(slot + 1, right),

@@ -2,6 +2,7 @@
 #![tactic(auto)]
 
 mod groups;
+mod in_place;
 mod labels;
 mod pieces;
 mod program;

@@ -18,8 +18,8 @@ const MOST_FOR_BITS: u16 = 60;
 // A word's sign bit in its high byte.
 const SIGN: u8 = 128;
 
-// An instruction on A.
-fn put_on_a(items: &mut Vec<Item>, mnemonic: Mnemonic) -> Result<(), AllocError>
+/// An instruction on A.
+pub fn put_on_a(items: &mut Vec<Item>, mnemonic: Mnemonic) -> Result<(), AllocError>
     ensures { OnOk result (map entry_of items.new.items ≡ map entry_of items.old.items ++ scaled.on_a mnemonic ∷ []) }
 {
     put(

@@ -1,0 +1,218 @@
+//! Words that are changed where they stand: by a constant, to their half or to their double.
+ghost use Rattle.std.specs.Prelude.{◌≡◌, ◌<◌, OnOk, ◌++◌, map};
+ghost use Rattle.tb_asm.specs.Layout.{entry_of};
+ghost use Rattle.tb_templates.specs.InPlace as in_place;
+
+use crate::labels::Target;
+use crate::pieces::{put_alone, put_at, put_branch, put_const, put_here};
+use crate::scaled::put_on_a;
+use crate::sources::Source;
+use std::alloc::AllocError;
+use tb_asm::Item;
+use tb_opcodes::Mnemonic;
+use tb_syntax::Operator;
+
+/// What a calculation with a constant does to a word, where the result goes to the word's place.
+#[derive(Clone, Copy, Debug, Drop)]
+pub enum Change {
+    /// It is one more.
+    Increment,
+    /// It is one less.
+    Decrement,
+    /// It is so much more.
+    Raise(u8),
+    /// It is so much less.
+    Lower(u8),
+    /// It is half as much.
+    Halve,
+    /// It is twice as much.
+    Double,
+}
+
+// By a constant that is added.
+fn raising(constant: u16) -> Option<Change>
+    ensures { result ≡ in_place.raising constant }
+{
+    if constant == 1 {
+        Some(Change::Increment)
+    } else if constant == u16::MAX {
+        Some(Change::Decrement)
+    } else if constant < 256 {
+        Some(Change::Raise(constant as u8))
+    } else if constant > 65280 {
+        Some(Change::Lower((u16::MAX - constant + 1) as u8))
+    } else {
+        None
+    }
+}
+
+// By a constant that is subtracted.
+fn lowering(constant: u16) -> Option<Change>
+    ensures { result ≡ in_place.lowering constant }
+{
+    if constant == 1 {
+        Some(Change::Decrement)
+    } else if constant == u16::MAX {
+        Some(Change::Increment)
+    } else if constant < 256 {
+        Some(Change::Lower(constant as u8))
+    } else if constant > 65280 {
+        Some(Change::Raise((u16::MAX - constant + 1) as u8))
+    } else {
+        None
+    }
+}
+
+// Of a word with a constant behind it.
+fn with_right(operator: Operator, constant: u16) -> Option<Change>
+    ensures { result ≡ in_place.with_right operator constant }
+{
+    match operator {
+        Operator::Add => raising(constant),
+        Operator::Subtract => lowering(constant),
+        Operator::Multiply => (constant == 2).then_some(Change::Double),
+        Operator::Divide => (constant == 2).then_some(Change::Halve),
+    }
+}
+
+// Of a word with a constant before it.
+fn with_left(operator: Operator, constant: u16) -> Option<Change>
+    ensures { result ≡ in_place.with_left operator constant }
+{
+    match operator {
+        Operator::Add => raising(constant),
+        Operator::Multiply => (constant == 2).then_some(Change::Double),
+        Operator::Subtract | Operator::Divide => None,
+    }
+}
+
+/// The change that a calculation is of a word at a place with a constant, where the result goes to that place.
+pub fn change_of(operator: Operator, left: Source, right: Source, to: u16) -> Option<Change>
+    ensures { result ≡ in_place.change_of operator left right to }
+{
+    match (left, right) {
+        (Source::AtPlace(place), Source::FixedWord(constant)) if place == to => {
+            with_right(operator, constant)
+        }
+        (Source::FixedWord(constant), Source::AtPlace(place)) if place == to => {
+            with_left(operator, constant)
+        }
+        _ => None,
+    }
+}
+
+// The high byte of a word is counted up or down, but where the branch is taken.
+fn put_counted(
+    items: &mut Vec<Item>,
+    leaves: Mnemonic,
+    skip: Target,
+    counts: Mnemonic,
+    place: u16,
+) -> Result<(), AllocError>
+    requires { place < 65535 }
+    ensures { OnOk result (map entry_of items.new.items ≡ map entry_of items.old.items ++ in_place.counted leaves skip counts place) }
+{
+    put_branch(items, leaves, skip)?;
+    put_at(items, counts, place + 1)?;
+    put_here(items, skip)
+}
+
+// One more.
+fn put_incremented(items: &mut Vec<Item>, place: u16, skip: Target) -> Result<(), AllocError>
+    requires { place < 65535 }
+    ensures { OnOk result (map entry_of items.new.items ≡ map entry_of items.old.items ++ in_place.changed in_place.Increment place skip) }
+{
+    put_at(items, Mnemonic::Inc, place)?;
+    put_counted(items, Mnemonic::Bne, skip, Mnemonic::Inc, place)
+}
+
+// One less.
+fn put_decremented(items: &mut Vec<Item>, place: u16, skip: Target) -> Result<(), AllocError>
+    requires { place < 65535 }
+    ensures { OnOk result (map entry_of items.new.items ≡ map entry_of items.old.items ++ in_place.changed in_place.Decrement place skip) }
+{
+    put_at(items, Mnemonic::Lda, place)?;
+    put_counted(items, Mnemonic::Bne, skip, Mnemonic::Dec, place)?;
+    put_at(items, Mnemonic::Dec, place)
+}
+
+// So much more.
+fn put_raised_by(items: &mut Vec<Item>, by: u8, place: u16, skip: Target) -> Result<(), AllocError>
+    requires { place < 65535 }
+    ensures { OnOk result (map entry_of items.new.items ≡ map entry_of items.old.items ++ in_place.changed (in_place.Raise by) place skip) }
+{
+    put_alone(items, Mnemonic::Clc)?;
+    put_at(items, Mnemonic::Lda, place)?;
+    put_const(items, Mnemonic::Adc, by)?;
+    put_at(items, Mnemonic::Sta, place)?;
+    put_counted(items, Mnemonic::Bcc, skip, Mnemonic::Inc, place)
+}
+
+// So much less.
+fn put_lowered_by(items: &mut Vec<Item>, by: u8, place: u16, skip: Target) -> Result<(), AllocError>
+    requires { place < 65535 }
+    ensures { OnOk result (map entry_of items.new.items ≡ map entry_of items.old.items ++ in_place.changed (in_place.Lower by) place skip) }
+{
+    put_alone(items, Mnemonic::Sec)?;
+    put_at(items, Mnemonic::Lda, place)?;
+    put_const(items, Mnemonic::Sbc, by)?;
+    put_at(items, Mnemonic::Sta, place)?;
+    put_counted(items, Mnemonic::Bcs, skip, Mnemonic::Dec, place)
+}
+
+// One more, with C as it is.
+fn put_one_more(items: &mut Vec<Item>, place: u16) -> Result<(), AllocError>
+    requires { place < 65535 }
+    ensures { OnOk result (map entry_of items.new.items ≡ map entry_of items.old.items ++ in_place.one_more place) }
+{
+    put_at(items, Mnemonic::Lda, place)?;
+    put_const(items, Mnemonic::Adc, 0)?;
+    put_at(items, Mnemonic::Sta, place)?;
+    put_at(items, Mnemonic::Lda, place + 1)?;
+    put_const(items, Mnemonic::Adc, 0)?;
+    put_at(items, Mnemonic::Sta, place + 1)
+}
+
+// Half as much, rounded toward zero.
+fn put_half_in_place(items: &mut Vec<Item>, place: u16, skip: Target) -> Result<(), AllocError>
+    requires { place < 65535 }
+    ensures { OnOk result (map entry_of items.new.items ≡ map entry_of items.old.items ++ in_place.half_in_place place skip) }
+{
+    put_at(items, Mnemonic::Lda, place + 1)?;
+    put_on_a(items, Mnemonic::Asl)?;
+    put_branch(items, Mnemonic::Bcc, skip)?;
+    put_one_more(items, place)?;
+    put_on_a(items, Mnemonic::Asl)?;
+    put_here(items, skip)?;
+    put_at(items, Mnemonic::Ror, place + 1)?;
+    put_at(items, Mnemonic::Ror, place)
+}
+
+// Twice as much.
+fn put_doubled_in_place(items: &mut Vec<Item>, place: u16) -> Result<(), AllocError>
+    requires { place < 65535 }
+    ensures { OnOk result (map entry_of items.new.items ≡ map entry_of items.old.items ++ in_place.doubled_in_place place) }
+{
+    put_at(items, Mnemonic::Asl, place)?;
+    put_at(items, Mnemonic::Rol, place + 1)
+}
+
+/// The word at a place is changed; where a change has a branch, it skips to this label.
+pub fn put_changed(
+    items: &mut Vec<Item>,
+    change: Change,
+    place: u16,
+    skip: Target,
+) -> Result<(), AllocError>
+    requires { place < 65535 }
+    ensures { OnOk result (map entry_of items.new.items ≡ map entry_of items.old.items ++ in_place.changed change place skip) }
+{
+    match change {
+        Change::Increment => put_incremented(items, place, skip),
+        Change::Decrement => put_decremented(items, place, skip),
+        Change::Raise(by) => put_raised_by(items, by, place, skip),
+        Change::Lower(by) => put_lowered_by(items, by, place, skip),
+        Change::Halve => put_half_in_place(items, place, skip),
+        Change::Double => put_doubled_in_place(items, place),
+    }
+}
