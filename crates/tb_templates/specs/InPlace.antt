@@ -47,7 +47,7 @@ change_of op (AtPlace p) (AtPlace q) to = None
 abbrev pub counted : Mnemonic → Target → Mnemonic → ℕ → List Entry
 counted leaves skip counts p = branch leaves skip ∷ at counts (p + 1) ∷ here skip ∷ []
 
--- one more, with C as it is
+-- one more, where C is set
 abbrev pub one_more : ℕ → List Entry
 one_more p = at Lda p ∷ const Adc 0 ∷ at Sta p ∷ at Lda (p + 1) ∷ const Adc 0 ∷ at Sta (p + 1) ∷ []
 

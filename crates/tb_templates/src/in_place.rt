@@ -160,7 +160,7 @@ fn put_lowered_by(items: &mut Vec<Item>, by: u8, place: u16, skip: Target) -> Re
     put_counted(items, Mnemonic::Bcs, skip, Mnemonic::Dec, place)
 }
 
-// One more, with C as it is.
+// One more, where C is set.
 fn put_one_more(items: &mut Vec<Item>, place: u16) -> Result<(), AllocError>
     requires { place < 65535 }
     ensures { OnOk result (map entry_of items.new.items ≡ map entry_of items.old.items ++ in_place.one_more place) }

@@ -49,13 +49,13 @@ pub const PROGRAMS: [Program; 8] = [
         limit: 100_000,
         status: 0,
         table: b" line      times instructions        cycles   share  statement
-start          1          192           634   32.7%
+start          1          192           634   33.8%
    10          1            8            29    1.5%  LET I=1
-   20          5          270           885   45.6%  PRINT I
-   30          5           55           195   10.1%  LET I=I+1
-   40          5           50           174    9.0%  IF I<6 GOTO 20
+   20          5          270           885   47.2%  PRINT I
+   30          5           30           130    6.9%  LET I=I+1
+   40          5           50           174    9.3%  IF I<6 GOTO 20
    50          1            5            23    1.2%  END
-  sum         17          580          1940  100.0%
+  sum         17          555          1875  100.0%
 ",
     },
     Program {
@@ -138,10 +138,10 @@ start          1          192           634   69.4%
         limit: 5_000,
         status: 5,
         table: b" line      times instructions        cycles   share  statement
-start          1          192           634    3.5%
-   10        301         3308         11729   63.9%  LET A=A+1
-   20        300         1500          6000   32.7%  GOTO 10
-  sum        601         5000         18363  100.0%
+start          1          192           634    3.1%
+   10        437         2623         11367   54.8%  LET A=A+1
+   20        437         2185          8740   42.1%  GOTO 10
+  sum        874         5000         20741  100.0%
 ",
     },
     Program {
