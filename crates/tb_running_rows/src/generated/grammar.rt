@@ -1,5 +1,40 @@
-//! The grammar of what is generated. A letter in lower case stands for one of the sixteen texts of its rule, and every
-//! other byte for itself. A text that is to come up more often stands there more than once.
+//! The grammar of what is generated. A letter in lower case stands for one of the sixteen texts of its rule, `AGAIN`
+//! for the divisor chosen last, and every other byte for itself. A text that is to come up more often stands there
+//! more than once.
+
+/// What stands for the divisor that was chosen last.
+pub const AGAIN: u8 = b'@';
+
+/// The letter of the divisors that code is written for.
+pub const DIVISOR: u8 = b'c';
+
+/// What a case is made of.
+pub struct Kind {
+    /// The symbols of its source.
+    pub source: &'static [u8],
+    /// The symbols of what its polls answer.
+    pub answers: &'static [u8],
+}
+
+/// A program of all sorts.
+pub const ANY: Kind = Kind {
+    source: b"p",
+    answers: b"w",
+};
+
+/// A program of what has short code: whether a quotient leaves nothing, remainders, steps, halves and doubles in
+/// place, products with constants, comparisons with them. What may be a fault, the division by any word, comes last.
+pub const SHORT: Kind = Kind {
+    source: b"10 A=b\n20 B=b\n30 C=b\n40 D=b\n\
+        50 IF A/c*@=A GOTO 70\n60 x\n70 IF B/c*@<>B h\n80 IF C=C/c*@ THEN PRINT A;q\n90 IF z GOSUB 300\n\
+        100 A=A+g\n110 B=B-g\n120 C=g+C\n130 D=D/2\n140 PRINT q,A-A/c*@,v*n,n*v,v/u,v/c\n\
+        150 IF v r n GOTO 170\n160 x\n170 IF v r n THEN h\n180 B=2*B\n190 IF A r n GOTO 210\n200 C=q\n\
+        210 GOSUB 300\n220 PRINT A,B,C,D\n230 Z=Z+1\n240 IF Z<3 GOTO 50\n\
+        250 IF A/D*D r A GOTO 270\n260 PRINT A-A/D*D\n270 IF B=B/C*C PRINT C\n280 B=B-B/C*C\n290 PRINT B\n295 END\n\
+        300 x\n310 IF z GOTO 330\n320 GOSUB 350\n330 GOSUB 350\n340 RETURN\n\
+        350 h\n360 IF v r n RETURN\n370 PRINT v*u,u*v-v/u\n380 RETURN\n",
+    answers: b"",
+};
 
 /// Nine lines in order.
 const STRAIGHT: &[u8] = b"10 s\n20 s\n30 s\n40 s\n50 s\n60 s\n70 s\n80 s\n90 s\n";
@@ -192,6 +227,92 @@ const ANSWER: [&[u8]; 16] = [
     b"A", b"\x0d", b"\x03",
 ];
 
+/// A word that is on the edge of something, or any.
+const WORD: [&[u8]; 16] = [
+    b"0",
+    b"1",
+    b"-1",
+    b"2",
+    b"-2",
+    b"127",
+    b"128",
+    b"255",
+    b"256",
+    b"32767",
+    b"32768",
+    b"n",
+    b"-n",
+    b"RND(32767)",
+    b"-RND(32767)",
+    b"n*RND(m)",
+];
+
+const CONSTANT_DIVISOR: [&[u8]; 16] = [
+    b"1", b"2", b"3", b"4", b"7", b"10", b"64", b"100", b"128", b"256", b"300", b"32767", b"32768",
+    b"65535", b"(-1)", b"(-2)",
+];
+
+/// Whether a quotient leaves nothing, and what looks like that.
+const EXACT: [&[u8]; 16] = [
+    b"A/c*@=A",
+    b"A/c*@=A",
+    b"A/c*@<>A",
+    b"A/c*@<>A",
+    b"B=B/c*@",
+    b"B<>B/c*@",
+    b"B/c*@><B",
+    b"C/c*@rC",
+    b"CrC/c*@",
+    b"D/c*@rD",
+    b"A-A/c*@=0",
+    b"B-B/c*@rn",
+    b"A+B=(A+B)/c*@",
+    b"c*(A/@)=A",
+    b"A/c*c=A",
+    b"A/c*@=B",
+];
+
+/// A remainder, and what looks like one.
+const REMAINDER: [&[u8]; 16] = [
+    b"A-A/c*@",
+    b"A-A/c*@",
+    b"B-B/c*@",
+    b"B-B/c*@",
+    b"C-C/c*@",
+    b"D-D/c*@",
+    b"B-B/c*@+A",
+    b"A+B-B/c*@",
+    b"A+B-(A+B)/c*@",
+    b"C*(A-A/c*@)",
+    b"A-A/c*@-(B-B/@*@)",
+    b"A-c*(A/@)",
+    b"A-(A/c*@)",
+    b"A/c*@-A",
+    b"A-A/c*c",
+    b"A-B/c*@",
+];
+
+const STEP: [&[u8]; 16] = [
+    b"A=A+g", b"A=A+g", b"A=A-g", b"A=A-g", b"A=g+A", b"A=g-A", b"B=B+g", b"B=B-g", b"B=g+B",
+    b"B=A+g", b"C=C+1", b"C=C-1", b"D=D+g", b"D=D-g", b"D=g+D", b"D=B-g",
+];
+
+const STEP_CONSTANT: [&[u8]; 16] = [
+    b"1", b"1", b"1", b"2", b"10", b"127", b"128", b"255", b"256", b"257", b"512", b"32767",
+    b"32768", b"65280", b"65534", b"65535",
+];
+
+/// A half or a double, in place or not.
+const HALF: [&[u8]; 16] = [
+    b"A=A/2", b"A=A/2", b"A=A*2", b"A=2*A", b"A=A+A", b"B=B/2", b"B=B*2", b"B=2*B", b"B=A/2",
+    b"B=A*2", b"C=C/2", b"C=C*2", b"D=D/2", b"D=2*D", b"A=A/u", b"A=A*u",
+];
+
+const POWER: [&[u8]; 16] = [
+    b"2", b"2", b"4", b"4", b"8", b"8", b"16", b"16", b"32", b"32", b"64", b"64", b"128", b"256",
+    b"512", b"16384",
+];
+
 /// What a letter stands for, if it has a rule.
 pub fn rule(letter: u8) -> Option<&'static [&'static [u8]; 16]> {
     match letter {
@@ -213,6 +334,14 @@ pub fn rule(letter: u8) -> Option<&'static [&'static [u8]; 16]> {
         b'k' => Some(&KEYS),
         b'w' => Some(&POLLED),
         b'a' => Some(&ANSWER),
+        b'b' => Some(&WORD),
+        DIVISOR => Some(&CONSTANT_DIVISOR),
+        b'z' => Some(&EXACT),
+        b'q' => Some(&REMAINDER),
+        b'x' => Some(&STEP),
+        b'g' => Some(&STEP_CONSTANT),
+        b'h' => Some(&HALF),
+        b'u' => Some(&POWER),
         _ => None,
     }
 }

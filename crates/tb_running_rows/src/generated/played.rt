@@ -1,4 +1,5 @@
 //! Generated programs that ask are played: each sends what its source sends on all that is typed.
+use crate::generated::grammar::ANY;
 use crate::generated::programs::{Case, Choices};
 use crate::generated::trials::{AMPLE, Ran, SCANT, agrees, run_of};
 use std::alloc::{AllocError, Global};
@@ -97,7 +98,7 @@ fn plays_as_its_source(alloc: Global, case: &Case) -> Result<bool, Fail> {
 fn first_strayed(alloc: Global, played: &mut usize) -> Result<Option<Case>, Fail> {
     let mut choices = Choices::new(2);
     for seed in 0..MOST_CASES {
-        let case = choices.case(alloc, seed)?;
+        let case = choices.case(alloc, &ANY, seed)?;
         if *played == PROGRAMS {
             break;
         }

@@ -1,5 +1,5 @@
 //! Texts of the grammar, by choices that a seed determines.
-use crate::generated::grammar::rule;
+use crate::generated::grammar::{AGAIN, DIVISOR, Kind, rule};
 use std::alloc::{AllocError, Global};
 use tb_words::next_seed;
 
@@ -10,11 +10,24 @@ const MOST_SYMBOLS: u16 = 2000;
 #[derive(Clone, Copy, Drop)]
 pub struct Choices {
     seed: u16,
+    // The divisor that was chosen last.
+    divisor: &'static [u8],
+}
+
+// Appends symbols so that the first of them is the last.
+fn push_reversed(symbols: &mut Vec<u8>, of: &[u8]) -> Result<(), AllocError> {
+    for symbol in of.iter().rev() {
+        symbols.push(*symbol)?;
+    }
+    Ok(())
 }
 
 impl Choices {
     pub fn new(seed: u16) -> Choices {
-        Choices { seed }
+        Choices {
+            seed,
+            divisor: b"1",
+        }
     }
 
     fn one_of(&mut self, texts: &[&'static [u8]; 16]) -> &'static [u8] {
@@ -22,37 +35,46 @@ impl Choices {
         texts[usize::from(self.seed / 4096)]
     }
 
+    // What a symbol stands for, if not for itself.
+    fn replaced(&mut self, symbol: u8) -> Option<&'static [u8]> {
+        if symbol == AGAIN {
+            return Some(self.divisor);
+        }
+        let text = self.one_of(rule(symbol)?);
+        if symbol == DIVISOR {
+            self.divisor = text;
+        }
+        Some(text)
+    }
+
     // Appends what the symbols stand for that are still to be replaced, the next one last.
     fn append(&mut self, symbols: &mut Vec<u8>, text: &mut Vec<u8>) -> Result<(), AllocError> {
         for _ in 0..MOST_SYMBOLS {
             let Some(symbol) = symbols.pop() else { break };
-            match rule(symbol) {
-                Some(texts) => {
-                    for symbol in self.one_of(texts).iter().rev() {
-                        symbols.push(*symbol)?;
-                    }
-                }
+            match self.replaced(symbol) {
+                Some(replacing) => push_reversed(symbols, replacing)?,
                 None => text.push(symbol)?,
             }
         }
         Ok(())
     }
 
-    // A text that a letter of the grammar stands for.
-    fn text(&mut self, alloc: Global, letter: u8) -> Result<Vec<u8>, AllocError> {
-        let mut symbols = vec![in alloc; letter]?;
+    // A text that these symbols stand for.
+    fn text(&mut self, alloc: Global, of: &[u8]) -> Result<Vec<u8>, AllocError> {
+        let mut symbols = Vec::new(alloc);
+        push_reversed(&mut symbols, of)?;
         let mut text = Vec::new(alloc);
         self.append(&mut symbols, &mut text)?;
         Ok(text)
     }
 
     /// A program, and what it is run on.
-    pub fn case(&mut self, alloc: Global, seed: u16) -> Result<Case, AllocError> {
+    pub fn case(&mut self, alloc: Global, kind: &Kind, seed: u16) -> Result<Case, AllocError> {
         Ok(Case {
-            source: self.text(alloc, b'p')?,
+            source: self.text(alloc, kind.source)?,
             seed,
-            keys: self.text(alloc, b'y')?,
-            answers: self.text(alloc, b'w')?,
+            keys: self.text(alloc, b"y")?,
+            answers: self.text(alloc, kind.answers)?,
         })
     }
 }

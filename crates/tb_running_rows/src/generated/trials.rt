@@ -1,4 +1,5 @@
 //! What a compiled program sends is what its source's run sends, and it ends as that does.
+use crate::generated::grammar::{ANY, Kind, SHORT};
 use crate::generated::programs::{Case, Choices};
 use std::alloc::{AllocError, Global};
 use std::test::Fail;
@@ -7,7 +8,7 @@ use tb_kernal::{Keyboard, Quiet, Rude};
 use tb_lower::{RunEnd, SourceRun, run_source};
 use tb_parser::parse;
 
-/// How many programs are tried.
+/// How many programs of a kind are tried.
 const PROGRAMS: u16 = 500;
 
 /// How many lines of a source are run.
@@ -176,11 +177,15 @@ fn is_the_sources(alloc: Global, case: &Case, endings: &mut Vec<Ending>) -> Resu
     Ok(both_agree(alloc, case, &run)?)
 }
 
-// The first program that sends something else. Notes how each ends.
-fn first_strayed(alloc: Global, endings: &mut Vec<Ending>) -> Result<Option<Case>, Fail> {
+// The first program of a kind that sends something else. Notes how each ends.
+fn first_strayed(
+    alloc: Global,
+    kind: &Kind,
+    endings: &mut Vec<Ending>,
+) -> Result<Option<Case>, Fail> {
     let mut choices = Choices::new(1);
     for seed in 0..PROGRAMS {
-        let case = choices.case(alloc, seed)?;
+        let case = choices.case(alloc, kind, seed)?;
         if !is_the_sources(alloc, &case, endings)? {
             return Ok(Some(case));
         }
@@ -201,8 +206,16 @@ fn first_rare(endings: &[Ending]) -> Option<Ending> {
 #[test]
 fn compiled_programs_send_what_their_sources_send(rt: HostRuntime) -> Result<(), Fail> {
     let mut endings = Vec::new(rt.alloc());
-    let strayed = first_strayed(rt.alloc(), &mut endings)?;
+    let strayed = first_strayed(rt.alloc(), &ANY, &mut endings)?;
     assert!(rt; strayed.is_none(), "{strayed:?}");
     assert_eq!(rt; first_rare(&endings), None);
+    Ok(())
+}
+
+#[test]
+fn short_code_sends_what_its_source_sends(rt: HostRuntime) -> Result<(), Fail> {
+    let mut endings = Vec::new(rt.alloc());
+    let strayed = first_strayed(rt.alloc(), &SHORT, &mut endings)?;
+    assert!(rt; strayed.is_none(), "{strayed:?}");
     Ok(())
 }
