@@ -2,6 +2,7 @@ pub mod Labels
 pub mod Templates
 pub mod Sources
 pub mod Scaled
+pub mod Masks
 pub mod GroupTemplates
 pub mod Program
 pub mod Sizes
