@@ -33,7 +33,7 @@ use Rattle.tb_grouping.proofs.SlotSide.{fetched, left_asked, right_asked, spread
 use Rattle.tb_grouping.proofs.Sums.{Grounded}
 
 -- a constant is the word that it holds
-constant_is : (m : ℕ → ℕ) (v y : ℕ) (a : Source) → a ≡ FixedWord v → SourceHolds m a y → (v ≡ y) × (y < 65536)
+pub constant_is : (m : ℕ → ℕ) (v y : ℕ) (a : Source) → a ≡ FixedWord v → SourceHolds m a y → (v ≡ y) × (y < 65536)
 constant_is m v y a e h = (let k = subst (λ a. SourceHolds m a y) e h in let l = k.low_byte in let g = k.high_byte in omega (arith, l, g), h.small)
 
 module _ (ly : Layout) (f : Setup) (lo hi keys : ℕ) (fits : Fits f 16) (limit : ℕ) (rs : Routines ly.table ly.seed ly.numbers ly.start f lo hi keys limit) (wide : 200 ≤ limit) (code : SlotCode) (n : ℕ) (a b : Operand) (d : Destination) (is : List Instr) (s : State) (r : Slots) (w : View) where

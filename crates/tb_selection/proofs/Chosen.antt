@@ -72,7 +72,7 @@ fused_chosen a (b ∷ c ∷ gs) h = shortened_chosen a b c (division a b c) gs (
 no_other : {A : Type 0} (x : A) → ◌≡◌ {A = Option A} None (Some x) → ⊥
 no_other x e = cc
 
-nothing_read : (r : Live) → (nat_le r.slots 0 && not r.held) ≡ true → nothing_live ≡ r
+pub nothing_read : (r : Live) → (nat_le r.slots 0 && not r.held) ≡ true → nothing_live ≡ r
 nothing_read r h =
     let p = and_parts (nat_le r.slots 0) (not r.held) h in
     let none : 0 ≡ r.slots = omega (arith, leb-true r.slots 0 p.0) in
