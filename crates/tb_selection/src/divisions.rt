@@ -77,16 +77,13 @@ fn same_operand(left: Operand, right: Operand) -> bool
 
 /// Three groups as one that asks whether a word divides a variable: its quotient, that times the divisor, and a test
 /// whether this is the variable again.
-pub fn division<'a>(
-    quotient: Group<'a>,
-    product: Group<'a>,
-    test: Group<'a>,
-) -> Option<Group<'a>>
+pub fn division<'a>(quotient: Group<'a>, product: Group<'a>, test: Group<'a>) -> Option<Group<'a>>
     ensures { option_map group_of result ≡ select.division (group_of quotient.entry) (group_of product.entry) (group_of test.entry) }
 {
     let (x, divisor) = quotient_in(quotient)?;
     let factor = factor_in(product)?;
     let (how, y, to) = equality_in(test)?;
-    (x.index() == y.index() && same_operand(divisor, factor))
-        .then_some(Group::Divides(how, x, divisor, to))
+    (x.index() == y.index() && same_operand(divisor, factor)).then_some(Group::Divides(
+        how, x, divisor, to,
+    ))
 }
