@@ -1,5 +1,5 @@
 -- The texts of a line stand in its settled code.
-use Rattle.std.proofs.Common.{◌≡◌, ℕ, ◌+◌, ◌≤◌, List, [], ◌∷◌, ◌++◌, length, take, drop, map, true, refl, sym, ap, subst, ◌∙◌, arith, append_assoc, length-append}
+use Rattle.std.proofs.Common.{◌≡◌, ℕ, ◌+◌, ◌≤◌, List, [], ◌∷◌, ◌++◌, length, take, drop, map, true, refl, sym, ap, subst, ◌∙◌, arith, append_assoc, length-append, Option, Some, None}
 use Rattle.std.specs.Prelude.{unwrap_or}
 use Rattle.std.specs.List.{list_all}
 use Rattle.tb_words.specs.declared.Rel.{Rel}
@@ -27,7 +27,7 @@ use Rattle.tb_templates.specs.Layout.{LabelsAt}
 use Rattle.tb_templates.specs.Program.{rest_code, line_code, lines_code}
 use Rattle.tb_settling.specs.Settled.{AreFormsOf}
 use Rattle.tb_settling.proofs.Forms.{forms_size, items_append, items_size, size_append, split, is_straight, straight_forms}
-use Rattle.tb_selection.specs.Groups.{Operand, Constant, Variable, InSlot, Home, IntoVariable, IntoHeld, Destination, IntoSlot, IntoHome, Tested, HeldBefore, HeldNow, Conversion, Negated, Drawn, Usage, AsNumber, AsLine, AsSubroutine, Group, Calculate, Convert, Move, Use, Test, TestGo, Single, fetch, keep, kept, held, convert, use_of, slot_of, expand, expand_all}
+use Rattle.tb_selection.specs.Groups.{Operand, Constant, Variable, InSlot, Home, IntoVariable, IntoHeld, Destination, IntoSlot, IntoHome, Tested, HeldBefore, HeldNow, Conversion, Negated, Drawn, Usage, AsNumber, AsLine, AsSubroutine, Divisibility, Group, Calculate, Convert, Move, Use, Test, TestGo, Divides, Single, fetch, keep, kept, held, convert, use_of, slot_of, expand, expand_all}
 use Rattle.tb_selection.specs.Select.{select}
 use Rattle.tb_selection.proofs.Bracketed.{brackets}
 use Rattle.tb_codegen.specs.Compiled.{stands_at, starts_in}
@@ -163,6 +163,14 @@ use_texts how a is = ap instr_texts (append_assoc (fetch 0 a) (use_of how ∷ []
 move_texts : (a : Operand) (home : Home) (is : List Instr) → instr_texts (expand (Move a home) ++ is) ≡ instr_texts is
 move_texts a home is = ap instr_texts (append_assoc (fetch 0 a) (keep home ∷ []) is) ∙ fetch_texts 0 a (keep home ∷ is) ∙ home_texts home is
 
+divides_texts : (how : Divisibility) (x : ℕ) (d : Operand) (to : Option ℕ) (is : List Instr) → instr_texts (expand (Divides how x d to) ++ is) ≡ instr_texts is
+divides_texts how x (Constant w) None is = refl
+divides_texts how x (Constant w) (Some to) is = refl
+divides_texts how x (Variable y) None is = refl
+divides_texts how x (Variable y) (Some to) is = refl
+divides_texts how x InSlot None is = refl
+divides_texts how x InSlot (Some to) is = refl
+
 test_texts : (rel : Rel) (a : Tested) (b : Operand) (js is : List Instr) → instr_texts (js ++ is) ≡ instr_texts is → instr_texts ((held a ++ (fetch 0 b ++ LeaveUnless rel ∷ js)) ++ is) ≡ instr_texts is
 test_texts rel a b js is e =
     ap instr_texts (append_assoc (held a) (fetch 0 b ++ LeaveUnless rel ∷ js) is) ∙ held_texts a ((fetch 0 b ++ LeaveUnless rel ∷ js) ++ is)
@@ -194,6 +202,7 @@ module _ (labels : List (Name × ℕ)) (ns : List ℕ) (seed n : ℕ) where
   rest_texts i (Move x home ∷ gs) = silent i (Move x home) gs _ (move_texts x home (expand_all gs)) (rest_texts (i + 1) gs)
   rest_texts i (Test rel x y ∷ gs) = silent i (Test rel x y) gs _ (test_texts rel x y [] (expand_all gs) refl) (rest_texts (i + 1) gs)
   rest_texts i (TestGo rel x y to ∷ gs) = silent i (TestGo rel x y to) gs _ (test_texts rel x y (JumpTo to ∷ []) (expand_all gs) refl) (rest_texts (i + 1) gs)
+  rest_texts i (Divides how x d to ∷ gs) = silent i (Divides how x d to) gs _ (divides_texts how x d to (expand_all gs)) (rest_texts (i + 1) gs)
   rest_texts i (Single (SendText t) ∷ gs) = λ a fs h.
       loud_forms labels a (before_text i t) t (here (target.Inside inner.Behind n i)) (rest_code ns seed n (i + 1) gs) fs (instr_texts (expand_all gs)) refl h (rest_texts (i + 1) gs)
   rest_texts i (Single (Put k w) ∷ gs) = silent i (Single (Put k w)) gs _ refl (rest_texts (i + 1) gs)

@@ -14,7 +14,7 @@ use Rattle.tb_lower.specs.Control.{has_line}
 use Rattle.tb_lower.specs.Ranges.{AreInRange}
 use Rattle.tb_lower.specs.Slots as slots
 use Rattle.tb_runtime16.specs.Places.{LEFT, LINE, NOTES, NOTE_HIGH, NOTE_LOW, POP_AT, PUSH_AT, RESULT}
-use Rattle.tb_selection.specs.Groups.{Group, Calculate, Convert, Move, Use, Test, TestGo, Single, slot_of, expand}
+use Rattle.tb_selection.specs.Groups.{Group, Calculate, Convert, Move, Use, Test, TestGo, Single, slot_of, expand, Divides}
 use Rattle.tb_templates.specs.declared.labels.Inner.TheVariants as inside
 use Rattle.tb_templates.specs.declared.labels.Target.TheVariants as target
 use Rattle.tb_templates.specs.Labels.{label_of}
@@ -261,6 +261,7 @@ module _ (labels : List (Name × ℕ)) (ns : List ℕ) (seed n : ℕ) (seed_smal
     each_emitted i at (Use how a) fs q range h r = without_branches i at (Use how a) fs refl q range h r
     each_emitted i at (Test rel a b) fs q range h r = without_branches i at (Test rel a b) fs refl q range h r
     each_emitted i at (TestGo rel a b to) fs q range h r = without_branches i at (TestGo rel a b to) fs refl q range h r
+    each_emitted i at (Divides how x d to) fs q range h r = without_branches i at (Divides how x d to) fs refl q range h r
     each_emitted i at (Single (slots.Put k w)) fs q range h r = without_branches i at (Single (slots.Put k w)) fs refl q range h r
     each_emitted i at (Single (slots.Load k x)) fs q range h r = without_branches i at (Single (slots.Load k x)) fs refl q range h r
     each_emitted i at (Single (slots.Store x)) fs q range h r = without_branches i at (Single (slots.Store x)) fs refl q range h r

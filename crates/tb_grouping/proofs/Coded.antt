@@ -19,10 +19,11 @@ use Rattle.tb_templates.specs.Scaled.{all_but_lowest, scaling, shifts}
 use Rattle.tb_templates.specs.declared.in_place.Change.{Change}
 use Rattle.tb_templates.specs.declared.in_place.Change.TheVariants.{Increment, Decrement, Raise, Lower, Halve, Double}
 use Rattle.tb_templates.specs.InPlace.{change_of}
+use Rattle.tb_templates.specs.Masks.{mask}
 use Rattle.tb_templates.specs.Sources.{source_of, tested_source, home_at, destination_at}
 use Rattle.tb_keeping.specs.Layout.{Layout, next_at, place_at}
 use Rattle.tb_keeping.proofs.Resolved.{Piece, Code, Lies, pieces_size, size, sta_at, copied, constant, pointed, call, faulting, jump, jump_through, template, highest_code, locate_code, past_code}
-use Rattle.tb_selection.specs.Groups.{Conversion, Negated, Drawn, Usage, AsNumber, AsLine, AsSubroutine, Group, Calculate, Convert, Move, Use, Test, TestGo, Single, denied, slot_of, expand}
+use Rattle.tb_selection.specs.Groups.{Conversion, Negated, Drawn, Usage, AsNumber, AsLine, AsSubroutine, Variable, Divisibility, Divisible, Indivisible, Group, Calculate, Convert, Move, Use, Test, TestGo, Divides, Single, contrary, denied, slot_of, expand}
 use Rattle.tb_selection.specs.Select.{select}
 use Rattle.tb_grouping.proofs.Sources.{Byte, Fixed, At, lda, adc, sbc, cmp}
 
@@ -330,6 +331,55 @@ abbrev pub GoReaches : Layout → (n at : ℕ) (first second : Way) → Rel → 
 GoReaches ly n at first second rel a b true to = TestReaches (denied rel) first second at a b (ly.start to)
 GoReaches ly n at first second rel a b false to = TestReaches rel first second at a b (next_at ly n)
 
+-- ---- divisibility
+-- the lowest bits of a word, and the size of a remainder
+abbrev pub lowest_bits : ℕ → Source → List Instr
+lowest_bits bits a = lda (low a) ∷ ins 0x29 bits ∷ []
+
+abbrev pub told : List Instr
+told = ins 0xAD RESULT ∷ ins 0x0D (RESULT + 1) ∷ []
+
+abbrev pub remainder : Source → Source → List Piece
+remainder a b = Code (brought a LEFT) ∷ Code (brought b RIGHT) ∷ Code (call DIVIDE_AT) ∷ Code told ∷ []
+
+-- in Z whether a divisor divides a word
+abbrev pub left_over : ℕ → Option ℕ → Source → Source → List Piece
+left_over n (Some bits) a b = Code (lowest_bits bits a) ∷ []
+left_over n None a b = lined_code (may_be_zero b) n (remainder a b)
+
+-- the value of Z that leaves
+abbrev pub leaves_on : Divisibility → Bool
+leaves_on Divisible = false
+leaves_on Indivisible = true
+
+-- where the branch of such a test is
+abbrev pub divided_at : (n at : ℕ) → Source → Source → ℕ
+divided_at n at a b = at + pieces_size (left_over n (mask b) a b)
+
+abbrev pub divided_code : (n at : ℕ) → Way → Divisibility → Source → Source → ℕ → List Piece
+divided_code n at first how a b next = left_over n (mask b) a b ++ (Code (branch_code first (branch_on Zero (leaves_on how)) (divided_at n at a b) next) ∷ [])
+
+abbrev pub DividedReaches : (n at : ℕ) → Way → Source → Source → ℕ → Type 0
+DividedReaches n at first a b next = BranchReaches first (divided_at n at a b) next
+
+-- straight to a line, or, where there is no such line, to fault 1
+abbrev pub divided_go : Layout → (n at : ℕ) → Way → Divisibility → Source → Source → Bool → ℕ → List Piece
+divided_go ly n at first how a b true to = divided_code n at first (contrary how) a b (ly.start to)
+divided_go ly n at first how a b false to = divided_code n at first how a b (next_at ly n) ++ (Code (faulting n 1) ∷ [])
+
+abbrev pub DividedGoes : Layout → (n at : ℕ) → Way → Source → Source → Bool → ℕ → Type 0
+DividedGoes ly n at first a b true to = DividedReaches n at first a b (ly.start to)
+DividedGoes ly n at first a b false to = DividedReaches n at first a b (next_at ly n)
+
+-- to a line, if to one
+abbrev pub divides_code : Layout → (n at : ℕ) → Way → Divisibility → Source → Source → Option ℕ → List Piece
+divides_code ly n at first how a b None = divided_code n at first how a b (next_at ly n)
+divides_code ly n at first how a b (Some to) = divided_go ly n at first how a b (has_line ly.numbers to) to
+
+abbrev pub DividesReach : Layout → (n at : ℕ) → Way → Source → Source → Option ℕ → Type 0
+DividesReach ly n at first a b None = DividedReaches n at first a b (next_at ly n)
+DividesReach ly n at first a b (Some to) = DividedGoes ly n at first a b (has_line ly.numbers to) to
+
 -- ---- GOSUB and RETURN in line
 -- a byte goes to X, and to a flag whether it is 0
 abbrev pub asked : ℕ → List Instr
@@ -455,6 +505,7 @@ group_code ly n at first second (Move a home) = Code (brought (source_of 0 a) (h
 group_code ly n at first second (Use how a) = use_code ly n how (source_of 0 a)
 group_code ly n at first second (Test rel a b) = test_code rel first second at (tested_source a) (source_of 0 b) (next_at ly n)
 group_code ly n at first second (TestGo rel a b to) = go_code ly n at first second rel (tested_source a) (source_of 0 b) (has_line ly.numbers to) to
+group_code ly n at first second (Divides how x d to) = divides_code ly n at first how (source_of 0 (Variable x)) (source_of 1 d) to
 group_code ly n at first second (Single i) = alone_code ly n at first second i
 
 -- the branches of a group reach
@@ -462,6 +513,7 @@ abbrev pub BranchesReach : Layout → (n at : ℕ) (first second : Way) → Grou
 BranchesReach ly n at first second (Calculate op a b d) = ChangedReaches (change_of op (source_of (slot_of d) a) (source_of (slot_of d + 1) b) (destination_at d)) first at (destination_at d)
 BranchesReach ly n at first second (Test rel a b) = TestReaches rel first second at (tested_source a) (source_of 0 b) (next_at ly n)
 BranchesReach ly n at first second (TestGo rel a b to) = GoReaches ly n at first second rel (tested_source a) (source_of 0 b) (has_line ly.numbers to) to
+BranchesReach ly n at first second (Divides how x d to) = DividesReach ly n at first (source_of 0 (Variable x)) (source_of 1 d) to
 BranchesReach ly n at first second (Single i) = OnlyIf (has_branches i) (BranchingReaches ly first second at i)
 BranchesReach ly n at first second _ = Unit {0}
 

@@ -1,11 +1,11 @@
 -- The bytes of groups, whatever the ways of their branches.
 use Rattle.std.proofs.Common.{◌≡◌, ℕ, ◌+◌, ◌/◌, ◌%◌, ◌≤◌, ◌<◌, Bool, true, false, ◌&&◌, List, [], ◌∷◌, ◌++◌, map, refl, sym, ap, ◌∙◌, subst, arith, Some, append_assoc, true≢false}
-use Rattle.std.specs.Prelude.{zero, suc, if◌then◌else◌, nat_eq, nat_lt, unwrap_or, Option, None}
+use Rattle.std.specs.Prelude.{zero, suc, ◌-◌, ◌^◌, if◌then◌else◌, nat_eq, nat_lt, unwrap_or, Option, None}
 use Rattle.std.proofs.lemmas.List.{append-nil}
 use Rattle.std.specs.List.{list_all}
 use Rattle.tb_opcodes.specs.Opcodes as opcodes
 use Rattle.tb_opcodes.specs.declared.Mnemonic.{Mnemonic}
-use Rattle.tb_opcodes.specs.declared.Mnemonic.TheVariants.{Adc, Beq, Bne, Bvc, Clc, Cmp, Lda, Sbc, Sec, Sta, Eor}
+use Rattle.tb_opcodes.specs.declared.Mnemonic.TheVariants.{Adc, Beq, Bne, Bvc, Clc, Cmp, Lda, Ora, Sbc, Sec, Sta, Eor}
 use Rattle.tb_opcodes.specs.declared.Mode.TheVariants.{Absolute, Relative, ZeroPage}
 use Rattle.tb_asm.specs.declared.names.Name.{Name}
 use Rattle.tb_asm.specs.declared.items.Operand.TheVariants.{Byte, Label, Word}
@@ -26,7 +26,7 @@ use Rattle.tb_lower.specs.Ranges.{AreInRange, IsInRange}
 use Rattle.tb_lower.specs.Slots as slots
 use Rattle.tb_runtime16.specs.Places.{LINE, LEFT, RIGHT, RESULT, WANTED, MULTIPLY_AT, DIVIDE_AT, RANDOM_AT, NUMBER_AT, PUSH_AT}
 use Rattle.tb_selection.specs.Select.{alone}
-use Rattle.tb_selection.specs.Groups.{Operand, Constant, Variable, InSlot, Tested, HeldBefore, HeldNow, Conversion, Negated, Drawn, Usage, AsNumber, AsLine, AsSubroutine, Group, Calculate, Convert, Move, Use, Test, TestGo, Single, denied, slot_of, expand}
+use Rattle.tb_selection.specs.Groups.{Operand, Constant, Variable, InSlot, Tested, HeldBefore, HeldNow, Conversion, Negated, Drawn, Usage, AsNumber, AsLine, AsSubroutine, Divisibility, Divisible, Indivisible, Group, Calculate, Convert, Move, Use, Test, TestGo, Divides, Single, contrary, denied, slot_of, expand}
 use Rattle.tb_templates.specs.declared.labels.Inner.TheVariants as inside
 use Rattle.tb_templates.specs.declared.labels.Target.{Target}
 use Rattle.tb_templates.specs.declared.labels.Target.TheVariants as target
@@ -41,6 +41,8 @@ use Rattle.tb_templates.specs.GroupTemplates as items
 use Rattle.tb_templates.specs.Scaled as scaled
 use Rattle.tb_templates.specs.Scaled.{scaling, shifts}
 use Rattle.tb_templates.proofs.Factors.{IsScaling, by_right, by_left, by_routine, scaling_is, IsShifting, by_shifts, by_call, shifting_is}
+use Rattle.tb_templates.specs.Masks.{lowest_bits, mask}
+use Rattle.tb_templates.proofs.Divided.{IsMasking, by_bits, by_division, left_over_plain, masking_is}
 use Rattle.tb_templates.proofs.Plain.{plain_straight, times_plain, shifted_plain}
 use Rattle.tb_keeping.specs.Layout.{Layout, layout_of, next_at}
 use Rattle.tb_keeping.proofs.Resolved as resolved
@@ -49,6 +51,7 @@ use Rattle.tb_grouping.proofs.Sources.{lda, adc, sbc, cmp}
 use Rattle.tb_grouping.proofs.Coded as coded
 use Rattle.tb_grouping.proofs.Coded.{low, high, weighed, difference, Way, Short, Long, way_size, Zero, Overflow, Negative, BranchReaches, second_at, turned_at, test_code, TestReaches, group_code, BranchesReach}
 use Rattle.tb_grouping.proofs.Halves.{power_small}
+use Rattle.tb_grouping.proofs.Remainders.{mask_small}
 use Rattle.tb_grouping.proofs.Singles.{IsAlone}
 use Rattle.tb_grouping.proofs.Emits.{formed, formed_size, branch_formed, branch_by, Emits, emits_append, emitted_size, ends, block, labelled, branches, reaches}
 use Rattle.tb_keeping.proofs.Numbers.{address_bytes, constant_bytes, copied_bytes, store_bytes, faulted_bytes, next_same}
@@ -412,6 +415,23 @@ module _ (labels : List (Name × ℕ)) where
   quotient_emits n at _ s t to by_call l h k =
       lined_emits at (items.may_be_zero t) n l (items.handed DIVIDE_AT LEFT s t to) (coded.routine DIVIDE_AT LEFT s t to) (λ b. handed_emits {at = b} DIVIDE_AT LEFT s t to h k)
 
+  -- ---- divisibility
+  remainder_emits : {at : ℕ} (s t : Source) → IsWord s → IsWord t → Emits labels at (map kept (items.remainder s t)) (coded.remainder s t)
+  unfolding opcodes.encoded
+  remainder_emits s t h k =
+      block labels (items.brought s LEFT) (coded.brought s LEFT) ((brought_bytes s LEFT h).same _)
+      (block labels (items.brought t RIGHT) (coded.brought t RIGHT) ((brought_bytes t RIGHT k).same _)
+      (block labels (product.call DIVIDE_AT ∷ []) (resolved.call DIVIDE_AT) refl
+      (block labels (product.at Lda RESULT ∷ product.at Ora (RESULT + 1) ∷ []) coded.told refl (ends labels))))
+
+  bits_bytes_of : (k : ℕ) (s : Source) → k < 8 → AllMake (lowest_bits (2 ^ (k + 1) - 1) s) (coded.lowest_bits (2 ^ (k + 1) - 1) s)
+  unfolding opcodes.encoded
+  bits_bytes_of k s few = lda_low s ▹ record { same = λ a. ap (λ b. 0x29 ∷ b ∷ []) (mask_small k few) } ▹ none
+
+  left_over_emits : (n at : ℕ) (o : Option ℕ) (s t : Source) → IsMasking t o → n < 65536 → IsWord s → IsWord t → Emits labels at (map kept (items.left_over n o s t)) (coded.left_over n o s t)
+  left_over_emits n at _ s t (by_bits w k e few p) l h g = all_made (lowest_bits (2 ^ (k + 1) - 1) s) (coded.lowest_bits (2 ^ (k + 1) - 1) s) (bits_bytes_of k s few)
+  left_over_emits n at _ s t by_division l h g = lined_emits at (items.may_be_zero t) n l (items.remainder s t) (coded.remainder s t) (λ b. remainder_emits {at = b} s t h g)
+
   pub calculated_emits : (n at : ℕ) (o : Operator) (s t : Source) (to : ℕ) → n < 65536 → IsWord s → IsWord t → Emits labels at (map kept (items.calculated n o s t to)) (coded.calc_code n o s t to)
   unfolding opcodes.encoded
   calculated_emits n at op.Add s t to l h k = block labels (items.summed s t to) (coded.summed s t to) ((summed_bytes s t to h k).same at) (ends labels)
@@ -629,6 +649,12 @@ pub record TestEmitted (labels : List (Name × ℕ)) (r : Rel) (at : ℕ) (a b :
   pub emits : Emits labels at fs (test_code r first second at a b to)
   pub reach : TestReaches r first second at a b to
 
+-- the same of a test by a divisor of line n
+pub record DividedEmitted (labels : List (Name × ℕ)) (n at : ℕ) (how : Divisibility) (a b : Source) (to : ℕ) (fs : List Form) : Type 0 where
+  pub first : Way
+  pub emits : Emits labels at fs (coded.divided_code n at first how a b to)
+  pub reach : coded.DividedReaches n at first a b to
+
 -- forms that emit a group by the ways of its branches, which reach
 pub record GroupEmitted (labels : List (Name × ℕ)) (ly : Layout) (n at : ℕ) (g : Group) (fs : List Form) : Type 0 where
   pub first : Way
@@ -729,6 +755,62 @@ module _ (labels : List (Name × ℕ)) (ns : List ℕ) (seed n : ℕ) (seed_smal
         let behind : s.back ≡ map kept (product.faulted n 1) = straight_forms (product.faulted n 1) s.back refl s.of_back in
         (e.first, e.second, subst (λ k. Emits labels at k (coded.go_code ly n at e.first e.second r (tested_source x) (source_of 0 b) false to)) (sym (s.are ∙ ap (λ k. s.front ++ k) behind)) (emits_append labels e.emits fault_emits), e.reach)
 
+    -- a test by a divisor whose branch goes to any label
+    module _ (to : ℕ) (goal : Target) (goal_there : address_in labels (label_of goal) ≡ Some to) (goal_top : to ≤ highest_code) (x y : Source) (x_word : IsWord labels x) (y_word : IsWord labels y) where
+      abbrev left_items : List Entry
+      left_items = items.left_over n (mask y) x y
+
+      left_emits : (at : ℕ) → Emits labels at (map kept left_items) (coded.left_over n (mask y) x y)
+      left_emits at = left_over_emits labels n at (mask y) x y (masking_is y) n_small x_word y_word
+
+      abbrev leaving : Bool → Mnemonic
+      leaving wanted = branch_by Zero wanted
+
+      record Leaving (wanted : Bool) (at : ℕ) (fs : List Form) : Type 0 where
+        first : Way
+        emits : Emits labels at fs (coded.left_over n (mask y) x y ++ (Code (coded.branch_code first (coded.branch_on Zero wanted) (coded.divided_at n at x y) to) ∷ []))
+        reach : BranchReaches first (coded.divided_at n at x y) to
+
+      leaving_emitted : (wanted : Bool) (at : ℕ) (fs : List Form) → AreFormsOf (left_items ++ (instr (leaving wanted) Relative (Label (label_of goal)) ∷ [])) fs → Rest labels at fs → Leaving wanted at fs
+      leaving_emitted wanted at fs h r =
+          let l = label_of goal in
+          let c1 = cut left_items (instr (leaving wanted) Relative (Label l) ∷ []) fs (plain_straight left_items (left_over_plain n (mask y) x y)) h in
+          let b1 = cut_branch (leaving wanted) l [] c1.rest c1.of in
+          let is : fs ≡ map kept left_items ++ (formed b1.way (leaving wanted) l ∷ []) =
+          c1.is ∙ ap (λ t. map kept left_items ++ t) (b1.is ∙ ap (λ t. formed b1.way (leaving wanted) l ∷ t) (no_more labels b1.rest b1.of)) in
+          let e = left_emits at in
+          let r1 = rest_behind labels at (coded.divided_at n at x y) (map kept left_items) (formed b1.way (leaving wanted) l ∷ []) (ap (λ k. at + k) (emitted_size labels e)) (subst (Rest labels at) is r) in
+          subst (Leaving wanted at) (sym is)
+          (record {
+            first = b1.way;
+            emits = emits_append labels e (branches labels b1.way Zero wanted l (let q = r1.below in omega (arith, q)) (value_of labels l to goal_there) (ends labels));
+            reach = gets_there labels _ to b1.way (leaving wanted) l _ goal_there goal_top r1;
+          })
+
+      divided_emitted : (how : Divisibility) (at : ℕ) (fs : List Form) → AreFormsOf (items.divided_by n how x y goal) fs → Rest labels at fs → DividedEmitted labels n at how x y to fs
+      divided_emitted Divisible at fs h r = let e = leaving_emitted false at fs h r in record { first = e.first; emits = e.emits; reach = e.reach }
+      divided_emitted Indivisible at fs h r = let e = leaving_emitted true at fs h r in record { first = e.first; emits = e.emits; reach = e.reach }
+
+    -- a test by a divisor that goes straight to a line, by whether there is one, and one that goes to no line
+    divided_gone : (at : ℕ) (how : Divisibility) (x y : Source) → IsWord labels x → IsWord labels y → (to : ℕ) (has : Bool) → has_line ns to ≡ has → (fs : List Form)
+        → AreFormsOf (items.divided_gone n how x y (next_line ns n) has to) fs → Rest labels at fs
+        → (first : Way) × Emits labels at fs (coded.divided_go ly n at first how x y has to) × coded.DividedGoes ly n at first x y has to
+    divided_gone at how x y xw yw to true has fs h rest =
+        let e = divided_emitted (ly.start to) (target.Line to) (lines_there to has) (starts_top to) x y xw yw (contrary how) at fs h rest in
+        (e.first, e.emits, e.reach)
+    divided_gone at how x y xw yw to false has fs h rest =
+        let test = items.divided_by n how x y (next_line ns n) in
+        let s = split test (product.faulted n 1) fs h in
+        let parts = subst (Rest labels at) s.are rest in
+        let e = divided_emitted (next_at ly n) (next_line ns n) there top x y xw yw how at s.front s.of_front (rest_before labels at s.front s.back parts) in
+        let behind : s.back ≡ map kept (product.faulted n 1) = straight_forms (product.faulted n 1) s.back refl s.of_back in
+        (e.first, subst (λ k. Emits labels at k (coded.divided_go ly n at e.first how x y false to)) (sym (s.are ∙ ap (λ k. s.front ++ k) behind)) (emits_append labels e.emits fault_emits), e.reach)
+
+    divides_emitted : (at : ℕ) (how : Divisibility) (x y : Source) → IsWord labels x → IsWord labels y → (to : Option ℕ) (fs : List Form) → AreFormsOf (items.divides ns n how x y to) fs → Rest labels at fs
+        → (first : Way) × Emits labels at fs (coded.divides_code ly n at first how x y to) × coded.DividesReach ly n at first x y to
+    divides_emitted at how x y xw yw None fs h r = let e = divided_emitted (next_at ly n) (next_line ns n) there top x y xw yw how at fs h r in (e.first, e.emits, e.reach)
+    divides_emitted at how x y xw yw (Some to) fs h r = divided_gone at how x y xw yw to (has_line ns to) refl fs h r
+
     -- the search in the line table for a word, and what is behind it
     searched_emits : {at : ℕ} {fs : List Form} {ps : List Piece} (x : Source) → IsWord labels x → Emits labels (at + 10 + resolved.size (coded.brought x WANTED) + 3) fs ps → Emits labels at (map kept (items.searched n x) ++ fs) (coded.searched ly n x ps)
     unfolding opcodes.encoded
@@ -781,6 +863,9 @@ module _ (labels : List (Name × ℕ)) (ns : List ℕ) (seed n : ℕ) (seed_smal
     group_emitted i at (TestGo rel x b to) fs plain q range h r =
         let e = go_emitted i at rel x b to (has_line ns to) refl fs h r in
         record { first = e.0; second = e.1; emits = e.2; reach = e.3 }
+    group_emitted i at (Divides how x d to) fs plain q range h r =
+        let e = divides_emitted at how (source_of 0 (Variable x)) (source_of 1 d) tt (source_word labels 1 d) to fs h r in
+        record { first = e.0; second = Short; emits = e.1; reach = e.2 }
     group_emitted i at (Single c) fs plain q range h r =
         straight_emitted at (Single c) (alone_items i c (items.may_fault c)) fs (alone_straight i c (items.may_fault c) plain) h r
         (λ s. let e = plain_emitted at c _ (coded.has_branches c) plain (alone_emits i at c (items.may_fault c) plain q range.0 s) in

@@ -1,5 +1,5 @@
 -- The law of each group, and from them that of the step.
-use Rattle.std.proofs.Common.{◌≡◌, ℕ, ◌+◌, ◌≤◌, Bool, true, false, ◌||◌, List, [], ◌∷◌, ◌++◌, refl, sym, ap, ◌∙◌, subst, arith}
+use Rattle.std.proofs.Common.{◌≡◌, ℕ, ◌+◌, ◌≤◌, Bool, true, false, ◌||◌, List, [], ◌∷◌, ◌++◌, refl, sym, ap, ◌∙◌, subst, arith, Option}
 use Rattle.std.specs.Prelude.{nat_eq, nat_le}
 use Rattle.tb_words.specs.declared.Rel.{Rel}
 use Rattle.tb_syntax.specs.declared.expressions.Operator.{Operator}
@@ -14,7 +14,7 @@ use Rattle.tb_keeping.specs.Layout.{Layout}
 use Rattle.tb_keeping.proofs.Joins.{LawAt, sent_in}
 use Rattle.tb_keeping.proofs.Mirrors as mirrors
 use Rattle.tb_keeping.proofs.Resolved.{Lies, pieces_size}
-use Rattle.tb_selection.specs.Groups.{Operand, Home, Destination, Tested, Conversion, Negated, Drawn, Usage, Group, Calculate, Convert, Move, Use, Test, TestGo, Single, slot_of, expand, expand_all}
+use Rattle.tb_selection.specs.Groups.{Operand, Home, Destination, Tested, Conversion, Negated, Drawn, Usage, Group, Calculate, Convert, Move, Use, Test, TestGo, Single, slot_of, expand, expand_all, Divisibility, Divides}
 use Rattle.tb_selection.specs.Select.{alone, select}
 use Rattle.tb_selection.specs.GroupSteps.{steps, first_group, group_step}
 use Rattle.tb_selection.proofs.Bracketed.{brackets}
@@ -39,6 +39,7 @@ use Rattle.tb_grouping.proofs.OneWord.{spread_convert, spread_convert_is, spread
 use Rattle.tb_grouping.proofs.Uses.{use_law}
 use Rattle.tb_grouping.proofs.Constants.{product_law, quotient_law}
 use Rattle.tb_grouping.proofs.Moves.{spread_move, spread_move_is, move_law}
+use Rattle.tb_grouping.proofs.DividesLaws.{divides_law, spread_divides, spread_divides_is}
 use Rattle.tb_grouping.proofs.Polled.{lines_law}
 use Rattle.tb_grouping.proofs.TestLaws.{go_law, test_law}
 use Rattle.tb_selection.specs.Laws.{AreClosed}
@@ -102,6 +103,9 @@ module _ (ly : Layout) (f : Setup) (lo hi keys : ℕ) (fits : Fits f 16) (limit 
     pub tests_going : (rel : Rel) (a : Tested) (b : Operand) (to : ℕ) → GroupLaw (TestGo rel a b to)
     tests_going rel a b to = by_steps (TestGo rel a b to) (15 + limit) (omega arith) (bracketed (TestGo rel a b to) (15 + limit) (λ is. spread_test rel a b (JumpTo to ∷ is)) (spread_test_is rel a b (JumpTo to ∷ [])) (λ is n s r w h. go_law ly f lo hi keys fits code same_numbers n a b s r w limit rs rel to is h))
 
+    pub asks_divisor : (how : Divisibility) (x : ℕ) (d : Operand) (to : Option ℕ) → GroupLaw (Divides how x d to)
+    asks_divisor how x d to = by_steps (Divides how x d to) (24 + (limit + limit)) (omega arith) (bracketed (Divides how x d to) (24 + (limit + limit)) (spread_divides how x d to) (spread_divides_is how x d to) (λ is n s r w h. divides_law ly f lo hi keys fits code same_numbers limit rs n how x d to is s r w h))
+
     pub multiplies : (a b : Operand) (d : Destination) → GroupLaw (Calculate op.Multiply a b d)
     multiplies a b d = by_steps (Calculate op.Multiply a b d) (13 + limit) (omega arith) (computes op.Multiply a b d (13 + limit) (omega (arith, wide)) (λ is n s r w h.
         product_law ly f lo hi keys fits limit rs wide code n a b d is s r w h (scaling (source_of (slot_of d) a) (source_of (slot_of d + 1) b)) (scaling_is (source_of (slot_of d) a) (source_of (slot_of d + 1) b))))
@@ -137,6 +141,7 @@ module _ (ly : Layout) (f : Setup) (lo hi keys : ℕ) (fits : Fits f 16) (limit 
       by_group (Use how a) = uses how a
       by_group (Test rel a b) = tests rel a b
       by_group (TestGo rel a b to) = tests_going rel a b to
+      by_group (Divides how x d to) = asks_divisor how x d to
       by_group (Single i) = alones i
 
       by_rest : (n : ℕ) (js : List Instr) (s : State) (r : Slots) (w : View) (gs : List Group) → select js ≡ gs → IsSome (Left n js) → Matches ly f lo hi keys (line code n js s r) w → Comes f w (Target ly f lo hi keys (first_group code (line code n js s r))) (sent_in (first_group code (line code n js s r))) (24 + (limit + limit))

@@ -10,7 +10,7 @@ use Rattle.tb_keeping.specs.Layout.{Layout}
 use Rattle.tb_keeping.proofs.Frames.{word_away, word_put}
 use Rattle.tb_keeping.proofs.Mirrors.{Typable}
 use Rattle.tb_keeping.proofs.Pieces.{InData, calls, put_word}
-use Rattle.tb_keeping.proofs.Resolved.{Lies, copied, pieces_size, size}
+use Rattle.tb_keeping.proofs.Resolved.{Code, Lies, Piece, call, copied, pieces_size, size}
 use Rattle.tb_keeping.proofs.Returning.{behind_call}
 use Rattle.tb_selection.specs.Groups.{IntoHeld, IntoHome, IntoSlot, IntoVariable, Destination, Group, slot_of}
 use Rattle.tb_selection.specs.Liveness.{live}
@@ -64,7 +64,8 @@ module _ (ly : Layout) (f : Setup) (lo hi keys : ℕ) (fits : Fits f 16) (n : �
     pub line : WordAt m LINE n → WordAt m' LINE n
     pub kept : Kept ly f lo hi keys fits (live js) s r m'
 
-  module _ (entry from at : ℕ) (a b : Source) (d : Destination) (m : ℕ → ℕ) (c : Kept ly f lo hi keys fits (live js) s r m) (lies : Lies f.code at (routine entry from a b (destination_at d))) (x y : ℕ) (ga : Grounded a LEFT) (gb : Grounded b RIGHT) (ha : SourceHolds m a x) (hb : (m' : ℕ → ℕ) → Kept ly f lo hi keys fits (live js) s r m' → SourceHolds m' b y) where
+  -- its two words, its call and what is behind it
+  module _ (entry at : ℕ) (a b : Source) (tail : List Piece) (m : ℕ → ℕ) (c : Kept ly f lo hi keys fits (live js) s r m) (lies : Lies f.code at (Code (brought a LEFT) ∷ Code (brought b RIGHT) ∷ Code (call entry) ∷ tail)) (x y : ℕ) (ga : Grounded a LEFT) (gb : Grounded b RIGHT) (ha : SourceHolds m a x) (hb : (m' : ℕ → ℕ) → Kept ly f lo hi keys fits (live js) s r m' → SourceHolds m' b y) where
     -- memory with the left word, then with the right one
     abbrev one : ℕ → ℕ
     one = put_word m LEFT (value m (low a)) (value m (high a))
@@ -89,22 +90,33 @@ module _ (ly : Layout) (f : Setup) (lo hi keys : ℕ) (fits : Fits f 16) (n : �
     abbrev second_at : ℕ
     second_at = at + size (brought a LEFT)
 
-    abbrev call_at : ℕ
+    abbrev pub call_at : ℕ
     call_at = second_at + size (brought b RIGHT)
 
     -- up to the call
-    pub asks : (q : View → Type 0) (t : List ℕ) (k : ℕ) → ((m' : ℕ → ℕ) → Handed m x y m' → Moves f (Here entry ((call_at + 2) % 256 ∷ (call_at + 2) / 256 ∷ own) m' w.text w.answers) q t k) → Moves f (Here at own m w.text w.answers) q t (9 + k)
-    asks q t k next u e =
+    pub asks_by : (q : View → Type 0) (t : List ℕ) (k : ℕ) → ((m' : ℕ → ℕ) → Handed m x y m' → Moves f (Here entry ((call_at + 2) % 256 ∷ (call_at + 2) / 256 ∷ own) m' w.text w.answers) q t k) → Moves f (Here at own m w.text w.answers) q t (9 + k)
+    asks_by q t k next u e =
         looser f u q q t (4 + (4 + (1 + k))) (9 + k) (omega arith) (λ v z. z)
         (chained f u _ q [] t 4 (4 + (1 + k)) (brings f 16 fits at own m w.text w.answers refl a LEFT lies.0 ga (refl, refl) lies.1 u e) (λ u e.
         chained f u _ q [] t 4 (1 + k) (brings f 16 fits second_at own one w.text w.answers refl b RIGHT lies.2.0 gb (refl, refl) lies.2.1 u e) (λ u e.
         chained f u _ q [] t 1 k (calls f 16 fits call_at own two w.text w.answers refl entry refl lies.2.2.0 lies.2.2.1 u e) (next two handed))))
 
-    comes_back : back_at ((call_at + 2) % 256) ((call_at + 2) / 256) ≡ call_at + 3
+    pub comes_back : back_at ((call_at + 2) % 256) ((call_at + 2) / 256) ≡ call_at + 3
     comes_back = behind_call ly f lo hi keys fits call_at lies.2.2.0
 
+  -- the same with its result taken to where it goes
+  module _ (entry from at : ℕ) (a b : Source) (d : Destination) (m : ℕ → ℕ) (c : Kept ly f lo hi keys fits (live js) s r m) (lies : Lies f.code at (routine entry from a b (destination_at d))) (x y : ℕ) (ga : Grounded a LEFT) (gb : Grounded b RIGHT) (ha : SourceHolds m a x) (hb : (m' : ℕ → ℕ) → Kept ly f lo hi keys fits (live js) s r m' → SourceHolds m' b y) where
+    abbrev taken : List Piece
+    taken = Code (copied from (destination_at d)) ∷ []
+
+    abbrev place : ℕ
+    place = at + size (brought a LEFT) + size (brought b RIGHT)
+
+    pub asks : (q : View → Type 0) (t : List ℕ) (k : ℕ) → ((m' : ℕ → ℕ) → Handed m x y m' → Moves f (Here entry ((place + 2) % 256 ∷ (place + 2) / 256 ∷ own) m' w.text w.answers) q t k) → Moves f (Here at own m w.text w.answers) q t (9 + k)
+    asks = asks_by entry at a b taken m c lies x y ga gb ha hb
+
     abbrev end_at : ℕ
-    end_at = call_at + 3 + size (copied from (destination_at d))
+    end_at = place + 3 + size (copied from (destination_at d))
 
     behind_is : at + pieces_size (routine entry from a b (destination_at d)) ≡ end_at
     behind_is = let e : at + (size (brought a LEFT) + (size (brought b RIGHT) + (3 + (size (copied from (destination_at d)) + 0)))) ≡ end_at = omega arith in e
@@ -117,5 +129,5 @@ module _ (ly : Layout) (f : Setup) (lo hi keys : ℕ) (fits : Fits f 16) (n : �
         chained f u _ _ [] [] limit 4 (does _ _ m' k u e) (λ u c'.
         looser f u _ _ [] 4 4 (omega arith)
         (word_lands ly f lo hi keys fits code n h.small (live js) d is s' r q v _ _ end_at u.mem w.text w.answers c'.result.low c'.result.high c'.result.small fit last (subst (λ p. GroupsLie ly f.code n p (select is)) behind_is rest) c'.kept text gets short)
-        (copies f 16 fits (call_at + 3) own u.mem w.text w.answers refl from (destination_at d) lies.2.2.2.0 g.0 (dest_in_data d fit) (g.1 d fit) lies.2.2.2.1 u
-        (record { pc = c'.here.pc ∙ comes_back; stack = c'.here.stack; binary = c'.here.binary; mem = refl; text = c'.here.text; answers = c'.here.answers })))) u e)
+        (copies f 16 fits (place + 3) own u.mem w.text w.answers refl from (destination_at d) lies.2.2.2.0 g.0 (dest_in_data d fit) (g.1 d fit) lies.2.2.2.1 u
+        (record { pc = c'.here.pc ∙ comes_back entry at a b taken m c lies x y ga gb ha hb; stack = c'.here.stack; binary = c'.here.binary; mem = refl; text = c'.here.text; answers = c'.here.answers })))) u e)

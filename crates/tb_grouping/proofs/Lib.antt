@@ -26,6 +26,9 @@ pub mod TestLaws
 pub mod Beginnings
 pub mod Falling
 pub mod Products
+pub mod Remainders
+pub mod LeftOver
+pub mod DividesLaws
 pub mod Moves
 pub mod Faults
 pub mod Polled

@@ -5,11 +5,12 @@ use Rattle.tb_words.specs.declared.Rel.{Rel}
 use Rattle.tb_syntax.specs.declared.expressions.Operator.{Operator}
 use Rattle.tb_lower.specs.Slots.{Instr, Put, Load, Store, Negate, Compute, Random, SendText, SendNumber, SendZone, SendNewline, Input, Poll, Hold, LeaveUnless, Jump, Call, JumpTo, CallTo, Return, End}
 use Rattle.tb_selection.specs.declared.liveness.Live.{Live}
-use Rattle.tb_selection.specs.Groups.{Operand, Constant, Variable, InSlot, Home, Destination, IntoHome, Tested, HeldBefore, HeldNow, Conversion, Negated, Drawn, Usage, Group, Calculate, Convert, Move, Use, Test, TestGo, Single, slot_of, expand_all}
+use Rattle.tb_selection.specs.Groups.{Operand, Constant, Variable, InSlot, Home, Destination, IntoHome, Tested, HeldBefore, HeldNow, Conversion, Negated, Drawn, Usage, Group, Calculate, Convert, Move, Use, Divisibility, Test, TestGo, Divides, Single, slot_of, expand_all}
 use Rattle.tb_selection.specs.Laws.{AreChosen}
 use Rattle.tb_selection.specs.Liveness.{live}
 use Rattle.tb_selection.proofs.Chosen.{chosen}
-use Rattle.tb_selection.specs.Select.{alone, provided, calculate_with, convert_with, move_with, use_with, words_with, with_word, calculated, converted, held_before, gone, merged, omits_only_dead, may_stand, tried, attach, select}
+use Rattle.tb_selection.specs.Select.{alone, provided, calculate_with, convert_with, move_with, use_with, words_with, with_word, calculated, converted, held_before, gone, merged, omits_only_dead, may_stand, division, shortened, fused, tried, attach, select}
+use Rattle.tb_selection.proofs.Shortened.{IsDivision, divides, no_division, division_is}
 
 -- a single instruction is one that is single alone
 abbrev pub IsAlone : Group → Type 0
@@ -88,6 +89,7 @@ with_so k word (Move a home) = move_so k word a home
 with_so k word (Use how a) = use_so k word how a
 with_so k word (Test rel a b) = test_so rel (words_with k word a b)
 with_so k word (TestGo rel a b to) = go_so rel to (words_with k word a b)
+with_so k word (Divides how x d to) = tt
 with_so k word (Single i) = tt
 
 -- a word worked out before a move of it
@@ -100,6 +102,7 @@ calculated_so op k (Convert what a d) = tt
 calculated_so op k (Use how a) = tt
 calculated_so op k (Test rel a b) = tt
 calculated_so op k (TestGo rel a b to) = tt
+calculated_so op k (Divides how x d to) = tt
 calculated_so op k (Single i) = tt
 
 converted_so : (what : Conversion) (k : ℕ) (g : Group) → IfAny (converted what k g)
@@ -111,6 +114,7 @@ converted_so what k (Convert what' a d) = tt
 converted_so what k (Use how a) = tt
 converted_so what k (Test rel a b) = tt
 converted_so what k (TestGo rel a b to) = tt
+converted_so what k (Divides how x d to) = tt
 converted_so what k (Single i) = tt
 
 held_so : (g : Group) → IfAny (held_before g)
@@ -122,6 +126,7 @@ held_so (Calculate op a b d) = tt
 held_so (Convert what a d) = tt
 held_so (Move a home) = tt
 held_so (Use how a) = tt
+held_so (Divides how x d to) = tt
 held_so (Single i) = tt
 
 -- a test before what goes to a line
@@ -152,6 +157,7 @@ gone_so rel (Move a home) = tt
 gone_so rel (Use how a) = tt
 gone_so rel (Test rel' a b) = tt
 gone_so rel (TestGo rel' a b to) = tt
+gone_so rel (Divides how x d to) = tt
 
 merged_so : (i : Instr) (g : Group) → IfAny (merged i g)
 merged_so (Put k w) g = with_so k (Constant w) g
@@ -175,12 +181,21 @@ merged_so (CallTo target) g = tt
 merged_so Return g = tt
 merged_so End g = tt
 
+shortened_so : (a b c : Group) (o : Option Group) (gs : List Group) → IsDivision a b c o → IsAlone a → FirstIsAlone (shortened o a b c gs)
+shortened_so a b c _ gs (divides how x d to ea eb ec) h = tt
+shortened_so a b c _ gs no_division h = h
+
+fused_so : (a : Group) (gs : List Group) → IsAlone a → FirstIsAlone (fused a gs)
+fused_so a [] h = h
+fused_so a (b ∷ []) h = h
+fused_so a (b ∷ c ∷ gs) h = shortened_so a b c (division a b c) gs (division_is a b c) h
+
 tried_so : (o : Option Group) (r : Live) (i : Instr) (g : Group) (gs : List Group) → IfAny o → FirstIsAlone (tried o r i g gs)
 tried_so None r i g gs h = alone_so i
 tried_so (Some m) r i g gs h = by (omits_only_dead m r && may_stand m gs)
   where
-    by : (t : Bool) → FirstIsAlone (if t then m ∷ gs else alone i ∷ g ∷ gs)
-    by true = h
+    by : (t : Bool) → FirstIsAlone (if t then fused m gs else alone i ∷ g ∷ gs)
+    by true = fused_so m gs h
     by false = alone_so i
 
 attach_so : (i : Instr) (gs : List Group) → FirstIsAlone (attach i gs)

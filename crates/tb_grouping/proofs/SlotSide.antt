@@ -55,10 +55,10 @@ spread_is op a b d is =
     ∙ ap (λ l. fetch (slot_of d) a ++ l) (append_assoc (fetch (slot_of d + 1) b) (Compute op (slot_of d) ∷ kept d) is)
 
 -- ---- slots looked at
-same_slot : (r : Slots) (k v : ℕ) → k < length r.words → slice_index (slice_set r.words k v) k ≡ v
+pub same_slot : (r : Slots) (k v : ℕ) → k < length r.words → slice_index (slice_set r.words k v) k ≡ v
 same_slot r k v h = get_or-set_same r.words k v 0 h
 
-other_slot : (r : Slots) (k j v : ℕ) → j ≢ k → slice_index (slice_set r.words k v) j ≡ slice_index r.words j
+pub other_slot : (r : Slots) (k j v : ℕ) → j ≢ k → slice_index (slice_set r.words k v) j ≡ slice_index r.words j
 other_slot r k j v h = get_or-set_other r.words k j v 0 h
 
 pub fetched_length : (s : State) (r : Slots) (k : ℕ) (a : Operand) → length (with_fetched s r k a).words ≡ length r.words

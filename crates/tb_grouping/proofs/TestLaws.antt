@@ -43,7 +43,7 @@ use Rattle.tb_grouping.proofs.Tests.{tests_equality}
 use Rattle.tb_grouping.proofs.Orders.{tests_order}
 
 -- pieces before others
-lies_parts : (code : Part) (at : ℕ) (ps qs : List Piece) → Lies code at (ps ++ qs) → Lies code at ps × Lies code (at + pieces_size ps) qs
+pub lies_parts : (code : Part) (at : ℕ) (ps qs : List Piece) → Lies code at (ps ++ qs) → Lies code at ps × Lies code (at + pieces_size ps) qs
 lies_parts code at [] qs h = (tt, subst (λ p. Lies code p qs) (let e : at ≡ at + 0 = omega arith in e) h)
 lies_parts code at (p ∷ ps) qs h =
     let k = lies_parts code (at + piece_size p) ps qs h.2 in
@@ -70,7 +70,7 @@ not_not : (t : Bool) → t ≡ not (not t)
 not_not true = refl
 not_not false = refl
 
-denies : (rel : Rel) (x y : ℕ) → holds (denied rel) x y ≡ not (holds rel x y)
+pub denies : (rel : Rel) (x y : ℕ) → holds (denied rel) x y ≡ not (holds rel x y)
 denies rel.Eq x y = refl
 denies rel.Ne x y = not_not (nat_eq x y)
 denies rel.Lt x y = refl

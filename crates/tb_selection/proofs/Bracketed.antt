@@ -5,9 +5,10 @@ use Rattle.std.proofs.lemmas.Bool.{eqb-true}
 use Rattle.tb_words.specs.declared.Rel.{Rel}
 use Rattle.tb_syntax.specs.declared.expressions.Operator.{Operator}
 use Rattle.tb_lower.specs.Slots.{Instr, Put, Load, Store, Negate, Compute, Random, SendText, SendNumber, SendZone, SendNewline, Input, Poll, Hold, LeaveUnless, Jump, Call, JumpTo, CallTo, Return, End}
-use Rattle.tb_selection.specs.Groups.{Operand, Constant, Variable, InSlot, Home, Destination, IntoHome, Tested, HeldBefore, HeldNow, Conversion, Negated, Drawn, Usage, Group, Calculate, Convert, Move, Use, Test, TestGo, Single, fetch, keep, slot_of, kept, held, convert, use_of, expand, expand_all}
+use Rattle.tb_selection.specs.Groups.{Operand, Constant, Variable, InSlot, Home, Destination, IntoHome, Tested, HeldBefore, HeldNow, Conversion, Negated, Drawn, Usage, Group, Calculate, Convert, Move, Use, Test, TestGo, Divides, Single, fetch, keep, slot_of, kept, held, convert, use_of, expand, expand_all}
 use Rattle.tb_selection.specs.Liveness.{live}
-use Rattle.tb_selection.specs.Select.{alone, provided, calculate_with, convert_with, move_with, use_with, words_with, with_word, calculated, converted, held_before, gone, merged, omits_only_dead, may_stand, tried, attach, select}
+use Rattle.tb_selection.specs.Select.{alone, provided, calculate_with, convert_with, move_with, use_with, words_with, with_word, calculated, converted, held_before, gone, merged, omits_only_dead, may_stand, division, shortened, fused, tried, attach, select}
+use Rattle.tb_selection.proofs.Shortened.{IsDivision, divides, no_division, division_is, three_expanded}
 
 -- an instruction alone is itself
 pub alone_is : (i : Instr) → expand (alone i) ≡ i ∷ []
@@ -109,6 +110,7 @@ module _ (k : ℕ) (i : Instr) (l : Operand) (h : Fetches k i l) where
   with_is (Use how a) = use_is how a
   with_is (Test rel a b) = test_this rel _ (words_with k l a b) (words_are rel [] a b)
   with_is (TestGo rel a b to) = go_this rel to _ (words_with k l a b) (words_are rel (JumpTo to ∷ []) a b)
+  with_is (Divides how x d to) = tt
   with_is (Single j) = tt
 
 calculated_is : (op : Operator) (k : ℕ) (g : Group) → IsThis (Compute op k ∷ expand g) (calculated op k g)
@@ -120,6 +122,7 @@ calculated_is op k (Convert what a d) = tt
 calculated_is op k (Use how a) = tt
 calculated_is op k (Test rel a b) = tt
 calculated_is op k (TestGo rel a b to) = tt
+calculated_is op k (Divides how x d to) = tt
 calculated_is op k (Single i) = tt
 
 converted_is : (what : Conversion) (k : ℕ) (g : Group) → IsThis (convert what k ∷ expand g) (converted what k g)
@@ -131,6 +134,7 @@ converted_is what k (Convert what' a d) = tt
 converted_is what k (Use how a) = tt
 converted_is what k (Test rel a b) = tt
 converted_is what k (TestGo rel a b to) = tt
+converted_is what k (Divides how x d to) = tt
 converted_is what k (Single i) = tt
 
 gone_is : (rel : Rel) (g : Group) → IsThis (LeaveUnless rel ∷ expand g) (gone rel g)
@@ -160,6 +164,7 @@ gone_is rel (Move a home) = tt
 gone_is rel (Use how a) = tt
 gone_is rel (Test rel' a b) = tt
 gone_is rel (TestGo rel' a b to) = tt
+gone_is rel (Divides how x d to) = tt
 
 held_is : (g : Group) → IsThis (Hold ∷ expand g) (held_before g)
 held_is (Test rel HeldBefore b) = refl
@@ -170,6 +175,7 @@ held_is (Calculate op a b d) = tt
 held_is (Convert what a d) = tt
 held_is (Use how a) = tt
 held_is (Move a home) = tt
+held_is (Divides how x d to) = tt
 held_is (Single i) = tt
 
 -- a merged group is both
@@ -198,12 +204,24 @@ merged_is End g = tt
 alone_before : (i : Instr) (gs : List Group) → expand_all (alone i ∷ gs) ≡ i ∷ expand_all gs
 alone_before i gs = ap (λ l. l ++ expand_all gs) (alone_is i)
 
+shortened_is : (a b c : Group) (o : Option Group) (gs : List Group) → IsDivision a b c o → expand_all (shortened o a b c gs) ≡ expand_all (a ∷ b ∷ c ∷ gs)
+shortened_is a b c _ gs (divides how x d to ea eb ec) =
+    three_expanded how x d to (expand_all gs)
+    ∙ (λ i. expand (sym ea i) ++ (expand (sym eb i) ++ (expand (sym ec i) ++ expand_all gs)))
+shortened_is a b c _ gs no_division = refl
+
+-- a group before others is that
+fused_is : (a : Group) (gs : List Group) → expand_all (fused a gs) ≡ expand_all (a ∷ gs)
+fused_is a [] = refl
+fused_is a (b ∷ []) = refl
+fused_is a (b ∷ c ∷ gs) = shortened_is a b c (division a b c) gs (division_is a b c)
+
 tried_is : (o : Option Group) (i : Instr) (g : Group) (gs : List Group) → IsThis (i ∷ expand g) o → expand_all (tried o (live (expand_all gs)) i g gs) ≡ i ∷ expand_all (g ∷ gs)
 tried_is None i g gs h = alone_before i (g ∷ gs)
 tried_is (Some m) i g gs h = by (omits_only_dead m (live (expand_all gs)) && may_stand m gs)
   where
-    by : (t : Bool) → expand_all (if t then m ∷ gs else alone i ∷ g ∷ gs) ≡ i ∷ expand_all (g ∷ gs)
-    by true = ap (λ l. l ++ expand_all gs) h
+    by : (t : Bool) → expand_all (if t then fused m gs else alone i ∷ g ∷ gs) ≡ i ∷ expand_all (g ∷ gs)
+    by true = fused_is m gs ∙ ap (λ l. l ++ expand_all gs) h
     by false = alone_before i (g ∷ gs)
 
 -- an instruction before groups is that

@@ -4,7 +4,7 @@ use Rattle.std.proofs.lemmas.Bool.{cases_lt}
 use Rattle.tb_lower.specs.Steps.{End, Step, Goes, Stops, and_then, after_sending, Run, GoesOn, Over, joined, advance, advance_by}
 use Rattle.tb_lower.specs.Slots.{Instr, Compute, LeaveUnless, JumpTo, SlotCode, Rest, Whole, Left, SlotState, slot_step, begins, beginnings}
 use Rattle.tb_lower.proofs.Runs.{advance_sum, joined_after}
-use Rattle.tb_selection.specs.Groups.{Operand, Constant, Variable, InSlot, HeldBefore, HeldNow, Group, Calculate, Convert, Move, Use, Test, TestGo, Single, fetch, keep, kept, convert, use_of, slot_of, expand}
+use Rattle.tb_selection.specs.Groups.{Operand, Constant, Variable, InSlot, HeldBefore, HeldNow, Group, Calculate, Convert, Move, Use, Test, TestGo, Divides, Single, fetch, keep, kept, convert, use_of, slot_of, expand}
 use Rattle.tb_selection.specs.Select.{select}
 use Rattle.tb_selection.specs.GroupSteps.{inside, steps, ahead, first, first_group, fallen, group_step, groups_begin, InsideRest, IsInside}
 use Rattle.tb_selection.specs.Laws.{Reached, Found}
@@ -30,6 +30,7 @@ expand_some (TestGo rel HeldBefore b to) = operand_some 0 b (LeaveUnless rel) (J
 expand_some (TestGo rel (HeldNow (Constant w)) b to) = (_, _, refl)
 expand_some (TestGo rel (HeldNow (Variable x)) b to) = (_, _, refl)
 expand_some (TestGo rel (HeldNow InSlot) b to) = (_, _, refl)
+expand_some (Divides how x d to) = (_, _, refl)
 expand_some (Single i) = (_, _, refl)
 
 module _ (code : SlotCode) where

@@ -1,4 +1,5 @@
 pub mod Bracketed
+pub mod Shortened
 pub mod Chosen
 pub mod Stacked
 pub mod GroupRuns

@@ -1,13 +1,17 @@
 -- Groups as they are found, from the end of a list on.
 use Rattle.std.proofs.Common.{◌≡◌, List, [], ◌∷◌, ◌++◌, refl, sym, ap, ◌∙◌, map, length, reverse}
-use Rattle.std.proofs.lemmas.List.{map-append, nil_from_length}
+use Rattle.std.proofs.Common.{drop, subst, Option, Some}
+use Rattle.std.proofs.lemmas.List.{map-append, nil_from_length, reverse-append}
 use Rattle.std.proofs.lemmas.Grind.{reverse_onto}
 use Rattle.tb_lower.specs.Slots.{Instr}
 use Rattle.tb_selection.specs.declared.liveness.Live.{Live}
 use Rattle.tb_selection.specs.Groups.{Group, expand_all}
 use Rattle.tb_selection.specs.Liveness.{live, live_before}
-use Rattle.tb_selection.specs.Select.{attach, select}
+use Rattle.tb_selection.specs.Laws.{AreChosen}
+use Rattle.tb_selection.specs.Liveness.{nothing_live}
+use Rattle.tb_selection.specs.Select.{attach, division, select}
 use Rattle.tb_selection.proofs.Bracketed.{attach_is}
+use Rattle.tb_selection.proofs.Chosen.{divided_live}
 
 -- further instructions before groups
 abbrev pub onto : List Instr → List Group → List Group
@@ -43,3 +47,15 @@ turned f xs ys is e q all h = ap (map f) q ∙ map_reverse f xs ∙ ap (λ is. o
 -- what is live before an instruction, once it is attached
 pub attached_live : (i : Instr) (gs gs' : List Group) (all r : Live) → all ≡ live (expand_all gs) → r ≡ live_before i all → gs' ≡ attach i gs → r ≡ live (expand_all gs')
 attached_live i gs gs' all r e q a = q ∙ ap (live_before i) e ∙ sym (live_attached i gs) ∙ ap (λ l. live (expand_all l)) (sym a)
+
+-- one more group found is the first one
+found : {A : Type 0} → (f : A → Group) (xs ys : List A) (x : A) → ys ≡ xs ++ x ∷ [] → reverse (map f ys) ≡ f x ∷ reverse (map f xs)
+found f xs ys x e = ap (λ l. reverse (map f l)) e ∙ ap reverse (map-append f xs (x ∷ [])) ∙ reverse-append (map f xs) (f x ∷ [])
+
+-- nothing is live behind one that took the place of three
+pub nothing_behind : {A : Type 0} → (f : A → Group) (all some rest now : List A) (first second third whole : A) → all ≡ some ++ second ∷ [] → some ≡ rest ++ third ∷ [] → now ≡ rest ++ whole ∷ [] → ◌≡◌ {A = Option Group} (Some (f whole)) (division (f first) (f second) (f third)) → AreChosen (reverse (map f all))
+    → nothing_live ≡ live (expand_all (drop 1 (reverse (map f now))))
+nothing_behind f all some rest now first second third whole e e' q d h =
+    let both : reverse (map f all) ≡ f second ∷ f third ∷ reverse (map f rest) = found f some all second e ∙ ap (λ l. f second ∷ l) (found f rest some third e') in
+    divided_live (f first) (f second) (f third) (f whole) (reverse (map f rest)) (sym d) (subst AreChosen both h)
+    ∙ ap (λ l. live (expand_all (drop 1 l))) (sym (found f rest now whole q))

@@ -1,8 +1,9 @@
 -- Groups: consecutive slot instructions that have one template.
-use Rattle.std.specs.Prelude.{ℕ, ◌+◌, List, [], ◌∷◌, ◌++◌}
+use Rattle.std.specs.Prelude.{ℕ, ◌+◌, List, [], ◌∷◌, ◌++◌, Option, Some, None}
 use Rattle.tb_words.specs.declared.Rel.{Rel}
 use Rattle.tb_words.specs.declared.Rel.TheVariants as rel
 use Rattle.tb_syntax.specs.declared.expressions.Operator.{Operator}
+use Rattle.tb_syntax.specs.declared.expressions.Operator.TheVariants.{Divide, Multiply}
 use Rattle.tb_lower.specs.Slots.{Instr, Put, Load, Store, Negate, Compute, Random, SendNumber, Hold, LeaveUnless, Jump, Call, JumpTo}
 
 -- where a word comes from: a constant, a variable, or the slot in which it stands already
@@ -34,8 +35,13 @@ pub data Conversion : Type 0 where
 pub data Usage : Type 0 where
   AsNumber AsLine AsSubroutine : Usage
 
+-- whether a test asks for a multiple of a divisor, or for any other word
+pub data Divisibility : Type 0 where
+  Divisible Indivisible : Divisibility
+
 -- consecutive slot instructions with one template: a calculation with two words or with one, a move, a use, a test, a
--- test that goes straight to a line where it holds, or a single instruction
+-- test that goes straight to a line where it holds, a test of a variable by a divisor that does so or not, or a single
+-- instruction
 pub data Group : Type 0 where
   Calculate : (op : Operator) (a b : Operand) (d : Destination) → Group
   Convert : (what : Conversion) (a : Operand) (d : Destination) → Group
@@ -43,6 +49,7 @@ pub data Group : Type 0 where
   Use : (how : Usage) (a : Operand) → Group
   Test : (rel : Rel) (a : Tested) (b : Operand) → Group
   TestGo : (rel : Rel) (a : Tested) (b : Operand) (to : ℕ) → Group
+  Divides : (how : Divisibility) (x : ℕ) (d : Operand) (to : Option ℕ) → Group
   Single : (i : Instr) → Group
 
 -- an operand into slot k
@@ -91,6 +98,25 @@ denied rel.Ge = rel.Lt
 denied rel.Gt = rel.Le
 denied rel.Le = rel.Gt
 
+-- the relation of a quotient times its divisor to the word that was divided
+abbrev pub compared : Divisibility → Rel
+compared Divisible = rel.Eq
+compared Indivisible = rel.Ne
+
+-- the other one
+abbrev pub contrary : Divisibility → Divisibility
+contrary Divisible = Indivisible
+contrary Indivisible = Divisible
+
+-- a variable's quotient times the divisor, before some more
+abbrev pub multiple : ℕ → Operand → List Instr → List Instr
+multiple x d is = Load 0 x ∷ (fetch 1 d ++ Compute Divide 0 ∷ (fetch 1 d ++ Compute Multiply 0 ∷ is))
+
+-- on to a line, if to one
+abbrev pub onward : Option ℕ → List Instr
+onward None = []
+onward (Some to) = JumpTo to ∷ []
+
 -- the slot instructions of a group
 abbrev pub expand : Group → List Instr
 expand (Calculate op a b d) = fetch (slot_of d) a ++ (fetch (slot_of d + 1) b ++ Compute op (slot_of d) ∷ kept d)
@@ -99,6 +125,7 @@ expand (Move a home) = fetch 0 a ++ keep home ∷ []
 expand (Use how a) = fetch 0 a ++ use_of how ∷ []
 expand (Test rel a b) = held a ++ (fetch 0 b ++ LeaveUnless rel ∷ [])
 expand (TestGo rel a b to) = held a ++ (fetch 0 b ++ LeaveUnless rel ∷ JumpTo to ∷ [])
+expand (Divides how x d to) = multiple x d (Hold ∷ Load 0 x ∷ LeaveUnless (compared how) ∷ onward to)
 expand (Single i) = i ∷ []
 
 -- the slot instructions of groups, one behind the other

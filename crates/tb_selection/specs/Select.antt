@@ -1,10 +1,12 @@
 -- Slot instructions as groups, each as long as it can be.
 use Rattle.std.specs.Prelude.{ℕ, ◌+◌, Bool, true, false, ◌&&◌, not, if◌then◌else◌, nat_eq, nat_le, List, [], ◌∷◌, length, Option, Some, None, option_map}
 use Rattle.tb_words.specs.declared.Rel.{Rel}
+use Rattle.tb_words.specs.declared.Rel.TheVariants as rel
 use Rattle.tb_syntax.specs.declared.expressions.Operator.{Operator}
+use Rattle.tb_syntax.specs.declared.expressions.Operator.TheVariants.{Divide as Quotient, Multiply as Product}
 use Rattle.tb_lower.specs.Slots.{Instr, Put, Load, Store, Negate, Compute, Random, SendNumber, Hold, LeaveUnless, Jump, Call, JumpTo}
 use Rattle.tb_selection.specs.declared.liveness.Live.{Live}
-use Rattle.tb_selection.specs.Groups.{Operand, Constant, Variable, InSlot, Home, IntoVariable, IntoHeld, Destination, IntoSlot, IntoHome, Tested, HeldBefore, HeldNow, Conversion, Negated, Drawn, Usage, AsNumber, AsLine, AsSubroutine, Group, Calculate, Convert, Move, Use, Test, TestGo, Single, slot_of, expand_all}
+use Rattle.tb_selection.specs.Groups.{Operand, Constant, Variable, InSlot, Home, IntoVariable, IntoHeld, Destination, IntoSlot, IntoHome, Tested, HeldBefore, HeldNow, Conversion, Negated, Drawn, Usage, AsNumber, AsLine, AsSubroutine, Group, Calculate, Convert, Move, Use, Divisibility, Divisible, Indivisible, Test, TestGo, Divides, Single, slot_of, expand_all}
 use Rattle.tb_selection.specs.Liveness.{live}
 
 -- an instruction as a group of its own
@@ -68,6 +70,7 @@ with_word k word (Move a home) = move_with k word a home
 with_word k word (Use how a) = use_with k word how a
 with_word k word (Test rel a b) = option_map (λ words. Test rel words.0 words.1) (words_with k word a b)
 with_word k word (TestGo rel a b to) = option_map (λ words. TestGo rel words.0 words.1 to) (words_with k word a b)
+with_word k word (Divides how x d to) = None
 with_word k word (Single i) = None
 
 -- the calculation of slot 0 before a move of it
@@ -124,7 +127,7 @@ slot_dead (Constant w) r = nat_le r.slots 0
 slot_dead (Variable x) r = nat_le r.slots 0
 
 -- what a group's template does not write, while its instructions do, is dead behind it: slots of operands that are
--- fetched, slot 0 of what goes to a home, the word that is held now
+-- fetched, slot 0 of what goes to a home, the word that is held now; of a test by a divisor, all of them
 abbrev pub omits_only_dead : Group → Live → Bool
 omits_only_dead (Calculate op a b (IntoSlot k)) r = right_slot_dead a b k r
 omits_only_dead (Calculate op a b (IntoHome home)) r = nat_le r.slots 0
@@ -134,17 +137,69 @@ omits_only_dead (Move a home) r = slot_dead a r
 omits_only_dead (Use how a) r = slot_dead a r
 omits_only_dead (Test rel a b) r = test_words_dead a b r
 omits_only_dead (TestGo rel a b to) r = test_words_dead a b r
+omits_only_dead (Divides how x d to) r = nat_le r.slots 0 && not r.held
 omits_only_dead (Single i) r = true
 
 -- a test before a jump goes straight to its line where it is a line's last group, behind which the next line begins
 abbrev pub may_stand : Group → List Group → Bool
 may_stand (TestGo rel a b to) behind = nat_eq (length behind) 0
+may_stand (Divides how x d (Some to)) behind = nat_eq (length behind) 0
 may_stand _ behind = true
+
+-- ── divisibility ──
+-- the variable and the divisor of a quotient that is left in slot 0
+abbrev pub quotient_in : Group → Option (ℕ × Operand)
+quotient_in (Calculate Quotient (Variable x) d (IntoSlot k)) = if nat_eq k 0 then Some (x, d) else None
+quotient_in _ = None
+
+-- what slot 0 is multiplied by
+abbrev pub factor_in : Group → Option Operand
+factor_in (Calculate Product InSlot d (IntoSlot k)) = if nat_eq k 0 then Some d else None
+factor_in _ = None
+
+-- the variable with which slot 0 is compared, whether it is to be equal, and the line to which this leads, if to one
+abbrev pub equality : Rel → ℕ → Option ℕ → Option (Divisibility × ℕ × Option ℕ)
+equality rel.Eq x to = Some (Divisible, x, to)
+equality rel.Ne x to = Some (Indivisible, x, to)
+equality _ x to = None
+
+abbrev pub equality_in : Group → Option (Divisibility × ℕ × Option ℕ)
+equality_in (Test r (HeldNow InSlot) (Variable x)) = equality r x None
+equality_in (TestGo r (HeldNow InSlot) (Variable x) to) = equality r x (Some to)
+equality_in _ = None
+
+-- whether two words are fetched from one place
+abbrev pub same_operand : Operand → Operand → Bool
+same_operand (Constant v) (Constant w) = nat_eq v w
+same_operand (Variable x) (Variable y) = nat_eq x y
+same_operand _ _ = false
+
+-- a quotient times its divisor, compared with what was divided
+abbrev pub division_of : Option (ℕ × Operand) → Option Operand → Option (Divisibility × ℕ × Option ℕ) → Option Group
+division_of (Some q) (Some d) (Some t) = provided (nat_eq q.0 t.1 && same_operand q.1 d) (Divides t.0 q.0 q.1 t.2)
+division_of (Some q) (Some d) None = None
+division_of (Some q) None t = None
+division_of None d t = None
+
+-- three groups as one that asks whether a word divides a variable, where they do that
+abbrev pub division : Group → Group → Group → Option Group
+division a b c = division_of (quotient_in a) (factor_in b) (equality_in c)
+
+-- one group in place of three, where there is one
+abbrev pub shortened : Option Group → Group → Group → Group → List Group → List Group
+shortened (Some g) a b c gs = g ∷ gs
+shortened None a b c gs = a ∷ b ∷ c ∷ gs
+
+-- a group before others
+abbrev pub fused : Group → List Group → List Group
+fused a [] = a ∷ []
+fused a (b ∷ []) = a ∷ b ∷ []
+fused a (b ∷ c ∷ gs) = shortened (division a b c) a b c gs
 
 -- the merged group before the others, where what it omits is dead and it may stand there; else the instruction alone
 -- before them all
 abbrev pub tried : Option Group → Live → Instr → Group → List Group → List Group
-tried (Some m) r i g gs = if omits_only_dead m r && may_stand m gs then m ∷ gs else alone i ∷ g ∷ gs
+tried (Some m) r i g gs = if omits_only_dead m r && may_stand m gs then fused m gs else alone i ∷ g ∷ gs
 tried None r i g gs = alone i ∷ g ∷ gs
 
 -- an instruction before groups

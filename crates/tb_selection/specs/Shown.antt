@@ -1,6 +1,7 @@
 -- The crate's groups as plain data.
-use Rattle.std.specs.Prelude.{List, map, reverse}
+use Rattle.std.specs.Prelude.{ℕ, List, map, reverse, Option}
 use Rattle.tb_words.specs.Letters.{place}
+use Rattle.tb_words.specs.declared.Letter.{Letter}
 use Rattle.tb_lower.specs.Shown.{instr_of}
 use Rattle.tb_selection.specs.declared.groups.Operand as operand
 use Rattle.tb_selection.specs.declared.groups.Operand.TheVariants as operands
@@ -14,9 +15,11 @@ use Rattle.tb_selection.specs.declared.groups.Conversion as conversion
 use Rattle.tb_selection.specs.declared.groups.Conversion.TheVariants as conversions
 use Rattle.tb_selection.specs.declared.groups.Usage as usage
 use Rattle.tb_selection.specs.declared.groups.Usage.TheVariants as usages
+use Rattle.tb_selection.specs.declared.groups.Divisibility as divisibility
+use Rattle.tb_selection.specs.declared.groups.Divisibility.TheVariants as divisibilities
 use Rattle.tb_selection.specs.declared.groups.Group as group
 use Rattle.tb_selection.specs.declared.groups.Group.TheVariants as groups
-use Rattle.tb_selection.specs.Groups.{Operand, Constant, Variable, InSlot, Home, IntoVariable, IntoHeld, Destination, IntoSlot, IntoHome, Tested, HeldBefore, HeldNow, Conversion, Negated, Drawn, Usage, AsNumber, AsLine, AsSubroutine, Group, Calculate, Convert, Move, Use, Test, TestGo, Single}
+use Rattle.tb_selection.specs.Groups.{Operand, Constant, Variable, InSlot, Home, IntoVariable, IntoHeld, Destination, IntoSlot, IntoHome, Tested, HeldBefore, HeldNow, Conversion, Negated, Drawn, Usage, AsNumber, AsLine, AsSubroutine, Divisibility, Divisible, Indivisible, Group, Calculate, Convert, Move, Use, Test, TestGo, Divides, Single}
 
 -- an operand; a letter by its place from 0 for A
 abbrev pub operand_of : operand.Operand → Operand
@@ -54,6 +57,11 @@ usage_of usages.AsNumber = AsNumber
 usage_of usages.AsLine = AsLine
 usage_of usages.AsSubroutine = AsSubroutine
 
+-- what is asked about a multiple
+abbrev pub divisibility_of : divisibility.Divisibility → Divisibility
+divisibility_of divisibilities.Divisible = Divisible
+divisibility_of divisibilities.Indivisible = Indivisible
+
 -- a group
 abbrev pub group_of : group.Group → Group
 group_of (groups.Calculate op a b d) = Calculate op (operand_of a) (operand_of b) (destination_of d)
@@ -62,8 +70,16 @@ group_of (groups.Move a h) = Move (operand_of a) (home_of h)
 group_of (groups.Use how a) = Use (usage_of how) (operand_of a)
 group_of (groups.Test rel a b) = Test rel (tested_of a) (operand_of b)
 group_of (groups.TestGo rel a b to) = TestGo rel (tested_of a) (operand_of b) to
+group_of (groups.Divides how x d to) = Divides (divisibility_of how) (place x) (operand_of d) to
 group_of (groups.Single i) = Single (instr_of i.now)
 
 -- groups of which the last one stands first
 abbrev pub in_order : List group.Group → List Group
 in_order gs = reverse (map group_of gs)
+
+-- what the groups of a test by a divisor hold
+abbrev pub quotient_of : Letter × operand.Operand → ℕ × Operand
+quotient_of q = (place q.0, operand_of q.1)
+
+abbrev pub equality_of : divisibility.Divisibility × Letter × Option ℕ → Divisibility × ℕ × Option ℕ
+equality_of t = (divisibility_of t.0, place t.1, t.2)

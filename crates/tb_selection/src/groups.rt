@@ -61,6 +61,15 @@ pub enum Usage {
     AsSubroutine,
 }
 
+/// What a test by a divisor asks for.
+#[derive(Clone, Copy, Debug, Drop)]
+pub enum Divisibility {
+    /// A multiple of the divisor.
+    Divisible,
+    /// Any other word.
+    Indivisible,
+}
+
 /// Consecutive slot instructions that have one template.
 #[derive(Clone, Copy, Debug, Drop)]
 pub enum Group<'a> {
@@ -76,6 +85,8 @@ pub enum Group<'a> {
     Test(Rel, Tested, Operand),
     /// A test that goes straight to the line of this number where the two words are so related, and else leaves the line.
     TestGo(Rel, Tested, Operand, u16),
+    /// A test whether a divisor divides a variable, that leaves the line or goes straight to the line of this number.
+    Divides(Divisibility, Letter, Operand, Option<u16>),
     /// A single instruction.
     Single(&'a SlotInstr),
 }

@@ -2,10 +2,12 @@
 ghost use Rattle.std.specs.Prelude.{◌≡◌, IfOk, OnOk, map, option_map, drop};
 ghost use Rattle.tb_lower.specs.Shown.{instr_of};
 ghost use Rattle.tb_selection.specs.Groups.{expand_all};
+ghost use Rattle.tb_selection.specs.Laws.{AreChosen};
 ghost use Rattle.tb_selection.specs.Liveness.{live};
 ghost use Rattle.tb_selection.specs.Select as select;
 ghost use Rattle.tb_selection.specs.Shown.{in_order, conversion_of, group_of, operand_of, destination_of, tested_of, words_of};
 
+use crate::divisions::division;
 use crate::groups::{Conversion, Destination, Group, Home, Operand, Tested, Usage};
 use crate::liveness::{Live, live_before};
 use std::alloc::{AllocError, Global};
@@ -198,6 +200,7 @@ fn omits_only_dead(group: Group<'_>, behind: Live) -> bool
         Group::Test(_, left, right) | Group::TestGo(_, left, right, _) => {
             test_words_dead(left, right, behind)
         }
+        Group::Divides(_, _, _, _) => behind.slots == 0 && !behind.held,
         Group::Single(_) => true,
     }
 }
@@ -207,9 +210,40 @@ fn may_stand(group: Group<'_>, behind: &[Group<'_>]) -> bool
     ensures { result ≡ select.may_stand (group_of group.entry) (in_order behind.now) }
 {
     match group {
-        Group::TestGo(_, _, _, _) => behind.is_empty(),
+        Group::TestGo(_, _, _, _) | Group::Divides(_, _, _, Some(_)) => behind.is_empty(),
         _ => true,
     }
+}
+
+// Puts a group before groups, the first of which stands last and before which this is live: where it and the first two
+// of them ask whether a word divides a variable, one in their place. It answers what is live behind it.
+fn put_before<'a>(
+    groups: &mut Vec<Group<'a>>,
+    first: Group<'a>,
+    behind: Live,
+) -> Result<Live, AllocError>
+    requires behind { behind ≡ live (expand_all (in_order groups.old.items)) }
+    requires chosen { AreChosen (in_order groups.old.items) }
+    ensures put { OnOk result (in_order groups.new.items ≡ select.fused (group_of first.entry) (in_order groups.old.items)) }
+    ensures behind { IfOk result (λ r. r ≡ live (expand_all (drop 1 (in_order groups.new.items)))) }
+{
+    let Some(second) = groups.pop() else {
+        groups.push(first)?;
+        return Ok(behind);
+    };
+    let Some(third) = groups.pop() else {
+        groups.push(second)?;
+        groups.push(first)?;
+        return Ok(behind);
+    };
+    if let Some(whole) = division(first, second, third) {
+        groups.push(whole)?;
+        return Ok(Live::NOTHING);
+    }
+    groups.push(third)?;
+    groups.push(second)?;
+    groups.push(first)?;
+    Ok(behind)
 }
 
 // Puts an instruction before groups, the first of which stands last. Of those it is given what is live before all of
@@ -222,6 +256,7 @@ fn attach<'a>(
 ) -> Result<Live, AllocError>
     requires behind { behind ≡ live (expand_all (drop 1 (in_order groups.old.items))) }
     requires all { all ≡ live (expand_all (in_order groups.old.items)) }
+    requires chosen { AreChosen (in_order groups.old.items) }
     ensures attached { OnOk result (in_order groups.new.items ≡ select.attach (instr_of instr.now) (in_order groups.old.items)) }
     ensures behind { IfOk result (λ r. r ≡ live (expand_all (drop 1 (in_order groups.new.items)))) }
 {
@@ -231,8 +266,7 @@ fn attach<'a>(
     };
     match merged(instr, group) {
         Some(whole) if omits_only_dead(whole, behind) && may_stand(whole, groups) => {
-            groups.push(whole)?;
-            Ok(behind)
+            put_before(groups, whole, behind)
         }
         _ => {
             groups.push(group)?;

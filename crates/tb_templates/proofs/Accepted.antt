@@ -18,17 +18,19 @@ use Rattle.tb_asm.specs.Layout.{Entry, instr, label, bytes, word, suits, has_mod
 use Rattle.tb_asm.specs.Suited.{names_of, AreDistinct}
 use Rattle.tb_lower.specs.Control.{has_line}
 use Rattle.tb_lower.specs.Slots.{Instr, Put, Load, Store, Negate, Compute, Random, SendText, SendNumber, SendZone, SendNewline, Input, Poll, Hold, LeaveUnless, Jump, Call, JumpTo, CallTo, Return, End, SlotCode}
-use Rattle.tb_selection.specs.Groups.{Conversion, Negated, Drawn, Usage, AsNumber, AsLine, AsSubroutine, Group, Calculate, Convert, Move, Use, Test, TestGo, Single, denied, slot_of}
+use Rattle.tb_selection.specs.Groups.{Conversion, Negated, Drawn, Usage, AsNumber, AsLine, AsSubroutine, Variable, Divisibility, Divisible, Indivisible, Group, Calculate, Convert, Move, Use, Test, TestGo, Divides, Single, contrary, denied, slot_of}
 use Rattle.tb_selection.specs.Select.{select}
 use Rattle.tb_runtime16.specs.Places.{LEFT, RIGHT, RESULT, LINE, MULTIPLY_AT, DIVIDE_AT, RANDOM_AT}
 use Rattle.tb_templates.specs.declared.labels.Inner.TheVariants.{Skip}
 use Rattle.tb_templates.specs.declared.labels.Target.{Target}
 use Rattle.tb_templates.specs.declared.labels.Target.TheVariants.{Inside, Line}
-use Rattle.tb_templates.specs.Templates.{slot_at, var_at, on, template, faulted, jump_to, call_to, next_line, call, copied, constant}
+use Rattle.tb_templates.specs.Templates.{branch, slot_at, var_at, on, template, faulted, jump_to, call_to, next_line, call, copied, constant}
 use Rattle.tb_templates.specs.Sources.{Source, FixedWord, AtPlace, source_of, tested_source, home_at, destination_at}
-use Rattle.tb_templates.specs.GroupTemplates.{brought, summed, taken, handed, multiplied, divided, calculated, changed_or, converted, used, equal, unequal, ordered, tested, gone, may_fault, group_template, polled, lined, may_be_zero, may_have_none, is_zero, signed, weighed}
+use Rattle.tb_templates.specs.GroupTemplates.{brought, summed, taken, handed, multiplied, divided, calculated, changed_or, converted, used, equal, unequal, ordered, tested, gone, may_fault, group_template, polled, lined, may_be_zero, may_have_none, is_zero, signed, weighed, left_over, unless, divided_by, divided_gone, divides}
 use Rattle.tb_templates.specs.Scaled.{scaling, times, shifts, shifted}
 use Rattle.tb_templates.specs.InPlace.{Change, Increment, Decrement, Raise, Lower, Halve, Double, change_of, changed}
+use Rattle.tb_templates.specs.Masks.{mask}
+use Rattle.tb_templates.proofs.Divided.{left_over_plain}
 use Rattle.tb_templates.specs.Program.{rest_code, list_code, line_code, lines_code, past_code, find_code, rows_code, table_code, program_code}
 use Rattle.tb_settling.specs.Settled.{may_move}
 use Rattle.tb_syntax.specs.Source.{numbers}
@@ -227,6 +229,23 @@ gone_forms : (n : ℕ) (rel : Rel) (a b : Source) (skip next : Target) (t : Bool
 gone_forms n rel a b skip next true to = tested_forms (denied rel) a b skip (Line to)
 gone_forms n rel a b skip next false to = forms_append (tested rel a b skip next) (faulted n 1) (tested_forms rel a b skip next) refl
 
+-- ── divisibility ──
+divided_by_forms : (n : ℕ) (how : Divisibility) (a b : Source) (next : Target) → list_all has_form (divided_by n how a b next) ≡ true
+divided_by_forms n how a b next =
+    forms_append (left_over n (mask b) a b) (branch (unless how) next ∷ []) (plain_forms (left_over n (mask b) a b) (left_over_plain n (mask b) a b)) (by how)
+  where
+    by : (how : Divisibility) → list_all has_form (branch (unless how) next ∷ []) ≡ true
+    by Divisible = refl
+    by Indivisible = refl
+
+divides_forms : (ns : List ℕ) (n : ℕ) (how : Divisibility) (a b : Source) (to : Option ℕ) → list_all has_form (divides ns n how a b to) ≡ true
+divides_forms ns n how a b None = divided_by_forms n how a b (next_line ns n)
+divides_forms ns n how a b (Some to) = by (has_line ns to)
+  where
+    by : (t : Bool) → list_all has_form (divided_gone n how a b (next_line ns n) t to) ≡ true
+    by true = divided_by_forms n (contrary how) a b (Line to)
+    by false = forms_append (divided_by n how a b (next_line ns n)) (faulted n 1) (divided_by_forms n how a b (next_line ns n)) refl
+
 group_forms : (ns : List ℕ) (seed n i : ℕ) (g : Group) → list_all has_form (group_template ns seed n i g) ≡ true
 group_forms ns seed n i (Calculate op a b d) =
     let x = source_of (slot_of d) a in let y = source_of (slot_of d + 1) b in let to = destination_at d in
@@ -237,6 +256,7 @@ group_forms ns seed n i (Use how a) = used_forms n (next_line ns n) how (source_
 group_forms ns seed n i (Test rel a b) = tested_forms rel (tested_source a) (source_of 0 b) (Inside Skip n i) (next_line ns n)
 group_forms ns seed n i (TestGo rel a b to) =
     gone_forms n rel (tested_source a) (source_of 0 b) (Inside Skip n i) (next_line ns n) (has_line ns to) to
+group_forms ns seed n i (Divides how x d to) = divides_forms ns n how (source_of 0 (Variable x)) (source_of 1 d) to
 group_forms ns seed n i (Single c) = single_forms (may_fault c) ns n i c
 
 -- ── a program ──

@@ -19,16 +19,17 @@ use Rattle.tb_lower.specs.Control.{has_line}
 use Rattle.tb_lower.specs.Cost.{nodes, item_cost, command_cost, cost}
 use Rattle.tb_lower.specs.Lowered.{value_code, constant, or_constant, target_code, item_code, items_code, inputs_code, newline_code, command_code, program_code}
 use Rattle.tb_lower.specs.Slots.{Instr, Put, Load, Store, Negate, Compute, Random, SendText, SendNumber, SendZone, SendNewline, Input, Poll, Hold, LeaveUnless, Jump, Call, JumpTo, CallTo, Return, End}
-use Rattle.tb_selection.specs.Groups.{Conversion, Negated, Drawn, Usage, AsNumber, AsLine, AsSubroutine, Group, Calculate, Convert, Move, Use, Test, TestGo, Single, Home, IntoVariable, IntoHeld, slot_of, fetch, keep, kept, held, convert, use_of, denied, expand, expand_all}
+use Rattle.tb_selection.specs.Groups.{Conversion, Negated, Drawn, Usage, AsNumber, AsLine, AsSubroutine, Constant, Variable as OfVariable, InSlot, Operand, Divisibility, Divisible, Indivisible, Group, Calculate, Convert, Move, Use, Test, TestGo, Divides, Single, compared, contrary, multiple, onward, Home, IntoVariable, IntoHeld, slot_of, fetch, keep, kept, held, convert, use_of, denied, expand, expand_all}
 use Rattle.tb_selection.specs.Select.{select}
 use Rattle.tb_selection.proofs.Bracketed.{brackets}
 use Rattle.tb_runtime16.specs.Places.{LEFT, RIGHT, RESULT, MULTIPLY_AT, DIVIDE_AT, RANDOM_AT}
 use Rattle.tb_templates.specs.declared.labels.Inner.TheVariants.{Skip}
 use Rattle.tb_templates.specs.declared.labels.Target.{Target}
 use Rattle.tb_templates.specs.declared.labels.Target.TheVariants.{Inside, Line}
-use Rattle.tb_templates.specs.Templates.{const, next_line, call, copied, faulted, slot_at, var_at, on}
+use Rattle.tb_templates.specs.Templates.{branch, const, next_line, call, copied, faulted, slot_at, var_at, on}
 use Rattle.tb_templates.specs.Sources.{Source, FixedWord, AtPlace, source_of, tested_source, home_at, destination_at}
-use Rattle.tb_templates.specs.GroupTemplates.{low_of, high_of, brought, joined, handed, multiplied, divided, calculated, changed_or, converted, used, equal, unequal, ordered, tested, gone, group_template, polled, lined, may_be_zero, may_have_none, is_zero, signed, weighed}
+use Rattle.tb_templates.specs.GroupTemplates.{low_of, high_of, brought, joined, handed, multiplied, divided, calculated, changed_or, converted, used, equal, unequal, ordered, tested, gone, group_template, polled, lined, may_be_zero, may_have_none, is_zero, signed, weighed, told, remainder, left_over as beyond, unless, divided_by, divided_gone, divides}
+use Rattle.tb_templates.specs.Masks.{mask}
 use Rattle.tb_templates.specs.Scaled.{at_zero, rounded, raised, halved, halvings, high_first, shifts, shifted, by_bit, by_bits, bits_size, is_factor, scaling, low_first, times}
 use Rattle.tb_templates.specs.InPlace.{Change, Increment, Decrement, Raise, Lower, Halve, Double, change_of, changed}
 use Rattle.tb_templates.specs.Program.{rest_code, list_code}
@@ -226,6 +227,32 @@ gone_fits n rel a b skip next true to = let h = tested_fits (denied rel) a b ski
 gone_fits n rel a b skip next false to =
     let h = tested_fits rel a b skip next in let e = most_append (tested rel a b skip next) (faulted n 1) in omega (arith, h, e)
 
+-- ── divisibility ──
+left_over_fits : (n : ℕ) (o : Option ℕ) (a b : Source) → most (beyond n o a b) ≤ 43
+left_over_fits n (Some bits) a b = let l = low_most Lda a in omega (arith, l)
+left_over_fits n None a b =
+    let e = most_append (brought a LEFT) (brought b RIGHT ++ told) in let f = most_append (brought b RIGHT) told in
+    let p = brought_fits a LEFT in let q = brought_fits b RIGHT in
+    let l = lined_most (may_be_zero b) n (remainder a b) in
+    omega (arith, e, f, p, q, l)
+
+divided_by_fits : (n : ℕ) (how : Divisibility) (a b : Source) (next : Target) → most (divided_by n how a b next) ≤ 48
+divided_by_fits n how a b next =
+    let e = most_append (beyond n (mask b) a b) (branch (unless how) next ∷ []) in let h = left_over_fits n (mask b) a b in omega (arith, e, h)
+
+divides_fits : (ns : List ℕ) (n : ℕ) (how : Divisibility) (a b : Source) (to : Option ℕ) → most (divides ns n how a b to) ≤ 57
+divides_fits ns n how a b None = let h = divided_by_fits n how a b (next_line ns n) in omega (arith, h)
+divides_fits ns n how a b (Some to) = by (has_line ns to)
+  where
+    by : (t : Bool) → most (divided_gone n how a b (next_line ns n) t to) ≤ 57
+    by true = let h = divided_by_fits n (contrary how) a b (Line to) in omega (arith, h)
+    by false = let h = divided_by_fits n how a b (next_line ns n) in let e = most_append (divided_by n how a b (next_line ns n)) (faulted n 1) in omega (arith, h, e)
+
+multiple_room : (x : ℕ) (d : Operand) (is : List Instr) → 57 ≤ list_room (multiple x d is)
+multiple_room x (Constant w) is = omega arith
+multiple_room x (OfVariable y) is = omega arith
+multiple_room x InSlot is = omega arith
+
 keep_room : (home : Home) → room (keep home) ≡ 12
 keep_room (IntoVariable x) = refl
 keep_room IntoHeld = refl
@@ -256,6 +283,8 @@ group_fits ns seed n i (TestGo rel a b to) =
     let e = list_append (held a) (fetch 0 b ++ LeaveUnless rel ∷ JumpTo to ∷ []) in
     let f = list_append (fetch 0 b) (LeaveUnless rel ∷ JumpTo to ∷ []) in
     omega (arith, h, e, f)
+group_fits ns seed n i (Divides how x d to) =
+    let h = divides_fits ns n how (source_of 0 (OfVariable x)) (source_of 1 d) to in let m = multiple_room x d (Hold ∷ Load 0 x ∷ LeaveUnless (compared how) ∷ onward to) in omega (arith, h, m)
 group_fits ns seed n i (Single c) = let h = single_fits ns seed n i c in omega (arith, h)
 
 rest_fits : (ns : List ℕ) (seed n i : ℕ) (gs : List Group) → most (rest_code ns seed n i gs) ≤ list_room (expand_all gs)

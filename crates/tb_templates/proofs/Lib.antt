@@ -1,6 +1,7 @@
 pub mod Accepted
 pub mod Appends
 pub mod Bits
+pub mod Divided
 pub mod Factors
 pub mod Fitting
 pub mod Listed

@@ -12,7 +12,7 @@ use Rattle.tb_syntax.specs.Source.{numbers}
 use Rattle.tb_asm.specs.Layout.{Entry}
 use Rattle.tb_lower.specs.Control.{At, has_line, next_after}
 use Rattle.tb_lower.specs.Slots.{Instr, Put, Load, Store, Negate, Compute, Random, SendText, SendNumber, SendZone, SendNewline, Input, Poll, Hold, LeaveUnless, Jump, Call, JumpTo, CallTo, Return, End, SlotCode}
-use Rattle.tb_selection.specs.Groups.{Conversion, Negated, Drawn, Usage, AsNumber, AsLine, AsSubroutine, Group, Calculate, Convert, Move, Use, Test, TestGo, Single, denied, slot_of}
+use Rattle.tb_selection.specs.Groups.{Conversion, Negated, Drawn, Usage, AsNumber, AsLine, AsSubroutine, Variable, Divisibility, Divisible, Indivisible, Group, Calculate, Convert, Move, Use, Test, TestGo, Divides, Single, contrary, denied, slot_of}
 use Rattle.tb_selection.specs.Select.{select}
 use Rattle.tb_runtime16.specs.Places.{LEFT, RIGHT, RESULT, LINE, MULTIPLY_AT, DIVIDE_AT, RANDOM_AT}
 use Rattle.tb_templates.specs.declared.labels.Inner.{Inner}
@@ -20,11 +20,13 @@ use Rattle.tb_templates.specs.declared.labels.Inner.TheVariants as inner
 use Rattle.tb_templates.specs.Labels.{label_of, letter_of}
 use Rattle.tb_templates.specs.declared.labels.Target.{Target}
 use Rattle.tb_templates.specs.declared.labels.Target.TheVariants.{Line, Inside, Table}
-use Rattle.tb_templates.specs.Templates.{template, faulted, called, jump_to, next_line, target_of, call, copied, constant}
+use Rattle.tb_templates.specs.Templates.{branch, template, faulted, called, jump_to, next_line, target_of, call, copied, constant}
 use Rattle.tb_templates.specs.Sources.{Source, FixedWord, AtPlace, source_of, tested_source, home_at, destination_at}
-use Rattle.tb_templates.specs.GroupTemplates.{brought, joined, handed, multiplied, divided, calculated, changed_or, converted, used, equal, unequal, ordered, tested, gone, may_fault, group_template, polled, lined, may_be_zero, may_have_none, is_zero, signed, weighed}
+use Rattle.tb_templates.specs.GroupTemplates.{brought, joined, handed, multiplied, divided, calculated, changed_or, converted, used, equal, unequal, ordered, tested, gone, may_fault, group_template, polled, lined, may_be_zero, may_have_none, is_zero, signed, weighed, left_over, unless, divided_by, divided_gone, divides}
 use Rattle.tb_templates.specs.Scaled.{scaling, times, shifts, shifted}
 use Rattle.tb_templates.specs.InPlace.{Change, Increment, Decrement, Raise, Lower, Halve, Double, change_of, changed}
+use Rattle.tb_templates.specs.Masks.{mask}
+use Rattle.tb_templates.proofs.Divided.{left_over_plain}
 use Rattle.tb_templates.specs.Program.{rest_code, list_code, line_code, lines_code, past_code, find_code, rows_code, table_code, program_code, AreCodable, RisingFrom, first_of, AreInTurn}
 use Rattle.tb_templates.proofs.Listed.{by_poll}
 use Rattle.tb_templates.proofs.Plain.{plain_rises, times_plain, shifted_plain}
@@ -131,6 +133,18 @@ used_rises low high n next AsLine (AtPlace p) up = up
 used_rises low high n next AsSubroutine (FixedWord w) up = up
 used_rises low high n next AsSubroutine (AtPlace p) up = up
 
+divided_by_rises : (low high n : ℕ) (how : Divisibility) (a b : Source) (next : Target) → low ≤ high → Rising low (divided_by n how a b next) high
+divided_by_rises low high n how a b next up =
+    rising_append low low high (left_over n (mask b) a b) (branch (unless how) next ∷ []) (plain_rises low low (left_over n (mask b) a b) (omega arith) (left_over_plain n (mask b) a b)) up
+
+divides_rises : (low high : ℕ) (ns : List ℕ) (n : ℕ) (how : Divisibility) (a b : Source) (to : Option ℕ) → low ≤ high → Rising low (divides ns n how a b to) high
+divides_rises low high ns n how a b None up = divided_by_rises low high n how a b (next_line ns n) up
+divides_rises low high ns n how a b (Some to) up = by (has_line ns to)
+  where
+    by : (t : Bool) → Rising low (divided_gone n how a b (next_line ns n) t to) high
+    by true = divided_by_rises low high n (contrary how) a b (Line to) up
+    by false = rising_append low low high (divided_by n how a b (next_line ns n)) (faulted n 1) (divided_by_rises low low n how a b (next_line ns n) (omega arith)) up
+
 -- ── groups ──
 module _ (ns : List ℕ) (seed n i : ℕ) (small : n < 65536) (index : i < 65536) where
   up : base n i ≤ base n (i + 1)
@@ -196,6 +210,7 @@ module _ (ns : List ℕ) (seed n i : ℕ) (small : n < 65536) (index : i < 65536
   group_rises (Use how a) = used_rises (base n i) (base n (i + 1)) n (next_line ns n) how (source_of 0 a) up
   group_rises (Test rel a b) = test_rises rel (tested_source a) (source_of 0 b) (next_line ns n)
   group_rises (TestGo rel a b to) = gone_rises rel (tested_source a) (source_of 0 b) (has_line ns to) to
+  group_rises (Divides how x d to) = divides_rises (base n i) (base n (i + 1)) ns n how (source_of 0 (Variable x)) (source_of 1 d) to up
   group_rises (Single c) = single_rises (may_fault c) c
 
 rest_rises : (ns : List ℕ) (seed n i : ℕ) (gs : List Group) → n < 65536 → i + length gs ≤ 65536 → Rising (base n i) (rest_code ns seed n i gs) (base (n + 1) 0)

@@ -36,7 +36,7 @@ abbrev pub ArePlain : List Entry → Type 0
 ArePlain [] = Unit {0}
 ArePlain (e ∷ es) = IsPlain e × ArePlain es
 
-plain_append : (xs ys : List Entry) → ArePlain xs → ArePlain ys → ArePlain (xs ++ ys)
+pub plain_append : (xs ys : List Entry) → ArePlain xs → ArePlain ys → ArePlain (xs ++ ys)
 plain_append [] ys h k = k
 plain_append (x ∷ xs) ys h k = (h.0, plain_append xs ys h.1 k)
 
@@ -61,7 +61,7 @@ plain_rises low high (e ∷ es) up h = h.0.rises low high es (plain_rises low hi
 
 -- ── instructions, by their modes ──
 -- there is such an instruction
-abbrev Is : Mnemonic → Mode → Type 0
+abbrev pub Is : Mnemonic → Mode → Type 0
 Is n m = is_some (find_opcode rows n m) ≡ true
 
 formed : (b : Bool) → b ≡ true → (b && true) ≡ true
@@ -73,26 +73,26 @@ implied n h = record { form = formed (is_some (find_opcode rows n Implied)) h; s
 accumulator : (n : Mnemonic) → Is n Accumulator → IsPlain (on_a n)
 accumulator n h = record { form = formed (is_some (find_opcode rows n Accumulator)) h; straight = refl; known = λ l. refl; rises = λ low high es h. h }
 
-immediate : (n : Mnemonic) (b : ℕ) → Is n Immediate → IsPlain (const n b)
+pub immediate : (n : Mnemonic) (b : ℕ) → Is n Immediate → IsPlain (const n b)
 immediate n b h = record { form = formed (is_some (find_opcode rows n Immediate)) h; straight = refl; known = λ l. refl; rises = λ low high es h. h }
 
-zero_page : (n : Mnemonic) (p : ℕ) → Is n ZeroPage → IsPlain (at_zero n p)
+pub zero_page : (n : Mnemonic) (p : ℕ) → Is n ZeroPage → IsPlain (at_zero n p)
 zero_page n p h = record { form = formed (is_some (find_opcode rows n ZeroPage)) h; straight = refl; known = λ l. refl; rises = λ low high es h. h }
 
-absolute : (n : Mnemonic) (p : ℕ) → Is n Absolute → IsPlain (at n p)
+pub absolute : (n : Mnemonic) (p : ℕ) → Is n Absolute → IsPlain (at n p)
 absolute n p h = record { form = formed (is_some (find_opcode rows n Absolute)) h; straight = refl; known = λ l. refl; rises = λ low high es h. h }
 
-low_byte : (n : Mnemonic) (a : Source) → Is n Immediate → Is n Absolute → IsPlain (low_of n a)
+pub low_byte : (n : Mnemonic) (a : Source) → Is n Immediate → Is n Absolute → IsPlain (low_of n a)
 low_byte n (FixedWord w) h k = immediate n (w % 256) h
 low_byte n (AtPlace p) h k = absolute n p k
 
-high_byte : (n : Mnemonic) (a : Source) → Is n Immediate → Is n Absolute → IsPlain (high_of n a)
+pub high_byte : (n : Mnemonic) (a : Source) → Is n Immediate → Is n Absolute → IsPlain (high_of n a)
 high_byte n (FixedWord w) h k = immediate n (w / 256) h
 high_byte n (AtPlace p) h k = absolute n (p + 1) k
 
 -- one item and those behind it
 infixr 5 ◌▹◌
-◌▹◌ : {P Q : Type 0} → P → Q → P × Q
+pub ◌▹◌ : {P Q : Type 0} → P → Q → P × Q
 p ▹ q = (p, q)
 
 -- ── over a power of two ──

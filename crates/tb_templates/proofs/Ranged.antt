@@ -2,7 +2,7 @@
 use Rattle.std.proofs.Common.{◌≡◌, ◌+◌, ◌≤◌, List, [], ◌∷◌, ◌++◌, length, sym, subst, arith, length-append}
 use Rattle.tb_lower.specs.Ranges.{AreInRange}
 use Rattle.tb_lower.specs.Slots.{Instr, Compute, LeaveUnless, JumpTo}
-use Rattle.tb_selection.specs.Groups.{Group, Calculate, Convert, Move, Use, Test, TestGo, Single, slot_of, fetch, keep, kept, held, convert, use_of, expand, expand_all}
+use Rattle.tb_selection.specs.Groups.{Group, Calculate, Convert, Move, Use, Test, TestGo, Divides, Single, slot_of, fetch, keep, kept, held, convert, use_of, expand, expand_all}
 use Rattle.tb_selection.specs.Select.{select}
 use Rattle.tb_selection.proofs.Bracketed.{brackets}
 
@@ -23,6 +23,7 @@ one_expanded (TestGo rel a b to) =
     let p = length-append (held a) (fetch 0 b ++ LeaveUnless rel ∷ JumpTo to ∷ []) in
     let q = length-append (fetch 0 b) (LeaveUnless rel ∷ JumpTo to ∷ []) in
     omega (arith, p, q)
+one_expanded (Divides how x d to) = omega arith
 one_expanded (Single c) = omega arith
 
 all_expanded : (gs : List Group) → length gs ≤ length (expand_all gs)

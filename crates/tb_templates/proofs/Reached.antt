@@ -16,7 +16,7 @@ use Rattle.tb_asm.specs.Layout.{Entry, instr, size, size_of, address_in}
 use Rattle.tb_asm.specs.Settle.{unknown_fault}
 use Rattle.tb_lower.specs.Control.{At, has_line, next_after}
 use Rattle.tb_lower.specs.Slots.{Instr, Put, Load, Store, Negate, Compute, Random, SendText, SendNumber, SendZone, SendNewline, Input, Poll, Hold, LeaveUnless, Jump, Call, JumpTo, CallTo, Return, End, SlotCode}
-use Rattle.tb_selection.specs.Groups.{Conversion, Negated, Drawn, Usage, AsNumber, AsLine, AsSubroutine, Group, Calculate, Convert, Move, Use, Test, TestGo, Single, denied, slot_of}
+use Rattle.tb_selection.specs.Groups.{Conversion, Negated, Drawn, Usage, AsNumber, AsLine, AsSubroutine, Variable, Divisibility, Divisible, Indivisible, Group, Calculate, Convert, Move, Use, Test, TestGo, Divides, Single, contrary, denied, slot_of}
 use Rattle.tb_selection.specs.Select.{select}
 use Rattle.tb_syntax.specs.Source.{numbers}
 use Rattle.tb_runtime16.specs.Places.{LEFT, RIGHT, RESULT, LINE, WANTED, MULTIPLY_AT, DIVIDE_AT, RANDOM_AT, NUMBER_AT}
@@ -25,11 +25,13 @@ use Rattle.tb_templates.specs.declared.labels.Target.{Target}
 use Rattle.tb_templates.specs.declared.labels.Target.TheVariants as target
 use Rattle.tb_templates.specs.Labels.{label_of}
 use Rattle.tb_templates.specs.Layout.{LabelsAt}
-use Rattle.tb_templates.specs.Templates.{slot_at, var_at, on, template, jump, faulted, called, returned, find, note, jump_through, target_of, next_line, call, copied, constant}
+use Rattle.tb_templates.specs.Templates.{branch, slot_at, var_at, on, template, jump, faulted, called, returned, find, note, jump_through, target_of, next_line, call, copied, constant}
 use Rattle.tb_templates.specs.Sources.{Source, FixedWord, AtPlace, source_of, tested_source, home_at, destination_at}
-use Rattle.tb_templates.specs.GroupTemplates.{low_of, high_of, brought, joined, handed, multiplied, divided, calculated, changed_or, converted, searched, used, equal, unequal, ordered, tested, gone, may_fault, group_template, polled, lined, may_be_zero, may_have_none, is_zero, signed, weighed}
+use Rattle.tb_templates.specs.GroupTemplates.{low_of, high_of, brought, joined, handed, multiplied, divided, calculated, changed_or, converted, searched, used, equal, unequal, ordered, tested, gone, may_fault, group_template, polled, lined, may_be_zero, may_have_none, is_zero, signed, weighed, left_over, unless, divided_by, divided_gone, divides}
 use Rattle.tb_templates.specs.Scaled.{scaling, times, shifts, shifted}
 use Rattle.tb_templates.specs.InPlace.{Change, Increment, Decrement, Raise, Lower, Halve, Double, change_of, changed}
+use Rattle.tb_templates.specs.Masks.{mask}
+use Rattle.tb_templates.proofs.Divided.{left_over_plain}
 use Rattle.tb_templates.specs.Program.{rest_code, list_code, line_code, lines_code, past_code, find_code, rows_code, table_code, block_code, program_code}
 use Rattle.tb_settling.specs.Settled.{AllKnown}
 use Rattle.tb_templates.proofs.Listed.{by_poll}
@@ -279,6 +281,19 @@ module _ (labels : List (Name × ℕ)) (ns : List ℕ) (known : Known labels ns)
       let code = tested rel a b skip next in
       known_append labels code (faulted n 1) (tested_known at rel a b skip next t (labels_split labels at code (faulted n 1) h).0) (refl ▹ refl ▹ refl ▹ refl ▹ tt)
 
+  -- ── divisibility ──
+  divided_by_known : (n : ℕ) (how : Divisibility) (a b : Source) (next : Target) → Stands labels next → AllKnown labels (divided_by n how a b next)
+  divided_by_known n how a b next t =
+      known_append labels (left_over n (mask b) a b) (branch (unless how) next ∷ []) (plain_known labels (left_over n (mask b) a b) (left_over_plain n (mask b) a b)) (to_label next t ▹ tt)
+
+  divides_known : (n : ℕ) (how : Divisibility) (a b : Source) (to : Option ℕ) → AllKnown labels (divides ns n how a b to)
+  divides_known n how a b None = divided_by_known n how a b (next_line ns n) (next_known n)
+  divides_known n how a b (Some to) = by (has_line ns to) refl
+    where
+      by : (t : Bool) → has_line ns to ≡ t → AllKnown labels (divided_gone n how a b (next_line ns n) t to)
+      by true e = divided_by_known n (contrary how) a b (target.Line to) (known.lines to e)
+      by false e = known_append labels (divided_by n how a b (next_line ns n)) (faulted n 1) (divided_by_known n how a b (next_line ns n) (next_known n)) (refl ▹ refl ▹ refl ▹ refl ▹ tt)
+
   -- ── groups ──
   group_known : (seed n i at : ℕ) (g : Group) → LabelsAt labels at (group_template ns seed n i g) → AllKnown labels (group_template ns seed n i g)
   group_known seed n i at (Calculate op a b d) h =
@@ -290,6 +305,7 @@ module _ (labels : List (Name × ℕ)) (ns : List ℕ) (known : Known labels ns)
   group_known seed n i at (Test rel a b) h = tested_known at rel (tested_source a) (source_of 0 b) (target.Inside inner.Skip n i) (next_line ns n) (next_known n) h
   group_known seed n i at (TestGo rel a b to) h =
       gone_known n at rel (tested_source a) (source_of 0 b) (target.Inside inner.Skip n i) (next_line ns n) (has_line ns to) to refl (next_known n) h
+  group_known seed n i at (Divides how x d to) h = divides_known n how (source_of 0 (Variable x)) (source_of 1 d) to
   group_known seed n i at (Single c) h = single_known n i at (may_fault c) c h
 
   rest_known : (seed n i a : ℕ) (gs : List Group) → LabelsAt labels a (rest_code ns seed n i gs) → AllKnown labels (rest_code ns seed n i gs)

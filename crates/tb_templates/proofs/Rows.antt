@@ -2,8 +2,8 @@
 use Rattle.std.specs.Prelude.{◌≡◌, ℕ, true, List, [], ◌∷◌, ◌++◌, refl, false, Some, None}
 use Rattle.tb_opcodes.specs.declared.Mnemonic.{Mnemonic}
 use Rattle.tb_opcodes.specs.declared.Mode.TheVariants.{ZeroPage}
-use Rattle.tb_opcodes.specs.declared.Mnemonic.TheVariants.{Adc, Bcc, Bcs, Bmi, Bne, Bpl, Bvc, Clc, Cmp, Eor, Dec, Inc, Jmp, Lda, Ldx, Ldy, Rts, Sbc, Sec, Sta, And, Asl, Rol, Ror, Tax, Txa}
-use Rattle.tb_words.specs.declared.Rel.TheVariants.{Eq, Lt}
+use Rattle.tb_opcodes.specs.declared.Mnemonic.TheVariants.{Adc, Bcc, Bcs, Bmi, Bne, Bpl, Bvc, Clc, Cmp, Eor, Dec, Inc, Jmp, Lda, Ldx, Ldy, Rts, Sbc, Sec, Sta, And, Asl, Rol, Ror, Tax, Txa, Beq, Ora}
+use Rattle.tb_words.specs.declared.Rel.TheVariants.{Eq, Lt, Ne}
 use Rattle.tb_syntax.specs.declared.expressions.Operator.TheVariants.{Add, Subtract, Divide, Multiply}
 use Rattle.tb_syntax.specs.Source.{Number, Variable, Negate, Random, Value, Binary, Command, Let, Print, If, Goto, Gosub, End}
 use Rattle.tb_lower.specs.Lowered as lowered
@@ -14,6 +14,7 @@ use Rattle.tb_templates.specs.declared.labels.Inner.TheVariants.{Skip}
 use Rattle.tb_templates.specs.declared.labels.Target.TheVariants.{Line, Inside}
 use Rattle.tb_templates.specs.Templates.{at, const, alone, branch, here, call, address, find, jump_through}
 use Rattle.tb_templates.specs.Scaled.{at_zero, is_factor, on_a, shifts_of}
+use Rattle.tb_templates.specs.Masks.{mask_of}
 use Rattle.tb_templates.specs.Program.{line_code}
 
 -- the items of a line of a program with the lines 10, 20 and 30
@@ -129,6 +130,24 @@ double : items 10 (Let 0 (Binary Multiply (Number 2) (Variable 0)))
     ≡ here (Line 10) ∷ call 0xFFE4 ∷ const Cmp 3 ∷ branch Bne (Inside Skip 10 0) ∷ const Ldx 10 ∷ const Ldy 0 ∷ const Lda 0 ∷ at Jmp FAULT_LINE_AT ∷ here (Inside Skip 10 0)
     ∷ at Asl 0xC000 ∷ at Rol 0xC001 ∷ []
 double = refl
+
+-- 20 IF A/4*4=A GOTO 10: straight to line 10 where the two lowest bits are 0
+by_four : items 20 (If (Binary Multiply (Binary Divide (Variable 0) (Number 4)) (Number 4)) Eq (Variable 0) (Goto (Number 10)))
+    ≡ here (Line 20) ∷ call 0xFFE4 ∷ const Cmp 3 ∷ branch Bne (Inside Skip 20 0) ∷ const Ldx 20 ∷ const Ldy 0 ∷ const Lda 0 ∷ at Jmp FAULT_LINE_AT ∷ here (Inside Skip 20 0)
+    ∷ at Lda 0xC000 ∷ const And 3 ∷ branch Beq (Line 10) ∷ []
+by_four = refl
+
+-- 20 IF A/B*B<>A END: one division, which notes its line, and on to line 30 where its remainder is 0
+divided : items 20 (If (Binary Multiply (Binary Divide (Variable 0) (Variable 1)) (Variable 1)) Ne (Variable 0) End)
+    ≡ here (Line 20) ∷ call 0xFFE4 ∷ const Cmp 3 ∷ branch Bne (Inside Skip 20 0) ∷ const Ldx 20 ∷ const Ldy 0 ∷ const Lda 0 ∷ at Jmp FAULT_LINE_AT ∷ here (Inside Skip 20 0)
+    ∷ const Lda 20 ∷ at Sta 0xC03A ∷ const Lda 0 ∷ at Sta 0xC03B
+    ∷ at Lda 0xC000 ∷ page_zero Sta 0xFB ∷ at Lda 0xC001 ∷ page_zero Sta 0xFC ∷ at Lda 0xC002 ∷ page_zero Sta 0xFD ∷ at Lda 0xC003 ∷ page_zero Sta 0xFE ∷ call DIVIDE_AT
+    ∷ at Lda 0xC066 ∷ at Ora 0xC067 ∷ branch Beq (Line 30) ∷ alone Rts ∷ []
+divided = refl
+
+-- the divisors 2 to 256 that are powers of two are told by bits; 1, 3 and 512 are not
+masks : (mask_of 1 ≡ None) × (mask_of 2 ≡ Some 1) × (mask_of 3 ≡ None) × (mask_of 256 ≡ Some 255) × (mask_of 512 ≡ None)
+masks = (refl, refl, refl, refl, refl)
 
 -- 10 LET A=3*A: twice A and A, in place
 thrice : items 10 (Let 0 (Binary Multiply (Number 3) (Variable 0)))

@@ -1,7 +1,7 @@
 -- The code of each group, as items of the assembler.
 use Rattle.std.specs.Prelude.{ℕ, ◌+◌, Bool, true, false, List, [], ◌∷◌, ◌++◌, if◌then◌else◌, Option, Some, None, ◌||◌, nat_eq, nat_le}
 use Rattle.tb_opcodes.specs.declared.Mnemonic.{Mnemonic}
-use Rattle.tb_opcodes.specs.declared.Mnemonic.TheVariants.{Adc, Beq, Bmi, Bne, Bpl, Bvc, Clc, Cmp, Eor, Jsr, Lda, Sbc, Sec, Sta}
+use Rattle.tb_opcodes.specs.declared.Mnemonic.TheVariants.{Adc, Beq, Bmi, Bne, Bpl, Bvc, Clc, Cmp, Eor, Jsr, Lda, Ora, Sbc, Sec, Sta}
 use Rattle.tb_asm.specs.Layout.{Entry}
 use Rattle.tb_words.specs.declared.Rel.{Rel}
 use Rattle.tb_words.specs.declared.Rel.TheVariants.{Eq, Lt, Gt, Le, Ge, Ne}
@@ -9,7 +9,7 @@ use Rattle.tb_syntax.specs.declared.expressions.Operator.{Operator}
 use Rattle.tb_syntax.specs.declared.expressions.Operator.TheVariants.{Add, Subtract, Multiply, Divide}
 use Rattle.tb_lower.specs.Control.{has_line}
 use Rattle.tb_lower.specs.Slots.{Instr, Input, Poll}
-use Rattle.tb_selection.specs.Groups.{Conversion, Negated, Drawn, Usage, AsNumber, AsLine, AsSubroutine, Group, Calculate, Convert, Move, Use, Test, TestGo, Single, denied, slot_of}
+use Rattle.tb_selection.specs.Groups.{Conversion, Negated, Drawn, Usage, AsNumber, AsLine, AsSubroutine, Variable, Divisibility, Divisible, Indivisible, Group, Calculate, Convert, Move, Use, Test, TestGo, Divides, Single, contrary, denied, slot_of}
 use Rattle.tb_runtime16.specs.Places.{LEFT, RIGHT, RESULT, WANTED, LINE, GETIN, MULTIPLY_AT, DIVIDE_AT, RANDOM_AT, NUMBER_AT}
 use Rattle.tb_templates.specs.declared.labels.Inner.TheVariants.{Skip}
 use Rattle.tb_templates.specs.declared.labels.Target.{Target}
@@ -19,6 +19,7 @@ use Rattle.tb_templates.specs.Sources.{Source, FixedWord, AtPlace, source_of, te
 pub use Rattle.tb_templates.specs.Sources.{low_of, high_of}
 use Rattle.tb_templates.specs.Scaled.{scaling, times, shifts, shifted}
 use Rattle.tb_templates.specs.InPlace.{Change, change_of, changed}
+use Rattle.tb_templates.specs.Masks.{mask, lowest_bits}
 
 -- ── words ──
 -- a word to a place
@@ -137,6 +138,39 @@ abbrev pub gone : ℕ → Rel → Source → Source → Target → Target → Bo
 gone n rel a b skip next true to = tested (denied rel) a b skip (Line to)
 gone n rel a b skip next false to = tested rel a b skip next ++ faulted n 1
 
+-- ── divisibility ──
+-- the size of a division's remainder, of which Z is whether it is 0
+abbrev pub told : List Entry
+told = call DIVIDE_AT ∷ at Lda RESULT ∷ at Ora (RESULT + 1) ∷ []
+
+-- the same of a word over another one
+abbrev pub remainder : Source → Source → List Entry
+remainder a b = brought a LEFT ++ (brought b RIGHT ++ told)
+
+-- of line n, in Z whether a divisor divides a word: by the word's lowest bits where that is a power of two
+abbrev pub left_over : ℕ → Option ℕ → Source → Source → List Entry
+left_over n (Some bits) a b = lowest_bits bits a
+left_over n None a b = lined (may_be_zero b) n (remainder a b)
+
+-- the branch that leaves unless a word is what is asked for
+abbrev pub unless : Divisibility → Mnemonic
+unless Divisible = Bne
+unless Indivisible = Beq
+
+-- leaves line n unless a word is a multiple of a divisor, or unless it is none
+abbrev pub divided_by : ℕ → Divisibility → Source → Source → Target → List Entry
+divided_by n how a b next = left_over n (mask b) a b ++ (branch (unless how) next ∷ [])
+
+-- straight to a line where it is so, as `gone` does
+abbrev pub divided_gone : ℕ → Divisibility → Source → Source → Target → Bool → ℕ → List Entry
+divided_gone n how a b next true to = divided_by n (contrary how) a b (Line to)
+divided_gone n how a b next false to = divided_by n how a b next ++ faulted n 1
+
+-- to a line, if to one
+abbrev pub divides : List ℕ → ℕ → Divisibility → Source → Source → Option ℕ → List Entry
+divides numbers n how a b None = divided_by n how a b (next_line numbers n)
+divides numbers n how a b (Some to) = divided_gone n how a b (next_line numbers n) (has_line numbers to) to
+
 -- ── templates ──
 -- whether a routine that a single instruction calls in any case may fault: then the line's number is set first
 abbrev pub may_fault : Instr → Bool
@@ -157,6 +191,7 @@ group_template numbers seed n i (Use how a) = used n (next_line numbers n) how (
 group_template numbers seed n i (Test rel a b) = tested rel (tested_source a) (source_of 0 b) (Inside Skip n i) (next_line numbers n)
 group_template numbers seed n i (TestGo rel a b to) =
     gone n rel (tested_source a) (source_of 0 b) (Inside Skip n i) (next_line numbers n) (has_line numbers to) to
+group_template numbers seed n i (Divides how x d to) = divides numbers n how (source_of 0 (Variable x)) (source_of 1 d) to
 group_template numbers seed n i (Single c) = single numbers n i c
 
 -- asks for an answer, and skips what is done for the STOP key, 3, where it is another one or none

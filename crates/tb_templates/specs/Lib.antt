@@ -3,6 +3,7 @@ pub mod Templates
 pub mod Sources
 pub mod Scaled
 pub mod InPlace
+pub mod Masks
 pub mod GroupTemplates
 pub mod Program
 pub mod Sizes

@@ -17,6 +17,7 @@ ghost use Rattle.tb_templates.specs.GroupTemplates as groups;
 ghost use Rattle.tb_templates.specs.Scaled.{scaling, shifts};
 ghost use Rattle.tb_templates.specs.Program.{RisingFrom};
 
+use crate::divisions::put_divides;
 use crate::in_place::{change_of, put_changed};
 use crate::labels::{Inner, Target};
 use crate::pieces::{
@@ -33,7 +34,7 @@ use tb_asm::Item;
 use tb_lower::SlotInstr;
 use tb_opcodes::Mnemonic;
 use tb_runtime16::{LEFT, LINE, RESULT, RIGHT, Routine, WANTED};
-use tb_selection::{Conversion, Group, Usage};
+use tb_selection::{Conversion, Group, Operand, Usage};
 use tb_syntax::Operator;
 use tb_words::Rel;
 
@@ -46,8 +47,8 @@ const STOP: u8 = 3;
 // The fault of the STOP key.
 const BREAK: u8 = 0;
 
-// A word to a place.
-fn put_brought(items: &mut Vec<Item>, word: Source, to: u16) -> Result<(), AllocError>
+/// A word to a place.
+pub fn put_brought(items: &mut Vec<Item>, word: Source, to: u16) -> Result<(), AllocError>
     requires { IsWhole word × (to < 65535) }
     ensures { OnOk result (map entry_of items.new.items ≡ map entry_of items.old.items ++ groups.brought word to) }
 {
@@ -113,8 +114,8 @@ fn put_handed(
     Ok(())
 }
 
-// The line's number, where what follows may fault.
-fn put_lined(items: &mut Vec<Item>, may_fault: bool, line: u16) -> Result<(), AllocError>
+/// The line's number, where what follows may fault.
+pub fn put_lined(items: &mut Vec<Item>, may_fault: bool, line: u16) -> Result<(), AllocError>
     ensures { OnOk result (map entry_of items.new.items ≡ map entry_of items.old.items ++ groups.lined may_fault line []) }
 {
     if may_fault {
@@ -124,8 +125,8 @@ fn put_lined(items: &mut Vec<Item>, may_fault: bool, line: u16) -> Result<(), Al
     }
 }
 
-// Whether a division by this word may fault.
-fn may_be_zero(word: Source) -> bool
+/// Whether a division by this word may fault.
+pub fn may_be_zero(word: Source) -> bool
     ensures { result ≡ groups.may_be_zero word }
 {
     match word {
@@ -580,6 +581,13 @@ pub fn put_group(
         Group::TestGo(rel, left, right, to) => {
             let (left, right) = (tested_source(left), source_of(0, right));
             put_gone(items, numbers, spot, rel, left, right, to)
+        }
+        Group::Divides(how, letter, divisor, to) => {
+            let (left, right) = (
+                source_of(0, Operand::Variable(letter)),
+                source_of(1, divisor),
+            );
+            put_divides(items, numbers, spot, how, left, right, to)
         }
         Group::Single(instruction) => put_single(items, numbers, spot, instruction),
     }

@@ -1,0 +1,204 @@
+//! Tests whether a divisor divides a word.
+ghost use Rattle.std.specs.Prelude.{◌≡◌, ◌+◌, ◌<◌, OnOk, [], ◌∷◌, ◌++◌, map};
+ghost use Rattle.tb_asm.specs.Layout.{entry_of};
+ghost use Rattle.tb_lower.specs.Control.{has_line};
+ghost use Rattle.tb_selection.specs.Groups as selection;
+ghost use Rattle.tb_selection.specs.Shown.{divisibility_of};
+ghost use Rattle.tb_templates.specs.Templates as templates;
+ghost use Rattle.tb_templates.specs.Sources.{IsWhole};
+ghost use Rattle.tb_templates.specs.GroupTemplates as groups;
+ghost use Rattle.tb_templates.specs.Masks as masks;
+ghost use Rattle.tb_templates.specs.Program.{RisingFrom};
+
+use crate::groups::{may_be_zero, put_brought, put_lined};
+use crate::labels::Target;
+use crate::pieces::{put_at, put_branch, put_call, put_const, put_faulted};
+use crate::sources::{Source, put_low};
+use crate::templates::{NO_LINE, Spot, has_number};
+use std::alloc::AllocError;
+use tb_asm::Item;
+use tb_opcodes::Mnemonic;
+use tb_runtime16::{LEFT, RESULT, RIGHT, Routine};
+use tb_selection::Divisibility;
+
+// For a power of two from 2 to 256 the one less.
+fn mask_of(divisor: u16) -> Option<u8>
+    ensures { result ≡ masks.mask_of divisor }
+{
+    match divisor {
+        2 => Some(1),
+        4 => Some(3),
+        8 => Some(7),
+        16 => Some(15),
+        32 => Some(31),
+        64 => Some(63),
+        128 => Some(127),
+        256 => Some(255),
+        _ => None,
+    }
+}
+
+// For a divisor that is such a power the bits that its multiples don't have.
+fn mask(divisor: Source) -> Option<u8>
+    ensures { result ≡ masks.mask divisor }
+{
+    match divisor {
+        Source::FixedWord(word) => mask_of(word),
+        Source::AtPlace(_) => None,
+    }
+}
+
+// These bits of a word.
+fn put_lowest_bits(items: &mut Vec<Item>, bits: u8, word: Source) -> Result<(), AllocError>
+    ensures { OnOk result (map entry_of items.new.items ≡ map entry_of items.old.items ++ masks.lowest_bits bits word) }
+{
+    put_low(items, Mnemonic::Lda, word)?;
+    put_const(items, Mnemonic::And, bits)
+}
+
+// The size of a division's remainder.
+fn put_told(items: &mut Vec<Item>) -> Result<(), AllocError>
+    ensures { OnOk result (map entry_of items.new.items ≡ map entry_of items.old.items ++ groups.told) }
+{
+    put_call(items, Routine::Divide)?;
+    put_at(items, Mnemonic::Lda, RESULT)?;
+    put_at(items, Mnemonic::Ora, RESULT + 1)
+}
+
+// The same of a word over another one.
+fn put_remainder(items: &mut Vec<Item>, left: Source, right: Source) -> Result<(), AllocError>
+    requires { IsWhole left × IsWhole right }
+    ensures { OnOk result (map entry_of items.new.items ≡ map entry_of items.old.items ++ groups.remainder left right) }
+{
+    put_brought(items, left, LEFT)?;
+    put_brought(items, right, RIGHT)?;
+    put_told(items)?;
+    Ok(())
+}
+
+// The remainder in a line.
+fn put_remainder_in(
+    items: &mut Vec<Item>,
+    line: u16,
+    left: Source,
+    right: Source,
+) -> Result<(), AllocError>
+    requires { IsWhole left × IsWhole right }
+    ensures { OnOk result (map entry_of items.new.items ≡ map entry_of items.old.items ++ groups.lined (groups.may_be_zero right) line (groups.remainder left right)) }
+{
+    put_lined(items, may_be_zero(right), line)?;
+    put_remainder(items, left, right)?;
+    Ok(())
+}
+
+// What a divisor leaves of a word.
+fn put_left_over(
+    items: &mut Vec<Item>,
+    line: u16,
+    left: Source,
+    right: Source,
+) -> Result<(), AllocError>
+    requires { IsWhole left × IsWhole right }
+    ensures { OnOk result (map entry_of items.new.items ≡ map entry_of items.old.items ++ groups.left_over line (masks.mask right) left right) }
+{
+    match mask(right) {
+        Some(bits) => put_lowest_bits(items, bits, left),
+        None => put_remainder_in(items, line, left, right),
+    }
+}
+
+// The branch that leaves unless a word is what is asked for.
+fn unless(how: Divisibility) -> Mnemonic
+    ensures { result ≡ groups.unless (divisibility_of how) }
+{
+    match how {
+        Divisibility::Divisible => Mnemonic::Bne,
+        Divisibility::Indivisible => Mnemonic::Beq,
+    }
+}
+
+// The other question.
+fn contrary(how: Divisibility) -> Divisibility
+    ensures { divisibility_of result ≡ selection.contrary (divisibility_of how) }
+{
+    match how {
+        Divisibility::Divisible => Divisibility::Indivisible,
+        Divisibility::Indivisible => Divisibility::Divisible,
+    }
+}
+
+// Leaves a line unless a word is a multiple of a divisor, or unless it is none.
+fn put_divided_by(
+    items: &mut Vec<Item>,
+    line: u16,
+    how: Divisibility,
+    left: Source,
+    right: Source,
+    next: Target,
+) -> Result<(), AllocError>
+    requires { IsWhole left × IsWhole right }
+    ensures { OnOk result (map entry_of items.new.items ≡ map entry_of items.old.items ++ groups.divided_by line (divisibility_of how) left right next) }
+{
+    put_left_over(items, line, left, right)?;
+    put_branch(items, unless(how), next)?;
+    Ok(())
+}
+
+// The same, and then a fault for want of a line.
+fn put_divided_lost(
+    items: &mut Vec<Item>,
+    spot: Spot,
+    how: Divisibility,
+    left: Source,
+    right: Source,
+) -> Result<(), AllocError>
+    requires { IsWhole left × IsWhole right }
+    ensures { OnOk result (map entry_of items.new.items ≡ map entry_of items.old.items ++ (groups.divided_by spot.line (divisibility_of how) left right spot.next ++ templates.faulted spot.line 1)) }
+{
+    put_divided_by(items, spot.line, how, left, right, spot.next)?;
+    put_faulted(items, spot.line, NO_LINE)?;
+    Ok(())
+}
+
+// Goes straight to a line where a word is what is asked for. Where there is no such line, it is fault 1.
+fn put_divided_gone(
+    items: &mut Vec<Item>,
+    numbers: &[u16],
+    spot: Spot,
+    how: Divisibility,
+    left: Source,
+    right: Source,
+    to: u16,
+) -> Result<(), AllocError>
+    requires rising { RisingFrom 0 numbers.now }
+    requires whole { IsWhole left × IsWhole right }
+    ensures { OnOk result (map entry_of items.new.items ≡ map entry_of items.old.items ++ groups.divided_gone spot.line (divisibility_of how) left right spot.next (has_line numbers.now to) to) }
+{
+    if has_number(numbers, to) {
+        let line = Target::Line(to);
+        put_divided_by(items, spot.line, contrary(how), left, right, line)
+    } else {
+        put_divided_lost(items, spot, how, left, right)
+    }
+}
+
+/// A test whether a divisor divides a word, that goes to a line, if to one.
+pub fn put_divides(
+    items: &mut Vec<Item>,
+    numbers: &[u16],
+    spot: Spot,
+    how: Divisibility,
+    left: Source,
+    right: Source,
+    to: Option<u16>,
+) -> Result<(), AllocError>
+    requires rising { RisingFrom 0 numbers.now }
+    requires next { spot.next ≡ templates.next_line numbers.now spot.line }
+    requires whole { IsWhole left × IsWhole right }
+    ensures { OnOk result (map entry_of items.new.items ≡ map entry_of items.old.items ++ groups.divides numbers.now spot.line (divisibility_of how) left right to) }
+{
+    match to {
+        Some(to) => put_divided_gone(items, numbers, spot, how, left, right, to),
+        None => put_divided_by(items, spot.line, how, left, right, spot.next),
+    }
+}
