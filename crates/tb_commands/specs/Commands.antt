@@ -1,9 +1,8 @@
 -- The commands that lines spell.
-use Rattle.std.specs.Prelude.{ℕ, ◌-◌, ◌==◌, ◌&&◌, nat_le, List, [], ◌∷◌, length, Option, Some, None, if◌then◌else◌}
-use Rattle.std.specs.List.{list_all}
+use Rattle.std.specs.Prelude.{ℕ, ◌==◌, nat_le, List, [], ◌∷◌, Option, Some, None, if◌then◌else◌}
+use Rattle.std.specs.Option.{option_and_then}
 use Rattle.tb_words.specs.Letters.{place}
-use Rattle.tb_grammar.specs.Grammar.{value_after}
-use Rattle.tb_grammar.specs.Reading.{is_digit, is_letter}
+use Rattle.tb_command_parts.specs.Parts.{number_of, variable_in}
 use Rattle.tb_commands.specs.declared.command.Command.{Command}
 use Rattle.tb_commands.specs.declared.command.Command.TheVariants as command
 
@@ -29,24 +28,19 @@ asked_of command.Depth = Depth
 asked_of command.Quit = Quit
 asked_of command.Unknown = Unknown
 
--- what digits stand for behind a number, up to 65,535
-abbrev pub number_behind : ℕ → List ℕ → Option ℕ
-number_behind n ds = if list_all is_digit ds && nat_le (value_after n ds) 65535 then Some (value_after n ds) else None
-
 -- the number that one to five digits spell, up to 65,535
-abbrev pub number_of : List ℕ → Option ℕ
-number_of ds = if nat_le 1 (length ds) && nat_le (length ds) 5 then number_behind 0 ds else None
+abbrev pub line_in : List ℕ → Option ℕ
+line_in ds = option_and_then (λ n. if nat_le n 65535 then Some n else None) (number_of 5 ds)
 
 -- what `g` asks for: a walk to a line; None, a text that is no line number, is no command
 abbrev pub going : Option ℕ → Asked
 going (Some line) = Go line
 going None = Unknown
 
--- a variable's name is one letter, capital or small
-abbrev pub variable_named : List ℕ → Asked
-variable_named [] = Unknown
-variable_named (b ∷ []) = if is_letter b then Variable (b - 65) else if nat_le 97 b && nat_le b 122 then Variable (b - 97) else Unknown
-variable_named (b ∷ c ∷ text) = Unknown
+-- what `v` asks for: a variable; None, a text that names none, is no command
+abbrev pub naming : Option ℕ → Asked
+naming (Some index) = Variable index
+naming None = Unknown
 
 -- a letter alone: s, b, d or q
 abbrev pub alone : ℕ → Asked
@@ -54,7 +48,7 @@ alone c = if c == 115 then Step else if c == 98 then Back else if c == 100 then 
 
 -- a letter before a text: g, v or e
 abbrev pub with_text : ℕ → List ℕ → Asked
-with_text c text = if c == 103 then going (number_of text) else if c == 118 then variable_named text else if c == 101 then Value text else Unknown
+with_text c text = if c == 103 then going (line_in text) else if c == 118 then naming (variable_in text) else if c == 101 then Value text else Unknown
 
 -- a line; one space stands between the letter and the text
 abbrev pub asked_in : List ℕ → Asked

@@ -1,8 +1,12 @@
 //! Commands, as lines spell them.
-ghost use Rattle.std.specs.Prelude.{◌≡◌, ◌≤◌, length};
-ghost use Rattle.tb_commands.specs.Commands.{asked_of, asked_in, alone, with_text, variable_named, number_behind, number_of};
+ghost use Rattle.std.specs.Prelude.{◌≡◌};
+ghost use Rattle.tb_commands.specs.Commands.{asked_of, asked_in, alone, with_text, line_in};
 
+use tb_command_parts::{number, variable};
 use tb_words::Letter;
+
+/// The most digits of a line number.
+const MOST_DIGITS: usize = 5;
 
 /// What a line asks for.
 #[derive(Clone, Copy, PartialEq, Eq, Debug, Drop)]
@@ -55,53 +59,27 @@ fn with_text(letter: u8, text: &[u8]) -> Command<'_>
     ensures { asked_of result ≡ with_text letter text.now }
 {
     match letter {
-        b'g' => match number(text) {
+        b'g' => match line_in(text) {
             Some(line) => Command::Go(line),
             None => Command::Unknown,
         },
-        b'v' => variable(text),
+        b'v' => match variable(text) {
+            Some(letter) => Command::Variable(letter),
+            None => Command::Unknown,
+        },
         b'e' => Command::Value(text),
         _ => Command::Unknown,
     }
 }
 
-// The variable that a text names.
-fn variable<'a>(text: &[u8]) -> Command<'a>
-    ensures { asked_of result ≡ variable_named text.now }
-{
-    match text {
-        [name] => match Letter::read(*name) {
-            Some(letter) => Command::Variable(letter),
-            None => Command::Unknown,
-        },
-        _ => Command::Unknown,
-    }
-}
-
 // The number that one to five digits spell, up to 65,535.
-fn number(digits: &[u8]) -> Option<u16>
-    ensures { result ≡ number_of digits.now }
+fn line_in(digits: &[u8]) -> Option<u16>
+    ensures { result ≡ line_in digits.now }
 {
-    if digits.is_empty() || digits.len() > 5 {
-        return None;
-    }
-    number_behind(0, digits)
-}
-
-// A number with more digits behind it, up to 65,535.
-fn number_behind(number: u16, digits: &[u8]) -> Option<u16>
-    ensures { result ≡ number_behind number digits.now }
-{
-    match digits {
-        [] => Some(number),
-        [digit, rest @ ..] => {
-            if !digit.is_ascii_digit() {
-                return None;
-            }
-            let number = number
-                .checked_mul(10)?
-                .checked_add(u16::from(*digit - b'0'))?;
-            number_behind(number, rest)
-        }
+    let number = number(digits, MOST_DIGITS)?;
+    if number <= 65_535 {
+        Some(number as u16)
+    } else {
+        None
     }
 }

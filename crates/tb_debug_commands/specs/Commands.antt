@@ -1,11 +1,8 @@
 -- The commands that lines spell.
 use Rattle.std.specs.Prelude.{ℕ, ◌+◌, ◌-◌, ◌*◌, ◌==◌, ◌&&◌, nat_le, List, [], ◌∷◌, length, Option, Some, None, if◌then◌else◌}
-use Rattle.std.specs.List.{list_all}
 use Rattle.std.specs.Option.{option_and_then}
 use Rattle.tb_words.specs.Letters.{place}
-use Rattle.tb_words.specs.declared.Letter.{Letter}
-use Rattle.tb_grammar.specs.Grammar.{value_after}
-use Rattle.tb_grammar.specs.Reading.{is_digit, is_letter}
+use Rattle.tb_command_parts.specs.Parts.{number_of, variable_in}
 use Rattle.tb_debug_commands.specs.declared.command.Command.{Command}
 use Rattle.tb_debug_commands.specs.declared.command.Command.TheVariants as command
 
@@ -65,13 +62,9 @@ asked_of command.Unknown = Unknown
 
 -- ---- numbers and names
 
--- what digits stand for behind a number, up to the largest one of 64 bits
-abbrev pub number_behind : ℕ → List ℕ → Option ℕ
-number_behind n ds = if list_all is_digit ds && nat_le (value_after n ds) 18446744073709551615 then Some (value_after n ds) else None
-
--- the number that one to 18 digits spell
-abbrev pub number_of : List ℕ → Option ℕ
-number_of ds = if nat_le 1 (length ds) && nat_le (length ds) 18 then number_behind 0 ds else None
+-- the most digits of a number
+abbrev pub most_digits : ℕ
+most_digits = 18
 
 -- the number of a line; one that no line has stands for each larger one
 abbrev pub line_of : ℕ → ℕ
@@ -89,21 +82,6 @@ digit_of b =
 abbrev pub address_of : ℕ → ℕ → ℕ → ℕ → Option ℕ
 address_of a b c d =
     option_and_then (λ p. option_and_then (λ q. option_and_then (λ r. option_and_then (λ s. Some (4096 * p + 256 * q + 16 * r + s)) (digit_of d)) (digit_of c)) (digit_of b)) (digit_of a)
-
--- the place of a letter, capital or small
-abbrev pub place_named : ℕ → Option ℕ
-place_named b = if is_letter b then Some (b - 65) else if nat_le 97 b && nat_le b 122 then Some (b - 97) else None
-
--- the place of the variable that a text of one letter names
-abbrev pub variable_in : List ℕ → Option ℕ
-variable_in [] = None
-variable_in (b ∷ []) = place_named b
-variable_in (b ∷ c ∷ text) = None
-
--- the place of a letter that was read
-abbrev pub place_of : Option Letter → Option ℕ
-place_of (Some letter) = Some (place letter)
-place_of None = None
 
 -- ---- commands
 
@@ -157,7 +135,7 @@ memory_at None count = Unknown
 -- m before an address, and a number where one stands behind a space; else 16
 abbrev pub memory_in : List ℕ → Asked
 memory_in (a ∷ b ∷ c ∷ d ∷ []) = memory_at (address_of a b c d) (Some 16)
-memory_in (a ∷ b ∷ c ∷ d ∷ space ∷ count) = if space == 32 then memory_at (address_of a b c d) (number_of count) else Unknown
+memory_in (a ∷ b ∷ c ∷ d ∷ space ∷ count) = if space == 32 then memory_at (address_of a b c d) (number_of most_digits count) else Unknown
 memory_in _ = Unknown
 
 -- a letter before a text
@@ -168,7 +146,7 @@ with_text c text =
     else if c == 109 then memory_in text
     else if c == 118 then named Variable (variable_in text)
     else if c == 119 then named Watch (variable_in text)
-    else with_number c (number_of text)
+    else with_number c (number_of most_digits text)
 
 -- a letter and a text with a space between them, or rc
 abbrev pub words : ℕ → ℕ → List ℕ → Asked

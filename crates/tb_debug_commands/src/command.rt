@@ -1,7 +1,9 @@
 //! Commands, as lines spell them.
 ghost use Rattle.std.specs.Prelude.{◌≡◌, ◌≤◌, ◌<◌, length, IfSome};
-ghost use Rattle.tb_debug_commands.specs.Commands.{asked_of, asked_in, alone, words, with_text, place_of, variable_in, with_number, counting, line_of, memory_in, memory_at, address_of, digit_of, number_behind, number_of};
+ghost use Rattle.tb_command_parts.specs.Parts.{number_of};
+ghost use Rattle.tb_debug_commands.specs.Commands.{asked_of, asked_in, alone, words, with_text, with_number, counting, line_of, memory_in, memory_at, address_of, digit_of, most_digits};
 
+use tb_command_parts::{number, variable};
 use tb_words::Letter;
 
 /// The most digits of a number.
@@ -133,21 +135,11 @@ fn with_text(letter: u8, text: &[u8]) -> Command<'_>
     }
 }
 
-// The variable that a text names.
-fn variable(text: &[u8]) -> Option<Letter>
-    ensures { place_of result ≡ variable_in text.now }
-{
-    match text {
-        [name] => Letter::read(*name),
-        _ => None,
-    }
-}
-
 // A command with a number.
 fn with_number<'a>(letter: u8, text: &[u8]) -> Command<'a>
-    ensures { asked_of result ≡ with_number letter (number_of text.now) }
+    ensures { asked_of result ≡ with_number letter (number_of most_digits text.now) }
 {
-    match number(text) {
+    match number(text, MOST_DIGITS) {
         Some(number) => counting(letter, number),
         None => Command::Unknown,
     }
@@ -185,7 +177,10 @@ fn memory<'a>(text: &[u8]) -> Command<'a>
 {
     match text {
         [a, b, c, d] => bytes_at(address(*a, *b, *c, *d), Some(BYTES)),
-        [a, b, c, d, b' ', count @ ..] => bytes_at(address(*a, *b, *c, *d), number(count)),
+        [a, b, c, d, b' ', count @ ..] => bytes_at(
+            address(*a, *b, *c, *d),
+            number(count, MOST_DIGITS),
+        ),
         _ => Command::Unknown,
     }
 }
@@ -222,33 +217,5 @@ fn digit(byte: u8) -> Option<u16>
         b'A'..=b'F' => Some(u16::from(byte - b'A' + 10)),
         b'a'..=b'f' => Some(u16::from(byte - b'a' + 10)),
         _ => None,
-    }
-}
-
-// The number that one to 18 digits spell.
-fn number(digits: &[u8]) -> Option<u64>
-    ensures { result ≡ number_of digits.now }
-{
-    if digits.is_empty() || digits.len() > MOST_DIGITS {
-        return None;
-    }
-    number_behind(0, digits)
-}
-
-// A number with more digits behind it.
-fn number_behind(number: u64, digits: &[u8]) -> Option<u64>
-    ensures { result ≡ number_behind number digits.now }
-{
-    match digits {
-        [] => Some(number),
-        [digit, rest @ ..] => {
-            if !digit.is_ascii_digit() {
-                return None;
-            }
-            let number = number
-                .checked_mul(10)?
-                .checked_add(u64::from(*digit - b'0'))?;
-            number_behind(number, rest)
-        }
     }
 }

@@ -1,5 +1,4 @@
 //! The dialogue.
-use crate::lines::{read_line, without_return};
 use crate::sources::{Sources, Written, written_lines};
 use crate::texts::push_answer;
 use std::alloc::Global;
@@ -7,7 +6,7 @@ use std::io::{Read, Write};
 use tb_debug::{Answer, Beside, Debugger, read_command};
 use tb_engines::{End, Outcome, Stop, start_machine, without_input};
 use tb_kernal::Keyboard;
-use tb_streams::{Tracked, write_output};
+use tb_streams::{MOST_INPUT, Tracked, read_line, without_return, write_output};
 
 /// What stands before a command that is typed at a terminal.
 const PROMPT: &[u8] = b"> ";
@@ -55,7 +54,7 @@ fn answer_line<R: Read, W: Write>(
     if setting.prompts {
         write(writer, PROMPT)?;
     }
-    let line = match read_line(alloc, commands) {
+    let line = match read_line(alloc, commands, MOST_INPUT) {
         Ok(Some(line)) => line,
         Ok(None) => return Ok(false),
         Err(error) => return Err(without_input(error)),

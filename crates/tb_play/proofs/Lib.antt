@@ -1,4 +1,3 @@
-mod Reading
 mod Sending
 mod Talking
 mod Whole

@@ -12,7 +12,8 @@ use Rattle.tb_kernal.specs.Machine.{Content, state_of}
 use Rattle.tb_kernal.specs.Typing.{with_more}
 use Rattle.tb_streams.specs.HostForm.{host_byte, host_form_of}
 use Rattle.tb_streams.specs.Streams.{AppendsPrefix}
-use Rattle.tb_play.specs.Lines.{most_typed, keys_of, typed_of, TakesLine, TakesLines, TakesSome}
+use Rattle.tb_streams.specs.Lines.{TakesLine}
+use Rattle.tb_play.specs.Lines.{most_typed, keys_of, typed_of, TakesLines, TakesSome}
 use Rattle.tb_play.specs.Talks.{Stretch, Talked, IsBehind, Comes, Stops, Plays, GoesOn, Hears, is_waiting, sent_since}
 use Rattle.tb_play.proofs.Sending.{stretch_sends}
 

@@ -17,7 +17,8 @@ use Rattle.tb_engines.specs.Outcomes.{Product}
 use Rattle.tb_engines.specs.Programs.{start, end_of, RunsContent}
 use Rattle.tb_engines.specs.declared.outcome.Outcome.{Outcome}
 use Rattle.tb_engines.specs.declared.outcome.Outcome.TheVariants.{Ended, Refused, ReadFault, WriteFault, NoMemory}
-use Rattle.tb_play.specs.Lines.{keys_of, without_return, typed_of, AreBytes, IsLine, TakesLines}
+use Rattle.tb_streams.specs.Lines.{without_return, IsLine}
+use Rattle.tb_play.specs.Lines.{keys_of, typed_of, AreBytes, TakesLines}
 use Rattle.tb_play.specs.Talks.{gives_quiet, Talked, Comes, Plays}
 use Rattle.tb_play.specs.Plays.{IsStart, RunsTyped, Shows}
 

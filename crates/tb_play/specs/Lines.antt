@@ -1,19 +1,16 @@
--- Lines of input, and what they hand to the keyboard.
-use Rattle.std.specs.Prelude.{ℕ, ◌≡◌, ◌≢◌, ◌⊎◌, ◌-◌, ◌<◌, ◌≤◌, ◌==◌, List, [], ◌∷◌, ◌++◌, length, take, map, flat_map, slice_index, Option, Some, None, Result, Ok, Err, if◌then◌else◌}
-use Rattle.std.specs.Io.KnownBytes.{Consumes, IsAtEnd}
+-- What lines of input hand to the keyboard.
+use Rattle.std.specs.Prelude.{ℕ, ◌≡◌, ◌≢◌, ◌⊎◌, ◌<◌, ◌≤◌, List, [], ◌∷◌, ◌++◌, length, map, flat_map, Option, Some, None, Result, Ok, Err}
+use Rattle.std.specs.Io.KnownBytes.{Consumes}
 use Rattle.std.specs.Char.{to_ascii_uppercase}
 use Rattle.std.specs.declared.alloc.Global.{Global}
 use Rattle.std.specs.declared.vec.Vec.{Vec}
+use Rattle.tb_streams.specs.Lines.{without_return, TakesLine, TakesNothing, TakesPart}
 use Rattle.tb_streams.specs.declared.stream.InputError.{InputError}
 use Rattle.tb_streams.specs.declared.stream.InputError.TheVariants.{Fault, NoMemory}
 
 -- the most bytes that are handed over in all
 abbrev pub most_typed : ℕ
 most_typed = 1048576
-
--- a line without a 13 at its end
-abbrev pub without_return : List ℕ → List ℕ
-without_return line = if slice_index line (length line - 1) == 13 then take (length line - 1) line else line
 
 -- what a line hands over: its letters as capitals, and a return
 abbrev pub keys_of : List ℕ → List ℕ
@@ -28,40 +25,14 @@ abbrev pub AreBytes : List ℕ → Type 0
 AreBytes [] = Unit {0}
 AreBytes (b ∷ bs) = (b < 256) × AreBytes bs
 
--- each is a byte but 10
-abbrev pub IsLine : List ℕ → Type 0
-IsLine [] = Unit {0}
-IsLine (b ∷ bs) = (b < 256) × (b ≢ 10) × IsLine bs
-
--- a line was taken from a reader, and nothing behind it: with the 10 of its end, or all that was left and not nothing
-abbrev pub TakesLine : Option (List ℕ) → List ℕ → Option (List ℕ) → Type 0
-TakesLine had line left =
-    IsLine line × (Consumes had left (line ++ 10 ∷ []) ⊎ ((0 < length line) × Consumes had left line × IsAtEnd left))
-
 -- the same of lines one after the other
 abbrev pub TakesLines : Option (List ℕ) → List (List ℕ) → Option (List ℕ) → Type 0
 TakesLines had [] left = left ≡ had
 TakesLines had (line ∷ lines) left = (mid : Option (List ℕ)) × TakesLine had line mid × TakesLines mid lines left
 
--- some of a line was taken, or all of it, and nothing behind it
-abbrev pub TakesPart : Option (List ℕ) → List ℕ → Option (List ℕ) → Type 0
-TakesPart had line left = IsLine line × (Consumes had left line ⊎ Consumes had left (line ++ 10 ∷ []))
-
 -- a byte of a line was taken, or the 10 of its end
 abbrev pub TakesSome : Option (List ℕ) → List ℕ → Option (List ℕ) → Type 0
 TakesSome had line left = (0 < length line) ⊎ Consumes had left (line ++ 10 ∷ [])
-
--- nothing was left to be taken
-abbrev pub TakesNothing : Option (List ℕ) → Option (List ℕ) → Type 0
-TakesNothing had left = Consumes had left [] × IsAtEnd left
-
--- what reading a line of at most `most` bytes answers: the reader's failures stand, but at its fault
-abbrev pub ReadsLine : Result (Option (Vec ℕ Global)) InputError → ℕ → Option (List ℕ) → Option (List ℕ) → ℕ → ℕ → Type 0
-ReadsLine (Ok None) most had left read read' = TakesNothing had left × (read' ≡ read)
-ReadsLine (Ok (Some line)) most had left read read' = TakesLine had line.items left × (length line.items ≤ most) × (read' ≡ read)
-ReadsLine (Err Fault) most had left read read' =
-    (line : List ℕ) × TakesPart had line left × ((read' ≢ read) ⊎ (most < length line))
-ReadsLine (Err NoMemory) most had left read read' = (line : List ℕ) × TakesPart had line left × (read' ≡ read)
 
 -- what reading the keys of a line answers, where there is room for so many
 abbrev pub ReadsKeys : Result (Option (Vec ℕ Global)) InputError → ℕ → Option (List ℕ) → Option (List ℕ) → ℕ → ℕ → Type 0

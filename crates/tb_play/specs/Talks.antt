@@ -13,7 +13,8 @@ use Rattle.tb_streams.specs.Streams.{AppendsPrefix}
 use Rattle.tb_engines.specs.Programs.{end_of}
 use Rattle.tb_engines.specs.declared.outcome.Outcome.{Outcome}
 use Rattle.tb_engines.specs.declared.outcome.Outcome.TheVariants.{Ended, Refused, ReadFault, WriteFault, NoMemory}
-use Rattle.tb_play.specs.Lines.{most_typed, keys_of, typed_of, TakesLine, TakesLines, TakesPart, TakesSome, TakesNothing}
+use Rattle.tb_streams.specs.Lines.{TakesLine, TakesPart, TakesNothing}
+use Rattle.tb_play.specs.Lines.{most_typed, keys_of, typed_of, TakesLines, TakesSome}
 
 -- what the quiet outside gives
 abbrev pub gives_quiet : Quiet → Content → Event → Quiet → Type 0

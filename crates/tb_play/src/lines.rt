@@ -1,27 +1,17 @@
-//! Lines of input, and what they hand to the keyboard.
+//! What lines of input hand to the keyboard.
 ghost use Rattle.std.specs.Prelude.{◌≡◌, ◌≤◌, IfOk, vec_len};
 ghost use Rattle.tb_streams.specs.Failures.{failures_of};
-ghost use Rattle.tb_play.specs.Lines.{without_return, keys_of, ReadsLine, ReadsKeys};
+ghost use Rattle.tb_play.specs.Lines.{keys_of, ReadsKeys};
 
 use std::alloc::{AllocError, Global};
 use std::io::Read;
-use tb_streams::{InputError, MOST_INPUT, Tracked};
+use tb_streams::{InputError, MOST_INPUT, Tracked, read_line, without_return};
 
 /// The most bytes that are handed to the keyboard in all, the returns counted.
 pub const MOST_TYPED: usize = MOST_INPUT;
 
 /// What the return key gives.
 const RETURN: u8 = 13;
-
-// A line without the 13 of its end.
-fn without_return(line: &[u8]) -> &[u8]
-    ensures { result.now ≡ without_return line.now }
-{
-    match line.split_last() {
-        Some((&RETURN, rest)) => rest,
-        _ => line,
-    }
-}
 
 // What a line hands to the keyboard: its letters as capitals, and a return.
 fn keys_of(alloc: Global, line: &[u8]) -> Result<Vec<u8>, AllocError>
@@ -33,37 +23,6 @@ fn keys_of(alloc: Global, line: &[u8]) -> Result<Vec<u8>, AllocError>
     }
     keys.push(RETURN)?;
     Ok(keys)
-}
-
-// The next line, without its 10, byte by byte, so that nothing behind it is taken; none where the input has ended. A
-// line of more than `most` bytes is a fault.
-fn read_line<R: Read>(
-    alloc: Global,
-    reader: &mut Tracked<R>,
-    most: usize,
-) -> Result<Option<Vec<u8>>, InputError>
-    requires { most ≤ 1048576 }
-    ensures { ReadsLine result most (R.remaining reader.old.stream) (R.remaining reader.new.stream)
-        (failures_of reader.old) (failures_of reader.new) }
-{
-    let mut line = Vec::new(alloc);
-    let mut byte = [0u8; 1];
-    'reading: while line.len() <= most {
-        let count = match reader.pull(&mut byte) {
-            Ok(count) => count,
-            Err(_) => return Err(InputError::Fault),
-        };
-        if count == 0 {
-            return Ok(if line.is_empty() { None } else { Some(line) });
-        }
-        if byte[0] == b'\n' {
-            return Ok(Some(line));
-        }
-        if line.push(byte[0]).is_err() {
-            return Err(InputError::NoMemory);
-        }
-    }
-    Err(InputError::Fault)
 }
 
 /// What the next line hands to the keyboard; nothing where the input has ended. More than `room` bytes are a fault.

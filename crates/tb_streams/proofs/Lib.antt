@@ -1,3 +1,4 @@
 pub mod Counting
 mod KeyFiles
 mod Written
+mod Reading

@@ -3,3 +3,4 @@ pub mod Streams
 pub mod Inputs
 pub mod Failures
 pub mod KeyFiles
+pub mod Lines

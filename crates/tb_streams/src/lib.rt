@@ -1,15 +1,17 @@
-//! What meets the host: readers and writers whose failures are counted, whole inputs and outputs, key lists, and the
+//! What meets the host: readers and writers whose failures are counted, whole inputs and outputs, lines, key lists, and the
 //! text in which sent bytes are shown.
 #![tactic(auto)]
 
 mod key_files;
 mod keys;
+mod lines;
 mod screen;
 mod stream;
 mod tracked;
 
 pub use key_files::{KeyFileError, MOST_KEY_FILE, key_file, read_key_file};
 pub use keys::{KeyError, address, key_list};
+pub use lines::{read_line, without_return};
 pub use screen::host_form;
 pub use stream::{InputError, MOST_INPUT, read_input, write_output};
 pub use tracked::{Fault, Tracked};

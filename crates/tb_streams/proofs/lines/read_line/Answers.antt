@@ -1,8 +1,8 @@
 use Rattle.std.proofs.Common.{rules, ◌++◌, ◌∷◌, [], ◌≡◌, inl, get_or, subst, sym}
-use Rattle.tb_play.specs.Lines.{IsLine}
+use Rattle.tb_streams.specs.Lines.{IsLine}
 use Rattle.std.specs.Io.KnownBytes.{Consumes}
-use Rattle.tb_play.proofs.Reading.{line_more, takes_byte}
-use Rattle.tb_play.proofs.lines.read_line.Goals as goal
+use Rattle.tb_streams.proofs.Reading.{line_more, takes_byte}
+use Rattle.tb_streams.proofs.lines.read_line.Goals as goal
 
 pub returns-then-is_err : goal.returns-then-is_err
 returns-then-is_err g c =

@@ -1,5 +1,5 @@
 use Rattle.std.proofs.Common.{length}
-use Rattle.tb_debug_commands.proofs.command.+number_behind.Given as goal
+use Rattle.tb_command_parts.proofs.parts.+number_behind.Given as goal
 
 abbrev pub decreases-number_behind : goal.decreases-number_behind
 decreases-number_behind l = length l.digits.now

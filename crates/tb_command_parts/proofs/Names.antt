@@ -5,7 +5,7 @@ use Rattle.std.proofs.lemmas.Bool.{and_parts}
 use Rattle.std.proofs.lemmas.Bool.Decides.{nat_tests}
 use Rattle.tb_words.specs.Letters.{Spells, place}
 use Rattle.tb_words.specs.declared.Letter.{Letter}
-use Rattle.tb_debug_commands.specs.Commands.{place_named, place_of, variable_in}
+use Rattle.tb_command_parts.specs.Parts.{place_named, place_of, variable_in}
 
 -- a test that can't hold
 fails : (t : Bool) → ((t ≡ true) → ⊥) → t ≡ false

@@ -2,7 +2,7 @@
 use Rattle.std.proofs.Common.{◌≡◌, ◌≢◌, ℕ, suc, ◌<◌, ◌≤◌, List, [], ◌∷◌, ◌++◌, Option, length, take, get_or, refl, subst, arith}
 use Rattle.std.proofs.KnownBytes.{Consumes-trans}
 use Rattle.std.specs.Io.KnownBytes.{Consumes}
-use Rattle.tb_play.specs.Lines.{IsLine}
+use Rattle.tb_streams.specs.Lines.{IsLine}
 
 -- a read of one byte
 one_read : (buf : List ℕ) (n : ℕ) → length buf ≡ 1 → n ≢ 0 → n ≤ length buf → take n buf ≡ get_or buf 0 0 ∷ []

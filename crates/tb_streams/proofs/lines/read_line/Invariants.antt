@@ -1,7 +1,7 @@
 use Rattle.std.proofs.Common.{◌≡◌, ◌≤◌, ◌+◌, ◌-◌, vec_len}
 use Rattle.std.specs.Io.KnownBytes.{Consumes}
-use Rattle.tb_play.specs.Lines.{IsLine}
-use Rattle.tb_play.proofs.lines.read_line.Given as goal
+use Rattle.tb_streams.specs.Lines.{IsLine}
+use Rattle.tb_streams.proofs.lines.read_line.Given as goal
 
 abbrev pub invariant-reading : goal.invariant-reading
 invariant-reading g l = record {

@@ -5,7 +5,7 @@ use Rattle.std.proofs.lemmas.Bool.Decides.{nat_tests}
 use Rattle.std.specs.List.{list_all}
 use Rattle.tb_grammar.specs.Grammar.{value_after}
 use Rattle.tb_grammar.specs.Reading.{is_digit}
-use Rattle.tb_debug_commands.specs.Commands.{number_behind}
+use Rattle.tb_command_parts.specs.Parts.{number_behind}
 
 -- more digits make no number smaller
 grows : (n : ℕ) (ds : List ℕ) → n ≤ value_after n ds
