@@ -5,6 +5,7 @@
 . "$(dirname "${BASH_SOURCE[0]}")/setup.sh"
 needs_program
 needs python3
+needs prlimit
 with_step=yes
 
 rows=0
@@ -366,6 +367,32 @@ for name in /dev/full nowhere/made folder; do
     done
 done
 row 0 'tbc: warning: line 20: no line 30' '' build warn.bas out.prg --map a
+
+# A file that takes so many bytes and no more: they are there, the files before it too, and none behind it.
+cut_short() { # STEP WHOLE WORD..: rows: `build` writes to the file `cut` what WHOLE holds, cut behind 0, STEP, .. bytes
+    local step=$1 whole=$2 bytes status text
+    shift 2
+    for ((bytes = 0; bytes < $(stat -c %s "$whole"); bytes += step)); do
+        rows=$((rows + 1))
+        status=0
+        rm -f cut behind
+        text=$(trap '' XFSZ; exec prlimit --fsize="$bytes" "$tbc" build hello.bas "$@" 2>&1) || status=$?
+        [ "$status" = 3 ] && [ "$text" = 'tbc: write fault' ] && [ ! -e behind ] && cmp -s <(head -c "$bytes" "$whole") cut \
+            && continue
+        failed=$((failed + 1))
+        echo "build $*, cut behind $bytes bytes: status $status, $text"
+    done
+}
+cut_short 7 made.prg cut --labels behind
+cut_short 7 made.vs /dev/null --labels cut --list behind
+cut_short 499 made.s /dev/null --labels /dev/./null --list cut --map behind
+cut_short 7 made.map /dev/null --labels /dev/./null --list /dev//null --map cut
+for ((bytes = $(stat -c %s made.vs); bytes < $(stat -c %s made.s); bytes += 997)); do
+    rows=$((rows + 1))
+    rm -f cut before behind
+    ! (trap '' XFSZ; exec prlimit --fsize="$bytes" "$tbc" build hello.bas /dev/null --labels before --list cut --map behind) 2>&- \
+        && cmp -s before made.vs && [ ! -e behind ] || failed=$((failed + 1))
+done
 
 # Runs that end otherwise
 row 5 'tbc: step limit' A run forever.bas

@@ -41,18 +41,27 @@ answer() { # GROWTH PROGRAM WORD..: a run with that growth refused, with none fo
     local growth=$1
     shift
     status=0
-    rm -f out.prg said shown refused
+    rm -f out.prg beside.* said shown refused
     REFUSE=$growth LD_PRELOAD=$work/refuse.so "$@" <commands >shown 2>said 9>refused || status=$?
 }
 
-same_made() { if [ -e made.wanted ]; then cmp -s out.prg made.wanted; else [ ! -e out.prg ]; fi; }
+# Whether OUT, and the files beside it, are there as they are with ample memory.
+same_made() {
+    local name
+    if [ -e made.wanted ]; then cmp -s out.prg made.wanted; else [ ! -e out.prg ]; fi || return
+    for name in wanted_beside.*; do
+        [ ! -e "$name" ] || cmp -s "${name#wanted_}" "$name" || return
+    done
+}
+
+nothing_made() { [ ! -e out.prg ] && ! compgen -G 'beside.*' >/dev/null; }
 
 begins() { cmp -s -n "$(stat -c %s "$1")" "$1" "$2"; } # FILE OTHER: whether it is a beginning of the other
 
 # Whether a run out of memory said so and wrote nothing. A program that is played or debugged has warned and shown a
 # beginning, and so has a profile whose page there is no memory to open.
 is_out_of_memory() { # NAME WORD..
-    [ "$(tail -n 1 said)" = "$1: out of memory" ] && [ ! -e out.prg ] || return
+    [ "$(tail -n 1 said)" = "$1: out of memory" ] && nothing_made || return
     head -n -1 said >before
     case ${2-} in
         play | debug | profile) begins before said.wanted && begins shown shown.wanted ;;
@@ -64,7 +73,7 @@ rows=0
 runs=0
 failed=0
 refuse_each() { # PROGRAM WORD..: what it answers, with each growth refused in turn
-    local growth wanted want=0 again=0 name=${1##*/} words=${*:2}
+    local growth wanted made want=0 again=0 name=${1##*/} words=${*:2}
     rows=$((rows + 1))
     answer 0 "$@"
     wanted=$status
@@ -72,10 +81,11 @@ refuse_each() { # PROGRAM WORD..: what it answers, with each growth refused in t
         echo "$name $words: out of memory though no growth was refused" >&2
         failed=$((failed + 1))
     fi
-    rm -f made.wanted
+    rm -f made.wanted wanted_beside.*
     mv said said.wanted
     mv shown shown.wanted
     [ ! -f out.prg ] || mv out.prg made.wanted
+    for made in beside.*; do [ ! -f "$made" ] || mv "$made" "wanted_$made"; done
     for ((growth = 1; growth < 100000; growth++)); do
         answer "$growth" "$@"
         runs=$((runs + 1))
@@ -126,7 +136,7 @@ printf '10\n' >empty.bas
 
 check build hello.bas out.prg
 check build all.bas out.prg --seed 7
-check build all.bas beside.prg --labels beside.vs --list beside.s --map beside.map
+check build all.bas out.prg --labels beside.vs --list beside.s --map beside.map
 check build bad.bas out.prg
 check build deep.bas out.prg
 check build large.bas out.prg
