@@ -9,7 +9,7 @@ in_file() { sed -n "s/$2/\1/p" "crates/$1"; } # FILE PATTERN: what the pattern's
 echo "$(cat crates/tb_rows/data/{machine,source,text,compiler}/*.txt | grep -vc '^#\|^ *$') worked rows in text"
 echo "$(grep -hc '^check' crates/tb_rows/data/check/*.txt | awk '{ n += $1 } END { print n }') worked checks of sources"
 echo "$(cat crates/*/src/*.rt crates/*/src/*/*.rt | grep -c '^#\[test\]$') tests in code"
-echo "$(in_file tb_running_rows/src/generated/trials.rt '^const PROGRAMS: u16 = \([0-9]*\);') generated programs, compared with the interpreter"
+echo "$(in_file tb_running_rows/src/generated/trials.rt '^const PROGRAMS: u16 = \([0-9]*\);') generated programs of each of two kinds, compared with the interpreter"
 echo "$(in_file tb_running_rows/src/generated/played.rt '^const PROGRAMS: usize = \([0-9]*\);') generated programs that are played, compared with it"
 short=$(in_file tb_running_rows/src/rows.rt '^static ROWS: .*; \([0-9]*\)\] = \[')
 long=$(in_file tb_running_rows/src/rows.rt '.*fn rows(&self) -> \[.*; \([0-9]*\)\].*')
