@@ -1,10 +1,9 @@
 -- The laws of GOSUB to a constant line and of RETURN: in line where the count of notes has a low byte alone, and else
 -- by the routines.
-use Rattle.std.proofs.Common.{◌≡◌, ◌≢◌, ◌⊎◌, inl, inr, ℕ, suc, ◌+◌, ◌/◌, ◌%◌, ◌≤◌, ◌<◌, Bool, true, false, not, cond, List, [], ◌∷◌, length, refl, sym, ◌∙◌, subst, arith, eqb, ⊎_elim}
+use Rattle.std.proofs.Common.{◌≡◌, ◌≢◌, ◌⊎◌, inl, inr, ℕ, suc, ◌+◌, ◌/◌, ◌%◌, ◌≤◌, ◌<◌, Bool, true, false, List, [], ◌∷◌, length, refl, sym, ◌∙◌, subst, arith, eqb, ⊎_elim}
 use Rattle.std.specs.Prelude.{nat_lt}
 use Rattle.std.proofs.lemmas.Bool.{cases_eq, eq-eqb, ne_eqb, ltb-true, ltb-false}
 use Rattle.std.proofs.lemmas.List.{length-map}
-use Rattle.tb_memmap.specs.Bytes.{with_byte}
 use Rattle.tb_lower.specs.Control.{At, Place, State, deepest, fault_text, has_line, next_after}
 use Rattle.tb_lower.specs.Slots.{Instr, CallTo, Return, Slots, SlotCode, Whole}
 use Rattle.tb_reaching.proofs.Comes.{chained, looser}

@@ -1,5 +1,5 @@
 -- The law of a test by a divisor: that its slot instructions ask whether nothing is left over, and where its code leads.
-use Rattle.std.proofs.Common.{not, ◌≡◌, ◌≢◌, ℕ, ◌+◌, ◌*◌, ◌%◌, ◌≤◌, ◌<◌, Bool, true, false, cond, if◌then◌else◌, List, [], ◌∷◌, ◌++◌, length, refl, sym, ap, ◌∙◌, subst, arith, ⊎_elim, Option, Some, None, length-set}
+use Rattle.std.proofs.Common.{not, ◌≡◌, ◌≢◌, ℕ, ◌+◌, ◌*◌, ◌%◌, ◌<◌, Bool, true, false, cond, if◌then◌else◌, List, [], ◌∷◌, ◌++◌, length, refl, sym, ap, ◌∙◌, subst, arith, ⊎_elim, Option, Some, None, length-set}
 use Rattle.std.specs.Prelude.{slice_index, nat_eq}
 use Rattle.std.proofs.lemmas.Bool.{cases_eq, eq-eqb, eqb-true, ne_eqb}
 use Rattle.std.proofs.lemmas.List.{nil_from_length}
@@ -9,18 +9,17 @@ use Rattle.tb_syntax.specs.declared.expressions.Operator.TheVariants as op
 use Rattle.tb_syntax.specs.Source.{numbers}
 use Rattle.tb_lower.specs.Control as control
 use Rattle.tb_lower.specs.Control.{State, fault_text, has_line, next_after}
-use Rattle.tb_lower.specs.Ranges.{AreInRange}
-use Rattle.tb_lower.specs.Slots.{Instr, Whole, Compute, Hold, JumpTo, LeaveUnless, Load, Slots, SlotCode, SlotState, Stays, act, into, with_word}
-use Rattle.tb_lower.specs.Steps.{Step, Goes, Stops, Faulted}
+use Rattle.tb_lower.specs.Slots.{Instr, Whole, Compute, Hold, JumpTo, LeaveUnless, Load, Slots, SlotCode, SlotState, into, with_word}
+use Rattle.tb_lower.specs.Steps.{Step, Stops, Faulted}
 use Rattle.tb_lower.specs.Values.{apply, given}
 use Rattle.tb_reaching.proofs.Comes.{chained, looser}
 use Rattle.tb_reaching.specs.View.{Comes, Fits, Setup, View}
 use Rattle.tb_runtime16.specs.Places.{LEFT, RIGHT}
-use Rattle.tb_runtime16.specs.Routines.{Here, Routines}
+use Rattle.tb_runtime16.specs.Routines.{Routines}
 use Rattle.tb_keeping.specs.Layout.{Layout, next_at}
 use Rattle.tb_keeping.proofs.Joins.{sent_in}
 use Rattle.tb_keeping.proofs.Resolved.{Code, Lies, Piece, faulting, pieces_size}
-use Rattle.tb_selection.specs.Groups.{Operand, Constant, Variable, InSlot, HeldNow, Divisibility, Divisible, Indivisible, Group, Divides, compared, contrary, expand, fetch, multiple, onward}
+use Rattle.tb_selection.specs.Groups.{Operand, Constant, Variable, InSlot, HeldNow, Divisibility, Divisible, Indivisible, Divides, compared, contrary, expand, fetch, multiple, onward}
 use Rattle.tb_selection.specs.GroupSteps.{steps}
 use Rattle.tb_selection.specs.Liveness.{live, nothing_live}
 use Rattle.tb_selection.specs.Select.{may_stand, select}

@@ -1,5 +1,5 @@
 -- The laws of a division, which may fault: it sets the line's number just before its call.
-use Rattle.std.proofs.Common.{◌≡◌, ◌≢◌, ℕ, ◌+◌, if◌then◌else◌, List, [], ◌∷◌, refl, sym, ap, subst, arith, Some, None, ◌∙◌, Bool, true, false, true≢false}
+use Rattle.std.proofs.Common.{◌≡◌, ◌≢◌, ℕ, ◌+◌, if◌then◌else◌, List, [], refl, sym, ap, subst, arith, Some, None, ◌∙◌, Bool, true, false, true≢false}
 use Rattle.std.proofs.lemmas.Bool.{eq-eqb, ne_eqb}
 use Rattle.tb_words.specs.Words.{quotient}
 use Rattle.tb_syntax.specs.declared.expressions.Operator.TheVariants as op
@@ -12,7 +12,7 @@ use Rattle.tb_runtime16.specs.Routines.{Routines, WordAt}
 use Rattle.tb_runtime16.specs.Places.{DIVIDE_AT, LEFT, LINE, RIGHT}
 use Rattle.tb_keeping.specs.Layout.{Layout}
 use Rattle.tb_keeping.proofs.Joins.{sent_in}
-use Rattle.tb_keeping.proofs.Resolved.{Code, Lies, constant, pieces_size, Piece}
+use Rattle.tb_keeping.proofs.Resolved.{Lies, pieces_size, Piece}
 use Rattle.tb_templates.specs.GroupTemplates.{may_be_zero}
 use Rattle.tb_keeping.proofs.Returning.{back_here}
 use Rattle.tb_selection.specs.Groups.{Operand, Constant, Variable, InSlot, Destination, Calculate, slot_of}

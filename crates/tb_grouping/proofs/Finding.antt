@@ -1,15 +1,15 @@
 -- The laws of jumps to a line whose number a word is.
-use Rattle.std.proofs.Common.{◌≡◌, ℕ, suc, ◌+◌, ◌/◌, ◌%◌, ◌≤◌, ◌<◌, true, false, List, [], ◌∷◌, length, refl, sym, ◌∙◌, subst, arith}
+use Rattle.std.proofs.Common.{◌≡◌, ℕ, suc, ◌+◌, ◌/◌, ◌%◌, ◌<◌, true, false, List, [], ◌∷◌, length, refl, sym, ◌∙◌, subst, arith}
 use Rattle.std.specs.Prelude.{nat_lt}
 use Rattle.std.proofs.lemmas.Bool.{ltb-true, ltb-false}
 use Rattle.std.proofs.lemmas.List.{length-map}
-use Rattle.tb_lower.specs.Control.{At, Place, State, deepest, fault_text, has_line, next_after}
-use Rattle.tb_lower.specs.Slots.{Instr, Return, Slots, SlotCode, Whole}
+use Rattle.tb_lower.specs.Control.{At, State, deepest, fault_text, has_line, next_after}
+use Rattle.tb_lower.specs.Slots.{Instr, Slots, SlotCode, Whole}
 use Rattle.tb_reaching.proofs.Comes.{chained, looser}
 use Rattle.tb_reaching.specs.Start.{IsHome}
 use Rattle.tb_reaching.specs.View.{Comes, Fits, Setup, View}
-use Rattle.tb_runtime16.specs.Routines.{Here, Moves, Noted, Routines, WordAt}
-use Rattle.tb_runtime16.specs.Places.{COUNT, HOME_S, LEFT, LINE, NOTES, POP_AT, PUSH_AT, RESULT, SEARCH_AT, TABLE, WANTED}
+use Rattle.tb_runtime16.specs.Routines.{Here, Moves, Routines, WordAt}
+use Rattle.tb_runtime16.specs.Places.{COUNT, HOME_S, LEFT, LINE, NOTES, PUSH_AT, RESULT, SEARCH_AT, TABLE, WANTED}
 use Rattle.tb_keeping.specs.Layout.{Layout, next_at, place_at}
 use Rattle.tb_keeping.proofs.Frames.{owned_low, word_away, word_kept, word_put}
 use Rattle.tb_keeping.proofs.Mirrors.{notes_of}
@@ -17,9 +17,9 @@ use Rattle.tb_keeping.proofs.Pieces.{calls, jumps, jumps_through, points, put_wo
 use Rattle.tb_keeping.proofs.Resolved.{Code, Lies, Piece, call, jump_through, pointed, size}
 use Rattle.tb_keeping.proofs.Returning.{back_here, behind_call, homed_kept}
 use Rattle.tb_selection.specs.declared.liveness.Live.{Live}
-use Rattle.tb_selection.specs.Groups.{AsLine, AsSubroutine, Operand, Single, Usage, Use, use_of}
+use Rattle.tb_selection.specs.Groups.{AsLine, AsSubroutine, Operand, Usage, Use, use_of}
 use Rattle.tb_selection.specs.Liveness.{live}
-use Rattle.tb_grouping.proofs.Frames.{state_placed, state_popped, state_pushed}
+use Rattle.tb_grouping.proofs.Frames.{state_placed, state_pushed}
 use Rattle.tb_grouping.proofs.Lone.{Kept, arrived, kept_lined, kept_put, kept_scratch, lined, lines, numbered}
 use Rattle.tb_grouping.proofs.Matching.{Matches}
 use Rattle.tb_templates.specs.declared.sources.Source.{Source}

@@ -1,28 +1,20 @@
 -- The laws of END, and of jumps to a line's number.
-use Rattle.std.proofs.Common.{◌≡◌, ℕ, suc, ◌+◌, ◌/◌, ◌%◌, ◌<◌, Bool, true, false, if◌then◌else◌, List, [], ◌∷◌, length, refl, sym, ◌∙◌, subst, arith}
-use Rattle.std.specs.Prelude.{nat_lt}
-use Rattle.std.proofs.lemmas.Bool.{ltb-true, ltb-false}
-use Rattle.std.proofs.lemmas.List.{length-map}
-use Rattle.tb_lower.specs.Control.{At, State, deepest, fault_text, has_line, next_after}
-use Rattle.tb_lower.specs.Slots.{Instr, JumpTo, CallTo, End, Slots, SlotCode, Whole}
-use Rattle.tb_reaching.proofs.Comes.{chained, looser}
+use Rattle.std.proofs.Common.{◌≡◌, ℕ, ◌+◌, Bool, true, false, List, [], ◌∷◌, refl, sym, subst, arith}
+use Rattle.tb_lower.specs.Control.{At, State, fault_text, has_line}
+use Rattle.tb_lower.specs.Slots.{Instr, JumpTo, End, Slots, SlotCode, Whole}
+use Rattle.tb_reaching.proofs.Comes.{looser}
 use Rattle.tb_reaching.proofs.Instr.{ins}
 use Rattle.tb_reaching.proofs.Placed.{placed_last}
 use Rattle.tb_reaching.specs.Start.{IsHome}
 use Rattle.tb_reaching.specs.View.{Comes, Fits, Setup, View, view}
-use Rattle.tb_runtime16.specs.Routines.{Here, Moves, Routines, WordAt}
-use Rattle.tb_runtime16.specs.Places.{HOME_S, LEFT, LINE, NOTES, PUSH_AT}
-use Rattle.tb_keeping.specs.Layout.{Layout, next_at, place_at}
-use Rattle.tb_keeping.proofs.Frames.{word_away, word_put}
-use Rattle.tb_keeping.proofs.Mirrors.{notes_of}
-use Rattle.tb_keeping.proofs.Pieces.{calls, jumps, points, put_word, whatever}
+use Rattle.tb_runtime16.specs.Routines.{Routines}
+use Rattle.tb_keeping.specs.Layout.{Layout}
+use Rattle.tb_keeping.proofs.Pieces.{jumps, whatever}
 use Rattle.tb_keeping.proofs.Resolved.{Code, Lies, faulting, jump_to}
-use Rattle.tb_keeping.proofs.Returning.{behind_call, homed_kept}
 use Rattle.tb_selection.specs.Groups.{Single}
-use Rattle.tb_selection.specs.Liveness.{live}
 use Rattle.tb_grouping.proofs.Faults.{faults_at}
-use Rattle.tb_grouping.proofs.Frames.{state_placed, state_pushed}
-use Rattle.tb_grouping.proofs.Lone.{Kept, arrived, kept_lined, kept_put, lined, lines, numbered}
+use Rattle.tb_grouping.proofs.Frames.{state_placed}
+use Rattle.tb_grouping.proofs.Lone.{arrived}
 use Rattle.tb_grouping.proofs.Matching.{Matches}
 use Rattle.tb_grouping.proofs.Coded.{GroupsLaid}
 use Rattle.tb_grouping.proofs.Ready.{Ready, here}

@@ -1,9 +1,9 @@
 -- What the code of a test by a divisor does: Z is whether nothing is left over, and the branch that asks it.
-use Rattle.std.proofs.Common.{◌≡◌, ◌≢◌, ℕ, ◌+◌, ◌-◌, ◌/◌, ◌%◌, ◌^◌, ◌≤◌, ◌<◌, Bool, true, false, true≢false, cond, List, [], ◌∷◌, ◌++◌, length, refl, sym, ap, ◌∙◌, subst, arith, leb, eqb, bit_and, Option}
+use Rattle.std.proofs.Common.{◌≡◌, ◌≢◌, ℕ, ◌+◌, ◌-◌, ◌%◌, ◌^◌, ◌≤◌, Bool, true, false, true≢false, cond, List, [], ◌∷◌, ◌++◌, length, refl, sym, ap, ◌∙◌, subst, arith, leb, eqb, bit_and, Option}
 use Rattle.std.specs.Prelude.{nat_eq, bit_or}
 use Rattle.std.proofs.lemmas.Bool.{eq-eqb}
 use Rattle.tb_opcodes.specs.declared.Mnemonic.TheVariants.{Ora}
-use Rattle.tb_words.specs.Words.{magnitude, quotient}
+use Rattle.tb_words.specs.Words.{magnitude}
 use Rattle.tb_lower.specs.Control.{State, fault_text}
 use Rattle.tb_lower.specs.Slots.{Instr, Slots}
 use Rattle.tb_reaching.proofs.Comes.{chained, looser}
@@ -16,7 +16,7 @@ use Rattle.tb_runtime16.specs.Routines.{Here, Moves, Routines, WithA, WordAt}
 use Rattle.tb_keeping.specs.Layout.{Layout}
 use Rattle.tb_keeping.proofs.Mirrors.{Flagged}
 use Rattle.tb_keeping.proofs.Pieces.{loads_last, moves_looser, moves_then, whatever_a}
-use Rattle.tb_keeping.proofs.Resolved.{Code, Lies, Piece, highest_code, piece_size, pieces_size, size}
+use Rattle.tb_keeping.proofs.Resolved.{Code, Lies, Piece, highest_code, pieces_size, size}
 use Rattle.tb_keeping.proofs.Returning.{back_here}
 use Rattle.tb_selection.specs.Groups.{Divisibility, Group}
 use Rattle.tb_selection.specs.Liveness.{live}

@@ -5,7 +5,7 @@ use Rattle.tb_words.specs.declared.Rel.{Rel}
 use Rattle.tb_syntax.specs.declared.expressions.Operator.{Operator}
 use Rattle.tb_lower.specs.Slots.{Instr, Put, Load, Store, Negate, Compute, Random, SendText, SendNumber, SendZone, SendNewline, Input, Poll, Hold, LeaveUnless, Jump, Call, JumpTo, CallTo, Return, End}
 use Rattle.tb_selection.specs.declared.liveness.Live.{Live}
-use Rattle.tb_selection.specs.Groups.{Operand, Constant, Variable, InSlot, Home, Destination, IntoHome, Tested, HeldBefore, HeldNow, Conversion, Negated, Drawn, Usage, Group, Calculate, Convert, Move, Use, Divisibility, Test, TestGo, Divides, Single, slot_of, expand_all}
+use Rattle.tb_selection.specs.Groups.{Operand, Constant, Variable, InSlot, Home, Destination, IntoHome, Tested, HeldBefore, HeldNow, Conversion, Negated, Drawn, Usage, Group, Calculate, Convert, Move, Use, Test, TestGo, Divides, Single, slot_of, expand_all}
 use Rattle.tb_selection.specs.Laws.{AreChosen}
 use Rattle.tb_selection.specs.Liveness.{live}
 use Rattle.tb_selection.proofs.Chosen.{chosen}

@@ -9,7 +9,7 @@ use Rattle.tb_selection.specs.Liveness.{live, nothing_live}
 use Rattle.tb_selection.specs.Select.{alone, division, fused, merged, may_stand, omits_only_dead, shortened, tried, attach, select}
 use Rattle.tb_selection.specs.Laws.{AreChosen}
 use Rattle.tb_selection.proofs.Bracketed.{attach_is, brackets}
-use Rattle.tb_selection.proofs.Shortened.{IsDivision, divides, no_division, division_is, test_of, test_omits, test_stands}
+use Rattle.tb_selection.proofs.Shortened.{IsDivision, divides, no_division, division_is, test_omits, test_stands}
 
 -- an instruction alone omits nothing
 pub alone_free : (i : Instr) (r : Live) → omits_only_dead (alone i) r ≡ true

@@ -1,13 +1,13 @@
 -- Three groups that ask whether a word divides a variable, and the one in their place.
 use Rattle.std.proofs.Common.{◌≡◌, ℕ, Bool, true, false, if◌then◌else◌, List, ◌++◌, refl, sym, ap, ◌∙◌, Option, Some, None}
-use Rattle.std.specs.Prelude.{◌&&◌, nat_eq, nat_le, not}
+use Rattle.std.specs.Prelude.{◌&&◌, nat_eq}
 use Rattle.std.proofs.lemmas.Bool.{and_parts, eqb-true}
 use Rattle.tb_words.specs.declared.Rel.{Rel}
 use Rattle.tb_words.specs.declared.Rel.TheVariants as rel
 use Rattle.tb_syntax.specs.declared.expressions.Operator.TheVariants as op
 use Rattle.tb_lower.specs.Slots.{Instr}
 use Rattle.tb_selection.specs.declared.liveness.Live.{Live}
-use Rattle.tb_selection.specs.Groups.{Operand, Constant, Variable, InSlot, IntoSlot, IntoHome, HeldBefore, HeldNow, Divisibility, Divisible, Indivisible, Group, Calculate, Convert, Move, Use, Test, TestGo, Divides, Single, compared, expand}
+use Rattle.tb_selection.specs.Groups.{Operand, Constant, Variable, InSlot, IntoSlot, IntoHome, HeldBefore, HeldNow, Divisibility, Group, Calculate, Convert, Move, Use, Test, TestGo, Divides, Single, compared, expand}
 use Rattle.tb_selection.specs.Select.{omits_only_dead, may_stand, provided, quotient_in, factor_in, equality, equality_in, same_operand, division_of, division}
 
 -- a test of slot 0 against a variable

@@ -12,7 +12,7 @@ use Rattle.tb_syntax.specs.Source.{numbers}
 use Rattle.tb_asm.specs.Layout.{Entry}
 use Rattle.tb_lower.specs.Control.{At, has_line, next_after}
 use Rattle.tb_lower.specs.Slots.{Instr, Put, Load, Store, Negate, Compute, Random, SendText, SendNumber, SendZone, SendNewline, Input, Poll, Hold, LeaveUnless, Jump, Call, JumpTo, CallTo, Return, End, SlotCode}
-use Rattle.tb_selection.specs.Groups.{Conversion, Negated, Drawn, Usage, AsNumber, AsLine, AsSubroutine, Variable, Divisibility, Divisible, Indivisible, Group, Calculate, Convert, Move, Use, Test, TestGo, Divides, Single, contrary, denied, slot_of}
+use Rattle.tb_selection.specs.Groups.{Conversion, Negated, Drawn, Usage, AsNumber, AsLine, AsSubroutine, Variable, Divisibility, Group, Calculate, Convert, Move, Use, Test, TestGo, Divides, Single, contrary, denied, slot_of}
 use Rattle.tb_selection.specs.Select.{select}
 use Rattle.tb_runtime16.specs.Places.{LEFT, RIGHT, RESULT, LINE, MULTIPLY_AT, DIVIDE_AT, RANDOM_AT}
 use Rattle.tb_templates.specs.declared.labels.Inner.{Inner}
