@@ -1,5 +1,5 @@
 -- Pieces of code at any address, on data at any place.
-use Rattle.std.proofs.Common.{⊎_elim, ◌≡◌, ℕ, ◌+◌, ◌/◌, ◌%◌, ◌≤◌, ◌<◌, Bool, true, false, List, [], ◌∷◌, ◌++◌, length, refl, sym, ap, ◌∙◌, subst, arith, leb, eqb, Some, None, Ok}
+use Rattle.std.proofs.Common.{◌≡◌, ℕ, ◌+◌, ◌/◌, ◌%◌, ◌≤◌, Bool, true, false, List, [], ◌∷◌, ◌++◌, length, refl, sym, ap, subst, arith, leb, Some, None, Ok}
 use Rattle.tb_keeping.proofs.Mirrors.{Carrying}
 use Rattle.tb_keeping.proofs.Resolved.{call, constant, highest_code, jump, jump_through, pointed}
 use Rattle.tb_runtime16.specs.Routines.{Here, WithA, Moves, WordAt}
@@ -13,7 +13,7 @@ use Rattle.tb_reaching.specs.View.{Bytes}
 use Rattle.tb_reaching.proofs.Instr.{Instr, Stands, act_instr, ins, instr_bytes}
 use Rattle.tb_reaching.specs.View.{Comes, Fits, Setup, View, is_data, view, with_s}
 use Rattle.tb_runtime16.specs.Places.{RESULT}
-use Rattle.std.specs.Prelude.{◌==◌, nat_lt, if◌then◌else◌}
+use Rattle.std.specs.Prelude.{◌==◌, if◌then◌else◌}
 use Rattle.std.proofs.lemmas.Bool.Decides.{nat_tests}
 use Rattle.tb_opcodes.specs.Opcodes.{find_row, rows}
 use Rattle.tb_cpu.specs.declared.registers.Regs.{Regs}

@@ -1,13 +1,12 @@
 -- Places where nothing on the way may be, as the first bytes of lines; a law that begins at such a place.
-use Rattle.std.proofs.Common.{◌≡◌, ◌⊎◌, ℕ, ◌+◌, ◌≤◌, Bool, true, false, List, [], ◌∷◌, refl, ap, ◌∙◌, subst, inl, inr, ⊎_elim, arith, Some, None}
-use Rattle.std.specs.Prelude.{if◌then◌else◌}
+use Rattle.std.proofs.Common.{◌≡◌, ◌⊎◌, ℕ, ◌+◌, ◌≤◌, true, List, [], ◌∷◌, refl, ap, ◌∙◌, subst, inl, inr, ⊎_elim, arith}
 use Rattle.std.proofs.lemmas.Bool.{and_parts}
 use Rattle.tb_kernal.specs.declared.events.Event.{Event}
 use Rattle.tb_kernal.specs.declared.events.Event.TheVariants.{Go, Interrupt}
 use Rattle.tb_kernal.specs.Machine.{State, happens}
 use Rattle.tb_kernal.specs.Runs.{run, all_lawful, goes}
 use Rattle.tb_reaching.specs.Reaching.{Arrived, OnTheWay}
-use Rattle.tb_reaching.specs.View.{View, Setup, At, Part, without, Holds, UnderWay, Among, Comes}
+use Rattle.tb_reaching.specs.View.{View, Setup, At, Holds, UnderWay, Among, Comes}
 use Rattle.tb_reaching.proofs.Laws.{interrupt_sends_nothing, goes_append, lawful_after, then_arrived, then_on_the_way}
 use Rattle.tb_reaching.proofs.Act.{kept_by_interrupt}
 

@@ -1,15 +1,15 @@
 -- The ends of a run, and that nothing goes wrong on the way.
-use Rattle.std.proofs.Common.{◌≡◌, ◌⊎◌, ℕ, ◌+◌, true, false, List, [], ◌∷◌, ◌++◌, length, refl, sym, ap, ◌∙◌, subst, inl, inr, ⊎_elim}
+use Rattle.std.proofs.Common.{◌≡◌, ◌⊎◌, ℕ, ◌+◌, true, List, [], ◌∷◌, ◌++◌, length, refl, sym, ap, ◌∙◌, subst, inl, inr, ⊎_elim}
 use Rattle.std.proofs.lemmas.Bool.{and_parts}
 use Rattle.tb_kernal.specs.declared.events.Event.{Event}
 use Rattle.tb_kernal.specs.declared.status.Status.TheVariants.{Running, Waits, Returned, Wrong as WentWrong}
 use Rattle.tb_kernal.specs.Machine.{State, status, happens, is_lawful}
 use Rattle.tb_kernal.specs.Runs.{run, all_lawful}
 use Rattle.tb_reaching.specs.Reaching.{States, Reaches, OnTheWay, NotWrong}
-use Rattle.tb_reaching.specs.View.{View, Setup, At, UnderWay, Among, Comes, back_at}
-use Rattle.tb_reaching.specs.Start.{IsHome, IsWaiting, Homed}
+use Rattle.tb_reaching.specs.View.{View, Setup, At, UnderWay, Among, Comes}
+use Rattle.tb_reaching.specs.Start.{IsHome, IsWaiting}
 use Rattle.tb_reaching.proofs.Laws.{run_append, lawful_after, weakened}
-use Rattle.tb_reaching.proofs.Services.{waits, waits_on, comes_home, stays_home}
+use Rattle.tb_reaching.proofs.Services.{waits, comes_home, stays_home}
 
 -- ---- a machine that is under way is not wrong
 pub not_wrong : (f : Setup) (s : State) → UnderWay f s → NotWrong s

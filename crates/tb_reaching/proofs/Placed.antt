@@ -10,12 +10,12 @@ use Rattle.tb_opcodes.specs.declared.Mode.TheVariants.{Implied, Accumulator, Imm
 use Rattle.tb_cpu.specs.declared.registers.Regs.{Regs}
 use Rattle.tb_cpu.specs.declared.wrong.Wrong.{Wrong}
 use Rattle.tb_cpu.specs.declared.wrong.Wrong.TheVariants.{Closed}
-use Rattle.tb_cpu.specs.Operands.{reading, and_then, operand_of, word_at, indirect_address, is_accumulator, word}
+use Rattle.tb_cpu.specs.Operands.{reading, and_then, operand_of, word_at, is_accumulator}
 use Rattle.tb_cpu.specs.Instructions.{Outcome, executed, executed_on_a, advanced, instruction, stored}
 use Rattle.tb_kernal.specs.Machine.{State}
 use Rattle.tb_reaching.specs.View.{View, Setup, At, Part, Fits, Comes, with_s, is_data, Bytes}
 use Rattle.tb_reaching.proofs.Acting.{read_view, from_part, finish_view, act_operand, act_kind, Plain, kind_of}
-use Rattle.tb_reaching.proofs.Instr.{Instr, ins, operand_bytes, instr_bytes, bytes_by, Stands, operand_by, reader_by, act_instr_row, act_instr, run_along, Follows}
+use Rattle.tb_reaching.proofs.Instr.{Instr, operand_bytes, instr_bytes, bytes_by, Stands, operand_by, reader_by, act_instr_row, act_instr, run_along, Follows}
 use Rattle.tb_reaching.proofs.Readers.{then_more, more_word, more_executed, moved}
 use Rattle.tb_reaching.proofs.Memory.{data_fixed, fixed_open}
 use Rattle.tb_reaching.proofs.Act.{none≢some, read_code, read_more, Left, mode_left, goes_by}
