@@ -1,5 +1,5 @@
-//! What meets the host: readers and writers whose failures are counted, whole inputs and outputs, lines, key lists, and the
-//! text in which sent bytes are shown.
+//! What meets the host: readers and writers whose failures are counted, whole inputs and outputs, lines, key lists, and
+//! the text in which sent bytes are shown.
 #![tactic(auto)]
 
 mod key_files;
