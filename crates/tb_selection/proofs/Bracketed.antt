@@ -1,14 +1,14 @@
 -- The groups of a list are the list, and none leaves out what is read behind it.
 use Rattle.std.proofs.Common.{◌≡◌, ℕ, ◌+◌, Bool, true, false, if◌then◌else◌, List, [], ◌∷◌, ◌++◌, refl, sym, ap, ◌∙◌, append_assoc, Option, Some, None}
 use Rattle.std.specs.Prelude.{◌&&◌, nat_eq, option_map}
-use Rattle.std.proofs.lemmas.Bool.{eqb-true}
+use Rattle.std.proofs.lemmas.Bool.{and_parts, eqb-true}
 use Rattle.tb_words.specs.declared.Rel.{Rel}
 use Rattle.tb_syntax.specs.declared.expressions.Operator.{Operator}
 use Rattle.tb_lower.specs.Slots.{Instr, Put, Load, Store, Negate, Compute, Random, SendText, SendNumber, SendZone, SendNewline, Input, Poll, Hold, LeaveUnless, Jump, Call, JumpTo, CallTo, Return, End}
-use Rattle.tb_selection.specs.Groups.{Operand, Constant, Variable, InSlot, Home, Destination, IntoHome, Tested, HeldBefore, HeldNow, Conversion, Negated, Drawn, Usage, Group, Calculate, Convert, Move, Use, Test, TestGo, Divides, Single, fetch, keep, slot_of, kept, held, convert, use_of, expand, expand_all}
+use Rattle.tb_selection.specs.Groups.{Operand, Constant, Variable, InSlot, Home, IntoVariable, IntoHeld, Destination, IntoSlot, IntoHome, Tested, HeldBefore, HeldNow, Conversion, Negated, Drawn, Usage, Group, Calculate, Stepped, Convert, Move, Use, Test, TestGo, Divides, Remains, Single, fetch, keep, slot_of, kept, held, convert, use_of, expand, expand_all}
 use Rattle.tb_selection.specs.Liveness.{live}
-use Rattle.tb_selection.specs.Select.{alone, provided, calculate_with, convert_with, move_with, use_with, words_with, with_word, calculated, converted, held_before, gone, merged, omits_only_dead, may_stand, division, shortened, fused, tried, attach, select}
-use Rattle.tb_selection.proofs.Shortened.{IsDivision, divides, no_division, division_is, three_expanded}
+use Rattle.tb_selection.specs.Select.{alone, provided, calculate_with, operands_with, convert_with, move_with, use_with, words_with, with_word, goes_on, calculated, converted, held_before, gone, merged, omits_only_dead, may_stand, three_as_one, four_as_one, allowed, instead, fused, tried, attach, select}
+use Rattle.tb_selection.proofs.SeveralAsOne.{IsFour, IsThree, four_is, three_is}
 
 -- an instruction alone is itself
 pub alone_is : (i : Instr) → expand (alone i) ≡ i ∷ []
@@ -51,6 +51,11 @@ at_slot : (t : Bool) (g : Group) (is : List Instr) → (t ≡ true → expand g 
 at_slot true g is h = h refl
 at_slot false g is h = tt
 
+-- the same of the operands of a calculation that goes on by a constant
+at_operands : (is : List Instr) (op by : Operator) (w x : ℕ) (t : Bool) (a b : Operand) → (t ≡ true → expand (Stepped op a b by w x) ≡ is) → IsThis is (option_map (λ (words : Operand × Operand). Stepped op words.0 words.1 by w x) (if t then Some (a, b) else None))
+at_operands is op by w x true a b h = h refl
+at_operands is op by w x false a b h = tt
+
 -- the words of a test that is these instructions with some more behind it, if there are such words
 abbrev TestThis : Rel → (behind is : List Instr) → Option (Tested × Operand) → Type 0
 TestThis rel behind is None = Unit {0}
@@ -80,6 +85,13 @@ module _ (k : ℕ) (i : Instr) (l : Operand) (h : Fetches k i l) where
   calculate_is op InSlot (Constant v) d = at_slot (nat_eq k (slot_of d)) (Calculate op l (Constant v) d) _ (more (slot_of d) (Put (slot_of d + 1) v ∷ Compute op (slot_of d) ∷ kept d))
   calculate_is op InSlot (Variable y) d = at_slot (nat_eq k (slot_of d)) (Calculate op l (Variable y) d) _ (more (slot_of d) (Load (slot_of d + 1) y ∷ Compute op (slot_of d) ∷ kept d))
 
+  stepped_is : (op : Operator) (a b : Operand) (by : Operator) (w x : ℕ) → IsThis (i ∷ expand (Stepped op a b by w x)) (option_map (λ words. Stepped op words.0 words.1 by w x) (operands_with k l a b))
+  stepped_is op (Constant v) b by w x = tt
+  stepped_is op (Variable y) b by w x = tt
+  stepped_is op InSlot InSlot by w x = at_operands _ op by w x (nat_eq k 1) InSlot l (more 1 (Compute op 0 ∷ Put 1 w ∷ Compute by 0 ∷ Store x ∷ []))
+  stepped_is op InSlot (Constant v) by w x = at_operands _ op by w x (nat_eq k 0) l (Constant v) (more 0 (Put 1 v ∷ Compute op 0 ∷ Put 1 w ∷ Compute by 0 ∷ Store x ∷ []))
+  stepped_is op InSlot (Variable y) by w x = at_operands _ op by w x (nat_eq k 0) l (Variable y) (more 0 (Load 1 y ∷ Compute op 0 ∷ Put 1 w ∷ Compute by 0 ∷ Store x ∷ []))
+
   move_is : (a : Operand) (home : Home) → IsThis (i ∷ expand (Move a home)) (move_with k l a home)
   move_is InSlot home = at_slot (nat_eq k 0) (Move l home) _ (more 0 (keep home ∷ []))
   move_is (Constant v) home = tt
@@ -105,24 +117,35 @@ module _ (k : ℕ) (i : Instr) (l : Operand) (h : Fetches k i l) where
 
   with_is : (g : Group) → IsThis (i ∷ expand g) (with_word k l g)
   with_is (Calculate op a b d) = calculate_is op a b d
+  with_is (Stepped op a b by w x) = stepped_is op a b by w x
   with_is (Move a home) = move_is a home
   with_is (Convert what a d) = convert_is what a d
   with_is (Use how a) = use_is how a
   with_is (Test rel a b) = test_this rel _ (words_with k l a b) (words_are rel [] a b)
   with_is (TestGo rel a b to) = go_this rel to _ (words_with k l a b) (words_are rel (JumpTo to ∷ []) a b)
-  with_is (Divides how x d to) = tt
+  with_is (Divides how x d side to) = tt
+  with_is (Remains x d to) = tt
   with_is (Single j) = tt
 
 calculated_is : (op : Operator) (k : ℕ) (g : Group) → IsThis (Compute op k ∷ expand g) (calculated op k g)
 calculated_is op k (Move InSlot home) = at_slot (nat_eq k 0) (Calculate op InSlot InSlot (IntoHome home)) _ (λ e. ap (λ j. Compute op j ∷ keep home ∷ []) (sym (eqb-true k 0 e)))
 calculated_is op k (Move (Constant w) home) = tt
 calculated_is op k (Move (Variable x) home) = tt
-calculated_is op k (Calculate op' a b d) = tt
+calculated_is op k (Calculate by InSlot (Constant w) (IntoHome (IntoVariable x))) =
+    at_slot (nat_eq k 0 && goes_on by w) (Stepped op InSlot InSlot by w x) _ (λ e. ap (λ j. Compute op j ∷ Put 1 w ∷ Compute by 0 ∷ Store x ∷ []) (sym (eqb-true k 0 (and_parts (nat_eq k 0) (goes_on by w) e).0)))
+calculated_is op k (Calculate by InSlot (Constant w) (IntoHome IntoHeld)) = tt
+calculated_is op k (Calculate by InSlot (Constant w) (IntoSlot j)) = tt
+calculated_is op k (Calculate by InSlot (Variable y) d) = tt
+calculated_is op k (Calculate by InSlot InSlot d) = tt
+calculated_is op k (Calculate by (Constant v) b d) = tt
+calculated_is op k (Calculate by (Variable y) b d) = tt
+calculated_is op k (Stepped op' a b by w x) = tt
 calculated_is op k (Convert what a d) = tt
 calculated_is op k (Use how a) = tt
 calculated_is op k (Test rel a b) = tt
 calculated_is op k (TestGo rel a b to) = tt
-calculated_is op k (Divides how x d to) = tt
+calculated_is op k (Divides how x d side to) = tt
+calculated_is op k (Remains x d to) = tt
 calculated_is op k (Single i) = tt
 
 converted_is : (what : Conversion) (k : ℕ) (g : Group) → IsThis (convert what k ∷ expand g) (converted what k g)
@@ -134,7 +157,9 @@ converted_is what k (Convert what' a d) = tt
 converted_is what k (Use how a) = tt
 converted_is what k (Test rel a b) = tt
 converted_is what k (TestGo rel a b to) = tt
-converted_is what k (Divides how x d to) = tt
+converted_is what k (Stepped op a b by w x) = tt
+converted_is what k (Divides how x d side to) = tt
+converted_is what k (Remains x d to) = tt
 converted_is what k (Single i) = tt
 
 gone_is : (rel : Rel) (g : Group) → IsThis (LeaveUnless rel ∷ expand g) (gone rel g)
@@ -164,7 +189,9 @@ gone_is rel (Move a home) = tt
 gone_is rel (Use how a) = tt
 gone_is rel (Test rel' a b) = tt
 gone_is rel (TestGo rel' a b to) = tt
-gone_is rel (Divides how x d to) = tt
+gone_is rel (Stepped op a b by w x) = tt
+gone_is rel (Divides how x d side to) = tt
+gone_is rel (Remains x d to) = tt
 
 held_is : (g : Group) → IsThis (Hold ∷ expand g) (held_before g)
 held_is (Test rel HeldBefore b) = refl
@@ -175,7 +202,9 @@ held_is (Calculate op a b d) = tt
 held_is (Convert what a d) = tt
 held_is (Use how a) = tt
 held_is (Move a home) = tt
-held_is (Divides how x d to) = tt
+held_is (Stepped op a b by w x) = tt
+held_is (Divides how x d side to) = tt
+held_is (Remains x d to) = tt
 held_is (Single i) = tt
 
 -- a merged group is both
@@ -204,25 +233,46 @@ merged_is End g = tt
 alone_before : (i : Instr) (gs : List Group) → expand_all (alone i ∷ gs) ≡ i ∷ expand_all gs
 alone_before i gs = ap (λ l. l ++ expand_all gs) (alone_is i)
 
-shortened_is : (a b c : Group) (o : Option Group) (gs : List Group) → IsDivision a b c o → expand_all (shortened o a b c gs) ≡ expand_all (a ∷ b ∷ c ∷ gs)
-shortened_is a b c _ gs (divides how x d to ea eb ec) =
-    three_expanded how x d to (expand_all gs)
-    ∙ (λ i. expand (sym ea i) ++ (expand (sym eb i) ++ (expand (sym ec i) ++ expand_all gs)))
-shortened_is a b c _ gs no_division = refl
+-- a group, if there is one, and those behind it have these instructions
+abbrev Gives : Option Group → List Group → List Instr → Type 0
+Gives None gs is = Unit {0}
+Gives (Some m) gs is = expand m ++ expand_all gs ≡ is
+
+of_three : (a b c : Group) (o : Option Group) (gs : List Group) → IsThree a b c o → Gives o gs (expand_all (a ∷ b ∷ c ∷ gs))
+of_three a b c None gs h = tt
+of_three a b c (Some m) gs h = h (expand_all gs)
+
+of_four : (a b c e : Group) (o : Option Group) (gs : List Group) → IsFour a b c e o → Gives o gs (expand_all (a ∷ b ∷ c ∷ e ∷ gs))
+of_four a b c e None gs h = tt
+of_four a b c e (Some m) gs h = h (expand_all gs)
+
+instead_is : (o : Option Group) (gs others : List Group) (is : List Instr) → Gives o gs is → expand_all others ≡ is → expand_all (instead (allowed o gs) gs others) ≡ is
+instead_is None gs others is h k = k
+instead_is (Some m) gs others is h k = by (omits_only_dead m (live (expand_all gs)) && may_stand m gs)
+  where
+    by : (t : Bool) → expand_all (instead (provided t m) gs others) ≡ is
+    by true = h
+    by false = k
 
 -- a group before others is that
 fused_is : (a : Group) (gs : List Group) → expand_all (fused a gs) ≡ expand_all (a ∷ gs)
 fused_is a [] = refl
 fused_is a (b ∷ []) = refl
-fused_is a (b ∷ c ∷ gs) = shortened_is a b c (division a b c) gs (division_is a b c)
+fused_is a (b ∷ c ∷ []) = instead_is (three_as_one a b c) [] (a ∷ b ∷ c ∷ []) _ (of_three a b c (three_as_one a b c) [] (three_is a b c)) refl
+fused_is a (b ∷ c ∷ e ∷ gs) =
+    instead_is (three_as_one a b c) (e ∷ gs) _ _ (of_three a b c (three_as_one a b c) (e ∷ gs) (three_is a b c))
+    (instead_is (four_as_one a b c e) gs (a ∷ b ∷ c ∷ e ∷ gs) _ (of_four a b c e (four_as_one a b c e) gs (four_is a b c e)) refl)
 
-tried_is : (o : Option Group) (i : Instr) (g : Group) (gs : List Group) → IsThis (i ∷ expand g) o → expand_all (tried o (live (expand_all gs)) i g gs) ≡ i ∷ expand_all (g ∷ gs)
-tried_is None i g gs h = alone_before i (g ∷ gs)
+alone_fused : (i : Instr) (gs : List Group) → expand_all (fused (alone i) gs) ≡ i ∷ expand_all gs
+alone_fused i gs = fused_is (alone i) gs ∙ alone_before i gs
+
+tried_is : (o : Option Group) (i : Instr) (g : Group) (gs : List Group) → IsThis (i ∷ expand g) o → expand_all (tried (allowed o gs) i g gs) ≡ i ∷ expand_all (g ∷ gs)
+tried_is None i g gs h = alone_fused i (g ∷ gs)
 tried_is (Some m) i g gs h = by (omits_only_dead m (live (expand_all gs)) && may_stand m gs)
   where
-    by : (t : Bool) → expand_all (if t then fused m gs else alone i ∷ g ∷ gs) ≡ i ∷ expand_all (g ∷ gs)
+    by : (t : Bool) → expand_all (tried (provided t m) i g gs) ≡ i ∷ expand_all (g ∷ gs)
     by true = fused_is m gs ∙ ap (λ l. l ++ expand_all gs) h
-    by false = alone_before i (g ∷ gs)
+    by false = alone_fused i (g ∷ gs)
 
 -- an instruction before groups is that
 pub attach_is : (i : Instr) (gs : List Group) → expand_all (attach i gs) ≡ i ∷ expand_all gs

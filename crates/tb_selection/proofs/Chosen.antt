@@ -6,10 +6,9 @@ use Rattle.tb_lower.specs.Slots.{Instr, Put, Load, Store, Negate, Compute, Rando
 use Rattle.tb_selection.specs.declared.liveness.Live.{Live}
 use Rattle.tb_selection.specs.Groups.{Group, expand_all}
 use Rattle.tb_selection.specs.Liveness.{live, nothing_live}
-use Rattle.tb_selection.specs.Select.{alone, division, fused, merged, may_stand, omits_only_dead, shortened, tried, attach, select}
+use Rattle.tb_selection.specs.Select.{allowed, alone, attach, four_as_one, fused, instead, may_stand, merged, omits_only_dead, provided, select, three_as_one, tried}
 use Rattle.tb_selection.specs.Laws.{AreChosen}
-use Rattle.tb_selection.proofs.Bracketed.{attach_is, brackets}
-use Rattle.tb_selection.proofs.Shortened.{IsDivision, divides, no_division, division_is, test_omits, test_stands}
+use Rattle.tb_selection.proofs.Bracketed.{brackets}
 
 -- an instruction alone omits nothing
 pub alone_free : (i : Instr) (r : Live) → omits_only_dead (alone i) r ≡ true
@@ -57,21 +56,24 @@ alone_stands (CallTo to) gs = refl
 alone_stands Return gs = refl
 alone_stands End gs = refl
 
-shortened_chosen : (a b c : Group) (o : Option Group) (gs : List Group) → IsDivision a b c o → AreChosen (a ∷ b ∷ c ∷ gs) → AreChosen (shortened o a b c gs)
-shortened_chosen a b c _ gs (divides how x d to ea eb ec) h =
-    let last = subst (λ c. AreChosen (c ∷ gs)) ec h.3.3 in
-    (sym (test_omits how x d to (live (expand_all gs))) ∙ last.0, last.1, sym (test_stands how x d to gs) ∙ last.2, last.3)
-shortened_chosen a b c _ gs no_division h = h
+-- one group in place of some
+instead_chosen : (o : Option Group) (gs others : List Group) → select (expand_all gs) ≡ gs → AreChosen gs → AreChosen others → AreChosen (instead (allowed o gs) gs others)
+instead_chosen None gs others again h k = k
+instead_chosen (Some m) gs others again h k = by (omits_only_dead m (live (expand_all gs)) && may_stand m gs) refl
+  where
+    by : (t : Bool) → (omits_only_dead m (live (expand_all gs)) && may_stand m gs) ≡ t → AreChosen (instead (provided t m) gs others)
+    by true e = let p = and_parts (omits_only_dead m (live (expand_all gs))) (may_stand m gs) e in (p.0, again, p.1, h)
+    by false e = k
 
-pub fused_chosen : (a : Group) (gs : List Group) → AreChosen (a ∷ gs) → AreChosen (fused a gs)
+fused_chosen : (a : Group) (gs : List Group) → AreChosen (a ∷ gs) → AreChosen (fused a gs)
 fused_chosen a [] h = h
 fused_chosen a (b ∷ []) h = h
-fused_chosen a (b ∷ c ∷ gs) h = shortened_chosen a b c (division a b c) gs (division_is a b c) h
+fused_chosen a (b ∷ c ∷ []) h = instead_chosen (three_as_one a b c) [] (a ∷ b ∷ c ∷ []) refl tt h
+fused_chosen a (b ∷ c ∷ e ∷ gs) h =
+    let last = h.3.3.3 in
+    instead_chosen (three_as_one a b c) (e ∷ gs) _ h.3.3.1 last (instead_chosen (four_as_one a b c e) gs (a ∷ b ∷ c ∷ e ∷ gs) last.1 last.3 h)
 
--- nothing is live behind it
-no_other : {A : Type 0} (x : A) → ◌≡◌ {A = Option A} None (Some x) → ⊥
-no_other x e = cc
-
+-- where no slot and not the held word is read, nothing is
 pub nothing_read : (r : Live) → (nat_le r.slots 0 && not r.held) ≡ true → nothing_live ≡ r
 nothing_read r h =
     let p = and_parts (nat_le r.slots 0) (not r.held) h in
@@ -82,15 +84,6 @@ nothing_read r h =
     is_false true e = e
     is_false false e = refl
 
-pub divided_live : (a b c g : Group) (gs : List Group) → division a b c ≡ Some g → AreChosen (b ∷ c ∷ gs) → nothing_live ≡ live (expand_all gs)
-divided_live a b c g gs e h = by (division a b c) (division_is a b c) e
-  where
-    by : (o : Option Group) → IsDivision a b c o → o ≡ Some g → nothing_live ≡ live (expand_all gs)
-    by _ (divides how x d to ea eb ec) e =
-        let last = subst (λ c. AreChosen (c ∷ gs)) ec h.3 in
-        nothing_read (live (expand_all gs)) (sym (test_omits how x d to (live (expand_all gs))) ∙ last.0)
-    by _ no_division e = absurd (no_other g e)
-
 attach_chosen : (i : Instr) (is : List Instr) (gs : List Group) → select is ≡ gs → AreChosen gs → AreChosen (attach i gs)
 attach_chosen i is [] e h = (alone_free i _, refl, alone_stands i [], tt)
 attach_chosen i is (g ∷ gs) e h = by (merged i g)
@@ -98,14 +91,14 @@ attach_chosen i is (g ∷ gs) e h = by (merged i g)
     again : select (expand_all (g ∷ gs)) ≡ g ∷ gs
     again = ap (λ l. select (expand_all l)) (sym e) ∙ ap select (brackets is) ∙ e
 
-    single : AreChosen (alone i ∷ g ∷ gs)
-    single = (alone_free i _, again, alone_stands i (g ∷ gs), h)
+    single : AreChosen (fused (alone i) (g ∷ gs))
+    single = fused_chosen (alone i) (g ∷ gs) (alone_free i _, again, alone_stands i (g ∷ gs), h)
 
-    by_free : (m : Group) (t : Bool) → (omits_only_dead m (live (expand_all gs)) && may_stand m gs) ≡ t → AreChosen (if t then fused m gs else alone i ∷ g ∷ gs)
+    by_free : (m : Group) (t : Bool) → (omits_only_dead m (live (expand_all gs)) && may_stand m gs) ≡ t → AreChosen (tried (provided t m) i g gs)
     by_free m true q = let p = and_parts (omits_only_dead m (live (expand_all gs))) (may_stand m gs) q in fused_chosen m gs (p.0, h.1, p.1, h.3)
     by_free m false q = single
 
-    by : (o : Option Group) → AreChosen (tried o (live (expand_all gs)) i g gs)
+    by : (o : Option Group) → AreChosen (tried (allowed o gs) i g gs)
     by None = single
     by (Some m) = by_free m (omits_only_dead m (live (expand_all gs)) && may_stand m gs) refl
 
@@ -113,14 +106,3 @@ attach_chosen i is (g ∷ gs) e h = by (merged i g)
 pub chosen : (is : List Instr) → AreChosen (select is)
 chosen [] = tt
 chosen (i ∷ is) = attach_chosen i is (select is) refl (chosen is)
-
--- so it is with groups that are those of their list, also once an instruction is before them
-abbrev pub AreOwn : List Group → Type 0
-AreOwn gs = gs ≡ select (expand_all gs)
-
-pub own_chosen : (gs : List Group) → AreOwn gs → AreChosen gs
-own_chosen gs e = subst AreChosen (sym e) (chosen (expand_all gs))
-
-pub own_attached : (i : Instr) (gs gs' : List Group) → AreOwn gs → gs' ≡ attach i gs → AreOwn gs'
-own_attached i gs gs' e q =
-    q ∙ ap (attach i) e ∙ ap select (sym (attach_is i gs)) ∙ ap (λ l. select (expand_all l)) (sym q)

@@ -2,9 +2,9 @@
 use Rattle.std.proofs.Common.{◌≡◌, ℕ, zero, suc, ◌+◌, ◌-◌, ◌≤◌, ◌<◌, List, [], ◌∷◌, ◌++◌, refl, sym, ap, ◌∙◌, subst, append-nil, arith, ⊎_elim, zero-add, suc-add}
 use Rattle.std.proofs.lemmas.Bool.{cases_lt}
 use Rattle.tb_lower.specs.Steps.{End, Step, Goes, Stops, and_then, after_sending, Run, GoesOn, Over, joined, advance, advance_by}
-use Rattle.tb_lower.specs.Slots.{Instr, Compute, LeaveUnless, JumpTo, SlotCode, Rest, Whole, Left, SlotState, slot_step, begins, beginnings}
+use Rattle.tb_lower.specs.Slots.{Instr, Put, Store, Compute, LeaveUnless, JumpTo, SlotCode, Rest, Whole, Left, SlotState, slot_step, begins, beginnings}
 use Rattle.tb_lower.proofs.Runs.{advance_sum, joined_after}
-use Rattle.tb_selection.specs.Groups.{Operand, Constant, Variable, InSlot, HeldBefore, HeldNow, Group, Calculate, Convert, Move, Use, Test, TestGo, Divides, Single, fetch, keep, kept, convert, use_of, slot_of, expand}
+use Rattle.tb_selection.specs.Groups.{Operand, Constant, Variable, InSlot, HeldBefore, HeldNow, Group, Calculate, Stepped, Convert, Move, Use, Test, TestGo, OnLeft, OnRight, Divides, Remains, Single, fetch, keep, kept, convert, use_of, slot_of, expand}
 use Rattle.tb_selection.specs.Select.{select}
 use Rattle.tb_selection.specs.GroupSteps.{inside, steps, ahead, first, first_group, fallen, group_step, groups_begin, InsideRest, IsInside}
 use Rattle.tb_selection.specs.Laws.{Reached, Found}
@@ -19,6 +19,9 @@ pub expand_some : (g : Group) → (i : Instr) × (is : List Instr) × (expand g 
 expand_some (Calculate op (Constant w) b d) = (_, _, refl)
 expand_some (Calculate op (Variable x) b d) = (_, _, refl)
 expand_some (Calculate op InSlot b d) = operand_some (slot_of d + 1) b (Compute op (slot_of d)) (kept d)
+expand_some (Stepped op (Constant w) b by v x) = (_, _, refl)
+expand_some (Stepped op (Variable y) b by v x) = (_, _, refl)
+expand_some (Stepped op InSlot b by v x) = operand_some 1 b (Compute op 0) (Put 1 v ∷ Compute by 0 ∷ Store x ∷ [])
 expand_some (Convert what a d) = operand_some (slot_of d) a (convert what (slot_of d)) (kept d)
 expand_some (Use how a) = operand_some 0 a (use_of how) []
 expand_some (Move a home) = operand_some 0 a (keep home) []
@@ -30,7 +33,9 @@ expand_some (TestGo rel HeldBefore b to) = operand_some 0 b (LeaveUnless rel) (J
 expand_some (TestGo rel (HeldNow (Constant w)) b to) = (_, _, refl)
 expand_some (TestGo rel (HeldNow (Variable x)) b to) = (_, _, refl)
 expand_some (TestGo rel (HeldNow InSlot) b to) = (_, _, refl)
-expand_some (Divides how x d to) = (_, _, refl)
+expand_some (Divides how x d OnLeft to) = (_, _, refl)
+expand_some (Divides how x d OnRight to) = (_, _, refl)
+expand_some (Remains x d to) = (_, _, refl)
 expand_some (Single i) = (_, _, refl)
 
 module _ (code : SlotCode) where

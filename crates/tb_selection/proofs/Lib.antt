@@ -1,5 +1,5 @@
 pub mod Bracketed
-pub mod Shortened
+pub mod SeveralAsOne
 pub mod Chosen
 pub mod Stacked
 pub mod GroupRuns

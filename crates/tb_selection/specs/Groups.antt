@@ -3,7 +3,7 @@ use Rattle.std.specs.Prelude.{ℕ, ◌+◌, List, [], ◌∷◌, ◌++◌, Optio
 use Rattle.tb_words.specs.declared.Rel.{Rel}
 use Rattle.tb_words.specs.declared.Rel.TheVariants as rel
 use Rattle.tb_syntax.specs.declared.expressions.Operator.{Operator}
-use Rattle.tb_syntax.specs.declared.expressions.Operator.TheVariants.{Divide, Multiply}
+use Rattle.tb_syntax.specs.declared.expressions.Operator.TheVariants.{Divide, Multiply, Subtract}
 use Rattle.tb_lower.specs.Slots.{Instr, Put, Load, Store, Negate, Compute, Random, SendNumber, Hold, LeaveUnless, Jump, Call, JumpTo}
 
 -- where a word comes from: a constant, a variable, or the slot in which it stands already
@@ -39,17 +39,23 @@ pub data Usage : Type 0 where
 pub data Divisibility : Type 0 where
   Divisible Indivisible : Divisibility
 
--- consecutive slot instructions with one template: a calculation with two words or with one, a move, a use, a test, a
--- test that goes straight to a line where it holds, a test of a variable by a divisor that does so or not, or a single
--- instruction
+-- the side of a test on which a multiple of its divisor stands
+pub data Side : Type 0 where
+  OnLeft OnRight : Side
+
+-- consecutive slot instructions with one template: a calculation with two words, one that goes on by a constant and into a
+-- variable, a calculation with one word, a move, a use, a test, a test that goes straight to a line where it holds, a test
+-- of a variable by a divisor that does so or not, what is left over of a variable by a divisor, or a single instruction
 pub data Group : Type 0 where
   Calculate : (op : Operator) (a b : Operand) (d : Destination) → Group
+  Stepped : (op : Operator) (a b : Operand) (by : Operator) (w : ℕ) (x : ℕ) → Group
   Convert : (what : Conversion) (a : Operand) (d : Destination) → Group
   Move : (a : Operand) (home : Home) → Group
   Use : (how : Usage) (a : Operand) → Group
   Test : (rel : Rel) (a : Tested) (b : Operand) → Group
   TestGo : (rel : Rel) (a : Tested) (b : Operand) (to : ℕ) → Group
-  Divides : (how : Divisibility) (x : ℕ) (d : Operand) (to : Option ℕ) → Group
+  Divides : (how : Divisibility) (x : ℕ) (d : Operand) (side : Side) (to : Option ℕ) → Group
+  Remains : (x : ℕ) (d : Operand) (to : Destination) → Group
   Single : (i : Instr) → Group
 
 -- an operand into slot k
@@ -108,24 +114,31 @@ abbrev pub contrary : Divisibility → Divisibility
 contrary Divisible = Indivisible
 contrary Indivisible = Divisible
 
--- a variable's quotient times the divisor, before some more
-abbrev pub multiple : ℕ → Operand → List Instr → List Instr
-multiple x d is = Load 0 x ∷ (fetch 1 d ++ Compute Divide 0 ∷ (fetch 1 d ++ Compute Multiply 0 ∷ is))
+-- a variable's quotient times the divisor in slot k, before some more
+abbrev pub multiple : ℕ → ℕ → Operand → List Instr → List Instr
+multiple k x d is = Load k x ∷ (fetch (k + 1) d ++ Compute Divide k ∷ (fetch (k + 1) d ++ Compute Multiply k ∷ is))
 
 -- on to a line, if to one
 abbrev pub onward : Option ℕ → List Instr
 onward None = []
 onward (Some to) = JumpTo to ∷ []
 
+-- a test by a divisor: a multiple, and the variable, in the order in which they are compared
+abbrev pub dividing : Divisibility → ℕ → Operand → Side → List Instr → List Instr
+dividing how x d OnLeft is = multiple 0 x d (Hold ∷ Load 0 x ∷ LeaveUnless (compared how) ∷ is)
+dividing how x d OnRight is = Load 0 x ∷ Hold ∷ multiple 0 x d (LeaveUnless (compared how) ∷ is)
+
 -- the slot instructions of a group
 abbrev pub expand : Group → List Instr
 expand (Calculate op a b d) = fetch (slot_of d) a ++ (fetch (slot_of d + 1) b ++ Compute op (slot_of d) ∷ kept d)
+expand (Stepped op a b by w x) = fetch 0 a ++ (fetch 1 b ++ Compute op 0 ∷ Put 1 w ∷ Compute by 0 ∷ Store x ∷ [])
 expand (Convert what a d) = fetch (slot_of d) a ++ convert what (slot_of d) ∷ kept d
 expand (Move a home) = fetch 0 a ++ keep home ∷ []
 expand (Use how a) = fetch 0 a ++ use_of how ∷ []
 expand (Test rel a b) = held a ++ (fetch 0 b ++ LeaveUnless rel ∷ [])
 expand (TestGo rel a b to) = held a ++ (fetch 0 b ++ LeaveUnless rel ∷ JumpTo to ∷ [])
-expand (Divides how x d to) = multiple x d (Hold ∷ Load 0 x ∷ LeaveUnless (compared how) ∷ onward to)
+expand (Divides how x d side to) = dividing how x d side (onward to)
+expand (Remains x d to) = Load (slot_of to) x ∷ multiple (slot_of to + 1) x d (Compute Subtract (slot_of to) ∷ kept to)
 expand (Single i) = i ∷ []
 
 -- the slot instructions of groups, one behind the other

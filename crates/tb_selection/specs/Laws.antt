@@ -1,5 +1,5 @@
 -- What is promised of groups, beside that they are the list.
-use Rattle.std.specs.Prelude.{◌≡◌, ℕ, ◌≤◌, true, List, [], ◌∷◌, Some}
+use Rattle.std.specs.Prelude.{◌≡◌, ℕ, ◌≤◌, true, List, [], ◌∷◌, Option, Some, None, take}
 use Rattle.tb_syntax.specs.Source.{Program}
 use Rattle.tb_lower.specs.Steps.{Run, advance_by}
 use Rattle.tb_lower.specs.Control.{content_at}
@@ -7,14 +7,32 @@ use Rattle.tb_lower.specs.Slots.{Instr, SlotCode, SlotState, slot_step, beginnin
 use Rattle.tb_lower.specs.Lowered.{program_code}
 use Rattle.tb_selection.specs.Groups.{Group, expand_all}
 use Rattle.tb_selection.specs.GroupSteps.{group_step, groups_begin, IsInside}
+use Rattle.tb_selection.specs.declared.liveness.Live.{Live}
+use Rattle.tb_selection.specs.declared.selecting.Placed.{Placed}
 use Rattle.tb_selection.specs.Liveness.{live, nothing_live}
-use Rattle.tb_selection.specs.Select.{may_stand, omits_only_dead, select}
+use Rattle.tb_selection.specs.Shown.{group_of, groups_in, in_order, placed_of}
+use Rattle.tb_selection.specs.Select.{fused, may_stand, omits_only_dead, select}
 
 -- what each of these groups omits is dead behind it, the groups behind it are the groups of their list, and it may stand
 -- before them
 abbrev pub AreChosen : List Group → Type 0
 AreChosen [] = Unit {0}
 AreChosen (g ∷ gs) = (omits_only_dead g (live (expand_all gs)) ≡ true) × (select (expand_all gs) ≡ gs) × (may_stand g gs ≡ true) × AreChosen gs
+
+-- behind each of these groups this is live
+abbrev pub AreLive : List (Group × Live) → Type 0
+AreLive [] = Unit {0}
+AreLive (p ∷ ps) = (p.1 ≡ live (expand_all (groups_in ps))) × AreLive ps
+
+-- behind one group that took the place of others
+pub record Shortens (first : Group) (groups rest : List Placed) (whole : Placed) : Type 0 where
+  pub fuses : fused first (groups_in (in_order groups)) ≡ group_of whole.group ∷ groups_in (in_order rest)
+  pub live : AreLive (placed_of whole ∷ in_order rest)
+
+-- a group and the last of these are one, and so many are before them; or they are none
+abbrev pub IsJoined : Group → List Placed → Option (Placed × ℕ) → Type 0
+IsJoined first groups (Some found) = Shortens first groups (take found.1 groups) found.0
+IsJoined first groups None = fused first (groups_in (in_order groups)) ≡ first ∷ groups_in (in_order groups)
 
 -- so it is with the groups of every list
 abbrev pub ChoiceLaw : Type 0

@@ -1,12 +1,12 @@
 -- Slot instructions as groups, each as long as it can be.
-use Rattle.std.specs.Prelude.{ℕ, ◌+◌, Bool, true, false, ◌&&◌, not, if◌then◌else◌, nat_eq, nat_le, List, [], ◌∷◌, length, Option, Some, None, option_map}
+use Rattle.std.specs.Prelude.{ℕ, ◌+◌, Bool, true, false, ◌&&◌, ◌||◌, not, if◌then◌else◌, nat_eq, nat_le, List, [], ◌∷◌, length, Option, Some, None, option_map}
 use Rattle.tb_words.specs.declared.Rel.{Rel}
 use Rattle.tb_words.specs.declared.Rel.TheVariants as rel
 use Rattle.tb_syntax.specs.declared.expressions.Operator.{Operator}
-use Rattle.tb_syntax.specs.declared.expressions.Operator.TheVariants.{Divide as Quotient, Multiply as Product}
+use Rattle.tb_syntax.specs.declared.expressions.Operator.TheVariants.{Add as Sum, Divide as Quotient, Multiply as Product, Subtract as Difference}
 use Rattle.tb_lower.specs.Slots.{Instr, Put, Load, Store, Negate, Compute, Random, SendNumber, Hold, LeaveUnless, Jump, Call, JumpTo}
 use Rattle.tb_selection.specs.declared.liveness.Live.{Live}
-use Rattle.tb_selection.specs.Groups.{Operand, Constant, Variable, InSlot, Home, IntoVariable, IntoHeld, Destination, IntoSlot, IntoHome, Tested, HeldBefore, HeldNow, Conversion, Negated, Drawn, Usage, AsNumber, AsLine, AsSubroutine, Group, Calculate, Convert, Move, Use, Divisibility, Divisible, Indivisible, Test, TestGo, Divides, Single, slot_of, expand_all}
+use Rattle.tb_selection.specs.Groups.{Operand, Constant, Variable, InSlot, Home, IntoVariable, IntoHeld, Destination, IntoSlot, IntoHome, Tested, HeldBefore, HeldNow, Conversion, Negated, Drawn, Usage, AsNumber, AsLine, AsSubroutine, Group, Calculate, Convert, Move, Use, Divisibility, Divisible, Indivisible, Side, OnLeft, OnRight, Stepped, Test, TestGo, Divides, Remains, Single, slot_of, expand_all}
 use Rattle.tb_selection.specs.Liveness.{live}
 
 -- an instruction as a group of its own
@@ -34,6 +34,14 @@ calculate_with k word op (Variable y) b d = None
 calculate_with k word op InSlot InSlot d = provided (nat_eq k (slot_of d + 1)) (Calculate op InSlot word d)
 calculate_with k word op InSlot (Constant v) d = provided (nat_eq k (slot_of d)) (Calculate op word (Constant v) d)
 calculate_with k word op InSlot (Variable y) d = provided (nat_eq k (slot_of d)) (Calculate op word (Variable y) d)
+
+-- the operands of a calculation in slot 0 with a word fetched into slot k before it
+abbrev pub operands_with : ℕ → Operand → Operand → Operand → Option (Operand × Operand)
+operands_with k word (Constant v) b = None
+operands_with k word (Variable y) b = None
+operands_with k word InSlot InSlot = if nat_eq k 1 then Some (InSlot, word) else None
+operands_with k word InSlot (Constant v) = if nat_eq k 0 then Some (word, Constant v) else None
+operands_with k word InSlot (Variable y) = if nat_eq k 0 then Some (word, Variable y) else None
 
 -- a conversion with a word fetched into slot k before it
 abbrev pub convert_with : ℕ → Operand → Conversion → Operand → Destination → Option Group
@@ -65,17 +73,27 @@ words_with k word (HeldNow (Variable y)) b = None
 -- a group with a word fetched into slot k before it
 abbrev pub with_word : ℕ → Operand → Group → Option Group
 with_word k word (Calculate op a b d) = calculate_with k word op a b d
+with_word k word (Stepped op a b by w x) = option_map (λ words. Stepped op words.0 words.1 by w x) (operands_with k word a b)
 with_word k word (Convert what a d) = convert_with k word what a d
 with_word k word (Move a home) = move_with k word a home
 with_word k word (Use how a) = use_with k word how a
 with_word k word (Test rel a b) = option_map (λ words. Test rel words.0 words.1) (words_with k word a b)
 with_word k word (TestGo rel a b to) = option_map (λ words. TestGo rel words.0 words.1 to) (words_with k word a b)
-with_word k word (Divides how x d to) = None
+with_word k word (Divides how x d side to) = None
+with_word k word (Remains x d to) = None
 with_word k word (Single i) = None
 
--- the calculation of slot 0 before a move of it
+-- a constant with which a word in a variable goes on in place; it faults with none of them
+abbrev pub goes_on : Operator → ℕ → Bool
+goes_on Sum w = true
+goes_on Difference w = true
+goes_on Product w = nat_eq w 2
+goes_on Quotient w = nat_eq w 2
+
+-- the calculation of slot 0 before a move of it, or before its way into a variable by a constant
 abbrev pub calculated : Operator → ℕ → Group → Option Group
 calculated op k (Move InSlot home) = provided (nat_eq k 0) (Calculate op InSlot InSlot (IntoHome home))
+calculated op k (Calculate by InSlot (Constant w) (IntoHome (IntoVariable x))) = provided (nat_eq k 0 && goes_on by w) (Stepped op InSlot InSlot by w x)
 calculated op k _ = None
 
 -- the conversion of slot 0 before a move of it
@@ -131,42 +149,67 @@ slot_dead (Variable x) r = nat_le r.slots 0
 abbrev pub omits_only_dead : Group → Live → Bool
 omits_only_dead (Calculate op a b (IntoSlot k)) r = right_slot_dead a b k r
 omits_only_dead (Calculate op a b (IntoHome home)) r = nat_le r.slots 0
+omits_only_dead (Stepped op a b by w x) r = nat_le r.slots 0
 omits_only_dead (Convert what a (IntoSlot k)) r = true
 omits_only_dead (Convert what a (IntoHome home)) r = nat_le r.slots 0
 omits_only_dead (Move a home) r = slot_dead a r
 omits_only_dead (Use how a) r = slot_dead a r
 omits_only_dead (Test rel a b) r = test_words_dead a b r
 omits_only_dead (TestGo rel a b to) r = test_words_dead a b r
-omits_only_dead (Divides how x d to) r = nat_le r.slots 0 && not r.held
+omits_only_dead (Divides how x d side to) r = nat_le r.slots 0 && not r.held
+omits_only_dead (Remains x d (IntoSlot k)) r = nat_le r.slots (k + 1)
+omits_only_dead (Remains x d (IntoHome home)) r = nat_le r.slots 0
 omits_only_dead (Single i) r = true
 
 -- a test before a jump goes straight to its line where it is a line's last group, behind which the next line begins
 abbrev pub may_stand : Group → List Group → Bool
 may_stand (TestGo rel a b to) behind = nat_eq (length behind) 0
-may_stand (Divides how x d (Some to)) behind = nat_eq (length behind) 0
+may_stand (Divides how x d side (Some to)) behind = nat_eq (length behind) 0
 may_stand _ behind = true
 
--- ── divisibility ──
--- the variable and the divisor of a quotient that is left in slot 0
-abbrev pub quotient_in : Group → Option (ℕ × Operand)
-quotient_in (Calculate Quotient (Variable x) d (IntoSlot k)) = if nat_eq k 0 then Some (x, d) else None
+-- ── several groups as one ──
+-- the quotient of a variable in a slot: the slot, the variable and the divisor
+abbrev pub quotient_in : Group → Option (ℕ × ℕ × Operand)
+quotient_in (Calculate Quotient (Variable x) d (IntoSlot k)) = Some (k, x, d)
 quotient_in _ = None
 
--- what slot 0 is multiplied by
-abbrev pub factor_in : Group → Option Operand
-factor_in (Calculate Product InSlot d (IntoSlot k)) = if nat_eq k 0 then Some d else None
+-- a slot times a word: the slot and the word
+abbrev pub factor_in : Group → Option (ℕ × Operand)
+factor_in (Calculate Product InSlot d (IntoSlot k)) = Some (k, d)
 factor_in _ = None
 
--- the variable with which slot 0 is compared, whether it is to be equal, and the line to which this leads, if to one
-abbrev pub equality : Rel → ℕ → Option ℕ → Option (Divisibility × ℕ × Option ℕ)
-equality rel.Eq x to = Some (Divisible, x, to)
-equality rel.Ne x to = Some (Indivisible, x, to)
-equality _ x to = None
+-- the difference of two slots: where it goes
+abbrev pub difference_in : Group → Option Destination
+difference_in (Calculate Difference InSlot InSlot d) = Some d
+difference_in _ = None
 
+-- a variable alone in a slot: the slot and the variable
+abbrev pub loaded_in : Group → Option (ℕ × ℕ)
+loaded_in (Single (Load k x)) = Some (k, x)
+loaded_in _ = None
+
+-- a variable that is held
+abbrev pub held_in : Group → Option ℕ
+held_in (Move (Variable x) IntoHeld) = Some x
+held_in _ = None
+
+-- what a relation of a multiple to its variable asks for
+abbrev pub asked : Rel → Option Divisibility
+asked rel.Eq = Some Divisible
+asked rel.Ne = Some Indivisible
+asked _ = None
+
+-- a test of slot 0 with a variable, or of the held word with slot 0: what it asks for, the variable, and the line to which
+-- it leads, if to one
 abbrev pub equality_in : Group → Option (Divisibility × ℕ × Option ℕ)
-equality_in (Test r (HeldNow InSlot) (Variable x)) = equality r x None
-equality_in (TestGo r (HeldNow InSlot) (Variable x) to) = equality r x (Some to)
+equality_in (Test r (HeldNow InSlot) (Variable x)) = option_map (λ how. (how, x, None)) (asked r)
+equality_in (TestGo r (HeldNow InSlot) (Variable x) to) = option_map (λ how. (how, x, Some to)) (asked r)
 equality_in _ = None
+
+abbrev pub against_in : Group → Option (Divisibility × Option ℕ)
+against_in (Test r HeldBefore InSlot) = option_map (λ how. (how, None)) (asked r)
+against_in (TestGo r HeldBefore InSlot to) = option_map (λ how. (how, Some to)) (asked r)
+against_in _ = None
 
 -- whether two words are fetched from one place
 abbrev pub same_operand : Operand → Operand → Bool
@@ -174,38 +217,79 @@ same_operand (Constant v) (Constant w) = nat_eq v w
 same_operand (Variable x) (Variable y) = nat_eq x y
 same_operand _ _ = false
 
--- a quotient times its divisor, compared with what was divided
-abbrev pub division_of : Option (ℕ × Operand) → Option Operand → Option (Divisibility × ℕ × Option ℕ) → Option Group
-division_of (Some q) (Some d) (Some t) = provided (nat_eq q.0 t.1 && same_operand q.1 d) (Divides t.0 q.0 q.1 t.2)
-division_of (Some q) (Some d) None = None
-division_of (Some q) None t = None
-division_of None d t = None
+-- a quotient times its divisor
+abbrev pub multiple_of : Option (ℕ × ℕ × Operand) → Option (ℕ × Operand) → Option (ℕ × ℕ × Operand)
+multiple_of (Some q) (Some f) = if nat_eq q.0 f.0 && same_operand q.2 f.1 then Some q else None
+multiple_of (Some q) None = None
+multiple_of None f = None
 
--- three groups as one that asks whether a word divides a variable, where they do that
-abbrev pub division : Group → Group → Group → Option Group
-division a b c = division_of (quotient_in a) (factor_in b) (equality_in c)
+abbrev pub multiple_in : Group → Group → Option (ℕ × ℕ × Operand)
+multiple_in a b = multiple_of (quotient_in a) (factor_in b)
 
--- one group in place of three, where there is one
-abbrev pub shortened : Option Group → Group → Group → Group → List Group → List Group
-shortened (Some g) a b c gs = g ∷ gs
-shortened None a b c gs = a ∷ b ∷ c ∷ gs
+-- a multiple before the test with its variable
+abbrev pub divides_left : Option (ℕ × ℕ × Operand) → Option (Divisibility × ℕ × Option ℕ) → Option Group
+divides_left (Some m) (Some t) = provided (nat_eq m.0 0 && nat_eq m.1 t.1) (Divides t.0 m.1 m.2 OnLeft t.2)
+divides_left (Some m) None = None
+divides_left None t = None
 
--- a group before others
+-- a variable that is held before a multiple of it and their test
+abbrev pub divides_right : Option ℕ → Option (ℕ × ℕ × Operand) → Option (Divisibility × Option ℕ) → Option Group
+divides_right (Some x) (Some m) (Some t) = provided (nat_eq m.0 0 && nat_eq m.1 x) (Divides t.0 m.1 m.2 OnRight t.1)
+divides_right (Some x) (Some m) None = None
+divides_right (Some x) None t = None
+divides_right None m t = None
+
+-- a divisor by which quotients are made by shifts: by them what is left over is made sooner
+abbrev pub is_shifted : Operand → Bool
+is_shifted (Constant w) = nat_eq w 2 || nat_eq w 4 || nat_eq w 8 || nat_eq w 16 || nat_eq w 32 || nat_eq w 64
+is_shifted (Variable x) = false
+is_shifted InSlot = false
+
+-- a variable before a multiple of it, and their difference
+abbrev pub remains : Option (ℕ × ℕ) → Option (ℕ × ℕ × Operand) → Option Destination → Option Group
+remains (Some l) (Some m) (Some d) = provided (nat_eq m.0 (l.0 + 1) && nat_eq m.1 l.1 && nat_eq l.0 (slot_of d) && not (is_shifted m.2)) (Remains m.1 m.2 d)
+remains (Some l) (Some m) None = None
+remains (Some l) None d = None
+remains None m d = None
+
+-- the first one, or else the second
+abbrev pub or_else : Option Group → Option Group → Option Group
+or_else (Some g) o = Some g
+or_else None o = o
+
+-- three groups as one, and four
+abbrev pub three_as_one : Group → Group → Group → Option Group
+three_as_one a b c = divides_left (multiple_in a b) (equality_in c)
+
+abbrev pub four_as_one : Group → Group → Group → Group → Option Group
+four_as_one a b c e = or_else (divides_right (held_in a) (multiple_in b c) (against_in e)) (remains (loaded_in a) (multiple_in b c) (difference_in e))
+
+-- a group before others, where what it omits is dead and it may stand there
+abbrev pub allowed : Option Group → List Group → Option Group
+allowed (Some m) gs = provided (omits_only_dead m (live (expand_all gs)) && may_stand m gs) m
+allowed None gs = None
+
+-- one group before others, where there is one; else what else there is
+abbrev pub instead : Option Group → List Group → List Group → List Group
+instead (Some m) gs others = m ∷ gs
+instead None gs others = others
+
+-- a group before others: with the first of them as one, where they are one
 abbrev pub fused : Group → List Group → List Group
 fused a [] = a ∷ []
 fused a (b ∷ []) = a ∷ b ∷ []
-fused a (b ∷ c ∷ gs) = shortened (division a b c) a b c gs
+fused a (b ∷ c ∷ []) = instead (allowed (three_as_one a b c) []) [] (a ∷ b ∷ c ∷ [])
+fused a (b ∷ c ∷ e ∷ gs) = instead (allowed (three_as_one a b c) (e ∷ gs)) (e ∷ gs) (instead (allowed (four_as_one a b c e) gs) gs (a ∷ b ∷ c ∷ e ∷ gs))
 
--- the merged group before the others, where what it omits is dead and it may stand there; else the instruction alone
--- before them all
-abbrev pub tried : Option Group → Live → Instr → Group → List Group → List Group
-tried (Some m) r i g gs = if omits_only_dead m r && may_stand m gs then fused m gs else alone i ∷ g ∷ gs
-tried None r i g gs = alone i ∷ g ∷ gs
+-- the merged group before others, where there is one; else the instruction alone before them all
+abbrev pub tried : Option Group → Instr → Group → List Group → List Group
+tried (Some m) i g gs = fused m gs
+tried None i g gs = fused (alone i) (g ∷ gs)
 
 -- an instruction before groups
 abbrev pub attach : Instr → List Group → List Group
 attach i [] = alone i ∷ []
-attach i (g ∷ gs) = tried (merged i g) (live (expand_all gs)) i g gs
+attach i (g ∷ gs) = tried (allowed (merged i g) gs) i g gs
 
 -- the groups of a list
 abbrev pub select : List Instr → List Group

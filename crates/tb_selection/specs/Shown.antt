@@ -17,9 +17,13 @@ use Rattle.tb_selection.specs.declared.groups.Usage as usage
 use Rattle.tb_selection.specs.declared.groups.Usage.TheVariants as usages
 use Rattle.tb_selection.specs.declared.groups.Divisibility as divisibility
 use Rattle.tb_selection.specs.declared.groups.Divisibility.TheVariants as divisibilities
+use Rattle.tb_selection.specs.declared.groups.Side as side
+use Rattle.tb_selection.specs.declared.groups.Side.TheVariants as sides
 use Rattle.tb_selection.specs.declared.groups.Group as group
 use Rattle.tb_selection.specs.declared.groups.Group.TheVariants as groups
-use Rattle.tb_selection.specs.Groups.{Operand, Constant, Variable, InSlot, Home, IntoVariable, IntoHeld, Destination, IntoSlot, IntoHome, Tested, HeldBefore, HeldNow, Conversion, Negated, Drawn, Usage, AsNumber, AsLine, AsSubroutine, Divisibility, Divisible, Indivisible, Group, Calculate, Convert, Move, Use, Test, TestGo, Divides, Single}
+use Rattle.tb_selection.specs.declared.liveness.Live.{Live}
+use Rattle.tb_selection.specs.declared.selecting.Placed.{Placed}
+use Rattle.tb_selection.specs.Groups.{Operand, Constant, Variable, InSlot, Home, IntoVariable, IntoHeld, Destination, IntoSlot, IntoHome, Tested, HeldBefore, HeldNow, Conversion, Negated, Drawn, Usage, AsNumber, AsLine, AsSubroutine, Divisibility, Divisible, Indivisible, Side, OnLeft, OnRight, Group, Calculate, Stepped, Convert, Move, Use, Test, TestGo, Divides, Remains, Single}
 
 -- an operand; a letter by its place from 0 for A
 abbrev pub operand_of : operand.Operand → Operand
@@ -42,6 +46,10 @@ abbrev pub tested_of : tested.Tested → Tested
 tested_of testeds.HeldBefore = HeldBefore
 tested_of (testeds.HeldNow a) = HeldNow (operand_of a)
 
+-- two operands
+abbrev pub both_of : operand.Operand × operand.Operand → Operand × Operand
+both_of words = (operand_of words.0, operand_of words.1)
+
 -- the two words of a test
 abbrev pub words_of : tested.Tested × operand.Operand → Tested × Operand
 words_of words = (tested_of words.0, operand_of words.1)
@@ -62,24 +70,47 @@ abbrev pub divisibility_of : divisibility.Divisibility → Divisibility
 divisibility_of divisibilities.Divisible = Divisible
 divisibility_of divisibilities.Indivisible = Indivisible
 
+-- the side of a test
+abbrev pub side_of : side.Side → Side
+side_of sides.OnLeft = OnLeft
+side_of sides.OnRight = OnRight
+
 -- a group
 abbrev pub group_of : group.Group → Group
 group_of (groups.Calculate op a b d) = Calculate op (operand_of a) (operand_of b) (destination_of d)
+group_of (groups.Stepped op a b by w x) = Stepped op (operand_of a) (operand_of b) by w (place x)
 group_of (groups.Convert what a d) = Convert (conversion_of what) (operand_of a) (destination_of d)
 group_of (groups.Move a h) = Move (operand_of a) (home_of h)
 group_of (groups.Use how a) = Use (usage_of how) (operand_of a)
 group_of (groups.Test rel a b) = Test rel (tested_of a) (operand_of b)
 group_of (groups.TestGo rel a b to) = TestGo rel (tested_of a) (operand_of b) to
-group_of (groups.Divides how x d to) = Divides (divisibility_of how) (place x) (operand_of d) to
+group_of (groups.Divides how x d s to) = Divides (divisibility_of how) (place x) (operand_of d) (side_of s) to
+group_of (groups.Remains x d to) = Remains (place x) (operand_of d) (destination_of to)
 group_of (groups.Single i) = Single (instr_of i.now)
 
--- groups of which the last one stands first
-abbrev pub in_order : List group.Group → List Group
-in_order gs = reverse (map group_of gs)
+-- groups of which the last one stands first, each with what is live behind it
+abbrev pub placed_of : Placed → Group × Live
+placed_of p = (group_of p.group, p.behind)
 
--- what the groups of a test by a divisor hold
-abbrev pub quotient_of : Letter × operand.Operand → ℕ × Operand
-quotient_of q = (place q.0, operand_of q.1)
+abbrev pub in_order : List Placed → List (Group × Live)
+in_order ps = reverse (map placed_of ps)
+
+-- the groups of these
+abbrev pub groups_in : List (Group × Live) → List Group
+groups_in ps = map (λ p. p.0) ps
+
+-- what groups that may become one hold
+abbrev pub multiple_of : ℕ × Letter × operand.Operand → ℕ × ℕ × Operand
+multiple_of m = (m.0, place m.1, operand_of m.2)
+
+abbrev pub factor_of : ℕ × operand.Operand → ℕ × Operand
+factor_of f = (f.0, operand_of f.1)
+
+abbrev pub loaded_of : ℕ × Letter → ℕ × ℕ
+loaded_of l = (l.0, place l.1)
 
 abbrev pub equality_of : divisibility.Divisibility × Letter × Option ℕ → Divisibility × ℕ × Option ℕ
 equality_of t = (divisibility_of t.0, place t.1, t.2)
+
+abbrev pub against_of : divisibility.Divisibility × Option ℕ → Divisibility × Option ℕ
+against_of t = (divisibility_of t.0, t.1)

@@ -70,11 +70,22 @@ pub enum Divisibility {
     Indivisible,
 }
 
+/// The side of a test on which a multiple of its divisor stands.
+#[derive(Clone, Copy, Debug, Drop)]
+pub enum Side {
+    /// The multiple is held, and the variable is compared with it.
+    OnLeft,
+    /// The variable is held, and the multiple is compared with it.
+    OnRight,
+}
+
 /// Consecutive slot instructions that have one template.
 #[derive(Clone, Copy, Debug, Drop)]
 pub enum Group<'a> {
     /// A left operand joined with a right one, and where the result goes.
     Calculate(Operator, Operand, Operand, Destination),
+    /// A left operand joined with a right one, the result joined with a constant, and the variable to which that goes.
+    Stepped(Operator, Operand, Operand, Operator, u16, Letter),
     /// A word made of one operand, and where it goes.
     Convert(Conversion, Operand, Destination),
     /// A word to its home.
@@ -86,7 +97,9 @@ pub enum Group<'a> {
     /// A test that goes straight to the line of this number where the two words are so related, and else leaves the line.
     TestGo(Rel, Tested, Operand, u16),
     /// A test whether a divisor divides a variable, that leaves the line or goes straight to the line of this number.
-    Divides(Divisibility, Letter, Operand, Option<u16>),
+    Divides(Divisibility, Letter, Operand, Side, Option<u16>),
+    /// What is left over of a variable by a divisor, with the variable's sign, and where it goes.
+    Remains(Letter, Operand, Destination),
     /// A single instruction.
     Single(&'a SlotInstr),
 }

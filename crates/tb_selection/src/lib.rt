@@ -10,12 +10,12 @@
 //! is so, and that a run by groups is a run of the slot code, are the laws of `specs/Laws`.
 #![tactic(auto)]
 
-mod divisions;
+mod fusion;
 mod groups;
 mod laws;
 mod liveness;
 mod selecting;
 
-pub use groups::{Conversion, Destination, Divisibility, Group, Home, Operand, Tested, Usage};
+pub use groups::{Conversion, Destination, Divisibility, Group, Home, Operand, Side, Tested, Usage};
 pub use laws::{groups_run_as_slot_code, lines_are_closed, omitted_words_are_dead};
 pub use selecting::select;

@@ -1,19 +1,28 @@
 //! Slot instructions as groups.
-ghost use Rattle.std.specs.Prelude.{◌≡◌, IfOk, OnOk, map, option_map, drop};
+ghost use Rattle.std.specs.Prelude.{◌≡◌, ◌∷◌, IfOk, OnOk, map, option_map, take};
 ghost use Rattle.tb_lower.specs.Shown.{instr_of};
 ghost use Rattle.tb_selection.specs.Groups.{expand_all};
-ghost use Rattle.tb_selection.specs.Laws.{AreChosen};
+ghost use Rattle.tb_selection.specs.Laws.{AreLive, IsJoined};
 ghost use Rattle.tb_selection.specs.Liveness.{live};
 ghost use Rattle.tb_selection.specs.Select as select;
-ghost use Rattle.tb_selection.specs.Shown.{in_order, conversion_of, group_of, operand_of, destination_of, tested_of, words_of};
+ghost use Rattle.tb_selection.specs.Shown.{both_of, conversion_of, destination_of, group_of, groups_in, in_order, operand_of, placed_of, tested_of, words_of};
 
-use crate::divisions::division;
+use crate::fusion::{four_as_one, three_as_one};
 use crate::groups::{Conversion, Destination, Group, Home, Operand, Tested, Usage};
 use crate::liveness::{Live, live_before};
 use std::alloc::{AllocError, Global};
 use tb_lower::SlotInstr;
 use tb_syntax::Operator;
 use tb_words::Rel;
+
+/// A group, and what is live behind it.
+#[derive(Clone, Copy, Drop)]
+pub struct Placed<'a> {
+    /// The group.
+    pub group: Group<'a>,
+    /// What is live behind it.
+    pub behind: Live,
+}
 
 // An instruction as a group of its own.
 fn alone(instr: &SlotInstr) -> Group<'_>
@@ -45,8 +54,8 @@ fn convert_in_slot<'a>(what: Conversion, slot: u8) -> Group<'a>
     Group::Convert(what, Operand::InSlot, Destination::IntoSlot(slot))
 }
 
-// The slot in which a result is worked out.
-fn slot_of(destination: Destination) -> u8
+/// The slot in which a result is worked out.
+pub fn slot_of(destination: Destination) -> u8
     ensures { result ≡ Rattle.tb_selection.specs.Groups.slot_of (destination_of destination) }
 {
     match destination {
@@ -78,6 +87,22 @@ fn calculate_with<'a>(
     }
 }
 
+// The operands of a calculation in slot 0 with a word fetched into a slot before it.
+fn operands_with(
+    slot: u8,
+    word: Operand,
+    left: Operand,
+    right: Operand,
+) -> Option<(Operand, Operand)>
+    ensures { option_map both_of result ≡ select.operands_with slot (operand_of word) (operand_of left) (operand_of right) }
+{
+    match (left, right) {
+        (Operand::InSlot, Operand::InSlot) => (slot == 1).then_some((left, word)),
+        (Operand::InSlot, _) => (slot == 0).then_some((word, right)),
+        _ => None,
+    }
+}
+
 // The words of a test with a word fetched into a slot before it.
 fn words_with(slot: u8, word: Operand, left: Tested, right: Operand) -> Option<(Tested, Operand)>
     ensures { option_map words_of result ≡ select.words_with slot (operand_of word) (tested_of left) (operand_of right) }
@@ -100,6 +125,10 @@ fn with_word(slot: u8, word: Operand, group: Group<'_>) -> Option<Group<'_>>
         Group::Calculate(op, left, right, destination) => {
             calculate_with(slot, word, op, left, right, destination)
         }
+        Group::Stepped(op, left, right, by, with, x) => {
+            let (left, right) = operands_with(slot, word, left, right)?;
+            Some(Group::Stepped(op, left, right, by, with, x))
+        }
         Group::Convert(what, Operand::InSlot, destination) => {
             (slot == slot_of(destination)).then_some(Group::Convert(what, word, destination))
         }
@@ -113,6 +142,44 @@ fn with_word(slot: u8, word: Operand, group: Group<'_>) -> Option<Group<'_>>
             let (left, right) = words_with(slot, word, left, right)?;
             Some(Group::TestGo(rel, left, right, to))
         }
+        _ => None,
+    }
+}
+
+// Whether a word in a variable goes on with this constant in place.
+fn goes_on(op: Operator, word: u16) -> bool
+    ensures { result ≡ select.goes_on op word }
+{
+    match op {
+        Operator::Add | Operator::Subtract => true,
+        Operator::Multiply | Operator::Divide => word == 2,
+    }
+}
+
+// The calculation of slot 0 before a move of it, or before its way into a variable by a constant.
+fn calculated(op: Operator, slot: u8, group: Group<'_>) -> Option<Group<'_>>
+    ensures { option_map group_of result ≡ select.calculated op slot (group_of group.entry) }
+{
+    match group {
+        Group::Move(Operand::InSlot, home) => (slot == 0).then_some(Group::Calculate(
+            op,
+            Operand::InSlot,
+            Operand::InSlot,
+            Destination::IntoHome(home),
+        )),
+        Group::Calculate(
+            by,
+            Operand::InSlot,
+            Operand::Constant(word),
+            Destination::IntoHome(Home::IntoVariable(x)),
+        ) => (slot == 0 && goes_on(by, word)).then_some(Group::Stepped(
+            op,
+            Operand::InSlot,
+            Operand::InSlot,
+            by,
+            word,
+            x,
+        )),
         _ => None,
     }
 }
@@ -152,12 +219,7 @@ fn merged<'a>(instr: &SlotInstr, group: Group<'a>) -> Option<Group<'a>>
     match (instr, group) {
         (SlotInstr::Put(slot, word), _) => with_word(*slot, Operand::Constant(*word), group),
         (SlotInstr::Load(slot, x), _) => with_word(*slot, Operand::Variable(*x), group),
-        (SlotInstr::Compute(op, 0), Group::Move(Operand::InSlot, home)) => Some(Group::Calculate(
-            *op,
-            Operand::InSlot,
-            Operand::InSlot,
-            Destination::IntoHome(home),
-        )),
+        (SlotInstr::Compute(op, slot), _) => calculated(*op, *slot, group),
         (SlotInstr::Negate(slot), _) => converted(Conversion::Negated, *slot, group),
         (SlotInstr::Random(slot), _) => converted(Conversion::Drawn, *slot, group),
         (SlotInstr::Hold, _) => held_before(group),
@@ -194,84 +256,109 @@ fn omits_only_dead(group: Group<'_>, behind: Live) -> bool
         }
         Group::Convert(_, _, Destination::IntoSlot(_)) => true,
         Group::Calculate(_, _, _, Destination::IntoHome(_))
-        | Group::Convert(_, _, Destination::IntoHome(_)) => behind.slots == 0,
+        | Group::Stepped(_, _, _, _, _, _)
+        | Group::Convert(_, _, Destination::IntoHome(_))
+        | Group::Remains(_, _, Destination::IntoHome(_)) => behind.slots == 0,
+        Group::Remains(_, _, Destination::IntoSlot(slot)) => behind.slots <= u16::from(slot) + 1,
         Group::Move(Operand::InSlot, _) | Group::Use(_, Operand::InSlot) => true,
         Group::Move(_, _) | Group::Use(_, _) => behind.slots == 0,
         Group::Test(_, left, right) | Group::TestGo(_, left, right, _) => {
             test_words_dead(left, right, behind)
         }
-        Group::Divides(_, _, _, _) => behind.slots == 0 && !behind.held,
+        Group::Divides(_, _, _, _, _) => behind.slots == 0 && !behind.held,
         Group::Single(_) => true,
     }
 }
 
 // Whether a group may stand before these groups, the first of which stands last.
-fn may_stand(group: Group<'_>, behind: &[Group<'_>]) -> bool
-    ensures { result ≡ select.may_stand (group_of group.entry) (in_order behind.now) }
+fn may_stand(group: Group<'_>, behind: &[Placed<'_>]) -> bool
+    ensures { result ≡ select.may_stand (group_of group.entry) (groups_in (in_order behind.now)) }
 {
     match group {
-        Group::TestGo(_, _, _, _) | Group::Divides(_, _, _, Some(_)) => behind.is_empty(),
+        Group::TestGo(_, _, _, _) | Group::Divides(_, _, _, _, Some(_)) => behind.is_empty(),
         _ => true,
     }
 }
 
-// Puts a group before groups, the first of which stands last and before which this is live: where it and the first two
-// of them ask whether a word divides a variable, one in their place. It answers what is live behind it.
-fn put_before<'a>(
-    groups: &mut Vec<Group<'a>>,
-    first: Group<'a>,
-    behind: Live,
-) -> Result<Live, AllocError>
-    requires behind { behind ≡ live (expand_all (in_order groups.old.items)) }
-    requires chosen { AreChosen (in_order groups.old.items) }
-    ensures put { OnOk result (in_order groups.new.items ≡ select.fused (group_of first.entry) (in_order groups.old.items)) }
-    ensures behind { IfOk result (λ r. r ≡ live (expand_all (drop 1 (in_order groups.new.items)))) }
+// A group before these, the first of which stands last, where what it omits is dead and it may stand there.
+fn allowed<'a>(group: Option<Group<'a>>, behind: Live, rest: &[Placed<'a>]) -> Option<Group<'a>>
+    requires { behind ≡ live (expand_all (groups_in (in_order rest.now))) }
+    ensures { option_map group_of result ≡ select.allowed (option_map group_of group.entry) (groups_in (in_order rest.now)) }
 {
-    let Some(second) = groups.pop() else {
-        groups.push(first)?;
-        return Ok(behind);
-    };
-    let Some(third) = groups.pop() else {
-        groups.push(second)?;
-        groups.push(first)?;
-        return Ok(behind);
-    };
-    if let Some(whole) = division(first, second, third) {
-        groups.push(whole)?;
-        return Ok(Live::NOTHING);
-    }
-    groups.push(third)?;
-    groups.push(second)?;
-    groups.push(first)?;
-    Ok(behind)
+    let whole = group?;
+    (omits_only_dead(whole, behind) && may_stand(whole, rest)).then_some(whole)
 }
 
-// Puts an instruction before groups, the first of which stands last. Of those it is given what is live before all of
-// them and before all but the first, and answers the latter for what they are then.
-fn attach<'a>(
-    groups: &mut Vec<Group<'a>>,
-    instr: &'a SlotInstr,
-    behind: Live,
-    all: Live,
-) -> Result<Live, AllocError>
-    requires behind { behind ≡ live (expand_all (drop 1 (in_order groups.old.items))) }
-    requires all { all ≡ live (expand_all (in_order groups.old.items)) }
-    requires chosen { AreChosen (in_order groups.old.items) }
-    ensures attached { OnOk result (in_order groups.new.items ≡ select.attach (instr_of instr.now) (in_order groups.old.items)) }
-    ensures behind { IfOk result (λ r. r ≡ live (expand_all (drop 1 (in_order groups.new.items)))) }
+// The group that is this one and the last of these, and how many of these are before them.
+fn joined<'a>(first: Group<'a>, groups: &[Placed<'a>]) -> Option<(Placed<'a>, usize)>
+    requires { AreLive (in_order groups.now) }
+    ensures { IsJoined (group_of first.entry) groups.now result }
 {
-    let Some(group) = groups.pop() else {
-        groups.push(alone(instr))?;
-        return Ok(all);
+    let Some((second, rest)) = groups.split_last() else {
+        return None;
     };
-    match merged(instr, group) {
-        Some(whole) if omits_only_dead(whole, behind) && may_stand(whole, groups) => {
-            put_before(groups, whole, behind)
+    let Some((third, rest)) = rest.split_last() else {
+        return None;
+    };
+    let behind = third.behind;
+    let whole = three_as_one(first, second.group, third.group);
+    if let Some(group) = allowed(whole, behind, rest) {
+        return Some((Placed { group, behind }, rest.len()));
+    }
+    let Some((fourth, rest)) = rest.split_last() else {
+        return None;
+    };
+    let behind = fourth.behind;
+    let whole = four_as_one(first, second.group, third.group, fourth.group);
+    match allowed(whole, behind, rest) {
+        Some(group) => Some((Placed { group, behind }, rest.len())),
+        None => None,
+    }
+}
+
+// Puts a group before groups, the first of which stands last: with the first of them as one, where they are one.
+fn put_before<'a>(groups: &mut Vec<Placed<'a>>, first: Placed<'a>) -> Result<(), AllocError>
+    requires { AreLive (placed_of first ∷ in_order groups.old.items) }
+    ensures put { OnOk result (groups_in (in_order groups.new.items) ≡ select.fused (group_of first.entry.group) (groups_in (in_order groups.old.items))) }
+    ensures live { OnOk result (AreLive (in_order groups.new.items)) }
+{
+    let whole = match joined(first.group, groups) {
+        Some((whole, count)) => {
+            groups.truncate(count);
+            whole
         }
-        _ => {
-            groups.push(group)?;
-            groups.push(alone(instr))?;
-            Ok(all)
+        None => first,
+    };
+    groups.push(whole)?;
+    Ok(())
+}
+
+// Puts an instruction before groups, the first of which stands last and before which this is live.
+fn attach<'a>(
+    groups: &mut Vec<Placed<'a>>,
+    instr: &'a SlotInstr,
+    before: Live,
+) -> Result<(), AllocError>
+    requires before { before ≡ live (expand_all (groups_in (in_order groups.old.items))) }
+    requires live { AreLive (in_order groups.old.items) }
+    ensures attached { OnOk result (groups_in (in_order groups.new.items) ≡ select.attach (instr_of instr.now) (groups_in (in_order groups.old.items))) }
+    ensures live { OnOk result (AreLive (in_order groups.new.items)) }
+{
+    let group = alone(instr);
+    let single = Placed {
+        group,
+        behind: before,
+    };
+    let Some(first) = groups.pop() else {
+        groups.push(single)?;
+        return Ok(());
+    };
+    let behind = first.behind;
+    match allowed(merged(instr, first.group), behind, groups) {
+        Some(group) => put_before(groups, Placed { group, behind }),
+        None => {
+            groups.push(first)?;
+            put_before(groups, single)
         }
     }
 }
@@ -281,15 +368,17 @@ pub fn select<'a>(alloc: Global, code: &'a [SlotInstr]) -> Result<Vec<Group<'a>>
     ensures selected { IfOk result (λ groups. map group_of groups.items ≡ select.select (map instr_of code.now)) }
     ensures bracketed { IfOk result (λ groups. expand_all (map group_of groups.items) ≡ map instr_of code.now) }
 {
-    let mut groups = Vec::new(alloc);
-    let mut behind = Live::NOTHING;
-    let mut all = Live::NOTHING;
+    let mut placed = Vec::new(alloc);
+    let mut before = Live::NOTHING;
     let mut rest = code;
     while let Some((instr, front)) = rest.split_last() {
-        behind = attach(&mut groups, instr, behind, all)?;
-        all = live_before(instr, all);
+        attach(&mut placed, instr, before)?;
+        before = live_before(instr, before);
         rest = front;
     }
-    groups.reverse();
+    let mut groups = Vec::with_capacity(alloc, placed.len())?;
+    while let Some(first) = placed.pop() {
+        groups.push(first.group)?;
+    }
     Ok(groups)
 }

@@ -1,19 +1,24 @@
-use Rattle.std.proofs.Common.{◌≡◌, map, drop, length}
+use Rattle.std.proofs.Common.{◌≡◌, ◌++◌, map, length}
 use Rattle.tb_lower.specs.Shown.{instr_of}
 use Rattle.tb_selection.specs.Groups.{expand_all}
+use Rattle.tb_selection.specs.Laws.{AreLive}
 use Rattle.tb_selection.specs.Liveness.{live}
 use Rattle.tb_selection.specs.Select.{select}
-use Rattle.tb_selection.specs.Shown.{in_order}
-use Rattle.tb_selection.proofs.Chosen.{AreOwn}
+use Rattle.tb_selection.specs.Shown.{group_of, groups_in, in_order}
 use Rattle.tb_selection.proofs.Stacked.{onto}
 use Rattle.tb_selection.proofs.selecting.select.Given as goal
 
 abbrev pub invariant-loop-instr : goal.invariant-loop-instr
 invariant-loop-instr l =
-    (l.behind ≡ live (expand_all (drop 1 (in_order l.groups.items))))
-    × (l.all ≡ live (expand_all (in_order l.groups.items)))
-    × (onto (map instr_of l.rest) (in_order l.groups.items) ≡ select (map instr_of l.fn.code))
-    × AreOwn (in_order l.groups.items)
+    (l.before ≡ live (expand_all (groups_in (in_order l.placed.items))))
+    × (onto (map instr_of l.rest) (groups_in (in_order l.placed.items)) ≡ select (map instr_of l.fn.code))
+    × AreLive (in_order l.placed.items)
 
 abbrev pub decreases-loop-instr : goal.decreases-loop-instr
 decreases-loop-instr l = length l.rest
+
+abbrev pub invariant-loop-first : goal.invariant-loop-first
+invariant-loop-first l = map group_of l.groups.items ++ groups_in (in_order l.placed.items) ≡ select (map instr_of l.fn.code)
+
+abbrev pub decreases-loop-first : goal.decreases-loop-first
+decreases-loop-first l = length l.placed.items
