@@ -25,7 +25,7 @@ use Rattle.tb_grouping.proofs.Sending.{newline_law, text_law, zone_law}
 
 module _ (ly : Layout) (f : Setup) (lo hi keys : ℕ) (fits : Fits f 16) (limit : ℕ) (rs : Routines ly.table ly.seed ly.numbers ly.start f lo hi keys limit) (code : SlotCode) (laid : GroupsLaid ly f.code f.whole code) where
   abbrev most : ℕ
-  most = 24 + (limit + limit)
+  most = 34 + (limit + limit)
 
   -- from its beginning to what a step gives
   abbrev pub Leads : View → Step SlotState → Type 0

@@ -14,7 +14,7 @@ use Rattle.tb_lower.specs.Control.{has_line}
 use Rattle.tb_lower.specs.Ranges.{AreInRange}
 use Rattle.tb_lower.specs.Slots as slots
 use Rattle.tb_runtime16.specs.Places.{LEFT, LINE, NOTES, NOTE_HIGH, NOTE_LOW, POP_AT, PUSH_AT, RESULT}
-use Rattle.tb_selection.specs.Groups.{Group, Calculate, Convert, Move, Use, Test, TestGo, Single, slot_of, expand, Divides}
+use Rattle.tb_selection.specs.Groups.{Group, Calculate, Stepped, Convert, Move, Use, Test, TestGo, Single, slot_of, expand, Divides}
 use Rattle.tb_templates.specs.declared.labels.Inner.TheVariants as inside
 use Rattle.tb_templates.specs.declared.labels.Target.TheVariants as target
 use Rattle.tb_templates.specs.Labels.{label_of}
@@ -256,12 +256,18 @@ module _ (labels : List (Name × ℕ)) (ns : List ℕ) (seed n : ℕ) (seed_smal
         let x = source_of (slot_of d) a in let y = source_of (slot_of d + 1) b in let to = destination_at d in
         let e = computed_emitted labels n at (target.Inside inside.Skip n i) op x y to (change_of op x y to) (change_is op x y to) n_small (source_word labels (slot_of d) a) (source_word labels (slot_of d + 1) b) fs h r in
         record { first = e.0; second = Short; emits = e.1; reach = e.2 }
+    each_emitted i at (Stepped op a b by w x) fs q range h r =
+        let e = stepped_emitted labels n at (target.Inside inside.Skip n i) (target.Inside inside.Behind n i) op (source_of 0 a) (source_of 1 b) by (source_of 1 (Constant w)) (var_at x) n_small (source_word labels 0 a) (source_word labels 1 b) (source_word labels 1 (Constant w)) fs h r in
+        record { first = e.first; second = e.second; emits = e.emits; reach = e.reach }
+    each_emitted i at (Remains x d to) fs q range h r =
+        let e = remains_emitted labels n at (target.Inside inside.Skip n i) (AtPlace (var_at x)) (source_of (slot_of to + 2) d) (destination_at to) n_small tt (source_word labels (slot_of to + 2) d) fs h r in
+        record { first = e.first; second = Short; emits = e.emits; reach = e.reach }
     each_emitted i at (Convert what a d) fs q range h r = without_branches i at (Convert what a d) fs refl q range h r
     each_emitted i at (Move a home) fs q range h r = without_branches i at (Move a home) fs refl q range h r
     each_emitted i at (Use how a) fs q range h r = without_branches i at (Use how a) fs refl q range h r
     each_emitted i at (Test rel a b) fs q range h r = without_branches i at (Test rel a b) fs refl q range h r
     each_emitted i at (TestGo rel a b to) fs q range h r = without_branches i at (TestGo rel a b to) fs refl q range h r
-    each_emitted i at (Divides how x d to) fs q range h r = without_branches i at (Divides how x d to) fs refl q range h r
+    each_emitted i at (Divides how x d side to) fs q range h r = without_branches i at (Divides how x d side to) fs refl q range h r
     each_emitted i at (Single (slots.Put k w)) fs q range h r = without_branches i at (Single (slots.Put k w)) fs refl q range h r
     each_emitted i at (Single (slots.Load k x)) fs q range h r = without_branches i at (Single (slots.Load k x)) fs refl q range h r
     each_emitted i at (Single (slots.Store x)) fs q range h r = without_branches i at (Single (slots.Store x)) fs refl q range h r

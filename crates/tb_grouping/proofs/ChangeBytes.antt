@@ -153,3 +153,51 @@ module _ (labels : List (Name × ℕ)) where
   computed_emitted n at skip op a b to _ elsewhere small u v fs h r =
       let is : fs ≡ map kept (items.calculated n op a b to) = straight_forms (items.calculated n op a b to) fs (calculated_straight labels n op a b to) h in
       (Short, subst (λ k. Emits labels at k (coded.calc_code n op a b to)) (sym is) (calculated_emits labels n at op a b to small u v), tt)
+
+  -- ---- a result that goes on by a constant
+  pub record StepEmitted (n at : ℕ) (op : Operator) (a b : Source) (by : Operator) (c : Source) (to : ℕ) (fs : List Form) : Type 0 where
+    pub first : Way
+    pub second : Way
+    pub emits : Emits labels at fs (coded.stepped_code first second n at op a b by c to)
+    pub reach : coded.StepReaches first second n at op a b by c to
+
+  pub stepped_emitted : (n at : ℕ) (skip behind : Target) (op : Operator) (a b : Source) (by : Operator) (c : Source) (to : ℕ) → n < 65536 → IsWord labels a → IsWord labels b → IsWord labels c → (fs : List Form)
+      → AreFormsOf (items.stepped n skip behind op a b by c to) fs → Rest labels at fs → StepEmitted n at op a b by c to fs
+  stepped_emitted n at skip behind op a b by c to small u v w fs h r =
+      let s = split (items.computed n skip op a b to) (items.computed n behind by (AtPlace to) c to) fs h in
+      let parts = subst (Rest labels at) s.are r in
+      let e = computed_emitted n at skip op a b to (change_of op a b to) (change_is op a b to) small u v s.front s.of_front (rest_before labels at s.front s.back parts) in
+      let next = coded.going_at e.0 n at op a b to in
+      let back = rest_behind labels at next s.front s.back (ap (λ k. at + k) (emitted_size labels e.1)) parts in
+      let g = computed_emitted n next behind by (AtPlace to) c to (change_of by (AtPlace to) c to) (change_is by (AtPlace to) c to) small tt w s.back s.of_back back in
+      record {
+        first = e.0;
+        second = g.0;
+        emits = subst (λ fs. Emits labels at fs (coded.stepped_code e.0 g.0 n at op a b by c to)) (sym s.are) (emits_append labels e.1 g.1);
+        reach = (e.2, g.2);
+      }
+
+  -- ---- what is left over
+  pub record RestEmitted (n at : ℕ) (a b : Source) (to : ℕ) (fs : List Form) : Type 0 where
+    pub first : Way
+    pub emits : Emits labels at fs (coded.remains_code first n at a b to)
+    pub reach : coded.RestReaches first n at a b
+
+  pub remains_emitted : (n at : ℕ) (skip : Target) (a b : Source) (to : ℕ) → n < 65536 → IsWord labels a → IsWord labels b → (fs : List Form) → AreFormsOf (items.remains n skip a b to) fs → Rest labels at fs → RestEmitted n at a b to fs
+  remains_emitted n at skip a b to small u v fs h r =
+      let s = split (items.asked_rest n a b) (items.signed_rest skip a to) fs h in
+      let parts = subst (Rest labels at) s.are r in
+      let front : s.front ≡ map kept (items.asked_rest n a b) = straight_forms (items.asked_rest n a b) s.front (plain_straight (items.asked_rest n a b) (asked_rest_plain n a b)) s.of_front in
+      let asks : Emits labels at s.front (coded.rest_asked n a b) = subst (λ fs. Emits labels at fs (coded.rest_asked n a b)) (sym front) (asked_emits labels n at a b small u v) in
+      let next = coded.rest_at n at a b in
+      let back = rest_behind labels at next s.front s.back (ap (λ k. at + k) (emitted_size labels asks)) parts in
+      let e = over_emitted (items.high_of Lda a ∷ []) (items.taken (FixedWord 0) (AtPlace RESULT) RESULT) (product.copied RESULT to) (coded.sign_looked_at a) coded.rest_turned (copied RESULT to) Negative false (label_of skip) (high_straight a) refl (copied_straight labels RESULT to) (high_made labels a u) (taken_bytes labels (FixedWord 0) (AtPlace RESULT) RESULT (omega arith) tt) (copied_made labels RESULT to) next s.back s.of_back back in
+      record {
+        first = e.first;
+        emits = subst (λ fs. Emits labels at fs (coded.remains_code e.first n at a b to)) (sym s.are) (emits_append labels asks e.emits);
+        reach = e.reach;
+      }
+    where
+      high_straight : (a : Source) → list_all is_straight (items.high_of Lda a ∷ []) ≡ true
+      high_straight (FixedWord w) = refl
+      high_straight (AtPlace p) = refl

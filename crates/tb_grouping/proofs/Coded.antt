@@ -20,10 +20,11 @@ use Rattle.tb_templates.specs.declared.in_place.Change.{Change}
 use Rattle.tb_templates.specs.declared.in_place.Change.TheVariants.{Increment, Decrement, Raise, Lower, Halve, Double}
 use Rattle.tb_templates.specs.InPlace.{change_of}
 use Rattle.tb_templates.specs.Masks.{mask}
+use Rattle.tb_templates.specs.Templates.{var_at}
 use Rattle.tb_templates.specs.Sources.{source_of, tested_source, home_at, destination_at}
 use Rattle.tb_keeping.specs.Layout.{Layout, next_at, place_at}
 use Rattle.tb_keeping.proofs.Resolved.{Piece, Code, Lies, pieces_size, size, sta_at, copied, constant, pointed, call, faulting, jump, jump_through, template, highest_code, locate_code, past_code}
-use Rattle.tb_selection.specs.Groups.{Conversion, Negated, Drawn, Usage, AsNumber, AsLine, AsSubroutine, Variable, Divisibility, Divisible, Indivisible, Group, Calculate, Convert, Move, Use, Test, TestGo, Divides, Single, contrary, denied, slot_of, expand}
+use Rattle.tb_selection.specs.Groups.{Conversion, Negated, Drawn, Usage, AsNumber, AsLine, AsSubroutine, Constant, Variable, Divisibility, Divisible, Indivisible, Group, Calculate, Stepped, Convert, Move, Use, Test, TestGo, Divides, Remains, Single, contrary, denied, slot_of, expand}
 use Rattle.tb_selection.specs.Select.{select}
 use Rattle.tb_grouping.proofs.Sources.{Byte, Fixed, At, lda, adc, sbc, cmp}
 
@@ -380,6 +381,42 @@ abbrev pub DividesReach : Layout → (n at : ℕ) → Way → Source → Source 
 DividesReach ly n at first a b None = DividedReaches n at first a b (next_at ly n)
 DividesReach ly n at first a b (Some to) = DividedGoes ly n at first a b (has_line ly.numbers to) to
 
+-- ---- what is left over
+-- a word over another one, by the routine
+abbrev pub rest_asked : ℕ → Source → Source → List Piece
+rest_asked n a b = lined_code (may_be_zero b) n (Code (brought a LEFT) ∷ Code (brought b RIGHT) ∷ Code (call DIVIDE_AT) ∷ [])
+
+-- the sign of a word goes to N; what is taken from 0 where that is set; and what is copied behind it
+abbrev pub sign_looked_at : Source → List Instr
+sign_looked_at a = lda (high a) ∷ []
+
+abbrev pub rest_turned : List Instr
+rest_turned = taken (FixedWord 0) (AtPlace RESULT) RESULT
+
+abbrev pub signed_rest : Way → (at : ℕ) → Source → ℕ → List Piece
+signed_rest first at a to = over_code first at (sign_looked_at a) Negative false rest_turned (copied RESULT to)
+
+abbrev pub rest_at : (n at : ℕ) → Source → Source → ℕ
+rest_at n at a b = at + pieces_size (rest_asked n a b)
+
+abbrev pub remains_code : Way → (n at : ℕ) → Source → Source → ℕ → List Piece
+remains_code first n at a b to = rest_asked n a b ++ signed_rest first (rest_at n at a b) a to
+
+abbrev pub RestReaches : Way → (n at : ℕ) → Source → Source → Type 0
+RestReaches first n at a b = OverReaches first (rest_at n at a b) (sign_looked_at a) rest_turned
+
+-- ---- a result that goes on by a constant
+-- where it does
+abbrev pub going_at : Way → (n at : ℕ) → Operator → Source → Source → ℕ → ℕ
+going_at first n at op a b to = at + pieces_size (computed_code first n at op a b to)
+
+abbrev pub stepped_code : (first second : Way) (n at : ℕ) → Operator → Source → Source → Operator → Source → ℕ → List Piece
+stepped_code first second n at op a b by c to = computed_code first n at op a b to ++ computed_code second n (going_at first n at op a b to) by (AtPlace to) c to
+
+abbrev pub StepReaches : (first second : Way) (n at : ℕ) → Operator → Source → Source → Operator → Source → ℕ → Type 0
+StepReaches first second n at op a b by c to =
+    ChangedReaches (change_of op a b to) first at to × ChangedReaches (change_of by (AtPlace to) c to) second (going_at first n at op a b to) to
+
 -- ---- GOSUB and RETURN in line
 -- a byte goes to X, and to a flag whether it is 0
 abbrev pub asked : ℕ → List Instr
@@ -473,6 +510,8 @@ has_branches _ = false
 abbrev pub is_branching : Group → Bool
 is_branching (Single i) = has_branches i
 is_branching (Calculate op a b d) = true
+is_branching (Stepped op a b by w x) = true
+is_branching (Remains x d to) = true
 is_branching _ = false
 
 -- the code of one that has, and that its branches reach
@@ -500,20 +539,24 @@ alone_code ly n at first second i = if has_branches i then branching_code ly n a
 -- the code of a group of line n, at an address, with the ways of its branches
 abbrev pub group_code : Layout → (n at : ℕ) (first second : Way) → Group → List Piece
 group_code ly n at first second (Calculate op a b d) = computed_code first n at op (source_of (slot_of d) a) (source_of (slot_of d + 1) b) (destination_at d)
+group_code ly n at first second (Stepped op a b by w x) = stepped_code first second n at op (source_of 0 a) (source_of 1 b) by (source_of 1 (Constant w)) (var_at x)
 group_code ly n at first second (Convert what a d) = convert_code ly n what (source_of (slot_of d) a) (destination_at d)
 group_code ly n at first second (Move a home) = Code (brought (source_of 0 a) (home_at home)) ∷ []
 group_code ly n at first second (Use how a) = use_code ly n how (source_of 0 a)
 group_code ly n at first second (Test rel a b) = test_code rel first second at (tested_source a) (source_of 0 b) (next_at ly n)
 group_code ly n at first second (TestGo rel a b to) = go_code ly n at first second rel (tested_source a) (source_of 0 b) (has_line ly.numbers to) to
-group_code ly n at first second (Divides how x d to) = divides_code ly n at first how (source_of 0 (Variable x)) (source_of 1 d) to
+group_code ly n at first second (Remains x d to) = remains_code first n at (AtPlace (var_at x)) (source_of (slot_of to + 2) d) (destination_at to)
+group_code ly n at first second (Divides how x d side to) = divides_code ly n at first how (source_of 0 (Variable x)) (source_of 1 d) to
 group_code ly n at first second (Single i) = alone_code ly n at first second i
 
 -- the branches of a group reach
 abbrev pub BranchesReach : Layout → (n at : ℕ) (first second : Way) → Group → Type 0
 BranchesReach ly n at first second (Calculate op a b d) = ChangedReaches (change_of op (source_of (slot_of d) a) (source_of (slot_of d + 1) b) (destination_at d)) first at (destination_at d)
+BranchesReach ly n at first second (Stepped op a b by w x) = StepReaches first second n at op (source_of 0 a) (source_of 1 b) by (source_of 1 (Constant w)) (var_at x)
+BranchesReach ly n at first second (Remains x d to) = RestReaches first n at (AtPlace (var_at x)) (source_of (slot_of to + 2) d)
 BranchesReach ly n at first second (Test rel a b) = TestReaches rel first second at (tested_source a) (source_of 0 b) (next_at ly n)
 BranchesReach ly n at first second (TestGo rel a b to) = GoReaches ly n at first second rel (tested_source a) (source_of 0 b) (has_line ly.numbers to) to
-BranchesReach ly n at first second (Divides how x d to) = DividesReach ly n at first (source_of 0 (Variable x)) (source_of 1 d) to
+BranchesReach ly n at first second (Divides how x d side to) = DividesReach ly n at first (source_of 0 (Variable x)) (source_of 1 d) to
 BranchesReach ly n at first second (Single i) = OnlyIf (has_branches i) (BranchingReaches ly first second at i)
 BranchesReach ly n at first second _ = Unit {0}
 

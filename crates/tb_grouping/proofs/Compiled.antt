@@ -63,7 +63,7 @@ module _ (seed : ℕ) (program : Program) (code : SlotCode) (seed_small : seed <
   pub image_keeps : Keeps 0x0801 bytes program seed
   image_keeps = record {
     sound = λ s h. (kept s h).sound s h;
-    pace = λ text answers m. 192 + m * (longest code + 1) * (24 + (limit_by (length text) + limit_by (length text)));
+    pace = λ text answers m. 192 + m * (longest code + 1) * (34 + (limit_by (length text) + limit_by (length text)));
     paced = λ s h. (kept s h).paced s h;
   }
 
@@ -76,6 +76,6 @@ module _ (seed : ℕ) (program : Program) (code : SlotCode) (seed_small : seed <
   image_marks start agree = told_so (layout_of labels (numbers code) seed).start start 0x0801 bytes program seed agree
       (record {
         begins = λ s h. (marked s h).begins s h;
-        pace = λ text answers m. 192 + (m * (longest code + 1) * (24 + (limit_by (length text) + limit_by (length text))) + 1);
+        pace = λ text answers m. 192 + (m * (longest code + 1) * (34 + (limit_by (length text) + limit_by (length text))) + 1);
         comes = λ s h. (marked s h).comes s h;
       })

@@ -210,13 +210,13 @@ module _ (ly : Layout) (f : Setup) (lo hi keys : ℕ) (fits : Fits f 16) (code :
   leads how' next = divided_leads ly f lo hi keys fits limit rs n (Divides how v d to) js is s r w h left right x y (operand_apart 0 (Variable v) 0 (omega arith) (omega arith) left_fits) (operand_apart 0 (Variable v) LEFT (omega arith) (omega arith) left_fits) (operand_apart 1 d RIGHT (omega arith) (omega arith) right_fits) left_holds right_holds how' h.first next
 
   abbrev pub Ends : Step SlotState → Type 0
-  Ends z = Comes f w (Target ly f lo hi keys z) (sent_in z) (24 + (limit + limit))
+  Ends z = Comes f w (Target ly f lo hi keys z) (sent_in z) (34 + (limit + limit))
 
   -- by 0
   faults : (how' : Divisibility) (next : ℕ) → Lies f.code w.regs.pc (divided_code n w.regs.pc h.first how' left right next) → y ≡ 0 → (ks back : List Instr) → Ends (steps code (multiple v d ks) (line code n (multiple v d back) s r))
   faults how' next lies zero ks back =
       subst Ends (sym (multiple_fails code n how v d s r h.read.all_words ks back zero))
-      (looser f w _ _ (fault_text 2 n) (13 + limit) (24 + (limit + limit)) (omega arith) (λ u z. z)
+      (looser f w _ _ (fault_text 2 n) (13 + limit) (34 + (limit + limit)) (omega arith) (λ u z. z)
       (divided_fails ly f lo hi keys fits limit rs n (Divides how v d to) js is s r w h left right x y (operand_apart 0 (Variable v) 0 (omega arith) (omega arith) left_fits) (operand_apart 0 (Variable v) LEFT (omega arith) (omega arith) left_fits) (operand_apart 1 d RIGHT (omega arith) (omega arith) right_fits) left_holds right_holds how' h.first next lies zero))
 
   -- the slots behind it, of which nothing is live
@@ -255,9 +255,9 @@ module _ (ly : Layout) (f : Setup) (lo hi keys : ℕ) (fits : Fits f 16) (code :
     where
       by : (t : Bool) → Comes f w (At (cond t (w.regs.pc + pieces_size here_code) (next_at ly n))) [] (17 + limit) → Ends (branched code n rel (HeldNow InSlot) (Variable v) is s last t)
       by true c =
-          looser f w _ _ [] (17 + limit) (24 + (limit + limit)) (omega arith)
+          looser f w _ _ [] (17 + limit) (34 + (limit + limit)) (omega arith)
           (λ u a. stood ly f lo hi keys fits code n h.small is s end_slots (w.regs.pc + pieces_size here_code) u.mem w.text w.answers rest a.kept.state (end_read u.mem) a.kept.homed h.text h.answers h.short u a.here) c
-      by false c = looser f w _ _ [] (17 + limit) (24 + (limit + limit)) (omega arith) leaves c
+      by false c = looser f w _ _ [] (17 + limit) (34 + (limit + limit)) (omega arith) leaves c
 
   -- ---- that goes to a line
   module _ (t : ℕ) (lies : Lies f.code w.regs.pc (divided_go ly n w.regs.pc h.first how left right (has_line ly.numbers t) t)) (reach : DividedGoes ly n w.regs.pc h.first left right (has_line ly.numbers t) t) (rest : GroupsLie ly f.code n (w.regs.pc + pieces_size (divided_go ly n w.regs.pc h.first how left right (has_line ly.numbers t) t)) (select is)) (stands : nat_eq (length (select is)) 0 ≡ true) where
@@ -299,9 +299,9 @@ module _ (ly : Layout) (f : Setup) (lo hi keys : ℕ) (fits : Fits f 16) (code :
 
         by : (q : Bool) → Comes f w (At (cond (not q) (next_at ly n) (ly.start t))) [] (17 + limit) → Ends (outcome q true)
         by true c =
-            looser f w _ _ [] (17 + limit) (24 + (limit + limit)) (omega arith)
+            looser f w _ _ [] (17 + limit) (34 + (limit + limit)) (omega arith)
             (λ u a. arrived ly f lo hi keys fits code (record s { place = control.At t }) end_slots (ly.start t) u.mem w.text w.answers refl (state_placed ly (control.At t) s u.mem a.kept.state) (none_read u.mem).all_words a.kept.homed h.text h.answers h.short u a.here) c
-        by false c = looser f w _ _ [] (17 + limit) (24 + (limit + limit)) (omega arith) leaves c
+        by false c = looser f w _ _ [] (17 + limit) (34 + (limit + limit)) (omega arith) leaves c
     by_line false e = ⊎_elim
         (λ zero. faults how (next_at ly n) parts.0 zero ks back)
         (λ some. subst Ends (sym (goes some false e)) (by question (leads how (next_at ly n) parts.0 (subst (λ b. DividedGoes ly n w.regs.pc h.first left right b t) e reach) some)))
@@ -312,9 +312,9 @@ module _ (ly : Layout) (f : Setup) (lo hi keys : ℕ) (fits : Fits f 16) (code :
 
         by : (q : Bool) → Comes f w (At (cond q (w.regs.pc + pieces_size here_code) (next_at ly n))) [] (17 + limit) → Ends (outcome q false)
         by true c =
-            looser f w _ _ (fault_text 1 n) (17 + limit + (4 + limit)) (24 + (limit + limit)) (omega arith) (λ u g. g)
+            looser f w _ _ (fault_text 1 n) (17 + limit + (4 + limit)) (34 + (limit + limit)) (omega arith) (λ u g. g)
             (chained f w _ _ [] (fault_text 1 n) (17 + limit) (4 + limit) c (λ u a. faults_at ly f lo hi keys fits limit rs n 1 h.small (omega arith) (w.regs.pc + pieces_size here_code) u.mem w.text w.answers parts.1 a.kept.homed u a.here))
-        by false c = looser f w _ _ [] (17 + limit) (24 + (limit + limit)) (omega arith) leaves c
+        by false c = looser f w _ _ [] (17 + limit) (34 + (limit + limit)) (omega arith) leaves c
 
   by_to : (o : Option ℕ) → to ≡ o → Ends (steps code (expand (Divides how v d o)) (line code n (spread_divides how v d o is) s r))
   by_to None e =

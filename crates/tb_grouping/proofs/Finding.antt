@@ -178,11 +178,11 @@ module _ (ly : Layout) (f : Setup) (lo hi keys : ℕ) (fits : Fits f 16) (limit 
           (word_away u.mem LEFT _ _ LINE n (λ e. omega (arith, e)) (λ e. omega (arith, e)) (λ e. omega (arith, e)) l)
           (kept_put ly f lo hi keys fits calls_for s r u.mem LEFT _ _ h.some_read refl refl c))))
 
-      pub call_found : has_line ly.numbers place ≡ true → nat_lt (length s.returns) deepest ≡ true → Comes f w (Matches ly f lo hi keys (record { state = record s { place = At place; returns = next_after ly.numbers n ∷ s.returns }; rest = Whole; slots = slots })) [] (24 + (limit + limit))
+      pub call_found : has_line ly.numbers place ≡ true → nat_lt (length s.returns) deepest ≡ true → Comes f w (Matches ly f lo hi keys (record { state = record s { place = At place; returns = next_after ly.numbers n ∷ s.returns }; rest = Whole; slots = slots })) [] (34 + (limit + limit))
       call_found found free =
           let few : length s.returns < 500 = omega (arith, ltb-true _ _ free) in
           let same : length (notes_of ly s.returns) ≡ length s.returns = length-map s.returns (place_at ly) in
-          looser f w _ _ [] (4 + (4 + (1 + (4 + (4 + (1 + (limit + (4 + (1 + (limit + 1)))))))))) (24 + (limit + limit)) (omega arith) (λ u x. x)
+          looser f w _ _ [] (4 + (4 + (1 + (4 + (4 + (1 + (limit + (4 + (1 + (limit + 1)))))))))) (34 + (limit + limit)) (omega arith) (λ u x. x)
           (calls_push found _ [] (limit + 1) (λ u result l c v e.
           chained f v _ _ [] [] limit 1 (rs.push _ _ (returning u) w.text w.answers (next_at ly n) (notes_of ly s.returns) (word_put u.mem LEFT _ _ _ refl refl (laid.places (next_after ly.numbers n))) (subst (λ k. WordAt (returning u) NOTES k) (sym same) c.state.count) c.state.notes (omega (arith, few, same)) v e) (λ x g.
           looser f x _ _ [] 1 1 (omega arith)
@@ -193,10 +193,10 @@ module _ (ly : Layout) (f : Setup) (lo hi keys : ℕ) (fits : Fits f 16) (limit 
           (jumps_through f 16 fits (found_at + 8 + 3) own x.mem w.text w.answers refl (ly.start place) (word_kept (returning u) x.mem RESULT _ g.result g.result_high result) h.lies.2.2.2.2.2.1 x
           (record { pc = g.pc ∙ behind_call ly f lo hi keys fits (found_at + 8) h.lies.2.2.2.2.0; stack = g.stack; binary = g.binary; mem = refl; text = g.text; answers = g.answers })))))
 
-      pub call_full : has_line ly.numbers place ≡ true → nat_lt (length s.returns) deepest ≡ false → Comes f w (IsHome f) (fault_text 4 n) (24 + (limit + limit))
+      pub call_full : has_line ly.numbers place ≡ true → nat_lt (length s.returns) deepest ≡ false → Comes f w (IsHome f) (fault_text 4 n) (34 + (limit + limit))
       call_full found full =
           let t = fault_text 4 n in
-          looser f w _ _ t (4 + (4 + (1 + (4 + (4 + (1 + (limit + (4 + (1 + limit))))))))) (24 + (limit + limit)) (omega arith) (λ u x. x)
+          looser f w _ _ t (4 + (4 + (1 + (4 + (4 + (1 + (limit + (4 + (1 + limit))))))))) (34 + (limit + limit)) (omega arith) (λ u x. x)
           (calls_push found _ t limit (λ u result l c. rs.push_fails _ _ (returning u) w.text w.answers (notes_of ly s.returns) n (subst (λ k. WordAt (returning u) NOTES k) (sym (length-map s.returns (place_at ly))) c.state.count) c.state.notes (omega (arith, ltb-false _ _ full, c.state.few, length-map s.returns (place_at ly))) l c.homed))
 
       pub call_fails : has_line ly.numbers place ≡ false → Comes f w (IsHome f) (fault_text 1 n) (19 + limit)

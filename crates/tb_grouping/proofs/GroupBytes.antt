@@ -26,7 +26,7 @@ use Rattle.tb_lower.specs.Ranges.{AreInRange, IsInRange}
 use Rattle.tb_lower.specs.Slots as slots
 use Rattle.tb_runtime16.specs.Places.{LINE, LEFT, RIGHT, RESULT, WANTED, MULTIPLY_AT, DIVIDE_AT, RANDOM_AT, NUMBER_AT, PUSH_AT}
 use Rattle.tb_selection.specs.Select.{alone}
-use Rattle.tb_selection.specs.Groups.{Operand, Constant, Variable, InSlot, Tested, HeldBefore, HeldNow, Conversion, Negated, Drawn, Usage, AsNumber, AsLine, AsSubroutine, Divisibility, Divisible, Indivisible, Group, Calculate, Convert, Move, Use, Test, TestGo, Divides, Single, contrary, denied, slot_of, expand}
+use Rattle.tb_selection.specs.Groups.{Operand, Constant, Variable, InSlot, Tested, HeldBefore, HeldNow, Conversion, Negated, Drawn, Usage, AsNumber, AsLine, AsSubroutine, Divisibility, Divisible, Indivisible, Group, Calculate, Stepped, Convert, Move, Use, Test, TestGo, Divides, Remains, Single, contrary, denied, slot_of, expand}
 use Rattle.tb_templates.specs.declared.labels.Inner.TheVariants as inside
 use Rattle.tb_templates.specs.declared.labels.Target.{Target}
 use Rattle.tb_templates.specs.declared.labels.Target.TheVariants as target
@@ -846,6 +846,8 @@ module _ (labels : List (Name × ℕ)) (ns : List ℕ) (seed n : ℕ) (seed_smal
     pub group_emitted : (i at : ℕ) (g : Group) (fs : List Form) → coded.is_branching g ≡ false → IsAlone g → AreInRange 256 (expand g) → AreFormsOf (items.group_template ns seed n i g) fs → Rest labels at fs
         → GroupEmitted labels ly n at g fs
     group_emitted i at (Calculate o a b d) fs plain q range h r = absurd (true≢false plain)
+    group_emitted i at (Stepped o a b by w x) fs plain q range h r = absurd (true≢false plain)
+    group_emitted i at (Remains x d to) fs plain q range h r = absurd (true≢false plain)
     group_emitted i at (Move a home) fs plain q range h r =
         let x = source_of 0 a in let to = home_at home in
         straight_emitted at (Move a home) (items.brought x to) fs (brought_straight labels x to) h r
@@ -863,7 +865,7 @@ module _ (labels : List (Name × ℕ)) (ns : List ℕ) (seed n : ℕ) (seed_smal
     group_emitted i at (TestGo rel x b to) fs plain q range h r =
         let e = go_emitted i at rel x b to (has_line ns to) refl fs h r in
         record { first = e.0; second = e.1; emits = e.2; reach = e.3 }
-    group_emitted i at (Divides how x d to) fs plain q range h r =
+    group_emitted i at (Divides how x d side to) fs plain q range h r =
         let e = divides_emitted at how (source_of 0 (Variable x)) (source_of 1 d) tt (source_word labels 1 d) to fs h r in
         record { first = e.0; second = Short; emits = e.1; reach = e.2 }
     group_emitted i at (Single c) fs plain q range h r =

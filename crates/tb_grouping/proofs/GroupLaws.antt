@@ -14,7 +14,7 @@ use Rattle.tb_keeping.specs.Layout.{Layout}
 use Rattle.tb_keeping.proofs.Joins.{LawAt, sent_in}
 use Rattle.tb_keeping.proofs.Mirrors as mirrors
 use Rattle.tb_keeping.proofs.Resolved.{Lies, pieces_size}
-use Rattle.tb_selection.specs.Groups.{Operand, Home, Destination, Tested, Conversion, Negated, Drawn, Usage, Group, Calculate, Convert, Move, Use, Test, TestGo, Single, slot_of, expand, expand_all, Divisibility, Divides}
+use Rattle.tb_selection.specs.Groups.{Operand, Home, Destination, Tested, Conversion, Negated, Drawn, Usage, Group, Calculate, Stepped, Convert, Move, Use, Test, TestGo, Single, slot_of, expand, expand_all, Divisibility, Divides}
 use Rattle.tb_selection.specs.Select.{alone, select}
 use Rattle.tb_selection.specs.GroupSteps.{steps, first_group, group_step}
 use Rattle.tb_selection.proofs.Bracketed.{brackets}
@@ -51,13 +51,13 @@ module _ (ly : Layout) (f : Setup) (lo hi keys : ℕ) (fits : Fits f 16) (limit 
 
   -- the law of a group, wherever it is the first one of a line's rest
   abbrev pub GroupLaw : Group → Type 0
-  GroupLaw g = (n : ℕ) (gs : List Group) (js : List Instr) (s : State) (r : Slots) (w : View) → select js ≡ g ∷ gs → Matches ly f lo hi keys (line code n js s r) w → Comes f w (Target ly f lo hi keys (first_group code (line code n js s r))) (sent_in (first_group code (line code n js s r))) (24 + (limit + limit))
+  GroupLaw g = (n : ℕ) (gs : List Group) (js : List Instr) (s : State) (r : Slots) (w : View) → select js ≡ g ∷ gs → Matches ly f lo hi keys (line code n js s r) w → Comes f w (Target ly f lo hi keys (first_group code (line code n js s r))) (sent_in (first_group code (line code n js s r))) (34 + (limit + limit))
 
-  by_steps : (g : Group) (k : ℕ) → k ≤ 24 + (limit + limit) → ((is : List Instr) → StepsLaw g (expand g ++ is) is k) → GroupLaw g
+  by_steps : (g : Group) (k : ℕ) → k ≤ 34 + (limit + limit) → ((is : List Instr) → StepsLaw g (expand g ++ is) is k) → GroupLaw g
   by_steps g k le law n gs js s r w e h =
       let c = line code n js s r in
-      opened ly f lo hi keys fits code n g gs js s r w (24 + (limit + limit)) e
-      (looser f w _ _ (sent_in (steps code (expand g) c)) k (24 + (limit + limit)) le (λ u x. x)
+      opened ly f lo hi keys fits code n g gs js s r w (34 + (limit + limit)) e
+      (looser f w _ _ (sent_in (steps code (expand g) c)) k (34 + (limit + limit)) le (λ u x. x)
       (subst (λ l. Ready ly f lo hi keys fits n g l (expand_all gs) s r w → Comes f w (Target ly f lo hi keys (steps code (expand g) (line code n l s r))) (sent_in (steps code (expand g) (line code n l s r))) k) (sym (parted ly f lo hi keys fits g gs js e)) (law (expand_all gs) n s r w) (ready ly f lo hi keys fits code n g gs js s r w e h)))
 
   -- the same of the list with its parts bracketed in another way
@@ -103,8 +103,8 @@ module _ (ly : Layout) (f : Setup) (lo hi keys : ℕ) (fits : Fits f 16) (limit 
     pub tests_going : (rel : Rel) (a : Tested) (b : Operand) (to : ℕ) → GroupLaw (TestGo rel a b to)
     tests_going rel a b to = by_steps (TestGo rel a b to) (15 + limit) (omega arith) (bracketed (TestGo rel a b to) (15 + limit) (λ is. spread_test rel a b (JumpTo to ∷ is)) (spread_test_is rel a b (JumpTo to ∷ [])) (λ is n s r w h. go_law ly f lo hi keys fits code same_numbers n a b s r w limit rs rel to is h))
 
-    pub asks_divisor : (how : Divisibility) (x : ℕ) (d : Operand) (to : Option ℕ) → GroupLaw (Divides how x d to)
-    asks_divisor how x d to = by_steps (Divides how x d to) (24 + (limit + limit)) (omega arith) (bracketed (Divides how x d to) (24 + (limit + limit)) (spread_divides how x d to) (spread_divides_is how x d to) (λ is n s r w h. divides_law ly f lo hi keys fits code same_numbers limit rs n how x d to is s r w h))
+    pub asks_divisor : (how : Divisibility) (x : ℕ) (d : Operand) (to : Option ℕ) → GroupLaw (Divides how x d side to)
+    asks_divisor how x d to = by_steps (Divides how x d side to) (34 + (limit + limit)) (omega arith) (bracketed (Divides how x d side to) (34 + (limit + limit)) (spread_divides how x d to) (spread_divides_is how x d to) (λ is n s r w h. divides_law ly f lo hi keys fits code same_numbers limit rs n how x d to is s r w h))
 
     pub multiplies : (a b : Operand) (d : Destination) → GroupLaw (Calculate op.Multiply a b d)
     multiplies a b d = by_steps (Calculate op.Multiply a b d) (13 + limit) (omega arith) (computes op.Multiply a b d (13 + limit) (omega (arith, wide)) (λ is n s r w h.
@@ -119,15 +119,15 @@ module _ (ly : Layout) (f : Setup) (lo hi keys : ℕ) (fits : Fits f 16) (limit 
           by is n s r w h false e = draw_law ly f lo hi keys fits code n a d is s r w limit rs laid.seed_small h e
 
       pub uses : (how : Usage) (a : Operand) → GroupLaw (Use how a)
-      uses how a = by_steps (Use how a) (24 + (limit + limit)) (omega arith) (bracketed (Use how a) (24 + (limit + limit)) (spread_use how a) (spread_use_is how a) (λ is n s r w h. use_law ly f lo hi keys fits limit rs code laid n a is s r w how h))
+      uses how a = by_steps (Use how a) (34 + (limit + limit)) (omega arith) (bracketed (Use how a) (34 + (limit + limit)) (spread_use how a) (spread_use_is how a) (λ is n s r w h. use_law ly f lo hi keys fits limit rs code laid n a is s r w how h))
 
       -- an instruction that is a group of its own
       alones : (i : Instr) → GroupLaw (Single i)
       alones i n gs js s r w e h =
           let single : alone i ≡ Single i = subst FirstIsAlone e (first_so js) in
-          by_steps (Single i) (24 + (limit + limit)) (omega arith) (λ is n s r w h.
-          subst (λ x. Comes f w (Target ly f lo hi keys x) (sent_in x) (24 + (limit + limit))) (sym (one_step code i (line code n (i ∷ is) s r)))
-          (subst (λ ns. Comes f w (Target ly f lo hi keys (settled n is r (act ns n i s r))) (sent_in (settled n is r (act ns n i s r))) (24 + (limit + limit))) (sym same_numbers)
+          by_steps (Single i) (34 + (limit + limit)) (omega arith) (λ is n s r w h.
+          subst (λ x. Comes f w (Target ly f lo hi keys x) (sent_in x) (34 + (limit + limit))) (sym (one_step code i (line code n (i ∷ is) s r)))
+          (subst (λ ns. Comes f w (Target ly f lo hi keys (settled n is r (act ns n i s r))) (sent_in (settled n is r (act ns n i s r))) (34 + (limit + limit))) (sym same_numbers)
           (act_law ly f lo hi keys fits limit rs code laid n is s r w i single h))) n gs js s r w e h
 
       by_group : (g : Group) → GroupLaw g
@@ -141,17 +141,17 @@ module _ (ly : Layout) (f : Setup) (lo hi keys : ℕ) (fits : Fits f 16) (limit 
       by_group (Use how a) = uses how a
       by_group (Test rel a b) = tests rel a b
       by_group (TestGo rel a b to) = tests_going rel a b to
-      by_group (Divides how x d to) = asks_divisor how x d to
+      by_group (Divides how x d side to) = asks_divisor how x d to
       by_group (Single i) = alones i
 
-      by_rest : (n : ℕ) (js : List Instr) (s : State) (r : Slots) (w : View) (gs : List Group) → select js ≡ gs → IsSome (Left n js) → Matches ly f lo hi keys (line code n js s r) w → Comes f w (Target ly f lo hi keys (first_group code (line code n js s r))) (sent_in (first_group code (line code n js s r))) (24 + (limit + limit))
+      by_rest : (n : ℕ) (js : List Instr) (s : State) (r : Slots) (w : View) (gs : List Group) → select js ≡ gs → IsSome (Left n js) → Matches ly f lo hi keys (line code n js s r) w → Comes f w (Target ly f lo hi keys (first_group code (line code n js s r))) (sent_in (first_group code (line code n js s r))) (34 + (limit + limit))
       by_rest n js s r w [] e some h = absurd (subst (λ l. IsSome (Left n l)) (sym (brackets js) ∙ ap expand_all e) some)
       by_rest n js s r w (g ∷ gs) e some h = by_group g n gs js s r w e h
 
       -- the law of each step
-      pub step_law : (c : SlotState) (w : View) → Between ly f lo hi keys c w → LawAt c.rest f w (mirrors.Leads f (Between ly f lo hi keys) (group_step code c)) (sent_in (group_step code c)) (24 + (limit + limit))
-      step_law c w h = falls_on ly f lo hi keys code same_numbers c.rest (first_group code c) w (24 + (limit + limit)) (by c.rest c.state c.slots h.0 h.1)
+      pub step_law : (c : SlotState) (w : View) → Between ly f lo hi keys c w → LawAt c.rest f w (mirrors.Leads f (Between ly f lo hi keys) (group_step code c)) (sent_in (group_step code c)) (34 + (limit + limit))
+      step_law c w h = falls_on ly f lo hi keys code same_numbers c.rest (first_group code c) w (34 + (limit + limit)) (by c.rest c.state c.slots h.0 h.1)
         where
-          by : (q : Rest) (s : State) (r : Slots) → Matches ly f lo hi keys (record { state = s; rest = q; slots = r }) w → IsSome q → LawAt q f w (Target ly f lo hi keys (first_group code (record { state = s; rest = q; slots = r }))) (sent_in (first_group code (record { state = s; rest = q; slots = r }))) (24 + (limit + limit))
+          by : (q : Rest) (s : State) (r : Slots) → Matches ly f lo hi keys (record { state = s; rest = q; slots = r }) w → IsSome q → LawAt q f w (Target ly f lo hi keys (first_group code (record { state = s; rest = q; slots = r }))) (sent_in (first_group code (record { state = s; rest = q; slots = r }))) (34 + (limit + limit))
           by (Left n js) s r h some = by_rest n js s r w (select js) refl some h
           by Whole s r h some = lines_law ly f lo hi keys fits limit rs code closed laid s r w h

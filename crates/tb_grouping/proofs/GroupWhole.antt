@@ -56,14 +56,14 @@ module _ (place : ℕ) (bytes : List ℕ) (from : 0x0800 ≤ place) (to : place 
         ))
         (prologue s h)
 
-    pub laws : StepLaws place bytes from to ly Related (group_step sc) (λ k. 24 + (limit k + limit k))
+    pub laws : StepLaws place bytes from to ly Related (group_step sc) (λ k. 34 + (limit k + limit k))
     laws s h c w m = step_law ly (setup place bytes from to ly s) (home_low s) (home_high s) (length s.text) (room_so place bytes from to ly s h) (limit (length s.text)) sc laid.numbered (routines s h) (wide (length s.text)) closed laid c w m
 
-    pub positive : (k : ℕ) → 1 ≤ 24 + (limit k + limit k)
+    pub positive : (k : ℕ) → 1 ≤ 34 + (limit k + limit k)
     positive k = omega arith
 
     abbrev pub keeps : Keeps place bytes program ly.seed
-    keeps = headline place bytes from to ly program sc follows (group_step sc) (group_stride sc) Related (λ k. 24 + (limit k + limit k)) positive n opening laws
+    keeps = headline place bytes from to ly program sc follows (group_step sc) (group_stride sc) Related (λ k. 34 + (limit k + limit k)) positive n opening laws
 
     abbrev pub marks : MarksLines place bytes program ly.seed ly.start
-    marks = all_marks place bytes from to ly program sc follows (lines_apart ly (part_at place bytes) sc laid) (group_step sc) (group_stride sc) Related known (λ k. 24 + (limit k + limit k)) positive n opening laws
+    marks = all_marks place bytes from to ly program sc follows (lines_apart ly (part_at place bytes) sc laid) (group_step sc) (group_stride sc) Related known (λ k. 34 + (limit k + limit k)) positive n opening laws

@@ -147,9 +147,9 @@ module _ (ly : Layout) (f : Setup) (lo hi keys : ℕ) (fits : Fits f 16) (limit 
     same_step here = line_step code n (Poll ∷ is) s r here some ∙ ap (λ gs. first code gs (line code n (Poll ∷ is) s r)) (select_poll is) ∙ polls code n is s r
 
     -- the law of the line's beginning
-    pub line_law : s.place ≡ At n → Enters f w (Target ly f lo hi keys (first_group code (record { state = s; rest = Whole; slots = r }))) (sent_in (first_group code (record { state = s; rest = Whole; slots = r }))) (24 + (limit + limit))
+    pub line_law : s.place ≡ At n → Enters f w (Target ly f lo hi keys (first_group code (record { state = s; rest = Whole; slots = r }))) (sent_in (first_group code (record { state = s; rest = Whole; slots = r }))) (34 + (limit + limit))
     line_law here =
-        subst (λ x. Enters f w (Target ly f lo hi keys x) (sent_in x) (24 + (limit + limit))) (sym (same_step here))
+        subst (λ x. Enters f w (Target ly f lo hi keys x) (sent_in x) (34 + (limit + limit))) (sym (same_step here))
         (record {
           rest = 1 + (10 + limit);
           few = omega arith;
@@ -164,19 +164,19 @@ module _ (ly : Layout) (f : Setup) (lo hi keys : ℕ) (fits : Fits f 16) (limit 
     whole = record { state = s; rest = Whole; slots = r }
 
     -- past the last line
-    past_law : w.regs.pc ≡ ly.past → Comes f w (IsHome f) (fault_text 7 (highest ly.numbers)) (24 + (limit + limit))
+    past_law : w.regs.pc ≡ ly.past → Comes f w (IsHome f) (fault_text 7 (highest ly.numbers)) (34 + (limit + limit))
     past_law at =
         let n = highest ly.numbers in
-        looser f w _ _ (fault_text 7 n) (4 + limit) (24 + (limit + limit)) (omega arith) (λ u x. x)
+        looser f w _ _ (fault_text 7 n) (4 + limit) (34 + (limit + limit)) (omega arith) (λ u x. x)
         (faults_at ly f lo hi keys fits limit rs n 7 laid.top (omega arith) ly.past w.mem w.text w.answers laid.past h.homed w (record { pc = at; stack = h.stack; binary = h.binary; mem = refl; text = refl; answers = refl }))
 
     -- no line there: fault 7
-    no_line : w.regs.pc ≡ ly.past → first_group code whole ≡ Stops Faulted (fault_text 7 (highest (numbers code))) → LawAt Whole f w (Target ly f lo hi keys (first_group code whole)) (sent_in (first_group code whole)) (24 + (limit + limit))
+    no_line : w.regs.pc ≡ ly.past → first_group code whole ≡ Stops Faulted (fault_text 7 (highest (numbers code))) → LawAt Whole f w (Target ly f lo hi keys (first_group code whole)) (sent_in (first_group code whole)) (34 + (limit + limit))
     no_line at e =
-        subst (λ x. LawAt Whole f w (Target ly f lo hi keys x) (sent_in x) (24 + (limit + limit))) (sym e)
-        (inl (subst (λ ns. Comes f w (IsHome f) (fault_text 7 (highest ns)) (24 + (limit + limit))) (sym laid.numbered) (past_law at)))
+        subst (λ x. LawAt Whole f w (Target ly f lo hi keys x) (sent_in x) (34 + (limit + limit))) (sym e)
+        (inl (subst (λ ns. Comes f w (IsHome f) (fault_text 7 (highest ns)) (34 + (limit + limit))) (sym laid.numbered) (past_law at)))
 
-    at_number : (n : ℕ) → s.place ≡ At n → (o : Option (List Instr)) → content_at code n ≡ o → LawAt Whole f w (Target ly f lo hi keys (first_group code whole)) (sent_in (first_group code whole)) (24 + (limit + limit))
+    at_number : (n : ℕ) → s.place ≡ At n → (o : Option (List Instr)) → content_at code n ≡ o → LawAt Whole f w (Target ly f lo hi keys (first_group code whole)) (sent_in (first_group code whole)) (34 + (limit + limit))
     at_number n here None e =
         no_line (h.pc ∙ ap (place_at ly) here ∙ laid.absent n e)
         (ap (λ p. first code (select (ahead code Whole p)) whole) here ∙ ap (λ o. first code (select (or_empty o)) whole) e ∙ ap (λ p. instr_at code Whole p s r) here ∙ ap (λ o. instr_found (numbers code) n o s r) e)
@@ -184,12 +184,12 @@ module _ (ly : Layout) (f : Setup) (lo hi keys : ℕ) (fits : Fits f 16) (limit 
         let p = laid.lines n js e in
         inr (line_law n p.small p.rest s r closed (e ∙ ap (λ l. Some l) p.polled) w h p.stands here)
 
-    by_place : (p : Place) → s.place ≡ p → LawAt Whole f w (Target ly f lo hi keys (first_group code whole)) (sent_in (first_group code whole)) (24 + (limit + limit))
+    by_place : (p : Place) → s.place ≡ p → LawAt Whole f w (Target ly f lo hi keys (first_group code whole)) (sent_in (first_group code whole)) (34 + (limit + limit))
     by_place (At n) here = at_number n here (content_at code n) refl
     by_place Past here =
         no_line (h.pc ∙ ap (place_at ly) here)
         (ap (λ p. first code (select (ahead code Whole p)) whole) here ∙ ap (λ p. instr_at code Whole p s r) here)
 
     -- the law where nothing of a line is left to be done
-    pub lines_law : LawAt Whole f w (Target ly f lo hi keys (first_group code whole)) (sent_in (first_group code whole)) (24 + (limit + limit))
+    pub lines_law : LawAt Whole f w (Target ly f lo hi keys (first_group code whole)) (sent_in (first_group code whole)) (34 + (limit + limit))
     lines_law = by_place s.place refl

@@ -22,7 +22,7 @@ use Rattle.std.proofs.lemmas.List.{append-nil}
 use Rattle.tb_reaching.proofs.Instr.{flat}
 use Rattle.tb_keeping.proofs.Resolved.{Piece, copied, template, jump_to}
 use Rattle.tb_grouping.proofs.Coded.{has_branches}
-use Rattle.tb_selection.specs.Groups.{Group, Calculate, Convert, Move, Use, Test, TestGo, Divides, Single}
+use Rattle.tb_selection.specs.Groups.{Group, Calculate, Stepped, Convert, Move, Use, Test, TestGo, Divides, Remains, Single}
 use Rattle.tb_selection.specs.Select.{alone}
 use Rattle.tb_keeping.proofs.Emitted.{pieces_bytes}
 
@@ -63,7 +63,9 @@ module _ (labels : List (Name × ℕ)) (ns : List ℕ) (seed : ℕ) (seed_small 
   is_single (Use how a) = false
   is_single (Test rel a b) = false
   is_single (TestGo rel a b to) = false
-  is_single (Divides how x d to) = false
+  is_single (Stepped op a b by w x) = false
+  is_single (Divides how x d side to) = false
+  is_single (Remains x d to) = false
 
   not_alone : {g : Group} {c : slots.Instr} → is_single g ≡ false → g ≡ Single c → ⊥
   not_alone f q = true≢false (ap is_single (sym q) ∙ f)

@@ -5,7 +5,7 @@ use Rattle.tb_words.specs.declared.Rel.{Rel}
 use Rattle.tb_syntax.specs.declared.expressions.Operator.{Operator}
 use Rattle.tb_lower.specs.Slots.{Instr, Put, Load, Store, Negate, Compute, Random, SendText, SendNumber, SendZone, SendNewline, Input, Poll, Hold, LeaveUnless, Jump, Call, JumpTo, CallTo, Return, End}
 use Rattle.tb_selection.specs.declared.liveness.Live.{Live}
-use Rattle.tb_selection.specs.Groups.{Operand, Constant, Variable, InSlot, Home, Destination, IntoHome, Tested, HeldBefore, HeldNow, Conversion, Negated, Drawn, Usage, Group, Calculate, Convert, Move, Use, Test, TestGo, Divides, Single, slot_of, expand_all}
+use Rattle.tb_selection.specs.Groups.{Operand, Constant, Variable, InSlot, Home, Destination, IntoHome, Tested, HeldBefore, HeldNow, Conversion, Negated, Drawn, Usage, Group, Calculate, Stepped, Convert, Move, Use, Test, TestGo, Divides, Remains, Single, slot_of, expand_all}
 use Rattle.tb_selection.specs.Laws.{AreChosen}
 use Rattle.tb_selection.specs.Liveness.{live}
 use Rattle.tb_selection.proofs.Chosen.{chosen}
@@ -89,7 +89,8 @@ with_so k word (Move a home) = move_so k word a home
 with_so k word (Use how a) = use_so k word how a
 with_so k word (Test rel a b) = test_so rel (words_with k word a b)
 with_so k word (TestGo rel a b to) = go_so rel to (words_with k word a b)
-with_so k word (Divides how x d to) = tt
+with_so k word (Divides how x d side to) = tt
+with_so k word (Remains x d to) = tt
 with_so k word (Single i) = tt
 
 -- a word worked out before a move of it
@@ -102,7 +103,8 @@ calculated_so op k (Convert what a d) = tt
 calculated_so op k (Use how a) = tt
 calculated_so op k (Test rel a b) = tt
 calculated_so op k (TestGo rel a b to) = tt
-calculated_so op k (Divides how x d to) = tt
+calculated_so op k (Divides how x d side to) = tt
+calculated_so op k (Remains x d to) = tt
 calculated_so op k (Single i) = tt
 
 converted_so : (what : Conversion) (k : ℕ) (g : Group) → IfAny (converted what k g)
@@ -114,7 +116,9 @@ converted_so what k (Convert what' a d) = tt
 converted_so what k (Use how a) = tt
 converted_so what k (Test rel a b) = tt
 converted_so what k (TestGo rel a b to) = tt
-converted_so what k (Divides how x d to) = tt
+converted_so what k (Divides how x d side to) = tt
+converted_so what k (Remains x d to) = tt
+converted_so what k (Stepped op a b by w x) = tt
 converted_so what k (Single i) = tt
 
 held_so : (g : Group) → IfAny (held_before g)
@@ -126,7 +130,9 @@ held_so (Calculate op a b d) = tt
 held_so (Convert what a d) = tt
 held_so (Move a home) = tt
 held_so (Use how a) = tt
-held_so (Divides how x d to) = tt
+held_so (Divides how x d side to) = tt
+held_so (Remains x d to) = tt
+held_so (Stepped op a b by w x) = tt
 held_so (Single i) = tt
 
 -- a test before what goes to a line
@@ -157,7 +163,9 @@ gone_so rel (Move a home) = tt
 gone_so rel (Use how a) = tt
 gone_so rel (Test rel' a b) = tt
 gone_so rel (TestGo rel' a b to) = tt
-gone_so rel (Divides how x d to) = tt
+gone_so rel (Divides how x d side to) = tt
+gone_so rel (Remains x d to) = tt
+gone_so rel (Stepped op a b by w x) = tt
 
 merged_so : (i : Instr) (g : Group) → IfAny (merged i g)
 merged_so (Put k w) g = with_so k (Constant w) g

@@ -21,7 +21,7 @@ use Rattle.tb_grouping.proofs.SlotSide.{fetched, line, with_fetched}
 
 module _ (ly : Layout) (f : Setup) (lo hi keys : ℕ) (fits : Fits f 16) (limit : ℕ) (rs : Routines ly.table ly.seed ly.numbers ly.start f lo hi keys limit) (code : SlotCode) (laid : GroupsLaid ly f.code f.whole code) (n : ℕ) (a : Operand) (is : List Instr) (s : State) (r : Slots) (w : View) where
   abbrev most : ℕ
-  most = 24 + (limit + limit)
+  most = 34 + (limit + limit)
 
   abbrev Begins : Usage → Type 0
   Begins how = Ready ly f lo hi keys fits n (Use how a) (spread_use how a is) is s r w

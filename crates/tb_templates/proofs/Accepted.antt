@@ -18,19 +18,19 @@ use Rattle.tb_asm.specs.Layout.{Entry, instr, label, bytes, word, suits, has_mod
 use Rattle.tb_asm.specs.Suited.{names_of, AreDistinct}
 use Rattle.tb_lower.specs.Control.{has_line}
 use Rattle.tb_lower.specs.Slots.{Instr, Put, Load, Store, Negate, Compute, Random, SendText, SendNumber, SendZone, SendNewline, Input, Poll, Hold, LeaveUnless, Jump, Call, JumpTo, CallTo, Return, End, SlotCode}
-use Rattle.tb_selection.specs.Groups.{Conversion, Negated, Drawn, Usage, AsNumber, AsLine, AsSubroutine, Variable, Divisibility, Divisible, Indivisible, Group, Calculate, Convert, Move, Use, Test, TestGo, Divides, Single, contrary, denied, slot_of}
+use Rattle.tb_selection.specs.Groups.{Conversion, Negated, Drawn, Usage, AsNumber, AsLine, AsSubroutine, Constant, Variable, Divisibility, Divisible, Indivisible, Group, Calculate, Stepped, Convert, Move, Use, Test, TestGo, Divides, Remains, Single, contrary, denied, slot_of}
 use Rattle.tb_selection.specs.Select.{select}
 use Rattle.tb_runtime16.specs.Places.{LEFT, RIGHT, RESULT, LINE, MULTIPLY_AT, DIVIDE_AT, RANDOM_AT}
-use Rattle.tb_templates.specs.declared.labels.Inner.TheVariants.{Skip}
+use Rattle.tb_templates.specs.declared.labels.Inner.TheVariants.{Behind, Skip}
 use Rattle.tb_templates.specs.declared.labels.Target.{Target}
 use Rattle.tb_templates.specs.declared.labels.Target.TheVariants.{Inside, Line}
 use Rattle.tb_templates.specs.Templates.{branch, slot_at, var_at, on, template, faulted, jump_to, call_to, next_line, call, copied, constant}
 use Rattle.tb_templates.specs.Sources.{Source, FixedWord, AtPlace, source_of, tested_source, home_at, destination_at}
-use Rattle.tb_templates.specs.GroupTemplates.{brought, summed, taken, handed, multiplied, divided, calculated, changed_or, converted, used, equal, unequal, ordered, tested, gone, may_fault, group_template, polled, lined, may_be_zero, may_have_none, is_zero, signed, weighed, left_over, unless, divided_by, divided_gone, divides}
+use Rattle.tb_templates.specs.GroupTemplates.{brought, summed, taken, handed, multiplied, divided, calculated, computed, changed_or, converted, used, equal, unequal, ordered, tested, gone, may_fault, group_template, polled, lined, may_be_zero, may_have_none, is_zero, signed, weighed, left_over, unless, divided_by, divided_gone, divides, asked_rest, signed_rest, remains}
 use Rattle.tb_templates.specs.Scaled.{scaling, times, shifts, shifted}
 use Rattle.tb_templates.specs.InPlace.{Change, Increment, Decrement, Raise, Lower, Halve, Double, change_of, changed}
 use Rattle.tb_templates.specs.Masks.{mask}
-use Rattle.tb_templates.proofs.Divided.{left_over_plain}
+use Rattle.tb_templates.proofs.Divided.{asked_rest_plain, left_over_plain}
 use Rattle.tb_templates.specs.Program.{rest_code, list_code, line_code, lines_code, past_code, find_code, rows_code, table_code, program_code}
 use Rattle.tb_settling.specs.Settled.{may_move}
 use Rattle.tb_syntax.specs.Source.{numbers}
@@ -246,17 +246,31 @@ divides_forms ns n how a b (Some to) = by (has_line ns to)
     by true = divided_by_forms n (contrary how) a b (Line to)
     by false = forms_append (divided_by n how a b (next_line ns n)) (faulted n 1) (divided_by_forms n how a b (next_line ns n)) refl
 
+remains_forms : (n : ℕ) (skip : Target) (a b : Source) (to : ℕ) → list_all has_form (remains n skip a b to) ≡ true
+remains_forms n skip a b to =
+    forms_append (asked_rest n a b) (signed_rest skip a to) (plain_forms (asked_rest n a b) (asked_rest_plain n a b)) (by a)
+  where
+    by : (a : Source) → list_all has_form (signed_rest skip a to) ≡ true
+    by (FixedWord w) = copied_forms RESULT to
+    by (AtPlace p) = copied_forms RESULT to
+
 group_forms : (ns : List ℕ) (seed n i : ℕ) (g : Group) → list_all has_form (group_template ns seed n i g) ≡ true
 group_forms ns seed n i (Calculate op a b d) =
     let x = source_of (slot_of d) a in let y = source_of (slot_of d + 1) b in let to = destination_at d in
     computed_forms (change_of op x y to) n (Inside Skip n i) op x y to
+group_forms ns seed n i (Stepped op a b by w x) =
+    let to = var_at x in
+    forms_append (computed n (Inside Skip n i) op (source_of 0 a) (source_of 1 b) to) (computed n (Inside Behind n i) by (AtPlace to) (source_of 1 (Constant w)) to)
+    (computed_forms (change_of op (source_of 0 a) (source_of 1 b) to) n (Inside Skip n i) op (source_of 0 a) (source_of 1 b) to)
+    (computed_forms (change_of by (AtPlace to) (source_of 1 (Constant w)) to) n (Inside Behind n i) by (AtPlace to) (source_of 1 (Constant w)) to)
 group_forms ns seed n i (Convert what a d) = converted_forms n seed what (source_of (slot_of d) a) (destination_at d)
 group_forms ns seed n i (Move a home) = brought_forms (source_of 0 a) (home_at home)
 group_forms ns seed n i (Use how a) = used_forms n (next_line ns n) how (source_of 0 a)
 group_forms ns seed n i (Test rel a b) = tested_forms rel (tested_source a) (source_of 0 b) (Inside Skip n i) (next_line ns n)
 group_forms ns seed n i (TestGo rel a b to) =
     gone_forms n rel (tested_source a) (source_of 0 b) (Inside Skip n i) (next_line ns n) (has_line ns to) to
-group_forms ns seed n i (Divides how x d to) = divides_forms ns n how (source_of 0 (Variable x)) (source_of 1 d) to
+group_forms ns seed n i (Remains x d to) = remains_forms n (Inside Skip n i) (AtPlace (var_at x)) (source_of (slot_of to + 2) d) (destination_at to)
+group_forms ns seed n i (Divides how x d side to) = divides_forms ns n how (source_of 0 (Variable x)) (source_of 1 d) to
 group_forms ns seed n i (Single c) = single_forms (may_fault c) ns n i c
 
 -- ── a program ──

@@ -1,5 +1,5 @@
 -- The items of a test by a divisor are plain but for its branch; and which divisors are told by the lowest bits.
-use Rattle.std.proofs.Common.{◌≡◌, ℕ, ◌+◌, ◌-◌, ◌^◌, ◌<◌, Bool, true, false, List, ◌++◌, refl, arith, Option, Some, None}
+use Rattle.std.proofs.Common.{◌≡◌, ℕ, ◌+◌, ◌-◌, ◌^◌, ◌<◌, Bool, true, false, List, [], ◌∷◌, ◌++◌, refl, arith, Option, Some, None}
 use Rattle.std.specs.Prelude.{if◌then◌else◌, nat_eq, nat_lt}
 use Rattle.std.proofs.lemmas.Bool.{eqb-true}
 use Rattle.tb_opcodes.specs.declared.Mnemonic.{Mnemonic}
@@ -8,9 +8,9 @@ use Rattle.tb_opcodes.specs.declared.Mode.TheVariants.{Absolute, ZeroPage}
 use Rattle.tb_asm.specs.declared.items.Operand.TheVariants.{Byte, Word}
 use Rattle.tb_asm.specs.Layout.{Entry, instr}
 use Rattle.tb_runtime16.specs.Places.{LEFT, LINE, RESULT, RIGHT, DIVIDE_AT}
-use Rattle.tb_templates.specs.Templates.{constant, on}
+use Rattle.tb_templates.specs.Templates.{call, constant, copied, on}
 use Rattle.tb_templates.specs.Sources.{Source, FixedWord, AtPlace}
-use Rattle.tb_templates.specs.GroupTemplates.{brought, left_over, lined, may_be_zero, remainder, told}
+use Rattle.tb_templates.specs.GroupTemplates.{asked_rest, brought, left_over, lined, may_be_zero, remainder, told}
 use Rattle.tb_templates.specs.Masks.{mask}
 use Rattle.tb_templates.proofs.Plain.{IsPlain, ArePlain, Is, ◌▹◌, plain_append, immediate, absolute, zero_page, low_byte, high_byte}
 
@@ -30,6 +30,11 @@ remainder_plain a b =
     plain_append (brought a LEFT) (brought b RIGHT ++ told) (brought_plain a LEFT)
     (plain_append (brought b RIGHT) told (brought_plain b RIGHT) (absolute Jsr DIVIDE_AT refl ▹ absolute Lda RESULT refl ▹ absolute Ora (RESULT + 1) refl ▹ tt))
 
+asked_plain : (a b : Source) → ArePlain (brought a LEFT ++ (brought b RIGHT ++ (call DIVIDE_AT ∷ [])))
+asked_plain a b =
+    plain_append (brought a LEFT) (brought b RIGHT ++ (call DIVIDE_AT ∷ [])) (brought_plain a LEFT)
+    (plain_append (brought b RIGHT) (call DIVIDE_AT ∷ []) (brought_plain b RIGHT) (absolute Jsr DIVIDE_AT refl ▹ tt))
+
 lined_plain : (t : Bool) (n : ℕ) (es : List Entry) → ArePlain es → ArePlain (lined t n es)
 lined_plain true n es h =
     plain_append (constant n LINE) es (immediate Lda _ refl ▹ absolute Sta LINE refl ▹ immediate Lda _ refl ▹ absolute Sta (LINE + 1) refl ▹ tt) h
@@ -38,6 +43,12 @@ lined_plain false n es h = h
 pub left_over_plain : (n : ℕ) (o : Option ℕ) (a b : Source) → ArePlain (left_over n o a b)
 left_over_plain n (Some bits) a b = (low_byte Lda a refl refl ▹ immediate And bits refl ▹ tt)
 left_over_plain n None a b = lined_plain (may_be_zero b) n (remainder a b) (remainder_plain a b)
+
+pub asked_rest_plain : (n : ℕ) (a b : Source) → ArePlain (asked_rest n a b)
+asked_rest_plain n a b = lined_plain (may_be_zero b) n _ (asked_plain a b)
+
+pub copied_plain : (from to : ℕ) → ArePlain (copied from to)
+copied_plain from to = (on_plain Lda from refl refl ▹ absolute Sta to refl ▹ on_plain Lda (from + 1) refl refl ▹ absolute Sta (to + 1) refl ▹ tt)
 
 -- ── by the lowest bits ──
 -- a divisor that is 2^(k + 1), and the one less

@@ -19,16 +19,16 @@ use Rattle.tb_lower.specs.Control.{has_line}
 use Rattle.tb_lower.specs.Cost.{nodes, item_cost, command_cost, cost}
 use Rattle.tb_lower.specs.Lowered.{value_code, constant, or_constant, target_code, item_code, items_code, inputs_code, newline_code, command_code, program_code}
 use Rattle.tb_lower.specs.Slots.{Instr, Put, Load, Store, Negate, Compute, Random, SendText, SendNumber, SendZone, SendNewline, Input, Poll, Hold, LeaveUnless, Jump, Call, JumpTo, CallTo, Return, End}
-use Rattle.tb_selection.specs.Groups.{Conversion, Negated, Drawn, Usage, AsNumber, AsLine, AsSubroutine, Constant, Variable as OfVariable, InSlot, Operand, Divisibility, Group, Calculate, Convert, Move, Use, Test, TestGo, Divides, Single, compared, contrary, multiple, onward, Home, IntoVariable, IntoHeld, slot_of, fetch, keep, kept, held, convert, use_of, denied, expand, expand_all}
+use Rattle.tb_selection.specs.Groups.{Conversion, Negated, Drawn, Usage, AsNumber, AsLine, AsSubroutine, Constant, Variable as OfVariable, InSlot, Operand, Divisibility, Group, Calculate, Stepped, Convert, Move, Use, Test, TestGo, OnLeft, OnRight, Divides, Remains, Single, compared, contrary, multiple, onward, Home, IntoVariable, IntoHeld, slot_of, fetch, keep, kept, held, convert, use_of, denied, expand, expand_all}
 use Rattle.tb_selection.specs.Select.{select}
 use Rattle.tb_selection.proofs.Bracketed.{brackets}
 use Rattle.tb_runtime16.specs.Places.{LEFT, RIGHT, RESULT, MULTIPLY_AT, DIVIDE_AT, RANDOM_AT}
-use Rattle.tb_templates.specs.declared.labels.Inner.TheVariants.{Skip}
+use Rattle.tb_templates.specs.declared.labels.Inner.TheVariants.{Behind, Skip}
 use Rattle.tb_templates.specs.declared.labels.Target.{Target}
 use Rattle.tb_templates.specs.declared.labels.Target.TheVariants.{Inside, Line}
 use Rattle.tb_templates.specs.Templates.{branch, const, next_line, call, copied, faulted, slot_at, var_at, on}
 use Rattle.tb_templates.specs.Sources.{Source, FixedWord, AtPlace, source_of, tested_source, home_at, destination_at}
-use Rattle.tb_templates.specs.GroupTemplates.{low_of, high_of, brought, joined, handed, multiplied, divided, calculated, changed_or, converted, used, equal, unequal, ordered, tested, gone, group_template, polled, lined, may_be_zero, may_have_none, is_zero, signed, weighed, told, remainder, left_over as beyond, unless, divided_by, divided_gone, divides}
+use Rattle.tb_templates.specs.GroupTemplates.{low_of, high_of, brought, joined, handed, multiplied, divided, calculated, computed, changed_or, converted, used, equal, unequal, ordered, tested, gone, group_template, polled, lined, may_be_zero, may_have_none, is_zero, signed, weighed, told, remainder, left_over as beyond, unless, divided_by, divided_gone, divides, asked_rest, signed_rest, remains}
 use Rattle.tb_templates.specs.Masks.{mask}
 use Rattle.tb_templates.specs.Scaled.{at_zero, rounded, raised, halved, halvings, high_first, shifts, shifted, by_bit, by_bits, bits_size, is_factor, scaling, low_first, times}
 use Rattle.tb_templates.specs.InPlace.{Change, Increment, Decrement, Raise, Lower, Halve, Double, change_of, changed}
@@ -248,10 +248,20 @@ divides_fits ns n how a b (Some to) = by (has_line ns to)
     by true = let h = divided_by_fits n (contrary how) a b (Line to) in omega (arith, h)
     by false = let h = divided_by_fits n how a b (next_line ns n) in let e = most_append (divided_by n how a b (next_line ns n)) (faulted n 1) in omega (arith, h, e)
 
-multiple_room : (x : ℕ) (d : Operand) (is : List Instr) → 57 ≤ list_room (multiple x d is)
-multiple_room x (Constant w) is = omega arith
-multiple_room x (OfVariable y) is = omega arith
-multiple_room x InSlot is = omega arith
+remains_fits : (n : ℕ) (skip : Target) (a b : Source) (to : ℕ) → most (remains n skip a b to) ≤ 70
+remains_fits n skip a b to =
+    let called = brought a LEFT ++ (brought b RIGHT ++ (call DIVIDE_AT ∷ [])) in
+    let e = most_append (asked_rest n a b) (signed_rest skip a to) in
+    let l = lined_most (may_be_zero b) n called in
+    let f = most_append (brought a LEFT) (brought b RIGHT ++ (call DIVIDE_AT ∷ [])) in
+    let g = most_append (brought b RIGHT) (call DIVIDE_AT ∷ []) in
+    let p = left_fits a in let q = right_fits b in let h = high_most Lda a in let c = copied_fits RESULT to in
+    omega (arith, e, l, f, g, p, q, h, c)
+
+multiple_room : (k x : ℕ) (d : Operand) (is : List Instr) → 70 ≤ list_room (multiple k x d is)
+multiple_room k x (Constant w) is = omega arith
+multiple_room k x (OfVariable y) is = omega arith
+multiple_room k x InSlot is = omega arith
 
 keep_room : (home : Home) → room (keep home) ≡ 12
 keep_room (IntoVariable x) = refl
@@ -264,6 +274,14 @@ group_fits ns seed n i (Calculate op a b d) =
     let e = list_append (fetch (slot_of d) a) (fetch (slot_of d + 1) b ++ Compute op (slot_of d) ∷ kept d) in
     let f = list_append (fetch (slot_of d + 1) b) (Compute op (slot_of d) ∷ kept d) in
     omega (arith, h, e, f)
+group_fits ns seed n i (Stepped op a b by w x) =
+    let to = var_at x in let y = source_of 0 a in let z = source_of 1 b in
+    let h = computed_fits (change_of op y z to) n (Inside Skip n i) op y z to in
+    let k = computed_fits (change_of by (AtPlace to) (source_of 1 (Constant w)) to) n (Inside Behind n i) by (AtPlace to) (source_of 1 (Constant w)) to in
+    let j = most_append (computed n (Inside Skip n i) op y z to) (computed n (Inside Behind n i) by (AtPlace to) (source_of 1 (Constant w)) to) in
+    let e = list_append (fetch 0 a) (fetch 1 b ++ Compute op 0 ∷ Put 1 w ∷ Compute by 0 ∷ Store x ∷ []) in
+    let f = list_append (fetch 1 b) (Compute op 0 ∷ Put 1 w ∷ Compute by 0 ∷ Store x ∷ []) in
+    omega (arith, h, k, j, e, f)
 group_fits ns seed n i (Convert what a d) =
     let h = converted_fits n seed (slot_of d) what (source_of (slot_of d) a) (destination_at d) in
     let e = list_append (fetch (slot_of d) a) (convert what (slot_of d) ∷ kept d) in
@@ -283,8 +301,14 @@ group_fits ns seed n i (TestGo rel a b to) =
     let e = list_append (held a) (fetch 0 b ++ LeaveUnless rel ∷ JumpTo to ∷ []) in
     let f = list_append (fetch 0 b) (LeaveUnless rel ∷ JumpTo to ∷ []) in
     omega (arith, h, e, f)
-group_fits ns seed n i (Divides how x d to) =
-    let h = divides_fits ns n how (source_of 0 (OfVariable x)) (source_of 1 d) to in let m = multiple_room x d (Hold ∷ Load 0 x ∷ LeaveUnless (compared how) ∷ onward to) in omega (arith, h, m)
+group_fits ns seed n i (Divides how x d OnLeft to) =
+    let h = divides_fits ns n how (source_of 0 (OfVariable x)) (source_of 1 d) to in let m = multiple_room 0 x d (Hold ∷ Load 0 x ∷ LeaveUnless (compared how) ∷ onward to) in omega (arith, h, m)
+group_fits ns seed n i (Divides how x d OnRight to) =
+    let h = divides_fits ns n how (source_of 0 (OfVariable x)) (source_of 1 d) to in let m = multiple_room 0 x d (LeaveUnless (compared how) ∷ onward to) in omega (arith, h, m)
+group_fits ns seed n i (Remains x d to) =
+    let h = remains_fits n (Inside Skip n i) (AtPlace (var_at x)) (source_of (slot_of to + 2) d) (destination_at to) in
+    let m = multiple_room (slot_of to + 1) x d (Compute Subtract (slot_of to) ∷ kept to) in
+    omega (arith, h, m)
 group_fits ns seed n i (Single c) = let h = single_fits ns seed n i c in omega (arith, h)
 
 rest_fits : (ns : List ℕ) (seed n i : ℕ) (gs : List Group) → most (rest_code ns seed n i gs) ≤ list_room (expand_all gs)

@@ -12,7 +12,7 @@ use Rattle.tb_syntax.specs.Source.{numbers}
 use Rattle.tb_asm.specs.Layout.{Entry}
 use Rattle.tb_lower.specs.Control.{At, has_line, next_after}
 use Rattle.tb_lower.specs.Slots.{Instr, Put, Load, Store, Negate, Compute, Random, SendText, SendNumber, SendZone, SendNewline, Input, Poll, Hold, LeaveUnless, Jump, Call, JumpTo, CallTo, Return, End, SlotCode}
-use Rattle.tb_selection.specs.Groups.{Conversion, Negated, Drawn, Usage, AsNumber, AsLine, AsSubroutine, Variable, Divisibility, Group, Calculate, Convert, Move, Use, Test, TestGo, Divides, Single, contrary, denied, slot_of}
+use Rattle.tb_selection.specs.Groups.{Conversion, Negated, Drawn, Usage, AsNumber, AsLine, AsSubroutine, Constant, Variable, Divisibility, Group, Calculate, Stepped, Convert, Move, Use, Test, TestGo, Divides, Remains, Single, contrary, denied, slot_of}
 use Rattle.tb_selection.specs.Select.{select}
 use Rattle.tb_runtime16.specs.Places.{LEFT, RIGHT, RESULT, LINE, MULTIPLY_AT, DIVIDE_AT, RANDOM_AT}
 use Rattle.tb_templates.specs.declared.labels.Inner.{Inner}
@@ -20,13 +20,13 @@ use Rattle.tb_templates.specs.declared.labels.Inner.TheVariants as inner
 use Rattle.tb_templates.specs.Labels.{label_of, letter_of}
 use Rattle.tb_templates.specs.declared.labels.Target.{Target}
 use Rattle.tb_templates.specs.declared.labels.Target.TheVariants.{Line, Inside, Table}
-use Rattle.tb_templates.specs.Templates.{branch, template, faulted, called, jump_to, next_line, target_of, call, copied, constant}
+use Rattle.tb_templates.specs.Templates.{branch, var_at, template, faulted, called, jump_to, next_line, target_of, call, copied, constant}
 use Rattle.tb_templates.specs.Sources.{Source, FixedWord, AtPlace, source_of, tested_source, home_at, destination_at}
-use Rattle.tb_templates.specs.GroupTemplates.{brought, joined, handed, multiplied, divided, calculated, changed_or, converted, used, equal, unequal, ordered, tested, gone, may_fault, group_template, polled, lined, may_be_zero, may_have_none, is_zero, signed, weighed, left_over, unless, divided_by, divided_gone, divides}
+use Rattle.tb_templates.specs.GroupTemplates.{brought, joined, handed, multiplied, divided, calculated, computed, changed_or, converted, used, equal, unequal, ordered, tested, gone, may_fault, group_template, polled, lined, may_be_zero, may_have_none, is_zero, signed, weighed, left_over, unless, divided_by, divided_gone, divides, asked_rest, signed_rest, remains}
 use Rattle.tb_templates.specs.Scaled.{scaling, times, shifts, shifted}
 use Rattle.tb_templates.specs.InPlace.{Change, Increment, Decrement, Raise, Lower, Halve, Double, change_of, changed}
 use Rattle.tb_templates.specs.Masks.{mask}
-use Rattle.tb_templates.proofs.Divided.{left_over_plain}
+use Rattle.tb_templates.proofs.Divided.{asked_rest_plain, copied_plain, left_over_plain}
 use Rattle.tb_templates.specs.Program.{rest_code, list_code, line_code, lines_code, past_code, find_code, rows_code, table_code, program_code, AreCodable, RisingFrom, first_of, AreInTurn}
 use Rattle.tb_templates.proofs.Listed.{by_poll}
 use Rattle.tb_templates.proofs.Plain.{plain_rises, times_plain, shifted_plain}
@@ -183,6 +183,20 @@ module _ (ns : List ℕ) (seed n i : ℕ) (small : n < 65536) (index : i < 65536
   single_rises true c = template_rises c
   single_rises false c = template_rises c
 
+  -- the label of a change in place, wherever it is
+  changes_rise : (low high : ℕ) (skip : Target) → low ≤ key_of (label_of skip) → key_of (label_of skip) < high → (o : Option Change) (op : Operator) (a b : Source) (to : ℕ) → Rising low (changed_or o n skip op a b to) high
+  changes_rise low high skip above below (Some c) op a b to = changed_rises low high skip above (omega (arith, below)) (omega (arith, above, below)) c to
+  changes_rise low high skip above below None op a b to = calculated_rises low high n op a b to (omega (arith, above, below))
+
+  -- and that of a remainder's sign
+  remains_rise : (a b : Source) (to : ℕ) → Rising (base n i) (remains n (Inside inner.Skip n i) a b to) (base n (i + 1))
+  remains_rise a b to =
+      rising_append (base n i) (base n i) (base n (i + 1)) (asked_rest n a b) (signed_rest (Inside inner.Skip n i) a to) (plain_rises (base n i) (base n i) (asked_rest n a b) (omega arith) (asked_rest_plain n a b)) (by a)
+    where
+      by : (a : Source) → Rising (base n i) (signed_rest (Inside inner.Skip n i) a to) (base n (i + 1))
+      by (FixedWord w) = let s = keyed inner.Skip in (omega (arith, s), plain_rises (key_of (label_of (Inside inner.Skip n i)) + 1) (base n (i + 1)) (copied RESULT to) (omega (arith, s)) (copied_plain RESULT to))
+      by (AtPlace p) = let s = keyed inner.Skip in (omega (arith, s), plain_rises (key_of (label_of (Inside inner.Skip n i)) + 1) (base n (i + 1)) (copied RESULT to) (omega (arith, s)) (copied_plain RESULT to))
+
   -- the label of a change in place in its code
   computed_rises : (o : Option Change) (op : Operator) (a b : Source) (to : ℕ) → Rising (base n i) (changed_or o n (Inside inner.Skip n i) op a b to) (base n (i + 1))
   computed_rises (Some c) op a b to =
@@ -205,12 +219,18 @@ module _ (ns : List ℕ) (seed n i : ℕ) (small : n < 65536) (index : i < 65536
   group_rises (Calculate op a b d) =
       let x = source_of (slot_of d) a in let y = source_of (slot_of d + 1) b in let to = destination_at d in
       computed_rises (change_of op x y to) op x y to
+  group_rises (Stepped op a b by w x) =
+      let to = var_at x in
+      rising_append (base n i) (key_of (label_of (Inside inner.Skip n i)) + 1) (base n (i + 1)) (computed n (Inside inner.Skip n i) op (source_of 0 a) (source_of 1 b) to) (computed n (Inside inner.Behind n i) by (AtPlace to) (source_of 1 (Constant w)) to)
+      (changes_rise (base n i) (key_of (label_of (Inside inner.Skip n i)) + 1) (Inside inner.Skip n i) (let s = keyed inner.Skip in omega (arith, s)) (omega arith) (change_of op (source_of 0 a) (source_of 1 b) to) op (source_of 0 a) (source_of 1 b) to)
+      (changes_rise (key_of (label_of (Inside inner.Skip n i)) + 1) (base n (i + 1)) (Inside inner.Behind n i) (let s = keyed inner.Skip in let u = keyed inner.Behind in omega (arith, s, u)) (let u = keyed inner.Behind in omega (arith, u)) (change_of by (AtPlace to) (source_of 1 (Constant w)) to) by (AtPlace to) (source_of 1 (Constant w)) to)
   group_rises (Convert what a d) = converted_rises (base n i) (base n (i + 1)) n seed what (source_of (slot_of d) a) (destination_at d) up
   group_rises (Move a home) = brought_rises (base n i) (base n (i + 1)) up (source_of 0 a) (home_at home)
   group_rises (Use how a) = used_rises (base n i) (base n (i + 1)) n (next_line ns n) how (source_of 0 a) up
   group_rises (Test rel a b) = test_rises rel (tested_source a) (source_of 0 b) (next_line ns n)
   group_rises (TestGo rel a b to) = gone_rises rel (tested_source a) (source_of 0 b) (has_line ns to) to
-  group_rises (Divides how x d to) = divides_rises (base n i) (base n (i + 1)) ns n how (source_of 0 (Variable x)) (source_of 1 d) to up
+  group_rises (Remains x d to) = remains_rise (AtPlace (var_at x)) (source_of (slot_of to + 2) d) (destination_at to)
+  group_rises (Divides how x d side to) = divides_rises (base n i) (base n (i + 1)) ns n how (source_of 0 (Variable x)) (source_of 1 d) to up
   group_rises (Single c) = single_rises (may_fault c) c
 
 rest_rises : (ns : List ℕ) (seed n i : ℕ) (gs : List Group) → n < 65536 → i + length gs ≤ 65536 → Rising (base n i) (rest_code ns seed n i gs) (base (n + 1) 0)

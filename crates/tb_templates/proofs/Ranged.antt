@@ -1,8 +1,8 @@
 -- The groups of a list are no more than its instructions, and these are in range.
 use Rattle.std.proofs.Common.{◌≡◌, ◌+◌, ◌≤◌, List, [], ◌∷◌, ◌++◌, length, sym, subst, arith, length-append}
 use Rattle.tb_lower.specs.Ranges.{AreInRange}
-use Rattle.tb_lower.specs.Slots.{Instr, Compute, LeaveUnless, JumpTo}
-use Rattle.tb_selection.specs.Groups.{Group, Calculate, Convert, Move, Use, Test, TestGo, Divides, Single, slot_of, fetch, keep, kept, held, convert, use_of, expand, expand_all}
+use Rattle.tb_lower.specs.Slots.{Instr, Put, Store, Compute, LeaveUnless, JumpTo}
+use Rattle.tb_selection.specs.Groups.{Group, Calculate, Stepped, Convert, Move, Use, Test, TestGo, OnLeft, OnRight, Divides, Remains, Single, slot_of, fetch, keep, kept, held, convert, use_of, expand, expand_all}
 use Rattle.tb_selection.specs.Select.{select}
 use Rattle.tb_selection.proofs.Bracketed.{brackets}
 
@@ -11,6 +11,10 @@ one_expanded : (g : Group) → 1 ≤ length (expand g)
 one_expanded (Calculate op a b d) =
     let p = length-append (fetch (slot_of d) a) (fetch (slot_of d + 1) b ++ Compute op (slot_of d) ∷ kept d) in
     let q = length-append (fetch (slot_of d + 1) b) (Compute op (slot_of d) ∷ kept d) in
+    omega (arith, p, q)
+one_expanded (Stepped op a b by w x) =
+    let p = length-append (fetch 0 a) (fetch 1 b ++ Compute op 0 ∷ Put 1 w ∷ Compute by 0 ∷ Store x ∷ []) in
+    let q = length-append (fetch 1 b) (Compute op 0 ∷ Put 1 w ∷ Compute by 0 ∷ Store x ∷ []) in
     omega (arith, p, q)
 one_expanded (Convert what a d) = let p = length-append (fetch (slot_of d) a) (convert what (slot_of d) ∷ kept d) in omega (arith, p)
 one_expanded (Move a home) = let p = length-append (fetch 0 a) (keep home ∷ []) in omega (arith, p)
@@ -23,7 +27,9 @@ one_expanded (TestGo rel a b to) =
     let p = length-append (held a) (fetch 0 b ++ LeaveUnless rel ∷ JumpTo to ∷ []) in
     let q = length-append (fetch 0 b) (LeaveUnless rel ∷ JumpTo to ∷ []) in
     omega (arith, p, q)
-one_expanded (Divides how x d to) = omega arith
+one_expanded (Divides how x d OnLeft to) = omega arith
+one_expanded (Divides how x d OnRight to) = omega arith
+one_expanded (Remains x d to) = omega arith
 one_expanded (Single c) = omega arith
 
 all_expanded : (gs : List Group) → length gs ≤ length (expand_all gs)

@@ -16,7 +16,7 @@ use Rattle.tb_asm.specs.Layout.{Entry, instr, size, size_of, address_in}
 use Rattle.tb_asm.specs.Settle.{unknown_fault}
 use Rattle.tb_lower.specs.Control.{At, has_line, next_after}
 use Rattle.tb_lower.specs.Slots.{Instr, Put, Load, Store, Negate, Compute, Random, SendText, SendNumber, SendZone, SendNewline, Input, Poll, Hold, LeaveUnless, Jump, Call, JumpTo, CallTo, Return, End, SlotCode}
-use Rattle.tb_selection.specs.Groups.{Conversion, Negated, Drawn, Usage, AsNumber, AsLine, AsSubroutine, Variable, Divisibility, Group, Calculate, Convert, Move, Use, Test, TestGo, Divides, Single, contrary, denied, slot_of}
+use Rattle.tb_selection.specs.Groups.{Conversion, Negated, Drawn, Usage, AsNumber, AsLine, AsSubroutine, Constant, Variable, Divisibility, Group, Calculate, Stepped, Convert, Move, Use, Test, TestGo, Divides, Remains, Single, contrary, denied, slot_of}
 use Rattle.tb_selection.specs.Select.{select}
 use Rattle.tb_syntax.specs.Source.{numbers}
 use Rattle.tb_runtime16.specs.Places.{LEFT, RIGHT, RESULT, LINE, WANTED, MULTIPLY_AT, DIVIDE_AT, RANDOM_AT, NUMBER_AT}
@@ -27,11 +27,11 @@ use Rattle.tb_templates.specs.Labels.{label_of}
 use Rattle.tb_templates.specs.Layout.{LabelsAt}
 use Rattle.tb_templates.specs.Templates.{branch, slot_at, var_at, on, template, jump, faulted, called, returned, find, note, jump_through, target_of, next_line, call, copied, constant}
 use Rattle.tb_templates.specs.Sources.{Source, FixedWord, AtPlace, source_of, tested_source, home_at, destination_at}
-use Rattle.tb_templates.specs.GroupTemplates.{low_of, high_of, brought, joined, handed, multiplied, divided, calculated, changed_or, converted, searched, used, equal, unequal, ordered, tested, gone, may_fault, group_template, polled, lined, may_be_zero, may_have_none, is_zero, signed, weighed, left_over, unless, divided_by, divided_gone, divides}
+use Rattle.tb_templates.specs.GroupTemplates.{low_of, high_of, brought, joined, handed, multiplied, divided, calculated, computed, changed_or, converted, searched, used, equal, unequal, ordered, tested, gone, may_fault, group_template, polled, lined, may_be_zero, may_have_none, is_zero, signed, weighed, left_over, unless, divided_by, divided_gone, divides, asked_rest, signed_rest, remains}
 use Rattle.tb_templates.specs.Scaled.{scaling, times, shifts, shifted}
 use Rattle.tb_templates.specs.InPlace.{Change, Increment, Decrement, Raise, Lower, Halve, Double, change_of, changed}
 use Rattle.tb_templates.specs.Masks.{mask}
-use Rattle.tb_templates.proofs.Divided.{left_over_plain}
+use Rattle.tb_templates.proofs.Divided.{asked_rest_plain, left_over_plain}
 use Rattle.tb_templates.specs.Program.{rest_code, list_code, line_code, lines_code, past_code, find_code, rows_code, table_code, block_code, program_code}
 use Rattle.tb_settling.specs.Settled.{AllKnown}
 use Rattle.tb_templates.proofs.Listed.{by_poll}
@@ -294,18 +294,34 @@ module _ (labels : List (Name × ℕ)) (ns : List ℕ) (known : Known labels ns)
       by true e = divided_by_known n (contrary how) a b (target.Line to) (known.lines to e)
       by false e = known_append labels (divided_by n how a b (next_line ns n)) (faulted n 1) (divided_by_known n how a b (next_line ns n) (next_known n)) (refl ▹ refl ▹ refl ▹ refl ▹ tt)
 
+  remains_known : (n at : ℕ) (skip : Target) (a b : Source) (to : ℕ) → LabelsAt labels at (remains n skip a b to) → AllKnown labels (remains n skip a b to)
+  remains_known n at skip a b to h =
+      known_append labels (asked_rest n a b) (signed_rest skip a to) (plain_known labels (asked_rest n a b) (asked_rest_plain n a b)) (by a (labels_split labels at (asked_rest n a b) (signed_rest skip a to) h).1)
+    where
+      by : (a : Source) → LabelsAt labels (at + size (asked_rest n a b)) (signed_rest skip a to) → AllKnown labels (signed_rest skip a to)
+      by a h = (high_known Lda a ▹ to_label skip (ap is_some h.1.1.1.1.1.1.1.1.1.0) ▹ refl ▹ refl ▹ refl ▹ refl ▹ refl ▹ refl ▹ refl ▹ refl ▹ copied_known RESULT to)
+
   -- ── groups ──
   group_known : (seed n i at : ℕ) (g : Group) → LabelsAt labels at (group_template ns seed n i g) → AllKnown labels (group_template ns seed n i g)
   group_known seed n i at (Calculate op a b d) h =
       let x = source_of (slot_of d) a in let y = source_of (slot_of d + 1) b in let to = destination_at d in
       computed_known n at (change_of op x y to) (target.Inside inner.Skip n i) op x y to h
+  group_known seed n i at (Stepped op a b by w x) h =
+      let to = var_at x in
+      let front = computed n (target.Inside inner.Skip n i) op (source_of 0 a) (source_of 1 b) to in
+      let back = computed n (target.Inside inner.Behind n i) by (AtPlace to) (source_of 1 (Constant w)) to in
+      let s = labels_split labels at front back h in
+      known_append labels front back
+      (computed_known n at (change_of op (source_of 0 a) (source_of 1 b) to) (target.Inside inner.Skip n i) op (source_of 0 a) (source_of 1 b) to s.0)
+      (computed_known n (at + size front) (change_of by (AtPlace to) (source_of 1 (Constant w)) to) (target.Inside inner.Behind n i) by (AtPlace to) (source_of 1 (Constant w)) to s.1)
   group_known seed n i at (Convert what a d) h = converted_known n seed what (source_of (slot_of d) a) (destination_at d)
   group_known seed n i at (Move a home) h = brought_known (source_of 0 a) (home_at home)
   group_known seed n i at (Use how a) h = used_known n (next_line ns n) how (source_of 0 a) (next_known n)
   group_known seed n i at (Test rel a b) h = tested_known at rel (tested_source a) (source_of 0 b) (target.Inside inner.Skip n i) (next_line ns n) (next_known n) h
   group_known seed n i at (TestGo rel a b to) h =
       gone_known n at rel (tested_source a) (source_of 0 b) (target.Inside inner.Skip n i) (next_line ns n) (has_line ns to) to refl (next_known n) h
-  group_known seed n i at (Divides how x d to) h = divides_known n how (source_of 0 (Variable x)) (source_of 1 d) to
+  group_known seed n i at (Remains x d to) h = remains_known n at (target.Inside inner.Skip n i) (AtPlace (var_at x)) (source_of (slot_of to + 2) d) (destination_at to) h
+  group_known seed n i at (Divides how x d side to) h = divides_known n how (source_of 0 (Variable x)) (source_of 1 d) to
   group_known seed n i at (Single c) h = single_known n i at (may_fault c) c h
 
   rest_known : (seed n i a : ℕ) (gs : List Group) → LabelsAt labels a (rest_code ns seed n i gs) → AllKnown labels (rest_code ns seed n i gs)

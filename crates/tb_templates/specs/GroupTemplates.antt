@@ -9,12 +9,12 @@ use Rattle.tb_syntax.specs.declared.expressions.Operator.{Operator}
 use Rattle.tb_syntax.specs.declared.expressions.Operator.TheVariants.{Add, Subtract, Multiply, Divide}
 use Rattle.tb_lower.specs.Control.{has_line}
 use Rattle.tb_lower.specs.Slots.{Instr, Input, Poll}
-use Rattle.tb_selection.specs.Groups.{Conversion, Negated, Drawn, Usage, AsNumber, AsLine, AsSubroutine, Variable, Divisibility, Divisible, Indivisible, Group, Calculate, Convert, Move, Use, Test, TestGo, Divides, Single, contrary, denied, slot_of}
+use Rattle.tb_selection.specs.Groups.{Conversion, Negated, Drawn, Usage, AsNumber, AsLine, AsSubroutine, Constant, Variable, Divisibility, Divisible, Indivisible, Group, Calculate, Stepped, Convert, Move, Use, Test, TestGo, Divides, Remains, Single, contrary, denied, slot_of}
 use Rattle.tb_runtime16.specs.Places.{LEFT, RIGHT, RESULT, WANTED, LINE, GETIN, MULTIPLY_AT, DIVIDE_AT, RANDOM_AT, NUMBER_AT}
-use Rattle.tb_templates.specs.declared.labels.Inner.TheVariants.{Skip}
+use Rattle.tb_templates.specs.declared.labels.Inner.TheVariants.{Behind, Skip}
 use Rattle.tb_templates.specs.declared.labels.Target.{Target}
 use Rattle.tb_templates.specs.declared.labels.Target.TheVariants.{Inside, Line}
-use Rattle.tb_templates.specs.Templates.{at, on, const, alone, branch, here, call, copied, constant, faulted, find, note, jump_through, next_line, template}
+use Rattle.tb_templates.specs.Templates.{at, var_at, on, const, alone, branch, here, call, copied, constant, faulted, find, note, jump_through, next_line, template}
 use Rattle.tb_templates.specs.Sources.{Source, FixedWord, AtPlace, source_of, tested_source, home_at, destination_at}
 pub use Rattle.tb_templates.specs.Sources.{low_of, high_of}
 use Rattle.tb_templates.specs.Scaled.{scaling, times, shifts, shifted}
@@ -80,6 +80,10 @@ changed_or None n skip op a b to = calculated n op a b to
 
 abbrev pub computed : ℕ → Target → Operator → Source → Source → ℕ → List Entry
 computed n skip op a b to = changed_or (change_of op a b to) n skip op a b to
+
+-- a calculation whose result goes to a place, and goes on there by a constant
+abbrev pub stepped : ℕ → (skip behind : Target) → Operator → Source → Source → Operator → Source → ℕ → List Entry
+stepped n skip behind op a b by c to = computed n skip op a b to ++ computed n behind by (AtPlace to) c to
 
 -- a word made of one in line n: 0 minus it, or a random number below it, where the first state is the seed
 abbrev pub converted : ℕ → ℕ → Conversion → Source → ℕ → List Entry
@@ -171,6 +175,18 @@ abbrev pub divides : List ℕ → ℕ → Divisibility → Source → Source →
 divides numbers n how a b None = divided_by n how a b (next_line numbers n)
 divides numbers n how a b (Some to) = divided_gone n how a b (next_line numbers n) (has_line numbers to) to
 
+-- ── what is left over ──
+-- the routine divides a word of line n by another one, and leaves the remainder's size
+abbrev pub asked_rest : ℕ → Source → Source → List Entry
+asked_rest n a b = lined (may_be_zero b) n (brought a LEFT ++ (brought b RIGHT ++ (call DIVIDE_AT ∷ [])))
+
+-- it goes to a place with the sign of the word that was divided
+abbrev pub signed_rest : Target → Source → ℕ → List Entry
+signed_rest skip a to = high_of Lda a ∷ branch Bpl skip ∷ (taken (FixedWord 0) (AtPlace RESULT) RESULT ++ (here skip ∷ copied RESULT to))
+
+abbrev pub remains : ℕ → Target → Source → Source → ℕ → List Entry
+remains n skip a b to = asked_rest n a b ++ signed_rest skip a to
+
 -- ── templates ──
 -- whether a routine that a single instruction calls in any case may fault: then the line's number is set first
 abbrev pub may_fault : Instr → Bool
@@ -185,13 +201,15 @@ single numbers n i c = if may_fault c then constant n LINE ++ template numbers n
 -- the code of group i of line n, from 1 on, where the program has these numbers and the option's RND state is the seed
 abbrev pub group_template : List ℕ → ℕ → ℕ → ℕ → Group → List Entry
 group_template numbers seed n i (Calculate op a b d) = computed n (Inside Skip n i) op (source_of (slot_of d) a) (source_of (slot_of d + 1) b) (destination_at d)
+group_template numbers seed n i (Stepped op a b by w x) = stepped n (Inside Skip n i) (Inside Behind n i) op (source_of 0 a) (source_of 1 b) by (source_of 1 (Constant w)) (var_at x)
 group_template numbers seed n i (Convert what a d) = converted n seed what (source_of (slot_of d) a) (destination_at d)
 group_template numbers seed n i (Move a home) = brought (source_of 0 a) (home_at home)
 group_template numbers seed n i (Use how a) = used n (next_line numbers n) how (source_of 0 a)
 group_template numbers seed n i (Test rel a b) = tested rel (tested_source a) (source_of 0 b) (Inside Skip n i) (next_line numbers n)
 group_template numbers seed n i (TestGo rel a b to) =
     gone n rel (tested_source a) (source_of 0 b) (Inside Skip n i) (next_line numbers n) (has_line numbers to) to
-group_template numbers seed n i (Divides how x d to) = divides numbers n how (source_of 0 (Variable x)) (source_of 1 d) to
+group_template numbers seed n i (Remains x d to) = remains n (Inside Skip n i) (AtPlace (var_at x)) (source_of (slot_of to + 2) d) (destination_at to)
+group_template numbers seed n i (Divides how x d side to) = divides numbers n how (source_of 0 (Variable x)) (source_of 1 d) to
 group_template numbers seed n i (Single c) = single numbers n i c
 
 -- asks for an answer, and skips what is done for the STOP key, 3, where it is another one or none

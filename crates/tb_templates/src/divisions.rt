@@ -1,19 +1,25 @@
-//! Tests whether a divisor divides a word.
+//! Tests whether a divisor divides a word, and what it leaves over.
 ghost use Rattle.std.specs.Prelude.{◌≡◌, ◌+◌, ◌<◌, OnOk, [], ◌∷◌, ◌++◌, map};
 ghost use Rattle.tb_asm.specs.Layout.{entry_of};
 ghost use Rattle.tb_lower.specs.Control.{has_line};
 ghost use Rattle.tb_selection.specs.Groups as selection;
 ghost use Rattle.tb_selection.specs.Shown.{divisibility_of};
 ghost use Rattle.tb_templates.specs.Templates as templates;
+ghost use Rattle.tb_templates.specs.declared.labels.Inner.TheVariants.{Skip};
+ghost use Rattle.tb_templates.specs.declared.labels.Target.TheVariants.{Inside};
+ghost use Rattle.tb_templates.specs.Sources as sources;
 ghost use Rattle.tb_templates.specs.Sources.{IsWhole};
+ghost use Rattle.tb_runtime16.specs.Places as places;
 ghost use Rattle.tb_templates.specs.GroupTemplates as groups;
 ghost use Rattle.tb_templates.specs.Masks as masks;
 ghost use Rattle.tb_templates.specs.Program.{RisingFrom};
 
-use crate::groups::{may_be_zero, put_brought, put_lined};
+use crate::groups::{may_be_zero, put_brought, put_lined, put_taken};
 use crate::labels::Target;
-use crate::pieces::{put_at, put_branch, put_call, put_const, put_faulted};
-use crate::sources::{Source, put_low};
+use crate::pieces::{
+    put_at, put_branch, put_call, put_const, put_copied, put_faulted, put_here,
+};
+use crate::sources::{Source, put_high, put_low};
 use crate::templates::{NO_LINE, Spot, has_number};
 use std::alloc::AllocError;
 use tb_asm::Item;
@@ -201,4 +207,72 @@ pub fn put_divides(
         Some(to) => put_divided_gone(items, numbers, spot, how, left, right, to),
         None => put_divided_by(items, spot.line, how, left, right, spot.next),
     }
+}
+
+// The routine divides a word by another one.
+fn put_called(items: &mut Vec<Item>, left: Source, right: Source) -> Result<(), AllocError>
+    requires { IsWhole left × IsWhole right }
+    ensures { OnOk result (map entry_of items.new.items ≡ map entry_of items.old.items ++ (groups.brought left places.LEFT ++ (groups.brought right places.RIGHT ++ (templates.call places.DIVIDE_AT ∷ [])))) }
+{
+    put_brought(items, left, LEFT)?;
+    put_brought(items, right, RIGHT)?;
+    put_call(items, Routine::Divide)?;
+    Ok(())
+}
+
+// The same in a line: it leaves the remainder's size.
+fn put_asked_rest(
+    items: &mut Vec<Item>,
+    line: u16,
+    left: Source,
+    right: Source,
+) -> Result<(), AllocError>
+    requires { IsWhole left × IsWhole right }
+    ensures { OnOk result (map entry_of items.new.items ≡ map entry_of items.old.items ++ groups.asked_rest line left right) }
+{
+    put_lined(items, may_be_zero(right), line)?;
+    put_called(items, left, right)?;
+    Ok(())
+}
+
+// The remainder is below 0 where the word that was divided is.
+fn put_rest_taken(items: &mut Vec<Item>) -> Result<(), AllocError>
+    ensures { OnOk result (map entry_of items.new.items ≡ map entry_of items.old.items ++ groups.taken (sources.FixedWord 0) (sources.AtPlace places.RESULT) places.RESULT) }
+{
+    let (none, rest) = (Source::FixedWord(0), Source::AtPlace(RESULT));
+    put_taken(items, none, rest, RESULT)
+}
+
+// A remainder's size goes to a place with the sign of the word that was divided.
+fn put_signed_rest(
+    items: &mut Vec<Item>,
+    skip: Target,
+    word: Source,
+    to: u16,
+) -> Result<(), AllocError>
+    requires { IsWhole word × (to < 65535) }
+    ensures { OnOk result (map entry_of items.new.items ≡ map entry_of items.old.items ++ groups.signed_rest skip word to) }
+{
+    put_high(items, Mnemonic::Lda, word)?;
+    put_branch(items, Mnemonic::Bpl, skip)?;
+    put_rest_taken(items)?;
+    put_here(items, skip)?;
+    put_copied(items, RESULT, to)?;
+    Ok(())
+}
+
+/// What a divisor leaves of a word, with that word's sign.
+pub fn put_remains(
+    items: &mut Vec<Item>,
+    spot: Spot,
+    left: Source,
+    right: Source,
+    to: u16,
+) -> Result<(), AllocError>
+    requires { IsWhole left × IsWhole right × (to < 65535) }
+    ensures { OnOk result (map entry_of items.new.items ≡ map entry_of items.old.items ++ groups.remains spot.line (Inside Skip spot.line spot.index) left right to) }
+{
+    put_asked_rest(items, spot.line, left, right)?;
+    put_signed_rest(items, spot.skip(), left, to)?;
+    Ok(())
 }

@@ -8,7 +8,7 @@ ghost use Rattle.tb_selection.specs.Groups as selection;
 ghost use Rattle.tb_selection.specs.Groups.{expand};
 ghost use Rattle.tb_selection.specs.Shown.{conversion_of, usage_of, group_of};
 ghost use Rattle.tb_runtime16.specs.Places as places;
-ghost use Rattle.tb_templates.specs.declared.labels.Inner.TheVariants.{Skip};
+ghost use Rattle.tb_templates.specs.declared.labels.Inner.TheVariants.{Behind, Skip};
 ghost use Rattle.tb_templates.specs.declared.labels.Target.TheVariants.{Inside};
 ghost use Rattle.tb_templates.specs.Templates as templates;
 ghost use Rattle.tb_templates.specs.Sources as sources;
@@ -17,7 +17,7 @@ ghost use Rattle.tb_templates.specs.GroupTemplates as groups;
 ghost use Rattle.tb_templates.specs.Scaled.{scaling, shifts};
 ghost use Rattle.tb_templates.specs.Program.{RisingFrom};
 
-use crate::divisions::put_divides;
+use crate::divisions::{put_divides, put_remains};
 use crate::in_place::{change_of, put_changed};
 use crate::labels::{Inner, Target};
 use crate::pieces::{
@@ -27,6 +27,7 @@ use crate::pieces::{
 use crate::scaled::{put_shifted, put_times, scaling, shifts};
 use crate::sources::{
     Source, destination_at, home_at, put_high, put_low, slot_of, source_of, tested_source,
+    variable_at,
 };
 use crate::templates::{NO_LINE, Spot, has_number, put_instruction};
 use std::alloc::AllocError;
@@ -86,8 +87,8 @@ fn put_summed(items: &mut Vec<Item>, left: Source, right: Source, to: u16) -> Re
     put_joined(items, Mnemonic::Adc, left, right, to)
 }
 
-// The left word less the right one.
-fn put_taken(items: &mut Vec<Item>, left: Source, right: Source, to: u16) -> Result<(), AllocError>
+/// The left word less the right one.
+pub fn put_taken(items: &mut Vec<Item>, left: Source, right: Source, to: u16) -> Result<(), AllocError>
     requires { IsWhole left × IsWhole right × (to < 65535) }
     ensures { OnOk result (map entry_of items.new.items ≡ map entry_of items.old.items ++ groups.taken left right to) }
 {
@@ -234,19 +235,61 @@ fn put_calculated(
 // The same; where it changes a word in place, there.
 fn put_computed(
     items: &mut Vec<Item>,
-    spot: Spot,
+    line: u16,
+    skip: Target,
     operator: Operator,
     left: Source,
     right: Source,
     to: u16,
 ) -> Result<(), AllocError>
     requires { IsWhole left × IsWhole right × (to < 65535) }
-    ensures { OnOk result (map entry_of items.new.items ≡ map entry_of items.old.items ++ groups.computed spot.line (Inside Skip spot.line spot.index) operator left right to) }
+    ensures { OnOk result (map entry_of items.new.items ≡ map entry_of items.old.items ++ groups.computed line skip operator left right to) }
 {
     match change_of(operator, left, right, to) {
-        Some(change) => put_changed(items, change, to, spot.skip()),
-        None => put_calculated(items, spot.line, operator, left, right, to),
+        Some(change) => put_changed(items, change, to, skip),
+        None => put_calculated(items, line, operator, left, right, to),
     }
+}
+
+// A word at a place goes on there by a constant.
+fn put_going_on(
+    items: &mut Vec<Item>,
+    spot: Spot,
+    operator: Operator,
+    constant: Source,
+    to: u16,
+) -> Result<(), AllocError>
+    requires { IsWhole constant × (to < 65535) }
+    ensures { OnOk result (map entry_of items.new.items ≡ map entry_of items.old.items ++ groups.computed spot.line (Inside Behind spot.line spot.index) operator (sources.AtPlace to) constant to) }
+{
+    let word = Source::AtPlace(to);
+    put_computed(
+        items,
+        spot.line,
+        spot.behind(),
+        operator,
+        word,
+        constant,
+        to,
+    )
+}
+
+// A calculation whose result goes to a variable, and goes on there by a constant.
+fn put_stepped(
+    items: &mut Vec<Item>,
+    spot: Spot,
+    operator: Operator,
+    left: Source,
+    right: Source,
+    by: (Operator, Source),
+    to: u16,
+) -> Result<(), AllocError>
+    requires { IsWhole left × IsWhole right × IsWhole by.1 × (to < 65535) }
+    ensures { OnOk result (map entry_of items.new.items ≡ map entry_of items.old.items ++ groups.stepped spot.line (Inside Skip spot.line spot.index) (Inside Behind spot.line spot.index) operator left right by.0 by.1 to) }
+{
+    put_computed(items, spot.line, spot.skip(), operator, left, right, to)?;
+    put_going_on(items, spot, by.0, by.1, to)?;
+    Ok(())
 }
 
 // A word made of one in a line; the seed is the option's RND state.
@@ -556,14 +599,14 @@ pub fn put_group(
     match group {
         Group::Calculate(operator, left, right, destination) => {
             let slot = slot_of(destination);
-            put_computed(
-                items,
-                spot,
-                operator,
-                source_of(slot, left),
-                source_of(slot + 1, right),
-                destination_at(destination),
-            )
+            let (left, right) = (source_of(slot, left), source_of(slot + 1, right));
+            let to = destination_at(destination);
+            put_computed(items, spot.line, spot.skip(), operator, left, right, to)
+        }
+        Group::Stepped(operator, left, right, by, word, letter) => {
+            let (left, right) = (source_of(0, left), source_of(1, right));
+            let by = (by, source_of(1, Operand::Constant(word)));
+            put_stepped(items, spot, operator, left, right, by, variable_at(letter))
         }
         Group::Convert(conversion, word, destination) => {
             let word = source_of(slot_of(destination), word);
@@ -582,7 +625,12 @@ pub fn put_group(
             let (left, right) = (tested_source(left), source_of(0, right));
             put_gone(items, numbers, spot, rel, left, right, to)
         }
-        Group::Divides(how, letter, divisor, to) => {
+        Group::Remains(letter, divisor, destination) => {
+            let left = Source::AtPlace(variable_at(letter));
+            let right = source_of(slot_of(destination) + 2, divisor);
+            put_remains(items, spot, left, right, destination_at(destination))
+        }
+        Group::Divides(how, letter, divisor, _, to) => {
             let (left, right) = (
                 source_of(0, Operand::Variable(letter)),
                 source_of(1, divisor),

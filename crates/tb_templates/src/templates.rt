@@ -43,6 +43,13 @@ impl Spot {
     {
         Target::Inside(Inner::Skip, self.line, self.index)
     }
+
+    /// What a second branch of its group skips to.
+    pub fn behind(self) -> Target
+        ensures { result ≡ target.Inside inner.Behind self.line self.index }
+    {
+        Target::Inside(Inner::Behind, self.line, self.index)
+    }
 }
 
 // A text inside the code, and the jump over it.
