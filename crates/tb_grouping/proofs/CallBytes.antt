@@ -14,12 +14,13 @@ use Rattle.tb_lower.specs.Control.{has_line}
 use Rattle.tb_lower.specs.Ranges.{AreInRange}
 use Rattle.tb_lower.specs.Slots as slots
 use Rattle.tb_runtime16.specs.Places.{LEFT, LINE, NOTES, NOTE_HIGH, NOTE_LOW, POP_AT, PUSH_AT, RESULT}
-use Rattle.tb_selection.specs.Groups.{Group, Calculate, Stepped, Convert, Move, Use, Test, TestGo, Single, slot_of, expand, Divides}
+use Rattle.tb_selection.specs.Groups.{Constant, Group, Calculate, Stepped, Convert, Move, Use, Test, TestGo, Single, slot_of, expand, Divides, Remains}
 use Rattle.tb_templates.specs.declared.labels.Inner.TheVariants as inside
 use Rattle.tb_templates.specs.declared.labels.Target.TheVariants as target
 use Rattle.tb_templates.specs.Labels.{label_of}
 use Rattle.tb_templates.specs.Templates as product
-use Rattle.tb_templates.specs.Templates.{next_line}
+use Rattle.tb_templates.specs.Templates.{next_line, var_at}
+use Rattle.tb_templates.specs.declared.sources.Source.TheVariants.{AtPlace}
 use Rattle.tb_templates.specs.GroupTemplates as items
 use Rattle.tb_templates.specs.InPlace.{change_of}
 use Rattle.tb_templates.specs.Sources.{source_of, destination_at}
@@ -27,7 +28,7 @@ use Rattle.tb_keeping.specs.Layout.{Layout, layout_of, next_at}
 use Rattle.tb_keeping.proofs.Numbers.{address_bytes, constant_bytes, faulted_bytes, high_of, jump_bytes, low_of, next_same, start_of_line}
 use Rattle.tb_keeping.proofs.Resolved as resolved
 use Rattle.tb_keeping.proofs.Resolved.{Code, highest_code}
-use Rattle.tb_grouping.proofs.ChangeBytes.{computed_emitted}
+use Rattle.tb_grouping.proofs.ChangeBytes.{computed_emitted, remains_emitted, stepped_emitted}
 use Rattle.tb_grouping.proofs.Changes.{change_is}
 use Rattle.tb_grouping.proofs.Coded as coded
 use Rattle.tb_grouping.proofs.Coded.{Way, Short, Zero, way_size}

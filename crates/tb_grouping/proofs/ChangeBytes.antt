@@ -1,5 +1,6 @@
 -- The bytes of calculations, of those too that change a word in place, whatever the way of the branch.
 use Rattle.std.proofs.Common.{◌≡◌, ℕ, ◌+◌, ◌/◌, ◌%◌, ◌<◌, Bool, true, false, List, [], ◌∷◌, ◌++◌, map, refl, sym, ap, ◌∙◌, subst, arith, Option}
+use Rattle.std.specs.Prelude.{◌&&◌}
 use Rattle.std.specs.List.{list_all}
 use Rattle.tb_opcodes.specs.Opcodes as opcodes
 use Rattle.tb_opcodes.specs.declared.Mnemonic.TheVariants.{Adc, Asl, Clc, Dec, Inc, Lda, Ror, Sbc, Sec, Sta}
@@ -9,24 +10,29 @@ use Rattle.tb_asm.specs.declared.items.Operand.TheVariants.{Label}
 use Rattle.tb_asm.specs.Layout.{Entry, instr, label}
 use Rattle.tb_asm.specs.Settle.{Form, kept}
 use Rattle.tb_settling.specs.Settled.{AreFormsOf}
-use Rattle.tb_settling.proofs.Forms.{is_straight, straight_forms}
+use Rattle.tb_settling.proofs.Forms.{is_straight, split, straight_forms}
 use Rattle.tb_reaching.proofs.Instr.{Instr, ins}
 use Rattle.tb_syntax.specs.declared.expressions.Operator.{Operator}
 use Rattle.tb_templates.specs.declared.labels.Target.{Target}
 use Rattle.tb_templates.specs.declared.sources.Source.{Source}
+use Rattle.tb_templates.specs.declared.sources.Source.TheVariants.{FixedWord, AtPlace}
 use Rattle.tb_templates.specs.Labels.{label_of}
 use Rattle.tb_templates.specs.Templates as product
 use Rattle.tb_templates.specs.Scaled as scaled
 use Rattle.tb_templates.specs.InPlace as in_place
+use Rattle.tb_templates.specs.InPlace.{change_of}
+use Rattle.tb_templates.proofs.Divided.{asked_rest_plain}
+use Rattle.tb_templates.proofs.Plain.{plain_straight}
+use Rattle.tb_runtime16.specs.Places.{RESULT}
 use Rattle.tb_templates.specs.declared.in_place.Change.{Change}
 use Rattle.tb_templates.specs.declared.in_place.Change.TheVariants.{Increment, Decrement, Raise, Lower, Halve, Double}
 use Rattle.tb_templates.specs.GroupTemplates as items
-use Rattle.tb_keeping.proofs.Resolved.{size}
-use Rattle.tb_grouping.proofs.Changes.{IsByte, IsChange, of_left, of_right, elsewhere}
+use Rattle.tb_keeping.proofs.Resolved.{copied, size}
+use Rattle.tb_grouping.proofs.Changes.{IsByte, IsChange, change_is, of_left, of_right, elsewhere}
 use Rattle.tb_grouping.proofs.Coded as coded
-use Rattle.tb_grouping.proofs.Coded.{Carry, Flag, Way, Short, Zero, way_size}
-use Rattle.tb_grouping.proofs.Emits.{Emits, block, branch_by, branches, formed, labelled}
-use Rattle.tb_grouping.proofs.GroupBytes.{AllMake, IsWord, Rest, all_made, behind_branch, behind_straight, calculated_emits, calculated_straight, cut, cut_branch, gets_there, label_here, value_of}
+use Rattle.tb_grouping.proofs.Coded.{Carry, Flag, Negative, Way, Short, Zero, way_size}
+use Rattle.tb_grouping.proofs.Emits.{Emits, block, branch_by, branches, emits_append, emitted_size, formed, labelled}
+use Rattle.tb_grouping.proofs.GroupBytes.{AllMake, IsWord, Rest, all_made, asked_emits, behind_branch, behind_straight, calculated_emits, calculated_straight, copied_made, copied_straight, cut, cut_branch, gets_there, high_made, high_straight, label_here, rest_before, rest_behind, taken_bytes, value_of}
 
 module _ (labels : List (Name × ℕ)) where
   -- ---- code with a branch over a part of it
@@ -191,13 +197,9 @@ module _ (labels : List (Name × ℕ)) where
       let asks : Emits labels at s.front (coded.rest_asked n a b) = subst (λ fs. Emits labels at fs (coded.rest_asked n a b)) (sym front) (asked_emits labels n at a b small u v) in
       let next = coded.rest_at n at a b in
       let back = rest_behind labels at next s.front s.back (ap (λ k. at + k) (emitted_size labels asks)) parts in
-      let e = over_emitted (items.high_of Lda a ∷ []) (items.taken (FixedWord 0) (AtPlace RESULT) RESULT) (product.copied RESULT to) (coded.sign_looked_at a) coded.rest_turned (copied RESULT to) Negative false (label_of skip) (high_straight a) refl (copied_straight labels RESULT to) (high_made labels a u) (taken_bytes labels (FixedWord 0) (AtPlace RESULT) RESULT (omega arith) tt) (copied_made labels RESULT to) next s.back s.of_back back in
+      let e = over_emitted (items.high_of Lda a ∷ []) (items.taken (FixedWord 0) (AtPlace RESULT) RESULT) (product.copied RESULT to) (coded.sign_looked_at a) coded.rest_turned (copied RESULT to) Negative false (label_of skip) (ap (λ b. b && true) (high_straight labels Lda a)) refl (copied_straight labels RESULT to) (high_made labels a u) (taken_bytes labels (FixedWord 0) (AtPlace RESULT) RESULT (omega arith) tt) (copied_made labels RESULT to) next s.back s.of_back back in
       record {
         first = e.first;
         emits = subst (λ fs. Emits labels at fs (coded.remains_code e.first n at a b to)) (sym s.are) (emits_append labels asks e.emits);
         reach = e.reach;
       }
-    where
-      high_straight : (a : Source) → list_all is_straight (items.high_of Lda a ∷ []) ≡ true
-      high_straight (FixedWord w) = refl
-      high_straight (AtPlace p) = refl

@@ -217,7 +217,7 @@ module _ (labels : List (Name × ℕ)) where
   summed_bytes : (s t : Source) (to : ℕ) → IsWord s → IsWord t → AllMake (items.summed s t to) (coded.summed s t to)
   summed_bytes s t to h k = clear ▹ lda_low s ▹ adc_low t ▹ store to ▹ lda_high s h ▹ adc_high t k ▹ store (to + 1) ▹ none
 
-  taken_bytes : (s t : Source) (to : ℕ) → IsWord s → IsWord t → AllMake (items.taken s t to) (coded.taken s t to)
+  pub taken_bytes : (s t : Source) (to : ℕ) → IsWord s → IsWord t → AllMake (items.taken s t to) (coded.taken s t to)
   taken_bytes s t to h k = set ▹ lda_low s ▹ sbc_low t ▹ store to ▹ lda_high s h ▹ sbc_high t k ▹ store (to + 1) ▹ none
 
   -- ---- shifts and sums
@@ -319,7 +319,7 @@ module _ (labels : List (Name × ℕ)) where
   low_straight m (FixedWord w) = refl
   low_straight m (AtPlace p) = refl
 
-  high_straight : (m : Mnemonic) (s : Source) → is_straight (items.high_of m s) ≡ true
+  pub high_straight : (m : Mnemonic) (s : Source) → is_straight (items.high_of m s) ≡ true
   high_straight m (FixedWord w) = refl
   high_straight m (AtPlace p) = refl
 
@@ -337,7 +337,7 @@ module _ (labels : List (Name × ℕ)) where
   brought_straight : (s : Source) (to : ℕ) → list_all is_straight (items.brought s to) ≡ true
   brought_straight s to = λ i. low_straight Lda s i && (place_straight Sta to i && (high_straight Lda s i && (place_straight Sta (to + 1) i && true)))
 
-  copied_straight : (from to : ℕ) → list_all is_straight (product.copied from to) ≡ true
+  pub copied_straight : (from to : ℕ) → list_all is_straight (product.copied from to) ≡ true
   copied_straight from to = λ i. place_straight Lda from i && (place_straight Lda (from + 1) i && true)
 
   joined_straight : (m : Mnemonic) (s t : Source) (to : ℕ) → list_all is_straight (items.joined m s t to) ≡ true
@@ -423,6 +423,22 @@ module _ (labels : List (Name × ℕ)) where
       (block labels (items.brought t RIGHT) (coded.brought t RIGHT) ((brought_bytes t RIGHT k).same _)
       (block labels (product.call DIVIDE_AT ∷ []) (resolved.call DIVIDE_AT) refl
       (block labels (product.at Lda RESULT ∷ product.at Ora (RESULT + 1) ∷ []) coded.told refl (ends labels))))
+
+  called_emits : {at : ℕ} (s t : Source) → IsWord s → IsWord t → Emits labels at (map kept (items.brought s LEFT ++ (items.brought t RIGHT ++ (product.call DIVIDE_AT ∷ [])))) (Code (coded.brought s LEFT) ∷ Code (coded.brought t RIGHT) ∷ Code (resolved.call DIVIDE_AT) ∷ [])
+  unfolding opcodes.encoded
+  called_emits s t h k =
+      block labels (items.brought s LEFT) (coded.brought s LEFT) ((brought_bytes s LEFT h).same _)
+      (block labels (items.brought t RIGHT) (coded.brought t RIGHT) ((brought_bytes t RIGHT k).same _)
+      (block labels (product.call DIVIDE_AT ∷ []) (resolved.call DIVIDE_AT) refl (ends labels)))
+
+  pub asked_emits : (n at : ℕ) (s t : Source) → n < 65536 → IsWord s → IsWord t → Emits labels at (map kept (items.asked_rest n s t)) (coded.rest_asked n s t)
+  asked_emits n at s t l h k = lined_emits at (items.may_be_zero t) n l _ _ (λ b. called_emits {at = b} s t h k)
+
+  pub high_made : (s : Source) → IsWord s → AllMake (items.high_of Lda s ∷ []) (coded.sign_looked_at s)
+  high_made s h = lda_high s h ▹ none
+
+  pub copied_made : (from to : ℕ) → AllMake (product.copied from to) (resolved.copied from to)
+  copied_made from to = record { same = λ a. copied_bytes labels [] 0 a from to }
 
   bits_bytes_of : (k : ℕ) (s : Source) → k < 8 → AllMake (lowest_bits (2 ^ (k + 1) - 1) s) (coded.lowest_bits (2 ^ (k + 1) - 1) s)
   unfolding opcodes.encoded

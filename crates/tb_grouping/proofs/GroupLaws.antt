@@ -1,20 +1,24 @@
 -- The law of each group, and from them that of the step.
-use Rattle.std.proofs.Common.{◌≡◌, ℕ, ◌+◌, ◌≤◌, Bool, true, false, ◌||◌, List, [], ◌∷◌, ◌++◌, refl, sym, ap, ◌∙◌, subst, arith, Option}
+use Rattle.std.proofs.Common.{◌≡◌, ℕ, ◌+◌, ◌≤◌, Bool, true, false, ◌||◌, List, [], ◌∷◌, ◌++◌, refl, sym, ap, ◌∙◌, subst, arith, length, length-set, get_or-set_same, Option, Some, None}
 use Rattle.std.specs.Prelude.{nat_eq, nat_le}
 use Rattle.tb_words.specs.declared.Rel.{Rel}
 use Rattle.tb_syntax.specs.declared.expressions.Operator.{Operator}
 use Rattle.tb_syntax.specs.declared.expressions.Operator.TheVariants as op
 use Rattle.tb_syntax.specs.Source.{numbers}
-use Rattle.tb_lower.specs.Control.{State}
+use Rattle.tb_words.specs.Words.{word}
+use Rattle.tb_lower.specs.Control.{State, fault_text}
+use Rattle.tb_lower.specs.Meaning as meaning
+use Rattle.tb_lower.specs.Steps.{Step, Goes, Stops, Faulted}
+use Rattle.tb_lower.specs.Values.{apply}
 use Rattle.tb_lower.specs.Slots.{Instr, JumpTo, Rest, Whole, Left, Slots, SlotState, SlotCode, act, settled}
-use Rattle.tb_reaching.proofs.Comes.{looser}
+use Rattle.tb_reaching.proofs.Comes.{chained, looser}
 use Rattle.tb_reaching.specs.View.{Comes, Fits, Setup, View}
 use Rattle.tb_runtime16.specs.Routines.{Routines}
 use Rattle.tb_keeping.specs.Layout.{Layout}
 use Rattle.tb_keeping.proofs.Joins.{LawAt, sent_in}
 use Rattle.tb_keeping.proofs.Mirrors as mirrors
 use Rattle.tb_keeping.proofs.Resolved.{Lies, pieces_size}
-use Rattle.tb_selection.specs.Groups.{Operand, Home, Destination, Tested, Conversion, Negated, Drawn, Usage, Group, Calculate, Stepped, Convert, Move, Use, Test, TestGo, Single, slot_of, expand, expand_all, Divisibility, Divides}
+use Rattle.tb_selection.specs.Groups.{Operand, Home, Destination, Tested, Conversion, Negated, Drawn, Usage, Group, Calculate, Stepped, Convert, Move, Use, Test, TestGo, Single, slot_of, expand, expand_all, Divisibility, Divides, Constant, Variable, Side, Remains}
 use Rattle.tb_selection.specs.Select.{alone, select}
 use Rattle.tb_selection.specs.GroupSteps.{steps, first_group, group_step}
 use Rattle.tb_selection.proofs.Bracketed.{brackets}
@@ -29,7 +33,7 @@ use Rattle.tb_grouping.proofs.Falling.{IsSome, Between, falls_on}
 use Rattle.tb_grouping.proofs.Lone.{one_step}
 use Rattle.tb_grouping.proofs.Singles.{FirstIsAlone, first_so}
 use Rattle.tb_grouping.proofs.Matching.{Matches, Target}
-use Rattle.tb_grouping.proofs.SlotSide.{line, fetched, spread, spread_is}
+use Rattle.tb_grouping.proofs.SlotSide.{both_length, calculate_fails, calculate_goes, calculated, line, fetched, spread, spread_is, with_fetched}
 use Rattle.tb_grouping.proofs.TestSide.{spread_test, spread_test_is}
 use Rattle.tb_grouping.proofs.Ready.{Ready, ready, opened, parted}
 use Rattle.tb_grouping.proofs.Calculations.{Leads, add_law, subtract_law}
@@ -40,6 +44,9 @@ use Rattle.tb_grouping.proofs.Uses.{use_law}
 use Rattle.tb_grouping.proofs.Constants.{product_law, quotient_law}
 use Rattle.tb_grouping.proofs.Moves.{spread_move, spread_move_is, move_law}
 use Rattle.tb_grouping.proofs.DividesLaws.{divides_law, spread_divides, spread_divides_is}
+use Rattle.tb_grouping.proofs.Rests.{remains_law, spread_remains, spread_remains_is}
+use Rattle.tb_grouping.proofs.Stepping.{behind_first, first_fails, first_of, first_ready, home, matches_again, none_read, second_fails, second_of, second_selected, spread_stepped, spread_stepped_is, stepped_goes, stepped_length, stepped_slots}
+use Rattle.tb_grouping.proofs.Operands.{CalcFits, calc_fits}
 use Rattle.tb_grouping.proofs.Polled.{lines_law}
 use Rattle.tb_grouping.proofs.TestLaws.{go_law, test_law}
 use Rattle.tb_selection.specs.Laws.{AreClosed}
@@ -53,12 +60,16 @@ module _ (ly : Layout) (f : Setup) (lo hi keys : ℕ) (fits : Fits f 16) (limit 
   abbrev pub GroupLaw : Group → Type 0
   GroupLaw g = (n : ℕ) (gs : List Group) (js : List Instr) (s : State) (r : Slots) (w : View) → select js ≡ g ∷ gs → Matches ly f lo hi keys (line code n js s r) w → Comes f w (Target ly f lo hi keys (first_group code (line code n js s r))) (sent_in (first_group code (line code n js s r))) (34 + (limit + limit))
 
+  -- where its slot steps lead from a list of which it is the first group
+  at_first : (g : Group) (k : ℕ) → ((is : List Instr) → StepsLaw g (expand g ++ is) is k) → (n : ℕ) (gs : List Group) (js : List Instr) (s : State) (r : Slots) (w : View) → select js ≡ g ∷ gs → Matches ly f lo hi keys (line code n js s r) w
+      → Comes f w (Target ly f lo hi keys (steps code (expand g) (line code n js s r))) (sent_in (steps code (expand g) (line code n js s r))) k
+  at_first g k law n gs js s r w e h =
+      subst (λ l. Ready ly f lo hi keys fits n g l (expand_all gs) s r w → Comes f w (Target ly f lo hi keys (steps code (expand g) (line code n l s r))) (sent_in (steps code (expand g) (line code n l s r))) k) (sym (parted ly f lo hi keys fits g gs js e)) (law (expand_all gs) n s r w) (ready ly f lo hi keys fits code n g gs js s r w e h)
+
   by_steps : (g : Group) (k : ℕ) → k ≤ 34 + (limit + limit) → ((is : List Instr) → StepsLaw g (expand g ++ is) is k) → GroupLaw g
   by_steps g k le law n gs js s r w e h =
-      let c = line code n js s r in
       opened ly f lo hi keys fits code n g gs js s r w (34 + (limit + limit)) e
-      (looser f w _ _ (sent_in (steps code (expand g) c)) k (34 + (limit + limit)) le (λ u x. x)
-      (subst (λ l. Ready ly f lo hi keys fits n g l (expand_all gs) s r w → Comes f w (Target ly f lo hi keys (steps code (expand g) (line code n l s r))) (sent_in (steps code (expand g) (line code n l s r))) k) (sym (parted ly f lo hi keys fits g gs js e)) (law (expand_all gs) n s r w) (ready ly f lo hi keys fits code n g gs js s r w e h)))
+      (looser f w _ _ (sent_in (steps code (expand g) (line code n js s r))) k (34 + (limit + limit)) le (λ u x. x) (at_first g k law n gs js s r w e h))
 
   -- the same of the list with its parts bracketed in another way
   bracketed : (g : Group) (k : ℕ) (spread : List Instr → List Instr) → ((is : List Instr) → expand g ++ is ≡ spread is) → ((is : List Instr) → StepsLaw g (spread is) is k) → (is : List Instr) → StepsLaw g (expand g ++ is) is k
@@ -80,12 +91,6 @@ module _ (ly : Layout) (f : Setup) (lo hi keys : ℕ) (fits : Fits f 16) (limit 
   convert_steps what a d k = bracketed (Convert what a d) k (spread_convert what a d) (spread_convert_is what a d)
 
   -- ---- the laws that are proved
-  pub adds : (a b : Operand) (d : Destination) → GroupLaw (Calculate op.Add a b d)
-  adds a b d = by_steps (Calculate op.Add a b d) 16 (omega arith) (computes op.Add a b d 16 (omega arith) (λ is n s r w h lies rest. looser f w _ _ _ 7 16 (omega arith) (λ u z. z) (add_law ly f lo hi keys fits code n a b d is s r w h (lies, rest))))
-
-  pub subtracts : (a b : Operand) (d : Destination) → GroupLaw (Calculate op.Subtract a b d)
-  subtracts a b d = by_steps (Calculate op.Subtract a b d) 16 (omega arith) (computes op.Subtract a b d 16 (omega arith) (λ is n s r w h lies rest. looser f w _ _ _ 7 16 (omega arith) (λ u z. z) (subtract_law ly f lo hi keys fits code n a b d is s r w h (lies, rest))))
-
   pub negates : (a : Operand) (d : Destination) → GroupLaw (Convert Negated a d)
   negates a d = by_steps (Convert Negated a d) 7 (omega arith) (convert_steps Negated a d 7 (λ is n s r w h. negate_law ly f lo hi keys fits code n a d is s r w h))
 
@@ -96,19 +101,101 @@ module _ (ly : Layout) (f : Setup) (lo hi keys : ℕ) (fits : Fits f 16) (limit 
   moves a home = by_steps (Move a home) 4 (omega arith) (bracketed (Move a home) 4 (spread_move a home) (spread_move_is a home) (λ is n s r w h. move_law ly f lo hi keys fits code n a home is s r w h))
 
   module _ (rs : Routines ly.table ly.seed ly.numbers ly.start f lo hi keys limit) (wide : 200 ≤ limit) where
-    pub divides : (a b : Operand) (d : Destination) → GroupLaw (Calculate op.Divide a b d)
-    divides a b d = by_steps (Calculate op.Divide a b d) (17 + limit) (omega arith) (computes op.Divide a b d (17 + limit) (omega arith) (λ is n s r w h.
-        quotient_law ly f lo hi keys fits limit rs wide code n a b d is s r w h (shifts (source_of (slot_of d + 1) b)) (shifting_is (source_of (slot_of d + 1) b))))
+    -- the slot steps of a calculation
+    calculates : (o : Operator) (a b : Operand) (d : Destination) (is : List Instr) → StepsLaw (Calculate o a b d) (expand (Calculate o a b d) ++ is) is (17 + limit)
+    calculates op.Add a b d = computes op.Add a b d (17 + limit) (omega arith) (λ is n s r w h lies rest. looser f w _ _ _ 7 (17 + limit) (omega arith) (λ u z. z) (add_law ly f lo hi keys fits code n a b d is s r w h (lies, rest)))
+    calculates op.Subtract a b d = computes op.Subtract a b d (17 + limit) (omega arith) (λ is n s r w h lies rest. looser f w _ _ _ 7 (17 + limit) (omega arith) (λ u z. z) (subtract_law ly f lo hi keys fits code n a b d is s r w h (lies, rest)))
+    calculates op.Multiply a b d = computes op.Multiply a b d (17 + limit) (omega arith) (λ is n s r w h lies rest.
+        looser f w _ _ _ (13 + limit) (17 + limit) (omega arith) (λ u z. z)
+        (product_law ly f lo hi keys fits limit rs wide code n a b d is s r w h (scaling (source_of (slot_of d) a) (source_of (slot_of d + 1) b)) (scaling_is (source_of (slot_of d) a) (source_of (slot_of d + 1) b)) lies rest))
+    calculates op.Divide a b d = computes op.Divide a b d (17 + limit) (omega arith) (λ is n s r w h.
+        quotient_law ly f lo hi keys fits limit rs wide code n a b d is s r w h (shifts (source_of (slot_of d + 1) b)) (shifting_is (source_of (slot_of d + 1) b)))
+
+    pub calculating : (o : Operator) (a b : Operand) (d : Destination) → GroupLaw (Calculate o a b d)
+    calculating o a b d = by_steps (Calculate o a b d) (17 + limit) (omega arith) (calculates o a b d)
+
+    -- a calculation that goes on is two of them
+    module _ (o : Operator) (a b : Operand) (by : Operator) (v x : ℕ) (is : List Instr) (n : ℕ) (s : State) (r : Slots) (w : View) (h : Ready ly f lo hi keys fits n (Stepped o a b by v x) (spread_stepped o a b by v x is) is s r w) where
+      abbrev Steps : Step SlotState → Type 0
+      Steps z = Comes f w (Target ly f lo hi keys z) (sent_in z) (34 + (limit + limit))
+
+      abbrev whole : SlotState
+      whole = line code n (spread_stepped o a b by v x is) s r
+
+      fits_first : CalcFits a b (home x)
+      fits_first = calc_fits o a b (home x) (first_ready ly f lo hi keys fits n o a b by v x is s r w h).ranged
+
+      first_leads : (z : Step SlotState) → steps code (expand (first_of o a b x)) (line code n (spread o a b (home x) (behind_first by v x is)) s r) ≡ z → Comes f w (Target ly f lo hi keys z) (sent_in z) (17 + limit)
+      first_leads z e =
+          subst (λ z. Comes f w (Target ly f lo hi keys z) (sent_in z) (17 + limit)) e
+          (subst (λ l. Ready ly f lo hi keys fits n (first_of o a b x) l (behind_first by v x is) s r w → Comes f w (Target ly f lo hi keys (steps code (expand (first_of o a b x)) (line code n l s r))) (sent_in (steps code (expand (first_of o a b x)) (line code n l s r))) (17 + limit)) (spread_is o a b (home x) (behind_first by v x is))
+          (calculates o a b (home x) (behind_first by v x is) n s r w) (first_ready ly f lo hi keys fits n o a b by v x is s r w h))
+
+      by_none : apply o (fetched s r 0 a) (fetched s r 1 b) ≡ None → Steps (steps code (expand (Stepped o a b by v x)) whole)
+      by_none e =
+          subst Steps (sym (first_fails code n o a b by v x is s r h.read.all_words e))
+          (looser f w _ _ (fault_text 2 n) (17 + limit) (34 + (limit + limit)) (omega arith) (λ u z. z)
+          (first_leads (Stops Faulted (fault_text 2 n)) (calculate_fails code n o a b (home x) (behind_first by v x is) s r h.read.all_words (omega arith) e)))
+
+      module _ (p : ℕ) (e : apply o (fetched s r 0 a) (fetched s r 1 b) ≡ Some p) where
+        abbrev stored : State
+        stored = meaning.stored x p s
+
+        abbrev slots : Slots
+        slots = calculated s r a b (home x) p
+
+        -- behind the first one
+        stands : Comes f w (Matches ly f lo hi keys (line code n (behind_first by v x is) stored slots)) [] (17 + limit)
+        stands = first_leads (Goes (line code n (behind_first by v x is) stored slots) []) (calculate_goes code n o a b (home x) (behind_first by v x is) s r h.read.all_words (omega arith) p e)
+
+        second_leads : (u : View) → Matches ly f lo hi keys (line code n (behind_first by v x is) stored slots) u → (z : Step SlotState) → steps code (expand (second_of by v x)) (line code n (behind_first by v x is) stored slots) ≡ z → Comes f u (Target ly f lo hi keys z) (sent_in z) (17 + limit)
+        second_leads u m z q =
+            subst (λ z. Comes f u (Target ly f lo hi keys z) (sent_in z) (17 + limit)) q
+            (at_first (second_of by v x) (17 + limit) (calculates by (Variable x) (Constant v) (home x)) n (select is) (behind_first by v x is) stored slots u (second_selected by v x is h.free) m)
+
+        word_stands : fetched stored slots 0 (Variable x) ≡ p
+        word_stands = get_or-set_same s.vars x p 0 (omega (arith, fits_first.dest, h.state.all_vars))
+
+        on : (q : Option ℕ) → apply by p (word v) ≡ q → apply by (fetched stored slots 0 (Variable x)) (fetched stored slots 1 (Constant v)) ≡ q
+        on q g = ap (λ p. apply by p (word v)) word_stands ∙ g
+
+        all_slots : length slots.words ≡ 16
+        all_slots = length-set (with_fetched s (with_fetched s r 0 a) 1 b).words 0 p ∙ both_length code n o a b (home x) (behind_first by v x is) s r h.read.all_words (omega arith)
+
+        by_second : (q : Option ℕ) → apply by p (word v) ≡ q → Steps (steps code (expand (Stepped o a b by v x)) whole)
+        by_second None g =
+            subst Steps (sym (second_fails code n o a b by v x is s r h.read.all_words p e g))
+            (looser f w _ _ (fault_text 2 n) (17 + limit + (17 + limit)) (34 + (limit + limit)) (omega arith) (λ u z. z)
+            (chained f w _ _ [] (fault_text 2 n) (17 + limit) (17 + limit) stands (λ u m.
+            second_leads u m (Stops Faulted (fault_text 2 n)) (calculate_fails code n by (Variable x) (Constant v) (home x) is stored slots all_slots (omega arith) (on None g)))))
+        by_second (Some k) g =
+            subst Steps (sym (stepped_goes code n o a b by v x is s r h.read.all_words p e k g))
+            (looser f w _ _ [] (17 + limit + (17 + limit)) (34 + (limit + limit)) (omega arith)
+            (λ u z. matches_again ly f lo hi keys code n x p k is s _ (stepped_slots code n o a b by v x is s r h.read.all_words p k) u (none_read ly f lo hi keys fits n o a b by v x is s r w h) refl_held (stepped_length code n o a b by v x is s r h.read.all_words p k) z)
+            (chained f w _ _ [] [] (17 + limit) (17 + limit) stands (λ u m.
+            second_leads u m (Goes (line code n is (meaning.stored x k stored) (calculated stored slots (Variable x) (Constant v) (home x) k)) []) (calculate_goes code n by (Variable x) (Constant v) (home x) is stored slots all_slots (omega arith) k (on (Some k) g)))))
+          where
+            refl_held : (calculated stored slots (Variable x) (Constant v) (home x) k).held ≡ (stepped_slots code n o a b by v x is s r h.read.all_words p k).held
+            refl_held = refl
+
+      stepped_law : Steps (steps code (expand (Stepped o a b by v x)) whole)
+      stepped_law = by_first (apply o (fetched s r 0 a) (fetched s r 1 b)) refl
+        where
+          by_first : (q : Option ℕ) → apply o (fetched s r 0 a) (fetched s r 1 b) ≡ q → Steps (steps code (expand (Stepped o a b by v x)) whole)
+          by_first None e = by_none e
+          by_first (Some p) e = by_second p e (apply by p (word v)) refl
+
+    pub goes_further : (o : Operator) (a b : Operand) (by : Operator) (v x : ℕ) → GroupLaw (Stepped o a b by v x)
+    goes_further o a b by v x = by_steps (Stepped o a b by v x) (34 + (limit + limit)) (omega arith) (bracketed (Stepped o a b by v x) (34 + (limit + limit)) (spread_stepped o a b by v x) (spread_stepped_is o a b by v x) (stepped_law o a b by v x))
 
     pub tests_going : (rel : Rel) (a : Tested) (b : Operand) (to : ℕ) → GroupLaw (TestGo rel a b to)
     tests_going rel a b to = by_steps (TestGo rel a b to) (15 + limit) (omega arith) (bracketed (TestGo rel a b to) (15 + limit) (λ is. spread_test rel a b (JumpTo to ∷ is)) (spread_test_is rel a b (JumpTo to ∷ [])) (λ is n s r w h. go_law ly f lo hi keys fits code same_numbers n a b s r w limit rs rel to is h))
 
-    pub asks_divisor : (how : Divisibility) (x : ℕ) (d : Operand) (to : Option ℕ) → GroupLaw (Divides how x d side to)
-    asks_divisor how x d to = by_steps (Divides how x d side to) (34 + (limit + limit)) (omega arith) (bracketed (Divides how x d side to) (34 + (limit + limit)) (spread_divides how x d to) (spread_divides_is how x d to) (λ is n s r w h. divides_law ly f lo hi keys fits code same_numbers limit rs n how x d to is s r w h))
+    pub asks_divisor : (how : Divisibility) (x : ℕ) (d : Operand) (side : Side) (to : Option ℕ) → GroupLaw (Divides how x d side to)
+    asks_divisor how x d side to = by_steps (Divides how x d side to) (34 + (limit + limit)) (omega arith) (bracketed (Divides how x d side to) (34 + (limit + limit)) (spread_divides how x d side to) (spread_divides_is how x d side to) (λ is n s r w h. divides_law ly f lo hi keys fits code same_numbers limit rs n how x d side to is s r w h))
 
-    pub multiplies : (a b : Operand) (d : Destination) → GroupLaw (Calculate op.Multiply a b d)
-    multiplies a b d = by_steps (Calculate op.Multiply a b d) (13 + limit) (omega arith) (computes op.Multiply a b d (13 + limit) (omega (arith, wide)) (λ is n s r w h.
-        product_law ly f lo hi keys fits limit rs wide code n a b d is s r w h (scaling (source_of (slot_of d) a) (source_of (slot_of d + 1) b)) (scaling_is (source_of (slot_of d) a) (source_of (slot_of d + 1) b))))
+    pub leaves_over : (x : ℕ) (d : Operand) (to : Destination) → GroupLaw (Remains x d to)
+    leaves_over x d to = by_steps (Remains x d to) (34 + (limit + limit)) (omega arith) (bracketed (Remains x d to) (34 + (limit + limit)) (spread_remains x d to) (spread_remains_is x d to) (λ is n s r w h. remains_law ly f lo hi keys fits code limit rs n x d to is s r w h))
 
     module _ (closed : AreClosed code) (laid : GroupsLaid ly f.code f.whole code) where
       pub draws : (a : Operand) (d : Destination) → GroupLaw (Convert Drawn a d)
@@ -131,17 +218,16 @@ module _ (ly : Layout) (f : Setup) (lo hi keys : ℕ) (fits : Fits f 16) (limit 
           (act_law ly f lo hi keys fits limit rs code laid n is s r w i single h))) n gs js s r w e h
 
       by_group : (g : Group) → GroupLaw g
-      by_group (Calculate op.Add a b d) = adds a b d
-      by_group (Calculate op.Subtract a b d) = subtracts a b d
-      by_group (Calculate op.Multiply a b d) = multiplies a b d
-      by_group (Calculate op.Divide a b d) = divides a b d
+      by_group (Calculate o a b d) = calculating o a b d
+      by_group (Stepped o a b by v x) = goes_further o a b by v x
       by_group (Convert Negated a d) = negates a d
       by_group (Convert Drawn a d) = draws a d
       by_group (Move a home) = moves a home
       by_group (Use how a) = uses how a
       by_group (Test rel a b) = tests rel a b
       by_group (TestGo rel a b to) = tests_going rel a b to
-      by_group (Divides how x d side to) = asks_divisor how x d to
+      by_group (Divides how x d side to) = asks_divisor how x d side to
+      by_group (Remains x d to) = leaves_over x d to
       by_group (Single i) = alones i
 
       by_rest : (n : ℕ) (js : List Instr) (s : State) (r : Slots) (w : View) (gs : List Group) → select js ≡ gs → IsSome (Left n js) → Matches ly f lo hi keys (line code n js s r) w → Comes f w (Target ly f lo hi keys (first_group code (line code n js s r))) (sent_in (first_group code (line code n js s r))) (34 + (limit + limit))

@@ -68,7 +68,7 @@ module _ (f : Setup) (room : ℕ) (fits : Fits f room) (at : ℕ) (bs : List ℕ
       (λ w h. record { here = record { pc = h.here.pc ∙ (let q : at + 3 + 3 ≡ at + size told = omega arith in q); stack = h.here.stack; binary = h.here.binary; mem = h.here.mem; text = h.here.text; answers = h.here.answers }; zero = h.zero ∙ (λ i. eqb (bit_or (is.low i) (is.high i)) 0) ∙ either_byte v })
       (joins f room fits (at + 3) bs m keys gets small (RESULT + 1) (m RESULT) refl (omega (arith, r)) s1.0))
 
-pieces_append : (ps qs : List Piece) → pieces_size (ps ++ qs) ≡ pieces_size ps + pieces_size qs
+pub pieces_append : (ps qs : List Piece) → pieces_size (ps ++ qs) ≡ pieces_size ps + pieces_size qs
 pieces_append [] qs = omega arith
 pieces_append (p ∷ ps) qs = let e = pieces_append ps qs in omega (arith, e)
 

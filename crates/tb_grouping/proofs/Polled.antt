@@ -32,6 +32,7 @@ use Rattle.tb_grouping.proofs.Matching.{HoldsState, HoldsLive, Matches, Target}
 use Rattle.tb_grouping.proofs.SlotSide.{line, next}
 use Rattle.tb_grouping.proofs.Beginnings.{nothing_read, line_step}
 use Rattle.tb_grouping.proofs.Ready.{stood}
+use Rattle.tb_grouping.proofs.Stepping.{fused_by}
 use Rattle.tb_grouping.proofs.Tests.{same_byte}
 
 -- ---- what a poll does
@@ -40,7 +41,7 @@ select_poll is = by (select is)
   where
     by : (gs : List Group) → attach Poll gs ≡ Single Poll ∷ gs
     by [] = refl
-    by (g ∷ gs) = refl
+    by (g ∷ gs) = fused_by (Single Poll) (g ∷ gs) refl refl refl
 
 module _ (code : SlotCode) (n : ℕ) (is : List Instr) (s : State) (r : Slots) where
   abbrev outcome : List ℕ → Step SlotState

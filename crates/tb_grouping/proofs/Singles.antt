@@ -1,16 +1,14 @@
 -- Which instructions are groups of their own: those whose group alone is a single one.
 use Rattle.std.proofs.Common.{◌≡◌, ℕ, ◌+◌, Bool, true, false, if◌then◌else◌, List, [], ◌∷◌, refl, subst, Option, Some, None}
-use Rattle.std.specs.Prelude.{◌&&◌, nat_eq, option_map}
+use Rattle.std.specs.Prelude.{◌&&◌, nat_eq, not, option_map}
 use Rattle.tb_words.specs.declared.Rel.{Rel}
 use Rattle.tb_syntax.specs.declared.expressions.Operator.{Operator}
 use Rattle.tb_lower.specs.Slots.{Instr, Put, Load, Store, Negate, Compute, Random, SendText, SendNumber, SendZone, SendNewline, Input, Poll, Hold, LeaveUnless, Jump, Call, JumpTo, CallTo, Return, End}
-use Rattle.tb_selection.specs.declared.liveness.Live.{Live}
-use Rattle.tb_selection.specs.Groups.{Operand, Constant, Variable, InSlot, Home, Destination, IntoHome, Tested, HeldBefore, HeldNow, Conversion, Negated, Drawn, Usage, Group, Calculate, Stepped, Convert, Move, Use, Test, TestGo, Divides, Remains, Single, slot_of, expand_all}
+use Rattle.tb_selection.specs.Groups.{Operand, Constant, Variable, InSlot, Home, Destination, IntoHome, Tested, HeldBefore, HeldNow, Conversion, Negated, Drawn, Usage, Group, Calculate, Stepped, Convert, Move, Use, Test, TestGo, OnLeft, OnRight, Divisibility, IntoVariable, IntoHeld, IntoSlot, Divides, Remains, Single, slot_of, expand_all}
 use Rattle.tb_selection.specs.Laws.{AreChosen}
 use Rattle.tb_selection.specs.Liveness.{live}
 use Rattle.tb_selection.proofs.Chosen.{chosen}
-use Rattle.tb_selection.specs.Select.{alone, provided, calculate_with, convert_with, move_with, use_with, words_with, with_word, calculated, converted, held_before, gone, merged, omits_only_dead, may_stand, division, shortened, fused, tried, attach, select}
-use Rattle.tb_selection.proofs.Shortened.{IsDivision, divides, no_division, division_is}
+use Rattle.tb_selection.specs.Select.{alone, provided, calculate_with, convert_with, move_with, use_with, words_with, with_word, operands_with, goes_on, calculated, converted, held_before, gone, merged, omits_only_dead, may_stand, divides_left, divides_right, is_shifted, remains, or_else, multiple_in, equality_in, against_in, held_in, loaded_in, difference_in, three_as_one, four_as_one, allowed, instead, fused, tried, attach, select}
 
 -- a single instruction is one that is single alone
 abbrev pub IsAlone : Group → Type 0
@@ -82,8 +80,13 @@ go_so : (rel : Rel) (to : ℕ) (o : Option (Tested × Operand)) → IfAny (optio
 go_so rel to None = tt
 go_so rel to (Some words) = tt
 
+stepped_so : (op by : Operator) (w x : ℕ) (o : Option (Operand × Operand)) → IfAny (option_map (λ words. Stepped op words.0 words.1 by w x) o)
+stepped_so op by w x None = tt
+stepped_so op by w x (Some words) = tt
+
 with_so : (k : ℕ) (word : Operand) (g : Group) → IfAny (with_word k word g)
 with_so k word (Calculate op a b d) = calculate_so k word op a b d
+with_so k word (Stepped op a b by w x) = stepped_so op by w x (operands_with k word a b)
 with_so k word (Convert what a d) = convert_so k word what a d
 with_so k word (Move a home) = move_so k word a home
 with_so k word (Use how a) = use_so k word how a
@@ -98,7 +101,14 @@ calculated_so : (op : Operator) (k : ℕ) (g : Group) → IfAny (calculated op k
 calculated_so op k (Move InSlot home) = provided_so (nat_eq k 0) (Calculate op InSlot InSlot (IntoHome home)) tt
 calculated_so op k (Move (Constant w) home) = tt
 calculated_so op k (Move (Variable x) home) = tt
-calculated_so op k (Calculate op' a b d) = tt
+calculated_so op k (Calculate by InSlot (Constant w) (IntoHome (IntoVariable x))) = provided_so (nat_eq k 0 && goes_on by w) (Stepped op InSlot InSlot by w x) tt
+calculated_so op k (Calculate by InSlot (Constant w) (IntoHome IntoHeld)) = tt
+calculated_so op k (Calculate by InSlot (Constant w) (IntoSlot j)) = tt
+calculated_so op k (Calculate by InSlot (Variable y) d) = tt
+calculated_so op k (Calculate by InSlot InSlot d) = tt
+calculated_so op k (Calculate by (Constant v) b d) = tt
+calculated_so op k (Calculate by (Variable y) b d) = tt
+calculated_so op k (Stepped op' a b by w x) = tt
 calculated_so op k (Convert what a d) = tt
 calculated_so op k (Use how a) = tt
 calculated_so op k (Test rel a b) = tt
@@ -189,26 +199,57 @@ merged_so (CallTo target) g = tt
 merged_so Return g = tt
 merged_so End g = tt
 
-shortened_so : (a b c : Group) (o : Option Group) (gs : List Group) → IsDivision a b c o → IsAlone a → FirstIsAlone (shortened o a b c gs)
-shortened_so a b c _ gs (divides how x d to ea eb ec) h = tt
-shortened_so a b c _ gs no_division h = h
+left_so : (m : Option (ℕ × ℕ × Operand)) (t : Option (Divisibility × ℕ × Option ℕ)) → IfAny (divides_left m t)
+left_so (Some m) (Some t) = provided_so (nat_eq m.0 0 && nat_eq m.1 t.1) (Divides t.0 m.1 m.2 OnLeft t.2) tt
+left_so (Some m) None = tt
+left_so None t = tt
+
+right_so : (x : Option ℕ) (m : Option (ℕ × ℕ × Operand)) (t : Option (Divisibility × Option ℕ)) → IfAny (divides_right x m t)
+right_so (Some x) (Some m) (Some t) = provided_so (nat_eq m.0 0 && nat_eq m.1 x) (Divides t.0 m.1 m.2 OnRight t.1) tt
+right_so (Some x) (Some m) None = tt
+right_so (Some x) None t = tt
+right_so None m t = tt
+
+rest_so : (l : Option (ℕ × ℕ)) (m : Option (ℕ × ℕ × Operand)) (d : Option Destination) → IfAny (remains l m d)
+rest_so (Some l) (Some m) (Some d) = provided_so (nat_eq m.0 (l.0 + 1) && nat_eq m.1 l.1 && nat_eq l.0 (slot_of d) && not (is_shifted m.2)) (Remains m.1 m.2 d) tt
+rest_so (Some l) (Some m) None = tt
+rest_so (Some l) None d = tt
+rest_so None m d = tt
+
+else_so : (o p : Option Group) → IfAny o → IfAny p → IfAny (or_else o p)
+else_so (Some g) p h k = h
+else_so None p h k = k
+
+four_so : (a b c e : Group) → IfAny (four_as_one a b c e)
+four_so a b c e =
+    else_so (divides_right (held_in a) (multiple_in b c) (against_in e)) (remains (loaded_in a) (multiple_in b c) (difference_in e)) (right_so (held_in a) (multiple_in b c) (against_in e)) (rest_so (loaded_in a) (multiple_in b c) (difference_in e))
+
+instead_so : (o : Option Group) (gs others : List Group) → IfAny o → FirstIsAlone others → FirstIsAlone (instead (allowed o gs) gs others)
+instead_so None gs others h k = k
+instead_so (Some m) gs others h k = by (omits_only_dead m (live (expand_all gs)) && may_stand m gs)
+  where
+    by : (t : Bool) → FirstIsAlone (instead (provided t m) gs others)
+    by true = h
+    by false = k
 
 fused_so : (a : Group) (gs : List Group) → IsAlone a → FirstIsAlone (fused a gs)
 fused_so a [] h = h
 fused_so a (b ∷ []) h = h
-fused_so a (b ∷ c ∷ gs) h = shortened_so a b c (division a b c) gs (division_is a b c) h
+fused_so a (b ∷ c ∷ []) h = instead_so (three_as_one a b c) [] (a ∷ b ∷ c ∷ []) (left_so (multiple_in a b) (equality_in c)) h
+fused_so a (b ∷ c ∷ e ∷ gs) h =
+    instead_so (three_as_one a b c) (e ∷ gs) _ (left_so (multiple_in a b) (equality_in c)) (instead_so (four_as_one a b c e) gs (a ∷ b ∷ c ∷ e ∷ gs) (four_so a b c e) h)
 
-tried_so : (o : Option Group) (r : Live) (i : Instr) (g : Group) (gs : List Group) → IfAny o → FirstIsAlone (tried o r i g gs)
-tried_so None r i g gs h = alone_so i
-tried_so (Some m) r i g gs h = by (omits_only_dead m r && may_stand m gs)
+tried_so : (o : Option Group) (i : Instr) (g : Group) (gs : List Group) → IfAny o → FirstIsAlone (tried (allowed o gs) i g gs)
+tried_so None i g gs h = fused_so (alone i) (g ∷ gs) (alone_so i)
+tried_so (Some m) i g gs h = by (omits_only_dead m (live (expand_all gs)) && may_stand m gs)
   where
-    by : (t : Bool) → FirstIsAlone (if t then fused m gs else alone i ∷ g ∷ gs)
+    by : (t : Bool) → FirstIsAlone (tried (provided t m) i g gs)
     by true = fused_so m gs h
-    by false = alone_so i
+    by false = fused_so (alone i) (g ∷ gs) (alone_so i)
 
 attach_so : (i : Instr) (gs : List Group) → FirstIsAlone (attach i gs)
 attach_so i [] = alone_so i
-attach_so i (g ∷ gs) = tried_so (merged i g) (live (expand_all gs)) i g gs (merged_so i g)
+attach_so i (g ∷ gs) = tried_so (merged i g) i g gs (merged_so i g)
 
 -- so it is with the groups of a list
 pub first_so : (is : List Instr) → FirstIsAlone (select is)

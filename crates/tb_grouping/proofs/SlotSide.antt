@@ -129,15 +129,15 @@ module _ (code : SlotCode) (n : ℕ) (op : Operator) (a b : Operand) (d : Destin
   abbrev both : Slots
   both = with_fetched s (with_fetched s r k a) (k + 1) b
 
-  left_is : slice_index both.words k ≡ fetched s r k a
+  pub left_is : slice_index both.words k ≡ fetched s r k a
   left_is = fetched_other s (with_fetched s r k a) (k + 1) k b (λ e. omega (arith, e)) ∙ fetched_same s r k a (omega (arith, all, room))
 
-  right_is : slice_index both.words (k + 1) ≡ fetched s r (k + 1) b
+  pub right_is : slice_index both.words (k + 1) ≡ fetched s r (k + 1) b
   right_is =
       fetched_same s (with_fetched s r k a) (k + 1) b (omega (arith, all, room, fetched_length s r k a))
       ∙ fetched_behind s r k (k + 1) a b (λ e. omega (arith, e))
 
-  both_length : length both.words ≡ 16
+  pub both_length : length both.words ≡ 16
   both_length = fetched_length s (with_fetched s r k a) (k + 1) b ∙ fetched_length s r k a ∙ all
 
   so_far : steps code (expand (Calculate op a b d)) (line code n (spread op a b d is) s r) ≡ steps code (Compute op k ∷ kept d) (line code n (Compute op k ∷ (kept d ++ is)) s both)
