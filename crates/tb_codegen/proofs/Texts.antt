@@ -27,7 +27,7 @@ use Rattle.tb_templates.specs.Layout.{LabelsAt}
 use Rattle.tb_templates.specs.Program.{rest_code, line_code, lines_code}
 use Rattle.tb_settling.specs.Settled.{AreFormsOf}
 use Rattle.tb_settling.proofs.Forms.{forms_size, items_append, items_size, size_append, split, is_straight, straight_forms}
-use Rattle.tb_selection.specs.Groups.{Operand, Constant, Variable, InSlot, Home, IntoVariable, IntoHeld, Destination, IntoSlot, IntoHome, Tested, HeldBefore, HeldNow, Conversion, Negated, Drawn, Usage, AsNumber, AsLine, AsSubroutine, Divisibility, Group, Calculate, Convert, Move, Use, Test, TestGo, Divides, Single, fetch, keep, kept, held, convert, use_of, slot_of, expand, expand_all}
+use Rattle.tb_selection.specs.Groups.{Operand, Constant, Variable, InSlot, Home, IntoVariable, IntoHeld, Destination, IntoSlot, IntoHome, Tested, HeldBefore, HeldNow, Conversion, Negated, Drawn, Usage, AsNumber, AsLine, AsSubroutine, Divisibility, Group, Calculate, Convert, Move, Use, Test, TestGo, Divides, Single, fetch, keep, kept, held, convert, use_of, slot_of, expand, expand_all, Side, OnLeft, OnRight, Remains, Stepped, multiple, compared}
 use Rattle.tb_selection.specs.Select.{select}
 use Rattle.tb_selection.proofs.Bracketed.{brackets}
 use Rattle.tb_codegen.specs.Compiled.{stands_at, starts_in}
@@ -163,13 +163,24 @@ use_texts how a is = ap instr_texts (append_assoc (fetch 0 a) (use_of how ∷ []
 move_texts : (a : Operand) (home : Home) (is : List Instr) → instr_texts (expand (Move a home) ++ is) ≡ instr_texts is
 move_texts a home is = ap instr_texts (append_assoc (fetch 0 a) (keep home ∷ []) is) ∙ fetch_texts 0 a (keep home ∷ is) ∙ home_texts home is
 
-divides_texts : (how : Divisibility) (x : ℕ) (d : Operand) (to : Option ℕ) (is : List Instr) → instr_texts (expand (Divides how x d to) ++ is) ≡ instr_texts is
-divides_texts how x (Constant w) None is = refl
-divides_texts how x (Constant w) (Some to) is = refl
-divides_texts how x (Variable y) None is = refl
-divides_texts how x (Variable y) (Some to) is = refl
-divides_texts how x InSlot None is = refl
-divides_texts how x InSlot (Some to) is = refl
+multiple_texts : (k x : ℕ) (d : Operand) (js is : List Instr) → instr_texts (multiple k x d js ++ is) ≡ instr_texts (js ++ is)
+multiple_texts k x (Constant w) js is = refl
+multiple_texts k x (Variable y) js is = refl
+multiple_texts k x InSlot js is = refl
+
+divides_texts : (how : Divisibility) (x : ℕ) (d : Operand) (side : Side) (to : Option ℕ) (is : List Instr) → instr_texts (expand (Divides how x d side to) ++ is) ≡ instr_texts is
+divides_texts how x d OnLeft None is = multiple_texts 0 x d (Hold ∷ Load 0 x ∷ LeaveUnless (compared how) ∷ []) is
+divides_texts how x d OnLeft (Some to) is = multiple_texts 0 x d (Hold ∷ Load 0 x ∷ LeaveUnless (compared how) ∷ JumpTo to ∷ []) is
+divides_texts how x d OnRight None is = multiple_texts 0 x d (LeaveUnless (compared how) ∷ []) is
+divides_texts how x d OnRight (Some to) is = multiple_texts 0 x d (LeaveUnless (compared how) ∷ JumpTo to ∷ []) is
+
+remains_texts : (x : ℕ) (d : Operand) (to : Destination) (is : List Instr) → instr_texts (expand (Remains x d to) ++ is) ≡ instr_texts is
+remains_texts x d to is = multiple_texts (slot_of to + 1) x d (Compute Subtract (slot_of to) ∷ kept to) is ∙ kept_texts to is
+
+stepped_texts : (op : Operator) (a b : Operand) (by : Operator) (w x : ℕ) (is : List Instr) → instr_texts (expand (Stepped op a b by w x) ++ is) ≡ instr_texts is
+stepped_texts op a b by w x is =
+    ap instr_texts (append_assoc (fetch 0 a) (fetch 1 b ++ Compute op 0 ∷ Put 1 w ∷ Compute by 0 ∷ Store x ∷ []) is) ∙ fetch_texts 0 a ((fetch 1 b ++ Compute op 0 ∷ Put 1 w ∷ Compute by 0 ∷ Store x ∷ []) ++ is)
+    ∙ ap instr_texts (append_assoc (fetch 1 b) (Compute op 0 ∷ Put 1 w ∷ Compute by 0 ∷ Store x ∷ []) is) ∙ fetch_texts 1 b (Compute op 0 ∷ Put 1 w ∷ Compute by 0 ∷ Store x ∷ is)
 
 test_texts : (rel : Rel) (a : Tested) (b : Operand) (js is : List Instr) → instr_texts (js ++ is) ≡ instr_texts is → instr_texts ((held a ++ (fetch 0 b ++ LeaveUnless rel ∷ js)) ++ is) ≡ instr_texts is
 test_texts rel a b js is e =
@@ -202,7 +213,9 @@ module _ (labels : List (Name × ℕ)) (ns : List ℕ) (seed n : ℕ) where
   rest_texts i (Move x home ∷ gs) = silent i (Move x home) gs _ (move_texts x home (expand_all gs)) (rest_texts (i + 1) gs)
   rest_texts i (Test rel x y ∷ gs) = silent i (Test rel x y) gs _ (test_texts rel x y [] (expand_all gs) refl) (rest_texts (i + 1) gs)
   rest_texts i (TestGo rel x y to ∷ gs) = silent i (TestGo rel x y to) gs _ (test_texts rel x y (JumpTo to ∷ []) (expand_all gs) refl) (rest_texts (i + 1) gs)
-  rest_texts i (Divides how x d to ∷ gs) = silent i (Divides how x d to) gs _ (divides_texts how x d to (expand_all gs)) (rest_texts (i + 1) gs)
+  rest_texts i (Divides how x d side to ∷ gs) = silent i (Divides how x d side to) gs _ (divides_texts how x d side to (expand_all gs)) (rest_texts (i + 1) gs)
+  rest_texts i (Remains x d to ∷ gs) = silent i (Remains x d to) gs _ (remains_texts x d to (expand_all gs)) (rest_texts (i + 1) gs)
+  rest_texts i (Stepped op x y by w v ∷ gs) = silent i (Stepped op x y by w v) gs _ (stepped_texts op x y by w v (expand_all gs)) (rest_texts (i + 1) gs)
   rest_texts i (Single (SendText t) ∷ gs) = λ a fs h.
       loud_forms labels a (before_text i t) t (here (target.Inside inner.Behind n i)) (rest_code ns seed n (i + 1) gs) fs (instr_texts (expand_all gs)) refl h (rest_texts (i + 1) gs)
   rest_texts i (Single (Put k w) ∷ gs) = silent i (Single (Put k w)) gs _ refl (rest_texts (i + 1) gs)
