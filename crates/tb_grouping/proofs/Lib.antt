@@ -28,6 +28,7 @@ pub mod Falling
 pub mod Products
 pub mod Remainders
 pub mod LeftOver
+pub mod MultipleSide
 pub mod DividesLaws
 pub mod Moves
 pub mod Faults
