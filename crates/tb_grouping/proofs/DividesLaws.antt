@@ -1,5 +1,5 @@
 -- The law of a test by a divisor: that its slot instructions ask whether nothing is left over, and where its code leads.
-use Rattle.std.proofs.Common.{not, ◌≡◌, ◌≢◌, ℕ, ◌+◌, ◌*◌, ◌%◌, ◌<◌, Bool, true, false, cond, if◌then◌else◌, List, [], ◌∷◌, ◌++◌, length, refl, sym, ap, ◌∙◌, subst, arith, ⊎_elim, Option, Some, None, length-set}
+use Rattle.std.proofs.Common.{not, ◌≡◌, ◌≢◌, ℕ, ◌+◌, ◌*◌, ◌%◌, ◌<◌, Bool, true, false, cond, List, [], ◌∷◌, ◌++◌, length, refl, sym, ap, ◌∙◌, subst, arith, ⊎_elim, Option, Some, None, length-set}
 use Rattle.std.specs.Prelude.{slice_index, nat_eq}
 use Rattle.std.proofs.lemmas.Bool.{cases_eq, eq-eqb, eqb-true, ne_eqb}
 use Rattle.std.proofs.lemmas.List.{nil_from_length}
@@ -9,9 +9,9 @@ use Rattle.tb_syntax.specs.declared.expressions.Operator.TheVariants as op
 use Rattle.tb_syntax.specs.Source.{numbers}
 use Rattle.tb_lower.specs.Control as control
 use Rattle.tb_lower.specs.Control.{State, fault_text, has_line, next_after}
-use Rattle.tb_lower.specs.Slots.{Instr, Whole, Compute, Hold, JumpTo, LeaveUnless, Load, Slots, SlotCode, SlotState, into, with_word}
+use Rattle.tb_lower.specs.Ranges.{AreInRange}
+use Rattle.tb_lower.specs.Slots.{Instr, Whole, Compute, Hold, JumpTo, LeaveUnless, Load, Slots, SlotCode, SlotState, with_word}
 use Rattle.tb_lower.specs.Steps.{Step, Stops, Faulted}
-use Rattle.tb_lower.specs.Values.{apply, given}
 use Rattle.tb_reaching.proofs.Comes.{chained, looser}
 use Rattle.tb_reaching.specs.View.{Comes, Fits, Setup, View}
 use Rattle.tb_runtime16.specs.Places.{LEFT, RIGHT}
@@ -19,10 +19,11 @@ use Rattle.tb_runtime16.specs.Routines.{Routines}
 use Rattle.tb_keeping.specs.Layout.{Layout, next_at}
 use Rattle.tb_keeping.proofs.Joins.{sent_in}
 use Rattle.tb_keeping.proofs.Resolved.{Code, Lies, Piece, faulting, pieces_size}
-use Rattle.tb_selection.specs.Groups.{Operand, Constant, Variable, InSlot, HeldNow, Divisibility, Divisible, Indivisible, Divides, compared, contrary, expand, fetch, multiple, onward}
+use Rattle.tb_selection.specs.declared.liveness.Live.{Live}
+use Rattle.tb_selection.specs.Groups.{Operand, Constant, Variable, InSlot, Tested, HeldBefore, HeldNow, Divisibility, Divisible, Indivisible, Side, OnLeft, OnRight, Divides, compared, contrary, dividing, expand, fetch, multiple, onward}
 use Rattle.tb_selection.specs.GroupSteps.{steps}
 use Rattle.tb_selection.specs.Liveness.{live, nothing_live}
-use Rattle.tb_selection.specs.Select.{may_stand, select}
+use Rattle.tb_selection.specs.Select.{may_stand, omits_only_dead, select, test_words_dead}
 use Rattle.tb_selection.proofs.Chosen.{nothing_read}
 use Rattle.tb_templates.specs.declared.sources.Source.{Source}
 use Rattle.tb_templates.specs.Sources.{source_of}
@@ -32,131 +33,173 @@ use Rattle.tb_grouping.proofs.Frames.{state_placed}
 use Rattle.tb_grouping.proofs.LeftOver.{Led, divided_fails, divided_leads}
 use Rattle.tb_grouping.proofs.Lone.{Kept, arrived, kept}
 use Rattle.tb_grouping.proofs.Matching.{HoldsLive, Matches, Target}
+use Rattle.tb_grouping.proofs.MultipleSide.{held_stands, multiple_fails, multiple_next, multiplied, multiplied_length, product_stands}
 use Rattle.tb_grouping.proofs.Operands.{OperandFits, SourceHolds, operand_apart, operand_held, range_fetch}
 use Rattle.tb_grouping.proofs.Ready.{Ready, stood}
 use Rattle.tb_grouping.proofs.Remainders.{multiple_is}
 use Rattle.tb_grouping.proofs.SignedOrder.{turned}
-use Rattle.tb_grouping.proofs.SlotSide.{StandsIn, acts, fetch_reads, fetched, fetched_behind, fetched_length, fetched_other, fetched_same, fetches, line, other_slot, same_slot, stops, with_fetched}
+use Rattle.tb_grouping.proofs.SlotSide.{StandsIn, acts, fetch_reads, fetched, fetches, line, other_slot, same_slot}
 use Rattle.tb_grouping.proofs.TestLaws.{go_goes, gone_by, lies_parts}
-use Rattle.tb_grouping.proofs.TestSide.{branched, left_read, test_goes, tested}
+use Rattle.tb_grouping.proofs.TestSide.{branched, left_read, spread_test, test_before, test_goes, tested, tested_word}
 use Rattle.tb_grouping.proofs.Whereto.{left_at}
 
+-- whether two numbers are the same, either way
+same_either_way : (p q : ℕ) → nat_eq p q ≡ nat_eq q p
+same_either_way p q = ⊎_elim (λ e. eq-eqb p q e ∙ sym (eq-eqb q p (sym e))) (λ n. ne_eqb p q n ∙ sym (ne_eqb q p (λ e. n (sym e)))) (cases_eq p q)
+
 -- the list with its parts bracketed to the right
-abbrev pub spread_divides : Divisibility → ℕ → Operand → Option ℕ → List Instr → List Instr
-spread_divides how v d to is = multiple v d (Hold ∷ Load 0 v ∷ LeaveUnless (compared how) ∷ (onward to ++ is))
+abbrev pub spread_divides : Divisibility → ℕ → Operand → Side → Option ℕ → List Instr → List Instr
+spread_divides how v d side to is = dividing how v d side (onward to ++ is)
 
-pub spread_divides_is : (how : Divisibility) (v : ℕ) (d : Operand) (to : Option ℕ) (is : List Instr) → expand (Divides how v d to) ++ is ≡ spread_divides how v d to is
-spread_divides_is how v (Constant w) to is = refl
-spread_divides_is how v (Variable x) to is = refl
-spread_divides_is how v InSlot to is = refl
+pub spread_divides_is : (how : Divisibility) (v : ℕ) (d : Operand) (side : Side) (to : Option ℕ) (is : List Instr) → expand (Divides how v d side to) ++ is ≡ spread_divides how v d side to is
+spread_divides_is how v (Constant w) OnLeft to is = refl
+spread_divides_is how v (Variable x) OnLeft to is = refl
+spread_divides_is how v InSlot OnLeft to is = refl
+spread_divides_is how v (Constant w) OnRight to is = refl
+spread_divides_is how v (Variable x) OnRight to is = refl
+spread_divides_is how v InSlot OnRight to is = refl
 
--- ---- what its slot instructions do
-module _ (code : SlotCode) (n : ℕ) (how : Divisibility) (v : ℕ) (d : Operand) (s : State) (r : Slots) (all : length r.words ≡ 16) where
-  abbrev pub dividend : ℕ
-  dividend = slice_index s.vars v
+-- ---- its sides
+-- the words of its test
+abbrev left_word : Side → Tested
+left_word OnLeft = HeldNow InSlot
+left_word OnRight = HeldBefore
 
-  abbrev pub divisor : ℕ
-  divisor = fetched s r 1 d
+abbrev right_word : ℕ → Side → Operand
+right_word v OnLeft = Variable v
+right_word v OnRight = InSlot
 
-  -- the slots behind the first fetches, the quotient, the second fetch and the product
-  abbrev both : Slots
-  both = with_fetched s (with_word r 0 dividend) 1 d
+-- the slots before the multiple
+abbrev begun : State → Slots → ℕ → Side → Slots
+begun s r v OnLeft = r
+begun s r v OnRight = record (with_word r 0 (slice_index s.vars v)) { held = slice_index (with_word r 0 (slice_index s.vars v)).words 0 }
 
-  abbrev divided : Slots
-  divided = with_word both 0 (quotient dividend divisor)
+begun_length : (s : State) (r : Slots) (v : ℕ) (side : Side) → length (begun s r v side).words ≡ length r.words
+begun_length s r v OnLeft = refl
+begun_length s r v OnRight = length-set r.words 0 (slice_index s.vars v)
 
-  abbrev again : Slots
-  again = with_fetched s divided 1 d
+-- the divisor is the same there
+divisor_begun : (s : State) (r : Slots) (v : ℕ) (side : Side) (d : Operand) → fetched s (begun s r v side) 1 d ≡ fetched s r 1 d
+divisor_begun s r v OnLeft d = refl
+divisor_begun s r v OnRight (Constant w) = refl
+divisor_begun s r v OnRight (Variable x) = refl
+divisor_begun s r v OnRight InSlot = other_slot r 0 1 (slice_index s.vars v) (λ e. omega (arith, e))
 
-  abbrev pub multiplied : Slots
-  multiplied = with_word again 0 (word (quotient dividend divisor * divisor))
-
-  both_length : length both.words ≡ 16
-  both_length = fetched_length s (with_word r 0 dividend) 1 d ∙ length-set r.words 0 dividend ∙ all
-
-  again_length : length again.words ≡ 16
-  again_length = fetched_length s divided 1 d ∙ length-set both.words 0 (quotient dividend divisor) ∙ both_length
-
-  pub multiplied_length : length multiplied.words ≡ 16
-  multiplied_length = length-set again.words 0 (word (quotient dividend divisor * divisor)) ∙ again_length
-
-  left_is : slice_index both.words 0 ≡ dividend
-  left_is = fetched_other s (with_word r 0 dividend) 1 0 d (λ e. omega (arith, e)) ∙ same_slot r 0 dividend (omega (arith, all))
-
-  right_is : slice_index both.words 1 ≡ divisor
-  right_is =
-      fetched_same s (with_word r 0 dividend) 1 d (omega (arith, both_length, fetched_length s (with_word r 0 dividend) 1 d))
-      ∙ fetched_behind s r 0 1 (Variable v) d (λ e. omega (arith, e))
-
-  quotient_stands : slice_index again.words 0 ≡ quotient dividend divisor
-  quotient_stands = fetched_other s divided 1 0 d (λ e. omega (arith, e)) ∙ same_slot both 0 (quotient dividend divisor) (omega (arith, both_length))
-
-  divisor_stands : slice_index again.words 1 ≡ divisor
-  divisor_stands = fetched_same s divided 1 d (omega (arith, again_length, fetched_length s divided 1 d)) ∙ by d right_is
-    where
-      by : (d : Operand) → slice_index (with_fetched s (with_word r 0 dividend) 1 d).words 1 ≡ fetched s r 1 d → fetched s (with_word (with_fetched s (with_word r 0 dividend) 1 d) 0 (quotient dividend (fetched s r 1 d))) 1 d ≡ fetched s r 1 d
-      by (Constant w) e = refl
-      by (Variable x) e = refl
-      by InSlot e = other_slot (with_word r 0 dividend) 0 1 (quotient dividend (slice_index r.words 1)) (λ q. omega (arith, q)) ∙ e
-
-  product_stands : slice_index multiplied.words 0 ≡ word (quotient dividend divisor * divisor)
-  product_stands = same_slot again 0 (word (quotient dividend divisor * divisor)) (omega (arith, again_length))
-
-  -- up to the quotient, with some instructions behind it and some behind these
-  quotient_next : (js back : List Instr) → steps code (Load 0 v ∷ (fetch 1 d ++ Compute op.Divide 0 ∷ js)) (line code n (Load 0 v ∷ (fetch 1 d ++ Compute op.Divide 0 ∷ back)) s r) ≡ steps code (Compute op.Divide 0 ∷ js) (line code n (Compute op.Divide 0 ∷ back) s both)
-  quotient_next js back =
-      fetches code n 0 (Variable v) (fetch 1 d ++ Compute op.Divide 0 ∷ js) (fetch 1 d ++ Compute op.Divide 0 ∷ back) s r
-      ∙ fetches code n 1 d (Compute op.Divide 0 ∷ js) (Compute op.Divide 0 ∷ back) s (with_word r 0 dividend)
-
-  -- up to the product
-  pub multiple_next : (js back : List Instr) → divisor ≢ 0 → steps code (multiple v d js) (line code n (multiple v d back) s r) ≡ steps code js (line code n back s multiplied)
-  multiple_next js back some =
-      let divides : apply op.Divide (slice_index both.words 0) (slice_index both.words 1) ≡ Some (quotient dividend divisor) =
-      (λ i. apply op.Divide (left_is i) (right_is i)) ∙ ap (λ t. if t then None else Some (quotient dividend divisor)) (ne_eqb divisor 0 some) in
-      let multiplies : apply op.Multiply (slice_index again.words 0) (slice_index again.words 1) ≡ Some (word (quotient dividend divisor * divisor)) =
-      (λ i. apply op.Multiply (quotient_stands i) (divisor_stands i)) in
-      quotient_next (fetch 1 d ++ Compute op.Multiply 0 ∷ js) (fetch 1 d ++ Compute op.Multiply 0 ∷ back)
-      ∙ acts code n (Compute op.Divide 0) (fetch 1 d ++ Compute op.Multiply 0 ∷ js) (fetch 1 d ++ Compute op.Multiply 0 ∷ back) s s both divided (ap (λ o. into n 0 (given o s.seed) s both) divides)
-      ∙ fetches code n 1 d (Compute op.Multiply 0 ∷ js) (Compute op.Multiply 0 ∷ back) s divided
-      ∙ acts code n (Compute op.Multiply 0) js back s s again multiplied (ap (λ o. into n 0 (given o s.seed) s again) multiplies)
-
-  -- by 0 it faults
-  pub multiple_fails : (js back : List Instr) → divisor ≡ 0 → steps code (multiple v d js) (line code n (multiple v d back) s r) ≡ Stops Faulted (fault_text 2 n)
-  multiple_fails js back zero =
-      let divides : apply op.Divide (slice_index both.words 0) (slice_index both.words 1) ≡ None =
-      (λ i. apply op.Divide (left_is i) (right_is i)) ∙ ap (λ t. if t then None else Some (quotient dividend divisor)) (eq-eqb divisor 0 zero) in
-      quotient_next (fetch 1 d ++ Compute op.Multiply 0 ∷ js) (fetch 1 d ++ Compute op.Multiply 0 ∷ back)
-      ∙ stops code n (Compute op.Divide 0) (fetch 1 d ++ Compute op.Multiply 0 ∷ js) (fetch 1 d ++ Compute op.Multiply 0 ∷ back) s both (fault_text 2 n) (ap (λ o. into n 0 (given o s.seed) s both) divides)
-
-  -- whether the product is the dividend
-  abbrev pub asked : Bool
-  asked = turned (leaves_on how) (nat_eq (magnitude dividend % magnitude divisor) 0)
-
-  pub holds_so : dividend < 65536 → divisor < 65536 → divisor ≢ 0 → (t : Bool) → asked ≡ t → holds (compared how) (slice_index multiplied.words 0) dividend ≡ t
-  holds_so small small' some t e = ap (λ p. holds (compared how) p dividend) product_stands ∙ by how ∙ e
-    where
-      same : nat_eq (word (quotient dividend divisor * divisor)) dividend ≡ nat_eq (magnitude dividend % magnitude divisor) 0
-      same = multiple_is dividend divisor small small' some
-
-      by : (how : Divisibility) → holds (compared how) (word (quotient dividend divisor * divisor)) dividend ≡ turned (leaves_on how) (nat_eq (magnitude dividend % magnitude divisor) 0)
-      by Divisible = same
-      by Indivisible = ap not same
+-- what its ranges give
+ranges : (how : Divisibility) (v : ℕ) (d : Operand) (side : Side) (js : List Instr) → AreInRange 256 (dividing how v d side js) → OperandFits (Variable v) × OperandFits d
+ranges how v d OnLeft js h = (h.0.1, (range_fetch 1 d (Compute op.Divide 0 ∷ (fetch 1 d ++ Compute op.Multiply 0 ∷ (Hold ∷ Load 0 v ∷ LeaveUnless (compared how) ∷ js))) h.1).0)
+ranges how v d OnRight js h = (h.0.1, (range_fetch 1 d (Compute op.Divide 0 ∷ (fetch 1 d ++ Compute op.Multiply 0 ∷ (LeaveUnless (compared how) ∷ js))) h.1.1.1).0)
 
 -- a divisor that stands in its slot is read there
-divisor_read : (v : ℕ) (d : Operand) (is : List Instr) → StandsIn d 1 (live (multiple v d is))
-divisor_read v (Constant w) is = tt
-divisor_read v (Variable x) is = tt
-divisor_read v InSlot is = fetch_reads 1 0 (Variable v) (Compute op.Divide 0 ∷ Compute op.Multiply 0 ∷ is) (omega arith) (λ e. omega (arith, e))
+multiple_read : (v : ℕ) (is : List Instr) → 1 < (live (multiple 0 v InSlot is)).slots
+multiple_read v is = fetch_reads 1 0 (Variable v) (Compute op.Divide 0 ∷ Compute op.Multiply 0 ∷ is) (omega arith) (λ e. omega (arith, e))
+
+divisor_read : (how : Divisibility) (v : ℕ) (d : Operand) (side : Side) (is : List Instr) → StandsIn d 1 (live (dividing how v d side is))
+divisor_read how v (Constant w) side is = tt
+divisor_read how v (Variable x) side is = tt
+divisor_read how v InSlot OnLeft is = multiple_read v (Hold ∷ Load 0 v ∷ LeaveUnless (compared how) ∷ is)
+divisor_read how v InSlot OnRight is =
+    let behind = multiple 0 v InSlot (LeaveUnless (compared how) ∷ is) in
+    fetch_reads 1 0 (Variable v) (Hold ∷ behind) (let lt = multiple_read v (LeaveUnless (compared how) ∷ is) in omega (arith, lt)) (λ e. omega (arith, e))
+
+-- ---- what its slot instructions do
+module _ (code : SlotCode) (n : ℕ) (how : Divisibility) (v : ℕ) (d : Operand) (side : Side) (s : State) (r : Slots) (all : length r.words ≡ 16) where
+  abbrev dividend : ℕ
+  dividend = slice_index s.vars v
+
+  abbrev divisor : ℕ
+  divisor = fetched s r 1 d
+
+  abbrev start : Slots
+  start = begun s r v side
+
+  start_length : length start.words ≡ 16
+  start_length = begun_length s r v side ∙ all
+
+  -- the slots behind the multiple
+  abbrev last : Slots
+  last = multiplied code n 0 v d s start start_length (omega arith)
+
+  last_length : length last.words ≡ 16
+  last_length = multiplied_length code n 0 v d s start start_length (omega arith)
+
+  -- up to the test, with some instructions behind it and some behind these
+  abbrev Next : Step SlotState → (js back : List Instr) → Type 0
+  Next z js back = steps code (dividing how v d side js) (line code n (dividing how v d side back) s r) ≡ z
+
+  begins : (js back : List Instr) (z : Step SlotState) → steps code (multiple 0 v d (test_before (compared how) (left_word side) (right_word v side) js)) (line code n (multiple 0 v d (spread_test (compared how) (left_word side) (right_word v side) back)) s start) ≡ z → Next z js back
+  begins js back z = by side
+    where
+      by : (side : Side) → steps code (multiple 0 v d (test_before (compared how) (left_word side) (right_word v side) js)) (line code n (multiple 0 v d (spread_test (compared how) (left_word side) (right_word v side) back)) s (begun s r v side)) ≡ z
+          → steps code (dividing how v d side js) (line code n (dividing how v d side back) s r) ≡ z
+      by OnLeft e = e
+      by OnRight e =
+          let ks = multiple 0 v d (LeaveUnless (compared how) ∷ js) in
+          let behind = multiple 0 v d (LeaveUnless (compared how) ∷ back) in
+          fetches code n 0 (Variable v) (Hold ∷ ks) (Hold ∷ behind) s r
+          ∙ acts code n Hold ks behind s s (with_word r 0 (slice_index s.vars v)) (begun s r v OnRight) refl
+          ∙ e
+
+  divides_next : (js back : List Instr) → divisor ≢ 0 → Next (steps code (test_before (compared how) (left_word side) (right_word v side) js) (line code n (spread_test (compared how) (left_word side) (right_word v side) back) s last)) js back
+  divides_next js back some =
+      begins js back (steps code (test_before (compared how) (left_word side) (right_word v side) js) (line code n (spread_test (compared how) (left_word side) (right_word v side) back) s last))
+      (multiple_next code n 0 v d s start start_length (omega arith) (test_before (compared how) (left_word side) (right_word v side) js) (spread_test (compared how) (left_word side) (right_word v side) back) (λ e. some (sym (divisor_begun s r v side d) ∙ e)))
+
+  -- by 0 it faults
+  divides_fails : (js back : List Instr) → divisor ≡ 0 → Next (Stops Faulted (fault_text 2 n)) js back
+  divides_fails js back zero =
+      begins js back (Stops Faulted (fault_text 2 n))
+      (multiple_fails code n 0 v d s start start_length (omega arith) (test_before (compared how) (left_word side) (right_word v side) js) (spread_test (compared how) (left_word side) (right_word v side) back) (divisor_begun s r v side d ∙ zero))
+
+  -- whether the product is the dividend
+  abbrev asked : Bool
+  asked = turned (leaves_on how) (nat_eq (magnitude dividend % magnitude divisor) 0)
+
+  abbrev product : ℕ
+  product = word (quotient dividend divisor * divisor)
+
+  product_is : slice_index last.words 0 ≡ product
+  product_is = product_stands code n 0 v d s start start_length (omega arith) ∙ ap (λ q. word (quotient dividend q * q)) (divisor_begun s r v side d)
+
+  -- the test's words are the product and the dividend, in the order of their side
+  swapped : (how : Divisibility) (p q : ℕ) → holds (compared how) p q ≡ holds (compared how) q p
+  swapped Divisible p q = same_either_way p q
+  swapped Indivisible p q = ap not (same_either_way p q)
+
+  words_are : holds (compared how) (tested_word s last (left_word side)) (fetched s last 0 (right_word v side)) ≡ holds (compared how) product dividend
+  words_are = by side product_is (held_stands code n 0 v d s start start_length (omega arith))
+    where
+      by : (side : Side) → slice_index (multiplied code n 0 v d s (begun s r v side) (begun_length s r v side ∙ all) (omega arith)).words 0 ≡ product → (multiplied code n 0 v d s (begun s r v side) (begun_length s r v side ∙ all) (omega arith)).held ≡ (begun s r v side).held
+          → holds (compared how) (tested_word s (multiplied code n 0 v d s (begun s r v side) (begun_length s r v side ∙ all) (omega arith)) (left_word side)) (fetched s (multiplied code n 0 v d s (begun s r v side) (begun_length s r v side ∙ all) (omega arith)) 0 (right_word v side)) ≡ holds (compared how) product dividend
+      by OnLeft e e' = ap (λ p. holds (compared how) p dividend) e
+      by OnRight e e' =
+          (λ i. holds (compared how) ((e' ∙ same_slot r 0 dividend (omega (arith, all))) i) (e i))
+          ∙ swapped how dividend product
+
+  holds_so : dividend < 65536 → divisor < 65536 → divisor ≢ 0 → (t : Bool) → asked ≡ t → holds (compared how) (tested_word s last (left_word side)) (fetched s last 0 (right_word v side)) ≡ t
+  holds_so small small' some t e = words_are ∙ by how ∙ e
+    where
+      same : nat_eq product dividend ≡ nat_eq (magnitude dividend % magnitude divisor) 0
+      same = multiple_is dividend divisor small small' some
+
+      by : (how : Divisibility) → holds (compared how) product dividend ≡ turned (leaves_on how) (nat_eq (magnitude dividend % magnitude divisor) 0)
+      by Divisible = same
+      by Indivisible = ap not same
 
 contrary_turned : (how : Divisibility) (t : Bool) → turned (leaves_on (contrary how)) t ≡ not (turned (leaves_on how) t)
 contrary_turned Divisible t = refl
 contrary_turned Indivisible true = refl
 contrary_turned Indivisible false = refl
 
+-- what is dead behind it is dead behind its test
+test_free : (how : Divisibility) (v : ℕ) (d : Operand) (side : Side) (to : Option ℕ) (u : Live) → omits_only_dead (Divides how v d side to) u ≡ true → test_words_dead (left_word side) (right_word v side) u ≡ true
+test_free how v d OnLeft to u free = free
+test_free how v d OnRight to u free = refl
+
 -- ---- the law
-module _ (ly : Layout) (f : Setup) (lo hi keys : ℕ) (fits : Fits f 16) (code : SlotCode) (same_numbers : numbers code ≡ ly.numbers) (limit : ℕ) (rs : Routines ly.table ly.seed ly.numbers ly.start f lo hi keys limit) (n : ℕ) (how : Divisibility) (v : ℕ) (d : Operand) (to : Option ℕ) (is : List Instr) (s : State) (r : Slots) (w : View) (h : Ready ly f lo hi keys fits n (Divides how v d to) (spread_divides how v d to is) is s r w) where
+module _ (ly : Layout) (f : Setup) (lo hi keys : ℕ) (fits : Fits f 16) (code : SlotCode) (same_numbers : numbers code ≡ ly.numbers) (limit : ℕ) (rs : Routines ly.table ly.seed ly.numbers ly.start f lo hi keys limit) (n : ℕ) (how : Divisibility) (v : ℕ) (d : Operand) (side : Side) (to : Option ℕ) (is : List Instr) (s : State) (r : Slots) (w : View) (h : Ready ly f lo hi keys fits n (Divides how v d side to) (spread_divides how v d side to is) is s r w) where
   abbrev js : List Instr
-  js = spread_divides how v d to is
+  js = spread_divides how v d side to is
 
   abbrev x : ℕ
   x = slice_index s.vars v
@@ -171,29 +214,26 @@ module _ (ly : Layout) (f : Setup) (lo hi keys : ℕ) (fits : Fits f 16) (code :
   right = source_of 1 d
 
   -- slots at the end
-  abbrev last : Slots
-  last = multiplied code n how v d s r h.read.all_words
-
-  last_length : length last.words ≡ 16
-  last_length = multiplied_length code n how v d s r h.read.all_words
+  abbrev last_slots : Slots
+  last_slots = last code n how v d side s r h.read.all_words
 
   abbrev question : Bool
-  question = asked code n how v d s r h.read.all_words
+  question = asked code n how v d side s r h.read.all_words
 
   left_fits : OperandFits (Variable v)
-  left_fits = h.ranged.0.1
+  left_fits = (ranges how v d side (onward to) h.ranged).0
 
   right_fits : OperandFits d
-  right_fits = (range_fetch 1 d (Compute op.Divide 0 ∷ (fetch 1 d ++ Compute op.Multiply 0 ∷ (Hold ∷ Load 0 v ∷ LeaveUnless (compared how) ∷ onward to))) h.ranged.1).0
+  right_fits = (ranges how v d side (onward to) h.ranged).1
 
   left_holds : (m : ℕ → ℕ) → Kept ly f lo hi keys fits (live js) s r m → SourceHolds m left x
   left_holds m c = operand_held ly s (live js) r m 0 (Variable v) c.state c.read left_fits tt
 
   right_holds : (m : ℕ → ℕ) → Kept ly f lo hi keys fits (live js) s r m → SourceHolds m right y
-  right_holds m c = operand_held ly s (live js) r m 1 d c.state c.read right_fits (divisor_read v d (Hold ∷ Load 0 v ∷ LeaveUnless (compared how) ∷ (onward to ++ is)))
+  right_holds m c = operand_held ly s (live js) r m 1 d c.state c.read right_fits (divisor_read how v d side (onward to ++ is))
 
   first : Kept ly f lo hi keys fits (live js) s r w.mem
-  first = kept ly f lo hi keys fits n (Divides how v d to) js is s r w h
+  first = kept ly f lo hi keys fits n (Divides how v d side to) js is s r w h
 
   x_small : x < 65536
   x_small = (left_holds w.mem first).small
@@ -203,28 +243,38 @@ module _ (ly : Layout) (f : Setup) (lo hi keys : ℕ) (fits : Fits f 16) (code :
 
   -- at a place, with all that is live
   abbrev At : ℕ → View → Type 0
-  At = Led ly f lo hi keys fits limit rs n (Divides how v d to) js is s r w h left right x y (operand_apart 0 (Variable v) 0 (omega arith) (omega arith) left_fits) (operand_apart 0 (Variable v) LEFT (omega arith) (omega arith) left_fits) (operand_apart 1 d RIGHT (omega arith) (omega arith) right_fits) left_holds right_holds
+  At = Led ly f lo hi keys fits limit rs n (Divides how v d side to) js is s r w h left right x y (operand_apart 0 (Variable v) 0 (omega arith) (omega arith) left_fits) (operand_apart 0 (Variable v) LEFT (omega arith) (omega arith) left_fits) (operand_apart 1 d RIGHT (omega arith) (omega arith) right_fits) left_holds right_holds
 
   leads : (how' : Divisibility) (next : ℕ) → Lies f.code w.regs.pc (divided_code n w.regs.pc h.first how' left right next) → DividedReaches n w.regs.pc h.first left right next → y ≢ 0
       → Comes f w (At (cond (turned (leaves_on how') (nat_eq (magnitude x % magnitude y) 0)) (w.regs.pc + pieces_size (divided_code n w.regs.pc h.first how' left right next)) next)) [] (17 + limit)
-  leads how' next = divided_leads ly f lo hi keys fits limit rs n (Divides how v d to) js is s r w h left right x y (operand_apart 0 (Variable v) 0 (omega arith) (omega arith) left_fits) (operand_apart 0 (Variable v) LEFT (omega arith) (omega arith) left_fits) (operand_apart 1 d RIGHT (omega arith) (omega arith) right_fits) left_holds right_holds how' h.first next
+  leads how' next = divided_leads ly f lo hi keys fits limit rs n (Divides how v d side to) js is s r w h left right x y (operand_apart 0 (Variable v) 0 (omega arith) (omega arith) left_fits) (operand_apart 0 (Variable v) LEFT (omega arith) (omega arith) left_fits) (operand_apart 1 d RIGHT (omega arith) (omega arith) right_fits) left_holds right_holds how' h.first next
 
   abbrev pub Ends : Step SlotState → Type 0
   Ends z = Comes f w (Target ly f lo hi keys z) (sent_in z) (34 + (limit + limit))
 
   -- by 0
-  faults : (how' : Divisibility) (next : ℕ) → Lies f.code w.regs.pc (divided_code n w.regs.pc h.first how' left right next) → y ≡ 0 → (ks back : List Instr) → Ends (steps code (multiple v d ks) (line code n (multiple v d back) s r))
+  faults : (how' : Divisibility) (next : ℕ) → Lies f.code w.regs.pc (divided_code n w.regs.pc h.first how' left right next) → y ≡ 0 → (ks back : List Instr) → Ends (steps code (dividing how v d side ks) (line code n (dividing how v d side back) s r))
   faults how' next lies zero ks back =
-      subst Ends (sym (multiple_fails code n how v d s r h.read.all_words ks back zero))
+      subst Ends (sym (divides_fails code n how v d side s r h.read.all_words ks back zero))
       (looser f w _ _ (fault_text 2 n) (13 + limit) (34 + (limit + limit)) (omega arith) (λ u z. z)
-      (divided_fails ly f lo hi keys fits limit rs n (Divides how v d to) js is s r w h left right x y (operand_apart 0 (Variable v) 0 (omega arith) (omega arith) left_fits) (operand_apart 0 (Variable v) LEFT (omega arith) (omega arith) left_fits) (operand_apart 1 d RIGHT (omega arith) (omega arith) right_fits) left_holds right_holds how' h.first next lies zero))
+      (divided_fails ly f lo hi keys fits limit rs n (Divides how v d side to) js is s r w h left right x y (operand_apart 0 (Variable v) 0 (omega arith) (omega arith) left_fits) (operand_apart 0 (Variable v) LEFT (omega arith) (omega arith) left_fits) (operand_apart 1 d RIGHT (omega arith) (omega arith) right_fits) left_holds right_holds how' h.first next lies zero))
+
+  -- the words of its test
+  abbrev first_word : Tested
+  first_word = left_word side
+
+  abbrev second_word : Operand
+  second_word = right_word v side
+
+  free : test_words_dead first_word second_word (live is) ≡ true
+  free = test_free how v d side to (live is) h.free
 
   -- the slots behind it, of which nothing is live
   abbrev end_slots : Slots
-  end_slots = tested s last (HeldNow InSlot) (Variable v)
+  end_slots = tested s last_slots first_word second_word
 
   none_read : (m : ℕ → ℕ) → HoldsLive nothing_live end_slots m
-  none_read m = left_read s last (HeldNow InSlot) (Variable v) m last_length
+  none_read m = left_read s last_slots first_word second_word m (last_length code n how v d side s r h.read.all_words)
 
   end_read : (m : ℕ → ℕ) → HoldsLive (live is) end_slots m
   end_read m = subst (λ u. HoldsLive u end_slots m) (nothing_read (live is) h.free) (none_read m)
@@ -238,22 +288,22 @@ module _ (ly : Layout) (f : Setup) (lo hi keys : ℕ) (fits : Fits f 16) (code :
   abbrev rel : Rel
   rel = compared how
 
-  held_is : y ≢ 0 → holds rel (slice_index last.words 0) x ≡ question
-  held_is some = holds_so code n how v d s r h.read.all_words x_small y_small some question refl
+  held_is : y ≢ 0 → holds rel (tested_word s last_slots first_word) (fetched s last_slots 0 second_word) ≡ question
+  held_is some = holds_so code n how v d side s r h.read.all_words x_small y_small some question refl
 
   -- ---- that stays in the line
   abbrev here_code : List Piece
   here_code = divided_code n w.regs.pc h.first how left right (next_at ly n)
 
   stays : Lies f.code w.regs.pc here_code → DividedReaches n w.regs.pc h.first left right (next_at ly n) → GroupsLie ly f.code n (w.regs.pc + pieces_size here_code) (select is)
-      → Ends (steps code (expand (Divides how v d None)) (line code n (spread_divides how v d None is) s r))
+      → Ends (steps code (expand (Divides how v d side None)) (line code n (spread_divides how v d side None is) s r))
   stays lies reach rest = ⊎_elim
-      (λ zero. faults how (next_at ly n) lies zero (Hold ∷ Load 0 v ∷ LeaveUnless rel ∷ []) (Hold ∷ Load 0 v ∷ LeaveUnless rel ∷ is))
-      (λ some. subst Ends (sym (multiple_next code n how v d s r h.read.all_words (Hold ∷ Load 0 v ∷ LeaveUnless rel ∷ []) (Hold ∷ Load 0 v ∷ LeaveUnless rel ∷ is) some ∙ test_goes code n rel (HeldNow InSlot) (Variable v) is s last last_length h.free question (held_is some)))
+      (λ zero. faults how (next_at ly n) lies zero [] is)
+      (λ some. subst Ends (sym (divides_next code n how v d side s r h.read.all_words [] is some ∙ test_goes code n rel first_word second_word is s last_slots (last_length code n how v d side s r h.read.all_words) free question (held_is some)))
       (by question (leads how (next_at ly n) lies reach some)))
       (cases_eq y 0)
     where
-      by : (t : Bool) → Comes f w (At (cond t (w.regs.pc + pieces_size here_code) (next_at ly n))) [] (17 + limit) → Ends (branched code n rel (HeldNow InSlot) (Variable v) is s last t)
+      by : (t : Bool) → Comes f w (At (cond t (w.regs.pc + pieces_size here_code) (next_at ly n))) [] (17 + limit) → Ends (branched code n rel first_word second_word is s last_slots t)
       by true c =
           looser f w _ _ [] (17 + limit) (34 + (limit + limit)) (omega arith)
           (λ u a. stood ly f lo hi keys fits code n h.small is s end_slots (w.regs.pc + pieces_size here_code) u.mem w.text w.answers rest a.kept.state (end_read u.mem) a.kept.homed h.text h.answers h.short u a.here) c
@@ -266,20 +316,20 @@ module _ (ly : Layout) (f : Setup) (lo hi keys : ℕ) (fits : Fits f 16) (code :
     is_last = subst (GroupsLie ly f.code n (w.regs.pc + pieces_size (divided_go ly n w.regs.pc h.first how left right (has_line ly.numbers t) t))) (nil_from_length (select is) (eqb-true _ _ stands)) rest
 
     abbrev ks : List Instr
-    ks = Hold ∷ Load 0 v ∷ LeaveUnless rel ∷ JumpTo t ∷ []
+    ks = JumpTo t ∷ []
 
     abbrev back : List Instr
-    back = Hold ∷ Load 0 v ∷ LeaveUnless rel ∷ JumpTo t ∷ is
+    back = JumpTo t ∷ is
 
     abbrev outcome : (held found : Bool) → Step SlotState
-    outcome held found = gone_by code n rel (HeldNow InSlot) (Variable v) t is s last last_length h.free held found
+    outcome held found = gone_by code n rel first_word second_word t is s last_slots (last_length code n how v d side s r h.read.all_words) free held found
 
-    goes : y ≢ 0 → (found : Bool) → has_line ly.numbers t ≡ found → steps code (multiple v d ks) (line code n (multiple v d back) s r) ≡ outcome question found
+    goes : y ≢ 0 → (found : Bool) → has_line ly.numbers t ≡ found → steps code (dividing how v d side ks) (line code n (dividing how v d side back) s r) ≡ outcome question found
     goes some found e =
-        multiple_next code n how v d s r h.read.all_words ks back some
-        ∙ go_goes code n rel (HeldNow InSlot) (Variable v) t is s last last_length h.free question found (held_is some) (ap (λ ns. has_line ns t) same_numbers ∙ e)
+        divides_next code n how v d side s r h.read.all_words ks back some
+        ∙ go_goes code n rel first_word second_word t is s last_slots (last_length code n how v d side s r h.read.all_words) free question found (held_is some) (ap (λ ns. has_line ns t) same_numbers ∙ e)
 
-    by_line : (found : Bool) → has_line ly.numbers t ≡ found → Ends (steps code (multiple v d ks) (line code n (multiple v d back) s r))
+    by_line : (found : Bool) → has_line ly.numbers t ≡ found → Ends (steps code (dividing how v d side ks) (line code n (dividing how v d side back) s r))
     by_line true e = ⊎_elim
         (λ zero. faults (contrary how) (ly.start t) lies' zero ks back)
         (λ some. subst Ends (sym (goes some true e)) (by question
@@ -316,7 +366,7 @@ module _ (ly : Layout) (f : Setup) (lo hi keys : ℕ) (fits : Fits f 16) (code :
             (chained f w _ _ [] (fault_text 1 n) (17 + limit) (4 + limit) c (λ u a. faults_at ly f lo hi keys fits limit rs n 1 h.small (omega arith) (w.regs.pc + pieces_size here_code) u.mem w.text w.answers parts.1 a.kept.homed u a.here))
         by false c = looser f w _ _ [] (17 + limit) (34 + (limit + limit)) (omega arith) leaves c
 
-  by_to : (o : Option ℕ) → to ≡ o → Ends (steps code (expand (Divides how v d o)) (line code n (spread_divides how v d o is) s r))
+  by_to : (o : Option ℕ) → to ≡ o → Ends (steps code (expand (Divides how v d side o)) (line code n (spread_divides how v d side o is) s r))
   by_to None e =
       stays (subst (λ o. Lies f.code w.regs.pc (divides_code ly n w.regs.pc h.first how left right o)) e h.lies)
       (subst (λ o. DividesReach ly n w.regs.pc h.first left right o) e h.reach)
@@ -325,7 +375,7 @@ module _ (ly : Layout) (f : Setup) (lo hi keys : ℕ) (fits : Fits f 16) (code :
       by_line t (subst (λ o. Lies f.code w.regs.pc (divides_code ly n w.regs.pc h.first how left right o)) e h.lies)
       (subst (λ o. DividesReach ly n w.regs.pc h.first left right o) e h.reach)
       (subst (λ o. GroupsLie ly f.code n (w.regs.pc + pieces_size (divides_code ly n w.regs.pc h.first how left right o)) (select is)) e h.rest)
-      (subst (λ o. may_stand (Divides how v d o) (select is) ≡ true) e h.stands) (has_line ly.numbers t) refl
+      (subst (λ o. may_stand (Divides how v d side o) (select is) ≡ true) e h.stands) (has_line ly.numbers t) refl
 
-  pub divides_law : Ends (steps code (expand (Divides how v d to)) (line code n js s r))
+  pub divides_law : Ends (steps code (expand (Divides how v d side to)) (line code n js s r))
   divides_law = by_to to refl

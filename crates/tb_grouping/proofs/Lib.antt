@@ -29,6 +29,7 @@ pub mod Products
 pub mod Remainders
 pub mod LeftOver
 pub mod Stepping
+pub mod MultipleSide
 pub mod DividesLaws
 pub mod Moves
 pub mod Faults
