@@ -154,7 +154,7 @@ module _ (labels : List (Name × ℕ)) (ns : List ℕ) (known : Known labels ns)
   template_known n i a (SendText bs) h = text_known n i a bs h
   template_known n i a SendNumber h = tt
   template_known n i a SendZone h = (refl ▹ tt)
-  template_known n i a SendNewline h = (refl ▹ refl ▹ tt)
+  template_known n i a SendNewline h = (refl ▹ refl ▹ refl ▹ refl ▹ tt)
   template_known n i a (Input x) h = (refl ▹ refl ▹ refl ▹ refl ▹ refl ▹ tt)
   template_known n i a Poll h = (refl ▹ tt)
   template_known n i a Hold h = tt

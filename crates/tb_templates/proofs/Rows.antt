@@ -9,7 +9,7 @@ use Rattle.tb_syntax.specs.Source.{Number, Variable, Negate, Random, Value, Bina
 use Rattle.tb_lower.specs.Lowered as lowered
 use Rattle.tb_asm.specs.declared.items.Operand.TheVariants.{Byte}
 use Rattle.tb_asm.specs.Layout.{Entry, instr}
-use Rattle.tb_runtime16.specs.Places.{LEFT, DIVIDE_AT, RANDOM_AT, NUMBER_AT, SEND_AT, PUSH_AT, FAULT_LINE_AT}
+use Rattle.tb_runtime16.specs.Places.{LEFT, DIVIDE_AT, RANDOM_AT, NUMBER_AT, PUSH_AT, FAULT_LINE_AT}
 use Rattle.tb_templates.specs.declared.labels.Inner.TheVariants.{Skip}
 use Rattle.tb_templates.specs.declared.labels.Target.TheVariants.{Line, Inside}
 use Rattle.tb_templates.specs.Templates.{at, const, alone, branch, here, call, address, find, jump_through}
@@ -144,8 +144,14 @@ quotient : items 30 (Print (Value (Binary Divide (Variable 0) (Variable 1)) ∷ 
     ∷ const Lda 30 ∷ at Sta 0xC03A ∷ const Lda 0 ∷ at Sta 0xC03B
     ∷ at Lda 0xC000 ∷ page_zero Sta 0xFB ∷ at Lda 0xC001 ∷ page_zero Sta 0xFC ∷ at Lda 0xC002 ∷ page_zero Sta 0xFD ∷ at Lda 0xC003 ∷ page_zero Sta 0xFE ∷ call DIVIDE_AT
     ∷ page_zero Lda 0xFB ∷ at Sta 0xC040 ∷ page_zero Lda 0xFC ∷ at Sta 0xC041
-    ∷ at Lda 0xC040 ∷ page_zero Sta 0xFB ∷ at Lda 0xC041 ∷ page_zero Sta 0xFC ∷ call NUMBER_AT ∷ const Lda 13 ∷ call SEND_AT ∷ []
+    ∷ at Lda 0xC040 ∷ page_zero Sta 0xFB ∷ at Lda 0xC041 ∷ page_zero Sta 0xFC ∷ call NUMBER_AT ∷ const Lda 0 ∷ at Sta 0xC034 ∷ const Lda 13 ∷ call 0xFFD2 ∷ []
 quotient = refl
+
+-- 10 PRINT: the column is 0 behind a 13, which goes to the service that sends bytes
+newline : items 10 (Print [] true)
+    ≡ here (Line 10) ∷ call 0xFFE4 ∷ const Cmp 3 ∷ branch Bne (Inside Skip 10 0) ∷ const Ldx 10 ∷ const Ldy 0 ∷ const Lda 0 ∷ at Jmp FAULT_LINE_AT ∷ here (Inside Skip 10 0)
+    ∷ const Lda 0 ∷ at Sta 0xC034 ∷ const Lda 13 ∷ call 0xFFD2 ∷ []
+newline = refl
 
 -- 10 LET A=B/2: a negative word is raised by one first, and then shifted
 half : items 10 (Let 0 (Binary Divide (Variable 1) (Number 2)))
