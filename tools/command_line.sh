@@ -297,11 +297,11 @@ same built.prg plain.prg
 holds out.map "$(cat <<'END'
 part        addr   bytes    cost
 block       080D    1011      64
-line 10     0C00      45      65
-line 20     0C2D      47      36
-line_table  0C5C       8       0
-sum         080D    1111     165
-left        0C64   37788   37723
+line 10     0C00      50      65
+line 20     0C32      47      36
+line_table  0C61       8       0
+sum         080D    1116     165
+left        0C69   37783   37723
 END
 )\n"
 for name in wait forever warn both ask far; do beside $name; done

@@ -76,7 +76,7 @@ module _ (ly : Layout) (f : Setup) (lo hi keys : ℕ) (fits : Fits f 16) (limit 
     act_law (SendText t) a h = looser f w _ _ t (8 + limit) most (omega arith) (λ u x. x) (text_law ly f lo hi keys fits limit rs code n is s r w t h)
     act_law SendNumber a h = absurd (let no : ⊥ = cc in no)
     act_law SendZone a h = looser f w _ _ (zone s.column) (1 + limit) most (omega arith) (λ u x. x) (zone_law ly f lo hi keys fits limit rs code n is s r w h)
-    act_law SendNewline a h = looser f w _ _ (13 ∷ []) (2 + limit) most (omega arith) (λ u x. x) (newline_law ly f lo hi keys fits limit rs code n is s r w h)
+    act_law SendNewline a h = looser f w _ _ (13 ∷ []) 5 most (omega arith) (λ u x. x) (newline_law ly f lo hi keys fits limit rs code n is s r w h)
     act_law (Input x) a h = by_turn x h s.open_line refl (turn Nothing s.text) refl
     act_law Poll a h = by_answers h s.answers refl
     act_law Hold a h = absurd (let no : ⊥ = cc in no)

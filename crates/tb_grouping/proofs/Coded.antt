@@ -1,5 +1,5 @@
 -- The code of groups as instructions at their places.
-use Rattle.std.specs.Prelude.{◌≡◌, ℕ, zero, suc, ◌+◌, ◌/◌, ◌%◌, ◌≤◌, ◌<◌, List, [], ◌∷◌, ◌++◌, length, Bool, true, false, if◌then◌else◌, bit_xor, nat_eq, nat_lt, Option, Some, None}
+use Rattle.std.specs.Prelude.{◌≡◌, ℕ, zero, suc, ◌+◌, ◌/◌, ◌%◌, ◌≤◌, ◌<◌, List, [], ◌∷◌, ◌++◌, length, Bool, true, false, not, if◌then◌else◌, bit_xor, nat_eq, nat_lt, Option, Some, None}
 use Rattle.tb_asm.specs.Layout.{distance, is_near}
 use Rattle.tb_syntax.specs.Source.{numbers}
 use Rattle.tb_reaching.specs.View.{Part}
@@ -14,7 +14,12 @@ use Rattle.tb_lower.specs.Slots as slots
 use Rattle.tb_runtime16.specs.Places.{LEFT, RIGHT, RESULT, WANTED, LINE, NOTES, NOTE_LOW, NOTE_HIGH, MULTIPLY_AT, DIVIDE_AT, RANDOM_AT, NUMBER_AT, PUSH_AT, POP_AT}
 use Rattle.tb_templates.specs.declared.sources.Source.{Source}
 use Rattle.tb_templates.specs.declared.sources.Source.TheVariants.{FixedWord, AtPlace}
-use Rattle.tb_templates.specs.GroupTemplates.{may_fault, may_be_zero, may_have_none, is_zero}
+use Rattle.tb_templates.specs.GroupTemplates.{may_fault, may_be_zero, may_have_none}
+use Rattle.tb_templates.specs.declared.orders.Side.{Side}
+use Rattle.tb_templates.specs.declared.orders.Side.TheVariants.{Below, NotBelow}
+use Rattle.tb_templates.specs.declared.orders.Order.{Order}
+use Rattle.tb_templates.specs.declared.orders.Order.TheVariants.{BySign, ByConstant, ByDifference}
+use Rattle.tb_templates.specs.Orders.{order_of, wanted_side}
 use Rattle.tb_templates.specs.Scaled.{all_but_lowest, scaling, shifts}
 use Rattle.tb_templates.specs.declared.in_place.Change.{Change}
 use Rattle.tb_templates.specs.declared.in_place.Change.TheVariants.{Increment, Decrement, Raise, Lower, Halve, Double}
@@ -290,29 +295,47 @@ sign_code below first at a next = Code (lda (high a) ∷ []) ∷ Code (branch_co
 abbrev pub SignReaches : (first : Way) (at : ℕ) → Source → ℕ → Type 0
 SignReaches first at a next = BranchReaches first (at + size (lda (high a) ∷ [])) next
 
--- a test for order, by whether the right word is a constant 0
-abbrev pub order_by : Bool → Bool → (first second : Way) (at : ℕ) → Source → Source → ℕ → List Piece
-order_by true below first second at a b next = sign_code below first at a next
-order_by false below first second at a b next = weighing_code below first second at a b next
+-- a word compared with a constant, the highest bits of both turned: C is whether the word is not below
+abbrev pub lifted : Source → ℕ → List Instr
+lifted a w = lda (low a) ∷ cmp (Fixed (w % 256)) ∷ lda (high a) ∷ ins 0x49 128 ∷ sbc (Fixed ((w / 256 + 128) % 256)) ∷ []
 
-abbrev pub ReachesBy : Bool → (first second : Way) (at : ℕ) → Source → Source → ℕ → Type 0
-ReachesBy true first second at a b next = SignReaches first at a next
-ReachesBy false first second at a b next = WeighingReaches first second at a b next
+-- on to the next line where it is not below, or, where that is wanted, where it is
+abbrev pub against_code : Bool → (first : Way) (at : ℕ) → Source → ℕ → ℕ → List Piece
+against_code below first at a w next = Code (lifted a w) ∷ Code (branch_code first (branch_on Carry (not below)) (at + size (lifted a w)) next) ∷ []
 
-abbrev pub order_code : Bool → (first second : Way) (at : ℕ) → Source → Source → ℕ → List Piece
-order_code below first second at a b next = order_by (is_zero b) below first second at a b next
+abbrev pub AgainstReaches : (first : Way) (at : ℕ) → Source → ℕ → ℕ → Type 0
+AgainstReaches first at a w next = BranchReaches first (at + size (lifted a w)) next
+
+-- whether it is a word below another one that leaves, where a side is wanted
+abbrev pub leaves_below : Side → Bool
+leaves_below Below = false
+leaves_below NotBelow = true
+
+-- a test for order, by how it is told
+abbrev pub order_by : Order → Side → (first second : Way) (at next : ℕ) → List Piece
+order_by (BySign side a) wanted first second at next = sign_code (leaves_below (wanted_side wanted side)) first at a next
+order_by (ByConstant side a w) wanted first second at next = against_code (leaves_below (wanted_side wanted side)) first at a w next
+order_by (ByDifference a b) wanted first second at next = weighing_code (leaves_below wanted) first second at a b next
+
+abbrev pub ReachesBy : Order → (first second : Way) (at next : ℕ) → Type 0
+ReachesBy (BySign side a) first second at next = SignReaches first at a next
+ReachesBy (ByConstant side a w) first second at next = AgainstReaches first at a w next
+ReachesBy (ByDifference a b) first second at next = WeighingReaches first second at a b next
+
+abbrev pub order_code : Side → (first second : Way) (at : ℕ) → Source → Source → ℕ → List Piece
+order_code wanted first second at a b next = order_by (order_of a b) wanted first second at next
 
 abbrev pub OrderReaches : (first second : Way) (at : ℕ) → Source → Source → ℕ → Type 0
-OrderReaches first second at a b next = ReachesBy (is_zero b) first second at a b next
+OrderReaches first second at a b next = ReachesBy (order_of a b) first second at next
 
 -- a test by its relation
 abbrev pub test_code : Rel → (first second : Way) (at : ℕ) → Source → Source → ℕ → List Piece
 test_code rel.Eq first second at a b next = equality_code false first second at a b next
 test_code rel.Ne first second at a b next = equality_code true first second at a b next
-test_code rel.Lt first second at a b next = order_code false first second at a b next
-test_code rel.Ge first second at a b next = order_code true first second at a b next
-test_code rel.Gt first second at a b next = order_code false first second at b a next
-test_code rel.Le first second at a b next = order_code true first second at b a next
+test_code rel.Lt first second at a b next = order_code Below first second at a b next
+test_code rel.Ge first second at a b next = order_code NotBelow first second at a b next
+test_code rel.Gt first second at a b next = order_code Below first second at b a next
+test_code rel.Le first second at a b next = order_code NotBelow first second at b a next
 
 abbrev pub TestReaches : Rel → (first second : Way) (at : ℕ) → Source → Source → ℕ → Type 0
 TestReaches rel.Eq first second at a b next = EqualityReaches false first second at a b next

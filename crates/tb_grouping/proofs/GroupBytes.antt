@@ -1,5 +1,5 @@
 -- The bytes of groups, whatever the ways of their branches.
-use Rattle.std.proofs.Common.{◌≡◌, ℕ, ◌+◌, ◌/◌, ◌%◌, ◌≤◌, ◌<◌, Bool, true, false, ◌&&◌, List, [], ◌∷◌, ◌++◌, map, refl, sym, ap, ◌∙◌, subst, arith, Some, append_assoc, true≢false}
+use Rattle.std.proofs.Common.{not, ◌≡◌, ℕ, ◌+◌, ◌/◌, ◌%◌, ◌≤◌, ◌<◌, Bool, true, false, ◌&&◌, List, [], ◌∷◌, ◌++◌, map, refl, sym, ap, ◌∙◌, subst, arith, Some, append_assoc, true≢false}
 use Rattle.std.specs.Prelude.{zero, suc, ◌-◌, ◌^◌, if◌then◌else◌, nat_eq, nat_lt, unwrap_or, Option, None}
 use Rattle.std.proofs.lemmas.List.{append-nil}
 use Rattle.std.specs.List.{list_all}
@@ -38,18 +38,24 @@ use Rattle.tb_templates.specs.Sources.{source_of, tested_source, home_at, destin
 use Rattle.tb_templates.specs.Templates as product
 use Rattle.tb_templates.specs.Templates.{next_line}
 use Rattle.tb_templates.specs.GroupTemplates as items
+use Rattle.tb_templates.specs.Orders as orders
+use Rattle.tb_templates.specs.Orders.{order_of, wanted_side}
+use Rattle.tb_templates.specs.declared.orders.Side.{Side}
+use Rattle.tb_templates.specs.declared.orders.Side.TheVariants.{Below, NotBelow}
+use Rattle.tb_templates.specs.declared.orders.Order.{Order}
+use Rattle.tb_templates.specs.declared.orders.Order.TheVariants.{BySign, ByConstant, ByDifference}
 use Rattle.tb_templates.specs.Scaled as scaled
 use Rattle.tb_templates.specs.Scaled.{scaling, shifts}
 use Rattle.tb_templates.proofs.Factors.{IsScaling, by_right, by_left, by_routine, scaling_is, IsShifting, by_shifts, by_call, shifting_is}
 use Rattle.tb_templates.specs.Masks.{lowest_bits, mask}
 use Rattle.tb_templates.proofs.Divided.{IsMasking, by_bits, by_division, left_over_plain, masking_is}
-use Rattle.tb_templates.proofs.Plain.{plain_straight, times_plain, shifted_plain}
+use Rattle.tb_templates.proofs.Plain.{lifted_plain, plain_straight, times_plain, shifted_plain}
 use Rattle.tb_keeping.specs.Layout.{Layout, layout_of, next_at}
 use Rattle.tb_keeping.proofs.Resolved as resolved
 use Rattle.tb_keeping.proofs.Resolved.{Piece, Code, pieces_size, highest_code}
 use Rattle.tb_grouping.proofs.Sources.{lda, adc, sbc, cmp}
 use Rattle.tb_grouping.proofs.Coded as coded
-use Rattle.tb_grouping.proofs.Coded.{low, high, weighed, difference, Way, Short, Long, way_size, Zero, Overflow, Negative, BranchReaches, second_at, turned_at, test_code, TestReaches, group_code, BranchesReach}
+use Rattle.tb_grouping.proofs.Coded.{low, high, weighed, difference, Way, Short, Long, way_size, Flag, Zero, Overflow, Negative, Carry, BranchReaches, branch_code, branch_on, second_at, turned_at, test_code, TestReaches, group_code, BranchesReach}
 use Rattle.tb_grouping.proofs.Halves.{power_small}
 use Rattle.tb_grouping.proofs.Remainders.{mask_small}
 use Rattle.tb_grouping.proofs.Singles.{IsAlone}
@@ -314,6 +320,10 @@ module _ (labels : List (Name × ℕ)) where
   difference_bytes : (s t : Source) → IsWord s → IsWord t → AllMake (items.low_of Lda s ∷ items.low_of Cmp t ∷ items.high_of Lda s ∷ items.high_of Sbc t ∷ []) (difference s t)
   difference_bytes s t h k = lda_low s ▹ cmp_low t ▹ lda_high s h ▹ sbc_high t k ▹ none
 
+  lifted_bytes : (s : Source) (w : ℕ) → IsWord s → AllMake (orders.lifted s w) (coded.lifted s w)
+  unfolding opcodes.encoded
+  lifted_bytes s w h = lda_low s ▹ cmp_low (FixedWord w) ▹ lda_high s h ▹ record { same = λ a. refl } ▹ sbc_low (FixedWord (w / 256 + 128)) ▹ none
+
   -- ---- groups without a branch
   low_straight : (m : Mnemonic) (s : Source) → is_straight (items.low_of m s) ≡ true
   low_straight m (FixedWord w) = refl
@@ -570,36 +580,12 @@ module _ (labels : List (Name × ℕ)) where
         subst (Equality true at) (sym is)
         (equality true b1.way b2.way at skip tail r' (label_here _ skip [] end) (let q = end.below in omega (arith, q)) (labelled labels skip (ends labels)))
 
-    -- ---- order, by whether the right word is a constant 0
-    pub record Order (zero below : Bool) (at : ℕ) (fs : List Form) : Type 0 where
+    -- ---- order, by the difference of both
+    pub record Weighing (below : Bool) (at : ℕ) (fs : List Form) : Type 0 where
       pub first : Way
       pub second : Way
-      pub emits : Emits labels at fs (coded.order_by zero below first second at a b next)
-      pub reach : coded.ReachesBy zero first second at a b next
-
-    abbrev sign : List Entry
-    sign = items.high_of Lda a ∷ []
-
-    sign_straight : list_all is_straight sign ≡ true
-    sign_straight = λ i. high_straight Lda a i && true
-
-    sign_bytes : AllMake sign (lda (high a) ∷ [])
-    sign_bytes = lda_high a a_word ▹ none
-
-    sign_emitted : (below : Bool) (at : ℕ) (fs : List Form) → AreFormsOf (sign ++ (instr (branch_by Negative below) Relative (Label leaves) ∷ [])) fs → Rest at fs → Order true below at fs
-    sign_emitted below at fs h r =
-        let c1 = cut sign (instr (branch_by Negative below) Relative (Label leaves) ∷ []) fs sign_straight h in
-        let b1 = cut_branch (branch_by Negative below) leaves [] c1.rest c1.of in
-        let is : fs ≡ map kept sign ++ (formed b1.way (branch_by Negative below) leaves ∷ []) =
-        c1.is ∙ ap (λ t. map kept sign ++ t) (b1.is ∙ ap (λ t. formed b1.way (branch_by Negative below) leaves ∷ t) (no_more b1.rest b1.of)) in
-        let r1 = behind_straight at sign (lda (high a) ∷ []) _ sign_bytes (subst (Rest at) is r) in
-        subst (Order true below at) (sym is)
-        (record {
-          first = b1.way;
-          second = Short;
-          emits = block labels sign (lda (high a) ∷ []) (sign_bytes.same at) (branches labels b1.way Negative below leaves (let q = r1.below in omega (arith, q)) (value_of leaves next there) (ends labels));
-          reach = gets_there _ next b1.way (branch_by Negative below) leaves _ there top r1;
-        })
+      pub emits : Emits labels at fs (coded.weighing_code below first second at a b next)
+      pub reach : coded.WeighingReaches first second at a b next
 
     abbrev turn : List Entry
     turn = product.const Eor 128 ∷ []
@@ -625,7 +611,7 @@ module _ (labels : List (Name × ℕ)) where
       o4 : Rest (turned_at first at a b) (formed second (branch_by Negative below) leaves ∷ [])
       o4 = behind_label _ skip _ o3
 
-      order : Order false below at (order_forms below first second skip)
+      order : Weighing below at (order_forms below first second skip)
       order =
           let h = label_here _ skip _ o3 in record {
             first = first;
@@ -641,8 +627,8 @@ module _ (labels : List (Name × ℕ)) where
             );
           }
 
-    weighing_emitted : (below : Bool) (at : ℕ) (skip : Name) (fs : List Form)
-        → AreFormsOf (both_pairs ++ (instr Bvc Relative (Label skip) ∷ ((product.const Eor 128 ∷ label skip ∷ []) ++ (instr (branch_by Negative below) Relative (Label leaves) ∷ [])))) fs → Rest at fs → Order false below at fs
+    pub weighing_emitted : (below : Bool) (at : ℕ) (skip : Name) (fs : List Form)
+        → AreFormsOf (both_pairs ++ (instr Bvc Relative (Label skip) ∷ ((product.const Eor 128 ∷ label skip ∷ []) ++ (instr (branch_by Negative below) Relative (Label leaves) ∷ [])))) fs → Rest at fs → Weighing below at fs
     weighing_emitted below at skip fs h r =
         let c1 = cut both_pairs (instr Bvc Relative (Label skip) ∷ ((product.const Eor 128 ∷ label skip ∷ []) ++ (instr (branch_by Negative below) Relative (Label leaves) ∷ []))) fs both_straight h in
         let b1 = cut_branch Bvc skip ((product.const Eor 128 ∷ label skip ∷ []) ++ (instr (branch_by Negative below) Relative (Label leaves) ∷ [])) c1.rest c1.of in
@@ -650,12 +636,84 @@ module _ (labels : List (Name × ℕ)) where
         let b2 = cut_branch (branch_by Negative below) leaves [] c2.rest c2.of in
         let is : fs ≡ order_forms below b1.way b2.way skip =
         c1.is ∙ ap (λ t. map kept both_pairs ++ t) (b1.is ∙ ap (λ t. formed b1.way Bvc skip ∷ t) (c2.is ∙ ap (λ t. kept (product.const Eor 128) ∷ kept (label skip) ∷ t) (b2.is ∙ ap (λ t. formed b2.way (branch_by Negative below) leaves ∷ t) (no_more b2.rest b2.of)))) in
-        subst (Order false below at) (sym is) (order below b1.way b2.way at skip (subst (Rest at) is r))
+        subst (Weighing below at) (sym is) (order below b1.way b2.way at skip (subst (Rest at) is r))
 
-    pub order_emitted : (zero below : Bool) (at : ℕ) (skip : Name) (fs : List Form)
-        → AreFormsOf (if zero then sign ++ (instr (branch_by Negative below) Relative (Label leaves) ∷ []) else both_pairs ++ (instr Bvc Relative (Label skip) ∷ ((product.const Eor 128 ∷ label skip ∷ []) ++ (instr (branch_by Negative below) Relative (Label leaves) ∷ [])))) fs → Rest at fs → Order zero below at fs
-    order_emitted true below at skip fs h r = sign_emitted below at fs h r
-    order_emitted false below at skip fs h r = weighing_emitted below at skip fs h r
+  -- ---- order, by how it is told
+  module _ (to : ℕ) (goal : Target) (there : address_in labels (label_of goal) ≡ Some to) (top : to ≤ highest_code) where
+    -- code without a branch, and one behind it
+    record Ended (is : List Instr) (which : Flag) (wanted : Bool) (at : ℕ) (fs : List Form) : Type 0 where
+      first : Way
+      emits : Emits labels at fs (Code is ∷ Code (branch_code first (branch_on which wanted) (at + resolved.size is) to) ∷ [])
+      reach : BranchReaches first (at + resolved.size is) to
+
+    ended : (es : List Entry) (is : List Instr) (which : Flag) (wanted : Bool) (at : ℕ) (fs : List Form) → list_all is_straight es ≡ true → AllMake es is
+        → AreFormsOf (es ++ (product.branch (branch_by which wanted) goal ∷ [])) fs → Rest at fs → Ended is which wanted at fs
+    ended es is which wanted at fs straight makes h r =
+        let l = label_of goal in
+        let n = branch_by which wanted in
+        let c1 = cut es (instr n Relative (Label l) ∷ []) fs straight h in
+        let b1 = cut_branch n l [] c1.rest c1.of in
+        let cuts : fs ≡ map kept es ++ (formed b1.way n l ∷ []) = c1.is ∙ ap (λ t. map kept es ++ t) (b1.is ∙ ap (λ t. formed b1.way n l ∷ t) (no_more b1.rest b1.of)) in
+        let r1 = behind_straight at es is _ makes (subst (Rest at) cuts r) in
+        subst (Ended is which wanted at) (sym cuts)
+        (record {
+          first = b1.way;
+          emits = block labels es is (makes.same at) (branches labels b1.way which wanted l (let q = r1.below in omega (arith, q)) (value_of l to there) (ends labels));
+          reach = gets_there _ to b1.way n l _ there top r1;
+        })
+
+    sign_emitted : (side : Side) (s : Source) (at : ℕ) (fs : List Form) → IsWord s → AreFormsOf (orders.signed side s goal) fs → Rest at fs → Ended (lda (high s) ∷ []) Negative (coded.leaves_below side) at fs
+    sign_emitted Below s at fs h f r = ended (items.high_of Lda s ∷ []) (lda (high s) ∷ []) Negative false at fs (λ i. high_straight Lda s i && true) (lda_high s h ▹ none) f r
+    sign_emitted NotBelow s at fs h f r = ended (items.high_of Lda s ∷ []) (lda (high s) ∷ []) Negative true at fs (λ i. high_straight Lda s i && true) (lda_high s h ▹ none) f r
+
+    lifted_emitted : (side : Side) (s : Source) (w at : ℕ) (fs : List Form) → IsWord s → AreFormsOf (orders.lifted s w ++ (product.branch (orders.unless_carry side) goal ∷ [])) fs → Rest at fs
+        → Ended (coded.lifted s w) Carry (not (coded.leaves_below side)) at fs
+    lifted_emitted Below s w at fs h f r = ended (orders.lifted s w) (coded.lifted s w) Carry true at fs (plain_straight (orders.lifted s w) (lifted_plain s w)) (lifted_bytes s w h) f r
+    lifted_emitted NotBelow s w at fs h f r = ended (orders.lifted s w) (coded.lifted s w) Carry false at fs (plain_straight (orders.lifted s w) (lifted_plain s w)) (lifted_bytes s w h) f r
+
+    -- the words of an order
+    abbrev AreWords : Order → Type 0
+    AreWords (BySign side s) = IsWord s
+    AreWords (ByConstant side s w) = IsWord s
+    AreWords (ByDifference s t) = IsWord s × IsWord t
+
+    against_words : (side : Side) (s : Source) (w : ℕ) → IsWord s → AreWords (orders.against side s w)
+    against_words side s w h = by (nat_eq w 0)
+      where
+        by : (t : Bool) → AreWords (if t then BySign side s else ByConstant side s w)
+        by true = h
+        by false = h
+
+    order_words : (s t : Source) → IsWord s → IsWord t → AreWords (order_of s t)
+    order_words s (FixedWord w) h k = against_words Below s w h
+    order_words (FixedWord v) (AtPlace q) h k = by (nat_eq v 32767)
+      where
+        by : (t : Bool) → AreWords (if t then ByDifference (FixedWord v) (AtPlace q) else orders.against NotBelow (AtPlace q) ((v + 1) % 65536))
+        by true = (h, k)
+        by false = against_words NotBelow (AtPlace q) ((v + 1) % 65536) k
+    order_words (AtPlace p) (AtPlace q) h k = (h, k)
+
+    pub record OrderEmitted (order : Order) (wanted : Side) (at : ℕ) (fs : List Form) : Type 0 where
+      pub first : Way
+      pub second : Way
+      pub emits : Emits labels at fs (coded.order_by order wanted first second at to)
+      pub reach : coded.ReachesBy order first second at to
+
+    weighed_emitted : (wanted : Side) (s t : Source) (skip : Target) (at : ℕ) (fs : List Form) (h : IsWord s) (k : IsWord t) → AreFormsOf (orders.weighed wanted s t skip goal) fs → Rest at fs
+        → Weighing s t h k to (label_of goal) there top (coded.leaves_below wanted) at fs
+    weighed_emitted Below s t skip at fs h k f r = weighing_emitted s t h k to (label_of goal) there top false at (label_of skip) fs f r
+    weighed_emitted NotBelow s t skip at fs h k f r = weighing_emitted s t h k to (label_of goal) there top true at (label_of skip) fs f r
+
+    order_emitted : (order : Order) (wanted : Side) (skip : Target) (at : ℕ) (fs : List Form) → AreWords order → AreFormsOf (orders.ordered_by order wanted skip goal) fs → Rest at fs → OrderEmitted order wanted at fs
+    order_emitted (BySign side s) wanted skip at fs h f r =
+        let e = sign_emitted (wanted_side wanted side) s at fs h f r in record { first = e.first; second = Short; emits = e.emits; reach = e.reach }
+    order_emitted (ByConstant side s w) wanted skip at fs h f r =
+        let e = lifted_emitted (wanted_side wanted side) s w at fs h f r in record { first = e.first; second = Short; emits = e.emits; reach = e.reach }
+    order_emitted (ByDifference s t) wanted skip at fs h f r =
+        let e = weighed_emitted wanted s t skip at fs h.0 h.1 f r in record { first = e.first; second = e.second; emits = e.emits; reach = e.reach }
+
+    pub compared_emitted : (s t : Source) (wanted : Side) (skip : Target) (at : ℕ) (fs : List Form) → IsWord s → IsWord t → AreFormsOf (orders.ordered wanted s t skip goal) fs → Rest at fs → OrderEmitted (order_of s t) wanted at fs
+    compared_emitted s t wanted skip at fs h k f r = order_emitted (order_of s t) wanted skip at fs (order_words s t h k) f r
 
 -- ---- groups
 -- forms that emit a test whose branches go to a place, by their ways, which reach
@@ -740,16 +798,16 @@ module _ (labels : List (Name × ℕ)) (ns : List ℕ) (seed n : ℕ) (seed_smal
           let e = unequal_emitted labels (tested_source x) (source_of 0 b) (tested_word labels x) (source_word labels 0 b) to (label_of goal) goal_there goal_top at (label_of skip) fs h r in
           record { first = e.first; second = e.second; emits = e.emits; reach = e.reach }
       tested_emitted rel.Lt at x b fs h r =
-          let e = order_emitted labels (tested_source x) (source_of 0 b) (tested_word labels x) (source_word labels 0 b) to (label_of goal) goal_there goal_top (items.is_zero (source_of 0 b)) false at (label_of skip) fs h r in
+          let e = compared_emitted labels to goal goal_there goal_top (tested_source x) (source_of 0 b) Below skip at fs (tested_word labels x) (source_word labels 0 b) h r in
           record { first = e.first; second = e.second; emits = e.emits; reach = e.reach }
       tested_emitted rel.Ge at x b fs h r =
-          let e = order_emitted labels (tested_source x) (source_of 0 b) (tested_word labels x) (source_word labels 0 b) to (label_of goal) goal_there goal_top (items.is_zero (source_of 0 b)) true at (label_of skip) fs h r in
+          let e = compared_emitted labels to goal goal_there goal_top (tested_source x) (source_of 0 b) NotBelow skip at fs (tested_word labels x) (source_word labels 0 b) h r in
           record { first = e.first; second = e.second; emits = e.emits; reach = e.reach }
       tested_emitted rel.Gt at x b fs h r =
-          let e = order_emitted labels (source_of 0 b) (tested_source x) (source_word labels 0 b) (tested_word labels x) to (label_of goal) goal_there goal_top (items.is_zero (tested_source x)) false at (label_of skip) fs h r in
+          let e = compared_emitted labels to goal goal_there goal_top (source_of 0 b) (tested_source x) Below skip at fs (source_word labels 0 b) (tested_word labels x) h r in
           record { first = e.first; second = e.second; emits = e.emits; reach = e.reach }
       tested_emitted rel.Le at x b fs h r =
-          let e = order_emitted labels (source_of 0 b) (tested_source x) (source_word labels 0 b) (tested_word labels x) to (label_of goal) goal_there goal_top (items.is_zero (tested_source x)) true at (label_of skip) fs h r in
+          let e = compared_emitted labels to goal goal_there goal_top (source_of 0 b) (tested_source x) NotBelow skip at fs (source_word labels 0 b) (tested_word labels x) h r in
           record { first = e.first; second = e.second; emits = e.emits; reach = e.reach }
 
     -- a fault in line n

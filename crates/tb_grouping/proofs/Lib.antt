@@ -21,6 +21,7 @@ pub mod TestSide
 pub mod Whereto
 pub mod Tests
 pub mod SignedOrder
+pub mod Lifted
 pub mod Orders
 pub mod TestLaws
 pub mod Beginnings

@@ -2,19 +2,21 @@
 use Rattle.std.proofs.Common.{◌≡◌, ℕ, ◌+◌, ◌-◌, ◌/◌, ◌%◌, ◌≤◌, List, [], ◌∷◌, length, refl, ap, ◌∙◌, subst, arith, append-nil}
 use Rattle.std.specs.Prelude.{replicate}
 use Rattle.tb_words.specs.Words.{digits_of}
+use Rattle.tb_kernal.specs.declared.places.Service.TheVariants.{Chrout}
 use Rattle.tb_lower.specs.Control.{State, column_after, zone}
 use Rattle.tb_lower.specs.Slots.{Instr, SendText, SendNumber, SendZone, SendNewline, Slots, SlotCode}
 use Rattle.tb_memmap.specs.Bytes.{with_byte}
 use Rattle.tb_reaching.proofs.Comes.{chained, looser}
 use Rattle.tb_reaching.proofs.Memory.{put_other}
 use Rattle.tb_reaching.proofs.Placed.{along}
+use Rattle.tb_reaching.proofs.Services.{served_last}
 use Rattle.tb_reaching.specs.View.{Bytes, Comes, Fits, Setup, View, back_at, view}
 use Rattle.tb_runtime16.specs.Routines.{Here, Moves, Routines, Told}
-use Rattle.tb_runtime16.specs.Places.{COLUMN, LEFT, LENGTH, NUMBER_AT, SEND_AT, TEXT_AT, ZONE_AT}
+use Rattle.tb_runtime16.specs.Places.{COLUMN, LEFT, LENGTH, NUMBER_AT, TEXT_AT, ZONE_AT}
 use Rattle.tb_keeping.specs.Layout.{Layout}
 use Rattle.tb_keeping.proofs.Frames.{word_put}
 use Rattle.tb_keeping.proofs.Pieces.{calls, jumps, put_word, whatever}
-use Rattle.tb_keeping.proofs.Resolved.{byte_call, highest_code, size, text_call}
+use Rattle.tb_keeping.proofs.Resolved.{highest_code, newline, size, text_call}
 use Rattle.tb_keeping.proofs.Returning.{apart, behind_call, moved, told_here}
 use Rattle.tb_selection.specs.Groups.{AsNumber, Group, Operand, Single, Use}
 use Rattle.tb_selection.specs.Liveness.{live}
@@ -29,6 +31,10 @@ use Rattle.tb_grouping.proofs.Ready.{Ready, here, stood}
 use Rattle.tb_grouping.proofs.SlotSide.{fetched, line, with_fetched}
 use Rattle.tb_grouping.proofs.Sources.{value}
 use Rattle.tb_grouping.proofs.Sums.{brings}
+
+-- the address of the last byte of a carriage return's code
+abbrev last : ℕ → ℕ
+last at = (((((at + 2) % 65536 + 3) % 65536 + 2) % 65536 + 3) % 65536 + 65535) % 65536
 
 module _ (ly : Layout) (f : Setup) (lo hi keys : ℕ) (fits : Fits f 16) (limit : ℕ) (rs : Routines ly.table ly.seed ly.numbers ly.start f lo hi keys limit) (code : SlotCode) (n : ℕ) (is : List Instr) (s : State) (r : Slots) (w : View) where
   abbrev own : List ℕ
@@ -45,16 +51,17 @@ module _ (ly : Layout) (f : Setup) (lo hi keys : ℕ) (fits : Fits f 16) (limit 
       stood ly f lo hi keys fits code n h.small is (sent t) r' at v.mem w.text w.answers rest c'.state (read v.mem c'.read) c'.homed h.text h.answers h.short v
       (told_here ly f lo hi keys fits back at m t w.text w.answers v q e)
 
-  pub newline_law : Ready ly f lo hi keys fits n (Single SendNewline) (SendNewline ∷ is) is s r w → Comes f w (Matches ly f lo hi keys (line code n is (sent (13 ∷ [])) r)) (13 ∷ []) (2 + limit)
+  -- COLUMN is 0, and the service sends a 13
+  pub newline_law : Ready ly f lo hi keys fits n (Single SendNewline) (SendNewline ∷ is) is s r w → Comes f w (Matches ly f lo hi keys (line code n is (sent (13 ∷ [])) r)) (13 ∷ []) 5
   newline_law h =
-      whatever f 16 fits w.regs.pc own w.mem w.text w.answers _ (13 ∷ []) (2 + limit) (λ a x y n' v i z c'.
-      along f 16 fits (byte_call SEND_AT 13) w.regs.pc (view a x y n' v i z c' w.regs.pc own w.mem w.text w.answers) _ _ (13 ∷ []) limit h.lies.1 (refl, refl, (refl, refl, tt)) refl
-      (looser f _ _ _ (13 ∷ []) limit limit (omega arith)
-      (told_lands _ _ h r (λ m k. k) (13 ∷ []) (w.regs.pc + 5) _ w.mem h.rest (kept ly f lo hi keys fits n _ _ is s r w h) (returns_to w.regs.pc h.lies.0))
-      (rs.send _ _ w.mem w.text w.answers 13 (omega arith) _ (record { here = record { pc = refl; stack = refl; binary = refl; mem = refl; text = refl; answers = refl }; number = refl })))) w (here ly f lo hi keys fits w [] [] h.stack h.binary)
+      whatever f 16 fits w.regs.pc own w.mem w.text w.answers _ (13 ∷ []) 5 (λ a x y n' v i z c'.
+      along f 16 fits newline w.regs.pc (view a x y n' v i z c' w.regs.pc own w.mem w.text w.answers) _ _ (13 ∷ []) 1 h.lies.1 (refl, refl, (refl, refl, (refl, refl, (refl, refl, tt)))) refl
+      (served_last f 16 fits Chrout _ _ _ _ _ refl refl refl refl (λ j.
+      told_lands _ _ h r (λ m k. k) (13 ∷ []) (w.regs.pc + 10) _ w.mem h.rest (kept ly f lo hi keys fits n _ _ is s r w h) (returns_to w.regs.pc h.lies.0) _
+      (record { pc = refl; stack = refl; binary = refl; text = refl; answers = refl; column = refl; others = λ a o other. put_other w.mem COLUMN 0 a other })))) w (here ly f lo hi keys fits w [] [] h.stack h.binary)
     where
-      returns_to : (at : ℕ) → at + 5 ≤ highest_code → back_at ((((at + 2) % 65536 + 3) % 65536 + 65535) % 65536 % 256) ((((at + 2) % 65536 + 3) % 65536 + 65535) % 65536 / 256) ≡ at + 5
-      returns_to at b = let e : (((at + 2) % 65536 + 3) % 65536 + 65535) % 65536 ≡ at + 4 = omega arith in ap (λ p. back_at (p % 256) (p / 256)) e ∙ (let e' : back_at ((at + 4) % 256) ((at + 4) / 256) ≡ at + 5 = omega arith in e')
+      returns_to : (at : ℕ) → at + 10 ≤ highest_code → back_at (last at % 256) (last at / 256) ≡ at + 10
+      returns_to at b = let e : last at ≡ at + 9 = omega arith in ap (λ p. back_at (p % 256) (p / 256)) e ∙ (let e' : back_at ((at + 9) % 256) ((at + 9) / 256) ≡ at + 10 = omega arith in e')
 
   -- from the call of Text on
   text_sent : (t : List ℕ) (h : Ready ly f lo hi keys fits n (Single (SendText t)) (SendText t ∷ is) is s r w) (low high : ℕ) → back_at low high ≡ w.regs.pc + 16 → (m : ℕ → ℕ) → Kept ly f lo hi keys fits (live is) s r m → m 0xFB ≡ (w.regs.pc + 19) % 256 → m 0xFC ≡ (w.regs.pc + 19) / 256 → m LENGTH ≡ length t → Moves f (Here TEXT_AT (low ∷ high ∷ own) m w.text w.answers) (Matches ly f lo hi keys (line code n is (sent t) r)) t (limit + 1)

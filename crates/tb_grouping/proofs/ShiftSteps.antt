@@ -69,7 +69,7 @@ module _ (f : Setup) (room : ℕ) (fits : Fits f room) (at : ℕ) (bs : List ℕ
   masks b a c r st = whatever_known f room fits at a c bs m keys gets _ [] 1 (λ x y n v i z.
       placed_last f room fits (ins 0x29 b) (view a x y n v i z c at bs m keys gets) _ _ small st refl (record { here = record { pc = let e : (at + 2) % 65536 ≡ at + 2 = omega arith in e; stack = refl; binary = refl; mem = refl; text = refl; answers = refl }; number = refl; carry = refl }))
 
-  turns : (b a : ℕ) (c : Bool) → at + 2 ≤ highest_code → Bytes f.code at (instr_bytes (ins 0x49 b)) → Moves f (Known at a c bs m keys gets) (Known (at + 2) (bit_xor a b) c bs m keys gets) [] 1
+  pub turns : (b a : ℕ) (c : Bool) → at + 2 ≤ highest_code → Bytes f.code at (instr_bytes (ins 0x49 b)) → Moves f (Known at a c bs m keys gets) (Known (at + 2) (bit_xor a b) c bs m keys gets) [] 1
   turns b a c r st = whatever_known f room fits at a c bs m keys gets _ [] 1 (λ x y n v i z.
       placed_last f room fits (ins 0x49 b) (view a x y n v i z c at bs m keys gets) _ _ small st refl (record { here = record { pc = let e : (at + 2) % 65536 ≡ at + 2 = omega arith in e; stack = refl; binary = refl; mem = refl; text = refl; answers = refl }; number = refl; carry = refl }))
 

@@ -26,6 +26,7 @@ use Rattle.tb_selection.specs.GroupSteps.{steps}
 use Rattle.tb_selection.specs.Liveness.{live}
 use Rattle.tb_selection.specs.Select.{select, test_words_dead}
 use Rattle.tb_templates.specs.declared.sources.Source.{Source}
+use Rattle.tb_templates.specs.declared.orders.Side.TheVariants.{Below, NotBelow}
 use Rattle.tb_templates.specs.Sources.{source_of, tested_source}
 use Rattle.tb_grouping.proofs.Coded.{EqualityReaches, GoReaches, GroupsLie, TestReaches, Way, equality_code, go_code, group_code, test_code}
 use Rattle.tb_grouping.proofs.Faults.{faults_at}
@@ -61,10 +62,10 @@ module _ (f : Setup) (room : ℕ) (fits : Fits f room) (at : ℕ) (bs : List ℕ
   pub tests : (rel : Rel) → Tests rel
   tests rel.Eq lies reach = by_equality false lies reach
   tests rel.Ne lies reach = by_equality true lies reach
-  tests rel.Lt lies reach = tests_order f room fits at bs m keys gets small a b x y ga gb ha hb false first second next lies reach
-  tests rel.Ge lies reach = tests_order f room fits at bs m keys gets small a b x y ga gb ha hb true first second next lies reach
-  tests rel.Gt lies reach = tests_order f room fits at bs m keys gets small b a y x gb ga hb ha false first second next lies reach
-  tests rel.Le lies reach = tests_order f room fits at bs m keys gets small b a y x gb ga hb ha true first second next lies reach
+  tests rel.Lt lies reach = tests_order f room fits at bs m keys gets small a b x y ga gb ha hb Below first second next lies reach
+  tests rel.Ge lies reach = tests_order f room fits at bs m keys gets small a b x y ga gb ha hb NotBelow first second next lies reach
+  tests rel.Gt lies reach = tests_order f room fits at bs m keys gets small b a y x gb ga hb ha Below first second next lies reach
+  tests rel.Le lies reach = tests_order f room fits at bs m keys gets small b a y x gb ga hb ha NotBelow first second next lies reach
 
 not_not : (t : Bool) → t ≡ not (not t)
 not_not true = refl

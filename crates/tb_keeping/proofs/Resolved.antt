@@ -6,7 +6,7 @@ use Rattle.tb_reaching.proofs.Instr.{Instr, ins, Stands, instr_bytes}
 use Rattle.tb_words.specs.Words.{word}
 use Rattle.tb_lower.specs.Control.{has_line, highest}
 use Rattle.tb_lower.specs.Slots as slots
-use Rattle.tb_runtime16.specs.Places.{POINTER, RESULT, TABLE, COUNT, LENGTH, SEND_AT, TEXT_AT, ZONE_AT, INPUT_AT, SEARCH_AT, FAULT_LINE_AT, POLL_AT}
+use Rattle.tb_runtime16.specs.Places.{POINTER, RESULT, TABLE, COUNT, LENGTH, COLUMN, CHROUT, TEXT_AT, ZONE_AT, INPUT_AT, SEARCH_AT, FAULT_LINE_AT, POLL_AT}
 use Rattle.tb_templates.specs.Templates.{var_at, slot_at}
 use Rattle.tb_runtime16.specs.Laws.{AllBytes}
 use Rattle.tb_keeping.specs.Layout.{Layout}
@@ -53,8 +53,9 @@ abbrev pub text_call : ℕ → ℕ → ℕ → List Instr
 text_call routine text n =
     ins 0xA9 (text % 256) ∷ ins 0x85 POINTER ∷ ins 0xA9 (text / 256) ∷ ins 0x85 0xFC ∷ ins 0xA9 n ∷ ins 0x8D LENGTH ∷ ins 0x20 routine ∷ []
 
-abbrev pub byte_call : ℕ → ℕ → List Instr
-byte_call routine b = ins 0xA9 b ∷ ins 0x20 routine ∷ []
+-- a 13 is sent, and COLUMN is 0
+abbrev pub newline : List Instr
+newline = ins 0xA9 0 ∷ ins 0x8D COLUMN ∷ ins 0xA9 13 ∷ ins 0x20 CHROUT ∷ []
 
 -- ---- templates
 pub data Piece : Type 0 where
@@ -89,7 +90,7 @@ template ly n at (slots.Random k) = []
 template ly n at (slots.SendText t) = Code (text_call TEXT_AT (at + 19) (length t)) ∷ Code (jump (at + 19 + length t)) ∷ Text t ∷ []
 template ly n at slots.SendNumber = []
 template ly n at slots.SendZone = Code (call ZONE_AT) ∷ []
-template ly n at slots.SendNewline = Code (byte_call SEND_AT 13) ∷ []
+template ly n at slots.SendNewline = Code newline ∷ []
 template ly n at (slots.Input x) = Code (call INPUT_AT) ∷ Code (copied RESULT (var_at x)) ∷ []
 template ly n at slots.Hold = []
 template ly n at (slots.LeaveUnless rel) = []

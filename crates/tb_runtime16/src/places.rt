@@ -83,7 +83,7 @@ pub const FAULT_LENGTH: usize = 64;
 pub const POLL_LENGTH: usize = 13;
 /// Where the block begins: the prologue, which a program starts with.
 pub const BLOCK_AT: u16 = 0x080d;
-/// Where Send begins, which sends the byte in A and keeps `COLUMN`: what the code of lines calls for a single byte.
+/// Where Send begins, which sends the byte in A and keeps `COLUMN`: what the other routines call for a single byte.
 pub const SEND_AT: u16 = BLOCK_AT + PROLOGUE_LENGTH as u16;
 /// Where Multiply begins.
 pub const MULTIPLY_AT: u16 = SEND_AT + SEND_LENGTH as u16;

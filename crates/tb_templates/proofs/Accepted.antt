@@ -4,7 +4,7 @@ use Rattle.std.specs.Prelude.{◌&&◌, ◌||◌, if◌then◌else◌, nat_lt}
 use Rattle.std.specs.List.{list_all, list_any}
 use lib.Pointwise.{bytes_decides}
 use Rattle.tb_opcodes.specs.declared.Mnemonic.{Mnemonic}
-use Rattle.tb_opcodes.specs.declared.Mnemonic.TheVariants.{Bmi, Bpl, Lda, Sta}
+use Rattle.tb_opcodes.specs.declared.Mnemonic.TheVariants.{Lda, Sta}
 use Rattle.tb_opcodes.specs.declared.Mode.{Mode}
 use Rattle.tb_opcodes.specs.declared.Mode.TheVariants.{Absolute, Relative, ZeroPage}
 use Rattle.tb_opcodes.specs.Opcodes.{rows, find_opcode, encoded}
@@ -26,16 +26,17 @@ use Rattle.tb_templates.specs.declared.labels.Target.{Target}
 use Rattle.tb_templates.specs.declared.labels.Target.TheVariants.{Inside, Line}
 use Rattle.tb_templates.specs.Templates.{branch, slot_at, var_at, on, template, faulted, jump_to, call_to, next_line, call, copied, constant}
 use Rattle.tb_templates.specs.Sources.{Source, FixedWord, AtPlace, source_of, tested_source, home_at, destination_at}
-use Rattle.tb_templates.specs.GroupTemplates.{brought, summed, taken, handed, multiplied, divided, calculated, computed, changed_or, converted, used, equal, unequal, ordered, tested, gone, may_fault, group_template, polled, lined, may_be_zero, may_have_none, is_zero, signed, weighed, left_over, unless, divided_by, divided_gone, divides, asked_rest, signed_rest, remains}
+use Rattle.tb_templates.specs.GroupTemplates.{brought, summed, taken, handed, multiplied, divided, calculated, computed, changed_or, converted, used, equal, unequal, tested, gone, may_fault, group_template, polled, lined, may_be_zero, may_have_none, left_over, unless, divided_by, divided_gone, divides, asked_rest, signed_rest, remains}
 use Rattle.tb_templates.specs.Scaled.{scaling, times, shifts, shifted}
 use Rattle.tb_templates.specs.InPlace.{Change, Increment, Decrement, Raise, Lower, Halve, Double, change_of, changed}
 use Rattle.tb_templates.specs.Masks.{mask}
 use Rattle.tb_templates.proofs.Divided.{asked_rest_plain, left_over_plain}
+use Rattle.tb_templates.specs.Orders.{Side, Below, NotBelow, Order, BySign, ByConstant, ByDifference, lifted, order_of, ordered_by, signed, unless_carry, unless_negative, wanted_side, weighed}
 use Rattle.tb_templates.specs.Program.{rest_code, list_code, line_code, lines_code, past_code, find_code, rows_code, table_code, program_code}
 use Rattle.tb_settling.specs.Settled.{may_move}
 use Rattle.tb_syntax.specs.Source.{numbers}
 use Rattle.tb_templates.proofs.Listed.{by_poll}
-use Rattle.tb_templates.proofs.Plain.{has_form, plain_forms, times_plain, shifted_plain}
+use Rattle.tb_templates.proofs.Plain.{has_form, lifted_plain, plain_forms, times_plain, shifted_plain}
 use Rattle.tb_templates.proofs.Rising.{key, key_of, Rising}
 
 -- ── forms ──
@@ -200,30 +201,37 @@ unequal_forms (FixedWord v) (AtPlace q) stays next = refl
 unequal_forms (AtPlace p) (FixedWord w) stays next = refl
 unequal_forms (AtPlace p) (AtPlace q) stays next = refl
 
-signed_forms : (leaves : Mnemonic) (a : Source) (next : Target) → is_some (find_opcode rows leaves Relative) ≡ true → list_all has_form (signed leaves a next) ≡ true
-signed_forms leaves (FixedWord v) next h = rw h refl
-signed_forms leaves (AtPlace p) next h = rw h refl
+negative_forms : (side : Side) → is_some (find_opcode rows (unless_negative side) Relative) ≡ true
+negative_forms Below = refl
+negative_forms NotBelow = refl
 
-weighed_forms : (leaves : Mnemonic) (a b : Source) (skip next : Target) → is_some (find_opcode rows leaves Relative) ≡ true → list_all has_form (weighed leaves a b skip next) ≡ true
-weighed_forms leaves (FixedWord v) (FixedWord w) skip next h = rw h refl
-weighed_forms leaves (FixedWord v) (AtPlace q) skip next h = rw h refl
-weighed_forms leaves (AtPlace p) (FixedWord w) skip next h = rw h refl
-weighed_forms leaves (AtPlace p) (AtPlace q) skip next h = rw h refl
+carry_forms : (side : Side) (next : Target) → list_all has_form (branch (unless_carry side) next ∷ []) ≡ true
+carry_forms Below next = refl
+carry_forms NotBelow next = refl
 
-ordered_forms : (leaves : Mnemonic) (a b : Source) (skip next : Target) → is_some (find_opcode rows leaves Relative) ≡ true → list_all has_form (ordered leaves a b skip next) ≡ true
-ordered_forms leaves a b skip next h = by (is_zero b)
-  where
-    by : (t : Bool) → list_all has_form (if t then signed leaves a next else weighed leaves a b skip next) ≡ true
-    by true = signed_forms leaves a next h
-    by false = weighed_forms leaves a b skip next h
+signed_forms : (side : Side) (a : Source) (next : Target) → list_all has_form (signed side a next) ≡ true
+signed_forms side (FixedWord v) next = rw (negative_forms side) refl
+signed_forms side (AtPlace p) next = rw (negative_forms side) refl
+
+weighed_forms : (side : Side) (a b : Source) (skip next : Target) → list_all has_form (weighed side a b skip next) ≡ true
+weighed_forms side (FixedWord v) (FixedWord w) skip next = rw (negative_forms side) refl
+weighed_forms side (FixedWord v) (AtPlace q) skip next = rw (negative_forms side) refl
+weighed_forms side (AtPlace p) (FixedWord w) skip next = rw (negative_forms side) refl
+weighed_forms side (AtPlace p) (AtPlace q) skip next = rw (negative_forms side) refl
+
+ordered_forms : (order : Order) (wanted : Side) (skip next : Target) → list_all has_form (ordered_by order wanted skip next) ≡ true
+ordered_forms (BySign side a) wanted skip next = signed_forms (wanted_side wanted side) a next
+ordered_forms (ByConstant side a w) wanted skip next =
+    forms_append (lifted a w) (branch (unless_carry (wanted_side wanted side)) next ∷ []) (plain_forms (lifted a w) (lifted_plain a w)) (carry_forms (wanted_side wanted side) next)
+ordered_forms (ByDifference a b) wanted skip next = weighed_forms wanted a b skip next
 
 tested_forms : (rel : Rel) (a b : Source) (skip next : Target) → list_all has_form (tested rel a b skip next) ≡ true
 tested_forms Eq a b skip next = equal_forms a b next
 tested_forms Ne a b skip next = unequal_forms a b skip next
-tested_forms Lt a b skip next = ordered_forms Bpl a b skip next refl
-tested_forms Ge a b skip next = ordered_forms Bmi a b skip next refl
-tested_forms Gt a b skip next = ordered_forms Bpl b a skip next refl
-tested_forms Le a b skip next = ordered_forms Bmi b a skip next refl
+tested_forms Lt a b skip next = ordered_forms (order_of a b) Below skip next
+tested_forms Ge a b skip next = ordered_forms (order_of a b) NotBelow skip next
+tested_forms Gt a b skip next = ordered_forms (order_of b a) Below skip next
+tested_forms Le a b skip next = ordered_forms (order_of b a) NotBelow skip next
 
 gone_forms : (n : ℕ) (rel : Rel) (a b : Source) (skip next : Target) (t : Bool) (to : ℕ) → list_all has_form (gone n rel a b skip next t to) ≡ true
 gone_forms n rel a b skip next true to = tested_forms (denied rel) a b skip (Line to)

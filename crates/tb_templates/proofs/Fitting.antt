@@ -5,7 +5,7 @@ use Rattle.std.proofs.lemmas.Bool.{and_parts, leb-true}
 use Rattle.std.proofs.lemmas.List.Sums.{sum_by-cons}
 use Rattle.std.specs.Prelude.{nat_lt, if◌then◌else◌}
 use Rattle.tb_opcodes.specs.declared.Mnemonic.{Mnemonic}
-use Rattle.tb_opcodes.specs.declared.Mnemonic.TheVariants.{Adc, Bmi, Bpl, Cmp, Lda, Sbc, Sta}
+use Rattle.tb_opcodes.specs.declared.Mnemonic.TheVariants.{Adc, Cmp, Lda, Sbc, Sta}
 use Rattle.tb_opcodes.specs.declared.Mode.TheVariants.{Absolute, ZeroPage}
 use Rattle.tb_asm.specs.declared.items.Operand.TheVariants.{Byte, Word}
 use Rattle.tb_asm.specs.Layout.{Entry, instr}
@@ -28,8 +28,9 @@ use Rattle.tb_templates.specs.declared.labels.Target.{Target}
 use Rattle.tb_templates.specs.declared.labels.Target.TheVariants.{Inside, Line}
 use Rattle.tb_templates.specs.Templates.{branch, const, next_line, call, copied, faulted, slot_at, var_at, on}
 use Rattle.tb_templates.specs.Sources.{Source, FixedWord, AtPlace, source_of, tested_source, home_at, destination_at}
-use Rattle.tb_templates.specs.GroupTemplates.{low_of, high_of, brought, joined, handed, multiplied, divided, calculated, computed, changed_or, converted, used, equal, unequal, ordered, tested, gone, group_template, polled, lined, may_be_zero, may_have_none, is_zero, signed, weighed, told, remainder, left_over as beyond, unless, divided_by, divided_gone, divides, asked_rest, signed_rest, remains}
+use Rattle.tb_templates.specs.GroupTemplates.{low_of, high_of, brought, joined, handed, multiplied, divided, calculated, computed, changed_or, converted, used, equal, unequal, tested, gone, group_template, polled, lined, may_be_zero, may_have_none, told, remainder, left_over as beyond, unless, divided_by, divided_gone, divides, asked_rest, signed_rest, remains}
 use Rattle.tb_templates.specs.Masks.{mask}
+use Rattle.tb_templates.specs.Orders.{Side, Below, NotBelow, Order, BySign, ByConstant, ByDifference, order_of, ordered_by}
 use Rattle.tb_templates.specs.Scaled.{at_zero, rounded, raised, halved, halvings, high_first, shifts, shifted, by_bit, by_bits, bits_size, is_factor, scaling, low_first, times}
 use Rattle.tb_templates.specs.InPlace.{Change, Increment, Decrement, Raise, Lower, Halve, Double, change_of, changed}
 use Rattle.tb_templates.specs.Program.{rest_code, list_code}
@@ -207,20 +208,19 @@ unequal_fits : (a b : Source) (stays next : Target) → most (unequal a b stays 
 unequal_fits a b stays next =
     let l = low_most Lda a in let h = high_most Lda a in let p = low_most Cmp b in let q = high_most Cmp b in omega (arith, l, h, p, q)
 
-ordered_fits : (leaves : Mnemonic) (a b : Source) (skip next : Target) → most (ordered leaves a b skip next) ≤ 24
-ordered_fits leaves a b skip next = by (is_zero b)
-  where
-    by : (t : Bool) → most (if t then signed leaves a next else weighed leaves a b skip next) ≤ 24
-    by true = let h = high_most Lda a in omega (arith, h)
-    by false = let l = low_most Lda a in let h = high_most Lda a in let p = low_most Cmp b in let q = high_most Sbc b in omega (arith, l, h, p, q)
+ordered_fits : (order : Order) (wanted : Side) (skip next : Target) → most (ordered_by order wanted skip next) ≤ 24
+ordered_fits (BySign side a) wanted skip next = let h = high_most Lda a in omega (arith, h)
+ordered_fits (ByConstant side a w) wanted skip next = let l = low_most Lda a in let h = high_most Lda a in omega (arith, l, h)
+ordered_fits (ByDifference a b) wanted skip next =
+    let l = low_most Lda a in let h = high_most Lda a in let p = low_most Cmp b in let q = high_most Sbc b in omega (arith, l, h, p, q)
 
 tested_fits : (rel : Rel) (a b : Source) (skip next : Target) → most (tested rel a b skip next) ≤ 24
 tested_fits Eq a b skip next = equal_fits a b next
 tested_fits Ne a b skip next = unequal_fits a b skip next
-tested_fits Lt a b skip next = ordered_fits Bpl a b skip next
-tested_fits Ge a b skip next = ordered_fits Bmi a b skip next
-tested_fits Gt a b skip next = ordered_fits Bpl b a skip next
-tested_fits Le a b skip next = ordered_fits Bmi b a skip next
+tested_fits Lt a b skip next = ordered_fits (order_of a b) Below skip next
+tested_fits Ge a b skip next = ordered_fits (order_of a b) NotBelow skip next
+tested_fits Gt a b skip next = ordered_fits (order_of b a) Below skip next
+tested_fits Le a b skip next = ordered_fits (order_of b a) NotBelow skip next
 
 gone_fits : (n : ℕ) (rel : Rel) (a b : Source) (skip next : Target) (t : Bool) (to : ℕ) → most (gone n rel a b skip next t to) ≤ 33
 gone_fits n rel a b skip next true to = let h = tested_fits (denied rel) a b skip (Line to) in omega (arith, h)
@@ -385,7 +385,7 @@ inputs_room : (xs : List ℕ) → list_room (inputs_code xs) ≤ 32 * length xs
 inputs_room [] = omega arith
 inputs_room (x ∷ xs) = let a = inputs_room xs in omega (arith, a)
 
-newline_room : (ends : Bool) → list_room (newline_code ends) ≤ 5
+newline_room : (ends : Bool) → list_room (newline_code ends) ≤ 10
 newline_room true = omega arith
 newline_room false = omega arith
 
@@ -393,7 +393,7 @@ pub items_pay : (is : List Item) → items_cost is ≡ sum_by item_cost is
 items_pay [] = refl
 items_pay (i ∷ is) = ap (λ n. item_cost i + n) (items_pay is) ∙ sym (sum_by-cons item_cost i is)
 
-pub command_room : (c : Command) → IsSpaced c → list_room (command_code c) ≤ 7 + command_cost c
+pub command_room : (c : Command) → IsSpaced c → list_room (command_code c) ≤ 13 + command_cost c
 command_room (Let x e) h = let a = value_room e 0 in let b = list_append (value_code e 0) (Store x ∷ []) in omega (arith, a, b)
 command_room (Print items ends) h =
     let a = items_room false items h in let b = newline_room ends in
@@ -407,10 +407,10 @@ command_room (If l rel r c) h =
     omega (arith, a, b, d, e, f)
 command_room (Goto e) h =
     let a = value_room e 0 in let b = list_append (value_code e 0) (Jump ∷ []) in
-    target_room (constant e) JumpTo 15 (7 + (48 + 48 * nodes e)) (value_code e 0 ++ Jump ∷ []) (λ n. omega arith) (omega arith) (omega (arith, a, b))
+    target_room (constant e) JumpTo 15 (13 + (48 + 48 * nodes e)) (value_code e 0 ++ Jump ∷ []) (λ n. omega arith) (omega arith) (omega (arith, a, b))
 command_room (Gosub e) h =
     let a = value_room e 0 in let b = list_append (value_code e 0) (Call ∷ []) in
-    target_room (constant e) CallTo 59 (7 + (48 + 48 * nodes e)) (value_code e 0 ++ Call ∷ []) (λ n. omega arith) (omega arith) (omega (arith, a, b))
+    target_room (constant e) CallTo 59 (13 + (48 + 48 * nodes e)) (value_code e 0 ++ Call ∷ []) (λ n. omega arith) (omega arith) (omega (arith, a, b))
 command_room source.Return h = omega arith
 command_room source.End h = omega arith
 command_room Remark h = omega arith

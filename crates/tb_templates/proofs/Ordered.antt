@@ -3,7 +3,7 @@ use Rattle.std.proofs.Common.{◌≡◌, ℕ, ◌+◌, ◌<◌, ◌≤◌, Bool,
 use Rattle.std.specs.Prelude.{if◌then◌else◌}
 use Rattle.std.proofs.lemmas.Bool.Decides.{nat_tests}
 use Rattle.tb_opcodes.specs.declared.Mnemonic.{Mnemonic}
-use Rattle.tb_opcodes.specs.declared.Mnemonic.TheVariants.{Adc, Bmi, Bpl, Sbc}
+use Rattle.tb_opcodes.specs.declared.Mnemonic.TheVariants.{Adc, Sbc}
 use Rattle.tb_words.specs.declared.Rel.{Rel}
 use Rattle.tb_words.specs.declared.Rel.TheVariants.{Eq, Lt, Gt, Le, Ge, Ne}
 use Rattle.tb_syntax.specs.declared.expressions.Operator.{Operator}
@@ -22,14 +22,15 @@ use Rattle.tb_templates.specs.declared.labels.Target.{Target}
 use Rattle.tb_templates.specs.declared.labels.Target.TheVariants.{Line, Inside, Table}
 use Rattle.tb_templates.specs.Templates.{branch, var_at, template, faulted, called, jump_to, next_line, target_of, call, copied, constant}
 use Rattle.tb_templates.specs.Sources.{Source, FixedWord, AtPlace, source_of, tested_source, home_at, destination_at}
-use Rattle.tb_templates.specs.GroupTemplates.{brought, joined, handed, multiplied, divided, calculated, computed, changed_or, converted, used, equal, unequal, ordered, tested, gone, may_fault, group_template, polled, lined, may_be_zero, may_have_none, is_zero, signed, weighed, left_over, unless, divided_by, divided_gone, divides, asked_rest, signed_rest, remains}
+use Rattle.tb_templates.specs.GroupTemplates.{brought, joined, handed, multiplied, divided, calculated, computed, changed_or, converted, used, equal, unequal, tested, gone, may_fault, group_template, polled, lined, may_be_zero, may_have_none, left_over, unless, divided_by, divided_gone, divides, asked_rest, signed_rest, remains}
 use Rattle.tb_templates.specs.Scaled.{scaling, times, shifts, shifted}
 use Rattle.tb_templates.specs.InPlace.{Change, Increment, Decrement, Raise, Lower, Halve, Double, change_of, changed}
 use Rattle.tb_templates.specs.Masks.{mask}
 use Rattle.tb_templates.proofs.Divided.{asked_rest_plain, copied_plain, left_over_plain}
+use Rattle.tb_templates.specs.Orders.{Side, Below, NotBelow, Order, BySign, ByConstant, ByDifference, lifted, order_of, ordered_by, signed, unless_carry, wanted_side, weighed}
 use Rattle.tb_templates.specs.Program.{rest_code, list_code, line_code, lines_code, past_code, find_code, rows_code, table_code, program_code, AreCodable, RisingFrom, first_of, AreInTurn}
 use Rattle.tb_templates.proofs.Listed.{by_poll}
-use Rattle.tb_templates.proofs.Plain.{plain_rises, times_plain, shifted_plain}
+use Rattle.tb_templates.proofs.Plain.{lifted_plain, plain_rises, times_plain, shifted_plain}
 use Rattle.tb_templates.proofs.Ranged.{selected_few}
 use Rattle.tb_templates.proofs.Rising.{key_of, base, line_key, inside_key, Rising, rising_append, rising_lower}
 
@@ -64,15 +65,15 @@ module _ (low high : ℕ) (skip : Target) (above : low ≤ key_of (label_of skip
   unequal_rises (AtPlace p) (FixedWord w) next = (above, below)
   unequal_rises (AtPlace p) (AtPlace q) next = (above, below)
 
-  signed_rises : (leaves : Mnemonic) (a : Source) (next : Target) → Rising low (signed leaves a next) high
-  signed_rises leaves (FixedWord v) next = omega (arith, above, below)
-  signed_rises leaves (AtPlace p) next = omega (arith, above, below)
+  signed_rises : (side : Side) (a : Source) (next : Target) → Rising low (signed side a next) high
+  signed_rises side (FixedWord v) next = omega (arith, above, below)
+  signed_rises side (AtPlace p) next = omega (arith, above, below)
 
-  weighed_rises : (leaves : Mnemonic) (a b : Source) (next : Target) → Rising low (weighed leaves a b skip next) high
-  weighed_rises leaves (FixedWord v) (FixedWord w) next = (above, below)
-  weighed_rises leaves (FixedWord v) (AtPlace q) next = (above, below)
-  weighed_rises leaves (AtPlace p) (FixedWord w) next = (above, below)
-  weighed_rises leaves (AtPlace p) (AtPlace q) next = (above, below)
+  weighed_rises : (side : Side) (a b : Source) (next : Target) → Rising low (weighed side a b skip next) high
+  weighed_rises side (FixedWord v) (FixedWord w) next = (above, below)
+  weighed_rises side (FixedWord v) (AtPlace q) next = (above, below)
+  weighed_rises side (AtPlace p) (FixedWord w) next = (above, below)
+  weighed_rises side (AtPlace p) (AtPlace q) next = (above, below)
 
   changed_rises : (up : low ≤ high) (c : Change) (p : ℕ) → Rising low (changed c p skip) high
   changed_rises up Increment p = (above, below)
@@ -82,20 +83,19 @@ module _ (low high : ℕ) (skip : Target) (above : low ≤ key_of (label_of skip
   changed_rises up Halve p = (above, below)
   changed_rises up Double p = up
 
-  ordered_rises : (leaves : Mnemonic) (a b : Source) (next : Target) → Rising low (ordered leaves a b skip next) high
-  ordered_rises leaves a b next = by (is_zero b)
-    where
-      by : (t : Bool) → Rising low (if t then signed leaves a next else weighed leaves a b skip next) high
-      by true = signed_rises leaves a next
-      by false = weighed_rises leaves a b next
+  ordered_rises : (up : low ≤ high) (order : Order) (wanted : Side) (next : Target) → Rising low (ordered_by order wanted skip next) high
+  ordered_rises up (BySign side a) wanted next = signed_rises (wanted_side wanted side) a next
+  ordered_rises up (ByConstant side a w) wanted next =
+      rising_append low low high (lifted a w) (branch (unless_carry (wanted_side wanted side)) next ∷ []) (plain_rises low low (lifted a w) (omega arith) (lifted_plain a w)) up
+  ordered_rises up (ByDifference a b) wanted next = weighed_rises wanted a b next
 
   tested_rises : (up : low ≤ high) (rel : Rel) (a b : Source) (next : Target) → Rising low (tested rel a b skip next) high
   tested_rises up Eq a b next = equal_rises low high up a b next
   tested_rises up Ne a b next = unequal_rises a b next
-  tested_rises up Lt a b next = ordered_rises Bpl a b next
-  tested_rises up Ge a b next = ordered_rises Bmi a b next
-  tested_rises up Gt a b next = ordered_rises Bpl b a next
-  tested_rises up Le a b next = ordered_rises Bmi b a next
+  tested_rises up Lt a b next = ordered_rises up (order_of a b) Below next
+  tested_rises up Ge a b next = ordered_rises up (order_of a b) NotBelow next
+  tested_rises up Gt a b next = ordered_rises up (order_of b a) Below next
+  tested_rises up Le a b next = ordered_rises up (order_of b a) NotBelow next
 
 handed_rises : (low high : ℕ) (routine from : ℕ) (a b : Source) (to : ℕ) → low ≤ high → Rising low (handed routine from a b to) high
 handed_rises low high routine from a b to up =

@@ -3,7 +3,7 @@ use Rattle.std.proofs.Common.{◌≡◌, ℕ, zero, suc, ◌+◌, ◌/◌, ◌%�
 use Rattle.std.specs.Prelude.{◌&&◌, if◌then◌else◌, nat_eq, nat_lt}
 use Rattle.std.specs.List.{list_all}
 use Rattle.tb_opcodes.specs.declared.Mnemonic.{Mnemonic}
-use Rattle.tb_opcodes.specs.declared.Mnemonic.TheVariants.{Adc, And, Asl, Clc, Cmp, Eor, Lda, Rol, Ror, Sta, Tax, Txa}
+use Rattle.tb_opcodes.specs.declared.Mnemonic.TheVariants.{Adc, And, Asl, Clc, Cmp, Eor, Lda, Rol, Ror, Sbc, Sta, Tax, Txa}
 use Rattle.tb_opcodes.specs.declared.Mode.{Mode}
 use Rattle.tb_opcodes.specs.declared.Mode.TheVariants.{Absolute, Accumulator, Immediate, Implied, ZeroPage}
 use Rattle.tb_opcodes.specs.Opcodes.{rows, find_opcode}
@@ -16,6 +16,7 @@ use Rattle.tb_runtime16.specs.Places.{LEFT}
 use Rattle.tb_templates.specs.Templates.{alone, at, const}
 use Rattle.tb_templates.specs.Sources.{Source, FixedWord, AtPlace, low_of, high_of}
 use Rattle.tb_templates.specs.Scaled.{on_a, at_zero, all_but_lowest, rounded, raised, halved, halvings, high_first, shifted, doubled, increased, by_bit, by_bits, low_first, times}
+use Rattle.tb_templates.specs.Orders.{lifted}
 use Rattle.tb_templates.proofs.Rising.{Rising}
 
 -- whether an item is of a form that there is, and may stand anywhere
@@ -139,3 +140,8 @@ pub times_plain : (factor : ℕ) (a : Source) (to : ℕ) → ArePlain (times fac
 times_plain factor a to =
     (high_byte Lda a refl refl ▹ zero_page Sta LEFT refl ▹ low_byte Lda a refl refl ▹ plain_append (by_bits 15 factor a) (low_first to) (bits_plain 15 factor a)
     (absolute Sta to refl ▹ zero_page Lda LEFT refl ▹ absolute Sta (to + 1) refl ▹ tt))
+
+-- ── against a constant ──
+pub lifted_plain : (a : Source) (w : ℕ) → ArePlain (lifted a w)
+lifted_plain a w =
+    (low_byte Lda a refl refl ▹ immediate Cmp (w % 256) refl ▹ high_byte Lda a refl refl ▹ immediate Eor 128 refl ▹ immediate Sbc ((w / 256 + 128) % 256) refl ▹ tt)

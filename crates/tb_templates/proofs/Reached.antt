@@ -3,7 +3,7 @@ use Rattle.std.proofs.Common.{◌≡◌, ℕ, ◌+◌, ◌%◌, ◌/◌, Bool, t
 use Rattle.std.specs.Prelude.{option_map, if◌then◌else◌, ◌||◌, nat_lt, nat_eq}
 use Rattle.std.proofs.lemmas.Bool.Decides.{nat_tests}
 use Rattle.tb_opcodes.specs.declared.Mnemonic.{Mnemonic}
-use Rattle.tb_opcodes.specs.declared.Mnemonic.TheVariants.{Adc, Bmi, Bpl, Cmp, Lda, Sbc, Sta}
+use Rattle.tb_opcodes.specs.declared.Mnemonic.TheVariants.{Adc, Cmp, Lda, Sbc, Sta}
 use Rattle.tb_opcodes.specs.declared.Mode.TheVariants.{Absolute, ZeroPage}
 use Rattle.tb_words.specs.declared.Rel.{Rel}
 use Rattle.tb_words.specs.declared.Rel.TheVariants.{Eq, Lt, Gt, Le, Ge, Ne}
@@ -27,15 +27,16 @@ use Rattle.tb_templates.specs.Labels.{label_of}
 use Rattle.tb_templates.specs.Layout.{LabelsAt}
 use Rattle.tb_templates.specs.Templates.{branch, slot_at, var_at, on, template, jump, faulted, called, returned, find, note, jump_through, target_of, next_line, call, copied, constant}
 use Rattle.tb_templates.specs.Sources.{Source, FixedWord, AtPlace, source_of, tested_source, home_at, destination_at}
-use Rattle.tb_templates.specs.GroupTemplates.{low_of, high_of, brought, joined, handed, multiplied, divided, calculated, computed, changed_or, converted, searched, used, equal, unequal, ordered, tested, gone, may_fault, group_template, polled, lined, may_be_zero, may_have_none, is_zero, signed, weighed, left_over, unless, divided_by, divided_gone, divides, asked_rest, signed_rest, remains}
+use Rattle.tb_templates.specs.GroupTemplates.{low_of, high_of, brought, joined, handed, multiplied, divided, calculated, computed, changed_or, converted, searched, used, equal, unequal, tested, gone, may_fault, group_template, polled, lined, may_be_zero, may_have_none, left_over, unless, divided_by, divided_gone, divides, asked_rest, signed_rest, remains}
 use Rattle.tb_templates.specs.Scaled.{scaling, times, shifts, shifted}
 use Rattle.tb_templates.specs.InPlace.{Change, Increment, Decrement, Raise, Lower, Halve, Double, change_of, changed}
 use Rattle.tb_templates.specs.Masks.{mask}
 use Rattle.tb_templates.proofs.Divided.{asked_rest_plain, left_over_plain}
+use Rattle.tb_templates.specs.Orders.{Side, Below, NotBelow, Order, BySign, ByConstant, ByDifference, lifted, order_of, ordered_by, unless_carry, wanted_side, weighed}
 use Rattle.tb_templates.specs.Program.{rest_code, list_code, line_code, lines_code, past_code, find_code, rows_code, table_code, block_code, program_code}
 use Rattle.tb_settling.specs.Settled.{AllKnown}
 use Rattle.tb_templates.proofs.Listed.{by_poll}
-use Rattle.tb_templates.proofs.Plain.{plain_known, times_plain, shifted_plain}
+use Rattle.tb_templates.proofs.Plain.{lifted_plain, plain_known, times_plain, shifted_plain}
 
 -- ── lists one behind the other ──
 pub labels_split : (labels : List (Name × ℕ)) (a : ℕ) (xs ys : List Entry) → LabelsAt labels a (xs ++ ys) → LabelsAt labels a xs × LabelsAt labels (a + size xs) ys
@@ -153,7 +154,7 @@ module _ (labels : List (Name × ℕ)) (ns : List ℕ) (known : Known labels ns)
   template_known n i a (SendText bs) h = text_known n i a bs h
   template_known n i a SendNumber h = tt
   template_known n i a SendZone h = (refl ▹ tt)
-  template_known n i a SendNewline h = (refl ▹ refl ▹ tt)
+  template_known n i a SendNewline h = (refl ▹ refl ▹ refl ▹ refl ▹ tt)
   template_known n i a (Input x) h = (refl ▹ refl ▹ refl ▹ refl ▹ refl ▹ tt)
   template_known n i a Poll h = (refl ▹ tt)
   template_known n i a Hold h = tt
@@ -236,8 +237,8 @@ module _ (labels : List (Name × ℕ)) (ns : List ℕ) (known : Known labels ns)
   used_known n next AsSubroutine a h =
       known_append labels (searched n a) (note next ++ jump_through) (searched_known n a) (low_label next h ▹ refl ▹ high_label next h ▹ refl ▹ refl ▹ refl ▹ tt)
 
-  weighed_known : (leaves : Mnemonic) (a b : Source) (skip next : Target) → Stands labels skip → Stands labels next → AllKnown labels (weighed leaves a b skip next)
-  weighed_known leaves a b skip next s t =
+  weighed_known : (side : Side) (a b : Source) (skip next : Target) → Stands labels skip → Stands labels next → AllKnown labels (weighed side a b skip next)
+  weighed_known side a b skip next s t =
       (low_known Lda a ▹ low_known Cmp b ▹ high_known Lda a ▹ high_known Sbc b ▹ to_label skip s ▹ refl ▹ refl ▹ to_label next t ▹ tt)
 
   equal_known : (a b : Source) (next : Target) → Stands labels next → AllKnown labels (equal a b next)
@@ -253,26 +254,25 @@ module _ (labels : List (Name × ℕ)) (ns : List ℕ) (known : Known labels ns)
   unequal_skip a (AtPlace p) (FixedWord w) skip next h = ap is_some h.1.1.1.1.1.1.0
   unequal_skip a (AtPlace p) (AtPlace q) skip next h = ap is_some h.1.1.1.1.1.1.0
 
-  weighed_skip : (a : ℕ) (leaves : Mnemonic) (l r : Source) (skip next : Target) → LabelsAt labels a (weighed leaves l r skip next) → Stands labels skip
-  weighed_skip a leaves (FixedWord v) (FixedWord w) skip next h = ap is_some h.1.1.1.1.1.1.0
-  weighed_skip a leaves (FixedWord v) (AtPlace q) skip next h = ap is_some h.1.1.1.1.1.1.0
-  weighed_skip a leaves (AtPlace p) (FixedWord w) skip next h = ap is_some h.1.1.1.1.1.1.0
-  weighed_skip a leaves (AtPlace p) (AtPlace q) skip next h = ap is_some h.1.1.1.1.1.1.0
+  weighed_skip : (a : ℕ) (side : Side) (l r : Source) (skip next : Target) → LabelsAt labels a (weighed side l r skip next) → Stands labels skip
+  weighed_skip a side (FixedWord v) (FixedWord w) skip next h = ap is_some h.1.1.1.1.1.1.0
+  weighed_skip a side (FixedWord v) (AtPlace q) skip next h = ap is_some h.1.1.1.1.1.1.0
+  weighed_skip a side (AtPlace p) (FixedWord w) skip next h = ap is_some h.1.1.1.1.1.1.0
+  weighed_skip a side (AtPlace p) (AtPlace q) skip next h = ap is_some h.1.1.1.1.1.1.0
 
-  ordered_known : (at : ℕ) (leaves : Mnemonic) (a b : Source) (skip next : Target) → Stands labels next → LabelsAt labels at (ordered leaves a b skip next) → AllKnown labels (ordered leaves a b skip next)
-  ordered_known at leaves a b skip next s = by (is_zero b)
-    where
-      by : (t : Bool) → LabelsAt labels at (if t then signed leaves a next else weighed leaves a b skip next) → AllKnown labels (if t then signed leaves a next else weighed leaves a b skip next)
-      by true h = (high_known Lda a ▹ to_label next s ▹ tt)
-      by false h = weighed_known leaves a b skip next (weighed_skip at leaves a b skip next h) s
+  ordered_known : (at : ℕ) (order : Order) (wanted : Side) (skip next : Target) → Stands labels next → LabelsAt labels at (ordered_by order wanted skip next) → AllKnown labels (ordered_by order wanted skip next)
+  ordered_known at (BySign side a) wanted skip next s h = (high_known Lda a ▹ to_label next s ▹ tt)
+  ordered_known at (ByConstant side a w) wanted skip next s h =
+      known_append labels (lifted a w) (branch (unless_carry (wanted_side wanted side)) next ∷ []) (plain_known labels (lifted a w) (lifted_plain a w)) (to_label next s ▹ tt)
+  ordered_known at (ByDifference a b) wanted skip next s h = weighed_known wanted a b skip next (weighed_skip at wanted a b skip next h) s
 
   tested_known : (at : ℕ) (rel : Rel) (a b : Source) (skip next : Target) → Stands labels next → LabelsAt labels at (tested rel a b skip next) → AllKnown labels (tested rel a b skip next)
   tested_known at Eq a b skip next t h = equal_known a b next t
   tested_known at Ne a b skip next t h = unequal_known a b skip next (unequal_skip at a b skip next h) t
-  tested_known at Lt a b skip next t h = ordered_known at Bpl a b skip next t h
-  tested_known at Ge a b skip next t h = ordered_known at Bmi a b skip next t h
-  tested_known at Gt a b skip next t h = ordered_known at Bpl b a skip next t h
-  tested_known at Le a b skip next t h = ordered_known at Bmi b a skip next t h
+  tested_known at Lt a b skip next t h = ordered_known at (order_of a b) Below skip next t h
+  tested_known at Ge a b skip next t h = ordered_known at (order_of a b) NotBelow skip next t h
+  tested_known at Gt a b skip next t h = ordered_known at (order_of b a) Below skip next t h
+  tested_known at Le a b skip next t h = ordered_known at (order_of b a) NotBelow skip next t h
 
   gone_known : (n at : ℕ) (rel : Rel) (a b : Source) (skip next : Target) (t : Bool) (to : ℕ) → has_line ns to ≡ t → Stands labels next
       → LabelsAt labels at (gone n rel a b skip next t to) → AllKnown labels (gone n rel a b skip next t to)

@@ -3,13 +3,13 @@ use Rattle.std.specs.Prelude.{◌≡◌, ℕ, true, List, [], ◌∷◌, ◌++�
 use Rattle.tb_opcodes.specs.declared.Mnemonic.{Mnemonic}
 use Rattle.tb_opcodes.specs.declared.Mode.TheVariants.{ZeroPage}
 use Rattle.tb_opcodes.specs.declared.Mnemonic.TheVariants.{Adc, Bcc, Bcs, Bmi, Bne, Bpl, Bvc, Clc, Cmp, Eor, Dec, Inc, Jmp, Lda, Ldx, Ldy, Rts, Sbc, Sec, Sta, And, Asl, Rol, Ror, Tax, Txa, Beq, Ora}
-use Rattle.tb_words.specs.declared.Rel.TheVariants.{Eq, Lt, Ne}
+use Rattle.tb_words.specs.declared.Rel.TheVariants.{Eq, Ge, Gt, Le, Lt, Ne}
 use Rattle.tb_syntax.specs.declared.expressions.Operator.TheVariants.{Add, Subtract, Divide, Multiply}
 use Rattle.tb_syntax.specs.Source.{Number, Variable, Negate, Random, Value, Binary, Command, Let, Print, If, Goto, Gosub, End}
 use Rattle.tb_lower.specs.Lowered as lowered
 use Rattle.tb_asm.specs.declared.items.Operand.TheVariants.{Byte}
 use Rattle.tb_asm.specs.Layout.{Entry, instr}
-use Rattle.tb_runtime16.specs.Places.{LEFT, DIVIDE_AT, RANDOM_AT, NUMBER_AT, SEND_AT, PUSH_AT, FAULT_LINE_AT}
+use Rattle.tb_runtime16.specs.Places.{LEFT, DIVIDE_AT, RANDOM_AT, NUMBER_AT, PUSH_AT, FAULT_LINE_AT}
 use Rattle.tb_templates.specs.declared.labels.Inner.TheVariants.{Skip}
 use Rattle.tb_templates.specs.declared.labels.Target.TheVariants.{Line, Inside}
 use Rattle.tb_templates.specs.Templates.{at, const, alone, branch, here, call, address, find, jump_through}
@@ -71,14 +71,87 @@ nowhere : items 20 (If (Variable 0) Eq (Number 1) (Goto (Number 40)))
     ∷ const Ldx 20 ∷ const Ldy 0 ∷ const Lda 1 ∷ at Jmp FAULT_LINE_AT ∷ []
 nowhere = refl
 
+-- 20 IF A<1000 END: the constant's high byte, 3, is 131 with its highest bit turned
+below_constant : items 20 (If (Variable 0) Lt (Number 1000) End)
+    ≡ here (Line 20) ∷ call 0xFFE4 ∷ const Cmp 3 ∷ branch Bne (Inside Skip 20 0) ∷ const Ldx 20 ∷ const Ldy 0 ∷ const Lda 0 ∷ at Jmp FAULT_LINE_AT ∷ here (Inside Skip 20 0)
+    ∷ at Lda 0xC000 ∷ const Cmp 232 ∷ at Lda 0xC001 ∷ const Eor 128 ∷ const Sbc 131 ∷ branch Bcs (Line 30) ∷ alone Rts ∷ []
+below_constant = refl
+
+-- 20 IF A>=1 GOTO 10
+from_constant : items 20 (If (Variable 0) Ge (Number 1) (Goto (Number 10)))
+    ≡ here (Line 20) ∷ call 0xFFE4 ∷ const Cmp 3 ∷ branch Bne (Inside Skip 20 0) ∷ const Ldx 20 ∷ const Ldy 0 ∷ const Lda 0 ∷ at Jmp FAULT_LINE_AT ∷ here (Inside Skip 20 0)
+    ∷ at Lda 0xC000 ∷ const Cmp 1 ∷ at Lda 0xC001 ∷ const Eor 128 ∷ const Sbc 128 ∷ branch Bcs (Line 10) ∷ []
+from_constant = refl
+
+-- 20 IF A>-1 END: A is not below 0, and so its sign is enough
+above_constant : items 20 (If (Variable 0) Gt (Number 65535) End)
+    ≡ here (Line 20) ∷ call 0xFFE4 ∷ const Cmp 3 ∷ branch Bne (Inside Skip 20 0) ∷ const Ldx 20 ∷ const Ldy 0 ∷ const Lda 0 ∷ at Jmp FAULT_LINE_AT ∷ here (Inside Skip 20 0)
+    ∷ at Lda 0xC001 ∷ branch Bmi (Line 30) ∷ alone Rts ∷ []
+above_constant = refl
+
+-- 20 IF A<=255 GOTO 10: A is below 256
+up_to_constant : items 20 (If (Variable 0) Le (Number 255) (Goto (Number 10)))
+    ≡ here (Line 20) ∷ call 0xFFE4 ∷ const Cmp 3 ∷ branch Bne (Inside Skip 20 0) ∷ const Ldx 20 ∷ const Ldy 0 ∷ const Lda 0 ∷ at Jmp FAULT_LINE_AT ∷ here (Inside Skip 20 0)
+    ∷ at Lda 0xC000 ∷ const Cmp 0 ∷ at Lda 0xC001 ∷ const Eor 128 ∷ const Sbc 129 ∷ branch Bcc (Line 10) ∷ []
+up_to_constant = refl
+
+-- 20 IF 0<A END: A is not below 1
+constant_before : items 20 (If (Number 0) Lt (Variable 0) End)
+    ≡ here (Line 20) ∷ call 0xFFE4 ∷ const Cmp 3 ∷ branch Bne (Inside Skip 20 0) ∷ const Ldx 20 ∷ const Ldy 0 ∷ const Lda 0 ∷ at Jmp FAULT_LINE_AT ∷ here (Inside Skip 20 0)
+    ∷ at Lda 0xC000 ∷ const Cmp 1 ∷ at Lda 0xC001 ∷ const Eor 128 ∷ const Sbc 128 ∷ branch Bcc (Line 30) ∷ alone Rts ∷ []
+constant_before = refl
+
+-- 20 IF -2>=A GOTO 10: A is below -1
+constant_after : items 20 (If (Number 65534) Ge (Variable 0) (Goto (Number 10)))
+    ≡ here (Line 20) ∷ call 0xFFE4 ∷ const Cmp 3 ∷ branch Bne (Inside Skip 20 0) ∷ const Ldx 20 ∷ const Ldy 0 ∷ const Lda 0 ∷ at Jmp FAULT_LINE_AT ∷ here (Inside Skip 20 0)
+    ∷ at Lda 0xC000 ∷ const Cmp 255 ∷ at Lda 0xC001 ∷ const Eor 128 ∷ const Sbc 127 ∷ branch Bcc (Line 10) ∷ []
+constant_after = refl
+
+-- 20 IF A<32767 END
+below_greatest : items 20 (If (Variable 0) Lt (Number 32767) End)
+    ≡ here (Line 20) ∷ call 0xFFE4 ∷ const Cmp 3 ∷ branch Bne (Inside Skip 20 0) ∷ const Ldx 20 ∷ const Ldy 0 ∷ const Lda 0 ∷ at Jmp FAULT_LINE_AT ∷ here (Inside Skip 20 0)
+    ∷ at Lda 0xC000 ∷ const Cmp 255 ∷ at Lda 0xC001 ∷ const Eor 128 ∷ const Sbc 255 ∷ branch Bcs (Line 30) ∷ alone Rts ∷ []
+below_greatest = refl
+
+-- 20 IF A>32767 END: the greatest word has none behind it
+above_greatest : items 20 (If (Variable 0) Gt (Number 32767) End)
+    ≡ here (Line 20) ∷ call 0xFFE4 ∷ const Cmp 3 ∷ branch Bne (Inside Skip 20 0) ∷ const Ldx 20 ∷ const Ldy 0 ∷ const Lda 0 ∷ at Jmp FAULT_LINE_AT ∷ here (Inside Skip 20 0)
+    ∷ const Lda 255 ∷ at Cmp 0xC000 ∷ const Lda 127 ∷ at Sbc 0xC001 ∷ branch Bvc (Inside Skip 20 1) ∷ const Eor 128 ∷ here (Inside Skip 20 1) ∷ branch Bpl (Line 30)
+    ∷ alone Rts ∷ []
+above_greatest = refl
+
+-- 20 IF A>=-32768 END
+from_least : items 20 (If (Variable 0) Ge (Number 32768) End)
+    ≡ here (Line 20) ∷ call 0xFFE4 ∷ const Cmp 3 ∷ branch Bne (Inside Skip 20 0) ∷ const Ldx 20 ∷ const Ldy 0 ∷ const Lda 0 ∷ at Jmp FAULT_LINE_AT ∷ here (Inside Skip 20 0)
+    ∷ at Lda 0xC000 ∷ const Cmp 0 ∷ at Lda 0xC001 ∷ const Eor 128 ∷ const Sbc 0 ∷ branch Bcc (Line 30) ∷ alone Rts ∷ []
+from_least = refl
+
+-- 20 IF A>-32768 END: A is not below -32767
+above_least : items 20 (If (Variable 0) Gt (Number 32768) End)
+    ≡ here (Line 20) ∷ call 0xFFE4 ∷ const Cmp 3 ∷ branch Bne (Inside Skip 20 0) ∷ const Ldx 20 ∷ const Ldy 0 ∷ const Lda 0 ∷ at Jmp FAULT_LINE_AT ∷ here (Inside Skip 20 0)
+    ∷ at Lda 0xC000 ∷ const Cmp 1 ∷ at Lda 0xC001 ∷ const Eor 128 ∷ const Sbc 0 ∷ branch Bcc (Line 30) ∷ alone Rts ∷ []
+above_least = refl
+
+-- 20 IF A>=0 GOTO 10
+by_sign : items 20 (If (Variable 0) Ge (Number 0) (Goto (Number 10)))
+    ≡ here (Line 20) ∷ call 0xFFE4 ∷ const Cmp 3 ∷ branch Bne (Inside Skip 20 0) ∷ const Ldx 20 ∷ const Ldy 0 ∷ const Lda 0 ∷ at Jmp FAULT_LINE_AT ∷ here (Inside Skip 20 0)
+    ∷ at Lda 0xC001 ∷ branch Bpl (Line 10) ∷ []
+by_sign = refl
+
 -- 30 PRINT A/B: the operands go to $FB and $FD, the quotient comes at $FB, slot 0 stands at $C040
 quotient : items 30 (Print (Value (Binary Divide (Variable 0) (Variable 1)) ∷ []) true)
     ≡ here (Line 30) ∷ call 0xFFE4 ∷ const Cmp 3 ∷ branch Bne (Inside Skip 30 0) ∷ const Ldx 30 ∷ const Ldy 0 ∷ const Lda 0 ∷ at Jmp FAULT_LINE_AT ∷ here (Inside Skip 30 0)
     ∷ const Lda 30 ∷ at Sta 0xC03A ∷ const Lda 0 ∷ at Sta 0xC03B
     ∷ at Lda 0xC000 ∷ page_zero Sta 0xFB ∷ at Lda 0xC001 ∷ page_zero Sta 0xFC ∷ at Lda 0xC002 ∷ page_zero Sta 0xFD ∷ at Lda 0xC003 ∷ page_zero Sta 0xFE ∷ call DIVIDE_AT
     ∷ page_zero Lda 0xFB ∷ at Sta 0xC040 ∷ page_zero Lda 0xFC ∷ at Sta 0xC041
-    ∷ at Lda 0xC040 ∷ page_zero Sta 0xFB ∷ at Lda 0xC041 ∷ page_zero Sta 0xFC ∷ call NUMBER_AT ∷ const Lda 13 ∷ call SEND_AT ∷ []
+    ∷ at Lda 0xC040 ∷ page_zero Sta 0xFB ∷ at Lda 0xC041 ∷ page_zero Sta 0xFC ∷ call NUMBER_AT ∷ const Lda 0 ∷ at Sta 0xC034 ∷ const Lda 13 ∷ call 0xFFD2 ∷ []
 quotient = refl
+
+-- 10 PRINT: the column is 0 behind a 13, which goes to the service that sends bytes
+newline : items 10 (Print [] true)
+    ≡ here (Line 10) ∷ call 0xFFE4 ∷ const Cmp 3 ∷ branch Bne (Inside Skip 10 0) ∷ const Ldx 10 ∷ const Ldy 0 ∷ const Lda 0 ∷ at Jmp FAULT_LINE_AT ∷ here (Inside Skip 10 0)
+    ∷ const Lda 0 ∷ at Sta 0xC034 ∷ const Lda 13 ∷ call 0xFFD2 ∷ []
+newline = refl
 
 -- 10 LET A=B/2: a negative word is raised by one first, and then shifted
 half : items 10 (Let 0 (Binary Divide (Variable 1) (Number 2)))

@@ -1,7 +1,7 @@
 -- The code of each group, as items of the assembler.
 use Rattle.std.specs.Prelude.{ℕ, ◌+◌, Bool, true, false, List, [], ◌∷◌, ◌++◌, if◌then◌else◌, Option, Some, None, ◌||◌, nat_eq, nat_le}
 use Rattle.tb_opcodes.specs.declared.Mnemonic.{Mnemonic}
-use Rattle.tb_opcodes.specs.declared.Mnemonic.TheVariants.{Adc, Beq, Bmi, Bne, Bpl, Bvc, Clc, Cmp, Eor, Jsr, Lda, Ora, Sbc, Sec, Sta}
+use Rattle.tb_opcodes.specs.declared.Mnemonic.TheVariants.{Adc, Beq, Bne, Clc, Cmp, Jsr, Lda, Ora, Sbc, Sec, Sta}
 use Rattle.tb_asm.specs.Layout.{Entry}
 use Rattle.tb_words.specs.declared.Rel.{Rel}
 use Rattle.tb_words.specs.declared.Rel.TheVariants.{Eq, Lt, Gt, Le, Ge, Ne}
@@ -18,6 +18,7 @@ use Rattle.tb_templates.specs.Templates.{at, var_at, on, const, alone, branch, h
 use Rattle.tb_templates.specs.Sources.{Source, FixedWord, AtPlace, source_of, tested_source, home_at, destination_at}
 pub use Rattle.tb_templates.specs.Sources.{low_of, high_of}
 use Rattle.tb_templates.specs.Scaled.{scaling, times, shifts, shifted}
+use Rattle.tb_templates.specs.Orders.{Below, NotBelow, ordered}
 use Rattle.tb_templates.specs.InPlace.{Change, change_of, changed}
 use Rattle.tb_templates.specs.Masks.{mask, lowest_bits}
 
@@ -109,32 +110,14 @@ equal a b next = low_of Lda a ∷ low_of Cmp b ∷ branch Bne next ∷ high_of L
 abbrev pub unequal : Source → Source → Target → Target → List Entry
 unequal a b stays next = low_of Lda a ∷ low_of Cmp b ∷ branch Bne stays ∷ high_of Lda a ∷ high_of Cmp b ∷ branch Beq next ∷ here stays ∷ []
 
--- whether a word is a constant 0
-abbrev pub is_zero : Source → Bool
-is_zero (FixedWord w) = nat_eq w 0
-is_zero (AtPlace p) = false
-
--- the sign of a word is whether it is below 0; by it a branch goes to the next line
-abbrev pub signed : Mnemonic → Source → Target → List Entry
-signed leaves a next = high_of Lda a ∷ branch leaves next ∷ []
-
--- N behind the difference of two signed words, turned where V is set, is whether a is below b
-abbrev pub weighed : Mnemonic → Source → Source → Target → Target → List Entry
-weighed leaves a b skip next =
-    low_of Lda a ∷ low_of Cmp b ∷ high_of Lda a ∷ high_of Sbc b ∷ branch Bvc skip ∷ const Eor 128 ∷ here skip ∷ branch leaves next ∷ []
-
--- the order of two signed words
-abbrev pub ordered : Mnemonic → Source → Source → Target → Target → List Entry
-ordered leaves a b skip next = if is_zero b then signed leaves a next else weighed leaves a b skip next
-
 -- leaves the line unless two words are so related
 abbrev pub tested : Rel → Source → Source → Target → Target → List Entry
 tested Eq a b skip next = equal a b next
 tested Ne a b skip next = unequal a b skip next
-tested Lt a b skip next = ordered Bpl a b skip next
-tested Ge a b skip next = ordered Bmi a b skip next
-tested Gt a b skip next = ordered Bpl b a skip next
-tested Le a b skip next = ordered Bmi b a skip next
+tested Lt a b skip next = ordered Below a b skip next
+tested Ge a b skip next = ordered NotBelow a b skip next
+tested Gt a b skip next = ordered Below b a skip next
+tested Le a b skip next = ordered NotBelow b a skip next
 
 -- from line n straight to a line where two words are so related, and else on to the next line, which is behind; where the
 -- program has no such line, the test and then fault 1

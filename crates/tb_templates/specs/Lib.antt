@@ -4,6 +4,7 @@ pub mod Sources
 pub mod Scaled
 pub mod InPlace
 pub mod Masks
+pub mod Orders
 pub mod GroupTemplates
 pub mod Program
 pub mod Sizes

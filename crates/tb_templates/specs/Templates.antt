@@ -10,7 +10,7 @@ use Rattle.tb_asm.specs.Layout.{Entry, instr, label, bytes}
 use Rattle.tb_words.specs.Words.{word}
 use Rattle.tb_lower.specs.Control.{Place, At, Past, next_after, has_line}
 use Rattle.tb_lower.specs.Slots.{Instr, Put, Load, Store, Negate, Compute, Random, SendText, SendNumber, SendZone, SendNewline, Input, Poll, Hold, LeaveUnless, Jump, Call, JumpTo, CallTo, Return, End}
-use Rattle.tb_runtime16.specs.Places.{POINTER, LENGTH, LEFT, RESULT, LINE, NOTES, NOTE_LOW, NOTE_HIGH, VARS, SLOTS, SEND_AT, TEXT_AT, ZONE_AT, INPUT_AT, PUSH_AT, POP_AT, FAULT_LINE_AT, POLL_AT}
+use Rattle.tb_runtime16.specs.Places.{POINTER, LENGTH, LEFT, RESULT, LINE, NOTES, NOTE_LOW, NOTE_HIGH, VARS, SLOTS, COLUMN, CHROUT, TEXT_AT, ZONE_AT, INPUT_AT, PUSH_AT, POP_AT, FAULT_LINE_AT, POLL_AT}
 use Rattle.tb_templates.specs.declared.labels.Inner.TheVariants as inner
 use Rattle.tb_templates.specs.declared.labels.Target.{Target}
 use Rattle.tb_templates.specs.declared.labels.Target.TheVariants as target
@@ -168,6 +168,10 @@ call_to numbers n i to next =
 abbrev pub returned : ℕ → Target → List Entry
 returned n over = taken_back over ++ (here over ∷ (constant n LINE ++ (call POP_AT ∷ jump_through)))
 
+-- a 13 is sent, behind which the column is 0
+abbrev pub newline : List Entry
+newline = const Lda 0 ∷ at Sta COLUMN ∷ const Lda 13 ∷ call CHROUT ∷ []
+
 -- the code of a single instruction, which is group i of line n, where the program has these numbers. What has another
 -- kind of group has no code here.
 abbrev pub template : List ℕ → ℕ → ℕ → Instr → List Entry
@@ -180,7 +184,7 @@ template numbers n i (Random k) = []
 template numbers n i (SendText bs) = text (target.Inside inner.Text n i) (target.Inside inner.Behind n i) bs
 template numbers n i SendNumber = []
 template numbers n i SendZone = call ZONE_AT ∷ []
-template numbers n i SendNewline = const Lda 13 ∷ call SEND_AT ∷ []
+template numbers n i SendNewline = newline
 template numbers n i (Input x) = call INPUT_AT ∷ copied RESULT (var_at x)
 template numbers n i Poll = call POLL_AT ∷ []
 template numbers n i Hold = []

@@ -20,6 +20,7 @@ ghost use Rattle.tb_templates.specs.Program.{RisingFrom};
 use crate::divisions::{put_divides, put_remains};
 use crate::in_place::{change_of, put_changed};
 use crate::labels::{Inner, Target};
+use crate::orders::{Side, put_ordered};
 use crate::pieces::{
     put_alone, put_at, put_branch, put_call, put_const, put_constant, put_copied, put_faulted,
     put_find, put_here, put_jump_through, put_note, put_on,
@@ -413,71 +414,6 @@ fn put_unequal(
     put_here(items, stays)
 }
 
-// Whether a word is a constant 0.
-fn is_zero(word: Source) -> bool
-    ensures { result ≡ groups.is_zero word }
-{
-    match word {
-        Source::FixedWord(word) => word == 0,
-        Source::AtPlace(_) => false,
-    }
-}
-
-// The sign of a word, and the branch that leaves the line by it.
-fn put_signed(
-    items: &mut Vec<Item>,
-    leaves: Mnemonic,
-    word: Source,
-    next: Target,
-) -> Result<(), AllocError>
-    requires { IsWhole word }
-    ensures { OnOk result (map entry_of items.new.items ≡ map entry_of items.old.items ++ groups.signed leaves word next) }
-{
-    put_high(items, Mnemonic::Lda, word)?;
-    put_branch(items, leaves, next)
-}
-
-// The order of two signed words by their difference, and the branch that leaves the line by it.
-fn put_weighed(
-    items: &mut Vec<Item>,
-    leaves: Mnemonic,
-    left: Source,
-    right: Source,
-    skip: Target,
-    next: Target,
-) -> Result<(), AllocError>
-    requires { IsWhole left × IsWhole right }
-    ensures { OnOk result (map entry_of items.new.items ≡ map entry_of items.old.items ++ groups.weighed leaves left right skip next) }
-{
-    put_low(items, Mnemonic::Lda, left)?;
-    put_low(items, Mnemonic::Cmp, right)?;
-    put_high(items, Mnemonic::Lda, left)?;
-    put_high(items, Mnemonic::Sbc, right)?;
-    put_branch(items, Mnemonic::Bvc, skip)?;
-    put_const(items, Mnemonic::Eor, 128)?;
-    put_here(items, skip)?;
-    put_branch(items, leaves, next)
-}
-
-// The order of two signed words, and the branch that leaves the line by it.
-fn put_ordered(
-    items: &mut Vec<Item>,
-    leaves: Mnemonic,
-    left: Source,
-    right: Source,
-    skip: Target,
-    next: Target,
-) -> Result<(), AllocError>
-    requires { IsWhole left × IsWhole right }
-    ensures { OnOk result (map entry_of items.new.items ≡ map entry_of items.old.items ++ groups.ordered leaves left right skip next) }
-{
-    if is_zero(right) {
-        put_signed(items, leaves, left, next)
-    } else {
-        put_weighed(items, leaves, left, right, skip, next)
-    }
-}
-
 // Leaves the line unless two words are so related.
 fn put_tested(
     items: &mut Vec<Item>,
@@ -493,10 +429,10 @@ fn put_tested(
     match rel {
         Rel::Eq => put_equal(items, left, right, next),
         Rel::Ne => put_unequal(items, left, right, skip, next),
-        Rel::Lt => put_ordered(items, Mnemonic::Bpl, left, right, skip, next),
-        Rel::Ge => put_ordered(items, Mnemonic::Bmi, left, right, skip, next),
-        Rel::Gt => put_ordered(items, Mnemonic::Bpl, right, left, skip, next),
-        Rel::Le => put_ordered(items, Mnemonic::Bmi, right, left, skip, next),
+        Rel::Lt => put_ordered(items, Side::Below, left, right, skip, next),
+        Rel::Ge => put_ordered(items, Side::NotBelow, left, right, skip, next),
+        Rel::Gt => put_ordered(items, Side::Below, right, left, skip, next),
+        Rel::Le => put_ordered(items, Side::NotBelow, right, left, skip, next),
     }
 }
 

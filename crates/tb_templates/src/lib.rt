@@ -5,6 +5,7 @@ mod divisions;
 mod groups;
 mod in_place;
 mod labels;
+mod orders;
 mod pieces;
 mod program;
 mod scaled;

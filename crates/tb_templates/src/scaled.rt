@@ -15,8 +15,8 @@ use tb_runtime16::LEFT;
 // The most bytes that the bits of a factor may take.
 const MOST_FOR_BITS: u16 = 60;
 
-// A word's sign bit in its high byte.
-const SIGN: u8 = 128;
+/// A word's sign bit in its high byte.
+pub const SIGN: u8 = 128;
 
 /// An instruction on A.
 pub fn put_on_a(items: &mut Vec<Item>, mnemonic: Mnemonic) -> Result<(), AllocError>

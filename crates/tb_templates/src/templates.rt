@@ -23,10 +23,13 @@ use std::alloc::AllocError;
 use tb_asm::Item;
 use tb_lower::SlotInstr;
 use tb_opcodes::Mnemonic;
-use tb_runtime16::{LENGTH, LINE, NOTE_HIGH, NOTE_LOW, NOTES, POINTER, RESULT, Routine, SEND_AT};
+use tb_runtime16::{COLUMN, LENGTH, LINE, NOTE_HIGH, NOTE_LOW, NOTES, POINTER, RESULT, Routine};
 
 /// The fault of a line that is not there.
 pub const NO_LINE: u8 = 1;
+
+// The service that sends the byte in A.
+const CHROUT: u16 = 0xffd2;
 
 /// Where a group stands: its line, its index in the line, from 1 on, and the place of the line behind.
 #[derive(Clone, Copy, Debug, Drop)]
@@ -50,6 +53,16 @@ impl Spot {
     {
         Target::Inside(Inner::Behind, self.line, self.index)
     }
+}
+
+// A 13 is sent, behind which the column is 0.
+fn put_newline(items: &mut Vec<Item>) -> Result<(), AllocError>
+    ensures { OnOk result (map entry_of items.new.items ≡ map entry_of items.old.items ++ templates.newline) }
+{
+    put_const(items, Mnemonic::Lda, 0)?;
+    put_at(items, Mnemonic::Sta, COLUMN)?;
+    put_const(items, Mnemonic::Lda, b'\r')?;
+    put_at(items, Mnemonic::Jsr, CHROUT)
 }
 
 // A text inside the code, and the jump over it.
@@ -287,10 +300,7 @@ pub fn put_instruction(
             put_text(items, of, behind, text)
         }
         SlotInstr::SendZone => put_call(items, Routine::Zone),
-        SlotInstr::SendNewline => {
-            put_const(items, Mnemonic::Lda, b'\r')?;
-            put_at(items, Mnemonic::Jsr, SEND_AT)
-        }
+        SlotInstr::SendNewline => put_newline(items),
         SlotInstr::Input(letter) => {
             put_call(items, Routine::Input)?;
             put_copied(items, RESULT, variable_at(*letter))

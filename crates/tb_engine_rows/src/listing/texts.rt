@@ -18,57 +18,59 @@ const PRINTED: &[u8] = b"at0C10:
 text0C23:
   .byte $48 ; 0C23  H
 at0C24:
-  LDA #$0D ; 0C24  A9 0D
-  JSR send ; 0C26  20 1F 08
+  LDA #$00 ; 0C24  A9 00
+  STA $C034 ; 0C26  8D 34 C0  column
+  LDA #$0D ; 0C29  A9 0D
+  JSR $FFD2 ; 0C2B  20 D2 FF  chrout
 ; 20 gosub 3072
 line20:
 ";
 
 /// What belongs to no line.
 const BEHIND: &[u8] = b"past:
-  LDX #$08 ; 0CCE  A2 08
-  LDY #$0C ; 0CD0  A0 0C
-  LDA #$07 ; 0CD2  A9 07
-  JMP fault_line ; 0CD4  4C 9E 0B
+  LDX #$08 ; 0CD3  A2 08
+  LDY #$0C ; 0CD5  A0 0C
+  LDA #$07 ; 0CD7  A9 07
+  JMP fault_line ; 0CD9  4C 9E 0B
 find:
-  LDA #<line_table ; 0CD7  A9 EC
-  STA $FD ; 0CD9  85 FD  right
-  LDA #>line_table ; 0CDB  A9 0C
-  STA $FE ; 0CDD  85 FE  right+1
-  LDA #$04 ; 0CDF  A9 04
-  STA $C06A ; 0CE1  8D 6A C0  count
-  LDA #$00 ; 0CE4  A9 00
-  STA $C06B ; 0CE6  8D 6B C0  count+1
-  JMP search ; 0CE9  4C 83 0A
+  LDA #<line_table ; 0CDC  A9 F1
+  STA $FD ; 0CDE  85 FD  right
+  LDA #>line_table ; 0CE0  A9 0C
+  STA $FE ; 0CE2  85 FE  right+1
+  LDA #$04 ; 0CE4  A9 04
+  STA $C06A ; 0CE6  8D 6A C0  count
+  LDA #$00 ; 0CE9  A9 00
+  STA $C06B ; 0CEB  8D 6B C0  count+1
+  JMP search ; 0CEE  4C 83 0A
 line_table:
-  .word $000A ; 0CEC  0A 00
-  .word line10 ; 0CEE  00 0C
-  .word $0014 ; 0CF0  14 00
-  .word line20 ; 0CF2  29 0C
-  .word $0C00 ; 0CF4  00 0C
-  .word line3072 ; 0CF6  6E 0C
-  .word $0C08 ; 0CF8  08 0C
-  .word line3080 ; 0CFA  91 0C
+  .word $000A ; 0CF1  0A 00
+  .word line10 ; 0CF3  00 0C
+  .word $0014 ; 0CF5  14 00
+  .word line20 ; 0CF7  2E 0C
+  .word $0C00 ; 0CF9  00 0C
+  .word line3072 ; 0CFB  73 0C
+  .word $0C08 ; 0CFD  08 0C
+  .word line3080 ; 0CFF  96 0C
 ";
 
 const LABELS: &[u8] = b"al C:0be4 .poll
 al C:0c00 .line10
-al C:0c29 .line20
-al C:0c6e .line3072
-al C:0c91 .line3080
-al C:0cec .line_table
+al C:0c2e .line20
+al C:0c73 .line3072
+al C:0c96 .line3080
+al C:0cf1 .line_table
 al C:c000 .varA
 ";
 
 const MAP: &[u8] = b"part        addr   bytes    cost
 block       080D    1011      64
-line 10     0C00      41      61
-line 20     0C29      69     132
-line 3072   0C6E      35     180
-line 3080   0C91      91      84
-line_table  0CEC      16       0
-sum         080D    1263     521
-left        0CFC   37636   37367
+line 10     0C00      46      61
+line 20     0C2E      69     132
+line 3072   0C73      35     180
+line 3080   0C96      91      84
+line_table  0CF1      16       0
+sum         080D    1268     521
+left        0D01   37631   37367
 ";
 
 fn contains(text: &[u8], part: &[u8]) -> bool {

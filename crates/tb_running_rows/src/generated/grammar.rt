@@ -1,5 +1,5 @@
-//! The grammar of what is generated. A letter in lower case stands for one of the sixteen texts of its rule, `AGAIN`
-//! for the divisor chosen last, and every other byte for itself. A text that is to come up more often stands there
+//! The grammar of what is generated. A letter in lower case, or `EDGE`, stands for one of the sixteen texts of its rule,
+//! `AGAIN` for the divisor chosen last, and every other byte for itself. A text that is to come up more often stands there
 //! more than once.
 
 /// What stands for the divisor that was chosen last.
@@ -7,6 +7,9 @@ pub const AGAIN: u8 = b'@';
 
 /// The letter of the divisors that code is written for.
 pub const DIVISOR: u8 = b'c';
+
+/// What stands for a word at an edge of the order of words.
+const EDGE: u8 = b'#';
 
 /// What a case is made of.
 pub struct Kind {
@@ -22,10 +25,13 @@ pub const ANY: Kind = Kind {
     answers: b"w",
 };
 
-/// A program of what has short code: whether a quotient leaves nothing, remainders, steps, halves and doubles in
-/// place, products with constants, comparisons with them. What may be a fault, the division by any word, comes last.
+/// A program of what has short code: the order of words and constants at the edges, whether a quotient leaves nothing,
+/// remainders, steps, halves and doubles in place, products with constants, comparisons with them. What may be a fault,
+/// the division by any word, comes last.
 pub const SHORT: Kind = Kind {
     source: b"10 A=b\n20 B=b\n30 C=b\n40 D=b\n\
+        41 IF A r # GOTO 43\n42 PRINT 1;\n43 IF # r B GOTO 45\n44 PRINT 2;\n\
+        45 IF C r # PRINT 3;\n46 IF # r D PRINT 4;\n47 IF A-B r # PRINT 5;\n48 IF # r # PRINT 6\n\
         50 IF A/c*@=A GOTO 70\n60 x\n70 IF B/c*@<>B h\n80 IF C=C/c*@ THEN PRINT A;q\n90 IF z GOSUB 300\n\
         100 A=A+g\n110 B=B-g\n120 C=g+C\n130 D=D/2\n140 PRINT q,A-A/c*@,v*n,n*v,v/u,v/c\n\
         150 IF v r n GOTO 170\n160 x\n170 IF v r n THEN h\n180 B=2*B\n190 IF A r n GOTO 210\n200 C=q\n\
@@ -247,6 +253,11 @@ const WORD: [&[u8]; 16] = [
     b"n*RND(m)",
 ];
 
+const WORD_AT_EDGE: [&[u8]; 16] = [
+    b"0", b"0", b"1", b"1", b"-1", b"-1", b"2", b"-2", b"255", b"256", b"-256", b"32766", b"32767",
+    b"32767", b"32768", b"-32768",
+];
+
 const CONSTANT_DIVISOR: [&[u8]; 16] = [
     b"1", b"2", b"3", b"4", b"7", b"10", b"64", b"100", b"128", b"256", b"300", b"32767", b"32768",
     b"65535", b"(-1)", b"(-2)",
@@ -336,6 +347,7 @@ pub fn rule(letter: u8) -> Option<&'static [&'static [u8]; 16]> {
         b'a' => Some(&ANSWER),
         b'b' => Some(&WORD),
         DIVISOR => Some(&CONSTANT_DIVISOR),
+        EDGE => Some(&WORD_AT_EDGE),
         b'z' => Some(&EXACT),
         b'q' => Some(&REMAINDER),
         b'x' => Some(&STEP),

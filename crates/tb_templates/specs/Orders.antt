@@ -1,0 +1,74 @@
+-- How the order of two signed words is told, and its code.
+use Rattle.std.specs.Prelude.{ℕ, ◌+◌, ◌/◌, ◌%◌, List, [], ◌∷◌, ◌++◌, if◌then◌else◌, nat_eq}
+use Rattle.tb_opcodes.specs.declared.Mnemonic.{Mnemonic}
+use Rattle.tb_opcodes.specs.declared.Mnemonic.TheVariants.{Bcc, Bcs, Bmi, Bpl, Bvc, Cmp, Eor, Lda, Sbc}
+use Rattle.tb_asm.specs.Layout.{Entry}
+use Rattle.tb_templates.specs.declared.labels.Target.{Target}
+use Rattle.tb_templates.specs.Templates.{const, branch, here}
+use Rattle.tb_templates.specs.Sources.{Source, FixedWord, AtPlace, IsWhole, low_of, high_of}
+pub use Rattle.tb_templates.specs.declared.orders.Side.{Side}
+pub use Rattle.tb_templates.specs.declared.orders.Side.TheVariants.{Below, NotBelow}
+pub use Rattle.tb_templates.specs.declared.orders.Order.{Order}
+pub use Rattle.tb_templates.specs.declared.orders.Order.TheVariants.{BySign, ByConstant, ByDifference}
+
+-- ── how it is told ──
+-- by a word against a constant, of which the sign is enough where that is 0
+abbrev pub against : Side → Source → ℕ → Order
+against side a w = if nat_eq w 0 then BySign side a else ByConstant side a w
+
+-- whether a word is below the one at a place: a constant is where that is not below the constant's next one
+abbrev pub before_place : Source → ℕ → Order
+before_place (FixedWord v) q = if nat_eq v 32767 then ByDifference (FixedWord v) (AtPlace q) else against NotBelow (AtPlace q) ((v + 1) % 65536)
+before_place (AtPlace p) q = ByDifference (AtPlace p) (AtPlace q)
+
+-- whether a word is below another one
+abbrev pub order_of : Source → Source → Order
+order_of a (FixedWord w) = against Below a w
+order_of a (AtPlace q) = before_place a q
+
+-- its words stand at places whose next ones are addresses too
+abbrev pub AreWhole : Order → Type 0
+AreWhole (BySign side a) = IsWhole a
+AreWhole (ByConstant side a w) = IsWhole a
+AreWhole (ByDifference a b) = IsWhole a × IsWhole b
+
+-- ── its code ──
+-- the side on which a word is, where it is on this side of another one or, if that is wanted, where it is not
+abbrev pub other_side : Side → Side
+other_side Below = NotBelow
+other_side NotBelow = Below
+
+abbrev pub wanted_side : Side → Side → Side
+wanted_side Below side = side
+wanted_side NotBelow side = other_side side
+
+-- the branch that leaves unless a word is on a side of another one, by N, and by C
+abbrev pub unless_negative : Side → Mnemonic
+unless_negative Below = Bpl
+unless_negative NotBelow = Bmi
+
+abbrev pub unless_carry : Side → Mnemonic
+unless_carry Below = Bcs
+unless_carry NotBelow = Bcc
+
+-- N is whether a word is below 0
+abbrev pub signed : Side → Source → Target → List Entry
+signed side a next = high_of Lda a ∷ branch (unless_negative side) next ∷ []
+
+-- C is whether a word is at least a constant: with their highest bits turned they are compared as if they had no sign
+abbrev pub lifted : Source → ℕ → List Entry
+lifted a w = low_of Lda a ∷ const Cmp (w % 256) ∷ high_of Lda a ∷ const Eor 128 ∷ const Sbc ((w / 256 + 128) % 256) ∷ []
+
+-- N behind the difference of two signed words, turned where V is set, is whether a is below b
+abbrev pub weighed : Side → Source → Source → Target → Target → List Entry
+weighed side a b skip next =
+    low_of Lda a ∷ low_of Cmp b ∷ high_of Lda a ∷ high_of Sbc b ∷ branch Bvc skip ∷ const Eor 128 ∷ here skip ∷ branch (unless_negative side) next ∷ []
+
+-- leaves unless a word is on the wanted side of another one, by how that is told
+abbrev pub ordered_by : Order → Side → Target → Target → List Entry
+ordered_by (BySign side a) wanted skip next = signed (wanted_side wanted side) a next
+ordered_by (ByConstant side a w) wanted skip next = lifted a w ++ (branch (unless_carry (wanted_side wanted side)) next ∷ [])
+ordered_by (ByDifference a b) wanted skip next = weighed wanted a b skip next
+
+abbrev pub ordered : Side → Source → Source → Target → Target → List Entry
+ordered wanted a b skip next = ordered_by (order_of a b) wanted skip next
