@@ -30,6 +30,7 @@ pub mod Remainders
 pub mod LeftOver
 pub mod MultipleSide
 pub mod DividesLaws
+pub mod Rests
 pub mod Moves
 pub mod Faults
 pub mod Polled
