@@ -6,10 +6,9 @@ use Rattle.tb_cpu.specs.Effects.{has_bit}
 use Rattle.tb_opcodes.specs.declared.Mnemonic.TheVariants.{Lda}
 use Rattle.tb_words.specs.Words.{is_negative, magnitude, quotient, word}
 use Rattle.tb_syntax.specs.declared.expressions.Operator.TheVariants as op
-use Rattle.tb_syntax.specs.Source.{numbers}
 use Rattle.tb_lower.specs.Control.{State, fault_text}
 use Rattle.tb_lower.specs.Ranges.{AreInRange}
-use Rattle.tb_lower.specs.Slots.{Instr, Compute, Load, Slots, SlotCode, SlotState, Stays, act, into, with_word}
+use Rattle.tb_lower.specs.Slots.{Instr, Compute, Load, Slots, SlotCode, SlotState, into, with_word}
 use Rattle.tb_lower.specs.Steps.{Step, Goes, Stops, Faulted}
 use Rattle.tb_lower.specs.Values.{apply, given}
 use Rattle.tb_reaching.proofs.Comes.{chained, looser}
@@ -24,18 +23,17 @@ use Rattle.tb_keeping.proofs.Joins.{sent_in}
 use Rattle.tb_keeping.proofs.Pieces.{loads_last, moves_looser, whatever}
 use Rattle.tb_keeping.proofs.Resolved.{Code, Lies, Piece, call, copied, highest_code, pieces_size, size}
 use Rattle.tb_keeping.proofs.Returning.{back_here, moved}
-use Rattle.tb_selection.specs.declared.liveness.Live.{Live}
 use Rattle.tb_selection.specs.Groups.{Operand, Constant, Variable, InSlot, Destination, IntoSlot, IntoHome, Remains, expand, fetch, kept, multiple, slot_of}
 use Rattle.tb_selection.specs.GroupSteps.{steps}
 use Rattle.tb_selection.specs.Liveness.{live}
-use Rattle.tb_selection.specs.Select.{omits_only_dead, select}
+use Rattle.tb_selection.specs.Select.{omits_only_dead}
 use Rattle.tb_templates.specs.declared.sources.Source.{Source}
 use Rattle.tb_templates.specs.declared.sources.Source.TheVariants.{FixedWord, AtPlace}
 use Rattle.tb_templates.specs.GroupTemplates.{may_be_zero}
 use Rattle.tb_templates.specs.Sources.{destination_at, source_of}
 use Rattle.tb_templates.specs.Templates.{var_at}
 use Rattle.tb_grouping.proofs.Calculations.{subtracted_word}
-use Rattle.tb_grouping.proofs.Coded.{GroupsLie, Negative, brought, over_at, remains_code, rest_asked, rest_at, rest_turned, sign_looked_at, signed_rest, way_size, lined_code}
+use Rattle.tb_grouping.proofs.Coded.{Negative, brought, lined_code, over_at, remains_code, rest_asked, rest_at, rest_turned, sign_looked_at, signed_rest, way_size}
 use Rattle.tb_grouping.proofs.Constants.{constant_is}
 use Rattle.tb_grouping.proofs.Handed.{asks_by, comes_back, result_gives}
 use Rattle.tb_grouping.proofs.InPlace.{Forked, forked}
