@@ -166,18 +166,12 @@ module _ (code : SlotCode) (n : ℕ) (how : Divisibility) (v : ℕ) (d : Operand
   swapped Divisible p q = same_either_way p q
   swapped Indivisible p q = ap not (same_either_way p q)
 
-  words_are : holds (compared how) (tested_word s last (left_word side)) (fetched s last 0 (right_word v side)) ≡ holds (compared how) product dividend
-  words_are = by side product_is (held_stands code n 0 v d s start start_length (omega arith))
-    where
-      by : (side : Side) → slice_index (multiplied code n 0 v d s (begun s r v side) (begun_length s r v side ∙ all) (omega arith)).words 0 ≡ product → (multiplied code n 0 v d s (begun s r v side) (begun_length s r v side ∙ all) (omega arith)).held ≡ (begun s r v side).held
-          → holds (compared how) (tested_word s (multiplied code n 0 v d s (begun s r v side) (begun_length s r v side ∙ all) (omega arith)) (left_word side)) (fetched s (multiplied code n 0 v d s (begun s r v side) (begun_length s r v side ∙ all) (omega arith)) 0 (right_word v side)) ≡ holds (compared how) product dividend
-      by OnLeft e e' = ap (λ p. holds (compared how) p dividend) e
-      by OnRight e e' =
-          (λ i. holds (compared how) ((e' ∙ same_slot r 0 dividend (omega (arith, all))) i) (e i))
-          ∙ swapped how dividend product
+  words_by : (side : Side) (q : Slots) → slice_index q.words 0 ≡ product → q.held ≡ (begun s r v side).held → holds (compared how) (tested_word s q (left_word side)) (fetched s q 0 (right_word v side)) ≡ holds (compared how) product dividend
+  words_by OnLeft q e e' = ap (λ p. holds (compared how) p dividend) e
+  words_by OnRight q e e' = (λ i. holds (compared how) ((e' ∙ same_slot r 0 dividend (omega (arith, all))) i) (e i)) ∙ swapped how dividend product
 
   holds_so : dividend < 65536 → divisor < 65536 → divisor ≢ 0 → (t : Bool) → asked ≡ t → holds (compared how) (tested_word s last (left_word side)) (fetched s last 0 (right_word v side)) ≡ t
-  holds_so small small' some t e = words_are ∙ by how ∙ e
+  holds_so small small' some t e = words_by side last product_is (held_stands code n 0 v d s start start_length (omega arith)) ∙ by how ∙ e
     where
       same : nat_eq product dividend ≡ nat_eq (magnitude dividend % magnitude divisor) 0
       same = multiple_is dividend divisor small small' some

@@ -123,15 +123,15 @@ module _ (f : Setup) (room : ℕ) (fits : Fits f room) (at : ℕ) (bs : List ℕ
 module _ (f : Setup) (room : ℕ) (fits : Fits f room) (bs keys gets : List ℕ) (small : leb (length bs) room ≡ true) where
   -- ---- code with a branch over a part of it
   -- what stands behind the branch, and where the branch leads by its flag
-  record Forked (first : Way) (at : ℕ) (before : List machine.Instr) (which : Flag) (wanted : Bool) (skipped back : List machine.Instr) : Type 0 where
-    stands : Stands f.code (at + size before + way_size first) skipped
-    behind_stands : Stands f.code (over_at first at before skipped) back
-    ends : over_at first at before skipped + size back ≤ highest_code
-    end_is : over_at first at before skipped + size back ≡ at + pieces_size (over_code first at before which wanted skipped back)
-    leads : (m : ℕ → ℕ) (t : Bool) (w : View) → Here (at + size before) bs m keys gets w → asked_in which w ≡ t
+  pub record Forked (first : Way) (at : ℕ) (before : List machine.Instr) (which : Flag) (wanted : Bool) (skipped back : List machine.Instr) : Type 0 where
+    pub stands : Stands f.code (at + size before + way_size first) skipped
+    pub behind_stands : Stands f.code (over_at first at before skipped) back
+    pub ends : over_at first at before skipped + size back ≤ highest_code
+    pub end_is : over_at first at before skipped + size back ≡ at + pieces_size (over_code first at before which wanted skipped back)
+    pub leads : (m : ℕ → ℕ) (t : Bool) (w : View) → Here (at + size before) bs m keys gets w → asked_in which w ≡ t
         → Comes f w (Led f room fits bs m keys gets small w (cond (is_taken wanted t) (over_at first at before skipped) (at + size before + way_size first))) [] 2
 
-  forked : (first : Way) (at : ℕ) (before : List machine.Instr) (which : Flag) (wanted : Bool) (skipped back : List machine.Instr) → Lies f.code at (over_code first at before which wanted skipped back) → OverReaches first at before skipped
+  pub forked : (first : Way) (at : ℕ) (before : List machine.Instr) (which : Flag) (wanted : Bool) (skipped back : List machine.Instr) → Lies f.code at (over_code first at before which wanted skipped back) → OverReaches first at before skipped
       → Forked first at before which wanted skipped back
   forked first at before which wanted skipped back lies reach =
       let parts = branch_behind f (at + size before) first which wanted (over_at first at before skipped) (Code skipped ∷ Code back ∷ []) lies.2 in record {

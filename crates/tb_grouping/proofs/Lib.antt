@@ -32,6 +32,7 @@ pub mod LeftOver
 pub mod Stepping
 pub mod MultipleSide
 pub mod DividesLaws
+pub mod Rests
 pub mod Moves
 pub mod Faults
 pub mod Polled

@@ -92,6 +92,30 @@ again s t a b x y hx hy some =
 pub multiple_is : (x y : ℕ) → x < 65536 → y < 65536 → y ≢ 0 → nat_eq (word (quotient x y * y)) x ≡ nat_eq (magnitude x % magnitude y) 0
 multiple_is x y hx hy some = again (is_negative x) (is_negative y) (magnitude x) (magnitude y) x y (has_sign x hx (is_negative x) refl) (has_sign y hy (is_negative y) refl) some
 
+-- ---- what is left of a word where that product is taken
+-- a size with a sign, turned by a subtraction from 0
+abbrev pub turned_size : Bool → ℕ → ℕ
+turned_size true r = word (0 + (65536 - r))
+turned_size false r = r
+
+less_part : (s : Bool) (a x p r : ℕ) → HasSign s a x → a ≤ 32768 → p + r ≡ a → word (x + (65536 - with_sign s p)) ≡ turned_size s r
+less_part true a x p r h few e = ⊎_elim (λ z. omega (arith, h.0, h.1, few, e, z)) (λ n. omega (arith, h.0, h.1, few, e, n)) (cases_eq p 0)
+less_part false a x p r h few e = omega (arith, h.0, few, e)
+
+left_of : (s t : Bool) (a b x y : ℕ) → HasSign s a x → HasSign t b y → y ≢ 0 → word (x + (65536 - word (with_sign (differ s t) (a / b) * y))) ≡ turned_size s (a % b)
+left_of s t a b x y hx hy some =
+    let one = some_size t b y hy some in
+    let few = sign_bound s a x hx in
+    let whole : b * (a / b) + a % b ≡ a = omega (arith, one) in
+    let same = mul_comm (a / b) b in
+    let less = div-le_self a b in
+    ap (λ n. word (x + (65536 - n))) (product_sign s t b (a / b) y hy (omega (arith, less, few)) (omega (arith, whole, same, few)))
+    ∙ less_part s a x (a / b * b) (a % b) hx few (omega (arith, whole, same))
+
+-- a word less its quotient times the divisor is the size of the remainder with the word's sign
+pub rest_is : (x y : ℕ) → x < 65536 → y < 65536 → y ≢ 0 → word (x + (65536 - word (quotient x y * y))) ≡ turned_size (is_negative x) (magnitude x % magnitude y)
+rest_is x y hx hy some = left_of (is_negative x) (is_negative y) (magnitude x) (magnitude y) x y (has_sign x hx (is_negative x) refl) (has_sign y hy (is_negative y) refl) some
+
 -- ---- where it is seen
 -- both bytes of a word are 0 where it is
 pub either_byte : (v : ℕ) → eqb (bit_or (v % 256) (v / 256)) 0 ≡ nat_eq v 0
