@@ -5,6 +5,7 @@ pub mod Scaled
 pub mod InPlace
 pub mod Masks
 pub mod GroupTemplates
+pub mod Breaks
 pub mod Program
 pub mod Sizes
 pub mod Layout
