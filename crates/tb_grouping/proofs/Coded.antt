@@ -1,5 +1,5 @@
 -- The code of groups as instructions at their places.
-use Rattle.std.specs.Prelude.{◌≡◌, ℕ, zero, suc, ◌+◌, ◌/◌, ◌%◌, ◌≤◌, ◌<◌, List, [], ◌∷◌, ◌++◌, length, Bool, true, false, if◌then◌else◌, bit_xor, nat_eq, nat_lt, Option, Some, None}
+use Rattle.std.specs.Prelude.{◌≡◌, ℕ, zero, suc, ◌+◌, ◌/◌, ◌%◌, ◌≤◌, ◌<◌, List, [], ◌∷◌, ◌++◌, length, Bool, true, false, not, if◌then◌else◌, bit_xor, nat_eq, nat_lt, Option, Some, None}
 use Rattle.tb_asm.specs.Layout.{distance, is_near}
 use Rattle.tb_syntax.specs.Source.{numbers}
 use Rattle.tb_reaching.specs.View.{Part}
@@ -14,6 +14,7 @@ use Rattle.tb_lower.specs.Slots as slots
 use Rattle.tb_runtime16.specs.Places.{LEFT, RIGHT, RESULT, WANTED, LINE, NOTES, NOTE_LOW, NOTE_HIGH, MULTIPLY_AT, DIVIDE_AT, RANDOM_AT, NUMBER_AT, PUSH_AT, POP_AT}
 use Rattle.tb_templates.specs.declared.sources.Source.{Source}
 use Rattle.tb_templates.specs.declared.sources.Source.TheVariants.{FixedWord, AtPlace}
+use Rattle.tb_templates.specs.Breaks.{leaves}
 use Rattle.tb_templates.specs.GroupTemplates.{may_fault, may_be_zero, may_have_none, is_zero}
 use Rattle.tb_templates.specs.Scaled.{all_but_lowest, scaling, shifts}
 use Rattle.tb_templates.specs.declared.in_place.Change.{Change}
@@ -23,7 +24,7 @@ use Rattle.tb_templates.specs.Masks.{mask}
 use Rattle.tb_templates.specs.Sources.{source_of, tested_source, home_at, destination_at}
 use Rattle.tb_keeping.specs.Layout.{Layout, next_at, place_at}
 use Rattle.tb_keeping.proofs.Resolved.{Piece, Code, Lies, pieces_size, size, sta_at, copied, constant, pointed, call, faulting, jump, jump_through, template, highest_code, locate_code, past_code}
-use Rattle.tb_selection.specs.Groups.{Conversion, Negated, Drawn, Usage, AsNumber, AsLine, AsSubroutine, Variable, Divisibility, Divisible, Indivisible, Group, Calculate, Convert, Move, Use, Test, TestGo, Divides, Single, contrary, denied, slot_of, expand}
+use Rattle.tb_selection.specs.Groups.{Conversion, Negated, Drawn, Usage, AsNumber, AsLine, AsSubroutine, Variable, Divisibility, Divisible, Indivisible, Group, Calculate, Convert, Move, Use, Test, TestGo, Divides, Single, contrary, denied, slot_of, expand, expand_all}
 use Rattle.tb_selection.specs.Select.{select}
 use Rattle.tb_grouping.proofs.Sources.{Byte, Fixed, At, lda, adc, sbc, cmp}
 
@@ -517,21 +518,29 @@ BranchesReach ly n at first second (Divides how x d to) = DividesReach ly n at f
 BranchesReach ly n at first second (Single i) = OnlyIf (has_branches i) (BranchingReaches ly first second at i)
 BranchesReach ly n at first second _ = Unit {0}
 
--- the groups of the rest of line n, behind which the next line begins
+-- what is said of what is behind a group, where its code may go on into that
+abbrev pub Behind : Group → Type 0 → Type 0
+Behind g claim = OnlyIf (not (leaves g)) claim
+
+-- the groups of the rest of line n, behind which the next line begins where they go on into what is behind them
 abbrev pub GroupsLie : Layout → Part → (n at : ℕ) → List Group → Type 0
 GroupsLie ly code n at [] = at ≡ next_at ly n
 GroupsLie ly code n at (g ∷ gs) =
-    (first second : Way) × AreInRange 256 (expand g) × Lies code at (group_code ly n at first second g) × GroupsLie ly code n (at + pieces_size (group_code ly n at first second g)) gs × BranchesReach ly n at first second g × (0x0800 ≤ at)
+    (first second : Way) × AreInRange 256 (expand_all (g ∷ gs)) × Lies code at (group_code ly n at first second g) × Behind g (GroupsLie ly code n (at + pieces_size (group_code ly n at first second g)) gs) × BranchesReach ly n at first second g × (0x0800 ≤ at)
 
 -- ---- lines
--- behind the call of GETIN, at an address: a break faults
-abbrev pub poll_code : (n at : ℕ) → Way → List Piece
-poll_code n at way = Code (ins 0xC9 3 ∷ []) ∷ Code (branch_code way (branch_on Zero false) (at + 2) (at + 11 + way_size way)) ∷ Code (faulting n 0) ∷ []
+-- behind the call of GETIN, at an address: the STOP key leads elsewhere
+abbrev pub poll_code : (at : ℕ) → Way → ℕ → List Piece
+poll_code at way stop = Code (ins 0xC9 3 ∷ []) ∷ Code (branch_code way (branch_on Zero true) (at + 2) stop) ∷ []
+
+-- what is done there for it in line n
+abbrev pub broken_code : ℕ → List Piece
+broken_code n = Code (faulting n 0) ∷ []
 
 -- a line whose list begins with a poll; its first instruction is among all the program's bytes only
 abbrev pub LineStands : Layout → (code whole : Part) (n at : ℕ) → List slots.Instr → Type 0
 LineStands ly code whole n at is =
-    (way : Way) × (at + 3 ≤ highest_code) × Stands whole at (call 0xFFE4) × Lies code (at + 3) (poll_code n (at + 3) way) × BranchReaches way (at + 5) (at + 14 + way_size way) × GroupsLie ly code n (at + 14 + way_size way) (select is)
+    (way : Way) × (stop : ℕ) × (at + 3 ≤ highest_code) × Stands whole at (call 0xFFE4) × Lies code (at + 3) (poll_code (at + 3) way stop) × BranchReaches way (at + 5) stop × Lies code stop (broken_code n) × GroupsLie ly code n (at + 5 + way_size way) (select is)
 
 -- a list that begins with a poll, the rest of which stands behind it
 pub record PolledLine (ly : Layout) (code whole : Part) (n : ℕ) (js : List slots.Instr) : Type 0 where

@@ -289,8 +289,12 @@ rows_woven (n ∷ ns) low breaks = rows_woven ns low breaks
 -- what belongs to no line
 rest_woven : (ns asking : List ℕ) (from : ℕ) → RisingFrom from asking → Woven (base 65536 0) (break_base from) (past_code ns ++ (all_broken asking ++ (find_code ns ++ table_code ns)))
 rest_woven ns asking from r =
-    inl (omega arith, omega arith, broken_woven (key_of (label_of Past) + 1) from asking [] (find_code ns ++ table_code ns) (subst (RisingFrom from) (sym (append-nil asking)) r)
-    (λ to b. inl (omega arith, omega arith, inl (omega arith, omega arith, rows_woven ns (key_of (label_of Table) + 1) (break_base to)))))
+    inl (
+      omega arith,
+      omega arith,
+      broken_woven (key_of (label_of Past) + 1) from asking [] (find_code ns ++ table_code ns) (subst (RisingFrom from) (sym (append-nil asking)) r)
+          (λ to b. inl (omega arith, omega arith, inl (omega arith, omega arith, rows_woven ns (key_of (label_of Table) + 1) (break_base to)))),
+    )
 
 pub program_woven : (seed : ℕ) (code : SlotCode) → RisingFrom 0 (numbers code) → AreCodable code → Woven lowest 0 (program_code seed code)
 program_woven seed code r c =

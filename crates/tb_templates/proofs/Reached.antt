@@ -375,22 +375,19 @@ lines_stand labels ns seed a asking (line ∷ lines) h =
 -- a number of one list or of the other
 either : (P : Type 0) (ms ks : List ℕ) (n : ℕ) → (has_line ms n ≡ true → P) → (has_line ks n ≡ true → P) → has_line (ms ++ ks) n ≡ true → P
 either P [] ks n f g e = g e
-either P (m ∷ ms) ks n f g e = by (nat_eq m n) refl e
+either P (m ∷ ms) ks n f g e = by (nat_eq m n) refl e (either P ms ks n (λ h. f (or_right (nat_eq m n) (has_line ms n) h)) g)
   where
-    by : (t : Bool) → nat_eq m n ≡ t → (t || has_line (ms ++ ks) n) ≡ true → P
-    by true q k = f (ap (λ b. b || has_line ms n) q)
-    by false q k = either P ms ks n (λ h. f (or_right (nat_eq m n) (has_line ms n) h)) g k
+    by : (t : Bool) → nat_eq m n ≡ t → (t || has_line (ms ++ ks) n) ≡ true → (has_line (ms ++ ks) n ≡ true → P) → P
+    by true q k later = f (ap (λ b. b || has_line ms n) q)
+    by false q k later = later k
 
 broken_stand : (labels : List (Name × ℕ)) (a : ℕ) (ns : List ℕ) → LabelsAt labels a (all_broken ns) → BreaksStand labels ns
 broken_stand labels a [] h = λ n e. absurd (true≢false (sym e))
-broken_stand labels a (m ∷ ms) h = λ n e. by n (nat_eq m n) refl e
+broken_stand labels a (m ∷ ms) h = λ n e. by n (nat_eq m n) refl e (broken_stand labels (a + 0 + 2 + 2 + 2 + 3) ms h.1.1.1.1.1 n)
   where
-    rest : BreaksStand labels ms
-    rest = broken_stand labels _ ms h.1.1.1.1.1
-
-    by : (n : ℕ) (t : Bool) → nat_eq m n ≡ t → (t || has_line ms n) ≡ true → Stands labels (target.Break n)
-    by n true e k = subst (λ m. Stands labels (target.Break m)) (let same : m ≡ n = grind (arith, nat_tests, e) in same) (ap is_some h.0)
-    by n false e k = rest n k
+    by : (n : ℕ) (t : Bool) → nat_eq m n ≡ t → (t || has_line ms n) ≡ true → (has_line ms n ≡ true → Stands labels (target.Break n)) → Stands labels (target.Break n)
+    by n true e k rest = subst (λ m. Stands labels (target.Break m)) (let same : m ≡ n = grind (arith, nat_tests, e) in same) (ap is_some h.0)
+    by n false e k rest = rest k
 
 -- what is done for the STOP key stands, of lines that ask for it behind some of them or behind them all
 done_stand : (labels : List (Name × ℕ)) (a : ℕ) (t : Bool) (ms ks : List ℕ) → LabelsAt labels a (done_behind t ms) → BreaksStand labels (left_behind t ms ++ ks) → BreaksStand labels (ms ++ ks)

@@ -86,11 +86,11 @@ broken_straight (n ∷ ns) = broken_straight ns
 
 straight_both : (xs ys : List Entry) → list_all is_straight xs ≡ true → list_all is_straight ys ≡ true → list_all is_straight (xs ++ ys) ≡ true
 straight_both [] ys h k = k
-straight_both (x ∷ xs) ys h k = by (is_straight x) h
+straight_both (x ∷ xs) ys h k = by (is_straight x) h (λ h. straight_both xs ys h k)
   where
-    by : (t : Bool) → (t && list_all is_straight xs) ≡ true → (t && list_all is_straight (xs ++ ys)) ≡ true
-    by true h = straight_both xs ys h k
-    by false h = h
+    by : (t : Bool) → (t && list_all is_straight xs) ≡ true → (list_all is_straight xs ≡ true → list_all is_straight (xs ++ ys) ≡ true) → (t && list_all is_straight (xs ++ ys)) ≡ true
+    by true h later = later h
+    by false h later = h
 
 -- what is done for the STOP key in the last lines
 abbrev pub last_broken : SlotCode → List Entry

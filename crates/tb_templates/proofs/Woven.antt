@@ -81,10 +81,10 @@ same_key : (n m : Name) → same_name n m ≡ true → key_of n ≡ key_of m
 same_key n m e = ap key ((bytes_decides n.letters.items m.letters.items).0 e)
 
 other : (n m : Name) → (key_of n ≡ key_of m → ⊥) → same_name n m ≡ false
-other n m no = by (same_name n m) refl
+other n m unlike = by (same_name n m) refl
   where
     by : (t : Bool) → same_name n m ≡ t → t ≡ false
-    by true e = absurd (no (same_key n m e))
+    by true e = absurd (unlike (same_key n m e))
     by false e = refl
 
 -- ── no name stands twice ──

@@ -28,7 +28,8 @@ pub fn put_polled(items: &mut Vec<Item>, line: u16) -> Result<(), AllocError>
 {
     put_at(items, Mnemonic::Jsr, GETIN)?;
     put_const(items, Mnemonic::Cmp, STOP)?;
-    put_branch(items, Mnemonic::Beq, Target::Break(line))
+    put_branch(items, Mnemonic::Beq, Target::Break(line))?;
+    Ok(())
 }
 
 /// What is done for the STOP key in these lines: a break is a fault.
@@ -61,7 +62,7 @@ pub fn some_leaves(groups: &[Group<'_>]) -> bool
 
 // Whether a group leaves the line in any case: a test doesn't.
 fn leaves(group: Group<'_>) -> bool
-    ensures { result ≡ breaks.leaves (group_of group) }
+    ensures { result ≡ breaks.leaves (group_of group.entry) }
 {
     match group {
         Group::Use(how, _) => !matches!(how, Usage::AsNumber),
