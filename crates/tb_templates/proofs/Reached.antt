@@ -373,7 +373,7 @@ lines_stand labels ns seed a asking (line ∷ lines) h =
     by n false e k here rest = rest k
 
 -- a number of one list or of the other
-either : (P : Type 0) (ms ks : List ℕ) (n : ℕ) → (has_line ms n ≡ true → P) → (has_line ks n ≡ true → P) → has_line (ms ++ ks) n ≡ true → P
+pub either : (P : Type 0) (ms ks : List ℕ) (n : ℕ) → (has_line ms n ≡ true → P) → (has_line ks n ≡ true → P) → has_line (ms ++ ks) n ≡ true → P
 either P [] ks n f g e = g e
 either P (m ∷ ms) ks n f g e = by (nat_eq m n) refl e (either P ms ks n (λ h. f (or_right (nat_eq m n) (has_line ms n) h)) g)
   where

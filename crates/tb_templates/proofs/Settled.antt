@@ -80,7 +80,7 @@ rows_straight : (ns : List ℕ) → list_all is_straight (rows_code ns) ≡ true
 rows_straight [] = refl
 rows_straight (n ∷ ns) = rows_straight ns
 
-broken_straight : (ns : List ℕ) → list_all is_straight (all_broken ns) ≡ true
+pub broken_straight : (ns : List ℕ) → list_all is_straight (all_broken ns) ≡ true
 broken_straight [] = refl
 broken_straight (n ∷ ns) = broken_straight ns
 
