@@ -8,8 +8,8 @@ use Rattle.tb_reaching.proofs.Instr.{Stands}
 use Rattle.tb_keeping.specs.Layout.{Layout, inner, is_start}
 use Rattle.tb_keeping.proofs.LineStarts.{AreApart, has_content, not_inner}
 use Rattle.tb_keeping.proofs.Resolved.{Lies, highest_code}
-use Rattle.tb_grouping.proofs.Branches.{added, gets_there}
-use Rattle.tb_grouping.proofs.Coded.{GroupsLaid, LineStands, Way, Short, Long, Zero, BranchReaches, branch_code, branch_on, broken_code}
+use Rattle.tb_grouping.proofs.Branches.{added, branch_size, gets_there}
+use Rattle.tb_grouping.proofs.Coded.{GroupsLaid, LineStands, Way, Short, Long, Zero, BranchReaches, branch_code, branch_on, broken_code, way_size}
 
 -- a line's number is read where its poll goes for the STOP key
 module _ (code : Part) where
@@ -33,6 +33,11 @@ module _ (code : Part) where
       omega (arith, low, high)
   same_stop at a b Short Long below h k r q = absurd (let no = same_byte _ _ _ h.0.0 k.0.0 in omega (arith, no))
   same_stop at a b Long Short below h k r q = absurd (let no = same_byte _ _ _ h.0.0 k.0.0 in omega (arith, no))
+
+-- a branch has two bytes or more
+some_bytes : (way : Way) → 2 ≤ way_size way
+some_bytes Short = omega arith
+some_bytes Long = omega arith
 
 module _ (ly : Layout) (whole : Part) (sc : SlotCode) (laid : GroupsLaid ly (inner ly whole) whole sc) where
   below : (n : ℕ) → ly.start n < 0xA000
@@ -61,7 +66,7 @@ module _ (ly : Layout) (whole : Part) (sc : SlotCode) (laid : GroupsLaid ly (inn
       let branch : ly.start m + 3 + 2 ≡ at = omega arith in
       let mine = subst (λ p. Stands within p (branch_code there.0 (branch_on Zero true) p there.1)) branch there.4.2.1 in
       let other = subst (λ p. Stands within p (branch_code k.stands.0 (branch_on Zero true) p k.stands.1)) branch k.stands.4.2.1 in
-      let stop : there.1 ≡ k.stands.1 = same_stop within at there.1 k.stands.1 there.0 k.stands.0 (let b = there.4.2.0 in omega (arith, b)) mine other there.5 k.stands.5 in
+      let stop : there.1 ≡ k.stands.1 = same_stop within at there.1 k.stands.1 there.0 k.stands.0 (let b = there.4.2.0 in let z = branch_size there.0 Zero true (ly.start m + 3 + 2) there.1 in let w = some_bytes there.0 in omega (arith, b, z, w)) mine other there.5 k.stands.5 in
       same_number within k.stands.1 n m l.small k.small (subst (λ p. Lies within p (broken_code n)) stop there.6) k.stands.6
 
   pub lines_apart : AreApart ly sc

@@ -248,7 +248,7 @@ module _ (part : Part) (labels : List (Name × ℕ)) (ns : List ℕ) (seed : ℕ
     lies : Lies part labels (place_of labels (target.Break n)) (broken n)
     clear : (m : ℕ) → has_line ns m ≡ true → (at m < place_of labels (target.Break n)) ⊎ (place_of labels (target.Break n) + size (broken n) ≤ at m)
 
-  AllBroken : List ℕ → Type 0
+  abbrev AllBroken : List ℕ → Type 0
   AllBroken ms = (n : ℕ) → has_line ms n ≡ true → Broken n
 
   broken_in : (b to : ℕ) (ms : List ℕ) → Lies part labels b (all_broken ms) → b + size (all_broken ms) ≤ to → ((m : ℕ) → has_line ns m ≡ true → (at m < b) ⊎ (to ≤ at m)) → AllBroken ms
