@@ -5,3 +5,4 @@ pub mod Placed
 pub mod Texts
 pub mod Kept
 pub mod Marked
+pub mod Stretches

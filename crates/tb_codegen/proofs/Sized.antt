@@ -27,7 +27,7 @@ use Rattle.tb_words.specs.Words.{word_of}
 use Rattle.tb_codegen.specs.declared.compiled.Compiled.{Compiled}
 use Rattle.tb_codegen.specs.Compiled.{prg_of, starts_of, table_of, warnings_of, IsCompiled, starts_in, stands_at, AreKnown, StartsRise, most}
 use Rattle.tb_codegen.specs.Texts.{LinesHoldTexts, offset_of}
-use Rattle.tb_templates.proofs.Settled.{Sections, sections}
+use Rattle.tb_templates.proofs.Settled.{Sections, last_broken, sections}
 use Rattle.tb_codegen.proofs.Placed.{lines_known, lines_begin_in_order, start_numbers}
 use Rattle.tb_codegen.proofs.Texts.{lines_texts}
 use Rattle.tb_codegen.proofs.Small.{AreSmall, are_small, small_spaced, small_short}
@@ -123,7 +123,7 @@ module _ (seed : ℕ) (code : SlotCode) (s : IsSettling seed code) (from : ℕ) 
   placed = sections seed code s.lists s.rising items l.settled
 
   pub known : AreKnown labels (numbers code)
-  known = subst (λ ls. AreKnown ls (numbers code)) (sym l.labels_are) (lines_known own (numbers code) seed LINES_AT code placed.lines placed.of_lines placed.line_labels)
+  known = subst (λ ls. AreKnown ls (numbers code)) (sym l.labels_are) (lines_known own (numbers code) seed LINES_AT [] code placed.lines placed.of_lines placed.line_labels)
 
   pub has_table : is_some (address_in labels (label_of Table)) ≡ true
   has_table = ap (λ ls. is_some (address_in ls (label_of Table))) l.labels_are ∙ ap is_some placed.table
@@ -145,7 +145,7 @@ file_texts seed p items file g is =
     let ns = numbers code in
     let labels = labels_from PROLOGUE_AT items in
     let lines = items_from LINES_AT g.lines in
-    let tail = past_code ns ++ (find_code ns ++ table_code ns) in
+    let tail = past_code ns ++ (last_broken code ++ (find_code ns ++ table_code ns)) in
     let start = PROLOGUE_AT + size block_code in
     let here : start ≡ LINES_AT = (let b = block_size in omega (arith, b)) in
     let block = bytes_from labels PROLOGUE_AT block_code in
@@ -158,7 +158,7 @@ file_texts seed p items file g is =
     let before : length (header ++ block) ≡ offset_of LINES_AT =
     (let a = length-append header block in let b = all_size labels PROLOGUE_AT block_code in let c = block_size in omega (arith, a, b, c)) in
     subst (λ f. LinesHoldTexts f (stands_at labels (label_of Past)) (starts_in labels (numbers p)) p) whole
-    (lines_texts labels ns seed (stands_at labels (label_of Past)) LINES_AT p g.lines (header ++ block) back g.of_lines g.line_labels g.past (omega arith) before)
+    (lines_texts labels ns seed (stands_at labels (label_of Past)) LINES_AT [] p g.lines (header ++ block) back g.of_lines g.line_labels g.past (omega arith) before)
 
 -- a program's compiled form, from its image's bytes and labels
 pub made : (seed : ℕ) (p : Program) (code : SlotCode) (c : Compiled) (from : ℕ) (image : List ℕ) (labels : List (Name × ℕ)) → code ≡ lowered.program_code p → IsSettling seed code → too_deep p ≡ None → cost p ≤ most
@@ -181,7 +181,7 @@ made seed p code c from image labels same s shallow small l file starts table wa
       ends = items_end seed code s from image labels l;
       starts = all;
       lines = ap (map (λ s. s.0)) all ∙ start_numbers own (numbers p);
-      rising = subst (StartsRise LINES_AT) (sym all) (lines_begin_in_order own (numbers (lowered.program_code p)) seed LINES_AT p g.lines g.of_lines g.line_labels);
+      rising = subst (StartsRise LINES_AT) (sym all) (lines_begin_in_order own (numbers (lowered.program_code p)) seed LINES_AT [] p g.lines g.of_lines g.line_labels);
       table = ap (λ ls. address_in ls (label_of Table)) (sym l.labels_are) ∙ table;
       warned = warned;
     }

@@ -22,7 +22,8 @@ use Rattle.tb_templates.specs.declared.labels.Inner.TheVariants as inner
 use Rattle.tb_templates.specs.declared.labels.Target.TheVariants as target
 use Rattle.tb_runtime16.specs.Places.{POINTER}
 use Rattle.tb_templates.specs.Templates.{address, text_call, jump, here}
-use Rattle.tb_templates.specs.GroupTemplates.{group_template, polled}
+use Rattle.tb_templates.specs.GroupTemplates.{group_template}
+use Rattle.tb_templates.specs.Breaks.{polled, done_behind, ends_away}
 use Rattle.tb_templates.specs.Layout.{LabelsAt}
 use Rattle.tb_templates.specs.Program.{rest_code, line_code, lines_code}
 use Rattle.tb_settling.specs.Settled.{AreFormsOf}
@@ -31,12 +32,17 @@ use Rattle.tb_selection.specs.Groups.{Operand, Constant, Variable, InSlot, Home,
 use Rattle.tb_selection.specs.Select.{select}
 use Rattle.tb_selection.proofs.Bracketed.{brackets}
 use Rattle.tb_codegen.specs.Compiled.{stands_at, starts_in}
-use Rattle.tb_templates.proofs.Settled.{joined_items, labels_behind, line_at, total_size}
+use Rattle.tb_templates.proofs.Settled.{joined_items, labels_behind, total_size}
+use Rattle.tb_codegen.proofs.Stretches.{asking_on, stretch, stretch_at, stretched}
 use Rattle.tb_codegen.specs.Texts.{TextsStand, none, text, offset_of, end_before, LinesHoldTexts}
 
 lower : (image : List ℕ) (to from from' : ℕ) (texts : List (List ℕ)) → from ≤ from' → TextsStand image to from' texts → TextsStand image to from texts
 lower image to from from' _ l (none _ h) = none from (omega (arith, l, h))
 lower image to from from' _ l (text _ place t texts h is rest) = text from place t texts (omega (arith, l, h)) is rest
+
+raise : (image : List ℕ) (to to' from : ℕ) (texts : List (List ℕ)) → to ≤ to' → TextsStand image to from texts → TextsStand image to' from texts
+raise image to to' from _ l (none _ h) = none from (omega (arith, l, h))
+raise image to to' from _ l (text _ place t texts h is rest) = text from place t texts h is (raise image to to' (place + length t) texts l rest)
 
 take_middle : (front t back : List ℕ) → take (length t) (drop (length front) (front ++ (t ++ back))) ≡ t
 take_middle [] [] back = refl
@@ -89,6 +95,14 @@ loud labels a xs ys t texts h front back =
     ap (λ i. take (length t) (drop (length front + size xs) i)) shown ∙ ap (λ n. take (length t) (drop n ((front ++ p) ++ (t ++ m)))) (sym l) ∙ take_middle (front ++ p) t m in
     text (length front) (length front + size xs) t texts (omega arith) stands
     (lower image (length front + size (es ++ ys)) (length front + size xs + length t) (length front + size es) texts (omega (arith, s)) (later labels a es ys texts h front back))
+
+-- a piece without texts behind another one
+quiet_behind : (labels : List (Name × ℕ)) (a : ℕ) (xs ys : List Entry) (texts : List (List ℕ)) → Holds labels a xs texts → Holds labels a (xs ++ ys) texts
+quiet_behind labels a xs ys texts h front back =
+    let code = bytes_from labels a xs in let more = bytes_from labels (a + size xs) ys in
+    let same : front ++ (code ++ (more ++ back)) ≡ front ++ (bytes_from labels a (xs ++ ys) ++ back) = sym (ap (λ b. front ++ (b ++ back)) (bytes_append labels a xs ys) ∙ ap (λ b. front ++ b) (append_assoc code more back)) in
+    raise (front ++ (bytes_from labels a (xs ++ ys) ++ back)) (length front + size xs) (length front + size (xs ++ ys)) (length front) texts (let e = size_append xs ys in omega (arith, e))
+    (subst (λ image. TextsStand image (length front + size xs) (length front) texts) same (h front (more ++ back)))
 
 -- ---- settled items
 -- the settled items of a piece without texts before others
@@ -246,27 +260,38 @@ module _ (labels : List (Name × ℕ)) (ns : List ℕ) (seed n : ℕ) where
 
 -- ---- lines
 module _ (labels : List (Name × ℕ)) (ns : List ℕ) (seed past : ℕ) where
+  abbrev own_line : Numbered Command → Numbered (List Instr)
+  own_line line = record { number = line.number; content = lowered.list_code line.content }
+
   -- a line begins where its label stands
-  begins : (a : ℕ) (line : Numbered Command) (fs : List Form) → AreFormsOf (line_code ns seed (record { number = line.number; content = lowered.list_code line.content })) fs → LabelsAt labels a (items_from a fs) → stands_at labels (label_of (target.Line line.number)) ≡ a
-  begins a line fs h l = ap (λ o. unwrap_or o 0) (line_at labels ns seed a (record { number = line.number; content = lowered.list_code line.content }) fs h l)
+  begins : (a : ℕ) (asking : List ℕ) (line : Numbered Command) (fs : List Form) → AreFormsOf (stretch ns seed asking (own_line line)) fs → LabelsAt labels a (items_from a fs) → stands_at labels (label_of (target.Line line.number)) ≡ a
+  begins a asking line fs h l = ap (λ o. unwrap_or o 0) (stretch_at labels ns seed a asking (own_line line) fs h l)
+
+  -- its texts stand in its code, and so in that with what is done behind it
+  stretch_texts : (a : ℕ) (asking : List ℕ) (line : Numbered Command) (fs : List Form) → AreFormsOf (stretch ns seed asking (own_line line)) fs → Holds labels a (items_from a fs) (command_texts line.content)
+  stretch_texts a asking line fs h =
+      let s = split (line_code ns seed (own_line line)) (done_behind (ends_away (own_line line).content) (asking ++ line.number ∷ [])) fs h in
+      subst (λ es. Holds labels a es (command_texts line.content)) (sym (joined_items a fs s.front s.back s.are))
+      (quiet_behind labels a (items_from a s.front) (items_from (a + forms_size s.front) s.back) (command_texts line.content) (line_texts labels ns seed line.number a line.content s.front s.of_front))
 
   -- where these lines begin, or what is behind them
-  ends_there : (a : ℕ) (p : Program) (fs : List Form) → AreFormsOf (lines_code ns seed (lowered.program_code p)) fs → LabelsAt labels a (items_from a fs) → past ≡ a + forms_size fs → end_before past (starts_in labels (numbers p)) ≡ a
-  ends_there a [] [] h l e = e ∙ (let q : a + 0 ≡ a = omega arith in q)
-  ends_there a [] (f ∷ fs) h l e = absurd h
-  ends_there a (line ∷ lines) fs h l e =
-      let code = line_code ns seed (record { number = line.number; content = lowered.list_code line.content }) in
-      let s = split code (lines_code ns seed (lowered.program_code lines)) fs h in
-      begins a line s.front s.of_front (labels_behind labels a fs s.front s.back s.are l).0
+  ends_there : (a : ℕ) (asking : List ℕ) (p : Program) (fs : List Form) → AreFormsOf (lines_code ns seed asking (lowered.program_code p)) fs → LabelsAt labels a (items_from a fs) → past ≡ a + forms_size fs → end_before past (starts_in labels (numbers p)) ≡ a
+  ends_there a asking [] [] h l e = e ∙ (let q : a + 0 ≡ a = omega arith in q)
+  ends_there a asking [] (f ∷ fs) h l e = absurd h
+  ends_there a asking (line ∷ lines) fs h l e =
+      let own = own_line line in
+      let s = split (stretch ns seed asking own) (lines_code ns seed (asking_on asking own) (lowered.program_code lines)) fs (stretched ns seed asking own (lowered.program_code lines) fs h) in
+      begins a asking line s.front s.of_front (labels_behind labels a fs s.front s.back s.are l).0
 
   -- where the settled code of lines stands in a file, so do their texts
-  pub lines_texts : (a : ℕ) (p : Program) (fs : List Form) (front back : List ℕ) → AreFormsOf (lines_code ns seed (lowered.program_code p)) fs → LabelsAt labels a (items_from a fs) → past ≡ a + forms_size fs → PROLOGUE_AT ≤ a → length front ≡ offset_of a
+  pub lines_texts : (a : ℕ) (asking : List ℕ) (p : Program) (fs : List Form) (front back : List ℕ) → AreFormsOf (lines_code ns seed asking (lowered.program_code p)) fs → LabelsAt labels a (items_from a fs) → past ≡ a + forms_size fs → PROLOGUE_AT ≤ a → length front ≡ offset_of a
       → LinesHoldTexts (front ++ (bytes_from labels a (items_from a fs) ++ back)) past (starts_in labels (numbers p)) p
-  lines_texts a [] fs front back h l e low at = tt
-  lines_texts a (line ∷ lines) fs front back h l e low at =
-      let code = line_code ns seed (record { number = line.number; content = lowered.list_code line.content }) in
-      let more = lines_code ns seed (lowered.program_code lines) in
-      let s = split code more fs h in
+  lines_texts a asking [] fs front back h l e low at = tt
+  lines_texts a asking (line ∷ lines) fs front back h l e low at =
+      let mine = own_line line in
+      let on = asking_on asking mine in
+      let more = lines_code ns seed on (lowered.program_code lines) in
+      let s = split (stretch ns seed asking mine) more fs (stretched ns seed asking mine (lowered.program_code lines) fs h) in
       let b = a + forms_size s.front in
       let own = items_from a s.front in let rest = items_from b s.back in
       let whole : items_from a fs ≡ own ++ rest = joined_items a fs s.front s.back s.are in
@@ -279,16 +304,16 @@ module _ (labels : List (Name × ℕ)) (ns : List ℕ) (seed past : ℕ) where
       let own_bytes = bytes_from labels a own in let rest_bytes = bytes_from labels b rest in
       let shown : file ≡ (front ++ own_bytes) ++ (rest_bytes ++ back) =
       ap (λ es. front ++ (bytes_from labels a es ++ back)) whole ∙ joined labels a own rest front back ∙ ap (λ c. (front ++ own_bytes) ++ (bytes_from labels c rest ++ back)) there in
-      let starts_there : stands_at labels (label_of (target.Line line.number)) ≡ a = begins a line s.front s.of_front ls.0 in
-      let ends : end_before past (starts_in labels (numbers lines)) ≡ b = ends_there b lines s.back s.of_back ls.1 past_is in
+      let starts_there : stands_at labels (label_of (target.Line line.number)) ≡ a = begins a asking line s.front s.of_front ls.0 in
+      let ends : end_before past (starts_in labels (numbers lines)) ≡ b = ends_there b on lines s.back s.of_back ls.1 past_is in
       let here_from : length front ≡ offset_of (stands_at labels (label_of (target.Line line.number))) = at ∙ ap offset_of (sym starts_there) in
       let here_to : length front + size own ≡ offset_of (end_before past (starts_in labels (numbers lines))) = (let q = ap offset_of ends in omega (arith, q, at, long, low)) in
       let first : TextsStand file (length front + size own) (length front) (command_texts line.content) =
       subst (λ f. TextsStand f (length front + size own) (length front) (command_texts line.content)) (sym (shown ∙ append_assoc front own_bytes (rest_bytes ++ back)))
-      (line_texts labels ns seed line.number a line.content s.front s.of_front front (rest_bytes ++ back)) in
+      (stretch_texts a asking line s.front s.of_front front (rest_bytes ++ back)) in
       let next : length (front ++ own_bytes) ≡ offset_of b = (let q = front_length labels a own front in omega (arith, q, at, long, low)) in (
         subst (λ to. TextsStand file to (offset_of (stands_at labels (label_of (target.Line line.number)))) (command_texts line.content)) here_to
             (subst (λ from. TextsStand file (length front + size own) from (command_texts line.content)) here_from first),
         subst (λ f. LinesHoldTexts f past (starts_in labels (numbers lines)) lines) (sym shown)
-            (lines_texts b lines s.back (front ++ own_bytes) back s.of_back ls.1 past_is (omega (arith, low)) next),
+            (lines_texts b on lines s.back (front ++ own_bytes) back s.of_back ls.1 past_is (omega (arith, low)) next),
       )

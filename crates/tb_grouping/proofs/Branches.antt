@@ -71,10 +71,10 @@ branch_behind f at way which wanted to ps lies =
     (subst (λ n. at + n ≤ highest_code) e lies.0, subst (λ n. Lies f.code (at + n) ps) e lies.2)
 
 -- where a distance leads
-abbrev added : ℕ → ℕ → ℕ
+abbrev pub added : ℕ → ℕ → ℕ
 added at d = ((at + 2) % 65536 + (if nat_lt d 128 then d else d + 65280)) % 65536
 
-gets_there : (at to : ℕ) → at + 2 ≤ highest_code → to ≤ highest_code → is_near (distance at to) ≡ true → added at (distance at to % 256) ≡ to
+pub gets_there : (at to : ℕ) → at + 2 ≤ highest_code → to ≤ highest_code → is_near (distance at to) ≡ true → added at (distance at to % 256) ≡ to
 gets_there at to below there near = by (nat_lt (distance at to) 128) refl near
   where
     d : ℕ

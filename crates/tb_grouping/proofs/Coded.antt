@@ -20,6 +20,7 @@ use Rattle.tb_templates.specs.declared.orders.Side.TheVariants.{Below, NotBelow}
 use Rattle.tb_templates.specs.declared.orders.Order.{Order}
 use Rattle.tb_templates.specs.declared.orders.Order.TheVariants.{BySign, ByConstant, ByDifference}
 use Rattle.tb_templates.specs.Orders.{order_of, wanted_side}
+use Rattle.tb_templates.specs.Breaks.{leaves}
 use Rattle.tb_templates.specs.Scaled.{all_but_lowest, scaling, shifts}
 use Rattle.tb_templates.specs.declared.in_place.Change.{Change}
 use Rattle.tb_templates.specs.declared.in_place.Change.TheVariants.{Increment, Decrement, Raise, Lower, Halve, Double}
@@ -29,7 +30,7 @@ use Rattle.tb_templates.specs.Templates.{var_at}
 use Rattle.tb_templates.specs.Sources.{source_of, tested_source, home_at, destination_at}
 use Rattle.tb_keeping.specs.Layout.{Layout, next_at, place_at}
 use Rattle.tb_keeping.proofs.Resolved.{Piece, Code, Lies, pieces_size, size, sta_at, copied, constant, pointed, call, faulting, jump, jump_through, template, highest_code, locate_code, past_code}
-use Rattle.tb_selection.specs.Groups.{Conversion, Negated, Drawn, Usage, AsNumber, AsLine, AsSubroutine, Constant, Variable, Divisibility, Divisible, Indivisible, Group, Calculate, Stepped, Convert, Move, Use, Test, TestGo, Divides, Remains, Single, contrary, denied, slot_of, expand}
+use Rattle.tb_selection.specs.Groups.{Conversion, Negated, Drawn, Usage, AsNumber, AsLine, AsSubroutine, Constant, Variable, Divisibility, Divisible, Indivisible, Group, Calculate, Stepped, Convert, Move, Use, Test, TestGo, Divides, Remains, Single, contrary, denied, slot_of, expand, expand_all}
 use Rattle.tb_selection.specs.Select.{select}
 use Rattle.tb_grouping.proofs.Sources.{Byte, Fixed, At, lda, adc, sbc, cmp}
 
@@ -583,21 +584,29 @@ BranchesReach ly n at first second (Divides how x d side to) = DividesReach ly n
 BranchesReach ly n at first second (Single i) = OnlyIf (has_branches i) (BranchingReaches ly first second at i)
 BranchesReach ly n at first second _ = Unit {0}
 
--- the groups of the rest of line n, behind which the next line begins
+-- what is said of what is behind a group, where its code may go on into that
+abbrev pub Behind : Group → Type 0 → Type 0
+Behind g claim = OnlyIf (not (leaves g)) claim
+
+-- the groups of the rest of line n, behind which the next line begins where they go on into what is behind them
 abbrev pub GroupsLie : Layout → Part → (n at : ℕ) → List Group → Type 0
 GroupsLie ly code n at [] = at ≡ next_at ly n
 GroupsLie ly code n at (g ∷ gs) =
-    (first second : Way) × AreInRange 256 (expand g) × Lies code at (group_code ly n at first second g) × GroupsLie ly code n (at + pieces_size (group_code ly n at first second g)) gs × BranchesReach ly n at first second g × (0x0800 ≤ at)
+    (first second : Way) × AreInRange 256 (expand_all (g ∷ gs)) × Lies code at (group_code ly n at first second g) × Behind g (GroupsLie ly code n (at + pieces_size (group_code ly n at first second g)) gs) × BranchesReach ly n at first second g × (0x0800 ≤ at)
 
 -- ---- lines
--- behind the call of GETIN, at an address: a break faults
-abbrev pub poll_code : (n at : ℕ) → Way → List Piece
-poll_code n at way = Code (ins 0xC9 3 ∷ []) ∷ Code (branch_code way (branch_on Zero false) (at + 2) (at + 11 + way_size way)) ∷ Code (faulting n 0) ∷ []
+-- behind the call of GETIN, at an address: the STOP key leads elsewhere
+abbrev pub poll_code : (at : ℕ) → Way → ℕ → List Piece
+poll_code at way stop = Code (ins 0xC9 3 ∷ []) ∷ Code (branch_code way (branch_on Zero true) (at + 2) stop) ∷ []
+
+-- what is done there for it in line n
+abbrev pub broken_code : ℕ → List Piece
+broken_code n = Code (faulting n 0) ∷ []
 
 -- a line whose list begins with a poll; its first instruction is among all the program's bytes only
 abbrev pub LineStands : Layout → (code whole : Part) (n at : ℕ) → List slots.Instr → Type 0
 LineStands ly code whole n at is =
-    (way : Way) × (at + 3 ≤ highest_code) × Stands whole at (call 0xFFE4) × Lies code (at + 3) (poll_code n (at + 3) way) × BranchReaches way (at + 5) (at + 14 + way_size way) × GroupsLie ly code n (at + 14 + way_size way) (select is)
+    (way : Way) × (stop : ℕ) × (at + 3 ≤ highest_code) × Stands whole at (call 0xFFE4) × Lies code (at + 3) (poll_code (at + 3) way stop) × BranchReaches way (at + 5) stop × Lies code stop (broken_code n) × GroupsLie ly code n (at + 5 + way_size way) (select is)
 
 -- a list that begins with a poll, the rest of which stands behind it
 pub record PolledLine (ly : Layout) (code whole : Part) (n : ℕ) (js : List slots.Instr) : Type 0 where

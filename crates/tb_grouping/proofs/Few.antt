@@ -6,11 +6,10 @@ use Rattle.tb_lower.specs.Ranges.{AreInRange, IsInRange}
 use Rattle.tb_lower.specs.Slots.{Instr, Put, Load, Store, Negate, Compute, Random, SendText, SendNumber, SendZone, SendNewline, Input, Poll, Hold, LeaveUnless, Jump, Call, JumpTo, CallTo, Return, End}
 use Rattle.tb_reaching.specs.View.{Part}
 use Rattle.tb_keeping.specs.Layout.{Layout}
-use Rattle.tb_keeping.proofs.Resolved.{pieces_size}
 use Rattle.tb_selection.specs.declared.liveness.Live.{Live}
-use Rattle.tb_selection.specs.Groups.{Group, expand, expand_all}
+use Rattle.tb_selection.specs.Groups.{Group, expand_all}
 use Rattle.tb_selection.specs.Liveness.{live, live_before, written}
-use Rattle.tb_grouping.proofs.Coded.{group_code, GroupsLie}
+use Rattle.tb_grouping.proofs.Coded.{GroupsLie}
 
 written_few : (k : ℕ) (u : Live) → u.slots ≤ 16 → (written k u).slots ≤ 16
 written_few k u h = by (nat_eq u.slots (k + 1)) refl
@@ -41,10 +40,15 @@ before_few (CallTo target) u r h = h
 before_few Return u r h = h
 before_few End u r h = h
 
-range_few : (is js : List Instr) → AreInRange 256 is → (live js).slots ≤ 16 → (live (is ++ js)).slots ≤ 16
-range_few [] js r h = h
-range_few (i ∷ is) js r h = before_few i (live (is ++ js)) r.0 (range_few is js r.1 h)
+pub range_few : (is : List Instr) → AreInRange 256 is → (live is).slots ≤ 16
+range_few [] r = omega arith
+range_few (i ∷ is) r = before_few i (live is) r.0 (range_few is r.1)
+
+-- the instructions of a list in range
+pub range_split : (is js : List Instr) → AreInRange 256 (is ++ js) → AreInRange 256 is × AreInRange 256 js
+range_split [] js h = (tt, h)
+range_split (i ∷ is) js h = let r = range_split is js h.1 in ((h.0, r.0), r.1)
 
 pub groups_few : (ly : Layout) (code : Part) (n at : ℕ) (gs : List Group) → GroupsLie ly code n at gs → (live (expand_all gs)).slots ≤ 16
 groups_few ly code n at [] h = omega arith
-groups_few ly code n at (g ∷ gs) h = range_few (expand g) (expand_all gs) h.2 (groups_few ly code n (at + pieces_size (group_code ly n at h.0 h.1 g)) gs h.4)
+groups_few ly code n at (g ∷ gs) h = range_few (expand_all (g ∷ gs)) h.2

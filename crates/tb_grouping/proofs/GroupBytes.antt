@@ -948,57 +948,29 @@ module _ (labels : List (Name × ℕ)) (ns : List ℕ) (seed n : ℕ) (seed_smal
         record { first = e.0; second = e.1; emits = e.2; reach = e.3 })
 
   -- ---- the poll at a line's beginning
-  -- the forms of a poll behind its call emit it by the way of its branch, which reaches
-  pub record PollEmitted (at : ℕ) (fs : List Form) : Type 0 where
+  -- the forms of a poll behind its call, with the label for the STOP key, emit it by the way of its branch, which reaches
+  pub record PollEmitted (at stop : ℕ) (fs : List Form) : Type 0 where
     pub way : Way
-    pub emits : Emits labels at fs (coded.poll_code n at way)
-    pub reach : BranchReaches way (at + 2) (at + 11 + way_size way)
+    pub emits : Emits labels at fs (coded.poll_code at way stop)
+    pub reach : BranchReaches way (at + 2) stop
 
-  module _ (skip : Name) where
-    abbrev asked : List Entry
-    asked = product.const Cmp 3 ∷ []
+  abbrev stop_asked : List Entry
+  stop_asked = product.const Cmp 3 ∷ []
 
-    abbrev broken : List Entry
-    broken = product.faulted n 0 ++ (label skip ∷ [])
+  stop_asked_bytes : AllMake labels stop_asked (ins 0xC9 3 ∷ [])
+  unfolding opcodes.encoded
+  stop_asked_bytes = record { same = λ a. refl }
 
-    asked_bytes : AllMake labels asked (ins 0xC9 3 ∷ [])
-    unfolding opcodes.encoded
-    asked_bytes = record { same = λ a. refl }
-
-    fault_bytes : AllMake labels (product.faulted n 0) (resolved.faulting n 0)
-    fault_bytes = record { same = λ a. faulted_bytes labels ns seed a n 0 n_small (omega arith) }
-
-    module _ (way : Way) (at : ℕ) (r : Rest labels at (map kept asked ++ (formed way Bne skip ∷ map kept broken))) where
-      p1 : Rest labels (at + 2) (formed way Bne skip ∷ map kept broken)
-      p1 = behind_straight labels at asked (ins 0xC9 3 ∷ []) _ asked_bytes r
-
-      p2 : Rest labels (at + 2 + way_size way) (map kept broken)
-      p2 = behind_branch labels _ way Bne skip _ p1
-
-      p3 : Rest labels (at + 2 + way_size way + 9) (kept (label skip) ∷ [])
-      p3 = behind_straight labels _ (product.faulted n 0) (resolved.faulting n 0) _ fault_bytes p2
-
-      place : at + 2 + way_size way + 9 ≡ at + 11 + way_size way
-      place = omega arith
-
-      skipped : address_in labels skip ≡ Some (at + 11 + way_size way)
-      skipped = label_here labels _ skip [] p3 ∙ ap Some place
-
-      poll : PollEmitted at (map kept asked ++ (formed way Bne skip ∷ map kept broken))
-      poll = record {
-        way = way;
-        emits =
-            block labels asked (ins 0xC9 3 ∷ []) (asked_bytes.same at)
-            (branches labels way Zero false skip (let q = p1.below in omega (arith, q)) (value_of labels skip _ skipped)
-            (block labels (product.faulted n 0) (resolved.faulting n 0) (fault_bytes.same 0) (labelled labels skip (ends labels))));
-        reach = gets_there labels (at + 2) _ way Bne skip _ skipped (let q = p3.below in omega (arith, q, place)) p1;
-      }
-
-    pub poll_emitted : (at : ℕ) (fs : List Form) → AreFormsOf (asked ++ (instr Bne Relative (Label skip) ∷ (broken ++ []))) fs → Rest labels at fs → PollEmitted at fs
-    poll_emitted at fs h r =
-        let c1 = cut asked (instr Bne Relative (Label skip) ∷ (broken ++ [])) fs refl h in
-        let b1 = cut_branch Bne skip (broken ++ []) c1.rest c1.of in
-        let c2 = cut broken [] b1.rest refl b1.of in
-        let is : fs ≡ map kept asked ++ (formed b1.way Bne skip ∷ map kept broken) =
-        c1.is ∙ ap (λ t. map kept asked ++ t) (b1.is ∙ ap (λ t. formed b1.way Bne skip ∷ t) (c2.is ∙ ap (λ t. map kept broken ++ t) (no_more labels c2.rest c2.of))) in
-        subst (PollEmitted at) (sym is) (poll b1.way at (subst (Rest labels at) is r))
+  pub poll_emitted : (at stop : ℕ) (l : Name) (fs : List Form) → address_in labels l ≡ Some stop → stop ≤ highest_code → AreFormsOf (stop_asked ++ (instr Beq Relative (Label l) ∷ [])) fs → Rest labels at fs → PollEmitted at stop fs
+  poll_emitted at stop l fs there top h r =
+      let c1 = cut stop_asked (instr Beq Relative (Label l) ∷ []) fs refl h in
+      let b1 = cut_branch Beq l [] c1.rest c1.of in
+      let is : fs ≡ map kept stop_asked ++ (formed b1.way Beq l ∷ []) =
+      c1.is ∙ ap (λ t. map kept stop_asked ++ t) (b1.is ∙ ap (λ t. formed b1.way Beq l ∷ t) (no_more labels b1.rest b1.of)) in
+      let r1 = behind_straight labels at stop_asked (ins 0xC9 3 ∷ []) _ stop_asked_bytes (subst (Rest labels at) is r) in
+      subst (PollEmitted at stop) (sym is)
+      (record {
+        way = b1.way;
+        emits = block labels stop_asked (ins 0xC9 3 ∷ []) (stop_asked_bytes.same at) (branches labels b1.way Zero true l (let q = r1.below in omega (arith, q)) (value_of labels l stop there) (ends labels));
+        reach = gets_there labels (at + 2) stop b1.way Beq l _ there top r1;
+      })

@@ -17,6 +17,7 @@ use Rattle.tb_runtime16.specs.Block.{block_bytes}
 use Rattle.tb_settling.proofs.Forms.{size_append}
 use Rattle.tb_templates.specs.declared.labels.Target.TheVariants as target
 use Rattle.tb_templates.specs.Templates as product
+use Rattle.tb_templates.specs.Breaks.{broken}
 use Rattle.tb_templates.specs.Program as program
 use Rattle.tb_templates.proofs.Reached.{labels_split}
 use Rattle.tb_keeping.specs.Layout.{Layout, Lies, place_of, layout_of, place_at, next_at, is_start, inner}
@@ -26,6 +27,7 @@ use Rattle.tb_keeping.proofs.Emitted.{pieces_bytes, pieces_length, behind, lies}
 use Rattle.tb_keeping.proofs.LineStarts.{has_content}
 use Rattle.tb_keeping.proofs.Numbers.{or_true, joined, constant_bytes, faulted_bytes, address_bytes, start_of_line}
 use Rattle.tb_grouping.specs.Laid.{IsClear, LineLies, Laid}
+use Rattle.tb_grouping.proofs.Coded.{broken_code}
 
 -- ---- one list of items behind the other
 module _ (code : Part) (labels : List (Name × ℕ)) where
@@ -158,6 +160,13 @@ module _ (labels : List (Name × ℕ)) (seed : ℕ) (code : Part) (sc : slots.Sl
       let at = place_of labels target.Past in
       (pieces at (program.past_code ns) (resolved.past_code laid_layout) (inside at (program.past_code ns) laid.past laid.past_clear)
       (faulted_bytes labels ns seed at (highest ns) 7 (top_small sc (λ n e. (line_of n e).1.small)) (omega arith))).1
+
+  -- what is done for the STOP key in a line
+  pub broken_lies : (n : ℕ) → n < 65536 → has_line ns n ≡ true → resolved.Lies within (place_of labels (target.Break n)) (broken_code n)
+  unfolding opcodes.encoded
+  broken_lies n small has =
+      let at = place_of labels (target.Break n) in
+      (pieces at (broken n) (broken_code n) (inside at (broken n) (laid.breaks n has) (laid.breaks_clear n has)) (faulted_bytes labels ns seed at n 0 small (omega arith))).1
 
   pub table_small : place_of labels target.Table < 65536
   table_small = omega (arith, laid.table.below)

@@ -1,8 +1,8 @@
 -- The settled code of lines is laid out as the laws of the groups want it.
 use Rattle.std.proofs.Common.{◌≡◌, ℕ, ◌+◌, ◌≤◌, ◌<◌, Bool, true, false, List, [], ◌∷◌, ◌++◌, length, refl, sym, ap, ◌∙◌, subst, inl, inr, ⊎_elim, arith, Option, Some, None}
-use Rattle.std.specs.Prelude.{if◌then◌else◌, nat_eq, unwrap_or}
+use Rattle.std.specs.Prelude.{if◌then◌else◌, not, ◌||◌, nat_eq, unwrap_or}
 use Rattle.tb_opcodes.specs.Opcodes as opcodes
-use Rattle.tb_opcodes.specs.declared.Mnemonic.TheVariants.{Bne, Cmp, Jsr}
+use Rattle.tb_opcodes.specs.declared.Mnemonic.TheVariants.{Beq, Cmp, Jsr}
 use Rattle.tb_asm.specs.declared.names.Name.{Name}
 use Rattle.tb_asm.specs.Layout.{Entry, address_in, bytes_from, size}
 use Rattle.tb_asm.specs.Settle.{Form, items_from}
@@ -20,13 +20,13 @@ use Rattle.tb_selection.specs.Select.{select}
 use Rattle.tb_selection.proofs.Bracketed.{brackets}
 use Rattle.tb_settling.specs.Settled.{AreFormsOf}
 use Rattle.tb_settling.proofs.Forms.{forms_append, forms_size, items_size, split}
-use Rattle.tb_templates.specs.declared.labels.Inner.TheVariants as inside
 use Rattle.tb_templates.specs.declared.labels.Target.{Target}
 use Rattle.tb_templates.specs.declared.labels.Target.TheVariants as target
 use Rattle.tb_templates.specs.Labels.{label_of}
 use Rattle.tb_templates.specs.Templates as product
 use Rattle.tb_templates.specs.Templates.{next_line, target_of}
 use Rattle.tb_templates.specs.GroupTemplates.{group_template}
+use Rattle.tb_templates.specs.Breaks.{leaves, some_leaves}
 use Rattle.tb_templates.specs.Program.{rest_code}
 use Rattle.tb_templates.proofs.Settled.{line_at, straight_items}
 use Rattle.tb_keeping.specs.Layout.{Layout, place_of, place_at, layout_of, next_at, inner}
@@ -34,22 +34,18 @@ use Rattle.tb_keeping.proofs.Numbers.{next_has, next_same, start_of_line}
 use Rattle.tb_keeping.proofs.Resolved.{call, pieces_size, highest_code}
 use Rattle.tb_keeping.proofs.Emitted.{behind, lies}
 use Rattle.tb_grouping.specs.Laid.{ArePolled, LineLies, Laid}
-use Rattle.tb_grouping.proofs.Coded.{GroupsLie, GroupsLaid, LineStands, Way, BranchReaches, group_code, poll_code, way_size, Zero}
+use Rattle.tb_grouping.proofs.Coded.{GroupsLie, GroupsLaid, LineStands, OnlyIf, Way, BranchReaches, group_code, poll_code, way_size, Zero}
 use Rattle.tb_grouping.proofs.Branches.{branch_size}
+use Rattle.tb_grouping.proofs.Few.{range_split}
 use Rattle.tb_grouping.proofs.Emits.{bytes_behind, emitted_size}
 use Rattle.tb_grouping.proofs.CallBytes.{each_emitted}
 use Rattle.tb_grouping.proofs.GroupBytes.{Rest, poll_emitted, rest_before, rest_behind}
-use Rattle.tb_grouping.proofs.Laying.{inner_bytes, line_of, none_between, start_small, place_small, within_small, past_lies, find_lies, top_small, table_small, content_has, content_none}
+use Rattle.tb_grouping.proofs.Laying.{inner_bytes, line_of, none_between, start_small, place_small, within_small, broken_lies, past_lies, find_lies, top_small, table_small, content_has, content_none}
 use Rattle.tb_grouping.proofs.Singles.{AreAlone, all_alone}
 
 -- the poll's code behind the call of GETIN
-poll_size : (n at : ℕ) (way : Way) → pieces_size (poll_code n at way) ≡ 11 + way_size way
-poll_size n at way = let b = branch_size way Zero false (at + 2) (at + 11 + way_size way) in omega (arith, b)
-
--- the instructions of a list in range
-range_split : (is js : List slots.Instr) → AreInRange 256 (is ++ js) → AreInRange 256 is × AreInRange 256 js
-range_split [] js h = (tt, h)
-range_split (i ∷ is) js h = let r = range_split is js h.1 in ((h.0, r.0), r.1)
+poll_size : (at : ℕ) (way : Way) (stop : ℕ) → pieces_size (poll_code at way stop) ≡ 2 + way_size way
+poll_size at way stop = let b = branch_size way Zero true (at + 2) stop in omega (arith, b)
 
 module _ (labels : List (Name × ℕ)) (seed : ℕ) (code : Part) (sc : slots.SlotCode) (laid : Laid labels seed code sc) where
   abbrev ns : List ℕ
@@ -100,10 +96,15 @@ module _ (labels : List (Name × ℕ)) (seed : ℕ) (code : Part) (sc : slots.Sl
   starts_below m = omega (arith, start_small labels seed code sc laid m)
 
   module _ (n : ℕ) (small : n < 65536) where
+    -- what is behind a group, where its code goes on
+    behind_by : {claim : Type 0} (t : Bool) → (t ≡ false → claim) → OnlyIf (not t) claim
+    behind_by true h = tt
+    behind_by false h = h refl
+
     -- the groups of the rest of a line
     rest_lies : (i at : ℕ) (gs : List Group) (fs : List Form) → 0x0800 ≤ at → AreInRange 256 (expand_all gs) → AreAlone gs → AreFormsOf (rest_code ns seed n i gs) fs → Rest labels at fs
-        → Bytes within at (bytes_from labels at (items_from at fs)) → at + forms_size fs ≡ next_at ly n → GroupsLie ly within n at gs
-    rest_lies i at [] [] low ranged alone of r b e = (let q : at ≡ at + 0 = omega arith in q) ∙ e
+        → Bytes within at (bytes_from labels at (items_from at fs)) → (some_leaves gs ≡ false → at + forms_size fs ≡ next_at ly n) → GroupsLie ly within n at gs
+    rest_lies i at [] [] low ranged alone of r b e = (let q : at ≡ at + 0 = omega arith in q) ∙ e refl
     rest_lies i at [] (f ∷ fs) low ranged alone of r b e = absurd of
     rest_lies i at (g ∷ gs) fs low ranged alone of r b e =
         let s = split (group_template ns seed n i g) (rest_code ns seed n (i + 1) gs) fs of in
@@ -119,28 +120,28 @@ module _ (labels : List (Name × ℕ)) (seed : ℕ) (code : Part) (sc : slots.Sl
         let there : at + forms_size s.front ≡ at + pieces_size ps = omega (arith, long) in (
           m.first,
           m.second,
-          range.0,
+          ranged,
           lies within (within_small labels seed code sc laid) at ps (omega (arith, below, sum, long)) (subst (Bytes within at) m.emits.bytes bs.0),
-          rest_lies (i + 1) (at + pieces_size ps) gs s.back (omega (arith, low)) range.1 alone.1 s.of_back (rest_behind labels at (at + pieces_size ps) s.front s.back there rs)
-              (subst (λ a. Bytes within a (bytes_from labels a (items_from a s.back))) there bs.1) (omega (arith, e, size_is, sum, long)),
+          behind_by (leaves g) (λ stays. rest_lies (i + 1) (at + pieces_size ps) gs s.back (omega (arith, low)) range.1 alone.1 s.of_back (rest_behind labels at (at + pieces_size ps) s.front s.back there rs)
+              (subst (λ a. Bytes within a (bytes_from labels a (items_from a s.back))) there bs.1) (λ none. let q = e (ap (λ t. t || some_leaves gs) stays ∙ none) in omega (arith, q, size_is, sum, long))),
           m.reach,
           low,
         )
 
     -- ---- a whole line
-    abbrev skip : Name
-    skip = label_of (target.Inside inside.Skip n 0)
+    abbrev stop : Name
+    stop = label_of (target.Break n)
 
     -- its label and the call of GETIN, and what is behind the call
     abbrev asks : List Entry
     asks = product.here (target.Line n) ∷ product.at Jsr GETIN ∷ []
 
     abbrev answered : List Entry
-    answered = product.const Cmp 3 ∷ product.branch Bne (target.Inside inside.Skip n 0) ∷ (product.faulted n 0 ++ (product.here (target.Inside inside.Skip n 0) ∷ []))
+    answered = product.const Cmp 3 ∷ product.branch Beq (target.Break n) ∷ []
 
-    line_lies : (rest : List slots.Instr) → LineLies labels code ns seed n (slots.Poll ∷ rest) → LineStands ly within code n (place_of labels (target.Line n)) rest
+    line_lies : (rest : List slots.Instr) → has_line ns n ≡ true → LineLies labels code ns seed n (slots.Poll ∷ rest) → LineStands ly within code n (place_of labels (target.Line n)) rest
     unfolding opcodes.encoded
-    line_lies rest l =
+    line_lies rest has l =
         let at = place_of labels (target.Line n) in
         let gs = select rest in
         let s = split asks (answered ++ rest_code ns seed n 1 gs) l.forms l.of in
@@ -161,23 +162,26 @@ module _ (labels : List (Name × ℕ)) (seed : ℕ) (code : Part) (sc : slots.Sl
         inner_bytes ly code (at + 3) (bytes_from labels (at + 3) (items_from (at + 3) (t.front ++ t.back))) (later_end at s.front t.front t.back three total below)
         (λ a lo hi. none_between labels seed code sc laid (at + 3) (at + size (items_from at l.forms)) (λ m e. ⊎_elim (λ q. inl (omega (arith, q))) (λ q. inr q) (l.clear m e)) a lo (later_inside at s.front t.front t.back l.forms three total long a hi)) later in
         let poll_rest = rest_before labels (at + 3) t.front t.back behind_call in
-        let p = poll_emitted labels ns seed n laid.seed_small small skip (at + 3) t.front t.of_front poll_rest in
-        let ps = poll_code n (at + 3) p.way in
+        let broken = laid.breaks n has in
+        let to = place_of labels (target.Break n) in
+        let p = poll_emitted labels ns seed n laid.seed_small small (at + 3) to stop t.front (stands (target.Break n) _ broken.labelled.0) (let b = broken.below in omega (arith, b)) t.of_front poll_rest in
+        let ps = poll_code (at + 3) p.way to in
         let poll_long : forms_size t.front ≡ pieces_size ps = emitted_size labels p.emits in
         let behind_below = behind_call.below in
         let parts = part_bytes within (at + 3) t.front t.back behind_below inner_later in
         let sum = forms_append t.front t.back in
-        let groups_at : at + 3 + forms_size t.front ≡ at + 14 + way_size p.way = (let q = poll_size n (at + 3) p.way in omega (arith, poll_long, q)) in (
+        let groups_at : at + 3 + forms_size t.front ≡ at + 5 + way_size p.way = (let q = poll_size (at + 3) p.way to in omega (arith, poll_long, q)) in (
           p.way,
+          to,
           omega (arith, below, total, three),
           stands_there code at (call 0xFFE4) (omega (arith, below, total, three)) call_bytes,
           lies within (within_small labels seed code sc laid) (at + 3) ps (omega (arith, behind_below, sum, poll_long)) (subst (Bytes within (at + 3)) p.emits.bytes parts.0),
-          subst (λ a. BranchReaches p.way a (at + 14 + way_size p.way)) (let q : at + 3 + 2 ≡ at + 5 = omega arith in q)
-              (subst (BranchReaches p.way (at + 3 + 2)) (let q : at + 3 + 11 + way_size p.way ≡ at + 14 + way_size p.way = omega arith in q) p.reach),
-          rest_lies 1 (at + 14 + way_size p.way) gs t.back (let b = l.after_block in omega (arith, b)) (subst (AreInRange 256) (sym (brackets rest)) l.ranged.1) (all_alone rest) t.of_back
-              (rest_behind labels (at + 3) (at + 14 + way_size p.way) t.front t.back groups_at behind_call)
+          subst (λ a. BranchReaches p.way a to) (let q : at + 3 + 2 ≡ at + 5 = omega arith in q) p.reach,
+          broken_lies labels seed code sc laid n small has,
+          rest_lies 1 (at + 5 + way_size p.way) gs t.back (let b = l.after_block in omega (arith, b)) (subst (AreInRange 256) (sym (brackets rest)) l.ranged.1) (all_alone rest) t.of_back
+              (rest_behind labels (at + 3) (at + 5 + way_size p.way) t.front t.back groups_at behind_call)
               (subst (λ a. Bytes within a (bytes_from labels a (items_from a t.back))) groups_at parts.1)
-              (line_end at l.forms s.front t.front t.back p.way three total long groups_at l.next ∙ next_same labels ns seed n),
+              (λ none. line_end at l.forms s.front t.front t.back p.way three total long groups_at (l.next none) ∙ next_same labels ns seed n),
         )
       where
         later_end : (at : ℕ) (f g h : List Form) → forms_size f ≡ 3 → forms_size l.forms ≡ forms_size f + (forms_size g + forms_size h) → at + forms_size l.forms ≤ highest_code → at + 3 + length (bytes_from labels (at + 3) (items_from (at + 3) (g ++ h))) ≤ 0xa000
@@ -186,8 +190,8 @@ module _ (labels : List (Name × ℕ)) (seed : ℕ) (code : Part) (sc : slots.Sl
         later_inside : (at : ℕ) (f g h fs : List Form) → forms_size f ≡ 3 → forms_size fs ≡ forms_size f + (forms_size g + forms_size h) → size (items_from at fs) ≡ forms_size fs → (a : ℕ) → a < at + 3 + length (bytes_from labels (at + 3) (items_from (at + 3) (g ++ h))) → a < at + size (items_from at fs)
         later_inside at f g h fs three total long x hi = let a = all_size labels (at + 3) (items_from (at + 3) (g ++ h)) in let b = items_size (at + 3) (g ++ h) in let c = forms_append g h in omega (arith, a, b, c, three, total, long, hi)
 
-        line_end : (at : ℕ) (fs f g h : List Form) (way : Way) → forms_size f ≡ 3 → forms_size fs ≡ forms_size f + (forms_size g + forms_size h) → size (items_from at fs) ≡ forms_size fs → at + 3 + forms_size g ≡ at + 14 + way_size way → at + size (items_from at fs) ≡ place_of labels (next_line ns n) → at + 14 + way_size way + forms_size h ≡ place_of labels (next_line ns n)
-        line_end at fs f g h way three total long there next = (let q : at + 14 + way_size way + forms_size h ≡ at + size (items_from at fs) = omega (arith, three, total, long, there) in q) ∙ next
+        line_end : (at : ℕ) (fs f g h : List Form) (way : Way) → forms_size f ≡ 3 → forms_size fs ≡ forms_size f + (forms_size g + forms_size h) → size (items_from at fs) ≡ forms_size fs → at + 3 + forms_size g ≡ at + 5 + way_size way → at + size (items_from at fs) ≡ place_of labels (next_line ns n) → at + 5 + way_size way + forms_size h ≡ place_of labels (next_line ns n)
+        line_end at fs f g h way three total long there next = (let q : at + 5 + way_size way + forms_size h ≡ at + size (items_from at fs) = omega (arith, three, total, long, there) in q) ∙ next
 
   -- the whole program
   polled_at : (lines : slots.SlotCode) → ArePolled lines → (n : ℕ) (is : List slots.Instr) → content_at lines n ≡ Some is → (rest : List slots.Instr) × (is ≡ slots.Poll ∷ rest)
@@ -213,7 +217,7 @@ module _ (labels : List (Name × ℕ)) (seed : ℕ) (code : Part) (sc : slots.Sl
         record {
           rest = p.0;
           polled = p.1;
-          stands = subst (λ a. LineStands ly within code n a p.0) (start_of_line labels ns seed n (content_has labels seed code sc laid sc n is e)) (line_lies n (laid.lines n is e).small p.0 l);
+          stands = subst (λ a. LineStands ly within code n a p.0) (start_of_line labels ns seed n (content_has labels seed code sc laid sc n is e)) (line_lies n (laid.lines n is e).small p.0 (content_has labels seed code sc laid sc n is e) l);
           small = (laid.lines n is e).small;
         };
     absent = λ n e. ap (λ t. if t then place_of labels (target.Line n) else place_of labels target.Past) (content_none labels seed code sc laid sc n e);

@@ -79,44 +79,44 @@ module _ (ly : Layout) (f : Setup) (lo hi keys : ℕ) (fits : Fits f 16) (limit 
     abbrev way : Way
     way = lies.0
 
-    -- its branch, and where that leads
+    -- its branch, what is behind it, and where it leads
     abbrev near : ℕ
     near = at + 3 + 2
 
-    abbrev far : ℕ
-    far = at + 3 + 11 + way_size way
+    abbrev onward : ℕ
+    onward = near + way_size way
 
-    reach : BranchReaches way near far
-    reach = subst (λ p. BranchReaches way p far) (let e : at + 5 ≡ near = omega arith in e) (subst (λ p. BranchReaches way (at + 5) p) (let e : at + 14 + way_size way ≡ far = omega arith in e) lies.4)
+    abbrev away : ℕ
+    away = lies.1
 
-    rest : GroupsLie ly f.code n far (select is)
-    rest = subst (λ p. GroupsLie ly f.code n p (select is)) (let e : at + 14 + way_size way ≡ far = omega arith in e) lies.5
+    reach : BranchReaches way near away
+    reach = subst (λ p. BranchReaches way p away) (let e : at + 5 ≡ near = omega arith in e) lies.5
 
-    abbrev text : List Piece
-    text = Code (faulting n 0) ∷ []
+    rest : GroupsLie ly f.code n onward (select is)
+    rest = subst (λ p. GroupsLie ly f.code n p (select is)) (let e : at + 5 + way_size way ≡ onward = omega arith in e) lies.7
 
     -- behind the comparison
     compared : (z : Bool) → eqb stop 3 ≡ z → stop < 256 → Moves f (WithA (at + 3) stop own w.mem s.text (drop 1 s.answers)) (Flagged near own w.mem s.text (drop 1 s.answers) z) [] 1
     compared z e lt u g = looser f u _ _ [] 1 1 (omega arith)
         (λ v k. record { here = k.here; zero = k.zero ∙ same_byte stop 3 lt (omega arith) ∙ e })
-        (compares_byte f 16 fits (at + 3) own w.mem s.text (drop 1 s.answers) refl (Fixed 3) stop tt lies.3.0 lies.3.1.0 u g)
+        (compares_byte f 16 fits (at + 3) own w.mem s.text (drop 1 s.answers) refl (Fixed 3) stop tt lies.4.0 lies.4.1.0 u g)
 
-    setting : (near + way_size way ≤ highest_code) × Lies f.code (near + way_size way) text
-    setting = branch_behind f near way Zero false far text lies.3.2
+    setting : (onward ≤ highest_code) × Lies f.code onward []
+    setting = branch_behind f near way Zero true away [] lies.4.2
 
-    parts : (z : Bool) → Moves f (Flagged near own w.mem s.text (drop 1 s.answers) z) (Here (cond (not z) far (near + way_size way)) own w.mem s.text (drop 1 s.answers)) [] 2
-    parts z u g = looser f u _ _ [] 2 2 (omega arith) (λ v k. k.here) (branches f 16 fits own w.mem s.text (drop 1 s.answers) refl near way Zero false z far setting.0 reach lies.3.2.1 u g.here g.zero)
+    parts : (z : Bool) → Moves f (Flagged near own w.mem s.text (drop 1 s.answers) z) (Here (cond z away onward) own w.mem s.text (drop 1 s.answers)) [] 2
+    parts z u g = looser f u _ _ [] 2 2 (omega arith) (λ v k. k.here) (branches f 16 fits own w.mem s.text (drop 1 s.answers) refl near way Zero true z away setting.0 reach lies.4.2.1 u g.here g.zero)
 
     -- a break
     breaks : Moves f (Flagged near own w.mem s.text (drop 1 s.answers) true) (IsHome f) (fault_text 0 n) (2 + (4 + limit))
     breaks =
         moves_then f _ _ _ [] (fault_text 0 n) 2 (4 + limit) (parts true)
-        (faults_at ly f lo hi keys fits limit rs n 0 small (omega arith) (near + way_size way) w.mem s.text (drop 1 s.answers) setting.1 h.homed)
+        (faults_at ly f lo hi keys fits limit rs n 0 small (omega arith) away w.mem s.text (drop 1 s.answers) lies.6 h.homed)
 
     -- no break
     goes_on : (s' : State) → s'.text ≡ s.text → drop 1 s.answers ≡ s'.answers → HoldsState ly s' w.mem → Typable keys s'.text s'.answers → Moves f (Flagged near own w.mem s.text (drop 1 s.answers) false) (Matches ly f lo hi keys (line code n is s' r)) [] 2
     goes_on s' et ea hs short = moves_looser f _ _ _ [] 2 2 (omega arith)
-        (stood ly f lo hi keys fits code n small is s' r far w.mem s.text (drop 1 s.answers) rest hs (subst (λ u. HoldsLive u r w.mem) (sym (closed n (Poll ∷ is) some)) (nothing_read r w.mem h.read.all_words)) h.homed (sym et) ea short)
+        (stood ly f lo hi keys fits code n small is s' r onward w.mem s.text (drop 1 s.answers) rest hs (subst (λ u. HoldsLive u r w.mem) (sym (closed n (Poll ∷ is) some)) (nothing_read r w.mem h.read.all_words)) h.homed (sym et) ea short)
         (parts false)
 
     abbrev Led : Step SlotState → Type 0
@@ -155,8 +155,8 @@ module _ (ly : Layout) (f : Setup) (lo hi keys : ℕ) (fits : Fits f 16) (limit 
           rest = 1 + (10 + limit);
           few = omega arith;
           one = looser (opened f) w _ _ [] 1 1 (omega arith)
-              (λ u g. chained f u _ _ [] (sent_in (outcome code n is s r s.answers)) 1 (10 + limit) (asks at w.mem s.text s.answers lies.1 u g) (led s.answers refl h.short.answer_bytes))
-              (calls (opened f) 16 fits at own w.mem s.text s.answers refl 0xFFE4 refl lies.1 lies.2 w (record { pc = h.pc ∙ ap (place_at ly) here; stack = h.stack; binary = h.binary; mem = refl; text = h.text; answers = h.answers }));
+              (λ u g. chained f u _ _ [] (sent_in (outcome code n is s r s.answers)) 1 (10 + limit) (asks at w.mem s.text s.answers lies.2 u g) (led s.answers refl h.short.answer_bytes))
+              (calls (opened f) 16 fits at own w.mem s.text s.answers refl 0xFFE4 refl lies.2 lies.3 w (record { pc = h.pc ∙ ap (place_at ly) here; stack = h.stack; binary = h.binary; mem = refl; text = h.text; answers = h.answers }));
         })
 
   -- ---- any place

@@ -16,8 +16,8 @@ use Rattle.tb_selection.specs.GroupSteps.{steps, first_group, first}
 use Rattle.tb_selection.proofs.Bracketed.{brackets}
 use Rattle.tb_selection.specs.Laws.{AreChosen}
 use Rattle.tb_selection.proofs.Chosen.{chosen}
-use Rattle.tb_grouping.proofs.Coded.{Way, group_code, GroupsLie, BranchesReach}
-use Rattle.tb_grouping.proofs.Few.{groups_few}
+use Rattle.tb_grouping.proofs.Coded.{Way, group_code, Behind, GroupsLie, BranchesReach}
+use Rattle.tb_grouping.proofs.Few.{groups_few, range_few, range_split}
 use Rattle.tb_grouping.proofs.Matching.{HoldsState, HoldsLive, Matches, Target}
 use Rattle.tb_grouping.proofs.SlotSide.{line, landed}
 
@@ -29,7 +29,7 @@ module _ (ly : Layout) (f : Setup) (lo hi keys : ℕ) (fits : Fits f 16) where
     pub second : Way
     pub lies : Lies f.code w.regs.pc (group_code ly n w.regs.pc first second g)
     pub ranged : AreInRange 256 (expand g)
-    pub rest : GroupsLie ly f.code n (w.regs.pc + pieces_size (group_code ly n w.regs.pc first second g)) (select is)
+    pub rest : Behind g (GroupsLie ly f.code n (w.regs.pc + pieces_size (group_code ly n w.regs.pc first second g)) (select is))
     pub reach : BranchesReach ly n w.regs.pc first second g
     pub above : 0x0800 ≤ w.regs.pc
     pub free : omits_only_dead g (live is) ≡ true
@@ -50,13 +50,14 @@ module _ (ly : Layout) (f : Setup) (lo hi keys : ℕ) (fits : Fits f 16) where
   ready code n g gs js s r w e h =
       let lies : GroupsLie ly f.code n w.regs.pc (g ∷ gs) = subst (GroupsLie ly f.code n w.regs.pc) e h.pc.0 in
       let good : AreChosen (g ∷ gs) = subst AreChosen e (chosen js) in
+      let range = range_split (expand g) (expand_all gs) lies.2 in
       record {
         small = h.pc.1;
         first = lies.0;
         second = lies.1;
-        ranged = lies.2;
+        ranged = range.0;
         lies = lies.3;
-        rest = subst (GroupsLie ly f.code n (w.regs.pc + pieces_size (group_code ly n w.regs.pc lies.0 lies.1 g))) (sym good.1) lies.4;
+        rest = subst (λ hs. Behind g (GroupsLie ly f.code n (w.regs.pc + pieces_size (group_code ly n w.regs.pc lies.0 lies.1 g)) hs)) (sym good.1) lies.4;
         reach = lies.5;
         above = lies.6;
         free = good.0;
@@ -68,7 +69,7 @@ module _ (ly : Layout) (f : Setup) (lo hi keys : ℕ) (fits : Fits f 16) where
         state = h.state;
         read = h.read;
         some_read = subst (λ l. (live l).slots ≤ 16) (brackets js) (groups_few ly f.code n w.regs.pc (select js) h.pc.0);
-        few_behind = groups_few ly f.code n (w.regs.pc + pieces_size (group_code ly n w.regs.pc lies.0 lies.1 g)) gs lies.4;
+        few_behind = range_few (expand_all gs) range.1;
         homed = h.homed;
         short = h.short;
       }

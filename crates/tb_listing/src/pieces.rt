@@ -30,8 +30,14 @@ const POWERS: u16 = 4;
 /// How many bytes the search for a line takes, which lies before the line table.
 const SEARCH: u16 = 21;
 
-/// How many bytes fault 7 takes, which lies before the search.
-const PAST: u16 = 9;
+/// How many bytes the code of a fault takes that a line finds by itself, as fault 7 behind the last line.
+const FAULT: u16 = 9;
+
+/// Where in these bytes the fault's number stands.
+const FAULT_NUMBER: usize = 5;
+
+/// The fault of the STOP key.
+const BREAK: u8 = 0;
 
 /// How many bytes a word of the line table takes.
 const WORD: usize = 2;
@@ -50,9 +56,22 @@ impl Program<'_> {
         self.table.wrapping_sub(SEARCH)
     }
 
-    /// Fault 7, behind the last line.
+    /// Fault 7, behind the last line: before the search, or before what is done for the STOP key in the last lines.
     pub fn past(&self) -> u16 {
-        self.search().wrapping_sub(PAST)
+        let mut past = self.search().wrapping_sub(FAULT);
+        for _ in self.starts {
+            if self.number_of_fault(past) != Some(BREAK) {
+                break;
+            }
+            past = past.wrapping_sub(FAULT);
+        }
+        past
+    }
+
+    // The number of the fault that is handed over here.
+    fn number_of_fault(&self, at: u16) -> Option<u8> {
+        let offset = usize::from(at.wrapping_sub(BLOCK_AT));
+        self.image.get(offset.saturating_add(FAULT_NUMBER)).copied()
     }
 }
 

@@ -1,4 +1,4 @@
--- The items of a program's code are of forms that there are, they may move, and no name stands twice.
+-- The items of a program's code are of forms that there are, and they may move.
 use Rattle.std.proofs.Common.{◌≡◌, ℕ, ◌+◌, ◌<◌, ◌≤◌, Bool, true, false, List, [], ◌∷◌, ◌++◌, refl, sym, ap, ◌∙◌, arith, is_some, true≢false, Option, Some, None}
 use Rattle.std.specs.Prelude.{◌&&◌, ◌||◌, if◌then◌else◌, nat_lt}
 use Rattle.std.specs.List.{list_all, list_any}
@@ -26,13 +26,14 @@ use Rattle.tb_templates.specs.declared.labels.Target.{Target}
 use Rattle.tb_templates.specs.declared.labels.Target.TheVariants.{Inside, Line}
 use Rattle.tb_templates.specs.Templates.{branch, slot_at, var_at, on, template, faulted, jump_to, call_to, next_line, call, copied, constant}
 use Rattle.tb_templates.specs.Sources.{Source, FixedWord, AtPlace, source_of, tested_source, home_at, destination_at}
-use Rattle.tb_templates.specs.GroupTemplates.{brought, summed, taken, handed, multiplied, divided, calculated, computed, changed_or, converted, used, equal, unequal, tested, gone, may_fault, group_template, polled, lined, may_be_zero, may_have_none, left_over, unless, divided_by, divided_gone, divides, asked_rest, signed_rest, remains}
+use Rattle.tb_templates.specs.GroupTemplates.{brought, summed, taken, handed, multiplied, divided, calculated, computed, changed_or, converted, used, equal, unequal, tested, gone, may_fault, group_template, lined, may_be_zero, may_have_none, left_over, unless, divided_by, divided_gone, divides, asked_rest, signed_rest, remains}
 use Rattle.tb_templates.specs.Scaled.{scaling, times, shifts, shifted}
 use Rattle.tb_templates.specs.InPlace.{Change, Increment, Decrement, Raise, Lower, Halve, Double, change_of, changed}
 use Rattle.tb_templates.specs.Masks.{mask}
 use Rattle.tb_templates.proofs.Divided.{asked_rest_plain, left_over_plain}
 use Rattle.tb_templates.specs.Orders.{Side, Below, NotBelow, Order, BySign, ByConstant, ByDifference, lifted, order_of, ordered_by, signed, unless_carry, unless_negative, wanted_side, weighed}
-use Rattle.tb_templates.specs.Program.{rest_code, list_code, line_code, lines_code, past_code, find_code, rows_code, table_code, program_code}
+use Rattle.tb_templates.specs.Program.{rest_code, list_code, line_code, lines_code, past_code, find_code, rows_code, table_code, program_code, still_asking}
+use Rattle.tb_templates.specs.Breaks.{polled, broken, all_broken, ends_away, done_behind, left_behind}
 use Rattle.tb_settling.specs.Settled.{may_move}
 use Rattle.tb_syntax.specs.Source.{numbers}
 use Rattle.tb_templates.proofs.Listed.{by_poll}
@@ -290,10 +291,21 @@ line_forms : (ns : List ℕ) (seed n : ℕ) (is : List Instr) → list_all has_f
 line_forms ns seed n is =
     by_poll (λ es. list_all has_form es ≡ true) ns seed n is (λ js e. forms_append (polled n) (rest_code ns seed n 1 (select js)) refl (rest_forms ns seed n 1 (select js))) (rest_forms ns seed n 1 (select is))
 
-lines_forms : (ns : List ℕ) (seed : ℕ) (lines : SlotCode) → list_all has_form (lines_code ns seed lines) ≡ true
-lines_forms ns seed [] = refl
-lines_forms ns seed (line ∷ lines) =
-    forms_append (line_code ns seed line) (lines_code ns seed lines) (line_forms ns seed line.number line.content) (lines_forms ns seed lines)
+broken_forms : (ns : List ℕ) → list_all has_form (all_broken ns) ≡ true
+broken_forms [] = refl
+broken_forms (n ∷ ns) = forms_append (broken n) (all_broken ns) refl (broken_forms ns)
+
+done_forms : (t : Bool) (ns : List ℕ) → list_all has_form (done_behind t ns) ≡ true
+done_forms true ns = broken_forms ns
+done_forms false ns = refl
+
+lines_forms : (ns : List ℕ) (seed : ℕ) (asking : List ℕ) (lines : SlotCode) → list_all has_form (lines_code ns seed asking lines) ≡ true
+lines_forms ns seed asking [] = refl
+lines_forms ns seed asking (line ∷ lines) =
+    let all = asking ++ line.number ∷ [] in let away = ends_away line.content in
+    let more = lines_code ns seed (left_behind away all) lines in
+    forms_append (line_code ns seed line) (done_behind away all ++ more) (line_forms ns seed line.number line.content)
+    (forms_append (done_behind away all) more (done_forms away all) (lines_forms ns seed (left_behind away all) lines))
 
 rows_forms : (ns : List ℕ) → list_all has_form (rows_code ns) ≡ true
 rows_forms [] = refl
@@ -302,48 +314,12 @@ rows_forms (n ∷ ns) = rows_forms ns
 program_forms : (seed : ℕ) (code : SlotCode) → list_all has_form (program_code seed code) ≡ true
 program_forms seed code =
     let ns = numbers code in
-    forms_append (lines_code ns seed code) (past_code ns ++ (find_code ns ++ table_code ns)) (lines_forms ns seed code) (rows_forms ns)
+    let last = all_broken (still_asking [] code) in
+    forms_append (lines_code ns seed [] code) (past_code ns ++ (last ++ (find_code ns ++ table_code ns))) (lines_forms ns seed [] code)
+    (forms_append last (find_code ns ++ table_code ns) (broken_forms (still_asking [] code)) (rows_forms ns))
 
 pub program_modes : (seed : ℕ) (code : SlotCode) → list_all has_mode (program_code seed code) ≡ true
 program_modes seed code = all_by has_form has_mode has_form_mode (program_code seed code) (program_forms seed code)
 
 pub program_moves : (seed : ℕ) (code : SlotCode) → list_all may_move (program_code seed code) ≡ true
 program_moves seed code = all_by has_form may_move has_form_moves (program_code seed code) (program_forms seed code)
-
--- ── names ──
--- each of these names has a number from one on
-abbrev AreFrom : ℕ → List Name → Type 0
-AreFrom low [] = Unit {0}
-AreFrom low (n ∷ ns) = (low ≤ key_of n) × AreFrom low ns
-
-from_lower : (low low' : ℕ) (ns : List Name) → low ≤ low' → AreFrom low' ns → AreFrom low ns
-from_lower low low' [] l h = tt
-from_lower low low' (n ∷ ns) l h = (omega (arith, l, h.0), from_lower low low' ns l h.1)
-
-names_from : (low high : ℕ) (es : List Entry) → Rising low es high → AreFrom low (names_of es)
-names_from low high [] r = tt
-names_from low high (instr n m o ∷ es) r = names_from low high es r
-names_from low high (label n ∷ es) r = (r.0, from_lower low (key_of n + 1) (names_of es) (omega (arith, r.0)) (names_from (key_of n + 1) high es r.1))
-names_from low high (bytes bs ∷ es) r = names_from low high es r
-names_from low high (word o ∷ es) r = names_from low high es r
-
-same_key : (n m : Name) → same_name n m ≡ true → key_of n ≡ key_of m
-same_key n m e = ap key ((bytes_decides n.letters.items m.letters.items).0 e)
-
-other : (n m : Name) → key_of n < key_of m → same_name n m ≡ false
-other n m l = by (same_name n m) refl
-  where
-    by : (t : Bool) → same_name n m ≡ t → t ≡ false
-    by true e = absurd (let k = same_key n m e in let no : ⊥ = omega (arith, k, l) in no)
-    by false e = refl
-
-none_of : (n : Name) (ns : List Name) → AreFrom (key_of n + 1) ns → list_any (same_name n) ns ≡ false
-none_of n [] h = refl
-none_of n (m ∷ ns) h = ap (λ b. b || list_any (same_name n) ns) (other n m (omega (arith, h.0))) ∙ none_of n ns h.1
-
-pub distinct : (low high : ℕ) (es : List Entry) → Rising low es high → AreDistinct (names_of es)
-distinct low high [] r = tt
-distinct low high (instr n m o ∷ es) r = distinct low high es r
-distinct low high (label n ∷ es) r = (none_of n (names_of es) (names_from (key_of n + 1) high es r.1), distinct (key_of n + 1) high es r.1)
-distinct low high (bytes bs ∷ es) r = distinct low high es r
-distinct low high (word o ∷ es) r = distinct low high es r

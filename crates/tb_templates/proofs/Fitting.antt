@@ -28,11 +28,12 @@ use Rattle.tb_templates.specs.declared.labels.Target.{Target}
 use Rattle.tb_templates.specs.declared.labels.Target.TheVariants.{Inside, Line}
 use Rattle.tb_templates.specs.Templates.{branch, const, next_line, call, copied, faulted, slot_at, var_at, on}
 use Rattle.tb_templates.specs.Sources.{Source, FixedWord, AtPlace, source_of, tested_source, home_at, destination_at}
-use Rattle.tb_templates.specs.GroupTemplates.{low_of, high_of, brought, joined, handed, multiplied, divided, calculated, computed, changed_or, converted, used, equal, unequal, tested, gone, group_template, polled, lined, may_be_zero, may_have_none, told, remainder, left_over as beyond, unless, divided_by, divided_gone, divides, asked_rest, signed_rest, remains}
+use Rattle.tb_templates.specs.GroupTemplates.{low_of, high_of, brought, joined, handed, multiplied, divided, calculated, computed, changed_or, converted, used, equal, unequal, tested, gone, group_template, lined, may_be_zero, may_have_none, told, remainder, left_over as beyond, unless, divided_by, divided_gone, divides, asked_rest, signed_rest, remains}
 use Rattle.tb_templates.specs.Masks.{mask}
 use Rattle.tb_templates.specs.Orders.{Side, Below, NotBelow, Order, BySign, ByConstant, ByDifference, order_of, ordered_by}
 use Rattle.tb_templates.specs.Scaled.{at_zero, rounded, raised, halved, halvings, high_first, shifts, shifted, by_bit, by_bits, bits_size, is_factor, scaling, low_first, times}
 use Rattle.tb_templates.specs.InPlace.{Change, Increment, Decrement, Raise, Lower, Halve, Double, change_of, changed}
+use Rattle.tb_templates.specs.Breaks.{polled}
 use Rattle.tb_templates.specs.Program.{rest_code, list_code}
 use Rattle.tb_settling.specs.Settled.{most_of, most}
 use Rattle.tb_settling.proofs.Forms.{most_append}

@@ -14,3 +14,4 @@ pub mod Rows
 pub mod Searched
 pub mod Taken
 pub mod Settled
+pub mod Woven

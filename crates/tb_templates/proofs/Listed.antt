@@ -3,7 +3,7 @@ use Rattle.std.proofs.Common.{◌≡◌, ℕ, List, ◌∷◌, ◌++◌, refl}
 use Rattle.tb_asm.specs.Layout.{Entry}
 use Rattle.tb_lower.specs.Slots.{Instr, Poll}
 use Rattle.tb_selection.specs.Select.{select}
-use Rattle.tb_templates.specs.GroupTemplates.{polled}
+use Rattle.tb_templates.specs.Breaks.{polled}
 use Rattle.tb_templates.specs.Program.{rest_code, list_code}
 
 -- what holds of a list's groups, and of those behind a poll with its code before them, holds of the list's code

@@ -1,5 +1,5 @@
 -- The labels of a whole program rise.
-use Rattle.std.proofs.Common.{◌≡◌, ℕ, ◌+◌, ◌<◌, ◌≤◌, Bool, true, false, List, [], ◌∷◌, ◌++◌, length, refl, sym, ap, ◌∙◌, arith, subst, nat_lt, Option, Some, None}
+use Rattle.std.proofs.Common.{◌≡◌, ℕ, ◌+◌, ◌<◌, ◌≤◌, Bool, true, false, List, [], ◌∷◌, ◌++◌, length, refl, sym, ap, ◌∙◌, arith, subst, append_assoc, append-nil, inl, nat_lt, Option, Some, None}
 use Rattle.std.specs.Prelude.{if◌then◌else◌}
 use Rattle.std.proofs.lemmas.Bool.Decides.{nat_tests}
 use Rattle.tb_opcodes.specs.declared.Mnemonic.{Mnemonic}
@@ -19,20 +19,22 @@ use Rattle.tb_templates.specs.declared.labels.Inner.{Inner}
 use Rattle.tb_templates.specs.declared.labels.Inner.TheVariants as inner
 use Rattle.tb_templates.specs.Labels.{label_of, letter_of}
 use Rattle.tb_templates.specs.declared.labels.Target.{Target}
-use Rattle.tb_templates.specs.declared.labels.Target.TheVariants.{Line, Inside, Table}
+use Rattle.tb_templates.specs.declared.labels.Target.TheVariants.{Line, Inside, Table, Past}
 use Rattle.tb_templates.specs.Templates.{branch, var_at, template, faulted, called, jump_to, next_line, target_of, call, copied, constant}
 use Rattle.tb_templates.specs.Sources.{Source, FixedWord, AtPlace, source_of, tested_source, home_at, destination_at}
-use Rattle.tb_templates.specs.GroupTemplates.{brought, joined, handed, multiplied, divided, calculated, computed, changed_or, converted, used, equal, unequal, tested, gone, may_fault, group_template, polled, lined, may_be_zero, may_have_none, left_over, unless, divided_by, divided_gone, divides, asked_rest, signed_rest, remains}
+use Rattle.tb_templates.specs.GroupTemplates.{brought, joined, handed, multiplied, divided, calculated, computed, changed_or, converted, used, equal, unequal, tested, gone, may_fault, group_template, lined, may_be_zero, may_have_none, left_over, unless, divided_by, divided_gone, divides, asked_rest, signed_rest, remains}
 use Rattle.tb_templates.specs.Scaled.{scaling, times, shifts, shifted}
 use Rattle.tb_templates.specs.InPlace.{Change, Increment, Decrement, Raise, Lower, Halve, Double, change_of, changed}
 use Rattle.tb_templates.specs.Masks.{mask}
 use Rattle.tb_templates.proofs.Divided.{asked_rest_plain, copied_plain, left_over_plain}
 use Rattle.tb_templates.specs.Orders.{Side, Below, NotBelow, Order, BySign, ByConstant, ByDifference, lifted, order_of, ordered_by, signed, unless_carry, wanted_side, weighed}
-use Rattle.tb_templates.specs.Program.{rest_code, list_code, line_code, lines_code, past_code, find_code, rows_code, table_code, program_code, AreCodable, RisingFrom, first_of, AreInTurn}
+use Rattle.tb_templates.specs.Program.{rest_code, list_code, line_code, lines_code, past_code, find_code, rows_code, table_code, program_code, AreCodable, RisingFrom, first_of, AreInTurn, still_asking}
+use Rattle.tb_templates.specs.Breaks.{polled, all_broken, ends_away, done_behind, left_behind}
 use Rattle.tb_templates.proofs.Listed.{by_poll}
 use Rattle.tb_templates.proofs.Plain.{lifted_plain, plain_rises, times_plain, shifted_plain}
 use Rattle.tb_templates.proofs.Ranged.{selected_few}
-use Rattle.tb_templates.proofs.Rising.{key_of, base, line_key, inside_key, Rising, rising_append, rising_lower}
+use Rattle.tb_templates.proofs.Rising.{key_of, base, break_base, line_key, inside_key, Rising, rising_append, rising_lower}
+use Rattle.tb_templates.proofs.Woven.{lowest, Woven, woven_lower, rising_woven, broken_woven}
 
 -- ── single instructions ──
 jump_rises : (ns : List ℕ) (n to low high : ℕ) (t : Bool) → has_line ns to ≡ t → low ≤ high → Rising low (jump_to ns n to) high
@@ -240,12 +242,12 @@ rest_rises ns seed n i (g ∷ gs) h k =
     (rest_rises ns seed n (i + 1) gs h (omega (arith, k)))
 
 -- ── lines ──
-polled_rises : (n : ℕ) → n < 65536 → Rising (base n 0 + 1) (polled n) (base n 1)
-polled_rises n h = let s = inside_key inner.Skip n 0 h (omega arith) in (omega (arith, s), omega (arith, s))
+polled_rises : (n : ℕ) → Rising (base n 0 + 1) (polled n) (base n 1)
+polled_rises n = omega arith
 
 list_rises : (ns : List ℕ) (seed n : ℕ) (is : List Instr) → n < 65536 → length is < 65536 → Rising (base n 0 + 1) (list_code ns seed n is) (base (n + 1) 0)
 list_rises ns seed n is h l =
-    by_poll (λ es. Rising (base n 0 + 1) es (base (n + 1) 0)) ns seed n is (λ js e. rising_append (base n 0 + 1) (base n 1) (base (n + 1) 0) (polled n) (rest_code ns seed n 1 (select js)) (polled_rises n h) (groups js (let s = ap length e in omega (arith, s, l))))
+    by_poll (λ es. Rising (base n 0 + 1) es (base (n + 1) 0)) ns seed n is (λ js e. rising_append (base n 0 + 1) (base n 1) (base (n + 1) 0) (polled n) (rest_code ns seed n 1 (select js)) (polled_rises n) (groups js (let s = ap length e in omega (arith, s, l))))
     (rising_lower (base n 0 + 1) (base n 1) (base (n + 1) 0) (rest_code ns seed n 1 (select is)) (omega arith) (groups is l))
   where
     groups : (js : List Instr) → length js < 65536 → Rising (base n 1) (rest_code ns seed n 1 (select js)) (base (n + 1) 0)
@@ -279,26 +281,44 @@ in_turn ns low (line ∷ lines) r same =
 pub lines_in_turn : (lines : SlotCode) → RisingFrom 0 (numbers lines) → AreInTurn (numbers lines) lines
 lines_in_turn lines r = in_turn (numbers lines) 0 lines r (λ n h. refl)
 
-pub lines_rise : (ns : List ℕ) (seed low : ℕ) (lines : SlotCode) → low ≤ 65536 → RisingFrom low (numbers lines) → AreCodable lines → Rising (base low 0) (lines_code ns seed lines) (base 65536 0)
-lines_rise ns seed low [] l r c = omega (arith, l)
-lines_rise ns seed low (line ∷ lines) l r c =
+-- what is done for the STOP key behind lines, before more
+done_woven : (low from : ℕ) (t : Bool) (ns ms : List ℕ) (ys : List Entry) → RisingFrom from (ns ++ ms) → ((to : ℕ) → RisingFrom to (left_behind t ns ++ ms) → Woven low (break_base to) ys) → Woven low (break_base from) (done_behind t ns ++ ys)
+done_woven low from true ns ms ys r f = broken_woven low from ns ms ys r f
+done_woven low from false ns ms ys r f = f from r
+
+lines_woven : (ns : List ℕ) (seed low from : ℕ) (asking : List ℕ) (lines : SlotCode) (ys : List Entry) → low ≤ 65536 → RisingFrom low (numbers lines) → AreCodable lines → RisingFrom from (asking ++ numbers lines)
+    → ((to : ℕ) → RisingFrom to (still_asking asking lines) → Woven (base 65536 0) (break_base to) ys) → Woven (base low 0) (break_base from) (lines_code ns seed asking lines ++ ys)
+lines_woven ns seed low from asking [] ys l r c a f = woven_lower (base low 0) (base 65536 0) (break_base from) (break_base from) ys (omega (arith, l)) (omega arith) (f from (subst (RisingFrom from) (append-nil asking) a))
+lines_woven ns seed low from asking (line ∷ lines) ys l r c a f =
     let n = line.number in
     let k = line_key n r.1 in
-    rising_append (base low 0) (base (n + 1) 0) (base 65536 0) (line_code ns seed line) (lines_code ns seed lines)
-    (omega (arith, k, r.0), subst (λ x. Rising (x + 1) (list_code ns seed n line.content) (base (n + 1) 0)) (sym k) (list_rises ns seed n line.content r.1 c.1))
-    (lines_rise ns seed (n + 1) lines (omega (arith, r.1)) r.2 c.2)
+    let all = asking ++ n ∷ [] in let away = ends_away line.content in
+    let code = line_code ns seed line in let done = done_behind away all in
+    let more = lines_code ns seed (left_behind away all) lines in
+    let least = r.0 in let small = r.1 in
+    subst (Woven (base low 0) (break_base from)) (sym (append_assoc code (done ++ more) ys ∙ ap (λ es. code ++ es) (append_assoc done more ys)))
+    (rising_woven (base low 0) (base (n + 1) 0) (break_base from) code (done ++ (more ++ ys)) (omega arith)
+    (omega (arith, k, least), subst (λ x. Rising (x + 1) (list_code ns seed n line.content) (base (n + 1) 0)) (sym k) (list_rises ns seed n line.content r.1 c.1))
+    (done_woven (base (n + 1) 0) from away all (numbers lines) (more ++ ys) (subst (RisingFrom from) (sym (append_assoc asking (n ∷ []) (numbers lines))) a)
+    (λ to b. lines_woven ns seed (n + 1) to (left_behind away all) lines ys (omega (arith, small)) r.2 c.2 b f)))
 
-rows_rise : (ns : List ℕ) (low high : ℕ) → low ≤ high → Rising low (rows_code ns) high
-rows_rise [] low high h = h
-rows_rise (n ∷ ns) low high h = rows_rise ns low high h
+rows_woven : (ns : List ℕ) (low breaks : ℕ) → Woven low breaks (rows_code ns)
+rows_woven [] low breaks = tt
+rows_woven (n ∷ ns) low breaks = rows_woven ns low breaks
 
--- what is above all labels
-abbrev pub top : ℕ
-top = key_of (label_of Table) + 1
+-- what belongs to no line
+rest_woven : (ns asking : List ℕ) (from : ℕ) → RisingFrom from asking → Woven (base 65536 0) (break_base from) (past_code ns ++ (all_broken asking ++ (find_code ns ++ table_code ns)))
+rest_woven ns asking from r =
+    inl (
+      omega arith,
+      omega arith,
+      broken_woven (key_of (label_of Past) + 1) from asking [] (find_code ns ++ table_code ns) (subst (RisingFrom from) (sym (append-nil asking)) r)
+          (λ to b. inl (omega arith, omega arith, inl (omega arith, omega arith, rows_woven ns (key_of (label_of Table) + 1) (break_base to)))),
+    )
 
-pub program_rises : (seed : ℕ) (code : SlotCode) → RisingFrom 0 (numbers code) → AreCodable code → Rising 0 (program_code seed code) top
-program_rises seed code r c =
+pub program_woven : (seed : ℕ) (code : SlotCode) → RisingFrom 0 (numbers code) → AreCodable code → Woven lowest 0 (program_code seed code)
+program_woven seed code r c =
     let ns = numbers code in
-    rising_append 0 (base 65536 0) top (lines_code ns seed code) (past_code ns ++ (find_code ns ++ table_code ns))
-    (rising_lower 0 (base 0 0) (base 65536 0) (lines_code ns seed code) (omega arith) (lines_rise ns seed 0 code (omega arith) r c))
-    (omega arith, (omega arith, (omega arith, rows_rise ns top top (omega arith))))
+    let rest = past_code ns ++ (all_broken (still_asking [] code) ++ (find_code ns ++ table_code ns)) in
+    woven_lower lowest lowest 0 (break_base 0) (lines_code ns seed [] code ++ rest) (omega arith) (omega arith)
+    (lines_woven ns seed 0 0 [] code rest (omega arith) r c r (λ to b. rest_woven ns (still_asking [] code) to b))

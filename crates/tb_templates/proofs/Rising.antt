@@ -1,14 +1,10 @@
--- The labels of a program's code rise, so that none stands twice.
-use Rattle.std.proofs.Common.{◌≡◌, ℕ, ◌+◌, ◌-◌, ◌*◌, ◌/◌, ◌%◌, ◌<◌, ◌≤◌, Bool, true, false, List, [], ◌∷◌, ◌++◌, refl, sym, ap, arith, Some, None, subst, append_assoc, slice_index, nat_lt, cond}
-use lib.Pointwise.{bytes_decides}
+-- A number for each label, and lists of items whose labels rise.
+use Rattle.std.proofs.Common.{◌≡◌, ℕ, ◌+◌, ◌-◌, ◌*◌, ◌/◌, ◌%◌, ◌<◌, ◌≤◌, Bool, List, [], ◌∷◌, ◌++◌, refl, arith, slice_index, nat_lt}
 use Rattle.std.specs.Prelude.{if◌then◌else◌}
 use Rattle.tb_asm.specs.declared.names.Name.{Name}
-use Rattle.tb_asm.specs.Layout.{Entry, instr, label, bytes, word, size, size_of, label_at, labels_from, same_name, address_in}
-use Rattle.tb_asm.proofs.Faults.{size_push, labels_push}
-use Rattle.tb_asm.proofs.Laws.{label_stands}
-use Rattle.tb_templates.specs.Layout.{LabelsAt}
+use Rattle.tb_asm.specs.Layout.{Entry, instr, label, bytes, word}
 use Rattle.tb_templates.specs.declared.labels.Inner.{Inner}
-use Rattle.tb_templates.specs.declared.labels.Target.TheVariants.{Line, Inside}
+use Rattle.tb_templates.specs.declared.labels.Target.TheVariants.{Line, Inside, Break}
 use Rattle.tb_templates.specs.Labels.{label_of, letter_of, digit_of}
 
 -- ── a number for each label ──
@@ -45,6 +41,13 @@ line_key n h = let e = word_back n h in omega (arith, e)
 pub inside_key : (inner : Inner) (n i : ℕ) → n < 65536 → i < 65536 → key (label_of (Inside inner n i)).letters.items ≡ base n i + letter_of inner
 inside_key inner n i h k = let e = word_back n h in let f = word_back i k in omega (arith, e, f)
 
+-- where what is done for the STOP key in line n lies, below all other labels
+abbrev pub break_base : ℕ → ℕ
+break_base n = (66 * 65536 + n) * 65536 * 256
+
+pub break_key : (n : ℕ) → n < 65536 → key (label_of (Break n)).letters.items ≡ break_base n
+break_key n h = let e = word_back n h in omega (arith, e)
+
 abbrev pub key_of : Name → ℕ
 key_of n = key n.letters.items
 
@@ -70,54 +73,3 @@ rising_append low middle high (instr n m o ∷ xs) ys h k = rising_append low mi
 rising_append low middle high (label n ∷ xs) ys h k = (h.0, rising_append (key_of n + 1) middle high xs ys h.1 k)
 rising_append low middle high (bytes bs ∷ xs) ys h k = rising_append low middle high xs ys h k
 rising_append low middle high (word o ∷ xs) ys h k = rising_append low middle high xs ys h k
-
--- ── no label stands twice ──
--- each of these labels has a lower number
-abbrev AreBelow : ℕ → List (Name × ℕ) → Type 0
-AreBelow high [] = Unit {0}
-AreBelow high (p ∷ ps) = (key_of p.0 < high) × AreBelow high ps
-
-below_more : (low high : ℕ) (ps : List (Name × ℕ)) → low ≤ high → AreBelow low ps → AreBelow high ps
-below_more low high [] l h = tt
-below_more low high (p ∷ ps) l h = (omega (arith, l, h.0), below_more low high ps l h.1)
-
-below_append : (high : ℕ) (ps qs : List (Name × ℕ)) → AreBelow high ps → AreBelow high qs → AreBelow high (ps ++ qs)
-below_append high [] qs h k = k
-below_append high (p ∷ ps) qs h k = (h.0, below_append high ps qs h.1 k)
-
-same_key : (n m : Name) → same_name n m ≡ true → key_of n ≡ key_of m
-same_key n m e = ap key ((bytes_decides n.letters.items m.letters.items).0 e)
-
-absent : (n : Name) (ps : List (Name × ℕ)) → AreBelow (key_of n) ps → address_in ps n ≡ None
-absent n [] h = refl
-absent n (p ∷ ps) h = by (same_name n p.0) refl (absent n ps h.1)
-  where
-    by : (t : Bool) → same_name n p.0 ≡ t → address_in ps n ≡ None → cond t (Some p.1) (address_in ps n) ≡ None
-    by true e rest = absurd (let k = same_key n p.0 e in let no : ⊥ = omega (arith, k, h.0) in no)
-    by false e rest = rest
-
--- ── each label stands for its place ──
-below_label : (at low : ℕ) (before : List Entry) (e : Entry) → AreBelow low (labels_from at before) → AreBelow low (label_at (at + size before) e) → AreBelow low (labels_from at (before ++ e ∷ []))
-below_label at low before e b h = subst (AreBelow low) (sym (labels_push at before e)) (below_append low (labels_from at before) (label_at (at + size before) e) b h)
-
-moved : (at : ℕ) (before : List Entry) (e : Entry) (es : List Entry)
-    → LabelsAt (labels_from at ((before ++ e ∷ []) ++ es)) (at + size (before ++ e ∷ [])) es → LabelsAt (labels_from at (before ++ e ∷ es)) (at + size before + size_of e) es
-moved at before e es h =
-    let k : at + size (before ++ e ∷ []) ≡ at + size before + size_of e = (let q = size_push before e in omega (arith, q)) in
-    subst (λ a. LabelsAt (labels_from at (before ++ e ∷ es)) a es) k (subst (λ l. LabelsAt (labels_from at l) (at + size (before ++ e ∷ [])) es) (append_assoc before (e ∷ []) es) h)
-
--- where the labels of a list rise from behind those before, each stands for its place
-pub labels_hold : (at low high : ℕ) (before es : List Entry) → AreBelow low (labels_from at before) → Rising low es high → LabelsAt (labels_from at (before ++ es)) (at + size before) es
-labels_hold at low high before [] b r = tt
-labels_hold at low high before (instr n m o ∷ es) b r =
-    let e = instr n m o in (tt, moved at before e es (labels_hold at low high (before ++ e ∷ []) es (below_label at low before e b tt) r))
-labels_hold at low high before (label n ∷ es) b r =
-    let e = label n in
-    let k = key_of n in (
-      label_stands at before es n (absent n (labels_from at before) (below_more low k (labels_from at before) r.0 b)),
-      moved at before e es (labels_hold at (k + 1) high (before ++ e ∷ []) es (below_label at (k + 1) before e (below_more low (k + 1) (labels_from at before) (omega (arith, r.0)) b) (omega arith, tt)) r.1),
-    )
-labels_hold at low high before (bytes bs ∷ es) b r =
-    let e = bytes bs in (tt, moved at before e es (labels_hold at low high (before ++ e ∷ []) es (below_label at low before e b tt) r))
-labels_hold at low high before (word o ∷ es) b r =
-    let e = word o in (tt, moved at before e es (labels_hold at low high (before ++ e ∷ []) es (below_label at low before e b tt) r))

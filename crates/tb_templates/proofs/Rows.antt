@@ -11,7 +11,7 @@ use Rattle.tb_asm.specs.declared.items.Operand.TheVariants.{Byte}
 use Rattle.tb_asm.specs.Layout.{Entry, instr}
 use Rattle.tb_runtime16.specs.Places.{LEFT, DIVIDE_AT, RANDOM_AT, NUMBER_AT, PUSH_AT, FAULT_LINE_AT}
 use Rattle.tb_templates.specs.declared.labels.Inner.TheVariants.{Skip}
-use Rattle.tb_templates.specs.declared.labels.Target.TheVariants.{Line, Inside}
+use Rattle.tb_templates.specs.declared.labels.Target.TheVariants.{Break, Line, Inside}
 use Rattle.tb_templates.specs.Templates.{at, const, alone, branch, here, call, address, find, jump_through}
 use Rattle.tb_templates.specs.Scaled.{at_zero, is_factor, on_a, shifts_of}
 use Rattle.tb_templates.specs.Masks.{mask_of}
@@ -27,46 +27,46 @@ page_zero mnemonic place = instr mnemonic ZeroPage (Byte place)
 
 -- 10 LET A=B+1: the variables stand at $C000 and $C002, the line's number at $C03A
 sum : items 10 (Let 0 (Binary Add (Variable 1) (Number 1)))
-    ≡ here (Line 10) ∷ call 0xFFE4 ∷ const Cmp 3 ∷ branch Bne (Inside Skip 10 0) ∷ const Ldx 10 ∷ const Ldy 0 ∷ const Lda 0 ∷ at Jmp FAULT_LINE_AT ∷ here (Inside Skip 10 0)
+    ≡ here (Line 10) ∷ call 0xFFE4 ∷ const Cmp 3 ∷ branch Beq (Break 10)
     ∷ alone Clc ∷ at Lda 0xC002 ∷ const Adc 1 ∷ at Sta 0xC000 ∷ at Lda 0xC003 ∷ const Adc 0 ∷ at Sta 0xC001 ∷ []
 sum = refl
 
 -- 10 LET B=-A
 negation : items 10 (Let 1 (Negate (Variable 0)))
-    ≡ here (Line 10) ∷ call 0xFFE4 ∷ const Cmp 3 ∷ branch Bne (Inside Skip 10 0) ∷ const Ldx 10 ∷ const Ldy 0 ∷ const Lda 0 ∷ at Jmp FAULT_LINE_AT ∷ here (Inside Skip 10 0)
+    ≡ here (Line 10) ∷ call 0xFFE4 ∷ const Cmp 3 ∷ branch Beq (Break 10)
     ∷ alone Sec ∷ const Lda 0 ∷ at Sbc 0xC000 ∷ at Sta 0xC002 ∷ const Lda 0 ∷ at Sbc 0xC001 ∷ at Sta 0xC003 ∷ []
 negation = refl
 
 -- 10 LET A=RND(6), which cannot fault and of which the first state is 1: the two go to $FB and $FD, the number comes at $C066
 draw : items 10 (Let 0 (Random (Number 6)))
-    ≡ here (Line 10) ∷ call 0xFFE4 ∷ const Cmp 3 ∷ branch Bne (Inside Skip 10 0) ∷ const Ldx 10 ∷ const Ldy 0 ∷ const Lda 0 ∷ at Jmp FAULT_LINE_AT ∷ here (Inside Skip 10 0)
+    ≡ here (Line 10) ∷ call 0xFFE4 ∷ const Cmp 3 ∷ branch Beq (Break 10)
     ∷ const Lda 6 ∷ page_zero Sta 0xFB ∷ const Lda 0 ∷ page_zero Sta 0xFC ∷ const Lda 1 ∷ page_zero Sta 0xFD ∷ const Lda 0 ∷ page_zero Sta 0xFE ∷ call RANDOM_AT
     ∷ at Lda 0xC066 ∷ at Sta 0xC000 ∷ at Lda 0xC067 ∷ at Sta 0xC001 ∷ []
 draw = refl
 
 -- 20 GOSUB A: the line is searched for, and line 30 noted
 subroutine : items 20 (Gosub (Variable 0))
-    ≡ here (Line 20) ∷ call 0xFFE4 ∷ const Cmp 3 ∷ branch Bne (Inside Skip 20 0) ∷ const Ldx 20 ∷ const Ldy 0 ∷ const Lda 0 ∷ at Jmp FAULT_LINE_AT ∷ here (Inside Skip 20 0)
+    ≡ here (Line 20) ∷ call 0xFFE4 ∷ const Cmp 3 ∷ branch Beq (Break 20)
     ∷ const Lda 20 ∷ at Sta 0xC03A ∷ const Lda 0 ∷ at Sta 0xC03B ∷ at Lda 0xC000 ∷ at Sta 0xC068 ∷ at Lda 0xC001 ∷ at Sta 0xC069 ∷ find
     ∷ (address (Line 30) LEFT ++ (call PUSH_AT ∷ jump_through))
 subroutine = refl
 
 -- 20 IF A<B END: the line is left where A is not below B
 test : items 20 (If (Variable 0) Lt (Variable 1) End)
-    ≡ here (Line 20) ∷ call 0xFFE4 ∷ const Cmp 3 ∷ branch Bne (Inside Skip 20 0) ∷ const Ldx 20 ∷ const Ldy 0 ∷ const Lda 0 ∷ at Jmp FAULT_LINE_AT ∷ here (Inside Skip 20 0)
+    ≡ here (Line 20) ∷ call 0xFFE4 ∷ const Cmp 3 ∷ branch Beq (Break 20)
     ∷ at Lda 0xC000 ∷ at Cmp 0xC002 ∷ at Lda 0xC001 ∷ at Sbc 0xC003 ∷ branch Bvc (Inside Skip 20 1) ∷ const Eor 128 ∷ here (Inside Skip 20 1) ∷ branch Bpl (Line 30)
     ∷ alone Rts ∷ []
 test = refl
 
 -- 20 IF A<B GOTO 10: straight to line 10 where A is below B, and else on into line 30
 straight : items 20 (If (Variable 0) Lt (Variable 1) (Goto (Number 10)))
-    ≡ here (Line 20) ∷ call 0xFFE4 ∷ const Cmp 3 ∷ branch Bne (Inside Skip 20 0) ∷ const Ldx 20 ∷ const Ldy 0 ∷ const Lda 0 ∷ at Jmp FAULT_LINE_AT ∷ here (Inside Skip 20 0)
+    ≡ here (Line 20) ∷ call 0xFFE4 ∷ const Cmp 3 ∷ branch Beq (Break 20)
     ∷ at Lda 0xC000 ∷ at Cmp 0xC002 ∷ at Lda 0xC001 ∷ at Sbc 0xC003 ∷ branch Bvc (Inside Skip 20 1) ∷ const Eor 128 ∷ here (Inside Skip 20 1) ∷ branch Bmi (Line 10) ∷ []
 straight = refl
 
 -- 20 IF A=1 GOTO 40: there is no line 40, so it is the test and then fault 1
 nowhere : items 20 (If (Variable 0) Eq (Number 1) (Goto (Number 40)))
-    ≡ here (Line 20) ∷ call 0xFFE4 ∷ const Cmp 3 ∷ branch Bne (Inside Skip 20 0) ∷ const Ldx 20 ∷ const Ldy 0 ∷ const Lda 0 ∷ at Jmp FAULT_LINE_AT ∷ here (Inside Skip 20 0)
+    ≡ here (Line 20) ∷ call 0xFFE4 ∷ const Cmp 3 ∷ branch Beq (Break 20)
     ∷ at Lda 0xC000 ∷ const Cmp 1 ∷ branch Bne (Line 30) ∷ at Lda 0xC001 ∷ const Cmp 0 ∷ branch Bne (Line 30)
     ∷ const Ldx 20 ∷ const Ldy 0 ∷ const Lda 1 ∷ at Jmp FAULT_LINE_AT ∷ []
 nowhere = refl
@@ -140,7 +140,7 @@ by_sign = refl
 
 -- 30 PRINT A/B: the operands go to $FB and $FD, the quotient comes at $FB, slot 0 stands at $C040
 quotient : items 30 (Print (Value (Binary Divide (Variable 0) (Variable 1)) ∷ []) true)
-    ≡ here (Line 30) ∷ call 0xFFE4 ∷ const Cmp 3 ∷ branch Bne (Inside Skip 30 0) ∷ const Ldx 30 ∷ const Ldy 0 ∷ const Lda 0 ∷ at Jmp FAULT_LINE_AT ∷ here (Inside Skip 30 0)
+    ≡ here (Line 30) ∷ call 0xFFE4 ∷ const Cmp 3 ∷ branch Beq (Break 30)
     ∷ const Lda 30 ∷ at Sta 0xC03A ∷ const Lda 0 ∷ at Sta 0xC03B
     ∷ at Lda 0xC000 ∷ page_zero Sta 0xFB ∷ at Lda 0xC001 ∷ page_zero Sta 0xFC ∷ at Lda 0xC002 ∷ page_zero Sta 0xFD ∷ at Lda 0xC003 ∷ page_zero Sta 0xFE ∷ call DIVIDE_AT
     ∷ page_zero Lda 0xFB ∷ at Sta 0xC040 ∷ page_zero Lda 0xFC ∷ at Sta 0xC041
@@ -155,64 +155,64 @@ newline = refl
 
 -- 10 LET A=B/2: a negative word is raised by one first, and then shifted
 half : items 10 (Let 0 (Binary Divide (Variable 1) (Number 2)))
-    ≡ here (Line 10) ∷ call 0xFFE4 ∷ const Cmp 3 ∷ branch Bne (Inside Skip 10 0) ∷ const Ldx 10 ∷ const Ldy 0 ∷ const Lda 0 ∷ at Jmp FAULT_LINE_AT ∷ here (Inside Skip 10 0)
+    ≡ here (Line 10) ∷ call 0xFFE4 ∷ const Cmp 3 ∷ branch Beq (Break 10)
     ∷ at Lda 0xC003 ∷ const Cmp 128 ∷ at Lda 0xC002 ∷ const Adc 0 ∷ at_zero Sta 0xFB ∷ at Lda 0xC003 ∷ const Adc 0
     ∷ const Cmp 128 ∷ on_a Ror ∷ at_zero Ror 0xFB ∷ at Sta 0xC001 ∷ at_zero Lda 0xFB ∷ at Sta 0xC000 ∷ []
 half = refl
 
 -- 10 LET A=B/4: by three, and two shifts
 quarter : items 10 (Let 0 (Binary Divide (Variable 1) (Number 4)))
-    ≡ here (Line 10) ∷ call 0xFFE4 ∷ const Cmp 3 ∷ branch Bne (Inside Skip 10 0) ∷ const Ldx 10 ∷ const Ldy 0 ∷ const Lda 0 ∷ at Jmp FAULT_LINE_AT ∷ here (Inside Skip 10 0)
+    ≡ here (Line 10) ∷ call 0xFFE4 ∷ const Cmp 3 ∷ branch Beq (Break 10)
     ∷ at Lda 0xC003 ∷ const Cmp 128 ∷ const Lda 0 ∷ const Adc 255 ∷ const And 2 ∷ const Eor 2 ∷ at Adc 0xC002 ∷ at_zero Sta 0xFB ∷ at Lda 0xC003 ∷ const Adc 0
     ∷ const Cmp 128 ∷ on_a Ror ∷ at_zero Ror 0xFB ∷ const Cmp 128 ∷ on_a Ror ∷ at_zero Ror 0xFB ∷ at Sta 0xC001 ∷ at_zero Lda 0xFB ∷ at Sta 0xC000 ∷ []
 quarter = refl
 
 -- 10 LET A=A+1: one more where it stands
 increment : items 10 (Let 0 (Binary Add (Variable 0) (Number 1)))
-    ≡ here (Line 10) ∷ call 0xFFE4 ∷ const Cmp 3 ∷ branch Bne (Inside Skip 10 0) ∷ const Ldx 10 ∷ const Ldy 0 ∷ const Lda 0 ∷ at Jmp FAULT_LINE_AT ∷ here (Inside Skip 10 0)
+    ≡ here (Line 10) ∷ call 0xFFE4 ∷ const Cmp 3 ∷ branch Beq (Break 10)
     ∷ at Inc 0xC000 ∷ branch Bne (Inside Skip 10 1) ∷ at Inc 0xC001 ∷ here (Inside Skip 10 1) ∷ []
 increment = refl
 
 -- 10 LET B=B-1: one less
 decrement : items 10 (Let 1 (Binary Subtract (Variable 1) (Number 1)))
-    ≡ here (Line 10) ∷ call 0xFFE4 ∷ const Cmp 3 ∷ branch Bne (Inside Skip 10 0) ∷ const Ldx 10 ∷ const Ldy 0 ∷ const Lda 0 ∷ at Jmp FAULT_LINE_AT ∷ here (Inside Skip 10 0)
+    ≡ here (Line 10) ∷ call 0xFFE4 ∷ const Cmp 3 ∷ branch Beq (Break 10)
     ∷ at Lda 0xC002 ∷ branch Bne (Inside Skip 10 1) ∷ at Dec 0xC003 ∷ here (Inside Skip 10 1) ∷ at Dec 0xC002 ∷ []
 decrement = refl
 
 -- 10 LET A=7+A: the high byte changes with the carry alone
 raise : items 10 (Let 0 (Binary Add (Number 7) (Variable 0)))
-    ≡ here (Line 10) ∷ call 0xFFE4 ∷ const Cmp 3 ∷ branch Bne (Inside Skip 10 0) ∷ const Ldx 10 ∷ const Ldy 0 ∷ const Lda 0 ∷ at Jmp FAULT_LINE_AT ∷ here (Inside Skip 10 0)
+    ≡ here (Line 10) ∷ call 0xFFE4 ∷ const Cmp 3 ∷ branch Beq (Break 10)
     ∷ alone Clc ∷ at Lda 0xC000 ∷ const Adc 7 ∷ at Sta 0xC000 ∷ branch Bcc (Inside Skip 10 1) ∷ at Inc 0xC001 ∷ here (Inside Skip 10 1) ∷ []
 raise = refl
 
 -- 10 LET A=A+65281: 255 less
 lower : items 10 (Let 0 (Binary Add (Variable 0) (Number 65281)))
-    ≡ here (Line 10) ∷ call 0xFFE4 ∷ const Cmp 3 ∷ branch Bne (Inside Skip 10 0) ∷ const Ldx 10 ∷ const Ldy 0 ∷ const Lda 0 ∷ at Jmp FAULT_LINE_AT ∷ here (Inside Skip 10 0)
+    ≡ here (Line 10) ∷ call 0xFFE4 ∷ const Cmp 3 ∷ branch Beq (Break 10)
     ∷ alone Sec ∷ at Lda 0xC000 ∷ const Sbc 255 ∷ at Sta 0xC000 ∷ branch Bcs (Inside Skip 10 1) ∷ at Dec 0xC001 ∷ here (Inside Skip 10 1) ∷ []
 lower = refl
 
 -- 10 LET A=A/2: a negative word is one more first
 half_in_place : items 10 (Let 0 (Binary Divide (Variable 0) (Number 2)))
-    ≡ here (Line 10) ∷ call 0xFFE4 ∷ const Cmp 3 ∷ branch Bne (Inside Skip 10 0) ∷ const Ldx 10 ∷ const Ldy 0 ∷ const Lda 0 ∷ at Jmp FAULT_LINE_AT ∷ here (Inside Skip 10 0)
+    ≡ here (Line 10) ∷ call 0xFFE4 ∷ const Cmp 3 ∷ branch Beq (Break 10)
     ∷ at Lda 0xC001 ∷ on_a Asl ∷ branch Bcc (Inside Skip 10 1) ∷ at Lda 0xC000 ∷ const Adc 0 ∷ at Sta 0xC000 ∷ at Lda 0xC001 ∷ const Adc 0 ∷ at Sta 0xC001 ∷ on_a Asl
     ∷ here (Inside Skip 10 1) ∷ at Ror 0xC001 ∷ at Ror 0xC000 ∷ []
 half_in_place = refl
 
 -- 10 LET A=2*A
 double : items 10 (Let 0 (Binary Multiply (Number 2) (Variable 0)))
-    ≡ here (Line 10) ∷ call 0xFFE4 ∷ const Cmp 3 ∷ branch Bne (Inside Skip 10 0) ∷ const Ldx 10 ∷ const Ldy 0 ∷ const Lda 0 ∷ at Jmp FAULT_LINE_AT ∷ here (Inside Skip 10 0)
+    ≡ here (Line 10) ∷ call 0xFFE4 ∷ const Cmp 3 ∷ branch Beq (Break 10)
     ∷ at Asl 0xC000 ∷ at Rol 0xC001 ∷ []
 double = refl
 
 -- 20 IF A/4*4=A GOTO 10: straight to line 10 where the two lowest bits are 0
 by_four : items 20 (If (Binary Multiply (Binary Divide (Variable 0) (Number 4)) (Number 4)) Eq (Variable 0) (Goto (Number 10)))
-    ≡ here (Line 20) ∷ call 0xFFE4 ∷ const Cmp 3 ∷ branch Bne (Inside Skip 20 0) ∷ const Ldx 20 ∷ const Ldy 0 ∷ const Lda 0 ∷ at Jmp FAULT_LINE_AT ∷ here (Inside Skip 20 0)
+    ≡ here (Line 20) ∷ call 0xFFE4 ∷ const Cmp 3 ∷ branch Beq (Break 20)
     ∷ at Lda 0xC000 ∷ const And 3 ∷ branch Beq (Line 10) ∷ []
 by_four = refl
 
 -- 20 IF A/B*B<>A END: one division, which notes its line, and on to line 30 where its remainder is 0
 divided : items 20 (If (Binary Multiply (Binary Divide (Variable 0) (Variable 1)) (Variable 1)) Ne (Variable 0) End)
-    ≡ here (Line 20) ∷ call 0xFFE4 ∷ const Cmp 3 ∷ branch Bne (Inside Skip 20 0) ∷ const Ldx 20 ∷ const Ldy 0 ∷ const Lda 0 ∷ at Jmp FAULT_LINE_AT ∷ here (Inside Skip 20 0)
+    ≡ here (Line 20) ∷ call 0xFFE4 ∷ const Cmp 3 ∷ branch Beq (Break 20)
     ∷ const Lda 20 ∷ at Sta 0xC03A ∷ const Lda 0 ∷ at Sta 0xC03B
     ∷ at Lda 0xC000 ∷ page_zero Sta 0xFB ∷ at Lda 0xC001 ∷ page_zero Sta 0xFC ∷ at Lda 0xC002 ∷ page_zero Sta 0xFD ∷ at Lda 0xC003 ∷ page_zero Sta 0xFE ∷ call DIVIDE_AT
     ∷ at Lda 0xC066 ∷ at Ora 0xC067 ∷ branch Beq (Line 30) ∷ alone Rts ∷ []
@@ -224,7 +224,7 @@ masks = (refl, refl, refl, refl, refl)
 
 -- 10 LET A=3*A: twice A and A, in place
 thrice : items 10 (Let 0 (Binary Multiply (Number 3) (Variable 0)))
-    ≡ here (Line 10) ∷ call 0xFFE4 ∷ const Cmp 3 ∷ branch Bne (Inside Skip 10 0) ∷ const Ldx 10 ∷ const Ldy 0 ∷ const Lda 0 ∷ at Jmp FAULT_LINE_AT ∷ here (Inside Skip 10 0)
+    ≡ here (Line 10) ∷ call 0xFFE4 ∷ const Cmp 3 ∷ branch Beq (Break 10)
     ∷ at Lda 0xC001 ∷ at_zero Sta 0xFB ∷ at Lda 0xC000 ∷ on_a Asl ∷ at_zero Rol 0xFB
     ∷ alone Clc ∷ at Adc 0xC000 ∷ alone Tax ∷ at_zero Lda 0xFB ∷ at Adc 0xC001 ∷ at_zero Sta 0xFB ∷ alone Txa ∷ at Sta 0xC000 ∷ at_zero Lda 0xFB ∷ at Sta 0xC001 ∷ []
 thrice = refl

@@ -1,6 +1,6 @@
 -- The settled items of a program: where its lines and labels stand among them.
-use Rattle.std.proofs.Common.{◌≡◌, ℕ, ◌+◌, ◌≤◌, List, [], ◌∷◌, ◌++◌, ap, sym, subst, ◌∙◌, arith, refl, true, Some}
-use Rattle.std.specs.Prelude.{unwrap_or}
+use Rattle.std.proofs.Common.{◌≡◌, ℕ, ◌+◌, ◌≤◌, List, [], ◌∷◌, ◌++◌, ap, sym, subst, ◌∙◌, arith, refl, Bool, true, false, inl, inr, Some}
+use Rattle.std.specs.Prelude.{◌&&◌, unwrap_or}
 use Rattle.std.specs.List.{list_all}
 use Rattle.tb_asm.specs.declared.names.Name.{Name}
 use Rattle.tb_asm.specs.Layout.{Entry, label, instr, bytes, word, size, size_of, address_in, labels_from}
@@ -14,10 +14,12 @@ use Rattle.tb_settling.proofs.Forms.{forms_size, items_append, items_size, size_
 use Rattle.tb_templates.specs.declared.labels.Target.TheVariants.{Line, Past, Table}
 use Rattle.tb_templates.specs.Labels.{label_of}
 use Rattle.tb_templates.specs.Layout.{LabelAt, LabelsAt}
-use Rattle.tb_templates.specs.Program.{line_code, lines_code, past_code, find_code, rows_code, table_code, block_code, program_code, AreCodable, RisingFrom}
-use Rattle.tb_templates.proofs.Ordered.{top, program_rises}
+use Rattle.tb_templates.specs.Breaks.{all_broken}
+use Rattle.tb_templates.specs.Program.{still_asking, line_code, lines_code, past_code, find_code, rows_code, table_code, block_code, program_code, AreCodable, RisingFrom}
+use Rattle.tb_templates.proofs.Ordered.{program_woven}
 use Rattle.tb_templates.proofs.Reached.{labels_split}
-use Rattle.tb_templates.proofs.Rising.{Rising, key_of, labels_hold}
+use Rattle.tb_templates.proofs.Rising.{key_of}
+use Rattle.tb_templates.proofs.Woven.{lowest, Woven, labels_hold}
 use Rattle.tb_templates.proofs.Taken.{block_size}
 
 -- ── settled items, one list behind the other ──
@@ -43,20 +45,21 @@ labels_behind labels a fs front back e h =
 pub straight_items : (a : ℕ) (es : List Entry) (fs : List Form) → list_all is_straight es ≡ true → AreFormsOf es fs → items_from a fs ≡ es
 straight_items a es fs h of = ap (items_from a) (straight_forms es fs h of) ∙ items_kept a es
 
--- ── rising labels ──
--- settled items have the labels of what they stand for, so these rise as well
-rises_settled : (a low high : ℕ) (es : List Entry) (fs : List Form) → AreFormsOf es fs → Rising low es high → Rising low (items_from a fs) high
-rises_settled a low high [] [] h r = r
-rises_settled a low high [] (f ∷ fs) h r = absurd h
-rises_settled a low high (e ∷ es) [] h r = absurd h
-rises_settled a low high (instr n m o ∷ es) (kept k ∷ fs) h r = subst (λ k. Rising low (k ∷ items_from (a + size_of k) fs) high) (sym h.0) (rises_settled (a + size_of (instr n m o)) low high es fs h.1 r)
-rises_settled a low high (label n ∷ es) (kept k ∷ fs) h r = subst (λ k. Rising low (k ∷ items_from (a + size_of k) fs) high) (sym h.0) (r.0, rises_settled (a + size_of (label n)) (key_of n + 1) high es fs h.1 r.1)
-rises_settled a low high (bytes bs ∷ es) (kept k ∷ fs) h r = subst (λ k. Rising low (k ∷ items_from (a + size_of k) fs) high) (sym h.0) (rises_settled (a + size_of (bytes bs)) low high es fs h.1 r)
-rises_settled a low high (word o ∷ es) (kept k ∷ fs) h r = subst (λ k. Rising low (k ∷ items_from (a + size_of k) fs) high) (sym h.0) (rises_settled (a + size_of (word o)) low high es fs h.1 r)
-rises_settled a low high (instr n m o ∷ es) (long k l ∷ fs) h r = rises_settled (a + 5) low high es fs h.1 r
-rises_settled a low high (label n ∷ es) (long k l ∷ fs) h r = absurd (let no : ⊥ = cc in no)
-rises_settled a low high (bytes bs ∷ es) (long k l ∷ fs) h r = absurd (let no : ⊥ = cc in no)
-rises_settled a low high (word o ∷ es) (long k l ∷ fs) h r = absurd (let no : ⊥ = cc in no)
+-- ── the order of labels ──
+-- settled items have the labels of what they stand for, so these rise in the same way
+woven_settled : (a low breaks : ℕ) (es : List Entry) (fs : List Form) → AreFormsOf es fs → Woven low breaks es → Woven low breaks (items_from a fs)
+woven_settled a low breaks [] [] h r = r
+woven_settled a low breaks [] (f ∷ fs) h r = absurd h
+woven_settled a low breaks (e ∷ es) [] h r = absurd h
+woven_settled a low breaks (instr n m o ∷ es) (kept k ∷ fs) h r = subst (λ k. Woven low breaks (k ∷ items_from (a + size_of k) fs)) (sym h.0) (woven_settled (a + size_of (instr n m o)) low breaks es fs h.1 r)
+woven_settled a low breaks (label n ∷ es) (kept k ∷ fs) h (inl r) = subst (λ k. Woven low breaks (k ∷ items_from (a + size_of k) fs)) (sym h.0) (inl (r.0, r.1, woven_settled (a + size_of (label n)) (key_of n + 1) breaks es fs h.1 r.2))
+woven_settled a low breaks (label n ∷ es) (kept k ∷ fs) h (inr r) = subst (λ k. Woven low breaks (k ∷ items_from (a + size_of k) fs)) (sym h.0) (inr (r.0, r.1, woven_settled (a + size_of (label n)) low (key_of n + 1) es fs h.1 r.2))
+woven_settled a low breaks (bytes bs ∷ es) (kept k ∷ fs) h r = subst (λ k. Woven low breaks (k ∷ items_from (a + size_of k) fs)) (sym h.0) (woven_settled (a + size_of (bytes bs)) low breaks es fs h.1 r)
+woven_settled a low breaks (word o ∷ es) (kept k ∷ fs) h r = subst (λ k. Woven low breaks (k ∷ items_from (a + size_of k) fs)) (sym h.0) (woven_settled (a + size_of (word o)) low breaks es fs h.1 r)
+woven_settled a low breaks (instr n m o ∷ es) (long k l ∷ fs) h r = woven_settled (a + 5) low breaks es fs h.1 r
+woven_settled a low breaks (label n ∷ es) (long k l ∷ fs) h r = absurd (let no : ⊥ = cc in no)
+woven_settled a low breaks (bytes bs ∷ es) (long k l ∷ fs) h r = absurd (let no : ⊥ = cc in no)
+woven_settled a low breaks (word o ∷ es) (long k l ∷ fs) h r = absurd (let no : ⊥ = cc in no)
 
 -- ── lines ──
 -- a line's label stands where its code does
@@ -77,39 +80,56 @@ rows_straight : (ns : List ℕ) → list_all is_straight (rows_code ns) ≡ true
 rows_straight [] = refl
 rows_straight (n ∷ ns) = rows_straight ns
 
+pub broken_straight : (ns : List ℕ) → list_all is_straight (all_broken ns) ≡ true
+broken_straight [] = refl
+broken_straight (n ∷ ns) = broken_straight ns
+
+straight_both : (xs ys : List Entry) → list_all is_straight xs ≡ true → list_all is_straight ys ≡ true → list_all is_straight (xs ++ ys) ≡ true
+straight_both [] ys h k = k
+straight_both (x ∷ xs) ys h k = by (is_straight x) h (λ h. straight_both xs ys h k)
+  where
+    by : (t : Bool) → (t && list_all is_straight xs) ≡ true → (list_all is_straight xs ≡ true → list_all is_straight (xs ++ ys) ≡ true) → (t && list_all is_straight (xs ++ ys)) ≡ true
+    by true h later = later h
+    by false h later = h
+
+-- what is done for the STOP key in the last lines
+abbrev pub last_broken : SlotCode → List Entry
+last_broken code = all_broken (still_asking [] code)
+
 -- a program's settled items: the block, the lines' settled items, and what belongs to none of them
 pub record Sections (seed : ℕ) (code : SlotCode) (items : List Entry) (labels : List (Name × ℕ)) : Type 0 where
   pub lines : List Form
-  pub of_lines : AreFormsOf (lines_code (numbers code) seed code) lines
-  pub are : items ≡ block_code ++ (items_from LINES_AT lines ++ (past_code (numbers code) ++ (find_code (numbers code) ++ table_code (numbers code))))
+  pub of_lines : AreFormsOf (lines_code (numbers code) seed [] code) lines
+  pub are : items ≡ block_code ++ (items_from LINES_AT lines ++ (past_code (numbers code) ++ (last_broken code ++ (find_code (numbers code) ++ table_code (numbers code)))))
   pub all_labels : LabelsAt labels PROLOGUE_AT items
   pub line_labels : LabelsAt labels LINES_AT (items_from LINES_AT lines)
   pub past : unwrap_or (address_in labels (label_of Past)) 0 ≡ LINES_AT + forms_size lines
-  pub table : address_in labels (label_of Table) ≡ Some (LINES_AT + forms_size lines + size (past_code (numbers code)) + size (find_code (numbers code)))
+  pub table : address_in labels (label_of Table) ≡ Some (LINES_AT + forms_size lines + size (past_code (numbers code)) + size (last_broken code) + size (find_code (numbers code)))
 
 pub sections : (seed : ℕ) (code : SlotCode) → AreCodable code → RisingFrom 0 (numbers code) → (items : List Entry) → IsSettled PROLOGUE_AT (program_code seed code) items → Sections seed code items (labels_from PROLOGUE_AT items)
 sections seed code lists rises items settled =
     let ns = numbers code in
     let labels = labels_from PROLOGUE_AT items in
-    let lines = lines_code ns seed code in let past = past_code ns in let search = find_code ns in let table = table_code ns in
-    let tail = past ++ (search ++ table) in
+    let lines = lines_code ns seed [] code in let past = past_code ns in let last = last_broken code in let search = find_code ns in let table = table_code ns in
+    let tail = past ++ (last ++ (search ++ table)) in
     let s = split block_code (lines ++ tail) settled.forms settled.of in
     let t = split lines tail s.back s.of_back in
     let block : items_from PROLOGUE_AT s.front ≡ block_code = straight_items PROLOGUE_AT block_code s.front refl s.of_front in
     let start : PROLOGUE_AT + forms_size s.front ≡ LINES_AT = (let a = items_size PROLOGUE_AT s.front in let b = ap size block in let c = block_size in omega (arith, a, b, c)) in
     let here = LINES_AT + forms_size t.front in
-    let last : items_from here t.back ≡ tail = straight_items here tail t.back (rows_straight ns) t.of_back in
-    let rest : items_from (PROLOGUE_AT + forms_size s.front) s.back ≡ items_from LINES_AT t.front ++ tail = ap (λ a. items_from a s.back) start ∙ joined_items LINES_AT s.back t.front t.back t.are ∙ ap (λ es. items_from LINES_AT t.front ++ es) last in
+    let last_items : items_from here t.back ≡ tail = straight_items here tail t.back (straight_both last (search ++ table) (broken_straight (still_asking [] code)) (rows_straight ns)) t.of_back in
+    let rest : items_from (PROLOGUE_AT + forms_size s.front) s.back ≡ items_from LINES_AT t.front ++ tail = ap (λ a. items_from a s.back) start ∙ joined_items LINES_AT s.back t.front t.back t.are ∙ ap (λ es. items_from LINES_AT t.front ++ es) last_items in
     let are : items ≡ block_code ++ (items_from LINES_AT t.front ++ tail) = settled.are ∙ joined_items PROLOGUE_AT settled.forms s.front s.back s.are ∙ (λ i. block i ++ rest i) in
-    let hold : LabelsAt labels PROLOGUE_AT items = labels_hold PROLOGUE_AT 0 top [] items tt (subst (λ es. Rising 0 es top) (sym settled.are) (rises_settled PROLOGUE_AT 0 top (program_code seed code) settled.forms settled.of (program_rises seed code rises lists))) in
+    let hold : LabelsAt labels PROLOGUE_AT items = labels_hold PROLOGUE_AT lowest 0 [] items tt (subst (λ es. Woven lowest 0 es) (sym settled.are) (woven_settled PROLOGUE_AT lowest 0 (program_code seed code) settled.forms settled.of (program_woven seed code rises lists))) in
     let own = items_from LINES_AT t.front in
     let long : size own ≡ forms_size t.front = items_size LINES_AT t.front in
     let after_block = labels_split labels PROLOGUE_AT block_code (own ++ tail) (subst (LabelsAt labels PROLOGUE_AT) are hold) in
     let at_lines : LabelsAt labels LINES_AT (own ++ tail) = subst (λ a. LabelsAt labels a (own ++ tail)) (let b = block_size in let e : PROLOGUE_AT + size block_code ≡ LINES_AT = omega (arith, b) in e) after_block.1 in
     let after_lines = labels_split labels LINES_AT own tail at_lines in
     let at_past : LabelsAt labels here tail = subst (λ a. LabelsAt labels a tail) (let e : LINES_AT + size own ≡ here = omega (arith, long) in e) after_lines.1 in
-    let after_past = labels_split labels here past (search ++ table) at_past in
-    let after_find = labels_split labels (here + size past) search table after_past.1 in
+    let after_past = labels_split labels here past (last ++ (search ++ table)) at_past in
+    let after_last = labels_split labels (here + size past) last (search ++ table) after_past.1 in
+    let after_find = labels_split labels (here + size past + size last) search table after_last.1 in
     record {
       lines = t.front;
       of_lines = t.of_front;

@@ -1,18 +1,19 @@
 -- A program's code can be settled and assembled, and its size.
-use Rattle.std.proofs.Common.{◌≡◌, ℕ, ◌+◌, ◌<◌, ◌≤◌, List, [], ◌∷◌, ◌++◌, arith}
+use Rattle.std.proofs.Common.{◌≡◌, ℕ, ◌+◌, ◌*◌, ◌<◌, ◌≤◌, Bool, true, false, List, [], ◌∷◌, ◌++◌, length, length-append, refl, arith}
 use Rattle.tb_asm.specs.Layout.{size, labels_from}
 use Rattle.tb_lower.specs.Slots.{SlotCode}
 use Rattle.tb_syntax.specs.Source.{numbers}
 use Rattle.tb_runtime16.specs.Places.{PROLOGUE_AT}
 use Rattle.tb_templates.specs.Layout.{LabelsAt}
-use Rattle.tb_templates.specs.Program.{line_code, lines_code, past_code, find_code, rows_code, table_code, block_code, program_code, AreCodable, RisingFrom}
+use Rattle.tb_templates.specs.Breaks.{all_broken, ends_away, done_behind, left_behind}
+use Rattle.tb_templates.specs.Program.{still_asking, line_code, lines_code, past_code, find_code, rows_code, table_code, block_code, program_code, AreCodable, RisingFrom}
 use Rattle.tb_settling.specs.Settled.{most, Suits}
 use Rattle.tb_templates.specs.Sizes.{lines_room, rest_room}
 use Rattle.tb_settling.proofs.Forms.{most_append}
 use Rattle.tb_templates.proofs.Fitting.{list_fits}
-use Rattle.tb_templates.proofs.Rising.{labels_hold}
-use Rattle.tb_templates.proofs.Ordered.{top, program_rises}
-use Rattle.tb_templates.proofs.Accepted.{program_modes, program_moves, distinct}
+use Rattle.tb_templates.proofs.Woven.{lowest, labels_hold, distinct}
+use Rattle.tb_templates.proofs.Ordered.{program_woven}
+use Rattle.tb_templates.proofs.Accepted.{program_modes, program_moves}
 use Rattle.tb_templates.proofs.Reached.{program_known}
 
 -- ── sizes ──
@@ -22,33 +23,49 @@ block_size = omega arith
 block_most : most block_code ≡ 1011
 block_most = omega arith
 
--- lines and their entries in the line table
-pub lines_most : (ns : List ℕ) (seed : ℕ) (lines : SlotCode) → most (lines_code ns seed lines) + most (rows_code (numbers lines)) ≤ lines_room lines
-lines_most ns seed [] = omega arith
-lines_most ns seed (line ∷ lines) =
-    let a = most_append (line_code ns seed line) (lines_code ns seed lines) in
-    let b = list_fits ns seed line.number line.content in
-    let c = lines_most ns seed lines in
-    omega (arith, a, b, c)
+broken_most : (ns : List ℕ) → most (all_broken ns) ≡ 9 * length ns
+broken_most [] = refl
+broken_most (n ∷ ns) = let e = broken_most ns in omega (arith, e)
+
+done_most : (t : Bool) (ns : List ℕ) → most (done_behind t ns) + 9 * length (left_behind t ns) ≡ 9 * length ns
+done_most true ns = let e = broken_most ns in omega (arith, e)
+done_most false ns = omega arith
+
+-- lines and their entries in the line table, with what is done for the STOP key in them and in those before them
+pub lines_most : (ns : List ℕ) (seed : ℕ) (asking : List ℕ) (lines : SlotCode)
+    → most (lines_code ns seed asking lines) + 9 * length (still_asking asking lines) + most (rows_code (numbers lines)) ≤ lines_room lines + 9 * length asking
+lines_most ns seed asking [] = omega arith
+lines_most ns seed asking (line ∷ lines) =
+    let all = asking ++ line.number ∷ [] in let away = ends_away line.content in
+    let done = done_behind away all in let more = lines_code ns seed (left_behind away all) lines in
+    let a = most_append (line_code ns seed line) (done ++ more) in
+    let b = most_append done more in
+    let c = list_fits ns seed line.number line.content in
+    let d = done_most away all in
+    let e = length-append asking (line.number ∷ []) in
+    let f = lines_most ns seed (left_behind away all) lines in
+    omega (arith, a, b, c, d, e, f)
 
 -- a program, however many branches are replaced
 pub program_most : (seed : ℕ) (code : SlotCode) → most (program_code seed code) ≤ 1011 + (lines_room code + rest_room)
 program_most seed code =
     let ns = numbers code in
-    let lines = lines_code ns seed code in let past = past_code ns in let search = find_code ns in let table = table_code ns in
+    let lines = lines_code ns seed [] code in let past = past_code ns in let last = all_broken (still_asking [] code) in let search = find_code ns in let table = table_code ns in
     let a = block_most in
-    let b = most_append block_code (lines ++ (past ++ (search ++ table))) in
-    let c = most_append lines (past ++ (search ++ table)) in
-    let d = most_append past (search ++ table) in
-    let e = most_append search table in
-    let f = lines_most ns seed code in
-    omega (arith, a, b, c, d, e, f)
+    let b = most_append block_code (lines ++ (past ++ (last ++ (search ++ table)))) in
+    let c = most_append lines (past ++ (last ++ (search ++ table))) in
+    let d = most_append past (last ++ (search ++ table)) in
+    let e = most_append last (search ++ table) in
+    let f = most_append search table in
+    let g = lines_most ns seed [] code in
+    let h = broken_most (still_asking [] code) in
+    omega (arith, a, b, c, d, e, f, g, h)
 
 -- ── what settling needs ──
 -- each label of a program stands for the place of its item
 pub program_labels : (seed : ℕ) (code : SlotCode) → RisingFrom 0 (numbers code) → AreCodable code
     → LabelsAt (labels_from PROLOGUE_AT (program_code seed code)) PROLOGUE_AT (program_code seed code)
-program_labels seed code r c = labels_hold PROLOGUE_AT 0 top [] (program_code seed code) tt (program_rises seed code r c)
+program_labels seed code r c = labels_hold PROLOGUE_AT lowest 0 [] (program_code seed code) tt (program_woven seed code r c)
 
 -- nothing of a program's code is refused
 pub program_suits : (seed : ℕ) (code : SlotCode) → RisingFrom 0 (numbers code) → AreCodable code → PROLOGUE_AT + most (program_code seed code) < 65536
@@ -56,7 +73,7 @@ pub program_suits : (seed : ℕ) (code : SlotCode) → RisingFrom 0 (numbers cod
 program_suits seed code r c l =
     let es = program_code seed code in record {
       modes = program_modes seed code;
-      names = distinct 0 top es (program_rises seed code r c);
+      names = distinct lowest 0 es (program_woven seed code r c);
       known = program_known (labels_from PROLOGUE_AT es) PROLOGUE_AT seed code (program_labels seed code r c);
       movable = program_moves seed code;
       ends = l;

@@ -1,7 +1,7 @@
 -- The code of each group, as items of the assembler.
 use Rattle.std.specs.Prelude.{ℕ, ◌+◌, Bool, true, false, List, [], ◌∷◌, ◌++◌, if◌then◌else◌, Option, Some, None, ◌||◌, nat_eq, nat_le}
 use Rattle.tb_opcodes.specs.declared.Mnemonic.{Mnemonic}
-use Rattle.tb_opcodes.specs.declared.Mnemonic.TheVariants.{Adc, Beq, Bpl, Bne, Clc, Cmp, Jsr, Lda, Ora, Sbc, Sec, Sta}
+use Rattle.tb_opcodes.specs.declared.Mnemonic.TheVariants.{Adc, Beq, Bpl, Bne, Clc, Cmp, Lda, Ora, Sbc, Sec, Sta}
 use Rattle.tb_asm.specs.Layout.{Entry}
 use Rattle.tb_words.specs.declared.Rel.{Rel}
 use Rattle.tb_words.specs.declared.Rel.TheVariants.{Eq, Lt, Gt, Le, Ge, Ne}
@@ -10,7 +10,7 @@ use Rattle.tb_syntax.specs.declared.expressions.Operator.TheVariants.{Add, Subtr
 use Rattle.tb_lower.specs.Control.{has_line}
 use Rattle.tb_lower.specs.Slots.{Instr, Input, Poll}
 use Rattle.tb_selection.specs.Groups.{Conversion, Negated, Drawn, Usage, AsNumber, AsLine, AsSubroutine, Constant, Variable, Divisibility, Divisible, Indivisible, Group, Calculate, Stepped, Convert, Move, Use, Test, TestGo, Divides, Remains, Single, contrary, denied, slot_of}
-use Rattle.tb_runtime16.specs.Places.{LEFT, RIGHT, RESULT, WANTED, LINE, GETIN, MULTIPLY_AT, DIVIDE_AT, RANDOM_AT, NUMBER_AT}
+use Rattle.tb_runtime16.specs.Places.{LEFT, RIGHT, RESULT, WANTED, LINE, MULTIPLY_AT, DIVIDE_AT, RANDOM_AT, NUMBER_AT}
 use Rattle.tb_templates.specs.declared.labels.Inner.TheVariants.{Behind, Skip}
 use Rattle.tb_templates.specs.declared.labels.Target.{Target}
 use Rattle.tb_templates.specs.declared.labels.Target.TheVariants.{Inside, Line}
@@ -194,11 +194,3 @@ group_template numbers seed n i (TestGo rel a b to) =
 group_template numbers seed n i (Remains x d to) = remains n (Inside Skip n i) (AtPlace (var_at x)) (source_of (slot_of to + 2) d) (destination_at to)
 group_template numbers seed n i (Divides how x d side to) = divides numbers n how (source_of 0 (Variable x)) (source_of 1 d) to
 group_template numbers seed n i (Single c) = single numbers n i c
-
--- asks for an answer, and skips what is done for the STOP key, 3, where it is another one or none
-abbrev pub asked : Target → List Entry
-asked skip = at Jsr GETIN ∷ const Cmp 3 ∷ branch Bne skip ∷ []
-
--- takes an answer at the beginning of line n; a break is fault 0
-abbrev pub polled : ℕ → List Entry
-polled n = asked (Inside Skip n 0) ++ (faulted n 0 ++ (here (Inside Skip n 0) ∷ []))

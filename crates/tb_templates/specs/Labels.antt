@@ -4,7 +4,7 @@ use Rattle.tb_asm.specs.declared.names.Name.{Name}
 use Rattle.tb_templates.specs.declared.labels.Inner.{Inner}
 use Rattle.tb_templates.specs.declared.labels.Inner.TheVariants.{Text, Behind, Skip}
 use Rattle.tb_templates.specs.declared.labels.Target.{Target}
-use Rattle.tb_templates.specs.declared.labels.Target.TheVariants.{Line, Inside, Past, Find, Table}
+use Rattle.tb_templates.specs.declared.labels.Target.TheVariants.{Line, Inside, Break, Past, Find, Table}
 
 -- the character of a hexadecimal digit from 0 to 15, a letter from A on for 10 and above
 abbrev pub digit_of : ℕ → ℕ
@@ -24,12 +24,13 @@ letter_of Text = 84
 letter_of Behind = 85
 letter_of Skip = 83
 
--- A line is L and its number; a place in the code of its group i has the index, from 1 on, and a letter behind, and one
--- where an answer is taken the index 0. Fault 7, the search in the line table and the table itself are words. In a
--- program's code the labels rise in the order of letters.
+-- A line is L and its number; a place in the code of its group i has the index, from 1 on, and a letter behind. What is
+-- done for the STOP key in a line is B and its number. Fault 7, the search in the line table and the table itself are
+-- words. In a program's code the labels rise in the order of letters, those with B among themselves and all others.
 abbrev pub label_of : Target → Name
 label_of (Line n) = named (76 ∷ four_digits n [])
 label_of (Inside inner n i) = named (76 ∷ four_digits n (four_digits i (letter_of inner ∷ [])))
+label_of (Break n) = named (66 ∷ four_digits n [])
 label_of Past = named (codes "PAST")
 label_of Find = named (codes "SEEK")
 label_of Table = named (codes "TROW")

@@ -6,6 +6,7 @@ pub mod InPlace
 pub mod Masks
 pub mod Orders
 pub mod GroupTemplates
+pub mod Breaks
 pub mod Program
 pub mod Sizes
 pub mod Layout

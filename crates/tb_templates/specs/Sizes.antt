@@ -17,7 +17,7 @@ room SendNumber = 13
 room SendZone = 3
 room SendNewline = 10
 room (Input x) = 25
-room Poll = 19
+room Poll = 13
 room Hold = 12
 room (LeaveUnless rel) = 24
 room Jump = 28
@@ -32,10 +32,10 @@ abbrev pub list_room : List Instr → ℕ
 list_room [] = 0
 list_room (i ∷ is) = room i + list_room is
 
--- of a program's lines with their entries in the line table, 4 bytes each
+-- of a program's lines with their entries in the line table, 4 bytes each, and what is done for the STOP key, 9 each
 abbrev pub lines_room : SlotCode → ℕ
 lines_room [] = 0
-lines_room (line ∷ lines) = 4 + list_room line.content + lines_room lines
+lines_room (line ∷ lines) = 13 + list_room line.content + lines_room lines
 
 -- of fault 7 and the search
 abbrev pub rest_room : ℕ

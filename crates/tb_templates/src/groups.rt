@@ -40,15 +40,6 @@ use tb_selection::{Conversion, Group, Operand, Usage};
 use tb_syntax::Operator;
 use tb_words::Rel;
 
-// The service that gives the keyboard's next answer, 0 where there is none.
-const GETIN: u16 = 0xffe4;
-
-// What GETIN gives for the STOP key.
-const STOP: u8 = 3;
-
-// The fault of the STOP key.
-const BREAK: u8 = 0;
-
 /// A word to a place.
 pub fn put_brought(items: &mut Vec<Item>, word: Source, to: u16) -> Result<(), AllocError>
     requires { IsWhole word × (to < 65535) }
@@ -575,24 +566,4 @@ pub fn put_group(
         }
         Group::Single(instruction) => put_single(items, numbers, spot, instruction),
     }
-}
-
-// Asks for an answer, and skips what is done for the STOP key where it is another one or none.
-fn put_asked(items: &mut Vec<Item>, skip: Target) -> Result<(), AllocError>
-    ensures { OnOk result (map entry_of items.new.items ≡ map entry_of items.old.items ++ groups.asked skip) }
-{
-    put_at(items, Mnemonic::Jsr, GETIN)?;
-    put_const(items, Mnemonic::Cmp, STOP)?;
-    put_branch(items, Mnemonic::Bne, skip)
-}
-
-/// Takes an answer at the beginning of a line: the STOP key is a break.
-pub fn put_polled(items: &mut Vec<Item>, line: u16) -> Result<(), AllocError>
-    ensures { OnOk result (map entry_of items.new.items ≡ map entry_of items.old.items ++ groups.polled line) }
-{
-    let skip = Target::Inside(Inner::Skip, line, 0);
-    put_asked(items, skip)?;
-    put_faulted(items, line, BREAK)?;
-    put_here(items, skip)?;
-    Ok(())
 }

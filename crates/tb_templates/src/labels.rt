@@ -22,9 +22,10 @@ pub enum Inner {
 pub enum Target {
     /// The line of this number.
     Line(u16),
-    /// A place in the code of a group: the line's number and the group's index, from 1 on, or 0 where the line takes an
-    /// answer.
+    /// A place in the code of a group: the line's number and the group's index, from 1 on.
     Inside(Inner, u16, u16),
+    /// What is done for the STOP key in the line of this number.
+    Break(u16),
     /// Fault 7, behind the last line.
     Past,
     /// The search in the line table.
@@ -33,13 +34,14 @@ pub enum Target {
     Table,
 }
 
-/// Its label: `L` and hexadecimal digits, or a word.
+/// Its label: `L` or `B` and hexadecimal digits, or a word.
 pub fn label(target: Target) -> Name
     ensures { result ≡ label_of target }
 {
     match target {
-        Target::Line(line) => line_label(line),
+        Target::Line(line) => numbered_label(b'L', line),
         Target::Inside(inner, line, group) => inner_label(inner, line, group),
+        Target::Break(line) => numbered_label(b'B', line),
         Target::Past => word_label(b'P', b'A', b'S', b'T'),
         Target::Find => word_label(b'S', b'E', b'E', b'K'),
         Target::Table => word_label(b'T', b'R', b'O', b'W'),
@@ -70,11 +72,12 @@ fn push_digits(letters: &mut ArrayVec<u8, 31>, word: u16)
     letters.push(digit(word % 16));
 }
 
-fn line_label(line: u16) -> Name
-    ensures { result ≡ named (76 ∷ four_digits line []) }
+// A letter and a line's number.
+fn numbered_label(letter: u8, line: u16) -> Name
+    ensures { result ≡ named (letter ∷ four_digits line []) }
 {
     let mut letters = ArrayVec::new();
-    letters.push(b'L');
+    letters.push(letter);
     push_digits(&mut letters, line);
     Name { letters }
 }

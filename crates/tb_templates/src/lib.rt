@@ -1,6 +1,7 @@
 //! The code of groups of slot instructions and of whole programs, as items of the assembler.
 #![tactic(auto)]
 
+mod breaks;
 mod divisions;
 mod groups;
 mod in_place;

@@ -11,11 +11,13 @@ ghost use Rattle.tb_lower.specs.Control.{highest};
 ghost use Rattle.tb_lower.specs.Ranges.{AreInRange};
 ghost use Rattle.tb_lower.specs.Shown.{instr_of, slot_line_of, code_of};
 ghost use Rattle.tb_selection.specs.Select.{select};
+ghost use Rattle.tb_templates.specs.Breaks as breaks;
 ghost use Rattle.tb_templates.specs.Program as program;
 ghost use Rattle.tb_templates.specs.Program.{AreCodable, AreInTurn, RisingFrom, first_of, program_code};
 ghost use Rattle.tb_templates.specs.Templates as templates;
 
-use crate::groups::{put_group, put_polled};
+use crate::breaks::{put_all_broken, put_polled, some_leaves};
+use crate::groups::put_group;
 use crate::labels::{Target, label};
 use crate::pieces::{put, put_address, put_at, put_constant, put_faulted, put_here};
 use crate::templates::Spot;
@@ -42,8 +44,9 @@ pub fn program_items(alloc: Global, seed: u16, code: &SlotCode) -> Result<Vec<It
     let numbers = line_numbers(alloc, code.lines())?;
     let mut items = Vec::with_capacity(alloc, ITEMS_IN_A_LINE * numbers.len())?;
     put_block(&mut items)?;
-    put_lines(&mut items, &numbers, seed, code.lines())?;
+    let asking = put_lines(&mut items, &numbers, seed, code.lines())?;
     put_past(&mut items, &numbers)?;
+    put_all_broken(&mut items, &asking)?;
     put_find(&mut items, &numbers)?;
     put_table(&mut items, &numbers)?;
     Ok(items)
@@ -78,24 +81,32 @@ fn zeros(alloc: Global, count: usize) -> Result<Vec<u8>, AllocError>
     Vec::from_elem(alloc, 0u8, count)
 }
 
-// The lines in order.
+// The lines in order. Behind one that ends away stands what is done for the STOP key in the lines up to it; the numbers
+// of those behind the last such line come back.
 fn put_lines(
     items: &mut Vec<Item>,
     numbers: &[u16],
     seed: u16,
     lines: &[SlotLine],
-) -> Result<(), AllocError>
+) -> Result<Vec<u16>, AllocError>
     requires rising { RisingFrom 0 numbers.now }
     requires lists { AreCodable (code_of lines.now) }
     requires in_turn { AreInTurn numbers.now (code_of lines.now) }
-    ensures { OnOk result (map entry_of items.new.items ≡ map entry_of items.old.items ++ program.lines_code numbers.now seed (code_of lines.now)) }
+    ensures lines { OnOk result (map entry_of items.new.items ≡ map entry_of items.old.items ++ program.lines_code numbers.now seed [] (code_of lines.now)) }
+    ensures asking { IfOk result (λ ns. ns.items ≡ program.still_asking [] (code_of lines.now)) }
 {
+    let mut asking = Vec::new(*items.allocator());
     let mut rest = lines;
     while let [line, behind @ ..] = rest {
-        put_line(items, numbers, seed, line, first_of(behind))?;
+        let ends_away = put_line(items, numbers, seed, line, first_of(behind))?;
+        asking.push(line.number)?;
+        if ends_away {
+            put_all_broken(items, &asking)?;
+            asking.clear();
+        }
         rest = behind;
     }
-    Ok(())
+    Ok(asking)
 }
 
 // The place of the first of these lines, or past them.
@@ -108,25 +119,25 @@ fn first_of(lines: &[SlotLine]) -> Target
     }
 }
 
-// A line at its label.
+// A line at its label, and whether it ends away.
 fn put_line(
     items: &mut Vec<Item>,
     numbers: &[u16],
     seed: u16,
     line: &SlotLine,
     next: Target,
-) -> Result<(), AllocError>
+) -> Result<bool, AllocError>
     requires rising { RisingFrom 0 numbers.now }
     requires lists { AreInRange 256 (map instr_of line.now.code.items) × (length line.now.code.items < 65536) }
     requires next { next ≡ templates.next_line numbers.now line.now.number }
-    ensures { OnOk result (map entry_of items.new.items ≡ map entry_of items.old.items ++ program.line_code numbers.now seed (slot_line_of line.now)) }
+    ensures line { OnOk result (map entry_of items.new.items ≡ map entry_of items.old.items ++ program.line_code numbers.now seed (slot_line_of line.now)) }
+    ensures ends { IfOk result (λ away. away ≡ breaks.ends_away (map instr_of line.now.code.items)) }
 {
     put_here(items, Target::Line(line.number))?;
-    put_list(items, numbers, seed, line.number, next, &line.code)?;
-    Ok(())
+    put_list(items, numbers, seed, line.number, next, &line.code)
 }
 
-// A line's list: it takes an answer in line and then does its groups.
+// A line's list, and whether it ends away: it takes an answer and then does its groups.
 fn put_list(
     items: &mut Vec<Item>,
     numbers: &[u16],
@@ -134,11 +145,12 @@ fn put_list(
     line: u16,
     next: Target,
     list: &[SlotInstr],
-) -> Result<(), AllocError>
+) -> Result<bool, AllocError>
     requires rising { RisingFrom 0 numbers.now }
     requires list { AreInRange 256 (map instr_of list.now) × (length list.now < 65536) }
     requires next { next ≡ templates.next_line numbers.now line }
-    ensures { OnOk result (map entry_of items.new.items ≡ map entry_of items.old.items ++ program.list_code numbers.now seed line (map instr_of list.now)) }
+    ensures list { OnOk result (map entry_of items.new.items ≡ map entry_of items.old.items ++ program.list_code numbers.now seed line (map instr_of list.now)) }
+    ensures ends { IfOk result (λ away. away ≡ breaks.ends_away (map instr_of list.now)) }
 {
     match list {
         [SlotInstr::Poll, behind @ ..] => {
@@ -149,7 +161,7 @@ fn put_list(
     }
 }
 
-// The groups of a list.
+// The groups of a list, and whether one of them leaves the line in any case.
 fn put_groups(
     items: &mut Vec<Item>,
     numbers: &[u16],
@@ -157,11 +169,12 @@ fn put_groups(
     line: u16,
     next: Target,
     list: &[SlotInstr],
-) -> Result<(), AllocError>
+) -> Result<bool, AllocError>
     requires rising { RisingFrom 0 numbers.now }
     requires list { AreInRange 256 (map instr_of list.now) × (length list.now < 65536) }
     requires next { next ≡ templates.next_line numbers.now line }
-    ensures { OnOk result (map entry_of items.new.items ≡ map entry_of items.old.items ++ program.rest_code numbers.now seed line 1 (select (map instr_of list.now))) }
+    ensures groups { OnOk result (map entry_of items.new.items ≡ map entry_of items.old.items ++ program.rest_code numbers.now seed line 1 (select (map instr_of list.now))) }
+    ensures leaves { IfOk result (λ away. away ≡ breaks.some_leaves (select (map instr_of list.now))) }
 {
     let groups = select(*items.allocator(), list)?;
     let mut index = 0;
@@ -169,7 +182,7 @@ fn put_groups(
         index += 1;
         put_group(items, numbers, seed, Spot { line, index, next }, *group)?;
     }
-    Ok(())
+    Ok(some_leaves(&groups))
 }
 
 // Fault 7, at the highest line.

@@ -1,0 +1,82 @@
+//! The STOP key: it is asked for at the beginning of each line, and what is done for it stands out of the way.
+ghost use Rattle.std.specs.Prelude.{◌≡◌, OnOk, ◌++◌, map};
+ghost use Rattle.tb_asm.specs.Layout.{entry_of};
+ghost use Rattle.tb_lower.specs.Shown.{instr_of};
+ghost use Rattle.tb_selection.specs.Shown.{group_of};
+ghost use Rattle.tb_templates.specs.Breaks as breaks;
+
+use crate::labels::Target;
+use crate::pieces::{put_at, put_branch, put_const, put_faulted, put_here};
+use std::alloc::AllocError;
+use tb_asm::Item;
+use tb_lower::SlotInstr;
+use tb_opcodes::Mnemonic;
+use tb_selection::{Group, Usage};
+
+// The service that gives the keyboard's next answer, 0 where there is none.
+const GETIN: u16 = 0xffe4;
+
+// What GETIN gives for the STOP key.
+const STOP: u8 = 3;
+
+// The fault of the STOP key.
+const BREAK: u8 = 0;
+
+/// Takes an answer at the beginning of a line; for that of the STOP key it goes elsewhere.
+pub fn put_polled(items: &mut Vec<Item>, line: u16) -> Result<(), AllocError>
+    ensures { OnOk result (map entry_of items.new.items ≡ map entry_of items.old.items ++ breaks.polled line) }
+{
+    put_at(items, Mnemonic::Jsr, GETIN)?;
+    put_const(items, Mnemonic::Cmp, STOP)?;
+    put_branch(items, Mnemonic::Beq, Target::Break(line))?;
+    Ok(())
+}
+
+/// What is done for the STOP key in these lines: a break is a fault.
+pub fn put_all_broken(items: &mut Vec<Item>, lines: &[u16]) -> Result<(), AllocError>
+    ensures { OnOk result (map entry_of items.new.items ≡ map entry_of items.old.items ++ breaks.all_broken lines.now) }
+{
+    for line in lines {
+        put_broken(items, *line)?;
+    }
+    Ok(())
+}
+
+fn put_broken(items: &mut Vec<Item>, line: u16) -> Result<(), AllocError>
+    ensures { OnOk result (map entry_of items.new.items ≡ map entry_of items.old.items ++ breaks.broken line) }
+{
+    put_here(items, Target::Break(line))?;
+    put_faulted(items, line, BREAK)?;
+    Ok(())
+}
+
+/// Whether one of these groups leaves the line in any case.
+pub fn some_leaves(groups: &[Group<'_>]) -> bool
+    ensures { result ≡ breaks.some_leaves (map group_of groups.now) }
+{
+    match groups {
+        [] => false,
+        [first, rest @ ..] => leaves(*first) || some_leaves(rest),
+    }
+}
+
+// Whether a group leaves the line in any case: a test doesn't.
+fn leaves(group: Group<'_>) -> bool
+    ensures { result ≡ breaks.leaves (group_of group.entry) }
+{
+    match group {
+        Group::Use(how, _) => !matches!(how, Usage::AsNumber),
+        Group::Single(instruction) => always_leaves(instruction),
+        _ => false,
+    }
+}
+
+// Whether an instruction leaves the line in any case.
+fn always_leaves(instruction: &SlotInstr) -> bool
+    ensures { result ≡ breaks.always_leaves (instr_of instruction.now) }
+{
+    matches!(
+        instruction,
+        SlotInstr::JumpTo(_) | SlotInstr::CallTo(_) | SlotInstr::Return | SlotInstr::End
+    )
+}
