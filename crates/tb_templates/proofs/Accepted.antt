@@ -1,8 +1,7 @@
 -- The items of a program's code are of forms that there are, and they may move.
-use Rattle.std.proofs.Common.{◌≡◌, ℕ, ◌+◌, ◌<◌, ◌≤◌, Bool, true, false, List, [], ◌∷◌, ◌++◌, refl, sym, ap, ◌∙◌, arith, is_some, true≢false, Option, Some, None}
-use Rattle.std.specs.Prelude.{◌&&◌, ◌||◌, if◌then◌else◌, nat_lt}
-use Rattle.std.specs.List.{list_all, list_any}
-use lib.Pointwise.{bytes_decides}
+use Rattle.std.proofs.Common.{◌≡◌, ℕ, ◌+◌, Bool, true, false, List, [], ◌∷◌, ◌++◌, refl, sym, ap, ◌∙◌, is_some, true≢false, Option, Some, None}
+use Rattle.std.specs.Prelude.{◌&&◌, if◌then◌else◌, nat_lt}
+use Rattle.std.specs.List.{list_all}
 use Rattle.tb_opcodes.specs.declared.Mnemonic.{Mnemonic}
 use Rattle.tb_opcodes.specs.declared.Mnemonic.TheVariants.{Lda, Sta}
 use Rattle.tb_opcodes.specs.declared.Mode.{Mode}
@@ -12,10 +11,8 @@ use Rattle.tb_words.specs.declared.Rel.{Rel}
 use Rattle.tb_words.specs.declared.Rel.TheVariants.{Eq, Lt, Gt, Le, Ge, Ne}
 use Rattle.tb_syntax.specs.declared.expressions.Operator.{Operator}
 use Rattle.tb_syntax.specs.declared.expressions.Operator.TheVariants.{Add, Subtract, Multiply, Divide}
-use Rattle.tb_asm.specs.declared.names.Name.{Name}
 use Rattle.tb_asm.specs.declared.items.Operand.TheVariants.{Byte, Word}
-use Rattle.tb_asm.specs.Layout.{Entry, instr, label, bytes, word, suits, has_mode, same_name}
-use Rattle.tb_asm.specs.Suited.{names_of, AreDistinct}
+use Rattle.tb_asm.specs.Layout.{Entry, instr, label, bytes, word, suits, has_mode}
 use Rattle.tb_lower.specs.Control.{has_line}
 use Rattle.tb_lower.specs.Slots.{Instr, Put, Load, Store, Negate, Compute, Random, SendText, SendNumber, SendZone, SendNewline, Input, Poll, Hold, LeaveUnless, Jump, Call, JumpTo, CallTo, Return, End, SlotCode}
 use Rattle.tb_selection.specs.Groups.{Conversion, Negated, Drawn, Usage, AsNumber, AsLine, AsSubroutine, Constant, Variable, Divisibility, Divisible, Indivisible, Group, Calculate, Stepped, Convert, Move, Use, Test, TestGo, Divides, Remains, Single, contrary, denied, slot_of}
@@ -38,7 +35,6 @@ use Rattle.tb_settling.specs.Settled.{may_move}
 use Rattle.tb_syntax.specs.Source.{numbers}
 use Rattle.tb_templates.proofs.Listed.{by_poll}
 use Rattle.tb_templates.proofs.Plain.{has_form, lifted_plain, plain_forms, times_plain, shifted_plain}
-use Rattle.tb_templates.proofs.Rising.{key, key_of, Rising}
 
 -- ── forms ──
 encoded_by : (n : Mnemonic) (m : Mode) → encoded n m ≡ find_opcode rows n m

@@ -394,7 +394,7 @@ pub items_pay : (is : List Item) → items_cost is ≡ sum_by item_cost is
 items_pay [] = refl
 items_pay (i ∷ is) = ap (λ n. item_cost i + n) (items_pay is) ∙ sym (sum_by-cons item_cost i is)
 
-pub command_room : (c : Command) → IsSpaced c → list_room (command_code c) ≤ 13 + command_cost c
+pub command_room : (c : Command) → IsSpaced c → list_room (command_code c) ≤ 10 + command_cost c
 command_room (Let x e) h = let a = value_room e 0 in let b = list_append (value_code e 0) (Store x ∷ []) in omega (arith, a, b)
 command_room (Print items ends) h =
     let a = items_room false items h in let b = newline_room ends in
@@ -408,10 +408,10 @@ command_room (If l rel r c) h =
     omega (arith, a, b, d, e, f)
 command_room (Goto e) h =
     let a = value_room e 0 in let b = list_append (value_code e 0) (Jump ∷ []) in
-    target_room (constant e) JumpTo 15 (13 + (48 + 48 * nodes e)) (value_code e 0 ++ Jump ∷ []) (λ n. omega arith) (omega arith) (omega (arith, a, b))
+    target_room (constant e) JumpTo 15 (10 + (48 + 48 * nodes e)) (value_code e 0 ++ Jump ∷ []) (λ n. omega arith) (omega arith) (omega (arith, a, b))
 command_room (Gosub e) h =
     let a = value_room e 0 in let b = list_append (value_code e 0) (Call ∷ []) in
-    target_room (constant e) CallTo 59 (13 + (48 + 48 * nodes e)) (value_code e 0 ++ Call ∷ []) (λ n. omega arith) (omega arith) (omega (arith, a, b))
+    target_room (constant e) CallTo 59 (10 + (48 + 48 * nodes e)) (value_code e 0 ++ Call ∷ []) (λ n. omega arith) (omega arith) (omega (arith, a, b))
 command_room source.Return h = omega arith
 command_room source.End h = omega arith
 command_room Remark h = omega arith

@@ -73,68 +73,68 @@ nowhere = refl
 
 -- 20 IF A<1000 END: the constant's high byte, 3, is 131 with its highest bit turned
 below_constant : items 20 (If (Variable 0) Lt (Number 1000) End)
-    ≡ here (Line 20) ∷ call 0xFFE4 ∷ const Cmp 3 ∷ branch Bne (Inside Skip 20 0) ∷ const Ldx 20 ∷ const Ldy 0 ∷ const Lda 0 ∷ at Jmp FAULT_LINE_AT ∷ here (Inside Skip 20 0)
+    ≡ here (Line 20) ∷ call 0xFFE4 ∷ const Cmp 3 ∷ branch Beq (Break 20)
     ∷ at Lda 0xC000 ∷ const Cmp 232 ∷ at Lda 0xC001 ∷ const Eor 128 ∷ const Sbc 131 ∷ branch Bcs (Line 30) ∷ alone Rts ∷ []
 below_constant = refl
 
 -- 20 IF A>=1 GOTO 10
 from_constant : items 20 (If (Variable 0) Ge (Number 1) (Goto (Number 10)))
-    ≡ here (Line 20) ∷ call 0xFFE4 ∷ const Cmp 3 ∷ branch Bne (Inside Skip 20 0) ∷ const Ldx 20 ∷ const Ldy 0 ∷ const Lda 0 ∷ at Jmp FAULT_LINE_AT ∷ here (Inside Skip 20 0)
+    ≡ here (Line 20) ∷ call 0xFFE4 ∷ const Cmp 3 ∷ branch Beq (Break 20)
     ∷ at Lda 0xC000 ∷ const Cmp 1 ∷ at Lda 0xC001 ∷ const Eor 128 ∷ const Sbc 128 ∷ branch Bcs (Line 10) ∷ []
 from_constant = refl
 
 -- 20 IF A>-1 END: A is not below 0, and so its sign is enough
 above_constant : items 20 (If (Variable 0) Gt (Number 65535) End)
-    ≡ here (Line 20) ∷ call 0xFFE4 ∷ const Cmp 3 ∷ branch Bne (Inside Skip 20 0) ∷ const Ldx 20 ∷ const Ldy 0 ∷ const Lda 0 ∷ at Jmp FAULT_LINE_AT ∷ here (Inside Skip 20 0)
+    ≡ here (Line 20) ∷ call 0xFFE4 ∷ const Cmp 3 ∷ branch Beq (Break 20)
     ∷ at Lda 0xC001 ∷ branch Bmi (Line 30) ∷ alone Rts ∷ []
 above_constant = refl
 
 -- 20 IF A<=255 GOTO 10: A is below 256
 up_to_constant : items 20 (If (Variable 0) Le (Number 255) (Goto (Number 10)))
-    ≡ here (Line 20) ∷ call 0xFFE4 ∷ const Cmp 3 ∷ branch Bne (Inside Skip 20 0) ∷ const Ldx 20 ∷ const Ldy 0 ∷ const Lda 0 ∷ at Jmp FAULT_LINE_AT ∷ here (Inside Skip 20 0)
+    ≡ here (Line 20) ∷ call 0xFFE4 ∷ const Cmp 3 ∷ branch Beq (Break 20)
     ∷ at Lda 0xC000 ∷ const Cmp 0 ∷ at Lda 0xC001 ∷ const Eor 128 ∷ const Sbc 129 ∷ branch Bcc (Line 10) ∷ []
 up_to_constant = refl
 
 -- 20 IF 0<A END: A is not below 1
 constant_before : items 20 (If (Number 0) Lt (Variable 0) End)
-    ≡ here (Line 20) ∷ call 0xFFE4 ∷ const Cmp 3 ∷ branch Bne (Inside Skip 20 0) ∷ const Ldx 20 ∷ const Ldy 0 ∷ const Lda 0 ∷ at Jmp FAULT_LINE_AT ∷ here (Inside Skip 20 0)
+    ≡ here (Line 20) ∷ call 0xFFE4 ∷ const Cmp 3 ∷ branch Beq (Break 20)
     ∷ at Lda 0xC000 ∷ const Cmp 1 ∷ at Lda 0xC001 ∷ const Eor 128 ∷ const Sbc 128 ∷ branch Bcc (Line 30) ∷ alone Rts ∷ []
 constant_before = refl
 
 -- 20 IF -2>=A GOTO 10: A is below -1
 constant_after : items 20 (If (Number 65534) Ge (Variable 0) (Goto (Number 10)))
-    ≡ here (Line 20) ∷ call 0xFFE4 ∷ const Cmp 3 ∷ branch Bne (Inside Skip 20 0) ∷ const Ldx 20 ∷ const Ldy 0 ∷ const Lda 0 ∷ at Jmp FAULT_LINE_AT ∷ here (Inside Skip 20 0)
+    ≡ here (Line 20) ∷ call 0xFFE4 ∷ const Cmp 3 ∷ branch Beq (Break 20)
     ∷ at Lda 0xC000 ∷ const Cmp 255 ∷ at Lda 0xC001 ∷ const Eor 128 ∷ const Sbc 127 ∷ branch Bcc (Line 10) ∷ []
 constant_after = refl
 
 -- 20 IF A<32767 END
 below_greatest : items 20 (If (Variable 0) Lt (Number 32767) End)
-    ≡ here (Line 20) ∷ call 0xFFE4 ∷ const Cmp 3 ∷ branch Bne (Inside Skip 20 0) ∷ const Ldx 20 ∷ const Ldy 0 ∷ const Lda 0 ∷ at Jmp FAULT_LINE_AT ∷ here (Inside Skip 20 0)
+    ≡ here (Line 20) ∷ call 0xFFE4 ∷ const Cmp 3 ∷ branch Beq (Break 20)
     ∷ at Lda 0xC000 ∷ const Cmp 255 ∷ at Lda 0xC001 ∷ const Eor 128 ∷ const Sbc 255 ∷ branch Bcs (Line 30) ∷ alone Rts ∷ []
 below_greatest = refl
 
 -- 20 IF A>32767 END: the greatest word has none behind it
 above_greatest : items 20 (If (Variable 0) Gt (Number 32767) End)
-    ≡ here (Line 20) ∷ call 0xFFE4 ∷ const Cmp 3 ∷ branch Bne (Inside Skip 20 0) ∷ const Ldx 20 ∷ const Ldy 0 ∷ const Lda 0 ∷ at Jmp FAULT_LINE_AT ∷ here (Inside Skip 20 0)
+    ≡ here (Line 20) ∷ call 0xFFE4 ∷ const Cmp 3 ∷ branch Beq (Break 20)
     ∷ const Lda 255 ∷ at Cmp 0xC000 ∷ const Lda 127 ∷ at Sbc 0xC001 ∷ branch Bvc (Inside Skip 20 1) ∷ const Eor 128 ∷ here (Inside Skip 20 1) ∷ branch Bpl (Line 30)
     ∷ alone Rts ∷ []
 above_greatest = refl
 
 -- 20 IF A>=-32768 END
 from_least : items 20 (If (Variable 0) Ge (Number 32768) End)
-    ≡ here (Line 20) ∷ call 0xFFE4 ∷ const Cmp 3 ∷ branch Bne (Inside Skip 20 0) ∷ const Ldx 20 ∷ const Ldy 0 ∷ const Lda 0 ∷ at Jmp FAULT_LINE_AT ∷ here (Inside Skip 20 0)
+    ≡ here (Line 20) ∷ call 0xFFE4 ∷ const Cmp 3 ∷ branch Beq (Break 20)
     ∷ at Lda 0xC000 ∷ const Cmp 0 ∷ at Lda 0xC001 ∷ const Eor 128 ∷ const Sbc 0 ∷ branch Bcc (Line 30) ∷ alone Rts ∷ []
 from_least = refl
 
 -- 20 IF A>-32768 END: A is not below -32767
 above_least : items 20 (If (Variable 0) Gt (Number 32768) End)
-    ≡ here (Line 20) ∷ call 0xFFE4 ∷ const Cmp 3 ∷ branch Bne (Inside Skip 20 0) ∷ const Ldx 20 ∷ const Ldy 0 ∷ const Lda 0 ∷ at Jmp FAULT_LINE_AT ∷ here (Inside Skip 20 0)
+    ≡ here (Line 20) ∷ call 0xFFE4 ∷ const Cmp 3 ∷ branch Beq (Break 20)
     ∷ at Lda 0xC000 ∷ const Cmp 1 ∷ at Lda 0xC001 ∷ const Eor 128 ∷ const Sbc 0 ∷ branch Bcc (Line 30) ∷ alone Rts ∷ []
 above_least = refl
 
 -- 20 IF A>=0 GOTO 10
 by_sign : items 20 (If (Variable 0) Ge (Number 0) (Goto (Number 10)))
-    ≡ here (Line 20) ∷ call 0xFFE4 ∷ const Cmp 3 ∷ branch Bne (Inside Skip 20 0) ∷ const Ldx 20 ∷ const Ldy 0 ∷ const Lda 0 ∷ at Jmp FAULT_LINE_AT ∷ here (Inside Skip 20 0)
+    ≡ here (Line 20) ∷ call 0xFFE4 ∷ const Cmp 3 ∷ branch Beq (Break 20)
     ∷ at Lda 0xC001 ∷ branch Bpl (Line 10) ∷ []
 by_sign = refl
 
@@ -149,7 +149,7 @@ quotient = refl
 
 -- 10 PRINT: the column is 0 behind a 13, which goes to the service that sends bytes
 newline : items 10 (Print [] true)
-    ≡ here (Line 10) ∷ call 0xFFE4 ∷ const Cmp 3 ∷ branch Bne (Inside Skip 10 0) ∷ const Ldx 10 ∷ const Ldy 0 ∷ const Lda 0 ∷ at Jmp FAULT_LINE_AT ∷ here (Inside Skip 10 0)
+    ≡ here (Line 10) ∷ call 0xFFE4 ∷ const Cmp 3 ∷ branch Beq (Break 10)
     ∷ const Lda 0 ∷ at Sta 0xC034 ∷ const Lda 13 ∷ call 0xFFD2 ∷ []
 newline = refl
 
@@ -166,6 +166,26 @@ quarter : items 10 (Let 0 (Binary Divide (Variable 1) (Number 4)))
     ∷ at Lda 0xC003 ∷ const Cmp 128 ∷ const Lda 0 ∷ const Adc 255 ∷ const And 2 ∷ const Eor 2 ∷ at Adc 0xC002 ∷ at_zero Sta 0xFB ∷ at Lda 0xC003 ∷ const Adc 0
     ∷ const Cmp 128 ∷ on_a Ror ∷ at_zero Ror 0xFB ∷ const Cmp 128 ∷ on_a Ror ∷ at_zero Ror 0xFB ∷ at Sta 0xC001 ∷ at_zero Lda 0xFB ∷ at Sta 0xC000 ∷ []
 quarter = refl
+
+-- 10 LET A=B+C+1: the sum goes to A, which is one more there
+stepped : items 10 (Let 0 (Binary Add (Binary Add (Variable 1) (Variable 2)) (Number 1)))
+    ≡ here (Line 10) ∷ call 0xFFE4 ∷ const Cmp 3 ∷ branch Beq (Break 10)
+    ∷ alone Clc ∷ at Lda 0xC002 ∷ at Adc 0xC004 ∷ at Sta 0xC000 ∷ at Lda 0xC003 ∷ at Adc 0xC005 ∷ at Sta 0xC001
+    ∷ at Inc 0xC000 ∷ branch Bne (Inside Behind 10 1) ∷ at Inc 0xC001 ∷ here (Inside Behind 10 1) ∷ []
+stepped = refl
+
+-- 10 LET A=B-B/3*3: the remainder's size comes at $C066, and is below 0 where B is
+remainder : items 10 (Let 0 (Binary Subtract (Variable 1) (Binary Multiply (Binary Divide (Variable 1) (Number 3)) (Number 3))))
+    ≡ here (Line 10) ∷ call 0xFFE4 ∷ const Cmp 3 ∷ branch Beq (Break 10)
+    ∷ at Lda 0xC002 ∷ page_zero Sta 0xFB ∷ at Lda 0xC003 ∷ page_zero Sta 0xFC ∷ const Lda 3 ∷ page_zero Sta 0xFD ∷ const Lda 0 ∷ page_zero Sta 0xFE ∷ call DIVIDE_AT
+    ∷ at Lda 0xC003 ∷ branch Bpl (Inside Skip 10 1) ∷ alone Sec ∷ const Lda 0 ∷ at Sbc 0xC066 ∷ at Sta 0xC066 ∷ const Lda 0 ∷ at Sbc 0xC067 ∷ at Sta 0xC067
+    ∷ here (Inside Skip 10 1) ∷ at Lda 0xC066 ∷ at Sta 0xC000 ∷ at Lda 0xC067 ∷ at Sta 0xC001 ∷ []
+remainder = refl
+
+-- 20 IF A=A/2*2 GOTO 10: the multiple may stand on the right too
+even : items 20 (If (Variable 0) Eq (Binary Multiply (Binary Divide (Variable 0) (Number 2)) (Number 2)) (Goto (Number 10)))
+    ≡ here (Line 20) ∷ call 0xFFE4 ∷ const Cmp 3 ∷ branch Beq (Break 20) ∷ at Lda 0xC000 ∷ const And 1 ∷ branch Beq (Line 10) ∷ []
+even = refl
 
 -- 10 LET A=A+1: one more where it stands
 increment : items 10 (Let 0 (Binary Add (Variable 0) (Number 1)))

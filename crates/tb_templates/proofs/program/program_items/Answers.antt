@@ -1,4 +1,4 @@
-use Rattle.std.proofs.Common.{◌≡◌, [], ◌++◌, map, sym, ap, ◌∙◌, subst}
+use Rattle.std.proofs.Common.{[], ◌++◌, map, sym, ap, ◌∙◌, subst}
 use Rattle.tb_asm.specs.Layout.{entry_of}
 use Rattle.tb_syntax.specs.Source.{numbers}
 use Rattle.tb_lower.specs.Shown.{code_of}
