@@ -10,7 +10,7 @@ use Rattle.tb_lower.specs.Lowered as lowered
 use Rattle.tb_asm.specs.declared.items.Operand.TheVariants.{Byte}
 use Rattle.tb_asm.specs.Layout.{Entry, instr}
 use Rattle.tb_runtime16.specs.Places.{LEFT, DIVIDE_AT, RANDOM_AT, NUMBER_AT, PUSH_AT, FAULT_LINE_AT}
-use Rattle.tb_templates.specs.declared.labels.Inner.TheVariants.{Skip}
+use Rattle.tb_templates.specs.declared.labels.Inner.TheVariants.{Behind, Skip}
 use Rattle.tb_templates.specs.declared.labels.Target.TheVariants.{Break, Line, Inside}
 use Rattle.tb_templates.specs.Templates.{at, const, alone, branch, here, call, address, find, jump_through}
 use Rattle.tb_templates.specs.Scaled.{at_zero, is_factor, on_a, shifts_of}
