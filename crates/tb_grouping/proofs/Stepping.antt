@@ -245,6 +245,10 @@ module _ (ly : Layout) (f : Setup) (lo hi keys : ℕ) (fits : Fits f 16) (n : �
   ranged : AreInRange 256 (expand first_group) × AreInRange 256 (expand second_group)
   ranged = first_ranged op a b by w x h.ranged
 
+  behind_ranged : (gs : List Group) (at : ℕ) → GroupsLie ly f.code n at gs → AreInRange 256 (expand_all gs)
+  behind_ranged [] at g = tt
+  behind_ranged (g ∷ gs) at k = k.2
+
   -- the first of the two begins there, with the second one behind it
   pub first_ready : Ready ly f lo hi keys fits n first_group (spread op a b (home x) (behind_first by w x is)) (behind_first by w x is) s r u
   first_ready =
@@ -258,7 +262,7 @@ module _ (ly : Layout) (f : Setup) (lo hi keys : ℕ) (fits : Fits f 16) (n : �
         ranged = ranged.0;
         rest =
             subst (GroupsLie ly f.code n next) (sym (second_selected by w x is h.free))
-            (h.second, h.second, ranged.1, parts.1, lies_behind, h.reach.1, (let q = h.above in omega (arith, q)));
+            (h.second, h.second, (let k = ranged.1 in (k.0, (k.1.0, (k.1.1.0, (k.1.1.1.0, behind_ranged (select is) _ lies_behind))))), parts.1, lies_behind, h.reach.1, (let q = h.above in omega (arith, q)));
         reach = h.reach.0;
         above = h.above;
         free = ap (λ k. nat_le k 0) no_slots;
