@@ -4,6 +4,7 @@ use Rattle.std.specs.Prelude.{unwrap_or}
 use Rattle.std.specs.List.{list_all}
 use Rattle.tb_words.specs.declared.Rel.{Rel}
 use Rattle.tb_syntax.specs.declared.expressions.Operator.{Operator}
+use Rattle.tb_syntax.specs.declared.expressions.Operator.TheVariants.{Subtract}
 use Rattle.tb_templates.specs.Labels.{label_of}
 use Rattle.tb_runtime16.specs.Places.{PROLOGUE_AT}
 use Rattle.tb_asm.specs.declared.names.Name.{Name}
