@@ -1,4 +1,5 @@
 //! The debugger: dialogues, streams that fail, and walks both ways beside the interpreter.
+mod awaiting;
 mod dialogues;
 mod programs;
 mod streams;

@@ -22,7 +22,7 @@ body { font-family: sans-serif; margin: 2em; background: #ffffff; color: #111111
 table { border-collapse: collapse; font-variant-numeric: tabular-nums; }
 caption { text-align: left; padding: 0 0 0.5em; }
 th, td { padding: 0.15em 0.7em; text-align: right; vertical-align: baseline; border-bottom: 1px solid #cccccc; }
-th.source, td.source { text-align: left; white-space: pre-wrap; overflow-wrap: anywhere; }
+th.source, td.source { text-align: left; white-space: pre-wrap; overflow-wrap: anywhere; min-width: 20em; }
 td.source { font-family: monospace, monospace; }
 th.bar, td.bar { padding-left: 0; min-width: 10em; text-align: left; }
 .bar span { display: inline-block; height: 0.8em; border: 1px solid #555555; background: #777777; vertical-align: baseline; }
@@ -40,7 +40,7 @@ th.bar, td.bar { padding-left: 0; min-width: 10em; text-align: left; }
 
 /// What stands before the rows.
 pub const ROWS: &[u8] = b"<table>
-<caption>Each line, with what it took. A service counts as one instruction and 6 cycles.</caption>
+<caption>Each line, with what it took. A service of the ROM counts as one instruction and 6 cycles: what it takes beyond them is unmeasured.</caption>
 <thead>
 <tr><th scope=\"col\">line</th><th scope=\"col\">times</th><th scope=\"col\">instructions</th><th scope=\"col\">cycles</th>\
 <th scope=\"col\">share</th><th class=\"bar\"></th><th scope=\"col\" class=\"source\">statement</th></tr>

@@ -1,7 +1,9 @@
 //! Dialogues, in which each answer is awaited before the next command.
+use crate::debug::awaiting::{AwaitingReader, WatchedWriter};
 use crate::debug::programs::{ASKS, DRAWS, FAULTS, FOREVER, LOOP, NESTS};
 use crate::debug::streams::{debugs, sources_of};
 use std::alloc::{AllocError, Global};
+use std::cell::Cell;
 use std::test::Fail;
 use tb_engines::Outcome;
 use tb_streams::Tracked;
@@ -362,26 +364,56 @@ fn answers(alloc: Global, source: &[u8], commands: &[u8]) -> Result<Vec<u8>, Fai
     })
 }
 
-// Appends each command of a dialogue, and what is wanted.
-fn append(dialogue: &[u8], commands: &mut Vec<u8>, wanted: &mut Vec<u8>) -> Result<(), AllocError> {
+// The answers of a dialogue.
+fn wanted(alloc: Global, dialogue: &[u8]) -> Result<Vec<u8>, AllocError> {
+    let mut wanted = Vec::new(alloc);
     for line in dialogue.split_inclusive(|byte| *byte == b'\n') {
-        match line.strip_prefix(b"> ") {
-            Some(command) => commands.extend_from_slice(command)?,
-            None => wanted.extend_from_slice(line)?,
+        if !line.starts_with(b"> ") {
+            wanted.extend_from_slice(line)?;
         }
     }
-    Ok(())
+    Ok(wanted)
+}
+
+// The status of a dialogue in which a command is given only where the answers before it are handed on, and what is written.
+fn awaited(alloc: Global, source: &[u8], dialogue: &[u8]) -> Result<(u8, Vec<u8>), Fail> {
+    let sources = sources_of(alloc, source)?;
+    let handed_on = Cell::new(0);
+    let mut reader = Tracked::new(AwaitingReader {
+        command: &[],
+        dialogue,
+        answered: 0,
+        handed_on: &handed_on,
+    });
+    let mut writer = Tracked::new(WatchedWriter {
+        taken: Vec::new(alloc),
+        handed_on: &handed_on,
+    });
+    let status = debugs(alloc, &sources, &mut reader, &mut writer).status();
+    Ok((status, writer.stream.taken))
 }
 
 #[test]
 fn dialogues(rt: HostRuntime) -> Result<(), Fail> {
     for &(source, dialogue) in &DIALOGUES {
-        let mut commands = Vec::new(rt.alloc());
-        let mut wanted = Vec::new(rt.alloc());
-        append(dialogue, &mut commands, &mut wanted)?;
-        let text = answers(rt.alloc(), source, &commands)?;
-        assert_eq!(rt; text, wanted);
+        let (status, text) = awaited(rt.alloc(), source, dialogue)?;
+        assert_eq!(rt; (status, text), (0, wanted(rt.alloc(), dialogue)?));
     }
+    Ok(())
+}
+
+// A command that is given before its time is a fault.
+#[test]
+fn an_answer_that_is_awaited_in_vain(rt: HostRuntime) -> Result<(), Fail> {
+    let (status, text) = awaited(
+        rt.alloc(),
+        LOOP,
+        b"10 LET A=3\n> n\n20 PRINT AB\n> n\n> q\n",
+    )?;
+    assert_eq!(rt;
+        (status, text.as_slice()),
+        (3, b"10 LET A=3\n20 PRINT A\n".as_slice())
+    );
     Ok(())
 }
 

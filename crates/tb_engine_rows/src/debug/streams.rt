@@ -49,11 +49,29 @@ fn written(alloc: Global, sources: &Sources, commands: &[u8]) -> Vec<u8> {
     writer.stream
 }
 
-// Whether what is written of the first commands is a beginning of what is written of all of them.
-fn is_beginning(alloc: Global, sources: &Sources, all: &[u8], cut: usize) -> bool {
-    let commands = COMMANDS.get(..cut).unwrap_or(&[]);
-    let is_within_line = !commands.is_empty() && !commands.ends_with(b"\n");
-    is_within_line || all.starts_with(&written(alloc, sources, commands))
+// The commands up to the line in which they are cut.
+fn whole_lines(commands: &[u8]) -> &[u8] {
+    match commands.iter().rposition(|byte| *byte == b'\n') {
+        Some(end) => &commands[..end + 1],
+        None => &[],
+    }
+}
+
+// Whether the whole lines are answered as in all that is written, and a last line without its end as with it.
+fn is_cut(alloc: Global, sources: &Sources, all: &[u8], commands: &[u8]) -> Result<bool, Fail> {
+    let lines = whole_lines(commands);
+    let before = written(alloc, sources, lines);
+    if lines.len() == commands.len() {
+        return Ok(all.starts_with(&before));
+    }
+    let mut ended = Vec::from_slice(alloc, commands)?;
+    ended.push(b'\n')?;
+    let text = written(alloc, sources, commands);
+    Ok(
+        all.starts_with(&before)
+            && text.starts_with(&before)
+            && text == written(alloc, sources, &ended),
+    )
 }
 
 #[test]
@@ -61,7 +79,10 @@ fn each_cut_of_the_commands(rt: HostRuntime) -> Result<(), Fail> {
     let sources = sources_of(rt.alloc(), LOOP)?;
     let all = written(rt.alloc(), &sources, COMMANDS);
     for cut in 0..COMMANDS.len() {
-        assert!(rt; is_beginning(rt.alloc(), &sources, &all, cut), "{cut}");
+        assert!(rt;
+            is_cut(rt.alloc(), &sources, &all, &COMMANDS[..cut])?,
+            "{cut}"
+        );
     }
     Ok(())
 }
@@ -79,6 +100,20 @@ fn reader_fails(alloc: Global, sources: &Sources, all: &[u8], until_fault: usize
 }
 
 #[test]
+fn a_source_that_fails(rt: HostRuntime) -> Result<(), Fail> {
+    for until_fault in 0..=LOOP.len() {
+        let mut source = Tracked::new(FailingReader {
+            rest: LOOP,
+            until_fault,
+            most: 3,
+        });
+        let sources = read_sources(rt.alloc(), &mut source, 0);
+        assert!(rt; matches!(sources, Err(Outcome::ReadFault)), "{until_fault}");
+    }
+    Ok(())
+}
+
+#[test]
 fn a_reader_that_fails(rt: HostRuntime) -> Result<(), Fail> {
     let sources = sources_of(rt.alloc(), LOOP)?;
     let all = written(rt.alloc(), &sources, COMMANDS);
@@ -91,9 +126,8 @@ fn a_reader_that_fails(rt: HostRuntime) -> Result<(), Fail> {
     Ok(())
 }
 
-// Whether a writer that fails behind that part of all is a fault, and takes that part.
-fn writer_fails(alloc: Global, sources: &Sources, all: &[u8], part: usize) -> bool {
-    let until_fault = all.len().saturating_mul(part) / 24;
+// Whether a writer that fails behind so many bytes is a fault, and takes these.
+fn writer_fails(alloc: Global, sources: &Sources, all: &[u8], until_fault: usize) -> bool {
     let mut writer = Tracked::new(FailingWriter {
         taken: Vec::new(alloc),
         until_fault,
@@ -107,8 +141,11 @@ fn writer_fails(alloc: Global, sources: &Sources, all: &[u8], part: usize) -> bo
 fn a_writer_that_fails(rt: HostRuntime) -> Result<(), Fail> {
     let sources = sources_of(rt.alloc(), LOOP)?;
     let all = written(rt.alloc(), &sources, COMMANDS);
-    for part in 0..24 {
-        assert!(rt; writer_fails(rt.alloc(), &sources, &all, part), "{part}");
+    for until_fault in 0..all.len() {
+        assert!(rt;
+            writer_fails(rt.alloc(), &sources, &all, until_fault),
+            "{until_fault}"
+        );
     }
     Ok(())
 }
