@@ -1,5 +1,5 @@
 -- The law of a line's beginning: an answer is taken in line; LINE is left alone.
-use Rattle.std.proofs.Common.{◌≡◌, ℕ, ◌+◌, ◌/◌, ◌%◌, ◌≤◌, ◌<◌, not, cond, Bool, true, false, if◌then◌else◌, List, [], ◌∷◌, drop, refl, sym, ap, ◌∙◌, subst, arith, eqb, Option, Some, None, inl, inr}
+use Rattle.std.proofs.Common.{◌≡◌, ℕ, ◌+◌, ◌/◌, ◌%◌, ◌≤◌, ◌<◌, cond, Bool, true, false, if◌then◌else◌, List, [], ◌∷◌, drop, refl, sym, ap, ◌∙◌, subst, arith, eqb, Option, Some, None, inl, inr}
 use Rattle.std.specs.Prelude.{nat_eq}
 use Rattle.tb_syntax.specs.Source.{numbers}
 use Rattle.tb_kernal.specs.declared.places.Service.TheVariants.{Getin}
@@ -18,7 +18,7 @@ use Rattle.tb_keeping.specs.Layout.{Layout, place_at}
 use Rattle.tb_keeping.proofs.Joins.{LawAt, sent_in}
 use Rattle.tb_keeping.proofs.Mirrors.{Flagged, Typable}
 use Rattle.tb_keeping.proofs.Pieces.{calls, moves_looser, moves_then, whatever}
-use Rattle.tb_keeping.proofs.Resolved.{Code, Lies, Piece, faulting, highest_code}
+use Rattle.tb_keeping.proofs.Resolved.{Lies, highest_code}
 use Rattle.tb_keeping.proofs.Returning.{behind_call}
 use Rattle.tb_selection.specs.Groups.{Group, Single}
 use Rattle.tb_selection.specs.Select.{select, attach}

@@ -1,9 +1,8 @@
 -- The law of what is left over of a variable: its slot instructions and its code give the remainder's size with its sign.
-use Rattle.std.proofs.Common.{◌≡◌, ◌≢◌, ℕ, ◌+◌, ◌-◌, ◌*◌, ◌/◌, ◌%◌, ◌≤◌, ◌<◌, Bool, true, false, true≢false, List, [], ◌∷◌, ◌++◌, length, refl, sym, ap, ◌∙◌, subst, arith, leb, ⊎_elim, Some, length-set}
+use Rattle.std.proofs.Common.{◌≡◌, ◌≢◌, ℕ, ◌+◌, ◌-◌, ◌*◌, ◌/◌, ◌%◌, ◌<◌, Bool, true, false, true≢false, List, [], ◌∷◌, ◌++◌, length, refl, sym, ap, ◌∙◌, subst, arith, ⊎_elim, Some, length-set}
 use Rattle.std.specs.Prelude.{slice_index, nat_lt}
 use Rattle.std.proofs.lemmas.Bool.{cases_eq, eq-eqb, leb-true, ltb-false, ltb-true, ne_eqb}
 use Rattle.tb_cpu.specs.Effects.{has_bit}
-use Rattle.tb_opcodes.specs.declared.Mnemonic.TheVariants.{Lda}
 use Rattle.tb_words.specs.Words.{is_negative, magnitude, quotient, word}
 use Rattle.tb_syntax.specs.declared.expressions.Operator.TheVariants as op
 use Rattle.tb_lower.specs.Control.{State, fault_text}
@@ -12,16 +11,15 @@ use Rattle.tb_lower.specs.Slots.{Instr, Compute, Load, Slots, SlotCode, SlotStat
 use Rattle.tb_lower.specs.Steps.{Step, Goes, Stops, Faulted}
 use Rattle.tb_lower.specs.Values.{apply, given}
 use Rattle.tb_reaching.proofs.Comes.{chained, looser}
-use Rattle.tb_reaching.proofs.Instr.{ins, instr_bytes}
 use Rattle.tb_reaching.specs.Start.{IsHome}
-use Rattle.tb_reaching.specs.View.{Bytes, Comes, Fits, Setup, View, is_data, view}
+use Rattle.tb_reaching.specs.View.{Comes, Fits, Setup, View}
 use Rattle.tb_runtime16.specs.Places.{DIVIDE_AT, LEFT, LINE, RESULT, RIGHT}
 use Rattle.tb_runtime16.specs.Routines.{Here, Moves, Routines, WordAt}
 use Rattle.tb_keeping.specs.Layout.{Layout}
 use Rattle.tb_keeping.proofs.Frames.{word_put}
 use Rattle.tb_keeping.proofs.Joins.{sent_in}
-use Rattle.tb_keeping.proofs.Pieces.{loads_last, moves_looser, whatever}
-use Rattle.tb_keeping.proofs.Resolved.{Code, Lies, Piece, call, copied, highest_code, pieces_size, size}
+use Rattle.tb_keeping.proofs.Pieces.{moves_looser}
+use Rattle.tb_keeping.proofs.Resolved.{Code, Lies, Piece, call, copied, pieces_size, size}
 use Rattle.tb_keeping.proofs.Returning.{back_here, moved}
 use Rattle.tb_selection.specs.Groups.{Operand, Constant, Variable, InSlot, Destination, IntoSlot, IntoHome, Remains, expand, fetch, kept, multiple, slot_of}
 use Rattle.tb_selection.specs.GroupSteps.{steps}
@@ -42,8 +40,10 @@ use Rattle.tb_grouping.proofs.Lone.{Kept, behind_line, kept as kept_first, kept_
 use Rattle.tb_grouping.proofs.Matching.{Matches, Target}
 use Rattle.tb_grouping.proofs.MultipleSide.{held_stands, multiple_fails, multiple_next, multiplied, multiplied_length, others_stand, product_stands}
 use Rattle.tb_grouping.proofs.Operands.{OperandFits, SourceHolds, dest_fits, dest_in_data, operand_apart, operand_held, range_fetch}
-use Rattle.tb_grouping.proofs.Orders.{WithN}
-use Rattle.tb_grouping.proofs.Ready.{Ready, here}
+use Rattle.tb_grouping.proofs.LeftOver.{pieces_append}
+use Rattle.tb_grouping.proofs.Orders.{WithN, loads_sign}
+use Rattle.tb_grouping.proofs.Sources.{At}
+use Rattle.tb_grouping.proofs.Ready.{Ready}
 use Rattle.tb_grouping.proofs.Remainders.{rest_is, turned_size}
 use Rattle.tb_grouping.proofs.SlotSide.{IsDead, Lasting, StandsIn, ends, fetch_held, fetch_reads, fetched, fetched_behind, fetches, landed, line, other_slot, same_slot, slots_landed}
 use Rattle.tb_grouping.proofs.Sums.{Grounded, copies, differs}
@@ -190,15 +190,6 @@ sign_bit x h = by (nat_lt 32767 x) refl
     by true e = eq-eqb (x / 256 / 128 % 2) 1 (omega (arith, h, ltb-true 32767 x e))
     by false e = ne_eqb (x / 256 / 128 % 2) 1 (λ q. omega (arith, q, ltb-false 32767 x e))
 
--- a byte goes to A, and its sign to N
-loads_sign : (f : Setup) (room : ℕ) (fits : Fits f room) (at : ℕ) (bs : List ℕ) (m : ℕ → ℕ) (keys gets : List ℕ) → leb (length bs) room ≡ true → (p : ℕ) → is_data p ≡ true → at + 3 ≤ highest_code → Bytes f.code at (instr_bytes (ins 0xAD p)) → Moves f (Here at bs m keys gets) (WithN (at + 3) (has_bit (m p) 128) bs m keys gets) [] 1
-loads_sign f room fits at bs m keys gets small p d r st = whatever f room fits at bs m keys gets _ [] 1 (λ a x y n v i z c.
-    loads_last f room fits 0xAD p Lda (view a x y n v i z c at bs m keys gets) _ _ refl refl refl small st d refl (record { here = record { pc = let e : (at + 3) % 65536 ≡ at + 3 = omega arith in e; stack = refl; binary = refl; mem = refl; text = refl; answers = refl }; negative = refl }))
-
-pieces_append : (ps qs : List Piece) → pieces_size (ps ++ qs) ≡ pieces_size ps + pieces_size qs
-pieces_append [] qs = omega arith
-pieces_append (p ∷ ps) qs = let e = pieces_append ps qs in omega (arith, e)
-
 -- ---- the law
 module _ (ly : Layout) (f : Setup) (lo hi keys : ℕ) (fits : Fits f 16) (code : SlotCode) (limit : ℕ) (rs : Routines ly.table ly.seed ly.numbers ly.start f lo hi keys limit) (n v : ℕ) (d : Operand) (to : Destination) (is : List Instr) (s : State) (r : Slots) (w : View) (h : Ready ly f lo hi keys fits n (Remains v d to) (spread_remains v d to is) is s r w) where
   abbrev own : List ℕ
@@ -342,7 +333,7 @@ module _ (ly : Layout) (f : Setup) (lo hi keys : ℕ) (fits : Fits f 16) (code :
   -- by the sign of the variable
   signs : y ≢ 0 → Moves f Told Ends [] 14
   signs some u told =
-      chained f u _ _ [] [] 1 13 (loads_sign f 16 fits middle own u.mem w.text w.answers refl (var_at v + 1) a_apart.0.1 (let r = parts.1.0 in omega (arith, r)) parts.1.1.0 u told.here) (λ z g. by (is_negative x) refl z g)
+      chained f u _ _ [] [] 1 13 (loads_sign f 16 fits middle own u.mem w.text w.answers refl (At (var_at v + 1)) a_apart.0.1 (let r = parts.1.0 in omega (arith, r)) parts.1.1.0 u told.here) (λ z g. by (is_negative x) refl z g)
     where
       x_held : SourceHolds u.mem a x
       x_held = a_holds u.mem told.kept

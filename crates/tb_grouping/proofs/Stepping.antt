@@ -1,7 +1,7 @@
 -- A calculation that goes on by a constant is two: its result goes to a variable, and the variable is then calculated with
 -- that constant.
-use Rattle.std.proofs.Common.{◌≡◌, ◌≢◌, ℕ, ◌+◌, ◌≤◌, ◌<◌, Bool, true, false, if◌then◌else◌, List, [], ◌∷◌, ◌++◌, length, max, refl, sym, ap, ◌∙◌, subst, arith, Option, Some, None, length-set, append_assoc}
-use Rattle.std.specs.Prelude.{◌&&◌, nat_eq, nat_le, slice_index, slice_set}
+use Rattle.std.proofs.Common.{◌≡◌, ℕ, ◌+◌, ◌≤◌, ◌<◌, true, if◌then◌else◌, List, [], ◌∷◌, ◌++◌, length, max, refl, sym, ap, ◌∙◌, subst, arith, Option, Some, None, length-set, append_assoc}
+use Rattle.std.specs.Prelude.{◌&&◌, nat_eq, nat_le, slice_index}
 use Rattle.std.proofs.lemmas.Bool.{leb-true}
 use Rattle.std.proofs.lemmas.List.{set-set}
 use Rattle.tb_words.specs.Words.{word}
@@ -11,26 +11,24 @@ use Rattle.tb_lower.specs.Control.{State, fault_text}
 use Rattle.tb_lower.specs.Meaning as meaning
 use Rattle.tb_lower.specs.Ranges.{AreInRange}
 use Rattle.tb_lower.specs.Slots.{Instr, Put, Load, Store, Compute, Slots, SlotCode, into, with_word}
-use Rattle.tb_lower.specs.Steps.{Step, Goes, Stops, Faulted}
+use Rattle.tb_lower.specs.Steps.{Goes, Stops, Faulted}
 use Rattle.tb_lower.specs.Values.{apply, given}
 use Rattle.tb_reaching.specs.View.{Fits, Setup, View}
 use Rattle.tb_runtime16.specs.Places.{HELD}
 use Rattle.tb_runtime16.specs.Routines.{WordAt}
 use Rattle.tb_keeping.specs.Layout.{Layout}
 use Rattle.tb_keeping.proofs.Resolved.{Lies, Piece, pieces_size}
-use Rattle.tb_selection.specs.declared.liveness.Live.{Live}
 use Rattle.tb_selection.specs.Groups.{Operand, Constant, Variable, InSlot, Home, IntoVariable, Destination, IntoSlot, IntoHome, Group, Calculate, Stepped, Move, fetch, expand, expand_all}
 use Rattle.tb_selection.specs.GroupSteps.{steps}
 use Rattle.tb_selection.specs.Liveness.{live, written}
-use Rattle.tb_selection.specs.Select.{allowed, attach, divides_left, divides_right, equality_in, against_in, difference_in, factor_in, fused, held_in, instead, loaded_in, may_stand, merged, multiple_in, multiple_of, omits_only_dead, or_else, provided, quotient_in, remains, select, tried}
+use Rattle.tb_selection.specs.Select.{allowed, attach, divides_left, divides_right, equality_in, against_in, difference_in, factor_in, fused, held_in, instead, loaded_in, merged, multiple_in, multiple_of, or_else, provided, quotient_in, remains, select, tried}
 use Rattle.tb_selection.proofs.Bracketed.{brackets}
-use Rattle.tb_templates.specs.Templates.{var_at}
-use Rattle.tb_grouping.proofs.Coded.{GroupsLie, StepReaches, computed_code, group_code, stepped_code}
+use Rattle.tb_grouping.proofs.Coded.{GroupsLie, group_code}
 use Rattle.tb_grouping.proofs.LeftOver.{pieces_append}
 use Rattle.tb_grouping.proofs.Matching.{HoldsLive, Matches}
 use Rattle.tb_grouping.proofs.Operands.{OperandFits, range_fetch}
 use Rattle.tb_grouping.proofs.Ready.{Ready}
-use Rattle.tb_grouping.proofs.SlotSide.{acts, both_length, calculated, fetched, fetched_same, fetched_other, fetches, left_is, line, right_is, same_slot, spread, stops, with_fetched}
+use Rattle.tb_grouping.proofs.SlotSide.{acts, both_length, fetched, fetched_other, fetches, left_is, line, right_is, same_slot, spread, stops, with_fetched}
 use Rattle.tb_grouping.proofs.TestLaws.{lies_parts}
 
 -- ---- the two

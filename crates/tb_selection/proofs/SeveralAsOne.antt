@@ -1,12 +1,12 @@
 -- Groups that are one, and the one in their place.
-use Rattle.std.proofs.Common.{◌≡◌, ℕ, ◌+◌, Bool, true, false, if◌then◌else◌, List, [], ◌∷◌, ◌++◌, refl, sym, ap, ◌∙◌, Option, Some, None}
+use Rattle.std.proofs.Common.{◌≡◌, ℕ, ◌+◌, Bool, true, false, if◌then◌else◌, List, ◌++◌, refl, sym, ap, ◌∙◌, Option, Some, None}
 use Rattle.std.specs.Prelude.{◌&&◌, not, nat_eq, option_map}
 use Rattle.std.proofs.lemmas.Bool.{and_parts, eqb-true}
 use Rattle.tb_words.specs.declared.Rel.{Rel}
 use Rattle.tb_words.specs.declared.Rel.TheVariants as rel
 use Rattle.tb_syntax.specs.declared.expressions.Operator.TheVariants as op
 use Rattle.tb_lower.specs.Slots.{Instr, Put, Load, Store, Negate, Compute, Random, SendText, SendNumber, SendZone, SendNewline, Input, Poll, Hold, LeaveUnless, Jump, Call, JumpTo, CallTo, Return, End}
-use Rattle.tb_selection.specs.Groups.{Operand, Constant, Variable, InSlot, Home, IntoVariable, IntoHeld, Destination, IntoSlot, IntoHome, HeldBefore, HeldNow, Divisibility, Side, OnLeft, OnRight, Group, Calculate, Stepped, Convert, Move, Use, Test, TestGo, Divides, Remains, Single, compared, expand, expand_all, slot_of}
+use Rattle.tb_selection.specs.Groups.{Operand, Constant, Variable, InSlot, IntoVariable, IntoHeld, Destination, IntoSlot, IntoHome, HeldBefore, HeldNow, Divisibility, OnLeft, OnRight, Group, Calculate, Stepped, Convert, Move, Use, Test, TestGo, Divides, Remains, Single, compared, expand, slot_of}
 use Rattle.tb_selection.specs.Select.{provided, quotient_in, factor_in, difference_in, loaded_in, held_in, asked, equality_in, against_in, same_operand, multiple_of, multiple_in, divides_left, divides_right, is_shifted, remains, or_else, three_as_one, four_as_one}
 
 -- a test of slot 0 with a variable, and one of the held word with slot 0

@@ -1,5 +1,5 @@
 -- Groups as they are found, from the end of a list on.
-use Rattle.std.proofs.Common.{◌≡◌, ℕ, List, [], ◌∷◌, ◌++◌, refl, sym, ap, ◌∙◌, map, length, reverse, take, append_assoc, Option, Some, None, subst}
+use Rattle.std.proofs.Common.{◌≡◌, List, [], ◌∷◌, ◌++◌, refl, sym, ap, ◌∙◌, map, length, reverse, take, append_assoc, Option, Some, None, subst}
 use Rattle.std.proofs.lemmas.List.{map-append, nil_from_length, reverse-append, take_at}
 use Rattle.tb_lower.specs.Slots.{Instr}
 use Rattle.tb_selection.specs.declared.liveness.Live.{Live}

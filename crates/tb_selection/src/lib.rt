@@ -16,6 +16,8 @@ mod laws;
 mod liveness;
 mod selecting;
 
-pub use groups::{Conversion, Destination, Divisibility, Group, Home, Operand, Side, Tested, Usage};
+pub use groups::{
+    Conversion, Destination, Divisibility, Group, Home, Operand, Side, Tested, Usage,
+};
 pub use laws::{groups_run_as_slot_code, lines_are_closed, omitted_words_are_dead};
 pub use selecting::select;

@@ -16,9 +16,7 @@ ghost use Rattle.tb_templates.specs.Program.{RisingFrom};
 
 use crate::groups::{may_be_zero, put_brought, put_lined, put_taken};
 use crate::labels::Target;
-use crate::pieces::{
-    put_at, put_branch, put_call, put_const, put_copied, put_faulted, put_here,
-};
+use crate::pieces::{put_at, put_branch, put_call, put_const, put_copied, put_faulted, put_here};
 use crate::sources::{Source, put_high, put_low};
 use crate::templates::{NO_LINE, Spot, has_number};
 use std::alloc::AllocError;

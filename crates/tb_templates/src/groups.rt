@@ -80,7 +80,12 @@ fn put_summed(items: &mut Vec<Item>, left: Source, right: Source, to: u16) -> Re
 }
 
 /// The left word less the right one.
-pub fn put_taken(items: &mut Vec<Item>, left: Source, right: Source, to: u16) -> Result<(), AllocError>
+pub fn put_taken(
+    items: &mut Vec<Item>,
+    left: Source,
+    right: Source,
+    to: u16,
+) -> Result<(), AllocError>
     requires { IsWhole left × IsWhole right × (to < 65535) }
     ensures { OnOk result (map entry_of items.new.items ≡ map entry_of items.old.items ++ groups.taken left right to) }
 {

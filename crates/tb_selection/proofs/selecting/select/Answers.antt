@@ -1,5 +1,4 @@
-use Rattle.std.proofs.Common.{rules, ◌≡◌, [], ◌++◌, refl, sym, ap, ◌∙◌, subst, map}
-use Rattle.std.proofs.lemmas.List.{length-map}
+use Rattle.std.proofs.Common.{rules, ◌≡◌, [], sym, ap, ◌∙◌, subst, map}
 use Rattle.tb_lower.specs.Shown.{instr_of}
 use Rattle.tb_selection.specs.Groups.{expand_all}
 use Rattle.tb_selection.specs.Laws.{AreLive}
