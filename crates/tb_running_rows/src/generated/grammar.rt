@@ -26,14 +26,15 @@ pub const ANY: Kind = Kind {
 };
 
 /// A program of what has short code: the order of words and constants at the edges, whether a quotient leaves nothing,
-/// remainders, steps, halves and doubles in place, products with constants, comparisons with them. What may be a fault,
+/// remainders, steps, halves and doubles in place and behind a calculation, products with constants, comparisons with them. What may be a fault,
 /// the division by any word, comes last.
 pub const SHORT: Kind = Kind {
     source: b"10 A=b\n20 B=b\n30 C=b\n40 D=b\n\
         41 IF A r # GOTO 43\n42 PRINT 1;\n43 IF # r B GOTO 45\n44 PRINT 2;\n\
         45 IF C r # PRINT 3;\n46 IF # r D PRINT 4;\n47 IF A-B r # PRINT 5;\n48 IF # r # PRINT 6\n\
         50 IF A/c*@=A GOTO 70\n60 x\n70 IF B/c*@<>B h\n80 IF C=C/c*@ THEN PRINT A;q\n90 IF z GOSUB 300\n\
-        100 A=A+g\n110 B=B-g\n120 C=g+C\n130 D=D/2\n140 PRINT q,A-A/c*@,v*n,n*v,v/u,v/c\n\
+        100 A=A+g\n110 B=B-g\n120 C=g+C\n122 D=A+B+g\n124 A=v*u-g\n126 C=(A-B)/2\n128 B=(C+D)*2\n130 D=D/2\n\
+        140 PRINT q,A-A/c*@,v*n,n*v,v/u,v/c\n\
         150 IF v r n GOTO 170\n160 x\n170 IF v r n THEN h\n180 B=2*B\n190 IF A r n GOTO 210\n200 C=q\n\
         210 GOSUB 300\n220 PRINT A,B,C,D\n230 Z=Z+1\n240 IF Z<3 GOTO 50\n\
         250 IF A/D*D r A GOTO 270\n260 PRINT A-A/D*D\n270 IF B=B/C*C PRINT C\n280 B=B-B/C*C\n290 PRINT B\n295 END\n\
