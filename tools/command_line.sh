@@ -297,8 +297,8 @@ same built.prg plain.prg
 holds out.map "$(cat <<'END'
 part        addr   bytes    cost
 block       080D    1011      64
-line 10     0C00      50      65
-line 20     0C32      47      36
+line 10     0C00      41      65
+line 20     0C29      56      36
 line_table  0C61       8       0
 sum         080D    1116     165
 left        0C69   37783   37723
