@@ -49,13 +49,13 @@ pub const PROGRAMS: [Program; 8] = [
         limit: 100_000,
         status: 0,
         table: b" line      times instructions        cycles   share  statement
-start          1          192           634   33.8%
-   10          1            8            29    1.5%  LET I=1
-   20          5          270           885   47.2%  PRINT I
-   30          5           30           130    6.9%  LET I=I+1
-   40          5           50           174    9.3%  IF I<6 GOTO 20
-   50          1            5            23    1.2%  END
-  sum         17          555          1875  100.0%
+start          1          192           634   35.5%
+   10          1            8            28    1.6%  LET I=1
+   20          5          250           815   45.6%  PRINT I
+   30          5           30           125    7.0%  LET I=I+1
+   40          5           50           164    9.2%  IF I<6 GOTO 20
+   50          1            5            22    1.2%  END
+  sum         17          535          1788  100.0%
 ",
     },
     Program {
@@ -65,14 +65,14 @@ start          1          192           634   33.8%
         limit: 100_000,
         status: 0,
         table: b" line      times instructions        cycles   share  statement
-start          1          192           634   31.1%
-   10          1            8            29    1.4%  LET A=7
-   20          1           14            53    2.6%  GOSUB 100
-   30          1           14            53    2.6%  GOSUB 100
-   40          1            5            23    1.1%  END
-  100          2          342          1134   55.6%  PRINT A*A
-  110          2           30           112    5.5%  RETURN
-  sum          8          605          2038  100.0%
+start          1          192           634   31.6%
+   10          1            8            28    1.4%  LET A=7
+   20          1           14            52    2.6%  GOSUB 100
+   30          1           14            52    2.6%  GOSUB 100
+   40          1            5            22    1.1%  END
+  100          2          334          1106   55.2%  PRINT A*A
+  110          2           30           110    5.5%  RETURN
+  sum          8          597          2004  100.0%
 ",
     },
     Program {
@@ -82,11 +82,11 @@ start          1          192           634   31.1%
         limit: 100_000,
         status: 0,
         table: b" line      times instructions        cycles   share  statement
-start          1          192           634   52.2%
-   10          1            8            29    2.4%  LET A=0
-   20          1          161           552   45.4%  PRINT 1/A
+start          1          192           634   52.3%
+   10          1            8            28    2.3%  LET A=0
+   20          1          161           551   45.4%  PRINT 1/A
    30          0            0             0    0.0%  PRINT 2
-  sum          2          361          1215  100.0%
+  sum          2          361          1213  100.0%
 ",
     },
     Program {
@@ -96,11 +96,11 @@ start          1          192           634   52.2%
         limit: 100_000,
         status: 6,
         table: b" line      times instructions        cycles   share  statement
-start          1          192           634   35.7%
-   10          1          120           486   27.4%  PRINT \"HOW MANY\"
-   20          1          188           656   36.9%  INPUT A,B
+start          1          192           634   36.0%
+   10          1          116           473   26.8%  PRINT \"HOW MANY\"
+   20          1          188           655   37.2%  INPUT A,B
    30          0            0             0    0.0%  PRINT A+B
-  sum          2          500          1776  100.0%
+  sum          2          496          1762  100.0%
 ",
     },
     Program {
@@ -123,12 +123,12 @@ start          1          100           331  100.0%
         limit: 100_000,
         status: 0,
         table: b" line      times instructions        cycles   share  statement
-start          1          192           634   69.4%
-   10          1            5            20    2.2%  GOTO 30
+start          1          192           634   70.7%
+   10          1            5            19    2.1%  GOTO 30
    20          0            0             0    0.0%  PRINT \"NO\"
-   30          1           60           236   25.8%  PRINT \"YES\"
-   40          1            5            23    2.5%  END
-  sum          3          262           913  100.0%
+   30          1           56           222   24.7%  PRINT \"YES\"
+   40          1            5            22    2.5%  END
+  sum          3          258           897  100.0%
 ",
     },
     Program {
@@ -138,10 +138,10 @@ start          1          192           634   69.4%
         limit: 5_000,
         status: 5,
         table: b" line      times instructions        cycles   share  statement
-start          1          192           634    3.1%
-   10        437         2623         11367   54.8%  LET A=A+1
-   20        437         2185          8740   42.1%  GOTO 10
-  sum        874         5000         20741  100.0%
+start          1          192           634    3.2%
+   10        437         2623         10930   55.0%  LET A=A+1
+   20        437         2185          8303   41.8%  GOTO 10
+  sum        874         5000         19867  100.0%
 ",
     },
     Program {
@@ -151,12 +151,12 @@ start          1          192           634    3.1%
         limit: 100_000,
         status: 0,
         table: b" line      times instructions        cycles   share  statement
-start          1          192           634   38.8%
-    5          1            4            17    1.0%  REM a b
-   10          1            8            29    1.8%  LET A = 1
-   20          1          245           933   57.0%  PRINT \"<A & 'B'>\",A
-   40          1            5            23    1.4%  END
-  sum          4          454          1636  100.0%
+start          1          192           634   39.2%
+    5          1            4            16    1.0%  REM a b
+   10          1            8            28    1.7%  LET A = 1
+   20          1          241           919   56.8%  PRINT \"<A & 'B'>\",A
+   40          1            5            22    1.4%  END
+  sum          4          450          1619  100.0%
 ",
     },
 ];
