@@ -1,7 +1,7 @@
 -- The laws of sums and differences.
 use Rattle.std.proofs.Common.{not, ◌≡◌, ℕ, ◌+◌, ◌-◌, ◌/◌, ◌%◌, ◌<◌, Bool, true, false, List, [], ◌∷◌, refl, sym, subst, arith}
 use Rattle.std.specs.Prelude.{nat_lt, nat_le}
-use Rattle.std.proofs.lemmas.Bool.{ltb-true, ltb-false, leb-true, leb-false}
+use Rattle.std.proofs.lemmas.Bool.{leb-true, leb-false}
 use Rattle.tb_cpu.specs.Effects.{bit}
 use Rattle.tb_words.specs.Words.{word}
 use Rattle.tb_syntax.specs.declared.expressions.Operator.{Operator}
@@ -11,6 +11,7 @@ use Rattle.tb_lower.specs.Slots.{Instr, Slots, SlotCode}
 use Rattle.tb_lower.specs.Steps.{Goes}
 use Rattle.tb_reaching.proofs.Comes.{looser}
 use Rattle.tb_reaching.specs.View.{Comes, Fits, Setup, View}
+use Rattle.tb_runtime16.proofs.Words.{one_carry}
 use Rattle.tb_keeping.specs.Layout.{Layout}
 use Rattle.tb_keeping.proofs.Joins.{sent_in}
 use Rattle.tb_keeping.proofs.Resolved.{Lies, pieces_size, size}
@@ -27,18 +28,10 @@ use Rattle.tb_grouping.proofs.Operands.{calc_fits, operand_held, operand_grounde
 use Rattle.tb_grouping.proofs.Sums.{sums, differs}
 use Rattle.tb_grouping.proofs.Ready.{Ready, here}
 
--- the carry of a sum
-carried_over : (n : ℕ) → n < 512 → bit (nat_lt 255 n) ≡ n / 256
-carried_over n h = go (nat_lt 255 n) refl
-  where
-    go : (t : Bool) → nat_lt 255 n ≡ t → bit t ≡ n / 256
-    go true e = omega (arith, h, ltb-true _ _ e)
-    go false e = omega (arith, h, ltb-false _ _ e)
-
 -- the sum of two words, and their difference, by bytes
 added_word : (al ah bl bh a b : ℕ) → al ≡ a % 256 → ah ≡ a / 256 → bl ≡ b % 256 → bh ≡ b / 256 → a < 65536 → b < 65536 → ((al + bl + 0) % 256 ≡ word (a + b) % 256) × ((ah + bh + bit (nat_lt 255 (al + bl + 0))) % 256 ≡ word (a + b) / 256)
 added_word al ah bl bh a b p q s t ra rb =
-    let c = carried_over (al + bl + 0) (omega (arith, p, s)) in
+    let c = one_carry (al + bl + 0) (omega (arith, p, s)) in
     (omega (arith, p, s), omega (arith, c, p, q, s, t, ra, rb))
 
 pub subtracted_word : (al ah bl bh a b : ℕ) → al ≡ a % 256 → ah ≡ a / 256 → bl ≡ b % 256 → bh ≡ b / 256 → a < 65536 → b < 65536 → ((al + 256 - (bl + 0)) % 256 ≡ word (a + (65536 - b)) % 256) × ((ah + 256 - (bh + bit (not (nat_le (bl + 0) al)))) % 256 ≡ word (a + (65536 - b)) / 256)

@@ -17,7 +17,7 @@ use Rattle.tb_lower.specs.Slots.{Instr, SlotCode, SlotState, Whole}
 use Rattle.tb_keeping.specs.Kept.{Starts}
 use Rattle.tb_keeping.specs.Layout.{Layout, is_start}
 use Rattle.tb_keeping.specs.LineStarts.{begun, BeginsLine, LineComes, MarksLines}
-use Rattle.tb_runtime16.specs.Routines.{WordAt}
+use Rattle.tb_runtime16.proofs.Gathered.{value}
 use Rattle.tb_keeping.proofs.Starts as lines
 use Rattle.tb_keeping.proofs.Starts.{count}
 use Rattle.tb_keeping.proofs.Joins.{move, IsLawful, is_go, sent, same_goes, same_after, all_are_lawful}
@@ -26,9 +26,6 @@ use Rattle.tb_keeping.proofs.Strides.{IsStride}
 use Rattle.tb_keeping.proofs.Headline.{OpeningLaw, StepLaws}
 use Rattle.tb_keeping.proofs.LineStarts as one
 use Rattle.tb_keeping.proofs.LineStarts.{AreApart, Known, starts, found_start, has_content}
-
-value_of : (m : ℕ → ℕ) (at w : ℕ) → WordAt m at w → word_in m at ≡ w
-value_of m at w h = omega (arith, h.low, h.high)
 
 -- the two ways of counting
 same_begun : (ly : Layout) (es : List Event) (s : machine.State) → lines.met machine.State Event move IsLawful is_go sent (starts ly) es s ≡ begun ly.start ly.numbers es s
@@ -72,8 +69,8 @@ module _ (place : ℕ) (bytes : List ℕ) (from : 0x0800 ≤ place) (to : place 
         state = b.state;
         done = b.done;
         place = b.at_place ∙ ap At which;
-        vars = λ x lt. value_of y.mem _ _ (b.vars x lt);
-        notes = value_of y.mem _ _ b.notes;
+        vars = λ x lt. value y.mem _ _ (b.vars x lt);
+        notes = value y.mem _ _ b.notes;
       }))
 
   pub comes : (s : machine.State) (h : Starts place bytes s) (m : ℕ) (state : State) (out : List ℕ) (number : ℕ) → source_run program ly.seed s.text s.answers m ≡ GoesOn state out → state.place ≡ At number → (es : List Event) → all_lawful es s ≡ true → bound (length s.text) m ≤ goes es → LineComes program ly.start s m (bound (length s.text) m) es

@@ -2,7 +2,6 @@
 use Rattle.std.proofs.Common.{◌≡◌, ◌≢◌, ℕ, suc, ◌+◌, ◌*◌, ◌%◌, ◌<◌, ◌≤◌, Bool, true, false, List, [], ◌∷◌, ◌++◌, length, refl, sym, ap, ◌∙◌, subst, ⊎_elim, inl, inr, arith, eqb}
 use Rattle.std.specs.Prelude.{Ok}
 use Rattle.std.proofs.lemmas.Bool.{ne_eqb, eq-eqb, cases_eq}
-use Rattle.std.proofs.lemmas.Bool.Decides.{nat_tests}
 use Rattle.tb_memmap.specs.Bytes.{with_byte}
 use Rattle.tb_opcodes.specs.declared.Mnemonic.TheVariants.{Lda}
 use Rattle.tb_opcodes.specs.declared.Mode.TheVariants.{IndirectY}
@@ -11,7 +10,7 @@ use Rattle.tb_reaching.specs.declared.example.TheConstants.{HELLO}
 use Rattle.tb_kernal.specs.Machine.{State}
 use Rattle.tb_kernal.specs.Runs.{run}
 use Rattle.tb_kernal.specs.Starts.{IsStart}
-use Rattle.tb_reaching.specs.View.{Setup, At, Part, Holds, Fits, UnderWay, Among, Comes, view, is_data, is_program, Bytes}
+use Rattle.tb_reaching.specs.View.{Setup, At, Part, Holds, Fits, UnderWay, Among, Comes, view, is_data, Bytes}
 use Rattle.tb_reaching.specs.Start.{setup_of, view_of, home_low, home_high, IsHome}
 use Rattle.tb_reaching.proofs.Instr.{ins}
 use Rattle.tb_reaching.specs.Hello.{pointer, left, program_part, Sent, SendsText, Prints, hello_text}
@@ -19,7 +18,7 @@ use Rattle.tb_reaching.proofs.Memory.{put_other, program_not_data}
 use Rattle.tb_reaching.proofs.Comes.{after, ending, looser, known}
 use Rattle.tb_reaching.proofs.Calls.{calling, under, stacked_on}
 use Rattle.tb_reaching.proofs.Parts.{holds_itself}
-use Rattle.tb_reaching.proofs.Start.{at_start, fits_start, homed_start}
+use Rattle.tb_reaching.proofs.Start.{in_program, at_start, fits_start, homed_start}
 use Rattle.tb_reaching.proofs.Ends.{settles, home_returned, home_rests}
 use Rattle.tb_reaching.proofs.Services.{serving}
 use Rattle.tb_reaching.proofs.Placed.{placing, takes_at, reads_code}
@@ -29,9 +28,6 @@ hello_part = program_part HELLO
 
 abbrev high : ℕ
 high = 0xfc
-
-in_program : (a : ℕ) → 0x0800 ≤ a → a < 0xa000 → is_program a ≡ true
-in_program a lo hi = grind (arith, nat_tests)
 
 -- ---- the routine
 module _ (f : Setup) (fits : Fits f 4) (st : Holds hello_part f.code) (lo hi : ℕ) (keys answers : List ℕ) (m0 : ℕ → ℕ) where

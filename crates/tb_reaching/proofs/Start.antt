@@ -23,7 +23,7 @@ stacked_from m at (suc n) = (refl, stacked_from m (at + 1) n)
 far_rom : (a : ℕ) → is_rom a ≡ true → 0xa000 ≤ a
 far_rom a h = grind (arith, nat_tests)
 
-in_program : (a : ℕ) → 0x0800 ≤ a → a < 0xa000 → is_program a ≡ true
+pub in_program : (a : ℕ) → 0x0800 ≤ a → a < 0xa000 → is_program a ≡ true
 in_program a lo hi = grind (arith, nat_tests)
 
 lies : (place : ℕ) (bytes : List ℕ) (m : ℕ → ℕ) → 0x0800 ≤ place → place + length bytes ≤ 0xa000 → LieAt place bytes m → (a b : ℕ) → part_at place bytes a ≡ Some b → (is_program a ≡ true) × (m a ≡ b)

@@ -9,7 +9,7 @@ use Rattle.tb_kernal.specs.Machine.{first_or_zero}
 use Rattle.tb_words.specs.Words.{word, magnitude, quotient, digits_of, seed_after}
 use Rattle.tb_lower.specs.Control.{fault_text, zone, column_after, has_line}
 use Rattle.tb_lower.specs.Input.{Got, Bad, Dry, Nothing, turn}
-use Rattle.tb_runtime16.specs.Places.{POINTER, COLUMN, OPEN, SEEDED, HOME_S, SEED, LINE, NOTES, LEFT, RIGHT, RESULT, TABLE, WANTED, COUNT, LENGTH, SEND_AT, MULTIPLY_AT, DIVIDE_AT, RANDOM_AT, NUMBER_AT, TEXT_AT, ZONE_AT, INPUT_AT, SEARCH_AT, PUSH_AT, POP_AT, FAULT_LINE_AT, FAULT_AT, POLL_AT}
+use Rattle.tb_runtime16.specs.Places.{POINTER, COLUMN, OPEN, SEEDED, HOME_S, SEED, LINE, NOTES, LEFT, RIGHT, RESULT, TABLE, WANTED, COUNT, LENGTH, SEND_AT, MULTIPLY_AT, DIVIDE_AT, RANDOM_AT, NUMBER_AT, TEXT_AT, ZONE_AT, INPUT_AT, SEARCH_AT, PUSH_AT, POP_AT, FAULT_LINE_AT, FAULT_AT, POLL_AT, VARS, HELD, SCRATCH}
 use Rattle.tb_reaching.specs.View.{View, Setup, Holds, Fits, Comes, view, back_at, Bytes}
 use Rattle.tb_reaching.specs.Start.{IsHome, IsWaiting}
 use Rattle.tb_reaching.proofs.Comes.{looser}
@@ -41,7 +41,7 @@ use Rattle.tb_runtime16.proofs.PollRuns.{poll_law}
 not_argument : (a : ℕ) → is_owned a ≡ true → laws.is_argument a ≡ false
 not_argument a h = grind (arith, nat_tests)
 
-not_scratch : (a : ℕ) → is_owned a ≡ true → (a == 0xc06e) ≡ false
+not_scratch : (a : ℕ) → is_owned a ≡ true → (a == SCRATCH) ≡ false
 not_scratch a h = grind (arith, nat_tests)
 
 not_seed : (a : ℕ) → a ≢ SEEDED → a ≢ SEED → a ≢ SEED + 1 → laws.is_seed a ≡ false
@@ -53,7 +53,7 @@ not_searched a h = grind (arith, nat_tests)
 not_popped : (a : ℕ) → is_owned a ≡ true → a ≢ NOTES → a ≢ NOTES + 1 → listed.pop_changes a ≡ false
 not_popped a h p q = grind (arith, nat_tests)
 
-not_pushed : (a : ℕ) → 0xc000 ≤ a → a ≤ 0xc061 → a ≢ NOTES → a ≢ NOTES + 1 → listed.push_changes a ≡ false
+not_pushed : (a : ℕ) → VARS ≤ a → a ≤ HELD + 1 → a ≢ NOTES → a ≢ NOTES + 1 → listed.push_changes a ≡ false
 not_pushed a from to p q = grind (arith, nat_tests)
 
 not_asked : (a : ℕ) → is_owned a ≡ true → a ≢ OPEN → a ≢ COLUMN → asking.is_changed a ≡ false

@@ -15,11 +15,10 @@ use Rattle.tb_runtime16.specs.Places.{DIVIDE_AT, LEFT, RIGHT}
 use Rattle.tb_runtime16.specs.Block.{block_part}
 use Rattle.tb_runtime16.specs.Laws.{unsigned_at, negate_left_at, IsWord, Back, Divided, DivideLaw, DivideByZeroLaw}
 use Rattle.tb_runtime16.proofs.Within.{divide_part, divide_in}
-use Rattle.tb_runtime16.proofs.Words.{taken_from_zero, sign_of, sign_small, sign_none, negated_size, negated_sign, magnitude_positive, quotient_positive, quotient_negative, with_sign_positive, with_sign_negative}
+use Rattle.tb_runtime16.proofs.Words.{small_byte, taken_from_zero, sign_of, sign_small, sign_none, negated_size, negated_sign, magnitude_positive, quotient_positive, quotient_negative, with_sign_positive, with_sign_negative}
 use Rattle.tb_runtime16.proofs.Frames.{Frame, frame_put, frame_then}
 use Rattle.tb_runtime16.proofs.Called.{calls, back_looser}
 use Rattle.tb_runtime16.proofs.UnsignedRuns.{unsigned_law}
-use Rattle.tb_runtime16.proofs.WideRuns.{byte_of}
 
 -- the branch on a sign
 pub sign_case : (b : Bool) → (b ≡ true) ⊎ (b ≡ false)
@@ -34,19 +33,19 @@ abbrev pub negated_high : ℕ → ℕ → ℕ
 negated_high l h = (0 + 256 - (h + bit (not (nat_le (l + 0) 0)))) % 256
 
 abbrev pub negated_left : (ℕ → ℕ) → ℕ → ℕ
-negated_left w = with_byte (with_byte w LEFT (negated_low (w LEFT))) 0xfc (negated_high (w LEFT) (w 0xfc))
+negated_left w = with_byte (with_byte w LEFT (negated_low (w LEFT))) (LEFT + 1) (negated_high (w LEFT) (w (LEFT + 1)))
 
 abbrev negated_right : (ℕ → ℕ) → ℕ → ℕ
-negated_right w = with_byte (with_byte w RIGHT (negated_low (w RIGHT))) 0xfe (negated_high (w RIGHT) (w 0xfe))
+negated_right w = with_byte (with_byte w RIGHT (negated_low (w RIGHT))) (RIGHT + 1) (negated_high (w RIGHT) (w (RIGHT + 1)))
 
 left_frame : (m w : ℕ → ℕ) → Frame m w → Frame m (negated_left w)
-left_frame m w h = frame_put m (with_byte w LEFT (negated_low (w LEFT))) 0xfc (negated_high (w LEFT) (w 0xfc)) refl (frame_put m w LEFT (negated_low (w LEFT)) refl h)
+left_frame m w h = frame_put m (with_byte w LEFT (negated_low (w LEFT))) (LEFT + 1) (negated_high (w LEFT) (w (LEFT + 1))) refl (frame_put m w LEFT (negated_low (w LEFT)) refl h)
 
 right_frame : (m w : ℕ → ℕ) → Frame m w → Frame m (negated_right w)
-right_frame m w h = frame_put m (with_byte w RIGHT (negated_low (w RIGHT))) 0xfe (negated_high (w RIGHT) (w 0xfe)) refl (frame_put m w RIGHT (negated_low (w RIGHT)) refl h)
+right_frame m w h = frame_put m (with_byte w RIGHT (negated_low (w RIGHT))) (RIGHT + 1) (negated_high (w RIGHT) (w (RIGHT + 1))) refl (frame_put m w RIGHT (negated_low (w RIGHT)) refl h)
 
 bytes_negated : (l h : ℕ) → (negated_low l < 256) × (negated_high l h < 256)
-bytes_negated l h = (byte_of (0 + 256 - (l + 0)), byte_of (0 + 256 - (h + bit (not (nat_le (l + 0) 0)))))
+bytes_negated l h = (small_byte (0 + 256 - (l + 0)), small_byte (0 + 256 - (h + bit (not (nat_le (l + 0) 0)))))
 
 -- LEFT turned round, and the memory but for the arguments as it was
 pub record Turned (m0 : ℕ → ℕ) (q : ℕ) (m : ℕ → ℕ) : Type 0 where
@@ -56,16 +55,16 @@ pub record Turned (m0 : ℕ → ℕ) (q : ℕ) (m : ℕ → ℕ) : Type 0 where
 
 pub turned : (m : ℕ → ℕ) → IsWord m LEFT → Turned m (negated (word_in m LEFT)) (negated_left m)
 turned m k = record {
-  is_word = bytes_negated (m LEFT) (m 0xfc);
-  value = taken_from_zero (m LEFT) (m 0xfc) k.0 k.1;
+  is_word = bytes_negated (m LEFT) (m (LEFT + 1));
+  value = taken_from_zero (m LEFT) (m (LEFT + 1)) k.0 k.1;
   others = left_frame m m (λ a e. refl);
 }
 
 -- the same behind a division
 divided_negated : (m w : ℕ → ℕ) (q r : ℕ) → Divided m q r w → Divided m (negated q) r (negated_left w)
 divided_negated m w q r h = record {
-  left_is = bytes_negated (w LEFT) (w 0xfc);
-  left = taken_from_zero (w LEFT) (w 0xfc) h.left_is.0 h.left_is.1 ∙ ap negated h.left;
+  left_is = bytes_negated (w LEFT) (w (LEFT + 1));
+  left = taken_from_zero (w LEFT) (w (LEFT + 1)) h.left_is.0 h.left_is.1 ∙ ap negated h.left;
   result_is = h.result_is;
   result = h.result;
   others = left_frame m w h.others;
@@ -111,18 +110,18 @@ module _ (f : Setup) (fits : Fits f 4) (block : Holds block_part f.code) (lo hi 
   by_negative : (a x y : ℕ) (n v i z c : Bool) → is_negative (word_in m RIGHT) ≡ true → Comes f (view a x y n v i z c (DIVIDE_AT + 41) (lo ∷ hi ∷ []) m text answers) (Back lo hi text answers Parts) [] (11 + (268 + 10))
   by_negative a x y n v i z c t =
       after f 4 fits divide_part (divide_in f.code block) 10 (view a x y n v i z c (DIVIDE_AT + 41) (lo ∷ hi ∷ []) m text answers) _ _ (268 + 10) refl
-      (by_unsigned _ _ _ _ _ _ _ _ (negated_right m) t p refl (bytes_negated (m RIGHT) (m 0xfe)) (taken_from_zero (m RIGHT) (m 0xfe) q.0 q.1) (right_frame m m (λ a e. refl)))
+      (by_unsigned _ _ _ _ _ _ _ _ (negated_right m) t p refl (bytes_negated (m RIGHT) (m (RIGHT + 1))) (taken_from_zero (m RIGHT) (m (RIGHT + 1)) q.0 q.1) (right_frame m m (λ a e. refl)))
 
   by : (a x y : ℕ) (n v i z c : Bool) → Comes f (view a x y n v i z c (DIVIDE_AT + 37) (lo ∷ hi ∷ []) m text answers) (Back lo hi text answers Parts) [] 291
   by a x y n v i z c =
       let l = word_in m LEFT in
       let d = word_in m RIGHT in
-      let s = sign_of (m RIGHT) (m 0xfe) q.0 q.1 in
+      let s = sign_of (m RIGHT) (m (RIGHT + 1)) q.0 q.1 in
       ⊎_elim
-      (λ t. let b : eqb (m 0xfe / 128 % 2) 1 ≡ true = s ∙ t in
+      (λ t. let b : eqb (m (RIGHT + 1) / 128 % 2) 1 ≡ true = s ∙ t in
       after f 4 fits divide_part (divide_in f.code block) 1 (view a x y n v i z c (DIVIDE_AT + 37) (lo ∷ hi ∷ []) m text answers) _ _ (11 + (268 + 10)) refl
       (rw b (by_negative _ _ _ _ _ _ _ _ t)))
-      (λ t. let b : eqb (m 0xfe / 128 % 2) 1 ≡ false = s ∙ t in
+      (λ t. let b : eqb (m (RIGHT + 1) / 128 % 2) 1 ≡ false = s ∙ t in
       let below = sign_none d t in
       looser f _ _ _ [] (2 + 268) 291 (omega arith) (λ w h. h)
       (after f 4 fits divide_part (divide_in f.code block) 1 (view a x y n v i z c (DIVIDE_AT + 37) (lo ∷ hi ∷ []) m text answers) _ _ 268 refl
@@ -158,18 +157,18 @@ module _ (f : Setup) (fits : Fits f 6) (block : Holds block_part f.code) (lo hi 
   signed_negative : (a x y : ℕ) (n v i z c : Bool) → is_negative (word_in m LEFT) ≡ true → Comes f (view a x y n v i z c (DIVIDE_AT + 15) (lo ∷ hi ∷ []) m text answers) (Back lo hi text answers Goal) [] (11 + (291 + 9))
   signed_negative a x y n v i z c t =
       after f 6 fits divide_part (divide_in f.code block) 10 (view a x y n v i z c (DIVIDE_AT + 15) (lo ∷ hi ∷ []) m text answers) _ _ (291 + 9) refl
-      (signed_by _ _ _ _ _ _ _ _ (negated_left m) t (bytes_negated (m LEFT) (m 0xfc)) (taken_from_zero (m LEFT) (m 0xfc) p.0 p.1) q refl (left_frame m m (λ a e. refl)))
+      (signed_by _ _ _ _ _ _ _ _ (negated_left m) t (bytes_negated (m LEFT) (m (LEFT + 1))) (taken_from_zero (m LEFT) (m (LEFT + 1)) p.0 p.1) q refl (left_frame m m (λ a e. refl)))
 
   signed : (a x y : ℕ) (n v i z c : Bool) → Comes f (view a x y n v i z c (DIVIDE_AT + 11) (lo ∷ hi ∷ []) m text answers) (Back lo hi text answers Goal) [] 313
   signed a x y n v i z c =
       let l = word_in m LEFT in
       let d = word_in m RIGHT in
-      let s = sign_of (m LEFT) (m 0xfc) p.0 p.1 in
+      let s = sign_of (m LEFT) (m (LEFT + 1)) p.0 p.1 in
       ⊎_elim
-      (λ t. let b : eqb (m 0xfc / 128 % 2) 1 ≡ true = s ∙ t in
+      (λ t. let b : eqb (m (LEFT + 1) / 128 % 2) 1 ≡ true = s ∙ t in
       after f 6 fits divide_part (divide_in f.code block) 1 (view a x y n v i z c (DIVIDE_AT + 11) (lo ∷ hi ∷ []) m text answers) _ _ (11 + (291 + 9)) refl
       (rw b (signed_negative _ _ _ _ _ _ _ _ t)))
-      (λ t. let b : eqb (m 0xfc / 128 % 2) 1 ≡ false = s ∙ t in
+      (λ t. let b : eqb (m (LEFT + 1) / 128 % 2) 1 ≡ false = s ∙ t in
       let below = sign_none l t in
       looser f _ _ _ [] (2 + 291) 313 (omega arith) (λ w h. h)
       (after f 6 fits divide_part (divide_in f.code block) 1 (view a x y n v i z c (DIVIDE_AT + 11) (lo ∷ hi ∷ []) m text answers) _ _ 291 refl
@@ -179,7 +178,7 @@ module _ (f : Setup) (fits : Fits f 6) (block : Holds block_part f.code) (lo hi 
 
   divide : (a x y : ℕ) (n v i z c : Bool) → Comes f (view a x y n v i z c DIVIDE_AT (lo ∷ hi ∷ []) m text answers) (Back lo hi text answers Goal) [] 316
   divide a x y n v i z c =
-      let b : eqb (bit_or (m RIGHT) (m 0xfe)) 0 ≡ false = ne_eqb _ _ (λ e. omega (arith, some, e, le_or_l (m RIGHT) (m 0xfe), le_or_r (m RIGHT) (m 0xfe))) in
+      let b : eqb (bit_or (m RIGHT) (m (RIGHT + 1))) 0 ≡ false = ne_eqb _ _ (λ e. omega (arith, some, e, le_or_l (m RIGHT) (m (RIGHT + 1)), le_or_r (m RIGHT) (m (RIGHT + 1)))) in
       after f 6 fits divide_part (divide_in f.code block) 2 (view a x y n v i z c DIVIDE_AT (lo ∷ hi ∷ []) m text answers) _ _ 313 refl
       (rw b (signed _ _ _ _ _ _ _ _))
 
@@ -188,8 +187,8 @@ divide_law f fits block lo hi text answers m a x y n v i z c p q some = divide f
 
 pub divide_by_zero_law : DivideByZeroLaw
 divide_by_zero_law f fits block lo hi text answers m a x y n v i z c e =
-    let none : (m RIGHT ≡ 0) × (m 0xfe ≡ 0) = (omega (arith, e), omega (arith, e)) in
-    let b : eqb (bit_or (m RIGHT) (m 0xfe)) 0 ≡ true = eq-eqb _ _ (ap₂ bit_or none.0 none.1) in
+    let none : (m RIGHT ≡ 0) × (m (RIGHT + 1) ≡ 0) = (omega (arith, e), omega (arith, e)) in
+    let b : eqb (bit_or (m RIGHT) (m (RIGHT + 1))) 0 ≡ true = eq-eqb _ _ (ap₂ bit_or none.0 none.1) in
     after f 2 fits divide_part (divide_in f.code block) 2 (view a x y n v i z c DIVIDE_AT (lo ∷ hi ∷ []) m text answers) _ _ 2 refl
     (rw b (ending f 2 fits divide_part (divide_in f.code block) 1 (view _ _ _ _ _ _ _ _ (DIVIDE_AT + 6) (lo ∷ hi ∷ []) m text answers) _ refl
     (record { pc = refl; stack = refl; binary = refl; same_text = refl; same_answers = refl; number = refl; memory = refl })))

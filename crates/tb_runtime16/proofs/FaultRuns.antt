@@ -25,7 +25,7 @@ module _ (f : Setup) (fits : Fits f 13) (block : Holds block_part f.code) (hlo h
 
   record Kept (m : ℕ → ℕ) : Type 0 where
     low : m LINE ≡ l
-    high : m 0xc03b ≡ h
+    high : m (LINE + 1) ≡ h
     byte : m BYTE ≡ d
 
   -- from a place, with the start's return alone on the stack
@@ -49,10 +49,10 @@ module _ (f : Setup) (fits : Fits f 13) (block : Holds block_part f.code) (hlo h
   tell : Later (FAULT_AT + 0x2E) (digits_of (l + 256 * h) ++ 13 ∷ []) (5 + (458 + 9))
   unfolding Later
   tell a x y n v i z c m k small =
-      let line : m LINE + 256 * m 0xc03b ≡ l + 256 * h = ap₂ (λ a b. a + 256 * b) k.low k.high in
+      let line : m LINE + 256 * m (LINE + 1) ≡ l + 256 * h = ap₂ (λ a b. a + 256 * b) k.low k.high in
       subst (λ w. Comes f (view a x y n v i z c (FAULT_AT + 0x2E) own m text answers) (IsHome f) (digits_of w ++ 13 ∷ []) (5 + (458 + 9))) line
       (after f 13 fits fault_part (fault_in f.code block) 4 (view a x y n v i z c (FAULT_AT + 0x2E) own m text answers) _ _ (458 + 9) refl
-      (calls f own _ _ _ _ _ _ _ _ NUMBER_AT ((FAULT_AT + 0x3A) % 256) ((FAULT_AT + 0x3A) / 256) _ text answers _ (IsHome f) (digits_of (m LINE + 256 * m 0xc03b)) (13 ∷ []) 458 9
+      (calls f own _ _ _ _ _ _ _ _ NUMBER_AT ((FAULT_AT + 0x3A) % 256) ((FAULT_AT + 0x3A) / 256) _ text answers _ (IsHome f) (digits_of (m LINE + 256 * m (LINE + 1))) (13 ∷ []) 458 9
       (number_law (under f own) (omega (arith, fits)) block ((FAULT_AT + 0x3A) % 256) ((FAULT_AT + 0x3A) / 256) text answers _ _ _ _ _ _ _ _ _ (omega (arith, k.low, is_word.0), omega (arith, k.high, is_word.1)) small)
       (λ a x y n v i z c w g. last a x y n v i z c w)))
 
@@ -64,7 +64,7 @@ module _ (f : Setup) (fits : Fits f 13) (block : Holds block_part f.code) (hlo h
       (calls f own b x y _ v i _ c SEND_AT lo hi m text answers (Said m (b ∷ [])) (IsHome f) (b ∷ []) out 7 k
       (send_law (under f own) (omega (arith, fits)) block lo hi text answers m b x y _ v i _ c b_small)
       (λ a x y n v i z c m' s. next a x y n v i z c m'
-      (record { low = s.others LINE (λ e. omega (arith, e)) ∙ kept.low; high = s.others 0xc03b (λ e. omega (arith, e)) ∙ kept.high; byte = s.others BYTE (λ e. omega (arith, e)) ∙ kept.byte }) (omega (arith, s.column))))
+      (record { low = s.others LINE (λ e. omega (arith, e)) ∙ kept.low; high = s.others (LINE + 1) (λ e. omega (arith, e)) ∙ kept.high; byte = s.others BYTE (λ e. omega (arith, e)) ∙ kept.byte }) (omega (arith, s.column))))
 
   text_sent : From (FAULT_AT + 0xA) (13 ∷ 33 ∷ d ∷ 32 ∷ 65 ∷ 84 ∷ 32 ∷ (digits_of (l + 256 * h) ++ 13 ∷ [])) (2 + (7 + (2 + (7 + (2 + (7 + (2 + (7 + (2 + (7 + (2 + (7 + (2 + (7 + (5 + (458 + 9))))))))))))))))
   text_sent =
@@ -88,10 +88,10 @@ fault_law f room most fits block hlo hhi above deep text answers m e k x y n v i
     (ending (under f own) 0 (omega (arith, fits, deep, length-append own f.rest, length-append above (hlo ∷ hhi ∷ []))) fault_part (fault_in f.code block) 3 start (λ w. w ≡ next) refl refl)
     (λ w same. subst (λ w. Comes f (stacked_on own w) (IsHome f) (fault_text k (word_in m LINE)) (1 + rest)) (sym same)
     (putting_s f room fits (stacked_on own next) above (hlo ∷ hhi ∷ []) (IsHome f) (fault_text k (word_in m LINE)) rest (fault_in f.code block _ _ refl) (le-leb _ _ (omega (arith, deep, length-append above (hlo ∷ hhi ∷ [])))) refl (omega (arith, e.kept, e.homed.above))
-    (text_sent f (omega (arith, most, fits)) block hlo hhi e.homed.home text answers (m LINE) (m 0xc03b) (48 + k) e.line (omega (arith, small)) _ _ _ _ _ _ _ _ _ (record { low = refl; high = refl; byte = omega (arith, small) })))))
+    (text_sent f (omega (arith, most, fits)) block hlo hhi e.homed.home text answers (m LINE) (m (LINE + 1)) (48 + k) e.line (omega (arith, small)) _ _ _ _ _ _ _ _ _ (record { low = refl; high = refl; byte = omega (arith, small) })))))
 
 pub fault_line_law : FaultLineLaw
 fault_line_law f room most fits block hlo hhi above deep text answers m homed kept k x y n v i z c small low high =
     let own = above ++ hlo ∷ hhi ∷ [] in
     after_on f own 0 (omega (arith, fits, deep, length-append own f.rest, length-append above (hlo ∷ hhi ∷ []))) fault_line_part (fault_line_in f.code block) 1 (view k x y n v i z c FAULT_LINE_AT [] m text answers) (IsHome f) (fault_text k (x + 256 * y)) 540 refl
-    (fault_law f room most fits block hlo hhi above deep text answers (with_byte (with_byte m LINE x) 0xc03b y) (record { homed = homed; kept = kept; line = (low, high) }) k x y n v i z c small)
+    (fault_law f room most fits block hlo hhi above deep text answers (with_byte (with_byte m LINE x) (LINE + 1) y) (record { homed = homed; kept = kept; line = (low, high) }) k x y n v i z c small)

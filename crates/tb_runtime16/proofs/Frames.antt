@@ -1,4 +1,4 @@
--- Writes to places of a kind leave the others.
+-- The places that a routine changes: writes to them leave the others.
 use Rattle.std.proofs.Common.{◌≡◌, ℕ, Bool, true, false, sym, ap, ◌∙◌}
 use Rattle.std.proofs.lemmas.Bool.{false≢true}
 use Rattle.tb_memmap.specs.Bytes.{with_byte}
@@ -9,11 +9,19 @@ use Rattle.tb_reaching.proofs.Memory.{put_other}
 pub skip : (is : ℕ → Bool) (m : ℕ → ℕ) (at b a : ℕ) → is at ≡ true → is a ≡ false → with_byte m at b a ≡ m a
 skip is m at b a h e = put_other m at b a (λ x. false≢true (sym e ∙ ap is x ∙ h))
 
+-- only these places changed
+abbrev pub Changes : (ℕ → Bool) → (ℕ → ℕ) → (ℕ → ℕ) → Type 0
+Changes changes m0 m = (a : ℕ) → changes a ≡ false → m a ≡ m0 a
+
+pub changes_put : (changes : ℕ → Bool) (m0 m : ℕ → ℕ) (at b : ℕ) → changes at ≡ true → Changes changes m0 m → Changes changes m0 (with_byte m at b)
+changes_put changes m0 m at b h k a e = skip changes m at b a h e ∙ k a e
+
+-- only the arguments' places changed
 abbrev pub Frame : (ℕ → ℕ) → (ℕ → ℕ) → Type 0
-Frame m0 m = (a : ℕ) → is_argument a ≡ false → m a ≡ m0 a
+Frame = Changes is_argument
 
 pub frame_put : (m0 m : ℕ → ℕ) (at b : ℕ) → is_argument at ≡ true → Frame m0 m → Frame m0 (with_byte m at b)
-frame_put m0 m at b h k a e = skip is_argument m at b a h e ∙ k a e
+frame_put = changes_put is_argument
 
 pub frame_then : (m0 m w : ℕ → ℕ) → Frame m0 m → Frame m w → Frame m0 w
 frame_then m0 m w h k a e = k a e ∙ h a e

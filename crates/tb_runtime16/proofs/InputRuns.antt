@@ -6,7 +6,6 @@ use Rattle.tb_memmap.specs.Bytes.{with_byte}
 use Rattle.tb_kernal.specs.declared.places.Service.TheVariants.{Chrin}
 use Rattle.tb_reaching.specs.View.{View, Setup, Holds, Fits, Comes, view, back_at}
 use Rattle.tb_reaching.specs.Start.{IsHome}
-use Rattle.tb_reaching.proofs.Memory.{put_other}
 use Rattle.tb_reaching.proofs.Comes.{looser}
 use Rattle.tb_reaching.proofs.Services.{serving}
 use Rattle.tb_reaching.proofs.Calls.{framed, under}
@@ -17,8 +16,9 @@ use Rattle.tb_runtime16.specs.Block.{block_part}
 use Rattle.tb_runtime16.specs.Ends.{Entered}
 use Rattle.tb_runtime16.specs.Input.{MINUS, is_changed, turn_sends, Ended, InputLaw}
 use Rattle.tb_runtime16.specs.Laws.{IsWord, AllBytes, Said}
-use Rattle.tb_runtime16.proofs.Words.{taken_from_zero}
+use Rattle.tb_runtime16.proofs.Words.{small_byte, taken_from_zero}
 use Rattle.tb_runtime16.proofs.Tens.{times_ten}
+use Rattle.tb_runtime16.proofs.Frames.{Changes, changes_put}
 use Rattle.tb_runtime16.proofs.Within.{input_part, input_in}
 use Rattle.tb_runtime16.proofs.Called.{after_on, calls, ending_on}
 use Rattle.tb_runtime16.proofs.SendRuns.{send_law}
@@ -84,16 +84,6 @@ turn_bad r b text n32 n43 n45 n44 n13 out =
     ∙ ap (λ x. rest false false false false x (eqb b 13)) (ne_eqb b 44 n44)
     ∙ ap (λ x. rest false false false false false x) (ne_eqb b 13 n13))
 
-small_byte : (n : ℕ) → n % 256 < 256
-small_byte n = omega arith
-
--- what stands outside the changed places
-abbrev Frame : (ℕ → ℕ) → (ℕ → ℕ) → Type 0
-Frame m0 m = (a : ℕ) → is_changed a ≡ false → m a ≡ m0 a
-
-frame_put : (m0 m : ℕ → ℕ) (at b : ℕ) → is_changed at ≡ true → Frame m0 m → Frame m0 (with_byte m at b)
-frame_put m0 m at b h k a e = put_other m at b a (λ x. false≢true (sym e ∙ ap is_changed x ∙ h)) ∙ k a e
-
 apart : (a at : ℕ) → is_changed a ≡ false → is_changed at ≡ true → eqb a at ≡ false
 apart a at t h = ne_eqb a at (λ x. false≢true (sym t ∙ ap is_changed x ∙ h))
 
@@ -121,16 +111,16 @@ module _ (f : Setup) (room : ℕ) (most : 13 ≤ room) (fits : Fits f room) (blo
     value : word_in m RESULT ≡ number r % 65536
     line_open : m OPEN ≡ 1
     column : m COLUMN ≡ column_after col before % 256
-    others : Frame m0 m
+    others : Changes is_changed m0 m
 
   held_byte : (r : Reading) (m : ℕ → ℕ) (b : ℕ) → Held r m → Held r (with_byte m BYTE b)
-  held_byte r m b h = record { seen = h.seen; minus = h.minus; is_word = h.is_word; value = h.value; line_open = h.line_open; column = h.column; others = frame_put _ _ BYTE _ refl h.others }
+  held_byte r m b h = record { seen = h.seen; minus = h.minus; is_word = h.is_word; value = h.value; line_open = h.line_open; column = h.column; others = changes_put _ _ _ BYTE _ refl h.others }
 
   -- fault 6
-  bad : (a x y : ℕ) (n v i z c : Bool) (m : ℕ → ℕ) (text : List ℕ) → Frame m0 m → Comes f (view a x y n v i z c (INPUT_AT + 0xA0) (lo ∷ hi ∷ own) m text answers) (IsHome f) (fault_text 6 (word_in m0 LINE)) (84 + 458)
+  bad : (a x y : ℕ) (n v i z c : Bool) (m : ℕ → ℕ) (text : List ℕ) → Changes is_changed m0 m → Comes f (view a x y n v i z c (INPUT_AT + 0xA0) (lo ∷ hi ∷ own) m text answers) (IsHome f) (fault_text 6 (word_in m0 LINE)) (84 + 458)
   bad a x y n v i z c m text k =
-      let here : Entered f hlo hhi m = record { homed = entered.homed; kept = ap (λ s. s + 2) (k HOME_S refl) ∙ entered.kept; line = (omega (arith, k LINE refl, entered.line.0), omega (arith, k 0xc03B refl, entered.line.1)) } in
-      subst (λ w. Comes f (view a x y n v i z c (INPUT_AT + 0xA0) (lo ∷ hi ∷ own) m text answers) (IsHome f) (fault_text 6 w) (84 + 458)) (ap₂ (λ a b. a + 256 * b) (k LINE refl) (k 0xc03B refl))
+      let here : Entered f hlo hhi m = record { homed = entered.homed; kept = ap (λ s. s + 2) (k HOME_S refl) ∙ entered.kept; line = (omega (arith, k LINE refl, entered.line.0), omega (arith, k (LINE + 1) refl, entered.line.1)) } in
+      subst (λ w. Comes f (view a x y n v i z c (INPUT_AT + 0xA0) (lo ∷ hi ∷ own) m text answers) (IsHome f) (fault_text 6 w) (84 + 458)) (ap₂ (λ a b. a + 256 * b) (k LINE refl) (k (LINE + 1) refl))
       (looser f _ _ _ (fault_text 6 (word_in m LINE)) (2 + (82 + 458)) (84 + 458) (omega arith) (λ w h. h)
       (after_on f own 4 free input_part st 1 (view a x y n v i z c (INPUT_AT + 0xA0) (lo ∷ hi ∷ []) m text answers) _ _ (82 + 458) refl
       (fault_law f room most fits block hlo hhi (lo ∷ hi ∷ above) (omega (arith, deep)) text answers m here 6 _ _ _ _ _ _ _ (omega arith))))
@@ -141,7 +131,7 @@ module _ (f : Setup) (room : ℕ) (most : 13 ≤ room) (fits : Fits f room) (blo
     value_is : word_in m RESULT ≡ value
     line_open : m OPEN ≡ 1
     column : m COLUMN ≡ column_after col before % 256
-    others : Frame m0 m
+    others : Changes is_changed m0 m
 
   finish : (value : ℕ) (stays : Bool) (a x y : ℕ) (n v i z c : Bool) (m : ℕ → ℕ) (text : List ℕ) → Read value m → same_byte (m BYTE) 44 ≡ stays → Comes f (view a x y n v i z c (INPUT_AT + 0xC4) (lo ∷ hi ∷ own) m text answers) (Goal (Got value stays text)) (sends (Got value stays text)) 14
   finish value true a x y n v i z c m text h e =
@@ -159,11 +149,11 @@ module _ (f : Setup) (room : ℕ) (most : 13 ≤ room) (fits : Fits f room) (blo
         binary = g.1.binary;
         left = g.1.same_text;
         same_answers = g.1.same_answers;
-        is_word = (omega (arith, g.1.memory.others RESULT (λ e. omega (arith, e)), h.is_word.0), omega (arith, g.1.memory.others 0xc067 (λ e. omega (arith, e)), h.is_word.1));
-        result = ap₂ (λ a b. a + 256 * b) (g.1.memory.others RESULT (λ e. omega (arith, e))) (g.1.memory.others 0xc067 (λ e. omega (arith, e))) ∙ h.value_is;
+        is_word = (omega (arith, g.1.memory.others RESULT (λ e. omega (arith, e)), h.is_word.0), omega (arith, g.1.memory.others (RESULT + 1) (λ e. omega (arith, e)), h.is_word.1));
+        result = ap₂ (λ a b. a + 256 * b) (g.1.memory.others RESULT (λ e. omega (arith, e))) (g.1.memory.others (RESULT + 1) (λ e. omega (arith, e))) ∙ h.value_is;
         line_open = g.1.memory.others OPEN (λ e. omega (arith, e));
         column_is = g.1.memory.column;
-        others = λ a t. g.1.memory.others a (λ x. false≢true (sym t ∙ ap is_changed x)) ∙ frame_put _ _ OPEN _ refl h.others a t;
+        others = λ a t. g.1.memory.others a (λ x. false≢true (sym t ∙ ap is_changed x)) ∙ changes_put _ _ _ OPEN _ refl h.others a t;
       }))
       (framed f own (view 13 _ _ _ _ _ _ _ SEND_AT (lo ∷ hi ∷ []) (with_byte m OPEN 0) text answers) _ (13 ∷ []) 7
       (send_law (under f own) (omega (arith, free)) block lo hi text answers _ _ _ _ _ _ _ _ _ (omega arith))))))
@@ -195,10 +185,10 @@ module _ (f : Setup) (room : ℕ) (most : 13 ≤ room) (fits : Fits f room) (blo
       (finish ((65536 - k % 65536) % 65536) stays _ _ _ _ _ _ _ _ _ text
       (record {
         is_word = (small_byte _, small_byte _);
-        value_is = taken_from_zero (m RESULT) (m 0xc067) h.is_word.0 h.is_word.1 ∙ ap (λ w. (65536 - w) % 65536) h.value;
+        value_is = taken_from_zero (m RESULT) (m (RESULT + 1)) h.is_word.0 h.is_word.1 ∙ ap (λ w. (65536 - w) % 65536) h.value;
         line_open = h.line_open;
         column = h.column;
-        others = frame_put _ _ 0xc067 _ refl (frame_put _ _ RESULT _ refl h.others);
+        others = changes_put _ _ _ (RESULT + 1) _ refl (changes_put _ _ _ RESULT _ refl h.others);
       }) e))))))
 
   -- ---- a turn goes on
@@ -214,7 +204,7 @@ module _ (f : Setup) (room : ℕ) (most : 13 ≤ room) (fits : Fits f room) (blo
       (after_on f own 4 free input_part st 1 (view a x y n v i z c (INPUT_AT + 0x8D) (lo ∷ hi ∷ []) m text answers) _ _ (5 + (45 * length text + (102 + 458))) refl
       (rw t (after_on f own 4 free input_part st 4 (view _ _ _ _ _ _ _ _ (INPUT_AT + 0x92) (lo ∷ hi ∷ []) m text answers) _ _ (45 * length text + (102 + 458)) refl
       (go (Sign negative) _ _ _ _ _ _ _ _ _
-      (record { seen = refl; minus = e; is_word = h.is_word; value = h.value; line_open = h.line_open; column = h.column; others = frame_put _ _ SCRATCH _ refl (frame_put _ _ MINUS _ refl h.others) }) bs))))
+      (record { seen = refl; minus = e; is_word = h.is_word; value = h.value; line_open = h.line_open; column = h.column; others = changes_put _ _ _ SCRATCH _ refl (changes_put _ _ _ MINUS _ refl h.others) }) bs))))
   at_sign (Sign before) negative a x y n v i z c m text go h e bs =
       let t : eqb (m SCRATCH) 0 ≡ false = ne_eqb _ _ (λ e. omega (arith, h.seen, e)) in
       looser f _ _ _ (fault_text 6 (word_in m0 LINE)) (2 + (84 + 458)) (45 * length text + (109 + 458)) (omega arith) (λ w h. h)
@@ -230,7 +220,7 @@ module _ (f : Setup) (room : ℕ) (most : 13 ≤ room) (fits : Fits f room) (blo
   at_digit : (r : Reading) (d : ℕ) (a x y : ℕ) (n v i z c : Bool) (m : ℕ → ℕ) (text : List ℕ) → Reads text → Held r m → m BYTE ≡ d → d < 10 → AllBytes text → Comes f (view a x y n v i z c (INPUT_AT + 0x46) (lo ∷ hi ∷ own) m text answers) (Goal (turn (with_digit r d) text)) (sends (turn (with_digit r d) text)) (27 + (45 * length text + (102 + 458)))
   unfolding Reads
   at_digit r d a x y n v i z c m text go h e small bs =
-      let ten = times_ten (m RESULT) (m 0xc067) (m BYTE) h.is_word.0 h.is_word.1 (omega (arith, e)) in
+      let ten = times_ten (m RESULT) (m (RESULT + 1)) (m BYTE) h.is_word.0 h.is_word.1 (omega (arith, e)) in
       after_on f own 4 free input_part st 26 (view a x y n v i z c (INPUT_AT + 0x46) (lo ∷ hi ∷ []) m text answers) _ _ (45 * length text + (102 + 458)) refl
       (go (with_digit r d) _ _ _ _ _ _ _ _ _
       (record {
@@ -242,9 +232,9 @@ module _ (f : Setup) (room : ℕ) (most : 13 ≤ room) (fits : Fits f room) (blo
         column = h.column;
         others = λ a t.
             let e1 : eqb a SCRATCH ≡ false = apart a SCRATCH t refl in
-            let e2 : eqb a 0xc067 ≡ false = apart a 0xc067 t refl in
+            let e2 : eqb a (RESULT + 1) ≡ false = apart a (RESULT + 1) t refl in
             let e3 : eqb a RESULT ≡ false = apart a RESULT t refl in
-            let e4 : eqb a 0xfc ≡ false = apart a 0xfc t refl in
+            let e4 : eqb a (LEFT + 1) ≡ false = apart a (LEFT + 1) t refl in
             let e5 : eqb a LEFT ≡ false = apart a LEFT t refl in
             rw e1 (rw e2 (rw e3 (rw e4 (rw e5 (h.others a t)))));
       }) bs)
@@ -296,7 +286,7 @@ module _ (f : Setup) (room : ℕ) (most : 13 ≤ room) (fits : Fits f room) (blo
   stray : (text : List ℕ) (r : Reading) (b : ℕ) → b < 256 → (leb 48 b && leb b 57) ≡ false → leb 10 ((b + 256 - 48) % 256) ≡ true → (x y : ℕ) (n v i z c : Bool) (m : ℕ → ℕ) → Held r m → Comes f (view b x y n v i z c (INPUT_AT + 0x3C) (lo ∷ hi ∷ own) m text answers) (IsHome f) (fault_text 6 (word_in m0 LINE)) (5 + (84 + 458))
   stray text r b small out t x y n v i z c m h =
       after_on f own 4 free input_part st 4 (view b x y n v i z c (INPUT_AT + 0x3C) (lo ∷ hi ∷ []) m text answers) _ _ (84 + 458) refl
-      (rw t (bad _ _ _ _ _ _ _ _ _ text (frame_put _ _ BYTE _ refl h.others)))
+      (rw t (bad _ _ _ _ _ _ _ _ _ text (changes_put _ _ _ BYTE _ refl h.others)))
 
   -- past the five tests
   past : (text : List ℕ) (b : ℕ) (u : Turn) (k : ℕ) → b < 256 → b ≢ 32 → b ≢ 43 → b ≢ 45 → b ≢ 44 → b ≢ 13 → (x y : ℕ) (n v i z c : Bool) (m : ℕ → ℕ) → ((n z c : Bool) → Comes f (view b x y n v i z c (INPUT_AT + 0x3C) (lo ∷ hi ∷ own) (with_byte m BYTE b) text answers) (Goal u) (sends u) k) → Comes f (view b x y n v i z c (INPUT_AT + 0x25) (lo ∷ hi ∷ own) m text answers) (Goal u) (sends u) (3 + (2 + (2 + (2 + (2 + k)))))
@@ -350,12 +340,12 @@ module _ (f : Setup) (room : ℕ) (most : 13 ≤ room) (fits : Fits f room) (blo
       (serving f room fits Chrin _ _ _ _ _ (sends (turn r (b ∷ text))) (45 * length text + (145 + 458)) (le-leb _ _ (omega (arith, deep, length-append above (hlo ∷ hhi ∷ [])))) refl refl refl (λ j.
       any text (reads_all text) r b bs.0 j.x j.y j.n j.v j.i j.z j.c m h bs.1)))
 
-  start : (a x y : ℕ) (n v i z c : Bool) (m : ℕ → ℕ) (text : List ℕ) → AllBytes text → m OPEN ≡ 1 → m COLUMN ≡ column_after col before % 256 → Frame m0 m → Comes f (view a x y n v i z c (INPUT_AT + 0x14) (lo ∷ hi ∷ own) m text answers) (Goal (turn Nothing text)) (sends (turn Nothing text)) (5 + (45 * length text + (102 + 458)))
+  start : (a x y : ℕ) (n v i z c : Bool) (m : ℕ → ℕ) (text : List ℕ) → AllBytes text → m OPEN ≡ 1 → m COLUMN ≡ column_after col before % 256 → Changes is_changed m0 m → Comes f (view a x y n v i z c (INPUT_AT + 0x14) (lo ∷ hi ∷ own) m text answers) (Goal (turn Nothing text)) (sends (turn Nothing text)) (5 + (45 * length text + (102 + 458)))
   unfolding Reads
   start a x y n v i z c m text bs o e k =
       after_on f own 4 free input_part st 4 (view a x y n v i z c (INPUT_AT + 0x14) (lo ∷ hi ∷ []) m text answers) _ _ (45 * length text + (102 + 458)) refl
       (reads_all text Nothing _ _ _ _ _ _ _ _ _
-      (record { seen = refl; minus = refl; is_word = (small_byte 0, small_byte 0); value = refl; line_open = o; column = e; others = frame_put _ _ MINUS _ refl (frame_put _ _ SCRATCH _ refl (frame_put _ _ 0xc067 _ refl (frame_put _ _ RESULT _ refl k))) }) bs)
+      (record { seen = refl; minus = refl; is_word = (small_byte 0, small_byte 0); value = refl; line_open = o; column = e; others = changes_put _ _ _ MINUS _ refl (changes_put _ _ _ SCRATCH _ refl (changes_put _ _ _ (RESULT + 1) _ refl (changes_put _ _ _ RESULT _ refl k))) }) bs)
 
 pub input_law : InputLaw
 input_law f room most fits block hlo hhi above deep lo hi text answers m e bs true o col column a x y n v i z c =
@@ -382,4 +372,4 @@ input_law f room most fits block hlo hhi above deep lo hi text answers m e bs fa
     (saying f (lo ∷ hi ∷ own) inside block ((INPUT_AT + 0xE) % 256) ((INPUT_AT + 0xE) / 256) text answers m1 32 _ _ _ _ _ _ _ (omega arith) _ last rest (λ a x y n v i z c m2 c2 k2.
     after_on f own 4 free input_part st 1 (view a x y n v i z c (INPUT_AT + 0xF) (lo ∷ hi ∷ []) m2 text answers) _ _ (5 + (45 * length text + (102 + 458))) refl
     (start f room most fits block hlo hhi above deep lo hi answers m e col (63 ∷ 32 ∷ []) _ _ _ _ _ _ _ _ _ text bs refl (omega (arith, column, c1, c2))
-    (frame_put _ _ OPEN _ refl (λ a t. let away : a ≢ COLUMN = λ x. false≢true (sym t ∙ ap is_changed x) in k2 a away ∙ k1 a away))))))))))
+    (changes_put _ _ _ OPEN _ refl (λ a t. let away : a ≢ COLUMN = λ x. false≢true (sym t ∙ ap is_changed x) in k2 a away ∙ k1 a away))))))))))

@@ -14,8 +14,8 @@ use Rattle.tb_runtime16.specs.Places.{DIVIDE_AT, LEFT, RIGHT, RESULT}
 use Rattle.tb_runtime16.specs.Block.{block_part}
 use Rattle.tb_runtime16.specs.Laws.{IsWord, Back, Parted}
 use Rattle.tb_runtime16.proofs.Within.{divide_part, divide_in}
-use Rattle.tb_runtime16.proofs.Words.{one_high}
-use Rattle.tb_runtime16.proofs.WideRuns.{pow2, double, double_one, byte_of}
+use Rattle.tb_runtime16.proofs.Words.{pow2, small_byte, one_high}
+use Rattle.tb_runtime16.proofs.WideRuns.{double, double_one}
 use Rattle.tb_runtime16.proofs.Frames.{Frame, frame_put}
 
 sum_less : (l r q d p n l' r' : ℕ) → l < 256 → l' ≡ 2 * l % 256 → r' ≡ 2 * r + l / 128 → r * 256 + l + q * d * 256 ≡ p * n + q → r' * 256 + l' + (q + q) * d * 256 ≡ (p + p) * n + (q + q)
@@ -24,14 +24,14 @@ sum_less l r q d p n l' r' small e e' h = omega (arith, double q d, double p n)
 sum_more : (l r q d p n l' r' : ℕ) → l < 256 → l' ≡ 2 * l % 256 + 1 → r' + d ≡ 2 * r + l / 128 → r * 256 + l + q * d * 256 ≡ p * n + q → r' * 256 + l' + (q + q + 1) * d * 256 ≡ (p + p) * n + (q + q + 1)
 sum_more l r q d p n l' r' small e e' h = omega (arith, double_one q d, double p n)
 
-module _ (f : Setup) (fits : Fits f 2) (block : Holds block_part f.code) (lo hi : ℕ) (text answers : List ℕ) (m0 : ℕ → ℕ) (top : m0 0xfe ≡ 0) (most : m0 RIGHT < 128) where
+module _ (f : Setup) (fits : Fits f 2) (block : Holds block_part f.code) (lo hi : ℕ) (text answers : List ℕ) (m0 : ℕ → ℕ) (top : m0 (RIGHT + 1) ≡ 0) (most : m0 RIGHT < 128) where
   -- after j turns: the quotient so far is q, the rest a
   record Held (j q a : ℕ) (m : ℕ → ℕ) : Type 0 where
     left : m LEFT < 256
-    left_high : m 0xfc ≡ 0
-    rest_high : m 0xc067 ≡ 0
+    left_high : m (LEFT + 1) ≡ 0
+    rest_high : m (RESULT + 1) ≡ 0
     low : m RIGHT ≡ m0 RIGHT
-    high : m 0xfe ≡ m0 0xfe
+    high : m (RIGHT + 1) ≡ m0 (RIGHT + 1)
     others : Frame m0 m
     less : a < m0 RIGHT
     few : q < pow2 j
@@ -53,7 +53,7 @@ module _ (f : Setup) (fits : Fits f 2) (block : Holds block_part f.code) (lo hi 
       let same : word_in m LEFT ≡ q = omega (arith, h.left, h.left_high, h.few, h.sum) in
       let total' : q * m0 RIGHT + a ≡ word_in m0 LEFT = omega (arith, h.left, h.few, h.sum) in
       let total : q * word_in m0 RIGHT + a ≡ word_in m0 LEFT = ap (λ d. q * d + a) d ∙ total' in
-      let rest : a + 256 * m 0xc067 ≡ a = omega (arith, h.rest_high) in
+      let rest : a + 256 * m (RESULT + 1) ≡ a = omega (arith, h.rest_high) in
       record {
         left_is = (h.left, omega (arith, h.left_high));
         left = same ∙ sym (div-mul-add q (word_in m0 RIGHT) a less) ∙ ap (λ n. n / word_in m0 RIGHT) total;
@@ -106,7 +106,7 @@ module _ (f : Setup) (fits : Fits f 2) (block : Holds block_part f.code) (lo hi 
       (after f 2 fits divide_part (divide_in f.code block) 3 (view a x y n v i z c (DIVIDE_AT + 75) (lo ∷ hi ∷ []) m text answers) _ _ (8 * k + 4) refl
       (rw t (go _ _ _ _ _ _ _ _ _ (suc j) (q + q)
       (record {
-        left = byte_of _;
+        left = small_byte _;
         left_high = h.left_high;
         rest_high = h.rest_high;
         low = h.low;
@@ -122,7 +122,7 @@ module _ (f : Setup) (fits : Fits f 2) (block : Holds block_part f.code) (lo hi 
       (after f 2 fits divide_part (divide_in f.code block) 3 (view a x y n v i z c (DIVIDE_AT + 75) (lo ∷ hi ∷ []) m text answers) _ _ (2 + (8 * k + 4)) refl
       (rw t (keep k go _ _ _ _ _ _ _ _ (suc j) (q + q + 1)
       (record {
-        left = byte_of _;
+        left = small_byte _;
         left_high = h.left_high;
         rest_high = h.rest_high;
         low = h.low;
@@ -138,10 +138,10 @@ module _ (f : Setup) (fits : Fits f 2) (block : Holds block_part f.code) (lo hi 
   lesses zero = less_none
   lesses (suc k) = less_more k (turn k (lesses k))
 
-  pub narrow : (x y : ℕ) (n v i z c : Bool) → IsWord m0 LEFT → m0 0xfc < m0 RIGHT → Goal (view (m0 0xfc) x y n v i z c (DIVIDE_AT + 66) (lo ∷ hi ∷ []) m0 text answers) 70
+  pub narrow : (x y : ℕ) (n v i z c : Bool) → IsWord m0 LEFT → m0 (LEFT + 1) < m0 RIGHT → Goal (view (m0 (LEFT + 1)) x y n v i z c (DIVIDE_AT + 66) (lo ∷ hi ∷ []) m0 text answers) 70
   unfolding Next
   narrow x y n v i z c p less =
-      after f 2 fits divide_part (divide_in f.code block) 3 (view (m0 0xfc) x y n v i z c (DIVIDE_AT + 66) (lo ∷ hi ∷ []) m0 text answers) _ _ 66 refl
+      after f 2 fits divide_part (divide_in f.code block) 3 (view (m0 (LEFT + 1)) x y n v i z c (DIVIDE_AT + 66) (lo ∷ hi ∷ []) m0 text answers) _ _ 66 refl
       (turn 7 (lesses 7) _ _ _ _ _ _ _ _ _ 0 0
-      (record { left = p.0; left_high = refl; rest_high = refl; low = refl; high = refl; others = frame_put _ _ 0xc067 _ refl (frame_put _ _ 0xfc _ refl (λ a e. refl)); less = less; few = omega arith; sum = omega arith })
+      (record { left = p.0; left_high = refl; rest_high = refl; low = refl; high = refl; others = frame_put _ _ (RESULT + 1) _ refl (frame_put _ _ (LEFT + 1) _ refl (λ a e. refl)); less = less; few = omega arith; sum = omega arith })
       refl refl)

@@ -17,7 +17,7 @@ use Rattle.tb_runtime16.specs.Block.{block_part}
 use Rattle.tb_runtime16.specs.Laws.{IsWord}
 use Rattle.tb_runtime16.specs.Notes.{Faulted, NoteAt, Noted, Notes, nothing, push_changes, pop_changes, Pushed, Popped, PushLaw, PushFullLaw, PopLaw, PopNoneLaw}
 use Rattle.tb_runtime16.proofs.Within.{notes_part, notes_in}
-use Rattle.tb_runtime16.proofs.Pointed.{Changes, changes_put}
+use Rattle.tb_runtime16.proofs.Frames.{Changes, changes_put}
 
 -- ---- the list in memory
 note_same : (m k : ℕ → ℕ) (j note : ℕ) → k (NOTE_LOW + j) ≡ m (NOTE_LOW + j) → k (NOTE_HIGH + j) ≡ m (NOTE_HIGH + j) → NoteAt m j note → NoteAt k j note
@@ -33,10 +33,10 @@ noted_same m k (n ∷ ns) e h =
 data_place : (a : ℕ) → 0xc000 ≤ a → a ≤ 0xCFFF → is_data a ≡ true
 data_place a p q = grind (arith, nat_tests)
 
-low_place : (a : ℕ) → 0xc100 ≤ a → a ≤ 0xc2f3 → push_changes a ≡ true
+low_place : (a : ℕ) → NOTE_LOW ≤ a → a ≤ NOTE_LOW + 499 → push_changes a ≡ true
 low_place a p q = grind (arith, nat_tests)
 
-high_place : (a : ℕ) → 0xc300 ≤ a → a ≤ 0xc4f3 → push_changes a ≡ true
+high_place : (a : ℕ) → NOTE_HIGH ≤ a → a ≤ NOTE_HIGH + 499 → push_changes a ≡ true
 high_place a p q = grind (arith, nat_tests)
 
 -- a count goes up, with and without a carry
@@ -53,26 +53,26 @@ note_word low high note l h s = (omega arith, omega (arith, h, s), omega (arith,
 module _ (f : Setup) (fits : Fits f 2) (block : Holds block_part f.code) (lo hi : ℕ) (text answers : List ℕ) (m0 : ℕ → ℕ) where
   -- ---- Push
   -- the note's bytes stand, and NOTES goes up: with a carry
-  count_over : (a x y : ℕ) (n v i z c : Bool) (m : ℕ → ℕ) (note : ℕ) (ns : List ℕ) → m NOTES < 256 → m NOTES + 256 * m 0xc03D ≡ length ns → length ns < 500 → Noted m (note ∷ ns) → Changes push_changes m0 m → (m NOTES + 1) % 256 ≡ 0 → Comes f (view a x y n v i z c (PUSH_AT + 0x12) (lo ∷ hi ∷ []) m text answers) (Pushed lo hi m0 text answers (note ∷ ns)) [] 4
+  count_over : (a x y : ℕ) (n v i z c : Bool) (m : ℕ → ℕ) (note : ℕ) (ns : List ℕ) → m NOTES < 256 → m NOTES + 256 * m (NOTES + 1) ≡ length ns → length ns < 500 → Noted m (note ∷ ns) → Changes push_changes m0 m → (m NOTES + 1) % 256 ≡ 0 → Comes f (view a x y n v i z c (PUSH_AT + 0x12) (lo ∷ hi ∷ []) m text answers) (Pushed lo hi m0 text answers (note ∷ ns)) [] 4
   count_over a x y n v i z c m note ns low is small h r over =
       let m1 = with_byte m NOTES ((m NOTES + 1) % 256) in
-      let m2 = with_byte m1 0xc03D ((m1 0xc03D + 1) % 256) in
-      let same : (a : ℕ) → NOTE_LOW ≤ a → m2 a ≡ m a = λ a p. put_other m1 0xc03D _ a (λ e. omega (arith, e, p)) ∙ put_other m NOTES _ a (λ e. omega (arith, e, p)) in
-      let u = up_carry (m NOTES) (m 0xc03D) (length ns) low is small over in
+      let m2 = with_byte m1 (NOTES + 1) ((m1 (NOTES + 1) + 1) % 256) in
+      let same : (a : ℕ) → NOTE_LOW ≤ a → m2 a ≡ m a = λ a p. put_other m1 (NOTES + 1) _ a (λ e. omega (arith, e, p)) ∙ put_other m NOTES _ a (λ e. omega (arith, e, p)) in
+      let u = up_carry (m NOTES) (m (NOTES + 1)) (length ns) low is small over in
       let t : eqb ((m NOTES + 1) % 256) 0 ≡ true = eq-eqb _ _ over in
       after f 2 fits notes_part (notes_in f.code block) 1 (view a x y n v i z c (PUSH_AT + 0x12) (lo ∷ hi ∷ []) m text answers) _ _ 2 refl
       (rw t (ending f 2 fits notes_part (notes_in f.code block) 1 (view _ _ _ _ _ _ _ _ (PUSH_AT + 0x17) (lo ∷ hi ∷ []) m1 text answers) _ refl
       (record {
-        back = record { at = refl; on_stack = refl; binary = refl; same_text = refl; same_answers = refl; others = changes_put _ _ _ 0xc03D _ refl (changes_put _ _ _ NOTES _ refl r) };
+        back = record { at = refl; on_stack = refl; binary = refl; same_text = refl; same_answers = refl; others = changes_put _ _ _ (NOTES + 1) _ refl (changes_put _ _ _ NOTES _ refl r) };
         notes = record { is_word = (u.0, u.1); count = u.2; few = omega (arith, small); noted = noted_same m m2 (note ∷ ns) (λ j p. (same _ (omega arith), same _ (omega arith))) h };
       })))
 
   -- and without one
-  count_plain : (a x y : ℕ) (n v i z c : Bool) (m : ℕ → ℕ) (note : ℕ) (ns : List ℕ) → m NOTES < 256 → m NOTES + 256 * m 0xc03D ≡ length ns → length ns < 500 → Noted m (note ∷ ns) → Changes push_changes m0 m → (m NOTES + 1) % 256 ≢ 0 → Comes f (view a x y n v i z c (PUSH_AT + 0x12) (lo ∷ hi ∷ []) m text answers) (Pushed lo hi m0 text answers (note ∷ ns)) [] 3
+  count_plain : (a x y : ℕ) (n v i z c : Bool) (m : ℕ → ℕ) (note : ℕ) (ns : List ℕ) → m NOTES < 256 → m NOTES + 256 * m (NOTES + 1) ≡ length ns → length ns < 500 → Noted m (note ∷ ns) → Changes push_changes m0 m → (m NOTES + 1) % 256 ≢ 0 → Comes f (view a x y n v i z c (PUSH_AT + 0x12) (lo ∷ hi ∷ []) m text answers) (Pushed lo hi m0 text answers (note ∷ ns)) [] 3
   count_plain a x y n v i z c m note ns low is small h r under =
       let m1 = with_byte m NOTES ((m NOTES + 1) % 256) in
       let same : (a : ℕ) → NOTE_LOW ≤ a → m1 a ≡ m a = λ a p. put_other m NOTES _ a (λ e. omega (arith, e, p)) in
-      let u = up_plain (m NOTES) (m 0xc03D) (length ns) low is small under in
+      let u = up_plain (m NOTES) (m (NOTES + 1)) (length ns) low is small under in
       let t : eqb ((m NOTES + 1) % 256) 0 ≡ false = ne_eqb _ _ under in
       after f 2 fits notes_part (notes_in f.code block) 1 (view a x y n v i z c (PUSH_AT + 0x12) (lo ∷ hi ∷ []) m text answers) _ _ 1 refl
       (rw t (ending f 2 fits notes_part (notes_in f.code block) 0 (view _ _ _ _ _ _ _ _ (PUSH_AT + 0x1A) (lo ∷ hi ∷ []) m1 text answers) _ refl
@@ -81,7 +81,7 @@ module _ (f : Setup) (fits : Fits f 2) (block : Holds block_part f.code) (lo hi 
         notes = record { is_word = (u.0, u.1); count = u.2; few = omega (arith, small); noted = noted_same m m1 (note ∷ ns) (λ j p. (same _ (omega arith), same _ (omega arith))) h };
       })))
 
-  count : (a x y : ℕ) (n v i z c : Bool) (m : ℕ → ℕ) (note : ℕ) (ns : List ℕ) → m NOTES < 256 → m NOTES + 256 * m 0xc03D ≡ length ns → length ns < 500 → Noted m (note ∷ ns) → Changes push_changes m0 m → Comes f (view a x y n v i z c (PUSH_AT + 0x12) (lo ∷ hi ∷ []) m text answers) (Pushed lo hi m0 text answers (note ∷ ns)) [] 4
+  count : (a x y : ℕ) (n v i z c : Bool) (m : ℕ → ℕ) (note : ℕ) (ns : List ℕ) → m NOTES < 256 → m NOTES + 256 * m (NOTES + 1) ≡ length ns → length ns < 500 → Noted m (note ∷ ns) → Changes push_changes m0 m → Comes f (view a x y n v i z c (PUSH_AT + 0x12) (lo ∷ hi ∷ []) m text answers) (Pushed lo hi m0 text answers (note ∷ ns)) [] 4
   count a x y n v i z c m note ns low is small h r =
       ⊎_elim
       (λ over. count_over a x y n v i z c m note ns low is small h r over)
@@ -90,13 +90,13 @@ module _ (f : Setup) (fits : Fits f 2) (block : Holds block_part f.code) (lo hi 
 
   -- a new note's bytes at their places
   abbrev with_note : ℕ → ℕ → ℕ
-  with_note j = with_byte (with_byte m0 (NOTE_LOW + j) (m0 LEFT)) (NOTE_HIGH + j) (m0 0xfc)
+  with_note j = with_byte (with_byte m0 (NOTE_LOW + j) (m0 LEFT)) (NOTE_HIGH + j) (m0 (LEFT + 1))
 
   -- memory with a new note
   record Stands (ns : List ℕ) : Type 0 where
     low : with_note (length ns) NOTES < 256
-    is : with_note (length ns) NOTES + 256 * with_note (length ns) 0xc03D ≡ length ns
-    kept : with_note (length ns) 0xc03D ≡ m0 0xc03D
+    is : with_note (length ns) NOTES + 256 * with_note (length ns) (NOTES + 1) ≡ length ns
+    kept : with_note (length ns) (NOTES + 1) ≡ m0 (NOTES + 1)
     noted : Noted (with_note (length ns)) (word_in m0 LEFT ∷ ns)
     others : Changes push_changes m0 (with_note (length ns))
 
@@ -107,11 +107,11 @@ module _ (f : Setup) (fits : Fits f 2) (block : Holds block_part f.code) (lo hi 
       let q = NOTE_HIGH + j in
       let m1 = with_byte m0 p (m0 LEFT) in
       let m2 = with_note j in
-      let apart : (a : ℕ) → a ≢ p → a ≢ q → m2 a ≡ m0 a = λ a s t. put_other m1 q (m0 0xfc) a t ∙ put_other m0 p (m0 LEFT) a s in
+      let apart : (a : ℕ) → a ≢ p → a ≢ q → m2 a ≡ m0 a = λ a s t. put_other m1 q (m0 (LEFT + 1)) a t ∙ put_other m0 p (m0 LEFT) a s in
       let n0 : m2 NOTES ≡ m0 NOTES = apart NOTES (λ e. omega arith) (λ e. omega arith) in
-      let n1 : m2 0xc03D ≡ m0 0xc03D = apart 0xc03D (λ e. omega arith) (λ e. omega arith) in
-      let b0 : m2 p ≡ m0 LEFT = put_other m1 q (m0 0xfc) p (λ e. omega (arith, e)) ∙ put_same m0 p (m0 LEFT) p refl in
-      let b1 : m2 q ≡ m0 0xfc = put_same m1 q (m0 0xfc) q refl in
+      let n1 : m2 (NOTES + 1) ≡ m0 (NOTES + 1) = apart (NOTES + 1) (λ e. omega arith) (λ e. omega arith) in
+      let b0 : m2 p ≡ m0 LEFT = put_other m1 q (m0 (LEFT + 1)) p (λ e. omega (arith, e)) ∙ put_same m0 p (m0 LEFT) p refl in
+      let b1 : m2 q ≡ m0 (LEFT + 1) = put_same m1 q (m0 (LEFT + 1)) q refl in
       let w = h.is_word in
       let e = h.count in
       record {
@@ -126,19 +126,19 @@ module _ (f : Setup) (fits : Fits f 2) (block : Holds block_part f.code) (lo hi 
       }
 
   -- LEFT's bytes into the list: on its first page
-  store_near : (a y : ℕ) (n v i z c : Bool) (ns : List ℕ) → IsWord m0 LEFT → Notes m0 ns → length ns < 500 → m0 0xc03D ≡ 0 → Comes f (view a (m0 NOTES) y n v i z c (PUSH_AT + 0x08) (lo ∷ hi ∷ []) m0 text answers) (Pushed lo hi m0 text answers (word_in m0 LEFT ∷ ns)) [] 8
+  store_near : (a y : ℕ) (n v i z c : Bool) (ns : List ℕ) → IsWord m0 LEFT → Notes m0 ns → length ns < 500 → m0 (NOTES + 1) ≡ 0 → Comes f (view a (m0 NOTES) y n v i z c (PUSH_AT + 0x08) (lo ∷ hi ∷ []) m0 text answers) (Pushed lo hi m0 text answers (word_in m0 LEFT ∷ ns)) [] 8
   store_near a y n v i z c ns left h small zero =
       let x = m0 NOTES in
       let p = NOTE_LOW + length ns in
       let q = NOTE_HIGH + length ns in
       let l = m0 LEFT in
-      let g = m0 0xfc in
+      let g = m0 (LEFT + 1) in
       let m1 = with_byte m0 p l in
       let e = h.count in
       let s = stands ns left h small in
       let first = view l x y (eqb (l / 128 % 2) 1) v i (eqb l 0) c (PUSH_AT + 0x0A) (lo ∷ hi ∷ []) m0 text answers in
       let second = view g x y (eqb (g / 128 % 2) 1) v i (eqb g 0) c (PUSH_AT + 0x0F) (lo ∷ hi ∷ []) m1 text answers in
-      let kept : m1 0xfc ≡ g = put_other m0 p l 0xfc (λ e. omega arith) in
+      let kept : m1 (LEFT + 1) ≡ g = put_other m0 p l (LEFT + 1) (λ e. omega arith) in
       after f 2 fits notes_part (notes_in f.code block) 0 (view a x y n v i z c (PUSH_AT + 0x08) (lo ∷ hi ∷ []) m0 text answers) _ _ 7 refl
       (placing f 2 fits (ins 0x9D NOTE_LOW) first _ _ [] 6 refl (notes_in f.code block _ _ refl, (notes_in f.code block _ _ refl, (notes_in f.code block _ _ refl, tt))) (stores_at f.code 2 (ins 0x9D NOTE_LOW) first Sta AbsoluteX p refl refl refl refl (ap (λ a. Ok a) (let t : (NOTE_LOW + m0 NOTES) % 65536 ≡ p = omega (arith, e, zero, small) in t)) l (data_place p (omega arith) (omega (arith, small))) refl)
       (after f 2 fits notes_part (notes_in f.code block) 0 (view l x y (eqb (l / 128 % 2) 1) v i (eqb l 0) c (PUSH_AT + 0x0D) (lo ∷ hi ∷ []) m1 text answers) _ _ 5 refl
@@ -146,23 +146,23 @@ module _ (f : Setup) (fits : Fits f 2) (block : Holds block_part f.code) (lo hi 
       (count _ _ _ _ _ _ _ _ (with_note (length ns)) (word_in m0 LEFT) ns s.low s.is small s.noted s.others)))))
 
   -- and on its second one
-  store_far : (a y : ℕ) (n v i z : Bool) (ns : List ℕ) → IsWord m0 LEFT → Notes m0 ns → length ns < 500 → m0 0xc03D ≡ 1 → Comes f (view a (m0 NOTES) y n v i z false (PUSH_AT + 0x1F) (lo ∷ hi ∷ []) m0 text answers) (Pushed lo hi m0 text answers (word_in m0 LEFT ∷ ns)) [] 8
+  store_far : (a y : ℕ) (n v i z : Bool) (ns : List ℕ) → IsWord m0 LEFT → Notes m0 ns → length ns < 500 → m0 (NOTES + 1) ≡ 1 → Comes f (view a (m0 NOTES) y n v i z false (PUSH_AT + 0x1F) (lo ∷ hi ∷ []) m0 text answers) (Pushed lo hi m0 text answers (word_in m0 LEFT ∷ ns)) [] 8
   store_far a y n v i z ns left h small one =
       let x = m0 NOTES in
       let p = NOTE_LOW + length ns in
       let q = NOTE_HIGH + length ns in
       let l = m0 LEFT in
-      let g = m0 0xfc in
+      let g = m0 (LEFT + 1) in
       let m1 = with_byte m0 p l in
       let e = h.count in
       let s = stands ns left h small in
       let first = view l x y (eqb (l / 128 % 2) 1) v i (eqb l 0) false (PUSH_AT + 0x21) (lo ∷ hi ∷ []) m0 text answers in
       let second = view g x y (eqb (g / 128 % 2) 1) v i (eqb g 0) false (PUSH_AT + 0x26) (lo ∷ hi ∷ []) m1 text answers in
-      let kept : m1 0xfc ≡ g = put_other m0 p l 0xfc (λ e. omega arith) in
+      let kept : m1 (LEFT + 1) ≡ g = put_other m0 p l (LEFT + 1) (λ e. omega arith) in
       after f 2 fits notes_part (notes_in f.code block) 0 (view a x y n v i z false (PUSH_AT + 0x1F) (lo ∷ hi ∷ []) m0 text answers) _ _ 7 refl
-      (placing f 2 fits (ins 0x9D 0xc200) first _ _ [] 6 refl (notes_in f.code block _ _ refl, (notes_in f.code block _ _ refl, (notes_in f.code block _ _ refl, tt))) (stores_at f.code 2 (ins 0x9D 0xc200) first Sta AbsoluteX p refl refl refl refl (ap (λ a. Ok a) (let t : (0xc200 + m0 NOTES) % 65536 ≡ p = omega (arith, e, one, small) in t)) l (data_place p (omega arith) (omega (arith, small))) refl)
+      (placing f 2 fits (ins 0x9D (NOTE_LOW + 256)) first _ _ [] 6 refl (notes_in f.code block _ _ refl, (notes_in f.code block _ _ refl, (notes_in f.code block _ _ refl, tt))) (stores_at f.code 2 (ins 0x9D (NOTE_LOW + 256)) first Sta AbsoluteX p refl refl refl refl (ap (λ a. Ok a) (let t : (NOTE_LOW + 256 + m0 NOTES) % 65536 ≡ p = omega (arith, e, one, small) in t)) l (data_place p (omega arith) (omega (arith, small))) refl)
       (after f 2 fits notes_part (notes_in f.code block) 0 (view l x y (eqb (l / 128 % 2) 1) v i (eqb l 0) false (PUSH_AT + 0x24) (lo ∷ hi ∷ []) m1 text answers) _ _ 5 refl
-      (rw kept (placing f 2 fits (ins 0x9D 0xc400) second _ _ [] 4 refl (notes_in f.code block _ _ refl, (notes_in f.code block _ _ refl, (notes_in f.code block _ _ refl, tt))) (stores_at f.code 2 (ins 0x9D 0xc400) second Sta AbsoluteX q refl refl refl refl (ap (λ a. Ok a) (let t : (0xc400 + m0 NOTES) % 65536 ≡ q = omega (arith, e, one, small) in t)) g (data_place q (omega arith) (omega (arith, small))) refl)
+      (rw kept (placing f 2 fits (ins 0x9D (NOTE_HIGH + 256)) second _ _ [] 4 refl (notes_in f.code block _ _ refl, (notes_in f.code block _ _ refl, (notes_in f.code block _ _ refl, tt))) (stores_at f.code 2 (ins 0x9D (NOTE_HIGH + 256)) second Sta AbsoluteX q refl refl refl refl (ap (λ a. Ok a) (let t : (NOTE_HIGH + 256 + m0 NOTES) % 65536 ≡ q = omega (arith, e, one, small) in t)) g (data_place q (omega arith) (omega (arith, small))) refl)
       (after f 2 fits notes_part (notes_in f.code block) 0 (view g x y (eqb (g / 128 % 2) 1) v i (eqb g 0) false (PUSH_AT + 0x29) (lo ∷ hi ∷ []) (with_note (length ns)) text answers) _ _ 3 refl
       (count_plain _ _ _ _ _ _ _ _ (with_note (length ns)) (word_in m0 LEFT) ns s.low s.is small s.noted s.others (λ full. omega (arith, full, s.is, s.low, s.kept, one, e, small))))))))
 
@@ -171,23 +171,23 @@ module _ (f : Setup) (fits : Fits f 2) (block : Holds block_part f.code) (lo hi 
       let w = h.is_word in
       let e = h.count in
       ⊎_elim
-      (λ near. let t : eqb (m0 0xc03D) 0 ≡ true = eq-eqb _ _ near in
+      (λ near. let t : eqb (m0 (NOTES + 1)) 0 ≡ true = eq-eqb _ _ near in
       looser f _ _ _ [] (3 + 8) 13 (omega arith) (λ w h. h)
       (after f 2 fits notes_part (notes_in f.code block) 2 (view a x y n v i z c PUSH_AT (lo ∷ hi ∷ []) m0 text answers) _ _ 8 refl
       (rw t (store_near _ _ _ _ _ _ _ ns left h small near))))
-      (λ far. let t : eqb (m0 0xc03D) 0 ≡ false = ne_eqb _ _ far in
-      let one : m0 0xc03D ≡ 1 = omega (arith, far, e, small) in
+      (λ far. let t : eqb (m0 (NOTES + 1)) 0 ≡ false = ne_eqb _ _ far in
+      let one : m0 (NOTES + 1) ≡ 1 = omega (arith, far, e, small) in
       let room : nat_le 244 (m0 NOTES) ≡ false = lt-leb 244 (m0 NOTES) (omega (arith, one, e, small)) in
       after f 2 fits notes_part (notes_in f.code block) 2 (view a x y n v i z c PUSH_AT (lo ∷ hi ∷ []) m0 text answers) _ _ (2 + 8) refl
       (rw t (after f 2 fits notes_part (notes_in f.code block) 1 (view _ (m0 NOTES) y _ v i _ c (PUSH_AT + 0x1B) (lo ∷ hi ∷ []) m0 text answers) _ _ 8 refl
       (rw room (store_far _ _ _ _ _ _ ns left h small one)))))
-      (cases_eq (m0 0xc03D) 0)
+      (cases_eq (m0 (NOTES + 1)) 0)
 
   push_full : (a x y : ℕ) (n v i z c : Bool) (ns : List ℕ) → Notes m0 ns → length ns ≡ 500 → Comes f (view a x y n v i z c PUSH_AT (lo ∷ hi ∷ []) m0 text answers) (Faulted 4 lo hi nothing m0 text answers) [] 7
   push_full a x y n v i z c ns h full =
       let w = h.is_word in
       let e = h.count in
-      let t : eqb (m0 0xc03D) 0 ≡ false = ne_eqb _ _ (λ q. omega (arith, q, w.0, e, full)) in
+      let t : eqb (m0 (NOTES + 1)) 0 ≡ false = ne_eqb _ _ (λ q. omega (arith, q, w.0, e, full)) in
       let room : nat_le 244 (m0 NOTES) ≡ true = le-leb 244 (m0 NOTES) (omega (arith, w.0, e, full)) in
       after f 2 fits notes_part (notes_in f.code block) 2 (view a x y n v i z c PUSH_AT (lo ∷ hi ∷ []) m0 text answers) _ _ (2 + 2) refl
       (rw t (after f 2 fits notes_part (notes_in f.code block) 1 (view _ (m0 NOTES) y _ v i _ c (PUSH_AT + 0x1B) (lo ∷ hi ∷ []) m0 text answers) _ _ 2 refl
@@ -213,20 +213,20 @@ module _ (f : Setup) (fits : Fits f 2) (block : Holds block_part f.code) (lo hi 
       }
 
   -- RESULT takes A and Y
-  give : (a x y : ℕ) (n v i z c : Bool) (m : ℕ → ℕ) (note : ℕ) (ns : List ℕ) → (a < 256) × (y < 256) × (a + 256 * y ≡ note) → m NOTES < 256 → m 0xc03D < 256 → m NOTES + 256 * m 0xc03D ≡ length ns → length ns < 500 → ((m' : ℕ → ℕ) → ((a : ℕ) → NOTE_LOW ≤ a → m' a ≡ m a) → Noted m' ns) → Changes pop_changes m0 m → Comes f (view a x y n v i z c (PUSH_AT + 0x4C) (lo ∷ hi ∷ []) m text answers) (Popped lo hi m0 text answers note ns) [] 3
+  give : (a x y : ℕ) (n v i z c : Bool) (m : ℕ → ℕ) (note : ℕ) (ns : List ℕ) → (a < 256) × (y < 256) × (a + 256 * y ≡ note) → m NOTES < 256 → m (NOTES + 1) < 256 → m NOTES + 256 * m (NOTES + 1) ≡ length ns → length ns < 500 → ((m' : ℕ → ℕ) → ((a : ℕ) → NOTE_LOW ≤ a → m' a ≡ m a) → Noted m' ns) → Changes pop_changes m0 m → Comes f (view a x y n v i z c (PUSH_AT + 0x4C) (lo ∷ hi ∷ []) m text answers) (Popped lo hi m0 text answers note ns) [] 3
   give a x y n v i z c m note ns word low top is small noted r =
       let m1 = with_byte m RESULT a in
-      let m2 = with_byte m1 0xc067 y in
+      let m2 = with_byte m1 (RESULT + 1) y in
       ending f 2 fits notes_part (notes_in f.code block) 2 (view a x y n v i z c (PUSH_AT + 0x4C) (lo ∷ hi ∷ []) m text answers) _ refl
       (record {
-        back = record { at = refl; on_stack = refl; binary = refl; same_text = refl; same_answers = refl; others = changes_put _ _ _ 0xc067 _ refl (changes_put _ _ _ RESULT _ refl r) };
+        back = record { at = refl; on_stack = refl; binary = refl; same_text = refl; same_answers = refl; others = changes_put _ _ _ (RESULT + 1) _ refl (changes_put _ _ _ RESULT _ refl r) };
         is_word = (word.0, word.1);
         result = word.2;
-        notes = record { is_word = (low, top); count = is; few = omega (arith, small); noted = noted m2 (λ a p. put_other m1 0xc067 y a (λ e. omega (arith, e, p)) ∙ put_other m RESULT _ a (λ e. omega (arith, e, p))) };
+        notes = record { is_word = (low, top); count = is; few = omega (arith, small); noted = noted m2 (λ a p. put_other m1 (RESULT + 1) y a (λ e. omega (arith, e, p)) ∙ put_other m RESULT _ a (λ e. omega (arith, e, p))) };
       })
 
   -- the newest note, on the first page
-  take_near : (a y : ℕ) (n v i z c : Bool) (m : ℕ → ℕ) (note : ℕ) (ns : List ℕ) → m 0xc03D ≡ 0 → (m NOTES + 255) % 256 + 256 * m 0xc03D ≡ length ns → length ns < 500 → Noted m (note ∷ ns) → Changes pop_changes m0 m → Comes f (view a (m NOTES) y n v i z c (PUSH_AT + 0x3D) (lo ∷ hi ∷ []) m text answers) (Popped lo hi m0 text answers note ns) [] 9
+  take_near : (a y : ℕ) (n v i z c : Bool) (m : ℕ → ℕ) (note : ℕ) (ns : List ℕ) → m (NOTES + 1) ≡ 0 → (m NOTES + 255) % 256 + 256 * m (NOTES + 1) ≡ length ns → length ns < 500 → Noted m (note ∷ ns) → Changes pop_changes m0 m → Comes f (view a (m NOTES) y n v i z c (PUSH_AT + 0x3D) (lo ∷ hi ∷ []) m text answers) (Popped lo hi m0 text answers note ns) [] 9
   take_near a y n v i z c m note ns near is small h r =
       let x = (m NOTES + 255) % 256 in
       let p = NOTE_LOW + length ns in
@@ -235,16 +235,16 @@ module _ (f : Setup) (fits : Fits f 2) (block : Holds block_part f.code) (lo hi 
       let g = fetched m note ns h in
       let b = m1 p in
       let d = m1 q in
-      let t : eqb (m 0xc03D) 0 ≡ true = eq-eqb _ _ near in
-      let first = view (m 0xc03D) x y (eqb (m 0xc03D / 128 % 2) 1) v i true c (PUSH_AT + 0x46) (lo ∷ hi ∷ []) m1 text answers in
-      let second = view (m 0xc03D) x d (eqb (d / 128 % 2) 1) v i (eqb d 0) c (PUSH_AT + 0x49) (lo ∷ hi ∷ []) m1 text answers in
+      let t : eqb (m (NOTES + 1)) 0 ≡ true = eq-eqb _ _ near in
+      let first = view (m (NOTES + 1)) x y (eqb (m (NOTES + 1) / 128 % 2) 1) v i true c (PUSH_AT + 0x46) (lo ∷ hi ∷ []) m1 text answers in
+      let second = view (m (NOTES + 1)) x d (eqb (d / 128 % 2) 1) v i (eqb d 0) c (PUSH_AT + 0x49) (lo ∷ hi ∷ []) m1 text answers in
       after f 2 fits notes_part (notes_in f.code block) 3 (view a (m NOTES) y n v i z c (PUSH_AT + 0x3D) (lo ∷ hi ∷ []) m text answers) _ _ (1 + (1 + 3)) refl
       (rw t (placing f 2 fits (ins 0xBC NOTE_HIGH) first _ _ [] (1 + 3) refl (notes_in f.code block _ _ refl, (notes_in f.code block _ _ refl, (notes_in f.code block _ _ refl, tt))) (takes_at f.code 2 (ins 0xBC NOTE_HIGH) first Ldy AbsoluteX q refl refl refl refl (ap (λ a. Ok a) (let t : (NOTE_HIGH + x) % 65536 ≡ q = omega (arith, is, near, small) in t)) d _ (reads_data f.code m1 q (data_place q (omega arith) (omega (arith, small)))) refl)
       (placing f 2 fits (ins 0xBD NOTE_LOW) second _ _ [] 3 refl (notes_in f.code block _ _ refl, (notes_in f.code block _ _ refl, (notes_in f.code block _ _ refl, tt))) (takes_at f.code 2 (ins 0xBD NOTE_LOW) second Lda AbsoluteX p refl refl refl refl (ap (λ a. Ok a) (let t : (NOTE_LOW + x) % 65536 ≡ p = omega (arith, is, near, small) in t)) b _ (reads_data f.code m1 p (data_place p (omega arith) (omega (arith, small)))) refl)
       (give b x d _ _ _ _ _ m1 note ns g.word (omega arith) (omega (arith, near)) is small g.noted (changes_put pop_changes m0 m NOTES x refl r)))))
 
   -- and on the second one
-  take_far : (a y : ℕ) (n v i z c : Bool) (m : ℕ → ℕ) (note : ℕ) (ns : List ℕ) → m 0xc03D ≡ 1 → (m NOTES + 255) % 256 + 256 * m 0xc03D ≡ length ns → length ns < 500 → Noted m (note ∷ ns) → Changes pop_changes m0 m → Comes f (view a (m NOTES) y n v i z c (PUSH_AT + 0x3D) (lo ∷ hi ∷ []) m text answers) (Popped lo hi m0 text answers note ns) [] 10
+  take_far : (a y : ℕ) (n v i z c : Bool) (m : ℕ → ℕ) (note : ℕ) (ns : List ℕ) → m (NOTES + 1) ≡ 1 → (m NOTES + 255) % 256 + 256 * m (NOTES + 1) ≡ length ns → length ns < 500 → Noted m (note ∷ ns) → Changes pop_changes m0 m → Comes f (view a (m NOTES) y n v i z c (PUSH_AT + 0x3D) (lo ∷ hi ∷ []) m text answers) (Popped lo hi m0 text answers note ns) [] 10
   take_far a y n v i z c m note ns far is small h r =
       let x = (m NOTES + 255) % 256 in
       let p = NOTE_LOW + length ns in
@@ -253,12 +253,12 @@ module _ (f : Setup) (fits : Fits f 2) (block : Holds block_part f.code) (lo hi 
       let g = fetched m note ns h in
       let b = m1 p in
       let d = m1 q in
-      let t : eqb (m 0xc03D) 0 ≡ false = ne_eqb _ _ (λ e. omega (arith, e, far)) in
-      let first = view (m 0xc03D) x y (eqb (m 0xc03D / 128 % 2) 1) v i false c (PUSH_AT + 0x53) (lo ∷ hi ∷ []) m1 text answers in
-      let second = view (m 0xc03D) x d (eqb (d / 128 % 2) 1) v i (eqb d 0) c (PUSH_AT + 0x56) (lo ∷ hi ∷ []) m1 text answers in
+      let t : eqb (m (NOTES + 1)) 0 ≡ false = ne_eqb _ _ (λ e. omega (arith, e, far)) in
+      let first = view (m (NOTES + 1)) x y (eqb (m (NOTES + 1) / 128 % 2) 1) v i false c (PUSH_AT + 0x53) (lo ∷ hi ∷ []) m1 text answers in
+      let second = view (m (NOTES + 1)) x d (eqb (d / 128 % 2) 1) v i (eqb d 0) c (PUSH_AT + 0x56) (lo ∷ hi ∷ []) m1 text answers in
       after f 2 fits notes_part (notes_in f.code block) 3 (view a (m NOTES) y n v i z c (PUSH_AT + 0x3D) (lo ∷ hi ∷ []) m text answers) _ _ (1 + (1 + (1 + 3))) refl
-      (rw t (placing f 2 fits (ins 0xBC 0xc400) first _ _ [] (1 + (1 + 3)) refl (notes_in f.code block _ _ refl, (notes_in f.code block _ _ refl, (notes_in f.code block _ _ refl, tt))) (takes_at f.code 2 (ins 0xBC 0xc400) first Ldy AbsoluteX q refl refl refl refl (ap (λ a. Ok a) (let t : (0xc400 + x) % 65536 ≡ q = omega (arith, is, far, small) in t)) d _ (reads_data f.code m1 q (data_place q (omega arith) (omega (arith, small)))) refl)
-      (placing f 2 fits (ins 0xBD 0xc200) second _ _ [] (1 + 3) refl (notes_in f.code block _ _ refl, (notes_in f.code block _ _ refl, (notes_in f.code block _ _ refl, tt))) (takes_at f.code 2 (ins 0xBD 0xc200) second Lda AbsoluteX p refl refl refl refl (ap (λ a. Ok a) (let t : (0xc200 + x) % 65536 ≡ p = omega (arith, is, far, small) in t)) b _ (reads_data f.code m1 p (data_place p (omega arith) (omega (arith, small)))) refl)
+      (rw t (placing f 2 fits (ins 0xBC (NOTE_HIGH + 256)) first _ _ [] (1 + (1 + 3)) refl (notes_in f.code block _ _ refl, (notes_in f.code block _ _ refl, (notes_in f.code block _ _ refl, tt))) (takes_at f.code 2 (ins 0xBC (NOTE_HIGH + 256)) first Ldy AbsoluteX q refl refl refl refl (ap (λ a. Ok a) (let t : (NOTE_HIGH + 256 + x) % 65536 ≡ q = omega (arith, is, far, small) in t)) d _ (reads_data f.code m1 q (data_place q (omega arith) (omega (arith, small)))) refl)
+      (placing f 2 fits (ins 0xBD (NOTE_LOW + 256)) second _ _ [] (1 + 3) refl (notes_in f.code block _ _ refl, (notes_in f.code block _ _ refl, (notes_in f.code block _ _ refl, tt))) (takes_at f.code 2 (ins 0xBD (NOTE_LOW + 256)) second Lda AbsoluteX p refl refl refl refl (ap (λ a. Ok a) (let t : (NOTE_LOW + 256 + x) % 65536 ≡ p = omega (arith, is, far, small) in t)) b _ (reads_data f.code m1 p (data_place p (omega arith) (omega (arith, small)))) refl)
       (after f 2 fits notes_part (notes_in f.code block) 0 (view b x d _ _ _ _ _ (PUSH_AT + 0x59) (lo ∷ hi ∷ []) m1 text answers) _ _ 3 refl
       (give b x d _ _ _ _ _ m1 note ns g.word (omega arith) (omega (arith, far)) is small g.noted (changes_put pop_changes m0 m NOTES x refl r))))))
 
@@ -269,26 +269,26 @@ module _ (f : Setup) (fits : Fits f 2) (block : Holds block_part f.code) (lo hi 
       let few = h.few in
       ⊎_elim
       (λ none. let t : eqb (m0 NOTES) 0 ≡ true = eq-eqb _ _ none in
-      let s : eqb (m0 0xc03D) 0 ≡ false = ne_eqb _ _ (λ x. omega arith) in
+      let s : eqb (m0 (NOTES + 1)) 0 ≡ false = ne_eqb _ _ (λ x. omega arith) in
       after f 2 fits notes_part (notes_in f.code block) 1 (view a x y n v i z c POP_AT (lo ∷ hi ∷ []) m0 text answers) _ _ (2 + (1 + 9)) refl
       (rw t (after f 2 fits notes_part (notes_in f.code block) 1 (view _ (m0 NOTES) _ _ _ _ _ _ (PUSH_AT + 0x35) (lo ∷ hi ∷ []) m0 text answers) _ _ (1 + 9) refl
       (rw s (after f 2 fits notes_part (notes_in f.code block) 0 (view _ (m0 NOTES) _ _ _ _ _ _ (PUSH_AT + 0x3A) (lo ∷ hi ∷ []) m0 text answers) _ _ 9 refl
-      (take_near _ _ _ _ _ _ _ (with_byte m0 0xc03D ((m0 0xc03D + 255) % 256)) note ns (omega arith) (omega arith) (omega arith)
-      (noted_same m0 _ (note ∷ ns) (λ j p. (put_other m0 0xc03D _ _ (λ e. omega arith), put_other m0 0xc03D _ _ (λ e. omega arith))) h.noted) (changes_put _ _ _ 0xc03D _ refl (λ a e. refl))))))))
+      (take_near _ _ _ _ _ _ _ (with_byte m0 (NOTES + 1) ((m0 (NOTES + 1) + 255) % 256)) note ns (omega arith) (omega arith) (omega arith)
+      (noted_same m0 _ (note ∷ ns) (λ j p. (put_other m0 (NOTES + 1) _ _ (λ e. omega arith), put_other m0 (NOTES + 1) _ _ (λ e. omega arith))) h.noted) (changes_put _ _ _ (NOTES + 1) _ refl (λ a e. refl))))))))
       (λ some. let t : eqb (m0 NOTES) 0 ≡ false = ne_eqb _ _ some in
       looser f _ _ _ [] (2 + 10) 14 (omega arith) (λ w h. h)
       (after f 2 fits notes_part (notes_in f.code block) 1 (view a x y n v i z c POP_AT (lo ∷ hi ∷ []) m0 text answers) _ _ 10 refl
       (rw t (⊎_elim
       (λ near. looser f _ _ _ [] 9 10 (omega arith) (λ w h. h) (take_near _ _ _ _ _ _ _ m0 note ns near (omega arith) (omega arith) h.noted (λ a e. refl)))
       (λ far. take_far _ _ _ _ _ _ _ m0 note ns (omega arith) (omega arith) (omega arith) h.noted (λ a e. refl))
-      (cases_eq (m0 0xc03D) 0)))))
+      (cases_eq (m0 (NOTES + 1)) 0)))))
       (cases_eq (m0 NOTES) 0)
 
   pop_none : (a x y : ℕ) (n v i z c : Bool) → Notes m0 [] → Comes f (view a x y n v i z c POP_AT (lo ∷ hi ∷ []) m0 text answers) (Faulted 5 lo hi nothing m0 text answers) [] 6
   pop_none a x y n v i z c h =
       let e = h.count in
       let t : eqb (m0 NOTES) 0 ≡ true = eq-eqb _ _ (omega arith) in
-      let s : eqb (m0 0xc03D) 0 ≡ true = eq-eqb _ _ (omega arith) in
+      let s : eqb (m0 (NOTES + 1)) 0 ≡ true = eq-eqb _ _ (omega arith) in
       after f 2 fits notes_part (notes_in f.code block) 1 (view a x y n v i z c POP_AT (lo ∷ hi ∷ []) m0 text answers) _ _ (2 + 2) refl
       (rw t (after f 2 fits notes_part (notes_in f.code block) 1 (view _ (m0 NOTES) _ _ _ _ _ _ (PUSH_AT + 0x35) (lo ∷ hi ∷ []) m0 text answers) _ _ 2 refl
       (rw s (ending f 2 fits notes_part (notes_in f.code block) 1 (view _ _ _ _ _ _ _ _ (PUSH_AT + 0x5C) (lo ∷ hi ∷ []) m0 text answers) _ refl

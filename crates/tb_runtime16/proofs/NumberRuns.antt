@@ -86,16 +86,16 @@ module _ (f : Setup) (fits : Fits f 6) (block : Holds block_part f.code) (lo hi 
   digit begun ps x top k go d few a y n v i z c m w col counted some h small e =
       let t : eqb y 0 ≡ false = ne_eqb _ _ some in
       let b : bit_or y 48 ≡ 48 + d = ap (λ y. bit_or y 48) counted ∙ digit_text begun d few in
-      let m1 = with_byte (with_byte m RIGHT 48) 0xfe x in
+      let m1 = with_byte (with_byte m RIGHT 48) (RIGHT + 1) x in
       after f 6 fits number_part (number_in f.code block) 1 (view a x y n v i z c (NUMBER_AT + 50) own m text answers) _ _ (5 + (7 + (1 + k))) refl
       (rw t (after f 6 fits number_part (number_in f.code block) 4 (view y x y _ v i _ c (NUMBER_AT + 53) own m text answers) _ _ (7 + (1 + k)) refl
       (rw b (calls f own _ _ _ _ _ _ _ _ SEND_AT ((NUMBER_AT + 63) % 256) ((NUMBER_AT + 63) / 256) m1 text answers _ _ ((48 + d) ∷ []) (sent ps true w) 7 (1 + k)
       (send_law (under f own) (omega (arith, fits)) block ((NUMBER_AT + 63) % 256) ((NUMBER_AT + 63) / 256) text answers m1 (48 + d) _ _ _ _ _ _ _ (omega (arith, few)))
       (λ a x' y n v i z c u g.
       let kept : (p : ℕ) → p ≢ COLUMN → u p ≡ m1 p = g.others in
-      let x_is : u 0xfe ≡ x = kept 0xfe (λ q. omega (arith, q)) in
+      let x_is : u (RIGHT + 1) ≡ x = kept (RIGHT + 1) (λ q. omega (arith, q)) in
       let low : u LEFT ≡ m LEFT = kept LEFT (λ q. omega (arith, q)) in
-      let high : u 0xfc ≡ m 0xfc = kept 0xfc (λ q. omega (arith, q)) in
+      let high : u (LEFT + 1) ≡ m (LEFT + 1) = kept (LEFT + 1) (λ q. omega (arith, q)) in
       let next : u COLUMN ≡ (m COLUMN + 1) % 256 = g.column ∙ ap (λ n. n % 256) (column_on (m COLUMN) (48 + d) (λ q. omega (arith, q))) in
       after f 6 fits number_part (number_in f.code block) 0 (view a x' y n v i z c (NUMBER_AT + 64) own u text answers) _ _ k refl
       (rw x_is (go _ _ _ _ _ _ _ u w col
@@ -103,7 +103,7 @@ module _ (f : Setup) (fits : Fits f 6) (block : Holds block_part f.code) (lo hi 
         is_word = (omega (arith, low, h.is_word), omega (arith, high, h.is_word));
         is = omega (arith, low, high, h.is);
         counts = kept RIGHT (λ q. omega (arith, q));
-        others = λ p s t. kept p t ∙ skip is_argument (with_byte m RIGHT 48) 0xfe x p refl s ∙ skip is_argument m RIGHT 48 p refl s ∙ h.others p s t;
+        others = λ p s t. kept p t ∙ skip is_argument (with_byte m RIGHT 48) (RIGHT + 1) x p refl s ∙ skip is_argument m RIGHT 48 p refl s ∙ h.others p s t;
         column = omega (arith, next);
       }) small (one_later (m COLUMN) (u COLUMN) (length (sent ps true w)) next ∙ e))))))))
 
@@ -112,10 +112,10 @@ module _ (f : Setup) (fits : Fits f 6) (block : Holds block_part f.code) (lo hi 
   low_left m l = (m LEFT + 256 - l) % 256
 
   abbrev high_left : (ℕ → ℕ) → ℕ → ℕ → ℕ
-  high_left m l h = (m 0xfc + 256 - (h + bit (not (nat_le l (m LEFT))))) % 256
+  high_left m l h = (m (LEFT + 1) + 256 - (h + bit (not (nat_le l (m LEFT))))) % 256
 
   abbrev goes_in : (ℕ → ℕ) → ℕ → ℕ → Bool
-  goes_in m l h = nat_le (h + bit (not (nat_le l (m LEFT)))) (m 0xfc)
+  goes_in m l h = nat_le (h + bit (not (nat_le l (m LEFT)))) (m (LEFT + 1))
 
   -- a comparison of LEFT with the power at X, and then
   abbrev Weighs : ℕ → ℕ → ℕ → Type 1
@@ -123,14 +123,14 @@ module _ (f : Setup) (fits : Fits f 6) (block : Holds block_part f.code) (lo hi 
 
   -- the power is taken from LEFT and counted, and then
   abbrev Takes : ℕ → ℕ → Type 1
-  Takes x l = (a y : ℕ) (n v i z : Bool) (m : ℕ → ℕ) (q : View → Type 0) (t : List ℕ) (k : ℕ) → ((n v c : Bool) → Comes f (view (low_left m l) x ((y + 1) % 256) n v i (eqb ((y + 1) % 256) 0) c (NUMBER_AT + 48) own (with_byte (with_byte m 0xfc a) LEFT (low_left m l)) text answers) q t k) → Comes f (view a x y n v i z true (NUMBER_AT + 38) own m text answers) q t (5 + k)
+  Takes x l = (a y : ℕ) (n v i z : Bool) (m : ℕ → ℕ) (q : View → Type 0) (t : List ℕ) (k : ℕ) → ((n v c : Bool) → Comes f (view (low_left m l) x ((y + 1) % 256) n v i (eqb ((y + 1) % 256) 0) c (NUMBER_AT + 48) own (with_byte (with_byte m (LEFT + 1) a) LEFT (low_left m l)) text answers) q t k) → Comes f (view a x y n v i z true (NUMBER_AT + 38) own m text answers) q t (5 + k)
 
   module _ (x l h : ℕ) (l_small : l < 256) (h_small : h < 256) (weighs : Weighs x l h) (takes : Takes x l) where
     abbrev p : ℕ
     p = l + 256 * h
 
     abbrev Away : (ℕ → ℕ) → (ℕ → ℕ) → Type 0
-    Away m m' = (a : ℕ) → a ≢ LEFT → a ≢ 0xfc → m' a ≡ m a
+    Away m m' = (a : ℕ) → a ≢ LEFT → a ≢ LEFT + 1 → m' a ≡ m a
 
     -- behind the comparison that fails, with the count y and the rest r
     abbrev Stops : (ℕ → ℕ) → Bool → ℕ → ℕ → (View → Type 0) → List ℕ → ℕ → Type 0
@@ -139,19 +139,19 @@ module _ (f : Setup) (fits : Fits f 6) (block : Holds block_part f.code) (lo hi 
     -- d times the power, and a rest
     down : (d r : ℕ) → r < p → (a y : ℕ) (n v i z c : Bool) (m : ℕ → ℕ) (q : View → Type 0) (t : List ℕ) (k : ℕ) → IsWord m LEFT → word_in m LEFT ≡ d * p + r → y + d < 256 → Stops m i (y + d) r q t k → Comes f (view a x y n v i z c (NUMBER_AT + 26) own m text answers) q t (11 * d + (5 + k))
     down zero r less a y n v i z c m q t k w e few stop =
-        let total : m LEFT + 256 * m 0xfc ≡ r = e ∙ (let z : 0 * p + r ≡ r = omega arith in z) in
-        let b = carry_below (m LEFT) (m 0xfc) l h w.0 w.1 l_small h_small (omega (arith, total, less)) in
+        let total : m LEFT + 256 * m (LEFT + 1) ≡ r = e ∙ (let z : 0 * p + r ≡ r = omega arith in z) in
+        let b = carry_below (m LEFT) (m (LEFT + 1)) l h w.0 w.1 l_small h_small (omega (arith, total, less)) in
         looser f _ _ _ t (4 + (1 + k)) (11 * 0 + (5 + k)) (omega arith) (λ w h. h)
         (weighs a y n v i z c m q t (1 + k) (λ n v z.
         after f 6 fits number_part (number_in f.code block) 0 (view (high_left m l h) x y n v i z (goes_in m l h) (NUMBER_AT + 36) own m text answers) _ _ k refl
         (rw b (stop _ y _ _ _ _ m (let s : y ≡ y + 0 = omega arith in s) w total (λ a s t. refl)))))
     down (suc d) r less a y n v i z c m q t k w e few stop =
-        let total : m LEFT + 256 * m 0xfc ≡ d * p + p + r = e ∙ ap (λ n. n + r) (times_more d p) in
-        let b = carry_at_least (m LEFT) (m 0xfc) l h w.0 w.1 l_small h_small (omega (arith, total)) in
+        let total : m LEFT + 256 * m (LEFT + 1) ≡ d * p + p + r = e ∙ ap (λ n. n + r) (times_more d p) in
+        let b = carry_at_least (m LEFT) (m (LEFT + 1)) l h w.0 w.1 l_small h_small (omega (arith, total)) in
         let nz : eqb ((y + 1) % 256) 0 ≡ false = ne_eqb _ _ (λ q. omega (arith, few, q)) in
         let up : (y + 1) % 256 + d ≡ y + suc d = omega (arith, few) in
         let high = high_left m l h in
-        let m1 = with_byte (with_byte m 0xfc high) LEFT (low_left m l) in
+        let m1 = with_byte (with_byte m (LEFT + 1) high) LEFT (low_left m l) in
         let left : low_left m l + 256 * high ≡ d * p + r = omega (arith, total, borrow l (m LEFT) (omega (arith, l_small)) w.0, w, l_small, h_small) in
         looser f _ _ _ t (4 + (1 + (5 + (1 + (11 * d + (5 + k)))))) (11 * suc d + (5 + k)) (omega arith) (λ w h. h)
         (weighs a y n v i z c m q t (1 + (5 + (1 + (11 * d + (5 + k))))) (λ n v z.
@@ -159,7 +159,7 @@ module _ (f : Setup) (fits : Fits f 6) (block : Holds block_part f.code) (lo hi 
         (rw b (takes high y n v i z m q t (1 + (11 * d + (5 + k))) (λ n v c.
         after f 6 fits number_part (number_in f.code block) 0 (view (low_left m l) x ((y + 1) % 256) n v i (eqb ((y + 1) % 256) 0) c (NUMBER_AT + 48) own m1 text answers) _ _ (11 * d + (5 + k)) refl
         (rw nz (down d r less _ ((y + 1) % 256) _ _ _ _ _ m1 q t k (omega arith, omega arith) left (omega (arith, up, few))
-        (λ a y' n v z c m' s g u away. stop a y' n v z c m' (s ∙ up) g u (λ a p1 p2. away a p1 p2 ∙ put_other (with_byte m 0xfc high) LEFT (low_left m l) a p1 ∙ put_other m 0xfc high a p2)))))))))
+        (λ a y' n v z c m' s g u away. stop a y' n v z c m' (s ∙ up) g u (λ a p1 p2. away a p1 p2 ∙ put_other (with_byte m (LEFT + 1) high) LEFT (low_left m l) a p1 ∙ put_other m (LEFT + 1) high a p2)))))))))
 
     left_of : (begun : Bool) (m m' : ℕ → ℕ) (w r : ℕ) → Left begun w m → IsWord m' LEFT → word_in m' LEFT ≡ r → Away m m' → Left begun r m'
     unfolding Rest
@@ -167,7 +167,7 @@ module _ (f : Setup) (fits : Fits f 6) (block : Holds block_part f.code) (lo hi 
       is_word = is_word;
       is = is;
       counts = away RIGHT (λ q. omega (arith, q)) (λ q. omega (arith, q)) ∙ g.counts;
-      others = λ a s t. away a (no_argument a LEFT s refl) (no_argument a 0xfc s refl) ∙ g.others a s t;
+      others = λ a s t. away a (no_argument a LEFT s refl) (no_argument a (LEFT + 1) s refl) ∙ g.others a s t;
       column = omega (arith, g.column, away COLUMN (λ q. omega (arith, q)) (λ q. omega (arith, q)));
     }
 
@@ -233,21 +233,21 @@ module _ (f : Setup) (fits : Fits f 6) (block : Holds block_part f.code) (lo hi 
 
   -- ---- the whole
   -- from 100 on where the number is below 256
-  plain_byte : (a x y : ℕ) (n v i z c : Bool) (m : ℕ → ℕ) (w col : ℕ) → m 0xfc ≡ 0 → Left false w (with_byte m RIGHT 0) → w < 1000 → (m COLUMN + length (digits_before 5 w [])) % 256 ≡ col → Comes f (view a x y n v i z c (NUMBER_AT + 12) own m text answers) (Back lo hi text answers (Done col)) (digits_before 5 w []) (5 + (1 + 254))
+  plain_byte : (a x y : ℕ) (n v i z c : Bool) (m : ℕ → ℕ) (w col : ℕ) → m (LEFT + 1) ≡ 0 → Left false w (with_byte m RIGHT 0) → w < 1000 → (m COLUMN + length (digits_before 5 w [])) % 256 ≡ col → Comes f (view a x y n v i z c (NUMBER_AT + 12) own m text answers) (Back lo hi text answers (Done col)) (digits_before 5 w []) (5 + (1 + 254))
   unfolding From
   plain_byte a x y n v i z c m w col none ready few l =
       let t : sent (100 ∷ 10 ∷ []) false w ≡ digits_before 5 w [] = hundreds 2 w few in
-      let b : eqb (m 0xfc) 0 ≡ true = eq-eqb _ _ none in
+      let b : eqb (m (LEFT + 1)) 0 ≡ true = eq-eqb _ _ none in
       subst (λ s. Comes f (view a x y n v i z c (NUMBER_AT + 12) own m text answers) (Back lo hi text answers (Done col)) s (5 + (1 + 254))) t
       (after f 6 fits number_part (number_in f.code block) 4 (view a x y n v i z c (NUMBER_AT + 12) own m text answers) _ _ (1 + 254) refl
       (rw b (after f 6 fits number_part (number_in f.code block) 0 (view _ _ _ _ _ _ _ _ (NUMBER_AT + 22) own (with_byte m RIGHT 0) text answers) _ _ 254 refl
       (hundreds_on false _ _ _ _ _ _ _ (with_byte m RIGHT 0) w col ready few (ap (λ s. (m COLUMN + length s) % 256) t ∙ l)))))
 
-  plain_word : (a x y : ℕ) (n v i z c : Bool) (m : ℕ → ℕ) (w col : ℕ) → m 0xfc ≢ 0 → Left false w (with_byte m RIGHT 0) → w < 40000 → w < 100000 → (m COLUMN + length (digits_before 5 w [])) % 256 ≡ col → Comes f (view a x y n v i z c (NUMBER_AT + 12) own m text answers) (Back lo hi text answers (Done col)) (digits_before 5 w []) (5 + 432)
+  plain_word : (a x y : ℕ) (n v i z c : Bool) (m : ℕ → ℕ) (w col : ℕ) → m (LEFT + 1) ≢ 0 → Left false w (with_byte m RIGHT 0) → w < 40000 → w < 100000 → (m COLUMN + length (digits_before 5 w [])) % 256 ≡ col → Comes f (view a x y n v i z c (NUMBER_AT + 12) own m text answers) (Back lo hi text answers (Done col)) (digits_before 5 w []) (5 + 432)
   unfolding From
   plain_word a x y n v i z c m w col some ready few many l =
       let t : sent (10000 ∷ 1000 ∷ 100 ∷ 10 ∷ []) false w ≡ digits_before 5 w [] = ten_thousands w many in
-      let b : eqb (m 0xfc) 0 ≡ false = ne_eqb _ _ some in
+      let b : eqb (m (LEFT + 1)) 0 ≡ false = ne_eqb _ _ some in
       subst (λ s. Comes f (view a x y n v i z c (NUMBER_AT + 12) own m text answers) (Back lo hi text answers (Done col)) s (5 + 432)) t
       (after f 6 fits number_part (number_in f.code block) 4 (view a x y n v i z c (NUMBER_AT + 12) own m text answers) _ _ 432 refl
       (rw b (all_on false _ _ _ _ _ _ _ (with_byte m RIGHT 0) w col ready few (ap (λ s. (m COLUMN + length s) % 256) t ∙ l))))
@@ -262,7 +262,7 @@ module _ (f : Setup) (fits : Fits f 6) (block : Holds block_part f.code) (lo hi 
       (λ none. looser f _ _ _ (digits_before 5 w []) (5 + (1 + 254)) 437 (omega arith) (λ w h. h)
       (plain_byte a x y n v i z c m w col none ready (omega (arith, e, none, p)) l))
       (λ some. plain_word a x y n v i z c m w col some ready few many l)
-      (cases_eq (m 0xfc) 0)
+      (cases_eq (m (LEFT + 1)) 0)
 
   -- behind the sign
   negative : (a x y : ℕ) (n v i z c : Bool) (m : ℕ → ℕ) (col : ℕ) → IsWord m LEFT → is_negative (word_in m LEFT) ≡ true → Rest m → m COLUMN < 256 → (m COLUMN + length (digits_before 5 (magnitude (word_in m LEFT)) [])) % 256 ≡ col → Comes f (view a x y n v i z c (NUMBER_AT + 9) own m text answers) (Back lo hi text answers (Done col)) (digits_before 5 (magnitude (word_in m LEFT)) []) (1 + (9 + 437))
@@ -286,7 +286,7 @@ module _ (f : Setup) (fits : Fits f 6) (block : Holds block_part f.code) (lo hi 
       (send_law (under f own) (omega (arith, fits)) block ((NUMBER_AT + 8) % 256) ((NUMBER_AT + 8) / 256) text answers m 45 x y _ v i _ c (omega arith))
       (λ a x y n v i z c u g.
       let low : u LEFT ≡ m LEFT = g.others LEFT (λ q. omega (arith, q)) in
-      let high : u 0xfc ≡ m 0xfc = g.others 0xfc (λ q. omega (arith, q)) in
+      let high : u (LEFT + 1) ≡ m (LEFT + 1) = g.others (LEFT + 1) (λ q. omega (arith, q)) in
       let same : word_in u LEFT ≡ word_in m LEFT = omega (arith, low, high) in
       let next : u COLUMN ≡ (m COLUMN + 1) % 256 = g.column in
       subst (λ w. Comes f (view a x y n v i z c (NUMBER_AT + 9) own u text answers) (Back lo hi text answers (Done col)) (digits_before 5 (magnitude w) []) (1 + (9 + 437))) same
@@ -296,14 +296,14 @@ module _ (f : Setup) (fits : Fits f 6) (block : Holds block_part f.code) (lo hi 
   unfolding Rest
   whole a x y n v i z c p q =
       let w = word_in m0 LEFT in
-      let s = sign_of (m0 LEFT) (m0 0xfc) p.0 p.1 in
+      let s = sign_of (m0 LEFT) (m0 (LEFT + 1)) p.0 p.1 in
       ⊎_elim
-      (λ t. let b : eqb (m0 0xfc / 128 % 2) 1 ≡ true = s ∙ t in
+      (λ t. let b : eqb (m0 (LEFT + 1) / 128 % 2) 1 ≡ true = s ∙ t in
       let d : digits_of w ≡ 45 ∷ digits_before 5 (magnitude w) [] = ap (λ b. if b then 45 ∷ digits_before 5 (magnitude w) [] else digits_before 5 w []) t in
       subst (λ d. Comes f (view a x y n v i z c NUMBER_AT own m0 text answers) (Back lo hi text answers (Done ((m0 COLUMN + length d) % 256))) d 458) (sym d)
       (after f 6 fits number_part (number_in f.code block) 1 (view a x y n v i z c NUMBER_AT own m0 text answers) _ _ (2 + (7 + (1 + (9 + 437)))) refl
       (rw b (minus _ _ _ _ _ _ _ _ m0 _ p t (λ a b d. refl) refl))))
-      (λ t. let b : eqb (m0 0xfc / 128 % 2) 1 ≡ false = s ∙ t in
+      (λ t. let b : eqb (m0 (LEFT + 1) / 128 % 2) 1 ≡ false = s ∙ t in
       let below = sign_none w t in
       let d : digits_of w ≡ digits_before 5 w [] = ap (λ b. if b then 45 ∷ digits_before 5 (magnitude w) [] else digits_before 5 w []) t in
       subst (λ d. Comes f (view a x y n v i z c NUMBER_AT own m0 text answers) (Back lo hi text answers (Done ((m0 COLUMN + length d) % 256))) d 458) (sym d)

@@ -11,7 +11,7 @@ use Rattle.tb_reaching.specs.Start.{setup_of, view_of}
 use Rattle.tb_reaching.proofs.Comes.{after, ending}
 use Rattle.tb_reaching.proofs.Special.{taking_s}
 use Rattle.tb_reaching.proofs.Start.{length_from, fits_start, homed_start, zero_at}
-use Rattle.tb_runtime16.specs.Places.{HOME_S}
+use Rattle.tb_runtime16.specs.Places.{HOME_S, VARS, SEEDED, SEED, NOTES}
 use Rattle.tb_runtime16.specs.Ends.{Begun, PrologueLaw}
 use Rattle.tb_runtime16.proofs.Within.{prologue_part, prologue_in}
 
@@ -21,14 +21,14 @@ inside lo hi a h = (grind (arith, nat_tests), grind (arith, nat_tests))
 -- bytes from the last of n down to the first cleared
 abbrev cleared_to : ℕ → (ℕ → ℕ) → ℕ → ℕ
 cleared_to zero m = m
-cleared_to (suc n) m = cleared_to n (with_byte m (0xc000 + n) 0)
+cleared_to (suc n) m = cleared_to n (with_byte m (VARS + n) 0)
 
 put_small : (m : ℕ → ℕ) (at b : ℕ) → b < 256 → ((a : ℕ) → m a < 256) → (a : ℕ) → with_byte m at b a < 256
 put_small m at b small h a = ⊎_elim (λ e. let s = put_same m at b a e in omega (arith, s, small)) (λ e. let s = put_other m at b a e in omega (arith, s, h a)) (cases_eq a at)
 
 cleared_small : (n : ℕ) (m : ℕ → ℕ) → ((a : ℕ) → m a < 256) → (a : ℕ) → cleared_to n m a < 256
 cleared_small zero m h = h
-cleared_small (suc n) m h = cleared_small n (with_byte m (0xc000 + n) 0) (put_small m (0xc000 + n) 0 (omega arith) h)
+cleared_small (suc n) m h = cleared_small n (with_byte m (VARS + n) 0) (put_small m (VARS + n) 0 (omega arith) h)
 
 pub prologue_law : PrologueLaw
 prologue_law place bytes from to inner holds block s h =
@@ -47,7 +47,7 @@ prologue_law place bytes from to inner holds block s h =
       binary = refl;
       same_text = refl;
       same_answers = refl;
-      cleared = λ a e. ⊎_elim (λ r. let p = inside 0xc000 0xc036 a r in zero_at last 0xc000 55 refl a p.0 (omega (arith, p.1))) (λ r. let p = inside 0xc038 0xc03d a r in zero_at last 0xc038 6 refl a p.0 (omega (arith, p.1))) (or_cases _ _ e);
+      cleared = λ a e. ⊎_elim (λ r. let p = inside VARS SEEDED a r in zero_at last VARS 55 refl a p.0 (omega (arith, p.1))) (λ r. let p = inside SEED (NOTES + 1) a r in zero_at last SEED 6 refl a p.0 (omega (arith, p.1))) (or_cases _ _ e);
       bytes = put_small w.mem HOME_S s.regs.s (omega (arith, h.s_to)) (cleared_small 62 s.mem h.holds_bytes);
       entered = record {
         homed = homed_start place bytes from to inner holds s h;

@@ -14,12 +14,11 @@ use Rattle.tb_runtime16.specs.Places.{MULTIPLY_AT, RANDOM_AT, LEFT, RIGHT, RESUL
 use Rattle.tb_runtime16.specs.Block.{block_part}
 use Rattle.tb_runtime16.specs.Laws.{is_argument, is_seed, unsigned_at, IsWord, Back, Faults, Drawn, seed_of, RandomLaw, RandomRangeLaw}
 use Rattle.tb_runtime16.proofs.Within.{random_part, random_in}
-use Rattle.tb_runtime16.proofs.Words.{added}
+use Rattle.tb_runtime16.proofs.Words.{small_byte, added}
 use Rattle.tb_runtime16.proofs.Frames.{skip}
 use Rattle.tb_runtime16.proofs.Called.{calls, back_looser}
 use Rattle.tb_runtime16.proofs.MultiplyRuns.{multiply_law}
 use Rattle.tb_runtime16.proofs.UnsignedRuns.{unsigned_law}
-use Rattle.tb_runtime16.proofs.WideRuns.{byte_of}
 
 module _ (f : Setup) (fits : Fits f 6) (block : Holds block_part f.code) (lo hi : ℕ) (text answers : List ℕ) (m0 : ℕ → ℕ) (p : IsWord m0 LEFT) (least : 1 ≤ word_in m0 LEFT) (most : word_in m0 LEFT < 32768) where
   Rest : (ℕ → ℕ) → Type 0
@@ -29,7 +28,7 @@ module _ (f : Setup) (fits : Fits f 6) (block : Holds block_part f.code) (lo hi 
   Goal seed v n = Comes f v (Back lo hi text answers (Drawn m0 (word_in m0 LEFT) seed)) [] n
 
   -- the division, with the new state in LEFT and SEED
-  draw : (a x y : ℕ) (n v i z c : Bool) (m : ℕ → ℕ) (seed : ℕ) → IsWord m LEFT → word_in m LEFT ≡ seed_after seed → m RIGHT ≡ m0 LEFT → m 0xfe ≡ m0 0xfc → IsWord m SEED → word_in m SEED ≡ seed_after seed → m SEEDED ≡ 1 → Rest m → Goal seed (view a x y n v i z c unsigned_at (lo ∷ hi ∷ []) m text answers) 268
+  draw : (a x y : ℕ) (n v i z c : Bool) (m : ℕ → ℕ) (seed : ℕ) → IsWord m LEFT → word_in m LEFT ≡ seed_after seed → m RIGHT ≡ m0 LEFT → m (RIGHT + 1) ≡ m0 (LEFT + 1) → IsWord m SEED → word_in m SEED ≡ seed_after seed → m SEEDED ≡ 1 → Rest m → Goal seed (view a x y n v i z c unsigned_at (lo ∷ hi ∷ []) m text answers) 268
   unfolding Rest
   draw a x y n v i z c m seed l le low high s se set r =
       let same : word_in m RIGHT ≡ word_in m0 LEFT = omega (arith, low, high) in
@@ -38,8 +37,8 @@ module _ (f : Setup) (fits : Fits f 6) (block : Holds block_part f.code) (lo hi 
       (λ w g. record {
         is_word = g.result_is;
         value = g.result ∙ ap (λ n. n % word_in m RIGHT) le ∙ ap (λ d. seed_after seed % d) same;
-        seed_is = (omega (arith, g.others SEED refl, s), omega (arith, g.others 0xc039 refl, s));
-        seed_at = omega (arith, g.others SEED refl, g.others 0xc039 refl, se);
+        seed_is = (omega (arith, g.others SEED refl, s), omega (arith, g.others (SEED + 1) refl, s));
+        seed_at = omega (arith, g.others SEED refl, g.others (SEED + 1) refl, se);
         seeded = g.others SEEDED refl ∙ set;
         others = λ a b d e. g.others a b ∙ r a b d e;
       })
@@ -52,35 +51,35 @@ module _ (f : Setup) (fits : Fits f 6) (block : Holds block_part f.code) (lo hi 
   new_high l h = (h + 54 + bit (nat_lt 255 (l + 25 + 0))) % 256
 
   abbrev stored : (ℕ → ℕ) → ℕ → ℕ
-  stored w = with_byte (with_byte (with_byte (with_byte w SEED (new_low (w RESULT))) LEFT (new_low (w RESULT))) 0xc039 (new_high (w RESULT) (w 0xc067))) 0xfc (new_high (w RESULT) (w 0xc067))
+  stored w = with_byte (with_byte (with_byte (with_byte w SEED (new_low (w RESULT))) LEFT (new_low (w RESULT))) (SEED + 1) (new_high (w RESULT) (w (RESULT + 1)))) (LEFT + 1) (new_high (w RESULT) (w (RESULT + 1)))
 
-  store : (a x y : ℕ) (n v i z c : Bool) (w : ℕ → ℕ) (seed : ℕ) → IsWord w RESULT → word_in w RESULT ≡ 25173 * seed % 65536 → w SEEDED ≡ 1 → Rest w → Goal seed (view a x y n v i z c (RANDOM_AT + 52) (m0 0xfc ∷ m0 LEFT ∷ lo ∷ hi ∷ []) w text answers) (14 + 268)
+  store : (a x y : ℕ) (n v i z c : Bool) (w : ℕ → ℕ) (seed : ℕ) → IsWord w RESULT → word_in w RESULT ≡ 25173 * seed % 65536 → w SEEDED ≡ 1 → Rest w → Goal seed (view a x y n v i z c (RANDOM_AT + 52) (m0 (LEFT + 1) ∷ m0 LEFT ∷ lo ∷ hi ∷ []) w text answers) (14 + 268)
   unfolding Rest
   store a x y n v i z c w seed k e set r =
-      let s = added (w RESULT) (w 0xc067) 25 54 k.0 k.1 (omega arith) (omega arith) in
-      let total : new_low (w RESULT) + 256 * new_high (w RESULT) (w 0xc067) ≡ seed_after seed = s ∙ ap (λ x. (x + 13849) % 65536) e ∙ mod-add-mod (25173 * seed) 65536 13849 in
-      after f 6 fits random_part (random_in f.code block) 13 (view a x y n v i z c (RANDOM_AT + 52) (m0 0xfc ∷ m0 LEFT ∷ lo ∷ hi ∷ []) w text answers) _ _ 268 refl
-      (draw _ _ _ _ _ _ _ _ (with_byte (with_byte (stored w) 0xfe (m0 0xfc)) RIGHT (m0 LEFT)) seed (byte_of (w RESULT + 25 + 0), byte_of (w 0xc067 + 54 + bit (nat_lt 255 (w RESULT + 25 + 0)))) total refl refl (byte_of (w RESULT + 25 + 0), byte_of (w 0xc067 + 54 + bit (nat_lt 255 (w RESULT + 25 + 0)))) total set
-      (λ a b d e'. skip is_argument (with_byte (stored w) 0xfe (m0 0xfc)) RIGHT (m0 LEFT) a refl b ∙ skip is_argument (stored w) 0xfe (m0 0xfc) a refl b ∙ stored_skip w a b e' ∙ r a b d e'))
+      let s = added (w RESULT) (w (RESULT + 1)) 25 54 k.0 k.1 (omega arith) (omega arith) in
+      let total : new_low (w RESULT) + 256 * new_high (w RESULT) (w (RESULT + 1)) ≡ seed_after seed = s ∙ ap (λ x. (x + 13849) % 65536) e ∙ mod-add-mod (25173 * seed) 65536 13849 in
+      after f 6 fits random_part (random_in f.code block) 13 (view a x y n v i z c (RANDOM_AT + 52) (m0 (LEFT + 1) ∷ m0 LEFT ∷ lo ∷ hi ∷ []) w text answers) _ _ 268 refl
+      (draw _ _ _ _ _ _ _ _ (with_byte (with_byte (stored w) (RIGHT + 1) (m0 (LEFT + 1))) RIGHT (m0 LEFT)) seed (small_byte (w RESULT + 25 + 0), small_byte (w (RESULT + 1) + 54 + bit (nat_lt 255 (w RESULT + 25 + 0)))) total refl refl (small_byte (w RESULT + 25 + 0), small_byte (w (RESULT + 1) + 54 + bit (nat_lt 255 (w RESULT + 25 + 0)))) total set
+      (λ a b d e'. skip is_argument (with_byte (stored w) (RIGHT + 1) (m0 (LEFT + 1))) RIGHT (m0 LEFT) a refl b ∙ skip is_argument (stored w) (RIGHT + 1) (m0 (LEFT + 1)) a refl b ∙ stored_skip w a b e' ∙ r a b d e'))
     where
       stored_skip : (w : ℕ → ℕ) (a : ℕ) → is_argument a ≡ false → is_seed a ≡ false → stored w a ≡ w a
       stored_skip w a b e =
-          skip is_argument (with_byte (with_byte (with_byte w SEED (new_low (w RESULT))) LEFT (new_low (w RESULT))) 0xc039 (new_high (w RESULT) (w 0xc067))) 0xfc (new_high (w RESULT) (w 0xc067)) a refl b
-          ∙ skip is_seed (with_byte (with_byte w SEED (new_low (w RESULT))) LEFT (new_low (w RESULT))) 0xc039 (new_high (w RESULT) (w 0xc067)) a refl e
+          skip is_argument (with_byte (with_byte (with_byte w SEED (new_low (w RESULT))) LEFT (new_low (w RESULT))) (SEED + 1) (new_high (w RESULT) (w (RESULT + 1)))) (LEFT + 1) (new_high (w RESULT) (w (RESULT + 1))) a refl b
+          ∙ skip is_seed (with_byte (with_byte w SEED (new_low (w RESULT))) LEFT (new_low (w RESULT))) (SEED + 1) (new_high (w RESULT) (w (RESULT + 1))) a refl e
           ∙ skip is_argument (with_byte w SEED (new_low (w RESULT))) LEFT (new_low (w RESULT)) a refl b
           ∙ skip is_seed w SEED (new_low (w RESULT)) a refl e
 
   -- the old state is in RIGHT
-  advance : (a x y : ℕ) (n v i z c : Bool) (m : ℕ → ℕ) (seed : ℕ) → m LEFT ≡ m0 LEFT → m 0xfc ≡ m0 0xfc → IsWord m RIGHT → word_in m RIGHT ≡ seed → Rest m → Goal seed (view a x y n v i z c (RANDOM_AT + 30) (lo ∷ hi ∷ []) m text answers) (11 + (245 + (14 + 268)))
+  advance : (a x y : ℕ) (n v i z c : Bool) (m : ℕ → ℕ) (seed : ℕ) → m LEFT ≡ m0 LEFT → m (LEFT + 1) ≡ m0 (LEFT + 1) → IsWord m RIGHT → word_in m RIGHT ≡ seed → Rest m → Goal seed (view a x y n v i z c (RANDOM_AT + 30) (lo ∷ hi ∷ []) m text answers) (11 + (245 + (14 + 268)))
   unfolding Rest
   advance a x y n v i z c m seed low high k e r =
-      let w = with_byte (with_byte (with_byte m SEEDED 1) LEFT 85) 0xfc 98 in
+      let w = with_byte (with_byte (with_byte m SEEDED 1) LEFT 85) (LEFT + 1) 98 in
       after f 6 fits random_part (random_in f.code block) 10 (view a x y n v i z c (RANDOM_AT + 30) (lo ∷ hi ∷ []) m text answers) _ _ (245 + (14 + 268)) refl
-      (calls f (m 0xfc ∷ m LEFT ∷ lo ∷ hi ∷ []) _ _ _ _ _ _ _ _ MULTIPLY_AT ((RANDOM_AT + 51) % 256) ((RANDOM_AT + 51) / 256) w text answers _ _ [] [] 245 (14 + 268)
-      (multiply_law (under f (m 0xfc ∷ m LEFT ∷ lo ∷ hi ∷ [])) (omega (arith, fits)) block ((RANDOM_AT + 51) % 256) ((RANDOM_AT + 51) / 256) text answers w _ _ _ _ _ _ _ _ (omega arith, omega arith) k)
-      (λ a x y n v i z c u g. subst (λ s. Goal seed (view a x y n v i z c (RANDOM_AT + 52) s u text answers) (14 + 268)) (ap (λ h. h ∷ m0 LEFT ∷ lo ∷ hi ∷ []) (sym high) ∙ ap (λ l. m 0xfc ∷ l ∷ lo ∷ hi ∷ []) (sym low))
+      (calls f (m (LEFT + 1) ∷ m LEFT ∷ lo ∷ hi ∷ []) _ _ _ _ _ _ _ _ MULTIPLY_AT ((RANDOM_AT + 51) % 256) ((RANDOM_AT + 51) / 256) w text answers _ _ [] [] 245 (14 + 268)
+      (multiply_law (under f (m (LEFT + 1) ∷ m LEFT ∷ lo ∷ hi ∷ [])) (omega (arith, fits)) block ((RANDOM_AT + 51) % 256) ((RANDOM_AT + 51) / 256) text answers w _ _ _ _ _ _ _ _ (omega arith, omega arith) k)
+      (λ a x y n v i z c u g. subst (λ s. Goal seed (view a x y n v i z c (RANDOM_AT + 52) s u text answers) (14 + 268)) (ap (λ h. h ∷ m0 LEFT ∷ lo ∷ hi ∷ []) (sym high) ∙ ap (λ l. m (LEFT + 1) ∷ l ∷ lo ∷ hi ∷ []) (sym low))
       (store a x y n v i z c u seed g.is_word (g.value ∙ ap (λ s. 25173 * s % 65536) e) (g.others SEEDED refl)
-      (λ a b d e. g.others a b ∙ skip is_argument (with_byte (with_byte m SEEDED 1) LEFT 85) 0xfc 98 a refl b ∙ skip is_argument (with_byte m SEEDED 1) LEFT 85 a refl b ∙ skip is_seed m SEEDED 1 a refl e ∙ r a b d e))))
+      (λ a b d e. g.others a b ∙ skip is_argument (with_byte (with_byte m SEEDED 1) LEFT 85) (LEFT + 1) 98 a refl b ∙ skip is_argument (with_byte m SEEDED 1) LEFT 85 a refl b ∙ skip is_seed m SEEDED 1 a refl e ∙ r a b d e))))
 
   -- ---- which state
   seeding : (a x y : ℕ) (n v i z c : Bool) (seed : ℕ) → seed ≡ seed_of m0 → IsWord m0 RIGHT → IsWord m0 SEED → Goal seed (view a x y n v i z c (RANDOM_AT + 15) (lo ∷ hi ∷ []) m0 text answers) (2 + (4 + (11 + (245 + (14 + 268)))))
@@ -94,27 +93,27 @@ module _ (f : Setup) (fits : Fits f 6) (block : Holds block_part f.code) (lo hi 
       (λ some. let b : eqb (m0 SEEDED) 0 ≡ false = ne_eqb _ _ some in
       after f 6 fits random_part (random_in f.code block) 1 (view a x y n v i z c (RANDOM_AT + 15) (lo ∷ hi ∷ []) m0 text answers) _ _ (4 + (11 + (245 + (14 + 268)))) refl
       (rw b (after f 6 fits random_part (random_in f.code block) 3 (view _ _ _ _ _ _ _ _ (RANDOM_AT + 20) (lo ∷ hi ∷ []) m0 text answers) _ _ (11 + (245 + (14 + 268))) refl
-      (advance _ _ _ _ _ _ _ _ (with_byte (with_byte m0 RIGHT (m0 SEED)) 0xfe (m0 0xc039)) seed refl refl s (sym (e ∙ ap (λ b. if b then word_in m0 RIGHT else word_in m0 SEED) b))
-      (λ a b d e. skip is_argument (with_byte m0 RIGHT (m0 SEED)) 0xfe (m0 0xc039) a refl b ∙ skip is_argument m0 RIGHT (m0 SEED) a refl b)))))
+      (advance _ _ _ _ _ _ _ _ (with_byte (with_byte m0 RIGHT (m0 SEED)) (RIGHT + 1) (m0 (SEED + 1))) seed refl refl s (sym (e ∙ ap (λ b. if b then word_in m0 RIGHT else word_in m0 SEED) b))
+      (λ a b d e. skip is_argument (with_byte m0 RIGHT (m0 SEED)) (RIGHT + 1) (m0 (SEED + 1)) a refl b ∙ skip is_argument m0 RIGHT (m0 SEED) a refl b)))))
       (cases_eq (m0 SEEDED) 0)
 
   whole : (a x y : ℕ) (n v i z c : Bool) → IsWord m0 RIGHT → IsWord m0 SEED → Goal (seed_of m0) (view a x y n v i z c RANDOM_AT (lo ∷ hi ∷ []) m0 text answers) 549
   whole a x y n v i z c q s =
-      let sign : eqb (m0 0xfc / 128 % 2) 1 ≡ false = ne_eqb _ _ (λ e. omega (arith, most, e)) in
+      let sign : eqb (m0 (LEFT + 1) / 128 % 2) 1 ≡ false = ne_eqb _ _ (λ e. omega (arith, most, e)) in
       ⊎_elim
-      (λ none. let b : eqb (m0 0xfc) 0 ≡ true = eq-eqb _ _ none in
+      (λ none. let b : eqb (m0 (LEFT + 1)) 0 ≡ true = eq-eqb _ _ none in
       let b' : eqb (m0 LEFT) 0 ≡ false = ne_eqb _ _ (λ h. omega (arith, none, h, least)) in
       looser f _ _ _ [] (2 + (1 + (2 + (2 + (4 + (11 + (245 + (14 + 268)))))))) 549 (omega arith) (λ w h. h)
       (after f 6 fits random_part (random_in f.code block) 1 (view a x y n v i z c RANDOM_AT (lo ∷ hi ∷ []) m0 text answers) _ _ (1 + (2 + (2 + (4 + (11 + (245 + (14 + 268))))))) refl
-      (rw sign (after f 6 fits random_part (random_in f.code block) 0 (view (m0 0xfc) x y _ v i (eqb (m0 0xfc) 0) c (RANDOM_AT + 4) (lo ∷ hi ∷ []) m0 text answers) _ _ (2 + (2 + (4 + (11 + (245 + (14 + 268)))))) refl
+      (rw sign (after f 6 fits random_part (random_in f.code block) 0 (view (m0 (LEFT + 1)) x y _ v i (eqb (m0 (LEFT + 1)) 0) c (RANDOM_AT + 4) (lo ∷ hi ∷ []) m0 text answers) _ _ (2 + (2 + (4 + (11 + (245 + (14 + 268)))))) refl
       (rw b (after f 6 fits random_part (random_in f.code block) 1 (view _ _ _ _ _ _ _ _ (RANDOM_AT + 6) (lo ∷ hi ∷ []) m0 text answers) _ _ (2 + (4 + (11 + (245 + (14 + 268))))) refl
       (rw b' (seeding _ _ _ _ _ _ _ _ (seed_of m0) refl q s))))))))
-      (λ some. let b : eqb (m0 0xfc) 0 ≡ false = ne_eqb _ _ some in
+      (λ some. let b : eqb (m0 (LEFT + 1)) 0 ≡ false = ne_eqb _ _ some in
       looser f _ _ _ [] (2 + (1 + (2 + (4 + (11 + (245 + (14 + 268))))))) 549 (omega arith) (λ w h. h)
       (after f 6 fits random_part (random_in f.code block) 1 (view a x y n v i z c RANDOM_AT (lo ∷ hi ∷ []) m0 text answers) _ _ (1 + (2 + (4 + (11 + (245 + (14 + 268)))))) refl
-      (rw sign (after f 6 fits random_part (random_in f.code block) 0 (view (m0 0xfc) x y _ v i (eqb (m0 0xfc) 0) c (RANDOM_AT + 4) (lo ∷ hi ∷ []) m0 text answers) _ _ (2 + (4 + (11 + (245 + (14 + 268))))) refl
+      (rw sign (after f 6 fits random_part (random_in f.code block) 0 (view (m0 (LEFT + 1)) x y _ v i (eqb (m0 (LEFT + 1)) 0) c (RANDOM_AT + 4) (lo ∷ hi ∷ []) m0 text answers) _ _ (2 + (4 + (11 + (245 + (14 + 268))))) refl
       (rw b (seeding _ _ _ _ _ _ _ _ (seed_of m0) refl q s))))))
-      (cases_eq (m0 0xfc) 0)
+      (cases_eq (m0 (LEFT + 1)) 0)
 
 pub random_law : RandomLaw
 random_law f fits block lo hi text answers m a x y n v i z c p q s least most = whole f fits block lo hi text answers m p least most a x y n v i z c q s
@@ -127,15 +126,15 @@ module _ (f : Setup) (fits : Fits f 2) (block : Holds block_part f.code) (lo hi 
 
 pub random_range_law : RandomRangeLaw
 random_range_law f fits block lo hi text answers m a x y n v i z c p (inl none) =
-    let sign : eqb (m 0xfc / 128 % 2) 1 ≡ false = ne_eqb _ _ (λ e. omega (arith, none, e)) in
-    let b : eqb (m 0xfc) 0 ≡ true = eq-eqb _ _ (omega (arith, none)) in
+    let sign : eqb (m (LEFT + 1) / 128 % 2) 1 ≡ false = ne_eqb _ _ (λ e. omega (arith, none, e)) in
+    let b : eqb (m (LEFT + 1)) 0 ≡ true = eq-eqb _ _ (omega (arith, none)) in
     let b' : eqb (m LEFT) 0 ≡ true = eq-eqb _ _ (omega (arith, none)) in
     after f 2 fits random_part (random_in f.code block) 1 (view a x y n v i z c RANDOM_AT (lo ∷ hi ∷ []) m text answers) _ _ 5 refl
-    (rw sign (after f 2 fits random_part (random_in f.code block) 0 (view (m 0xfc) x y _ v i (eqb (m 0xfc) 0) c (RANDOM_AT + 4) (lo ∷ hi ∷ []) m text answers) _ _ 4 refl
+    (rw sign (after f 2 fits random_part (random_in f.code block) 0 (view (m (LEFT + 1)) x y _ v i (eqb (m (LEFT + 1)) 0) c (RANDOM_AT + 4) (lo ∷ hi ∷ []) m text answers) _ _ 4 refl
     (rw b (after f 2 fits random_part (random_in f.code block) 1 (view _ _ _ _ _ _ _ _ (RANDOM_AT + 6) (lo ∷ hi ∷ []) m text answers) _ _ 2 refl
     (rw b' (bad f fits block lo hi text answers m _ _ _ _ _ _ _ _))))))
 random_range_law f fits block lo hi text answers m a x y n v i z c p (inr big) =
-    let sign : eqb (m 0xfc / 128 % 2) 1 ≡ true = eq-eqb _ _ (omega (arith, big, p)) in
+    let sign : eqb (m (LEFT + 1) / 128 % 2) 1 ≡ true = eq-eqb _ _ (omega (arith, big, p)) in
     looser f _ _ _ [] (2 + 2) 7 (omega arith) (λ w h. h)
     (after f 2 fits random_part (random_in f.code block) 1 (view a x y n v i z c RANDOM_AT (lo ∷ hi ∷ []) m text answers) _ _ 2 refl
     (rw sign (bad f fits block lo hi text answers m _ _ _ _ _ _ _ _)))

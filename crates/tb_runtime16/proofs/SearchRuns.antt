@@ -2,32 +2,26 @@
 use Rattle.std.proofs.Common.{◌≡◌, ◌≢◌, ℕ, zero, suc, ◌+◌, ◌-◌, ◌*◌, ◌/◌, ◌%◌, ◌<◌, ◌≤◌, Bool, true, false, not, List, [], ◌∷◌, ◌++◌, length, refl, sym, ap, ◌∙◌, subst, ⊎_elim, arith, if◌then◌else◌, eqb, Option, Some, None, length-append}
 use Rattle.std.specs.Prelude.{nat_le}
 use Rattle.std.proofs.lemmas.Bool.{ne_eqb, eq-eqb, cases_eq, cases_lt, le-leb, lt-leb}
-use Rattle.std.proofs.lemmas.Bool.Decides.{nat_tests}
 use Rattle.tb_cpu.specs.Operands.{word_in}
 use Rattle.tb_cpu.specs.Effects.{bit}
 use Rattle.tb_memmap.specs.Bytes.{with_byte}
-use Rattle.tb_reaching.specs.View.{Setup, Holds, Fits, Comes, view, is_data, is_program}
+use Rattle.tb_reaching.specs.View.{Setup, Holds, Fits, Comes, view, is_data}
 use Rattle.tb_reaching.proofs.Memory.{program_not_data}
+use Rattle.tb_reaching.proofs.Start.{in_program}
 use Rattle.tb_reaching.proofs.Comes.{after, ending, looser}
 use Rattle.tb_runtime16.specs.Places.{SEARCH_AT, POINTER, WANTED, RESULT, TABLE, COUNT, SCRATCH}
 use Rattle.tb_runtime16.specs.Block.{block_part}
 use Rattle.tb_runtime16.specs.Laws.{IsWord}
 use Rattle.tb_runtime16.specs.Search.{Line, Shows, table_bytes, Rising, AllWords, address_of, search_changes, Searched, SearchLaw}
 use Rattle.tb_runtime16.proofs.Within.{search_part, search_in}
-use Rattle.tb_runtime16.proofs.Words.{halved}
-use Rattle.tb_runtime16.proofs.Pointed.{carry_at_least, carry_below, Changes, changes_put}
+use Rattle.tb_runtime16.proofs.Words.{pow2, halved}
+use Rattle.tb_runtime16.proofs.Frames.{Changes, changes_put}
+use Rattle.tb_runtime16.proofs.Pointed.{carry_at_least, carry_below}
 use Rattle.tb_runtime16.proofs.Through.{loading, comparing, subtracting, times_four, summed, difference}
 use Rattle.tb_runtime16.proofs.Tables.{cut, shows_front, shows_back, rising_front, rising_back, words_front, words_back, other_line, address_front, address_back}
 
-in_program : (a : ℕ) → 0x0800 ≤ a → a < 0xa000 → is_program a ≡ true
-in_program a lo hi = grind (arith, nat_tests)
-
 other_byte : (b k : ℕ) → b < 256 → k < 256 → b ≢ k → eqb ((b + 256 - k) % 256) 0 ≡ false
 other_byte b k p q n = ne_eqb _ _ (λ h. n (omega (arith, p, q, h)))
-
-abbrev pow2 : ℕ → ℕ
-pow2 zero = 1
-pow2 (suc k) = pow2 k + pow2 k
 
 program_place : (at : ℕ) → 0x0800 ≤ at → at < 0xa000 → is_data at ≡ false
 program_place at p q = program_not_data at (in_program at p q)
@@ -48,16 +42,16 @@ module _ (f : Setup) (fits : Fits f 2) (block : Holds block_part f.code) (lo hi 
 
   -- and memory tells of them
   record Range (m : ℕ → ℕ) (es : List Line) (at : ℕ) : Type 0 where
-    table : m TABLE + 256 * m 0xfe ≡ at
+    table : m TABLE + 256 * m (TABLE + 1) ≡ at
     table_word : IsWord m TABLE
-    size : m COUNT + 256 * m 0xc06b ≡ length es
+    size : m COUNT + 256 * m (COUNT + 1) ≡ length es
     size_word : IsWord m COUNT
     part : Piece es at
     others : Changes search_changes m0 m
 
   -- or it tells of few, by how far they lie behind the table's address
   record Short (m : ℕ → ℕ) (es : List Line) (at : ℕ) : Type 0 where
-    place : m TABLE + 256 * m 0xfe + m POINTER ≡ at
+    place : m TABLE + 256 * m (TABLE + 1) + m POINTER ≡ at
     near : m POINTER + 4 * length es ≤ 252
     size : m COUNT ≡ length es
     part : Piece es at
@@ -105,8 +99,8 @@ module _ (f : Setup) (fits : Fits f 2) (block : Holds block_part f.code) (lo hi 
       let near = h.near in
       let y1 = (y + 1) % 256 in
       let y2 = (y1 + 1) % 256 in
-      let p2 : (m 0xfd + 256 * m 0xfe + y1) % 65536 ≡ at + 1 + 1 = omega arith in
-      let p3 : (m 0xfd + 256 * m 0xfe + y2) % 65536 ≡ at + 1 + 1 + 1 = omega arith in
+      let p2 : (m TABLE + 256 * m (TABLE + 1) + y1) % 65536 ≡ at + 1 + 1 = omega arith in
+      let p3 : (m TABLE + 256 * m (TABLE + 1) + y2) % 65536 ≡ at + 1 + 1 + 1 = omega arith in
       let m1 = with_byte m RESULT (e.1 % 256) in
       subst (λ o. Comes f (view a x y n v i z c (SEARCH_AT + 0xA8) (lo ∷ hi ∷ []) m text answers) (Searched lo hi m0 text answers o) [] 7) s
       (after f 2 fits search_part (search_in f.code block) 0 (view a x y n v i z c (SEARCH_AT + 0xA8) (lo ∷ hi ∷ []) m text answers) _ _ 6 refl
@@ -115,7 +109,7 @@ module _ (f : Setup) (fits : Fits f 2) (block : Holds block_part f.code) (lo hi 
       (loading f 2 fits TABLE (SEARCH_AT + 0xAF) (at + 1 + 1 + 1) (e.1 / 256) _ _ y2 _ _ _ _ _ _ m1 text answers _ _ 2 (search_in f.code block _ _ refl, (search_in f.code block _ _ refl, tt)) refl refl refl p3 (program_place (at + 1 + 1 + 1) (omega arith) (omega arith)) h.part.shown.1.1.1.0
       (ending f 2 fits search_part (search_in f.code block) 1 (view (e.1 / 256) x y2 _ v i _ c (SEARCH_AT + 0xB1) (lo ∷ hi ∷ []) m1 text answers) _ refl
       (record {
-        back = record { at = refl; on_stack = refl; binary = refl; same_text = refl; same_answers = refl; others = changes_put _ _ _ 0xc067 _ refl (changes_put _ _ _ RESULT _ refl h.others) };
+        back = record { at = refl; on_stack = refl; binary = refl; same_text = refl; same_answers = refl; others = changes_put _ _ _ (RESULT + 1) _ refl (changes_put _ _ _ RESULT _ refl h.others) };
         is_word = (omega arith, omega arith);
         result = omega arith;
       }))))))
@@ -128,22 +122,22 @@ module _ (f : Setup) (fits : Fits f 2) (block : Holds block_part f.code) (lo hi 
       let near = h.near in
       let y1 = (y + 1) % 256 in
       let l0 : m WANTED ≡ m0 WANTED = h.others WANTED refl in
-      let l1 : m 0xc069 ≡ m0 0xc069 = h.others 0xc069 refl in
-      let p1 : (m 0xfd + 256 * m 0xfe + y1) % 65536 ≡ at + 1 = omega arith in
+      let l1 : m (WANTED + 1) ≡ m0 (WANTED + 1) = h.others (WANTED + 1) refl in
+      let p1 : (m TABLE + 256 * m (TABLE + 1) + y1) % 65536 ≡ at + 1 = omega arith in
       let next : y1 ≡ m POINTER + 1 = omega arith in
       let load = λ (N : ℕ). λ (k : (n z : Bool) → Comes f (view (e.0 / 256) x y1 n v i z c (SEARCH_AT + 0xA3) (lo ∷ hi ∷ []) m text answers) (Searched lo hi m0 text answers r) [] N).
       after f 2 fits search_part (search_in f.code block) 0 (view a x y n v i z c (SEARCH_AT + 0xA0) (lo ∷ hi ∷ []) m text answers) _ _ (1 + N) refl
       (loading f 2 fits TABLE (SEARCH_AT + 0xA1) (at + 1) (e.0 / 256) _ _ y1 _ _ _ _ _ _ m text answers _ _ N (search_in f.code block _ _ refl, (search_in f.code block _ _ refl, tt)) refl refl refl p1 (program_place (at + 1) (omega arith) (omega arith)) h.part.shown.1.0 (k _ _)) in
       ⊎_elim
-      (λ yes. let t : eqb ((e.0 / 256 + 256 - m 0xc069) % 256) 0 ≡ true = eq-eqb _ _ (omega (arith, yes)) in
-      let num : e.0 ≡ word_in m0 WANTED = same_bytes e.0 (m0 WANTED) (m0 0xc069) (low ∙ l0) (yes ∙ l1) in
+      (λ yes. let t : eqb ((e.0 / 256 + 256 - m (WANTED + 1)) % 256) 0 ≡ true = eq-eqb _ _ (omega (arith, yes)) in
+      let num : e.0 ≡ word_in m0 WANTED = same_bytes e.0 (m0 WANTED) (m0 (WANTED + 1)) (low ∙ l0) (yes ∙ l1) in
       load (2 + 7) (λ n z. after f 2 fits search_part (search_in f.code block) 1 (view (e.0 / 256) x y1 n v i z c (SEARCH_AT + 0xA3) (lo ∷ hi ∷ []) m text answers) _ _ 7 refl
       (rw t (found _ _ _ _ _ _ _ _ m e at h next (ap (λ b. if b then Some e.1 else None) (sym (eq-eqb e.0 (word_in m0 WANTED) num)) ∙ h.part.same)))))
-      (λ differs. let t : eqb ((e.0 / 256 + 256 - m 0xc069) % 256) 0 ≡ false = other_byte (e.0 / 256) (m 0xc069) (omega (arith, h.part.words.0)) (omega (arith, l1, left.1)) differs in
+      (λ differs. let t : eqb ((e.0 / 256 + 256 - m (WANTED + 1)) % 256) 0 ≡ false = other_byte (e.0 / 256) (m (WANTED + 1)) (omega (arith, h.part.words.0)) (omega (arith, l1, left.1)) differs in
       looser f _ _ _ [] (1 + (1 + (2 + 2))) 11 (omega arith) (λ w h. h)
       (load (2 + 2) (λ n z. after f 2 fits search_part (search_in f.code block) 1 (view (e.0 / 256) x y1 n v i z c (SEARCH_AT + 0xA3) (lo ∷ hi ∷ []) m text answers) _ _ 2 refl
-      (rw t (none _ _ _ _ _ _ _ _ m h.others (sym (other_line (word_in m0 WANTED) e [] (λ x. differs (high_byte e.0 (m0 WANTED) (m0 0xc069) left.0 left.1 x ∙ sym l1))) ∙ h.part.same))))))
-      (cases_eq (e.0 / 256) (m 0xc069))
+      (rw t (none _ _ _ _ _ _ _ _ m h.others (sym (other_line (word_in m0 WANTED) e [] (λ x. differs (high_byte e.0 (m0 WANTED) (m0 (WANTED + 1)) left.0 left.1 x ∙ sym l1))) ∙ h.part.same))))))
+      (cases_eq (e.0 / 256) (m (WANTED + 1)))
     where
       high_byte : (n l h : ℕ) → l < 256 → h < 256 → n ≡ l + 256 * h → n / 256 ≡ h
       high_byte n l h p q e = omega arith
@@ -157,7 +151,7 @@ module _ (f : Setup) (fits : Fits f 2) (block : Holds block_part f.code) (lo hi 
       let place = h.place in
       let near = h.near in
       let l0 : m WANTED ≡ m0 WANTED = h.others WANTED refl in
-      let p0 : (m 0xfd + 256 * m 0xfe + m POINTER) % 65536 ≡ at = omega arith in
+      let p0 : (m TABLE + 256 * m (TABLE + 1) + m POINTER) % 65536 ≡ at = omega arith in
       let load = λ (N : ℕ). λ (k : (n z : Bool) → Comes f (view (e.0 % 256) x (m POINTER) n v i z c (SEARCH_AT + 0x9B) (lo ∷ hi ∷ []) m text answers) (Searched lo hi m0 text answers r) [] N).
       after f 2 fits search_part (search_in f.code block) 0 (view a x y n v i z c (SEARCH_AT + 0x97) (lo ∷ hi ∷ []) m text answers) _ _ (1 + N) refl
       (loading f 2 fits TABLE (SEARCH_AT + 0x99) at (e.0 % 256) _ _ (m POINTER) _ _ _ _ _ _ m text answers _ _ N (search_in f.code block _ _ refl, (search_in f.code block _ _ refl, tt)) refl refl refl p0 (program_place at (omega arith) (omega arith)) h.part.shown.0 (k _ _)) in
@@ -168,7 +162,7 @@ module _ (f : Setup) (fits : Fits f 2) (block : Holds block_part f.code) (lo hi 
       (λ differs. let t : eqb ((e.0 % 256 + 256 - m WANTED) % 256) 0 ≡ false = other_byte (e.0 % 256) (m WANTED) (omega arith) (omega (arith, l0, left.0)) differs in
       looser f _ _ _ [] (1 + (1 + (2 + 2))) 15 (omega arith) (λ w h. h)
       (load (2 + 2) (λ n z. after f 2 fits search_part (search_in f.code block) 1 (view (e.0 % 256) x (m POINTER) n v i z c (SEARCH_AT + 0x9B) (lo ∷ hi ∷ []) m text answers) _ _ 2 refl
-      (rw t (none _ _ _ _ _ _ _ _ m h.others (sym (other_line (word_in m0 WANTED) e [] (λ x. differs (low_byte e.0 (m0 WANTED) (m0 0xc069) left.0 left.1 x ∙ sym l0))) ∙ h.part.same))))))
+      (rw t (none _ _ _ _ _ _ _ _ m h.others (sym (other_line (word_in m0 WANTED) e [] (λ x. differs (low_byte e.0 (m0 WANTED) (m0 (WANTED + 1)) left.0 left.1 x ∙ sym l0))) ∙ h.part.same))))))
       (cases_eq (e.0 % 256) (m WANTED))
     where
       low_byte : (n l h : ℕ) → l < 256 → h < 256 → n ≡ l + 256 * h → n % 256 ≡ l
@@ -207,13 +201,13 @@ module _ (f : Setup) (fits : Fits f 2) (block : Holds block_part f.code) (lo hi 
       let rest : left_over ≡ suc (length back) = omega (arith, whole, count, size, near) in
       let t : nat_le (x + 0) (m COUNT) ≡ true = le-leb _ _ (omega (arith, whole, count, size)) in
       after f 2 fits search_part (search_in f.code block) 6 (view a x y n v i z true (SEARCH_AT + 0x82) (lo ∷ hi ∷ []) m text answers) _ _ (21 * k + 17) refl
-      (rw t (go _ _ _ _ _ _ _ _ (with_byte (with_byte (with_byte m POINTER y0) 0xfc x) COUNT left_over) (e ∷ back) (at + 4 * length front)
+      (rw t (go _ _ _ _ _ _ _ _ (with_byte (with_byte (with_byte m POINTER y0) (POINTER + 1) x) COUNT left_over) (e ∷ back) (at + 4 * length front)
       (record {
         place = omega (arith, place, index, near, whole);
         near = omega (arith, index, near, whole);
         size = rest;
         part = back_part front e back at h.part least;
-        others = changes_put _ _ _ COUNT _ refl (changes_put _ _ _ 0xfc _ refl (changes_put _ _ _ POINTER _ refl h.others));
+        others = changes_put _ _ _ COUNT _ refl (changes_put _ _ _ (POINTER + 1) _ refl (changes_put _ _ _ POINTER _ refl h.others));
       }) rest (omega arith) few))
 
   -- WANTED against the number of the one in the middle
@@ -230,26 +224,26 @@ module _ (f : Setup) (fits : Fits f 2) (block : Holds block_part f.code) (lo hi 
       let shown = shows_back f.code at front (e ∷ back) h.part.shown in
       let number : e.0 < 65536 = (words_back front (e ∷ back) h.part.words).0 in
       let l0 : m WANTED ≡ m0 WANTED = h.others WANTED refl in
-      let l1 : m 0xc069 ≡ m0 0xc069 = h.others 0xc069 refl in
+      let l1 : m (WANTED + 1) ≡ m0 (WANTED + 1) = h.others (WANTED + 1) refl in
       let y1 = (y + 1) % 256 in
-      let p0 : (m 0xfd + 256 * m 0xfe + y) % 65536 ≡ here = omega (arith, end, whole) in
-      let p1 : (m 0xfd + 256 * m 0xfe + y1) % 65536 ≡ here + 1 = omega (arith, end, whole) in
+      let p0 : (m TABLE + 256 * m (TABLE + 1) + y) % 65536 ≡ here = omega (arith, end, whole) in
+      let p1 : (m TABLE + 256 * m (TABLE + 1) + y1) % 65536 ≡ here + 1 = omega (arith, end, whole) in
       let next_index : y1 ≡ m POINTER + 4 * length front + 1 = omega (arith, whole) in
       let l0_small : m WANTED < 256 = omega (arith, left.0) in
-      let l1_small : m 0xc069 < 256 = omega (arith, left.1) in
-      let go_on = λ (N : ℕ). λ (next : (a : ℕ) (n v z : Bool) → Comes f (view a x y1 n v i z (nat_le (e.0 / 256 + bit (not (nat_le (e.0 % 256) (m WANTED)))) (m 0xc069)) (SEARCH_AT + 0x80) (lo ∷ hi ∷ []) m text answers) (Searched lo hi m0 text answers r) [] N).
+      let l1_small : m (WANTED + 1) < 256 = omega (arith, left.1) in
+      let go_on = λ (N : ℕ). λ (next : (a : ℕ) (n v z : Bool) → Comes f (view a x y1 n v i z (nat_le (e.0 / 256 + bit (not (nat_le (e.0 % 256) (m WANTED)))) (m (WANTED + 1))) (SEARCH_AT + 0x80) (lo ∷ hi ∷ []) m text answers) (Searched lo hi m0 text answers r) [] N).
       after f 2 fits search_part (search_in f.code block) 0 (view a x y n v i z c (SEARCH_AT + 0x75) (lo ∷ hi ∷ []) m text answers) _ _ (1 + (2 + (1 + N))) refl
       (comparing f 2 fits TABLE (SEARCH_AT + 0x78) here (e.0 % 256) (m WANTED) x y _ _ _ _ _ _ m text answers _ _ (2 + (1 + N)) (search_in f.code block _ _ refl, (search_in f.code block _ _ refl, tt)) refl refl refl p0 (program_place here start (omega arith)) shown.0 (λ n z.
       after f 2 fits search_part (search_in f.code block) 1 (view (m WANTED) x y n v i z _ (SEARCH_AT + 0x7A) (lo ∷ hi ∷ []) m text answers) _ _ (1 + N) refl
-      (subtracting f 2 fits TABLE (SEARCH_AT + 0x7E) (here + 1) (e.0 / 256) (m 0xc069) x y1 _ _ _ _ _ _ m text answers _ _ N (search_in f.code block _ _ refl, (search_in f.code block _ _ refl, tt)) refl refl refl p1 (program_place (here + 1) (omega arith) (omega arith)) shown.1.0 next))) in
+      (subtracting f 2 fits TABLE (SEARCH_AT + 0x7E) (here + 1) (e.0 / 256) (m (WANTED + 1)) x y1 _ _ _ _ _ _ m text answers _ _ N (search_in f.code block _ _ refl, (search_in f.code block _ _ refl, tt)) refl refl refl p1 (program_place (here + 1) (omega arith) (omega arith)) shown.1.0 next))) in
       ⊎_elim
-      (λ less. let t = carry_below (m WANTED) (m 0xc069) (e.0 % 256) (e.0 / 256) l0_small l1_small (omega arith) (omega arith) (omega arith) in
+      (λ less. let t = carry_below (m WANTED) (m (WANTED + 1)) (e.0 % 256) (e.0 / 256) l0_small l1_small (omega arith) (omega arith) (omega arith) in
       looser f _ _ _ [] (1 + (1 + (2 + (1 + (1 + (3 + (21 * k + 17))))))) (6 + (7 + (21 * k + 17))) (omega arith) (λ w h. h)
-      (go_on (1 + (3 + (21 * k + 17))) (λ a n v z. after f 2 fits search_part (search_in f.code block) 0 (view a x y1 n v i z (nat_le (e.0 / 256 + bit (not (nat_le (e.0 % 256) (m WANTED)))) (m 0xc069)) (SEARCH_AT + 0x80) (lo ∷ hi ∷ []) m text answers) _ _ (3 + (21 * k + 17)) refl
+      (go_on (1 + (3 + (21 * k + 17))) (λ a n v z. after f 2 fits search_part (search_in f.code block) 0 (view a x y1 n v i z (nat_le (e.0 / 256 + bit (not (nat_le (e.0 % 256) (m WANTED)))) (m (WANTED + 1))) (SEARCH_AT + 0x80) (lo ∷ hi ∷ []) m text answers) _ _ (3 + (21 * k + 17)) refl
       (rw t (halve_front k go _ _ _ _ _ _ _ _ m front e back at h size some few_front less)))))
-      (λ least. let t = carry_at_least (m WANTED) (m 0xc069) (e.0 % 256) (e.0 / 256) l0_small l1_small (omega arith) (omega arith) (omega arith) in
+      (λ least. let t = carry_at_least (m WANTED) (m (WANTED + 1)) (e.0 % 256) (e.0 / 256) l0_small l1_small (omega arith) (omega arith) (omega arith) in
       looser f _ _ _ [] (1 + (1 + (2 + (1 + (1 + (7 + (21 * k + 17))))))) (6 + (7 + (21 * k + 17))) (omega arith) (λ w h. h)
-      (go_on (1 + (7 + (21 * k + 17))) (λ a n v z. after f 2 fits search_part (search_in f.code block) 0 (view a x y1 n v i z (nat_le (e.0 / 256 + bit (not (nat_le (e.0 % 256) (m WANTED)))) (m 0xc069)) (SEARCH_AT + 0x80) (lo ∷ hi ∷ []) m text answers) _ _ (7 + (21 * k + 17)) refl
+      (go_on (1 + (7 + (21 * k + 17))) (λ a n v z. after f 2 fits search_part (search_in f.code block) 0 (view a x y1 n v i z (nat_le (e.0 / 256 + bit (not (nat_le (e.0 % 256) (m WANTED)))) (m (WANTED + 1))) (SEARCH_AT + 0x80) (lo ∷ hi ∷ []) m text answers) _ _ (7 + (21 * k + 17)) refl
       (rw t (halve_back k go _ _ _ _ _ _ _ m front e back at h size next_index few_back least)))))
       (cases_lt (word_in m0 WANTED) e.0)
 
@@ -290,7 +284,7 @@ module _ (f : Setup) (fits : Fits f 2) (block : Holds block_part f.code) (lo hi 
   few a x y n v i z c m es at h some small =
       let size = h.size in
       let table = h.table in
-      let t : eqb (m 0xc06b) 0 ≡ true = eq-eqb _ _ (omega (arith, size)) in
+      let t : eqb (m (COUNT + 1)) 0 ≡ true = eq-eqb _ _ (omega (arith, size)) in
       let u : nat_le 64 (m COUNT) ≡ false = lt-leb 64 (m COUNT) (omega (arith, size)) in
       after f 2 fits search_part (search_in f.code block) 1 (view a x y n v i z c SEARCH_AT (lo ∷ hi ∷ []) m text answers) _ _ (3 + (2 + 143)) refl
       (rw t (after f 2 fits search_part (search_in f.code block) 2 (view _ _ _ _ _ _ _ _ (SEARCH_AT + 0x05) (lo ∷ hi ∷ []) m text answers) _ _ (2 + 143) refl
@@ -305,7 +299,7 @@ module _ (f : Setup) (fits : Fits f 2) (block : Holds block_part f.code) (lo hi 
       }) (omega (arith, size)) some (omega (arith, small)))))))
 
   -- ---- the part below the entry
-  lower : (k : ℕ) → Probe k → (a x y : ℕ) (n v i z c : Bool) (m : ℕ → ℕ) (front : List Line) (e : Line) (back : List Line) (at : ℕ) → Range m (front ++ (e ∷ back)) at → IsWord m SCRATCH → m SCRATCH + 256 * m 0xc06f ≡ length front → 1 ≤ length front → length front ≤ 32 * pow2 k → word_in m0 WANTED < e.0 → Comes f (view a x y n v i z c (SEARCH_AT + 0x58) (lo ∷ hi ∷ []) m text answers) (Searched lo hi m0 text answers r) [] (5 + (40 * k + 150))
+  lower : (k : ℕ) → Probe k → (a x y : ℕ) (n v i z c : Bool) (m : ℕ → ℕ) (front : List Line) (e : Line) (back : List Line) (at : ℕ) → Range m (front ++ (e ∷ back)) at → IsWord m SCRATCH → m SCRATCH + 256 * m (SCRATCH + 1) ≡ length front → 1 ≤ length front → length front ≤ 32 * pow2 k → word_in m0 WANTED < e.0 → Comes f (view a x y n v i z c (SEARCH_AT + 0x58) (lo ∷ hi ∷ []) m text answers) (Searched lo hi m0 text answers r) [] (5 + (40 * k + 150))
   unfolding Probe
   lower k go a x y n v i z c m front e back at h w size some few less =
       after f 2 fits search_part (search_in f.code block) 4 (view a x y n v i z c (SEARCH_AT + 0x58) (lo ∷ hi ∷ []) m text answers) _ _ (40 * k + 150) refl
@@ -316,17 +310,17 @@ module _ (f : Setup) (fits : Fits f 2) (block : Holds block_part f.code) (lo hi 
         size = size;
         size_word = w;
         part = front_part front e back at h.part less;
-        others = changes_put _ _ _ 0xc06b _ refl (changes_put _ _ _ COUNT _ refl h.others);
+        others = changes_put _ _ _ (COUNT + 1) _ refl (changes_put _ _ _ COUNT _ refl h.others);
       }) some few)
 
   -- ---- the part from the entry on
-  upper : (k : ℕ) → Probe k → (a x y : ℕ) (n v i z : Bool) (m : ℕ → ℕ) (front : List Line) (e : Line) (back : List Line) (at : ℕ) → Range m (front ++ (e ∷ back)) at → IsWord m SCRATCH → m SCRATCH + 256 * m 0xc06f ≡ length front → IsWord m POINTER → m 0xfb + 256 * m 0xfc ≡ at + 4 * length front → suc (length back) ≤ 32 * pow2 k → e.0 ≤ word_in m0 WANTED → Comes f (view a x y n v i z true (SEARCH_AT + 0x3C) (lo ∷ hi ∷ []) m text answers) (Searched lo hi m0 text answers r) [] (11 + (40 * k + 150))
+  upper : (k : ℕ) → Probe k → (a x y : ℕ) (n v i z : Bool) (m : ℕ → ℕ) (front : List Line) (e : Line) (back : List Line) (at : ℕ) → Range m (front ++ (e ∷ back)) at → IsWord m SCRATCH → m SCRATCH + 256 * m (SCRATCH + 1) ≡ length front → IsWord m POINTER → m POINTER + 256 * m (POINTER + 1) ≡ at + 4 * length front → suc (length back) ≤ 32 * pow2 k → e.0 ≤ word_in m0 WANTED → Comes f (view a x y n v i z true (SEARCH_AT + 0x3C) (lo ∷ hi ∷ []) m text answers) (Searched lo hi m0 text answers r) [] (11 + (40 * k + 150))
   unfolding Probe
   upper k go a x y n v i z m front e back at h w size p place few least =
       let whole = length-append front (e ∷ back) in
       let count = h.size in
-      let d = difference (m COUNT) (m 0xc06b) (m SCRATCH) (m 0xc06f) (length (front ++ (e ∷ back))) (length front) (suc (length back)) h.size_word.0 h.size_word.1 w.0 w.1 h.size size (omega (arith, whole)) in
-      let t = carry_at_least (m COUNT) (m 0xc06b) (m SCRATCH + 0) (m 0xc06f) h.size_word.0 h.size_word.1 (omega (arith, w.0)) w.1 (omega (arith, count, size, whole)) in
+      let d = difference (m COUNT) (m (COUNT + 1)) (m SCRATCH) (m (SCRATCH + 1)) (length (front ++ (e ∷ back))) (length front) (suc (length back)) h.size_word.0 h.size_word.1 w.0 w.1 h.size size (omega (arith, whole)) in
+      let t = carry_at_least (m COUNT) (m (COUNT + 1)) (m SCRATCH + 0) (m (SCRATCH + 1)) h.size_word.0 h.size_word.1 (omega (arith, w.0)) w.1 (omega (arith, count, size, whole)) in
       after f 2 fits search_part (search_in f.code block) 10 (view a x y n v i z true (SEARCH_AT + 0x3C) (lo ∷ hi ∷ []) m text answers) _ _ (40 * k + 150) refl
       (rw t (go _ _ _ _ _ _ _ _ _ (e ∷ back) (at + 4 * length front)
       (record {
@@ -335,11 +329,11 @@ module _ (f : Setup) (fits : Fits f 2) (block : Holds block_part f.code) (lo hi 
         size = d.2;
         size_word = (d.0, d.1);
         part = back_part front e back at h.part least;
-        others = changes_put _ _ _ 0xc06b _ refl (changes_put _ _ _ COUNT _ refl (changes_put _ _ _ 0xfe _ refl (changes_put _ _ _ TABLE _ refl h.others)));
+        others = changes_put _ _ _ (COUNT + 1) _ refl (changes_put _ _ _ COUNT _ refl (changes_put _ _ _ (TABLE + 1) _ refl (changes_put _ _ _ TABLE _ refl h.others)));
       }) (omega arith) few))
 
   -- ---- WANTED against the entry's number
-  compare : (k : ℕ) → Probe k → (a x y : ℕ) (n v i z c : Bool) (m : ℕ → ℕ) (front : List Line) (e : Line) (back : List Line) (at : ℕ) → Range m (front ++ (e ∷ back)) at → IsWord m SCRATCH → m SCRATCH + 256 * m 0xc06f ≡ length front → IsWord m POINTER → m 0xfb + 256 * m 0xfc ≡ at + 4 * length front → 1 ≤ length front → length front ≤ 32 * pow2 k → suc (length back) ≤ 32 * pow2 k → Comes f (view a x y n v i z c (SEARCH_AT + 0x2D) (lo ∷ hi ∷ []) m text answers) (Searched lo hi m0 text answers r) [] (7 + (11 + (40 * k + 150)))
+  compare : (k : ℕ) → Probe k → (a x y : ℕ) (n v i z c : Bool) (m : ℕ → ℕ) (front : List Line) (e : Line) (back : List Line) (at : ℕ) → Range m (front ++ (e ∷ back)) at → IsWord m SCRATCH → m SCRATCH + 256 * m (SCRATCH + 1) ≡ length front → IsWord m POINTER → m POINTER + 256 * m (POINTER + 1) ≡ at + 4 * length front → 1 ≤ length front → length front ≤ 32 * pow2 k → suc (length back) ≤ 32 * pow2 k → Comes f (view a x y n v i z c (SEARCH_AT + 0x2D) (lo ∷ hi ∷ []) m text answers) (Searched lo hi m0 text answers r) [] (7 + (11 + (40 * k + 150)))
   compare k go a x y n v i z c m front e back at h w size p place some few_front few_back =
       let to = h.part.to in
       let from = h.part.from in
@@ -350,33 +344,33 @@ module _ (f : Setup) (fits : Fits f 2) (block : Holds block_part f.code) (lo hi 
       let shown = shows_back f.code at front (e ∷ back) h.part.shown in
       let number : e.0 < 65536 = (words_back front (e ∷ back) h.part.words).0 in
       let l0 : m WANTED ≡ m0 WANTED = h.others WANTED refl in
-      let l1 : m 0xc069 ≡ m0 0xc069 = h.others 0xc069 refl in
-      let p0 : (m 0xfb + 256 * m 0xfc + 0) % 65536 ≡ here = omega arith in
-      let p1 : (m 0xfb + 256 * m 0xfc + 1) % 65536 ≡ here + 1 = omega arith in
+      let l1 : m (WANTED + 1) ≡ m0 (WANTED + 1) = h.others (WANTED + 1) refl in
+      let p0 : (m POINTER + 256 * m (POINTER + 1) + 0) % 65536 ≡ here = omega arith in
+      let p1 : (m POINTER + 256 * m (POINTER + 1) + 1) % 65536 ≡ here + 1 = omega arith in
       let l0_small : m WANTED < 256 = omega (arith, left.0) in
-      let l1_small : m 0xc069 < 256 = omega (arith, left.1) in
-      let go_on = λ (N : ℕ). λ (next : (a : ℕ) (n v z : Bool) → Comes f (view a x 1 n v i z (nat_le (e.0 / 256 + bit (not (nat_le (e.0 % 256) (m WANTED)))) (m 0xc069)) (SEARCH_AT + 0x3A) (lo ∷ hi ∷ []) m text answers) (Searched lo hi m0 text answers r) [] N).
+      let l1_small : m (WANTED + 1) < 256 = omega (arith, left.1) in
+      let go_on = λ (N : ℕ). λ (next : (a : ℕ) (n v z : Bool) → Comes f (view a x 1 n v i z (nat_le (e.0 / 256 + bit (not (nat_le (e.0 % 256) (m WANTED)))) (m (WANTED + 1))) (SEARCH_AT + 0x3A) (lo ∷ hi ∷ []) m text answers) (Searched lo hi m0 text answers r) [] N).
       after f 2 fits search_part (search_in f.code block) 1 (view a x y n v i z c (SEARCH_AT + 0x2D) (lo ∷ hi ∷ []) m text answers) _ _ (1 + (2 + (1 + N))) refl
       (comparing f 2 fits POINTER (SEARCH_AT + 0x32) here (e.0 % 256) (m WANTED) x 0 _ _ _ _ _ _ m text answers _ _ (2 + (1 + N)) (search_in f.code block _ _ refl, (search_in f.code block _ _ refl, tt)) refl refl refl p0 (program_place here start (omega arith)) shown.0 (λ n z.
       after f 2 fits search_part (search_in f.code block) 1 (view (m WANTED) x 0 n v i z _ (SEARCH_AT + 0x34) (lo ∷ hi ∷ []) m text answers) _ _ (1 + N) refl
-      (subtracting f 2 fits POINTER (SEARCH_AT + 0x38) (here + 1) (e.0 / 256) (m 0xc069) x 1 _ _ _ _ _ _ m text answers _ _ N (search_in f.code block _ _ refl, (search_in f.code block _ _ refl, tt)) refl refl refl p1 (program_place (here + 1) (omega arith) (omega arith)) shown.1.0 next))) in
+      (subtracting f 2 fits POINTER (SEARCH_AT + 0x38) (here + 1) (e.0 / 256) (m (WANTED + 1)) x 1 _ _ _ _ _ _ m text answers _ _ N (search_in f.code block _ _ refl, (search_in f.code block _ _ refl, tt)) refl refl refl p1 (program_place (here + 1) (omega arith) (omega arith)) shown.1.0 next))) in
       ⊎_elim
-      (λ less. let t = carry_below (m WANTED) (m 0xc069) (e.0 % 256) (e.0 / 256) l0_small l1_small (omega arith) (omega arith) (omega arith) in
+      (λ less. let t = carry_below (m WANTED) (m (WANTED + 1)) (e.0 % 256) (e.0 / 256) l0_small l1_small (omega arith) (omega arith) (omega arith) in
       looser f _ _ _ [] (2 + (1 + (2 + (1 + (1 + (5 + (40 * k + 150))))))) (7 + (11 + (40 * k + 150))) (omega arith) (λ w h. h)
-      (go_on (1 + (5 + (40 * k + 150))) (λ a n v z. after f 2 fits search_part (search_in f.code block) 0 (view a x 1 n v i z (nat_le (e.0 / 256 + bit (not (nat_le (e.0 % 256) (m WANTED)))) (m 0xc069)) (SEARCH_AT + 0x3A) (lo ∷ hi ∷ []) m text answers) _ _ (5 + (40 * k + 150)) refl
+      (go_on (1 + (5 + (40 * k + 150))) (λ a n v z. after f 2 fits search_part (search_in f.code block) 0 (view a x 1 n v i z (nat_le (e.0 / 256 + bit (not (nat_le (e.0 % 256) (m WANTED)))) (m (WANTED + 1))) (SEARCH_AT + 0x3A) (lo ∷ hi ∷ []) m text answers) _ _ (5 + (40 * k + 150)) refl
       (rw t (lower k go _ _ _ _ _ _ _ _ m front e back at h w size some few_front less)))))
-      (λ least. let t = carry_at_least (m WANTED) (m 0xc069) (e.0 % 256) (e.0 / 256) l0_small l1_small (omega arith) (omega arith) (omega arith) in
+      (λ least. let t = carry_at_least (m WANTED) (m (WANTED + 1)) (e.0 % 256) (e.0 / 256) l0_small l1_small (omega arith) (omega arith) (omega arith) in
       looser f _ _ _ [] (2 + (1 + (2 + (1 + (1 + (11 + (40 * k + 150))))))) (7 + (11 + (40 * k + 150))) (omega arith) (λ w h. h)
-      (go_on (1 + (11 + (40 * k + 150))) (λ a n v z. after f 2 fits search_part (search_in f.code block) 0 (view a x 1 n v i z (nat_le (e.0 / 256 + bit (not (nat_le (e.0 % 256) (m WANTED)))) (m 0xc069)) (SEARCH_AT + 0x3A) (lo ∷ hi ∷ []) m text answers) _ _ (11 + (40 * k + 150)) refl
+      (go_on (1 + (11 + (40 * k + 150))) (λ a n v z. after f 2 fits search_part (search_in f.code block) 0 (view a x 1 n v i z (nat_le (e.0 / 256 + bit (not (nat_le (e.0 % 256) (m WANTED)))) (m (WANTED + 1))) (SEARCH_AT + 0x3A) (lo ∷ hi ∷ []) m text answers) _ _ (11 + (40 * k + 150)) refl
       (rw t (upper k go _ _ _ _ _ _ _ m front e back at h w size p place few_back least)))))
       (cases_lt (word_in m0 WANTED) e.0)
 
   -- ---- the entry in the middle
   -- POINTER, from four times SCRATCH in A and POINTER + 1
-  add : (k : ℕ) → Probe k → (a x y : ℕ) (n v i z c : Bool) (m : ℕ → ℕ) (front : List Line) (e : Line) (back : List Line) (at : ℕ) → Range m (front ++ (e ∷ back)) at → IsWord m SCRATCH → m SCRATCH + 256 * m 0xc06f ≡ length front → a < 256 → m 0xfc < 256 → a + 256 * m 0xfc ≡ 4 * length front → 1 ≤ length front → length front ≤ 32 * pow2 k → suc (length back) ≤ 32 * pow2 k → Comes f (view a x y n v i z c (SEARCH_AT + 0x22) (lo ∷ hi ∷ []) m text answers) (Searched lo hi m0 text answers r) [] (6 + (7 + (11 + (40 * k + 150))))
+  add : (k : ℕ) → Probe k → (a x y : ℕ) (n v i z c : Bool) (m : ℕ → ℕ) (front : List Line) (e : Line) (back : List Line) (at : ℕ) → Range m (front ++ (e ∷ back)) at → IsWord m SCRATCH → m SCRATCH + 256 * m (SCRATCH + 1) ≡ length front → a < 256 → m (POINTER + 1) < 256 → a + 256 * m (POINTER + 1) ≡ 4 * length front → 1 ≤ length front → length front ≤ 32 * pow2 k → suc (length back) ≤ 32 * pow2 k → Comes f (view a x y n v i z c (SEARCH_AT + 0x22) (lo ∷ hi ∷ []) m text answers) (Searched lo hi m0 text answers r) [] (6 + (7 + (11 + (40 * k + 150))))
   add k go a x y n v i z c m front e back at h w size low high four some few_front few_back =
       let to = h.part.to in
-      let sum = summed a (m 0xfc) (m 0xfd) (m 0xfe) (4 * length front) at low high h.table_word.0 h.table_word.1 four h.table (omega (arith, length-append front (e ∷ back))) in
+      let sum = summed a (m (POINTER + 1)) (m TABLE) (m (TABLE + 1)) (4 * length front) at low high h.table_word.0 h.table_word.1 four h.table (omega (arith, length-append front (e ∷ back))) in
       after f 2 fits search_part (search_in f.code block) 5 (view a x y n v i z c (SEARCH_AT + 0x22) (lo ∷ hi ∷ []) m text answers) _ _ (7 + (11 + (40 * k + 150))) refl
       (compare k go _ _ _ _ _ _ _ _ _ front e back at
       (record {
@@ -385,15 +379,15 @@ module _ (f : Setup) (fits : Fits f 2) (block : Holds block_part f.code) (lo hi 
         size = h.size;
         size_word = h.size_word;
         part = h.part;
-        others = changes_put _ _ _ 0xfc _ refl (changes_put _ _ _ POINTER _ refl h.others);
+        others = changes_put _ _ _ (POINTER + 1) _ refl (changes_put _ _ _ POINTER _ refl h.others);
       }) w size (sum.0, sum.1) sum.2 some few_front few_back)
 
-  quadruple : (k : ℕ) → Probe k → (x y : ℕ) (n v i z c : Bool) (m : ℕ → ℕ) (front : List Line) (e : Line) (back : List Line) (at : ℕ) → Range m (front ++ (e ∷ back)) at → IsWord m SCRATCH → m SCRATCH + 256 * m 0xc06f ≡ length front → m 0xfc ≡ m 0xc06f → 1 ≤ length front → length front ≤ 32 * pow2 k → suc (length back) ≤ 32 * pow2 k → Comes f (view (m SCRATCH) x y n v i z c (SEARCH_AT + 0x1C) (lo ∷ hi ∷ []) m text answers) (Searched lo hi m0 text answers r) [] (4 + (6 + (7 + (11 + (40 * k + 150)))))
+  quadruple : (k : ℕ) → Probe k → (x y : ℕ) (n v i z c : Bool) (m : ℕ → ℕ) (front : List Line) (e : Line) (back : List Line) (at : ℕ) → Range m (front ++ (e ∷ back)) at → IsWord m SCRATCH → m SCRATCH + 256 * m (SCRATCH + 1) ≡ length front → m (POINTER + 1) ≡ m (SCRATCH + 1) → 1 ≤ length front → length front ≤ 32 * pow2 k → suc (length back) ≤ 32 * pow2 k → Comes f (view (m SCRATCH) x y n v i z c (SEARCH_AT + 0x1C) (lo ∷ hi ∷ []) m text answers) (Searched lo hi m0 text answers r) [] (4 + (6 + (7 + (11 + (40 * k + 150)))))
   quadruple k go x y n v i z c m front e back at h w size copy some few_front few_back =
       let to = h.part.to in
       let total = length-append front (e ∷ back) in
-      let high : m 0xfc < 256 = omega (arith, w.1, copy) in
-      let four = times_four (m SCRATCH) (m 0xfc) (length front) w.0 high (omega (arith, size, copy)) (omega (arith, total)) in
+      let high : m (POINTER + 1) < 256 = omega (arith, w.1, copy) in
+      let four = times_four (m SCRATCH) (m (POINTER + 1)) (length front) w.0 high (omega (arith, size, copy)) (omega (arith, total)) in
       after f 2 fits search_part (search_in f.code block) 3 (view (m SCRATCH) x y n v i z c (SEARCH_AT + 0x1C) (lo ∷ hi ∷ []) m text answers) _ _ (6 + (7 + (11 + (40 * k + 150)))) refl
       (add k go _ _ _ _ _ _ _ _ _ front e back at
       (record {
@@ -402,10 +396,10 @@ module _ (f : Setup) (fits : Fits f 2) (block : Holds block_part f.code) (lo hi 
         size = h.size;
         size_word = h.size_word;
         part = h.part;
-        others = changes_put _ _ _ 0xfc _ refl (changes_put _ _ _ 0xfc _ refl h.others);
+        others = changes_put _ _ _ (POINTER + 1) _ refl (changes_put _ _ _ (POINTER + 1) _ refl h.others);
       }) w size four.0 four.1 four.2 some few_front few_back)
 
-  split : (k : ℕ) → Probe k → (x y : ℕ) (n v i z c : Bool) (m : ℕ → ℕ) (es : List Line) (at half : ℕ) → Range m es at → IsWord m SCRATCH → m SCRATCH + 256 * m 0xc06f ≡ half → m 0xfc ≡ m 0xc06f → half ≡ length es / 2 → 1 ≤ half → length es ≤ 32 * (pow2 k + pow2 k) → Comes f (view (m SCRATCH) x y n v i z c (SEARCH_AT + 0x1C) (lo ∷ hi ∷ []) m text answers) (Searched lo hi m0 text answers r) [] (4 + (6 + (7 + (11 + (40 * k + 150)))))
+  split : (k : ℕ) → Probe k → (x y : ℕ) (n v i z c : Bool) (m : ℕ → ℕ) (es : List Line) (at half : ℕ) → Range m es at → IsWord m SCRATCH → m SCRATCH + 256 * m (SCRATCH + 1) ≡ half → m (POINTER + 1) ≡ m (SCRATCH + 1) → half ≡ length es / 2 → 1 ≤ half → length es ≤ 32 * (pow2 k + pow2 k) → Comes f (view (m SCRATCH) x y n v i z c (SEARCH_AT + 0x1C) (lo ∷ hi ∷ []) m text answers) (Searched lo hi m0 text answers r) [] (4 + (6 + (7 + (11 + (40 * k + 150)))))
   split k go x y n v i z c m es at half h w size copy middle some few =
       let part = cut es half (omega arith) in
       let length_front = part.size in
@@ -414,11 +408,11 @@ module _ (f : Setup) (fits : Fits f 2) (block : Holds block_part f.code) (lo hi 
 
   -- SCRATCH
   abbrev halves : (ℕ → ℕ) → ℕ → ℕ
-  halves m = with_byte (with_byte (with_byte m 0xc06f (m 0xc06b / 2)) 0xfc (m 0xc06b / 2)) SCRATCH (m COUNT / 2 + 128 * bit (eqb (m 0xc06b / 1 % 2) 1))
+  halves m = with_byte (with_byte (with_byte m (SCRATCH + 1) (m (COUNT + 1) / 2)) (POINTER + 1) (m (COUNT + 1) / 2)) SCRATCH (m COUNT / 2 + 128 * bit (eqb (m (COUNT + 1) / 1 % 2) 1))
 
   wide : (k : ℕ) → Probe k → (a x y : ℕ) (n v i z c : Bool) (m : ℕ → ℕ) (es : List Line) (at : ℕ) → Range m es at → 64 ≤ length es → length es ≤ 32 * (pow2 k + pow2 k) → Comes f (view a x y n v i z c (SEARCH_AT + 0x0C) (lo ∷ hi ∷ []) m text answers) (Searched lo hi m0 text answers r) [] (7 + (4 + (6 + (7 + (11 + (40 * k + 150))))))
   wide k go a x y n v i z c m es at h many few =
-      let half = halved (m COUNT) (m 0xc06b) h.size_word.0 h.size_word.1 in
+      let half = halved (m COUNT) (m (COUNT + 1)) h.size_word.0 h.size_word.1 in
       let size = h.size in
       let small = h.size_word in
       after f 2 fits search_part (search_in f.code block) 6 (view a x y n v i z c (SEARCH_AT + 0x0C) (lo ∷ hi ∷ []) m text answers) _ _ (4 + (6 + (7 + (11 + (40 * k + 150))))) refl
@@ -429,7 +423,7 @@ module _ (f : Setup) (fits : Fits f 2) (block : Holds block_part f.code) (lo hi 
         size = h.size;
         size_word = h.size_word;
         part = h.part;
-        others = changes_put _ _ _ SCRATCH _ refl (changes_put _ _ _ 0xfc _ refl (changes_put _ _ _ 0xc06f _ refl h.others));
+        others = changes_put _ _ _ SCRATCH _ refl (changes_put _ _ _ (POINTER + 1) _ refl (changes_put _ _ _ (SCRATCH + 1) _ refl h.others));
       }) (omega (arith, half, small.0, small.1), omega (arith, small.1)) (half ∙ ap (λ n. n / 2) size) refl refl (omega (arith, many)) few)
 
   -- to the wide search
@@ -437,17 +431,17 @@ module _ (f : Setup) (fits : Fits f 2) (block : Holds block_part f.code) (lo hi 
   many N a x y n v i z c m es at h some next =
       let size = h.size in
       ⊎_elim
-      (λ low. let t : eqb (m 0xc06b) 0 ≡ true = eq-eqb _ _ low in
+      (λ low. let t : eqb (m (COUNT + 1)) 0 ≡ true = eq-eqb _ _ low in
       let u : nat_le 64 (m COUNT) ≡ true = le-leb 64 (m COUNT) (omega (arith, size, low, some)) in
       looser f _ _ _ [] (2 + (3 + N)) (5 + N) (omega arith) (λ w h. h)
       (after f 2 fits search_part (search_in f.code block) 1 (view a x y n v i z c SEARCH_AT (lo ∷ hi ∷ []) m text answers) _ _ (3 + N) refl
       (rw t (after f 2 fits search_part (search_in f.code block) 2 (view _ _ _ _ _ _ _ _ (SEARCH_AT + 0x05) (lo ∷ hi ∷ []) m text answers) _ _ N refl
       (rw u (next _ _ _ _ _ _ _ _))))))
-      (λ high. let t : eqb (m 0xc06b) 0 ≡ false = ne_eqb _ _ high in
+      (λ high. let t : eqb (m (COUNT + 1)) 0 ≡ false = ne_eqb _ _ high in
       looser f _ _ _ [] (2 + N) (5 + N) (omega arith) (λ w h. h)
       (after f 2 fits search_part (search_in f.code block) 1 (view a x y n v i z c SEARCH_AT (lo ∷ hi ∷ []) m text answers) _ _ N refl
       (rw t (next _ _ _ _ _ _ _ _))))
-      (cases_eq (m 0xc06b) 0)
+      (cases_eq (m (COUNT + 1)) 0)
 
   -- ---- all probes
   probes : (k : ℕ) → Probe k

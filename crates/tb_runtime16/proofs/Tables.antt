@@ -1,7 +1,7 @@
 -- Parts of a table.
 use Rattle.std.proofs.Common.{◌≡◌, ◌≢◌, ℕ, zero, suc, ◌+◌, ◌*◌, ◌%◌, ◌<◌, ◌≤◌, List, [], ◌∷◌, ◌++◌, length, refl, ap, ◌∙◌, subst, arith, if◌then◌else◌, eqb, Some, None}
 use Rattle.std.proofs.lemmas.Bool.{ne_eqb}
-use Rattle.tb_reaching.specs.View.{Part, Bytes}
+use Rattle.tb_reaching.specs.View.{Part}
 use Rattle.tb_runtime16.specs.Search.{Line, Shows, table_bytes, AllAbove, Rising, AllWords, address_of}
 
 -- a table cut before its entry h
@@ -72,32 +72,3 @@ address_back t [] e b h l = refl
 address_back t (x ∷ a) e b h l =
     let less = above_here x.0 a e b h.0 in
     other_line t x (a ++ (e ∷ b)) (λ y. omega arith) ∙ address_back t a e b h.1 l
-
--- ---- a table in which each number is above the one before
-abbrev pub Climbing : List Line → Type 0
-Climbing [] = Unit {0}
-Climbing (e ∷ []) = Unit {0}
-Climbing (e ∷ d ∷ es) = (e.0 < d.0) × Climbing (d ∷ es)
-
-above_weaker : (k j : ℕ) (es : List Line) → k ≤ j → AllAbove j es → AllAbove k es
-above_weaker k j [] l h = tt
-above_weaker k j (e ∷ es) l h = ((let p = h.0 in omega arith), above_weaker k j es l h.1)
-
-pub climbing_rising : (es : List Line) → Climbing es → Rising es
-climbing_rising [] h = tt
-climbing_rising (e ∷ []) h = (tt, tt)
-climbing_rising (e ∷ d ∷ es) h =
-    let up = h.0 in
-    let rest = climbing_rising (d ∷ es) h.1 in
-    ((up, above_weaker e.0 d.0 es (omega arith) rest.0), rest)
-
--- bytes of an image that stand are shown
-pub shows_bytes : (code : Part) (at : ℕ) (bs : List ℕ) → at + length bs < 65536 → Bytes code at bs → Shows code at bs
-shows_bytes code at [] r h = tt
-shows_bytes code at (b ∷ bs) r h =
-    let e : (at + 1) % 65536 ≡ at + 1 = omega arith in
-    (h.0, shows_bytes code (at + 1) bs (omega arith) (subst (λ n. Bytes code n bs) e h.1))
-
-pub table_size : (es : List Line) → length (table_bytes es) ≡ 4 * length es
-table_size [] = refl
-table_size (e ∷ es) = omega (arith, table_size es)

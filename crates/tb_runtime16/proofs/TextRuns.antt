@@ -2,13 +2,13 @@
 use Rattle.std.proofs.Common.{◌≡◌, ◌≢◌, ℕ, suc, ◌+◌, ◌*◌, ◌%◌, ◌<◌, ◌≤◌, Bool, true, false, List, [], ◌∷◌, length, refl, ap, ◌∙◌, subst, ⊎_elim, arith, eqb}
 use Rattle.std.specs.Prelude.{Ok}
 use Rattle.std.proofs.lemmas.Bool.{ne_eqb, eq-eqb, cases_eq}
-use Rattle.std.proofs.lemmas.Bool.Decides.{nat_tests}
 use Rattle.tb_memmap.specs.Bytes.{with_byte}
 use Rattle.tb_opcodes.specs.declared.Mnemonic.TheVariants.{Lda}
 use Rattle.tb_opcodes.specs.declared.Mode.TheVariants.{IndirectY}
-use Rattle.tb_reaching.specs.View.{Setup, Holds, Fits, Comes, view, is_data, is_program, Bytes}
+use Rattle.tb_reaching.specs.View.{Setup, Holds, Fits, Comes, view, is_data, Bytes}
 use Rattle.tb_reaching.proofs.Instr.{ins}
 use Rattle.tb_reaching.proofs.Memory.{put_other, program_not_data}
+use Rattle.tb_reaching.proofs.Start.{in_program}
 use Rattle.tb_reaching.proofs.Comes.{after, ending, looser}
 use Rattle.tb_reaching.proofs.Calls.{under}
 use Rattle.tb_reaching.proofs.Placed.{placing, takes_at, reads_code}
@@ -21,15 +21,12 @@ use Rattle.tb_runtime16.proofs.Called.{calls}
 use Rattle.tb_runtime16.proofs.Columns.{column_same}
 use Rattle.tb_runtime16.proofs.SendRuns.{send_law}
 
-in_program : (a : ℕ) → 0x0800 ≤ a → a < 0xa000 → is_program a ≡ true
-in_program a lo hi = grind (arith, nat_tests)
-
 module _ (f : Setup) (fits : Fits f 4) (block : Holds block_part f.code) (lo hi : ℕ) (text answers : List ℕ) (m0 : ℕ → ℕ) (all : List ℕ) where
   -- the bytes from an address on are still to be sent, and those before are
   record Still (m : ℕ → ℕ) (at : ℕ) (bytes : List ℕ) : Type 0 where
-    word_is : m POINTER + 256 * m 0xfc ≡ at
+    word_is : m POINTER + 256 * m (POINTER + 1) ≡ at
     low : m POINTER < 256
-    high : m 0xfc < 256
+    high : m (POINTER + 1) < 256
     shown : Bytes f.code at bytes
     from : 0x0800 ≤ at
     to : at + length bytes ≤ 0xa000
@@ -42,8 +39,8 @@ module _ (f : Setup) (fits : Fits f 4) (block : Holds block_part f.code) (lo hi 
   put_pointer : (m : ℕ → ℕ) (b : ℕ) → ((a : ℕ) → a ≢ COLUMN → a ≢ POINTER → a ≢ POINTER + 1 → a ≢ LENGTH → m a ≡ m0 a) → (a : ℕ) → a ≢ COLUMN → a ≢ POINTER → a ≢ POINTER + 1 → a ≢ LENGTH → with_byte m POINTER b a ≡ m0 a
   put_pointer m b h a p q r s = put_other m POINTER b a q ∙ h a p q r s
 
-  put_high : (m : ℕ → ℕ) (b : ℕ) → ((a : ℕ) → a ≢ COLUMN → a ≢ POINTER → a ≢ POINTER + 1 → a ≢ LENGTH → m a ≡ m0 a) → (a : ℕ) → a ≢ COLUMN → a ≢ POINTER → a ≢ POINTER + 1 → a ≢ LENGTH → with_byte m 0xfc b a ≡ m0 a
-  put_high m b h a p q r s = put_other m 0xfc b a r ∙ h a p q r s
+  put_high : (m : ℕ → ℕ) (b : ℕ) → ((a : ℕ) → a ≢ COLUMN → a ≢ POINTER → a ≢ POINTER + 1 → a ≢ LENGTH → m a ≡ m0 a) → (a : ℕ) → a ≢ COLUMN → a ≢ POINTER → a ≢ POINTER + 1 → a ≢ LENGTH → with_byte m (POINTER + 1) b a ≡ m0 a
+  put_high m b h a p q r s = put_other m (POINTER + 1) b a r ∙ h a p q r s
 
   put_length : (m : ℕ → ℕ) (b : ℕ) → ((a : ℕ) → a ≢ COLUMN → a ≢ POINTER → a ≢ POINTER + 1 → a ≢ LENGTH → m a ≡ m0 a) → (a : ℕ) → a ≢ COLUMN → a ≢ POINTER → a ≢ POINTER + 1 → a ≢ LENGTH → with_byte m LENGTH b a ≡ m0 a
   put_length m b h a p q r s = put_other m LENGTH b a s ∙ h a p q r s
@@ -82,7 +79,7 @@ module _ (f : Setup) (fits : Fits f 4) (block : Holds block_part f.code) (lo hi 
   unfolding Count
   next_byte bs go a x y n v i z c m w b at h k e =
       let low : w POINTER ≡ m POINTER = k.others POINTER (λ e. omega (arith, e)) in
-      let high : w 0xfc ≡ m 0xfc = k.others 0xfc (λ e. omega (arith, e)) in
+      let high : w (POINTER + 1) ≡ m (POINTER + 1) = k.others (POINTER + 1) (λ e. omega (arith, e)) in
       let length_is : w LENGTH ≡ suc (length bs) = k.others LENGTH (λ e. omega (arith, e)) ∙ e in
       let here = h.word_is in
       let up = h.to in
@@ -119,7 +116,7 @@ module _ (f : Setup) (fits : Fits f 4) (block : Holds block_part f.code) (lo hi 
   unfolding Loop
   send bs go a x y n v i z c m b at h e =
       let apart : is_data at ≡ false = program_not_data at (in_program at h.from (omega (arith, h.to))) in
-      let place : (m POINTER + 256 * m 0xfc + 0) % 65536 ≡ at = omega (arith, h.word_is, h.to) in
+      let place : (m POINTER + 256 * m (POINTER + 1) + 0) % 65536 ≡ at = omega (arith, h.word_is, h.to) in
       let ready = view a x 0 false v i true c (TEXT_AT + 7) (lo ∷ hi ∷ []) m text answers in
       looser f _ _ _ (b ∷ bs) (1 + (1 + (1 + (7 + (3 + (15 * length bs + 3)))))) (15 * length bs + 16) (omega arith) (λ w h. h)
       (after f 4 fits text_part (text_in f.code block) 0 (view a x y n v i z c (TEXT_AT + 5) (lo ∷ hi ∷ []) m text answers) _ _ (1 + (1 + (7 + (3 + (15 * length bs + 3))))) refl

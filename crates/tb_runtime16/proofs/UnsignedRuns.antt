@@ -20,19 +20,19 @@ module _ (f : Setup) (fits : Fits f 2) (block : Holds block_part f.code) (lo hi 
   by_word a x y n v i z c = wide f fits block lo hi text answers m q most a x y n v i z c p some
 
   -- RIGHT is a byte below 128: LEFT's high byte against it
-  small_right : (a x y : ℕ) (n v i z c : Bool) → m 0xfe ≡ 0 → m RIGHT < 128 → Goal (view a x y n v i z c (DIVIDE_AT + 60) (lo ∷ hi ∷ []) m text answers) (3 + 261)
+  small_right : (a x y : ℕ) (n v i z c : Bool) → m (RIGHT + 1) ≡ 0 → m RIGHT < 128 → Goal (view a x y n v i z c (DIVIDE_AT + 60) (lo ∷ hi ∷ []) m text answers) (3 + 261)
   small_right a x y n v i z c top few =
       ⊎_elim
-      (λ less. let b : nat_le (m RIGHT) (m 0xfc) ≡ false = lt-leb _ _ less in
+      (λ less. let b : nat_le (m RIGHT) (m (LEFT + 1)) ≡ false = lt-leb _ _ less in
       looser f _ _ _ [] (3 + 70) (3 + 261) (omega arith) (λ w h. h)
       (after f 2 fits divide_part (divide_in f.code block) 2 (view a x y n v i z c (DIVIDE_AT + 60) (lo ∷ hi ∷ []) m text answers) _ _ 70 refl
       (rw b (narrow f fits block lo hi text answers m top few _ _ _ _ _ _ _ p less))))
-      (λ more. let b : nat_le (m RIGHT) (m 0xfc) ≡ true = le-leb _ _ more in
+      (λ more. let b : nat_le (m RIGHT) (m (LEFT + 1)) ≡ true = le-leb _ _ more in
       after f 2 fits divide_part (divide_in f.code block) 2 (view a x y n v i z c (DIVIDE_AT + 60) (lo ∷ hi ∷ []) m text answers) _ _ 261 refl
       (rw b (by_word _ _ _ _ _ _ _ _)))
-      (cases_lt (m 0xfc) (m RIGHT))
+      (cases_lt (m (LEFT + 1)) (m RIGHT))
 
-  byte_right : (a x y : ℕ) (n v i z c : Bool) → m 0xfe ≡ 0 → Goal (view a x y n v i z c (DIVIDE_AT + 56) (lo ∷ hi ∷ []) m text answers) (2 + (3 + 261))
+  byte_right : (a x y : ℕ) (n v i z c : Bool) → m (RIGHT + 1) ≡ 0 → Goal (view a x y n v i z c (DIVIDE_AT + 56) (lo ∷ hi ∷ []) m text answers) (2 + (3 + 261))
   byte_right a x y n v i z c top =
       ⊎_elim
       (λ few. let b : eqb (m RIGHT / 128 % 2) 1 ≡ false = ne_eqb _ _ (λ e. omega (arith, few, e)) in
@@ -47,14 +47,14 @@ module _ (f : Setup) (fits : Fits f 2) (block : Holds block_part f.code) (lo hi 
   whole : (a x y : ℕ) (n v i z c : Bool) → Goal (view a x y n v i z c unsigned_at (lo ∷ hi ∷ []) m text answers) 268
   whole a x y n v i z c =
       ⊎_elim
-      (λ none. let b : eqb (m 0xfe) 0 ≡ true = eq-eqb _ _ none in
+      (λ none. let b : eqb (m (RIGHT + 1)) 0 ≡ true = eq-eqb _ _ none in
       after f 2 fits divide_part (divide_in f.code block) 1 (view a x y n v i z c unsigned_at (lo ∷ hi ∷ []) m text answers) _ _ (2 + (3 + 261)) refl
       (rw b (byte_right _ _ _ _ _ _ _ _ none)))
-      (λ any. let b : eqb (m 0xfe) 0 ≡ false = ne_eqb _ _ any in
+      (λ any. let b : eqb (m (RIGHT + 1)) 0 ≡ false = ne_eqb _ _ any in
       looser f _ _ _ [] (2 + 261) 268 (omega arith) (λ w h. h)
       (after f 2 fits divide_part (divide_in f.code block) 1 (view a x y n v i z c unsigned_at (lo ∷ hi ∷ []) m text answers) _ _ 261 refl
       (rw b (by_word _ _ _ _ _ _ _ _))))
-      (cases_eq (m 0xfe) 0)
+      (cases_eq (m (RIGHT + 1)) 0)
 
 pub unsigned_law : UnsignedLaw
 unsigned_law f fits block lo hi text answers m a x y n v i z c p q some most = whole f fits block lo hi text answers m p q some most a x y n v i z c

@@ -12,12 +12,8 @@ use Rattle.tb_runtime16.specs.Places.{DIVIDE_AT, LEFT, RIGHT, RESULT}
 use Rattle.tb_runtime16.specs.Block.{block_part}
 use Rattle.tb_runtime16.specs.Laws.{IsWord, Back, Parted}
 use Rattle.tb_runtime16.proofs.Within.{divide_part, divide_in}
-use Rattle.tb_runtime16.proofs.Words.{carried, doubled, doubled_in, subtracted, compared, compared_less}
+use Rattle.tb_runtime16.proofs.Words.{pow2, small_byte, carried, doubled, doubled_in, subtracted, compared, compared_less}
 use Rattle.tb_runtime16.proofs.Frames.{Frame, frame_put}
-
-abbrev pub pow2 : ℕ → ℕ
-pow2 zero = 1
-pow2 (suc k) = pow2 k + pow2 k
 
 pub double : (a b : ℕ) → (a + a) * b ≡ a * b + a * b
 double a b = grind arith
@@ -39,9 +35,6 @@ up l h e p q r = omega arith
 taken_from : (r d w : ℕ) → r < 65536 → d ≤ r → w ≡ (r + (65536 - d)) % 65536 → w + d ≡ r
 taken_from r d w p q e = omega arith
 
-pub byte_of : (n : ℕ) → n % 256 < 256
-byte_of n = omega arith
-
 rest_small : (w d r l : ℕ) → w + d ≡ 2 * r + l / 32768 → r < d → l < 65536 → w < d
 rest_small w d r l e p q = omega arith
 
@@ -57,7 +50,7 @@ module _ (f : Setup) (fits : Fits f 2) (block : Holds block_part f.code) (lo hi 
     left : IsWord m LEFT
     rest : IsWord m RESULT
     low : m RIGHT ≡ m0 RIGHT
-    high : m 0xfe ≡ m0 0xfe
+    high : m (RIGHT + 1) ≡ m0 (RIGHT + 1)
     others : Frame m0 m
     less : word_in m RESULT < word_in m0 RIGHT
     few : q < pow2 j
@@ -108,7 +101,7 @@ module _ (f : Setup) (fits : Fits f 2) (block : Holds block_part f.code) (lo hi 
       (rw more (go _ _ _ _ _ _ _ _ m j q h less (omega (arith, s)))))
 
   -- the divisor goes into the rest: X, A and 1
-  keep : (k : ℕ) → Less k → (a x y : ℕ) (n v i z c : Bool) (m : ℕ → ℕ) (j q : ℕ) → Held j q (with_byte (with_byte (with_byte m RESULT x) 0xc067 a) LEFT ((m LEFT + 1) % 256)) → y ≡ suc k → j + k ≡ 16 → Goal (view a x y n v i z c (DIVIDE_AT + 127) (lo ∷ hi ∷ []) m text answers) (3 + (16 * k + 3))
+  keep : (k : ℕ) → Less k → (a x y : ℕ) (n v i z c : Bool) (m : ℕ → ℕ) (j q : ℕ) → Held j q (with_byte (with_byte (with_byte m RESULT x) (RESULT + 1) a) LEFT ((m LEFT + 1) % 256)) → y ≡ suc k → j + k ≡ 16 → Goal (view a x y n v i z c (DIVIDE_AT + 127) (lo ∷ hi ∷ []) m text answers) (3 + (16 * k + 3))
   unfolding Less
   keep k go a x y n v i z c m j q h e s =
       after f 2 fits divide_part (divide_in f.code block) 2 (view a x y n v i z c (DIVIDE_AT + 127) (lo ∷ hi ∷ []) m text answers) _ _ (16 * k + 3) refl
@@ -118,12 +111,12 @@ module _ (f : Setup) (fits : Fits f 2) (block : Holds block_part f.code) (lo hi 
   unfolding Less Next
   turn k go a x y n v i z c m j q h e s =
       let l0 = 2 * m LEFT % 256 in
-      let l1 = 2 * m 0xfc % 256 + bit (eqb (m LEFT / 128 % 2) 1) in
-      let r0 = 2 * m RESULT % 256 + bit (eqb (m 0xfc / 128 % 2) 1) in
-      let r1 = 2 * m 0xc067 % 256 + bit (eqb (m RESULT / 128 % 2) 1) in
-      let top = carried (m LEFT) (m 0xfc) h.left.0 h.left.1 in
-      let left = doubled (m LEFT) (m 0xfc) h.left.0 h.left.1 in
-      let rest : r0 + 256 * r1 ≡ 2 * word_in m RESULT + word_in m LEFT / 32768 = omega (arith, top, h.left, h.less, most, doubled_in (m RESULT) (m 0xc067) (bit (eqb (m 0xfc / 128 % 2) 1)) h.rest.0 h.rest.1 (omega (arith, top, h.left))) in
+      let l1 = 2 * m (LEFT + 1) % 256 + bit (eqb (m LEFT / 128 % 2) 1) in
+      let r0 = 2 * m RESULT % 256 + bit (eqb (m (LEFT + 1) / 128 % 2) 1) in
+      let r1 = 2 * m (RESULT + 1) % 256 + bit (eqb (m RESULT / 128 % 2) 1) in
+      let top = carried (m LEFT) (m (LEFT + 1)) h.left.0 h.left.1 in
+      let left = doubled (m LEFT) (m (LEFT + 1)) h.left.0 h.left.1 in
+      let rest : r0 + 256 * r1 ≡ 2 * word_in m RESULT + word_in m LEFT / 32768 = omega (arith, top, h.left, h.less, most, doubled_in (m RESULT) (m (RESULT + 1)) (bit (eqb (m (LEFT + 1) / 128 % 2) 1)) h.rest.0 h.rest.1 (omega (arith, top, h.left))) in
       let small0 : r0 < 256 = omega (arith, top, h.left) in
       let small1 : r1 < 256 = omega (arith, rest, h.left, h.less, most) in
       let right : IsWord m RIGHT = (omega (arith, h.low, d), omega (arith, h.high, d)) in
@@ -133,7 +126,7 @@ module _ (f : Setup) (fits : Fits f 2) (block : Holds block_part f.code) (lo hi 
       let small3 : l1 < 256 = omega (arith, left, h.left) in
       let few : word_in m LEFT < 65536 = omega (arith, h.left) in
       ⊎_elim
-      (λ less. let t = compared_less r0 r1 (m RIGHT) (m 0xfe) small0 small1 right.0 right.1 less in
+      (λ less. let t = compared_less r0 r1 (m RIGHT) (m (RIGHT + 1)) small0 small1 right.0 right.1 less in
       looser f _ _ _ [] (11 + (16 * k + 3)) (16 * k + 17) (omega arith) (λ w h. h)
       (after f 2 fits divide_part (divide_in f.code block) 10 (view a x y n v i z c (DIVIDE_AT + 103) (lo ∷ hi ∷ []) m text answers) _ _ (16 * k + 3) refl
       (rw t (go _ _ _ _ _ _ _ _ _ (suc j) (q + q)
@@ -142,22 +135,22 @@ module _ (f : Setup) (fits : Fits f 2) (block : Holds block_part f.code) (lo hi 
         rest = (small0, small1);
         low = h.low;
         high = h.high;
-        others = frame_put _ _ 0xc067 _ refl (frame_put _ _ RESULT _ refl (frame_put _ _ 0xfc _ refl (frame_put _ _ LEFT _ refl h.others)));
+        others = frame_put _ _ (RESULT + 1) _ refl (frame_put _ _ RESULT _ refl (frame_put _ _ (LEFT + 1) _ refl (frame_put _ _ LEFT _ refl h.others)));
         less = subst (λ d. r0 + 256 * r1 < d) same less;
         few = few_less q (pow2 j) h.few;
         sum = sum_less (word_in m LEFT) (word_in m RESULT) q (word_in m0 RIGHT) (pow2 j) (word_in m0 LEFT) (l0 + 256 * l1) (r0 + 256 * r1) few left rest h.sum;
       }) e s))))
-      (λ more. let t = compared r0 r1 (m RIGHT) (m 0xfe) small0 small1 right.0 right.1 more in
-      let rest' = taken_from (r0 + 256 * r1) (word_in m0 RIGHT) _ wide (subst (λ d. d ≤ r0 + 256 * r1) same more) (subtracted r0 r1 (m RIGHT) (m 0xfe) small0 small1 right.0 right.1 ∙ ap (λ d. (r0 + 256 * r1 + (65536 - d)) % 65536) same) in
+      (λ more. let t = compared r0 r1 (m RIGHT) (m (RIGHT + 1)) small0 small1 right.0 right.1 more in
+      let rest' = taken_from (r0 + 256 * r1) (word_in m0 RIGHT) _ wide (subst (λ d. d ≤ r0 + 256 * r1) same more) (subtracted r0 r1 (m RIGHT) (m (RIGHT + 1)) small0 small1 right.0 right.1 ∙ ap (λ d. (r0 + 256 * r1 + (65536 - d)) % 65536) same) in
       looser f _ _ _ [] (11 + (3 + (16 * k + 3))) (16 * k + 17) (omega arith) (λ w h. h)
       (after f 2 fits divide_part (divide_in f.code block) 10 (view a x y n v i z c (DIVIDE_AT + 103) (lo ∷ hi ∷ []) m text answers) _ _ (3 + (16 * k + 3)) refl
       (rw t (keep k go _ _ _ _ _ _ _ _ _ (suc j) (q + q + 1)
       (record {
-        left = (byte_of _, small3);
-        rest = (byte_of _, byte_of _);
+        left = (small_byte _, small3);
+        rest = (small_byte _, small_byte _);
         low = h.low;
         high = h.high;
-        others = frame_put _ _ LEFT _ refl (frame_put _ _ 0xc067 _ refl (frame_put _ _ RESULT _ refl (frame_put _ _ 0xc067 _ refl (frame_put _ _ RESULT _ refl (frame_put _ _ 0xfc _ refl (frame_put _ _ LEFT _ refl h.others))))));
+        others = frame_put _ _ LEFT _ refl (frame_put _ _ (RESULT + 1) _ refl (frame_put _ _ RESULT _ refl (frame_put _ _ (RESULT + 1) _ refl (frame_put _ _ RESULT _ refl (frame_put _ _ (LEFT + 1) _ refl (frame_put _ _ LEFT _ refl h.others))))));
         less = rest_small _ (word_in m0 RIGHT) (word_in m RESULT) (word_in m LEFT) (rest' ∙ rest) h.less few;
         few = few_more q (pow2 j) h.few;
         sum = sum_more (word_in m LEFT) (word_in m RESULT) q (word_in m0 RIGHT) (pow2 j) (word_in m0 LEFT) _ _ few (up l0 l1 (word_in m LEFT) small2 small3 left) (rest' ∙ rest) h.sum;
@@ -174,5 +167,5 @@ module _ (f : Setup) (fits : Fits f 2) (block : Holds block_part f.code) (lo hi 
       looser f _ _ _ [] (4 + 257) 261 (omega arith) (λ w h. h)
       (after f 2 fits divide_part (divide_in f.code block) 3 (view a x y n v i z c (DIVIDE_AT + 93) (lo ∷ hi ∷ []) m0 text answers) _ _ 257 refl
       (turn 15 (lesses 15) _ _ _ _ _ _ _ _ _ 0 0
-      (record { left = p; rest = (omega arith, omega arith); low = refl; high = refl; others = frame_put _ _ 0xc067 _ refl (frame_put _ _ RESULT _ refl (λ a e. refl)); less = omega (arith, some); few = omega arith; sum = omega arith })
+      (record { left = p; rest = (omega arith, omega arith); low = refl; high = refl; others = frame_put _ _ (RESULT + 1) _ refl (frame_put _ _ RESULT _ refl (λ a e. refl)); less = omega (arith, some); few = omega arith; sum = omega arith })
       refl refl))

@@ -1,5 +1,5 @@
 -- Words in two bytes, as the processor's definitions come to them.
-use Rattle.std.proofs.Common.{◌≡◌, ℕ, ◌+◌, ◌-◌, ◌*◌, ◌/◌, ◌%◌, ◌<◌, ◌≤◌, Bool, true, false, not, if◌then◌else◌, refl, sym, ap, ◌∙◌, ⊎_elim, arith, eqb, mul_assoc, mul_comm}
+use Rattle.std.proofs.Common.{◌≡◌, ℕ, zero, suc, ◌+◌, ◌-◌, ◌*◌, ◌/◌, ◌%◌, ◌<◌, ◌≤◌, Bool, true, false, not, if◌then◌else◌, refl, sym, ap, ◌∙◌, ⊎_elim, arith, eqb, mul_assoc, mul_comm}
 use Rattle.std.proofs.lemmas.Bool.{cases_eq, cases_lt, eq-eqb, ne_eqb, le-leb, lt-leb, leb-true}
 use Rattle.std.proofs.lemmas.Nat.{mul-mod_first}
 use Rattle.std.proofs.Math.Nat.{add-mod-mod, mod-add-mod, div-le_self}
@@ -7,7 +7,14 @@ use Rattle.std.specs.Prelude.{nat_lt, nat_le}
 use Rattle.tb_cpu.specs.Effects.{bit}
 use Rattle.tb_words.specs.Words.{word, is_negative, magnitude, negated, with_sign, differ, quotient}
 
--- ---- bits and carries
+-- ---- powers, bytes, bits and carries
+abbrev pub pow2 : ℕ → ℕ
+pow2 zero = 1
+pow2 (suc k) = pow2 k + pow2 k
+
+pub small_byte : (n : ℕ) → n % 256 < 256
+small_byte n = omega arith
+
 pub one_odd : (n : ℕ) → bit (eqb (n / 1 % 2) 1) ≡ n % 2
 one_odd n = ⊎_elim (λ e. ap bit (eq-eqb (n / 1 % 2) 1 e) ∙ omega arith) (λ e. ap bit (ne_eqb (n / 1 % 2) 1 e) ∙ omega arith) (cases_eq (n / 1 % 2) 1)
 

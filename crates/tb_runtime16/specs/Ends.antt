@@ -7,7 +7,7 @@ use Rattle.tb_kernal.specs.Starts.{IsStart}
 use Rattle.tb_reaching.specs.View.{View, Setup, Part, Holds, Fits, Comes, view, back_at, part_at}
 use Rattle.tb_reaching.specs.Start.{setup_of, view_of, home_low, home_high, IsHome, Homed}
 use Rattle.tb_lower.specs.Control.{fault_text}
-use Rattle.tb_runtime16.specs.Places.{FAULT_AT, FAULT_LINE_AT, POLL_AT, HOME_S, LINE}
+use Rattle.tb_runtime16.specs.Places.{VARS, SEEDED, HOME_S, SEED, LINE, NOTES, LINES_AT, FAULT_AT, FAULT_LINE_AT, POLL_AT}
 use Rattle.tb_runtime16.specs.Block.{block_part}
 use Rattle.tb_runtime16.specs.Laws.{IsWord, Leaves}
 
@@ -38,11 +38,11 @@ PollLaw =
 
 -- places that the prologue clears
 abbrev pub is_cleared : ℕ → Bool
-is_cleared a = within 0xc000 0xc036 a || within 0xc038 0xc03d a
+is_cleared a = within VARS SEEDED a || within SEED (NOTES + 1) a
 
 -- the end of the prologue, from a start s: at the first line, the cleared places zero, keyboard and return as at s
 pub record Begun (f : Setup) (s : State) (w : View) : Type 0 where
-  pub pc : w.regs.pc ≡ 0x0c00
+  pub pc : w.regs.pc ≡ LINES_AT
   pub stack : w.stack ≡ home_low s ∷ home_high s ∷ []
   pub binary : w.regs.flags.d ≡ false
   pub same_text : w.text ≡ s.text

@@ -1,12 +1,13 @@
 -- What Input promises: one variable's turn.
-use Rattle.std.specs.Prelude.{◌≡◌, ℕ, ◌+◌, ◌*◌, ◌%◌, ◌≤◌, Bool, true, false, ◌&&◌, ◌||◌, List, [], ◌∷◌, ◌++◌, length, nat_le, ◌==◌}
+use Rattle.std.specs.Prelude.{◌≡◌, ℕ, ◌+◌, ◌*◌, ◌%◌, ◌≤◌, Bool, true, false, ◌||◌, List, [], ◌∷◌, ◌++◌, length, ◌==◌}
 use Rattle.tb_cpu.specs.Operands.{word_in}
 use Rattle.tb_cpu.specs.Effects.{bit}
+use Rattle.tb_memmap.specs.Regions.{within}
 use Rattle.tb_reaching.specs.View.{View, Setup, Holds, Fits, Comes, view, back_at}
 use Rattle.tb_reaching.specs.Start.{IsHome, IsWaiting}
 use Rattle.tb_lower.specs.Control.{column_after, fault_text}
 use Rattle.tb_lower.specs.Input.{Nothing, Turn, Got, Bad, Dry, turn}
-use Rattle.tb_runtime16.specs.Places.{INPUT_AT, COLUMN, LEFT, RESULT, LINE, BYTE, OPEN}
+use Rattle.tb_runtime16.specs.Places.{INPUT_AT, COLUMN, LEFT, RESULT, LINE, BYTE, OPEN, SCRATCH}
 use Rattle.tb_runtime16.specs.Block.{block_part}
 use Rattle.tb_runtime16.specs.Ends.{Entered}
 use Rattle.tb_runtime16.specs.Laws.{IsWord, AllBytes}
@@ -15,11 +16,11 @@ use Rattle.tb_runtime16.specs.Laws.{IsWord, AllBytes}
 
 -- where Input keeps the sign it read, or 0 before one: the byte behind SCRATCH
 abbrev pub MINUS : ℕ
-MINUS = 0xc06f
+MINUS = SCRATCH + 1
 
 -- the places that Input changes
 abbrev pub is_changed : ℕ → Bool
-is_changed a = (nat_le LEFT a && nat_le a 0xfc) || ((nat_le RESULT a && nat_le a 0xc067) || ((nat_le BYTE a && nat_le a MINUS) || (a == OPEN || a == COLUMN)))
+is_changed a = within LEFT (LEFT + 1) a || (within RESULT (RESULT + 1) a || (within BYTE MINUS a || (a == OPEN || a == COLUMN)))
 
 -- what Input sends before it reads: nothing where a line is open, else a question mark and a space
 abbrev pub prompt : Bool → List ℕ

@@ -14,7 +14,7 @@ IsWord m at = (m at < 256) × (m (at + 1) < 256)
 
 -- LEFT, RIGHT and RESULT
 abbrev pub is_argument : ℕ → Bool
-is_argument a = within 0xfb 0xfe a || within 0xc066 0xc067 a
+is_argument a = within LEFT (RIGHT + 1) a || within RESULT (RESULT + 1) a
 
 -- ---- how a routine ends
 
@@ -118,7 +118,7 @@ pub record Parted (m0 : ℕ → ℕ) (q r : ℕ) (m : ℕ → ℕ) : Type 0 wher
   pub result_is : IsWord m RESULT
   pub result : word_in m RESULT ≡ r
   pub right_low : m RIGHT ≡ m0 RIGHT
-  pub right_high : m 0xfe ≡ m0 0xfe
+  pub right_high : m (RIGHT + 1) ≡ m0 (RIGHT + 1)
   pub others : (a : ℕ) → is_argument a ≡ false → m a ≡ m0 a
 
 -- inside Divide: quotient and remainder of words without signs
@@ -170,7 +170,7 @@ NumberLaw =
 
 -- whether an address is that of SEEDED or one of the two of SEED
 abbrev pub is_seed : ℕ → Bool
-is_seed a = a == SEEDED || within 0xc038 0xc039 a
+is_seed a = a == SEEDED || within SEED (SEED + 1) a
 
 -- the state of RND before a call
 abbrev pub seed_of : (ℕ → ℕ) → ℕ

@@ -49,11 +49,11 @@ nothing a = false
 
 -- the places that Push may change: NOTES, and the notes' low and high bytes
 abbrev pub push_changes : ℕ → Bool
-push_changes a = within 0xc03C 0xc03D a || (within 0xc100 0xc2f3 a || within 0xc300 0xc4f3 a)
+push_changes a = within NOTES (NOTES + 1) a || (within NOTE_LOW (NOTE_LOW + 499) a || within NOTE_HIGH (NOTE_HIGH + 499) a)
 
 -- the places that Pop may change: NOTES and RESULT
 abbrev pub pop_changes : ℕ → Bool
-pop_changes a = within 0xc03C 0xc03D a || within 0xc066 0xc067 a
+pop_changes a = within NOTES (NOTES + 1) a || within RESULT (RESULT + 1) a
 
 -- back from Push, with these notes in the return list
 pub record Pushed (lo hi : ℕ) (m : ℕ → ℕ) (text answers ns : List ℕ) (w : View) : Type 0 where

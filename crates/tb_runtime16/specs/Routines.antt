@@ -6,7 +6,7 @@ use Rattle.tb_memmap.specs.Regions.{within}
 use Rattle.tb_words.specs.Words.{word, magnitude, quotient, digits_of, seed_after}
 use Rattle.tb_lower.specs.Control.{fault_text, zone, column_after, has_line}
 use Rattle.tb_lower.specs.Input.{Got, Bad, Dry, Nothing, turn}
-use Rattle.tb_runtime16.specs.Places.{POINTER, COLUMN, OPEN, SEEDED, HOME_S, SEED, LINE, NOTES, LEFT, RIGHT, RESULT, TABLE, WANTED, COUNT, LENGTH, SEND_AT, MULTIPLY_AT, DIVIDE_AT, RANDOM_AT, NUMBER_AT, TEXT_AT, ZONE_AT, INPUT_AT, SEARCH_AT, PUSH_AT, POP_AT, FAULT_LINE_AT, FAULT_AT, POLL_AT}
+use Rattle.tb_runtime16.specs.Places.{VARS, HELD, NOTE_LOW, NOTE_HIGH, POINTER, COLUMN, OPEN, SEEDED, HOME_S, SEED, LINE, NOTES, LEFT, RIGHT, RESULT, TABLE, WANTED, COUNT, LENGTH, SEND_AT, MULTIPLY_AT, DIVIDE_AT, RANDOM_AT, NUMBER_AT, TEXT_AT, ZONE_AT, INPUT_AT, SEARCH_AT, PUSH_AT, POP_AT, FAULT_LINE_AT, FAULT_AT, POLL_AT}
 use Rattle.tb_reaching.specs.View.{View, Setup, Part, Holds, Fits, Comes, back_at, Bytes}
 use Rattle.tb_reaching.specs.Start.{IsHome, IsWaiting, Homed}
 use Rattle.tb_runtime16.specs.Block.{block_part}
@@ -25,7 +25,7 @@ pub record WordAt (m : ℕ → ℕ) (at w : ℕ) : Type 0 where
 
 -- the places that a program's state is kept at; all others are scratch
 abbrev pub is_owned : ℕ → Bool
-is_owned a = within 0xc000 0xc061 a || within 0xc100 0xc4f3 a
+is_owned a = within VARS (HELD + 1) a || within NOTE_LOW (NOTE_HIGH + 499) a
 
 -- the RND state is stored, or still the option's
 pub data SeedAt (m : ℕ → ℕ) (option seed : ℕ) : Type 0 where
@@ -120,7 +120,7 @@ pub record Pushed (at : ℕ) (bs : List ℕ) (m : ℕ → ℕ) (keys gets notes 
   pub result_high : w.mem (RESULT + 1) ≡ m (RESULT + 1)
   pub count : WordAt w.mem NOTES (length notes)
   pub noted : Noted w.mem notes
-  pub others : (a : ℕ) → 0xc000 ≤ a → a ≤ 0xc061 → a ≢ NOTES → a ≢ NOTES + 1 → w.mem a ≡ m a
+  pub others : (a : ℕ) → VARS ≤ a → a ≤ HELD + 1 → a ≢ NOTES → a ≢ NOTES + 1 → w.mem a ≡ m a
 
 -- back with a value, and the RND state after it stored
 pub record Drawn (at : ℕ) (bs : List ℕ) (m : ℕ → ℕ) (keys gets : List ℕ) (v seed : ℕ) (w : View) : Type 0 where

@@ -3,7 +3,7 @@ use Rattle.std.specs.Prelude.{◌≡◌, ◌<◌, ◌≤◌, Bool, ℕ, List, []
 use Rattle.tb_cpu.specs.Operands.{word_in}
 use Rattle.tb_memmap.specs.Regions.{within}
 use Rattle.tb_reaching.specs.View.{View, Setup, Part, Holds, Fits, Comes, view}
-use Rattle.tb_runtime16.specs.Places.{SEARCH_AT, WANTED, RESULT, TABLE, COUNT}
+use Rattle.tb_runtime16.specs.Places.{SEARCH_AT, POINTER, WANTED, RESULT, TABLE, COUNT, SCRATCH}
 use Rattle.tb_runtime16.specs.Block.{block_part}
 use Rattle.tb_runtime16.specs.Laws.{IsWord}
 use Rattle.tb_runtime16.specs.Notes.{Returned, Faulted}
@@ -45,7 +45,7 @@ address_of t (e ∷ es) = let later = address_of t es in if nat_eq e.0 t then So
 
 -- the places that Search may change: POINTER, TABLE, RESULT, COUNT and the two bytes from SCRATCH on
 abbrev pub search_changes : ℕ → Bool
-search_changes a = within 0xfb 0xfe a || (within 0xc066 0xc067 a || (within 0xc06a 0xc06b a || within 0xc06e 0xc06f a))
+search_changes a = within POINTER (TABLE + 1) a || (within RESULT (RESULT + 1) a || (within COUNT (COUNT + 1) a || within SCRATCH (SCRATCH + 1) a))
 
 -- back from Search with a line's address at RESULT
 pub record Found (lo hi : ℕ) (m : ℕ → ℕ) (text answers : List ℕ) (address : ℕ) (w : View) : Type 0 where
@@ -60,4 +60,4 @@ Searched lo hi m text answers None w = Faulted 1 lo hi search_changes m text ans
 
 -- Search gives the address of the line with the number at WANTED, or comes to Fault with 1, within 510 Go events for every table
 abbrev pub SearchLaw : Type 0
-SearchLaw = (f : Setup) → Fits f 2 → Holds block_part f.code → (lo hi : ℕ) (text answers : List ℕ) (m : ℕ → ℕ) (a x y : ℕ) (n v i z c : Bool) (lines : List Line) → IsWord m WANTED → IsWord m TABLE → IsWord m COUNT → Shows f.code (word_in m TABLE) (table_bytes lines) → 0x0800 ≤ word_in m TABLE → word_in m TABLE + 4 * length lines ≤ 0xA000 → word_in m COUNT ≡ length lines → 1 ≤ length lines → Rising lines → AllWords lines → Comes f (view a x y n v i z c SEARCH_AT (lo ∷ hi ∷ []) m text answers) (Searched lo hi m text answers (address_of (word_in m WANTED) lines)) [] 510
+SearchLaw = (f : Setup) → Fits f 2 → Holds block_part f.code → (lo hi : ℕ) (text answers : List ℕ) (m : ℕ → ℕ) (a x y : ℕ) (n v i z c : Bool) (lines : List Line) → IsWord m WANTED → IsWord m TABLE → IsWord m COUNT → Shows f.code (word_in m TABLE) (table_bytes lines) → 0x0800 ≤ word_in m TABLE → word_in m TABLE + 4 * length lines ≤ 0xa000 → word_in m COUNT ≡ length lines → 1 ≤ length lines → Rising lines → AllWords lines → Comes f (view a x y n v i z c SEARCH_AT (lo ∷ hi ∷ []) m text answers) (Searched lo hi m text answers (address_of (word_in m WANTED) lines)) [] 510
