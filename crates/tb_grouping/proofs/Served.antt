@@ -5,7 +5,6 @@ use Rattle.std.proofs.lemmas.Bool.{eq-eqb, leb-true}
 use Rattle.std.proofs.lemmas.Bool.Decides.{nat_tests}
 use Rattle.tb_asm.specs.declared.names.Name.{Name}
 use Rattle.tb_asm.specs.Layout.{bytes_from, size}
-use Rattle.tb_asm.proofs.Laws.{all_size}
 use Rattle.tb_kernal.specs.Machine as machine
 use Rattle.tb_reaching.specs.View.{Part, Bytes, Comes, Holds, part_at, is_program}
 use Rattle.tb_reaching.specs.Start.{view_of, home_low, home_high}
@@ -17,7 +16,7 @@ use Rattle.tb_runtime16.specs.Places.{PROLOGUE_AT}
 use Rattle.tb_templates.specs.Program.{rows_code}
 use Rattle.tb_runtime16.specs.Block.{block_bytes, block_part}
 use Rattle.tb_runtime16.specs.Search as table
-use Rattle.tb_runtime16.specs.Search.{Line, Shows, table_bytes, Rising, AllWords}
+use Rattle.tb_runtime16.specs.Search.{Line, table_bytes, Rising, AllWords}
 use Rattle.tb_runtime16.specs.Ends.{Begun}
 use Rattle.tb_runtime16.specs.Routines.{Routines, Tabled, entries, limit_by}
 use Rattle.tb_runtime16.proofs.AllLaws.{all_laws}
@@ -42,12 +41,6 @@ rows_bytes labels all seed (n ∷ ns) among a =
     let r = rows_bytes labels all seed ns (λ m h. among m (ap (λ b. nat_eq n m || b) h ∙ or_true (nat_eq n m))) (a + 2 + 2) in
     λ i. n % 256 ∷ n / 256 ∷ e i % 256 ∷ e i / 256 ∷ r i
 
-shows : (code : Part) (at : ℕ) (bs : List ℕ) → at + length bs ≤ 0xa000 → Bytes code at bs → Shows code at bs
-shows code at [] small h = tt
-shows code at (b ∷ bs) small h =
-    let e : (at + 1) % 65536 ≡ at + 1 = omega (arith, small) in
-    (h.0, shows code (at + 1) bs (omega (arith, small)) (subst (λ p. Bytes code p bs) e h.1))
-
 all_above : (start : ℕ → ℕ) (k : ℕ) (ns : List ℕ) → IsBelowAll k ns → table.AllAbove k (entries start ns)
 all_above start k [] h = tt
 all_above start k (n ∷ ns) h = (h.0, all_above start k ns h.1)
@@ -64,7 +57,7 @@ all_words start (n ∷ ns) small places = (
   all_words start ns (λ m h. small m (ap (λ b. nat_eq n m || b) h ∙ or_true (nat_eq n m))) places,
 )
 
-first_byte : (code : Part) (at : ℕ) (start : ℕ → ℕ) (ns : List ℕ) → 1 ≤ length ns → Shows code at (table_bytes (entries start ns)) → (b : ℕ) × (code at ≡ Some b)
+first_byte : (code : Part) (at : ℕ) (start : ℕ → ℕ) (ns : List ℕ) → 1 ≤ length ns → Bytes code at (table_bytes (entries start ns)) → (b : ℕ) × (code at ≡ Some b)
 first_byte code at start [] some h = absurd (let no : ⊥ = omega (arith, some) in no)
 first_byte code at start (n ∷ ns) some h = (n % 256, h.0)
 
@@ -84,11 +77,10 @@ module _ (place : ℕ) (bytes : List ℕ) (from : 0x0800 ≤ place) (to : place 
   abbrev within : Part
   within = inner ly code
 
-  shown : Shows within ly.table (table_bytes (entries ly.start ns))
+  shown : Bytes within ly.table (table_bytes (entries ly.start ns))
   shown =
       let t = table_lies labels seed code sc laid in
-      let size_is : length (bytes_from labels ly.table (rows_code ns)) ≡ size (rows_code ns) = all_size labels ly.table (rows_code ns) in
-      shows within ly.table (table_bytes (entries ly.start ns)) (omega (arith, t.below, size_is, ap length rows)) (subst (Bytes within ly.table) rows (subst (λ a. Bytes within ly.table (bytes_from labels a (rows_code ns))) (let e : ly.table + 0 ≡ ly.table = omega arith in e) t.bytes))
+      subst (Bytes within ly.table) rows (subst (λ a. Bytes within ly.table (bytes_from labels a (rows_code ns))) (let e : ly.table + 0 ≡ ly.table = omega arith in e) t.bytes)
     where
       rows : bytes_from labels ly.table (rows_code ns) ≡ table_bytes (entries ly.start ns)
       rows = rows_bytes labels ns seed ns (λ n h. h) ly.table

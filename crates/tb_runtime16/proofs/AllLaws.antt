@@ -21,7 +21,7 @@ use Rattle.tb_runtime16.specs.Input as asking
 use Rattle.tb_runtime16.specs.Input.{prompt}
 use Rattle.tb_runtime16.specs.Notes.{Noted, Notes, Faulted}
 use Rattle.tb_runtime16.specs.Notes as listed
-use Rattle.tb_runtime16.specs.Search.{search_changes, Shows, table_bytes, address_of, Searched, Found}
+use Rattle.tb_runtime16.specs.Search.{search_changes, table_bytes, address_of, Searched, Found}
 use Rattle.tb_runtime16.specs.Routines.{WordAt, is_owned, SeedAt, stored, first, Entered, Here, WithA, WithLine, Moves, Waiting, Back, Gives, Parts, Told, Popped, Pushed, Drawn, Asked, line_end, Tabled, entries, limit_by, AllLaws}
 use Rattle.tb_runtime16.proofs.Gathered.{value, small_bytes, holds_word, from_here, from_a, from_line, beside, AtFault, told, faulting, number_column, entries_length, found, not_found}
 use Rattle.tb_runtime16.proofs.SendRuns.{send_law}
@@ -105,7 +105,7 @@ module _ (table seed_option : ℕ) (numbers : List ℕ) (start : ℕ → ℕ) (f
       let s = value m COUNT (length numbers) count in
       let size = entries_length start numbers in
       search_law (under f own) (omega (arith, fits)) block l h text answers m x y z b v i c d (entries start numbers) (small_bytes m WANTED n left) (small_bytes m TABLE table at) (small_bytes m COUNT _ count)
-      (subst (λ p. Shows f.code p (table_bytes (entries start numbers))) (sym t) laid.shown) (omega (arith, t, laid.from)) (omega (arith, t, size, laid.to)) (omega (arith, s, size)) (omega (arith, size, laid.some)) laid.rising laid.words
+      (subst (λ p. Bytes f.code p (table_bytes (entries start numbers))) (sym t) laid.shown) (omega (arith, t, laid.from)) (omega (arith, t, size, laid.to)) (omega (arith, s, size)) (omega (arith, size, laid.some)) laid.rising laid.words
 
   asks : (l h : ℕ) (m : ℕ → ℕ) (text answers : List ℕ) (o : Bool) (j : ℕ) → m OPEN ≡ bit o → m COLUMN < 256 → AllBytes text → WordAt m LINE j → Entered f lo hi m → (x y z : ℕ) (n b i c d : Bool) → Comes f (view x y z n b i c d INPUT_AT (l ∷ h ∷ own) m text answers) (asking.Ended f l h own m answers (m COLUMN) (prompt o) (turn Nothing text)) (prompt o ++ asking.turn_sends (word_in m LINE) (turn Nothing text)) (45 * length text + 587)
   asks l h m text answers o j is_open column small line e x y z n b i c d =

@@ -5,20 +5,20 @@ use Rattle.std.proofs.lemmas.Bool.{ne_eqb, eq-eqb, cases_eq, cases_lt, le-leb, l
 use Rattle.tb_cpu.specs.Operands.{word_in}
 use Rattle.tb_cpu.specs.Effects.{bit}
 use Rattle.tb_memmap.specs.Bytes.{with_byte}
-use Rattle.tb_reaching.specs.View.{Setup, Holds, Fits, Comes, view, is_data}
+use Rattle.tb_reaching.specs.View.{Setup, Holds, Fits, Comes, view, is_data, Bytes}
 use Rattle.tb_reaching.proofs.Memory.{program_not_data}
 use Rattle.tb_reaching.proofs.Start.{in_program}
 use Rattle.tb_reaching.proofs.Comes.{after, ending, looser}
 use Rattle.tb_runtime16.specs.Places.{SEARCH_AT, POINTER, WANTED, RESULT, TABLE, COUNT, SCRATCH}
 use Rattle.tb_runtime16.specs.Block.{block_part}
 use Rattle.tb_runtime16.specs.Laws.{IsWord}
-use Rattle.tb_runtime16.specs.Search.{Line, Shows, table_bytes, Rising, AllWords, address_of, search_changes, Searched, SearchLaw}
+use Rattle.tb_runtime16.specs.Search.{Line, table_bytes, Rising, AllWords, address_of, search_changes, Searched, SearchLaw}
 use Rattle.tb_runtime16.proofs.Within.{search_part, search_in}
 use Rattle.tb_runtime16.proofs.Words.{pow2, halved}
 use Rattle.tb_runtime16.proofs.Frames.{Changes, changes_put}
 use Rattle.tb_runtime16.proofs.Pointed.{carry_at_least, carry_below}
 use Rattle.tb_runtime16.proofs.Through.{loading, comparing, subtracting, times_four, summed, difference}
-use Rattle.tb_runtime16.proofs.Tables.{cut, shows_front, shows_back, rising_front, rising_back, words_front, words_back, other_line, address_front, address_back}
+use Rattle.tb_runtime16.proofs.Tables.{cut, entry_bytes, bytes_front, bytes_back, rising_front, rising_back, words_front, words_back, other_line, address_front, address_back}
 
 other_byte : (b k : ℕ) → b < 256 → k < 256 → b ≢ k → eqb ((b + 256 - k) % 256) 0 ≡ false
 other_byte b k p q n = ne_eqb _ _ (λ h. n (omega (arith, p, q, h)))
@@ -33,7 +33,7 @@ same_bytes n l h p q = omega arith
 module _ (f : Setup) (fits : Fits f 2) (block : Holds block_part f.code) (lo hi : ℕ) (text answers : List ℕ) (m0 : ℕ → ℕ) (left : IsWord m0 WANTED) (r : Option ℕ) where
   -- these entries, from at on, have the line
   record Piece (es : List Line) (at : ℕ) : Type 0 where
-    shown : Shows f.code at (table_bytes es)
+    shown : Bytes f.code at (table_bytes es)
     from : 0x0800 ≤ at
     to : at + 4 * length es ≤ 0xa000
     rising : Rising es
@@ -62,7 +62,7 @@ module _ (f : Setup) (fits : Fits f 2) (block : Holds block_part f.code) (lo hi 
   front_part front e back at h less =
       let to = h.to in
       record {
-        shown = shows_front f.code at front (e ∷ back) h.shown;
+        shown = bytes_front f.code at front (e ∷ back) h.shown;
         from = h.from;
         to = omega (arith, length-append front (e ∷ back));
         rising = rising_front front (e ∷ back) h.rising;
@@ -76,7 +76,7 @@ module _ (f : Setup) (fits : Fits f 2) (block : Holds block_part f.code) (lo hi 
       let to = h.to in
       let from = h.from in
       record {
-        shown = shows_back f.code at front (e ∷ back) h.shown;
+        shown = bytes_back f.code at front (e ∷ back) (omega (arith, length-append front (e ∷ back))) h.shown;
         from = omega arith;
         to = omega (arith, length-append front (e ∷ back));
         rising = rising_back front (e ∷ back) h.rising;
@@ -99,14 +99,15 @@ module _ (f : Setup) (fits : Fits f 2) (block : Holds block_part f.code) (lo hi 
       let near = h.near in
       let y1 = (y + 1) % 256 in
       let y2 = (y1 + 1) % 256 in
-      let p2 : (m TABLE + 256 * m (TABLE + 1) + y1) % 65536 ≡ at + 1 + 1 = omega arith in
-      let p3 : (m TABLE + 256 * m (TABLE + 1) + y2) % 65536 ≡ at + 1 + 1 + 1 = omega arith in
+      let b = entry_bytes f.code at e [] (omega arith) h.part.shown in
+      let p2 : (m TABLE + 256 * m (TABLE + 1) + y1) % 65536 ≡ at + 2 = omega arith in
+      let p3 : (m TABLE + 256 * m (TABLE + 1) + y2) % 65536 ≡ at + 3 = omega arith in
       let m1 = with_byte m RESULT (e.1 % 256) in
       subst (λ o. Comes f (view a x y n v i z c (SEARCH_AT + 0xA8) (lo ∷ hi ∷ []) m text answers) (Searched lo hi m0 text answers o) [] 7) s
       (after f 2 fits search_part (search_in f.code block) 0 (view a x y n v i z c (SEARCH_AT + 0xA8) (lo ∷ hi ∷ []) m text answers) _ _ 6 refl
-      (loading f 2 fits TABLE (SEARCH_AT + 0xA9) (at + 1 + 1) (e.1 % 256) _ _ y1 _ _ _ _ _ _ m text answers _ _ 5 (search_in f.code block _ _ refl, (search_in f.code block _ _ refl, tt)) refl refl refl p2 (program_place (at + 1 + 1) (omega arith) (omega arith)) h.part.shown.1.1.0
+      (loading f 2 fits TABLE (SEARCH_AT + 0xA9) (at + 2) (e.1 % 256) _ _ y1 _ _ _ _ _ _ m text answers _ _ 5 (search_in f.code block _ _ refl, (search_in f.code block _ _ refl, tt)) refl refl refl p2 (program_place (at + 2) (omega arith) (omega arith)) b.2
       (after f 2 fits search_part (search_in f.code block) 1 (view (e.1 % 256) x y1 _ v i _ c (SEARCH_AT + 0xAB) (lo ∷ hi ∷ []) m text answers) _ _ 3 refl
-      (loading f 2 fits TABLE (SEARCH_AT + 0xAF) (at + 1 + 1 + 1) (e.1 / 256) _ _ y2 _ _ _ _ _ _ m1 text answers _ _ 2 (search_in f.code block _ _ refl, (search_in f.code block _ _ refl, tt)) refl refl refl p3 (program_place (at + 1 + 1 + 1) (omega arith) (omega arith)) h.part.shown.1.1.1.0
+      (loading f 2 fits TABLE (SEARCH_AT + 0xAF) (at + 3) (e.1 / 256) _ _ y2 _ _ _ _ _ _ m1 text answers _ _ 2 (search_in f.code block _ _ refl, (search_in f.code block _ _ refl, tt)) refl refl refl p3 (program_place (at + 3) (omega arith) (omega arith)) b.3
       (ending f 2 fits search_part (search_in f.code block) 1 (view (e.1 / 256) x y2 _ v i _ c (SEARCH_AT + 0xB1) (lo ∷ hi ∷ []) m1 text answers) _ refl
       (record {
         back = record { at = refl; on_stack = refl; binary = refl; same_text = refl; same_answers = refl; others = changes_put _ _ _ (RESULT + 1) _ refl (changes_put _ _ _ RESULT _ refl h.others) };
@@ -127,7 +128,7 @@ module _ (f : Setup) (fits : Fits f 2) (block : Holds block_part f.code) (lo hi 
       let next : y1 ≡ m POINTER + 1 = omega arith in
       let load = λ (N : ℕ). λ (k : (n z : Bool) → Comes f (view (e.0 / 256) x y1 n v i z c (SEARCH_AT + 0xA3) (lo ∷ hi ∷ []) m text answers) (Searched lo hi m0 text answers r) [] N).
       after f 2 fits search_part (search_in f.code block) 0 (view a x y n v i z c (SEARCH_AT + 0xA0) (lo ∷ hi ∷ []) m text answers) _ _ (1 + N) refl
-      (loading f 2 fits TABLE (SEARCH_AT + 0xA1) (at + 1) (e.0 / 256) _ _ y1 _ _ _ _ _ _ m text answers _ _ N (search_in f.code block _ _ refl, (search_in f.code block _ _ refl, tt)) refl refl refl p1 (program_place (at + 1) (omega arith) (omega arith)) h.part.shown.1.0 (k _ _)) in
+      (loading f 2 fits TABLE (SEARCH_AT + 0xA1) (at + 1) (e.0 / 256) _ _ y1 _ _ _ _ _ _ m text answers _ _ N (search_in f.code block _ _ refl, (search_in f.code block _ _ refl, tt)) refl refl refl p1 (program_place (at + 1) (omega arith) (omega arith)) (entry_bytes f.code at e [] (omega arith) h.part.shown).1 (k _ _)) in
       ⊎_elim
       (λ yes. let t : eqb ((e.0 / 256 + 256 - m (WANTED + 1)) % 256) 0 ≡ true = eq-eqb _ _ (omega (arith, yes)) in
       let num : e.0 ≡ word_in m0 WANTED = same_bytes e.0 (m0 WANTED) (m0 (WANTED + 1)) (low ∙ l0) (yes ∙ l1) in
@@ -221,7 +222,7 @@ module _ (f : Setup) (fits : Fits f 2) (block : Holds block_part f.code) (lo hi 
       let here = at + 4 * length front in
       let start : 0x0800 ≤ here = omega arith in
       let end : here + 4 ≤ 0xa000 = omega (arith, whole) in
-      let shown = shows_back f.code at front (e ∷ back) h.part.shown in
+      let shown = entry_bytes f.code (at + 4 * length front) e back (omega (arith, length-append front (e ∷ back))) (bytes_back f.code at front (e ∷ back) (omega (arith, length-append front (e ∷ back))) h.part.shown) in
       let number : e.0 < 65536 = (words_back front (e ∷ back) h.part.words).0 in
       let l0 : m WANTED ≡ m0 WANTED = h.others WANTED refl in
       let l1 : m (WANTED + 1) ≡ m0 (WANTED + 1) = h.others (WANTED + 1) refl in
@@ -235,7 +236,7 @@ module _ (f : Setup) (fits : Fits f 2) (block : Holds block_part f.code) (lo hi 
       after f 2 fits search_part (search_in f.code block) 0 (view a x y n v i z c (SEARCH_AT + 0x75) (lo ∷ hi ∷ []) m text answers) _ _ (1 + (2 + (1 + N))) refl
       (comparing f 2 fits TABLE (SEARCH_AT + 0x78) here (e.0 % 256) (m WANTED) x y _ _ _ _ _ _ m text answers _ _ (2 + (1 + N)) (search_in f.code block _ _ refl, (search_in f.code block _ _ refl, tt)) refl refl refl p0 (program_place here start (omega arith)) shown.0 (λ n z.
       after f 2 fits search_part (search_in f.code block) 1 (view (m WANTED) x y n v i z _ (SEARCH_AT + 0x7A) (lo ∷ hi ∷ []) m text answers) _ _ (1 + N) refl
-      (subtracting f 2 fits TABLE (SEARCH_AT + 0x7E) (here + 1) (e.0 / 256) (m (WANTED + 1)) x y1 _ _ _ _ _ _ m text answers _ _ N (search_in f.code block _ _ refl, (search_in f.code block _ _ refl, tt)) refl refl refl p1 (program_place (here + 1) (omega arith) (omega arith)) shown.1.0 next))) in
+      (subtracting f 2 fits TABLE (SEARCH_AT + 0x7E) (here + 1) (e.0 / 256) (m (WANTED + 1)) x y1 _ _ _ _ _ _ m text answers _ _ N (search_in f.code block _ _ refl, (search_in f.code block _ _ refl, tt)) refl refl refl p1 (program_place (here + 1) (omega arith) (omega arith)) shown.1 next))) in
       ⊎_elim
       (λ less. let t = carry_below (m WANTED) (m (WANTED + 1)) (e.0 % 256) (e.0 / 256) l0_small l1_small (omega arith) (omega arith) (omega arith) in
       looser f _ _ _ [] (1 + (1 + (2 + (1 + (1 + (3 + (21 * k + 17))))))) (6 + (7 + (21 * k + 17))) (omega arith) (λ w h. h)
@@ -341,7 +342,7 @@ module _ (f : Setup) (fits : Fits f 2) (block : Holds block_part f.code) (lo hi 
       let here = at + 4 * length front in
       let start : 0x0800 ≤ here = omega arith in
       let end : here + 4 ≤ 0xa000 = omega (arith, whole) in
-      let shown = shows_back f.code at front (e ∷ back) h.part.shown in
+      let shown = entry_bytes f.code (at + 4 * length front) e back (omega (arith, length-append front (e ∷ back))) (bytes_back f.code at front (e ∷ back) (omega (arith, length-append front (e ∷ back))) h.part.shown) in
       let number : e.0 < 65536 = (words_back front (e ∷ back) h.part.words).0 in
       let l0 : m WANTED ≡ m0 WANTED = h.others WANTED refl in
       let l1 : m (WANTED + 1) ≡ m0 (WANTED + 1) = h.others (WANTED + 1) refl in
@@ -353,7 +354,7 @@ module _ (f : Setup) (fits : Fits f 2) (block : Holds block_part f.code) (lo hi 
       after f 2 fits search_part (search_in f.code block) 1 (view a x y n v i z c (SEARCH_AT + 0x2D) (lo ∷ hi ∷ []) m text answers) _ _ (1 + (2 + (1 + N))) refl
       (comparing f 2 fits POINTER (SEARCH_AT + 0x32) here (e.0 % 256) (m WANTED) x 0 _ _ _ _ _ _ m text answers _ _ (2 + (1 + N)) (search_in f.code block _ _ refl, (search_in f.code block _ _ refl, tt)) refl refl refl p0 (program_place here start (omega arith)) shown.0 (λ n z.
       after f 2 fits search_part (search_in f.code block) 1 (view (m WANTED) x 0 n v i z _ (SEARCH_AT + 0x34) (lo ∷ hi ∷ []) m text answers) _ _ (1 + N) refl
-      (subtracting f 2 fits POINTER (SEARCH_AT + 0x38) (here + 1) (e.0 / 256) (m (WANTED + 1)) x 1 _ _ _ _ _ _ m text answers _ _ N (search_in f.code block _ _ refl, (search_in f.code block _ _ refl, tt)) refl refl refl p1 (program_place (here + 1) (omega arith) (omega arith)) shown.1.0 next))) in
+      (subtracting f 2 fits POINTER (SEARCH_AT + 0x38) (here + 1) (e.0 / 256) (m (WANTED + 1)) x 1 _ _ _ _ _ _ m text answers _ _ N (search_in f.code block _ _ refl, (search_in f.code block _ _ refl, tt)) refl refl refl p1 (program_place (here + 1) (omega arith) (omega arith)) shown.1 next))) in
       ⊎_elim
       (λ less. let t = carry_below (m WANTED) (m (WANTED + 1)) (e.0 % 256) (e.0 / 256) l0_small l1_small (omega arith) (omega arith) (omega arith) in
       looser f _ _ _ [] (2 + (1 + (2 + (1 + (1 + (5 + (40 * k + 150))))))) (7 + (11 + (40 * k + 150))) (omega arith) (λ w h. h)
@@ -456,7 +457,7 @@ module _ (f : Setup) (fits : Fits f 2) (block : Holds block_part f.code) (lo hi 
       (λ a x y n v i z c. wide k (probes k) a x y n v i z c m es at h large most)))
       (cases_lt (length es) 64)
 
-  whole : (a x y : ℕ) (n v i z c : Bool) (es : List Line) → IsWord m0 TABLE → IsWord m0 COUNT → Shows f.code (word_in m0 TABLE) (table_bytes es) → 0x0800 ≤ word_in m0 TABLE → word_in m0 TABLE + 4 * length es ≤ 0xa000 → word_in m0 COUNT ≡ length es → 1 ≤ length es → Rising es → AllWords es → address_of (word_in m0 WANTED) es ≡ r → Comes f (view a x y n v i z c SEARCH_AT (lo ∷ hi ∷ []) m0 text answers) (Searched lo hi m0 text answers r) [] 510
+  whole : (a x y : ℕ) (n v i z c : Bool) (es : List Line) → IsWord m0 TABLE → IsWord m0 COUNT → Bytes f.code (word_in m0 TABLE) (table_bytes es) → 0x0800 ≤ word_in m0 TABLE → word_in m0 TABLE + 4 * length es ≤ 0xa000 → word_in m0 COUNT ≡ length es → 1 ≤ length es → Rising es → AllWords es → address_of (word_in m0 WANTED) es ≡ r → Comes f (view a x y n v i z c SEARCH_AT (lo ∷ hi ∷ []) m0 text answers) (Searched lo hi m0 text answers r) [] 510
   unfolding Probe
   whole a x y n v i z c es table size shown from to count some rising words same =
       probes 9 a x y n v i z c m0 es (word_in m0 TABLE)

@@ -1,8 +1,8 @@
 -- Parts of a table.
-use Rattle.std.proofs.Common.{◌≡◌, ◌≢◌, ℕ, zero, suc, ◌+◌, ◌*◌, ◌%◌, ◌<◌, ◌≤◌, List, [], ◌∷◌, ◌++◌, length, refl, ap, ◌∙◌, subst, arith, if◌then◌else◌, eqb, Some, None}
+use Rattle.std.proofs.Common.{◌≡◌, ◌≢◌, ℕ, zero, suc, ◌+◌, ◌*◌, ◌/◌, ◌%◌, ◌<◌, ◌≤◌, List, [], ◌∷◌, ◌++◌, length, refl, ap, ◌∙◌, subst, arith, if◌then◌else◌, eqb, Some, None}
 use Rattle.std.proofs.lemmas.Bool.{ne_eqb}
-use Rattle.tb_reaching.specs.View.{Part}
-use Rattle.tb_runtime16.specs.Search.{Line, Shows, table_bytes, AllAbove, Rising, AllWords, address_of}
+use Rattle.tb_reaching.specs.View.{Part, Bytes}
+use Rattle.tb_runtime16.specs.Search.{Line, table_bytes, AllAbove, Rising, AllWords, address_of}
 
 -- a table cut before its entry h
 pub record Cut (es : List Line) (h : ℕ) : Type 0 where
@@ -20,13 +20,28 @@ cut (e ∷ es) (suc h) l =
     record { front = e ∷ c.front; here = c.here; back = c.back; whole = ap (λ l. e ∷ l) c.whole; size = omega (arith, c.size) }
 
 -- ---- the bytes
-pub shows_front : (code : Part) (at : ℕ) (a b : List Line) → Shows code at (table_bytes (a ++ b)) → Shows code at (table_bytes a)
-shows_front code at [] b h = tt
-shows_front code at (e ∷ a) b h = (h.0, (h.1.0, (h.1.1.0, (h.1.1.1.0, shows_front code (at + 1 + 1 + 1 + 1) a b h.1.1.1.1))))
+-- the bytes of a table's first entry
+pub entry_bytes : (code : Part) (at : ℕ) (e : Line) (es : List Line) → at + 4 ≤ 0xa000 → Bytes code at (table_bytes (e ∷ es)) → (code at ≡ Some (e.0 % 256)) × (code (at + 1) ≡ Some (e.0 / 256)) × (code (at + 2) ≡ Some (e.1 % 256)) × (code (at + 3) ≡ Some (e.1 / 256))
+entry_bytes code at e es r h = (
+  h.0,
+  ap code (let p : at + 1 ≡ (at + 1) % 65536 = omega (arith, r) in p) ∙ h.1.0,
+  ap code (let p : at + 2 ≡ ((at + 1) % 65536 + 1) % 65536 = omega (arith, r) in p) ∙ h.1.1.0,
+  ap code (let p : at + 3 ≡ (((at + 1) % 65536 + 1) % 65536 + 1) % 65536 = omega (arith, r) in p) ∙ h.1.1.1.0,
+)
 
-pub shows_back : (code : Part) (at : ℕ) (a b : List Line) → Shows code at (table_bytes (a ++ b)) → Shows code (at + 4 * length a) (table_bytes b)
-shows_back code at [] b h = subst (λ n. Shows code n (table_bytes b)) (let e : at ≡ at + 4 * 0 = omega arith in e) h
-shows_back code at (e ∷ a) b h = subst (λ n. Shows code n (table_bytes b)) (let e : at + 1 + 1 + 1 + 1 + 4 * length a ≡ at + 4 * suc (length a) = omega arith in e) (shows_back code (at + 1 + 1 + 1 + 1) a b h.1.1.1.1)
+-- where the next entry stands
+behind_entry : (at : ℕ) → at + 4 < 65536 → ((((at + 1) % 65536 + 1) % 65536 + 1) % 65536 + 1) % 65536 ≡ at + 4
+behind_entry at r = omega arith
+
+pub bytes_front : (code : Part) (at : ℕ) (a b : List Line) → Bytes code at (table_bytes (a ++ b)) → Bytes code at (table_bytes a)
+bytes_front code at [] b h = tt
+bytes_front code at (e ∷ a) b h = (h.0, (h.1.0, (h.1.1.0, (h.1.1.1.0, bytes_front code (((((at + 1) % 65536 + 1) % 65536 + 1) % 65536 + 1) % 65536) a b h.1.1.1.1))))
+
+pub bytes_back : (code : Part) (at : ℕ) (a b : List Line) → at + 4 * length a < 65536 → Bytes code at (table_bytes (a ++ b)) → Bytes code (at + 4 * length a) (table_bytes b)
+bytes_back code at [] b r h = subst (λ n. Bytes code n (table_bytes b)) (let e : at ≡ at + 4 * 0 = omega arith in e) h
+bytes_back code at (e ∷ a) b r h =
+    let rest : Bytes code (at + 4) (table_bytes (a ++ b)) = subst (λ n. Bytes code n (table_bytes (a ++ b))) (behind_entry at (omega (arith, r))) h.1.1.1.1 in
+    subst (λ n. Bytes code n (table_bytes b)) (let e : at + 4 + 4 * length a ≡ at + 4 * suc (length a) = omega arith in e) (bytes_back code (at + 4) a b (omega (arith, r)) rest)
 
 -- ---- the order
 pub above_front : (k : ℕ) (a b : List Line) → AllAbove k (a ++ b) → AllAbove k a

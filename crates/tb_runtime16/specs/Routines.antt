@@ -13,7 +13,7 @@ use Rattle.tb_runtime16.specs.Block.{block_part}
 use Rattle.tb_runtime16.specs.Laws.{AllBytes}
 use Rattle.tb_runtime16.specs.Input.{prompt}
 pub use Rattle.tb_runtime16.specs.Notes.{Noted}
-use Rattle.tb_runtime16.specs.Search.{Line, Shows, table_bytes, Rising, AllWords}
+use Rattle.tb_runtime16.specs.Search.{Line, table_bytes, Rising, AllWords}
 
 -- ---- memory
 
@@ -209,7 +209,7 @@ entries start (n ∷ ns) = (n, start n) ∷ entries start ns
 
 -- the line table stands in the program, with at least one line
 pub record Tabled (code : Part) (table : ℕ) (numbers : List ℕ) (start : ℕ → ℕ) : Type 0 where
-  pub shown : Shows code table (table_bytes (entries start numbers))
+  pub shown : Bytes code table (table_bytes (entries start numbers))
   pub from : 0x0800 ≤ table
   pub to : table + 4 * length numbers ≤ 0xa000
   pub some : 1 ≤ length numbers
