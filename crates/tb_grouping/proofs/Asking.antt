@@ -1,5 +1,5 @@
 -- The laws of INPUT, and of a poll inside a list.
-use Rattle.std.proofs.Common.{◌≡◌, ℕ, ◌+◌, ◌/◌, ◌%◌, Bool, true, false, List, [], ◌∷◌, ◌++◌, length, refl, sym, ap, ◌∙◌, subst, arith, append-nil}
+use Rattle.std.proofs.Common.{◌≡◌, ◌≢◌, ℕ, ◌+◌, ◌/◌, ◌%◌, Bool, true, false, List, [], ◌∷◌, ◌++◌, length, refl, sym, ap, ◌∙◌, subst, arith, append-nil}
 use Rattle.std.specs.Prelude.{slice_set, nat_eq, drop}
 use Rattle.tb_cpu.specs.Effects.{bit}
 use Rattle.tb_kernal.specs.Machine.{first_or_zero}
@@ -9,10 +9,11 @@ use Rattle.tb_lower.specs.Slots.{Instr, Input, Poll, Slots, SlotCode}
 use Rattle.tb_reaching.proofs.Comes.{chained, looser}
 use Rattle.tb_reaching.specs.Start.{IsHome}
 use Rattle.tb_reaching.specs.View.{Comes, Fits, Setup, View}
-use Rattle.tb_runtime16.specs.Input.{prompt}
+use Rattle.tb_runtime16.specs.Input.{Taken, prompt}
 use Rattle.tb_runtime16.specs.Laws.{AllBytes}
-use Rattle.tb_runtime16.specs.Routines.{Asked, Here, Moves, Routines, Waiting, WordAt, line_end}
-use Rattle.tb_runtime16.specs.Places.{HOME_S, INPUT_AT, LINE, OPEN, POLL_AT, RESULT}
+use Rattle.tb_runtime16.specs.Routines.{Here, Moves, Routines, Waiting, WordAt, is_owned, line_end}
+use Rattle.tb_runtime16.specs.Places.{COLUMN, HOME_S, INPUT_AT, LINE, OPEN, POLL_AT, RESULT}
+use Rattle.tb_runtime16.proofs.Owned.{not_asked}
 use Rattle.tb_templates.specs.Templates.{var_at}
 use Rattle.tb_keeping.specs.Layout.{Layout}
 use Rattle.tb_keeping.proofs.Turns.{Leaves, turn_short}
@@ -62,12 +63,14 @@ module _ (ly : Layout) (f : Setup) (lo hi keys : ℕ) (fits : Fits f 16) (limit 
     is_open : m OPEN ≡ bit o
     is_open = c.state.opened ∙ ap bit opened
 
-    asked_kept : (stays : Bool) (left : List ℕ) (back : ℕ) (bs gets : List ℕ) (v : ℕ) (u : View) → Asked back bs m left gets (prompt o ++ line_end stays) stays v u → Kept ly f lo hi keys fits (live is) (read_state stays left) r u.mem
-    asked_kept stays left back bs gets v u g = record {
-      state = state_asked ly s m u.mem c.state stays (column_after s.column (prompt o ++ line_end stays)) left g.opened (g.column ∙ ap (λ k. column_after k (prompt o ++ line_end stays) % 256) c.state.column ∙ column_mod s.column (prompt o ++ line_end stays)) g.others;
-      read = live_same (live is) r m u.mem h.few_behind (λ a lo hi. g.others a (owned_low a (omega (arith, lo)) hi) (λ e. omega (arith, e, lo)) (λ e. omega (arith, e, lo))) c.read;
-      homed = homed_kept ly f lo hi keys fits m u.mem (g.others HOME_S (owned_low HOME_S (omega arith) (omega arith)) (λ e. omega (arith, e)) (λ e. omega (arith, e))) c.homed;
-    }
+    asked_kept : (stays : Bool) (left : List ℕ) (v : ℕ) (m' : ℕ → ℕ) → Taken m (column_after (m COLUMN) (prompt o ++ line_end stays) % 256) v stays m' → Kept ly f lo hi keys fits (live is) (read_state stays left) r m'
+    asked_kept stays left v m' g =
+        let others : (p : ℕ) → is_owned p ≡ true → p ≢ OPEN → p ≢ COLUMN → m' p ≡ m p = λ p z x y. g.gives.others p (not_asked p z x y) in
+        record {
+          state = state_asked ly s m m' c.state stays (column_after s.column (prompt o ++ line_end stays)) left g.line_open (g.column_is ∙ ap (λ k. column_after k (prompt o ++ line_end stays) % 256) c.state.column ∙ column_mod s.column (prompt o ++ line_end stays)) others;
+          read = live_same (live is) r m m' h.few_behind (λ a lo hi. others a (owned_low a (omega (arith, lo)) hi) (λ e. omega (arith, e, lo)) (λ e. omega (arith, e, lo))) c.read;
+          homed = homed_kept ly f lo hi keys fits m m' (g.gives.others HOME_S refl) c.homed;
+        }
 
     pub input_law : (stays : Bool) (v : ℕ) (left : List ℕ) → turn Nothing s.text ≡ Got v stays left → Comes f w (Matches ly f lo hi keys (line code n is (given_state stays v left) r)) (prompt o ++ line_end stays) (9 + limit)
     input_law stays v left got =
@@ -79,9 +82,10 @@ module _ (ly : Layout) (f : Setup) (lo hi keys : ℕ) (fits : Fits f 16) (limit 
         (asks _ t (limit + 4) (λ u e.
         subst (λ l. Comes f u (Matches ly f lo hi keys (line code n is (given_state stays v left) r)) l (limit + 4)) (append-nil t)
         (chained f u _ _ t [] limit 4 (rs.input _ _ m s.text w.answers o stays v left n is_open (omega (arith, c.state.column)) h.short.text_bytes h.short.short number c.homed got u e) (λ u g.
-        let k = asked_kept stays left _ own w.answers v u g in
+        let k = asked_kept stays left v u.mem g.memory in
+        let result = g.memory.gives.result in
         let m' = put_word u.mem (var_at x) (u.mem RESULT) (u.mem (RESULT + 1)) in
-        let there : WordAt m' (var_at x) v = word_put u.mem (var_at x) _ _ v g.result.low g.result.high g.result.small in
+        let there : WordAt m' (var_at x) v = word_put u.mem (var_at x) _ _ v result.low result.high result.small in
         let away : Elsewhere u.mem m' (var_at x) = λ p y z. put_away u.mem (var_at x) _ _ p y z in
         looser f u _ _ [] 4 4 (omega arith)
         (λ y e. stood ly f lo hi keys fits code n h.small is (given_state stays v left) r (w.regs.pc + 25) m' left w.answers h.rest
@@ -90,7 +94,7 @@ module _ (ly : Layout) (f : Setup) (lo hi keys : ℕ) (fits : Fits f 16) (limit 
         (homed_kept ly f lo hi keys fits u.mem m' (home_kept (IntoHome (IntoVariable x)) fit u.mem m' away) k.homed)
         refl h.answers (record { short = omega (arith, shorter.0, h.short.short); text_bytes = shorter.1; answer_bytes = h.short.answer_bytes }) y (moved ly f lo hi keys fits _ (w.regs.pc + 25) own _ left w.answers y e (omega arith)))
         (copies f 16 fits (at + 3) own u.mem left w.answers refl RESULT (var_at x) lies.2.0 (refl, refl) (word_in_data (var_at x) (omega arith) (omega (arith, fit))) (λ e. omega (arith, e, fit)) lies.2.1 u
-        (record { pc = g.pc ∙ behind_call ly f lo hi keys fits at lies.0; stack = g.stack; binary = g.binary; mem = refl; text = g.text; answers = g.answers }))))))
+        (back_here ly f lo hi keys fits _ _ left w.answers _ u g (behind_call ly f lo hi keys fits at lies.0)))))))
 
     pub input_fails : turn Nothing s.text ≡ Bad → Comes f w (IsHome f) (prompt o ++ fault_text 6 n) (9 + limit)
     input_fails bad =
@@ -121,9 +125,9 @@ module _ (ly : Layout) (f : Setup) (lo hi keys : ℕ) (fits : Fits f 16) (limit 
         chained f u _ _ [] [] 1 limit (calls f 16 fits at own polled w.text w.answers refl POLL_AT refl lies.0 lies.1 u e) (λ u e.
         looser f u _ _ [] limit limit (omega arith)
         (λ v g.
-        let k = kept_scratch ly f lo hi keys fits (live is) s r polled v.mem h.few_behind g.others kept_polled in
+        let k = kept_scratch ly f lo hi keys fits (live is) s r polled v.mem h.few_behind (λ a z. ap (λ k. k a) g.memory) kept_polled in
         stood ly f lo hi keys fits code n h.small is (record s { answers = left }) r (w.regs.pc + 13) v.mem w.text (drop 1 w.answers) h.rest (answered_state left v.mem k.state) k.read k.homed h.text (ap (drop 1) h.answers ∙ q) (record { short = h.short.short; text_bytes = h.short.text_bytes; answer_bytes = small }) v
-        (back_here ly f lo hi keys fits _ (w.regs.pc + 13) polled w.text (drop 1 w.answers) v g (behind_call ly f lo hi keys fits at lies.0 ∙ (let e : at + 3 ≡ w.regs.pc + 13 = omega arith in e))))
+        (back_here ly f lo hi keys fits _ (w.regs.pc + 13) w.text (drop 1 w.answers) _ v g (behind_call ly f lo hi keys fits at lies.0 ∙ (let e : at + 3 ≡ w.regs.pc + 13 = omega arith in e))))
         (rs.poll _ _ polled w.text w.answers n (subst AllBytes (sym h.answers) h.short.answer_bytes) (ap (λ l. nat_eq (first_or_zero l) 3) h.answers ∙ other) (numbered ly f lo hi keys fits n _ _ is s r w h) kept_polled.homed u e))))
 
     pub poll_breaks : nat_eq (first_or_zero s.answers) 3 ≡ true → Comes f w (IsHome f) (fault_text 0 n) (5 + limit)

@@ -11,12 +11,13 @@ use Rattle.tb_reaching.specs.Start.{IsHome}
 use Rattle.tb_reaching.specs.View.{Comes, Fits, Setup, View}
 use Rattle.tb_runtime16.specs.Routines.{Here, Moves, Noted, Routines, WordAt}
 use Rattle.tb_runtime16.specs.Places.{HOME_S, LEFT, LINE, NOTES, POP_AT, PUSH_AT, RESULT}
+use Rattle.tb_runtime16.proofs.Owned.{not_popped, not_pushed}
 use Rattle.tb_keeping.specs.Layout.{Layout, next_at, place_at}
-use Rattle.tb_keeping.proofs.Frames.{owned_low, word_away, word_put}
+use Rattle.tb_keeping.proofs.Frames.{word_away, word_put}
 use Rattle.tb_keeping.proofs.Mirrors.{Flagged, notes_of}
 use Rattle.tb_keeping.proofs.Pieces.{calls, jumps, jumps_through, points, put_word, sets}
 use Rattle.tb_keeping.proofs.Resolved.{Lies, highest_code}
-use Rattle.tb_keeping.proofs.Returning.{apart, behind_call, homed_kept}
+use Rattle.tb_keeping.proofs.Returning.{back_here, apart, behind_call, homed_kept}
 use Rattle.tb_selection.specs.Groups.{Single}
 use Rattle.tb_selection.specs.Liveness.{live}
 use Rattle.tb_grouping.proofs.Branches.{branch_behind, branches}
@@ -179,11 +180,11 @@ module _ (ly : Layout) (f : Setup) (lo hi keys : ℕ) (fits : Fits f 16) (limit 
           chained f v _ _ [] [] limit 1 (rs.push _ _ two w.text w.answers note notes (word_put one LEFT _ _ _ refl refl note_small) (subst (λ k. WordAt two NOTES k) (sym same_length) c.state.count) c.state.notes (omega (arith, free, same_length)) v e) (λ x g.
           looser f x _ _ [] 1 1 (omega arith)
           (arrived ly f lo hi keys fits code called r (ly.start t) x.mem w.text w.answers refl
-          (state_pushed ly s two x.mem c.state (At t) (next_after ly.numbers n) free (subst (λ k. WordAt x.mem NOTES (suc k)) same_length g.count) g.noted g.others) h.read.all_words
-          (homed_kept ly f lo hi keys fits two x.mem (g.others HOME_S (omega arith) (omega arith) (λ e. omega (arith, e)) (λ e. omega (arith, e))) c.homed)
+          (state_pushed ly s two x.mem c.state (At t) (next_after ly.numbers n) free (subst (λ k. WordAt x.mem NOTES (suc k)) same_length g.memory.notes.count) g.memory.notes.noted (λ p from to z y. g.memory.others p (not_pushed p from to z y))) h.read.all_words
+          (homed_kept ly f lo hi keys fits two x.mem (g.memory.others HOME_S refl) c.homed)
           h.text h.answers h.short)
           (jumps f 16 fits (at + 8 + 3) own x.mem w.text w.answers refl (ly.start t) routine.2.2.2.1 x
-          (record { pc = g.pc ∙ behind_call ly f lo hi keys fits (at + 8) routine.2.2.0; stack = g.stack; binary = g.binary; mem = refl; text = g.text; answers = g.answers })))))
+          (back_here ly f lo hi keys fits _ _ w.text w.answers _ x g (behind_call ly f lo hi keys fits (at + 8) routine.2.2.0))))))
 
       pub call_to_found : nat_lt (length s.returns) deepest ≡ true → Comes f w Ends [] (13 + limit)
       call_to_found free =
@@ -277,10 +278,10 @@ module _ (ly : Layout) (f : Setup) (lo hi keys : ℕ) (fits : Fits f 16) (limit 
           chained f u _ _ [] [] limit 1 (rs.pop _ _ m w.text w.answers (place_at ly p) (notes_of ly ps) (subst (λ k. WordAt m NOTES (suc k)) (sym left_length) count) noted (omega (arith, few, left_length)) u e) (λ u g.
           looser f u _ _ [] 1 1 (omega arith)
           (arrived ly f lo hi keys fits code back r (place_at ly p) u.mem w.text w.answers refl
-          (state_popped ly s m u.mem c.state p ps q (subst (λ k. WordAt u.mem NOTES k) left_length g.count) g.others) h.read.all_words
-          (homed_kept ly f lo hi keys fits m u.mem (g.others HOME_S (owned_low HOME_S (omega arith) (omega arith)) (λ e. omega (arith, e)) (λ e. omega (arith, e))) c.homed)
+          (state_popped ly s m u.mem c.state p ps q (subst (λ k. WordAt u.mem NOTES k) left_length g.memory.notes.count) (λ p z y x. g.memory.gives.others p (not_popped p z y x))) h.read.all_words
+          (homed_kept ly f lo hi keys fits m u.mem (g.memory.gives.others HOME_S refl) c.homed)
           h.text h.answers h.short)
-          (jumps_through f 16 fits (popping + 10 + 3) own u.mem w.text w.answers refl (place_at ly p) g.result routine_lies.2.2.1 u (record { pc = g.pc ∙ behind_call ly f lo hi keys fits (popping + 10) routine_lies.2.0; stack = g.stack; binary = g.binary; mem = refl; text = g.text; answers = g.answers })))))
+          (jumps_through f 16 fits (popping + 10 + 3) own u.mem w.text w.answers refl (place_at ly p) g.memory.gives.result routine_lies.2.2.1 u (back_here ly f lo hi keys fits _ _ w.text w.answers _ u g (behind_call ly f lo hi keys fits (popping + 10) routine_lies.2.0))))))
 
       takes : page ≡ 0 → Comes f w Returns [] 13
       takes near =

@@ -1,19 +1,21 @@
 -- The laws of conversions: 0 minus a word, and RND, which may fault.
-use Rattle.std.proofs.Common.{◌≡◌, ℕ, ◌+◌, ◌-◌, ◌/◌, ◌%◌, ◌<◌, Bool, true, false, true≢false, ◌||◌, List, [], ◌∷◌, ◌++◌, refl, sym, ap, ◌∙◌, subst, arith}
+use Rattle.std.proofs.Common.{◌≡◌, ◌≢◌, ℕ, ◌+◌, ◌-◌, ◌/◌, ◌%◌, ◌<◌, Bool, true, false, true≢false, ◌||◌, List, [], ◌∷◌, ◌++◌, refl, sym, ap, ◌∙◌, subst, arith}
 use Rattle.std.specs.Prelude.{nat_eq, nat_le}
 use Rattle.tb_words.specs.Words.{negated, seed_after, word}
 use Rattle.tb_lower.specs.Control.{State, fault_text}
 use Rattle.tb_lower.specs.Slots.{Instr, Slots, SlotCode}
 use Rattle.tb_reaching.proofs.Comes.{looser}
 use Rattle.tb_reaching.specs.View.{Comes, Fits, Setup, View}
-use Rattle.tb_runtime16.specs.Routines.{Drawn, Routines, WordAt}
+use Rattle.tb_runtime16.specs.Laws.{Drawn}
+use Rattle.tb_runtime16.specs.Routines.{Routines, WordAt, is_owned}
 use Rattle.tb_templates.specs.GroupTemplates.{may_have_none}
-use Rattle.tb_runtime16.specs.Places.{HOME_S, LEFT, LINE, RANDOM_AT, RESULT}
+use Rattle.tb_runtime16.specs.Places.{HOME_S, LEFT, LINE, RANDOM_AT, RESULT, SEED, SEEDED}
+use Rattle.tb_runtime16.proofs.Owned.{not_argument, not_scratch, not_seed}
 use Rattle.tb_keeping.specs.Layout.{Layout}
 use Rattle.tb_keeping.proofs.Frames.{owned_low}
 use Rattle.tb_keeping.proofs.Joins.{sent_in}
 use Rattle.tb_keeping.proofs.Resolved.{Lies, Piece, pieces_size, size}
-use Rattle.tb_keeping.proofs.Returning.{homed_kept}
+use Rattle.tb_keeping.proofs.Returning.{back_here, homed_kept}
 use Rattle.tb_selection.specs.Groups.{Operand, Constant, Variable, InSlot, Destination, Conversion, Negated, Drawn as IsDrawn, Convert, convert, expand, kept, slot_of}
 use Rattle.tb_selection.specs.Liveness.{live}
 use Rattle.tb_selection.specs.Select.{select}
@@ -106,12 +108,14 @@ module _ (ly : Layout) (f : Setup) (lo hi keys : ℕ) (fits : Fits f 16) (code :
     abbrev drawn : State
     drawn = record s { seed = seed_after s.seed }
 
-    drawn_kept : (back : ℕ) (bs text gets : List ℕ) (v : ℕ) (m' : ℕ → ℕ) (u : View) → Kept ly f lo hi keys fits (live js) s r m' → Drawn back bs m' text gets v (seed_after s.seed) u → Kept ly f lo hi keys fits (live js) drawn r u.mem
-    drawn_kept back bs text gets v m' u q g = record {
-      state = state_drawn ly s m' u.mem q.state (seed_after s.seed) g.seeded g.seed_at g.others;
-      read = live_same (live js) r m' u.mem h.some_read (λ a lo hi. g.others a (owned_low a (omega (arith, lo)) hi) (λ e. omega (arith, e, lo)) (λ e. omega (arith, e, lo)) (λ e. omega (arith, e, lo))) q.read;
-      homed = homed_kept ly f lo hi keys fits m' u.mem (g.others HOME_S (owned_low HOME_S (omega arith) (omega arith)) (λ e. omega (arith, e)) (λ e. omega (arith, e)) (λ e. omega (arith, e))) q.homed;
-    }
+    drawn_kept : (bound : ℕ) (m' m'' : ℕ → ℕ) → Kept ly f lo hi keys fits (live js) s r m' → Drawn m' bound s.seed m'' → Kept ly f lo hi keys fits (live js) drawn r m''
+    drawn_kept bound m' m'' q g =
+        let others : (p : ℕ) → is_owned p ≡ true → p ≢ SEEDED → p ≢ SEED → p ≢ SEED + 1 → m'' p ≡ m' p = λ p o x y z. g.others p (not_argument p o) (not_scratch p o) (not_seed p x y z) in
+        record {
+          state = state_drawn ly s m' m'' q.state (seed_after s.seed) g.seeded g.seed_at others;
+          read = live_same (live js) r m' m'' h.some_read (λ a lo hi. others a (owned_low a (omega (arith, lo)) hi) (λ e. omega (arith, e, lo)) (λ e. omega (arith, e, lo)) (λ e. omega (arith, e, lo))) q.read;
+          homed = homed_kept ly f lo hi keys fits m' m'' (g.others HOME_S refl refl refl) q.homed;
+        }
 
     pub draw_law : (nat_eq x 0 || nat_le 32768 x) ≡ false → ConvertLeads IsDrawn (17 + limit)
     draw_law good =
@@ -123,9 +127,9 @@ module _ (ly : Layout) (f : Setup) (lo hi keys : ℕ) (fits : Fits f 16) (code :
         code drawn (with_fetched s r k a) (seed_after s.seed % x) limit result_gives fit.dest (convert_lasting IsDrawn a d is s r h.free) rest h.text h.answers h.short
         (λ l k' m' g u e. looser f u _ _ [] limit limit (omega arith)
         (λ u q. record {
-          here = record { pc = q.pc; stack = q.stack; binary = q.binary; mem = refl; text = q.text; answers = q.answers };
-          result = q.result;
-          kept = drawn_kept _ _ _ _ _ m' u g.kept q;
+          here = back_here ly f lo hi keys fits _ _ w.text w.answers _ u q refl;
+          result = q.memory.result;
+          kept = drawn_kept x m' u.mem g.kept q.memory;
         })
         (rs.random l k' m' w.text w.answers x s.seed g.left g.right g.kept.state.seeded good u e)))))
 

@@ -10,8 +10,9 @@ use Rattle.tb_reaching.specs.Start.{IsHome}
 use Rattle.tb_reaching.specs.View.{Comes, Fits, Setup, View}
 use Rattle.tb_runtime16.specs.Routines.{Here, Moves, Routines, WordAt}
 use Rattle.tb_runtime16.specs.Places.{COUNT, HOME_S, LEFT, LINE, NOTES, PUSH_AT, RESULT, SEARCH_AT, TABLE, WANTED}
+use Rattle.tb_runtime16.proofs.Owned.{not_pushed, not_searched}
 use Rattle.tb_keeping.specs.Layout.{Layout, next_at, place_at}
-use Rattle.tb_keeping.proofs.Frames.{owned_low, word_away, word_kept, word_put}
+use Rattle.tb_keeping.proofs.Frames.{word_away, word_kept, word_put}
 use Rattle.tb_keeping.proofs.Mirrors.{notes_of}
 use Rattle.tb_keeping.proofs.Pieces.{calls, jumps, jumps_through, points, put_word, sets}
 use Rattle.tb_keeping.proofs.Resolved.{Code, Lies, Piece, call, jump_through, pointed, size}
@@ -120,10 +121,10 @@ module _ (ly : Layout) (f : Setup) (lo hi keys : ℕ) (fits : Fits f 16) (limit 
     finds found q t k next =
         searches q t (limit + k) (λ u e.
         chained f u _ q [] t limit k (rs.search back_low back_high sought w.text w.answers wish wanted in_table counted found u e) (λ u g.
-        next u (kept_scratch ly f lo hi keys fits asked s r sought u.mem h.some_read g.back.others kept_sought)
-        (word_kept sought u.mem LINE n (g.back.others LINE (owned_low LINE (omega arith) (omega arith))) (g.back.others (LINE + 1) (owned_low (LINE + 1) (omega arith) (omega arith))) number)
-        g.result
-        (back_here ly f lo hi keys fits _ _ sought w.text w.answers u g.back (behind_call ly f lo hi keys fits call_at lies.2.2.0))))
+        next u (kept_scratch ly f lo hi keys fits asked s r sought u.mem h.some_read (λ p z. g.memory.others p (not_searched p z)) kept_sought)
+        (word_kept sought u.mem LINE n (g.memory.others LINE refl) (g.memory.others (LINE + 1) refl) number)
+        g.memory.result
+        (back_here ly f lo hi keys fits _ _ w.text w.answers _ u g (behind_call ly f lo hi keys fits call_at lies.2.2.0))))
 
     lost_line : has_line ly.numbers wish ≡ false → Comes f w (IsHome f) (fault_text 1 n) (4 + (4 + (1 + (4 + (4 + (1 + limit))))))
     lost_line lost = searches (IsHome f) (fault_text 1 n) limit (rs.search_fails back_low back_high sought w.text w.answers wish n wanted in_table counted lost number kept_sought.homed)
@@ -187,11 +188,11 @@ module _ (ly : Layout) (f : Setup) (lo hi keys : ℕ) (fits : Fits f 16) (limit 
           chained f v _ _ [] [] limit 1 (rs.push _ _ (returning u) w.text w.answers (next_at ly n) (notes_of ly s.returns) (word_put u.mem LEFT _ _ _ refl refl (laid.places (next_after ly.numbers n))) (subst (λ k. WordAt (returning u) NOTES k) (sym same) c.state.count) c.state.notes (omega (arith, few, same)) v e) (λ x g.
           looser f x _ _ [] 1 1 (omega arith)
           (arrived ly f lo hi keys fits code (record s { place = At place; returns = next_after ly.numbers n ∷ s.returns }) slots (ly.start place) x.mem w.text w.answers refl
-          (state_pushed ly s (returning u) x.mem c.state (At place) (next_after ly.numbers n) few (subst (λ k. WordAt x.mem NOTES (suc k)) same g.count) g.noted g.others) (all_slots h.read.all_words)
-          (homed_kept ly f lo hi keys fits (returning u) x.mem (g.others HOME_S (omega arith) (omega arith) (λ e. omega (arith, e)) (λ e. omega (arith, e))) c.homed)
+          (state_pushed ly s (returning u) x.mem c.state (At place) (next_after ly.numbers n) few (subst (λ k. WordAt x.mem NOTES (suc k)) same g.memory.notes.count) g.memory.notes.noted (λ p from to z y. g.memory.others p (not_pushed p from to z y))) (all_slots h.read.all_words)
+          (homed_kept ly f lo hi keys fits (returning u) x.mem (g.memory.others HOME_S refl) c.homed)
           h.text h.answers h.short)
-          (jumps_through f 16 fits (found_at + 8 + 3) own x.mem w.text w.answers refl (ly.start place) (word_kept (returning u) x.mem RESULT _ g.result g.result_high result) h.lies.2.2.2.2.2.1 x
-          (record { pc = g.pc ∙ behind_call ly f lo hi keys fits (found_at + 8) h.lies.2.2.2.2.0; stack = g.stack; binary = g.binary; mem = refl; text = g.text; answers = g.answers })))))
+          (jumps_through f 16 fits (found_at + 8 + 3) own x.mem w.text w.answers refl (ly.start place) (word_kept (returning u) x.mem RESULT _ (g.memory.others RESULT refl) (g.memory.others (RESULT + 1) refl) result) h.lies.2.2.2.2.2.1 x
+          (back_here ly f lo hi keys fits _ _ w.text w.answers _ x g (behind_call ly f lo hi keys fits (found_at + 8) h.lies.2.2.2.2.0))))))
 
       pub call_full : has_line ly.numbers place ≡ true → nat_lt (length s.returns) deepest ≡ false → Comes f w (IsHome f) (fault_text 4 n) (34 + (limit + limit))
       call_full found full =

@@ -13,6 +13,7 @@ use Rattle.tb_reaching.specs.Start.{IsHome}
 use Rattle.tb_reaching.specs.View.{Bytes, Comes, Fits, Setup, View, is_data, view}
 use Rattle.tb_runtime16.specs.Places.{DIVIDE_AT, LEFT, LINE, RESULT, RIGHT}
 use Rattle.tb_runtime16.specs.Routines.{Here, Moves, Routines, WithA, WordAt}
+use Rattle.tb_runtime16.proofs.Owned.{not_argument}
 use Rattle.tb_keeping.specs.Layout.{Layout}
 use Rattle.tb_keeping.proofs.Mirrors.{Flagged}
 use Rattle.tb_keeping.proofs.Pieces.{loads_last, moves_looser, moves_then, whatever_a}
@@ -138,10 +139,10 @@ module _ (ly : Layout) (f : Setup) (lo hi keys : ℕ) (fits : Fits f 16) (limit 
       (asks_by ly f lo hi keys fits n g js is s r w h DIVIDE_AT at a b tail m c l x y ga gb (ha m c) hb _ [] (limit + 2)
       (λ m' k u e.
       chained f u _ _ [] [] limit 2 (rs.divide _ _ m' w.text w.answers x y k.left k.right some u e) (λ v q.
-      let there = back_here ly f lo hi keys fits _ _ m' w.text w.answers v q.back (comes_back ly f lo hi keys fits n g js is s r w h DIVIDE_AT at a b tail m c l x y ga gb (ha m c) hb) in
+      let there = back_here ly f lo hi keys fits _ _ w.text w.answers _ v q (comes_back ly f lo hi keys fits n g js is s r w h DIVIDE_AT at a b tail m c l x y ga gb (ha m c) hb) in
       looser f v _ _ [] 2 2 (omega arith)
-      (flagged_told _ _ v.mem _ _ (let e = end_by risky in omega (arith, e)) refl (kept_scratch ly f lo hi keys fits (live js) s r m' v.mem h.some_read q.back.others k.kept))
-      (tells_rest f 16 fits _ own v.mem w.text w.answers refl (magnitude x % magnitude y) l.2.2.2.0 q.rest l.2.2.2.1 v there)))))
+      (flagged_told _ _ v.mem _ _ (let e = end_by risky in omega (arith, e)) refl (kept_scratch ly f lo hi keys fits (live js) s r m' v.mem h.some_read (λ p o. q.memory.others p (not_argument p o)) k.kept))
+      (tells_rest f 16 fits _ own v.mem w.text w.answers refl (magnitude x % magnitude y) l.2.2.2.0 q.memory.rest l.2.2.2.1 v there)))))
 
   -- Z is whether nothing is left over
   left_told : (o : Option ℕ) → IsMasking b o → Lies f.code w.regs.pc (left_over n o a b) → y ≢ 0 → Comes f w (Told (w.regs.pc + pieces_size (left_over n o a b)) divided) [] (15 + limit)

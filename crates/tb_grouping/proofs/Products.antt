@@ -8,6 +8,7 @@ use Rattle.tb_reaching.proofs.Comes.{looser}
 use Rattle.tb_reaching.specs.View.{Comes, Fits, Setup, View}
 use Rattle.tb_runtime16.specs.Routines.{Routines}
 use Rattle.tb_runtime16.specs.Places.{LEFT, MULTIPLY_AT, RIGHT, RESULT}
+use Rattle.tb_runtime16.proofs.Owned.{not_argument}
 use Rattle.tb_keeping.specs.Layout.{Layout}
 use Rattle.tb_keeping.proofs.Joins.{sent_in}
 use Rattle.tb_keeping.proofs.Resolved.{Lies, pieces_size}
@@ -53,9 +54,9 @@ module _ (ly : Layout) (f : Setup) (lo hi keys : ℕ) (fits : Fits f 16) (limit 
       code s (with_fetched s (with_fetched s r k a) (k + 1) b) v limit result_gives fit.dest (calculate_lasting op.Multiply a b d is s r h.free) behind h.text h.answers h.short
       (λ l k' m g u e. looser f u _ _ [] limit limit (omega arith)
       (λ u q. record {
-        here = back_here ly f lo hi keys fits _ _ m w.text w.answers u q.back refl;
-        result = q.result;
-        kept = kept_scratch ly f lo hi keys fits (live js) s r m u.mem h.some_read q.back.others g.kept;
+        here = back_here ly f lo hi keys fits _ _ w.text w.answers _ u q refl;
+        result = q.memory.result;
+        kept = kept_scratch ly f lo hi keys fits (live js) s r m u.mem h.some_read (λ p o. q.memory.others p (not_argument p o)) g.kept;
       })
       (rs.multiply l k' m w.text w.answers x y g.left g.right u e))
       w (here ly f lo hi keys fits w [] [] h.stack h.binary))

@@ -15,6 +15,7 @@ use Rattle.tb_reaching.specs.Start.{IsHome}
 use Rattle.tb_reaching.specs.View.{Comes, Fits, Setup, View}
 use Rattle.tb_runtime16.specs.Places.{DIVIDE_AT, LEFT, LINE, RESULT, RIGHT}
 use Rattle.tb_runtime16.specs.Routines.{Here, Moves, Routines, WordAt}
+use Rattle.tb_runtime16.proofs.Owned.{not_argument}
 use Rattle.tb_keeping.specs.Layout.{Layout}
 use Rattle.tb_keeping.proofs.Frames.{word_put}
 use Rattle.tb_keeping.proofs.Joins.{sent_in}
@@ -291,9 +292,9 @@ module _ (ly : Layout) (f : Setup) (lo hi keys : ℕ) (fits : Fits f 16) (code :
       (λ m' g u e.
       looser f u _ _ [] limit limit (omega arith)
       (λ z q. record {
-        here = back_here ly f lo hi keys fits _ _ m' w.text w.answers z q.back (comes_back ly f lo hi keys fits n (Remains v d to) js is s r w h DIVIDE_AT at a b [] m c asking_lies x y a_apart b_apart (a_holds m c) b_holds ∙ middle_is);
-        result = q.rest;
-        kept = kept_scratch ly f lo hi keys fits (live js) s r m' z.mem h.some_read q.back.others g.kept;
+        here = back_here ly f lo hi keys fits _ _ w.text w.answers _ z q (comes_back ly f lo hi keys fits n (Remains v d to) js is s r w h DIVIDE_AT at a b [] m c asking_lies x y a_apart b_apart (a_holds m c) b_holds ∙ middle_is);
+        result = q.memory.rest;
+        kept = kept_scratch ly f lo hi keys fits (live js) s r m' z.mem h.some_read (λ p o. q.memory.others p (not_argument p o)) g.kept;
       })
       (rs.divide _ _ m' w.text w.answers x y g.left g.right some u e))))
 

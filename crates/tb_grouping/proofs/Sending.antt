@@ -11,13 +11,14 @@ use Rattle.tb_reaching.proofs.Memory.{put_other}
 use Rattle.tb_reaching.proofs.Placed.{along}
 use Rattle.tb_reaching.proofs.Services.{served_last}
 use Rattle.tb_reaching.specs.View.{Bytes, Comes, Fits, Setup, View, back_at, view}
-use Rattle.tb_runtime16.specs.Routines.{Here, Moves, Routines, Told}
+use Rattle.tb_runtime16.specs.Laws.{Leaves}
+use Rattle.tb_runtime16.specs.Routines.{Here, Moves, Routines, Sent}
 use Rattle.tb_runtime16.specs.Places.{COLUMN, LEFT, LENGTH, NUMBER_AT, TEXT_AT, ZONE_AT}
 use Rattle.tb_keeping.specs.Layout.{Layout}
 use Rattle.tb_keeping.proofs.Frames.{word_put}
 use Rattle.tb_keeping.proofs.Pieces.{calls, jumps, put_word, whatever}
 use Rattle.tb_keeping.proofs.Resolved.{highest_code, newline, size, text_call}
-use Rattle.tb_keeping.proofs.Returning.{apart, behind_call, moved, told_here}
+use Rattle.tb_keeping.proofs.Returning.{apart, back_here, behind_call, moved}
 use Rattle.tb_selection.specs.Groups.{AsNumber, Group, Operand, Single, Use}
 use Rattle.tb_selection.specs.Liveness.{live}
 use Rattle.tb_selection.specs.Select.{select}
@@ -45,11 +46,11 @@ module _ (ly : Layout) (f : Setup) (lo hi keys : ℕ) (fits : Fits f 16) (limit 
   sent t = record s { column = column_after s.column t }
 
   -- behind the call of a routine that sends bytes
-  told_lands : (g : Group) (js : List Instr) (h : Ready ly f lo hi keys fits n g js is s r w) (r' : Slots) → ((m : ℕ → ℕ) → HoldsLive (live js) r m → HoldsLive (live is) r' m) → (t : List ℕ) (at back : ℕ) (m : ℕ → ℕ) → GroupsLie ly f.code n at (select is) → Kept ly f lo hi keys fits (live js) s r m → back ≡ at → (v : View) → Told back own m w.text w.answers t v → Matches ly f lo hi keys (line code n is (sent t) r') v
+  told_lands : (g : Group) (js : List Instr) (h : Ready ly f lo hi keys fits n g js is s r w) (r' : Slots) → ((m : ℕ → ℕ) → HoldsLive (live js) r m → HoldsLive (live is) r' m) → (t : List ℕ) (at back : ℕ) (m : ℕ → ℕ) → GroupsLie ly f.code n at (select is) → Kept ly f lo hi keys fits (live js) s r m → back ≡ at → (v : View) → Leaves back own w.text w.answers (Sent m t) v → Matches ly f lo hi keys (line code n is (sent t) r') v
   told_lands g js h r' read t at back m rest c e v q =
-      let c' = kept_told ly f lo hi keys fits (live js) s r m t back own w.text w.answers v h.some_read q c in
+      let c' = kept_told ly f lo hi keys fits (live js) s r m t v.mem h.some_read q.memory c in
       stood ly f lo hi keys fits code n h.small is (sent t) r' at v.mem w.text w.answers rest c'.state (read v.mem c'.read) c'.homed h.text h.answers h.short v
-      (told_here ly f lo hi keys fits back at m t w.text w.answers v q e)
+      (back_here ly f lo hi keys fits back at w.text w.answers _ v q e)
 
   -- COLUMN is 0, and the service sends a 13
   pub newline_law : Ready ly f lo hi keys fits n (Single SendNewline) (SendNewline ∷ is) is s r w → Comes f w (Matches ly f lo hi keys (line code n is (sent (13 ∷ [])) r)) (13 ∷ []) 5
@@ -58,7 +59,7 @@ module _ (ly : Layout) (f : Setup) (lo hi keys : ℕ) (fits : Fits f 16) (limit 
       along f 16 fits newline w.regs.pc (view a x y n' v i z c' w.regs.pc own w.mem w.text w.answers) _ _ (13 ∷ []) 1 h.lies.1 (refl, refl, (refl, refl, (refl, refl, (refl, refl, tt)))) refl
       (served_last f 16 fits Chrout _ _ _ _ _ refl refl refl refl (λ j.
       told_lands _ _ h r (λ m k. k) (13 ∷ []) (w.regs.pc + 10) _ w.mem h.rest (kept ly f lo hi keys fits n _ _ is s r w h) (returns_to w.regs.pc h.lies.0) _
-      (record { pc = refl; stack = refl; binary = refl; text = refl; answers = refl; column = refl; others = λ a o other. put_other w.mem COLUMN 0 a other })))) w (here ly f lo hi keys fits w [] [] h.stack h.binary)
+      (record { pc = refl; stack_is = refl; binary = refl; same_text = refl; same_answers = refl; memory = record { column = refl; others = λ a o other. put_other w.mem COLUMN 0 a other } })))) w (here ly f lo hi keys fits w [] [] h.stack h.binary)
     where
       returns_to : (at : ℕ) → at + 10 ≤ highest_code → back_at (last at % 256) (last at / 256) ≡ at + 10
       returns_to at b = let e : last at ≡ at + 9 = omega arith in ap (λ p. back_at (p % 256) (p / 256)) e ∙ (let e' : back_at ((at + 9) % 256) ((at + 9) / 256) ≡ at + 10 = omega arith in e')
@@ -72,10 +73,10 @@ module _ (ly : Layout) (f : Setup) (lo hi keys : ℕ) (fits : Fits f 16) (limit 
       (chained f v _ _ t [] limit 1
       (rs.text low high m w.text w.answers (w.regs.pc + 19) t (record { low = el; high = eh; small = omega (arith, lies.2.2.0) }) en shown lies.2.2.1.1 (omega (arith, h.above)) (omega (arith, lies.2.2.0)) h.ranged.0 (omega (arith, c.state.column)) v e)
       (λ u g.
-      let c' = kept_told ly f lo hi keys fits (live is) s r m t _ own w.text w.answers u h.few_behind g c in
+      let c' = kept_told ly f lo hi keys fits (live is) s r m t u.mem h.few_behind g.memory c in
       looser f u _ _ [] 1 1 (omega arith)
       (λ v e. stood ly f lo hi keys fits code n h.small is (sent t) r (w.regs.pc + (16 + (3 + (length t + 0)))) u.mem w.text w.answers h.rest c'.state c'.read c'.homed h.text h.answers h.short v (moved ly f lo hi keys fits _ _ own _ w.text w.answers v e (omega arith)))
-      (jumps f 16 fits (w.regs.pc + 16) own u.mem w.text w.answers refl (w.regs.pc + 19 + length t) lies.2.1 u (told_here ly f lo hi keys fits _ (w.regs.pc + 16) m t w.text w.answers u g e0))))
+      (jumps f 16 fits (w.regs.pc + 16) own u.mem w.text w.answers refl (w.regs.pc + 19 + length t) lies.2.1 u (back_here ly f lo hi keys fits _ (w.regs.pc + 16) w.text w.answers _ u g e0))))
 
   pub text_law : (t : List ℕ) → Ready ly f lo hi keys fits n (Single (SendText t)) (SendText t ∷ is) is s r w → Comes f w (Matches ly f lo hi keys (line code n is (sent t) r)) t (8 + limit)
   text_law t h =

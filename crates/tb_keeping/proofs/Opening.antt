@@ -1,8 +1,7 @@
 -- What the prologue leaves stands for the start of a program's run.
-use Rattle.std.proofs.Common.{◌≡◌, ℕ, zero, suc, ◌+◌, ◌*◌, ◌≤◌, ◌<◌, true, ◌||◌, List, [], ◌∷◌, length, refl, sym, ap, ◌∙◌, subst, arith}
+use Rattle.std.proofs.Common.{◌≡◌, ℕ, zero, suc, ◌+◌, ◌*◌, ◌≤◌, ◌<◌, true, List, [], ◌∷◌, length, refl, sym, ap, ◌∙◌, subst, arith}
 use Rattle.std.specs.Prelude.{slice_index, replicate}
 use Rattle.std.proofs.lemmas.Bool.Decides.{nat_tests}
-use Rattle.tb_memmap.specs.Regions.{within}
 use Rattle.tb_kernal.specs.Machine as machine
 use Rattle.tb_reaching.specs.View.{View, Setup}
 use Rattle.tb_reaching.specs.Start.{home_low, home_high}
@@ -10,12 +9,13 @@ use Rattle.tb_syntax.specs.Source.{numbers}
 use Rattle.tb_lower.specs.Control.{first_place}
 use Rattle.tb_lower.specs.Meaning.{start}
 use Rattle.tb_lower.specs.Slots.{SlotCode, Slots}
-use Rattle.tb_runtime16.specs.Places.{COLUMN, OPEN, SEEDED, SEED, NOTES, HELD, SLOTS, LINES_AT}
+use Rattle.tb_runtime16.specs.Places.{VARS, COLUMN, OPEN, SEEDED, SEED, NOTES, HELD, SLOTS, LINES_AT}
 use Rattle.tb_templates.specs.Templates.{var_at}
 use Rattle.tb_runtime16.specs.Laws.{AllBytes}
 use Rattle.tb_keeping.specs.Layout.{Layout, place_at}
 use Rattle.tb_runtime16.specs.Routines.{WordAt, first}
-use Rattle.tb_runtime16.specs.Ends.{Begun}
+use Rattle.tb_runtime16.specs.Ends.{Begun, is_cleared}
+use Rattle.tb_runtime16.proofs.InMemory.{holds_word}
 use Rattle.tb_keeping.proofs.Mirrors.{Opens}
 
 -- the words in memory from a place on
@@ -28,7 +28,7 @@ words_length m at zero = refl
 words_length m at (suc n) = ap suc (words_length m (at + 2) n)
 
 word_of_bytes : (m : ℕ → ℕ) (at : ℕ) → m at < 256 → m (at + 1) < 256 → WordAt m at (m at + 256 * m (at + 1))
-word_of_bytes m at l h = record { low = omega (arith, l); high = omega (arith, l); small = omega (arith, l, h) }
+word_of_bytes m at l h = holds_word m at _ (l, h) refl
 
 word_from : (m : ℕ → ℕ) (at n k : ℕ) → ((a : ℕ) → m a < 256) → k < n → WordAt m (at + 2 * k) (slice_index (words_from m at n) k)
 word_from m at zero k b lt = absurd (let no : ⊥ = omega (arith, lt) in no)
@@ -40,7 +40,7 @@ zeros zero x = refl
 zeros (suc n) zero = refl
 zeros (suc n) (suc x) = zeros n x
 
-cleared_low : (a : ℕ) → 0xC000 ≤ a → a ≤ 0xC036 → (within 0xc000 0xc036 a || within 0xc038 0xc03d a) ≡ true
+cleared_low : (a : ℕ) → VARS ≤ a → a ≤ SEEDED → is_cleared a ≡ true
 cleared_low a lo hi = grind (arith, nat_tests)
 
 zero_word : (m : ℕ → ℕ) (at : ℕ) → m at ≡ 0 → m (at + 1) ≡ 0 → WordAt m at 0
@@ -73,6 +73,6 @@ module _ (ly : Layout) (f : Setup) (sc : SlotCode) (numbered : numbers sc ≡ ly
       all_vars = refl;
       all_words = some_length;
     };
-    homed = record { homed = b.entered.homed; kept = b.entered.kept };
+    homed = b.entered;
     short = record { short = omega arith; text_bytes = text; answer_bytes = answers };
   }

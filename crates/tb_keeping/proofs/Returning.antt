@@ -2,7 +2,8 @@
 use Rattle.std.proofs.Common.{◌≡◌, ◌≢◌, ℕ, ◌+◌, ◌/◌, ◌%◌, ◌≤◌, true, false, List, [], ◌∷◌, refl, sym, ap, ◌∙◌, arith}
 use Rattle.tb_reaching.specs.View.{Fits, Setup, View, back_at}
 use Rattle.tb_runtime16.specs.Places.{HOME_S}
-use Rattle.tb_runtime16.specs.Routines.{Back, Entered, Here, Told, is_owned}
+use Rattle.tb_runtime16.specs.Laws.{Leaves}
+use Rattle.tb_runtime16.specs.Routines.{Entered, Here, is_owned}
 use Rattle.tb_keeping.specs.Layout.{Layout}
 use Rattle.tb_keeping.proofs.Resolved.{highest_code}
 
@@ -17,11 +18,8 @@ module _ (ly : Layout) (f : Setup) (lo hi keys : ℕ) (fits : Fits f 16) where
   pub behind_call : (at : ℕ) → at + 3 ≤ highest_code → back_at ((at + 2) % 256) ((at + 2) / 256) ≡ at + 3
   behind_call at r = omega arith
 
-  pub back_here : (at at' : ℕ) (m : ℕ → ℕ) (t gets : List ℕ) (u : View) → Back at (lo ∷ hi ∷ []) m t gets u → at ≡ at' → Here at' (lo ∷ hi ∷ []) u.mem t gets u
-  back_here at at' m t gets u b e = record { pc = b.pc ∙ e; stack = b.stack; binary = b.binary; mem = refl; text = b.text; answers = b.answers }
+  pub back_here : (at at' : ℕ) (t gets : List ℕ) (q : (ℕ → ℕ) → Type 0) (u : View) → Leaves at (lo ∷ hi ∷ []) t gets q u → at ≡ at' → Here at' (lo ∷ hi ∷ []) u.mem t gets u
+  back_here at at' t gets q u b e = record { pc = b.pc ∙ e; stack = b.stack_is; binary = b.binary; mem = refl; text = b.same_text; answers = b.same_answers }
 
   pub moved : (at at' : ℕ) (bs : List ℕ) (m : ℕ → ℕ) (t gets : List ℕ) (u : View) → Here at bs m t gets u → at ≡ at' → Here at' bs m t gets u
   moved at at' bs m t gets u b e = record { pc = b.pc ∙ e; stack = b.stack; binary = b.binary; mem = b.mem; text = b.text; answers = b.answers }
-
-  pub told_here : (at at' : ℕ) (m : ℕ → ℕ) (t keys' gets : List ℕ) (u : View) → Told at (lo ∷ hi ∷ []) m keys' gets t u → at ≡ at' → Here at' (lo ∷ hi ∷ []) u.mem keys' gets u
-  told_here at at' m t keys' gets u b e = record { pc = b.pc ∙ e; stack = b.stack; binary = b.binary; mem = refl; text = b.text; answers = b.answers }

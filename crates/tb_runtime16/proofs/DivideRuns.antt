@@ -11,9 +11,10 @@ use Rattle.tb_reaching.specs.View.{Setup, Holds, Fits, Comes, view}
 use Rattle.tb_reaching.proofs.Comes.{after, ending, looser}
 use Rattle.tb_reaching.proofs.Calls.{under}
 use Rattle.tb_words.specs.Words.{is_negative, magnitude, negated, with_sign, quotient}
-use Rattle.tb_runtime16.specs.Places.{DIVIDE_AT, LEFT, RIGHT}
+use Rattle.tb_runtime16.specs.Places.{DIVIDE_AT, LEFT, RIGHT, RESULT}
 use Rattle.tb_runtime16.specs.Block.{block_part}
-use Rattle.tb_runtime16.specs.Laws.{unsigned_at, negate_left_at, IsWord, Back, Divided, DivideLaw, DivideByZeroLaw}
+use Rattle.tb_runtime16.specs.Laws.{unsigned_at, negate_left_at, is_argument, WordAt, Back, Parts, DivideLaw, DivideByZeroLaw}
+use Rattle.tb_runtime16.proofs.InMemory.{IsWord, bytes_of, holds_word, of_word, same_place, value}
 use Rattle.tb_runtime16.proofs.Within.{divide_part, divide_in}
 use Rattle.tb_runtime16.proofs.Words.{small_byte, taken_from_zero, sign_of, sign_small, sign_none, negated_size, negated_sign, magnitude_positive, quotient_positive, quotient_negative, with_sign_positive, with_sign_negative}
 use Rattle.tb_runtime16.proofs.Frames.{Frame, frame_put, frame_then}
@@ -61,14 +62,14 @@ turned m k = record {
 }
 
 -- the same behind a division
-divided_negated : (m w : ℕ → ℕ) (q r : ℕ) → Divided m q r w → Divided m (negated q) r (negated_left w)
-divided_negated m w q r h = record {
-  left_is = bytes_negated (w LEFT) (w (LEFT + 1));
-  left = taken_from_zero (w LEFT) (w (LEFT + 1)) h.left_is.0 h.left_is.1 ∙ ap negated h.left;
-  result_is = h.result_is;
-  result = h.result;
-  others = left_frame m w h.others;
-}
+divided_negated : (m w : ℕ → ℕ) (q r : ℕ) → Parts is_argument m q r w → Parts is_argument m (negated q) r (negated_left w)
+divided_negated m w q r h =
+    let b = bytes_of w LEFT q h.left in
+    record {
+      left = holds_word (negated_left w) LEFT (negated q) (bytes_negated (w LEFT) (w (LEFT + 1))) (taken_from_zero (w LEFT) (w (LEFT + 1)) b.0 b.1 ∙ ap negated (value w LEFT q h.left));
+      rest = same_place w (negated_left w) RESULT r h.rest refl refl;
+      others = left_frame m w h.others;
+    }
 
 module _ (f : Setup) (fits : Fits f 2) (block : Holds block_part f.code) (lo hi : ℕ) (text answers : List ℕ) where
   negate_return : (a x y : ℕ) (n v i z c : Bool) (w : ℕ → ℕ) (q : (ℕ → ℕ) → Type 0) → q w → Comes f (view a x y n v i z c (DIVIDE_AT + 36) (lo ∷ hi ∷ []) w text answers) (Back lo hi text answers q) [] 1
@@ -82,10 +83,10 @@ module _ (f : Setup) (fits : Fits f 2) (block : Holds block_part f.code) (lo hi 
 
 -- ---- LEFT is a magnitude, RIGHT a word with a sign
 module _ (f : Setup) (fits : Fits f 4) (block : Holds block_part f.code) (lo hi : ℕ) (text answers : List ℕ) (m : ℕ → ℕ) (p : IsWord m LEFT) (q : IsWord m RIGHT) (small : word_in m LEFT ≤ 32768) (some : 1 ≤ word_in m RIGHT) where
-  abbrev Parts : (ℕ → ℕ) → Type 0
-  Parts = Divided m (with_sign (is_negative (word_in m RIGHT)) (word_in m LEFT / magnitude (word_in m RIGHT))) (word_in m LEFT % magnitude (word_in m RIGHT))
+  abbrev Half : (ℕ → ℕ) → Type 0
+  Half = Parts is_argument m (with_sign (is_negative (word_in m RIGHT)) (word_in m LEFT / magnitude (word_in m RIGHT))) (word_in m LEFT % magnitude (word_in m RIGHT))
 
-  by_unsigned : (a x y : ℕ) (n v i z c : Bool) (w : ℕ → ℕ) → is_negative (word_in m RIGHT) ≡ true → IsWord w LEFT → word_in w LEFT ≡ word_in m LEFT → IsWord w RIGHT → word_in w RIGHT ≡ negated (word_in m RIGHT) → Frame m w → Comes f (view a x y n v i z c unsigned_at ((DIVIDE_AT + 48) % 256 ∷ (DIVIDE_AT + 48) / 256 ∷ lo ∷ hi ∷ []) w text answers) (Back lo hi text answers Parts) [] (268 + 10)
+  by_unsigned : (a x y : ℕ) (n v i z c : Bool) (w : ℕ → ℕ) → is_negative (word_in m RIGHT) ≡ true → IsWord w LEFT → word_in w LEFT ≡ word_in m LEFT → IsWord w RIGHT → word_in w RIGHT ≡ negated (word_in m RIGHT) → Frame m w → Comes f (view a x y n v i z c unsigned_at ((DIVIDE_AT + 48) % 256 ∷ (DIVIDE_AT + 48) / 256 ∷ lo ∷ hi ∷ []) w text answers) (Back lo hi text answers Half) [] (268 + 10)
   by_unsigned a x y n v i z c w t wl le wr re h =
       let l = word_in m LEFT in
       let d = word_in m RIGHT in
@@ -95,24 +96,18 @@ module _ (f : Setup) (fits : Fits f 4) (block : Holds block_part f.code) (lo hi 
       let most : word_in w RIGHT ≤ 32768 = omega (arith, big, wide, re) in
       let size : word_in w RIGHT ≡ magnitude d = re ∙ negated_size d wide t in
       calls f (lo ∷ hi ∷ []) a x y n v i z c unsigned_at ((DIVIDE_AT + 48) % 256) ((DIVIDE_AT + 48) / 256) w text answers _ _ [] [] 268 10
-      (unsigned_law (under f (lo ∷ hi ∷ [])) (omega (arith, fits)) block ((DIVIDE_AT + 48) % 256) ((DIVIDE_AT + 48) / 256) text answers w a x y n v i z c wl wr least most)
-      (λ a x y n v i z c u g. subst (λ q0. Comes f (view a x y n v i z c (DIVIDE_AT + 49) (lo ∷ hi ∷ []) u text answers) (Back lo hi text answers (Divided m q0 (l % magnitude d))) [] 10) (sym (with_sign_negative d l small t))
+      (unsigned_law (under f (lo ∷ hi ∷ [])) (omega (arith, fits)) block ((DIVIDE_AT + 48) % 256) ((DIVIDE_AT + 48) / 256) text answers w a x y n v i z c l (magnitude d) (holds_word w LEFT l wl le) (holds_word w RIGHT (magnitude d) wr size) (omega (arith, size, least)) (omega (arith, size, most)))
+      (λ a x y n v i z c u g. subst (λ q0. Comes f (view a x y n v i z c (DIVIDE_AT + 49) (lo ∷ hi ∷ []) u text answers) (Back lo hi text answers (Parts is_argument m q0 (l % magnitude d))) [] 10) (sym (with_sign_negative d l small t))
       (after f 4 fits divide_part (divide_in f.code block) 0 (view a x y n v i z c (DIVIDE_AT + 49) (lo ∷ hi ∷ []) u text answers) _ _ 9 refl
       (negate_left f (omega (arith, fits)) block lo hi text answers a x y n v i z c u _ (divided_negated m u (l / magnitude d) (l % magnitude d)
-      (record {
-        left_is = g.left_is;
-        left = g.left ∙ ap (λ l. l / word_in w RIGHT) le ∙ ap (λ r. l / r) size;
-        result_is = g.result_is;
-        result = g.result ∙ ap (λ l. l % word_in w RIGHT) le ∙ ap (λ r. l % r) size;
-        others = frame_then m w u h g.others;
-      })))))
+      (record { left = g.parts.left; rest = g.parts.rest; others = frame_then m w u h g.parts.others })))))
 
-  by_negative : (a x y : ℕ) (n v i z c : Bool) → is_negative (word_in m RIGHT) ≡ true → Comes f (view a x y n v i z c (DIVIDE_AT + 41) (lo ∷ hi ∷ []) m text answers) (Back lo hi text answers Parts) [] (11 + (268 + 10))
+  by_negative : (a x y : ℕ) (n v i z c : Bool) → is_negative (word_in m RIGHT) ≡ true → Comes f (view a x y n v i z c (DIVIDE_AT + 41) (lo ∷ hi ∷ []) m text answers) (Back lo hi text answers Half) [] (11 + (268 + 10))
   by_negative a x y n v i z c t =
       after f 4 fits divide_part (divide_in f.code block) 10 (view a x y n v i z c (DIVIDE_AT + 41) (lo ∷ hi ∷ []) m text answers) _ _ (268 + 10) refl
       (by_unsigned _ _ _ _ _ _ _ _ (negated_right m) t p refl (bytes_negated (m RIGHT) (m (RIGHT + 1))) (taken_from_zero (m RIGHT) (m (RIGHT + 1)) q.0 q.1) (right_frame m m (λ a e. refl)))
 
-  by : (a x y : ℕ) (n v i z c : Bool) → Comes f (view a x y n v i z c (DIVIDE_AT + 37) (lo ∷ hi ∷ []) m text answers) (Back lo hi text answers Parts) [] 291
+  by : (a x y : ℕ) (n v i z c : Bool) → Comes f (view a x y n v i z c (DIVIDE_AT + 37) (lo ∷ hi ∷ []) m text answers) (Back lo hi text answers Half) [] 291
   by a x y n v i z c =
       let l = word_in m LEFT in
       let d = word_in m RIGHT in
@@ -125,14 +120,14 @@ module _ (f : Setup) (fits : Fits f 4) (block : Holds block_part f.code) (lo hi 
       let below = sign_none d t in
       looser f _ _ _ [] (2 + 268) 291 (omega arith) (λ w h. h)
       (after f 4 fits divide_part (divide_in f.code block) 1 (view a x y n v i z c (DIVIDE_AT + 37) (lo ∷ hi ∷ []) m text answers) _ _ 268 refl
-      (rw b (back_looser f _ lo hi text answers _ _ [] 268 268 (omega arith) (unsigned_law f (omega (arith, fits)) block lo hi text answers m _ _ _ _ _ _ _ _ p q some (omega (arith, below)))
-      (λ w h. record { left_is = h.left_is; left = h.left ∙ sym (with_sign_positive d l small t); result_is = h.result_is; result = h.result ∙ ap (λ r. l % r) (sym (magnitude_positive d t)); others = h.others })))))
+      (rw b (back_looser f _ lo hi text answers _ _ [] 268 268 (omega arith) (unsigned_law f (omega (arith, fits)) block lo hi text answers m _ _ _ _ _ _ _ _ l d (holds_word m LEFT l p refl) (holds_word m RIGHT d q refl) some (omega (arith, below)))
+      (λ w h. record { left = subst (WordAt w LEFT) (sym (with_sign_positive d l small t)) h.parts.left; rest = subst (WordAt w RESULT) (ap (λ r. l % r) (sym (magnitude_positive d t))) h.parts.rest; others = h.parts.others })))))
       (sign_case (is_negative d))
 
 -- ---- LEFT and RIGHT are words with signs
 module _ (f : Setup) (fits : Fits f 6) (block : Holds block_part f.code) (lo hi : ℕ) (text answers : List ℕ) (m : ℕ → ℕ) (p : IsWord m LEFT) (q : IsWord m RIGHT) (some : 1 ≤ word_in m RIGHT) where
   abbrev Goal : (ℕ → ℕ) → Type 0
-  Goal = Divided m (quotient (word_in m LEFT) (word_in m RIGHT)) (magnitude (word_in m LEFT) % magnitude (word_in m RIGHT))
+  Goal = Parts is_argument m (quotient (word_in m LEFT) (word_in m RIGHT)) (magnitude (word_in m LEFT) % magnitude (word_in m RIGHT))
 
   signed_by : (a x y : ℕ) (n v i z c : Bool) (w : ℕ → ℕ) → is_negative (word_in m LEFT) ≡ true → IsWord w LEFT → word_in w LEFT ≡ negated (word_in m LEFT) → IsWord w RIGHT → word_in w RIGHT ≡ word_in m RIGHT → Frame m w → Comes f (view a x y n v i z c (DIVIDE_AT + 37) ((DIVIDE_AT + 20) % 256 ∷ (DIVIDE_AT + 20) / 256 ∷ lo ∷ hi ∷ []) w text answers) (Back lo hi text answers Goal) [] (291 + 9)
   signed_by a x y n v i z c w t wl le wr re h =
@@ -144,13 +139,11 @@ module _ (f : Setup) (fits : Fits f 6) (block : Holds block_part f.code) (lo hi 
       let few : negated l / magnitude d ≤ 32768 = let s = div-le_self (negated l) (magnitude d) in omega (arith, s, most) in
       calls f (lo ∷ hi ∷ []) a x y n v i z c (DIVIDE_AT + 37) ((DIVIDE_AT + 20) % 256) ((DIVIDE_AT + 20) / 256) w text answers _ _ [] [] 291 9
       (by (under f (lo ∷ hi ∷ [])) (omega (arith, fits)) block ((DIVIDE_AT + 20) % 256) ((DIVIDE_AT + 20) / 256) text answers w wl wr (subst (λ r. r ≤ 32768) (sym le) most) (subst (λ r. 1 ≤ r) (sym re) some) a x y n v i z c)
-      (λ a x y n v i z c u g. subst (λ q0. Comes f (view a x y n v i z c negate_left_at (lo ∷ hi ∷ []) u text answers) (Back lo hi text answers (Divided m q0 (magnitude l % magnitude d))) [] 9) (negated_sign (is_negative d) (negated l / magnitude d) few ∙ sym (quotient_negative l d wide t))
+      (λ a x y n v i z c u g. subst (λ q0. Comes f (view a x y n v i z c negate_left_at (lo ∷ hi ∷ []) u text answers) (Back lo hi text answers (Parts is_argument m q0 (magnitude l % magnitude d))) [] 9) (negated_sign (is_negative d) (negated l / magnitude d) few ∙ sym (quotient_negative l d wide t))
       (negate_left f (omega (arith, fits)) block lo hi text answers a x y n v i z c u _ (divided_negated m u (with_sign (is_negative d) (negated l / magnitude d)) (magnitude l % magnitude d)
       (record {
-        left_is = g.left_is;
-        left = g.left ∙ ap (λ r. with_sign (is_negative r) (word_in w LEFT / magnitude r)) re ∙ ap (λ r. with_sign (is_negative d) (r / magnitude d)) le;
-        result_is = g.result_is;
-        result = g.result ∙ ap (λ r. word_in w LEFT % magnitude r) re ∙ ap (λ r. r % magnitude d) (le ∙ negated_size l wide t);
+        left = subst (WordAt u LEFT) (ap (λ r. with_sign (is_negative r) (word_in w LEFT / magnitude r)) re ∙ ap (λ r. with_sign (is_negative d) (r / magnitude d)) le) g.left;
+        rest = subst (WordAt u RESULT) (ap (λ r. word_in w LEFT % magnitude r) re ∙ ap (λ r. r % magnitude d) (le ∙ negated_size l wide t)) g.rest;
         others = frame_then m w u h g.others;
       }))))
 
@@ -173,7 +166,7 @@ module _ (f : Setup) (fits : Fits f 6) (block : Holds block_part f.code) (lo hi 
       looser f _ _ _ [] (2 + 291) 313 (omega arith) (λ w h. h)
       (after f 6 fits divide_part (divide_in f.code block) 1 (view a x y n v i z c (DIVIDE_AT + 11) (lo ∷ hi ∷ []) m text answers) _ _ 291 refl
       (rw b (back_looser f _ lo hi text answers _ _ [] 291 291 (omega arith) (by f (omega (arith, fits)) block lo hi text answers m p q (omega (arith, below)) some _ _ _ _ _ _ _ _)
-      (λ w h. record { left_is = h.left_is; left = h.left ∙ sym (quotient_positive l d t); result_is = h.result_is; result = h.result ∙ ap (λ r. r % magnitude d) (sym (magnitude_positive l t)); others = h.others })))))
+      (λ w h. record { left = subst (WordAt w LEFT) (sym (quotient_positive l d t)) h.left; rest = subst (WordAt w RESULT) (ap (λ r. r % magnitude d) (sym (magnitude_positive l t))) h.rest; others = h.others })))))
       (sign_case (is_negative l))
 
   divide : (a x y : ℕ) (n v i z c : Bool) → Comes f (view a x y n v i z c DIVIDE_AT (lo ∷ hi ∷ []) m text answers) (Back lo hi text answers Goal) [] 316
@@ -183,12 +176,16 @@ module _ (f : Setup) (fits : Fits f 6) (block : Holds block_part f.code) (lo hi 
       (rw b (signed _ _ _ _ _ _ _ _))
 
 pub divide_law : DivideLaw
-divide_law f fits block lo hi text answers m a x y n v i z c p q some = divide f fits block lo hi text answers m p q some a x y n v i z c
+divide_law f fits block lo hi text answers m a x y n v i z c left right p q some =
+    let start = view a x y n v i z c DIVIDE_AT (lo ∷ hi ∷ []) m text answers in
+    let same = value m RIGHT right q in
+    of_word (λ l. Comes f start (Back lo hi text answers (Parts is_argument m (quotient l right) (magnitude l % magnitude right))) [] 316) m LEFT left p
+    (of_word (λ r. Comes f start (Back lo hi text answers (Parts is_argument m (quotient (word_in m LEFT) r) (magnitude (word_in m LEFT) % magnitude r))) [] 316) m RIGHT right q
+    (divide f fits block lo hi text answers m (bytes_of m LEFT left p) (bytes_of m RIGHT right q) (omega (arith, same, some)) a x y n v i z c))
 
 pub divide_by_zero_law : DivideByZeroLaw
 divide_by_zero_law f fits block lo hi text answers m a x y n v i z c e =
-    let none : (m RIGHT ≡ 0) × (m (RIGHT + 1) ≡ 0) = (omega (arith, e), omega (arith, e)) in
-    let b : eqb (bit_or (m RIGHT) (m (RIGHT + 1))) 0 ≡ true = eq-eqb _ _ (ap₂ bit_or none.0 none.1) in
+    let b : eqb (bit_or (m RIGHT) (m (RIGHT + 1))) 0 ≡ true = eq-eqb _ _ (ap₂ bit_or e.low e.high) in
     after f 2 fits divide_part (divide_in f.code block) 2 (view a x y n v i z c DIVIDE_AT (lo ∷ hi ∷ []) m text answers) _ _ 2 refl
     (rw b (ending f 2 fits divide_part (divide_in f.code block) 1 (view _ _ _ _ _ _ _ _ (DIVIDE_AT + 6) (lo ∷ hi ∷ []) m text answers) _ refl
-    (record { pc = refl; stack = refl; binary = refl; same_text = refl; same_answers = refl; number = refl; memory = refl })))
+    (record { leaves = record { pc = refl; stack_is = refl; binary = refl; same_text = refl; same_answers = refl; memory = refl }; number = refl })))

@@ -10,10 +10,11 @@ use Rattle.tb_reaching.proofs.Calls.{calling, under, stacked_on}
 use Rattle.tb_reaching.proofs.Special.{putting_s}
 use Rattle.tb_words.specs.Words.{digits_of}
 use Rattle.tb_lower.specs.Control.{fault_text}
-use Rattle.tb_runtime16.specs.Places.{SEND_AT, FAULT_LINE_AT, FAULT_AT, NUMBER_AT, COLUMN, LINE, BYTE}
+use Rattle.tb_runtime16.specs.Places.{SEND_AT, FAULT_LINE_AT, FAULT_AT, NUMBER_AT, COLUMN, LINE, BYTE, LEFT}
 use Rattle.tb_runtime16.specs.Block.{block_part}
 use Rattle.tb_runtime16.specs.Ends.{FaultLaw, FaultLineLaw}
 use Rattle.tb_runtime16.specs.Laws.{Said}
+use Rattle.tb_runtime16.proofs.InMemory.{bytes_of, holds_word, of_word}
 use Rattle.tb_runtime16.proofs.Within.{fault_line_part, fault_line_in, fault_part, fault_in}
 use Rattle.tb_runtime16.proofs.Called.{after_on, calls}
 use Rattle.tb_runtime16.proofs.SendRuns.{send_law}
@@ -53,7 +54,7 @@ module _ (f : Setup) (fits : Fits f 13) (block : Holds block_part f.code) (hlo h
       subst (λ w. Comes f (view a x y n v i z c (FAULT_AT + 0x2E) own m text answers) (IsHome f) (digits_of w ++ 13 ∷ []) (5 + (458 + 9))) line
       (after f 13 fits fault_part (fault_in f.code block) 4 (view a x y n v i z c (FAULT_AT + 0x2E) own m text answers) _ _ (458 + 9) refl
       (calls f own _ _ _ _ _ _ _ _ NUMBER_AT ((FAULT_AT + 0x3A) % 256) ((FAULT_AT + 0x3A) / 256) _ text answers _ (IsHome f) (digits_of (m LINE + 256 * m (LINE + 1))) (13 ∷ []) 458 9
-      (number_law (under f own) (omega (arith, fits)) block ((FAULT_AT + 0x3A) % 256) ((FAULT_AT + 0x3A) / 256) text answers _ _ _ _ _ _ _ _ _ (omega (arith, k.low, is_word.0), omega (arith, k.high, is_word.1)) small)
+      (number_law (under f own) (omega (arith, fits)) block ((FAULT_AT + 0x3A) % 256) ((FAULT_AT + 0x3A) / 256) text answers _ _ _ _ _ _ _ _ _ (m LINE + 256 * m (LINE + 1)) (holds_word _ LEFT _ (omega (arith, k.low, is_word.0), omega (arith, k.high, is_word.1)) refl) small)
       (λ a x y n v i z c w g. last a x y n v i z c w)))
 
   -- LDA, JSR SEND
@@ -78,20 +79,21 @@ module _ (f : Setup) (fits : Fits f 13) (block : Holds block_part f.code) (hlo h
 
 pub fault_law : FaultLaw
 unfolding From
-fault_law f room most fits block hlo hhi above deep text answers m e k x y n v i z c small =
+fault_law f room most fits block hlo hhi above deep text answers m e line is_line k x y n v i z c small =
     let own = above ++ hlo ∷ hhi ∷ [] in
     let start = view k x y n v i z c FAULT_AT [] m text answers in
     let next = the start (run_view fault_part 0 4 start) in
     let rest = 2 + (7 + (2 + (7 + (2 + (7 + (2 + (7 + (2 + (7 + (2 + (7 + (2 + (7 + (5 + (458 + 9))))))))))))))) in
-    looser f _ _ _ (fault_text k (word_in m LINE)) (4 + (1 + rest)) 540 (omega arith) (λ w h. h)
+    of_word (λ j. Comes f (view k x y n v i z c FAULT_AT own m text answers) (IsHome f) (fault_text k j) 540) m LINE line is_line
+    (looser f _ _ _ (fault_text k (word_in m LINE)) (4 + (1 + rest)) 540 (omega arith) (λ w h. h)
     (calling f own start (λ w. w ≡ next) (IsHome f) [] (fault_text k (word_in m LINE)) 4 (1 + rest)
     (ending (under f own) 0 (omega (arith, fits, deep, length-append own f.rest, length-append above (hlo ∷ hhi ∷ []))) fault_part (fault_in f.code block) 3 start (λ w. w ≡ next) refl refl)
     (λ w same. subst (λ w. Comes f (stacked_on own w) (IsHome f) (fault_text k (word_in m LINE)) (1 + rest)) (sym same)
     (putting_s f room fits (stacked_on own next) above (hlo ∷ hhi ∷ []) (IsHome f) (fault_text k (word_in m LINE)) rest (fault_in f.code block _ _ refl) (le-leb _ _ (omega (arith, deep, length-append above (hlo ∷ hhi ∷ [])))) refl (omega (arith, e.kept, e.homed.above))
-    (text_sent f (omega (arith, most, fits)) block hlo hhi e.homed.home text answers (m LINE) (m (LINE + 1)) (48 + k) e.line (omega (arith, small)) _ _ _ _ _ _ _ _ _ (record { low = refl; high = refl; byte = omega (arith, small) })))))
+    (text_sent f (omega (arith, most, fits)) block hlo hhi e.homed.home text answers (m LINE) (m (LINE + 1)) (48 + k) (bytes_of m LINE line is_line) (omega (arith, small)) _ _ _ _ _ _ _ _ _ (record { low = refl; high = refl; byte = omega (arith, small) }))))))
 
 pub fault_line_law : FaultLineLaw
-fault_line_law f room most fits block hlo hhi above deep text answers m homed kept k x y n v i z c small low high =
+fault_line_law f room most fits block hlo hhi above deep text answers m e k x y n v i z c small low high =
     let own = above ++ hlo ∷ hhi ∷ [] in
     after_on f own 0 (omega (arith, fits, deep, length-append own f.rest, length-append above (hlo ∷ hhi ∷ []))) fault_line_part (fault_line_in f.code block) 1 (view k x y n v i z c FAULT_LINE_AT [] m text answers) (IsHome f) (fault_text k (x + 256 * y)) 540 refl
-    (fault_law f room most fits block hlo hhi above deep text answers (with_byte (with_byte m LINE x) (LINE + 1) y) (record { homed = homed; kept = kept; line = (low, high) }) k x y n v i z c small)
+    (fault_law f room most fits block hlo hhi above deep text answers (with_byte (with_byte m LINE x) (LINE + 1) y) (record { homed = e.homed; kept = e.kept }) (x + 256 * y) (holds_word _ LINE (x + 256 * y) (low, high) refl) k x y n v i z c small)

@@ -2,16 +2,12 @@
 use Rattle.std.proofs.Common.{◌≡◌, ℕ, Bool, true, false, sym, ap, ◌∙◌}
 use Rattle.std.proofs.lemmas.Bool.{false≢true}
 use Rattle.tb_memmap.specs.Bytes.{with_byte}
-use Rattle.tb_runtime16.specs.Laws.{is_argument}
+use Rattle.tb_runtime16.specs.Laws.{Changes, is_argument}
 use Rattle.tb_reaching.proofs.Memory.{put_other}
 
 -- a write to a place of this kind leaves the others
 pub skip : (is : ℕ → Bool) (m : ℕ → ℕ) (at b a : ℕ) → is at ≡ true → is a ≡ false → with_byte m at b a ≡ m a
 skip is m at b a h e = put_other m at b a (λ x. false≢true (sym e ∙ ap is x ∙ h))
-
--- only these places changed
-abbrev pub Changes : (ℕ → Bool) → (ℕ → ℕ) → (ℕ → ℕ) → Type 0
-Changes changes m0 m = (a : ℕ) → changes a ≡ false → m a ≡ m0 a
 
 pub changes_put : (changes : ℕ → Bool) (m0 m : ℕ → ℕ) (at b : ℕ) → changes at ≡ true → Changes changes m0 m → Changes changes m0 (with_byte m at b)
 changes_put changes m0 m at b h k a e = skip changes m at b a h e ∙ k a e

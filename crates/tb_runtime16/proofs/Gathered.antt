@@ -2,7 +2,6 @@
 use Rattle.std.proofs.Common.{◌≡◌, ◌≢◌, ℕ, zero, suc, ◌+◌, ◌/◌, ◌%◌, ◌<◌, ◌≤◌, Bool, true, false, ◌||◌, List, [], ◌∷◌, ◌++◌, length, refl, sym, ap, ◌∙◌, subst, ⊎_elim, arith, Some, None}
 use Rattle.std.specs.Prelude.{nat_lt, if◌then◌else◌}
 use Rattle.std.proofs.lemmas.Bool.{ne_eqb, eq-eqb, cases_eq}
-use Rattle.tb_cpu.specs.Operands.{word_in}
 use Rattle.tb_words.specs.Words.{is_negative, magnitude, digits_before, digits_of}
 use Rattle.tb_lower.specs.Control.{fault_text, column_after, has_line}
 use Rattle.tb_runtime16.specs.Places.{HOME_S, LINE, FAULT_AT}
@@ -11,23 +10,11 @@ use Rattle.tb_reaching.specs.Start.{IsHome}
 use Rattle.tb_reaching.proofs.Comes.{known, looser}
 use Rattle.tb_reaching.proofs.Calls.{calling, framed, under, stacked_on}
 use Rattle.tb_runtime16.specs.Block.{block_part}
-use Rattle.tb_runtime16.specs.Laws.{IsWord}
+use Rattle.tb_runtime16.specs.Laws.{WordAt, Leaves, Faults}
 use Rattle.tb_runtime16.specs.Search.{address_of}
-use Rattle.tb_runtime16.specs.Routines.{WordAt, Entered, Here, WithA, WithLine, Moves, entries}
+use Rattle.tb_runtime16.specs.Routines.{Entered, Here, WithA, WithLine, Moves, entries}
+use Rattle.tb_runtime16.proofs.InMemory.{same_place}
 use Rattle.tb_runtime16.proofs.FaultRuns.{fault_law}
-
--- ---- words
-pub value : (m : ℕ → ℕ) (at w : ℕ) → WordAt m at w → word_in m at ≡ w
-value m at w h = omega (arith, h.low, h.high)
-
-pub small_bytes : (m : ℕ → ℕ) (at w : ℕ) → WordAt m at w → IsWord m at
-small_bytes m at w h = (omega (arith, h.low), omega (arith, h.high, h.small))
-
-pub holds_word : (m : ℕ → ℕ) (at w : ℕ) → IsWord m at → word_in m at ≡ w → WordAt m at w
-holds_word m at w h e = record { low = omega (arith, h.0, h.1, e); high = omega (arith, h.0, h.1, e); small = omega (arith, h.0, h.1, e) }
-
-pub same_place : (m k : ℕ → ℕ) (at w : ℕ) → WordAt m at w → k at ≡ m at → k (at + 1) ≡ m (at + 1) → WordAt k at w
-same_place m k at w h p q = record { low = p ∙ h.low; high = q ∙ h.high; small = h.small }
 
 -- ---- views
 pub from_here : (f : Setup) (at : ℕ) (bs : List ℕ) (m : ℕ → ℕ) (keys gets : List ℕ) (q : View → Type 0) (t : List ℕ) (n : ℕ) → ((a x y : ℕ) (b v i z c : Bool) → Comes f (view a x y b v i z c at bs m keys gets) q t n) → Moves f (Here at bs m keys gets) q t n
@@ -50,37 +37,32 @@ from_line f at k j bs m keys gets q t n go w h =
     (subst (λ r. Comes f (view k r w.regs.y w.regs.flags.n w.regs.flags.v w.regs.flags.i w.regs.flags.z w.regs.flags.c at bs m keys gets) q t n) (sym h.low)
     (subst (λ r. Comes f (view k (j % 256) r w.regs.flags.n w.regs.flags.v w.regs.flags.i w.regs.flags.z w.regs.flags.c at bs m keys gets) q t n) (sym h.high) (go _ _ _ _ _)))))
 
--- a law beside what the caller keeps, with a larger bound and less said
-pub beside : (f : Setup) (own : List ℕ) (v : View) (p q : View → Type 0) (t : List ℕ) (n limit : ℕ) → n ≤ limit → Comes (under f own) v p t n → ((u : View) → p u → q (stacked_on own u)) → Comes f (stacked_on own v) q t limit
-beside f own v p q t n limit le c go =
-    looser f _ _ q t n limit le (λ w k. subst q k.2 (go k.0 k.1)) (framed f own v p t n c)
+-- a law beside what the caller keeps, with a larger bound and less said of the memory
+pub beside : (f : Setup) (own : List ℕ) (v : View) (at : ℕ) (keys gets : List ℕ) (p q : (ℕ → ℕ) → Type 0) (t : List ℕ) (n limit : ℕ) → n ≤ limit → Comes (under f own) v (Leaves at [] keys gets p) t n → ((w : ℕ → ℕ) → p w → q w) → Comes f (stacked_on own v) (Leaves at own keys gets q) t limit
+beside f own v at keys gets p q t n limit le c go =
+    looser f _ _ (Leaves at own keys gets q) t n limit le
+    (λ w k. subst (Leaves at own keys gets q) k.2 (record { pc = k.1.pc; stack_is = ap (λ s. s ++ own) k.1.stack_is; binary = k.1.binary; same_text = k.1.same_text; same_answers = k.1.same_answers; memory = go k.0.mem k.1.memory }))
+    (framed f own v (Leaves at [] keys gets p) t n c)
 
 -- ---- faults
--- at the entry of Fault, with the line and the start's stack pointer as they were
-pub record AtFault (k l h : ℕ) (m : ℕ → ℕ) (keys gets : List ℕ) (u : View) : Type 0 where
-  pub pc : u.regs.pc ≡ FAULT_AT
-  pub stack : u.stack ≡ l ∷ h ∷ []
-  pub binary : u.regs.flags.d ≡ false
-  pub text : u.text ≡ keys
-  pub answers : u.answers ≡ gets
-  pub number : u.regs.a ≡ k
-  pub line : (u.mem LINE ≡ m LINE) × (u.mem (LINE + 1) ≡ m (LINE + 1))
-  pub home_s : u.mem HOME_S ≡ m HOME_S
+-- the line and the start's stack pointer are as they were
+pub record Stays (m w : ℕ → ℕ) : Type 0 where
+  pub line : w LINE ≡ m LINE
+  pub line_high : w (LINE + 1) ≡ m (LINE + 1)
+  pub home_s : w HOME_S ≡ m HOME_S
 
--- the fault's text is sent, and the machine has returned
-pub told : (f : Setup) (lo hi : ℕ) (bs : List ℕ) → length bs + 2 ≤ 14 → Fits f 16 → Holds block_part f.code → (k : ℕ) → k < 10 → (m : ℕ → ℕ) (keys gets : List ℕ) (n : ℕ) → WordAt m LINE n → Entered f lo hi m → (x y : ℕ) (b v i z c : Bool) → Comes f (view k x y b v i z c FAULT_AT (bs ++ lo ∷ hi ∷ []) m keys gets) (IsHome f) (fault_text k n) 540
-told f lo hi bs few fits block k small m keys gets n line e x y b v i z c =
-    subst (λ j. Comes f (view k x y b v i z c FAULT_AT (bs ++ lo ∷ hi ∷ []) m keys gets) (IsHome f) (fault_text k j) 540) (value m LINE n line)
-    (fault_law f 14 (let le : 13 ≤ 14 = omega arith in le) (omega (arith, fits)) block lo hi bs few keys gets m (record { homed = e.homed; kept = e.kept; line = small_bytes m LINE n line }) k x y b v i z c small)
+pub unchanged : (m w : ℕ → ℕ) → w ≡ m → Stays m w
+unchanged m w e = record { line = ap (λ r. r LINE) e; line_high = ap (λ r. r (LINE + 1)) e; home_s = ap (λ r. r HOME_S) e }
 
-pub faulting : (f : Setup) (lo hi : ℕ) → Fits f 16 → Holds block_part f.code → (l h k : ℕ) → k < 10 → (m : ℕ → ℕ) (keys gets : List ℕ) (n : ℕ) → WordAt m LINE n → Entered f lo hi m → (v : View) (p : View → Type 0) (j limit : ℕ) → j + 540 ≤ limit → Comes (under f (lo ∷ hi ∷ [])) v p [] j → ((u : View) → p u → AtFault k l h m keys gets u) → Comes f (stacked_on (lo ∷ hi ∷ []) v) (IsHome f) (fault_text k n) limit
-faulting f lo hi fits block l h k small m keys gets n line e v p j limit le c go =
+-- a routine that comes to Fault, and the fault: its text is sent, and the machine has returned
+pub faulting : (f : Setup) (lo hi : ℕ) → Fits f 16 → Holds block_part f.code → (l h k : ℕ) → k < 10 → (m : ℕ → ℕ) (keys gets : List ℕ) (n : ℕ) → WordAt m LINE n → Entered f lo hi m → (v : View) (q : (ℕ → ℕ) → Type 0) (j limit : ℕ) → j + 540 ≤ limit → Comes (under f (lo ∷ hi ∷ [])) v (Faults l h keys gets k q) [] j → ((w : ℕ → ℕ) → q w → Stays m w) → Comes f (stacked_on (lo ∷ hi ∷ []) v) (IsHome f) (fault_text k n) limit
+faulting f lo hi fits block l h k small m keys gets n line e v q j limit le c go =
     looser f _ _ _ (fault_text k n) (j + 540) limit le (λ w h. h)
-    (calling f (lo ∷ hi ∷ []) v p (IsHome f) [] (fault_text k n) j 540 c (λ u pu.
-    let a = go u pu in
-    known f (stacked_on (lo ∷ hi ∷ []) u) FAULT_AT (l ∷ h ∷ lo ∷ hi ∷ []) keys gets (IsHome f) (fault_text k n) 540 a.pc (ap (λ s. s ++ (lo ∷ hi ∷ [])) a.stack) a.binary a.text a.answers
+    (calling f (lo ∷ hi ∷ []) v (Faults l h keys gets k q) (IsHome f) [] (fault_text k n) j 540 c (λ u a.
+    let s = go u.mem a.leaves.memory in
+    known f (stacked_on (lo ∷ hi ∷ []) u) FAULT_AT (l ∷ h ∷ lo ∷ hi ∷ []) keys gets (IsHome f) (fault_text k n) 540 a.leaves.pc (ap (λ s. s ++ (lo ∷ hi ∷ [])) a.leaves.stack_is) a.leaves.binary a.leaves.same_text a.leaves.same_answers
     (subst (λ r. Comes f (view r u.regs.x u.regs.y u.regs.flags.n u.regs.flags.v u.regs.flags.i u.regs.flags.z u.regs.flags.c FAULT_AT (l ∷ h ∷ lo ∷ hi ∷ []) u.mem keys gets) (IsHome f) (fault_text k n) 540) (sym a.number)
-    (told f lo hi (l ∷ h ∷ []) (let le : 4 ≤ 14 = omega arith in le) fits block k small u.mem keys gets n (same_place m u.mem LINE n line a.line.0 a.line.1) (record { homed = e.homed; kept = ap (λ s. s + 2) a.home_s ∙ e.kept }) _ _ _ _ _ _ _))))
+    (fault_law f 14 (let le : 13 ≤ 14 = omega arith in le) (omega (arith, fits)) block lo hi (l ∷ h ∷ []) (let le : 4 ≤ 14 = omega arith in le) keys gets u.mem (record { homed = e.homed; kept = ap (λ s. s + 2) s.home_s ∙ e.kept }) n (same_place m u.mem LINE n line s.line s.line_high) k _ _ _ _ _ _ _ small))))
 
 -- ---- columns: no digit is a return
 abbrev Plain : List ℕ → Type 0

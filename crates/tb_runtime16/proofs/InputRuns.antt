@@ -1,5 +1,5 @@
 -- Input.
-use Rattle.std.proofs.Common.{◌≡◌, ◌≢◌, ℕ, ◌+◌, ◌-◌, ◌*◌, ◌%◌, ◌/◌, ◌<◌, ◌≤◌, Bool, true, false, ◌&&◌, ◌||◌, List, [], ◌∷◌, ◌++◌, length, refl, sym, ap, ap₂, ◌∙◌, subst, ⊎_elim, inl, inr, ◌⊎◌, arith, eqb, leb, if◌then◌else◌, length-append}
+use Rattle.std.proofs.Common.{◌≡◌, ◌≢◌, ℕ, ◌+◌, ◌-◌, ◌*◌, ◌%◌, ◌/◌, ◌<◌, ◌≤◌, Bool, true, false, ◌&&◌, ◌||◌, List, [], ◌∷◌, ◌++◌, length, refl, sym, ap, ◌∙◌, subst, ⊎_elim, inl, inr, ◌⊎◌, arith, eqb, leb, if◌then◌else◌, length-append}
 use Rattle.std.proofs.lemmas.Bool.{ne_eqb, eq-eqb, cases_eq, cases_lt, lt-leb, le-leb, false≢true, and_left, and_right}
 use Rattle.tb_cpu.specs.Operands.{word_in}
 use Rattle.tb_memmap.specs.Bytes.{with_byte}
@@ -15,10 +15,11 @@ use Rattle.tb_runtime16.specs.Places.{INPUT_AT, SEND_AT, COLUMN, LEFT, RESULT, H
 use Rattle.tb_runtime16.specs.Block.{block_part}
 use Rattle.tb_runtime16.specs.Ends.{Entered}
 use Rattle.tb_runtime16.specs.Input.{MINUS, is_changed, turn_sends, Ended, InputLaw}
-use Rattle.tb_runtime16.specs.Laws.{IsWord, AllBytes, Said}
+use Rattle.tb_runtime16.specs.Laws.{AllBytes, WordAt, Changes, Said}
 use Rattle.tb_runtime16.proofs.Words.{small_byte, taken_from_zero}
 use Rattle.tb_runtime16.proofs.Tens.{times_ten}
-use Rattle.tb_runtime16.proofs.Frames.{Changes, changes_put}
+use Rattle.tb_runtime16.proofs.Frames.{changes_put}
+use Rattle.tb_runtime16.proofs.InMemory.{IsWord, holds_word, same_place}
 use Rattle.tb_runtime16.proofs.Within.{input_part, input_in}
 use Rattle.tb_runtime16.proofs.Called.{after_on, calls, ending_on}
 use Rattle.tb_runtime16.proofs.SendRuns.{send_law}
@@ -87,7 +88,7 @@ turn_bad r b text n32 n43 n45 n44 n13 out =
 apart : (a at : ℕ) → is_changed a ≡ false → is_changed at ≡ true → eqb a at ≡ false
 apart a at t h = ne_eqb a at (λ x. false≢true (sym t ∙ ap is_changed x ∙ h))
 
-module _ (f : Setup) (room : ℕ) (most : 13 ≤ room) (fits : Fits f room) (block : Holds block_part f.code) (hlo hhi : ℕ) (above : List ℕ) (deep : length above + 6 ≤ room) (lo hi : ℕ) (answers : List ℕ) (m0 : ℕ → ℕ) (entered : Entered f hlo hhi m0) (col : ℕ) (before : List ℕ) where
+module _ (f : Setup) (room : ℕ) (most : 13 ≤ room) (fits : Fits f room) (block : Holds block_part f.code) (hlo hhi : ℕ) (above : List ℕ) (deep : length above + 6 ≤ room) (lo hi : ℕ) (answers : List ℕ) (m0 : ℕ → ℕ) (entered : Entered f hlo hhi m0) (line : ℕ) (is_line : WordAt m0 LINE line) (col : ℕ) (before : List ℕ) where
   abbrev own : List ℕ
   own = above ++ hlo ∷ hhi ∷ []
 
@@ -102,7 +103,7 @@ module _ (f : Setup) (room : ℕ) (most : 13 ≤ room) (fits : Fits f room) (blo
   Goal = Ended f lo hi own m0 answers col before
 
   abbrev sends : Turn → List ℕ
-  sends = turn_sends (word_in m0 LINE)
+  sends = turn_sends line
 
   record Held (r : Reading) (m : ℕ → ℕ) : Type 0 where
     seen : m SCRATCH ≡ state r
@@ -117,13 +118,12 @@ module _ (f : Setup) (room : ℕ) (most : 13 ≤ room) (fits : Fits f room) (blo
   held_byte r m b h = record { seen = h.seen; minus = h.minus; is_word = h.is_word; value = h.value; line_open = h.line_open; column = h.column; others = changes_put _ _ _ BYTE _ refl h.others }
 
   -- fault 6
-  bad : (a x y : ℕ) (n v i z c : Bool) (m : ℕ → ℕ) (text : List ℕ) → Changes is_changed m0 m → Comes f (view a x y n v i z c (INPUT_AT + 0xA0) (lo ∷ hi ∷ own) m text answers) (IsHome f) (fault_text 6 (word_in m0 LINE)) (84 + 458)
+  bad : (a x y : ℕ) (n v i z c : Bool) (m : ℕ → ℕ) (text : List ℕ) → Changes is_changed m0 m → Comes f (view a x y n v i z c (INPUT_AT + 0xA0) (lo ∷ hi ∷ own) m text answers) (IsHome f) (fault_text 6 line) (84 + 458)
   bad a x y n v i z c m text k =
-      let here : Entered f hlo hhi m = record { homed = entered.homed; kept = ap (λ s. s + 2) (k HOME_S refl) ∙ entered.kept; line = (omega (arith, k LINE refl, entered.line.0), omega (arith, k (LINE + 1) refl, entered.line.1)) } in
-      subst (λ w. Comes f (view a x y n v i z c (INPUT_AT + 0xA0) (lo ∷ hi ∷ own) m text answers) (IsHome f) (fault_text 6 w) (84 + 458)) (ap₂ (λ a b. a + 256 * b) (k LINE refl) (k (LINE + 1) refl))
-      (looser f _ _ _ (fault_text 6 (word_in m LINE)) (2 + (82 + 458)) (84 + 458) (omega arith) (λ w h. h)
+      let here : Entered f hlo hhi m = record { homed = entered.homed; kept = ap (λ s. s + 2) (k HOME_S refl) ∙ entered.kept } in
+      looser f _ _ _ (fault_text 6 line) (2 + (82 + 458)) (84 + 458) (omega arith) (λ w h. h)
       (after_on f own 4 free input_part st 1 (view a x y n v i z c (INPUT_AT + 0xA0) (lo ∷ hi ∷ []) m text answers) _ _ (82 + 458) refl
-      (fault_law f room most fits block hlo hhi (lo ∷ hi ∷ above) (omega (arith, deep)) text answers m here 6 _ _ _ _ _ _ _ (omega arith))))
+      (fault_law f room most fits block hlo hhi (lo ∷ hi ∷ above) (omega (arith, deep)) text answers m here line (same_place m0 m LINE line is_line (k LINE refl) (k (LINE + 1) refl)) 6 _ _ _ _ _ _ _ (omega arith)))
 
   -- ---- the end
   record Read (value : ℕ) (m : ℕ → ℕ) : Type 0 where
@@ -138,22 +138,25 @@ module _ (f : Setup) (room : ℕ) (most : 13 ≤ room) (fits : Fits f room) (blo
       looser f _ _ _ [] (3 + 1) 14 (omega arith) (λ w h. h)
       (after_on f own 4 free input_part st 2 (view a x y n v i z c (INPUT_AT + 0xC4) (lo ∷ hi ∷ []) m text answers) _ _ 1 refl
       (rw e (ending_on f own 4 free input_part st 0 (view _ _ _ _ _ _ _ _ (INPUT_AT + 0xD5) (lo ∷ hi ∷ []) m text answers) _ refl
-      (record { pc = refl; stack = refl; binary = refl; left = refl; same_answers = refl; is_word = h.is_word; result = h.value_is; line_open = h.line_open; column_is = h.column; others = h.others }))))
+      (record { pc = refl; stack_is = refl; binary = refl; same_text = refl; same_answers = refl; memory = record { gives = record { result = holds_word m RESULT value h.is_word h.value_is; others = h.others }; line_open = h.line_open; column_is = h.column } }))))
   finish value false a x y n v i z c m text h e =
       after_on f own 4 free input_part st 2 (view a x y n v i z c (INPUT_AT + 0xC4) (lo ∷ hi ∷ []) m text answers) _ _ (4 + 7) refl
       (rw e (after_on f own 4 free input_part st 3 (view _ _ _ _ _ _ _ _ (INPUT_AT + 0xCB) (lo ∷ hi ∷ []) m text answers) _ _ 7 refl
       (looser f _ _ _ (13 ∷ []) 7 7 (omega arith) (λ w g. subst (Goal (Got value false text)) g.2
       (record {
         pc = g.1.pc;
-        stack = ap (λ l. l ++ own) g.1.stack_is;
+        stack_is = ap (λ l. l ++ own) g.1.stack_is;
         binary = g.1.binary;
-        left = g.1.same_text;
+        same_text = g.1.same_text;
         same_answers = g.1.same_answers;
-        is_word = (omega (arith, g.1.memory.others RESULT (λ e. omega (arith, e)), h.is_word.0), omega (arith, g.1.memory.others (RESULT + 1) (λ e. omega (arith, e)), h.is_word.1));
-        result = ap₂ (λ a b. a + 256 * b) (g.1.memory.others RESULT (λ e. omega (arith, e))) (g.1.memory.others (RESULT + 1) (λ e. omega (arith, e))) ∙ h.value_is;
-        line_open = g.1.memory.others OPEN (λ e. omega (arith, e));
-        column_is = g.1.memory.column;
-        others = λ a t. g.1.memory.others a (λ x. false≢true (sym t ∙ ap is_changed x)) ∙ changes_put _ _ _ OPEN _ refl h.others a t;
+        memory = record {
+          gives = record {
+            result = same_place m g.0.mem RESULT value (holds_word m RESULT value h.is_word h.value_is) (g.1.memory.others RESULT (λ e. omega (arith, e))) (g.1.memory.others (RESULT + 1) (λ e. omega (arith, e)));
+            others = λ a t. g.1.memory.others a (λ x. false≢true (sym t ∙ ap is_changed x)) ∙ changes_put _ _ _ OPEN _ refl h.others a t;
+          };
+          line_open = g.1.memory.others OPEN (λ e. omega (arith, e));
+          column_is = g.1.memory.column;
+        };
       }))
       (framed f own (view 13 _ _ _ _ _ _ _ SEND_AT (lo ∷ hi ∷ []) (with_byte m OPEN 0) text answers) _ (13 ∷ []) 7
       (send_law (under f own) (omega (arith, free)) block lo hi text answers _ _ _ _ _ _ _ _ _ (omega arith))))))
@@ -162,12 +165,12 @@ module _ (f : Setup) (room : ℕ) (most : 13 ≤ room) (fits : Fits f room) (blo
   done : (r : Reading) (stays : Bool) (a x y : ℕ) (n v i z c : Bool) (m : ℕ → ℕ) (text : List ℕ) → Held r m → same_byte (m BYTE) 44 ≡ stays → Comes f (view a x y n v i z c (INPUT_AT + 0xA5) (lo ∷ hi ∷ own) m text answers) (Goal (number_end r stays text)) (sends (number_end r stays text)) (87 + 458)
   done Nothing stays a x y n v i z c m text h e =
       let t : same_byte (m SCRATCH) 2 ≡ false = ne_eqb _ _ (λ e. omega (arith, h.seen, e)) in
-      looser f _ _ _ (fault_text 6 (word_in m0 LINE)) (3 + (84 + 458)) (87 + 458) (omega arith) (λ w h. h)
+      looser f _ _ _ (fault_text 6 line) (3 + (84 + 458)) (87 + 458) (omega arith) (λ w h. h)
       (after_on f own 4 free input_part st 2 (view a x y n v i z c (INPUT_AT + 0xA5) (lo ∷ hi ∷ []) m text answers) _ _ (84 + 458) refl
       (rw t (bad _ _ _ _ _ _ _ _ m text h.others)))
   done (Sign negative) stays a x y n v i z c m text h e =
       let t : same_byte (m SCRATCH) 2 ≡ false = ne_eqb _ _ (λ e. omega (arith, h.seen, e)) in
-      looser f _ _ _ (fault_text 6 (word_in m0 LINE)) (3 + (84 + 458)) (87 + 458) (omega arith) (λ w h. h)
+      looser f _ _ _ (fault_text 6 line) (3 + (84 + 458)) (87 + 458) (omega arith) (λ w h. h)
       (after_on f own 4 free input_part st 2 (view a x y n v i z c (INPUT_AT + 0xA5) (lo ∷ hi ∷ []) m text answers) _ _ (84 + 458) refl
       (rw t (bad _ _ _ _ _ _ _ _ m text h.others)))
   done (Digits false k) stays a x y n v i z c m text h e =
@@ -207,12 +210,12 @@ module _ (f : Setup) (room : ℕ) (most : 13 ≤ room) (fits : Fits f room) (blo
       (record { seen = refl; minus = e; is_word = h.is_word; value = h.value; line_open = h.line_open; column = h.column; others = changes_put _ _ _ SCRATCH _ refl (changes_put _ _ _ MINUS _ refl h.others) }) bs))))
   at_sign (Sign before) negative a x y n v i z c m text go h e bs =
       let t : eqb (m SCRATCH) 0 ≡ false = ne_eqb _ _ (λ e. omega (arith, h.seen, e)) in
-      looser f _ _ _ (fault_text 6 (word_in m0 LINE)) (2 + (84 + 458)) (45 * length text + (109 + 458)) (omega arith) (λ w h. h)
+      looser f _ _ _ (fault_text 6 line) (2 + (84 + 458)) (45 * length text + (109 + 458)) (omega arith) (λ w h. h)
       (after_on f own 4 free input_part st 1 (view a x y n v i z c (INPUT_AT + 0x8D) (lo ∷ hi ∷ []) m text answers) _ _ (84 + 458) refl
       (rw t (bad _ _ _ _ _ _ _ _ m text h.others)))
   at_sign (Digits before k) negative a x y n v i z c m text go h e bs =
       let t : eqb (m SCRATCH) 0 ≡ false = ne_eqb _ _ (λ e. omega (arith, h.seen, e)) in
-      looser f _ _ _ (fault_text 6 (word_in m0 LINE)) (2 + (84 + 458)) (45 * length text + (109 + 458)) (omega arith) (λ w h. h)
+      looser f _ _ _ (fault_text 6 line) (2 + (84 + 458)) (45 * length text + (109 + 458)) (omega arith) (λ w h. h)
       (after_on f own 4 free input_part st 1 (view a x y n v i z c (INPUT_AT + 0x8D) (lo ∷ hi ∷ []) m text answers) _ _ (84 + 458) refl
       (rw t (bad _ _ _ _ _ _ _ _ m text h.others)))
 
@@ -283,7 +286,7 @@ module _ (f : Setup) (room : ℕ) (most : 13 ≤ room) (fits : Fits f room) (blo
       (after_on f own 4 free input_part st 4 (view b x y n v i z c (INPUT_AT + 0x3C) (lo ∷ hi ∷ []) m text answers) _ _ (27 + (45 * length text + (102 + 458))) refl
       (rw t (at_digit r (b - 48) _ _ _ _ _ _ _ _ _ text go (held_byte r m _ h) d (omega arith) bs)))
 
-  stray : (text : List ℕ) (r : Reading) (b : ℕ) → b < 256 → (leb 48 b && leb b 57) ≡ false → leb 10 ((b + 256 - 48) % 256) ≡ true → (x y : ℕ) (n v i z c : Bool) (m : ℕ → ℕ) → Held r m → Comes f (view b x y n v i z c (INPUT_AT + 0x3C) (lo ∷ hi ∷ own) m text answers) (IsHome f) (fault_text 6 (word_in m0 LINE)) (5 + (84 + 458))
+  stray : (text : List ℕ) (r : Reading) (b : ℕ) → b < 256 → (leb 48 b && leb b 57) ≡ false → leb 10 ((b + 256 - 48) % 256) ≡ true → (x y : ℕ) (n v i z c : Bool) (m : ℕ → ℕ) → Held r m → Comes f (view b x y n v i z c (INPUT_AT + 0x3C) (lo ∷ hi ∷ own) m text answers) (IsHome f) (fault_text 6 line) (5 + (84 + 458))
   stray text r b small out t x y n v i z c m h =
       after_on f own 4 free input_part st 4 (view b x y n v i z c (INPUT_AT + 0x3C) (lo ∷ hi ∷ []) m text answers) _ _ (84 + 458) refl
       (rw t (bad _ _ _ _ _ _ _ _ _ text (changes_put _ _ _ BYTE _ refl h.others)))
@@ -348,14 +351,14 @@ module _ (f : Setup) (room : ℕ) (most : 13 ≤ room) (fits : Fits f room) (blo
       (record { seen = refl; minus = refl; is_word = (small_byte 0, small_byte 0); value = refl; line_open = o; column = e; others = changes_put _ _ _ MINUS _ refl (changes_put _ _ _ SCRATCH _ refl (changes_put _ _ _ (RESULT + 1) _ refl (changes_put _ _ _ RESULT _ refl k))) }) bs)
 
 pub input_law : InputLaw
-input_law f room most fits block hlo hhi above deep lo hi text answers m e bs true o col column a x y n v i z c =
+input_law f room most fits block hlo hhi above deep lo hi text answers m e line is_line bs true o col column a x y n v i z c =
     let own = above ++ hlo ∷ hhi ∷ [] in
     let free : Fits (under f own) 4 = omega (arith, fits, deep, length-append own f.rest, length-append above (hlo ∷ hhi ∷ [])) in
     let t : eqb (m OPEN) 0 ≡ false = ne_eqb _ _ (λ e. omega (arith, o, e)) in
-    looser f _ _ _ (turn_sends (word_in m LINE) (turn Nothing text)) (2 + (5 + (45 * length text + (102 + 458)))) (45 * length text + (129 + 458)) (omega arith) (λ w h. h)
+    looser f _ _ _ (turn_sends line (turn Nothing text)) (2 + (5 + (45 * length text + (102 + 458)))) (45 * length text + (129 + 458)) (omega arith) (λ w h. h)
     (after_on f own 4 free input_part (input_in f.code block) 1 (view a x y n v i z c INPUT_AT (lo ∷ hi ∷ []) m text answers) _ _ (5 + (45 * length text + (102 + 458))) refl
-    (rw t (start f room most fits block hlo hhi above deep lo hi answers m e col [] _ _ _ _ _ _ _ _ m text bs o column (λ a t. refl))))
-input_law f room most fits block hlo hhi above deep lo hi text answers m e bs false o col column a x y n v i z c =
+    (rw t (start f room most fits block hlo hhi above deep lo hi answers m e line is_line col [] _ _ _ _ _ _ _ _ m text bs o column (λ a t. refl))))
+input_law f room most fits block hlo hhi above deep lo hi text answers m e line is_line bs false o col column a x y n v i z c =
     let own = above ++ hlo ∷ hhi ∷ [] in
     let size = length-append above (hlo ∷ hhi ∷ []) in
     let free : Fits (under f own) 4 = omega (arith, fits, deep, length-append own f.rest, size) in
@@ -363,7 +366,7 @@ input_law f room most fits block hlo hhi above deep lo hi text answers m e bs fa
     let st = input_in f.code block in
     let t : eqb (m OPEN) 0 ≡ true = eq-eqb _ _ o in
     let rest = 2 + (5 + (45 * length text + (102 + 458))) in
-    let last = turn_sends (word_in m LINE) (turn Nothing text) in
+    let last = turn_sends line (turn Nothing text) in
     looser f _ _ _ (63 ∷ 32 ∷ last) (2 + (2 + (7 + (2 + (7 + rest))))) (45 * length text + (129 + 458)) (omega arith) (λ w h. h)
     (after_on f own 4 free input_part st 1 (view a x y n v i z c INPUT_AT (lo ∷ hi ∷ []) m text answers) _ _ (2 + (7 + (2 + (7 + rest)))) refl
     (rw t (after_on f own 4 free input_part st 1 (view _ _ _ _ _ _ _ _ (INPUT_AT + 0x5) (lo ∷ hi ∷ []) m text answers) _ _ (7 + (2 + (7 + rest))) refl
@@ -371,5 +374,5 @@ input_law f room most fits block hlo hhi above deep lo hi text answers m e bs fa
     after_on f own 4 free input_part st 1 (view a x y n v i z c (INPUT_AT + 0xA) (lo ∷ hi ∷ []) m1 text answers) _ _ (7 + rest) refl
     (saying f (lo ∷ hi ∷ own) inside block ((INPUT_AT + 0xE) % 256) ((INPUT_AT + 0xE) / 256) text answers m1 32 _ _ _ _ _ _ _ (omega arith) _ last rest (λ a x y n v i z c m2 c2 k2.
     after_on f own 4 free input_part st 1 (view a x y n v i z c (INPUT_AT + 0xF) (lo ∷ hi ∷ []) m2 text answers) _ _ (5 + (45 * length text + (102 + 458))) refl
-    (start f room most fits block hlo hhi above deep lo hi answers m e col (63 ∷ 32 ∷ []) _ _ _ _ _ _ _ _ _ text bs refl (omega (arith, column, c1, c2))
+    (start f room most fits block hlo hhi above deep lo hi answers m e line is_line col (63 ∷ 32 ∷ []) _ _ _ _ _ _ _ _ _ text bs refl (omega (arith, column, c1, c2))
     (changes_put _ _ _ OPEN _ refl (λ a t. let away : a ≢ COLUMN = λ x. false≢true (sym t ∙ ap is_changed x) in k2 a away ∙ k1 a away))))))))))

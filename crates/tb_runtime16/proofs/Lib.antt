@@ -5,6 +5,7 @@ pub mod SendRuns
 pub mod Columns
 pub mod ZoneRuns
 pub mod TextRuns
+pub mod InMemory
 pub mod Words
 pub mod MultiplyRuns
 pub mod WideRuns
@@ -24,5 +25,6 @@ pub mod NotesRuns
 pub mod Tables
 pub mod Through
 pub mod SearchRuns
+pub mod Owned
 pub mod Gathered
 pub mod AllLaws

@@ -3,12 +3,14 @@ use Rattle.std.proofs.Common.{◌≡◌, ◌≢◌, ℕ, zero, suc, ◌+◌, ◌
 use Rattle.std.proofs.lemmas.Bool.{ne_eqb, eq-eqb, cases_eq, cases_lt}
 use Rattle.tb_cpu.specs.Operands.{word_in}
 use Rattle.tb_cpu.specs.Effects.{bit}
+use Rattle.tb_words.specs.Words.{word}
 use Rattle.tb_memmap.specs.Bytes.{with_byte}
 use Rattle.tb_reaching.specs.View.{Setup, Holds, Fits, Comes, view}
 use Rattle.tb_reaching.proofs.Comes.{after, ending, looser}
 use Rattle.tb_runtime16.specs.Places.{MULTIPLY_AT, LEFT, RIGHT, RESULT}
 use Rattle.tb_runtime16.specs.Block.{block_part}
-use Rattle.tb_runtime16.specs.Laws.{IsWord, Back, Multiplied, MultiplyLaw}
+use Rattle.tb_runtime16.specs.Laws.{is_argument, Back, Gives, MultiplyLaw}
+use Rattle.tb_runtime16.proofs.InMemory.{IsWord, bytes_of, holds_word, of_word}
 use Rattle.tb_runtime16.proofs.Within.{multiply_part, multiply_in}
 use Rattle.tb_runtime16.proofs.Words.{pow2, halved, doubled, added, turn_even, turn_odd, turn_double}
 use Rattle.tb_runtime16.proofs.Frames.{Frame, frame_put}
@@ -39,14 +41,14 @@ module _ (f : Setup) (fits : Fits f 2) (block : Holds block_part f.code) (lo hi 
 
   -- behind the sum, the low byte of the result in A: RIGHT has k bits left
   Skip : ℕ → Type 0
-  Skip k = (a x y : ℕ) (n v i z c : Bool) (m : ℕ → ℕ) (product : ℕ) → a < 256 → Held m → word_in m RIGHT < pow2 k → product ≡ (a + 256 * m (RESULT + 1) + 2 * word_in m LEFT * word_in m RIGHT) % 65536 → Comes f (view a x y n v i z c (MULTIPLY_AT + 25) (lo ∷ hi ∷ []) m text answers) (Back lo hi text answers (Multiplied m0 product)) [] (rounds k + 8)
+  Skip k = (a x y : ℕ) (n v i z c : Bool) (m : ℕ → ℕ) (product : ℕ) → a < 256 → Held m → word_in m RIGHT < pow2 k → product ≡ (a + 256 * m (RESULT + 1) + 2 * word_in m LEFT * word_in m RIGHT) % 65536 → Comes f (view a x y n v i z c (MULTIPLY_AT + 25) (lo ∷ hi ∷ []) m text answers) (Back lo hi text answers (Gives is_argument m0 product)) [] (rounds k + 8)
 
   Turn : ℕ → Type 0
-  Turn k = (a x y : ℕ) (n v i z c : Bool) (m : ℕ → ℕ) (product : ℕ) → a < 256 → Held m → word_in m RIGHT < pow2 k + pow2 k → product ≡ (a + 256 * m (RESULT + 1) + word_in m LEFT * word_in m RIGHT) % 65536 → Comes f (view a x y n v i z c (MULTIPLY_AT + 6) (lo ∷ hi ∷ []) m text answers) (Back lo hi text answers (Multiplied m0 product)) [] (rounds k + 18)
+  Turn k = (a x y : ℕ) (n v i z c : Bool) (m : ℕ → ℕ) (product : ℕ) → a < 256 → Held m → word_in m RIGHT < pow2 k + pow2 k → product ≡ (a + 256 * m (RESULT + 1) + word_in m LEFT * word_in m RIGHT) % 65536 → Comes f (view a x y n v i z c (MULTIPLY_AT + 6) (lo ∷ hi ∷ []) m text answers) (Back lo hi text answers (Gives is_argument m0 product)) [] (rounds k + 18)
 
-  last : (a x y : ℕ) (n v i z c : Bool) (m : ℕ → ℕ) (product : ℕ) → a < 256 → Held m → product ≡ a + 256 * m (RESULT + 1) → Comes f (view a x y n v i z c (MULTIPLY_AT + 37) (lo ∷ hi ∷ []) m text answers) (Back lo hi text answers (Multiplied m0 product)) [] 2
+  last : (a x y : ℕ) (n v i z c : Bool) (m : ℕ → ℕ) (product : ℕ) → a < 256 → Held m → product ≡ a + 256 * m (RESULT + 1) → Comes f (view a x y n v i z c (MULTIPLY_AT + 37) (lo ∷ hi ∷ []) m text answers) (Back lo hi text answers (Gives is_argument m0 product)) [] 2
   last a x y n v i z c m product small h e = ending f 2 fits multiply_part (multiply_in f.code block) 1 (view a x y n v i z c (MULTIPLY_AT + 37) (lo ∷ hi ∷ []) m text answers) _ refl
-      (record { pc = refl; stack_is = refl; binary = refl; same_text = refl; same_answers = refl; memory = record { is_word = (small, h.r); value = sym e; others = frame_put _ _ RESULT _ refl h.others } })
+      (record { pc = refl; stack_is = refl; binary = refl; same_text = refl; same_answers = refl; memory = record { result = holds_word _ RESULT product (small, h.r) (sym e); others = frame_put _ _ RESULT _ refl h.others } })
 
   doubled_held : (m : ℕ → ℕ) → Held m → Held (with_byte (with_byte m LEFT (2 * m LEFT % 256)) (LEFT + 1) (2 * m (LEFT + 1) % 256 + bit (eqb (m LEFT / 128 % 2) 1)))
   doubled_held m h = record {
@@ -57,13 +59,13 @@ module _ (f : Setup) (fits : Fits f 2) (block : Holds block_part f.code) (lo hi 
   }
 
   -- RIGHT's low byte is 0: its high one is looked at
-  high_none : (a x y : ℕ) (n v i z c : Bool) (m : ℕ → ℕ) (product : ℕ) → a < 256 → Held m → m (RIGHT + 1) ≡ 0 → product ≡ a + 256 * m (RESULT + 1) → Comes f (view a x y n v i z c (MULTIPLY_AT + 33) (lo ∷ hi ∷ []) m text answers) (Back lo hi text answers (Multiplied m0 product)) [] 4
+  high_none : (a x y : ℕ) (n v i z c : Bool) (m : ℕ → ℕ) (product : ℕ) → a < 256 → Held m → m (RIGHT + 1) ≡ 0 → product ≡ a + 256 * m (RESULT + 1) → Comes f (view a x y n v i z c (MULTIPLY_AT + 33) (lo ∷ hi ∷ []) m text answers) (Back lo hi text answers (Gives is_argument m0 product)) [] 4
   high_none a x y n v i z c m product small h none e =
       let t : eqb (m (RIGHT + 1)) 0 ≡ true = eq-eqb _ _ none in
       after f 2 fits multiply_part (multiply_in f.code block) 1 (view a x y n v i z c (MULTIPLY_AT + 33) (lo ∷ hi ∷ []) m text answers) _ _ 2 refl
       (rw t (last _ _ _ _ _ _ _ _ m product small h e))
 
-  high_more : (k : ℕ) → Turn k → (a x y : ℕ) (n v i z c : Bool) (m : ℕ → ℕ) (product : ℕ) → a < 256 → Held m → m (RIGHT + 1) ≢ 0 → word_in m RIGHT < pow2 k + pow2 k → product ≡ (a + 256 * m (RESULT + 1) + word_in m LEFT * word_in m RIGHT) % 65536 → Comes f (view a x y n v i z c (MULTIPLY_AT + 33) (lo ∷ hi ∷ []) m text answers) (Back lo hi text answers (Multiplied m0 product)) [] (2 + (rounds k + 18))
+  high_more : (k : ℕ) → Turn k → (a x y : ℕ) (n v i z c : Bool) (m : ℕ → ℕ) (product : ℕ) → a < 256 → Held m → m (RIGHT + 1) ≢ 0 → word_in m RIGHT < pow2 k + pow2 k → product ≡ (a + 256 * m (RESULT + 1) + word_in m LEFT * word_in m RIGHT) % 65536 → Comes f (view a x y n v i z c (MULTIPLY_AT + 33) (lo ∷ hi ∷ []) m text answers) (Back lo hi text answers (Gives is_argument m0 product)) [] (2 + (rounds k + 18))
   unfolding Turn
   high_more k go a x y n v i z c m product small h some bound e =
       let t : eqb (m (RIGHT + 1)) 0 ≡ false = ne_eqb _ _ some in
@@ -71,7 +73,7 @@ module _ (f : Setup) (fits : Fits f 2) (block : Holds block_part f.code) (lo hi 
       (rw t (go _ _ _ _ _ _ _ _ m product small h bound e))
 
   -- LEFT is doubled, and nothing of RIGHT is left
-  stops : (a x y : ℕ) (n v i z c : Bool) (m : ℕ → ℕ) (product : ℕ) → a < 256 → Held m → m RIGHT ≡ 0 → m (RIGHT + 1) ≡ 0 → product ≡ (a + 256 * m (RESULT + 1) + 2 * word_in m LEFT * word_in m RIGHT) % 65536 → Comes f (view a x y n v i z c (MULTIPLY_AT + 25) (lo ∷ hi ∷ []) m text answers) (Back lo hi text answers (Multiplied m0 product)) [] 8
+  stops : (a x y : ℕ) (n v i z c : Bool) (m : ℕ → ℕ) (product : ℕ) → a < 256 → Held m → m RIGHT ≡ 0 → m (RIGHT + 1) ≡ 0 → product ≡ (a + 256 * m (RESULT + 1) + 2 * word_in m LEFT * word_in m RIGHT) % 65536 → Comes f (view a x y n v i z c (MULTIPLY_AT + 25) (lo ∷ hi ∷ []) m text answers) (Back lo hi text answers (Gives is_argument m0 product)) [] 8
   stops a x y n v i z c m product small h low high e =
       let t : eqb (m RIGHT) 0 ≡ true = eq-eqb _ _ low in
       let none : word_in m RIGHT ≡ 0 = omega (arith, low, high) in
@@ -87,14 +89,14 @@ module _ (f : Setup) (fits : Fits f 2) (block : Holds block_part f.code) (lo hi 
   twice : (a : ℕ) (m : ℕ → ℕ) (product : ℕ) → Held m → product ≡ (a + 256 * m (RESULT + 1) + 2 * word_in m LEFT * word_in m RIGHT) % 65536 → product ≡ (a + 256 * m (RESULT + 1) + (2 * m LEFT % 256 + 256 * (2 * m (LEFT + 1) % 256 + bit (eqb (m LEFT / 128 % 2) 1))) * word_in m RIGHT) % 65536
   twice a m product h e = e ∙ sym (turn_double (a + 256 * m (RESULT + 1)) (word_in m LEFT) (word_in m RIGHT)) ∙ ap (λ x. (a + 256 * m (RESULT + 1) + x * word_in m RIGHT) % 65536) (sym (doubled (m LEFT) (m (LEFT + 1)) h.p.0 h.p.1))
 
-  goes_on : (k : ℕ) → Turn k → (a x y : ℕ) (n v i z c : Bool) (m : ℕ → ℕ) (product : ℕ) → a < 256 → Held m → m RIGHT ≢ 0 → word_in m RIGHT < pow2 k + pow2 k → product ≡ (a + 256 * m (RESULT + 1) + 2 * word_in m LEFT * word_in m RIGHT) % 65536 → Comes f (view a x y n v i z c (MULTIPLY_AT + 25) (lo ∷ hi ∷ []) m text answers) (Back lo hi text answers (Multiplied m0 product)) [] (4 + (rounds k + 18))
+  goes_on : (k : ℕ) → Turn k → (a x y : ℕ) (n v i z c : Bool) (m : ℕ → ℕ) (product : ℕ) → a < 256 → Held m → m RIGHT ≢ 0 → word_in m RIGHT < pow2 k + pow2 k → product ≡ (a + 256 * m (RESULT + 1) + 2 * word_in m LEFT * word_in m RIGHT) % 65536 → Comes f (view a x y n v i z c (MULTIPLY_AT + 25) (lo ∷ hi ∷ []) m text answers) (Back lo hi text answers (Gives is_argument m0 product)) [] (4 + (rounds k + 18))
   unfolding Turn
   goes_on k go a x y n v i z c m product small h some bound e =
       let t : eqb (m RIGHT) 0 ≡ false = ne_eqb _ _ some in
       after f 2 fits multiply_part (multiply_in f.code block) 3 (view a x y n v i z c (MULTIPLY_AT + 25) (lo ∷ hi ∷ []) m text answers) _ _ (rounds k + 18) refl
       (rw t (go _ _ _ _ _ _ _ _ _ product small (doubled_held m h) bound (twice a m product h e)))
 
-  goes_high : (k : ℕ) → Turn k → (a x y : ℕ) (n v i z c : Bool) (m : ℕ → ℕ) (product : ℕ) → a < 256 → Held m → m RIGHT ≡ 0 → m (RIGHT + 1) ≢ 0 → word_in m RIGHT < pow2 k + pow2 k → product ≡ (a + 256 * m (RESULT + 1) + 2 * word_in m LEFT * word_in m RIGHT) % 65536 → Comes f (view a x y n v i z c (MULTIPLY_AT + 25) (lo ∷ hi ∷ []) m text answers) (Back lo hi text answers (Multiplied m0 product)) [] (4 + (2 + (rounds k + 18)))
+  goes_high : (k : ℕ) → Turn k → (a x y : ℕ) (n v i z c : Bool) (m : ℕ → ℕ) (product : ℕ) → a < 256 → Held m → m RIGHT ≡ 0 → m (RIGHT + 1) ≢ 0 → word_in m RIGHT < pow2 k + pow2 k → product ≡ (a + 256 * m (RESULT + 1) + 2 * word_in m LEFT * word_in m RIGHT) % 65536 → Comes f (view a x y n v i z c (MULTIPLY_AT + 25) (lo ∷ hi ∷ []) m text answers) (Back lo hi text answers (Gives is_argument m0 product)) [] (4 + (2 + (rounds k + 18)))
   goes_high k go a x y n v i z c m product small h low some bound e =
       let t : eqb (m RIGHT) 0 ≡ true = eq-eqb _ _ low in
       after f 2 fits multiply_part (multiply_in f.code block) 3 (view a x y n v i z c (MULTIPLY_AT + 25) (lo ∷ hi ∷ []) m text answers) _ _ (2 + (rounds k + 18)) refl
@@ -115,7 +117,7 @@ module _ (f : Setup) (fits : Fits f 2) (block : Holds block_part f.code) (lo hi 
       (cases_eq (m RIGHT) 0)
 
   -- the result and LEFT
-  sum : (k : ℕ) → Skip k → (a x y : ℕ) (n v i z c : Bool) (m : ℕ → ℕ) (product : ℕ) → a < 256 → Held m → word_in m RIGHT < pow2 k → product ≡ ((a + 256 * m (RESULT + 1) + word_in m LEFT) % 65536 + 2 * word_in m LEFT * word_in m RIGHT) % 65536 → Comes f (view a x y n v i z c (MULTIPLY_AT + 12) (lo ∷ hi ∷ []) m text answers) (Back lo hi text answers (Multiplied m0 product)) [] (7 + (rounds k + 8))
+  sum : (k : ℕ) → Skip k → (a x y : ℕ) (n v i z c : Bool) (m : ℕ → ℕ) (product : ℕ) → a < 256 → Held m → word_in m RIGHT < pow2 k → product ≡ ((a + 256 * m (RESULT + 1) + word_in m LEFT) % 65536 + 2 * word_in m LEFT * word_in m RIGHT) % 65536 → Comes f (view a x y n v i z c (MULTIPLY_AT + 12) (lo ∷ hi ∷ []) m text answers) (Back lo hi text answers (Gives is_argument m0 product)) [] (7 + (rounds k + 8))
   unfolding Skip
   sum k go a x y n v i z c m product small h bound e =
       let s = added a (m (RESULT + 1)) (m LEFT) (m (LEFT + 1)) small h.r h.p.0 h.p.1 in
@@ -148,7 +150,7 @@ module _ (f : Setup) (fits : Fits f 2) (block : Holds block_part f.code) (lo hi 
   skips zero = skip_none
   skips (suc k) = skip_more k (turn k (skips k))
 
-  whole : (a x y : ℕ) (n v i z c : Bool) → IsWord m0 LEFT → IsWord m0 RIGHT → Comes f (view a x y n v i z c MULTIPLY_AT (lo ∷ hi ∷ []) m0 text answers) (Back lo hi text answers (Multiplied m0 ((word_in m0 LEFT * word_in m0 RIGHT) % 65536))) [] 245
+  whole : (a x y : ℕ) (n v i z c : Bool) → IsWord m0 LEFT → IsWord m0 RIGHT → Comes f (view a x y n v i z c MULTIPLY_AT (lo ∷ hi ∷ []) m0 text answers) (Back lo hi text answers (Gives is_argument m0 ((word_in m0 LEFT * word_in m0 RIGHT) % 65536))) [] 245
   unfolding Turn
   whole a x y n v i z c p q =
       looser f _ _ _ [] (3 + 242) 245 (omega arith) (λ w h. h)
@@ -158,4 +160,8 @@ module _ (f : Setup) (fits : Fits f 2) (block : Holds block_part f.code) (lo hi 
       (omega (arith, p, q)) (let z : 0 + 256 * 0 + word_in m0 LEFT * word_in m0 RIGHT ≡ word_in m0 LEFT * word_in m0 RIGHT = omega arith in ap (λ x. x % 65536) (sym z))))
 
 pub multiply_law : MultiplyLaw
-multiply_law f fits block lo hi text answers m a x y n v i z c p q = whole f fits block lo hi text answers m a x y n v i z c p q
+multiply_law f fits block lo hi text answers m a x y n v i z c left right p q =
+    let start = view a x y n v i z c MULTIPLY_AT (lo ∷ hi ∷ []) m text answers in
+    of_word (λ l. Comes f start (Back lo hi text answers (Gives is_argument m (word (l * right)))) [] 245) m LEFT left p
+    (of_word (λ r. Comes f start (Back lo hi text answers (Gives is_argument m (word (word_in m LEFT * r)))) [] 245) m RIGHT right q
+    (whole f fits block lo hi text answers m a x y n v i z c (bytes_of m LEFT left p) (bytes_of m RIGHT right q)))

@@ -12,7 +12,8 @@ use Rattle.tb_reaching.specs.View.{Setup, Holds, Fits, Comes, view, View}
 use Rattle.tb_reaching.proofs.Comes.{after, ending, looser}
 use Rattle.tb_runtime16.specs.Places.{DIVIDE_AT, LEFT, RIGHT, RESULT}
 use Rattle.tb_runtime16.specs.Block.{block_part}
-use Rattle.tb_runtime16.specs.Laws.{IsWord, Back, Parted}
+use Rattle.tb_runtime16.specs.Laws.{Back, Parted}
+use Rattle.tb_runtime16.proofs.InMemory.{IsWord, holds_word}
 use Rattle.tb_runtime16.proofs.Within.{divide_part, divide_in}
 use Rattle.tb_runtime16.proofs.Words.{pow2, small_byte, one_high}
 use Rattle.tb_runtime16.proofs.WideRuns.{double, double_one}
@@ -55,13 +56,13 @@ module _ (f : Setup) (fits : Fits f 2) (block : Holds block_part f.code) (lo hi 
       let total : q * word_in m0 RIGHT + a ≡ word_in m0 LEFT = ap (λ d. q * d + a) d ∙ total' in
       let rest : a + 256 * m (RESULT + 1) ≡ a = omega (arith, h.rest_high) in
       record {
-        left_is = (h.left, omega (arith, h.left_high));
-        left = same ∙ sym (div-mul-add q (word_in m0 RIGHT) a less) ∙ ap (λ n. n / word_in m0 RIGHT) total;
-        result_is = (omega (arith, h.less, most), omega (arith, h.rest_high));
-        result = rest ∙ sym (mul-add-mod_self_right q (word_in m0 RIGHT) a ∙ mod-eq_of_lt less) ∙ ap (λ n. n % word_in m0 RIGHT) total;
+        parts = record {
+          left = holds_word (with_byte m RESULT a) LEFT _ (h.left, omega (arith, h.left_high)) (same ∙ sym (div-mul-add q (word_in m0 RIGHT) a less) ∙ ap (λ n. n / word_in m0 RIGHT) total);
+          rest = holds_word (with_byte m RESULT a) RESULT _ (omega (arith, h.less, most), omega (arith, h.rest_high)) (rest ∙ sym (mul-add-mod_self_right q (word_in m0 RIGHT) a ∙ mod-eq_of_lt less) ∙ ap (λ n. n % word_in m0 RIGHT) total);
+          others = frame_put _ _ RESULT _ refl h.others;
+        };
         right_low = h.low;
         right_high = h.high;
-        others = frame_put _ _ RESULT _ refl h.others;
       }
 
   last : (a x y : ℕ) (n v i z c : Bool) (m : ℕ → ℕ) (q : ℕ) → Held 8 q a m → Goal (view a x y n v i z c (DIVIDE_AT + 89) (lo ∷ hi ∷ []) m text answers) 2

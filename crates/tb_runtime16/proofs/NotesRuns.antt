@@ -14,10 +14,11 @@ use Rattle.tb_reaching.proofs.Comes.{after, ending, looser}
 use Rattle.tb_reaching.proofs.Placed.{placing, takes_at, stores_at, reads_data}
 use Rattle.tb_runtime16.specs.Places.{PUSH_AT, POP_AT, LEFT, RESULT, NOTES, NOTE_LOW, NOTE_HIGH}
 use Rattle.tb_runtime16.specs.Block.{block_part}
-use Rattle.tb_runtime16.specs.Laws.{IsWord}
-use Rattle.tb_runtime16.specs.Notes.{Faulted, NoteAt, Noted, Notes, nothing, push_changes, pop_changes, Pushed, Popped, PushLaw, PushFullLaw, PopLaw, PopNoneLaw}
+use Rattle.tb_runtime16.specs.Laws.{Changes, Back, Faults}
+use Rattle.tb_runtime16.specs.Notes.{NoteAt, Noted, Notes, push_changes, pop_changes, Pushed, Popped, PushLaw, PushFullLaw, PopLaw, PopNoneLaw}
+use Rattle.tb_runtime16.proofs.InMemory.{IsWord, bytes_of, holds_word, of_word, value}
 use Rattle.tb_runtime16.proofs.Within.{notes_part, notes_in}
-use Rattle.tb_runtime16.proofs.Frames.{Changes, changes_put}
+use Rattle.tb_runtime16.proofs.Frames.{changes_put}
 
 -- ---- the list in memory
 note_same : (m k : ℕ → ℕ) (j note : ℕ) → k (NOTE_LOW + j) ≡ m (NOTE_LOW + j) → k (NOTE_HIGH + j) ≡ m (NOTE_HIGH + j) → NoteAt m j note → NoteAt k j note
@@ -53,7 +54,7 @@ note_word low high note l h s = (omega arith, omega (arith, h, s), omega (arith,
 module _ (f : Setup) (fits : Fits f 2) (block : Holds block_part f.code) (lo hi : ℕ) (text answers : List ℕ) (m0 : ℕ → ℕ) where
   -- ---- Push
   -- the note's bytes stand, and NOTES goes up: with a carry
-  count_over : (a x y : ℕ) (n v i z c : Bool) (m : ℕ → ℕ) (note : ℕ) (ns : List ℕ) → m NOTES < 256 → m NOTES + 256 * m (NOTES + 1) ≡ length ns → length ns < 500 → Noted m (note ∷ ns) → Changes push_changes m0 m → (m NOTES + 1) % 256 ≡ 0 → Comes f (view a x y n v i z c (PUSH_AT + 0x12) (lo ∷ hi ∷ []) m text answers) (Pushed lo hi m0 text answers (note ∷ ns)) [] 4
+  count_over : (a x y : ℕ) (n v i z c : Bool) (m : ℕ → ℕ) (note : ℕ) (ns : List ℕ) → m NOTES < 256 → m NOTES + 256 * m (NOTES + 1) ≡ length ns → length ns < 500 → Noted m (note ∷ ns) → Changes push_changes m0 m → (m NOTES + 1) % 256 ≡ 0 → Comes f (view a x y n v i z c (PUSH_AT + 0x12) (lo ∷ hi ∷ []) m text answers) (Back lo hi text answers (Pushed m0 (note ∷ ns))) [] 4
   count_over a x y n v i z c m note ns low is small h r over =
       let m1 = with_byte m NOTES ((m NOTES + 1) % 256) in
       let m2 = with_byte m1 (NOTES + 1) ((m1 (NOTES + 1) + 1) % 256) in
@@ -63,12 +64,16 @@ module _ (f : Setup) (fits : Fits f 2) (block : Holds block_part f.code) (lo hi 
       after f 2 fits notes_part (notes_in f.code block) 1 (view a x y n v i z c (PUSH_AT + 0x12) (lo ∷ hi ∷ []) m text answers) _ _ 2 refl
       (rw t (ending f 2 fits notes_part (notes_in f.code block) 1 (view _ _ _ _ _ _ _ _ (PUSH_AT + 0x17) (lo ∷ hi ∷ []) m1 text answers) _ refl
       (record {
-        back = record { at = refl; on_stack = refl; binary = refl; same_text = refl; same_answers = refl; others = changes_put _ _ _ (NOTES + 1) _ refl (changes_put _ _ _ NOTES _ refl r) };
-        notes = record { is_word = (u.0, u.1); count = u.2; few = omega (arith, small); noted = noted_same m m2 (note ∷ ns) (λ j p. (same _ (omega arith), same _ (omega arith))) h };
+        pc = refl;
+        stack_is = refl;
+        binary = refl;
+        same_text = refl;
+        same_answers = refl;
+        memory = record { notes = record { count = holds_word _ NOTES _ (u.0, u.1) u.2; few = omega (arith, small); noted = noted_same m m2 (note ∷ ns) (λ j p. (same _ (omega arith), same _ (omega arith))) h }; others = changes_put _ _ _ (NOTES + 1) _ refl (changes_put _ _ _ NOTES _ refl r) };
       })))
 
   -- and without one
-  count_plain : (a x y : ℕ) (n v i z c : Bool) (m : ℕ → ℕ) (note : ℕ) (ns : List ℕ) → m NOTES < 256 → m NOTES + 256 * m (NOTES + 1) ≡ length ns → length ns < 500 → Noted m (note ∷ ns) → Changes push_changes m0 m → (m NOTES + 1) % 256 ≢ 0 → Comes f (view a x y n v i z c (PUSH_AT + 0x12) (lo ∷ hi ∷ []) m text answers) (Pushed lo hi m0 text answers (note ∷ ns)) [] 3
+  count_plain : (a x y : ℕ) (n v i z c : Bool) (m : ℕ → ℕ) (note : ℕ) (ns : List ℕ) → m NOTES < 256 → m NOTES + 256 * m (NOTES + 1) ≡ length ns → length ns < 500 → Noted m (note ∷ ns) → Changes push_changes m0 m → (m NOTES + 1) % 256 ≢ 0 → Comes f (view a x y n v i z c (PUSH_AT + 0x12) (lo ∷ hi ∷ []) m text answers) (Back lo hi text answers (Pushed m0 (note ∷ ns))) [] 3
   count_plain a x y n v i z c m note ns low is small h r under =
       let m1 = with_byte m NOTES ((m NOTES + 1) % 256) in
       let same : (a : ℕ) → NOTE_LOW ≤ a → m1 a ≡ m a = λ a p. put_other m NOTES _ a (λ e. omega (arith, e, p)) in
@@ -77,11 +82,15 @@ module _ (f : Setup) (fits : Fits f 2) (block : Holds block_part f.code) (lo hi 
       after f 2 fits notes_part (notes_in f.code block) 1 (view a x y n v i z c (PUSH_AT + 0x12) (lo ∷ hi ∷ []) m text answers) _ _ 1 refl
       (rw t (ending f 2 fits notes_part (notes_in f.code block) 0 (view _ _ _ _ _ _ _ _ (PUSH_AT + 0x1A) (lo ∷ hi ∷ []) m1 text answers) _ refl
       (record {
-        back = record { at = refl; on_stack = refl; binary = refl; same_text = refl; same_answers = refl; others = changes_put _ _ _ NOTES _ refl r };
-        notes = record { is_word = (u.0, u.1); count = u.2; few = omega (arith, small); noted = noted_same m m1 (note ∷ ns) (λ j p. (same _ (omega arith), same _ (omega arith))) h };
+        pc = refl;
+        stack_is = refl;
+        binary = refl;
+        same_text = refl;
+        same_answers = refl;
+        memory = record { notes = record { count = holds_word _ NOTES _ (u.0, u.1) u.2; few = omega (arith, small); noted = noted_same m m1 (note ∷ ns) (λ j p. (same _ (omega arith), same _ (omega arith))) h }; others = changes_put _ _ _ NOTES _ refl r };
       })))
 
-  count : (a x y : ℕ) (n v i z c : Bool) (m : ℕ → ℕ) (note : ℕ) (ns : List ℕ) → m NOTES < 256 → m NOTES + 256 * m (NOTES + 1) ≡ length ns → length ns < 500 → Noted m (note ∷ ns) → Changes push_changes m0 m → Comes f (view a x y n v i z c (PUSH_AT + 0x12) (lo ∷ hi ∷ []) m text answers) (Pushed lo hi m0 text answers (note ∷ ns)) [] 4
+  count : (a x y : ℕ) (n v i z c : Bool) (m : ℕ → ℕ) (note : ℕ) (ns : List ℕ) → m NOTES < 256 → m NOTES + 256 * m (NOTES + 1) ≡ length ns → length ns < 500 → Noted m (note ∷ ns) → Changes push_changes m0 m → Comes f (view a x y n v i z c (PUSH_AT + 0x12) (lo ∷ hi ∷ []) m text answers) (Back lo hi text answers (Pushed m0 (note ∷ ns))) [] 4
   count a x y n v i z c m note ns low is small h r =
       ⊎_elim
       (λ over. count_over a x y n v i z c m note ns low is small h r over)
@@ -112,8 +121,8 @@ module _ (f : Setup) (fits : Fits f 2) (block : Holds block_part f.code) (lo hi 
       let n1 : m2 (NOTES + 1) ≡ m0 (NOTES + 1) = apart (NOTES + 1) (λ e. omega arith) (λ e. omega arith) in
       let b0 : m2 p ≡ m0 LEFT = put_other m1 q (m0 (LEFT + 1)) p (λ e. omega (arith, e)) ∙ put_same m0 p (m0 LEFT) p refl in
       let b1 : m2 q ≡ m0 (LEFT + 1) = put_same m1 q (m0 (LEFT + 1)) q refl in
-      let w = h.is_word in
-      let e = h.count in
+      let w = bytes_of m0 NOTES _ h.count in
+      let e = value m0 NOTES _ h.count in
       record {
         low = omega (arith, n0, w.0);
         is = omega (arith, n0, n1, e);
@@ -126,7 +135,7 @@ module _ (f : Setup) (fits : Fits f 2) (block : Holds block_part f.code) (lo hi 
       }
 
   -- LEFT's bytes into the list: on its first page
-  store_near : (a y : ℕ) (n v i z c : Bool) (ns : List ℕ) → IsWord m0 LEFT → Notes m0 ns → length ns < 500 → m0 (NOTES + 1) ≡ 0 → Comes f (view a (m0 NOTES) y n v i z c (PUSH_AT + 0x08) (lo ∷ hi ∷ []) m0 text answers) (Pushed lo hi m0 text answers (word_in m0 LEFT ∷ ns)) [] 8
+  store_near : (a y : ℕ) (n v i z c : Bool) (ns : List ℕ) → IsWord m0 LEFT → Notes m0 ns → length ns < 500 → m0 (NOTES + 1) ≡ 0 → Comes f (view a (m0 NOTES) y n v i z c (PUSH_AT + 0x08) (lo ∷ hi ∷ []) m0 text answers) (Back lo hi text answers (Pushed m0 (word_in m0 LEFT ∷ ns))) [] 8
   store_near a y n v i z c ns left h small zero =
       let x = m0 NOTES in
       let p = NOTE_LOW + length ns in
@@ -134,7 +143,7 @@ module _ (f : Setup) (fits : Fits f 2) (block : Holds block_part f.code) (lo hi 
       let l = m0 LEFT in
       let g = m0 (LEFT + 1) in
       let m1 = with_byte m0 p l in
-      let e = h.count in
+      let e = value m0 NOTES _ h.count in
       let s = stands ns left h small in
       let first = view l x y (eqb (l / 128 % 2) 1) v i (eqb l 0) c (PUSH_AT + 0x0A) (lo ∷ hi ∷ []) m0 text answers in
       let second = view g x y (eqb (g / 128 % 2) 1) v i (eqb g 0) c (PUSH_AT + 0x0F) (lo ∷ hi ∷ []) m1 text answers in
@@ -146,7 +155,7 @@ module _ (f : Setup) (fits : Fits f 2) (block : Holds block_part f.code) (lo hi 
       (count _ _ _ _ _ _ _ _ (with_note (length ns)) (word_in m0 LEFT) ns s.low s.is small s.noted s.others)))))
 
   -- and on its second one
-  store_far : (a y : ℕ) (n v i z : Bool) (ns : List ℕ) → IsWord m0 LEFT → Notes m0 ns → length ns < 500 → m0 (NOTES + 1) ≡ 1 → Comes f (view a (m0 NOTES) y n v i z false (PUSH_AT + 0x1F) (lo ∷ hi ∷ []) m0 text answers) (Pushed lo hi m0 text answers (word_in m0 LEFT ∷ ns)) [] 8
+  store_far : (a y : ℕ) (n v i z : Bool) (ns : List ℕ) → IsWord m0 LEFT → Notes m0 ns → length ns < 500 → m0 (NOTES + 1) ≡ 1 → Comes f (view a (m0 NOTES) y n v i z false (PUSH_AT + 0x1F) (lo ∷ hi ∷ []) m0 text answers) (Back lo hi text answers (Pushed m0 (word_in m0 LEFT ∷ ns))) [] 8
   store_far a y n v i z ns left h small one =
       let x = m0 NOTES in
       let p = NOTE_LOW + length ns in
@@ -154,7 +163,7 @@ module _ (f : Setup) (fits : Fits f 2) (block : Holds block_part f.code) (lo hi 
       let l = m0 LEFT in
       let g = m0 (LEFT + 1) in
       let m1 = with_byte m0 p l in
-      let e = h.count in
+      let e = value m0 NOTES _ h.count in
       let s = stands ns left h small in
       let first = view l x y (eqb (l / 128 % 2) 1) v i (eqb l 0) false (PUSH_AT + 0x21) (lo ∷ hi ∷ []) m0 text answers in
       let second = view g x y (eqb (g / 128 % 2) 1) v i (eqb g 0) false (PUSH_AT + 0x26) (lo ∷ hi ∷ []) m1 text answers in
@@ -166,10 +175,10 @@ module _ (f : Setup) (fits : Fits f 2) (block : Holds block_part f.code) (lo hi 
       (after f 2 fits notes_part (notes_in f.code block) 0 (view g x y (eqb (g / 128 % 2) 1) v i (eqb g 0) false (PUSH_AT + 0x29) (lo ∷ hi ∷ []) (with_note (length ns)) text answers) _ _ 3 refl
       (count_plain _ _ _ _ _ _ _ _ (with_note (length ns)) (word_in m0 LEFT) ns s.low s.is small s.noted s.others (λ full. omega (arith, full, s.is, s.low, s.kept, one, e, small))))))))
 
-  push_whole : (a x y : ℕ) (n v i z c : Bool) (ns : List ℕ) → IsWord m0 LEFT → Notes m0 ns → length ns < 500 → Comes f (view a x y n v i z c PUSH_AT (lo ∷ hi ∷ []) m0 text answers) (Pushed lo hi m0 text answers (word_in m0 LEFT ∷ ns)) [] 13
+  push_whole : (a x y : ℕ) (n v i z c : Bool) (ns : List ℕ) → IsWord m0 LEFT → Notes m0 ns → length ns < 500 → Comes f (view a x y n v i z c PUSH_AT (lo ∷ hi ∷ []) m0 text answers) (Back lo hi text answers (Pushed m0 (word_in m0 LEFT ∷ ns))) [] 13
   push_whole a x y n v i z c ns left h small =
-      let w = h.is_word in
-      let e = h.count in
+      let w = bytes_of m0 NOTES _ h.count in
+      let e = value m0 NOTES _ h.count in
       ⊎_elim
       (λ near. let t : eqb (m0 (NOTES + 1)) 0 ≡ true = eq-eqb _ _ near in
       looser f _ _ _ [] (3 + 8) 13 (omega arith) (λ w h. h)
@@ -183,16 +192,16 @@ module _ (f : Setup) (fits : Fits f 2) (block : Holds block_part f.code) (lo hi 
       (rw room (store_far _ _ _ _ _ _ ns left h small one)))))
       (cases_eq (m0 (NOTES + 1)) 0)
 
-  push_full : (a x y : ℕ) (n v i z c : Bool) (ns : List ℕ) → Notes m0 ns → length ns ≡ 500 → Comes f (view a x y n v i z c PUSH_AT (lo ∷ hi ∷ []) m0 text answers) (Faulted 4 lo hi nothing m0 text answers) [] 7
+  push_full : (a x y : ℕ) (n v i z c : Bool) (ns : List ℕ) → Notes m0 ns → length ns ≡ 500 → Comes f (view a x y n v i z c PUSH_AT (lo ∷ hi ∷ []) m0 text answers) (Faults lo hi text answers 4 (λ w. w ≡ m0)) [] 7
   push_full a x y n v i z c ns h full =
-      let w = h.is_word in
-      let e = h.count in
+      let w = bytes_of m0 NOTES _ h.count in
+      let e = value m0 NOTES _ h.count in
       let t : eqb (m0 (NOTES + 1)) 0 ≡ false = ne_eqb _ _ (λ q. omega (arith, q, w.0, e, full)) in
       let room : nat_le 244 (m0 NOTES) ≡ true = le-leb 244 (m0 NOTES) (omega (arith, w.0, e, full)) in
       after f 2 fits notes_part (notes_in f.code block) 2 (view a x y n v i z c PUSH_AT (lo ∷ hi ∷ []) m0 text answers) _ _ (2 + 2) refl
       (rw t (after f 2 fits notes_part (notes_in f.code block) 1 (view _ (m0 NOTES) y _ v i _ c (PUSH_AT + 0x1B) (lo ∷ hi ∷ []) m0 text answers) _ _ 2 refl
       (rw room (ending f 2 fits notes_part (notes_in f.code block) 1 (view _ _ _ _ _ _ _ _ (PUSH_AT + 0x2B) (lo ∷ hi ∷ []) m0 text answers) _ refl
-      (record { ended = record { at = refl; on_stack = refl; binary = refl; same_text = refl; same_answers = refl; others = λ a e. refl }; told = refl })))))
+      (record { leaves = record { pc = refl; stack_is = refl; binary = refl; same_text = refl; same_answers = refl; memory = refl }; number = refl })))))
 
   -- ---- Pop
   -- memory without the newest note
@@ -213,20 +222,25 @@ module _ (f : Setup) (fits : Fits f 2) (block : Holds block_part f.code) (lo hi 
       }
 
   -- RESULT takes A and Y
-  give : (a x y : ℕ) (n v i z c : Bool) (m : ℕ → ℕ) (note : ℕ) (ns : List ℕ) → (a < 256) × (y < 256) × (a + 256 * y ≡ note) → m NOTES < 256 → m (NOTES + 1) < 256 → m NOTES + 256 * m (NOTES + 1) ≡ length ns → length ns < 500 → ((m' : ℕ → ℕ) → ((a : ℕ) → NOTE_LOW ≤ a → m' a ≡ m a) → Noted m' ns) → Changes pop_changes m0 m → Comes f (view a x y n v i z c (PUSH_AT + 0x4C) (lo ∷ hi ∷ []) m text answers) (Popped lo hi m0 text answers note ns) [] 3
+  give : (a x y : ℕ) (n v i z c : Bool) (m : ℕ → ℕ) (note : ℕ) (ns : List ℕ) → (a < 256) × (y < 256) × (a + 256 * y ≡ note) → m NOTES < 256 → m (NOTES + 1) < 256 → m NOTES + 256 * m (NOTES + 1) ≡ length ns → length ns < 500 → ((m' : ℕ → ℕ) → ((a : ℕ) → NOTE_LOW ≤ a → m' a ≡ m a) → Noted m' ns) → Changes pop_changes m0 m → Comes f (view a x y n v i z c (PUSH_AT + 0x4C) (lo ∷ hi ∷ []) m text answers) (Back lo hi text answers (Popped m0 note ns)) [] 3
   give a x y n v i z c m note ns word low top is small noted r =
       let m1 = with_byte m RESULT a in
       let m2 = with_byte m1 (RESULT + 1) y in
       ending f 2 fits notes_part (notes_in f.code block) 2 (view a x y n v i z c (PUSH_AT + 0x4C) (lo ∷ hi ∷ []) m text answers) _ refl
       (record {
-        back = record { at = refl; on_stack = refl; binary = refl; same_text = refl; same_answers = refl; others = changes_put _ _ _ (RESULT + 1) _ refl (changes_put _ _ _ RESULT _ refl r) };
-        is_word = (word.0, word.1);
-        result = word.2;
-        notes = record { is_word = (low, top); count = is; few = omega (arith, small); noted = noted m2 (λ a p. put_other m1 (RESULT + 1) y a (λ e. omega (arith, e, p)) ∙ put_other m RESULT _ a (λ e. omega (arith, e, p))) };
+        pc = refl;
+        stack_is = refl;
+        binary = refl;
+        same_text = refl;
+        same_answers = refl;
+        memory = record {
+          gives = record { result = holds_word m2 RESULT note (word.0, word.1) word.2; others = changes_put _ _ _ (RESULT + 1) _ refl (changes_put _ _ _ RESULT _ refl r) };
+          notes = record { count = holds_word m2 NOTES (length ns) (low, top) is; few = omega (arith, small); noted = noted m2 (λ a p. put_other m1 (RESULT + 1) y a (λ e. omega (arith, e, p)) ∙ put_other m RESULT _ a (λ e. omega (arith, e, p))) };
+        };
       })
 
   -- the newest note, on the first page
-  take_near : (a y : ℕ) (n v i z c : Bool) (m : ℕ → ℕ) (note : ℕ) (ns : List ℕ) → m (NOTES + 1) ≡ 0 → (m NOTES + 255) % 256 + 256 * m (NOTES + 1) ≡ length ns → length ns < 500 → Noted m (note ∷ ns) → Changes pop_changes m0 m → Comes f (view a (m NOTES) y n v i z c (PUSH_AT + 0x3D) (lo ∷ hi ∷ []) m text answers) (Popped lo hi m0 text answers note ns) [] 9
+  take_near : (a y : ℕ) (n v i z c : Bool) (m : ℕ → ℕ) (note : ℕ) (ns : List ℕ) → m (NOTES + 1) ≡ 0 → (m NOTES + 255) % 256 + 256 * m (NOTES + 1) ≡ length ns → length ns < 500 → Noted m (note ∷ ns) → Changes pop_changes m0 m → Comes f (view a (m NOTES) y n v i z c (PUSH_AT + 0x3D) (lo ∷ hi ∷ []) m text answers) (Back lo hi text answers (Popped m0 note ns)) [] 9
   take_near a y n v i z c m note ns near is small h r =
       let x = (m NOTES + 255) % 256 in
       let p = NOTE_LOW + length ns in
@@ -244,7 +258,7 @@ module _ (f : Setup) (fits : Fits f 2) (block : Holds block_part f.code) (lo hi 
       (give b x d _ _ _ _ _ m1 note ns g.word (omega arith) (omega (arith, near)) is small g.noted (changes_put pop_changes m0 m NOTES x refl r)))))
 
   -- and on the second one
-  take_far : (a y : ℕ) (n v i z c : Bool) (m : ℕ → ℕ) (note : ℕ) (ns : List ℕ) → m (NOTES + 1) ≡ 1 → (m NOTES + 255) % 256 + 256 * m (NOTES + 1) ≡ length ns → length ns < 500 → Noted m (note ∷ ns) → Changes pop_changes m0 m → Comes f (view a (m NOTES) y n v i z c (PUSH_AT + 0x3D) (lo ∷ hi ∷ []) m text answers) (Popped lo hi m0 text answers note ns) [] 10
+  take_far : (a y : ℕ) (n v i z c : Bool) (m : ℕ → ℕ) (note : ℕ) (ns : List ℕ) → m (NOTES + 1) ≡ 1 → (m NOTES + 255) % 256 + 256 * m (NOTES + 1) ≡ length ns → length ns < 500 → Noted m (note ∷ ns) → Changes pop_changes m0 m → Comes f (view a (m NOTES) y n v i z c (PUSH_AT + 0x3D) (lo ∷ hi ∷ []) m text answers) (Back lo hi text answers (Popped m0 note ns)) [] 10
   take_far a y n v i z c m note ns far is small h r =
       let x = (m NOTES + 255) % 256 in
       let p = NOTE_LOW + length ns in
@@ -262,10 +276,10 @@ module _ (f : Setup) (fits : Fits f 2) (block : Holds block_part f.code) (lo hi 
       (after f 2 fits notes_part (notes_in f.code block) 0 (view b x d _ _ _ _ _ (PUSH_AT + 0x59) (lo ∷ hi ∷ []) m1 text answers) _ _ 3 refl
       (give b x d _ _ _ _ _ m1 note ns g.word (omega arith) (omega (arith, far)) is small g.noted (changes_put pop_changes m0 m NOTES x refl r))))))
 
-  pop_whole : (a x y : ℕ) (n v i z c : Bool) (note : ℕ) (ns : List ℕ) → Notes m0 (note ∷ ns) → Comes f (view a x y n v i z c POP_AT (lo ∷ hi ∷ []) m0 text answers) (Popped lo hi m0 text answers note ns) [] 14
+  pop_whole : (a x y : ℕ) (n v i z c : Bool) (note : ℕ) (ns : List ℕ) → Notes m0 (note ∷ ns) → Comes f (view a x y n v i z c POP_AT (lo ∷ hi ∷ []) m0 text answers) (Back lo hi text answers (Popped m0 note ns)) [] 14
   pop_whole a x y n v i z c note ns h =
-      let w = h.is_word in
-      let e = h.count in
+      let w = bytes_of m0 NOTES _ h.count in
+      let e = value m0 NOTES _ h.count in
       let few = h.few in
       ⊎_elim
       (λ none. let t : eqb (m0 NOTES) 0 ≡ true = eq-eqb _ _ none in
@@ -284,18 +298,20 @@ module _ (f : Setup) (fits : Fits f 2) (block : Holds block_part f.code) (lo hi 
       (cases_eq (m0 (NOTES + 1)) 0)))))
       (cases_eq (m0 NOTES) 0)
 
-  pop_none : (a x y : ℕ) (n v i z c : Bool) → Notes m0 [] → Comes f (view a x y n v i z c POP_AT (lo ∷ hi ∷ []) m0 text answers) (Faulted 5 lo hi nothing m0 text answers) [] 6
+  pop_none : (a x y : ℕ) (n v i z c : Bool) → Notes m0 [] → Comes f (view a x y n v i z c POP_AT (lo ∷ hi ∷ []) m0 text answers) (Faults lo hi text answers 5 (λ w. w ≡ m0)) [] 6
   pop_none a x y n v i z c h =
-      let e = h.count in
+      let e = value m0 NOTES _ h.count in
       let t : eqb (m0 NOTES) 0 ≡ true = eq-eqb _ _ (omega arith) in
       let s : eqb (m0 (NOTES + 1)) 0 ≡ true = eq-eqb _ _ (omega arith) in
       after f 2 fits notes_part (notes_in f.code block) 1 (view a x y n v i z c POP_AT (lo ∷ hi ∷ []) m0 text answers) _ _ (2 + 2) refl
       (rw t (after f 2 fits notes_part (notes_in f.code block) 1 (view _ (m0 NOTES) _ _ _ _ _ _ (PUSH_AT + 0x35) (lo ∷ hi ∷ []) m0 text answers) _ _ 2 refl
       (rw s (ending f 2 fits notes_part (notes_in f.code block) 1 (view _ _ _ _ _ _ _ _ (PUSH_AT + 0x5C) (lo ∷ hi ∷ []) m0 text answers) _ refl
-      (record { ended = record { at = refl; on_stack = refl; binary = refl; same_text = refl; same_answers = refl; others = λ a e. refl }; told = refl })))))
+      (record { leaves = record { pc = refl; stack_is = refl; binary = refl; same_text = refl; same_answers = refl; memory = refl }; number = refl })))))
 
 pub push_law : PushLaw
-push_law f fits block lo hi text answers m a x y n v i z c notes left h small = push_whole f fits block lo hi text answers m a x y n v i z c notes left h small
+push_law f fits block lo hi text answers m a x y n v i z c note notes left h small =
+    of_word (λ j. Comes f (view a x y n v i z c PUSH_AT (lo ∷ hi ∷ []) m text answers) (Back lo hi text answers (Pushed m (j ∷ notes))) [] 13) m LEFT note left
+    (push_whole f fits block lo hi text answers m a x y n v i z c notes (bytes_of m LEFT note left) h small)
 
 pub push_full_law : PushFullLaw
 push_full_law f fits block lo hi text answers m a x y n v i z c notes h full = push_full f fits block lo hi text answers m a x y n v i z c notes h full

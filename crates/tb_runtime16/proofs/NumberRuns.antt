@@ -12,7 +12,8 @@ use Rattle.tb_reaching.proofs.Memory.{put_other}
 use Rattle.tb_words.specs.Words.{is_negative, magnitude, negated, digits_before, digits_of}
 use Rattle.tb_runtime16.specs.Places.{SEND_AT, NUMBER_AT, COLUMN, LEFT, RIGHT}
 use Rattle.tb_runtime16.specs.Block.{block_part}
-use Rattle.tb_runtime16.specs.Laws.{is_argument, negate_left_at, IsWord, Back, NumberLaw}
+use Rattle.tb_runtime16.specs.Laws.{is_argument, negate_left_at, Back, Written, NumberLaw}
+use Rattle.tb_runtime16.proofs.InMemory.{IsWord, bytes_of, of_word}
 use Rattle.tb_runtime16.proofs.Within.{number_part, number_in}
 use Rattle.tb_runtime16.proofs.Words.{borrow, sign_of, sign_small, sign_none, negated_size}
 use Rattle.tb_runtime16.proofs.Frames.{skip}
@@ -314,6 +315,7 @@ module _ (f : Setup) (fits : Fits f 6) (block : Holds block_part f.code) (lo hi 
 
 pub number_law : NumberLaw
 unfolding Rest
-number_law f fits block lo hi text answers m a x y n v i z c p w =
-    back_looser f _ lo hi text answers _ _ _ 458 458 (omega arith) (whole f fits block lo hi text answers m a x y n v i z c p w)
-    (λ u h. record { column = h.0; others = h.1 })
+number_law f fits block lo hi text answers m a x y n v i z c number p w =
+    of_word (λ j. Comes f (view a x y n v i z c NUMBER_AT (lo ∷ hi ∷ []) m text answers) (Back lo hi text answers (Written m (digits_of j))) (digits_of j) 458) m LEFT number p
+    (back_looser f _ lo hi text answers _ _ _ 458 458 (omega arith) (whole f fits block lo hi text answers m a x y n v i z c (bytes_of m LEFT number p) w)
+    (λ u h. record { column = h.0; others = h.1 }))

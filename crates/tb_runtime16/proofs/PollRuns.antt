@@ -1,7 +1,6 @@
 -- Poll.
 use Rattle.std.proofs.Common.{◌≡◌, ◌+◌, ◌-◌, ◌%◌, true, false, [], ◌∷◌, ◌++◌, drop, refl, arith, eqb, le-leb, length-append}
 use Rattle.std.proofs.lemmas.Bool.{ne_eqb, eq-eqb}
-use Rattle.tb_cpu.specs.Operands.{word_in}
 use Rattle.tb_kernal.specs.declared.places.Service.TheVariants.{Getin}
 use Rattle.tb_kernal.specs.Machine.{first_or_zero}
 use Rattle.tb_reaching.specs.View.{Fits, view}
@@ -9,14 +8,14 @@ use Rattle.tb_reaching.proofs.Comes.{looser}
 use Rattle.tb_reaching.proofs.Calls.{under}
 use Rattle.tb_reaching.proofs.Services.{serving}
 use Rattle.tb_lower.specs.Control.{fault_text}
-use Rattle.tb_runtime16.specs.Places.{POLL_AT, LINE}
+use Rattle.tb_runtime16.specs.Places.{POLL_AT}
 use Rattle.tb_runtime16.specs.Ends.{PollLaw}
 use Rattle.tb_runtime16.proofs.Within.{poll_part, poll_in}
 use Rattle.tb_runtime16.proofs.Called.{after_on, ending_on}
 use Rattle.tb_runtime16.proofs.FaultRuns.{fault_law}
 
 pub poll_law : PollLaw
-poll_law f room most fits block hlo hhi above deep lo hi text answers m e byte a x y n v i z c =
+poll_law f room most fits block hlo hhi above deep lo hi text answers m e line is_line byte a x y n v i z c =
     let own = above ++ hlo ∷ hhi ∷ [] in
     let size = length-append above (hlo ∷ hhi ∷ []) in
     let free : Fits (under f own) 4 = omega (arith, fits, deep, size, length-append own f.rest) in
@@ -28,10 +27,10 @@ poll_law f room most fits block hlo hhi above deep lo hi text answers m e byte a
           (rw t (ending_on f own 4 free poll_part st 0 (view _ _ _ _ _ _ _ _ (POLL_AT + 0x7) (lo ∷ hi ∷ []) m text (drop 1 answers)) _ refl
           (record { pc = refl; stack_is = refl; binary = refl; same_text = refl; same_answers = refl; memory = refl }))))),
       λ stop. let t : eqb ((first_or_zero answers + 256 - 3) % 256) 0 ≡ true = eq-eqb _ _ (omega (arith, stop)) in
-          looser f _ _ _ (fault_text 0 (word_in m LINE)) (1 + (1 + (2 + (2 + 540)))) 546 (omega arith) (λ w h. h)
+          looser f _ _ _ (fault_text 0 line) (1 + (1 + (2 + (2 + 540)))) 546 (omega arith) (λ w h. h)
           (after_on f own 4 free poll_part st 0 (view a x y n v i z c POLL_AT (lo ∷ hi ∷ []) m text answers) _ _ (1 + (2 + (2 + 540))) refl
           (serving f room fits Getin _ _ _ _ _ _ (2 + (2 + 540)) (le-leb _ _ (omega (arith, deep, size))) refl refl refl (λ j.
           after_on f own 4 free poll_part st 1 (view (first_or_zero answers) j.x j.y j.n j.v j.i j.z j.c (POLL_AT + 0x3) (lo ∷ hi ∷ []) m text (drop 1 answers)) _ _ (2 + 540) refl
           (rw t (after_on f own 4 free poll_part st 1 (view _ _ _ _ _ _ _ _ (POLL_AT + 0x8) (lo ∷ hi ∷ []) m text (drop 1 answers)) _ _ 540 refl
-          (fault_law f room most fits block hlo hhi (lo ∷ hi ∷ above) (omega (arith, deep)) text (drop 1 answers) m e 0 _ _ _ _ _ _ _ (omega arith))))))),
+          (fault_law f room most fits block hlo hhi (lo ∷ hi ∷ above) (omega (arith, deep)) text (drop 1 answers) m e line is_line 0 _ _ _ _ _ _ _ (omega arith))))))),
     )

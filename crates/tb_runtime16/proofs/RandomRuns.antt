@@ -9,10 +9,11 @@ use Rattle.tb_memmap.specs.Bytes.{with_byte}
 use Rattle.tb_reaching.specs.View.{Setup, View, Holds, Fits, Comes, view}
 use Rattle.tb_reaching.proofs.Comes.{after, ending, looser}
 use Rattle.tb_reaching.proofs.Calls.{under}
-use Rattle.tb_words.specs.Words.{seed_after}
+use Rattle.tb_words.specs.Words.{word, seed_after}
 use Rattle.tb_runtime16.specs.Places.{MULTIPLY_AT, RANDOM_AT, LEFT, RIGHT, RESULT, SEED, SEEDED, SCRATCH}
 use Rattle.tb_runtime16.specs.Block.{block_part}
-use Rattle.tb_runtime16.specs.Laws.{is_argument, is_seed, unsigned_at, IsWord, Back, Faults, Drawn, seed_of, RandomLaw, RandomRangeLaw}
+use Rattle.tb_runtime16.specs.Laws.{is_argument, is_seed, unsigned_at, Back, Faults, Drawn, seed_of, RandomLaw, RandomRangeLaw}
+use Rattle.tb_runtime16.proofs.InMemory.{IsWord, bytes_of, holds_word, of_word, same_place, value}
 use Rattle.tb_runtime16.proofs.Within.{random_part, random_in}
 use Rattle.tb_runtime16.proofs.Words.{small_byte, added}
 use Rattle.tb_runtime16.proofs.Frames.{skip}
@@ -33,14 +34,12 @@ module _ (f : Setup) (fits : Fits f 6) (block : Holds block_part f.code) (lo hi 
   draw a x y n v i z c m seed l le low high s se set r =
       let same : word_in m RIGHT ≡ word_in m0 LEFT = omega (arith, low, high) in
       back_looser f _ lo hi text answers _ _ [] 268 268 (omega arith)
-      (unsigned_law f (omega (arith, fits)) block lo hi text answers m a x y n v i z c l (omega (arith, low, p), omega (arith, high, p)) (omega (arith, same, least)) (omega (arith, same, most)))
+      (unsigned_law f (omega (arith, fits)) block lo hi text answers m a x y n v i z c (seed_after seed) (word_in m0 LEFT) (holds_word m LEFT (seed_after seed) l le) (holds_word m RIGHT (word_in m0 LEFT) (omega (arith, low, p), omega (arith, high, p)) same) least (omega (arith, most)))
       (λ w g. record {
-        is_word = g.result_is;
-        value = g.result ∙ ap (λ n. n % word_in m RIGHT) le ∙ ap (λ d. seed_after seed % d) same;
-        seed_is = (omega (arith, g.others SEED refl, s), omega (arith, g.others (SEED + 1) refl, s));
-        seed_at = omega (arith, g.others SEED refl, g.others (SEED + 1) refl, se);
-        seeded = g.others SEEDED refl ∙ set;
-        others = λ a b d e. g.others a b ∙ r a b d e;
+        result = g.parts.rest;
+        seed_at = same_place m w SEED (seed_after seed) (holds_word m SEED (seed_after seed) s se) (g.parts.others SEED refl) (g.parts.others (SEED + 1) refl);
+        seeded = g.parts.others SEEDED refl ∙ set;
+        others = λ a b d e. g.parts.others a b ∙ r a b d e;
       })
 
   -- ---- the new state
@@ -76,13 +75,13 @@ module _ (f : Setup) (fits : Fits f 6) (block : Holds block_part f.code) (lo hi 
       let w = with_byte (with_byte (with_byte m SEEDED 1) LEFT 85) (LEFT + 1) 98 in
       after f 6 fits random_part (random_in f.code block) 10 (view a x y n v i z c (RANDOM_AT + 30) (lo ∷ hi ∷ []) m text answers) _ _ (245 + (14 + 268)) refl
       (calls f (m (LEFT + 1) ∷ m LEFT ∷ lo ∷ hi ∷ []) _ _ _ _ _ _ _ _ MULTIPLY_AT ((RANDOM_AT + 51) % 256) ((RANDOM_AT + 51) / 256) w text answers _ _ [] [] 245 (14 + 268)
-      (multiply_law (under f (m (LEFT + 1) ∷ m LEFT ∷ lo ∷ hi ∷ [])) (omega (arith, fits)) block ((RANDOM_AT + 51) % 256) ((RANDOM_AT + 51) / 256) text answers w _ _ _ _ _ _ _ _ (omega arith, omega arith) k)
+      (multiply_law (under f (m (LEFT + 1) ∷ m LEFT ∷ lo ∷ hi ∷ [])) (omega (arith, fits)) block ((RANDOM_AT + 51) % 256) ((RANDOM_AT + 51) / 256) text answers w _ _ _ _ _ _ _ _ 25173 seed (record { low = refl; high = refl; small = omega arith }) (holds_word w RIGHT seed k e))
       (λ a x y n v i z c u g. subst (λ s. Goal seed (view a x y n v i z c (RANDOM_AT + 52) s u text answers) (14 + 268)) (ap (λ h. h ∷ m0 LEFT ∷ lo ∷ hi ∷ []) (sym high) ∙ ap (λ l. m (LEFT + 1) ∷ l ∷ lo ∷ hi ∷ []) (sym low))
-      (store a x y n v i z c u seed g.is_word (g.value ∙ ap (λ s. 25173 * s % 65536) e) (g.others SEEDED refl)
+      (store a x y n v i z c u seed (bytes_of u RESULT (word (25173 * seed)) g.result) (value u RESULT (word (25173 * seed)) g.result) (g.others SEEDED refl)
       (λ a b d e. g.others a b ∙ skip is_argument (with_byte (with_byte m SEEDED 1) LEFT 85) (LEFT + 1) 98 a refl b ∙ skip is_argument (with_byte m SEEDED 1) LEFT 85 a refl b ∙ skip is_seed m SEEDED 1 a refl e ∙ r a b d e))))
 
   -- ---- which state
-  seeding : (a x y : ℕ) (n v i z c : Bool) (seed : ℕ) → seed ≡ seed_of m0 → IsWord m0 RIGHT → IsWord m0 SEED → Goal seed (view a x y n v i z c (RANDOM_AT + 15) (lo ∷ hi ∷ []) m0 text answers) (2 + (4 + (11 + (245 + (14 + 268)))))
+  seeding : (a x y : ℕ) (n v i z c : Bool) (seed : ℕ) → seed ≡ seed_of m0 (word_in m0 RIGHT) (word_in m0 SEED) → IsWord m0 RIGHT → IsWord m0 SEED → Goal seed (view a x y n v i z c (RANDOM_AT + 15) (lo ∷ hi ∷ []) m0 text answers) (2 + (4 + (11 + (245 + (14 + 268)))))
   unfolding Rest
   seeding a x y n v i z c seed e q s =
       ⊎_elim
@@ -97,7 +96,7 @@ module _ (f : Setup) (fits : Fits f 6) (block : Holds block_part f.code) (lo hi 
       (λ a b d e. skip is_argument (with_byte m0 RIGHT (m0 SEED)) (RIGHT + 1) (m0 (SEED + 1)) a refl b ∙ skip is_argument m0 RIGHT (m0 SEED) a refl b)))))
       (cases_eq (m0 SEEDED) 0)
 
-  whole : (a x y : ℕ) (n v i z c : Bool) → IsWord m0 RIGHT → IsWord m0 SEED → Goal (seed_of m0) (view a x y n v i z c RANDOM_AT (lo ∷ hi ∷ []) m0 text answers) 549
+  whole : (a x y : ℕ) (n v i z c : Bool) → IsWord m0 RIGHT → IsWord m0 SEED → Goal (seed_of m0 (word_in m0 RIGHT) (word_in m0 SEED)) (view a x y n v i z c RANDOM_AT (lo ∷ hi ∷ []) m0 text answers) 549
   whole a x y n v i z c q s =
       let sign : eqb (m0 (LEFT + 1) / 128 % 2) 1 ≡ false = ne_eqb _ _ (λ e. omega (arith, most, e)) in
       ⊎_elim
@@ -107,34 +106,40 @@ module _ (f : Setup) (fits : Fits f 6) (block : Holds block_part f.code) (lo hi 
       (after f 6 fits random_part (random_in f.code block) 1 (view a x y n v i z c RANDOM_AT (lo ∷ hi ∷ []) m0 text answers) _ _ (1 + (2 + (2 + (4 + (11 + (245 + (14 + 268))))))) refl
       (rw sign (after f 6 fits random_part (random_in f.code block) 0 (view (m0 (LEFT + 1)) x y _ v i (eqb (m0 (LEFT + 1)) 0) c (RANDOM_AT + 4) (lo ∷ hi ∷ []) m0 text answers) _ _ (2 + (2 + (4 + (11 + (245 + (14 + 268)))))) refl
       (rw b (after f 6 fits random_part (random_in f.code block) 1 (view _ _ _ _ _ _ _ _ (RANDOM_AT + 6) (lo ∷ hi ∷ []) m0 text answers) _ _ (2 + (4 + (11 + (245 + (14 + 268))))) refl
-      (rw b' (seeding _ _ _ _ _ _ _ _ (seed_of m0) refl q s))))))))
+      (rw b' (seeding _ _ _ _ _ _ _ _ (seed_of m0 (word_in m0 RIGHT) (word_in m0 SEED)) refl q s))))))))
       (λ some. let b : eqb (m0 (LEFT + 1)) 0 ≡ false = ne_eqb _ _ some in
       looser f _ _ _ [] (2 + (1 + (2 + (4 + (11 + (245 + (14 + 268))))))) 549 (omega arith) (λ w h. h)
       (after f 6 fits random_part (random_in f.code block) 1 (view a x y n v i z c RANDOM_AT (lo ∷ hi ∷ []) m0 text answers) _ _ (1 + (2 + (4 + (11 + (245 + (14 + 268)))))) refl
       (rw sign (after f 6 fits random_part (random_in f.code block) 0 (view (m0 (LEFT + 1)) x y _ v i (eqb (m0 (LEFT + 1)) 0) c (RANDOM_AT + 4) (lo ∷ hi ∷ []) m0 text answers) _ _ (2 + (4 + (11 + (245 + (14 + 268))))) refl
-      (rw b (seeding _ _ _ _ _ _ _ _ (seed_of m0) refl q s))))))
+      (rw b (seeding _ _ _ _ _ _ _ _ (seed_of m0 (word_in m0 RIGHT) (word_in m0 SEED)) refl q s))))))
       (cases_eq (m0 (LEFT + 1)) 0)
 
 pub random_law : RandomLaw
-random_law f fits block lo hi text answers m a x y n v i z c p q s least most = whole f fits block lo hi text answers m p least most a x y n v i z c q s
+random_law f fits block lo hi text answers m a x y n v i z c bound option stored p q s least most =
+    let start = view a x y n v i z c RANDOM_AT (lo ∷ hi ∷ []) m text answers in
+    let same = value m LEFT bound p in
+    of_word (λ b. Comes f start (Back lo hi text answers (Drawn m b (seed_of m option stored))) [] 549) m LEFT bound p
+    (of_word (λ o. Comes f start (Back lo hi text answers (Drawn m (word_in m LEFT) (seed_of m o stored))) [] 549) m RIGHT option q
+    (of_word (λ t. Comes f start (Back lo hi text answers (Drawn m (word_in m LEFT) (seed_of m (word_in m RIGHT) t))) [] 549) m SEED stored s
+    (whole f fits block lo hi text answers m (bytes_of m LEFT bound p) (omega (arith, same, least)) (omega (arith, same, most)) a x y n v i z c (bytes_of m RIGHT option q) (bytes_of m SEED stored s))))
 
 -- ---- the fault
 module _ (f : Setup) (fits : Fits f 2) (block : Holds block_part f.code) (lo hi : ℕ) (text answers : List ℕ) (m : ℕ → ℕ) where
-  bad : (a x y : ℕ) (n v i z c : Bool) → Comes f (view a x y n v i z c (RANDOM_AT + 10) (lo ∷ hi ∷ []) m text answers) (Faults lo hi text answers m 3) [] 2
+  bad : (a x y : ℕ) (n v i z c : Bool) → Comes f (view a x y n v i z c (RANDOM_AT + 10) (lo ∷ hi ∷ []) m text answers) (Faults lo hi text answers 3 (λ w. w ≡ m)) [] 2
   bad a x y n v i z c = ending f 2 fits random_part (random_in f.code block) 1 (view a x y n v i z c (RANDOM_AT + 10) (lo ∷ hi ∷ []) m text answers) _ refl
-      (record { pc = refl; stack = refl; binary = refl; same_text = refl; same_answers = refl; number = refl; memory = refl })
+      (record { leaves = record { pc = refl; stack_is = refl; binary = refl; same_text = refl; same_answers = refl; memory = refl }; number = refl })
 
 pub random_range_law : RandomRangeLaw
-random_range_law f fits block lo hi text answers m a x y n v i z c p (inl none) =
-    let sign : eqb (m (LEFT + 1) / 128 % 2) 1 ≡ false = ne_eqb _ _ (λ e. omega (arith, none, e)) in
-    let b : eqb (m (LEFT + 1)) 0 ≡ true = eq-eqb _ _ (omega (arith, none)) in
-    let b' : eqb (m LEFT) 0 ≡ true = eq-eqb _ _ (omega (arith, none)) in
+random_range_law f fits block lo hi text answers m a x y n v i z c bound p (inl none) =
+    let sign : eqb (m (LEFT + 1) / 128 % 2) 1 ≡ false = ne_eqb _ _ (λ e. omega (arith, none, p.high, e)) in
+    let b : eqb (m (LEFT + 1)) 0 ≡ true = eq-eqb _ _ (omega (arith, none, p.high)) in
+    let b' : eqb (m LEFT) 0 ≡ true = eq-eqb _ _ (omega (arith, none, p.low)) in
     after f 2 fits random_part (random_in f.code block) 1 (view a x y n v i z c RANDOM_AT (lo ∷ hi ∷ []) m text answers) _ _ 5 refl
     (rw sign (after f 2 fits random_part (random_in f.code block) 0 (view (m (LEFT + 1)) x y _ v i (eqb (m (LEFT + 1)) 0) c (RANDOM_AT + 4) (lo ∷ hi ∷ []) m text answers) _ _ 4 refl
     (rw b (after f 2 fits random_part (random_in f.code block) 1 (view _ _ _ _ _ _ _ _ (RANDOM_AT + 6) (lo ∷ hi ∷ []) m text answers) _ _ 2 refl
     (rw b' (bad f fits block lo hi text answers m _ _ _ _ _ _ _ _))))))
-random_range_law f fits block lo hi text answers m a x y n v i z c p (inr big) =
-    let sign : eqb (m (LEFT + 1) / 128 % 2) 1 ≡ true = eq-eqb _ _ (omega (arith, big, p)) in
+random_range_law f fits block lo hi text answers m a x y n v i z c bound p (inr big) =
+    let sign : eqb (m (LEFT + 1) / 128 % 2) 1 ≡ true = eq-eqb _ _ (omega (arith, big, p.high, p.small)) in
     looser f _ _ _ [] (2 + 2) 7 (omega arith) (λ w h. h)
     (after f 2 fits random_part (random_in f.code block) 1 (view a x y n v i z c RANDOM_AT (lo ∷ hi ∷ []) m text answers) _ _ 2 refl
     (rw sign (bad f fits block lo hi text answers m _ _ _ _ _ _ _ _)))

@@ -11,11 +11,12 @@ use Rattle.tb_reaching.proofs.Start.{in_program}
 use Rattle.tb_reaching.proofs.Comes.{after, ending, looser}
 use Rattle.tb_runtime16.specs.Places.{SEARCH_AT, POINTER, WANTED, RESULT, TABLE, COUNT, SCRATCH}
 use Rattle.tb_runtime16.specs.Block.{block_part}
-use Rattle.tb_runtime16.specs.Laws.{IsWord}
+use Rattle.tb_runtime16.specs.Laws.{Changes}
 use Rattle.tb_runtime16.specs.Search.{Line, table_bytes, Rising, AllWords, address_of, search_changes, Searched, SearchLaw}
+use Rattle.tb_runtime16.proofs.InMemory.{IsWord, bytes_of, value}
 use Rattle.tb_runtime16.proofs.Within.{search_part, search_in}
 use Rattle.tb_runtime16.proofs.Words.{pow2, halved}
-use Rattle.tb_runtime16.proofs.Frames.{Changes, changes_put}
+use Rattle.tb_runtime16.proofs.Frames.{changes_put}
 use Rattle.tb_runtime16.proofs.Pointed.{carry_at_least, carry_below}
 use Rattle.tb_runtime16.proofs.Through.{loading, comparing, subtracting, times_four, summed, difference}
 use Rattle.tb_runtime16.proofs.Tables.{cut, entry_bytes, bytes_front, bytes_back, rising_front, rising_back, words_front, words_back, other_line, address_front, address_back}
@@ -88,7 +89,7 @@ module _ (f : Setup) (fits : Fits f 2) (block : Holds block_part f.code) (lo hi 
   none : (a x y : ℕ) (n v i z c : Bool) (m : ℕ → ℕ) → Changes search_changes m0 m → None ≡ r → Comes f (view a x y n v i z c (SEARCH_AT + 0xB5) (lo ∷ hi ∷ []) m text answers) (Searched lo hi m0 text answers r) [] 2
   none a x y n v i z c m k e = subst (λ o. Comes f (view a x y n v i z c (SEARCH_AT + 0xB5) (lo ∷ hi ∷ []) m text answers) (Searched lo hi m0 text answers o) [] 2) e
       (ending f 2 fits search_part (search_in f.code block) 1 (view a x y n v i z c (SEARCH_AT + 0xB5) (lo ∷ hi ∷ []) m text answers) _ refl
-      (record { ended = record { at = refl; on_stack = refl; binary = refl; same_text = refl; same_answers = refl; others = k }; told = refl }))
+      (record { leaves = record { pc = refl; stack_is = refl; binary = refl; same_text = refl; same_answers = refl; memory = k }; number = refl }))
 
   found : (a x y : ℕ) (n v i z c : Bool) (m : ℕ → ℕ) (e : Line) (at : ℕ) → Short m (e ∷ []) at → y ≡ m POINTER + 1 → Some e.1 ≡ r → Comes f (view a x y n v i z c (SEARCH_AT + 0xA8) (lo ∷ hi ∷ []) m text answers) (Searched lo hi m0 text answers r) [] 7
   found a x y n v i z c m e at h index s =
@@ -110,9 +111,12 @@ module _ (f : Setup) (fits : Fits f 2) (block : Holds block_part f.code) (lo hi 
       (loading f 2 fits TABLE (SEARCH_AT + 0xAF) (at + 3) (e.1 / 256) _ _ y2 _ _ _ _ _ _ m1 text answers _ _ 2 (search_in f.code block _ _ refl, (search_in f.code block _ _ refl, tt)) refl refl refl p3 (program_place (at + 3) (omega arith) (omega arith)) b.3
       (ending f 2 fits search_part (search_in f.code block) 1 (view (e.1 / 256) x y2 _ v i _ c (SEARCH_AT + 0xB1) (lo ∷ hi ∷ []) m1 text answers) _ refl
       (record {
-        back = record { at = refl; on_stack = refl; binary = refl; same_text = refl; same_answers = refl; others = changes_put _ _ _ (RESULT + 1) _ refl (changes_put _ _ _ RESULT _ refl h.others) };
-        is_word = (omega arith, omega arith);
-        result = omega arith;
+        pc = refl;
+        stack_is = refl;
+        binary = refl;
+        same_text = refl;
+        same_answers = refl;
+        memory = record { result = record { low = refl; high = refl; small = small }; others = changes_put _ _ _ (RESULT + 1) _ refl (changes_put _ _ _ RESULT _ refl h.others) };
       }))))))
 
   last_high : (a x y : ℕ) (n v i z c : Bool) (m : ℕ → ℕ) (e : Line) (at : ℕ) → Short m (e ∷ []) at → y ≡ m POINTER → e.0 % 256 ≡ m WANTED → Comes f (view a x y n v i z c (SEARCH_AT + 0xA0) (lo ∷ hi ∷ []) m text answers) (Searched lo hi m0 text answers r) [] 11
@@ -471,5 +475,7 @@ module _ (f : Setup) (fits : Fits f 2) (block : Holds block_part f.code) (lo hi 
       }) some (omega arith)
 
 pub search_law : SearchLaw
-search_law f fits block lo hi text answers m a x y n v i z c lines left table size shown from to count some rising words =
-    whole f fits block lo hi text answers m left (address_of (word_in m WANTED) lines) a x y n v i z c lines table size shown from to count some rising words refl
+search_law f fits block lo hi text answers m a x y n v i z c number table lines wanted at count shown from to some rising words =
+    let place = value m TABLE table at in
+    whole f fits block lo hi text answers m (bytes_of m WANTED number wanted) (address_of number lines) a x y n v i z c lines (bytes_of m TABLE table at) (bytes_of m COUNT (length lines) count)
+    (subst (λ p. Bytes f.code p (table_bytes lines)) (sym place) shown) (omega (arith, place, from)) (omega (arith, place, to)) (value m COUNT (length lines) count) some rising words (ap (λ n. address_of n lines) (value m WANTED number wanted))

@@ -16,6 +16,7 @@ use Rattle.tb_lower.specs.Control.{column_after}
 use Rattle.tb_runtime16.specs.Places.{TEXT_AT, COLUMN, POINTER, LENGTH}
 use Rattle.tb_runtime16.specs.Block.{block_part}
 use Rattle.tb_runtime16.specs.Laws.{AllBytes, Back, Said, Told, TextLaw}
+use Rattle.tb_runtime16.proofs.InMemory.{bytes_of, value}
 use Rattle.tb_runtime16.proofs.Within.{text_part, text_in}
 use Rattle.tb_runtime16.proofs.Called.{calls}
 use Rattle.tb_runtime16.proofs.Columns.{column_same}
@@ -142,5 +143,6 @@ module _ (f : Setup) (fits : Fits f 4) (block : Holds block_part f.code) (lo hi 
       (rw some (send bs (counts bs) _ _ _ _ _ _ _ _ _ b at h e)))
 
 pub text_law : TextLaw
-text_law f fits block lo hi text answers m a x y n v i z c bytes p =
-    whole f fits block lo hi text answers m bytes a x y n v i z c m bytes (m POINTER + 256 * m (POINTER + 1)) (record { word_is = refl; low = p.is_word.0; high = p.is_word.1; shown = p.shown; from = p.from; to = p.to; few = p.few; small = p.bytes_small; others = λ a p q r s. refl; column = refl; column_small = λ p. p }) p.count
+text_law f fits block lo hi text answers m a x y n v i z c at bytes p =
+    let small = bytes_of m POINTER at p.pointer in
+    whole f fits block lo hi text answers m bytes a x y n v i z c m bytes at (record { word_is = value m POINTER at p.pointer; low = small.0; high = small.1; shown = p.shown; from = p.from; to = p.to; few = p.few; small = p.bytes_small; others = λ a p q r s. refl; column = refl; column_small = λ p. p }) p.count

@@ -7,7 +7,8 @@ use Rattle.tb_reaching.specs.View.{Setup, Holds, Fits, Comes, view, View}
 use Rattle.tb_reaching.proofs.Comes.{after, looser}
 use Rattle.tb_runtime16.specs.Places.{DIVIDE_AT, LEFT, RIGHT}
 use Rattle.tb_runtime16.specs.Block.{block_part}
-use Rattle.tb_runtime16.specs.Laws.{unsigned_at, IsWord, Back, Parted, UnsignedLaw}
+use Rattle.tb_runtime16.specs.Laws.{unsigned_at, Back, Parted, UnsignedLaw}
+use Rattle.tb_runtime16.proofs.InMemory.{IsWord, bytes_of, of_word, value}
 use Rattle.tb_runtime16.proofs.Within.{divide_part, divide_in}
 use Rattle.tb_runtime16.proofs.WideRuns.{wide}
 use Rattle.tb_runtime16.proofs.NarrowRuns.{narrow}
@@ -57,4 +58,9 @@ module _ (f : Setup) (fits : Fits f 2) (block : Holds block_part f.code) (lo hi 
       (cases_eq (m (RIGHT + 1)) 0)
 
 pub unsigned_law : UnsignedLaw
-unsigned_law f fits block lo hi text answers m a x y n v i z c p q some most = whole f fits block lo hi text answers m p q some most a x y n v i z c
+unsigned_law f fits block lo hi text answers m a x y n v i z c left right p q some most =
+    let start = view a x y n v i z c unsigned_at (lo ∷ hi ∷ []) m text answers in
+    let same = value m RIGHT right q in
+    of_word (λ l. Comes f start (Back lo hi text answers (Parted m (l / right) (l % right))) [] 268) m LEFT left p
+    (of_word (λ r. Comes f start (Back lo hi text answers (Parted m (word_in m LEFT / r) (word_in m LEFT % r))) [] 268) m RIGHT right q
+    (whole f fits block lo hi text answers m (bytes_of m LEFT left p) (bytes_of m RIGHT right q) (omega (arith, same, some)) (omega (arith, same, most)) a x y n v i z c))

@@ -10,7 +10,8 @@ use Rattle.tb_reaching.specs.View.{Setup, Holds, Fits, Comes, view, View}
 use Rattle.tb_reaching.proofs.Comes.{after, ending, looser}
 use Rattle.tb_runtime16.specs.Places.{DIVIDE_AT, LEFT, RIGHT, RESULT}
 use Rattle.tb_runtime16.specs.Block.{block_part}
-use Rattle.tb_runtime16.specs.Laws.{IsWord, Back, Parted}
+use Rattle.tb_runtime16.specs.Laws.{Back, Parted}
+use Rattle.tb_runtime16.proofs.InMemory.{IsWord, holds_word}
 use Rattle.tb_runtime16.proofs.Within.{divide_part, divide_in}
 use Rattle.tb_runtime16.proofs.Words.{pow2, small_byte, carried, doubled, doubled_in, subtracted, compared, compared_less}
 use Rattle.tb_runtime16.proofs.Frames.{Frame, frame_put}
@@ -70,13 +71,13 @@ module _ (f : Setup) (fits : Fits f 2) (block : Holds block_part f.code) (lo hi 
       let same : word_in m LEFT ≡ q = omega (arith, h.left, h.few, h.sum) in
       let total : q * word_in m0 RIGHT + word_in m RESULT ≡ word_in m0 LEFT = omega (arith, h.left, h.few, h.sum) in
       record {
-        left_is = h.left;
-        left = same ∙ sym (div-mul-add q (word_in m0 RIGHT) (word_in m RESULT) h.less) ∙ ap (λ n. n / word_in m0 RIGHT) total;
-        result_is = h.rest;
-        result = sym (mul-add-mod_self_right q (word_in m0 RIGHT) (word_in m RESULT) ∙ mod-eq_of_lt h.less) ∙ ap (λ n. n % word_in m0 RIGHT) total;
+        parts = record {
+          left = holds_word m LEFT _ h.left (same ∙ sym (div-mul-add q (word_in m0 RIGHT) (word_in m RESULT) h.less) ∙ ap (λ n. n / word_in m0 RIGHT) total);
+          rest = holds_word m RESULT _ h.rest (sym (mul-add-mod_self_right q (word_in m0 RIGHT) (word_in m RESULT) ∙ mod-eq_of_lt h.less) ∙ ap (λ n. n % word_in m0 RIGHT) total);
+          others = h.others;
+        };
         right_low = h.low;
         right_high = h.high;
-        others = h.others;
       }
 
   last : (a x y : ℕ) (n v i z c : Bool) (m : ℕ → ℕ) (q : ℕ) → Held 16 q m → Goal (view a x y n v i z c (DIVIDE_AT + 138) (lo ∷ hi ∷ []) m text answers) 1

@@ -1,6 +1,5 @@
 -- What faults, polls and the prologue promise.
 use Rattle.std.specs.Prelude.{◌≡◌, ◌≢◌, ℕ, ◌+◌, ◌*◌, ◌<◌, ◌≤◌, Bool, true, false, ◌||◌, List, [], ◌∷◌, ◌++◌, length, drop}
-use Rattle.tb_cpu.specs.Operands.{word_in}
 use Rattle.tb_memmap.specs.Regions.{within}
 use Rattle.tb_kernal.specs.Machine.{State, first_or_zero}
 use Rattle.tb_kernal.specs.Starts.{IsStart}
@@ -9,32 +8,31 @@ use Rattle.tb_reaching.specs.Start.{setup_of, view_of, home_low, home_high, IsHo
 use Rattle.tb_lower.specs.Control.{fault_text}
 use Rattle.tb_runtime16.specs.Places.{VARS, SEEDED, HOME_S, SEED, LINE, NOTES, LINES_AT, FAULT_AT, FAULT_LINE_AT, POLL_AT}
 use Rattle.tb_runtime16.specs.Block.{block_part}
-use Rattle.tb_runtime16.specs.Laws.{IsWord, Leaves}
+use Rattle.tb_runtime16.specs.Laws.{WordAt, Leaves}
 
--- where the machine was entered from lies on the stack behind what is kept, and the line has a number
+-- the return address of the start is lo, hi on the stack behind what is kept, and the stack pointer's place of it is kept
 pub record Entered (f : Setup) (lo hi : ℕ) (m : ℕ → ℕ) : Type 0 where
   pub homed : Homed f lo hi
   pub kept : m HOME_S + 2 ≡ f.home_s
-  pub line : IsWord m LINE
 
 -- Fault: k in A, from any depth
 abbrev pub FaultLaw : Type 0
 FaultLaw =
-    (f : Setup) (room : ℕ) → 13 ≤ room → Fits f room → Holds block_part f.code → (hlo hhi : ℕ) (above : List ℕ) → length above + 2 ≤ room → (text answers : List ℕ) (m : ℕ → ℕ) → Entered f hlo hhi m → (k x y : ℕ) (n v i z c : Bool) → k < 10 →
-    Comes f (view k x y n v i z c FAULT_AT (above ++ hlo ∷ hhi ∷ []) m text answers) (IsHome f) (fault_text k (word_in m LINE)) 540
+    (f : Setup) (room : ℕ) → 13 ≤ room → Fits f room → Holds block_part f.code → (hlo hhi : ℕ) (above : List ℕ) → length above + 2 ≤ room → (text answers : List ℕ) (m : ℕ → ℕ) → Entered f hlo hhi m → (line : ℕ) → WordAt m LINE line → (k x y : ℕ) (n v i z c : Bool) → k < 10 →
+    Comes f (view k x y n v i z c FAULT_AT (above ++ hlo ∷ hhi ∷ []) m text answers) (IsHome f) (fault_text k line) 540
 
 -- the entry that takes the line's number too: k in A, the number in X and Y, low byte first
 abbrev pub FaultLineLaw : Type 0
 FaultLineLaw =
-    (f : Setup) (room : ℕ) → 13 ≤ room → Fits f room → Holds block_part f.code → (hlo hhi : ℕ) (above : List ℕ) → length above + 2 ≤ room → (text answers : List ℕ) (m : ℕ → ℕ) → Homed f hlo hhi → m HOME_S + 2 ≡ f.home_s → (k x y : ℕ) (n v i z c : Bool) → k < 10 → x < 256 → y < 256 →
+    (f : Setup) (room : ℕ) → 13 ≤ room → Fits f room → Holds block_part f.code → (hlo hhi : ℕ) (above : List ℕ) → length above + 2 ≤ room → (text answers : List ℕ) (m : ℕ → ℕ) → Entered f hlo hhi m → (k x y : ℕ) (n v i z c : Bool) → k < 10 → x < 256 → y < 256 →
     Comes f (view k x y n v i z c FAULT_LINE_AT (above ++ hlo ∷ hhi ∷ []) m text answers) (IsHome f) (fault_text k (x + 256 * y)) 542
 
 -- Poll: an answer is taken, and 3 stops the program, from any depth
 abbrev pub PollLaw : Type 0
 PollLaw =
-    (f : Setup) (room : ℕ) → 13 ≤ room → Fits f room → Holds block_part f.code → (hlo hhi : ℕ) (above : List ℕ) → length above + 6 ≤ room → (lo hi : ℕ) (text answers : List ℕ) (m : ℕ → ℕ) → Entered f hlo hhi m → first_or_zero answers < 256 → (a x y : ℕ) (n v i z c : Bool) →
+    (f : Setup) (room : ℕ) → 13 ≤ room → Fits f room → Holds block_part f.code → (hlo hhi : ℕ) (above : List ℕ) → length above + 6 ≤ room → (lo hi : ℕ) (text answers : List ℕ) (m : ℕ → ℕ) → Entered f hlo hhi m → (line : ℕ) → WordAt m LINE line → first_or_zero answers < 256 → (a x y : ℕ) (n v i z c : Bool) →
     (first_or_zero answers ≢ 3 → Comes f (view a x y n v i z c POLL_AT (lo ∷ hi ∷ above ++ hlo ∷ hhi ∷ []) m text answers) (Leaves (back_at lo hi) (above ++ hlo ∷ hhi ∷ []) text (drop 1 answers) (λ w. w ≡ m)) [] 5)
-    × (first_or_zero answers ≡ 3 → Comes f (view a x y n v i z c POLL_AT (lo ∷ hi ∷ above ++ hlo ∷ hhi ∷ []) m text answers) (IsHome f) (fault_text 0 (word_in m LINE)) 546)
+    × (first_or_zero answers ≡ 3 → Comes f (view a x y n v i z c POLL_AT (lo ∷ hi ∷ above ++ hlo ∷ hhi ∷ []) m text answers) (IsHome f) (fault_text 0 line) 546)
 
 -- places that the prologue clears
 abbrev pub is_cleared : ℕ → Bool

@@ -1,6 +1,5 @@
 -- What Input promises: one variable's turn.
 use Rattle.std.specs.Prelude.{◌≡◌, ℕ, ◌+◌, ◌*◌, ◌%◌, ◌≤◌, Bool, true, false, ◌||◌, List, [], ◌∷◌, ◌++◌, length, ◌==◌}
-use Rattle.tb_cpu.specs.Operands.{word_in}
 use Rattle.tb_cpu.specs.Effects.{bit}
 use Rattle.tb_memmap.specs.Regions.{within}
 use Rattle.tb_reaching.specs.View.{View, Setup, Holds, Fits, Comes, view, back_at}
@@ -10,7 +9,7 @@ use Rattle.tb_lower.specs.Input.{Nothing, Turn, Got, Bad, Dry, turn}
 use Rattle.tb_runtime16.specs.Places.{INPUT_AT, COLUMN, LEFT, RESULT, LINE, BYTE, OPEN, SCRATCH}
 use Rattle.tb_runtime16.specs.Block.{block_part}
 use Rattle.tb_runtime16.specs.Ends.{Entered}
-use Rattle.tb_runtime16.specs.Laws.{IsWord, AllBytes}
+use Rattle.tb_runtime16.specs.Laws.{AllBytes, WordAt, Leaves, Gives}
 
 -- ---- the law
 
@@ -34,28 +33,21 @@ turn_sends line (Got v false rest) = 13 ∷ []
 turn_sends line Bad = fault_text 6 line
 turn_sends line Dry = []
 
--- back with a number, and own on the stack
-pub record Taken (lo hi : ℕ) (own : List ℕ) (m : ℕ → ℕ) (replies : List ℕ) (column number : ℕ) (stays : Bool) (keys : List ℕ) (w : View) : Type 0 where
-  pub pc : w.regs.pc ≡ back_at lo hi
-  pub stack : w.stack ≡ own
-  pub binary : w.regs.flags.d ≡ false
-  pub left : w.text ≡ keys
-  pub same_answers : w.answers ≡ replies
-  pub is_word : IsWord w.mem RESULT
-  pub result : word_in w.mem RESULT ≡ number
-  pub line_open : w.mem OPEN ≡ bit stays
-  pub column_is : w.mem COLUMN ≡ column
-  pub others : (a : ℕ) → is_changed a ≡ false → w.mem a ≡ m a
+-- memory after a number was read
+pub record Taken (m0 : ℕ → ℕ) (column number : ℕ) (stays : Bool) (m : ℕ → ℕ) : Type 0 where
+  pub gives : Gives is_changed m0 number m
+  pub line_open : m OPEN ≡ bit stays
+  pub column_is : m COLUMN ≡ column
 
 -- the end of a turn, from column c, when so much was sent before, with own on the stack of the caller
 abbrev pub Ended : Setup → ℕ → ℕ → List ℕ → (ℕ → ℕ) → List ℕ → ℕ → List ℕ → Turn → View → Type 0
-Ended f lo hi own m replies c before (Got v true rest) w = Taken lo hi own m replies (column_after c before % 256) v true rest w
-Ended f lo hi own m replies c before (Got v false rest) w = Taken lo hi own m replies 0 v false rest w
+Ended f lo hi own m replies c before (Got v true rest) w = Leaves (back_at lo hi) own rest replies (Taken m (column_after c before % 256) v true) w
+Ended f lo hi own m replies c before (Got v false rest) w = Leaves (back_at lo hi) own rest replies (Taken m 0 v false) w
 Ended f lo hi own m replies c before Bad w = IsHome f w
 Ended f lo hi own m replies c before Dry w = IsWaiting w × (length w.stack ≤ length own + 4)
 
 -- Input does one variable's turn: back with a number, a fault 6, or waiting for a key, from any depth
 abbrev pub InputLaw : Type 0
 InputLaw =
-    (f : Setup) (room : ℕ) → 13 ≤ room → Fits f room → Holds block_part f.code → (hlo hhi : ℕ) (above : List ℕ) → length above + 6 ≤ room → (lo hi : ℕ) (text answers : List ℕ) (m : ℕ → ℕ) → Entered f hlo hhi m → AllBytes text → (is_open : Bool) → m OPEN ≡ bit is_open → (c : ℕ) → m COLUMN ≡ c % 256 → (a x y : ℕ) (n v i z carry : Bool) →
-    Comes f (view a x y n v i z carry INPUT_AT (lo ∷ hi ∷ above ++ hlo ∷ hhi ∷ []) m text answers) (Ended f lo hi (above ++ hlo ∷ hhi ∷ []) m answers c (prompt is_open) (turn Nothing text)) (prompt is_open ++ turn_sends (word_in m LINE) (turn Nothing text)) (45 * length text + 587)
+    (f : Setup) (room : ℕ) → 13 ≤ room → Fits f room → Holds block_part f.code → (hlo hhi : ℕ) (above : List ℕ) → length above + 6 ≤ room → (lo hi : ℕ) (text answers : List ℕ) (m : ℕ → ℕ) → Entered f hlo hhi m → (line : ℕ) → WordAt m LINE line → AllBytes text → (is_open : Bool) → m OPEN ≡ bit is_open → (c : ℕ) → m COLUMN ≡ c % 256 → (a x y : ℕ) (n v i z carry : Bool) →
+    Comes f (view a x y n v i z carry INPUT_AT (lo ∷ hi ∷ above ++ hlo ∷ hhi ∷ []) m text answers) (Ended f lo hi (above ++ hlo ∷ hhi ∷ []) m answers c (prompt is_open) (turn Nothing text)) (prompt is_open ++ turn_sends line (turn Nothing text)) (45 * length text + 587)

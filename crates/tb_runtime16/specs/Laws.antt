@@ -1,16 +1,21 @@
 -- What the routines promise, whatever the ROM does.
 use Rattle.std.specs.Prelude.{◌≡◌, ◌⊎◌, ◌≢◌, ℕ, ◌+◌, ◌*◌, ◌/◌, ◌%◌, ◌<◌, ◌≤◌, Bool, false, ◌||◌, ◌==◌, if◌then◌else◌, List, [], ◌∷◌, length}
-use Rattle.tb_cpu.specs.Operands.{word_in}
 use Rattle.tb_memmap.specs.Regions.{within}
 use Rattle.tb_reaching.specs.View.{View, Setup, Holds, Fits, Comes, view, back_at, Bytes}
-use Rattle.tb_words.specs.Words.{magnitude, quotient, seed_after, digits_of}
+use Rattle.tb_words.specs.Words.{word, magnitude, quotient, seed_after, digits_of}
 use Rattle.tb_lower.specs.Control.{zone, column_after}
 use Rattle.tb_runtime16.specs.Places.{SEND_AT, MULTIPLY_AT, DIVIDE_AT, RANDOM_AT, NUMBER_AT, TEXT_AT, ZONE_AT, FAULT_AT, COLUMN, SEEDED, SEED, LEFT, RIGHT, RESULT, LENGTH, SCRATCH, POINTER}
 use Rattle.tb_runtime16.specs.Block.{block_part}
 
--- an address and the one behind it hold bytes
-abbrev pub IsWord : (ℕ → ℕ) → ℕ → Type 0
-IsWord m at = (m at < 256) × (m (at + 1) < 256)
+-- a word, low byte first
+pub record WordAt (m : ℕ → ℕ) (at w : ℕ) : Type 0 where
+  pub low : m at ≡ w % 256
+  pub high : m (at + 1) ≡ w / 256
+  pub small : w < 65536
+
+-- only these places changed
+abbrev pub Changes : (ℕ → Bool) → (ℕ → ℕ) → (ℕ → ℕ) → Type 0
+Changes changes m0 m = (a : ℕ) → changes a ≡ false → m a ≡ m0 a
 
 -- LEFT, RIGHT and RESULT
 abbrev pub is_argument : ℕ → Bool
@@ -32,14 +37,20 @@ abbrev pub Back : (lo hi : ℕ) (text answers : List ℕ) (q : (ℕ → ℕ) →
 Back lo hi text answers q = Leaves (back_at lo hi) [] text answers q
 
 -- at the entry of Fault, with the fault's number in A and S as at the routine's entry
-pub record Faults (lo hi : ℕ) (text answers : List ℕ) (m : ℕ → ℕ) (k : ℕ) (w : View) : Type 0 where
-  pub pc : w.regs.pc ≡ FAULT_AT
-  pub stack : w.stack ≡ lo ∷ hi ∷ []
-  pub binary : w.regs.flags.d ≡ false
-  pub same_text : w.text ≡ text
-  pub same_answers : w.answers ≡ answers
+pub record Faults (lo hi : ℕ) (text answers : List ℕ) (k : ℕ) (q : (ℕ → ℕ) → Type 0) (w : View) : Type 0 where
+  pub leaves : Leaves FAULT_AT (lo ∷ hi ∷ []) text answers q w
   pub number : w.regs.a ≡ k
-  pub memory : w.mem ≡ m
+
+-- memory with a word at RESULT, and only these places changed
+pub record Gives (changes : ℕ → Bool) (m0 : ℕ → ℕ) (v : ℕ) (m : ℕ → ℕ) : Type 0 where
+  pub result : WordAt m RESULT v
+  pub others : Changes changes m0 m
+
+-- memory with a quotient at LEFT and a remainder at RESULT, and only these places changed
+pub record Parts (changes : ℕ → Bool) (m0 : ℕ → ℕ) (q r : ℕ) (m : ℕ → ℕ) : Type 0 where
+  pub left : WordAt m LEFT q
+  pub rest : WordAt m RESULT r
+  pub others : Changes changes m0 m
 
 -- ---- Send
 
@@ -62,11 +73,11 @@ AllBytes [] = Unit {0}
 AllBytes (b ∷ bs) = (b < 256) × AllBytes bs
 
 -- a text of at most 255 bytes in the program, and where it begins and how long it is, as the routine is told
-pub record Points (f : Setup) (m : ℕ → ℕ) (bytes : List ℕ) : Type 0 where
-  pub is_word : IsWord m POINTER
-  pub shown : Bytes f.code (word_in m POINTER) bytes
-  pub from : 0x0800 ≤ word_in m POINTER
-  pub to : word_in m POINTER + length bytes ≤ 0xa000
+pub record Points (f : Setup) (m : ℕ → ℕ) (at : ℕ) (bytes : List ℕ) : Type 0 where
+  pub pointer : WordAt m POINTER at
+  pub shown : Bytes f.code at bytes
+  pub from : 0x0800 ≤ at
+  pub to : at + length bytes ≤ 0xa000
   pub count : m LENGTH ≡ length bytes
   pub few : length bytes < 256
   pub bytes_small : AllBytes bytes
@@ -80,7 +91,7 @@ pub record Told (m0 : ℕ → ℕ) (sent : List ℕ) (m : ℕ → ℕ) : Type 0 
 -- Text sends the bytes it is pointed to, in 15 Go events a byte and 3
 abbrev pub TextLaw : Type 0
 TextLaw =
-    (f : Setup) → Fits f 4 → Holds block_part f.code → (lo hi : ℕ) (text answers : List ℕ) (m : ℕ → ℕ) (a x y : ℕ) (n v i z c : Bool) (bytes : List ℕ) → Points f m bytes →
+    (f : Setup) → Fits f 4 → Holds block_part f.code → (lo hi : ℕ) (text answers : List ℕ) (m : ℕ → ℕ) (a x y : ℕ) (n v i z c : Bool) (at : ℕ) (bytes : List ℕ) → Points f m at bytes →
     Comes f (view a x y n v i z c TEXT_AT (lo ∷ hi ∷ []) m text answers) (Back lo hi text answers (Told m bytes)) bytes (15 * length bytes + 3)
 
 -- ---- Zone
@@ -93,17 +104,11 @@ ZoneLaw =
 
 -- ---- Multiply
 
--- the result, and the memory but for the arguments as it was
-pub record Multiplied (m0 : ℕ → ℕ) (product : ℕ) (m : ℕ → ℕ) : Type 0 where
-  pub is_word : IsWord m RESULT
-  pub value : word_in m RESULT ≡ product
-  pub others : (a : ℕ) → is_argument a ≡ false → m a ≡ m0 a
-
 -- Multiply gives the product modulo 65,536 within 245 Go events
 abbrev pub MultiplyLaw : Type 0
 MultiplyLaw =
-    (f : Setup) → Fits f 2 → Holds block_part f.code → (lo hi : ℕ) (text answers : List ℕ) (m : ℕ → ℕ) (a x y : ℕ) (n v i z c : Bool) → IsWord m LEFT → IsWord m RIGHT →
-    Comes f (view a x y n v i z c MULTIPLY_AT (lo ∷ hi ∷ []) m text answers) (Back lo hi text answers (Multiplied m ((word_in m LEFT * word_in m RIGHT) % 65536))) [] 245
+    (f : Setup) → Fits f 2 → Holds block_part f.code → (lo hi : ℕ) (text answers : List ℕ) (m : ℕ → ℕ) (a x y : ℕ) (n v i z c : Bool) (left right : ℕ) → WordAt m LEFT left → WordAt m RIGHT right →
+    Comes f (view a x y n v i z c MULTIPLY_AT (lo ∷ hi ∷ []) m text answers) (Back lo hi text answers (Gives is_argument m (word (left * right)))) [] 245
 
 -- ---- division without signs, inside Divide
 
@@ -113,19 +118,15 @@ unsigned_at = DIVIDE_AT + 52
 
 -- memory after the division without signs: quotient q at LEFT, remainder r at RESULT, and all else as it was
 pub record Parted (m0 : ℕ → ℕ) (q r : ℕ) (m : ℕ → ℕ) : Type 0 where
-  pub left_is : IsWord m LEFT
-  pub left : word_in m LEFT ≡ q
-  pub result_is : IsWord m RESULT
-  pub result : word_in m RESULT ≡ r
+  pub parts : Parts is_argument m0 q r m
   pub right_low : m RIGHT ≡ m0 RIGHT
   pub right_high : m (RIGHT + 1) ≡ m0 (RIGHT + 1)
-  pub others : (a : ℕ) → is_argument a ≡ false → m a ≡ m0 a
 
 -- inside Divide: quotient and remainder of words without signs
 abbrev pub UnsignedLaw : Type 0
 UnsignedLaw =
-    (f : Setup) → Fits f 2 → Holds block_part f.code → (lo hi : ℕ) (text answers : List ℕ) (m : ℕ → ℕ) (a x y : ℕ) (n v i z c : Bool) → IsWord m LEFT → IsWord m RIGHT → 1 ≤ word_in m RIGHT → word_in m RIGHT ≤ 32768 →
-    Comes f (view a x y n v i z c unsigned_at (lo ∷ hi ∷ []) m text answers) (Back lo hi text answers (Parted m (word_in m LEFT / word_in m RIGHT) (word_in m LEFT % word_in m RIGHT))) [] 268
+    (f : Setup) → Fits f 2 → Holds block_part f.code → (lo hi : ℕ) (text answers : List ℕ) (m : ℕ → ℕ) (a x y : ℕ) (n v i z c : Bool) (left right : ℕ) → WordAt m LEFT left → WordAt m RIGHT right → 1 ≤ right → right ≤ 32768 →
+    Comes f (view a x y n v i z c unsigned_at (lo ∷ hi ∷ []) m text answers) (Back lo hi text answers (Parted m (left / right) (left % right))) [] 268
 
 -- ---- Divide
 
@@ -133,25 +134,17 @@ UnsignedLaw =
 abbrev pub negate_left_at : ℕ
 negate_left_at = DIVIDE_AT + 21
 
--- memory after Divide: quotient q at LEFT, the size r of the remainder at RESULT, and all but the arguments as it was
-pub record Divided (m0 : ℕ → ℕ) (q r : ℕ) (m : ℕ → ℕ) : Type 0 where
-  pub left_is : IsWord m LEFT
-  pub left : word_in m LEFT ≡ q
-  pub result_is : IsWord m RESULT
-  pub result : word_in m RESULT ≡ r
-  pub others : (a : ℕ) → is_argument a ≡ false → m a ≡ m0 a
-
 -- Divide gives the quotient of signed words, truncated toward zero, and the remainder's size, within 316 Go events
 abbrev pub DivideLaw : Type 0
 DivideLaw =
-    (f : Setup) → Fits f 6 → Holds block_part f.code → (lo hi : ℕ) (text answers : List ℕ) (m : ℕ → ℕ) (a x y : ℕ) (n v i z c : Bool) → IsWord m LEFT → IsWord m RIGHT → 1 ≤ word_in m RIGHT →
-    Comes f (view a x y n v i z c DIVIDE_AT (lo ∷ hi ∷ []) m text answers) (Back lo hi text answers (Divided m (quotient (word_in m LEFT) (word_in m RIGHT)) (magnitude (word_in m LEFT) % magnitude (word_in m RIGHT)))) [] 316
+    (f : Setup) → Fits f 6 → Holds block_part f.code → (lo hi : ℕ) (text answers : List ℕ) (m : ℕ → ℕ) (a x y : ℕ) (n v i z c : Bool) (left right : ℕ) → WordAt m LEFT left → WordAt m RIGHT right → 1 ≤ right →
+    Comes f (view a x y n v i z c DIVIDE_AT (lo ∷ hi ∷ []) m text answers) (Back lo hi text answers (Parts is_argument m (quotient left right) (magnitude left % magnitude right))) [] 316
 
 -- by 0, Divide comes to Fault with 2, with memory as it was
 abbrev pub DivideByZeroLaw : Type 0
 DivideByZeroLaw =
-    (f : Setup) → Fits f 2 → Holds block_part f.code → (lo hi : ℕ) (text answers : List ℕ) (m : ℕ → ℕ) (a x y : ℕ) (n v i z c : Bool) → word_in m RIGHT ≡ 0 →
-    Comes f (view a x y n v i z c DIVIDE_AT (lo ∷ hi ∷ []) m text answers) (Faults lo hi text answers m 2) [] 5
+    (f : Setup) → Fits f 2 → Holds block_part f.code → (lo hi : ℕ) (text answers : List ℕ) (m : ℕ → ℕ) (a x y : ℕ) (n v i z c : Bool) → WordAt m RIGHT 0 →
+    Comes f (view a x y n v i z c DIVIDE_AT (lo ∷ hi ∷ []) m text answers) (Faults lo hi text answers 2 (λ w. w ≡ m)) [] 5
 
 -- ---- Number
 
@@ -163,8 +156,8 @@ pub record Written (m0 : ℕ → ℕ) (t : List ℕ) (m : ℕ → ℕ) : Type 0 
 -- Number sends the shortest decimal text of the signed word at LEFT
 abbrev pub NumberLaw : Type 0
 NumberLaw =
-    (f : Setup) → Fits f 6 → Holds block_part f.code → (lo hi : ℕ) (text answers : List ℕ) (m : ℕ → ℕ) (a x y : ℕ) (n v i z c : Bool) → IsWord m LEFT → m COLUMN < 256 →
-    Comes f (view a x y n v i z c NUMBER_AT (lo ∷ hi ∷ []) m text answers) (Back lo hi text answers (Written m (digits_of (word_in m LEFT)))) (digits_of (word_in m LEFT)) 458
+    (f : Setup) → Fits f 6 → Holds block_part f.code → (lo hi : ℕ) (text answers : List ℕ) (m : ℕ → ℕ) (a x y : ℕ) (n v i z c : Bool) (number : ℕ) → WordAt m LEFT number → m COLUMN < 256 →
+    Comes f (view a x y n v i z c NUMBER_AT (lo ∷ hi ∷ []) m text answers) (Back lo hi text answers (Written m (digits_of number))) (digits_of number) 458
 
 -- ---- Random
 
@@ -172,27 +165,25 @@ NumberLaw =
 abbrev pub is_seed : ℕ → Bool
 is_seed a = a == SEEDED || within SEED (SEED + 1) a
 
--- the state of RND before a call
-abbrev pub seed_of : (ℕ → ℕ) → ℕ
-seed_of m = if m SEEDED == 0 then word_in m RIGHT else word_in m SEED
+-- the state of RND before a call, where the option is that of a first one
+abbrev pub seed_of : (ℕ → ℕ) → ℕ → ℕ → ℕ
+seed_of m option stored = if m SEEDED == 0 then option else stored
 
 -- memory after Random: the state after seed is stored, RESULT is it modulo bound; LEFT, RIGHT and SCRATCH are lost
 pub record Drawn (m0 : ℕ → ℕ) (bound seed : ℕ) (m : ℕ → ℕ) : Type 0 where
-  pub is_word : IsWord m RESULT
-  pub value : word_in m RESULT ≡ seed_after seed % bound
-  pub seed_is : IsWord m SEED
-  pub seed_at : word_in m SEED ≡ seed_after seed
+  pub result : WordAt m RESULT (seed_after seed % bound)
+  pub seed_at : WordAt m SEED (seed_after seed)
   pub seeded : m SEEDED ≡ 1
   pub others : (a : ℕ) → is_argument a ≡ false → (a == SCRATCH) ≡ false → is_seed a ≡ false → m a ≡ m0 a
 
 -- Random takes the next seed, and gives what the bound leaves of it
 abbrev pub RandomLaw : Type 0
 RandomLaw =
-    (f : Setup) → Fits f 6 → Holds block_part f.code → (lo hi : ℕ) (text answers : List ℕ) (m : ℕ → ℕ) (a x y : ℕ) (n v i z c : Bool) → IsWord m LEFT → IsWord m RIGHT → IsWord m SEED → 1 ≤ word_in m LEFT → word_in m LEFT < 32768 →
-    Comes f (view a x y n v i z c RANDOM_AT (lo ∷ hi ∷ []) m text answers) (Back lo hi text answers (Drawn m (word_in m LEFT) (seed_of m))) [] 549
+    (f : Setup) → Fits f 6 → Holds block_part f.code → (lo hi : ℕ) (text answers : List ℕ) (m : ℕ → ℕ) (a x y : ℕ) (n v i z c : Bool) (bound option stored : ℕ) → WordAt m LEFT bound → WordAt m RIGHT option → WordAt m SEED stored → 1 ≤ bound → bound < 32768 →
+    Comes f (view a x y n v i z c RANDOM_AT (lo ∷ hi ∷ []) m text answers) (Back lo hi text answers (Drawn m bound (seed_of m option stored))) [] 549
 
 -- for a bound below 1, Random comes to Fault with 3, with memory as it was
 abbrev pub RandomRangeLaw : Type 0
 RandomRangeLaw =
-    (f : Setup) → Fits f 2 → Holds block_part f.code → (lo hi : ℕ) (text answers : List ℕ) (m : ℕ → ℕ) (a x y : ℕ) (n v i z c : Bool) → IsWord m LEFT → (word_in m LEFT ≡ 0) ⊎ (32768 ≤ word_in m LEFT) →
-    Comes f (view a x y n v i z c RANDOM_AT (lo ∷ hi ∷ []) m text answers) (Faults lo hi text answers m 3) [] 7
+    (f : Setup) → Fits f 2 → Holds block_part f.code → (lo hi : ℕ) (text answers : List ℕ) (m : ℕ → ℕ) (a x y : ℕ) (n v i z c : Bool) (bound : ℕ) → WordAt m LEFT bound → (bound ≡ 0) ⊎ (32768 ≤ bound) →
+    Comes f (view a x y n v i z c RANDOM_AT (lo ∷ hi ∷ []) m text answers) (Faults lo hi text answers 3 (λ w. w ≡ m)) [] 7

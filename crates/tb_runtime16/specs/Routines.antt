@@ -3,25 +3,22 @@ use Rattle.std.specs.Prelude.{◌≡◌, ◌≢◌, ℕ, suc, ◌+◌, ◌*◌, 
 use Rattle.tb_cpu.specs.Effects.{bit}
 use Rattle.tb_kernal.specs.Machine.{first_or_zero}
 use Rattle.tb_memmap.specs.Regions.{within}
-use Rattle.tb_words.specs.Words.{word, magnitude, quotient, digits_of, seed_after}
+use Rattle.tb_words.specs.Words.{word, magnitude, quotient, digits_of}
 use Rattle.tb_lower.specs.Control.{fault_text, zone, column_after, has_line}
 use Rattle.tb_lower.specs.Input.{Got, Bad, Dry, Nothing, turn}
-use Rattle.tb_runtime16.specs.Places.{VARS, HELD, NOTE_LOW, NOTE_HIGH, POINTER, COLUMN, OPEN, SEEDED, HOME_S, SEED, LINE, NOTES, LEFT, RIGHT, RESULT, TABLE, WANTED, COUNT, LENGTH, SEND_AT, MULTIPLY_AT, DIVIDE_AT, RANDOM_AT, NUMBER_AT, TEXT_AT, ZONE_AT, INPUT_AT, SEARCH_AT, PUSH_AT, POP_AT, FAULT_LINE_AT, FAULT_AT, POLL_AT}
+use Rattle.tb_runtime16.specs.Places.{VARS, HELD, NOTE_LOW, NOTE_HIGH, POINTER, COLUMN, OPEN, SEEDED, SEED, LINE, NOTES, LEFT, RIGHT, TABLE, WANTED, COUNT, LENGTH, SEND_AT, MULTIPLY_AT, DIVIDE_AT, RANDOM_AT, NUMBER_AT, TEXT_AT, ZONE_AT, INPUT_AT, SEARCH_AT, PUSH_AT, POP_AT, FAULT_LINE_AT, FAULT_AT, POLL_AT}
 use Rattle.tb_reaching.specs.View.{View, Setup, Part, Holds, Fits, Comes, back_at, Bytes}
-use Rattle.tb_reaching.specs.Start.{IsHome, IsWaiting, Homed}
+use Rattle.tb_reaching.specs.Start.{IsHome, IsWaiting}
 use Rattle.tb_runtime16.specs.Block.{block_part}
-use Rattle.tb_runtime16.specs.Laws.{AllBytes}
-use Rattle.tb_runtime16.specs.Input.{prompt}
+pub use Rattle.tb_runtime16.specs.Laws.{WordAt}
+use Rattle.tb_runtime16.specs.Laws.{AllBytes, Leaves, Gives, Parts, Drawn, is_argument}
+pub use Rattle.tb_runtime16.specs.Ends.{Entered}
+use Rattle.tb_runtime16.specs.Input.{prompt, Taken}
 pub use Rattle.tb_runtime16.specs.Notes.{Noted}
-use Rattle.tb_runtime16.specs.Search.{Line, table_bytes, Rising, AllWords}
+use Rattle.tb_runtime16.specs.Notes.{Popped, Pushed}
+use Rattle.tb_runtime16.specs.Search.{Line, table_bytes, Rising, AllWords, search_changes}
 
 -- ---- memory
-
--- a word, low byte first
-pub record WordAt (m : ℕ → ℕ) (at w : ℕ) : Type 0 where
-  pub low : m at ≡ w % 256
-  pub high : m (at + 1) ≡ w / 256
-  pub small : w < 65536
 
 -- the places that a program's state is kept at; all others are scratch
 abbrev pub is_owned : ℕ → Bool
@@ -31,11 +28,6 @@ is_owned a = within VARS (HELD + 1) a || within NOTE_LOW (NOTE_HIGH + 499) a
 pub data SeedAt (m : ℕ → ℕ) (option seed : ℕ) : Type 0 where
   stored : m SEEDED ≡ 1 → WordAt m SEED seed → SeedAt m option seed
   first : m SEEDED ≡ 0 → seed ≡ option → seed < 65536 → (old : ℕ) → WordAt m SEED old → SeedAt m option seed
-
--- the return address of the start is lo, hi on the stack, and the stack pointer's place of it is kept
-pub record Entered (f : Setup) (lo hi : ℕ) (m : ℕ → ℕ) : Type 0 where
-  pub homed : Homed f lo hi
-  pub kept : m HOME_S + 2 ≡ f.home_s
 
 -- ---- views
 
@@ -68,83 +60,10 @@ pub record Waiting (w : View) : Type 0 where
   pub waits : IsWaiting w
   pub deep : length w.stack ≤ 14
 
--- back at the caller, with the owned places as they were
-pub record Back (at : ℕ) (bs : List ℕ) (m : ℕ → ℕ) (keys gets : List ℕ) (w : View) : Type 0 where
-  pub pc : w.regs.pc ≡ at
-  pub stack : w.stack ≡ bs
-  pub binary : w.regs.flags.d ≡ false
-  pub text : w.text ≡ keys
-  pub answers : w.answers ≡ gets
-  pub others : (a : ℕ) → is_owned a ≡ true → w.mem a ≡ m a
-
--- the same with a result
-pub record Gives (at : ℕ) (bs : List ℕ) (m : ℕ → ℕ) (keys gets : List ℕ) (v : ℕ) (w : View) : Type 0 where
-  pub back : Back at bs m keys gets w
-  pub result : WordAt w.mem RESULT v
-
--- the same with a quotient, and the size of the remainder
-pub record Parts (at : ℕ) (bs : List ℕ) (m : ℕ → ℕ) (keys gets : List ℕ) (q r : ℕ) (w : View) : Type 0 where
-  pub back : Back at bs m keys gets w
-  pub left : WordAt w.mem LEFT q
-  pub rest : WordAt w.mem RESULT r
-
--- back with bytes sent
-pub record Told (at : ℕ) (bs : List ℕ) (m : ℕ → ℕ) (keys gets sent : List ℕ) (w : View) : Type 0 where
-  pub pc : w.regs.pc ≡ at
-  pub stack : w.stack ≡ bs
-  pub binary : w.regs.flags.d ≡ false
-  pub text : w.text ≡ keys
-  pub answers : w.answers ≡ gets
-  pub column : w.mem COLUMN ≡ column_after (m COLUMN) sent % 256
-  pub others : (a : ℕ) → is_owned a ≡ true → a ≢ COLUMN → w.mem a ≡ m a
-
--- back with the newest note taken away
-pub record Popped (at : ℕ) (bs : List ℕ) (m : ℕ → ℕ) (keys gets : List ℕ) (left note : ℕ) (w : View) : Type 0 where
-  pub pc : w.regs.pc ≡ at
-  pub stack : w.stack ≡ bs
-  pub binary : w.regs.flags.d ≡ false
-  pub text : w.text ≡ keys
-  pub answers : w.answers ≡ gets
-  pub result : WordAt w.mem RESULT note
-  pub count : WordAt w.mem NOTES left
-  pub others : (a : ℕ) → is_owned a ≡ true → a ≢ NOTES → a ≢ NOTES + 1 → w.mem a ≡ m a
-
--- back with a note more; the result stands
-pub record Pushed (at : ℕ) (bs : List ℕ) (m : ℕ → ℕ) (keys gets notes : List ℕ) (w : View) : Type 0 where
-  pub pc : w.regs.pc ≡ at
-  pub stack : w.stack ≡ bs
-  pub binary : w.regs.flags.d ≡ false
-  pub text : w.text ≡ keys
-  pub answers : w.answers ≡ gets
-  pub result : w.mem RESULT ≡ m RESULT
-  pub result_high : w.mem (RESULT + 1) ≡ m (RESULT + 1)
-  pub count : WordAt w.mem NOTES (length notes)
-  pub noted : Noted w.mem notes
-  pub others : (a : ℕ) → VARS ≤ a → a ≤ HELD + 1 → a ≢ NOTES → a ≢ NOTES + 1 → w.mem a ≡ m a
-
--- back with a value, and the RND state after it stored
-pub record Drawn (at : ℕ) (bs : List ℕ) (m : ℕ → ℕ) (keys gets : List ℕ) (v seed : ℕ) (w : View) : Type 0 where
-  pub pc : w.regs.pc ≡ at
-  pub stack : w.stack ≡ bs
-  pub binary : w.regs.flags.d ≡ false
-  pub text : w.text ≡ keys
-  pub answers : w.answers ≡ gets
-  pub result : WordAt w.mem RESULT v
-  pub seeded : w.mem SEEDED ≡ 1
-  pub seed_at : WordAt w.mem SEED seed
-  pub others : (a : ℕ) → is_owned a ≡ true → a ≢ SEEDED → a ≢ SEED → a ≢ SEED + 1 → w.mem a ≡ m a
-
--- back with a number that was read, and the text behind it
-pub record Asked (at : ℕ) (bs : List ℕ) (m : ℕ → ℕ) (keys gets sent : List ℕ) (stays : Bool) (v : ℕ) (w : View) : Type 0 where
-  pub pc : w.regs.pc ≡ at
-  pub stack : w.stack ≡ bs
-  pub binary : w.regs.flags.d ≡ false
-  pub text : w.text ≡ keys
-  pub answers : w.answers ≡ gets
-  pub result : WordAt w.mem RESULT v
-  pub opened : w.mem OPEN ≡ bit stays
-  pub column : w.mem COLUMN ≡ column_after (m COLUMN) sent % 256
-  pub others : (a : ℕ) → is_owned a ≡ true → a ≢ OPEN → a ≢ COLUMN → w.mem a ≡ m a
+-- memory after bytes were sent: COLUMN is the column behind them, modulo 256, and the other owned places are as they were
+pub record Sent (m0 : ℕ → ℕ) (sent : List ℕ) (m : ℕ → ℕ) : Type 0 where
+  pub column : m COLUMN ≡ column_after (m0 COLUMN) sent % 256
+  pub others : (a : ℕ) → is_owned a ≡ true → a ≢ COLUMN → m a ≡ m0 a
 
 -- what a turn of INPUT sends behind a number: nothing where the line stays open, else 13
 abbrev pub line_end : Bool → List ℕ
@@ -156,21 +75,21 @@ line_end false = 13 ∷ []
 -- in one setup, for a line table of these numbers, with the start's return address lo, hi on the stack below the call: for every argument, with one bound
 pub record Routines (table seed_option : ℕ) (numbers : List ℕ) (start : ℕ → ℕ) (f : Setup) (lo hi keys limit : ℕ) : Type 0 where
   pub multiply : (l h : ℕ) (m : ℕ → ℕ) (text answers : List ℕ) (a b : ℕ) → WordAt m LEFT a → WordAt m RIGHT b →
-      Moves f (Here MULTIPLY_AT (l ∷ h ∷ lo ∷ hi ∷ []) m text answers) (Gives (back_at l h) (lo ∷ hi ∷ []) m text answers (word (a * b))) [] limit
+      Moves f (Here MULTIPLY_AT (l ∷ h ∷ lo ∷ hi ∷ []) m text answers) (Leaves (back_at l h) (lo ∷ hi ∷ []) text answers (Gives is_argument m (word (a * b)))) [] limit
   pub divide : (l h : ℕ) (m : ℕ → ℕ) (text answers : List ℕ) (a b : ℕ) → WordAt m LEFT a → WordAt m RIGHT b → b ≢ 0 →
-      Moves f (Here DIVIDE_AT (l ∷ h ∷ lo ∷ hi ∷ []) m text answers) (Parts (back_at l h) (lo ∷ hi ∷ []) m text answers (quotient a b) (magnitude a % magnitude b)) [] limit
+      Moves f (Here DIVIDE_AT (l ∷ h ∷ lo ∷ hi ∷ []) m text answers) (Leaves (back_at l h) (lo ∷ hi ∷ []) text answers (Parts is_argument m (quotient a b) (magnitude a % magnitude b))) [] limit
   pub divide_by_zero : (l h : ℕ) (m : ℕ → ℕ) (text answers : List ℕ) (a n : ℕ) → WordAt m LEFT a → WordAt m RIGHT 0 → WordAt m LINE n → Entered f lo hi m →
       Moves f (Here DIVIDE_AT (l ∷ h ∷ lo ∷ hi ∷ []) m text answers) (IsHome f) (fault_text 2 n) limit
   pub number : (l h : ℕ) (m : ℕ → ℕ) (text answers : List ℕ) (a : ℕ) → WordAt m LEFT a → m COLUMN < 256 →
-      Moves f (Here NUMBER_AT (l ∷ h ∷ lo ∷ hi ∷ []) m text answers) (Told (back_at l h) (lo ∷ hi ∷ []) m text answers (digits_of a)) (digits_of a) limit
+      Moves f (Here NUMBER_AT (l ∷ h ∷ lo ∷ hi ∷ []) m text answers) (Leaves (back_at l h) (lo ∷ hi ∷ []) text answers (Sent m (digits_of a))) (digits_of a) limit
   pub text : (l h : ℕ) (m : ℕ → ℕ) (text answers : List ℕ) (at : ℕ) (bytes : List ℕ) → WordAt m POINTER at → m LENGTH ≡ length bytes → Bytes f.code at bytes → AllBytes bytes → 0x0800 ≤ at → at + length bytes ≤ 0xa000 → length bytes < 256 → m COLUMN < 256 →
-      Moves f (Here TEXT_AT (l ∷ h ∷ lo ∷ hi ∷ []) m text answers) (Told (back_at l h) (lo ∷ hi ∷ []) m text answers bytes) bytes limit
+      Moves f (Here TEXT_AT (l ∷ h ∷ lo ∷ hi ∷ []) m text answers) (Leaves (back_at l h) (lo ∷ hi ∷ []) text answers (Sent m bytes)) bytes limit
   pub zone : (l h : ℕ) (m : ℕ → ℕ) (text answers : List ℕ) → m COLUMN < 256 →
-      Moves f (Here ZONE_AT (l ∷ h ∷ lo ∷ hi ∷ []) m text answers) (Told (back_at l h) (lo ∷ hi ∷ []) m text answers (zone (m COLUMN))) (zone (m COLUMN)) limit
+      Moves f (Here ZONE_AT (l ∷ h ∷ lo ∷ hi ∷ []) m text answers) (Leaves (back_at l h) (lo ∷ hi ∷ []) text answers (Sent m (zone (m COLUMN)))) (zone (m COLUMN)) limit
   pub send : (l h : ℕ) (m : ℕ → ℕ) (text answers : List ℕ) (b : ℕ) → b < 256 →
-      Moves f (WithA SEND_AT b (l ∷ h ∷ lo ∷ hi ∷ []) m text answers) (Told (back_at l h) (lo ∷ hi ∷ []) m text answers (b ∷ [])) (b ∷ []) limit
+      Moves f (WithA SEND_AT b (l ∷ h ∷ lo ∷ hi ∷ []) m text answers) (Leaves (back_at l h) (lo ∷ hi ∷ []) text answers (Sent m (b ∷ []))) (b ∷ []) limit
   pub search : (l h : ℕ) (m : ℕ → ℕ) (text answers : List ℕ) (n : ℕ) → WordAt m WANTED n → WordAt m TABLE table → WordAt m COUNT (length numbers) → has_line numbers n ≡ true →
-      Moves f (Here SEARCH_AT (l ∷ h ∷ lo ∷ hi ∷ []) m text answers) (Gives (back_at l h) (lo ∷ hi ∷ []) m text answers (start n)) [] limit
+      Moves f (Here SEARCH_AT (l ∷ h ∷ lo ∷ hi ∷ []) m text answers) (Leaves (back_at l h) (lo ∷ hi ∷ []) text answers (Gives search_changes m (start n))) [] limit
   pub search_fails : (l h : ℕ) (m : ℕ → ℕ) (text answers : List ℕ) (n at : ℕ) → WordAt m WANTED n → WordAt m TABLE table → WordAt m COUNT (length numbers) → has_line numbers n ≡ false → WordAt m LINE at → Entered f lo hi m →
       Moves f (Here SEARCH_AT (l ∷ h ∷ lo ∷ hi ∷ []) m text answers) (IsHome f) (fault_text 1 at) limit
   pub fault : (k : ℕ) → k < 10 → (m : ℕ → ℕ) (text answers : List ℕ) (n : ℕ) → WordAt m LINE n → Entered f lo hi m →
@@ -178,25 +97,25 @@ pub record Routines (table seed_option : ℕ) (numbers : List ℕ) (start : ℕ 
   pub fault_line : (k : ℕ) → k < 10 → (m : ℕ → ℕ) (text answers : List ℕ) (n : ℕ) → n < 65536 → Entered f lo hi m →
       Moves f (WithLine FAULT_LINE_AT k n (lo ∷ hi ∷ []) m text answers) (IsHome f) (fault_text k n) limit
   pub pop : (l h : ℕ) (m : ℕ → ℕ) (text answers : List ℕ) (note : ℕ) (notes : List ℕ) → WordAt m NOTES (suc (length notes)) → Noted m (note ∷ notes) → suc (length notes) ≤ 500 →
-      Moves f (Here POP_AT (l ∷ h ∷ lo ∷ hi ∷ []) m text answers) (Popped (back_at l h) (lo ∷ hi ∷ []) m text answers (length notes) note) [] limit
+      Moves f (Here POP_AT (l ∷ h ∷ lo ∷ hi ∷ []) m text answers) (Leaves (back_at l h) (lo ∷ hi ∷ []) text answers (Popped m note notes)) [] limit
   pub pop_fails : (l h : ℕ) (m : ℕ → ℕ) (text answers : List ℕ) (n : ℕ) → WordAt m NOTES 0 → WordAt m LINE n → Entered f lo hi m →
       Moves f (Here POP_AT (l ∷ h ∷ lo ∷ hi ∷ []) m text answers) (IsHome f) (fault_text 5 n) limit
   pub random : (l h : ℕ) (m : ℕ → ℕ) (text answers : List ℕ) (a seed : ℕ) → WordAt m LEFT a → WordAt m RIGHT seed_option → SeedAt m seed_option seed → (nat_eq a 0 || nat_le 32768 a) ≡ false →
-      Moves f (Here RANDOM_AT (l ∷ h ∷ lo ∷ hi ∷ []) m text answers) (Drawn (back_at l h) (lo ∷ hi ∷ []) m text answers (seed_after seed % a) (seed_after seed)) [] limit
+      Moves f (Here RANDOM_AT (l ∷ h ∷ lo ∷ hi ∷ []) m text answers) (Leaves (back_at l h) (lo ∷ hi ∷ []) text answers (Drawn m a seed)) [] limit
   pub random_fails : (l h : ℕ) (m : ℕ → ℕ) (text answers : List ℕ) (a n : ℕ) → WordAt m LEFT a → (nat_eq a 0 || nat_le 32768 a) ≡ true → WordAt m LINE n → Entered f lo hi m →
       Moves f (Here RANDOM_AT (l ∷ h ∷ lo ∷ hi ∷ []) m text answers) (IsHome f) (fault_text 3 n) limit
   pub push : (l h : ℕ) (m : ℕ → ℕ) (text answers : List ℕ) (note : ℕ) (notes : List ℕ) → WordAt m LEFT note → WordAt m NOTES (length notes) → Noted m notes → length notes < 500 →
-      Moves f (Here PUSH_AT (l ∷ h ∷ lo ∷ hi ∷ []) m text answers) (Pushed (back_at l h) (lo ∷ hi ∷ []) m text answers (note ∷ notes)) [] limit
+      Moves f (Here PUSH_AT (l ∷ h ∷ lo ∷ hi ∷ []) m text answers) (Leaves (back_at l h) (lo ∷ hi ∷ []) text answers (Pushed m (note ∷ notes))) [] limit
   pub push_fails : (l h : ℕ) (m : ℕ → ℕ) (text answers notes : List ℕ) (n : ℕ) → WordAt m NOTES (length notes) → Noted m notes → length notes ≡ 500 → WordAt m LINE n → Entered f lo hi m →
       Moves f (Here PUSH_AT (l ∷ h ∷ lo ∷ hi ∷ []) m text answers) (IsHome f) (fault_text 4 n) limit
   pub input : (l h : ℕ) (m : ℕ → ℕ) (text answers : List ℕ) (o stays : Bool) (v : ℕ) (left : List ℕ) (n : ℕ) → m OPEN ≡ bit o → m COLUMN < 256 → AllBytes text → length text ≤ keys → WordAt m LINE n → Entered f lo hi m → turn Nothing text ≡ Got v stays left →
-      Moves f (Here INPUT_AT (l ∷ h ∷ lo ∷ hi ∷ []) m text answers) (Asked (back_at l h) (lo ∷ hi ∷ []) m left answers (prompt o ++ line_end stays) stays v) (prompt o ++ line_end stays) limit
+      Moves f (Here INPUT_AT (l ∷ h ∷ lo ∷ hi ∷ []) m text answers) (Leaves (back_at l h) (lo ∷ hi ∷ []) left answers (Taken m (column_after (m COLUMN) (prompt o ++ line_end stays) % 256) v stays)) (prompt o ++ line_end stays) limit
   pub input_fails : (l h : ℕ) (m : ℕ → ℕ) (text answers : List ℕ) (o : Bool) (n : ℕ) → m OPEN ≡ bit o → m COLUMN < 256 → AllBytes text → length text ≤ keys → turn Nothing text ≡ Bad → WordAt m LINE n → Entered f lo hi m →
       Moves f (Here INPUT_AT (l ∷ h ∷ lo ∷ hi ∷ []) m text answers) (IsHome f) (prompt o ++ fault_text 6 n) limit
   pub input_waits : (l h : ℕ) (m : ℕ → ℕ) (text answers : List ℕ) (o : Bool) (n : ℕ) → m OPEN ≡ bit o → m COLUMN < 256 → AllBytes text → length text ≤ keys → turn Nothing text ≡ Dry → WordAt m LINE n → Entered f lo hi m →
       Moves f (Here INPUT_AT (l ∷ h ∷ lo ∷ hi ∷ []) m text answers) Waiting (prompt o) limit
   pub poll : (l h : ℕ) (m : ℕ → ℕ) (text answers : List ℕ) (n : ℕ) → AllBytes answers → nat_eq (first_or_zero answers) 3 ≡ false → WordAt m LINE n → Entered f lo hi m →
-      Moves f (Here POLL_AT (l ∷ h ∷ lo ∷ hi ∷ []) m text answers) (Back (back_at l h) (lo ∷ hi ∷ []) m text (drop 1 answers)) [] limit
+      Moves f (Here POLL_AT (l ∷ h ∷ lo ∷ hi ∷ []) m text answers) (Leaves (back_at l h) (lo ∷ hi ∷ []) text (drop 1 answers) (λ w. w ≡ m)) [] limit
   pub poll_breaks : (l h : ℕ) (m : ℕ → ℕ) (text answers : List ℕ) (n : ℕ) → AllBytes answers → nat_eq (first_or_zero answers) 3 ≡ true → WordAt m LINE n → Entered f lo hi m →
       Moves f (Here POLL_AT (l ∷ h ∷ lo ∷ hi ∷ []) m text answers) (IsHome f) (fault_text 0 n) limit
 

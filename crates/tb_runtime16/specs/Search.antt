@@ -1,12 +1,10 @@
 -- The line table and Search.
-use Rattle.std.specs.Prelude.{◌≡◌, ◌<◌, ◌≤◌, Bool, ℕ, List, [], ◌∷◌, ◌+◌, ◌*◌, ◌/◌, ◌%◌, ◌||◌, if◌then◌else◌, nat_eq, length, Option, Some, None}
-use Rattle.tb_cpu.specs.Operands.{word_in}
+use Rattle.std.specs.Prelude.{◌<◌, ◌≤◌, Bool, ℕ, List, [], ◌∷◌, ◌+◌, ◌*◌, ◌/◌, ◌%◌, ◌||◌, if◌then◌else◌, nat_eq, length, Option, Some, None}
 use Rattle.tb_memmap.specs.Regions.{within}
 use Rattle.tb_reaching.specs.View.{View, Setup, Holds, Fits, Comes, view, Bytes}
 use Rattle.tb_runtime16.specs.Places.{SEARCH_AT, POINTER, WANTED, RESULT, TABLE, COUNT, SCRATCH}
 use Rattle.tb_runtime16.specs.Block.{block_part}
-use Rattle.tb_runtime16.specs.Laws.{IsWord}
-use Rattle.tb_runtime16.specs.Notes.{Returned, Faulted}
+use Rattle.tb_runtime16.specs.Laws.{WordAt, Changes, Back, Faults, Gives}
 
 -- ---- the table: pairs of a line's number and its code's address
 -- a line: its number, and the address of its code
@@ -42,17 +40,11 @@ address_of t (e ∷ es) = let later = address_of t es in if nat_eq e.0 t then So
 abbrev pub search_changes : ℕ → Bool
 search_changes a = within POINTER (TABLE + 1) a || (within RESULT (RESULT + 1) a || (within COUNT (COUNT + 1) a || within SCRATCH (SCRATCH + 1) a))
 
--- back from Search with a line's address at RESULT
-pub record Found (lo hi : ℕ) (m : ℕ → ℕ) (text answers : List ℕ) (address : ℕ) (w : View) : Type 0 where
-  pub back : Returned lo hi search_changes m text answers w
-  pub is_word : IsWord w.mem RESULT
-  pub result : word_in w.mem RESULT ≡ address
-
 -- back with the address, or at Fault with 1
 abbrev pub Searched : ℕ → ℕ → (ℕ → ℕ) → List ℕ → List ℕ → Option ℕ → View → Type 0
-Searched lo hi m text answers (Some address) w = Found lo hi m text answers address w
-Searched lo hi m text answers None w = Faulted 1 lo hi search_changes m text answers w
+Searched lo hi m text answers (Some address) w = Back lo hi text answers (Gives search_changes m address) w
+Searched lo hi m text answers None w = Faults lo hi text answers 1 (Changes search_changes m) w
 
 -- Search gives the address of the line with the number at WANTED, or comes to Fault with 1, within 510 Go events for every table
 abbrev pub SearchLaw : Type 0
-SearchLaw = (f : Setup) → Fits f 2 → Holds block_part f.code → (lo hi : ℕ) (text answers : List ℕ) (m : ℕ → ℕ) (a x y : ℕ) (n v i z c : Bool) (lines : List Line) → IsWord m WANTED → IsWord m TABLE → IsWord m COUNT → Bytes f.code (word_in m TABLE) (table_bytes lines) → 0x0800 ≤ word_in m TABLE → word_in m TABLE + 4 * length lines ≤ 0xa000 → word_in m COUNT ≡ length lines → 1 ≤ length lines → Rising lines → AllWords lines → Comes f (view a x y n v i z c SEARCH_AT (lo ∷ hi ∷ []) m text answers) (Searched lo hi m text answers (address_of (word_in m WANTED) lines)) [] 510
+SearchLaw = (f : Setup) → Fits f 2 → Holds block_part f.code → (lo hi : ℕ) (text answers : List ℕ) (m : ℕ → ℕ) (a x y : ℕ) (n v i z c : Bool) (number table : ℕ) (lines : List Line) → WordAt m WANTED number → WordAt m TABLE table → WordAt m COUNT (length lines) → Bytes f.code table (table_bytes lines) → 0x0800 ≤ table → table + 4 * length lines ≤ 0xa000 → 1 ≤ length lines → Rising lines → AllWords lines → Comes f (view a x y n v i z c SEARCH_AT (lo ∷ hi ∷ []) m text answers) (Searched lo hi m text answers (address_of number lines)) [] 510

@@ -1,0 +1,34 @@
+-- What a program owns is none of the places that routines change.
+use Rattle.std.proofs.Common.{◌≡◌, ◌≢◌, ℕ, ◌+◌, ◌≤◌, true, false, arith}
+use Rattle.std.specs.Prelude.{◌==◌}
+use Rattle.std.proofs.lemmas.Bool.Decides.{nat_tests}
+use Rattle.tb_runtime16.specs.Places.{VARS, HELD, POINTER, COLUMN, OPEN, SEEDED, SEED, NOTES, LENGTH, SCRATCH}
+use Rattle.tb_runtime16.specs.Laws.{is_argument, is_seed}
+use Rattle.tb_runtime16.specs.Input.{is_changed}
+use Rattle.tb_runtime16.specs.Notes.{push_changes, pop_changes}
+use Rattle.tb_runtime16.specs.Search.{search_changes}
+use Rattle.tb_runtime16.specs.Routines.{is_owned}
+
+pub not_argument : (a : ℕ) → is_owned a ≡ true → is_argument a ≡ false
+not_argument a h = grind (arith, nat_tests)
+
+pub not_scratch : (a : ℕ) → is_owned a ≡ true → (a == SCRATCH) ≡ false
+not_scratch a h = grind (arith, nat_tests)
+
+pub not_seed : (a : ℕ) → a ≢ SEEDED → a ≢ SEED → a ≢ SEED + 1 → is_seed a ≡ false
+not_seed a p q r = grind (arith, nat_tests)
+
+pub not_searched : (a : ℕ) → is_owned a ≡ true → search_changes a ≡ false
+not_searched a h = grind (arith, nat_tests)
+
+pub not_popped : (a : ℕ) → is_owned a ≡ true → a ≢ NOTES → a ≢ NOTES + 1 → pop_changes a ≡ false
+not_popped a h p q = grind (arith, nat_tests)
+
+pub not_pushed : (a : ℕ) → VARS ≤ a → a ≤ HELD + 1 → a ≢ NOTES → a ≢ NOTES + 1 → push_changes a ≡ false
+not_pushed a from to p q = grind (arith, nat_tests)
+
+pub not_asked : (a : ℕ) → is_owned a ≡ true → a ≢ OPEN → a ≢ COLUMN → is_changed a ≡ false
+not_asked a h p q = grind (arith, nat_tests)
+
+pub not_pointer : (a : ℕ) → is_owned a ≡ true → (a ≢ POINTER) × (a ≢ POINTER + 1) × (a ≢ LENGTH)
+not_pointer a h = ((λ e. grind (arith, nat_tests)), (λ e. grind (arith, nat_tests)), (λ e. grind (arith, nat_tests)))
