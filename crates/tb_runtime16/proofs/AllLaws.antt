@@ -1,25 +1,25 @@
 -- The laws of all routines in one form, from the block's bytes.
-use Rattle.std.proofs.Common.{◌≡◌, ◌≢◌, ℕ, suc, ◌+◌, ◌*◌, ◌/◌, ◌%◌, ◌<◌, ◌≤◌, Bool, true, false, ◌||◌, List, [], ◌∷◌, ◌++◌, length, refl, sym, ap, ◌∙◌, subst, ⊎_elim, inl, inr, ◌⊎◌, Option, Some, None, arith, drop, append-nil}
+use Rattle.std.proofs.Common.{◌≡◌, ℕ, ◌+◌, ◌*◌, ◌/◌, ◌%◌, ◌<◌, ◌≤◌, Bool, true, false, ◌||◌, List, [], ◌∷◌, ◌++◌, length, refl, sym, ap, ◌∙◌, subst, ⊎_elim, inl, inr, ◌⊎◌, Option, Some, None, arith, append-nil}
 use Rattle.std.specs.Prelude.{nat_eq, nat_le, ◌==◌, if◌then◌else◌}
 use Rattle.std.proofs.lemmas.Bool.{eq-eqb, cases_eq, or_cases, eqb-true, leb-true}
 use Rattle.std.proofs.lemmas.Bool.Decides.{nat_tests}
 use Rattle.tb_cpu.specs.Effects.{bit}
 use Rattle.tb_kernal.specs.Machine.{first_or_zero}
-use Rattle.tb_words.specs.Words.{word, magnitude, quotient, digits_of}
-use Rattle.tb_lower.specs.Control.{fault_text, zone, column_after, has_line}
+use Rattle.tb_words.specs.Words.{digits_of}
+use Rattle.tb_lower.specs.Control.{fault_text, zone, column_after}
 use Rattle.tb_lower.specs.Input.{Turn, Got, Bad, Dry, Nothing, turn}
-use Rattle.tb_runtime16.specs.Places.{POINTER, COLUMN, OPEN, HOME_S, SEED, LINE, NOTES, LEFT, RIGHT, TABLE, WANTED, COUNT, LENGTH, SEND_AT, MULTIPLY_AT, DIVIDE_AT, RANDOM_AT, NUMBER_AT, TEXT_AT, ZONE_AT, INPUT_AT, SEARCH_AT, PUSH_AT, POP_AT, FAULT_LINE_AT, FAULT_AT, POLL_AT}
-use Rattle.tb_reaching.specs.View.{View, Setup, Holds, Fits, Comes, view, back_at, Bytes}
+use Rattle.tb_runtime16.specs.Places.{COLUMN, OPEN, HOME_S, SEED, LINE, NOTES, TABLE, WANTED, COUNT, RANDOM_AT, INPUT_AT, SEARCH_AT, FAULT_LINE_AT}
+use Rattle.tb_reaching.specs.View.{View, Setup, Holds, Fits, Comes, view, back_at}
 use Rattle.tb_reaching.specs.Start.{IsHome, IsWaiting}
 use Rattle.tb_reaching.proofs.Comes.{looser}
 use Rattle.tb_reaching.proofs.Calls.{under}
 use Rattle.tb_runtime16.specs.Block.{block_part}
-use Rattle.tb_runtime16.specs.Laws.{AllBytes, Leaves, Back, Gives, Parts, Drawn, is_argument, seed_of}
+use Rattle.tb_runtime16.specs.Laws.{AllBytes, Leaves, Back, Drawn, seed_of}
 use Rattle.tb_runtime16.specs.Input as asking
 use Rattle.tb_runtime16.specs.Input.{prompt, Taken}
-use Rattle.tb_runtime16.specs.Notes.{Noted, Notes, Popped, Pushed}
-use Rattle.tb_runtime16.specs.Search.{search_changes, address_of, Searched}
-use Rattle.tb_runtime16.specs.Routines.{WordAt, SeedAt, stored, first, Entered, Here, WithA, WithLine, Moves, Waiting, Sent, line_end, Tabled, entries, limit_by, AllLaws}
+use Rattle.tb_runtime16.specs.Notes.{Noted, Notes}
+use Rattle.tb_runtime16.specs.Search.{address_of, Searched}
+use Rattle.tb_runtime16.specs.Routines.{WordAt, SeedAt, stored, first, Entered, line_end, Tabled, entries, limit_by, Routines, AllLaws}
 use Rattle.tb_runtime16.proofs.Gathered.{from_here, from_a, from_line, beside, unchanged, faulting, number_column, entries_length, found, not_found}
 use Rattle.tb_runtime16.proofs.Owned.{not_argument, not_pointer}
 use Rattle.tb_runtime16.proofs.SendRuns.{send_law}
@@ -87,203 +87,118 @@ module _ (table seed_option : ℕ) (numbers : List ℕ) (start : ℕ → ℕ) (f
   taken l h m answers false v left true w k = k
   taken l h m answers false v left false w k = k
 
-  multiply_clause : (l h : ℕ) (m : ℕ → ℕ) (text answers : List ℕ) (a b : ℕ) → WordAt m LEFT a → WordAt m RIGHT b →
-      Moves f (Here MULTIPLY_AT (l ∷ h ∷ lo ∷ hi ∷ []) m text answers) (Leaves (back_at l h) (lo ∷ hi ∷ []) text answers (Gives is_argument m (word (a * b)))) [] (limit_by keys)
-  multiply_clause l h m text answers a b left right =
-      from_here f _ _ m text answers _ [] (limit_by keys) (λ x y z n v i c d.
-      beside f own _ _ _ _ _ _ [] 245 (limit_by keys) (omega arith)
-      (multiply_law (under f own) (omega (arith, fits)) block l h text answers m x y z n v i c d a b left right)
-      (λ w k. k))
-
-  divide_clause : (l h : ℕ) (m : ℕ → ℕ) (text answers : List ℕ) (a b : ℕ) → WordAt m LEFT a → WordAt m RIGHT b → b ≢ 0 →
-      Moves f (Here DIVIDE_AT (l ∷ h ∷ lo ∷ hi ∷ []) m text answers) (Leaves (back_at l h) (lo ∷ hi ∷ []) text answers (Parts is_argument m (quotient a b) (magnitude a % magnitude b))) [] (limit_by keys)
-  divide_clause l h m text answers a b left right some =
-      from_here f _ _ m text answers _ [] (limit_by keys) (λ x y z n v i c d.
-      beside f own _ _ _ _ _ _ [] 316 (limit_by keys) (omega arith)
-      (divide_law (under f own) (omega (arith, fits)) block l h text answers m x y z n v i c d a b left right (⊎_elim (λ e. absurd (some e)) (λ e. e) (zero_or b)))
-      (λ w k. k))
-
-  divide_by_zero_clause : (l h : ℕ) (m : ℕ → ℕ) (text answers : List ℕ) (a n : ℕ) → WordAt m LEFT a → WordAt m RIGHT 0 → WordAt m LINE n → Entered f lo hi m →
-      Moves f (Here DIVIDE_AT (l ∷ h ∷ lo ∷ hi ∷ []) m text answers) (IsHome f) (fault_text 2 n) (limit_by keys)
-  divide_by_zero_clause l h m text answers a j left right line e =
-      from_here f _ _ m text answers _ (fault_text 2 j) (limit_by keys) (λ x y z n v i c d.
-      faulting f lo hi fits block l h 2 (let s : 2 < 10 = omega arith in s) m text answers j line e _ _ 5 (limit_by keys) (omega arith)
-      (divide_by_zero_law (under f own) (omega (arith, fits)) block l h text answers m x y z n v i c d right)
-      (unchanged m))
-
-  number_clause : (l h : ℕ) (m : ℕ → ℕ) (text answers : List ℕ) (a : ℕ) → WordAt m LEFT a → m COLUMN < 256 →
-      Moves f (Here NUMBER_AT (l ∷ h ∷ lo ∷ hi ∷ []) m text answers) (Leaves (back_at l h) (lo ∷ hi ∷ []) text answers (Sent m (digits_of a))) (digits_of a) (limit_by keys)
-  number_clause l h m text answers a left column =
-      from_here f _ _ m text answers _ (digits_of a) (limit_by keys) (λ x y z n v i c d.
-      beside f own _ _ _ _ _ _ (digits_of a) 458 (limit_by keys) (omega arith)
-      (number_law (under f own) (omega (arith, fits)) block l h text answers m x y z n v i c d a left column)
-      (λ w k. record { column = k.column ∙ number_column (m COLUMN) a; others = λ p o q. k.others p (not_argument p o) q }))
-
-  text_clause : (l h : ℕ) (m : ℕ → ℕ) (text answers : List ℕ) (at : ℕ) (bytes : List ℕ) → WordAt m POINTER at → m LENGTH ≡ length bytes → Bytes f.code at bytes → AllBytes bytes → 0x0800 ≤ at → at + length bytes ≤ 0xa000 → length bytes < 256 → m COLUMN < 256 →
-      Moves f (Here TEXT_AT (l ∷ h ∷ lo ∷ hi ∷ []) m text answers) (Leaves (back_at l h) (lo ∷ hi ∷ []) text answers (Sent m bytes)) bytes (limit_by keys)
-  text_clause l h m text answers at bytes pointer count shown small from to few column =
-      from_here f _ _ m text answers _ bytes (limit_by keys) (λ x y z n v i c d.
-      beside f own _ _ _ _ _ _ bytes (15 * length bytes + 3) (limit_by keys) (omega (arith, few))
-      (text_law (under f own) (omega (arith, fits)) block l h text answers m x y z n v i c d at bytes (record { pointer = pointer; shown = shown; from = from; to = to; count = count; few = few; bytes_small = small }))
-      (λ w k. let s = k.column_small column in record { column = omega (arith, k.column, s); others = λ p o q. let r = not_pointer p o in k.others p q r.0 r.1 r.2 }))
-
-  zone_clause : (l h : ℕ) (m : ℕ → ℕ) (text answers : List ℕ) → m COLUMN < 256 →
-      Moves f (Here ZONE_AT (l ∷ h ∷ lo ∷ hi ∷ []) m text answers) (Leaves (back_at l h) (lo ∷ hi ∷ []) text answers (Sent m (zone (m COLUMN)))) (zone (m COLUMN)) (limit_by keys)
-  zone_clause l h m text answers column =
-      from_here f _ _ m text answers _ (zone (m COLUMN)) (limit_by keys) (λ x y z n v i c d.
-      beside f own _ _ _ _ _ _ (zone (m COLUMN)) 97 (limit_by keys) (omega arith)
-      (zone_law (under f own) (omega (arith, fits)) block l h text answers m x y z n v i c d column)
-      (λ w k. record { column = k.column; others = λ p o q. k.others p q }))
-
-  send_clause : (l h : ℕ) (m : ℕ → ℕ) (text answers : List ℕ) (b : ℕ) → b < 256 →
-      Moves f (WithA SEND_AT b (l ∷ h ∷ lo ∷ hi ∷ []) m text answers) (Leaves (back_at l h) (lo ∷ hi ∷ []) text answers (Sent m (b ∷ []))) (b ∷ []) (limit_by keys)
-  send_clause l h m text answers b small =
-      from_a f _ b _ m text answers _ (b ∷ []) (limit_by keys) (λ y z n v i c d.
-      beside f own _ _ _ _ _ _ (b ∷ []) 7 (limit_by keys) (omega arith)
-      (send_law (under f own) (omega (arith, fits)) block l h text answers m b y z n v i c d small)
-      (λ w k. record { column = k.column; others = λ p o q. k.others p q }))
-
-  search_clause : (l h : ℕ) (m : ℕ → ℕ) (text answers : List ℕ) (n : ℕ) → WordAt m WANTED n → WordAt m TABLE table → WordAt m COUNT (length numbers) → has_line numbers n ≡ true →
-      Moves f (Here SEARCH_AT (l ∷ h ∷ lo ∷ hi ∷ []) m text answers) (Leaves (back_at l h) (lo ∷ hi ∷ []) text answers (Gives search_changes m (start n))) [] (limit_by keys)
-  search_clause l h m text answers n left at count is =
-      from_here f _ _ m text answers _ [] (limit_by keys) (λ x y z b v i c d.
-      beside f own _ _ _ _ _ _ [] 510 (limit_by keys) (omega arith)
-      (searches l h m text answers n (Some (start n)) left at count (found start numbers n is) x y z b v i c d)
-      (λ w k. k))
-
-  search_fails_clause : (l h : ℕ) (m : ℕ → ℕ) (text answers : List ℕ) (n at : ℕ) → WordAt m WANTED n → WordAt m TABLE table → WordAt m COUNT (length numbers) → has_line numbers n ≡ false → WordAt m LINE at → Entered f lo hi m →
-      Moves f (Here SEARCH_AT (l ∷ h ∷ lo ∷ hi ∷ []) m text answers) (IsHome f) (fault_text 1 at) (limit_by keys)
-  search_fails_clause l h m text answers n j left at count none line e =
-      from_here f _ _ m text answers _ (fault_text 1 j) (limit_by keys) (λ x y z b v i c d.
-      faulting f lo hi fits block l h 1 (let s : 1 < 10 = omega arith in s) m text answers j line e _ _ 510 (limit_by keys) (omega arith)
-      (searches l h m text answers n None left at count (not_found start numbers n none) x y z b v i c d)
-      (λ w k. record { line = k LINE refl; line_high = k (LINE + 1) refl; home_s = k HOME_S refl }))
-
-  fault_clause : (k : ℕ) → k < 10 → (m : ℕ → ℕ) (text answers : List ℕ) (n : ℕ) → WordAt m LINE n → Entered f lo hi m →
-      Moves f (WithA FAULT_AT k (lo ∷ hi ∷ []) m text answers) (IsHome f) (fault_text k n) (limit_by keys)
-  fault_clause k small m text answers n line e =
-      from_a f _ k _ m text answers _ (fault_text k n) (limit_by keys) (λ y z b v i c d.
-      looser f _ _ _ (fault_text k n) 540 (limit_by keys) (omega arith) (λ w h. h)
-      (fault_law f 16 (let most : 13 ≤ 16 = omega arith in most) fits block lo hi [] (let deep : 2 ≤ 16 = omega arith in deep) text answers m e n line k y z b v i c d small))
-
-  fault_line_clause : (k : ℕ) → k < 10 → (m : ℕ → ℕ) (text answers : List ℕ) (n : ℕ) → n < 65536 → Entered f lo hi m →
-      Moves f (WithLine FAULT_LINE_AT k n (lo ∷ hi ∷ []) m text answers) (IsHome f) (fault_text k n) (limit_by keys)
-  fault_line_clause k small m text answers n few e =
-      from_line f _ k n _ m text answers _ (fault_text k n) (limit_by keys) (λ b v i c d.
-      looser f _ _ _ (fault_text k n) 542 (limit_by keys) (omega arith) (λ w h. h)
-      (subst (λ j. Comes f (view k (n % 256) (n / 256) b v i c d FAULT_LINE_AT own m text answers) (IsHome f) (fault_text k j) 542) (let s : n % 256 + 256 * (n / 256) ≡ n = omega arith in s)
-      (fault_line_law f 16 (let most : 13 ≤ 16 = omega arith in most) fits block lo hi [] (let deep : 2 ≤ 16 = omega arith in deep) text answers m e k (n % 256) (n / 256) b v i c d small (omega arith) (omega (arith, few)))))
-
-  pop_clause : (l h : ℕ) (m : ℕ → ℕ) (text answers : List ℕ) (note : ℕ) (notes : List ℕ) → WordAt m NOTES (suc (length notes)) → Noted m (note ∷ notes) → suc (length notes) ≤ 500 →
-      Moves f (Here POP_AT (l ∷ h ∷ lo ∷ hi ∷ []) m text answers) (Leaves (back_at l h) (lo ∷ hi ∷ []) text answers (Popped m note notes)) [] (limit_by keys)
-  pop_clause l h m text answers note notes count is few =
-      from_here f _ _ m text answers _ [] (limit_by keys) (λ x y z n v i c d.
-      beside f own _ _ _ _ _ _ [] 14 (limit_by keys) (omega arith)
-      (pop_law (under f own) (omega (arith, fits)) block l h text answers m x y z n v i c d note notes (notes_of m (note ∷ notes) count is few))
-      (λ w k. k))
-
-  pop_fails_clause : (l h : ℕ) (m : ℕ → ℕ) (text answers : List ℕ) (n : ℕ) → WordAt m NOTES 0 → WordAt m LINE n → Entered f lo hi m →
-      Moves f (Here POP_AT (l ∷ h ∷ lo ∷ hi ∷ []) m text answers) (IsHome f) (fault_text 5 n) (limit_by keys)
-  pop_fails_clause l h m text answers j count line e =
-      from_here f _ _ m text answers _ (fault_text 5 j) (limit_by keys) (λ x y z n v i c d.
-      faulting f lo hi fits block l h 5 (let s : 5 < 10 = omega arith in s) m text answers j line e _ _ 6 (limit_by keys) (omega arith)
-      (pop_none_law (under f own) (omega (arith, fits)) block l h text answers m x y z n v i c d (notes_of m [] count tt (let s : 0 ≤ 500 = omega arith in s)))
-      (unchanged m))
-
-  random_clause : (l h : ℕ) (m : ℕ → ℕ) (text answers : List ℕ) (a seed : ℕ) → WordAt m LEFT a → WordAt m RIGHT seed_option → SeedAt m seed_option seed → (nat_eq a 0 || nat_le 32768 a) ≡ false →
-      Moves f (Here RANDOM_AT (l ∷ h ∷ lo ∷ hi ∷ []) m text answers) (Leaves (back_at l h) (lo ∷ hi ∷ []) text answers (Drawn m a seed)) [] (limit_by keys)
-  random_clause l h m text answers a seed left right stored_at range =
-      let g = not_zero a range in
-      let now = seed_at m seed_option seed stored_at in
-      from_here f _ _ m text answers _ [] (limit_by keys) (λ x y z n v i c d.
-      beside f own _ _ _ _ _ _ [] 549 (limit_by keys) (omega arith)
-      (subst (λ s. Comes (under f own) (view x y z n v i c d RANDOM_AT (l ∷ h ∷ []) m text answers) (Back l h text answers (Drawn m a s)) [] 549) now.2
-      (random_law (under f own) (omega (arith, fits)) block l h text answers m x y z n v i c d a seed_option now.0 left right now.1 g.0 g.1))
-      (λ w k. k))
-
-  random_fails_clause : (l h : ℕ) (m : ℕ → ℕ) (text answers : List ℕ) (a n : ℕ) → WordAt m LEFT a → (nat_eq a 0 || nat_le 32768 a) ≡ true → WordAt m LINE n → Entered f lo hi m →
-      Moves f (Here RANDOM_AT (l ∷ h ∷ lo ∷ hi ∷ []) m text answers) (IsHome f) (fault_text 3 n) (limit_by keys)
-  random_fails_clause l h m text answers a j left range line e =
-      from_here f _ _ m text answers _ (fault_text 3 j) (limit_by keys) (λ x y z n v i c d.
-      faulting f lo hi fits block l h 3 (let s : 3 < 10 = omega arith in s) m text answers j line e _ _ 7 (limit_by keys) (omega arith)
-      (random_range_law (under f own) (omega (arith, fits)) block l h text answers m x y z n v i c d a left (bad_range a range))
-      (unchanged m))
-
-  push_clause : (l h : ℕ) (m : ℕ → ℕ) (text answers : List ℕ) (note : ℕ) (notes : List ℕ) → WordAt m LEFT note → WordAt m NOTES (length notes) → Noted m notes → length notes < 500 →
-      Moves f (Here PUSH_AT (l ∷ h ∷ lo ∷ hi ∷ []) m text answers) (Leaves (back_at l h) (lo ∷ hi ∷ []) text answers (Pushed m (note ∷ notes))) [] (limit_by keys)
-  push_clause l h m text answers note notes left count is few =
-      from_here f _ _ m text answers _ [] (limit_by keys) (λ x y z n v i c d.
-      beside f own _ _ _ _ _ _ [] 13 (limit_by keys) (omega arith)
-      (push_law (under f own) (omega (arith, fits)) block l h text answers m x y z n v i c d note notes left (notes_of m notes count is (omega (arith, few))) few)
-      (λ w k. k))
-
-  push_fails_clause : (l h : ℕ) (m : ℕ → ℕ) (text answers notes : List ℕ) (n : ℕ) → WordAt m NOTES (length notes) → Noted m notes → length notes ≡ 500 → WordAt m LINE n → Entered f lo hi m →
-      Moves f (Here PUSH_AT (l ∷ h ∷ lo ∷ hi ∷ []) m text answers) (IsHome f) (fault_text 4 n) (limit_by keys)
-  push_fails_clause l h m text answers notes j count is full line e =
-      from_here f _ _ m text answers _ (fault_text 4 j) (limit_by keys) (λ x y z n v i c d.
-      faulting f lo hi fits block l h 4 (let s : 4 < 10 = omega arith in s) m text answers j line e _ _ 7 (limit_by keys) (omega arith)
-      (push_full_law (under f own) (omega (arith, fits)) block l h text answers m x y z n v i c d notes (notes_of m notes count is (omega (arith, full))) full)
-      (unchanged m))
-
-  input_clause : (l h : ℕ) (m : ℕ → ℕ) (text answers : List ℕ) (o stays : Bool) (v : ℕ) (left : List ℕ) (n : ℕ) → m OPEN ≡ bit o → m COLUMN < 256 → AllBytes text → length text ≤ keys → WordAt m LINE n → Entered f lo hi m → turn Nothing text ≡ Got v stays left →
-      Moves f (Here INPUT_AT (l ∷ h ∷ lo ∷ hi ∷ []) m text answers) (Leaves (back_at l h) (lo ∷ hi ∷ []) left answers (Taken m (column_after (m COLUMN) (prompt o ++ line_end stays) % 256) v stays)) (prompt o ++ line_end stays) (limit_by keys)
-  input_clause l h m text answers o stays v left j is_open column small few line e got =
-      from_here f _ _ m text answers _ (prompt o ++ line_end stays) (limit_by keys) (λ x y z n b i c d.
-      looser f _ _ _ (prompt o ++ line_end stays) (45 * length text + 587) (limit_by keys) (omega (arith, few)) (λ w k. taken l h m answers stays v left o w k)
-      (subst (λ s. Comes f (view x y z n b i c d INPUT_AT (l ∷ h ∷ own) m text answers) (asking.Ended f l h own m answers (m COLUMN) (prompt o) (Got v stays left)) s (45 * length text + 587)) (ends_with o stays v left j)
-      (asks l h m text answers o j (Got v stays left) is_open column small line e got x y z n b i c d)))
-
-  input_fails_clause : (l h : ℕ) (m : ℕ → ℕ) (text answers : List ℕ) (o : Bool) (n : ℕ) → m OPEN ≡ bit o → m COLUMN < 256 → AllBytes text → length text ≤ keys → turn Nothing text ≡ Bad → WordAt m LINE n → Entered f lo hi m →
-      Moves f (Here INPUT_AT (l ∷ h ∷ lo ∷ hi ∷ []) m text answers) (IsHome f) (prompt o ++ fault_text 6 n) (limit_by keys)
-  input_fails_clause l h m text answers o j is_open column small few got line e =
-      from_here f _ _ m text answers _ (prompt o ++ fault_text 6 j) (limit_by keys) (λ x y z n b i c d.
-      looser f _ _ _ (prompt o ++ fault_text 6 j) (45 * length text + 587) (limit_by keys) (omega (arith, few)) (λ w k. k)
-      (asks l h m text answers o j Bad is_open column small line e got x y z n b i c d))
-
-  input_waits_clause : (l h : ℕ) (m : ℕ → ℕ) (text answers : List ℕ) (o : Bool) (n : ℕ) → m OPEN ≡ bit o → m COLUMN < 256 → AllBytes text → length text ≤ keys → turn Nothing text ≡ Dry → WordAt m LINE n → Entered f lo hi m →
-      Moves f (Here INPUT_AT (l ∷ h ∷ lo ∷ hi ∷ []) m text answers) Waiting (prompt o) (limit_by keys)
-  input_waits_clause l h m text answers o j is_open column small few got line e =
-      from_here f _ _ m text answers _ (prompt o) (limit_by keys) (λ x y z n b i c d.
-      looser f _ _ _ (prompt o) (45 * length text + 587) (limit_by keys) (omega (arith, few)) (λ w k. record { waits = k.0; deep = omega (arith, k.1) })
-      (subst (λ s. Comes f (view x y z n b i c d INPUT_AT (l ∷ h ∷ own) m text answers) (λ w. IsWaiting w × (length w.stack ≤ 6)) s (45 * length text + 587)) (append-nil (prompt o))
-      (asks l h m text answers o j Dry is_open column small line e got x y z n b i c d)))
-
-  poll_clause : (l h : ℕ) (m : ℕ → ℕ) (text answers : List ℕ) (n : ℕ) → AllBytes answers → nat_eq (first_or_zero answers) 3 ≡ false → WordAt m LINE n → Entered f lo hi m →
-      Moves f (Here POLL_AT (l ∷ h ∷ lo ∷ hi ∷ []) m text answers) (Leaves (back_at l h) (lo ∷ hi ∷ []) text (drop 1 answers) (λ w. w ≡ m)) [] (limit_by keys)
-  poll_clause l h m text answers j small other line e =
-      from_here f _ _ m text answers _ [] (limit_by keys) (λ x y z n v i c d.
-      looser f _ _ _ [] 5 (limit_by keys) (omega arith) (λ w k. k)
-      ((poll_law f 16 (let most : 13 ≤ 16 = omega arith in most) fits block lo hi [] (let deep : 6 ≤ 16 = omega arith in deep) l h text answers m e j line (first_small answers small) x y z n v i c d).0 (λ q. let bad : true ≡ false = sym (eq-eqb (first_or_zero answers) 3 q) ∙ other in cc)))
-
-  poll_breaks_clause : (l h : ℕ) (m : ℕ → ℕ) (text answers : List ℕ) (n : ℕ) → AllBytes answers → nat_eq (first_or_zero answers) 3 ≡ true → WordAt m LINE n → Entered f lo hi m →
-      Moves f (Here POLL_AT (l ∷ h ∷ lo ∷ hi ∷ []) m text answers) (IsHome f) (fault_text 0 n) (limit_by keys)
-  poll_breaks_clause l h m text answers j small stop line e =
-      from_here f _ _ m text answers _ (fault_text 0 j) (limit_by keys) (λ x y z n v i c d.
-      looser f _ _ _ (fault_text 0 j) 546 (limit_by keys) (omega arith) (λ w k. k)
-      ((poll_law f 16 (let most : 13 ≤ 16 = omega arith in most) fits block lo hi [] (let deep : 6 ≤ 16 = omega arith in deep) l h text answers m e j line (first_small answers small) x y z n v i c d).1 (eqb-true (first_or_zero answers) 3 stop)))
+  routines : Routines table seed_option numbers start f lo hi keys (limit_by keys)
+  routines = record {
+    multiply = λ l h m text answers a b left right.
+        from_here f _ _ m text answers _ [] (limit_by keys) (λ x y z n v i c d.
+        beside f own _ _ _ _ _ _ [] 245 (limit_by keys) (omega arith)
+        (multiply_law (under f own) (omega (arith, fits)) block l h text answers m x y z n v i c d a b left right)
+        (λ w k. k));
+    divide = λ l h m text answers a b left right some.
+        from_here f _ _ m text answers _ [] (limit_by keys) (λ x y z n v i c d.
+        beside f own _ _ _ _ _ _ [] 316 (limit_by keys) (omega arith)
+        (divide_law (under f own) (omega (arith, fits)) block l h text answers m x y z n v i c d a b left right (⊎_elim (λ e. absurd (some e)) (λ e. e) (zero_or b)))
+        (λ w k. k));
+    divide_by_zero = λ l h m text answers a j left right line e.
+        from_here f _ _ m text answers _ (fault_text 2 j) (limit_by keys) (λ x y z n v i c d.
+        faulting f lo hi fits block l h 2 (let s : 2 < 10 = omega arith in s) m text answers j line e _ _ 5 (limit_by keys) (omega arith)
+        (divide_by_zero_law (under f own) (omega (arith, fits)) block l h text answers m x y z n v i c d right)
+        (unchanged m));
+    number = λ l h m text answers a left column.
+        from_here f _ _ m text answers _ (digits_of a) (limit_by keys) (λ x y z n v i c d.
+        beside f own _ _ _ _ _ _ (digits_of a) 458 (limit_by keys) (omega arith)
+        (number_law (under f own) (omega (arith, fits)) block l h text answers m x y z n v i c d a left column)
+        (λ w k. record { column = k.column ∙ number_column (m COLUMN) a; others = λ p o q. k.others p (not_argument p o) q }));
+    text = λ l h m text answers at bytes pointer count shown small from to few column.
+        from_here f _ _ m text answers _ bytes (limit_by keys) (λ x y z n v i c d.
+        beside f own _ _ _ _ _ _ bytes (15 * length bytes + 3) (limit_by keys) (omega (arith, few))
+        (text_law (under f own) (omega (arith, fits)) block l h text answers m x y z n v i c d at bytes (record { pointer = pointer; shown = shown; from = from; to = to; count = count; few = few; bytes_small = small }))
+        (λ w k. let s = k.column_small column in record { column = omega (arith, k.column, s); others = λ p o q. let r = not_pointer p o in k.others p q r.0 r.1 r.2 }));
+    zone = λ l h m text answers column.
+        from_here f _ _ m text answers _ (zone (m COLUMN)) (limit_by keys) (λ x y z n v i c d.
+        beside f own _ _ _ _ _ _ (zone (m COLUMN)) 97 (limit_by keys) (omega arith)
+        (zone_law (under f own) (omega (arith, fits)) block l h text answers m x y z n v i c d column)
+        (λ w k. record { column = k.column; others = λ p o q. k.others p q }));
+    send = λ l h m text answers b small.
+        from_a f _ b _ m text answers _ (b ∷ []) (limit_by keys) (λ y z n v i c d.
+        beside f own _ _ _ _ _ _ (b ∷ []) 7 (limit_by keys) (omega arith)
+        (send_law (under f own) (omega (arith, fits)) block l h text answers m b y z n v i c d small)
+        (λ w k. record { column = k.column; others = λ p o q. k.others p q }));
+    search = λ l h m text answers n left at count is.
+        from_here f _ _ m text answers _ [] (limit_by keys) (λ x y z b v i c d.
+        beside f own _ _ _ _ _ _ [] 510 (limit_by keys) (omega arith)
+        (searches l h m text answers n (Some (start n)) left at count (found start numbers n is) x y z b v i c d)
+        (λ w k. k));
+    search_fails = λ l h m text answers n j left at count none line e.
+        from_here f _ _ m text answers _ (fault_text 1 j) (limit_by keys) (λ x y z b v i c d.
+        faulting f lo hi fits block l h 1 (let s : 1 < 10 = omega arith in s) m text answers j line e _ _ 510 (limit_by keys) (omega arith)
+        (searches l h m text answers n None left at count (not_found start numbers n none) x y z b v i c d)
+        (λ w k. record { line = k LINE refl; line_high = k (LINE + 1) refl; home_s = k HOME_S refl }));
+    fault = λ k small m text answers n line e.
+        from_a f _ k _ m text answers _ (fault_text k n) (limit_by keys) (λ y z b v i c d.
+        looser f _ _ _ (fault_text k n) 540 (limit_by keys) (omega arith) (λ w h. h)
+        (fault_law f 16 (let most : 13 ≤ 16 = omega arith in most) fits block lo hi [] (let deep : 2 ≤ 16 = omega arith in deep) text answers m e n line k y z b v i c d small));
+    fault_line = λ k small m text answers n few e.
+        from_line f _ k n _ m text answers _ (fault_text k n) (limit_by keys) (λ b v i c d.
+        looser f _ _ _ (fault_text k n) 542 (limit_by keys) (omega arith) (λ w h. h)
+        (subst (λ j. Comes f (view k (n % 256) (n / 256) b v i c d FAULT_LINE_AT own m text answers) (IsHome f) (fault_text k j) 542) (let s : n % 256 + 256 * (n / 256) ≡ n = omega arith in s)
+        (fault_line_law f 16 (let most : 13 ≤ 16 = omega arith in most) fits block lo hi [] (let deep : 2 ≤ 16 = omega arith in deep) text answers m e k (n % 256) (n / 256) b v i c d small (omega arith) (omega (arith, few)))));
+    pop = λ l h m text answers note notes count is few.
+        from_here f _ _ m text answers _ [] (limit_by keys) (λ x y z n v i c d.
+        beside f own _ _ _ _ _ _ [] 14 (limit_by keys) (omega arith)
+        (pop_law (under f own) (omega (arith, fits)) block l h text answers m x y z n v i c d note notes (notes_of m (note ∷ notes) count is few))
+        (λ w k. k));
+    pop_fails = λ l h m text answers j count line e.
+        from_here f _ _ m text answers _ (fault_text 5 j) (limit_by keys) (λ x y z n v i c d.
+        faulting f lo hi fits block l h 5 (let s : 5 < 10 = omega arith in s) m text answers j line e _ _ 6 (limit_by keys) (omega arith)
+        (pop_none_law (under f own) (omega (arith, fits)) block l h text answers m x y z n v i c d (notes_of m [] count tt (let s : 0 ≤ 500 = omega arith in s)))
+        (unchanged m));
+    random = λ l h m text answers a seed left right stored_at range.
+        let g = not_zero a range in
+        let now = seed_at m seed_option seed stored_at in
+        from_here f _ _ m text answers _ [] (limit_by keys) (λ x y z n v i c d.
+        beside f own _ _ _ _ _ _ [] 549 (limit_by keys) (omega arith)
+        (subst (λ s. Comes (under f own) (view x y z n v i c d RANDOM_AT (l ∷ h ∷ []) m text answers) (Back l h text answers (Drawn m a s)) [] 549) now.2
+        (random_law (under f own) (omega (arith, fits)) block l h text answers m x y z n v i c d a seed_option now.0 left right now.1 g.0 g.1))
+        (λ w k. k));
+    random_fails = λ l h m text answers a j left range line e.
+        from_here f _ _ m text answers _ (fault_text 3 j) (limit_by keys) (λ x y z n v i c d.
+        faulting f lo hi fits block l h 3 (let s : 3 < 10 = omega arith in s) m text answers j line e _ _ 7 (limit_by keys) (omega arith)
+        (random_range_law (under f own) (omega (arith, fits)) block l h text answers m x y z n v i c d a left (bad_range a range))
+        (unchanged m));
+    push = λ l h m text answers note notes left count is few.
+        from_here f _ _ m text answers _ [] (limit_by keys) (λ x y z n v i c d.
+        beside f own _ _ _ _ _ _ [] 13 (limit_by keys) (omega arith)
+        (push_law (under f own) (omega (arith, fits)) block l h text answers m x y z n v i c d note notes left (notes_of m notes count is (omega (arith, few))) few)
+        (λ w k. k));
+    push_fails = λ l h m text answers notes j count is full line e.
+        from_here f _ _ m text answers _ (fault_text 4 j) (limit_by keys) (λ x y z n v i c d.
+        faulting f lo hi fits block l h 4 (let s : 4 < 10 = omega arith in s) m text answers j line e _ _ 7 (limit_by keys) (omega arith)
+        (push_full_law (under f own) (omega (arith, fits)) block l h text answers m x y z n v i c d notes (notes_of m notes count is (omega (arith, full))) full)
+        (unchanged m));
+    input = λ l h m text answers o stays v left j is_open column small few line e got.
+        from_here f _ _ m text answers _ (prompt o ++ line_end stays) (limit_by keys) (λ x y z n b i c d.
+        looser f _ _ _ (prompt o ++ line_end stays) (45 * length text + 587) (limit_by keys) (omega (arith, few)) (λ w k. taken l h m answers stays v left o w k)
+        (subst (λ s. Comes f (view x y z n b i c d INPUT_AT (l ∷ h ∷ own) m text answers) (asking.Ended f l h own m answers (m COLUMN) (prompt o) (Got v stays left)) s (45 * length text + 587)) (ends_with o stays v left j)
+        (asks l h m text answers o j (Got v stays left) is_open column small line e got x y z n b i c d)));
+    input_fails = λ l h m text answers o j is_open column small few got line e.
+        from_here f _ _ m text answers _ (prompt o ++ fault_text 6 j) (limit_by keys) (λ x y z n b i c d.
+        looser f _ _ _ (prompt o ++ fault_text 6 j) (45 * length text + 587) (limit_by keys) (omega (arith, few)) (λ w k. k)
+        (asks l h m text answers o j Bad is_open column small line e got x y z n b i c d));
+    input_waits = λ l h m text answers o j is_open column small few got line e.
+        from_here f _ _ m text answers _ (prompt o) (limit_by keys) (λ x y z n b i c d.
+        looser f _ _ _ (prompt o) (45 * length text + 587) (limit_by keys) (omega (arith, few)) (λ w k. record { waits = k.0; deep = omega (arith, k.1) })
+        (subst (λ s. Comes f (view x y z n b i c d INPUT_AT (l ∷ h ∷ own) m text answers) (λ w. IsWaiting w × (length w.stack ≤ 6)) s (45 * length text + 587)) (append-nil (prompt o))
+        (asks l h m text answers o j Dry is_open column small line e got x y z n b i c d)));
+    poll = λ l h m text answers j small other line e.
+        from_here f _ _ m text answers _ [] (limit_by keys) (λ x y z n v i c d.
+        looser f _ _ _ [] 5 (limit_by keys) (omega arith) (λ w k. k)
+        ((poll_law f 16 (let most : 13 ≤ 16 = omega arith in most) fits block lo hi [] (let deep : 6 ≤ 16 = omega arith in deep) l h text answers m e j line (first_small answers small) x y z n v i c d).0 (λ q. let bad : true ≡ false = sym (eq-eqb (first_or_zero answers) 3 q) ∙ other in cc)));
+    poll_breaks = λ l h m text answers j small stop line e.
+        from_here f _ _ m text answers _ (fault_text 0 j) (limit_by keys) (λ x y z n v i c d.
+        looser f _ _ _ (fault_text 0 j) 546 (limit_by keys) (omega arith) (λ w k. k)
+        ((poll_law f 16 (let most : 13 ≤ 16 = omega arith in most) fits block lo hi [] (let deep : 6 ≤ 16 = omega arith in deep) l h text answers m e j line (first_small answers small) x y z n v i c d).1 (eqb-true (first_or_zero answers) 3 stop)));
+  }
 
 pub all_laws : AllLaws
-all_laws table seed_option numbers start f lo hi keys fits block laid = record {
-  multiply = multiply_clause table seed_option numbers start f lo hi keys fits block laid;
-  divide = divide_clause table seed_option numbers start f lo hi keys fits block laid;
-  divide_by_zero = divide_by_zero_clause table seed_option numbers start f lo hi keys fits block laid;
-  number = number_clause table seed_option numbers start f lo hi keys fits block laid;
-  text = text_clause table seed_option numbers start f lo hi keys fits block laid;
-  zone = zone_clause table seed_option numbers start f lo hi keys fits block laid;
-  send = send_clause table seed_option numbers start f lo hi keys fits block laid;
-  search = search_clause table seed_option numbers start f lo hi keys fits block laid;
-  search_fails = search_fails_clause table seed_option numbers start f lo hi keys fits block laid;
-  fault = fault_clause table seed_option numbers start f lo hi keys fits block laid;
-  fault_line = fault_line_clause table seed_option numbers start f lo hi keys fits block laid;
-  pop = pop_clause table seed_option numbers start f lo hi keys fits block laid;
-  pop_fails = pop_fails_clause table seed_option numbers start f lo hi keys fits block laid;
-  random = random_clause table seed_option numbers start f lo hi keys fits block laid;
-  random_fails = random_fails_clause table seed_option numbers start f lo hi keys fits block laid;
-  push = push_clause table seed_option numbers start f lo hi keys fits block laid;
-  push_fails = push_fails_clause table seed_option numbers start f lo hi keys fits block laid;
-  input = input_clause table seed_option numbers start f lo hi keys fits block laid;
-  input_fails = input_fails_clause table seed_option numbers start f lo hi keys fits block laid;
-  input_waits = input_waits_clause table seed_option numbers start f lo hi keys fits block laid;
-  poll = poll_clause table seed_option numbers start f lo hi keys fits block laid;
-  poll_breaks = poll_breaks_clause table seed_option numbers start f lo hi keys fits block laid;
-}
+all_laws = routines
