@@ -1,14 +1,14 @@
 -- What holds while the code of a group runs, and behind it; and that an instruction alone is one step.
-use Rattle.std.proofs.Common.{◌≡◌, ℕ, ◌+◌, ◌/◌, ◌%◌, ◌≤◌, ◌<◌, Bool, true, false, List, [], ◌∷◌, length, refl, sym, ap, ◌∙◌, subst, arith, append-nil}
+use Rattle.std.proofs.Common.{◌≡◌, ℕ, ◌+◌, ◌/◌, ◌%◌, ◌≤◌, ◌<◌, Bool, true, false, List, [], ◌∷◌, length, refl, sym, ap, ◌∙◌, subst, arith, append-nil, not, ◌≢◌}
 use Rattle.tb_lower.specs.Control.{State, column_after}
 use Rattle.tb_lower.specs.Slots.{Instr, Rest, Whole, Left, Slots, SlotCode, SlotState, slot_step, with_word}
 use Rattle.tb_lower.specs.Steps.{Step, Goes, Stops, and_then}
 use Rattle.tb_reaching.proofs.Comes.{chained, looser}
 use Rattle.tb_reaching.proofs.Instr.{Stands}
 use Rattle.tb_reaching.specs.View.{Comes, Fits, Setup, View}
-use Rattle.tb_runtime16.specs.Laws.{AllBytes}
-use Rattle.tb_runtime16.specs.Routines.{Entered, Here, Moves, Sent, WordAt, is_owned}
-use Rattle.tb_runtime16.specs.Places.{HOME_S, LINE}
+use Rattle.tb_runtime16.specs.Laws.{AllBytes, Sent}
+use Rattle.tb_runtime16.specs.Routines.{Entered, Here, Moves, WordAt, is_owned, is_scratch}
+use Rattle.tb_runtime16.specs.Places.{COLUMN, HOME_S, LINE}
 use Rattle.tb_keeping.specs.Layout.{Layout, place_at}
 use Rattle.tb_keeping.proofs.Frames.{owned_low, put_away, word_put}
 use Rattle.tb_keeping.proofs.Mirrors.{Typable}
@@ -59,12 +59,14 @@ module _ (ly : Layout) (f : Setup) (lo hi keys : ℕ) (fits : Fits f 16) where
   kept_put u s r m p l h few k k' c = kept_scratch u s r m (put_word m p l h) few (scratch_put m p l h k k') c
 
   -- bytes were sent
-  pub kept_told : (u : Live) (s : State) (r : Slots) (m : ℕ → ℕ) (t : List ℕ) (m' : ℕ → ℕ) → u.slots ≤ 16 → Sent m t m' → Kept u s r m → Kept u (record s { column = column_after s.column t }) r m'
-  kept_told u s r m t m' few g c = record {
-    state = state_told ly s m m' c.state t g.column g.others;
-    read = live_same u r m m' few (λ a lo hi. g.others a (owned_low a (omega (arith, lo)) hi) (λ e. omega (arith, e, lo))) c.read;
-    homed = homed_kept ly f lo hi keys fits m m' (g.others HOME_S (owned_low HOME_S (omega arith) (omega arith)) (λ e. omega (arith, e))) c.homed;
-  }
+  pub kept_told : (u : Live) (s : State) (r : Slots) (m : ℕ → ℕ) (t : List ℕ) (m' : ℕ → ℕ) → u.slots ≤ 16 → Sent is_scratch m t m' → Kept u s r m → Kept u (record s { column = column_after s.column t }) r m'
+  kept_told u s r m t m' few g c =
+      let others : (p : ℕ) → is_owned p ≡ true → p ≢ COLUMN → m' p ≡ m p = λ p o q. g.others p (ap not o) q in
+      record {
+        state = state_told ly s m m' c.state t g.column others;
+        read = live_same u r m m' few (λ a lo hi. others a (owned_low a (omega (arith, lo)) hi) (λ e. omega (arith, e, lo))) c.read;
+        homed = homed_kept ly f lo hi keys fits m m' (others HOME_S refl (λ e. omega (arith, e))) c.homed;
+      }
 
   module _ (code : SlotCode) where
     -- a word was written to where it goes, over a memory that still held all

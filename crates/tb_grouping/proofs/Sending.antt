@@ -11,8 +11,8 @@ use Rattle.tb_reaching.proofs.Memory.{put_other}
 use Rattle.tb_reaching.proofs.Placed.{along}
 use Rattle.tb_reaching.proofs.Services.{served_last}
 use Rattle.tb_reaching.specs.View.{Bytes, Comes, Fits, Setup, View, back_at, view}
-use Rattle.tb_runtime16.specs.Laws.{Leaves}
-use Rattle.tb_runtime16.specs.Routines.{Here, Moves, Routines, Sent}
+use Rattle.tb_runtime16.specs.Laws.{Leaves, Sent}
+use Rattle.tb_runtime16.specs.Routines.{Here, Moves, Routines, is_scratch}
 use Rattle.tb_runtime16.specs.Places.{COLUMN, LEFT, LENGTH, NUMBER_AT, TEXT_AT, ZONE_AT}
 use Rattle.tb_keeping.specs.Layout.{Layout}
 use Rattle.tb_keeping.proofs.Frames.{word_put}
@@ -46,7 +46,7 @@ module _ (ly : Layout) (f : Setup) (lo hi keys : ℕ) (fits : Fits f 16) (limit 
   sent t = record s { column = column_after s.column t }
 
   -- behind the call of a routine that sends bytes
-  told_lands : (g : Group) (js : List Instr) (h : Ready ly f lo hi keys fits n g js is s r w) (r' : Slots) → ((m : ℕ → ℕ) → HoldsLive (live js) r m → HoldsLive (live is) r' m) → (t : List ℕ) (at back : ℕ) (m : ℕ → ℕ) → GroupsLie ly f.code n at (select is) → Kept ly f lo hi keys fits (live js) s r m → back ≡ at → (v : View) → Leaves back own w.text w.answers (Sent m t) v → Matches ly f lo hi keys (line code n is (sent t) r') v
+  told_lands : (g : Group) (js : List Instr) (h : Ready ly f lo hi keys fits n g js is s r w) (r' : Slots) → ((m : ℕ → ℕ) → HoldsLive (live js) r m → HoldsLive (live is) r' m) → (t : List ℕ) (at back : ℕ) (m : ℕ → ℕ) → GroupsLie ly f.code n at (select is) → Kept ly f lo hi keys fits (live js) s r m → back ≡ at → (v : View) → Leaves back own w.text w.answers (Sent is_scratch m t) v → Matches ly f lo hi keys (line code n is (sent t) r') v
   told_lands g js h r' read t at back m rest c e v q =
       let c' = kept_told ly f lo hi keys fits (live js) s r m t v.mem h.some_read q.memory c in
       stood ly f lo hi keys fits code n h.small is (sent t) r' at v.mem w.text w.answers rest c'.state (read v.mem c'.read) c'.homed h.text h.answers h.short v

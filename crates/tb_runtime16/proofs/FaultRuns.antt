@@ -13,7 +13,7 @@ use Rattle.tb_lower.specs.Control.{fault_text}
 use Rattle.tb_runtime16.specs.Places.{SEND_AT, FAULT_LINE_AT, FAULT_AT, NUMBER_AT, COLUMN, LINE, BYTE, LEFT}
 use Rattle.tb_runtime16.specs.Block.{block_part}
 use Rattle.tb_runtime16.specs.Ends.{FaultLaw, FaultLineLaw}
-use Rattle.tb_runtime16.specs.Laws.{Said}
+use Rattle.tb_runtime16.specs.Laws.{Sent, nowhere}
 use Rattle.tb_runtime16.proofs.InMemory.{bytes_of, holds_word, of_word}
 use Rattle.tb_runtime16.proofs.Within.{fault_line_part, fault_line_in, fault_part, fault_in}
 use Rattle.tb_runtime16.proofs.Called.{after_on, calls}
@@ -62,10 +62,10 @@ module _ (f : Setup) (fits : Fits f 13) (block : Holds block_part f.code) (hlo h
   unfolding From Later
   say pc b lo hi out k b_small run next a x y n v i z c m kept =
       through f 13 fits fault_part (fault_in f.code block) 1 _ _ (IsHome f) (b ∷ out) (7 + k) (run a x y n v i z c m kept)
-      (calls f own b x y _ v i _ c SEND_AT lo hi m text answers (Said m (b ∷ [])) (IsHome f) (b ∷ []) out 7 k
+      (calls f own b x y _ v i _ c SEND_AT lo hi m text answers (Sent nowhere m (b ∷ [])) (IsHome f) (b ∷ []) out 7 k
       (send_law (under f own) (omega (arith, fits)) block lo hi text answers m b x y _ v i _ c b_small)
       (λ a x y n v i z c m' s. next a x y n v i z c m'
-      (record { low = s.others LINE (λ e. omega (arith, e)) ∙ kept.low; high = s.others (LINE + 1) (λ e. omega (arith, e)) ∙ kept.high; byte = s.others BYTE (λ e. omega (arith, e)) ∙ kept.byte }) (omega (arith, s.column))))
+      (record { low = s.others LINE refl (λ e. omega (arith, e)) ∙ kept.low; high = s.others (LINE + 1) refl (λ e. omega (arith, e)) ∙ kept.high; byte = s.others BYTE refl (λ e. omega (arith, e)) ∙ kept.byte }) (omega (arith, s.column))))
 
   text_sent : From (FAULT_AT + 0xA) (13 ∷ 33 ∷ d ∷ 32 ∷ 65 ∷ 84 ∷ 32 ∷ (digits_of (l + 256 * h) ++ 13 ∷ [])) (2 + (7 + (2 + (7 + (2 + (7 + (2 + (7 + (2 + (7 + (2 + (7 + (2 + (7 + (5 + (458 + 9))))))))))))))))
   text_sent =

@@ -1,9 +1,8 @@
 -- From a routine's law to the form in which the code of the lines needs it.
-use Rattle.std.proofs.Common.{◌≡◌, ◌≢◌, ℕ, zero, suc, ◌+◌, ◌/◌, ◌%◌, ◌<◌, ◌≤◌, Bool, true, false, ◌||◌, List, [], ◌∷◌, ◌++◌, length, refl, sym, ap, ◌∙◌, subst, ⊎_elim, arith, Some, None}
-use Rattle.std.specs.Prelude.{nat_lt, if◌then◌else◌}
+use Rattle.std.proofs.Common.{◌≡◌, ℕ, suc, ◌+◌, ◌/◌, ◌%◌, ◌<◌, ◌≤◌, Bool, true, false, ◌||◌, List, [], ◌∷◌, ◌++◌, length, refl, sym, ap, ◌∙◌, subst, ⊎_elim, arith, Some, None}
+use Rattle.std.specs.Prelude.{if◌then◌else◌}
 use Rattle.std.proofs.lemmas.Bool.{ne_eqb, eq-eqb, cases_eq}
-use Rattle.tb_words.specs.Words.{is_negative, magnitude, digits_before, digits_of}
-use Rattle.tb_lower.specs.Control.{fault_text, column_after, has_line}
+use Rattle.tb_lower.specs.Control.{fault_text, has_line}
 use Rattle.tb_runtime16.specs.Places.{HOME_S, LINE, FAULT_AT}
 use Rattle.tb_reaching.specs.View.{View, Setup, Holds, Fits, Comes, view}
 use Rattle.tb_reaching.specs.Start.{IsHome}
@@ -63,29 +62,6 @@ faulting f lo hi fits block l h k small m keys gets n line e v q j limit le c go
     known f (stacked_on (lo ∷ hi ∷ []) u) FAULT_AT (l ∷ h ∷ lo ∷ hi ∷ []) keys gets (IsHome f) (fault_text k n) 540 a.leaves.pc (ap (λ s. s ++ (lo ∷ hi ∷ [])) a.leaves.stack_is) a.leaves.binary a.leaves.same_text a.leaves.same_answers
     (subst (λ r. Comes f (view r u.regs.x u.regs.y u.regs.flags.n u.regs.flags.v u.regs.flags.i u.regs.flags.z u.regs.flags.c FAULT_AT (l ∷ h ∷ lo ∷ hi ∷ []) u.mem keys gets) (IsHome f) (fault_text k n) 540) (sym a.number)
     (fault_law f 14 (let le : 13 ≤ 14 = omega arith in le) (omega (arith, fits)) block lo hi (l ∷ h ∷ []) (let le : 4 ≤ 14 = omega arith in le) keys gets u.mem (record { homed = e.homed; kept = ap (λ s. s + 2) s.home_s ∙ e.kept }) n (same_place m u.mem LINE n line s.line s.line_high) k _ _ _ _ _ _ _ small))))
-
--- ---- columns: no digit is a return
-abbrev Plain : List ℕ → Type 0
-Plain [] = Unit {0}
-Plain (b ∷ bs) = (b ≢ 13) × Plain bs
-
-plain_column : (c : ℕ) (bs : List ℕ) → Plain bs → column_after c bs ≡ c + length bs
-plain_column c [] h = omega arith
-plain_column c (b ∷ bs) h = ap (λ t. column_after (if t then 0 else c + 1) bs) (ne_eqb b 13 h.0) ∙ plain_column (c + 1) bs h.1 ∙ omega arith
-
-plain_either : (t : Bool) (a b : List ℕ) → Plain a → Plain b → Plain (if t then a else b)
-plain_either true a b p q = p
-plain_either false a b p q = q
-
-plain_digits : (k n : ℕ) (text : List ℕ) → Plain text → Plain (digits_before k n text)
-plain_digits zero n text h = h
-plain_digits (suc k) n text h = plain_either (nat_lt n 10) ((48 + n) ∷ text) (digits_before k (n / 10) ((48 + n % 10) ∷ text)) ((λ e. omega arith), h) (plain_digits k (n / 10) ((48 + n % 10) ∷ text) ((λ e. omega arith), h))
-
-plain_number : (w : ℕ) → Plain (digits_of w)
-plain_number w = plain_either (is_negative w) (45 ∷ digits_before 5 (magnitude w) []) (digits_before 5 w []) ((λ e. omega arith), plain_digits 5 (magnitude w) [] tt) (plain_digits 5 w [] tt)
-
-pub number_column : (c w : ℕ) → (c + length (digits_of w)) % 256 ≡ column_after c (digits_of w) % 256
-number_column c w = ap (λ n. n % 256) (sym (plain_column c (digits_of w) (plain_number w)))
 
 -- ---- the line table
 pub entries_length : (start : ℕ → ℕ) (ns : List ℕ) → length (entries start ns) ≡ length ns

@@ -15,7 +15,7 @@ use Rattle.tb_runtime16.specs.Places.{INPUT_AT, SEND_AT, COLUMN, LEFT, RESULT, H
 use Rattle.tb_runtime16.specs.Block.{block_part}
 use Rattle.tb_runtime16.specs.Ends.{Entered}
 use Rattle.tb_runtime16.specs.Input.{MINUS, is_changed, turn_sends, Ended, InputLaw}
-use Rattle.tb_runtime16.specs.Laws.{AllBytes, WordAt, Changes, Said}
+use Rattle.tb_runtime16.specs.Laws.{AllBytes, WordAt, Changes, Sent, nowhere}
 use Rattle.tb_runtime16.proofs.Words.{small_byte, taken_from_zero}
 use Rattle.tb_runtime16.proofs.Tens.{times_ten}
 use Rattle.tb_runtime16.proofs.Frames.{changes_put}
@@ -35,8 +35,8 @@ other_byte b k p q n = ne_eqb _ _ (λ h. n (omega (arith, p, q, h)))
 -- a call of Send, and then
 saying : (f : Setup) (own : List ℕ) → Fits (under f own) 2 → Holds block_part f.code → (lo hi : ℕ) (text answers : List ℕ) (m : ℕ → ℕ) (a x y : ℕ) (n v i z c : Bool) → a < 256 → (q : View → Type 0) (u : List ℕ) (k : ℕ) → ((a' x y : ℕ) (n v i z c : Bool) (m' : ℕ → ℕ) → m' COLUMN ≡ column_after (m COLUMN) (a ∷ []) % 256 → ((p : ℕ) → p ≢ COLUMN → m' p ≡ m p) → Comes f (view a' x y n v i z c (back_at lo hi) own m' text answers) q u k) → Comes f (view a x y n v i z c SEND_AT (lo ∷ hi ∷ own) m text answers) q (a ∷ u) (7 + k)
 saying f own fits block lo hi text answers m a x y n v i z c small q u k next =
-    calls f own a x y n v i z c SEND_AT lo hi m text answers (Said m (a ∷ [])) q (a ∷ []) u 7 k (send_law (under f own) fits block lo hi text answers m a x y n v i z c small)
-    (λ a' x y n v i z c w s. next a' x y n v i z c w s.column s.others)
+    calls f own a x y n v i z c SEND_AT lo hi m text answers (Sent nowhere m (a ∷ [])) q (a ∷ []) u 7 k (send_law (under f own) fits block lo hi text answers m a x y n v i z c small)
+    (λ a' x y n v i z c w s. next a' x y n v i z c w s.column (λ p z. s.others p refl z))
 
 -- ---- a reading, in memory
 abbrev state : Reading → ℕ
@@ -151,10 +151,10 @@ module _ (f : Setup) (room : ℕ) (most : 13 ≤ room) (fits : Fits f room) (blo
         same_answers = g.1.same_answers;
         memory = record {
           gives = record {
-            result = same_place m g.0.mem RESULT value (holds_word m RESULT value h.is_word h.value_is) (g.1.memory.others RESULT (λ e. omega (arith, e))) (g.1.memory.others (RESULT + 1) (λ e. omega (arith, e)));
-            others = λ a t. g.1.memory.others a (λ x. false≢true (sym t ∙ ap is_changed x)) ∙ changes_put _ _ _ OPEN _ refl h.others a t;
+            result = same_place m g.0.mem RESULT value (holds_word m RESULT value h.is_word h.value_is) (g.1.memory.others RESULT refl (λ e. omega (arith, e))) (g.1.memory.others (RESULT + 1) refl (λ e. omega (arith, e)));
+            others = λ a t. g.1.memory.others a refl (λ x. false≢true (sym t ∙ ap is_changed x)) ∙ changes_put _ _ _ OPEN _ refl h.others a t;
           };
-          line_open = g.1.memory.others OPEN (λ e. omega (arith, e));
+          line_open = g.1.memory.others OPEN refl (λ e. omega (arith, e));
           column_is = g.1.memory.column;
         };
       }))

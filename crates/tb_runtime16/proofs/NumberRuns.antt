@@ -12,8 +12,9 @@ use Rattle.tb_reaching.proofs.Memory.{put_other}
 use Rattle.tb_words.specs.Words.{is_negative, magnitude, negated, digits_before, digits_of}
 use Rattle.tb_runtime16.specs.Places.{SEND_AT, NUMBER_AT, COLUMN, LEFT, RIGHT}
 use Rattle.tb_runtime16.specs.Block.{block_part}
-use Rattle.tb_runtime16.specs.Laws.{is_argument, negate_left_at, Back, Written, NumberLaw}
+use Rattle.tb_runtime16.specs.Laws.{is_argument, negate_left_at, Back, Sent, NumberLaw}
 use Rattle.tb_runtime16.proofs.InMemory.{IsWord, bytes_of, of_word}
+use Rattle.tb_runtime16.proofs.Columns.{number_column}
 use Rattle.tb_runtime16.proofs.Within.{number_part, number_in}
 use Rattle.tb_runtime16.proofs.Words.{borrow, sign_of, sign_small, sign_none, negated_size}
 use Rattle.tb_runtime16.proofs.Frames.{skip}
@@ -68,7 +69,7 @@ module _ (f : Setup) (fits : Fits f 6) (block : Holds block_part f.code) (lo hi 
       after f 6 fits number_part (number_in f.code block) 4 (view a 0 y n v i z c (NUMBER_AT + 66) own m text answers) _ _ 7 refl
       (rw d (back_looser f _ lo hi text answers _ _ ((48 + w) ∷ []) 7 7 (omega arith)
       (send_law f (omega (arith, fits)) block lo hi text answers m (48 + w) _ _ _ _ _ _ _ (omega (arith, small)))
-      (λ u g. (g.column ∙ ap (λ n. n % 256) (column_on (m COLUMN) (48 + w) (λ x. omega (arith, x))) ∙ e, λ a s t. g.others a t ∙ h.others a s t))))
+      (λ u g. (g.column ∙ ap (λ n. n % 256) (column_on (m COLUMN) (48 + w) (λ x. omega (arith, x))) ∙ e, λ a s t. g.others a refl t ∙ h.others a s t))))
 
   -- ---- on to the next power
   on : (begun : Bool) (ps : List ℕ) (x top k : ℕ) → x < 3 → From (NUMBER_AT + 24) x begun ps top k → From (NUMBER_AT + 66) (suc x) begun ps top (2 + k)
@@ -93,7 +94,7 @@ module _ (f : Setup) (fits : Fits f 6) (block : Holds block_part f.code) (lo hi 
       (rw b (calls f own _ _ _ _ _ _ _ _ SEND_AT ((NUMBER_AT + 63) % 256) ((NUMBER_AT + 63) / 256) m1 text answers _ _ ((48 + d) ∷ []) (sent ps true w) 7 (1 + k)
       (send_law (under f own) (omega (arith, fits)) block ((NUMBER_AT + 63) % 256) ((NUMBER_AT + 63) / 256) text answers m1 (48 + d) _ _ _ _ _ _ _ (omega (arith, few)))
       (λ a x' y n v i z c u g.
-      let kept : (p : ℕ) → p ≢ COLUMN → u p ≡ m1 p = g.others in
+      let kept : (p : ℕ) → p ≢ COLUMN → u p ≡ m1 p = λ p z. g.others p refl z in
       let x_is : u (RIGHT + 1) ≡ x = kept (RIGHT + 1) (λ q. omega (arith, q)) in
       let low : u LEFT ≡ m LEFT = kept LEFT (λ q. omega (arith, q)) in
       let high : u (LEFT + 1) ≡ m (LEFT + 1) = kept (LEFT + 1) (λ q. omega (arith, q)) in
@@ -286,12 +287,12 @@ module _ (f : Setup) (fits : Fits f 6) (block : Holds block_part f.code) (lo hi 
       (calls f own 45 x y _ v i _ c SEND_AT ((NUMBER_AT + 8) % 256) ((NUMBER_AT + 8) / 256) m text answers _ _ (45 ∷ []) _ 7 (1 + (9 + 437))
       (send_law (under f own) (omega (arith, fits)) block ((NUMBER_AT + 8) % 256) ((NUMBER_AT + 8) / 256) text answers m 45 x y _ v i _ c (omega arith))
       (λ a x y n v i z c u g.
-      let low : u LEFT ≡ m LEFT = g.others LEFT (λ q. omega (arith, q)) in
-      let high : u (LEFT + 1) ≡ m (LEFT + 1) = g.others (LEFT + 1) (λ q. omega (arith, q)) in
+      let low : u LEFT ≡ m LEFT = g.others LEFT refl (λ q. omega (arith, q)) in
+      let high : u (LEFT + 1) ≡ m (LEFT + 1) = g.others (LEFT + 1) refl (λ q. omega (arith, q)) in
       let same : word_in u LEFT ≡ word_in m LEFT = omega (arith, low, high) in
       let next : u COLUMN ≡ (m COLUMN + 1) % 256 = g.column in
       subst (λ w. Comes f (view a x y n v i z c (NUMBER_AT + 9) own u text answers) (Back lo hi text answers (Done col)) (digits_before 5 (magnitude w) []) (1 + (9 + 437))) same
-      (negative a x y n v i z c u col (omega (arith, low, p), omega (arith, high, p)) (ap is_negative same ∙ t) (λ a b d. g.others a d ∙ r a b d) (omega (arith, next)) (ap (λ w. (u COLUMN + length (digits_before 5 (magnitude w) [])) % 256) same ∙ one_later (m COLUMN) (u COLUMN) (length (digits_before 5 (magnitude (word_in m LEFT)) [])) next ∙ l))))
+      (negative a x y n v i z c u col (omega (arith, low, p), omega (arith, high, p)) (ap is_negative same ∙ t) (λ a b d. g.others a refl d ∙ r a b d) (omega (arith, next)) (ap (λ w. (u COLUMN + length (digits_before 5 (magnitude w) [])) % 256) same ∙ one_later (m COLUMN) (u COLUMN) (length (digits_before 5 (magnitude (word_in m LEFT)) [])) next ∙ l))))
 
   whole : (a x y : ℕ) (n v i z c : Bool) → IsWord m0 LEFT → m0 COLUMN < 256 → Comes f (view a x y n v i z c NUMBER_AT own m0 text answers) (Back lo hi text answers (Done ((m0 COLUMN + length (digits_of (word_in m0 LEFT))) % 256))) (digits_of (word_in m0 LEFT)) 458
   unfolding Rest
@@ -316,6 +317,6 @@ module _ (f : Setup) (fits : Fits f 6) (block : Holds block_part f.code) (lo hi 
 pub number_law : NumberLaw
 unfolding Rest
 number_law f fits block lo hi text answers m a x y n v i z c number p w =
-    of_word (λ j. Comes f (view a x y n v i z c NUMBER_AT (lo ∷ hi ∷ []) m text answers) (Back lo hi text answers (Written m (digits_of j))) (digits_of j) 458) m LEFT number p
+    of_word (λ j. Comes f (view a x y n v i z c NUMBER_AT (lo ∷ hi ∷ []) m text answers) (Back lo hi text answers (Sent is_argument m (digits_of j))) (digits_of j) 458) m LEFT number p
     (back_looser f _ lo hi text answers _ _ _ 458 458 (omega arith) (whole f fits block lo hi text answers m a x y n v i z c (bytes_of m LEFT number p) w)
-    (λ u h. record { column = h.0; others = h.1 }))
+    (λ u h. record { column = h.0 ∙ number_column (m COLUMN) (word_in m LEFT); others = h.1 }))

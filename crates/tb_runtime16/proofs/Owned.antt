@@ -1,5 +1,5 @@
 -- What a program owns is none of the places that routines change.
-use Rattle.std.proofs.Common.{◌≡◌, ◌≢◌, ℕ, ◌+◌, ◌≤◌, true, false, arith}
+use Rattle.std.proofs.Common.{◌≡◌, ◌≢◌, ℕ, ◌+◌, ◌≤◌, Bool, true, false, not, refl, sym, arith}
 use Rattle.std.specs.Prelude.{◌==◌}
 use Rattle.std.proofs.lemmas.Bool.Decides.{nat_tests}
 use Rattle.tb_runtime16.specs.Places.{VARS, HELD, POINTER, COLUMN, OPEN, SEEDED, SEED, NOTES, LENGTH, SCRATCH}
@@ -7,7 +7,14 @@ use Rattle.tb_runtime16.specs.Laws.{is_argument, is_seed}
 use Rattle.tb_runtime16.specs.Input.{is_changed}
 use Rattle.tb_runtime16.specs.Notes.{push_changes, pop_changes}
 use Rattle.tb_runtime16.specs.Search.{search_changes}
-use Rattle.tb_runtime16.specs.Routines.{is_owned}
+use Rattle.tb_runtime16.specs.Routines.{is_owned, is_scratch}
+
+pub is_own : (a : ℕ) → is_scratch a ≡ false → is_owned a ≡ true
+is_own a e = by (is_owned a) e
+  where
+    by : (b : Bool) → not b ≡ false → b ≡ true
+    by true e = refl
+    by false e = sym e
 
 pub not_argument : (a : ℕ) → is_owned a ≡ true → is_argument a ≡ false
 not_argument a h = grind (arith, nat_tests)

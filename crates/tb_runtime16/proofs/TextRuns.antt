@@ -15,7 +15,7 @@ use Rattle.tb_reaching.proofs.Placed.{placing, takes_at, reads_code}
 use Rattle.tb_lower.specs.Control.{column_after}
 use Rattle.tb_runtime16.specs.Places.{TEXT_AT, COLUMN, POINTER, LENGTH}
 use Rattle.tb_runtime16.specs.Block.{block_part}
-use Rattle.tb_runtime16.specs.Laws.{AllBytes, Back, Said, Told, TextLaw}
+use Rattle.tb_runtime16.specs.Laws.{AllBytes, Back, Sent, Told, nowhere, TextLaw}
 use Rattle.tb_runtime16.proofs.InMemory.{bytes_of, value}
 use Rattle.tb_runtime16.proofs.Within.{text_part, text_in}
 use Rattle.tb_runtime16.proofs.Called.{calls}
@@ -76,17 +76,17 @@ module _ (f : Setup) (fits : Fits f 4) (block : Holds block_part f.code) (lo hi 
       less)))
 
   -- the pointer goes up; the byte before it was sent
-  next_byte : (bs : List ℕ) → Count bs → (a x y : ℕ) (n v i z c : Bool) (m w : ℕ → ℕ) (b at : ℕ) → Still m at (b ∷ bs) → Said m (b ∷ []) w → m LENGTH ≡ suc (length bs) → Comes f (view a x y n v i z c (TEXT_AT + 12) (lo ∷ hi ∷ []) w text answers) (Back lo hi text answers (Told m0 all)) bs (3 + (15 * length bs + 3))
+  next_byte : (bs : List ℕ) → Count bs → (a x y : ℕ) (n v i z c : Bool) (m w : ℕ → ℕ) (b at : ℕ) → Still m at (b ∷ bs) → Sent nowhere m (b ∷ []) w → m LENGTH ≡ suc (length bs) → Comes f (view a x y n v i z c (TEXT_AT + 12) (lo ∷ hi ∷ []) w text answers) (Back lo hi text answers (Told m0 all)) bs (3 + (15 * length bs + 3))
   unfolding Count
   next_byte bs go a x y n v i z c m w b at h k e =
-      let low : w POINTER ≡ m POINTER = k.others POINTER (λ e. omega (arith, e)) in
-      let high : w (POINTER + 1) ≡ m (POINTER + 1) = k.others (POINTER + 1) (λ e. omega (arith, e)) in
-      let length_is : w LENGTH ≡ suc (length bs) = k.others LENGTH (λ e. omega (arith, e)) ∙ e in
+      let low : w POINTER ≡ m POINTER = k.others POINTER refl (λ e. omega (arith, e)) in
+      let high : w (POINTER + 1) ≡ m (POINTER + 1) = k.others (POINTER + 1) refl (λ e. omega (arith, e)) in
+      let length_is : w LENGTH ≡ suc (length bs) = k.others LENGTH refl (λ e. omega (arith, e)) ∙ e in
       let here = h.word_is in
       let up = h.to in
       let l = h.low in
       let g = h.high in
-      let others : (a : ℕ) → a ≢ COLUMN → a ≢ POINTER → a ≢ POINTER + 1 → a ≢ LENGTH → w a ≡ m0 a = λ a p q r s. k.others a p ∙ h.others a p q r s in
+      let others : (a : ℕ) → a ≢ COLUMN → a ≢ POINTER → a ≢ POINTER + 1 → a ≢ LENGTH → w a ≡ m0 a = λ a p q r s. k.others a refl p ∙ h.others a p q r s in
       let column : column_after (w COLUMN) bs % 256 ≡ column_after (m0 COLUMN) all % 256 = column_same (w COLUMN) (column_after (m COLUMN) (b ∷ [])) bs (omega (arith, k.column)) ∙ h.column in
       let shown : Bytes f.code (at + 1) bs = subst (λ p. Bytes f.code p bs) (let s : (at + 1) % 65536 ≡ at + 1 = omega arith in s) h.shown.1 in
       ⊎_elim
@@ -109,7 +109,7 @@ module _ (f : Setup) (fits : Fits f 4) (block : Holds block_part f.code) (lo hi 
   send_a : (bs : List ℕ) → Count bs → (x y : ℕ) (n v i z c : Bool) (m : ℕ → ℕ) (b at : ℕ) → Still m at (b ∷ bs) → m LENGTH ≡ suc (length bs) → Comes f (view b x y n v i z c (TEXT_AT + 9) (lo ∷ hi ∷ []) m text answers) (Back lo hi text answers (Told m0 all)) (b ∷ bs) (1 + (7 + (3 + (15 * length bs + 3))))
   send_a bs go x y n v i z c m b at h e =
       after f 4 fits text_part (text_in f.code block) 0 (view b x y n v i z c (TEXT_AT + 9) (lo ∷ hi ∷ []) m text answers) _ _ (7 + (3 + (15 * length bs + 3))) refl
-      (calls f (lo ∷ hi ∷ []) _ _ _ _ _ _ _ _ _ _ _ m text answers (Said m (b ∷ [])) _ (b ∷ []) bs 7 (3 + (15 * length bs + 3))
+      (calls f (lo ∷ hi ∷ []) _ _ _ _ _ _ _ _ _ _ _ m text answers (Sent nowhere m (b ∷ [])) _ (b ∷ []) bs 7 (3 + (15 * length bs + 3))
       (send_law (under f (lo ∷ hi ∷ [])) (omega (arith, fits)) block _ _ text answers m b _ _ _ _ _ _ _ h.small.0)
       (λ a x y n v i z c w k. next_byte bs go a x y n v i z c m w b at h k e))
 

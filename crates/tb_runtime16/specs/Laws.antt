@@ -17,6 +17,10 @@ pub record WordAt (m : ℕ → ℕ) (at w : ℕ) : Type 0 where
 abbrev pub Changes : (ℕ → Bool) → (ℕ → ℕ) → (ℕ → ℕ) → Type 0
 Changes changes m0 m = (a : ℕ) → changes a ≡ false → m a ≡ m0 a
 
+-- no place
+abbrev pub nowhere : ℕ → Bool
+nowhere a = false
+
 -- LEFT, RIGHT and RESULT
 abbrev pub is_argument : ℕ → Bool
 is_argument a = within LEFT (RIGHT + 1) a || within RESULT (RESULT + 1) a
@@ -52,18 +56,18 @@ pub record Parts (changes : ℕ → Bool) (m0 : ℕ → ℕ) (q r : ℕ) (m : �
   pub rest : WordAt m RESULT r
   pub others : Changes changes m0 m
 
--- ---- Send
-
--- memory after bytes were sent: COLUMN is the column behind them, modulo 256, and all else is as it was
-pub record Said (m0 : ℕ → ℕ) (sent : List ℕ) (m : ℕ → ℕ) : Type 0 where
+-- memory after bytes were sent: COLUMN is the column behind them, modulo 256, and only these places changed too
+pub record Sent (changes : ℕ → Bool) (m0 : ℕ → ℕ) (sent : List ℕ) (m : ℕ → ℕ) : Type 0 where
   pub column : m COLUMN ≡ column_after (m0 COLUMN) sent % 256
-  pub others : (a : ℕ) → a ≢ COLUMN → m a ≡ m0 a
+  pub others : (a : ℕ) → changes a ≡ false → a ≢ COLUMN → m a ≡ m0 a
+
+-- ---- Send
 
 -- the byte in A is sent
 abbrev pub SendLaw : Type 0
 SendLaw =
     (f : Setup) → Fits f 2 → Holds block_part f.code → (lo hi : ℕ) (text answers : List ℕ) (m : ℕ → ℕ) (a x y : ℕ) (n v i z c : Bool) → a < 256 →
-    Comes f (view a x y n v i z c SEND_AT (lo ∷ hi ∷ []) m text answers) (Back lo hi text answers (Said m (a ∷ []))) (a ∷ []) 7
+    Comes f (view a x y n v i z c SEND_AT (lo ∷ hi ∷ []) m text answers) (Back lo hi text answers (Sent nowhere m (a ∷ []))) (a ∷ []) 7
 
 -- ---- Text
 
@@ -100,7 +104,7 @@ TextLaw =
 abbrev pub ZoneLaw : Type 0
 ZoneLaw =
     (f : Setup) → Fits f 4 → Holds block_part f.code → (lo hi : ℕ) (text answers : List ℕ) (m : ℕ → ℕ) (a x y : ℕ) (n v i z c : Bool) → m COLUMN < 256 →
-    Comes f (view a x y n v i z c ZONE_AT (lo ∷ hi ∷ []) m text answers) (Back lo hi text answers (Said m (zone (m COLUMN)))) (zone (m COLUMN)) 97
+    Comes f (view a x y n v i z c ZONE_AT (lo ∷ hi ∷ []) m text answers) (Back lo hi text answers (Sent nowhere m (zone (m COLUMN)))) (zone (m COLUMN)) 97
 
 -- ---- Multiply
 
@@ -148,16 +152,11 @@ DivideByZeroLaw =
 
 -- ---- Number
 
--- memory after Number sent a text: COLUMN on by its length, modulo 256, the arguments lost, all else as it was
-pub record Written (m0 : ℕ → ℕ) (t : List ℕ) (m : ℕ → ℕ) : Type 0 where
-  pub column : m COLUMN ≡ (m0 COLUMN + length t) % 256
-  pub others : (a : ℕ) → is_argument a ≡ false → a ≢ COLUMN → m a ≡ m0 a
-
 -- Number sends the shortest decimal text of the signed word at LEFT
 abbrev pub NumberLaw : Type 0
 NumberLaw =
     (f : Setup) → Fits f 6 → Holds block_part f.code → (lo hi : ℕ) (text answers : List ℕ) (m : ℕ → ℕ) (a x y : ℕ) (n v i z c : Bool) (number : ℕ) → WordAt m LEFT number → m COLUMN < 256 →
-    Comes f (view a x y n v i z c NUMBER_AT (lo ∷ hi ∷ []) m text answers) (Back lo hi text answers (Written m (digits_of number))) (digits_of number) 458
+    Comes f (view a x y n v i z c NUMBER_AT (lo ∷ hi ∷ []) m text answers) (Back lo hi text answers (Sent is_argument m (digits_of number))) (digits_of number) 458
 
 -- ---- Random
 

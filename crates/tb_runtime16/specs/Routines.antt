@@ -1,5 +1,5 @@
 -- What the code of the lines needs of the routines and the prologue: the laws in one form, with one bound.
-use Rattle.std.specs.Prelude.{◌≡◌, ◌≢◌, ℕ, suc, ◌+◌, ◌*◌, ◌/◌, ◌%◌, ◌≤◌, ◌<◌, Bool, true, false, ◌||◌, List, [], ◌∷◌, ◌++◌, length, drop, nat_eq, nat_le}
+use Rattle.std.specs.Prelude.{not, ◌≡◌, ◌≢◌, ℕ, suc, ◌+◌, ◌*◌, ◌/◌, ◌%◌, ◌≤◌, ◌<◌, Bool, true, false, ◌||◌, List, [], ◌∷◌, ◌++◌, length, drop, nat_eq, nat_le}
 use Rattle.tb_cpu.specs.Effects.{bit}
 use Rattle.tb_kernal.specs.Machine.{first_or_zero}
 use Rattle.tb_memmap.specs.Regions.{within}
@@ -11,7 +11,7 @@ use Rattle.tb_reaching.specs.View.{View, Setup, Part, Holds, Fits, Comes, back_a
 use Rattle.tb_reaching.specs.Start.{IsHome, IsWaiting}
 use Rattle.tb_runtime16.specs.Block.{block_part}
 pub use Rattle.tb_runtime16.specs.Laws.{WordAt}
-use Rattle.tb_runtime16.specs.Laws.{AllBytes, Leaves, Gives, Parts, Drawn, is_argument}
+use Rattle.tb_runtime16.specs.Laws.{AllBytes, Leaves, Gives, Parts, Sent, Drawn, is_argument}
 pub use Rattle.tb_runtime16.specs.Ends.{Entered}
 use Rattle.tb_runtime16.specs.Input.{prompt, Taken}
 pub use Rattle.tb_runtime16.specs.Notes.{Noted}
@@ -23,6 +23,10 @@ use Rattle.tb_runtime16.specs.Search.{Line, table_bytes, Rising, AllWords, searc
 -- the places that a program's state is kept at; all others are scratch
 abbrev pub is_owned : ℕ → Bool
 is_owned a = within VARS (HELD + 1) a || within NOTE_LOW (NOTE_HIGH + 499) a
+
+-- all other places
+abbrev pub is_scratch : ℕ → Bool
+is_scratch a = not (is_owned a)
 
 -- the RND state is stored, or still the option's
 pub data SeedAt (m : ℕ → ℕ) (option seed : ℕ) : Type 0 where
@@ -60,11 +64,6 @@ pub record Waiting (w : View) : Type 0 where
   pub waits : IsWaiting w
   pub deep : length w.stack ≤ 14
 
--- memory after bytes were sent: COLUMN is the column behind them, modulo 256, and the other owned places are as they were
-pub record Sent (m0 : ℕ → ℕ) (sent : List ℕ) (m : ℕ → ℕ) : Type 0 where
-  pub column : m COLUMN ≡ column_after (m0 COLUMN) sent % 256
-  pub others : (a : ℕ) → is_owned a ≡ true → a ≢ COLUMN → m a ≡ m0 a
-
 -- what a turn of INPUT sends behind a number: nothing where the line stays open, else 13
 abbrev pub line_end : Bool → List ℕ
 line_end true = []
@@ -81,13 +80,13 @@ pub record Routines (table seed_option : ℕ) (numbers : List ℕ) (start : ℕ 
   pub divide_by_zero : (l h : ℕ) (m : ℕ → ℕ) (text answers : List ℕ) (a n : ℕ) → WordAt m LEFT a → WordAt m RIGHT 0 → WordAt m LINE n → Entered f lo hi m →
       Moves f (Here DIVIDE_AT (l ∷ h ∷ lo ∷ hi ∷ []) m text answers) (IsHome f) (fault_text 2 n) limit
   pub number : (l h : ℕ) (m : ℕ → ℕ) (text answers : List ℕ) (a : ℕ) → WordAt m LEFT a → m COLUMN < 256 →
-      Moves f (Here NUMBER_AT (l ∷ h ∷ lo ∷ hi ∷ []) m text answers) (Leaves (back_at l h) (lo ∷ hi ∷ []) text answers (Sent m (digits_of a))) (digits_of a) limit
+      Moves f (Here NUMBER_AT (l ∷ h ∷ lo ∷ hi ∷ []) m text answers) (Leaves (back_at l h) (lo ∷ hi ∷ []) text answers (Sent is_scratch m (digits_of a))) (digits_of a) limit
   pub text : (l h : ℕ) (m : ℕ → ℕ) (text answers : List ℕ) (at : ℕ) (bytes : List ℕ) → WordAt m POINTER at → m LENGTH ≡ length bytes → Bytes f.code at bytes → AllBytes bytes → 0x0800 ≤ at → at + length bytes ≤ 0xa000 → length bytes < 256 → m COLUMN < 256 →
-      Moves f (Here TEXT_AT (l ∷ h ∷ lo ∷ hi ∷ []) m text answers) (Leaves (back_at l h) (lo ∷ hi ∷ []) text answers (Sent m bytes)) bytes limit
+      Moves f (Here TEXT_AT (l ∷ h ∷ lo ∷ hi ∷ []) m text answers) (Leaves (back_at l h) (lo ∷ hi ∷ []) text answers (Sent is_scratch m bytes)) bytes limit
   pub zone : (l h : ℕ) (m : ℕ → ℕ) (text answers : List ℕ) → m COLUMN < 256 →
-      Moves f (Here ZONE_AT (l ∷ h ∷ lo ∷ hi ∷ []) m text answers) (Leaves (back_at l h) (lo ∷ hi ∷ []) text answers (Sent m (zone (m COLUMN)))) (zone (m COLUMN)) limit
+      Moves f (Here ZONE_AT (l ∷ h ∷ lo ∷ hi ∷ []) m text answers) (Leaves (back_at l h) (lo ∷ hi ∷ []) text answers (Sent is_scratch m (zone (m COLUMN)))) (zone (m COLUMN)) limit
   pub send : (l h : ℕ) (m : ℕ → ℕ) (text answers : List ℕ) (b : ℕ) → b < 256 →
-      Moves f (WithA SEND_AT b (l ∷ h ∷ lo ∷ hi ∷ []) m text answers) (Leaves (back_at l h) (lo ∷ hi ∷ []) text answers (Sent m (b ∷ []))) (b ∷ []) limit
+      Moves f (WithA SEND_AT b (l ∷ h ∷ lo ∷ hi ∷ []) m text answers) (Leaves (back_at l h) (lo ∷ hi ∷ []) text answers (Sent is_scratch m (b ∷ []))) (b ∷ []) limit
   pub search : (l h : ℕ) (m : ℕ → ℕ) (text answers : List ℕ) (n : ℕ) → WordAt m WANTED n → WordAt m TABLE table → WordAt m COUNT (length numbers) → has_line numbers n ≡ true →
       Moves f (Here SEARCH_AT (l ∷ h ∷ lo ∷ hi ∷ []) m text answers) (Leaves (back_at l h) (lo ∷ hi ∷ []) text answers (Gives search_changes m (start n))) [] limit
   pub search_fails : (l h : ℕ) (m : ℕ → ℕ) (text answers : List ℕ) (n at : ℕ) → WordAt m WANTED n → WordAt m TABLE table → WordAt m COUNT (length numbers) → has_line numbers n ≡ false → WordAt m LINE at → Entered f lo hi m →
