@@ -4,11 +4,13 @@ use crate::failure::Failure;
 use crate::sources::{ASSIGNMENT, GREETING, SOURCES, compiled, show_bytes};
 use std::alloc::Global;
 use tb_codegen::Compiled;
-use tb_cpu::{Flags, Regs};
-use tb_kernal::{Keyboard, Machine, Outside, Quiet, Rude, Status, run};
+use tb_cpu::Regs;
+use tb_engines::start_regs;
+use tb_kernal::{Machine, Outside, Quiet, Rude, Status, run};
 use tb_memmap::Memory;
 use tb_prg::read;
 use tb_stepper::{StepError, Stepper};
+use tb_test_parts::no_keys;
 use tb_words::Letter;
 
 /// More events than any program here takes.
@@ -24,24 +26,6 @@ fn seen(machine: &Machine) -> Seen {
         machine.sent().len(),
         machine.room(),
     )
-}
-
-fn regs_at(pc: u16, a: u8) -> Regs {
-    Regs {
-        a,
-        x: 0,
-        y: 0,
-        s: 0xf0,
-        pc,
-        flags: Flags {
-            n: false,
-            v: false,
-            d: false,
-            i: false,
-            z: false,
-            c: false,
-        },
-    }
 }
 
 fn load(memory: &mut Memory, at: u16, bytes: &[u8]) -> Result<(), Failure> {
@@ -60,17 +44,13 @@ fn memory_with(alloc: Global, at: u16, bytes: &[u8]) -> Result<Memory, Failure> 
 // A machine with such a memory and no keys.
 fn machine_with(alloc: Global, at: u16, bytes: &[u8], regs: Regs) -> Result<Machine, Failure> {
     let memory = memory_with(alloc, at, bytes)?;
-    let keyboard = Keyboard {
-        text: Vec::new(alloc),
-        answers: Vec::new(alloc),
-    };
-    Machine::enter(alloc, memory, regs, keyboard).map_err(|_| Failure::Refused)
+    Machine::enter(alloc, memory, regs, no_keys(alloc)).map_err(|_| Failure::Refused)
 }
 
 // A machine at the start of a compiled program.
 fn machine_of(alloc: Global, program: &Compiled) -> Result<Machine, Failure> {
     let file = read(program.prg())?;
-    machine_with(alloc, file.at, file.bytes, regs_at(0x080d, 0))
+    machine_with(alloc, file.at, file.bytes, start_regs(file.at))
 }
 
 fn machine_from(alloc: Global, source: &[u8]) -> Result<Machine, Failure> {
@@ -108,7 +88,10 @@ fn show_reserved(machine: &mut Machine, text: &mut String) -> Result<(), Failure
 }
 
 pub fn show_reserve(alloc: Global, text: &mut String) -> Result<(), Failure> {
-    let regs = regs_at(0xc000, 0x48);
+    let regs = Regs {
+        a: 0x48,
+        ..start_regs(0xc000)
+    };
     let mut machine = machine_with(alloc, 0xc000, &[0x20, 0xd2, 0xff], regs)?;
     show_reserved(&mut machine, text)
 }
@@ -125,7 +108,7 @@ fn show_typed(machine: &mut Machine, text: &mut String) -> Result<(), Failure> {
 }
 
 pub fn show_type_text(alloc: Global, text: &mut String) -> Result<(), Failure> {
-    let regs = regs_at(0xc000, 0);
+    let regs = start_regs(0xc000);
     let mut machine = machine_with(alloc, 0xc000, &[0x20, 0xcf, 0xff], regs)?;
     go(&mut machine)?;
     show_typed(&mut machine, text)

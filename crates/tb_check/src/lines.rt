@@ -1,4 +1,4 @@
-//! The lines of a file.
+//! The lines of a file, each with its number and its statement.
 ghost use Rattle.std.specs.Prelude.{◌≡◌, IfOk, OnOk, map};
 ghost use Rattle.tb_parser.specs.Lines.{lines_of_file};
 ghost use Rattle.tb_check.specs.Entries.{EntriesAre, Enters, IsEntry, entry_of, number_and_command};

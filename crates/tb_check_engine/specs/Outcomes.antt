@@ -1,4 +1,4 @@
--- The exit statuses.
+-- The exit statuses of checks.
 use Rattle.std.specs.Prelude.{ℕ}
 use Rattle.tb_check_engine.specs.declared.outcome.CheckOutcome.{CheckOutcome}
 use Rattle.tb_check_engine.specs.declared.outcome.CheckOutcome.TheVariants.{Accepted, Refused, ReadFault, WriteFault, NoMemory}

@@ -1,4 +1,4 @@
-//! Commands, as lines spell them.
+//! The stepper's commands, as lines spell them.
 ghost use Rattle.std.specs.Prelude.{◌≡◌};
 ghost use Rattle.tb_commands.specs.Commands.{asked_of, asked_in, alone, with_text, line_in};
 

@@ -1,4 +1,4 @@
--- The commands that lines spell.
+-- The debugger's commands, and the lines that spell them.
 use Rattle.std.specs.Prelude.{ℕ, ◌+◌, ◌-◌, ◌*◌, ◌==◌, ◌&&◌, nat_le, List, [], ◌∷◌, length, Option, Some, None, if◌then◌else◌}
 use Rattle.std.specs.Option.{option_and_then}
 use Rattle.tb_words.specs.Letters.{place}

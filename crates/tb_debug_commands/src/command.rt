@@ -1,4 +1,4 @@
-//! Commands, as lines spell them.
+//! The debugger's commands, as lines spell them.
 ghost use Rattle.std.specs.Prelude.{◌≡◌, ◌≤◌, ◌<◌, length, IfSome};
 ghost use Rattle.tb_command_parts.specs.Parts.{number_of};
 ghost use Rattle.tb_debug_commands.specs.Commands.{asked_of, asked_in, alone, words, with_text, with_number, counting, line_of, memory_in, memory_at, address_of, digit_of, most_digits};

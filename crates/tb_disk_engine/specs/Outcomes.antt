@@ -1,4 +1,4 @@
--- The exit statuses.
+-- The exit statuses of making disks.
 use Rattle.std.specs.Prelude.{ℕ}
 use Rattle.tb_disk_engine.specs.declared.outcome.DiskOutcome.{DiskOutcome}
 use Rattle.tb_disk_engine.specs.declared.outcome.DiskOutcome.TheVariants.{Done, Refused, ReadFault, WriteFault, NoMemory}

@@ -1,24 +1,22 @@
 -- What is delivered of a source.
-use Rattle.std.proofs.Common.{◌≡◌, ℕ, List, [], Option, Result, Ok, Err, refl, subst, sym, ◌∙◌}
+use Rattle.std.proofs.Common.{◌≡◌, ℕ, List, [], Option, Result, Ok, Err, refl, subst, sym}
 use Rattle.tb_lower.specs.declared.missing.Warning.{Warning}
 use Rattle.tb_parser.specs.Files.{Outcome as FileOutcome}
 use Rattle.tb_refusals.specs.declared.refusals.CompileError.{CompileError}
 use Rattle.tb_refusals.specs.declared.refusals.CompileError.TheVariants.{Source as BadSource, Lower, TooLarge, NoMemory as NoCompilerMemory}
 use Rattle.tb_codegen.specs.Answers.{HasOutcome, Makes as LinesMake, OutcomeAnswer}
-use Rattle.tb_codegen.specs.Compiled.{prg_of, warnings_of}
+use Rattle.tb_codegen.specs.Compiled.{warnings_of}
 use Rattle.tb_codegen.specs.declared.compiled.Compiled.{Compiled}
 use Rattle.tb_streams.specs.Streams.{Reads}
 use Rattle.tb_engines.specs.Outcomes.{Product, Answers, MadeFrom}
 use Rattle.tb_engines.specs.Made.{Makes, Shows}
-use Rattle.tb_driver.specs.Sources.{Compiles, IsCompiled, stop_of, FromSource}
-use Rattle.tb_driver.specs.Output.{RunsSource}
+use Rattle.tb_driver.specs.Sources.{Compiles, stop_of, FromSource}
 use Rattle.tb_engines.specs.declared.made.Text.{Text}
 use Rattle.tb_engines.specs.declared.made.Stop.{Stop}
 use Rattle.tb_engines.specs.declared.made.Stop.TheVariants.{Refused as StopRefused, NoMemory as StopNoMemory}
 use Rattle.tb_engines.specs.declared.outcome.Outcome.{Outcome}
 use Rattle.tb_engines.specs.declared.outcome.Outcome.TheVariants.{Ended, Refused, ReadFault, WriteFault, NoMemory}
 use Rattle.tb_engines.specs.declared.report.Report.{Report}
-use Rattle.tb_driver.specs.declared.sources.Program.{Program}
 
 -- ---- what was made, and what was written of it
 
@@ -64,14 +62,6 @@ refusal_delivered makes had input source e stop outcome report old new reads sam
 
 -- ---- what is made of a source
 
--- the compiler's refusal, with its promises
-pub refused_so : (seed : ℕ) (source : List ℕ) (e : CompileError) → HasOutcome seed source (Err e)
-    → ((outcome : FileOutcome) → LinesMake source outcome → OutcomeAnswer seed outcome (Err e)) → IsCompiled seed source (Err e)
-refused_so seed source (BadSource e) found only = record { found = found; only = only }
-refused_so seed source (Lower e) found only = record { found = found; only = only }
-refused_so seed source (TooLarge n) found only = record { found = found; only = only }
-refused_so seed source NoCompilerMemory found only = tt
-
 -- what is made of a source's program is made of the source
 pub from_compiled : (seed : ℕ) (makes : Compiled → Product → Type 0) (source : List ℕ) (c : Compiled) (warnings : List Warning)
     (made : Result Text Stop) → Compiles seed source (Ok c) → warnings ≡ warnings_of c → Makes (makes c) made
@@ -79,26 +69,10 @@ pub from_compiled : (seed : ℕ) (makes : Compiled → Product → Type 0) (sour
 from_compiled seed makes source c warnings made compiled warned m =
     makes_as (makes c) (FromSource seed makes warnings source) (λ x h. (Ok c, compiled, (warned, h))) made m
 
--- so is what is made of its PRG file
-pub from_program : (seed : ℕ) (makes : List ℕ → Product → Type 0) (source : List ℕ) (program : Program) (file : List ℕ) (made : Result Text Stop)
-    → IsCompiled seed source (Ok program) → file ≡ program.prg.items → Makes (makes file) made
-    → Makes (FromSource seed (λ c. makes (prg_of c)) program.warnings.items source) made
-from_program seed makes source program file made (c, compiled, of) same m =
-    from_compiled seed (λ c. makes (prg_of c)) source c program.warnings.items made compiled of.warnings
-    (subst (λ f. Makes (makes f) made) (same ∙ of.prg) m)
-
 -- a refusal is made of the source that is refused
-pub from_refusal : (seed : ℕ) (makes : Compiled → Product → Type 0) (source : List ℕ) (e : CompileError) → IsCompiled seed source (Err e)
-    → Makes (FromSource seed makes [] source) (Err (stop_of e))
-from_refusal seed makes source (BadSource e) c = (Err (BadSource e), c, (refl, refl))
-from_refusal seed makes source (Lower e) c = (Err (Lower e), c, (refl, refl))
-from_refusal seed makes source (TooLarge n) c = (Err (TooLarge n), c, (refl, refl))
-from_refusal seed makes source NoCompilerMemory c = tt
-
--- so is it where the source was to be run
-pub runs_refusal : (seed : ℕ) (keys answers source : List ℕ) (e : CompileError) → IsCompiled seed source (Err e)
-    → Makes (RunsSource seed keys answers source) (Err (stop_of e))
-runs_refusal seed keys answers source (BadSource e) c = c
-runs_refusal seed keys answers source (Lower e) c = c
-runs_refusal seed keys answers source (TooLarge n) c = c
-runs_refusal seed keys answers source NoCompilerMemory c = tt
+pub from_refusal : (seed : ℕ) (makes : Compiled → Product → Type 0) (source : List ℕ) (e : CompileError) → HasOutcome seed source (Err e)
+    → ((outcome : FileOutcome) → LinesMake source outcome → OutcomeAnswer seed outcome (Err e)) → Makes (FromSource seed makes [] source) (Err (stop_of e))
+from_refusal seed makes source (BadSource e) found only = (Err (BadSource e), record { found = found; only = only }, (refl, refl))
+from_refusal seed makes source (Lower e) found only = (Err (Lower e), record { found = found; only = only }, (refl, refl))
+from_refusal seed makes source (TooLarge n) found only = (Err (TooLarge n), record { found = found; only = only }, (refl, refl))
+from_refusal seed makes source NoCompilerMemory found only = tt

@@ -1,4 +1,5 @@
 pub mod Delivered
+mod ReadSources
 mod Output
 pub mod Loadable
 mod Stepped

@@ -134,7 +134,7 @@ shows program seed s t pc WaitsForKey sound e =
     waits Faulted over h = let no : WaitsForKey ≡ Returned = e ∙ h in cc
     waits Waits over h = record { lines = sound.lines; output = t.sent; over = over; shown = refl }
 
-in_ram : (n : ℕ) → 0x0801 + n ≤ 0xa000 → IsOpenRange 0x0801 n
+pub in_ram : (n : ℕ) → 0x0801 + n ≤ 0xa000 → IsOpenRange 0x0801 n
 in_ram n h k below = let a : 0x0801 + k < 0xa000 = omega arith in open_so (0x0801 + k) (omega arith) a
   where
     open_so : (a : ℕ) → 0x0801 ≤ a → a < 0xa000 → is_open a ≡ true
@@ -176,15 +176,15 @@ image_loads image h =
     (rw below refl, ends)
 
 module _ (seed : ℕ) (source : List ℕ) (c : Compiled) where
-  answer_loads : (outcome : Outcome) → OutcomeAnswer seed outcome (Ok c) → IsLoaded (prg_of c)
-  answer_loads (Ok program) is =
+  pub file_loads : (outcome : Outcome) → OutcomeAnswer seed outcome (Ok c) → IsLoaded (prg_of c)
+  file_loads (Ok program) is =
       let l = all_size (labels_from PROLOGUE_AT is.items) PROLOGUE_AT is.items in
       subst IsLoaded (sym is.prg) (image_loads (image_of PROLOGUE_AT is.items) (omega (arith, l, is.ends)))
-  answer_loads (Err r) none = absurd none
+  file_loads (Err r) none = absurd none
 
   -- a compiled file keeps its source
-  pub keeps_source : (file : List ℕ) → Answered seed source (Ok c)
-      → (program : Program) × LinesMake source (Ok program) × Keeps 0x0801 (loaded_of c) program seed → file ≡ prg_of c → KeepsSource seed source file
-  keeps_source file found (program, made, keeps) same =
-      let loads = subst IsLoaded (sym same) (answer_loads found.outcome found.answer) in
-      record { program = program; made = made; content = loads.0; ends = loads.1; keeps = subst (λ f. Keeps 0x0801 (drop 2 f) program seed) (sym same) keeps }
+  pub keeps_source : Answered seed source (Ok c)
+      → (program : Program) × LinesMake source (Ok program) × Keeps 0x0801 (loaded_of c) program seed → KeepsSource seed source (prg_of c)
+  keeps_source found (program, made, keeps) =
+      let loads = file_loads found.outcome found.answer in
+      record { program = program; made = made; content = loads.0; ends = loads.1; keeps = keeps }

@@ -1,11 +1,12 @@
 -- What is delivered of a source and commands.
-use Rattle.std.proofs.Common.{◌≡◌, ℕ, List, [], Option, Result, Ok, Err, refl, subst, sym, ap, ◌∙◌}
+use Rattle.std.proofs.Common.{◌≡◌, ℕ, List, [], Option, Result, Ok, Err, refl, subst, ◌∙◌}
 use Rattle.std.specs.Io.KnownBytes.{Consumes}
 use Rattle.tb_lower.specs.declared.missing.Warning.{Warning}
 use Rattle.tb_kernal.specs.declared.outside.Quiet.{Quiet}
 use Rattle.tb_kernal.specs.Machine.{Content}
-use Rattle.tb_prg.specs.declared.PrgError.{PrgError}
+use Rattle.tb_parser.specs.Files.{Outcome as FileOutcome}
 use Rattle.tb_prg.specs.Prg.{content_of}
+use Rattle.tb_codegen.specs.Answers.{HasOutcome, Makes as LinesMake, OutcomeAnswer}
 use Rattle.tb_codegen.specs.Compiled.{prg_of, loaded_of, warnings_of}
 use Rattle.tb_codegen.specs.declared.compiled.Compiled.{Compiled}
 use Rattle.tb_refusals.specs.declared.refusals.CompileError.{CompileError}
@@ -13,23 +14,16 @@ use Rattle.tb_stepper.specs.Notes.{Holds}
 use Rattle.tb_commands.specs.Lines.{lines_of}
 use Rattle.tb_commands.specs.Dialogue.{Dialogue}
 use Rattle.tb_streams.specs.Streams.{Reads}
+use Rattle.tb_play.specs.Talks.{gives_quiet}
 use Rattle.tb_engines.specs.Made.{Makes}
 use Rattle.tb_engines.specs.Programs.{start}
-use Rattle.tb_driver.specs.Sources.{Compiles, IsCompiled, stop_of, FromSource}
-use Rattle.tb_driver.specs.Stepping.{IsLoadable, gives_quiet, start_of_history, Steps, StepsThrough, MadeFromTaken}
+use Rattle.tb_driver.specs.Sources.{Compiles, stop_of, FromSource}
+use Rattle.tb_driver.specs.Stepping.{IsLoadable, start_of_history, Steps, StepsThrough, MadeFromTaken}
 use Rattle.tb_engines.specs.declared.made.Text.{Text}
 use Rattle.tb_engines.specs.declared.made.Stop.{Stop}
 use Rattle.tb_engines.specs.declared.outcome.End.TheVariants.{Done}
 use Rattle.tb_driver.proofs.Delivered.{makes_as, from_compiled, from_refusal}
-
--- the address and the bytes of a file that was read
-abbrev address_in : Result (ℕ × List ℕ) PrgError → ℕ
-address_in (Ok p) = p.0
-address_in (Err e) = 0
-
-abbrev bytes_in : Result (ℕ × List ℕ) PrgError → List ℕ
-bytes_in (Ok p) = p.1
-bytes_in (Err e) = []
+use Rattle.tb_driver.proofs.Loadable.{machine_at_start}
 
 module _ (text answers : List ℕ) (limit : ℕ) where
   -- the answers over the machine that a loadable program starts with
@@ -37,9 +31,7 @@ module _ (text answers : List ℕ) (limit : ℕ) where
       → content_of (prg_of program) ≡ Ok (at, bytes) → m ≡ start at bytes text answers → h ≡ record (start_of_history text answers program) { machine = m }
       → Dialogue gives_quiet limit h (lines_of commands) said k → Steps text answers limit program commands (Ok (said, Done))
   stepped program commands at bytes m h k said loadable content same_machine same talked =
-      let first : at ≡ 0x0801 = ap address_in (sym content ∙ loadable.0) in
-      let rest : bytes ≡ loaded_of program = ap bytes_in (sym content ∙ loadable.0) in
-      let machine : m ≡ start 0x0801 (loaded_of program) text answers = same_machine ∙ (λ i. start (first i) (rest i) text answers) in
+      let machine : m ≡ start 0x0801 (loaded_of program) text answers = machine_at_start text answers program at bytes m loadable content same_machine in
       let whole : h ≡ start_of_history text answers program = same ∙ (λ i. record (start_of_history text answers program) { machine = machine i }) in
       (k, subst (λ x. Dialogue gives_quiet limit x (lines_of commands) said k) whole talked, refl)
 
@@ -54,8 +46,9 @@ module _ (text answers : List ℕ) (limit : ℕ) where
       (λ x h. (typed, reads, taken, h)) made (from_compiled seed (λ p. Steps text answers limit p typed) source program warnings made compiled warned here)
 
   -- what was made of a source that is refused
-  pub steps_refused : (seed : ℕ) (had_commands left_commands : Option (List ℕ)) (source typed : List ℕ) (e : CompileError) → Reads had_commands typed → Consumes had_commands left_commands typed → IsCompiled seed source (Err e)
+  pub steps_refused : (seed : ℕ) (had_commands left_commands : Option (List ℕ)) (source typed : List ℕ) (e : CompileError) → Reads had_commands typed → Consumes had_commands left_commands typed → HasOutcome seed source (Err e)
+      → ((outcome : FileOutcome) → LinesMake source outcome → OutcomeAnswer seed outcome (Err e))
       → Makes (MadeFromTaken had_commands left_commands (StepsThrough seed text answers limit [] source)) (Err (stop_of e))
-  steps_refused seed had_commands left_commands source typed e reads taken refused =
+  steps_refused seed had_commands left_commands source typed e reads taken found only =
       makes_as (FromSource seed (λ p. Steps text answers limit p typed) [] source) (MadeFromTaken had_commands left_commands (StepsThrough seed text answers limit [] source))
-      (λ x h. (typed, reads, taken, h)) (Err (stop_of e)) (from_refusal seed (λ p. Steps text answers limit p typed) source e refused)
+      (λ x h. (typed, reads, taken, h)) (Err (stop_of e)) (from_refusal seed (λ p. Steps text answers limit p typed) source e found only)

@@ -1,4 +1,4 @@
 pub mod Sources
 pub mod Output
 pub mod Stepping
-pub mod Playing
+pub mod Reading

@@ -14,7 +14,6 @@ use Rattle.tb_engines.specs.declared.outcome.End.TheVariants.{Done}
 use Rattle.tb_engines.specs.declared.outcome.Outcome.{Outcome as EngineOutcome}
 use Rattle.tb_engines.specs.declared.outcome.Outcome.TheVariants.{Ended, Refused, ReadFault, WriteFault, NoMemory as NoEngineMemory}
 use Rattle.tb_engines.specs.declared.outcome.Refusal.TheVariants.{Source}
-use Rattle.tb_driver.specs.declared.sources.Program.{Program}
 
 -- what the compiler promises of an answer for a source and a first state of RND: what the file's lines make is answered,
 -- and whatever they make is what is answered
@@ -26,17 +25,6 @@ pub record IsAnswer (seed : ℕ) (source : List ℕ) (answer : Result Compiled C
 abbrev pub Compiles : ℕ → List ℕ → Result Compiled CompileError → Type 0
 Compiles seed source (Err NoMemory) = ⊥
 Compiles seed source answer = IsAnswer seed source answer
-
--- a program with the PRG file and the warnings of a compiled one
-pub record IsProgramOf (c : Compiled) (program : Program) : Type 0 where
-  pub prg : program.prg.items ≡ prg_of c
-  pub warnings : program.warnings.items ≡ warnings_of c
-
--- the program that the compiler answers, or its refusal; nothing is said where memory was wanting
-abbrev pub IsCompiled : ℕ → List ℕ → Result Program CompileError → Type 0
-IsCompiled seed source (Ok program) = (c : Compiled) × Compiles seed source (Ok c) × IsProgramOf c program
-IsCompiled seed source (Err NoMemory) = Unit {0}
-IsCompiled seed source (Err e) = Compiles seed source (Err e)
 
 -- how an engine stops where there is no program
 abbrev pub stop_of : CompileError → Stop

@@ -5,9 +5,6 @@ use Rattle.tb_memmap.specs.Bytes.{IsOpenRange}
 use Rattle.tb_prg.specs.Prg.{content_of}
 use Rattle.tb_lower.specs.declared.missing.Warning.{Warning}
 use Rattle.tb_kernal.specs.declared.outside.Quiet.{Quiet}
-use Rattle.tb_kernal.specs.declared.events.Event.{Event}
-use Rattle.tb_kernal.specs.Machine.{Content}
-use Rattle.tb_kernal.specs.Runs.{is_quiet}
 use Rattle.tb_codegen.specs.Compiled.{prg_of, loaded_of}
 use Rattle.tb_codegen.specs.declared.compiled.Compiled.{Compiled}
 use Rattle.tb_stepper.specs.Notes.{Holds}
@@ -16,6 +13,7 @@ use Rattle.tb_commands.specs.Dialogue.{Dialogue}
 use Rattle.tb_streams.specs.Streams.{MayPassMost, Reads}
 use Rattle.tb_engines.specs.Outcomes.{Product, MadeFrom}
 use Rattle.tb_engines.specs.Programs.{start}
+use Rattle.tb_play.specs.Talks.{gives_quiet}
 use Rattle.tb_driver.specs.Sources.{FromSource}
 use Rattle.tb_engines.specs.declared.outcome.End.TheVariants.{Done}
 use Rattle.tb_engines.specs.declared.outcome.Outcome.{Outcome}
@@ -25,10 +23,6 @@ use Rattle.tb_engines.specs.declared.outcome.Outcome.TheVariants.{Ended, Refused
 abbrev pub IsLoadable : Compiled → Type 0
 IsLoadable program =
     (content_of (prg_of program) ≡ Ok (0x0801, loaded_of program)) × IsOpenRange 0x0801 (length (loaded_of program))
-
--- what the quiet outside gives
-abbrev pub gives_quiet : Quiet → Content → Event → Quiet → Type 0
-gives_quiet _ m e _ = is_quiet m e
 
 -- the history of a program's start machine alone
 abbrev pub start_of_history : List ℕ → List ℕ → Compiled → Holds Quiet

@@ -1,42 +1,16 @@
 //! Playing a source: the keyboard is a person.
-ghost use Rattle.std.specs.Prelude.{◌≡◌, ◌+◌, ◌≤◌, ℕ, [], List, vec_len};
-ghost use Rattle.tb_streams.specs.Streams.{most_input, ConsumesAtMost};
+ghost use Rattle.std.specs.Prelude.{◌≤◌, ℕ, [], List, vec_len};
 ghost use Rattle.tb_streams.specs.Failures.{failures_of};
 ghost use Rattle.tb_play.specs.Plays.{PlaysFile, PlayFaults, RunsTyped, Shows};
 ghost use Rattle.tb_driver.specs.Output.{KeepsSource, RunsSource};
-ghost use Rattle.tb_driver.specs.Playing.{ReadsSource};
 
-use crate::sources::{Program, are_bytes, compile_source};
+use crate::sources::are_bytes;
 use std::alloc::Global;
 use std::io::{Read, Write};
-use tb_codegen::CompileError;
-use tb_engines::{Outcome, Refusal, without_input};
 use tb_play::{Played, play_file};
-use tb_streams::{Tracked, read_input};
+use tb_streams::Tracked;
 
-/// Reads a source and compiles it with a first state of RND.
-pub fn read_source<R: Read>(
-    alloc: Global,
-    reader: &mut Tracked<R>,
-    seed: u16,
-) -> Result<Program, Outcome>
-    ensures answers { ReadsSource seed result (R.remaining reader.old.stream)
-        (failures_of reader.old) (failures_of reader.new) }
-    ensures taken { ConsumesAtMost (R.remaining reader.old.stream) (R.remaining reader.new.stream)
-        (most_input + 1) }
-{
-    let source = match read_input(alloc, reader) {
-        Ok(source) => source,
-        Err(error) => return Err(without_input(error)),
-    };
-    match compile_source(alloc, source.as_slice(), seed) {
-        Ok(program) => Ok(program),
-        Err(CompileError::NoMemory) => Err(Outcome::NoMemory),
-        Err(error) => Err(Outcome::Refused(Refusal::Source(error))),
-    }
-}
-
-/// Plays the PRG file of a program that `read_source` made, as `play_file` does.
+/// Plays the PRG file of a program that `read_source` answered, as `play_file` does.
 ///
 /// What was written is the source's output on the keyboard text that was typed: all of it where the program returned or
 /// waits for a key, and a prefix at the limit of events; and at a fault that on what was typed up to there.

@@ -1,51 +1,32 @@
-//! Compiling a source, and running it.
-ghost use Rattle.std.specs.Prelude.{◌≡◌, ◌+◌, ℕ, [], List, Ok, Err, IfOk};
+//! Building a source, and running it.
+ghost use Rattle.std.specs.Prelude.{◌+◌, ℕ, List};
 ghost use Rattle.tb_runtime16.specs.Laws.{AllBytes};
 ghost use Rattle.tb_streams.specs.Streams.{most_input, ConsumesAtMost};
 ghost use Rattle.tb_streams.specs.Failures.{failures_of};
 ghost use Rattle.tb_engines.specs.Outcomes.{Answers, Faults, MadeFrom};
-ghost use Rattle.tb_engines.specs.Made.{Makes};
+ghost use Rattle.tb_engines.specs.Made.{DeliveryFaults, Makes};
 ghost use Rattle.tb_engines.specs.Programs.{RunsPrg};
-ghost use Rattle.tb_driver.specs.Sources.{IsCompiled, stop_of, IsFile, FromSource, WarnsOfRead};
+ghost use Rattle.tb_driver.specs.Sources.{IsFile, FromSource, WarnsOfRead};
 ghost use Rattle.tb_codegen.specs.Compiled.{prg_of};
 ghost use Rattle.tb_driver.specs.Output.{KeepsSource, RunsSource};
 
+use crate::reading::read_source;
 use std::alloc::Global;
 use std::io::{Read, Write};
-use tb_codegen::{CompileError, Options, compile};
-use tb_engines::{End, Outcome, Refusal, Report, Stop, Text, deliver, run_file, without_input};
+use tb_codegen::Compiled;
+use tb_engines::{End, Outcome, Report, Stop, Text, deliver, run_file};
 use tb_kernal::{Keyboard, Outside};
-use tb_lower::Warning;
-use tb_streams::{Tracked, read_input};
+use tb_streams::{Tracked, write_output};
 
-/// A program that was compiled.
-#[derive(Drop)]
-pub struct Program {
-    /// The PRG file.
-    pub prg: Vec<u8>,
-    /// The jumps to lines that aren't there.
-    pub warnings: Vec<Warning>,
-}
-
-/// Compiles a source with a first state of RND.
-pub fn compile_source(alloc: Global, source: &[u8], seed: u16) -> Result<Program, CompileError>
-    ensures compiled { IsCompiled seed source.now result }
-    ensures keeps { IfOk result (λ program. KeepsSource seed source.now program.prg.items) }
+// Writes a program's PRG file.
+fn write_program<W: Write>(writer: &mut Tracked<W>, program: &Compiled) -> Outcome
+    ensures answers { Answers (IsFile program.now) result
+        (W.contents writer.old.stream) (W.contents writer.new.stream) }
+    ensures faults { DeliveryFaults result (failures_of writer.old) (failures_of writer.new) }
 {
-    let compiled = compile(alloc, source, Options { seed })?;
-    Ok(Program {
-        prg: Vec::from_slice(alloc, compiled.prg())?,
-        warnings: Vec::from_slice(alloc, compiled.warnings())?,
-    })
-}
-
-/// How an engine stops where a source is not compiled. Want of memory is no refusal.
-pub fn stop_of(error: CompileError) -> Stop
-    ensures { result ≡ stop_of error }
-{
-    match error {
-        CompileError::NoMemory => Stop::NoMemory,
-        _ => Stop::Refused(Refusal::Source(error)),
+    match write_output(writer, program.prg()) {
+        Ok(()) => Outcome::Ended(End::Done),
+        Err(_) => Outcome::WriteFault,
     }
 }
 
@@ -66,22 +47,16 @@ pub fn build<R: Read, W: Write>(
     ensures taken { ConsumesAtMost (R.remaining reader.old.stream) (R.remaining reader.new.stream)
         (most_input + 1) }
 {
-    let source = match read_input(alloc, reader) {
-        Ok(source) => source,
-        Err(error) => return Report::new(alloc, without_input(error)),
+    let program = match read_source(alloc, reader, seed) {
+        Ok(program) => program,
+        Err(outcome) => return Report::new(alloc, outcome),
     };
-    match compile_source(alloc, source.as_slice(), seed) {
-        Ok(Program { prg, warnings }) => {
-            let file = Text {
-                bytes: prg,
-                end: End::Done,
-            };
-            Report {
-                outcome: deliver(writer, Ok(file)),
-                warnings,
-            }
-        }
-        Err(error) => Report::new(alloc, deliver(writer, Err(stop_of(error)))),
+    let Ok(warnings) = Vec::from_slice(alloc, program.warnings()) else {
+        return Report::new(alloc, Outcome::NoMemory);
+    };
+    Report {
+        outcome: write_program(writer, &program),
+        warnings,
     }
 }
 
@@ -134,18 +109,18 @@ pub fn run_text<R: Read, W: Write, O: Outside>(
     ensures taken { ConsumesAtMost (R.remaining reader.old.stream) (R.remaining reader.new.stream)
         (most_input + 1) }
 {
-    let source = match read_input(alloc, reader) {
-        Ok(source) => source,
-        Err(error) => return Report::new(alloc, without_input(error)),
+    let program = match read_source(alloc, reader, seed) {
+        Ok(program) => program,
+        Err(outcome) => return Report::new(alloc, outcome),
     };
-    match compile_source(alloc, source.as_slice(), seed) {
-        Ok(Program { prg, warnings }) => Report {
-            outcome: deliver(
-                writer,
-                run_compiled(alloc, prg.as_slice(), keyboard, limit, outside),
-            ),
-            warnings,
-        },
-        Err(error) => Report::new(alloc, deliver(writer, Err(stop_of(error)))),
+    let Ok(warnings) = Vec::from_slice(alloc, program.warnings()) else {
+        return Report::new(alloc, Outcome::NoMemory);
+    };
+    Report {
+        outcome: deliver(
+            writer,
+            run_compiled(alloc, program.prg(), keyboard, limit, outside),
+        ),
+        warnings,
     }
 }

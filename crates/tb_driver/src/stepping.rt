@@ -7,7 +7,7 @@ ghost use Rattle.tb_engines.specs.Made.{Makes};
 ghost use Rattle.tb_driver.specs.Sources.{WarnsOfRead};
 ghost use Rattle.tb_driver.specs.Stepping.{IsLoadable, Steps, StepsThrough, MadeFromBoth, FaultsOfBoth};
 
-use crate::sources::stop_of;
+use crate::reading::stop_of;
 use std::alloc::Global;
 use std::io::{Read, Write};
 use tb_codegen::{Compiled, Options, compile};

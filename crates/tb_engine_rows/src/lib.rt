@@ -13,6 +13,4 @@ mod play;
 #[cfg(test)]
 mod profile;
 #[cfg(test)]
-mod streams;
-#[cfg(test)]
 mod words;

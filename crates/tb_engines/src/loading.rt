@@ -26,7 +26,8 @@ const RETURN_AT: u16 = 0x01f1;
 /// The return address, low byte first, so that the program returns to `$A100`.
 const RETURN: [u8; 2] = [0xff, 0xa0];
 
-fn start_regs(at: u16) -> Regs
+/// The registers where a program starts that is loaded at an address.
+pub fn start_regs(at: u16) -> Regs
     ensures { result ≡ start_regs at }
 {
     Regs {
@@ -35,14 +36,7 @@ fn start_regs(at: u16) -> Regs
         y: 0,
         s: START_S,
         pc: if at == BASIC_START { CODE_START } else { at },
-        flags: Flags {
-            n: false,
-            v: false,
-            d: false,
-            i: false,
-            z: false,
-            c: false,
-        },
+        flags: Flags::from_byte(0),
     }
 }
 

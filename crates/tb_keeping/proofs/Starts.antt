@@ -1,4 +1,4 @@
--- Where a machine that runs a program's code begins a line, the program does.
+-- Runs in which each start of a line is counted: theory over any machine.
 use Rattle.std.proofs.Common.{◌≡◌, ℕ, zero, suc, ◌+◌, ◌-◌, ◌*◌, ◌≤◌, ◌<◌, Bool, true, false, if◌then◌else◌, List, [], ◌∷◌, ◌++◌, refl, sym, ap, ◌∙◌, subst, arith, length, Option, Some, None, append_assoc, zero-add, suc-add, ⊎_elim, ap₂, mul-le-mul_right, le_trans}
 use Rattle.std.proofs.lemmas.Bool.{cases_lt}
 use Rattle.tb_lower.specs.Steps.{End, Step, Goes, Stops, Run, GoesOn, Over, joined, advance, advance_by}

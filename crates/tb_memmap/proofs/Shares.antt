@@ -1,4 +1,4 @@
--- The open addresses are shared between the ROM and the program.
+-- Each open address is the ROM's or the program's, by the bounds of the regions.
 use Rattle.std.proofs.Common.{◌≡◌, ℕ, ◌<◌, ◌&&◌, ◌||◌, arith, ap, ◌∙◌}
 use Rattle.std.proofs.lemmas.Bool.Decides.{nat_tests}
 use Rattle.tb_memmap.specs.Regions.{is_open, within, is_rom}

@@ -1,4 +1,4 @@
--- The first line of a text.
+-- Where the first line of a source ends, at either kind of line's end.
 use Rattle.std.proofs.Common.{◌≡◌, ◌≢◌, ℕ, zero, suc, ◌<◌, ◌≤◌, false, List, [], ◌∷◌, length, get_or, take, drop, refl, arith, ◌==◌}
 use Rattle.tb_parser.specs.Lines.{lines_from}
 use Rattle.tb_parser.proofs.Steps.{unequal}

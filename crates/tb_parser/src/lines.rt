@@ -1,4 +1,4 @@
-//! The lines of a file.
+//! How a file is cut into lines.
 ghost use Rattle.std.specs.Prelude.{◌≡◌, ◌∷◌, [], ◌<◌, false, length, IsTrue, MatchOption};
 ghost use Rattle.tb_parser.specs.Lines.{lines_from, starts_with_end};
 

@@ -4,20 +4,20 @@ use Rattle.std.specs.Prelude.{◌==◌}
 use Rattle.std.proofs.lemmas.Bool.Decides.{nat_tests}
 use Rattle.tb_kernal.specs.declared.events.Event.{Event}
 use Rattle.tb_kernal.specs.Machine.{Content}
-use Rattle.tb_prg.specs.declared.PrgError.{PrgError}
 use Rattle.tb_prg.specs.Prg.{content_of}
 use Rattle.tb_syntax.specs.Source.{Program}
 use Rattle.tb_parser.specs.Files.{Outcome as FileOutcome}
 use Rattle.tb_lower.specs.declared.missing.Warning.{Warning}
 use Rattle.tb_runtime16.specs.Places.{LINES_AT}
 use Rattle.tb_codegen.specs.Answers.{HasOutcome, OutcomeAnswer, Makes as LinesMake}
-use Rattle.tb_codegen.specs.Compiled.{prg_of, loaded_of, starts_of, IsCompiled, StartsRise}
+use Rattle.tb_codegen.specs.Compiled.{prg_of, starts_of, IsCompiled, StartsRise}
 use Rattle.tb_codegen.specs.declared.compiled.Compiled.{Compiled}
 use Rattle.tb_engines.specs.Programs.{start}
 use Rattle.tb_engines.specs.Outcomes.{Product}
 use Rattle.tb_engines.specs.declared.made.Stop.{Stop}
 use Rattle.tb_engines.specs.declared.made.Stop.TheVariants.{Refused, NoMemory}
 use Rattle.tb_driver.specs.Stepping.{IsLoadable}
+use Rattle.tb_driver.proofs.Loadable.{machine_at_start}
 use Rattle.tb_profile.specs.Steps.{Step, is_place}
 use Rattle.tb_profile_table.specs.declared.rows.Row.{Row}
 use Rattle.tb_profile_table.specs.declared.texts.Texts.{Texts}
@@ -31,24 +31,12 @@ use Rattle.tb_profile_engine.specs.Profiles.{IsProfileOf, Profiles, MakesTexts, 
 
 -- ---- the machine
 
--- the address and the bytes of a file that was read
-abbrev address_in : Result (ℕ × List ℕ) PrgError → ℕ
-address_in (Ok p) = p.0
-address_in (Err e) = 0
-
-abbrev bytes_in : Result (ℕ × List ℕ) PrgError → List ℕ
-bytes_in (Ok p) = p.1
-bytes_in (Err e) = []
-
 -- a run of the machine that was started is a profile
 pub started : {O : Type 0} (gives : O → Content → Event → O → Type 0) (o : O) (text answers : List ℕ) (limit : ℕ) (program : Compiled)
     (at : ℕ) (bytes : List ℕ) (m : Content) (result : Result Ran Stop) → IsLoadable program → content_of (prg_of program) ≡ Ok (at, bytes)
     → m ≡ start at bytes text answers → ComesTo (RunsFrom gives o limit program m) result → ComesTo (IsProfile gives o text answers limit program) result
 started gives o text answers limit program at bytes m result loadable content machine ran =
-    let first : at ≡ 0x0801 = ap address_in (sym content ∙ loadable.0) in
-    let rest : bytes ≡ loaded_of program = ap bytes_in (sym content ∙ loadable.0) in
-    let there : m ≡ start 0x0801 (loaded_of program) text answers = machine ∙ (λ i. start (first i) (rest i) text answers) in
-    subst (λ s. ComesTo (RunsFrom gives o limit program s) result) there ran
+    subst (λ s. ComesTo (RunsFrom gives o limit program s) result) (machine_at_start text answers program at bytes m loadable content machine) ran
 
 -- ---- lines begin at places of their own
 

@@ -1,4 +1,4 @@
--- What the lines of a program took on a run.
+-- The run of a compiled program from its start, with the table of its lines.
 use Rattle.std.specs.Prelude.{ℕ, ◌≡◌, List, Result, Ok, Err}
 use Rattle.tb_kernal.specs.declared.events.Event.{Event}
 use Rattle.tb_kernal.specs.Machine.{Content}

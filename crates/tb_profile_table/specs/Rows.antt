@@ -1,4 +1,4 @@
--- What the lines of a program took on a run.
+-- The rows of lines, by what a tally has counted at the places where they begin.
 use Rattle.std.specs.Prelude.{ℕ, ◌≡◌, ◌+◌, ◌<◌, false, List, [], ◌∷◌, map, length, slice_index, sum_by, Result, Ok, Err}
 use Rattle.tb_memmap.specs.declared.memory.NoMemory.{NoMemory}
 use Rattle.tb_kernal.specs.declared.events.Event.{Event}

@@ -1,4 +1,4 @@
-//! What the lines of a program took on a run.
+//! The rows of a table: what each line of a program took on a run.
 ghost use Rattle.std.specs.Prelude.{◌≡◌, ◌<◌, ℕ, map, slice_index, IfOk};
 ghost use Rattle.tb_profile_table.specs.Rows.{IsTableOf, Profiles, row_in, start_pair, whole_in};
 

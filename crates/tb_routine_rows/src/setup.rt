@@ -2,9 +2,10 @@
 use std::alloc::Global;
 use std::test::Fail;
 use tb_cpu::{Flags, Regs};
-use tb_kernal::{Keyboard, Machine, Quiet, Rude, Status, run};
+use tb_kernal::{Machine, Quiet, Rude, Status, run};
 use tb_memmap::{Closed, Memory};
 use tb_runtime16::{BLOCK_AT, HOME_S, LINE, RESULT, Routine, VARS, block, entry};
+use tb_test_parts::keyboard_of;
 use tb_words::next_seed;
 
 /// Where the caller lies, which is where a program's lines begin.
@@ -94,10 +95,7 @@ impl Call<'_> {
 
     // The machine before the call: registers and flags are noise, but D is clear.
     fn machine(&self, alloc: Global) -> Result<Machine, Fail> {
-        let keyboard = Keyboard {
-            text: Vec::from_slice(alloc, self.keys)?,
-            answers: Vec::from_slice(alloc, self.answers)?,
-        };
+        let keyboard = keyboard_of(alloc, self.keys, self.answers)?;
         let regs = Regs {
             a: self.a,
             x: self.x,
@@ -149,12 +147,8 @@ pub fn memory_with_block(alloc: Global, s: u8) -> Result<Memory, Fail> {
 /// Registers of which only PC, S and D are set.
 pub fn noisy_regs(pc: u16, s: u8, d: bool) -> Regs {
     let flags = Flags {
-        n: true,
-        v: true,
         d,
-        i: true,
-        z: true,
-        c: true,
+        ..Flags::from_byte(0xff)
     };
     Regs {
         a: NOISE,

@@ -2,9 +2,10 @@
 use crate::setup::{Call, NOISE, ROMS, memory_with_block, noisy_regs, plain, run_beside};
 use std::alloc::Global;
 use std::test::Fail;
-use tb_kernal::{Keyboard, Machine, Status};
+use tb_kernal::{Machine, Status};
 use tb_memmap::Memory;
 use tb_runtime16::{BLOCK_AT, COLUMN, HOME_S, LINE, LINES_AT, NOTES, Routine, SEED, VARS};
+use tb_test_parts::no_keys;
 
 // Whether Fault sends the text of a fault at a line, and ends.
 fn faults(alloc: Global, rom: Option<u16>, a: u8, line: u16) -> Result<bool, Fail> {
@@ -85,12 +86,8 @@ fn poll_takes_one_answer(rt: HostRuntime) -> Result<(), Fail> {
 fn at_start(alloc: Global, s: u8) -> Result<Machine, Fail> {
     let mut memory = memory_with_block(alloc, s)?;
     memory.write(LINES_AT, 0x60)?;
-    let keyboard = Keyboard {
-        text: Vec::new(alloc),
-        answers: Vec::new(alloc),
-    };
     Ok(
-        Machine::enter(alloc, memory, noisy_regs(BLOCK_AT, s, true), keyboard)
+        Machine::enter(alloc, memory, noisy_regs(BLOCK_AT, s, true), no_keys(alloc))
             .ok()
             .ok_or("no machine")?,
     )

@@ -9,7 +9,7 @@ mod setting;
 pub mod words;
 mod writing;
 
-use self::setting::{START, Setting};
+use self::setting::{Setting, first_regs};
 use crate::page::Page;
 use std::alloc::Global;
 use tb_cpu::Regs;
@@ -28,7 +28,7 @@ pub struct Bench {
 impl Bench {
     pub fn new(alloc: Global) -> Result<Bench, NoMemory> {
         Ok(Bench {
-            regs: START,
+            regs: first_regs(),
             memory: Memory::new(alloc)?,
             machine: None,
             setting: Setting::new(alloc),
@@ -41,6 +41,6 @@ impl Bench {
         if let Some(memory) = page.held(memory) {
             self.memory = memory;
         }
-        self.regs = START;
+        self.regs = first_regs();
     }
 }

@@ -82,6 +82,14 @@ impl Page {
         self.has_failed = self.has_failed || grown.is_err();
     }
 
+    /// Appends where a stream fails, and how many bytes it hands on at once.
+    pub fn put_fault(&mut self, until_fault: usize, most: usize) {
+        self.put(until_fault);
+        self.put(", ");
+        self.put(most);
+        self.put(" at once");
+    }
+
     /// Appends bytes of ASCII as they are.
     pub fn put_ascii(&mut self, bytes: &[u8]) {
         for byte in bytes {

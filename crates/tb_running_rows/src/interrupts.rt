@@ -1,5 +1,5 @@
 //! One interrupt, before each event of a run in turn, given by `Recorded`.
-use crate::machines::{CLEAN, LIMIT};
+use crate::machines::{LIMIT, clean};
 use crate::outsides::everywhere;
 use crate::rows::{Row, short_rows};
 use arrayvec::ArrayVec;
@@ -68,7 +68,7 @@ impl Row<'_> {
 
     // The stack pointer before each event that the program takes beside a quiet ROM.
     fn stack_pointers(&self, alloc: Global, program: &Compiled) -> Result<Vec<u8>, Fail> {
-        let mut machine = self.machine(alloc, program, &CLEAN)?;
+        let mut machine = self.machine(alloc, program, &clean())?;
         let mut pointers = Vec::new(alloc);
         push_stack_pointers(&mut machine, &mut pointers)?;
         Ok(pointers)
@@ -82,7 +82,7 @@ impl Row<'_> {
         event: usize,
         s: u8,
     ) -> Result<bool, Fail> {
-        let mut machine = self.machine(alloc, program, &CLEAN)?;
+        let mut machine = self.machine(alloc, program, &clean())?;
         run_past(alloc, &mut machine, event, s)?;
         let is_interrupted = machine.memory().read(ROM_WRITABLE) == Ok(WRITTEN);
         Ok(is_interrupted && self.is_done_by(alloc, &machine)?)

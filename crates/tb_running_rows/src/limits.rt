@@ -1,5 +1,5 @@
 //! Endless programs, and where a run's PC is.
-use crate::machines::{CLEAN, LIMIT, Ran};
+use crate::machines::{LIMIT, Ran, clean};
 use crate::rows::{PLAIN, Row};
 use std::alloc::Global;
 use std::test::Fail;
@@ -71,7 +71,7 @@ fn sends_on(machine: &mut Machine, seed: u16) -> Result<bool, Fail> {
 }
 
 fn sends_letters(alloc: Global, program: &Compiled, seed: u16) -> Result<bool, Fail> {
-    let mut machine = LETTERS.machine(alloc, program, &CLEAN)?;
+    let mut machine = LETTERS.machine(alloc, program, &clean())?;
     sends_on(&mut machine, seed)
 }
 
@@ -108,7 +108,7 @@ fn passes(machine: &mut Machine, place: u16) -> Result<bool, NoMemory> {
 
 // Whether a program searches the table of lines.
 fn program_searches(alloc: Global, row: &Row<'_>, program: &Compiled) -> Result<bool, Fail> {
-    let mut machine = row.machine(alloc, program, &CLEAN)?;
+    let mut machine = row.machine(alloc, program, &clean())?;
     Ok(passes(&mut machine, entry(Routine::Search))?)
 }
 

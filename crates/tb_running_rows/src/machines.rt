@@ -3,10 +3,12 @@ use crate::rows::Row;
 use std::alloc::Global;
 use std::test::Fail;
 use tb_codegen::{Compiled, Options, compile};
-use tb_cpu::{Flags, Regs};
+use tb_cpu::Regs;
 use tb_driver::{Tracked, host_form, run_text};
-use tb_kernal::{Keyboard, Machine, Outside, Status};
+use tb_engines::start_regs;
+use tb_kernal::{Machine, Outside, Status};
 use tb_memmap::Memory;
+use tb_test_parts::keyboard_of;
 
 /// More events than any program takes that comes to an end.
 pub const LIMIT: u64 = 10_000_000;
@@ -18,25 +20,16 @@ pub struct Start {
     pub regs: Regs,
 }
 
+/// Where a compiled program is loaded.
+const LOADED_AT: u16 = 0x0801;
+
 /// How `tbc run` begins.
-pub const CLEAN: Start = Start {
-    byte: 0,
-    regs: Regs {
-        a: 0,
-        x: 0,
-        y: 0,
-        s: 0xf0,
-        pc: 0x080d,
-        flags: Flags {
-            n: false,
-            v: false,
-            d: false,
-            i: false,
-            z: false,
-            c: false,
-        },
-    },
-};
+pub fn clean() -> Start {
+    Start {
+        byte: 0,
+        regs: start_regs(LOADED_AT),
+    }
+}
 
 /// What the engine came to.
 #[derive(Drop)]
@@ -76,13 +69,6 @@ impl Start {
 }
 
 impl Row<'_> {
-    fn keyboard(&self, alloc: Global) -> Result<Keyboard, Fail> {
-        Ok(Keyboard {
-            text: Vec::from_slice(alloc, self.keys)?,
-            answers: Vec::from_slice(alloc, self.answers)?,
-        })
-    }
-
     // Runs the source by the engine on a screen: the status, and the text on standard error.
     fn run_on<O: Outside>(
         &self,
@@ -91,7 +77,7 @@ impl Row<'_> {
         limit: u64,
         outside: &mut O,
     ) -> Result<(u8, String), Fail> {
-        let keyboard = self.keyboard(alloc)?;
+        let keyboard = keyboard_of(alloc, self.keys, self.answers)?;
         let mut source = Tracked::new(self.source);
         let report = run_text(
             alloc,
@@ -134,7 +120,7 @@ impl Row<'_> {
         program: &Compiled,
         start: &Start,
     ) -> Result<Machine, Fail> {
-        let keyboard = self.keyboard(alloc)?;
+        let keyboard = keyboard_of(alloc, self.keys, self.answers)?;
         let memory = start.memory(alloc, program)?;
         Ok(
             Machine::enter(alloc, memory, start.regs, keyboard)

@@ -1,5 +1,5 @@
 //! Programs beside quiet and hostile ROMs: the same bytes and the same end.
-use crate::machines::{CLEAN, LIMIT, Start};
+use crate::machines::{LIMIT, Start, clean};
 use crate::outsides::{Contrary, Sweeping};
 use crate::rows::{LongSources, Row, rows};
 use std::alloc::Global;
@@ -62,13 +62,13 @@ impl Row<'_> {
         program: &Compiled,
     ) -> Result<bool, Fail> {
         for seed in 0..256 {
-            if !self.is_done_beside(alloc, program, &CLEAN, &mut Rude::new(seed))? {
+            if !self.is_done_beside(alloc, program, &clean(), &mut Rude::new(seed))? {
                 return Ok(false);
             }
         }
         Ok(
-            self.is_done_beside(alloc, program, &CLEAN, &mut Contrary::new())?
-                && self.is_done_beside(alloc, program, &CLEAN, &mut Sweeping::new())?,
+            self.is_done_beside(alloc, program, &clean(), &mut Contrary::new())?
+                && self.is_done_beside(alloc, program, &clean(), &mut Sweeping::new())?,
         )
     }
 
@@ -98,29 +98,47 @@ impl Row<'_> {
 
 // A start with a byte in all registers and all open places, and flags of one kind.
 fn wild_start(byte: u8, s: u8, flag: bool) -> Start {
-    let flags = Flags {
-        n: flag,
-        v: flag,
-        d: flag,
-        i: flag,
-        z: flag,
-        c: flag,
-    };
+    let flags = Flags::from_byte(if flag { 0xff } else { 0 });
     let regs = Regs {
         a: byte,
         x: byte,
         y: byte,
         s,
-        pc: CLEAN.regs.pc,
+        pc: clean().regs.pc,
         flags,
     };
     Start { byte, regs }
 }
 
-// The source of the first row that the engine does not show so.
-fn first_not_shown<'a>(alloc: Global, rows: &[Row<'a>]) -> Result<Option<&'a [u8]>, Fail> {
+/// What is tried of a row.
+#[derive(Clone, Copy)]
+enum Trial {
+    /// Whether the engine shows it.
+    Engine,
+    /// Whether it stays so beside hostile ROMs.
+    HostileRoms,
+    /// Whether it stays so from wild starts.
+    WildStarts,
+}
+
+impl Row<'_> {
+    fn passes(&self, alloc: Global, trial: Trial) -> Result<bool, Fail> {
+        match trial {
+            Trial::Engine => self.is_shown(alloc),
+            Trial::HostileRoms => self.is_done_beside_hostile(alloc),
+            Trial::WildStarts => self.is_done_from_wild(alloc),
+        }
+    }
+}
+
+// The source of the first row that does not pass.
+fn first_failed<'a>(
+    alloc: Global,
+    rows: &[Row<'a>],
+    trial: Trial,
+) -> Result<Option<&'a [u8]>, Fail> {
     for row in rows {
-        if !row.is_shown(alloc)? {
+        if !row.passes(alloc, trial)? {
             return Ok(Some(row.source));
         }
     }
@@ -131,42 +149,22 @@ fn first_not_shown<'a>(alloc: Global, rows: &[Row<'a>]) -> Result<Option<&'a [u8
 fn programs_end(rt: HostRuntime) -> Result<(), Fail> {
     let long = LongSources::new(rt.alloc())?;
     let rows = rows(rt.alloc(), &long)?;
-    assert_eq!(rt; first_not_shown(rt.alloc(), &rows)?, None);
+    assert_eq!(rt; first_failed(rt.alloc(), &rows, Trial::Engine)?, None);
     Ok(())
-}
-
-// The source of the first row that hostile ROMs change.
-fn first_changed_by_hostile<'a>(alloc: Global, rows: &[Row<'a>]) -> Result<Option<&'a [u8]>, Fail> {
-    for row in rows {
-        if !row.is_done_beside_hostile(alloc)? {
-            return Ok(Some(row.source));
-        }
-    }
-    Ok(None)
 }
 
 #[test]
 fn a_hostile_rom_changes_nothing(rt: HostRuntime) -> Result<(), Fail> {
     let long = LongSources::new(rt.alloc())?;
     let rows = rows(rt.alloc(), &long)?;
-    assert_eq!(rt; first_changed_by_hostile(rt.alloc(), &rows)?, None);
+    assert_eq!(rt; first_failed(rt.alloc(), &rows, Trial::HostileRoms)?, None);
     Ok(())
-}
-
-// The source of the first row that wild starts change.
-fn first_changed_by_wild<'a>(alloc: Global, rows: &[Row<'a>]) -> Result<Option<&'a [u8]>, Fail> {
-    for row in rows {
-        if !row.is_done_from_wild(alloc)? {
-            return Ok(Some(row.source));
-        }
-    }
-    Ok(None)
 }
 
 #[test]
 fn a_wild_start_changes_nothing(rt: HostRuntime) -> Result<(), Fail> {
     let long = LongSources::new(rt.alloc())?;
     let rows = rows(rt.alloc(), &long)?;
-    assert_eq!(rt; first_changed_by_wild(rt.alloc(), &rows)?, None);
+    assert_eq!(rt; first_failed(rt.alloc(), &rows, Trial::WildStarts)?, None);
     Ok(())
 }

@@ -10,8 +10,9 @@ use std::process::ExitCode;
 use std::rt::{Clock, Env};
 use std::time::Instant;
 use tb_cpu::{Flags, Regs, step};
-use tb_kernal::{Keyboard, Machine, Quiet, run};
+use tb_kernal::{Machine, Quiet, run};
 use tb_memmap::Memory;
+use tb_test_parts::no_keys;
 
 // Where the programs lie.
 const PLACE: u16 = 0x0c00;
@@ -40,32 +41,20 @@ fn memory_with(alloc: Global, program: &[u8]) -> Option<Memory> {
 
 // Registers before a program.
 fn first_regs() -> Regs {
-    let flags = Flags {
-        n: false,
-        v: false,
-        d: false,
-        i: false,
-        z: false,
-        c: false,
-    };
     Regs {
         a: 0,
         x: 0,
         y: 0,
         s: 0xf0,
         pc: PLACE,
-        flags,
+        flags: Flags::from_byte(0),
     }
 }
 
 // A machine that stands before a program.
 fn machine_with(alloc: Global, program: &[u8]) -> Option<Machine> {
     let memory = memory_with(alloc, program)?;
-    let keyboard = Keyboard {
-        text: Vec::new(alloc),
-        answers: Vec::new(alloc),
-    };
-    Machine::enter(alloc, memory, first_regs(), keyboard).ok()
+    Machine::enter(alloc, memory, first_regs(), no_keys(alloc)).ok()
 }
 
 // The same by `step` alone.

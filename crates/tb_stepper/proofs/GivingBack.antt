@@ -1,4 +1,4 @@
--- What notes give back.
+-- Lists of notes: one more note, and notes that are dropped.
 use Rattle.std.proofs.Common.{ℕ, ◌≡◌, ◌-◌, ◌+◌, ◌≤◌, Bool, true, ◌&&◌, List, [], ◌∷◌, ◌++◌, length, drop, refl, sym, ap, subst, ◌∙◌, arith, suc, zero, length-append, length-drop}
 use Rattle.std.specs.Prelude.{nat_le, Ok}
 use Rattle.std.proofs.lemmas.Bool.{and_parts, and_from}

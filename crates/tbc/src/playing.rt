@@ -4,7 +4,7 @@ use std::io;
 use std::rt::Files;
 use tb_command_line::Runnable;
 use tb_driver::{
-    End, Outcome, Played, Program, Report, Tracked, key_file, play_compiled, play_file, read_input,
+    End, Outcome, Played, Report, Tracked, key_file, play_compiled, play_file, read_input,
     read_source, without_input,
 };
 
@@ -37,7 +37,10 @@ fn play_source<R: Files + Print + Eprint + Input + AllocGlobal>(
     seed: u16,
     limit: u64,
 ) -> Result<Played, Outcome> {
-    let Program { prg, warnings } = read_source(rt.alloc(), &mut open(rt, path)?, seed)?;
+    let program = read_source(rt.alloc(), &mut open(rt, path)?, seed)?;
+    let Ok(warnings) = Vec::from_slice(rt.alloc(), program.warnings()) else {
+        return Err(Outcome::NoMemory);
+    };
     let report = Report {
         outcome: Outcome::Ended(End::Done),
         warnings,
@@ -46,7 +49,7 @@ fn play_source<R: Files + Print + Eprint + Input + AllocGlobal>(
     let _ = eprint!(rt; "{report}");
     let mut keys = Tracked::new(rt.reader());
     let mut screen = Tracked::new(io::writer(rt));
-    Ok(play_compiled(rt.alloc(), prg.as_slice(), &mut keys, &mut screen, limit))
+    Ok(play_compiled(rt.alloc(), program.prg(), &mut keys, &mut screen, limit))
 }
 
 fn play_prg<R: Files + Print + Input + AllocGlobal>(

@@ -1,14 +1,12 @@
 //! Streams that fail, hand on few bytes, and count.
 use crate::debug::programs::LOOP;
-use crate::streams::CountingWriter;
 use std::alloc::Global;
 use std::io::{Read, Write};
 use std::test::Fail;
 use tb_debug_engine::{Beside, Setting, Sources, debug, read_sources};
 use tb_engines::Outcome;
-use tb_failing_streams::{FailingReader, FailingWriter, HoldingWriter};
-use tb_kernal::Keyboard;
 use tb_streams::Tracked;
+use tb_test_parts::{CountingWriter, FailingReader, FailingWriter, HoldingWriter, no_keys};
 
 /// Each of them once, and some that are none.
 const COMMANDS: &[u8] =
@@ -22,16 +20,12 @@ pub fn debugs<R: Read, W: Write>(
     reader: &mut Tracked<R>,
     writer: &mut Tracked<W>,
 ) -> Outcome {
-    let keyboard = Keyboard {
-        text: Vec::new(alloc),
-        answers: Vec::new(alloc),
-    };
     let setting = Setting {
         beside: Beside::Quiet,
         limit: 100_000,
         prompts: false,
     };
-    debug(alloc, sources, keyboard, setting, reader, writer)
+    debug(alloc, sources, no_keys(alloc), setting, reader, writer)
 }
 
 pub fn sources_of(alloc: Global, source: &[u8]) -> Result<Sources, Fail> {
@@ -89,11 +83,7 @@ fn each_cut_of_the_commands(rt: HostRuntime) -> Result<(), Fail> {
 
 // Whether a reader that fails is a fault, and a beginning is written.
 fn reader_fails(alloc: Global, sources: &Sources, all: &[u8], until_fault: usize) -> bool {
-    let mut reader = Tracked::new(FailingReader {
-        rest: COMMANDS,
-        until_fault,
-        most: 3,
-    });
+    let mut reader = Tracked::new(FailingReader::new(COMMANDS, until_fault, 3));
     let mut writer = Tracked::new(Vec::new(alloc));
     let status = debugs(alloc, sources, &mut reader, &mut writer).status();
     status == 3 && all.starts_with(&writer.stream)
@@ -102,11 +92,7 @@ fn reader_fails(alloc: Global, sources: &Sources, all: &[u8], until_fault: usize
 #[test]
 fn a_source_that_fails(rt: HostRuntime) -> Result<(), Fail> {
     for until_fault in 0..=LOOP.len() {
-        let mut source = Tracked::new(FailingReader {
-            rest: LOOP,
-            until_fault,
-            most: 3,
-        });
+        let mut source = Tracked::new(FailingReader::new(LOOP, until_fault, 3));
         let sources = read_sources(rt.alloc(), &mut source, 0);
         assert!(rt; matches!(sources, Err(Outcome::ReadFault)), "{until_fault}");
     }
@@ -128,11 +114,7 @@ fn a_reader_that_fails(rt: HostRuntime) -> Result<(), Fail> {
 
 // Whether a writer that fails behind so many bytes is a fault, and takes these.
 fn writer_fails(alloc: Global, sources: &Sources, all: &[u8], until_fault: usize) -> bool {
-    let mut writer = Tracked::new(FailingWriter {
-        taken: Vec::new(alloc),
-        until_fault,
-        most: 5,
-    });
+    let mut writer = Tracked::new(FailingWriter::new(alloc, until_fault, 5));
     let status = debugs(alloc, sources, &mut Tracked::new(COMMANDS), &mut writer).status();
     status == 3 && Some(writer.stream.taken.as_slice()) == all.get(..until_fault)
 }
@@ -153,11 +135,7 @@ fn a_writer_that_fails(rt: HostRuntime) -> Result<(), Fail> {
 #[test]
 fn a_flush_that_fails(rt: HostRuntime) -> Result<(), Fail> {
     let sources = sources_of(rt.alloc(), LOOP)?;
-    let mut writer = Tracked::new(HoldingWriter {
-        taken: Vec::new(rt.alloc()),
-        handed_on: 0,
-        fails: true,
-    });
+    let mut writer = Tracked::new(HoldingWriter::new(rt.alloc(), true));
     let mut reader = Tracked::new(COMMANDS);
     let status = debugs(rt.alloc(), &sources, &mut reader, &mut writer).status();
     let taken = writer.stream.taken.as_slice();
@@ -168,10 +146,7 @@ fn a_flush_that_fails(rt: HostRuntime) -> Result<(), Fail> {
 #[test]
 fn each_answer_is_flushed_once(rt: HostRuntime) -> Result<(), Fail> {
     let sources = sources_of(rt.alloc(), LOOP)?;
-    let mut writer = Tracked::new(CountingWriter {
-        taken: 0,
-        flushed_at: Vec::new(rt.alloc()),
-    });
+    let mut writer = Tracked::new(CountingWriter::new(rt.alloc()));
     let mut reader = Tracked::new(b"n\nv\nn\nq\n".as_slice());
     debugs(rt.alloc(), &sources, &mut reader, &mut writer);
     assert_eq!(rt;

@@ -5,9 +5,10 @@ use std::test::Fail;
 use tb_codegen::{Compiled, Options, compile};
 use tb_debug::{Beside, Command, Debugger, Reached};
 use tb_engines::start_machine;
-use tb_kernal::{Keyboard, Machine};
+use tb_kernal::Machine;
 use tb_lower::{Place, RunEnd, SourceRun, run_source};
 use tb_parser::{Letter, Program, parse};
+use tb_test_parts::keyboard_of;
 
 /// How many lines of a run are looked at.
 const MOST_TIME: u64 = 150;
@@ -194,10 +195,7 @@ fn command(
 }
 
 fn machine_of(alloc: Global, program: &Compiled) -> Result<Machine, Fail> {
-    let keyboard = Keyboard {
-        text: Vec::from_slice(alloc, TYPED)?,
-        answers: Vec::new(alloc),
-    };
+    let keyboard = keyboard_of(alloc, TYPED, b"")?;
     let file = tb_prg::read(program.prg())?;
     Ok(
         start_machine(alloc, file, keyboard)

@@ -4,9 +4,9 @@ use std::io::Read;
 use std::test::Fail;
 use tb_disk::{File, disk};
 use tb_disk_engine::{DiskFiles, DiskOutcome, DiskRefusal, Name};
-use tb_failing_streams::{FailingReader, FailingWriter};
 use tb_prg::PrgError;
 use tb_streams::Tracked;
+use tb_test_parts::{FailingReader, FailingWriter};
 
 /// The bytes of a disk.
 const DISK: usize = 174_848;
@@ -230,11 +230,7 @@ fn a_full_disk_is_refused_last(rt: HostRuntime) -> Result<(), Fail> {
 
 // What comes of a file whose reader gives so many bytes at once, and fails after some.
 fn cut_off(alloc: Global, until_fault: usize, most: usize) -> Option<DiskOutcome> {
-    let reader = FailingReader {
-        rest: b"\x01\x08 a program",
-        until_fault,
-        most,
-    };
+    let reader = FailingReader::new(b"\x01\x08 a program", until_fault, most);
     with(alloc, DiskFiles::new(alloc), "a", reader).err()
 }
 
@@ -284,11 +280,7 @@ fn each_prefix_of_a_file_is_answered(rt: HostRuntime) -> Result<(), Fail> {
 // Whether a writer that fails after so many bytes got that much of the image, and a write fault is answered; and all,
 // where it takes all.
 fn is_prefix(alloc: Global, files: &DiskFiles, whole: &[u8], until_fault: usize) -> bool {
-    let mut writer = Tracked::new(FailingWriter {
-        taken: Vec::new(alloc),
-        until_fault,
-        most: 4096,
-    });
+    let mut writer = Tracked::new(FailingWriter::new(alloc, until_fault, 4096));
     let outcome = files.write(alloc, "test.d64", &mut writer);
     let wanted = if until_fault < whole.len() {
         DiskOutcome::WriteFault

@@ -1,13 +1,12 @@
 //! An echo, over readers and writers that fail, hand on few bytes at a time, and count.
-use crate::streams::CountingWriter;
 use std::alloc::Global;
 use std::io::{Read, Write};
 use std::test::Fail;
 use tb_engines::{Outcome, run_prg};
-use tb_failing_streams::{FailingReader, FailingWriter, HoldingWriter};
-use tb_kernal::{Keyboard, Quiet};
+use tb_kernal::Quiet;
 use tb_play::{MOST_TYPED, Played, play_file};
 use tb_streams::{Tracked, host_form};
+use tb_test_parts::{CountingWriter, FailingReader, FailingWriter, HoldingWriter, keyboard_of};
 
 /// At `$C000`: sends a `?`, and then in turn takes a byte and sends it.
 const ECHO: [u8; 16] = [
@@ -54,11 +53,7 @@ fn echoes<R: Read + Drop>(alloc: Global, reader: R, shown: &[u8], handed: &[u8])
 #[test]
 fn lines_are_typed_however_few_bytes_come_at_once(rt: HostRuntime) -> Result<(), Fail> {
     for most in 1..16 {
-        let reader = FailingReader {
-            rest: TYPED,
-            until_fault: usize::MAX,
-            most,
-        };
+        let reader = FailingReader::new(TYPED, usize::MAX, most);
         assert_eq!(rt; echoes(rt.alloc(), reader, SHOWN, HANDED), (6, true));
     }
     Ok(())
@@ -84,10 +79,7 @@ const HANDED_OF_BEGINNINGS: [&[u8]; 14] = [
 
 // What a run shows whose keyboard text is all there from the start, and its status.
 fn run_on(alloc: Global, keys: &[u8], shown: &mut Tracked<Vec<u8>>) -> Result<u8, Fail> {
-    let keyboard = Keyboard {
-        text: Vec::from_slice(alloc, keys)?,
-        answers: Vec::new(alloc),
-    };
+    let keyboard = keyboard_of(alloc, keys, b"")?;
     let mut file = Tracked::new(ECHO.as_slice());
     Ok(run_prg(alloc, &mut file, shown, keyboard, LIMIT, &mut Quiet).status())
 }
@@ -134,11 +126,7 @@ fn only_the_lines_that_are_wanted_are_taken(rt: HostRuntime) -> Result<(), Fail>
 #[test]
 fn a_reader_that_fails(rt: HostRuntime) -> Result<(), Fail> {
     for until_fault in 0..=TYPED.len() {
-        let reader = FailingReader {
-            rest: TYPED,
-            until_fault,
-            most: 3,
-        };
+        let reader = FailingReader::new(TYPED, until_fault, 3);
         let mut writer = Tracked::new(Vec::new(rt.alloc()));
         let (status, _) = plays(rt.alloc(), &ECHO, &mut Tracked::new(reader), &mut writer);
         let lines = TYPED[..until_fault]
@@ -155,11 +143,7 @@ fn a_reader_that_fails(rt: HostRuntime) -> Result<(), Fail> {
 #[test]
 fn a_writer_that_fails(rt: HostRuntime) -> Result<(), Fail> {
     for until_fault in 0..SHOWN.len() {
-        let writer = FailingWriter {
-            taken: Vec::new(rt.alloc()),
-            until_fault,
-            most: 3,
-        };
+        let writer = FailingWriter::new(rt.alloc(), until_fault, 3);
         let mut writer = Tracked::new(writer);
         let (status, _) = plays(rt.alloc(), &ECHO, &mut Tracked::new(TYPED), &mut writer);
         assert_eq!(rt; status, 3);
@@ -170,10 +154,7 @@ fn a_writer_that_fails(rt: HostRuntime) -> Result<(), Fail> {
 
 #[test]
 fn each_answer_is_flushed_once(rt: HostRuntime) -> Result<(), Fail> {
-    let mut writer = Tracked::new(CountingWriter {
-        taken: 0,
-        flushed_at: Vec::new(rt.alloc()),
-    });
+    let mut writer = Tracked::new(CountingWriter::new(rt.alloc()));
     let (status, _) = plays(rt.alloc(), &ECHO, &mut Tracked::new(TYPED), &mut writer);
     assert_eq!(rt; status, 6);
     assert_eq!(rt;
@@ -236,11 +217,7 @@ fn so_much_may_be_typed_in_all(rt: HostRuntime) -> Result<(), Fail> {
 #[test]
 fn a_flush_that_fails_ends_it(rt: HostRuntime) -> Result<(), Fail> {
     let mut reader = Tracked::new(TYPED);
-    let mut writer = Tracked::new(HoldingWriter {
-        taken: Vec::new(rt.alloc()),
-        handed_on: 0,
-        fails: true,
-    });
+    let mut writer = Tracked::new(HoldingWriter::new(rt.alloc(), true));
     let (status, typed) = plays(rt.alloc(), &ECHO, &mut reader, &mut writer);
     assert_eq!(rt; (status, typed.len()), (3, 0));
     assert_eq!(rt; reader.stream, TYPED);

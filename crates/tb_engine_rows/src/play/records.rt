@@ -2,8 +2,8 @@
 use std::alloc::Global;
 use std::io::Read;
 use std::test::Fail;
-use tb_failing_streams::FailingReader;
 use tb_streams::{KeyFileError, Tracked, key_file, read_key_file};
+use tb_test_parts::FailingReader;
 
 const KEYS: &[u8] = b"AB\rZ{\xff\0\r";
 
@@ -39,11 +39,7 @@ fn keys_have_their_text(rt: HostRuntime) -> Result<(), Fail> {
 #[test]
 fn a_key_file_is_read_however_few_bytes_come_at_once(rt: HostRuntime) -> Result<(), Fail> {
     for most in 1..20 {
-        let reader = FailingReader {
-            rest: TEXT,
-            until_fault: usize::MAX,
-            most,
-        };
+        let reader = FailingReader::new(TEXT, usize::MAX, most);
         assert!(rt; are_keys(keys_in(rt.alloc(), reader), KEYS));
     }
     Ok(())
@@ -52,11 +48,7 @@ fn a_key_file_is_read_however_few_bytes_come_at_once(rt: HostRuntime) -> Result<
 #[test]
 fn a_reader_of_a_key_file_that_fails(rt: HostRuntime) -> Result<(), Fail> {
     for until_fault in 0..=TEXT.len() {
-        let reader = FailingReader {
-            rest: TEXT,
-            until_fault,
-            most: 3,
-        };
+        let reader = FailingReader::new(TEXT, until_fault, 3);
         assert!(rt; is_refused(keys_in(rt.alloc(), reader), KeyFileError::Fault));
     }
     Ok(())

@@ -1,9 +1,10 @@
 //! The programs that are profiled, with their tables.
 use std::alloc::Global;
 use std::io::{Read, Write};
-use tb_kernal::{Keyboard, Quiet};
+use tb_kernal::Quiet;
 use tb_profile_engine::{Profiled, profile_text};
 use tb_streams::Tracked;
+use tb_test_parts::keyboard_of;
 
 /// A source, what is typed, a limit of events, and what comes of it.
 pub struct Program {
@@ -22,12 +23,8 @@ pub fn profiles<R: Read, W: Write>(
     reader: &mut Tracked<R>,
     writer: &mut Tracked<W>,
 ) -> (u8, Vec<u8>) {
-    let Ok(text) = Vec::from_slice(alloc, program.keys) else {
+    let Ok(keyboard) = keyboard_of(alloc, program.keys, b"") else {
         return (4, Vec::new(alloc));
-    };
-    let keyboard = Keyboard {
-        text,
-        answers: Vec::new(alloc),
     };
     let Profiled { report, page } = profile_text(
         alloc,

@@ -1,18 +1,14 @@
 //! Streams that fail, and that hand on few bytes at a time.
 use crate::profile::programs::{PROGRAMS, profiles};
 use std::test::Fail;
-use tb_failing_streams::{FailingReader, FailingWriter};
 use tb_streams::Tracked;
+use tb_test_parts::{FailingReader, FailingWriter};
 
 #[test]
 fn a_source_is_read_however_few_bytes_come_at_once(rt: HostRuntime) -> Result<(), Fail> {
     let program = &PROGRAMS[0];
     for most in 1..12 {
-        let reader = FailingReader {
-            rest: program.source,
-            until_fault: usize::MAX,
-            most,
-        };
+        let reader = FailingReader::new(program.source, usize::MAX, most);
         let mut writer = Tracked::new(Vec::new(rt.alloc()));
         let (status, _) = profiles(rt.alloc(), program, &mut Tracked::new(reader), &mut writer);
         assert_eq!(rt; status, program.status);
@@ -25,11 +21,7 @@ fn a_source_is_read_however_few_bytes_come_at_once(rt: HostRuntime) -> Result<()
 fn a_reader_of_a_source_that_fails(rt: HostRuntime) -> Result<(), Fail> {
     let program = &PROGRAMS[0];
     for until_fault in 0..=program.source.len() {
-        let reader = FailingReader {
-            rest: program.source,
-            until_fault,
-            most: 5,
-        };
+        let reader = FailingReader::new(program.source, until_fault, 5);
         let mut writer = Tracked::new(Vec::new(rt.alloc()));
         let (status, page) = profiles(rt.alloc(), program, &mut Tracked::new(reader), &mut writer);
         assert_eq!(rt; status, 3);
@@ -42,11 +34,7 @@ fn a_reader_of_a_source_that_fails(rt: HostRuntime) -> Result<(), Fail> {
 fn a_writer_of_a_table_that_fails(rt: HostRuntime) -> Result<(), Fail> {
     let program = &PROGRAMS[0];
     for until_fault in 0..program.table.len() {
-        let writer = FailingWriter {
-            taken: Vec::new(rt.alloc()),
-            until_fault,
-            most: 7,
-        };
+        let writer = FailingWriter::new(rt.alloc(), until_fault, 7);
         let mut writer = Tracked::new(writer);
         let (status, _) = profiles(
             rt.alloc(),

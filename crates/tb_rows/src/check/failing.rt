@@ -3,8 +3,8 @@ use crate::check::checks::{Ending, File, checked, ending_of, put_outcome, with_f
 use crate::page::Page;
 use std::alloc::Global;
 use tb_check_engine::{CheckOutcome, Checked};
-use tb_failing_streams::{FailingReader, FailingWriter};
 use tb_streams::Tracked;
+use tb_test_parts::{FailingReader, FailingWriter};
 
 /// The source that a reader fails to give.
 const FIRST: &[u8] = b"10 FOR\n20 END\n";
@@ -16,11 +16,7 @@ fn over_reader(
     until_fault: usize,
     most: usize,
 ) -> Result<Checked, CheckOutcome> {
-    let reader = FailingReader {
-        rest: FIRST,
-        until_fault,
-        most,
-    };
+    let reader = FailingReader::new(FIRST, until_fault, most);
     let mut checked = with_reader(alloc, Checked::new(alloc), "first.bas", reader)?;
     for file in files {
         checked = with_file(alloc, checked, file)?;
@@ -60,10 +56,8 @@ fn put_failing_readers(page: &mut Page, files: &[File], whole: &Ending) {
         for most in [1, 7, 4096] {
             if !reader_fails(page.alloc(), files, whole, until_fault, most) {
                 page.put("=> another answer behind ");
-                page.put(until_fault);
-                page.put(", ");
-                page.put(most);
-                page.put(" at once\n");
+                page.put_fault(until_fault, most);
+                page.put("\n");
                 return;
             }
         }
@@ -79,11 +73,7 @@ fn is_prefix(
     until_fault: usize,
     most: usize,
 ) -> bool {
-    let mut writer = Tracked::new(FailingWriter {
-        taken: Vec::new(alloc),
-        until_fault,
-        most,
-    });
+    let mut writer = Tracked::new(FailingWriter::new(alloc, until_fault, most));
     let outcome = checked.write(&mut writer);
     let wanted = if until_fault < whole.wrote.len() {
         CheckOutcome::WriteFault
@@ -108,10 +98,8 @@ fn put_failing_writers(page: &mut Page, checked: &Checked, whole: &Ending) {
         for most in [1, 2, 4096] {
             if !is_prefix(page.alloc(), checked, whole, until_fault, most) {
                 page.put("=> no prefix behind ");
-                page.put(until_fault);
-                page.put(", ");
-                page.put(most);
-                page.put(" at once\n");
+                page.put_fault(until_fault, most);
+                page.put("\n");
                 return;
             }
         }

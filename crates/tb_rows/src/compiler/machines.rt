@@ -2,26 +2,14 @@
 use crate::notation::{bytes_of, hex_word};
 use crate::page::Page;
 use tb_codegen::Compiled;
-use tb_cpu::{Flags, Regs};
-use tb_kernal::{Keyboard, Machine, Outside};
+use tb_engines::start_regs;
+use tb_kernal::{Machine, Outside};
 use tb_memmap::Memory;
 use tb_stepper::Stepper;
+use tb_test_parts::keyboard_of;
 
-const START: Regs = Regs {
-    a: 0,
-    x: 0,
-    y: 0,
-    s: 0xf0,
-    pc: 0x080d,
-    flags: Flags {
-        n: false,
-        v: false,
-        d: false,
-        i: false,
-        z: false,
-        c: false,
-    },
-};
+/// Where compiled programs are loaded.
+const LOADED_AT: u16 = 0x0801;
 
 /// What a machine starts with.
 #[derive(Clone, Copy)]
@@ -61,22 +49,14 @@ impl<'a> Start<'a> {
         load(page, memory, 0x01f1, &[0xff, 0xa0]);
     }
 
-    fn keyboard(self, page: &mut Page) -> Option<Keyboard> {
-        let text = Vec::from_slice(page.alloc(), self.text);
-        let answers = Vec::from_slice(page.alloc(), self.answers);
-        Some(Keyboard {
-            text: page.held(text)?,
-            answers: page.held(answers)?,
-        })
-    }
-
     /// The machine.
     pub fn machine(self, page: &mut Page) -> Option<Machine> {
-        let keyboard = self.keyboard(page)?;
+        let keyboard = keyboard_of(page.alloc(), self.text, self.answers);
+        let keyboard = page.held(keyboard)?;
         let memory = Memory::new(page.alloc());
         let mut memory = page.held(memory)?;
         self.load(page, &mut memory);
-        let machine = Machine::enter(page.alloc(), memory, START, keyboard);
+        let machine = Machine::enter(page.alloc(), memory, start_regs(LOADED_AT), keyboard);
         page.held(machine)
     }
 

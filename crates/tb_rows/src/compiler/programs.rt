@@ -2,11 +2,11 @@
 use crate::compiler::sources::{compiled, push_lines, source_of};
 use crate::notation::{bytes_of, cut, hex_word, number, word};
 use crate::page::Page;
-use crate::text::engines::no_keys;
 use std::alloc::Global;
 use tb_codegen::{Compiled, Options, compile};
 use tb_driver::{Outcome, Tracked, build, run_prg, run_text};
 use tb_kernal::{Keyboard, Outside, Quiet, Rude};
+use tb_test_parts::no_keys;
 
 // The file that `build` writes of a source, as its bytes.
 fn built(alloc: Global, source: &[u8], seed: u16) -> Vec<u8> {

@@ -1,10 +1,10 @@
 //! Sources that are refused: the compiler says why and where, and the engines write nothing and say it in one line.
 use crate::compiler::sources::source_of;
 use crate::page::Page;
-use crate::text::engines::no_keys;
 use tb_codegen::{Options, compile};
 use tb_driver::{Report, Tracked, build, run_text};
 use tb_kernal::Quiet;
+use tb_test_parts::no_keys;
 
 // Appends what the compiler answers.
 fn put_compiled(page: &mut Page, source: &[u8]) {

@@ -3,12 +3,12 @@ use crate::compiler::machines::{Start, are_same};
 use crate::compiler::sources::{compiled, source_of};
 use crate::notation::{cut, decoded, number, word};
 use crate::page::Page;
-use crate::text::engines::no_keys;
 use tb_codegen::Compiled;
 use tb_driver::{Tracked, step_text};
 use tb_kernal::{Machine, Outside, Quiet, Rude, Status};
 use tb_parser::parse_expr;
 use tb_stepper::Stepper;
+use tb_test_parts::no_keys;
 use tb_words::Letter;
 
 /// Appends the status and the answers of `step_text`: `LIMIT SOURCE |COMMANDS`.

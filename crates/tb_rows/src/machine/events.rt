@@ -1,6 +1,6 @@
 //! Rows of a machine that moves by single events, and of the events that outsides give it.
 use crate::machine::Bench;
-use crate::machine::setting::{START, Setting};
+use crate::machine::setting::{PROGRAM_AT, Setting, first_regs};
 use crate::machine::writing::{
     put_flags, put_indexes, put_quoted, put_read, put_registers, put_status,
 };
@@ -12,9 +12,8 @@ use tb_kernal::{Clobber, EnterError, Event, Machine, Outside, Recorded, Rude, Wr
 use tb_memmap::Memory;
 
 pub fn put_answer(page: &mut Page, bench: &mut Bench, name: &str, rest: &str) {
-    bench
-        .setting
-        .read(page, START, if is_number(name) { "" } else { rest });
+    let words = if is_number(name) { "" } else { rest };
+    bench.setting.read(page, first_regs(), words);
     if name == "machine" {
         return put_entered(page, bench);
     }
@@ -56,7 +55,7 @@ fn put_refused(page: &mut Page, error: &EnterError) {
     let kind = error.kind;
     page.put(" ");
     page.put_debug(&kind);
-    put_read(page, error.memory.read(START.pc));
+    put_read(page, error.memory.read(PROGRAM_AT));
     put_quoted(page, error.keyboard.text.as_slice());
 }
 

@@ -1,6 +1,6 @@
 //! Rows of one instruction.
 use crate::machine::Bench;
-use crate::machine::setting::START;
+use crate::machine::setting::first_regs;
 use crate::machine::writing::{put_registers, put_wrong};
 use crate::notation::hex_byte;
 use crate::page::Page;
@@ -47,7 +47,7 @@ fn put_next(page: &mut Page, bench: &mut Bench, rest: &str) {
 // The operand's address, of an instruction that the next row runs.
 fn put_operand(page: &mut Page, bench: &mut Bench, rest: &str) {
     bench.restart(page);
-    bench.setting.read(page, START, rest);
+    bench.setting.read(page, first_regs(), rest);
     bench.setting.put(page, &mut bench.memory);
     let place = operand_place(&bench.regs, &bench.memory);
     page.put(" ");

@@ -2,7 +2,7 @@
 use crate::machine::Bench;
 use crate::machine::events::enter;
 use crate::machine::fidgety::Fidgety;
-use crate::machine::setting::{START, Setting};
+use crate::machine::setting::{Setting, first_regs};
 use crate::machine::writing::{put_quoted, put_status};
 use crate::notation::{cut, word};
 use crate::page::Page;
@@ -31,7 +31,7 @@ pub fn put_answer(page: &mut Page, bench: &mut Bench, name: &str, rest: &str) {
 
 // The machine of a row's words, where it is not refused.
 fn machine_of(page: &mut Page, setting: &mut Setting, words: &str) -> Option<Machine> {
-    setting.read(page, START, words);
+    setting.read(page, first_regs(), words);
     let entered = enter(page, setting)?;
     page.held(entered)
 }
@@ -111,7 +111,7 @@ fn is_as_answered<O: Outside>(
     program: &[u8],
     outside: &mut O,
 ) -> bool {
-    setting.read(page, START, "");
+    setting.read(page, first_regs(), "");
     setting.put_next(page, program);
     match enter(page, setting) {
         Some(Ok(machine)) => ends_as_answered(machine, outside),

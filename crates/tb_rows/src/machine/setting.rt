@@ -9,26 +9,18 @@ use crate::page::Page;
 use std::alloc::Global;
 use std::mem;
 use tb_cpu::{Flags, Regs};
+use tb_engines::start_regs;
 use tb_kernal::Keyboard;
 use tb_memmap::Memory;
 use tb_reaching::HELLO;
 
-/// A program at `$C000` begins, with S `$F0` and no flag set.
-pub const START: Regs = Regs {
-    a: 0,
-    x: 0,
-    y: 0,
-    s: 0xf0,
-    pc: 0xc000,
-    flags: Flags {
-        n: false,
-        v: false,
-        d: false,
-        i: false,
-        z: false,
-        c: false,
-    },
-};
+/// Where programs lie.
+pub const PROGRAM_AT: u16 = 0xc000;
+
+/// The registers before a program.
+pub fn first_regs() -> Regs {
+    start_regs(PROGRAM_AT)
+}
 
 #[derive(Drop)]
 pub struct Setting {
@@ -43,7 +35,7 @@ pub struct Setting {
 impl Setting {
     pub fn new(alloc: Global) -> Setting {
         Setting {
-            regs: START,
+            regs: first_regs(),
             bytes: Vec::new(alloc),
             asked: Vec::new(alloc),
             text: Vec::new(alloc),

@@ -1,6 +1,6 @@
 //! What programs do when they run as sources, their slot code, and the values of expressions.
 use crate::page::Page;
-use tb_lower::{SlotCode, eval, lower, run_source, warnings};
+use tb_lower::{SlotCode, SourceRun, eval, lower, run_source, warnings};
 use tb_parser::{Program, parse, parse_expr};
 use tb_selection::select;
 
@@ -26,16 +26,21 @@ pub fn put_program(page: &mut Page, name: &str, source: &[u8], beside: &[u8]) {
     }
 }
 
+// How a run ended and what it sent.
+fn put_sent(page: &mut Page, run: &SourceRun) {
+    let sent = run.sent.escape_ascii();
+    page.put(" ");
+    page.put_debug(&run.end);
+    page.put(" \"");
+    page.put(sent);
+    page.put("\"");
+}
+
 // How a run ends and what it sends.
 fn put_run(page: &mut Page, program: &Program, keys: &[u8], answers: &[u8]) {
     let run = run_source(page.alloc(), program, SEED, keys, answers, LIMIT);
     if let Some(run) = page.held(run) {
-        let sent = run.sent.escape_ascii();
-        page.put(" ");
-        page.put_debug(&run.end);
-        page.put(" \"");
-        page.put(sent);
-        page.put("\"");
+        put_sent(page, &run);
     }
 }
 
@@ -43,12 +48,8 @@ fn put_run(page: &mut Page, program: &Program, keys: &[u8], answers: &[u8]) {
 fn put_ten_lines(page: &mut Page, program: &Program) {
     let run = run_source(page.alloc(), program, SEED, &[], &[], 10);
     if let Some(run) = page.held(run) {
-        let sent = run.sent.escape_ascii();
+        put_sent(page, &run);
         page.put(" ");
-        page.put_debug(&run.end);
-        page.put(" \"");
-        page.put(sent);
-        page.put("\" ");
         page.put_debug(&run.place);
         page.put(" ");
         page.put_debug(&run.variables);

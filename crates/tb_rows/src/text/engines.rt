@@ -8,6 +8,7 @@ use std::io::{Read, Write};
 use tb_engines::{Outcome, asm_text, dis_text, run_prg};
 use tb_kernal::{Keyboard, Quiet, Rude};
 use tb_streams::Tracked;
+use tb_test_parts::no_keys;
 
 /// The engines that read one file and write one.
 #[derive(Clone, Copy, Drop)]
@@ -58,14 +59,6 @@ fn job_of(page: &mut Page, word: &str, rest: &str) -> (Engine, Vec<u8>) {
             decoded(page, input),
         ),
         _ => (Engine::List, bytes_of(page, rest)),
-    }
-}
-
-/// No keys.
-pub fn no_keys(alloc: Global) -> Keyboard {
-    Keyboard {
-        text: Vec::new(alloc),
-        answers: Vec::new(alloc),
     }
 }
 

@@ -4,8 +4,8 @@ use crate::page::Page;
 use crate::text::engines::{Engine, call, ending_of, put_ending, put_status};
 use std::alloc::Global;
 use tb_engines::{End, Outcome};
-use tb_failing_streams::{FailingReader, FailingWriter, HoldingWriter};
 use tb_streams::Tracked;
+use tb_test_parts::{FailingReader, FailingWriter, HoldingWriter};
 
 /// Appends a line for each length of input from which on the answer is another than before.
 pub fn put_prefixes(page: &mut Page, engine: Engine, input: &[u8]) {
@@ -33,11 +33,7 @@ fn reader_fails(
     until_fault: usize,
     most: usize,
 ) -> bool {
-    let mut reader = Tracked::new(FailingReader {
-        rest: input,
-        until_fault,
-        most,
-    });
+    let mut reader = Tracked::new(FailingReader::new(input, until_fault, most));
     let mut writer = Tracked::new(Vec::new(alloc));
     let outcome = call(alloc, engine, &mut reader, &mut writer);
     outcome == Outcome::ReadFault && reader.failures() == 1 && writer.stream.is_empty()
@@ -50,10 +46,7 @@ pub fn put_failing_readers(page: &mut Page, engine: Engine, input: &[u8]) {
         for most in [1, 7, 4096] {
             if !reader_fails(page.alloc(), engine, input, until_fault, most) {
                 page.put("no fault behind ");
-                page.put(until_fault);
-                page.put(", ");
-                page.put(most);
-                page.put(" at once");
+                page.put_fault(until_fault, most);
                 return;
             }
             met = met.saturating_add(1);
@@ -72,11 +65,7 @@ fn writer_fails(
     until_fault: usize,
     most: usize,
 ) -> bool {
-    let mut writer = Tracked::new(FailingWriter {
-        taken: Vec::new(alloc),
-        until_fault,
-        most,
-    });
+    let mut writer = Tracked::new(FailingWriter::new(alloc, until_fault, most));
     let outcome = call(alloc, engine, &mut Tracked::new(input), &mut writer);
     let wanted = if until_fault < whole.len() {
         Outcome::WriteFault
@@ -96,10 +85,7 @@ pub fn put_failing_writers(page: &mut Page, engine: Engine, input: &[u8]) {
         for most in [1, 2, 4096] {
             if !writer_fails(page.alloc(), engine, input, &whole.wrote, until_fault, most) {
                 page.put(", and no prefix behind ");
-                page.put(until_fault);
-                page.put(", ");
-                page.put(most);
-                page.put(" at once");
+                page.put_fault(until_fault, most);
                 return;
             }
             met = met.saturating_add(1);
@@ -119,11 +105,7 @@ pub fn put_flushed(page: &mut Page, engine: Engine, input: &[u8]) {
 
 // How a call ends with such a writer, and how many of the bytes written were handed on.
 fn put_held(page: &mut Page, engine: Engine, input: &[u8], fails: bool) {
-    let mut writer = Tracked::new(HoldingWriter {
-        taken: Vec::new(page.alloc()),
-        handed_on: 0,
-        fails,
-    });
+    let mut writer = Tracked::new(HoldingWriter::new(page.alloc(), fails));
     let outcome = call(page.alloc(), engine, &mut Tracked::new(input), &mut writer);
     put_status(page, outcome);
     let (handed_on, taken) = (writer.stream.handed_on, writer.stream.taken.len());

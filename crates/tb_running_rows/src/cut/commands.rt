@@ -3,7 +3,7 @@ use crate::cut::engines::{has_said, step};
 use std::alloc::{AllocError, Global};
 use std::test::Fail;
 use tb_driver::{Outcome, Tracked};
-use tb_failing_streams::FailingReader;
+use tb_test_parts::FailingReader;
 
 const SOURCE: &[u8] = b"10 A=5\n20 END\n";
 
@@ -119,11 +119,7 @@ fn notices(
     most: usize,
 ) -> Result<bool, AllocError> {
     let mut source = Tracked::new(SOURCE);
-    let mut reader = Tracked::new(FailingReader {
-        rest: commands,
-        until_fault,
-        most,
-    });
+    let mut reader = Tracked::new(FailingReader::new(commands, until_fault, most));
     let mut out = Tracked::new(Vec::new(alloc));
     let report = step(alloc, &mut source, &mut reader, &mut out)?;
     Ok(

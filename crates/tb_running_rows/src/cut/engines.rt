@@ -3,7 +3,8 @@ use std::alloc::{AllocError, Global};
 use std::io::{Read, Write};
 use std::test::Fail;
 use tb_driver::{Report, Tracked, build, run_text, step_text};
-use tb_kernal::{Keyboard, Quiet};
+use tb_kernal::Quiet;
+use tb_test_parts::{keyboard_of, no_keys};
 
 /// An engine that compiles a source.
 #[derive(Clone, Copy, PartialEq, Eq, Debug, Drop)]
@@ -21,14 +22,6 @@ const SEED: u16 = 1;
 /// How many events a program may take.
 const LIMIT: u64 = 10_000;
 
-// The keyboard with a text typed.
-fn typed(alloc: Global, keys: &[u8]) -> Result<Keyboard, AllocError> {
-    Ok(Keyboard {
-        text: Vec::from_slice(alloc, keys)?,
-        answers: Vec::new(alloc),
-    })
-}
-
 /// Calls an engine.
 pub fn call<R: Read, W: Write>(
     alloc: Global,
@@ -39,7 +32,7 @@ pub fn call<R: Read, W: Write>(
     match engine {
         Engine::Build => Ok(build(alloc, reader, writer, SEED)),
         Engine::Run(keys) => {
-            let keyboard = typed(alloc, keys)?;
+            let keyboard = keyboard_of(alloc, keys, b"")?;
             Ok(run_text(alloc, reader, writer, SEED, keyboard, LIMIT, &mut Quiet))
         }
         Engine::Step(commands) => step(alloc, reader, &mut Tracked::new(commands), writer),
@@ -53,8 +46,7 @@ pub fn step<R: Read, C: Read, W: Write>(
     commands: &mut Tracked<C>,
     writer: &mut Tracked<W>,
 ) -> Result<Report, AllocError> {
-    let keyboard = typed(alloc, b"")?;
-    Ok(step_text(alloc, source, commands, writer, SEED, keyboard, LIMIT))
+    Ok(step_text(alloc, source, commands, writer, SEED, no_keys(alloc), LIMIT))
 }
 
 /// What an engine answered, and what it wrote.

@@ -3,7 +3,7 @@ use crate::cut::engines::{Engine, answer_of, call};
 use std::alloc::{AllocError, Global};
 use std::test::Fail;
 use tb_driver::{End, Outcome, Tracked};
-use tb_failing_streams::{FailingReader, FailingWriter, HoldingWriter};
+use tb_test_parts::{FailingReader, FailingWriter, HoldingWriter};
 
 /// Asks for two numbers, and shows their sum. One jump is warned of.
 const SOURCE: &[u8] = b"10 INPUT A,B\n20 PRINT \"SUM\",A+B\n30 END\n40 GOTO 99\n";
@@ -34,11 +34,7 @@ fn notices_reader(
     until_fault: usize,
     most: usize,
 ) -> Result<bool, AllocError> {
-    let mut reader = Tracked::new(FailingReader {
-        rest: source,
-        until_fault,
-        most,
-    });
+    let mut reader = Tracked::new(FailingReader::new(source, until_fault, most));
     let mut out = Tracked::new(Vec::new(alloc));
     let report = call(alloc, engine, &mut reader, &mut out)?;
     Ok(
@@ -71,11 +67,7 @@ fn notices_writer(
     until_fault: usize,
     most: usize,
 ) -> Result<bool, AllocError> {
-    let mut out = Tracked::new(FailingWriter {
-        taken: Vec::new(alloc),
-        until_fault,
-        most,
-    });
+    let mut out = Tracked::new(FailingWriter::new(alloc, until_fault, most));
     let report = call(alloc, engine, &mut Tracked::new(source), &mut out)?;
     let (outcome, status) = if until_fault < whole.len() {
         (Outcome::WriteFault, 3)
@@ -129,11 +121,7 @@ fn flushes(
     whole: &[u8],
     fails: bool,
 ) -> Result<bool, AllocError> {
-    let mut out = Tracked::new(HoldingWriter {
-        taken: Vec::new(alloc),
-        handed_on: 0,
-        fails,
-    });
+    let mut out = Tracked::new(HoldingWriter::new(alloc, fails));
     let report = call(alloc, engine, &mut Tracked::new(source), &mut out)?;
     let (outcome, handed_on) = if fails {
         (Outcome::WriteFault, 0)

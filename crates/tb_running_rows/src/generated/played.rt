@@ -76,7 +76,7 @@ fn plays_as_its_source(alloc: Global, case: &Case) -> Result<bool, Fail> {
     let limit = limit_of(&run, &lines);
     let Played { outcome, typed } = play_compiled(
         alloc,
-        &program.prg,
+        program.prg(),
         &mut keyboard,
         &mut screen,
         limit,

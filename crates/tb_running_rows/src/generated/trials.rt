@@ -4,9 +4,10 @@ use crate::generated::programs::{Case, Choices};
 use std::alloc::{AllocError, Global};
 use std::test::Fail;
 use tb_driver::{End, Outcome, Tracked, build, host_form, run_prg};
-use tb_kernal::{Keyboard, Quiet, Rude};
+use tb_kernal::{Quiet, Rude};
 use tb_lower::{RunEnd, SourceRun, run_source};
 use tb_parser::parse;
+use tb_test_parts::keyboard_of;
 
 /// How many programs of a kind are tried.
 const PROGRAMS: u16 = 500;
@@ -82,13 +83,6 @@ pub struct Ran {
     pub shown: Vec<u8>,
 }
 
-fn keyboard_of(case: &Case) -> Result<Keyboard, AllocError> {
-    Ok(Keyboard {
-        text: case.keys.clone()?,
-        answers: case.answers.clone()?,
-    })
-}
-
 // Runs a PRG file, with a quiet ROM where there is no seed of a rude one.
 fn run_file(
     alloc: Global,
@@ -97,7 +91,7 @@ fn run_file(
     limit: u64,
     rude: Option<u16>,
 ) -> Result<Ran, AllocError> {
-    let keyboard = keyboard_of(case)?;
+    let keyboard = keyboard_of(alloc, &case.keys, &case.answers)?;
     let mut file = Tracked::new(file);
     let mut screen = Tracked::new(Vec::new(alloc));
     let outcome = match rude {

@@ -1,7 +1,7 @@
 use Rattle.std.proofs.Common.{rules, ◌≡◌}
 use Rattle.tb_codegen.specs.Compiled.{warnings_of}
 use Rattle.tb_driver.specs.Stepping.{StepsThrough, MadeFromTaken}
-use Rattle.tb_driver.proofs.Delivered.{delivered, refusal_delivered, refused_so}
+use Rattle.tb_driver.proofs.Delivered.{delivered, refusal_delivered}
 use Rattle.tb_driver.proofs.Loadable.{answer_loads}
 use Rattle.tb_driver.proofs.Stepped.{steps_made, steps_refused}
 use Rattle.tb_driver.proofs.stepping.step_text.Goals as goal
@@ -35,5 +35,5 @@ returns-in-Err-compile-clause-answers g c =
     refusal_delivered (λ w s. MadeFromTaken had left (StepsThrough c.args.seed text answers c.args.limit w s)) _ _ source e c.stop_of.result
     c.deliver.result c.new-in-Err-compile.result _ _ c.in-Ok.ensures.whole (search rules)
     (steps_refused text answers c.args.limit c.args.seed had left source _ e c.in-Ok-read_input.ensures.whole c.in-Ok-read_input.ensures.consumed
-    (refused_so c.args.seed source e c.in-Err-compile.ensures.found c.in-Err-compile.ensures.only)) c.stop_of.ensures
+    c.in-Err-compile.ensures.found c.in-Err-compile.ensures.only) c.stop_of.ensures
     c.deliver.ensures.answers c.new-in-Err-compile.ensures.outcome c.new-in-Err-compile.ensures.warnings

@@ -1,8 +1,7 @@
-//! Readers and writers that hand on a few bytes at a time and fail in mid-stream, or hold bytes back, for tests.
-#![tactic(auto)]
-
+//! Readers and writers that hand on a few bytes at a time and fail in mid-stream, hold bytes back, or count.
 ghost use Rattle.std.specs.Prelude.{Some};
 
+use std::alloc::Global;
 use std::io;
 use std::io::{Read, Write};
 
@@ -15,6 +14,17 @@ pub struct FailingReader<'a> {
     pub until_fault: usize,
     /// How many bytes it gives at once, at most.
     pub most: usize,
+}
+
+impl<'a> FailingReader<'a> {
+    /// A reader of these bytes that fails after some of them.
+    pub fn new(rest: &'a [u8], until_fault: usize, most: usize) -> FailingReader<'a> {
+        FailingReader {
+            rest,
+            until_fault,
+            most,
+        }
+    }
 }
 
 impl Read for FailingReader<'_> {
@@ -38,6 +48,17 @@ pub struct FailingWriter {
     pub until_fault: usize,
     /// How many bytes it takes at once, at most.
     pub most: usize,
+}
+
+impl FailingWriter {
+    /// A writer that has taken nothing, and fails after some bytes.
+    pub fn new(alloc: Global, until_fault: usize, most: usize) -> FailingWriter {
+        FailingWriter {
+            taken: Vec::new(alloc),
+            until_fault,
+            most,
+        }
+    }
 }
 
 impl Write for FailingWriter {
@@ -69,6 +90,17 @@ pub struct HoldingWriter {
     pub fails: bool,
 }
 
+impl HoldingWriter {
+    /// A writer that has taken nothing.
+    pub fn new(alloc: Global, fails: bool) -> HoldingWriter {
+        HoldingWriter {
+            taken: Vec::new(alloc),
+            handed_on: 0,
+            fails,
+        }
+    }
+}
+
 impl Write for HoldingWriter {
     ghost contents = { λ w. Some w.taken.items };
 
@@ -82,6 +114,35 @@ impl Write for HoldingWriter {
             return Err(io::Error::from(io::ErrorKind::Other));
         }
         self.handed_on = self.taken.len();
+        Ok(())
+    }
+}
+
+/// Notes how many bytes it had taken at each flush.
+#[derive(Drop)]
+pub struct CountingWriter {
+    pub taken: usize,
+    pub flushed_at: Vec<usize>,
+}
+
+impl CountingWriter {
+    /// A writer that has taken nothing.
+    pub fn new(alloc: Global) -> CountingWriter {
+        CountingWriter {
+            taken: 0,
+            flushed_at: Vec::new(alloc),
+        }
+    }
+}
+
+impl Write for CountingWriter {
+    fn write(&mut self, buf: &[u8]) -> io::Result<usize> {
+        self.taken = self.taken.wrapping_add(buf.len());
+        Ok(buf.len())
+    }
+
+    fn flush(&mut self) -> io::Result<()> {
+        self.flushed_at.push(self.taken)?;
         Ok(())
     }
 }

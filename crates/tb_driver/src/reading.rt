@@ -1,0 +1,44 @@
+//! Reading and compiling a source.
+ghost use Rattle.std.specs.Prelude.{◌≡◌, ◌+◌};
+ghost use Rattle.tb_streams.specs.Streams.{most_input, ConsumesAtMost};
+ghost use Rattle.tb_streams.specs.Failures.{failures_of};
+ghost use Rattle.tb_driver.specs.Sources.{stop_of};
+ghost use Rattle.tb_driver.specs.Reading.{ReadsSource};
+
+use std::alloc::Global;
+use std::io::Read;
+use tb_codegen::{CompileError, Compiled, Options, compile};
+use tb_engines::{Outcome, Refusal, Stop, without_input};
+use tb_streams::{Tracked, read_input};
+
+/// How an engine stops where a source is not compiled. Want of memory is no refusal.
+pub fn stop_of(error: CompileError) -> Stop
+    ensures { result ≡ stop_of error }
+{
+    match error {
+        CompileError::NoMemory => Stop::NoMemory,
+        _ => Stop::Refused(Refusal::Source(error)),
+    }
+}
+
+/// Reads a source and compiles it with a first state of RND.
+pub fn read_source<R: Read>(
+    alloc: Global,
+    reader: &mut Tracked<R>,
+    seed: u16,
+) -> Result<Compiled, Outcome>
+    ensures answers { ReadsSource seed result (R.remaining reader.old.stream)
+        (failures_of reader.old) (failures_of reader.new) }
+    ensures taken { ConsumesAtMost (R.remaining reader.old.stream) (R.remaining reader.new.stream)
+        (most_input + 1) }
+{
+    let source = match read_input(alloc, reader) {
+        Ok(source) => source,
+        Err(error) => return Err(without_input(error)),
+    };
+    match compile(alloc, source.as_slice(), Options { seed }) {
+        Ok(program) => Ok(program),
+        Err(CompileError::NoMemory) => Err(Outcome::NoMemory),
+        Err(error) => Err(Outcome::Refused(Refusal::Source(error))),
+    }
+}
