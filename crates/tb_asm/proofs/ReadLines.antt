@@ -98,9 +98,6 @@ module _ (old : List Entry) (rest line : List ℕ) (ls : List (List ℕ)) (n : �
   pub line_taken : (new : List Entry) → option_map (λ es. old ++ es) (line_items line) ≡ Some new → items_before new (text_items (n + 1) ls) ≡ whole
   line_taken new h = sym (taken_by old new (line_items line) n (text_items (n + 1) ls) h) ∙ sym (ap (λ t. items_before old (text_items n t)) split) ∙ so_far
 
-  pub line_bad : line_items line ≡ None → whole ≡ Err n
-  line_bad h = sym so_far ∙ ap (λ t. items_before old (text_items n t)) split ∙ ap (λ o. items_before old (with_line o n (text_items (n + 1) ls))) h
-
 pub text_done : (new : List Entry) (n : ℕ) (whole : Result (List Entry) ℕ) → items_before new (text_items n []) ≡ whole → whole ≡ Ok new
 text_done new n whole h = sym h ∙ ap Ok (append-nil new)
 

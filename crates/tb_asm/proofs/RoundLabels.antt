@@ -2,7 +2,6 @@
 use Rattle.std.proofs.Common.{◌≡◌, ℕ, map, ◌+◌, ◌%◌, ◌<◌, ◌≤◌, Bool, true, false, List, [], ◌∷◌, ◌++◌, Option, Some, None, refl, sym, ap, ◌∙◌, cond, arith, Result, Ok, Err, length, drop, get_or, append_assoc, subst, is_some, if◌then◌else◌}
 use Rattle.std.specs.Prelude.{MatchResult, OnOk, IfErr}
 use Rattle.std.proofs.Math.ListN.{drop_of_length-le}
-use Rattle.std.proofs.lemmas.Bool.Decides.{nat_tests}
 use Rattle.tb_opcodes.specs.declared.Mnemonic.{Mnemonic}
 use Rattle.tb_opcodes.specs.declared.Mnemonic.TheVariants.{Jmp}
 use Rattle.tb_opcodes.specs.declared.Mode.TheVariants.{Relative, Absolute}
@@ -11,14 +10,13 @@ use Rattle.tb_asm.specs.declared.items.Operand.TheVariants.{Word, Label}
 use Rattle.tb_asm.specs.declared.names.Name.{Name}
 use Rattle.tb_asm.specs.Layout.{Entry, entry_of, instr, label, bytes, word, size, label_at, labels_from, address_in, same_name, twice}
 use Rattle.tb_asm.specs.Assembled.{Refuses}
-use Rattle.tb_asm.specs.Settle.{Form, kept, long, inverse, branch_to, items_at, items_from, form_size, long_of, form_past, round_labels}
+use Rattle.tb_asm.specs.Settle.{Form, kept, long, inverse, branch_to, items_at, items_from, form_size, long_of, round_labels}
 use Rattle.tb_asm.specs.Marks.{form_of, forms_of, or_found, wrapped, AddsLabel, PushesEntries}
 use Rattle.tb_asm.specs.declared.items.Item.{Item}
 use Rattle.tb_asm.specs.declared.errors.AsmErrorKind.{AsmErrorKind}
 use Rattle.tb_asm.specs.declared.errors.AsmErrorKind.TheVariants.{NoSuchMode, UnknownLabel, LabelTwice, BranchOutOfRange, RunsPast, IndirectAtPageEnd, NoMemory}
 use Rattle.tb_asm.proofs.Passes.{behind, here}
 use Rattle.tb_asm.proofs.Rounds.{marks_here}
-use Rattle.tb_asm.proofs.Faults.{ends_by}
 use Rattle.tb_asm.proofs.Laws.{labels_append}
 
 pub labels_of_form : ℕ → Form → List (Name × ℕ)

@@ -1,10 +1,11 @@
 -- Laws of images, and of items that assemble.
-use Rattle.std.proofs.Common.{◌≡◌, ℕ, ◌+◌, ◌<◌, Bool, true, false, not, ◌&&◌, ◌||◌, cond, List, [], ◌∷◌, ◌++◌, length, take, drop, Option, Some, None, refl, sym, ap, subst, ◌∙◌, arith, append_assoc, true≢false, if◌then◌else◌, is_some}
+use Rattle.std.proofs.Common.{◌≡◌, ℕ, ◌+◌, ◌<◌, Bool, true, false, not, ◌||◌, cond, List, [], ◌∷◌, ◌++◌, length, take, drop, Option, Some, None, refl, sym, ap, subst, ◌∙◌, arith, append_assoc, true≢false, if◌then◌else◌, is_some}
 use Rattle.std.specs.Prelude.{slice_index, unwrap_or}
 use Rattle.std.specs.List.{list_all, list_any}
 use Rattle.std.proofs.lemmas.Bool.Decides.{nat_tests}
 use Rattle.std.proofs.lemmas.Cmp.{nat_list_eq_equiv}
 use Rattle.std.proofs.lemmas.List.{append-nil}
+use Rattle.std.proofs.lemmas.Bool.{and_parts, or_parts}
 use Rattle.tb_opcodes.specs.declared.Mnemonic.{Mnemonic}
 use Rattle.tb_opcodes.specs.declared.Mode.{Mode}
 use Rattle.tb_opcodes.specs.Opcodes.{decoded, encoded, length_of}
@@ -17,10 +18,6 @@ use Rattle.tb_asm.specs.Assembled.{refusal, either}
 use Rattle.tb_asm.specs.Suited.{BytesStand, Decodes, LabelsStand, name_at, names_of, AreDistinct, AllReachFrom, Suited}
 use Rattle.tb_asm.proofs.Faults.{first_none, none_first, size_push, taken}
 use Rattle.tb_asm.proofs.Laws.{none_of, stands, label_stands, bytes_append, all_size}
-
-pub and_true : (p q : Bool) → (p && q) ≡ true → (p ≡ true) × (q ≡ true)
-and_true true q h = (refl, h)
-and_true false q h = absurd (true≢false (sym h))
 
 -- where nothing is refused, no item has a fault in its place
 fault_none : (fault : List Entry → Entry → Option AsmErrorKind) (front before after : List Entry) (e : Entry) → first_fault fault front (before ++ e ∷ after) ≡ None → fault (front ++ before) e ≡ None
@@ -50,7 +47,7 @@ module _ (at : ℕ) (es : List Entry) (placed : place_refusal at es ≡ None) wh
       ap (λ t. slice_index (bytes_from labels at t) (size before)) is ∙ ap (λ t. slice_index t (size before)) (bytes_append labels at before (instr n m o ∷ after))
       ∙ ap (λ k. slice_index (bytes_from labels at before ++ bytes_from labels (at + size before) (instr n m o ∷ after)) k) (sym (all_size labels at before))
       ∙ behind_front (bytes_from labels at before) (opcode_of n m) (operand_bytes m (at + size before) (number_in labels o) ++ bytes_from labels (at + size before + length_of m) after) in
-      ap decoded there ∙ by n m (encoded n m) refl (and_true (is_some (encoded n m)) (suits m o) mode).0
+      ap decoded there ∙ by n m (encoded n m) refl (and_parts (is_some (encoded n m)) (suits m o) mode).0
     where
       behind_front : (xs : List ℕ) (y : ℕ) (ys : List ℕ) → slice_index (xs ++ y ∷ ys) (length xs) ≡ y
       behind_front [] y ys = refl
@@ -77,13 +74,9 @@ absent n a (label l ∷ es) h = by (same_name n l) h (absent n (a + 0) es)
     by true k go = absurd (true≢false k)
     by false k go = go k
 
-either_false : (p q : Bool) → (p || q) ≡ false → (p ≡ false) × (q ≡ false)
-either_false false q h = (refl, h)
-either_false true q h = absurd (true≢false h)
-
 any_behind : (n m : Name) (ns ms : List Name) → list_any (same_name n) (ns ++ m ∷ ms) ≡ false → same_name n m ≡ false
-any_behind n m [] ms h = (either_false _ _ h).0
-any_behind n m (x ∷ ns) ms h = any_behind n m ns ms (either_false _ _ h).1
+any_behind n m [] ms h = (or_parts _ _ h).0
+any_behind n m (x ∷ ns) ms h = any_behind n m ns ms (or_parts _ _ h).1
 
 -- a name behind distinct names is none of them
 distinct_behind : (ns : List Name) (m : Name) (ms : List Name) → AreDistinct (ns ++ m ∷ ms) → list_any (same_name m) ns ≡ false
@@ -110,7 +103,7 @@ pub placed_suits : (at : ℕ) (before es : List Entry) → list_all has_mode es 
     → first_fault (place_fault_in at) before es ≡ None
 placed_suits at before [] m d l = refl
 placed_suits at before (e ∷ es) m d l =
-    let t = and_true (has_mode e) (list_all has_mode es) m in
+    let t = and_parts (has_mode e) (list_all has_mode es) m in
     let grows : size (before ++ e ∷ []) ≡ size before + size_of e = size_push before e in
     let none : place_fault (labels_from at before) (at + size before) e ≡ None =
     placed_by (has_mode e) (is_label_in (labels_from at before) e) (runs_past (at + size before) e) t.0 (new_label at before e es d) (ends_below (at + size before) e (omega arith)) in

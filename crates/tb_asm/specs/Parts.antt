@@ -2,7 +2,7 @@
 use Rattle.std.specs.Prelude.{ℕ, ◌+◌, ◌-◌, ◌*◌, ◌||◌, Option, Some, None, List, [], ◌∷◌, ◌++◌, length, nat_lt, eqb, if◌then◌else◌}
 use Rattle.tb_asm.specs.declared.parts.Part.{Part}
 use Rattle.tb_asm.specs.declared.parts.Part.TheVariants.{Identifier, TwoDigits, FourDigits, Hash, Less, Greater, Left, Right, Comma, Colon}
-use Rattle.tb_asm.specs.Names.{within, is_letter, may_follow, fold_byte}
+use Rattle.tb_asm.specs.Names.{is_between, is_letter, may_follow, fold_byte}
 
 -- an identifier by its letters in upper case
 abbrev pub identifier : List ℕ → Part
@@ -22,7 +22,7 @@ pub data Place : Type 0 where
 
 -- the value of a hexadecimal digit in either case, 0 to 15; None for any other byte
 abbrev pub digit_value : ℕ → Option ℕ
-digit_value b = if within 48 57 b then Some (b - 48) else if within 65 70 b then Some (b - 55) else if within 97 102 b then Some (b - 87) else None
+digit_value b = if is_between 48 57 b then Some (b - 48) else if is_between 65 70 b then Some (b - 55) else if is_between 97 102 b then Some (b - 87) else None
 
 -- the hexadecimal digit in upper case for a value from 0 to 15
 abbrev pub hex_digit : ℕ → ℕ

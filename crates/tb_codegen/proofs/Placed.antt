@@ -24,7 +24,7 @@ lines_known labels ns seed a asking (line ∷ lines) fs h l =
     let ls = labels_behind labels a fs s.front s.back s.are l in
     (ap is_some (stretch_at labels ns seed a asking line s.front s.of_front ls.0), lines_known labels ns seed (a + forms_size s.front) on lines s.back s.of_back ls.1)
 
-starts_low : (low low' : ℕ) (starts : List (ℕ × ℕ)) → low ≤ low' → StartsRise low' starts → StartsRise low starts
+pub starts_low : (low low' : ℕ) (starts : List (ℕ × ℕ)) → low ≤ low' → StartsRise low' starts → StartsRise low starts
 starts_low low low' [] l h = tt
 starts_low low low' (s ∷ starts) l h = (omega (arith, l, h.0), h.1)
 

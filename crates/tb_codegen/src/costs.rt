@@ -2,14 +2,14 @@
 ghost use Rattle.std.specs.Prelude.{◌≡◌, ◌+◌, ◌<◌, map};
 ghost use Rattle.tb_syntax.specs.Shown.{expression_of, item_of, command_of, lines_of};
 ghost use Rattle.tb_templates.specs.Sizes.{items_cost};
-ghost use Rattle.tb_lower.specs.Cost as lower;
+ghost use Rattle.tb_lower.specs.Cost as cost;
 
 use tb_syntax::{Expr, PrintItem, Program, Statement};
 
 /// The cost of a program in bytes, where it can be counted by 32 bits.
 pub fn cost(program: &Program) -> u32
-    requires { lower.cost (lines_of program.now) < 4294967296 }
-    ensures { result ≡ lower.cost (lines_of program.now) }
+    requires { cost.cost (lines_of program.now) < 4294967296 }
+    ensures { result ≡ cost.cost (lines_of program.now) }
 {
     let mut sum = 64;
     for (_, statement) in program.lines() {
@@ -20,16 +20,16 @@ pub fn cost(program: &Program) -> u32
 
 /// What a line with this statement costs in bytes, where it can be counted by 32 bits.
 pub fn line_cost(statement: &Statement) -> u32
-    requires { 36 + lower.command_cost (command_of statement.now) < 4294967296 }
-    ensures { result ≡ 36 + lower.command_cost (command_of statement.now) }
+    requires { 36 + cost.command_cost (command_of statement.now) < 4294967296 }
+    ensures { result ≡ 36 + cost.command_cost (command_of statement.now) }
 {
     36 + statement_cost(statement)
 }
 
 // What a statement costs.
 fn statement_cost(statement: &Statement) -> u32
-    requires { lower.command_cost (command_of statement.now) < 4294967296 }
-    ensures { result ≡ lower.command_cost (command_of statement.now) }
+    requires { cost.command_cost (command_of statement.now) < 4294967296 }
+    ensures { result ≡ cost.command_cost (command_of statement.now) }
 {
     match statement {
         Statement::Let(_, e) => 48 * nodes(e),
@@ -56,8 +56,8 @@ fn items_cost(items: &[PrintItem]) -> u32
 }
 
 fn item_cost(item: &PrintItem) -> u32
-    requires { lower.item_cost (item_of item.now) < 4294967296 }
-    ensures { result ≡ lower.item_cost (item_of item.now) }
+    requires { cost.item_cost (item_of item.now) < 4294967296 }
+    ensures { result ≡ cost.item_cost (item_of item.now) }
 {
     match item {
         PrintItem::Text(text) => 24 + text.len() as u32,
@@ -68,8 +68,8 @@ fn item_cost(item: &PrintItem) -> u32
 
 // How many operators, numbers and variables an expression has.
 fn nodes(e: &Expr) -> u32
-    requires { lower.nodes (expression_of e.now) < 4294967296 }
-    ensures { result ≡ lower.nodes (expression_of e.now) }
+    requires { cost.nodes (expression_of e.now) < 4294967296 }
+    ensures { result ≡ cost.nodes (expression_of e.now) }
 {
     match e {
         Expr::Number(_) | Expr::Variable(_) => 1,

@@ -1,12 +1,8 @@
 -- Where the first command of a text ends, and what is left behind it.
 use Rattle.std.proofs.Common.{◌≡◌, ◌≢◌, ℕ, zero, suc, ◌+◌, ◌-◌, ◌<◌, ◌≤◌, false, List, [], ◌∷◌, length, get_or, take, drop, refl, arith, ◌==◌, add-one}
-use Rattle.std.proofs.lemmas.Bool.Decides.{nat_tests}
 use Rattle.std.proofs.lemmas.List.{take_all, length-drop}
+use Rattle.std.proofs.lemmas.Bool.{ne_eqb}
 use Rattle.tb_commands.specs.Lines.{lines_of}
-
--- a number is not another
-unequal : (a b : ℕ) → a ≢ b → (a == b) ≡ false
-unequal a b h = grind (arith, nat_tests, h)
 
 -- the first line ends at the first byte 10
 pub first_line : (text : List ℕ) (i : ℕ) → i < length text → get_or text i 0 ≡ 10 → ((k : ℕ) → k < i → get_or text k 0 ≢ 10)
@@ -17,7 +13,7 @@ first_line (b ∷ text) zero lt e inside = rw e refl
 first_line (b ∷ text) (suc i) lt e inside =
     let h : b ≢ 10 = inside 0 (omega arith) in
     let rest = first_line text i (omega arith) e (λ k below. inside (suc k) (omega arith)) in
-    rw (unequal b 10 h, rest) refl
+    rw (ne_eqb b 10 h, rest) refl
 
 -- the same, with what is left as the code has it
 pub first_line_and_rest : (text : List ℕ) (i : ℕ) → i < length text → get_or text i 0 ≡ 10 → ((k : ℕ) → k < i → get_or text k 0 ≢ 10)
@@ -30,11 +26,11 @@ first_line_and_rest text i lt e inside =
 pub last_line : (text : List ℕ) → text ≢ [] → ((k : ℕ) → k < length text → get_or text k 0 ≢ 10) → lines_of text ≡ text ∷ lines_of []
 unfolding lines_of
 last_line [] ne inside = absurd (ne refl)
-last_line (b ∷ []) ne inside = let h : b ≢ 10 = inside 0 (omega arith) in rw (unequal b 10 h) refl
+last_line (b ∷ []) ne inside = let h : b ≢ 10 = inside 0 (omega arith) in rw (ne_eqb b 10 h) refl
 last_line (b ∷ c ∷ text) ne inside =
     let h : b ≢ 10 = inside 0 (omega arith) in
     let rest = last_line (c ∷ text) (λ e. cc) (λ k below. inside (suc k) (omega arith)) in
-    rw (unequal b 10 h, rest) refl
+    rw (ne_eqb b 10 h, rest) refl
 
 pub only_line : (text : List ℕ) (i : ℕ) → (length text == 0) ≡ false → length text ≤ i → ((k : ℕ) → k < i → get_or text k 0 ≢ 10)
     → (lines_of text ≡ text ∷ lines_of []) × (0 < length text)

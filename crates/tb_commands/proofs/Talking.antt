@@ -25,9 +25,6 @@ module _ {O : Type 0} (gives : O → Content → Event → O → Type 0) (limit 
   abbrev pub Told : Holds O → List (List ℕ) → List ℕ → Holds O → List (List ℕ) → Type 0
   Told h lines text b left = (more : List ℕ) (k : Holds O) → Dialogue gives limit b left more k → Dialogue gives limit h lines (text ++ more) k
 
-  pub told_nothing : (h : Holds O) (lines : List (List ℕ)) → Told h lines [] h lines
-  told_nothing h lines = λ more k d. d
-
   -- one more command
   pub told_more : (h b c : Holds O) (lines left all : List (List ℕ)) (text line : List ℕ) (answer : Answer) → Told h lines text b all → all ≡ line ∷ left
       → Responds gives limit b (asked_in line) (Ok (Some answer)) c → Told h lines (text ++ (text_of answer ++ 10 ∷ [])) c left

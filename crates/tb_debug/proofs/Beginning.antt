@@ -1,10 +1,7 @@
 -- Where lines begin along a run.
 use Rattle.std.proofs.Common.{◌≡◌, ℕ, suc, ◌+◌, ◌&&◌, Bool, false, List, refl, sym, ap, ◌∙◌, subst, inl, inr, add-one, arith}
 use Rattle.std.proofs.lemmas.Bool.{cases_eq}
-use Rattle.tb_kernal.specs.declared.status.Status.{Status}
-use Rattle.tb_kernal.specs.declared.status.Status.TheVariants.{Running, Waits, Returned, Wrong}
-use Rattle.tb_kernal.specs.Machine.{state_of, status}
-use Rattle.tb_debug.specs.Begins.{Advances, EndsAt, IsUsedUp, NoneBegins, at_limit, comes_to, own_at}
+use Rattle.tb_debug.specs.Begins.{NoneBegins, comes_to, own_at}
 use Rattle.tb_debug.specs.Runs.{Point, IsOfRun, is_marked, point_at}
 use Rattle.tb_debug.specs.declared.moment.Moment.{Moment}
 
@@ -39,20 +36,3 @@ none_more marks start m n next e none last k above below =
 
 pub none_before : (marks : List Bool) (start : Point) (m n next : ℕ) → next ≡ n + 1 → NoneBegins marks start m (suc n) → NoneBegins marks start m next
 none_before marks start m n next e none k above below = none k above (omega (arith, below, e))
-
-pub none_here : (marks : List Bool) (start : Point) (m : ℕ) → NoneBegins marks start m (suc m)
-none_here marks start m k above below = absurd (omega (arith, above, below))
-
--- how a going on ends at its limit
-pub ends_by : (marks : List Bool) (start : Point) (limit : ℕ) (m n : Moment) (s : Status) → status (state_of n.machine) ≡ s
-    → NoneBegins marks start m.events (suc n.events) → IsUsedUp limit m n → EndsAt marks start limit m (at_limit s) n
-ends_by marks start limit m n Running e none used = (none, used)
-ends_by marks start limit m n Waits e none used = (none, e, λ q. cc)
-ends_by marks start limit m n Returned e none used = (none, e, λ q. cc)
-ends_by marks start limit m n (Wrong w) e none used = (none, e, λ q. cc)
-
-pub advances_by : (m n : Moment) (s : Status) → Advances (at_limit s) m n
-advances_by m n Running = tt
-advances_by m n Waits = tt
-advances_by m n Returned = tt
-advances_by m n (Wrong w) = tt

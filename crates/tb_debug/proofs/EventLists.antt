@@ -1,32 +1,25 @@
 -- The events of a run as a list.
 use Rattle.std.proofs.Common.{◌≡◌, ℕ, zero, suc, ◌+◌, ◌-◌, ◌/◌, ◌%◌, Bool, true, false, ◌&&◌, List, [], ◌∷◌, ◌++◌, refl, sym, ap, ◌∙◌, arith}
 use Rattle.std.proofs.lemmas.Bool.{or_right}
-use Rattle.std.specs.Prelude.{Option, Some, None, if◌then◌else◌, ◌==◌}
-use Rattle.tb_memmap.specs.Bytes.{Writes}
+use Rattle.std.specs.Prelude.{if◌then◌else◌, ◌==◌}
 use Rattle.tb_kernal.specs.declared.events.Event.{Event}
 use Rattle.tb_kernal.specs.declared.events.Event.TheVariants.{Go, Interrupt}
-use Rattle.tb_kernal.specs.declared.places.Service.{Service}
-use Rattle.tb_kernal.specs.LawfulEvents.{rude_writable, writes_of}
 use Rattle.tb_words.specs.Words.{seed_after}
 use Rattle.tb_kernal.specs.Outsides.{rude_clobber, rude_event, rude_writes}
-use Rattle.tb_kernal.specs.Machine.{State, entered, happens, is_lawful, is_lawful_go, is_stopped, status}
+use Rattle.tb_kernal.specs.Machine.{State, entered, happens, is_lawful, is_stopped, status}
 use Rattle.tb_kernal.specs.Places.{all_writable, service_at}
-use Rattle.tb_kernal.specs.Runs.{run, all_lawful}
+use Rattle.tb_kernal.specs.Runs.{run, all_lawful, is_own}
+use Rattle.tb_kernal.specs.LawfulEvents.{rude_writable, lawful_at, writes_of}
 use Rattle.tb_reaching.proofs.Laws.{run_append}
 use Rattle.tb_keeping.specs.Layout.{is_start}
 use Rattle.tb_keeping.specs.LineStarts.{begun}
 use Rattle.tb_debug.specs.Besides.{event_at}
-use Rattle.tb_debug.specs.Events.{is_own}
 use Rattle.tb_debug.specs.Runs.{Point, is_marked, point_at}
 use Rattle.tb_debug.specs.declared.beside.Beside.{Beside}
 use Rattle.tb_debug.specs.declared.beside.Beside.TheVariants.{Quiet, Rude}
 use Rattle.tb_debug.proofs.Running.{at_next, at_start}
 
 -- ---- what a ROM gives is lawful
-
-lawful_at : (o : Option Service) (s : ℕ) (ws : Writes) → all_writable s ws ≡ true → is_lawful_go o s ws ≡ true
-lawful_at None s ws h = refl
-lawful_at (Some _) s ws h = h
 
 lawful_by : (s : State) (e : Event) → all_writable s.regs.s (writes_of e) ≡ true → is_lawful s e ≡ true
 lawful_by s (Go k) h = or_right (is_stopped (status s)) _ (lawful_at (service_at s.regs.pc) s.regs.s k.writes.items h)

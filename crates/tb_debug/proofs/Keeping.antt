@@ -1,21 +1,10 @@
 -- Kept moments are of the run.
 use Rattle.std.proofs.Common.{◌≡◌, ℕ, ◌≤◌, Bool, List, [], length, take, sym, ap, ◌∙◌, arith}
 use Rattle.std.proofs.lemmas.List.Elements.{All-weaker}
-use Rattle.tb_debug.specs.Runs.{Point, IsOfRun, IsKept, AreKept, point_at, shown, unsent}
+use Rattle.tb_debug.specs.Runs.{Point, IsOfRun, IsKept, AreKept, point_at, shown}
 use Rattle.tb_debug.specs.declared.history.Kept.{Kept}
 use Rattle.tb_debug.specs.declared.moment.Moment.{Moment}
 use Rattle.tb_debug.proofs.Running.{sent_before}
-
--- a moment as it is kept
-pub kept_of : (marks : List Bool) (start : Point) (m : Moment) (k : Kept)
-    → k.moment ≡ record m { machine = record m.machine { sent = []; room = 0 } } → k.sent ≡ length m.machine.sent
-    → IsOfRun marks start m → IsKept marks start k
-kept_of marks start m k copied counted h =
-    let same : m.events ≡ k.moment.events = sym (ap (λ x. x.events) copied) in
-    record {
-      stands = ap shown copied ∙ ap unsent h.stands ∙ ap (λ n. unsent (point_at marks start n)) same;
-      counts = counted ∙ ap (λ p. length p.state.sent) h.stands ∙ ap (λ n. length (point_at marks start n).state.sent) same;
-    }
 
 -- a place at which these bytes were sent
 abbrev resent : List ℕ → Point → Point

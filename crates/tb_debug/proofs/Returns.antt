@@ -1,5 +1,5 @@
 -- The lines to return to, one by one.
-use Rattle.std.proofs.Common.{◌≡◌, append-nil, append_assoc, ℕ, suc, ◌+◌, ◌-◌, ◌<◌, ◌≤◌, List, [], ◌∷◌, ◌++◌, Option, sym, ap, ◌∙◌, arith}
+use Rattle.std.proofs.Common.{◌≡◌, append_assoc, ℕ, suc, ◌+◌, ◌-◌, ◌<◌, List, [], ◌∷◌, ◌++◌, Option, sym, ap, ◌∙◌, arith}
 use Rattle.tb_debug.specs.Lines.{line_at}
 use Rattle.tb_debug.specs.Readings.{lines_of_notes, note_at}
 
@@ -14,8 +14,3 @@ module _ (lines : List (ℕ × ℕ)) (m : ℕ → ℕ) (told : List (Option ℕ)
       ap (λ j. line ∷ lines_of_notes lines m j) rest ∙ ap (λ l. l ∷ lines_of_notes lines m k) is ∙ sym (ap (lines_of_notes lines m) all) in
       ap (λ xs. xs ++ lines_of_notes lines m (count - (n + 1))) pushed ∙ append_assoc told (line ∷ []) (lines_of_notes lines m (count - (n + 1)))
       ∙ ap (λ ys. told ++ ys) step ∙ h
-
-  pub all_told : count ≤ n → told ++ lines_of_notes lines m (count - n) ≡ lines_of_notes lines m count → told ≡ lines_of_notes lines m count
-  all_told past h =
-      let none : count - n ≡ 0 = omega (arith, past) in
-      sym (ap (λ j. told ++ lines_of_notes lines m j) none ∙ append-nil told) ∙ h

@@ -1,8 +1,7 @@
 -- A debugger at a line's beginning shows the source.
-use Rattle.std.proofs.Common.{◌≡◌, ℕ, Bool, true, false, ◌||◌, List, [], ◌∷◌, Some, refl, sym, ap, ◌∙◌, subst, arith}
+use Rattle.std.proofs.Common.{◌≡◌, ℕ, Bool, true, false, ◌||◌, List, [], ◌∷◌, Some, refl, sym, ap, ◌∙◌, subst}
 use Rattle.std.specs.Prelude.{nat_eq, unwrap_or, Option, None, IfSome, if◌then◌else◌}
-use Rattle.std.proofs.lemmas.Bool.{eqb-true, or_right}
-use Rattle.std.proofs.lemmas.Bool.Decides.{nat_tests}
+use Rattle.std.proofs.lemmas.Bool.{eqb-true, or_right, eq-eqb}
 use Rattle.tb_asm.specs.declared.names.Name.{Name}
 use Rattle.tb_asm.specs.Layout.{labels_from}
 use Rattle.tb_runtime16.specs.Places.{PROLOGUE_AT}
@@ -38,11 +37,8 @@ module _ (labels : List (Name × ℕ)) where
       go true q later e = ap at_label (eqb-true m n q)
       go false q later e = later e
 
-  itself : (n : ℕ) → nat_eq n n ≡ true
-  itself n = grind (arith, nat_tests)
-
   has_itself : (n : ℕ) (rest : Bool) → (nat_eq n n || rest) ≡ true
-  has_itself n rest = ap (λ b. b || rest) (itself n)
+  has_itself n rest = ap (λ b. b || rest) (eq-eqb n n refl)
 
   -- the two ways of saying where lines begin
   starts_same : (first : ℕ → ℕ) (ns : List ℕ) (a : ℕ) → ((n : ℕ) → has_line ns n ≡ true → first n ≡ at_label n)

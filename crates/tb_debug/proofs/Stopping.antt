@@ -115,9 +115,6 @@ pub record Walked (d : Debugger) (start : Point) (from : ℕ) (m : Moment) (time
   pub of_run : IsOfRun d.starts start m
   pub known : NewestBetween d start from m.events time
 
-pub none_between : (d : Debugger) (start : Point) (from : ℕ) → NewestBetween d start from from 0
-none_between d start from = record { leads = inl refl; all = λ k above below. absurd (omega (arith, above, below)) }
-
 -- one line more
 pub one_between : (d : Debugger) (start : Point) (from : ℕ) (p q : Moment) (limit a led time : ℕ) → OnRun start d → IsOfRun d.starts start q
     → EndsAt d.starts start limit p Line q → q.events ≤ d.present.events
@@ -175,32 +172,6 @@ all_passed d start from last time p q past h =
         | inr before ↦ h.all k above before comes
       ];
     }
-
-pub fewer_between : (d : Debugger) (start : Point) (from last to time : ℕ) → last ≤ to → NewestBetween d start from to time → NewestBetween d start from last time
-fewer_between d start from last to time few h = record { leads = h.leads; all = λ k above below. h.all k above (omega (arith, below, few)) }
-
--- lines before and behind a place
-pub joined : (d : Debugger) (start : Point) (from last a b time : ℕ) → a ≤ time → b ≤ time → (time ≡ a) ⊎ (time ≡ b)
-    → KnowsBehind d start last a → NewestBetween d start from last b → KnowsBehind d start from time
-joined d start from last a b time one other which h g =
-    record {
-      leads = leads_either d start a b time h.leads g.leads which;
-      here = omega (arith, h.here, one);
-      all = λ k above below comes. elim (cases_lt last k) [
-        | inl behind ↦ let few = h.all k behind below comes in omega (arith, few, one)
-        | inr before ↦ let few = g.all k above before comes in omega (arith, few, other)
-      ];
-    }
-
-pub fewer_known : (d : Debugger) (start : Point) (last from time : ℕ) → last ≤ from → KnowsBehind d start last time → KnowsBehind d start from time
-fewer_known d start last from time few h = record { leads = h.leads; here = h.here; all = λ k above below. h.all k (omega (arith, above, few)) below }
-
--- the present place alone
-pub known_here : (d : Debugger) (start : Point) (time : ℕ) → OnRun start d
-    → time ≡ leads_back (starts_of d.program.now) d.stops d.present.begun (shown d.present) → KnowsBehind d start d.present.events time
-known_here d start time on is =
-    let e : time ≡ leads_from d start d.present.events = is ∙ leads_there d start d.present on.of_run in
-    record { leads = inr (inl (sym e)); here = omega (arith, e); all = λ k above below. absurd (omega (arith, above, below)) }
 
 -- no line before a place leads to a time behind that place's
 pub enough : (d : Debugger) (start : Point) (k : Kept) (time : ℕ) → IsKept d.starts start k → k.moment.begun ≤ time

@@ -3,8 +3,8 @@ use Rattle.std.specs.Prelude.{◌≡◌, ◌≢◌, ◌⊎◌, ℕ, zero, suc, �
 use Rattle.tb_kernal.specs.declared.status.Status.{Status}
 use Rattle.tb_kernal.specs.declared.status.Status.TheVariants.{Running}
 use Rattle.tb_kernal.specs.Machine.{state_of, status}
+use Rattle.tb_kernal.specs.Runs.{is_own}
 use Rattle.tb_debug.specs.Besides.{event_at}
-use Rattle.tb_debug.specs.Events.{is_own}
 use Rattle.tb_debug.specs.Runs.{Point, is_marked, point_at}
 use Rattle.tb_debug.specs.declared.moment.Moment.{Moment}
 use Rattle.tb_debug.specs.declared.moment.Reached.{Reached}

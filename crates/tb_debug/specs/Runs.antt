@@ -4,8 +4,8 @@ use Rattle.tb_kernal.specs.declared.events.Event.{Event}
 use Rattle.tb_kernal.specs.declared.status.Status.TheVariants.{Running}
 use Rattle.tb_kernal.specs.Machine.{State, state_of, happens, status}
 use Rattle.tb_kernal.specs.Typing.{with_more}
+use Rattle.tb_kernal.specs.Runs.{is_own}
 use Rattle.tb_debug.specs.Besides.{after, event_at}
-use Rattle.tb_debug.specs.Events.{is_own}
 use Rattle.tb_debug.specs.Readings.{variables_of}
 use Rattle.tb_debug.specs.declared.beside.Beside.{Beside}
 use Rattle.tb_debug.specs.declared.history.Kept.{Kept}

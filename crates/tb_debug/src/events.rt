@@ -1,6 +1,7 @@
 //! Events of a machine that an outside gives.
 ghost use Rattle.std.specs.Prelude.{◌≡◌, IfOk};
-ghost use Rattle.tb_debug.specs.Events.{Took, is_own};
+ghost use Rattle.tb_kernal.specs.Runs.{is_own};
+ghost use Rattle.tb_debug.specs.Events.{Took};
 
 use tb_kernal::{Event, Machine, Outside};
 use tb_memmap::NoMemory;

@@ -5,6 +5,7 @@ use Rattle.tb_words.specs.Letters.{place}
 use Rattle.tb_command_parts.specs.Parts.{number_of, variable_in}
 use Rattle.tb_debug_commands.specs.declared.command.Command.{Command}
 use Rattle.tb_debug_commands.specs.declared.command.Command.TheVariants as command
+use Rattle.tb_grammar.specs.Grammar.{word_of}
 
 -- what a line asks for: a variable is said by its place in the alphabet, a text by its bytes
 pub data Asked : Type 0 where
@@ -66,10 +67,6 @@ asked_of command.Unknown = Unknown
 abbrev pub most_digits : ℕ
 most_digits = 18
 
--- the number of a line; one that no line has stands for each larger one
-abbrev pub line_of : ℕ → ℕ
-line_of n = if nat_le n 65535 then n else 65535
-
 -- what a hexadecimal digit stands for, in either case
 abbrev pub digit_of : ℕ → Option ℕ
 digit_of b =
@@ -111,9 +108,9 @@ counting c n =
     else if c == 112 then Back n
     else if c == 116 then ToTime n
     else if c == 115 then Step n
-    else if c == 98 then Breakpoint (line_of n)
-    else if c == 103 then ToLine (line_of n)
-    else if c == 108 then ListAt (line_of n)
+    else if c == 98 then Breakpoint (word_of n)
+    else if c == 103 then ToLine (word_of n)
+    else if c == 108 then ListAt (word_of n)
     else Unknown
 
 -- the same of a text that may spell no number

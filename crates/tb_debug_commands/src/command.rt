@@ -1,7 +1,8 @@
 //! The debugger's commands, as lines spell them.
 ghost use Rattle.std.specs.Prelude.{◌≡◌, ◌≤◌, ◌<◌, length, IfSome};
 ghost use Rattle.tb_command_parts.specs.Parts.{number_of};
-ghost use Rattle.tb_debug_commands.specs.Commands.{asked_of, asked_in, alone, words, with_text, with_number, counting, line_of, memory_in, memory_at, address_of, digit_of, most_digits};
+ghost use Rattle.tb_grammar.specs.Grammar.{word_of};
+ghost use Rattle.tb_debug_commands.specs.Commands.{asked_of, asked_in, alone, words, with_text, with_number, counting, memory_in, memory_at, address_of, digit_of, most_digits};
 
 use tb_command_parts::{number, variable};
 use tb_words::Letter;
@@ -162,7 +163,7 @@ fn counting<'a>(letter: u8, number: u64) -> Command<'a>
 
 // A number that no line has stands for each larger one.
 fn line_number(number: u64) -> u16
-    ensures { result ≡ line_of number }
+    ensures { result ≡ word_of number }
 {
     if number <= 65_535 {
         number as u16

@@ -1,7 +1,7 @@
 -- What is in the grammar is read.
 use Rattle.std.proofs.Common.{◌≡◌, ◌≢◌, ℕ, zero, suc, ◌+◌, ◌-◌, ◌*◌, ◌<◌, ◌≤◌, true, false, List, [], ◌∷◌, ◌++◌, inl, inr, length, Option, Some, None, refl, sym, ap, subst, ◌∙◌, arith, ◌==◌, length-append}
 use Rattle.std.specs.Option.{option_or}
-use Rattle.std.proofs.lemmas.Bool.{eqb-true}
+use Rattle.std.proofs.lemmas.Bool.{eqb-true, cases_Bool, ne_eqb}
 use Rattle.std.proofs.lemmas.Bool.Decides.{nat_tests}
 use Rattle.std.specs.Prelude.{All, codes}
 use Rattle.std.proofs.lemmas.List.Elements.{All-head, All-tail}
@@ -9,7 +9,7 @@ use Rattle.tb_syntax.specs.declared.expressions.Operator.{Operator}
 use Rattle.tb_syntax.specs.Source.{Expression, Number, Variable, Binary, Random}
 use Rattle.tb_grammar.specs.Grammar.{IsDigit, IsLetter, value_after, word_of, large_at, Part, Whole, Term, Factor, operator, Reads, number, variable, random, parentheses, factor, product, term, plus, minus, sum}
 use Rattle.tb_grammar.specs.Reading.{◌>>=◌, Found, is_digit, is_letter, digits_at, literal_at, behind, behind_word, closed, negated, variable_at, group_by, starts_digit, factor_by, operator_at, more, term_by, signed_by, whole_by, whole_at, factor_at, term_at, front_of}
-use Rattle.tb_grammar.proofs.Steps.{chosen, either}
+use Rattle.tb_grammar.proofs.Steps.{chosen}
 
 -- A part takes at least one byte.
 pub shorter : {part : Part} {text : List ℕ} {e : Expression} {large : Option ℕ} {rest : List ℕ} → Reads part text e large rest → length rest < length text
@@ -68,9 +68,6 @@ is_letter_true b h = grind (arith, nat_tests)
 pub letter_no_digit : (b : ℕ) → IsLetter b → is_digit b ≡ false
 letter_no_digit b h = grind (arith, nat_tests)
 
-pub not_that : (a b : ℕ) → a ≢ b → (a == b) ≡ false
-not_that a b h = grind (arith, nat_tests)
-
 -- the digits at the front, where no other follows
 digits_read : (n : ℕ) (digits rest : List ℕ) → All IsDigit digits → starts_digit rest ≡ false → digits_at n (digits ++ rest) ≡ (value_after n digits, rest)
 digits_read n [] [] h e = refl
@@ -93,15 +90,15 @@ random_letter_read whole rest ends = rw ends.no_random refl
 variable_read : (whole : List ℕ → Option Found) (v : ℕ) (rest : List ℕ) → IsLetter v → Ends rest → VariableRead whole rest v
 unfolding factor_by variable_at
 variable_read whole v rest h ends =
-    elim (either (v == 82)) [
+    elim (cases_Bool (v == 82)) [
       | inl r ↦ subst (VariableRead whole rest) (sym (eqb-true v 82 r)) (random_letter_read whole rest ends)
-      | inr r ↦ rw (letter_no_digit v h, r, not_that v 40 (omega arith), is_letter_true v h) refl
+      | inr r ↦ rw (letter_no_digit v h, r, ne_eqb v 40 (omega arith), is_letter_true v h) refl
     ]
 
 -- no sign begins a term
 unsigned : {part : Part} {text : List ℕ} {e : Expression} {large : Option ℕ} {rest : List ℕ} → Reads part text e large rest → part ≢ Whole → (behind 43 text ≡ None) × (behind 45 text ≡ None)
-unsigned (number text d digits rest h ds) ne = let first = All-head IsDigit d digits ds in rw h (rw (not_that d 43 (omega arith), not_that d 45 (omega arith)) (refl, refl))
-unsigned (variable v rest h) ne = rw (not_that v 43 (omega arith), not_that v 45 (omega arith)) (refl, refl)
+unsigned (number text d digits rest h ds) ne = let first = All-head IsDigit d digits ds in rw h (rw (ne_eqb d 43 (omega arith), ne_eqb d 45 (omega arith)) (refl, refl))
+unsigned (variable v rest h) ne = rw (ne_eqb v 43 (omega arith), ne_eqb v 45 (omega arith)) (refl, refl)
 unsigned (random text e large rest r) ne = (refl, refl)
 unsigned (parentheses text e large rest r) ne = (refl, refl)
 unsigned (factor text e large rest r) ne = unsigned r (λ h. cc)
@@ -221,8 +218,8 @@ abbrev pub NoOther : List ℕ → Type 0
 NoOther text = (behind 34 text ≡ None) × (behind 60 text ≡ None) × (behind 61 text ≡ None) × (behind 62 text ≡ None)
 
 pub no_other : {part : Part} {text : List ℕ} {e : Expression} {large : Option ℕ} {rest : List ℕ} → Reads part text e large rest → NoOther text
-no_other (number text d digits rest h ds) = let first = All-head IsDigit d digits ds in rw h (rw (not_that d 34 (omega arith), not_that d 60 (omega arith), not_that d 61 (omega arith), not_that d 62 (omega arith)) (refl, refl, refl, refl))
-no_other (variable v rest h) = rw (not_that v 34 (omega arith), not_that v 60 (omega arith), not_that v 61 (omega arith), not_that v 62 (omega arith)) (refl, refl, refl, refl)
+no_other (number text d digits rest h ds) = let first = All-head IsDigit d digits ds in rw h (rw (ne_eqb d 34 (omega arith), ne_eqb d 60 (omega arith), ne_eqb d 61 (omega arith), ne_eqb d 62 (omega arith)) (refl, refl, refl, refl))
+no_other (variable v rest h) = rw (ne_eqb v 34 (omega arith), ne_eqb v 60 (omega arith), ne_eqb v 61 (omega arith), ne_eqb v 62 (omega arith)) (refl, refl, refl, refl)
 no_other (random text e large rest r) = (refl, refl, refl, refl)
 no_other (parentheses text e large rest r) = (refl, refl, refl, refl)
 no_other (factor text e large rest r) = no_other r

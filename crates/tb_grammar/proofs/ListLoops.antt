@@ -1,8 +1,8 @@
 -- The loops that read a text, the items of PRINT and the variables of INPUT.
-use Rattle.std.proofs.Common.{◌≡◌, ◌≢◌, ℕ, zero, suc, ◌<◌, ◌≤◌, Bool, true, false, List, [], ◌∷◌, ◌++◌, length, Option, Some, None, refl, sym, ap, ◌∙◌, arith, append_assoc, map, inl, inr, ◌==◌}
+use Rattle.std.proofs.Common.{◌≡◌, ℕ, zero, suc, ◌<◌, ◌≤◌, Bool, true, false, List, [], ◌∷◌, ◌++◌, length, Option, Some, None, refl, sym, ap, ◌∙◌, arith, append_assoc, map, inl, inr, ◌==◌}
 use Rattle.std.specs.Option.{option_or}
 use Rattle.std.proofs.lemmas.Bool.{eqb-true}
-use Rattle.std.proofs.lemmas.List.{append-nil, map-append}
+use Rattle.std.proofs.lemmas.List.{map-append}
 use Rattle.tb_words.specs.Letters.{place}
 use Rattle.tb_words.specs.declared.Letter.{Letter}
 use Rattle.tb_syntax.specs.declared.statements.PrintItem.{PrintItem}
@@ -11,8 +11,8 @@ use Rattle.tb_syntax.specs.Source.{Item, Input}
 use Rattle.tb_grammar.specs.Reading.{◌>>=◌, behind, letter_at}
 use Rattle.tb_grammar.specs.StatementReading.{quotation_at, FoundItem, as_text, item_at, between, Printed, with_items, others_by, items_at, letters_after, letters_at, input_at}
 use Rattle.tb_grammar.proofs.Steps.{chosen, behind_is, letter_found}
-use Rattle.tb_grammar.proofs.Complete.{not_that, one_more}
-use Rattle.tb_grammar.proofs.Lists.{no_second, item_is, item_shorter, items_step}
+use Rattle.tb_grammar.proofs.Complete.{one_more}
+use Rattle.tb_grammar.proofs.Lists.{item_is, item_shorter, items_step}
 
 not_behind : (b c : ℕ) (text : List ℕ) → behind c (b ∷ text) ≡ None → (b == c) ≡ false
 not_behind b c text e = elim (chosen (b == c) (Some text) None None e) [
@@ -54,12 +54,6 @@ module _ (k : ℕ) (ends : Bool) (items : List Item) (large : Option ℕ) (rest 
   fuel : (j : ℕ) × (k ≡ suc j)
   fuel = one_more k 0 (omega (arith, some, fits))
 
-  pub printed_last : i.rest ≡ [] → printed_behind k ends items large rest ≡ Some (record { items = items ++ i.item ∷ []; ends_line = true; large = option_or large i.large })
-  printed_last e =
-      ap (λ (k : ℕ). printed_behind k ends items large rest) fuel.1 ∙ printed_step fuel.0 ends items large rest i some is
-      ∙ ap (λ (t : List ℕ). others_by (items_at fuel.0 false) t >>= λ p. Some (with_items (items ++ i.item ∷ []) (option_or large i.large) p)) e
-      ∙ rw (append-nil (items ++ i.item ∷ []), no_second (option_or large i.large)) refl
-
   pub printed_shrinks : (b : ℕ) (others : List ℕ) → behind b i.rest ≡ Some others → length others < length rest
   printed_shrinks b others e = let s = item_shorter (item_is rest i is) in omega (arith, s, ap length (behind_is b i.rest others e))
 
@@ -78,15 +72,6 @@ module _ (k : ℕ) (ends : Bool) (items : List Item) (large : Option ℕ) (rest 
       go : (o : Option Printed) → ((o >>= λ p. Some (with_items zone None p)) >>= λ p. Some (with_items (items ++ i.item ∷ []) (option_or large i.large) p)) ≡ (o >>= λ p. Some (with_items ((items ++ i.item ∷ []) ++ zone) (option_or large i.large) p))
       go None = refl
       go (Some p) = rw (append_assoc (items ++ i.item ∷ []) zone p.items) refl
-
-  pub printed_stops : behind 44 i.rest ≡ None → behind 59 i.rest ≡ None → 0 < length i.rest → printed_behind k ends items large rest ≡ None
-  printed_stops no_comma no_semicolon more =
-      ap (λ (k : ℕ). printed_behind k ends items large rest) fuel.1 ∙ printed_step fuel.0 ends items large rest i some is
-      ∙ ap (λ (o : Option Printed). o >>= λ p. Some (with_items (items ++ i.item ∷ []) (option_or large i.large) p)) (stopped i.rest no_comma no_semicolon more)
-    where
-      stopped : (rest : List ℕ) → behind 44 rest ≡ None → behind 59 rest ≡ None → 0 < length rest → others_by (items_at fuel.0 false) rest ≡ None
-      stopped [] no_comma no_semicolon more = absurd (omega arith)
-      stopped (b ∷ rest) no_comma no_semicolon more = rw (not_behind b 44 rest no_comma, not_behind b 59 rest no_semicolon) refl
 
 -- the rest of the variables of INPUT behind those that were read
 abbrev pub letters_behind : ℕ → List ℕ → List ℕ → Option (List ℕ)

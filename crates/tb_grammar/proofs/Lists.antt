@@ -2,7 +2,7 @@
 use Rattle.std.proofs.Common.{◌≡◌, ◌≢◌, ℕ, zero, suc, ◌-◌, ◌<◌, ◌≤◌, Bool, true, false, List, [], ◌∷◌, ◌++◌, inl, inr, length, Option, Some, None, refl, sym, ap, subst, ◌∙◌, arith, ◌==◌, length-append}
 use Rattle.std.specs.Option.{option_or}
 use Rattle.std.specs.Prelude.{All}
-use Rattle.std.proofs.lemmas.Bool.{eqb-true}
+use Rattle.std.proofs.lemmas.Bool.{eqb-true, ne_eqb}
 use Rattle.std.proofs.lemmas.List.Elements.{All-nil, All-cons, All-head, All-tail}
 use Rattle.tb_syntax.specs.Source.{Item, Text, Zone}
 use Rattle.tb_grammar.specs.Grammar.{IsLetter}
@@ -11,7 +11,7 @@ use Rattle.tb_grammar.specs.Statements.{ReadsItem, value, quotation, Separates, 
 use Rattle.tb_grammar.specs.StatementReading.{quotation_at, FoundItem, as_text, as_value, item_at, between, Printed, with_items, others_by, items_at, letters_after, letters_at}
 use Rattle.tb_grammar.proofs.Steps.{some_is, bind_some, when_cases, chosen, behind_is, letter_found}
 use Rattle.tb_grammar.proofs.Sound.{front_is}
-use Rattle.tb_grammar.proofs.Complete.{shorter, Follows, nothing_follows, front_read, is_letter_true, not_that, no_other}
+use Rattle.tb_grammar.proofs.Complete.{shorter, Follows, nothing_follows, front_read, is_letter_true, no_other}
 
 -- texts between quotes
 
@@ -37,7 +37,7 @@ quotation_is (b ∷ text) q e =
 
 quotation_read : (bytes rest : List ℕ) → All NoQuote bytes → quotation_at (bytes ++ 34 ∷ rest) ≡ Some (bytes, rest)
 quotation_read [] rest h = refl
-quotation_read (b ∷ bytes) rest h = rw (not_that b 34 (All-head NoQuote b bytes h), quotation_read bytes rest (All-tail NoQuote b bytes h)) refl
+quotation_read (b ∷ bytes) rest h = rw (ne_eqb b 34 (All-head NoQuote b bytes h), quotation_read bytes rest (All-tail NoQuote b bytes h)) refl
 
 -- items
 

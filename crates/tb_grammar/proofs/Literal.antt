@@ -1,21 +1,12 @@
 -- The value of a literal, counted up to 65536.
-use Rattle.std.proofs.Common.{◌≡◌, ℕ, ◌+◌, ◌-◌, ◌*◌, ◌<◌, ◌≤◌, true, false, List, [], ◌∷◌, length, Option, Some, None, refl, sym, ◌∙◌, nat_le, if◌then◌else◌, arith}
+use Rattle.std.proofs.Common.{◌≡◌, ℕ, ◌<◌, ◌≤◌, false, List, [], ◌∷◌, length, Option, Some, None, refl, sym, ◌∙◌, nat_le, if◌then◌else◌, arith}
 use Rattle.std.proofs.lemmas.Bool.Decides.{nat_tests}
 use Rattle.tb_syntax.specs.Source.{Number}
 use Rattle.tb_grammar.specs.Grammar.{word_of, large_at}
-use Rattle.tb_grammar.specs.Reading.{Found, is_digit, starts_digit, digits_at, literal_at}
+use Rattle.tb_grammar.specs.Reading.{Found, starts_digit, digits_at, literal_at}
 
 abbrev pub capped : ℕ → ℕ
 capped n = if nat_le n 65535 then n else 65536
-
-digit_true : (d : ℕ) → d < 10 → is_digit (48 + d) ≡ true
-digit_true d h = grind (arith, nat_tests)
-
--- one more digit
-pub one_digit : (n d : ℕ) (text rest : List ℕ) → d < 10 → text ≡ (48 + d) ∷ rest → digits_at n text ≡ digits_at (10 * n + d) rest
-one_digit n d text rest h e =
-    let same : (48 + d) - 48 ≡ d = omega arith in
-    rw e (rw (digit_true d h, same) refl)
 
 pub no_digit : (n : ℕ) (text : List ℕ) → starts_digit text ≡ false → digits_at n text ≡ (n, text)
 no_digit n [] e = refl

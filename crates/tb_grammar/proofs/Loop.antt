@@ -1,8 +1,8 @@
 -- Going on behind an operator.
-use Rattle.std.proofs.Common.{◌≡◌, ℕ, zero, suc, ◌-◌, ◌<◌, ◌≤◌, ◌≢◌, List, length, Option, Some, None, refl, sym, ap, ◌∙◌, arith}
+use Rattle.std.proofs.Common.{◌≡◌, ℕ, zero, suc, ◌<◌, ◌≤◌, List, length, Option, Some, refl, sym, ap, ◌∙◌, arith}
 use Rattle.tb_syntax.specs.declared.expressions.Operator.{Operator}
 use Rattle.tb_grammar.specs.Grammar.{Part, Term, Factor}
-use Rattle.tb_grammar.specs.Reading.{Found, joined, operator_at, more, whole_at, whole_by, factor_at, term_at}
+use Rattle.tb_grammar.specs.Reading.{Found, joined, operator_at, more, whole_at, factor_at, term_at}
 use Rattle.tb_grammar.proofs.Sound.{Finds, operator_is, factor_finds, term_finds, whole_finds}
 use Rattle.tb_grammar.proofs.Complete.{shorter}
 
@@ -26,12 +26,3 @@ at_factor n = factor_finds (whole_at n) (whole_finds n)
 
 pub at_term : (n : ℕ) → Finds Term (term_at n)
 at_term n = term_finds (factor_at n) (at_factor n)
-
-pub nested : (n : ℕ) (text : List ℕ) → n ≢ 0 → whole_at n text ≡ whole_by (factor_at (n - 1)) text
-unfolding whole_at
-nested zero text h = absurd (h refl)
-nested (suc n) text h = let e : suc n - 1 ≡ n = omega arith in rw e refl
-
-pub not_nested : (n : ℕ) (text : List ℕ) → n ≡ 0 → whole_at n text ≡ None
-unfolding whole_at
-not_nested n text h = rw h refl

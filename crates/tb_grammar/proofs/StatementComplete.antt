@@ -2,14 +2,14 @@
 use Rattle.std.proofs.Common.{◌≡◌, ℕ, zero, suc, ◌+◌, ◌-◌, ◌≤◌, Bool, true, false, List, [], ◌∷◌, ◌++◌, inl, inr, length, Option, Some, None, refl, ◌∙◌, arith, ◌==◌}
 use Rattle.std.specs.Option.{option_or}
 use Rattle.std.specs.Prelude.{codes}
+use Rattle.std.proofs.lemmas.Bool.{cases_Bool, ne_eqb}
 use Rattle.tb_words.specs.declared.Rel.{Rel}
 use Rattle.tb_syntax.specs.Source.{Expression, Item, Command, Let, Print, Input, If, Goto, Gosub, Return, End, Remark}
 use Rattle.tb_grammar.specs.Grammar.{IsLetter, Whole, Term, Reads}
 use Rattle.tb_grammar.specs.Reading.{starts_digit, behind_word, operator_at, front_of}
 use Rattle.tb_grammar.specs.Statements.{MayThen, bare, then, Prints, Variables, States, let_assign, assign, print, short_print, input, conditional, goto, gosub, return, end, remark}
 use Rattle.tb_grammar.specs.StatementReading.{Told, target_at, relation_at, made, print_at, input_at, behind_then, conditional_by, keyword_at, assigned_at, behind_keyword, statement_at}
-use Rattle.tb_grammar.proofs.Steps.{either}
-use Rattle.tb_grammar.proofs.Complete.{shorter, Follows, is_letter_true, letter_no_digit, not_that, front_read, no_other}
+use Rattle.tb_grammar.proofs.Complete.{shorter, Follows, is_letter_true, letter_no_digit, front_read, no_other}
 use Rattle.tb_grammar.proofs.ExpressionLaws.{expression_read}
 use Rattle.tb_grammar.proofs.Relations.{relation_follows, relation_shorter, relation_read}
 use Rattle.tb_grammar.proofs.Lists.{items_read, letters_read}
@@ -25,14 +25,14 @@ word_starts d r t w n = record { follows = record { ends = record { no_digit = d
 
 -- no word goes on with an = behind a letter
 assign_no_random : (v : ℕ) (text : List ℕ) → behind_word (codes "ND") (v ∷ 61 ∷ text) ≡ None
-assign_no_random v text = elim (either (v == 78)) [ inl h ↦ rw h refl | inr h ↦ rw h refl ]
+assign_no_random v text = elim (cases_Bool (v == 78)) [ inl h ↦ rw h refl | inr h ↦ rw h refl ]
 
 assign_no_then : (v : ℕ) (text : List ℕ) → behind_word (codes "THEN") (v ∷ 61 ∷ text) ≡ None
-assign_no_then v text = elim (either (v == 84)) [ inl h ↦ rw h refl | inr h ↦ rw h refl ]
+assign_no_then v text = elim (cases_Bool (v == 84)) [ inl h ↦ rw h refl | inr h ↦ rw h refl ]
 
 statement_starts : {text : List ℕ} {s : Command} {large : Option ℕ} → States text s large → Starts text
 statement_starts (assign v text e large h r) =
-    word_starts (letter_no_digit v h) (assign_no_random v text) (rw (not_that v 42 (omega arith), not_that v 47 (omega arith)) refl) (rw (not_that v 43 (omega arith), not_that v 45 (omega arith)) refl) (assign_no_then v text)
+    word_starts (letter_no_digit v h) (assign_no_random v text) (rw (ne_eqb v 42 (omega arith), ne_eqb v 47 (omega arith)) refl) (rw (ne_eqb v 43 (omega arith), ne_eqb v 45 (omega arith)) refl) (assign_no_then v text)
 statement_starts (let_assign v text e large h r) = word_starts refl refl refl refl refl
 statement_starts (print text items ends_line large p) = word_starts refl refl refl refl refl
 statement_starts (short_print text items ends_line large p) = word_starts refl refl refl refl refl

@@ -1,8 +1,8 @@
 -- Steps of reading, taken apart.
-use Rattle.std.proofs.Common.{◌≡◌, ℕ, ◌+◌, ◌-◌, ◌*◌, Bool, true, false, cond, List, [], ◌∷◌, ◌++◌, ◌⊎◌, inl, inr, Option, Some, None, refl, sym, ap, ◌∙◌, nat_le, ◌==◌, ◌&&◌}
+use Rattle.std.proofs.Common.{◌≡◌, ℕ, ◌+◌, ◌-◌, ◌*◌, Bool, true, false, cond, List, [], ◌∷◌, ◌++◌, ◌⊎◌, inl, inr, Option, Some, None, refl, sym, ap, ◌∙◌, nat_le, ◌==◌}
 use Rattle.std.specs.Prelude.{All}
 use Rattle.std.proofs.lemmas.List.Elements.{All-nil, All-cons}
-use Rattle.std.proofs.lemmas.Bool.{eqb-true, leb-true}
+use Rattle.std.proofs.lemmas.Bool.{eqb-true, leb-true, cases_Bool, and_parts}
 use Rattle.tb_grammar.specs.Grammar.{IsDigit, IsLetter, value_after}
 use Rattle.tb_grammar.specs.Reading.{◌>>=◌, is_digit, is_letter, digits_at, behind, behind_word, letter_at, when}
 
@@ -21,10 +21,6 @@ pub chosen : {A : Type 0} (t : Bool) (x y z : A) → cond t x y ≡ z → ((t �
 chosen true x y z e = inl (refl, e)
 chosen false x y z e = inr (refl, e)
 
-pub either : (t : Bool) → (t ≡ true) ⊎ (t ≡ false)
-either true = inl refl
-either false = inr refl
-
 pub behind_is : (b : ℕ) (text rest : List ℕ) → behind b text ≡ Some rest → text ≡ b ∷ rest
 behind_is b [] rest e = absurd cc
 behind_is b (c ∷ text) rest e =
@@ -39,16 +35,11 @@ behind_word_is (b ∷ word) text rest e =
     let a = bind_some (behind b text) (behind_word word) rest e in
     behind_is b text a.0 a.1 ∙ ap (λ (t : List ℕ). b ∷ t) (behind_word_is word a.0 rest a.2)
 
--- two tests that hold
-pub both_hold : (a b : Bool) → (a && b) ≡ true → (a ≡ true) × (b ≡ true)
-both_hold true b e = (refl, e)
-both_hold false b e = absurd cc
-
 pub digit_is : (b : ℕ) → is_digit b ≡ true → IsDigit b
-digit_is b e = let h = both_hold (nat_le 48 b) (nat_le b 57) e in (leb-true 48 b h.0, leb-true b 57 h.1)
+digit_is b e = let h = and_parts (nat_le 48 b) (nat_le b 57) e in (leb-true 48 b h.0, leb-true b 57 h.1)
 
 pub letter_is : (b : ℕ) → is_letter b ≡ true → IsLetter b
-letter_is b e = let h = both_hold (nat_le 65 b) (nat_le b 90) e in (leb-true 65 b h.0, leb-true b 90 h.1)
+letter_is b e = let h = and_parts (nat_le 65 b) (nat_le b 90) e in (leb-true 65 b h.0, leb-true b 90 h.1)
 
 -- the letter at the front
 pub letter_found : (text : List ℕ) (p : ℕ × List ℕ) → letter_at text ≡ Some p → (v : ℕ) × IsLetter v × (text ≡ v ∷ p.1) × (p.0 ≡ v - 65)
@@ -66,7 +57,7 @@ pub digits_found : (n : ℕ) (text : List ℕ) → (digits : List ℕ) × (text 
 digits_found n [] = ([], refl, All-nil IsDigit, refl)
 digits_found n (b ∷ text) =
     let again = digits_found (10 * n + (b - 48)) text in
-    elim (either (is_digit b)) [
+    elim (cases_Bool (is_digit b)) [
       | inl h ↦ rw h (b ∷ again.0, ap (λ (t : List ℕ). b ∷ t) again.1, All-cons IsDigit b again.0 (digit_is b h) again.2, again.3)
       | inr h ↦ rw h ([], refl, All-nil IsDigit, refl)
     ]

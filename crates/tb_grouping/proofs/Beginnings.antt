@@ -1,19 +1,17 @@
 -- The weaker relation where a line begins: from the old one, with nothing known of the slots, and on into the line.
-use Rattle.std.proofs.Common.{◌≡◌, ℕ, ◌<◌, List, [], ◌∷◌, length, sym, ap, ◌∙◌, subst, arith, Some}
+use Rattle.std.proofs.Common.{◌≡◌, ℕ, List, [], ◌∷◌, length, sym, ap, ◌∙◌, subst, arith, Some}
 use Rattle.tb_lower.specs.Steps.{and_then}
 use Rattle.tb_lower.specs.Control.{At, State, content_at}
 use Rattle.tb_lower.specs.Slots.{Instr, SlotCode, Whole, Slots, SlotState, slot_step, instr_at, instr_found}
 use Rattle.tb_syntax.specs.Source.{numbers}
 use Rattle.tb_reaching.specs.View.{Setup, View}
-use Rattle.tb_keeping.specs.Layout.{Layout, place_at}
+use Rattle.tb_keeping.specs.Layout.{Layout}
 use Rattle.tb_keeping.proofs.Mirrors.{Opens}
 use Rattle.tb_selection.specs.Groups.{Group, expand}
 use Rattle.tb_selection.specs.Liveness.{nothing_live}
 use Rattle.tb_selection.specs.Select.{select}
 use Rattle.tb_selection.specs.GroupSteps.{inside, steps, ahead, or_empty, first, first_group}
-use Rattle.tb_selection.specs.Laws.{AreClosed}
 use Rattle.tb_selection.proofs.GroupRuns.{expand_some}
-use Rattle.tb_grouping.proofs.Coded.{GroupsLie}
 use Rattle.tb_grouping.proofs.Matching.{HoldsLive, Matches, state_of}
 use Rattle.tb_grouping.proofs.SlotSide.{line}
 
@@ -32,20 +30,6 @@ module _ (ly : Layout) (f : Setup) (lo hi keys : ℕ) where
     answers = h.answers;
     state = state_of ly s r w.mem h.holds;
     read = nothing_read r w.mem h.holds.all_words;
-    homed = h.homed;
-    short = h.short;
-  }
-
-  -- at a line's beginning, whose groups lie there, the relation holds of the whole list
-  pub entered : (code : SlotCode) → AreClosed code → (n : ℕ) (is : List Instr) (s : State) (r : Slots) (w : View) → s.place ≡ At n → content_at code n ≡ Some is → GroupsLie ly f.code n (ly.start n) (select is) → n < 65536 → Matches ly f lo hi keys (record { state = s; rest = Whole; slots = r }) w → Matches ly f lo hi keys (line code n is s r) w
-  entered code closed n is s r w here some lies number h = record {
-    pc = (subst (λ p. GroupsLie ly f.code n p (select is)) (sym (h.pc ∙ ap (place_at ly) here)) lies, number);
-    stack = h.stack;
-    binary = h.binary;
-    text = h.text;
-    answers = h.answers;
-    state = h.state;
-    read = subst (λ u. HoldsLive u r w.mem) (sym (closed n is some)) (nothing_read r w.mem h.read.all_words);
     homed = h.homed;
     short = h.short;
   }

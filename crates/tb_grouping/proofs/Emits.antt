@@ -15,7 +15,7 @@ use Rattle.tb_settling.proofs.Forms.{forms_size, items_size, items_append}
 use Rattle.tb_asm.proofs.Settled.{items_kept}
 use Rattle.tb_reaching.proofs.Instr.{Instr, flat}
 use Rattle.tb_keeping.proofs.Resolved as resolved
-use Rattle.tb_keeping.proofs.Resolved.{Piece, Code, Text, pieces_size, highest_code}
+use Rattle.tb_keeping.proofs.Resolved.{Piece, Code, pieces_size, highest_code}
 use Rattle.tb_keeping.proofs.Emitted.{piece_bytes, pieces_bytes, pieces_length}
 use Rattle.tb_grouping.proofs.Coded.{Flag, Negative, Overflow, Carry, Zero, Way, Short, Long, way_size, branch_on, branch_code, BranchReaches}
 

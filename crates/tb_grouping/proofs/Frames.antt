@@ -1,9 +1,10 @@
 -- What stays of the weaker relation while the code of an instruction runs.
-use Rattle.std.proofs.Common.{◌≡◌, ◌≢◌, ℕ, zero, suc, ◌+◌, ◌%◌, ◌≤◌, ◌<◌, true, false, List, ◌∷◌, length, refl, sym, ap, ◌∙◌, arith, if◌then◌else◌, Bool}
-use Rattle.std.specs.Prelude.{slice_index, replicate}
+use Rattle.std.proofs.Common.{◌≡◌, ◌≢◌, ℕ, suc, ◌+◌, ◌%◌, ◌≤◌, ◌<◌, true, false, List, ◌∷◌, length, refl, sym, ap, ◌∙◌, arith, if◌then◌else◌, Bool}
+use Rattle.std.specs.Prelude.{replicate}
 use Rattle.std.proofs.lemmas.Bool.Decides.{nat_tests}
 use Rattle.tb_cpu.specs.Effects.{bit}
 use Rattle.tb_memmap.specs.Regions.{within}
+use Rattle.tb_memmap.proofs.View.{zeros}
 use Rattle.tb_lower.specs.Control.{Place, State, column_after}
 use Rattle.tb_lower.specs.Slots.{Slots}
 use Rattle.tb_runtime16.specs.Places.{COLUMN, HELD, NOTES, OPEN, SEED, SEEDED}
@@ -45,11 +46,6 @@ stands_behind m a lo = ap (λ t. if t then 0 else m a) (behind_slots a lo)
 
 over : (m m' : ℕ → ℕ) (a : ℕ) → m' a ≡ m a → blank m' a ≡ blank m a
 over m m' a e = ap (λ x. if within 0xC040 0xC061 a then 0 else x) e
-
-zeros : (n k : ℕ) → slice_index (replicate n 0) k ≡ 0
-zeros zero k = refl
-zeros (suc n) zero = refl
-zeros (suc n) (suc k) = zeros n k
 
 zero_word : (m : ℕ → ℕ) (a w : ℕ) → w ≡ 0 → 0xC040 ≤ a → a ≤ 0xC060 → WordAt (blank m) a w
 zero_word m a w e lo hi = record { low = cleared m a lo (omega (arith, hi)) ∙ omega (arith, e); high = cleared m (a + 1) (omega (arith, lo)) (omega (arith, hi)) ∙ omega (arith, e); small = omega (arith, e) }

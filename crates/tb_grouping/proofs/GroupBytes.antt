@@ -3,6 +3,7 @@ use Rattle.std.proofs.Common.{not, ◌≡◌, ℕ, ◌+◌, ◌/◌, ◌%◌, �
 use Rattle.std.specs.Prelude.{zero, suc, ◌-◌, ◌^◌, if◌then◌else◌, nat_eq, nat_lt, unwrap_or, Option, None}
 use Rattle.std.proofs.lemmas.List.{append-nil}
 use Rattle.std.specs.List.{list_all}
+use Rattle.std.proofs.lemmas.Bool.{and_parts}
 use Rattle.tb_opcodes.specs.Opcodes as opcodes
 use Rattle.tb_opcodes.specs.declared.Mnemonic.{Mnemonic}
 use Rattle.tb_opcodes.specs.declared.Mnemonic.TheVariants.{Adc, Beq, Bne, Bvc, Clc, Cmp, Lda, Ora, Sbc, Sec, Sta, Eor}
@@ -13,7 +14,6 @@ use Rattle.tb_asm.specs.Layout.{Entry, instr, label, size_of, size, bytes_of, by
 use Rattle.tb_asm.specs.Settle.{Form, kept, items_from, form_size, some_branch_far}
 use Rattle.tb_asm.proofs.Laws.{bytes_append}
 use Rattle.tb_asm.proofs.Settled.{items_kept}
-use Rattle.tb_asm.proofs.Suits.{and_true}
 use Rattle.tb_settling.specs.Settled.{AreFormsOf}
 use Rattle.tb_settling.proofs.Forms.{forms_append, forms_size, items_size, items_append, kept_size, is_straight, straight_forms, split, near_split}
 use Rattle.tb_reaching.proofs.Instr.{Instr, ins, instr_bytes, flat}
@@ -52,15 +52,15 @@ use Rattle.tb_templates.proofs.Divided.{IsMasking, by_bits, by_division, left_ov
 use Rattle.tb_templates.proofs.Plain.{lifted_plain, plain_straight, times_plain, shifted_plain}
 use Rattle.tb_keeping.specs.Layout.{Layout, layout_of, next_at}
 use Rattle.tb_keeping.proofs.Resolved as resolved
-use Rattle.tb_keeping.proofs.Resolved.{Piece, Code, pieces_size, highest_code}
+use Rattle.tb_keeping.proofs.Resolved.{Piece, Code, highest_code}
 use Rattle.tb_grouping.proofs.Sources.{lda, adc, sbc, cmp}
 use Rattle.tb_grouping.proofs.Coded as coded
-use Rattle.tb_grouping.proofs.Coded.{low, high, weighed, difference, Way, Short, Long, way_size, Flag, Zero, Overflow, Negative, Carry, BranchReaches, branch_code, branch_on, second_at, turned_at, test_code, TestReaches, group_code, BranchesReach}
+use Rattle.tb_grouping.proofs.Coded.{low, high, weighed, difference, Way, Short, way_size, Flag, Zero, Overflow, Negative, Carry, BranchReaches, branch_code, branch_on, second_at, turned_at, test_code, TestReaches, group_code, BranchesReach}
 use Rattle.tb_grouping.proofs.Halves.{power_small}
 use Rattle.tb_grouping.proofs.Remainders.{mask_small}
 use Rattle.tb_grouping.proofs.Singles.{IsAlone}
 use Rattle.tb_grouping.proofs.Emits.{formed, formed_size, branch_formed, branch_by, Emits, emits_append, emitted_size, ends, block, labelled, branches, reaches}
-use Rattle.tb_keeping.proofs.Numbers.{address_bytes, constant_bytes, copied_bytes, store_bytes, faulted_bytes, next_same}
+use Rattle.tb_keeping.proofs.Numbers.{address_bytes, constant_bytes, copied_bytes, store_bytes, faulted_bytes, next_same, low_byte, high_byte}
 use Rattle.tb_grouping.proofs.SingleBytes.{template_bytes}
 
 -- ---- lists of forms, cut
@@ -141,12 +141,6 @@ module _ (labels : List (Name × ℕ)) where
   pub tested_word : (a : Tested) → IsWord (tested_source a)
   tested_word HeldBefore = tt
   tested_word (HeldNow a) = source_word 0 a
-
-  low_byte : (w : ℕ) → w % 256 % 256 ≡ w % 256
-  low_byte w = omega arith
-
-  high_byte : (w : ℕ) → w < 65536 → w / 256 % 256 ≡ w / 256
-  high_byte w h = omega (arith, h)
 
   -- an item has the bytes of an instruction, wherever it stands; so have items those of instructions
   pub record Makes (e : Entry) (i : Instr) : Type 0 where
@@ -342,7 +336,7 @@ module _ (labels : List (Name × ℕ)) where
 
   all_straight : (xs ys : List Entry) → list_all is_straight xs ≡ true → list_all is_straight ys ≡ true → list_all is_straight (xs ++ ys) ≡ true
   all_straight [] ys h k = k
-  all_straight (x ∷ xs) ys h k = let t = and_true (is_straight x) (list_all is_straight xs) h in λ i. t.0 i && all_straight xs ys t.1 k i
+  all_straight (x ∷ xs) ys h k = let t = and_parts (is_straight x) (list_all is_straight xs) h in λ i. t.0 i && all_straight xs ys t.1 k i
 
   brought_straight : (s : Source) (to : ℕ) → list_all is_straight (items.brought s to) ≡ true
   brought_straight s to = λ i. low_straight Lda s i && (place_straight Sta to i && (high_straight Lda s i && (place_straight Sta (to + 1) i && true)))

@@ -2,6 +2,7 @@
 use Rattle.std.proofs.Common.{leb, ◌≡◌, ◌⊎◌, ℕ, ◌+◌, ◌%◌, ◌≤◌, ◌<◌, Bool, true, false, ◌||◌, List, [], ◌∷◌, ◌++◌, length, refl, sym, ap, ◌∙◌, subst, inr, ⊎_elim, arith, Some, None}
 use Rattle.std.specs.Prelude.{if◌then◌else◌, nat_eq}
 use Rattle.std.proofs.lemmas.Bool.{leb-true, eq-eqb, ne_eqb}
+use Rattle.std.proofs.Math.Bool.{or-true}
 use Rattle.tb_opcodes.specs.declared.Mnemonic.TheVariants.{Jmp}
 use Rattle.tb_opcodes.specs.Opcodes as opcodes
 use Rattle.tb_asm.specs.declared.names.Name.{Name}
@@ -10,7 +11,7 @@ use Rattle.tb_asm.proofs.Laws.{bytes_append, all_size}
 use Rattle.tb_reaching.specs.View.{Part, Bytes}
 use Rattle.tb_reaching.proofs.Parts.{bytes_front}
 use Rattle.tb_syntax.specs.Source.{numbers}
-use Rattle.tb_lower.specs.Control.{Place, At, Past, next_after, has_line, highest, content_at}
+use Rattle.tb_lower.specs.Control.{Place, At, Past, has_line, highest, content_at}
 use Rattle.tb_lower.specs.Slots as slots
 use Rattle.tb_runtime16.specs.Places.{COUNT, LINES_AT, PROLOGUE_AT, SEARCH_AT, TABLE}
 use Rattle.tb_runtime16.specs.Block.{block_bytes}
@@ -20,12 +21,12 @@ use Rattle.tb_templates.specs.Templates as product
 use Rattle.tb_templates.specs.Breaks.{broken}
 use Rattle.tb_templates.specs.Program as program
 use Rattle.tb_templates.proofs.Reached.{labels_split}
-use Rattle.tb_keeping.specs.Layout.{Layout, Lies, place_of, layout_of, place_at, next_at, is_start, inner}
+use Rattle.tb_keeping.specs.Layout.{Layout, Lies, place_of, layout_of, place_at, is_start, inner}
 use Rattle.tb_keeping.proofs.Resolved as resolved
 use Rattle.tb_keeping.proofs.Resolved.{Piece, pieces_size}
 use Rattle.tb_keeping.proofs.Emitted.{pieces_bytes, pieces_length, behind, lies}
 use Rattle.tb_keeping.proofs.LineStarts.{has_content}
-use Rattle.tb_keeping.proofs.Numbers.{or_true, joined, constant_bytes, faulted_bytes, address_bytes, start_of_line}
+use Rattle.tb_keeping.proofs.Numbers.{joined, constant_bytes, faulted_bytes, address_bytes, start_of_line}
 use Rattle.tb_grouping.specs.Laid.{IsClear, LineLies, Laid}
 use Rattle.tb_grouping.proofs.Coded.{broken_code}
 
@@ -69,7 +70,7 @@ module _ (labels : List (Name × ℕ)) (all : List ℕ) (seed : ℕ) where
   no_start (n ∷ ns) among a none =
       let here : has_line all n ≡ true = among n (ap (λ b. b || has_line ns n) (eq-eqb n n refl)) in
       ap (λ b. b || is_start ly.start ns a) (ne_eqb a (ly.start n) (λ e. none n here (e ∙ sym (start_of_line labels all seed n here))))
-      ∙ no_start ns (λ m h. among m (ap (λ b. nat_eq n m || b) h ∙ or_true (nat_eq n m))) a none
+      ∙ no_start ns (λ m h. among m (ap (λ b. nat_eq n m || b) h ∙ or-true (nat_eq n m))) a none
 
 -- ---- the lines' code as pieces
 module _ (labels : List (Name × ℕ)) (seed : ℕ) (code : Part) (sc : slots.SlotCode) (laid : Laid labels seed code sc) where
@@ -130,7 +131,7 @@ module _ (labels : List (Name × ℕ)) (seed : ℕ) (code : Part) (sc : slots.Sl
   pub top_small : (lines : slots.SlotCode) → ((n : ℕ) → has_line (numbers lines) n ≡ true → n < 65536) → highest (numbers lines) < 65536
   top_small [] h = omega arith
   top_small (l ∷ []) h = h l.number (ap (λ b. b || false) (eq-eqb l.number l.number refl))
-  top_small (l ∷ k ∷ ls) h = top_small (k ∷ ls) (λ n e. h n (ap (λ b. nat_eq l.number n || b) e ∙ or_true (nat_eq l.number n)))
+  top_small (l ∷ k ∷ ls) h = top_small (k ∷ ls) (λ n e. h n (ap (λ b. nat_eq l.number n || b) e ∙ or-true (nat_eq l.number n)))
 
   -- ---- where no line begins
   pub none_between : (from to : ℕ) → ((n : ℕ) → has_line ns n ≡ true → (place_of labels (target.Line n) < from) ⊎ (to ≤ place_of labels (target.Line n))) → (a : ℕ) → from ≤ a → a < to → is_start laid_layout.start laid_layout.numbers a ≡ false
@@ -149,9 +150,6 @@ module _ (labels : List (Name × ℕ)) (seed : ℕ) (code : Part) (sc : slots.Sl
   pieces at es ps h e =
       let same : size es ≡ pieces_size ps = sym (all_size labels at es) ∙ ap length e ∙ pieces_length ps in
       (same, lies within within_small at ps (omega (arith, h.below, same)) (subst (Bytes within at) e h.bytes))
-
-  next_small : (n : ℕ) → next_at laid_layout n < 65536
-  next_small n = place_small (next_after ns n)
 
   -- fault 7 and the search
   pub past_lies : resolved.Lies within (place_of labels target.Past) (resolved.past_code laid_layout)

@@ -88,9 +88,6 @@ module _ (ly : Layout) (f : Setup) (lo hi keys : ℕ) (fits : Fits f 16) (code :
   abbrev v : ℕ
   v = fetched s r 0 a
 
-  abbrev src : List ℕ
-  src = lo ∷ hi ∷ []
-
   fit : OperandFits a × DestFits (IntoHome home)
   fit = home_fits a home h.ranged
 

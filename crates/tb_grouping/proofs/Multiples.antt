@@ -5,6 +5,7 @@ use Rattle.std.proofs.lemmas.Bool.{eqb-true, ltb-true, ltb-false}
 use Rattle.tb_cpu.specs.Effects.{bit, has_bit}
 use Rattle.tb_memmap.specs.Bytes.{with_byte}
 use Rattle.tb_words.specs.Words.{word}
+use Rattle.tb_words.proofs.Powers.{pow2}
 use Rattle.tb_syntax.specs.declared.expressions.Operator.TheVariants as op
 use Rattle.tb_lower.specs.Control.{State}
 use Rattle.tb_lower.specs.Slots.{Instr, Slots, SlotCode}
@@ -34,10 +35,6 @@ use Rattle.tb_grouping.proofs.ShiftSteps.{begins, doubles, ends_low, increases, 
 use Rattle.tb_grouping.proofs.SlotSide.{calculate_goes, calculate_lasting, calculated, fetched, landed, line, spread, with_fetched}
 use Rattle.tb_grouping.proofs.Sources.{value}
 use Rattle.tb_grouping.proofs.Sums.{Away, Grounded, high_read, low_read}
-
-abbrev pow2 : ℕ → ℕ
-pow2 zero = 1
-pow2 (suc k) = pow2 k + pow2 k
 
 module _ (f : Setup) (room : ℕ) (fits : Fits f room) (bs : List ℕ) (m : ℕ → ℕ) (keys gets : List ℕ) (small : leb (length bs) room ≡ true) where
   -- the low byte of a word in A and its high byte in LEFT; the rest of the memory is m

@@ -3,6 +3,7 @@ use Rattle.std.proofs.Common.{◌≡◌, ℕ, ◌+◌, ◌*◌, ◌/◌, ◌%◌
 use Rattle.std.specs.Prelude.{nat_eq}
 use Rattle.std.proofs.lemmas.Bool.{eq-eqb, leb-true}
 use Rattle.std.proofs.lemmas.Bool.Decides.{nat_tests}
+use Rattle.std.proofs.Math.Bool.{or-true}
 use Rattle.tb_asm.specs.declared.names.Name.{Name}
 use Rattle.tb_asm.specs.Layout.{bytes_from, size}
 use Rattle.tb_kernal.specs.Machine as machine
@@ -16,7 +17,7 @@ use Rattle.tb_runtime16.specs.Places.{PROLOGUE_AT}
 use Rattle.tb_templates.specs.Program.{rows_code}
 use Rattle.tb_runtime16.specs.Block.{block_bytes, block_part}
 use Rattle.tb_runtime16.specs.Search as table
-use Rattle.tb_runtime16.specs.Search.{Line, table_bytes, Rising, AllWords}
+use Rattle.tb_runtime16.specs.Search.{table_bytes, Rising, AllWords}
 use Rattle.tb_runtime16.specs.Ends.{Begun}
 use Rattle.tb_runtime16.specs.Routines.{Routines, Tabled, entries, limit_by}
 use Rattle.tb_runtime16.proofs.AllLaws.{all_laws}
@@ -24,7 +25,7 @@ use Rattle.tb_runtime16.proofs.PrologueRuns.{prologue_law}
 use Rattle.tb_keeping.specs.Kept.{Starts}
 use Rattle.tb_keeping.specs.Layout.{Layout, layout_of, start_at, inner}
 use Rattle.tb_grouping.specs.Laid.{IsBelowAll, AreRising, Laid}
-use Rattle.tb_keeping.proofs.Numbers.{or_true, start_of_line}
+use Rattle.tb_keeping.proofs.Numbers.{start_of_line}
 use Rattle.tb_keeping.proofs.Headline.{setup, room_so, begins_so, inner_within}
 use Rattle.tb_grouping.proofs.Laying.{block_short, block_lies, table_lies, start_small}
 use Rattle.tb_keeping.proofs.LineStarts.{has_content}
@@ -38,7 +39,7 @@ rows_bytes : (labels : List (Name × ℕ)) (all : List ℕ) (seed : ℕ) (ns : L
 rows_bytes labels all seed [] among a = refl
 rows_bytes labels all seed (n ∷ ns) among a =
     let e = start_of_line labels all seed n (among n (ap (λ b. b || has_line ns n) (eq-eqb n n refl))) in
-    let r = rows_bytes labels all seed ns (λ m h. among m (ap (λ b. nat_eq n m || b) h ∙ or_true (nat_eq n m))) (a + 2 + 2) in
+    let r = rows_bytes labels all seed ns (λ m h. among m (ap (λ b. nat_eq n m || b) h ∙ or-true (nat_eq n m))) (a + 2 + 2) in
     λ i. n % 256 ∷ n / 256 ∷ e i % 256 ∷ e i / 256 ∷ r i
 
 all_above : (start : ℕ → ℕ) (k : ℕ) (ns : List ℕ) → IsBelowAll k ns → table.AllAbove k (entries start ns)
@@ -54,7 +55,7 @@ all_words start [] small places = tt
 all_words start (n ∷ ns) small places = (
   small n (ap (λ b. b || has_line ns n) (eq-eqb n n refl)),
   places n,
-  all_words start ns (λ m h. small m (ap (λ b. nat_eq n m || b) h ∙ or_true (nat_eq n m))) places,
+  all_words start ns (λ m h. small m (ap (λ b. nat_eq n m || b) h ∙ or-true (nat_eq n m))) places,
 )
 
 first_byte : (code : Part) (at : ℕ) (start : ℕ → ℕ) (ns : List ℕ) → 1 ≤ length ns → Bytes code at (table_bytes (entries start ns)) → (b : ℕ) × (code at ≡ Some b)

@@ -118,9 +118,6 @@ module _ (f : Setup) (room : ℕ) (fits : Fits f room) (bs : List ℕ) (m : ℕ 
     abbrev n : ℕ
     n = more k c
 
-    l_small : value m (low a) < 256
-    l_small = let q = ha.low_byte in omega (arith, q)
-
     same_sign : c ≡ nat_le 32768 x
     same_sign = ap (nat_le 128) ha.high_byte ∙ sign_is x ha.small
 

@@ -15,9 +15,9 @@ use Rattle.tb_templates.specs.declared.labels.Target.TheVariants as target
 use Rattle.tb_templates.specs.Labels.{label_of}
 use Rattle.tb_templates.specs.Layout.{LabelsAt}
 use Rattle.tb_templates.specs.Templates as product
-use Rattle.tb_templates.specs.Templates.{var_at, slot_at, target_of, next_line}
+use Rattle.tb_templates.specs.Templates.{var_at, slot_at}
 use Rattle.tb_keeping.specs.Layout.{Layout, place_of, layout_of, next_at}
-use Rattle.tb_keeping.proofs.Numbers.{low_of, high_of, start_of_line, next_same, constant_bytes, copied_bytes, faulted_bytes, jump_bytes}
+use Rattle.tb_keeping.proofs.Numbers.{low_of, high_of, start_of_line, constant_bytes, copied_bytes, faulted_bytes, jump_bytes}
 use Rattle.std.proofs.lemmas.List.{append-nil}
 use Rattle.tb_reaching.proofs.Instr.{flat}
 use Rattle.tb_keeping.proofs.Resolved.{Piece, copied, template, jump_to}
@@ -35,12 +35,6 @@ of_label labels ns seed n a e = ap (λ o. unwrap_or o 0) e
 module _ (labels : List (Name × ℕ)) (ns : List ℕ) (seed : ℕ) (seed_small : seed < 65536) (n : ℕ) (n_small : n < 65536) (next_small : next_at (ly labels ns seed) n < 65536) where
   abbrev resolved : ℕ → slots.Instr → List Piece
   resolved at i = template (ly labels ns seed) n at i
-
-  abbrev next : ℕ
-  next = next_at (ly labels ns seed) n
-
-  same_next : place_of labels (next_line ns n) ≡ next
-  same_next = next_same labels ns seed n
 
   text_bytes : (i at : ℕ) (t : List ℕ) → length t < 256 → at < 0xa000 → LabelsAt labels at (product.template ns n i (slots.SendText t)) → bytes_from labels at (product.template ns n i (slots.SendText t)) ≡ pieces_bytes (resolved at (slots.SendText t))
   unfolding opcodes.encoded

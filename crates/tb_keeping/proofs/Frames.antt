@@ -1,8 +1,7 @@
 -- What stays of the meaning's state when bytes are written.
-use Rattle.std.proofs.Common.{◌≡◌, ◌≢◌, ℕ, suc, ◌+◌, ◌/◌, ◌%◌, ◌≤◌, ◌<◌, Bool, true, false, List, [], ◌∷◌, length, refl, sym, ap, ◌∙◌, subst, arith, eqb, if◌then◌else◌, ⊎_elim, get_or-set_same, get_or-set_other, length-set}
+use Rattle.std.proofs.Common.{◌≡◌, ◌≢◌, ℕ, suc, ◌+◌, ◌/◌, ◌%◌, ◌≤◌, ◌<◌, Bool, true, false, List, [], ◌∷◌, length, refl, sym, ap, ◌∙◌, subst, arith, eqb, if◌then◌else◌}
 use Rattle.std.proofs.lemmas.List.{length-map}
-use Rattle.std.proofs.lemmas.Bool.{cases_eq}
-use Rattle.std.specs.Prelude.{slice_index, slice_set}
+use Rattle.std.specs.Prelude.{slice_index}
 use Rattle.tb_cpu.specs.Effects.{bit}
 use Rattle.tb_keeping.proofs.Mirrors.{Holds, notes_of}
 use Rattle.tb_keeping.proofs.Pieces.{put_word}
@@ -10,7 +9,7 @@ use Rattle.tb_keeping.specs.Layout.{Layout, place_at}
 use Rattle.tb_runtime16.specs.Routines.{Noted, SeedAt, WordAt, first, is_owned, stored}
 use Rattle.tb_lower.specs.Control.{Place, State, column_after}
 use Rattle.tb_lower.specs.Meaning as meaning
-use Rattle.tb_lower.specs.Slots.{Slots, with_word}
+use Rattle.tb_lower.specs.Slots.{Slots}
 use Rattle.tb_memmap.specs.Bytes.{with_byte}
 use Rattle.tb_reaching.proofs.Memory.{put_other, put_same}
 use Rattle.tb_runtime16.specs.Places.{COLUMN, HELD, LINE, NOTES, OPEN, SEED, SEEDED}
@@ -92,63 +91,6 @@ module _ (ly : Layout) (s : State) (slots : Slots) (m m' : ℕ → ℕ) (h : Hol
     all_vars = lv;
     all_words = lw;
   }
-
--- a word at a place between the parts
-module _ (ly : Layout) (s : State) (slots : Slots) (m : ℕ → ℕ) (h : Holds ly s slots m) where
-  pub slot_written : (k lo hi w : ℕ) → k < 16 → lo ≡ w % 256 → hi ≡ w / 256 → w < 65536 → Holds ly s (with_word slots k w) (put_word m (slot_at k) lo hi)
-  slot_written k lo hi w lt el eh small =
-      let m' = put_word m (slot_at k) lo hi in
-      let away : (a : ℕ) → a ≢ slot_at k → a ≢ slot_at k + 1 → m' a ≡ m a = λ a n n'. put_away m (slot_at k) lo hi a n n' in
-      holds_with ly s slots m m' h s.vars s.column (with_word slots k w) h.all_vars (length-set slots.words k w ∙ h.all_words)
-      (vars_kept ly s slots m m' h (λ a lo hi. away a (λ e. omega (arith, e, hi)) (λ e. omega (arith, e, hi))))
-      (λ j small'. ⊎_elim
-      (λ e. subst (λ j. WordAt m' (slot_at j) (slice_index (slice_set slots.words k w) j)) (sym e) (subst (λ x. WordAt m' (slot_at k) x) (sym (get_or-set_same slots.words k w 0 (omega (arith, h.all_words)))) (word_put m (slot_at k) lo hi w el eh small)))
-      (λ n. subst (λ x. WordAt m' (slot_at j) x) (sym (get_or-set_other slots.words k j w 0 n)) (word_away m (slot_at k) lo hi (slot_at j) _ (λ e. n (omega (arith, e))) (λ e. omega (arith, e)) (λ e. omega (arith, e)) (h.words j small')))
-      (cases_eq j k))
-      (word_away m (slot_at k) lo hi HELD _ (λ e. omega (arith, e, lt)) (λ e. omega (arith, e, lt)) (λ e. omega (arith, e, lt)) h.held)
-      (away COLUMN (λ e. omega (arith, e)) (λ e. omega (arith, e)) ∙ h.column)
-      (λ a lo hi n n'. away a (λ e. omega (arith, e, hi)) (λ e. omega (arith, e, hi)))
-      (λ a lo hi. away a (λ e. omega (arith, e, lo, lt)) (λ e. omega (arith, e, lo, lt)))
-
-  pub var_written : (x lo hi w : ℕ) → x < 26 → lo ≡ w % 256 → hi ≡ w / 256 → w < 65536 → Holds ly (meaning.stored x w s) slots (put_word m (var_at x) lo hi)
-  var_written x lo hi w lt el eh small =
-      let m' = put_word m (var_at x) lo hi in
-      let away : (a : ℕ) → a ≢ var_at x → a ≢ var_at x + 1 → m' a ≡ m a = λ a n n'. put_away m (var_at x) lo hi a n n' in
-      holds_with ly s slots m m' h (slice_set s.vars x w) s.column slots (length-set s.vars x w ∙ h.all_vars) h.all_words
-      (λ j small'. ⊎_elim
-      (λ e. subst (λ j. WordAt m' (var_at j) (slice_index (slice_set s.vars x w) j)) (sym e) (subst (λ y. WordAt m' (var_at x) y) (sym (get_or-set_same s.vars x w 0 (omega (arith, h.all_vars)))) (word_put m (var_at x) lo hi w el eh small)))
-      (λ n. subst (λ y. WordAt m' (var_at j) y) (sym (get_or-set_other s.vars x j w 0 n)) (word_away m (var_at x) lo hi (var_at j) _ (λ e. n (omega (arith, e))) (λ e. omega (arith, e)) (λ e. omega (arith, e)) (h.vars j small')))
-      (cases_eq j x))
-      (words_kept ly s slots m m' h (λ a lo hi. away a (λ e. omega (arith, e, lo, lt)) (λ e. omega (arith, e, lo, lt))))
-      (word_away m (var_at x) lo hi HELD _ (λ e. omega (arith, e, lt)) (λ e. omega (arith, e, lt)) (λ e. omega (arith, e, lt)) h.held)
-      (away COLUMN (λ e. omega (arith, e, lt)) (λ e. omega (arith, e, lt)) ∙ h.column)
-      (λ a lo hi n n'. away a (λ e. omega (arith, e, lo, lt)) (λ e. omega (arith, e, lo, lt)))
-      (λ a lo hi. away a (λ e. omega (arith, e, lo, lt)) (λ e. omega (arith, e, lo, lt)))
-
-  pub held_written : (lo hi w : ℕ) → lo ≡ w % 256 → hi ≡ w / 256 → w < 65536 → Holds ly s (record slots { held = w }) (put_word m HELD lo hi)
-  held_written lo hi w el eh small =
-      let m' = put_word m HELD lo hi in
-      let away : (a : ℕ) → a ≢ HELD → a ≢ HELD + 1 → m' a ≡ m a = λ a n n'. put_away m HELD lo hi a n n' in
-      holds_with ly s slots m m' h s.vars s.column (record slots { held = w }) h.all_vars h.all_words
-      (vars_kept ly s slots m m' h (λ a lo hi. away a (λ e. omega (arith, e, hi)) (λ e. omega (arith, e, hi))))
-      (words_kept ly s slots m m' h (λ a lo hi. away a (λ e. omega (arith, e, hi)) (λ e. omega (arith, e, hi))))
-      (word_put m HELD lo hi w el eh small)
-      (away COLUMN (λ e. omega (arith, e)) (λ e. omega (arith, e)) ∙ h.column)
-      (λ a lo hi n n'. away a (λ e. omega (arith, e, hi)) (λ e. omega (arith, e, hi)))
-      (λ a lo hi. away a (λ e. omega (arith, e, lo)) (λ e. omega (arith, e, lo)))
-
-  -- the line's number is written
-  pub line_written : (lo hi : ℕ) → Holds ly s slots (put_word m LINE lo hi)
-  line_written lo hi =
-      let m' = put_word m LINE lo hi in
-      let away : (a : ℕ) → a ≢ LINE → a ≢ LINE + 1 → m' a ≡ m a = λ a n n'. put_away m LINE lo hi a n n' in
-      holds_with ly s slots m m' h s.vars s.column slots h.all_vars h.all_words
-      (vars_kept ly s slots m m' h (λ a lo hi. away a (λ e. omega (arith, e, hi)) (λ e. omega (arith, e, hi))))
-      (words_kept ly s slots m m' h (λ a lo hi. away a (λ e. omega (arith, e, lo)) (λ e. omega (arith, e, lo))))
-      (word_away m LINE lo hi HELD _ (λ e. omega (arith, e)) (λ e. omega (arith, e)) (λ e. omega (arith, e)) h.held)
-      (away COLUMN (λ e. omega (arith, e)) (λ e. omega (arith, e)) ∙ h.column)
-      (λ a lo hi n n'. away a n n')
-      (λ a lo hi. away a (λ e. omega (arith, e, lo)) (λ e. omega (arith, e, lo)))
 
 -- bytes are sent: the column follows
 pub column_mod : (c : ℕ) (t : List ℕ) → column_after (c % 256) t % 256 ≡ column_after c t % 256

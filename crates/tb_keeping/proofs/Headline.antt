@@ -6,7 +6,7 @@ use Rattle.tb_kernal.specs.declared.events.Event.{Event}
 use Rattle.tb_kernal.specs.declared.status.Status.TheVariants.{Running, Waits as WaitsForKey, Returned, Wrong as WentWrong}
 use Rattle.tb_kernal.specs.Machine as machine
 use Rattle.tb_kernal.specs.Machine.{status}
-use Rattle.tb_kernal.specs.Runs.{run, all_lawful, goes}
+use Rattle.tb_kernal.specs.Runs.{run, all_lawful, goes, is_own}
 use Rattle.tb_reaching.specs.Reaching.{Arrived, OnTheWay}
 use Rattle.tb_reaching.specs.View.{View, Setup, Part, Holds as PartHolds, At, Among, UnderWay, Comes, Fits, part_at}
 use Rattle.tb_reaching.specs.Start.{setup_of, view_of}
@@ -23,7 +23,7 @@ use Rattle.tb_keeping.specs.Kept.{Starts, HasEnded, IsSound, HasDone, Keeps}
 use Rattle.tb_keeping.specs.Layout.{Layout, is_start, inner}
 use Rattle.tb_keeping.proofs.Inductions as keeps
 use Rattle.tb_keeping.proofs.Strides.{IsStride}
-use Rattle.tb_keeping.proofs.Joins.{move, IsLawful, is_go, sent, same_goes, same_after, all_are_lawful, sends, IsEnd, end_stays, R, Law, Runs, under_way_runs, reaches, fine, ended}
+use Rattle.tb_keeping.proofs.Joins.{move, IsLawful, sent, same_goes, same_after, all_are_lawful, sends, IsEnd, end_stays, R, Law, Runs, under_way_runs, reaches, fine, ended}
 
 -- ---- the start
 -- a byte that is no line's first one is one of the program's
@@ -137,13 +137,13 @@ module _ (place : ℕ) (bytes : List ℕ) (from : 0x0800 ≤ place) (to : place 
         lawful_rest : all_lawful a.after (run a.before s) ≡ true
         lawful_rest = lawful_after a.before a.after s (subst (λ x. all_lawful x s ≡ true) a.split l)
 
-        same_end : keeps.after machine.State Event move IsLawful is_go sent a.after (run a.before s) ≡ run es s
+        same_end : keeps.after machine.State Event move IsLawful is_own sent a.after (run a.before s) ≡ run es s
         same_end = same_after a.after (run a.before s) ∙ sym (run_append a.before a.after s) ∙ ap (λ l. run l s) (sym a.split)
 
-        kept : (m : ℕ) × keeps.IsKept machine.State Event move IsLawful is_go sent sends Ends (end_stays f (above_so s h)) program sc follows step stride Related (UnderWay f) (limit k) (positive k) (reaches f (above_so s h) (M s) step (limit k) (laws s h)) (source_run program seed s.text s.answers m) (run es s)
+        kept : (m : ℕ) × keeps.IsKept machine.State Event move IsLawful is_own sent sends Ends (end_stays f (above_so s h)) program sc follows step stride Related (UnderWay f) (limit k) (positive k) (reaches f (above_so s h) (M s) step (limit k) (laws s h)) (source_run program seed s.text s.answers m) (run es s)
         kept =
-            let r = keeps.kept machine.State Event move IsLawful is_go sent sends Ends (end_stays f (above_so s h)) program sc follows step stride Related (UnderWay f) (limit k) (positive k) (reaches f (above_so s h) (M s) step (limit k) (laws s h)) seed s.text s.answers a.there.2.0 a.there.2.1 (run a.before s) silent (a.there.0, a.there.1, a.there.2.2) a.after (all_are_lawful a.after (run a.before s) lawful_rest) in
-            (r.0, subst (keeps.IsKept machine.State Event move IsLawful is_go sent sends Ends (end_stays f (above_so s h)) program sc follows step stride Related (UnderWay f) (limit k) (positive k) (reaches f (above_so s h) (M s) step (limit k) (laws s h)) (source_run program seed s.text s.answers r.0)) same_end r.1)
+            let r = keeps.kept machine.State Event move IsLawful is_own sent sends Ends (end_stays f (above_so s h)) program sc follows step stride Related (UnderWay f) (limit k) (positive k) (reaches f (above_so s h) (M s) step (limit k) (laws s h)) seed s.text s.answers a.there.2.0 a.there.2.1 (run a.before s) silent (a.there.0, a.there.1, a.there.2.2) a.after (all_are_lawful a.after (run a.before s) lawful_rest) in
+            (r.0, subst (keeps.IsKept machine.State Event move IsLawful is_own sent sends Ends (end_stays f (above_so s h)) program sc follows step stride Related (UnderWay f) (limit k) (positive k) (reaches f (above_so s h) (M s) step (limit k) (laws s h)) (source_run program seed s.text s.answers r.0)) same_end r.1)
 
         late : IsSound program seed s (run es s)
         late = ⊎_elim
@@ -153,10 +153,10 @@ module _ (place : ℕ) (bytes : List ℕ) (from : 0x0800 ≤ place) (to : place 
 
         passed : (m : ℕ) → n + m * (longest sc + 1) * limit k ≤ goes es → HasDone (source_run program seed s.text s.answers m) (run es s)
         passed m le =
-            let more : m * (longest sc + 1) * limit k ≤ keeps.goes machine.State Event move IsLawful is_go sent a.after = subst (λ g. m * (longest sc + 1) * limit k ≤ g) (sym (same_goes a.after)) (omega (arith, le, a.few, ap goes a.split, goes_append a.before a.after)) in
-            to_done (source_run program seed s.text s.answers m) (keeps.paced machine.State Event move IsLawful is_go sent sends Ends (end_stays f (above_so s h)) program sc follows step stride Related (UnderWay f) (limit k) (positive k) (reaches f (above_so s h) (M s) step (limit k) (laws s h)) seed s.text s.answers a.there.2.0 a.there.2.1 (run a.before s) silent (a.there.0, a.there.1, a.there.2.2) a.after (all_are_lawful a.after (run a.before s) lawful_rest) m more)
+            let more : m * (longest sc + 1) * limit k ≤ keeps.goes machine.State Event move IsLawful is_own sent a.after = subst (λ g. m * (longest sc + 1) * limit k ≤ g) (sym (same_goes a.after)) (omega (arith, le, a.few, ap goes a.split, goes_append a.before a.after)) in
+            to_done (source_run program seed s.text s.answers m) (keeps.paced machine.State Event move IsLawful is_own sent sends Ends (end_stays f (above_so s h)) program sc follows step stride Related (UnderWay f) (limit k) (positive k) (reaches f (above_so s h) (M s) step (limit k) (laws s h)) seed s.text s.answers a.there.2.0 a.there.2.1 (run a.before s) silent (a.there.0, a.there.1, a.there.2.2) a.after (all_are_lawful a.after (run a.before s) lawful_rest) m more)
           where
-            to_done : (r : Run State) → keeps.HasPassed machine.State Event move IsLawful is_go sent sends Ends (end_stays f (above_so s h)) program sc follows step stride Related (UnderWay f) (limit k) (positive k) (reaches f (above_so s h) (M s) step (limit k) (laws s h)) seed s.text s.answers a.there.2.0 a.there.2.1 (run a.before s) silent (a.there.0, a.there.1, a.there.2.2) a.after (all_are_lawful a.after (run a.before s) lawful_rest) r (keeps.after machine.State Event move IsLawful is_go sent a.after (run a.before s)) → HasDone r (run es s)
+            to_done : (r : Run State) → keeps.HasPassed machine.State Event move IsLawful is_own sent sends Ends (end_stays f (above_so s h)) program sc follows step stride Related (UnderWay f) (limit k) (positive k) (reaches f (above_so s h) (M s) step (limit k) (laws s h)) seed s.text s.answers a.there.2.0 a.there.2.1 (run a.before s) silent (a.there.0, a.there.1, a.there.2.2) a.after (all_are_lawful a.after (run a.before s) lawful_rest) r (keeps.after machine.State Event move IsLawful is_own sent a.after (run a.before s)) → HasDone r (run es s)
             to_done (GoesOn c out) p = subst (λ t. IsPrefix out t.sent) same_end p
             to_done (Over why out) p =
                 let q = subst (λ t. (sent t ≡ out) × Ends why t) same_end p in

@@ -1,12 +1,12 @@
 -- From laws of views to the run of a program.
-use Rattle.std.proofs.Common.{◌≡◌, ◌⊎◌, ℕ, ◌+◌, ◌≤◌, ◌<◌, Bool, true, false, List, [], ◌∷◌, ◌++◌, length, refl, sym, ap, ◌∙◌, subst, inl, inr, ⊎_elim, append_assoc, arith}
+use Rattle.std.proofs.Common.{◌≡◌, ◌⊎◌, ℕ, ◌+◌, ◌≤◌, ◌<◌, true, List, [], ◌∷◌, ◌++◌, length, refl, sym, ap, ◌∙◌, subst, inl, inr, ⊎_elim, append_assoc, arith}
 use Rattle.std.proofs.lemmas.Bool.{and_parts}
 use Rattle.tb_kernal.specs.declared.events.Event.{Event}
 use Rattle.tb_kernal.specs.declared.events.Event.TheVariants.{Go, Interrupt}
 use Rattle.tb_kernal.specs.declared.status.Status.TheVariants.{Running}
 use Rattle.tb_kernal.specs.Machine as machine
 use Rattle.tb_kernal.specs.Machine.{status, happens, is_lawful}
-use Rattle.tb_kernal.specs.Runs.{run, all_lawful, goes}
+use Rattle.tb_kernal.specs.Runs.{run, all_lawful, goes, is_own}
 use Rattle.tb_reaching.specs.Reaching.{Arrived, OnTheWay}
 use Rattle.tb_reaching.specs.View.{View, Setup, At, Among, UnderWay, Comes}
 use Rattle.tb_reaching.specs.Start.{IsHome, IsWaiting}
@@ -34,27 +34,23 @@ move e s = happens s e
 abbrev pub IsLawful : Event → machine.State → Type 0
 IsLawful e s = is_lawful s e ≡ true
 
-abbrev pub is_go : Event → Bool
-is_go (Go k) = true
-is_go (Interrupt ws) = false
-
 abbrev pub sent : machine.State → List ℕ
 sent s = s.sent
 
-pub same_goes : (es : List Event) → keeps.goes machine.State Event move IsLawful is_go sent es ≡ goes es
+pub same_goes : (es : List Event) → keeps.goes machine.State Event move IsLawful is_own sent es ≡ goes es
 same_goes [] = refl
 same_goes (Go k ∷ es) = omega (arith, same_goes es)
 same_goes (Interrupt ws ∷ es) = omega (arith, same_goes es)
 
-pub same_after : (es : List Event) (s : machine.State) → keeps.after machine.State Event move IsLawful is_go sent es s ≡ run es s
+pub same_after : (es : List Event) (s : machine.State) → keeps.after machine.State Event move IsLawful is_own sent es s ≡ run es s
 same_after [] s = refl
 same_after (e ∷ es) s = same_after es (happens s e)
 
-pub lawful_all : (es : List Event) (s : machine.State) → keeps.AllLawful machine.State Event move IsLawful is_go sent es s → all_lawful es s ≡ true
+pub lawful_all : (es : List Event) (s : machine.State) → keeps.AllLawful machine.State Event move IsLawful is_own sent es s → all_lawful es s ≡ true
 lawful_all [] s h = refl
 lawful_all (e ∷ es) s h = rw h.0 (lawful_all es (happens s e) h.1)
 
-pub all_are_lawful : (es : List Event) (s : machine.State) → all_lawful es s ≡ true → keeps.AllLawful machine.State Event move IsLawful is_go sent es s
+pub all_are_lawful : (es : List Event) (s : machine.State) → all_lawful es s ≡ true → keeps.AllLawful machine.State Event move IsLawful is_own sent es s
 all_are_lawful [] s h = tt
 all_are_lawful (e ∷ es) s h = let p = and_parts _ _ h in (p.0, all_are_lawful es (happens s e) p.1)
 
@@ -128,10 +124,10 @@ module _ (f : Setup) (above : f.home_s + length f.rest ≡ 255) where
     Law = (c : SlotState) (w : View) → M c w → LawAt c.rest f w (Leads f M (step c)) (sent_in (step c)) limit
 
     abbrev pub Goal : Step SlotState → machine.State → Type 0
-    Goal = keeps.Goal machine.State Event move IsLawful is_go sent sends IsEnd end_stays SlotState step R (UnderWay f) limit
+    Goal = keeps.Goal machine.State Event move IsLawful is_own sent sends IsEnd end_stays SlotState step R (UnderWay f) limit
 
     abbrev pub sent_of : Step SlotState → List ℕ
-    sent_of = keeps.sent_of machine.State Event move IsLawful is_go sent sends IsEnd end_stays SlotState step R (UnderWay f) limit
+    sent_of = keeps.sent_of machine.State Event move IsLawful is_own sent sends IsEnd end_stays SlotState step R (UnderWay f) limit
 
     goal : (st : Step SlotState) (s : machine.State) → Among f (Leads f M st) s → Goal st s
     goal (Goes c t) s h = h
@@ -143,22 +139,22 @@ module _ (f : Setup) (above : f.home_s + length f.rest ≡ 255) where
     same_sent (Goes c t) = refl
     same_sent (Stops why t) = refl
 
-    pub reaches : Law → (c : SlotState) → keeps.Reaches machine.State Event move IsLawful is_go sent (R c) (Goal (step c)) (UnderWay f) (sent_of (step c)) limit
+    pub reaches : Law → (c : SlotState) → keeps.Reaches machine.State Event move IsLawful is_own sent (R c) (Goal (step c)) (UnderWay f) (sent_of (step c)) limit
     reaches law c s h es l = ⊎_elim yet (⊎_elim arrived on) (law_leads f h.0 (Leads f M (step c)) (sent_in (step c)) limit c.rest (law c h.0 h.2) s h.1 es (lawful_all es s l))
       where
-        yet : goes es ≡ 0 → keeps.Way machine.State Event move IsLawful is_go sent (R c) (Goal (step c)) (UnderWay f) (sent_of (step c)) limit s es
+        yet : goes es ≡ 0 → keeps.Way machine.State Event move IsLawful is_own sent (R c) (Goal (step c)) (UnderWay f) (sent_of (step c)) limit s es
         yet z =
             let k = quiet f h.0 es s h.1 (lawful_all es s l) z in
             still (same_goes es ∙ z) (subst (R c) (sym (same_after es s)) (h.0, k.0, h.2)) (ap (λ x. x.sent) (same_after es s) ∙ k.1)
 
-        arrived : Arrived (Among f (Leads f M (step c))) (sent_in (step c)) limit s es → keeps.Way machine.State Event move IsLawful is_go sent (R c) (Goal (step c)) (UnderWay f) (sent_of (step c)) limit s es
+        arrived : Arrived (Among f (Leads f M (step c))) (sent_in (step c)) limit s es → keeps.Way machine.State Event move IsLawful is_own sent (R c) (Goal (step c)) (UnderWay f) (sent_of (step c)) limit s es
         arrived a = there a.before a.after (sym a.split)
             (subst (λ n. 1 ≤ n) (sym (same_goes a.before)) a.some)
             (subst (λ n. n ≤ limit) (sym (same_goes a.before)) a.few)
             (subst (Goal (step c)) (sym (same_after a.before s)) (goal (step c) (run a.before s) a.there))
             (ap (λ x. x.sent) (same_after a.before s) ∙ a.sent ∙ ap (λ t. s.sent ++ t) (same_sent (step c)))
 
-        on : OnTheWay (UnderWay f) (sent_in (step c)) limit s es → keeps.Way machine.State Event move IsLawful is_go sent (R c) (Goal (step c)) (UnderWay f) (sent_of (step c)) limit s es
+        on : OnTheWay (UnderWay f) (sent_in (step c)) limit s es → keeps.Way machine.State Event move IsLawful is_own sent (R c) (Goal (step c)) (UnderWay f) (sent_of (step c)) limit s es
         on a = on_way
             (subst (λ n. n < limit) (sym (same_goes es)) a.few)
             (subst (UnderWay f) (sym (same_after es s)) a.kept)

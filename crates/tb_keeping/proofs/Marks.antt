@@ -5,7 +5,7 @@ use Rattle.tb_kernal.specs.declared.events.Event.{Event}
 use Rattle.tb_kernal.specs.declared.events.Event.TheVariants.{Go, Interrupt}
 use Rattle.tb_kernal.specs.Machine as machine
 use Rattle.tb_kernal.specs.Machine.{happens}
-use Rattle.tb_kernal.specs.Runs.{run, all_lawful, goes}
+use Rattle.tb_kernal.specs.Runs.{run, all_lawful, goes, is_own}
 use Rattle.tb_reaching.specs.View.{View}
 use Rattle.tb_syntax.specs.Source.{Program, numbers}
 use Rattle.tb_lower.specs.Steps.{Step, GoesOn}
@@ -19,7 +19,7 @@ use Rattle.tb_keeping.specs.LineStarts.{begun, BeginsLine, LineComes, MarksLines
 use Rattle.tb_runtime16.proofs.InMemory.{value}
 use Rattle.tb_keeping.proofs.Starts as lines
 use Rattle.tb_keeping.proofs.Starts.{count}
-use Rattle.tb_keeping.proofs.Joins.{move, IsLawful, is_go, sent, same_goes, same_after, all_are_lawful}
+use Rattle.tb_keeping.proofs.Joins.{move, IsLawful, sent, same_goes, same_after, all_are_lawful}
 use Rattle.tb_keeping.proofs.Placed.{HasLine, at_lines}
 use Rattle.tb_keeping.proofs.Strides.{IsStride}
 use Rattle.tb_keeping.proofs.Headline.{OpeningLaw, StepLaws}
@@ -27,10 +27,10 @@ use Rattle.tb_keeping.proofs.LineStarts as one
 use Rattle.tb_keeping.proofs.LineStarts.{AreApart, Known, starts, found_start, has_content}
 
 -- the two ways of counting
-same_begun : (ly : Layout) (es : List Event) (s : machine.State) → lines.met machine.State Event move IsLawful is_go sent (starts ly) es s ≡ begun ly.start ly.numbers es s
+same_begun : (ly : Layout) (es : List Event) (s : machine.State) → lines.met machine.State Event move IsLawful is_own sent (starts ly) es s ≡ begun ly.start ly.numbers es s
 same_begun ly [] s = refl
 same_begun ly (Go k ∷ es) s = ap (λ n. (if is_start ly.start ly.numbers s.regs.pc then 1 else 0) + n) (same_begun ly es (happens s (Go k)))
-same_begun ly (Interrupt ws ∷ es) s = zero-add (lines.met machine.State Event move IsLawful is_go sent (starts ly) es (happens s (Interrupt ws))) ∙ same_begun ly es (happens s (Interrupt ws))
+same_begun ly (Interrupt ws ∷ es) s = zero-add (lines.met machine.State Event move IsLawful is_own sent (starts ly) es (happens s (Interrupt ws))) ∙ same_begun ly es (happens s (Interrupt ws))
 
 one_at : (b : Bool) → b ≡ true → count 1 b ≡ 1
 one_at b e = ap (count 1) e
@@ -54,12 +54,12 @@ module _ (place : ℕ) (bytes : List ℕ) (from : 0x0800 ≤ place) (to : place 
       let list = lined number has in
       let same_numbers : ly.numbers ≡ numbers program = sym apart.numbered ∙ follows.same_numbers in
       let here : is_start ly.start ly.numbers (run es s).regs.pc ≡ true = ap (is_start ly.start ly.numbers) pc ∙ ap (λ ns. is_start ly.start ns (ly.start number)) (sym apart.numbered) ∙ found_start ly.start sc number list.0 list.1 in
-      let y = lines.run machine.State Event move IsLawful is_go sent (starts ly) es s in
+      let y = lines.run machine.State Event move IsLawful is_own sent (starts ly) es s in
       let same : y ≡ run es s = same_after es s in
       let now : starts ly y ≡ 1 = ap (starts ly) same ∙ one_at (is_start ly.start ly.numbers (run es s).regs.pc) here in
       let b = one.at_line place bytes from to ly program sc follows apart step stride M known limit positive n prologue laws s h es (all_are_lawful es s l) now in
-      let counted : lines.met machine.State Event move IsLawful is_go sent (starts ly) es s ≡ begun ly.start (numbers program) es s = same_begun ly es s ∙ ap (λ ns. begun ly.start ns es s) same_numbers in
-      let met = lines.met machine.State Event move IsLawful is_go sent (starts ly) es s in
+      let counted : lines.met machine.State Event move IsLawful is_own sent (starts ly) es s ≡ begun ly.start (numbers program) es s = same_begun ly es s ∙ ap (λ ns. begun ly.start ns es s) same_numbers in
+      let met = lines.met machine.State Event move IsLawful is_own sent (starts ly) es s in
       let there : has_line (numbers program) b.number ≡ true = subst (HasLine (numbers program)) b.at_place (at_lines program ly.seed s.text s.answers met b.state y.sent b.done).here in
       let which : b.number ≡ number = apart.distinct b.number number (ap (λ ns. has_line ns b.number) same_numbers ∙ there) (ap (λ ns. has_line ns number) same_numbers ∙ has) (sym b.pc ∙ ap (λ t. t.regs.pc) same ∙ pc) in
       subst (λ m. BeginsLine program ly.seed s m number (run es s)) counted
@@ -82,7 +82,7 @@ module _ (place : ℕ) (bytes : List ℕ) (from : 0x0800 ≤ place) (to : place 
       (ap (λ ns. is_start ly.start ns (run c.front s).regs.pc) same_numbers ∙ at_one (is_start ly.start ly.numbers (run c.front s).regs.pc) (ap (starts ly) (sym (same_after c.front s)) ∙ c.starts_here))
       (ap (λ ns. begun ly.start ns c.front s) same_numbers ∙ sym (same_begun ly c.front s) ∙ c.begun)
     where
-      by : (e : Event) → is_go e ≡ true → (front back : List Event) → front ++ (e ∷ back) ≡ es → goes front < bound (length s.text) m → is_start ly.start (numbers program) (run front s).regs.pc ≡ true → begun ly.start (numbers program) front s ≡ m → LineComes program ly.start s m (bound (length s.text) m) es
+      by : (e : Event) → is_own e ≡ true → (front back : List Event) → front ++ (e ∷ back) ≡ es → goes front < bound (length s.text) m → is_start ly.start (numbers program) (run front s).regs.pc ≡ true → begun ly.start (numbers program) front s ≡ m → LineComes program ly.start s m (bound (length s.text) m) es
       by (Go k) own front back split few at met = record { front = front; clobber = k; back = back; split = split; few = few; here = at; begun_before = met }
       by (Interrupt ws) own front back split few at met = cc
 

@@ -9,6 +9,7 @@ use Rattle.tb_opcodes.specs.declared.Mode.TheVariants.{Absolute, ZeroPage}
 use Rattle.tb_asm.specs.declared.items.Operand.TheVariants.{Byte, Word, Label, LowOf, HighOf}
 use Rattle.tb_asm.specs.Layout.{Entry, instr, number_in, address_in, bytes_of, bytes_from, size, size_of}
 use Rattle.std.specs.Option.{option_map}
+use Rattle.std.proofs.Math.Bool.{or-true}
 use Rattle.tb_asm.proofs.Laws.{bytes_append}
 use Rattle.tb_reaching.proofs.Instr.{flat, ins, instr_bytes}
 use Rattle.tb_lower.specs.Control.{Place, At, Past, next_after, has_line}
@@ -17,15 +18,18 @@ use Rattle.tb_templates.specs.declared.labels.Target.{Target}
 use Rattle.tb_templates.specs.declared.labels.Target.TheVariants as target
 use Rattle.tb_templates.specs.Labels.{label_of}
 use Rattle.tb_templates.specs.Templates as product
-use Rattle.tb_templates.specs.Templates.{var_at, slot_at, target_of, next_line}
+use Rattle.tb_templates.specs.Templates.{target_of, next_line}
 use Rattle.tb_keeping.specs.Layout.{Layout, place_of, layout_of, place_at, next_at}
 use Rattle.tb_keeping.proofs.Resolved.{lda_at, sta_at, copied, constant, pointed, faulting, jump}
 
-pub or_true : (b : Bool) → (b || true) ≡ true
-or_true true = refl
-or_true false = refl
-
 -- ---- labels
+-- the bytes of a word are bytes
+pub low_byte : (w : ℕ) → w % 256 % 256 ≡ w % 256
+low_byte w = omega arith
+
+pub high_byte : (w : ℕ) → w < 65536 → w / 256 % 256 ≡ w / 256
+high_byte w h = omega (arith, h)
+
 pub next_has : (ns : List ℕ) (n m : ℕ) → next_after ns n ≡ At m → has_line ns m ≡ true
 next_has [] n m e = cc
 next_has (k ∷ ns) n m e = go (nat_lt n k) (next_has ns n m) e
@@ -35,7 +39,7 @@ next_has (k ∷ ns) n m e = go (nat_lt n k) (next_has ns n m) e
 
     go : (t : Bool) → (next_after ns n ≡ At m → has_line ns m ≡ true) → (if t then At k else next_after ns n) ≡ At m → (nat_eq k m || has_line ns m) ≡ true
     go true later e = ap (λ b. b || has_line ns m) (eq-eqb k m (at_eq k m e))
-    go false later e = ap (λ b. nat_eq k m || b) (later e) ∙ or_true (nat_eq k m)
+    go false later e = ap (λ b. nat_eq k m || b) (later e) ∙ or-true (nat_eq k m)
 
 module _ (labels : List (Name × ℕ)) (ns : List ℕ) (seed : ℕ) where
   abbrev pub ly : Layout
@@ -66,12 +70,6 @@ module _ (labels : List (Name × ℕ)) (ns : List ℕ) (seed : ℕ) where
       go Past e = refl
 
   -- ---- bytes
-  low_byte : (w : ℕ) → w % 256 % 256 ≡ w % 256
-  low_byte w = omega arith
-
-  high_byte : (w : ℕ) → w < 65536 → w / 256 % 256 ≡ w / 256
-  high_byte w h = omega (arith, h)
-
   pub joined : (at n : ℕ) (xs ys : List Entry) (b c : List ℕ) → size xs ≡ n → bytes_from labels at xs ≡ b → bytes_from labels (at + n) ys ≡ c → bytes_from labels at (xs ++ ys) ≡ b ++ c
   joined at n xs ys b c e l r = bytes_append labels at xs ys ∙ ap (λ k. bytes_from labels at xs ++ bytes_from labels (at + k) ys) e ∙ (λ i. l i ++ r i)
 

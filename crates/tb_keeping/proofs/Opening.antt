@@ -1,7 +1,8 @@
 -- What the prologue leaves stands for the start of a program's run.
 use Rattle.std.proofs.Common.{◌≡◌, ℕ, zero, suc, ◌+◌, ◌*◌, ◌≤◌, ◌<◌, true, List, [], ◌∷◌, length, refl, sym, ap, ◌∙◌, subst, arith}
-use Rattle.std.specs.Prelude.{slice_index, replicate}
+use Rattle.std.specs.Prelude.{slice_index}
 use Rattle.std.proofs.lemmas.Bool.Decides.{nat_tests}
+use Rattle.tb_memmap.proofs.View.{zeros}
 use Rattle.tb_kernal.specs.Machine as machine
 use Rattle.tb_reaching.specs.View.{View, Setup}
 use Rattle.tb_reaching.specs.Start.{home_low, home_high}
@@ -34,11 +35,6 @@ word_from : (m : ℕ → ℕ) (at n k : ℕ) → ((a : ℕ) → m a < 256) → k
 word_from m at zero k b lt = absurd (let no : ⊥ = omega (arith, lt) in no)
 word_from m at (suc n) zero b lt = subst (λ a. WordAt m a (m at + 256 * m (at + 1))) (let e : at ≡ at + 2 * 0 = omega arith in e) (word_of_bytes m at (b at) (b (at + 1)))
 word_from m at (suc n) (suc k) b lt = subst (λ a. WordAt m a (slice_index (words_from m (at + 2) n) k)) (let e : at + 2 + 2 * k ≡ at + 2 * suc k = omega arith in e) (word_from m (at + 2) n k b (omega (arith, lt)))
-
-zeros : (n x : ℕ) → slice_index (replicate n 0) x ≡ 0
-zeros zero x = refl
-zeros (suc n) zero = refl
-zeros (suc n) (suc x) = zeros n x
 
 cleared_low : (a : ℕ) → VARS ≤ a → a ≤ SEEDED → is_cleared a ≡ true
 cleared_low a lo hi = grind (arith, nat_tests)

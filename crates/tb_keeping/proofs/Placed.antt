@@ -34,9 +34,6 @@ module _ (ns : List ℕ) where
   record Led (x : Step State) : Type 0 where
     led : Leads x
 
-  goes : (s : State) (t : List ℕ) → IsPlaced s → Led (Goes s t)
-  goes s t h = record { led = h }
-
   then_led : (x : Step State) (g : State → Step State) → Led x → ((s : State) → IsPlaced s → Led (g s)) → Led (and_then x g)
   then_led (Goes s t) g h k = after t (g s) (k s h.led)
     where

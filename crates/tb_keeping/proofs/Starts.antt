@@ -1,5 +1,5 @@
 -- Runs in which each start of a line is counted: theory over any machine.
-use Rattle.std.proofs.Common.{◌≡◌, ℕ, zero, suc, ◌+◌, ◌-◌, ◌*◌, ◌≤◌, ◌<◌, Bool, true, false, if◌then◌else◌, List, [], ◌∷◌, ◌++◌, refl, sym, ap, ◌∙◌, subst, arith, length, Option, Some, None, append_assoc, zero-add, suc-add, ⊎_elim, ap₂, mul-le-mul_right, le_trans}
+use Rattle.std.proofs.Common.{◌≡◌, ℕ, zero, suc, ◌+◌, ◌-◌, ◌*◌, ◌≤◌, ◌<◌, Bool, true, false, if◌then◌else◌, List, [], ◌∷◌, ◌++◌, refl, sym, ap, ◌∙◌, subst, arith, length, Option, Some, None, append_assoc, ⊎_elim, ap₂, mul-le-mul_right, le_trans}
 use Rattle.std.proofs.lemmas.Bool.{cases_lt}
 use Rattle.tb_lower.specs.Steps.{End, Step, Goes, Stops, Run, GoesOn, Over, joined, advance, advance_by}
 use Rattle.tb_syntax.specs.Source.{Program, numbers}
@@ -8,6 +8,7 @@ use Rattle.tb_lower.specs.Meaning.{start, source_run}
 use Rattle.tb_lower.specs.Slots.{Instr, SlotCode, Rest, Whole, Left, Slots, SlotState, slot_step, slot_run, slot_start, instr_at, begins, begins_in, beginnings}
 use Rattle.tb_lower.specs.Follows.{longest, IsPrefix, Meets, Follows}
 use Rattle.tb_lower.proofs.Runs.{over_stays, advance_sum}
+use Rattle.tb_lower.proofs.Lists.{beginnings_sum}
 use Rattle.tb_keeping.proofs.Inductions.{AllLawful, after, goes, after_append, goes_append, lawful_back, Way, still, on_way, there, Reaches}
 use Rattle.tb_keeping.proofs.Inductions as keeps
 use Rattle.tb_keeping.proofs.Strides.{IsStride, IsOutside, found_line, lines_at, passed}
@@ -124,9 +125,6 @@ module _ (X E : Type 0) (move : E → X → X) (IsLawful : E → X → Type 0) (
             (λ front back same le b q. behind (e ∷ front) back (ap (λ l. e ∷ l) same) (omega (arith, g)) (omega (arith, g, le)) b.0 b.1 (omega (arith, s, q, entry x a)))
 
 -- ── the slot code's runs ──
-beginnings_sum : (code : SlotCode) (a b : ℕ) (r : Run SlotState) → beginnings code (a + b) r ≡ beginnings code a r + beginnings code b (advance_by (slot_step code) a r)
-beginnings_sum code zero b r = ap (λ n. beginnings code n r) (zero-add b) ∙ sym (zero-add (beginnings code b r))
-beginnings_sum code (suc a) b r = ap (λ n. beginnings code n r) (suc-add a b) ∙ (let s = beginnings_sum code a b (advance (slot_step code) r) in omega (arith, s))
 
 -- where a state stands at a line
 is_line : (code : SlotCode) (q : Rest) (p : Place) → lines_at code q p ≡ 1 → (n : ℕ) × (is : List Instr) × (q ≡ Whole) × (p ≡ At n) × (content_at code n ≡ Some is)

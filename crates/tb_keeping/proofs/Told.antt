@@ -2,6 +2,7 @@
 use Rattle.std.proofs.Common.{◌≡◌, ℕ, ◌+◌, true, ◌||◌, List, [], ◌∷◌, refl, sym, ap, ◌∙◌, subst}
 use Rattle.std.specs.Prelude.{if◌then◌else◌, nat_eq}
 use Rattle.std.proofs.lemmas.Bool.{eq-eqb}
+use Rattle.std.proofs.Math.Bool.{or-true}
 use Rattle.tb_kernal.specs.declared.events.Event.{Event}
 use Rattle.tb_kernal.specs.declared.events.Event.TheVariants.{Go, Interrupt}
 use Rattle.tb_kernal.specs.Machine as machine
@@ -11,7 +12,6 @@ use Rattle.tb_lower.specs.Control.{has_line}
 use Rattle.tb_syntax.specs.Source.{Program, numbers}
 use Rattle.tb_keeping.specs.Layout.{is_start}
 use Rattle.tb_keeping.specs.LineStarts.{begun, BeginsLine, MarksLines}
-use Rattle.tb_keeping.proofs.Numbers.{or_true}
 
 module _ (start other : ℕ → ℕ) where
   abbrev pub Agree : List ℕ → Type 0
@@ -21,7 +21,7 @@ module _ (start other : ℕ → ℕ) where
   same_is_start [] h a = refl
   same_is_start (n ∷ ns) h a =
       let first : start n ≡ other n = h n (ap (λ b. b || has_line ns n) (eq-eqb n n refl)) in
-      let rest : is_start start ns a ≡ is_start other ns a = same_is_start ns (λ m e. h m (ap (λ b. nat_eq n m || b) e ∙ or_true (nat_eq n m))) a in
+      let rest : is_start start ns a ≡ is_start other ns a = same_is_start ns (λ m e. h m (ap (λ b. nat_eq n m || b) e ∙ or-true (nat_eq n m))) a in
       λ i. nat_eq a (first i) || rest i
 
   same_begun : (ns : List ℕ) → Agree ns → (es : List Event) (s : machine.State) → begun start ns es s ≡ begun other ns es s

@@ -1,6 +1,6 @@
 -- Noted bytes, put back, restore a memory.
 use Rattle.std.proofs.Common.{◌≡◌, ℕ, Bool, true, false, ◌&&◌, ◌||◌, [], ◌∷◌, arith, refl, ap, sym, ◌∙◌, ◌⊎◌, inl, inr, nat_eq}
-use Rattle.std.proofs.lemmas.Bool.{cases_eq, and_parts}
+use Rattle.std.proofs.lemmas.Bool.{cases_eq, and_parts, cases_Bool}
 use Rattle.std.proofs.lemmas.Bool.Decides.{nat_tests}
 use Rattle.tb_memmap.specs.Regions.{is_open}
 use Rattle.tb_memmap.specs.Bytes.{Writes, with_byte, written}
@@ -48,13 +48,9 @@ put_back b (u ∷ us) m n h o =
           ]
     ]
 
-is_true_or_false : (b : Bool) → (b ≡ true) ⊎ (b ≡ false)
-is_true_or_false true = inl refl
-is_true_or_false false = inr refl
-
 restored_at : (us ws : Writes) (m : ℕ → ℕ) → AreOf m us → all_among ws us ≡ true → (b : ℕ) → written (written m ws) us b ≡ m b
 restored_at us ws m h a b =
-    elim (is_true_or_false (is_among b us)) [
+    elim (cases_Bool (is_among b us)) [
       | inl e ↦ put_back b us m (written m ws) h (inr e)
       | inr e ↦ put_back b us m (written m ws) h (inl (not_written b us ws m a e))
     ]

@@ -1,6 +1,6 @@
 -- Undoing takes an event back.
 use Rattle.std.proofs.Common.{◌≡◌, ℕ, ◌+◌, ◌-◌, ◌<◌, ◌≤◌, ◌%◌, Bool, true, false, ◌&&◌, ◌||◌, not, [], ◌∷◌, length, take, arith, refl, ap, ◌∙◌, ◌⊎◌, inl, inr, nat_eq, length-append}
-use Rattle.std.proofs.lemmas.Bool.{and_from, and_parts, or_left, or_right, or_cases}
+use Rattle.std.proofs.lemmas.Bool.{and_from, and_parts, or_left, or_right, or_cases, eq-eqb}
 use Rattle.std.specs.Prelude.{◌==◌, if◌then◌else◌, Option, Some, None, Result, Ok, Err, nat_le}
 use Rattle.std.proofs.lemmas.Bool.Decides.{nat_tests}
 use Rattle.std.proofs.Math.Seq.{take-append_seam, take-length}
@@ -71,12 +71,9 @@ among_more p (w ∷ ws) us h =
     let q = and_parts (is_among w.0 us) (all_among ws us) h in
     and_from _ _ (or_right (nat_eq w.0 p.0) _ q.0) (among_more p ws us q.1)
 
-same_is : (a : ℕ) → nat_eq a a ≡ true
-same_is a = grind (arith, nat_tests)
-
 among_itself : (ws : Writes) → all_among ws ws ≡ true
 among_itself [] = refl
-among_itself (w ∷ ws) = and_from _ _ (or_left (nat_eq w.0 w.0) (is_among w.0 ws) (same_is w.0)) (among_more w ws ws (among_itself ws))
+among_itself (w ∷ ws) = and_from _ _ (or_left (nat_eq w.0 w.0) (is_among w.0 ws) (eq-eqb w.0 w.0 refl)) (among_more w ws ws (among_itself ws))
 
 -- writes to open places among those noted are taken back
 writes_back : (m : ℕ → ℕ) (ps ws : Writes) → all_open ws ≡ true → all_among ws ps ≡ true → written_open (written m ws) (old_of m ps) ≡ m

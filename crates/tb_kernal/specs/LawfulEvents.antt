@@ -21,7 +21,7 @@ abbrev pub writes_of : Event → Writes
 writes_of (Go k) = k.writes.items
 writes_of (Interrupt ws) = ws.items
 
-lawful_at : (o : Option Service) (s : ℕ) (ws : Writes) → all_writable s ws ≡ true → is_lawful_go o s ws ≡ true
+pub lawful_at : (o : Option Service) (s : ℕ) (ws : Writes) → all_writable s ws ≡ true → is_lawful_go o s ws ≡ true
 lawful_at None s ws h = refl
 lawful_at (Some _) s ws h = h
 

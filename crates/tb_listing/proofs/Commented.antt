@@ -73,9 +73,6 @@ label_plain (b ∷ name) h = not_shown b h
 pub commented : (old new line : List ℕ) (cs : List (List ℕ)) → new ≡ old ++ comment_row line → HasComments old cs → HasComments new (cs ++ comment line ∷ [])
 commented old new line cs e h = subst (λ t. HasComments t (cs ++ comment line ∷ [])) (sym e) (row_taken old (59 ∷ 32 ∷ take 120 line) cs refl h)
 
-pub none_yet : HasComments [] []
-none_yet more = refl
-
 -- one line more
 pub line_more : {A B : Type 0} (f : B → List ℕ) (g : A → B) (xs : List A) (i : ℕ) (d : A) → i < length xs
     → map f (map g (take i xs)) ++ f (g (get_or xs i d)) ∷ [] ≡ map f (map g (take (i + 1) xs))

@@ -27,6 +27,7 @@ use Rattle.tb_templates.proofs.Taken.{block_size}
 use Rattle.tb_codegen.specs.declared.compiled.Compiled.{Compiled}
 use Rattle.tb_codegen.specs.Compiled.{IsCompiled, StartsRise, prg_of, starts_of, table_of, starts_in, stands_at}
 use Rattle.tb_codegen.proofs.Sized.{IsSettling, settling}
+use Rattle.tb_codegen.proofs.Placed.{starts_low}
 
 -- lines that begin one behind the other from $0C00 on, and a line table behind them in an image of so many bytes
 pub record AreLaid (starts : List (ℕ × ℕ)) (table bytes : ℕ) : Type 0 where
@@ -49,10 +50,6 @@ back_within a whole front back end e le = omega arith
 
 before_table : (table own past last find : ℕ) → table ≡ LINES_AT + own + past + last + find → LINES_AT + own ≤ table
 before_table table own past last find e = omega arith
-
-starts_low : (low low' : ℕ) (starts : List (ℕ × ℕ)) → low ≤ low' → StartsRise low' starts → StartsRise low starts
-starts_low low low' [] l h = tt
-starts_low low low' (s ∷ starts) l h = (omega (arith, l, h.0), h.1)
 
 -- lines begin one behind the other, and what lies behind their code comes behind them
 lines_rise : (labels : List (Name × ℕ)) (ns : List ℕ) (seed a : ℕ) (asking : List ℕ) (p : Program) (fs : List Form) (end : ℕ) → AreFormsOf (lines_code ns seed asking (lowered.program_code p)) fs → LabelsAt labels a (items_from a fs) → a + forms_size fs ≤ end

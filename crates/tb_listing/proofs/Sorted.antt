@@ -2,7 +2,7 @@
 use Rattle.std.proofs.Common.{◌≡◌, ℕ, ◌+◌, ◌≤◌, Bool, true, ◌&&◌, List, [], ◌∷◌, ◌++◌, map, refl, arith, nat_le, subst, append-nil}
 use Rattle.std.proofs.lemmas.Bool.Decides.{nat_tests}
 use Rattle.std.specs.Prelude.{codes}
-use Rattle.tb_asm.proofs.Suits.{and_true}
+use Rattle.std.proofs.lemmas.Bool.{and_parts}
 use Rattle.tb_runtime16.specs.Places.{LINES_AT}
 use Rattle.tb_codegen.specs.Compiled.{StartsRise}
 use Rattle.tb_listing.specs.Labels.{Rise, line_place, block_places, data_places, places}
@@ -21,7 +21,7 @@ rise_both : (low end : ℕ) (ps qs : List (List ℕ × ℕ)) → rises low ps en
 unfolding rises
 rise_both low end [] qs e h = rise_low low end qs (let l : low ≤ end = grind (arith, nat_tests) in l) h
 rise_both low end (p ∷ ps) qs e h =
-    let w = and_true (nat_le low p.1) (rises (p.1 + 1) ps end) e in
+    let w = and_parts (nat_le low p.1) (rises (p.1 + 1) ps end) e in
     let first : nat_le low p.1 ≡ true = w.0 in
     ((let l : low ≤ p.1 = grind (arith, nat_tests) in l), rise_both (p.1 + 1) end ps qs w.1 h)
 

@@ -1,7 +1,7 @@
 //! The map of a program: where each part lies, what it takes and what it costs.
 ghost use Rattle.std.specs.Prelude.{◌≡◌, ◌≤◌, ◌+◌, ◌-◌, ◌++◌, ◌∷◌, [], IfOk, OnOk, map, drop, length, replicate};
 ghost use Rattle.tb_syntax.specs.Shown.{lines_of};
-ghost use Rattle.tb_lower.specs.Cost as lower;
+ghost use Rattle.tb_lower.specs.Cost as cost;
 ghost use Rattle.tb_runtime16.specs.Places.{PROLOGUE_AT};
 ghost use Rattle.tb_codegen.specs.Compiled.{pair_of, prg_of, starts_of, table_of};
 ghost use Rattle.tb_codegen.specs.Texts.{end_before};
@@ -32,7 +32,7 @@ const NUMBER_WIDTH: usize = 8;
 /// The map of a compiled program: a table of the block, each line and the line table with address, bytes and cost, their
 /// sums, and what is left of the room. The highest line has what lies before the line table.
 pub fn chart(alloc: Global, compiled: &Compiled, program: &Program) -> Result<Vec<u8>, AllocError>
-    requires small { lower.cost (lines_of program.now) ≤ 37888 }
+    requires small { cost.cost (lines_of program.now) ≤ 37888 }
     requires ends { PROLOGUE_AT + (length (prg_of compiled.now) - 14) ≤ 0xA000 }
     ensures { IfOk result (λ text. text.items ≡ map_text (starts_of compiled.now) (table_of compiled.now) (length (prg_of compiled.now) - 14) (lines_of program.now)) }
 {
@@ -54,9 +54,9 @@ fn push_parts(
     size: usize,
     program: &Program,
 ) -> Result<u32, AllocError>
-    requires small { lower.cost (lines_of program.now) ≤ 37888 }
+    requires small { cost.cost (lines_of program.now) ≤ 37888 }
     requires ends { PROLOGUE_AT + size ≤ 0xA000 }
-    ensures sum { IfOk result (λ sum. sum ≡ lower.cost (lines_of program.now)) }
+    ensures sum { IfOk result (λ sum. sum ≡ cost.cost (lines_of program.now)) }
     ensures rows { OnOk result (text.new.items ≡ text.old.items ++ (row_text (block_part (starts_of compiled.now) (table_of compiled.now)) ++ (rows_text (line_parts (starts_of compiled.now) (table_of compiled.now) (lines_of program.now)) ++ row_text (table_part (table_of compiled.now) size)))) }
 {
     push_row(alloc, text, b"block", BLOCK_AT, block_size(compiled), BASE)?;
@@ -91,8 +91,8 @@ fn push_lines(
     table: u16,
     program: &Program,
 ) -> Result<u32, AllocError>
-    requires { lower.cost (lines_of program.now) ≤ 37888 }
-    ensures { IfOk result (λ sum. (sum ≡ lower.cost (lines_of program.now)) × (text.new.items ≡ text.old.items ++ rows_text (line_parts (map pair_of starts.now) table (lines_of program.now)))) }
+    requires { cost.cost (lines_of program.now) ≤ 37888 }
+    ensures { IfOk result (λ sum. (sum ≡ cost.cost (lines_of program.now)) × (text.new.items ≡ text.old.items ++ rows_text (line_parts (map pair_of starts.now) table (lines_of program.now)))) }
 {
     let mut sum = BASE;
     let mut rest = starts;

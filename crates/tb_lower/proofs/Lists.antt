@@ -108,7 +108,7 @@ found_fit (l ∷ lines) n (more h hs) =
     (fit_more (longest (program_code lines)) (longest (program_code (l ∷ lines))) (content_at lines n) (omega arith) (found_fit lines n hs))
 
 module _ (code : SlotCode) where
-  beginnings_sum : (a b : ℕ) (r : Run SlotState) → beginnings code (a + b) r ≡ beginnings code a r + beginnings code b (advance_by (slot_step code) a r)
+  pub beginnings_sum : (a b : ℕ) (r : Run SlotState) → beginnings code (a + b) r ≡ beginnings code a r + beginnings code b (advance_by (slot_step code) a r)
   beginnings_sum zero b r = ap (λ n. beginnings code n r) (zero-add b) ∙ sym (zero-add _)
   beginnings_sum (suc a) b r =
       ap (λ n. beginnings code n r) (suc-add a b)

@@ -1,7 +1,7 @@
 -- The operands of slot code are in their ranges.
 use Rattle.std.proofs.Common.{◌≡◌, ℕ, ◌+◌, ◌≤◌, ◌<◌, true, false, List, [], ◌∷◌, ◌++◌, Option, Some, None, refl, sym, subst, arith}
 use Rattle.tb_syntax.specs.declared.statements.Statement.{Statement}
-use Rattle.tb_syntax.specs.Source.{Expression, Number, Variable, Binary, Item, Text, Value, Zone, Command, Let, Print, If, Goto, Gosub, Remark, Program}
+use Rattle.tb_syntax.specs.Source.{Expression, Number, Variable, Binary, Item, Text, Value, Zone, Command, Let, Print, If, Goto, Gosub, Remark}
 use Rattle.tb_syntax.specs.Source as source
 use Rattle.tb_syntax.specs.Shown.{command_of, lines_of}
 use Rattle.tb_lower.specs.Need.{need, items_need, command_need, too_deep}

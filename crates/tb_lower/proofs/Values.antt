@@ -9,7 +9,7 @@ use Rattle.tb_lower.specs.Control.{State, fall}
 use Rattle.tb_lower.specs.Values.{Valued, Gives, Fails, valued_then, apply, given, random, value}
 use Rattle.tb_lower.specs.Meaning.{with_value, valued}
 use Rattle.tb_lower.specs.Need.{need}
-use Rattle.tb_lower.specs.Slots.{Instr, Put, Load, Compute, Slots, After, Stays, Leaves, with_word, into, act}
+use Rattle.tb_lower.specs.Slots.{Instr, Compute, Slots, After, Stays, Leaves, with_word, into, act}
 use Rattle.tb_lower.specs.Slots as slots
 use Rattle.tb_lower.specs.Lowered.{constant, or_constant, value_code}
 use Rattle.tb_lower.proofs.Constants.{constant_value, constant_word}

@@ -3,19 +3,19 @@ use Rattle.std.proofs.Common.{◌<◌, zero, suc, length, slice_index_or, arith,
 use Rattle.std.specs.Prelude.{Contains}
 use Rattle.std.specs.List.{IsDistinct}
 use Rattle.std.specs.Cmp.{nat_eq_equiv}
-use Rattle.std.proofs.lemmas.Bool.{eqb-true}
+use Rattle.std.proofs.lemmas.Bool.{eqb-true, and_parts}
 use Rattle.std.proofs.lemmas.Map.Made.{IsDistinct-from_count}
 use Rattle.tb_opcodes.specs.declared.Mnemonic.{Mnemonic}
 use Rattle.tb_opcodes.specs.declared.Mode.{Mode}
 use Rattle.tb_opcodes.specs.Opcodes.{Row, row, rows, find_row, decoded}
 use Rattle.tb_opcodes.specs.Table.{IsListed, IsTable}
-use Rattle.tb_opcodes.proofs.Inverse.{encodes_back, decodes_back, all_rows, all_decode, decodes_to, decodes_is, and_true, pair_of, pair_same_first, pair_same_second, none_some}
+use Rattle.tb_opcodes.proofs.Inverse.{encodes_back, decodes_back, all_rows, all_decode, decodes_to, decodes_is, pair_of, pair_same_first, pair_same_second, none_some}
 
 -- a test that each row passes is passed by each row that is listed
 passes : (p : Row → Bool) (rs : List Row) (x : Row) (k : ℕ) → k < length rs → slice_index_or rs k x ≡ x → all_rows p rs ≡ true → p x ≡ true
 passes p [] x k l e h = absurd (omega arith)
-passes p (r ∷ rs) x zero l e h = ap p (sym e) ∙ (and_true _ _ h).0
-passes p (r ∷ rs) x (suc k) l e h = passes p rs x k (omega arith) e (and_true _ _ h).1
+passes p (r ∷ rs) x zero l e h = ap p (sym e) ∙ (and_parts _ _ h).0
+passes p (r ∷ rs) x (suc k) l e h = passes p rs x k (omega arith) e (and_parts _ _ h).1
 
 listed_decodes : (o : ℕ) (n : Mnemonic) (m : Mode) → IsListed o n m → decoded o ≡ Some (n, m)
 listed_decodes o n m h = decodes_is (row o n m) (decoded o) (passes (λ r. decodes_to r (decoded r.opcode)) rows (row o n m) h.0 h.1 h.2 all_decode)

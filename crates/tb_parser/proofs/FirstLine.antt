@@ -1,7 +1,7 @@
 -- Where the first line of a source ends, at either kind of line's end.
 use Rattle.std.proofs.Common.{◌≡◌, ◌≢◌, ℕ, zero, suc, ◌<◌, ◌≤◌, false, List, [], ◌∷◌, length, get_or, take, drop, refl, arith, ◌==◌}
+use Rattle.std.proofs.lemmas.Bool.{ne_eqb}
 use Rattle.tb_parser.specs.Lines.{lines_from}
-use Rattle.tb_parser.proofs.Steps.{unequal}
 
 -- no line ends at a place
 abbrev pub IsInside : List ℕ → ℕ → Type 0
@@ -16,16 +16,16 @@ first_line (b ∷ text) zero more lt inside e = e
 first_line (b ∷ text) (suc i) more lt inside e =
     let h = inside 0 (omega arith) in
     let rest = first_line text i more (omega arith) (λ k below. inside (suc k) (omega arith)) e in
-    rw (unequal b 10 h.0, unequal b 13 h.1, rest) refl
+    rw (ne_eqb b 10 h.0, ne_eqb b 13 h.1, rest) refl
 
 pub last_line : (text : List ℕ) → text ≢ [] → ((k : ℕ) → k < length text → IsInside text k) → lines_from false text ≡ text ∷ []
 unfolding lines_from
 last_line [] ne inside = absurd (ne refl)
-last_line (b ∷ []) ne inside = let h = inside 0 (omega arith) in rw (unequal b 10 h.0, unequal b 13 h.1) refl
+last_line (b ∷ []) ne inside = let h = inside 0 (omega arith) in rw (ne_eqb b 10 h.0, ne_eqb b 13 h.1) refl
 last_line (b ∷ c ∷ text) ne inside =
     let h = inside 0 (omega arith) in
     let rest = last_line (c ∷ text) (λ e. cc) (λ k below. inside (suc k) (omega arith)) in
-    rw (unequal b 10 h.0, unequal b 13 h.1, rest) refl
+    rw (ne_eqb b 10 h.0, ne_eqb b 13 h.1, rest) refl
 
 pub only_line : (text : List ℕ) (i : ℕ) → (length text == 0) ≡ false → length text ≤ i → ((k : ℕ) → k < i → IsInside text k)
     → (lines_from false text ≡ text ∷ lines_from false []) × (0 < length text)

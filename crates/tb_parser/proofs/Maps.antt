@@ -6,10 +6,10 @@ use Rattle.std.specs.Ordering.{nat_cmp, match_ordering, is_eq}
 use Rattle.std.specs.declared.cmp.Ordering.TheVariants.{Less, Equal, Greater}
 use Rattle.std.specs.BTreeMap.{insert_entry, is_at}
 use Rattle.std.specs.Map.{remove_entry}
+use Rattle.std.proofs.lemmas.Bool.{eqb-true}
 use Rattle.tb_syntax.specs.declared.statements.Statement.{Statement}
 use Rattle.tb_syntax.specs.Source.{Program}
 use Rattle.tb_syntax.specs.Shown.{command_of, line_of, lines_of}
-use Rattle.tb_parser.proofs.Steps.{same_number}
 use Rattle.tb_parser.specs.Files.{line_at, with_line, without_line}
 
 not_same : (a b : ℕ) → nat_lt a b ≡ true → (a == b) ≡ false
@@ -23,7 +23,7 @@ lines_of_insert (e ∷ es) n s = go (lines_of_insert es n s) (nat_lt n e.0) (n =
         → lines_of (match_ordering (cond less Less (cond same Equal Greater)) ((n, s) ∷ e ∷ es) ((e.0, s) ∷ es) (e ∷ insert_entry nat_cmp es n s))
         ≡ (if less then line_at n (command_of s) ∷ line_of e ∷ lines_of es else if same then line_at n (command_of s) ∷ lines_of es else line_of e ∷ with_line n (command_of s) (lines_of es))
     go h true same is = refl
-    go h false true is = ap (λ (k : ℕ). line_at k (command_of s) ∷ lines_of es) (sym (same_number n e.0 is))
+    go h false true is = ap (λ (k : ℕ). line_at k (command_of s) ∷ lines_of es) (sym (eqb-true n e.0 is))
     go h false false is = ap (λ (t : Program). line_of e ∷ t) h
 
 pub lines_of_remove : (es : List (ℕ × Statement)) (n : ℕ) → lines_of (remove_entry (is_at (nat_cmp n)) es) ≡ without_line n (lines_of es)

@@ -2,10 +2,10 @@
 use Rattle.std.proofs.Common.{◌≡◌, ℕ, ◌+◌, ◌<◌, ◌≤◌, Bool, true, false, List, [], ◌∷◌, Result, Ok, Err, refl, sym, arith, ◌==◌, if◌then◌else◌}
 use Rattle.std.proofs.lemmas.Bool.Decides.{nat_tests}
 use Rattle.std.specs.Prelude.{nat_lt}
+use Rattle.std.proofs.lemmas.Bool.{eqb-true}
 use Rattle.tb_syntax.specs.Source.{Command, Program, numbers}
 use Rattle.tb_parser.specs.Files.{Outcome, line_at, with_line, without_line, edited, at_end, LinesAre, end, bad, good, RisesFrom}
 use Rattle.tb_parser.specs.Readings.{Refusal, Edit, LineIs, blank, unfit, unnumbered, bad_line_number, deletes, sets, unread}
-use Rattle.tb_parser.proofs.Steps.{same_number}
 
 from_lower : (low lower : ℕ) (ns : List ℕ) → lower ≤ low → RisesFrom low ns → RisesFrom lower ns
 from_lower low lower [] le h = tt
@@ -27,7 +27,7 @@ with_line_rises n c low (line ∷ lines) above within h = go (nat_lt n line.numb
     go : (less same : Bool) → nat_lt n line.number ≡ less → (n == line.number) ≡ same → (line.number < n → RisesFrom line.number (numbers (with_line n c lines)))
         → RisesFrom low (numbers (if less then line_at n c ∷ line ∷ lines else if same then line_at n c ∷ lines else line ∷ with_line n c lines))
     go true same is other rest = (above, within, (below_from_test n line.number is, h.1, h.2))
-    go false true is other rest = (above, within, from_same line.number n (numbers lines) (sym (same_number n line.number other)) h.2)
+    go false true is other rest = (above, within, from_same line.number n (numbers lines) (sym (eqb-true n line.number other)) h.2)
     go false false is other rest = (h.0, h.1, rest (above_from_tests n line.number is other))
 
 without_line_rises : (n low : ℕ) (p : Program) → RisesFrom low (numbers p) → RisesFrom low (numbers (without_line n p))

@@ -1,20 +1,11 @@
 -- Lines byte by byte: each walk at place i, where the next byte is either skipped, taken or not there.
-use Rattle.std.proofs.Common.{◌≡◌, ◌≢◌, ℕ, ◌+◌, ◌-◌, ◌<◌, ◌≤◌, true, false, List, [], ◌∷◌, ◌++◌, length, get_or, take, drop, Some, None, refl, sym, ◌∙◌, append_assoc, add-one, arith, drop-cons, ◌==◌, ◌&&◌}
-use Rattle.std.proofs.lemmas.Bool.Decides.{nat_tests}
+use Rattle.std.proofs.Common.{◌≡◌, ◌≢◌, ℕ, ◌+◌, ◌-◌, ◌<◌, ◌≤◌, true, false, List, [], ◌∷◌, ◌++◌, length, get_or, take, drop, Some, None, refl, sym, ◌∙◌, append_assoc, add-one, arith, drop-cons, ◌&&◌}
 use Rattle.std.proofs.lemmas.List.{append-nil, drop_all, take_all, length-drop}
+use Rattle.std.proofs.lemmas.Bool.{ne_eqb, eq-eqb}
 use Rattle.tb_parser.specs.declared.squeeze.Mode.{Mode}
 use Rattle.tb_parser.specs.declared.squeeze.Placed.{Placed}
 use Rattle.tb_parser.specs.Squeezed.{after, is_dropped, is_in_code, shown, squeezed_from}
 use Rattle.tb_parser.specs.Scans.{first_written, is_bad, first_bad, is_left_out, left_out_word}
-
-pub unequal : (a b : ℕ) → a ≢ b → (a == b) ≡ false
-unequal a b h = grind (arith, nat_tests)
-
-pub equal : (a b : ℕ) → a ≡ b → (a == b) ≡ true
-equal a b h = grind (arith, nat_tests)
-
-pub same_number : (a b : ℕ) → (a == b) ≡ true → a ≡ b
-same_number a b e = grind (arith, nat_tests)
 
 pub split : {A : Type 0} (line : List A) (i : ℕ) (d : A) → i < length line → drop i line ≡ get_or line i d ∷ drop (i + 1) line
 split line i d lt = rw add-one (drop-cons line i d lt)
@@ -25,11 +16,11 @@ module _ (line : List ℕ) (i : ℕ) where
 
   pub written_later : (column : ℕ) → i < length line → here ≡ 32 → first_written (column + 1) (drop (i + 1) line) ≡ first_written column (drop i line)
   unfolding first_written
-  written_later column lt space = rw (split line i 0 lt, equal here 32 space) refl
+  written_later column lt space = rw (split line i 0 lt, eq-eqb here 32 space) refl
 
   pub written_here : (column : ℕ) → i < length line → here ≢ 32 → first_written column (drop i line) ≡ Some column
   unfolding first_written
-  written_here column lt other = rw (split line i 0 lt, unequal here 32 other) refl
+  written_here column lt other = rw (split line i 0 lt, ne_eqb here 32 other) refl
 
   pub written_nowhere : (column : ℕ) → length line ≤ i → first_written column (drop i line) ≡ None
   unfolding first_written

@@ -5,6 +5,7 @@ use Rattle.tb_syntax.specs.Source.{Command, Expression, Program}
 use Rattle.tb_grammar.specs.Statements.{States}
 use Rattle.tb_grammar.proofs.ExpressionLaws as expression_laws
 use Rattle.tb_grammar.proofs.StatementLaws as statement_laws
+use Rattle.tb_grammar.specs.Reading.{when}
 use Rattle.tb_parser.proofs.Numbers.{number_has_digit, blank_squeezed}
 use Rattle.tb_parser.specs.declared.errors.SourceErrorKind.TheVariants.{LineTooLong, BadByte, Unnumbered, BadLineNumber, NotCompiled, NumberTooLarge}
 use Rattle.tb_parser.specs.declared.squeeze.Mode.TheVariants.{Code}
@@ -64,10 +65,6 @@ data Judged : Type 0 where
   Decided : Result Edit Refusal → Judged
   Statement : (number : ℕ) (text : List Placed) → Judged
 
-when : {A B : Type 0} → Option A → B → (A → B) → B
-when None otherwise f = otherwise
-when (Some x) otherwise f = f x
-
 behind_number : ℕ → List Placed → Judged
 behind_number number [] = Decided (Ok (Deletes number))
 behind_number number (p ∷ text) = Statement number (p ∷ text)
@@ -121,7 +118,7 @@ number_written line low = go (first_written 1 line) refl
     go (Some first) e = (first, e)
 
 judged_number : (line : List ℕ) (number : ℕ) (text : List Placed) → IsNumbered line number text → judged line ≡ behind_number number text
-unfolding judged numbered_line when
+unfolding judged numbered_line
 judged_number line number text n =
     let low : 1 ≤ (number_at 0 (squeezed line)).value = rw (n.value) n.in_range.0 in
     let written = number_written line low in
@@ -133,7 +130,7 @@ statement_behind number [] some = absurd (some refl)
 statement_behind number (p ∷ text) some = refl
 
 judged_as : (line : List ℕ) (m : Result Edit Refusal) → LineIs line m → (judged line ≡ Decided m) ⊎ Reads line m
-unfolding judged numbered_line behind_number when at_number
+unfolding judged numbered_line behind_number at_number
 judged_as line _ (blank e) = inl (rw e refl)
 judged_as line _ (unfit first _ e (line_too_long h)) = inl (rw (e, too_high (length line) 255 h) refl)
 judged_as line _ (unfit first _ e (bad_byte column short f)) = inl (rw (e, low_enough (length line) 255 short, f) refl)

@@ -18,9 +18,10 @@ use Rattle.tb_engines.specs.Programs.{start, end_of, RunsContent}
 use Rattle.tb_engines.specs.declared.outcome.Outcome.{Outcome}
 use Rattle.tb_engines.specs.declared.outcome.Outcome.TheVariants.{Ended, Refused, ReadFault, WriteFault, NoMemory}
 use Rattle.tb_streams.specs.Lines.{without_return, IsLine}
-use Rattle.tb_play.specs.Lines.{keys_of, typed_of, AreBytes, TakesLines}
+use Rattle.tb_play.specs.Lines.{keys_of, typed_of, TakesLines}
 use Rattle.tb_play.specs.Talks.{gives_quiet, Talked, Comes, Plays}
 use Rattle.tb_play.specs.Plays.{IsStart, RunsTyped, Shows}
+use Rattle.tb_opcodes.specs.Bytes.{AreBytes}
 
 abbrev GaveQuiet : Content → List Event → Content → Type 0
 GaveQuiet m es n = Gave gives_quiet (record {}) m es (record {}) n

@@ -4,6 +4,7 @@ use Rattle.std.specs.Io.KnownBytes.{Consumes}
 use Rattle.std.specs.Char.{to_ascii_uppercase}
 use Rattle.std.specs.declared.alloc.Global.{Global}
 use Rattle.std.specs.declared.vec.Vec.{Vec}
+pub use Rattle.tb_opcodes.specs.Bytes.{AreBytes}
 use Rattle.tb_streams.specs.Lines.{without_return, TakesLine, TakesNothing, TakesPart}
 use Rattle.tb_streams.specs.declared.stream.InputError.{InputError}
 use Rattle.tb_streams.specs.declared.stream.InputError.TheVariants.{Fault, NoMemory}
@@ -19,11 +20,6 @@ keys_of line = map to_ascii_uppercase (without_return line) ++ 13 ∷ []
 -- what lines hand over, the first one first
 abbrev pub typed_of : List (List ℕ) → List ℕ
 typed_of lines = flat_map keys_of lines
-
--- each is a byte
-abbrev pub AreBytes : List ℕ → Type 0
-AreBytes [] = Unit {0}
-AreBytes (b ∷ bs) = (b < 256) × AreBytes bs
 
 -- the same of lines one after the other
 abbrev pub TakesLines : Option (List ℕ) → List (List ℕ) → Option (List ℕ) → Type 0

@@ -13,8 +13,8 @@ use Rattle.tb_engines.specs.declared.outcome.End.{End}
 use Rattle.tb_engines.specs.declared.outcome.End.TheVariants.{WaitsForKey}
 use Rattle.tb_engines.specs.declared.outcome.Outcome.{Outcome}
 use Rattle.tb_engines.specs.declared.outcome.Outcome.TheVariants.{Ended, Refused, ReadFault, WriteFault, NoMemory}
-use Rattle.tb_play.specs.Lines.{AreBytes}
 use Rattle.tb_play.specs.Talks.{gives_quiet, Plays}
+use Rattle.tb_opcodes.specs.Bytes.{AreBytes}
 
 -- ---- the dialogue
 

@@ -1,7 +1,7 @@
 -- What all rows count is the whole.
 use Rattle.std.proofs.Common.{◌≡◌, ℕ, ◌+◌, ◌<◌, Bool, true, false, ◌||◌, List, [], ◌∷◌, length, map, refl, sym, ap, ◌∙◌, arith, inl, inr}
 use Rattle.std.specs.Prelude.{◌==◌, if◌then◌else◌, sum_by}
-use Rattle.std.proofs.lemmas.Bool.{cases_eq}
+use Rattle.std.proofs.lemmas.Bool.{cases_eq, or_parts, or_right}
 use Rattle.std.proofs.lemmas.Bool.Decides.{nat_tests}
 use Rattle.std.proofs.lemmas.List.Recursion.{is_sum_by}
 use Rattle.std.proofs.lemmas.List.Sums.{sum_by-cons}
@@ -47,10 +47,6 @@ at_other : (k a p : ℕ) → (a == p) ≡ false → at k a p ≡ 0
 unfolding at
 at_other k a p e = ap (λ b. if b then k else 0) e
 
-neither : (b c : Bool) → (b || c) ≡ false → (b ≡ false) × (c ≡ false)
-neither true c h = absurd cc
-neither false c h = (refl, h)
-
 second : (b c : Bool) → (b || c) ≡ true → b ≡ false → c ≡ true
 second true c h e = absurd cc
 second false c h e = h
@@ -59,7 +55,7 @@ none_at : (k a : ℕ) (ps : List ℕ) → is_place ps a ≡ false → total (at 
 unfolding total
 none_at k a [] h = refl
 none_at k a (p ∷ ps) h =
-    let both : ((a == p) ≡ false) × (is_place ps a ≡ false) = neither (a == p) (is_place ps a) h in
+    let both : ((a == p) ≡ false) × (is_place ps a ≡ false) = or_parts (a == p) (is_place ps a) h in
     omega (arith, at_other k a p both.0, none_at k a ps both.1)
 
 one_at : (k a : ℕ) (ps : List ℕ) → is_place ps a ≡ true → AreApart ps → total (at k a) ps ≡ k
@@ -138,13 +134,9 @@ whole_sum w f ps ts counts known apart =
 
 -- ---- the steps of a run
 
-or_true : (b c : Bool) → c ≡ true → (b || c) ≡ true
-or_true true c h = refl
-or_true false c h = h
-
 known_line : (places : List ℕ) (b : Bool) (line pc : ℕ) → b ≡ is_place places pc → ((line == 0) || is_place places line) ≡ true
     → ((line_by b line pc == 0) || is_place places (line_by b line pc)) ≡ true
-known_line places true line pc e h = or_true (pc == 0) (is_place places pc) (sym e)
+known_line places true line pc e h = or_right (pc == 0) (is_place places pc) (sym e)
 known_line places false line pc e h = h
 
 known_steps : (places : List ℕ) (line : ℕ) (es : List Event) (s : State) → ((line == 0) || is_place places line) ≡ true

@@ -1,5 +1,5 @@
 -- What is sent stays sent.
-use Rattle.std.proofs.Common.{◌≡◌, ℕ, List, [], ◌∷◌, ◌++◌, refl, sym, ap, ◌∙◌, append_assoc, append-nil, Option, Some, None}
+use Rattle.std.proofs.Common.{◌≡◌, ℕ, List, [], ◌∷◌, refl, sym, ◌∙◌, append-nil, Option, Some, None}
 use Rattle.std.specs.Prelude.{Result, Ok, Err}
 use Rattle.tb_cpu.specs.declared.wrong.Wrong.{Wrong}
 use Rattle.tb_cpu.specs.Instructions as cpu
@@ -12,15 +12,11 @@ use Rattle.tb_kernal.specs.declared.status.Status.{Status}
 use Rattle.tb_kernal.specs.declared.status.Status.TheVariants.{Running, Waits, Returned, Wrong as WentWrong}
 use Rattle.tb_kernal.specs.Places.{service_at}
 use Rattle.tb_kernal.specs.Machine.{State, status, happens, gone, gone_at, stepped}
-use Rattle.tb_kernal.specs.Runs.{run}
 use Rattle.tb_reaching.specs.Reaching.{IsPrefix}
 use Rattle.tb_reaching.proofs.Laws.{interrupt_sends_nothing}
 
 same : (a b : List ℕ) → b ≡ a → IsPrefix a b
 same a b e = record { rest = []; split = e ∙ sym (append-nil a) }
-
-then_longer : (a b c : List ℕ) → IsPrefix a b → IsPrefix b c → IsPrefix a c
-then_longer a b c p q = record { rest = p.rest ++ q.rest; split = q.split ∙ ap (λ l. l ++ q.rest) p.split ∙ append_assoc a p.rest q.rest }
 
 stepped_sent : (s : State) (x : Result cpu.State Wrong) → (stepped s x).sent ≡ s.sent
 stepped_sent s (Ok t) = refl
@@ -42,8 +38,3 @@ gone_sent (WentWrong w) k s = same _ _ refl
 pub sends_on : (e : Event) (s : State) → IsPrefix s.sent (happens s e).sent
 sends_on (Go k) s = gone_sent (status s) k s
 sends_on (Interrupt ws) s = same _ _ (interrupt_sends_nothing s ws)
-
--- a list of events
-pub output_grows : (es : List Event) (s : State) → IsPrefix s.sent (run es s).sent
-output_grows [] s = same _ _ refl
-output_grows (e ∷ es) s = then_longer s.sent (happens s e).sent (run es (happens s e)).sent (sends_on e s) (output_grows es (happens s e))

@@ -1,12 +1,13 @@
 -- The runs of groups are runs of slot instructions, and each line's beginning is a group's beginning.
-use Rattle.std.proofs.Common.{◌≡◌, ℕ, zero, suc, ◌+◌, ◌-◌, ◌≤◌, ◌<◌, List, [], ◌∷◌, ◌++◌, refl, sym, ap, ◌∙◌, subst, append-nil, arith, ⊎_elim, zero-add, suc-add}
+use Rattle.std.proofs.Common.{◌≡◌, ℕ, zero, suc, ◌+◌, ◌-◌, ◌≤◌, ◌<◌, List, [], ◌∷◌, ◌++◌, refl, sym, ap, ◌∙◌, subst, append-nil, arith, ⊎_elim}
 use Rattle.std.proofs.lemmas.Bool.{cases_lt}
-use Rattle.tb_lower.specs.Steps.{End, Step, Goes, Stops, and_then, after_sending, Run, GoesOn, Over, joined, advance, advance_by}
+use Rattle.tb_lower.specs.Steps.{Step, Goes, Stops, and_then, after_sending, Run, GoesOn, Over, joined, advance, advance_by}
 use Rattle.tb_lower.specs.Slots.{Instr, Put, Store, Compute, LeaveUnless, JumpTo, SlotCode, Rest, Whole, Left, SlotState, slot_step, begins, beginnings}
 use Rattle.tb_lower.proofs.Runs.{advance_sum, joined_after}
+use Rattle.tb_lower.proofs.Lists.{beginnings_sum}
 use Rattle.tb_selection.specs.Groups.{Operand, Constant, Variable, InSlot, HeldBefore, HeldNow, Group, Calculate, Stepped, Convert, Move, Use, Test, TestGo, OnLeft, OnRight, Divides, Remains, Single, fetch, keep, kept, convert, use_of, slot_of, expand}
 use Rattle.tb_selection.specs.Select.{select}
-use Rattle.tb_selection.specs.GroupSteps.{inside, steps, ahead, first, first_group, fallen, group_step, groups_begin, InsideRest, IsInside}
+use Rattle.tb_selection.specs.GroupSteps.{inside, steps, ahead, first, first_group, fallen, group_step, InsideRest, IsInside}
 use Rattle.tb_selection.specs.Laws.{Reached, Found}
 
 -- a group has an instruction
@@ -104,10 +105,6 @@ module _ (code : SlotCode) where
       by : (i : Instr) × (is : List Instr) × (expand g ≡ i ∷ is) → Covers c out (steps code (expand g) c)
       by p = subst (λ l. Covers c out (steps code l c)) (sym p.2) (covers p.0 p.1 c out)
 
-  beginnings_sum : (a b : ℕ) (r : Run SlotState) → beginnings code (a + b) r ≡ beginnings code a r + beginnings code b (advance_by (slot_step code) a r)
-  beginnings_sum zero b r = ap (λ n. beginnings code n r) (zero-add b) ∙ sym (zero-add (beginnings code b r))
-  beginnings_sum (suc a) b r = ap (λ n. beginnings code n r) (suc-add a b) ∙ (let s = beginnings_sum a b (advance (slot_step code) r) in omega (arith, s))
-
   -- steps, and the fall into the next line where they leave nothing of theirs
   then_fallen : (c : SlotState) (out : List ℕ) (x : Step SlotState) → Covers c out x → Covers c out (and_then x (λ d. fallen code d.rest d))
   then_fallen c out (Stops e t) h = record { more = h.more; leads = h.leads; none_begins = h.none_begins; within = h.within }
@@ -121,7 +118,7 @@ module _ (code : SlotCode) where
       by (Left n (i ∷ is)) e = stays
       by (Left n []) e =
           let r = advance (slot_step code) (GoesOn c out) in
-          let sum = beginnings_sum h.more 1 r in
+          let sum = beginnings_sum code h.more 1 r in
           let at = ap (λ q. beginnings code 1 q) h.leads in
           let none = begins_not d.rest d refl (subst InsideRest (sym e) tt) in
           let before = h.none_begins in
@@ -141,9 +138,6 @@ module _ (code : SlotCode) where
       by (g ∷ gs) = some g c out
 
   -- ---- runs
-  none_begin : (j : ℕ) (e : End) (out : List ℕ) → groups_begin code j (Over e out) ≡ 0
-  none_begin zero e out = refl
-  none_begin (suc j) e out = omega (arith, none_begin j e out)
 
   pub reached : (j : ℕ) (r : Run SlotState) → Reached code j r
   reached zero r = record { count = 0; enough = omega arith; same = refl; begun = refl }
@@ -155,7 +149,7 @@ module _ (code : SlotCode) where
       joins : Covers c out (group_step code c) → Reached code j (joined out (group_step code c)) → Reached code (suc j) (GoesOn c out)
       joins g h =
           let r = advance (slot_step code) (GoesOn c out) in
-          let sum = beginnings_sum g.more h.count r in
+          let sum = beginnings_sum code g.more h.count r in
           let at = ap (λ r. beginnings code h.count r) g.leads in
           let none = g.none_begins in
           let begun = h.begun in
@@ -182,7 +176,7 @@ module _ (code : SlotCode) where
               let r = advance (slot_step code) (GoesOn c o) in
               let there : advance_by (slot_step code) k' (joined o (group_step code c)) ≡ advance_by (slot_step code) k r = ap (λ r. advance_by (slot_step code) k' r) (sym g.leads) ∙ sym (advance_sum (slot_step code) g.more k' r) ∙ ap (λ n. advance_by (slot_step code) n r) e in
               let h = next k' (omega (arith, e)) (λ i. out (subst IsInside there i)) in
-              let sum = beginnings_sum g.more k' r in
+              let sum = beginnings_sum code g.more k' r in
               let at = ap (λ r. beginnings code k' r) g.leads in
               let all = ap (λ n. beginnings code n r) e in
               let none = g.none_begins in

@@ -1,6 +1,6 @@
 -- Groups as they are found, from the end of a list on.
-use Rattle.std.proofs.Common.{◌≡◌, List, [], ◌∷◌, ◌++◌, refl, sym, ap, ◌∙◌, map, length, reverse, take, append_assoc, Option, Some, None, subst}
-use Rattle.std.proofs.lemmas.List.{map-append, nil_from_length, reverse-append, take_at}
+use Rattle.std.proofs.Common.{◌≡◌, List, [], ◌∷◌, ◌++◌, refl, sym, ap, ◌∙◌, map, length, reverse, take, append_assoc, Option, Some, subst}
+use Rattle.std.proofs.lemmas.List.{map-append, reverse-append, take_at}
 use Rattle.tb_lower.specs.Slots.{Instr}
 use Rattle.tb_selection.specs.declared.liveness.Live.{Live}
 use Rattle.tb_selection.specs.Groups.{Group, expand_all}
@@ -56,15 +56,9 @@ fused_one : (a m : Group) (b c : Group) (gs : List Group) → allowed (three_as_
 fused_one a m b c [] q = ap (λ o. instead o [] (a ∷ b ∷ c ∷ [])) q
 fused_one a m b c (e ∷ gs) q = ap (λ o. instead o (e ∷ gs) (instead (allowed (four_as_one a b c e) gs) gs (a ∷ b ∷ c ∷ e ∷ gs))) q
 
-fused_of_four : (a b c e : Group) (gs : List Group) (o : Option Group) → allowed (three_as_one a b c) (e ∷ gs) ≡ None → allowed (four_as_one a b c e) gs ≡ o → fused a (b ∷ c ∷ e ∷ gs) ≡ instead o gs (a ∷ b ∷ c ∷ e ∷ gs)
-fused_of_four a b c e gs o q h = ap (λ p. instead p (e ∷ gs) (instead (allowed (four_as_one a b c e) gs) gs (a ∷ b ∷ c ∷ e ∷ gs))) q ∙ ap (λ p. instead p gs (a ∷ b ∷ c ∷ e ∷ gs)) h
-
 module _ (a : Group) (groups : List Placed) where
   abbrev gs : List Group
   gs = groups_in (in_order groups)
-
-  pub alone_first : length groups ≡ 0 → fused a gs ≡ a ∷ gs
-  alone_first e = ap (λ ps. fused a (groups_in (in_order ps))) (nil_from_length groups e) ∙ ap (λ ps. a ∷ groups_in (in_order ps)) (sym (nil_from_length groups e))
 
   module _ (some : List Placed) (second : Placed) (is : groups ≡ some ++ second ∷ []) where
     abbrev b : Group
@@ -73,22 +67,12 @@ module _ (a : Group) (groups : List Placed) where
     by_second : in_order groups ≡ placed_of second ∷ in_order some
     by_second = one_more some groups second is
 
-    -- so it is for all of them where it is so for those
-    from_second : (of : List Group → List Group) → of (b ∷ groups_in (in_order some)) ≡ a ∷ b ∷ groups_in (in_order some) → of gs ≡ a ∷ gs
-    from_second of h = ap (λ l. of (groups_in l)) by_second ∙ h ∙ ap (λ l. a ∷ groups_in l) (sym by_second)
-
-    pub one_behind : length some ≡ 0 → fused a gs ≡ a ∷ gs
-    one_behind e = from_second (fused a) (ap (λ ps. fused a (b ∷ groups_in (in_order ps))) (nil_from_length some e) ∙ ap (λ ps. a ∷ b ∷ groups_in (in_order ps)) (sym (nil_from_length some e)))
-
     module _ (rest : List Placed) (third : Placed) (some_is : some ≡ rest ++ third ∷ []) where
       abbrev c : Group
       c = group_in third
 
       by_third : in_order groups ≡ placed_of second ∷ placed_of third ∷ in_order rest
       by_third = by_second ∙ ap (λ l. placed_of second ∷ l) (one_more rest some third some_is)
-
-      from_third : (of : List Group → List Group) → of (b ∷ c ∷ groups_in (in_order rest)) ≡ a ∷ b ∷ c ∷ groups_in (in_order rest) → of gs ≡ a ∷ gs
-      from_third of h = ap (λ l. of (groups_in l)) by_third ∙ h ∙ ap (λ l. a ∷ groups_in l) (sym by_third)
 
       pub live_behind : AreLive (in_order groups) → AreLive (placed_of third ∷ in_order rest)
       live_behind h = (subst AreLive by_third h).1
@@ -102,47 +86,3 @@ module _ (a : Group) (groups : List Placed) where
         fuses = ap (λ l. fused a (groups_in l)) by_third ∙ fused_one a (group_in whole) b c (groups_in (in_order rest)) (ap (λ o. allowed o (groups_in (in_order rest))) (sym q) ∙ sym found) ∙ ap (λ ps. group_in whole ∷ groups_in (in_order ps)) (sym kept);
         live = subst (λ ps. AreLive (placed_of whole ∷ in_order ps)) (sym kept) (same ∙ (live_behind h).0, (live_behind h).1);
       }
-
-      pub two_behind : (o : Option Group) → length rest ≡ 0 → o ≡ three_as_one a b c → ◌≡◌ {A = Option Group} None (allowed o (groups_in (in_order rest))) → fused a gs ≡ a ∷ gs
-      two_behind o e q none =
-          let no : rest ≡ [] = nil_from_length rest e in
-          from_third (fused a)
-          (ap (λ ps. fused a (b ∷ c ∷ groups_in (in_order ps))) no
-          ∙ ap (λ o. instead o [] (a ∷ b ∷ c ∷ [])) (ap (λ ps. allowed (three_as_one a b c) (groups_in (in_order ps))) (sym no) ∙ ap (λ o. allowed o (groups_in (in_order rest))) (sym q) ∙ sym none)
-          ∙ ap (λ ps. a ∷ b ∷ c ∷ groups_in (in_order ps)) (sym no))
-
-      module _ (last : List Placed) (fourth : Placed) (rest_is : rest ≡ last ++ fourth ∷ []) (o : Option Group) (q : o ≡ three_as_one a b c) (none : ◌≡◌ {A = Option Group} None (allowed o (groups_in (in_order rest)))) where
-        abbrev e : Group
-        e = group_in fourth
-
-        by_fourth : in_order rest ≡ placed_of fourth ∷ in_order last
-        by_fourth = one_more last rest fourth rest_is
-
-        not_three : allowed (three_as_one a b c) (e ∷ groups_in (in_order last)) ≡ None
-        not_three = ap (λ l. allowed (three_as_one a b c) (groups_in l)) (sym by_fourth) ∙ ap (λ o. allowed o (groups_in (in_order rest))) (sym q) ∙ sym none
-
-        all_kept : take (length last) groups ≡ last
-        all_kept = front_is last groups (fourth ∷ third ∷ second ∷ [])
-            (is ∙ ap (λ l. l ++ second ∷ []) (some_is ∙ ap (λ l. l ++ third ∷ []) rest_is ∙ append_assoc last (fourth ∷ []) (third ∷ [])) ∙ append_assoc last (fourth ∷ third ∷ []) (second ∷ []))
-
-        behind_fourth : AreLive (in_order groups) → AreLive (placed_of fourth ∷ in_order last)
-        behind_fourth h = subst AreLive by_fourth (live_behind h).1
-
-        pub last_live : AreLive (in_order groups) → fourth.behind ≡ live (expand_all (groups_in (in_order last)))
-        last_live h = (behind_fourth h).0
-
-        by_four : (p : Option Group) → allowed (four_as_one a b c e) (groups_in (in_order last)) ≡ p → fused a gs ≡ instead p (groups_in (in_order last)) (a ∷ gs)
-        by_four p h =
-            ap (λ l. fused a (groups_in l)) (by_third ∙ ap (λ l. placed_of second ∷ placed_of third ∷ l) by_fourth)
-            ∙ fused_of_four a b c e (groups_in (in_order last)) p not_three h
-            ∙ ap (λ l. instead p (groups_in (in_order last)) (a ∷ groups_in l)) (sym (by_third ∙ ap (λ l. placed_of second ∷ placed_of third ∷ l) by_fourth))
-
-        -- one group for the first four
-        pub four_joined : (whole : Placed) (p : Option Group) → AreLive (in_order groups) → p ≡ four_as_one a b c e → ◌≡◌ {A = Option Group} (Some (group_in whole)) (allowed p (groups_in (in_order last))) → whole.behind ≡ fourth.behind → Shortens a groups (take (length last) groups) whole
-        four_joined whole p h s found same = record {
-          fuses = by_four (Some (group_in whole)) (ap (λ o. allowed o (groups_in (in_order last))) (sym s) ∙ sym found) ∙ ap (λ ps. group_in whole ∷ groups_in (in_order ps)) (sym all_kept);
-          live = subst (λ ps. AreLive (placed_of whole ∷ in_order ps)) (sym all_kept) (same ∙ (behind_fourth h).0, (behind_fourth h).1);
-        }
-
-        pub none_joined : (p : Option Group) → p ≡ four_as_one a b c e → ◌≡◌ {A = Option Group} None (allowed p (groups_in (in_order last))) → fused a gs ≡ a ∷ gs
-        none_joined p s none' = by_four None (ap (λ o. allowed o (groups_in (in_order last))) (sym s) ∙ sym none')

@@ -4,6 +4,7 @@ use Rattle.std.specs.Prelude.{eqb}
 use Rattle.std.specs.List.{list_all, list_any}
 use Rattle.std.specs.Option.{option_map}
 use Rattle.std.proofs.lemmas.Bool.Decides.{nat_tests}
+use Rattle.std.proofs.lemmas.Bool.{and_parts, or_parts}
 use Rattle.tb_opcodes.specs.Opcodes.{encoded, length_of}
 use Rattle.tb_opcodes.specs.declared.Mnemonic.{Mnemonic}
 use Rattle.tb_opcodes.specs.declared.Mnemonic.TheVariants.{Bcc, Bcs, Beq, Bmi, Bne, Bpl, Bvc, Bvs}
@@ -15,12 +16,12 @@ use Rattle.tb_asm.specs.declared.errors.AsmErrorKind.{AsmErrorKind}
 use Rattle.tb_asm.specs.declared.errors.AsmErrorKind.TheVariants.{NoSuchMode, UnknownLabel, LabelTwice, BranchOutOfRange, RunsPast, IndirectAtPageEnd, NoMemory}
 use Rattle.tb_asm.specs.Layout.{Entry, instr, label, bytes, word, size_of, size, has_mode, same_name, labels_from, address_in, value_in, distance, is_near, with_value, reach_fault, code_fault, first_fault, place_refusal, image_of}
 use Rattle.tb_asm.specs.Assembled.{refusal, either, RefusesAt}
-use Rattle.tb_asm.specs.Settle.{Form, kept, long, inverse, items_at, items_from, form_size, is_beyond, is_far, form_past, past_from, unknown_fault, early_refusal, SettlesTo, SettleRefuses, early, late, some_branch_far, AllReach}
+use Rattle.tb_asm.specs.Settle.{Form, kept, long, inverse, items_at, items_from, form_size, is_beyond, is_far, form_past, past_from, unknown_fault, early_refusal, SettlesTo, some_branch_far, AllReach}
 use Rattle.tb_asm.specs.Marks.{SettleErr}
 use Rattle.tb_asm.specs.Suited.{names_of, AreDistinct, AllReachFrom, Suited}
 use Rattle.tb_asm.proofs.Faults.{first_none}
-use Rattle.tb_asm.proofs.Settled.{settled_as_they_are, settled_reaches}
-use Rattle.tb_asm.proofs.Suits.{and_true, placed_suits, ends_below, suited_accepted}
+use Rattle.tb_asm.proofs.Settled.{settled_as_they_are, settled_reaches, only_memory}
+use Rattle.tb_asm.proofs.Suits.{placed_suits, ends_below, suited_accepted}
 use Rattle.tb_settling.specs.Settled.{IsFormOf, AreFormsOf, IsSettled, IsLaid, most, may_move, AllKnown, Suits}
 use Rattle.tb_settling.proofs.Forms.{is_branch, kept_forms, settled_forms, settled_by, forms_size, kept_size, items_size, forms_most, items_names}
 
@@ -41,13 +42,13 @@ form_modes : (a : ℕ) (e : Entry) (f : Form) → IsFormOf e f → has_mode e �
 unfolding encoded
 form_modes a e (kept k) h m = ap (λ b. b && true) (ap has_mode h ∙ m)
 form_modes a e (long n l) h m =
-    let there = (and_true (is_some (encoded n Relative)) true (ap has_mode (sym (is_branch e n l h)) ∙ m)).0 in
+    let there = (and_parts (is_some (encoded n Relative)) true (ap has_mode (sym (is_branch e n l h)) ∙ m)).0 in
     ap (λ b. (b && true) && true) (inverse_mode n there)
 
 all_append : (xs ys : List Entry) → list_all has_mode xs ≡ true → list_all has_mode ys ≡ true → list_all has_mode (xs ++ ys) ≡ true
 all_append [] ys h k = k
 all_append (x ∷ xs) ys h k =
-    let t = and_true (has_mode x) (list_all has_mode xs) h in
+    let t = and_parts (has_mode x) (list_all has_mode xs) h in
     λ i. t.0 i && all_append xs ys t.1 k i
 
 items_modes : (a : ℕ) (es : List Entry) (fs : List Form) → AreFormsOf es fs → list_all has_mode es ≡ true → list_all has_mode (items_from a fs) ≡ true
@@ -55,7 +56,7 @@ items_modes a [] [] h m = refl
 items_modes a [] (f ∷ fs) h m = absurd h
 items_modes a (e ∷ es) [] h m = absurd h
 items_modes a (e ∷ es) (f ∷ fs) h m =
-    let t = and_true (has_mode e) (list_all has_mode es) m in
+    let t = and_parts (has_mode e) (list_all has_mode es) m in
     all_append (items_at a f) (items_from (a + form_size f) fs) (form_modes a e f h.0 t.0) (items_modes (a + form_size f) es fs h.1 t.1)
 
 -- ---- labels
@@ -165,23 +166,19 @@ over_reaches a v h e =
     let three : distance a v ≡ 3 = omega (arith, h, e) in
     ap (λ d. if is_near d then None else Some BranchOutOfRange) three
 
-either_false : (p q : Bool) → (p || q) ≡ false → (p ≡ false) × (q ≡ false)
-either_false false q h = (refl, h)
-either_false true q h = absurd (true≢false h)
-
 items_reach : (labels : List (Name × ℕ)) (a : ℕ) (es : List Entry) (fs : List Form) → AreFormsOf es fs → AllKnown labels es → list_all may_move es ≡ true
     → a + forms_size fs < 65536 → some_branch_far labels a (items_from a fs) ≡ false → AllReachFrom labels a (items_from a fs)
 items_reach labels a [] [] h k m l r = tt
 items_reach labels a [] (f ∷ fs) h k m l r = absurd h
 items_reach labels a (e ∷ es) [] h k m l r = absurd h
 items_reach labels a (e ∷ es) (kept x ∷ fs) h k m l r =
-    let t = and_true (may_move e) (list_all may_move es) m in
-    let near = either_false (is_far labels a x) (some_branch_far labels (a + size_of x) (items_from (a + size_of x) fs)) r in (
+    let t = and_parts (may_move e) (list_all may_move es) m in
+    let near = or_parts (is_far labels a x) (some_branch_far labels (a + size_of x) (items_from (a + size_of x) fs)) r in (
       item_reaches labels a x (ap (unknown_fault labels) h.0 ∙ k.0) (ap may_move h.0 ∙ t.0) near.0,
       items_reach labels (a + size_of x) es fs h.1 k.1 t.1 (omega (arith, l)) near.1,
     )
 items_reach labels a (e ∷ es) (long n b ∷ fs) h k m l r =
-    let t = and_true (may_move e) (list_all may_move es) m in
+    let t = and_parts (may_move e) (list_all may_move es) m in
     let rest : a + 2 + 3 ≡ a + 5 = omega arith in
     let known : unknown_fault labels (instr n Relative (Label b)) ≡ None = ap (unknown_fault labels) (sym (is_branch e n b h.0)) ∙ k.0 in (
       over_reaches a ((a + 5) % 65536) (omega (arith, l)) refl,
@@ -204,14 +201,7 @@ module _ (at : ℕ) (es : List Entry) (s : Suits at es) where
   nothing_early = λ i. either (placed i) (known_first (labels_from at es) [] es s.known i)
 
   pub settling_takes : (k : AsmErrorKind) (i : ℕ) → SettleErr at es k i → k ≡ NoMemory
-  settling_takes NoMemory i h = refl
-  settling_takes k i h = absurd (none_of k i h)
-    where
-      none_of : (l : AsmErrorKind) (j : ℕ) → SettleRefuses at es l j → ⊥
-      none_of l j (early m n e) = let f : None ≡ Some (m, n) = sym nothing_early ∙ e in true≢false (sym (ap is_some f))
-      none_of l j (late n gs e r p) =
-          let f : None ≡ Some n = sym (none_past 0 at gs (forms_end gs (settled_forms at es (map kept es) gs r (kept_forms es)))) ∙ p in
-          true≢false (sym (ap is_some f))
+  settling_takes = only_memory at es nothing_early (λ gs r. none_past 0 at gs (forms_end gs (settled_forms at es (map kept es) gs r (kept_forms es))))
 
   -- settled items suit as they are
   module _ (items : List Entry) (to : IsSettled at es items) where

@@ -2,6 +2,7 @@
 use Rattle.std.proofs.Common.{◌≡◌, ℕ, ◌+◌, ◌≤◌, Bool, true, false, not, ◌||◌, List, [], ◌∷◌, ◌++◌, Option, Some, None, refl, sym, ap, ◌∙◌, subst, arith, add_assoc, append_assoc, true≢false, is_some, map, if◌then◌else◌}
 use Rattle.std.specs.List.{list_all}
 use Rattle.std.proofs.lemmas.List.{append-nil}
+use Rattle.std.proofs.lemmas.Bool.{and_parts, or_parts}
 use Rattle.tb_opcodes.specs.declared.Mnemonic.{Mnemonic}
 use Rattle.tb_asm.specs.declared.names.Name.{Name}
 use Rattle.tb_opcodes.specs.declared.Mode.TheVariants.{Relative}
@@ -9,7 +10,8 @@ use Rattle.tb_asm.specs.declared.items.Operand.TheVariants.{Label}
 use Rattle.tb_asm.specs.Layout.{Entry, instr, size_of, size}
 use Rattle.tb_asm.specs.Settle.{Form, kept, long, branch_to, items_at, items_from, form_size, form_far, is_far, long_of, lengthened, widen, round, round_labels, Settles, done, more, SettlesTo, some_branch_far, AllReach}
 use Rattle.tb_asm.specs.Suited.{name_at, names_of}
-use Rattle.tb_asm.proofs.Suits.{and_true, names_append}
+use Rattle.tb_asm.proofs.Suits.{names_append}
+use Rattle.tb_asm.proofs.RoundLabels.{size_at}
 use Rattle.tb_settling.specs.Settled.{IsFormOf, AreFormsOf, IsSettled, most_of, most}
 
 -- ---- a branch to a label, by what it is
@@ -71,17 +73,13 @@ pub kept_size : (es : List Entry) → forms_size (map kept es) ≡ size es
 kept_size [] = refl
 kept_size (e ∷ es) = ap (λ n. size_of e + n) (kept_size es)
 
-form_items_size : (a : ℕ) (f : Form) → size (items_at a f) ≡ form_size f
-form_items_size a (kept e) = omega arith
-form_items_size a (long n l) = refl
-
 pub size_append : (xs ys : List Entry) → size (xs ++ ys) ≡ size xs + size ys
 size_append [] ys = omega arith
 size_append (x ∷ xs) ys = ap (λ n. size_of x + n) (size_append xs ys) ∙ sym (add_assoc (size_of x) (size xs) (size ys))
 
 pub items_size : (a : ℕ) (fs : List Form) → size (items_from a fs) ≡ forms_size fs
 items_size a [] = refl
-items_size a (f ∷ fs) = size_append (items_at a f) (items_from (a + form_size f) fs) ∙ (λ i. form_items_size a f i + items_size (a + form_size f) fs i)
+items_size a (f ∷ fs) = size_append (items_at a f) (items_from (a + form_size f) fs) ∙ (λ i. size_at a f i + items_size (a + form_size f) fs i)
 
 item_most : (e : Entry) (o : Option (Mnemonic × Name)) → branch_to e ≡ o → size_of e ≤ (if is_some o then 5 else size_of e)
 item_most e None h = omega arith
@@ -128,16 +126,12 @@ split (x ∷ xs) ys (f ∷ fs) h =
     let s = split xs ys fs h.1 in
     record { front = f ∷ s.front; back = s.back; are = ap (λ t. f ∷ t) s.are; of_front = (h.0, s.of_front); of_back = s.of_back }
 
-either_false : (p q : Bool) → (p || q) ≡ false → (p ≡ false) × (q ≡ false)
-either_false false q h = (refl, h)
-either_false true q h = absurd (true≢false h)
-
 -- where all branches of two lists reach, those of each do
 pub near_split : (labels : List (Name × ℕ)) (a : ℕ) (xs ys : List Entry) → some_branch_far labels a (xs ++ ys) ≡ false
     → (some_branch_far labels a xs ≡ false) × (some_branch_far labels (a + size xs) ys ≡ false)
 near_split labels a [] ys h = (refl, ap (λ n. some_branch_far labels n ys) (let e : a + 0 ≡ a = omega arith in e) ∙ h)
 near_split labels a (x ∷ xs) ys h =
-    let here = either_false (is_far labels a x) (some_branch_far labels (a + size_of x) (xs ++ ys)) h in
+    let here = or_parts (is_far labels a x) (some_branch_far labels (a + size_of x) (xs ++ ys)) h in
     let rest = near_split labels (a + size_of x) xs ys here.1 in
     ((λ i. here.0 i || rest.0 i), ap (λ n. some_branch_far labels n ys) (sym (add_assoc a (size_of x) (size xs))) ∙ rest.1)
 
@@ -168,5 +162,5 @@ straight_forms [] [] s h = refl
 straight_forms [] (f ∷ fs) s h = absurd h
 straight_forms (e ∷ es) [] s h = absurd h
 straight_forms (e ∷ es) (f ∷ fs) s h =
-    let t = and_true (is_straight e) (list_all is_straight es) s in
+    let t = and_parts (is_straight e) (list_all is_straight es) s in
     λ i. straight_form e f t.0 h.0 i ∷ straight_forms es fs t.1 h.1 i

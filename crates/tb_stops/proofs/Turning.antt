@@ -4,6 +4,7 @@ use Rattle.std.specs.Prelude.{filter, not, if◌then◌else◌}
 use Rattle.std.specs.List.{insert}
 use Rattle.std.proofs.lemmas.Bool.{eqb-true}
 use Rattle.std.proofs.lemmas.List.{take-append-drop}
+use Rattle.std.proofs.Math.Bool.{or-false}
 use Rattle.tb_words.specs.declared.Letter.{Letter}
 use Rattle.tb_words.specs.Letters.{place}
 use Rattle.tb_stops.specs.Stops.{Turned, WatchTurned, is_among, is_watched}
@@ -56,10 +57,6 @@ no_more : (b : Bool) → false ≡ (b && false)
 no_more true = refl
 no_more false = refl
 
-or_false : (b : Bool) → (b || false) ≡ b
-or_false true = refl
-or_false false = refl
-
 lines_kept : (xs : List ℕ) (line n : ℕ) → is_among (filter (λ x. not (nat_eq x line)) xs) n ≡ (not (nat_eq n line) && is_among xs n)
 lines_kept [] line n = no_more (not (nat_eq n line))
 lines_kept (x ∷ xs) line n = go (nat_eq x line) refl (lines_kept xs line n)
@@ -84,7 +81,7 @@ watched_append (x ∷ xs) ys n = ap (λ b. nat_eq n (place x) || b) (watched_app
 
 pub watch_set : (xs : List Letter) (w : Letter) → is_watched xs (place w) ≡ false → WatchTurned (place w) xs (xs ++ w ∷ [])
 watch_set xs w none n =
-    watched_append xs (w ∷ []) n ∙ moved (is_watched xs n) (nat_eq n (place w)) false ∙ ap (λ b. nat_eq n (place w) || b) (or_false (is_watched xs n))
+    watched_append xs (w ∷ []) n ∙ moved (is_watched xs n) (nat_eq n (place w)) false ∙ ap (λ b. nat_eq n (place w) || b) (or-false (is_watched xs n))
     ∙ set_where (nat_eq n (place w)) (is_watched xs n) (λ e. ap (is_watched xs) (eqb-true n (place w) e) ∙ none)
 
 watches_kept : (xs : List Letter) (index n : ℕ) → is_watched (filter (λ x. not (nat_eq (place x) index)) xs) n ≡ (not (nat_eq n index) && is_watched xs n)

@@ -2,6 +2,7 @@
 use Rattle.std.proofs.Common.{◌≡◌, ℕ, ◌+◌, Bool, true, false, List, [], ◌∷◌, ◌++◌, refl, sym, ap, ◌∙◌, is_some, true≢false, Option, Some, None}
 use Rattle.std.specs.Prelude.{◌&&◌, if◌then◌else◌, nat_lt}
 use Rattle.std.specs.List.{list_all}
+use Rattle.std.proofs.lemmas.Bool.{and_from}
 use Rattle.tb_opcodes.specs.declared.Mnemonic.{Mnemonic}
 use Rattle.tb_opcodes.specs.declared.Mnemonic.TheVariants.{Lda, Sta}
 use Rattle.tb_opcodes.specs.declared.Mode.{Mode}
@@ -41,9 +42,6 @@ encoded_by : (n : Mnemonic) (m : Mode) → encoded n m ≡ find_opcode rows n m
 unfolding encoded
 encoded_by n m = refl
 
-both : (p q : Bool) → p ≡ true → q ≡ true → (p && q) ≡ true
-both p q h k = ap (λ b. b && q) h ∙ k
-
 left_true : (p q : Bool) → (p && q) ≡ true → p ≡ true
 left_true true q h = refl
 left_true false q h = h
@@ -55,7 +53,7 @@ right_true false q h = absurd (true≢false (sym h))
 has_form_mode : (e : Entry) → has_form e ≡ true → has_mode e ≡ true
 has_form_mode (instr n m o) h =
     let rest = right_true (is_some (find_opcode rows n m)) (suits m o && may_move (instr n m o)) h in
-    both (is_some (encoded n m)) (suits m o) (ap is_some (encoded_by n m) ∙ left_true (is_some (find_opcode rows n m)) (suits m o && may_move (instr n m o)) h) (left_true (suits m o) (may_move (instr n m o)) rest)
+    and_from (is_some (encoded n m)) (suits m o) (ap is_some (encoded_by n m) ∙ left_true (is_some (find_opcode rows n m)) (suits m o && may_move (instr n m o)) h) (left_true (suits m o) (may_move (instr n m o)) rest)
 has_form_mode (label n) h = refl
 has_form_mode (bytes bs) h = refl
 has_form_mode (word o) h = h
@@ -70,12 +68,12 @@ has_form_moves (word o) h = refl
 all_by : (p q : Entry → Bool) → ((e : Entry) → p e ≡ true → q e ≡ true) → (es : List Entry) → list_all p es ≡ true → list_all q es ≡ true
 all_by p q f [] h = refl
 all_by p q f (e ∷ es) h =
-    both (q e) (list_all q es) (f e (left_true (p e) (list_all p es) h)) (all_by p q f es (right_true (p e) (list_all p es) h))
+    and_from (q e) (list_all q es) (f e (left_true (p e) (list_all p es) h)) (all_by p q f es (right_true (p e) (list_all p es) h))
 
 forms_append : (xs ys : List Entry) → list_all has_form xs ≡ true → list_all has_form ys ≡ true → list_all has_form (xs ++ ys) ≡ true
 forms_append [] ys h k = k
 forms_append (x ∷ xs) ys h k =
-    both (has_form x) (list_all has_form (xs ++ ys)) (left_true (has_form x) (list_all has_form xs) h) (forms_append xs ys (right_true (has_form x) (list_all has_form xs) h) k)
+    and_from (has_form x) (list_all has_form (xs ++ ys)) (left_true (has_form x) (list_all has_form xs) h) (forms_append xs ys (right_true (has_form x) (list_all has_form xs) h) k)
 
 -- ── single instructions ──
 -- by either mode of a place

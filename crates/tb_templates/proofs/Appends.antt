@@ -2,7 +2,6 @@
 use Rattle.std.proofs.Common.{◌≡◌, List, ◌++◌, append_assoc, ap, ◌∙◌}
 use Rattle.std.proofs.Common.{ℕ, Bool, true, false, [], subst}
 use Rattle.std.proofs.lemmas.List.{append-nil}
-use Rattle.std.specs.Prelude.{Result, Ok, Err, OnOk}
 use Rattle.tb_asm.specs.Layout.{Entry}
 use Rattle.tb_runtime16.specs.Places.{LINE}
 use Rattle.tb_templates.specs.Templates.{constant}
@@ -24,8 +23,3 @@ after_line o m n a u t k e p q = subst (λ t. n ≡ o ++ lined t k a) e (by u p)
     by : (u : Bool) → m ≡ o ++ lined u k [] → n ≡ o ++ lined u k a
     by true p = two o m n (constant k LINE) a p q
     by false p = q ∙ ap (λ x. x ++ a) (p ∙ append-nil o)
-
--- the last piece, where there was memory for it
-pub ends : {U E : Type 0} {P Q : Type 0} (r : Result U E) → (P → Q) → OnOk r P → OnOk r Q
-ends (Ok u) f h = f h
-ends (Err e) f h = tt

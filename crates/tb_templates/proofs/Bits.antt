@@ -1,25 +1,9 @@
 -- The bits of a factor below its highest one are as many as it has, however many are asked for.
-use Rattle.std.proofs.Common.{◌≡◌, ℕ, zero, suc, ◌+◌, ◌*◌, ◌/◌, ◌%◌, ◌<◌, ◌≤◌, Bool, true, false, [], ◌++◌, refl, ap, arith}
+use Rattle.std.proofs.Common.{◌≡◌, ℕ, zero, suc, ◌+◌, ◌*◌, ◌/◌, ◌%◌, ◌<◌, ◌≤◌, Bool, true, false, [], refl, ap, arith}
 use Rattle.std.specs.Prelude.{if◌then◌else◌, nat_eq, nat_lt}
 use Rattle.std.proofs.lemmas.Bool.{lt-ltb}
-use Rattle.tb_templates.specs.Sources.{Source}
-use Rattle.tb_templates.specs.Scaled.{by_bit, by_bits, bits_size}
-
-abbrev pow2 : ℕ → ℕ
-pow2 zero = 1
-pow2 (suc k) = pow2 k + pow2 k
-
-one_bit : (k factor : ℕ) (a : Source) → factor < 2 → by_bits (suc k) factor a ≡ []
-one_bit k factor a h = ap (λ t. if t then [] else by_bits k (factor / 2) a ++ by_bit (nat_eq (factor % 2) 1) a) (lt-ltb factor 2 h)
-
-bits_same : (k factor : ℕ) (a : Source) → factor < pow2 (suc k) → by_bits (suc k) factor a ≡ by_bits k factor a
-bits_same zero factor a h = one_bit 0 factor a (omega (arith, h))
-bits_same (suc k) factor a h =
-    let half : factor / 2 < pow2 (suc k) = omega (arith, h) in
-    ap (λ es. if nat_lt factor 2 then [] else es ++ by_bit (nat_eq (factor % 2) 1) a) (bits_same k (factor / 2) a half)
-
-pub half_bits : (factor : ℕ) (a : Source) → factor < 65536 → by_bits 15 (factor / 2) a ≡ by_bits 14 (factor / 2) a
-half_bits factor a h = let e : pow2 15 ≡ 32768 = refl in bits_same 14 (factor / 2) a (omega (arith, h, e))
+use Rattle.tb_templates.specs.Scaled.{bits_size}
+use Rattle.tb_words.proofs.Powers.{pow2}
 
 one_size : (k factor : ℕ) → factor < 2 → bits_size (suc k) factor ≡ 0
 one_size k factor h = ap (λ t. if t then 0 else bits_size k (factor / 2) + (if nat_eq (factor % 2) 1 then 16 else 3)) (lt-ltb factor 2 h)

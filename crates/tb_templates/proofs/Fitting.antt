@@ -13,7 +13,7 @@ use Rattle.tb_words.specs.declared.Rel.{Rel}
 use Rattle.tb_words.specs.declared.Rel.TheVariants.{Eq, Lt, Gt, Le, Ge, Ne}
 use Rattle.tb_syntax.specs.declared.expressions.Operator.{Operator}
 use Rattle.tb_syntax.specs.declared.expressions.Operator.TheVariants.{Add, Subtract, Multiply, Divide}
-use Rattle.tb_syntax.specs.Source.{Expression, Number, Variable, Binary, Item, Text, Value, Zone, Command, Let, Print, If, Goto, Gosub, Remark, Numbered, Program, numbers}
+use Rattle.tb_syntax.specs.Source.{Expression, Number, Variable, Binary, Item, Text, Value, Zone, Command, Let, Print, If, Goto, Gosub, Remark, Program}
 use Rattle.tb_syntax.specs.Source as source
 use Rattle.tb_lower.specs.Control.{has_line}
 use Rattle.tb_lower.specs.Cost.{nodes, item_cost, command_cost, cost}

@@ -1,7 +1,8 @@
 -- Instructions that name no label, as the code for constants is: what is asked of items holds of each of them.
-use Rattle.std.proofs.Common.{◌≡◌, ℕ, zero, suc, ◌+◌, ◌/◌, ◌%◌, ◌≤◌, Bool, true, false, List, [], ◌∷◌, ◌++◌, refl, ap, ◌∙◌, is_some, None}
+use Rattle.std.proofs.Common.{◌≡◌, ℕ, zero, suc, ◌+◌, ◌/◌, ◌%◌, ◌≤◌, Bool, true, false, List, [], ◌∷◌, ◌++◌, refl, ap, is_some, None}
 use Rattle.std.specs.Prelude.{◌&&◌, if◌then◌else◌, nat_eq, nat_lt}
 use Rattle.std.specs.List.{list_all}
+use Rattle.std.proofs.lemmas.Bool.{and_from}
 use Rattle.tb_opcodes.specs.declared.Mnemonic.{Mnemonic}
 use Rattle.tb_opcodes.specs.declared.Mnemonic.TheVariants.{Adc, And, Asl, Clc, Cmp, Eor, Lda, Rol, Ror, Sbc, Sta, Tax, Txa}
 use Rattle.tb_opcodes.specs.declared.Mode.{Mode}
@@ -41,16 +42,13 @@ pub plain_append : (xs ys : List Entry) → ArePlain xs → ArePlain ys → AreP
 plain_append [] ys h k = k
 plain_append (x ∷ xs) ys h k = (h.0, plain_append xs ys h.1 k)
 
-both : (p q : Bool) → p ≡ true → q ≡ true → (p && q) ≡ true
-both p q h k = ap (λ b. b && q) h ∙ k
-
 pub plain_forms : (es : List Entry) → ArePlain es → list_all has_form es ≡ true
 plain_forms [] h = refl
-plain_forms (e ∷ es) h = both (has_form e) (list_all has_form es) h.0.form (plain_forms es h.1)
+plain_forms (e ∷ es) h = and_from (has_form e) (list_all has_form es) h.0.form (plain_forms es h.1)
 
 pub plain_straight : (es : List Entry) → ArePlain es → list_all is_straight es ≡ true
 plain_straight [] h = refl
-plain_straight (e ∷ es) h = both (is_straight e) (list_all is_straight es) h.0.straight (plain_straight es h.1)
+plain_straight (e ∷ es) h = and_from (is_straight e) (list_all is_straight es) h.0.straight (plain_straight es h.1)
 
 pub plain_known : (labels : List (Name × ℕ)) (es : List Entry) → ArePlain es → AllKnown labels es
 plain_known labels [] h = tt

@@ -2,6 +2,7 @@
 use Rattle.std.proofs.Common.{◌≡◌, ℕ, ◌+◌, ◌%◌, ◌/◌, Bool, true, false, List, [], ◌∷◌, ◌++◌, refl, sym, ap, arith, subst, append_assoc, append-nil, Option, Some, None, is_some, true≢false}
 use Rattle.std.specs.Prelude.{option_map, if◌then◌else◌, ◌||◌, nat_lt, nat_eq}
 use Rattle.std.proofs.lemmas.Bool.Decides.{nat_tests}
+use Rattle.std.proofs.lemmas.Bool.{or_right, eq-eqb}
 use Rattle.tb_opcodes.specs.declared.Mnemonic.{Mnemonic}
 use Rattle.tb_opcodes.specs.declared.Mnemonic.TheVariants.{Adc, Cmp, Lda, Sbc, Sta}
 use Rattle.tb_opcodes.specs.declared.Mode.TheVariants.{Absolute, ZeroPage}
@@ -71,15 +72,8 @@ pub record Known (labels : List (Name × ℕ)) (ns : List ℕ) : Type 0 where
   pub find : Stands labels target.Find
   pub table : Stands labels target.Table
 
-same_number : (n : ℕ) → nat_eq n n ≡ true
-same_number n = grind (arith, nat_tests)
-
-or_right : (p q : Bool) → q ≡ true → (p || q) ≡ true
-or_right true q h = refl
-or_right false q h = h
-
 first_line : (n : ℕ) (ns : List ℕ) → has_line (n ∷ ns) n ≡ true
-first_line n ns = ap (λ b. b || has_line ns n) (same_number n)
+first_line n ns = ap (λ b. b || has_line ns n) (eq-eqb n n refl)
 
 next_stands : (labels : List (Name × ℕ)) (ns : List ℕ) (n : ℕ) → LinesStand labels ns → Stands labels target.Past → Stands labels (next_line ns n)
 next_stands labels [] n h p = p

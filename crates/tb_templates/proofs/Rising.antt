@@ -3,9 +3,10 @@ use Rattle.std.proofs.Common.{◌≡◌, ℕ, ◌+◌, ◌-◌, ◌*◌, ◌/◌
 use Rattle.std.specs.Prelude.{if◌then◌else◌}
 use Rattle.tb_asm.specs.declared.names.Name.{Name}
 use Rattle.tb_asm.specs.Layout.{Entry, instr, label, bytes, word}
+use Rattle.tb_asm.specs.Parts.{hex_digit}
 use Rattle.tb_templates.specs.declared.labels.Inner.{Inner}
 use Rattle.tb_templates.specs.declared.labels.Target.TheVariants.{Line, Inside, Break}
-use Rattle.tb_templates.specs.Labels.{label_of, letter_of, digit_of}
+use Rattle.tb_templates.specs.Labels.{label_of, letter_of}
 
 -- ── a number for each label ──
 abbrev digit_value : ℕ → ℕ
@@ -21,13 +22,13 @@ key l = ((slice_index l 0 * 65536 + word_value l 1) * 65536 + word_value l 5) * 
 abbrev pub base : ℕ → ℕ → ℕ
 base n i = ((76 * 65536 + n) * 65536 + i) * 256
 
-digit_back : (d : ℕ) → d < 16 → digit_value (digit_of d) ≡ d
+digit_back : (d : ℕ) → d < 16 → digit_value (hex_digit d) ≡ d
 digit_back d h = by (nat_lt d 10) refl
   where
-    by : (t : Bool) → nat_lt d 10 ≡ t → digit_value (digit_of d) ≡ d
+    by : (t : Bool) → nat_lt d 10 ≡ t → digit_value (hex_digit d) ≡ d
     by t e = grind (arith)
 
-word_back : (n : ℕ) → n < 65536 → 4096 * digit_value (digit_of (n / 4096)) + 256 * digit_value (digit_of (n / 256 % 16)) + 16 * digit_value (digit_of (n / 16 % 16)) + digit_value (digit_of (n % 16)) ≡ n
+word_back : (n : ℕ) → n < 65536 → 4096 * digit_value (hex_digit (n / 4096)) + 256 * digit_value (hex_digit (n / 256 % 16)) + 16 * digit_value (hex_digit (n / 16 % 16)) + digit_value (hex_digit (n % 16)) ≡ n
 word_back n h =
     let a = digit_back (n / 4096) (omega (arith, h)) in
     let b = digit_back (n / 256 % 16) (omega arith) in

@@ -1,14 +1,11 @@
 -- Worked rows: the items of lines.
 use Rattle.std.specs.Prelude.{◌≡◌, ℕ, true, List, [], ◌∷◌, ◌++◌, refl, false, Some, None}
-use Rattle.tb_opcodes.specs.declared.Mnemonic.{Mnemonic}
-use Rattle.tb_opcodes.specs.declared.Mode.TheVariants.{ZeroPage}
 use Rattle.tb_opcodes.specs.declared.Mnemonic.TheVariants.{Adc, Bcc, Bcs, Bmi, Bne, Bpl, Bvc, Clc, Cmp, Eor, Dec, Inc, Jmp, Lda, Ldx, Ldy, Rts, Sbc, Sec, Sta, And, Asl, Rol, Ror, Tax, Txa, Beq, Ora}
 use Rattle.tb_words.specs.declared.Rel.TheVariants.{Eq, Ge, Gt, Le, Lt, Ne}
 use Rattle.tb_syntax.specs.declared.expressions.Operator.TheVariants.{Add, Subtract, Divide, Multiply}
 use Rattle.tb_syntax.specs.Source.{Number, Variable, Negate, Random, Value, Binary, Command, Let, Print, If, Goto, Gosub, End}
 use Rattle.tb_lower.specs.Lowered as lowered
-use Rattle.tb_asm.specs.declared.items.Operand.TheVariants.{Byte}
-use Rattle.tb_asm.specs.Layout.{Entry, instr}
+use Rattle.tb_asm.specs.Layout.{Entry}
 use Rattle.tb_runtime16.specs.Places.{LEFT, DIVIDE_AT, RANDOM_AT, NUMBER_AT, PUSH_AT, FAULT_LINE_AT}
 use Rattle.tb_templates.specs.declared.labels.Inner.TheVariants.{Behind, Skip}
 use Rattle.tb_templates.specs.declared.labels.Target.TheVariants.{Break, Line, Inside}
@@ -20,10 +17,6 @@ use Rattle.tb_templates.specs.Program.{line_code}
 -- the items of a line of a program with the lines 10, 20 and 30
 abbrev items : ℕ → Command → List Entry
 items n c = line_code (10 ∷ 20 ∷ 30 ∷ []) 1 (record { number = n; content = lowered.list_code c })
-
--- an instruction on a byte of page zero
-abbrev page_zero : Mnemonic → ℕ → Entry
-page_zero mnemonic place = instr mnemonic ZeroPage (Byte place)
 
 -- 10 LET A=B+1: the variables stand at $C000 and $C002, the line's number at $C03A
 sum : items 10 (Let 0 (Binary Add (Variable 1) (Number 1)))
@@ -40,7 +33,7 @@ negation = refl
 -- 10 LET A=RND(6), which cannot fault and of which the first state is 1: the two go to $FB and $FD, the number comes at $C066
 draw : items 10 (Let 0 (Random (Number 6)))
     ≡ here (Line 10) ∷ call 0xFFE4 ∷ const Cmp 3 ∷ branch Beq (Break 10)
-    ∷ const Lda 6 ∷ page_zero Sta 0xFB ∷ const Lda 0 ∷ page_zero Sta 0xFC ∷ const Lda 1 ∷ page_zero Sta 0xFD ∷ const Lda 0 ∷ page_zero Sta 0xFE ∷ call RANDOM_AT
+    ∷ const Lda 6 ∷ at_zero Sta 0xFB ∷ const Lda 0 ∷ at_zero Sta 0xFC ∷ const Lda 1 ∷ at_zero Sta 0xFD ∷ const Lda 0 ∷ at_zero Sta 0xFE ∷ call RANDOM_AT
     ∷ at Lda 0xC066 ∷ at Sta 0xC000 ∷ at Lda 0xC067 ∷ at Sta 0xC001 ∷ []
 draw = refl
 
@@ -142,9 +135,9 @@ by_sign = refl
 quotient : items 30 (Print (Value (Binary Divide (Variable 0) (Variable 1)) ∷ []) true)
     ≡ here (Line 30) ∷ call 0xFFE4 ∷ const Cmp 3 ∷ branch Beq (Break 30)
     ∷ const Lda 30 ∷ at Sta 0xC03A ∷ const Lda 0 ∷ at Sta 0xC03B
-    ∷ at Lda 0xC000 ∷ page_zero Sta 0xFB ∷ at Lda 0xC001 ∷ page_zero Sta 0xFC ∷ at Lda 0xC002 ∷ page_zero Sta 0xFD ∷ at Lda 0xC003 ∷ page_zero Sta 0xFE ∷ call DIVIDE_AT
-    ∷ page_zero Lda 0xFB ∷ at Sta 0xC040 ∷ page_zero Lda 0xFC ∷ at Sta 0xC041
-    ∷ at Lda 0xC040 ∷ page_zero Sta 0xFB ∷ at Lda 0xC041 ∷ page_zero Sta 0xFC ∷ call NUMBER_AT ∷ const Lda 0 ∷ at Sta 0xC034 ∷ const Lda 13 ∷ call 0xFFD2 ∷ []
+    ∷ at Lda 0xC000 ∷ at_zero Sta 0xFB ∷ at Lda 0xC001 ∷ at_zero Sta 0xFC ∷ at Lda 0xC002 ∷ at_zero Sta 0xFD ∷ at Lda 0xC003 ∷ at_zero Sta 0xFE ∷ call DIVIDE_AT
+    ∷ at_zero Lda 0xFB ∷ at Sta 0xC040 ∷ at_zero Lda 0xFC ∷ at Sta 0xC041
+    ∷ at Lda 0xC040 ∷ at_zero Sta 0xFB ∷ at Lda 0xC041 ∷ at_zero Sta 0xFC ∷ call NUMBER_AT ∷ const Lda 0 ∷ at Sta 0xC034 ∷ const Lda 13 ∷ call 0xFFD2 ∷ []
 quotient = refl
 
 -- 10 PRINT: the column is 0 behind a 13, which goes to the service that sends bytes
@@ -177,7 +170,7 @@ stepped = refl
 -- 10 LET A=B-B/3*3: the remainder's size comes at $C066, and is below 0 where B is
 remainder : items 10 (Let 0 (Binary Subtract (Variable 1) (Binary Multiply (Binary Divide (Variable 1) (Number 3)) (Number 3))))
     ≡ here (Line 10) ∷ call 0xFFE4 ∷ const Cmp 3 ∷ branch Beq (Break 10)
-    ∷ at Lda 0xC002 ∷ page_zero Sta 0xFB ∷ at Lda 0xC003 ∷ page_zero Sta 0xFC ∷ const Lda 3 ∷ page_zero Sta 0xFD ∷ const Lda 0 ∷ page_zero Sta 0xFE ∷ call DIVIDE_AT
+    ∷ at Lda 0xC002 ∷ at_zero Sta 0xFB ∷ at Lda 0xC003 ∷ at_zero Sta 0xFC ∷ const Lda 3 ∷ at_zero Sta 0xFD ∷ const Lda 0 ∷ at_zero Sta 0xFE ∷ call DIVIDE_AT
     ∷ at Lda 0xC003 ∷ branch Bpl (Inside Skip 10 1) ∷ alone Sec ∷ const Lda 0 ∷ at Sbc 0xC066 ∷ at Sta 0xC066 ∷ const Lda 0 ∷ at Sbc 0xC067 ∷ at Sta 0xC067
     ∷ here (Inside Skip 10 1) ∷ at Lda 0xC066 ∷ at Sta 0xC000 ∷ at Lda 0xC067 ∷ at Sta 0xC001 ∷ []
 remainder = refl
@@ -234,7 +227,7 @@ by_four = refl
 divided : items 20 (If (Binary Multiply (Binary Divide (Variable 0) (Variable 1)) (Variable 1)) Ne (Variable 0) End)
     ≡ here (Line 20) ∷ call 0xFFE4 ∷ const Cmp 3 ∷ branch Beq (Break 20)
     ∷ const Lda 20 ∷ at Sta 0xC03A ∷ const Lda 0 ∷ at Sta 0xC03B
-    ∷ at Lda 0xC000 ∷ page_zero Sta 0xFB ∷ at Lda 0xC001 ∷ page_zero Sta 0xFC ∷ at Lda 0xC002 ∷ page_zero Sta 0xFD ∷ at Lda 0xC003 ∷ page_zero Sta 0xFE ∷ call DIVIDE_AT
+    ∷ at Lda 0xC000 ∷ at_zero Sta 0xFB ∷ at Lda 0xC001 ∷ at_zero Sta 0xFC ∷ at Lda 0xC002 ∷ at_zero Sta 0xFD ∷ at Lda 0xC003 ∷ at_zero Sta 0xFE ∷ call DIVIDE_AT
     ∷ at Lda 0xC066 ∷ at Ora 0xC067 ∷ branch Beq (Line 30) ∷ alone Rts ∷ []
 divided = refl
 

@@ -5,6 +5,7 @@ use Rattle.std.specs.Ordering.{nat_cmp}
 use Rattle.std.specs.List.Sorted.{IsBinarySearchResult}
 use Rattle.std.proofs.lemmas.List.Sorted.{searched}
 use Rattle.std.proofs.lemmas.Bool.Decides.{nat_tests}
+use Rattle.std.proofs.lemmas.Bool.{or_right}
 use Rattle.tb_lower.specs.Control.{has_line}
 use Rattle.tb_templates.specs.Program.{RisingFrom}
 
@@ -20,10 +21,6 @@ rises low (n ∷ ns) r zero zero le h = omega arith
 rises low (n ∷ ns) r zero (suc j) le h = let k = at_least (n + 1) ns j r.2 (omega (arith, h)) in omega (arith, k)
 rises low (n ∷ ns) r (suc i) zero le h = absurd (let no : ⊥ = omega (arith, le) in no)
 rises low (n ∷ ns) r (suc i) (suc j) le h = rises (n + 1) ns r.2 i j (omega (arith, le)) (omega (arith, h))
-
-or_right : (p q : Bool) → q ≡ true → (p || q) ≡ true
-or_right true q h = refl
-or_right false q h = h
 
 there : (ns : List ℕ) (i x : ℕ) → i < length ns → get_or ns i 0 ≡ x → has_line ns x ≡ true
 there [] i x h e = absurd (let no : ⊥ = omega (arith, h) in no)

@@ -1,18 +1,15 @@
 -- The labels of a program's code: numbers in hexadecimal digits, and letters.
-use Rattle.std.specs.Prelude.{ℕ, ◌+◌, ◌/◌, ◌%◌, List, [], ◌∷◌, nat_lt, if◌then◌else◌, codes}
+use Rattle.std.specs.Prelude.{ℕ, ◌/◌, ◌%◌, List, [], ◌∷◌, codes}
 use Rattle.tb_asm.specs.declared.names.Name.{Name}
+use Rattle.tb_asm.specs.Parts.{hex_digit}
 use Rattle.tb_templates.specs.declared.labels.Inner.{Inner}
 use Rattle.tb_templates.specs.declared.labels.Inner.TheVariants.{Text, Behind, Skip}
 use Rattle.tb_templates.specs.declared.labels.Target.{Target}
 use Rattle.tb_templates.specs.declared.labels.Target.TheVariants.{Line, Inside, Break, Past, Find, Table}
 
--- the character of a hexadecimal digit from 0 to 15, a letter from A on for 10 and above
-abbrev pub digit_of : ℕ → ℕ
-digit_of d = if nat_lt d 10 then 48 + d else 55 + d
-
 -- the four digits of a word before a text
 abbrev pub four_digits : ℕ → List ℕ → List ℕ
-four_digits w text = digit_of (w / 4096) ∷ digit_of (w / 256 % 16) ∷ digit_of (w / 16 % 16) ∷ digit_of (w % 16) ∷ text
+four_digits w text = hex_digit (w / 4096) ∷ hex_digit (w / 256 % 16) ∷ hex_digit (w / 16 % 16) ∷ hex_digit (w % 16) ∷ text
 
 -- the name that these characters make
 abbrev pub named : List ℕ → Name

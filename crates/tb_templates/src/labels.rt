@@ -1,7 +1,8 @@
 //! The places of a program's code that have a label.
 ghost use Rattle.std.specs.Prelude.{◌≡◌, ◌<◌, ◌≤◌, ◌+◌, ◌∷◌, ◌++◌, []};
 ghost use Rattle.arrayvec.specs.ArrayVec.{array_vec_len};
-ghost use Rattle.tb_templates.specs.Labels.{label_of, letter_of, digit_of, four_digits, named};
+ghost use Rattle.tb_asm.specs.Parts.{hex_digit};
+ghost use Rattle.tb_templates.specs.Labels.{label_of, letter_of, four_digits, named};
 
 use arrayvec::ArrayVec;
 use tb_asm::Name;
@@ -51,7 +52,7 @@ pub fn label(target: Target) -> Name
 // A hexadecimal digit.
 fn digit(value: u16) -> u8
     requires { value < 16 }
-    ensures { result ≡ digit_of value }
+    ensures { result ≡ hex_digit value }
 {
     if value < 10 {
         b'0' + value as u8

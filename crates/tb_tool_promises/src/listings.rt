@@ -1,7 +1,7 @@
 //! Labels, listing and map of a compiled program.
 ghost use Rattle.std.specs.Prelude.{◌≡◌, ◌+◌, ◌-◌, ◌≤◌, length, drop, map, IfOk};
 ghost use Rattle.tb_syntax.specs.Shown.{lines_of};
-ghost use Rattle.tb_lower.specs.Cost as lower;
+ghost use Rattle.tb_lower.specs.Cost as cost;
 ghost use Rattle.tb_runtime16.specs.Places.{PROLOGUE_AT};
 ghost use Rattle.tb_disasm.specs.Back.{GivesBack};
 ghost use Rattle.tb_codegen.specs.Compiled.{pair_of, prg_of, starts_of, table_of};
@@ -34,7 +34,7 @@ pub fn listing_of(alloc: Global, compiled: &Compiled, source: &[u8]) -> Result<V
 
 /// `chart`.
 pub fn map_of(alloc: Global, compiled: &Compiled, program: &Program) -> Result<Vec<u8>, AllocError>
-    requires small { lower.cost (lines_of program.now) ≤ 37888 }
+    requires small { cost.cost (lines_of program.now) ≤ 37888 }
     requires ends { PROLOGUE_AT + (length (prg_of compiled.now) - 14) ≤ 0xA000 }
     ensures { IfOk result (λ text. text.items ≡ map_text (starts_of compiled.now) (table_of compiled.now) (length (prg_of compiled.now) - 14) (lines_of program.now)) }
 {

@@ -3,7 +3,7 @@ use Rattle.std.proofs.Common.{◌≡◌, ℕ, zero, suc, ◌-◌, ◌/◌, ◌%�
 use Rattle.std.specs.Prelude.{ℤ, pos, negsuc, ◌-ℤ◌}
 use Rattle.std.proofs.lemmas.Bool.Decides.{nat_tests}
 use Rattle.std.proofs.lemmas.Int.{ints, wrapping_neg_is}
-use Rattle.std.specs.Int.{int_wrap, cast_signed, cast_unsigned, int_wrapping_div, int_wrapping_neg}
+use Rattle.std.specs.Int.{int_wrap, cast_signed, int_wrapping_div, int_wrapping_neg}
 use Rattle.std.specs.Int.RustNames.{FitsSigned, unsigned_abs, int_div}
 use Rattle.std.specs.Fmt.{signed_decimal}
 use mir.Syntax.{w16}
@@ -12,11 +12,6 @@ use Rattle.tb_words.specs.Signed.{wrapped}
 use Rattle.tb_words.proofs.Division.{read, read_quotient}
 use Rattle.tb_words.proofs.Decimal.{at_most_five_digits}
 use Rattle.tb_words.specs.Words.{word, word_of, signed, is_negative, magnitude, negated, with_sign, differ, quotient, digits_of}
-
--- the bits of a signed number are its word
-pub bits_are : (z : ℤ) → FitsSigned w16 z → cast_unsigned w16 z ≡ word_of z
-bits_are (pos n) f = omega (arith, f.sfits)
-bits_are (negsuc n) f = omega (arith, f.sfits)
 
 -- a word read as signed and back
 pub word_of-cast : (n : ℕ) → n < 65536 → word_of (cast_signed w16 n) ≡ n

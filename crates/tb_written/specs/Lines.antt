@@ -1,10 +1,8 @@
 -- The lines of a source by the numbers that they begin with.
-use Rattle.std.specs.Prelude.{ℕ, ◌+◌, ◌-◌, ◌*◌, min, Bool, ◌&&◌, ◌||◌, List, [], ◌∷◌, map, ◌==◌, nat_le, if◌then◌else◌}
+use Rattle.std.specs.Prelude.{ℕ, ◌+◌, ◌-◌, ◌*◌, min, ◌||◌, List, [], ◌∷◌, map, ◌==◌, if◌then◌else◌}
 use Rattle.tb_parser.specs.Lines.{lines_of_file}
 use Rattle.tb_written.specs.declared.lines.Numbered.{Numbered}
-
-abbrev pub is_digit : ℕ → Bool
-is_digit b = nat_le 48 b && nat_le b 57
+use Rattle.tb_grammar.specs.Reading.{is_digit}
 
 -- a number with a digit more; numbers above 65,535 are alike, for no line has one
 abbrev pub longer : ℕ → ℕ → ℕ
@@ -39,10 +37,6 @@ numbered source = map with_number (lines_of_file source)
 abbrev pub last_of : List ℕ → ℕ → List (ℕ × List ℕ) → List ℕ
 last_of found n [] = found
 last_of found n (line ∷ lines) = last_of (if line.0 == n then line.1 else found) n lines
-
--- the line of a source that has a number: of several the last one counts; empty where there is none
-abbrev pub line_of : List ℕ → ℕ → List ℕ
-line_of source n = last_of [] n (numbered source)
 
 -- a line as such a pair
 abbrev pub pair_of : Numbered → ℕ × List ℕ

@@ -1,7 +1,8 @@
 use Rattle.std.proofs.Common.{rules, ◌||◌, false, map, slice_index_or, ap, ◌∙◌}
+use Rattle.std.proofs.Math.Bool.{or-false}
 use Rattle.tb_codegen.specs.Compiled.{pair_of}
 use Rattle.tb_debug.specs.Runs.{begins_at}
-use Rattle.tb_debug.proofs.Marking.{none_marked, or_false}
+use Rattle.tb_debug.proofs.Marking.{none_marked}
 use Rattle.tb_debug.proofs.starts.marks.Goals as goal
 
 pub loop-start-init : goal.loop-start-init
@@ -9,5 +10,5 @@ loop-start-init c =
     let items = c.in_ok-begins.ensures in (
       search rules,
       λ a. ap (λ b. begins_at (map pair_of c.args.starts.now) a || b) (ap (λ xs. slice_index_or xs a false) items ∙ none_marked 65536 a)
-          ∙ or_false (begins_at (map pair_of c.args.starts.now) a),
+          ∙ or-false (begins_at (map pair_of c.args.starts.now) a),
     )

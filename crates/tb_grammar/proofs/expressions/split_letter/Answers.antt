@@ -1,4 +1,4 @@
-use Rattle.std.proofs.Common.{◌≡◌, ◌-◌, ◌+◌, ◌<◌, ℕ, arith, inl}
+use Rattle.std.proofs.Common.{◌-◌, ◌<◌, ℕ, arith, inl}
 use Rattle.tb_words.specs.Letters.{Spells}
 use Rattle.tb_grammar.specs.Grammar.{IsLetter}
 use Rattle.tb_grammar.proofs.expressions.split_letter.Goals as goal

@@ -1,4 +1,4 @@
-use Rattle.std.proofs.Common.{ℕ, ◌≡◌, ◌++◌, ◌≤◌, arith, ap, sym, map, subst, ◌∙◌}
+use Rattle.std.proofs.Common.{ℕ, ◌≡◌, ◌≤◌, arith, ap, map, subst, ◌∙◌}
 use Rattle.tb_syntax.specs.Shown.{lines_of}
 use Rattle.tb_syntax.specs.Source.{Program, numbers}
 use Rattle.tb_syntax.specs.Texts.{HasShortTexts}

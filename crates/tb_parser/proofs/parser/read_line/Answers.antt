@@ -1,5 +1,6 @@
 use Rattle.std.proofs.Common.{◌≡◌, ◌≢◌, ◌∙◌, arith, ℕ, List, [], ◌∷◌, true, false, length, sym, refl, Some, Err, IfSome, ◌==◌}
 use Rattle.std.proofs.lemmas.Result.{err_from_is_err_and}
+use Rattle.std.proofs.lemmas.Bool.{eqb-true}
 use Rattle.tb_syntax.specs.Source.{Command}
 use Rattle.tb_syntax.specs.Shown.{command_of}
 use Rattle.tb_grammar.specs.Statements.{States}
@@ -9,7 +10,6 @@ use Rattle.tb_parser.specs.Answers.{Says, edit_of, refusal_of}
 use Rattle.tb_parser.specs.Readings.{LineIs, IsFit, IsUnfit, IsLineNumber, IsNumbered, TextIs, blank, unfit, unnumbered, bad_line_number, deletes, sets, unread}
 use Rattle.tb_parser.specs.Scans.{first_written, number_at}
 use Rattle.tb_parser.specs.Squeezed.{squeezed}
-use Rattle.tb_parser.proofs.Steps.{same_number}
 use Rattle.tb_parser.proofs.Told.{passes}
 use Rattle.tb_parser.proofs.parser.read_line.Goals as goal
 
@@ -26,7 +26,7 @@ not_empty (p ∷ text) e = λ h. cc
 
 is_empty : (text : List Placed) → (length text == 0) ≡ true → text ≡ []
 is_empty [] e = refl
-is_empty (p ∷ text) e = let none : length (p ∷ text) ≡ 0 = same_number (length (p ∷ text)) 0 e in absurd (omega arith)
+is_empty (p ∷ text) e = let none : length (p ∷ text) ≡ 0 = eqb-true (length (p ∷ text)) 0 e in absurd (omega arith)
 
 numbered : (line : List ℕ) (number : ℕ) (text : List Placed) → IsFit line → IsLineNumber number → (number_at 0 (squeezed line)).value ≡ number → (number_at 0 (squeezed line)).rest ≡ text → IsNumbered line number text
 numbered line number text fit range value rest = record { fit = fit; value = value; rest = rest; in_range = range }

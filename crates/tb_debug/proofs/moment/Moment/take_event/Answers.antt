@@ -1,10 +1,10 @@
 use Rattle.std.proofs.Common.{ap, refl, ◌∙◌, arith}
 use Rattle.std.specs.Prelude.{◌&&◌, if◌then◌else◌}
 use Rattle.tb_debug.specs.Besides.{event_at}
-use Rattle.tb_debug.specs.Events.{is_own}
 use Rattle.tb_debug.specs.Runs.{is_marked, shown}
 use Rattle.tb_debug.proofs.Besides.{given_at}
 use Rattle.tb_debug.proofs.Running.{behind_by, one_more, opened_where, runs_on}
+use Rattle.tb_kernal.specs.Runs.{is_own}
 use Rattle.tb_debug.proofs.moment.Moment.take_event.Goals as goal
 
 pub returns-clause-run : goal.returns-clause-run

@@ -1,10 +1,10 @@
 use Rattle.std.proofs.Common.{rules, ◌≡◌, ◌≤◌, ap, ◌∙◌, refl, arith, length, slice_index, List, ℕ, replicate}
 use Rattle.std.proofs.lemmas.List.{length-replicate}
-use Rattle.tb_profile.proofs.Marking.{zero_at}
+use Rattle.tb_memmap.proofs.View.{zeros}
 use Rattle.tb_profile.proofs.tally.Tally.new.Goals as goal
 
 zeros_at : (xs : List ℕ) → xs ≡ replicate 65536 0 → (k : ℕ) → slice_index xs k ≡ 0
-zeros_at xs h k = ap (λ ys. slice_index ys k) h ∙ zero_at 65536 k
+zeros_at xs h k = ap (λ ys. slice_index ys k) h ∙ zeros 65536 k
 
 zeros_length : (xs : List ℕ) → xs ≡ replicate 65536 0 → length xs ≡ 65536
 zeros_length xs h = ap length h ∙ length-replicate {A = ℕ} 65536 0
