@@ -91,7 +91,7 @@ code_behind [] a lines = []
 code_behind (b ∷ bytes) a lines = code_line a (b ∷ bytes) ∷ lines
 
 -- at most so many lines of code from an address on, up to a closed place
-abbrev pub code_of : ℕ → (ℕ → ℕ) → ℕ → List (ℕ × Entry)
+unfoldable pub code_of : ℕ → (ℕ → ℕ) → ℕ → List (ℕ × Entry)
 code_of zero m a = []
 code_of (suc n) m a = code_behind (code_bytes m a) a (code_of n m ((a + code_size a (code_bytes m a)) % 65536))
 

@@ -11,7 +11,7 @@ use Rattle.tb_lower.specs.Evaluation.{IsEvaluation}
 use Rattle.tb_lower.specs.declared.evaluation.EvalError.{EvalError}
 use Rattle.tb_lower.specs.declared.evaluation.EvalError.TheVariants as eval
 use Rattle.tb_kernal.specs.declared.status.Status.{Status}
-use Rattle.tb_kernal.specs.declared.status.Status.TheVariants.{Running, Waits, Returned, Wrong}
+use Rattle.tb_kernal.specs.declared.status.Status.TheVariants.{Running}
 use Rattle.tb_kernal.specs.Machine.{state_of, status}
 use Rattle.tb_asm.specs.Layout.{Entry}
 use Rattle.tb_disasm.specs.Lines.{shown}
@@ -22,11 +22,11 @@ use Rattle.tb_debug_commands.specs.declared.command.Command.TheVariants as comma
 use Rattle.tb_debug.specs.declared.answer.Answer.{Answer}
 use Rattle.tb_debug.specs.declared.answer.Answer.TheVariants as answer
 use Rattle.tb_debug.specs.declared.answer.Place.{Place}
-use Rattle.tb_debug.specs.declared.answer.Place.TheVariants as where
+use Rattle.tb_debug.specs.declared.answer.Place.TheVariants as stands
 use Rattle.tb_debug.specs.declared.answer.Stand.{Stand}
 use Rattle.tb_debug.specs.declared.debugger.Debugger.{Debugger}
 use Rattle.tb_debug.specs.declared.moment.Reached.{Reached}
-use Rattle.tb_debug.specs.declared.moment.Reached.TheVariants.{Line, Within, Ended, Limit}
+use Rattle.tb_debug.specs.declared.moment.Reached.TheVariants.{Limit}
 use Rattle.tb_debug.specs.Lines.{line_at}
 use Rattle.tb_debug.specs.Readings.{bytes_of, code_of, most_code, returns_of, variables_of}
 
@@ -52,13 +52,13 @@ line_here d =
 
 -- where a machine that runs stands: at a line, or before the first one
 abbrev pub place_of : Option ℕ → Place
-place_of (Some line) = where.Line line
-place_of None = where.Opening
+place_of (Some line) = stands.Line line
+place_of None = stands.Opening
 
 -- the place of a machine that stands so, with its program counter
 abbrev pub place_by : Status → Option ℕ → ℕ → Place
 place_by Running line pc = place_of line
-place_by why line pc = where.Ended why pc
+place_by why line pc = stands.Ended why pc
 
 -- where the run stands
 abbrev pub place_here : Debugger → Place
@@ -72,9 +72,9 @@ is_limit Limit = true
 is_limit _ = false
 
 -- a stop that tells what was sent behind so many bytes, whether a limit ended the way there, and where the run stands
-pub record IsStop (shown : ℕ) (limit : Bool) (d : Debugger) (stand : Stand) : Type 0 where
+pub record IsStop (shown : ℕ) (limited : Bool) (d : Debugger) (stand : Stand) : Type 0 where
   pub sent : stand.sent.items ≡ drop shown d.present.machine.sent
-  pub limit : stand.is_limit ≡ limit
+  pub limit : stand.is_limit ≡ limited
   pub place : stand.place ≡ place_here d
 
 -- an answer is such a stop

@@ -216,5 +216,6 @@ fn push_code(
         return Ok(());
     };
     lines.push(line)?;
-    push_code(lines, memory, address.wrapping_add(size), count - 1)
+    push_code(lines, memory, address.wrapping_add(size), count - 1)?;
+    Ok(())
 }

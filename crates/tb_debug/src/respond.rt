@@ -53,7 +53,7 @@ impl<'a> Debugger<'a> {
 
     // The same, of a command that types nothing and isn't the end.
     fn act(&mut self, alloc: Global, command: Command<'_>, limit: u64) -> Result<Answer, NoMemory>
-        requires { IsAct command.entry }
+        requires { IsAct command }
         ensures run { OnOk result (KeepsRun self.old self.new) }
         ensures tells { IfOk result (λ told. Tells command.entry self.old self.new (Some told)) }
     {
@@ -140,7 +140,7 @@ impl<'a> Debugger<'a> {
 
     // What a command that doesn't move the run is answered by.
     fn tell(&mut self, alloc: Global, command: Command<'_>) -> Result<Answer, NoMemory>
-        requires { IsTold command.entry self.old }
+        requires { IsTold command self.old }
         ensures run { OnOk result (KeepsRun self.old self.new) }
         ensures tells { IfOk result (λ told. Tells command.entry self.old self.new (Some told)) }
     {
@@ -159,7 +159,7 @@ impl<'a> Debugger<'a> {
 
     // What a command is answered by that only looks, and for which no memory is needed.
     fn show(&self, command: Command<'_>) -> Answer
-        requires { IsShown command.entry self.now }
+        requires { IsShown command self.now }
         ensures { Tells command.entry self.now self.now (Some result) }
     {
         match command {
@@ -279,7 +279,7 @@ impl<'a> Debugger<'a> {
     fn code(&self, alloc: Global) -> Result<Answer, NoMemory>
         ensures { IfOk result (λ told. code_told (Some told) ≡ Some (code_of most_code (state_of self.now.present.machine).mem self.now.present.machine.regs.pc)) }
     {
-        let machine = self.machine();
+        let machine = &self.present.machine;
         match code_from(alloc, machine.memory(), machine.regs().pc, CODE_LINES) {
             Ok(lines) => Ok(Answer::Code(lines)),
             Err(_) => Err(NoMemory),
