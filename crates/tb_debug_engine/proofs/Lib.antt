@@ -1,1 +1,3 @@
+mod Exchanging
+mod Opening
 mod Talking

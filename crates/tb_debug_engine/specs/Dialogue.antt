@@ -1,6 +1,8 @@
 -- What the debugger is told, and what it writes.
 use Rattle.std.specs.Prelude.{ℕ, ◌≡◌, ◌≢◌, ◌⊎◌, ◌<◌, Bool, true, false, List, [], ◌∷◌, ◌++◌, codes, length, Option, Some, None, Result, Ok, Err}
 use Rattle.std.specs.Io.KnownBytes.{Appends, Keeps}
+use Rattle.std.specs.declared.alloc.Global.{Global}
+use Rattle.std.specs.declared.vec.Vec.{Vec}
 use Rattle.tb_kernal.specs.Machine.{state_of}
 use Rattle.tb_streams.specs.Streams.{AppendsPrefix, most_input}
 use Rattle.tb_streams.specs.Lines.{TakesLine, TakesNothing, TakesPart, without_return}
@@ -38,6 +40,21 @@ pub record Answers (d : Debugger) (line : List ℕ) (told : Option Answer) (e : 
 abbrev pub prompt : Bool → List ℕ
 prompt true = codes "> "
 prompt false = []
+
+-- what a line of commands comes to behind the prompt, before it is answered
+abbrev pub Asks : Bool → Result (Option (Vec ℕ Global)) Outcome → Option (List ℕ) → Option (List ℕ) → ℕ → ℕ → Option (List ℕ) → Option (List ℕ) → ℕ → ℕ → Type 0
+Asks prompts (Ok (Some line)) had left read read' old new wrote wrote' =
+    TakesLine had line.items left × Appends old new (prompt prompts) × (read' ≡ read) × (wrote' ≡ wrote)
+Asks prompts (Ok None) had left read read' old new wrote wrote' =
+    TakesNothing had left × Appends old new (prompt prompts) × (read' ≡ read) × (wrote' ≡ wrote)
+Asks prompts (Err ReadFault) had left read read' old new wrote wrote' =
+    (line : List ℕ) × TakesPart had line left × ((read' ≢ read) ⊎ (most_input < length line)) × Appends old new (prompt prompts) × (wrote' ≡ wrote)
+Asks prompts (Err WriteFault) had left read read' old new wrote wrote' =
+    (left ≡ had) × AppendsPrefix old new (prompt prompts) × (read' ≡ read) × (wrote' ≢ wrote)
+Asks prompts (Err NoMemory) had left read read' old new wrote wrote' =
+    (line : List ℕ) × TakesPart had line left × Appends old new (prompt prompts) × (read' ≡ read) × (wrote' ≡ wrote)
+Asks prompts (Err (Ended end)) had left read read' old new wrote wrote' = ⊥
+Asks prompts (Err (Refused why)) had left read read' old new wrote wrote' = ⊥
 
 -- a line is taken, and answered
 abbrev pub Exchanged : Debugger → Answer → Debugger → Option (List ℕ) → Option (List ℕ) → Type 0

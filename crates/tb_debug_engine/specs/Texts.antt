@@ -62,14 +62,17 @@ stand_text lines stand =
 -- ---- variables and lines
 
 -- a variable by its place in the alphabet, and its value
-abbrev pub variable_text : ℕ → ℤ → List ℕ
+unfoldable pub variable_text : ℕ → ℤ → List ℕ
 variable_text index value = (65 + min index 25) ∷ 61 ∷ line (digits_of (word_of value))
+
+-- the same of one that isn't 0
+abbrev pub unless_zero : ℕ → ℤ → List ℕ
+unless_zero index value = if int_eq value (pos 0) then [] else variable_text index value
 
 -- the variables from a place of the alphabet on that are not 0
 abbrev pub variables_from : ℕ → List ℤ → List ℕ
 variables_from index [] = []
-variables_from index (value ∷ values) =
-    (if int_eq value (pos 0) then [] else variable_text index value) ++ variables_from (suc index) values
+variables_from index (value ∷ values) = unless_zero index value ++ variables_from (suc index) values
 
 -- a line to return to, or `past` behind the last one
 abbrev pub return_text : List (ℕ × List ℕ) → Option ℕ → List ℕ

@@ -3,7 +3,7 @@ ghost use Rattle.std.specs.Prelude.{◌≡◌, OnErr, OnOk, is_err};
 ghost use Rattle.std.specs.Io.KnownBytes.{Appends};
 ghost use Rattle.tb_streams.specs.Failures.{failures_of};
 ghost use Rattle.tb_streams.specs.Streams.{AppendsPrefix, counted};
-ghost use Rattle.tb_debug_engine.specs.Dialogue.{Begins, Debugs, Exchanges, Opens, Says, Talks, prompt};
+ghost use Rattle.tb_debug_engine.specs.Dialogue.{Asks, Begins, Debugs, Exchanges, Opens, Says, Talks, prompt};
 ghost use Rattle.tb_debug_engine.specs.Sources.{shown_of};
 
 use crate::sources::{Sources, Written};
@@ -61,6 +61,26 @@ fn prompt<W: Write>(writer: &mut Tracked<W>, prompts: bool) -> Result<(), Fault>
     }
 }
 
+// Reads the next line behind the prompt.
+fn ask<R: Read, W: Write>(
+    alloc: Global,
+    prompts: bool,
+    commands: &mut Tracked<R>,
+    writer: &mut Tracked<W>,
+) -> Result<Option<Vec<u8>>, Outcome>
+    ensures { Asks prompts result
+        (R.remaining commands.old.stream) (R.remaining commands.new.stream) (failures_of commands.old) (failures_of commands.new)
+        (W.contents writer.old.stream) (W.contents writer.new.stream) (failures_of writer.old) (failures_of writer.new) }
+{
+    if prompt(writer, prompts).is_err() {
+        return Err(Outcome::WriteFault);
+    }
+    match read_line(alloc, commands, MOST_INPUT) {
+        Ok(line) => Ok(line),
+        Err(error) => Err(without_input(error)),
+    }
+}
+
 // Answers the next line: whether there was one that isn't the end.
 fn answer_line<R: Read, W: Write>(
     alloc: Global,
@@ -74,20 +94,17 @@ fn answer_line<R: Read, W: Write>(
         (R.remaining commands.old.stream) (R.remaining commands.new.stream) (failures_of commands.old) (failures_of commands.new)
         (W.contents writer.old.stream) (W.contents writer.new.stream) (failures_of writer.old) (failures_of writer.new) }
 {
-    if prompt(writer, setting.prompts).is_err() {
-        return Err(Outcome::WriteFault);
-    }
-    let line = match read_line(alloc, commands, MOST_INPUT) {
+    let line = match ask(alloc, setting.prompts, commands, writer) {
         Ok(Some(line)) => line,
         Ok(None) => return Ok(false),
-        Err(error) => return Err(without_input(error)),
+        Err(outcome) => return Err(outcome),
     };
     let command = read_command(without_return(line.as_slice()));
     match debugger.respond(alloc, command, setting.limit) {
-        Ok(Some(answer)) => {
-            say(alloc, writer, source, answer)?;
-            Ok(true)
-        }
+        Ok(Some(answer)) => match say(alloc, writer, source, answer) {
+            Ok(()) => Ok(true),
+            Err(outcome) => Err(outcome),
+        },
         Ok(None) => Ok(false),
         Err(_) => Err(Outcome::NoMemory),
     }

@@ -1,10 +1,10 @@
 //! The texts of answers.
-ghost use Rattle.std.specs.Prelude.{◌≡◌, ◌+◌, ◌^◌, ◌++◌, ◌<◌, flat_map, length, map, true, IfOk, OnOk};
+ghost use Rattle.std.specs.Prelude.{◌≡◌, ◌+◌, ◌^◌, ◌++◌, ◌<◌, flat_map, length, map, min, true, IfOk, OnOk};
 ghost use Rattle.tb_written.specs.Lines.{pair_of};
 ghost use Rattle.tb_debug_engine.specs.Lists.{written};
 ghost use Rattle.tb_debug_engine.specs.Sources.{shown_of};
 ghost use Rattle.tb_debug_engine.specs.Texts as texts;
-ghost use Rattle.tb_debug_engine.specs.Texts.{address_text, barred_from, byte_text, bytes_text, code_text, or_none, place_text, return_text, row_text, sent_text, stand_text, status_text, variable_text, variables_from};
+ghost use Rattle.tb_debug_engine.specs.Texts.{address_text, barred_from, byte_text, bytes_text, code_text, or_none, place_text, return_text, row_text, sent_text, stand_text, status_text, unless_zero, variable_text, variables_from};
 
 use crate::lists::{push_list, push_written};
 use crate::sources::Written;
@@ -16,7 +16,6 @@ use tb_disasm::{Line, Listing};
 use tb_engines::end_of;
 use tb_kernal::Status;
 use tb_streams::host_form;
-use tb_words::digits;
 use tb_written::Numbered;
 
 /// How many bytes of memory stand on a line.
@@ -150,27 +149,58 @@ fn breakpoints_text(
     Ok(text)
 }
 
-fn push_variable(text: &mut Vec<u8>, index: usize, value: i16) -> Result<(), AllocError>
+// The name of the variable at a place in the alphabet.
+fn name_at(index: usize) -> u8
+    ensures { result ≡ 65 + min index 25 }
+{
+    FIRST_NAME + index.min(LAST_NAMED) as u8
+}
+
+fn push_variable(
+    alloc: Global,
+    text: &mut Vec<u8>,
+    index: usize,
+    value: i16,
+) -> Result<(), AllocError>
     ensures { OnOk result (text.new.items ≡ text.old.items ++ variable_text index value) }
 {
-    text.push(FIRST_NAME + index.min(LAST_NAMED) as u8)?;
+    text.push(name_at(index))?;
     text.push(b'=')?;
-    text.extend_from_slice(digits(value).as_slice())?;
-    text.push(b'\n')?;
+    Word::Number(value).push_line(alloc, text)?;
     Ok(())
 }
 
-fn push_variables(text: &mut Vec<u8>, index: usize, values: &[i16]) -> Result<(), AllocError>
+// The same of one that isn't 0.
+fn push_unless_zero(
+    alloc: Global,
+    text: &mut Vec<u8>,
+    index: usize,
+    value: i16,
+) -> Result<(), AllocError>
+    ensures { OnOk result (text.new.items ≡ text.old.items ++ unless_zero index value) }
+{
+    if value == 0 {
+        return Ok(());
+    }
+    push_variable(alloc, text, index, value)?;
+    Ok(())
+}
+
+fn push_variables(
+    alloc: Global,
+    text: &mut Vec<u8>,
+    index: usize,
+    values: &[i16],
+) -> Result<(), AllocError>
     requires { index + length values.now < 2 ^ 63 }
     ensures { OnOk result (text.new.items ≡ text.old.items ++ variables_from index values.now) }
 {
     match values {
         [] => Ok(()),
         [value, rest @ ..] => {
-            if *value != 0 {
-                push_variable(text, index, *value)?;
-            }
-            push_variables(text, index + 1, rest)
+            push_unless_zero(alloc, text, index, *value)?;
+            push_variables(alloc, text, index + 1, rest)?;
+            Ok(())
         }
     }
 }
@@ -179,7 +209,7 @@ fn variables_text(alloc: Global, values: &[i16]) -> Result<Vec<u8>, AllocError>
     ensures { IfOk result (λ text. text.items ≡ variables_from 0 values.now) }
 {
     let mut text = Vec::new(alloc);
-    push_variables(&mut text, 0, values)?;
+    push_variables(alloc, &mut text, 0, values)?;
     Ok(text)
 }
 
@@ -314,7 +344,7 @@ pub fn push_answer(
         }
         Answer::List { round, place } => push_list(text, lines, &source.numbers, round, place),
         Answer::Variables(values) => push_or_none(text, &variables_text(alloc, &values)?),
-        Answer::Variable { index, value } => push_variable(text, index, value),
+        Answer::Variable { index, value } => push_variable(alloc, text, index, value),
         Answer::Returns(noted) => push_or_none(text, &returns_text(alloc, lines, &noted)?),
         Answer::Output(sent) => push_or_none(text, &sent_text(alloc, &sent)?),
         Answer::Memory { at, bytes } => push_memory(alloc, text, at, &bytes),
