@@ -1,10 +1,11 @@
 pub mod Beginning
 pub mod Besides
+pub mod CodeLines
 pub mod Counting
 pub mod EventLists
 pub mod Keeping
 pub mod Marking
-pub mod Responding
+pub mod Refusing
 pub mod Returns
 pub mod Running
 pub mod Sources

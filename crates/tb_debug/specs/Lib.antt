@@ -2,6 +2,7 @@ pub mod Begins
 pub mod Besides
 pub mod Debuggers
 pub mod Events
+pub mod Kinds
 pub mod Lines
 pub mod Readings
 pub mod Runs

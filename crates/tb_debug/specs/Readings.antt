@@ -1,10 +1,14 @@
 -- What stands in a machine's memory.
-use Rattle.std.specs.Prelude.{ℕ, zero, suc, ◌+◌, ◌*◌, ◌%◌, nat_le, if◌then◌else◌, ℤ, List, [], ◌∷◌, map, Option, Result, Ok, Err}
+use Rattle.std.specs.Prelude.{◌≡◌, ℕ, zero, suc, ◌+◌, ◌-◌, ◌*◌, ◌%◌, min, nat_le, if◌then◌else◌, ℤ, List, [], ◌∷◌, ◌++◌, map, Option, Some, None, Result, Ok, Err}
 use Rattle.std.specs.List.{range_with_len}
 use Rattle.std.specs.Int.{cast_signed, w16}
 use Rattle.tb_memmap.specs.Bytes.{peek}
 use Rattle.tb_memmap.specs.declared.memory.Closed.{Closed}
 use Rattle.tb_cpu.specs.Operands.{word}
+use Rattle.tb_asm.specs.Layout.{Entry, size_of}
+use Rattle.tb_disasm.specs.declared.listing.Line.{Line}
+use Rattle.tb_disasm.specs.Lines.{shown}
+use Rattle.tb_disasm.specs.Listing.{line_at as code_line}
 use Rattle.tb_debug.specs.Lines.{line_at}
 use Rattle.tb_runtime16.specs.Places.{NOTES, NOTE_HIGH, NOTE_LOW, VARS}
 
@@ -45,3 +49,53 @@ lines_of_notes lines m (suc k) = line_at lines (note_at m k) ∷ lines_of_notes 
 -- the lines to return to, the newest first; none for a return behind the last line
 abbrev pub returns_of : List (ℕ × ℕ) → (ℕ → ℕ) → List (Option ℕ)
 returns_of lines m = lines_of_notes lines m (notes_in m)
+
+-- ---- bytes and code
+
+-- what a read gives, and none where it is refused
+abbrev pub as_read : Result ℕ Closed → Option ℕ
+as_read (Ok byte) = Some byte
+as_read (Err closed) = None
+
+-- so many bytes from an address on; none of a closed place
+abbrev pub bytes_from : (ℕ → ℕ) → ℕ → ℕ → List (Option ℕ)
+bytes_from m a zero = []
+bytes_from m a (suc n) = bytes_from m a n ++ as_read (peek m (a + n)) ∷ []
+
+-- the same, but none behind the last address
+abbrev pub bytes_of : (ℕ → ℕ) → ℕ → ℕ → List (Option ℕ)
+bytes_of m a count = bytes_from m a (min count (65536 - a))
+
+-- the bytes of which an instruction may be read, up to a closed place
+abbrev pub up_to_closed : Result ℕ Closed → Result ℕ Closed → Result ℕ Closed → List ℕ
+up_to_closed (Ok first) (Ok second) (Ok third) = first ∷ second ∷ third ∷ []
+up_to_closed (Ok first) (Ok second) (Err closed) = first ∷ second ∷ []
+up_to_closed (Ok first) (Err closed) third = first ∷ []
+up_to_closed (Err closed) second third = []
+
+-- those at an address
+abbrev pub code_bytes : (ℕ → ℕ) → ℕ → List ℕ
+code_bytes m a = up_to_closed (peek m a) (peek m ((a + 1) % 65536)) (peek m ((a + 2) % 65536))
+
+-- how many lines of code are told
+abbrev pub most_code : ℕ
+most_code = 8
+
+-- how many bytes a line of code takes, 3 at most
+abbrev pub code_size : ℕ → List ℕ → ℕ
+code_size a bytes = min (size_of (code_line a bytes).1) 3
+
+-- the line of code of these bytes at an address before others; nothing where there are none
+abbrev pub code_behind : List ℕ → ℕ → List (ℕ × Entry) → List (ℕ × Entry)
+code_behind [] a lines = []
+code_behind (b ∷ bytes) a lines = code_line a (b ∷ bytes) ∷ lines
+
+-- at most so many lines of code from an address on, up to a closed place
+unfoldable pub code_of : ℕ → (ℕ → ℕ) → ℕ → List (ℕ × Entry)
+code_of zero m a = []
+code_of (suc n) m a = code_behind (code_bytes m a) a (code_of n m ((a + code_size a (code_bytes m a)) % 65536))
+
+-- a line of code of bytes at an address, with its size; none of no bytes
+abbrev pub IsCodeLine : Option (Line × ℕ) → ℕ → List ℕ → Type 0
+IsCodeLine (Some l) a bytes = ((lines : List (ℕ × Entry)) → code_behind bytes a lines ≡ shown l.0 ∷ lines) × (l.1 ≡ code_size a bytes)
+IsCodeLine None a bytes = (lines : List (ℕ × Entry)) → code_behind bytes a lines ≡ []

@@ -1,15 +1,36 @@
--- What answers say of the machine.
-use Rattle.std.specs.Prelude.{◌≡◌, ℕ, ℤ, pos, List, Option, Some, None, slice_index_or}
+-- What answers say of the run and of the machine.
+use Rattle.std.specs.Prelude.{◌≡◌, ℕ, Bool, true, false, ℤ, pos, not, List, drop, map, Option, Some, None, Result, Ok, Err, if◌then◌else◌, slice_index_or}
+use Rattle.tb_words.specs.Words.{word_of}
 use Rattle.tb_words.specs.declared.Letter.{Letter}
 use Rattle.tb_words.specs.Letters.{place}
-use Rattle.tb_kernal.specs.Machine.{state_of}
-use Rattle.tb_codegen.specs.Compiled.{starts_of}
+use Rattle.tb_syntax.specs.Source.{Expression}
+use Rattle.tb_parser.specs.Answers.{InLineOne}
+use Rattle.tb_parser.specs.Files.{FileRefusal}
+use Rattle.tb_parser.specs.Readings.{ExpressionIs}
+use Rattle.tb_lower.specs.Evaluation.{IsEvaluation}
+use Rattle.tb_lower.specs.declared.evaluation.EvalError.{EvalError}
+use Rattle.tb_lower.specs.declared.evaluation.EvalError.TheVariants as eval
+use Rattle.tb_kernal.specs.declared.status.Status.{Status}
+use Rattle.tb_kernal.specs.declared.status.Status.TheVariants.{Running}
+use Rattle.tb_kernal.specs.Machine.{state_of, status}
+use Rattle.tb_asm.specs.Layout.{Entry}
+use Rattle.tb_disasm.specs.Lines.{shown}
+use Rattle.tb_codegen.specs.Compiled.{line_in, start_in, starts_of, table_of}
+use Rattle.tb_stops.specs.Stops.{breakpoints_of, watches_of, is_among, is_watched}
 use Rattle.tb_debug_commands.specs.declared.command.Command.{Command}
 use Rattle.tb_debug_commands.specs.declared.command.Command.TheVariants as command
 use Rattle.tb_debug.specs.declared.answer.Answer.{Answer}
 use Rattle.tb_debug.specs.declared.answer.Answer.TheVariants as answer
+use Rattle.tb_debug.specs.declared.answer.Place.{Place}
+use Rattle.tb_debug.specs.declared.answer.Place.TheVariants as stands
+use Rattle.tb_debug.specs.declared.answer.Stand.{Stand}
 use Rattle.tb_debug.specs.declared.debugger.Debugger.{Debugger}
-use Rattle.tb_debug.specs.Readings.{returns_of, variables_of}
+use Rattle.tb_debug.specs.declared.moment.Reached.{Reached}
+use Rattle.tb_debug.specs.declared.moment.Reached.TheVariants.{Limit}
+use Rattle.tb_debug.specs.Lines.{line_at}
+use Rattle.tb_debug.specs.Readings.{bytes_of, code_of, most_code, returns_of, variables_of}
+
+-- ---- what stands in the machine
 
 -- the values of A to Z
 abbrev pub variables_here : Debugger → List ℤ
@@ -19,7 +40,82 @@ variables_here d = variables_of (state_of d.present.machine).mem
 abbrev pub returns_here : Debugger → List (Option ℕ)
 returns_here d = returns_of (starts_of d.program.now) (state_of d.present.machine).mem
 
+-- the first of two lines that is one
+abbrev pub or_line : Option ℕ → Option ℕ → Option ℕ
+or_line (Some line) other = Some line
+or_line None other = other
+
+-- the line that begins here, or else the one that was begun last
+abbrev pub line_here : Debugger → Option ℕ
+line_here d =
+    or_line (line_at (starts_of d.program.now) d.present.machine.regs.pc) (line_at (starts_of d.program.now) d.present.last)
+
+-- where a machine that runs stands: at a line, or before the first one
+abbrev pub place_of : Option ℕ → Place
+place_of (Some line) = stands.Line line
+place_of None = stands.Opening
+
+-- the place of a machine that stands so, with its program counter
+abbrev pub place_by : Status → Option ℕ → ℕ → Place
+place_by Running line pc = place_of line
+place_by why line pc = stands.Ended why pc
+
+-- where the run stands
+abbrev pub place_here : Debugger → Place
+place_here d = place_by (status (state_of d.present.machine)) (line_here d) d.present.machine.regs.pc
+
+-- ---- stops
+
+-- a limit ended the way
+abbrev pub is_limit : Reached → Bool
+is_limit Limit = true
+is_limit _ = false
+
+-- a stop that tells what was sent behind so many bytes, whether a limit ended the way there, and where the run stands
+pub record IsStop (shown : ℕ) (limited : Bool) (d : Debugger) (stand : Stand) : Type 0 where
+  pub sent : stand.sent.items ≡ drop shown d.present.machine.sent
+  pub limit : stand.is_limit ≡ limited
+  pub place : stand.place ≡ place_here d
+
+-- an answer is such a stop
+abbrev pub TellsStop : ℕ → Bool → Debugger → Answer → Type 0
+TellsStop shown limit d (answer.Stop stand) = IsStop shown limit d stand
+TellsStop shown limit d _ = ⊥
+
+-- where a way led, what was sent since the last stop is told, and the stop
+abbrev pub TellsWay : Debugger → Debugger → Option Answer → Type 0
+TellsWay d e (Some told) = (limit : Bool) × TellsStop d.shown limit e told
+TellsWay d e None = ⊥
+
+-- the way to a line, or that the program has no such line
+abbrev pub TellsLine : Option ℕ → Debugger → Debugger → Option Answer → Type 0
+TellsLine (Some address) d e told = TellsWay d e told
+TellsLine None d e told = told ≡ Some answer.NoSuchLine
+
+-- ---- breakpoints, watches and lists
+
 -- the lines that an answer tells
+abbrev pub breakpoints_told : Option Answer → Option (List ℕ)
+breakpoints_told (Some (answer.Breakpoints lines)) = Some lines.items
+breakpoints_told _ = None
+
+-- whether something is set then
+abbrev pub set_or_cleared : Bool → Answer
+set_or_cleared is_set = if is_set then answer.Set else answer.Cleared
+
+-- whether a line of the program has a breakpoint then, or that there is no such line
+abbrev pub breakpoint_answer : Option ℕ → Bool → Answer
+breakpoint_answer (Some address) is_set = set_or_cleared is_set
+breakpoint_answer None is_set = answer.NoSuchLine
+
+-- the source around a line of the program
+abbrev pub list_answer : Option ℕ → ℕ → Option ℕ → Answer
+list_answer (Some address) line here = answer.List (Some line) here
+list_answer None line here = answer.NoSuchLine
+
+-- ---- values
+
+-- the lines to return to that an answer tells
 abbrev pub returns_told : Option Answer → Option (List (Option ℕ))
 returns_told (Some (answer.Returns lines)) = Some lines.items
 returns_told _ = None
@@ -33,10 +129,65 @@ output_told _ = None
 abbrev pub TellsValue : Letter → Debugger → Option Answer → Type 0
 TellsValue letter d told = told ≡ Some (answer.Variable (place letter) (slice_index_or (variables_here d) (place letter) (pos 0)))
 
--- v, r and o tell what stands in the machine: the variables, the lines to return to and all that was sent
-abbrev pub Tells : Command → Debugger → Option Answer → Type 0
-Tells command.Variables d told = told ≡ Some (answer.Variables (variables_here d))
-Tells (command.Variable letter) d told = TellsValue letter d told
-Tells command.Returns d told = returns_told told ≡ Some (returns_here d)
-Tells command.Output d told = output_told told ≡ Some d.present.machine.sent
-Tells _ d told = Unit {0}
+-- the answer for what an expression came to
+abbrev pub value_answer : Result ℤ EvalError → Answer
+value_answer (Ok v) = answer.Number v
+value_answer (Err eval.DivideByZero) = answer.DivisionByZero
+value_answer (Err eval.HasRnd) = answer.HasRnd
+
+-- the value of an expression over the variables, or `what?` of a text that is none
+abbrev pub TellsOf : Debugger → Result Expression FileRefusal → Option Answer → Type 0
+TellsOf d (Ok e) told = (v : Result ℤ EvalError) × IsEvaluation e (map word_of (variables_here d)) v × (told ≡ Some (value_answer v))
+TellsOf d (Err r) told = told ≡ Some answer.What
+
+-- what is told of a text behind `e`
+abbrev pub TellsText : List ℕ → Debugger → Option Answer → Type 0
+TellsText text d told = (r : Result Expression FileRefusal) × InLineOne (ExpressionIs text) r × TellsOf d r told
+
+-- ---- the machine
+
+-- the registers, the line in whose code the program counter lies, and how the machine stands
+abbrev pub registers_here : Debugger → Answer
+registers_here d =
+    answer.Registers d.present.machine.regs (line_in (starts_of d.program.now) (table_of d.program.now) d.present.machine.regs.pc)
+    (status (state_of d.present.machine))
+
+-- the address and the bytes that an answer tells; none of a closed place
+abbrev pub memory_told : Option Answer → Option (ℕ × List (Option ℕ))
+memory_told (Some (answer.Memory at bytes)) = Some (at, bytes.items)
+memory_told _ = None
+
+-- the lines of code that an answer tells
+abbrev pub code_told : Option Answer → Option (List (ℕ × Entry))
+code_told (Some (answer.Code lines)) = Some (map shown lines.items)
+code_told _ = None
+
+-- ---- commands
+
+-- what a command tells; a debugger before it and behind it
+abbrev pub Tells : Command → Debugger → Debugger → Option Answer → Type 0
+Tells (command.On lines) d e told = TellsWay d e told
+Tells (command.Back lines) d e told = TellsWay d e told
+Tells command.GoOn d e told = TellsWay d e told
+Tells command.GoBack d e told = TellsWay d e told
+Tells (command.ToTime time) d e told = TellsWay d e told
+Tells (command.Step events) d e told = TellsWay d e told
+Tells (command.ToLine line) d e told = TellsLine (start_in (starts_of d.program.now) line) d e told
+Tells command.Breakpoints d e told = breakpoints_told told ≡ Some (breakpoints_of e.stops)
+Tells (command.Breakpoint line) d e told =
+    told ≡ Some (breakpoint_answer (start_in (starts_of d.program.now) line) (not (is_among (breakpoints_of d.stops) line)))
+Tells (command.Watch letter) d e told = told ≡ Some (set_or_cleared (not (is_watched (watches_of d.stops) (place letter))))
+Tells command.ListHere d e told = told ≡ Some (answer.List (line_here e) (line_here e))
+Tells (command.List line) d e told = told ≡ Some (list_answer (start_in (starts_of d.program.now) line) line (line_here e))
+Tells command.Variables d e told = told ≡ Some (answer.Variables (variables_here e))
+Tells (command.Variable letter) d e told = TellsValue letter e told
+Tells (command.Value text) d e told = TellsText text.now e told
+Tells command.Returns d e told = returns_told told ≡ Some (returns_here e)
+Tells command.Output d e told = output_told told ≡ Some e.present.machine.sent
+Tells (command.Type text) d e told = told ≡ Some answer.Typed
+Tells command.Registers d e told = told ≡ Some (registers_here e)
+Tells (command.Memory at count) d e told = memory_told told ≡ Some (at, bytes_of (state_of e.present.machine).mem at count)
+Tells command.Code d e told = code_told told ≡ Some (code_of most_code (state_of e.present.machine).mem e.present.machine.regs.pc)
+Tells command.Help d e told = told ≡ Some answer.Help
+Tells command.Quit d e told = told ≡ None
+Tells command.Unknown d e told = told ≡ Some answer.What

@@ -115,6 +115,7 @@ impl<'a> Debugger<'a> {
         ensures stops { OnOk result (self.new.stops ≡ self.old.stops) }
         ensures ends { IfOk result (λ reached. (start : Point) → IsOfRun self.old.starts start self.old.present
             → EndsAt self.old.starts start limit self.old.present reached self.new.present) }
+        ensures shown { OnOk result (self.new.shown ≡ self.old.shown) }
     {
         let reached = self.present.to_next_start(&self.starts, limit)?;
         if let Reached::Line = reached {
@@ -130,7 +131,8 @@ impl<'a> Debugger<'a> {
 
     /// On by so many lines.
     pub fn on(&mut self, alloc: Global, lines: u64, limit: u64) -> Result<Reached, NoMemory>
-        ensures { OnOk result (KeepsRun self.old self.new) }
+        ensures run { OnOk result (KeepsRun self.old self.new) }
+        ensures shown { OnOk result (self.new.shown ≡ self.old.shown) }
     {
         let last = self.present.events.saturating_add(limit);
         for _ in 0..lines {
@@ -144,7 +146,8 @@ impl<'a> Debugger<'a> {
 
     /// On to the beginning of the line at an address.
     pub fn on_to(&mut self, alloc: Global, address: u16, limit: u64) -> Result<Reached, NoMemory>
-        ensures { OnOk result (KeepsRun self.old self.new) }
+        ensures run { OnOk result (KeepsRun self.old self.new) }
+        ensures shown { OnOk result (self.new.shown ≡ self.old.shown) }
     {
         let last = self.present.events.saturating_add(limit);
         for _ in 0..u64::MAX {
@@ -160,6 +163,7 @@ impl<'a> Debugger<'a> {
     pub fn to_time(&mut self, alloc: Global, time: u64, limit: u64) -> Result<Reached, NoMemory>
         ensures run { OnOk result (KeepsRun self.old self.new) }
         ensures time { IfOk result (λ reached. IsAtTime time reached self.new) }
+        ensures shown { OnOk result (self.new.shown ≡ self.old.shown) }
     {
         if time < self.present.begun {
             self.back_to(alloc, time)
@@ -172,6 +176,7 @@ impl<'a> Debugger<'a> {
     fn on_to_time(&mut self, alloc: Global, time: u64, limit: u64) -> Result<Reached, NoMemory>
         ensures run { OnOk result (KeepsRun self.old self.new) }
         ensures time { IfOk result (λ reached. IsAtTime time reached self.new) }
+        ensures shown { OnOk result (self.new.shown ≡ self.old.shown) }
     {
         let last = self.present.events.saturating_add(limit);
         for _ in 0..u64::MAX {
@@ -190,6 +195,7 @@ impl<'a> Debugger<'a> {
     pub fn back_to(&mut self, alloc: Global, time: u64) -> Result<Reached, NoMemory>
         ensures run { OnOk result (KeepsRun self.old self.new) }
         ensures time { IfOk result (λ reached. IsAtTime time reached self.new) }
+        ensures shown { OnOk result (self.new.shown ≡ self.old.shown) }
     {
         let newest = self.history.newest_until(time);
         self.back_to_kept(alloc, newest)?;
@@ -198,7 +204,8 @@ impl<'a> Debugger<'a> {
 
     // Back to a kept moment, by its place among them; those behind it are forgotten.
     fn back_to_kept(&mut self, alloc: Global, index: usize) -> Result<(), NoMemory>
-        ensures { OnOk result (KeepsRun self.old self.new) }
+        ensures run { OnOk result (KeepsRun self.old self.new) }
+        ensures shown { OnOk result (self.new.shown ≡ self.old.shown) }
     {
         let Some(kept) = self.history.get(index) else {
             return Ok(());
@@ -213,6 +220,7 @@ impl<'a> Debugger<'a> {
     pub fn back(&mut self, alloc: Global, lines: u64) -> Result<Reached, NoMemory>
         ensures run { OnOk result (KeepsRun self.old self.new) }
         ensures time { 0 < lines → 0 < begun_by self.old → IfOk result (λ reached. IsAtTime (begun_by self.old - lines) reached self.new) }
+        ensures shown { OnOk result (self.new.shown ≡ self.old.shown) }
     {
         if lines == 0 || self.present.begun == 0 {
             return Ok(self.standing());
@@ -222,7 +230,8 @@ impl<'a> Debugger<'a> {
 
     /// On by so many events.
     pub fn step(&mut self, events: u64) -> Result<Reached, NoMemory>
-        ensures { OnOk result (KeepsRun self.old self.new) }
+        ensures run { OnOk result (KeepsRun self.old self.new) }
+        ensures shown { OnOk result (self.new.shown ≡ self.old.shown) }
     {
         self.present.step(&self.starts, events)?;
         Ok(self.standing())

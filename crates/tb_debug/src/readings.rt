@@ -1,14 +1,16 @@
 //! What stands in a machine's memory.
-ghost use Rattle.std.specs.Prelude.{◌≡◌, ◌<◌, map, IfOk};
-ghost use Rattle.tb_memmap.specs.Bytes.{at};
+ghost use Rattle.std.specs.Prelude.{◌≡◌, ◌++◌, ◌<◌, map, min, IfOk, OnOk};
+ghost use Rattle.tb_memmap.specs.Bytes.{at, peek};
+ghost use Rattle.tb_disasm.specs.Lines.{shown};
 ghost use Rattle.tb_cpu.specs.Operands.{word};
 ghost use Rattle.tb_kernal.specs.Machine.{state_of};
 ghost use Rattle.tb_codegen.specs.Compiled.{pair_of, starts_of};
-ghost use Rattle.tb_debug.specs.Readings.{byte_at, word_at, variable_of, variables_of, note_at, notes_in, returns_of};
+ghost use Rattle.tb_debug.specs.Readings.{IsCodeLine, as_read, byte_at, bytes_of, code_bytes, code_of, word_at, variable_of, variables_of, note_at, notes_in, returns_of};
 ghost use Rattle.tb_debug.specs.Lines.{line_at};
 
 use std::alloc::{AllocError, Global};
 use tb_codegen::{Compiled, LineStart};
+use tb_disasm::{Line, first_line};
 use tb_kernal::Machine;
 use tb_memmap::Memory;
 use tb_runtime16::{NOTE_HIGH, NOTE_LOW, NOTES, VARS};
@@ -16,6 +18,12 @@ use tb_stops::Variables;
 
 /// How many notes the return list has at most.
 const MOST_NOTES: u16 = 500;
+
+/// How many places memory has.
+const PLACES: u32 = 65_536;
+
+/// The most bytes of an instruction.
+const MOST_LENGTH: usize = 3;
 
 // The byte at an address; 0 where it is closed.
 fn byte(memory: &Memory, address: u16) -> u8
@@ -126,16 +134,88 @@ fn first_at(starts: &[LineStart], address: u16) -> Option<u16>
     }
 }
 
-/// The bytes from an address on; none for a closed place.
+// The byte at an address; none of a closed place.
+fn open_byte(memory: &Memory, address: u16) -> Option<u8>
+    ensures { result ≡ as_read (peek (at memory.now) address) }
+{
+    match memory.read(address) {
+        Ok(byte) => Some(byte),
+        Err(_) => None,
+    }
+}
+
+/// So many bytes from an address on; none for a closed place. Behind the last address there are none.
 pub fn bytes_from(
     alloc: Global,
     memory: &Memory,
     address: u16,
-    count: usize,
-) -> Result<Vec<Option<u8>>, AllocError> {
+    count: u16,
+) -> Result<Vec<Option<u8>>, AllocError>
+    ensures { IfOk result (λ bytes. bytes.items ≡ bytes_of (at memory.now) address count) }
+{
+    let most = PLACES - u32::from(address);
+    let count = u32::from(count).min(most);
     let mut bytes = Vec::new(alloc);
-    for place in (address..=u16::MAX).take(count) {
-        bytes.push(memory.read(place).ok())?;
+    for index in 0..count {
+        bytes.push(open_byte(memory, address + index as u16))?;
     }
     Ok(bytes)
+}
+
+// A line of code with its size, three bytes at most.
+fn sized(line: (Line, usize)) -> (Line, u16)
+    ensures line { result.0 ≡ line.0 }
+    ensures size { result.1 ≡ min line.1 3 }
+{
+    (line.0, line.1.min(MOST_LENGTH) as u16)
+}
+
+// The line of code at an address, and its size; none at a closed place.
+fn code_line(memory: &Memory, address: u16) -> Option<(Line, u16)>
+    ensures { IsCodeLine result address (code_bytes (at memory.now) address) }
+{
+    let first = memory.read(address);
+    let second = memory.read(address.wrapping_add(1));
+    let third = memory.read(address.wrapping_add(2));
+    match (first, second, third) {
+        (Ok(first), Ok(second), Ok(third)) => {
+            Some(sized(first_line(address, &[first, second, third])))
+        }
+        (Ok(first), Ok(second), Err(_)) => Some(sized(first_line(address, &[first, second]))),
+        (Ok(first), Err(_), _) => Some(sized(first_line(address, &[first]))),
+        (Err(_), _, _) => None,
+    }
+}
+
+/// At most so many lines of code from an address on, up to a closed place.
+pub fn code_from(
+    alloc: Global,
+    memory: &Memory,
+    address: u16,
+    count: usize,
+) -> Result<Vec<Line>, AllocError>
+    ensures { IfOk result (λ lines. map shown lines.items ≡ code_of count (at memory.now) address) }
+{
+    let mut lines = Vec::new(alloc);
+    push_code(&mut lines, memory, address, count)?;
+    Ok(lines)
+}
+
+fn push_code(
+    lines: &mut Vec<Line>,
+    memory: &Memory,
+    address: u16,
+    count: usize,
+) -> Result<(), AllocError>
+    ensures { OnOk result (map shown lines.new.items ≡ map shown lines.old.items ++ code_of count (at memory.now) address) }
+{
+    if count == 0 {
+        return Ok(());
+    }
+    let Some((line, size)) = code_line(memory, address) else {
+        return Ok(());
+    };
+    lines.push(line)?;
+    push_code(lines, memory, address.wrapping_add(size), count - 1)?;
+    Ok(())
 }

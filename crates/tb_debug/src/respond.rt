@@ -1,15 +1,20 @@
 //! What commands do, and their answers.
-ghost use Rattle.std.specs.Prelude.{◌≡◌, OnOk, IfOk};
+ghost use Rattle.std.specs.Prelude.{◌≡◌, Some, drop, length, not, IfOk, OnOk};
+ghost use Rattle.tb_words.specs.Letters.{place};
+ghost use Rattle.tb_kernal.specs.Machine.{state_of};
+ghost use Rattle.tb_codegen.specs.Compiled.{start_in, starts_of};
+ghost use Rattle.tb_stops.specs.Stops.{breakpoints_of, is_among, is_watched, watches_of};
 ghost use Rattle.tb_debug.specs.Debuggers.{KeepsRun, KeepsRunTyped, Responds, keys_of};
-ghost use Rattle.tb_debug.specs.Telling.{Tells, TellsValue, output_told, returns_here, returns_told};
+ghost use Rattle.tb_debug.specs.Kinds.{IsAct, IsShown, IsTold, Walks};
+ghost use Rattle.tb_debug.specs.Readings.{bytes_of, code_of, most_code};
+ghost use Rattle.tb_debug.specs.Telling.{Tells, TellsStop, TellsText, TellsValue, breakpoint_answer, breakpoints_told, code_told, is_limit, line_here, list_answer, memory_told, output_told, place_here, returns_here, returns_told, set_or_cleared, value_answer};
 
 use crate::answer::{Answer, Place, Stand};
 use crate::debugger::Debugger;
 use crate::moment::Reached;
-use crate::readings::{bytes_from, line_from, returns};
+use crate::readings::{bytes_from, code_from, line_from, returns};
 use std::alloc::{AllocError, Global};
 use tb_debug_commands::Command;
-use tb_disasm::{Line, first_line};
 use tb_kernal::Status;
 use tb_lower::{EvalError, eval};
 use tb_memmap::NoMemory;
@@ -22,9 +27,6 @@ const RETURN: u8 = 13;
 /// How many lines of code are shown.
 const CODE_LINES: usize = 8;
 
-/// The most bytes of an instruction.
-const MOST_LENGTH: usize = 3;
-
 impl<'a> Debugger<'a> {
     /// Does what a command asks for, and answers it; there is no answer to `Quit`. Going on takes at most `limit` events.
     pub fn respond(
@@ -34,18 +36,14 @@ impl<'a> Debugger<'a> {
         limit: u64,
     ) -> Result<Option<Answer>, NoMemory>
         ensures run { OnOk result (Responds command.entry self.old self.new) }
-        ensures tells { IfOk result (Tells command.entry self.new) }
+        ensures tells { IfOk result (Tells command.entry self.old self.new) }
     {
         match command {
+            Command::Quit => Ok(None),
             Command::Type(text) => {
                 self.type_line(alloc, text)?;
                 Ok(Some(Answer::Typed))
             }
-            Command::Quit => Ok(None),
-            Command::Variables => Ok(Some(Answer::Variables(self.variables()))),
-            Command::Variable(letter) => Ok(Some(self.variable(letter))),
-            Command::Returns => Ok(Some(self.return_list(alloc)?)),
-            Command::Output => Ok(Some(self.output(alloc)?)),
             _ => {
                 let answer = self.act(alloc, command, limit)?;
                 Ok(Some(answer))
@@ -53,9 +51,11 @@ impl<'a> Debugger<'a> {
         }
     }
 
-    // The same, of a command that types nothing.
+    // The same, of a command that types nothing and isn't the end.
     fn act(&mut self, alloc: Global, command: Command<'_>, limit: u64) -> Result<Answer, NoMemory>
-        ensures { OnOk result (KeepsRun self.old self.new) }
+        requires { IsAct command }
+        ensures run { OnOk result (KeepsRun self.old self.new) }
+        ensures tells { IfOk result (λ told. Tells command.entry self.old self.new (Some told)) }
     {
         match self.walk(alloc, command, limit)? {
             Some(reached) => {
@@ -76,7 +76,8 @@ impl<'a> Debugger<'a> {
         command: Command<'_>,
         limit: u64,
     ) -> Result<Option<Reached>, NoMemory>
-        ensures { OnOk result (KeepsRun self.old self.new) }
+        ensures run { OnOk result (KeepsRun self.old self.new) }
+        ensures walks { IfOk result (λ reached. Walks command.entry self.old reached self.new) }
     {
         match command {
             Command::On(lines) => Ok(Some(self.on(alloc, lines, limit)?)),
@@ -93,25 +94,28 @@ impl<'a> Debugger<'a> {
         }
     }
 
-    /// The stop at which the run stands.
+    /// The stop at which the run stands, and what was sent since the last one.
     pub fn stop(&mut self, alloc: Global, reached: Reached) -> Result<Answer, NoMemory>
-        ensures { OnOk result (KeepsRun self.old self.new) }
+        ensures run { OnOk result (KeepsRun self.old self.new) }
+        ensures tells { IfOk result (TellsStop self.old.shown (is_limit reached) self.new) }
+        ensures shown { OnOk result (self.new.shown ≡ length self.new.present.machine.sent) }
     {
         let sent = self.present.machine.sent();
-        let from = self.shown.min(sent.len());
-        let Ok(since) = Vec::from_slice(alloc, &sent[from..]) else {
+        let Ok(since) = Vec::from_slice(alloc, behind(sent, self.shown)) else {
             return Err(NoMemory);
         };
         self.shown = sent.len();
         Ok(Answer::Stop(Stand {
             sent: since,
-            is_limit: matches!(reached, Reached::Limit),
+            is_limit: is_limit(reached),
             place: self.place(),
         }))
     }
 
     // Where the run stands.
-    fn place(&self) -> Place {
+    fn place(&self) -> Place
+        ensures { result ≡ place_here self.now }
+    {
         match self.present.machine.status() {
             Status::Running => match self.line() {
                 Some(line) => Place::Line(line),
@@ -125,7 +129,9 @@ impl<'a> Debugger<'a> {
     }
 
     // The line that begins here, or else the one that was begun last.
-    fn line(&self) -> Option<u16> {
+    fn line(&self) -> Option<u16>
+        ensures { result ≡ line_here self.now }
+    {
         match self.line_here() {
             Some(line) => Some(line),
             None => line_from(self.program, self.present.last),
@@ -134,44 +140,63 @@ impl<'a> Debugger<'a> {
 
     // What a command that doesn't move the run is answered by.
     fn tell(&mut self, alloc: Global, command: Command<'_>) -> Result<Answer, NoMemory>
-        ensures { OnOk result (KeepsRun self.old self.new) }
+        requires { IsTold command self.old }
+        ensures run { OnOk result (KeepsRun self.old self.new) }
+        ensures tells { IfOk result (λ told. Tells command.entry self.old self.new (Some told)) }
     {
         match command {
             Command::Breakpoint(line) => self.turn_breakpoint(line),
             Command::Watch(letter) => self.turn_watch(letter),
             Command::Value(text) => self.value(alloc, text),
             Command::Breakpoints => self.breakpoints(alloc),
+            Command::Returns => self.return_list(alloc),
+            Command::Output => self.output(alloc),
             Command::Memory { at, count } => self.bytes(alloc, at, count),
             Command::Code => self.code(alloc),
-            Command::ToLine(_) => Ok(Answer::NoSuchLine),
-            Command::List(line) if self.program.start_of(line).is_none() => Ok(Answer::NoSuchLine),
             _ => Ok(self.show(command)),
         }
     }
 
     // What a command is answered by that only looks, and for which no memory is needed.
-    fn show(&self, command: Command<'_>) -> Answer {
+    fn show(&self, command: Command<'_>) -> Answer
+        requires { IsShown command self.now }
+        ensures { Tells command.entry self.now self.now (Some result) }
+    {
         match command {
+            Command::Variables => Answer::Variables(self.variables()),
+            Command::Variable(letter) => self.variable(letter),
             Command::ListHere => Answer::List {
                 round: self.line(),
                 place: self.line(),
             },
-            Command::List(line) => Answer::List {
-                round: Some(line),
-                place: self.line(),
-            },
+            Command::List(line) => self.list(line),
             Command::Registers => Answer::Registers {
                 regs: self.present.machine.regs(),
                 line: self.program.line_at(self.present.machine.regs().pc),
                 status: self.present.machine.status(),
             },
             Command::Help => Answer::Help,
+            Command::ToLine(_) => Answer::NoSuchLine,
             _ => Answer::What,
         }
     }
 
+    // The source around a line.
+    fn list(&self, line: u16) -> Answer
+        ensures { result ≡ list_answer (start_in (starts_of self.now.program.now) line) line (line_here self.now) }
+    {
+        match self.program.start_of(line) {
+            Some(_) => Answer::List {
+                round: Some(line),
+                place: self.line(),
+            },
+            None => Answer::NoSuchLine,
+        }
+    }
+
     fn turn_breakpoint(&mut self, line: u16) -> Result<Answer, NoMemory>
-        ensures { OnOk result (KeepsRun self.old self.new) }
+        ensures run { OnOk result (KeepsRun self.old self.new) }
+        ensures answer { IfOk result (λ told. told ≡ breakpoint_answer (start_in (starts_of self.old.program.now) line) (not (is_among (breakpoints_of self.old.stops) line))) }
     {
         if self.program.start_of(line).is_none() {
             return Ok(Answer::NoSuchLine);
@@ -183,7 +208,8 @@ impl<'a> Debugger<'a> {
     }
 
     fn turn_watch(&mut self, letter: Letter) -> Result<Answer, NoMemory>
-        ensures { OnOk result (KeepsRun self.old self.new) }
+        ensures run { OnOk result (KeepsRun self.old self.new) }
+        ensures answer { IfOk result (λ told. told ≡ set_or_cleared (not (is_watched (watches_of self.old.stops) (place letter)))) }
     {
         match self.stops.turn_watch(letter) {
             Ok(is_set) => Ok(turned(is_set)),
@@ -191,7 +217,9 @@ impl<'a> Debugger<'a> {
         }
     }
 
-    fn breakpoints(&self, alloc: Global) -> Result<Answer, NoMemory> {
+    fn breakpoints(&self, alloc: Global) -> Result<Answer, NoMemory>
+        ensures { IfOk result (λ told. breakpoints_told (Some told) ≡ Some (breakpoints_of self.now.stops)) }
+    {
         match Vec::from_slice(alloc, self.stops.breakpoints()) {
             Ok(lines) => Ok(Answer::Breakpoints(lines)),
             Err(_) => Err(NoMemory),
@@ -208,7 +236,9 @@ impl<'a> Debugger<'a> {
         }
     }
 
-    fn value(&self, alloc: Global, text: &[u8]) -> Result<Answer, NoMemory> {
+    fn value(&self, alloc: Global, text: &[u8]) -> Result<Answer, NoMemory>
+        ensures { IfOk result (λ told. TellsText text.now self.now (Some told)) }
+    {
         match parse_expr(alloc, text) {
             Ok(expression) => { Ok(value_answer(eval(&expression, &self.variables()))) }
             Err(error) => match error.kind {
@@ -219,7 +249,7 @@ impl<'a> Debugger<'a> {
     }
 
     fn return_list(&self, alloc: Global) -> Result<Answer, NoMemory>
-        ensures { IfOk result (λ answer. returns_told (Some answer) ≡ Some (returns_here self.now)) }
+        ensures { IfOk result (λ told. returns_told (Some told) ≡ Some (returns_here self.now)) }
     {
         match returns(alloc, self.present.machine.memory(), self.program) {
             Ok(lines) => Ok(Answer::Returns(lines)),
@@ -228,7 +258,7 @@ impl<'a> Debugger<'a> {
     }
 
     fn output(&self, alloc: Global) -> Result<Answer, NoMemory>
-        ensures { IfOk result (λ answer. output_told (Some answer) ≡ Some self.now.present.machine.sent) }
+        ensures { IfOk result (λ told. output_told (Some told) ≡ Some self.now.present.machine.sent) }
     {
         match Vec::from_slice(alloc, self.present.machine.sent()) {
             Ok(sent) => Ok(Answer::Output(sent)),
@@ -236,40 +266,24 @@ impl<'a> Debugger<'a> {
         }
     }
 
-    fn bytes(&self, alloc: Global, at: u16, count: u16) -> Result<Answer, NoMemory> {
-        match bytes_from(alloc, self.present.machine.memory(), at, usize::from(count)) {
+    fn bytes(&self, alloc: Global, at: u16, count: u16) -> Result<Answer, NoMemory>
+        ensures { IfOk result (λ told. memory_told (Some told) ≡ Some (at, bytes_of (state_of self.now.present.machine).mem at count)) }
+    {
+        match bytes_from(alloc, self.present.machine.memory(), at, count) {
             Ok(bytes) => Ok(Answer::Memory { at, bytes }),
             Err(_) => Err(NoMemory),
         }
     }
 
     // The code from PC on, up to a closed place.
-    fn code(&self, alloc: Global) -> Result<Answer, NoMemory> {
-        let mut lines = Vec::new(alloc);
-        let mut address = self.present.machine.regs().pc;
-        for _ in 0..CODE_LINES {
-            let Some((line, size)) = self.code_line(address) else {
-                return Ok(Answer::Code(lines));
-            };
-            if lines.push(line).is_err() {
-                return Err(NoMemory);
-            }
-            address = address.wrapping_add(size.min(MOST_LENGTH) as u16);
+    fn code(&self, alloc: Global) -> Result<Answer, NoMemory>
+        ensures { IfOk result (λ told. code_told (Some told) ≡ Some (code_of most_code (state_of self.now.present.machine).mem self.now.present.machine.regs.pc)) }
+    {
+        let machine = &self.present.machine;
+        match code_from(alloc, machine.memory(), machine.regs().pc, CODE_LINES) {
+            Ok(lines) => Ok(Answer::Code(lines)),
+            Err(_) => Err(NoMemory),
         }
-        Ok(Answer::Code(lines))
-    }
-
-    // The line of code at an address, and its size; none at a closed place.
-    fn code_line(&self, address: u16) -> Option<(Line, usize)> {
-        let memory = self.present.machine.memory();
-        let first = memory.read(address).ok()?;
-        let second = memory.read(address.wrapping_add(1));
-        let third = memory.read(address.wrapping_add(2));
-        Some(match (second, third) {
-            (Ok(second), Ok(third)) => first_line(address, &[first, second, third]),
-            (Ok(second), Err(_)) => first_line(address, &[first, second]),
-            (Err(_), _) => first_line(address, &[first]),
-        })
     }
 
     // Types a line: its letters as capitals, and a return.
@@ -280,6 +294,23 @@ impl<'a> Debugger<'a> {
         self.type_text(keys.as_slice())?;
         Ok(())
     }
+}
+
+// What was sent behind so many bytes.
+fn behind(sent: &[u8], shown: usize) -> &[u8]
+    ensures { result.now ≡ drop shown sent.now }
+{
+    if shown < sent.len() {
+        &sent[shown..]
+    } else {
+        &[]
+    }
+}
+
+fn is_limit(reached: Reached) -> bool
+    ensures { result ≡ is_limit reached }
+{
+    matches!(reached, Reached::Limit)
 }
 
 // What a typed line hands over.
@@ -303,11 +334,15 @@ fn capitals(alloc: Global, text: &[u8]) -> Result<Vec<u8>, AllocError>
     Ok(keys)
 }
 
-fn turned(is_set: bool) -> Answer {
+fn turned(is_set: bool) -> Answer
+    ensures { result ≡ set_or_cleared is_set }
+{
     if is_set { Answer::Set } else { Answer::Cleared }
 }
 
-fn value_answer(value: Result<i16, EvalError>) -> Answer {
+fn value_answer(value: Result<i16, EvalError>) -> Answer
+    ensures { result ≡ value_answer value }
+{
     match value {
         Ok(value) => Answer::Number(value),
         Err(EvalError::DivideByZero) => Answer::DivisionByZero,

@@ -18,6 +18,7 @@ impl<'a> Debugger<'a> {
     pub fn go_on(&mut self, alloc: Global, limit: u64) -> Result<Reached, NoMemory>
         ensures run { OnOk result (KeepsRun self.old self.new) }
         ensures stop { IfOk result (λ reached. (start : Point) → OnRun start self.old → GoesToStop start reached self.old self.new) }
+        ensures shown { OnOk result (self.new.shown ≡ self.old.shown) }
     {
         let last = self.present.events.saturating_add(limit);
         for _ in 0..u64::MAX {
@@ -45,6 +46,7 @@ impl<'a> Debugger<'a> {
         ensures run { OnOk result (KeepsRun self.old self.new) }
         ensures stop { IfOk result (λ reached. (start : Point) → start.begun ≡ 0 → OnRun start self.old
             → (time : ℕ) × IsNewest self.old start time × IsAtTime time reached self.new) }
+        ensures shown { OnOk result (self.new.shown ≡ self.old.shown) }
     {
         if self.present.begun == 0 {
             return Ok(self.standing());

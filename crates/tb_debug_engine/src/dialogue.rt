@@ -1,12 +1,19 @@
 //! The dialogue.
-use crate::sources::{Sources, Written, written_lines};
+ghost use Rattle.std.specs.Prelude.{◌≡◌, OnErr, OnOk, is_err};
+ghost use Rattle.std.specs.Io.KnownBytes.{Appends};
+ghost use Rattle.tb_streams.specs.Failures.{failures_of};
+ghost use Rattle.tb_streams.specs.Streams.{AppendsPrefix, counted};
+ghost use Rattle.tb_debug_engine.specs.Dialogue.{Asks, Begins, Debugs, Exchanges, Opens, Says, Talks, prompt};
+ghost use Rattle.tb_debug_engine.specs.Sources.{shown_of};
+
+use crate::sources::{Sources, Written};
 use crate::texts::push_answer;
 use std::alloc::Global;
 use std::io::{Read, Write};
 use tb_debug::{Answer, Beside, Debugger, read_command};
 use tb_engines::{End, Outcome, Stop, start_machine, without_input};
 use tb_kernal::Keyboard;
-use tb_streams::{MOST_INPUT, Tracked, read_line, without_return, write_output};
+use tb_streams::{Fault, MOST_INPUT, Tracked, read_line, without_return, write_output};
 
 /// What stands before a command that is typed at a terminal.
 const PROMPT: &[u8] = b"> ";
@@ -25,20 +32,52 @@ pub struct Setting {
 fn say<W: Write>(
     alloc: Global,
     writer: &mut Tracked<W>,
-    lines: &[Written<'_>],
+    source: &Written<'_>,
     answer: Answer,
-) -> Result<(), Outcome> {
+) -> Result<(), Outcome>
+    ensures { Says (shown_of source.now answer) result (W.contents writer.old.stream) (W.contents writer.new.stream)
+        (failures_of writer.old) (failures_of writer.new) }
+{
     let mut text = Vec::new(alloc);
-    if push_answer(alloc, &mut text, lines, answer).is_err() {
+    if push_answer(alloc, &mut text, source, answer).is_err() {
         return Err(Outcome::NoMemory);
     }
-    write(writer, text.as_slice())
-}
-
-fn write<W: Write>(writer: &mut Tracked<W>, text: &[u8]) -> Result<(), Outcome> {
-    match write_output(writer, text) {
+    match write_output(writer, text.as_slice()) {
         Ok(()) => Ok(()),
         Err(_) => Err(Outcome::WriteFault),
+    }
+}
+
+// Writes the prompt where one is shown.
+fn prompt<W: Write>(writer: &mut Tracked<W>, prompts: bool) -> Result<(), Fault>
+    ensures whole { OnOk result (Appends (W.contents writer.old.stream) (W.contents writer.new.stream) (prompt prompts)) }
+    ensures prefix { OnErr result (AppendsPrefix (W.contents writer.old.stream) (W.contents writer.new.stream) (prompt prompts)) }
+    ensures noted { failures_of writer.new ≡ counted (failures_of writer.old) (is_err result) }
+{
+    if prompts {
+        write_output(writer, PROMPT)
+    } else {
+        Ok(())
+    }
+}
+
+// Reads the next line behind the prompt.
+fn ask<R: Read, W: Write>(
+    alloc: Global,
+    prompts: bool,
+    commands: &mut Tracked<R>,
+    writer: &mut Tracked<W>,
+) -> Result<Option<Vec<u8>>, Outcome>
+    ensures { Asks prompts result
+        (R.remaining commands.old.stream) (R.remaining commands.new.stream) (failures_of commands.old) (failures_of commands.new)
+        (W.contents writer.old.stream) (W.contents writer.new.stream) (failures_of writer.old) (failures_of writer.new) }
+{
+    if prompt(writer, prompts).is_err() {
+        return Err(Outcome::WriteFault);
+    }
+    match read_line(alloc, commands, MOST_INPUT) {
+        Ok(line) => Ok(line),
+        Err(error) => Err(without_input(error)),
     }
 }
 
@@ -46,49 +85,52 @@ fn write<W: Write>(writer: &mut Tracked<W>, text: &[u8]) -> Result<(), Outcome> 
 fn answer_line<R: Read, W: Write>(
     alloc: Global,
     debugger: &mut Debugger<'_>,
-    lines: &[Written<'_>],
+    source: &Written<'_>,
     setting: Setting,
     commands: &mut Tracked<R>,
     writer: &mut Tracked<W>,
-) -> Result<bool, Outcome> {
-    if setting.prompts {
-        write(writer, PROMPT)?;
-    }
-    let line = match read_line(alloc, commands, MOST_INPUT) {
+) -> Result<bool, Outcome>
+    ensures { Exchanges source.now setting.prompts debugger.old result debugger.new
+        (R.remaining commands.old.stream) (R.remaining commands.new.stream) (failures_of commands.old) (failures_of commands.new)
+        (W.contents writer.old.stream) (W.contents writer.new.stream) (failures_of writer.old) (failures_of writer.new) }
+{
+    let line = match ask(alloc, setting.prompts, commands, writer) {
         Ok(Some(line)) => line,
         Ok(None) => return Ok(false),
-        Err(error) => return Err(without_input(error)),
+        Err(outcome) => return Err(outcome),
     };
     let command = read_command(without_return(line.as_slice()));
     match debugger.respond(alloc, command, setting.limit) {
-        Ok(Some(answer)) => {
-            say(alloc, writer, lines, answer)?;
-            Ok(true)
-        }
+        Ok(Some(answer)) => match say(alloc, writer, source, answer) {
+            Ok(()) => Ok(true),
+            Err(outcome) => Err(outcome),
+        },
         Ok(None) => Ok(false),
         Err(_) => Err(Outcome::NoMemory),
     }
 }
 
-// The first stop, and then an answer to each line.
+// An answer to each line, behind the first stop.
 fn answer_lines<R: Read, W: Write>(
     alloc: Global,
     debugger: &mut Debugger<'_>,
-    lines: &[Written<'_>],
+    source: &Written<'_>,
     setting: Setting,
     commands: &mut Tracked<R>,
     writer: &mut Tracked<W>,
-) -> Result<(), Outcome> {
-    match debugger.stop(alloc, debugger.standing()) {
-        Ok(first) => say(alloc, writer, lines, first)?,
-        Err(_) => return Err(Outcome::NoMemory),
-    }
-    for _ in 0..u64::MAX {
-        if !answer_line(alloc, debugger, lines, setting, commands, writer)? {
-            return Ok(());
+) -> Outcome
+    ensures { Talks source.now setting.prompts debugger.old result
+        (R.remaining commands.old.stream) (R.remaining commands.new.stream) (failures_of commands.old) (failures_of commands.new)
+        (W.contents writer.old.stream) (W.contents writer.new.stream) (failures_of writer.old) (failures_of writer.new) }
+{
+    for asked in 0..u64::MAX {
+        match answer_line(alloc, debugger, source, setting, commands, writer) {
+            Ok(true) => {}
+            Ok(false) => return Outcome::Ended(End::Done),
+            Err(outcome) => return outcome,
         }
     }
-    Ok(())
+    Outcome::Ended(End::Done)
 }
 
 // The debugger of a program at its first line.
@@ -97,7 +139,9 @@ fn debugger_of<'a>(
     sources: &'a Sources,
     keyboard: Keyboard,
     beside: Beside,
-) -> Result<Debugger<'a>, Outcome> {
+) -> Result<Debugger<'a>, Outcome>
+    ensures { Begins sources.now.program keyboard.text.items keyboard.answers.items beside result }
+{
     let loaded = match tb_prg::read(sources.program.prg()) {
         Ok(loaded) => loaded,
         Err(_) => return Err(Outcome::NoMemory),
@@ -113,26 +157,20 @@ fn debugger_of<'a>(
     }
 }
 
-fn talk<R: Read, W: Write>(
+// The first stop is told.
+fn open<W: Write>(
     alloc: Global,
-    sources: &Sources,
-    keyboard: Keyboard,
-    setting: Setting,
-    commands: &mut Tracked<R>,
+    debugger: &mut Debugger<'_>,
+    source: &Written<'_>,
     writer: &mut Tracked<W>,
-) -> Result<(), Outcome> {
-    let Ok(lines) = written_lines(alloc, &sources.program, sources.text.as_slice()) else {
-        return Err(Outcome::NoMemory);
-    };
-    let mut debugger = debugger_of(alloc, sources, keyboard, setting.beside)?;
-    answer_lines(
-        alloc,
-        &mut debugger,
-        lines.as_slice(),
-        setting,
-        commands,
-        writer,
-    )
+) -> Result<(), Outcome>
+    ensures { Opens source.now debugger.old result debugger.new (W.contents writer.old.stream) (W.contents writer.new.stream)
+        (failures_of writer.old) (failures_of writer.new) }
+{
+    match debugger.stop(alloc, debugger.standing()) {
+        Ok(first) => say(alloc, writer, source, first),
+        Err(_) => Err(Outcome::NoMemory),
+    }
 }
 
 /// Debugs a program by commands, one on a line, up to `q` or the end. Each command is answered, and the answer flushed,
@@ -144,9 +182,20 @@ pub fn debug<R: Read, W: Write>(
     setting: Setting,
     commands: &mut Tracked<R>,
     writer: &mut Tracked<W>,
-) -> Outcome {
-    match talk(alloc, sources, keyboard, setting, commands, writer) {
-        Ok(()) => Outcome::Ended(End::Done),
+) -> Outcome
+    ensures { Debugs sources.now keyboard.text.items keyboard.answers.items setting.beside setting.prompts result
+        (R.remaining commands.old.stream) (R.remaining commands.new.stream) (failures_of commands.old) (failures_of commands.new)
+        (W.contents writer.old.stream) (W.contents writer.new.stream) (failures_of writer.old) (failures_of writer.new) }
+{
+    let Ok(source) = Written::new(alloc, sources) else {
+        return Outcome::NoMemory;
+    };
+    let mut debugger = match debugger_of(alloc, sources, keyboard, setting.beside) {
+        Ok(debugger) => debugger,
+        Err(outcome) => return outcome,
+    };
+    match open(alloc, &mut debugger, &source, writer) {
+        Ok(()) => answer_lines(alloc, &mut debugger, &source, setting, commands, writer),
         Err(outcome) => outcome,
     }
 }

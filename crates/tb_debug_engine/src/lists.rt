@@ -1,37 +1,103 @@
-//! Lists of a source.
-use crate::sources::Written;
-use crate::texts::push_written;
+//! Lines of a source, as they are shown.
+ghost use Rattle.std.specs.Prelude.{◌≡◌, ◌+◌, ◌^◌, ◌++◌, ◌<◌, drop, length, map, take, OnOk};
+ghost use Rattle.tb_written.specs.Lines.{pair_of};
+ghost use Rattle.tb_debug_engine.specs.Lists.{index_from, index_of, list_text, marked, written};
+
 use std::alloc::AllocError;
+use tb_written::{Numbered, push_shown, text_of};
 
 /// How many lines are shown before a line, and behind it.
-const ROUND: usize = 5;
+const AROUND: usize = 5;
 
-// The place of a line among the lines of a program; 0 where it isn't one.
-fn index_of(lines: &[Written<'_>], number: Option<u16>) -> usize {
-    for (index, line) in lines.iter().enumerate() {
-        if Some(line.number) == number {
-            return index;
-        }
-    }
-    0
+/// Appends the line of a number as it is written, and a 10.
+pub fn push_written(
+    text: &mut Vec<u8>,
+    lines: &[Numbered<'_>],
+    number: u16,
+) -> Result<(), AllocError>
+    ensures { OnOk result (text.new.items ≡ text.old.items ++ written (map pair_of lines.now) number) }
+{
+    push_shown(text, text_of(lines, number))?;
+    text.push(b'\n')?;
+    Ok(())
 }
 
-/// Appends the lines round a line, that of the place behind `* ` and the others behind two spaces.
+// The place of a line among others, of which so many come before.
+fn index_from(before: usize, numbers: &[u16], number: u16) -> usize
+    requires { before + length numbers.now < 2 ^ 63 }
+    ensures { result ≡ index_from before numbers.now number }
+{
+    match numbers {
+        [] => 0,
+        [first, rest @ ..] => if *first == number {
+            before
+        } else {
+            index_from(before + 1, rest, number)
+        },
+    }
+}
+
+fn index_of(numbers: &[u16], line: Option<u16>) -> usize
+    ensures { result ≡ index_of numbers.now line }
+{
+    match line {
+        Some(number) => index_from(0, numbers, number),
+        None => 0,
+    }
+}
+
+// The lines behind the first so many.
+fn behind(numbers: &[u16], count: usize) -> &[u16]
+    ensures { result.now ≡ drop count numbers.now }
+{
+    if count < numbers.len() {
+        &numbers[count..]
+    } else {
+        &[]
+    }
+}
+
+// The first so many lines.
+fn first(numbers: &[u16], count: usize) -> &[u16]
+    ensures { result.now ≡ take count numbers.now }
+{
+    if count < numbers.len() {
+        &numbers[..count]
+    } else {
+        numbers
+    }
+}
+
+fn push_marked(
+    text: &mut Vec<u8>,
+    lines: &[Numbered<'_>],
+    place: Option<u16>,
+    number: u16,
+) -> Result<(), AllocError>
+    ensures { OnOk result (text.new.items ≡ text.old.items ++ marked (map pair_of lines.now) place number) }
+{
+    match place {
+        Some(place) if number == place => text.extend_from_slice(b"* ")?,
+        _ => text.extend_from_slice(b"  ")?,
+    }
+    push_written(text, lines, number)
+}
+
+/// Appends the lines around a line, the one at which the run stands behind `* ` and the others behind two spaces.
 pub fn push_list(
     text: &mut Vec<u8>,
-    lines: &[Written<'_>],
+    lines: &[Numbered<'_>],
+    numbers: &[u16],
     round: Option<u16>,
     place: Option<u16>,
-) -> Result<(), AllocError> {
-    let index = index_of(lines, round);
-    let from = index.saturating_sub(ROUND);
-    for line in lines.iter().skip(from).take(index - from + ROUND + 1) {
-        if Some(line.number) == place {
-            text.extend_from_slice(b"* ")?;
-        } else {
-            text.extend_from_slice(b"  ")?;
-        }
-        push_written(text, line.text)?;
+) -> Result<(), AllocError>
+    ensures { OnOk result (text.new.items ≡ text.old.items ++ list_text (map pair_of lines.now) numbers.now round place) }
+{
+    let index = index_of(numbers, round);
+    let from = index.saturating_sub(AROUND);
+    let near = first(behind(numbers, from), index - from + AROUND + 1);
+    for number in near {
+        push_marked(text, lines, place, *number)?;
     }
     Ok(())
 }

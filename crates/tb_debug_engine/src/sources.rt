@@ -1,11 +1,17 @@
 //! A source with its program, and its lines as they are written.
+ghost use Rattle.std.specs.Prelude.{◌≡◌, ◌+◌, IfOk, map};
+ghost use Rattle.tb_codegen.specs.Compiled.{pair_of, starts_of, warnings_of};
+ghost use Rattle.tb_streams.specs.Failures.{failures_of};
+ghost use Rattle.tb_streams.specs.Streams.{ConsumesAtMost, Reads, most_input};
+ghost use Rattle.tb_debug_engine.specs.Sources.{AreSources, AreWritten, ReadsSources};
+
 use std::alloc::{AllocError, Global};
 use std::io::Read;
-use tb_codegen::{CompileError, Compiled, Options, compile};
+use tb_codegen::{CompileError, Compiled, LineStart, Options, compile};
 use tb_engines::{Outcome, Refusal, without_input};
 use tb_lower::Warning;
-use tb_parser::{Fault, LineEdit, SourceErrorKind, next_line, read_line};
 use tb_streams::{Tracked, read_input};
+use tb_written::{Numbered, numbered_lines};
 
 /// A source, and what it was compiled to.
 #[derive(Drop)]
@@ -19,7 +25,10 @@ pub fn read_sources<R: Read>(
     alloc: Global,
     reader: &mut Tracked<R>,
     seed: u16,
-) -> Result<Sources, Outcome> {
+) -> Result<Sources, Outcome>
+    ensures answer { ReadsSources seed result (R.remaining reader.old.stream) (failures_of reader.old) (failures_of reader.new) }
+    ensures taken { ConsumesAtMost (R.remaining reader.old.stream) (R.remaining reader.new.stream) (most_input + 1) }
+{
     let text = match read_input(alloc, reader) {
         Ok(text) => text,
         Err(error) => return Err(without_input(error)),
@@ -32,59 +41,39 @@ pub fn read_sources<R: Read>(
 }
 
 /// The jumps to lines that aren't there.
-pub fn warnings(alloc: Global, sources: &Sources) -> Result<Vec<Warning>, AllocError> {
+pub fn warnings(alloc: Global, sources: &Sources) -> Result<Vec<Warning>, AllocError>
+    ensures { IfOk result (λ warnings. warnings.items ≡ warnings_of sources.now.program) }
+{
     Vec::from_slice(alloc, sources.program.warnings())
 }
 
-/// A line of a program, as it is written.
-#[derive(Clone, Copy, Drop)]
+/// The lines of a source as they are written.
+#[derive(Drop)]
 pub struct Written<'a> {
-    pub number: u16,
-    pub text: &'a [u8],
+    /// All lines of the source, with the numbers that they begin with.
+    pub lines: Vec<Numbered<'a>>,
+    /// The numbers of its program's lines, in rising order.
+    pub numbers: Vec<u16>,
 }
 
-/// The lines of a program, in the order of their numbers.
-pub fn written_lines<'a>(
-    alloc: Global,
-    program: &Compiled,
-    source: &'a [u8],
-) -> Result<Vec<Written<'a>>, AllocError> {
-    let mut lines: Vec<Written<'a>> = Vec::new(alloc);
-    for start in program.starts() {
-        lines.push(Written {
-            number: start.number,
-            text: &[],
-        })?;
-    }
-    let mut rest = source;
-    while let Some((text, behind)) = next_line(rest) {
-        if let Some(number) = number_of(alloc, text)? {
-            place(&mut lines, number, text);
-        }
-        rest = behind;
-    }
-    Ok(lines)
-}
-
-// The number of a line of a file, where it has a statement.
-fn number_of(alloc: Global, text: &[u8]) -> Result<Option<u16>, AllocError> {
-    match read_line(alloc, text) {
-        Ok(LineEdit::Set(number, _)) => Ok(Some(number)),
-        Err(
-            Fault {
-                kind: SourceErrorKind::NoMemory,
-                ..
-            },
-        ) => Err(AllocError),
-        _ => Ok(None),
+impl<'a> Written<'a> {
+    /// Those of a source.
+    pub fn new(alloc: Global, sources: &'a Sources) -> Result<Written<'a>, AllocError>
+        ensures { IfOk result (AreWritten sources.now) }
+    {
+        Ok(Written {
+            lines: numbered_lines(alloc, sources.text.as_slice())?,
+            numbers: numbers_of(alloc, sources.program.starts())?,
+        })
     }
 }
 
-// Puts a text beside its number: the last line of a number takes the place of those before.
-fn place<'a>(lines: &mut Vec<Written<'a>>, number: u16, text: &'a [u8]) {
-    for line in lines.iter_mut() {
-        if line.number == number {
-            line.text = text;
-        }
+fn numbers_of(alloc: Global, starts: &[LineStart]) -> Result<Vec<u16>, AllocError>
+    ensures { IfOk result (λ numbers. numbers.items ≡ map (λ p. p.0) (map pair_of starts.now)) }
+{
+    let mut numbers = Vec::new(alloc);
+    for start in starts {
+        numbers.push(start.number)?;
     }
+    Ok(numbers)
 }

@@ -1,6 +1,14 @@
 //! The texts of answers.
-use crate::lists::push_list;
+ghost use Rattle.std.specs.Prelude.{◌≡◌, ◌+◌, ◌^◌, ◌++◌, ◌<◌, flat_map, length, map, min, true, IfOk, OnOk};
+ghost use Rattle.tb_written.specs.Lines.{pair_of};
+ghost use Rattle.tb_debug_engine.specs.Lists.{written};
+ghost use Rattle.tb_debug_engine.specs.Sources.{shown_of};
+ghost use Rattle.tb_debug_engine.specs.Texts as texts;
+ghost use Rattle.tb_debug_engine.specs.Texts.{address_text, barred_from, byte_text, bytes_text, code_text, or_none, place_text, return_text, row_text, sent_text, stand_text, status_text, unless_zero, variable_text, variables_from};
+
+use crate::lists::{push_list, push_written};
 use crate::sources::Written;
+use hex::encode_upper;
 use std::alloc::{AllocError, Global};
 use tb_commands::Answer as Word;
 use tb_debug::{Answer, Place, Stand};
@@ -8,10 +16,16 @@ use tb_disasm::{Line, Listing};
 use tb_engines::end_of;
 use tb_kernal::Status;
 use tb_streams::host_form;
-use tb_words::digits;
+use tb_written::Numbered;
 
 /// How many bytes of memory stand on a line.
 const ROW: usize = 16;
+
+/// The variables' first name.
+const FIRST_NAME: u8 = b'A';
+
+/// The place of the last one in the alphabet.
+const LAST_NAMED: usize = 25;
 
 const HELP: &[u8] = b"n [K]      on by K lines
 p [K]      back by K lines
@@ -35,38 +49,30 @@ h          this help
 q          end
 ";
 
-/// A byte as it is shown: `?` below 32 and above 126.
-fn shown(byte: u8) -> u8 {
-    if (32..=126).contains(&byte) {
-        byte
-    } else {
-        b'?'
-    }
-}
 
-/// Appends the text of a source line, and a 10.
-pub fn push_written(text: &mut Vec<u8>, line: &[u8]) -> Result<(), AllocError> {
-    for byte in line {
-        text.push(shown(*byte))?;
+// Appends a text, or `none` where it is empty.
+fn push_or_none(text: &mut Vec<u8>, shown: &[u8]) -> Result<(), AllocError>
+    ensures { OnOk result (text.new.items ≡ text.old.items ++ or_none shown.now) }
+{
+    match shown {
+        [] => text.extend_from_slice(b"none\n"),
+        _ => text.extend_from_slice(shown),
     }
-    Ok(text.push(b'\n')?)
-}
-
-// Appends the line of a number, as it is written.
-fn push_numbered(text: &mut Vec<u8>, lines: &[Written<'_>], number: u16) -> Result<(), AllocError> {
-    for line in lines {
-        if line.number == number {
-            return push_written(text, line.text);
-        }
-    }
-    Ok(())
 }
 
 // Appends what was sent in the host form, each line behind `| `.
-fn push_sent(alloc: Global, text: &mut Vec<u8>, sent: &[u8]) -> Result<(), AllocError> {
+fn push_sent(alloc: Global, text: &mut Vec<u8>, sent: &[u8]) -> Result<(), AllocError>
+    ensures { OnOk result (text.new.items ≡ text.old.items ++ sent_text sent.now) }
+{
     let form = host_form(alloc, sent)?;
+    push_barred(text, form.as_slice())
+}
+
+fn push_barred(text: &mut Vec<u8>, form: &[u8]) -> Result<(), AllocError>
+    ensures { OnOk result (text.new.items ≡ text.old.items ++ barred_from true form.now) }
+{
     let mut begins = true;
-    for byte in form.as_slice() {
+    for byte in form {
         if begins {
             text.extend_from_slice(b"| ")?;
         }
@@ -85,7 +91,9 @@ fn push_status(
     text: &mut Vec<u8>,
     status: Status,
     pc: u16,
-) -> Result<(), AllocError> {
+) -> Result<(), AllocError>
+    ensures { OnOk result (text.new.items ≡ text.old.items ++ texts.line (status_text status pc)) }
+{
     match status {
         Status::Running => text.extend_from_slice(b"running\n"),
         Status::Waits => text.extend_from_slice(b"waits\n"),
@@ -97,108 +105,222 @@ fn push_status(
     }
 }
 
-fn push_stand(
+fn push_place(
     alloc: Global,
     text: &mut Vec<u8>,
-    lines: &[Written<'_>],
-    stand: &Stand,
-) -> Result<(), AllocError> {
-    push_sent(alloc, text, stand.sent.as_slice())?;
-    if stand.is_limit {
-        text.extend_from_slice(b"limit\n")?;
-    }
-    match stand.place {
-        Place::Line(number) => push_numbered(text, lines, number),
+    lines: &[Numbered<'_>],
+    place: Place,
+) -> Result<(), AllocError>
+    ensures { OnOk result (text.new.items ≡ text.old.items ++ place_text (map pair_of lines.now) place) }
+{
+    match place {
+        Place::Line(number) => push_written(text, lines, number),
         Place::Opening => text.extend_from_slice(b"start\n"),
         Place::Ended { status, pc } => push_status(alloc, text, status, pc),
     }
 }
 
-fn push_none(text: &mut Vec<u8>) -> Result<(), AllocError> {
-    text.extend_from_slice(b"none\n")
+fn push_stand(
+    alloc: Global,
+    text: &mut Vec<u8>,
+    lines: &[Numbered<'_>],
+    stand: &Stand,
+) -> Result<(), AllocError>
+    ensures { OnOk result (text.new.items ≡ text.old.items ++ stand_text (map pair_of lines.now) stand.now) }
+{
+    push_sent(alloc, text, stand.sent.as_slice())?;
+    if stand.is_limit {
+        text.extend_from_slice(b"limit\n")?;
+    }
+    push_place(alloc, text, lines, stand.place)
 }
 
-fn push_breakpoints(
-    text: &mut Vec<u8>,
-    lines: &[Written<'_>],
+fn breakpoints_text(
+    alloc: Global,
+    lines: &[Numbered<'_>],
     numbers: &[u16],
-) -> Result<(), AllocError> {
-    if numbers.is_empty() {
-        return push_none(text);
-    }
+) -> Result<Vec<u8>, AllocError>
+    ensures { IfOk result (λ text. text.items ≡ flat_map (written (map pair_of lines.now)) numbers.now) }
+{
+    let mut text = Vec::new(alloc);
     for number in numbers {
-        push_numbered(text, lines, *number)?;
+        push_written(&mut text, lines, *number)?;
     }
-    Ok(())
+    Ok(text)
 }
 
-fn push_variable(text: &mut Vec<u8>, index: usize, value: i16) -> Result<(), AllocError> {
-    text.push(b'A'.saturating_add(index.min(25) as u8))?;
-    text.push(b'=')?;
-    text.extend_from_slice(digits(value).as_slice())?;
-    Ok(text.push(b'\n')?)
+// The name of the variable at a place in the alphabet.
+fn name_at(index: usize) -> u8
+    ensures { result ≡ 65 + min index 25 }
+{
+    FIRST_NAME + index.min(LAST_NAMED) as u8
 }
 
-fn push_variables(text: &mut Vec<u8>, values: &[i16]) -> Result<(), AllocError> {
-    let mut found = false;
-    for (index, value) in values.iter().enumerate() {
-        if *value != 0 {
-            push_variable(text, index, *value)?;
-            found = true;
-        }
-    }
-    if found { Ok(()) } else { push_none(text) }
-}
-
-fn push_returns(
+fn push_variable(
+    alloc: Global,
     text: &mut Vec<u8>,
-    lines: &[Written<'_>],
-    numbers: &[Option<u16>],
-) -> Result<(), AllocError> {
-    if numbers.is_empty() {
-        return push_none(text);
-    }
-    for number in numbers {
-        match number {
-            Some(number) => push_numbered(text, lines, *number)?,
-            None => text.extend_from_slice(b"past\n")?,
-        }
-    }
+    index: usize,
+    value: i16,
+) -> Result<(), AllocError>
+    ensures { OnOk result (text.new.items ≡ text.old.items ++ variable_text index value) }
+{
+    text.push(name_at(index))?;
+    text.push(b'=')?;
+    Word::Number(value).push_line(alloc, text)?;
     Ok(())
 }
 
-fn push_output(alloc: Global, text: &mut Vec<u8>, sent: &[u8]) -> Result<(), AllocError> {
-    if sent.is_empty() {
-        return push_none(text);
+// The same of one that isn't 0.
+fn push_unless_zero(
+    alloc: Global,
+    text: &mut Vec<u8>,
+    index: usize,
+    value: i16,
+) -> Result<(), AllocError>
+    ensures { OnOk result (text.new.items ≡ text.old.items ++ unless_zero index value) }
+{
+    if value == 0 {
+        return Ok(());
     }
-    push_sent(alloc, text, sent)
+    push_variable(alloc, text, index, value)?;
+    Ok(())
 }
 
-// Appends bytes of memory, 16 on a line, each line behind its address.
+fn push_variables(
+    alloc: Global,
+    text: &mut Vec<u8>,
+    index: usize,
+    values: &[i16],
+) -> Result<(), AllocError>
+    requires { index + length values.now < 2 ^ 63 }
+    ensures { OnOk result (text.new.items ≡ text.old.items ++ variables_from index values.now) }
+{
+    match values {
+        [] => Ok(()),
+        [value, rest @ ..] => {
+            push_unless_zero(alloc, text, index, *value)?;
+            push_variables(alloc, text, index + 1, rest)?;
+            Ok(())
+        }
+    }
+}
+
+fn variables_text(alloc: Global, values: &[i16]) -> Result<Vec<u8>, AllocError>
+    ensures { IfOk result (λ text. text.items ≡ variables_from 0 values.now) }
+{
+    let mut text = Vec::new(alloc);
+    push_variables(alloc, &mut text, 0, values)?;
+    Ok(text)
+}
+
+fn push_return(
+    text: &mut Vec<u8>,
+    lines: &[Numbered<'_>],
+    line: Option<u16>,
+) -> Result<(), AllocError>
+    ensures { OnOk result (text.new.items ≡ text.old.items ++ return_text (map pair_of lines.now) line) }
+{
+    match line {
+        Some(number) => push_written(text, lines, number),
+        None => text.extend_from_slice(b"past\n"),
+    }
+}
+
+fn returns_text(
+    alloc: Global,
+    lines: &[Numbered<'_>],
+    noted: &[Option<u16>],
+) -> Result<Vec<u8>, AllocError>
+    ensures { IfOk result (λ text. text.items ≡ flat_map (return_text (map pair_of lines.now)) noted.now) }
+{
+    let mut text = Vec::new(alloc);
+    for line in noted {
+        push_return(&mut text, lines, *line)?;
+    }
+    Ok(text)
+}
+
+fn sent_text(alloc: Global, sent: &[u8]) -> Result<Vec<u8>, AllocError>
+    ensures { IfOk result (λ text. text.items ≡ sent_text sent.now) }
+{
+    let mut text = Vec::new(alloc);
+    push_sent(alloc, &mut text, sent)?;
+    Ok(text)
+}
+
+fn push_address(alloc: Global, text: &mut Vec<u8>, address: u16) -> Result<(), AllocError>
+    ensures { OnOk result (text.new.items ≡ text.old.items ++ address_text address) }
+{
+    text.extend_from_slice(encode_upper(alloc, address.to_be_bytes())?.as_bytes())
+}
+
+fn push_byte(alloc: Global, text: &mut Vec<u8>, byte: Option<u8>) -> Result<(), AllocError>
+    ensures { OnOk result (text.new.items ≡ text.old.items ++ byte_text byte) }
+{
+    match byte {
+        Some(byte) => {
+            text.push(b' ')?;
+            text.extend_from_slice(encode_upper(alloc, [byte])?.as_bytes())
+        }
+        None => text.extend_from_slice(b" --"),
+    }
+}
+
+// Appends the end of a line of bytes and the next one's address, where so many bytes stand before it.
+fn push_row(
+    alloc: Global,
+    text: &mut Vec<u8>,
+    stand: usize,
+    address: u16,
+) -> Result<(), AllocError>
+    ensures { OnOk result (text.new.items ≡ text.old.items ++ row_text stand address) }
+{
+    if stand % ROW != 0 {
+        return Ok(());
+    }
+    if 0 < stand {
+        text.push(b'\n')?;
+    }
+    push_address(alloc, text, address)
+}
+
+// Appends bytes of memory from an address on, of which so many stand there.
+fn push_bytes(
+    alloc: Global,
+    text: &mut Vec<u8>,
+    stand: usize,
+    address: u16,
+    bytes: &[Option<u8>],
+) -> Result<(), AllocError>
+    requires { stand + length bytes.now < 2 ^ 63 }
+    ensures { OnOk result (text.new.items ≡ text.old.items ++ bytes_text stand address bytes.now) }
+{
+    match bytes {
+        [] => Ok(()),
+        [byte, rest @ ..] => {
+            push_row(alloc, text, stand, address)?;
+            push_byte(alloc, text, *byte)?;
+            push_bytes(alloc, text, stand + 1, address.wrapping_add(1), rest)
+        }
+    }
+}
+
 fn push_memory(
     alloc: Global,
     text: &mut Vec<u8>,
     at: u16,
     bytes: &[Option<u8>],
-) -> Result<(), AllocError> {
-    let mut address = at;
-    for (index, byte) in bytes.iter().enumerate() {
-        if index % ROW == 0 {
-            if 0 < index {
-                text.push(b'\n')?;
-            }
-            text.extend_from_slice(format!(in alloc; "{address:04X}")?.as_bytes())?;
-        }
-        address = address.wrapping_add(1);
-        match byte {
-            Some(byte) => text.extend_from_slice(format!(in alloc; " {byte:02X}")?.as_bytes())?,
-            None => text.extend_from_slice(b" --")?,
-        }
-    }
-    Ok(text.push(b'\n')?)
+) -> Result<(), AllocError>
+    ensures { OnOk result (text.new.items ≡ text.old.items ++ texts.line (bytes_text 0 at bytes.now)) }
+{
+    push_bytes(alloc, text, 0, at, bytes)?;
+    text.push(b'\n')?;
+    Ok(())
 }
 
-fn push_code(alloc: Global, text: &mut Vec<u8>, lines: Vec<Line>) -> Result<(), AllocError> {
+fn push_code(alloc: Global, text: &mut Vec<u8>, lines: Vec<Line>) -> Result<(), AllocError>
+    ensures { OnOk result (text.new.items ≡ text.old.items ++ code_text lines.items) }
+{
     if lines.is_empty() {
         return text.extend_from_slice(b"--\n");
     }
@@ -209,18 +331,23 @@ fn push_code(alloc: Global, text: &mut Vec<u8>, lines: Vec<Line>) -> Result<(), 
 pub fn push_answer(
     alloc: Global,
     text: &mut Vec<u8>,
-    lines: &[Written<'_>],
+    source: &Written<'_>,
     answer: Answer,
-) -> Result<(), AllocError> {
+) -> Result<(), AllocError>
+    ensures { OnOk result (text.new.items ≡ text.old.items ++ shown_of source.now answer) }
+{
+    let lines = source.lines.as_slice();
     match answer {
         Answer::Stop(stand) => push_stand(alloc, text, lines, &stand),
-        Answer::Breakpoints(numbers) => push_breakpoints(text, lines, numbers.as_slice()),
-        Answer::List { round, place } => push_list(text, lines, round, place),
-        Answer::Variables(values) => push_variables(text, &values),
-        Answer::Variable { index, value } => push_variable(text, index, value),
-        Answer::Returns(numbers) => push_returns(text, lines, numbers.as_slice()),
-        Answer::Output(sent) => push_output(alloc, text, sent.as_slice()),
-        Answer::Memory { at, bytes } => push_memory(alloc, text, at, bytes.as_slice()),
+        Answer::Breakpoints(numbers) => {
+            push_or_none(text, &breakpoints_text(alloc, lines, &numbers)?)
+        }
+        Answer::List { round, place } => push_list(text, lines, &source.numbers, round, place),
+        Answer::Variables(values) => push_or_none(text, &variables_text(alloc, &values)?),
+        Answer::Variable { index, value } => push_variable(alloc, text, index, value),
+        Answer::Returns(noted) => push_or_none(text, &returns_text(alloc, lines, &noted)?),
+        Answer::Output(sent) => push_or_none(text, &sent_text(alloc, &sent)?),
+        Answer::Memory { at, bytes } => push_memory(alloc, text, at, &bytes),
         Answer::Code(code) => push_code(alloc, text, code),
         Answer::Help => text.extend_from_slice(HELP),
         Answer::Set => text.extend_from_slice(b"set\n"),

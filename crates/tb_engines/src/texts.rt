@@ -1,6 +1,6 @@
 //! What standard error says of an outcome, behind `tbc: `. There is nothing to say where all is done.
 ghost use Rattle.std.specs.Prelude.{◌≡◌, Some};
-ghost use Rattle.tb_engines.specs.Texts.{source_text, too_large_text};
+ghost use Rattle.tb_engines.specs.Texts.{end_text, source_text, too_large_text, wrong_text};
 
 use crate::outcome::{End, Outcome, Refusal};
 use std::fmt;
@@ -23,12 +23,20 @@ fn kind_text(kind: AsmErrorKind) -> &'static str {
     }
 }
 
-fn write_wrong<W: fmt::Write>(wrong: Wrong, f: &mut fmt::Formatter<W>) -> fmt::Result {
-    match wrong {
-        Wrong::UnknownOpcode => f.write_str("unknown opcode"),
-        Wrong::BadDecimal => f.write_str("bad decimal"),
-        Wrong::Closed(address) => write!(f, "closed address {address:04X}"),
-        Wrong::Brk => f.write_str("brk"),
+// What is said of an instruction that was refused.
+#[derive(Drop)]
+struct WrongText(Wrong);
+
+impl fmt::Display for WrongText {
+    ghost output = { λ w. Some (wrong_text w.0) };
+
+    fn fmt<W: fmt::Write>(&self, f: &mut fmt::Formatter<W>) -> fmt::Result {
+        match self.0 {
+            Wrong::UnknownOpcode => f.write_str("unknown opcode"),
+            Wrong::BadDecimal => f.write_str("bad decimal"),
+            Wrong::Closed(address) => write!(f, "closed address {address:04X}"),
+            Wrong::Brk => f.write_str("brk"),
+        }
     }
 }
 
@@ -99,15 +107,15 @@ impl fmt::Display for Refusal {
 }
 
 impl fmt::Display for End {
+    ghost output = { λ end. Some (end_text end) };
+
     fn fmt<W: fmt::Write>(&self, f: &mut fmt::Formatter<W>) -> fmt::Result {
         match self {
             End::Done => Ok(()),
             End::StepLimit => f.write_str("step limit"),
             End::WaitsForKey => f.write_str("waits for a key"),
             End::WentWrong { wrong, pc } => {
-                f.write_str("wrong: ")?;
-                write_wrong(*wrong, f)?;
-                write!(f, " at {pc:04X}")
+                write!(f, "wrong: {} at {pc:04X}", WrongText(*wrong))
             }
         }
     }

@@ -1,3 +1,3 @@
 mod Sending
-mod Talking
+pub mod Talking
 mod Whole

@@ -32,7 +32,7 @@ talked_more limit [] m n w typed line same ran more = (w, typed, subst (λ x. St
 talked_more limit (l ∷ lines) m n w typed line (v, next, before, then, rest) ran more =
     (v, next, before, then, talked_more limit lines next n w typed line rest ran more)
 
-taken_more : (lines : List (List ℕ)) (line : List ℕ) (had mid left : Option (List ℕ)) → TakesLines had lines mid → TakesLine mid line left
+pub taken_more : (lines : List (List ℕ)) (line : List ℕ) (had mid left : Option (List ℕ)) → TakesLines had lines mid → TakesLine mid line left
     → TakesLines had (lines ++ line ∷ []) left
 taken_more [] line had mid left same last = (left, subst (λ x. TakesLine x line left) same last, refl)
 taken_more (l ∷ lines) line had mid left (next, first, rest) last = (next, first, taken_more lines line next mid left rest last)

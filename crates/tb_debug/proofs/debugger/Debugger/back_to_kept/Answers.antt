@@ -2,8 +2,8 @@ use Rattle.std.proofs.Common.{refl, sym, subst}
 use Rattle.tb_debug.specs.Runs.{IsFirst}
 use Rattle.tb_debug.proofs.debugger.Debugger.back_to_kept.Goals as goal
 
-pub returns : goal.returns
-returns c = (
+pub returns-clause-run : goal.returns-clause-run
+returns-clause-run c = (
   refl,
   refl,
   λ start h.

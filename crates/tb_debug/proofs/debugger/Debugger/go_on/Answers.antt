@@ -4,7 +4,7 @@ use Rattle.tb_debug.proofs.Stopping.{no_stop_there, off, passed_here, stop_there
 use Rattle.tb_debug.proofs.debugger.Debugger.go_on.Goals as goal
 
 pub loop-init : goal.loop-init
-loop-init c = record { run = (refl, refl, λ start h. h); stops = refl; passed = λ start h. passed_here start c.args.self.now }
+loop-init c = record { run = (refl, refl, λ start h. h); shown = refl; stops = refl; passed = λ start h. passed_here start c.args.self.now }
 
 pub returns-in_default : goal.returns-in_default
 returns-in_default c =
@@ -16,6 +16,7 @@ returns-in_default c =
     let keeps = then_keeps d e f known.run next.run in
     record {
       run = keeps;
+      shown = next.shown ∙ known.shown;
       stop = λ start on.
           off start d e f c.left.result known.run keeps (next.stops ∙ known.stops) on (known.passed start on) c.in_ok-reached.reached c.in_default.not-Line
           (next.ends start (known.run.2 start on).of_run);
@@ -42,6 +43,7 @@ loop-preserved c =
     let keeps = then_keeps d e f known.run next.run in
     record {
       run = keeps;
+      shown = next.shown ∙ known.shown;
       stops = next.stops ∙ known.stops;
       passed = λ start on.
           no_stop_there start d e f c.left.result known.run keeps (next.stops ∙ known.stops) on (known.passed start on)

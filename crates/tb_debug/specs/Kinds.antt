@@ -1,0 +1,60 @@
+-- Which commands move a run, and which only tell of it.
+use Rattle.std.specs.Prelude.{◌≡◌, ℕ, Option, Some, None}
+use Rattle.tb_codegen.specs.Compiled.{start_in, starts_of}
+use Rattle.tb_debug_commands.specs.declared.command.Command.{Command}
+use Rattle.tb_debug_commands.specs.declared.command.Command.TheVariants as command
+use Rattle.tb_debug.specs.declared.debugger.Debugger.{Debugger}
+use Rattle.tb_debug.specs.declared.moment.Reached.{Reached}
+
+-- a command that types nothing and isn't the end
+abbrev pub IsAct : Command → Type 0
+IsAct (command.Type text) = ⊥
+IsAct command.Quit = ⊥
+IsAct _ = Unit {0}
+
+-- no line of the program has this number
+abbrev pub IsMissing : ℕ → Debugger → Type 0
+IsMissing line d = start_in (starts_of d.program.now) line ≡ None
+
+-- one has, and its code begins somewhere
+abbrev pub IsFound : ℕ → Debugger → Type 0
+IsFound line d = (address : ℕ) × (start_in (starts_of d.program.now) line ≡ Some address)
+
+-- such a command that moves the run
+abbrev pub IsWalk : Command → Debugger → Type 0
+IsWalk (command.On lines) d = Unit {0}
+IsWalk (command.Back lines) d = Unit {0}
+IsWalk command.GoOn d = Unit {0}
+IsWalk command.GoBack d = Unit {0}
+IsWalk (command.ToTime time) d = Unit {0}
+IsWalk (command.Step events) d = Unit {0}
+IsWalk (command.ToLine line) d = IsFound line d
+IsWalk _ d = ⊥
+
+-- such a command that doesn't
+abbrev pub IsTold : Command → Debugger → Type 0
+IsTold (command.On lines) d = ⊥
+IsTold (command.Back lines) d = ⊥
+IsTold command.GoOn d = ⊥
+IsTold command.GoBack d = ⊥
+IsTold (command.ToTime time) d = ⊥
+IsTold (command.Step events) d = ⊥
+IsTold (command.ToLine line) d = IsMissing line d
+IsTold c d = IsAct c
+
+-- one of these for which no memory is needed
+abbrev pub IsShown : Command → Debugger → Type 0
+IsShown command.Variables d = Unit {0}
+IsShown (command.Variable letter) d = Unit {0}
+IsShown command.ListHere d = Unit {0}
+IsShown (command.List line) d = Unit {0}
+IsShown command.Registers d = Unit {0}
+IsShown command.Help d = Unit {0}
+IsShown command.Unknown d = Unit {0}
+IsShown (command.ToLine line) d = IsMissing line d
+IsShown _ d = ⊥
+
+-- a command led to a place of the run, and nothing more was shown of it; or it moves nothing
+abbrev pub Walks : Command → Debugger → Option Reached → Debugger → Type 0
+Walks c d (Some reached) e = IsWalk c d × (e.shown ≡ d.shown)
+Walks c d None e = (IsAct c → IsTold c d) × (e ≡ d)

@@ -1,0 +1,62 @@
+-- What a line comes to.
+use Rattle.std.proofs.Common.{◌≡◌, ◌≢◌, inl, inr, List, [], ◌∷◌, ◌++◌, ℕ, ◌+◌, Bool, Option, Some, length, take, sym, ap, subst, ◌∙◌, append_assoc}
+use Rattle.std.specs.Prelude.{Err, ℤ, min}
+use Rattle.std.proofs.KnownBytes.{Appends-kept, Appends-trans}
+use Rattle.std.proofs.Math.Seq.{take-append-add}
+use Rattle.std.specs.Io.KnownBytes.{Appends}
+use Rattle.tb_streams.specs.Lines.{TakesLine, TakesPart}
+use Rattle.tb_streams.specs.Streams.{AppendsPrefix}
+use Rattle.tb_engines.specs.declared.outcome.Outcome.{Outcome}
+use Rattle.tb_engines.specs.declared.outcome.Outcome.TheVariants.{Ended, Refused, ReadFault, WriteFault, NoMemory}
+use Rattle.tb_debug.specs.declared.answer.Answer.{Answer}
+use Rattle.tb_debug.specs.declared.debugger.Debugger.{Debugger}
+use Rattle.tb_debug_engine.specs.Dialogue.{Answers, Asks, Exchanges, Says, prompt}
+use Rattle.tb_words.specs.Words.{digits_of, word_of}
+use Rattle.tb_debug_engine.specs.Sources.{shown_of}
+use Rattle.tb_debug_engine.specs.Texts.{line, variable_text}
+use Rattle.tb_debug_engine.specs.declared.sources.Written.{Written}
+
+-- a text and a prefix of another one are a prefix of both
+prefix_more : (text shown : List ℕ) (a b c : Option (List ℕ)) → Appends a b text → AppendsPrefix b c shown → AppendsPrefix a c (text ++ shown)
+prefix_more text shown a b c first (k, rest) =
+    (length text + k, subst (Appends a c) (sym (take-append-add text shown k)) (Appends-trans a b c text (take k shown) first rest))
+
+-- a line that is taken is taken in part
+pub taken_in_part : (had left : Option (List ℕ)) (taken : List ℕ) → TakesLine had taken left → TakesPart had taken left
+taken_in_part had left taken (is_line, inl whole) = (is_line, inr whole)
+taken_in_part had left taken (is_line, inr (some, whole, end)) = (is_line, inl whole)
+
+-- a line that can't be read
+pub asked_wrong : (w : Written) (prompts : Bool) (d e : Debugger) (outcome : Outcome) (had left old new : Option (List ℕ)) (read read' wrote wrote' : ℕ)
+    → Asks prompts (Err outcome) had left read read' old new wrote wrote' → Exchanges w prompts d (Err outcome) e had left read read' old new wrote wrote'
+asked_wrong w prompts d e ReadFault had left old new read read' wrote wrote' h = h
+asked_wrong w prompts d e WriteFault had left old new read read' wrote wrote' (same, part, count, other) = (count, other, inl (same, part))
+asked_wrong w prompts d e NoMemory had left old new read read' wrote wrote' h = h
+asked_wrong w prompts d e (Ended end) had left old new read read' wrote wrote' h = absurd h
+asked_wrong w prompts d e (Refused why) had left old new read read' wrote wrote' h = absurd h
+
+-- an answer that can't be told
+pub said_wrong : (w : Written) (prompts : Bool) (d e : Debugger) (outcome : Outcome) (taken : List ℕ) (told : Answer) (had left old now new : Option (List ℕ))
+    (read read' wrote mid wrote' : ℕ) → TakesLine had taken left → Answers d taken (Some told) e → read' ≡ read → Appends old now (prompt prompts)
+    → mid ≡ wrote → Says (shown_of w told) (Err outcome) now new mid wrote'
+    → Exchanges w prompts d (Err outcome) e had left read read' old new wrote wrote'
+said_wrong w prompts d e WriteFault taken told had left old now new read read' wrote mid wrote' took answers same before same_count (part, other) =
+    (same, subst (λ x. wrote' ≢ x) same_count other, inr (told, (taken, took, answers), prefix_more (prompt prompts) (shown_of w told) old now new before part))
+said_wrong w prompts d e NoMemory taken told had left old now new read read' wrote mid wrote' took answers same before same_count (kept, count) =
+    (taken, taken_in_part had left taken took, Appends-kept old now new (prompt prompts) before kept, same, count ∙ same_count)
+said_wrong w prompts d e ReadFault taken told had left old now new read read' wrote mid wrote' took answers same before same_count h = absurd h
+said_wrong w prompts d e (Ended end) taken told had left old now new read read' wrote mid wrote' took answers same before same_count h = absurd h
+said_wrong w prompts d e (Refused why) taken told had left old now new read read' wrote mid wrote' took answers same before same_count h = absurd h
+
+-- two bytes and a text behind another one
+two_more : (before one two all rest : List ℕ) (x x' y : ℕ) → x ≡ x' → one ≡ before ++ x ∷ [] → two ≡ one ++ y ∷ [] → all ≡ two ++ rest
+    → all ≡ before ++ x' ∷ y ∷ rest
+two_more before one two all rest x x' y same first second third =
+    third ∙ ap (λ t. t ++ rest) (second ∙ ap (λ t. t ++ y ∷ []) (first ∙ ap (λ z. before ++ z ∷ []) same))
+    ∙ append_assoc (before ++ x' ∷ []) (y ∷ []) rest ∙ append_assoc before (x' ∷ []) (y ∷ rest)
+
+-- the text of a variable
+pub variable_more : (before one two all : List ℕ) (name index : ℕ) (value : ℤ) → name ≡ 65 + min index 25 → one ≡ before ++ name ∷ []
+    → two ≡ one ++ 61 ∷ [] → all ≡ two ++ line (digits_of (word_of value)) → all ≡ before ++ variable_text index value
+unfolding variable_text
+variable_more before one two all name index value same first second third = two_more before one two all (line (digits_of (word_of value))) name (65 + min index 25) 61 same first second third

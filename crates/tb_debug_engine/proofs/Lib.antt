@@ -1,0 +1,3 @@
+mod Exchanging
+mod Opening
+mod Talking

@@ -1,0 +1,58 @@
+use Rattle.std.proofs.Common.{inr, ap, ◌∙◌}
+use Rattle.std.proofs.KnownBytes.{Appends-trans}
+use Rattle.tb_streams.specs.Lines.{without_return}
+use Rattle.tb_debug_commands.specs.Commands.{asked_in}
+use Rattle.tb_debug_engine.proofs.Exchanging.{asked_wrong, said_wrong}
+use Rattle.tb_debug_engine.proofs.dialogue.answer_line.Goals as goal
+
+pub returns-in-Ok : goal.returns-in-Ok
+returns-in-Ok g c =
+    let (took, prompted, read, wrote) = rw c.in-Ok-Some.field-0-is at c.in-Ok-Some.ensures in
+    let (all, same) = c.in-Ok.ensures in (
+      c.in-Ok-Some-respond.answer,
+      (
+        c.in-Ok-Some.line.items,
+        took,
+        record {
+          command = c.read_command-command.result;
+          spelled = c.read_command-command.ensures ∙ ap asked_in (c.without_return.ensures ∙ ap without_return c.as_slice.ensures.value);
+          run = c.in-Ok-Some-respond.ensures.run;
+          tells = rw c.in-Ok-Some-respond.field-0-is at c.in-Ok-Some-respond.ensures.tells;
+        },
+      ),
+      Appends-trans _ _ _ _ _ prompted all,
+      read,
+      same ∙ wrote,
+    )
+
+pub returns-in-Ok-Some-respond : goal.returns-in-Ok-Some-respond
+returns-in-Ok-Some-respond g c =
+    let (took, prompted, read, wrote) = rw c.in-Ok-Some.field-0-is at c.in-Ok-Some.ensures in
+    said_wrong c.args.source.now c.args.setting.prompts c.args.debugger.now c.respond.new.self c.in-Err-say.outcome c.in-Ok-Some.line.items
+    c.in-Ok-Some-respond.answer _ _ _ _ _ _ _ _ _ _ took
+    (record {
+      command = c.read_command-command.result;
+      spelled = c.read_command-command.ensures ∙ ap asked_in (c.without_return.ensures ∙ ap without_return c.as_slice.ensures.value);
+      run = c.in-Ok-Some-respond.ensures.run;
+      tells = rw c.in-Ok-Some-respond.field-0-is at c.in-Ok-Some-respond.ensures.tells;
+    })
+    read prompted wrote c.in-Err-say.ensures
+
+pub returns-in-Ok-None-respond : goal.returns-in-Ok-None-respond
+returns-in-Ok-None-respond g c =
+    let (took, prompted, read, wrote) = rw c.in-Ok-Some.field-0-is at c.in-Ok-Some.ensures in (
+      inr (
+        c.in-Ok-Some.line.items,
+        c.respond.new.self,
+        took,
+        record {
+          command = c.read_command-command.result;
+          spelled = c.read_command-command.ensures ∙ ap asked_in (c.without_return.ensures ∙ ap without_return c.as_slice.ensures.value);
+          run = c.in-Ok-None-respond.ensures.run;
+          tells = rw c.in-Ok-None-respond.field-0-is at c.in-Ok-None-respond.ensures.tells;
+        },
+      ),
+      prompted,
+      read,
+      wrote,
+    )

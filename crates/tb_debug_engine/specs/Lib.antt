@@ -1,0 +1,4 @@
+pub mod Dialogue
+pub mod Lists
+pub mod Sources
+pub mod Texts

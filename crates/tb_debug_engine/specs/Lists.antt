@@ -1,0 +1,39 @@
+-- Lines of a source, as the debugger shows them.
+use Rattle.std.specs.Prelude.{ℕ, suc, ◌+◌, ◌-◌, ◌==◌, Bool, false, List, [], ◌∷◌, ◌++◌, codes, drop, flat_map, map, take, Option, Some, None, if◌then◌else◌}
+use Rattle.tb_written.specs.Lines.{last_of}
+use Rattle.tb_written.specs.Shown.{shown}
+
+-- the line of a number, as it is written; the lines are given with the numbers that they begin with, the last of a number counts
+abbrev pub written : List (ℕ × List ℕ) → ℕ → List ℕ
+written lines n = map shown (last_of [] n lines) ++ 10 ∷ []
+
+-- how many lines are shown before a line, and behind it
+abbrev pub around : ℕ
+around = 5
+
+-- the place of a line among those of a program, counted from k; 0 where it isn't one
+abbrev pub index_from : ℕ → List ℕ → ℕ → ℕ
+index_from k [] n = 0
+index_from k (m ∷ numbers) n = if m == n then k else index_from (suc k) numbers n
+
+-- the same of a line that may be none
+abbrev pub index_of : List ℕ → Option ℕ → ℕ
+index_of numbers (Some n) = index_from 0 numbers n
+index_of numbers None = 0
+
+-- the run stands at a line
+abbrev pub is_place : Option ℕ → ℕ → Bool
+is_place (Some place) n = n == place
+is_place None n = false
+
+-- a line behind `* ` where the run stands at it, else behind two spaces
+abbrev pub marked : List (ℕ × List ℕ) → Option ℕ → ℕ → List ℕ
+marked lines place n = (if is_place place n then codes "* " else codes "  ") ++ written lines n
+
+-- the lines from five before the one with this place among them to five behind it
+abbrev pub near : List ℕ → ℕ → List ℕ
+near numbers index = take (index - (index - around) + (around + 1)) (drop (index - around) numbers)
+
+-- the lines around a line
+abbrev pub list_text : List (ℕ × List ℕ) → List ℕ → Option ℕ → Option ℕ → List ℕ
+list_text lines numbers round place = flat_map (marked lines place) (near numbers (index_of numbers round))
