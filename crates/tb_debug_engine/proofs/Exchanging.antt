@@ -56,7 +56,9 @@ two_more before one two all rest x x' y same first second third =
     ∙ append_assoc (before ++ x' ∷ []) (y ∷ []) rest ∙ append_assoc before (x' ∷ []) (y ∷ rest)
 
 -- the text of a variable
-pub variable_more : (before one two all : List ℕ) (name index : ℕ) (value : ℤ) → name ≡ 65 + min index 25 → one ≡ before ++ name ∷ []
-    → two ≡ one ++ 61 ∷ [] → all ≡ two ++ line (digits_of (word_of value)) → all ≡ before ++ variable_text index value
+pub variable_more : (before one two all : List ℕ) (name index : ℕ) (given value : ℤ) → name ≡ 65 + min index 25 → one ≡ before ++ name ∷ []
+    → two ≡ one ++ 61 ∷ [] → all ≡ two ++ line (digits_of (word_of given)) → given ≡ value → all ≡ before ++ variable_text index value
 unfolding variable_text
-variable_more before one two all name index value same first second third = two_more before one two all (line (digits_of (word_of value))) name (65 + min index 25) 61 same first second third
+variable_more before one two all name index given value same first second third is_value =
+    subst (λ v. all ≡ before ++ (65 + min index 25) ∷ 61 ∷ line (digits_of (word_of v))) is_value
+    (two_more before one two all (line (digits_of (word_of given))) name (65 + min index 25) 61 same first second third)
