@@ -49,7 +49,6 @@ h          this help
 q          end
 ";
 
-
 // Appends a text, or `none` where it is empty.
 fn push_or_none(text: &mut Vec<u8>, shown: &[u8]) -> Result<(), AllocError>
     ensures { OnOk result (text.new.items ≡ text.old.items ++ or_none shown.now) }
@@ -86,12 +85,7 @@ fn push_barred(text: &mut Vec<u8>, form: &[u8]) -> Result<(), AllocError>
 }
 
 // Appends how a machine stands: where it went wrong, as `run` says it.
-fn push_status(
-    alloc: Global,
-    text: &mut Vec<u8>,
-    status: Status,
-    pc: u16,
-) -> Result<(), AllocError>
+fn push_status(alloc: Global, text: &mut Vec<u8>, status: Status, pc: u16) -> Result<(), AllocError>
     ensures { OnOk result (text.new.items ≡ text.old.items ++ texts.line (status_text status pc)) }
 {
     match status {
@@ -267,12 +261,7 @@ fn push_byte(alloc: Global, text: &mut Vec<u8>, byte: Option<u8>) -> Result<(), 
 }
 
 // Appends the end of a line of bytes and the next one's address, where so many bytes stand before it.
-fn push_row(
-    alloc: Global,
-    text: &mut Vec<u8>,
-    stand: usize,
-    address: u16,
-) -> Result<(), AllocError>
+fn push_row(alloc: Global, text: &mut Vec<u8>, stand: usize, address: u16) -> Result<(), AllocError>
     ensures { OnOk result (text.new.items ≡ text.old.items ++ row_text stand address) }
 {
     if stand % ROW != 0 {

@@ -78,7 +78,7 @@ pub fn answered(
     limit: u64,
 ) -> Result<Option<Answer>, NoMemory>
     ensures run { OnOk result (Responds command.entry debugger.old debugger.new) }
-    ensures tells { IfOk result (Tells command.entry debugger.new) }
+    ensures tells { IfOk result (Tells command.entry debugger.old debugger.new) }
 {
     debugger.respond(alloc, command, limit)
 }

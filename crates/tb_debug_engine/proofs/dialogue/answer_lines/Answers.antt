@@ -28,7 +28,7 @@ loop-asked-preserved g c =
       lines ++ line ∷ [],
       longer,
       behind_more c.args.source.now c.args.setting.prompts c.args.debugger.now c.loop-asked.debugger c.answer_line.new.debugger lines line told _ _ _ _ _ _
-      behind took answers all,
+          behind took answers all,
       same_read ∙ keys,
       same_wrote ∙ wrote,
     )
