@@ -6,6 +6,7 @@ pub mod EventLists
 pub mod Keeping
 pub mod Marking
 pub mod Refusing
+pub mod Responding
 pub mod Returns
 pub mod Running
 pub mod Sources

@@ -23,6 +23,15 @@ comes_to marks start (suc n) = own_at marks start n && is_marked marks (point_at
 abbrev pub NoneBegins : List Bool → Point → ℕ → ℕ → Type 0
 NoneBegins marks start m n = (k : ℕ) → m < k → k < n → comes_to marks start k ≡ false
 
+-- the next line that begins behind m events does behind n
+abbrev pub IsNext : List Bool → Point → ℕ → ℕ → Type 0
+IsNext marks start m n = (m < n) × (comes_to marks start n ≡ true) × NoneBegins marks start m n
+
+-- so many lines begin behind m events, the last of them behind n
+abbrev pub Passes : List Bool → Point → ℕ → ℕ → ℕ → Type 0
+Passes marks start m zero n = n ≡ m
+Passes marks start m (suc k) n = (i : ℕ) × Passes marks start m k i × IsNext marks start i n
+
 -- a limit of events, or what can be counted, is used up
 abbrev pub IsUsedUp : ℕ → Moment → Moment → Type 0
 IsUsedUp limit m n = (n.events ≡ m.events + limit) ⊎ (n.events ≡ 18446744073709551615) ⊎ (n.begun ≡ 18446744073709551615)
@@ -35,7 +44,7 @@ at_limit why = Ended why
 -- where going on from a moment by at most so many events ends: at the next line that begins; or else where the machine
 -- doesn't run, or at the limit
 abbrev pub EndsAt : List Bool → Point → ℕ → Moment → Reached → Moment → Type 0
-EndsAt marks start limit m Line n = (m.events < n.events) × (comes_to marks start n.events ≡ true) × NoneBegins marks start m.events n.events
+EndsAt marks start limit m Line n = IsNext marks start m.events n.events
 EndsAt marks start limit m Within n = ⊥
 EndsAt marks start limit m (Ended why) n =
     NoneBegins marks start m.events (suc n.events) × (status (state_of n.machine) ≡ why) × (why ≢ Running)

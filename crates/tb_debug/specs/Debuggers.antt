@@ -42,6 +42,11 @@ IsAtTime time Within d = Unit {0}
 IsAtTime time (Ended why) d = Unit {0}
 IsAtTime time Limit d = Unit {0}
 
+-- where the answer is that a line begins, it is the one at an address
+abbrev pub StandsAt : ℕ → Reached → Debugger → Type 0
+StandsAt address Line d = d.present.machine.regs.pc ≡ address
+StandsAt address _ d = Unit {0}
+
 -- what a line hands over: its letters as capitals, and a return
 abbrev pub keys_of : List ℕ → List ℕ
 keys_of text = map to_ascii_uppercase text ++ 13 ∷ []

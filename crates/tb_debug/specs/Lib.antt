@@ -3,6 +3,7 @@ pub mod Besides
 pub mod Debuggers
 pub mod Events
 pub mod Kinds
+pub mod Leading
 pub mod Lines
 pub mod Readings
 pub mod Runs

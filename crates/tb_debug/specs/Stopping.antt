@@ -5,7 +5,7 @@ use Rattle.tb_kernal.specs.Machine.{state_of, status}
 use Rattle.tb_codegen.specs.Compiled.{starts_of}
 use Rattle.tb_stops.specs.Stops.{breakpoints_of, watches_of, breaks, differ}
 use Rattle.tb_stops.specs.declared.stops.Stops.{Stops}
-use Rattle.tb_debug.specs.Begins.{comes_to}
+use Rattle.tb_debug.specs.Begins.{Passes, comes_to}
 use Rattle.tb_debug.specs.Lines.{line_at}
 use Rattle.tb_debug.specs.Readings.{variables_of}
 use Rattle.tb_debug.specs.Runs.{Point, point_at}
@@ -41,6 +41,11 @@ GoesToStop start Within d e = ⊥
 GoesToStop start (Ended why) d e =
     StopsNowhere d start (suc e.present.events) × (status (state_of e.present.machine) ≡ why) × (why ≢ Running)
 GoesToStop start Limit d e = StopsNowhere d start (suc e.present.events)
+
+-- a debugger that went on by so many lines, if it ends at one
+abbrev pub GoesOnBy : ℕ → Point → Reached → Debugger → Debugger → Type 0
+GoesOnBy lines start Line d e = Passes d.starts start d.present.events lines e.present.events
+GoesOnBy lines start _ d e = Unit {0}
 
 -- ---- going back
 

@@ -27,6 +27,7 @@ use Rattle.tb_debug.specs.declared.answer.Stand.{Stand}
 use Rattle.tb_debug.specs.declared.debugger.Debugger.{Debugger}
 use Rattle.tb_debug.specs.declared.moment.Reached.{Reached}
 use Rattle.tb_debug.specs.declared.moment.Reached.TheVariants.{Limit}
+use Rattle.tb_debug.specs.Leading.{Leads}
 use Rattle.tb_debug.specs.Lines.{line_at}
 use Rattle.tb_debug.specs.Readings.{bytes_of, code_of, most_code, returns_of, variables_of}
 
@@ -82,15 +83,15 @@ abbrev pub TellsStop : ℕ → Bool → Debugger → Answer → Type 0
 TellsStop shown limit d (answer.Stop stand) = IsStop shown limit d stand
 TellsStop shown limit d _ = ⊥
 
--- where a way led, what was sent since the last stop is told, and the stop
-abbrev pub TellsWay : Debugger → Debugger → Option Answer → Type 0
-TellsWay d e (Some told) = (limit : Bool) × TellsStop d.shown limit e told
-TellsWay d e None = ⊥
+-- a command led somewhere: what was sent since the last stop is told, and the stop
+abbrev pub TellsWay : Command → Debugger → Debugger → Option Answer → Type 0
+TellsWay c d e (Some told) = (reached : Reached) × Leads c d reached e × TellsStop d.shown (is_limit reached) e told
+TellsWay c d e None = ⊥
 
--- the way to a line, or that the program has no such line
-abbrev pub TellsLine : Option ℕ → Debugger → Debugger → Option Answer → Type 0
-TellsLine (Some address) d e told = TellsWay d e told
-TellsLine None d e told = told ≡ Some answer.NoSuchLine
+-- the same of one that leads to a line; or that the program has no such line
+abbrev pub TellsLine : Option ℕ → Command → Debugger → Debugger → Option Answer → Type 0
+TellsLine (Some address) c d e told = TellsWay c d e told
+TellsLine None c d e told = told ≡ Some answer.NoSuchLine
 
 -- ---- breakpoints, watches and lists
 
@@ -166,13 +167,13 @@ code_told _ = None
 
 -- what a command tells; a debugger before it and behind it
 abbrev pub Tells : Command → Debugger → Debugger → Option Answer → Type 0
-Tells (command.On lines) d e told = TellsWay d e told
-Tells (command.Back lines) d e told = TellsWay d e told
-Tells command.GoOn d e told = TellsWay d e told
-Tells command.GoBack d e told = TellsWay d e told
-Tells (command.ToTime time) d e told = TellsWay d e told
-Tells (command.Step events) d e told = TellsWay d e told
-Tells (command.ToLine line) d e told = TellsLine (start_in (starts_of d.program.now) line) d e told
+Tells (command.On lines) d e told = TellsWay (command.On lines) d e told
+Tells (command.Back lines) d e told = TellsWay (command.Back lines) d e told
+Tells command.GoOn d e told = TellsWay command.GoOn d e told
+Tells command.GoBack d e told = TellsWay command.GoBack d e told
+Tells (command.ToTime time) d e told = TellsWay (command.ToTime time) d e told
+Tells (command.Step events) d e told = TellsWay (command.Step events) d e told
+Tells (command.ToLine line) d e told = TellsLine (start_in (starts_of d.program.now) line) (command.ToLine line) d e told
 Tells command.Breakpoints d e told = breakpoints_told told ≡ Some (breakpoints_of e.stops)
 Tells (command.Breakpoint line) d e told =
     told ≡ Some (breakpoint_answer (start_in (starts_of d.program.now) line) (not (is_among (breakpoints_of d.stops) line)))

@@ -8,8 +8,9 @@ ghost use Rattle.tb_debug.specs.Readings.{variables_of};
 ghost use Rattle.tb_debug.specs.Lines.{line_at};
 ghost use Rattle.tb_debug.specs.Runs.{Point, IsOfRun, first_point};
 ghost use Rattle.tb_debug.specs.Sources.{Debugs, ShowsLine};
+ghost use Rattle.tb_debug.specs.Stopping.{GoesOnBy};
 ghost use Rattle.tb_debug.specs.declared.beside.Beside.{Beside};
-ghost use Rattle.tb_debug.specs.Debuggers.{OnRun, KeepsRun, KeepsRunTyped, IsAtTime, begun_by};
+ghost use Rattle.tb_debug.specs.Debuggers.{OnRun, KeepsRun, KeepsRunTyped, IsAtTime, StandsAt, begun_by};
 
 use crate::beside::Beside;
 use crate::history::{History, Kept};
@@ -133,9 +134,10 @@ impl<'a> Debugger<'a> {
     pub fn on(&mut self, alloc: Global, lines: u64, limit: u64) -> Result<Reached, NoMemory>
         ensures run { OnOk result (KeepsRun self.old self.new) }
         ensures shown { OnOk result (self.new.shown ≡ self.old.shown) }
+        ensures lines { IfOk result (λ reached. (start : Point) → OnRun start self.old → GoesOnBy lines start reached self.old self.new) }
     {
         let last = self.present.events.saturating_add(limit);
-        for _ in 0..lines {
+        for done in 0..lines {
             match self.next_line(alloc, self.left(last))? {
                 Reached::Line => {}
                 reached => return Ok(reached),
@@ -148,6 +150,7 @@ impl<'a> Debugger<'a> {
     pub fn on_to(&mut self, alloc: Global, address: u16, limit: u64) -> Result<Reached, NoMemory>
         ensures run { OnOk result (KeepsRun self.old self.new) }
         ensures shown { OnOk result (self.new.shown ≡ self.old.shown) }
+        ensures there { IfOk result (λ reached. StandsAt address reached self.new) }
     {
         let last = self.present.events.saturating_add(limit);
         for _ in 0..u64::MAX {

@@ -98,7 +98,8 @@ impl<'a> Debugger<'a> {
     pub fn stop(&mut self, alloc: Global, reached: Reached) -> Result<Answer, NoMemory>
         ensures run { OnOk result (KeepsRun self.old self.new) }
         ensures tells { IfOk result (TellsStop self.old.shown (is_limit reached) self.new) }
-        ensures shown { OnOk result (self.new.shown ≡ length self.new.present.machine.sent) }
+        // Nothing else changes.
+        ensures shown { OnOk result (self.new ≡ record self.old { shown = length self.old.present.machine.sent }) }
     {
         let sent = self.present.machine.sent();
         let Ok(since) = Vec::from_slice(alloc, behind(sent, self.shown)) else {

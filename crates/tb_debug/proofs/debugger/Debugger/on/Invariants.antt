@@ -1,9 +1,12 @@
 use Rattle.std.proofs.Common.{◌≡◌}
-use Rattle.tb_debug.specs.Debuggers.{KeepsRun}
+use Rattle.tb_debug.specs.Begins.{Passes}
+use Rattle.tb_debug.specs.Debuggers.{KeepsRun, OnRun}
+use Rattle.tb_debug.specs.Runs.{Point}
 use Rattle.tb_debug.proofs.debugger.Debugger.on.Given as goal
 
-abbrev pub invariant-loop : goal.invariant-loop
-invariant-loop l = record {
+abbrev pub invariant-loop-done : goal.invariant-loop-done
+invariant-loop-done l = record {
   run : KeepsRun l.fn.self l.self;
   shown : l.self.shown ≡ l.fn.self.shown;
+  passed : (start : Point) → OnRun start l.fn.self → Passes l.fn.self.starts start l.fn.self.present.events l.done l.self.present.events;
 }
