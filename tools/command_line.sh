@@ -611,5 +611,59 @@ debug_rows() {
 }
 debug_rows
 
+# Each command of the debugger at a terminal, its answer awaited before the next one is typed.
+TALK=() # the turns: a prompt, and what is typed behind it
+SHOWN=
+asks() { # COMMAND ANSWER: a turn, and what it shows as a pattern
+    TALK+=('> ' "$1")
+    SHOWN+="> $1"$'\n'"$2"$'\n'
+}
+debug_walk() {
+    file walk.bas '10 LET A=1\n20 GOSUB 100\n30 PRINT "A=",A\n40 INPUT B\n50 PRINT A*B\n60 END\n100 A=A+6\n110 RETURN\n'
+    SHOWN=$'10 LET A=1\n'
+    asks h $'n \\[K\\]      on by K lines\n*\nq          end'
+    asks n '20 GOSUB 100'
+    asks v A=1
+    asks 'v b' B=0
+    asks 'e A*2+1' 3
+    asks r none
+    asks o none
+    asks 'b 110' set
+    asks b '110 RETURN'
+    asks 'w A' set
+    asks c '110 RETURN'
+    asks r '30 PRINT "A=",A'
+    asks l $'  30 PRINT "A=",A\n  40 INPUT B\n  50 PRINT A\\*B\n  60 END\n  100 A=A+6\n\\* 110 RETURN'
+    asks rc '100 A=A+6'
+    asks 't 0' '10 LET A=1'
+    asks 'b 110' cleared
+    asks 'w A' cleared
+    asks 'g 30' '30 PRINT "A=",A'
+    asks 'v A' A=7
+    asks n $'| A=      7\n40 INPUT B'
+    asks o '| A=      7'
+    asks 'l 10' $'  10 LET A=1\n  20 GOSUB 100\n  30 PRINT "A=",A\n\\* 40 INPUT B\n  50 PRINT A\\*B\n  60 END'
+    asks c $'| \\? \nwaits'
+    asks 'k 6' typed
+    asks n $'*50 PRINT A\\*B'
+    asks v $'A=7\nB=6'
+    asks n $'| 42\n60 END'
+    asks n returned
+    asks p '60 END'
+    asks 'p 2' '40 INPUT B'
+    asks x '???? A=?? X=?? Y=?? S=?? P=?? 40 running'
+    asks 'm 0801 4' '0801 0B 08 0A 00'
+    asks 'm 0000 1' '0000 --'
+    asks i $'*; ????'
+    asks 's 2' '40 INPUT B'
+    asks 'b 31' 'no such line'
+    asks 'g 31' 'no such line'
+    asks z 'what\?'
+    at_terminal "${TALK[@]}" '> ' q
+    row 0 '' "$SHOWN> q" debug walk.bas
+    by=()
+}
+debug_walk
+
 echo "$rows calls of tbc, $failed other than they should be"
 [ "$failed" = 0 ]
