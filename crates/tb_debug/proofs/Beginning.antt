@@ -1,6 +1,11 @@
 -- Where lines begin along a run.
-use Rattle.std.proofs.Common.{◌≡◌, ℕ, suc, ◌+◌, ◌&&◌, Bool, false, List, refl, sym, ap, ◌∙◌, subst, inl, inr, add-one, arith}
+use Rattle.std.proofs.Common.{◌≡◌, ℕ, suc, ◌+◌, ◌≤◌, ◌&&◌, Bool, true, false, List, refl, sym, ap, ◌∙◌, subst, inl, inr, add-one, arith}
 use Rattle.std.proofs.lemmas.Bool.{cases_eq}
+use Rattle.std.specs.Prelude.{if◌then◌else◌}
+use Rattle.tb_kernal.specs.declared.events.Event.{Event}
+use Rattle.tb_kernal.specs.declared.events.Event.TheVariants.{Go, Interrupt}
+use Rattle.tb_kernal.specs.Machine.{State, happens, is_stopped, status}
+use Rattle.tb_kernal.specs.Runs.{is_own}
 use Rattle.tb_debug.specs.Begins.{NoneBegins, comes_to, own_at}
 use Rattle.tb_debug.specs.Runs.{Point, IsOfRun, is_marked, point_at}
 use Rattle.tb_debug.specs.declared.moment.Moment.{Moment}
@@ -36,3 +41,49 @@ none_more marks start m n next e none last k above below =
 
 pub none_before : (marks : List Bool) (start : Point) (m n next : ℕ) → next ≡ n + 1 → NoneBegins marks start m (suc n) → NoneBegins marks start m next
 none_before marks start m n next e none k above below = none k above (omega (arith, below, e))
+
+-- an event that isn't the program's own leaves the program counter where it is
+pub stays_there : (s t : State) (e : Event) (own : Bool) → own ≡ is_own e → own ≡ false → t ≡ happens s e → t.regs.pc ≡ s.regs.pc
+stays_there s t (Go k) own is other moved = let never = sym is ∙ other in absurd (cc)
+stays_there s t (Interrupt ws) own is other moved = ap (λ x. x.regs.pc) moved ∙ same (is_stopped (status s)) _
+  where
+    same : (stopped : Bool) (mem : ℕ → ℕ) → (if stopped then s else record s { mem = mem }).regs.pc ≡ s.regs.pc
+    same true mem = refl
+    same false mem = refl
+
+-- ---- how many lines are begun on the way to the next one
+
+-- at most the line that begins where the way began was begun; and none, where the way is still there
+pub record IsTally (marks : List Bool) (first now : Moment) : Type 0 where
+  pub few : now.begun ≤ first.begun + (if is_marked marks first.machine.regs.pc then 1 else 0)
+  pub here : is_marked marks now.machine.regs.pc ≡ true → (is_marked marks first.machine.regs.pc ≡ true) × (now.begun ≡ first.begun)
+
+pub tally_none : (marks : List Bool) (first : Moment) → IsTally marks first first
+tally_none marks first = record { few = omega arith; here = λ marked. (marked, refl) }
+
+-- one event more
+pub tally_few : (marks : List Bool) (first p q : Moment) (own : Bool) → IsTally marks first p
+    → q.begun ≡ p.begun + (if own && is_marked marks p.machine.regs.pc then 1 else 0)
+    → q.begun ≤ first.begun + (if is_marked marks first.machine.regs.pc then 1 else 0)
+tally_few marks first p q own t counted = by own (is_marked marks p.machine.regs.pc) refl counted
+  where
+    by : (o m : Bool) → is_marked marks p.machine.regs.pc ≡ m → q.begun ≡ p.begun + (if o && m then 1 else 0)
+        → q.begun ≤ first.begun + (if is_marked marks first.machine.regs.pc then 1 else 0)
+    by true true is counted =
+        let (was, same) = t.here is in
+        subst (λ b. q.begun ≤ first.begun + (if b then 1 else 0)) (sym was) (omega (arith, counted, same))
+    by true false is counted = omega (arith, counted, t.few)
+    by false m is counted = omega (arith, counted, t.few)
+
+pub tally_more : (marks : List Bool) (first p q : Moment) (own : Bool) → IsTally marks first p
+    → q.begun ≡ p.begun + (if own && is_marked marks p.machine.regs.pc then 1 else 0)
+    → (own ≡ false → q.machine.regs.pc ≡ p.machine.regs.pc) → (own && is_marked marks q.machine.regs.pc) ≡ false → IsTally marks first q
+tally_more marks first p q true t counted kept off =
+    record { few = tally_few marks first p q true t counted; here = λ marked. let never = sym off ∙ marked in absurd (cc) }
+tally_more marks first p q false t counted kept off =
+    record {
+      few = tally_few marks first p q false t counted;
+      here = λ marked.
+          let (was, same) = t.here (ap (is_marked marks) (sym (kept refl)) ∙ marked) in
+          (was, omega (arith, counted, same));
+    }

@@ -4,6 +4,7 @@ pub mod CodeLines
 pub mod Counting
 pub mod EventLists
 pub mod Keeping
+pub mod Leading
 pub mod Marking
 pub mod Refusing
 pub mod Responding

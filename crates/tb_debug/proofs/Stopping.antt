@@ -1,15 +1,17 @@
 -- Where going on and going back stop.
-use Rattle.std.proofs.Common.{◌≡◌, ℕ, suc, ◌+◌, ◌-◌, ◌≤◌, ◌&&◌, ◌||◌, Bool, true, false, refl, sym, ap, ◌∙◌, subst, inl, inr, ◌⊎◌, arith}
-use Rattle.std.specs.Prelude.{if◌then◌else◌, nat_lt}
+use Rattle.std.proofs.Common.{◌≡◌, ℕ, suc, ◌+◌, ◌-◌, ◌≤◌, ◌&&◌, ◌||◌, ◌==◌, Bool, true, false, refl, sym, ap, ◌∙◌, subst, inl, inr, ◌⊎◌, arith}
+use Rattle.std.specs.Prelude.{if◌then◌else◌, min, nat_lt}
 use Rattle.std.proofs.lemmas.Bool.{cases_lt}
 use Rattle.tb_kernal.specs.declared.status.Status.TheVariants.{Running}
 use Rattle.tb_kernal.specs.Machine.{status}
 use Rattle.tb_codegen.specs.Compiled.{starts_of}
-use Rattle.tb_debug.specs.Begins.{EndsAt, NoneBegins, StandsBy, comes_to}
-use Rattle.tb_debug.specs.Debuggers.{IsAtTime, KeepsRun, OnRun}
+use Rattle.tb_debug.specs.Begins.{EndsAt, GoesTo, IsLimited, IsNowhere, NoneBegins, comes_to}
+use Rattle.tb_debug.specs.Debuggers.{KeepsRun, OnRun}
 use Rattle.tb_debug.specs.Runs.{Point, IsOfRun, IsFirst, IsKept, point_at, shown}
 use Rattle.tb_debug.specs.Searching.{KnowsBehind, NewestBetween}
-use Rattle.tb_debug.specs.Stopping.{GoesToStop, IsNewest, LeadsTo, StopsNowhere, breaks_at, changes, leads_back, leads_from, stops_at}
+use Rattle.tb_debug.specs.Stopping.{IsNewest, LeadsTo, breaks_at, changes, comes_where, is_sought, leads_back, leads_from}
+use Rattle.tb_debug.specs.declared.searching.Destination.{Destination}
+use Rattle.tb_debug.specs.declared.searching.Destination.TheVariants.{Stop, Address}
 use Rattle.tb_debug.specs.declared.debugger.Debugger.{Debugger}
 use Rattle.tb_debug.specs.declared.history.Kept.{Kept}
 use Rattle.tb_debug.specs.declared.moment.Moment.{Moment}
@@ -19,64 +21,64 @@ use Rattle.tb_debug.proofs.Counting.{begun_few, begun_later}
 
 -- ---- going on
 
--- what a debugger d on its way, now e, has found
-pub record Passed (start : Point) (d e : Debugger) : Type 0 where
-  pub later : d.present.events ≤ e.present.events
-  pub nowhere : StopsNowhere d start (suc e.present.events)
-
-pub passed_here : (start : Point) (d : Debugger) → Passed start d d
-passed_here start d = record { later = omega arith; nowhere = λ k above below. absurd (omega (arith, above, below)) }
-
 pub then_keeps : (d e f : Debugger) → KeepsRun d e → KeepsRun e f → KeepsRun d f
 then_keeps d e f one other = (other.0 ∙ one.0, other.1 ∙ one.1, λ start on. other.2 start (one.2 start on))
 
--- where no line begins there is no stop
-nowhere_on : (d : Debugger) (start : Point) (m n : ℕ) → StopsNowhere d start (suc m) → NoneBegins d.starts start m n → StopsNowhere d start n
-nowhere_on d start m n nowhere none k above below =
-    elim (cases_lt m k) [
-      | inl behind ↦
-          ap (λ c. c && (breaks_at (starts_of d.program.now) d.stops (point_at d.starts start k) || changes d.stops (point_at d.starts start k))) (none k behind below)
-      | inr before ↦ nowhere k above (omega (arith, before))
-    ]
+-- what a debugger d on its way, now e, has passed
+pub record Passed (to : Destination) (start : Point) (d e : Debugger) : Type 0 where
+  pub later : d.present.events ≤ e.present.events
+  pub nowhere : IsNowhere (comes_where (is_sought to d) d.starts start) d.present (suc e.present.events)
 
--- whether it stops at a line that begins
-stop_is : (d e : Debugger) (start : Point) (b : Bool) → KeepsRun d e → e.stops ≡ d.stops → OnRun start d → comes_to d.starts start e.present.events ≡ true
-    → b ≡ (breaks_at (starts_of e.program.now) e.stops (shown e.present) || changes e.stops (shown e.present)) → stops_at d start e.present.events ≡ b
-stop_is d e start b keep stops on comes is =
-    let now = keep.2 start on in
-    let there : shown e.present ≡ point_at d.starts start e.present.events = now.of_run.stands ∙ ap (λ ms. point_at ms start e.present.events) keep.1 in
-    let p = point_at d.starts start e.present.events in
-    (λ i. comes i && (breaks_at (starts_of d.program.now) d.stops p || changes d.stops p))
-    ∙ sym (is ∙ (λ i. breaks_at (starts_of (keep.0 i).now) (stops i) (there i) || changes (stops i) (there i)))
+pub passed_here : (to : Destination) (start : Point) (d : Debugger) → Passed to start d d
+passed_here to start d = record { later = omega arith; nowhere = λ k above below. absurd (omega (arith, above, below)) }
 
--- one going on more, as it ends in a debugger f: on from e
-module _ (start : Point) (d e f : Debugger) (limit : ℕ) (keep : KeepsRun d e) (keeps : KeepsRun d f) (stops : f.stops ≡ d.stops) (on : OnRun start d) (passed : Passed start d e) where
-  ends : Reached → Type 0
-  ends reached = EndsAt e.starts start limit e.present reached f.present
+-- what is looked for hangs on the program, on what is set and on the place alone
+sought_same : (to : Destination) (d e : Debugger) (p q : Point) → e.program ≡ d.program → e.stops ≡ d.stops → p ≡ q → is_sought to e p ≡ is_sought to d q
+sought_same Stop d e p q program stops place =
+    λ i. breaks_at (starts_of (program i).now) (stops i) (place i) || changes (stops i) (place i)
+sought_same (Address address) d e p q program stops place = ap (λ r. r.state.regs.pc == address) place
 
-  none_at : (n : ℕ) → NoneBegins e.starts start e.present.events n → StopsNowhere d start n
-  none_at n none =
-      nowhere_on d start e.present.events n passed.nowhere (subst (λ ms. NoneBegins ms start e.present.events n) keep.1 none)
+-- a way goes on from a debugger e to one f, on the same run
+module _ (to : Destination) (start : Point) (d e f : Debugger) (limit : ℕ) (keep : KeepsRun d e) (keeps : KeepsRun d f) (stops : f.stops ≡ d.stops)
+    (on : OnRun start d) (passed : Passed to start d e) where
+  is_there : ℕ → Bool
+  is_there = comes_where (is_sought to d) d.starts start
 
-  comes_there : comes_to e.starts start f.present.events ≡ true → comes_to d.starts start f.present.events ≡ true
-  comes_there comes = subst (λ ms. comes_to ms start f.present.events ≡ true) keep.1 comes
+  -- where no line begins there is none that is looked for
+  none_at : (n : ℕ) → NoneBegins e.starts start e.present.events n → IsNowhere (comes_where (is_sought to d) d.starts start) d.present n
+  none_at n none k above below =
+      let here = subst (λ ms. NoneBegins ms start e.present.events n) keep.1 none in
+      elim (cases_lt e.present.events k) [
+        | inl behind ↦ ap (λ c. c && is_sought to d (point_at d.starts start k)) (here k behind below)
+        | inr before ↦ passed.nowhere k above (omega (arith, before))
+      ]
+
+  -- whether the place where a line begins is looked for
+  there_is : (b : Bool) → comes_to e.starts start f.present.events ≡ true → b ≡ is_sought to f (shown f.present)
+      → comes_where (is_sought to d) d.starts start f.present.events ≡ b
+  there_is b comes is =
+      let now = keeps.2 start on in
+      let place : shown f.present ≡ point_at d.starts start f.present.events = now.of_run.stands ∙ ap (λ ms. point_at ms start f.present.events) keeps.1 in
+      let begins : comes_to d.starts start f.present.events ≡ true = subst (λ ms. comes_to ms start f.present.events ≡ true) keep.1 comes in
+      ap (λ c. c && is_sought to d (point_at d.starts start f.present.events)) begins
+      ∙ sym (is ∙ sought_same to d f (shown f.present) (point_at d.starts start f.present.events) keeps.0 stops place)
 
   -- it isn't at a line's beginning
-  pub off : (reached : Reached) → ((reached ≡ Line) → ⊥) → EndsAt e.starts start limit e.present reached f.present → GoesToStop start reached d f
-  off Line other h = absurd (other refl)
-  off Within other h = h
-  off (Ended why) other h = (none_at _ h.0, h.1, h.2)
-  off Limit other h = none_at _ h.0
+  pub off : (whole : ℕ) (reached : Reached) → ((reached ≡ Line) → ⊥) → EndsAt e.starts start limit e.present reached f.present
+      → IsLimited whole reached d.present f.present → GoesTo (comes_where (is_sought to d) d.starts start) whole reached d.present f.present
+  off whole Line other h used = absurd (other refl)
+  off whole Within other h used = h
+  off whole (Ended why) other h used = (none_at _ h.0, h.1, h.2)
+  off whole Limit other h used = (none_at _ h.0, used)
 
-  -- it is at a stop
-  pub stop_there : (b : Bool) → b ≡ (breaks_at (starts_of f.program.now) f.stops (shown f.present) || changes f.stops (shown f.present)) → b ≡ true
-      → EndsAt e.starts start limit e.present Line f.present → GoesToStop start Line d f
-  stop_there b is holds h =
-      (omega (arith, h.0, passed.later), stop_is d f start b keeps stops on (comes_there h.1) is ∙ holds, none_at _ h.2)
+  -- it is at a line that is looked for
+  pub stop_there : (whole : ℕ) (b : Bool) → b ≡ is_sought to f (shown f.present) → b ≡ true
+      → EndsAt e.starts start limit e.present Line f.present → GoesTo (comes_where (is_sought to d) d.starts start) whole Line d.present f.present
+  stop_there whole b is holds h = (omega (arith, h.0, passed.later), there_is b h.1 is ∙ holds, none_at _ h.2)
 
-  -- it is at a line's beginning that is no stop
-  pub no_stop_there : (b : Bool) → b ≡ (breaks_at (starts_of f.program.now) f.stops (shown f.present) || changes f.stops (shown f.present)) → b ≡ false
-      → EndsAt e.starts start limit e.present Line f.present → Passed start d f
+  -- it is at a line that isn't
+  pub no_stop_there : (b : Bool) → b ≡ is_sought to f (shown f.present) → b ≡ false
+      → EndsAt e.starts start limit e.present Line f.present → Passed to start d f
   no_stop_there b is fails h =
       record {
         later = omega (arith, h.0, passed.later);
@@ -84,9 +86,27 @@ module _ (start : Point) (d e f : Debugger) (limit : ℕ) (keep : KeepsRun d e) 
           | inl before ↦ none_at _ h.2 k above before
           | inr from ↦
               let same : k ≡ f.present.events = omega (arith, from, below) in
-              ap (stops_at d start) same ∙ stop_is d f start b keeps stops on (comes_there h.1) is ∙ fails
+              ap (comes_where (is_sought to d) d.starts start) same ∙ there_is b h.1 is ∙ fails
         ];
       }
+
+-- the last event that may be taken
+pub last_is : (n limit last : ℕ) → last ≡ min (n + limit) 18446744073709551615 → (last ≡ n + limit) ⊎ (last ≡ 18446744073709551615)
+last_is n limit last is =
+    elim (cases_lt 18446744073709551615 (n + limit)) [
+      | inl more ↦ inr (omega (arith, is, more))
+      | inr few ↦ inl (omega (arith, is, few))
+    ]
+
+-- a limit that is used up behind a part of the way
+pub limited_on : (whole last left : ℕ) (reached : Reached) (d e f : Moment) → IsLimited left reached e f → left ≡ last - e.events → e.events ≤ last
+    → (last ≡ d.events + whole) ⊎ (last ≡ 18446744073709551615) → IsLimited whole reached d f
+limited_on whole last left Line d e f used is few which = tt
+limited_on whole last left Within d e f used is few which = tt
+limited_on whole last left (Ended why) d e f used is few which = tt
+limited_on whole last left Limit d e f (inl at) is few (inl sum) = inl (omega (arith, at, is, few, sum))
+limited_on whole last left Limit d e f (inl at) is few (inr most) = inr (inl (omega (arith, at, is, few, most)))
+limited_on whole last left Limit d e f (inr most) is few which = inr most
 
 -- ---- going back
 
@@ -207,9 +227,3 @@ none_begun d start on none =
     let later = begun_later d.starts start j d.present.events inside in
     omega (arith, led, later, count, none) in
     record { leads = inl refl; here = few d.present.events (omega arith); before = λ j inside comes. few j inside }
-
-pub stands_at_zero : (reached : Reached) (d : Debugger) → d.present.begun ≡ 0 → StandsBy d.starts reached d.present → IsAtTime 0 reached d
-stands_at_zero Line d none h = (none, h)
-stands_at_zero Within d none h = tt
-stands_at_zero (Ended why) d none h = tt
-stands_at_zero Limit d none h = tt

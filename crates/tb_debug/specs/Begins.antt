@@ -1,5 +1,5 @@
 -- Where lines begin along a run.
-use Rattle.std.specs.Prelude.{◌≡◌, ◌≢◌, ◌⊎◌, ℕ, zero, suc, ◌+◌, ◌<◌, ◌&&◌, Bool, true, false, List}
+use Rattle.std.specs.Prelude.{◌≡◌, ◌≢◌, ◌⊎◌, ℕ, zero, suc, ◌+◌, ◌<◌, ◌≤◌, ◌&&◌, Bool, true, false, List}
 use Rattle.tb_kernal.specs.declared.status.Status.{Status}
 use Rattle.tb_kernal.specs.declared.status.Status.TheVariants.{Running}
 use Rattle.tb_kernal.specs.Machine.{state_of, status}
@@ -50,12 +50,66 @@ EndsAt marks start limit m (Ended why) n =
     NoneBegins marks start m.events (suc n.events) × (status (state_of n.machine) ≡ why) × (why ≢ Running)
 EndsAt marks start limit m Limit n = NoneBegins marks start m.events (suc n.events) × IsUsedUp limit m n
 
--- where the answer is that a line begins, events were taken
+-- where the answer is that a line begins, events were taken; a way on doesn't end within a line
 abbrev pub Advances : Reached → Moment → Moment → Type 0
 Advances Line m n = m.events < n.events
+Advances Within m n = ⊥
 Advances _ m n = Unit {0}
 
--- where the answer is that a line begins, one does
+-- how a machine of this status is told, where a line begins or none does
+abbrev pub standing_by : Status → Bool → Reached
+standing_by Running true = Line
+standing_by Running false = Within
+standing_by why begins = Ended why
+
+-- how a moment stands, as it is told
+abbrev pub standing_of : List Bool → Moment → Reached
+standing_of marks m = standing_by (status (state_of m.machine)) (is_marked marks m.machine.regs.pc)
+
+-- what is told of where a way ended is so: a line begins there; or the machine runs, and none does; or it doesn't run
 abbrev pub StandsBy : List Bool → Reached → Moment → Type 0
 StandsBy marks Line m = is_marked marks m.machine.regs.pc ≡ true
-StandsBy marks _ m = Unit {0}
+StandsBy marks Within m = (status (state_of m.machine) ≡ Running) × (is_marked marks m.machine.regs.pc ≡ false)
+StandsBy marks (Ended why) m = (status (state_of m.machine) ≡ why) × (why ≢ Running)
+StandsBy marks Limit m = Unit {0}
+
+-- as many events were taken as this, or fewer where the machine doesn't run then, or no more can be counted
+pub record StepsBy (count : ℕ) (m n : Moment) : Type 0 where
+  pub later : m.events ≤ n.events
+  pub few : n.events ≤ m.events + count
+  pub all : (status (state_of n.machine) ≢ Running) ⊎ IsUsedUp count m n
+
+-- where the answer is the limit, it is used up
+abbrev pub IsLimited : ℕ → Reached → Moment → Moment → Type 0
+IsLimited limit Limit m n = IsUsedUp limit m n
+IsLimited limit _ m n = Unit {0}
+
+-- ---- ways to a place
+
+-- this holds of no place between a moment and the one behind so many events
+abbrev pub IsNowhere : (ℕ → Bool) → Moment → ℕ → Type 0
+IsNowhere is_there m n = (k : ℕ) → m.events < k → k < n → is_there k ≡ false
+
+-- a way on to the next place of which this holds, or else to where the machine doesn't run, or to the limit
+abbrev pub GoesTo : (ℕ → Bool) → ℕ → Reached → Moment → Moment → Type 0
+GoesTo is_there limit Line m n = (m.events < n.events) × (is_there n.events ≡ true) × IsNowhere is_there m n.events
+GoesTo is_there limit Within m n = ⊥
+GoesTo is_there limit (Ended why) m n =
+    IsNowhere is_there m (suc n.events) × (status (state_of n.machine) ≡ why) × (why ≢ Running)
+GoesTo is_there limit Limit m n = IsNowhere is_there m (suc n.events) × IsUsedUp limit m n
+
+-- fewer lines begin than these, up to a place and with it
+pub record FallsShort (marks : List Bool) (start : Point) (m lines n : ℕ) : Type 0 where
+  pub begun : ℕ
+  pub last : ℕ
+  pub fewer : begun < lines
+  pub passes : Passes marks start m begun last
+  pub none : NoneBegins marks start last (suc n)
+
+-- a way on by so many lines, or to where the machine doesn't run, or to the limit before them
+abbrev pub GoesBy : ℕ → List Bool → Point → ℕ → Reached → Moment → Moment → Type 0
+GoesBy lines marks start limit Line m n = Passes marks start m.events lines n.events
+GoesBy lines marks start limit Within m n = Passes marks start m.events lines n.events
+GoesBy lines marks start limit (Ended why) m n =
+    Passes marks start m.events lines n.events ⊎ FallsShort marks start m.events lines n.events
+GoesBy lines marks start limit Limit m n = FallsShort marks start m.events lines n.events × IsUsedUp limit m n

@@ -1,5 +1,5 @@
 -- A debugger on the run of its program.
-use Rattle.std.specs.Prelude.{◌≡◌, ℕ, Bool, true, List, [], ◌∷◌, ◌++◌, map}
+use Rattle.std.specs.Prelude.{◌≡◌, ◌⊎◌, ℕ, ◌-◌, ◌<◌, ◌≤◌, Bool, true, List, [], ◌∷◌, ◌++◌, map}
 use Rattle.std.specs.Char.{to_ascii_uppercase}
 use Rattle.tb_codegen.specs.Compiled.{starts_of}
 use Rattle.tb_codegen.specs.declared.compiled.Compiled.{Compiled}
@@ -10,6 +10,8 @@ use Rattle.tb_debug.specs.declared.history.History.{History}
 use Rattle.tb_debug.specs.declared.moment.Moment.{Moment}
 use Rattle.tb_debug.specs.declared.moment.Reached.{Reached}
 use Rattle.tb_debug.specs.declared.moment.Reached.TheVariants.{Line, Within, Ended, Limit}
+use Rattle.tb_stops.specs.Stops.{breakpoints_of, watches_of}
+use Rattle.tb_debug.specs.Begins.{EndsAt, IsLimited, standing_of}
 use Rattle.tb_debug.specs.Runs.{Point, IsOfRun, IsFirst, AreKept, begins_at, is_marked, typed}
 
 -- marks stand where the lines of a program begin, and the present moment and the kept ones are of the run from a start
@@ -35,17 +37,52 @@ KeepsRunTyped more d e = (e.program ≡ d.program) × (e.starts ≡ d.starts) ×
 abbrev pub begun_by : Debugger → ℕ
 begun_by d = d.present.begun
 
--- where the answer is that a line begins, it is the line at a time
-abbrev pub IsAtTime : ℕ → Reached → Debugger → Type 0
-IsAtTime time Line d = (d.present.begun ≡ time) × (is_marked d.starts d.present.machine.regs.pc ≡ true)
-IsAtTime time Within d = Unit {0}
-IsAtTime time (Ended why) d = Unit {0}
-IsAtTime time Limit d = Unit {0}
+-- where the answer is that a line begins, it is the line at a time; a way to a time doesn't end within a line
+abbrev pub IsAtTime : ℕ → List Bool → Reached → Moment → Type 0
+IsAtTime time marks Line m = (m.begun ≡ time) × (is_marked marks m.machine.regs.pc ≡ true)
+IsAtTime time marks Within m = ⊥
+IsAtTime time marks (Ended why) m = Unit {0}
+IsAtTime time marks Limit m = Unit {0}
 
 -- where the answer is that a line begins, it is the one at an address
-abbrev pub StandsAt : ℕ → Reached → Debugger → Type 0
-StandsAt address Line d = d.present.machine.regs.pc ≡ address
-StandsAt address _ d = Unit {0}
+abbrev pub StandsAt : ℕ → Reached → Moment → Type 0
+StandsAt address Line m = m.machine.regs.pc ≡ address
+StandsAt address _ m = Unit {0}
+
+-- how many events come before the first line at most
+abbrev pub most_opening : ℕ
+most_opening = 1000000
+
+-- a debugger of a run that starts: it went on to the first line, and nothing is shown, set or watched
+pub record IsOpening (start : Point) (d : Debugger) : Type 0 where
+  pub first : Moment
+  pub none : first.events ≡ 0
+  pub reached : Reached
+  pub opens : EndsAt d.starts start most_opening first reached d.present
+  pub shown : d.shown ≡ 0
+  pub unset : breakpoints_of d.stops ≡ []
+  pub unwatched : watches_of d.stops ≡ []
+
+-- a debugger that stays where it is, and tells how it stands
+abbrev pub Stays : Debugger → Reached → Moment → Type 0
+Stays d reached m = (m ≡ d.present) × (reached ≡ standing_of d.starts d.present)
+
+-- a way to a time, on or back: on by at most so many events; back to the line at that time
+pub record LeadsToTime (time limit : ℕ) (d : Debugger) (reached : Reached) (m : Moment) : Type 0 where
+  pub there : IsAtTime time d.starts reached m
+  pub on : begun_by d ≤ time → (m.begun ≤ time) × IsLimited limit reached d.present m
+  pub back : (start : Point) → start.begun ≡ 0 → OnRun start d → time < begun_by d → reached ≡ Line
+
+-- a way back to the line at a time; where no line was begun, there is none to go back to
+abbrev pub LeadsBackTo : ℕ → Debugger → Reached → Moment → Type 0
+LeadsBackTo time d reached m =
+    ((reached ≡ Line) × IsAtTime time d.starts reached m) ⊎ ((begun_by d ≡ 0) × (time ≡ 0) × Stays d reached m)
+
+-- a way back by so many lines
+pub record LeadsBackBy (lines : ℕ) (d : Debugger) (reached : Reached) (m : Moment) : Type 0 where
+  pub none : lines ≡ 0 → Stays d reached m
+  pub there : 0 < lines → 0 < begun_by d → IsAtTime (begun_by d - lines) d.starts reached m
+  pub back : 0 < lines → (start : Point) → start.begun ≡ 0 → OnRun start d → LeadsBackTo (begun_by d - lines) d reached m
 
 -- what a line hands over: its letters as capitals, and a return
 abbrev pub keys_of : List ℕ → List ℕ

@@ -3,6 +3,7 @@ use Rattle.std.specs.Prelude.{◌≡◌, ℕ, Option, Some, None}
 use Rattle.tb_codegen.specs.Compiled.{start_in, starts_of}
 use Rattle.tb_debug_commands.specs.declared.command.Command.{Command}
 use Rattle.tb_debug_commands.specs.declared.command.Command.TheVariants as command
+use Rattle.tb_debug.specs.Begins.{StandsBy}
 use Rattle.tb_debug.specs.Leading.{Leads}
 use Rattle.tb_debug.specs.declared.debugger.Debugger.{Debugger}
 use Rattle.tb_debug.specs.declared.moment.Reached.{Reached}
@@ -56,6 +57,7 @@ IsShown (command.ToLine line) d = IsMissing line d
 IsShown _ d = ⊥
 
 -- a command led somewhere, and nothing more was shown; or it moves nothing
-abbrev pub Walks : Command → Debugger → Option Reached → Debugger → Type 0
-Walks c d (Some reached) e = IsWalk c d × Leads c d reached e × (e.shown ≡ d.shown)
-Walks c d None e = (IsAct c → IsTold c d) × (e ≡ d)
+abbrev pub Walks : ℕ → Command → Debugger → Option Reached → Debugger → Type 0
+Walks limit c d (Some reached) e =
+    IsWalk c d × Leads limit c d reached e.present × StandsBy d.starts reached e.present × (e.shown ≡ d.shown)
+Walks limit c d None e = (IsAct c → IsTold c d) × (e ≡ d)

@@ -1,17 +1,17 @@
 -- Where going on and going back stop.
-use Rattle.std.specs.Prelude.{◌≡◌, ◌≢◌, ◌⊎◌, ℕ, suc, ◌-◌, ◌<◌, ◌≤◌, ◌&&◌, ◌||◌, Bool, true, false, if◌then◌else◌, nat_lt, List}
-use Rattle.tb_kernal.specs.declared.status.Status.TheVariants.{Running}
-use Rattle.tb_kernal.specs.Machine.{state_of, status}
+use Rattle.std.specs.Prelude.{◌≡◌, ◌⊎◌, ℕ, ◌-◌, ◌≤◌, ◌&&◌, ◌||◌, ◌==◌, Bool, true, if◌then◌else◌, nat_lt, List}
 use Rattle.tb_codegen.specs.Compiled.{starts_of}
 use Rattle.tb_stops.specs.Stops.{breakpoints_of, watches_of, breaks, differ}
 use Rattle.tb_stops.specs.declared.stops.Stops.{Stops}
-use Rattle.tb_debug.specs.Begins.{Passes, comes_to}
+use Rattle.tb_debug.specs.Begins.{comes_to}
 use Rattle.tb_debug.specs.Lines.{line_at}
 use Rattle.tb_debug.specs.Readings.{variables_of}
-use Rattle.tb_debug.specs.Runs.{Point, point_at}
+use Rattle.tb_debug.specs.Runs.{Point, point_at, shown}
 use Rattle.tb_debug.specs.declared.debugger.Debugger.{Debugger}
 use Rattle.tb_debug.specs.declared.moment.Reached.{Reached}
-use Rattle.tb_debug.specs.declared.moment.Reached.TheVariants.{Line, Within, Ended, Limit}
+use Rattle.tb_debug.specs.declared.moment.Reached.TheVariants.{Line}
+use Rattle.tb_debug.specs.declared.searching.Destination.{Destination}
+use Rattle.tb_debug.specs.declared.searching.Destination.TheVariants.{Stop, Address}
 
 -- a breakpoint stands at the line that begins at a place
 abbrev pub breaks_at : List (ℕ × ℕ) → Stops → Point → Bool
@@ -23,29 +23,23 @@ changes stops p = differ (watches_of stops) p.opened (variables_of p.state.mem)
 
 -- ---- going on
 
--- going on stops behind so many events: a line begins there that has a breakpoint, or the one before it changed a watched variable
-abbrev pub stops_at : Debugger → Point → ℕ → Bool
-stops_at d start k =
-    let p = point_at d.starts start k in
-    comes_to d.starts start k && (breaks_at (starts_of d.program.now) d.stops p || changes d.stops p)
+-- `c` stops at a place where a line begins that has a breakpoint, or behind one that changed a watched variable
+abbrev pub is_stop : Debugger → Point → Bool
+is_stop d p = breaks_at (starts_of d.program.now) d.stops p || changes d.stops p
 
--- it stops nowhere between the present place and the one behind so many events
-abbrev pub StopsNowhere : Debugger → Point → ℕ → Type 0
-StopsNowhere d start n = (k : ℕ) → d.present.events < k → k < n → stops_at d start k ≡ false
+-- a place has what is looked for
+abbrev pub is_sought : Destination → Debugger → Point → Bool
+is_sought Stop d p = is_stop d p
+is_sought (Address address) d p = p.state.regs.pc == address
 
--- a debugger that went on to the next stop, or else to where the machine doesn't run, or to its limit
-abbrev pub GoesToStop : Point → Reached → Debugger → Debugger → Type 0
-GoesToStop start Line d e =
-    (d.present.events < e.present.events) × (stops_at d start e.present.events ≡ true) × StopsNowhere d start e.present.events
-GoesToStop start Within d e = ⊥
-GoesToStop start (Ended why) d e =
-    StopsNowhere d start (suc e.present.events) × (status (state_of e.present.machine) ≡ why) × (why ≢ Running)
-GoesToStop start Limit d e = StopsNowhere d start (suc e.present.events)
+-- a line begins behind so many events, at a place that is looked for
+abbrev pub comes_where : (Point → Bool) → List Bool → Point → ℕ → Bool
+comes_where is_there marks start k = comes_to marks start k && is_there (point_at marks start k)
 
--- a debugger that went on by so many lines, if it ends at one
-abbrev pub GoesOnBy : ℕ → Point → Reached → Debugger → Debugger → Type 0
-GoesOnBy lines start Line d e = Passes d.starts start d.present.events lines e.present.events
-GoesOnBy lines start _ d e = Unit {0}
+-- where the answer is that a line begins, its place is the one that is looked for
+abbrev pub IsThere : Destination → Reached → Debugger → Type 0
+IsThere to Line d = is_sought to d (shown d.present) ≡ true
+IsThere to _ d = Unit {0}
 
 -- ---- going back
 

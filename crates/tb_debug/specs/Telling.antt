@@ -1,5 +1,5 @@
 -- What answers say of the run and of the machine.
-use Rattle.std.specs.Prelude.{◌≡◌, ℕ, Bool, true, false, ℤ, pos, not, List, drop, map, Option, Some, None, Result, Ok, Err, if◌then◌else◌, slice_index_or}
+use Rattle.std.specs.Prelude.{◌≡◌, ℕ, Bool, true, false, ℤ, pos, not, List, drop, length, map, Option, Some, None, Result, Ok, Err, if◌then◌else◌, slice_index_or}
 use Rattle.tb_words.specs.Words.{word_of}
 use Rattle.tb_words.specs.declared.Letter.{Letter}
 use Rattle.tb_words.specs.Letters.{place}
@@ -27,6 +27,7 @@ use Rattle.tb_debug.specs.declared.answer.Stand.{Stand}
 use Rattle.tb_debug.specs.declared.debugger.Debugger.{Debugger}
 use Rattle.tb_debug.specs.declared.moment.Reached.{Reached}
 use Rattle.tb_debug.specs.declared.moment.Reached.TheVariants.{Limit}
+use Rattle.tb_debug.specs.Begins.{StandsBy}
 use Rattle.tb_debug.specs.Leading.{Leads}
 use Rattle.tb_debug.specs.Lines.{line_at}
 use Rattle.tb_debug.specs.Readings.{bytes_of, code_of, most_code, returns_of, variables_of}
@@ -72,9 +73,11 @@ abbrev pub is_limit : Reached → Bool
 is_limit Limit = true
 is_limit _ = false
 
--- a stop that tells what was sent behind so many bytes, whether a limit ended the way there, and where the run stands
+-- a stop that tells what was sent behind so many bytes, all of which is shown then; whether a limit ended the way there; and
+-- where the run stands
 pub record IsStop (shown : ℕ) (limited : Bool) (d : Debugger) (stand : Stand) : Type 0 where
   pub sent : stand.sent.items ≡ drop shown d.present.machine.sent
+  pub all : d.shown ≡ length d.present.machine.sent
   pub limit : stand.is_limit ≡ limited
   pub place : stand.place ≡ place_here d
 
@@ -83,15 +86,16 @@ abbrev pub TellsStop : ℕ → Bool → Debugger → Answer → Type 0
 TellsStop shown limit d (answer.Stop stand) = IsStop shown limit d stand
 TellsStop shown limit d _ = ⊥
 
--- a command led somewhere: what was sent since the last stop is told, and the stop
-abbrev pub TellsWay : Command → Debugger → Debugger → Option Answer → Type 0
-TellsWay c d e (Some told) = (reached : Reached) × Leads c d reached e × TellsStop d.shown (is_limit reached) e told
-TellsWay c d e None = ⊥
+-- a command led somewhere by at most so many events: what was sent since the last stop is told, and the stop
+abbrev pub TellsWay : ℕ → Command → Debugger → Debugger → Option Answer → Type 0
+TellsWay limit c d e (Some told) =
+    (reached : Reached) × Leads limit c d reached e.present × StandsBy d.starts reached e.present × TellsStop d.shown (is_limit reached) e told
+TellsWay limit c d e None = ⊥
 
 -- the same of one that leads to a line; or that the program has no such line
-abbrev pub TellsLine : Option ℕ → Command → Debugger → Debugger → Option Answer → Type 0
-TellsLine (Some address) c d e told = TellsWay c d e told
-TellsLine None c d e told = told ≡ Some answer.NoSuchLine
+abbrev pub TellsLine : ℕ → Option ℕ → Command → Debugger → Debugger → Option Answer → Type 0
+TellsLine limit (Some address) c d e told = TellsWay limit c d e told
+TellsLine limit None c d e told = told ≡ Some answer.NoSuchLine
 
 -- ---- breakpoints, watches and lists
 
@@ -165,30 +169,30 @@ code_told _ = None
 
 -- ---- commands
 
--- what a command tells; a debugger before it and behind it
-abbrev pub Tells : Command → Debugger → Debugger → Option Answer → Type 0
-Tells (command.On lines) d e told = TellsWay (command.On lines) d e told
-Tells (command.Back lines) d e told = TellsWay (command.Back lines) d e told
-Tells command.GoOn d e told = TellsWay command.GoOn d e told
-Tells command.GoBack d e told = TellsWay command.GoBack d e told
-Tells (command.ToTime time) d e told = TellsWay (command.ToTime time) d e told
-Tells (command.Step events) d e told = TellsWay (command.Step events) d e told
-Tells (command.ToLine line) d e told = TellsLine (start_in (starts_of d.program.now) line) (command.ToLine line) d e told
-Tells command.Breakpoints d e told = breakpoints_told told ≡ Some (breakpoints_of e.stops)
-Tells (command.Breakpoint line) d e told =
+-- what a command tells, where going on takes at most so many events; a debugger before it and behind it
+abbrev pub Tells : ℕ → Command → Debugger → Debugger → Option Answer → Type 0
+Tells limit (command.On lines) d e told = TellsWay limit (command.On lines) d e told
+Tells limit (command.Back lines) d e told = TellsWay limit (command.Back lines) d e told
+Tells limit command.GoOn d e told = TellsWay limit command.GoOn d e told
+Tells limit command.GoBack d e told = TellsWay limit command.GoBack d e told
+Tells limit (command.ToTime time) d e told = TellsWay limit (command.ToTime time) d e told
+Tells limit (command.Step events) d e told = TellsWay limit (command.Step events) d e told
+Tells limit (command.ToLine line) d e told = TellsLine limit (start_in (starts_of d.program.now) line) (command.ToLine line) d e told
+Tells limit command.Breakpoints d e told = breakpoints_told told ≡ Some (breakpoints_of e.stops)
+Tells limit (command.Breakpoint line) d e told =
     told ≡ Some (breakpoint_answer (start_in (starts_of d.program.now) line) (not (is_among (breakpoints_of d.stops) line)))
-Tells (command.Watch letter) d e told = told ≡ Some (set_or_cleared (not (is_watched (watches_of d.stops) (place letter))))
-Tells command.ListHere d e told = told ≡ Some (answer.List (line_here e) (line_here e))
-Tells (command.List line) d e told = told ≡ Some (list_answer (start_in (starts_of d.program.now) line) line (line_here e))
-Tells command.Variables d e told = told ≡ Some (answer.Variables (variables_here e))
-Tells (command.Variable letter) d e told = TellsValue letter e told
-Tells (command.Value text) d e told = TellsText text.now e told
-Tells command.Returns d e told = returns_told told ≡ Some (returns_here e)
-Tells command.Output d e told = output_told told ≡ Some e.present.machine.sent
-Tells (command.Type text) d e told = told ≡ Some answer.Typed
-Tells command.Registers d e told = told ≡ Some (registers_here e)
-Tells (command.Memory at count) d e told = memory_told told ≡ Some (at, bytes_of (state_of e.present.machine).mem at count)
-Tells command.Code d e told = code_told told ≡ Some (code_of most_code (state_of e.present.machine).mem e.present.machine.regs.pc)
-Tells command.Help d e told = told ≡ Some answer.Help
-Tells command.Quit d e told = told ≡ None
-Tells command.Unknown d e told = told ≡ Some answer.What
+Tells limit (command.Watch letter) d e told = told ≡ Some (set_or_cleared (not (is_watched (watches_of d.stops) (place letter))))
+Tells limit command.ListHere d e told = told ≡ Some (answer.List (line_here e) (line_here e))
+Tells limit (command.List line) d e told = told ≡ Some (list_answer (start_in (starts_of d.program.now) line) line (line_here e))
+Tells limit command.Variables d e told = told ≡ Some (answer.Variables (variables_here e))
+Tells limit (command.Variable letter) d e told = TellsValue letter e told
+Tells limit (command.Value text) d e told = TellsText text.now e told
+Tells limit command.Returns d e told = returns_told told ≡ Some (returns_here e)
+Tells limit command.Output d e told = output_told told ≡ Some e.present.machine.sent
+Tells limit (command.Type text) d e told = told ≡ Some answer.Typed
+Tells limit command.Registers d e told = told ≡ Some (registers_here e)
+Tells limit (command.Memory at count) d e told = memory_told told ≡ Some (at, bytes_of (state_of e.present.machine).mem at count)
+Tells limit command.Code d e told = code_told told ≡ Some (code_of most_code (state_of e.present.machine).mem e.present.machine.regs.pc)
+Tells limit command.Help d e told = told ≡ Some answer.Help
+Tells limit command.Quit d e told = told ≡ None
+Tells limit command.Unknown d e told = told ≡ Some answer.What

@@ -1,16 +1,17 @@
 //! A run that can be walked both ways.
-ghost use Rattle.std.specs.Prelude.{◌≡◌, ◌-◌, ◌<◌, ℕ, IfOk, IfSome, OnOk};
+ghost use Rattle.std.specs.Prelude.{◌≡◌, ◌+◌, ◌-◌, ◌<◌, ◌≤◌, ℕ, true, if◌then◌else◌, vec_len, IfOk, IfSome, OnOk};
 ghost use Rattle.tb_kernal.specs.Machine.{State, state_of};
 ghost use Rattle.tb_syntax.specs.Source.{Program};
 ghost use Rattle.tb_codegen.specs.Compiled.{starts_of};
-ghost use Rattle.tb_debug.specs.Begins.{EndsAt, StandsBy};
+ghost use Rattle.tb_debug.specs.Begins.{Advances, EndsAt, GoesBy, IsLimited, StandsBy, StepsBy, standing_of};
 ghost use Rattle.tb_debug.specs.Readings.{variables_of};
 ghost use Rattle.tb_debug.specs.Lines.{line_at};
-ghost use Rattle.tb_debug.specs.Runs.{Point, IsOfRun, first_point};
+ghost use Rattle.tb_debug.specs.Runs.{Point, IsOfRun, first_point, is_marked};
+ghost use Rattle.tb_debug.specs.Searching.{IsUntil};
 ghost use Rattle.tb_debug.specs.Sources.{Debugs, ShowsLine};
-ghost use Rattle.tb_debug.specs.Stopping.{GoesOnBy};
+ghost use Rattle.tb_debug.specs.declared.moment.Reached.TheVariants.{Line};
 ghost use Rattle.tb_debug.specs.declared.beside.Beside.{Beside};
-ghost use Rattle.tb_debug.specs.Debuggers.{OnRun, KeepsRun, KeepsRunTyped, IsAtTime, StandsAt, begun_by};
+ghost use Rattle.tb_debug.specs.Debuggers.{IsAtTime, IsOpening, KeepsRun, KeepsRunTyped, LeadsBackBy, LeadsToTime, OnRun, begun_by};
 
 use crate::beside::Beside;
 use crate::history::{History, Kept};
@@ -19,7 +20,7 @@ use crate::readings::{line_from, variables_in};
 use crate::starts::Starts;
 use std::alloc::Global;
 use tb_codegen::Compiled;
-use tb_kernal::{Machine, Status};
+use tb_kernal::Machine;
 use tb_memmap::NoMemory;
 use tb_stops::{Stops, Variables};
 
@@ -46,7 +47,9 @@ impl<'a> Debugger<'a> {
         machine: Machine,
         beside: Beside,
     ) -> Result<Debugger<'a>, NoMemory>
-        ensures { IfOk result (λ d. (d.program.now ≡ program.now) × OnRun (first_point (state_of machine) beside) d) }
+        ensures run { IfOk result (λ d. (d.program.now ≡ program.now) × OnRun (first_point (state_of machine) beside) d) }
+        // It stands at its first line, if it comes to one in a number of events, with nothing shown, set or watched.
+        ensures opens { IfOk result (λ d. IsOpening (first_point (state_of machine) beside) d) }
     {
         let starts = Starts::new(alloc, program)?;
         let mut present = Moment::first(machine, beside);
@@ -64,7 +67,9 @@ impl<'a> Debugger<'a> {
     }
 
     /// The present machine.
-    pub fn machine(&self) -> &Machine {
+    pub fn machine(&self) -> &Machine
+        ensures { result.now ≡ self.now.present.machine }
+    {
         &self.present.machine
     }
 
@@ -86,11 +91,6 @@ impl<'a> Debugger<'a> {
         self.present.begun
     }
 
-    /// How many events came before.
-    pub fn events(&self) -> u64 {
-        self.present.events
-    }
-
     /// The values of A to Z.
     pub fn variables(&self) -> Variables
         ensures { result ≡ variables_of (state_of self.now.present.machine).mem }
@@ -98,14 +98,9 @@ impl<'a> Debugger<'a> {
         variables_in(&self.present.machine)
     }
 
-    /// How many moments are kept.
-    pub fn kept(&self) -> usize {
-        self.history.len()
-    }
-
     /// How it stands.
     pub fn standing(&self) -> Reached
-        ensures { StandsBy self.now.starts result self.now.present }
+        ensures { result ≡ standing_of self.now.starts self.now.present }
     {
         self.present.standing(&self.starts)
     }
@@ -117,6 +112,11 @@ impl<'a> Debugger<'a> {
         ensures ends { IfOk result (λ reached. (start : Point) → IsOfRun self.old.starts start self.old.present
             → EndsAt self.old.starts start limit self.old.present reached self.new.present) }
         ensures shown { OnOk result (self.new.shown ≡ self.old.shown) }
+        ensures advances { IfOk result (λ reached. Advances reached self.old.present self.new.present) }
+        ensures within { OnOk result ((self.old.present.events ≤ self.new.present.events) × (self.new.present.events ≤ self.old.present.events + limit)) }
+        ensures begun { OnOk result (self.new.present.begun ≤ self.old.present.begun + (if is_marked self.old.starts self.old.present.machine.regs.pc then 1 else 0)) }
+        ensures stands { IfOk result (λ reached. StandsBy self.old.starts reached self.new.present) }
+        ensures limited { IfOk result (λ reached. IsLimited limit reached self.old.present self.new.present) }
     {
         let reached = self.present.to_next_start(&self.starts, limit)?;
         if let Reached::Line = reached {
@@ -126,7 +126,9 @@ impl<'a> Debugger<'a> {
     }
 
     // How many events are left up to a count of events.
-    pub(crate) fn left(&self, last: u64) -> u64 {
+    pub(crate) fn left(&self, last: u64) -> u64
+        ensures { result ≡ last - self.now.present.events }
+    {
         last.saturating_sub(self.present.events)
     }
 
@@ -134,7 +136,9 @@ impl<'a> Debugger<'a> {
     pub fn on(&mut self, alloc: Global, lines: u64, limit: u64) -> Result<Reached, NoMemory>
         ensures run { OnOk result (KeepsRun self.old self.new) }
         ensures shown { OnOk result (self.new.shown ≡ self.old.shown) }
-        ensures lines { IfOk result (λ reached. (start : Point) → OnRun start self.old → GoesOnBy lines start reached self.old self.new) }
+        ensures lines { IfOk result (λ reached. (start : Point) → OnRun start self.old
+            → GoesBy lines self.old.starts start limit reached self.old.present self.new.present) }
+        ensures stands { IfOk result (λ reached. StandsBy self.old.starts reached self.new.present) }
     {
         let last = self.present.events.saturating_add(limit);
         for done in 0..lines {
@@ -146,26 +150,11 @@ impl<'a> Debugger<'a> {
         Ok(self.standing())
     }
 
-    /// On to the beginning of the line at an address.
-    pub fn on_to(&mut self, alloc: Global, address: u16, limit: u64) -> Result<Reached, NoMemory>
-        ensures run { OnOk result (KeepsRun self.old self.new) }
-        ensures shown { OnOk result (self.new.shown ≡ self.old.shown) }
-        ensures there { IfOk result (λ reached. StandsAt address reached self.new) }
-    {
-        let last = self.present.events.saturating_add(limit);
-        for _ in 0..u64::MAX {
-            match self.next_line(alloc, self.left(last))? {
-                Reached::Line if self.present.machine.regs().pc != address => {}
-                reached => return Ok(reached),
-            }
-        }
-        Ok(Reached::Limit)
-    }
-
     /// To a time, on or back.
     pub fn to_time(&mut self, alloc: Global, time: u64, limit: u64) -> Result<Reached, NoMemory>
         ensures run { OnOk result (KeepsRun self.old self.new) }
-        ensures time { IfOk result (λ reached. IsAtTime time reached self.new) }
+        ensures time { IfOk result (λ reached. LeadsToTime time limit self.old reached self.new.present) }
+        ensures stands { IfOk result (λ reached. StandsBy self.old.starts reached self.new.present) }
         ensures shown { OnOk result (self.new.shown ≡ self.old.shown) }
     {
         if time < self.present.begun {
@@ -178,11 +167,14 @@ impl<'a> Debugger<'a> {
     // On to a time that has not passed.
     fn on_to_time(&mut self, alloc: Global, time: u64, limit: u64) -> Result<Reached, NoMemory>
         ensures run { OnOk result (KeepsRun self.old self.new) }
-        ensures time { IfOk result (λ reached. IsAtTime time reached self.new) }
+        ensures time { IfOk result (λ reached. IsAtTime time self.old.starts reached self.new.present) }
+        ensures few { OnOk result (begun_by self.old ≤ time → begun_by self.new ≤ time) }
+        ensures stands { IfOk result (λ reached. StandsBy self.old.starts reached self.new.present) }
+        ensures limited { IfOk result (λ reached. IsLimited limit reached self.old.present self.new.present) }
         ensures shown { OnOk result (self.new.shown ≡ self.old.shown) }
     {
         let last = self.present.events.saturating_add(limit);
-        for _ in 0..u64::MAX {
+        for done in 0..u64::MAX {
             if self.present.is_at(&self.starts, time) {
                 return Ok(Reached::Line);
             }
@@ -197,18 +189,25 @@ impl<'a> Debugger<'a> {
     /// Back to a time that has passed: the run is run again from the newest moment that is kept of before.
     pub fn back_to(&mut self, alloc: Global, time: u64) -> Result<Reached, NoMemory>
         ensures run { OnOk result (KeepsRun self.old self.new) }
-        ensures time { IfOk result (λ reached. IsAtTime time reached self.new) }
+        ensures time { IfOk result (λ reached. IsAtTime time self.old.starts reached self.new.present) }
+        ensures back { IfOk result (λ reached. (start : Point) → start.begun ≡ 0 → OnRun start self.old → time < begun_by self.old → reached ≡ Line) }
+        ensures stands { IfOk result (λ reached. StandsBy self.old.starts reached self.new.present) }
         ensures shown { OnOk result (self.new.shown ≡ self.old.shown) }
     {
+        // It is run again no farther than to here.
+        let most = self.present.events();
         let newest = self.history.newest_until(time);
         self.back_to_kept(alloc, newest)?;
-        self.on_to_time(alloc, time, u64::MAX)
+        let reached = self.on_to_time(alloc, time, most)?;
+        Ok(reached)
     }
 
     // Back to a kept moment, by its place among them; those behind it are forgotten.
     fn back_to_kept(&mut self, alloc: Global, index: usize) -> Result<(), NoMemory>
         ensures run { OnOk result (KeepsRun self.old self.new) }
         ensures shown { OnOk result (self.new.shown ≡ self.old.shown) }
+        ensures before { OnOk result ((time : ℕ) (start : Point) → IsUntil time self.old.history.later.items (vec_len self.old.history.later) index → start.begun ≡ 0 → OnRun start self.old
+            → begun_by self.new ≤ time) }
     {
         let Some(kept) = self.history.get(index) else {
             return Ok(());
@@ -222,7 +221,8 @@ impl<'a> Debugger<'a> {
     /// Back by so many lines. From within a line the first one back is its beginning.
     pub fn back(&mut self, alloc: Global, lines: u64) -> Result<Reached, NoMemory>
         ensures run { OnOk result (KeepsRun self.old self.new) }
-        ensures time { 0 < lines → 0 < begun_by self.old → IfOk result (λ reached. IsAtTime (begun_by self.old - lines) reached self.new) }
+        ensures lines { IfOk result (λ reached. LeadsBackBy lines self.old reached self.new.present) }
+        ensures stands { IfOk result (λ reached. StandsBy self.old.starts reached self.new.present) }
         ensures shown { OnOk result (self.new.shown ≡ self.old.shown) }
     {
         if lines == 0 || self.present.begun == 0 {
@@ -234,6 +234,8 @@ impl<'a> Debugger<'a> {
     /// On by so many events.
     pub fn step(&mut self, events: u64) -> Result<Reached, NoMemory>
         ensures run { OnOk result (KeepsRun self.old self.new) }
+        ensures steps { OnOk result (StepsBy events self.old.present self.new.present) }
+        ensures stands { IfOk result (λ reached. reached ≡ standing_of self.old.starts self.new.present) }
         ensures shown { OnOk result (self.new.shown ≡ self.old.shown) }
     {
         self.present.step(&self.starts, events)?;
@@ -242,15 +244,11 @@ impl<'a> Debugger<'a> {
 
     /// Puts bytes behind the keyboard's text, in each moment of the run.
     pub fn type_text(&mut self, bytes: &[u8]) -> Result<(), NoMemory>
-        ensures { OnOk result (KeepsRunTyped bytes.now self.old self.new) }
+        ensures run { OnOk result (KeepsRunTyped bytes.now self.old self.new) }
+        ensures shown { self.new.shown ≡ self.old.shown }
     {
         self.present.type_text(bytes)?;
         self.history.type_text(bytes)?;
         Ok(())
-    }
-
-    /// Whether the machine runs.
-    pub fn runs(&self) -> bool {
-        self.present.machine.status() == Status::Running
     }
 }

@@ -1,5 +1,7 @@
 //! The moments that are kept, from which a run is run again.
-ghost use Rattle.std.specs.Prelude.{◌≡◌, ◌∷◌, ◌++◌, ◌≤◌, [], ℕ, List, Bool, IfOk, IfSome, OnOk};
+ghost use Rattle.std.specs.Prelude.{◌≡◌, ◌∷◌, ◌++◌, ◌+◌, ◌<◌, ◌≤◌, [], ℕ, List, Bool, IfOk, IfSome, IsSome, OnOk, slice_index_or, vec_len};
+ghost use Rattle.tb_debug.specs.declared.history.Kept.{Kept};
+ghost use Rattle.tb_debug.specs.Searching.{IsUntil};
 ghost use Rattle.tb_debug.specs.Runs.{Point, IsOfRun, IsFirst, IsKept, IsTyped, AreKept, AreTyped};
 
 use crate::moment::Moment;
@@ -37,6 +39,7 @@ impl Kept {
         ensures again { IfOk result (λ m. (marks : List Bool) (start : Point) (now : Moment) → IsOfRun marks start now → sent.now ≡ now.machine.sent
             → IsKept marks start self.now → self.now.moment.events ≤ now.events → IsOfRun marks start m) }
         ensures events { IfOk result (λ m. m.events ≡ self.now.moment.events) }
+        ensures begun { IfOk result (λ m. m.begun ≡ self.now.moment.begun) }
     {
         let count = self.sent.min(sent.len());
         let moment = self.moment.copied(alloc, &sent[..count])?;
@@ -64,14 +67,19 @@ impl History {
     }
 
     /// How many moments are kept.
-    pub fn len(&self) -> usize {
-        self.later.len().saturating_add(1)
+    pub fn len(&self) -> usize
+        ensures { result ≡ vec_len self.now.later + 1 }
+    {
+        self.later.len() + 1
     }
 
     /// The kept moment at a place among them, from the first one on.
     pub fn get(&self, index: usize) -> Option<&Kept>
-        ensures { (marks : List Bool) (start : Point) (n : ℕ) → IsFirst marks start self.now.first → AreKept marks start n self.now.later.items
+        ensures kept { (marks : List Bool) (start : Point) (n : ℕ) → IsFirst marks start self.now.first → AreKept marks start n self.now.later.items
             → IfSome result (λ k. IsKept marks start k.now × (k.now.moment.events ≤ n)) }
+        ensures some { index < vec_len self.now.later + 1 → IsSome result }
+        ensures first { index ≡ 0 → IfSome result (λ k. k.now ≡ self.now.first) }
+        ensures later { (place : ℕ) (d : Kept) → index ≡ place + 1 → IfSome result (λ k. k.now ≡ slice_index_or self.now.later.items place d) }
     {
         match index.checked_sub(1) {
             Some(place) => self.later.get(place),
@@ -143,11 +151,13 @@ impl History {
     }
 
     /// The place of the newest kept moment that comes before a time, or at it; the first where there is none.
-    pub fn newest_until(&self, time: u64) -> usize {
+    pub fn newest_until(&self, time: u64) -> usize
+        ensures { IsUntil time self.now.later.items (vec_len self.now.later) result }
+    {
         let mut found = 0;
-        for (index, kept) in self.later.iter().enumerate() {
-            if kept.moment.begun <= time {
-                found = index.saturating_add(1);
+        for index in 0..self.later.len() {
+            if self.later[index].moment.begun <= time {
+                found = index + 1;
             }
         }
         found

@@ -1,8 +1,8 @@
 //! A moment of a run: a machine, and how much of the run lies before it.
-ghost use Rattle.std.specs.Prelude.{◌≡◌, ◌<◌, ◌≤◌, ◌+◌, ◌==◌, ◌&&◌, if◌then◌else◌, List, Bool, IfOk, OnOk};
+ghost use Rattle.std.specs.Prelude.{◌≡◌, ◌<◌, ◌≤◌, ◌+◌, ◌==◌, ◌&&◌, if◌then◌else◌, List, Bool, IfOk, OnOk, false};
 ghost use Rattle.tb_kernal.specs.Machine.{state_of, status};
 ghost use Rattle.tb_kernal.specs.declared.status.Status.TheVariants as status;
-ghost use Rattle.tb_debug.specs.Begins.{Advances, EndsAt, StandsBy, at_limit, own_at};
+ghost use Rattle.tb_debug.specs.Begins.{Advances, EndsAt, IsLimited, StandsBy, StepsBy, at_limit, own_at, standing_of};
 ghost use Rattle.tb_debug.specs.Readings.{variables_of};
 ghost use Rattle.tb_debug.specs.Runs.{Point, IsOfRun, IsTyped, StaysOnRun, first_point, is_marked};
 
@@ -92,6 +92,13 @@ impl Moment {
         self.begun == time && self.begins(starts)
     }
 
+    /// How many events came before it.
+    pub fn events(&self) -> u64
+        ensures { result ≡ self.now.events }
+    {
+        self.events
+    }
+
     /// Puts bytes behind the keyboard's text.
     pub fn type_text(&mut self, bytes: &[u8]) -> Result<(), NoMemory>
         ensures { OnOk result (IsTyped bytes.now self.old self.new) }
@@ -101,7 +108,7 @@ impl Moment {
 
     /// How it stands.
     pub fn standing(&self, starts: &Starts) -> Reached
-        ensures { StandsBy starts.now result self.now }
+        ensures { result ≡ standing_of starts.now self.now }
     {
         match self.machine.status() {
             Status::Running if self.begins(starts) => Reached::Line,
@@ -128,6 +135,8 @@ impl Moment {
         ensures run { OnOk result (StaysOnRun starts.now self.old self.new) }
         ensures one { OnOk result (self.new.events ≡ self.old.events + 1) }
         ensures own { IfOk result (λ own. (start : Point) → IsOfRun starts.now start self.old → own ≡ own_at starts.now start self.old.events) }
+        ensures begun { IfOk result (λ own. self.new.begun ≡ self.old.begun + (if own && is_marked starts.now self.old.machine.regs.pc then 1 else 0)) }
+        ensures interrupted { IfOk result (λ own. own ≡ false → self.new.machine.regs.pc ≡ self.old.machine.regs.pc) }
     {
         let pc = self.machine.regs().pc;
         let marked = starts.begins(pc);
@@ -146,6 +155,9 @@ impl Moment {
         ensures run { OnOk result (StaysOnRun starts.now self.old self.new) }
         ensures within { OnOk result (self.new.events ≤ self.old.events + limit) }
         ensures advances { IfOk result (λ reached. Advances reached self.old self.new) }
+        ensures begun { OnOk result (self.new.begun ≤ self.old.begun + (if is_marked starts.now self.old.machine.regs.pc then 1 else 0)) }
+        ensures stands { IfOk result (λ reached. StandsBy starts.now reached self.new) }
+        ensures limited { IfOk result (λ reached. IsLimited limit reached self.old self.new) }
         ensures ends { IfOk result (λ reached. (start : Point) → IsOfRun starts.now start self.old → EndsAt starts.now start limit self.old reached self.new) }
     {
         let last = self.events.saturating_add(limit);
@@ -178,9 +190,10 @@ impl Moment {
 
     /// Takes so many events, or fewer where the machine doesn't run then.
     pub fn step(&mut self, starts: &Starts, count: u64) -> Result<(), NoMemory>
-        ensures { OnOk result (StaysOnRun starts.now self.old self.new) }
+        ensures run { OnOk result (StaysOnRun starts.now self.old self.new) }
+        ensures steps { OnOk result (StepsBy count self.old self.new) }
     {
-        for _ in 0..count {
+        for taken in 0..count {
             if self.machine.status() != Status::Running {
                 return Ok(());
             }

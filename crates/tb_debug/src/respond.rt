@@ -1,11 +1,11 @@
 //! What commands do, and their answers.
-ghost use Rattle.std.specs.Prelude.{◌≡◌, Some, drop, length, not, IfOk, OnOk};
+ghost use Rattle.std.specs.Prelude.{◌≡◌, ℕ, Some, drop, length, not, IfOk, OnOk};
 ghost use Rattle.tb_words.specs.Letters.{place};
 ghost use Rattle.tb_kernal.specs.Machine.{state_of};
 ghost use Rattle.tb_codegen.specs.Compiled.{start_in, starts_of};
 ghost use Rattle.tb_stops.specs.Stops.{breakpoints_of, is_among, is_watched, watches_of};
 ghost use Rattle.tb_debug.specs.Debuggers.{KeepsRun, KeepsRunTyped, Responds, keys_of};
-ghost use Rattle.tb_debug.specs.Kinds.{IsAct, IsShown, IsTold, Walks};
+ghost use Rattle.tb_debug.specs.Kinds.{IsAct, IsShown, IsTold, IsWalk, Walks};
 ghost use Rattle.tb_debug.specs.Readings.{bytes_of, code_of, most_code};
 ghost use Rattle.tb_debug.specs.Telling.{Tells, TellsStop, TellsText, TellsValue, breakpoint_answer, breakpoints_told, code_told, is_limit, line_here, list_answer, memory_told, output_told, place_here, returns_here, returns_told, set_or_cleared, value_answer};
 
@@ -36,7 +36,9 @@ impl<'a> Debugger<'a> {
         limit: u64,
     ) -> Result<Option<Answer>, NoMemory>
         ensures run { OnOk result (Responds command.entry self.old self.new) }
-        ensures tells { IfOk result (Tells command.entry self.old self.new) }
+        ensures tells { IfOk result (Tells limit command.entry self.old self.new) }
+        // What a command shows that leads nowhere is no stop.
+        ensures shown { OnOk result (¬ (IsWalk command.entry self.old) → self.new.shown ≡ self.old.shown) }
     {
         match command {
             Command::Quit => Ok(None),
@@ -55,7 +57,8 @@ impl<'a> Debugger<'a> {
     fn act(&mut self, alloc: Global, command: Command<'_>, limit: u64) -> Result<Answer, NoMemory>
         requires { IsAct command }
         ensures run { OnOk result (KeepsRun self.old self.new) }
-        ensures tells { IfOk result (λ told. Tells command.entry self.old self.new (Some told)) }
+        ensures tells { IfOk result (λ told. Tells limit command.entry self.old self.new (Some told)) }
+        ensures shown { OnOk result (¬ (IsWalk command.entry self.old) → self.new.shown ≡ self.old.shown) }
     {
         match self.walk(alloc, command, limit)? {
             Some(reached) => {
@@ -77,7 +80,7 @@ impl<'a> Debugger<'a> {
         limit: u64,
     ) -> Result<Option<Reached>, NoMemory>
         ensures run { OnOk result (KeepsRun self.old self.new) }
-        ensures walks { IfOk result (λ reached. Walks command.entry self.old reached self.new) }
+        ensures walks { IfOk result (λ reached. Walks limit command.entry self.old reached self.new) }
     {
         match command {
             Command::On(lines) => Ok(Some(self.on(alloc, lines, limit)?)),
@@ -143,7 +146,8 @@ impl<'a> Debugger<'a> {
     fn tell(&mut self, alloc: Global, command: Command<'_>) -> Result<Answer, NoMemory>
         requires { IsTold command self.old }
         ensures run { OnOk result (KeepsRun self.old self.new) }
-        ensures tells { IfOk result (λ told. Tells command.entry self.old self.new (Some told)) }
+        ensures tells { IfOk result (λ told. (limit : ℕ) → Tells limit command.entry self.old self.new (Some told)) }
+        ensures shown { OnOk result (self.new.shown ≡ self.old.shown) }
     {
         match command {
             Command::Breakpoint(line) => self.turn_breakpoint(line),
@@ -161,7 +165,7 @@ impl<'a> Debugger<'a> {
     // What a command is answered by that only looks, and for which no memory is needed.
     fn show(&self, command: Command<'_>) -> Answer
         requires { IsShown command self.now }
-        ensures { Tells command.entry self.now self.now (Some result) }
+        ensures { (limit : ℕ) → Tells limit command.entry self.now self.now (Some result) }
     {
         match command {
             Command::Variables => Answer::Variables(self.variables()),
@@ -197,6 +201,7 @@ impl<'a> Debugger<'a> {
 
     fn turn_breakpoint(&mut self, line: u16) -> Result<Answer, NoMemory>
         ensures run { OnOk result (KeepsRun self.old self.new) }
+        ensures shown { OnOk result (self.new.shown ≡ self.old.shown) }
         ensures answer { IfOk result (λ told. told ≡ breakpoint_answer (start_in (starts_of self.old.program.now) line) (not (is_among (breakpoints_of self.old.stops) line))) }
     {
         if self.program.start_of(line).is_none() {
@@ -210,6 +215,7 @@ impl<'a> Debugger<'a> {
 
     fn turn_watch(&mut self, letter: Letter) -> Result<Answer, NoMemory>
         ensures run { OnOk result (KeepsRun self.old self.new) }
+        ensures shown { OnOk result (self.new.shown ≡ self.old.shown) }
         ensures answer { IfOk result (λ told. told ≡ set_or_cleared (not (is_watched (watches_of self.old.stops) (place letter)))) }
     {
         match self.stops.turn_watch(letter) {
@@ -289,7 +295,8 @@ impl<'a> Debugger<'a> {
 
     // Types a line: its letters as capitals, and a return.
     fn type_line(&mut self, alloc: Global, text: &[u8]) -> Result<(), NoMemory>
-        ensures { OnOk result (KeepsRunTyped (keys_of text.now) self.old self.new) }
+        ensures run { OnOk result (KeepsRunTyped (keys_of text.now) self.old self.new) }
+        ensures shown { OnOk result (self.new.shown ≡ self.old.shown) }
     {
         let keys = keys(alloc, text)?;
         self.type_text(keys.as_slice())?;

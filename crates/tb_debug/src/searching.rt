@@ -1,10 +1,13 @@
 //! Going on and back to a breakpoint or a watch.
-ghost use Rattle.std.specs.Prelude.{◌≡◌, ◌⊎◌, ◌||◌, ◌≤◌, ℕ, IfOk, OnOk};
+ghost use Rattle.std.specs.Prelude.{◌≡◌, ◌⊎◌, ◌≤◌, ℕ, IfOk, OnOk};
 ghost use Rattle.tb_codegen.specs.Compiled.{starts_of};
-ghost use Rattle.tb_debug.specs.Debuggers.{IsAtTime, KeepsRun, OnRun};
+ghost use Rattle.tb_debug.specs.Debuggers.{KeepsRun, OnRun, StandsAt};
+ghost use Rattle.tb_debug.specs.Begins.{StandsBy};
+ghost use Rattle.tb_debug.specs.Leading.{LeadsBackToNewest, LeadsOnTo};
+ghost use Rattle.tb_debug.specs.declared.searching.Destination.TheVariants as destination;
 ghost use Rattle.tb_debug.specs.Runs.{Point, IsKept, IsOfRun, shown};
 ghost use Rattle.tb_debug.specs.Searching.{KnowsBehind, NewestBetween};
-ghost use Rattle.tb_debug.specs.Stopping.{GoesToStop, IsNewest, breaks_at, changes, leads_back};
+ghost use Rattle.tb_debug.specs.Stopping.{IsNewest, IsThere, breaks_at, changes, is_sought, leads_back};
 
 use crate::debugger::Debugger;
 use crate::history::Kept;
@@ -13,46 +16,89 @@ use crate::readings::{line_from, variables_in};
 use std::alloc::Global;
 use tb_memmap::NoMemory;
 
+/// What a way on looks for.
+#[derive(Clone, Copy, Debug, Drop)]
+pub enum Destination {
+    /// A breakpoint or a watch.
+    Stop,
+    /// The line at an address.
+    Address(u16),
+}
+
 impl<'a> Debugger<'a> {
     /// On to the next line with a breakpoint, or behind the next line that gives a watched variable another value.
     pub fn go_on(&mut self, alloc: Global, limit: u64) -> Result<Reached, NoMemory>
         ensures run { OnOk result (KeepsRun self.old self.new) }
-        ensures stop { IfOk result (λ reached. (start : Point) → OnRun start self.old → GoesToStop start reached self.old self.new) }
+        ensures stop { IfOk result (λ reached. LeadsOnTo destination.Stop limit self.old reached self.new.present) }
+        ensures stands { IfOk result (λ reached. StandsBy self.old.starts reached self.new.present) }
+        ensures shown { OnOk result (self.new.shown ≡ self.old.shown) }
+    {
+        self.go_to(alloc, Destination::Stop, limit)
+    }
+
+    /// On to the beginning of the line at an address.
+    pub fn on_to(&mut self, alloc: Global, address: u16, limit: u64) -> Result<Reached, NoMemory>
+        ensures run { OnOk result (KeepsRun self.old self.new) }
+        ensures there { IfOk result (λ reached. StandsAt address reached self.new.present) }
+        ensures line { IfOk result (λ reached. LeadsOnTo (destination.Address address) limit self.old reached self.new.present) }
+        ensures stands { IfOk result (λ reached. StandsBy self.old.starts reached self.new.present) }
+        ensures shown { OnOk result (self.new.shown ≡ self.old.shown) }
+    {
+        self.go_to(alloc, Destination::Address(address), limit)
+    }
+
+    // On to the next line that is looked for.
+    fn go_to(
+        &mut self,
+        alloc: Global,
+        to: Destination,
+        limit: u64,
+    ) -> Result<Reached, NoMemory>
+        ensures run { OnOk result (KeepsRun self.old self.new) }
+        ensures there { IfOk result (λ reached. IsThere to reached self.new) }
+        ensures leads { IfOk result (λ reached. LeadsOnTo to limit self.old reached self.new.present) }
+        ensures stands { IfOk result (λ reached. StandsBy self.old.starts reached self.new.present) }
         ensures shown { OnOk result (self.new.shown ≡ self.old.shown) }
     {
         let last = self.present.events.saturating_add(limit);
-        for _ in 0..u64::MAX {
+        for done in 0..u64::MAX {
             match self.next_line(alloc, self.left(last))? {
                 Reached::Line => {}
                 reached => return Ok(reached),
             }
-            if self.is_stop() {
+            if self.is_sought(to) {
                 return Ok(Reached::Line);
             }
         }
         Ok(Reached::Limit)
     }
 
-    // Whether going on stops at the line that begins here.
-    fn is_stop(&self) -> bool
-        ensures { result ≡ (breaks_at (starts_of self.now.program.now) self.now.stops (shown self.now.present) || changes self.now.stops (shown self.now.present)) }
+    // Whether the present place is looked for.
+    fn is_sought(&self, to: Destination) -> bool
+        ensures { result ≡ is_sought to self.now (shown self.now.present) }
     {
-        self.has_breakpoint(&self.present) || self.has_changed(&self.present)
+        match to {
+            Destination::Stop => {
+                self.has_breakpoint(&self.present) || self.has_changed(&self.present)
+            }
+            Destination::Address(address) => self.present.machine.regs().pc == address,
+        }
     }
 
     /// Back to the newest line before with a breakpoint, or that gave a watched variable another value; to the first line
     /// where there is none.
     pub fn go_back(&mut self, alloc: Global) -> Result<Reached, NoMemory>
         ensures run { OnOk result (KeepsRun self.old self.new) }
-        ensures stop { IfOk result (λ reached. (start : Point) → start.begun ≡ 0 → OnRun start self.old
-            → (time : ℕ) × IsNewest self.old start time × IsAtTime time reached self.new) }
+        ensures stop { IfOk result (λ reached. LeadsBackToNewest self.old reached self.new.present) }
+        ensures stands { IfOk result (λ reached. StandsBy self.old.starts reached self.new.present) }
         ensures shown { OnOk result (self.new.shown ≡ self.old.shown) }
     {
         if self.present.begun == 0 {
             return Ok(self.standing());
         }
         let time = self.newest_stop(alloc)?;
-        self.back_to(alloc, time)
+        let reached = self.back_to(alloc, time)?;
+        Ok(reached)
     }
 
     // The newest time to which going back leads.

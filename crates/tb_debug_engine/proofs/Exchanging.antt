@@ -13,6 +13,7 @@ use Rattle.tb_debug.specs.declared.debugger.Debugger.{Debugger}
 use Rattle.tb_debug_engine.specs.Dialogue.{Answers, Asks, Exchanges, Says, prompt}
 use Rattle.tb_words.specs.Words.{digits_of, word_of}
 use Rattle.tb_debug_engine.specs.Sources.{shown_of}
+use Rattle.tb_debug_engine.specs.declared.dialogue.Setting.{Setting}
 use Rattle.tb_debug_engine.specs.Texts.{line, variable_text}
 use Rattle.tb_debug_engine.specs.declared.sources.Written.{Written}
 
@@ -27,26 +28,26 @@ taken_in_part had left taken (is_line, inl whole) = (is_line, inr whole)
 taken_in_part had left taken (is_line, inr (some, whole, end)) = (is_line, inl whole)
 
 -- a line that can't be read
-pub asked_wrong : (w : Written) (prompts : Bool) (d e : Debugger) (outcome : Outcome) (had left old new : Option (List ℕ)) (read read' wrote wrote' : ℕ)
-    → Asks prompts (Err outcome) had left read read' old new wrote wrote' → Exchanges w prompts d (Err outcome) e had left read read' old new wrote wrote'
-asked_wrong w prompts d e ReadFault had left old new read read' wrote wrote' h = h
-asked_wrong w prompts d e WriteFault had left old new read read' wrote wrote' (same, part, count, other) = (count, other, inl (same, part))
-asked_wrong w prompts d e NoMemory had left old new read read' wrote wrote' h = h
-asked_wrong w prompts d e (Ended end) had left old new read read' wrote wrote' h = absurd h
-asked_wrong w prompts d e (Refused why) had left old new read read' wrote wrote' h = absurd h
+pub asked_wrong : (w : Written) (setting : Setting) (d e : Debugger) (outcome : Outcome) (had left old new : Option (List ℕ)) (read read' wrote wrote' : ℕ)
+    → Asks setting.prompts (Err outcome) had left read read' old new wrote wrote' → Exchanges w setting d (Err outcome) e had left read read' old new wrote wrote'
+asked_wrong w setting d e ReadFault had left old new read read' wrote wrote' h = h
+asked_wrong w setting d e WriteFault had left old new read read' wrote wrote' (same, part, count, other) = (count, other, inl (same, part))
+asked_wrong w setting d e NoMemory had left old new read read' wrote wrote' h = h
+asked_wrong w setting d e (Ended end) had left old new read read' wrote wrote' h = absurd h
+asked_wrong w setting d e (Refused why) had left old new read read' wrote wrote' h = absurd h
 
 -- an answer that can't be told
-pub said_wrong : (w : Written) (prompts : Bool) (d e : Debugger) (outcome : Outcome) (taken : List ℕ) (told : Answer) (had left old now new : Option (List ℕ))
-    (read read' wrote mid wrote' : ℕ) → TakesLine had taken left → Answers d taken (Some told) e → read' ≡ read → Appends old now (prompt prompts)
+pub said_wrong : (w : Written) (setting : Setting) (d e : Debugger) (outcome : Outcome) (taken : List ℕ) (told : Answer) (had left old now new : Option (List ℕ))
+    (read read' wrote mid wrote' : ℕ) → TakesLine had taken left → Answers setting.limit d taken (Some told) e → read' ≡ read → Appends old now (prompt setting.prompts)
     → mid ≡ wrote → Says (shown_of w told) (Err outcome) now new mid wrote'
-    → Exchanges w prompts d (Err outcome) e had left read read' old new wrote wrote'
-said_wrong w prompts d e WriteFault taken told had left old now new read read' wrote mid wrote' took answers same before same_count (part, other) =
-    (same, subst (λ x. wrote' ≢ x) same_count other, inr (told, (taken, took, answers), prefix_more (prompt prompts) (shown_of w told) old now new before part))
-said_wrong w prompts d e NoMemory taken told had left old now new read read' wrote mid wrote' took answers same before same_count (kept, count) =
-    (taken, taken_in_part had left taken took, Appends-kept old now new (prompt prompts) before kept, same, count ∙ same_count)
-said_wrong w prompts d e ReadFault taken told had left old now new read read' wrote mid wrote' took answers same before same_count h = absurd h
-said_wrong w prompts d e (Ended end) taken told had left old now new read read' wrote mid wrote' took answers same before same_count h = absurd h
-said_wrong w prompts d e (Refused why) taken told had left old now new read read' wrote mid wrote' took answers same before same_count h = absurd h
+    → Exchanges w setting d (Err outcome) e had left read read' old new wrote wrote'
+said_wrong w setting d e WriteFault taken told had left old now new read read' wrote mid wrote' took answers same before same_count (part, other) =
+    (same, subst (λ x. wrote' ≢ x) same_count other, inr (told, (taken, took, answers), prefix_more (prompt setting.prompts) (shown_of w told) old now new before part))
+said_wrong w setting d e NoMemory taken told had left old now new read read' wrote mid wrote' took answers same before same_count (kept, count) =
+    (taken, taken_in_part had left taken took, Appends-kept old now new (prompt setting.prompts) before kept, same, count ∙ same_count)
+said_wrong w setting d e ReadFault taken told had left old now new read read' wrote mid wrote' took answers same before same_count h = absurd h
+said_wrong w setting d e (Ended end) taken told had left old now new read read' wrote mid wrote' took answers same before same_count h = absurd h
+said_wrong w setting d e (Refused why) taken told had left old now new read read' wrote mid wrote' took answers same before same_count h = absurd h
 
 -- two bytes and a text behind another one
 two_more : (before one two all rest : List ℕ) (x x' y : ℕ) → x ≡ x' → one ≡ before ++ x ∷ [] → two ≡ one ++ y ∷ [] → all ≡ two ++ rest

@@ -1,34 +1,107 @@
 -- The beginning of a dialogue.
-use Rattle.std.proofs.Common.{◌≡◌, List, ℕ, Option, sym, ap, subst, ◌∙◌}
+use Rattle.std.proofs.Common.{◌≡◌, ◌+◌, ◌≤◌, Bool, true, false, List, [], length, ℕ, Option, refl, sym, ap, subst, ◌∙◌}
 use Rattle.std.specs.Prelude.{Result, Ok, Err}
-use Rattle.tb_kernal.specs.Machine.{Content, state_of}
+use Rattle.tb_kernal.specs.Machine.{Content, state_of, status}
+use Rattle.tb_kernal.specs.declared.status.Status.{Status}
+use Rattle.tb_kernal.specs.declared.status.Status.TheVariants.{Returned, Running, Waits, Wrong}
 use Rattle.tb_prg.specs.Prg.{content_of}
-use Rattle.tb_engines.specs.Programs.{start}
+use Rattle.tb_memmap.specs.Bytes.{IsOpenRange}
+use Rattle.tb_runtime16.specs.Laws.{AllBytes}
+use Rattle.tb_syntax.specs.Source.{Program}
+use Rattle.tb_keeping.specs.Kept.{Starts}
+use Rattle.tb_engines.specs.Programs.{IsUnloadable, start}
+use Rattle.tb_engines.specs.declared.made.Stop.TheVariants.{Refused as CantLoad}
+use Rattle.tb_engines.specs.declared.outcome.Refusal.{Refusal}
+use Rattle.tb_driver.proofs.Loadable.{address_in, bytes_in, machine_at_start}
+use Rattle.tb_driver.proofs.Output.{bytes_behind, file_loads, in_ram, starts}
 use Rattle.tb_engines.specs.declared.outcome.Outcome.{Outcome}
 use Rattle.tb_engines.specs.declared.outcome.Outcome.TheVariants.{Ended, Refused, ReadFault, WriteFault, NoMemory}
-use Rattle.tb_codegen.specs.Compiled.{prg_of}
+use Rattle.tb_codegen.specs.Compiled.{loaded_of, prg_of}
 use Rattle.tb_codegen.specs.declared.compiled.Compiled.{Compiled}
-use Rattle.tb_debug.specs.Debuggers.{OnRun}
-use Rattle.tb_debug.specs.Runs.{first_point}
+use Rattle.tb_debug.specs.Begins.{standing_by, standing_of}
+use Rattle.tb_debug.specs.Debuggers.{IsOpening, KeepsRun, OnRun}
+use Rattle.tb_debug.specs.Sources as sources
+use Rattle.tb_debug.specs.Sources.{IsMadeOf}
+use Rattle.tb_debug.specs.Runs.{first_point, is_marked}
+use Rattle.tb_debug.specs.Telling.{TellsStop, is_limit}
+use Rattle.tb_debug.specs.declared.moment.Reached.{Reached}
 use Rattle.tb_debug.specs.declared.answer.Answer.{Answer}
 use Rattle.tb_debug.specs.declared.beside.Beside.{Beside}
 use Rattle.tb_debug.specs.declared.debugger.Debugger.{Debugger}
-use Rattle.tb_debug_engine.specs.Dialogue.{IsBegun, IsFirst, Opens, Says}
+use Rattle.tb_debug_engine.specs.Dialogue.{IsBarred, IsBegun, IsFirst, Opens, Says}
 use Rattle.tb_debug_engine.specs.Sources.{shown_of}
 use Rattle.tb_debug_engine.specs.declared.sources.Written.{Written}
+
+-- a program that `compile` made is loaded at $0801, below $A000
+loads : (source : Program) (seed : ℕ) (c : Compiled) → IsMadeOf source seed c
+    → (content_of (prg_of c) ≡ Ok (0x0801, loaded_of c)) × (0x0801 + length (loaded_of c) ≤ 0xa000)
+loads source seed c made = file_loads seed [] c (Ok source) made.compiled
+
+-- the machine that `run` starts for it is one from which its line starts are known
+shows_so : (c : Compiled) (text answers : List ℕ) (beside : Beside) (at : ℕ) (bytes : List ℕ) (d : Debugger) → content_of (prg_of c) ≡ Ok (at, bytes)
+    → d.program.now ≡ c → OnRun (first_point (state_of (start at bytes text answers)) beside) d → AllBytes (prg_of c) → AllBytes text → AllBytes answers
+    → (source : Program) (seed : ℕ) → IsMadeOf source seed c → sources.Debugs source seed (state_of (start at bytes text answers)) beside d
+shows_so c text answers beside at bytes d content of on file keys polls source seed made =
+    let whole = loads source seed c made in
+    let same : start at bytes text answers ≡ start 0x0801 (loaded_of c) text answers =
+    machine_at_start text answers c at bytes (start at bytes text answers) (whole.0, in_ram (length (loaded_of c)) whole.1) content refl in
+    let begun = starts (loaded_of c) text answers whole.1 (bytes_behind (prg_of c) file) keys polls in
+    record {
+      made = subst (IsMadeOf source seed) (sym of) made;
+      starts = subst (λ p. Starts 0x0801 (loaded_of p) (state_of (start at bytes text answers))) (sym of)
+          (subst (λ m. Starts 0x0801 (loaded_of c) (state_of m)) (sym same) begun);
+      on = on;
+    }
 
 -- a debugger on the run of a program's file
 pub begun : (program : Compiled) (file text answers : List ℕ) (beside : Beside) (at : ℕ) (bytes : List ℕ) (m : Content) (d : Debugger)
     → file ≡ prg_of program → content_of file ≡ Ok (at, bytes) → m ≡ start at bytes text answers → d.program.now ≡ program
-    → OnRun (first_point (state_of m) beside) d → IsBegun program text answers beside d
-begun program file text answers beside at bytes m d same content starts of on =
+    → OnRun (first_point (state_of m) beside) d → IsOpening (first_point (state_of m) beside) d → AllBytes file → AllBytes text → AllBytes answers
+    → IsBegun program text answers beside d
+begun program file text answers beside at bytes m d same content machine of on opens small keys polls =
+    let there = ap content_of (sym same) ∙ content in
+    let here = subst (λ x. OnRun (first_point (state_of x) beside) d) machine on in
     record {
       of = of;
       at = at;
       bytes = bytes;
-      content = ap content_of (sym same) ∙ content;
-      on = subst (λ x. OnRun (first_point (state_of x) beside) d) starts on;
+      content = there;
+      on = here;
+      opens = subst (λ x. IsOpening (first_point (state_of x) beside) d) machine opens;
+      shows = shows_so program text answers beside at bytes d there of here (subst AllBytes same small) keys polls;
     }
+
+-- a program that can't be loaded is none that `compile` made
+pub barred : (program : Compiled) (file : List ℕ) (at : ℕ) (bytes : List ℕ) (why : Refusal) → file ≡ prg_of program → content_of file ≡ Ok (at, bytes)
+    → IsUnloadable at bytes (CantLoad why) → IsBarred program why
+barred program file at bytes why same content unloadable =
+    let there = ap content_of (sym same) ∙ content in
+    record {
+      at = at;
+      bytes = bytes;
+      content = there;
+      unloadable = unloadable;
+      unmade = λ source seed made.
+          let whole = loads source seed program made in
+          let first : at ≡ 0x0801 = ap address_in (sym there ∙ whole.0) in
+          let rest : bytes ≡ loaded_of program = ap bytes_in (sym there ∙ whole.0) in
+          unloadable.1 (subst (λ a. IsOpenRange a (length bytes)) (sym first)
+          (subst (λ l. IsOpenRange 0x0801 (length l)) (sym rest) (in_ram (length (loaded_of program)) whole.1)));
+    }
+
+-- a debugger that only looks how it stands stops at no limit
+unlimited : (why : Status) (begins : Bool) → is_limit (standing_by why begins) ≡ false
+unlimited Running true = refl
+unlimited Running false = refl
+unlimited Waits begins = refl
+unlimited Returned begins = refl
+unlimited (Wrong w) begins = refl
+
+pub first_told : (d e : Debugger) (told : Answer) (reached : Reached) → reached ≡ standing_of d.starts d.present → KeepsRun d e
+    → e ≡ record d { shown = length d.present.machine.sent } → TellsStop d.shown (is_limit reached) e told → IsFirst d told e
+first_told d e told reached stands run stays stop =
+    let none : is_limit reached ≡ false = ap is_limit stands ∙ unlimited (status (state_of d.present.machine)) (is_marked d.starts d.present.machine.regs.pc) in
+    record { run = run; stays = ap (λ x. x.present) stays; stop = subst (λ b. TellsStop d.shown b e told) none stop }
 
 -- telling the first stop
 pub opened : (w : Written) (d e : Debugger) (told : Answer) (result : Result (Unit {0}) Outcome) (old new : Option (List ℕ)) (wrote wrote' : ℕ)

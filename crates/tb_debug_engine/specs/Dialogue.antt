@@ -7,7 +7,8 @@ use Rattle.tb_kernal.specs.Machine.{state_of}
 use Rattle.tb_streams.specs.Streams.{AppendsPrefix, most_input}
 use Rattle.tb_streams.specs.Lines.{TakesLine, TakesNothing, TakesPart, without_return}
 use Rattle.tb_prg.specs.Prg.{content_of}
-use Rattle.tb_engines.specs.Programs.{start}
+use Rattle.tb_engines.specs.Programs.{IsUnloadable, start}
+use Rattle.tb_engines.specs.declared.made.Stop.TheVariants.{Refused as CantLoad}
 use Rattle.tb_engines.specs.declared.outcome.End.TheVariants.{Done}
 use Rattle.tb_engines.specs.declared.outcome.Outcome.{Outcome}
 use Rattle.tb_engines.specs.declared.outcome.Refusal.{Refusal}
@@ -17,24 +18,31 @@ use Rattle.tb_codegen.specs.Compiled.{prg_of}
 use Rattle.tb_codegen.specs.declared.compiled.Compiled.{Compiled}
 use Rattle.tb_debug_commands.specs.Commands.{asked_in, asked_of}
 use Rattle.tb_debug_commands.specs.declared.command.Command.{Command}
-use Rattle.tb_debug.specs.Debuggers.{KeepsRun, OnRun, Responds}
+use Rattle.tb_debug.specs.Debuggers.{IsOpening, KeepsRun, OnRun, Responds}
+use Rattle.tb_debug.specs.Sources as sources
+use Rattle.tb_debug.specs.Sources.{IsMadeOf}
+use Rattle.tb_syntax.specs.Source.{Program}
 use Rattle.tb_debug.specs.Runs.{first_point}
 use Rattle.tb_debug.specs.Telling.{Tells, TellsStop}
 use Rattle.tb_debug.specs.declared.answer.Answer.{Answer}
 use Rattle.tb_debug.specs.declared.beside.Beside.{Beside}
 use Rattle.tb_debug.specs.declared.debugger.Debugger.{Debugger}
+use Rattle.tb_debug.specs.Kinds.{IsWalk}
+use Rattle.tb_debug_engine.specs.declared.dialogue.Setting.{Setting}
 use Rattle.tb_debug_engine.specs.Sources.{AreWritten, shown_of}
 use Rattle.tb_debug_engine.specs.declared.sources.Sources.{Sources}
 use Rattle.tb_debug_engine.specs.declared.sources.Written.{Written}
 
 -- ---- one line
 
--- a line is answered: what it spells is done, and this is told, or nothing where it ends the dialogue
-pub record Answers (d : Debugger) (line : List ℕ) (told : Option Answer) (e : Debugger) : Type 0 where
+-- a line is answered: what it spells is done, by at most so many events where it goes on, and this is told, or nothing where
+-- it ends the dialogue; what is shown since a stop is told with the next one
+pub record Answers (limit : ℕ) (d : Debugger) (line : List ℕ) (told : Option Answer) (e : Debugger) : Type 0 where
   pub command : Command
   pub spelled : asked_of command ≡ asked_in (without_return line)
   pub run : Responds command d e
-  pub tells : Tells command d e told
+  pub tells : Tells limit command d e told
+  pub shown : ¬ (IsWalk command d) → e.shown ≡ d.shown
 
 -- what stands before a line that is typed at a terminal
 abbrev pub prompt : Bool → List ℕ
@@ -57,45 +65,45 @@ Asks prompts (Err (Ended end)) had left read read' old new wrote wrote' = ⊥
 Asks prompts (Err (Refused why)) had left read read' old new wrote wrote' = ⊥
 
 -- a line is taken, and answered
-abbrev pub Exchanged : Debugger → Answer → Debugger → Option (List ℕ) → Option (List ℕ) → Type 0
-Exchanged d told e had left = (line : List ℕ) × TakesLine had line left × Answers d line (Some told) e
+abbrev pub Exchanged : Setting → Debugger → Answer → Debugger → Option (List ℕ) → Option (List ℕ) → Type 0
+Exchanged setting d told e had left = (line : List ℕ) × TakesLine had line left × Answers setting.limit d line (Some told) e
 
 -- no line is left, or one is taken that ends the dialogue
-abbrev pub Closes : Debugger → Option (List ℕ) → Option (List ℕ) → Type 0
-Closes d had left =
-    TakesNothing had left ⊎ ((line : List ℕ) × (e : Debugger) × TakesLine had line left × Answers d line None e)
+abbrev pub Closes : Setting → Debugger → Option (List ℕ) → Option (List ℕ) → Type 0
+Closes setting d had left =
+    TakesNothing had left ⊎ ((line : List ℕ) × (e : Debugger) × TakesLine had line left × Answers setting.limit d line None e)
 
 -- What the next line comes to: whether the dialogue goes on; the reader of commands and the writer before and after,
 -- with their counts of failures. The answer is written behind the prompt.
-abbrev pub Exchanges : Written → Bool → Debugger → Result Bool Outcome → Debugger → Option (List ℕ) → Option (List ℕ) → ℕ → ℕ → Option (List ℕ) → Option (List ℕ) → ℕ → ℕ → Type 0
-Exchanges w prompts d (Ok true) e had left read read' old new wrote wrote' =
-    (told : Answer) × Exchanged d told e had left × Appends old new (prompt prompts ++ shown_of w told) × (read' ≡ read) × (wrote' ≡ wrote)
-Exchanges w prompts d (Ok false) e had left read read' old new wrote wrote' =
-    Closes d had left × Appends old new (prompt prompts) × (read' ≡ read) × (wrote' ≡ wrote)
-Exchanges w prompts d (Err ReadFault) e had left read read' old new wrote wrote' =
-    (line : List ℕ) × TakesPart had line left × ((read' ≢ read) ⊎ (most_input < length line)) × Appends old new (prompt prompts) × (wrote' ≡ wrote)
-Exchanges w prompts d (Err WriteFault) e had left read read' old new wrote wrote' =
+abbrev pub Exchanges : Written → Setting → Debugger → Result Bool Outcome → Debugger → Option (List ℕ) → Option (List ℕ) → ℕ → ℕ → Option (List ℕ) → Option (List ℕ) → ℕ → ℕ → Type 0
+Exchanges w setting d (Ok true) e had left read read' old new wrote wrote' =
+    (told : Answer) × Exchanged setting d told e had left × Appends old new (prompt setting.prompts ++ shown_of w told) × (read' ≡ read) × (wrote' ≡ wrote)
+Exchanges w setting d (Ok false) e had left read read' old new wrote wrote' =
+    Closes setting d had left × Appends old new (prompt setting.prompts) × (read' ≡ read) × (wrote' ≡ wrote)
+Exchanges w setting d (Err ReadFault) e had left read read' old new wrote wrote' =
+    (line : List ℕ) × TakesPart had line left × ((read' ≢ read) ⊎ (most_input < length line)) × Appends old new (prompt setting.prompts) × (wrote' ≡ wrote)
+Exchanges w setting d (Err WriteFault) e had left read read' old new wrote wrote' =
     (read' ≡ read) × (wrote' ≢ wrote)
-    × (((left ≡ had) × AppendsPrefix old new (prompt prompts))
-    ⊎ ((told : Answer) × Exchanged d told e had left × AppendsPrefix old new (prompt prompts ++ shown_of w told)))
-Exchanges w prompts d (Err NoMemory) e had left read read' old new wrote wrote' =
-    (line : List ℕ) × TakesPart had line left × Appends old new (prompt prompts) × (read' ≡ read) × (wrote' ≡ wrote)
-Exchanges w prompts d (Err (Ended end)) e had left read read' old new wrote wrote' = ⊥
-Exchanges w prompts d (Err (Refused why)) e had left read read' old new wrote wrote' = ⊥
+    × (((left ≡ had) × AppendsPrefix old new (prompt setting.prompts))
+    ⊎ ((told : Answer) × Exchanged setting d told e had left × AppendsPrefix old new (prompt setting.prompts ++ shown_of w told)))
+Exchanges w setting d (Err NoMemory) e had left read read' old new wrote wrote' =
+    (line : List ℕ) × TakesPart had line left × Appends old new (prompt setting.prompts) × (read' ≡ read) × (wrote' ≡ wrote)
+Exchanges w setting d (Err (Ended end)) e had left read read' old new wrote wrote' = ⊥
+Exchanges w setting d (Err (Refused why)) e had left read read' old new wrote wrote' = ⊥
 
 -- ---- the dialogue
 
 -- lines are answered one after the other, with this text
-abbrev pub Talked : Written → Bool → Debugger → List (List ℕ) → List ℕ → Debugger → Type 0
-Talked w prompts d [] text e = (text ≡ []) × (e ≡ d)
-Talked w prompts d (line ∷ lines) text e =
-    (told : Answer) × (b : Debugger) × (more : List ℕ) × Answers d line (Some told) b × Talked w prompts b lines more e
-    × (text ≡ (prompt prompts ++ shown_of w told) ++ more)
+abbrev pub Talked : Written → Setting → Debugger → List (List ℕ) → List ℕ → Debugger → Type 0
+Talked w setting d [] text e = (text ≡ []) × (e ≡ d)
+Talked w setting d (line ∷ lines) text e =
+    (told : Answer) × (b : Debugger) × (more : List ℕ) × Answers setting.limit d line (Some told) b × Talked w setting b lines more e
+    × (text ≡ (prompt setting.prompts ++ shown_of w told) ++ more)
 
 -- lines were taken from a debugger on, each answered before the next one was, and the text of their answers is written
-pub record IsBehind (w : Written) (prompts : Bool) (d : Debugger) (lines : List (List ℕ)) (e : Debugger) (had left old new : Option (List ℕ)) : Type 0 where
+pub record IsBehind (w : Written) (setting : Setting) (d : Debugger) (lines : List (List ℕ)) (e : Debugger) (had left old new : Option (List ℕ)) : Type 0 where
   pub text : List ℕ
-  pub talked : Talked w prompts d lines text e
+  pub talked : Talked w setting d lines text e
   pub taken : TakesLines had lines left
   pub written : Appends old new text
 
@@ -104,42 +112,53 @@ abbrev pub most_lines : ℕ
 most_lines = 18446744073709551615
 
 -- how a dialogue ends behind so many lines
-abbrev pub Ends : Written → Bool → ℕ → Debugger → Outcome → Option (List ℕ) → Option (List ℕ) → ℕ → ℕ → Option (List ℕ) → Option (List ℕ) → ℕ → ℕ → Type 0
-Ends w prompts count d (Ended end) had left read read' old new wrote wrote' =
+abbrev pub Ends : Written → Setting → ℕ → Debugger → Outcome → Option (List ℕ) → Option (List ℕ) → ℕ → ℕ → Option (List ℕ) → Option (List ℕ) → ℕ → ℕ → Type 0
+Ends w setting count d (Ended end) had left read read' old new wrote wrote' =
     (end ≡ Done)
-    × (((e : Debugger) × Exchanges w prompts d (Ok false) e had left read read' old new wrote wrote')
+    × (((e : Debugger) × Exchanges w setting d (Ok false) e had left read read' old new wrote wrote')
     ⊎ ((count ≡ most_lines) × (left ≡ had) × (new ≡ old) × (read' ≡ read) × (wrote' ≡ wrote)))
-Ends w prompts count d ReadFault had left read read' old new wrote wrote' =
-    (e : Debugger) × Exchanges w prompts d (Err ReadFault) e had left read read' old new wrote wrote'
-Ends w prompts count d WriteFault had left read read' old new wrote wrote' =
-    (e : Debugger) × Exchanges w prompts d (Err WriteFault) e had left read read' old new wrote wrote'
-Ends w prompts count d NoMemory had left read read' old new wrote wrote' =
-    (e : Debugger) × Exchanges w prompts d (Err NoMemory) e had left read read' old new wrote wrote'
-Ends w prompts count d (Refused why) had left read read' old new wrote wrote' = ⊥
+Ends w setting count d ReadFault had left read read' old new wrote wrote' =
+    (e : Debugger) × Exchanges w setting d (Err ReadFault) e had left read read' old new wrote wrote'
+Ends w setting count d WriteFault had left read read' old new wrote wrote' =
+    (e : Debugger) × Exchanges w setting d (Err WriteFault) e had left read read' old new wrote wrote'
+Ends w setting count d NoMemory had left read read' old new wrote wrote' =
+    (e : Debugger) × Exchanges w setting d (Err NoMemory) e had left read read' old new wrote wrote'
+Ends w setting count d (Refused why) had left read read' old new wrote wrote' = ⊥
 
 -- a dialogue from a debugger on that ends so
-pub record Talks (w : Written) (prompts : Bool) (d : Debugger) (outcome : Outcome) (had left : Option (List ℕ)) (read read' : ℕ) (old new : Option (List ℕ)) (wrote wrote' : ℕ) : Type 0 where
+pub record Talks (w : Written) (setting : Setting) (d : Debugger) (outcome : Outcome) (had left : Option (List ℕ)) (read read' : ℕ) (old new : Option (List ℕ)) (wrote wrote' : ℕ) : Type 0 where
   pub lines : List (List ℕ)
   pub last : Debugger
   pub mid : Option (List ℕ)
   pub now : Option (List ℕ)
-  pub behind : IsBehind w prompts d lines last had mid old now
-  pub ends : Ends w prompts (length lines) last outcome mid left read read' now new wrote wrote'
+  pub behind : IsBehind w setting d lines last had mid old now
+  pub ends : Ends w setting (length lines) last outcome mid left read read' now new wrote wrote'
 
 -- ---- its beginning
 
--- a debugger of a program on its run from the machine that `run` starts, with this keyboard, beside a ROM
+-- a debugger of a program at the first line of its run from the machine that `run` starts, with this keyboard, beside a ROM.
+-- At each line's beginning to which its commands lead, a program that `compile` made shows its source: `line_here` says what.
 pub record IsBegun (program : Compiled) (text answers : List ℕ) (beside : Beside) (d : Debugger) : Type 0 where
   pub of : d.program.now ≡ program
   pub at : ℕ
   pub bytes : List ℕ
   pub content : content_of (prg_of program) ≡ Ok (at, bytes)
   pub on : OnRun (first_point (state_of (start at bytes text answers)) beside) d
+  pub opens : IsOpening (first_point (state_of (start at bytes text answers)) beside) d
+  pub shows : (source : Program) (seed : ℕ) → IsMadeOf source seed program → sources.Debugs source seed (state_of (start at bytes text answers)) beside d
+
+-- why a program is not debugged: it doesn't lie in RAM, as none does that `compile` makes
+pub record IsBarred (program : Compiled) (why : Refusal) : Type 0 where
+  pub at : ℕ
+  pub bytes : List ℕ
+  pub content : content_of (prg_of program) ≡ Ok (at, bytes)
+  pub unloadable : IsUnloadable at bytes (CantLoad why)
+  pub unmade : (source : Program) (seed : ℕ) → ¬ (IsMadeOf source seed program)
 
 -- the debugger of a source at its beginning, or why there is none
 abbrev pub Begins : Compiled → List ℕ → List ℕ → Beside → Result Debugger Outcome → Type 0
 Begins program text answers beside (Ok d) = IsBegun program text answers beside d
-Begins program text answers beside (Err (Refused why)) = Unit {0}
+Begins program text answers beside (Err (Refused why)) = IsBarred program why
 Begins program text answers beside (Err NoMemory) = Unit {0}
 Begins program text answers beside (Err ReadFault) = ⊥
 Begins program text answers beside (Err WriteFault) = ⊥
@@ -148,8 +167,8 @@ Begins program text answers beside (Err (Ended end)) = ⊥
 -- the stop at which a debugger stands
 pub record IsFirst (d : Debugger) (told : Answer) (e : Debugger) : Type 0 where
   pub run : KeepsRun d e
-  pub limit : Bool
-  pub stop : TellsStop d.shown limit e told
+  pub stays : e.present ≡ d.present
+  pub stop : TellsStop d.shown false e told
 
 -- what telling the first stop answers
 abbrev pub Opens : Written → Debugger → Result (Unit {0}) Outcome → Debugger → Option (List ℕ) → Option (List ℕ) → ℕ → ℕ → Type 0
@@ -170,9 +189,9 @@ pub record AreReady (s : Sources) (text answers : List ℕ) (beside : Beside) (w
   pub begun : IsBegun s.program text answers beside d
 
 -- nothing is done where there is no debugger
-abbrev pub DoesNothing : Outcome → Option (List ℕ) → Option (List ℕ) → ℕ → ℕ → Option (List ℕ) → Option (List ℕ) → ℕ → ℕ → Type 0
-DoesNothing outcome had left read read' old new wrote wrote' =
-    ((outcome ≡ NoMemory) ⊎ ((why : Refusal) × (outcome ≡ Refused why)))
+abbrev pub DoesNothing : Compiled → Outcome → Option (List ℕ) → Option (List ℕ) → ℕ → ℕ → Option (List ℕ) → Option (List ℕ) → ℕ → ℕ → Type 0
+DoesNothing program outcome had left read read' old new wrote wrote' =
+    ((outcome ≡ NoMemory) ⊎ ((why : Refusal) × (outcome ≡ Refused why) × IsBarred program why))
     × (left ≡ had) × (read' ≡ read) × (new ≡ old) × (wrote' ≡ wrote)
 
 -- the first stop can't be told
@@ -181,18 +200,18 @@ FailsToOpen w d outcome had left read read' old new wrote wrote' =
     (e : Debugger) × Opens w d (Err outcome) e old new wrote wrote' × (left ≡ had) × (read' ≡ read)
 
 -- the first stop is told, and then lines are answered
-abbrev pub OpensAndTalks : Written → Bool → Debugger → Outcome → Option (List ℕ) → Option (List ℕ) → ℕ → ℕ → Option (List ℕ) → Option (List ℕ) → ℕ → ℕ → Type 0
-OpensAndTalks w prompts d outcome had left read read' old new wrote wrote' =
+abbrev pub OpensAndTalks : Written → Setting → Debugger → Outcome → Option (List ℕ) → Option (List ℕ) → ℕ → ℕ → Option (List ℕ) → Option (List ℕ) → ℕ → ℕ → Type 0
+OpensAndTalks w setting d outcome had left read read' old new wrote wrote' =
     (e : Debugger) × (told : Answer) × (now : Option (List ℕ)) × IsFirst d told e × Appends old now (shown_of w told)
-    × Talks w prompts e outcome had left read read' now new wrote wrote'
+    × Talks w setting e outcome had left read read' now new wrote wrote'
 
 -- what debugging a source comes to
-abbrev pub Debugs : Sources → List ℕ → List ℕ → Beside → Bool → Outcome → Option (List ℕ) → Option (List ℕ) → ℕ → ℕ → Option (List ℕ) → Option (List ℕ) → ℕ → ℕ → Type 0
-Debugs s text answers beside prompts outcome had left read read' old new wrote wrote' =
-    DoesNothing outcome had left read read' old new wrote wrote'
-    ⊎ ((w : Written) × (d : Debugger) × AreReady s text answers beside w d
+abbrev pub Debugs : Sources → List ℕ → List ℕ → Setting → Outcome → Option (List ℕ) → Option (List ℕ) → ℕ → ℕ → Option (List ℕ) → Option (List ℕ) → ℕ → ℕ → Type 0
+Debugs s text answers setting outcome had left read read' old new wrote wrote' =
+    DoesNothing s.program outcome had left read read' old new wrote wrote'
+    ⊎ ((w : Written) × (d : Debugger) × AreReady s text answers setting.beside w d
     × (FailsToOpen w d outcome had left read read' old new wrote wrote'
-    ⊎ OpensAndTalks w prompts d outcome had left read read' old new wrote wrote'))
+    ⊎ OpensAndTalks w setting d outcome had left read read' old new wrote wrote'))
 
 -- what writing a text answers
 abbrev pub Says : List ℕ → Result (Unit {0}) Outcome → Option (List ℕ) → Option (List ℕ) → ℕ → ℕ → Type 0

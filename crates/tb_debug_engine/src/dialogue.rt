@@ -11,6 +11,7 @@ use crate::texts::push_answer;
 use std::alloc::Global;
 use std::io::{Read, Write};
 use tb_debug::{Answer, Beside, Debugger, read_command};
+use tb_driver::are_bytes;
 use tb_engines::{End, Outcome, Stop, start_machine, without_input};
 use tb_kernal::Keyboard;
 use tb_streams::{Fault, MOST_INPUT, Tracked, read_line, without_return, write_output};
@@ -90,7 +91,7 @@ fn answer_line<R: Read, W: Write>(
     commands: &mut Tracked<R>,
     writer: &mut Tracked<W>,
 ) -> Result<bool, Outcome>
-    ensures { Exchanges source.now setting.prompts debugger.old result debugger.new
+    ensures { Exchanges source.now setting debugger.old result debugger.new
         (R.remaining commands.old.stream) (R.remaining commands.new.stream) (failures_of commands.old) (failures_of commands.new)
         (W.contents writer.old.stream) (W.contents writer.new.stream) (failures_of writer.old) (failures_of writer.new) }
 {
@@ -119,7 +120,7 @@ fn answer_lines<R: Read, W: Write>(
     commands: &mut Tracked<R>,
     writer: &mut Tracked<W>,
 ) -> Outcome
-    ensures { Talks source.now setting.prompts debugger.old result
+    ensures { Talks source.now setting debugger.old result
         (R.remaining commands.old.stream) (R.remaining commands.new.stream) (failures_of commands.old) (failures_of commands.new)
         (W.contents writer.old.stream) (W.contents writer.new.stream) (failures_of writer.old) (failures_of writer.new) }
 {
@@ -142,7 +143,11 @@ fn debugger_of<'a>(
 ) -> Result<Debugger<'a>, Outcome>
     ensures { Begins sources.now.program keyboard.text.items keyboard.answers.items beside result }
 {
-    let loaded = match tb_prg::read(sources.program.prg()) {
+    let file = sources.program.prg();
+    are_bytes(file);
+    are_bytes(keyboard.text.as_slice());
+    are_bytes(keyboard.answers.as_slice());
+    let loaded = match tb_prg::read(file) {
         Ok(loaded) => loaded,
         Err(_) => return Err(Outcome::NoMemory),
     };
@@ -183,7 +188,7 @@ pub fn debug<R: Read, W: Write>(
     commands: &mut Tracked<R>,
     writer: &mut Tracked<W>,
 ) -> Outcome
-    ensures { Debugs sources.now keyboard.text.items keyboard.answers.items setting.beside setting.prompts result
+    ensures { Debugs sources.now keyboard.text.items keyboard.answers.items setting result
         (R.remaining commands.old.stream) (R.remaining commands.new.stream) (failures_of commands.old) (failures_of commands.new)
         (W.contents writer.old.stream) (W.contents writer.new.stream) (failures_of writer.old) (failures_of writer.new) }
 {

@@ -1,11 +1,13 @@
 //! Going on and back along a run.
-ghost use Rattle.std.specs.Prelude.{◌≡◌, ◌-◌, ◌<◌, ℕ, IfOk, IfSome, OnOk};
+ghost use Rattle.std.specs.Prelude.{◌≡◌, ℕ, IfOk, IfSome, OnOk};
 ghost use Rattle.tb_kernal.specs.Machine.{State};
 ghost use Rattle.tb_syntax.specs.Source.{Program};
-ghost use Rattle.tb_debug.specs.Debuggers.{IsAtTime, KeepsRun, KeepsRunTyped, OnRun, Responds, begun_by};
-ghost use Rattle.tb_debug.specs.Runs.{Point};
+ghost use Rattle.tb_debug.specs.Debuggers.{KeepsRun, KeepsRunTyped, LeadsBackBy, LeadsToTime, Responds};
+ghost use Rattle.tb_debug.specs.Begins.{StandsBy};
+ghost use Rattle.tb_debug.specs.Kinds.{IsWalk};
+ghost use Rattle.tb_debug.specs.Leading.{LeadsBackToNewest, LeadsOnTo};
+ghost use Rattle.tb_debug.specs.declared.searching.Destination.TheVariants as destination;
 ghost use Rattle.tb_debug.specs.Sources.{Debugs, ShowsLine};
-ghost use Rattle.tb_debug.specs.Stopping.{GoesToStop, IsNewest};
 ghost use Rattle.tb_debug.specs.Telling.{Tells};
 ghost use Rattle.tb_debug.specs.declared.beside.Beside.{Beside};
 
@@ -16,7 +18,8 @@ use tb_memmap::NoMemory;
 /// `Debugger::go_on`.
 pub fn gone_on(debugger: &mut Debugger<'_>, alloc: Global, limit: u64) -> Result<Reached, NoMemory>
     ensures run { OnOk result (KeepsRun debugger.old debugger.new) }
-    ensures stop { IfOk result (λ reached. (start : Point) → OnRun start debugger.old → GoesToStop start reached debugger.old debugger.new) }
+    ensures stop { IfOk result (λ reached. LeadsOnTo destination.Stop limit debugger.old reached debugger.new.present) }
+    ensures stands { IfOk result (λ reached. StandsBy debugger.old.starts reached debugger.new.present) }
 {
     debugger.go_on(alloc, limit)
 }
@@ -24,8 +27,8 @@ pub fn gone_on(debugger: &mut Debugger<'_>, alloc: Global, limit: u64) -> Result
 /// `Debugger::go_back`.
 pub fn gone_back(debugger: &mut Debugger<'_>, alloc: Global) -> Result<Reached, NoMemory>
     ensures run { OnOk result (KeepsRun debugger.old debugger.new) }
-    ensures stop { IfOk result (λ reached. (start : Point) → start.begun ≡ 0 → OnRun start debugger.old
-        → (time : ℕ) × IsNewest debugger.old start time × IsAtTime time reached debugger.new) }
+    ensures stop { IfOk result (λ reached. LeadsBackToNewest debugger.old reached debugger.new.present) }
+    ensures stands { IfOk result (λ reached. StandsBy debugger.old.starts reached debugger.new.present) }
 {
     debugger.go_back(alloc)
 }
@@ -38,7 +41,8 @@ pub fn gone_to(
     limit: u64,
 ) -> Result<Reached, NoMemory>
     ensures run { OnOk result (KeepsRun debugger.old debugger.new) }
-    ensures time { IfOk result (λ reached. IsAtTime time reached debugger.new) }
+    ensures time { IfOk result (λ reached. LeadsToTime time limit debugger.old reached debugger.new.present) }
+    ensures stands { IfOk result (λ reached. StandsBy debugger.old.starts reached debugger.new.present) }
 {
     debugger.to_time(alloc, time, limit)
 }
@@ -50,7 +54,8 @@ pub fn stepped_back(
     lines: u64,
 ) -> Result<Reached, NoMemory>
     ensures run { OnOk result (KeepsRun debugger.old debugger.new) }
-    ensures time { 0 < lines → 0 < begun_by debugger.old → IfOk result (λ reached. IsAtTime (begun_by debugger.old - lines) reached debugger.new) }
+    ensures lines { IfOk result (λ reached. LeadsBackBy lines debugger.old reached debugger.new.present) }
+    ensures stands { IfOk result (λ reached. StandsBy debugger.old.starts reached debugger.new.present) }
 {
     debugger.back(alloc, lines)
 }
@@ -65,7 +70,8 @@ pub fn line_begun(debugger: &Debugger<'_>) -> Option<u16>
 
 /// `Debugger::type_text`.
 pub fn typed(debugger: &mut Debugger<'_>, bytes: &[u8]) -> Result<(), NoMemory>
-    ensures { OnOk result (KeepsRunTyped bytes.now debugger.old debugger.new) }
+    ensures run { OnOk result (KeepsRunTyped bytes.now debugger.old debugger.new) }
+    ensures shown { debugger.new.shown ≡ debugger.old.shown }
 {
     debugger.type_text(bytes)
 }
@@ -78,7 +84,8 @@ pub fn answered(
     limit: u64,
 ) -> Result<Option<Answer>, NoMemory>
     ensures run { OnOk result (Responds command.entry debugger.old debugger.new) }
-    ensures tells { IfOk result (Tells command.entry debugger.old debugger.new) }
+    ensures tells { IfOk result (Tells limit command.entry debugger.old debugger.new) }
+    ensures shown { OnOk result (¬ (IsWalk command.entry debugger.old) → debugger.new.shown ≡ debugger.old.shown) }
 {
     debugger.respond(alloc, command, limit)
 }

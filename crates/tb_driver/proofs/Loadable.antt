@@ -17,11 +17,11 @@ answer_loads seed source c found =
     (loads.0, in_ram (length (loaded_of c)) loads.1)
 
 -- the address and the bytes of a file that was read
-abbrev address_in : Result (ℕ × List ℕ) PrgError → ℕ
+abbrev pub address_in : Result (ℕ × List ℕ) PrgError → ℕ
 address_in (Ok p) = p.0
 address_in (Err e) = 0
 
-abbrev bytes_in : Result (ℕ × List ℕ) PrgError → List ℕ
+abbrev pub bytes_in : Result (ℕ × List ℕ) PrgError → List ℕ
 bytes_in (Ok p) = p.1
 bytes_in (Err e) = []
 

@@ -46,7 +46,7 @@ byte_at [] h k = omega arith
 byte_at (x ∷ xs) h zero = h.0
 byte_at (x ∷ xs) h (suc k) = byte_at xs h.1 k
 
-bytes_behind : (xs : List ℕ) → AllBytes xs → AllBytes (drop 2 xs)
+pub bytes_behind : (xs : List ℕ) → AllBytes xs → AllBytes (drop 2 xs)
 bytes_behind [] h = tt
 bytes_behind (x ∷ []) h = tt
 bytes_behind (x ∷ y ∷ xs) h = h.1.1
@@ -88,7 +88,7 @@ start_holds bytes small =
     (omega arith, (omega arith, tt))
 
 -- the start machine of a program below $A000, with a keyboard of bytes
-starts : (bytes text answers : List ℕ) → 0x0801 + length bytes ≤ 0xa000 → AllBytes bytes → AllBytes text → AllBytes answers
+pub starts : (bytes text answers : List ℕ) → 0x0801 + length bytes ≤ 0xa000 → AllBytes bytes → AllBytes text → AllBytes answers
     → Starts 0x0801 bytes (state_of (start 0x0801 bytes text answers))
 starts bytes text answers ends small keys polls =
     let reads = memory_reads bytes ends in

@@ -9,7 +9,7 @@ mod stepping;
 
 pub use playing::play_compiled;
 pub use reading::{read_source, stop_of};
-pub use sources::{build, run_text};
+pub use sources::{are_bytes, build, run_text};
 pub use stepping::step_text;
 pub use tb_engines::{End, Outcome, Refusal, Report, asm_text, dis_text, run_prg, without_input};
 pub use tb_play::{MOST_TYPED, Played, play_file};

@@ -60,9 +60,9 @@ pub fn build<R: Read, W: Write>(
     }
 }
 
-// Keys are bytes: nothing is done, the proofs of `run_compiled` and `play_compiled` take it from here.
-pub fn are_bytes(keys: &[u8])
-    ensures { AllBytes keys.now }
+/// Bytes are numbers below 256: nothing is done, proofs take it from here.
+pub fn are_bytes(bytes: &[u8])
+    ensures { AllBytes bytes.now }
 {}
 
 // Runs the PRG file of a source.

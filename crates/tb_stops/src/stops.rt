@@ -48,14 +48,16 @@ impl Stops {
 
     /// Whether no line has a breakpoint.
     pub fn breaks_nowhere(&self) -> bool
-        ensures { result ≡ true → breakpoints_of self.now ≡ [] }
+        ensures none { result ≡ true → breakpoints_of self.now ≡ [] }
+        ensures only { breakpoints_of self.now ≡ [] → result ≡ true }
     {
         self.breakpoints.is_empty()
     }
 
     /// Whether no variable is watched.
     pub fn watches_none(&self) -> bool
-        ensures { result ≡ true → watches_of self.now ≡ [] }
+        ensures none { result ≡ true → watches_of self.now ≡ [] }
+        ensures only { watches_of self.now ≡ [] → result ≡ true }
     {
         self.watches.is_empty()
     }

@@ -28,7 +28,7 @@ returns-in-Ok g c =
 pub returns-in-Ok-Some-respond : goal.returns-in-Ok-Some-respond
 returns-in-Ok-Some-respond g c =
     let (took, prompted, read, wrote) = rw c.in-Ok-Some.field-0-is at c.in-Ok-Some.ensures in
-    said_wrong c.args.source.now c.args.setting.prompts c.args.debugger.now c.respond.new.self c.in-Err-say.outcome c.in-Ok-Some.line.items
+    said_wrong c.args.source.now c.args.setting c.args.debugger.now c.respond.new.self c.in-Err-say.outcome c.in-Ok-Some.line.items
     c.in-Ok-Some-respond.answer _ _ _ _ _ _ _ _ _ _ took
     (record {
       command = c.read_command-command.result;

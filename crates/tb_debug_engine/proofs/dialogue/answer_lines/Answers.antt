@@ -11,13 +11,13 @@ loop-asked-init g c = ([], refl, record { text = []; talked = (refl, refl); take
 pub returns-in-Ok-false : goal.returns-in-Ok-false
 returns-in-Ok-false g c =
     let (lines, many, behind, keys, wrote) = c.loop-asked.invariant in
-    closed c.args.source.now c.args.setting.prompts c.args.debugger.now c.loop-asked.debugger c.answer_line.new.debugger lines _ _ _ _ _ _ _ _ _ _ _ _
+    closed c.args.source.now c.args.setting c.args.debugger.now c.loop-asked.debugger c.answer_line.new.debugger lines _ _ _ _ _ _ _ _ _ _ _ _
     behind keys wrote (rw c.in-Ok-false.field-0-test at c.in-Ok-false.ensures)
 
 pub returns-in-Err : goal.returns-in-Err
 returns-in-Err g c =
     let (lines, many, behind, keys, wrote) = c.loop-asked.invariant in
-    broken c.args.source.now c.args.setting.prompts c.args.debugger.now c.loop-asked.debugger c.answer_line.new.debugger c.in-Err.outcome lines
+    broken c.args.source.now c.args.setting c.args.debugger.now c.loop-asked.debugger c.answer_line.new.debugger c.in-Err.outcome lines
     _ _ _ _ _ _ _ _ _ _ _ _ behind keys wrote c.in-Err.ensures
 
 pub loop-asked-preserved : goal.loop-asked-preserved
@@ -27,7 +27,7 @@ loop-asked-preserved g c =
     let longer : length (lines ++ line ∷ []) ≡ c.loop-asked.asked + 1 = omega (arith, length-append lines (line ∷ []), many) in (
       lines ++ line ∷ [],
       longer,
-      behind_more c.args.source.now c.args.setting.prompts c.args.debugger.now c.loop-asked.debugger c.answer_line.new.debugger lines line told _ _ _ _ _ _
+      behind_more c.args.source.now c.args.setting c.args.debugger.now c.loop-asked.debugger c.answer_line.new.debugger lines line told _ _ _ _ _ _
           behind took answers all,
       same_read ∙ keys,
       same_wrote ∙ wrote,

@@ -6,7 +6,7 @@ use Rattle.tb_debug_engine.proofs.dialogue.debug.Goals as goal
 pub returns-in-Ok-open : goal.returns-in-Ok-open
 returns-in-Ok-open g c =
     let (told, first, all, same) = c.in-Ok-open.ensures in
-    let talks = subst (λ wrote. Talks c.in-Ok.source c.args.setting.prompts c.open.new.debugger c.answer_lines.result
+    let talks = subst (λ wrote. Talks c.in-Ok.source c.args.setting c.open.new.debugger c.answer_lines.result
     (g.R.Read.remaining c.args.commands.now.stream) (g.R.Read.remaining c.answer_lines.new.commands.stream) (failures_of c.args.commands.now)
     (failures_of c.answer_lines.new.commands) (g.W.Write.contents c.open.new.writer.stream) (g.W.Write.contents c.answer_lines.new.writer.stream)
     wrote (failures_of c.answer_lines.new.writer)) same c.answer_lines.ensures in

@@ -4,8 +4,8 @@ use Rattle.tb_kernal.specs.Machine.{state_of}
 use Rattle.tb_debug.specs.Runs.{AreKept, IsFirst, IsKept, first_point}
 use Rattle.tb_debug.proofs.debugger.Debugger.new.Goals as goal
 
-pub returns : goal.returns
-returns c =
+pub returns-clause-run : goal.returns-clause-run
+returns-clause-run c =
     let marks = c.in_ok-starts.starts in
     let start = first_point (state_of c.args.machine) c.args.beside in
     let first = c.first-present.ensures.run marks in
@@ -19,3 +19,17 @@ returns c =
             (All-nil (λ k. IsKept marks start k × (k.moment.events ≤ now.events)));
       },
     )
+
+pub returns-clause-opens : goal.returns-clause-opens
+returns-clause-opens c =
+    let marks = c.in_ok-starts.starts in
+    let start = first_point (state_of c.args.machine) c.args.beside in
+    record {
+      first = c.first-present.result;
+      none = c.first-present.ensures.events;
+      reached = c.in_ok-to_next_start.field-0;
+      opens = c.in_ok-to_next_start.ensures.ends start (c.first-present.ensures.run marks);
+      shown = refl;
+      unset = c.new-2.ensures.breakpoints;
+      unwatched = c.new-2.ensures.watches;
+    }

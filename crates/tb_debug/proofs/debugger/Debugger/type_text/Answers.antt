@@ -3,8 +3,8 @@ use Rattle.tb_debug.specs.Runs.{AreKept, typed}
 use Rattle.tb_debug.proofs.Typing.{typed_all, typed_kept, typed_moment}
 use Rattle.tb_debug.proofs.debugger.Debugger.type_text.Goals as goal
 
-pub returns : goal.returns
-returns c = (
+pub returns-clause-run : goal.returns-clause-run
+returns-clause-run c = (
   refl,
   refl,
   λ start h.

@@ -1,8 +1,10 @@
-use Rattle.std.proofs.Common.{ap, refl, ◌∙◌, arith}
+use Rattle.std.proofs.Common.{◌+◌, ap, refl, ◌∙◌, arith}
 use Rattle.std.specs.Prelude.{◌&&◌, if◌then◌else◌}
 use Rattle.tb_debug.specs.Besides.{event_at}
 use Rattle.tb_debug.specs.Runs.{is_marked, shown}
 use Rattle.tb_debug.proofs.Besides.{given_at}
+use Rattle.tb_kernal.specs.Machine.{state_of}
+use Rattle.tb_debug.proofs.Beginning.{stays_there}
 use Rattle.tb_debug.proofs.Running.{behind_by, one_more, opened_where, runs_on}
 use Rattle.tb_kernal.specs.Runs.{is_own}
 use Rattle.tb_debug.proofs.moment.Moment.take_event.Goals as goal
@@ -34,3 +36,15 @@ returns-clause-own c = λ start h.
     let before = c.args.self.now in
     let given = given_at before.beside took.ready before.machine took.event took.same took.given.0 in
     took.is_own ∙ ap is_own given ∙ ap (λ p. is_own (event_at p.beside p.state.regs)) h.stands
+
+pub returns-clause-begun : goal.returns-clause-begun
+returns-clause-begun c =
+    let marks = c.args.starts.now in
+    let before = c.args.self.now in
+    c.counted-self.ensures ∙ ap (λ b. before.begun + (if b then 1 else 0)) (c.both-begins.ensures
+    ∙ ap (λ m. c.in_ok-is_own.is_own && m) (c.begins-marked.ensures ∙ ap (λ r. is_marked marks r.pc) c.regs-pc.ensures))
+
+pub returns-clause-interrupted : goal.returns-clause-interrupted
+returns-clause-interrupted c = λ other.
+    let took = c.in_ok-is_own.ensures in
+    stays_there (state_of c.args.self.now.machine) _ took.event c.in_ok-is_own.is_own took.is_own other took.happened

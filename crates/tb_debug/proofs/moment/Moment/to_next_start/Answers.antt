@@ -1,5 +1,5 @@
-use Rattle.std.proofs.Common.{◌∙◌, arith}
-use Rattle.tb_debug.proofs.Beginning.{comes_by, none_before, none_more}
+use Rattle.std.proofs.Common.{◌&&◌, ◌∙◌, sym, arith}
+use Rattle.tb_debug.proofs.Beginning.{comes_by, none_before, none_more, tally_few, tally_more}
 use Rattle.tb_debug.proofs.moment.Moment.to_next_start.Goals as goal
 
 pub returns-then-both-clause-ends : goal.returns-then-both-clause-ends
@@ -27,8 +27,15 @@ loop-self-preserved c =
         later = omega (arith, taken.one, c.loop-self.invariant.run.later);
       };
       few = omega (arith, taken.one, c.loop-self-test.true);
+      tally = tally_more marks c.args.self.now before now c.in_ok-own.own c.loop-self.invariant.tally taken.begun taken.interrupted
+          ((λ i. c.in_ok-own.own && sym c.begins-marked.ensures i) ∙ sym c.both.ensures ∙ c.if-both.false);
       none = λ start h.
           let was = c.loop-self.invariant.run.on start h in
           let comes = comes_by marks start before now c.in_ok-own.own c.begins-marked.result c.both.result (taken.run.on start was) taken.one (taken.own start was) c.begins-marked.ensures c.both.ensures in
           none_more marks start _ before.events now.events taken.one (c.loop-self.invariant.none start h) (comes ∙ c.if-both.false);
     }
+
+pub returns-then-both-clause-begun : goal.returns-then-both-clause-begun
+returns-then-both-clause-begun c =
+    tally_few c.args.starts.now c.args.self.now c.loop-self.self c.take_event.new.self c.in_ok-own.own c.loop-self.invariant.tally
+    c.in_ok-own.ensures.begun
