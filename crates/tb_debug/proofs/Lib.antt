@@ -10,6 +10,7 @@ pub mod Refusing
 pub mod Responding
 pub mod Returns
 pub mod Running
+pub mod SourceState
 pub mod Sources
 pub mod Stopping
 pub mod TypedLists

@@ -18,7 +18,15 @@ use Rattle.tb_debug.specs.declared.beside.Beside.{Beside}
 use Rattle.tb_debug.specs.declared.debugger.Debugger.{Debugger}
 use Rattle.tb_debug.specs.Runs.{begins_at, first_point, is_marked}
 use Rattle.tb_debug.specs.Lines.{line_at}
-use Rattle.tb_debug.specs.Sources.{Debugs, ShowsLine}
+use Rattle.std.specs.Int.{cast_signed, w16}
+use Rattle.std.specs.Prelude.{length}
+use Rattle.std.proofs.Common.{◌<◌, ◌≤◌, arith}
+use Rattle.tb_runtime16.specs.Places.{LINES_AT}
+use Rattle.tb_templates.specs.Templates.{var_at}
+use Rattle.tb_codegen.specs.Compiled.{StartsRise}
+use Rattle.tb_debug.specs.Readings.{lines_of_notes, returns_of}
+use Rattle.tb_debug.specs.Sources.{Debugs, IsMadeOf, ShowsLine}
+use Rattle.tb_debug.proofs.SourceState.{all_notes, notes_told, word_there}
 use Rattle.tb_debug.proofs.EventLists.{begun_to, events_to, lawful_to, run_to}
 
 module _ (labels : List (Name × ℕ)) where
@@ -63,6 +71,27 @@ module _ (labels : List (Name × ℕ)) where
           )
       go false q later found = let rest = later found in (or_right (nat_eq m n) (has_line ns n) rest.0, rest.1)
 
+-- what is shown of memory where a line begins
+shows_all : (source : Program) (seed : ℕ) (start : State) (d : Debugger) (n : ℕ) (made : IsMadeOf source seed d.program.now)
+    → ((k : ℕ) → has_line (numbers source) k ≡ true → start_of d.program.now k ≡ at_label (labels_from PROLOGUE_AT made.compiled.items) k)
+    → ((a : ℕ) → is_start (start_of d.program.now) (numbers source) a ≡ begins_at (starts_of d.program.now) a)
+    → BeginsLine source seed (start_of d.program.now) start d.present.begun n (state_of d.present.machine) → ShowsLine source seed start d n
+shows_all source seed start d n made firsts same begins =
+    let c = d.program.now in
+    let ns = numbers source in
+    let m = (state_of d.present.machine).mem in
+    let labels = labels_from PROLOGUE_AT made.compiled.items in
+    let told = made.compiled.starts in
+    let rise = subst (StartsRise LINES_AT) told made.compiled.rising in
+    let here : (a : ℕ) → is_start (start_of c) ns a ≡ begins_at (starts_in labels ns) a = λ a. same a ∙ ap (λ ss. begins_at ss a) told in
+    let count = all_notes m (length begins.state.returns) begins.few begins.notes in
+    record {
+      begins = begins;
+      variables = λ x few. ap (cast_signed w16) (word_there m (var_at x) (omega arith) (omega (arith, few)) ∙ begins.vars x few);
+      returns = ap (λ ss. returns_of ss m) told ∙ ap (lines_of_notes (starts_in labels ns) m) count
+          ∙ notes_told labels (start_of c) ns LINES_AT rise firsts here m begins.state.returns begins.few begins.returns;
+    }
+
 -- where a debugger stands at a line's beginning, the source goes on at that line
 pub shows_line : (source : Program) (seed : ℕ) (start : State) (beside : Beside) (d : Debugger) (n : ℕ) → Debugs source seed start beside d
     → line_at (starts_of d.program.now) d.present.machine.regs.pc ≡ Some n → ShowsLine source seed start d n
@@ -82,9 +111,10 @@ shows_line source seed start beside d n h here =
     begun_to d.starts first (start_of c) ns same refl d.present.events ∙ sym (ap (λ p. p.begun) h.on.of_run.stands) in
     let there = line_there labels ns d.present.machine.regs.pc n (sym (ap (λ ss. line_at ss d.present.machine.regs.pc) told) ∙ here) in
     let at : (run es start).regs.pc ≡ start_of c n = ap (λ s. s.regs.pc) ran ∙ sym there.1 ∙ sym (firsts n there.0) in
-    let shown = h.made.marks.begins start h.starts es (lawful_to d.starts first d.present.events) n there.0 at in
-    subst (λ m. BeginsLine source seed start m n (state_of d.present.machine)) count
-    (subst (λ t. BeginsLine source seed start (begun (start_of c) ns es start) n t) ran shown)
+    let begins = h.made.marks.begins start h.starts es (lawful_to d.starts first d.present.events) n there.0 at in
+    shows_all source seed start d n h.made firsts (λ a. same a ∙ h.on.marked a)
+    (subst (λ m. BeginsLine source seed (start_of c) start m n (state_of d.present.machine)) count
+    (subst (λ t. BeginsLine source seed (start_of c) start (begun (start_of c) ns es start) n t) ran begins))
 
 pub shows_some : (source : Program) (seed : ℕ) (start : State) (beside : Beside) (d : Debugger) (o : Option ℕ) → Debugs source seed start beside d
     → o ≡ line_at (starts_of d.program.now) d.present.machine.regs.pc → IfSome o (λ line. ShowsLine source seed start d line)

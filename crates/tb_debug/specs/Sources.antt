@@ -1,10 +1,13 @@
 -- What a debugger shows at a line's beginning is what the source's interpreter has.
-use Rattle.std.specs.Prelude.{ℕ}
+use Rattle.std.specs.Prelude.{◌≡◌, ◌<◌, ℕ, map, Option, Some, None, slice_index}
+use Rattle.std.specs.Int.{cast_signed, w16}
+use Rattle.tb_lower.specs.Control.{At, Past, Place}
 use Rattle.tb_kernal.specs.Machine.{State, state_of}
 use Rattle.tb_keeping.specs.Kept.{Starts}
 use Rattle.tb_keeping.specs.LineStarts.{BeginsLine, MarksLines}
 use Rattle.tb_syntax.specs.Source.{Program}
-use Rattle.tb_codegen.specs.Compiled.{IsCompiled, loaded_of, start_of}
+use Rattle.tb_codegen.specs.Compiled.{IsCompiled, loaded_of, start_of, starts_of}
+use Rattle.tb_debug.specs.Readings.{returns_of, variable_of}
 use Rattle.tb_codegen.specs.declared.compiled.Compiled.{Compiled}
 use Rattle.tb_debug.specs.declared.beside.Beside.{Beside}
 use Rattle.tb_debug.specs.declared.debugger.Debugger.{Debugger}
@@ -22,7 +25,14 @@ pub record Debugs (source : Program) (seed : ℕ) (start : State) (beside : Besi
   pub starts : Starts 0x0801 (loaded_of d.program.now) start
   pub on : OnRun (first_point start beside) d
 
--- the source goes on at this line after as many lines as the debugger has begun: just its output was sent, and its
--- variables and the number of its notes stand in memory
-abbrev pub ShowsLine : Program → ℕ → State → Debugger → ℕ → Type 0
-ShowsLine source seed start d line = BeginsLine source seed start d.present.begun line (state_of d.present.machine)
+-- the line of a place of the source; none past the last one
+abbrev pub line_of : Place → Option ℕ
+line_of (At n) = Some n
+line_of Past = None
+
+-- The source goes on at this line after as many lines as the debugger has begun, just its output was sent, and what the
+-- debugger shows is the source's: the variables, and the lines to return to.
+pub record ShowsLine (source : Program) (seed : ℕ) (start : State) (d : Debugger) (line : ℕ) : Type 0 where
+  pub begins : BeginsLine source seed (start_of d.program.now) start d.present.begun line (state_of d.present.machine)
+  pub variables : (x : ℕ) → x < 26 → variable_of (state_of d.present.machine).mem x ≡ cast_signed w16 (slice_index begins.state.vars x)
+  pub returns : returns_of (starts_of d.program.now) (state_of d.present.machine).mem ≡ map line_of begins.state.returns

@@ -1,0 +1,107 @@
+-- What a debugger shows of memory is what the source has.
+use Rattle.std.proofs.Common.{◌≡◌, ℕ, zero, suc, ◌+◌, ◌*◌, ◌%◌, ◌<◌, ◌≤◌, Bool, true, false, ◌||◌, List, [], ◌∷◌, length, refl, sym, ap, ◌∙◌, subst, arith}
+use Rattle.std.specs.Prelude.{if◌then◌else◌, nat_eq, nat_le, map, Option, Some, None, Ok, slice_index}
+use Rattle.std.specs.Int.{cast_signed, w16}
+use Rattle.std.proofs.lemmas.Bool.{eqb-true, ne_eqb, or_right}
+use Rattle.std.proofs.lemmas.Bool.Decides.{nat_tests}
+use Rattle.tb_memmap.specs.Bytes.{peek}
+use Rattle.tb_memmap.specs.Regions.{is_open}
+use Rattle.tb_cpu.specs.Operands.{word, word_in}
+use Rattle.tb_asm.specs.declared.names.Name.{Name}
+use Rattle.tb_lower.specs.Control.{At, Past, Place, has_line}
+use Rattle.tb_runtime16.specs.Places.{NOTES, NOTE_HIGH, NOTE_LOW}
+use Rattle.tb_templates.specs.declared.labels.Target.TheVariants.{Line}
+use Rattle.tb_templates.specs.Labels.{label_of}
+use Rattle.tb_keeping.specs.Layout.{is_start}
+use Rattle.tb_keeping.specs.LineStarts as kept
+use Rattle.tb_keeping.specs.LineStarts.{HoldsReturns, StandsFor}
+use Rattle.tb_codegen.specs.Compiled.{StartsRise, stands_at, starts_in}
+use Rattle.tb_debug.specs.Lines.{line_at}
+use Rattle.tb_debug.specs.Readings.{byte_at, lines_of_notes, note_at, notes_in, or_zero, returns_of, word_at}
+use Rattle.tb_debug.specs.Runs.{begins_at}
+use Rattle.tb_debug.specs.Sources.{line_of}
+
+-- ---- open places
+
+byte_there : (m : ℕ → ℕ) (a : ℕ) → is_open a ≡ true → byte_at m a ≡ m a
+byte_there m a e = rw e refl
+
+open_data : (a : ℕ) → 0xC000 ≤ a → a < 0xD000 → is_open a ≡ true
+open_data a from to = grind (arith, nat_tests)
+
+pub word_there : (m : ℕ → ℕ) (a : ℕ) → 0xC000 ≤ a → a + 1 < 0xD000 → word_at m a ≡ word_in m a
+word_there m a from to =
+    let next : (a + 1) % 65536 ≡ a + 1 = omega (arith, to) in
+    (λ i. word (byte_there m a (open_data a from (omega (arith, to))) i) (byte_at m (next i)))
+    ∙ ap (word (m a)) (byte_there m (a + 1) (open_data (a + 1) (omega (arith, from)) to))
+
+note_there : (m : ℕ → ℕ) (k : ℕ) → k < 500 → note_at m k ≡ kept.note_at m k
+note_there m k few =
+    λ i. word (byte_there m (NOTE_LOW + k) (open_data (NOTE_LOW + k) (omega arith) (omega (arith, few))) i)
+        (byte_there m (NOTE_HIGH + k) (open_data (NOTE_HIGH + k) (omega arith) (omega (arith, few))) i)
+
+-- ---- the lines of places
+
+module _ (labels : List (Name × ℕ)) where
+  abbrev at_label : ℕ → ℕ
+  at_label n = stands_at labels (label_of (Line n))
+
+  above : (ns : List ℕ) (low n : ℕ) → StartsRise low (starts_in labels ns) → has_line ns n ≡ true → low ≤ at_label n
+  above [] low n rise has = absurd (cc)
+  above (m ∷ ns) low n (here, rest) has = go (nat_eq m n) refl has
+    where
+      go : (t : Bool) → nat_eq m n ≡ t → (t || has_line ns n) ≡ true → low ≤ at_label n
+      go true is has = subst (λ k. low ≤ at_label k) (eqb-true m n is) here
+      go false is has = let later = above ns (at_label m + 1) n rest has in omega (arith, here, later)
+
+  -- a line of the program is found where it begins
+  found_there : (ns : List ℕ) (low n : ℕ) → StartsRise low (starts_in labels ns) → has_line ns n ≡ true
+      → line_at (starts_in labels ns) (at_label n) ≡ Some n
+  found_there [] low n rise has = absurd (cc)
+  found_there (m ∷ ns) low n (here, rest) has = go (nat_eq m n) refl has
+    where
+      go : (t : Bool) → nat_eq m n ≡ t → (t || has_line ns n) ≡ true
+          → (if nat_eq (at_label n) (at_label m) then Some m else line_at (starts_in labels ns) (at_label n)) ≡ Some n
+      go true is has =
+          let same : m ≡ n = eqb-true m n is in
+          ap (λ k. if nat_eq (at_label n) (at_label k) then Some k else line_at (starts_in labels ns) (at_label n)) same
+          ∙ ap (λ b. if b then Some n else line_at (starts_in labels ns) (at_label n)) (same_place (at_label n))
+      go false is has =
+          let later = above ns (at_label m + 1) n rest has in
+          ap (λ b. if b then Some m else line_at (starts_in labels ns) (at_label n)) (ne_eqb (at_label n) (at_label m) (λ e. omega (arith, e, later)))
+          ∙ found_there ns (at_label m + 1) n rest has
+
+      same_place : (a : ℕ) → nat_eq a a ≡ true
+      same_place a = grind (arith, nat_tests)
+
+  -- where no line begins none is found
+  none_there : (lines : List (ℕ × ℕ)) (a : ℕ) → begins_at lines a ≡ false → line_at lines a ≡ None
+  none_there [] a e = refl
+  none_there (s ∷ lines) a e = go (nat_eq a s.1) e
+    where
+      go : (t : Bool) → (t || begins_at lines a) ≡ false → (if t then Some s.0 else line_at lines a) ≡ None
+      go true e = absurd (cc)
+      go false e = none_there lines a e
+
+  module _ (start : ℕ → ℕ) (ns : List ℕ) (low : ℕ) (rise : StartsRise low (starts_in labels ns))
+      (firsts : (n : ℕ) → has_line ns n ≡ true → start n ≡ at_label n) (same : (a : ℕ) → is_start start ns a ≡ begins_at (starts_in labels ns) a) where
+    place_told : (p : Place) (a : ℕ) → StandsFor start ns p a → line_at (starts_in labels ns) a ≡ line_of p
+    place_told (At n) a (has, is) = ap (line_at (starts_in labels ns)) (is ∙ firsts n has) ∙ found_there ns low n rise has
+    place_told Past a none = none_there (starts_in labels ns) a (sym (same a) ∙ none)
+
+    -- the lines that the notes lead to are those of the places
+    pub notes_told : (m : ℕ → ℕ) (ps : List Place) → length ps ≤ 500 → HoldsReturns start ns m ps
+        → lines_of_notes (starts_in labels ns) m (length ps) ≡ map line_of ps
+    notes_told m [] few held = refl
+    notes_told m (p ∷ ps) few held =
+        let here : line_at (starts_in labels ns) (note_at m (length ps)) ≡ line_of p =
+        ap (line_at (starts_in labels ns)) (note_there m (length ps) (omega (arith, few))) ∙ place_told p (kept.note_at m (length ps)) held.0 in
+        let rest = notes_told m ps (omega (arith, few)) held.1 in
+        λ i. here i ∷ rest i
+
+-- as many notes are told as there are
+pub all_notes : (m : ℕ → ℕ) (count : ℕ) → count ≤ 500 → word_in m NOTES ≡ count → notes_in m ≡ count
+all_notes m count few is =
+    let there : word_at m NOTES ≡ count = word_there m NOTES (omega arith) (omega arith) ∙ is in
+    let small : nat_le count 500 ≡ true = grind (arith, nat_tests) in
+    ap (λ n. if nat_le n 500 then n else 500) there ∙ ap (λ b. if b then count else 500) small
