@@ -27,15 +27,15 @@ use Rattle.tb_runtime16.specs.Places.{NOTES}
 use Rattle.tb_templates.specs.Templates.{var_at}
 use Rattle.tb_keeping.specs.Kept.{Starts}
 use Rattle.tb_keeping.specs.Layout.{Layout, is_start, inner, place_at}
-use Rattle.tb_runtime16.specs.Routines.{WordAt}
+use Rattle.tb_runtime16.specs.Routines.{Noted, WordAt}
 use Rattle.tb_keeping.proofs.Inductions as keeps
 use Rattle.tb_keeping.proofs.Inductions.{on_way, there}
 use Rattle.tb_keeping.proofs.Starts as lines
 use Rattle.tb_keeping.proofs.Starts.{count, before, between, behind}
 use Rattle.tb_keeping.proofs.Strides.{IsStride, found_line, lines_at}
-use Rattle.tb_keeping.proofs.Mirrors.{Leads}
+use Rattle.tb_keeping.proofs.Mirrors.{Leads, notes_of}
 use Rattle.tb_keeping.proofs.Pieces.{word_in_data}
-use Rattle.tb_keeping.proofs.Frames.{word_kept}
+use Rattle.tb_keeping.proofs.Frames.{notes_kept, word_kept}
 use Rattle.tb_keeping.proofs.Joins.{move, IsLawful, sent, same_goes, same_after, lawful_all, sends, IsEnd, end_stays, R, LawAt, reaches, sent_in}
 use Rattle.tb_keeping.proofs.Headline.{setup, begins_so, above_so, Opened, OpeningLaw, StepLaws}
 
@@ -94,6 +94,8 @@ pub record Known (ly : Layout) (s : State) (w : View) : Type 0 where
   pub pc : w.regs.pc ≡ place_at ly s.place
   pub vars : (x : ℕ) → x < 26 → WordAt w.mem (var_at x) (slice_index s.vars x)
   pub count : WordAt w.mem NOTES (length s.returns)
+  pub noted : Noted w.mem (notes_of ly s.returns)
+  pub few : length s.returns ≤ 500
 
 module _ (place : ℕ) (bytes : List ℕ) (from : 0x0800 ≤ place) (to : place + length bytes ≤ 0xa000) (ly : Layout) (program : Program) (sc : SlotCode) (follows : Follows program sc) (apart : AreApart ly sc)
     (step : SlotState → Step SlotState) (stride : IsStride sc step) (M : machine.State → SlotState → View → Type 0) (known : (s : machine.State) (c : SlotState) (w : View) → M s c w → c.rest ≡ Whole → Known ly c.state w)
@@ -193,6 +195,8 @@ module _ (place : ℕ) (bytes : List ℕ) (from : 0x0800 ≤ place) (to : place 
     pub pc : t.regs.pc ≡ ly.start number
     pub vars : (x : ℕ) → x < 26 → WordAt t.mem (var_at x) (slice_index state.vars x)
     pub notes : WordAt t.mem NOTES (length state.returns)
+    pub noted : Noted t.mem (notes_of ly state.returns)
+    pub few : length state.returns ≤ 500
 
   line_begun : (m : ℕ) (t : machine.State) → lines.AtLine machine.State Event move IsLawful is_own sent sends Ends (end_stays f (above_so place bytes from to ly s h)) program sc follows step stride Related (UnderWay f) (limit k) (positive k) (reaches f (above_so place bytes from to ly s h) (M s) step (limit k) (laws s h)) (starts ly) others_keep no_start no_start_at_end entry seed s.text s.answers m t → LineBegun m t
   line_begun m t a =
@@ -208,6 +212,8 @@ module _ (place : ℕ) (bytes : List ℕ) (from : 0x0800 ≤ place) (to : place 
         pc = pc_here f w t at ∙ there.pc ∙ ap (place_at ly) a.place;
         vars = λ x lt. word_kept w.mem t.mem (var_at x) (slice_index a.state.vars x) (fixed (var_at x) (word_in_data (var_at x) (omega arith) (omega (arith, lt))).0) (fixed (var_at x + 1) (word_in_data (var_at x) (omega arith) (omega (arith, lt))).1) (there.vars x lt);
         notes = word_kept w.mem t.mem NOTES (length a.state.returns) (fixed NOTES refl) (fixed (NOTES + 1) refl) there.count;
+        noted = notes_kept ly w.mem t.mem a.state.returns there.few (λ p lo hi. fixed p (word_in_data p (omega (arith, lo)) (omega (arith, hi))).0) there.noted;
+        few = there.few;
       }
 
   pub at_line : (es : List Event) → keeps.AllLawful machine.State Event move IsLawful is_own sent es s → starts ly (after_all es s) ≡ 1 → LineBegun (met es) (after_all es s)

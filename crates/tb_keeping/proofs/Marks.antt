@@ -1,6 +1,7 @@
 -- The promise on line starts, from what was shown of one start.
 use Rattle.std.proofs.Common.{zero-add, ◌≡◌, ℕ, ◌+◌, ◌*◌, ◌≤◌, ◌<◌, Bool, true, false, List, [], ◌∷◌, ◌++◌, Some, length, refl, sym, ap, ◌∙◌, subst, arith}
 use Rattle.std.specs.Prelude.{if◌then◌else◌}
+use Rattle.std.proofs.lemmas.List.{length-map}
 use Rattle.tb_kernal.specs.declared.events.Event.{Event}
 use Rattle.tb_kernal.specs.declared.events.Event.TheVariants.{Go, Interrupt}
 use Rattle.tb_kernal.specs.Machine as machine
@@ -9,18 +10,21 @@ use Rattle.tb_kernal.specs.Runs.{run, all_lawful, goes, is_own}
 use Rattle.tb_reaching.specs.View.{View}
 use Rattle.tb_syntax.specs.Source.{Program, numbers}
 use Rattle.tb_lower.specs.Steps.{Step, GoesOn}
-use Rattle.tb_lower.specs.Control.{At, State, content_at, has_line}
+use Rattle.tb_lower.specs.Control.{At, Past, Place, State, content_at, has_line}
 use Rattle.tb_lower.specs.Meaning.{source_run}
 use Rattle.tb_lower.specs.Follows.{Follows, longest}
 use Rattle.tb_lower.specs.Slots.{Instr, SlotCode, SlotState, Whole}
 use Rattle.tb_keeping.specs.Kept.{Starts}
-use Rattle.tb_keeping.specs.Layout.{Layout, is_start}
-use Rattle.tb_keeping.specs.LineStarts.{begun, BeginsLine, LineComes, MarksLines}
+use Rattle.tb_keeping.specs.Layout.{Layout, is_start, place_at}
+use Rattle.tb_keeping.specs.LineStarts.{begun, BeginsLine, HoldsReturns, LineComes, MarksLines, StandsFor, note_at}
+use Rattle.tb_runtime16.specs.Notes.{NoteAt, Noted}
+use Rattle.tb_runtime16.specs.Places.{NOTE_HIGH, NOTE_LOW}
+use Rattle.tb_keeping.proofs.Mirrors.{notes_of}
 use Rattle.tb_runtime16.proofs.InMemory.{value}
 use Rattle.tb_keeping.proofs.Starts as lines
 use Rattle.tb_keeping.proofs.Starts.{count}
 use Rattle.tb_keeping.proofs.Joins.{move, IsLawful, sent, same_goes, same_after, all_are_lawful}
-use Rattle.tb_keeping.proofs.Placed.{HasLine, at_lines}
+use Rattle.tb_keeping.proofs.Placed.{AllHave, HasLine, at_lines}
 use Rattle.tb_keeping.proofs.Strides.{IsStride}
 use Rattle.tb_keeping.proofs.Headline.{OpeningLaw, StepLaws}
 use Rattle.tb_keeping.proofs.LineStarts as one
@@ -39,6 +43,23 @@ at_one : (b : Bool) → count 1 b ≡ 1 → b ≡ true
 at_one true e = refl
 at_one false e = absurd (let no : ⊥ = omega (arith, e) in no)
 
+-- the places to return to, by the notes in memory
+returns_held : (ly : Layout) (m : ℕ → ℕ) (ps : List Place) → is_start ly.start ly.numbers ly.past ≡ false → AllHave ly.numbers ps
+    → Noted m (notes_of ly ps) → HoldsReturns ly.start ly.numbers m ps
+returns_held ly m [] past have noted = tt
+returns_held ly m (p ∷ ps) past have noted = (place_held p have.0 (note_is ps noted.0), returns_held ly m ps past have.1 noted.1)
+  where
+    note_is : (ps : List Place) → NoteAt m (length (notes_of ly ps)) (place_at ly p) → note_at m (length ps) ≡ place_at ly p
+    note_is ps h =
+        let many : length (notes_of ly ps) ≡ length ps = length-map ps (place_at ly) in
+        let low = ap (λ k. m (NOTE_LOW + k)) (sym many) ∙ h.low in
+        let high = ap (λ k. m (NOTE_HIGH + k)) (sym many) ∙ h.high in
+        omega (arith, low, high)
+
+    place_held : (q : Place) → HasLine ly.numbers q → note_at m (length ps) ≡ place_at ly q → StandsFor ly.start ly.numbers q (note_at m (length ps))
+    place_held (At n) has is = (has, is)
+    place_held Past has is = ap (is_start ly.start ly.numbers) is ∙ past
+
 module _ (place : ℕ) (bytes : List ℕ) (from : 0x0800 ≤ place) (to : place + length bytes ≤ 0xa000) (ly : Layout) (program : Program) (sc : SlotCode) (follows : Follows program sc) (apart : AreApart ly sc)
     (step : SlotState → Step SlotState) (stride : IsStride sc step) (M : machine.State → SlotState → View → Type 0) (known : (s : machine.State) (c : SlotState) (w : View) → M s c w → c.rest ≡ Whole → Known ly c.state w)
     (limit : ℕ → ℕ) (positive : (k : ℕ) → 1 ≤ limit k) (n : ℕ) (prologue : OpeningLaw place bytes from to ly M sc n) (laws : StepLaws place bytes from to ly M step limit) where
@@ -49,7 +70,7 @@ module _ (place : ℕ) (bytes : List ℕ) (from : 0x0800 ≤ place) (to : place 
   lined : (number : ℕ) → has_line (numbers program) number ≡ true → (is : List Instr) × (content_at sc number ≡ Some is)
   lined number has = has_content sc number (ap (λ ns. has_line ns number) follows.same_numbers ∙ has)
 
-  pub at_line : (s : machine.State) (h : Starts place bytes s) (es : List Event) → all_lawful es s ≡ true → (number : ℕ) → has_line (numbers program) number ≡ true → (run es s).regs.pc ≡ ly.start number → BeginsLine program ly.seed s (begun ly.start (numbers program) es s) number (run es s)
+  pub at_line : (s : machine.State) (h : Starts place bytes s) (es : List Event) → all_lawful es s ≡ true → (number : ℕ) → has_line (numbers program) number ≡ true → (run es s).regs.pc ≡ ly.start number → BeginsLine program ly.seed ly.start s (begun ly.start (numbers program) es s) number (run es s)
   at_line s h es l number has pc =
       let list = lined number has in
       let same_numbers : ly.numbers ≡ numbers program = sym apart.numbered ∙ follows.same_numbers in
@@ -60,16 +81,20 @@ module _ (place : ℕ) (bytes : List ℕ) (from : 0x0800 ≤ place) (to : place 
       let b = one.at_line place bytes from to ly program sc follows apart step stride M known limit positive n prologue laws s h es (all_are_lawful es s l) now in
       let counted : lines.met machine.State Event move IsLawful is_own sent (starts ly) es s ≡ begun ly.start (numbers program) es s = same_begun ly es s ∙ ap (λ ns. begun ly.start ns es s) same_numbers in
       let met = lines.met machine.State Event move IsLawful is_own sent (starts ly) es s in
-      let there : has_line (numbers program) b.number ≡ true = subst (HasLine (numbers program)) b.at_place (at_lines program ly.seed s.text s.answers met b.state y.sent b.done).here in
+      let led = at_lines program ly.seed s.text s.answers met b.state y.sent b.done in
+      let there : has_line (numbers program) b.number ≡ true = subst (HasLine (numbers program)) b.at_place led.here in
       let which : b.number ≡ number = apart.distinct b.number number (ap (λ ns. has_line ns b.number) same_numbers ∙ there) (ap (λ ns. has_line ns number) same_numbers ∙ has) (sym b.pc ∙ ap (λ t. t.regs.pc) same ∙ pc) in
-      subst (λ m. BeginsLine program ly.seed s m number (run es s)) counted
-      (subst (λ t. BeginsLine program ly.seed s met number t) same
+      subst (λ m. BeginsLine program ly.seed ly.start s m number (run es s)) counted
+      (subst (λ t. BeginsLine program ly.seed ly.start s met number t) same
       (record {
         state = b.state;
         done = b.done;
         place = b.at_place ∙ ap At which;
         vars = λ x lt. value y.mem _ _ (b.vars x lt);
         notes = value y.mem _ _ b.notes;
+        few = b.few;
+        returns = subst (λ ns. HoldsReturns ly.start ns y.mem b.state.returns) same_numbers
+            (returns_held ly y.mem b.state.returns apart.past (subst (λ ns. AllHave ns b.state.returns) (sym same_numbers) led.notes) b.noted);
       }))
 
   pub comes : (s : machine.State) (h : Starts place bytes s) (m : ℕ) (state : State) (out : List ℕ) (number : ℕ) → source_run program ly.seed s.text s.answers m ≡ GoesOn state out → state.place ≡ At number → (es : List Event) → all_lawful es s ≡ true → bound (length s.text) m ≤ goes es → LineComes program ly.start s m (bound (length s.text) m) es

@@ -18,7 +18,7 @@ module _ (ns : List ℕ) where
   HasLine (At n) = has_line ns n ≡ true
   HasLine Past = Unit {0}
 
-  abbrev AllHave : List Place → Type 0
+  abbrev pub AllHave : List Place → Type 0
   AllHave [] = Unit {0}
   AllHave (p ∷ ps) = HasLine p × AllHave ps
 
