@@ -48,40 +48,43 @@ module _ (labels : List (Name × ℕ)) where
 
   above : (ns : List ℕ) (low n : ℕ) → StartsRise low (starts_in labels ns) → has_line ns n ≡ true → low ≤ at_label n
   above [] low n rise has = absurd (cc)
-  above (m ∷ ns) low n (here, rest) has = go (nat_eq m n) refl has
+  above (m ∷ ns) low n (here, rest) has = go (nat_eq m n) refl (above ns (at_label m + 1) n rest) has
     where
-      go : (t : Bool) → nat_eq m n ≡ t → (t || has_line ns n) ≡ true → low ≤ at_label n
-      go true is has = subst (λ k. low ≤ at_label k) (eqb-true m n is) here
-      go false is has = let later = above ns (at_label m + 1) n rest has in omega (arith, here, later)
+      go : (t : Bool) → nat_eq m n ≡ t → (has_line ns n ≡ true → at_label m + 1 ≤ at_label n) → (t || has_line ns n) ≡ true → low ≤ at_label n
+      go true is later has = subst (λ k. low ≤ at_label k) (eqb-true m n is) here
+      go false is later has = omega (arith, here, later has)
+
+  same_place : (a : ℕ) → nat_eq a a ≡ true
+  same_place a = grind (arith, nat_tests)
 
   -- a line of the program is found where it begins
   found_there : (ns : List ℕ) (low n : ℕ) → StartsRise low (starts_in labels ns) → has_line ns n ≡ true
       → line_at (starts_in labels ns) (at_label n) ≡ Some n
   found_there [] low n rise has = absurd (cc)
-  found_there (m ∷ ns) low n (here, rest) has = go (nat_eq m n) refl has
+  found_there (m ∷ ns) low n (here, rest) has =
+      go (nat_eq m n) refl (above ns (at_label m + 1) n rest) (found_there ns (at_label m + 1) n rest) has
     where
-      go : (t : Bool) → nat_eq m n ≡ t → (t || has_line ns n) ≡ true
+      go : (t : Bool) → nat_eq m n ≡ t → (has_line ns n ≡ true → at_label m + 1 ≤ at_label n)
+          → (has_line ns n ≡ true → line_at (starts_in labels ns) (at_label n) ≡ Some n) → (t || has_line ns n) ≡ true
           → (if nat_eq (at_label n) (at_label m) then Some m else line_at (starts_in labels ns) (at_label n)) ≡ Some n
-      go true is has =
+      go true is later found has =
           let same : m ≡ n = eqb-true m n is in
           ap (λ k. if nat_eq (at_label n) (at_label k) then Some k else line_at (starts_in labels ns) (at_label n)) same
           ∙ ap (λ b. if b then Some n else line_at (starts_in labels ns) (at_label n)) (same_place (at_label n))
-      go false is has =
-          let later = above ns (at_label m + 1) n rest has in
-          ap (λ b. if b then Some m else line_at (starts_in labels ns) (at_label n)) (ne_eqb (at_label n) (at_label m) (λ e. omega (arith, e, later)))
-          ∙ found_there ns (at_label m + 1) n rest has
-
-      same_place : (a : ℕ) → nat_eq a a ≡ true
-      same_place a = grind (arith, nat_tests)
+      go false is later found has =
+          let behind = later has in
+          ap (λ b. if b then Some m else line_at (starts_in labels ns) (at_label n)) (ne_eqb (at_label n) (at_label m) (λ e. omega (arith, e, behind)))
+          ∙ found has
 
   -- where no line begins none is found
   none_there : (lines : List (ℕ × ℕ)) (a : ℕ) → begins_at lines a ≡ false → line_at lines a ≡ None
   none_there [] a e = refl
-  none_there (s ∷ lines) a e = go (nat_eq a s.1) e
+  none_there (s ∷ lines) a e = go (nat_eq a s.1) (none_there lines a) e
     where
-      go : (t : Bool) → (t || begins_at lines a) ≡ false → (if t then Some s.0 else line_at lines a) ≡ None
-      go true e = absurd (cc)
-      go false e = none_there lines a e
+      go : (t : Bool) → (begins_at lines a ≡ false → line_at lines a ≡ None) → (t || begins_at lines a) ≡ false
+          → (if t then Some s.0 else line_at lines a) ≡ None
+      go true later e = absurd (cc)
+      go false later e = later e
 
   module _ (start : ℕ → ℕ) (ns : List ℕ) (low : ℕ) (rise : StartsRise low (starts_in labels ns))
       (firsts : (n : ℕ) → has_line ns n ≡ true → start n ≡ at_label n) (same : (a : ℕ) → is_start start ns a ≡ begins_at (starts_in labels ns) a) where
