@@ -7,10 +7,8 @@ use Rattle.tb_syntax.specs.declared.expressions.Operator.TheVariants as op
 use Rattle.tb_lower.specs.Control.{State}
 use Rattle.tb_lower.specs.Slots.{Instr, Slots, SlotCode}
 use Rattle.tb_reaching.proofs.Comes.{looser}
-use Rattle.tb_reaching.specs.View.{Fits, Setup, View}
+use Rattle.tb_reaching.specs.View.{Fits, View}
 use Rattle.tb_runtime16.specs.Places.{LEFT}
-use Rattle.tb_runtime16.specs.Routines.{Routines}
-use Rattle.tb_keeping.specs.Layout.{Layout}
 use Rattle.tb_keeping.proofs.Resolved.{Lies, pieces_size}
 use Rattle.tb_selection.specs.Groups.{Operand, Destination, Calculate, slot_of}
 use Rattle.tb_selection.specs.Liveness.{live}
@@ -31,12 +29,15 @@ use Rattle.tb_grouping.proofs.Ready.{Ready}
 use Rattle.tb_grouping.proofs.Shifts.{shift_law}
 use Rattle.tb_grouping.proofs.SlotSide.{fetched, left_asked, right_asked, spread}
 use Rattle.tb_grouping.proofs.Sums.{Grounded}
+use Rattle.tb_grouping.proofs.Surroundings.{Serves, Surroundings}
 
 -- a constant is the word that it holds
 pub constant_is : (m : ℕ → ℕ) (v y : ℕ) (a : Source) → a ≡ FixedWord v → SourceHolds m a y → (v ≡ y) × (y < 65536)
 constant_is m v y a e h = (let k = subst (λ a. SourceHolds m a y) e h in let l = k.low_byte in let g = k.high_byte in omega (arith, l, g), h.small)
 
-module _ (ly : Layout) (f : Setup) (lo hi keys : ℕ) (fits : Fits f 16) (limit : ℕ) (rs : Routines ly.table ly.seed ly.numbers ly.start f lo hi keys limit) (wide : 200 ≤ limit) (code : SlotCode) (n : ℕ) (a b : Operand) (d : Destination) (is : List Instr) (s : State) (r : Slots) (w : View) where
+module _ (around : Surroundings) (fits : Fits around.f 16) (limit : ℕ) (rs : Serves around limit) (wide : 200 ≤ limit) (code : SlotCode) (n : ℕ) (a b : Operand) (d : Destination) (is : List Instr) (s : State) (r : Slots) (w : View) where
+  open around use {ly, f}
+
   abbrev k : ℕ
   k = slot_of d
 
@@ -55,24 +56,24 @@ module _ (ly : Layout) (f : Setup) (lo hi keys : ℕ) (fits : Fits f 16) (limit 
   abbrev to : ℕ
   to = destination_at d
 
-  module _ (h : Ready ly f lo hi keys fits n (Calculate op.Divide a b d) (spread op.Divide a b d is) is s r w) where
+  module _ (h : Ready around n (Calculate op.Divide a b d) (spread op.Divide a b d is) is s r w) where
     right_holds : SourceHolds w.mem right y
     right_holds = operand_held ly s (live (spread op.Divide a b d is)) r w.mem (k + 1) b h.state h.read (calc_fits op.Divide a b d h.ranged).right (right_asked op.Divide a b d is)
 
     pub quotient_law : (o : Option ℕ) → IsShifting right o → Lies f.code w.regs.pc (quotient_code n o left right to) → GroupsLie ly f.code n (w.regs.pc + pieces_size (quotient_code n o left right to)) (select is)
-        → Leads ly f lo hi keys fits code n a b d is s r w op.Divide (17 + limit)
+        → Leads around code n a b d is s r w op.Divide (17 + limit)
     quotient_law _ (by_shifts v j e few power) lies rest =
         let same = constant_is w.mem v y right e right_holds in
         let is_power : y ≡ 2 ^ (j + 1) = sym same.0 ∙ power in
         let some : y ≢ 0 = λ z. let p = power_some j few in omega (arith, p, is_power, z) in
-        looser f w _ _ _ 31 (17 + limit) (omega (arith, wide)) (λ u z. z) (shift_law ly f lo hi keys fits code n a b d is s r w h j few is_power some lies rest)
+        looser f w _ _ _ 31 (17 + limit) (omega (arith, wide)) (λ u z. z) (shift_law around fits code n a b d is s r w h j few is_power some lies rest)
     quotient_law _ by_call lies rest =
         ⊎_elim
-        (λ zero. divide_fails ly f lo hi keys fits limit rs code n a b d is s r w h lies rest zero)
-        (λ some. divide_law ly f lo hi keys fits limit rs code n a b d is s r w h lies rest some)
+        (λ zero. divide_fails around fits limit rs code n a b d is s r w h lies rest zero)
+        (λ some. divide_law around fits limit rs code n a b d is s r w h lies rest some)
         (cases_eq y 0)
 
-  module _ (h : Ready ly f lo hi keys fits n (Calculate op.Multiply a b d) (spread op.Multiply a b d is) is s r w) where
+  module _ (h : Ready around n (Calculate op.Multiply a b d) (spread op.Multiply a b d is) is s r w) where
     fit : CalcFits a b d
     fit = calc_fits op.Multiply a b d h.ranged
 
@@ -92,15 +93,15 @@ module _ (ly : Layout) (f : Setup) (lo hi keys : ℕ) (fits : Fits f 16) (limit 
     above_one v e = leb-true 2 v (and_parts (nat_le 2 v) (nat_le (bits_size 15 v) 60) e).0
 
     pub product_law : (o : Option (ℕ × Source)) → IsScaling left right o → Lies f.code w.regs.pc (product_code o left right to) → GroupsLie ly f.code n (w.regs.pc + pieces_size (product_code o left right to)) (select is)
-        → Leads ly f lo hi keys fits code n a b d is s r w op.Multiply (13 + limit)
+        → Leads around code n a b d is s r w op.Multiply (13 + limit)
     product_law _ (by_right v e good) lies rest =
         let same = constant_is w.mem v y right e other_holds in
         let two = above_one v good in
         looser f w _ _ _ 141 (13 + limit) (omega (arith, wide)) (λ u z. z)
-        (times_law ly f lo hi keys fits code n a b d is s r w h v (omega (arith, two)) (omega (arith, same)) left x left_apart (operand_beyond k a) left_holds (ap (λ z. word (x * z)) (sym same.0)) lies rest)
+        (times_law around fits code n a b d is s r w h v (omega (arith, two)) (omega (arith, same)) left x left_apart (operand_beyond k a) left_holds (ap (λ z. word (x * z)) (sym same.0)) lies rest)
     product_law _ (by_left v e good) lies rest =
         let same = constant_is w.mem v x left e left_holds in
         let two = above_one v good in
         looser f w _ _ _ 141 (13 + limit) (omega (arith, wide)) (λ u z. z)
-        (times_law ly f lo hi keys fits code n a b d is s r w h v (omega (arith, two)) (omega (arith, same)) right y right_apart (operand_beyond (k + 1) b) other_holds (ap word (mul_comm x y) ∙ ap (λ z. word (y * z)) (sym same.0)) lies rest)
-    product_law _ by_routine lies rest = multiply_law ly f lo hi keys fits limit rs code n a b d is s r w h lies rest
+        (times_law around fits code n a b d is s r w h v (omega (arith, two)) (omega (arith, same)) right y right_apart (operand_beyond (k + 1) b) other_holds (ap word (mul_comm x y) ∙ ap (λ z. word (y * z)) (sym same.0)) lies rest)
+    product_law _ by_routine lies rest = multiply_law around fits limit rs code n a b d is s r w h lies rest

@@ -18,7 +18,6 @@ use Rattle.tb_reaching.proofs.Placed.{placed_last}
 use Rattle.tb_reaching.specs.View.{Bytes, Comes, Fits, Setup, View, is_data, view}
 use Rattle.tb_runtime16.specs.Routines.{Here, Moves, WithA}
 use Rattle.tb_runtime16.proofs.Words.{one_carry}
-use Rattle.tb_keeping.specs.Layout.{Layout}
 use Rattle.tb_keeping.proofs.Mirrors.{Carrying, Flagged}
 use Rattle.tb_keeping.proofs.Pieces.{InData, changes_last, loads_last, moves_looser, moves_then, put_word, stores_last, whatever, whatever_a, whatever_with}
 use Rattle.tb_keeping.proofs.Resolved.{Code, Lies, highest_code, pieces_size, size}
@@ -42,6 +41,7 @@ use Rattle.tb_grouping.proofs.Ready.{Ready, here}
 use Rattle.tb_grouping.proofs.ShiftSteps.{swapped}
 use Rattle.tb_grouping.proofs.SlotSide.{calculate_goes, calculate_lasting, fetched, left_asked, right_asked, spread, with_fetched}
 use Rattle.tb_grouping.proofs.Sources.{Fixed, At, Known, adds_byte, behind, clears, loads_byte, loads_with, raises_carry, takes_byte, whatever_known, writes_byte}
+use Rattle.tb_grouping.proofs.Surroundings.{Surroundings}
 
 -- ---- bytes written
 -- a byte that is there already
@@ -475,7 +475,9 @@ changed_small (Lower c) x h = omega arith
 changed_small Halve x h = subst (λ v. v < 65536) (halves_are 0 x (omega arith) h) (halve_small (word (x + more 0 (nat_le 32768 x))) (omega arith))
 changed_small Double x h = omega arith
 
-module _ (ly : Layout) (f : Setup) (lo hi keys : ℕ) (fits : Fits f 16) (code : SlotCode) (n : ℕ) (op : Operator) (a b : Operand) (d : Destination) (is : List Instr) (s : State) (r : Slots) (w : View) (h : Ready ly f lo hi keys fits n (Calculate op a b d) (spread op a b d is) is s r w) where
+module _ (around : Surroundings) (fits : Fits around.f 16) (code : SlotCode) (n : ℕ) (op : Operator) (a b : Operand) (d : Destination) (is : List Instr) (s : State) (r : Slots) (w : View) (h : Ready around n (Calculate op a b d) (spread op a b d is) is s r w) where
+  open around use {ly, f}
+
   abbrev k : ℕ
   k = slot_of d
 
@@ -499,18 +501,18 @@ module _ (ly : Layout) (f : Setup) (lo hi keys : ℕ) (fits : Fits f 16) (code :
 
   -- the word x at the place is changed
   change_law : (c : Change) (first : Way) (x : ℕ) → IsByte c → SourceHolds w.mem (AtPlace to) x → apply op (fetched s r k a) (fetched s r (k + 1) b) ≡ Some (changed c x)
-      → Lies f.code w.regs.pc (change_code first w.regs.pc c to) → GroupsLie ly f.code n (w.regs.pc + pieces_size (change_code first w.regs.pc c to)) (select is) → ChangeReaches first w.regs.pc c to → Leads ly f lo hi keys fits code n a b d is s r w op 16
+      → Lies f.code w.regs.pc (change_code first w.regs.pc c to) → GroupsLie ly f.code n (w.regs.pc + pieces_size (change_code first w.regs.pc c to)) (select is) → ChangeReaches first w.regs.pc c to → Leads around code n a b d is s r w op 16
   change_law c first x few hs e lies rest reach =
       let v = changed c x in
-      goes ly f lo hi keys fits code n a b d is s r w op v 16 (calculate_goes code n op a b d is s r h.read.all_words fit.slot v e)
+      goes around code n a b d is s r w op v 16 (calculate_goes code n op a b d is s r h.read.all_words fit.slot v e)
       (looser f w _ _ [] 16 16 (omega arith)
-      (word_lands ly f lo hi keys fits code n h.small (live (spread op a b d is)) d is s r (with_fetched s (with_fetched s r k a) (k + 1) b) v (v % 256) (v / 256) (w.regs.pc + pieces_size (change_code first w.regs.pc c to)) w.mem w.text w.answers refl refl (changed_small c x hs.small) fit.dest (calculate_lasting op a b d is s r h.free) rest (kept ly f lo hi keys fits n _ _ is s r w h) h.text h.answers h.short)
-      (changes f 16 fits (lo ∷ hi ∷ []) w.text w.answers refl first w.regs.pc to (dest_in_data d fit.dest) w.mem x hs c few lies reach w (here ly f lo hi keys fits w [] [] h.stack h.binary)))
+      (word_lands around code n h.small (live (spread op a b d is)) d is s r (with_fetched s (with_fetched s r k a) (k + 1) b) v (v % 256) (v / 256) (w.regs.pc + pieces_size (change_code first w.regs.pc c to)) w.mem w.text w.answers refl refl (changed_small c x hs.small) fit.dest (calculate_lasting op a b d is s r h.free) rest (kept h) h.text h.answers h.short)
+      (changes f 16 fits (around.lo ∷ around.hi ∷ []) w.text w.answers refl first w.regs.pc to (dest_in_data d fit.dest) w.mem x hs c few lies reach w (here h)))
 
   -- a calculation, by whether it is a change
   pub computed_law : (j : ℕ) → 16 ≤ j → (first : Way) (o : Option Change) → IsChange op left right to o → Lies f.code w.regs.pc (changed_or o first n w.regs.pc op left right to) → GroupsLie ly f.code n (w.regs.pc + pieces_size (changed_or o first n w.regs.pc op left right to)) (select is)
-      → ChangedReaches o first w.regs.pc to → (Lies f.code w.regs.pc (calc_code n op left right to) → GroupsLie ly f.code n (w.regs.pc + pieces_size (calc_code n op left right to)) (select is) → Leads ly f lo hi keys fits code n a b d is s r w op j)
-      → Leads ly f lo hi keys fits code n a b d is s r w op j
+      → ChangedReaches o first w.regs.pc to → (Lies f.code w.regs.pc (calc_code n op left right to) → GroupsLie ly f.code n (w.regs.pc + pieces_size (calc_code n op left right to)) (select is) → Leads around code n a b d is s r w op j)
+      → Leads around code n a b d is s r w op j
   computed_law j le first _ (of_left v c e e' m) lies rest reach other =
       let y = constant_is w.mem v _ right e' right_holds in
       looser f w _ _ _ 16 j le (λ u z. z)

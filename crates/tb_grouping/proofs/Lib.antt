@@ -1,6 +1,7 @@
 pub mod Sources
 pub mod Coded
 pub mod Branches
+pub mod Surroundings
 pub mod Matching
 pub mod SlotSide
 pub mod Landing

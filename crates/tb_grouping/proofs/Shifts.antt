@@ -15,7 +15,6 @@ use Rattle.tb_reaching.proofs.Memory.{put_other, put_same}
 use Rattle.tb_reaching.specs.View.{Comes, Fits, Setup, View}
 use Rattle.tb_runtime16.specs.Places.{LEFT}
 use Rattle.tb_runtime16.specs.Routines.{Here, Moves, WithA, is_owned}
-use Rattle.tb_keeping.specs.Layout.{Layout}
 use Rattle.tb_keeping.proofs.Joins.{sent_in}
 use Rattle.tb_keeping.proofs.Resolved.{Code, Lies, highest_code, pieces_size, size}
 use Rattle.tb_selection.specs.Groups.{Operand, Destination, Calculate, slot_of}
@@ -34,6 +33,7 @@ use Rattle.tb_grouping.proofs.ShiftSteps.{carries, ends_high, halves, rounds, si
 use Rattle.tb_grouping.proofs.SlotSide.{calculate_goes, calculate_lasting, calculated, fetched, landed, left_asked, line, spread, with_fetched}
 use Rattle.tb_grouping.proofs.Sources.{value}
 use Rattle.tb_grouping.proofs.Sums.{Grounded}
+use Rattle.tb_grouping.proofs.Surroundings.{Surroundings}
 
 module _ (f : Setup) (room : ℕ) (fits : Fits f room) (bs : List ℕ) (m : ℕ → ℕ) (keys gets : List ℕ) (small : leb (length bs) room ≡ true) where
   -- the high byte of a word in A and its low byte in LEFT; the rest of the memory is m
@@ -142,7 +142,9 @@ module _ (f : Setup) (room : ℕ) (fits : Fits f room) (bs : List ℕ) (m : ℕ 
         chained f u _ q [] [] 3 (3 * suc k + j) (carries f room fits p2 bs m keys gets small ((value m (low a) + n) % 256) (nat_lt 255 (value m (low a) + n)) a (omega (arith, r, sizes)) ga s3.0 u g) (λ u g.
         halves_then (suc k) p3 (word (x + more k (nat_le 32768 x))) (omega (arith, r, sizes)) s4.0 q j (λ u g. next u (subst (λ v. HighInA p4 v u) there g)) u (raised_here u g)))))
 
-module _ (ly : Layout) (f : Setup) (lo hi keys : ℕ) (fits : Fits f 16) (code : SlotCode) (n : ℕ) (a b : Operand) (d : Destination) (is : List Instr) (s : State) (r : Slots) (w : View) (h : Ready ly f lo hi keys fits n (Calculate op.Divide a b d) (spread op.Divide a b d is) is s r w) where
+module _ (around : Surroundings) (fits : Fits around.f 16) (code : SlotCode) (n : ℕ) (a b : Operand) (d : Destination) (is : List Instr) (s : State) (r : Slots) (w : View) (h : Ready around n (Calculate op.Divide a b d) (spread op.Divide a b d is) is s r w) where
+  open around use {ly, f, lo, hi}
+
   abbrev k : ℕ
   k = slot_of d
 
@@ -190,19 +192,19 @@ module _ (ly : Layout) (f : Setup) (lo hi keys : ℕ) (fits : Fits f 16) (code :
     behind : GroupsLie ly f.code n (at + 8) (select is)
     behind = subst (λ p. GroupsLie ly f.code n p (select is)) (let e = end_here in let q : w.regs.pc + (size (shifted j first to) + 0) ≡ at + 8 = omega (arith, e) in q) rest
 
-    lands : Moves f (HighInA f 16 fits own w.mem w.text w.answers refl at v) (Matches ly f lo hi keys (line code n is (landed d v s) (calculated s r a b d v))) [] 3
+    lands : Moves f (HighInA f 16 fits own w.mem w.text w.answers refl at v) (Matches around (line code n is (landed d v s) (calculated s r a b d v))) [] 3
     lands u g =
-        let c = kept_scratch ly f lo hi keys fits (live js) s r w.mem u.mem h.some_read (λ p o. g.others p (λ q. apart p o q)) (kept ly f lo hi keys fits n _ js is s r w h) in
+        let c = kept_scratch around (live js) s r w.mem u.mem h.some_read (λ p o. g.others p (λ q. apart p o q)) (kept h) in
         looser f u _ _ [] 3 3 (omega arith)
-        (word_lands ly f lo hi keys fits code n h.small (live js) d is s r (with_fetched s (with_fetched s r k a) (k + 1) b) v (u.mem LEFT) u.regs.a (at + 8) u.mem w.text w.answers g.low g.high g.is_word fit.dest (calculate_lasting op.Divide a b d is s r h.free) behind c h.text h.answers h.short)
+        (word_lands around code n h.small (live js) d is s r (with_fetched s (with_fetched s r k a) (k + 1) b) v (u.mem LEFT) u.regs.a (at + 8) u.mem w.text w.answers g.low g.high g.is_word fit.dest (calculate_lasting op.Divide a b d is s r h.free) behind c h.text h.answers h.short)
         (ends_high f 16 fits at own u.mem w.text w.answers refl u.regs.a to (let e = end_here in omega (arith, e, lies.0)) (dest_beyond d fit.dest) (last_stands f 16 fits own w.mem w.text w.answers refl w.regs.pc first x ga ha j few to lies.0 lies.1) u (record { here = g.here; number = refl }))
       where
         apart : (p : ℕ) → is_owned p ≡ true → p ≢ LEFT
         apart p o e = let no : is_owned LEFT ≡ true = ap is_owned (sym e) ∙ o in cc
 
-    pub shift_law : Leads ly f lo hi keys fits code n a b d is s r w op.Divide 31
+    pub shift_law : Leads around code n a b d is s r w op.Divide 31
     shift_law =
-        subst (λ z. Comes f w (Target ly f lo hi keys z) (sent_in z) 31) (sym (calculate_goes code n op.Divide a b d is s r h.read.all_words fit.slot v (quotient_is some)))
+        subst (λ z. Comes f w (Target around z) (sent_in z) 31) (sym (calculate_goes code n op.Divide a b d is s r h.read.all_words fit.slot v (quotient_is some)))
         (divides_then f 16 fits own w.mem w.text w.answers refl w.regs.pc first x ga ha j few to lies.0 lies.1 _ 3
         (λ u g. lands u (subst (λ q. HighInA f 16 fits own w.mem w.text w.answers refl at q u) (ap (quotient x) (sym power)) g))
-        w (here ly f lo hi keys fits w [] [] h.stack h.binary))
+        w (here h))
