@@ -63,6 +63,8 @@ pub mod Imaged
 pub mod Served
 pub mod Emits
 pub mod SingleBytes
+pub mod ItemBytes
+pub mod TestBytes
 pub mod GroupBytes
 pub mod Lines
 pub mod Compiled
