@@ -15,16 +15,17 @@ use Rattle.tb_runtime16.specs.Routines.{Here, Moves, Waiting, WordAt, is_owned, 
 use Rattle.tb_runtime16.specs.Places.{COLUMN, HOME_S, INPUT_AT, LINE, OPEN, POLL_AT, RESULT}
 use Rattle.tb_runtime16.proofs.Owned.{not_asked}
 use Rattle.tb_templates.specs.Templates.{var_at}
+use Rattle.tb_keeping.proofs.Mirrors.{HoldsState}
 use Rattle.tb_keeping.proofs.Turns.{Leaves, turn_short}
-use Rattle.tb_keeping.proofs.Frames.{column_mod, owned_low, put_away, word_put}
+use Rattle.tb_keeping.proofs.Frames.{column_mod, owned_low, put_away, state_asked, word_put}
 use Rattle.tb_keeping.proofs.Pieces.{calls, put_word, word_in_data}
 use Rattle.tb_keeping.proofs.Returning.{back_here, behind_call, homed_kept, moved}
 use Rattle.tb_selection.specs.Groups.{IntoHome, IntoVariable, Single}
 use Rattle.tb_selection.specs.Liveness.{live}
-use Rattle.tb_grouping.proofs.Frames.{live_same, state_asked}
+use Rattle.tb_grouping.proofs.Frames.{live_same}
 use Rattle.tb_grouping.proofs.Landing.{Elsewhere, home_kept, state_landed}
 use Rattle.tb_grouping.proofs.Lone.{Kept, kept_lined, kept_scratch, lined, lines, numbered}
-use Rattle.tb_grouping.proofs.Matching.{HoldsState, Matches}
+use Rattle.tb_grouping.proofs.Matching.{Matches}
 use Rattle.tb_grouping.proofs.Ready.{Ready, stood}
 use Rattle.tb_grouping.proofs.SlotSide.{line}
 use Rattle.tb_grouping.proofs.Sums.{copies}

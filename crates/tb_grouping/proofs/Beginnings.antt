@@ -11,7 +11,7 @@ use Rattle.tb_selection.specs.Liveness.{nothing_live}
 use Rattle.tb_selection.specs.Select.{select}
 use Rattle.tb_selection.specs.GroupSteps.{inside, steps, ahead, or_empty, first, first_group}
 use Rattle.tb_selection.proofs.GroupRuns.{expand_some}
-use Rattle.tb_grouping.proofs.Matching.{HoldsLive, Matches, state_of}
+use Rattle.tb_grouping.proofs.Matching.{HoldsLive, Matches}
 use Rattle.tb_grouping.proofs.SlotSide.{line}
 use Rattle.tb_grouping.proofs.Surroundings.{Surroundings}
 
@@ -23,15 +23,15 @@ module _ (around : Surroundings) where
   open around use {ly, f, lo, hi, keys}
 
   -- the start of a run is related
-  pub from_opened : (s : State) (r : Slots) (w : View) → Opens ly f lo hi keys s r w → Matches around (record { state = s; rest = Whole; slots = r }) w
-  from_opened s r w h = record {
+  pub from_opened : (s : State) (r : Slots) (w : View) → length r.words ≡ 16 → Opens ly f lo hi keys s w → Matches around (record { state = s; rest = Whole; slots = r }) w
+  from_opened s r w all h = record {
     pc = h.pc;
     stack = h.stack;
     binary = h.binary;
     text = h.text;
     answers = h.answers;
-    state = state_of ly s r w.mem h.holds;
-    read = nothing_read r w.mem h.holds.all_words;
+    state = h.holds;
+    read = nothing_read r w.mem all;
     homed = h.homed;
     short = h.short;
   }

@@ -13,7 +13,7 @@ use Rattle.tb_runtime16.specs.Routines.{Here, Moves, Noted, WordAt}
 use Rattle.tb_runtime16.specs.Places.{HOME_S, LEFT, LINE, NOTES, POP_AT, PUSH_AT, RESULT}
 use Rattle.tb_runtime16.proofs.Owned.{not_popped, not_pushed}
 use Rattle.tb_keeping.specs.Layout.{next_at, place_at}
-use Rattle.tb_keeping.proofs.Frames.{word_away, word_put}
+use Rattle.tb_keeping.proofs.Frames.{state_popped, state_pushed, word_away, word_put}
 use Rattle.tb_keeping.proofs.Mirrors.{Flagged, notes_of}
 use Rattle.tb_keeping.proofs.Pieces.{calls, jumps, jumps_through, points, put_word, sets}
 use Rattle.tb_keeping.proofs.Resolved.{Lies, highest_code}
@@ -23,7 +23,6 @@ use Rattle.tb_selection.specs.Liveness.{live}
 use Rattle.tb_grouping.proofs.Branches.{branch_behind, branches}
 use Rattle.tb_grouping.proofs.Coded.{BranchReaches, CallReaches, GroupsLaid, Way, Zero, call_code, called_code, counted_at, going_code, low_code, noted_at, noting_code, popping_at, popping_code, pushing_at, pushing_code, raising_code, some_at, taking_code, way_size}
 use Rattle.tb_grouping.proofs.Faults.{faults_at}
-use Rattle.tb_grouping.proofs.Frames.{state_popped, state_pushed}
 use Rattle.tb_grouping.proofs.Lone.{Kept, arrived, kept_lined, kept_put, lined, numbered}
 use Rattle.tb_grouping.proofs.Matching.{Matches}
 use Rattle.tb_grouping.proofs.Noting.{Added, Indexed, added, asks, carried, counted, dropped, index_small, raises, some, some_small, stores_note, taken, takes_note, with_note}

@@ -11,7 +11,7 @@ use Rattle.tb_runtime16.specs.Routines.{WordAt, is_owned}
 use Rattle.tb_templates.specs.GroupTemplates.{may_have_none}
 use Rattle.tb_runtime16.specs.Places.{HOME_S, LEFT, LINE, RANDOM_AT, RESULT, SEED, SEEDED}
 use Rattle.tb_runtime16.proofs.Owned.{not_argument, not_scratch, not_seed}
-use Rattle.tb_keeping.proofs.Frames.{owned_low}
+use Rattle.tb_keeping.proofs.Frames.{owned_low, state_drawn}
 use Rattle.tb_keeping.proofs.Joins.{sent_in}
 use Rattle.tb_keeping.proofs.Resolved.{Lies, Piece, pieces_size, size}
 use Rattle.tb_keeping.proofs.Returning.{back_here, homed_kept}
@@ -24,7 +24,7 @@ use Rattle.tb_templates.specs.declared.sources.Source.{Source}
 use Rattle.tb_templates.specs.declared.sources.Source.TheVariants.{FixedWord}
 use Rattle.tb_templates.specs.Sources.{destination_at, source_of}
 use Rattle.tb_grouping.proofs.Coded.{GroupsLie, routine, taken}
-use Rattle.tb_grouping.proofs.Frames.{live_same, state_drawn}
+use Rattle.tb_grouping.proofs.Frames.{live_same}
 use Rattle.tb_grouping.proofs.Handed.{asks, gives, result_gives}
 use Rattle.tb_grouping.proofs.Lone.{Kept, behind_line, kept as kept_first, kept_by, lies_by, lined_by, lines_by, numbered, rest_by, word_lands}
 use Rattle.tb_grouping.proofs.Matching.{Target}

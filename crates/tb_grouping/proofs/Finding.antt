@@ -12,7 +12,7 @@ use Rattle.tb_runtime16.specs.Routines.{Here, Moves, WordAt}
 use Rattle.tb_runtime16.specs.Places.{COUNT, HOME_S, LEFT, LINE, NOTES, PUSH_AT, RESULT, SEARCH_AT, TABLE, WANTED}
 use Rattle.tb_runtime16.proofs.Owned.{not_pushed, not_searched}
 use Rattle.tb_keeping.specs.Layout.{next_at, place_at}
-use Rattle.tb_keeping.proofs.Frames.{word_away, word_kept, word_put}
+use Rattle.tb_keeping.proofs.Frames.{state_pushed, word_away, word_kept, word_put}
 use Rattle.tb_keeping.proofs.Mirrors.{notes_of}
 use Rattle.tb_keeping.proofs.Pieces.{calls, jumps, jumps_through, points, put_word, sets}
 use Rattle.tb_keeping.proofs.Resolved.{Code, Lies, Piece, call, jump_through, pointed, size}
@@ -20,7 +20,7 @@ use Rattle.tb_keeping.proofs.Returning.{back_here, behind_call, homed_kept}
 use Rattle.tb_selection.specs.declared.liveness.Live.{Live}
 use Rattle.tb_selection.specs.Groups.{AsLine, AsSubroutine, Operand, Usage, Use, use_of}
 use Rattle.tb_selection.specs.Liveness.{live}
-use Rattle.tb_grouping.proofs.Frames.{state_placed, state_pushed}
+use Rattle.tb_grouping.proofs.Frames.{state_placed}
 use Rattle.tb_grouping.proofs.Lone.{Kept, arrived, kept_lined, kept_put, kept_scratch, lined, lines, numbered}
 use Rattle.tb_grouping.proofs.Matching.{Matches}
 use Rattle.tb_templates.specs.declared.sources.Source.{Source}

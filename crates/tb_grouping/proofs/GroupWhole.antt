@@ -1,5 +1,5 @@
 -- The code of a program by groups keeps the program, and marks its lines.
-use Rattle.std.proofs.Common.{◌≡◌, ℕ, ◌+◌, ◌≤◌, List, [], length, subst, arith}
+use Rattle.std.proofs.Common.{◌≡◌, ℕ, ◌+◌, ◌≤◌, List, [], length, subst, arith, refl}
 use Rattle.tb_kernal.specs.Machine as machine
 use Rattle.tb_reaching.specs.View.{Comes, View, part_at}
 use Rattle.tb_reaching.specs.Start.{view_of, home_low, home_high}
@@ -16,7 +16,7 @@ use Rattle.tb_runtime16.specs.Ends.{Begun}
 use Rattle.tb_keeping.proofs.Headline.{setup, room_so, OpeningLaw, StepLaws, headline}
 use Rattle.tb_keeping.proofs.LineStarts.{Known}
 use Rattle.tb_keeping.proofs.Marks.{all_marks}
-use Rattle.tb_keeping.proofs.Opening.{some_slots, some_length, opened}
+use Rattle.tb_keeping.proofs.Opening.{some_slots, opened}
 use Rattle.tb_selection.specs.GroupSteps.{group_step}
 use Rattle.tb_selection.specs.Laws.{AreClosed}
 use Rattle.tb_grouping.proofs.Beginnings.{from_opened}
@@ -54,9 +54,9 @@ module _ (place : ℕ) (bytes : List ℕ) (from : 0x0800 ≤ place) (to : place 
         let f = setup place bytes from to ly s in
         looser f (view_of s) (Begun f s) _ [] n n (omega arith)
         (λ w b. (
-          some_slots ly f sc laid.numbered first_at laid.seed_small s h.text h.answers w b,
-          some_length ly f sc laid.numbered first_at laid.seed_small s h.text h.answers w b,
-          (from_opened (around s) (start (numbers sc) ly.seed s.text s.answers) (some_slots ly f sc laid.numbered first_at laid.seed_small s h.text h.answers w b) w (opened ly f sc laid.numbered first_at laid.seed_small s h.text h.answers w b), tt),
+          some_slots,
+          refl,
+          (from_opened (around s) (start (numbers sc) ly.seed s.text s.answers) some_slots w refl (opened ly f sc laid.numbered first_at laid.seed_small s h.text h.answers w b), tt),
         ))
         (prologue s h)
 

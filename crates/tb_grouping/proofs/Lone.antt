@@ -10,8 +10,8 @@ use Rattle.tb_runtime16.specs.Laws.{AllBytes, Sent}
 use Rattle.tb_runtime16.specs.Routines.{Entered, Here, Moves, WordAt, is_owned, is_scratch}
 use Rattle.tb_runtime16.specs.Places.{COLUMN, HOME_S, LINE}
 use Rattle.tb_keeping.specs.Layout.{place_at}
-use Rattle.tb_keeping.proofs.Frames.{owned_low, put_away, word_put}
-use Rattle.tb_keeping.proofs.Mirrors.{Typable}
+use Rattle.tb_keeping.proofs.Frames.{owned_low, put_away, state_told, word_put}
+use Rattle.tb_keeping.proofs.Mirrors.{HoldsState, Typable}
 use Rattle.tb_keeping.proofs.Pieces.{put_word, sets}
 use Rattle.tb_keeping.proofs.Resolved.{Lies, Piece, constant, highest_code, pieces_size}
 use Rattle.tb_keeping.proofs.Returning.{homed_kept}
@@ -23,10 +23,10 @@ use Rattle.tb_selection.specs.GroupSteps.{inside, steps}
 use Rattle.tb_grouping.proofs.Beginnings.{nothing_read}
 use Rattle.tb_templates.specs.Sources.{destination_at}
 use Rattle.tb_grouping.proofs.Coded.{GroupsLie, lined_code}
-use Rattle.tb_grouping.proofs.Matching.{HoldsState, HoldsLive, Matches}
+use Rattle.tb_grouping.proofs.Matching.{HoldsLive, Matches}
 use Rattle.tb_grouping.proofs.SlotSide.{Lasting, landed, line, slots_landed}
 use Rattle.tb_grouping.proofs.Landing.{DestFits, Elsewhere, home_kept, read_landed, read_lined, scratch_put, state_landed, state_lined, state_scratch}
-use Rattle.tb_grouping.proofs.Frames.{live_same, state_told}
+use Rattle.tb_grouping.proofs.Frames.{live_same}
 use Rattle.tb_grouping.proofs.Ready.{Ready, here, landed_answers, landed_text, stood}
 use Rattle.tb_grouping.proofs.Surroundings.{Surroundings}
 

@@ -1,31 +1,19 @@
 -- How a view of the machine stands for a state of the slot code, slots only as far as they are read.
-use Rattle.std.specs.Prelude.{◌≡◌, ℕ, ◌%◌, ◌≤◌, ◌<◌, true, false, [], ◌∷◌, length, slice_index}
-use Rattle.tb_cpu.specs.Effects.{bit}
+use Rattle.std.specs.Prelude.{◌≡◌, ℕ, ◌<◌, true, false, [], ◌∷◌, length, slice_index}
 use Rattle.tb_reaching.specs.View.{View, Part}
 use Rattle.tb_lower.specs.Steps.{Step}
-use Rattle.tb_lower.specs.Control.{Place, State}
+use Rattle.tb_lower.specs.Control.{Place}
 use Rattle.tb_lower.specs.Slots.{Rest, Whole, Left, Slots, SlotState}
-use Rattle.tb_runtime16.specs.Places.{COLUMN, OPEN, NOTES, HELD}
-use Rattle.tb_templates.specs.Templates.{var_at, slot_at}
-use Rattle.tb_runtime16.specs.Routines.{WordAt, SeedAt, Noted, Entered}
+use Rattle.tb_runtime16.specs.Places.{HELD}
+use Rattle.tb_templates.specs.Templates.{slot_at}
+use Rattle.tb_runtime16.specs.Routines.{WordAt, Entered}
 use Rattle.tb_keeping.specs.Layout.{Layout, place_at}
-use Rattle.tb_keeping.proofs.Mirrors.{Holds, notes_of, Typable, Leads}
+use Rattle.tb_keeping.proofs.Mirrors.{HoldsState, Typable, Leads}
 use Rattle.tb_selection.specs.declared.liveness.Live.{Live}
 use Rattle.tb_selection.specs.Liveness.{live, nothing_live}
 use Rattle.tb_selection.specs.Select.{select}
 use Rattle.tb_grouping.proofs.Coded.{GroupsLie}
 use Rattle.tb_grouping.proofs.Surroundings.{Surroundings}
-
--- the memory holds the state
-pub record HoldsState (ly : Layout) (s : State) (m : ℕ → ℕ) : Type 0 where
-  pub vars : (x : ℕ) → x < 26 → WordAt m (var_at x) (slice_index s.vars x)
-  pub column : m COLUMN ≡ s.column % 256
-  pub opened : m OPEN ≡ bit s.open_line
-  pub seeded : SeedAt m ly.seed s.seed
-  pub count : WordAt m NOTES (length s.returns)
-  pub notes : Noted m (notes_of ly s.returns)
-  pub few : length s.returns ≤ 500
-  pub all_vars : length s.vars ≡ 26
 
 -- the memory holds the slots that are read, and the held word where it is
 pub record HoldsLive (r : Live) (slots : Slots) (m : ℕ → ℕ) : Type 0 where
@@ -57,7 +45,3 @@ pub record Matches (around : Surroundings) (c : SlotState) (w : View) : Type 0 w
 -- where a step leads
 abbrev pub Target : Surroundings → Step SlotState → View → Type 0
 Target around = Leads around.f (Matches around)
-
--- ---- what the relation of all slots gives
-pub state_of : (ly : Layout) (s : State) (slots : Slots) (m : ℕ → ℕ) → Holds ly s slots m → HoldsState ly s m
-state_of ly s slots m h = record { vars = h.vars; column = h.column; opened = h.opened; seeded = h.seeded; count = h.count; notes = h.notes; few = h.few; all_vars = h.all_vars }

@@ -16,7 +16,7 @@ use Rattle.tb_runtime16.specs.Laws.{AllBytes}
 use Rattle.tb_runtime16.specs.Routines.{Here, Moves, WithA}
 use Rattle.tb_keeping.specs.Layout.{place_at}
 use Rattle.tb_keeping.proofs.Joins.{LawAt, sent_in}
-use Rattle.tb_keeping.proofs.Mirrors.{Flagged, Typable}
+use Rattle.tb_keeping.proofs.Mirrors.{Flagged, HoldsState, Typable}
 use Rattle.tb_keeping.proofs.Pieces.{calls, moves_looser, moves_then, whatever}
 use Rattle.tb_keeping.proofs.Resolved.{Lies, highest_code}
 use Rattle.tb_keeping.proofs.Returning.{behind_call}
@@ -28,7 +28,7 @@ use Rattle.tb_grouping.proofs.Sources.{Fixed, compares_byte}
 use Rattle.tb_grouping.proofs.Branches.{branch_behind, branches}
 use Rattle.tb_grouping.proofs.Faults.{faults_at}
 use Rattle.tb_grouping.proofs.Coded.{BranchReaches, GroupsLaid, GroupsLie, LineStands, Way, Zero, way_size}
-use Rattle.tb_grouping.proofs.Matching.{HoldsState, HoldsLive, Matches, Target}
+use Rattle.tb_grouping.proofs.Matching.{HoldsLive, Matches, Target}
 use Rattle.tb_grouping.proofs.SlotSide.{line, next}
 use Rattle.tb_grouping.proofs.Beginnings.{nothing_read, line_step}
 use Rattle.tb_grouping.proofs.Ready.{stood}

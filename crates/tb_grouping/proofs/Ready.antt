@@ -6,7 +6,7 @@ use Rattle.tb_lower.specs.Slots.{Instr, Slots, SlotCode}
 use Rattle.tb_reaching.specs.View.{Comes, View}
 use Rattle.tb_runtime16.specs.Routines.{Entered, Here}
 use Rattle.tb_keeping.proofs.Joins.{sent_in}
-use Rattle.tb_keeping.proofs.Mirrors.{Typable}
+use Rattle.tb_keeping.proofs.Mirrors.{HoldsState, Typable}
 use Rattle.tb_keeping.proofs.Resolved.{Lies, pieces_size}
 use Rattle.tb_selection.specs.Groups.{IntoVariable, IntoHeld, Destination, IntoSlot, IntoHome, Group, expand, expand_all}
 use Rattle.tb_selection.specs.Liveness.{live}
@@ -17,7 +17,7 @@ use Rattle.tb_selection.specs.Laws.{AreChosen}
 use Rattle.tb_selection.proofs.Chosen.{chosen}
 use Rattle.tb_grouping.proofs.Coded.{Way, group_code, Behind, GroupsLie, BranchesReach}
 use Rattle.tb_grouping.proofs.Few.{groups_few, range_few, range_split}
-use Rattle.tb_grouping.proofs.Matching.{HoldsState, HoldsLive, Matches, Target}
+use Rattle.tb_grouping.proofs.Matching.{HoldsLive, Matches, Target}
 use Rattle.tb_grouping.proofs.SlotSide.{line, landed}
 use Rattle.tb_grouping.proofs.Surroundings.{Surroundings}
 

@@ -18,7 +18,7 @@ use Rattle.tb_reaching.specs.View.{Comes, Fits, Part, Setup, View}
 use Rattle.tb_runtime16.specs.Routines.{Entered, Here, Moves}
 use Rattle.tb_keeping.specs.Layout.{next_at}
 use Rattle.tb_keeping.proofs.Joins.{sent_in}
-use Rattle.tb_keeping.proofs.Mirrors.{Typable}
+use Rattle.tb_keeping.proofs.Mirrors.{HoldsState, Typable}
 use Rattle.tb_keeping.proofs.Pieces.{moves_looser}
 use Rattle.tb_keeping.proofs.Resolved.{Code, Lies, Piece, faulting, piece_size, pieces_size}
 use Rattle.tb_selection.specs.Groups.{Operand, Tested, Test, TestGo, denied, expand}
@@ -32,7 +32,7 @@ use Rattle.tb_grouping.proofs.Coded.{EqualityReaches, GoReaches, GroupsLie, Test
 use Rattle.tb_grouping.proofs.Faults.{faults_at}
 use Rattle.tb_grouping.proofs.Frames.{state_placed}
 use Rattle.tb_grouping.proofs.Lone.{arrived, one_step}
-use Rattle.tb_grouping.proofs.Matching.{HoldsLive, HoldsState, Matches, Target}
+use Rattle.tb_grouping.proofs.Matching.{HoldsLive, Matches, Target}
 use Rattle.tb_grouping.proofs.SlotSide.{line, next, fetched}
 use Rattle.tb_grouping.proofs.TestSide.{tested, tested_word, tested_read, left_read, spread_test, test_before, so_far, decided, branched, test_goes, test_fits, left_held, right_held}
 use Rattle.tb_grouping.proofs.Operands.{SourceHolds, operand_apart}

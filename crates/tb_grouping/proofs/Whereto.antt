@@ -6,11 +6,11 @@ use Rattle.tb_lower.specs.Slots.{Whole, Slots, SlotCode}
 use Rattle.tb_reaching.specs.View.{View}
 use Rattle.tb_runtime16.specs.Routines.{Entered, Here}
 use Rattle.tb_keeping.specs.Layout.{next_at, place_at}
-use Rattle.tb_keeping.proofs.Mirrors.{Typable}
+use Rattle.tb_keeping.proofs.Mirrors.{HoldsState, Typable}
 use Rattle.tb_selection.specs.Groups.{Tested, HeldBefore, HeldNow}
 use Rattle.tb_selection.specs.Liveness.{nothing_live}
 use Rattle.tb_templates.specs.Sources.{tested_source}
-use Rattle.tb_grouping.proofs.Matching.{HoldsState, HoldsLive, Matches}
+use Rattle.tb_grouping.proofs.Matching.{HoldsLive, Matches}
 use Rattle.tb_grouping.proofs.TestSide.{TestedFits}
 use Rattle.tb_grouping.proofs.Operands.{operand_apart}
 use Rattle.tb_grouping.proofs.Sums.{Grounded}
