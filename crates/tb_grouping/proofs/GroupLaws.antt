@@ -34,7 +34,7 @@ use Rattle.tb_grouping.proofs.Matching.{Matches, Target}
 use Rattle.tb_grouping.proofs.SlotSide.{both_length, calculate_fails, calculate_goes, calculated, line, fetched, spread, spread_is, with_fetched}
 use Rattle.tb_grouping.proofs.TestSide.{spread_test, spread_test_is}
 use Rattle.tb_grouping.proofs.Ready.{Ready, ready, opened, parted}
-use Rattle.tb_grouping.proofs.Calculations.{Leads, add_law, subtract_law}
+use Rattle.tb_grouping.proofs.Calculations.{add_law, subtract_law}
 use Rattle.tb_grouping.proofs.InPlace.{computed_law}
 use Rattle.tb_grouping.proofs.Conversions.{ConvertLeads, draw_fails_law, draw_law, negate_law}
 use Rattle.tb_grouping.proofs.OneWord.{spread_convert, spread_convert_is, spread_use, spread_use_is}
@@ -49,6 +49,7 @@ use Rattle.tb_grouping.proofs.Polled.{lines_law}
 use Rattle.tb_grouping.proofs.TestLaws.{go_law, test_law}
 use Rattle.tb_selection.specs.Laws.{AreClosed}
 use Rattle.tb_grouping.proofs.Surroundings.{Serves, Surroundings}
+use Rattle.tb_grouping.proofs.Calculated.{Leads}
 
 module _ (around : Surroundings) (fits : Fits around.f 16) (limit : ℕ) (code : SlotCode) (same_numbers : numbers code ≡ around.ly.numbers) where
   open around use {ly, f}
@@ -81,12 +82,12 @@ module _ (around : Surroundings) (fits : Fits around.f 16) (limit : ℕ) (code :
 
   -- a calculation: where it is a change in place that, and else as its operator does it
   computes : (op : Operator) (a b : Operand) (d : Destination) (k : ℕ) → 16 ≤ k
-      → ((is : List Instr) (n : ℕ) (s : State) (r : Slots) (w : View) → Ready around n (Calculate op a b d) (spread op a b d is) is s r w → Lies f.code w.regs.pc (calc_code n op (source_of (slot_of d) a) (source_of (slot_of d + 1) b) (destination_at d))
-      → GroupsLie ly f.code n (w.regs.pc + pieces_size (calc_code n op (source_of (slot_of d) a) (source_of (slot_of d + 1) b) (destination_at d))) (select is) → Leads around code n a b d is s r w op k)
+      → ((is : List Instr) (n : ℕ) (s : State) (r : Slots) (w : View) (h : Ready around n (Calculate op a b d) (spread op a b d is) is s r w) → Lies f.code w.regs.pc (calc_code n op (source_of (slot_of d) a) (source_of (slot_of d + 1) b) (destination_at d))
+      → GroupsLie ly f.code n (w.regs.pc + pieces_size (calc_code n op (source_of (slot_of d) a) (source_of (slot_of d + 1) b) (destination_at d))) (select is) → Leads h code k)
       → (is : List Instr) → StepsLaw (Calculate op a b d) (expand (Calculate op a b d) ++ is) is k
   computes op a b d k le other = calculate_steps op a b d k (λ is n s r w h.
       let x = source_of (slot_of d) a in let y = source_of (slot_of d + 1) b in let to = destination_at d in
-      computed_law around fits code n op a b d is s r w h k le h.first (change_of op x y to) (change_is op x y to) h.lies h.rest h.reach (other is n s r w h))
+      computed_law fits code h k le h.first (change_of op x y to) (change_is op x y to) h.lies h.rest h.reach (other is n s r w h))
 
   convert_steps : (what : Conversion) (a : Operand) (d : Destination) (k : ℕ) → ((is : List Instr) → StepsLaw (Convert what a d) (spread_convert what a d is) is k) → (is : List Instr) → StepsLaw (Convert what a d) (expand (Convert what a d) ++ is) is k
   convert_steps what a d k = bracketed (Convert what a d) k (spread_convert what a d) (spread_convert_is what a d)
@@ -104,13 +105,13 @@ module _ (around : Surroundings) (fits : Fits around.f 16) (limit : ℕ) (code :
   module _ (rs : Serves around limit) (wide : 200 ≤ limit) where
     -- the slot steps of a calculation
     calculates : (o : Operator) (a b : Operand) (d : Destination) (is : List Instr) → StepsLaw (Calculate o a b d) (expand (Calculate o a b d) ++ is) is (17 + limit)
-    calculates op.Add a b d = computes op.Add a b d (17 + limit) (omega arith) (λ is n s r w h lies rest. looser f w _ _ _ 7 (17 + limit) (omega arith) (λ u z. z) (add_law around code n a b d is s r w fits h (lies, rest)))
-    calculates op.Subtract a b d = computes op.Subtract a b d (17 + limit) (omega arith) (λ is n s r w h lies rest. looser f w _ _ _ 7 (17 + limit) (omega arith) (λ u z. z) (subtract_law around code n a b d is s r w fits h (lies, rest)))
+    calculates op.Add a b d = computes op.Add a b d (17 + limit) (omega arith) (λ is n s r w h lies rest. looser f w _ _ _ 7 (17 + limit) (omega arith) (λ u z. z) (add_law h fits code lies rest))
+    calculates op.Subtract a b d = computes op.Subtract a b d (17 + limit) (omega arith) (λ is n s r w h lies rest. looser f w _ _ _ 7 (17 + limit) (omega arith) (λ u z. z) (subtract_law h fits code lies rest))
     calculates op.Multiply a b d = computes op.Multiply a b d (17 + limit) (omega arith) (λ is n s r w h lies rest.
         looser f w _ _ _ (13 + limit) (17 + limit) (omega arith) (λ u z. z)
-        (product_law around fits limit rs wide code n a b d is s r w h (scaling (source_of (slot_of d) a) (source_of (slot_of d + 1) b)) (scaling_is (source_of (slot_of d) a) (source_of (slot_of d + 1) b)) lies rest))
+        (product_law fits limit rs wide code h (scaling (source_of (slot_of d) a) (source_of (slot_of d + 1) b)) (scaling_is (source_of (slot_of d) a) (source_of (slot_of d + 1) b)) lies rest))
     calculates op.Divide a b d = computes op.Divide a b d (17 + limit) (omega arith) (λ is n s r w h.
-        quotient_law around fits limit rs wide code n a b d is s r w h (shifts (source_of (slot_of d + 1) b)) (shifting_is (source_of (slot_of d + 1) b)))
+        quotient_law fits limit rs wide code h (shifts (source_of (slot_of d + 1) b)) (shifting_is (source_of (slot_of d + 1) b)))
 
     pub calculating : (o : Operator) (a b : Operand) (d : Destination) → GroupLaw (Calculate o a b d)
     calculating o a b d = by_steps (Calculate o a b d) (17 + limit) (omega arith) (calculates o a b d)

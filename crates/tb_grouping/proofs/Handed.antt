@@ -28,7 +28,7 @@ use Rattle.tb_grouping.proofs.Sums.{Grounded, brings, copies}
 use Rattle.tb_grouping.proofs.Surroundings.{Surroundings}
 
 -- where a routine may leave what it gives: among the data, and its high byte is not where it goes
-abbrev Gives : ℕ → Type 0
+abbrev pub Gives : ℕ → Type 0
 Gives from = InData from × ((d : Destination) → DestFits d → from + 1 ≢ destination_at d)
 
 pub left_gives : Gives LEFT

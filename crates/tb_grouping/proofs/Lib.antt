@@ -8,6 +8,7 @@ pub mod Landing
 pub mod Sums
 pub mod Operands
 pub mod Ready
+pub mod Calculated
 pub mod Calculations
 pub mod Few
 pub mod Divisions
