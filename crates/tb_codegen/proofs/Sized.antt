@@ -106,13 +106,13 @@ settling_code seed p small rises ranges cheap =
       suits = program_suits seed code (code_rises p rises) lists (omega (arith, a, c, cheap));
     }
 
-pub settling : (seed : ℕ) (p : Program) (code : SlotCode) → code ≡ lowered.program_code p → AreStated p → RisesFrom 0 (numbers p) → ((limit : ℕ) → HasShortTexts limit p → IsCodeInRange limit code) → cost p ≤ most → IsSettling seed code
-settling seed p code same stated rises ranges cheap =
+pub settling : (seed : ℕ) (p : Program) {code : SlotCode} {n : ℕ} → code ≡ lowered.program_code p → AreStated p → RisesFrom 0 (numbers p) → ((limit : ℕ) → HasShortTexts limit p → IsCodeInRange limit code) → n ≤ most → n ≡ cost p → IsSettling seed code
+settling seed p same stated rises ranges cheap costs =
     let small = are_small p stated in
-    subst (IsSettling seed) (sym same) (settling_code seed p small rises (subst (IsCodeInRange 256) same (ranges 256 (small_short p small))) cheap)
+    subst (IsSettling seed) (sym same) (settling_code seed p small rises (subst (IsCodeInRange 256) same (ranges 256 (small_short p small))) (omega (arith, cheap, costs)))
 
 -- ── its image ──
-module _ (seed : ℕ) (code : SlotCode) (s : IsSettling seed code) (from : ℕ) (image : List ℕ) (labels : List (Name × ℕ)) (l : IsLaid PROLOGUE_AT (program_code seed code) from image labels) where
+module _ {seed : ℕ} {code : SlotCode} (s : IsSettling seed code) {from : ℕ} {image : List ℕ} {labels : List (Name × ℕ)} (l : IsLaid PROLOGUE_AT (program_code seed code) from image labels) where
   abbrev items : List Entry
   items = l.items
 
@@ -161,16 +161,16 @@ file_texts seed p items file g is =
     (lines_texts labels ns seed (stands_at labels (label_of Past)) LINES_AT [] p g.lines (header ++ block) back g.of_lines g.line_labels g.past (omega arith) before)
 
 -- a program's compiled form, from its image's bytes and labels
-pub made : (seed : ℕ) (p : Program) (code : SlotCode) (c : Compiled) (from : ℕ) (image : List ℕ) (labels : List (Name × ℕ)) → code ≡ lowered.program_code p → IsSettling seed code → too_deep p ≡ None → cost p ≤ most
+pub made : {seed : ℕ} {p : Program} {code : SlotCode} (c : Compiled) {from : ℕ} {image : List ℕ} {labels : List (Name × ℕ)} → code ≡ lowered.program_code p → IsSettling seed code → too_deep p ≡ None → cost p ≤ most
     → IsLaid PROLOGUE_AT (program_code seed code) from image labels
     → prg_of c ≡ header ++ image → starts_of c ≡ starts_in labels (numbers code) → address_in labels (label_of Table) ≡ Some (table_of c)
     → map (λ w. (w.line, word_of w.target)) (warnings_of c) ≡ missing_targets p → IsCompiled seed p c
-made seed p code c from image labels same s shallow small l file starts table warned =
+made {seed} {p} {code} c same s shallow small l file starts table warned =
     let own = labels_from PROLOGUE_AT l.items in
     let own_numbers : numbers code ≡ numbers p = ap numbers same ∙ same_numbers p in
     let all : starts_of c ≡ starts_in own (numbers p) = starts ∙ ap (λ ls. starts_in ls (numbers code)) l.labels_are ∙ ap (starts_in own) own_numbers in
     let bytes : prg_of c ≡ header ++ image_of PROLOGUE_AT l.items = file ∙ ap (λ b. header ++ b) l.bytes_are in
-    let g : Sections seed (lowered.program_code p) l.items own = subst (λ k. Sections seed k l.items own) same (placed seed code s from image labels l) in
+    let g : Sections seed (lowered.program_code p) l.items own = subst (λ k. Sections seed k l.items own) same (placed s l) in
     record {
       shallow = shallow;
       small = small;
@@ -178,7 +178,7 @@ made seed p code c from image labels same s shallow small l file starts table wa
       settled = subst (λ k. SettlesTo PROLOGUE_AT (program_code seed k) l.items) same l.rounds;
       prg = bytes;
       texts = subst (λ ss. LinesHoldTexts (prg_of c) (stands_at own (label_of Past)) ss p) (sym all) (file_texts seed p l.items (prg_of c) g bytes);
-      ends = items_end seed code s from image labels l;
+      ends = items_end s l;
       starts = all;
       lines = ap (map (λ s. s.0)) all ∙ start_numbers own (numbers p);
       rising = subst (StartsRise LINES_AT) (sym all) (lines_begin_in_order own (numbers (lowered.program_code p)) seed LINES_AT [] p g.lines g.of_lines g.line_labels);

@@ -4,32 +4,34 @@ use Rattle.tb_lower.specs.Steps.{and_then}
 use Rattle.tb_lower.specs.Control.{At, State, content_at}
 use Rattle.tb_lower.specs.Slots.{Instr, SlotCode, Whole, Slots, SlotState, slot_step, instr_at, instr_found}
 use Rattle.tb_syntax.specs.Source.{numbers}
-use Rattle.tb_reaching.specs.View.{Setup, View}
-use Rattle.tb_keeping.specs.Layout.{Layout}
+use Rattle.tb_reaching.specs.View.{View}
 use Rattle.tb_keeping.proofs.Mirrors.{Opens}
 use Rattle.tb_selection.specs.Groups.{Group, expand}
 use Rattle.tb_selection.specs.Liveness.{nothing_live}
 use Rattle.tb_selection.specs.Select.{select}
 use Rattle.tb_selection.specs.GroupSteps.{inside, steps, ahead, or_empty, first, first_group}
 use Rattle.tb_selection.proofs.GroupRuns.{expand_some}
-use Rattle.tb_grouping.proofs.Matching.{HoldsLive, Matches, state_of}
+use Rattle.tb_grouping.proofs.Matching.{HoldsLive, Matches}
 use Rattle.tb_grouping.proofs.SlotSide.{line}
+use Rattle.tb_grouping.proofs.Surroundings.{Surroundings}
 
 -- where nothing is read, nothing has to stand
 pub nothing_read : (r : Slots) (m : ℕ → ℕ) → length r.words ≡ 16 → HoldsLive nothing_live r m
 nothing_read r m all = record { words = λ k lt. absurd (omega (arith, lt)); held = λ q. absurd (let no : ⊥ = cc in no); all_words = all }
 
-module _ (ly : Layout) (f : Setup) (lo hi keys : ℕ) where
+module _ (around : Surroundings) where
+  open around use {ly, f, lo, hi, keys}
+
   -- the start of a run is related
-  pub from_opened : (s : State) (r : Slots) (w : View) → Opens ly f lo hi keys s r w → Matches ly f lo hi keys (record { state = s; rest = Whole; slots = r }) w
-  from_opened s r w h = record {
+  pub from_opened : (s : State) (r : Slots) (w : View) → length r.words ≡ 16 → Opens ly f lo hi keys s w → Matches around (record { state = s; rest = Whole; slots = r }) w
+  from_opened s r w all h = record {
     pc = h.pc;
     stack = h.stack;
     binary = h.binary;
     text = h.text;
     answers = h.answers;
-    state = state_of ly s r w.mem h.holds;
-    read = nothing_read r w.mem h.holds.all_words;
+    state = h.holds;
+    read = nothing_read r w.mem all;
     homed = h.homed;
     short = h.short;
   }

@@ -33,7 +33,8 @@ use Rattle.tb_grouping.proofs.Changes.{change_is}
 use Rattle.tb_grouping.proofs.Coded as coded
 use Rattle.tb_grouping.proofs.Coded.{Way, Short, Zero, way_size}
 use Rattle.tb_grouping.proofs.Emits.{Emits, block, branches, ends, formed, labelled}
-use Rattle.tb_grouping.proofs.GroupBytes.{AllMake, GroupEmitted, Makes, Rest, behind_branch, behind_label, behind_straight, cut, cut_branch, gets_there, group_emitted, label_here, no_more, source_word, value_of}
+use Rattle.tb_grouping.proofs.ItemBytes.{AllMake, Makes, Rest, behind_branch, behind_label, behind_straight, cut, cut_branch, gets_there, label_here, no_more, source_word, value_of}
+use Rattle.tb_grouping.proofs.GroupBytes.{GroupEmitted, group_emitted}
 use Rattle.tb_grouping.proofs.Singles.{IsAlone}
 
 module _ (labels : List (Name × ℕ)) (ns : List ℕ) (seed n : ℕ) (seed_small : seed < 65536) (n_small : n < 65536) where
@@ -166,7 +167,7 @@ module _ (labels : List (Name × ℕ)) (ns : List ℕ) (seed n : ℕ) (seed_smal
           let b2 = cut_branch Bne skip (onward ++ []) k2.rest k2.of in
           let k3 = cut onward [] b2.rest refl b2.of in
           let is : fs ≡ called_forms b1.way b2.way =
-          k1.is ∙ ap (λ t. map kept (asked (NOTES + 1)) ++ t) (b1.is ∙ ap (λ t. formed b1.way Bne over ∷ t) (k2.is ∙ ap (λ t. map kept storing ++ t) (b2.is ∙ ap (λ t. formed b2.way Bne skip ∷ t) (k3.is ∙ ap (λ t. map kept onward ++ t) (no_more labels k3.rest k3.of))))) in
+          k1.is ∙ ap (λ t. map kept (asked (NOTES + 1)) ++ t) (b1.is ∙ ap (λ t. formed b1.way Bne over ∷ t) (k2.is ∙ ap (λ t. map kept storing ++ t) (b2.is ∙ ap (λ t. formed b2.way Bne skip ∷ t) (k3.is ∙ ap (λ t. map kept onward ++ t) (no_more k3.rest k3.of))))) in
           subst (CallEmitted at to true) (sym is) (called b1.way b2.way at (subst (Rest labels at) is r))
 
     call_emitted : (i at to : ℕ) (has : Bool) → has_line ns to ≡ has → (fs : List Form)
@@ -240,7 +241,7 @@ module _ (labels : List (Name × ℕ)) (ns : List ℕ) (seed n : ℕ) (seed_smal
           let b2 = cut_branch Beq over (behind ++ []) k2.rest k2.of in
           let k3 = cut behind [] b2.rest refl b2.of in
           let is : fs ≡ returned_forms b1.way b2.way =
-          k1.is ∙ ap (λ t. map kept (asked (NOTES + 1)) ++ t) (b1.is ∙ ap (λ t. formed b1.way Bne over ∷ t) (k2.is ∙ ap (λ t. map kept (asked NOTES) ++ t) (b2.is ∙ ap (λ t. formed b2.way Beq over ∷ t) (k3.is ∙ ap (λ t. map kept behind ++ t) (no_more labels k3.rest k3.of))))) in
+          k1.is ∙ ap (λ t. map kept (asked (NOTES + 1)) ++ t) (b1.is ∙ ap (λ t. formed b1.way Bne over ∷ t) (k2.is ∙ ap (λ t. map kept (asked NOTES) ++ t) (b2.is ∙ ap (λ t. formed b2.way Beq over ∷ t) (k3.is ∙ ap (λ t. map kept behind ++ t) (no_more k3.rest k3.of))))) in
           subst (GroupEmitted labels ly n at (Single slots.Return)) (sym is) (returned b1.way b2.way at (subst (Rest labels at) is r))
 
     without_branches : (i at : ℕ) (g : Group) (fs : List Form) → coded.is_branching g ≡ false → IsAlone g → AreInRange 256 (expand g) → AreFormsOf (items.group_template ns seed n i g) fs → Rest labels at fs
@@ -255,13 +256,13 @@ module _ (labels : List (Name × ℕ)) (ns : List ℕ) (seed n : ℕ) (seed_smal
     each_emitted i at (Single slots.Return) fs q range h r = return_emitted (label_of (target.Inside inside.Behind n i)) at fs h r
     each_emitted i at (Calculate op a b d) fs q range h r =
         let x = source_of (slot_of d) a in let y = source_of (slot_of d + 1) b in let to = destination_at d in
-        let e = computed_emitted labels n at (target.Inside inside.Skip n i) op x y to (change_of op x y to) (change_is op x y to) n_small (source_word labels (slot_of d) a) (source_word labels (slot_of d + 1) b) fs h r in
+        let e = computed_emitted labels n at (target.Inside inside.Skip n i) op x y to (change_of op x y to) (change_is op x y to) n_small (source_word (slot_of d) a) (source_word (slot_of d + 1) b) fs h r in
         record { first = e.0; second = Short; emits = e.1; reach = e.2 }
     each_emitted i at (Stepped op a b by w x) fs q range h r =
-        let e = stepped_emitted labels n at (target.Inside inside.Skip n i) (target.Inside inside.Behind n i) op (source_of 0 a) (source_of 1 b) by (source_of 1 (Constant w)) (var_at x) n_small (source_word labels 0 a) (source_word labels 1 b) (source_word labels 1 (Constant w)) fs h r in
+        let e = stepped_emitted labels n at (target.Inside inside.Skip n i) (target.Inside inside.Behind n i) op (source_of 0 a) (source_of 1 b) by (source_of 1 (Constant w)) (var_at x) n_small (source_word 0 a) (source_word 1 b) (source_word 1 (Constant w)) fs h r in
         record { first = e.first; second = e.second; emits = e.emits; reach = e.reach }
     each_emitted i at (Remains x d to) fs q range h r =
-        let e = remains_emitted labels n at (target.Inside inside.Skip n i) (AtPlace (var_at x)) (source_of (slot_of to + 2) d) (destination_at to) n_small tt (source_word labels (slot_of to + 2) d) fs h r in
+        let e = remains_emitted labels n at (target.Inside inside.Skip n i) (AtPlace (var_at x)) (source_of (slot_of to + 2) d) (destination_at to) n_small tt (source_word (slot_of to + 2) d) fs h r in
         record { first = e.first; second = Short; emits = e.emits; reach = e.reach }
     each_emitted i at (Convert what a d) fs q range h r = without_branches i at (Convert what a d) fs refl q range h r
     each_emitted i at (Move a home) fs q range h r = without_branches i at (Move a home) fs refl q range h r

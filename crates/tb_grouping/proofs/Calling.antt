@@ -8,12 +8,12 @@ use Rattle.tb_lower.specs.Control.{At, Place, State, deepest, fault_text, has_li
 use Rattle.tb_lower.specs.Slots.{Instr, CallTo, Return, Slots, SlotCode, Whole}
 use Rattle.tb_reaching.proofs.Comes.{chained, looser}
 use Rattle.tb_reaching.specs.Start.{IsHome}
-use Rattle.tb_reaching.specs.View.{Comes, Fits, Setup, View}
-use Rattle.tb_runtime16.specs.Routines.{Here, Moves, Noted, Routines, WordAt}
+use Rattle.tb_reaching.specs.View.{Comes, Fits, View}
+use Rattle.tb_runtime16.specs.Routines.{Here, Moves, Noted, WordAt}
 use Rattle.tb_runtime16.specs.Places.{HOME_S, LEFT, LINE, NOTES, POP_AT, PUSH_AT, RESULT}
 use Rattle.tb_runtime16.proofs.Owned.{not_popped, not_pushed}
-use Rattle.tb_keeping.specs.Layout.{Layout, next_at, place_at}
-use Rattle.tb_keeping.proofs.Frames.{word_away, word_put}
+use Rattle.tb_keeping.specs.Layout.{next_at, place_at}
+use Rattle.tb_keeping.proofs.Frames.{state_popped, state_pushed, word_away, word_put}
 use Rattle.tb_keeping.proofs.Mirrors.{Flagged, notes_of}
 use Rattle.tb_keeping.proofs.Pieces.{calls, jumps, jumps_through, points, put_word, sets}
 use Rattle.tb_keeping.proofs.Resolved.{Lies, highest_code}
@@ -23,13 +23,15 @@ use Rattle.tb_selection.specs.Liveness.{live}
 use Rattle.tb_grouping.proofs.Branches.{branch_behind, branches}
 use Rattle.tb_grouping.proofs.Coded.{BranchReaches, CallReaches, GroupsLaid, Way, Zero, call_code, called_code, counted_at, going_code, low_code, noted_at, noting_code, popping_at, popping_code, pushing_at, pushing_code, raising_code, some_at, taking_code, way_size}
 use Rattle.tb_grouping.proofs.Faults.{faults_at}
-use Rattle.tb_grouping.proofs.Frames.{state_popped, state_pushed}
 use Rattle.tb_grouping.proofs.Lone.{Kept, arrived, kept_lined, kept_put, lined, numbered}
 use Rattle.tb_grouping.proofs.Matching.{Matches}
 use Rattle.tb_grouping.proofs.Noting.{Added, Indexed, added, asks, carried, counted, dropped, index_small, raises, some, some_small, stores_note, taken, takes_note, with_note}
 use Rattle.tb_grouping.proofs.Ready.{Ready, here}
+use Rattle.tb_grouping.proofs.Surroundings.{Serves, Surroundings}
 
-module _ (ly : Layout) (f : Setup) (lo hi keys : ℕ) (fits : Fits f 16) (limit : ℕ) (rs : Routines ly.table ly.seed ly.numbers ly.start f lo hi keys limit) (code : SlotCode) (laid : GroupsLaid ly f.code f.whole code) (n : ℕ) (is : List Instr) (s : State) (r : Slots) (w : View) where
+module _ (around : Surroundings) (fits : Fits around.f 16) (limit : ℕ) (rs : Serves around limit) (code : SlotCode) (laid : GroupsLaid around.ly around.f.code around.f.whole code) (n : ℕ) (is : List Instr) (s : State) (r : Slots) (w : View) where
+  open around use {ly, f, lo, hi}
+
   abbrev own : List ℕ
   own = lo ∷ hi ∷ []
 
@@ -47,13 +49,13 @@ module _ (ly : Layout) (f : Setup) (lo hi keys : ℕ) (fits : Fits f 16) (limit 
   same_length = length-map s.returns (place_at ly)
 
   -- ---- GOSUB
-  module _ (t : ℕ) (h : Ready ly f lo hi keys fits n (Single (CallTo t)) (CallTo t ∷ is) is s r w) where
+  module _ (t : ℕ) (h : Ready around n (Single (CallTo t)) (CallTo t ∷ is) is s r w) where
     call_lies : (b : Bool) → has_line ly.numbers t ≡ b → Lies f.code start (call_code ly n start h.first h.second b t)
     call_lies b e = subst (λ b. Lies f.code start (call_code ly n start h.first h.second b t)) e h.lies
 
     -- no such line
     pub call_to_fails : has_line ly.numbers t ≡ false → Comes f w (IsHome f) (fault_text 1 n) (4 + limit)
-    call_to_fails lost = faults_at ly f lo hi keys fits limit rs n 1 h.small (omega arith) start w.mem w.text w.answers (call_lies false lost) h.homed w (here ly f lo hi keys fits w [] [] h.stack h.binary)
+    call_to_fails lost = faults_at around fits limit rs n 1 h.small (omega arith) start w.mem w.text w.answers (call_lies false lost) h.homed w (here h)
 
     module _ (found : has_line ly.numbers t ≡ true) where
       abbrev first : Way
@@ -101,14 +103,14 @@ module _ (ly : Layout) (f : Setup) (lo hi keys : ℕ) (fits : Fits f 16) (limit 
       called = record s { place = At t; returns = next_after ly.numbers n ∷ s.returns }
 
       abbrev Ends : View → Type 0
-      Ends u = Matches ly f lo hi keys (record { state = called; rest = Whole; slots = r }) u
+      Ends u = Matches around (record { state = called; rest = Whole; slots = r }) u
 
       -- a memory with the note, from where it goes on
       goes : (at : ℕ) (m : ℕ → ℕ) → length s.returns < 500 → WordAt m NOTES (suc (length s.returns)) → Noted m (note ∷ notes) → ((a : ℕ) → 0xC000 ≤ a → a ≤ 0xC061 → a ≢ NOTES → a ≢ NOTES + 1 → m a ≡ w.mem a) → (u : View) → Here (ly.start t) own m w.text w.answers u → Ends u
       goes at m few count noted others =
-          arrived ly f lo hi keys fits code called r (ly.start t) m w.text w.answers refl
+          arrived around called r (ly.start t) m w.text w.answers refl
           (state_pushed ly s w.mem m h.state (At t) (next_after ly.numbers n) few count noted others) h.read.all_words
-          (homed_kept ly f lo hi keys fits w.mem m (others HOME_S (omega arith) (omega arith) (λ e. omega (arith, e)) (λ e. omega (arith, e))) h.homed)
+          (homed_kept w.mem m (others HOME_S (omega arith) (omega arith) (λ e. omega (arith, e)) (λ e. omega (arith, e))) h.homed)
           h.text h.answers h.short
 
       module _ (near : page ≡ 0) where
@@ -142,7 +144,7 @@ module _ (ly : Layout) (f : Setup) (lo hi keys : ℕ) (fits : Fits f 16) (limit 
 
         in_line : length s.returns < 500 → Comes f w Ends [] 13
         in_line free =
-            chained f w _ _ [] [] 3 10 (asks f 16 fits own w.mem w.text w.answers refl start (NOTES + 1) pushing first false true (noting_code ly n start first second t) refl (eq-eqb page 0 near) reach.0 lies w (here ly f lo hi keys fits w [] [] h.stack h.binary)) (λ u g.
+            chained f w _ _ [] [] 3 10 (asks f 16 fits own w.mem w.text w.answers refl start (NOTES + 1) pushing first false true (noting_code ly n start first second t) refl (eq-eqb page 0 near) reach.0 lies w (here h)) (λ u g.
             chained f u _ _ [] [] 6 4 (stores_note f 16 fits own w.mem w.text w.answers refl storing (note % 256) (note / 256) few noting.0 noting.1 u g.here) (by_carry (eqb low 0) refl free))
 
       -- ---- by the routine
@@ -151,23 +153,23 @@ module _ (ly : Layout) (f : Setup) (lo hi keys : ℕ) (fits : Fits f 16) (limit 
 
       -- memory with the line's number, then with the address to return to
       abbrev one : ℕ → ℕ
-      one = lined ly f lo hi keys fits n _ _ is s r w h
+      one = lined h
 
       abbrev two : ℕ → ℕ
       two = put_word one LEFT (note % 256) (note / 256)
 
-      kept_two : Kept ly f lo hi keys fits (live (CallTo t ∷ is)) s r two
-      kept_two = kept_put ly f lo hi keys fits (live (CallTo t ∷ is)) s r one LEFT (note % 256) (note / 256) h.some_read refl refl (kept_lined ly f lo hi keys fits n _ _ is s r w h)
+      kept_two : Kept around (live (CallTo t ∷ is)) s r two
+      kept_two = kept_put around (live (CallTo t ∷ is)) s r one LEFT (note % 256) (note / 256) h.some_read refl refl (kept_lined h)
 
       number : WordAt two LINE n
-      number = word_away one LEFT _ _ LINE n (λ e. omega (arith, e)) (λ e. omega (arith, e)) (λ e. omega (arith, e)) (numbered ly f lo hi keys fits n _ _ is s r w h)
+      number = word_away one LEFT _ _ LINE n (λ e. omega (arith, e)) (λ e. omega (arith, e)) (λ e. omega (arith, e)) (numbered h)
 
       routine : Lies f.code pushing (pushing_code ly n t)
       routine = onward.2
 
       up_to_push : page ≢ 0 → (q : View → Type 0) (l : List ℕ) (b : ℕ) → Moves f (Here PUSH_AT ((at + 8 + 2) % 256 ∷ (at + 8 + 2) / 256 ∷ own) two w.text w.answers) q l b → Comes f w q l (3 + (4 + (4 + (1 + b))))
       up_to_push far q l b next =
-          chained f w _ q [] l 3 (4 + (4 + (1 + b))) (asks f 16 fits own w.mem w.text w.answers refl start (NOTES + 1) pushing first false false (noting_code ly n start first second t) refl (ne_eqb page 0 far) reach.0 lies w (here ly f lo hi keys fits w [] [] h.stack h.binary)) (λ u g.
+          chained f w _ q [] l 3 (4 + (4 + (1 + b))) (asks f 16 fits own w.mem w.text w.answers refl start (NOTES + 1) pushing first false false (noting_code ly n start first second t) refl (ne_eqb page 0 far) reach.0 lies w (here h)) (λ u g.
           chained f u _ q [] l 4 (4 + (1 + b)) (sets f 16 fits pushing own w.mem w.text w.answers refl n LINE routine.0 (refl, refl) routine.1 u g.here) (λ v e.
           chained f v _ q [] l 4 (1 + b) (points f 16 fits at own one w.text w.answers refl note LEFT routine.2.0 (refl, refl) routine.2.1 v e) (λ v e.
           chained f v _ q [] l 1 b (calls f 16 fits (at + 8) own two w.text w.answers refl PUSH_AT refl routine.2.2.0 routine.2.2.1 v e) next)))
@@ -179,12 +181,12 @@ module _ (ly : Layout) (f : Setup) (lo hi keys : ℕ) (fits : Fits f 16) (limit 
           (up_to_push far _ [] (limit + 1) (λ v e.
           chained f v _ _ [] [] limit 1 (rs.push _ _ two w.text w.answers note notes (word_put one LEFT _ _ _ refl refl note_small) (subst (λ k. WordAt two NOTES k) (sym same_length) c.state.count) c.state.notes (omega (arith, free, same_length)) v e) (λ x g.
           looser f x _ _ [] 1 1 (omega arith)
-          (arrived ly f lo hi keys fits code called r (ly.start t) x.mem w.text w.answers refl
+          (arrived around called r (ly.start t) x.mem w.text w.answers refl
           (state_pushed ly s two x.mem c.state (At t) (next_after ly.numbers n) free (subst (λ k. WordAt x.mem NOTES (suc k)) same_length g.memory.notes.count) g.memory.notes.noted (λ p from to z y. g.memory.others p (not_pushed p from to z y))) h.read.all_words
-          (homed_kept ly f lo hi keys fits two x.mem (g.memory.others HOME_S refl) c.homed)
+          (homed_kept two x.mem (g.memory.others HOME_S refl) c.homed)
           h.text h.answers h.short)
           (jumps f 16 fits (at + 8 + 3) own x.mem w.text w.answers refl (ly.start t) routine.2.2.2.1 x
-          (back_here ly f lo hi keys fits _ _ w.text w.answers _ x g (behind_call ly f lo hi keys fits (at + 8) routine.2.2.0))))))
+          (back_here _ _ w.text w.answers _ x g (behind_call (at + 8) routine.2.2.0))))))
 
       pub call_to_found : nat_lt (length s.returns) deepest ≡ true → Comes f w Ends [] (13 + limit)
       call_to_found free =
@@ -199,7 +201,7 @@ module _ (ly : Layout) (f : Setup) (lo hi keys : ℕ) (fits : Fits f 16) (limit 
           (up_to_push (λ z. omega (arith, z, all, h.state.count.high)) _ (fault_text 4 n) limit (rs.push_fails _ _ two w.text w.answers notes n (subst (λ k. WordAt two NOTES k) (sym same_length) c.state.count) c.state.notes (omega (arith, all, same_length)) number c.homed))
 
   -- ---- RETURN
-  module _ (h : Ready ly f lo hi keys fits n (Single Return) (Return ∷ is) is s r w) where
+  module _ (h : Ready around n (Single Return) (Return ∷ is) is s r w) where
     abbrev one_way : Way
     one_way = h.first
 
@@ -226,15 +228,15 @@ module _ (ly : Layout) (f : Setup) (lo hi keys : ℕ) (fits : Fits f 16) (limit 
     routine_lies = taking_lies.2.2
 
     abbrev m : ℕ → ℕ
-    m = lined ly f lo hi keys fits n _ _ is s r w h
+    m = lined h
 
-    c : Kept ly f lo hi keys fits (live (Return ∷ is)) s r m
-    c = kept_lined ly f lo hi keys fits n _ _ is s r w h
+    c : Kept around (live (Return ∷ is)) s r m
+    c = kept_lined h
 
     -- the count's high byte is 0
     low_alone : page ≡ 0 → (q : View → Type 0) (l : List ℕ) (b : ℕ) → Moves f (Indexed f 16 fits own w.mem w.text w.answers refl low_at page) q l b → Comes f w q l (3 + b)
     low_alone near q l b next =
-        chained f w _ q [] l 3 b (asks f 16 fits own w.mem w.text w.answers refl start (NOTES + 1) popping one_way false true (low_code n start one_way other_way) refl (eq-eqb page 0 near) h.reach.0 h.lies w (here ly f lo hi keys fits w [] [] h.stack h.binary)) next
+        chained f w _ q [] l 3 b (asks f 16 fits own w.mem w.text w.answers refl start (NOTES + 1) popping one_way false true (low_code n start one_way other_way) refl (eq-eqb page 0 near) h.reach.0 h.lies w (here h)) next
 
     -- up to the routine
     up_to_pop : (page ≢ 0) ⊎ (w.mem NOTES ≡ 0) → (q : View → Type 0) (l : List ℕ) (b : ℕ) → Moves f (Here POP_AT ((popping + 10 + 2) % 256 ∷ (popping + 10 + 2) / 256 ∷ own) m w.text w.answers) q l b → Comes f w q l (6 + (4 + (1 + b)))
@@ -248,7 +250,7 @@ module _ (ly : Layout) (f : Setup) (lo hi keys : ℕ) (fits : Fits f 16) (limit 
         by_page : page ≢ 0 → Comes f w q l (6 + (4 + (1 + b)))
         by_page far =
             looser f w _ _ l (3 + (4 + (1 + b))) (6 + (4 + (1 + b))) (omega arith) (λ u x. x)
-            (chained f w _ q [] l 3 (4 + (1 + b)) (asks f 16 fits own w.mem w.text w.answers refl start (NOTES + 1) popping one_way false false (low_code n start one_way other_way) refl (ne_eqb page 0 far) h.reach.0 h.lies w (here ly f lo hi keys fits w [] [] h.stack h.binary)) (λ u g.
+            (chained f w _ q [] l 3 (4 + (1 + b)) (asks f 16 fits own w.mem w.text w.answers refl start (NOTES + 1) popping one_way false false (low_code n start one_way other_way) refl (ne_eqb page 0 far) h.reach.0 h.lies w (here h)) (λ u g.
             calls_pop u g.here))
 
         by_none : w.mem NOTES ≡ 0 → page ≡ 0 → Comes f w q l (6 + (4 + (1 + b)))
@@ -263,7 +265,7 @@ module _ (ly : Layout) (f : Setup) (lo hi keys : ℕ) (fits : Fits f 16) (limit 
       back = record s { place = p; returns = ps }
 
       abbrev Returns : View → Type 0
-      Returns u = Matches ly f lo hi keys (record { state = back; rest = Whole; slots = r }) u
+      Returns u = Matches around (record { state = back; rest = Whole; slots = r }) u
 
       left_length : length (notes_of ly ps) ≡ length ps
       left_length = length-map ps (place_at ly)
@@ -277,11 +279,11 @@ module _ (ly : Layout) (f : Setup) (lo hi keys : ℕ) (fits : Fits f 16) (limit 
           (up_to_pop why _ [] (limit + 1) (λ u e.
           chained f u _ _ [] [] limit 1 (rs.pop _ _ m w.text w.answers (place_at ly p) (notes_of ly ps) (subst (λ k. WordAt m NOTES (suc k)) (sym left_length) count) noted (omega (arith, few, left_length)) u e) (λ u g.
           looser f u _ _ [] 1 1 (omega arith)
-          (arrived ly f lo hi keys fits code back r (place_at ly p) u.mem w.text w.answers refl
+          (arrived around back r (place_at ly p) u.mem w.text w.answers refl
           (state_popped ly s m u.mem c.state p ps q (subst (λ k. WordAt u.mem NOTES k) left_length g.memory.notes.count) (λ p z y x. g.memory.gives.others p (not_popped p z y x))) h.read.all_words
-          (homed_kept ly f lo hi keys fits m u.mem (g.memory.gives.others HOME_S refl) c.homed)
+          (homed_kept m u.mem (g.memory.gives.others HOME_S refl) c.homed)
           h.text h.answers h.short)
-          (jumps_through f 16 fits (popping + 10 + 3) own u.mem w.text w.answers refl (place_at ly p) g.memory.gives.result routine_lies.2.2.1 u (back_here ly f lo hi keys fits _ _ w.text w.answers _ u g (behind_call ly f lo hi keys fits (popping + 10) routine_lies.2.0))))))
+          (jumps_through f 16 fits (popping + 10 + 3) own u.mem w.text w.answers refl (place_at ly p) g.memory.gives.result routine_lies.2.2.1 u (back_here _ _ w.text w.answers _ u g (behind_call (popping + 10) routine_lies.2.0))))))
 
       takes : page ≡ 0 → Comes f w Returns [] 13
       takes near =
@@ -295,9 +297,9 @@ module _ (ly : Layout) (f : Setup) (lo hi keys : ℕ) (fits : Fits f 16) (limit 
           chained f u _ _ [] [] 3 7 (asks f 16 fits own w.mem w.text w.answers refl low_at NOTES popping other_way true false (taking_code n) refl (ne_eqb (w.mem NOTES) 0 (λ z. omega (arith, z, there))) h.reach.1 low_lies u g.here) (λ u g.
           chained f u _ _ [] [] 6 1 (takes_note f 16 fits own w.mem w.text w.answers refl taking (w.mem NOTES) small taking_lies.0 taking_lies.1 u g) (λ u e.
           looser f u _ _ [] 1 1 (omega arith)
-          (arrived ly f lo hi keys fits code back r (place_at ly p) _ w.text w.answers refl
-          (state_popped ly s w.mem _ h.state p ps q (subst (λ k. WordAt (taken f 16 fits own w.mem w.text w.answers refl taking (w.mem NOTES) small) NOTES k) left_length d.count) (λ a o n' n''. d.others a n' (apart ly f lo hi keys fits a RESULT o refl) (apart ly f lo hi keys fits a (RESULT + 1) o refl))) h.read.all_words
-          (homed_kept ly f lo hi keys fits w.mem _ (d.others HOME_S (λ e. omega (arith, e)) (λ e. omega (arith, e)) (λ e. omega (arith, e))) h.homed)
+          (arrived around back r (place_at ly p) _ w.text w.answers refl
+          (state_popped ly s w.mem _ h.state p ps q (subst (λ k. WordAt (taken f 16 fits own w.mem w.text w.answers refl taking (w.mem NOTES) small) NOTES k) left_length d.count) (λ a o n' n''. d.others a n' (apart a RESULT o refl) (apart a (RESULT + 1) o refl))) h.read.all_words
+          (homed_kept w.mem _ (d.others HOME_S (λ e. omega (arith, e)) (λ e. omega (arith, e)) (λ e. omega (arith, e))) h.homed)
           h.text h.answers h.short)
           (jumps_through f 16 fits (taking + 16) own _ w.text w.answers refl (place_at ly p) d.result taking_lies.2.1 u e))))
 
@@ -311,4 +313,4 @@ module _ (ly : Layout) (f : Setup) (lo hi keys : ℕ) (fits : Fits f 16) (limit 
         let count : WordAt m NOTES 0 = subst (λ l. WordAt m NOTES (length l)) q c.state.count in
         let none : WordAt w.mem NOTES 0 = subst (λ l. WordAt w.mem NOTES (length l)) q h.state.count in
         looser f w _ _ (fault_text 5 n) (6 + (4 + (1 + limit))) (11 + limit) (omega arith) (λ u x. x)
-        (up_to_pop (inr none.low) _ (fault_text 5 n) limit (rs.pop_fails _ _ m w.text w.answers n count (numbered ly f lo hi keys fits n _ _ is s r w h) c.homed))
+        (up_to_pop (inr none.low) _ (fault_text 5 n) limit (rs.pop_fails _ _ m w.text w.answers n count (numbered h) c.homed))

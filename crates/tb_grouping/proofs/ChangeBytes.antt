@@ -32,7 +32,7 @@ use Rattle.tb_grouping.proofs.Changes.{IsByte, IsChange, change_is, of_left, of_
 use Rattle.tb_grouping.proofs.Coded as coded
 use Rattle.tb_grouping.proofs.Coded.{Carry, Flag, Negative, Way, Short, Zero, way_size}
 use Rattle.tb_grouping.proofs.Emits.{Emits, block, branch_by, branches, emits_append, emitted_size, formed, labelled}
-use Rattle.tb_grouping.proofs.GroupBytes.{AllMake, IsWord, Rest, all_made, asked_emits, behind_branch, behind_straight, calculated_emits, calculated_straight, copied_made, copied_straight, cut, cut_branch, gets_there, high_made, high_straight, label_here, rest_before, rest_behind, taken_bytes, value_of}
+use Rattle.tb_grouping.proofs.ItemBytes.{AllMake, IsWord, Rest, all_made, asked_emits, behind_branch, behind_straight, calculated_emits, calculated_straight, copied_made, copied_straight, cut, cut_branch, gets_there, high_made, high_straight, label_here, rest_before, rest_behind, taken_bytes, value_of}
 
 module _ (labels : List (Name × ℕ)) where
   -- ---- code with a branch over a part of it
@@ -152,12 +152,12 @@ module _ (labels : List (Name × ℕ)) where
         }
 
   -- ---- calculations
-  pub computed_emitted : (n at : ℕ) (skip : Target) (op : Operator) (a b : Source) (to : ℕ) (o : Option Change) → IsChange op a b to o → n < 65536 → IsWord labels a → IsWord labels b → (fs : List Form)
+  pub computed_emitted : (n at : ℕ) (skip : Target) (op : Operator) (a b : Source) (to : ℕ) (o : Option Change) → IsChange op a b to o → n < 65536 → IsWord a → IsWord b → (fs : List Form)
       → AreFormsOf (items.changed_or o n skip op a b to) fs → Rest labels at fs → (first : Way) × Emits labels at fs (coded.changed_or o first n at op a b to) × coded.ChangedReaches o first at to
   computed_emitted n at skip op a b to _ (of_left w c e e' k) small u v fs h r = let m = change_emitted to at skip fs c k.few h r in (m.first, m.emits, m.reach)
   computed_emitted n at skip op a b to _ (of_right w c e e' k) small u v fs h r = let m = change_emitted to at skip fs c k.few h r in (m.first, m.emits, m.reach)
   computed_emitted n at skip op a b to _ elsewhere small u v fs h r =
-      let is : fs ≡ map kept (items.calculated n op a b to) = straight_forms (items.calculated n op a b to) fs (calculated_straight labels n op a b to) h in
+      let is : fs ≡ map kept (items.calculated n op a b to) = straight_forms (items.calculated n op a b to) fs (calculated_straight n op a b to) h in
       (Short, subst (λ k. Emits labels at k (coded.calc_code n op a b to)) (sym is) (calculated_emits labels n at op a b to small u v), tt)
 
   -- ---- a result that goes on by a constant
@@ -167,7 +167,7 @@ module _ (labels : List (Name × ℕ)) where
     pub emits : Emits labels at fs (coded.stepped_code first second n at op a b by c to)
     pub reach : coded.StepReaches first second n at op a b by c to
 
-  pub stepped_emitted : (n at : ℕ) (skip behind : Target) (op : Operator) (a b : Source) (by : Operator) (c : Source) (to : ℕ) → n < 65536 → IsWord labels a → IsWord labels b → IsWord labels c → (fs : List Form)
+  pub stepped_emitted : (n at : ℕ) (skip behind : Target) (op : Operator) (a b : Source) (by : Operator) (c : Source) (to : ℕ) → n < 65536 → IsWord a → IsWord b → IsWord c → (fs : List Form)
       → AreFormsOf (items.stepped n skip behind op a b by c to) fs → Rest labels at fs → StepEmitted n at op a b by c to fs
   stepped_emitted n at skip behind op a b by c to small u v w fs h r =
       let s = split (items.computed n skip op a b to) (items.computed n behind by (AtPlace to) c to) fs h in
@@ -189,7 +189,7 @@ module _ (labels : List (Name × ℕ)) where
     pub emits : Emits labels at fs (coded.remains_code first n at a b to)
     pub reach : coded.RestReaches first n at a b
 
-  pub remains_emitted : (n at : ℕ) (skip : Target) (a b : Source) (to : ℕ) → n < 65536 → IsWord labels a → IsWord labels b → (fs : List Form) → AreFormsOf (items.remains n skip a b to) fs → Rest labels at fs → RestEmitted n at a b to fs
+  pub remains_emitted : (n at : ℕ) (skip : Target) (a b : Source) (to : ℕ) → n < 65536 → IsWord a → IsWord b → (fs : List Form) → AreFormsOf (items.remains n skip a b to) fs → Rest labels at fs → RestEmitted n at a b to fs
   remains_emitted n at skip a b to small u v fs h r =
       let s = split (items.asked_rest n a b) (items.signed_rest skip a to) fs h in
       let parts = subst (Rest labels at) s.are r in
@@ -197,7 +197,7 @@ module _ (labels : List (Name × ℕ)) where
       let asks : Emits labels at s.front (coded.rest_asked n a b) = subst (λ fs. Emits labels at fs (coded.rest_asked n a b)) (sym front) (asked_emits labels n at a b small u v) in
       let next = coded.rest_at n at a b in
       let back = rest_behind labels at next s.front s.back (ap (λ k. at + k) (emitted_size labels asks)) parts in
-      let e = over_emitted (items.high_of Lda a ∷ []) (items.taken (FixedWord 0) (AtPlace RESULT) RESULT) (product.copied RESULT to) (coded.sign_looked_at a) coded.rest_turned (copied RESULT to) Negative false (label_of skip) (ap (λ b. b && true) (high_straight labels Lda a)) refl (copied_straight labels RESULT to) (high_made labels a u) (taken_bytes labels (FixedWord 0) (AtPlace RESULT) RESULT (omega arith) tt) (copied_made labels RESULT to) next s.back s.of_back back in
+      let e = over_emitted (items.high_of Lda a ∷ []) (items.taken (FixedWord 0) (AtPlace RESULT) RESULT) (product.copied RESULT to) (coded.sign_looked_at a) coded.rest_turned (copied RESULT to) Negative false (label_of skip) (ap (λ b. b && true) (high_straight Lda a)) refl (copied_straight RESULT to) (high_made labels a u) (taken_bytes labels (FixedWord 0) (AtPlace RESULT) RESULT (omega arith) tt) (copied_made labels RESULT to) next s.back s.of_back back in
       record {
         first = e.first;
         emits = subst (λ fs. Emits labels at fs (coded.remains_code e.first n at a b to)) (sym s.are) (emits_append labels asks e.emits);

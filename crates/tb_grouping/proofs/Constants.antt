@@ -7,100 +7,61 @@ use Rattle.tb_syntax.specs.declared.expressions.Operator.TheVariants as op
 use Rattle.tb_lower.specs.Control.{State}
 use Rattle.tb_lower.specs.Slots.{Instr, Slots, SlotCode}
 use Rattle.tb_reaching.proofs.Comes.{looser}
-use Rattle.tb_reaching.specs.View.{Fits, Setup, View}
+use Rattle.tb_reaching.specs.View.{Fits, View}
 use Rattle.tb_runtime16.specs.Places.{LEFT}
-use Rattle.tb_runtime16.specs.Routines.{Routines}
-use Rattle.tb_keeping.specs.Layout.{Layout}
 use Rattle.tb_keeping.proofs.Resolved.{Lies, pieces_size}
-use Rattle.tb_selection.specs.Groups.{Operand, Destination, Calculate, slot_of}
-use Rattle.tb_selection.specs.Liveness.{live}
+use Rattle.tb_selection.specs.Groups.{Operand, Destination, Calculate}
 use Rattle.tb_selection.specs.Select.{select}
 use Rattle.tb_templates.specs.declared.sources.Source.{Source}
 use Rattle.tb_templates.specs.declared.sources.Source.TheVariants.{FixedWord}
 use Rattle.tb_templates.specs.Scaled.{bits_size, is_factor}
-use Rattle.tb_templates.specs.Sources.{destination_at, source_of}
 use Rattle.tb_templates.proofs.Factors.{IsScaling, by_right, by_left, by_routine, IsShifting, by_shifts, by_call}
-use Rattle.tb_grouping.proofs.Calculations.{Leads}
 use Rattle.tb_grouping.proofs.Coded.{GroupsLie, product_code, quotient_code}
 use Rattle.tb_grouping.proofs.Divisions.{divide_fails, divide_law}
 use Rattle.tb_grouping.proofs.Halves.{power_some}
 use Rattle.tb_grouping.proofs.Multiples.{times_law}
-use Rattle.tb_grouping.proofs.Operands.{CalcFits, SourceHolds, calc_fits, operand_apart, operand_beyond, operand_held}
+use Rattle.tb_grouping.proofs.Operands.{SourceHolds, operand_beyond}
 use Rattle.tb_grouping.proofs.Products.{multiply_law}
 use Rattle.tb_grouping.proofs.Ready.{Ready}
 use Rattle.tb_grouping.proofs.Shifts.{shift_law}
-use Rattle.tb_grouping.proofs.SlotSide.{fetched, left_asked, right_asked, spread}
-use Rattle.tb_grouping.proofs.Sums.{Grounded}
+use Rattle.tb_grouping.proofs.SlotSide.{spread}
+use Rattle.tb_grouping.proofs.Surroundings.{Serves, Surroundings}
+use Rattle.tb_grouping.proofs.Calculated.{Leads, calculation, left_apart, left_holds, right_apart, right_holds}
+use Rattle.tb_grouping.proofs.Lone.{kept}
 
 -- a constant is the word that it holds
 pub constant_is : (m : ℕ → ℕ) (v y : ℕ) (a : Source) → a ≡ FixedWord v → SourceHolds m a y → (v ≡ y) × (y < 65536)
 constant_is m v y a e h = (let k = subst (λ a. SourceHolds m a y) e h in let l = k.low_byte in let g = k.high_byte in omega (arith, l, g), h.small)
 
-module _ (ly : Layout) (f : Setup) (lo hi keys : ℕ) (fits : Fits f 16) (limit : ℕ) (rs : Routines ly.table ly.seed ly.numbers ly.start f lo hi keys limit) (wide : 200 ≤ limit) (code : SlotCode) (n : ℕ) (a b : Operand) (d : Destination) (is : List Instr) (s : State) (r : Slots) (w : View) where
-  abbrev k : ℕ
-  k = slot_of d
+module _ {around : Surroundings} (fits : Fits around.f 16) (limit : ℕ) (rs : Serves around limit) (wide : 200 ≤ limit) (code : SlotCode) {n : ℕ} {a b : Operand} {d : Destination} {is : List Instr} {s : State} {r : Slots} {w : View} (h : Ready around n (Calculate op.Divide a b d) (spread op.Divide a b d is) is s r w) where
+  open around use {ly, f}
+  open calculation a b d s r use {y, left, right, to}
 
-  abbrev left : Source
-  left = source_of k a
+  pub quotient_law : (o : Option ℕ) → IsShifting right o → Lies f.code w.regs.pc (quotient_code n o left right to) → GroupsLie ly f.code n (w.regs.pc + pieces_size (quotient_code n o left right to)) (select is) → Leads h code (17 + limit)
+  quotient_law _ (by_shifts v j e few power) lies rest =
+      let same = constant_is w.mem v y right e (right_holds h w.mem (kept h)) in
+      let is_power : y ≡ 2 ^ (j + 1) = sym same.0 ∙ power in
+      let some : y ≢ 0 = λ z. let p = power_some j few in omega (arith, p, is_power, z) in
+      looser f w _ _ _ 31 (17 + limit) (omega (arith, wide)) (λ u z. z) (shift_law fits code h j few lies rest is_power some)
+  quotient_law _ by_call lies rest =
+      ⊎_elim (λ zero. divide_fails fits limit rs code h lies rest zero) (λ some. divide_law fits limit rs code h lies rest some) (cases_eq y 0)
 
-  abbrev right : Source
-  right = source_of (k + 1) b
+module _ {around : Surroundings} (fits : Fits around.f 16) (limit : ℕ) (rs : Serves around limit) (wide : 200 ≤ limit) (code : SlotCode) {n : ℕ} {a b : Operand} {d : Destination} {is : List Instr} {s : State} {r : Slots} {w : View} (h : Ready around n (Calculate op.Multiply a b d) (spread op.Multiply a b d is) is s r w) where
+  open around use {ly, f}
+  open calculation a b d s r use {k, x, y, left, right, to}
 
-  abbrev x : ℕ
-  x = fetched s r k a
+  above_one : (v : ℕ) → is_factor v ≡ true → 2 ≤ v
+  above_one v e = leb-true 2 v (and_parts (nat_le 2 v) (nat_le (bits_size 15 v) 60) e).0
 
-  abbrev y : ℕ
-  y = fetched s r (k + 1) b
-
-  abbrev to : ℕ
-  to = destination_at d
-
-  module _ (h : Ready ly f lo hi keys fits n (Calculate op.Divide a b d) (spread op.Divide a b d is) is s r w) where
-    right_holds : SourceHolds w.mem right y
-    right_holds = operand_held ly s (live (spread op.Divide a b d is)) r w.mem (k + 1) b h.state h.read (calc_fits op.Divide a b d h.ranged).right (right_asked op.Divide a b d is)
-
-    pub quotient_law : (o : Option ℕ) → IsShifting right o → Lies f.code w.regs.pc (quotient_code n o left right to) → GroupsLie ly f.code n (w.regs.pc + pieces_size (quotient_code n o left right to)) (select is)
-        → Leads ly f lo hi keys fits code n a b d is s r w op.Divide (17 + limit)
-    quotient_law _ (by_shifts v j e few power) lies rest =
-        let same = constant_is w.mem v y right e right_holds in
-        let is_power : y ≡ 2 ^ (j + 1) = sym same.0 ∙ power in
-        let some : y ≢ 0 = λ z. let p = power_some j few in omega (arith, p, is_power, z) in
-        looser f w _ _ _ 31 (17 + limit) (omega (arith, wide)) (λ u z. z) (shift_law ly f lo hi keys fits code n a b d is s r w h j few is_power some lies rest)
-    quotient_law _ by_call lies rest =
-        ⊎_elim
-        (λ zero. divide_fails ly f lo hi keys fits limit rs code n a b d is s r w h lies rest zero)
-        (λ some. divide_law ly f lo hi keys fits limit rs code n a b d is s r w h lies rest some)
-        (cases_eq y 0)
-
-  module _ (h : Ready ly f lo hi keys fits n (Calculate op.Multiply a b d) (spread op.Multiply a b d is) is s r w) where
-    fit : CalcFits a b d
-    fit = calc_fits op.Multiply a b d h.ranged
-
-    left_holds : SourceHolds w.mem left x
-    left_holds = operand_held ly s (live (spread op.Multiply a b d is)) r w.mem k a h.state h.read fit.left (left_asked op.Multiply a b d is)
-
-    other_holds : SourceHolds w.mem right y
-    other_holds = operand_held ly s (live (spread op.Multiply a b d is)) r w.mem (k + 1) b h.state h.read fit.right (right_asked op.Multiply a b d is)
-
-    left_apart : Grounded left LEFT
-    left_apart = operand_apart k a LEFT (omega arith) (omega (arith, fit.slot)) fit.left
-
-    right_apart : Grounded right LEFT
-    right_apart = operand_apart (k + 1) b LEFT (omega arith) fit.slot fit.right
-
-    above_one : (v : ℕ) → is_factor v ≡ true → 2 ≤ v
-    above_one v e = leb-true 2 v (and_parts (nat_le 2 v) (nat_le (bits_size 15 v) 60) e).0
-
-    pub product_law : (o : Option (ℕ × Source)) → IsScaling left right o → Lies f.code w.regs.pc (product_code o left right to) → GroupsLie ly f.code n (w.regs.pc + pieces_size (product_code o left right to)) (select is)
-        → Leads ly f lo hi keys fits code n a b d is s r w op.Multiply (13 + limit)
-    product_law _ (by_right v e good) lies rest =
-        let same = constant_is w.mem v y right e other_holds in
-        let two = above_one v good in
-        looser f w _ _ _ 141 (13 + limit) (omega (arith, wide)) (λ u z. z)
-        (times_law ly f lo hi keys fits code n a b d is s r w h v (omega (arith, two)) (omega (arith, same)) left x left_apart (operand_beyond k a) left_holds (ap (λ z. word (x * z)) (sym same.0)) lies rest)
-    product_law _ (by_left v e good) lies rest =
-        let same = constant_is w.mem v x left e left_holds in
-        let two = above_one v good in
-        looser f w _ _ _ 141 (13 + limit) (omega (arith, wide)) (λ u z. z)
-        (times_law ly f lo hi keys fits code n a b d is s r w h v (omega (arith, two)) (omega (arith, same)) right y right_apart (operand_beyond (k + 1) b) other_holds (ap word (mul_comm x y) ∙ ap (λ z. word (y * z)) (sym same.0)) lies rest)
-    product_law _ by_routine lies rest = multiply_law ly f lo hi keys fits limit rs code n a b d is s r w h lies rest
+  pub product_law : (o : Option (ℕ × Source)) → IsScaling left right o → Lies f.code w.regs.pc (product_code o left right to) → GroupsLie ly f.code n (w.regs.pc + pieces_size (product_code o left right to)) (select is) → Leads h code (13 + limit)
+  product_law _ (by_right v e good) lies rest =
+      let same = constant_is w.mem v y right e (right_holds h w.mem (kept h)) in
+      let two = above_one v good in
+      looser f w _ _ _ 141 (13 + limit) (omega (arith, wide)) (λ u z. z)
+      (times_law fits code h v (omega (arith, two)) (omega (arith, same)) left x (left_apart h) (operand_beyond k a) (left_holds h w.mem (kept h)) lies rest (ap (λ z. word (x * z)) (sym same.0)))
+  product_law _ (by_left v e good) lies rest =
+      let same = constant_is w.mem v x left e (left_holds h w.mem (kept h)) in
+      let two = above_one v good in
+      looser f w _ _ _ 141 (13 + limit) (omega (arith, wide)) (λ u z. z)
+      (times_law fits code h v (omega (arith, two)) (omega (arith, same)) right y (right_apart h LEFT (omega arith)) (operand_beyond (k + 1) b) (right_holds h w.mem (kept h)) lies rest (ap word (mul_comm x y) ∙ ap (λ z. word (y * z)) (sym same.0)))
+  product_law _ by_routine lies rest = multiply_law fits limit rs code h lies rest

@@ -5,14 +5,13 @@ use Rattle.tb_words.specs.Words.{negated, seed_after, word}
 use Rattle.tb_lower.specs.Control.{State, fault_text}
 use Rattle.tb_lower.specs.Slots.{Instr, Slots, SlotCode}
 use Rattle.tb_reaching.proofs.Comes.{looser}
-use Rattle.tb_reaching.specs.View.{Comes, Fits, Setup, View}
+use Rattle.tb_reaching.specs.View.{Comes, Fits, View}
 use Rattle.tb_runtime16.specs.Laws.{Drawn}
-use Rattle.tb_runtime16.specs.Routines.{Routines, WordAt, is_owned}
+use Rattle.tb_runtime16.specs.Routines.{WordAt, is_owned}
 use Rattle.tb_templates.specs.GroupTemplates.{may_have_none}
 use Rattle.tb_runtime16.specs.Places.{HOME_S, LEFT, LINE, RANDOM_AT, RESULT, SEED, SEEDED}
 use Rattle.tb_runtime16.proofs.Owned.{not_argument, not_scratch, not_seed}
-use Rattle.tb_keeping.specs.Layout.{Layout}
-use Rattle.tb_keeping.proofs.Frames.{owned_low}
+use Rattle.tb_keeping.proofs.Frames.{owned_low, state_drawn}
 use Rattle.tb_keeping.proofs.Joins.{sent_in}
 use Rattle.tb_keeping.proofs.Resolved.{Lies, Piece, pieces_size, size}
 use Rattle.tb_keeping.proofs.Returning.{back_here, homed_kept}
@@ -25,7 +24,7 @@ use Rattle.tb_templates.specs.declared.sources.Source.{Source}
 use Rattle.tb_templates.specs.declared.sources.Source.TheVariants.{FixedWord}
 use Rattle.tb_templates.specs.Sources.{destination_at, source_of}
 use Rattle.tb_grouping.proofs.Coded.{GroupsLie, routine, taken}
-use Rattle.tb_grouping.proofs.Frames.{live_same, state_drawn}
+use Rattle.tb_grouping.proofs.Frames.{live_same}
 use Rattle.tb_grouping.proofs.Handed.{asks, gives, result_gives}
 use Rattle.tb_grouping.proofs.Lone.{Kept, behind_line, kept as kept_first, kept_by, lies_by, lined_by, lines_by, numbered, rest_by, word_lands}
 use Rattle.tb_grouping.proofs.Matching.{Target}
@@ -34,8 +33,11 @@ use Rattle.tb_grouping.proofs.Operands.{SourceHolds, dest_in_data, operand_apart
 use Rattle.tb_grouping.proofs.Ready.{Ready, here}
 use Rattle.tb_grouping.proofs.SlotSide.{StandsIn, fetched, line, with_fetched}
 use Rattle.tb_grouping.proofs.Sums.{differs}
+use Rattle.tb_grouping.proofs.Surroundings.{Serves, Surroundings}
 
-module _ (ly : Layout) (f : Setup) (lo hi keys : ℕ) (fits : Fits f 16) (code : SlotCode) (n : ℕ) (a : Operand) (d : Destination) (is : List Instr) (s : State) (r : Slots) (w : View) where
+module _ (around : Surroundings) (fits : Fits around.f 16) (code : SlotCode) (n : ℕ) (a : Operand) (d : Destination) (is : List Instr) (s : State) (r : Slots) (w : View) where
+  open around use {ly, f, lo, hi}
+
   abbrev k : ℕ
   k = slot_of d
 
@@ -46,11 +48,11 @@ module _ (ly : Layout) (f : Setup) (lo hi keys : ℕ) (fits : Fits f 16) (code :
   src = source_of k a
 
   abbrev Begins : Conversion → Type 0
-  Begins what = Ready ly f lo hi keys fits n (Convert what a d) (spread_convert what a d is) is s r w
+  Begins what = Ready around n (Convert what a d) (spread_convert what a d is) is s r w
 
   -- where the slot steps lead
   abbrev pub ConvertLeads : Conversion → ℕ → Type 0
-  ConvertLeads what k = Comes f w (Target ly f lo hi keys (steps code (expand (Convert what a d)) (line code n (spread_convert what a d is) s r))) (sent_in (steps code (expand (Convert what a d)) (line code n (spread_convert what a d is) s r))) k
+  ConvertLeads what k = Comes f w (Target around (steps code (expand (Convert what a d)) (line code n (spread_convert what a d is) s r))) (sent_in (steps code (expand (Convert what a d)) (line code n (spread_convert what a d is) s r))) k
 
   asked : (what : Conversion) → StandsIn a k (live (spread_convert what a d is))
   asked what = word_asked k a (convert what k) (kept d ++ is) (convert_reads what k (kept d ++ is))
@@ -63,13 +65,13 @@ module _ (ly : Layout) (f : Setup) (lo hi keys : ℕ) (fits : Fits f 16) (code :
       let same : 0 + (65536 - x) ≡ 65536 - x = omega arith in
       let text = taken (FixedWord 0) src (destination_at d) in
       let behind : w.regs.pc + (size text + 0) ≡ w.regs.pc + size text = omega arith in
-      subst (λ x. Comes f w (Target ly f lo hi keys x) (sent_in x) 7) (sym (negate_goes code n a d is s r h.read.all_words fit.slot))
+      subst (λ x. Comes f w (Target around x) (sent_in x) 7) (sym (negate_goes code n a d is s r h.read.all_words fit.slot))
       (looser f w _ _ [] 7 7 (omega arith)
-      (word_lands ly f lo hi keys fits code n h.small (live (spread_convert Negated a d is)) d is s r (with_fetched s r k a) (negated x) _ _ (w.regs.pc + size text) w.mem w.text w.answers (difference.0 ∙ ap (λ y. word y % 256) same) (difference.1 ∙ ap (λ y. word y / 256) same) (omega arith) fit.dest (convert_lasting Negated a d is s r h.free) (subst (λ p. GroupsLie ly f.code n p (select is)) behind h.rest) (kept_first ly f lo hi keys fits n _ _ is s r w h) h.text h.answers h.short)
-      (differs f 16 fits w.regs.pc (lo ∷ hi ∷ []) w.mem w.text w.answers refl (FixedWord 0) src (destination_at d) h.lies.0 tt (operand_grounded k a d fit.slot fit.word) (dest_in_data d fit.dest) h.lies.1 w (here ly f lo hi keys fits w [] [] h.stack h.binary)))
+      (word_lands around code n h.small (live (spread_convert Negated a d is)) d is s r (with_fetched s r k a) (negated x) _ _ (w.regs.pc + size text) w.mem w.text w.answers (difference.0 ∙ ap (λ y. word y % 256) same) (difference.1 ∙ ap (λ y. word y / 256) same) (omega arith) fit.dest (convert_lasting Negated a d is s r h.free) (subst (λ p. GroupsLie ly f.code n p (select is)) behind h.rest) (kept_first h) h.text h.answers h.short)
+      (differs f 16 fits w.regs.pc (lo ∷ hi ∷ []) w.mem w.text w.answers refl (FixedWord 0) src (destination_at d) h.lies.0 tt (operand_grounded k a d fit.slot fit.word) (dest_in_data d fit.dest) h.lies.1 w (here h)))
 
   -- ---- RND
-  module _ (limit : ℕ) (rs : Routines ly.table ly.seed ly.numbers ly.start f lo hi keys limit) (seed_small : ly.seed < 65536) (h : Begins IsDrawn) where
+  module _ (limit : ℕ) (rs : Serves around limit) (seed_small : ly.seed < 65536) (h : Begins IsDrawn) where
     abbrev js : List Instr
     js = spread_convert IsDrawn a d is
 
@@ -81,53 +83,53 @@ module _ (ly : Layout) (f : Setup) (lo hi keys : ℕ) (fits : Fits f 16) (code :
     code_of = routine RANDOM_AT RESULT src (FixedWord ly.seed) (destination_at d)
 
     abbrev at : ℕ
-    at = behind_line ly f lo hi keys fits n _ js is s r w h risky
+    at = behind_line h risky
 
     abbrev m : ℕ → ℕ
-    m = lined_by ly f lo hi keys fits n _ js is s r w h risky
+    m = lined_by h risky
 
     lies : Lies f.code at code_of
-    lies = lies_by ly f lo hi keys fits n _ js is s r w h risky code_of h.lies
+    lies = lies_by h risky code_of h.lies
 
     fit : ConvertFits a d
     fit = convert_fits IsDrawn a d h.ranged
 
-    c : Kept ly f lo hi keys fits (live js) s r m
-    c = kept_by ly f lo hi keys fits n _ js is s r w h risky
+    c : Kept around (live js) s r m
+    c = kept_by h risky
 
     bound_holds : SourceHolds m src x
     bound_holds = operand_held ly s (live js) r m k a c.state c.read fit.word (asked IsDrawn)
 
-    option_holds : (m' : ℕ → ℕ) → Kept ly f lo hi keys fits (live js) s r m' → SourceHolds m' (FixedWord ly.seed) ly.seed
+    option_holds : (m' : ℕ → ℕ) → Kept around (live js) s r m' → SourceHolds m' (FixedWord ly.seed) ly.seed
     option_holds m' q = record { low_byte = refl; high_byte = refl; small = seed_small }
 
     rest : GroupsLie ly f.code n (at + pieces_size (routine RANDOM_AT RESULT src (FixedWord ly.seed) (destination_at d))) (select is)
-    rest = rest_by ly f lo hi keys fits n _ js is s r w h risky code_of h.rest
+    rest = rest_by h risky code_of h.rest
 
     -- the state behind it
     abbrev drawn : State
     drawn = record s { seed = seed_after s.seed }
 
-    drawn_kept : (bound : ℕ) (m' m'' : ℕ → ℕ) → Kept ly f lo hi keys fits (live js) s r m' → Drawn m' bound s.seed m'' → Kept ly f lo hi keys fits (live js) drawn r m''
+    drawn_kept : (bound : ℕ) (m' m'' : ℕ → ℕ) → Kept around (live js) s r m' → Drawn m' bound s.seed m'' → Kept around (live js) drawn r m''
     drawn_kept bound m' m'' q g =
         let others : (p : ℕ) → is_owned p ≡ true → p ≢ SEEDED → p ≢ SEED → p ≢ SEED + 1 → m'' p ≡ m' p = λ p o x y z. g.others p (not_argument p o) (not_scratch p o) (not_seed p x y z) in
         record {
           state = state_drawn ly s m' m'' q.state (seed_after s.seed) g.seeded g.seed_at others;
           read = live_same (live js) r m' m'' h.some_read (λ a lo hi. others a (owned_low a (omega (arith, lo)) hi) (λ e. omega (arith, e, lo)) (λ e. omega (arith, e, lo)) (λ e. omega (arith, e, lo))) q.read;
-          homed = homed_kept ly f lo hi keys fits m' m'' (g.others HOME_S refl refl refl) q.homed;
+          homed = homed_kept m' m'' (g.others HOME_S refl refl refl) q.homed;
         }
 
     pub draw_law : (nat_eq x 0 || nat_le 32768 x) ≡ false → ConvertLeads IsDrawn (17 + limit)
     draw_law good =
-        subst (λ x. Comes f w (Target ly f lo hi keys x) (sent_in x) (17 + limit)) (sym (draw_goes code n a d is s r h.read.all_words fit.slot good))
+        subst (λ x. Comes f w (Target around x) (sent_in x) (17 + limit)) (sym (draw_goes code n a d is s r h.read.all_words fit.slot good))
         (looser f w _ _ [] (4 + (13 + limit)) (17 + limit) (omega arith) (λ u z. z)
-        (lines_by ly f lo hi keys fits n _ js is s r w h risky code_of h.lies _ [] (13 + limit)
-        (gives ly f lo hi keys fits n _ js is s r w h RANDOM_AT RESULT at src (FixedWord ly.seed) d m c lies x ly.seed
+        (lines_by fits h risky code_of h.lies _ [] (13 + limit)
+        (gives fits h RANDOM_AT RESULT at src (FixedWord ly.seed) d m c lies x ly.seed
         (operand_apart k a LEFT (omega arith) fit.slot fit.word) tt bound_holds option_holds
         code drawn (with_fetched s r k a) (seed_after s.seed % x) limit result_gives fit.dest (convert_lasting IsDrawn a d is s r h.free) rest h.text h.answers h.short
         (λ l k' m' g u e. looser f u _ _ [] limit limit (omega arith)
         (λ u q. record {
-          here = back_here ly f lo hi keys fits _ _ w.text w.answers _ u q refl;
+          here = back_here _ _ w.text w.answers _ u q refl;
           result = q.memory.result;
           kept = drawn_kept x m' u.mem g.kept q.memory;
         })
@@ -139,15 +141,15 @@ module _ (ly : Layout) (f : Setup) (lo hi keys : ℕ) (fits : Fits f 16) (code :
     never k (Variable x) e = absurd (true≢false e)
     never k InSlot e = absurd (true≢false e)
 
-    line_set : (t : Bool) → risky ≡ t → (nat_eq x 0 || nat_le 32768 x) ≡ true → WordAt (lined_by ly f lo hi keys fits n _ js is s r w h t) LINE n
-    line_set true e bad = numbered ly f lo hi keys fits n _ js is s r w h
+    line_set : (t : Bool) → risky ≡ t → (nat_eq x 0 || nat_le 32768 x) ≡ true → WordAt (lined_by h t) LINE n
+    line_set true e bad = numbered h
     line_set false e bad = absurd (true≢false (sym bad ∙ never k a e))
 
     pub draw_fails_law : (nat_eq x 0 || nat_le 32768 x) ≡ true → ConvertLeads IsDrawn (17 + limit)
     draw_fails_law bad =
-        subst (λ x. Comes f w (Target ly f lo hi keys x) (sent_in x) (17 + limit)) (sym (draw_fails code n a d is s r h.read.all_words fit.slot bad))
+        subst (λ x. Comes f w (Target around x) (sent_in x) (17 + limit)) (sym (draw_fails code n a d is s r h.read.all_words fit.slot bad))
         (looser f w _ _ (fault_text 3 n) (4 + (9 + limit)) (17 + limit) (omega arith) (λ u z. z)
-        (lines_by ly f lo hi keys fits n _ js is s r w h risky code_of h.lies _ (fault_text 3 n) (9 + limit)
-        (asks ly f lo hi keys fits n _ js is s r w h RANDOM_AT RESULT at src (FixedWord ly.seed) d m c lies x ly.seed
+        (lines_by fits h risky code_of h.lies _ (fault_text 3 n) (9 + limit)
+        (asks fits h RANDOM_AT RESULT at src (FixedWord ly.seed) d m c lies x ly.seed
         (operand_apart k a LEFT (omega arith) fit.slot fit.word) tt bound_holds option_holds
         _ (fault_text 3 n) limit (λ m' g. rs.random_fails _ _ m' w.text w.answers x n g.left bad (g.line (line_set risky refl bad)) g.kept.homed))))

@@ -13,10 +13,9 @@ use Rattle.tb_lower.specs.Ranges.{AreInRange}
 use Rattle.tb_lower.specs.Slots.{Instr, Whole, Compute, Hold, JumpTo, LeaveUnless, Load, Slots, SlotCode, SlotState, with_word}
 use Rattle.tb_lower.specs.Steps.{Step, Stops, Faulted}
 use Rattle.tb_reaching.proofs.Comes.{chained, looser}
-use Rattle.tb_reaching.specs.View.{Comes, Fits, Setup, View}
+use Rattle.tb_reaching.specs.View.{Comes, Fits, View}
 use Rattle.tb_runtime16.specs.Places.{LEFT, RIGHT}
-use Rattle.tb_runtime16.specs.Routines.{Routines}
-use Rattle.tb_keeping.specs.Layout.{Layout, next_at}
+use Rattle.tb_keeping.specs.Layout.{next_at}
 use Rattle.tb_keeping.proofs.Joins.{sent_in}
 use Rattle.tb_keeping.proofs.Resolved.{Code, Lies, Piece, faulting, pieces_size}
 use Rattle.tb_selection.specs.declared.liveness.Live.{Live}
@@ -42,6 +41,7 @@ use Rattle.tb_grouping.proofs.SlotSide.{StandsIn, acts, fetch_reads, fetched, fe
 use Rattle.tb_grouping.proofs.TestLaws.{go_goes, gone_by, lies_parts}
 use Rattle.tb_grouping.proofs.TestSide.{branched, left_read, spread_test, test_before, test_goes, tested, tested_word}
 use Rattle.tb_grouping.proofs.Whereto.{left_at}
+use Rattle.tb_grouping.proofs.Surroundings.{Serves, Surroundings}
 
 -- whether two numbers are the same, either way
 same_either_way : (p q : ℕ) → nat_eq p q ≡ nat_eq q p
@@ -191,7 +191,9 @@ test_free how v d OnLeft to u free = free
 test_free how v d OnRight to u free = refl
 
 -- ---- the law
-module _ (ly : Layout) (f : Setup) (lo hi keys : ℕ) (fits : Fits f 16) (code : SlotCode) (same_numbers : numbers code ≡ ly.numbers) (limit : ℕ) (rs : Routines ly.table ly.seed ly.numbers ly.start f lo hi keys limit) (n : ℕ) (how : Divisibility) (v : ℕ) (d : Operand) (side : Side) (to : Option ℕ) (is : List Instr) (s : State) (r : Slots) (w : View) (h : Ready ly f lo hi keys fits n (Divides how v d side to) (spread_divides how v d side to is) is s r w) where
+module _ (around : Surroundings) (fits : Fits around.f 16) (code : SlotCode) (same_numbers : numbers code ≡ around.ly.numbers) (limit : ℕ) (rs : Serves around limit) (n : ℕ) (how : Divisibility) (v : ℕ) (d : Operand) (side : Side) (to : Option ℕ) (is : List Instr) (s : State) (r : Slots) (w : View) (h : Ready around n (Divides how v d side to) (spread_divides how v d side to is) is s r w) where
+  open around use {ly, f}
+
   abbrev js : List Instr
   js = spread_divides how v d side to is
 
@@ -220,14 +222,14 @@ module _ (ly : Layout) (f : Setup) (lo hi keys : ℕ) (fits : Fits f 16) (code :
   right_fits : OperandFits d
   right_fits = (ranges how v d side (onward to) h.ranged).1
 
-  left_holds : (m : ℕ → ℕ) → Kept ly f lo hi keys fits (live js) s r m → SourceHolds m left x
+  left_holds : (m : ℕ → ℕ) → Kept around (live js) s r m → SourceHolds m left x
   left_holds m c = operand_held ly s (live js) r m 0 (Variable v) c.state c.read left_fits tt
 
-  right_holds : (m : ℕ → ℕ) → Kept ly f lo hi keys fits (live js) s r m → SourceHolds m right y
+  right_holds : (m : ℕ → ℕ) → Kept around (live js) s r m → SourceHolds m right y
   right_holds m c = operand_held ly s (live js) r m 1 d c.state c.read right_fits (divisor_read how v d side (onward to ++ is))
 
-  first : Kept ly f lo hi keys fits (live js) s r w.mem
-  first = kept ly f lo hi keys fits n (Divides how v d side to) js is s r w h
+  first : Kept around (live js) s r w.mem
+  first = kept h
 
   x_small : x < 65536
   x_small = (left_holds w.mem first).small
@@ -237,21 +239,21 @@ module _ (ly : Layout) (f : Setup) (lo hi keys : ℕ) (fits : Fits f 16) (code :
 
   -- at a place, with all that is live
   abbrev At : ℕ → View → Type 0
-  At = Led ly f lo hi keys fits limit rs n (Divides how v d side to) js is s r w h left right x y (operand_apart 0 (Variable v) 0 (omega arith) (omega arith) left_fits) (operand_apart 0 (Variable v) LEFT (omega arith) (omega arith) left_fits) (operand_apart 1 d RIGHT (omega arith) (omega arith) right_fits) left_holds right_holds
+  At = Led fits limit rs h left right x y (operand_apart 0 (Variable v) 0 (omega arith) (omega arith) left_fits) (operand_apart 0 (Variable v) LEFT (omega arith) (omega arith) left_fits) (operand_apart 1 d RIGHT (omega arith) (omega arith) right_fits) left_holds right_holds
 
   leads : (how' : Divisibility) (next : ℕ) → Lies f.code w.regs.pc (divided_code n w.regs.pc h.first how' left right next) → DividedReaches n w.regs.pc h.first left right next → y ≢ 0
       → Comes f w (At (cond (turned (leaves_on how') (nat_eq (magnitude x % magnitude y) 0)) (w.regs.pc + pieces_size (divided_code n w.regs.pc h.first how' left right next)) next)) [] (17 + limit)
-  leads how' next = divided_leads ly f lo hi keys fits limit rs n (Divides how v d side to) js is s r w h left right x y (operand_apart 0 (Variable v) 0 (omega arith) (omega arith) left_fits) (operand_apart 0 (Variable v) LEFT (omega arith) (omega arith) left_fits) (operand_apart 1 d RIGHT (omega arith) (omega arith) right_fits) left_holds right_holds how' h.first next
+  leads how' next = divided_leads fits limit rs h left right x y (operand_apart 0 (Variable v) 0 (omega arith) (omega arith) left_fits) (operand_apart 0 (Variable v) LEFT (omega arith) (omega arith) left_fits) (operand_apart 1 d RIGHT (omega arith) (omega arith) right_fits) left_holds right_holds how' h.first next
 
   abbrev pub Ends : Step SlotState → Type 0
-  Ends z = Comes f w (Target ly f lo hi keys z) (sent_in z) (34 + (limit + limit))
+  Ends z = Comes f w (Target around z) (sent_in z) (34 + (limit + limit))
 
   -- by 0
   faults : (how' : Divisibility) (next : ℕ) → Lies f.code w.regs.pc (divided_code n w.regs.pc h.first how' left right next) → y ≡ 0 → (ks back : List Instr) → Ends (steps code (dividing how v d side ks) (line code n (dividing how v d side back) s r))
   faults how' next lies zero ks back =
       subst Ends (sym (divides_fails code n how v d side s r h.read.all_words ks back zero))
       (looser f w _ _ (fault_text 2 n) (13 + limit) (34 + (limit + limit)) (omega arith) (λ u z. z)
-      (divided_fails ly f lo hi keys fits limit rs n (Divides how v d side to) js is s r w h left right x y (operand_apart 0 (Variable v) 0 (omega arith) (omega arith) left_fits) (operand_apart 0 (Variable v) LEFT (omega arith) (omega arith) left_fits) (operand_apart 1 d RIGHT (omega arith) (omega arith) right_fits) left_holds right_holds how' h.first next lies zero))
+      (divided_fails fits limit rs h left right x y (operand_apart 0 (Variable v) 0 (omega arith) (omega arith) left_fits) (operand_apart 0 (Variable v) LEFT (omega arith) (omega arith) left_fits) (operand_apart 1 d RIGHT (omega arith) (omega arith) right_fits) left_holds right_holds how' h.first next lies zero))
 
   -- the words of its test
   abbrev first_word : Tested
@@ -276,8 +278,8 @@ module _ (ly : Layout) (f : Setup) (lo hi keys : ℕ) (fits : Fits f 16) (code :
   abbrev Left : SlotState
   Left = record { state = record s { place = next_after (numbers code) n }; rest = Whole; slots = end_slots }
 
-  leaves : (u : View) → At (next_at ly n) u → Matches ly f lo hi keys Left u
-  leaves u a = left_at ly f lo hi keys fits code same_numbers n s end_slots u.mem w.text w.answers a.kept.state (none_read u.mem) a.kept.homed h.text h.answers h.short u a.here
+  leaves : (u : View) → At (next_at ly n) u → Matches around Left u
+  leaves u a = left_at around code same_numbers n s end_slots u.mem w.text w.answers a.kept.state (none_read u.mem) a.kept.homed h.text h.answers h.short u a.here
 
   abbrev rel : Rel
   rel = compared how
@@ -300,7 +302,7 @@ module _ (ly : Layout) (f : Setup) (lo hi keys : ℕ) (fits : Fits f 16) (code :
       by : (t : Bool) → Comes f w (At (cond t (w.regs.pc + pieces_size here_code) (next_at ly n))) [] (17 + limit) → Ends (branched code n rel first_word second_word is s last_slots t)
       by true c =
           looser f w _ _ [] (17 + limit) (34 + (limit + limit)) (omega arith)
-          (λ u a. stood ly f lo hi keys fits code n h.small is s end_slots (w.regs.pc + pieces_size here_code) u.mem w.text w.answers rest a.kept.state (end_read u.mem) a.kept.homed h.text h.answers h.short u a.here) c
+          (λ u a. stood around code n h.small is s end_slots (w.regs.pc + pieces_size here_code) u.mem w.text w.answers rest a.kept.state (end_read u.mem) a.kept.homed h.text h.answers h.short u a.here) c
       by false c = looser f w _ _ [] (17 + limit) (34 + (limit + limit)) (omega arith) leaves c
 
   -- ---- that goes to a line
@@ -344,7 +346,7 @@ module _ (ly : Layout) (f : Setup) (lo hi keys : ℕ) (fits : Fits f 16) (code :
         by : (q : Bool) → Comes f w (At (cond (not q) (next_at ly n) (ly.start t))) [] (17 + limit) → Ends (outcome q true)
         by true c =
             looser f w _ _ [] (17 + limit) (34 + (limit + limit)) (omega arith)
-            (λ u a. arrived ly f lo hi keys fits code (record s { place = control.At t }) end_slots (ly.start t) u.mem w.text w.answers refl (state_placed ly (control.At t) s u.mem a.kept.state) (none_read u.mem).all_words a.kept.homed h.text h.answers h.short u a.here) c
+            (λ u a. arrived around (record s { place = control.At t }) end_slots (ly.start t) u.mem w.text w.answers refl (state_placed ly (control.At t) s u.mem a.kept.state) (none_read u.mem).all_words a.kept.homed h.text h.answers h.short u a.here) c
         by false c = looser f w _ _ [] (17 + limit) (34 + (limit + limit)) (omega arith) leaves c
     by_line false e = ⊎_elim
         (λ zero. faults how (next_at ly n) parts.0 zero ks back)
@@ -357,7 +359,7 @@ module _ (ly : Layout) (f : Setup) (lo hi keys : ℕ) (fits : Fits f 16) (code :
         by : (q : Bool) → Comes f w (At (cond q (w.regs.pc + pieces_size here_code) (next_at ly n))) [] (17 + limit) → Ends (outcome q false)
         by true c =
             looser f w _ _ (fault_text 1 n) (17 + limit + (4 + limit)) (34 + (limit + limit)) (omega arith) (λ u g. g)
-            (chained f w _ _ [] (fault_text 1 n) (17 + limit) (4 + limit) c (λ u a. faults_at ly f lo hi keys fits limit rs n 1 h.small (omega arith) (w.regs.pc + pieces_size here_code) u.mem w.text w.answers parts.1 a.kept.homed u a.here))
+            (chained f w _ _ [] (fault_text 1 n) (17 + limit) (4 + limit) c (λ u a. faults_at around fits limit rs n 1 h.small (omega arith) (w.regs.pc + pieces_size here_code) u.mem w.text w.answers parts.1 a.kept.homed u a.here))
         by false c = looser f w _ _ [] (17 + limit) (34 + (limit + limit)) (omega arith) leaves c
 
   by_to : (o : Option ℕ) → to ≡ o → Ends (steps code (expand (Divides how v d side o)) (line code n (spread_divides how v d side o is) s r))

@@ -3,13 +3,15 @@ use Rattle.std.proofs.Common.{ℕ, ◌+◌, ◌<◌, List, [], ◌∷◌, refl}
 use Rattle.tb_lower.specs.Control.{fault_text}
 use Rattle.tb_reaching.proofs.Placed.{along}
 use Rattle.tb_reaching.specs.Start.{IsHome}
-use Rattle.tb_reaching.specs.View.{Fits, Setup, view}
-use Rattle.tb_runtime16.specs.Routines.{Entered, Here, Moves, Routines}
-use Rattle.tb_keeping.specs.Layout.{Layout}
+use Rattle.tb_reaching.specs.View.{Fits, view}
+use Rattle.tb_runtime16.specs.Routines.{Entered, Here, Moves}
 use Rattle.tb_keeping.proofs.Pieces.{whatever}
 use Rattle.tb_keeping.proofs.Resolved.{Code, Lies, faulting}
+use Rattle.tb_grouping.proofs.Surroundings.{Serves, Surroundings}
 
-module _ (ly : Layout) (f : Setup) (lo hi keys : ℕ) (fits : Fits f 16) (limit : ℕ) (rs : Routines ly.table ly.seed ly.numbers ly.start f lo hi keys limit) where
+module _ (around : Surroundings) (fits : Fits around.f 16) (limit : ℕ) (rs : Serves around limit) where
+  open around use {f, lo, hi}
+
   pub faults_at : (n k : ℕ) → n < 65536 → k < 10 → (at : ℕ) (m : ℕ → ℕ) (text answers : List ℕ) → Lies f.code at (Code (faulting n k) ∷ []) → Entered f lo hi m → Moves f (Here at (lo ∷ hi ∷ []) m text answers) (IsHome f) (fault_text k n) (4 + limit)
   faults_at n k small few at m text answers lies homed =
       whatever f 16 fits at (lo ∷ hi ∷ []) m text answers (IsHome f) (fault_text k n) (4 + limit) (λ a x y n' v i z c.

@@ -7,12 +7,12 @@ use Rattle.tb_lower.specs.Control.{At, State, deepest, fault_text, has_line, nex
 use Rattle.tb_lower.specs.Slots.{Instr, Slots, SlotCode, Whole}
 use Rattle.tb_reaching.proofs.Comes.{chained, looser}
 use Rattle.tb_reaching.specs.Start.{IsHome}
-use Rattle.tb_reaching.specs.View.{Comes, Fits, Setup, View}
-use Rattle.tb_runtime16.specs.Routines.{Here, Moves, Routines, WordAt}
+use Rattle.tb_reaching.specs.View.{Comes, Fits, View}
+use Rattle.tb_runtime16.specs.Routines.{Here, Moves, WordAt}
 use Rattle.tb_runtime16.specs.Places.{COUNT, HOME_S, LEFT, LINE, NOTES, PUSH_AT, RESULT, SEARCH_AT, TABLE, WANTED}
 use Rattle.tb_runtime16.proofs.Owned.{not_pushed, not_searched}
-use Rattle.tb_keeping.specs.Layout.{Layout, next_at, place_at}
-use Rattle.tb_keeping.proofs.Frames.{word_away, word_kept, word_put}
+use Rattle.tb_keeping.specs.Layout.{next_at, place_at}
+use Rattle.tb_keeping.proofs.Frames.{state_pushed, word_away, word_kept, word_put}
 use Rattle.tb_keeping.proofs.Mirrors.{notes_of}
 use Rattle.tb_keeping.proofs.Pieces.{calls, jumps, jumps_through, points, put_word, sets}
 use Rattle.tb_keeping.proofs.Resolved.{Code, Lies, Piece, call, jump_through, pointed, size}
@@ -20,7 +20,7 @@ use Rattle.tb_keeping.proofs.Returning.{back_here, behind_call, homed_kept}
 use Rattle.tb_selection.specs.declared.liveness.Live.{Live}
 use Rattle.tb_selection.specs.Groups.{AsLine, AsSubroutine, Operand, Usage, Use, use_of}
 use Rattle.tb_selection.specs.Liveness.{live}
-use Rattle.tb_grouping.proofs.Frames.{state_placed, state_pushed}
+use Rattle.tb_grouping.proofs.Frames.{state_placed}
 use Rattle.tb_grouping.proofs.Lone.{Kept, arrived, kept_lined, kept_put, kept_scratch, lined, lines, numbered}
 use Rattle.tb_grouping.proofs.Matching.{Matches}
 use Rattle.tb_templates.specs.declared.sources.Source.{Source}
@@ -32,8 +32,11 @@ use Rattle.tb_grouping.proofs.Ready.{Ready}
 use Rattle.tb_grouping.proofs.SlotSide.{fetched, fetched_length, with_fetched}
 use Rattle.tb_grouping.proofs.Sources.{value}
 use Rattle.tb_grouping.proofs.Sums.{brings}
+use Rattle.tb_grouping.proofs.Surroundings.{Serves, Surroundings}
 
-module _ (ly : Layout) (f : Setup) (lo hi keys : ℕ) (fits : Fits f 16) (limit : ℕ) (rs : Routines ly.table ly.seed ly.numbers ly.start f lo hi keys limit) (code : SlotCode) (laid : GroupsLaid ly f.code f.whole code) (n : ℕ) (is : List Instr) (s : State) (r : Slots) (w : View) where
+module _ (around : Surroundings) (fits : Fits around.f 16) (limit : ℕ) (rs : Serves around limit) (code : SlotCode) (laid : GroupsLaid around.ly around.f.code around.f.whole code) (n : ℕ) (is : List Instr) (s : State) (r : Slots) (w : View) where
+  open around use {ly, f, lo, hi}
+
   abbrev own : List ℕ
   own = lo ∷ hi ∷ []
 
@@ -41,7 +44,7 @@ module _ (ly : Layout) (f : Setup) (lo hi keys : ℕ) (fits : Fits f 16) (limit 
   at = w.regs.pc + 10
 
   -- ---- a use that searches the line table first
-  module _ (how : Usage) (a : Operand) (others : List Piece) (h : Ready ly f lo hi keys fits n (Use how a) (spread_use how a is) is s r w) (lies : Lies f.code w.regs.pc (searched ly n (source_of 0 a) others)) where
+  module _ (how : Usage) (a : Operand) (others : List Piece) (h : Ready around n (Use how a) (spread_use how a is) is s r w) (lies : Lies f.code w.regs.pc (searched ly n (source_of 0 a) others)) where
     abbrev wish : ℕ
     wish = fetched s r 0 a
 
@@ -60,7 +63,7 @@ module _ (ly : Layout) (f : Setup) (lo hi keys : ℕ) (fits : Fits f 16) (limit 
 
     -- memory with the line's number, the number that is sought, the table and its count
     abbrev one : ℕ → ℕ
-    one = lined ly f lo hi keys fits n _ _ is s r w h
+    one = lined h
 
     abbrev two : ℕ → ℕ
     two = put_word one WANTED (value one (low src)) (value one (high src))
@@ -71,20 +74,20 @@ module _ (ly : Layout) (f : Setup) (lo hi keys : ℕ) (fits : Fits f 16) (limit 
     abbrev sought : ℕ → ℕ
     sought = put_word three COUNT (length ly.numbers % 256) (length ly.numbers / 256)
 
-    kept_one : Kept ly f lo hi keys fits asked s r one
-    kept_one = kept_lined ly f lo hi keys fits n _ _ is s r w h
+    kept_one : Kept around asked s r one
+    kept_one = kept_lined h
 
-    kept_sought : Kept ly f lo hi keys fits asked s r sought
+    kept_sought : Kept around asked s r sought
     kept_sought =
-        kept_put ly f lo hi keys fits asked s r three COUNT (length ly.numbers % 256) (length ly.numbers / 256) h.some_read refl refl
-        (kept_put ly f lo hi keys fits asked s r two TABLE (ly.table % 256) (ly.table / 256) h.some_read refl refl
-        (kept_put ly f lo hi keys fits asked s r one WANTED _ _ h.some_read refl refl kept_one))
+        kept_put around asked s r three COUNT (length ly.numbers % 256) (length ly.numbers / 256) h.some_read refl refl
+        (kept_put around asked s r two TABLE (ly.table % 256) (ly.table / 256) h.some_read refl refl
+        (kept_put around asked s r one WANTED _ _ h.some_read refl refl kept_one))
 
     number : WordAt sought LINE n
     number =
         word_away three COUNT _ _ LINE n (λ e. omega (arith, e)) (λ e. omega (arith, e)) (λ e. omega (arith, e))
         (word_away two TABLE _ _ LINE n (λ e. omega (arith, e)) (λ e. omega (arith, e)) (λ e. omega (arith, e))
-        (word_away one WANTED _ _ LINE n (λ e. omega (arith, e)) (λ e. omega (arith, e)) (λ e. omega (arith, e)) (numbered ly f lo hi keys fits n _ _ is s r w h)))
+        (word_away one WANTED _ _ LINE n (λ e. omega (arith, e)) (λ e. omega (arith, e)) (λ e. omega (arith, e)) (numbered h)))
 
     abbrev back_low : ℕ
     back_low = (call_at + 2) % 256
@@ -96,7 +99,7 @@ module _ (ly : Layout) (f : Setup) (lo hi keys : ℕ) (fits : Fits f 16) (limit 
     searches : (q : View → Type 0) (t : List ℕ) (k : ℕ) → Moves f (Here SEARCH_AT (back_low ∷ back_high ∷ own) sought w.text w.answers) q t k → Comes f w q t (4 + (4 + (1 + (4 + (4 + (1 + k))))))
     searches q t k next =
         let bs = back_low ∷ back_high ∷ own in
-        lines ly f lo hi keys fits n _ _ is s r w h lies.0 lies.1 q t (4 + (1 + (4 + (4 + (1 + k))))) (λ u e.
+        lines fits h lies.0 lies.1 q t (4 + (1 + (4 + (4 + (1 + k))))) (λ u e.
         chained f u _ q [] t 4 (1 + (4 + (4 + (1 + k)))) (brings f 16 fits at own one w.text w.answers refl src WANTED lies.2.0 (operand_before 0 a WANTED (omega arith) (omega arith) fit) (refl, refl) lies.2.1 u e) (λ u e.
         chained f u _ q [] t 1 (4 + (4 + (1 + k))) (calls f 16 fits call_at own two w.text w.answers refl ly.locate refl lies.2.2.0 lies.2.2.1 u e) (λ u e.
         chained f u _ q [] t 4 (4 + (1 + k)) (points f 16 fits ly.locate bs two w.text w.answers refl ly.table TABLE laid.locate.0 (refl, refl) laid.locate.1 u e) (λ u e.
@@ -117,14 +120,14 @@ module _ (ly : Layout) (f : Setup) (lo hi keys : ℕ) (fits : Fits f 16) (limit 
     counted = word_put three COUNT (length ly.numbers % 256) (length ly.numbers / 256) _ refl refl laid.count_small
 
     -- behind the search, with the line's address
-    finds : has_line ly.numbers wish ≡ true → (q : View → Type 0) (t : List ℕ) (k : ℕ) → ((u : View) → Kept ly f lo hi keys fits asked s r u.mem → WordAt u.mem LINE n → WordAt u.mem RESULT (ly.start wish) → Here (call_at + 3) own u.mem w.text w.answers u → Comes f u q t k) → Comes f w q t (4 + (4 + (1 + (4 + (4 + (1 + (limit + k)))))))
+    finds : has_line ly.numbers wish ≡ true → (q : View → Type 0) (t : List ℕ) (k : ℕ) → ((u : View) → Kept around asked s r u.mem → WordAt u.mem LINE n → WordAt u.mem RESULT (ly.start wish) → Here (call_at + 3) own u.mem w.text w.answers u → Comes f u q t k) → Comes f w q t (4 + (4 + (1 + (4 + (4 + (1 + (limit + k)))))))
     finds found q t k next =
         searches q t (limit + k) (λ u e.
         chained f u _ q [] t limit k (rs.search back_low back_high sought w.text w.answers wish wanted in_table counted found u e) (λ u g.
-        next u (kept_scratch ly f lo hi keys fits asked s r sought u.mem h.some_read (λ p z. g.memory.others p (not_searched p z)) kept_sought)
+        next u (kept_scratch around asked s r sought u.mem h.some_read (λ p z. g.memory.others p (not_searched p z)) kept_sought)
         (word_kept sought u.mem LINE n (g.memory.others LINE refl) (g.memory.others (LINE + 1) refl) number)
         g.memory.result
-        (back_here ly f lo hi keys fits _ _ w.text w.answers _ u g (behind_call ly f lo hi keys fits call_at lies.2.2.0))))
+        (back_here _ _ w.text w.answers _ u g (behind_call call_at lies.2.2.0))))
 
     lost_line : has_line ly.numbers wish ≡ false → Comes f w (IsHome f) (fault_text 1 n) (4 + (4 + (1 + (4 + (4 + (1 + limit))))))
     lost_line lost = searches (IsHome f) (fault_text 1 n) limit (rs.search_fails back_low back_high sought w.text w.answers wish n wanted in_table counted lost number kept_sought.homed)
@@ -144,19 +147,19 @@ module _ (ly : Layout) (f : Setup) (lo hi keys : ℕ) (fits : Fits f 16) (limit 
     abbrev found_at : ℕ
     found_at = at + size (brought (source_of 0 a) WANTED) + 3
 
-    module _ (h : Ready ly f lo hi keys fits n (Use AsLine a) (spread_use AsLine a is) is s r w) where
-      pub jump_found : has_line ly.numbers place ≡ true → Comes f w (Matches ly f lo hi keys (record { state = record s { place = At place }; rest = Whole; slots = slots })) [] (19 + limit)
+    module _ (h : Ready around n (Use AsLine a) (spread_use AsLine a is) is s r w) where
+      pub jump_found : has_line ly.numbers place ≡ true → Comes f w (Matches around (record { state = record s { place = At place }; rest = Whole; slots = slots })) [] (19 + limit)
       jump_found found =
           looser f w _ _ [] (4 + (4 + (1 + (4 + (4 + (1 + (limit + 1))))))) (19 + limit) (omega arith) (λ u x. x)
           (finds AsLine a (Code jump_through ∷ []) h h.lies found _ [] 1 (λ u c l result e.
           looser f u _ _ [] 1 1 (omega arith)
-          (arrived ly f lo hi keys fits code (record s { place = At place }) slots (ly.start place) u.mem w.text w.answers refl (state_placed ly (At place) s u.mem c.state) (all_slots h.read.all_words) c.homed h.text h.answers h.short)
+          (arrived around (record s { place = At place }) slots (ly.start place) u.mem w.text w.answers refl (state_placed ly (At place) s u.mem c.state) (all_slots h.read.all_words) c.homed h.text h.answers h.short)
           (jumps_through f 16 fits found_at own u.mem w.text w.answers refl (ly.start place) result h.lies.2.2.2.1 u e)))
 
       pub jump_fails : has_line ly.numbers place ≡ false → Comes f w (IsHome f) (fault_text 1 n) (19 + limit)
       jump_fails lost = looser f w _ _ (fault_text 1 n) (4 + (4 + (1 + (4 + (4 + (1 + limit)))))) (19 + limit) (omega arith) (λ u x. x) (lost_line AsLine a (Code jump_through ∷ []) h h.lies lost)
 
-    module _ (h : Ready ly f lo hi keys fits n (Use AsSubroutine a) (spread_use AsSubroutine a is) is s r w) where
+    module _ (h : Ready around n (Use AsSubroutine a) (spread_use AsSubroutine a is) is s r w) where
       -- the template behind the search
       abbrev behind : List Piece
       behind = Code (pointed (next_at ly n) LEFT) ∷ Code (call PUSH_AT) ∷ Code jump_through ∷ []
@@ -168,7 +171,7 @@ module _ (ly : Layout) (f : Setup) (lo hi keys : ℕ) (fits : Fits f 16) (limit 
       returning u = put_word u.mem LEFT (next_at ly n % 256) (next_at ly n / 256)
 
       -- up to Push, where the line was found
-      calls_push : has_line ly.numbers place ≡ true → (q : View → Type 0) (t : List ℕ) (b : ℕ) → ((u : View) → WordAt (returning u) RESULT (ly.start place) → WordAt (returning u) LINE n → Kept ly f lo hi keys fits calls_for s r (returning u) → Moves f (Here PUSH_AT ((found_at + 8 + 2) % 256 ∷ (found_at + 8 + 2) / 256 ∷ own) (returning u) w.text w.answers) q t b) → Comes f w q t (4 + (4 + (1 + (4 + (4 + (1 + (limit + (4 + (1 + b)))))))))
+      calls_push : has_line ly.numbers place ≡ true → (q : View → Type 0) (t : List ℕ) (b : ℕ) → ((u : View) → WordAt (returning u) RESULT (ly.start place) → WordAt (returning u) LINE n → Kept around calls_for s r (returning u) → Moves f (Here PUSH_AT ((found_at + 8 + 2) % 256 ∷ (found_at + 8 + 2) / 256 ∷ own) (returning u) w.text w.answers) q t b) → Comes f w q t (4 + (4 + (1 + (4 + (4 + (1 + (limit + (4 + (1 + b)))))))))
       calls_push found q t b next =
           let lies = h.lies.2.2.2 in
           finds AsSubroutine a behind h h.lies found q t (4 + (1 + b)) (λ u c l result e.
@@ -177,9 +180,9 @@ module _ (ly : Layout) (f : Setup) (lo hi keys : ℕ) (fits : Fits f 16) (limit 
           (next u
           (word_away u.mem LEFT _ _ RESULT _ (λ e. omega (arith, e)) (λ e. omega (arith, e)) (λ e. omega (arith, e)) result)
           (word_away u.mem LEFT _ _ LINE n (λ e. omega (arith, e)) (λ e. omega (arith, e)) (λ e. omega (arith, e)) l)
-          (kept_put ly f lo hi keys fits calls_for s r u.mem LEFT _ _ h.some_read refl refl c))))
+          (kept_put around calls_for s r u.mem LEFT _ _ h.some_read refl refl c))))
 
-      pub call_found : has_line ly.numbers place ≡ true → nat_lt (length s.returns) deepest ≡ true → Comes f w (Matches ly f lo hi keys (record { state = record s { place = At place; returns = next_after ly.numbers n ∷ s.returns }; rest = Whole; slots = slots })) [] (34 + (limit + limit))
+      pub call_found : has_line ly.numbers place ≡ true → nat_lt (length s.returns) deepest ≡ true → Comes f w (Matches around (record { state = record s { place = At place; returns = next_after ly.numbers n ∷ s.returns }; rest = Whole; slots = slots })) [] (34 + (limit + limit))
       call_found found free =
           let few : length s.returns < 500 = omega (arith, ltb-true _ _ free) in
           let same : length (notes_of ly s.returns) ≡ length s.returns = length-map s.returns (place_at ly) in
@@ -187,12 +190,12 @@ module _ (ly : Layout) (f : Setup) (lo hi keys : ℕ) (fits : Fits f 16) (limit 
           (calls_push found _ [] (limit + 1) (λ u result l c v e.
           chained f v _ _ [] [] limit 1 (rs.push _ _ (returning u) w.text w.answers (next_at ly n) (notes_of ly s.returns) (word_put u.mem LEFT _ _ _ refl refl (laid.places (next_after ly.numbers n))) (subst (λ k. WordAt (returning u) NOTES k) (sym same) c.state.count) c.state.notes (omega (arith, few, same)) v e) (λ x g.
           looser f x _ _ [] 1 1 (omega arith)
-          (arrived ly f lo hi keys fits code (record s { place = At place; returns = next_after ly.numbers n ∷ s.returns }) slots (ly.start place) x.mem w.text w.answers refl
+          (arrived around (record s { place = At place; returns = next_after ly.numbers n ∷ s.returns }) slots (ly.start place) x.mem w.text w.answers refl
           (state_pushed ly s (returning u) x.mem c.state (At place) (next_after ly.numbers n) few (subst (λ k. WordAt x.mem NOTES (suc k)) same g.memory.notes.count) g.memory.notes.noted (λ p from to z y. g.memory.others p (not_pushed p from to z y))) (all_slots h.read.all_words)
-          (homed_kept ly f lo hi keys fits (returning u) x.mem (g.memory.others HOME_S refl) c.homed)
+          (homed_kept (returning u) x.mem (g.memory.others HOME_S refl) c.homed)
           h.text h.answers h.short)
           (jumps_through f 16 fits (found_at + 8 + 3) own x.mem w.text w.answers refl (ly.start place) (word_kept (returning u) x.mem RESULT _ (g.memory.others RESULT refl) (g.memory.others (RESULT + 1) refl) result) h.lies.2.2.2.2.2.1 x
-          (back_here ly f lo hi keys fits _ _ w.text w.answers _ x g (behind_call ly f lo hi keys fits (found_at + 8) h.lies.2.2.2.2.0))))))
+          (back_here _ _ w.text w.answers _ x g (behind_call (found_at + 8) h.lies.2.2.2.2.0))))))
 
       pub call_full : has_line ly.numbers place ≡ true → nat_lt (length s.returns) deepest ≡ false → Comes f w (IsHome f) (fault_text 4 n) (34 + (limit + limit))
       call_full found full =

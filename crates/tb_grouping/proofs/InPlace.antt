@@ -18,30 +18,27 @@ use Rattle.tb_reaching.proofs.Placed.{placed_last}
 use Rattle.tb_reaching.specs.View.{Bytes, Comes, Fits, Setup, View, is_data, view}
 use Rattle.tb_runtime16.specs.Routines.{Here, Moves, WithA}
 use Rattle.tb_runtime16.proofs.Words.{one_carry}
-use Rattle.tb_keeping.specs.Layout.{Layout}
 use Rattle.tb_keeping.proofs.Mirrors.{Carrying, Flagged}
 use Rattle.tb_keeping.proofs.Pieces.{InData, changes_last, loads_last, moves_looser, moves_then, put_word, stores_last, whatever, whatever_a, whatever_with}
 use Rattle.tb_keeping.proofs.Resolved.{Code, Lies, highest_code, pieces_size, size}
-use Rattle.tb_selection.specs.Groups.{Operand, Destination, Calculate, slot_of}
-use Rattle.tb_selection.specs.Liveness.{live}
+use Rattle.tb_selection.specs.Groups.{Operand, Destination, Calculate}
 use Rattle.tb_selection.specs.Select.{select}
-use Rattle.tb_templates.specs.declared.sources.Source.{Source}
 use Rattle.tb_templates.specs.declared.sources.Source.TheVariants.{AtPlace}
 use Rattle.tb_templates.specs.declared.in_place.Change.{Change}
 use Rattle.tb_templates.specs.declared.in_place.Change.TheVariants.{Increment, Decrement, Raise, Lower, Halve, Double}
-use Rattle.tb_templates.specs.Sources.{destination_at, source_of}
 use Rattle.tb_grouping.proofs.Branches.{Led, asked_in, branch_behind, branch_size, branches, is_taken}
-use Rattle.tb_grouping.proofs.Calculations.{Leads, goes}
 use Rattle.tb_grouping.proofs.Changes.{IsByte, IsChange, changed, of_left, of_right, elsewhere}
 use Rattle.tb_grouping.proofs.Constants.{constant_is}
 use Rattle.tb_grouping.proofs.Coded.{Carry, Flag, Zero, GroupsLie, OverReaches, Way, ChangeReaches, ChangedReaches, calc_code, change_code, changed_or, low_lowered, low_raised, over_at, over_code, raised_by_sign, sign_asked, turned_right, way_size}
 use Rattle.tb_grouping.proofs.Halves.{double_high, double_low, halve, halve_small, halves_are, high_half, low_half, more, sign_is}
-use Rattle.tb_grouping.proofs.Lone.{kept, word_lands}
-use Rattle.tb_grouping.proofs.Operands.{CalcFits, SourceHolds, calc_fits, dest_in_data, operand_held}
+use Rattle.tb_grouping.proofs.Lone.{kept}
+use Rattle.tb_grouping.proofs.Operands.{SourceHolds, dest_in_data}
 use Rattle.tb_grouping.proofs.Ready.{Ready, here}
 use Rattle.tb_grouping.proofs.ShiftSteps.{swapped}
-use Rattle.tb_grouping.proofs.SlotSide.{calculate_goes, calculate_lasting, fetched, left_asked, right_asked, spread, with_fetched}
+use Rattle.tb_grouping.proofs.SlotSide.{spread}
 use Rattle.tb_grouping.proofs.Sources.{Fixed, At, Known, adds_byte, behind, clears, loads_byte, loads_with, raises_carry, takes_byte, whatever_known, writes_byte}
+use Rattle.tb_grouping.proofs.Surroundings.{Surroundings}
+use Rattle.tb_grouping.proofs.Calculated.{Leads, calculation, fit, leads_on, left_holds, result_lands, right_holds}
 
 -- ---- bytes written
 -- a byte that is there already
@@ -475,48 +472,29 @@ changed_small (Lower c) x h = omega arith
 changed_small Halve x h = subst (λ v. v < 65536) (halves_are 0 x (omega arith) h) (halve_small (word (x + more 0 (nat_le 32768 x))) (omega arith))
 changed_small Double x h = omega arith
 
-module _ (ly : Layout) (f : Setup) (lo hi keys : ℕ) (fits : Fits f 16) (code : SlotCode) (n : ℕ) (op : Operator) (a b : Operand) (d : Destination) (is : List Instr) (s : State) (r : Slots) (w : View) (h : Ready ly f lo hi keys fits n (Calculate op a b d) (spread op a b d is) is s r w) where
-  abbrev k : ℕ
-  k = slot_of d
+module _ {around : Surroundings} (fits : Fits around.f 16) (code : SlotCode) {n : ℕ} {op : Operator} {a b : Operand} {d : Destination} {is : List Instr} {s : State} {r : Slots} {w : View} (h : Ready around n (Calculate op a b d) (spread op a b d is) is s r w) where
+  open around use {ly, f}
+  open calculation a b d s r use {x, y, left, right, to}
 
-  abbrev left : Source
-  left = source_of k a
-
-  abbrev right : Source
-  right = source_of (k + 1) b
-
-  abbrev to : ℕ
-  to = destination_at d
-
-  fit : CalcFits a b d
-  fit = calc_fits op a b d h.ranged
-
-  left_holds : SourceHolds w.mem left (fetched s r k a)
-  left_holds = operand_held ly s (live (spread op a b d is)) r w.mem k a h.state h.read fit.left (left_asked op a b d is)
-
-  right_holds : SourceHolds w.mem right (fetched s r (k + 1) b)
-  right_holds = operand_held ly s (live (spread op a b d is)) r w.mem (k + 1) b h.state h.read fit.right (right_asked op a b d is)
-
-  -- the word x at the place is changed
-  change_law : (c : Change) (first : Way) (x : ℕ) → IsByte c → SourceHolds w.mem (AtPlace to) x → apply op (fetched s r k a) (fetched s r (k + 1) b) ≡ Some (changed c x)
-      → Lies f.code w.regs.pc (change_code first w.regs.pc c to) → GroupsLie ly f.code n (w.regs.pc + pieces_size (change_code first w.regs.pc c to)) (select is) → ChangeReaches first w.regs.pc c to → Leads ly f lo hi keys fits code n a b d is s r w op 16
-  change_law c first x few hs e lies rest reach =
-      let v = changed c x in
-      goes ly f lo hi keys fits code n a b d is s r w op v 16 (calculate_goes code n op a b d is s r h.read.all_words fit.slot v e)
+  -- the word z at the place is changed
+  change_law : (c : Change) (first : Way) (z : ℕ) → IsByte c → SourceHolds w.mem (AtPlace to) z → apply op x y ≡ Some (changed c z)
+      → Lies f.code w.regs.pc (change_code first w.regs.pc c to) → GroupsLie ly f.code n (w.regs.pc + pieces_size (change_code first w.regs.pc c to)) (select is) → ChangeReaches first w.regs.pc c to → Leads h code 16
+  change_law c first z few hs e lies rest reach =
+      let v = changed c z in
+      leads_on h code v 16 e
       (looser f w _ _ [] 16 16 (omega arith)
-      (word_lands ly f lo hi keys fits code n h.small (live (spread op a b d is)) d is s r (with_fetched s (with_fetched s r k a) (k + 1) b) v (v % 256) (v / 256) (w.regs.pc + pieces_size (change_code first w.regs.pc c to)) w.mem w.text w.answers refl refl (changed_small c x hs.small) fit.dest (calculate_lasting op a b d is s r h.free) rest (kept ly f lo hi keys fits n _ _ is s r w h) h.text h.answers h.short)
-      (changes f 16 fits (lo ∷ hi ∷ []) w.text w.answers refl first w.regs.pc to (dest_in_data d fit.dest) w.mem x hs c few lies reach w (here ly f lo hi keys fits w [] [] h.stack h.binary)))
+      (result_lands h code v (v % 256) (v / 256) (w.regs.pc + pieces_size (change_code first w.regs.pc c to)) w.mem refl refl (changed_small c z hs.small) rest (kept h))
+      (changes f 16 fits (around.lo ∷ around.hi ∷ []) w.text w.answers refl first w.regs.pc to (dest_in_data d (fit h).dest) w.mem z hs c few lies reach w (here h)))
 
   -- a calculation, by whether it is a change
   pub computed_law : (j : ℕ) → 16 ≤ j → (first : Way) (o : Option Change) → IsChange op left right to o → Lies f.code w.regs.pc (changed_or o first n w.regs.pc op left right to) → GroupsLie ly f.code n (w.regs.pc + pieces_size (changed_or o first n w.regs.pc op left right to)) (select is)
-      → ChangedReaches o first w.regs.pc to → (Lies f.code w.regs.pc (calc_code n op left right to) → GroupsLie ly f.code n (w.regs.pc + pieces_size (calc_code n op left right to)) (select is) → Leads ly f lo hi keys fits code n a b d is s r w op j)
-      → Leads ly f lo hi keys fits code n a b d is s r w op j
+      → ChangedReaches o first w.regs.pc to → (Lies f.code w.regs.pc (calc_code n op left right to) → GroupsLie ly f.code n (w.regs.pc + pieces_size (calc_code n op left right to)) (select is) → Leads h code j) → Leads h code j
   computed_law j le first _ (of_left v c e e' m) lies rest reach other =
-      let y = constant_is w.mem v _ right e' right_holds in
+      let q = constant_is w.mem v _ right e' (right_holds h w.mem (kept h)) in
       looser f w _ _ _ 16 j le (λ u z. z)
-      (change_law c first (fetched s r k a) m.few (subst (λ q. SourceHolds w.mem q (fetched s r k a)) e left_holds) (ap (λ q. apply op (fetched s r k a) q) (sym y.0) ∙ m.is (omega (arith, y.0, y.1)) (fetched s r k a)) lies rest reach)
+      (change_law c first x m.few (subst (λ q. SourceHolds w.mem q x) e (left_holds h w.mem (kept h))) (ap (λ q. apply op x q) (sym q.0) ∙ m.is (omega (arith, q.0, q.1)) x) lies rest reach)
   computed_law j le first _ (of_right v c e e' m) lies rest reach other =
-      let y = constant_is w.mem v _ left e left_holds in
+      let q = constant_is w.mem v _ left e (left_holds h w.mem (kept h)) in
       looser f w _ _ _ 16 j le (λ u z. z)
-      (change_law c first (fetched s r (k + 1) b) m.few (subst (λ q. SourceHolds w.mem q (fetched s r (k + 1) b)) e' right_holds) (ap (λ q. apply op q (fetched s r (k + 1) b)) (sym y.0) ∙ m.is (omega (arith, y.0, y.1)) (fetched s r (k + 1) b)) lies rest reach)
+      (change_law c first y m.few (subst (λ q. SourceHolds w.mem q y) e' (right_holds h w.mem (kept h))) (ap (λ q. apply op q y) (sym q.0) ∙ m.is (omega (arith, q.0, q.1)) y) lies rest reach)
   computed_law j le first _ elsewhere lies rest reach other = other lies rest

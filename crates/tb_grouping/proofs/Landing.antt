@@ -6,20 +6,20 @@ use Rattle.tb_lower.specs.Control.{State}
 use Rattle.tb_lower.specs.Slots.{Instr, Slots, with_word}
 use Rattle.tb_runtime16.specs.Places.{COLUMN, HELD, HOME_S, LINE, NOTES, OPEN, SEED, SEEDED}
 use Rattle.tb_templates.specs.Templates.{slot_at, var_at}
-use Rattle.tb_runtime16.specs.Routines.{SeedAt, WordAt, first, is_owned, stored}
+use Rattle.tb_runtime16.specs.Routines.{SeedAt, WordAt, is_owned}
+use Rattle.tb_keeping.proofs.Mirrors.{HoldsState}
 use Rattle.tb_keeping.specs.Layout.{Layout}
-use Rattle.tb_keeping.proofs.Frames.{Same, SameSingles, notes_kept, owned_low, owned_note, put_away, word_kept}
+use Rattle.tb_keeping.proofs.Frames.{Same, SameSingles, notes_kept, owned_low, owned_note, put_away, seed_over, word_kept}
 use Rattle.tb_keeping.proofs.Pieces.{put_word}
 use Rattle.tb_selection.specs.declared.liveness.Live.{Live}
 use Rattle.tb_selection.specs.Groups.{IntoVariable, IntoHeld, Destination, IntoSlot, IntoHome, slot_of}
 use Rattle.tb_selection.specs.Liveness.{live}
 use Rattle.tb_templates.specs.Sources.{destination_at}
-use Rattle.tb_grouping.proofs.Matching.{HoldsState, HoldsLive}
+use Rattle.tb_grouping.proofs.Matching.{HoldsLive}
 use Rattle.tb_grouping.proofs.SlotSide.{Lasting, landed, slots_landed}
 
-pub seed_kept : (m m' : ℕ → ℕ) (option seed : ℕ) → SameSingles m m' → SeedAt m option seed → SeedAt m' option seed
-seed_kept m m' option seed e (stored k w) = stored (e SEEDED (omega arith) (omega arith) (λ q. omega (arith, q)) (λ q. omega (arith, q)) ∙ k) (word_kept m m' SEED _ (e SEED (omega arith) (omega arith) (λ q. omega (arith, q)) (λ q. omega (arith, q))) (e (SEED + 1) (omega arith) (omega arith) (λ q. omega (arith, q)) (λ q. omega (arith, q))) w)
-seed_kept m m' option seed e (first k q r old w) = first (e SEEDED (omega arith) (omega arith) (λ q. omega (arith, q)) (λ q. omega (arith, q)) ∙ k) q r old (word_kept m m' SEED _ (e SEED (omega arith) (omega arith) (λ q. omega (arith, q)) (λ q. omega (arith, q))) (e (SEED + 1) (omega arith) (omega arith) (λ q. omega (arith, q)) (λ q. omega (arith, q))) w)
+pub seed_kept : (m m' : ℕ → ℕ) {option seed : ℕ} → SameSingles m m' → SeedAt m option seed → SeedAt m' option seed
+seed_kept m m' e = seed_over m m' (e SEEDED (omega arith) (omega arith) (λ q. omega (arith, q)) (λ q. omega (arith, q))) (e SEED (omega arith) (omega arith) (λ q. omega (arith, q)) (λ q. omega (arith, q))) (e (SEED + 1) (omega arith) (omega arith) (λ q. omega (arith, q)) (λ q. omega (arith, q)))
 
 module _ (ly : Layout) (s : State) (m m' : ℕ → ℕ) (h : HoldsState ly s m) where
   -- new variables; the rest stands
@@ -28,7 +28,7 @@ module _ (ly : Layout) (s : State) (m m' : ℕ → ℕ) (h : HoldsState ly s m) 
     vars = v;
     column = co ∙ h.column;
     opened = e OPEN (omega arith) (omega arith) (λ q. omega (arith, q)) (λ q. omega (arith, q)) ∙ h.opened;
-    seeded = seed_kept m m' ly.seed s.seed e h.seeded;
+    seeded = seed_kept m m' e h.seeded;
     count = word_kept m m' NOTES _ (e NOTES (omega arith) (omega arith) (λ q. omega (arith, q)) (λ q. omega (arith, q))) (e (NOTES + 1) (omega arith) (omega arith) (λ q. omega (arith, q)) (λ q. omega (arith, q))) h.count;
     notes = notes_kept ly m m' s.returns h.few e' h.notes;
     few = h.few;

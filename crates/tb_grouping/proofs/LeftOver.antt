@@ -12,9 +12,8 @@ use Rattle.tb_reaching.proofs.Placed.{placed_last}
 use Rattle.tb_reaching.specs.Start.{IsHome}
 use Rattle.tb_reaching.specs.View.{Bytes, Comes, Fits, Setup, View, is_data, view}
 use Rattle.tb_runtime16.specs.Places.{DIVIDE_AT, LEFT, LINE, RESULT, RIGHT}
-use Rattle.tb_runtime16.specs.Routines.{Here, Moves, Routines, WithA, WordAt}
+use Rattle.tb_runtime16.specs.Routines.{Here, Moves, WithA, WordAt}
 use Rattle.tb_runtime16.proofs.Owned.{not_argument}
-use Rattle.tb_keeping.specs.Layout.{Layout}
 use Rattle.tb_keeping.proofs.Mirrors.{Flagged}
 use Rattle.tb_keeping.proofs.Pieces.{loads_last, moves_looser, moves_then, whatever_a}
 use Rattle.tb_keeping.proofs.Resolved.{Code, Lies, Piece, highest_code, pieces_size, size}
@@ -38,6 +37,7 @@ use Rattle.tb_grouping.proofs.SignedOrder.{turned}
 use Rattle.tb_grouping.proofs.Sources.{At, IsRead, behind, lda, len, loads_byte, value}
 use Rattle.tb_grouping.proofs.Sums.{Grounded, low_read}
 use Rattle.tb_grouping.proofs.TestLaws.{lies_parts}
+use Rattle.tb_grouping.proofs.Surroundings.{Serves, Surroundings}
 
 -- ---- single instructions
 module _ (f : Setup) (room : ℕ) (fits : Fits f room) (at : ℕ) (bs : List ℕ) (m : ℕ → ℕ) (keys gets : List ℕ) (small : leb (length bs) room ≡ true) where
@@ -74,7 +74,9 @@ pieces_append [] qs = omega arith
 pieces_append (p ∷ ps) qs = let e = pieces_append ps qs in omega (arith, e)
 
 -- ---- a test by a divisor
-module _ (ly : Layout) (f : Setup) (lo hi keys : ℕ) (fits : Fits f 16) (limit : ℕ) (rs : Routines ly.table ly.seed ly.numbers ly.start f lo hi keys limit) (n : ℕ) (g : Group) (js is : List Instr) (s : State) (r : Slots) (w : View) (h : Ready ly f lo hi keys fits n g js is s r w) (a b : Source) (x y : ℕ) (grounded : Grounded a 0) (ga : Grounded a LEFT) (gb : Grounded b RIGHT) (ha : (m : ℕ → ℕ) → Kept ly f lo hi keys fits (live js) s r m → SourceHolds m a x) (hb : (m : ℕ → ℕ) → Kept ly f lo hi keys fits (live js) s r m → SourceHolds m b y) where
+module _ {around : Surroundings} (fits : Fits around.f 16) (limit : ℕ) (rs : Serves around limit) {n : ℕ} {g : Group} {js is : List Instr} {s : State} {r : Slots} {w : View} (h : Ready around n g js is s r w) (a b : Source) (x y : ℕ) (grounded : Grounded a 0) (ga : Grounded a LEFT) (gb : Grounded b RIGHT) (ha : (m : ℕ → ℕ) → Kept around (live js) s r m → SourceHolds m a x) (hb : (m : ℕ → ℕ) → Kept around (live js) s r m → SourceHolds m b y) where
+  open around use {f, lo, hi}
+
   abbrev own : List ℕ
   own = lo ∷ hi ∷ []
 
@@ -85,24 +87,24 @@ module _ (ly : Layout) (f : Setup) (lo hi keys : ℕ) (fits : Fits f 16) (limit 
   record Told (at : ℕ) (z : Bool) (u : View) : Type 0 where
     here : Here at own u.mem w.text w.answers u
     zero : u.regs.flags.z ≡ z
-    kept : Kept ly f lo hi keys fits (live js) s r u.mem
+    kept : Kept around (live js) s r u.mem
 
   -- at a place, with all that is live
   pub record Led (at : ℕ) (u : View) : Type 0 where
     pub here : Here at own u.mem w.text w.answers u
-    pub kept : Kept ly f lo hi keys fits (live js) s r u.mem
+    pub kept : Kept around (live js) s r u.mem
 
   begins : Here w.regs.pc own w.mem w.text w.answers w
-  begins = here ly f lo hi keys fits w [] [] h.stack h.binary
+  begins = here h
 
-  first : Kept ly f lo hi keys fits (live js) s r w.mem
-  first = kept ly f lo hi keys fits n g js is s r w h
+  first : Kept around (live js) s r w.mem
+  first = kept h
 
-  flagged_told : (at to : ℕ) (m : ℕ → ℕ) (z t : Bool) → at ≡ to → z ≡ t → Kept ly f lo hi keys fits (live js) s r m → (u : View) → Flagged at own m w.text w.answers z u → Told to t u
+  flagged_told : (at to : ℕ) (m : ℕ → ℕ) (z t : Bool) → at ≡ to → z ≡ t → Kept around (live js) s r m → (u : View) → Flagged at own m w.text w.answers z u → Told to t u
   flagged_told at to m z t e q c u k = record {
     here = record { pc = k.here.pc ∙ e; stack = k.here.stack; binary = k.here.binary; mem = refl; text = k.here.text; answers = k.here.answers };
     zero = k.zero ∙ q;
-    kept = subst (Kept ly f lo hi keys fits (live js) s r) (sym k.here.mem) c;
+    kept = subst (Kept around (live js) s r) (sym k.here.mem) c;
   }
 
   -- whether it may fault; behind the line's number, where it may
@@ -110,15 +112,15 @@ module _ (ly : Layout) (f : Setup) (lo hi keys : ℕ) (fits : Fits f 16) (limit 
   risky = may_be_zero b
 
   abbrev at : ℕ
-  at = behind_line ly f lo hi keys fits n g js is s r w h risky
+  at = behind_line h risky
 
   abbrev m : ℕ → ℕ
-  m = lined_by ly f lo hi keys fits n g js is s r w h risky
+  m = lined_by h risky
 
-  c : Kept ly f lo hi keys fits (live js) s r m
-  c = kept_by ly f lo hi keys fits n g js is s r w h risky
+  c : Kept around (live js) s r m
+  c = kept_by h risky
 
-  end_by : (t : Bool) → behind_line ly f lo hi keys fits n g js is s r w h t + pieces_size (remainder a b) ≡ w.regs.pc + pieces_size (lined_code t n (remainder a b))
+  end_by : (t : Bool) → behind_line h t + pieces_size (remainder a b) ≡ w.regs.pc + pieces_size (lined_code t n (remainder a b))
   end_by true = omega arith
   end_by false = refl
 
@@ -129,19 +131,19 @@ module _ (ly : Layout) (f : Setup) (lo hi keys : ℕ) (fits : Fits f 16) (limit 
   Asked = Lies f.code w.regs.pc (lined_code risky n (remainder a b))
 
   asked_lies : Asked → Lies f.code at (remainder a b)
-  asked_lies lies = lies_by ly f lo hi keys fits n g js is s r w h risky (remainder a b) lies
+  asked_lies lies = lies_by h risky (remainder a b) lies
 
   by_routine : Asked → y ≢ 0 → Comes f w (Told (w.regs.pc + pieces_size (lined_code risky n (remainder a b))) divided) [] (15 + limit)
   by_routine lies some =
       let l = asked_lies lies in
       looser f w _ _ [] (4 + (9 + (limit + 2))) (15 + limit) (omega arith) (λ u z. z)
-      (lines_by ly f lo hi keys fits n g js is s r w h risky (remainder a b) lies _ [] (9 + (limit + 2))
-      (asks_by ly f lo hi keys fits n g js is s r w h DIVIDE_AT at a b tail m c l x y ga gb (ha m c) hb _ [] (limit + 2)
+      (lines_by fits h risky (remainder a b) lies _ [] (9 + (limit + 2))
+      (asks_by fits h DIVIDE_AT at a b tail m c l x y ga gb (ha m c) hb _ [] (limit + 2)
       (λ m' k u e.
       chained f u _ _ [] [] limit 2 (rs.divide _ _ m' w.text w.answers x y k.left k.right some u e) (λ v q.
-      let there = back_here ly f lo hi keys fits _ _ w.text w.answers _ v q (comes_back ly f lo hi keys fits n g js is s r w h DIVIDE_AT at a b tail m c l x y ga gb (ha m c) hb) in
+      let there = back_here _ _ w.text w.answers _ v q (comes_back fits h DIVIDE_AT at a b tail m c l x y ga gb (ha m c) hb) in
       looser f v _ _ [] 2 2 (omega arith)
-      (flagged_told _ _ v.mem _ _ (let e = end_by risky in omega (arith, e)) refl (kept_scratch ly f lo hi keys fits (live js) s r m' v.mem h.some_read (λ p o. q.memory.others p (not_argument p o)) k.kept))
+      (flagged_told _ _ v.mem _ _ (let e = end_by risky in omega (arith, e)) refl (kept_scratch around (live js) s r m' v.mem h.some_read (λ p o. q.memory.others p (not_argument p o)) k.kept))
       (tells_rest f 16 fits _ own v.mem w.text w.answers refl (magnitude x % magnitude y) l.2.2.2.0 q.memory.rest l.2.2.2.1 v there)))))
 
   -- Z is whether nothing is left over
@@ -170,7 +172,7 @@ module _ (ly : Layout) (f : Setup) (lo hi keys : ℕ) (fits : Fits f 16) (limit 
       looser f u _ _ [] 2 2 (omega arith)
       (λ v k. record {
         here = record { pc = k.here.pc ∙ last_leads (leaves_on how) divided next _ ∙ ap (λ p. cond (turned (leaves_on how) divided) p next) behind; stack = k.here.stack; binary = k.here.binary; mem = refl; text = k.here.text; answers = k.here.answers };
-        kept = subst (Kept ly f lo hi keys fits (live js) s r) (sym k.here.mem) t.kept;
+        kept = subst (Kept around (live js) s r) (sym k.here.mem) t.kept;
       })
       (branches f 16 fits own u.mem w.text w.answers refl at way Zero (leaves_on how) divided next (branch_behind f at way Zero (leaves_on how) next [] parts.1).0 reach parts.1.1 u t.here t.zero)))
 
@@ -179,8 +181,8 @@ module _ (ly : Layout) (f : Setup) (lo hi keys : ℕ) (fits : Fits f 16) (limit 
   never (FixedWord v) k e = λ zero. let same = constant_is w.mem v y (FixedWord v) refl k in absurd (true≢false (sym (eq-eqb v 0 (same.0 ∙ zero)) ∙ e))
   never (AtPlace p) k e = absurd (true≢false e)
 
-  line_set : (t : Bool) → risky ≡ t → y ≡ 0 → WordAt (lined_by ly f lo hi keys fits n g js is s r w h t) LINE n
-  line_set true e zero = numbered ly f lo hi keys fits n g js is s r w h
+  line_set : (t : Bool) → risky ≡ t → y ≡ 0 → WordAt (lined_by h t) LINE n
+  line_set true e zero = numbered h
   line_set false e zero = absurd (never b (hb w.mem first) e zero)
 
   left_fails : (o : Option ℕ) → IsMasking b o → Lies f.code w.regs.pc (left_over n o a b) → y ≡ 0 → Comes f w (IsHome f) (fault_text 2 n) (13 + limit)
@@ -188,8 +190,8 @@ module _ (ly : Layout) (f : Setup) (lo hi keys : ℕ) (fits : Fits f 16) (limit 
       let same = constant_is w.mem v y b e (hb w.mem first) in absurd (some_power k few (sym power ∙ same.0 ∙ zero))
   left_fails _ by_division lies zero =
       looser f w _ _ (fault_text 2 n) (4 + (9 + limit)) (13 + limit) (omega arith) (λ u z. z)
-      (lines_by ly f lo hi keys fits n g js is s r w h risky (remainder a b) lies _ (fault_text 2 n) (9 + limit)
-      (asks_by ly f lo hi keys fits n g js is s r w h DIVIDE_AT at a b tail m c (asked_lies lies) x y ga gb (ha m c) hb _ (fault_text 2 n) limit
+      (lines_by fits h risky (remainder a b) lies _ (fault_text 2 n) (9 + limit)
+      (asks_by fits h DIVIDE_AT at a b tail m c (asked_lies lies) x y ga gb (ha m c) hb _ (fault_text 2 n) limit
       (λ m' k. rs.divide_by_zero _ _ m' w.text w.answers x n k.left (subst (WordAt m' RIGHT) zero k.right) (k.line (line_set risky refl zero)) k.kept.homed)))
 
   pub divided_fails : (how : Divisibility) (way : Way) (next : ℕ) → Lies f.code w.regs.pc (divided_code n w.regs.pc way how a b next) → y ≡ 0 → Comes f w (IsHome f) (fault_text 2 n) (13 + limit)

@@ -1,12 +1,14 @@
 pub mod Sources
 pub mod Coded
 pub mod Branches
+pub mod Surroundings
 pub mod Matching
 pub mod SlotSide
 pub mod Landing
 pub mod Sums
 pub mod Operands
 pub mod Ready
+pub mod Calculated
 pub mod Calculations
 pub mod Few
 pub mod Divisions
@@ -62,6 +64,8 @@ pub mod Imaged
 pub mod Served
 pub mod Emits
 pub mod SingleBytes
+pub mod ItemBytes
+pub mod TestBytes
 pub mod GroupBytes
 pub mod Lines
 pub mod Compiled

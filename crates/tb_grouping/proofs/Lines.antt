@@ -39,7 +39,8 @@ use Rattle.tb_grouping.proofs.Branches.{branch_size}
 use Rattle.tb_grouping.proofs.Few.{range_split}
 use Rattle.tb_grouping.proofs.Emits.{bytes_behind, emitted_size}
 use Rattle.tb_grouping.proofs.CallBytes.{each_emitted}
-use Rattle.tb_grouping.proofs.GroupBytes.{Rest, poll_emitted, rest_before, rest_behind}
+use Rattle.tb_grouping.proofs.ItemBytes.{Rest, rest_before, rest_behind}
+use Rattle.tb_grouping.proofs.GroupBytes.{poll_emitted}
 use Rattle.tb_grouping.proofs.Laying.{inner_bytes, line_of, none_between, start_small, place_small, within_small, broken_lies, past_lies, find_lies, top_small, table_small, content_has, content_none}
 use Rattle.tb_grouping.proofs.Singles.{AreAlone, all_alone}
 

@@ -5,13 +5,13 @@ use Rattle.tb_lower.specs.Slots.{Instr, Rest, Whole, Left, Slots, SlotCode, Slot
 use Rattle.tb_lower.specs.Steps.{Step, Goes, Stops, and_then}
 use Rattle.tb_reaching.proofs.Comes.{chained, looser}
 use Rattle.tb_reaching.proofs.Instr.{Stands}
-use Rattle.tb_reaching.specs.View.{Comes, Fits, Setup, View}
+use Rattle.tb_reaching.specs.View.{Comes, Fits, View}
 use Rattle.tb_runtime16.specs.Laws.{AllBytes, Sent}
 use Rattle.tb_runtime16.specs.Routines.{Entered, Here, Moves, WordAt, is_owned, is_scratch}
 use Rattle.tb_runtime16.specs.Places.{COLUMN, HOME_S, LINE}
-use Rattle.tb_keeping.specs.Layout.{Layout, place_at}
-use Rattle.tb_keeping.proofs.Frames.{owned_low, put_away, word_put}
-use Rattle.tb_keeping.proofs.Mirrors.{Typable}
+use Rattle.tb_keeping.specs.Layout.{place_at}
+use Rattle.tb_keeping.proofs.Frames.{owned_low, put_away, state_told, word_put}
+use Rattle.tb_keeping.proofs.Mirrors.{HoldsState, Typable}
 use Rattle.tb_keeping.proofs.Pieces.{put_word, sets}
 use Rattle.tb_keeping.proofs.Resolved.{Lies, Piece, constant, highest_code, pieces_size}
 use Rattle.tb_keeping.proofs.Returning.{homed_kept}
@@ -23,11 +23,12 @@ use Rattle.tb_selection.specs.GroupSteps.{inside, steps}
 use Rattle.tb_grouping.proofs.Beginnings.{nothing_read}
 use Rattle.tb_templates.specs.Sources.{destination_at}
 use Rattle.tb_grouping.proofs.Coded.{GroupsLie, lined_code}
-use Rattle.tb_grouping.proofs.Matching.{HoldsState, HoldsLive, Matches}
+use Rattle.tb_grouping.proofs.Matching.{HoldsLive, Matches}
 use Rattle.tb_grouping.proofs.SlotSide.{Lasting, landed, line, slots_landed}
 use Rattle.tb_grouping.proofs.Landing.{DestFits, Elsewhere, home_kept, read_landed, read_lined, scratch_put, state_landed, state_lined, state_scratch}
-use Rattle.tb_grouping.proofs.Frames.{live_same, state_told}
+use Rattle.tb_grouping.proofs.Frames.{live_same}
 use Rattle.tb_grouping.proofs.Ready.{Ready, here, landed_answers, landed_text, stood}
+use Rattle.tb_grouping.proofs.Surroundings.{Surroundings}
 
 -- its steps are one step
 pub one_step : (code : SlotCode) (i : Instr) (c : SlotState) → steps code (i ∷ []) c ≡ slot_step code c
@@ -41,7 +42,9 @@ one_step code i c = by (slot_step code c)
     by (Stops e t) = refl
     by (Goes c t) = on c.rest c t
 
-module _ (ly : Layout) (f : Setup) (lo hi keys : ℕ) (fits : Fits f 16) where
+module _ (around : Surroundings) where
+  open around use {ly, f, lo, hi, keys}
+
   -- what holds while its code runs: the state, what is live, and the way home
   pub record Kept (u : Live) (s : State) (r : Slots) (m : ℕ → ℕ) : Type 0 where
     pub state : HoldsState ly s m
@@ -52,7 +55,7 @@ module _ (ly : Layout) (f : Setup) (lo hi keys : ℕ) (fits : Fits f 16) where
   kept_scratch u s r m m' few e c = record {
     state = state_scratch ly s m m' c.state e;
     read = live_same u r m m' few (λ a lo hi. e a (owned_low a (omega (arith, lo)) hi)) c.read;
-    homed = homed_kept ly f lo hi keys fits m m' (e HOME_S (owned_low HOME_S (omega arith) (omega arith))) c.homed;
+    homed = homed_kept m m' (e HOME_S (owned_low HOME_S (omega arith) (omega arith))) c.homed;
   }
 
   pub kept_put : (u : Live) (s : State) (r : Slots) (m : ℕ → ℕ) (p l h : ℕ) → u.slots ≤ 16 → is_owned p ≡ false → is_owned (p + 1) ≡ false → Kept u s r m → Kept u s r (put_word m p l h)
@@ -65,84 +68,89 @@ module _ (ly : Layout) (f : Setup) (lo hi keys : ℕ) (fits : Fits f 16) where
       record {
         state = state_told ly s m m' c.state t g.column others;
         read = live_same u r m m' few (λ a lo hi. others a (owned_low a (omega (arith, lo)) hi) (λ e. omega (arith, e, lo))) c.read;
-        homed = homed_kept ly f lo hi keys fits m m' (others HOME_S refl (λ e. omega (arith, e))) c.homed;
+        homed = homed_kept m m' (others HOME_S refl (λ e. omega (arith, e))) c.homed;
       }
+
+  -- where it has left the line
+  pub arrived : (s : State) (r : Slots) (at : ℕ) (m : ℕ → ℕ) (t gets : List ℕ) → at ≡ place_at ly s.place → HoldsState ly s m → length r.words ≡ 16 → Entered f lo hi m → t ≡ s.text → gets ≡ s.answers → Typable keys s.text s.answers → (w : View) → Here at (lo ∷ hi ∷ []) m t gets w → Matches around (record { state = s; rest = Whole; slots = r }) w
+  arrived s r at m t gets there hs all en text got short w e = record {
+    pc = e.pc ∙ there;
+    stack = e.stack;
+    binary = e.binary;
+    text = e.text ∙ text;
+    answers = e.answers ∙ got;
+    state = subst (HoldsState ly s) (sym e.mem) hs;
+    read = nothing_read r w.mem all;
+    homed = subst (Entered f lo hi) (sym e.mem) en;
+    short = short;
+  }
 
   module _ (code : SlotCode) where
     -- a word was written to where it goes, over a memory that still held all
-    pub word_lands : (n : ℕ) → n < 65536 → (u : Live) (d : Destination) (is : List Instr) (s : State) (r q : Slots) (v l h at : ℕ) (m : ℕ → ℕ) (t gets : List ℕ) → l ≡ v % 256 → h ≡ v / 256 → v < 65536 → DestFits d → Lasting u d is r q → GroupsLie ly f.code n at (select is) → Kept u s r m → t ≡ s.text → gets ≡ s.answers → Typable keys s.text s.answers → (w : View) → Here at (lo ∷ hi ∷ []) (put_word m (destination_at d) l h) t gets w → Matches ly f lo hi keys (line code n is (landed d v s) (slots_landed d v (with_word q (slot_of d) v))) w
+    pub word_lands : (n : ℕ) → n < 65536 → (u : Live) (d : Destination) (is : List Instr) (s : State) (r q : Slots) (v l h at : ℕ) (m : ℕ → ℕ) (t gets : List ℕ) → l ≡ v % 256 → h ≡ v / 256 → v < 65536 → DestFits d → Lasting u d is r q → GroupsLie ly f.code n at (select is) → Kept u s r m → t ≡ s.text → gets ≡ s.answers → Typable keys s.text s.answers → (w : View) → Here at (lo ∷ hi ∷ []) (put_word m (destination_at d) l h) t gets w → Matches around (line code n is (landed d v s) (slots_landed d v (with_word q (slot_of d) v))) w
     word_lands n number u d is s r q v l h at m t gets el eh small fit last rl c text got short w e =
         let m' = put_word m (destination_at d) l h in
         let there : WordAt m' (destination_at d) v = word_put m (destination_at d) l h v el eh small in
         let away : Elsewhere m m' (destination_at d) = λ p x y. put_away m (destination_at d) l h p x y in
-        let same = landed_text ly f lo hi keys fits d v s in
-        let left = landed_answers ly f lo hi keys fits d v s in
-        stood ly f lo hi keys fits code n number is (landed d v s) (slots_landed d v (with_word q (slot_of d) v)) at m' t gets rl
+        let same = landed_text d v s in
+        let left = landed_answers d v s in
+        stood around code n number is (landed d v s) (slots_landed d v (with_word q (slot_of d) v)) at m' t gets rl
         (state_landed ly s m m' d v fit c.state there away)
         (read_landed u d is r q m m' v fit last c.read there away)
-        (homed_kept ly f lo hi keys fits m m' (home_kept d fit m m' away) c.homed)
+        (homed_kept m m' (home_kept d fit m m' away) c.homed)
         (text ∙ sym same) (got ∙ sym left)
         (record { short = subst (λ t. length t ≤ keys) (sym same) short.short; text_bytes = subst AllBytes (sym same) short.text_bytes; answer_bytes = subst AllBytes (sym left) short.answer_bytes })
         w e
 
-    -- where it has left the line
-    pub arrived : (s : State) (r : Slots) (at : ℕ) (m : ℕ → ℕ) (t gets : List ℕ) → at ≡ place_at ly s.place → HoldsState ly s m → length r.words ≡ 16 → Entered f lo hi m → t ≡ s.text → gets ≡ s.answers → Typable keys s.text s.answers → (w : View) → Here at (lo ∷ hi ∷ []) m t gets w → Matches ly f lo hi keys (record { state = s; rest = Whole; slots = r }) w
-    arrived s r at m t gets there hs all en text got short w e = record {
-      pc = e.pc ∙ there;
-      stack = e.stack;
-      binary = e.binary;
-      text = e.text ∙ text;
-      answers = e.answers ∙ got;
-      state = subst (HoldsState ly s) (sym e.mem) hs;
-      read = nothing_read r w.mem all;
-      homed = subst (Entered f lo hi) (sym e.mem) en;
-      short = short;
-    }
+-- from the beginning of a group
+module _ {around : Surroundings} {n : ℕ} {g : Group} {js is : List Instr} {s : State} {r : Slots} {w : View} (h : Ready around n g js is s r w) where
+  open around use {ly, f}
 
-  -- from the beginning of a group
-  module _ (n : ℕ) (g : Group) (js is : List Instr) (s : State) (r : Slots) (w : View) (h : Ready ly f lo hi keys fits n g js is s r w) where
-    pub kept : Kept (live js) s r w.mem
-    kept = record { state = h.state; read = h.read; homed = h.homed }
+  pub kept : Kept around (live js) s r w.mem
+  kept = record { state = h.state; read = h.read; homed = h.homed }
 
-    -- memory with the line's number
-    abbrev pub lined : ℕ → ℕ
-    lined = put_word w.mem LINE (n % 256) (n / 256)
+  -- memory with the line's number
+  abbrev pub lined : ℕ → ℕ
+  lined = put_word w.mem LINE (n % 256) (n / 256)
 
-    pub numbered : WordAt lined LINE n
-    numbered = word_put w.mem LINE (n % 256) (n / 256) n refl refl h.small
+  pub numbered : WordAt lined LINE n
+  numbered = word_put w.mem LINE (n % 256) (n / 256) n refl refl h.small
 
-    pub kept_lined : Kept (live js) s r lined
-    kept_lined = record {
-      state = state_lined ly s w.mem (n % 256) (n / 256) h.state;
-      read = read_lined (live js) r w.mem (n % 256) (n / 256) h.read;
-      homed = homed_kept ly f lo hi keys fits w.mem lined (put_away w.mem LINE (n % 256) (n / 256) HOME_S (λ q. omega (arith, q)) (λ q. omega (arith, q))) h.homed;
-    }
+  pub kept_lined : Kept around (live js) s r lined
+  kept_lined = record {
+    state = state_lined ly s w.mem (n % 256) (n / 256) h.state;
+    read = read_lined (live js) r w.mem (n % 256) (n / 256) h.read;
+    homed = homed_kept w.mem lined (put_away w.mem LINE (n % 256) (n / 256) HOME_S (λ q. omega (arith, q)) (λ q. omega (arith, q))) h.homed;
+  }
 
-    -- the line's number is set first
-    pub lines : w.regs.pc + 10 ≤ highest_code → Stands f.code w.regs.pc (constant n LINE) → (q : View → Type 0) (t : List ℕ) (k : ℕ) → Moves f (Here (w.regs.pc + 10) (lo ∷ hi ∷ []) lined w.text w.answers) q t k → Comes f w q t (4 + k)
-    lines room lies q t k next = chained f w _ q [] t 4 k (sets f 16 fits w.regs.pc (lo ∷ hi ∷ []) w.mem w.text w.answers refl n LINE room (refl, refl) lies w (here ly f lo hi keys fits w [] [] h.stack h.binary)) next
+  -- or not, where nothing can fault
+  abbrev pub lined_by : Bool → ℕ → ℕ
+  lined_by true = lined
+  lined_by false = w.mem
 
-    -- or not, where nothing can fault
-    abbrev pub lined_by : Bool → ℕ → ℕ
-    lined_by true = lined
-    lined_by false = w.mem
+  abbrev pub behind_line : Bool → ℕ
+  behind_line true = w.regs.pc + 10
+  behind_line false = w.regs.pc
 
-    abbrev pub behind_line : Bool → ℕ
-    behind_line true = w.regs.pc + 10
-    behind_line false = w.regs.pc
+  pub kept_by : (t : Bool) → Kept around (live js) s r (lined_by t)
+  kept_by true = kept_lined
+  kept_by false = kept
 
-    pub kept_by : (t : Bool) → Kept (live js) s r (lined_by t)
-    kept_by true = kept_lined
-    kept_by false = kept
+  pub lies_by : (t : Bool) (ps : List Piece) → Lies f.code w.regs.pc (lined_code t n ps) → Lies f.code (behind_line t) ps
+  lies_by true ps lies = lies.2
+  lies_by false ps lies = lies
 
-    pub lies_by : (t : Bool) (ps : List Piece) → Lies f.code w.regs.pc (lined_code t n ps) → Lies f.code (behind_line t) ps
-    lies_by true ps lies = lies.2
-    lies_by false ps lies = lies
+  pub rest_by : (t : Bool) (ps : List Piece) → GroupsLie ly f.code n (w.regs.pc + pieces_size (lined_code t n ps)) (select is) → GroupsLie ly f.code n (behind_line t + pieces_size ps) (select is)
+  rest_by true ps rest = subst (λ p. GroupsLie ly f.code n p (select is)) (let e : w.regs.pc + (10 + pieces_size ps) ≡ w.regs.pc + 10 + pieces_size ps = omega arith in e) rest
+  rest_by false ps rest = rest
 
-    pub rest_by : (t : Bool) (ps : List Piece) → GroupsLie ly f.code n (w.regs.pc + pieces_size (lined_code t n ps)) (select is) → GroupsLie ly f.code n (behind_line t + pieces_size ps) (select is)
-    rest_by true ps rest = subst (λ p. GroupsLie ly f.code n p (select is)) (let e : w.regs.pc + (10 + pieces_size ps) ≡ w.regs.pc + 10 + pieces_size ps = omega arith in e) rest
-    rest_by false ps rest = rest
+module _ {around : Surroundings} (fits : Fits around.f 16) {n : ℕ} {g : Group} {js is : List Instr} {s : State} {r : Slots} {w : View} (h : Ready around n g js is s r w) where
+  open around use {f, lo, hi}
 
-    pub lines_by : (t : Bool) (ps : List Piece) → Lies f.code w.regs.pc (lined_code t n ps) → (q : View → Type 0) (l : List ℕ) (k : ℕ) → Moves f (Here (behind_line t) (lo ∷ hi ∷ []) (lined_by t) w.text w.answers) q l k → Comes f w q l (4 + k)
-    lines_by true ps lies q l k next = lines lies.0 lies.1 q l k next
-    lines_by false ps lies q l k next = looser f w q q l k (4 + k) (omega arith) (λ u x. x) (next w (here ly f lo hi keys fits w [] [] h.stack h.binary))
+  -- the line's number is set first
+  pub lines : w.regs.pc + 10 ≤ highest_code → Stands f.code w.regs.pc (constant n LINE) → (q : View → Type 0) (t : List ℕ) (k : ℕ) → Moves f (Here (w.regs.pc + 10) (lo ∷ hi ∷ []) (lined h) w.text w.answers) q t k → Comes f w q t (4 + k)
+  lines room lies q t k next = chained f w _ q [] t 4 k (sets f 16 fits w.regs.pc (lo ∷ hi ∷ []) w.mem w.text w.answers refl n LINE room (refl, refl) lies w (here h)) next
+
+  pub lines_by : (t : Bool) (ps : List Piece) → Lies f.code w.regs.pc (lined_code t n ps) → (q : View → Type 0) (l : List ℕ) (k : ℕ) → Moves f (Here (behind_line h t) (lo ∷ hi ∷ []) (lined_by h t) w.text w.answers) q l k → Comes f w q l (4 + k)
+  lines_by true ps lies q l k next = lines lies.0 lies.1 q l k next
+  lines_by false ps lies q l k next = looser f w q q l k (4 + k) (omega arith) (λ u x. x) (next w (here h))

@@ -7,12 +7,11 @@ use Rattle.tb_lower.specs.Ranges.{AreInRange}
 use Rattle.tb_lower.specs.Slots.{Instr, Store, Slots, SlotCode}
 use Rattle.tb_lower.specs.Steps.{Goes}
 use Rattle.tb_reaching.proofs.Comes.{looser}
-use Rattle.tb_reaching.specs.View.{Comes, Fits, Setup, View}
+use Rattle.tb_reaching.specs.View.{Comes, Fits, View}
 use Rattle.tb_runtime16.specs.Laws.{AllBytes}
 use Rattle.tb_runtime16.specs.Routines.{WordAt}
 use Rattle.tb_runtime16.specs.Places.{HELD}
 use Rattle.tb_templates.specs.Templates.{slot_at}
-use Rattle.tb_keeping.specs.Layout.{Layout}
 use Rattle.tb_keeping.proofs.Frames.{put_away, word_kept, word_put}
 use Rattle.tb_keeping.proofs.Joins.{sent_in}
 use Rattle.tb_keeping.proofs.Pieces.{put_word}
@@ -31,6 +30,7 @@ use Rattle.tb_grouping.proofs.Landing.{DestFits, Elsewhere, home_kept, state_lan
 use Rattle.tb_grouping.proofs.Operands.{OperandFits, operand_held, operand_grounded, dest_in_data, range_fetch}
 use Rattle.tb_grouping.proofs.Sums.{brings}
 use Rattle.tb_grouping.proofs.Ready.{Ready, here, stood}
+use Rattle.tb_grouping.proofs.Surroundings.{Surroundings}
 
 -- the list with its parts bracketed to the right
 abbrev pub spread_move : Operand → Home → List Instr → List Instr
@@ -84,7 +84,9 @@ held_kept a (IntoVariable x) is s r m m' fit h w e q =
     subst (λ v. WordAt m' HELD v) (sym (fetched_held s r 0 a))
     (word_kept m m' HELD r.held (e HELD (λ q. omega (arith, q, fit)) (λ q. omega (arith, q, fit))) (e (HELD + 1) (λ q. omega (arith, q, fit)) (λ q. omega (arith, q, fit))) (h.held (fetch_held 0 a (Store x ∷ is) ∙ q)))
 
-module _ (ly : Layout) (f : Setup) (lo hi keys : ℕ) (fits : Fits f 16) (code : SlotCode) (n : ℕ) (a : Operand) (home : Home) (is : List Instr) (s : State) (r : Slots) (w : View) (h : Ready ly f lo hi keys fits n (Move a home) (spread_move a home is) is s r w) where
+module _ (around : Surroundings) (fits : Fits around.f 16) (code : SlotCode) (n : ℕ) (a : Operand) (home : Home) (is : List Instr) (s : State) (r : Slots) (w : View) (h : Ready around n (Move a home) (spread_move a home is) is s r w) where
+  open around use {ly, f, lo, hi, keys}
+
   abbrev v : ℕ
   v = fetched s r 0 a
 
@@ -126,15 +128,15 @@ module _ (ly : Layout) (f : Setup) (lo hi keys : ℕ) (fits : Fits f 16) (code :
       by (IntoVariable x) = refl
       by IntoHeld = refl
 
-  pub move_law : Comes f w (Target ly f lo hi keys (steps code (expand (Move a home)) (line code n (spread_move a home is) s r))) (sent_in (steps code (expand (Move a home)) (line code n (spread_move a home is) s r))) 4
+  pub move_law : Comes f w (Target around (steps code (expand (Move a home)) (line code n (spread_move a home is) s r))) (sent_in (steps code (expand (Move a home)) (line code n (spread_move a home is) s r))) 4
   move_law =
       let text = brought (source_of 0 a) (home_at home) in
       let behind : w.regs.pc + (size text + 0) ≡ w.regs.pc + size text = omega arith in
-      subst (λ x. Comes f w (Target ly f lo hi keys x) (sent_in x) 4) (sym (move_goes code n a home is s r h.read.all_words))
+      subst (λ x. Comes f w (Target around x) (sent_in x) 4) (sym (move_goes code n a home is s r h.read.all_words))
       (looser f w _ _ [] 4 4 (omega arith)
-      (stood ly f lo hi keys fits code n h.small is (landed (IntoHome home) v s) (moved s r a home) (w.regs.pc + size text) after w.text w.answers (subst (λ p. GroupsLie ly f.code n p (select is)) behind h.rest)
+      (stood around code n h.small is (landed (IntoHome home) v s) (moved s r a home) (w.regs.pc + size text) after w.text w.answers (subst (λ p. GroupsLie ly f.code n p (select is)) behind h.rest)
       (state_landed ly s w.mem after (IntoHome home) v fit.1 h.state there away) read_on
-      (homed_kept ly f lo hi keys fits w.mem after (home_kept (IntoHome home) fit.1 w.mem after away) h.homed)
+      (homed_kept w.mem after (home_kept (IntoHome home) fit.1 w.mem after away) h.homed)
       (h.text ∙ sym texts) (h.answers ∙ sym gets)
       (record { short = subst (λ t. length t ≤ keys) (sym texts) h.short.short; text_bytes = subst AllBytes (sym texts) h.short.text_bytes; answer_bytes = subst AllBytes (sym gets) h.short.answer_bytes }))
-      (brings f 16 fits w.regs.pc (lo ∷ hi ∷ []) w.mem w.text w.answers refl (source_of 0 a) (home_at home) h.lies.0 (operand_grounded 0 a (IntoHome home) (omega arith) fit.0) (dest_in_data (IntoHome home) fit.1) h.lies.1 w (here ly f lo hi keys fits w [] [] h.stack h.binary)))
+      (brings f 16 fits w.regs.pc (lo ∷ hi ∷ []) w.mem w.text w.answers refl (source_of 0 a) (home_at home) h.lies.0 (operand_grounded 0 a (IntoHome home) (omega arith) fit.0) (dest_in_data (IntoHome home) fit.1) h.lies.1 w (here h)))

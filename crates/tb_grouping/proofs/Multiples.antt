@@ -14,27 +14,27 @@ use Rattle.tb_reaching.proofs.Instr.{Stands}
 use Rattle.tb_reaching.proofs.Memory.{put_other, put_same}
 use Rattle.tb_reaching.specs.View.{Comes, Fits, Setup, View}
 use Rattle.tb_runtime16.specs.Places.{LEFT}
-use Rattle.tb_runtime16.specs.Routines.{Here, Moves, WithA, is_owned}
-use Rattle.tb_keeping.specs.Layout.{Layout}
-use Rattle.tb_keeping.proofs.Joins.{sent_in}
+use Rattle.tb_runtime16.specs.Routines.{Here, Moves, WithA}
 use Rattle.tb_keeping.proofs.Resolved.{Code, Lies, highest_code, pieces_size, size}
-use Rattle.tb_selection.specs.Groups.{Operand, Destination, Calculate, slot_of}
+use Rattle.tb_selection.specs.Groups.{Operand, Destination, Calculate}
 use Rattle.tb_selection.specs.Liveness.{live}
 use Rattle.tb_selection.specs.Select.{select}
 use Rattle.tb_templates.specs.declared.sources.Source.{Source}
 use Rattle.tb_templates.specs.declared.sources.Source.TheVariants.{FixedWord, AtPlace}
 use Rattle.tb_templates.specs.Sources.{destination_at}
-use Rattle.tb_grouping.proofs.Calculations.{Leads}
 use Rattle.tb_grouping.proofs.Coded.{GroupsLie, begun, by_bit, by_bits, doubled, high, increased, low, low_first, times}
 use Rattle.tb_grouping.proofs.Halves.{by_even, by_odd, double_high, double_low, sum_high, sum_low}
-use Rattle.tb_grouping.proofs.Lone.{kept, kept_scratch, word_lands}
-use Rattle.tb_grouping.proofs.Matching.{Matches, Target}
-use Rattle.tb_grouping.proofs.Operands.{CalcFits, SourceHolds, calc_fits, dest_beyond}
+use Rattle.tb_grouping.proofs.Lone.{kept, kept_scratch}
+use Rattle.tb_grouping.proofs.Matching.{Matches}
+use Rattle.tb_grouping.proofs.Operands.{SourceHolds, dest_beyond}
 use Rattle.tb_grouping.proofs.Ready.{Ready, here}
 use Rattle.tb_grouping.proofs.ShiftSteps.{begins, doubles, ends_low, increases, size_append, stands_split}
-use Rattle.tb_grouping.proofs.SlotSide.{calculate_goes, calculate_lasting, calculated, fetched, landed, line, spread, with_fetched}
+use Rattle.tb_grouping.proofs.SlotSide.{calculated, landed, line, spread}
 use Rattle.tb_grouping.proofs.Sources.{value}
 use Rattle.tb_grouping.proofs.Sums.{Away, Grounded, high_read, low_read}
+use Rattle.tb_grouping.proofs.Surroundings.{Surroundings}
+use Rattle.tb_grouping.proofs.Calculated.{Leads, calculation, fit, leads_on, result_lands}
+use Rattle.tb_keeping.proofs.Returning.{apart}
 
 module _ (f : Setup) (room : ℕ) (fits : Fits f room) (bs : List ℕ) (m : ℕ → ℕ) (keys gets : List ℕ) (small : leb (length bs) room ≡ true) where
   -- the low byte of a word in A and its high byte in LEFT; the rest of the memory is m
@@ -188,49 +188,37 @@ module _ (f : Setup) (room : ℕ) (fits : Fits f room) (bs : List ℕ) (m : ℕ 
           (chained f w _ q [] [] 3 (9 * 15 + j) (begins f room fits at bs m keys gets small a (omega (arith, r, sizes)) ga (low_still (with_byte m LEFT h) still a away) s1.0 w e) (λ u g.
           bits_then 15 factor p1 some (omega (arith, few, all)) (omega (arith, r, sizes)) s2.0 q j next u (begun_here u g)))
 
-module _ (ly : Layout) (f : Setup) (lo hi keys : ℕ) (fits : Fits f 16) (code : SlotCode) (n : ℕ) (a b : Operand) (d : Destination) (is : List Instr) (s : State) (r : Slots) (w : View) (h : Ready ly f lo hi keys fits n (Calculate op.Multiply a b d) (spread op.Multiply a b d is) is s r w) where
-  abbrev k : ℕ
-  k = slot_of d
-
-  abbrev js : List Instr
-  js = spread op.Multiply a b d is
+module _ {around : Surroundings} (fits : Fits around.f 16) (code : SlotCode) {n : ℕ} {a b : Operand} {d : Destination} {is : List Instr} {s : State} {r : Slots} {w : View} (h : Ready around n (Calculate op.Multiply a b d) (spread op.Multiply a b d is) is s r w)
+    (factor : ℕ) (some : 1 ≤ factor) (few : factor < 65536) (c : Source) (z : ℕ) (gc : Grounded c LEFT) (away : Away c) (hc : SourceHolds w.mem c z)
+    (lies : Lies around.f.code w.regs.pc (Code (times factor c (destination_at d)) ∷ [])) (rest : GroupsLie around.ly around.f.code n (w.regs.pc + pieces_size (Code (times factor c (destination_at d)) ∷ [])) (select is)) where
+  open around use {ly, f, lo, hi}
+  open calculation a b d s r use {x, y, to}
 
   abbrev own : List ℕ
   own = lo ∷ hi ∷ []
 
-  abbrev to : ℕ
-  to = destination_at d
-
   abbrev product : ℕ
-  product = word (fetched s r k a * fetched s r (k + 1) b)
+  product = word (x * y)
 
-  fit : CalcFits a b d
-  fit = calc_fits op.Multiply a b d h.ranged
+  -- where the result is stored
+  abbrev at : ℕ
+  at = p2 f 16 fits own w.mem w.text w.answers refl c z gc away hc w.regs.pc factor some few to lies.0 lies.1
 
-  module _ (factor : ℕ) (some : 1 ≤ factor) (few : factor < 65536) (c : Source) (x : ℕ) (gc : Grounded c LEFT) (away : Away c) (hc : SourceHolds w.mem c x) (same : product ≡ word (x * factor)) (lies : Lies f.code w.regs.pc (Code (times factor c to) ∷ [])) (rest : GroupsLie ly f.code n (w.regs.pc + pieces_size (Code (times factor c to) ∷ [])) (select is)) where
-    -- where the result is stored
-    abbrev at : ℕ
-    at = p2 f 16 fits own w.mem w.text w.answers refl c x gc away hc w.regs.pc factor some few to lies.0 lies.1
+  end_here : at + 8 ≡ w.regs.pc + size (times factor c to)
+  end_here = end_is f 16 fits own w.mem w.text w.answers refl c z gc away hc w.regs.pc factor some few to lies.0 lies.1
 
-    end_here : at + 8 ≡ w.regs.pc + size (times factor c to)
-    end_here = end_is f 16 fits own w.mem w.text w.answers refl c x gc away hc w.regs.pc factor some few to lies.0 lies.1
+  behind : GroupsLie ly f.code n (at + 8) (select is)
+  behind = subst (λ p. GroupsLie ly f.code n p (select is)) (let e = end_here in let q : w.regs.pc + (size (times factor c to) + 0) ≡ at + 8 = omega (arith, e) in q) rest
 
-    behind : GroupsLie ly f.code n (at + 8) (select is)
-    behind = subst (λ p. GroupsLie ly f.code n p (select is)) (let e = end_here in let q : w.regs.pc + (size (times factor c to) + 0) ≡ at + 8 = omega (arith, e) in q) rest
+  lands : Moves f (LowInA f 16 fits own w.mem w.text w.answers refl at product) (Matches around (line code n is (landed d product s) (calculated s r a b d product))) [] 3
+  lands u g =
+      looser f u _ _ [] 3 3 (omega arith)
+      (result_lands h code product u.regs.a (u.mem LEFT) (at + 8) u.mem g.low g.high g.is_word behind (kept_scratch around (live (spread op.Multiply a b d is)) s r w.mem u.mem h.some_read (λ p o. g.others p (apart p LEFT o refl)) (kept h)))
+      (ends_low f 16 fits at own u.mem w.text w.answers refl u.regs.a to (let e = end_here in omega (arith, e, lies.0)) (dest_beyond d (fit h).dest) (last_stands f 16 fits own w.mem w.text w.answers refl c z gc away hc w.regs.pc factor some few to lies.0 lies.1) u (record { here = g.here; number = refl }))
 
-    lands : Moves f (LowInA f 16 fits own w.mem w.text w.answers refl at product) (Matches ly f lo hi keys (line code n is (landed d product s) (calculated s r a b d product))) [] 3
-    lands u g =
-        let still = kept_scratch ly f lo hi keys fits (live js) s r w.mem u.mem h.some_read (λ p o. g.others p (λ q. apart p o q)) (kept ly f lo hi keys fits n _ js is s r w h) in
-        looser f u _ _ [] 3 3 (omega arith)
-        (word_lands ly f lo hi keys fits code n h.small (live js) d is s r (with_fetched s (with_fetched s r k a) (k + 1) b) product u.regs.a (u.mem LEFT) (at + 8) u.mem w.text w.answers g.low g.high g.is_word fit.dest (calculate_lasting op.Multiply a b d is s r h.free) behind still h.text h.answers h.short)
-        (ends_low f 16 fits at own u.mem w.text w.answers refl u.regs.a to (let e = end_here in omega (arith, e, lies.0)) (dest_beyond d fit.dest) (last_stands f 16 fits own w.mem w.text w.answers refl c x gc away hc w.regs.pc factor some few to lies.0 lies.1) u (record { here = g.here; number = refl }))
-      where
-        apart : (p : ℕ) → is_owned p ≡ true → p ≢ LEFT
-        apart p o e = let no : is_owned LEFT ≡ true = ap is_owned (sym e) ∙ o in cc
-
-    pub times_law : Leads ly f lo hi keys fits code n a b d is s r w op.Multiply 141
-    times_law =
-        subst (λ z. Comes f w (Target ly f lo hi keys z) (sent_in z) 141) (sym (calculate_goes code n op.Multiply a b d is s r h.read.all_words fit.slot product refl))
-        (multiplies_then f 16 fits own w.mem w.text w.answers refl c x gc away hc w.regs.pc factor some few to lies.0 lies.1 _ 3
-        (λ u g. lands u (subst (λ q. LowInA f 16 fits own w.mem w.text w.answers refl at q u) (sym same) g))
-        w (here ly f lo hi keys fits w [] [] h.stack h.binary))
+  pub times_law : product ≡ word (z * factor) → Leads h code 141
+  times_law same =
+      leads_on h code product 141 refl
+      (multiplies_then f 16 fits own w.mem w.text w.answers refl c z gc away hc w.regs.pc factor some few to lies.0 lies.1 _ 3
+      (λ u g. lands u (subst (λ q. LowInA f 16 fits own w.mem w.text w.answers refl at q u) (sym same) g))
+      w (here h))

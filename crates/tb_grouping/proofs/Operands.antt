@@ -4,6 +4,7 @@ use Rattle.tb_syntax.specs.declared.expressions.Operator.{Operator}
 use Rattle.tb_lower.specs.Control.{State}
 use Rattle.tb_lower.specs.Ranges.{AreInRange}
 use Rattle.tb_lower.specs.Slots.{Instr, Compute, Slots}
+use Rattle.tb_keeping.proofs.Mirrors.{HoldsState}
 use Rattle.tb_keeping.specs.Layout.{Layout}
 use Rattle.tb_keeping.proofs.Pieces.{InData, word_in_data}
 use Rattle.tb_selection.specs.declared.liveness.Live.{Live}
@@ -13,7 +14,7 @@ use Rattle.tb_templates.specs.Templates.{slot_at, var_at}
 use Rattle.tb_templates.specs.declared.sources.Source.{Source}
 use Rattle.tb_templates.specs.Sources.{source_of, destination_at}
 use Rattle.tb_grouping.proofs.Coded.{low, high}
-use Rattle.tb_grouping.proofs.Matching.{HoldsState, HoldsLive}
+use Rattle.tb_grouping.proofs.Matching.{HoldsLive}
 use Rattle.tb_grouping.proofs.SlotSide.{fetched, StandsIn}
 use Rattle.tb_grouping.proofs.Landing.{DestFits}
 use Rattle.tb_grouping.proofs.Sums.{Grounded, Away}

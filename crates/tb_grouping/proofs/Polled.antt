@@ -11,12 +11,12 @@ use Rattle.tb_reaching.proofs.Barred.{Enters, opened}
 use Rattle.tb_reaching.proofs.Comes.{chained, looser}
 use Rattle.tb_reaching.proofs.Services.{served_last}
 use Rattle.tb_reaching.specs.Start.{IsHome}
-use Rattle.tb_reaching.specs.View.{Comes, Fits, Setup, View, view}
+use Rattle.tb_reaching.specs.View.{Comes, Fits, View, view}
 use Rattle.tb_runtime16.specs.Laws.{AllBytes}
-use Rattle.tb_runtime16.specs.Routines.{Here, Moves, Routines, WithA}
-use Rattle.tb_keeping.specs.Layout.{Layout, place_at}
+use Rattle.tb_runtime16.specs.Routines.{Here, Moves, WithA}
+use Rattle.tb_keeping.specs.Layout.{place_at}
 use Rattle.tb_keeping.proofs.Joins.{LawAt, sent_in}
-use Rattle.tb_keeping.proofs.Mirrors.{Flagged, Typable}
+use Rattle.tb_keeping.proofs.Mirrors.{Flagged, HoldsState, Typable}
 use Rattle.tb_keeping.proofs.Pieces.{calls, moves_looser, moves_then, whatever}
 use Rattle.tb_keeping.proofs.Resolved.{Lies, highest_code}
 use Rattle.tb_keeping.proofs.Returning.{behind_call}
@@ -28,12 +28,13 @@ use Rattle.tb_grouping.proofs.Sources.{Fixed, compares_byte}
 use Rattle.tb_grouping.proofs.Branches.{branch_behind, branches}
 use Rattle.tb_grouping.proofs.Faults.{faults_at}
 use Rattle.tb_grouping.proofs.Coded.{BranchReaches, GroupsLaid, GroupsLie, LineStands, Way, Zero, way_size}
-use Rattle.tb_grouping.proofs.Matching.{HoldsState, HoldsLive, Matches, Target}
+use Rattle.tb_grouping.proofs.Matching.{HoldsLive, Matches, Target}
 use Rattle.tb_grouping.proofs.SlotSide.{line, next}
 use Rattle.tb_grouping.proofs.Beginnings.{nothing_read, line_step}
 use Rattle.tb_grouping.proofs.Ready.{stood}
 use Rattle.tb_grouping.proofs.Stepping.{fused_by}
 use Rattle.tb_grouping.proofs.Tests.{same_byte}
+use Rattle.tb_grouping.proofs.Surroundings.{Serves, Surroundings}
 
 -- ---- what a poll does
 select_poll : (is : List Instr) → select (Poll ∷ is) ≡ Single Poll ∷ select is
@@ -59,7 +60,9 @@ module _ (code : SlotCode) (n : ℕ) (is : List Instr) (s : State) (r : Slots) w
       by [] = refl
       by (a ∷ l) = decide a l (nat_eq a 3)
 
-module _ (ly : Layout) (f : Setup) (lo hi keys : ℕ) (fits : Fits f 16) (limit : ℕ) (rs : Routines ly.table ly.seed ly.numbers ly.start f lo hi keys limit) (code : SlotCode) where
+module _ (around : Surroundings) (fits : Fits around.f 16) (limit : ℕ) (rs : Serves around limit) (code : SlotCode) where
+  open around use {ly, f, lo, hi, keys}
+
   abbrev own : List ℕ
   own = lo ∷ hi ∷ []
 
@@ -67,9 +70,9 @@ module _ (ly : Layout) (f : Setup) (lo hi keys : ℕ) (fits : Fits f 16) (limit 
   asks : (at : ℕ) (m : ℕ → ℕ) (text answers : List ℕ) → at + 3 ≤ highest_code → Moves f (Here 0xFFE4 ((at + 2) % 256 ∷ (at + 2) / 256 ∷ own) m text answers) (WithA (at + 3) (first_or_zero answers) own m text (drop 1 answers)) [] 1
   asks at m text answers b = whatever f 16 fits 0xFFE4 ((at + 2) % 256 ∷ (at + 2) / 256 ∷ own) m text answers _ [] 1 (λ a x y n v i z c.
       served_last f 16 fits Getin (view a x y n v i z c 0xFFE4 ((at + 2) % 256 ∷ (at + 2) / 256 ∷ own) m text answers) ((at + 2) % 256) ((at + 2) / 256) own _ refl refl refl refl
-      (λ j. record { here = record { pc = behind_call ly f lo hi keys fits at b; stack = refl; binary = refl; mem = refl; text = refl; answers = refl }; number = refl }))
+      (λ j. record { here = record { pc = behind_call at b; stack = refl; binary = refl; mem = refl; text = refl; answers = refl }; number = refl }))
 
-  module _ (n : ℕ) (small : n < 65536) (is : List Instr) (s : State) (r : Slots) (closed : AreClosed code) (some : content_at code n ≡ Some (Poll ∷ is)) (w : View) (h : Matches ly f lo hi keys (record { state = s; rest = Whole; slots = r }) w) (lies : LineStands ly f.code f.whole n (ly.start n) is) where
+  module _ (n : ℕ) (small : n < 65536) (is : List Instr) (s : State) (r : Slots) (closed : AreClosed code) (some : content_at code n ≡ Some (Poll ∷ is)) (w : View) (h : Matches around (record { state = s; rest = Whole; slots = r }) w) (lies : LineStands ly f.code f.whole n (ly.start n) is) where
     abbrev at : ℕ
     at = ly.start n
 
@@ -111,16 +114,16 @@ module _ (ly : Layout) (f : Setup) (lo hi keys : ℕ) (fits : Fits f 16) (limit 
     breaks : Moves f (Flagged near own w.mem s.text (drop 1 s.answers) true) (IsHome f) (fault_text 0 n) (2 + (4 + limit))
     breaks =
         moves_then f _ _ _ [] (fault_text 0 n) 2 (4 + limit) (parts true)
-        (faults_at ly f lo hi keys fits limit rs n 0 small (omega arith) away w.mem s.text (drop 1 s.answers) lies.6 h.homed)
+        (faults_at around fits limit rs n 0 small (omega arith) away w.mem s.text (drop 1 s.answers) lies.6 h.homed)
 
     -- no break
-    goes_on : (s' : State) → s'.text ≡ s.text → drop 1 s.answers ≡ s'.answers → HoldsState ly s' w.mem → Typable keys s'.text s'.answers → Moves f (Flagged near own w.mem s.text (drop 1 s.answers) false) (Matches ly f lo hi keys (line code n is s' r)) [] 2
+    goes_on : (s' : State) → s'.text ≡ s.text → drop 1 s.answers ≡ s'.answers → HoldsState ly s' w.mem → Typable keys s'.text s'.answers → Moves f (Flagged near own w.mem s.text (drop 1 s.answers) false) (Matches around (line code n is s' r)) [] 2
     goes_on s' et ea hs short = moves_looser f _ _ _ [] 2 2 (omega arith)
-        (stood ly f lo hi keys fits code n small is s' r onward w.mem s.text (drop 1 s.answers) rest hs (subst (λ u. HoldsLive u r w.mem) (sym (closed n (Poll ∷ is) some)) (nothing_read r w.mem h.read.all_words)) h.homed (sym et) ea short)
+        (stood around code n small is s' r onward w.mem s.text (drop 1 s.answers) rest hs (subst (λ u. HoldsLive u r w.mem) (sym (closed n (Poll ∷ is) some)) (nothing_read r w.mem h.read.all_words)) h.homed (sym et) ea short)
         (parts false)
 
     abbrev Led : Step SlotState → Type 0
-    Led x = Moves f (WithA (at + 3) stop own w.mem s.text (drop 1 s.answers)) (Target ly f lo hi keys x) (sent_in x) (10 + limit)
+    Led x = Moves f (WithA (at + 3) stop own w.mem s.text (drop 1 s.answers)) (Target around x) (sent_in x) (10 + limit)
 
     with_answers : (l : List ℕ) → HoldsState ly (record s { answers = l }) w.mem
     with_answers l = let k = h.state in record { vars = k.vars; column = k.column; opened = k.opened; seeded = k.seeded; count = k.count; notes = k.notes; few = k.few; all_vars = k.all_vars }
@@ -148,9 +151,9 @@ module _ (ly : Layout) (f : Setup) (lo hi keys : ℕ) (fits : Fits f 16) (limit 
     same_step here = line_step code n (Poll ∷ is) s r here some ∙ ap (λ gs. first code gs (line code n (Poll ∷ is) s r)) (select_poll is) ∙ polls code n is s r
 
     -- the law of the line's beginning
-    pub line_law : s.place ≡ At n → Enters f w (Target ly f lo hi keys (first_group code (record { state = s; rest = Whole; slots = r }))) (sent_in (first_group code (record { state = s; rest = Whole; slots = r }))) (34 + (limit + limit))
+    pub line_law : s.place ≡ At n → Enters f w (Target around (first_group code (record { state = s; rest = Whole; slots = r }))) (sent_in (first_group code (record { state = s; rest = Whole; slots = r }))) (34 + (limit + limit))
     line_law here =
-        subst (λ x. Enters f w (Target ly f lo hi keys x) (sent_in x) (34 + (limit + limit))) (sym (same_step here))
+        subst (λ x. Enters f w (Target around x) (sent_in x) (34 + (limit + limit))) (sym (same_step here))
         (record {
           rest = 1 + (10 + limit);
           few = omega arith;
@@ -160,7 +163,7 @@ module _ (ly : Layout) (f : Setup) (lo hi keys : ℕ) (fits : Fits f 16) (limit 
         })
 
   -- ---- any place
-  module _ (closed : AreClosed code) (laid : GroupsLaid ly f.code f.whole code) (s : State) (r : Slots) (w : View) (h : Matches ly f lo hi keys (record { state = s; rest = Whole; slots = r }) w) where
+  module _ (closed : AreClosed code) (laid : GroupsLaid ly f.code f.whole code) (s : State) (r : Slots) (w : View) (h : Matches around (record { state = s; rest = Whole; slots = r }) w) where
     abbrev whole : SlotState
     whole = record { state = s; rest = Whole; slots = r }
 
@@ -169,15 +172,15 @@ module _ (ly : Layout) (f : Setup) (lo hi keys : ℕ) (fits : Fits f 16) (limit 
     past_law at =
         let n = highest ly.numbers in
         looser f w _ _ (fault_text 7 n) (4 + limit) (34 + (limit + limit)) (omega arith) (λ u x. x)
-        (faults_at ly f lo hi keys fits limit rs n 7 laid.top (omega arith) ly.past w.mem w.text w.answers laid.past h.homed w (record { pc = at; stack = h.stack; binary = h.binary; mem = refl; text = refl; answers = refl }))
+        (faults_at around fits limit rs n 7 laid.top (omega arith) ly.past w.mem w.text w.answers laid.past h.homed w (record { pc = at; stack = h.stack; binary = h.binary; mem = refl; text = refl; answers = refl }))
 
     -- no line there: fault 7
-    no_line : w.regs.pc ≡ ly.past → first_group code whole ≡ Stops Faulted (fault_text 7 (highest (numbers code))) → LawAt Whole f w (Target ly f lo hi keys (first_group code whole)) (sent_in (first_group code whole)) (34 + (limit + limit))
+    no_line : w.regs.pc ≡ ly.past → first_group code whole ≡ Stops Faulted (fault_text 7 (highest (numbers code))) → LawAt Whole f w (Target around (first_group code whole)) (sent_in (first_group code whole)) (34 + (limit + limit))
     no_line at e =
-        subst (λ x. LawAt Whole f w (Target ly f lo hi keys x) (sent_in x) (34 + (limit + limit))) (sym e)
+        subst (λ x. LawAt Whole f w (Target around x) (sent_in x) (34 + (limit + limit))) (sym e)
         (inl (subst (λ ns. Comes f w (IsHome f) (fault_text 7 (highest ns)) (34 + (limit + limit))) (sym laid.numbered) (past_law at)))
 
-    at_number : (n : ℕ) → s.place ≡ At n → (o : Option (List Instr)) → content_at code n ≡ o → LawAt Whole f w (Target ly f lo hi keys (first_group code whole)) (sent_in (first_group code whole)) (34 + (limit + limit))
+    at_number : (n : ℕ) → s.place ≡ At n → (o : Option (List Instr)) → content_at code n ≡ o → LawAt Whole f w (Target around (first_group code whole)) (sent_in (first_group code whole)) (34 + (limit + limit))
     at_number n here None e =
         no_line (h.pc ∙ ap (place_at ly) here ∙ laid.absent n e)
         (ap (λ p. first code (select (ahead code Whole p)) whole) here ∙ ap (λ o. first code (select (or_empty o)) whole) e ∙ ap (λ p. instr_at code Whole p s r) here ∙ ap (λ o. instr_found (numbers code) n o s r) e)
@@ -185,12 +188,12 @@ module _ (ly : Layout) (f : Setup) (lo hi keys : ℕ) (fits : Fits f 16) (limit 
         let p = laid.lines n js e in
         inr (line_law n p.small p.rest s r closed (e ∙ ap (λ l. Some l) p.polled) w h p.stands here)
 
-    by_place : (p : Place) → s.place ≡ p → LawAt Whole f w (Target ly f lo hi keys (first_group code whole)) (sent_in (first_group code whole)) (34 + (limit + limit))
+    by_place : (p : Place) → s.place ≡ p → LawAt Whole f w (Target around (first_group code whole)) (sent_in (first_group code whole)) (34 + (limit + limit))
     by_place (At n) here = at_number n here (content_at code n) refl
     by_place Past here =
         no_line (h.pc ∙ ap (place_at ly) here)
         (ap (λ p. first code (select (ahead code Whole p)) whole) here ∙ ap (λ p. instr_at code Whole p s r) here)
 
     -- the law where nothing of a line is left to be done
-    pub lines_law : LawAt Whole f w (Target ly f lo hi keys (first_group code whole)) (sent_in (first_group code whole)) (34 + (limit + limit))
+    pub lines_law : LawAt Whole f w (Target around (first_group code whole)) (sent_in (first_group code whole)) (34 + (limit + limit))
     lines_law = by_place s.place refl

@@ -3,11 +3,10 @@ use Rattle.std.proofs.Common.{◌≡◌, ℕ, ◌+◌, ◌≤◌, ◌<◌, true,
 use Rattle.tb_lower.specs.Control.{State}
 use Rattle.tb_lower.specs.Ranges.{AreInRange}
 use Rattle.tb_lower.specs.Slots.{Instr, Slots, SlotCode}
-use Rattle.tb_reaching.specs.View.{Comes, Fits, Setup, View}
+use Rattle.tb_reaching.specs.View.{Comes, View}
 use Rattle.tb_runtime16.specs.Routines.{Entered, Here}
-use Rattle.tb_keeping.specs.Layout.{Layout}
 use Rattle.tb_keeping.proofs.Joins.{sent_in}
-use Rattle.tb_keeping.proofs.Mirrors.{Typable}
+use Rattle.tb_keeping.proofs.Mirrors.{HoldsState, Typable}
 use Rattle.tb_keeping.proofs.Resolved.{Lies, pieces_size}
 use Rattle.tb_selection.specs.Groups.{IntoVariable, IntoHeld, Destination, IntoSlot, IntoHome, Group, expand, expand_all}
 use Rattle.tb_selection.specs.Liveness.{live}
@@ -18,10 +17,17 @@ use Rattle.tb_selection.specs.Laws.{AreChosen}
 use Rattle.tb_selection.proofs.Chosen.{chosen}
 use Rattle.tb_grouping.proofs.Coded.{Way, group_code, Behind, GroupsLie, BranchesReach}
 use Rattle.tb_grouping.proofs.Few.{groups_few, range_few, range_split}
-use Rattle.tb_grouping.proofs.Matching.{HoldsState, HoldsLive, Matches, Target}
+use Rattle.tb_grouping.proofs.Matching.{HoldsLive, Matches, Target}
 use Rattle.tb_grouping.proofs.SlotSide.{line, landed}
+use Rattle.tb_grouping.proofs.Surroundings.{Surroundings}
 
-module _ (ly : Layout) (f : Setup) (lo hi keys : ℕ) (fits : Fits f 16) where
+-- the list is the group's and the one behind it
+pub parted : (g : Group) (gs : List Group) (js : List Instr) → select js ≡ g ∷ gs → js ≡ expand g ++ expand_all gs
+parted g gs js e = sym (brackets js) ∙ ap expand_all e
+
+module _ (around : Surroundings) where
+  open around use {ly, f, lo, hi, keys}
+
   -- a view at the beginning of a group of line n, with the list js from there on and is behind the group
   pub record Ready (n : ℕ) (g : Group) (js is : List Instr) (s : State) (r : Slots) (w : View) : Type 0 where
     pub small : n < 65536
@@ -46,7 +52,7 @@ module _ (ly : Layout) (f : Setup) (lo hi keys : ℕ) (fits : Fits f 16) where
     pub short : Typable keys s.text s.answers
 
   -- the relation gives it of the first group
-  pub ready : (code : SlotCode) (n : ℕ) (g : Group) (gs : List Group) (js : List Instr) (s : State) (r : Slots) (w : View) → select js ≡ g ∷ gs → Matches ly f lo hi keys (line code n js s r) w → Ready n g js (expand_all gs) s r w
+  pub ready : (code : SlotCode) (n : ℕ) (g : Group) (gs : List Group) (js : List Instr) (s : State) (r : Slots) (w : View) → select js ≡ g ∷ gs → Matches around (line code n js s r) w → Ready n g js (expand_all gs) s r w
   ready code n g gs js s r w e h =
       let lies : GroupsLie ly f.code n w.regs.pc (g ∷ gs) = subst (GroupsLie ly f.code n w.regs.pc) e h.pc.0 in
       let good : AreChosen (g ∷ gs) = subst AreChosen e (chosen js) in
@@ -75,19 +81,12 @@ module _ (ly : Layout) (f : Setup) (lo hi keys : ℕ) (fits : Fits f 16) where
       }
 
   -- and a law of its slot steps is one of the group's step
-  pub opened : (code : SlotCode) (n : ℕ) (g : Group) (gs : List Group) (js : List Instr) (s : State) (r : Slots) (w : View) (k : ℕ) → select js ≡ g ∷ gs → Comes f w (Target ly f lo hi keys (steps code (expand g) (line code n js s r))) (sent_in (steps code (expand g) (line code n js s r))) k → Comes f w (Target ly f lo hi keys (first_group code (line code n js s r))) (sent_in (first_group code (line code n js s r))) k
+  pub opened : (code : SlotCode) (n : ℕ) (g : Group) (gs : List Group) (js : List Instr) (s : State) (r : Slots) (w : View) (k : ℕ) → select js ≡ g ∷ gs → Comes f w (Target around (steps code (expand g) (line code n js s r))) (sent_in (steps code (expand g) (line code n js s r))) k → Comes f w (Target around (first_group code (line code n js s r))) (sent_in (first_group code (line code n js s r))) k
   opened code n g gs js s r w k e h =
-      subst (λ l. Comes f w (Target ly f lo hi keys (first code l (line code n js s r))) (sent_in (first code l (line code n js s r))) k) (sym e) h
-
-  -- the list is the group's and the one behind it
-  pub parted : (g : Group) (gs : List Group) (js : List Instr) → select js ≡ g ∷ gs → js ≡ expand g ++ expand_all gs
-  parted g gs js e = sym (brackets js) ∙ ap expand_all e
+      subst (λ l. Comes f w (Target around (first code l (line code n js s r))) (sent_in (first code l (line code n js s r))) k) (sym e) h
 
   -- ---- behind a group
-  pub here : (w : View) (text answers : List ℕ) → w.stack ≡ lo ∷ hi ∷ [] → w.regs.flags.d ≡ false → Here w.regs.pc (lo ∷ hi ∷ []) w.mem w.text w.answers w
-  here w text answers st bi = record { pc = refl; stack = st; binary = bi; mem = refl; text = refl; answers = refl }
-
-  pub stood : (code : SlotCode) (n : ℕ) → n < 65536 → (is : List Instr) (s : State) (r : Slots) (at : ℕ) (m : ℕ → ℕ) (t gets : List ℕ) → GroupsLie ly f.code n at (select is) → HoldsState ly s m → HoldsLive (live is) r m → Entered f lo hi m → t ≡ s.text → gets ≡ s.answers → Typable keys s.text s.answers → (w : View) → Here at (lo ∷ hi ∷ []) m t gets w → Matches ly f lo hi keys (line code n is s r) w
+  pub stood : (code : SlotCode) (n : ℕ) → n < 65536 → (is : List Instr) (s : State) (r : Slots) (at : ℕ) (m : ℕ → ℕ) (t gets : List ℕ) → GroupsLie ly f.code n at (select is) → HoldsState ly s m → HoldsLive (live is) r m → Entered f lo hi m → t ≡ s.text → gets ≡ s.answers → Typable keys s.text s.answers → (w : View) → Here at (lo ∷ hi ∷ []) m t gets w → Matches around (line code n is s r) w
   stood code n number is s r at m t gets rl hs hr en text got short w e = record {
     pc = (subst (λ p. GroupsLie ly f.code n p (select is)) (sym e.pc) rl, number);
     stack = e.stack;
@@ -100,12 +99,16 @@ module _ (ly : Layout) (f : Setup) (lo hi keys : ℕ) (fits : Fits f 16) where
     short = short;
   }
 
-  pub landed_text : (d : Destination) (v : ℕ) (s : State) → (landed d v s).text ≡ s.text
-  landed_text (IntoSlot k) v s = refl
-  landed_text (IntoHome (IntoVariable x)) v s = refl
-  landed_text (IntoHome IntoHeld) v s = refl
+-- where it begins
+pub here : {around : Surroundings} {n : ℕ} {g : Group} {js is : List Instr} {s : State} {r : Slots} {w : View} → Ready around n g js is s r w → Here w.regs.pc (around.lo ∷ around.hi ∷ []) w.mem w.text w.answers w
+here h = record { pc = refl; stack = h.stack; binary = h.binary; mem = refl; text = refl; answers = refl }
 
-  pub landed_answers : (d : Destination) (v : ℕ) (s : State) → (landed d v s).answers ≡ s.answers
-  landed_answers (IntoSlot k) v s = refl
-  landed_answers (IntoHome (IntoVariable x)) v s = refl
-  landed_answers (IntoHome IntoHeld) v s = refl
+pub landed_text : (d : Destination) (v : ℕ) (s : State) → (landed d v s).text ≡ s.text
+landed_text (IntoSlot k) v s = refl
+landed_text (IntoHome (IntoVariable x)) v s = refl
+landed_text (IntoHome IntoHeld) v s = refl
+
+pub landed_answers : (d : Destination) (v : ℕ) (s : State) → (landed d v s).answers ≡ s.answers
+landed_answers (IntoSlot k) v s = refl
+landed_answers (IntoHome (IntoVariable x)) v s = refl
+landed_answers (IntoHome IntoHeld) v s = refl

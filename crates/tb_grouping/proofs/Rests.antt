@@ -12,11 +12,10 @@ use Rattle.tb_lower.specs.Steps.{Step, Goes, Stops, Faulted}
 use Rattle.tb_lower.specs.Values.{apply, given}
 use Rattle.tb_reaching.proofs.Comes.{chained, looser}
 use Rattle.tb_reaching.specs.Start.{IsHome}
-use Rattle.tb_reaching.specs.View.{Comes, Fits, Setup, View}
+use Rattle.tb_reaching.specs.View.{Comes, Fits, View}
 use Rattle.tb_runtime16.specs.Places.{DIVIDE_AT, LEFT, LINE, RESULT, RIGHT}
-use Rattle.tb_runtime16.specs.Routines.{Here, Moves, Routines, WordAt}
+use Rattle.tb_runtime16.specs.Routines.{Here, Moves, WordAt}
 use Rattle.tb_runtime16.proofs.Owned.{not_argument}
-use Rattle.tb_keeping.specs.Layout.{Layout}
 use Rattle.tb_keeping.proofs.Frames.{word_put}
 use Rattle.tb_keeping.proofs.Joins.{sent_in}
 use Rattle.tb_keeping.proofs.Pieces.{moves_looser}
@@ -49,6 +48,7 @@ use Rattle.tb_grouping.proofs.Remainders.{rest_is, turned_size}
 use Rattle.tb_grouping.proofs.SlotSide.{IsDead, Lasting, StandsIn, ends, fetch_held, fetch_reads, fetched, fetched_behind, fetches, landed, line, other_slot, same_slot, slots_landed}
 use Rattle.tb_grouping.proofs.Sums.{Grounded, copies, differs}
 use Rattle.tb_grouping.proofs.TestLaws.{lies_parts}
+use Rattle.tb_grouping.proofs.Surroundings.{Serves, Surroundings}
 
 -- the list with its parts bracketed to the right
 abbrev pub spread_remains : ℕ → Operand → Destination → List Instr → List Instr
@@ -192,7 +192,9 @@ sign_bit x h = by (nat_lt 32767 x) refl
     by false e = ne_eqb (x / 256 / 128 % 2) 1 (λ q. omega (arith, q, ltb-false 32767 x e))
 
 -- ---- the law
-module _ (ly : Layout) (f : Setup) (lo hi keys : ℕ) (fits : Fits f 16) (code : SlotCode) (limit : ℕ) (rs : Routines ly.table ly.seed ly.numbers ly.start f lo hi keys limit) (n v : ℕ) (d : Operand) (to : Destination) (is : List Instr) (s : State) (r : Slots) (w : View) (h : Ready ly f lo hi keys fits n (Remains v d to) (spread_remains v d to is) is s r w) where
+module _ (around : Surroundings) (fits : Fits around.f 16) (code : SlotCode) (limit : ℕ) (rs : Serves around limit) (n v : ℕ) (d : Operand) (to : Destination) (is : List Instr) (s : State) (r : Slots) (w : View) (h : Ready around n (Remains v d to) (spread_remains v d to is) is s r w) where
+  open around use {ly, f, lo, hi}
+
   abbrev own : List ℕ
   own = lo ∷ hi ∷ []
 
@@ -227,27 +229,27 @@ module _ (ly : Layout) (f : Setup) (lo hi keys : ℕ) (fits : Fits f 16) (code :
   fit : RemainsFit v d to
   fit = remains_fit v d to h.ranged
 
-  a_holds : (m : ℕ → ℕ) → Kept ly f lo hi keys fits (live js) s r m → SourceHolds m a x
+  a_holds : (m : ℕ → ℕ) → Kept around (live js) s r m → SourceHolds m a x
   a_holds m c = operand_held ly s (live js) r m 0 (Variable v) c.state c.read fit.variable tt
 
-  b_holds : (m : ℕ → ℕ) → Kept ly f lo hi keys fits (live js) s r m → SourceHolds m b y
+  b_holds : (m : ℕ → ℕ) → Kept around (live js) s r m → SourceHolds m b y
   b_holds m c = operand_held ly s (live js) r m (k + 2) d c.state c.read fit.divisor (divisor_read v d to is)
 
-  first : Kept ly f lo hi keys fits (live js) s r w.mem
-  first = kept_first ly f lo hi keys fits n (Remains v d to) js is s r w h
+  first : Kept around (live js) s r w.mem
+  first = kept_first h
 
   -- whether it may fault; behind the line's number, where it may
   abbrev risky : Bool
   risky = may_be_zero b
 
   abbrev at : ℕ
-  at = behind_line ly f lo hi keys fits n (Remains v d to) js is s r w h risky
+  at = behind_line h risky
 
   abbrev m : ℕ → ℕ
-  m = lined_by ly f lo hi keys fits n (Remains v d to) js is s r w h risky
+  m = lined_by h risky
 
-  c : Kept ly f lo hi keys fits (live js) s r m
-  c = kept_by ly f lo hi keys fits n (Remains v d to) js is s r w h risky
+  c : Kept around (live js) s r m
+  c = kept_by h risky
 
   abbrev asking : List Piece
   asking = Code (brought a LEFT) ∷ Code (brought b RIGHT) ∷ Code (call DIVIDE_AT) ∷ []
@@ -263,7 +265,7 @@ module _ (ly : Layout) (f : Setup) (lo hi keys : ℕ) (fits : Fits f 16) (code :
   parts = lies_parts f.code w.regs.pc (rest_asked n a b) signing h.lies
 
   asking_lies : Lies f.code at asking
-  asking_lies = lies_by ly f lo hi keys fits n (Remains v d to) js is s r w h risky asking parts.0
+  asking_lies = lies_by h risky asking parts.0
 
   a_apart : Grounded a LEFT
   a_apart = operand_apart 0 (Variable v) LEFT (omega arith) (omega arith) fit.variable
@@ -271,7 +273,7 @@ module _ (ly : Layout) (f : Setup) (lo hi keys : ℕ) (fits : Fits f 16) (code :
   b_apart : Grounded b RIGHT
   b_apart = operand_apart (k + 2) d RIGHT (omega arith) (let room = fit.room in omega (arith, room)) fit.divisor
 
-  end_by : (t : Bool) → behind_line ly f lo hi keys fits n (Remains v d to) js is s r w h t + pieces_size asking ≡ w.regs.pc + pieces_size (lined_code t n asking)
+  end_by : (t : Bool) → behind_line h t + pieces_size asking ≡ w.regs.pc + pieces_size (lined_code t n asking)
   end_by true = omega arith
   end_by false = refl
 
@@ -282,19 +284,19 @@ module _ (ly : Layout) (f : Setup) (lo hi keys : ℕ) (fits : Fits f 16) (code :
   record Told (u : View) : Type 0 where
     here : Here middle own u.mem w.text w.answers u
     result : WordAt u.mem RESULT rest_size
-    kept : Kept ly f lo hi keys fits (live js) s r u.mem
+    kept : Kept around (live js) s r u.mem
 
   asks_rest : y ≢ 0 → Comes f w Told [] (13 + limit)
   asks_rest some =
       looser f w _ _ [] (4 + (9 + limit)) (13 + limit) (omega arith) (λ u z. z)
-      (lines_by ly f lo hi keys fits n (Remains v d to) js is s r w h risky asking parts.0 _ [] (9 + limit)
-      (asks_by ly f lo hi keys fits n (Remains v d to) js is s r w h DIVIDE_AT at a b [] m c asking_lies x y a_apart b_apart (a_holds m c) b_holds _ [] limit
+      (lines_by fits h risky asking parts.0 _ [] (9 + limit)
+      (asks_by fits h DIVIDE_AT at a b [] m c asking_lies x y a_apart b_apart (a_holds m c) b_holds _ [] limit
       (λ m' g u e.
       looser f u _ _ [] limit limit (omega arith)
       (λ z q. record {
-        here = back_here ly f lo hi keys fits _ _ w.text w.answers _ z q (comes_back ly f lo hi keys fits n (Remains v d to) js is s r w h DIVIDE_AT at a b [] m c asking_lies x y a_apart b_apart (a_holds m c) b_holds ∙ middle_is);
+        here = back_here _ _ w.text w.answers _ z q (comes_back fits h DIVIDE_AT at a b [] m c asking_lies x y a_apart b_apart (a_holds m c) b_holds ∙ middle_is);
         result = q.memory.rest;
-        kept = kept_scratch ly f lo hi keys fits (live js) s r m' z.mem h.some_read (λ p o. q.memory.others p (not_argument p o)) g.kept;
+        kept = kept_scratch around (live js) s r m' z.mem h.some_read (λ p o. q.memory.others p (not_argument p o)) g.kept;
       })
       (rs.divide _ _ m' w.text w.answers x y g.left g.right some u e))))
 
@@ -319,12 +321,12 @@ module _ (ly : Layout) (f : Setup) (lo hi keys : ℕ) (fits : Fits f 16) (code :
   last = both code n v d to is s r h.read.all_words fit.room
 
   abbrev Ends : View → Type 0
-  Ends = Matches ly f lo hi keys (line code n is (landed to value s) (slots_landed to value (with_word last k value)))
+  Ends = Matches around (line code n is (landed to value s) (slots_landed to value (with_word last k value)))
 
-  copies_out : (m : ℕ → ℕ) → WordAt m RESULT value → Kept ly f lo hi keys fits (live js) s r m → Moves f (Here copy_at own m w.text w.answers) Ends [] 4
+  copies_out : (m : ℕ → ℕ) → WordAt m RESULT value → Kept around (live js) s r m → Moves f (Here copy_at own m w.text w.answers) Ends [] 4
   copies_out m q c =
       moves_looser f _ _ _ [] 4 4 (omega arith)
-      (λ u e. word_lands ly f lo hi keys fits code n h.small (live js) to is s r last value _ _ end m w.text w.answers q.low q.high q.small fit.dest (remains_lasting v d to is code n s r h.read.all_words fit.room h.free) h.rest c h.text h.answers h.short u (moved ly f lo hi keys fits _ end own _ w.text w.answers u e end_is))
+      (λ u e. word_lands around code n h.small (live js) to is s r last value _ _ end m w.text w.answers q.low q.high q.small fit.dest (remains_lasting v d to is code n s r h.read.all_words fit.room h.free) h.rest c h.text h.answers h.short u (moved _ end own _ w.text w.answers u e end_is))
       (copies f 16 fits copy_at own m w.text w.answers refl RESULT dest fork.ends result_gives.0 (dest_in_data to fit.dest) (result_gives.1 to fit.dest) fork.behind_stands)
 
   -- where it is taken from 0
@@ -351,33 +353,33 @@ module _ (ly : Layout) (f : Setup) (lo hi keys : ℕ) (fits : Fits f 16) (code :
       by : (t : Bool) → is_negative x ≡ t → (z : View) → WithN (middle + 3) (has_bit (u.mem (var_at v + 1)) 128) own u.mem w.text w.answers z → Comes f z Ends [] 13
       by false e z g =
           looser f z _ _ [] (2 + 4) 13 (omega arith) (λ q k. k)
-          (chained f z _ _ [] [] 2 4 (fork.leads u.mem false z (moved ly f lo hi keys fits _ _ own _ w.text w.answers z g.here (omega arith)) (g.negative ∙ sign_is ∙ e)) (λ q l.
+          (chained f z _ _ [] [] 2 4 (fork.leads u.mem false z (moved _ _ own _ w.text w.answers z g.here (omega arith)) (g.negative ∙ sign_is ∙ e)) (λ q l.
           copies_out u.mem (subst (WordAt u.mem RESULT) (sym (value_is false e)) told.result) told.kept q l.here))
       by true e z g =
           let difference = subtracted_word 0 0 _ _ 0 rest_size refl refl told.result.low told.result.high (omega arith) told.result.small in
           let same = sym (value_is true e) in
-          chained f z _ _ [] [] 2 11 (fork.leads u.mem true z (moved ly f lo hi keys fits _ _ own _ w.text w.answers z g.here (omega arith)) (g.negative ∙ sign_is ∙ e)) (λ q l.
+          chained f z _ _ [] [] 2 11 (fork.leads u.mem true z (moved _ _ own _ w.text w.answers z g.here (omega arith)) (g.negative ∙ sign_is ∙ e)) (λ q l.
           chained f q _ _ [] [] 7 4 (differs f 16 fits turned_at own u.mem w.text w.answers refl (FixedWord 0) (AtPlace RESULT) RESULT (let r = fork.ends in omega (arith, r)) tt ((refl, refl), λ e. omega (arith, e)) (refl, refl) fork.stands q l.here) (λ q l.
-          copies_out _ (word_put u.mem RESULT _ _ value (difference.0 ∙ ap (λ v. v % 256) same) (difference.1 ∙ ap (λ v. v / 256) same) (omega arith)) (kept_put ly f lo hi keys fits (live js) s r u.mem RESULT _ _ h.some_read refl refl told.kept) q l))
+          copies_out _ (word_put u.mem RESULT _ _ value (difference.0 ∙ ap (λ v. v % 256) same) (difference.1 ∙ ap (λ v. v / 256) same) (omega arith)) (kept_put around (live js) s r u.mem RESULT _ _ h.some_read refl refl told.kept) q l))
 
   -- ---- by 0
   never : (b : Source) → SourceHolds w.mem b y → may_be_zero b ≡ false → y ≢ 0
   never (FixedWord v) k e = λ zero. let same = constant_is w.mem v y (FixedWord v) refl k in absurd (true≢false (sym (eq-eqb v 0 (same.0 ∙ zero)) ∙ e))
   never (AtPlace p) k e = absurd (true≢false e)
 
-  line_set : (t : Bool) → risky ≡ t → y ≡ 0 → WordAt (lined_by ly f lo hi keys fits n (Remains v d to) js is s r w h t) LINE n
-  line_set true e zero = numbered ly f lo hi keys fits n (Remains v d to) js is s r w h
+  line_set : (t : Bool) → risky ≡ t → y ≡ 0 → WordAt (lined_by h t) LINE n
+  line_set true e zero = numbered h
   line_set false e zero = absurd (never b (b_holds w.mem first) e zero)
 
   faults : y ≡ 0 → Comes f w (IsHome f) (fault_text 2 n) (13 + limit)
   faults zero =
       looser f w _ _ (fault_text 2 n) (4 + (9 + limit)) (13 + limit) (omega arith) (λ u z. z)
-      (lines_by ly f lo hi keys fits n (Remains v d to) js is s r w h risky asking parts.0 _ (fault_text 2 n) (9 + limit)
-      (asks_by ly f lo hi keys fits n (Remains v d to) js is s r w h DIVIDE_AT at a b [] m c asking_lies x y a_apart b_apart (a_holds m c) b_holds _ (fault_text 2 n) limit
+      (lines_by fits h risky asking parts.0 _ (fault_text 2 n) (9 + limit)
+      (asks_by fits h DIVIDE_AT at a b [] m c asking_lies x y a_apart b_apart (a_holds m c) b_holds _ (fault_text 2 n) limit
       (λ m' g. rs.divide_by_zero _ _ m' w.text w.answers x n g.left (subst (WordAt m' RIGHT) zero g.right) (g.line (line_set risky refl zero)) g.kept.homed)))
 
   abbrev pub RemainsLeads : Step SlotState → Type 0
-  RemainsLeads z = Comes f w (Target ly f lo hi keys z) (sent_in z) (34 + (limit + limit))
+  RemainsLeads z = Comes f w (Target around z) (sent_in z) (34 + (limit + limit))
 
   pub remains_law : RemainsLeads (steps code (expand (Remains v d to)) (line code n js s r))
   remains_law = ⊎_elim

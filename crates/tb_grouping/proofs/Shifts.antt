@@ -1,39 +1,37 @@
 -- The law of a quotient over a power of two, which is made by shifts and can't fault.
-use Rattle.std.proofs.Common.{◌≡◌, ◌≢◌, ℕ, zero, suc, ◌+◌, ◌*◌, ◌/◌, ◌%◌, ◌^◌, ◌≤◌, ◌<◌, Bool, true, List, [], ◌∷◌, ◌++◌, length, refl, sym, ap, ◌∙◌, subst, arith, leb, Some, None}
-use Rattle.std.specs.Prelude.{if◌then◌else◌, nat_le, nat_lt}
-use Rattle.std.proofs.lemmas.Bool.{ne_eqb}
+use Rattle.std.proofs.Common.{◌≡◌, ◌≢◌, ℕ, zero, suc, ◌+◌, ◌*◌, ◌/◌, ◌%◌, ◌^◌, ◌≤◌, ◌<◌, Bool, true, List, [], ◌∷◌, ◌++◌, length, refl, sym, ap, ◌∙◌, subst, arith, leb}
+use Rattle.std.specs.Prelude.{nat_le, nat_lt}
 use Rattle.tb_cpu.specs.Effects.{bit, has_bit}
 use Rattle.tb_memmap.specs.Bytes.{with_byte}
 use Rattle.tb_words.specs.Words.{quotient, word}
 use Rattle.tb_syntax.specs.declared.expressions.Operator.TheVariants as op
 use Rattle.tb_lower.specs.Control.{State}
 use Rattle.tb_lower.specs.Slots.{Instr, Slots, SlotCode}
-use Rattle.tb_lower.specs.Values.{apply}
 use Rattle.tb_reaching.proofs.Comes.{chained, looser}
 use Rattle.tb_reaching.proofs.Instr.{Stands}
 use Rattle.tb_reaching.proofs.Memory.{put_other, put_same}
-use Rattle.tb_reaching.specs.View.{Comes, Fits, Setup, View}
+use Rattle.tb_reaching.specs.View.{Fits, Setup, View}
 use Rattle.tb_runtime16.specs.Places.{LEFT}
-use Rattle.tb_runtime16.specs.Routines.{Here, Moves, WithA, is_owned}
-use Rattle.tb_keeping.specs.Layout.{Layout}
-use Rattle.tb_keeping.proofs.Joins.{sent_in}
+use Rattle.tb_runtime16.specs.Routines.{Here, Moves, WithA}
 use Rattle.tb_keeping.proofs.Resolved.{Code, Lies, highest_code, pieces_size, size}
 use Rattle.tb_selection.specs.Groups.{Operand, Destination, Calculate, slot_of}
 use Rattle.tb_selection.specs.Liveness.{live}
 use Rattle.tb_selection.specs.Select.{select}
 use Rattle.tb_templates.specs.declared.sources.Source.{Source}
 use Rattle.tb_templates.specs.Sources.{destination_at, source_of}
-use Rattle.tb_grouping.proofs.Calculations.{Leads}
 use Rattle.tb_grouping.proofs.Coded.{GroupsLie, carried, halved, halvings, high, high_first, low, rounded, shifted, signed}
 use Rattle.tb_grouping.proofs.Halves.{halve, halve_small, halve_times, halves_are, high_half, low_half, more, more_small, raised_high, raised_low, sign_is}
-use Rattle.tb_grouping.proofs.Lone.{kept, kept_scratch, word_lands}
-use Rattle.tb_grouping.proofs.Matching.{Matches, Target}
-use Rattle.tb_grouping.proofs.Operands.{CalcFits, SourceHolds, calc_fits, dest_beyond, operand_apart, operand_held}
+use Rattle.tb_grouping.proofs.Lone.{kept, kept_scratch}
+use Rattle.tb_grouping.proofs.Matching.{Matches}
+use Rattle.tb_grouping.proofs.Operands.{SourceHolds, dest_beyond}
 use Rattle.tb_grouping.proofs.Ready.{Ready, here}
 use Rattle.tb_grouping.proofs.ShiftSteps.{carries, ends_high, halves, rounds, signs, size_append, stands_split}
-use Rattle.tb_grouping.proofs.SlotSide.{calculate_goes, calculate_lasting, calculated, fetched, landed, left_asked, line, spread, with_fetched}
+use Rattle.tb_grouping.proofs.SlotSide.{calculated, landed, line, spread}
 use Rattle.tb_grouping.proofs.Sources.{value}
 use Rattle.tb_grouping.proofs.Sums.{Grounded}
+use Rattle.tb_grouping.proofs.Surroundings.{Surroundings}
+use Rattle.tb_grouping.proofs.Calculated.{Leads, calculation, fit, leads_on, left_apart, left_holds, quotient_is, result_lands}
+use Rattle.tb_keeping.proofs.Returning.{apart}
 
 module _ (f : Setup) (room : ℕ) (fits : Fits f room) (bs : List ℕ) (m : ℕ → ℕ) (keys gets : List ℕ) (small : leb (length bs) room ≡ true) where
   -- the high byte of a word in A and its low byte in LEFT; the rest of the memory is m
@@ -142,67 +140,39 @@ module _ (f : Setup) (room : ℕ) (fits : Fits f room) (bs : List ℕ) (m : ℕ 
         chained f u _ q [] [] 3 (3 * suc k + j) (carries f room fits p2 bs m keys gets small ((value m (low a) + n) % 256) (nat_lt 255 (value m (low a) + n)) a (omega (arith, r, sizes)) ga s3.0 u g) (λ u g.
         halves_then (suc k) p3 (word (x + more k (nat_le 32768 x))) (omega (arith, r, sizes)) s4.0 q j (λ u g. next u (subst (λ v. HighInA p4 v u) there g)) u (raised_here u g)))))
 
-module _ (ly : Layout) (f : Setup) (lo hi keys : ℕ) (fits : Fits f 16) (code : SlotCode) (n : ℕ) (a b : Operand) (d : Destination) (is : List Instr) (s : State) (r : Slots) (w : View) (h : Ready ly f lo hi keys fits n (Calculate op.Divide a b d) (spread op.Divide a b d is) is s r w) where
-  abbrev k : ℕ
-  k = slot_of d
-
-  abbrev x : ℕ
-  x = fetched s r k a
-
-  abbrev y : ℕ
-  y = fetched s r (k + 1) b
-
-  abbrev js : List Instr
-  js = spread op.Divide a b d is
+module _ {around : Surroundings} (fits : Fits around.f 16) (code : SlotCode) {n : ℕ} {a b : Operand} {d : Destination} {is : List Instr} {s : State} {r : Slots} {w : View} (h : Ready around n (Calculate op.Divide a b d) (spread op.Divide a b d is) is s r w) (j : ℕ) (few : j < 6)
+    (lies : Lies around.f.code w.regs.pc (Code (shifted j (source_of (slot_of d) a) (destination_at d)) ∷ [])) (rest : GroupsLie around.ly around.f.code n (w.regs.pc + pieces_size (Code (shifted j (source_of (slot_of d) a) (destination_at d)) ∷ [])) (select is)) where
+  open around use {ly, f, lo, hi}
+  open calculation a b d s r use {x, y, left, to}
 
   abbrev own : List ℕ
   own = lo ∷ hi ∷ []
 
-  abbrev first : Source
-  first = source_of k a
+  abbrev v : ℕ
+  v = quotient x y
 
-  fit : CalcFits a b d
-  fit = calc_fits op.Divide a b d h.ranged
+  ha : SourceHolds w.mem left x
+  ha = left_holds h w.mem (kept h)
 
-  quotient_is : y ≢ 0 → apply op.Divide x y ≡ Some (quotient x y)
-  quotient_is some = ap (λ t. if t then None else Some (quotient x y)) (ne_eqb y 0 some)
+  -- where the result is stored
+  abbrev at : ℕ
+  at = p4 f 16 fits own w.mem w.text w.answers refl w.regs.pc left x (left_apart h) ha j few to lies.0 lies.1
 
-  module _ (j : ℕ) (few : j < 6) (power : y ≡ 2 ^ (j + 1)) (some : y ≢ 0) (lies : Lies f.code w.regs.pc (Code (shifted j first (destination_at d)) ∷ [])) (rest : GroupsLie ly f.code n (w.regs.pc + pieces_size (Code (shifted j first (destination_at d)) ∷ [])) (select is)) where
-    abbrev to : ℕ
-    to = destination_at d
+  end_here : at + 8 ≡ w.regs.pc + size (shifted j left to)
+  end_here = end_is f 16 fits own w.mem w.text w.answers refl w.regs.pc left x (left_apart h) ha j few to lies.0 lies.1
 
-    abbrev v : ℕ
-    v = quotient x y
+  behind : GroupsLie ly f.code n (at + 8) (select is)
+  behind = subst (λ p. GroupsLie ly f.code n p (select is)) (let e = end_here in let q : w.regs.pc + (size (shifted j left to) + 0) ≡ at + 8 = omega (arith, e) in q) rest
 
-    ha : SourceHolds w.mem first x
-    ha = operand_held ly s (live js) r w.mem k a h.state h.read fit.left (left_asked op.Divide a b d is)
+  lands : Moves f (HighInA f 16 fits own w.mem w.text w.answers refl at v) (Matches around (line code n is (landed d v s) (calculated s r a b d v))) [] 3
+  lands u g =
+      looser f u _ _ [] 3 3 (omega arith)
+      (result_lands h code v (u.mem LEFT) u.regs.a (at + 8) u.mem g.low g.high g.is_word behind (kept_scratch around (live (spread op.Divide a b d is)) s r w.mem u.mem h.some_read (λ p o. g.others p (apart p LEFT o refl)) (kept h)))
+      (ends_high f 16 fits at own u.mem w.text w.answers refl u.regs.a to (let e = end_here in omega (arith, e, lies.0)) (dest_beyond d (fit h).dest) (last_stands f 16 fits own w.mem w.text w.answers refl w.regs.pc left x (left_apart h) ha j few to lies.0 lies.1) u (record { here = g.here; number = refl }))
 
-    ga : Grounded first LEFT
-    ga = operand_apart k a LEFT (omega arith) (omega (arith, fit.slot)) fit.left
-
-    -- where the result is stored
-    abbrev at : ℕ
-    at = p4 f 16 fits own w.mem w.text w.answers refl w.regs.pc first x ga ha j few to lies.0 lies.1
-
-    end_here : at + 8 ≡ w.regs.pc + size (shifted j first to)
-    end_here = end_is f 16 fits own w.mem w.text w.answers refl w.regs.pc first x ga ha j few to lies.0 lies.1
-
-    behind : GroupsLie ly f.code n (at + 8) (select is)
-    behind = subst (λ p. GroupsLie ly f.code n p (select is)) (let e = end_here in let q : w.regs.pc + (size (shifted j first to) + 0) ≡ at + 8 = omega (arith, e) in q) rest
-
-    lands : Moves f (HighInA f 16 fits own w.mem w.text w.answers refl at v) (Matches ly f lo hi keys (line code n is (landed d v s) (calculated s r a b d v))) [] 3
-    lands u g =
-        let c = kept_scratch ly f lo hi keys fits (live js) s r w.mem u.mem h.some_read (λ p o. g.others p (λ q. apart p o q)) (kept ly f lo hi keys fits n _ js is s r w h) in
-        looser f u _ _ [] 3 3 (omega arith)
-        (word_lands ly f lo hi keys fits code n h.small (live js) d is s r (with_fetched s (with_fetched s r k a) (k + 1) b) v (u.mem LEFT) u.regs.a (at + 8) u.mem w.text w.answers g.low g.high g.is_word fit.dest (calculate_lasting op.Divide a b d is s r h.free) behind c h.text h.answers h.short)
-        (ends_high f 16 fits at own u.mem w.text w.answers refl u.regs.a to (let e = end_here in omega (arith, e, lies.0)) (dest_beyond d fit.dest) (last_stands f 16 fits own w.mem w.text w.answers refl w.regs.pc first x ga ha j few to lies.0 lies.1) u (record { here = g.here; number = refl }))
-      where
-        apart : (p : ℕ) → is_owned p ≡ true → p ≢ LEFT
-        apart p o e = let no : is_owned LEFT ≡ true = ap is_owned (sym e) ∙ o in cc
-
-    pub shift_law : Leads ly f lo hi keys fits code n a b d is s r w op.Divide 31
-    shift_law =
-        subst (λ z. Comes f w (Target ly f lo hi keys z) (sent_in z) 31) (sym (calculate_goes code n op.Divide a b d is s r h.read.all_words fit.slot v (quotient_is some)))
-        (divides_then f 16 fits own w.mem w.text w.answers refl w.regs.pc first x ga ha j few to lies.0 lies.1 _ 3
-        (λ u g. lands u (subst (λ q. HighInA f 16 fits own w.mem w.text w.answers refl at q u) (ap (quotient x) (sym power)) g))
-        w (here ly f lo hi keys fits w [] [] h.stack h.binary))
+  pub shift_law : y ≡ 2 ^ (j + 1) → y ≢ 0 → Leads h code 31
+  shift_law power some =
+      leads_on h code v 31 (quotient_is x y some)
+      (divides_then f 16 fits own w.mem w.text w.answers refl w.regs.pc left x (left_apart h) ha j few to lies.0 lies.1 _ 3
+      (λ u g. lands u (subst (λ q. HighInA f 16 fits own w.mem w.text w.answers refl at q u) (ap (quotient x) (sym power)) g))
+      w (here h))

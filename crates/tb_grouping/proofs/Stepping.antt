@@ -13,10 +13,9 @@ use Rattle.tb_lower.specs.Ranges.{AreInRange}
 use Rattle.tb_lower.specs.Slots.{Instr, Put, Load, Store, Compute, Slots, SlotCode, into, with_word}
 use Rattle.tb_lower.specs.Steps.{Goes, Stops, Faulted}
 use Rattle.tb_lower.specs.Values.{apply, given}
-use Rattle.tb_reaching.specs.View.{Fits, Setup, View}
+use Rattle.tb_reaching.specs.View.{View}
 use Rattle.tb_runtime16.specs.Places.{HELD}
 use Rattle.tb_runtime16.specs.Routines.{WordAt}
-use Rattle.tb_keeping.specs.Layout.{Layout}
 use Rattle.tb_keeping.proofs.Resolved.{Lies, Piece, pieces_size}
 use Rattle.tb_selection.specs.Groups.{Operand, Constant, Variable, InSlot, Home, IntoVariable, Destination, IntoSlot, IntoHome, Group, Calculate, Stepped, Move, fetch, expand, expand_all}
 use Rattle.tb_selection.specs.GroupSteps.{steps}
@@ -30,6 +29,7 @@ use Rattle.tb_grouping.proofs.Operands.{OperandFits, range_fetch}
 use Rattle.tb_grouping.proofs.Ready.{Ready}
 use Rattle.tb_grouping.proofs.SlotSide.{acts, both_length, fetched, fetched_other, fetches, left_is, line, right_is, same_slot, spread, stops, with_fetched}
 use Rattle.tb_grouping.proofs.TestLaws.{lies_parts}
+use Rattle.tb_grouping.proofs.Surroundings.{Surroundings}
 
 -- ---- the two
 abbrev pub home : ℕ → Destination
@@ -215,7 +215,9 @@ pub stored_again : (x u v : ℕ) (s : State) → meaning.stored x v (meaning.sto
 stored_again x u v s = ap (λ l. record s { vars = l }) (set-set s.vars x u v)
 
 -- ---- where it begins
-module _ (ly : Layout) (f : Setup) (lo hi keys : ℕ) (fits : Fits f 16) (n : ℕ) (op : Operator) (a b : Operand) (by : Operator) (w x : ℕ) (is : List Instr) (s : State) (r : Slots) (u : View) (h : Ready ly f lo hi keys fits n (Stepped op a b by w x) (spread_stepped op a b by w x is) is s r u) where
+module _ (around : Surroundings) (n : ℕ) (op : Operator) (a b : Operand) (by : Operator) (w x : ℕ) (is : List Instr) (s : State) (r : Slots) (u : View) (h : Ready around n (Stepped op a b by w x) (spread_stepped op a b by w x is) is s r u) where
+  open around use {ly, f}
+
   abbrev first_group : Group
   first_group = first_of op a b x
 
@@ -248,7 +250,7 @@ module _ (ly : Layout) (f : Setup) (lo hi keys : ℕ) (fits : Fits f 16) (n : �
   behind_ranged (g ∷ gs) at k = k.2
 
   -- the first of the two begins there, with the second one behind it
-  pub first_ready : Ready ly f lo hi keys fits n first_group (spread op a b (home x) (behind_first by w x is)) (behind_first by w x is) s r u
+  pub first_ready : Ready around n first_group (spread op a b (home x) (behind_first by w x is)) (behind_first by w x is) s r u
   first_ready =
       let same = same_live op a b by w x is none_read in
       let no_slots = second_live by w x is none_read in
@@ -278,9 +280,9 @@ module _ (ly : Layout) (f : Setup) (lo hi keys : ℕ) (fits : Fits f 16) (n : �
       }
 
 -- behind both it matches what the one leads to
-pub matches_again : (ly : Layout) (f : Setup) (lo hi keys : ℕ) (code : SlotCode) (n x u v : ℕ) (is : List Instr) (s : State) (p q : Slots) (w : View) → (live is).slots ≡ 0 → p.held ≡ q.held → length q.words ≡ 16 → Matches ly f lo hi keys (line code n is (meaning.stored x v (meaning.stored x u s)) p) w → Matches ly f lo hi keys (line code n is (meaning.stored x v s) q) w
-matches_again ly f lo hi keys code n x u v is s p q w none same all h =
-    subst (λ t. Matches ly f lo hi keys (line code n is t q) w) (stored_again x u v s)
+pub matches_again : (around : Surroundings) (code : SlotCode) (n x u v : ℕ) (is : List Instr) (s : State) (p q : Slots) (w : View) → (live is).slots ≡ 0 → p.held ≡ q.held → length q.words ≡ 16 → Matches around (line code n is (meaning.stored x v (meaning.stored x u s)) p) w → Matches around (line code n is (meaning.stored x v s) q) w
+matches_again around code n x u v is s p q w none same all h =
+    subst (λ t. Matches around (line code n is t q) w) (stored_again x u v s)
     (record {
       pc = h.pc;
       stack = h.stack;

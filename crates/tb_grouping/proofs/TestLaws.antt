@@ -15,10 +15,10 @@ use Rattle.tb_lower.specs.Steps.{Step, Goes, Stops, Faulted}
 use Rattle.tb_lower.proofs.Runs.{after_nothing}
 use Rattle.tb_reaching.proofs.Comes.{chained, looser}
 use Rattle.tb_reaching.specs.View.{Comes, Fits, Part, Setup, View}
-use Rattle.tb_runtime16.specs.Routines.{Entered, Here, Moves, Routines}
-use Rattle.tb_keeping.specs.Layout.{Layout, next_at}
+use Rattle.tb_runtime16.specs.Routines.{Entered, Here, Moves}
+use Rattle.tb_keeping.specs.Layout.{next_at}
 use Rattle.tb_keeping.proofs.Joins.{sent_in}
-use Rattle.tb_keeping.proofs.Mirrors.{Typable}
+use Rattle.tb_keeping.proofs.Mirrors.{HoldsState, Typable}
 use Rattle.tb_keeping.proofs.Pieces.{moves_looser}
 use Rattle.tb_keeping.proofs.Resolved.{Code, Lies, Piece, faulting, piece_size, pieces_size}
 use Rattle.tb_selection.specs.Groups.{Operand, Tested, Test, TestGo, denied, expand}
@@ -32,7 +32,7 @@ use Rattle.tb_grouping.proofs.Coded.{EqualityReaches, GoReaches, GroupsLie, Test
 use Rattle.tb_grouping.proofs.Faults.{faults_at}
 use Rattle.tb_grouping.proofs.Frames.{state_placed}
 use Rattle.tb_grouping.proofs.Lone.{arrived, one_step}
-use Rattle.tb_grouping.proofs.Matching.{HoldsLive, HoldsState, Matches, Target}
+use Rattle.tb_grouping.proofs.Matching.{HoldsLive, Matches, Target}
 use Rattle.tb_grouping.proofs.SlotSide.{line, next, fetched}
 use Rattle.tb_grouping.proofs.TestSide.{tested, tested_word, tested_read, left_read, spread_test, test_before, so_far, decided, branched, test_goes, test_fits, left_held, right_held}
 use Rattle.tb_grouping.proofs.Operands.{SourceHolds, operand_apart}
@@ -42,6 +42,7 @@ use Rattle.tb_grouping.proofs.Ready.{Ready, here, stood}
 use Rattle.tb_grouping.proofs.Whereto.{left_at, tested_apart}
 use Rattle.tb_grouping.proofs.Tests.{tests_equality}
 use Rattle.tb_grouping.proofs.Orders.{tests_order}
+use Rattle.tb_grouping.proofs.Surroundings.{Serves, Surroundings}
 
 -- pieces before others
 pub lies_parts : (code : Part) (at : ℕ) (ps qs : List Piece) → Lies code at (ps ++ qs) → Lies code at ps × Lies code (at + pieces_size ps) qs
@@ -109,7 +110,9 @@ module _ (code : SlotCode) (n : ℕ) (rel : Rel) (a : Tested) (b : Operand) (to 
       ∙ decides held found q
 
 -- ---- the laws
-module _ (ly : Layout) (f : Setup) (lo hi keys : ℕ) (fits : Fits f 16) (code : SlotCode) (same_numbers : numbers code ≡ ly.numbers) (n : ℕ) (a : Tested) (b : Operand) (s : State) (r : Slots) (w : View) where
+module _ (around : Surroundings) (fits : Fits around.f 16) (code : SlotCode) (same_numbers : numbers code ≡ around.ly.numbers) (n : ℕ) (a : Tested) (b : Operand) (s : State) (r : Slots) (w : View) where
+  open around use {ly, f, lo, hi, keys}
+
   abbrev own : List ℕ
   own = lo ∷ hi ∷ []
 
@@ -153,31 +156,31 @@ module _ (ly : Layout) (f : Setup) (lo hi keys : ℕ) (fits : Fits f 16) (code :
   leads v rel first second next lies reach here = tests f 16 fits w.regs.pc own w.mem w.text w.answers refl left right x y v.left_apart v.right_apart v.left_word v.right_word first second next rel lies reach w here
 
   -- out of the line, with nothing done
-  leaves : HoldsState ly s w.mem → length r.words ≡ 16 → Entered f lo hi w.mem → w.text ≡ s.text → w.answers ≡ s.answers → Typable keys s.text s.answers → (u : View) → At next_line u → Matches ly f lo hi keys (record { state = record s { place = next_after (numbers code) n }; rest = Whole; slots = tested s r a b }) u
-  leaves state all homed text answers short = left_at ly f lo hi keys fits code same_numbers n s (tested s r a b) w.mem w.text w.answers state (left_read s r a b w.mem all) homed text answers short
+  leaves : HoldsState ly s w.mem → length r.words ≡ 16 → Entered f lo hi w.mem → w.text ≡ s.text → w.answers ≡ s.answers → Typable keys s.text s.answers → (u : View) → At next_line u → Matches around (record { state = record s { place = next_after (numbers code) n }; rest = Whole; slots = tested s r a b }) u
+  leaves state all homed text answers short = left_at around code same_numbers n s (tested s r a b) w.mem w.text w.answers state (left_read s r a b w.mem all) homed text answers short
 
   -- ---- a test that stays in the line
-  module _ (rel : Rel) (is : List Instr) (h : Ready ly f lo hi keys fits n (Test rel a b) (spread_test rel a b is) is s r w) where
+  module _ (rel : Rel) (is : List Instr) (h : Ready around n (Test rel a b) (spread_test rel a b is) is s r w) where
     abbrev behind : ℕ
     behind = w.regs.pc + pieces_size (group_code ly n w.regs.pc h.first h.second (Test rel a b))
 
     abbrev Led : Step SlotState → Type 0
-    Led z = Comes f w (Target ly f lo hi keys z) (sent_in z) 9
+    Led z = Comes f w (Target around z) (sent_in z) 9
 
     by_test : (t : Bool) → holds rel x y ≡ t → Led (branched code n rel a b is s r t)
-    by_test t e = by t (subst (λ t. Comes f w (At (cond t behind next_line)) [] 9) e (leads (words rel [] is h.ranged h.free h.state h.read) rel h.first h.second next_line h.lies h.reach (here ly f lo hi keys fits w [] [] h.stack h.binary)))
+    by_test t e = by t (subst (λ t. Comes f w (At (cond t behind next_line)) [] 9) e (leads (words rel [] is h.ranged h.free h.state h.read) rel h.first h.second next_line h.lies h.reach (here h)))
       where
         by : (t : Bool) → Comes f w (At (cond t behind next_line)) [] 9 → Led (branched code n rel a b is s r t)
-        by true c = looser f w _ _ [] 9 9 (omega arith) (stood ly f lo hi keys fits code n h.small is s (tested s r a b) behind w.mem w.text w.answers h.rest h.state (tested_read rel a b is s r w.mem h.free h.read) h.homed h.text h.answers h.short) c
+        by true c = looser f w _ _ [] 9 9 (omega arith) (stood around code n h.small is s (tested s r a b) behind w.mem w.text w.answers h.rest h.state (tested_read rel a b is s r w.mem h.free h.read) h.homed h.text h.answers h.short) c
         by false c = looser f w _ _ [] 9 9 (omega arith) (leaves h.state h.read.all_words h.homed h.text h.answers h.short) c
 
     pub test_law : Led (steps code (expand (Test rel a b)) (line code n (spread_test rel a b is) s r))
     test_law = subst Led (sym (test_goes code n rel a b is s r h.read.all_words h.free (holds rel x y) refl)) (by_test (holds rel x y) refl)
 
   -- ---- a test that goes to a line
-  module _ (limit : ℕ) (rs : Routines ly.table ly.seed ly.numbers ly.start f lo hi keys limit) (rel : Rel) (to : ℕ) (is : List Instr) (h : Ready ly f lo hi keys fits n (TestGo rel a b to) (spread_test rel a b (JumpTo to ∷ is)) is s r w) where
+  module _ (limit : ℕ) (rs : Serves around limit) (rel : Rel) (to : ℕ) (is : List Instr) (h : Ready around n (TestGo rel a b to) (spread_test rel a b (JumpTo to ∷ is)) is s r w) where
     abbrev Gone : Step SlotState → Type 0
-    Gone z = Comes f w (Target ly f lo hi keys z) (sent_in z) (15 + limit)
+    Gone z = Comes f w (Target around z) (sent_in z) (15 + limit)
 
     abbrev outcome : (held found : Bool) → Step SlotState
     outcome held found = gone_by code n rel a b to is s r h.read.all_words h.free held found
@@ -186,9 +189,9 @@ module _ (ly : Layout) (f : Setup) (lo hi keys : ℕ) (fits : Fits f 16) (code :
     test_words = words rel (JumpTo to ∷ []) (JumpTo to ∷ is) h.ranged h.free h.state h.read
 
     starts : At w.regs.pc w
-    starts = here ly f lo hi keys fits w [] [] h.stack h.binary
+    starts = here h
 
-    out : (found : Bool) (u : View) → At next_line u → Target ly f lo hi keys (outcome false found) u
+    out : (found : Bool) (u : View) → At next_line u → Target around (outcome false found) u
     out found = leaves h.state h.read.all_words h.homed h.text h.answers h.short
 
     -- it is the line's last group, and so the next line is behind it
@@ -214,7 +217,7 @@ module _ (ly : Layout) (f : Setup) (lo hi keys : ℕ) (fits : Fits f 16) (code :
       by_found t e = by t (subst (λ t. Comes f w (At (cond (not t) next_line (ly.start to))) [] 9) e goes_there)
         where
           by : (t : Bool) → Comes f w (At (cond (not t) next_line (ly.start to))) [] 9 → Gone (outcome t true)
-          by true c = looser f w _ _ [] 9 (15 + limit) (omega arith) (arrived ly f lo hi keys fits code (record s { place = control.At to }) (tested s r a b) (ly.start to) w.mem w.text w.answers refl (state_placed ly (control.At to) s w.mem h.state) (left_read s r a b w.mem h.read.all_words).all_words h.homed h.text h.answers h.short) c
+          by true c = looser f w _ _ [] 9 (15 + limit) (omega arith) (arrived around (record s { place = control.At to }) (tested s r a b) (ly.start to) w.mem w.text w.answers refl (state_placed ly (control.At to) s w.mem h.state) (left_read s r a b w.mem h.read.all_words).all_words h.homed h.text h.answers h.short) c
           by false c = looser f w _ _ [] 9 (15 + limit) (omega arith) (out true) c
 
     module _ (lost : has_line ly.numbers to ≡ false) where
@@ -233,7 +236,7 @@ module _ (ly : Layout) (f : Setup) (lo hi keys : ℕ) (fits : Fits f 16) (code :
           by : (t : Bool) → Comes f w (At (cond t (w.regs.pc + pieces_size code_lost) next_line)) [] 9 → Gone (outcome t false)
           by true c =
               looser f w _ _ (fault_text 1 n) (9 + (4 + limit)) (15 + limit) (omega arith) (λ u g. g)
-              (chained f w _ _ [] (fault_text 1 n) 9 (4 + limit) c (faults_at ly f lo hi keys fits limit rs n 1 h.small (omega arith) (w.regs.pc + pieces_size code_lost) w.mem w.text w.answers parts.1 h.homed))
+              (chained f w _ _ [] (fault_text 1 n) 9 (4 + limit) c (faults_at around fits limit rs n 1 h.small (omega arith) (w.regs.pc + pieces_size code_lost) w.mem w.text w.answers parts.1 h.homed))
           by false c = looser f w _ _ [] 9 (15 + limit) (omega arith) (out false) c
 
     by_line : (found : Bool) → has_line ly.numbers to ≡ found → Gone (outcome (holds rel x y) found)

@@ -10,13 +10,14 @@ use Rattle.tb_lower.specs.Control.{State, next_after, fall}
 use Rattle.tb_lower.specs.Ranges.{AreInRange}
 use Rattle.tb_lower.specs.Slots.{Instr, Put, Load, Hold, LeaveUnless, SlotCode, Whole, Slots, SlotState, Stays, settled, leaving}
 use Rattle.tb_lower.proofs.Runs.{after_nothing}
+use Rattle.tb_keeping.proofs.Mirrors.{HoldsState}
 use Rattle.tb_keeping.specs.Layout.{Layout}
 use Rattle.tb_selection.specs.Groups.{Operand, Constant, Variable, InSlot, Tested, HeldBefore, HeldNow, Test, fetch, held, expand}
 use Rattle.tb_selection.specs.Liveness.{live, nothing_live}
 use Rattle.tb_selection.specs.Select.{test_words_dead}
 use Rattle.tb_selection.specs.GroupSteps.{steps}
 use Rattle.tb_templates.specs.Sources.{source_of, tested_source}
-use Rattle.tb_grouping.proofs.Matching.{HoldsState, HoldsLive}
+use Rattle.tb_grouping.proofs.Matching.{HoldsLive}
 use Rattle.tb_grouping.proofs.SlotSide.{line, next, fetched, with_fetched, fetches, fetched_same, fetched_held, fetched_length, fetch_held}
 use Rattle.tb_grouping.proofs.Operands.{OperandFits, SourceHolds, operand_held, range_fetch}
 

@@ -6,9 +6,7 @@ use Rattle.tb_lower.specs.Control.{At, State, deepest, fault, fault_text, has_li
 use Rattle.tb_lower.specs.Slots.{Instr, Slots, SlotCode, leaving, settled}
 use Rattle.tb_lower.specs.Steps.{Goes}
 use Rattle.tb_reaching.proofs.Comes.{looser}
-use Rattle.tb_reaching.specs.View.{Fits, Setup, View}
-use Rattle.tb_runtime16.specs.Routines.{Routines}
-use Rattle.tb_keeping.specs.Layout.{Layout}
+use Rattle.tb_reaching.specs.View.{Fits, View}
 use Rattle.tb_selection.specs.Groups.{AsLine, AsNumber, AsSubroutine, Operand, Usage, Use, expand}
 use Rattle.tb_selection.specs.GroupSteps.{steps}
 use Rattle.tb_grouping.proofs.Alone.{Leads}
@@ -18,13 +16,16 @@ use Rattle.tb_grouping.proofs.OneWord.{spread_use, use_steps, used}
 use Rattle.tb_grouping.proofs.Ready.{Ready}
 use Rattle.tb_grouping.proofs.Sending.{number_law}
 use Rattle.tb_grouping.proofs.SlotSide.{fetched, line, with_fetched}
+use Rattle.tb_grouping.proofs.Surroundings.{Serves, Surroundings}
 
-module _ (ly : Layout) (f : Setup) (lo hi keys : ℕ) (fits : Fits f 16) (limit : ℕ) (rs : Routines ly.table ly.seed ly.numbers ly.start f lo hi keys limit) (code : SlotCode) (laid : GroupsLaid ly f.code f.whole code) (n : ℕ) (a : Operand) (is : List Instr) (s : State) (r : Slots) (w : View) where
+module _ (around : Surroundings) (fits : Fits around.f 16) (limit : ℕ) (rs : Serves around limit) (code : SlotCode) (laid : GroupsLaid around.ly around.f.code around.f.whole code) (n : ℕ) (a : Operand) (is : List Instr) (s : State) (r : Slots) (w : View) where
+  open around use {ly, f}
+
   abbrev most : ℕ
   most = 34 + (limit + limit)
 
   abbrev Begins : Usage → Type 0
-  Begins how = Ready ly f lo hi keys fits n (Use how a) (spread_use how a is) is s r w
+  Begins how = Ready around n (Use how a) (spread_use how a is) is s r w
 
   -- the word, and the slots behind it
   abbrev x : ℕ
@@ -33,21 +34,21 @@ module _ (ly : Layout) (f : Setup) (lo hi keys : ℕ) (fits : Fits f 16) (limit 
   abbrev slots : Slots
   slots = with_fetched s r 0 a
 
-  by_line : Begins AsLine → (t : Bool) → has_line ly.numbers x ≡ t → Leads ly f lo hi keys fits limit rs code laid w (settled n is slots (leaving (if t then Goes (record s { place = At x }) [] else fault 1 n)))
-  by_line h true e = looser f w _ _ [] (19 + limit) most (omega arith) (λ u x. x) (jump_found ly f lo hi keys fits limit rs code laid n is s r w a h e)
-  by_line h false e = looser f w _ _ (fault_text 1 n) (19 + limit) most (omega arith) (λ u x. x) (jump_fails ly f lo hi keys fits limit rs code laid n is s r w a h e)
+  by_line : Begins AsLine → (t : Bool) → has_line ly.numbers x ≡ t → Leads around fits limit rs code laid w (settled n is slots (leaving (if t then Goes (record s { place = At x }) [] else fault 1 n)))
+  by_line h true e = looser f w _ _ [] (19 + limit) most (omega arith) (λ u x. x) (jump_found around fits limit rs code laid n is s r w a h e)
+  by_line h false e = looser f w _ _ (fault_text 1 n) (19 + limit) most (omega arith) (λ u x. x) (jump_fails around fits limit rs code laid n is s r w a h e)
 
-  by_room : Begins AsSubroutine → (t u : Bool) → has_line ly.numbers x ≡ t → nat_lt (length s.returns) deepest ≡ u → Leads ly f lo hi keys fits limit rs code laid w (settled n is slots (leaving (if t then (if u then Goes (record s { place = At x; returns = next_after ly.numbers n ∷ s.returns }) [] else fault 4 n) else fault 1 n)))
-  by_room h false u e e' = looser f w _ _ (fault_text 1 n) (19 + limit) most (omega arith) (λ u x. x) (call_fails ly f lo hi keys fits limit rs code laid n is s r w a h e)
-  by_room h true false e e' = call_full ly f lo hi keys fits limit rs code laid n is s r w a h e e'
-  by_room h true true e e' = call_found ly f lo hi keys fits limit rs code laid n is s r w a h e e'
+  by_room : Begins AsSubroutine → (t u : Bool) → has_line ly.numbers x ≡ t → nat_lt (length s.returns) deepest ≡ u → Leads around fits limit rs code laid w (settled n is slots (leaving (if t then (if u then Goes (record s { place = At x; returns = next_after ly.numbers n ∷ s.returns }) [] else fault 4 n) else fault 1 n)))
+  by_room h false u e e' = looser f w _ _ (fault_text 1 n) (19 + limit) most (omega arith) (λ u x. x) (call_fails around fits limit rs code laid n is s r w a h e)
+  by_room h true false e e' = call_full around fits limit rs code laid n is s r w a h e e'
+  by_room h true true e e' = call_found around fits limit rs code laid n is s r w a h e e'
 
-  does : (how : Usage) → Begins how → Leads ly f lo hi keys fits limit rs code laid w (settled n is slots (used ly.numbers n how x s slots))
-  does AsNumber h = looser f w _ _ (digits_of x) (5 + limit) most (omega arith) (λ u x. x) (number_law ly f lo hi keys fits limit rs code n is s r w a h)
+  does : (how : Usage) → Begins how → Leads around fits limit rs code laid w (settled n is slots (used ly.numbers n how x s slots))
+  does AsNumber h = looser f w _ _ (digits_of x) (5 + limit) most (omega arith) (λ u x. x) (number_law around fits limit rs code n is s r w a h)
   does AsLine h = by_line h (has_line ly.numbers x) refl
   does AsSubroutine h = by_room h (has_line ly.numbers x) (nat_lt (length s.returns) deepest) refl refl
 
-  pub use_law : (how : Usage) → Begins how → Leads ly f lo hi keys fits limit rs code laid w (steps code (expand (Use how a)) (line code n (spread_use how a is) s r))
+  pub use_law : (how : Usage) → Begins how → Leads around fits limit rs code laid w (steps code (expand (Use how a)) (line code n (spread_use how a is) s r))
   use_law how h =
-      subst (λ x. Leads ly f lo hi keys fits limit rs code laid w x) (sym (use_steps code n how a is s r h.read.all_words))
-      (subst (λ ns. Leads ly f lo hi keys fits limit rs code laid w (settled n is slots (used ns n how x s slots))) (sym laid.numbered) (does how h))
+      subst (λ x. Leads around fits limit rs code laid w x) (sym (use_steps code n how a is s r h.read.all_words))
+      (subst (λ ns. Leads around fits limit rs code laid w (settled n is slots (used ns n how x s slots))) (sym laid.numbered) (does how h))

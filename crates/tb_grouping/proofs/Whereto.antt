@@ -3,25 +3,28 @@ use Rattle.std.proofs.Common.{◌≡◌, ℕ, List, [], ◌∷◌, refl, sym, ap
 use Rattle.tb_syntax.specs.Source.{numbers}
 use Rattle.tb_lower.specs.Control.{State, next_after}
 use Rattle.tb_lower.specs.Slots.{Whole, Slots, SlotCode}
-use Rattle.tb_reaching.specs.View.{Fits, Setup, View}
+use Rattle.tb_reaching.specs.View.{View}
 use Rattle.tb_runtime16.specs.Routines.{Entered, Here}
-use Rattle.tb_keeping.specs.Layout.{Layout, next_at, place_at}
-use Rattle.tb_keeping.proofs.Mirrors.{Typable}
+use Rattle.tb_keeping.specs.Layout.{next_at, place_at}
+use Rattle.tb_keeping.proofs.Mirrors.{HoldsState, Typable}
 use Rattle.tb_selection.specs.Groups.{Tested, HeldBefore, HeldNow}
 use Rattle.tb_selection.specs.Liveness.{nothing_live}
 use Rattle.tb_templates.specs.Sources.{tested_source}
-use Rattle.tb_grouping.proofs.Matching.{HoldsState, HoldsLive, Matches}
+use Rattle.tb_grouping.proofs.Matching.{HoldsLive, Matches}
 use Rattle.tb_grouping.proofs.TestSide.{TestedFits}
 use Rattle.tb_grouping.proofs.Operands.{operand_apart}
 use Rattle.tb_grouping.proofs.Sums.{Grounded}
+use Rattle.tb_grouping.proofs.Surroundings.{Surroundings}
 
 -- the left word's bytes are among the data
 pub tested_apart : (a : Tested) → TestedFits a → Grounded (tested_source a) 0
 tested_apart HeldBefore fit = ((refl, refl), λ e. omega (arith, e))
 tested_apart (HeldNow a) fit = operand_apart 0 a 0 (omega arith) (omega arith) fit
 
-module _ (ly : Layout) (f : Setup) (lo hi keys : ℕ) (fits : Fits f 16) (code : SlotCode) (same_numbers : numbers code ≡ ly.numbers) (n : ℕ) (s : State) (r : Slots) where
-  pub left_at : (m : ℕ → ℕ) (t gets : List ℕ) → HoldsState ly s m → HoldsLive nothing_live r m → Entered f lo hi m → t ≡ s.text → gets ≡ s.answers → Typable keys s.text s.answers → (w : View) → Here (next_at ly n) (lo ∷ hi ∷ []) m t gets w → Matches ly f lo hi keys (record { state = record s { place = next_after (numbers code) n }; rest = Whole; slots = r }) w
+module _ (around : Surroundings) (code : SlotCode) (same_numbers : numbers code ≡ around.ly.numbers) (n : ℕ) (s : State) (r : Slots) where
+  open around use {ly, f, lo, hi, keys}
+
+  pub left_at : (m : ℕ → ℕ) (t gets : List ℕ) → HoldsState ly s m → HoldsLive nothing_live r m → Entered f lo hi m → t ≡ s.text → gets ≡ s.answers → Typable keys s.text s.answers → (w : View) → Here (next_at ly n) (lo ∷ hi ∷ []) m t gets w → Matches around (record { state = record s { place = next_after (numbers code) n }; rest = Whole; slots = r }) w
   left_at m t gets hs hr en text got short w e = record {
     pc = e.pc ∙ ap (λ ns. place_at ly (next_after ns n)) (sym same_numbers);
     stack = e.stack;

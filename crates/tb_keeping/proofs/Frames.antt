@@ -3,18 +3,15 @@ use Rattle.std.proofs.Common.{◌≡◌, ◌≢◌, ℕ, suc, ◌+◌, ◌/◌, 
 use Rattle.std.proofs.lemmas.List.{length-map}
 use Rattle.std.specs.Prelude.{slice_index}
 use Rattle.tb_cpu.specs.Effects.{bit}
-use Rattle.tb_keeping.proofs.Mirrors.{Holds, notes_of}
+use Rattle.tb_keeping.proofs.Mirrors.{HoldsState, notes_of}
 use Rattle.tb_keeping.proofs.Pieces.{put_word}
 use Rattle.tb_keeping.specs.Layout.{Layout, place_at}
 use Rattle.tb_runtime16.specs.Routines.{Noted, SeedAt, WordAt, first, is_owned, stored}
 use Rattle.tb_lower.specs.Control.{Place, State, column_after}
-use Rattle.tb_lower.specs.Meaning as meaning
-use Rattle.tb_lower.specs.Slots.{Slots}
 use Rattle.tb_memmap.specs.Bytes.{with_byte}
 use Rattle.tb_reaching.proofs.Memory.{put_other, put_same}
-use Rattle.tb_runtime16.specs.Places.{COLUMN, HELD, LINE, NOTES, OPEN, SEED, SEEDED}
-use Rattle.tb_templates.specs.Templates.{slot_at, var_at}
-use Rattle.tb_words.specs.Words.{word}
+use Rattle.tb_runtime16.specs.Places.{COLUMN, LINE, NOTES, OPEN, SEED, SEEDED}
+use Rattle.tb_templates.specs.Templates.{var_at}
 use Rattle.std.proofs.lemmas.Bool.Decides.{nat_tests}
 
 -- ---- words
@@ -62,37 +59,7 @@ noted_kept m m' (n ∷ ns) few s h = (
 pub notes_kept : (ly : Layout) (m m' : ℕ → ℕ) (ps : List Place) → length ps ≤ 500 → Same m m' 0xC100 0xC4F3 → Noted m (notes_of ly ps) → Noted m' (notes_of ly ps)
 notes_kept ly m m' ps few s h = noted_kept m m' (notes_of ly ps) (omega (arith, few, length-map ps (place_at ly))) s h
 
-module _ (ly : Layout) (s : State) (slots : Slots) (m m' : ℕ → ℕ) (h : Holds ly s slots m) where
-  pub vars_kept : Same m m' 0xC000 0xC033 → (x : ℕ) → x < 26 → WordAt m' (var_at x) (slice_index s.vars x)
-  vars_kept e x lt = word_kept m m' (var_at x) _ (e _ (omega arith) (omega (arith, lt))) (e _ (omega arith) (omega (arith, lt))) (h.vars x lt)
-
-  pub words_kept : Same m m' 0xC040 0xC05F → (k : ℕ) → k < 16 → WordAt m' (slot_at k) (slice_index slots.words k)
-  words_kept e k lt = word_kept m m' (slot_at k) _ (e _ (omega arith) (omega (arith, lt))) (e _ (omega arith) (omega (arith, lt))) (h.words k lt)
-
-  pub seed_kept : SameSingles m m' → SeedAt m' ly.seed s.seed
-  seed_kept e = go h.seeded
-    where
-      go : SeedAt m ly.seed s.seed → SeedAt m' ly.seed s.seed
-      go (stored k w) = stored (e SEEDED (omega arith) (omega arith) (λ q. omega (arith, q)) (λ q. omega (arith, q)) ∙ k) (word_kept m m' SEED _ (e SEED (omega arith) (omega arith) (λ q. omega (arith, q)) (λ q. omega (arith, q))) (e (SEED + 1) (omega arith) (omega arith) (λ q. omega (arith, q)) (λ q. omega (arith, q))) w)
-      go (first k q r old w) = first (e SEEDED (omega arith) (omega arith) (λ q. omega (arith, q)) (λ q. omega (arith, q)) ∙ k) q r old (word_kept m m' SEED _ (e SEED (omega arith) (omega arith) (λ q. omega (arith, q)) (λ q. omega (arith, q))) (e (SEED + 1) (omega arith) (omega arith) (λ q. omega (arith, q)) (λ q. omega (arith, q))) w)
-
-  -- new variables, column, slots and held word; the rest stands
-  pub holds_with : (vs : List ℕ) (c : ℕ) (slots' : Slots) → length vs ≡ 26 → length slots'.words ≡ 16 → ((x : ℕ) → x < 26 → WordAt m' (var_at x) (slice_index vs x)) → ((k : ℕ) → k < 16 → WordAt m' (slot_at k) (slice_index slots'.words k)) → WordAt m' HELD slots'.held → m' COLUMN ≡ c % 256 → SameSingles m m' → Same m m' 0xC100 0xC4F3 → Holds ly (record s { vars = vs; column = c }) slots' m'
-  holds_with vs c slots' lv lw v w d co e e' = record {
-    vars = v;
-    words = w;
-    held = d;
-    column = co;
-    opened = e OPEN (omega arith) (omega arith) (λ q. omega (arith, q)) (λ q. omega (arith, q)) ∙ h.opened;
-    seeded = seed_kept e;
-    count = word_kept m m' NOTES _ (e NOTES (omega arith) (omega arith) (λ q. omega (arith, q)) (λ q. omega (arith, q))) (e (NOTES + 1) (omega arith) (omega arith) (λ q. omega (arith, q)) (λ q. omega (arith, q))) h.count;
-    notes = notes_kept ly m m' s.returns h.few e' h.notes;
-    few = h.few;
-    all_vars = lv;
-    all_words = lw;
-  }
-
--- bytes are sent: the column follows
+-- the column behind bytes that are sent
 pub column_mod : (c : ℕ) (t : List ℕ) → column_after (c % 256) t % 256 ≡ column_after c t % 256
 column_mod c [] = omega arith
 column_mod c (b ∷ bs) = go (λ k. column_mod k bs) (eqb b 13)
@@ -101,51 +68,53 @@ column_mod c (b ∷ bs) = go (λ k. column_mod k bs) (eqb b 13)
     go r true = refl
     go r false = sym (r (c % 256 + 1)) ∙ ap (λ x. column_after x bs % 256) (let e : (c % 256 + 1) % 256 ≡ (c + 1) % 256 = omega arith in e) ∙ r (c + 1)
 
-pub told : (ly : Layout) (s : State) (slots : Slots) (m m' : ℕ → ℕ) (t : List ℕ) → m' COLUMN ≡ column_after (m COLUMN) t % 256 → ((a : ℕ) → is_owned a ≡ true → a ≢ COLUMN → m' a ≡ m a) → Holds ly s slots m → Holds ly (record s { column = column_after s.column t }) slots m'
-told ly s slots m m' t co e h =
-    let low : (a : ℕ) → 0xC000 ≤ a → a ≤ 0xC061 → a ≢ COLUMN → m' a ≡ m a = λ a lo hi n. e a (owned_low a lo hi) n in
-    holds_with ly s slots m m' h s.vars (column_after s.column t) slots h.all_vars h.all_words
-    (vars_kept ly s slots m m' h (λ a lo hi. low a lo (omega (arith, hi)) (λ e. omega (arith, e, hi))))
-    (words_kept ly s slots m m' h (λ a lo hi. low a (omega (arith, lo)) (omega (arith, hi)) (λ e. omega (arith, e, lo))))
-    (word_kept m m' HELD _ (low HELD (omega arith) (omega arith) (λ e. omega (arith, e))) (low (HELD + 1) (omega arith) (omega arith) (λ e. omega (arith, e))) h.held)
-    (co ∙ ap (λ c. column_after c t % 256) h.column ∙ column_mod s.column t)
-    (λ a lo hi n n'. low a (omega (arith, lo)) (omega (arith, hi)) (λ e. omega (arith, e, lo)))
-    (λ a lo hi. e a (owned_note a lo hi) (λ e. omega (arith, e, lo)))
+-- ---- the state
+pub seed_over : (m m' : ℕ → ℕ) {option seed : ℕ} → m' SEEDED ≡ m SEEDED → m' SEED ≡ m SEED → m' (SEED + 1) ≡ m (SEED + 1) → SeedAt m option seed → SeedAt m' option seed
+seed_over m m' a b c (stored k w) = stored (a ∙ k) (word_kept m m' SEED _ b c w)
+seed_over m m' a b c (first k q r old w) = first (a ∙ k) q r old (word_kept m m' SEED _ b c w)
 
--- the newest note is taken away
-pub popped : (ly : Layout) (s : State) (slots : Slots) (m m' : ℕ → ℕ) (p : Place) (ps : List Place) → s.returns ≡ p ∷ ps → WordAt m' NOTES (length ps) → ((a : ℕ) → is_owned a ≡ true → a ≢ NOTES → a ≢ NOTES + 1 → m' a ≡ m a) → Holds ly s slots m → Holds ly (record s { place = p; returns = ps }) slots m'
-popped ly s slots m m' p ps q count e h =
-    let low : (a : ℕ) → 0xC000 ≤ a → a ≤ 0xC061 → a ≢ NOTES → a ≢ NOTES + 1 → m' a ≡ m a = λ a lo hi n n'. e a (owned_low a lo hi) n n' in
-    let few : suc (length ps) ≤ 500 = subst (λ l. length l ≤ 500) q h.few in
-    let notes : Noted m (notes_of ly (p ∷ ps)) = subst (λ l. Noted m (notes_of ly l)) q h.notes in
-    record {
-      vars = vars_kept ly s slots m m' h (λ a lo hi. low a lo (omega (arith, hi)) (λ e. omega (arith, e, hi)) (λ e. omega (arith, e, hi)));
-      words = words_kept ly s slots m m' h (λ a lo hi. low a (omega (arith, lo)) (omega (arith, hi)) (λ e. omega (arith, e, lo)) (λ e. omega (arith, e, lo)));
-      held = word_kept m m' HELD _ (low HELD (omega arith) (omega arith) (λ e. omega (arith, e)) (λ e. omega (arith, e))) (low (HELD + 1) (omega arith) (omega arith) (λ e. omega (arith, e)) (λ e. omega (arith, e))) h.held;
-      column = low COLUMN (omega arith) (omega arith) (λ e. omega (arith, e)) (λ e. omega (arith, e)) ∙ h.column;
-      opened = low OPEN (omega arith) (omega arith) (λ e. omega (arith, e)) (λ e. omega (arith, e)) ∙ h.opened;
-      seeded = seed_over (low SEEDED (omega arith) (omega arith) (λ e. omega (arith, e)) (λ e. omega (arith, e))) (low SEED (omega arith) (omega arith) (λ e. omega (arith, e)) (λ e. omega (arith, e))) (low (SEED + 1) (omega arith) (omega arith) (λ e. omega (arith, e)) (λ e. omega (arith, e))) h.seeded;
-      count = count;
-      notes = notes_kept ly m m' ps (omega (arith, few)) (λ a lo hi. e a (owned_note a lo hi) (λ e. omega (arith, e, lo)) (λ e. omega (arith, e, lo))) notes.1;
-      few = omega (arith, few);
-      all_vars = h.all_vars;
-      all_words = h.all_words;
-    }
-  where
-    seed_over : m' SEEDED ≡ m SEEDED → m' SEED ≡ m SEED → m' (SEED + 1) ≡ m (SEED + 1) → SeedAt m ly.seed s.seed → SeedAt m' ly.seed s.seed
-    seed_over a b c (stored k w) = stored (a ∙ k) (word_kept m m' SEED _ b c w)
-    seed_over a b c (first k q r old w) = first (a ∙ k) q r old (word_kept m m' SEED _ b c w)
+module _ (ly : Layout) (s : State) (m m' : ℕ → ℕ) (h : HoldsState ly s m) where
+  vars_kept : Same m m' 0xC000 0xC033 → (x : ℕ) → x < 26 → WordAt m' (var_at x) (slice_index s.vars x)
+  vars_kept e x lt = word_kept m m' (var_at x) _ (e _ (omega arith) (omega (arith, lt))) (e _ (omega arith) (omega (arith, lt))) (h.vars x lt)
 
--- ---- more than one part
-module _ (ly : Layout) (s : State) (slots : Slots) (m m' : ℕ → ℕ) (h : Holds ly s slots m) where
+  -- bytes are sent
+  pub state_told : (t : List ℕ) → m' COLUMN ≡ column_after (m COLUMN) t % 256 → ((a : ℕ) → is_owned a ≡ true → a ≢ COLUMN → m' a ≡ m a) → HoldsState ly (record s { column = column_after s.column t }) m'
+  state_told t co e =
+      let low : (a : ℕ) → 0xC000 ≤ a → a ≤ 0xC061 → a ≢ COLUMN → m' a ≡ m a = λ a lo hi. e a (owned_low a lo hi) in
+      record {
+        vars = vars_kept (λ a lo hi. low a lo (omega (arith, hi)) (λ e. omega (arith, e, hi)));
+        column = co ∙ ap (λ c. column_after c t % 256) h.column ∙ column_mod s.column t;
+        opened = low OPEN (omega arith) (omega arith) (λ e. omega (arith, e)) ∙ h.opened;
+        seeded = seed_over m m' (low SEEDED (omega arith) (omega arith) (λ e. omega (arith, e))) (low SEED (omega arith) (omega arith) (λ e. omega (arith, e))) (low (SEED + 1) (omega arith) (omega arith) (λ e. omega (arith, e))) h.seeded;
+        count = word_kept m m' NOTES _ (low NOTES (omega arith) (omega arith) (λ e. omega (arith, e))) (low (NOTES + 1) (omega arith) (omega arith) (λ e. omega (arith, e))) h.count;
+        notes = notes_kept ly m m' s.returns h.few (λ a lo hi. e a (owned_note a lo hi) (λ e. omega (arith, e, lo))) h.notes;
+        few = h.few;
+        all_vars = h.all_vars;
+      }
+
+  -- the newest note is taken away
+  pub state_popped : (p : Place) (ps : List Place) → s.returns ≡ p ∷ ps → WordAt m' NOTES (length ps) → ((a : ℕ) → is_owned a ≡ true → a ≢ NOTES → a ≢ NOTES + 1 → m' a ≡ m a) → HoldsState ly (record s { place = p; returns = ps }) m'
+  state_popped p ps q count e =
+      let low : (a : ℕ) → 0xC000 ≤ a → a ≤ 0xC061 → a ≢ NOTES → a ≢ NOTES + 1 → m' a ≡ m a = λ a lo hi. e a (owned_low a lo hi) in
+      let few : suc (length ps) ≤ 500 = subst (λ l. length l ≤ 500) q h.few in
+      let notes : Noted m (notes_of ly (p ∷ ps)) = subst (λ l. Noted m (notes_of ly l)) q h.notes in
+      record {
+        vars = vars_kept (λ a lo hi. low a lo (omega (arith, hi)) (λ e. omega (arith, e, hi)) (λ e. omega (arith, e, hi)));
+        column = low COLUMN (omega arith) (omega arith) (λ e. omega (arith, e)) (λ e. omega (arith, e)) ∙ h.column;
+        opened = low OPEN (omega arith) (omega arith) (λ e. omega (arith, e)) (λ e. omega (arith, e)) ∙ h.opened;
+        seeded = seed_over m m' (low SEEDED (omega arith) (omega arith) (λ e. omega (arith, e)) (λ e. omega (arith, e))) (low SEED (omega arith) (omega arith) (λ e. omega (arith, e)) (λ e. omega (arith, e))) (low (SEED + 1) (omega arith) (omega arith) (λ e. omega (arith, e)) (λ e. omega (arith, e))) h.seeded;
+        count = count;
+        notes = notes_kept ly m m' ps (omega (arith, few)) (λ a lo hi. e a (owned_note a lo hi) (λ e. omega (arith, e, lo)) (λ e. omega (arith, e, lo))) notes.1;
+        few = omega (arith, few);
+        all_vars = h.all_vars;
+      }
+
   -- the RND state is stored
-  pub drawn : (seed : ℕ) → m' SEEDED ≡ 1 → WordAt m' SEED seed → ((a : ℕ) → is_owned a ≡ true → a ≢ SEEDED → a ≢ SEED → a ≢ SEED + 1 → m' a ≡ m a) → Holds ly (record s { seed = seed }) slots m'
-  drawn seed one word e =
+  pub state_drawn : (seed : ℕ) → m' SEEDED ≡ 1 → WordAt m' SEED seed → ((a : ℕ) → is_owned a ≡ true → a ≢ SEEDED → a ≢ SEED → a ≢ SEED + 1 → m' a ≡ m a) → HoldsState ly (record s { seed = seed }) m'
+  state_drawn seed one word e =
       let low : (a : ℕ) → 0xC000 ≤ a → a ≤ 0xC061 → a ≢ SEEDED → a ≢ SEED → a ≢ SEED + 1 → m' a ≡ m a = λ a lo hi. e a (owned_low a lo hi) in
       record {
-        vars = vars_kept ly s slots m m' h (λ a lo hi. low a lo (omega (arith, hi)) (λ e. omega (arith, e, hi)) (λ e. omega (arith, e, hi)) (λ e. omega (arith, e, hi)));
-        words = words_kept ly s slots m m' h (λ a lo hi. low a (omega (arith, lo)) (omega (arith, hi)) (λ e. omega (arith, e, lo)) (λ e. omega (arith, e, lo)) (λ e. omega (arith, e, lo)));
-        held = word_kept m m' HELD _ (low HELD (omega arith) (omega arith) (λ e. omega (arith, e)) (λ e. omega (arith, e)) (λ e. omega (arith, e))) (low (HELD + 1) (omega arith) (omega arith) (λ e. omega (arith, e)) (λ e. omega (arith, e)) (λ e. omega (arith, e))) h.held;
+        vars = vars_kept (λ a lo hi. low a lo (omega (arith, hi)) (λ e. omega (arith, e, hi)) (λ e. omega (arith, e, hi)) (λ e. omega (arith, e, hi)));
         column = low COLUMN (omega arith) (omega arith) (λ e. omega (arith, e)) (λ e. omega (arith, e)) (λ e. omega (arith, e)) ∙ h.column;
         opened = low OPEN (omega arith) (omega arith) (λ e. omega (arith, e)) (λ e. omega (arith, e)) (λ e. omega (arith, e)) ∙ h.opened;
         seeded = stored one word;
@@ -153,49 +122,33 @@ module _ (ly : Layout) (s : State) (slots : Slots) (m m' : ℕ → ℕ) (h : Hol
         notes = notes_kept ly m m' s.returns h.few (λ a lo hi. e a (owned_note a lo hi) (λ e. omega (arith, e, lo)) (λ e. omega (arith, e, lo)) (λ e. omega (arith, e, lo))) h.notes;
         few = h.few;
         all_vars = h.all_vars;
-        all_words = h.all_words;
       }
 
   -- INPUT has read a number
-  pub asked : (stays : Bool) (c : ℕ) (text : List ℕ) → m' OPEN ≡ bit stays → m' COLUMN ≡ c % 256 → ((a : ℕ) → is_owned a ≡ true → a ≢ OPEN → a ≢ COLUMN → m' a ≡ m a) → Holds ly (record s { open_line = stays; column = c; text = text }) slots m'
-  asked stays c text op co e =
+  pub state_asked : (stays : Bool) (c : ℕ) (text : List ℕ) → m' OPEN ≡ bit stays → m' COLUMN ≡ c % 256 → ((a : ℕ) → is_owned a ≡ true → a ≢ OPEN → a ≢ COLUMN → m' a ≡ m a) → HoldsState ly (record s { open_line = stays; column = c; text = text }) m'
+  state_asked stays c text op co e =
       let low : (a : ℕ) → 0xC000 ≤ a → a ≤ 0xC061 → a ≢ OPEN → a ≢ COLUMN → m' a ≡ m a = λ a lo hi. e a (owned_low a lo hi) in
       record {
-        vars = vars_kept ly s slots m m' h (λ a lo hi. low a lo (omega (arith, hi)) (λ e. omega (arith, e, hi)) (λ e. omega (arith, e, hi)));
-        words = words_kept ly s slots m m' h (λ a lo hi. low a (omega (arith, lo)) (omega (arith, hi)) (λ e. omega (arith, e, lo)) (λ e. omega (arith, e, lo)));
-        held = word_kept m m' HELD _ (low HELD (omega arith) (omega arith) (λ e. omega (arith, e)) (λ e. omega (arith, e))) (low (HELD + 1) (omega arith) (omega arith) (λ e. omega (arith, e)) (λ e. omega (arith, e))) h.held;
+        vars = vars_kept (λ a lo hi. low a lo (omega (arith, hi)) (λ e. omega (arith, e, hi)) (λ e. omega (arith, e, hi)));
         column = co;
         opened = op;
-        seeded = seed_over (low SEEDED (omega arith) (omega arith) (λ e. omega (arith, e)) (λ e. omega (arith, e))) (low SEED (omega arith) (omega arith) (λ e. omega (arith, e)) (λ e. omega (arith, e))) (low (SEED + 1) (omega arith) (omega arith) (λ e. omega (arith, e)) (λ e. omega (arith, e))) h.seeded;
+        seeded = seed_over m m' (low SEEDED (omega arith) (omega arith) (λ e. omega (arith, e)) (λ e. omega (arith, e))) (low SEED (omega arith) (omega arith) (λ e. omega (arith, e)) (λ e. omega (arith, e))) (low (SEED + 1) (omega arith) (omega arith) (λ e. omega (arith, e)) (λ e. omega (arith, e))) h.seeded;
         count = word_kept m m' NOTES _ (low NOTES (omega arith) (omega arith) (λ e. omega (arith, e)) (λ e. omega (arith, e))) (low (NOTES + 1) (omega arith) (omega arith) (λ e. omega (arith, e)) (λ e. omega (arith, e))) h.count;
         notes = notes_kept ly m m' s.returns h.few (λ a lo hi. e a (owned_note a lo hi) (λ e. omega (arith, e, lo)) (λ e. omega (arith, e, lo))) h.notes;
         few = h.few;
         all_vars = h.all_vars;
-        all_words = h.all_words;
       }
-    where
-      seed_over : m' SEEDED ≡ m SEEDED → m' SEED ≡ m SEED → m' (SEED + 1) ≡ m (SEED + 1) → SeedAt m ly.seed s.seed → SeedAt m' ly.seed s.seed
-      seed_over a b c (stored k w) = stored (a ∙ k) (word_kept m m' SEED _ b c w)
-      seed_over a b c (first k q r old w) = first (a ∙ k) q r old (word_kept m m' SEED _ b c w)
 
   -- a note more
-  pub pushed : (to p : Place) → length s.returns < 500 → WordAt m' NOTES (suc (length s.returns)) → Noted m' (notes_of ly (p ∷ s.returns)) → ((a : ℕ) → 0xC000 ≤ a → a ≤ 0xC061 → a ≢ NOTES → a ≢ NOTES + 1 → m' a ≡ m a) → Holds ly (record s { place = to; returns = p ∷ s.returns }) slots m'
-  pushed to p few count note e =
-      let low = e in
+  pub state_pushed : (to p : Place) → length s.returns < 500 → WordAt m' NOTES (suc (length s.returns)) → Noted m' (notes_of ly (p ∷ s.returns)) → ((a : ℕ) → 0xC000 ≤ a → a ≤ 0xC061 → a ≢ NOTES → a ≢ NOTES + 1 → m' a ≡ m a) → HoldsState ly (record s { place = to; returns = p ∷ s.returns }) m'
+  state_pushed to p few count note low =
       record {
-        vars = vars_kept ly s slots m m' h (λ a lo hi. low a lo (omega (arith, hi)) (λ e. omega (arith, e, hi)) (λ e. omega (arith, e, hi)));
-        words = words_kept ly s slots m m' h (λ a lo hi. low a (omega (arith, lo)) (omega (arith, hi)) (λ e. omega (arith, e, lo)) (λ e. omega (arith, e, lo)));
-        held = word_kept m m' HELD _ (low HELD (omega arith) (omega arith) (λ e. omega (arith, e)) (λ e. omega (arith, e))) (low (HELD + 1) (omega arith) (omega arith) (λ e. omega (arith, e)) (λ e. omega (arith, e))) h.held;
+        vars = vars_kept (λ a lo hi. low a lo (omega (arith, hi)) (λ e. omega (arith, e, hi)) (λ e. omega (arith, e, hi)));
         column = low COLUMN (omega arith) (omega arith) (λ e. omega (arith, e)) (λ e. omega (arith, e)) ∙ h.column;
         opened = low OPEN (omega arith) (omega arith) (λ e. omega (arith, e)) (λ e. omega (arith, e)) ∙ h.opened;
-        seeded = seed_over (low SEEDED (omega arith) (omega arith) (λ e. omega (arith, e)) (λ e. omega (arith, e))) (low SEED (omega arith) (omega arith) (λ e. omega (arith, e)) (λ e. omega (arith, e))) (low (SEED + 1) (omega arith) (omega arith) (λ e. omega (arith, e)) (λ e. omega (arith, e))) h.seeded;
+        seeded = seed_over m m' (low SEEDED (omega arith) (omega arith) (λ e. omega (arith, e)) (λ e. omega (arith, e))) (low SEED (omega arith) (omega arith) (λ e. omega (arith, e)) (λ e. omega (arith, e))) (low (SEED + 1) (omega arith) (omega arith) (λ e. omega (arith, e)) (λ e. omega (arith, e))) h.seeded;
         count = count;
         notes = note;
         few = few;
         all_vars = h.all_vars;
-        all_words = h.all_words;
       }
-    where
-      seed_over : m' SEEDED ≡ m SEEDED → m' SEED ≡ m SEED → m' (SEED + 1) ≡ m (SEED + 1) → SeedAt m ly.seed s.seed → SeedAt m' ly.seed s.seed
-      seed_over a b c (stored k w) = stored (a ∙ k) (word_kept m m' SEED _ b c w)
-      seed_over a b c (first k q r old w) = first (a ∙ k) q r old (word_kept m m' SEED _ b c w)

@@ -6,11 +6,10 @@ use Rattle.tb_kernal.specs.declared.events.Event.{Event}
 use Rattle.tb_kernal.specs.declared.status.Status.TheVariants.{Running, Waits as WaitsForKey, Returned, Wrong as WentWrong}
 use Rattle.tb_kernal.specs.Machine as machine
 use Rattle.tb_kernal.specs.Machine.{status}
-use Rattle.tb_kernal.specs.Runs.{run, all_lawful, goes, is_own}
+use Rattle.tb_kernal.specs.Runs.{run, all_lawful, goes}
 use Rattle.tb_reaching.specs.Reaching.{Arrived, OnTheWay}
 use Rattle.tb_reaching.specs.View.{View, Setup, Part, Holds as PartHolds, At, Among, UnderWay, Comes, Fits, part_at}
 use Rattle.tb_reaching.specs.Start.{setup_of, view_of}
-use Rattle.tb_reaching.proofs.Laws.{run_append, goes_append, lawful_after}
 use Rattle.tb_reaching.proofs.Start.{at_start, fits_start, homed_start, length_from}
 use Rattle.tb_syntax.specs.Source.{Program, numbers}
 use Rattle.tb_lower.specs.Steps.{End, Ended, Faulted, Step, Run, GoesOn, Over, sent_by}
@@ -22,8 +21,9 @@ use Rattle.tb_lower.specs.Slots.{SlotCode, SlotState, Slots, Whole}
 use Rattle.tb_keeping.specs.Kept.{Starts, HasEnded, IsSound, HasDone, Keeps}
 use Rattle.tb_keeping.specs.Layout.{Layout, is_start, inner}
 use Rattle.tb_keeping.proofs.Inductions as keeps
+use Rattle.tb_keeping.proofs.Inductions.{goes_back, lawful_back, run_back}
 use Rattle.tb_keeping.proofs.Strides.{IsStride}
-use Rattle.tb_keeping.proofs.Joins.{move, IsLawful, sent, same_goes, same_after, all_are_lawful, sends, IsEnd, end_stays, R, Law, Runs, under_way_runs, reaches, fine, ended}
+use Rattle.tb_keeping.proofs.Joins.{IsEnd, end_stays, R, Law, Runs, under_way_runs, reaches, fine, ended}
 
 -- ---- the start
 -- a byte that is no line's first one is one of the program's
@@ -135,15 +135,15 @@ module _ (place : ℕ) (bytes : List ℕ) (from : 0x0800 ≤ place) (to : place 
         silent = a.sent ∙ append-nil s.sent ∙ h.start.nothing_sent
 
         lawful_rest : all_lawful a.after (run a.before s) ≡ true
-        lawful_rest = lawful_after a.before a.after s (subst (λ x. all_lawful x s ≡ true) a.split l)
+        lawful_rest = lawful_back a.before a.after es s (sym a.split) l
 
-        same_end : keeps.after machine.State Event move IsLawful is_own sent a.after (run a.before s) ≡ run es s
-        same_end = same_after a.after (run a.before s) ∙ sym (run_append a.before a.after s) ∙ ap (λ l. run l s) (sym a.split)
+        same_end : run a.after (run a.before s) ≡ run es s
+        same_end = run_back a.before a.after es s (sym a.split)
 
-        kept : (m : ℕ) × keeps.IsKept machine.State Event move IsLawful is_own sent sends Ends (end_stays f (above_so s h)) program sc follows step stride Related (UnderWay f) (limit k) (positive k) (reaches f (above_so s h) (M s) step (limit k) (laws s h)) (source_run program seed s.text s.answers m) (run es s)
+        kept : (m : ℕ) × keeps.IsKept Ends (end_stays f (above_so s h)) program sc follows step stride Related (UnderWay f) (limit k) (positive k) (reaches f (above_so s h) (M s) step (limit k) (laws s h)) (source_run program seed s.text s.answers m) (run es s)
         kept =
-            let r = keeps.kept machine.State Event move IsLawful is_own sent sends Ends (end_stays f (above_so s h)) program sc follows step stride Related (UnderWay f) (limit k) (positive k) (reaches f (above_so s h) (M s) step (limit k) (laws s h)) seed s.text s.answers a.there.2.0 a.there.2.1 (run a.before s) silent (a.there.0, a.there.1, a.there.2.2) a.after (all_are_lawful a.after (run a.before s) lawful_rest) in
-            (r.0, subst (keeps.IsKept machine.State Event move IsLawful is_own sent sends Ends (end_stays f (above_so s h)) program sc follows step stride Related (UnderWay f) (limit k) (positive k) (reaches f (above_so s h) (M s) step (limit k) (laws s h)) (source_run program seed s.text s.answers r.0)) same_end r.1)
+            let r = keeps.kept Ends (end_stays f (above_so s h)) program sc follows step stride Related (UnderWay f) (limit k) (positive k) (reaches f (above_so s h) (M s) step (limit k) (laws s h)) seed s.text s.answers a.there.2.0 a.there.2.1 (run a.before s) silent (a.there.0, a.there.1, a.there.2.2) a.after lawful_rest in
+            (r.0, subst (keeps.IsKept Ends (end_stays f (above_so s h)) program sc follows step stride Related (UnderWay f) (limit k) (positive k) (reaches f (above_so s h) (M s) step (limit k) (laws s h)) (source_run program seed s.text s.answers r.0)) same_end r.1)
 
         late : IsSound program seed s (run es s)
         late = ⊎_elim
@@ -153,13 +153,13 @@ module _ (place : ℕ) (bytes : List ℕ) (from : 0x0800 ≤ place) (to : place 
 
         passed : (m : ℕ) → n + m * (longest sc + 1) * limit k ≤ goes es → HasDone (source_run program seed s.text s.answers m) (run es s)
         passed m le =
-            let more : m * (longest sc + 1) * limit k ≤ keeps.goes machine.State Event move IsLawful is_own sent a.after = subst (λ g. m * (longest sc + 1) * limit k ≤ g) (sym (same_goes a.after)) (omega (arith, le, a.few, ap goes a.split, goes_append a.before a.after)) in
-            to_done (source_run program seed s.text s.answers m) (keeps.paced machine.State Event move IsLawful is_own sent sends Ends (end_stays f (above_so s h)) program sc follows step stride Related (UnderWay f) (limit k) (positive k) (reaches f (above_so s h) (M s) step (limit k) (laws s h)) seed s.text s.answers a.there.2.0 a.there.2.1 (run a.before s) silent (a.there.0, a.there.1, a.there.2.2) a.after (all_are_lawful a.after (run a.before s) lawful_rest) m more)
+            let more : m * (longest sc + 1) * limit k ≤ goes a.after = omega (arith, le, a.few, goes_back a.before a.after es (sym a.split)) in
+            to_done (source_run program seed s.text s.answers m) (keeps.paced Ends (end_stays f (above_so s h)) program sc follows step stride Related (UnderWay f) (limit k) (positive k) (reaches f (above_so s h) (M s) step (limit k) (laws s h)) seed s.text s.answers a.there.2.0 a.there.2.1 (run a.before s) silent (a.there.0, a.there.1, a.there.2.2) a.after lawful_rest m more)
           where
-            to_done : (r : Run State) → keeps.HasPassed machine.State Event move IsLawful is_own sent sends Ends (end_stays f (above_so s h)) program sc follows step stride Related (UnderWay f) (limit k) (positive k) (reaches f (above_so s h) (M s) step (limit k) (laws s h)) seed s.text s.answers a.there.2.0 a.there.2.1 (run a.before s) silent (a.there.0, a.there.1, a.there.2.2) a.after (all_are_lawful a.after (run a.before s) lawful_rest) r (keeps.after machine.State Event move IsLawful is_own sent a.after (run a.before s)) → HasDone r (run es s)
+            to_done : (r : Run State) → keeps.HasPassed Ends (end_stays f (above_so s h)) program sc follows step stride Related (UnderWay f) (limit k) (positive k) (reaches f (above_so s h) (M s) step (limit k) (laws s h)) seed s.text s.answers a.there.2.0 a.there.2.1 (run a.before s) silent (a.there.0, a.there.1, a.there.2.2) a.after lawful_rest r (run a.after (run a.before s)) → HasDone r (run es s)
             to_done (GoesOn c out) p = subst (λ t. IsPrefix out t.sent) same_end p
             to_done (Over why out) p =
-                let q = subst (λ t. (sent t ≡ out) × Ends why t) same_end p in
+                let q = subst (λ t. (t.sent ≡ out) × Ends why t) same_end p in
                 (q.0, ended f (above_so s h) why (run es s) q.1)
 
       pub sound : (es : List Event) → all_lawful es s ≡ true → IsSound program seed s (run es s)

@@ -1,12 +1,10 @@
 -- From laws of views to the run of a program.
-use Rattle.std.proofs.Common.{◌≡◌, ◌⊎◌, ℕ, ◌+◌, ◌≤◌, ◌<◌, true, List, [], ◌∷◌, ◌++◌, length, refl, sym, ap, ◌∙◌, subst, inl, inr, ⊎_elim, append_assoc, arith}
-use Rattle.std.proofs.lemmas.Bool.{and_parts}
+use Rattle.std.proofs.Common.{◌≡◌, ◌⊎◌, ℕ, ◌+◌, ◌≤◌, true, List, [], length, refl, ap, inl, inr, ⊎_elim, arith}
 use Rattle.tb_kernal.specs.declared.events.Event.{Event}
-use Rattle.tb_kernal.specs.declared.events.Event.TheVariants.{Go, Interrupt}
 use Rattle.tb_kernal.specs.declared.status.Status.TheVariants.{Running}
 use Rattle.tb_kernal.specs.Machine as machine
 use Rattle.tb_kernal.specs.Machine.{status, happens, is_lawful}
-use Rattle.tb_kernal.specs.Runs.{run, all_lawful, goes, is_own}
+use Rattle.tb_kernal.specs.Runs.{run, all_lawful, goes}
 use Rattle.tb_reaching.specs.Reaching.{Arrived, OnTheWay}
 use Rattle.tb_reaching.specs.View.{View, Setup, At, Among, UnderWay, Comes}
 use Rattle.tb_reaching.specs.Start.{IsHome, IsWaiting}
@@ -14,48 +12,17 @@ use Rattle.tb_reaching.proofs.Barred.{Enters, opened}
 use Rattle.tb_reaching.proofs.Comes.{looser}
 use Rattle.tb_reaching.proofs.Laws.{goes_append}
 use Rattle.tb_reaching.proofs.Services.{waits_on}
-use Rattle.tb_reaching.proofs.Grows.{sends_on}
 use Rattle.tb_reaching.proofs.Ends.{home_rests, home_returned, waiting_waits}
 use Rattle.tb_reaching.proofs.Barred.{quiet, begins, enters, open_up}
 use Rattle.tb_lower.specs.Steps.{End, Ended, Faulted, Step, Goes, Stops}
 use Rattle.tb_lower.specs.Steps as steps
-use Rattle.tb_lower.specs.Follows.{IsPrefix}
 use Rattle.tb_lower.specs.Slots.{SlotState, Rest, Whole, Left}
 use Rattle.tb_keeping.specs.Kept.{HasEnded}
 use Rattle.tb_runtime16.specs.Routines.{Waiting}
 use Rattle.tb_keeping.proofs.Inductions as keeps
-use Rattle.tb_keeping.proofs.Inductions.{still, there, on_way}
+pub use Rattle.tb_keeping.proofs.Inductions.{sent_in}
+use Rattle.tb_keeping.proofs.Inductions.{Reaches, still, there, on_way}
 use Rattle.tb_keeping.proofs.Mirrors.{Leads}
-
--- ---- the machine as one that runs by events
-abbrev pub move : Event → machine.State → machine.State
-move e s = happens s e
-
-abbrev pub IsLawful : Event → machine.State → Type 0
-IsLawful e s = is_lawful s e ≡ true
-
-abbrev pub sent : machine.State → List ℕ
-sent s = s.sent
-
-pub same_goes : (es : List Event) → keeps.goes machine.State Event move IsLawful is_own sent es ≡ goes es
-same_goes [] = refl
-same_goes (Go k ∷ es) = omega (arith, same_goes es)
-same_goes (Interrupt ws ∷ es) = omega (arith, same_goes es)
-
-pub same_after : (es : List Event) (s : machine.State) → keeps.after machine.State Event move IsLawful is_own sent es s ≡ run es s
-same_after [] s = refl
-same_after (e ∷ es) s = same_after es (happens s e)
-
-pub lawful_all : (es : List Event) (s : machine.State) → keeps.AllLawful machine.State Event move IsLawful is_own sent es s → all_lawful es s ≡ true
-lawful_all [] s h = refl
-lawful_all (e ∷ es) s h = rw h.0 (lawful_all es (happens s e) h.1)
-
-pub all_are_lawful : (es : List Event) (s : machine.State) → all_lawful es s ≡ true → keeps.AllLawful machine.State Event move IsLawful is_own sent es s
-all_are_lawful [] s h = tt
-all_are_lawful (e ∷ es) s h = let p = and_parts _ _ h in (p.0, all_are_lawful es (happens s e) p.1)
-
-pub sends : (e : Event) (s : machine.State) → IsLawful e s → IsPrefix (sent s) (sent (move e s))
-sends e s l = let p = sends_on e s in (p.rest, sym p.split)
 
 -- ---- a law, or one that begins a line
 abbrev pub LawAt : Rest → Setup → View → (View → Type 0) → List ℕ → ℕ → Type 0
@@ -91,10 +58,6 @@ module _ (f : Setup) (v : View) (q : View → Type 0) (t : List ℕ) (n : ℕ) w
   law_leads Whole (inr l) s at es h = enters f v q t n l s at es h
 
 -- ---- at one start
-abbrev pub sent_in : Step SlotState → List ℕ
-sent_in (Goes c t) = t
-sent_in (Stops why t) = t
-
 module _ (f : Setup) (above : f.home_s + length f.rest ≡ 255) where
   abbrev pub IsEnd : End → machine.State → Type 0
   IsEnd Ended s = Among f (IsHome f) s
@@ -104,7 +67,7 @@ module _ (f : Setup) (above : f.home_s + length f.rest ≡ 255) where
   waits_so : (s : machine.State) → Among f Waiting s → Among f IsWaiting s
   waits_so s h = (h.0, h.1, h.2.waits)
 
-  pub end_stays : (why : End) (e : Event) (s : machine.State) → IsLawful e s → IsEnd why s → IsEnd why (move e s) × (sent (move e s) ≡ sent s)
+  pub end_stays : (why : End) (e : Event) (s : machine.State) → is_lawful s e ≡ true → IsEnd why s → IsEnd why (happens s e) × ((happens s e).sent ≡ s.sent)
   end_stays Ended e s l h = (home_rests f above).stays s h e l
   end_stays Faulted e s l h = (home_rests f above).stays s h e l
   end_stays steps.Waits e s l h = let a = waits_on f h.0 s h.1 h.2.waits.pc h.2.waits.text e l in ((h.0, a.0, h.2), a.1)
@@ -124,10 +87,7 @@ module _ (f : Setup) (above : f.home_s + length f.rest ≡ 255) where
     Law = (c : SlotState) (w : View) → M c w → LawAt c.rest f w (Leads f M (step c)) (sent_in (step c)) limit
 
     abbrev pub Goal : Step SlotState → machine.State → Type 0
-    Goal = keeps.Goal machine.State Event move IsLawful is_own sent sends IsEnd end_stays SlotState step R (UnderWay f) limit
-
-    abbrev pub sent_of : Step SlotState → List ℕ
-    sent_of = keeps.sent_of machine.State Event move IsLawful is_own sent sends IsEnd end_stays SlotState step R (UnderWay f) limit
+    Goal = keeps.Goal IsEnd end_stays step R (UnderWay f) limit
 
     goal : (st : Step SlotState) (s : machine.State) → Among f (Leads f M st) s → Goal st s
     goal (Goes c t) s h = h
@@ -135,30 +95,14 @@ module _ (f : Setup) (above : f.home_s + length f.rest ≡ 255) where
     goal (Stops Faulted t) s h = h
     goal (Stops steps.Waits t) s h = h
 
-    same_sent : (st : Step SlotState) → sent_in st ≡ sent_of st
-    same_sent (Goes c t) = refl
-    same_sent (Stops why t) = refl
-
-    pub reaches : Law → (c : SlotState) → keeps.Reaches machine.State Event move IsLawful is_own sent (R c) (Goal (step c)) (UnderWay f) (sent_of (step c)) limit
-    reaches law c s h es l = ⊎_elim yet (⊎_elim arrived on) (law_leads f h.0 (Leads f M (step c)) (sent_in (step c)) limit c.rest (law c h.0 h.2) s h.1 es (lawful_all es s l))
+    pub reaches : Law → (c : SlotState) → Reaches (R c) (Goal (step c)) (UnderWay f) (sent_in (step c)) limit
+    reaches law c s h es l = ⊎_elim yet (⊎_elim arrived (λ a. on_way a)) (law_leads f h.0 (Leads f M (step c)) (sent_in (step c)) limit c.rest (law c h.0 h.2) s h.1 es l)
       where
-        yet : goes es ≡ 0 → keeps.Way machine.State Event move IsLawful is_own sent (R c) (Goal (step c)) (UnderWay f) (sent_of (step c)) limit s es
-        yet z =
-            let k = quiet f h.0 es s h.1 (lawful_all es s l) z in
-            still (same_goes es ∙ z) (subst (R c) (sym (same_after es s)) (h.0, k.0, h.2)) (ap (λ x. x.sent) (same_after es s) ∙ k.1)
+        yet : goes es ≡ 0 → keeps.Way (R c) (Goal (step c)) (UnderWay f) (sent_in (step c)) limit s es
+        yet z = let k = quiet f h.0 es s h.1 l z in still z (h.0, k.0, h.2) k.1
 
-        arrived : Arrived (Among f (Leads f M (step c))) (sent_in (step c)) limit s es → keeps.Way machine.State Event move IsLawful is_own sent (R c) (Goal (step c)) (UnderWay f) (sent_of (step c)) limit s es
-        arrived a = there a.before a.after (sym a.split)
-            (subst (λ n. 1 ≤ n) (sym (same_goes a.before)) a.some)
-            (subst (λ n. n ≤ limit) (sym (same_goes a.before)) a.few)
-            (subst (Goal (step c)) (sym (same_after a.before s)) (goal (step c) (run a.before s) a.there))
-            (ap (λ x. x.sent) (same_after a.before s) ∙ a.sent ∙ ap (λ t. s.sent ++ t) (same_sent (step c)))
-
-        on : OnTheWay (UnderWay f) (sent_in (step c)) limit s es → keeps.Way machine.State Event move IsLawful is_own sent (R c) (Goal (step c)) (UnderWay f) (sent_of (step c)) limit s es
-        on a = on_way
-            (subst (λ n. n < limit) (sym (same_goes es)) a.few)
-            (subst (UnderWay f) (sym (same_after es s)) a.kept)
-            (a.to_come, ap (λ x. x.sent ++ a.to_come) (same_after es s) ∙ ap (λ l. l ++ a.to_come) a.sent ∙ append_assoc s.sent a.so_far a.to_come ∙ ap (λ t. s.sent ++ t) (sym a.whole ∙ same_sent (step c)))
+        arrived : Arrived (Among f (Leads f M (step c))) (sent_in (step c)) limit s es → keeps.Way (R c) (Goal (step c)) (UnderWay f) (sent_in (step c)) limit s es
+        arrived a = there (record { before = a.before; after = a.after; split = a.split; some = a.some; few = a.few; there = goal (step c) (run a.before s) a.there; sent = a.sent })
 
     -- where a law is, the machine runs
     pub fine : Law → (c : SlotState) (s : machine.State) → R c s → Runs f s

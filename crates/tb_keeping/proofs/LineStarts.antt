@@ -8,9 +8,9 @@ use Rattle.tb_kernal.specs.declared.places.Service.{Service}
 use Rattle.tb_kernal.specs.declared.places.Service.TheVariants.{Chrout, Chrin, Getin}
 use Rattle.tb_kernal.specs.Places.{service_at}
 use Rattle.tb_kernal.specs.Machine as machine
-use Rattle.tb_kernal.specs.Runs.{is_own}
-use Rattle.tb_reaching.proofs.Laws.{interrupt_sends_nothing}
-use Rattle.tb_reaching.specs.Reaching.{Arrived, OnTheWay}
+use Rattle.tb_kernal.specs.Machine.{happens, is_lawful}
+use Rattle.tb_kernal.specs.Runs.{all_lawful, goes, is_own, run}
+use Rattle.tb_reaching.proofs.Laws.{goes_append, interrupt_sends_nothing, run_append}
 use Rattle.tb_reaching.specs.View.{View, Setup, Part, At, Among, UnderWay, is_data, is_program, part_at}
 use Rattle.tb_reaching.specs.Start.{view_of}
 use Rattle.tb_reaching.proofs.Act.{kept_by_interrupt, pc_here}
@@ -29,14 +29,14 @@ use Rattle.tb_keeping.specs.Kept.{Starts}
 use Rattle.tb_keeping.specs.Layout.{Layout, is_start, inner, place_at}
 use Rattle.tb_runtime16.specs.Routines.{Noted, WordAt}
 use Rattle.tb_keeping.proofs.Inductions as keeps
-use Rattle.tb_keeping.proofs.Inductions.{on_way, there}
+use Rattle.tb_keeping.proofs.Inductions.{lawful_back, on_way, run_back, there}
 use Rattle.tb_keeping.proofs.Starts as lines
 use Rattle.tb_keeping.proofs.Starts.{count, before, between, behind}
 use Rattle.tb_keeping.proofs.Strides.{IsStride, found_line, lines_at}
 use Rattle.tb_keeping.proofs.Mirrors.{Leads, notes_of}
 use Rattle.tb_keeping.proofs.Pieces.{word_in_data}
 use Rattle.tb_keeping.proofs.Frames.{notes_kept, word_kept}
-use Rattle.tb_keeping.proofs.Joins.{move, IsLawful, sent, same_goes, same_after, lawful_all, sends, IsEnd, end_stays, R, LawAt, reaches, sent_in}
+use Rattle.tb_keeping.proofs.Joins.{IsEnd, end_stays, R, LawAt, reaches, sent_in}
 use Rattle.tb_keeping.proofs.Headline.{setup, begins_so, above_so, Opened, OpeningLaw, StepLaws}
 
 -- whether a state stands at a line's start
@@ -130,7 +130,7 @@ module _ (place : ℕ) (bytes : List ℕ) (from : 0x0800 ≤ place) (to : place 
   no_start_at_end Faulted t e = none_high t (omega (arith, pc_here f e.0 t e.1, e.2.pc, e.1.stays.far))
   no_start_at_end steps.Waits t e = none_high t (omega (arith, pc_here f e.0 t e.1, e.2.waits.pc))
 
-  others_keep : (c : SlotState) (e : Event) (t : machine.State) → is_own e ≡ false → IsLawful e t → Related c t → Related c (move e t) × (sent (move e t) ≡ sent t)
+  others_keep : (c : SlotState) (e : Event) (t : machine.State) → is_own e ≡ false → is_lawful t e ≡ true → Related c t → Related c (happens t e) × ((happens t e).sent ≡ t.sent)
   others_keep c (Go k) t not_go l r = cc
   others_keep c (Interrupt ws) t not_go l r = let a = kept_by_interrupt f r.0 t r.1 ws l in ((r.0, a, r.2), interrupt_sends_nothing t ws)
 
@@ -153,38 +153,22 @@ module _ (place : ℕ) (bytes : List ℕ) (from : 0x0800 ≤ place) (to : place 
   abbrev Entered : machine.State → Type 0
   Entered t = Among f (Opened place bytes from to ly M sc s) t
 
-  prologue_reaches : keeps.Reaches machine.State Event move IsLawful is_own sent (At f (view_of s)) Entered (UnderWay f) [] n
-  prologue_reaches x a es l = ⊎_elim arrived on ((prologue s h).reaches.leads x a es (lawful_all es x l))
-    where
-      arrived : Arrived Entered [] n x es → keeps.Way machine.State Event move IsLawful is_own sent (At f (view_of s)) Entered (UnderWay f) [] n x es
-      arrived a = there a.before a.after (sym a.split)
-          (subst (λ g. 1 ≤ g) (sym (same_goes a.before)) a.some)
-          (subst (λ g. g ≤ n) (sym (same_goes a.before)) a.few)
-          (subst Entered (sym (same_after a.before x)) a.there)
-          (ap (λ t. t.sent) (same_after a.before x) ∙ a.sent)
+  prologue_reaches : keeps.Reaches (At f (view_of s)) Entered (UnderWay f) [] n
+  prologue_reaches x a es l = ⊎_elim (λ b. there b) (λ b. on_way b) ((prologue s h).reaches.leads x a es l)
 
-      on : OnTheWay (UnderWay f) [] n x es → keeps.Way machine.State Event move IsLawful is_own sent (At f (view_of s)) Entered (UnderWay f) [] n x es
-      on a = on_way
-          (subst (λ g. g < n) (sym (same_goes es)) a.few)
-          (subst (UnderWay f) (sym (same_after es x)) a.kept)
-          (a.to_come, ap (λ t. t.sent ++ a.to_come) (same_after es x) ∙ ap (λ l. l ++ a.to_come) a.sent ∙ append_assoc x.sent a.so_far a.to_come ∙ ap (λ t. x.sent ++ t) (sym a.whole))
-
-  entry_keeps : (e : Event) (t : machine.State) → is_own e ≡ false → IsLawful e t → At f (view_of s) t → At f (view_of s) (move e t) × (sent (move e t) ≡ sent t)
+  entry_keeps : (e : Event) (t : machine.State) → is_own e ≡ false → is_lawful t e ≡ true → At f (view_of s) t → At f (view_of s) (happens t e) × ((happens t e).sent ≡ t.sent)
   entry_keeps (Go k) t not_go l a = cc
   entry_keeps (Interrupt ws) t not_go l a = (kept_by_interrupt f (view_of s) t a ws l, interrupt_sends_nothing t ws)
 
   entry_none : (t : machine.State) → At f (view_of s) t → starts ly t ≡ 0
   entry_none t a = no_start t (begins f (view_of s) _ _ _ (prologue s h) t a)
 
-  counted : (es : List Event) → keeps.AllLawful machine.State Event move IsLawful is_own sent es s → lines.Counted machine.State Event move IsLawful is_own sent (starts ly) (At f (view_of s)) Entered (UnderWay f) [] 0 n s es
-  counted es l = lines.counted machine.State Event move IsLawful is_own sent (starts ly) (At f (view_of s)) Entered (UnderWay f) [] 0 n prologue_reaches entry_keeps no_start entry_none es s (begins_so place bytes from to ly s h) l
+  counted : (es : List Event) → all_lawful es s ≡ true → lines.Counted (starts ly) (At f (view_of s)) Entered (UnderWay f) [] 0 n s es
+  counted es l = lines.counted (starts ly) (At f (view_of s)) Entered (UnderWay f) [] 0 n prologue_reaches entry_keeps no_start entry_none es s (begins_so place bytes from to ly s h) l
 
   -- ---- the lines
-  abbrev after_all : List Event → machine.State → machine.State
-  after_all es t = keeps.after machine.State Event move IsLawful is_own sent es t
-
   abbrev pub met : List Event → ℕ
-  met es = lines.met machine.State Event move IsLawful is_own sent (starts ly) es s
+  met es = lines.met (starts ly) es s
 
   -- at the start of a line, m having begun before: the program has done m lines and is at that one
   pub record LineBegun (m : ℕ) (t : machine.State) : Type 0 where
@@ -198,7 +182,7 @@ module _ (place : ℕ) (bytes : List ℕ) (from : 0x0800 ≤ place) (to : place 
     pub noted : Noted t.mem (notes_of ly state.returns)
     pub few : length state.returns ≤ 500
 
-  line_begun : (m : ℕ) (t : machine.State) → lines.AtLine machine.State Event move IsLawful is_own sent sends Ends (end_stays f (above_so place bytes from to ly s h)) program sc follows step stride Related (UnderWay f) (limit k) (positive k) (reaches f (above_so place bytes from to ly s h) (M s) step (limit k) (laws s h)) (starts ly) others_keep no_start no_start_at_end entry seed s.text s.answers m t → LineBegun m t
+  line_begun : (m : ℕ) (t : machine.State) → lines.AtLine Ends (end_stays f (above_so place bytes from to ly s h)) program sc follows step stride Related (UnderWay f) (limit k) (positive k) (reaches f (above_so place bytes from to ly s h) (M s) step (limit k) (laws s h)) (starts ly) others_keep no_start no_start_at_end entry seed s.text s.answers m t → LineBegun m t
   line_begun m t a =
       let w = a.related.0 in
       let there = known s _ w a.related.2 refl in
@@ -216,22 +200,19 @@ module _ (place : ℕ) (bytes : List ℕ) (from : 0x0800 ≤ place) (to : place 
         few = there.few;
       }
 
-  pub at_line : (es : List Event) → keeps.AllLawful machine.State Event move IsLawful is_own sent es s → starts ly (after_all es s) ≡ 1 → LineBegun (met es) (after_all es s)
+  pub at_line : (es : List Event) → all_lawful es s ≡ true → starts ly (run es s) ≡ 1 → LineBegun (met es) (run es s)
   at_line es l one = by (counted es l)
     where
-      by : lines.Counted machine.State Event move IsLawful is_own sent (starts ly) (At f (view_of s)) Entered (UnderWay f) [] 0 n s es → LineBegun (met es) (after_all es s)
-      by (before none a same v) = absurd (let no : ⊥ = omega (arith, one, entry_none (after_all es s) a) in no)
-      by (between w v few) = absurd (let no : ⊥ = omega (arith, one, no_start (after_all es s) w) in no)
+      by : lines.Counted (starts ly) (At f (view_of s)) Entered (UnderWay f) [] 0 n s es → LineBegun (met es) (run es s)
+      by (before none a same v) = absurd (let no : ⊥ = omega (arith, one, entry_none (run es s) a) in no)
+      by (between w v few) = absurd (let no : ⊥ = omega (arith, one, no_start (run es s) w) in no)
       by (behind front back eq some few b all v) =
-          let y = after_all front s in
-          let join : after_all back y ≡ after_all es s = sym (keeps.after_append machine.State Event move IsLawful is_own sent front back s) ∙ ap (λ l. after_all l s) eq in
-          let lb = keeps.lawful_back machine.State Event move IsLawful is_own sent front back s (subst (λ q. keeps.AllLawful machine.State Event move IsLawful is_own sent q s) (sym eq) l) in
-          let a = lines.at_line machine.State Event move IsLawful is_own sent sends Ends (end_stays f (above_so place bytes from to ly s h)) program sc follows step stride Related (UnderWay f) (limit k) (positive k) (reaches f (above_so place bytes from to ly s h) (M s) step (limit k) (laws s h)) (starts ly) others_keep no_start no_start_at_end entry seed s.text s.answers b.2.0 b.2.1 y (all ∙ append-nil s.sent ∙ h.start.nothing_sent) (b.0, b.1, b.2.2) back lb (ap (starts ly) join ∙ one) in
-          let sum : lines.met machine.State Event move IsLawful is_own sent (starts ly) back y ≡ met es = omega (arith, v, ap met (sym eq), lines.met_append machine.State Event move IsLawful is_own sent (starts ly) front back s) in
-          subst (λ m. LineBegun m (after_all es s)) sum (subst (λ t. LineBegun (lines.met machine.State Event move IsLawful is_own sent (starts ly) back y) t) join (line_begun (lines.met machine.State Event move IsLawful is_own sent (starts ly) back y) (after_all back y) a))
-
-  abbrev own : List Event → ℕ
-  own es = keeps.goes machine.State Event move IsLawful is_own sent es
+          let y = run front s in
+          let join : run back y ≡ run es s = run_back front back es s eq in
+          let lb = lawful_back front back es s eq l in
+          let a = lines.at_line Ends (end_stays f (above_so place bytes from to ly s h)) program sc follows step stride Related (UnderWay f) (limit k) (positive k) (reaches f (above_so place bytes from to ly s h) (M s) step (limit k) (laws s h)) (starts ly) others_keep no_start no_start_at_end entry seed s.text s.answers b.2.0 b.2.1 y (all ∙ append-nil s.sent ∙ h.start.nothing_sent) (b.0, b.1, b.2.2) back lb (ap (starts ly) join ∙ one) in
+          let sum : lines.met (starts ly) back y ≡ met es = omega (arith, v, ap met (sym eq), lines.met_append (starts ly) front back s) in
+          subst (λ m. LineBegun m (run es s)) sum (subst (λ t. LineBegun (lines.met (starts ly) back y) t) join (line_begun (lines.met (starts ly) back y) (run back y) a))
 
   -- an instruction of the program's own that begins a line, m having begun before, within a bound
   pub record LineComes (m bound : ℕ) (es : List Event) : Type 0 where
@@ -240,29 +221,29 @@ module _ (place : ℕ) (bytes : List ℕ) (from : 0x0800 ≤ place) (to : place 
     pub back : List Event
     pub split : front ++ (event ∷ back) ≡ es
     pub is_own : is_own event ≡ true
-    pub few : own front < bound
-    pub starts_here : starts ly (after_all front s) ≡ 1
+    pub few : goes front < bound
+    pub starts_here : starts ly (run front s) ≡ 1
     pub begun : met front ≡ m
 
-  pub line_comes : (m : ℕ) (state : State) (out : List ℕ) (number : ℕ) (is : List Instr) → source_run program seed s.text s.answers m ≡ GoesOn state out → state.place ≡ control.At number → content_at sc number ≡ Some is → (es : List Event) → keeps.AllLawful machine.State Event move IsLawful is_own sent es s → n + (m * (longest sc + 1) * limit k + 1) ≤ own es → LineComes m (n + (m * (longest sc + 1) * limit k + 1)) es
+  pub line_comes : (m : ℕ) (state : State) (out : List ℕ) (number : ℕ) (is : List Instr) → source_run program seed s.text s.answers m ≡ GoesOn state out → state.place ≡ control.At number → content_at sc number ≡ Some is → (es : List Event) → all_lawful es s ≡ true → n + (m * (longest sc + 1) * limit k + 1) ≤ goes es → LineComes m (n + (m * (longest sc + 1) * limit k + 1)) es
   line_comes m state out number is done here found es l le = by (counted es l)
     where
-      by : lines.Counted machine.State Event move IsLawful is_own sent (starts ly) (At f (view_of s)) Entered (UnderWay f) [] 0 n s es → LineComes m (n + (m * (longest sc + 1) * limit k + 1)) es
+      by : lines.Counted (starts ly) (At f (view_of s)) Entered (UnderWay f) [] 0 n s es → LineComes m (n + (m * (longest sc + 1) * limit k + 1)) es
       by (before none a same v) = absurd (let no : ⊥ = omega (arith, none, le) in no)
       by (between w v few) = absurd (let no : ⊥ = omega (arith, few, le) in no)
       by (behind front back eq some few b all v) =
-          let y = after_all front s in
-          let lb = keeps.lawful_back machine.State Event move IsLawful is_own sent front back s (subst (λ q. keeps.AllLawful machine.State Event move IsLawful is_own sent q s) (sym eq) l) in
-          let g = keeps.goes_append machine.State Event move IsLawful is_own sent front back in
-          let a = lines.line_comes machine.State Event move IsLawful is_own sent sends Ends (end_stays f (above_so place bytes from to ly s h)) program sc follows step stride Related (UnderWay f) (limit k) (positive k) (reaches f (above_so place bytes from to ly s h) (M s) step (limit k) (laws s h)) (starts ly) others_keep no_start no_start_at_end entry seed s.text s.answers b.2.0 b.2.1 y (all ∙ append-nil s.sent ∙ h.start.nothing_sent) (b.0, b.1, b.2.2) m state out number is done here found back lb (omega (arith, le, few, g, ap own eq)) in
-          let join : after_all (front ++ a.front) s ≡ after_all a.front y = keeps.after_append machine.State Event move IsLawful is_own sent front a.front s in
+          let y = run front s in
+          let lb = lawful_back front back es s eq l in
+          let g = goes_append front back in
+          let a = lines.line_comes Ends (end_stays f (above_so place bytes from to ly s h)) program sc follows step stride Related (UnderWay f) (limit k) (positive k) (reaches f (above_so place bytes from to ly s h) (M s) step (limit k) (laws s h)) (starts ly) others_keep no_start no_start_at_end entry seed s.text s.answers b.2.0 b.2.1 y (all ∙ append-nil s.sent ∙ h.start.nothing_sent) (b.0, b.1, b.2.2) m state out number is done here found back lb (omega (arith, le, few, g, ap goes eq)) in
+          let join : run (front ++ a.front) s ≡ run a.front y = run_append front a.front s in
           record {
             front = front ++ a.front;
             event = a.event;
             back = a.back;
             split = append_assoc front a.front (a.event ∷ a.back) ∙ ap (λ q. front ++ q) a.split ∙ eq;
             is_own = a.own;
-            few = omega (arith, few, a.few, keeps.goes_append machine.State Event move IsLawful is_own sent front a.front);
+            few = omega (arith, few, a.few, goes_append front a.front);
             starts_here = ap (starts ly) join ∙ a.starts_here;
-            begun = omega (arith, v, a.begun, lines.met_append machine.State Event move IsLawful is_own sent (starts ly) front a.front s);
+            begun = omega (arith, v, a.begun, lines.met_append (starts ly) front a.front s);
           }

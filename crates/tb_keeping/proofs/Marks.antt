@@ -23,7 +23,6 @@ use Rattle.tb_keeping.proofs.Mirrors.{notes_of}
 use Rattle.tb_runtime16.proofs.InMemory.{value}
 use Rattle.tb_keeping.proofs.Starts as lines
 use Rattle.tb_keeping.proofs.Starts.{count}
-use Rattle.tb_keeping.proofs.Joins.{move, IsLawful, sent, same_goes, same_after, all_are_lawful}
 use Rattle.tb_keeping.proofs.Placed.{AllHave, HasLine, at_lines}
 use Rattle.tb_keeping.proofs.Strides.{IsStride}
 use Rattle.tb_keeping.proofs.Headline.{OpeningLaw, StepLaws}
@@ -31,10 +30,10 @@ use Rattle.tb_keeping.proofs.LineStarts as one
 use Rattle.tb_keeping.proofs.LineStarts.{AreApart, Known, starts, found_start, has_content}
 
 -- the two ways of counting
-same_begun : (ly : Layout) (es : List Event) (s : machine.State) → lines.met machine.State Event move IsLawful is_own sent (starts ly) es s ≡ begun ly.start ly.numbers es s
+same_begun : (ly : Layout) (es : List Event) (s : machine.State) → lines.met (starts ly) es s ≡ begun ly.start ly.numbers es s
 same_begun ly [] s = refl
 same_begun ly (Go k ∷ es) s = ap (λ n. (if is_start ly.start ly.numbers s.regs.pc then 1 else 0) + n) (same_begun ly es (happens s (Go k)))
-same_begun ly (Interrupt ws ∷ es) s = zero-add (lines.met machine.State Event move IsLawful is_own sent (starts ly) es (happens s (Interrupt ws))) ∙ same_begun ly es (happens s (Interrupt ws))
+same_begun ly (Interrupt ws ∷ es) s = zero-add (lines.met (starts ly) es (happens s (Interrupt ws))) ∙ same_begun ly es (happens s (Interrupt ws))
 
 one_at : (b : Bool) → b ≡ true → count 1 b ≡ 1
 one_at b e = ap (count 1) e
@@ -75,17 +74,15 @@ module _ (place : ℕ) (bytes : List ℕ) (from : 0x0800 ≤ place) (to : place 
       let list = lined number has in
       let same_numbers : ly.numbers ≡ numbers program = sym apart.numbered ∙ follows.same_numbers in
       let here : is_start ly.start ly.numbers (run es s).regs.pc ≡ true = ap (is_start ly.start ly.numbers) pc ∙ ap (λ ns. is_start ly.start ns (ly.start number)) (sym apart.numbered) ∙ found_start ly.start sc number list.0 list.1 in
-      let y = lines.run machine.State Event move IsLawful is_own sent (starts ly) es s in
-      let same : y ≡ run es s = same_after es s in
-      let now : starts ly y ≡ 1 = ap (starts ly) same ∙ one_at (is_start ly.start ly.numbers (run es s).regs.pc) here in
-      let b = one.at_line place bytes from to ly program sc follows apart step stride M known limit positive n prologue laws s h es (all_are_lawful es s l) now in
-      let counted : lines.met machine.State Event move IsLawful is_own sent (starts ly) es s ≡ begun ly.start (numbers program) es s = same_begun ly es s ∙ ap (λ ns. begun ly.start ns es s) same_numbers in
-      let met = lines.met machine.State Event move IsLawful is_own sent (starts ly) es s in
+      let y = run es s in
+      let now : starts ly y ≡ 1 = one_at (is_start ly.start ly.numbers (run es s).regs.pc) here in
+      let b = one.at_line place bytes from to ly program sc follows apart step stride M known limit positive n prologue laws s h es l now in
+      let counted : lines.met (starts ly) es s ≡ begun ly.start (numbers program) es s = same_begun ly es s ∙ ap (λ ns. begun ly.start ns es s) same_numbers in
+      let met = lines.met (starts ly) es s in
       let led = at_lines program ly.seed s.text s.answers met b.state y.sent b.done in
       let there : has_line (numbers program) b.number ≡ true = subst (HasLine (numbers program)) b.at_place led.here in
-      let which : b.number ≡ number = apart.distinct b.number number (ap (λ ns. has_line ns b.number) same_numbers ∙ there) (ap (λ ns. has_line ns number) same_numbers ∙ has) (sym b.pc ∙ ap (λ t. t.regs.pc) same ∙ pc) in
+      let which : b.number ≡ number = apart.distinct b.number number (ap (λ ns. has_line ns b.number) same_numbers ∙ there) (ap (λ ns. has_line ns number) same_numbers ∙ has) (sym b.pc ∙ pc) in
       subst (λ m. BeginsLine program ly.seed ly.start s m number (run es s)) counted
-      (subst (λ t. BeginsLine program ly.seed ly.start s met number t) same
       (record {
         state = b.state;
         done = b.done;
@@ -95,16 +92,16 @@ module _ (place : ℕ) (bytes : List ℕ) (from : 0x0800 ≤ place) (to : place 
         few = b.few;
         returns = subst (λ ns. HoldsReturns ly.start ns y.mem b.state.returns) same_numbers
             (returns_held ly y.mem b.state.returns apart.past (subst (λ ns. AllHave ns b.state.returns) (sym same_numbers) led.notes) b.noted);
-      }))
+      })
 
   pub comes : (s : machine.State) (h : Starts place bytes s) (m : ℕ) (state : State) (out : List ℕ) (number : ℕ) → source_run program ly.seed s.text s.answers m ≡ GoesOn state out → state.place ≡ At number → (es : List Event) → all_lawful es s ≡ true → bound (length s.text) m ≤ goes es → LineComes program ly.start s m (bound (length s.text) m) es
   comes s h m state out number done here es l le =
       let has : has_line (numbers program) number ≡ true = subst (HasLine (numbers program)) here (at_lines program ly.seed s.text s.answers m state out done).here in
       let list = lined number has in
       let same_numbers : numbers program ≡ ly.numbers = sym follows.same_numbers ∙ apart.numbered in
-      let c = one.line_comes place bytes from to ly program sc follows apart step stride M known limit positive n prologue laws s h m state out number list.0 done here list.1 es (all_are_lawful es s l) (omega (arith, le, same_goes es)) in
-      by c.event c.is_own c.front c.back c.split (omega (arith, c.few, same_goes c.front))
-      (ap (λ ns. is_start ly.start ns (run c.front s).regs.pc) same_numbers ∙ at_one (is_start ly.start ly.numbers (run c.front s).regs.pc) (ap (starts ly) (sym (same_after c.front s)) ∙ c.starts_here))
+      let c = one.line_comes place bytes from to ly program sc follows apart step stride M known limit positive n prologue laws s h m state out number list.0 done here list.1 es l le in
+      by c.event c.is_own c.front c.back c.split c.few
+      (ap (λ ns. is_start ly.start ns (run c.front s).regs.pc) same_numbers ∙ at_one (is_start ly.start ly.numbers (run c.front s).regs.pc) c.starts_here)
       (ap (λ ns. begun ly.start ns c.front s) same_numbers ∙ sym (same_begun ly c.front s) ∙ c.begun)
     where
       by : (e : Event) → is_own e ≡ true → (front back : List Event) → front ++ (e ∷ back) ≡ es → goes front < bound (length s.text) m → is_start ly.start (numbers program) (run front s).regs.pc ≡ true → begun ly.start (numbers program) front s ≡ m → LineComes program ly.start s m (bound (length s.text) m) es

@@ -5,9 +5,9 @@ use Rattle.tb_reaching.specs.View.{View, Setup}
 use Rattle.tb_reaching.specs.Start.{IsHome}
 use Rattle.tb_lower.specs.Steps.{Step, Goes, Stops, Ended, Faulted, Waits}
 use Rattle.tb_lower.specs.Control.{Place, State}
-use Rattle.tb_lower.specs.Slots.{Slots, SlotState}
-use Rattle.tb_runtime16.specs.Places.{COLUMN, OPEN, NOTES, HELD}
-use Rattle.tb_templates.specs.Templates.{var_at, slot_at}
+use Rattle.tb_lower.specs.Slots.{SlotState}
+use Rattle.tb_runtime16.specs.Places.{COLUMN, OPEN, NOTES}
+use Rattle.tb_templates.specs.Templates.{var_at}
 use Rattle.tb_runtime16.specs.Laws.{AllBytes}
 use Rattle.tb_keeping.specs.Layout.{Layout, place_at}
 use Rattle.tb_runtime16.specs.Routines.{WordAt, SeedAt, Noted, Entered, Here, Waiting}
@@ -16,11 +16,9 @@ use Rattle.tb_runtime16.specs.Routines.{WordAt, SeedAt, Noted, Entered, Here, Wa
 abbrev pub notes_of : Layout → List Place → List ℕ
 notes_of ly ps = map (place_at ly) ps
 
--- the memory holds the state and the slots
-pub record Holds (ly : Layout) (s : State) (slots : Slots) (m : ℕ → ℕ) : Type 0 where
+-- the memory holds the state
+pub record HoldsState (ly : Layout) (s : State) (m : ℕ → ℕ) : Type 0 where
   pub vars : (x : ℕ) → x < 26 → WordAt m (var_at x) (slice_index s.vars x)
-  pub words : (k : ℕ) → k < 16 → WordAt m (slot_at k) (slice_index slots.words k)
-  pub held : WordAt m HELD slots.held
   pub column : m COLUMN ≡ s.column % 256
   pub opened : m OPEN ≡ bit s.open_line
   pub seeded : SeedAt m ly.seed s.seed
@@ -28,7 +26,6 @@ pub record Holds (ly : Layout) (s : State) (slots : Slots) (m : ℕ → ℕ) : T
   pub notes : Noted m (notes_of ly s.returns)
   pub few : length s.returns ≤ 500
   pub all_vars : length s.vars ≡ 26
-  pub all_words : length slots.words ≡ 16
 
 -- at an address with a known Z, or with a known C
 pub record Flagged (at : ℕ) (bs : List ℕ) (m : ℕ → ℕ) (keys gets : List ℕ) (z : Bool) (w : View) : Type 0 where
@@ -45,14 +42,14 @@ pub record Typable (keys : ℕ) (text answers : List ℕ) : Type 0 where
   pub text_bytes : AllBytes text
   pub answer_bytes : AllBytes answers
 
--- a run stands at the beginning of a place, the memory holding its state and all slots
-pub record Opens (ly : Layout) (f : Setup) (lo hi : ℕ) (keys : ℕ) (s : State) (slots : Slots) (w : View) : Type 0 where
+-- a run stands at the beginning of a place, the memory holding its state
+pub record Opens (ly : Layout) (f : Setup) (lo hi : ℕ) (keys : ℕ) (s : State) (w : View) : Type 0 where
   pub pc : w.regs.pc ≡ place_at ly s.place
   pub stack : w.stack ≡ lo ∷ hi ∷ []
   pub binary : w.regs.flags.d ≡ false
   pub text : w.text ≡ s.text
   pub answers : w.answers ≡ s.answers
-  pub holds : Holds ly s slots w.mem
+  pub holds : HoldsState ly s w.mem
   pub homed : Entered f lo hi w.mem
   pub short : Typable keys s.text s.answers
 

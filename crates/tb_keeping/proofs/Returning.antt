@@ -1,25 +1,23 @@
 -- What holds where a routine of the block has come back.
 use Rattle.std.proofs.Common.{◌≡◌, ◌≢◌, ℕ, ◌+◌, ◌/◌, ◌%◌, ◌≤◌, true, false, List, [], ◌∷◌, refl, sym, ap, ◌∙◌, arith}
-use Rattle.tb_reaching.specs.View.{Fits, Setup, View, back_at}
+use Rattle.tb_reaching.specs.View.{Setup, View, back_at}
 use Rattle.tb_runtime16.specs.Places.{HOME_S}
 use Rattle.tb_runtime16.specs.Laws.{Leaves}
 use Rattle.tb_runtime16.specs.Routines.{Entered, Here, is_owned}
-use Rattle.tb_keeping.specs.Layout.{Layout}
 use Rattle.tb_keeping.proofs.Resolved.{highest_code}
 
-module _ (ly : Layout) (f : Setup) (lo hi keys : ℕ) (fits : Fits f 16) where
-  pub homed_kept : (m m' : ℕ → ℕ) → m' HOME_S ≡ m HOME_S → Entered f lo hi m → Entered f lo hi m'
-  homed_kept m m' e h = record { homed = h.homed; kept = omega (arith, e, h.kept) }
+pub homed_kept : {f : Setup} {lo hi : ℕ} (m m' : ℕ → ℕ) → m' HOME_S ≡ m HOME_S → Entered f lo hi m → Entered f lo hi m'
+homed_kept m m' e h = record { homed = h.homed; kept = omega (arith, e, h.kept) }
 
-  pub apart : (a b : ℕ) → is_owned a ≡ true → is_owned b ≡ false → a ≢ b
-  apart a b h k e = let no : true ≡ false = sym h ∙ ap is_owned e ∙ k in cc
+pub apart : (a b : ℕ) → is_owned a ≡ true → is_owned b ≡ false → a ≢ b
+apart a b h k e = let no : true ≡ false = sym h ∙ ap is_owned e ∙ k in cc
 
-  -- a call returns behind itself
-  pub behind_call : (at : ℕ) → at + 3 ≤ highest_code → back_at ((at + 2) % 256) ((at + 2) / 256) ≡ at + 3
-  behind_call at r = omega arith
+-- a call returns behind itself
+pub behind_call : (at : ℕ) → at + 3 ≤ highest_code → back_at ((at + 2) % 256) ((at + 2) / 256) ≡ at + 3
+behind_call at r = omega arith
 
-  pub back_here : (at at' : ℕ) (t gets : List ℕ) (q : (ℕ → ℕ) → Type 0) (u : View) → Leaves at (lo ∷ hi ∷ []) t gets q u → at ≡ at' → Here at' (lo ∷ hi ∷ []) u.mem t gets u
-  back_here at at' t gets q u b e = record { pc = b.pc ∙ e; stack = b.stack_is; binary = b.binary; mem = refl; text = b.same_text; answers = b.same_answers }
+pub back_here : {lo hi : ℕ} (at at' : ℕ) (t gets : List ℕ) (q : (ℕ → ℕ) → Type 0) (u : View) → Leaves at (lo ∷ hi ∷ []) t gets q u → at ≡ at' → Here at' (lo ∷ hi ∷ []) u.mem t gets u
+back_here at at' t gets q u b e = record { pc = b.pc ∙ e; stack = b.stack_is; binary = b.binary; mem = refl; text = b.same_text; answers = b.same_answers }
 
-  pub moved : (at at' : ℕ) (bs : List ℕ) (m : ℕ → ℕ) (t gets : List ℕ) (u : View) → Here at bs m t gets u → at ≡ at' → Here at' bs m t gets u
-  moved at at' bs m t gets u b e = record { pc = b.pc ∙ e; stack = b.stack; binary = b.binary; mem = b.mem; text = b.text; answers = b.answers }
+pub moved : (at at' : ℕ) (bs : List ℕ) (m : ℕ → ℕ) (t gets : List ℕ) (u : View) → Here at bs m t gets u → at ≡ at' → Here at' bs m t gets u
+moved at at' bs m t gets u b e = record { pc = b.pc ∙ e; stack = b.stack; binary = b.binary; mem = b.mem; text = b.text; answers = b.answers }

@@ -1,9 +1,8 @@
-use Rattle.std.proofs.Common.{ℕ, ◌≡◌, ◌≤◌, arith, ap, sym, subst, ◌∙◌, map}
+use Rattle.std.proofs.Common.{ap, sym, subst, ◌∙◌, arith}
 use Rattle.tb_syntax.specs.Shown.{lines_of}
-use Rattle.tb_syntax.specs.Source.{Program, numbers}
-use Rattle.tb_lower.specs.Cost.{cost}
+use Rattle.tb_syntax.specs.Source.{numbers}
 use Rattle.tb_lower.specs.Shown.{code_of}
-use Rattle.tb_codegen.specs.Compiled.{AreKnown, pair_of, starts_in, most}
+use Rattle.tb_codegen.specs.Compiled.{AreKnown, starts_in}
 use Rattle.tb_codegen.proofs.Small.{are_small, cost_small}
 use Rattle.tb_codegen.proofs.Kept.{file_keeps}
 use Rattle.tb_codegen.proofs.Marked.{file_marks}
@@ -13,52 +12,35 @@ use Rattle.tb_codegen.proofs.compiler.compile_program.Goals as goal
 pub cost-cost-requires : goal.cost-cost-requires
 cost-cost-requires c = cost_small (lines_of c.args.program.now) (are_small (lines_of c.args.program.now) c.requires.stated) c.requires.rising
 
-cheap : (p : Program) (n : ℕ) → n ≤ 37888 → n ≡ cost p → cost p ≤ most
-cheap p n l e = omega (arith, l, e)
-
 pub laid-requires-clause-lists : goal.laid-requires-clause-lists
-laid-requires-clause-lists c = (settling c.args.seed (lines_of c.args.program.now) (code_of c.in_ok-code.code) c.in_ok-code.ensures.lowered c.requires.stated c.requires.rising c.in_ok-code.ensures.in_range
-    (cheap (lines_of c.args.program.now) c.cost-cost.result c.if-cost-gt-MOST.false c.cost-cost.ensures)).lists
+laid-requires-clause-lists c = (settling c.args.seed (lines_of c.args.program.now) c.in_ok-code.ensures.lowered c.requires.stated c.requires.rising c.in_ok-code.ensures.in_range c.if-cost-gt-MOST.false c.cost-cost.ensures).lists
 
 pub laid-requires-clause-lines : goal.laid-requires-clause-lines
-laid-requires-clause-lines c = (settling c.args.seed (lines_of c.args.program.now) (code_of c.in_ok-code.code) c.in_ok-code.ensures.lowered c.requires.stated c.requires.rising c.in_ok-code.ensures.in_range
-    (cheap (lines_of c.args.program.now) c.cost-cost.result c.if-cost-gt-MOST.false c.cost-cost.ensures)).lines
+laid-requires-clause-lines c = (settling c.args.seed (lines_of c.args.program.now) c.in_ok-code.ensures.lowered c.requires.stated c.requires.rising c.in_ok-code.ensures.in_range c.if-cost-gt-MOST.false c.cost-cost.ensures).lines
 
 pub laid-requires-clause-rising : goal.laid-requires-clause-rising
-laid-requires-clause-rising c = (settling c.args.seed (lines_of c.args.program.now) (code_of c.in_ok-code.code) c.in_ok-code.ensures.lowered c.requires.stated c.requires.rising c.in_ok-code.ensures.in_range
-    (cheap (lines_of c.args.program.now) c.cost-cost.result c.if-cost-gt-MOST.false c.cost-cost.ensures)).rising
+laid-requires-clause-rising c = (settling c.args.seed (lines_of c.args.program.now) c.in_ok-code.ensures.lowered c.requires.stated c.requires.rising c.in_ok-code.ensures.in_range c.if-cost-gt-MOST.false c.cost-cost.ensures).rising
 
 pub laid-requires-clause-suited : goal.laid-requires-clause-suited
-laid-requires-clause-suited c = (settling c.args.seed (lines_of c.args.program.now) (code_of c.in_ok-code.code) c.in_ok-code.ensures.lowered c.requires.stated c.requires.rising c.in_ok-code.ensures.in_range
-    (cheap (lines_of c.args.program.now) c.cost-cost.result c.if-cost-gt-MOST.false c.cost-cost.ensures)).suits
+laid-requires-clause-suited c = (settling c.args.seed (lines_of c.args.program.now) c.in_ok-code.ensures.lowered c.requires.stated c.requires.rising c.in_ok-code.ensures.in_range c.if-cost-gt-MOST.false c.cost-cost.ensures).suits
 
 pub line_starts-requires : goal.line_starts-requires
-line_starts-requires c =
-    subst (λ k. AreKnown c.in_ok-image.image.labels.entries (numbers (code_of k))) (sym c.lines.ensures)
-    (known c.args.seed (code_of c.in_ok-code.code) (settling c.args.seed (lines_of c.args.program.now) (code_of c.in_ok-code.code) c.in_ok-code.ensures.lowered c.requires.stated c.requires.rising c.in_ok-code.ensures.in_range
-    (cheap (lines_of c.args.program.now) c.cost-cost.result c.if-cost-gt-MOST.false c.cost-cost.ensures)) c.in_ok-image.image.at c.in_ok-image.image.bytes.items c.in_ok-image.image.labels.entries c.in_ok-image.ensures.ok)
+line_starts-requires c = subst (λ k. AreKnown c.in_ok-image.image.labels.entries (numbers (code_of k))) (sym c.lines.ensures) (known (settling c.args.seed (lines_of c.args.program.now) c.in_ok-code.ensures.lowered c.requires.stated c.requires.rising c.in_ok-code.ensures.in_range c.if-cost-gt-MOST.false c.cost-cost.ensures) c.in_ok-image.ensures.ok)
 
 pub place_of-requires : goal.place_of-requires
-place_of-requires c = has_table c.args.seed (code_of c.in_ok-code.code) (settling c.args.seed (lines_of c.args.program.now) (code_of c.in_ok-code.code) c.in_ok-code.ensures.lowered c.requires.stated c.requires.rising c.in_ok-code.ensures.in_range
-    (cheap (lines_of c.args.program.now) c.cost-cost.result c.if-cost-gt-MOST.false c.cost-cost.ensures)) c.in_ok-image.image.at c.in_ok-image.image.bytes.items c.in_ok-image.image.labels.entries c.in_ok-image.ensures.ok
+place_of-requires c = has_table (settling c.args.seed (lines_of c.args.program.now) c.in_ok-code.ensures.lowered c.requires.stated c.requires.rising c.in_ok-code.ensures.in_range c.if-cost-gt-MOST.false c.cost-cost.ensures) c.in_ok-image.ensures.ok
 
 pub returns-clause-answer : goal.returns-clause-answer
 returns-clause-answer c =
-    made c.args.seed (lines_of c.args.program.now) (code_of c.in_ok-code.code) (record { prg = c.in_ok-write.field-0; starts = c.in_ok-line_starts.field-0; table = c.place_of.result; warnings = c.in_ok-warnings.field-0 })
-    c.in_ok-image.image.at c.in_ok-image.image.bytes.items c.in_ok-image.image.labels.entries c.in_ok-code.ensures.lowered (settling c.args.seed (lines_of c.args.program.now) (code_of c.in_ok-code.code) c.in_ok-code.ensures.lowered c.requires.stated c.requires.rising c.in_ok-code.ensures.in_range
-    (cheap (lines_of c.args.program.now) c.cost-cost.result c.if-cost-gt-MOST.false c.cost-cost.ensures)) c.in_ok-code.ensures.accepted
-    (cheap (lines_of c.args.program.now) c.cost-cost.result c.if-cost-gt-MOST.false c.cost-cost.ensures) c.in_ok-image.ensures.ok c.in_ok-write.ensures
+    made (record { prg = c.in_ok-write.field-0; starts = c.in_ok-line_starts.field-0; table = c.place_of.result; warnings = c.in_ok-warnings.field-0 })
+    c.in_ok-code.ensures.lowered (settling c.args.seed (lines_of c.args.program.now) c.in_ok-code.ensures.lowered c.requires.stated c.requires.rising c.in_ok-code.ensures.in_range c.if-cost-gt-MOST.false c.cost-cost.ensures)
+    c.in_ok-code.ensures.accepted (let e = c.cost-cost.ensures in let l = c.if-cost-gt-MOST.false in omega (arith, e, l)) c.in_ok-image.ensures.ok c.in_ok-write.ensures
     (c.in_ok-line_starts.ensures ∙ ap (λ k. starts_in c.in_ok-image.image.labels.entries (numbers (code_of k))) c.lines.ensures) c.place_of.ensures c.in_ok-warnings.ensures
 
 pub returns-clause-keeps : goal.returns-clause-keeps
-returns-clause-keeps c some =
-    file_keeps c.args.seed (lines_of c.args.program.now) (code_of c.in_ok-code.code) c.in_ok-write.field-0.items c.in_ok-image.image.bytes.items c.in_ok-image.image.at c.in_ok-image.image.labels.entries
-    c.ranges.seed.fits some c.in_ok-code.ensures.lowered c.in_ok-code.ensures.follows (settling c.args.seed (lines_of c.args.program.now) (code_of c.in_ok-code.code) c.in_ok-code.ensures.lowered c.requires.stated c.requires.rising c.in_ok-code.ensures.in_range
-    (cheap (lines_of c.args.program.now) c.cost-cost.result c.if-cost-gt-MOST.false c.cost-cost.ensures)) c.in_ok-image.ensures.ok c.in_ok-write.ensures
+returns-clause-keeps c some = file_keeps c.ranges.seed.fits some c.in_ok-code.ensures.lowered c.in_ok-code.ensures.follows (settling c.args.seed (lines_of c.args.program.now) c.in_ok-code.ensures.lowered c.requires.stated c.requires.rising c.in_ok-code.ensures.in_range c.if-cost-gt-MOST.false c.cost-cost.ensures) c.in_ok-image.ensures.ok c.in_ok-write.ensures
 
 pub returns-clause-marks : goal.returns-clause-marks
 returns-clause-marks c some =
-    file_marks c.args.seed (lines_of c.args.program.now) (code_of c.in_ok-code.code) c.in_ok-write.field-0.items c.in_ok-image.image.bytes.items c.in_ok-image.image.at c.in_ok-image.image.labels.entries (map pair_of c.in_ok-line_starts.field-0.items)
-    c.ranges.seed.fits some c.in_ok-code.ensures.lowered c.in_ok-code.ensures.follows (settling c.args.seed (lines_of c.args.program.now) (code_of c.in_ok-code.code) c.in_ok-code.ensures.lowered c.requires.stated c.requires.rising c.in_ok-code.ensures.in_range
-    (cheap (lines_of c.args.program.now) c.cost-cost.result c.if-cost-gt-MOST.false c.cost-cost.ensures)) c.in_ok-image.ensures.ok c.in_ok-write.ensures
+    file_marks c.ranges.seed.fits some c.in_ok-code.ensures.lowered c.in_ok-code.ensures.follows (settling c.args.seed (lines_of c.args.program.now) c.in_ok-code.ensures.lowered c.requires.stated c.requires.rising c.in_ok-code.ensures.in_range c.if-cost-gt-MOST.false c.cost-cost.ensures) c.in_ok-image.ensures.ok c.in_ok-write.ensures
     (c.in_ok-line_starts.ensures ∙ ap (λ k. starts_in c.in_ok-image.image.labels.entries (numbers (code_of k))) c.lines.ensures)
