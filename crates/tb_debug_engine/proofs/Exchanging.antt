@@ -4,7 +4,12 @@ use Rattle.std.specs.Prelude.{Err, ℤ, min}
 use Rattle.std.proofs.KnownBytes.{Appends-kept, Appends-trans}
 use Rattle.std.proofs.Math.Seq.{take-append-add}
 use Rattle.std.specs.Io.KnownBytes.{Appends}
-use Rattle.tb_streams.specs.Lines.{TakesLine, TakesPart}
+use Rattle.tb_streams.specs.Lines.{TakesLine, TakesPart, without_return}
+use Rattle.tb_debug_commands.specs.Commands.{asked_in, asked_of}
+use Rattle.tb_debug_commands.specs.declared.command.Command.{Command}
+use Rattle.tb_debug.specs.Debuggers.{Responds}
+use Rattle.tb_debug.specs.Kinds.{IsWalk}
+use Rattle.tb_debug.specs.Telling.{Tells}
 use Rattle.tb_streams.specs.Streams.{AppendsPrefix}
 use Rattle.tb_engines.specs.declared.outcome.Outcome.{Outcome}
 use Rattle.tb_engines.specs.declared.outcome.Outcome.TheVariants.{Ended, Refused, ReadFault, WriteFault, NoMemory}
@@ -26,6 +31,12 @@ prefix_more text shown a b c first (k, rest) =
 pub taken_in_part : (had left : Option (List ℕ)) (taken : List ℕ) → TakesLine had taken left → TakesPart had taken left
 taken_in_part had left taken (is_line, inl whole) = (is_line, inr whole)
 taken_in_part had left taken (is_line, inr (some, whole, end)) = (is_line, inl whole)
+
+-- a line that spells a command is answered as the debugger responds to it
+pub answered : (limit : ℕ) (d e : Debugger) (command : Command) (taken : List ℕ) (told : Option Answer) → asked_of command ≡ asked_in (without_return taken)
+    → Responds command d e → Tells limit command d e told → (¬ (IsWalk command d) → e.shown ≡ d.shown) → Answers limit d taken told e
+answered limit d e command taken told spelled run tells shown =
+    record { command = command; spelled = spelled; run = run; tells = tells; shown = shown }
 
 -- a line that can't be read
 pub asked_wrong : (w : Written) (setting : Setting) (d e : Debugger) (outcome : Outcome) (had left old new : Option (List ℕ)) (read read' wrote wrote' : ℕ)

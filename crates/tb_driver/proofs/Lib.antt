@@ -1,6 +1,6 @@
 pub mod Delivered
 mod ReadSources
-mod Output
+pub mod Output
 pub mod Loadable
 mod Stepped
 mod Shown

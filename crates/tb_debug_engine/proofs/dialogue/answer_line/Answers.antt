@@ -1,24 +1,23 @@
+-- The goals of `answer_line` in src/dialogue.rt.
 use Rattle.std.proofs.Common.{inr, ap, ◌∙◌}
 use Rattle.std.proofs.KnownBytes.{Appends-trans}
 use Rattle.tb_streams.specs.Lines.{without_return}
 use Rattle.tb_debug_commands.specs.Commands.{asked_in}
-use Rattle.tb_debug_engine.proofs.Exchanging.{asked_wrong, said_wrong}
+use Rattle.tb_debug_engine.proofs.Exchanging.{answered, asked_wrong, said_wrong}
 use Rattle.tb_debug_engine.proofs.dialogue.answer_line.Goals as goal
 
 pub returns-in-Ok : goal.returns-in-Ok
 returns-in-Ok g c =
     let (took, prompted, read, wrote) = rw c.in-Ok-Some.field-0-is at c.in-Ok-Some.ensures in
-    let (all, same) = c.in-Ok.ensures in (
+    let (all, same) = c.in-Ok.ensures in
+    let spelled = c.read_command-command.ensures ∙ ap asked_in (c.without_return.ensures ∙ ap without_return c.as_slice.ensures.value) in
+    let done = c.in-Ok-Some-respond.ensures in (
       c.in-Ok-Some-respond.answer,
       (
         c.in-Ok-Some.line.items,
         took,
-        record {
-          command = c.read_command-command.result;
-          spelled = c.read_command-command.ensures ∙ ap asked_in (c.without_return.ensures ∙ ap without_return c.as_slice.ensures.value);
-          run = c.in-Ok-Some-respond.ensures.run;
-          tells = rw c.in-Ok-Some-respond.field-0-is at c.in-Ok-Some-respond.ensures.tells;
-        },
+        answered c.args.setting.limit c.args.debugger.now c.respond.new.self c.read_command-command.result c.in-Ok-Some.line.items _ spelled
+            done.run (rw c.in-Ok-Some-respond.field-0-is at done.tells) done.shown,
       ),
       Appends-trans _ _ _ _ _ prompted all,
       read,
@@ -28,29 +27,25 @@ returns-in-Ok g c =
 pub returns-in-Ok-Some-respond : goal.returns-in-Ok-Some-respond
 returns-in-Ok-Some-respond g c =
     let (took, prompted, read, wrote) = rw c.in-Ok-Some.field-0-is at c.in-Ok-Some.ensures in
+    let spelled = c.read_command-command.ensures ∙ ap asked_in (c.without_return.ensures ∙ ap without_return c.as_slice.ensures.value) in
+    let done = c.in-Ok-Some-respond.ensures in
     said_wrong c.args.source.now c.args.setting c.args.debugger.now c.respond.new.self c.in-Err-say.outcome c.in-Ok-Some.line.items
     c.in-Ok-Some-respond.answer _ _ _ _ _ _ _ _ _ _ took
-    (record {
-      command = c.read_command-command.result;
-      spelled = c.read_command-command.ensures ∙ ap asked_in (c.without_return.ensures ∙ ap without_return c.as_slice.ensures.value);
-      run = c.in-Ok-Some-respond.ensures.run;
-      tells = rw c.in-Ok-Some-respond.field-0-is at c.in-Ok-Some-respond.ensures.tells;
-    })
+    (answered c.args.setting.limit c.args.debugger.now c.respond.new.self c.read_command-command.result c.in-Ok-Some.line.items _ spelled
+    done.run (rw c.in-Ok-Some-respond.field-0-is at done.tells) done.shown)
     read prompted wrote c.in-Err-say.ensures
 
 pub returns-in-Ok-None-respond : goal.returns-in-Ok-None-respond
 returns-in-Ok-None-respond g c =
-    let (took, prompted, read, wrote) = rw c.in-Ok-Some.field-0-is at c.in-Ok-Some.ensures in (
+    let (took, prompted, read, wrote) = rw c.in-Ok-Some.field-0-is at c.in-Ok-Some.ensures in
+    let spelled = c.read_command-command.ensures ∙ ap asked_in (c.without_return.ensures ∙ ap without_return c.as_slice.ensures.value) in
+    let done = c.in-Ok-None-respond.ensures in (
       inr (
         c.in-Ok-Some.line.items,
         c.respond.new.self,
         took,
-        record {
-          command = c.read_command-command.result;
-          spelled = c.read_command-command.ensures ∙ ap asked_in (c.without_return.ensures ∙ ap without_return c.as_slice.ensures.value);
-          run = c.in-Ok-None-respond.ensures.run;
-          tells = rw c.in-Ok-None-respond.field-0-is at c.in-Ok-None-respond.ensures.tells;
-        },
+        answered c.args.setting.limit c.args.debugger.now c.respond.new.self c.read_command-command.result c.in-Ok-Some.line.items _ spelled
+            done.run (rw c.in-Ok-None-respond.field-0-is at done.tells) done.shown,
       ),
       prompted,
       read,
