@@ -1,7 +1,7 @@
 -- The lines of a file that have a number, and those of them that are too deep.
 use Rattle.std.specs.Prelude.{◌≡◌, ◌⊎◌, ℕ, ◌+◌, nat_lt, Bool, false, not, ◌&&◌, ◌||◌, ◌==◌, if◌then◌else◌, List, [], ◌∷◌, ◌++◌, Option, Some, None, option_map, Ok, Err}
 use Rattle.tb_syntax.specs.Source.{Command}
-use Rattle.tb_syntax.specs.Shown.{command_of}
+use Rattle.tb_syntax.specs.PlainData.{command_of}
 use Rattle.tb_syntax.specs.declared.statements.Statement.{Statement}
 use Rattle.tb_lower.specs.Need.{command_need}
 use Rattle.tb_parser.specs.Lines.{lines_of_file}

@@ -1,7 +1,7 @@
 //! Whether a source is compiled, and if not, all the reasons.
 ghost use Rattle.std.specs.Prelude.{◌≡◌, ◌<◌, ℕ, [], Result, IfOk};
 ghost use Rattle.tb_syntax.specs.Source.{Program as SourceProgram, numbers};
-ghost use Rattle.tb_syntax.specs.Shown.{lines_of};
+ghost use Rattle.tb_syntax.specs.PlainData.{lines_of};
 ghost use Rattle.tb_lower.specs.Cost as costs;
 ghost use Rattle.tb_parser.specs.Files.{AreStated, RisesFrom, at_end};
 ghost use Rattle.tb_refusals.specs.declared.refusals.CompileError.{CompileError};

@@ -1,12 +1,12 @@
 //! From a source text to a PRG file.
 ghost use Rattle.std.specs.Prelude.{◌≡◌, ◌<◌, ◌≤◌, ℕ, Ok, All, IfOk, IfErr, Some, None, true, is_some, length, map};
 ghost use Rattle.tb_asm.specs.Layout.{address_in};
-ghost use Rattle.tb_syntax.specs.Shown.{lines_of};
+ghost use Rattle.tb_syntax.specs.PlainData.{lines_of};
 ghost use Rattle.tb_syntax.specs.Source.{Program as SourceProgram, numbers};
 ghost use Rattle.tb_lower.specs.Cost as costs;
 ghost use Rattle.tb_lower.specs.Lowered as lowered;
 ghost use Rattle.tb_lower.specs.Need.{too_deep};
-ghost use Rattle.tb_lower.specs.Shown.{code_of};
+ghost use Rattle.tb_lower.specs.PlainData.{code_of};
 ghost use Rattle.tb_parser.specs.Files.{AreStated, Outcome, RisesFrom};
 ghost use Rattle.tb_runtime16.specs.Places.{PROLOGUE_AT};
 ghost use Rattle.tb_settling.specs.Settled.{IsLaid, Suits};

@@ -1,6 +1,6 @@
 //! What a program costs: a bound on the bytes of its code and line table.
 ghost use Rattle.std.specs.Prelude.{◌≡◌, ◌+◌, ◌<◌, map};
-ghost use Rattle.tb_syntax.specs.Shown.{expression_of, item_of, command_of, lines_of};
+ghost use Rattle.tb_syntax.specs.PlainData.{expression_of, item_of, command_of, lines_of};
 ghost use Rattle.tb_templates.specs.Sizes.{items_cost};
 ghost use Rattle.tb_lower.specs.Cost as cost;
 

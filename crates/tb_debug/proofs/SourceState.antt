@@ -38,7 +38,7 @@ word_there m a from to =
 note_there : (m : ℕ → ℕ) (k : ℕ) → k < 500 → note_at m k ≡ kept.note_at m k
 note_there m k few =
     λ i. word (byte_there m (NOTE_LOW + k) (open_data (NOTE_LOW + k) (omega arith) (omega (arith, few))) i)
-        (byte_there m (NOTE_HIGH + k) (open_data (NOTE_HIGH + k) (omega arith) (omega (arith, few))) i)
+    (byte_there m (NOTE_HIGH + k) (open_data (NOTE_HIGH + k) (omega arith) (omega (arith, few))) i)
 
 -- ---- the lines of places
 

@@ -48,12 +48,7 @@ impl<'a> Debugger<'a> {
     }
 
     // On to the next line that is looked for.
-    fn go_to(
-        &mut self,
-        alloc: Global,
-        to: Destination,
-        limit: u64,
-    ) -> Result<Reached, NoMemory>
+    fn go_to(&mut self, alloc: Global, to: Destination, limit: u64) -> Result<Reached, NoMemory>
         ensures run { OnOk result (KeepsRun self.old self.new) }
         ensures there { IfOk result (λ reached. IsThere to reached self.new) }
         ensures leads { IfOk result (λ reached. LeadsOnTo to limit self.old reached self.new.present) }

@@ -2,7 +2,7 @@
 use Rattle.std.proofs.Common.{◌≡◌, ℕ, List, [], ◌∷◌, Option, Some, None, Result, Ok, Err, refl, sym, ap, subst, ◌∙◌}
 use Rattle.std.specs.Prelude.{IfOk}
 use Rattle.tb_syntax.specs.Source.{Expression}
-use Rattle.tb_syntax.specs.Shown.{expression_of}
+use Rattle.tb_syntax.specs.PlainData.{expression_of}
 use Rattle.tb_grammar.specs.declared.expressions.ReadExpression.{ReadExpression}
 use Rattle.tb_grammar.specs.declared.stop.Stop.{Stop}
 use Rattle.tb_grammar.specs.declared.stop.Stop.TheVariants as stop

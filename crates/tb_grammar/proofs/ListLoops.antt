@@ -6,7 +6,7 @@ use Rattle.std.proofs.lemmas.List.{map-append}
 use Rattle.tb_words.specs.Letters.{place}
 use Rattle.tb_words.specs.declared.Letter.{Letter}
 use Rattle.tb_syntax.specs.declared.statements.PrintItem.{PrintItem}
-use Rattle.tb_syntax.specs.Shown.{item_of, letters_of}
+use Rattle.tb_syntax.specs.PlainData.{item_of, letters_of}
 use Rattle.tb_syntax.specs.Source.{Item, Input}
 use Rattle.tb_grammar.specs.Reading.{◌>>=◌, behind, letter_at}
 use Rattle.tb_grammar.specs.StatementReading.{quotation_at, FoundItem, as_text, item_at, between, Printed, with_items, others_by, items_at, letters_after, letters_at, input_at}

@@ -2,7 +2,7 @@
 use Rattle.std.proofs.Common.{◌≡◌, ℕ, ◌+◌, List, length, Option, Some, None, Result, Ok, Err, sym, ap, ◌∙◌}
 use Rattle.std.specs.Prelude.{IfOk}
 use Rattle.tb_syntax.specs.Source.{Command}
-use Rattle.tb_syntax.specs.Shown.{command_of}
+use Rattle.tb_syntax.specs.PlainData.{command_of}
 use Rattle.tb_grammar.specs.declared.statements.ReadStatement.{ReadStatement}
 use Rattle.tb_grammar.specs.declared.stop.Stop.{Stop}
 use Rattle.tb_grammar.specs.declared.stop.Stop.TheVariants as stop

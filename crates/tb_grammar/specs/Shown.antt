@@ -1,6 +1,6 @@
 -- How the program's values are seen.
 use Rattle.std.specs.Prelude.{◌≡◌, [], Option, Some, None, Result, Ok, Err}
-use Rattle.tb_syntax.specs.Shown.{expression_of, item_of, command_of}
+use Rattle.tb_syntax.specs.PlainData.{expression_of, item_of, command_of}
 use Rattle.tb_grammar.specs.declared.expressions.Front.{Front}
 use Rattle.tb_grammar.specs.declared.expressions.ReadExpression.{ReadExpression}
 use Rattle.tb_grammar.specs.declared.items.FrontItem.{FrontItem}

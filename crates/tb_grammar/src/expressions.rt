@@ -1,7 +1,7 @@
 //! Expressions, read by recursive descent.
 ghost use Rattle.std.specs.Prelude.{◌≡◌, ℕ, false, ◌∷◌, [], ◌+◌, ◌<◌, ◌≤◌, List, length, Option, Some, None, Ok, IfOk, MatchOption, codes};
 ghost use Rattle.tb_words.specs.Letters.{place};
-ghost use Rattle.tb_syntax.specs.Shown.{expression_of};
+ghost use Rattle.tb_syntax.specs.PlainData.{expression_of};
 ghost use Rattle.tb_syntax.specs.Source.{Expression};
 ghost use Rattle.tb_grammar.specs.Grammar.{Whole, Term, Reads};
 ghost use Rattle.tb_grammar.specs.Reading.{starts_digit, behind, behind_word, literal_at, letter_at, variable_at, factor_at, term_at, whole_at, operator_at, group_by, signed_by, whole_by, front_of, expression_in, joined as join};

@@ -1,6 +1,6 @@
 //! An image that keeps its program.
 ghost use Rattle.std.specs.Prelude.{◌≤◌, drop, length, IfOk};
-ghost use Rattle.tb_syntax.specs.Shown.{lines_of};
+ghost use Rattle.tb_syntax.specs.PlainData.{lines_of};
 ghost use Rattle.tb_syntax.specs.Source.{numbers};
 ghost use Rattle.tb_parser.specs.Files.{AreStated, RisesFrom};
 ghost use Rattle.tb_keeping.specs.Kept.{Keeps};

@@ -1,8 +1,8 @@
 //! Slot code with the program's runs.
 ghost use Rattle.std.specs.Prelude.{IfOk};
-ghost use Rattle.tb_syntax.specs.Shown.{lines_of};
+ghost use Rattle.tb_syntax.specs.PlainData.{lines_of};
 ghost use Rattle.tb_lower.specs.Follows.{Follows};
-ghost use Rattle.tb_lower.specs.Shown.{code_of};
+ghost use Rattle.tb_lower.specs.PlainData.{code_of};
 
 use std::alloc::Global;
 use tb_lower::{LowerError, SlotLine, lower};

@@ -7,7 +7,7 @@ use Rattle.tb_asm.specs.Settle.{Form, items_from}
 use Rattle.tb_asm.proofs.Laws.{all_size}
 use Rattle.tb_asm.proofs.Settled.{settled_reaches}
 use Rattle.tb_syntax.specs.Source.{Numbered, Program, numbers}
-use Rattle.tb_syntax.specs.Shown.{lines_of}
+use Rattle.tb_syntax.specs.PlainData.{lines_of}
 use Rattle.tb_syntax.specs.declared.statements.Statement.{Statement}
 use Rattle.tb_lower.specs.Lowered as lowered
 use Rattle.tb_lower.specs.Slots.{Instr}

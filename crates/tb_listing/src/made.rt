@@ -1,6 +1,6 @@
 //! All that a build makes, from one compilation.
 ghost use Rattle.std.specs.Prelude.{◌≡◌, ◌+◌, ◌-◌, ◌≤◌, length, IfOk, IfErr};
-ghost use Rattle.tb_syntax.specs.Shown.{lines_of};
+ghost use Rattle.tb_syntax.specs.PlainData.{lines_of};
 ghost use Rattle.tb_lower.specs.Cost.{cost};
 ghost use Rattle.tb_runtime16.specs.Places.{PROLOGUE_AT};
 ghost use Rattle.tb_codegen.specs.Compiled.{prg_of};

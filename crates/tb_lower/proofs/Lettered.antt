@@ -10,7 +10,7 @@ use Rattle.tb_syntax.specs.declared.statements.Statement.{Statement}
 use Rattle.tb_syntax.specs.declared.statements.Statement.TheVariants as statement
 use Rattle.tb_syntax.specs.Source.{Expression, Number, Variable, Binary, Item, Value, Command, Let, Print, If, Goto, Gosub}
 use Rattle.tb_syntax.specs.Source as source
-use Rattle.tb_syntax.specs.Shown.{expression_of, item_of, letters_of, command_of}
+use Rattle.tb_syntax.specs.PlainData.{expression_of, item_of, letters_of, command_of}
 
 abbrev pub IsLettered : Expression → Type 0
 IsLettered (Number n) = Unit {0}

@@ -3,7 +3,7 @@ use Rattle.std.proofs.Common.{◌≡◌, ℕ, ◌+◌, ◌≤◌, ◌<◌, true,
 use Rattle.tb_syntax.specs.declared.statements.Statement.{Statement}
 use Rattle.tb_syntax.specs.Source.{Expression, Number, Variable, Binary, Item, Text, Value, Zone, Command, Let, Print, If, Goto, Gosub, Remark}
 use Rattle.tb_syntax.specs.Source as source
-use Rattle.tb_syntax.specs.Shown.{command_of, lines_of}
+use Rattle.tb_syntax.specs.PlainData.{command_of, lines_of}
 use Rattle.tb_lower.specs.Need.{need, items_need, command_need, too_deep}
 use Rattle.tb_lower.specs.Slots.{Instr, Store, Negate, Compute, Random, SendNumber, SendNewline, Jump, Call, JumpTo, CallTo, SlotCode}
 use Rattle.tb_lower.specs.Lowered.{constant, or_constant, target_code, value_code, items_code, inputs_code, command_code, program_code}

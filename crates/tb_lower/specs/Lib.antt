@@ -6,7 +6,7 @@ pub mod Meaning
 pub mod Need
 pub mod Cost
 pub mod Slots
-pub mod Shown
+pub mod PlainData
 pub mod Lowered
 pub mod Weights
 pub mod Ranges

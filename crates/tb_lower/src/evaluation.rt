@@ -1,7 +1,7 @@
 //! The values of expressions.
 ghost use Rattle.std.specs.Prelude.{◌≡◌, List, ℤ, map, option_map};
 ghost use Rattle.tb_words.specs.Words.{word_of, negated};
-ghost use Rattle.tb_syntax.specs.Shown.{expression_of};
+ghost use Rattle.tb_syntax.specs.PlainData.{expression_of};
 ghost use Rattle.tb_lower.specs.Evaluation.{IsEvaluation};
 ghost use Rattle.tb_lower.specs.Lowered.{known_value, constant};
 ghost use Rattle.tb_lower.specs.Values.{apply, has_random};

@@ -1,7 +1,7 @@
 //! A plain program that runs a source.
 ghost use Rattle.std.specs.Prelude.{◌≡◌, [], ◌∷◌, ◌++◌, IfOk, OnOk, MatchResult, map};
 ghost use Rattle.tb_words.specs.Letters.{place};
-ghost use Rattle.tb_syntax.specs.Shown.{expression_of, item_of, letters_of, command_of, lines_of};
+ghost use Rattle.tb_syntax.specs.PlainData.{expression_of, item_of, letters_of, command_of, lines_of};
 ghost use Rattle.tb_syntax.specs.Source.{numbers, Let, Print, Input, Goto, Gosub};
 ghost use Rattle.tb_lower.specs.Control.{go_to, go_sub, go_back, fall, poll};
 ghost use Rattle.tb_lower.specs.Input.{Nothing, input, take_turn, turn};

@@ -1,6 +1,6 @@
 //! From programs to slot code.
 ghost use Rattle.std.specs.Prelude.{◌≡◌, ◌+◌, ◌≤◌, Some, None, IfOk, IfErr, OnOk, [], ◌∷◌, ◌++◌, ℕ, map};
-ghost use Rattle.tb_syntax.specs.Shown.{expression_of, item_of, letters_of, command_of, lines_of};
+ghost use Rattle.tb_syntax.specs.PlainData.{expression_of, item_of, letters_of, command_of, lines_of};
 ghost use Rattle.tb_syntax.specs.Source as source;
 ghost use Rattle.tb_lower.specs.Need.{need, item_need, items_need, command_need, too_deep};
 ghost use Rattle.tb_lower.specs.Lowered.{value_code, item_code, items_code, inputs_code, command_code, list_code, program_code};
@@ -8,7 +8,7 @@ ghost use Rattle.tb_lower.specs.Follows.{Follows};
 ghost use Rattle.tb_syntax.specs.Texts.{HasShortTexts};
 ghost use Rattle.tb_lower.specs.Ranges.{IsCodeInRange};
 ghost use Rattle.tb_lower.specs.Refusals.{IsRefusal};
-ghost use Rattle.tb_lower.specs.Shown.{instr_of, slot_line_of, code_of};
+ghost use Rattle.tb_lower.specs.PlainData.{instr_of, slot_line_of, code_of};
 
 use crate::evaluation::constant;
 use crate::needs::{SLOTS, command_need};

@@ -1,7 +1,7 @@
 //! Warnings: jumps to constant lines that are missing.
 ghost use Rattle.std.specs.Prelude.{◌≡◌, ◌++◌, [], ◌∷◌, IfOk, OnOk, map, option_map};
 ghost use Rattle.tb_words.specs.Words.{word_of};
-ghost use Rattle.tb_syntax.specs.Shown.{expression_of, command_of, lines_of};
+ghost use Rattle.tb_syntax.specs.PlainData.{expression_of, command_of, lines_of};
 ghost use Rattle.tb_syntax.specs.Source.{numbers};
 ghost use Rattle.tb_lower.specs.Lowered.{constant};
 ghost use Rattle.tb_lower.specs.Missing.{without_line, missing_target, missing_targets};

@@ -1,6 +1,6 @@
 //! How many slots expressions need.
 ghost use Rattle.std.specs.Prelude.{◌≡◌, map, min};
-ghost use Rattle.tb_syntax.specs.Shown.{expression_of, item_of, command_of};
+ghost use Rattle.tb_syntax.specs.PlainData.{expression_of, item_of, command_of};
 ghost use Rattle.tb_lower.specs.Need.{need, items_need, command_need};
 
 use tb_syntax::{Expr, PrintItem, Statement};

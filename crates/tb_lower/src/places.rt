@@ -1,6 +1,6 @@
 //! Where a run stands.
 ghost use Rattle.std.specs.Prelude.{◌≡◌, option_map};
-ghost use Rattle.tb_syntax.specs.Shown.{command_of, lines_of};
+ghost use Rattle.tb_syntax.specs.PlainData.{command_of, lines_of};
 ghost use Rattle.tb_syntax.specs.Source.{numbers};
 ghost use Rattle.tb_lower.specs.Control.{has_line, content_at, next_after, first_place, highest};
 ghost use Rattle.tb_lower.specs.Parts.{place_of};

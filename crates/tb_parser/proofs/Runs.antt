@@ -2,7 +2,7 @@
 use Rattle.std.proofs.Common.{◌≡◌, ℕ, ◌+◌, false, true, List, [], ◌∷◌, Ok, Err, refl, sym, subst}
 use Rattle.tb_syntax.specs.declared.statements.Statement.{Statement}
 use Rattle.tb_syntax.specs.Source.{Program}
-use Rattle.tb_syntax.specs.Shown.{lines_of}
+use Rattle.tb_syntax.specs.PlainData.{lines_of}
 use Rattle.tb_parser.specs.declared.errors.Fault.{Fault}
 use Rattle.tb_parser.specs.declared.errors.SourceError.{SourceError}
 use Rattle.tb_parser.specs.Answers.{Answers, Says, edit_of, refusal_of}

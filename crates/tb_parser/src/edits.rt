@@ -1,6 +1,6 @@
 //! What a line of a file does to the program.
 ghost use Rattle.std.specs.Prelude.{◌≡◌, IfErr, OnOk};
-ghost use Rattle.tb_syntax.specs.Shown.{lines_of};
+ghost use Rattle.tb_syntax.specs.PlainData.{lines_of};
 ghost use Rattle.tb_parser.specs.Answers.{edit_of};
 ghost use Rattle.tb_parser.specs.Files.{edited};
 ghost use Rattle.tb_parser.specs.Refusals.{out_of_memory};

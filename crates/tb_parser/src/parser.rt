@@ -1,7 +1,7 @@
 //! Source texts read: a file, a line of it, one expression.
 ghost use Rattle.std.specs.Prelude.{◌≡◌, ◌≢◌, ℕ, [], None, Some, Result, Ok, Err, IfErr, IfOk, IfSome, MatchOption, MatchResult, length};
 ghost use Rattle.tb_syntax.specs.Source.{Command, Expression, numbers};
-ghost use Rattle.tb_syntax.specs.Shown.{command_of, expression_of, lines_of};
+ghost use Rattle.tb_syntax.specs.PlainData.{command_of, expression_of, lines_of};
 ghost use Rattle.tb_grammar.specs.Statements.{States};
 ghost use Rattle.tb_parser.specs.declared.errors.SourceErrorKind.TheVariants.{NoMemory, NotCompiled, NumberTooLarge, Syntax};
 ghost use Rattle.tb_parser.specs.Answers.{edit_of, refusal_of, Answers, InLineOne, Says};

@@ -1,7 +1,7 @@
 //! Sources as programs.
 ghost use Rattle.std.specs.Prelude.{◌≡◌, ℕ, Option, Result, IfOk, []};
 ghost use Rattle.tb_syntax.specs.Source.{Command, Expression};
-ghost use Rattle.tb_syntax.specs.Shown.{command_of, expression_of, lines_of};
+ghost use Rattle.tb_syntax.specs.PlainData.{command_of, expression_of, lines_of};
 ghost use Rattle.tb_grammar.specs.Grammar.{Whole, Reads};
 ghost use Rattle.tb_grammar.specs.Statements.{States};
 ghost use Rattle.tb_grammar.specs.Shown as shown;

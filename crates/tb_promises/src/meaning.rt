@@ -1,7 +1,7 @@
 //! What a program means, and its slot code.
 ghost use Rattle.std.specs.Prelude.{◌≡◌, IfOk, IfErr, map};
 ghost use Rattle.tb_words.specs.Words.{word_of};
-ghost use Rattle.tb_syntax.specs.Shown as shown;
+ghost use Rattle.tb_syntax.specs.PlainData as shown;
 ghost use Rattle.tb_lower.specs.Evaluation.{IsEvaluation};
 ghost use Rattle.tb_lower.specs.Interpreted.{IsRun};
 ghost use Rattle.tb_lower.specs.Lowered.{program_code};
@@ -9,7 +9,7 @@ ghost use Rattle.tb_lower.specs.Meaning.{source_run};
 ghost use Rattle.tb_lower.specs.Missing.{missing_targets};
 ghost use Rattle.tb_lower.specs.Parts.{place_of};
 ghost use Rattle.tb_lower.specs.Refusals.{IsRefusal};
-ghost use Rattle.tb_lower.specs.Shown.{code_of};
+ghost use Rattle.tb_lower.specs.PlainData.{code_of};
 
 use std::alloc::{AllocError, Global};
 use tb_lower::{

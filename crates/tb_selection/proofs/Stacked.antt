@@ -8,7 +8,7 @@ use Rattle.tb_selection.specs.Liveness.{live, live_before}
 use Rattle.tb_selection.specs.Laws.{AreLive, Shortens}
 use Rattle.tb_selection.specs.Select.{allowed, attach, four_as_one, fused, instead, select, three_as_one}
 use Rattle.tb_selection.specs.declared.selecting.Placed.{Placed}
-use Rattle.tb_selection.specs.Shown.{group_of, groups_in, in_order, placed_of}
+use Rattle.tb_selection.specs.PlainData.{group_of, groups_in, in_order, placed_of}
 use Rattle.tb_selection.proofs.Bracketed.{attach_is}
 
 -- further instructions before groups

@@ -10,7 +10,7 @@ use Rattle.tb_selection.specs.GroupSteps.{group_step, groups_begin, IsInside}
 use Rattle.tb_selection.specs.declared.liveness.Live.{Live}
 use Rattle.tb_selection.specs.declared.selecting.Placed.{Placed}
 use Rattle.tb_selection.specs.Liveness.{live, nothing_live}
-use Rattle.tb_selection.specs.Shown.{group_of, groups_in, in_order, placed_of}
+use Rattle.tb_selection.specs.PlainData.{group_of, groups_in, in_order, placed_of}
 use Rattle.tb_selection.specs.Select.{fused, may_stand, omits_only_dead, select}
 
 -- what each of these groups omits is dead behind it, the groups behind it are the groups of their list, and it may stand

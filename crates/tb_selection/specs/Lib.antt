@@ -3,4 +3,4 @@ pub mod Liveness
 pub mod Select
 pub mod GroupSteps
 pub mod Laws
-pub mod Shown
+pub mod PlainData

@@ -2,7 +2,7 @@
 ghost use Rattle.std.specs.Prelude.{◌≡◌, option_map};
 ghost use Rattle.tb_words.specs.Letters.{place};
 ghost use Rattle.tb_selection.specs.Select as select;
-ghost use Rattle.tb_selection.specs.Shown.{against_of, destination_of, divisibility_of, equality_of, factor_of, group_of, loaded_of, multiple_of, operand_of};
+ghost use Rattle.tb_selection.specs.PlainData.{against_of, destination_of, divisibility_of, equality_of, factor_of, group_of, loaded_of, multiple_of, operand_of};
 
 use crate::groups::{Destination, Divisibility, Group, Home, Operand, Side, Tested};
 use crate::selecting::slot_of;

@@ -1,6 +1,6 @@
 //! What the rest of a list reads.
 ghost use Rattle.std.specs.Prelude.{◌≡◌};
-ghost use Rattle.tb_lower.specs.Shown.{instr_of};
+ghost use Rattle.tb_lower.specs.PlainData.{instr_of};
 ghost use Rattle.tb_selection.specs.Liveness.{live_before, nothing_live};
 
 use tb_lower::SlotInstr;

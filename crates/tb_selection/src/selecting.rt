@@ -1,11 +1,11 @@
 //! Slot instructions as groups.
 ghost use Rattle.std.specs.Prelude.{◌≡◌, ◌∷◌, IfOk, OnOk, map, option_map, take};
-ghost use Rattle.tb_lower.specs.Shown.{instr_of};
+ghost use Rattle.tb_lower.specs.PlainData.{instr_of};
 ghost use Rattle.tb_selection.specs.Groups.{expand_all};
 ghost use Rattle.tb_selection.specs.Laws.{AreLive, IsJoined};
 ghost use Rattle.tb_selection.specs.Liveness.{live};
 ghost use Rattle.tb_selection.specs.Select as select;
-ghost use Rattle.tb_selection.specs.Shown.{both_of, conversion_of, destination_of, group_of, groups_in, in_order, operand_of, placed_of, tested_of, words_of};
+ghost use Rattle.tb_selection.specs.PlainData.{both_of, conversion_of, destination_of, group_of, groups_in, in_order, operand_of, placed_of, tested_of, words_of};
 
 use crate::fusion::{four_as_one, three_as_one};
 use crate::groups::{Conversion, Destination, Group, Home, Operand, Tested, Usage};

@@ -1,3 +1,3 @@
-pub mod Shown
+pub mod PlainData
 pub mod Source
 pub mod Texts

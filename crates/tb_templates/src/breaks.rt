@@ -1,8 +1,8 @@
 //! The STOP key: it is asked for at the beginning of each line, and what is done for it stands out of the way.
 ghost use Rattle.std.specs.Prelude.{◌≡◌, OnOk, ◌++◌, map};
 ghost use Rattle.tb_asm.specs.Layout.{entry_of};
-ghost use Rattle.tb_lower.specs.Shown.{instr_of};
-ghost use Rattle.tb_selection.specs.Shown.{group_of};
+ghost use Rattle.tb_lower.specs.PlainData.{instr_of};
+ghost use Rattle.tb_selection.specs.PlainData.{group_of};
 ghost use Rattle.tb_templates.specs.Breaks as breaks;
 
 use crate::labels::Target;

@@ -3,7 +3,7 @@ ghost use Rattle.std.specs.Prelude.{◌≡◌, ◌+◌, ◌<◌, OnOk, [], ◌�
 ghost use Rattle.tb_asm.specs.Layout.{entry_of};
 ghost use Rattle.tb_lower.specs.Control.{has_line};
 ghost use Rattle.tb_selection.specs.Groups as selection;
-ghost use Rattle.tb_selection.specs.Shown.{divisibility_of};
+ghost use Rattle.tb_selection.specs.PlainData.{divisibility_of};
 ghost use Rattle.tb_templates.specs.Templates as templates;
 ghost use Rattle.tb_templates.specs.declared.labels.Inner.TheVariants.{Skip};
 ghost use Rattle.tb_templates.specs.declared.labels.Target.TheVariants.{Inside};

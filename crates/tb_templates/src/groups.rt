@@ -3,10 +3,10 @@ ghost use Rattle.std.specs.Prelude.{◌≡◌, ◌+◌, ◌<◌, ◌≤◌, OnOk
 ghost use Rattle.tb_asm.specs.Layout.{entry_of};
 ghost use Rattle.tb_lower.specs.Control.{has_line};
 ghost use Rattle.tb_lower.specs.Ranges.{AreInRange, IsInRange};
-ghost use Rattle.tb_lower.specs.Shown.{instr_of};
+ghost use Rattle.tb_lower.specs.PlainData.{instr_of};
 ghost use Rattle.tb_selection.specs.Groups as selection;
 ghost use Rattle.tb_selection.specs.Groups.{expand};
-ghost use Rattle.tb_selection.specs.Shown.{conversion_of, usage_of, group_of};
+ghost use Rattle.tb_selection.specs.PlainData.{conversion_of, usage_of, group_of};
 ghost use Rattle.tb_runtime16.specs.Places as places;
 ghost use Rattle.tb_templates.specs.declared.labels.Inner.TheVariants.{Behind, Skip};
 ghost use Rattle.tb_templates.specs.declared.labels.Target.TheVariants.{Inside};

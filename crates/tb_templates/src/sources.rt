@@ -3,7 +3,7 @@ ghost use Rattle.std.specs.Prelude.{◌≡◌, ◌+◌, ◌<◌, ◌≤◌, OnOk
 ghost use Rattle.tb_asm.specs.Layout.{entry_of};
 ghost use Rattle.tb_words.specs.Letters.{place};
 ghost use Rattle.tb_selection.specs.Groups as groups;
-ghost use Rattle.tb_selection.specs.Shown.{operand_of, home_of, tested_of, destination_of};
+ghost use Rattle.tb_selection.specs.PlainData.{operand_of, home_of, tested_of, destination_of};
 ghost use Rattle.tb_templates.specs.Templates.{var_at, slot_at};
 ghost use Rattle.tb_templates.specs.Sources as sources;
 ghost use Rattle.tb_templates.specs.Sources.{IsWhole};

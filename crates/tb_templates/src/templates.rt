@@ -4,7 +4,7 @@ ghost use Rattle.tb_asm.specs.Layout as layout;
 ghost use Rattle.tb_asm.specs.Layout.{entry_of};
 ghost use Rattle.tb_lower.specs.Control.{has_line};
 ghost use Rattle.tb_lower.specs.Ranges.{IsInRange};
-ghost use Rattle.tb_lower.specs.Shown.{instr_of};
+ghost use Rattle.tb_lower.specs.PlainData.{instr_of};
 ghost use Rattle.tb_templates.specs.declared.labels.Inner.TheVariants as inner;
 ghost use Rattle.tb_templates.specs.declared.labels.Target.TheVariants as target;
 ghost use Rattle.tb_templates.specs.Templates as templates;

@@ -1,5 +1,5 @@
 use Rattle.std.proofs.Common.{◌≡◌, ◌++◌}
-use Rattle.tb_syntax.specs.Shown.{lines_of}
+use Rattle.tb_syntax.specs.PlainData.{lines_of}
 use Rattle.tb_check.specs.Verdicts.{deep_lines}
 use Rattle.tb_check.proofs.judging.deep_lines.Given as goal
 

@@ -1,4 +1,4 @@
-use Rattle.tb_syntax.specs.Shown.{lines_of}
+use Rattle.tb_syntax.specs.PlainData.{lines_of}
 use Rattle.tb_codegen.proofs.Small.{are_small, cost_small}
 use Rattle.tb_check.proofs.judging.judge_program.Goals as goal
 

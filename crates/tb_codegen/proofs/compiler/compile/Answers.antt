@@ -1,6 +1,6 @@
 use Rattle.std.proofs.Common.{refl, Result, Ok, Err}
 use Rattle.std.specs.Prelude.{IfOk}
-use Rattle.tb_syntax.specs.Shown.{lines_of}
+use Rattle.tb_syntax.specs.PlainData.{lines_of}
 use Rattle.tb_codegen.proofs.Kept.{made_some}
 use Rattle.tb_codegen.proofs.compiler.compile.Goals as goal
 

@@ -1,7 +1,7 @@
 use Rattle.std.proofs.Common.{ap, sym, subst, ◌∙◌, arith}
-use Rattle.tb_syntax.specs.Shown.{lines_of}
+use Rattle.tb_syntax.specs.PlainData.{lines_of}
 use Rattle.tb_syntax.specs.Source.{numbers}
-use Rattle.tb_lower.specs.Shown.{code_of}
+use Rattle.tb_lower.specs.PlainData.{code_of}
 use Rattle.tb_codegen.specs.Compiled.{AreKnown, starts_in}
 use Rattle.tb_codegen.proofs.Small.{are_small, cost_small}
 use Rattle.tb_codegen.proofs.Kept.{file_keeps}

@@ -1,5 +1,5 @@
 use Rattle.std.proofs.Common.{ℕ, ◌≡◌, ◌∙◌, map, ap, sym, arith}
-use Rattle.tb_syntax.specs.Shown.{item_of, command_of}
+use Rattle.tb_syntax.specs.PlainData.{item_of, command_of}
 use Rattle.tb_lower.specs.Cost.{command_cost}
 use Rattle.tb_templates.specs.Sizes.{items_cost}
 use Rattle.tb_templates.proofs.Fitting.{items_pay}

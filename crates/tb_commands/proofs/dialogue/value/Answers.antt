@@ -1,5 +1,5 @@
 use Rattle.std.specs.Prelude.{Ok}
-use Rattle.tb_syntax.specs.Shown.{expression_of}
+use Rattle.tb_syntax.specs.PlainData.{expression_of}
 use Rattle.tb_commands.proofs.Refusing.{refused_text}
 use Rattle.tb_commands.proofs.dialogue.value.Goals as goal
 

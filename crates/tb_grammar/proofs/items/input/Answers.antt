@@ -1,6 +1,6 @@
 use Rattle.std.proofs.Common.{sym, ◌∙◌}
 use Rattle.tb_words.specs.Letters.{place}
-use Rattle.tb_syntax.specs.Shown.{letters_of}
+use Rattle.tb_syntax.specs.PlainData.{letters_of}
 use Rattle.tb_grammar.proofs.ListLoops.{is_empty, is_longer, letters_last, letters_next, letters_stop, letter_pushed, no_letter, input_is, no_input}
 use Rattle.tb_grammar.proofs.items.input.Goals as goal
 use Rattle.tb_grammar.proofs.items.input.Goals.{in-Some+in_ok-push+else-is_empty+in-None, in_default}

@@ -1,5 +1,5 @@
 use Rattle.std.proofs.Common.{◌≡◌, ℕ, ◌≤◌, length}
-use Rattle.tb_syntax.specs.Shown.{letters_of}
+use Rattle.tb_syntax.specs.PlainData.{letters_of}
 use Rattle.tb_grammar.specs.StatementReading.{letters_at}
 use Rattle.tb_grammar.proofs.ListLoops.{letters_behind}
 use Rattle.tb_grammar.proofs.items.input.Given as goal

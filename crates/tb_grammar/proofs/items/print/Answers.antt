@@ -1,6 +1,6 @@
 use Rattle.std.proofs.Common.{[], ◌∷◌, ◌++◌, refl, ap, sym, ◌∙◌, map}
 use Rattle.std.proofs.lemmas.List.{append-nil}
-use Rattle.tb_syntax.specs.Shown.{item_of}
+use Rattle.tb_syntax.specs.PlainData.{item_of}
 use Rattle.tb_syntax.specs.Source.{Zone}
 use Rattle.tb_grammar.specs.Shown.{item_seen}
 use Rattle.tb_grammar.proofs.ListLoops.{is_longer, printed_shrinks, printed_next, item_pushed}

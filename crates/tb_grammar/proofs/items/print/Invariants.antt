@@ -1,5 +1,5 @@
 use Rattle.std.proofs.Common.{◌≡◌, ℕ, ◌≤◌, length, map, true}
-use Rattle.tb_syntax.specs.Shown.{item_of}
+use Rattle.tb_syntax.specs.PlainData.{item_of}
 use Rattle.tb_grammar.specs.StatementReading.{items_at}
 use Rattle.tb_grammar.proofs.ListLoops.{printed_behind}
 use Rattle.tb_grammar.proofs.items.print.Given as goal

@@ -1,5 +1,5 @@
 use Rattle.std.proofs.Common.{ℕ, ◌≡◌, ◌≤◌, arith, ap, map, subst, ◌∙◌}
-use Rattle.tb_syntax.specs.Shown.{lines_of}
+use Rattle.tb_syntax.specs.PlainData.{lines_of}
 use Rattle.tb_syntax.specs.Source.{Program, numbers}
 use Rattle.tb_syntax.specs.Texts.{HasShortTexts}
 use Rattle.tb_asm.specs.Layout.{entry_of}
@@ -9,7 +9,7 @@ use Rattle.tb_templates.specs.Program.{program_code}
 use Rattle.tb_lower.specs.Cost.{cost}
 use Rattle.tb_lower.specs.Lowered as lowered
 use Rattle.tb_lower.specs.Ranges.{IsCodeInRange}
-use Rattle.tb_lower.specs.Shown.{code_of}
+use Rattle.tb_lower.specs.PlainData.{code_of}
 use Rattle.tb_lower.specs.Slots.{SlotCode}
 use Rattle.tb_parser.specs.Files.{AreStated, RisesFrom}
 use Rattle.tb_codegen.proofs.Small.{are_small, cost_small}

@@ -1,5 +1,5 @@
 use Rattle.std.proofs.Common.{Ok}
-use Rattle.tb_syntax.specs.Shown.{lines_of}
+use Rattle.tb_syntax.specs.PlainData.{lines_of}
 use Rattle.tb_codegen.specs.Compiled.{IsCompiled, starts_of, table_of}
 use Rattle.tb_listing.specs.Made.{image_size}
 use Rattle.tb_listing.proofs.Laid.{are_laid}

@@ -1,5 +1,5 @@
 use Rattle.std.proofs.Common.{◌≡◌, ◌+◌, ◌++◌, map, sum_by}
-use Rattle.tb_syntax.specs.Shown.{lines_of}
+use Rattle.tb_syntax.specs.PlainData.{lines_of}
 use Rattle.tb_lower.specs.Cost.{command_cost, cost}
 use Rattle.tb_codegen.specs.Compiled.{pair_of}
 use Rattle.tb_listing.specs.Map.{line_parts, rows_text}

@@ -1,7 +1,7 @@
 use Rattle.std.proofs.Common.{◌≤◌, length, map, sym, subst, ◌∙◌, arith}
 use Rattle.std.proofs.lemmas.List.{length-map}
 use Rattle.tb_words.specs.Words.{word_of}
-use Rattle.tb_syntax.specs.Shown.{expression_of}
+use Rattle.tb_syntax.specs.PlainData.{expression_of}
 use Rattle.tb_lower.specs.Evaluation.{IsEvaluation}
 use Rattle.tb_lower.proofs.Lettered.{expression_letters}
 use Rattle.tb_lower.proofs.Evaluated.{evaluated}

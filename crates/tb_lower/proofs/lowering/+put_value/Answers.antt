@@ -1,5 +1,5 @@
 use Rattle.std.proofs.Common.{sym, ◌∙◌}
-use Rattle.tb_syntax.specs.Shown.{expression_of}
+use Rattle.tb_syntax.specs.PlainData.{expression_of}
 use Rattle.tb_lower.proofs.Constants.{constant_code}
 use Rattle.tb_lower.proofs.lowering.+put_value.Goals as goal
 

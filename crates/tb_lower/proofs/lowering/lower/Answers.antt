@@ -1,7 +1,7 @@
 use Rattle.std.proofs.Common.{◌≡◌, ap, ◌∙◌}
-use Rattle.tb_syntax.specs.Shown.{lines_of}
+use Rattle.tb_syntax.specs.PlainData.{lines_of}
 use Rattle.tb_lower.specs.Lowered.{program_code}
-use Rattle.tb_lower.specs.Shown.{code_of}
+use Rattle.tb_lower.specs.PlainData.{code_of}
 use Rattle.tb_lower.proofs.Lists.{lowered}
 use Rattle.tb_lower.proofs.lowering.lower.Goals as goal
 

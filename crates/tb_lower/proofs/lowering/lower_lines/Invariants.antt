@@ -1,8 +1,8 @@
 use Rattle.std.proofs.Common.{◌≡◌, ◌++◌, map}
-use Rattle.tb_syntax.specs.Shown.{lines_of}
+use Rattle.tb_syntax.specs.PlainData.{lines_of}
 use Rattle.tb_lower.specs.Need.{too_deep}
 use Rattle.tb_lower.specs.Lowered.{program_code}
-use Rattle.tb_lower.specs.Shown.{slot_line_of}
+use Rattle.tb_lower.specs.PlainData.{slot_line_of}
 use Rattle.tb_lower.proofs.lowering.lower_lines.Given as goal
 
 abbrev pub invariant-loop-number : goal.invariant-loop-number

@@ -1,7 +1,7 @@
 use Rattle.std.proofs.Common.{◌≡◌, ◌++◌, map, drop}
-use Rattle.tb_syntax.specs.Shown.{letters_of}
+use Rattle.tb_syntax.specs.PlainData.{letters_of}
 use Rattle.tb_lower.specs.Lowered.{inputs_code}
-use Rattle.tb_lower.specs.Shown.{instr_of}
+use Rattle.tb_lower.specs.PlainData.{instr_of}
 use Rattle.tb_lower.proofs.lowering.put_inputs.Given as goal
 
 abbrev pub invariant-loop-x : goal.invariant-loop-x

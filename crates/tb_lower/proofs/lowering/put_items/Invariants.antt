@@ -1,8 +1,8 @@
 use Rattle.std.proofs.Common.{◌≡◌, ◌++◌, ◌≤◌, map, drop}
-use Rattle.tb_syntax.specs.Shown.{item_of}
+use Rattle.tb_syntax.specs.PlainData.{item_of}
 use Rattle.tb_lower.specs.Lowered.{items_code}
 use Rattle.tb_lower.specs.Need.{items_need}
-use Rattle.tb_lower.specs.Shown.{instr_of}
+use Rattle.tb_lower.specs.PlainData.{instr_of}
 use Rattle.tb_lower.proofs.lowering.put_items.Given as goal
 
 abbrev pub invariant-loop-item : goal.invariant-loop-item

@@ -1,6 +1,6 @@
 use Rattle.std.proofs.Common.{◌≡◌, ◌++◌, map}
 use Rattle.tb_words.specs.Words.{word_of}
-use Rattle.tb_syntax.specs.Shown.{lines_of}
+use Rattle.tb_syntax.specs.PlainData.{lines_of}
 use Rattle.tb_syntax.specs.Source.{numbers}
 use Rattle.tb_lower.specs.Missing.{missing_in, missing_targets}
 use Rattle.tb_lower.proofs.missing.warnings.Given as goal

@@ -1,5 +1,5 @@
 use Rattle.std.proofs.Common.{◌≡◌, map, max, min, drop}
-use Rattle.tb_syntax.specs.Shown.{item_of}
+use Rattle.tb_syntax.specs.PlainData.{item_of}
 use Rattle.tb_lower.specs.Need.{items_need}
 use Rattle.tb_lower.proofs.needs.items_need.Given as goal
 

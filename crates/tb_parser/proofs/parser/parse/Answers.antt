@@ -1,6 +1,6 @@
 use Rattle.std.proofs.Common.{◌≡◌, ℕ, List, [], Ok, Err, refl, arith, subst}
 use Rattle.tb_syntax.specs.declared.statements.Statement.{Statement}
-use Rattle.tb_syntax.specs.Shown.{lines_of}
+use Rattle.tb_syntax.specs.PlainData.{lines_of}
 use Rattle.tb_parser.specs.Answers.{edit_of}
 use Rattle.tb_parser.specs.Files.{Outcome, LinesAre, at_end}
 use Rattle.tb_parser.specs.Lines.{lines_of_file}

@@ -1,5 +1,5 @@
 use Rattle.std.proofs.Common.{[], ◌+◌, ◌≤◌, length}
-use Rattle.tb_syntax.specs.Shown.{lines_of}
+use Rattle.tb_syntax.specs.PlainData.{lines_of}
 use Rattle.tb_parser.specs.Files.{LinesAre, Outcome}
 use Rattle.tb_parser.specs.Lines.{lines_of_file}
 use Rattle.tb_parser.proofs.parser.parse.Given as goal

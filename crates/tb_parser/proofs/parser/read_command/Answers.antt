@@ -1,5 +1,5 @@
 use Rattle.std.proofs.Common.{◌≡◌, ◌∙◌}
-use Rattle.tb_syntax.specs.Shown.{command_of}
+use Rattle.tb_syntax.specs.PlainData.{command_of}
 use Rattle.tb_grammar.specs.Statements.{States}
 use Rattle.tb_parser.specs.Squeezed.{bytes}
 use Rattle.tb_parser.proofs.Told.{says_in_range, says_unread}

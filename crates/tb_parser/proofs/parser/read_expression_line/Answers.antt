@@ -2,7 +2,7 @@ use Rattle.std.proofs.Common.{◌≡◌, ◌∙◌, ℕ, List, Result, Ok, Err, 
 use Rattle.std.proofs.lemmas.Result.{err_from_is_err_and}
 use Rattle.tb_syntax.specs.declared.expressions.Expr.{Expr}
 use Rattle.tb_syntax.specs.Source.{Expression}
-use Rattle.tb_syntax.specs.Shown.{expression_of}
+use Rattle.tb_syntax.specs.PlainData.{expression_of}
 use Rattle.tb_parser.specs.declared.errors.Fault.{Fault}
 use Rattle.tb_parser.specs.Answers.{Says, refusal_of}
 use Rattle.tb_parser.specs.Readings.{Expresses, ExpressionIs, IsFit, IsUnfit, TextIs, unfit_text, fit_text}

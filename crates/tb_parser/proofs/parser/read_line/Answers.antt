@@ -2,7 +2,7 @@ use Rattle.std.proofs.Common.{◌≡◌, ◌≢◌, ◌∙◌, arith, ℕ, List,
 use Rattle.std.proofs.lemmas.Result.{err_from_is_err_and}
 use Rattle.std.proofs.lemmas.Bool.{eqb-true}
 use Rattle.tb_syntax.specs.Source.{Command}
-use Rattle.tb_syntax.specs.Shown.{command_of}
+use Rattle.tb_syntax.specs.PlainData.{command_of}
 use Rattle.tb_grammar.specs.Statements.{States}
 use Rattle.tb_parser.specs.declared.errors.Fault.{Fault}
 use Rattle.tb_parser.specs.declared.squeeze.Placed.{Placed}

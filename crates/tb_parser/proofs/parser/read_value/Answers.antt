@@ -1,5 +1,5 @@
 use Rattle.std.proofs.Common.{◌≡◌, ◌∙◌}
-use Rattle.tb_syntax.specs.Shown.{expression_of}
+use Rattle.tb_syntax.specs.PlainData.{expression_of}
 use Rattle.tb_parser.specs.Readings.{Expresses}
 use Rattle.tb_parser.specs.Squeezed.{bytes}
 use Rattle.tb_parser.proofs.Told.{says_in_range, says_unread}

@@ -1,5 +1,5 @@
 use Rattle.std.proofs.Common.{refl}
-use Rattle.tb_selection.specs.Shown.{group_of}
+use Rattle.tb_selection.specs.PlainData.{group_of}
 use Rattle.tb_selection.proofs.Stacked.{three_joined}
 use Rattle.tb_selection.proofs.selecting.joined.Goals as goal
 

@@ -1,9 +1,9 @@
 use Rattle.std.proofs.Common.{rules, ◌≡◌, [], sym, ap, ◌∙◌, subst, map}
-use Rattle.tb_lower.specs.Shown.{instr_of}
+use Rattle.tb_lower.specs.PlainData.{instr_of}
 use Rattle.tb_selection.specs.Groups.{expand_all}
 use Rattle.tb_selection.specs.Laws.{AreLive}
 use Rattle.tb_selection.specs.Liveness.{live}
-use Rattle.tb_selection.specs.Shown.{groups_in, in_order}
+use Rattle.tb_selection.specs.PlainData.{groups_in, in_order}
 use Rattle.tb_selection.proofs.Bracketed.{brackets}
 use Rattle.tb_selection.proofs.Stacked.{onto, onto_none, attached_live, map_last, stepped}
 use Rattle.tb_selection.proofs.selecting.select.Goals as goal

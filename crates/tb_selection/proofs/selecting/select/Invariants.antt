@@ -1,10 +1,10 @@
 use Rattle.std.proofs.Common.{◌≡◌, ◌++◌, map, length}
-use Rattle.tb_lower.specs.Shown.{instr_of}
+use Rattle.tb_lower.specs.PlainData.{instr_of}
 use Rattle.tb_selection.specs.Groups.{expand_all}
 use Rattle.tb_selection.specs.Laws.{AreLive}
 use Rattle.tb_selection.specs.Liveness.{live}
 use Rattle.tb_selection.specs.Select.{select}
-use Rattle.tb_selection.specs.Shown.{group_of, groups_in, in_order}
+use Rattle.tb_selection.specs.PlainData.{group_of, groups_in, in_order}
 use Rattle.tb_selection.proofs.Stacked.{onto}
 use Rattle.tb_selection.proofs.selecting.select.Given as goal
 

@@ -1,6 +1,6 @@
 use Rattle.std.proofs.Common.{◌≡◌, ◌++◌, drop}
 use Rattle.tb_syntax.specs.Source.{numbers}
-use Rattle.tb_lower.specs.Shown.{code_of}
+use Rattle.tb_lower.specs.PlainData.{code_of}
 use Rattle.tb_templates.proofs.program.line_numbers.Given as goal
 
 abbrev pub invariant-loop-line : goal.invariant-loop-line

@@ -1,7 +1,7 @@
 use Rattle.std.proofs.Common.{[], ◌++◌, map, sym, ap, ◌∙◌, subst}
 use Rattle.tb_asm.specs.Layout.{entry_of}
 use Rattle.tb_syntax.specs.Source.{numbers}
-use Rattle.tb_lower.specs.Shown.{code_of}
+use Rattle.tb_lower.specs.PlainData.{code_of}
 use Rattle.tb_templates.specs.Breaks.{all_broken}
 use Rattle.tb_templates.specs.Program.{AreInTurn, lines_code, past_code, find_code, table_code, program_code, still_asking}
 use Rattle.tb_templates.proofs.Appends.{three, four}

@@ -1,10 +1,10 @@
 use Rattle.std.proofs.Common.{◌≡◌, ◌++◌, map, length, refl, ap, ◌∙◌, arith}
 use Rattle.std.proofs.lemmas.List.{length-map}
 use Rattle.tb_asm.specs.Layout.{entry_of}
-use Rattle.tb_lower.specs.Shown.{instr_of}
+use Rattle.tb_lower.specs.PlainData.{instr_of}
 use Rattle.tb_selection.specs.Groups.{expand_all}
 use Rattle.tb_selection.specs.Select.{select}
-use Rattle.tb_selection.specs.Shown.{group_of}
+use Rattle.tb_selection.specs.PlainData.{group_of}
 use Rattle.tb_templates.specs.Program.{rest_code}
 use Rattle.tb_templates.proofs.Ranged.{groups_in_range, selected_few}
 use Rattle.tb_templates.proofs.program.put_groups.Goals as goal

@@ -1,8 +1,8 @@
 use Rattle.std.proofs.Common.{◌≡◌, ◌+◌, ◌<◌, ◌++◌, map, drop, length}
 use Rattle.tb_asm.specs.Layout.{entry_of}
-use Rattle.tb_lower.specs.Shown.{instr_of}
+use Rattle.tb_lower.specs.PlainData.{instr_of}
 use Rattle.tb_selection.specs.Select.{select}
-use Rattle.tb_selection.specs.Shown.{group_of}
+use Rattle.tb_selection.specs.PlainData.{group_of}
 use Rattle.tb_templates.specs.Program.{rest_code}
 use Rattle.tb_templates.proofs.Ranged.{AreGroupsInRange}
 use Rattle.tb_templates.proofs.program.put_groups.Given as goal

@@ -1,6 +1,6 @@
 use Rattle.std.proofs.Common.{◌≡◌, ◌++◌, map, length}
 use Rattle.tb_asm.specs.Layout.{entry_of}
-use Rattle.tb_lower.specs.Shown.{code_of}
+use Rattle.tb_lower.specs.PlainData.{code_of}
 use Rattle.tb_templates.specs.Program.{AreCodable, AreInTurn, lines_code, still_asking}
 use Rattle.tb_templates.proofs.program.put_lines.Given as goal
 

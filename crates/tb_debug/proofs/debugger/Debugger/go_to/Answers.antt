@@ -26,7 +26,7 @@ returns-in_default c =
     let next = c.in_ok-reached.ensures in
     let keeps = then_keeps d e f known.run next.run in
     let used = limited_on c.args.limit c.saturating_add-last.result c.left.result reached d.present e.present f.present next.limited c.left.ensures known.few
-        (last_is d.present.events c.args.limit _ c.saturating_add-last.ensures) in
+    (last_is d.present.events c.args.limit _ c.saturating_add-last.ensures) in
     record {
       run = keeps;
       there = not_there c.args.to reached f c.in_default.not-Line;

@@ -1,6 +1,6 @@
 use Rattle.std.proofs.Common.{Bool, ap, ◌∙◌}
 use Rattle.std.proofs.lemmas.Result.{err_from_is_err_and}
-use Rattle.tb_syntax.specs.Shown.{command_of, lines_of}
+use Rattle.tb_syntax.specs.PlainData.{command_of, lines_of}
 use Rattle.tb_syntax.specs.Source.{numbers}
 use Rattle.tb_lower.specs.Steps.{joined}
 use Rattle.tb_lower.specs.Control.{fall}

@@ -1,7 +1,7 @@
 use Rattle.std.proofs.Common.{ℕ, sym, ap₂, ◌∙◌}
 use Rattle.std.proofs.lemmas.Result.{err_from_is_err_and}
 use Rattle.tb_words.specs.Letters.{place}
-use Rattle.tb_syntax.specs.Shown.{lines_of}
+use Rattle.tb_syntax.specs.PlainData.{lines_of}
 use Rattle.tb_syntax.specs.Source.{numbers}
 use Rattle.tb_lower.specs.Steps.{joined}
 use Rattle.tb_lower.specs.declared.output.Output.{Output}

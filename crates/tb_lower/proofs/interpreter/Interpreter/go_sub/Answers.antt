@@ -1,5 +1,5 @@
 use Rattle.std.proofs.lemmas.Result.{err_from_is_err_and}
-use Rattle.tb_syntax.specs.Shown.{lines_of}
+use Rattle.tb_syntax.specs.PlainData.{lines_of}
 use Rattle.tb_syntax.specs.Source.{numbers}
 use Rattle.tb_lower.specs.Control.{go_sub}
 use Rattle.tb_lower.proofs.interpreter.Interpreter.go_sub.Goals as goal

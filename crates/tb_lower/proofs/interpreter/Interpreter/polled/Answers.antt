@@ -1,4 +1,4 @@
-use Rattle.tb_syntax.specs.Shown.{command_of, lines_of}
+use Rattle.tb_syntax.specs.PlainData.{command_of, lines_of}
 use Rattle.tb_syntax.specs.Source.{numbers}
 use Rattle.tb_lower.specs.Control.{poll}
 use Rattle.tb_lower.specs.Interpreted.{state_of}

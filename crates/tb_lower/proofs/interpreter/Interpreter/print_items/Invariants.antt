@@ -1,5 +1,5 @@
 use Rattle.std.proofs.Common.{◌≡◌, drop, map}
-use Rattle.tb_syntax.specs.Shown.{item_of}
+use Rattle.tb_syntax.specs.PlainData.{item_of}
 use Rattle.tb_lower.specs.Steps.{joined}
 use Rattle.tb_lower.specs.Meaning.{print_items}
 use Rattle.tb_lower.specs.Interpreted.{state_of}

@@ -1,6 +1,6 @@
 use Rattle.std.proofs.lemmas.Result.{err_from_is_err_and}
 use Rattle.tb_words.specs.Words.{holds}
-use Rattle.tb_syntax.specs.Shown.{expression_of}
+use Rattle.tb_syntax.specs.PlainData.{expression_of}
 use Rattle.tb_lower.specs.Meaning.{valued}
 use Rattle.tb_lower.proofs.interpreter.Interpreter.relate.Goals as goal
 

@@ -1,6 +1,6 @@
 use Rattle.std.proofs.Common.{◌≡◌, ◌-◌, refl, sym, ap, ◌∙◌, arith}
 use Rattle.std.proofs.lemmas.Result.{IfOk-weaker}
-use Rattle.tb_syntax.specs.Shown.{lines_of}
+use Rattle.tb_syntax.specs.PlainData.{lines_of}
 use Rattle.tb_lower.specs.Steps.{GoesOn, advance_by}
 use Rattle.tb_lower.specs.Meaning.{line}
 use Rattle.tb_lower.specs.Interpreted.{state_of}

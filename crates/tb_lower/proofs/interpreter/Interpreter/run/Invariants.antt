@@ -1,5 +1,5 @@
 use Rattle.std.proofs.Common.{◌≡◌, ◌-◌}
-use Rattle.tb_syntax.specs.Shown.{lines_of}
+use Rattle.tb_syntax.specs.PlainData.{lines_of}
 use Rattle.tb_lower.specs.Steps.{GoesOn, advance_by}
 use Rattle.tb_lower.specs.Meaning.{line}
 use Rattle.tb_lower.specs.Interpreted.{state_of}

@@ -1,5 +1,5 @@
 use Rattle.std.proofs.Common.{◌≡◌, drop}
-use Rattle.tb_syntax.specs.Shown.{letters_of}
+use Rattle.tb_syntax.specs.PlainData.{letters_of}
 use Rattle.tb_lower.specs.Steps.{joined}
 use Rattle.tb_lower.specs.Meaning.{inputs}
 use Rattle.tb_lower.specs.Interpreted.{state_of}

@@ -1,7 +1,7 @@
 use Rattle.std.proofs.Common.{◌≡◌, map, ap, ◌∙◌, subst}
 use Rattle.tb_memmap.specs.Bytes.{at}
 use Rattle.tb_words.specs.Words.{word_of}
-use Rattle.tb_syntax.specs.Shown.{expression_of}
+use Rattle.tb_syntax.specs.PlainData.{expression_of}
 use Rattle.tb_kernal.specs.Machine.{Content}
 use Rattle.tb_lower.specs.Evaluation.{IsEvaluation}
 use Rattle.tb_stepper.specs.Readings.{variables_in}

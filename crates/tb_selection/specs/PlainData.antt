@@ -2,7 +2,7 @@
 use Rattle.std.specs.Prelude.{ℕ, List, map, reverse, Option}
 use Rattle.tb_words.specs.Letters.{place}
 use Rattle.tb_words.specs.declared.Letter.{Letter}
-use Rattle.tb_lower.specs.Shown.{instr_of}
+use Rattle.tb_lower.specs.PlainData.{instr_of}
 use Rattle.tb_selection.specs.declared.groups.Operand as operand
 use Rattle.tb_selection.specs.declared.groups.Operand.TheVariants as operands
 use Rattle.tb_selection.specs.declared.groups.Home as home
