@@ -8,7 +8,7 @@ use Rattle.tb_grammar.specs.declared.stop.Stop.{Stop}
 use Rattle.tb_grammar.specs.declared.stop.Stop.TheVariants as stop
 use Rattle.tb_grammar.specs.Grammar.{Whole, Reads, ExpressionsAreUnique}
 use Rattle.tb_grammar.specs.Reading.{Found, at_end, ended, front_of, expression_in}
-use Rattle.tb_grammar.specs.Shown.{whole_seen, Gives, Answers}
+use Rattle.tb_grammar.specs.ReadValues.{whole_seen, Gives, Answers}
 use Rattle.tb_grammar.proofs.Steps.{some_is, bind_some}
 use Rattle.tb_grammar.proofs.Sound.{front_is}
 use Rattle.tb_grammar.proofs.Complete.{nothing_follows, front_read}

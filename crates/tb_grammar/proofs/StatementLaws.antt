@@ -6,7 +6,7 @@ use Rattle.tb_syntax.specs.PlainData.{command_of}
 use Rattle.tb_grammar.specs.declared.statements.ReadStatement.{ReadStatement}
 use Rattle.tb_grammar.specs.declared.stop.Stop.{Stop}
 use Rattle.tb_grammar.specs.declared.stop.Stop.TheVariants as stop
-use Rattle.tb_grammar.specs.Shown.{told, Gives, Answers}
+use Rattle.tb_grammar.specs.ReadValues.{told, Gives, Answers}
 use Rattle.tb_grammar.specs.Statements.{States, StatementsAreUnique}
 use Rattle.tb_grammar.specs.StatementReading.{Told, statement_in}
 use Rattle.tb_grammar.proofs.Steps.{some_is}

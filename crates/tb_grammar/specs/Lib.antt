@@ -1,5 +1,5 @@
 pub mod Grammar
 pub mod Reading
-pub mod Shown
+pub mod ReadValues
 pub mod StatementReading
 pub mod Statements

@@ -5,7 +5,7 @@ ghost use Rattle.tb_syntax.specs.PlainData.{expression_of};
 ghost use Rattle.tb_syntax.specs.Source.{Expression};
 ghost use Rattle.tb_grammar.specs.Grammar.{Whole, Term, Reads};
 ghost use Rattle.tb_grammar.specs.Reading.{starts_digit, behind, behind_word, literal_at, letter_at, variable_at, factor_at, term_at, whole_at, operator_at, group_by, signed_by, whole_by, front_of, expression_in, joined as join};
-ghost use Rattle.tb_grammar.specs.Shown.{seen, whole_seen, Gives, Answers};
+ghost use Rattle.tb_grammar.specs.ReadValues.{seen, whole_seen, Gives, Answers};
 
 use crate::stop::{Stop, left_at};
 use std::alloc::{AllocError, Global};

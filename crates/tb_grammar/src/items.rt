@@ -1,7 +1,7 @@
 //! The lists of PRINT and INPUT.
 ghost use Rattle.std.specs.Prelude.{◌≡◌, ℕ, List, Option, Some, None, true};
 ghost use Rattle.tb_grammar.specs.StatementReading.{text_item_at, item_at, print_at, input_at};
-ghost use Rattle.tb_grammar.specs.Shown.{item_seen, told, Gives};
+ghost use Rattle.tb_grammar.specs.ReadValues.{item_seen, told, Gives};
 
 use crate::expressions::{behind, leading, split_letter};
 use crate::statements::ReadStatement;

@@ -3,7 +3,7 @@ ghost use Rattle.std.specs.Prelude.{◌≡◌, ℕ, [], length, Option, Some, No
 ghost use Rattle.tb_words.specs.Letters.{place};
 ghost use Rattle.tb_syntax.specs.Source.{Command, Let, Goto, Gosub};
 ghost use Rattle.tb_syntax.specs.PlainData.{command_of};
-ghost use Rattle.tb_grammar.specs.Shown.{told, Gives, Answers};
+ghost use Rattle.tb_grammar.specs.ReadValues.{told, Gives, Answers};
 ghost use Rattle.tb_grammar.specs.StatementReading.{target_at, relation_at, made, alone, behind_then, conditional_by, keyword_at, assigned_at, behind_keyword, statement_at, statement_in, spelled};
 ghost use Rattle.tb_grammar.specs.Statements.{States};
 

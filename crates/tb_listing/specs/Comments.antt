@@ -6,7 +6,7 @@ use Rattle.tb_disasm.specs.Listing.{lines_of}
 use Rattle.tb_disasm.specs.ListingText.{text_of}
 use Rattle.tb_runtime16.specs.Places.{PROLOGUE_AT}
 use Rattle.tb_written.specs.Lines.{last_of, numbered}
-use Rattle.tb_written.specs.Shown.{shown}
+use Rattle.tb_written.specs.ShownBytes.{shown}
 
 -- a line that is a comment and nothing else
 abbrev pub is_comment : List ℕ → Bool

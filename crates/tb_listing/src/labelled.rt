@@ -3,7 +3,7 @@ ghost use Rattle.std.specs.Prelude.{◌≡◌, ◌≤◌, ◌∷◌, ◌++◌, [
 ghost use Rattle.tb_codegen.specs.Compiled.{pair_of as start_pair};
 ghost use Rattle.tb_listing.specs.Comments.{KeepsComments, comment_on, comment_row, comments};
 ghost use Rattle.tb_written.specs.Lines.{pair_of};
-ghost use Rattle.tb_written.specs.Shown.{shown};
+ghost use Rattle.tb_written.specs.ShownBytes.{shown};
 
 use crate::marks::Marks;
 use crate::names::{has_label, name_of, push_outside};

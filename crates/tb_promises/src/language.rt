@@ -4,7 +4,7 @@ ghost use Rattle.tb_syntax.specs.Source.{Command, Expression};
 ghost use Rattle.tb_syntax.specs.PlainData.{command_of, expression_of, lines_of};
 ghost use Rattle.tb_grammar.specs.Grammar.{Whole, Reads};
 ghost use Rattle.tb_grammar.specs.Statements.{States};
-ghost use Rattle.tb_grammar.specs.Shown as shown;
+ghost use Rattle.tb_grammar.specs.ReadValues as shown;
 ghost use Rattle.tb_parser.specs.Answers.{Answers, InLineOne};
 ghost use Rattle.tb_parser.specs.Files.{FileRefusal, LinesAre, Outcome};
 ghost use Rattle.tb_parser.specs.Lines.{lines_of_file};

@@ -1,6 +1,6 @@
 //! Bytes as they are shown.
 ghost use Rattle.std.specs.Prelude.{◌≡◌, ◌++◌, OnOk, map, replicate, take};
-ghost use Rattle.tb_written.specs.Shown.{shown};
+ghost use Rattle.tb_written.specs.ShownBytes.{shown};
 
 use std::alloc::AllocError;
 

@@ -1,6 +1,6 @@
 use Rattle.tb_grammar.specs.Grammar.{Whole, Term, Factor}
 use Rattle.tb_grammar.specs.Reading.{factor_at, term_at}
-use Rattle.tb_grammar.specs.Shown.{seen}
+use Rattle.tb_grammar.specs.ReadValues.{seen}
 use Rattle.tb_grammar.proofs.Loop.{shrinks, goes_on, at_factor, at_term}
 use Rattle.tb_grammar.proofs.expressions.+expression.Goals as goal
 

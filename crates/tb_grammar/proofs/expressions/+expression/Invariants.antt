@@ -1,7 +1,7 @@
 use Rattle.std.proofs.Common.{◌≡◌, ℕ, ◌+◌, ◌*◌, ◌≤◌, length}
 use Rattle.tb_grammar.specs.Grammar.{Whole, Term}
 use Rattle.tb_grammar.specs.Reading.{more, factor_at, term_at, whole_by}
-use Rattle.tb_grammar.specs.Shown.{seen}
+use Rattle.tb_grammar.specs.ReadValues.{seen}
 use Rattle.tb_grammar.proofs.expressions.+expression.Given as goal
 
 abbrev pub decreases-whole : goal.decreases-whole

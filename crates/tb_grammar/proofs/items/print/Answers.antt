@@ -2,7 +2,7 @@ use Rattle.std.proofs.Common.{[], ◌∷◌, ◌++◌, refl, ap, sym, ◌∙◌,
 use Rattle.std.proofs.lemmas.List.{append-nil}
 use Rattle.tb_syntax.specs.PlainData.{item_of}
 use Rattle.tb_syntax.specs.Source.{Zone}
-use Rattle.tb_grammar.specs.Shown.{item_seen}
+use Rattle.tb_grammar.specs.ReadValues.{item_seen}
 use Rattle.tb_grammar.proofs.ListLoops.{is_longer, printed_shrinks, printed_next, item_pushed}
 use Rattle.tb_grammar.proofs.items.print.Goals as goal
 

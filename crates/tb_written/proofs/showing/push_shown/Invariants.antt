@@ -1,5 +1,5 @@
 use Rattle.std.proofs.Common.{◌≡◌, ◌++◌, map, take}
-use Rattle.tb_written.specs.Shown.{shown}
+use Rattle.tb_written.specs.ShownBytes.{shown}
 use Rattle.tb_written.proofs.showing.push_shown.Given as goal
 
 abbrev pub invariant-loop-byte : goal.invariant-loop-byte
