@@ -1,4 +1,4 @@
 pub mod Labels
 pub mod Map
 pub mod Comments
-pub mod Made
+pub mod Builds

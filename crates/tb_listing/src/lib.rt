@@ -1,17 +1,17 @@
 //! What a programmer reads of a compiled program: its labels for a debugger, its listing, and its map.
 #![tactic(auto)]
 
+mod build;
 mod label_file;
 mod labelled;
 mod listing;
-mod made;
 mod map;
 mod marks;
 mod names;
 mod pieces;
 
+pub use build::{Made, make};
 pub use label_file::labels;
 pub use listing::list;
-pub use made::{Made, make};
 pub use map::chart;
 pub use tb_codegen::CompileError;

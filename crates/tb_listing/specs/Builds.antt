@@ -9,7 +9,7 @@ use Rattle.tb_codegen.specs.declared.compiled.Compiled.{Compiled}
 use Rattle.tb_codegen.specs.Answers.{HasOutcome, Makes, OutcomeAnswer}
 use Rattle.tb_codegen.specs.Compiled.{prg_of, starts_of, table_of, warnings_of}
 use Rattle.tb_disasm.specs.Back.{GivesBack}
-use Rattle.tb_listing.specs.declared.made.Made.{Made}
+use Rattle.tb_listing.specs.declared.build.Made.{Made}
 use Rattle.tb_listing.specs.Labels.{places, labels_text, Rise}
 use Rattle.tb_listing.specs.Map.{parts, map_text}
 use Rattle.tb_listing.specs.Comments.{ShowsLines}

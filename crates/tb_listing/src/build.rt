@@ -4,7 +4,7 @@ ghost use Rattle.tb_syntax.specs.PlainData.{lines_of};
 ghost use Rattle.tb_lower.specs.Cost.{cost};
 ghost use Rattle.tb_runtime16.specs.Places.{PROLOGUE_AT};
 ghost use Rattle.tb_codegen.specs.Compiled.{prg_of};
-ghost use Rattle.tb_listing.specs.Made.{IsMade, IsRefused, Tells};
+ghost use Rattle.tb_listing.specs.Builds.{IsMade, IsRefused, Tells};
 
 use crate::label_file::labels;
 use crate::listing::list;

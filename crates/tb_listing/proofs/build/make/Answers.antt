@@ -1,11 +1,11 @@
 use Rattle.std.proofs.Common.{Ok}
 use Rattle.tb_syntax.specs.PlainData.{lines_of}
 use Rattle.tb_codegen.specs.Compiled.{IsCompiled, starts_of, table_of}
-use Rattle.tb_listing.specs.Made.{image_size}
+use Rattle.tb_listing.specs.Builds.{image_size}
 use Rattle.tb_listing.proofs.Laid.{are_laid}
 use Rattle.tb_listing.proofs.Sorted.{places_rise}
 use Rattle.tb_listing.proofs.Sums.{bytes_add_up, prices_add_up}
-use Rattle.tb_listing.proofs.made.make.Goals as goal
+use Rattle.tb_listing.proofs.build.make.Goals as goal
 
 pub all_of-requires-clause-ends : goal.all_of-requires-clause-ends
 all_of-requires-clause-ends c = (are_laid c.args.seed c.in-Ok.program c.in_ok-compiled.compiled c.in-Ok.ensures.stated c.in-Ok.ensures.rising (c.in_ok-compiled.ensures.only (Ok (lines_of c.in-Ok.program)) c.in-Ok.ensures.found)).ends

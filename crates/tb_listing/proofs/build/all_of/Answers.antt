@@ -1,6 +1,6 @@
 use Rattle.std.proofs.Common.{◌∙◌}
 use Rattle.tb_listing.specs.Labels.{places, labels_text}
-use Rattle.tb_listing.proofs.made.all_of.Goals as goal
+use Rattle.tb_listing.proofs.build.all_of.Goals as goal
 
 pub returns : goal.returns
 returns c = record {
