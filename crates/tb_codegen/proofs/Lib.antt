@@ -1,6 +1,6 @@
 pub mod Reading
 pub mod Sized
-pub mod Small
+pub mod SmallPrograms
 pub mod Placed
 pub mod Texts
 pub mod Kept

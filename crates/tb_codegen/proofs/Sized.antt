@@ -30,7 +30,7 @@ use Rattle.tb_codegen.specs.Texts.{LinesHoldTexts, offset_of}
 use Rattle.tb_templates.proofs.Settled.{Sections, last_broken, sections}
 use Rattle.tb_codegen.proofs.Placed.{lines_known, lines_begin_in_order, start_numbers}
 use Rattle.tb_codegen.proofs.Texts.{lines_texts}
-use Rattle.tb_codegen.proofs.Small.{AreSmall, are_small, small_spaced, small_short}
+use Rattle.tb_codegen.proofs.SmallPrograms.{AreSmall, are_small, small_spaced, small_short}
 
 -- ── counts ──
 one_room : (i : Instr) → 1 ≤ room i

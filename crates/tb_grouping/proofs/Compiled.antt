@@ -19,7 +19,7 @@ use Rattle.tb_keeping.specs.Layout.{layout_of}
 use Rattle.tb_grouping.specs.Laid.{ArePolled, Laid}
 use Rattle.tb_keeping.proofs.Headline.{begins_so}
 use Rattle.tb_keeping.specs.LineStarts.{MarksLines}
-use Rattle.tb_keeping.proofs.Told.{Agree, told_so}
+use Rattle.tb_keeping.proofs.SameStarts.{Agree, told_so}
 use Rattle.tb_grouping.proofs.GroupWhole as whole
 use Rattle.tb_grouping.proofs.Lines.{groups_laid}
 use Rattle.tb_grouping.proofs.Served.{routines, prologue}

@@ -14,5 +14,5 @@ pub mod Resolved
 pub mod Returning
 pub mod Starts
 pub mod Strides
-pub mod Told
+pub mod SameStarts
 pub mod Turns

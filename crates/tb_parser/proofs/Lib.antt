@@ -6,5 +6,5 @@ pub mod Rising
 pub mod Runs
 pub mod Steps
 pub mod Texts
-pub mod Told
+pub mod ReaderAnswers
 pub mod Unique

@@ -11,7 +11,7 @@ use Rattle.tb_parser.specs.Lines.{lines_from, lines_of_file}
 use Rattle.tb_parser.specs.Readings.{Edit, LineIs}
 use Rattle.tb_parser.specs.Refusals.{at_line}
 use Rattle.tb_parser.proofs.Outcomes.{answers_at}
-use Rattle.tb_parser.proofs.Told.{passes}
+use Rattle.tb_parser.proofs.ReaderAnswers.{passes}
 
 module _ (n : ℕ) (p : Program) (text : List ℕ) (Total : Outcome → Type 0) where
   abbrev pub Decides : Type 0

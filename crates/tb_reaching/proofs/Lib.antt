@@ -7,7 +7,7 @@ pub mod Act
 pub mod Comes
 pub mod Services
 pub mod Calls
-pub mod Special
+pub mod StackPointer
 pub mod Placed
 pub mod Parts
 pub mod Start

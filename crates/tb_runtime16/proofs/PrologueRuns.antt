@@ -9,7 +9,7 @@ use Rattle.tb_reaching.specs.View.{part_at}
 use Rattle.tb_reaching.proofs.Acting.{the, run_view}
 use Rattle.tb_reaching.specs.Start.{setup_of, view_of}
 use Rattle.tb_reaching.proofs.Comes.{after, ending}
-use Rattle.tb_reaching.proofs.Special.{taking_s}
+use Rattle.tb_reaching.proofs.StackPointer.{taking_s}
 use Rattle.tb_reaching.proofs.Start.{length_from, fits_start, homed_start, zero_at}
 use Rattle.tb_runtime16.specs.Places.{HOME_S, VARS, SEEDED, SEED, NOTES}
 use Rattle.tb_runtime16.specs.Ends.{Begun, PrologueLaw}

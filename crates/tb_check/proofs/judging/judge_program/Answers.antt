@@ -1,5 +1,5 @@
 use Rattle.tb_syntax.specs.PlainData.{lines_of}
-use Rattle.tb_codegen.proofs.Small.{are_small, cost_small}
+use Rattle.tb_codegen.proofs.SmallPrograms.{are_small, cost_small}
 use Rattle.tb_check.proofs.judging.judge_program.Goals as goal
 
 pub faults_of-requires : goal.faults_of-requires

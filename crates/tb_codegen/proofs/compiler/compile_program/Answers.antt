@@ -3,7 +3,7 @@ use Rattle.tb_syntax.specs.PlainData.{lines_of}
 use Rattle.tb_syntax.specs.Source.{numbers}
 use Rattle.tb_lower.specs.PlainData.{code_of}
 use Rattle.tb_codegen.specs.Compiled.{AreKnown, starts_in}
-use Rattle.tb_codegen.proofs.Small.{are_small, cost_small}
+use Rattle.tb_codegen.proofs.SmallPrograms.{are_small, cost_small}
 use Rattle.tb_codegen.proofs.Kept.{file_keeps}
 use Rattle.tb_codegen.proofs.Marked.{file_marks}
 use Rattle.tb_codegen.proofs.Sized.{has_table, known, made, settling}

@@ -12,7 +12,7 @@ use Rattle.tb_lower.specs.Ranges.{IsCodeInRange}
 use Rattle.tb_lower.specs.PlainData.{code_of}
 use Rattle.tb_lower.specs.Slots.{SlotCode}
 use Rattle.tb_parser.specs.Files.{AreStated, RisesFrom}
-use Rattle.tb_codegen.proofs.Small.{are_small, cost_small}
+use Rattle.tb_codegen.proofs.SmallPrograms.{are_small, cost_small}
 use Rattle.tb_codegen.proofs.Kept.{file_keeps}
 use Rattle.tb_codegen.proofs.Sized.{IsSettling, settling}
 use Rattle.tb_headline.proofs.image.keeping_file.Goals as goal

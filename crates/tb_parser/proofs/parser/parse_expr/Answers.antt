@@ -8,7 +8,7 @@ use Rattle.tb_parser.specs.Files.{FileRefusal, refused_at}
 use Rattle.tb_parser.specs.Readings.{Refusal, ExpressionIs}
 use Rattle.tb_parser.specs.Refusals.{at_line}
 use Rattle.tb_parser.proofs.Outcomes.{answers_at, only_one}
-use Rattle.tb_parser.proofs.Told.{passes}
+use Rattle.tb_parser.proofs.ReaderAnswers.{passes}
 use Rattle.tb_parser.proofs.Unique.{expression_one, err_same, ok_err, ok_same}
 use Rattle.tb_parser.proofs.parser.parse_expr.Goals as goal
 

@@ -7,7 +7,7 @@ use Rattle.tb_parser.specs.declared.errors.Fault.{Fault}
 use Rattle.tb_parser.specs.Answers.{Says, refusal_of}
 use Rattle.tb_parser.specs.Readings.{Expresses, ExpressionIs, IsFit, IsUnfit, TextIs, unfit_text, fit_text}
 use Rattle.tb_parser.specs.Squeezed.{squeezed}
-use Rattle.tb_parser.proofs.Told.{passes}
+use Rattle.tb_parser.proofs.ReaderAnswers.{passes}
 use Rattle.tb_parser.proofs.parser.read_expression_line.Goals as goal
 
 expression_unfit : (line : List ℕ) (fault : Fault) → IfSome (refusal_of fault.kind fault.column) (IsUnfit line) → Says expression_of (Err fault) (ExpressionIs line)

@@ -10,7 +10,7 @@ use Rattle.tb_parser.specs.Answers.{Says, edit_of, refusal_of}
 use Rattle.tb_parser.specs.Readings.{LineIs, IsFit, IsUnfit, IsLineNumber, IsNumbered, TextIs, blank, unfit, unnumbered, bad_line_number, deletes, sets, unread}
 use Rattle.tb_parser.specs.Scans.{first_written, number_at}
 use Rattle.tb_parser.specs.Squeezed.{squeezed}
-use Rattle.tb_parser.proofs.Told.{passes}
+use Rattle.tb_parser.proofs.ReaderAnswers.{passes}
 use Rattle.tb_parser.proofs.parser.read_line.Goals as goal
 
 line_unfit : (line : List ℕ) (first : ℕ) (fault : Fault) → first_written 1 line ≡ Some first → IfSome (refusal_of fault.kind fault.column) (IsUnfit line) → Says edit_of (Err fault) (LineIs line)

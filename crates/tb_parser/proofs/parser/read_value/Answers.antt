@@ -2,7 +2,7 @@ use Rattle.std.proofs.Common.{◌≡◌, ◌∙◌}
 use Rattle.tb_syntax.specs.PlainData.{expression_of}
 use Rattle.tb_parser.specs.Readings.{Expresses}
 use Rattle.tb_parser.specs.Squeezed.{bytes}
-use Rattle.tb_parser.proofs.Told.{says_in_range, says_unread}
+use Rattle.tb_parser.proofs.ReaderAnswers.{says_in_range, says_unread}
 use Rattle.tb_parser.proofs.parser.read_value.Goals as goal
 
 pub returns-in-Ok : goal.returns-in-Ok
