@@ -24,7 +24,7 @@ use Rattle.tb_selection.specs.Groups.{IntoHome, IntoVariable, Single}
 use Rattle.tb_selection.specs.Liveness.{live}
 use Rattle.tb_grouping.proofs.Frames.{live_same}
 use Rattle.tb_grouping.proofs.Landing.{Elsewhere, home_kept, state_landed}
-use Rattle.tb_grouping.proofs.Lone.{Kept, kept_lined, kept_scratch, lined, lines, numbered}
+use Rattle.tb_grouping.proofs.GroupInvariants.{Kept, kept_lined, kept_scratch, lined, lines, numbered}
 use Rattle.tb_grouping.proofs.Matching.{Matches}
 use Rattle.tb_grouping.proofs.Ready.{Ready, stood}
 use Rattle.tb_grouping.proofs.SlotSide.{line}

@@ -3,9 +3,9 @@ use Rattle.std.proofs.Common.{◌≡◌, ℕ, [], List, None, Some, ap, arith, s
 use Rattle.tb_syntax.specs.declared.expressions.Operator.TheVariants as op
 use Rattle.std.proofs.lemmas.Bool.{ne_eqb}
 use Rattle.std.specs.Prelude.{if◌then◌else◌}
-use Rattle.tb_grouping.proofs.Coded.{GroupsLie, routine}
+use Rattle.tb_grouping.proofs.GroupCode.{GroupsLie, routine}
 use Rattle.tb_grouping.proofs.Handed.{Given, Gives, Handed, gives}
-use Rattle.tb_grouping.proofs.Lone.{Kept, word_lands}
+use Rattle.tb_grouping.proofs.GroupInvariants.{Kept, word_lands}
 use Rattle.tb_grouping.proofs.Matching.{Matches, Target}
 use Rattle.tb_grouping.proofs.Operands.{CalcFits, SourceHolds, calc_fits, operand_apart, operand_held}
 use Rattle.tb_grouping.proofs.Ready.{Ready}

@@ -14,8 +14,8 @@ use Rattle.tb_runtime16.proofs.Words.{one_carry}
 use Rattle.tb_keeping.proofs.Resolved.{Lies, pieces_size, size}
 use Rattle.tb_selection.specs.Groups.{Operand, Destination, Calculate}
 use Rattle.tb_selection.specs.Select.{select}
-use Rattle.tb_grouping.proofs.Coded.{GroupsLie, calc_code, summed, taken}
-use Rattle.tb_grouping.proofs.Lone.{kept}
+use Rattle.tb_grouping.proofs.GroupCode.{GroupsLie, calc_code, summed, taken}
+use Rattle.tb_grouping.proofs.GroupInvariants.{kept}
 use Rattle.tb_grouping.proofs.SlotSide.{spread}
 use Rattle.tb_grouping.proofs.Operands.{operand_grounded, dest_in_data}
 use Rattle.tb_grouping.proofs.Sums.{sums, differs}

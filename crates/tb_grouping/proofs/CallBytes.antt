@@ -30,8 +30,8 @@ use Rattle.tb_keeping.proofs.Resolved as resolved
 use Rattle.tb_keeping.proofs.Resolved.{Code, highest_code}
 use Rattle.tb_grouping.proofs.ChangeBytes.{computed_emitted, remains_emitted, stepped_emitted}
 use Rattle.tb_grouping.proofs.Changes.{change_is}
-use Rattle.tb_grouping.proofs.Coded as coded
-use Rattle.tb_grouping.proofs.Coded.{Way, Short, Zero, way_size}
+use Rattle.tb_grouping.proofs.GroupCode as coded
+use Rattle.tb_grouping.proofs.GroupCode.{Way, Short, Zero, way_size}
 use Rattle.tb_grouping.proofs.Emits.{Emits, block, branches, ends, formed, labelled}
 use Rattle.tb_grouping.proofs.ItemBytes.{AllMake, Makes, Rest, behind_branch, behind_label, behind_straight, cut, cut_branch, gets_there, label_here, no_more, source_word, value_of}
 use Rattle.tb_grouping.proofs.GroupBytes.{GroupEmitted, group_emitted}

@@ -21,9 +21,9 @@ use Rattle.tb_keeping.proofs.Returning.{back_here, apart, behind_call, homed_kep
 use Rattle.tb_selection.specs.Groups.{Single}
 use Rattle.tb_selection.specs.Liveness.{live}
 use Rattle.tb_grouping.proofs.Branches.{branch_behind, branches}
-use Rattle.tb_grouping.proofs.Coded.{BranchReaches, CallReaches, GroupsLaid, Way, Zero, call_code, called_code, counted_at, going_code, low_code, noted_at, noting_code, popping_at, popping_code, pushing_at, pushing_code, raising_code, some_at, taking_code, way_size}
+use Rattle.tb_grouping.proofs.GroupCode.{BranchReaches, CallReaches, GroupsLaid, Way, Zero, call_code, called_code, counted_at, going_code, low_code, noted_at, noting_code, popping_at, popping_code, pushing_at, pushing_code, raising_code, some_at, taking_code, way_size}
 use Rattle.tb_grouping.proofs.Faults.{faults_at}
-use Rattle.tb_grouping.proofs.Lone.{Kept, arrived, kept_lined, kept_put, lined, numbered}
+use Rattle.tb_grouping.proofs.GroupInvariants.{Kept, arrived, kept_lined, kept_put, lined, numbered}
 use Rattle.tb_grouping.proofs.Matching.{Matches}
 use Rattle.tb_grouping.proofs.Noting.{Added, Indexed, added, asks, carried, counted, dropped, index_small, raises, some, some_small, stores_note, taken, takes_note, with_note}
 use Rattle.tb_grouping.proofs.Ready.{Ready, here}

@@ -29,8 +29,8 @@ use Rattle.tb_templates.specs.declared.in_place.Change.TheVariants.{Increment, D
 use Rattle.tb_templates.specs.GroupTemplates as items
 use Rattle.tb_keeping.proofs.Resolved.{copied, size}
 use Rattle.tb_grouping.proofs.Changes.{IsByte, IsChange, change_is, of_left, of_right, elsewhere}
-use Rattle.tb_grouping.proofs.Coded as coded
-use Rattle.tb_grouping.proofs.Coded.{Carry, Flag, Negative, Way, Short, Zero, way_size}
+use Rattle.tb_grouping.proofs.GroupCode as coded
+use Rattle.tb_grouping.proofs.GroupCode.{Carry, Flag, Negative, Way, Short, Zero, way_size}
 use Rattle.tb_grouping.proofs.Emits.{Emits, block, branch_by, branches, emits_append, emitted_size, formed, labelled}
 use Rattle.tb_grouping.proofs.ItemBytes.{AllMake, IsWord, Rest, all_made, asked_emits, behind_branch, behind_straight, calculated_emits, calculated_straight, copied_made, copied_straight, cut, cut_branch, gets_there, high_made, high_straight, label_here, rest_before, rest_behind, taken_bytes, value_of}
 

@@ -16,7 +16,7 @@ use Rattle.tb_templates.specs.declared.sources.Source.{Source}
 use Rattle.tb_templates.specs.declared.sources.Source.TheVariants.{FixedWord}
 use Rattle.tb_templates.specs.Scaled.{bits_size, is_factor}
 use Rattle.tb_templates.proofs.Factors.{IsScaling, by_right, by_left, by_routine, IsShifting, by_shifts, by_call}
-use Rattle.tb_grouping.proofs.Coded.{GroupsLie, product_code, quotient_code}
+use Rattle.tb_grouping.proofs.GroupCode.{GroupsLie, product_code, quotient_code}
 use Rattle.tb_grouping.proofs.Divisions.{divide_fails, divide_law}
 use Rattle.tb_grouping.proofs.Halves.{power_some}
 use Rattle.tb_grouping.proofs.Multiples.{times_law}
@@ -27,7 +27,7 @@ use Rattle.tb_grouping.proofs.Shifts.{shift_law}
 use Rattle.tb_grouping.proofs.SlotSide.{spread}
 use Rattle.tb_grouping.proofs.Surroundings.{Serves, Surroundings}
 use Rattle.tb_grouping.proofs.Calculated.{Leads, calculation, left_apart, left_holds, right_apart, right_holds}
-use Rattle.tb_grouping.proofs.Lone.{kept}
+use Rattle.tb_grouping.proofs.GroupInvariants.{kept}
 
 -- a constant is the word that it holds
 pub constant_is : (m : ℕ → ℕ) (v y : ℕ) (a : Source) → a ≡ FixedWord v → SourceHolds m a y → (v ≡ y) × (y < 65536)

@@ -23,10 +23,10 @@ use Rattle.tb_grouping.proofs.Calculations.{subtracted_word}
 use Rattle.tb_templates.specs.declared.sources.Source.{Source}
 use Rattle.tb_templates.specs.declared.sources.Source.TheVariants.{FixedWord}
 use Rattle.tb_templates.specs.Sources.{destination_at, source_of}
-use Rattle.tb_grouping.proofs.Coded.{GroupsLie, routine, taken}
+use Rattle.tb_grouping.proofs.GroupCode.{GroupsLie, routine, taken}
 use Rattle.tb_grouping.proofs.Frames.{live_same}
 use Rattle.tb_grouping.proofs.Handed.{asks, gives, result_gives}
-use Rattle.tb_grouping.proofs.Lone.{Kept, behind_line, kept as kept_first, kept_by, lies_by, lined_by, lines_by, numbered, rest_by, word_lands}
+use Rattle.tb_grouping.proofs.GroupInvariants.{Kept, behind_line, kept as kept_first, kept_by, lies_by, lined_by, lines_by, numbered, rest_by, word_lands}
 use Rattle.tb_grouping.proofs.Matching.{Target}
 use Rattle.tb_grouping.proofs.OneWord.{ConvertFits, convert_fits, convert_lasting, convert_reads, draw_fails, draw_goes, negate_goes, spread_convert, word_asked}
 use Rattle.tb_grouping.proofs.Operands.{SourceHolds, dest_in_data, operand_apart, operand_grounded, operand_held}

@@ -26,11 +26,11 @@ use Rattle.tb_selection.specs.Select.{may_stand, omits_only_dead, select, test_w
 use Rattle.tb_selection.proofs.Chosen.{nothing_read}
 use Rattle.tb_templates.specs.declared.sources.Source.{Source}
 use Rattle.tb_templates.specs.Sources.{source_of}
-use Rattle.tb_grouping.proofs.Coded.{DividedGoes, DividedReaches, DividesReach, GroupsLie, divided_code, divided_go, divides_code, leaves_on}
+use Rattle.tb_grouping.proofs.GroupCode.{DividedGoes, DividedReaches, DividesReach, GroupsLie, divided_code, divided_go, divides_code, leaves_on}
 use Rattle.tb_grouping.proofs.Faults.{faults_at}
 use Rattle.tb_grouping.proofs.Frames.{state_placed}
 use Rattle.tb_grouping.proofs.LeftOver.{Led, divided_fails, divided_leads}
-use Rattle.tb_grouping.proofs.Lone.{Kept, arrived, kept}
+use Rattle.tb_grouping.proofs.GroupInvariants.{Kept, arrived, kept}
 use Rattle.tb_grouping.proofs.Matching.{HoldsLive, Matches, Target}
 use Rattle.tb_grouping.proofs.MultipleSide.{held_stands, multiple_fails, multiple_next, multiplied, multiplied_length, product_stands}
 use Rattle.tb_grouping.proofs.Operands.{OperandFits, SourceHolds, operand_apart, operand_held, range_fetch}

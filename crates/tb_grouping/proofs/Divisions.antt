@@ -19,9 +19,9 @@ use Rattle.tb_selection.specs.Groups.{Operand, Constant, Variable, InSlot, Desti
 use Rattle.tb_selection.specs.Liveness.{live}
 use Rattle.tb_selection.specs.Select.{select}
 use Rattle.tb_templates.specs.Sources.{destination_at, source_of}
-use Rattle.tb_grouping.proofs.Coded.{GroupsLie, lined_code, routine}
+use Rattle.tb_grouping.proofs.GroupCode.{GroupsLie, lined_code, routine}
 use Rattle.tb_grouping.proofs.Handed.{asks, left_gives}
-use Rattle.tb_grouping.proofs.Lone.{Kept, behind_line, kept_by, kept_scratch, lies_by, lined_by, lines_by, numbered, rest_by, kept}
+use Rattle.tb_grouping.proofs.GroupInvariants.{Kept, behind_line, kept_by, kept_scratch, lies_by, lined_by, lines_by, numbered, rest_by, kept}
 use Rattle.tb_grouping.proofs.Matching.{Target}
 use Rattle.tb_grouping.proofs.Ready.{Ready, here}
 use Rattle.tb_grouping.proofs.SlotSide.{calculate_fails, fetched, spread}

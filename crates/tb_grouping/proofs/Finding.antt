@@ -21,11 +21,11 @@ use Rattle.tb_selection.specs.declared.liveness.Live.{Live}
 use Rattle.tb_selection.specs.Groups.{AsLine, AsSubroutine, Operand, Usage, Use, use_of}
 use Rattle.tb_selection.specs.Liveness.{live}
 use Rattle.tb_grouping.proofs.Frames.{state_placed}
-use Rattle.tb_grouping.proofs.Lone.{Kept, arrived, kept_lined, kept_put, kept_scratch, lined, lines, numbered}
+use Rattle.tb_grouping.proofs.GroupInvariants.{Kept, arrived, kept_lined, kept_put, kept_scratch, lined, lines, numbered}
 use Rattle.tb_grouping.proofs.Matching.{Matches}
 use Rattle.tb_templates.specs.declared.sources.Source.{Source}
 use Rattle.tb_templates.specs.Sources.{source_of}
-use Rattle.tb_grouping.proofs.Coded.{GroupsLaid, brought, high, low, searched}
+use Rattle.tb_grouping.proofs.GroupCode.{GroupsLaid, brought, high, low, searched}
 use Rattle.tb_grouping.proofs.OneWord.{spread_use, use_fits, use_reads, word_asked}
 use Rattle.tb_grouping.proofs.Operands.{OperandFits, operand_before, operand_held}
 use Rattle.tb_grouping.proofs.Ready.{Ready}

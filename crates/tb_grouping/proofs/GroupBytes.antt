@@ -40,8 +40,8 @@ use Rattle.tb_templates.proofs.Plain.{plain_straight}
 use Rattle.tb_keeping.specs.Layout.{Layout, layout_of, next_at}
 use Rattle.tb_keeping.proofs.Resolved as resolved
 use Rattle.tb_keeping.proofs.Resolved.{Piece, Code, highest_code}
-use Rattle.tb_grouping.proofs.Coded as coded
-use Rattle.tb_grouping.proofs.Coded.{Way, Short, Zero, BranchReaches, test_code, TestReaches, group_code, BranchesReach}
+use Rattle.tb_grouping.proofs.GroupCode as coded
+use Rattle.tb_grouping.proofs.GroupCode.{Way, Short, Zero, BranchReaches, test_code, TestReaches, group_code, BranchesReach}
 use Rattle.tb_grouping.proofs.Singles.{IsAlone}
 use Rattle.tb_grouping.proofs.Emits.{formed, branch_by, Emits, emits_append, emitted_size, ends, block, branches}
 use Rattle.tb_keeping.proofs.Numbers.{address_bytes, constant_bytes, faulted_bytes, next_same}

@@ -24,11 +24,11 @@ use Rattle.tb_templates.specs.Scaled.{scaling, shifts}
 use Rattle.tb_templates.specs.InPlace.{change_of}
 use Rattle.tb_templates.specs.Sources.{destination_at, source_of}
 use Rattle.tb_templates.proofs.Factors.{scaling_is, shifting_is}
-use Rattle.tb_grouping.proofs.Alone.{act_law}
+use Rattle.tb_grouping.proofs.SingleLaws.{act_law}
 use Rattle.tb_grouping.proofs.Changes.{change_is}
-use Rattle.tb_grouping.proofs.Coded.{GroupsLaid, GroupsLie, calc_code}
+use Rattle.tb_grouping.proofs.GroupCode.{GroupsLaid, GroupsLie, calc_code}
 use Rattle.tb_grouping.proofs.Falling.{IsSome, Between, falls_on}
-use Rattle.tb_grouping.proofs.Lone.{one_step}
+use Rattle.tb_grouping.proofs.GroupInvariants.{one_step}
 use Rattle.tb_grouping.proofs.Singles.{FirstIsAlone, first_so}
 use Rattle.tb_grouping.proofs.Matching.{Matches, Target}
 use Rattle.tb_grouping.proofs.SlotSide.{both_length, calculate_fails, calculate_goes, calculated, line, fetched, spread, spread_is, with_fetched}
@@ -38,7 +38,7 @@ use Rattle.tb_grouping.proofs.Calculations.{add_law, subtract_law}
 use Rattle.tb_grouping.proofs.InPlace.{computed_law}
 use Rattle.tb_grouping.proofs.Conversions.{ConvertLeads, draw_fails_law, draw_law, negate_law}
 use Rattle.tb_grouping.proofs.OneWord.{spread_convert, spread_convert_is, spread_use, spread_use_is}
-use Rattle.tb_grouping.proofs.Uses.{use_law}
+use Rattle.tb_grouping.proofs.UseLaws.{use_law}
 use Rattle.tb_grouping.proofs.Constants.{product_law, quotient_law}
 use Rattle.tb_grouping.proofs.Moves.{spread_move, spread_move_is, move_law}
 use Rattle.tb_grouping.proofs.DividesLaws.{divides_law, spread_divides, spread_divides_is}

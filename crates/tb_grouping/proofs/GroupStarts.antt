@@ -9,7 +9,7 @@ use Rattle.tb_keeping.specs.Layout.{Layout, inner, is_start}
 use Rattle.tb_keeping.proofs.LineStarts.{AreApart, has_content, not_inner}
 use Rattle.tb_keeping.proofs.Resolved.{Lies, highest_code}
 use Rattle.tb_grouping.proofs.Branches.{added, branch_size, gets_there}
-use Rattle.tb_grouping.proofs.Coded.{GroupsLaid, LineStands, Way, Short, Long, Zero, BranchReaches, branch_code, branch_on, broken_code, way_size}
+use Rattle.tb_grouping.proofs.GroupCode.{GroupsLaid, LineStands, Way, Short, Long, Zero, BranchReaches, branch_code, branch_on, broken_code, way_size}
 
 -- a line's number is read where its poll goes for the STOP key
 module _ (code : Part) where

@@ -20,7 +20,7 @@ use Rattle.tb_keeping.proofs.Opening.{some_slots, opened}
 use Rattle.tb_selection.specs.GroupSteps.{group_step}
 use Rattle.tb_selection.specs.Laws.{AreClosed}
 use Rattle.tb_grouping.proofs.Beginnings.{from_opened}
-use Rattle.tb_grouping.proofs.Coded.{GroupsLaid}
+use Rattle.tb_grouping.proofs.GroupCode.{GroupsLaid}
 use Rattle.tb_grouping.proofs.GroupLaws.{step_law}
 use Rattle.tb_grouping.proofs.Falling.{Between}
 use Rattle.tb_grouping.proofs.GroupStrides.{group_stride}

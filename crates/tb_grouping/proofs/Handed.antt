@@ -16,9 +16,9 @@ use Rattle.tb_selection.specs.Liveness.{live}
 use Rattle.tb_selection.specs.Select.{select}
 use Rattle.tb_templates.specs.declared.sources.Source.{Source}
 use Rattle.tb_templates.specs.Sources.{destination_at}
-use Rattle.tb_grouping.proofs.Coded.{GroupsLie, brought, high, low, routine}
+use Rattle.tb_grouping.proofs.GroupCode.{GroupsLie, brought, high, low, routine}
 use Rattle.tb_grouping.proofs.Landing.{DestFits}
-use Rattle.tb_grouping.proofs.Lone.{Kept, kept_put, word_lands}
+use Rattle.tb_grouping.proofs.GroupInvariants.{Kept, kept_put, word_lands}
 use Rattle.tb_grouping.proofs.Matching.{Matches}
 use Rattle.tb_grouping.proofs.Operands.{SourceHolds, dest_in_data}
 use Rattle.tb_grouping.proofs.Ready.{Ready}

@@ -29,9 +29,9 @@ use Rattle.tb_templates.specs.declared.in_place.Change.TheVariants.{Increment, D
 use Rattle.tb_grouping.proofs.Branches.{Led, asked_in, branch_behind, branch_size, branches, is_taken}
 use Rattle.tb_grouping.proofs.Changes.{IsByte, IsChange, changed, of_left, of_right, elsewhere}
 use Rattle.tb_grouping.proofs.Constants.{constant_is}
-use Rattle.tb_grouping.proofs.Coded.{Carry, Flag, Zero, GroupsLie, OverReaches, Way, ChangeReaches, ChangedReaches, calc_code, change_code, changed_or, low_lowered, low_raised, over_at, over_code, raised_by_sign, sign_asked, turned_right, way_size}
+use Rattle.tb_grouping.proofs.GroupCode.{Carry, Flag, Zero, GroupsLie, OverReaches, Way, ChangeReaches, ChangedReaches, calc_code, change_code, changed_or, low_lowered, low_raised, over_at, over_code, raised_by_sign, sign_asked, turned_right, way_size}
 use Rattle.tb_grouping.proofs.Halves.{double_high, double_low, halve, halve_small, halves_are, high_half, low_half, more, sign_is}
-use Rattle.tb_grouping.proofs.Lone.{kept}
+use Rattle.tb_grouping.proofs.GroupInvariants.{kept}
 use Rattle.tb_grouping.proofs.Operands.{SourceHolds, dest_in_data}
 use Rattle.tb_grouping.proofs.Ready.{Ready, here}
 use Rattle.tb_grouping.proofs.ShiftSteps.{swapped}

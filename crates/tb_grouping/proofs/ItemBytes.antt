@@ -39,8 +39,8 @@ use Rattle.tb_templates.proofs.Plain.{plain_straight, times_plain, shifted_plain
 use Rattle.tb_keeping.proofs.Resolved as resolved
 use Rattle.tb_keeping.proofs.Resolved.{Piece, Code, highest_code}
 use Rattle.tb_grouping.proofs.Sources.{lda, adc, sbc, cmp}
-use Rattle.tb_grouping.proofs.Coded as coded
-use Rattle.tb_grouping.proofs.Coded.{low, high, weighed, difference, Way, way_size, BranchReaches}
+use Rattle.tb_grouping.proofs.GroupCode as coded
+use Rattle.tb_grouping.proofs.GroupCode.{low, high, weighed, difference, Way, way_size, BranchReaches}
 use Rattle.tb_grouping.proofs.Halves.{power_small}
 use Rattle.tb_grouping.proofs.Remainders.{mask_small}
 use Rattle.tb_grouping.proofs.Emits.{formed, formed_size, branch_formed, Emits, emitted_size, ends, block, reaches}

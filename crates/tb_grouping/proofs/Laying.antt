@@ -28,7 +28,7 @@ use Rattle.tb_keeping.proofs.Emitted.{pieces_bytes, pieces_length, behind, lies}
 use Rattle.tb_keeping.proofs.LineStarts.{has_content}
 use Rattle.tb_keeping.proofs.Numbers.{joined, constant_bytes, faulted_bytes, address_bytes, start_of_line}
 use Rattle.tb_grouping.specs.Laid.{IsClear, LineLies, Laid}
-use Rattle.tb_grouping.proofs.Coded.{broken_code}
+use Rattle.tb_grouping.proofs.GroupCode.{broken_code}
 
 -- ---- one list of items behind the other
 module _ (code : Part) (labels : List (Name × ℕ)) where

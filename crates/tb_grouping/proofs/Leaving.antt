@@ -12,9 +12,9 @@ use Rattle.tb_keeping.proofs.Resolved.{Code, Lies, faulting, jump_to}
 use Rattle.tb_selection.specs.Groups.{Single}
 use Rattle.tb_grouping.proofs.Faults.{faults_at}
 use Rattle.tb_grouping.proofs.Frames.{state_placed}
-use Rattle.tb_grouping.proofs.Lone.{arrived}
+use Rattle.tb_grouping.proofs.GroupInvariants.{arrived}
 use Rattle.tb_grouping.proofs.Matching.{Matches}
-use Rattle.tb_grouping.proofs.Coded.{GroupsLaid}
+use Rattle.tb_grouping.proofs.GroupCode.{GroupsLaid}
 use Rattle.tb_grouping.proofs.Ready.{Ready, here}
 use Rattle.tb_grouping.proofs.Surroundings.{Serves, Surroundings}
 

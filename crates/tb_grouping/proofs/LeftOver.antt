@@ -26,10 +26,10 @@ use Rattle.tb_templates.specs.GroupTemplates.{may_be_zero}
 use Rattle.tb_templates.specs.Masks.{mask}
 use Rattle.tb_templates.proofs.Divided.{IsMasking, by_bits, by_division, masking_is}
 use Rattle.tb_grouping.proofs.Branches.{branch_behind, branch_size, branches, last_leads}
-use Rattle.tb_grouping.proofs.Coded.{DividedReaches, Way, Zero, branch_code, branch_on, divided_at, divided_code, leaves_on, left_over, lined_code, low, lowest_bits, remainder, told}
+use Rattle.tb_grouping.proofs.GroupCode.{DividedReaches, Way, Zero, branch_code, branch_on, divided_at, divided_code, leaves_on, left_over, lined_code, low, lowest_bits, remainder, told}
 use Rattle.tb_grouping.proofs.Constants.{constant_is}
 use Rattle.tb_grouping.proofs.Handed.{asks_by, comes_back}
-use Rattle.tb_grouping.proofs.Lone.{Kept, behind_line, kept, kept_by, kept_scratch, lies_by, lined_by, lines_by, numbered}
+use Rattle.tb_grouping.proofs.GroupInvariants.{Kept, behind_line, kept, kept_by, kept_scratch, lies_by, lined_by, lines_by, numbered}
 use Rattle.tb_grouping.proofs.Operands.{SourceHolds}
 use Rattle.tb_grouping.proofs.Ready.{Ready, here}
 use Rattle.tb_grouping.proofs.Remainders.{either_byte, lowest_bits_are, some_power}

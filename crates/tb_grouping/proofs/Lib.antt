@@ -1,5 +1,5 @@
 pub mod Sources
-pub mod Coded
+pub mod GroupCode
 pub mod Branches
 pub mod Surroundings
 pub mod Matching
@@ -10,7 +10,7 @@ pub mod Operands
 pub mod Ready
 pub mod Calculated
 pub mod Calculations
-pub mod Few
+pub mod SlotsRead
 pub mod Divisions
 pub mod Halves
 pub mod ShiftSteps
@@ -39,7 +39,7 @@ pub mod Moves
 pub mod Faults
 pub mod Polled
 pub mod Frames
-pub mod Lone
+pub mod GroupInvariants
 pub mod OneWord
 pub mod Handed
 pub mod Quiet
@@ -53,8 +53,8 @@ pub mod ChangeBytes
 pub mod CallBytes
 pub mod Asking
 pub mod Singles
-pub mod Alone
-pub mod Uses
+pub mod SingleLaws
+pub mod UseLaws
 pub mod GroupLaws
 pub mod GroupStrides
 pub mod GroupStarts

@@ -34,9 +34,9 @@ use Rattle.tb_keeping.proofs.Numbers.{next_has, next_same, start_of_line}
 use Rattle.tb_keeping.proofs.Resolved.{call, pieces_size, highest_code}
 use Rattle.tb_keeping.proofs.Emitted.{behind, lies}
 use Rattle.tb_grouping.specs.Laid.{ArePolled, LineLies, Laid}
-use Rattle.tb_grouping.proofs.Coded.{GroupsLie, GroupsLaid, LineStands, OnlyIf, Way, BranchReaches, group_code, poll_code, way_size, Zero}
+use Rattle.tb_grouping.proofs.GroupCode.{GroupsLie, GroupsLaid, LineStands, OnlyIf, Way, BranchReaches, group_code, poll_code, way_size, Zero}
 use Rattle.tb_grouping.proofs.Branches.{branch_size}
-use Rattle.tb_grouping.proofs.Few.{range_split}
+use Rattle.tb_grouping.proofs.SlotsRead.{range_split}
 use Rattle.tb_grouping.proofs.Emits.{bytes_behind, emitted_size}
 use Rattle.tb_grouping.proofs.CallBytes.{each_emitted}
 use Rattle.tb_grouping.proofs.ItemBytes.{Rest, rest_before, rest_behind}

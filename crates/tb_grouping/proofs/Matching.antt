@@ -12,7 +12,7 @@ use Rattle.tb_keeping.proofs.Mirrors.{HoldsState, Typable, Leads}
 use Rattle.tb_selection.specs.declared.liveness.Live.{Live}
 use Rattle.tb_selection.specs.Liveness.{live, nothing_live}
 use Rattle.tb_selection.specs.Select.{select}
-use Rattle.tb_grouping.proofs.Coded.{GroupsLie}
+use Rattle.tb_grouping.proofs.GroupCode.{GroupsLie}
 use Rattle.tb_grouping.proofs.Surroundings.{Surroundings}
 
 -- the memory holds the slots that are read, and the held word where it is

@@ -22,9 +22,9 @@ use Rattle.tb_selection.specs.Select.{select}
 use Rattle.tb_templates.specs.declared.sources.Source.{Source}
 use Rattle.tb_templates.specs.declared.sources.Source.TheVariants.{FixedWord, AtPlace}
 use Rattle.tb_templates.specs.Sources.{destination_at}
-use Rattle.tb_grouping.proofs.Coded.{GroupsLie, begun, by_bit, by_bits, doubled, high, increased, low, low_first, times}
+use Rattle.tb_grouping.proofs.GroupCode.{GroupsLie, begun, by_bit, by_bits, doubled, high, increased, low, low_first, times}
 use Rattle.tb_grouping.proofs.Halves.{by_even, by_odd, double_high, double_low, sum_high, sum_low}
-use Rattle.tb_grouping.proofs.Lone.{kept, kept_scratch}
+use Rattle.tb_grouping.proofs.GroupInvariants.{kept, kept_scratch}
 use Rattle.tb_grouping.proofs.Matching.{Matches}
 use Rattle.tb_grouping.proofs.Operands.{SourceHolds, dest_beyond}
 use Rattle.tb_grouping.proofs.Ready.{Ready, here}

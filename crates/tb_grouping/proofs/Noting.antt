@@ -17,7 +17,7 @@ use Rattle.tb_keeping.proofs.Mirrors.{Flagged}
 use Rattle.tb_keeping.proofs.Pieces.{does, loads_last, stores, stores_last, whatever}
 use Rattle.tb_keeping.proofs.Resolved.{Code, Lies, Piece, highest_code}
 use Rattle.tb_grouping.proofs.Branches.{branch_behind, branches, is_taken}
-use Rattle.tb_grouping.proofs.Coded.{BranchReaches, Way, Zero, asked, branch_code, branch_on, note_stored, note_taken, way_size}
+use Rattle.tb_grouping.proofs.GroupCode.{BranchReaches, Way, Zero, asked, branch_code, branch_on, note_stored, note_taken, way_size}
 
 note_place : (a : ℕ) → 0xC100 ≤ a → a ≤ 0xC4F3 → is_data a ≡ true
 note_place a lo hi = grind (arith, nat_tests)

@@ -17,7 +17,7 @@ use Rattle.tb_selection.specs.Liveness.{live, live_before, read}
 use Rattle.tb_selection.specs.Select.{omits_only_dead, slot_dead}
 use Rattle.tb_selection.specs.GroupSteps.{steps}
 use Rattle.tb_grouping.proofs.Landing.{DestFits}
-use Rattle.tb_grouping.proofs.Lone.{one_step}
+use Rattle.tb_grouping.proofs.GroupInvariants.{one_step}
 use Rattle.tb_grouping.proofs.Matching.{HoldsLive}
 use Rattle.tb_grouping.proofs.Operands.{OperandFits, dest_fits, range_fetch}
 use Rattle.tb_grouping.proofs.SlotSide.{IsDead, Lasting, StandsIn, ends, fetch_held, fetch_reads, fetched, fetched_held, fetched_length, fetched_other, fetched_same, fetches, kept_reads, landed, line, slots_landed, stops, with_fetched}

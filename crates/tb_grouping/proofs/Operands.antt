@@ -13,7 +13,7 @@ use Rattle.tb_grouping.proofs.Sources.{value}
 use Rattle.tb_templates.specs.Templates.{slot_at, var_at}
 use Rattle.tb_templates.specs.declared.sources.Source.{Source}
 use Rattle.tb_templates.specs.Sources.{source_of, destination_at}
-use Rattle.tb_grouping.proofs.Coded.{low, high}
+use Rattle.tb_grouping.proofs.GroupCode.{low, high}
 use Rattle.tb_grouping.proofs.Matching.{HoldsLive}
 use Rattle.tb_grouping.proofs.SlotSide.{fetched, StandsIn}
 use Rattle.tb_grouping.proofs.Landing.{DestFits}

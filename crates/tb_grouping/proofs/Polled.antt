@@ -27,7 +27,7 @@ use Rattle.tb_selection.specs.Laws.{AreClosed}
 use Rattle.tb_grouping.proofs.Sources.{Fixed, compares_byte}
 use Rattle.tb_grouping.proofs.Branches.{branch_behind, branches}
 use Rattle.tb_grouping.proofs.Faults.{faults_at}
-use Rattle.tb_grouping.proofs.Coded.{BranchReaches, GroupsLaid, GroupsLie, LineStands, Way, Zero, way_size}
+use Rattle.tb_grouping.proofs.GroupCode.{BranchReaches, GroupsLaid, GroupsLie, LineStands, Way, Zero, way_size}
 use Rattle.tb_grouping.proofs.Matching.{HoldsLive, Matches, Target}
 use Rattle.tb_grouping.proofs.SlotSide.{line, next}
 use Rattle.tb_grouping.proofs.Beginnings.{nothing_read, line_step}

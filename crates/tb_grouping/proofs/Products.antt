@@ -13,9 +13,9 @@ use Rattle.tb_keeping.proofs.Returning.{back_here}
 use Rattle.tb_selection.specs.Groups.{Operand, Destination, Calculate}
 use Rattle.tb_selection.specs.Liveness.{live}
 use Rattle.tb_selection.specs.Select.{select}
-use Rattle.tb_grouping.proofs.Coded.{GroupsLie, routine}
+use Rattle.tb_grouping.proofs.GroupCode.{GroupsLie, routine}
 use Rattle.tb_grouping.proofs.Handed.{result_gives}
-use Rattle.tb_grouping.proofs.Lone.{kept, kept_scratch}
+use Rattle.tb_grouping.proofs.GroupInvariants.{kept, kept_scratch}
 use Rattle.tb_grouping.proofs.Ready.{Ready, here}
 use Rattle.tb_grouping.proofs.SlotSide.{spread}
 use Rattle.tb_grouping.proofs.Surroundings.{Serves, Surroundings}

@@ -12,10 +12,10 @@ use Rattle.tb_keeping.proofs.Resolved.{copied, size}
 use Rattle.tb_selection.specs.Groups.{IntoSlot, Single}
 use Rattle.tb_selection.specs.Liveness.{live}
 use Rattle.tb_selection.specs.Select.{select}
-use Rattle.tb_grouping.proofs.Coded.{GroupsLie}
+use Rattle.tb_grouping.proofs.GroupCode.{GroupsLie}
 use Rattle.tb_grouping.proofs.Matching.{Matches}
 use Rattle.tb_grouping.proofs.SlotSide.{Lasting, line, written_reads}
-use Rattle.tb_grouping.proofs.Lone.{kept, word_lands}
+use Rattle.tb_grouping.proofs.GroupInvariants.{kept, word_lands}
 use Rattle.tb_grouping.proofs.Ready.{Ready, here}
 use Rattle.tb_grouping.proofs.Sums.{copies}
 use Rattle.tb_grouping.proofs.Surroundings.{Surroundings}

@@ -15,8 +15,8 @@ use Rattle.tb_selection.specs.GroupSteps.{steps, first_group, first}
 use Rattle.tb_selection.proofs.Bracketed.{brackets}
 use Rattle.tb_selection.specs.Laws.{AreChosen}
 use Rattle.tb_selection.proofs.Chosen.{chosen}
-use Rattle.tb_grouping.proofs.Coded.{Way, group_code, Behind, GroupsLie, BranchesReach}
-use Rattle.tb_grouping.proofs.Few.{groups_few, range_few, range_split}
+use Rattle.tb_grouping.proofs.GroupCode.{Way, group_code, Behind, GroupsLie, BranchesReach}
+use Rattle.tb_grouping.proofs.SlotsRead.{groups_few, range_few, range_split}
 use Rattle.tb_grouping.proofs.Matching.{HoldsLive, Matches, Target}
 use Rattle.tb_grouping.proofs.SlotSide.{line, landed}
 use Rattle.tb_grouping.proofs.Surroundings.{Surroundings}

@@ -31,12 +31,12 @@ use Rattle.tb_templates.specs.GroupTemplates.{may_be_zero}
 use Rattle.tb_templates.specs.Sources.{destination_at, source_of}
 use Rattle.tb_templates.specs.Templates.{var_at}
 use Rattle.tb_grouping.proofs.Calculations.{subtracted_word}
-use Rattle.tb_grouping.proofs.Coded.{Negative, brought, lined_code, over_at, remains_code, rest_asked, rest_at, rest_turned, sign_looked_at, signed_rest, way_size}
+use Rattle.tb_grouping.proofs.GroupCode.{Negative, brought, lined_code, over_at, remains_code, rest_asked, rest_at, rest_turned, sign_looked_at, signed_rest, way_size}
 use Rattle.tb_grouping.proofs.Constants.{constant_is}
 use Rattle.tb_grouping.proofs.Handed.{asks_by, comes_back, result_gives}
 use Rattle.tb_grouping.proofs.InPlace.{Forked, forked}
 use Rattle.tb_grouping.proofs.Landing.{DestFits}
-use Rattle.tb_grouping.proofs.Lone.{Kept, behind_line, kept as kept_first, kept_by, kept_put, kept_scratch, lies_by, lined_by, lines_by, numbered, word_lands}
+use Rattle.tb_grouping.proofs.GroupInvariants.{Kept, behind_line, kept as kept_first, kept_by, kept_put, kept_scratch, lies_by, lined_by, lines_by, numbered, word_lands}
 use Rattle.tb_grouping.proofs.Matching.{Matches, Target}
 use Rattle.tb_grouping.proofs.MultipleSide.{held_stands, multiple_fails, multiple_next, multiplied, multiplied_length, others_stand, product_stands}
 use Rattle.tb_grouping.proofs.Operands.{OperandFits, SourceHolds, dest_fits, dest_in_data, operand_apart, operand_held, range_fetch}

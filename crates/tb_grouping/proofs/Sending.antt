@@ -22,8 +22,8 @@ use Rattle.tb_selection.specs.Groups.{AsNumber, Group, Operand, Single, Use}
 use Rattle.tb_selection.specs.Liveness.{live}
 use Rattle.tb_selection.specs.Select.{select}
 use Rattle.tb_templates.specs.Sources.{source_of}
-use Rattle.tb_grouping.proofs.Coded.{GroupsLie, brought, high, low}
-use Rattle.tb_grouping.proofs.Lone.{Kept, kept, kept_put, kept_scratch, kept_told}
+use Rattle.tb_grouping.proofs.GroupCode.{GroupsLie, brought, high, low}
+use Rattle.tb_grouping.proofs.GroupInvariants.{Kept, kept, kept_put, kept_scratch, kept_told}
 use Rattle.tb_grouping.proofs.Matching.{HoldsLive, Matches}
 use Rattle.tb_grouping.proofs.OneWord.{spread_use, use_fits, used_read, word_asked}
 use Rattle.tb_grouping.proofs.Operands.{operand_apart, operand_held}

@@ -18,7 +18,7 @@ use Rattle.tb_keeping.proofs.Resolved.{highest_code, size}
 use Rattle.tb_templates.specs.declared.sources.Source.{Source}
 use Rattle.tb_templates.specs.Scaled.{all_but_lowest}
 use Rattle.tb_grouping.proofs.Halves.{more}
-use Rattle.tb_grouping.proofs.Coded.{low, high, rounded, signed, carried, halved, high_first, doubled, increased, begun, low_first}
+use Rattle.tb_grouping.proofs.GroupCode.{low, high, rounded, signed, carried, halved, high_first, doubled, increased, begun, low_first}
 use Rattle.tb_grouping.proofs.Sources.{Byte, Fixed, At, value, IsRead, lda, adc, cmp, len, Known, behind, loads_with, loads_byte, adds_byte, compares_byte, puts_byte, whatever_known}
 use Rattle.tb_grouping.proofs.Sums.{Grounded, low_read, high_read, high_same}
 

@@ -19,9 +19,9 @@ use Rattle.tb_selection.specs.Liveness.{live}
 use Rattle.tb_selection.specs.Select.{select}
 use Rattle.tb_templates.specs.declared.sources.Source.{Source}
 use Rattle.tb_templates.specs.Sources.{destination_at, source_of}
-use Rattle.tb_grouping.proofs.Coded.{GroupsLie, carried, halved, halvings, high, high_first, low, rounded, shifted, signed}
+use Rattle.tb_grouping.proofs.GroupCode.{GroupsLie, carried, halved, halvings, high, high_first, low, rounded, shifted, signed}
 use Rattle.tb_grouping.proofs.Halves.{halve, halve_small, halve_times, halves_are, high_half, low_half, more, more_small, raised_high, raised_low, sign_is}
-use Rattle.tb_grouping.proofs.Lone.{kept, kept_scratch}
+use Rattle.tb_grouping.proofs.GroupInvariants.{kept, kept_scratch}
 use Rattle.tb_grouping.proofs.Matching.{Matches}
 use Rattle.tb_grouping.proofs.Operands.{SourceHolds, dest_beyond}
 use Rattle.tb_grouping.proofs.Ready.{Ready, here}

@@ -21,7 +21,7 @@ use Rattle.tb_keeping.proofs.Numbers.{low_of, high_of, start_of_line, constant_b
 use Rattle.std.proofs.lemmas.List.{append-nil}
 use Rattle.tb_reaching.proofs.Instr.{flat}
 use Rattle.tb_keeping.proofs.Resolved.{Piece, copied, template, jump_to}
-use Rattle.tb_grouping.proofs.Coded.{has_branches}
+use Rattle.tb_grouping.proofs.GroupCode.{has_branches}
 use Rattle.tb_selection.specs.Groups.{Group, Calculate, Stepped, Convert, Move, Use, Test, TestGo, Divides, Remains, Single}
 use Rattle.tb_selection.specs.Select.{alone}
 use Rattle.tb_keeping.proofs.Emitted.{pieces_bytes}

@@ -28,8 +28,8 @@ use Rattle.tb_templates.proofs.Plain.{lifted_plain, plain_straight}
 use Rattle.tb_keeping.proofs.Resolved as resolved
 use Rattle.tb_keeping.proofs.Resolved.{Code, highest_code}
 use Rattle.tb_grouping.proofs.Sources.{lda}
-use Rattle.tb_grouping.proofs.Coded as coded
-use Rattle.tb_grouping.proofs.Coded.{low, high, weighed, difference, Way, Short, way_size, Flag, Zero, Overflow, Negative, Carry, BranchReaches, branch_code, branch_on, second_at, turned_at}
+use Rattle.tb_grouping.proofs.GroupCode as coded
+use Rattle.tb_grouping.proofs.GroupCode.{low, high, weighed, difference, Way, Short, way_size, Flag, Zero, Overflow, Negative, Carry, BranchReaches, branch_code, branch_on, second_at, turned_at}
 use Rattle.tb_grouping.proofs.Emits.{formed, branch_by, Emits, ends, block, labelled, branches}
 use Rattle.tb_grouping.proofs.ItemBytes.{AllMake, IsWord, Rest, behind_branch, behind_label, behind_straight, cut, cut_branch, difference_bytes, gets_there, high_made, high_straight, label_here, lifted_bytes, low_straight, no_more, value_of, weighed_high, weighed_low}
 

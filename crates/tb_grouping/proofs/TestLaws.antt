@@ -28,10 +28,10 @@ use Rattle.tb_selection.specs.Select.{select, test_words_dead}
 use Rattle.tb_templates.specs.declared.sources.Source.{Source}
 use Rattle.tb_templates.specs.declared.orders.Side.TheVariants.{Below, NotBelow}
 use Rattle.tb_templates.specs.Sources.{source_of, tested_source}
-use Rattle.tb_grouping.proofs.Coded.{EqualityReaches, GoReaches, GroupsLie, TestReaches, Way, equality_code, go_code, group_code, test_code}
+use Rattle.tb_grouping.proofs.GroupCode.{EqualityReaches, GoReaches, GroupsLie, TestReaches, Way, equality_code, go_code, group_code, test_code}
 use Rattle.tb_grouping.proofs.Faults.{faults_at}
 use Rattle.tb_grouping.proofs.Frames.{state_placed}
-use Rattle.tb_grouping.proofs.Lone.{arrived, one_step}
+use Rattle.tb_grouping.proofs.GroupInvariants.{arrived, one_step}
 use Rattle.tb_grouping.proofs.Matching.{HoldsLive, Matches, Target}
 use Rattle.tb_grouping.proofs.SlotSide.{line, next, fetched}
 use Rattle.tb_grouping.proofs.TestSide.{tested, tested_word, tested_read, left_read, spread_test, test_before, so_far, decided, branched, test_goes, test_fits, left_held, right_held}

@@ -16,7 +16,7 @@ use Rattle.tb_grouping.proofs.Asking.{input_fails, input_law, input_waits, poll_
 use Rattle.tb_grouping.proofs.Calling.{call_to_fails, call_to_found, call_to_full, return_fails, return_law}
 use Rattle.tb_grouping.proofs.Leaving.{end_law, to_fails, to_found}
 use Rattle.tb_grouping.proofs.Matching.{Target}
-use Rattle.tb_grouping.proofs.Coded.{GroupsLaid}
+use Rattle.tb_grouping.proofs.GroupCode.{GroupsLaid}
 use Rattle.tb_grouping.proofs.Quiet.{load_law, put_law}
 use Rattle.tb_grouping.proofs.Ready.{Ready}
 use Rattle.tb_grouping.proofs.Sending.{newline_law, text_law, zone_law}

@@ -9,8 +9,8 @@ use Rattle.tb_reaching.proofs.Comes.{looser}
 use Rattle.tb_reaching.specs.View.{Fits, View}
 use Rattle.tb_selection.specs.Groups.{AsLine, AsNumber, AsSubroutine, Operand, Usage, Use, expand}
 use Rattle.tb_selection.specs.GroupSteps.{steps}
-use Rattle.tb_grouping.proofs.Alone.{Leads}
-use Rattle.tb_grouping.proofs.Coded.{GroupsLaid}
+use Rattle.tb_grouping.proofs.SingleLaws.{Leads}
+use Rattle.tb_grouping.proofs.GroupCode.{GroupsLaid}
 use Rattle.tb_grouping.proofs.Finding.{call_fails, call_found, call_full, jump_fails, jump_found}
 use Rattle.tb_grouping.proofs.OneWord.{spread_use, use_steps, used}
 use Rattle.tb_grouping.proofs.Ready.{Ready}

@@ -22,7 +22,7 @@ use Rattle.tb_selection.specs.Select.{select}
 use Rattle.tb_selection.specs.GroupSteps.{inside, steps}
 use Rattle.tb_grouping.proofs.Beginnings.{nothing_read}
 use Rattle.tb_templates.specs.Sources.{destination_at}
-use Rattle.tb_grouping.proofs.Coded.{GroupsLie, lined_code}
+use Rattle.tb_grouping.proofs.GroupCode.{GroupsLie, lined_code}
 use Rattle.tb_grouping.proofs.Matching.{HoldsLive, Matches}
 use Rattle.tb_grouping.proofs.SlotSide.{Lasting, landed, line, slots_landed}
 use Rattle.tb_grouping.proofs.Landing.{DestFits, Elsewhere, home_kept, read_landed, read_lined, scratch_put, state_landed, state_lined, state_scratch}
