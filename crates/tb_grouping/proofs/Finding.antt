@@ -101,10 +101,10 @@ module _ (around : Surroundings) (fits : Fits around.f 16) (limit : ℕ) (rs : S
         let bs = back_low ∷ back_high ∷ own in
         lines fits h lies.0 lies.1 q t (4 + (1 + (4 + (4 + (1 + k))))) (λ u e.
         chained f u _ q [] t 4 (1 + (4 + (4 + (1 + k)))) (brings f 16 fits at own one w.text w.answers refl src WANTED lies.2.0 (operand_before 0 a WANTED (omega arith) (omega arith) fit) (refl, refl) lies.2.1 u e) (λ u e.
-        chained f u _ q [] t 1 (4 + (4 + (1 + k))) (calls f 16 fits call_at own two w.text w.answers refl ly.locate refl lies.2.2.0 lies.2.2.1 u e) (λ u e.
-        chained f u _ q [] t 4 (4 + (1 + k)) (points f 16 fits ly.locate bs two w.text w.answers refl ly.table TABLE laid.locate.0 (refl, refl) laid.locate.1 u e) (λ u e.
-        chained f u _ q [] t 4 (1 + k) (sets f 16 fits (ly.locate + 8) bs three w.text w.answers refl (length ly.numbers) COUNT laid.locate.2.0 (refl, refl) laid.locate.2.1 u e) (λ u e.
-        chained f u _ q [] t 1 k (jumps f 16 fits (ly.locate + 8 + 10) bs sought w.text w.answers refl SEARCH_AT laid.locate.2.2.1 u e) next)))))
+        chained f u _ q [] t 1 (4 + (4 + (1 + k))) (calls f 16 fits call_at own two w.text w.answers refl ly.find refl lies.2.2.0 lies.2.2.1 u e) (λ u e.
+        chained f u _ q [] t 4 (4 + (1 + k)) (points f 16 fits ly.find bs two w.text w.answers refl ly.table TABLE laid.find.0 (refl, refl) laid.find.1 u e) (λ u e.
+        chained f u _ q [] t 4 (1 + k) (sets f 16 fits (ly.find + 8) bs three w.text w.answers refl (length ly.numbers) COUNT laid.find.2.0 (refl, refl) laid.find.2.1 u e) (λ u e.
+        chained f u _ q [] t 1 k (jumps f 16 fits (ly.find + 8 + 10) bs sought w.text w.answers refl SEARCH_AT laid.find.2.2.1 u e) next)))))
 
     wanted : WordAt sought WANTED wish
     wanted =

@@ -225,7 +225,7 @@ module _ (labels : List (Name × ℕ)) (ns : List ℕ) (seed n : ℕ) (seed_smal
     searched_emits x w e =
         block labels (product.constant n LINE) (resolved.constant n LINE) (line_set.same 0)
         (block labels (items.brought x WANTED) (coded.brought x WANTED) ((brought_bytes labels x WANTED w).same _)
-        (block labels (product.find ∷ []) (resolved.call ly.locate) refl e))
+        (block labels (product.find ∷ []) (resolved.call ly.find) refl e))
 
     used_straight : (how : Usage) (x : Source) → list_all is_straight (items.used n (next_line ns n) how x) ≡ true
     used_straight AsNumber x = all_straight (items.brought x LEFT) (product.call NUMBER_AT ∷ []) (brought_straight x LEFT) refl

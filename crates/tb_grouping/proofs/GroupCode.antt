@@ -29,7 +29,7 @@ use Rattle.tb_templates.specs.Masks.{mask}
 use Rattle.tb_templates.specs.Templates.{var_at}
 use Rattle.tb_templates.specs.Sources.{source_of, tested_source, home_at, destination_at}
 use Rattle.tb_keeping.specs.Layout.{Layout, next_at, place_at}
-use Rattle.tb_keeping.proofs.Resolved.{Piece, Code, Lies, pieces_size, size, sta_at, copied, constant, pointed, call, faulting, jump, jump_through, template, highest_code, locate_code, past_code}
+use Rattle.tb_keeping.proofs.Resolved.{Piece, Code, Lies, pieces_size, size, sta_at, copied, constant, pointed, call, faulting, jump, jump_through, template, highest_code, find_code, past_code}
 use Rattle.tb_selection.specs.Groups.{Conversion, Negated, Drawn, Usage, AsNumber, AsLine, AsSubroutine, Constant, Variable, Divisibility, Divisible, Indivisible, Group, Calculate, Stepped, Convert, Move, Use, Test, TestGo, Divides, Remains, Single, contrary, denied, slot_of, expand_all}
 use Rattle.tb_selection.specs.Select.{select}
 use Rattle.tb_grouping.proofs.Sources.{Byte, Fixed, At, lda, adc, sbc, cmp}
@@ -138,7 +138,7 @@ convert_code ly n Drawn a to = lined_code (may_have_none a) n (routine RANDOM_AT
 
 -- the line table is searched for a word
 abbrev pub searched : Layout → ℕ → Source → List Piece → List Piece
-searched ly n a others = Code (constant n LINE) ∷ Code (brought a WANTED) ∷ Code (call ly.locate) ∷ others
+searched ly n a others = Code (constant n LINE) ∷ Code (brought a WANTED) ∷ Code (call ly.find) ∷ others
 
 -- a use of a word
 abbrev pub use_code : Layout → ℕ → Usage → Source → List Piece
@@ -622,7 +622,7 @@ pub record GroupsLaid (ly : Layout) (code whole : Part) (program : slots.SlotCod
   pub absent : (n : ℕ) → content_at program n ≡ None → ly.start n ≡ ly.past
   pub places : (p : Place) → place_at ly p < 65536
   pub past : Lies code ly.past (past_code ly)
-  pub locate : Lies code ly.locate (locate_code ly)
+  pub find : Lies code ly.find (find_code ly)
   pub top : highest ly.numbers < 65536
   pub table_small : ly.table < 65536
   pub count_small : length ly.numbers < 65536

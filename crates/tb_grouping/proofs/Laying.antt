@@ -169,11 +169,11 @@ module _ (labels : List (Name × ℕ)) (seed : ℕ) (code : Part) (sc : slots.Sl
   pub table_small : place_of labels target.Table < 65536
   table_small = omega (arith, laid.table.below)
 
-  pub find_lies : resolved.Lies within (place_of labels target.Find) (resolved.locate_code laid_layout)
+  pub find_lies : resolved.Lies within (place_of labels target.Find) (resolved.find_code laid_layout)
   unfolding opcodes.encoded
   find_lies =
       let at = place_of labels target.Find in
-      (pieces at (program.find_code ns) (resolved.locate_code laid_layout) (inside at (program.find_code ns) laid.find laid.find_clear)
+      (pieces at (program.find_code ns) (resolved.find_code laid_layout) (inside at (program.find_code ns) laid.find laid.find_clear)
       (joined labels ns seed at 8 (product.here target.Find ∷ product.address target.Table TABLE) (product.constant (length ns) COUNT ++ (product.at Jmp SEARCH_AT ∷ [])) _ _ refl (address_bytes labels ns seed at target.Table (place_of labels target.Table) TABLE refl table_small (omega arith))
       (joined labels ns seed (at + 8) 10 (product.constant (length ns) COUNT) (product.at Jmp SEARCH_AT ∷ []) _ _ refl (constant_bytes labels ns seed (at + 8) (length ns) COUNT laid.count_small) refl))).1
 

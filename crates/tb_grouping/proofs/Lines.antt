@@ -224,7 +224,7 @@ module _ (labels : List (Name × ℕ)) (seed : ℕ) (code : Part) (sc : slots.Sl
     absent = λ n e. ap (λ t. if t then place_of labels (target.Line n) else place_of labels target.Past) (content_none labels seed code sc laid sc n e);
     places = place_small labels seed code sc laid;
     past = past_lies labels seed code sc laid;
-    locate = find_lies labels seed code sc laid;
+    find = find_lies labels seed code sc laid;
     top = top_small labels seed code sc laid sc (λ n e. (line_of labels seed code sc laid n e).1.small);
     table_small = table_small labels seed code sc laid;
     count_small = laid.count_small;

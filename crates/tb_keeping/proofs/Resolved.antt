@@ -118,5 +118,5 @@ Lies code at (p ∷ ps) = (at + piece_size p ≤ highest_code) × PieceLies code
 abbrev pub past_code : Layout → List Piece
 past_code ly = Code (faulting (highest ly.numbers) 7) ∷ []
 
-abbrev pub locate_code : Layout → List Piece
-locate_code ly = Code (pointed ly.table TABLE) ∷ Code (constant (length ly.numbers) COUNT) ∷ Code (jump SEARCH_AT) ∷ []
+abbrev pub find_code : Layout → List Piece
+find_code ly = Code (pointed ly.table TABLE) ∷ Code (constant (length ly.numbers) COUNT) ∷ Code (jump SEARCH_AT) ∷ []

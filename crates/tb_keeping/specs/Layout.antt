@@ -27,7 +27,7 @@ pub record Layout : Type 0 where
   pub numbers : List ℕ
   pub start : ℕ → ℕ
   pub past : ℕ
-  pub locate : ℕ
+  pub find : ℕ
   pub table : ℕ
   pub seed : ℕ
 
@@ -45,7 +45,7 @@ layout_of labels ns seed = record {
   numbers = ns;
   start = start_at labels ns;
   past = place_of labels target.Past;
-  locate = place_of labels target.Find;
+  find = place_of labels target.Find;
   table = place_of labels target.Table;
   seed = seed;
 }

@@ -23,7 +23,8 @@ letter_of Skip = 83
 
 -- A line is L and its number; a place in the code of its group i has the index, from 1 on, and a letter behind. What is
 -- done for the STOP key in a line is B and its number. Fault 7, the search in the line table and the table itself are
--- words. In a program's code the labels rise in the order of letters, those with B among themselves and all others.
+-- words. In a program's code the labels rise in the order of letters, those with B among themselves and all others: so
+-- the search is called SEEK here, and the table TROW.
 abbrev pub label_of : Target → Name
 label_of (Line n) = named (76 ∷ four_digits n [])
 label_of (Inside inner n i) = named (76 ∷ four_digits n (four_digits i (letter_of inner ∷ [])))
