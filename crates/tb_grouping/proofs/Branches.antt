@@ -91,21 +91,21 @@ gets_there at to below there near = by (nat_lt (distance at to) 128) refl near
         back true q = absurd (omega (arith, ltb-true (d % 256) 128 q, leb-true 65408 d n))
         back false q = on false q (omega (arith, below, there, leb-true 65408 d n))
 
-module _ (f : Setup) (room : ℕ) (fits : Fits f room) (bs : List ℕ) (m : ℕ → ℕ) (keys gets : List ℕ) (small : leb (length bs) room ≡ true) where
+module _ (f : Setup) (room : ℕ) (fits : Fits f room) (bs : List ℕ) (m : ℕ → ℕ) (text answers : List ℕ) (small : leb (length bs) room ≡ true) where
   -- at a place, with A, X, N and C as they were
   pub record Led (w : View) (to : ℕ) (u : View) : Type 0 where
-    pub here : Here to bs m keys gets u
+    pub here : Here to bs m text answers u
     pub number : u.regs.a ≡ w.regs.a
     pub index : u.regs.x ≡ w.regs.x
     pub negative : u.regs.flags.n ≡ w.regs.flags.n
     pub carry : u.regs.flags.c ≡ w.regs.flags.c
 
-  same_view : (at : ℕ) (w : View) (q : View → Type 0) → Here at bs m keys gets w → Comes f (view w.regs.a w.regs.x w.regs.y w.regs.flags.n w.regs.flags.v w.regs.flags.i w.regs.flags.z w.regs.flags.c at bs m keys gets) q [] 1 → Comes f w q [] 1
+  same_view : (at : ℕ) (w : View) (q : View → Type 0) → Here at bs m text answers w → Comes f (view w.regs.a w.regs.x w.regs.y w.regs.flags.n w.regs.flags.v w.regs.flags.i w.regs.flags.z w.regs.flags.c at bs m text answers) q [] 1 → Comes f w q [] 1
   same_view at w q h c =
-      known f w at bs keys gets q [] 1 h.pc h.stack h.binary h.text h.answers
-      (subst (λ m. Comes f (view w.regs.a w.regs.x w.regs.y w.regs.flags.n w.regs.flags.v w.regs.flags.i w.regs.flags.z w.regs.flags.c at bs m keys gets) q [] 1) (sym h.mem) c)
+      known f w at bs text answers q [] 1 h.pc h.stack h.binary h.text h.answers
+      (subst (λ m. Comes f (view w.regs.a w.regs.x w.regs.y w.regs.flags.n w.regs.flags.v w.regs.flags.i w.regs.flags.z w.regs.flags.c at bs m text answers) q [] 1) (sym h.mem) c)
 
-  acts : (at : ℕ) (which : Flag) (wanted : Bool) (d a x y : ℕ) (n v i z c : Bool) → act_instr f.code room (ins (branch_on which wanted) d) (view a x y n v i z c at bs m keys gets) ≡ Some (view a x y n v i z c (if is_taken wanted (asked which n v c z) then added at d else (at + 2) % 65536) bs m keys gets)
+  acts : (at : ℕ) (which : Flag) (wanted : Bool) (d a x y : ℕ) (n v i z c : Bool) → act_instr f.code room (ins (branch_on which wanted) d) (view a x y n v i z c at bs m text answers) ≡ Some (view a x y n v i z c (if is_taken wanted (asked which n v c z) then added at d else (at + 2) % 65536) bs m text answers)
   acts at Negative false d a x y n v i z c = refl
   acts at Negative true d a x y n v i z c = refl
   acts at Overflow false d a x y n v i z c = refl
@@ -116,10 +116,10 @@ module _ (f : Setup) (room : ℕ) (fits : Fits f room) (bs : List ℕ) (m : ℕ 
   acts at Zero true d a x y n v i z c = refl
 
   -- a branch by itself
-  steps : (at : ℕ) (which : Flag) (wanted there : Bool) (d to : ℕ) → at + 2 ≤ highest_code → added at d ≡ to → Bytes f.code at (instr_bytes (ins (branch_on which wanted) d)) → (w : View) → Here at bs m keys gets w → asked_in which w ≡ there → Comes f w (Led w (cond (is_taken wanted there) to (at + 2))) [] 1
+  steps : (at : ℕ) (which : Flag) (wanted there : Bool) (d to : ℕ) → at + 2 ≤ highest_code → added at d ≡ to → Bytes f.code at (instr_bytes (ins (branch_on which wanted) d)) → (w : View) → Here at bs m text answers w → asked_in which w ≡ there → Comes f w (Led w (cond (is_taken wanted there) to (at + 2))) [] 1
   steps at which wanted there d to below leads st w h e =
       same_view at w _ h
-      (placed_last f room fits (ins (branch_on which wanted) d) (view w.regs.a w.regs.x w.regs.y w.regs.flags.n w.regs.flags.v w.regs.flags.i w.regs.flags.z w.regs.flags.c at bs m keys gets) _ _ small st
+      (placed_last f room fits (ins (branch_on which wanted) d) (view w.regs.a w.regs.x w.regs.y w.regs.flags.n w.regs.flags.v w.regs.flags.i w.regs.flags.z w.regs.flags.c at bs m text answers) _ _ small st
       (acts at which wanted d w.regs.a w.regs.x w.regs.y w.regs.flags.n w.regs.flags.v w.regs.flags.i w.regs.flags.z w.regs.flags.c)
       (record { here = record { pc = ap (λ t. if is_taken wanted t then added at d else (at + 2) % 65536) e ∙ by (is_taken wanted there); stack = refl; binary = refl; mem = refl; text = refl; answers = refl }; number = refl; index = refl; negative = refl; carry = refl }))
     where
@@ -127,14 +127,14 @@ module _ (f : Setup) (room : ℕ) (fits : Fits f room) (bs : List ℕ) (m : ℕ 
       by true = leads
       by false = omega (arith, below)
 
-  jumps_on : (at to : ℕ) → Bytes f.code at (instr_bytes (ins 0x4C to)) → (w : View) → Here at bs m keys gets w → Comes f w (Led w to) [] 1
+  jumps_on : (at to : ℕ) → Bytes f.code at (instr_bytes (ins 0x4C to)) → (w : View) → Here at bs m text answers w → Comes f w (Led w to) [] 1
   jumps_on at to st w h =
       same_view at w _ h
-      (placed_last f room fits (ins 0x4C to) (view w.regs.a w.regs.x w.regs.y w.regs.flags.n w.regs.flags.v w.regs.flags.i w.regs.flags.z w.regs.flags.c at bs m keys gets) _ _ small st refl
+      (placed_last f room fits (ins 0x4C to) (view w.regs.a w.regs.x w.regs.y w.regs.flags.n w.regs.flags.v w.regs.flags.i w.regs.flags.z w.regs.flags.c at bs m text answers) _ _ small st refl
       (record { here = record { pc = refl; stack = refl; binary = refl; mem = refl; text = refl; answers = refl }; number = refl; index = refl; negative = refl; carry = refl }))
 
   -- where a branch leads
-  pub branches : (at : ℕ) (way : Way) (which : Flag) (wanted there : Bool) (to : ℕ) → at + way_size way ≤ highest_code → BranchReaches way at to → Stands f.code at (branch_code way (branch_on which wanted) at to) → (w : View) → Here at bs m keys gets w → asked_in which w ≡ there → Comes f w (Led w (cond (is_taken wanted there) to (at + way_size way))) [] 2
+  pub branches : (at : ℕ) (way : Way) (which : Flag) (wanted there : Bool) (to : ℕ) → at + way_size way ≤ highest_code → BranchReaches way at to → Stands f.code at (branch_code way (branch_on which wanted) at to) → (w : View) → Here at bs m text answers w → asked_in which w ≡ there → Comes f w (Led w (cond (is_taken wanted there) to (at + way_size way))) [] 2
   branches at Short which wanted there to below reach st w h e =
       looser f w _ _ [] 1 2 (omega arith) (λ u g. g)
       (steps at which wanted there (distance at to % 256) to below (gets_there at to below reach.1 reach.0) st.0 w h e)

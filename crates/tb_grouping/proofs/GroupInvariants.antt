@@ -72,8 +72,8 @@ module _ (around : Surroundings) where
       }
 
   -- where it has left the line
-  pub arrived : (s : State) (r : Slots) (at : ℕ) (m : ℕ → ℕ) (t gets : List ℕ) → at ≡ place_at ly s.place → HoldsState ly s m → length r.words ≡ 16 → Entered f lo hi m → t ≡ s.text → gets ≡ s.answers → Typable keys s.text s.answers → (w : View) → Here at (lo ∷ hi ∷ []) m t gets w → Matches around (record { state = s; rest = Whole; slots = r }) w
-  arrived s r at m t gets there hs all en text got short w e = record {
+  pub arrived : (s : State) (r : Slots) (at : ℕ) (m : ℕ → ℕ) (t answers : List ℕ) → at ≡ place_at ly s.place → HoldsState ly s m → length r.words ≡ 16 → Entered f lo hi m → t ≡ s.text → answers ≡ s.answers → Typable keys s.text s.answers → (w : View) → Here at (lo ∷ hi ∷ []) m t answers w → Matches around (record { state = s; rest = Whole; slots = r }) w
+  arrived s r at m t answers there hs all en text got short w e = record {
     pc = e.pc ∙ there;
     stack = e.stack;
     binary = e.binary;
@@ -87,14 +87,14 @@ module _ (around : Surroundings) where
 
   module _ (code : SlotCode) where
     -- a word was written to where it goes, over a memory that still held all
-    pub word_lands : (n : ℕ) → n < 65536 → (u : Live) (d : Destination) (is : List Instr) (s : State) (r q : Slots) (v l h at : ℕ) (m : ℕ → ℕ) (t gets : List ℕ) → l ≡ v % 256 → h ≡ v / 256 → v < 65536 → DestFits d → Lasting u d is r q → GroupsLie ly f.code n at (select is) → Kept u s r m → t ≡ s.text → gets ≡ s.answers → Typable keys s.text s.answers → (w : View) → Here at (lo ∷ hi ∷ []) (put_word m (destination_at d) l h) t gets w → Matches around (line code n is (landed d v s) (slots_landed d v (with_word q (slot_of d) v))) w
-    word_lands n number u d is s r q v l h at m t gets el eh small fit last rl c text got short w e =
+    pub word_lands : (n : ℕ) → n < 65536 → (u : Live) (d : Destination) (is : List Instr) (s : State) (r q : Slots) (v l h at : ℕ) (m : ℕ → ℕ) (t answers : List ℕ) → l ≡ v % 256 → h ≡ v / 256 → v < 65536 → DestFits d → Lasting u d is r q → GroupsLie ly f.code n at (select is) → Kept u s r m → t ≡ s.text → answers ≡ s.answers → Typable keys s.text s.answers → (w : View) → Here at (lo ∷ hi ∷ []) (put_word m (destination_at d) l h) t answers w → Matches around (line code n is (landed d v s) (slots_landed d v (with_word q (slot_of d) v))) w
+    word_lands n number u d is s r q v l h at m t answers el eh small fit last rl c text got short w e =
         let m' = put_word m (destination_at d) l h in
         let there : WordAt m' (destination_at d) v = word_put m (destination_at d) l h v el eh small in
         let away : Elsewhere m m' (destination_at d) = λ p x y. put_away m (destination_at d) l h p x y in
         let same = landed_text d v s in
         let left = landed_answers d v s in
-        stood around code n number is (landed d v s) (slots_landed d v (with_word q (slot_of d) v)) at m' t gets rl
+        stood around code n number is (landed d v s) (slots_landed d v (with_word q (slot_of d) v)) at m' t answers rl
         (state_landed ly s m m' d v fit c.state there away)
         (read_landed u d is r q m m' v fit last c.read there away)
         (homed_kept m m' (home_kept d fit m m' away) c.homed)

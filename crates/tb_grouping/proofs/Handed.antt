@@ -125,11 +125,11 @@ module _ {around : Surroundings} (fits : Fits around.f 16) {n : ℕ} {g : Group}
 
     -- and on, where it gives a word
     pub gives : (code : SlotCode) (s' : State) (q : Slots) (v limit : ℕ) → Gives from → DestFits d → Lasting (live js) d is r q → GroupsLie ly f.code n (at + pieces_size (routine entry from a b (destination_at d))) (select is) → w.text ≡ s'.text → w.answers ≡ s'.answers → Typable keys s'.text s'.answers → ((l k : ℕ) (m' : ℕ → ℕ) → Handed m x y m' → Moves f (Here entry (l ∷ k ∷ own) m' w.text w.answers) (Given from (back_at l k) s' v) [] limit) → Moves f (Here at own m w.text w.answers) (Matches around (line code n is (landed d v s') (slots_landed d v (with_word q (slot_of d) v)))) [] (13 + limit)
-    gives code s' q v limit g fit last rest text gets short does u e =
+    gives code s' q v limit g fit last rest text answers short does u e =
         looser f u _ _ [] (9 + (limit + 4)) (13 + limit) (omega arith) (λ v z. z)
         (asks _ [] (limit + 4) (λ m' k u e.
         chained f u _ _ [] [] limit 4 (does _ _ m' k u e) (λ u c'.
         looser f u _ _ [] 4 4 (omega arith)
-        (word_lands around code n h.small (live js) d is s' r q v _ _ end_at u.mem w.text w.answers c'.result.low c'.result.high c'.result.small fit last (subst (λ p. GroupsLie ly f.code n p (select is)) behind_is rest) c'.kept text gets short)
+        (word_lands around code n h.small (live js) d is s' r q v _ _ end_at u.mem w.text w.answers c'.result.low c'.result.high c'.result.small fit last (subst (λ p. GroupsLie ly f.code n p (select is)) behind_is rest) c'.kept text answers short)
         (copies f 16 fits (place + 3) own u.mem w.text w.answers refl from (destination_at d) lies.2.2.2.0 g.0 (dest_in_data d fit) (g.1 d fit) lies.2.2.2.1 u
         (record { pc = c'.here.pc ∙ comes_back entry at a b taken m c lies x y ga gb ha hb; stack = c'.here.stack; binary = c'.here.binary; mem = refl; text = c'.here.text; answers = c'.here.answers })))) u e)

@@ -40,34 +40,34 @@ use Rattle.tb_grouping.proofs.TestLaws.{lies_parts}
 use Rattle.tb_grouping.proofs.Surroundings.{Serves, Surroundings}
 
 -- ---- single instructions
-module _ (f : Setup) (room : ℕ) (fits : Fits f room) (at : ℕ) (bs : List ℕ) (m : ℕ → ℕ) (keys gets : List ℕ) (small : leb (length bs) room ≡ true) where
-  masks : (b a : ℕ) → at + 2 ≤ highest_code → Bytes f.code at (instr_bytes (ins 0x29 b)) → Moves f (WithA at a bs m keys gets) (Flagged (at + 2) bs m keys gets (eqb (bit_and a b) 0)) [] 1
-  masks b a r st = whatever_a f room fits at a bs m keys gets _ [] 1 (λ x y n v i z c.
-      placed_last f room fits (ins 0x29 b) (view a x y n v i z c at bs m keys gets) _ _ small st refl (record { here = record { pc = let e : (at + 2) % 65536 ≡ at + 2 = omega arith in e; stack = refl; binary = refl; mem = refl; text = refl; answers = refl }; zero = refl }))
+module _ (f : Setup) (room : ℕ) (fits : Fits f room) (at : ℕ) (bs : List ℕ) (m : ℕ → ℕ) (text answers : List ℕ) (small : leb (length bs) room ≡ true) where
+  masks : (b a : ℕ) → at + 2 ≤ highest_code → Bytes f.code at (instr_bytes (ins 0x29 b)) → Moves f (WithA at a bs m text answers) (Flagged (at + 2) bs m text answers (eqb (bit_and a b) 0)) [] 1
+  masks b a r st = whatever_a f room fits at a bs m text answers _ [] 1 (λ x y n v i z c.
+      placed_last f room fits (ins 0x29 b) (view a x y n v i z c at bs m text answers) _ _ small st refl (record { here = record { pc = let e : (at + 2) % 65536 ≡ at + 2 = omega arith in e; stack = refl; binary = refl; mem = refl; text = refl; answers = refl }; zero = refl }))
 
-  joins : (p a : ℕ) → is_data p ≡ true → at + 3 ≤ highest_code → Bytes f.code at (instr_bytes (ins 0x0D p)) → Moves f (WithA at a bs m keys gets) (Flagged (at + 3) bs m keys gets (eqb (bit_or a (m p)) 0)) [] 1
-  joins p a d r st = whatever_a f room fits at a bs m keys gets _ [] 1 (λ x y n v i z c.
-      loads_last f room fits 0x0D p Ora (view a x y n v i z c at bs m keys gets) _ _ refl refl refl small st d refl (record { here = record { pc = let e : (at + 3) % 65536 ≡ at + 3 = omega arith in e; stack = refl; binary = refl; mem = refl; text = refl; answers = refl }; zero = refl }))
+  joins : (p a : ℕ) → is_data p ≡ true → at + 3 ≤ highest_code → Bytes f.code at (instr_bytes (ins 0x0D p)) → Moves f (WithA at a bs m text answers) (Flagged (at + 3) bs m text answers (eqb (bit_or a (m p)) 0)) [] 1
+  joins p a d r st = whatever_a f room fits at a bs m text answers _ [] 1 (λ x y n v i z c.
+      loads_last f room fits 0x0D p Ora (view a x y n v i z c at bs m text answers) _ _ refl refl refl small st d refl (record { here = record { pc = let e : (at + 3) % 65536 ≡ at + 3 = omega arith in e; stack = refl; binary = refl; mem = refl; text = refl; answers = refl }; zero = refl }))
 
 -- ---- Z
-module _ (f : Setup) (room : ℕ) (fits : Fits f room) (at : ℕ) (bs : List ℕ) (m : ℕ → ℕ) (keys gets : List ℕ) (small : leb (length bs) room ≡ true) where
+module _ (f : Setup) (room : ℕ) (fits : Fits f room) (at : ℕ) (bs : List ℕ) (m : ℕ → ℕ) (text answers : List ℕ) (small : leb (length bs) room ≡ true) where
   tells_bits : (bits : ℕ) (a : Source) → at + size (lowest_bits bits a) ≤ highest_code → IsRead (low a) → Stands f.code at (lowest_bits bits a)
-      → Moves f (Here at bs m keys gets) (Flagged (at + size (lowest_bits bits a)) bs m keys gets (eqb (bit_and (value m (low a)) bits) 0)) [] 2
+      → Moves f (Here at bs m text answers) (Flagged (at + size (lowest_bits bits a)) bs m text answers (eqb (bit_and (value m (low a)) bits) 0)) [] 2
   tells_bits bits a r d st =
       let p1 = at + len (lda (low a)) in
       let s1 = behind f.code at (lda (low a)) (ins 0x29 bits ∷ []) (omega (arith, r)) st in
-      moves_then f _ _ _ [] [] 1 1 (loads_byte f room fits at bs m keys gets small (low a) d (omega (arith, r)) st.0)
+      moves_then f _ _ _ [] [] 1 1 (loads_byte f room fits at bs m text answers small (low a) d (omega (arith, r)) st.0)
       (moves_looser f _ _ _ [] 1 1 (omega arith)
       (λ w h. record { here = record { pc = h.here.pc ∙ (let q : p1 + 2 ≡ at + size (lowest_bits bits a) = omega arith in q); stack = h.here.stack; binary = h.here.binary; mem = h.here.mem; text = h.here.text; answers = h.here.answers }; zero = h.zero })
-      (masks f room fits p1 bs m keys gets small bits (value m (low a)) (omega (arith, r)) s1.0))
+      (masks f room fits p1 bs m text answers small bits (value m (low a)) (omega (arith, r)) s1.0))
 
-  tells_rest : (v : ℕ) → at + size told ≤ highest_code → WordAt m RESULT v → Stands f.code at told → Moves f (Here at bs m keys gets) (Flagged (at + size told) bs m keys gets (nat_eq v 0)) [] 2
+  tells_rest : (v : ℕ) → at + size told ≤ highest_code → WordAt m RESULT v → Stands f.code at told → Moves f (Here at bs m text answers) (Flagged (at + size told) bs m text answers (nat_eq v 0)) [] 2
   tells_rest v r is st =
       let s1 = behind f.code at (ins 0xAD RESULT) (ins 0x0D (RESULT + 1) ∷ []) (omega (arith, r)) st in
-      moves_then f _ _ _ [] [] 1 1 (loads_byte f room fits at bs m keys gets small (At RESULT) refl (omega (arith, r)) st.0)
+      moves_then f _ _ _ [] [] 1 1 (loads_byte f room fits at bs m text answers small (At RESULT) refl (omega (arith, r)) st.0)
       (moves_looser f _ _ _ [] 1 1 (omega arith)
       (λ w h. record { here = record { pc = h.here.pc ∙ (let q : at + 3 + 3 ≡ at + size told = omega arith in q); stack = h.here.stack; binary = h.here.binary; mem = h.here.mem; text = h.here.text; answers = h.here.answers }; zero = h.zero ∙ (λ i. eqb (bit_or (is.low i) (is.high i)) 0) ∙ either_byte v })
-      (joins f room fits (at + 3) bs m keys gets small (RESULT + 1) (m RESULT) refl (omega (arith, r)) s1.0))
+      (joins f room fits (at + 3) bs m text answers small (RESULT + 1) (m RESULT) refl (omega (arith, r)) s1.0))
 
 pub pieces_append : (ps qs : List Piece) → pieces_size (ps ++ qs) ≡ pieces_size ps + pieces_size qs
 pieces_append [] qs = omega arith

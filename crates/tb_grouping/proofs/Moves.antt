@@ -121,8 +121,8 @@ module _ (around : Surroundings) (fits : Fits around.f 16) (code : SlotCode) (n 
       by (IntoVariable x) = refl
       by IntoHeld = refl
 
-  gets : (landed (IntoHome home) v s).answers ≡ s.answers
-  gets = by home
+  answers : (landed (IntoHome home) v s).answers ≡ s.answers
+  answers = by home
     where
       by : (home : Home) → (landed (IntoHome home) v s).answers ≡ s.answers
       by (IntoVariable x) = refl
@@ -137,6 +137,6 @@ module _ (around : Surroundings) (fits : Fits around.f 16) (code : SlotCode) (n 
       (stood around code n h.small is (landed (IntoHome home) v s) (moved s r a home) (w.regs.pc + size text) after w.text w.answers (subst (λ p. GroupsLie ly f.code n p (select is)) behind h.rest)
       (state_landed ly s w.mem after (IntoHome home) v fit.1 h.state there away) read_on
       (homed_kept w.mem after (home_kept (IntoHome home) fit.1 w.mem after away) h.homed)
-      (h.text ∙ sym texts) (h.answers ∙ sym gets)
-      (record { short = subst (λ t. length t ≤ keys) (sym texts) h.short.short; text_bytes = subst AllBytes (sym texts) h.short.text_bytes; answer_bytes = subst AllBytes (sym gets) h.short.answer_bytes }))
+      (h.text ∙ sym texts) (h.answers ∙ sym answers)
+      (record { short = subst (λ t. length t ≤ keys) (sym texts) h.short.short; text_bytes = subst AllBytes (sym texts) h.short.text_bytes; answer_bytes = subst AllBytes (sym answers) h.short.answer_bytes }))
       (brings f 16 fits w.regs.pc (lo ∷ hi ∷ []) w.mem w.text w.answers refl (source_of 0 a) (home_at home) h.lies.0 (operand_grounded 0 a (IntoHome home) (omega arith) fit.0) (dest_in_data (IntoHome home) fit.1) h.lies.1 w (here h)))

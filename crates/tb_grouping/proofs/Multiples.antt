@@ -36,10 +36,10 @@ use Rattle.tb_grouping.proofs.Surroundings.{Surroundings}
 use Rattle.tb_grouping.proofs.Calculated.{Leads, calculation, fit, leads_on, result_lands}
 use Rattle.tb_keeping.proofs.Returning.{apart}
 
-module _ (f : Setup) (room : ℕ) (fits : Fits f room) (bs : List ℕ) (m : ℕ → ℕ) (keys gets : List ℕ) (small : leb (length bs) room ≡ true) where
+module _ (f : Setup) (room : ℕ) (fits : Fits f room) (bs : List ℕ) (m : ℕ → ℕ) (text answers : List ℕ) (small : leb (length bs) room ≡ true) where
   -- the low byte of a word in A and its high byte in LEFT; the rest of the memory is m
   pub record LowInA (at v : ℕ) (w : View) : Type 0 where
-    pub here : Here at bs w.mem keys gets w
+    pub here : Here at bs w.mem text answers w
     pub low : w.regs.a ≡ v % 256
     pub high : w.mem LEFT ≡ v / 256
     pub is_word : v < 65536
@@ -66,7 +66,7 @@ module _ (f : Setup) (room : ℕ) (fits : Fits f room) (bs : List ℕ) (m : ℕ 
           is_word = omega arith;
           others = λ p n. ap (λ m. m p) k.here.mem ∙ put_other w.mem LEFT h p n ∙ e.others p n;
         })
-        (doubles f room fits at bs w.mem keys gets small w.regs.a r st w (record { here = e.here; number = refl }))
+        (doubles f room fits at bs w.mem text answers small w.regs.a r st w (record { here = e.here; number = refl }))
 
     increases_on : (at v : ℕ) → at + size (increased a) ≤ highest_code → Stands f.code at (increased a) → Moves f (LowInA at v) (LowInA (at + size (increased a)) (word (v + x))) [] 7
     increases_on at v r st w e =
@@ -83,7 +83,7 @@ module _ (f : Setup) (room : ℕ) (fits : Fits f room) (bs : List ℕ) (m : ℕ 
           is_word = omega arith;
           others = λ p n. ap (λ m. m p) k.here.mem ∙ put_other w.mem LEFT h p n ∙ e.others p n;
         })
-        (increases f room fits at bs w.mem keys gets small w.regs.a a r (low_read a LEFT ga) (high_read a LEFT ga) st w (record { here = e.here; number = refl }))
+        (increases f room fits at bs w.mem text answers small w.regs.a a r (low_read a LEFT ga) (high_read a LEFT ga) st w (record { here = e.here; number = refl }))
 
     -- by a bit
     abbrev by : Bool → ℕ → ℕ
@@ -172,7 +172,7 @@ module _ (f : Setup) (room : ℕ) (fits : Fits f room) (bs : List ℕ) (m : ℕ 
       still : (p : ℕ) → p ≢ LEFT → with_byte m LEFT h p ≡ m p
       still p n = put_other m LEFT h p n
 
-      begun_here : (u : View) → WithA p1 (value m (low a)) bs (with_byte m LEFT h) keys gets u → LowInA p1 x u
+      begun_here : (u : View) → WithA p1 (value m (low a)) bs (with_byte m LEFT h) text answers u → LowInA p1 x u
       begun_here u g = record {
         here = record { pc = g.here.pc; stack = g.here.stack; binary = g.here.binary; mem = refl; text = g.here.text; answers = g.here.answers };
         low = g.number ∙ ha.low_byte;
@@ -181,11 +181,11 @@ module _ (f : Setup) (room : ℕ) (fits : Fits f room) (bs : List ℕ) (m : ℕ 
         others = λ p n. ap (λ m. m p) g.here.mem ∙ still p n;
       }
 
-      pub multiplies_then : (q : View → Type 0) (j : ℕ) → Moves f (LowInA p2 (word (x * factor))) q [] j → Moves f (Here at bs m keys gets) q [] (138 + j)
+      pub multiplies_then : (q : View → Type 0) (j : ℕ) → Moves f (LowInA p2 (word (x * factor))) q [] j → Moves f (Here at bs m text answers) q [] (138 + j)
       multiplies_then q j next w e =
           let all : pow2 16 ≡ 65536 = refl in
           looser f w q q [] (3 + (9 * 15 + j)) (138 + j) (omega arith) (λ u z. z)
-          (chained f w _ q [] [] 3 (9 * 15 + j) (begins f room fits at bs m keys gets small a (omega (arith, r, sizes)) ga (low_still (with_byte m LEFT h) still a away) s1.0 w e) (λ u g.
+          (chained f w _ q [] [] 3 (9 * 15 + j) (begins f room fits at bs m text answers small a (omega (arith, r, sizes)) ga (low_still (with_byte m LEFT h) still a away) s1.0 w e) (λ u g.
           bits_then 15 factor p1 some (omega (arith, few, all)) (omega (arith, r, sizes)) s2.0 q j next u (begun_here u g)))
 
 module _ {around : Surroundings} (fits : Fits around.f 16) (code : SlotCode) {n : ℕ} {a b : Operand} {d : Destination} {is : List Instr} {s : State} {r : Slots} {w : View} (h : Ready around n (Calculate op.Multiply a b d) (spread op.Multiply a b d is) is s r w)

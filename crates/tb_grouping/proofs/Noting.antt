@@ -22,35 +22,35 @@ use Rattle.tb_grouping.proofs.GroupCode.{BranchReaches, Way, Zero, asked, branch
 note_place : (a : ℕ) → 0xC100 ≤ a → a ≤ 0xC4F3 → is_data a ≡ true
 note_place a lo hi = grind (arith, nat_tests)
 
-module _ (f : Setup) (room : ℕ) (fits : Fits f room) (bs : List ℕ) (m : ℕ → ℕ) (keys gets : List ℕ) (small : leb (length bs) room ≡ true) where
+module _ (f : Setup) (room : ℕ) (fits : Fits f room) (bs : List ℕ) (m : ℕ → ℕ) (text answers : List ℕ) (small : leb (length bs) room ≡ true) where
   -- at an address with a known X
   pub record Indexed (at x : ℕ) (w : View) : Type 0 where
-    pub here : Here at bs m keys gets w
+    pub here : Here at bs m text answers w
     pub index : w.regs.x ≡ x
 
-  whatever_x : (at x : ℕ) (q : View → Type 0) (t : List ℕ) (l : ℕ) → ((a y : ℕ) (n v i z c : Bool) → Comes f (view a x y n v i z c at bs m keys gets) q t l) → Moves f (Indexed at x) q t l
+  whatever_x : (at x : ℕ) (q : View → Type 0) (t : List ℕ) (l : ℕ) → ((a y : ℕ) (n v i z c : Bool) → Comes f (view a x y n v i z c at bs m text answers) q t l) → Moves f (Indexed at x) q t l
   whatever_x at x q t l h w e =
-      known f w at bs keys gets q t l e.here.pc e.here.stack e.here.binary e.here.text e.here.answers
-      (subst (λ m. Comes f (view w.regs.a w.regs.x w.regs.y w.regs.flags.n w.regs.flags.v w.regs.flags.i w.regs.flags.z w.regs.flags.c at bs m keys gets) q t l) (sym e.here.mem)
-      (subst (λ x. Comes f (view w.regs.a x w.regs.y w.regs.flags.n w.regs.flags.v w.regs.flags.i w.regs.flags.z w.regs.flags.c at bs m keys gets) q t l) (sym e.index) (h _ _ _ _ _ _ _)))
+      known f w at bs text answers q t l e.here.pc e.here.stack e.here.binary e.here.text e.here.answers
+      (subst (λ m. Comes f (view w.regs.a w.regs.x w.regs.y w.regs.flags.n w.regs.flags.v w.regs.flags.i w.regs.flags.z w.regs.flags.c at bs m text answers) q t l) (sym e.here.mem)
+      (subst (λ x. Comes f (view w.regs.a x w.regs.y w.regs.flags.n w.regs.flags.v w.regs.flags.i w.regs.flags.z w.regs.flags.c at bs m text answers) q t l) (sym e.index) (h _ _ _ _ _ _ _)))
 
   -- a byte of data in X, and whether it is 0
   record Loaded (at x : ℕ) (w : View) : Type 0 where
     indexed : Indexed at x w
     zero : w.regs.flags.z ≡ eqb x 0
 
-  loads_x : (at p : ℕ) → at + 3 ≤ highest_code → is_data p ≡ true → Bytes f.code at (instr_bytes (ins 0xAE p)) → Moves f (Here at bs m keys gets) (Loaded (at + 3) (m p)) [] 1
-  loads_x at p r d st = whatever f room fits at bs m keys gets _ [] 1 (λ a x y n v i z c.
-      loads_last f room fits 0xAE p Ldx (view a x y n v i z c at bs m keys gets) _ _ refl refl refl small st d refl
+  loads_x : (at p : ℕ) → at + 3 ≤ highest_code → is_data p ≡ true → Bytes f.code at (instr_bytes (ins 0xAE p)) → Moves f (Here at bs m text answers) (Loaded (at + 3) (m p)) [] 1
+  loads_x at p r d st = whatever f room fits at bs m text answers _ [] 1 (λ a x y n v i z c.
+      loads_last f room fits 0xAE p Ldx (view a x y n v i z c at bs m text answers) _ _ refl refl refl small st d refl
       (record { indexed = record { here = record { pc = let e : (at + 3) % 65536 ≡ at + 3 = omega (arith, r) in e; stack = refl; binary = refl; mem = refl; text = refl; answers = refl }; index = refl }; zero = refl }))
 
   -- where a branch leads by whether such a byte is 0
-  pub asks : (at p to : ℕ) (way : Way) (wanted t : Bool) (ps : List Piece) → is_data p ≡ true → eqb (m p) 0 ≡ t → BranchReaches way (at + 3) to → Lies f.code at (Code (asked p) ∷ Code (branch_code way (branch_on Zero wanted) (at + 3) to) ∷ ps) → Moves f (Here at bs m keys gets) (Indexed (cond (is_taken wanted t) to (at + 3 + way_size way)) (m p)) [] 3
+  pub asks : (at p to : ℕ) (way : Way) (wanted t : Bool) (ps : List Piece) → is_data p ≡ true → eqb (m p) 0 ≡ t → BranchReaches way (at + 3) to → Lies f.code at (Code (asked p) ∷ Code (branch_code way (branch_on Zero wanted) (at + 3) to) ∷ ps) → Moves f (Here at bs m text answers) (Indexed (cond (is_taken wanted t) to (at + 3 + way_size way)) (m p)) [] 3
   asks at p to way wanted t ps d e reach lies w h =
       let room_behind = branch_behind f (at + 3) way Zero wanted to ps lies.2 in
       chained f w _ _ [] [] 1 2 (loads_x at p lies.0 d lies.1.0 w h) (λ u g.
       looser f u _ _ [] 2 2 (omega arith) (λ v k. record { here = k.here; index = k.index ∙ g.indexed.index })
-      (branches f room fits bs m keys gets small (at + 3) way Zero wanted t to room_behind.0 reach lies.2.1 u g.indexed.here (g.zero ∙ e)))
+      (branches f room fits bs m text answers small (at + 3) way Zero wanted t to room_behind.0 reach lies.2.1 u g.indexed.here (g.zero ∙ e)))
 
   -- ---- a note's bytes by X
   stores_by_x : (base p : ℕ) (v : View) (q : View → Type 0) (t : List ℕ) (n : ℕ) → leb (length v.stack) room ≡ true → Bytes f.code v.regs.pc (instr_bytes (ins 0x9D base)) → (base + v.regs.x) % 65536 ≡ p → is_data p ≡ true → Comes f (record v { regs = advanced v.regs AbsoluteX; mem = with_byte v.mem p v.regs.a }) q t n → Comes f v q t (1 + n)
@@ -69,20 +69,20 @@ module _ (f : Setup) (room : ℕ) (fits : Fits f room) (bs : List ℕ) (m : ℕ 
     abbrev pub counted : ℕ → ℕ
     counted = with_byte with_note NOTES ((with_note NOTES + 1) % 256)
 
-    pub stores_note : at + 16 ≤ highest_code → Stands f.code at (note_stored l h) → Moves f (Here at bs m keys gets) (Flagged (at + 16) bs counted keys gets (eqb ((with_note NOTES + 1) % 256) 0)) [] 6
-    stores_note r st = whatever f room fits at bs m keys gets _ [] 6 (λ a x y n v i z c.
-        does f room fits (ins 0xAE NOTES) (view a x y n v i z c at bs m keys gets) _ _ [] 5 small st.0 refl
-        (does f room fits (ins 0xA9 l) (view a (m NOTES) y _ v i _ c ((at + 3) % 65536) bs m keys gets) _ _ [] 4 small st.1.0 refl
-        (stores_by_x NOTE_LOW (NOTE_LOW + m NOTES) (view l (m NOTES) y _ v i _ c ((((at + 3) % 65536) + 2) % 65536) bs m keys gets) _ [] 3 small st.1.1.0 (omega (arith, few)) (note_place (NOTE_LOW + m NOTES) (omega arith) (omega (arith, few)))
-        (does f room fits (ins 0xA9 h) (view l (m NOTES) y _ v i _ c ((((((at + 3) % 65536) + 2) % 65536) + 3) % 65536) bs _ keys gets) _ _ [] 2 small st.1.1.1.0 refl
-        (stores_by_x NOTE_HIGH (NOTE_HIGH + m NOTES) (view h (m NOTES) y _ v i _ c ((((((((at + 3) % 65536) + 2) % 65536) + 3) % 65536) + 2) % 65536) bs _ keys gets) _ [] 1 small st.1.1.1.1.0 (omega (arith, few)) (note_place (NOTE_HIGH + m NOTES) (omega arith) (omega (arith, few)))
-        (placed_last f room fits (ins 0xEE NOTES) (view h (m NOTES) y _ v i _ c ((((((((((at + 3) % 65536) + 2) % 65536) + 3) % 65536) + 2) % 65536) + 3) % 65536) bs with_note keys gets) _ _ small st.1.1.1.1.1.0 refl
+    pub stores_note : at + 16 ≤ highest_code → Stands f.code at (note_stored l h) → Moves f (Here at bs m text answers) (Flagged (at + 16) bs counted text answers (eqb ((with_note NOTES + 1) % 256) 0)) [] 6
+    stores_note r st = whatever f room fits at bs m text answers _ [] 6 (λ a x y n v i z c.
+        does f room fits (ins 0xAE NOTES) (view a x y n v i z c at bs m text answers) _ _ [] 5 small st.0 refl
+        (does f room fits (ins 0xA9 l) (view a (m NOTES) y _ v i _ c ((at + 3) % 65536) bs m text answers) _ _ [] 4 small st.1.0 refl
+        (stores_by_x NOTE_LOW (NOTE_LOW + m NOTES) (view l (m NOTES) y _ v i _ c ((((at + 3) % 65536) + 2) % 65536) bs m text answers) _ [] 3 small st.1.1.0 (omega (arith, few)) (note_place (NOTE_LOW + m NOTES) (omega arith) (omega (arith, few)))
+        (does f room fits (ins 0xA9 h) (view l (m NOTES) y _ v i _ c ((((((at + 3) % 65536) + 2) % 65536) + 3) % 65536) bs _ text answers) _ _ [] 2 small st.1.1.1.0 refl
+        (stores_by_x NOTE_HIGH (NOTE_HIGH + m NOTES) (view h (m NOTES) y _ v i _ c ((((((((at + 3) % 65536) + 2) % 65536) + 3) % 65536) + 2) % 65536) bs _ text answers) _ [] 1 small st.1.1.1.1.0 (omega (arith, few)) (note_place (NOTE_HIGH + m NOTES) (omega arith) (omega (arith, few)))
+        (placed_last f room fits (ins 0xEE NOTES) (view h (m NOTES) y _ v i _ c ((((((((((at + 3) % 65536) + 2) % 65536) + 3) % 65536) + 2) % 65536) + 3) % 65536) bs with_note text answers) _ _ small st.1.1.1.1.1.0 refl
         (record { here = record { pc = omega (arith, r); stack = refl; binary = refl; mem = refl; text = refl; answers = refl }; zero = refl })))))))
 
   -- the high byte of the count goes up
-  pub raises : (at : ℕ) → at + 3 ≤ highest_code → Stands f.code at (ins 0xEE (NOTES + 1) ∷ []) → Moves f (Here at bs m keys gets) (Here (at + 3) bs (with_byte m (NOTES + 1) ((m (NOTES + 1) + 1) % 256)) keys gets) [] 1
-  raises at r st = whatever f room fits at bs m keys gets _ [] 1 (λ a x y n v i z c.
-      placed_last f room fits (ins 0xEE (NOTES + 1)) (view a x y n v i z c at bs m keys gets) _ _ small st.0 refl
+  pub raises : (at : ℕ) → at + 3 ≤ highest_code → Stands f.code at (ins 0xEE (NOTES + 1) ∷ []) → Moves f (Here at bs m text answers) (Here (at + 3) bs (with_byte m (NOTES + 1) ((m (NOTES + 1) + 1) % 256)) text answers) [] 1
+  raises at r st = whatever f room fits at bs m text answers _ [] 1 (λ a x y n v i z c.
+      placed_last f room fits (ins 0xEE (NOTES + 1)) (view a x y n v i z c at bs m text answers) _ _ small st.0 refl
       (record { pc = omega (arith, r); stack = refl; binary = refl; mem = refl; text = refl; answers = refl }))
 
   module _ (at x : ℕ) (few : x < 256) where
@@ -99,14 +99,14 @@ module _ (f : Setup) (room : ℕ) (fits : Fits f room) (bs : List ℕ) (m : ℕ 
     abbrev pub taken : ℕ → ℕ
     taken = with_byte half_taken (RESULT + 1) (half_taken (NOTE_HIGH + left))
 
-    pub takes_note : at + 16 ≤ highest_code → Stands f.code at note_taken → Moves f (Indexed at x) (Here (at + 16) bs taken keys gets) [] 6
+    pub takes_note : at + 16 ≤ highest_code → Stands f.code at note_taken → Moves f (Indexed at x) (Here (at + 16) bs taken text answers) [] 6
     takes_note r st = whatever_x at x _ [] 6 (λ a y n v i z c.
-        does f room fits (ins 0xCA 0) (view a x y n v i z c at bs m keys gets) _ _ [] 5 small st.0 refl
-        (does f room fits (ins 0x8E NOTES) (view a left y _ v i _ c ((at + 1) % 65536) bs m keys gets) _ _ [] 4 small st.1.0 refl
-        (loads_by_x NOTE_LOW (NOTE_LOW + left) (view a left y _ v i _ c ((((at + 1) % 65536) + 3) % 65536) bs less keys gets) _ _ [] 3 small st.1.1.0 (omega arith) (note_place (NOTE_LOW + left) (omega arith) (omega arith)) refl
-        (stores f room fits RESULT (view _ left y _ v i _ c ((((((at + 1) % 65536) + 3) % 65536) + 3) % 65536) bs less keys gets) _ [] 2 small st.1.1.1.0 refl
-        (loads_by_x NOTE_HIGH (NOTE_HIGH + left) (view _ left y _ v i _ c ((((((((at + 1) % 65536) + 3) % 65536) + 3) % 65536) + 3) % 65536) bs half_taken keys gets) _ _ [] 1 small st.1.1.1.1.0 (omega arith) (note_place (NOTE_HIGH + left) (omega arith) (omega arith)) refl
-        (stores_last f room fits (RESULT + 1) (view _ left y _ v i _ c ((((((((((at + 1) % 65536) + 3) % 65536) + 3) % 65536) + 3) % 65536) + 3) % 65536) bs half_taken keys gets) _ small st.1.1.1.1.1.0 refl
+        does f room fits (ins 0xCA 0) (view a x y n v i z c at bs m text answers) _ _ [] 5 small st.0 refl
+        (does f room fits (ins 0x8E NOTES) (view a left y _ v i _ c ((at + 1) % 65536) bs m text answers) _ _ [] 4 small st.1.0 refl
+        (loads_by_x NOTE_LOW (NOTE_LOW + left) (view a left y _ v i _ c ((((at + 1) % 65536) + 3) % 65536) bs less text answers) _ _ [] 3 small st.1.1.0 (omega arith) (note_place (NOTE_LOW + left) (omega arith) (omega arith)) refl
+        (stores f room fits RESULT (view _ left y _ v i _ c ((((((at + 1) % 65536) + 3) % 65536) + 3) % 65536) bs less text answers) _ [] 2 small st.1.1.1.0 refl
+        (loads_by_x NOTE_HIGH (NOTE_HIGH + left) (view _ left y _ v i _ c ((((((((at + 1) % 65536) + 3) % 65536) + 3) % 65536) + 3) % 65536) bs half_taken text answers) _ _ [] 1 small st.1.1.1.1.0 (omega arith) (note_place (NOTE_HIGH + left) (omega arith) (omega arith)) refl
+        (stores_last f room fits (RESULT + 1) (view _ left y _ v i _ c ((((((((((at + 1) % 65536) + 3) % 65536) + 3) % 65536) + 3) % 65536) + 3) % 65536) bs half_taken text answers) _ small st.1.1.1.1.1.0 refl
         (record { pc = omega (arith, r); stack = refl; binary = refl; mem = refl; text = refl; answers = refl })))))))
 
 -- ---- what they leave in memory

@@ -86,8 +86,8 @@ module _ (around : Surroundings) where
       subst (λ l. Comes f w (Target around (first code l (line code n js s r))) (sent_in (first code l (line code n js s r))) k) (sym e) h
 
   -- ---- behind a group
-  pub stood : (code : SlotCode) (n : ℕ) → n < 65536 → (is : List Instr) (s : State) (r : Slots) (at : ℕ) (m : ℕ → ℕ) (t gets : List ℕ) → GroupsLie ly f.code n at (select is) → HoldsState ly s m → HoldsLive (live is) r m → Entered f lo hi m → t ≡ s.text → gets ≡ s.answers → Typable keys s.text s.answers → (w : View) → Here at (lo ∷ hi ∷ []) m t gets w → Matches around (line code n is s r) w
-  stood code n number is s r at m t gets rl hs hr en text got short w e = record {
+  pub stood : (code : SlotCode) (n : ℕ) → n < 65536 → (is : List Instr) (s : State) (r : Slots) (at : ℕ) (m : ℕ → ℕ) (t answers : List ℕ) → GroupsLie ly f.code n at (select is) → HoldsState ly s m → HoldsLive (live is) r m → Entered f lo hi m → t ≡ s.text → answers ≡ s.answers → Typable keys s.text s.answers → (w : View) → Here at (lo ∷ hi ∷ []) m t answers w → Matches around (line code n is s r) w
+  stood code n number is s r at m t answers rl hs hr en text got short w e = record {
     pc = (subst (λ p. GroupsLie ly f.code n p (select is)) (sym e.pc) rl, number);
     stack = e.stack;
     binary = e.binary;

@@ -33,10 +33,10 @@ use Rattle.tb_grouping.proofs.Surroundings.{Surroundings}
 use Rattle.tb_grouping.proofs.Calculated.{Leads, calculation, fit, leads_on, left_apart, left_holds, quotient_is, result_lands}
 use Rattle.tb_keeping.proofs.Returning.{apart}
 
-module _ (f : Setup) (room : ℕ) (fits : Fits f room) (bs : List ℕ) (m : ℕ → ℕ) (keys gets : List ℕ) (small : leb (length bs) room ≡ true) where
+module _ (f : Setup) (room : ℕ) (fits : Fits f room) (bs : List ℕ) (m : ℕ → ℕ) (text answers : List ℕ) (small : leb (length bs) room ≡ true) where
   -- the high byte of a word in A and its low byte in LEFT; the rest of the memory is m
   pub record HighInA (at v : ℕ) (w : View) : Type 0 where
-    pub here : Here at bs w.mem keys gets w
+    pub here : Here at bs w.mem text answers w
     pub high : w.regs.a ≡ v / 256
     pub low : w.mem LEFT ≡ v % 256
     pub is_word : v < 65536
@@ -54,7 +54,7 @@ module _ (f : Setup) (room : ℕ) (fits : Fits f room) (bs : List ℕ) (m : ℕ 
         is_word = halve_small v e.is_word;
         others = λ p n. ap (λ m. m p) k.here.mem ∙ put_other w.mem LEFT l p n ∙ e.others p n;
       })
-      (halves f room fits at bs w.mem keys gets small h r st w (record { here = e.here; number = refl }))
+      (halves f room fits at bs w.mem text answers small h r st w (record { here = e.here; number = refl }))
 
   -- so many halves, and then
   halves_then : (k at v : ℕ) → at + size (halvings k) ≤ highest_code → Stands f.code at (halvings k) → (q : View → Type 0) (n : ℕ) → Moves f (HighInA (at + size (halvings k)) (halve_times k v)) q [] n → Moves f (HighInA at v) q [] (3 * k + n)
@@ -120,7 +120,7 @@ module _ (f : Setup) (room : ℕ) (fits : Fits f room) (bs : List ℕ) (m : ℕ 
     same_sign = ap (nat_le 128) ha.high_byte ∙ sign_is x ha.small
 
     -- the word raised where it is negative
-    raised_here : (u : View) → WithA p3 ((value m (high a) + bit (nat_lt 255 (value m (low a) + n))) % 256) bs (with_byte m LEFT ((value m (low a) + n) % 256)) keys gets u → HighInA p3 (word (x + more k (nat_le 32768 x))) u
+    raised_here : (u : View) → WithA p3 ((value m (high a) + bit (nat_lt 255 (value m (low a) + n))) % 256) bs (with_byte m LEFT ((value m (low a) + n) % 256)) text answers u → HighInA p3 (word (x + more k (nat_le 32768 x))) u
     raised_here u g =
         let l = (value m (low a) + n) % 256 in
         let nn = more k (nat_le 32768 x) in record {
@@ -131,13 +131,13 @@ module _ (f : Setup) (room : ℕ) (fits : Fits f room) (bs : List ℕ) (m : ℕ 
           others = λ p n. ap (λ m. m p) g.here.mem ∙ put_other m LEFT l p n;
         }
 
-    pub divides_then : (q : View → Type 0) (j : ℕ) → Moves f (HighInA p4 (quotient x (2 ^ (k + 1)))) q [] j → Moves f (Here at bs m keys gets) q [] (28 + j)
+    pub divides_then : (q : View → Type 0) (j : ℕ) → Moves f (HighInA p4 (quotient x (2 ^ (k + 1)))) q [] j → Moves f (Here at bs m text answers) q [] (28 + j)
     divides_then q j next w e =
         let there : halve_times (suc k) (word (x + more k (nat_le 32768 x))) ≡ quotient x (2 ^ (k + 1)) = halves_are k x few ha.small in
         looser f w q q [] (2 + (5 + (3 + (3 * suc k + j)))) (28 + j) (omega (arith, few)) (λ u z. z)
-        (chained f w _ q [] [] 2 (5 + (3 + (3 * suc k + j))) (signs f room fits at bs m keys gets small a (omega (arith, r, sizes)) ga s1.0 w e) (λ u g.
-        chained f u _ q [] [] 5 (3 + (3 * suc k + j)) (rounds f room fits p1 bs m keys gets small k a c few (omega (arith, r, sizes)) ga s2.0 u g) (λ u g.
-        chained f u _ q [] [] 3 (3 * suc k + j) (carries f room fits p2 bs m keys gets small ((value m (low a) + n) % 256) (nat_lt 255 (value m (low a) + n)) a (omega (arith, r, sizes)) ga s3.0 u g) (λ u g.
+        (chained f w _ q [] [] 2 (5 + (3 + (3 * suc k + j))) (signs f room fits at bs m text answers small a (omega (arith, r, sizes)) ga s1.0 w e) (λ u g.
+        chained f u _ q [] [] 5 (3 + (3 * suc k + j)) (rounds f room fits p1 bs m text answers small k a c few (omega (arith, r, sizes)) ga s2.0 u g) (λ u g.
+        chained f u _ q [] [] 3 (3 * suc k + j) (carries f room fits p2 bs m text answers small ((value m (low a) + n) % 256) (nat_lt 255 (value m (low a) + n)) a (omega (arith, r, sizes)) ga s3.0 u g) (λ u g.
         halves_then (suc k) p3 (word (x + more k (nat_le 32768 x))) (omega (arith, r, sizes)) s4.0 q j (λ u g. next u (subst (λ v. HighInA p4 v u) there g)) u (raised_here u g)))))
 
 module _ {around : Surroundings} (fits : Fits around.f 16) (code : SlotCode) {n : ℕ} {a b : Operand} {d : Destination} {is : List Instr} {s : State} {r : Slots} {w : View} (h : Ready around n (Calculate op.Divide a b d) (spread op.Divide a b d is) is s r w) (j : ℕ) (few : j < 6)

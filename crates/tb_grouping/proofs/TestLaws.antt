@@ -52,21 +52,21 @@ lies_parts code at (p ∷ ps) qs h =
     ((h.0, h.1, k.0), subst (λ a. Lies code a qs) (let e : at + piece_size p + pieces_size ps ≡ at + (piece_size p + pieces_size ps) = omega arith in e) k.1)
 
 -- ---- what the code of a test does
-module _ (f : Setup) (room : ℕ) (fits : Fits f room) (at : ℕ) (bs : List ℕ) (m : ℕ → ℕ) (keys gets : List ℕ) (small : leb (length bs) room ≡ true) (a b : Source) (x y : ℕ) (ga : Grounded a 0) (gb : Grounded b 0) (ha : SourceHolds m a x) (hb : SourceHolds m b y) (first second : Way) (next : ℕ) where
+module _ (f : Setup) (room : ℕ) (fits : Fits f room) (at : ℕ) (bs : List ℕ) (m : ℕ → ℕ) (text answers : List ℕ) (small : leb (length bs) room ≡ true) (a b : Source) (x y : ℕ) (ga : Grounded a 0) (gb : Grounded b 0) (ha : SourceHolds m a x) (hb : SourceHolds m b y) (first second : Way) (next : ℕ) where
   -- to the place behind it where the test holds, and else to another one
   abbrev pub Tests : Rel → Type 0
-  Tests rel = Lies f.code at (test_code rel first second at a b next) → TestReaches rel first second at a b next → Moves f (Here at bs m keys gets) (Here (cond (holds rel x y) (at + pieces_size (test_code rel first second at a b next)) next) bs m keys gets) [] 9
+  Tests rel = Lies f.code at (test_code rel first second at a b next) → TestReaches rel first second at a b next → Moves f (Here at bs m text answers) (Here (cond (holds rel x y) (at + pieces_size (test_code rel first second at a b next)) next) bs m text answers) [] 9
 
-  by_equality : (differ : Bool) → Lies f.code at (equality_code differ first second at a b next) → EqualityReaches differ first second at a b next → Moves f (Here at bs m keys gets) (Here (cond (turned differ (nat_eq x y)) (at + pieces_size (equality_code differ first second at a b next)) next) bs m keys gets) [] 9
-  by_equality differ lies reach = moves_looser f _ _ _ [] 8 9 (omega arith) (λ w h. h) (tests_equality f room fits at bs m keys gets small a b x y ga gb ha hb differ first second next lies reach)
+  by_equality : (differ : Bool) → Lies f.code at (equality_code differ first second at a b next) → EqualityReaches differ first second at a b next → Moves f (Here at bs m text answers) (Here (cond (turned differ (nat_eq x y)) (at + pieces_size (equality_code differ first second at a b next)) next) bs m text answers) [] 9
+  by_equality differ lies reach = moves_looser f _ _ _ [] 8 9 (omega arith) (λ w h. h) (tests_equality f room fits at bs m text answers small a b x y ga gb ha hb differ first second next lies reach)
 
   pub tests : (rel : Rel) → Tests rel
   tests rel.Eq lies reach = by_equality false lies reach
   tests rel.Ne lies reach = by_equality true lies reach
-  tests rel.Lt lies reach = tests_order f room fits at bs m keys gets small a b x y ga gb ha hb Below first second next lies reach
-  tests rel.Ge lies reach = tests_order f room fits at bs m keys gets small a b x y ga gb ha hb NotBelow first second next lies reach
-  tests rel.Gt lies reach = tests_order f room fits at bs m keys gets small b a y x gb ga hb ha Below first second next lies reach
-  tests rel.Le lies reach = tests_order f room fits at bs m keys gets small b a y x gb ga hb ha NotBelow first second next lies reach
+  tests rel.Lt lies reach = tests_order f room fits at bs m text answers small a b x y ga gb ha hb Below first second next lies reach
+  tests rel.Ge lies reach = tests_order f room fits at bs m text answers small a b x y ga gb ha hb NotBelow first second next lies reach
+  tests rel.Gt lies reach = tests_order f room fits at bs m text answers small b a y x gb ga hb ha Below first second next lies reach
+  tests rel.Le lies reach = tests_order f room fits at bs m text answers small b a y x gb ga hb ha NotBelow first second next lies reach
 
 not_not : (t : Bool) → t ≡ not (not t)
 not_not true = refl

@@ -36,7 +36,7 @@ inner_within ly code a b e = go (is_start ly.start ly.numbers a) e
 
 -- the state of the slot code at its start, with these slots
 abbrev pub begun : SlotCode → ℕ → List ℕ → List ℕ → Slots → SlotState
-begun code seed keys answers slots = record { state = start (numbers code) seed keys answers; rest = Whole; slots = slots }
+begun code seed text answers slots = record { state = start (numbers code) seed text answers; rest = Whole; slots = slots }
 
 running : (s t : machine.State) (w : Wrong) → status t ≡ Running → status t ≢ WentWrong w
 running s t w h k = let no : Running ≡ WentWrong w = sym h ∙ k in cc

@@ -140,21 +140,21 @@ module _ (IsEnd : End → machine.State → Type 0)
   kept_by r source y h (behind w p) = inl (prefix_trans _ _ _ p (agrees_prefix r source h), inl w)
   kept_by r source y h (over why e end) = inr (why, subst (λ q. Agrees q source) e h, end)
 
-  module _ (seed : ℕ) (keys answers : List ℕ) (slots : Slots) (size : length slots.words ≡ 16) (x : machine.State) (silent : x.sent ≡ [])
-      (entered : R (record { state = start (numbers code) seed keys answers; rest = Whole; slots = slots }) x) (es : List Event) (lawful : all_lawful es x ≡ true) where
+  module _ (seed : ℕ) (text answers : List ℕ) (slots : Slots) (size : length slots.words ≡ 16) (x : machine.State) (silent : x.sent ≡ [])
+      (entered : R (record { state = start (numbers code) seed text answers; rest = Whole; slots = slots }) x) (es : List Event) (lawful : all_lawful es x ≡ true) where
     abbrev entry : SlotState
-    entry = record { state = start (numbers code) seed keys answers; rest = Whole; slots = slots }
+    entry = record { state = start (numbers code) seed text answers; rest = Whole; slots = slots }
 
     -- nothing wrong is done or sent
-    pub kept : (m : ℕ) × IsKept (source_run program seed keys answers m) (run es x)
+    pub kept : (m : ℕ) × IsKept (source_run program seed text answers m) (run es x)
     kept =
         let y = run es x in
         let n = goes es in
         let s = stands IsEnd end_stays step R W limit positive law (suc n) entry x es (omega arith) entered lawful in
         let k = stride.reached s.0 (GoesOn entry []) in
-        let m = follows.reaches_only seed keys answers slots size k.count in (
+        let m = follows.reaches_only seed text answers slots size k.count in (
           m.0,
-          kept_by (slot_run code seed keys answers slots k.count) (source_run program seed keys answers m.0) y m.1
+          kept_by (slot_run code seed text answers slots k.count) (source_run program seed text answers m.0) y m.1
               (subst (λ r. Stands IsEnd end_stays step R W limit r y) k.same
               (subst (λ o. Stands IsEnd end_stays step R W limit (advance_by step s.0 (GoesOn entry o)) y) silent s.1)),
         )
@@ -173,13 +173,13 @@ module _ (IsEnd : End → machine.State → Type 0)
     outside m b (GoesOn s out) r h = subst IsOutside (sym h.2) refl
     outside m b (Over why out) r h = subst IsOutside (sym h.0) tt
 
-    pub paced : (m : ℕ) → m * (longest code + 1) * limit ≤ goes es → HasPassed (source_run program seed keys answers m) (run es x)
+    pub paced : (m : ℕ) → m * (longest code + 1) * limit ≤ goes es → HasPassed (source_run program seed text answers m) (run es x)
     paced m le =
         let y = run es x in
-        let k = follows.reaches seed keys answers slots size m in
-        let j = stride.found k.0 (GoesOn entry []) (outside m _ (source_run program seed keys answers m) (slot_run code seed keys answers slots k.0) k.2) in
+        let k = follows.reaches seed text answers slots size m in
+        let j = stride.found k.0 (GoesOn entry []) (outside m _ (source_run program seed text answers m) (slot_run code seed text answers slots k.0) k.2) in
         let few : j.count * limit ≤ goes es = le_trans (mul-le-mul_right limit (le_trans j.few k.1)) le in
         let d = done IsEnd end_stays step R W limit positive law j.count entry x es entered lawful few in
-        passed_by m _ (source_run program seed keys answers m) (slot_run code seed keys answers slots k.0) y k.2
+        passed_by m _ (source_run program seed text answers m) (slot_run code seed text answers slots k.0) y k.2
         (subst (λ r. Passes IsEnd end_stays step R W limit r y) j.same
         (subst (λ o. Passes IsEnd end_stays step R W limit (advance_by step j.count (GoesOn entry o)) y) silent d))

@@ -28,12 +28,12 @@ pub record HoldsState (ly : Layout) (s : State) (m : ℕ → ℕ) : Type 0 where
   pub all_vars : length s.vars ≡ 26
 
 -- at an address with a known Z, or with a known C
-pub record Flagged (at : ℕ) (bs : List ℕ) (m : ℕ → ℕ) (keys gets : List ℕ) (z : Bool) (w : View) : Type 0 where
-  pub here : Here at bs m keys gets w
+pub record Flagged (at : ℕ) (bs : List ℕ) (m : ℕ → ℕ) (text answers : List ℕ) (z : Bool) (w : View) : Type 0 where
+  pub here : Here at bs m text answers w
   pub zero : w.regs.flags.z ≡ z
 
-pub record Carrying (at : ℕ) (bs : List ℕ) (m : ℕ → ℕ) (keys gets : List ℕ) (c : Bool) (w : View) : Type 0 where
-  pub here : Here at bs m keys gets w
+pub record Carrying (at : ℕ) (bs : List ℕ) (m : ℕ → ℕ) (text answers : List ℕ) (c : Bool) (w : View) : Type 0 where
+  pub here : Here at bs m text answers w
   pub carry : w.regs.flags.c ≡ c
 
 -- the keyboard's text is at most so long, and it and the answers are bytes

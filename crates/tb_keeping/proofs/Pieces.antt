@@ -85,8 +85,8 @@ module _ (f : Setup) (room : ℕ) (fits : Fits f room) where
       (changes_at f.code room (ins k p) v mn Absolute p d s e refl refl (v.mem p) c r dp (reads_data f.code v.mem p dp) e') x
 
   -- the last write of a piece
-  pub ends : (p at : ℕ) (v : View) (m : ℕ → ℕ) (bs keys gets : List ℕ) → leb (length v.stack) room ≡ true → Bytes f.code v.regs.pc (instr_bytes (ins 0x8D p)) → is_data p ≡ true → (v.regs.pc + 3) % 65536 ≡ at → v.stack ≡ bs → v.regs.flags.d ≡ false → with_byte v.mem p v.regs.a ≡ m → v.text ≡ keys → v.answers ≡ gets → Comes f v (Here at bs m keys gets) [] 1
-  ends p at v m bs keys gets small b dp e s d e' k g =
+  pub ends : (p at : ℕ) (v : View) (m : ℕ → ℕ) (bs text answers : List ℕ) → leb (length v.stack) room ≡ true → Bytes f.code v.regs.pc (instr_bytes (ins 0x8D p)) → is_data p ≡ true → (v.regs.pc + 3) % 65536 ≡ at → v.stack ≡ bs → v.regs.flags.d ≡ false → with_byte v.mem p v.regs.a ≡ m → v.text ≡ text → v.answers ≡ answers → Comes f v (Here at bs m text answers) [] 1
+  ends p at v m bs text answers small b dp e s d e' k g =
       placed_last f room fits (ins 0x8D p) v (record v { regs = advanced v.regs Absolute; mem = with_byte v.mem p v.regs.a }) _ small b (stores_at f.code room (ins 0x8D p) v Sta Absolute p refl refl refl refl refl v.regs.a dp refl) (record { pc = e; stack = s; binary = d; mem = e'; text = k; answers = g })
 
   pub stores_last : (p : ℕ) (v : View) (q : View → Type 0) → leb (length v.stack) room ≡ true → Bytes f.code v.regs.pc (instr_bytes (ins 0x8D p)) → is_data p ≡ true → q (record v { regs = advanced v.regs Absolute; mem = with_byte v.mem p v.regs.a }) → Comes f v q [] 1
@@ -98,52 +98,52 @@ module _ (f : Setup) (room : ℕ) (fits : Fits f room) where
       placed_last f room fits (ins 0x85 p) v (record v { regs = advanced v.regs ZeroPage; mem = with_byte v.mem p v.regs.a }) q small b (stores_at f.code room (ins 0x85 p) v Sta ZeroPage p refl refl refl refl refl v.regs.a dp refl) x
 
   -- whatever the registers and flags
-  pub whatever : (at : ℕ) (bs : List ℕ) (m : ℕ → ℕ) (keys gets : List ℕ) (q : View → Type 0) (t : List ℕ) (k : ℕ) → ((a x y : ℕ) (n v i z c : Bool) → Comes f (view a x y n v i z c at bs m keys gets) q t k) → Moves f (Here at bs m keys gets) q t k
-  whatever at bs m keys gets q t k h w e =
-      known f w at bs keys gets q t k e.pc e.stack e.binary e.text e.answers
-      (subst (λ m. Comes f (view w.regs.a w.regs.x w.regs.y w.regs.flags.n w.regs.flags.v w.regs.flags.i w.regs.flags.z w.regs.flags.c at bs m keys gets) q t k) (sym e.mem) (h _ _ _ _ _ _ _ _))
+  pub whatever : (at : ℕ) (bs : List ℕ) (m : ℕ → ℕ) (text answers : List ℕ) (q : View → Type 0) (t : List ℕ) (k : ℕ) → ((a x y : ℕ) (n v i z c : Bool) → Comes f (view a x y n v i z c at bs m text answers) q t k) → Moves f (Here at bs m text answers) q t k
+  whatever at bs m text answers q t k h w e =
+      known f w at bs text answers q t k e.pc e.stack e.binary e.text e.answers
+      (subst (λ m. Comes f (view w.regs.a w.regs.x w.regs.y w.regs.flags.n w.regs.flags.v w.regs.flags.i w.regs.flags.z w.regs.flags.c at bs m text answers) q t k) (sym e.mem) (h _ _ _ _ _ _ _ _))
 
   -- the same with a known C
-  pub whatever_with : (at : ℕ) (bs : List ℕ) (m : ℕ → ℕ) (keys gets : List ℕ) (c : Bool) (q : View → Type 0) (t : List ℕ) (k : ℕ) → ((a x y : ℕ) (n v i z : Bool) → Comes f (view a x y n v i z c at bs m keys gets) q t k) → Moves f (Carrying at bs m keys gets c) q t k
-  whatever_with at bs m keys gets c q t k h w e =
-      known f w at bs keys gets q t k e.here.pc e.here.stack e.here.binary e.here.text e.here.answers
-      (subst (λ m. Comes f (view w.regs.a w.regs.x w.regs.y w.regs.flags.n w.regs.flags.v w.regs.flags.i w.regs.flags.z w.regs.flags.c at bs m keys gets) q t k) (sym e.here.mem)
-      (subst (λ c. Comes f (view w.regs.a w.regs.x w.regs.y w.regs.flags.n w.regs.flags.v w.regs.flags.i w.regs.flags.z c at bs m keys gets) q t k) (sym e.carry) (h _ _ _ _ _ _ _)))
+  pub whatever_with : (at : ℕ) (bs : List ℕ) (m : ℕ → ℕ) (text answers : List ℕ) (c : Bool) (q : View → Type 0) (t : List ℕ) (k : ℕ) → ((a x y : ℕ) (n v i z : Bool) → Comes f (view a x y n v i z c at bs m text answers) q t k) → Moves f (Carrying at bs m text answers c) q t k
+  whatever_with at bs m text answers c q t k h w e =
+      known f w at bs text answers q t k e.here.pc e.here.stack e.here.binary e.here.text e.here.answers
+      (subst (λ m. Comes f (view w.regs.a w.regs.x w.regs.y w.regs.flags.n w.regs.flags.v w.regs.flags.i w.regs.flags.z w.regs.flags.c at bs m text answers) q t k) (sym e.here.mem)
+      (subst (λ c. Comes f (view w.regs.a w.regs.x w.regs.y w.regs.flags.n w.regs.flags.v w.regs.flags.i w.regs.flags.z c at bs m text answers) q t k) (sym e.carry) (h _ _ _ _ _ _ _)))
 
   -- the same with a known A
-  pub whatever_a : (at k : ℕ) (bs : List ℕ) (m : ℕ → ℕ) (keys gets : List ℕ) (q : View → Type 0) (t : List ℕ) (l : ℕ) → ((x y : ℕ) (n v i z c : Bool) → Comes f (view k x y n v i z c at bs m keys gets) q t l) → Moves f (WithA at k bs m keys gets) q t l
-  whatever_a at k bs m keys gets q t l h w e =
-      known f w at bs keys gets q t l e.here.pc e.here.stack e.here.binary e.here.text e.here.answers
-      (subst (λ m. Comes f (view w.regs.a w.regs.x w.regs.y w.regs.flags.n w.regs.flags.v w.regs.flags.i w.regs.flags.z w.regs.flags.c at bs m keys gets) q t l) (sym e.here.mem)
-      (subst (λ a. Comes f (view a w.regs.x w.regs.y w.regs.flags.n w.regs.flags.v w.regs.flags.i w.regs.flags.z w.regs.flags.c at bs m keys gets) q t l) (sym e.number) (h _ _ _ _ _ _ _)))
+  pub whatever_a : (at k : ℕ) (bs : List ℕ) (m : ℕ → ℕ) (text answers : List ℕ) (q : View → Type 0) (t : List ℕ) (l : ℕ) → ((x y : ℕ) (n v i z c : Bool) → Comes f (view k x y n v i z c at bs m text answers) q t l) → Moves f (WithA at k bs m text answers) q t l
+  whatever_a at k bs m text answers q t l h w e =
+      known f w at bs text answers q t l e.here.pc e.here.stack e.here.binary e.here.text e.here.answers
+      (subst (λ m. Comes f (view w.regs.a w.regs.x w.regs.y w.regs.flags.n w.regs.flags.v w.regs.flags.i w.regs.flags.z w.regs.flags.c at bs m text answers) q t l) (sym e.here.mem)
+      (subst (λ a. Comes f (view a w.regs.x w.regs.y w.regs.flags.n w.regs.flags.v w.regs.flags.i w.regs.flags.z w.regs.flags.c at bs m text answers) q t l) (sym e.number) (h _ _ _ _ _ _ _)))
 
-  module _ (at : ℕ) (bs : List ℕ) (m : ℕ → ℕ) (keys gets : List ℕ) (small : leb (length bs) room ≡ true) where
-    pub sets : (k to : ℕ) → at + 10 ≤ highest_code → InData to → Stands f.code at (constant k to) → Moves f (Here at bs m keys gets) (Here (at + 10) bs (put_word m to (k % 256) (k / 256)) keys gets) [] 4
-    sets k to r dt st = whatever at bs m keys gets _ [] 4 (λ a x y n v i z c.
-        does (ins 0xA9 (k % 256)) (view a x y n v i z c at bs m keys gets) _ _ [] 3 small st.0 refl
-        (stores to (view _ x y _ v i _ c ((at + 2) % 65536) bs m keys gets) _ [] 2 small st.1.0 dt.0
-        (does (ins 0xA9 (k / 256)) (view _ x y _ v i _ c ((((at + 2) % 65536) + 3) % 65536) bs _ keys gets) _ _ [] 1 small st.1.1.0 refl
-        (ends (to + 1) (at + 10) (view _ x y _ v i _ c ((((((at + 2) % 65536) + 3) % 65536) + 2) % 65536) bs _ keys gets) _ bs keys gets small st.1.1.1.0 dt.1 (omega arith) refl refl refl refl refl))))
+  module _ (at : ℕ) (bs : List ℕ) (m : ℕ → ℕ) (text answers : List ℕ) (small : leb (length bs) room ≡ true) where
+    pub sets : (k to : ℕ) → at + 10 ≤ highest_code → InData to → Stands f.code at (constant k to) → Moves f (Here at bs m text answers) (Here (at + 10) bs (put_word m to (k % 256) (k / 256)) text answers) [] 4
+    sets k to r dt st = whatever at bs m text answers _ [] 4 (λ a x y n v i z c.
+        does (ins 0xA9 (k % 256)) (view a x y n v i z c at bs m text answers) _ _ [] 3 small st.0 refl
+        (stores to (view _ x y _ v i _ c ((at + 2) % 65536) bs m text answers) _ [] 2 small st.1.0 dt.0
+        (does (ins 0xA9 (k / 256)) (view _ x y _ v i _ c ((((at + 2) % 65536) + 3) % 65536) bs _ text answers) _ _ [] 1 small st.1.1.0 refl
+        (ends (to + 1) (at + 10) (view _ x y _ v i _ c ((((((at + 2) % 65536) + 3) % 65536) + 2) % 65536) bs _ text answers) _ bs text answers small st.1.1.1.0 dt.1 (omega arith) refl refl refl refl refl))))
 
     -- the same in page zero
-    pub points : (k to : ℕ) → at + 8 ≤ highest_code → InData to → Stands f.code at (pointed k to) → Moves f (Here at bs m keys gets) (Here (at + 8) bs (put_word m to (k % 256) (k / 256)) keys gets) [] 4
-    points k to r dt st = whatever at bs m keys gets _ [] 4 (λ a x y n v i z c.
-        does (ins 0xA9 (k % 256)) (view a x y n v i z c at bs m keys gets) _ _ [] 3 small st.0 refl
-        (stores_short to (view _ x y _ v i _ c ((at + 2) % 65536) bs m keys gets) _ [] 2 small st.1.0 dt.0
-        (does (ins 0xA9 (k / 256)) (view _ x y _ v i _ c ((((at + 2) % 65536) + 2) % 65536) bs _ keys gets) _ _ [] 1 small st.1.1.0 refl
-        (stores_short_last (to + 1) (view _ x y _ v i _ c ((((((at + 2) % 65536) + 2) % 65536) + 2) % 65536) bs _ keys gets) _ small st.1.1.1.0 dt.1
+    pub points : (k to : ℕ) → at + 8 ≤ highest_code → InData to → Stands f.code at (pointed k to) → Moves f (Here at bs m text answers) (Here (at + 8) bs (put_word m to (k % 256) (k / 256)) text answers) [] 4
+    points k to r dt st = whatever at bs m text answers _ [] 4 (λ a x y n v i z c.
+        does (ins 0xA9 (k % 256)) (view a x y n v i z c at bs m text answers) _ _ [] 3 small st.0 refl
+        (stores_short to (view _ x y _ v i _ c ((at + 2) % 65536) bs m text answers) _ [] 2 small st.1.0 dt.0
+        (does (ins 0xA9 (k / 256)) (view _ x y _ v i _ c ((((at + 2) % 65536) + 2) % 65536) bs _ text answers) _ _ [] 1 small st.1.1.0 refl
+        (stores_short_last (to + 1) (view _ x y _ v i _ c ((((((at + 2) % 65536) + 2) % 65536) + 2) % 65536) bs _ text answers) _ small st.1.1.1.0 dt.1
         (record { pc = omega arith; stack = refl; binary = refl; mem = refl; text = refl; answers = refl })))))
 
     -- a jump, and one through the result
-    pub jumps : (to : ℕ) → Stands f.code at (jump to) → Moves f (Here at bs m keys gets) (Here to bs m keys gets) [] 1
-    jumps to st = whatever at bs m keys gets _ [] 1 (λ a x y n v i z c.
-        placed_last f room fits (ins 0x4C to) (view a x y n v i z c at bs m keys gets) _ _ small st.0 refl (record { pc = refl; stack = refl; binary = refl; mem = refl; text = refl; answers = refl }))
+    pub jumps : (to : ℕ) → Stands f.code at (jump to) → Moves f (Here at bs m text answers) (Here to bs m text answers) [] 1
+    jumps to st = whatever at bs m text answers _ [] 1 (λ a x y n v i z c.
+        placed_last f room fits (ins 0x4C to) (view a x y n v i z c at bs m text answers) _ _ small st.0 refl (record { pc = refl; stack = refl; binary = refl; mem = refl; text = refl; answers = refl }))
 
-    pub jumps_through : (to : ℕ) → WordAt m RESULT to → Stands f.code at jump_through → Moves f (Here at bs m keys gets) (Here to bs m keys gets) [] 1
-    jumps_through to is st = whatever at bs m keys gets _ [] 1 (λ a x y n v i z c.
-        placed_last f room fits (ins 0x6C RESULT) (view a x y n v i z c at bs m keys gets) _ _ small st.0 refl (record { pc = omega (arith, is.low, is.high); stack = refl; binary = refl; mem = refl; text = refl; answers = refl }))
+    pub jumps_through : (to : ℕ) → WordAt m RESULT to → Stands f.code at jump_through → Moves f (Here at bs m text answers) (Here to bs m text answers) [] 1
+    jumps_through to is st = whatever at bs m text answers _ [] 1 (λ a x y n v i z c.
+        placed_last f room fits (ins 0x6C RESULT) (view a x y n v i z c at bs m text answers) _ _ small st.0 refl (record { pc = omega (arith, is.low, is.high); stack = refl; binary = refl; mem = refl; text = refl; answers = refl }))
 
     -- a call, which returns behind it
-    pub calls : (to : ℕ) → leb (length (0 ∷ 0 ∷ bs)) room ≡ true → at + 3 ≤ highest_code → Stands f.code at (call to) → Moves f (Here at bs m keys gets) (Here to ((at + 2) % 256 ∷ (at + 2) / 256 ∷ bs) m keys gets) [] 1
-    calls to deep r st = whatever at bs m keys gets _ [] 1 (λ a x y n v i z c.
-        placed_last f room fits (ins 0x20 to) (view a x y n v i z c at bs m keys gets) _ _ small st.0 (ap (λ t. if t then (Some (view a x y n v i z c to (((at + 3) % 65536 + 65535) % 65536 % 256 ∷ ((at + 3) % 65536 + 65535) % 65536 / 256 ∷ bs) m keys gets)) else None) deep) (record { pc = refl; stack = called at bs r; binary = refl; mem = refl; text = refl; answers = refl }))
+    pub calls : (to : ℕ) → leb (length (0 ∷ 0 ∷ bs)) room ≡ true → at + 3 ≤ highest_code → Stands f.code at (call to) → Moves f (Here at bs m text answers) (Here to ((at + 2) % 256 ∷ (at + 2) / 256 ∷ bs) m text answers) [] 1
+    calls to deep r st = whatever at bs m text answers _ [] 1 (λ a x y n v i z c.
+        placed_last f room fits (ins 0x20 to) (view a x y n v i z c at bs m text answers) _ _ small st.0 (ap (λ t. if t then (Some (view a x y n v i z c to (((at + 3) % 65536 + 65535) % 65536 % 256 ∷ ((at + 3) % 65536 + 65535) % 65536 / 256 ∷ bs) m text answers)) else None) deep) (record { pc = refl; stack = called at bs r; binary = refl; mem = refl; text = refl; answers = refl }))

@@ -158,5 +158,5 @@ module _ (program : Program) where
   first_led [] = tt
   first_led (n ∷ ns) = ap (λ b. b || has_line ns n) (eq-eqb n n refl)
 
-  pub at_lines : (seed : ℕ) (keys answers : List ℕ) (m : ℕ) (s : State) (out : List ℕ) → source_run program seed keys answers m ≡ GoesOn s out → IsPlaced (numbers program) s
-  at_lines seed keys answers m s out e = (subst Ran e (runs m (GoesOn (start (numbers program) seed keys answers) []) (record { ran = record { here = first_led (numbers program); notes = tt } }))).ran
+  pub at_lines : (seed : ℕ) (text answers : List ℕ) (m : ℕ) (s : State) (out : List ℕ) → source_run program seed text answers m ≡ GoesOn s out → IsPlaced (numbers program) s
+  at_lines seed text answers m s out e = (subst Ran e (runs m (GoesOn (start (numbers program) seed text answers) []) (record { ran = record { here = first_led (numbers program); notes = tt } }))).ran

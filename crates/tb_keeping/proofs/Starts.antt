@@ -316,10 +316,10 @@ module _ (IsEnd : End → machine.State → Type 0)
 
   -- ── against the source ──
   -- the source has done m lines and goes on at a line, and so does the machine
-  pub record AtLine (seed : ℕ) (keys answers : List ℕ) (m : ℕ) (y : machine.State) : Type 0 where
+  pub record AtLine (seed : ℕ) (text answers : List ℕ) (m : ℕ) (y : machine.State) : Type 0 where
     pub state : State
     pub slots : Slots
-    pub done : source_run program seed keys answers m ≡ GoesOn state y.sent
+    pub done : source_run program seed text answers m ≡ GoesOn state y.sent
     pub related : R (record { state = state; rest = Whole; slots = slots }) y
     pub number : ℕ
     pub list : List Instr
@@ -327,7 +327,7 @@ module _ (IsEnd : End → machine.State → Type 0)
     pub found : content_at code number ≡ Some list
 
   -- an event of the machine's own that begins a line, m having begun before it
-  pub record Begins (seed : ℕ) (keys answers : List ℕ) (m bound : ℕ) (x : machine.State) (es : List Event) : Type 0 where
+  pub record Begins (seed : ℕ) (text answers : List ℕ) (m bound : ℕ) (x : machine.State) (es : List Event) : Type 0 where
     pub front : List Event
     pub event : Event
     pub back : List Event
@@ -337,26 +337,26 @@ module _ (IsEnd : End → machine.State → Type 0)
     pub starts_here : starts (run front x) ≡ 1
     pub begun : met starts front x ≡ m
 
-  module _ (seed : ℕ) (keys answers : List ℕ) (slots : Slots) (size : length slots.words ≡ 16) (x : machine.State) (silent : x.sent ≡ [])
-      (entered : R (record { state = start (numbers code) seed keys answers; rest = Whole; slots = slots }) x) where
+  module _ (seed : ℕ) (text answers : List ℕ) (slots : Slots) (size : length slots.words ≡ 16) (x : machine.State) (silent : x.sent ≡ [])
+      (entered : R (record { state = start (numbers code) seed text answers; rest = Whole; slots = slots }) x) where
     abbrev first : SlotState
-    first = record { state = start (numbers code) seed keys answers; rest = Whole; slots = slots }
+    first = record { state = start (numbers code) seed text answers; rest = Whole; slots = slots }
 
     -- at a line's start, m of them having been met, m lines are done
-    pub at_line : (es : List Event) → all_lawful es x ≡ true → starts (run es x) ≡ 1 → AtLine seed keys answers (met starts es x) (run es x)
+    pub at_line : (es : List Event) → all_lawful es x ≡ true → starts (run es x) ≡ 1 → AtLine seed text answers (met starts es x) (run es x)
     at_line es l one =
         let s = stood (suc (goes es)) first x es (omega arith) entered l one in
         let e : lines_at code s.c.rest s.c.state.place ≡ 1 = sym (entry s.c (run es x) s.related) ∙ one in
         let w = is_line code s.c.rest s.c.state.place e in
         let b : begins s.c.rest s.c.state.place ≡ 1 = ap₂ begins w.2 w.3 in
-        let f = follows.reaches seed keys answers slots size (met starts es x) in
+        let f = follows.reaches seed text answers slots size (met starts es x) in
         let k = stride.reached s.k (GoesOn first []) in
-        let now : slot_run code seed keys answers slots k.count ≡ GoesOn s.c (run es x).sent = sym k.same ∙ ap (λ o. advance_by step s.k (GoesOn first o)) (sym silent) ∙ s.now in
-        let begun : beginnings code k.count (slot_start code seed keys answers slots) ≡ met starts es x = sym k.begun ∙ ap (λ o. passed step s.k (GoesOn first o)) (sym silent) ∙ s.begun in
+        let now : slot_run code seed text answers slots k.count ≡ GoesOn s.c (run es x).sent = sym k.same ∙ ap (λ o. advance_by step s.k (GoesOn first o)) (sym silent) ∙ s.now in
+        let begun : beginnings code k.count (slot_start code seed text answers slots) ≡ met starts es x = sym k.begun ∙ ap (λ o. passed step s.k (GoesOn first o)) (sym silent) ∙ s.begun in
         record {
           state = s.c.state;
           slots = s.c.slots;
-          done = same_line code (met starts es x) (slot_start code seed keys answers slots) k.count s.c (run es x).sent now begun b (source_run program seed keys answers (met starts es x)) f.0 f.2;
+          done = same_line code (met starts es x) (slot_start code seed text answers slots) k.count s.c (run es x).sent now begun b (source_run program seed text answers (met starts es x)) f.0 f.2;
           related = subst (λ q. R (record { state = s.c.state; rest = q; slots = s.c.slots }) (run es x)) w.2 s.related;
           number = w.0;
           list = w.1;
@@ -365,10 +365,10 @@ module _ (IsEnd : End → machine.State → Type 0)
         }
 
     -- where the source goes on at a line after m, the machine begins it within a bound
-    pub line_comes : (m : ℕ) (s : State) (out : List ℕ) (n : ℕ) (is : List Instr) → source_run program seed keys answers m ≡ GoesOn s out → s.place ≡ At n → content_at code n ≡ Some is → (es : List Event) → all_lawful es x ≡ true → m * (longest code + 1) * limit + 1 ≤ goes es → Begins seed keys answers m (m * (longest code + 1) * limit + 1) x es
+    pub line_comes : (m : ℕ) (s : State) (out : List ℕ) (n : ℕ) (is : List Instr) → source_run program seed text answers m ≡ GoesOn s out → s.place ≡ At n → content_at code n ≡ Some is → (es : List Event) → all_lawful es x ≡ true → m * (longest code + 1) * limit + 1 ≤ goes es → Begins seed text answers m (m * (longest code + 1) * limit + 1) x es
     line_comes m s out n is e here found es l le =
-        let f = follows.reaches seed keys answers slots size m in
-        let h : Meets m (GoesOn s out) (slot_run code seed keys answers slots f.0) (beginnings code f.0 (slot_start code seed keys answers slots)) = subst (λ q. Meets m q (slot_run code seed keys answers slots f.0) (beginnings code f.0 (slot_start code seed keys answers slots))) e f.2 in
+        let f = follows.reaches seed text answers slots size m in
+        let h : Meets m (GoesOn s out) (slot_run code seed text answers slots f.0) (beginnings code f.0 (slot_start code seed text answers slots)) = subst (λ q. Meets m q (slot_run code seed text answers slots f.0) (beginnings code f.0 (slot_start code seed text answers slots))) e f.2 in
         let c : SlotState = record { state = s; rest = Whole; slots = h.0 } in
         let k = stride.found f.0 (GoesOn first []) (subst IsOutside (sym h.2) refl) in
         let small : k.count * limit ≤ m * (longest code + 1) * limit = mul-le-mul_right limit (le_trans k.few f.1) in

@@ -267,16 +267,16 @@ pub follows : (program : Program) → IsShallow program → Follows program (pro
 follows program shallow = record {
   same_numbers = numbers_code program;
   lists = λ n. subst (IsListOf (content_at program n)) (sym (found_code program n)) (list_of (content_at program n));
-  reaches = λ seed keys answers w len m.
+  reaches = λ seed text answers w len m.
       let c = program_code program in
-      let a = all_reach program shallow m (start (numbers c) seed keys answers) w [] len in
-      (a.k, a.few, subst (λ ns. Meets m (advance_by (line program) m (GoesOn (start ns seed keys answers) [])) (slot_run c seed keys answers w a.k) (beginnings c a.k (slot_start c seed keys answers w))) (numbers_code program) a.meets);
-  reaches_only = λ seed keys answers w len k.
+      let a = all_reach program shallow m (start (numbers c) seed text answers) w [] len in
+      (a.k, a.few, subst (λ ns. Meets m (advance_by (line program) m (GoesOn (start ns seed text answers) [])) (slot_run c seed text answers w a.k) (beginnings c a.k (slot_start c seed text answers w))) (numbers_code program) a.meets);
+  reaches_only = λ seed text answers w len k.
       let c = program_code program in
-      let a = all_reach program shallow k (start (numbers c) seed keys answers) w [] len in (
+      let a = all_reach program shallow k (start (numbers c) seed text answers) w [] len in (
         k,
-        subst (λ ns. Agrees (slot_run c seed keys answers w k) (advance_by (line program) k (GoesOn (start ns seed keys answers) []))) (numbers_code program)
-            (agrees_at c k a.k (slot_start c seed keys answers w) (advance_by (line program) k (GoesOn (start (numbers c) seed keys answers) [])) a.meets),
+        subst (λ ns. Agrees (slot_run c seed text answers w k) (advance_by (line program) k (GoesOn (start ns seed text answers) []))) (numbers_code program)
+            (agrees_at c k a.k (slot_start c seed text answers w) (advance_by (line program) k (GoesOn (start (numbers c) seed text answers) [])) a.meets),
       );
 }
   where

@@ -24,9 +24,9 @@ any_slots = record { words = replicate 16 12345; held = 7 }
 
 -- after so many lines the run is over, with this output; and so is the slot code's, after twelve times as many steps
 abbrev Sends : Program → ℕ → List ℕ → List ℕ → ℕ → steps.End → List ℕ → Type 0
-Sends program seed keys answers m why out =
-    (source_run program seed keys answers m ≡ Over why out)
-    × (slot_run (program_code program) seed keys answers any_slots (m * 12) ≡ Over why out)
+Sends program seed text answers m why out =
+    (source_run program seed text answers m ≡ Over why out)
+    × (slot_run (program_code program) seed text answers any_slots (m * 12) ≡ Over why out)
 
 -- 10 PRINT "HELLO" / 20 END
 hello : Sends (line 10 (Print ((Text (codes "HELLO")) ∷ []) true) ∷ line 20 End ∷ []) 1 ([]) ([]) 2 Ended (codes "HELLO" ++ cr)

@@ -66,17 +66,17 @@ line program s = does_at program s.place s
 
 -- the lowest line, all variables 0, no notes, no open line, nothing sent
 abbrev pub start : List ℕ → ℕ → List ℕ → List ℕ → State
-start ns seed keys answers = record {
+start ns seed text answers = record {
   place = first_place ns;
   vars = replicate 26 0;
   seed = seed;
   returns = [];
   open_line = false;
   column = 0;
-  text = keys;
+  text = text;
   answers = answers;
 }
 
 -- the run after m lines
 abbrev pub source_run : Program → ℕ → List ℕ → List ℕ → ℕ → Run State
-source_run program seed keys answers m = advance_by (line program) m (GoesOn (start (numbers program) seed keys answers) [])
+source_run program seed text answers m = advance_by (line program) m (GoesOn (start (numbers program) seed text answers) [])

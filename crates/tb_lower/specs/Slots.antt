@@ -123,11 +123,11 @@ slot_step code c = instr_at code c.rest c.state.place c.state c.slots
 
 -- the slots and the held word are arbitrary at first
 abbrev pub slot_start : SlotCode → ℕ → List ℕ → List ℕ → Slots → Run SlotState
-slot_start code seed keys answers slots = GoesOn (record { state = start (numbers code) seed keys answers; rest = Whole; slots = slots }) []
+slot_start code seed text answers slots = GoesOn (record { state = start (numbers code) seed text answers; rest = Whole; slots = slots }) []
 
 -- the run after k instructions
 abbrev pub slot_run : SlotCode → ℕ → List ℕ → List ℕ → Slots → ℕ → Run SlotState
-slot_run code seed keys answers slots k = advance_by (slot_step code) k (slot_start code seed keys answers slots)
+slot_run code seed text answers slots k = advance_by (slot_step code) k (slot_start code seed text answers slots)
 
 -- whether a run stands at the beginning of a list
 abbrev pub begins : Rest → Place → ℕ

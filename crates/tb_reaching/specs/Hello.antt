@@ -33,21 +33,21 @@ pub record Points (f : Setup) (m : ℕ → ℕ) (text : List ℕ) : Type 0 where
   pub few : length text < 256
 
 -- back at the caller, with all but the routine's own bytes as they were
-pub record Sent (lo hi : ℕ) (m : ℕ → ℕ) (keys answers : List ℕ) (w : View) : Type 0 where
+pub record Sent (lo hi : ℕ) (m : ℕ → ℕ) (text answers : List ℕ) (w : View) : Type 0 where
   pub pc : w.regs.pc ≡ back_at lo hi
   pub stack : w.stack ≡ []
   pub binary : w.regs.flags.d ≡ false
-  pub keys_left : w.text ≡ keys
-  pub answers_left : w.answers ≡ answers
+  pub same_text : w.text ≡ text
+  pub same_answers : w.answers ≡ answers
   pub others : (a : ℕ) → a ≢ pointer → a ≢ pointer + 1 → a ≢ left → w.mem a ≡ m a
 
 -- from its entry $081F to its return, under any caller and whatever the ROM does, the routine sends the text
 abbrev pub SendsText : List ℕ → Type 0
 SendsText program =
     (f : Setup) → Fits f 4 → Holds (program_part program) f.code →
-    (lo hi : ℕ) (keys answers : List ℕ) (m : ℕ → ℕ) (a x y : ℕ) (n v i z c : Bool) (text : List ℕ) → Points f m text →
-    Comes f (view a x y n v i z c 0x081f (lo ∷ hi ∷ []) m keys answers) (Sent lo hi m keys answers) text
-    (9 * length text + 3)
+    (lo hi : ℕ) (text answers : List ℕ) (m : ℕ → ℕ) (a x y : ℕ) (n v i z c : Bool) (sent : List ℕ) → Points f m sent →
+    Comes f (view a x y n v i z c 0x081f (lo ∷ hi ∷ []) m text answers) (Sent lo hi m text answers) sent
+    (9 * length sent + 3)
 
 -- ---- the program
 

@@ -36,22 +36,22 @@ pub data SeedAt (m : ℕ → ℕ) (option seed : ℕ) : Type 0 where
 -- ---- views
 
 -- at an address, whatever the registers and flags but D
-pub record Here (at : ℕ) (bs : List ℕ) (m : ℕ → ℕ) (keys gets : List ℕ) (w : View) : Type 0 where
+pub record Here (at : ℕ) (bs : List ℕ) (m : ℕ → ℕ) (typed polled : List ℕ) (w : View) : Type 0 where
   pub pc : w.regs.pc ≡ at
   pub stack : w.stack ≡ bs
   pub binary : w.regs.flags.d ≡ false
   pub mem : w.mem ≡ m
-  pub text : w.text ≡ keys
-  pub answers : w.answers ≡ gets
+  pub text : w.text ≡ typed
+  pub answers : w.answers ≡ polled
 
 -- the same with a known A
-pub record WithA (at k : ℕ) (bs : List ℕ) (m : ℕ → ℕ) (keys gets : List ℕ) (w : View) : Type 0 where
-  pub here : Here at bs m keys gets w
+pub record WithA (at k : ℕ) (bs : List ℕ) (m : ℕ → ℕ) (text answers : List ℕ) (w : View) : Type 0 where
+  pub here : Here at bs m text answers w
   pub number : w.regs.a ≡ k
 
 -- the same with a known A, and a line's number in X and Y
-pub record WithLine (at k n : ℕ) (bs : List ℕ) (m : ℕ → ℕ) (keys gets : List ℕ) (w : View) : Type 0 where
-  pub with_a : WithA at k bs m keys gets w
+pub record WithLine (at k n : ℕ) (bs : List ℕ) (m : ℕ → ℕ) (text answers : List ℕ) (w : View) : Type 0 where
+  pub with_a : WithA at k bs m text answers w
   pub low : w.regs.x ≡ n % 256
   pub high : w.regs.y ≡ n / 256
 
