@@ -28,17 +28,17 @@ IsByte (Lower c) = c < 256
 IsByte _ = Unit {0}
 
 -- a change makes of a word what a function with the constant w does
-pub record Makes (c : Change) (w : ℕ) (of : ℕ → Option ℕ) : Type 0 where
+pub record Computes (c : Change) (w : ℕ) (of : ℕ → Option ℕ) : Type 0 where
   pub few : IsByte c
   pub is : w < 65536 → (x : ℕ) → of x ≡ Some (changed c x)
 
 -- so where there is one
 abbrev IfAny : Option Change → ℕ → (ℕ → Option ℕ) → Type 0
-IfAny (Some c) w of = Makes c w of
+IfAny (Some c) w of = Computes c w of
 IfAny None w of = Unit {0}
 
 -- by a test before others
-first_of : (t : Bool) (c : Change) (o : Option Change) (w : ℕ) (of : ℕ → Option ℕ) → (t ≡ true → Makes c w of) → IfAny o w of → IfAny (if t then Some c else o) w of
+first_of : (t : Bool) (c : Change) (o : Option Change) (w : ℕ) (of : ℕ → Option ℕ) → (t ≡ true → Computes c w of) → IfAny o w of → IfAny (if t then Some c else o) w of
 first_of true c o w of h k = h refl
 first_of false c o w of h k = k
 
@@ -76,8 +76,8 @@ left_is Divide v = tt
 
 -- a change of the word at a place with a constant
 pub data IsChange (op : Operator) (a b : Source) (to : ℕ) : Option Change → Type 0 where
-  of_left : (w : ℕ) (c : Change) → a ≡ AtPlace to → b ≡ FixedWord w → Makes c w (λ x. apply op x w) → IsChange op a b to (Some c)
-  of_right : (v : ℕ) (c : Change) → a ≡ FixedWord v → b ≡ AtPlace to → Makes c v (λ x. apply op v x) → IsChange op a b to (Some c)
+  of_left : (w : ℕ) (c : Change) → a ≡ AtPlace to → b ≡ FixedWord w → Computes c w (λ x. apply op x w) → IsChange op a b to (Some c)
+  of_right : (v : ℕ) (c : Change) → a ≡ FixedWord v → b ≡ AtPlace to → Computes c v (λ x. apply op v x) → IsChange op a b to (Some c)
   elsewhere : IsChange op a b to None
 
 pub change_is : (op : Operator) (a b : Source) (to : ℕ) → IsChange op a b to (change_of op a b to)

@@ -215,171 +215,171 @@ module _ (labels : List (Name × ℕ)) where
 
   -- ---- single bytes
   -- an item has the bytes of an instruction, wherever it stands; so have items those of instructions
-  pub record Makes (e : Entry) (i : Instr) : Type 0 where
+  pub record Encodes (e : Entry) (i : Instr) : Type 0 where
     pub same : (a : ℕ) → bytes_of labels a e ≡ instr_bytes i
 
-  pub record AllMake (es : List Entry) (is : List Instr) : Type 0 where
+  pub record AllEncode (es : List Entry) (is : List Instr) : Type 0 where
     pub same : (a : ℕ) → bytes_from labels a es ≡ flat is
 
-  lda_low : (s : Source) → Makes (items.low_of Lda s) (lda (low s))
+  lda_low : (s : Source) → Encodes (items.low_of Lda s) (lda (low s))
   unfolding opcodes.encoded
   lda_low (FixedWord w) = record { same = λ a. ap (λ b. 0xa9 ∷ b ∷ []) (low_byte w) }
   lda_low (AtPlace p) = record { same = λ a. refl }
 
-  adc_low : (s : Source) → Makes (items.low_of Adc s) (adc (low s))
+  adc_low : (s : Source) → Encodes (items.low_of Adc s) (adc (low s))
   unfolding opcodes.encoded
   adc_low (FixedWord w) = record { same = λ a. ap (λ b. 0x69 ∷ b ∷ []) (low_byte w) }
   adc_low (AtPlace p) = record { same = λ a. refl }
 
-  sbc_low : (s : Source) → Makes (items.low_of Sbc s) (sbc (low s))
+  sbc_low : (s : Source) → Encodes (items.low_of Sbc s) (sbc (low s))
   unfolding opcodes.encoded
   sbc_low (FixedWord w) = record { same = λ a. ap (λ b. 0xe9 ∷ b ∷ []) (low_byte w) }
   sbc_low (AtPlace p) = record { same = λ a. refl }
 
-  cmp_low : (s : Source) → Makes (items.low_of Cmp s) (cmp (low s))
+  cmp_low : (s : Source) → Encodes (items.low_of Cmp s) (cmp (low s))
   unfolding opcodes.encoded
   cmp_low (FixedWord w) = record { same = λ a. ap (λ b. 0xc9 ∷ b ∷ []) (low_byte w) }
   cmp_low (AtPlace p) = record { same = λ a. refl }
 
-  lda_high : (s : Source) → IsWord s → Makes (items.high_of Lda s) (lda (high s))
+  lda_high : (s : Source) → IsWord s → Encodes (items.high_of Lda s) (lda (high s))
   unfolding opcodes.encoded
   lda_high (FixedWord w) h = record { same = λ a. ap (λ b. 0xa9 ∷ b ∷ []) (high_byte w h) }
   lda_high (AtPlace p) h = record { same = λ a. refl }
 
-  adc_high : (s : Source) → IsWord s → Makes (items.high_of Adc s) (adc (high s))
+  adc_high : (s : Source) → IsWord s → Encodes (items.high_of Adc s) (adc (high s))
   unfolding opcodes.encoded
   adc_high (FixedWord w) h = record { same = λ a. ap (λ b. 0x69 ∷ b ∷ []) (high_byte w h) }
   adc_high (AtPlace p) h = record { same = λ a. refl }
 
-  sbc_high : (s : Source) → IsWord s → Makes (items.high_of Sbc s) (sbc (high s))
+  sbc_high : (s : Source) → IsWord s → Encodes (items.high_of Sbc s) (sbc (high s))
   unfolding opcodes.encoded
   sbc_high (FixedWord w) h = record { same = λ a. ap (λ b. 0xe9 ∷ b ∷ []) (high_byte w h) }
   sbc_high (AtPlace p) h = record { same = λ a. refl }
 
-  cmp_high : (s : Source) → IsWord s → Makes (items.high_of Cmp s) (cmp (high s))
+  cmp_high : (s : Source) → IsWord s → Encodes (items.high_of Cmp s) (cmp (high s))
   unfolding opcodes.encoded
   cmp_high (FixedWord w) h = record { same = λ a. ap (λ b. 0xc9 ∷ b ∷ []) (high_byte w h) }
   cmp_high (AtPlace p) h = record { same = λ a. refl }
 
-  none : AllMake [] []
+  none : AllEncode [] []
   none = record { same = λ a. refl }
 
   infixr 5 ◌▹◌
-  ◌▹◌ : {e : Entry} {es : List Entry} {i : Instr} {is : List Instr} → Makes e i → AllMake es is → AllMake (e ∷ es) (i ∷ is)
+  ◌▹◌ : {e : Entry} {es : List Entry} {i : Instr} {is : List Instr} → Encodes e i → AllEncode es is → AllEncode (e ∷ es) (i ∷ is)
   ◌▹◌ {e} {es} {i} {is} h k = record { same = λ a. λ j. h.same a j ++ k.same (a + size_of e) j }
 
-  store : (to : ℕ) → Makes (product.at Sta to) (ins 0x8d to)
+  store : (to : ℕ) → Encodes (product.at Sta to) (ins 0x8d to)
   unfolding opcodes.encoded
   store to = record { same = λ a. refl }
 
-  store_at : (to : ℕ) → Makes (product.on Sta to) (resolved.sta_at to)
+  store_at : (to : ℕ) → Encodes (product.on Sta to) (resolved.sta_at to)
   store_at to = record { same = store_bytes labels [] 0 to }
 
-  clear : Makes (product.alone Clc) (ins 0x18 0)
+  clear : Encodes (product.alone Clc) (ins 0x18 0)
   unfolding opcodes.encoded
   clear = record { same = λ a. refl }
 
-  set : Makes (product.alone Sec) (ins 0x38 0)
+  set : Encodes (product.alone Sec) (ins 0x38 0)
   unfolding opcodes.encoded
   set = record { same = λ a. refl }
 
-  pub brought_bytes : (s : Source) (to : ℕ) → IsWord s → AllMake (items.brought s to) (coded.brought s to)
+  pub brought_bytes : (s : Source) (to : ℕ) → IsWord s → AllEncode (items.brought s to) (coded.brought s to)
   brought_bytes s to h = lda_low s ▹ store_at to ▹ lda_high s h ▹ store_at (to + 1) ▹ none
 
-  summed_bytes : (s t : Source) (to : ℕ) → IsWord s → IsWord t → AllMake (items.summed s t to) (coded.summed s t to)
+  summed_bytes : (s t : Source) (to : ℕ) → IsWord s → IsWord t → AllEncode (items.summed s t to) (coded.summed s t to)
   summed_bytes s t to h k = clear ▹ lda_low s ▹ adc_low t ▹ store to ▹ lda_high s h ▹ adc_high t k ▹ store (to + 1) ▹ none
 
-  pub taken_bytes : (s t : Source) (to : ℕ) → IsWord s → IsWord t → AllMake (items.taken s t to) (coded.taken s t to)
+  pub taken_bytes : (s t : Source) (to : ℕ) → IsWord s → IsWord t → AllEncode (items.taken s t to) (coded.taken s t to)
   taken_bytes s t to h k = set ▹ lda_low s ▹ sbc_low t ▹ store to ▹ lda_high s h ▹ sbc_high t k ▹ store (to + 1) ▹ none
 
   -- ---- shifts and sums
-  made_append : (xs ys : List Entry) (is js : List Instr) → AllMake xs is → AllMake ys js → AllMake (xs ++ ys) (is ++ js)
+  made_append : (xs ys : List Entry) (is js : List Instr) → AllEncode xs is → AllEncode ys js → AllEncode (xs ++ ys) (is ++ js)
   made_append xs ys is js h k = record { same = λ a. bytes_append labels a xs ys ∙ (λ j. h.same a j ++ k.same (a + size xs) j) ∙ sym (flat_append is js) }
 
-  pub all_made : {at : ℕ} (es : List Entry) (is : List Instr) → AllMake es is → Emits labels at (map kept es) (Code is ∷ [])
+  pub all_made : {at : ℕ} (es : List Entry) (is : List Instr) → AllEncode es is → Emits labels at (map kept es) (Code is ∷ [])
   all_made {at} es is m = record { bytes = ap (bytes_from labels at) (items_kept at es) ∙ m.same at ∙ sym (append-nil (flat is)) }
 
-  rounded_bytes : (k : ℕ) (s : Source) → k < 6 → AllMake (scaled.rounded k s) (coded.rounded k s)
+  rounded_bytes : (k : ℕ) (s : Source) → k < 6 → AllEncode (scaled.rounded k s) (coded.rounded k s)
   unfolding opcodes.encoded
   rounded_bytes zero s few = lda_low s ▹ record { same = λ a. refl } ▹ none
   rounded_bytes (suc k) s few =
       record { same = λ a. refl } ▹ record { same = λ a. refl } ▹ record { same = λ a. ap (λ b. 0x29 ∷ b ∷ []) (masked (suc k) few) } ▹ record { same = λ a. ap (λ b. 0x49 ∷ b ∷ []) (masked (suc k) few) } ▹ adc_low s ▹ none
 
-  signed_bytes : (s : Source) → IsWord s → AllMake (items.high_of Lda s ∷ product.const Cmp 128 ∷ []) (coded.signed s)
+  signed_bytes : (s : Source) → IsWord s → AllEncode (items.high_of Lda s ∷ product.const Cmp 128 ∷ []) (coded.signed s)
   unfolding opcodes.encoded
   signed_bytes s h = lda_high s h ▹ record { same = λ a. refl } ▹ none
 
-  carried_bytes : (s : Source) → IsWord s → AllMake (scaled.at_zero Sta LEFT ∷ items.high_of Lda s ∷ product.const Adc 0 ∷ []) (coded.carried s)
+  carried_bytes : (s : Source) → IsWord s → AllEncode (scaled.at_zero Sta LEFT ∷ items.high_of Lda s ∷ product.const Adc 0 ∷ []) (coded.carried s)
   unfolding opcodes.encoded
   carried_bytes s h = record { same = λ a. refl } ▹ lda_high s h ▹ record { same = λ a. refl } ▹ none
 
-  halved_bytes : AllMake scaled.halved coded.halved
+  halved_bytes : AllEncode scaled.halved coded.halved
   unfolding opcodes.encoded
   halved_bytes = record { same = λ a. refl }
 
-  halvings_bytes : (k : ℕ) → AllMake (scaled.halvings k) (coded.halvings k)
+  halvings_bytes : (k : ℕ) → AllEncode (scaled.halvings k) (coded.halvings k)
   halvings_bytes zero = none
   halvings_bytes (suc k) = made_append (scaled.halvings k) scaled.halved (coded.halvings k) coded.halved (halvings_bytes k) halved_bytes
 
-  high_first_bytes : (to : ℕ) → AllMake (scaled.high_first to) (coded.high_first to)
+  high_first_bytes : (to : ℕ) → AllEncode (scaled.high_first to) (coded.high_first to)
   unfolding opcodes.encoded
   high_first_bytes to = record { same = λ a. refl }
 
-  shifted_bytes : (k : ℕ) (s : Source) (to : ℕ) → k < 6 → IsWord s → AllMake (scaled.shifted k s to) (coded.shifted k s to)
+  shifted_bytes : (k : ℕ) (s : Source) (to : ℕ) → k < 6 → IsWord s → AllEncode (scaled.shifted k s to) (coded.shifted k s to)
   shifted_bytes k s to few h =
       let tail = made_append (scaled.halvings (suc k)) (scaled.high_first to) (coded.halvings (suc k)) (coded.high_first to) (halvings_bytes (suc k)) (high_first_bytes to) in
       let front = made_append (scaled.rounded k s) (scaled.at_zero Sta LEFT ∷ items.high_of Lda s ∷ product.const Adc 0 ∷ []) (coded.rounded k s) (coded.carried s) (rounded_bytes k s few) (carried_bytes s h) in
       let raised = made_append (items.high_of Lda s ∷ product.const Cmp 128 ∷ []) (scaled.rounded k s ++ (scaled.at_zero Sta LEFT ∷ items.high_of Lda s ∷ product.const Adc 0 ∷ [])) (coded.signed s) (coded.rounded k s ++ coded.carried s) (signed_bytes s h) front in
       let all = made_append (scaled.raised k s) (scaled.halvings (suc k) ++ scaled.high_first to) (coded.signed s ++ (coded.rounded k s ++ coded.carried s)) (coded.halvings (suc k) ++ coded.high_first to) raised tail in
-      subst (AllMake (scaled.shifted k s to)) (ap (λ is. coded.signed s ++ is) (append_assoc (coded.rounded k s) (coded.carried s) (coded.halvings (suc k) ++ coded.high_first to))) all
+      subst (AllEncode (scaled.shifted k s to)) (ap (λ is. coded.signed s ++ is) (append_assoc (coded.rounded k s) (coded.carried s) (coded.halvings (suc k) ++ coded.high_first to))) all
 
-  doubled_bytes : AllMake scaled.doubled coded.doubled
+  doubled_bytes : AllEncode scaled.doubled coded.doubled
   unfolding opcodes.encoded
   doubled_bytes = record { same = λ a. refl }
 
-  increased_bytes : (s : Source) → IsWord s → AllMake (scaled.increased s) (coded.increased s)
+  increased_bytes : (s : Source) → IsWord s → AllEncode (scaled.increased s) (coded.increased s)
   unfolding opcodes.encoded
   increased_bytes s h = clear ▹ adc_low s ▹ record { same = λ a. refl } ▹ record { same = λ a. refl } ▹ adc_high s h ▹ record { same = λ a. refl } ▹ record { same = λ a. refl } ▹ none
 
-  bit_bytes : (t : Bool) (s : Source) → IsWord s → AllMake (scaled.by_bit t s) (coded.by_bit t s)
+  bit_bytes : (t : Bool) (s : Source) → IsWord s → AllEncode (scaled.by_bit t s) (coded.by_bit t s)
   bit_bytes false s h = doubled_bytes
   bit_bytes true s h = made_append scaled.doubled (scaled.increased s) coded.doubled (coded.increased s) doubled_bytes (increased_bytes s h)
 
-  bits_bytes : (k factor : ℕ) (s : Source) → IsWord s → AllMake (scaled.by_bits k factor s) (coded.by_bits k factor s)
+  bits_bytes : (k factor : ℕ) (s : Source) → IsWord s → AllEncode (scaled.by_bits k factor s) (coded.by_bits k factor s)
   bits_bytes zero factor s h = none
   bits_bytes (suc k) factor s h = by (bits_bytes k (factor / 2) s h) (nat_lt factor 2)
     where
       odd : Bool
       odd = nat_eq (factor % 2) 1
 
-      by : AllMake (scaled.by_bits k (factor / 2) s) (coded.by_bits k (factor / 2) s) → (t : Bool) → AllMake (if t then [] else scaled.by_bits k (factor / 2) s ++ scaled.by_bit odd s) (if t then [] else coded.by_bits k (factor / 2) s ++ coded.by_bit odd s)
+      by : AllEncode (scaled.by_bits k (factor / 2) s) (coded.by_bits k (factor / 2) s) → (t : Bool) → AllEncode (if t then [] else scaled.by_bits k (factor / 2) s ++ scaled.by_bit odd s) (if t then [] else coded.by_bits k (factor / 2) s ++ coded.by_bit odd s)
       by b true = none
       by b false = made_append (scaled.by_bits k (factor / 2) s) (scaled.by_bit odd s) (coded.by_bits k (factor / 2) s) (coded.by_bit odd s) b (bit_bytes odd s h)
 
-  begun_bytes : (s : Source) → IsWord s → AllMake (items.high_of Lda s ∷ scaled.at_zero Sta LEFT ∷ items.low_of Lda s ∷ []) (coded.begun s)
+  begun_bytes : (s : Source) → IsWord s → AllEncode (items.high_of Lda s ∷ scaled.at_zero Sta LEFT ∷ items.low_of Lda s ∷ []) (coded.begun s)
   unfolding opcodes.encoded
   begun_bytes s h = lda_high s h ▹ record { same = λ a. refl } ▹ lda_low s ▹ none
 
-  low_first_bytes : (to : ℕ) → AllMake (scaled.low_first to) (coded.low_first to)
+  low_first_bytes : (to : ℕ) → AllEncode (scaled.low_first to) (coded.low_first to)
   unfolding opcodes.encoded
   low_first_bytes to = record { same = λ a. refl }
 
-  times_bytes : (factor : ℕ) (s : Source) (to : ℕ) → IsWord s → AllMake (scaled.times factor s to) (coded.times factor s to)
+  times_bytes : (factor : ℕ) (s : Source) (to : ℕ) → IsWord s → AllEncode (scaled.times factor s to) (coded.times factor s to)
   times_bytes factor s to h =
       let tail = made_append (scaled.by_bits 15 factor s) (scaled.low_first to) (coded.by_bits 15 factor s) (coded.low_first to) (bits_bytes 15 factor s h) (low_first_bytes to) in
       made_append (items.high_of Lda s ∷ scaled.at_zero Sta LEFT ∷ items.low_of Lda s ∷ []) (scaled.by_bits 15 factor s ++ scaled.low_first to) (coded.begun s) (coded.by_bits 15 factor s ++ coded.low_first to) (begun_bytes s h) tail
 
   -- ---- tests by bytes
-  pub weighed_low : (s t : Source) → AllMake (items.low_of Lda s ∷ items.low_of Cmp t ∷ []) (weighed (low s) (low t))
+  pub weighed_low : (s t : Source) → AllEncode (items.low_of Lda s ∷ items.low_of Cmp t ∷ []) (weighed (low s) (low t))
   weighed_low s t = lda_low s ▹ cmp_low t ▹ none
 
-  pub weighed_high : (s t : Source) → IsWord s → IsWord t → AllMake (items.high_of Lda s ∷ items.high_of Cmp t ∷ []) (weighed (high s) (high t))
+  pub weighed_high : (s t : Source) → IsWord s → IsWord t → AllEncode (items.high_of Lda s ∷ items.high_of Cmp t ∷ []) (weighed (high s) (high t))
   weighed_high s t h k = lda_high s h ▹ cmp_high t k ▹ none
 
-  pub difference_bytes : (s t : Source) → IsWord s → IsWord t → AllMake (items.low_of Lda s ∷ items.low_of Cmp t ∷ items.high_of Lda s ∷ items.high_of Sbc t ∷ []) (difference s t)
+  pub difference_bytes : (s t : Source) → IsWord s → IsWord t → AllEncode (items.low_of Lda s ∷ items.low_of Cmp t ∷ items.high_of Lda s ∷ items.high_of Sbc t ∷ []) (difference s t)
   difference_bytes s t h k = lda_low s ▹ cmp_low t ▹ lda_high s h ▹ sbc_high t k ▹ none
 
-  pub lifted_bytes : (s : Source) (w : ℕ) → IsWord s → AllMake (orders.lifted s w) (coded.lifted s w)
+  pub lifted_bytes : (s : Source) (w : ℕ) → IsWord s → AllEncode (orders.lifted s w) (coded.lifted s w)
   unfolding opcodes.encoded
   lifted_bytes s w h = lda_low s ▹ cmp_low (FixedWord w) ▹ lda_high s h ▹ record { same = λ a. refl } ▹ sbc_low (FixedWord (w / 256 + 128)) ▹ none
 
@@ -425,13 +425,13 @@ module _ (labels : List (Name × ℕ)) where
   pub asked_emits : (n at : ℕ) (s t : Source) → n < 65536 → IsWord s → IsWord t → Emits labels at (map kept (items.asked_rest n s t)) (coded.rest_asked n s t)
   asked_emits n at s t l h k = lined_emits at (items.may_be_zero t) n l _ _ (λ b. called_emits {at = b} s t h k)
 
-  pub high_made : (s : Source) → IsWord s → AllMake (items.high_of Lda s ∷ []) (coded.sign_looked_at s)
+  pub high_made : (s : Source) → IsWord s → AllEncode (items.high_of Lda s ∷ []) (coded.sign_looked_at s)
   high_made s h = lda_high s h ▹ none
 
-  pub copied_made : (from to : ℕ) → AllMake (product.copied from to) (resolved.copied from to)
+  pub copied_made : (from to : ℕ) → AllEncode (product.copied from to) (resolved.copied from to)
   copied_made from to = record { same = λ a. copied_bytes labels [] 0 a from to }
 
-  bits_bytes_of : (k : ℕ) (s : Source) → k < 8 → AllMake (lowest_bits (2 ^ (k + 1) - 1) s) (coded.lowest_bits (2 ^ (k + 1) - 1) s)
+  bits_bytes_of : (k : ℕ) (s : Source) → k < 8 → AllEncode (lowest_bits (2 ^ (k + 1) - 1) s) (coded.lowest_bits (2 ^ (k + 1) - 1) s)
   unfolding opcodes.encoded
   bits_bytes_of k s few = lda_low s ▹ record { same = λ a. ap (λ b. 0x29 ∷ b ∷ []) (mask_small k few) } ▹ none
 
@@ -447,12 +447,12 @@ module _ (labels : List (Name × ℕ)) where
   calculated_emits n at op.Divide s t to l h k = quotient_emits n at (shifts t) s t to (shifting_is t) l h k
 
   -- ---- cut behind straight items and behind a branch
-  make_size : (es : List Entry) (is : List Instr) → AllMake es is → size es ≡ resolved.size is
+  make_size : (es : List Entry) (is : List Instr) → AllEncode es is → size es ≡ resolved.size is
   make_size es is m =
       let one : Emits labels 0 (map kept es ++ []) (Code is ∷ []) = block labels es is (m.same 0) (ends labels) in
       let a = emitted_size labels one in let b = kept_size es in let c = forms_append (map kept es) [] in omega (arith, a, b, c)
 
-  pub behind_straight : (at : ℕ) (es : List Entry) (is : List Instr) (fs : List Form) → AllMake es is → Rest at (map kept es ++ fs) → Rest (at + resolved.size is) fs
+  pub behind_straight : (at : ℕ) (es : List Entry) (is : List Instr) (fs : List Form) → AllEncode es is → Rest at (map kept es ++ fs) → Rest (at + resolved.size is) fs
   behind_straight at es is fs m r = rest_behind at (at + resolved.size is) (map kept es) fs (let s = make_size es is m in let k = kept_size es in omega (arith, s, k)) r
 
   pub behind_branch : (at : ℕ) (way : Way) (n : Mnemonic) (l : Name) (fs : List Form) → Rest at (formed way n l ∷ fs) → Rest (at + way_size way) fs
