@@ -11,13 +11,13 @@ use Rattle.tb_reaching.specs.Start.{IsHome}
 use Rattle.tb_reaching.specs.View.{Comes, Fits, View}
 use Rattle.tb_runtime16.specs.Input.{Taken, prompt}
 use Rattle.tb_runtime16.specs.Laws.{AllBytes}
-use Rattle.tb_runtime16.specs.Routines.{Here, Moves, Waiting, WordAt, is_owned, line_end}
+use Rattle.tb_runtime16.specs.Routines.{Here, Moves, Waiting, WordAt, is_state, line_end}
 use Rattle.tb_runtime16.specs.Places.{COLUMN, HOME_S, INPUT_AT, LINE, OPEN, POLL_AT, RESULT}
-use Rattle.tb_runtime16.proofs.Owned.{not_asked}
+use Rattle.tb_runtime16.proofs.StatePlaces.{not_asked}
 use Rattle.tb_templates.specs.Templates.{var_at}
 use Rattle.tb_keeping.proofs.Mirrors.{HoldsState}
 use Rattle.tb_keeping.proofs.Turns.{Leaves, turn_short}
-use Rattle.tb_keeping.proofs.Frames.{column_mod, owned_low, put_away, state_asked, word_put}
+use Rattle.tb_keeping.proofs.Frames.{column_mod, low_is_state, put_away, state_asked, word_put}
 use Rattle.tb_keeping.proofs.Pieces.{calls, put_word, word_in_data}
 use Rattle.tb_keeping.proofs.Returning.{back_here, behind_call, homed_kept, moved}
 use Rattle.tb_selection.specs.Groups.{IntoHome, IntoVariable, Single}
@@ -68,10 +68,10 @@ module _ (around : Surroundings) (fits : Fits around.f 16) (limit : ℕ) (rs : S
 
     asked_kept : (stays : Bool) (left : List ℕ) (v : ℕ) (m' : ℕ → ℕ) → Taken m (column_after (m COLUMN) (prompt o ++ line_end stays) % 256) v stays m' → Kept around (live is) (read_state stays left) r m'
     asked_kept stays left v m' g =
-        let others : (p : ℕ) → is_owned p ≡ true → p ≢ OPEN → p ≢ COLUMN → m' p ≡ m p = λ p z x y. g.gives.others p (not_asked p z x y) in
+        let others : (p : ℕ) → is_state p ≡ true → p ≢ OPEN → p ≢ COLUMN → m' p ≡ m p = λ p z x y. g.gives.others p (not_asked p z x y) in
         record {
           state = state_asked ly s m m' c.state stays (column_after s.column (prompt o ++ line_end stays)) left g.line_open (g.column_is ∙ ap (λ k. column_after k (prompt o ++ line_end stays) % 256) c.state.column ∙ column_mod s.column (prompt o ++ line_end stays)) others;
-          read = live_same (live is) r m m' h.few_behind (λ a lo hi. others a (owned_low a (omega (arith, lo)) hi) (λ e. omega (arith, e, lo)) (λ e. omega (arith, e, lo))) c.read;
+          read = live_same (live is) r m m' h.few_behind (λ a lo hi. others a (low_is_state a (omega (arith, lo)) hi) (λ e. omega (arith, e, lo)) (λ e. omega (arith, e, lo))) c.read;
           homed = homed_kept m m' (g.gives.others HOME_S refl) c.homed;
         }
 

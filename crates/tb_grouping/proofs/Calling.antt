@@ -11,7 +11,7 @@ use Rattle.tb_reaching.specs.Start.{IsHome}
 use Rattle.tb_reaching.specs.View.{Comes, Fits, View}
 use Rattle.tb_runtime16.specs.Routines.{Here, Moves, Noted, WordAt}
 use Rattle.tb_runtime16.specs.Places.{HOME_S, LEFT, LINE, NOTES, POP_AT, PUSH_AT, RESULT}
-use Rattle.tb_runtime16.proofs.Owned.{not_popped, not_pushed}
+use Rattle.tb_runtime16.proofs.StatePlaces.{not_popped, not_pushed}
 use Rattle.tb_keeping.specs.Layout.{next_at, place_at}
 use Rattle.tb_keeping.proofs.Frames.{state_popped, state_pushed, word_away, word_put}
 use Rattle.tb_keeping.proofs.Mirrors.{Flagged, notes_of}

@@ -7,11 +7,11 @@ use Rattle.tb_lower.specs.Slots.{Instr, Slots, SlotCode}
 use Rattle.tb_reaching.proofs.Comes.{looser}
 use Rattle.tb_reaching.specs.View.{Comes, Fits, View}
 use Rattle.tb_runtime16.specs.Laws.{Drawn}
-use Rattle.tb_runtime16.specs.Routines.{WordAt, is_owned}
+use Rattle.tb_runtime16.specs.Routines.{WordAt, is_state}
 use Rattle.tb_templates.specs.GroupTemplates.{may_have_none}
 use Rattle.tb_runtime16.specs.Places.{HOME_S, LEFT, LINE, RANDOM_AT, RESULT, SEED, SEEDED}
-use Rattle.tb_runtime16.proofs.Owned.{not_argument, not_scratch, not_seed}
-use Rattle.tb_keeping.proofs.Frames.{owned_low, state_drawn}
+use Rattle.tb_runtime16.proofs.StatePlaces.{not_argument, not_scratch, not_seed}
+use Rattle.tb_keeping.proofs.Frames.{low_is_state, state_drawn}
 use Rattle.tb_keeping.proofs.Joins.{sent_in}
 use Rattle.tb_keeping.proofs.Resolved.{Lies, Piece, pieces_size, size}
 use Rattle.tb_keeping.proofs.Returning.{back_here, homed_kept}
@@ -112,10 +112,10 @@ module _ (around : Surroundings) (fits : Fits around.f 16) (code : SlotCode) (n 
 
     drawn_kept : (bound : ℕ) (m' m'' : ℕ → ℕ) → Kept around (live js) s r m' → Drawn m' bound s.seed m'' → Kept around (live js) drawn r m''
     drawn_kept bound m' m'' q g =
-        let others : (p : ℕ) → is_owned p ≡ true → p ≢ SEEDED → p ≢ SEED → p ≢ SEED + 1 → m'' p ≡ m' p = λ p o x y z. g.others p (not_argument p o) (not_scratch p o) (not_seed p x y z) in
+        let others : (p : ℕ) → is_state p ≡ true → p ≢ SEEDED → p ≢ SEED → p ≢ SEED + 1 → m'' p ≡ m' p = λ p o x y z. g.others p (not_argument p o) (not_scratch p o) (not_seed p x y z) in
         record {
           state = state_drawn ly s m' m'' q.state (seed_after s.seed) g.seeded g.seed_at others;
-          read = live_same (live js) r m' m'' h.some_read (λ a lo hi. others a (owned_low a (omega (arith, lo)) hi) (λ e. omega (arith, e, lo)) (λ e. omega (arith, e, lo)) (λ e. omega (arith, e, lo))) q.read;
+          read = live_same (live js) r m' m'' h.some_read (λ a lo hi. others a (low_is_state a (omega (arith, lo)) hi) (λ e. omega (arith, e, lo)) (λ e. omega (arith, e, lo)) (λ e. omega (arith, e, lo))) q.read;
           homed = homed_kept m' m'' (g.others HOME_S refl refl refl) q.homed;
         }
 

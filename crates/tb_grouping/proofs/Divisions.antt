@@ -10,7 +10,7 @@ use Rattle.tb_reaching.proofs.Comes.{looser}
 use Rattle.tb_reaching.specs.View.{Comes, Fits, View}
 use Rattle.tb_runtime16.specs.Routines.{WordAt}
 use Rattle.tb_runtime16.specs.Places.{DIVIDE_AT, LEFT, LINE, RIGHT}
-use Rattle.tb_runtime16.proofs.Owned.{not_argument}
+use Rattle.tb_runtime16.proofs.StatePlaces.{not_argument}
 use Rattle.tb_keeping.proofs.Joins.{sent_in}
 use Rattle.tb_keeping.proofs.Resolved.{Lies, pieces_size, Piece}
 use Rattle.tb_templates.specs.GroupTemplates.{may_be_zero}

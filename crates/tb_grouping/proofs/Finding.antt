@@ -10,7 +10,7 @@ use Rattle.tb_reaching.specs.Start.{IsHome}
 use Rattle.tb_reaching.specs.View.{Comes, Fits, View}
 use Rattle.tb_runtime16.specs.Routines.{Here, Moves, WordAt}
 use Rattle.tb_runtime16.specs.Places.{COUNT, HOME_S, LEFT, LINE, NOTES, PUSH_AT, RESULT, SEARCH_AT, TABLE, WANTED}
-use Rattle.tb_runtime16.proofs.Owned.{not_pushed, not_searched}
+use Rattle.tb_runtime16.proofs.StatePlaces.{not_pushed, not_searched}
 use Rattle.tb_keeping.specs.Layout.{next_at, place_at}
 use Rattle.tb_keeping.proofs.Frames.{state_pushed, word_away, word_kept, word_put}
 use Rattle.tb_keeping.proofs.Mirrors.{notes_of}

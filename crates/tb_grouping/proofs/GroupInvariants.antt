@@ -7,10 +7,10 @@ use Rattle.tb_reaching.proofs.Comes.{chained, looser}
 use Rattle.tb_reaching.proofs.Instr.{Stands}
 use Rattle.tb_reaching.specs.View.{Comes, Fits, View}
 use Rattle.tb_runtime16.specs.Laws.{AllBytes, Sent}
-use Rattle.tb_runtime16.specs.Routines.{Entered, Here, Moves, WordAt, is_owned, is_scratch}
+use Rattle.tb_runtime16.specs.Routines.{Entered, Here, Moves, WordAt, is_state, is_scratch}
 use Rattle.tb_runtime16.specs.Places.{COLUMN, HOME_S, LINE}
 use Rattle.tb_keeping.specs.Layout.{place_at}
-use Rattle.tb_keeping.proofs.Frames.{owned_low, put_away, state_told, word_put}
+use Rattle.tb_keeping.proofs.Frames.{low_is_state, put_away, state_told, word_put}
 use Rattle.tb_keeping.proofs.Mirrors.{HoldsState, Typable}
 use Rattle.tb_keeping.proofs.Pieces.{put_word, sets}
 use Rattle.tb_keeping.proofs.Resolved.{Lies, Piece, constant, highest_code, pieces_size}
@@ -51,23 +51,23 @@ module _ (around : Surroundings) where
     pub read : HoldsLive u r m
     pub homed : Entered f lo hi m
 
-  pub kept_scratch : (u : Live) (s : State) (r : Slots) (m m' : ℕ → ℕ) → u.slots ≤ 16 → ((a : ℕ) → is_owned a ≡ true → m' a ≡ m a) → Kept u s r m → Kept u s r m'
+  pub kept_scratch : (u : Live) (s : State) (r : Slots) (m m' : ℕ → ℕ) → u.slots ≤ 16 → ((a : ℕ) → is_state a ≡ true → m' a ≡ m a) → Kept u s r m → Kept u s r m'
   kept_scratch u s r m m' few e c = record {
     state = state_scratch ly s m m' c.state e;
-    read = live_same u r m m' few (λ a lo hi. e a (owned_low a (omega (arith, lo)) hi)) c.read;
-    homed = homed_kept m m' (e HOME_S (owned_low HOME_S (omega arith) (omega arith))) c.homed;
+    read = live_same u r m m' few (λ a lo hi. e a (low_is_state a (omega (arith, lo)) hi)) c.read;
+    homed = homed_kept m m' (e HOME_S (low_is_state HOME_S (omega arith) (omega arith))) c.homed;
   }
 
-  pub kept_put : (u : Live) (s : State) (r : Slots) (m : ℕ → ℕ) (p l h : ℕ) → u.slots ≤ 16 → is_owned p ≡ false → is_owned (p + 1) ≡ false → Kept u s r m → Kept u s r (put_word m p l h)
+  pub kept_put : (u : Live) (s : State) (r : Slots) (m : ℕ → ℕ) (p l h : ℕ) → u.slots ≤ 16 → is_state p ≡ false → is_state (p + 1) ≡ false → Kept u s r m → Kept u s r (put_word m p l h)
   kept_put u s r m p l h few k k' c = kept_scratch u s r m (put_word m p l h) few (scratch_put m p l h k k') c
 
   -- bytes were sent
   pub kept_told : (u : Live) (s : State) (r : Slots) (m : ℕ → ℕ) (t : List ℕ) (m' : ℕ → ℕ) → u.slots ≤ 16 → Sent is_scratch m t m' → Kept u s r m → Kept u (record s { column = column_after s.column t }) r m'
   kept_told u s r m t m' few g c =
-      let others : (p : ℕ) → is_owned p ≡ true → p ≢ COLUMN → m' p ≡ m p = λ p o q. g.others p (ap not o) q in
+      let others : (p : ℕ) → is_state p ≡ true → p ≢ COLUMN → m' p ≡ m p = λ p o q. g.others p (ap not o) q in
       record {
         state = state_told ly s m m' c.state t g.column others;
-        read = live_same u r m m' few (λ a lo hi. others a (owned_low a (omega (arith, lo)) hi) (λ e. omega (arith, e, lo))) c.read;
+        read = live_same u r m m' few (λ a lo hi. others a (low_is_state a (omega (arith, lo)) hi) (λ e. omega (arith, e, lo))) c.read;
         homed = homed_kept m m' (others HOME_S refl (λ e. omega (arith, e))) c.homed;
       }
 

@@ -6,10 +6,10 @@ use Rattle.tb_lower.specs.Control.{State}
 use Rattle.tb_lower.specs.Slots.{Instr, Slots, with_word}
 use Rattle.tb_runtime16.specs.Places.{COLUMN, HELD, HOME_S, LINE, NOTES, OPEN, SEED, SEEDED}
 use Rattle.tb_templates.specs.Templates.{slot_at, var_at}
-use Rattle.tb_runtime16.specs.Routines.{SeedAt, WordAt, is_owned}
+use Rattle.tb_runtime16.specs.Routines.{SeedAt, WordAt, is_state}
 use Rattle.tb_keeping.proofs.Mirrors.{HoldsState}
 use Rattle.tb_keeping.specs.Layout.{Layout}
-use Rattle.tb_keeping.proofs.Frames.{Same, SameSingles, notes_kept, owned_low, owned_note, put_away, seed_over, word_kept}
+use Rattle.tb_keeping.proofs.Frames.{Same, SameSingles, notes_kept, low_is_state, note_is_state, put_away, seed_over, word_kept}
 use Rattle.tb_keeping.proofs.Pieces.{put_word}
 use Rattle.tb_selection.specs.declared.liveness.Live.{Live}
 use Rattle.tb_selection.specs.Groups.{IntoVariable, IntoHeld, Destination, IntoSlot, IntoHome, slot_of}
@@ -39,8 +39,8 @@ module _ (ly : Layout) (s : State) (m m' : ℕ → ℕ) (h : HoldsState ly s m) 
   state_same v e e' = state_with s.vars h.all_vars (λ x lt. word_kept m m' (var_at x) _ (v _ (omega arith) (omega (arith, lt))) (v _ (omega arith) (omega (arith, lt))) (h.vars x lt)) (v COLUMN (omega arith) (omega arith)) e e'
 
   -- scratch was written
-  pub state_scratch : ((a : ℕ) → is_owned a ≡ true → m' a ≡ m a) → HoldsState ly s m'
-  state_scratch e = state_same (λ a lo hi. e a (owned_low a lo (omega (arith, hi)))) (λ a lo hi n n'. e a (owned_low a (omega (arith, lo)) (omega (arith, hi)))) (λ a lo hi. e a (owned_note a lo hi))
+  pub state_scratch : ((a : ℕ) → is_state a ≡ true → m' a ≡ m a) → HoldsState ly s m'
+  state_scratch e = state_same (λ a lo hi. e a (low_is_state a lo (omega (arith, hi)))) (λ a lo hi n n'. e a (low_is_state a (omega (arith, lo)) (omega (arith, hi)))) (λ a lo hi. e a (note_is_state a lo hi))
 
 -- ---- a result written
 abbrev pub DestFits : Destination → Type 0
@@ -106,8 +106,8 @@ read_lined u r m l h hr = record {
 }
 
 -- a word of scratch was written
-pub scratch_put : (m : ℕ → ℕ) (p l h : ℕ) → is_owned p ≡ false → is_owned (p + 1) ≡ false → (a : ℕ) → is_owned a ≡ true → put_word m p l h a ≡ m a
+pub scratch_put : (m : ℕ → ℕ) (p l h : ℕ) → is_state p ≡ false → is_state (p + 1) ≡ false → (a : ℕ) → is_state a ≡ true → put_word m p l h a ≡ m a
 scratch_put m p l h k k' a o = put_away m p l h a (apart p k) (apart (p + 1) k')
   where
-    apart : (b : ℕ) → is_owned b ≡ false → a ≢ b
-    apart b k e = let no : true ≡ false = sym o ∙ ap is_owned e ∙ k in cc
+    apart : (b : ℕ) → is_state b ≡ false → a ≢ b
+    apart b k e = let no : true ≡ false = sym o ∙ ap is_state e ∙ k in cc

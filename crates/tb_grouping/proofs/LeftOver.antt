@@ -13,7 +13,7 @@ use Rattle.tb_reaching.specs.Start.{IsHome}
 use Rattle.tb_reaching.specs.View.{Bytes, Comes, Fits, Setup, View, is_data, view}
 use Rattle.tb_runtime16.specs.Places.{DIVIDE_AT, LEFT, LINE, RESULT, RIGHT}
 use Rattle.tb_runtime16.specs.Routines.{Here, Moves, WithA, WordAt}
-use Rattle.tb_runtime16.proofs.Owned.{not_argument}
+use Rattle.tb_runtime16.proofs.StatePlaces.{not_argument}
 use Rattle.tb_keeping.proofs.Mirrors.{Flagged}
 use Rattle.tb_keeping.proofs.Pieces.{loads_last, moves_looser, moves_then, whatever_a}
 use Rattle.tb_keeping.proofs.Resolved.{Code, Lies, Piece, highest_code, pieces_size, size}

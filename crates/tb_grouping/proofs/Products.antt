@@ -7,7 +7,7 @@ use Rattle.tb_lower.specs.Slots.{Instr, Slots, SlotCode}
 use Rattle.tb_reaching.proofs.Comes.{looser}
 use Rattle.tb_reaching.specs.View.{Fits, View}
 use Rattle.tb_runtime16.specs.Places.{MULTIPLY_AT, RESULT}
-use Rattle.tb_runtime16.proofs.Owned.{not_argument}
+use Rattle.tb_runtime16.proofs.StatePlaces.{not_argument}
 use Rattle.tb_keeping.proofs.Resolved.{Lies, pieces_size}
 use Rattle.tb_keeping.proofs.Returning.{back_here}
 use Rattle.tb_selection.specs.Groups.{Operand, Destination, Calculate}

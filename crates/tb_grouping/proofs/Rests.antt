@@ -15,7 +15,7 @@ use Rattle.tb_reaching.specs.Start.{IsHome}
 use Rattle.tb_reaching.specs.View.{Comes, Fits, View}
 use Rattle.tb_runtime16.specs.Places.{DIVIDE_AT, LEFT, LINE, RESULT, RIGHT}
 use Rattle.tb_runtime16.specs.Routines.{Here, Moves, WordAt}
-use Rattle.tb_runtime16.proofs.Owned.{not_argument}
+use Rattle.tb_runtime16.proofs.StatePlaces.{not_argument}
 use Rattle.tb_keeping.proofs.Frames.{word_put}
 use Rattle.tb_keeping.proofs.Joins.{sent_in}
 use Rattle.tb_keeping.proofs.Pieces.{moves_looser}

@@ -6,7 +6,7 @@ use Rattle.tb_cpu.specs.Effects.{bit}
 use Rattle.tb_keeping.proofs.Mirrors.{HoldsState, notes_of}
 use Rattle.tb_keeping.proofs.Pieces.{put_word}
 use Rattle.tb_keeping.specs.Layout.{Layout, place_at}
-use Rattle.tb_runtime16.specs.Routines.{Noted, SeedAt, WordAt, first, is_owned, stored}
+use Rattle.tb_runtime16.specs.Routines.{Noted, SeedAt, WordAt, first, is_state, stored}
 use Rattle.tb_lower.specs.Control.{Place, State, column_after}
 use Rattle.tb_memmap.specs.Bytes.{with_byte}
 use Rattle.tb_reaching.proofs.Memory.{put_other, put_same}
@@ -34,11 +34,11 @@ pub word_away : (m : ℕ → ℕ) (at lo hi a w : ℕ) → a ≢ at → a ≢ at
 word_away m at lo hi a w n n' n'' h = word_kept m (put_word m at lo hi) a w (put_away m at lo hi a n n') (put_away m at lo hi (a + 1) n'' (λ e. n (omega (arith, e)))) h
 
 -- ---- owned places
-pub owned_low : (a : ℕ) → 0xC000 ≤ a → a ≤ 0xC061 → is_owned a ≡ true
-owned_low a lo hi = grind (arith, nat_tests)
+pub low_is_state : (a : ℕ) → 0xC000 ≤ a → a ≤ 0xC061 → is_state a ≡ true
+low_is_state a lo hi = grind (arith, nat_tests)
 
-pub owned_note : (a : ℕ) → 0xC100 ≤ a → a ≤ 0xC4F3 → is_owned a ≡ true
-owned_note a lo hi = grind (arith, nat_tests)
+pub note_is_state : (a : ℕ) → 0xC100 ≤ a → a ≤ 0xC4F3 → is_state a ≡ true
+note_is_state a lo hi = grind (arith, nat_tests)
 
 -- ---- parts of the state
 -- two memories agree on the single bytes but for the line's number
@@ -78,24 +78,24 @@ module _ (ly : Layout) (s : State) (m m' : ℕ → ℕ) (h : HoldsState ly s m) 
   vars_kept e x lt = word_kept m m' (var_at x) _ (e _ (omega arith) (omega (arith, lt))) (e _ (omega arith) (omega (arith, lt))) (h.vars x lt)
 
   -- bytes are sent
-  pub state_told : (t : List ℕ) → m' COLUMN ≡ column_after (m COLUMN) t % 256 → ((a : ℕ) → is_owned a ≡ true → a ≢ COLUMN → m' a ≡ m a) → HoldsState ly (record s { column = column_after s.column t }) m'
+  pub state_told : (t : List ℕ) → m' COLUMN ≡ column_after (m COLUMN) t % 256 → ((a : ℕ) → is_state a ≡ true → a ≢ COLUMN → m' a ≡ m a) → HoldsState ly (record s { column = column_after s.column t }) m'
   state_told t co e =
-      let low : (a : ℕ) → 0xC000 ≤ a → a ≤ 0xC061 → a ≢ COLUMN → m' a ≡ m a = λ a lo hi. e a (owned_low a lo hi) in
+      let low : (a : ℕ) → 0xC000 ≤ a → a ≤ 0xC061 → a ≢ COLUMN → m' a ≡ m a = λ a lo hi. e a (low_is_state a lo hi) in
       record {
         vars = vars_kept (λ a lo hi. low a lo (omega (arith, hi)) (λ e. omega (arith, e, hi)));
         column = co ∙ ap (λ c. column_after c t % 256) h.column ∙ column_mod s.column t;
         opened = low OPEN (omega arith) (omega arith) (λ e. omega (arith, e)) ∙ h.opened;
         seeded = seed_over m m' (low SEEDED (omega arith) (omega arith) (λ e. omega (arith, e))) (low SEED (omega arith) (omega arith) (λ e. omega (arith, e))) (low (SEED + 1) (omega arith) (omega arith) (λ e. omega (arith, e))) h.seeded;
         count = word_kept m m' NOTES _ (low NOTES (omega arith) (omega arith) (λ e. omega (arith, e))) (low (NOTES + 1) (omega arith) (omega arith) (λ e. omega (arith, e))) h.count;
-        notes = notes_kept ly m m' s.returns h.few (λ a lo hi. e a (owned_note a lo hi) (λ e. omega (arith, e, lo))) h.notes;
+        notes = notes_kept ly m m' s.returns h.few (λ a lo hi. e a (note_is_state a lo hi) (λ e. omega (arith, e, lo))) h.notes;
         few = h.few;
         all_vars = h.all_vars;
       }
 
   -- the newest note is taken away
-  pub state_popped : (p : Place) (ps : List Place) → s.returns ≡ p ∷ ps → WordAt m' NOTES (length ps) → ((a : ℕ) → is_owned a ≡ true → a ≢ NOTES → a ≢ NOTES + 1 → m' a ≡ m a) → HoldsState ly (record s { place = p; returns = ps }) m'
+  pub state_popped : (p : Place) (ps : List Place) → s.returns ≡ p ∷ ps → WordAt m' NOTES (length ps) → ((a : ℕ) → is_state a ≡ true → a ≢ NOTES → a ≢ NOTES + 1 → m' a ≡ m a) → HoldsState ly (record s { place = p; returns = ps }) m'
   state_popped p ps q count e =
-      let low : (a : ℕ) → 0xC000 ≤ a → a ≤ 0xC061 → a ≢ NOTES → a ≢ NOTES + 1 → m' a ≡ m a = λ a lo hi. e a (owned_low a lo hi) in
+      let low : (a : ℕ) → 0xC000 ≤ a → a ≤ 0xC061 → a ≢ NOTES → a ≢ NOTES + 1 → m' a ≡ m a = λ a lo hi. e a (low_is_state a lo hi) in
       let few : suc (length ps) ≤ 500 = subst (λ l. length l ≤ 500) q h.few in
       let notes : Noted m (notes_of ly (p ∷ ps)) = subst (λ l. Noted m (notes_of ly l)) q h.notes in
       record {
@@ -104,37 +104,37 @@ module _ (ly : Layout) (s : State) (m m' : ℕ → ℕ) (h : HoldsState ly s m) 
         opened = low OPEN (omega arith) (omega arith) (λ e. omega (arith, e)) (λ e. omega (arith, e)) ∙ h.opened;
         seeded = seed_over m m' (low SEEDED (omega arith) (omega arith) (λ e. omega (arith, e)) (λ e. omega (arith, e))) (low SEED (omega arith) (omega arith) (λ e. omega (arith, e)) (λ e. omega (arith, e))) (low (SEED + 1) (omega arith) (omega arith) (λ e. omega (arith, e)) (λ e. omega (arith, e))) h.seeded;
         count = count;
-        notes = notes_kept ly m m' ps (omega (arith, few)) (λ a lo hi. e a (owned_note a lo hi) (λ e. omega (arith, e, lo)) (λ e. omega (arith, e, lo))) notes.1;
+        notes = notes_kept ly m m' ps (omega (arith, few)) (λ a lo hi. e a (note_is_state a lo hi) (λ e. omega (arith, e, lo)) (λ e. omega (arith, e, lo))) notes.1;
         few = omega (arith, few);
         all_vars = h.all_vars;
       }
 
   -- the RND state is stored
-  pub state_drawn : (seed : ℕ) → m' SEEDED ≡ 1 → WordAt m' SEED seed → ((a : ℕ) → is_owned a ≡ true → a ≢ SEEDED → a ≢ SEED → a ≢ SEED + 1 → m' a ≡ m a) → HoldsState ly (record s { seed = seed }) m'
+  pub state_drawn : (seed : ℕ) → m' SEEDED ≡ 1 → WordAt m' SEED seed → ((a : ℕ) → is_state a ≡ true → a ≢ SEEDED → a ≢ SEED → a ≢ SEED + 1 → m' a ≡ m a) → HoldsState ly (record s { seed = seed }) m'
   state_drawn seed one word e =
-      let low : (a : ℕ) → 0xC000 ≤ a → a ≤ 0xC061 → a ≢ SEEDED → a ≢ SEED → a ≢ SEED + 1 → m' a ≡ m a = λ a lo hi. e a (owned_low a lo hi) in
+      let low : (a : ℕ) → 0xC000 ≤ a → a ≤ 0xC061 → a ≢ SEEDED → a ≢ SEED → a ≢ SEED + 1 → m' a ≡ m a = λ a lo hi. e a (low_is_state a lo hi) in
       record {
         vars = vars_kept (λ a lo hi. low a lo (omega (arith, hi)) (λ e. omega (arith, e, hi)) (λ e. omega (arith, e, hi)) (λ e. omega (arith, e, hi)));
         column = low COLUMN (omega arith) (omega arith) (λ e. omega (arith, e)) (λ e. omega (arith, e)) (λ e. omega (arith, e)) ∙ h.column;
         opened = low OPEN (omega arith) (omega arith) (λ e. omega (arith, e)) (λ e. omega (arith, e)) (λ e. omega (arith, e)) ∙ h.opened;
         seeded = stored one word;
         count = word_kept m m' NOTES _ (low NOTES (omega arith) (omega arith) (λ e. omega (arith, e)) (λ e. omega (arith, e)) (λ e. omega (arith, e))) (low (NOTES + 1) (omega arith) (omega arith) (λ e. omega (arith, e)) (λ e. omega (arith, e)) (λ e. omega (arith, e))) h.count;
-        notes = notes_kept ly m m' s.returns h.few (λ a lo hi. e a (owned_note a lo hi) (λ e. omega (arith, e, lo)) (λ e. omega (arith, e, lo)) (λ e. omega (arith, e, lo))) h.notes;
+        notes = notes_kept ly m m' s.returns h.few (λ a lo hi. e a (note_is_state a lo hi) (λ e. omega (arith, e, lo)) (λ e. omega (arith, e, lo)) (λ e. omega (arith, e, lo))) h.notes;
         few = h.few;
         all_vars = h.all_vars;
       }
 
   -- INPUT has read a number
-  pub state_asked : (stays : Bool) (c : ℕ) (text : List ℕ) → m' OPEN ≡ bit stays → m' COLUMN ≡ c % 256 → ((a : ℕ) → is_owned a ≡ true → a ≢ OPEN → a ≢ COLUMN → m' a ≡ m a) → HoldsState ly (record s { open_line = stays; column = c; text = text }) m'
+  pub state_asked : (stays : Bool) (c : ℕ) (text : List ℕ) → m' OPEN ≡ bit stays → m' COLUMN ≡ c % 256 → ((a : ℕ) → is_state a ≡ true → a ≢ OPEN → a ≢ COLUMN → m' a ≡ m a) → HoldsState ly (record s { open_line = stays; column = c; text = text }) m'
   state_asked stays c text op co e =
-      let low : (a : ℕ) → 0xC000 ≤ a → a ≤ 0xC061 → a ≢ OPEN → a ≢ COLUMN → m' a ≡ m a = λ a lo hi. e a (owned_low a lo hi) in
+      let low : (a : ℕ) → 0xC000 ≤ a → a ≤ 0xC061 → a ≢ OPEN → a ≢ COLUMN → m' a ≡ m a = λ a lo hi. e a (low_is_state a lo hi) in
       record {
         vars = vars_kept (λ a lo hi. low a lo (omega (arith, hi)) (λ e. omega (arith, e, hi)) (λ e. omega (arith, e, hi)));
         column = co;
         opened = op;
         seeded = seed_over m m' (low SEEDED (omega arith) (omega arith) (λ e. omega (arith, e)) (λ e. omega (arith, e))) (low SEED (omega arith) (omega arith) (λ e. omega (arith, e)) (λ e. omega (arith, e))) (low (SEED + 1) (omega arith) (omega arith) (λ e. omega (arith, e)) (λ e. omega (arith, e))) h.seeded;
         count = word_kept m m' NOTES _ (low NOTES (omega arith) (omega arith) (λ e. omega (arith, e)) (λ e. omega (arith, e))) (low (NOTES + 1) (omega arith) (omega arith) (λ e. omega (arith, e)) (λ e. omega (arith, e))) h.count;
-        notes = notes_kept ly m m' s.returns h.few (λ a lo hi. e a (owned_note a lo hi) (λ e. omega (arith, e, lo)) (λ e. omega (arith, e, lo))) h.notes;
+        notes = notes_kept ly m m' s.returns h.few (λ a lo hi. e a (note_is_state a lo hi) (λ e. omega (arith, e, lo)) (λ e. omega (arith, e, lo))) h.notes;
         few = h.few;
         all_vars = h.all_vars;
       }

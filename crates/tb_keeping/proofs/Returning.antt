@@ -3,14 +3,14 @@ use Rattle.std.proofs.Common.{◌≡◌, ◌≢◌, ℕ, ◌+◌, ◌/◌, ◌%�
 use Rattle.tb_reaching.specs.View.{Setup, View, back_at}
 use Rattle.tb_runtime16.specs.Places.{HOME_S}
 use Rattle.tb_runtime16.specs.Laws.{Leaves}
-use Rattle.tb_runtime16.specs.Routines.{Entered, Here, is_owned}
+use Rattle.tb_runtime16.specs.Routines.{Entered, Here, is_state}
 use Rattle.tb_keeping.proofs.Resolved.{highest_code}
 
 pub homed_kept : {f : Setup} {lo hi : ℕ} (m m' : ℕ → ℕ) → m' HOME_S ≡ m HOME_S → Entered f lo hi m → Entered f lo hi m'
 homed_kept m m' e h = record { homed = h.homed; kept = omega (arith, e, h.kept) }
 
-pub apart : (a b : ℕ) → is_owned a ≡ true → is_owned b ≡ false → a ≢ b
-apart a b h k e = let no : true ≡ false = sym h ∙ ap is_owned e ∙ k in cc
+pub apart : (a b : ℕ) → is_state a ≡ true → is_state b ≡ false → a ≢ b
+apart a b h k e = let no : true ≡ false = sym h ∙ ap is_state e ∙ k in cc
 
 -- a call returns behind itself
 pub behind_call : (at : ℕ) → at + 3 ≤ highest_code → back_at ((at + 2) % 256) ((at + 2) / 256) ≡ at + 3

@@ -21,7 +21,7 @@ use Rattle.tb_runtime16.specs.Notes.{Noted, Notes}
 use Rattle.tb_runtime16.specs.Search.{address_of, Searched}
 use Rattle.tb_runtime16.specs.Routines.{WordAt, SeedAt, stored, first, Entered, line_end, Tabled, entries, limit_by, Routines, AllLaws}
 use Rattle.tb_runtime16.proofs.Gathered.{from_here, from_a, from_line, beside, unchanged, faulting, entries_length, found, not_found}
-use Rattle.tb_runtime16.proofs.Owned.{is_own, not_argument, not_pointer}
+use Rattle.tb_runtime16.proofs.StatePlaces.{unless_scratch, not_argument, not_pointer}
 use Rattle.tb_runtime16.proofs.SendRuns.{send_law}
 use Rattle.tb_runtime16.proofs.TextRuns.{text_law}
 use Rattle.tb_runtime16.proofs.ZoneRuns.{zone_law}
@@ -108,12 +108,12 @@ module _ (table seed_option : ℕ) (numbers : List ℕ) (start : ℕ → ℕ) (f
         from_here f _ _ m text answers _ (digits_of a) (limit_by keys) (λ x y z n v i c d.
         beside f own _ _ _ _ _ _ (digits_of a) 458 (limit_by keys) (omega arith)
         (number_law (under f own) (omega (arith, fits)) block l h text answers m x y z n v i c d a left column)
-        (λ w k. record { column = k.column; others = λ p o q. k.others p (not_argument p (is_own p o)) q }));
+        (λ w k. record { column = k.column; others = λ p o q. k.others p (not_argument p (unless_scratch p o)) q }));
     text = λ l h m text answers at bytes pointer count shown small from to few column.
         from_here f _ _ m text answers _ bytes (limit_by keys) (λ x y z n v i c d.
         beside f own _ _ _ _ _ _ bytes (15 * length bytes + 3) (limit_by keys) (omega (arith, few))
         (text_law (under f own) (omega (arith, fits)) block l h text answers m x y z n v i c d at bytes (record { pointer = pointer; shown = shown; from = from; to = to; count = count; few = few; bytes_small = small }))
-        (λ w k. let s = k.column_small column in record { column = omega (arith, k.column, s); others = λ p o q. let r = not_pointer p (is_own p o) in k.others p q r.0 r.1 r.2 }));
+        (λ w k. let s = k.column_small column in record { column = omega (arith, k.column, s); others = λ p o q. let r = not_pointer p (unless_scratch p o) in k.others p q r.0 r.1 r.2 }));
     zone = λ l h m text answers column.
         from_here f _ _ m text answers _ (zone (m COLUMN)) (limit_by keys) (λ x y z n v i c d.
         beside f own _ _ _ _ _ _ (zone (m COLUMN)) 97 (limit_by keys) (omega arith)

@@ -25,6 +25,6 @@ pub mod NotesRuns
 pub mod Tables
 pub mod Through
 pub mod SearchRuns
-pub mod Owned
+pub mod StatePlaces
 pub mod Gathered
 pub mod AllLaws

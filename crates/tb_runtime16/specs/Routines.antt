@@ -21,12 +21,12 @@ use Rattle.tb_runtime16.specs.Search.{Line, table_bytes, Rising, AllWords, searc
 -- ---- memory
 
 -- the places that a program's state is kept at; all others are scratch
-abbrev pub is_owned : ℕ → Bool
-is_owned a = within VARS (HELD + 1) a || within NOTE_LOW (NOTE_HIGH + 499) a
+abbrev pub is_state : ℕ → Bool
+is_state a = within VARS (HELD + 1) a || within NOTE_LOW (NOTE_HIGH + 499) a
 
 -- all other places
 abbrev pub is_scratch : ℕ → Bool
-is_scratch a = not (is_owned a)
+is_scratch a = not (is_state a)
 
 -- the RND state is stored, or still the option's
 pub data SeedAt (m : ℕ → ℕ) (option seed : ℕ) : Type 0 where

@@ -7,35 +7,35 @@ use Rattle.tb_runtime16.specs.Laws.{is_argument, is_seed}
 use Rattle.tb_runtime16.specs.Input.{is_changed}
 use Rattle.tb_runtime16.specs.Notes.{push_changes, pop_changes}
 use Rattle.tb_runtime16.specs.Search.{search_changes}
-use Rattle.tb_runtime16.specs.Routines.{is_owned, is_scratch}
+use Rattle.tb_runtime16.specs.Routines.{is_state, is_scratch}
 
-pub is_own : (a : ℕ) → is_scratch a ≡ false → is_owned a ≡ true
-is_own a e = by (is_owned a) e
+pub unless_scratch : (a : ℕ) → is_scratch a ≡ false → is_state a ≡ true
+unless_scratch a e = by (is_state a) e
   where
     by : (b : Bool) → not b ≡ false → b ≡ true
     by true e = refl
     by false e = sym e
 
-pub not_argument : (a : ℕ) → is_owned a ≡ true → is_argument a ≡ false
+pub not_argument : (a : ℕ) → is_state a ≡ true → is_argument a ≡ false
 not_argument a h = grind (arith, nat_tests)
 
-pub not_scratch : (a : ℕ) → is_owned a ≡ true → (a == SCRATCH) ≡ false
+pub not_scratch : (a : ℕ) → is_state a ≡ true → (a == SCRATCH) ≡ false
 not_scratch a h = grind (arith, nat_tests)
 
 pub not_seed : (a : ℕ) → a ≢ SEEDED → a ≢ SEED → a ≢ SEED + 1 → is_seed a ≡ false
 not_seed a p q r = grind (arith, nat_tests)
 
-pub not_searched : (a : ℕ) → is_owned a ≡ true → search_changes a ≡ false
+pub not_searched : (a : ℕ) → is_state a ≡ true → search_changes a ≡ false
 not_searched a h = grind (arith, nat_tests)
 
-pub not_popped : (a : ℕ) → is_owned a ≡ true → a ≢ NOTES → a ≢ NOTES + 1 → pop_changes a ≡ false
+pub not_popped : (a : ℕ) → is_state a ≡ true → a ≢ NOTES → a ≢ NOTES + 1 → pop_changes a ≡ false
 not_popped a h p q = grind (arith, nat_tests)
 
 pub not_pushed : (a : ℕ) → VARS ≤ a → a ≤ HELD + 1 → a ≢ NOTES → a ≢ NOTES + 1 → push_changes a ≡ false
 not_pushed a from to p q = grind (arith, nat_tests)
 
-pub not_asked : (a : ℕ) → is_owned a ≡ true → a ≢ OPEN → a ≢ COLUMN → is_changed a ≡ false
+pub not_asked : (a : ℕ) → is_state a ≡ true → a ≢ OPEN → a ≢ COLUMN → is_changed a ≡ false
 not_asked a h p q = grind (arith, nat_tests)
 
-pub not_pointer : (a : ℕ) → is_owned a ≡ true → (a ≢ POINTER) × (a ≢ POINTER + 1) × (a ≢ LENGTH)
+pub not_pointer : (a : ℕ) → is_state a ≡ true → (a ≢ POINTER) × (a ≢ POINTER + 1) × (a ≢ LENGTH)
 not_pointer a h = ((λ e. grind (arith, nat_tests)), (λ e. grind (arith, nat_tests)), (λ e. grind (arith, nat_tests)))
