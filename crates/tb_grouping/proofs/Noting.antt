@@ -9,12 +9,12 @@ use Rattle.tb_opcodes.specs.declared.Mode.TheVariants.{AbsoluteX}
 use Rattle.tb_reaching.proofs.Comes.{chained, known, looser}
 use Rattle.tb_reaching.proofs.Instr.{Stands, ins, instr_bytes}
 use Rattle.tb_reaching.proofs.Memory.{put_other, put_same}
-use Rattle.tb_reaching.proofs.Placed.{placed_last, reads_data, stores_at, takes_at}
+use Rattle.tb_reaching.proofs.Placed.{placed_last, placing, reads_data, stores_at, takes_at}
 use Rattle.tb_reaching.specs.View.{Bytes, Comes, Fits, Setup, View, is_data, view, with_s}
 use Rattle.tb_runtime16.specs.Places.{NOTES, NOTE_HIGH, NOTE_LOW, RESULT}
 use Rattle.tb_runtime16.specs.Routines.{Here, Moves, Noted, WordAt}
 use Rattle.tb_keeping.proofs.Mirrors.{Flagged}
-use Rattle.tb_keeping.proofs.Pieces.{does, loads_last, stores, stores_last, whatever}
+use Rattle.tb_keeping.proofs.Pieces.{loads_last, stores, stores_last, whatever}
 use Rattle.tb_keeping.proofs.Resolved.{Code, Lies, Piece, highest_code}
 use Rattle.tb_grouping.proofs.Branches.{branch_behind, branches, is_taken}
 use Rattle.tb_grouping.proofs.GroupCode.{BranchReaches, Way, Zero, asked, branch_code, branch_on, note_stored, note_taken, way_size}
@@ -55,11 +55,11 @@ module _ (f : Setup) (room : ℕ) (fits : Fits f room) (bs : List ℕ) (m : ℕ 
   -- ---- a note's bytes by X
   stores_by_x : (base p : ℕ) (v : View) (q : View → Type 0) (t : List ℕ) (n : ℕ) → leb (length v.stack) room ≡ true → Bytes f.code v.regs.pc (instr_bytes (ins 0x9D base)) → (base + v.regs.x) % 65536 ≡ p → is_data p ≡ true → Comes f (record v { regs = advanced v.regs AbsoluteX; mem = with_byte v.mem p v.regs.a }) q t n → Comes f v q t (1 + n)
   stores_by_x base p v q t n short b e d next =
-      does f room fits (ins 0x9D base) v (record v { regs = advanced v.regs AbsoluteX; mem = with_byte v.mem p v.regs.a }) q t n short b (stores_at f.code room (ins 0x9D base) v Sta AbsoluteX p refl refl refl refl (ap (λ a. Ok a) e) v.regs.a d refl) next
+      placing f room fits (ins 0x9D base) v (record v { regs = advanced v.regs AbsoluteX; mem = with_byte v.mem p v.regs.a }) q t n short b (stores_at f.code room (ins 0x9D base) v Sta AbsoluteX p refl refl refl refl (ap (λ a. Ok a) e) v.regs.a d refl) next
 
   loads_by_x : (base p : ℕ) (v : View) (r : Regs) (q : View → Type 0) (t : List ℕ) (n : ℕ) → leb (length v.stack) room ≡ true → Bytes f.code v.regs.pc (instr_bytes (ins 0xBD base)) → (base + v.regs.x) % 65536 ≡ p → is_data p ≡ true → executed Lda (advanced v.regs AbsoluteX) (λ a. Ok (v.mem p)) p ≡ Ok (r, []) → Comes f (record v { regs = with_s v.regs.s r }) q t n → Comes f v q t (1 + n)
   loads_by_x base p v r q t n short b e d e' next =
-      does f room fits (ins 0xBD base) v (record v { regs = with_s v.regs.s r }) q t n short b (takes_at f.code room (ins 0xBD base) v Lda AbsoluteX p refl refl refl refl (ap (λ a. Ok a) e) (v.mem p) r (reads_data f.code v.mem p d) e') next
+      placing f room fits (ins 0xBD base) v (record v { regs = with_s v.regs.s r }) q t n short b (takes_at f.code room (ins 0xBD base) v Lda AbsoluteX p refl refl refl refl (ap (λ a. Ok a) e) (v.mem p) r (reads_data f.code v.mem p d) e') next
 
   module _ (at l h : ℕ) (few : m NOTES < 256) where
     -- memory with the two bytes, and with their count
@@ -71,10 +71,10 @@ module _ (f : Setup) (room : ℕ) (fits : Fits f room) (bs : List ℕ) (m : ℕ 
 
     pub stores_note : at + 16 ≤ highest_code → Stands f.code at (note_stored l h) → Moves f (Here at bs m text answers) (Flagged (at + 16) bs counted text answers (eqb ((with_note NOTES + 1) % 256) 0)) [] 6
     stores_note r st = whatever f room fits at bs m text answers _ [] 6 (λ a x y n v i z c.
-        does f room fits (ins 0xAE NOTES) (view a x y n v i z c at bs m text answers) _ _ [] 5 small st.0 refl
-        (does f room fits (ins 0xA9 l) (view a (m NOTES) y _ v i _ c ((at + 3) % 65536) bs m text answers) _ _ [] 4 small st.1.0 refl
+        placing f room fits (ins 0xAE NOTES) (view a x y n v i z c at bs m text answers) _ _ [] 5 small st.0 refl
+        (placing f room fits (ins 0xA9 l) (view a (m NOTES) y _ v i _ c ((at + 3) % 65536) bs m text answers) _ _ [] 4 small st.1.0 refl
         (stores_by_x NOTE_LOW (NOTE_LOW + m NOTES) (view l (m NOTES) y _ v i _ c ((((at + 3) % 65536) + 2) % 65536) bs m text answers) _ [] 3 small st.1.1.0 (omega (arith, few)) (note_place (NOTE_LOW + m NOTES) (omega arith) (omega (arith, few)))
-        (does f room fits (ins 0xA9 h) (view l (m NOTES) y _ v i _ c ((((((at + 3) % 65536) + 2) % 65536) + 3) % 65536) bs _ text answers) _ _ [] 2 small st.1.1.1.0 refl
+        (placing f room fits (ins 0xA9 h) (view l (m NOTES) y _ v i _ c ((((((at + 3) % 65536) + 2) % 65536) + 3) % 65536) bs _ text answers) _ _ [] 2 small st.1.1.1.0 refl
         (stores_by_x NOTE_HIGH (NOTE_HIGH + m NOTES) (view h (m NOTES) y _ v i _ c ((((((((at + 3) % 65536) + 2) % 65536) + 3) % 65536) + 2) % 65536) bs _ text answers) _ [] 1 small st.1.1.1.1.0 (omega (arith, few)) (note_place (NOTE_HIGH + m NOTES) (omega arith) (omega (arith, few)))
         (placed_last f room fits (ins 0xEE NOTES) (view h (m NOTES) y _ v i _ c ((((((((((at + 3) % 65536) + 2) % 65536) + 3) % 65536) + 2) % 65536) + 3) % 65536) bs with_note text answers) _ _ small st.1.1.1.1.1.0 refl
         (record { here = record { pc = omega (arith, r); stack = refl; binary = refl; mem = refl; text = refl; answers = refl }; zero = refl })))))))
@@ -101,8 +101,8 @@ module _ (f : Setup) (room : ℕ) (fits : Fits f room) (bs : List ℕ) (m : ℕ 
 
     pub takes_note : at + 16 ≤ highest_code → Stands f.code at note_taken → Moves f (Indexed at x) (Here (at + 16) bs taken text answers) [] 6
     takes_note r st = whatever_x at x _ [] 6 (λ a y n v i z c.
-        does f room fits (ins 0xCA 0) (view a x y n v i z c at bs m text answers) _ _ [] 5 small st.0 refl
-        (does f room fits (ins 0x8E NOTES) (view a left y _ v i _ c ((at + 1) % 65536) bs m text answers) _ _ [] 4 small st.1.0 refl
+        placing f room fits (ins 0xCA 0) (view a x y n v i z c at bs m text answers) _ _ [] 5 small st.0 refl
+        (placing f room fits (ins 0x8E NOTES) (view a left y _ v i _ c ((at + 1) % 65536) bs m text answers) _ _ [] 4 small st.1.0 refl
         (loads_by_x NOTE_LOW (NOTE_LOW + left) (view a left y _ v i _ c ((((at + 1) % 65536) + 3) % 65536) bs less text answers) _ _ [] 3 small st.1.1.0 (omega arith) (note_place (NOTE_LOW + left) (omega arith) (omega arith)) refl
         (stores f room fits RESULT (view _ left y _ v i _ c ((((((at + 1) % 65536) + 3) % 65536) + 3) % 65536) bs less text answers) _ [] 2 small st.1.1.1.0 refl
         (loads_by_x NOTE_HIGH (NOTE_HIGH + left) (view _ left y _ v i _ c ((((((((at + 1) % 65536) + 3) % 65536) + 3) % 65536) + 3) % 65536) bs half_taken text answers) _ _ [] 1 small st.1.1.1.1.0 (omega arith) (note_place (NOTE_HIGH + left) (omega arith) (omega arith)) refl

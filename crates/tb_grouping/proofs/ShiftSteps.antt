@@ -7,13 +7,13 @@ use Rattle.tb_memmap.specs.Bytes.{with_byte}
 use Rattle.tb_opcodes.specs.declared.Mnemonic.TheVariants.{Adc}
 use Rattle.tb_reaching.proofs.Comes.{known}
 use Rattle.tb_reaching.proofs.Memory.{put_other}
-use Rattle.tb_reaching.proofs.Placed.{placed_last}
+use Rattle.tb_reaching.proofs.Placed.{placed_last, placing}
 use Rattle.tb_reaching.proofs.Instr.{Instr, Stands, ins, instr_bytes}
 use Rattle.tb_reaching.specs.View.{Bytes, Comes, Part, Fits, Setup, View, view}
 use Rattle.tb_runtime16.specs.Places.{LEFT}
 use Rattle.tb_runtime16.specs.Routines.{Here, WithA, Moves}
 use Rattle.tb_keeping.proofs.Mirrors.{Carrying}
-use Rattle.tb_keeping.proofs.Pieces.{InData, does, loads, moves_then, moves_looser, put_word, whatever_a}
+use Rattle.tb_keeping.proofs.Pieces.{InData, loads, moves_then, moves_looser, put_word, whatever_a}
 use Rattle.tb_keeping.proofs.Resolved.{highest_code, size}
 use Rattle.tb_templates.specs.declared.sources.Source.{Source}
 use Rattle.tb_templates.specs.Scaled.{all_but_lowest}
@@ -84,14 +84,14 @@ module _ (f : Setup) (room : ℕ) (fits : Fits f room) (at : ℕ) (bs : List ℕ
   -- ---- shifts
   pub halves : (a : ℕ) → at + size halved ≤ highest_code → Stands f.code at halved → Moves f (WithA at a bs m text answers) (WithA (at + size halved) (a / 2 + 128 * bit (nat_le 128 a)) bs (with_byte m LEFT (m LEFT / 2 + 128 * bit (has_bit a 1))) text answers) [] 3
   halves a r st = whatever_a f room fits at a bs m text answers _ [] 3 (λ x y n v i z c.
-      does f room fits (ins 0xC9 128) (view a x y n v i z c at bs m text answers) _ _ [] 2 small st.0 refl
-      (does f room fits (ins 0x6A 0) (view a x y _ v i _ (nat_le 128 a) ((at + 2) % 65536) bs m text answers) _ _ [] 1 small st.1.0 refl
+      placing f room fits (ins 0xC9 128) (view a x y n v i z c at bs m text answers) _ _ [] 2 small st.0 refl
+      (placing f room fits (ins 0x6A 0) (view a x y _ v i _ (nat_le 128 a) ((at + 2) % 65536) bs m text answers) _ _ [] 1 small st.1.0 refl
       (placed_last f room fits (ins 0x66 LEFT) (view (a / 2 + 128 * bit (nat_le 128 a)) x y _ v i _ (has_bit a 1) ((((at + 2) % 65536) + 1) % 65536) bs m text answers) _ _ small st.1.1.0 refl
       (record { here = record { pc = omega (arith, r); stack = refl; binary = refl; mem = refl; text = refl; answers = refl }; number = refl }))))
 
   pub doubles : (a : ℕ) → at + size doubled ≤ highest_code → Stands f.code at doubled → Moves f (WithA at a bs m text answers) (WithA (at + size doubled) (2 * a % 256) bs (with_byte m LEFT (2 * m LEFT % 256 + bit (has_bit a 128))) text answers) [] 2
   doubles a r st = whatever_a f room fits at a bs m text answers _ [] 2 (λ x y n v i z c.
-      does f room fits (ins 0x0A 0) (view a x y n v i z c at bs m text answers) _ _ [] 1 small st.0 refl
+      placing f room fits (ins 0x0A 0) (view a x y n v i z c at bs m text answers) _ _ [] 1 small st.0 refl
       (placed_last f room fits (ins 0x26 LEFT) (view (2 * a % 256) x y _ v i _ (has_bit a 128) ((at + 1) % 65536) bs m text answers) _ _ small st.1.0 refl
       (record { here = record { pc = omega (arith, r); stack = refl; binary = refl; mem = refl; text = refl; answers = refl }; number = refl })))
 
@@ -99,12 +99,12 @@ module _ (f : Setup) (room : ℕ) (fits : Fits f room) (at : ℕ) (bs : List ℕ
   adds_aside : (b : Byte) (l : ℕ) → at + size (ins 0x18 0 ∷ adc b ∷ ins 0xAA 0 ∷ []) ≤ highest_code → IsRead b → Stands f.code at (ins 0x18 0 ∷ adc b ∷ ins 0xAA 0 ∷ [])
       → Moves f (WithA at l bs m text answers) (Aside (at + size (ins 0x18 0 ∷ adc b ∷ ins 0xAA 0 ∷ [])) ((l + value m b + 0) % 256) (nat_lt 255 (l + value m b + 0)) bs m text answers) [] 3
   adds_aside (Fixed b) l r d st = whatever_a f room fits at l bs m text answers _ [] 3 (λ x y n v i z c.
-      does f room fits (ins 0x18 0) (view l x y n v i z c at bs m text answers) _ _ [] 2 small st.0 refl
-      (does f room fits (ins 0x69 b) (view l x y n v i z false ((at + 1) % 65536) bs m text answers) _ _ [] 1 small st.1.0 refl
+      placing f room fits (ins 0x18 0) (view l x y n v i z c at bs m text answers) _ _ [] 2 small st.0 refl
+      (placing f room fits (ins 0x69 b) (view l x y n v i z false ((at + 1) % 65536) bs m text answers) _ _ [] 1 small st.1.0 refl
       (placed_last f room fits (ins 0xAA 0) (view ((l + b + 0) % 256) x y _ _ i _ (nat_lt 255 (l + b + 0)) ((((at + 1) % 65536) + 2) % 65536) bs m text answers) _ _ small st.1.1.0 refl
       (record { here = record { pc = omega (arith, r); stack = refl; binary = refl; mem = refl; text = refl; answers = refl }; aside = refl; carry = refl }))))
   adds_aside (At p) l r d st = whatever_a f room fits at l bs m text answers _ [] 3 (λ x y n v i z c.
-      does f room fits (ins 0x18 0) (view l x y n v i z c at bs m text answers) _ _ [] 2 small st.0 refl
+      placing f room fits (ins 0x18 0) (view l x y n v i z c at bs m text answers) _ _ [] 2 small st.0 refl
       (loads f room fits 0x6D p Adc (view l x y n v i z false ((at + 1) % 65536) bs m text answers) _ _ [] 1 refl refl refl small st.1.0 d refl
       (placed_last f room fits (ins 0xAA 0) (view ((l + m p + 0) % 256) x y _ _ i _ (nat_lt 255 (l + m p + 0)) ((((at + 1) % 65536) + 3) % 65536) bs m text answers) _ _ small st.1.1.0 refl
       (record { here = record { pc = omega (arith, r); stack = refl; binary = refl; mem = refl; text = refl; answers = refl }; aside = refl; carry = refl }))))
@@ -116,15 +116,15 @@ module _ (f : Setup) (room : ℕ) (fits : Fits f room) (at : ℕ) (bs : List ℕ
   adds_back : (b : Byte) (l : ℕ) (c : Bool) → at + size (rest_of b) ≤ highest_code → IsRead b → Stands f.code at (rest_of b)
       → Moves f (Aside at l c bs m text answers) (WithA (at + size (rest_of b)) l bs (with_byte m LEFT ((m LEFT + value m b + bit c) % 256)) text answers) [] 4
   adds_back (Fixed b) l c r d st = whatever_aside f room fits at l c bs m text answers _ [] 4 (λ a y n v i z.
-      does f room fits (ins 0xA5 LEFT) (view a l y n v i z c at bs m text answers) _ _ [] 3 small st.0 refl
-      (does f room fits (ins 0x69 b) (view (m LEFT) l y _ v i _ c ((at + 2) % 65536) bs m text answers) _ _ [] 2 small st.1.0 refl
-      (does f room fits (ins 0x85 LEFT) (view ((m LEFT + b + bit c) % 256) l y _ _ i _ _ ((((at + 2) % 65536) + 2) % 65536) bs m text answers) _ _ [] 1 small st.1.1.0 refl
+      placing f room fits (ins 0xA5 LEFT) (view a l y n v i z c at bs m text answers) _ _ [] 3 small st.0 refl
+      (placing f room fits (ins 0x69 b) (view (m LEFT) l y _ v i _ c ((at + 2) % 65536) bs m text answers) _ _ [] 2 small st.1.0 refl
+      (placing f room fits (ins 0x85 LEFT) (view ((m LEFT + b + bit c) % 256) l y _ _ i _ _ ((((at + 2) % 65536) + 2) % 65536) bs m text answers) _ _ [] 1 small st.1.1.0 refl
       (placed_last f room fits (ins 0x8A 0) (view ((m LEFT + b + bit c) % 256) l y _ _ i _ _ ((((((at + 2) % 65536) + 2) % 65536) + 2) % 65536) bs _ text answers) _ _ small st.1.1.1.0 refl
       (record { here = record { pc = omega (arith, r); stack = refl; binary = refl; mem = refl; text = refl; answers = refl }; number = refl })))))
   adds_back (At p) l c r d st = whatever_aside f room fits at l c bs m text answers _ [] 4 (λ a y n v i z.
-      does f room fits (ins 0xA5 LEFT) (view a l y n v i z c at bs m text answers) _ _ [] 3 small st.0 refl
+      placing f room fits (ins 0xA5 LEFT) (view a l y n v i z c at bs m text answers) _ _ [] 3 small st.0 refl
       (loads f room fits 0x6D p Adc (view (m LEFT) l y _ v i _ c ((at + 2) % 65536) bs m text answers) _ _ [] 2 refl refl refl small st.1.0 d refl
-      (does f room fits (ins 0x85 LEFT) (view ((m LEFT + m p + bit c) % 256) l y _ _ i _ _ ((((at + 2) % 65536) + 3) % 65536) bs m text answers) _ _ [] 1 small st.1.1.0 refl
+      (placing f room fits (ins 0x85 LEFT) (view ((m LEFT + m p + bit c) % 256) l y _ _ i _ _ ((((at + 2) % 65536) + 3) % 65536) bs m text answers) _ _ [] 1 small st.1.1.0 refl
       (placed_last f room fits (ins 0x8A 0) (view ((m LEFT + m p + bit c) % 256) l y _ _ i _ _ ((((((at + 2) % 65536) + 3) % 65536) + 2) % 65536) bs _ text answers) _ _ small st.1.1.1.0 refl
       (record { here = record { pc = omega (arith, r); stack = refl; binary = refl; mem = refl; text = refl; answers = refl }; number = refl })))))
 

@@ -47,14 +47,10 @@ called at bs r =
     ap (λ p. p % 256 ∷ p / 256 ∷ bs) e
 
 module _ (f : Setup) (room : ℕ) (fits : Fits f room) where
-  -- one instruction, and then
-  pub does : (i : Instr) (v w : View) (q : View → Type 0) (t : List ℕ) (n : ℕ) → leb (length v.stack) room ≡ true → Bytes f.code v.regs.pc (instr_bytes i) → act_instr f.code room i v ≡ Some w → Comes f w q t n → Comes f v q t (1 + n)
-  does i v w q t n small b a next = placing f room fits i v w q t n small b a next
-
   -- a read of data at a place that a proof gives
   pub loads : (k p : ℕ) (mn : Mnemonic) (v : View) (r : Regs) (q : View → Type 0) (t : List ℕ) (n : ℕ) → find_row rows k ≡ Some (mn, Absolute) → (k == 0) ≡ false → kind_of mn ≡ Plain → leb (length v.stack) room ≡ true → Bytes f.code v.regs.pc (instr_bytes (ins k p)) → is_data p ≡ true → executed mn (advanced v.regs Absolute) (λ a. Ok (v.mem p)) p ≡ Ok (r, []) → Comes f (record v { regs = with_s v.regs.s r }) q t n → Comes f v q t (1 + n)
   loads k p mn v r q t n d s e small b dp e' next =
-      does (ins k p) v (record v { regs = with_s v.regs.s r }) q t n small b
+      placing f room fits (ins k p) v (record v { regs = with_s v.regs.s r }) q t n small b
       (takes_at f.code room (ins k p) v mn Absolute p d s e refl refl (v.mem p) r (reads_data f.code v.mem p dp) e') next
 
   -- the last read of a piece
@@ -72,11 +68,11 @@ module _ (f : Setup) (room : ℕ) (fits : Fits f room) where
   -- a write of A, and one to page zero
   pub stores : (p : ℕ) (v : View) (q : View → Type 0) (t : List ℕ) (n : ℕ) → leb (length v.stack) room ≡ true → Bytes f.code v.regs.pc (instr_bytes (ins 0x8D p)) → is_data p ≡ true → Comes f (record v { regs = advanced v.regs Absolute; mem = with_byte v.mem p v.regs.a }) q t n → Comes f v q t (1 + n)
   stores p v q t n small b dp next =
-      does (ins 0x8D p) v (record v { regs = advanced v.regs Absolute; mem = with_byte v.mem p v.regs.a }) q t n small b (stores_at f.code room (ins 0x8D p) v Sta Absolute p refl refl refl refl refl v.regs.a dp refl) next
+      placing f room fits (ins 0x8D p) v (record v { regs = advanced v.regs Absolute; mem = with_byte v.mem p v.regs.a }) q t n small b (stores_at f.code room (ins 0x8D p) v Sta Absolute p refl refl refl refl refl v.regs.a dp refl) next
 
   pub stores_short : (p : ℕ) (v : View) (q : View → Type 0) (t : List ℕ) (n : ℕ) → leb (length v.stack) room ≡ true → Bytes f.code v.regs.pc (instr_bytes (ins 0x85 p)) → is_data p ≡ true → Comes f (record v { regs = advanced v.regs ZeroPage; mem = with_byte v.mem p v.regs.a }) q t n → Comes f v q t (1 + n)
   stores_short p v q t n small b dp next =
-      does (ins 0x85 p) v (record v { regs = advanced v.regs ZeroPage; mem = with_byte v.mem p v.regs.a }) q t n small b (stores_at f.code room (ins 0x85 p) v Sta ZeroPage p refl refl refl refl refl v.regs.a dp refl) next
+      placing f room fits (ins 0x85 p) v (record v { regs = advanced v.regs ZeroPage; mem = with_byte v.mem p v.regs.a }) q t n small b (stores_at f.code room (ins 0x85 p) v Sta ZeroPage p refl refl refl refl refl v.regs.a dp refl) next
 
   -- a byte of data is changed where it stands, as the last of a piece
   pub changes_last : (k p c : ℕ) (mn : Mnemonic) (v : View) (r : Regs) (q : View → Type 0) → find_row rows k ≡ Some (mn, Absolute) → (k == 0) ≡ false → kind_of mn ≡ Plain → leb (length v.stack) room ≡ true → Bytes f.code v.regs.pc (instr_bytes (ins k p)) → is_data p ≡ true → executed mn (advanced v.regs Absolute) (λ a. Ok (v.mem p)) p ≡ stored r p c → q (record v { regs = with_s v.regs.s r; mem = with_byte v.mem p c }) → Comes f v q [] 1
@@ -120,17 +116,17 @@ module _ (f : Setup) (room : ℕ) (fits : Fits f room) where
   module _ (at : ℕ) (bs : List ℕ) (m : ℕ → ℕ) (text answers : List ℕ) (small : leb (length bs) room ≡ true) where
     pub sets : (k to : ℕ) → at + 10 ≤ highest_code → InData to → Stands f.code at (constant k to) → Moves f (Here at bs m text answers) (Here (at + 10) bs (put_word m to (k % 256) (k / 256)) text answers) [] 4
     sets k to r dt st = whatever at bs m text answers _ [] 4 (λ a x y n v i z c.
-        does (ins 0xA9 (k % 256)) (view a x y n v i z c at bs m text answers) _ _ [] 3 small st.0 refl
+        placing f room fits (ins 0xA9 (k % 256)) (view a x y n v i z c at bs m text answers) _ _ [] 3 small st.0 refl
         (stores to (view _ x y _ v i _ c ((at + 2) % 65536) bs m text answers) _ [] 2 small st.1.0 dt.0
-        (does (ins 0xA9 (k / 256)) (view _ x y _ v i _ c ((((at + 2) % 65536) + 3) % 65536) bs _ text answers) _ _ [] 1 small st.1.1.0 refl
+        (placing f room fits (ins 0xA9 (k / 256)) (view _ x y _ v i _ c ((((at + 2) % 65536) + 3) % 65536) bs _ text answers) _ _ [] 1 small st.1.1.0 refl
         (ends (to + 1) (at + 10) (view _ x y _ v i _ c ((((((at + 2) % 65536) + 3) % 65536) + 2) % 65536) bs _ text answers) _ bs text answers small st.1.1.1.0 dt.1 (omega arith) refl refl refl refl refl))))
 
     -- the same in page zero
     pub points : (k to : ℕ) → at + 8 ≤ highest_code → InData to → Stands f.code at (pointed k to) → Moves f (Here at bs m text answers) (Here (at + 8) bs (put_word m to (k % 256) (k / 256)) text answers) [] 4
     points k to r dt st = whatever at bs m text answers _ [] 4 (λ a x y n v i z c.
-        does (ins 0xA9 (k % 256)) (view a x y n v i z c at bs m text answers) _ _ [] 3 small st.0 refl
+        placing f room fits (ins 0xA9 (k % 256)) (view a x y n v i z c at bs m text answers) _ _ [] 3 small st.0 refl
         (stores_short to (view _ x y _ v i _ c ((at + 2) % 65536) bs m text answers) _ [] 2 small st.1.0 dt.0
-        (does (ins 0xA9 (k / 256)) (view _ x y _ v i _ c ((((at + 2) % 65536) + 2) % 65536) bs _ text answers) _ _ [] 1 small st.1.1.0 refl
+        (placing f room fits (ins 0xA9 (k / 256)) (view _ x y _ v i _ c ((((at + 2) % 65536) + 2) % 65536) bs _ text answers) _ _ [] 1 small st.1.1.0 refl
         (stores_short_last (to + 1) (view _ x y _ v i _ c ((((((at + 2) % 65536) + 2) % 65536) + 2) % 65536) bs _ text answers) _ small st.1.1.1.0 dt.1
         (record { pc = omega arith; stack = refl; binary = refl; mem = refl; text = refl; answers = refl })))))
 
