@@ -10,7 +10,7 @@ use Rattle.tb_runtime16.specs.Laws.{AllBytes}
 use Rattle.tb_syntax.specs.Source.{Program}
 use Rattle.tb_keeping.specs.Kept.{Starts}
 use Rattle.tb_engines.specs.Programs.{IsUnloadable, start}
-use Rattle.tb_engines.specs.declared.made.Stop.TheVariants.{Refused as CantLoad}
+use Rattle.tb_engines.specs.declared.delivery.Stop.TheVariants.{Refused as CantLoad}
 use Rattle.tb_engines.specs.declared.outcome.Refusal.{Refusal}
 use Rattle.tb_driver.proofs.Loadable.{address_in, bytes_in, machine_at_start}
 use Rattle.tb_driver.proofs.Output.{bytes_behind, file_loads, in_ram, starts}

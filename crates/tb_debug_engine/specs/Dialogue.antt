@@ -8,7 +8,7 @@ use Rattle.tb_streams.specs.Streams.{AppendsPrefix, most_input}
 use Rattle.tb_streams.specs.Lines.{TakesLine, TakesNothing, TakesPart, without_return}
 use Rattle.tb_prg.specs.Prg.{content_of}
 use Rattle.tb_engines.specs.Programs.{IsUnloadable, start}
-use Rattle.tb_engines.specs.declared.made.Stop.TheVariants.{Refused as CantLoad}
+use Rattle.tb_engines.specs.declared.delivery.Stop.TheVariants.{Refused as CantLoad}
 use Rattle.tb_engines.specs.declared.outcome.End.TheVariants.{Done}
 use Rattle.tb_engines.specs.declared.outcome.Outcome.{Outcome}
 use Rattle.tb_engines.specs.declared.outcome.Refusal.{Refusal}

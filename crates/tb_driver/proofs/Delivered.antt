@@ -9,11 +9,11 @@ use Rattle.tb_codegen.specs.Compiled.{warnings_of}
 use Rattle.tb_codegen.specs.declared.compiled.Compiled.{Compiled}
 use Rattle.tb_streams.specs.Streams.{Reads}
 use Rattle.tb_engines.specs.Outcomes.{Product, Answers, MadeFrom}
-use Rattle.tb_engines.specs.Made.{Makes, Shows}
+use Rattle.tb_engines.specs.Delivery.{Makes, Shows}
 use Rattle.tb_driver.specs.Sources.{Compiles, stop_of, FromSource}
-use Rattle.tb_engines.specs.declared.made.Text.{Text}
-use Rattle.tb_engines.specs.declared.made.Stop.{Stop}
-use Rattle.tb_engines.specs.declared.made.Stop.TheVariants.{Refused as StopRefused, NoMemory as StopNoMemory}
+use Rattle.tb_engines.specs.declared.delivery.Text.{Text}
+use Rattle.tb_engines.specs.declared.delivery.Stop.{Stop}
+use Rattle.tb_engines.specs.declared.delivery.Stop.TheVariants.{Refused as StopRefused, NoMemory as StopNoMemory}
 use Rattle.tb_engines.specs.declared.outcome.Outcome.{Outcome}
 use Rattle.tb_engines.specs.declared.outcome.Outcome.TheVariants.{Ended, Refused, ReadFault, WriteFault, NoMemory}
 use Rattle.tb_engines.specs.declared.report.Report.{Report}

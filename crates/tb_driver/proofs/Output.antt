@@ -26,11 +26,11 @@ use Rattle.tb_codegen.specs.Answers.{Makes as LinesMake, OutcomeAnswer, Answered
 use Rattle.tb_codegen.specs.Compiled.{prg_of, loaded_of}
 use Rattle.tb_streams.specs.HostForm.{host_form_of}
 use Rattle.tb_engines.specs.Outcomes.{Product}
-use Rattle.tb_engines.specs.Made.{Makes}
+use Rattle.tb_engines.specs.Delivery.{Makes}
 use Rattle.tb_engines.specs.Programs.{start_memory, start, end_of, RunsAt, RunsContent, RunsPrg}
 use Rattle.tb_driver.specs.Output.{ShowsOutput, RunsSource, KeepsSource}
-use Rattle.tb_engines.specs.declared.made.Text.{Text}
-use Rattle.tb_engines.specs.declared.made.Stop.{Stop}
+use Rattle.tb_engines.specs.declared.delivery.Text.{Text}
+use Rattle.tb_engines.specs.declared.delivery.Stop.{Stop}
 use Rattle.tb_engines.specs.declared.outcome.End.TheVariants.{Done}
 use Rattle.tb_driver.proofs.Delivered.{makes_as}
 use Rattle.tb_engines.proofs.Start.{home_of-start}

@@ -15,12 +15,12 @@ use Rattle.tb_commands.specs.Lines.{lines_of}
 use Rattle.tb_commands.specs.Dialogue.{Dialogue}
 use Rattle.tb_streams.specs.Streams.{Reads}
 use Rattle.tb_play.specs.Talks.{gives_quiet}
-use Rattle.tb_engines.specs.Made.{Makes}
+use Rattle.tb_engines.specs.Delivery.{Makes}
 use Rattle.tb_engines.specs.Programs.{start}
 use Rattle.tb_driver.specs.Sources.{Compiles, stop_of, FromSource}
 use Rattle.tb_driver.specs.Stepping.{IsLoadable, start_of_history, Steps, StepsThrough, MadeFromTaken}
-use Rattle.tb_engines.specs.declared.made.Text.{Text}
-use Rattle.tb_engines.specs.declared.made.Stop.{Stop}
+use Rattle.tb_engines.specs.declared.delivery.Text.{Text}
+use Rattle.tb_engines.specs.declared.delivery.Stop.{Stop}
 use Rattle.tb_engines.specs.declared.outcome.End.TheVariants.{Done}
 use Rattle.tb_driver.proofs.Delivered.{makes_as, from_compiled, from_refusal}
 use Rattle.tb_driver.proofs.Loadable.{machine_at_start}

@@ -8,8 +8,8 @@ use Rattle.tb_refusals.specs.declared.refusals.CompileError.TheVariants.{NoMemor
 use Rattle.tb_codegen.specs.Answers.{HasOutcome, Makes, OutcomeAnswer}
 use Rattle.tb_codegen.specs.Compiled.{prg_of, warnings_of}
 use Rattle.tb_engines.specs.Outcomes.{Product}
-use Rattle.tb_engines.specs.declared.made.Stop.{Stop}
-use Rattle.tb_engines.specs.declared.made.Stop.TheVariants.{Refused as StopRefused, NoMemory as StopNoMemory}
+use Rattle.tb_engines.specs.declared.delivery.Stop.{Stop}
+use Rattle.tb_engines.specs.declared.delivery.Stop.TheVariants.{Refused as StopRefused, NoMemory as StopNoMemory}
 use Rattle.tb_engines.specs.declared.outcome.End.TheVariants.{Done}
 use Rattle.tb_engines.specs.declared.outcome.Outcome.{Outcome as EngineOutcome}
 use Rattle.tb_engines.specs.declared.outcome.Outcome.TheVariants.{Ended, Refused, ReadFault, WriteFault, NoMemory as NoEngineMemory}

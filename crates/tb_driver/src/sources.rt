@@ -4,7 +4,7 @@ ghost use Rattle.tb_runtime16.specs.Laws.{AllBytes};
 ghost use Rattle.tb_streams.specs.Streams.{most_input, ConsumesAtMost};
 ghost use Rattle.tb_streams.specs.Failures.{failures_of};
 ghost use Rattle.tb_engines.specs.Outcomes.{Answers, Faults, MadeFrom};
-ghost use Rattle.tb_engines.specs.Made.{DeliveryFaults, Makes};
+ghost use Rattle.tb_engines.specs.Delivery.{DeliveryFaults, Makes};
 ghost use Rattle.tb_engines.specs.Programs.{RunsPrg};
 ghost use Rattle.tb_driver.specs.Sources.{IsFile, FromSource, WarnsOfRead};
 ghost use Rattle.tb_codegen.specs.Compiled.{prg_of};

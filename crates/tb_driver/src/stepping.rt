@@ -3,7 +3,7 @@ ghost use Rattle.std.specs.Prelude.{◌≡◌, ◌+◌};
 ghost use Rattle.tb_streams.specs.Streams.{most_input, ConsumesAtMost};
 ghost use Rattle.tb_streams.specs.Failures.{failures_of};
 ghost use Rattle.tb_engines.specs.Outcomes.{Answers};
-ghost use Rattle.tb_engines.specs.Made.{Makes};
+ghost use Rattle.tb_engines.specs.Delivery.{Makes};
 ghost use Rattle.tb_driver.specs.Sources.{WarnsOfRead};
 ghost use Rattle.tb_driver.specs.Stepping.{IsLoadable, Steps, StepsThrough, MadeFromBoth, FaultsOfBoth};
 

@@ -3,7 +3,7 @@ ghost use Rattle.std.specs.Prelude.{◌+◌};
 ghost use Rattle.tb_streams.specs.Streams.{most_input, ConsumesAtMost};
 ghost use Rattle.tb_streams.specs.Failures.{failures_of};
 ghost use Rattle.tb_engines.specs.Assembly.{ListsPrg};
-ghost use Rattle.tb_engines.specs.Made.{Makes, Shows, DeliveryFaults};
+ghost use Rattle.tb_engines.specs.Delivery.{Makes, Shows, DeliveryFaults};
 ghost use Rattle.tb_engines.specs.Outcomes.{Answers, Faults, MadeFrom};
 ghost use Rattle.tb_engines.specs.Programs.{RunsPrg};
 

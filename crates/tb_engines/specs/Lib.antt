@@ -1,5 +1,5 @@
 pub mod Outcomes
-pub mod Made
+pub mod Delivery
 pub mod Programs
 pub mod Assembly
 pub mod Texts

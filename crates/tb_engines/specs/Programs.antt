@@ -13,8 +13,8 @@ use Rattle.tb_streams.specs.HostForm.{host_form_of}
 use Rattle.tb_engines.specs.Outcomes.{Product}
 use Rattle.tb_engines.specs.declared.outcome.End.{End}
 use Rattle.tb_engines.specs.declared.outcome.End.TheVariants.{Done, StepLimit, WaitsForKey, WentWrong}
-use Rattle.tb_engines.specs.declared.made.Stop.{Stop}
-use Rattle.tb_engines.specs.declared.made.Stop.TheVariants.{Refused, NoMemory}
+use Rattle.tb_engines.specs.declared.delivery.Stop.{Stop}
+use Rattle.tb_engines.specs.declared.delivery.Stop.TheVariants.{Refused, NoMemory}
 use Rattle.tb_engines.specs.declared.outcome.Refusal.TheVariants.{Prg, NotRam}
 
 -- a program at $0801 begins behind its BASIC line, any other at its first byte

@@ -3,16 +3,16 @@
 #![tactic(auto)]
 
 mod assembly;
+mod delivery;
 mod loading;
-mod made;
 mod outcome;
 mod programs;
 mod report;
 mod texts;
 
 pub use assembly::{asm_text, dis_text};
+pub use delivery::{Stop, Text, deliver, without_input};
 pub use loading::{start_machine, start_regs};
-pub use made::{Stop, Text, deliver, without_input};
 pub use outcome::{End, Outcome, Refusal};
 pub use programs::{end_of, run_file, run_prg};
 pub use report::Report;

@@ -3,7 +3,7 @@ ghost use Rattle.std.specs.Prelude.{◌≡◌, ◌+◌, ◌≤◌, length, Match
 ghost use Rattle.tb_memmap.specs.Bytes.{IsOpenRange};
 ghost use Rattle.tb_engines.specs.Programs.{start_regs, start_memory, start, IsUnloadable};
 
-use crate::made::Stop;
+use crate::delivery::Stop;
 use crate::outcome::Refusal;
 use std::alloc::Global;
 use tb_cpu::{Flags, Regs};

@@ -14,8 +14,8 @@ use Rattle.tb_codegen.specs.Compiled.{prg_of, starts_of, IsCompiled, StartsRise}
 use Rattle.tb_codegen.specs.declared.compiled.Compiled.{Compiled}
 use Rattle.tb_engines.specs.Programs.{start}
 use Rattle.tb_engines.specs.Outcomes.{Product}
-use Rattle.tb_engines.specs.declared.made.Stop.{Stop}
-use Rattle.tb_engines.specs.declared.made.Stop.TheVariants.{Refused, NoMemory}
+use Rattle.tb_engines.specs.declared.delivery.Stop.{Stop}
+use Rattle.tb_engines.specs.declared.delivery.Stop.TheVariants.{Refused, NoMemory}
 use Rattle.tb_driver.specs.Stepping.{IsLoadable}
 use Rattle.tb_driver.proofs.Loadable.{machine_at_start}
 use Rattle.tb_profile.specs.Steps.{Step, is_place}

@@ -8,15 +8,15 @@ use Rattle.tb_codegen.specs.Answers.{HasOutcome, Makes}
 use Rattle.tb_driver.specs.Sources.{FromSource}
 use Rattle.tb_lower.specs.declared.missing.Warning.{Warning}
 use Rattle.tb_engines.specs.Outcomes.{Product}
-use Rattle.tb_engines.specs.declared.made.Stop.{Stop}
-use Rattle.tb_engines.specs.declared.made.Stop.TheVariants.{Refused, NoMemory}
+use Rattle.tb_engines.specs.declared.delivery.Stop.{Stop}
+use Rattle.tb_engines.specs.declared.delivery.Stop.TheVariants.{Refused, NoMemory}
 use Rattle.tb_profile_table.specs.Rows.{AddsUp}
 use Rattle.tb_profile_table.specs.Lines.{stated}
 use Rattle.tb_profile_table.specs.Table.{table_of}
 use Rattle.tb_profile_table.specs.Page.{page_of}
 use Rattle.tb_profile_engine.specs.declared.engine.Made.{Made}
 use Rattle.tb_profile_engine.specs.declared.engine.Prepared.{Prepared}
-use Rattle.tb_engines.specs.declared.made.Text.{Text}
+use Rattle.tb_engines.specs.declared.delivery.Text.{Text}
 use Rattle.tb_profile_engine.specs.declared.running.Ran.{Ran}
 use Rattle.tb_profile_engine.specs.Running.{IsProfile}
 

@@ -5,8 +5,8 @@ use Rattle.tb_kernal.specs.Machine.{Content}
 use Rattle.tb_codegen.specs.Compiled.{starts_of, loaded_of}
 use Rattle.tb_codegen.specs.declared.compiled.Compiled.{Compiled}
 use Rattle.tb_engines.specs.Programs.{start, end_of}
-use Rattle.tb_engines.specs.declared.made.Stop.{Stop}
-use Rattle.tb_engines.specs.declared.made.Stop.TheVariants.{Refused, NoMemory}
+use Rattle.tb_engines.specs.declared.delivery.Stop.{Stop}
+use Rattle.tb_engines.specs.declared.delivery.Stop.TheVariants.{Refused, NoMemory}
 use Rattle.tb_profile_table.specs.Rows.{Tabled}
 use Rattle.tb_profile_engine.specs.declared.running.Ran.{Ran}
 

@@ -1,8 +1,8 @@
 -- The steps of an engine: what it made, and how that is delivered.
 use Rattle.std.specs.Prelude.{ℕ, ◌≡◌, ◌≢◌, Result, Ok, Err}
-use Rattle.tb_engines.specs.declared.made.Text.{Text}
-use Rattle.tb_engines.specs.declared.made.Stop.{Stop}
-use Rattle.tb_engines.specs.declared.made.Stop.TheVariants.{Refused as StopRefused, NoMemory as StopNoMemory}
+use Rattle.tb_engines.specs.declared.delivery.Text.{Text}
+use Rattle.tb_engines.specs.declared.delivery.Stop.{Stop}
+use Rattle.tb_engines.specs.declared.delivery.Stop.TheVariants.{Refused as StopRefused, NoMemory as StopNoMemory}
 use Rattle.tb_streams.specs.declared.stream.InputError.{InputError}
 use Rattle.tb_streams.specs.declared.stream.InputError.TheVariants.{Fault, NoMemory as InputNoMemory}
 use Rattle.tb_engines.specs.declared.outcome.Outcome.{Outcome}

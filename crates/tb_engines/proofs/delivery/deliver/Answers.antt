@@ -1,5 +1,5 @@
 use Rattle.std.proofs.Common.{rules, refl}
-use Rattle.tb_engines.proofs.made.deliver.Goals as goal
+use Rattle.tb_engines.proofs.delivery.deliver.Goals as goal
 
 pub returns-clause-answers : goal.returns-clause-answers
 returns-clause-answers g c =

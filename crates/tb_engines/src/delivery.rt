@@ -3,7 +3,7 @@ ghost use Rattle.std.specs.Prelude.{◌≡◌};
 ghost use Rattle.tb_streams.specs.Streams.{Reads};
 ghost use Rattle.tb_streams.specs.Failures.{failures_of};
 ghost use Rattle.tb_engines.specs.Outcomes.{Answers, Faults};
-ghost use Rattle.tb_engines.specs.Made.{Shows, DeliveryFaults, outcome_of};
+ghost use Rattle.tb_engines.specs.Delivery.{Shows, DeliveryFaults, outcome_of};
 
 use crate::outcome::{End, Outcome, Refusal};
 use std::alloc::AllocError;
