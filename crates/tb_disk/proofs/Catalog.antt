@@ -7,7 +7,7 @@ use Rattle.std.proofs.lemmas.List.{drop-drop, drop_at, take_at, length-replicate
 use Rattle.std.proofs.lemmas.List.Folds.{concat-append}
 use Rattle.std.proofs.lemmas.List.FromFn.{length-map-range_with_len, take-map-range_with_len}
 use Rattle.tb_disk.specs.declared.image.File.{File}
-use Rattle.tb_disk.specs.Made.{blocks_of}
+use Rattle.tb_disk.specs.Images.{blocks_of}
 use Rattle.tb_disk.specs.D64.{chain, entries_in}
 use Rattle.tb_disk.specs.Layout.{track_at, sector_at, prefix, entry, entries, no_entry, directory_of, directory_blocks}
 use Rattle.tb_disk.proofs.Pieces.{AreOf, drop_pieces, eight, take-plus}

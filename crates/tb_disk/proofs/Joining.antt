@@ -3,7 +3,7 @@ use Rattle.std.proofs.Common.{◌≡◌, ℕ, List, ◌++◌, length, take, drop
 use Rattle.std.specs.Prelude.{sum_by}
 use Rattle.tb_disk.specs.declared.names.Name.{Name}
 use Rattle.tb_disk.specs.declared.image.File.{File}
-use Rattle.tb_disk.specs.Made.{blocks_of}
+use Rattle.tb_disk.specs.Images.{blocks_of}
 use Rattle.tb_disk.specs.Layout.{directory_blocks, head_block, directory_of, file_area, image_of}
 
 pub put_together : (name : Name) (files : List File) (area below above made headed named whole : List ℕ) (used blocks : ℕ)

@@ -9,4 +9,4 @@ mod Pieces
 mod Reading
 mod Sectors
 mod Walking
-mod Whole
+mod DiskOfFiles

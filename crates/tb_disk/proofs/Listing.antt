@@ -5,7 +5,7 @@ use Rattle.std.specs.List.{range_with_len, concat}
 use Rattle.std.proofs.lemmas.List.{drop_more, drop_all, length-replicate}
 use Rattle.std.proofs.lemmas.List.Sums.{sum_by-cons, sum_by-drop_more, sum_by_more, sum_by_more_le}
 use Rattle.tb_disk.specs.declared.image.File.{File}
-use Rattle.tb_disk.specs.Made.{blocks_of}
+use Rattle.tb_disk.specs.Images.{blocks_of}
 use Rattle.tb_disk.specs.Layout.{further, laid, laid_all, prefix, entry, entries, file_area}
 use Rattle.tb_disk.proofs.Chains.{laid_length}
 

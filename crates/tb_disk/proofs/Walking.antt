@@ -7,7 +7,7 @@ use Rattle.std.proofs.lemmas.List.{take_at, drop_at, drop-drop, get_or_at, get_o
 use Rattle.std.proofs.lemmas.List.FromFn.{length-map-range_with_len}
 use Rattle.std.proofs.lemmas.List.Sums.{sum_by-cons}
 use Rattle.tb_disk.specs.declared.image.File.{File}
-use Rattle.tb_disk.specs.Made.{blocks_of, text_of}
+use Rattle.tb_disk.specs.Images.{blocks_of, text_of}
 use Rattle.tb_disk.specs.D64.{Found, sectors, found, file_of, files_of, name_in}
 use Rattle.tb_disk.specs.Layout.{place_of, track_at, sector_at, further, laid, laid_all, prefix, entry, entries, no_entry}
 use Rattle.tb_disk.proofs.Chains.{Reads, Follows, follows, places_from, laid_length}

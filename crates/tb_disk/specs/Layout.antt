@@ -3,7 +3,7 @@
 use Rattle.std.specs.Prelude.{ℕ, zero, suc, Bool, ◌==◌, ◌+◌, ◌-◌, ◌*◌, ◌/◌, ◌%◌, not, max, nat_le, nat_lt, List, [], ◌∷◌, ◌++◌, flat_map, length, take, drop, replicate, sum_by, if◌then◌else◌}
 use Rattle.std.specs.List.{range_with_len, concat}
 use Rattle.tb_disk.specs.D64.{sectors_on, place}
-use Rattle.tb_disk.specs.Made.{blocks_of}
+use Rattle.tb_disk.specs.Images.{blocks_of}
 use Rattle.tb_disk.specs.declared.names.Name.{Name}
 use Rattle.tb_disk.specs.declared.image.File.{File}
 

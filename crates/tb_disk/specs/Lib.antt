@@ -1,4 +1,4 @@
 pub mod D64
 pub mod Layout
-pub mod Made
+pub mod Images
 pub mod Names

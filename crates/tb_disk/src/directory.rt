@@ -1,7 +1,7 @@
 //! The directory.
 ghost use Rattle.std.specs.Prelude.{◌≡◌, ◌+◌, ◌-◌, ◌<◌, ◌≤◌, ◌++◌, [], ◌∷◌, map, sum_by, OnOk, length};
 ghost use Rattle.tb_disk.specs.Layout.{prefix, entry, no_entry, directory_blocks, directory_of};
-ghost use Rattle.tb_disk.specs.Made.{blocks_of};
+ghost use Rattle.tb_disk.specs.Images.{blocks_of};
 
 use crate::blocks::{further_blocks, push_zeros};
 use crate::image::File;

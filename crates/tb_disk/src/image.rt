@@ -1,6 +1,6 @@
 //! The image of a disk.
 ghost use Rattle.std.specs.Prelude.{◌≡◌, ◌<◌, ◌≤◌, MatchResult, MatchOption, IfOk, length, sum_by};
-ghost use Rattle.tb_disk.specs.Made.{IsDiskOf, Refuses, blocks_of};
+ghost use Rattle.tb_disk.specs.Images.{IsDiskOf, Refuses, blocks_of};
 ghost use Rattle.tb_disk.specs.Layout.{file_area};
 
 use crate::blocks::{further_blocks, push_file, push_zeros};

@@ -5,7 +5,7 @@ use Rattle.tb_disk.specs.declared.names.Name.{Name}
 use Rattle.tb_disk.specs.declared.image.File.{File}
 use Rattle.tb_disk.specs.declared.image.DiskError.{DiskError}
 use Rattle.tb_disk.specs.declared.image.DiskError.TheVariants.{Full, NoMemory}
-use Rattle.tb_disk.specs.Made.{IsDiskOf, Refuses}
+use Rattle.tb_disk.specs.Images.{IsDiskOf, Refuses}
 use Rattle.tb_disk_engine.specs.Names.{NamesDisk}
 use Rattle.tb_disk_engine.specs.Files.{AreTaken, IsImageOf, HasNoImage}
 use Rattle.tb_disk_engine.specs.declared.files.DiskFiles.{DiskFiles}

@@ -2,7 +2,7 @@
 use Rattle.std.proofs.Common.{◌≡◌, ℕ, List, ◌∷◌, [], sym, subst, ◌∙◌, inl, inr}
 use Rattle.tb_disk.specs.declared.names.Name.{Name}
 use Rattle.tb_disk.specs.Names.{IsName}
-use Rattle.tb_disk.specs.Made.{text_of}
+use Rattle.tb_disk.specs.Images.{text_of}
 use Rattle.tb_disk_engine.specs.Names.{disk_text, NamesDisk}
 
 pub named : (path text : List ℕ) (name : Name) → text ≡ disk_text path → IsName text → text_of name ≡ text → NamesDisk path name

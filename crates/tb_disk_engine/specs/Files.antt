@@ -6,7 +6,7 @@ use Rattle.tb_prg.specs.Prg.{content_of}
 use Rattle.tb_disk.specs.declared.names.Name.{Name}
 use Rattle.tb_disk.specs.declared.image.File.{File}
 use Rattle.tb_disk.specs.Names.{IsName, field_of}
-use Rattle.tb_disk.specs.Made.{Fits, IsDiskOf}
+use Rattle.tb_disk.specs.Images.{Fits, IsDiskOf}
 use Rattle.tb_disk.specs.declared.image.DiskError.{DiskError}
 use Rattle.tb_disk.specs.declared.image.DiskError.TheVariants.{Full as DiskFull, NoMemory as NoRoom}
 use Rattle.tb_disk_engine.specs.Names.{file_text, Unnamed, NamesDisk}

@@ -1,7 +1,7 @@
 //! The names that files and disks get, from the names of files on the host.
 ghost use Rattle.std.specs.Prelude.{◌≡◌, [], ◌∷◌, IfOk, MatchResult, take};
 ghost use Rattle.tb_disk.specs.Names.{IsName, field_of};
-ghost use Rattle.tb_disk.specs.Made.{text_of};
+ghost use Rattle.tb_disk.specs.Images.{text_of};
 ghost use Rattle.tb_disk_engine.specs.Names.{sign_of, signs_of, without, file_text, Unnamed, NamesDisk};
 
 use crate::outcome::{DiskOutcome, DiskRefusal};

@@ -2,7 +2,7 @@ use Rattle.std.proofs.Common.{◌≡◌, take, drop, refl, ap, ◌∙◌, arith}
 use Rattle.std.proofs.lemmas.Slice.{pushed}
 use Rattle.tb_disk.specs.Layout.{image_of}
 use Rattle.tb_disk.proofs.Joining.{put_together}
-use Rattle.tb_disk.proofs.Whole.{whole}
+use Rattle.tb_disk.proofs.DiskOfFiles.{whole}
 use Rattle.tb_disk.proofs.image.disk.Goals as goal
 
 pub returns : goal.returns

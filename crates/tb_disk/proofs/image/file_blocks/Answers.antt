@@ -1,6 +1,6 @@
 use Rattle.std.proofs.Common.{◌≡◌, ◌++◌, ◌-◌, ◌*◌, length, ap, ◌∙◌, arith}
 use Rattle.std.specs.Prelude.{replicate, sum_by}
-use Rattle.tb_disk.specs.Made.{blocks_of}
+use Rattle.tb_disk.specs.Images.{blocks_of}
 use Rattle.tb_disk.proofs.Listing.{room, are_laid_more, are_laid_all, all_counted, area_length}
 use Rattle.tb_disk.proofs.image.file_blocks.Goals as goal
 

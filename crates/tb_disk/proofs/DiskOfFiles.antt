@@ -5,7 +5,7 @@ use Rattle.std.specs.List.{range_with_len}
 use Rattle.std.proofs.lemmas.List.{take_at, drop_at, length-take-le, length-replicate}
 use Rattle.tb_disk.specs.declared.names.Name.{Name}
 use Rattle.tb_disk.specs.declared.image.File.{File}
-use Rattle.tb_disk.specs.Made.{blocks_of, uses, IsDiskOf}
+use Rattle.tb_disk.specs.Images.{blocks_of, uses, IsDiskOf}
 use Rattle.tb_disk.specs.D64.{Found, Walk, walk, walk_from, chain, sectors, files_of, in_use, block, name_in, place, is_on_disk, map_bit, free_on}
 use Rattle.tb_disk.specs.Layout.{no_entry, head_block, title, free_map, laid_all, file_area, directory_of, directory_blocks, image_of, is_free}
 use Rattle.tb_disk.proofs.Chains.{Reads}
