@@ -1,3 +1,3 @@
 mod Sending
 pub mod Talking
-mod Whole
+mod OneRun

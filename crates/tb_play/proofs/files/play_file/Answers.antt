@@ -1,4 +1,4 @@
-use Rattle.tb_play.proofs.Whole.{one_run}
+use Rattle.tb_play.proofs.OneRun.{one_run}
 use Rattle.tb_play.proofs.files.play_file.Goals as goal
 
 pub returns-in-Ok-clause-whole : goal.returns-in-Ok-clause-whole
