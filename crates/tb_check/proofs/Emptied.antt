@@ -6,7 +6,7 @@ use Rattle.tb_parser.specs.declared.errors.SourceErrorKind.{SourceErrorKind}
 use Rattle.tb_parser.specs.declared.errors.SourceErrorKind.TheVariants.{LineTooLong, BadByte, Unnumbered, BadLineNumber, NotCompiled, Syntax, NumberTooLarge, Empty, NoMemory}
 use Rattle.tb_parser.specs.Answers.{refusal_of}
 use Rattle.tb_parser.specs.Files.{at_end, refused_at}
-use Rattle.tb_codegen.specs.Answers.{Makes}
+use Rattle.tb_codegen.specs.Answers.{LinesMake}
 
 refused_is_none : (p : Program) (kind : SourceErrorKind) (column line : ℕ) → kind ≢ NoMemory
     → IfSome (refusal_of kind column) (λ r. Err (refused_at line r) ≡ at_end p) → at_end p ≡ at_end []
@@ -22,6 +22,6 @@ refused_is_none (l ∷ ls) NumberTooLarge column line some h = absurd (true≢fa
 refused_is_none (l ∷ ls) Empty column line some h = absurd (true≢false (sym (ap is_ok h)))
 
 -- the file's outcome is that of a file without a line
-pub none_left : (source : List ℕ) (p : Program) (kind : SourceErrorKind) (column line : ℕ) → kind ≢ NoMemory → Makes source (at_end p)
-    → IfSome (refusal_of kind column) (λ r. Err (refused_at line r) ≡ at_end p) → Makes source (at_end [])
-none_left source p kind column line some made h = subst (Makes source) (refused_is_none p kind column line some h) made
+pub none_left : (source : List ℕ) (p : Program) (kind : SourceErrorKind) (column line : ℕ) → kind ≢ NoMemory → LinesMake source (at_end p)
+    → IfSome (refusal_of kind column) (λ r. Err (refused_at line r) ≡ at_end p) → LinesMake source (at_end [])
+none_left source p kind column line some made h = subst (LinesMake source) (refused_is_none p kind column line some h) made

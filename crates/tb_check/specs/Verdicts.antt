@@ -6,7 +6,7 @@ use Rattle.tb_lower.specs.Cost.{cost}
 use Rattle.tb_lower.specs.Need.{command_need}
 use Rattle.tb_parser.specs.Files.{at_end}
 use Rattle.tb_parser.specs.Lines.{lines_of_file}
-use Rattle.tb_codegen.specs.Answers.{Makes}
+use Rattle.tb_codegen.specs.Answers.{LinesMake}
 use Rattle.tb_codegen.specs.Compiled.{most}
 use Rattle.tb_check.specs.BadLines.{BadLinesAre, FirstIs}
 use Rattle.tb_check.specs.declared.judging.ProgramFaults.{ProgramFaults}
@@ -42,6 +42,6 @@ JudgesProgram program (Accepted p) = (lines_of p ≡ program) × IsGood program
 -- what becomes of a source: its bad lines, or that no line is left, or what is wrong with its program, or the program
 abbrev pub Judges : List ℕ → Verdict → Type 0
 Judges source (BadLines found) = BadLinesAre 1 (lines_of_file source) found.items × FirstIs source found.items × (found.items ≢ [])
-Judges source Empty = Makes source (at_end [])
-Judges source (Refused f) = (program : Program) × Makes source (Ok program) × JudgesProgram program (Refused f)
-Judges source (Accepted p) = (program : Program) × Makes source (Ok program) × JudgesProgram program (Accepted p)
+Judges source Empty = LinesMake source (at_end [])
+Judges source (Refused f) = (program : Program) × LinesMake source (Ok program) × JudgesProgram program (Refused f)
+Judges source (Accepted p) = (program : Program) × LinesMake source (Ok program) × JudgesProgram program (Accepted p)

@@ -5,7 +5,7 @@ ghost use Rattle.tb_syntax.specs.PlainData.{lines_of};
 ghost use Rattle.tb_lower.specs.Cost as costs;
 ghost use Rattle.tb_parser.specs.Files.{AreStated, RisesFrom, at_end};
 ghost use Rattle.tb_refusals.specs.declared.refusals.CompileError.{CompileError};
-ghost use Rattle.tb_codegen.specs.Answers.{Makes};
+ghost use Rattle.tb_codegen.specs.Answers.{LinesMake};
 ghost use Rattle.tb_codegen.specs.declared.compiled.Compiled.{Compiled};
 ghost use Rattle.tb_check.specs.Agreement.{AgreesWith, Compiles};
 ghost use Rattle.tb_check.specs.Verdicts.{HasFaults, Judges, JudgesProgram, deep_lines, excess};
@@ -58,7 +58,7 @@ pub fn judge(alloc: Global, source: &[u8]) -> Result<Verdict, NoMemory>
 
 // Judges a source without bad lines.
 fn judge_lines(alloc: Global, source: &[u8]) -> Result<Verdict, NoMemory>
-    requires { (p : SourceProgram) × Makes source.now (at_end p) }
+    requires { (p : SourceProgram) × LinesMake source.now (at_end p) }
     ensures { IfOk result (Judges source.now) }
 {
     match parse(alloc, source) {

@@ -41,13 +41,13 @@ OutcomeAnswer seed (Ok program) result = ProgramAnswer seed program result
 OutcomeAnswer seed (Err r) result = RefusalAnswer r result
 
 -- what the lines of a file make
-abbrev pub Makes : List ℕ → Outcome → Type 0
-Makes source outcome = LinesAre 1 [] (lines_of_file source) outcome
+abbrev pub LinesMake : List ℕ → Outcome → Type 0
+LinesMake source outcome = LinesAre 1 [] (lines_of_file source) outcome
 
 -- the file's outcome, and the answer for it
 pub record Answered (seed : ℕ) (source : List ℕ) (result : Result Compiled CompileError) : Type 0 where
   pub outcome : Outcome
-  pub made : Makes source outcome
+  pub made : LinesMake source outcome
   pub answer : OutcomeAnswer seed outcome result
 
 -- unless memory ran out, the file has an outcome

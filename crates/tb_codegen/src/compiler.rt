@@ -13,7 +13,7 @@ ghost use Rattle.tb_settling.specs.Settled.{IsLaid, Suits};
 ghost use Rattle.tb_templates.specs.Labels.{label_of};
 ghost use Rattle.tb_templates.specs.Program.{AreCodable, RisingFrom, program_code};
 ghost use Rattle.tb_refusals.specs.declared.refusals.CompileError.TheVariants as error;
-ghost use Rattle.tb_codegen.specs.Answers.{HasOutcome, Makes, OutcomeAnswer, ProgramAnswer};
+ghost use Rattle.tb_codegen.specs.Answers.{HasOutcome, LinesMake, OutcomeAnswer, ProgramAnswer};
 ghost use Rattle.tb_keeping.specs.Kept.{Keeps};
 ghost use Rattle.tb_keeping.specs.LineStarts.{MarksLines};
 ghost use Rattle.tb_codegen.specs.Compiled.{loaded_of, start_of, AreKnown, pair_of, starts_in, most};
@@ -46,11 +46,11 @@ pub fn compile(alloc: Global, source: &[u8], options: Options) -> Result<Compile
     // What the file's lines make is answered,
     ensures found { HasOutcome options.seed source.now result }
     // and whatever they make is what is answered.
-    ensures only { (outcome : Outcome) → Makes source.now outcome → OutcomeAnswer options.seed outcome result }
+    ensures only { (outcome : Outcome) → LinesMake source.now outcome → OutcomeAnswer options.seed outcome result }
     // A compiled file's code, loaded at $0801, keeps the program that its source makes, whatever the ROM does.
-    ensures keeps { IfOk result (λ c. (program : SourceProgram) × Makes source.now (Ok program) × Keeps 0x0801 (loaded_of c) program options.seed) }
+    ensures keeps { IfOk result (λ c. (program : SourceProgram) × LinesMake source.now (Ok program) × Keeps 0x0801 (loaded_of c) program options.seed) }
     // Where it comes to the address that start_of answers for a line, the program begins that line, in the same state.
-    ensures marks { IfOk result (λ c. (program : SourceProgram) × Makes source.now (Ok program) × MarksLines 0x0801 (loaded_of c) program options.seed (start_of c)) }
+    ensures marks { IfOk result (λ c. (program : SourceProgram) × LinesMake source.now (Ok program) × MarksLines 0x0801 (loaded_of c) program options.seed (start_of c)) }
 {
     let program = parse(alloc, source)?;
     compile_program(alloc, &program, options.seed)

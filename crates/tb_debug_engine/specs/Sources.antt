@@ -3,7 +3,7 @@ use Rattle.std.specs.Prelude.{◌≡◌, ◌≢◌, ◌⊎◌, ℕ, List, map, O
 use Rattle.tb_syntax.specs.Source.{Program}
 use Rattle.tb_refusals.specs.declared.refusals.CompileError.{CompileError}
 use Rattle.tb_refusals.specs.declared.refusals.CompileError.TheVariants.{NoMemory as NoProgramMemory}
-use Rattle.tb_codegen.specs.Answers.{HasOutcome, Makes}
+use Rattle.tb_codegen.specs.Answers.{HasOutcome, LinesMake}
 use Rattle.tb_codegen.specs.Compiled.{starts_of}
 use Rattle.tb_streams.specs.Streams.{MayPassMost, Reads}
 use Rattle.tb_engines.specs.declared.outcome.Outcome.{Outcome}
@@ -19,7 +19,7 @@ use Rattle.tb_debug_engine.specs.declared.sources.Written.{Written}
 -- a source with the program that it makes, compiled with a first state of RND: its code begins lines where the source does
 pub record AreSources (seed : ℕ) (s : Sources) : Type 0 where
   pub source : Program
-  pub makes : Makes s.text.items (Ok source)
+  pub makes : LinesMake s.text.items (Ok source)
   pub made : IsMadeOf source seed s.program
 
 -- What reading and compiling a source answers, with what its reader had and its count of failures: the source with its

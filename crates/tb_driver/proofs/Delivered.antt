@@ -4,7 +4,7 @@ use Rattle.tb_lower.specs.declared.missing.Warning.{Warning}
 use Rattle.tb_parser.specs.Files.{Outcome as FileOutcome}
 use Rattle.tb_refusals.specs.declared.refusals.CompileError.{CompileError}
 use Rattle.tb_refusals.specs.declared.refusals.CompileError.TheVariants.{Source as BadSource, Lower, TooLarge, NoMemory as NoCompilerMemory}
-use Rattle.tb_codegen.specs.Answers.{HasOutcome, Makes as LinesMake, OutcomeAnswer}
+use Rattle.tb_codegen.specs.Answers.{HasOutcome, LinesMake, OutcomeAnswer}
 use Rattle.tb_codegen.specs.Compiled.{warnings_of}
 use Rattle.tb_codegen.specs.declared.compiled.Compiled.{Compiled}
 use Rattle.tb_streams.specs.Streams.{Reads}

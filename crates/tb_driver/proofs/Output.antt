@@ -22,7 +22,7 @@ use Rattle.tb_runtime16.specs.Places.{PROLOGUE_AT}
 use Rattle.tb_runtime16.specs.Laws.{AllBytes}
 use Rattle.tb_keeping.specs.Kept.{Starts, HasEnded, IsSound, Keeps}
 use Rattle.tb_codegen.specs.declared.compiled.Compiled.{Compiled}
-use Rattle.tb_codegen.specs.Answers.{Makes as LinesMake, OutcomeAnswer, Answered}
+use Rattle.tb_codegen.specs.Answers.{LinesMake, OutcomeAnswer, Answered}
 use Rattle.tb_codegen.specs.Compiled.{prg_of, loaded_of}
 use Rattle.tb_streams.specs.HostForm.{host_form_of}
 use Rattle.tb_engines.specs.Outcomes.{Product}

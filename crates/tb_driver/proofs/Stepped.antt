@@ -6,7 +6,7 @@ use Rattle.tb_kernal.specs.declared.outside.Quiet.{Quiet}
 use Rattle.tb_kernal.specs.Machine.{Content}
 use Rattle.tb_parser.specs.Files.{Outcome as FileOutcome}
 use Rattle.tb_prg.specs.Prg.{content_of}
-use Rattle.tb_codegen.specs.Answers.{HasOutcome, Makes as LinesMake, OutcomeAnswer}
+use Rattle.tb_codegen.specs.Answers.{HasOutcome, LinesMake, OutcomeAnswer}
 use Rattle.tb_codegen.specs.Compiled.{prg_of, loaded_of, warnings_of}
 use Rattle.tb_codegen.specs.declared.compiled.Compiled.{Compiled}
 use Rattle.tb_refusals.specs.declared.refusals.CompileError.{CompileError}

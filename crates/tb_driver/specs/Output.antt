@@ -6,7 +6,7 @@ use Rattle.tb_lower.specs.Steps.{Ended, Faulted, Waits, Over, sent_by}
 use Rattle.tb_lower.specs.Meaning.{source_run}
 use Rattle.tb_lower.specs.Follows.{IsPrefix}
 use Rattle.tb_keeping.specs.Kept.{Keeps}
-use Rattle.tb_codegen.specs.Answers.{Makes}
+use Rattle.tb_codegen.specs.Answers.{LinesMake}
 use Rattle.tb_prg.specs.Prg.{content_of}
 use Rattle.tb_streams.specs.HostForm.{host_form_of}
 use Rattle.tb_engines.specs.Outcomes.{Product}
@@ -41,14 +41,14 @@ ShowsOutput program seed keys answers (WentWrong wrong pc) text = ⊥
 -- what comes of running a source: the text of the program that its lines make, or the compiler's refusal
 abbrev pub RunsSource : ℕ → List ℕ → List ℕ → List ℕ → Product → Type 0
 RunsSource seed keys answers source (Ok shown) =
-    (program : Program) × Makes source (Ok program) × ShowsOutput program seed keys answers shown.1 shown.0
+    (program : Program) × LinesMake source (Ok program) × ShowsOutput program seed keys answers shown.1 shown.0
 RunsSource seed keys answers source (Err (Source e)) = Compiles seed source (Err e)
 RunsSource seed keys answers source (Err e) = ⊥
 
 -- a PRG file, loaded at $0801 below $A000, keeps the program that the source's lines make
 pub record KeepsSource (seed : ℕ) (source file : List ℕ) : Type 0 where
   pub program : Program
-  pub made : Makes source (Ok program)
+  pub made : LinesMake source (Ok program)
   pub content : content_of file ≡ Ok (0x0801, drop 2 file)
   pub ends : 0x0801 + length (drop 2 file) ≤ 0xa000
   pub keeps : Keeps 0x0801 (drop 2 file) program seed

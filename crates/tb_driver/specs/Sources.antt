@@ -5,7 +5,7 @@ use Rattle.tb_parser.specs.Files.{Outcome}
 use Rattle.tb_codegen.specs.declared.compiled.Compiled.{Compiled}
 use Rattle.tb_refusals.specs.declared.refusals.CompileError.{CompileError}
 use Rattle.tb_refusals.specs.declared.refusals.CompileError.TheVariants.{NoMemory}
-use Rattle.tb_codegen.specs.Answers.{HasOutcome, Makes, OutcomeAnswer}
+use Rattle.tb_codegen.specs.Answers.{HasOutcome, LinesMake, OutcomeAnswer}
 use Rattle.tb_codegen.specs.Compiled.{prg_of, warnings_of}
 use Rattle.tb_engines.specs.Outcomes.{Product}
 use Rattle.tb_engines.specs.declared.delivery.Stop.{Stop}
@@ -19,7 +19,7 @@ use Rattle.tb_engines.specs.declared.outcome.Refusal.TheVariants.{Source}
 -- and whatever they make is what is answered
 pub record IsAnswer (seed : ℕ) (source : List ℕ) (answer : Result Compiled CompileError) : Type 0 where
   pub found : HasOutcome seed source answer
-  pub only : (outcome : Outcome) → Makes source outcome → OutcomeAnswer seed outcome answer
+  pub only : (outcome : Outcome) → LinesMake source outcome → OutcomeAnswer seed outcome answer
 
 -- the compiler's answer; want of memory is none
 abbrev pub Compiles : ℕ → List ℕ → Result Compiled CompileError → Type 0

@@ -6,7 +6,7 @@ use Rattle.tb_parser.specs.Files.{Outcome}
 use Rattle.tb_runtime16.specs.Places.{PROLOGUE_AT}
 use Rattle.tb_refusals.specs.declared.refusals.CompileError.{CompileError}
 use Rattle.tb_codegen.specs.declared.compiled.Compiled.{Compiled}
-use Rattle.tb_codegen.specs.Answers.{HasOutcome, Makes, OutcomeAnswer}
+use Rattle.tb_codegen.specs.Answers.{HasOutcome, LinesMake, OutcomeAnswer}
 use Rattle.tb_codegen.specs.Compiled.{prg_of, starts_of, table_of, warnings_of}
 use Rattle.tb_disasm.specs.Back.{GivesBack}
 use Rattle.tb_listing.specs.declared.build.Made.{Made}
@@ -33,10 +33,10 @@ pub record Tells (source : List ℕ) (compiled : Compiled) (program : Program) (
 pub record IsMade (seed : ℕ) (source : List ℕ) (made : Made) : Type 0 where
   pub compiled : Compiled
   pub answered : HasOutcome seed source (Ok compiled)
-  pub only : (outcome : Outcome) → Makes source outcome → OutcomeAnswer seed outcome (Ok compiled)
+  pub only : (outcome : Outcome) → LinesMake source outcome → OutcomeAnswer seed outcome (Ok compiled)
   pub sorted : Rise 0 (places (starts_of compiled) (table_of compiled))
   pub program : Program
-  pub makes : Makes source (Ok program)
+  pub makes : LinesMake source (Ok program)
   pub tells : Tells source compiled program made
   pub bytes : sum_by (λ p. p.bytes) (parts (starts_of compiled) (table_of compiled) (image_size compiled) program) ≡ image_size compiled
   pub prices : sum_by (λ p. p.price) (parts (starts_of compiled) (table_of compiled) (image_size compiled) program) ≡ cost program
@@ -44,4 +44,4 @@ pub record IsMade (seed : ℕ) (source : List ℕ) (made : Made) : Type 0 where
 -- the compiler's refusal
 pub record IsRefused (seed : ℕ) (source : List ℕ) (e : CompileError) : Type 0 where
   pub answered : HasOutcome seed source (Err e)
-  pub only : (outcome : Outcome) → Makes source outcome → OutcomeAnswer seed outcome (Err e)
+  pub only : (outcome : Outcome) → LinesMake source outcome → OutcomeAnswer seed outcome (Err e)

@@ -4,7 +4,7 @@ use Rattle.tb_kernal.specs.declared.events.Event.{Event}
 use Rattle.tb_kernal.specs.Machine.{Content}
 use Rattle.tb_syntax.specs.Source.{Program, numbers}
 use Rattle.tb_codegen.specs.declared.compiled.Compiled.{Compiled}
-use Rattle.tb_codegen.specs.Answers.{HasOutcome, Makes}
+use Rattle.tb_codegen.specs.Answers.{HasOutcome, LinesMake}
 use Rattle.tb_driver.specs.Sources.{FromSource}
 use Rattle.tb_lower.specs.declared.missing.Warning.{Warning}
 use Rattle.tb_engines.specs.Outcomes.{Product}
@@ -24,7 +24,7 @@ use Rattle.tb_profile_engine.specs.Running.{IsProfile}
 -- and the table and the page of these rows with the statements of the source.
 pub record IsProfileOf {O : Type 0} (gives : O → Content → Event → O → Type 0) (o : O) (text answers : List ℕ) (limit : ℕ) (source : List ℕ) (compiled : Compiled) (html shown : List ℕ) (ran : Ran) : Type 0 where
   pub program : Program
-  pub made : Makes source (Ok program)
+  pub made : LinesMake source (Ok program)
   pub is : IsProfile gives o text answers limit compiled ran
   pub lines : map (λ r. r.line) ran.table.rows.items ≡ numbers program
   pub adds_up : AddsUp ran.table
