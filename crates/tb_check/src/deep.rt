@@ -4,7 +4,7 @@ ghost use Rattle.tb_check.specs.Entries.{DeepLinesAre, deep_here, deep_of, entry
 
 use crate::lines::{NumberedLine, numbered_lines};
 use std::alloc::{AllocError, Global};
-use tb_lower::{SLOTS, command_need};
+use tb_lower::{SLOT_COUNT, command_need};
 use tb_parser::NoMemory;
 
 /// The lines of a file, from 1, with an expression that is too deep, which no later line replaces or takes out.
@@ -44,7 +44,7 @@ fn is_deep(line: &NumberedLine) -> bool
     ensures { result ≡ is_deep (entry_of line.now).states }
 {
     match &line.statement {
-        Some(statement) => command_need(statement) > SLOTS,
+        Some(statement) => command_need(statement) > SLOT_COUNT,
         None => false,
     }
 }

@@ -19,6 +19,6 @@ pub use evaluation::{EvalError, constant, eval};
 pub use interpreter::{RunEnd, SourceRun, run_source};
 pub use lowering::{LowerError, lower};
 pub use missing::{Warning, warnings};
-pub use needs::{SLOTS, command_need};
+pub use needs::{SLOT_COUNT, command_need};
 pub use places::Place;
 pub use slot_code::{SlotCode, SlotInstr, SlotLine};

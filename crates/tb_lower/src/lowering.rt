@@ -11,7 +11,7 @@ ghost use Rattle.tb_lower.specs.Refusals.{IsRefusal};
 ghost use Rattle.tb_lower.specs.PlainData.{instr_of, slot_line_of, code_of};
 
 use crate::evaluation::constant;
-use crate::needs::{SLOTS, command_need};
+use crate::needs::{SLOT_COUNT, command_need};
 use crate::slot_code::{SlotCode, SlotInstr, SlotLine};
 use std::alloc::{AllocError, Global};
 use tb_syntax::{Expr, PrintItem, Program, Statement};
@@ -62,7 +62,7 @@ fn lower_lines(alloc: Global, program: &Program) -> Result<Vec<SlotLine>, LowerE
 {
     let mut lines = Vec::new(alloc);
     for (number, statement) in program.lines() {
-        if command_need(statement) > SLOTS {
+        if command_need(statement) > SLOT_COUNT {
             return Err(LowerError::TooDeep(*number));
         }
         let line = lower_line(alloc, *number, statement)?;

@@ -6,7 +6,7 @@ ghost use Rattle.tb_lower.specs.Need.{need, items_need, command_need};
 use tb_syntax::{Expr, PrintItem, Statement};
 
 /// How many slots there are.
-pub const SLOTS: u8 = 16;
+pub const SLOT_COUNT: u8 = 16;
 
 // How many slots an expression needs, up to 17.
 fn need(e: &Expr) -> u8
@@ -15,7 +15,7 @@ fn need(e: &Expr) -> u8
     match e {
         Expr::Number(_) | Expr::Variable(_) => 1,
         Expr::Negate(e) | Expr::Random(e) => need(e),
-        Expr::Binary(_, l, r) => need(l).max(need(r).min(SLOTS) + 1),
+        Expr::Binary(_, l, r) => need(l).max(need(r).min(SLOT_COUNT) + 1),
     }
 }
 
