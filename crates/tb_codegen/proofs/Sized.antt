@@ -25,7 +25,7 @@ use Rattle.tb_templates.proofs.Fitting.{program_fits}
 use Rattle.tb_templates.proofs.Taken.{block_size, program_most, program_suits}
 use Rattle.tb_words.specs.Words.{word_of}
 use Rattle.tb_codegen.specs.declared.compiled.Compiled.{Compiled}
-use Rattle.tb_codegen.specs.Compiled.{prg_of, starts_of, table_of, warnings_of, IsCompiled, starts_in, stands_at, AreKnown, StartsRise, most}
+use Rattle.tb_codegen.specs.Compiled.{prg_of, starts_of, table_of, warnings_of, IsCompiled, starts_in, stands_at, AreKnown, PlacesRise, most}
 use Rattle.tb_codegen.specs.Texts.{LinesHoldTexts, offset_of}
 use Rattle.tb_templates.proofs.Settled.{Sections, last_broken, sections}
 use Rattle.tb_codegen.proofs.Placed.{lines_known, lines_begin_in_order, start_numbers}
@@ -181,7 +181,7 @@ made {seed} {p} {code} c same s shallow small l file starts table warned =
       ends = items_end s l;
       starts = all;
       lines = ap (map (λ s. s.0)) all ∙ start_numbers own (numbers p);
-      rising = subst (StartsRise LINES_AT) (sym all) (lines_begin_in_order own (numbers (lowered.program_code p)) seed LINES_AT [] p g.lines g.of_lines g.line_labels);
+      rising = subst (PlacesRise LINES_AT) (sym all) (lines_begin_in_order own (numbers (lowered.program_code p)) seed LINES_AT [] p g.lines g.of_lines g.line_labels);
       table = ap (λ ls. address_in ls (label_of Table)) (sym l.labels_are) ∙ table;
       warned = warned;
     }

@@ -65,10 +65,10 @@ line_in (s ∷ []) table a = if lies s.1 table a then Some s.0 else None
 line_in (s ∷ next ∷ starts) table a = if lies s.1 next.1 a then Some s.0 else line_in (next ∷ starts) table a
 
 -- ── where code lies ──
--- starts that rise strictly, from an address on
-abbrev pub StartsRise : ℕ → List (ℕ × ℕ) → Type 0
-StartsRise low [] = Unit {0}
-StartsRise low (s ∷ starts) = (low ≤ s.1) × StartsRise (s.1 + 1) starts
+-- addresses that rise strictly, from one on, of lines or of what else has one
+abbrev pub PlacesRise : {A : Type 0} → ℕ → List (A × ℕ) → Type 0
+PlacesRise low [] = Unit {0}
+PlacesRise low (p ∷ ps) = (low ≤ p.1) × PlacesRise (p.1 + 1) ps
 
 -- where a label stands; 0 where none has its name
 abbrev pub stands_at : List (Name × ℕ) → Name → ℕ
@@ -100,6 +100,6 @@ pub record IsCompiled (seed : ℕ) (program : Program) (c : Compiled) : Type 0 w
   pub ends : PROLOGUE_AT + size items ≤ 0xA000
   pub starts : starts_of c ≡ starts_in (labels_from PROLOGUE_AT items) (numbers program)
   pub lines : map (λ s. s.0) (starts_of c) ≡ numbers program
-  pub rising : StartsRise LINES_AT (starts_of c)
+  pub rising : PlacesRise LINES_AT (starts_of c)
   pub table : address_in (labels_from PROLOGUE_AT items) (label_of Table) ≡ Some (table_of c)
   pub warned : map (λ w. (w.line, word_of w.target)) (warnings_of c) ≡ missing_targets program

@@ -15,7 +15,7 @@ use Rattle.tb_templates.specs.Labels.{label_of}
 use Rattle.tb_keeping.specs.Layout.{is_start}
 use Rattle.tb_keeping.specs.LineStarts as kept
 use Rattle.tb_keeping.specs.LineStarts.{HoldsReturns, StandsFor}
-use Rattle.tb_codegen.specs.Compiled.{StartsRise, stands_at, starts_in}
+use Rattle.tb_codegen.specs.Compiled.{PlacesRise, stands_at, starts_in}
 use Rattle.tb_debug.specs.Lines.{line_at}
 use Rattle.tb_debug.specs.Readings.{byte_at, lines_of_notes, note_at, notes_in, or_zero, returns_of, word_at}
 use Rattle.tb_debug.specs.Runs.{begins_at}
@@ -46,7 +46,7 @@ module _ (labels : List (Name × ℕ)) where
   abbrev at_label : ℕ → ℕ
   at_label n = stands_at labels (label_of (Line n))
 
-  above : (ns : List ℕ) (low n : ℕ) → StartsRise low (starts_in labels ns) → has_line ns n ≡ true → low ≤ at_label n
+  above : (ns : List ℕ) (low n : ℕ) → PlacesRise low (starts_in labels ns) → has_line ns n ≡ true → low ≤ at_label n
   above [] low n rise has = absurd (cc)
   above (m ∷ ns) low n (here, rest) has = go (nat_eq m n) refl (above ns (at_label m + 1) n rest) has
     where
@@ -58,7 +58,7 @@ module _ (labels : List (Name × ℕ)) where
   same_place a = grind (arith, nat_tests)
 
   -- a line of the program is found where it begins
-  found_there : (ns : List ℕ) (low n : ℕ) → StartsRise low (starts_in labels ns) → has_line ns n ≡ true
+  found_there : (ns : List ℕ) (low n : ℕ) → PlacesRise low (starts_in labels ns) → has_line ns n ≡ true
       → line_at (starts_in labels ns) (at_label n) ≡ Some n
   found_there [] low n rise has = absurd (cc)
   found_there (m ∷ ns) low n (here, rest) has =
@@ -86,7 +86,7 @@ module _ (labels : List (Name × ℕ)) where
       go true later e = absurd (cc)
       go false later e = later e
 
-  module _ (start : ℕ → ℕ) (ns : List ℕ) (low : ℕ) (rise : StartsRise low (starts_in labels ns))
+  module _ (start : ℕ → ℕ) (ns : List ℕ) (low : ℕ) (rise : PlacesRise low (starts_in labels ns))
       (firsts : (n : ℕ) → has_line ns n ≡ true → start n ≡ at_label n) (same : (a : ℕ) → is_start start ns a ≡ begins_at (starts_in labels ns) a) where
     place_told : (p : Place) (a : ℕ) → StandsFor start ns p a → line_at (starts_in labels ns) a ≡ line_of p
     place_told (At n) a (has, is) = ap (line_at (starts_in labels ns)) (is ∙ firsts n has) ∙ found_there ns low n rise has

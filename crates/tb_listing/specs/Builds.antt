@@ -7,10 +7,10 @@ use Rattle.tb_runtime16.specs.Places.{PROLOGUE_AT}
 use Rattle.tb_refusals.specs.declared.refusals.CompileError.{CompileError}
 use Rattle.tb_codegen.specs.declared.compiled.Compiled.{Compiled}
 use Rattle.tb_codegen.specs.Answers.{HasOutcome, LinesMake, OutcomeAnswer}
-use Rattle.tb_codegen.specs.Compiled.{prg_of, starts_of, table_of, warnings_of}
+use Rattle.tb_codegen.specs.Compiled.{PlacesRise, prg_of, starts_of, table_of, warnings_of}
 use Rattle.tb_disasm.specs.Back.{GivesBack}
 use Rattle.tb_listing.specs.declared.build.Made.{Made}
-use Rattle.tb_listing.specs.Labels.{places, labels_text, Rise}
+use Rattle.tb_listing.specs.Labels.{places, labels_text}
 use Rattle.tb_listing.specs.Map.{parts, map_text}
 use Rattle.tb_listing.specs.Comments.{ShowsLines}
 
@@ -34,7 +34,7 @@ pub record IsMade (seed : ℕ) (source : List ℕ) (made : Made) : Type 0 where
   pub compiled : Compiled
   pub answered : HasOutcome seed source (Ok compiled)
   pub only : (outcome : Outcome) → LinesMake source outcome → OutcomeAnswer seed outcome (Ok compiled)
-  pub sorted : Rise 0 (places (starts_of compiled) (table_of compiled))
+  pub sorted : PlacesRise 0 (places (starts_of compiled) (table_of compiled))
   pub program : Program
   pub makes : LinesMake source (Ok program)
   pub tells : Tells source compiled program made

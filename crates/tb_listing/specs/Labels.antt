@@ -56,11 +56,6 @@ data_places = map variable_place (range_with_len 0 26) ++ service_places
 abbrev pub places : List (ℕ × ℕ) → ℕ → List (List ℕ × ℕ)
 places starts table = block_places ++ (map line_place starts ++ ((codes "line_table", table) ∷ data_places))
 
--- addresses that rise strictly, from one on
-abbrev pub Rise : ℕ → List (List ℕ × ℕ) → Type 0
-Rise low [] = Unit {0}
-Rise low (p ∷ ps) = (low ≤ p.1) × Rise (p.1 + 1) ps
-
 -- ── their text ──
 -- `al C:0c00 .line10`: the line of a place
 abbrev pub label_text : List ℕ × ℕ → List ℕ
