@@ -33,7 +33,7 @@ use Rattle.tb_grouping.proofs.Changes.{change_is}
 use Rattle.tb_grouping.proofs.GroupCode as coded
 use Rattle.tb_grouping.proofs.GroupCode.{Way, Short, Zero, way_size}
 use Rattle.tb_grouping.proofs.Emits.{Emits, block, branches, ends, formed, labelled}
-use Rattle.tb_grouping.proofs.ItemBytes.{AllMake, Makes, Rest, behind_branch, behind_label, behind_straight, cut, cut_branch, gets_there, label_here, no_more, source_word, value_of}
+use Rattle.tb_grouping.proofs.ItemBytes.{AllEncode, Encodes, Rest, behind_branch, behind_label, behind_straight, cut, cut_branch, gets_there, label_here, no_more, source_word, value_of}
 use Rattle.tb_grouping.proofs.GroupBytes.{GroupEmitted, group_emitted}
 use Rattle.tb_grouping.proofs.Singles.{IsAlone}
 
@@ -46,48 +46,48 @@ module _ (labels : List (Name × ℕ)) (ns : List ℕ) (seed n : ℕ) (seed_smal
     next_small : next_at ly n < 65536
     next_small = omega (arith, top)
 
-    line_set : AllMake labels (product.constant n LINE) (resolved.constant n LINE)
+    line_set : AllEncode labels (product.constant n LINE) (resolved.constant n LINE)
     line_set = record { same = λ a. constant_bytes labels ns seed a n LINE n_small }
 
     -- loads of the two bytes of the next line's address
-    low_made : Makes labels (product.low_part (next_line ns n)) (ins 0xA9 (next_at ly n % 256))
+    low_made : Encodes labels (product.low_part (next_line ns n)) (ins 0xA9 (next_at ly n % 256))
     unfolding opcodes.encoded
     low_made = record { same = λ a. ap (λ b. 0xa9 ∷ b ∷ []) (let e : number_in labels (LowOf (label_of (next_line ns n))) % 256 ≡ next_at ly n % 256 = omega (arith, low_of labels ns seed (label_of (next_line ns n)), next_same labels ns seed n) in e) }
 
-    high_made : Makes labels (product.high_part (next_line ns n)) (ins 0xA9 (next_at ly n / 256))
+    high_made : Encodes labels (product.high_part (next_line ns n)) (ins 0xA9 (next_at ly n / 256))
     unfolding opcodes.encoded
     high_made = record { same = λ a. ap (λ b. 0xa9 ∷ b ∷ []) (let e : number_in labels (HighOf (label_of (next_line ns n))) % 256 ≡ next_at ly n / 256 = omega (arith, high_of labels ns seed (label_of (next_line ns n)), next_same labels ns seed n, next_small) in e) }
 
     abbrev asked : ℕ → List Entry
     asked place = product.at Ldx place ∷ []
 
-    asked_bytes : (place : ℕ) → AllMake labels (asked place) (coded.asked place)
+    asked_bytes : (place : ℕ) → AllEncode labels (asked place) (coded.asked place)
     unfolding opcodes.encoded
     asked_bytes place = record { same = λ a. refl }
 
     abbrev storing : List Entry
     storing = product.at Ldx NOTES ∷ product.low_part (next_line ns n) ∷ product.by_x Sta NOTE_LOW ∷ product.high_part (next_line ns n) ∷ product.by_x Sta NOTE_HIGH ∷ product.at Inc NOTES ∷ []
 
-    storing_bytes : AllMake labels storing (coded.note_stored (next_at ly n % 256) (next_at ly n / 256))
+    storing_bytes : AllEncode labels storing (coded.note_stored (next_at ly n % 256) (next_at ly n / 256))
     unfolding opcodes.encoded
     storing_bytes = record { same = λ a. λ i. 0xae ∷ NOTES % 256 ∷ NOTES / 256 ∷ (low_made.same a i ++ (0x9d ∷ NOTE_LOW % 256 ∷ NOTE_LOW / 256 ∷ (high_made.same a i ++ (0x9d ∷ NOTE_HIGH % 256 ∷ NOTE_HIGH / 256 ∷ 0xee ∷ NOTES % 256 ∷ NOTES / 256 ∷ [])))) }
 
-    raising_bytes : AllMake labels (product.at Inc (NOTES + 1) ∷ []) (ins 0xEE (NOTES + 1) ∷ [])
+    raising_bytes : AllEncode labels (product.at Inc (NOTES + 1) ∷ []) (ins 0xEE (NOTES + 1) ∷ [])
     unfolding opcodes.encoded
     raising_bytes = record { same = λ a. refl }
 
     abbrev taking : List Entry
     taking = product.alone Dex ∷ product.at Stx NOTES ∷ product.by_x Lda NOTE_LOW ∷ product.at Sta RESULT ∷ product.by_x Lda NOTE_HIGH ∷ product.at Sta (RESULT + 1) ∷ []
 
-    taking_bytes : AllMake labels taking coded.note_taken
+    taking_bytes : AllEncode labels taking coded.note_taken
     unfolding opcodes.encoded
     taking_bytes = record { same = λ a. refl }
 
-    through_bytes : AllMake labels product.jump_through resolved.jump_through
+    through_bytes : AllEncode labels product.jump_through resolved.jump_through
     unfolding opcodes.encoded
     through_bytes = record { same = λ a. refl }
 
-    call_bytes : (routine : ℕ) → AllMake labels (product.call routine ∷ []) (resolved.call routine)
+    call_bytes : (routine : ℕ) → AllEncode labels (product.call routine ∷ []) (resolved.call routine)
     unfolding opcodes.encoded
     call_bytes routine = record { same = λ a. refl }
 
@@ -99,7 +99,7 @@ module _ (labels : List (Name × ℕ)) (ns : List ℕ) (seed n : ℕ) (seed_smal
       abbrev going : List Entry
       going = product.jump (target.Line to) ∷ []
 
-      going_bytes : AllMake labels going (resolved.jump (ly.start to))
+      going_bytes : AllEncode labels going (resolved.jump (ly.start to))
       going_bytes = record { same = λ a. jump_bytes labels ns seed a (target.Line to) _ (start_of_line labels ns seed to has) }
 
       -- behind its branches

@@ -32,13 +32,13 @@ use Rattle.tb_grouping.proofs.Changes.{IsByte, IsChange, change_is, of_left, of_
 use Rattle.tb_grouping.proofs.GroupCode as coded
 use Rattle.tb_grouping.proofs.GroupCode.{Carry, Flag, Negative, Way, Short, Zero, way_size}
 use Rattle.tb_grouping.proofs.Emits.{Emits, block, branch_by, branches, emits_append, emitted_size, formed, labelled}
-use Rattle.tb_grouping.proofs.ItemBytes.{AllMake, IsWord, Rest, all_made, asked_emits, behind_branch, behind_straight, calculated_emits, calculated_straight, copied_made, copied_straight, cut, cut_branch, gets_there, high_made, high_straight, label_here, rest_before, rest_behind, taken_bytes, value_of}
+use Rattle.tb_grouping.proofs.ItemBytes.{AllEncode, IsWord, Rest, all_made, asked_emits, behind_branch, behind_straight, calculated_emits, calculated_straight, copied_made, copied_straight, cut, cut_branch, gets_there, high_made, high_straight, label_here, rest_before, rest_behind, taken_bytes, value_of}
 
 module _ (labels : List (Name × ℕ)) where
   -- ---- code with a branch over a part of it
   module _ (before skipped behind : List Entry) (front mid back : List Instr) (which : Flag) (wanted : Bool) (skip : Name)
       (plain_front : list_all is_straight before ≡ true) (plain_mid : list_all is_straight skipped ≡ true) (plain_back : list_all is_straight behind ≡ true)
-      (makes_front : AllMake labels before front) (makes_mid : AllMake labels skipped mid) (makes_back : AllMake labels behind back) where
+      (makes_front : AllEncode labels before front) (makes_mid : AllEncode labels skipped mid) (makes_back : AllEncode labels behind back) where
     record Over (at : ℕ) (fs : List Form) : Type 0 where
       first : Way
       emits : Emits labels at fs (coded.over_code first at front which wanted mid back)
@@ -88,42 +88,42 @@ module _ (labels : List (Name × ℕ)) where
     byte_is : (c : ℕ) → c < 256 → c % 256 ≡ c
     byte_is c h = omega (arith, h)
 
-    inc_bytes : (q : ℕ) → AllMake labels (product.at Inc q ∷ []) (ins 0xEE q ∷ [])
+    inc_bytes : (q : ℕ) → AllEncode labels (product.at Inc q ∷ []) (ins 0xEE q ∷ [])
     unfolding opcodes.encoded
     inc_bytes q = record { same = λ a. refl }
 
-    dec_bytes : (q : ℕ) → AllMake labels (product.at Dec q ∷ []) (ins 0xCE q ∷ [])
+    dec_bytes : (q : ℕ) → AllEncode labels (product.at Dec q ∷ []) (ins 0xCE q ∷ [])
     unfolding opcodes.encoded
     dec_bytes q = record { same = λ a. refl }
 
-    lda_bytes : AllMake labels (product.at Lda p ∷ []) (ins 0xAD p ∷ [])
+    lda_bytes : AllEncode labels (product.at Lda p ∷ []) (ins 0xAD p ∷ [])
     unfolding opcodes.encoded
     lda_bytes = record { same = λ a. refl }
 
-    none_bytes : AllMake labels [] []
+    none_bytes : AllEncode labels [] []
     none_bytes = record { same = λ a. refl }
 
-    raised_bytes : (c : ℕ) → c < 256 → AllMake labels (product.alone Clc ∷ product.at Lda p ∷ product.const Adc c ∷ product.at Sta p ∷ []) (coded.low_raised c p)
+    raised_bytes : (c : ℕ) → c < 256 → AllEncode labels (product.alone Clc ∷ product.at Lda p ∷ product.const Adc c ∷ product.at Sta p ∷ []) (coded.low_raised c p)
     unfolding opcodes.encoded
     raised_bytes c h = record { same = λ a. ap (λ b. 0x18 ∷ 0xad ∷ p % 256 ∷ p / 256 ∷ 0x69 ∷ b ∷ 0x8d ∷ p % 256 ∷ p / 256 ∷ []) (byte_is c h) }
 
-    lowered_bytes : (c : ℕ) → c < 256 → AllMake labels (product.alone Sec ∷ product.at Lda p ∷ product.const Sbc c ∷ product.at Sta p ∷ []) (coded.low_lowered c p)
+    lowered_bytes : (c : ℕ) → c < 256 → AllEncode labels (product.alone Sec ∷ product.at Lda p ∷ product.const Sbc c ∷ product.at Sta p ∷ []) (coded.low_lowered c p)
     unfolding opcodes.encoded
     lowered_bytes c h = record { same = λ a. ap (λ b. 0x38 ∷ 0xad ∷ p % 256 ∷ p / 256 ∷ 0xe9 ∷ b ∷ 0x8d ∷ p % 256 ∷ p / 256 ∷ []) (byte_is c h) }
 
-    sign_bytes : AllMake labels (product.at Lda (p + 1) ∷ scaled.on_a Asl ∷ []) (coded.sign_asked p)
+    sign_bytes : AllEncode labels (product.at Lda (p + 1) ∷ scaled.on_a Asl ∷ []) (coded.sign_asked p)
     unfolding opcodes.encoded
     sign_bytes = record { same = λ a. refl }
 
-    by_sign_bytes : AllMake labels (in_place.one_more p ++ (scaled.on_a Asl ∷ [])) (coded.raised_by_sign p)
+    by_sign_bytes : AllEncode labels (in_place.one_more p ++ (scaled.on_a Asl ∷ [])) (coded.raised_by_sign p)
     unfolding opcodes.encoded
     by_sign_bytes = record { same = λ a. refl }
 
-    right_bytes : AllMake labels (product.at Ror (p + 1) ∷ product.at Ror p ∷ []) (coded.turned_right p)
+    right_bytes : AllEncode labels (product.at Ror (p + 1) ∷ product.at Ror p ∷ []) (coded.turned_right p)
     unfolding opcodes.encoded
     right_bytes = record { same = λ a. refl }
 
-    double_bytes : AllMake labels (in_place.doubled_in_place p) (ins 0x0E p ∷ ins 0x2E (p + 1) ∷ [])
+    double_bytes : AllEncode labels (in_place.doubled_in_place p) (ins 0x0E p ∷ ins 0x2E (p + 1) ∷ [])
     unfolding opcodes.encoded
     double_bytes = record { same = λ a. refl }
 

@@ -46,7 +46,7 @@ use Rattle.tb_grouping.proofs.Singles.{IsAlone}
 use Rattle.tb_grouping.proofs.Emits.{formed, branch_by, Emits, emits_append, emitted_size, ends, block, branches}
 use Rattle.tb_keeping.proofs.Numbers.{address_bytes, constant_bytes, faulted_bytes, next_same}
 use Rattle.tb_grouping.proofs.SingleBytes.{template_bytes}
-use Rattle.tb_grouping.proofs.ItemBytes.{AllMake, IsWord, Rest, all_straight, behind_straight, brought_bytes, brought_straight, cut, cut_branch, gets_there, handed_emits, handed_straight, joined_straight, left_over_emits, lined_emits, lined_straight, no_more, rest_before, rest_behind, source_word, taken_bytes, template_straight, tested_word, value_of}
+use Rattle.tb_grouping.proofs.ItemBytes.{AllEncode, IsWord, Rest, all_straight, behind_straight, brought_bytes, brought_straight, cut, cut_branch, gets_there, handed_emits, handed_straight, joined_straight, left_over_emits, lined_emits, lined_straight, no_more, rest_before, rest_behind, source_word, taken_bytes, template_straight, tested_word, value_of}
 use Rattle.tb_grouping.proofs.TestBytes.{equal_emitted, unequal_emitted, compared_emitted}
 
 -- ---- groups
@@ -90,7 +90,7 @@ module _ (labels : List (Name × ℕ)) (ns : List ℕ) (seed n : ℕ) (seed_smal
     alone_straight i c true b = template_straight ns n i c b
     alone_straight i c false b = template_straight ns n i c b
 
-    line_set : AllMake labels (product.constant n LINE) (resolved.constant n LINE)
+    line_set : AllEncode labels (product.constant n LINE) (resolved.constant n LINE)
     line_set = record { same = λ a. constant_bytes labels ns seed a n LINE n_small }
 
     template_emits : (i at : ℕ) (c : slots.Instr) → coded.has_branches c ≡ false → alone c ≡ Single c → IsInRange 256 c → Rest labels at (map kept (product.template ns n i c))
@@ -291,7 +291,7 @@ module _ (labels : List (Name × ℕ)) (ns : List ℕ) (seed n : ℕ) (seed_smal
   abbrev stop_asked : List Entry
   stop_asked = product.const Cmp 3 ∷ []
 
-  stop_asked_bytes : AllMake labels stop_asked (ins 0xC9 3 ∷ [])
+  stop_asked_bytes : AllEncode labels stop_asked (ins 0xC9 3 ∷ [])
   unfolding opcodes.encoded
   stop_asked_bytes = record { same = λ a. refl }
 

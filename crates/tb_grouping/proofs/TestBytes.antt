@@ -31,7 +31,7 @@ use Rattle.tb_grouping.proofs.Sources.{lda}
 use Rattle.tb_grouping.proofs.GroupCode as coded
 use Rattle.tb_grouping.proofs.GroupCode.{low, high, weighed, difference, Way, Short, way_size, Flag, Zero, Overflow, Negative, Carry, BranchReaches, branch_code, branch_on, second_at, turned_at}
 use Rattle.tb_grouping.proofs.Emits.{formed, branch_by, Emits, ends, block, labelled, branches}
-use Rattle.tb_grouping.proofs.ItemBytes.{AllMake, IsWord, Rest, behind_branch, behind_label, behind_straight, cut, cut_branch, difference_bytes, gets_there, high_made, high_straight, label_here, lifted_bytes, low_straight, no_more, value_of, weighed_high, weighed_low}
+use Rattle.tb_grouping.proofs.ItemBytes.{AllEncode, IsWord, Rest, behind_branch, behind_label, behind_straight, cut, cut_branch, difference_bytes, gets_there, high_made, high_straight, label_here, lifted_bytes, low_straight, no_more, value_of, weighed_high, weighed_low}
 
 module _ (labels : List (Name × ℕ)) where
   -- ---- tests
@@ -129,7 +129,7 @@ module _ (labels : List (Name × ℕ)) where
     abbrev turn : List Entry
     turn = product.const Eor 128 ∷ []
 
-    turn_bytes : AllMake labels turn (ins 0x49 128 ∷ [])
+    turn_bytes : AllEncode labels turn (ins 0x49 128 ∷ [])
     unfolding opcodes.encoded
     turn_bytes = record { same = λ a. refl }
 
@@ -185,7 +185,7 @@ module _ (labels : List (Name × ℕ)) where
       emits : Emits labels at fs (Code is ∷ Code (branch_code first (branch_on which wanted) (at + resolved.size is) to) ∷ [])
       reach : BranchReaches first (at + resolved.size is) to
 
-    ended : (es : List Entry) (is : List Instr) (which : Flag) (wanted : Bool) (at : ℕ) (fs : List Form) → list_all is_straight es ≡ true → AllMake labels es is
+    ended : (es : List Entry) (is : List Instr) (which : Flag) (wanted : Bool) (at : ℕ) (fs : List Form) → list_all is_straight es ≡ true → AllEncode labels es is
         → AreFormsOf (es ++ (product.branch (branch_by which wanted) goal ∷ [])) fs → Rest labels at fs → Ended is which wanted at fs
     ended es is which wanted at fs straight makes h r =
         let l = label_of goal in
