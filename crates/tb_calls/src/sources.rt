@@ -6,7 +6,8 @@ use tb_check::bad_lines;
 use tb_codegen::{Compiled, Options, compile};
 use tb_driver::{host_form, key_list};
 use tb_listing::{Made, make};
-use tb_lower::{SlotCode, lower, warnings};
+use tb_lower::{SlotCode, lower};
+use tb_meaning::warnings;
 use tb_parser::{Program, Token, parse, parse_expr, tokens};
 
 /// Sends a text.

@@ -2,7 +2,7 @@
 use Rattle.std.proofs.Common.{◌≡◌, ◌≢◌, ℕ, ◌≤◌, ◌<◌, nat_le, true, false, List, [], ◌∷◌, Option, Some, None, Result, Ok, Err, if◌then◌else◌, refl, sym, ap, ◌∙◌, subst, arith, is_some, true≢false}
 use Rattle.std.specs.Prelude.{IfOk}
 use Rattle.tb_syntax.specs.Source.{Program}
-use Rattle.tb_lower.specs.Cost.{cost}
+use Rattle.tb_meaning.specs.Cost.{cost}
 use Rattle.tb_lower.specs.Need.{command_need, too_deep}
 use Rattle.tb_lower.specs.declared.lowering.LowerError.TheVariants as deep
 use Rattle.tb_parser.specs.declared.errors.SourceError.{SourceError}

@@ -2,7 +2,7 @@
 use Rattle.std.specs.Prelude.{◌≡◌, ◌≢◌, ℕ, nat_le, List, [], ◌∷◌, Option, Some, None, Ok, if◌then◌else◌}
 use Rattle.tb_syntax.specs.Source.{Program}
 use Rattle.tb_syntax.specs.PlainData.{lines_of}
-use Rattle.tb_lower.specs.Cost.{cost}
+use Rattle.tb_meaning.specs.Cost.{cost}
 use Rattle.tb_lower.specs.Need.{command_need}
 use Rattle.tb_parser.specs.Files.{at_end}
 use Rattle.tb_parser.specs.Lines.{lines_of_file}

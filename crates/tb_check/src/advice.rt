@@ -2,7 +2,7 @@
 use crate::lines::{LastLine, NumberedLine, last_lines, outdone_by};
 use std::alloc::{AllocError, Global};
 use std::collections::BTreeMap;
-use tb_lower::{Warning as MissingJump, constant, warnings as missing_jumps};
+use tb_meaning::{Warning as MissingJump, constant, warnings as missing_jumps};
 use tb_parser::NoMemory;
 use tb_syntax::{Expr, PrintItem, Program, Statement};
 

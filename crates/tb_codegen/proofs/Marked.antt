@@ -4,7 +4,7 @@ use Rattle.std.specs.Prelude.{if◌then◌else◌, nat_eq, unwrap_or}
 use Rattle.std.proofs.lemmas.Bool.{eqb-true}
 use Rattle.tb_asm.specs.declared.names.Name.{Name}
 use Rattle.tb_asm.specs.Layout.{labels_from}
-use Rattle.tb_lower.specs.Control.{has_line}
+use Rattle.tb_meaning.specs.Control.{has_line}
 use Rattle.tb_lower.specs.Follows.{Follows}
 use Rattle.tb_lower.specs.Lowered as lowered
 use Rattle.tb_lower.specs.Slots.{SlotCode}

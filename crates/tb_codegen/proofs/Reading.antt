@@ -1,7 +1,7 @@
 -- What a text is no longer than: the cost of what it reads as.
 use Rattle.std.proofs.Common.{◌≡◌, ℕ, ◌+◌, ◌*◌, ◌<◌, ◌≤◌, Bool, true, false, List, [], ◌∷◌, ◌++◌, length, ap, arith, length-append, Option}
 use Rattle.tb_syntax.specs.Source.{Expression, Item, Zone, Command}
-use Rattle.tb_lower.specs.Cost.{nodes, item_cost, command_cost}
+use Rattle.tb_meaning.specs.Cost.{nodes, item_cost, command_cost}
 use Rattle.tb_syntax.specs.Texts.{AreShort}
 use Rattle.tb_syntax.specs.Texts.{command_texts, item_texts}
 use Rattle.tb_words.specs.declared.Rel.{Rel}

@@ -6,9 +6,9 @@ use Rattle.tb_asm.specs.Settle.{items_from, SettlesTo}
 use Rattle.tb_asm.proofs.Laws.{all_size, bytes_append}
 use Rattle.tb_syntax.specs.Source.{Program, numbers}
 use Rattle.tb_syntax.specs.Texts.{HasShortTexts}
-use Rattle.tb_lower.specs.Cost.{cost}
+use Rattle.tb_meaning.specs.Cost.{cost}
 use Rattle.tb_lower.specs.Lowered as lowered
-use Rattle.tb_lower.specs.Missing.{missing_targets}
+use Rattle.tb_meaning.specs.Missing.{missing_targets}
 use Rattle.tb_lower.specs.Need.{too_deep}
 use Rattle.tb_lower.specs.Ranges.{IsCodeInRange}
 use Rattle.tb_lower.specs.Slots.{Instr, Put, Load, Store, Negate, Compute, Random, SendText, SendNumber, SendZone, SendNewline, Input, Poll, Hold, LeaveUnless, Jump, Call, JumpTo, CallTo, Return, End, SlotCode}

@@ -3,7 +3,7 @@ use Rattle.std.proofs.Common.{◌≡◌, ℕ, ◌+◌, ◌*◌, ◌<◌, ◌≤�
 use Rattle.std.proofs.lemmas.List.Sums.{sum_by-cons}
 use Rattle.std.proofs.lemmas.List.{length-map}
 use Rattle.tb_syntax.specs.Source.{Command, Program, numbers}
-use Rattle.tb_lower.specs.Cost.{command_cost, cost}
+use Rattle.tb_meaning.specs.Cost.{command_cost, cost}
 use Rattle.tb_syntax.specs.Texts.{AreShort, HasShortTexts}
 use Rattle.tb_syntax.specs.Texts.{command_texts}
 use Rattle.tb_parser.specs.Files.{IsStated, AreStated, RisesFrom}

@@ -1,7 +1,7 @@
 -- What `compile` answers.
 use Rattle.std.specs.Prelude.{◌≡◌, ℕ, ◌<◌, List, [], Option, Some, None, Result, Ok, Err}
 use Rattle.tb_syntax.specs.Source.{Program}
-use Rattle.tb_lower.specs.Cost.{cost}
+use Rattle.tb_meaning.specs.Cost.{cost}
 use Rattle.tb_lower.specs.Need.{too_deep}
 use Rattle.tb_lower.specs.declared.lowering.LowerError.TheVariants as deep
 use Rattle.tb_parser.specs.Answers.{refusal_of}

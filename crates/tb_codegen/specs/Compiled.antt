@@ -6,11 +6,11 @@ use Rattle.tb_asm.specs.declared.names.Name.{Name}
 use Rattle.tb_asm.specs.Layout.{Entry, size, image_of, labels_from, address_in}
 use Rattle.tb_asm.specs.Settle.{SettlesTo}
 use Rattle.tb_prg.specs.Prg.{header}
-use Rattle.tb_lower.specs.Cost.{cost}
+use Rattle.tb_meaning.specs.Cost.{cost}
 use Rattle.tb_lower.specs.Lowered as lowered
-use Rattle.tb_lower.specs.Missing.{missing_targets}
+use Rattle.tb_meaning.specs.Missing.{missing_targets}
 use Rattle.tb_lower.specs.Need.{too_deep}
-use Rattle.tb_lower.specs.declared.missing.Warning.{Warning}
+use Rattle.tb_meaning.specs.declared.missing.Warning.{Warning}
 use Rattle.tb_runtime16.specs.Places.{PROLOGUE_AT, LINES_AT}
 use Rattle.tb_templates.specs.declared.labels.Target.TheVariants.{Line, Past, Table}
 use Rattle.tb_templates.specs.Labels.{label_of}

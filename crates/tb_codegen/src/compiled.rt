@@ -2,7 +2,7 @@
 ghost use Rattle.std.specs.Prelude.{◌≡◌, map};
 ghost use Rattle.tb_codegen.specs.Compiled.{prg_of, pair_of, starts_of, table_of, warnings_of, start_in, lies, line_in};
 
-use tb_lower::Warning;
+use tb_meaning::Warning;
 
 /// Where the code of a line begins.
 #[derive(Clone, Copy, Debug, Drop)]

@@ -3,7 +3,7 @@ ghost use Rattle.std.specs.Prelude.{◌≡◌, ◌<◌, ◌≤◌, ℕ, Ok, All,
 ghost use Rattle.tb_asm.specs.Layout.{address_in};
 ghost use Rattle.tb_syntax.specs.PlainData.{lines_of};
 ghost use Rattle.tb_syntax.specs.Source.{Program as SourceProgram, numbers};
-ghost use Rattle.tb_lower.specs.Cost as costs;
+ghost use Rattle.tb_meaning.specs.Cost as costs;
 ghost use Rattle.tb_lower.specs.Lowered as lowered;
 ghost use Rattle.tb_lower.specs.Need.{too_deep};
 ghost use Rattle.tb_lower.specs.PlainData.{code_of};
@@ -22,7 +22,8 @@ use crate::compiled::{Compiled, LineStart};
 use crate::costs::cost;
 use std::alloc::{AllocError, Global};
 use tb_asm::{AsmErrorKind, Image};
-use tb_lower::{SlotCode, SlotLine, lower, warnings};
+use tb_lower::{SlotCode, SlotLine, lower};
+use tb_meaning::warnings;
 use tb_parser::parse;
 use tb_prg::write;
 use tb_refusals::CompileError;

@@ -2,7 +2,7 @@
 ghost use Rattle.std.specs.Prelude.{◌≡◌, ◌+◌, ◌<◌, map};
 ghost use Rattle.tb_syntax.specs.PlainData.{expression_of, item_of, command_of, lines_of};
 ghost use Rattle.tb_templates.specs.Sizes.{items_cost};
-ghost use Rattle.tb_lower.specs.Cost as cost;
+ghost use Rattle.tb_meaning.specs.Cost as cost;
 
 use tb_syntax::{Expr, PrintItem, Program, Statement};
 

@@ -9,7 +9,7 @@ use crate::command::{Command, read_command};
 use crate::lines::next_line;
 use std::alloc::Global;
 use tb_kernal::Outside;
-use tb_lower::EvalError;
+use tb_meaning::EvalError;
 use tb_memmap::NoMemory;
 use tb_parser::{SourceErrorKind, parse_expr};
 use tb_stepper::{Reached, StepError, Stepper};

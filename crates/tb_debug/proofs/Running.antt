@@ -1,11 +1,12 @@
 -- Places of a run.
-use Rattle.std.proofs.Common.{◌≡◌, append-nil, append_assoc, ℕ, zero, suc, ◌+◌, ◌-◌, ◌≤◌, Bool, List, [], ◌++◌, length, take, refl, sym, ap, ◌∙◌, subst, add-one, arith}
+use Rattle.std.proofs.Common.{◌≡◌, ℕ, zero, suc, ◌+◌, ◌-◌, ◌≤◌, Bool, List, length, take, refl, sym, ap, ◌∙◌, subst, add-one, arith}
 use Rattle.std.proofs.Math.Seq.{take-append_seam}
 use borrow.Author.Count.{below_more}
 use Rattle.tb_kernal.specs.declared.events.Event.{Event}
 use Rattle.tb_kernal.specs.declared.status.Status.TheVariants.{Running}
 use Rattle.tb_kernal.specs.Machine.{status, happens}
-use Rattle.tb_reaching.specs.Reaching.{IsPrefix}
+use Rattle.tb_words.specs.Prefixes.{IsPrefix}
+use Rattle.tb_words.proofs.Prefixes.{prefix_same, prefix_trans}
 use Rattle.tb_reaching.proofs.Grows.{sends_on}
 use Rattle.std.specs.Prelude.{ℤ, ◌&&◌, true, false, if◌then◌else◌}
 use Rattle.tb_debug.specs.Besides.{after, event_at}
@@ -52,27 +53,21 @@ runs_on marks start p n m ran here runs counted =
     let now : status (point_at marks start n).state ≡ Running = ap (λ q. status q.state) (sym here) ∙ runs in
     subst (RunsUpTo marks start) (sym counted) (below_more (λ k. status (point_at marks start k).state ≡ Running) n ran now)
 
-same : (a b : List ℕ) → b ≡ a → IsPrefix a b
-same a b e = record { rest = []; split = e ∙ sym (append-nil a) }
-
-then_longer : (a b c : List ℕ) → IsPrefix a b → IsPrefix b c → IsPrefix a c
-then_longer a b c p q = record { rest = p.rest ++ q.rest; split = q.split ∙ ap (λ l. l ++ q.rest) p.split ∙ append_assoc a p.rest q.rest }
-
 -- what was sent stays sent
 sent_on : (marks : List Bool) (start : Point) (n more : ℕ) → IsPrefix (point_at marks start n).state.sent (point_at marks start (more + n)).state.sent
 sent_on marks start n zero =
     let e : zero + n ≡ n = omega arith in
-    same _ _ (ap (λ k. (point_at marks start k).state.sent) e)
+    prefix_same _ _ (ap (λ k. (point_at marks start k).state.sent) e)
 sent_on marks start n (suc more) =
     let p = point_at marks start (more + n) in
     let next = sends_on (event_at p.beside p.state.regs) p.state in
     let one : suc more + n ≡ suc (more + n) = omega arith in
     let e : (point_at marks start (suc more + n)).state.sent ≡ (next_point marks p).state.sent =
     ap (λ k. (point_at marks start k).state.sent) one ∙ ap (λ q. q.state.sent) (at_next marks start (more + n)) in
-    subst (IsPrefix (point_at marks start n).state.sent) (sym e) (then_longer _ _ _ (sent_on marks start n more) next)
+    subst (IsPrefix (point_at marks start n).state.sent) (sym e) (prefix_trans _ _ _ (sent_on marks start n more) next)
 
 cut : (xs ys : List ℕ) → IsPrefix xs ys → take (length xs) ys ≡ xs
-cut xs ys p = ap (take (length xs)) p.split ∙ take-append_seam xs p.rest
+cut xs ys p = ap (take (length xs)) (sym p.1) ∙ take-append_seam xs p.0
 
 -- what was sent up to a place is the beginning of what was sent up to a later one
 pub sent_before : (marks : List Bool) (start : Point) (n m : ℕ) → n ≤ m

@@ -8,7 +8,7 @@ use Rattle.tb_memmap.specs.Bytes.{peek}
 use Rattle.tb_memmap.specs.Regions.{is_open}
 use Rattle.tb_cpu.specs.Operands.{word, word_in}
 use Rattle.tb_asm.specs.declared.names.Name.{Name}
-use Rattle.tb_lower.specs.Control.{At, Past, Place, has_line}
+use Rattle.tb_meaning.specs.Control.{At, Past, Place, has_line}
 use Rattle.tb_runtime16.specs.Places.{NOTES, NOTE_HIGH, NOTE_LOW}
 use Rattle.tb_templates.specs.declared.labels.Target.TheVariants.{Line}
 use Rattle.tb_templates.specs.Labels.{label_of}

@@ -9,7 +9,7 @@ use Rattle.tb_kernal.specs.Machine.{State, state_of}
 use Rattle.tb_kernal.specs.Runs.{run}
 use Rattle.tb_keeping.specs.Layout.{is_start}
 use Rattle.tb_keeping.specs.LineStarts.{BeginsLine, begun}
-use Rattle.tb_lower.specs.Control.{has_line}
+use Rattle.tb_meaning.specs.Control.{has_line}
 use Rattle.tb_syntax.specs.Source.{Program, numbers}
 use Rattle.tb_templates.specs.declared.labels.Target.TheVariants.{Line}
 use Rattle.tb_templates.specs.Labels.{label_of}

@@ -1,7 +1,7 @@
 -- What a debugger shows at a line's beginning is what the source's interpreter has.
 use Rattle.std.specs.Prelude.{◌≡◌, ◌<◌, ℕ, map, Option, Some, None, slice_index}
 use Rattle.std.specs.Int.{cast_signed, w16}
-use Rattle.tb_lower.specs.Control.{At, Past, Place}
+use Rattle.tb_meaning.specs.Control.{At, Past, Place}
 use Rattle.tb_kernal.specs.Machine.{State, state_of}
 use Rattle.tb_keeping.specs.Kept.{Starts}
 use Rattle.tb_keeping.specs.LineStarts.{BeginsLine, MarksLines}

@@ -7,9 +7,9 @@ use Rattle.tb_syntax.specs.Source.{Expression}
 use Rattle.tb_parser.specs.Answers.{InLineOne}
 use Rattle.tb_parser.specs.Files.{FileRefusal}
 use Rattle.tb_parser.specs.Readings.{ExpressionIs}
-use Rattle.tb_lower.specs.Evaluation.{IsEvaluation}
-use Rattle.tb_lower.specs.declared.evaluation.EvalError.{EvalError}
-use Rattle.tb_lower.specs.declared.evaluation.EvalError.TheVariants as eval
+use Rattle.tb_meaning.specs.Evaluation.{IsEvaluation}
+use Rattle.tb_meaning.specs.declared.evaluation.EvalError.{EvalError}
+use Rattle.tb_meaning.specs.declared.evaluation.EvalError.TheVariants as eval
 use Rattle.tb_kernal.specs.declared.status.Status.{Status}
 use Rattle.tb_kernal.specs.declared.status.Status.TheVariants.{Running}
 use Rattle.tb_kernal.specs.Machine.{state_of, status}

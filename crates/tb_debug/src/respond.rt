@@ -16,7 +16,7 @@ use crate::readings::{bytes_from, code_from, line_from, returns};
 use std::alloc::{AllocError, Global};
 use tb_debug_commands::Command;
 use tb_kernal::Status;
-use tb_lower::{EvalError, eval};
+use tb_meaning::{EvalError, eval};
 use tb_memmap::NoMemory;
 use tb_parser::{SourceErrorKind, parse_expr};
 use tb_words::Letter;

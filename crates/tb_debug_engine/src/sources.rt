@@ -9,7 +9,7 @@ use std::alloc::{AllocError, Global};
 use std::io::Read;
 use tb_codegen::{CompileError, Compiled, LineStart, Options, compile};
 use tb_engines::{Outcome, Refusal, without_input};
-use tb_lower::Warning;
+use tb_meaning::Warning;
 use tb_streams::{Tracked, read_input};
 use tb_written::{Numbered, numbered_lines};
 

@@ -1,6 +1,6 @@
 -- What is delivered of a source.
 use Rattle.std.proofs.Common.{◌≡◌, ℕ, List, [], Option, Result, Ok, Err, refl, subst, sym}
-use Rattle.tb_lower.specs.declared.missing.Warning.{Warning}
+use Rattle.tb_meaning.specs.declared.missing.Warning.{Warning}
 use Rattle.tb_parser.specs.Files.{Outcome as FileOutcome}
 use Rattle.tb_refusals.specs.declared.refusals.CompileError.{CompileError}
 use Rattle.tb_refusals.specs.declared.refusals.CompileError.TheVariants.{Source as BadSource, Lower, TooLarge, NoMemory as NoCompilerMemory}

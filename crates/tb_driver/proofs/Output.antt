@@ -15,8 +15,8 @@ use Rattle.tb_kernal.specs.declared.status.Status.TheVariants.{Running, Waits as
 use Rattle.tb_kernal.specs.Machine.{State, Content, state_of, status}
 use Rattle.tb_kernal.specs.Starts.{LieAt, HoldsBytes}
 use Rattle.tb_syntax.specs.Source.{Program}
-use Rattle.tb_lower.specs.Meaning.{source_run}
-use Rattle.tb_lower.specs.Steps.{End, Ended, Faulted, Waits, Over}
+use Rattle.tb_meaning.specs.Meaning.{source_run}
+use Rattle.tb_meaning.specs.Steps.{End, Ended, Faulted, Waits, Over}
 use Rattle.tb_parser.specs.Files.{Outcome}
 use Rattle.tb_runtime16.specs.Places.{PROLOGUE_AT}
 use Rattle.tb_runtime16.specs.Laws.{AllBytes}

@@ -1,7 +1,7 @@
 -- What is delivered of a source that was read.
 use Rattle.std.proofs.Common.{◌≡◌, ℕ, List, [], Option, Some, None, Result, Ok, Err, refl, subst, sym}
 use Rattle.std.specs.Io.KnownBytes.{Keeps as KeepsBytes}
-use Rattle.tb_lower.specs.declared.missing.Warning.{Warning}
+use Rattle.tb_meaning.specs.declared.missing.Warning.{Warning}
 use Rattle.tb_syntax.specs.Source.{Program}
 use Rattle.tb_keeping.specs.Kept.{Keeps}
 use Rattle.tb_parser.specs.Files.{Outcome as FileOutcome}

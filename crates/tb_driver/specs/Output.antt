@@ -1,10 +1,10 @@
 -- Running a text writes the source's output: what is said of the source alone.
 use Rattle.std.specs.Prelude.{ℕ, ◌≡◌, ◌⊎◌, ◌+◌, ◌≤◌, List, length, drop, Ok, Err}
 use Rattle.tb_syntax.specs.Source.{Program}
-use Rattle.tb_lower.specs.Steps as source
-use Rattle.tb_lower.specs.Steps.{Ended, Faulted, Waits, Over, sent_by}
-use Rattle.tb_lower.specs.Meaning.{source_run}
-use Rattle.tb_lower.specs.Follows.{IsPrefix}
+use Rattle.tb_meaning.specs.Steps as source
+use Rattle.tb_meaning.specs.Steps.{Ended, Faulted, Waits, Over, sent_by}
+use Rattle.tb_words.specs.Prefixes.{IsPrefix}
+use Rattle.tb_meaning.specs.Meaning.{source_run}
 use Rattle.tb_keeping.specs.Kept.{Keeps}
 use Rattle.tb_codegen.specs.Answers.{LinesMake}
 use Rattle.tb_prg.specs.Prg.{content_of}

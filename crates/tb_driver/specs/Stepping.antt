@@ -3,7 +3,7 @@ use Rattle.std.specs.Prelude.{ℕ, ◌≡◌, ◌≢◌, ◌⊎◌, List, [], le
 use Rattle.std.specs.Io.KnownBytes.{Consumes}
 use Rattle.tb_memmap.specs.Bytes.{IsOpenRange}
 use Rattle.tb_prg.specs.Prg.{content_of}
-use Rattle.tb_lower.specs.declared.missing.Warning.{Warning}
+use Rattle.tb_meaning.specs.declared.missing.Warning.{Warning}
 use Rattle.tb_kernal.specs.declared.outside.Quiet.{Quiet}
 use Rattle.tb_codegen.specs.Compiled.{prg_of, loaded_of}
 use Rattle.tb_codegen.specs.declared.compiled.Compiled.{Compiled}

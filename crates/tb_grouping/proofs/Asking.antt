@@ -3,8 +3,8 @@ use Rattle.std.proofs.Common.{◌≡◌, ◌≢◌, ℕ, ◌+◌, ◌/◌, ◌%�
 use Rattle.std.specs.Prelude.{slice_set, nat_eq, drop}
 use Rattle.tb_cpu.specs.Effects.{bit}
 use Rattle.tb_kernal.specs.Machine.{first_or_zero}
-use Rattle.tb_lower.specs.Control.{State, column_after, fault_text}
-use Rattle.tb_lower.specs.Input.{Bad, Dry, Got, Nothing, turn}
+use Rattle.tb_meaning.specs.Control.{State, column_after, fault_text}
+use Rattle.tb_meaning.specs.Input.{Bad, Dry, Got, Nothing, turn}
 use Rattle.tb_lower.specs.Slots.{Instr, Input, Poll, Slots, SlotCode}
 use Rattle.tb_reaching.proofs.Comes.{chained, looser}
 use Rattle.tb_reaching.specs.Start.{IsHome}

@@ -1,7 +1,7 @@
 -- The weaker relation where a line begins: from the old one, with nothing known of the slots, and on into the line.
 use Rattle.std.proofs.Common.{◌≡◌, ℕ, List, [], ◌∷◌, length, sym, ap, ◌∙◌, subst, arith, Some}
-use Rattle.tb_lower.specs.Steps.{and_then}
-use Rattle.tb_lower.specs.Control.{At, State, content_at}
+use Rattle.tb_meaning.specs.Steps.{and_then}
+use Rattle.tb_meaning.specs.Control.{At, State, content_at}
 use Rattle.tb_lower.specs.Slots.{Instr, SlotCode, Whole, Slots, SlotState, slot_step, instr_at, instr_found}
 use Rattle.tb_syntax.specs.Source.{numbers}
 use Rattle.tb_reaching.specs.View.{View}

@@ -15,9 +15,9 @@ use Rattle.tb_grouping.proofs.Surroundings.{Surroundings}
 use Rattle.tb_keeping.proofs.Joins.{sent_in}
 use Rattle.tb_keeping.proofs.Pieces.{put_word}
 use Rattle.tb_keeping.proofs.Resolved.{Lies, pieces_size}
-use Rattle.tb_lower.specs.Control.{State}
+use Rattle.tb_meaning.specs.Control.{State}
 use Rattle.tb_lower.specs.Slots.{Instr, SlotCode, Slots}
-use Rattle.tb_lower.specs.Values.{apply}
+use Rattle.tb_meaning.specs.Values.{apply}
 use Rattle.tb_reaching.specs.View.{Comes, Fits, View, back_at}
 use Rattle.tb_runtime16.specs.Places.{LEFT, RIGHT}
 use Rattle.tb_runtime16.specs.Routines.{Here, Moves}

@@ -6,7 +6,7 @@ use Rattle.tb_cpu.specs.Effects.{bit}
 use Rattle.tb_words.specs.Words.{word}
 use Rattle.tb_syntax.specs.declared.expressions.Operator.{Operator}
 use Rattle.tb_syntax.specs.declared.expressions.Operator.TheVariants as op
-use Rattle.tb_lower.specs.Control.{State}
+use Rattle.tb_meaning.specs.Control.{State}
 use Rattle.tb_lower.specs.Slots.{Instr, Slots, SlotCode}
 use Rattle.tb_reaching.proofs.Comes.{looser}
 use Rattle.tb_reaching.specs.View.{Comes, Fits, View}
@@ -23,7 +23,7 @@ use Rattle.tb_grouping.proofs.Ready.{Ready, here}
 use Rattle.tb_grouping.proofs.Surroundings.{Surroundings}
 use Rattle.tb_grouping.proofs.Calculated.{Leads, calculation, fit, leads_on, left_holds, result_lands, right_holds}
 use Rattle.tb_keeping.proofs.Pieces.{put_word}
-use Rattle.tb_lower.specs.Values.{apply}
+use Rattle.tb_meaning.specs.Values.{apply}
 use Rattle.tb_runtime16.specs.Routines.{Here}
 
 -- the sum of two words, and their difference, by bytes

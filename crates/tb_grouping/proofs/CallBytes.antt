@@ -10,7 +10,7 @@ use Rattle.tb_asm.specs.Settle.{Form, kept}
 use Rattle.tb_settling.specs.Settled.{AreFormsOf}
 use Rattle.tb_settling.proofs.Forms.{straight_forms}
 use Rattle.tb_reaching.proofs.Instr.{ins}
-use Rattle.tb_lower.specs.Control.{has_line}
+use Rattle.tb_meaning.specs.Control.{has_line}
 use Rattle.tb_lower.specs.Ranges.{AreInRange}
 use Rattle.tb_lower.specs.Slots as slots
 use Rattle.tb_runtime16.specs.Places.{LEFT, LINE, NOTES, NOTE_HIGH, NOTE_LOW, POP_AT, PUSH_AT, RESULT}

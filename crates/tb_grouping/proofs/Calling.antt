@@ -4,7 +4,7 @@ use Rattle.std.proofs.Common.{◌≡◌, ◌≢◌, ◌⊎◌, inl, inr, ℕ, su
 use Rattle.std.specs.Prelude.{nat_lt}
 use Rattle.std.proofs.lemmas.Bool.{cases_eq, eq-eqb, ne_eqb, ltb-true, ltb-false}
 use Rattle.std.proofs.lemmas.List.{length-map}
-use Rattle.tb_lower.specs.Control.{At, Place, State, deepest, fault_text, has_line, next_after}
+use Rattle.tb_meaning.specs.Control.{At, Place, State, deepest, fault_text, has_line, next_after}
 use Rattle.tb_lower.specs.Slots.{Instr, CallTo, Return, Slots, SlotCode, Whole}
 use Rattle.tb_reaching.proofs.Comes.{chained, looser}
 use Rattle.tb_reaching.specs.Start.{IsHome}

@@ -7,11 +7,11 @@ use Rattle.tb_words.specs.Words.{holds, magnitude, quotient, word}
 use Rattle.tb_words.specs.declared.Rel.{Rel}
 use Rattle.tb_syntax.specs.declared.expressions.Operator.TheVariants as op
 use Rattle.tb_syntax.specs.Source.{numbers}
-use Rattle.tb_lower.specs.Control as control
-use Rattle.tb_lower.specs.Control.{State, fault_text, has_line, next_after}
+use Rattle.tb_meaning.specs.Control as control
+use Rattle.tb_meaning.specs.Control.{State, fault_text, has_line, next_after}
 use Rattle.tb_lower.specs.Ranges.{AreInRange}
 use Rattle.tb_lower.specs.Slots.{Instr, Whole, Compute, Hold, JumpTo, LeaveUnless, Load, Slots, SlotCode, SlotState, with_word}
-use Rattle.tb_lower.specs.Steps.{Step, Stops, Faulted}
+use Rattle.tb_meaning.specs.Steps.{Step, Stops, Faulted}
 use Rattle.tb_reaching.proofs.Comes.{chained, looser}
 use Rattle.tb_reaching.specs.View.{Comes, Fits, View}
 use Rattle.tb_runtime16.specs.Places.{LEFT, RIGHT}

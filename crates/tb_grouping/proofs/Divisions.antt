@@ -3,9 +3,9 @@ use Rattle.std.proofs.Common.{◌≡◌, ◌≢◌, ℕ, ◌+◌, if◌then◌el
 use Rattle.std.proofs.lemmas.Bool.{eq-eqb}
 use Rattle.tb_words.specs.Words.{quotient}
 use Rattle.tb_syntax.specs.declared.expressions.Operator.TheVariants as op
-use Rattle.tb_lower.specs.Control.{State, fault_text}
+use Rattle.tb_meaning.specs.Control.{State, fault_text}
 use Rattle.tb_lower.specs.Slots.{Instr, Slots, SlotCode}
-use Rattle.tb_lower.specs.Values.{apply}
+use Rattle.tb_meaning.specs.Values.{apply}
 use Rattle.tb_reaching.proofs.Comes.{looser}
 use Rattle.tb_reaching.specs.View.{Comes, Fits, View}
 use Rattle.tb_runtime16.specs.Routines.{WordAt}

@@ -1,8 +1,8 @@
 -- Behind the last group of a line the next line begins, and the step of that group goes on into it.
 use Rattle.std.proofs.Common.{◌≡◌, ℕ, [], ◌∷◌, refl, sym, ap, ◌∙◌, subst, append-nil}
-use Rattle.tb_lower.specs.Control.{State, next_after}
+use Rattle.tb_meaning.specs.Control.{State, next_after}
 use Rattle.tb_lower.specs.Slots.{Rest, Whole, Left, Slots, SlotCode, SlotState}
-use Rattle.tb_lower.specs.Steps.{Step, Goes, Stops, Ended, Faulted, Waits, and_then, after_sending}
+use Rattle.tb_meaning.specs.Steps.{Step, Goes, Stops, Ended, Faulted, Waits, and_then, after_sending}
 use Rattle.tb_reaching.specs.View.{View}
 use Rattle.tb_syntax.specs.Source.{numbers}
 use Rattle.tb_keeping.specs.Layout.{place_at}

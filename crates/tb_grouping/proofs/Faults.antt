@@ -1,6 +1,6 @@
 -- A fault that a line finds by itself: its number and the line are handed over in registers.
 use Rattle.std.proofs.Common.{ℕ, ◌+◌, ◌<◌, List, [], ◌∷◌, refl}
-use Rattle.tb_lower.specs.Control.{fault_text}
+use Rattle.tb_meaning.specs.Control.{fault_text}
 use Rattle.tb_reaching.proofs.Placed.{along}
 use Rattle.tb_reaching.specs.Start.{IsHome}
 use Rattle.tb_reaching.specs.View.{Fits, view}

@@ -3,7 +3,7 @@ use Rattle.std.proofs.Common.{◌≡◌, ℕ, suc, ◌+◌, ◌/◌, ◌%◌, �
 use Rattle.std.specs.Prelude.{nat_lt}
 use Rattle.std.proofs.lemmas.Bool.{ltb-true, ltb-false}
 use Rattle.std.proofs.lemmas.List.{length-map}
-use Rattle.tb_lower.specs.Control.{At, State, deepest, fault_text, has_line, next_after}
+use Rattle.tb_meaning.specs.Control.{At, State, deepest, fault_text, has_line, next_after}
 use Rattle.tb_lower.specs.Slots.{Instr, Slots, SlotCode, Whole}
 use Rattle.tb_reaching.proofs.Comes.{chained, looser}
 use Rattle.tb_reaching.specs.Start.{IsHome}

@@ -1,6 +1,6 @@
 -- What stays of the weaker relation while the code of an instruction runs.
 use Rattle.std.proofs.Common.{◌≡◌, ℕ, ◌≤◌, arith}
-use Rattle.tb_lower.specs.Control.{Place, State}
+use Rattle.tb_meaning.specs.Control.{Place, State}
 use Rattle.tb_lower.specs.Slots.{Slots}
 use Rattle.tb_runtime16.specs.Places.{HELD}
 use Rattle.tb_templates.specs.Templates.{slot_at}

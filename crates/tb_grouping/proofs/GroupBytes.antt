@@ -16,7 +16,7 @@ use Rattle.tb_settling.proofs.Forms.{kept_size, is_straight, straight_forms, spl
 use Rattle.tb_reaching.proofs.Instr.{ins}
 use Rattle.tb_words.specs.declared.Rel.{Rel}
 use Rattle.tb_words.specs.declared.Rel.TheVariants as rel
-use Rattle.tb_lower.specs.Control.{has_line}
+use Rattle.tb_meaning.specs.Control.{has_line}
 use Rattle.tb_lower.specs.Ranges.{AreInRange, IsInRange}
 use Rattle.tb_lower.specs.Slots as slots
 use Rattle.tb_runtime16.specs.Places.{LINE, LEFT, RESULT, WANTED, RANDOM_AT, NUMBER_AT, PUSH_AT}

@@ -1,8 +1,8 @@
 -- What holds while the code of a group runs, and behind it; and that an instruction alone is one step.
 use Rattle.std.proofs.Common.{◌≡◌, ℕ, ◌+◌, ◌/◌, ◌%◌, ◌≤◌, ◌<◌, Bool, true, false, List, [], ◌∷◌, length, refl, sym, ap, ◌∙◌, subst, arith, append-nil, not, ◌≢◌}
-use Rattle.tb_lower.specs.Control.{State, column_after}
+use Rattle.tb_meaning.specs.Control.{State, column_after}
 use Rattle.tb_lower.specs.Slots.{Instr, Rest, Whole, Left, Slots, SlotCode, SlotState, slot_step, with_word}
-use Rattle.tb_lower.specs.Steps.{Step, Goes, Stops, and_then}
+use Rattle.tb_meaning.specs.Steps.{Step, Goes, Stops, and_then}
 use Rattle.tb_reaching.proofs.Comes.{chained, looser}
 use Rattle.tb_reaching.proofs.Instr.{Stands}
 use Rattle.tb_reaching.specs.View.{Comes, Fits, View}

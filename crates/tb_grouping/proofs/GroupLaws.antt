@@ -6,10 +6,10 @@ use Rattle.tb_syntax.specs.declared.expressions.Operator.{Operator}
 use Rattle.tb_syntax.specs.declared.expressions.Operator.TheVariants as op
 use Rattle.tb_syntax.specs.Source.{numbers}
 use Rattle.tb_words.specs.Words.{word}
-use Rattle.tb_lower.specs.Control.{State, fault_text}
-use Rattle.tb_lower.specs.Meaning as meaning
-use Rattle.tb_lower.specs.Steps.{Step, Goes, Stops, Faulted}
-use Rattle.tb_lower.specs.Values.{apply}
+use Rattle.tb_meaning.specs.Control.{State, fault_text}
+use Rattle.tb_meaning.specs.Meaning as meaning
+use Rattle.tb_meaning.specs.Steps.{Step, Goes, Stops, Faulted}
+use Rattle.tb_meaning.specs.Values.{apply}
 use Rattle.tb_lower.specs.Slots.{Instr, JumpTo, Rest, Whole, Left, Slots, SlotState, SlotCode, act, settled}
 use Rattle.tb_reaching.proofs.Comes.{chained, looser}
 use Rattle.tb_reaching.specs.View.{Comes, Fits, View}

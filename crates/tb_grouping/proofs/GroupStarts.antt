@@ -1,6 +1,6 @@
 -- Where the lines of a program that is laid by groups begin.
 use Rattle.std.proofs.Common.{◌≡◌, ℕ, ◌+◌, ◌/◌, ◌%◌, ◌≤◌, ◌<◌, true, false, List, Option, Some, None, refl, sym, ap, ◌∙◌, subst, arith}
-use Rattle.tb_lower.specs.Control.{content_at, has_line}
+use Rattle.tb_meaning.specs.Control.{content_at, has_line}
 use Rattle.tb_lower.specs.Slots.{Instr, SlotCode}
 use Rattle.tb_asm.specs.Layout.{distance}
 use Rattle.tb_reaching.specs.View.{Part}

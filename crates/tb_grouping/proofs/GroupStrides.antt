@@ -2,9 +2,9 @@
 -- outside a list.
 use Rattle.std.proofs.Common.{◌≡◌, ℕ, zero, suc, ◌+◌, List, Option, Some, None, refl, sym, ap, ◌∙◌, subst}
 use Rattle.tb_syntax.specs.Source.{numbers}
-use Rattle.tb_lower.specs.Control.{Place, At, Past, State, content_at, highest, fault_text}
+use Rattle.tb_meaning.specs.Control.{Place, At, Past, State, content_at, highest, fault_text}
 use Rattle.tb_lower.specs.Slots.{Instr, Rest, Whole, Left, Slots, SlotCode, SlotState, slot_step, instr_at, instr_found, begins, begins_in}
-use Rattle.tb_lower.specs.Steps.{Goes, Stops, Faulted, Run, GoesOn, Over, and_then, advance, advance_by}
+use Rattle.tb_meaning.specs.Steps.{Goes, Stops, Faulted, Run, GoesOn, Over, and_then, advance, advance_by}
 use Rattle.tb_keeping.proofs.Strides.{IsOutside, IsStride, found_line, lines_at, passed}
 use Rattle.tb_selection.specs.GroupSteps.{InsideRest, IsInside, ahead, fallen, first, first_group, group_step, groups_begin, or_empty}
 use Rattle.tb_selection.specs.Select.{select}

@@ -5,7 +5,7 @@ use Rattle.tb_reaching.specs.View.{Comes, View, part_at}
 use Rattle.tb_reaching.specs.Start.{view_of, home_low, home_high}
 use Rattle.tb_reaching.proofs.Comes.{looser}
 use Rattle.tb_syntax.specs.Source.{Program, numbers}
-use Rattle.tb_lower.specs.Control.{first_place}
+use Rattle.tb_meaning.specs.Control.{first_place}
 use Rattle.tb_lower.specs.Follows.{Follows}
 use Rattle.tb_lower.specs.Slots.{SlotCode, SlotState, Whole}
 use Rattle.tb_runtime16.specs.Places.{LINES_AT}
@@ -26,7 +26,7 @@ use Rattle.tb_grouping.proofs.Falling.{Between}
 use Rattle.tb_grouping.proofs.GroupStrides.{group_stride}
 use Rattle.tb_grouping.proofs.GroupStarts.{lines_apart}
 use Rattle.tb_grouping.proofs.Matching.{StandsAt}
-use Rattle.tb_lower.specs.Meaning.{start}
+use Rattle.tb_meaning.specs.Meaning.{start}
 use Rattle.tb_grouping.proofs.Surroundings.{Serves, Surroundings}
 
 module _ (place : ℕ) (bytes : List ℕ) (from : 0x0800 ≤ place) (to : place + length bytes ≤ 0xa000) (ly : Layout) (program : Program) (sc : SlotCode) (follows : Follows program sc) (closed : AreClosed sc) (first_at : place_at ly (first_place (numbers sc)) ≡ LINES_AT) (laid : GroupsLaid ly (inner ly (part_at place bytes)) (part_at place bytes) sc) where

@@ -9,7 +9,7 @@ use Rattle.tb_asm.specs.Settle.{Form, items_from, some_branch_far}
 use Rattle.tb_reaching.specs.View.{Part, Bytes}
 use Rattle.tb_reaching.proofs.Parts.{bytes_front}
 use Rattle.tb_syntax.specs.Source.{Numbered, numbers}
-use Rattle.tb_lower.specs.Control.{has_line, content_at, first_place}
+use Rattle.tb_meaning.specs.Control.{has_line, content_at, first_place}
 use Rattle.tb_lower.specs.Slots.{Instr, Poll, SlotCode}
 use Rattle.tb_lower.specs.Ranges.{AreInRange}
 use Rattle.tb_runtime16.specs.Places.{PROLOGUE_AT, LINES_AT}

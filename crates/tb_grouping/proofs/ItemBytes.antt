@@ -19,7 +19,7 @@ use Rattle.tb_settling.proofs.Forms.{forms_append, forms_size, items_size, items
 use Rattle.tb_reaching.proofs.Instr.{Instr, ins, instr_bytes, flat}
 use Rattle.tb_syntax.specs.declared.expressions.Operator.{Operator}
 use Rattle.tb_syntax.specs.declared.expressions.Operator.TheVariants as op
-use Rattle.tb_lower.specs.Control.{has_line}
+use Rattle.tb_meaning.specs.Control.{has_line}
 use Rattle.tb_lower.specs.Slots as slots
 use Rattle.tb_runtime16.specs.Places.{LINE, LEFT, RIGHT, RESULT, MULTIPLY_AT, DIVIDE_AT}
 use Rattle.tb_selection.specs.Groups.{Operand, Constant, Variable, InSlot, Tested, HeldBefore, HeldNow}

@@ -11,7 +11,7 @@ use Rattle.tb_asm.proofs.Laws.{bytes_append, all_size}
 use Rattle.tb_reaching.specs.View.{Part, Bytes}
 use Rattle.tb_reaching.proofs.Parts.{bytes_front}
 use Rattle.tb_syntax.specs.Source.{numbers}
-use Rattle.tb_lower.specs.Control.{Place, At, Past, has_line, highest, content_at}
+use Rattle.tb_meaning.specs.Control.{Place, At, Past, has_line, highest, content_at}
 use Rattle.tb_lower.specs.Slots as slots
 use Rattle.tb_runtime16.specs.Places.{COUNT, LINES_AT, PROLOGUE_AT, SEARCH_AT, TABLE}
 use Rattle.tb_runtime16.specs.Block.{block_bytes}

@@ -1,6 +1,6 @@
 -- The laws of END, and of jumps to a line's number.
 use Rattle.std.proofs.Common.{◌≡◌, ℕ, ◌+◌, Bool, true, false, List, [], ◌∷◌, refl, sym, subst, arith}
-use Rattle.tb_lower.specs.Control.{At, State, fault_text, has_line}
+use Rattle.tb_meaning.specs.Control.{At, State, fault_text, has_line}
 use Rattle.tb_lower.specs.Slots.{Instr, JumpTo, End, Slots, SlotCode, Whole}
 use Rattle.tb_reaching.proofs.Comes.{looser}
 use Rattle.tb_reaching.proofs.Instr.{ins}

@@ -4,7 +4,7 @@ use Rattle.std.specs.Prelude.{nat_eq, bit_or}
 use Rattle.std.proofs.lemmas.Bool.{eq-eqb}
 use Rattle.tb_opcodes.specs.declared.Mnemonic.TheVariants.{Ora}
 use Rattle.tb_words.specs.Words.{magnitude}
-use Rattle.tb_lower.specs.Control.{State, fault_text}
+use Rattle.tb_meaning.specs.Control.{State, fault_text}
 use Rattle.tb_lower.specs.Slots.{Instr, Slots}
 use Rattle.tb_reaching.proofs.Comes.{chained, looser}
 use Rattle.tb_reaching.proofs.Instr.{Stands, ins, instr_bytes}

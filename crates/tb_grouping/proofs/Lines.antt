@@ -11,7 +11,7 @@ use Rattle.tb_reaching.specs.View.{Part, Bytes}
 use Rattle.tb_reaching.proofs.Instr.{flat}
 use Rattle.tb_reaching.proofs.Parts.{bytes_front, stands as stands_there}
 use Rattle.tb_syntax.specs.Source.{numbers}
-use Rattle.tb_lower.specs.Control.{Place, At, Past, next_after, has_line, content_at}
+use Rattle.tb_meaning.specs.Control.{Place, At, Past, next_after, has_line, content_at}
 use Rattle.tb_lower.specs.Slots as slots
 use Rattle.tb_lower.specs.Ranges.{AreInRange}
 use Rattle.tb_runtime16.specs.Places.{GETIN}

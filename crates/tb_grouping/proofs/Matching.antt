@@ -1,8 +1,8 @@
 -- How a view of the machine stands for a state of the slot code, slots only as far as they are read.
 use Rattle.std.specs.Prelude.{◌≡◌, ℕ, ◌<◌, true, false, [], ◌∷◌, length, slice_index}
 use Rattle.tb_reaching.specs.View.{View, Part}
-use Rattle.tb_lower.specs.Steps.{Step}
-use Rattle.tb_lower.specs.Control.{Place}
+use Rattle.tb_meaning.specs.Steps.{Step}
+use Rattle.tb_meaning.specs.Control.{Place}
 use Rattle.tb_lower.specs.Slots.{Rest, Whole, Left, Slots, SlotState}
 use Rattle.tb_runtime16.specs.Places.{HELD}
 use Rattle.tb_templates.specs.Templates.{slot_at}

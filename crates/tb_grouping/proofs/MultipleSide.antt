@@ -4,10 +4,10 @@ use Rattle.std.specs.Prelude.{slice_index}
 use Rattle.std.proofs.lemmas.Bool.{eq-eqb, ne_eqb}
 use Rattle.tb_words.specs.Words.{quotient, word}
 use Rattle.tb_syntax.specs.declared.expressions.Operator.TheVariants as op
-use Rattle.tb_lower.specs.Control.{State, fault_text}
+use Rattle.tb_meaning.specs.Control.{State, fault_text}
 use Rattle.tb_lower.specs.Slots.{Instr, Compute, Load, Slots, SlotCode, into, with_word}
-use Rattle.tb_lower.specs.Steps.{Stops, Faulted}
-use Rattle.tb_lower.specs.Values.{apply, given}
+use Rattle.tb_meaning.specs.Steps.{Stops, Faulted}
+use Rattle.tb_meaning.specs.Values.{apply, given}
 use Rattle.tb_selection.specs.Groups.{Operand, Constant, Variable, InSlot, fetch, multiple}
 use Rattle.tb_selection.specs.GroupSteps.{steps}
 use Rattle.tb_grouping.proofs.SlotSide.{acts, fetched, fetched_behind, fetched_held, fetched_length, fetched_other, fetched_same, fetches, line, other_slot, same_slot, stops, with_fetched}

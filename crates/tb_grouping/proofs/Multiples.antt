@@ -7,7 +7,7 @@ use Rattle.tb_memmap.specs.Bytes.{with_byte}
 use Rattle.tb_words.specs.Words.{word}
 use Rattle.tb_words.proofs.Powers.{pow2}
 use Rattle.tb_syntax.specs.declared.expressions.Operator.TheVariants as op
-use Rattle.tb_lower.specs.Control.{State}
+use Rattle.tb_meaning.specs.Control.{State}
 use Rattle.tb_lower.specs.Slots.{Instr, Slots, SlotCode}
 use Rattle.tb_reaching.proofs.Comes.{chained, looser}
 use Rattle.tb_reaching.proofs.Instr.{Stands}

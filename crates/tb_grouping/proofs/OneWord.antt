@@ -4,11 +4,11 @@ use Rattle.std.specs.Prelude.{slice_index, nat_eq, nat_le}
 use Rattle.std.proofs.lemmas.Bool.{leb-true}
 use Rattle.tb_words.specs.Words.{digits_of, negated, seed_after}
 use Rattle.tb_syntax.specs.Source.{numbers}
-use Rattle.tb_lower.specs.Control.{State, fault_text, go_sub, go_to, send}
+use Rattle.tb_meaning.specs.Control.{State, fault_text, go_sub, go_to, send}
 use Rattle.tb_lower.specs.Ranges.{AreInRange}
 use Rattle.tb_lower.specs.Slots.{After, Instr, Random, SlotCode, Slots, Stays, act, into, leaving, settled, staying, with_word}
-use Rattle.tb_lower.specs.Steps.{Faulted, Goes, Step, Stops}
-use Rattle.tb_lower.specs.Values.{Fails, Gives, random}
+use Rattle.tb_meaning.specs.Steps.{Faulted, Goes, Step, Stops}
+use Rattle.tb_meaning.specs.Values.{Fails, Gives, random}
 use Rattle.tb_runtime16.specs.Places.{HELD}
 use Rattle.tb_runtime16.specs.Routines.{WordAt}
 use Rattle.tb_templates.specs.Templates.{slot_at}

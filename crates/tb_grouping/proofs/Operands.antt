@@ -1,7 +1,7 @@
 -- Operands of a group: what their ranges give, and what the relation says of them.
 use Rattle.std.proofs.Common.{◌≡◌, ℕ, ◌+◌, ◌/◌, ◌%◌, ◌<◌, List, ◌∷◌, ◌++◌, refl, arith, ◌≤◌}
 use Rattle.tb_syntax.specs.declared.expressions.Operator.{Operator}
-use Rattle.tb_lower.specs.Control.{State}
+use Rattle.tb_meaning.specs.Control.{State}
 use Rattle.tb_lower.specs.Ranges.{AreInRange}
 use Rattle.tb_lower.specs.Slots.{Instr, Compute, Slots}
 use Rattle.tb_keeping.proofs.Mirrors.{HoldsState}

@@ -4,9 +4,9 @@ use Rattle.std.specs.Prelude.{nat_eq}
 use Rattle.tb_syntax.specs.Source.{numbers}
 use Rattle.tb_kernal.specs.declared.places.Service.TheVariants.{Getin}
 use Rattle.tb_kernal.specs.Machine.{first_or_zero}
-use Rattle.tb_lower.specs.Control.{Place, At, Past, State, content_at, fault_text, highest, answered}
+use Rattle.tb_meaning.specs.Control.{Place, At, Past, State, content_at, fault_text, highest, answered}
 use Rattle.tb_lower.specs.Slots.{Instr, Poll, Whole, Slots, SlotState, SlotCode, settled, staying, instr_at, instr_found}
-use Rattle.tb_lower.specs.Steps.{Step, Goes, Stops, Faulted}
+use Rattle.tb_meaning.specs.Steps.{Step, Goes, Stops, Faulted}
 use Rattle.tb_reaching.proofs.Barred.{Enters, opened}
 use Rattle.tb_reaching.proofs.Comes.{chained, looser}
 use Rattle.tb_reaching.proofs.Services.{served_last}

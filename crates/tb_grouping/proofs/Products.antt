@@ -2,7 +2,7 @@
 use Rattle.std.proofs.Common.{ℕ, ◌+◌, ◌*◌, List, [], refl, arith}
 use Rattle.tb_words.specs.Words.{word}
 use Rattle.tb_syntax.specs.declared.expressions.Operator.TheVariants as op
-use Rattle.tb_lower.specs.Control.{State}
+use Rattle.tb_meaning.specs.Control.{State}
 use Rattle.tb_lower.specs.Slots.{Instr, Slots, SlotCode}
 use Rattle.tb_reaching.proofs.Comes.{looser}
 use Rattle.tb_reaching.specs.View.{Fits, View}

@@ -2,7 +2,7 @@
 use Rattle.std.proofs.Common.{◌≡◌, ℕ, ◌+◌, ◌/◌, ◌%◌, List, [], ◌∷◌, refl, subst, arith}
 use Rattle.std.specs.Prelude.{slice_index}
 use Rattle.tb_words.specs.Words.{word}
-use Rattle.tb_lower.specs.Control.{State}
+use Rattle.tb_meaning.specs.Control.{State}
 use Rattle.tb_lower.specs.Slots.{Instr, Put, Load, Slots, SlotCode, with_word}
 use Rattle.tb_reaching.proofs.Comes.{looser}
 use Rattle.tb_reaching.specs.View.{Comes, Fits, View}

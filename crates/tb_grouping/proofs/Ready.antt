@@ -1,6 +1,6 @@
 -- Where a group begins, and what holds behind a calculation.
 use Rattle.std.proofs.Common.{◌≡◌, ℕ, ◌+◌, ◌≤◌, ◌<◌, true, false, List, [], ◌∷◌, ◌++◌, refl, sym, ap, ◌∙◌, subst}
-use Rattle.tb_lower.specs.Control.{State}
+use Rattle.tb_meaning.specs.Control.{State}
 use Rattle.tb_lower.specs.Ranges.{AreInRange}
 use Rattle.tb_lower.specs.Slots.{Instr, Slots, SlotCode}
 use Rattle.tb_reaching.specs.View.{Comes, View}

@@ -5,11 +5,11 @@ use Rattle.std.proofs.lemmas.Bool.{cases_eq, eq-eqb, leb-true, ltb-false, ltb-tr
 use Rattle.tb_cpu.specs.Effects.{has_bit}
 use Rattle.tb_words.specs.Words.{is_negative, magnitude, quotient, word}
 use Rattle.tb_syntax.specs.declared.expressions.Operator.TheVariants as op
-use Rattle.tb_lower.specs.Control.{State, fault_text}
+use Rattle.tb_meaning.specs.Control.{State, fault_text}
 use Rattle.tb_lower.specs.Ranges.{AreInRange}
 use Rattle.tb_lower.specs.Slots.{Instr, Compute, Load, Slots, SlotCode, SlotState, into, with_word}
-use Rattle.tb_lower.specs.Steps.{Step, Goes, Stops, Faulted}
-use Rattle.tb_lower.specs.Values.{apply, given}
+use Rattle.tb_meaning.specs.Steps.{Step, Goes, Stops, Faulted}
+use Rattle.tb_meaning.specs.Values.{apply, given}
 use Rattle.tb_reaching.proofs.Comes.{chained, looser}
 use Rattle.tb_reaching.specs.Start.{IsHome}
 use Rattle.tb_reaching.specs.View.{Comes, Fits, View}

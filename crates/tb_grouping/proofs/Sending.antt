@@ -3,7 +3,7 @@ use Rattle.std.proofs.Common.{◌≡◌, ℕ, ◌+◌, ◌-◌, ◌/◌, ◌%◌
 use Rattle.std.specs.Prelude.{replicate}
 use Rattle.tb_words.specs.Words.{digits_of}
 use Rattle.tb_kernal.specs.declared.places.Service.TheVariants.{Chrout}
-use Rattle.tb_lower.specs.Control.{State, column_after, zone}
+use Rattle.tb_meaning.specs.Control.{State, column_after, zone}
 use Rattle.tb_lower.specs.Slots.{Instr, SendText, SendNumber, SendZone, SendNewline, Slots, SlotCode}
 use Rattle.tb_memmap.specs.Bytes.{with_byte}
 use Rattle.tb_reaching.proofs.Comes.{chained, looser}

@@ -11,7 +11,7 @@ use Rattle.tb_reaching.specs.View.{Part, Bytes, Comes, Holds, part_at, is_progra
 use Rattle.tb_reaching.specs.Start.{view_of, home_low, home_high}
 use Rattle.tb_reaching.proofs.Parts.{bytes_hold}
 use Rattle.tb_syntax.specs.Source.{numbers}
-use Rattle.tb_lower.specs.Control.{has_line}
+use Rattle.tb_meaning.specs.Control.{has_line}
 use Rattle.tb_lower.specs.Slots.{SlotCode}
 use Rattle.tb_runtime16.specs.Places.{PROLOGUE_AT}
 use Rattle.tb_templates.specs.Program.{rows_code}

@@ -6,7 +6,7 @@ use Rattle.tb_asm.specs.declared.names.Name.{Name}
 use Rattle.tb_asm.specs.declared.items.Operand.TheVariants.{Label, LowOf, HighOf}
 use Rattle.tb_asm.specs.Layout.{number_in, address_in, bytes_from, size}
 use Rattle.tb_words.specs.Words.{word}
-use Rattle.tb_lower.specs.Control.{has_line}
+use Rattle.tb_meaning.specs.Control.{has_line}
 use Rattle.tb_lower.specs.Slots as slots
 use Rattle.tb_lower.specs.Ranges.{IsInRange}
 use Rattle.tb_runtime16.specs.Places.{POINTER, LENGTH, TEXT_AT}

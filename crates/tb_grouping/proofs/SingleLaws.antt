@@ -2,10 +2,10 @@
 use Rattle.std.proofs.Common.{◌≡◌, ℕ, ◌+◌, Bool, true, false, if◌then◌else◌, List, [], ◌∷◌, length, refl, sym, ap, ◌∙◌, subst, arith}
 use Rattle.std.specs.Prelude.{nat_eq, nat_lt, drop}
 use Rattle.tb_kernal.specs.Machine.{first_or_zero}
-use Rattle.tb_lower.specs.Control.{At, Place, State, answered, column_after, deepest, fault, fault_text, has_line, next_after, return_to, zone}
-use Rattle.tb_lower.specs.Input.{Bad, Dry, Got, Nothing, Turn, take_turn, turn}
+use Rattle.tb_meaning.specs.Control.{At, Place, State, answered, column_after, deepest, fault, fault_text, has_line, next_after, return_to, zone}
+use Rattle.tb_meaning.specs.Input.{Bad, Dry, Got, Nothing, Turn, take_turn, turn}
 use Rattle.tb_lower.specs.Slots.{Instr, Put, Load, Store, Negate, Compute, Random, SendText, SendNumber, SendZone, SendNewline, Input, Poll, Hold, LeaveUnless, Jump, Call, JumpTo, CallTo, Return, End, Slots, SlotCode, SlotState, act, leaving, settled, staying}
-use Rattle.tb_lower.specs.Steps.{Goes, Step, after_sending}
+use Rattle.tb_meaning.specs.Steps.{Goes, Step, after_sending}
 use Rattle.tb_reaching.proofs.Comes.{looser}
 use Rattle.tb_reaching.specs.View.{Comes, Fits, View}
 use Rattle.tb_runtime16.specs.Laws.{AllBytes}

@@ -4,13 +4,13 @@ use Rattle.std.specs.Prelude.{slice_index, slice_set, nat_eq}
 use Rattle.std.proofs.lemmas.Bool.{eqb-true, leb-true}
 use Rattle.tb_words.specs.Words.{word}
 use Rattle.tb_syntax.specs.declared.expressions.Operator.{Operator}
-use Rattle.tb_lower.specs.Steps.{Step, Goes, Stops, Faulted, and_then}
-use Rattle.tb_lower.specs.Control.{State, fault_text}
-use Rattle.tb_lower.specs.Values.{apply, given}
-use Rattle.tb_lower.specs.Meaning as meaning
+use Rattle.tb_meaning.specs.Steps.{Step, Goes, Stops, Faulted, and_then}
+use Rattle.tb_meaning.specs.Control.{State, fault_text}
+use Rattle.tb_meaning.specs.Values.{apply, given}
+use Rattle.tb_meaning.specs.Meaning as meaning
 use Rattle.tb_syntax.specs.Source.{numbers}
 use Rattle.tb_lower.specs.Slots.{Instr, Compute, SlotCode, Left, Slots, SlotState, Stays, act, settled, into, with_word}
-use Rattle.tb_lower.proofs.Runs.{after_nothing}
+use Rattle.tb_meaning.proofs.Runs.{after_nothing}
 use Rattle.tb_selection.specs.declared.liveness.Live.{Live}
 use Rattle.tb_selection.specs.Groups.{Operand, Constant, Variable, InSlot, IntoVariable, IntoHeld, Destination, IntoSlot, IntoHome, Calculate, fetch, kept, slot_of, expand}
 use Rattle.tb_selection.specs.Liveness.{live, written}

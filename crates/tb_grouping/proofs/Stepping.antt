@@ -7,12 +7,12 @@ use Rattle.std.proofs.lemmas.List.{set-set}
 use Rattle.tb_words.specs.Words.{word}
 use Rattle.tb_syntax.specs.declared.expressions.Operator.{Operator}
 use Rattle.tb_syntax.specs.declared.expressions.Operator.TheVariants as op
-use Rattle.tb_lower.specs.Control.{State, fault_text}
-use Rattle.tb_lower.specs.Meaning as meaning
+use Rattle.tb_meaning.specs.Control.{State, fault_text}
+use Rattle.tb_meaning.specs.Meaning as meaning
 use Rattle.tb_lower.specs.Ranges.{AreInRange}
 use Rattle.tb_lower.specs.Slots.{Instr, Put, Load, Store, Compute, Slots, SlotCode, into, with_word}
-use Rattle.tb_lower.specs.Steps.{Goes, Stops, Faulted}
-use Rattle.tb_lower.specs.Values.{apply, given}
+use Rattle.tb_meaning.specs.Steps.{Goes, Stops, Faulted}
+use Rattle.tb_meaning.specs.Values.{apply, given}
 use Rattle.tb_reaching.specs.View.{View}
 use Rattle.tb_runtime16.specs.Places.{HELD}
 use Rattle.tb_runtime16.specs.Routines.{WordAt}

@@ -7,12 +7,12 @@ use Rattle.tb_words.specs.Words.{holds, signed}
 use Rattle.tb_words.specs.declared.Rel.{Rel}
 use Rattle.tb_words.specs.declared.Rel.TheVariants as rel
 use Rattle.tb_syntax.specs.Source.{numbers}
-use Rattle.tb_lower.specs.Control as control
-use Rattle.tb_lower.specs.Control.{State, fall, fault, fault_text, has_line, next_after}
+use Rattle.tb_meaning.specs.Control as control
+use Rattle.tb_meaning.specs.Control.{State, fall, fault, fault_text, has_line, next_after}
 use Rattle.tb_lower.specs.Ranges.{AreInRange}
 use Rattle.tb_lower.specs.Slots.{Instr, JumpTo, Slots, SlotCode, SlotState, Stays, Whole, leaving, settled}
-use Rattle.tb_lower.specs.Steps.{Step, Goes, Stops, Faulted}
-use Rattle.tb_lower.proofs.Runs.{after_nothing}
+use Rattle.tb_meaning.specs.Steps.{Step, Goes, Stops, Faulted}
+use Rattle.tb_meaning.proofs.Runs.{after_nothing}
 use Rattle.tb_reaching.proofs.Comes.{chained, looser}
 use Rattle.tb_reaching.specs.View.{Comes, Fits, Part, Setup, View}
 use Rattle.tb_runtime16.specs.Routines.{Entered, Here, Moves}

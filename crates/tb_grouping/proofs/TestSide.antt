@@ -5,11 +5,11 @@ use Rattle.std.proofs.lemmas.Bool.{leb-true, and_parts}
 use Rattle.tb_words.specs.Words.{holds}
 use Rattle.tb_words.specs.declared.Rel.{Rel}
 use Rattle.tb_syntax.specs.Source.{numbers}
-use Rattle.tb_lower.specs.Steps.{Step, Goes}
-use Rattle.tb_lower.specs.Control.{State, next_after, fall}
+use Rattle.tb_meaning.specs.Steps.{Step, Goes}
+use Rattle.tb_meaning.specs.Control.{State, next_after, fall}
 use Rattle.tb_lower.specs.Ranges.{AreInRange}
 use Rattle.tb_lower.specs.Slots.{Instr, Put, Load, Hold, LeaveUnless, SlotCode, Whole, Slots, SlotState, Stays, settled, leaving}
-use Rattle.tb_lower.proofs.Runs.{after_nothing}
+use Rattle.tb_meaning.proofs.Runs.{after_nothing}
 use Rattle.tb_keeping.proofs.Mirrors.{HoldsState}
 use Rattle.tb_keeping.specs.Layout.{Layout}
 use Rattle.tb_selection.specs.Groups.{Operand, Constant, Variable, InSlot, Tested, HeldBefore, HeldNow, Test, fetch, held, expand}

@@ -2,9 +2,9 @@
 use Rattle.std.proofs.Common.{◌≡◌, ℕ, ◌+◌, Bool, true, false, if◌then◌else◌, List, [], ◌∷◌, length, refl, sym, subst, arith}
 use Rattle.std.specs.Prelude.{nat_lt}
 use Rattle.tb_words.specs.Words.{digits_of}
-use Rattle.tb_lower.specs.Control.{At, State, deepest, fault, fault_text, has_line, next_after}
+use Rattle.tb_meaning.specs.Control.{At, State, deepest, fault, fault_text, has_line, next_after}
 use Rattle.tb_lower.specs.Slots.{Instr, Slots, SlotCode, leaving, settled}
-use Rattle.tb_lower.specs.Steps.{Goes}
+use Rattle.tb_meaning.specs.Steps.{Goes}
 use Rattle.tb_reaching.proofs.Comes.{looser}
 use Rattle.tb_reaching.specs.View.{Fits, View}
 use Rattle.tb_selection.specs.Groups.{AsLine, AsNumber, AsSubroutine, Operand, Usage, Use, expand}

@@ -1,7 +1,7 @@
 -- Where a test that fails leads: the beginning of the next line.
 use Rattle.std.proofs.Common.{◌≡◌, ℕ, List, [], ◌∷◌, refl, sym, ap, ◌∙◌, subst, arith}
 use Rattle.tb_syntax.specs.Source.{numbers}
-use Rattle.tb_lower.specs.Control.{State, next_after}
+use Rattle.tb_meaning.specs.Control.{State, next_after}
 use Rattle.tb_lower.specs.Slots.{Whole, Slots, SlotCode}
 use Rattle.tb_reaching.specs.View.{View}
 use Rattle.tb_runtime16.specs.Routines.{Entered, Here}

@@ -4,7 +4,7 @@ use Rattle.tb_asm.specs.declared.names.Name.{Name}
 use Rattle.tb_asm.specs.Layout.{Entry, size}
 use Rattle.tb_asm.specs.Settle.{Form, items_from, some_branch_far}
 use Rattle.tb_syntax.specs.Source.{numbers}
-use Rattle.tb_lower.specs.Control.{first_place, has_line, content_at}
+use Rattle.tb_meaning.specs.Control.{first_place, has_line, content_at}
 use Rattle.tb_lower.specs.Slots.{Instr, Poll, SlotCode}
 use Rattle.tb_lower.specs.Ranges.{AreInRange}
 use Rattle.tb_runtime16.specs.Places.{PROLOGUE_AT, LINES_AT}

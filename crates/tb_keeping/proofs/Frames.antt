@@ -7,7 +7,7 @@ use Rattle.tb_keeping.proofs.Mirrors.{HoldsState, notes_of}
 use Rattle.tb_keeping.proofs.Pieces.{put_word}
 use Rattle.tb_keeping.specs.Layout.{Layout, place_at}
 use Rattle.tb_runtime16.specs.Routines.{Noted, SeedAt, WordAt, first, is_state, stored}
-use Rattle.tb_lower.specs.Control.{Place, State, column_after}
+use Rattle.tb_meaning.specs.Control.{Place, State, column_after}
 use Rattle.tb_memmap.specs.Bytes.{with_byte}
 use Rattle.tb_reaching.proofs.Memory.{put_other, put_same}
 use Rattle.tb_runtime16.specs.Places.{COLUMN, LINE, NOTES, OPEN, SEED, SEEDED}

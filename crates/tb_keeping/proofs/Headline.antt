@@ -12,11 +12,12 @@ use Rattle.tb_reaching.specs.View.{View, Setup, Part, Holds as PartHolds, At, Am
 use Rattle.tb_reaching.specs.Start.{setup_of, view_of}
 use Rattle.tb_reaching.proofs.Start.{at_start, fits_start, homed_start, length_from}
 use Rattle.tb_syntax.specs.Source.{Program, numbers}
-use Rattle.tb_lower.specs.Steps.{End, Ended, Faulted, Step, Run, GoesOn, Over, sent_by}
-use Rattle.tb_lower.specs.Steps as steps
-use Rattle.tb_lower.specs.Control.{State}
-use Rattle.tb_lower.specs.Meaning.{start, source_run}
-use Rattle.tb_lower.specs.Follows.{IsPrefix, Follows, longest}
+use Rattle.tb_meaning.specs.Steps.{End, Ended, Faulted, Step, Run, GoesOn, Over, sent_by}
+use Rattle.tb_words.specs.Prefixes.{IsPrefix}
+use Rattle.tb_meaning.specs.Steps as steps
+use Rattle.tb_meaning.specs.Control.{State}
+use Rattle.tb_meaning.specs.Meaning.{start, source_run}
+use Rattle.tb_lower.specs.Follows.{Follows, longest}
 use Rattle.tb_lower.specs.Slots.{SlotCode, SlotState, Slots, Whole}
 use Rattle.tb_keeping.specs.Kept.{Starts, HasEnded, IsSound, HasDone, Keeps}
 use Rattle.tb_keeping.specs.Layout.{Layout, is_start, inner}

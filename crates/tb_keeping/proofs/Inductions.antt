@@ -8,13 +8,15 @@ use Rattle.tb_kernal.specs.Runs.{run, all_lawful, goes}
 use Rattle.tb_reaching.specs.Reaching.{Arrived, OnTheWay}
 use Rattle.tb_reaching.proofs.Grows.{sends_on}
 use Rattle.tb_reaching.proofs.Laws.{run_append, goes_append, lawful_after}
-use Rattle.tb_lower.specs.Steps.{End, Step, Goes, Stops, Run, GoesOn, Over, joined, advance_by, sent_by}
+use Rattle.tb_meaning.specs.Steps.{End, Step, Goes, Stops, Run, GoesOn, Over, joined, advance_by, sent_by}
+use Rattle.tb_words.specs.Prefixes.{IsPrefix}
 use Rattle.tb_syntax.specs.Source.{Program, numbers}
-use Rattle.tb_lower.specs.Control.{State}
-use Rattle.tb_lower.specs.Meaning.{start, source_run}
+use Rattle.tb_meaning.specs.Control.{State}
+use Rattle.tb_meaning.specs.Meaning.{start, source_run}
 use Rattle.tb_lower.specs.Slots.{SlotCode, Whole, Slots, SlotState, slot_run}
-use Rattle.tb_lower.specs.Follows.{longest, IsPrefix, Meets, Agrees, Follows}
-use Rattle.tb_lower.proofs.Runs.{over_stays, prefix_trans}
+use Rattle.tb_lower.specs.Follows.{longest, Meets, Agrees, Follows}
+use Rattle.tb_meaning.proofs.Runs.{over_stays}
+use Rattle.tb_words.proofs.Prefixes.{prefix_trans}
 use Rattle.tb_keeping.proofs.Strides.{IsStride, IsOutside}
 
 -- after some events from the entry: still there, on the way, or past the goal

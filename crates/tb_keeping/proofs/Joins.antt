@@ -14,8 +14,8 @@ use Rattle.tb_reaching.proofs.Laws.{goes_append}
 use Rattle.tb_reaching.proofs.Services.{waits_on}
 use Rattle.tb_reaching.proofs.Ends.{home_rests, home_returned, waiting_waits}
 use Rattle.tb_reaching.proofs.Barred.{quiet, begins, enters, open_up}
-use Rattle.tb_lower.specs.Steps.{End, Ended, Faulted, Step, Goes, Stops}
-use Rattle.tb_lower.specs.Steps as steps
+use Rattle.tb_meaning.specs.Steps.{End, Ended, Faulted, Step, Goes, Stops}
+use Rattle.tb_meaning.specs.Steps as steps
 use Rattle.tb_lower.specs.Slots.{SlotState, Rest, Whole, Left}
 use Rattle.tb_keeping.specs.Kept.{HasEnded}
 use Rattle.tb_runtime16.specs.Routines.{Waiting}

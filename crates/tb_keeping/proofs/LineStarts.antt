@@ -16,11 +16,11 @@ use Rattle.tb_reaching.specs.Start.{view_of}
 use Rattle.tb_reaching.proofs.Act.{kept_by_interrupt, pc_here}
 use Rattle.tb_reaching.proofs.Barred.{begins}
 use Rattle.tb_syntax.specs.Source.{Program, numbers}
-use Rattle.tb_lower.specs.Steps.{End, Ended, Faulted, Step, GoesOn}
-use Rattle.tb_lower.specs.Steps as steps
-use Rattle.tb_lower.specs.Control.{Place, Past, State, content_at, has_line}
-use Rattle.tb_lower.specs.Control as control
-use Rattle.tb_lower.specs.Meaning.{source_run}
+use Rattle.tb_meaning.specs.Steps.{End, Ended, Faulted, Step, GoesOn}
+use Rattle.tb_meaning.specs.Steps as steps
+use Rattle.tb_meaning.specs.Control.{Place, Past, State, content_at, has_line}
+use Rattle.tb_meaning.specs.Control as control
+use Rattle.tb_meaning.specs.Meaning.{source_run}
 use Rattle.tb_lower.specs.Follows.{Follows, longest}
 use Rattle.tb_lower.specs.Slots.{Instr, SlotCode, SlotState, Rest, Whole, Left}
 use Rattle.tb_runtime16.specs.Places.{NOTES}

@@ -9,9 +9,9 @@ use Rattle.tb_kernal.specs.Machine.{happens}
 use Rattle.tb_kernal.specs.Runs.{run, all_lawful, goes, is_own}
 use Rattle.tb_reaching.specs.View.{View}
 use Rattle.tb_syntax.specs.Source.{Program, numbers}
-use Rattle.tb_lower.specs.Steps.{Step, GoesOn}
-use Rattle.tb_lower.specs.Control.{At, Past, Place, State, content_at, has_line}
-use Rattle.tb_lower.specs.Meaning.{source_run}
+use Rattle.tb_meaning.specs.Steps.{Step, GoesOn}
+use Rattle.tb_meaning.specs.Control.{At, Past, Place, State, content_at, has_line}
+use Rattle.tb_meaning.specs.Meaning.{source_run}
 use Rattle.tb_lower.specs.Follows.{Follows, longest}
 use Rattle.tb_lower.specs.Slots.{Instr, SlotCode, SlotState, Whole}
 use Rattle.tb_keeping.specs.Kept.{Starts}

@@ -3,8 +3,8 @@ use Rattle.std.specs.Prelude.{◌≡◌, ℕ, ◌%◌, ◌≤◌, ◌<◌, Bool,
 use Rattle.tb_cpu.specs.Effects.{bit}
 use Rattle.tb_reaching.specs.View.{View, Setup}
 use Rattle.tb_reaching.specs.Start.{IsHome}
-use Rattle.tb_lower.specs.Steps.{Step, Goes, Stops, Ended, Faulted, Waits}
-use Rattle.tb_lower.specs.Control.{Place, State}
+use Rattle.tb_meaning.specs.Steps.{Step, Goes, Stops, Ended, Faulted, Waits}
+use Rattle.tb_meaning.specs.Control.{Place, State}
 use Rattle.tb_lower.specs.Slots.{SlotState}
 use Rattle.tb_runtime16.specs.Places.{COLUMN, OPEN, NOTES}
 use Rattle.tb_templates.specs.Templates.{var_at}

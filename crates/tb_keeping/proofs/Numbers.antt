@@ -12,7 +12,7 @@ use Rattle.std.specs.Option.{option_map}
 use Rattle.std.proofs.Math.Bool.{or-true}
 use Rattle.tb_asm.proofs.Laws.{bytes_append}
 use Rattle.tb_reaching.proofs.Instr.{flat, ins, instr_bytes}
-use Rattle.tb_lower.specs.Control.{Place, At, Past, next_after, has_line}
+use Rattle.tb_meaning.specs.Control.{Place, At, Past, next_after, has_line}
 use Rattle.tb_runtime16.specs.Places.{FAULT_LINE_AT}
 use Rattle.tb_templates.specs.declared.labels.Target.{Target}
 use Rattle.tb_templates.specs.declared.labels.Target.TheVariants as target

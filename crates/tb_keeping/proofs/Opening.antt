@@ -7,8 +7,8 @@ use Rattle.tb_kernal.specs.Machine as machine
 use Rattle.tb_reaching.specs.View.{View, Setup}
 use Rattle.tb_reaching.specs.Start.{home_low, home_high}
 use Rattle.tb_syntax.specs.Source.{numbers}
-use Rattle.tb_lower.specs.Control.{first_place}
-use Rattle.tb_lower.specs.Meaning.{start}
+use Rattle.tb_meaning.specs.Control.{first_place}
+use Rattle.tb_meaning.specs.Meaning.{start}
 use Rattle.tb_lower.specs.Slots.{SlotCode, Slots}
 use Rattle.tb_runtime16.specs.Places.{VARS, COLUMN, OPEN, SEEDED, SEED, NOTES, LINES_AT}
 use Rattle.tb_templates.specs.Templates.{var_at}

@@ -4,12 +4,12 @@ use Rattle.std.specs.Prelude.{if◌then◌else◌, nat_lt, nat_eq}
 use Rattle.std.proofs.lemmas.Bool.{eq-eqb}
 use Rattle.tb_syntax.specs.Source.{Item, Text, Value, Zone, Command, Let, Print, Input, If, Goto, Gosub, Return, End, Remark, Program, numbers}
 use Rattle.tb_words.specs.Words.{holds}
-use Rattle.tb_lower.specs.Steps.{Step, Goes, Stops, and_then, after_sending, Run, GoesOn, Over, joined, advance, advance_by}
-use Rattle.tb_lower.specs.Control.{Place, At, Past, State, content_at, has_line, next_after, first_place, fall, fault, go_to, go_sub, return_to, deepest, answered, poll, column_after}
-use Rattle.tb_lower.specs.Input as input
-use Rattle.tb_lower.specs.Input.{Turn, Got, Bad, Dry, turn, Nothing, take_turn}
-use Rattle.tb_lower.specs.Values.{Valued, Gives, Fails, value}
-use Rattle.tb_lower.specs.Meaning.{with_value, print_item, print_items, inputs, does, does_found, does_at, line, start, source_run}
+use Rattle.tb_meaning.specs.Steps.{Step, Goes, Stops, and_then, after_sending, Run, GoesOn, Over, joined, advance, advance_by}
+use Rattle.tb_meaning.specs.Control.{Place, At, Past, State, content_at, has_line, next_after, first_place, fall, fault, go_to, go_sub, return_to, deepest, answered, poll, column_after}
+use Rattle.tb_meaning.specs.Input as input
+use Rattle.tb_meaning.specs.Input.{Turn, Got, Bad, Dry, turn, Nothing, take_turn}
+use Rattle.tb_meaning.specs.Values.{Valued, Gives, Fails, value}
+use Rattle.tb_meaning.specs.Meaning.{with_value, print_item, print_items, inputs, does, does_found, does_at, line, start, source_run}
 use Rattle.tb_keeping.proofs.Numbers.{next_has}
 
 module _ (ns : List ℕ) where

@@ -8,7 +8,7 @@ use Rattle.tb_kernal.specs.declared.events.Event.TheVariants.{Go, Interrupt}
 use Rattle.tb_kernal.specs.Machine as machine
 use Rattle.tb_kernal.specs.Machine.{happens}
 use Rattle.tb_kernal.specs.Runs.{run}
-use Rattle.tb_lower.specs.Control.{At, Past, Place, has_line}
+use Rattle.tb_meaning.specs.Control.{At, Past, Place, has_line}
 use Rattle.tb_syntax.specs.Source.{Program, numbers}
 use Rattle.tb_keeping.specs.Layout.{is_start}
 use Rattle.tb_keeping.specs.LineStarts.{begun, BeginsLine, HoldsReturns, MarksLines, StandsFor, note_at}

@@ -6,13 +6,13 @@ use Rattle.tb_kernal.specs.declared.events.Event.TheVariants.{Go, Interrupt}
 use Rattle.tb_kernal.specs.Machine as machine
 use Rattle.tb_kernal.specs.Machine.{happens, is_lawful}
 use Rattle.tb_kernal.specs.Runs.{run, all_lawful, goes, is_own}
-use Rattle.tb_lower.specs.Steps.{End, Step, Goes, Stops, Run, GoesOn, Over, joined, advance, advance_by}
+use Rattle.tb_meaning.specs.Steps.{End, Step, Goes, Stops, Run, GoesOn, Over, joined, advance, advance_by}
 use Rattle.tb_syntax.specs.Source.{Program, numbers}
-use Rattle.tb_lower.specs.Control.{Place, At, Past, State, content_at}
-use Rattle.tb_lower.specs.Meaning.{start, source_run}
+use Rattle.tb_meaning.specs.Control.{Place, At, Past, State, content_at}
+use Rattle.tb_meaning.specs.Meaning.{start, source_run}
 use Rattle.tb_lower.specs.Slots.{Instr, SlotCode, Rest, Whole, Left, Slots, SlotState, slot_step, slot_run, slot_start, instr_at, begins, begins_in, beginnings}
 use Rattle.tb_lower.specs.Follows.{longest, Meets, Follows}
-use Rattle.tb_lower.proofs.Runs.{over_stays, advance_sum}
+use Rattle.tb_meaning.proofs.Runs.{over_stays, advance_sum}
 use Rattle.tb_lower.proofs.Lists.{beginnings_sum}
 use Rattle.tb_keeping.proofs.Inductions.{Way, still, on_way, there, Reaches, sent_in, lawful_back, run_back, goes_back}
 use Rattle.tb_keeping.proofs.Inductions as keeps

@@ -1,7 +1,7 @@
 -- Steps of one or more slot instructions: of each one alone, or of some together.
 use Rattle.std.proofs.Common.{◌≡◌, ℕ, zero, suc, ◌+◌, ◌≤◌, List, Option, Some, None}
-use Rattle.tb_lower.specs.Steps.{Step, Goes, Run, GoesOn, Over, advance, advance_by}
-use Rattle.tb_lower.specs.Control.{Place, At, Past, content_at}
+use Rattle.tb_meaning.specs.Steps.{Step, Goes, Run, GoesOn, Over, advance, advance_by}
+use Rattle.tb_meaning.specs.Control.{Place, At, Past, content_at}
 use Rattle.tb_lower.specs.Slots.{Instr, SlotCode, Rest, Whole, Left, SlotState, slot_step, begins, begins_in, beginnings}
 
 -- how many lines a state of the slot code is at the beginning of

@@ -1,7 +1,7 @@
 -- What a turn of INPUT leaves of the text.
 use Rattle.std.proofs.Common.{◌-◌, ℕ, suc, ◌≤◌, Bool, true, false, ◌&&◌, ◌||◌, if◌then◌else◌, List, [], ◌∷◌, length, arith}
 use Rattle.std.specs.Prelude.{nat_eq, nat_le}
-use Rattle.tb_lower.specs.Input.{Bad, Digits, Dry, Got, Nothing, Reading, Sign, Turn, number_end, signed_turn, turn, with_digit}
+use Rattle.tb_meaning.specs.Input.{Bad, Digits, Dry, Got, Nothing, Reading, Sign, Turn, number_end, signed_turn, turn, with_digit}
 use Rattle.tb_runtime16.specs.Laws.{AllBytes}
 
 -- a turn leaves bytes, at most so many

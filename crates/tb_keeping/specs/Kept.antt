@@ -8,10 +8,10 @@ use Rattle.tb_kernal.specs.Machine.{status}
 use Rattle.tb_kernal.specs.Runs.{run, all_lawful, goes}
 use Rattle.tb_kernal.specs.Starts.{IsStart}
 use Rattle.tb_syntax.specs.Source.{Program}
-use Rattle.tb_lower.specs.Steps.{End, Ended, Faulted, Waits, Run, GoesOn, Over, sent_by}
-use Rattle.tb_lower.specs.Control.{State}
-use Rattle.tb_lower.specs.Meaning.{source_run}
-use Rattle.tb_lower.specs.Follows.{IsPrefix}
+use Rattle.tb_meaning.specs.Steps.{End, Ended, Faulted, Waits, Run, GoesOn, Over, sent_by}
+use Rattle.tb_words.specs.Prefixes.{IsPrefix}
+use Rattle.tb_meaning.specs.Control.{State}
+use Rattle.tb_meaning.specs.Meaning.{source_run}
 use Rattle.tb_runtime16.specs.Laws.{AllBytes}
 
 -- a start of a program whose keyboard gives bytes; all else is arbitrary

@@ -8,9 +8,9 @@ use Rattle.tb_kernal.specs.Machine as machine
 use Rattle.tb_kernal.specs.Machine.{happens}
 use Rattle.tb_kernal.specs.Runs.{run, all_lawful, goes}
 use Rattle.tb_syntax.specs.Source.{Program, numbers}
-use Rattle.tb_lower.specs.Steps.{GoesOn}
-use Rattle.tb_lower.specs.Control.{At, Past, Place, State, has_line}
-use Rattle.tb_lower.specs.Meaning.{source_run}
+use Rattle.tb_meaning.specs.Steps.{GoesOn}
+use Rattle.tb_meaning.specs.Control.{At, Past, Place, State, has_line}
+use Rattle.tb_meaning.specs.Meaning.{source_run}
 use Rattle.tb_runtime16.specs.Places.{NOTES, NOTE_HIGH, NOTE_LOW}
 use Rattle.tb_templates.specs.Templates.{var_at}
 use Rattle.tb_keeping.specs.Kept.{Starts}

@@ -1,7 +1,7 @@
 -- What a build makes of a source.
 use Rattle.std.specs.Prelude.{◌≡◌, ℕ, ◌-◌, ◌≤◌, List, Ok, Err, drop, length, sum_by}
 use Rattle.tb_syntax.specs.Source.{Program}
-use Rattle.tb_lower.specs.Cost.{cost}
+use Rattle.tb_meaning.specs.Cost.{cost}
 use Rattle.tb_parser.specs.Files.{Outcome}
 use Rattle.tb_runtime16.specs.Places.{PROLOGUE_AT}
 use Rattle.tb_refusals.specs.declared.refusals.CompileError.{CompileError}

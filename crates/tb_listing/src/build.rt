@@ -1,7 +1,7 @@
 //! All that a build makes, from one compilation.
 ghost use Rattle.std.specs.Prelude.{◌≡◌, ◌+◌, ◌-◌, ◌≤◌, length, IfOk, IfErr};
 ghost use Rattle.tb_syntax.specs.PlainData.{lines_of};
-ghost use Rattle.tb_lower.specs.Cost.{cost};
+ghost use Rattle.tb_meaning.specs.Cost.{cost};
 ghost use Rattle.tb_runtime16.specs.Places.{PROLOGUE_AT};
 ghost use Rattle.tb_codegen.specs.Compiled.{prg_of};
 ghost use Rattle.tb_listing.specs.Builds.{IsMade, IsRefused, Tells};
@@ -11,7 +11,7 @@ use crate::listing::list;
 use crate::map::chart;
 use std::alloc::{AllocError, Global};
 use tb_codegen::{CompileError, Compiled, Options, compile};
-use tb_lower::Warning;
+use tb_meaning::Warning;
 use tb_parser::parse;
 use tb_syntax::Program;
 

@@ -1,7 +1,7 @@
 //! The map of a program: where each part lies, what it takes and what it costs.
 ghost use Rattle.std.specs.Prelude.{◌≡◌, ◌≤◌, ◌+◌, ◌-◌, ◌++◌, ◌∷◌, [], IfOk, OnOk, map, drop, length, replicate};
 ghost use Rattle.tb_syntax.specs.PlainData.{lines_of};
-ghost use Rattle.tb_lower.specs.Cost as cost;
+ghost use Rattle.tb_meaning.specs.Cost as cost;
 ghost use Rattle.tb_runtime16.specs.Places.{PROLOGUE_AT};
 ghost use Rattle.tb_codegen.specs.Compiled.{pair_of, prg_of, starts_of, table_of};
 ghost use Rattle.tb_codegen.specs.Texts.{end_before};

@@ -3,16 +3,16 @@ use Rattle.std.proofs.Common.{◌≡◌, ℕ, ◌≤◌, Bool, true, false, if�
 use Rattle.tb_words.specs.Words.{digits_of, holds}
 use Rattle.tb_syntax.specs.Source.{Expression, Item, Text, Value, Zone, Command, Let, Print, If, Goto, Gosub, Remark}
 use Rattle.tb_syntax.specs.Source as source
-use Rattle.tb_lower.specs.Steps.{Step, Goes, Stops, after_sending, and_then}
-use Rattle.tb_lower.specs.Control.{State, poll, fall, send, zone, go_to, go_sub, go_back}
-use Rattle.tb_lower.specs.Input.{input}
-use Rattle.tb_lower.specs.Values.{Valued, Gives, Fails}
-use Rattle.tb_lower.specs.Meaning.{with_value, valued, print_item, print_items, inputs, stored, does}
+use Rattle.tb_meaning.specs.Steps.{Step, Goes, Stops, after_sending, and_then}
+use Rattle.tb_meaning.specs.Control.{State, poll, fall, send, zone, go_to, go_sub, go_back}
+use Rattle.tb_meaning.specs.Input.{input}
+use Rattle.tb_meaning.specs.Values.{Valued, Gives, Fails, constant}
+use Rattle.tb_meaning.specs.Meaning.{with_value, valued, print_item, print_items, inputs, stored, does}
 use Rattle.tb_lower.specs.Need.{need, item_need, items_need, command_need}
 use Rattle.tb_lower.specs.Slots.{Instr, Store, SendNumber, SendNewline, Hold, LeaveUnless, Jump, Call, JumpTo, CallTo, Slots, Stays, staying, leaving}
-use Rattle.tb_lower.specs.Lowered.{constant, target_code, list_code, value_code, item_code, items_code, inputs_code, command_code}
-use Rattle.tb_lower.proofs.Constants.{constant_value}
-use Rattle.tb_lower.proofs.Runs.{after_nothing, then_assoc}
+use Rattle.tb_lower.specs.Lowered.{target_code, list_code, value_code, item_code, items_code, inputs_code, command_code}
+use Rattle.tb_meaning.proofs.Constants.{constant_value}
+use Rattle.tb_meaning.proofs.Runs.{after_nothing, then_assoc}
 use Rattle.tb_lower.proofs.Values.{stay_then, perform, value_runs}
 
 valued_then_step : (n : ℕ) (w : Valued) (s : State) (f : ℕ → State → Step State) (g : State → Step State) → with_value n w s (λ v s'. and_then (f v s') g) ≡ and_then (with_value n w s f) g

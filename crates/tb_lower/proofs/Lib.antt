@@ -1,13 +1,7 @@
-pub mod Constants
-pub mod Runs
+pub mod Folded
 pub mod Values
 pub mod Commands
 pub mod Lists
 pub mod Weighed
 pub mod Ranged
-pub mod Lettered
-pub mod Evaluated
-pub mod Interpreting
-pub mod Turning
 pub mod Rows
-pub mod Found

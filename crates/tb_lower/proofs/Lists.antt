@@ -3,17 +3,17 @@ use Rattle.std.proofs.Common.{◌≡◌, ℕ, zero, suc, ◌+◌, ◌-◌, ◌*�
 use Rattle.std.proofs.lemmas.Bool.{cases_lt}
 use Rattle.tb_words.specs.Words.{holds}
 use Rattle.tb_syntax.specs.Source.{Command, Numbered, Program, numbers}
-use Rattle.tb_lower.specs.Steps.{and_then, End, Step, Goes, Stops, after_sending, Run, GoesOn, Over, joined, advance, advance_by, sent_by}
-use Rattle.tb_lower.specs.Control.{Place, At, Past, State, content_at, poll, fall, past}
-use Rattle.tb_lower.specs.Input.{input}
-use Rattle.tb_lower.specs.Values.{Valued, Gives, Fails}
-use Rattle.tb_lower.specs.Meaning.{does, does_at, does_found, line, start}
+use Rattle.tb_meaning.specs.Steps.{and_then, End, Step, Goes, Stops, after_sending, Run, GoesOn, Over, joined, advance, advance_by, sent_by}
+use Rattle.tb_meaning.specs.Control.{Place, At, Past, State, content_at, poll, fall, past}
+use Rattle.tb_meaning.specs.Input.{input}
+use Rattle.tb_meaning.specs.Values.{Valued, Gives, Fails}
+use Rattle.tb_meaning.specs.Meaning.{does, does_at, does_found, line, start}
 use Rattle.tb_lower.specs.Need.{command_need, too_deep}
 use Rattle.tb_lower.specs.Slots.{Instr, Put, Load, Store, Negate, Compute, Random, SendText, SendNumber, SendZone, SendNewline, Input, Poll, Hold, LeaveUnless, Jump, Call, JumpTo, CallTo, Return, SlotCode, Rest, Whole, Left, Slots, SlotState, After, Stays, Leaves, staying, leaving, with_word, into, act, settled, instr, instr_found, instr_at, slot_step, slot_start, slot_run, begins, begins_in, beginnings}
 use Rattle.tb_lower.specs.Slots as slots
 use Rattle.tb_lower.specs.Lowered.{list_code, program_code}
 use Rattle.tb_lower.specs.Follows.{longest, Meets, Agrees, IsListOf, Follows}
-use Rattle.tb_lower.proofs.Runs.{joined_after, over_stays, advance_sum, grows}
+use Rattle.tb_meaning.proofs.Runs.{joined_after, over_stays, advance_sum, grows}
 use Rattle.tb_lower.proofs.Values.{stay_then, perform}
 use Rattle.tb_lower.proofs.Commands.{polled_runs}
 use Rattle.tb_lower.proofs.Weighed.{bounded_list, same_texts}

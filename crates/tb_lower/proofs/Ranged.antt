@@ -6,11 +6,12 @@ use Rattle.tb_syntax.specs.Source as source
 use Rattle.tb_syntax.specs.PlainData.{command_of, lines_of}
 use Rattle.tb_lower.specs.Need.{need, items_need, command_need, too_deep}
 use Rattle.tb_lower.specs.Slots.{Instr, Store, Negate, Compute, Random, SendNumber, SendNewline, Jump, Call, JumpTo, CallTo, SlotCode}
-use Rattle.tb_lower.specs.Lowered.{constant, or_constant, target_code, value_code, items_code, inputs_code, command_code, program_code}
+use Rattle.tb_meaning.specs.Values.{constant}
+use Rattle.tb_lower.specs.Lowered.{or_constant, target_code, value_code, items_code, inputs_code, command_code, program_code}
 use Rattle.tb_syntax.specs.Texts.{item_texts, command_texts, AreShort, HasShortTexts}
 use Rattle.tb_lower.specs.Ranges.{AreInRange, IsCodeInRange}
-use Rattle.tb_lower.proofs.Constants.{constant_small}
-use Rattle.tb_lower.proofs.Lettered.{IsLettered, AreLettered, AreLetters, DoesLettered, statement_letters}
+use Rattle.tb_meaning.proofs.Constants.{constant_small}
+use Rattle.tb_meaning.proofs.Lettered.{IsLettered, AreLettered, AreLetters, DoesLettered, statement_letters}
 use Rattle.tb_lower.proofs.Values.{need_pos}
 use Rattle.tb_lower.proofs.Lists.{IsShallow, more, shallow}
 

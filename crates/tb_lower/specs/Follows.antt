@@ -1,21 +1,18 @@
 -- What it is that slot code has the runs of a program.
-use Rattle.std.specs.Prelude.{◌≡◌, ℕ, ◌+◌, ◌*◌, ◌≤◌, max, List, [], ◌∷◌, ◌++◌, length, Option, Some, None}
+use Rattle.std.specs.Prelude.{◌≡◌, ℕ, ◌+◌, ◌*◌, ◌≤◌, max, List, [], ◌∷◌, length, Option, Some, None}
 use Rattle.tb_syntax.specs.Source.{Command, Program, numbers}
 use Rattle.tb_syntax.specs.Texts.{command_texts}
 use Rattle.tb_lower.specs.Weights.{IsBounded, instr_texts}
-use Rattle.tb_lower.specs.Steps.{Run, GoesOn, Over, sent_by}
-use Rattle.tb_lower.specs.Control.{State, content_at}
-use Rattle.tb_lower.specs.Meaning.{source_run}
+use Rattle.tb_meaning.specs.Steps.{Run, GoesOn, Over, sent_by}
+use Rattle.tb_words.specs.Prefixes.{IsPrefix}
+use Rattle.tb_meaning.specs.Control.{State, content_at}
+use Rattle.tb_meaning.specs.Meaning.{source_run}
 use Rattle.tb_lower.specs.Slots.{Instr, SlotCode, Whole, Slots, SlotState, slot_start, slot_run, beginnings}
 
 -- the length of the longest list
 abbrev pub longest : SlotCode → ℕ
 longest [] = 0
 longest (line ∷ lines) = max (length line.content) (longest lines)
-
--- the second text begins with the first, or is the same
-abbrev pub IsPrefix : List ℕ → List ℕ → Type 0
-IsPrefix xs ys = (zs : List ℕ) × (xs ++ zs ≡ ys)
 
 -- the slot run stands where the source's run stands after m lines, b beginnings of lists having passed
 abbrev pub Meets : ℕ → Run State → Run SlotState → ℕ → Type 0

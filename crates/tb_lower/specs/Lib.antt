@@ -1,10 +1,4 @@
-pub mod Steps
-pub mod Control
-pub mod Input
-pub mod Values
-pub mod Meaning
 pub mod Need
-pub mod Cost
 pub mod Slots
 pub mod PlainData
 pub mod Lowered
@@ -12,8 +6,3 @@ pub mod Weights
 pub mod Ranges
 pub mod Follows
 pub mod Refusals
-pub mod Evaluation
-pub mod Missing
-pub mod Parts
-pub mod Interpreted
-pub mod Turns

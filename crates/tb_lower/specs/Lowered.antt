@@ -1,29 +1,11 @@
 -- The slot code of a program.
-use Rattle.std.specs.Prelude.{ℕ, ◌+◌, Bool, true, false, List, [], ◌∷◌, ◌++◌, map, Option, Some, None, option_map, slice_get}
-use Rattle.tb_words.specs.Words.{word, negated}
+use Rattle.std.specs.Prelude.{ℕ, ◌+◌, Bool, true, false, List, [], ◌∷◌, ◌++◌, map, Option, Some, None}
+use Rattle.tb_words.specs.Words.{word}
 use Rattle.tb_syntax.specs.Source.{Expression, Number, Variable, Binary, Item, Text, Value, Zone, Command, Let, Print, If, Goto, Gosub, Remark, Program}
 use Rattle.tb_syntax.specs.Source as source
-use Rattle.tb_lower.specs.Values.{apply}
+use Rattle.tb_meaning.specs.Values.{constant}
 use Rattle.tb_lower.specs.Slots.{Instr, Put, Load, Compute, Store, SendText, SendNumber, SendZone, SendNewline, Poll, Hold, LeaveUnless, Jump, Call, JumpTo, CallTo, SlotCode}
 use Rattle.tb_lower.specs.Slots as slots
-
--- the word of an operator on two words, where there are two and it has one
-abbrev pub both : (ℕ → ℕ → Option ℕ) → Option ℕ → Option ℕ → Option ℕ
-both f (Some a) (Some b) = f a b
-both f (Some a) None = None
-both f None y = None
-
--- the value of an expression without RND, where no division is by zero and each variable is one of those given
-abbrev pub known_value : Expression → List ℕ → Option ℕ
-known_value (Number n) vars = Some (word n)
-known_value (Variable x) vars = slice_get vars x
-known_value (source.Negate e) vars = option_map negated (known_value e vars)
-known_value (Binary op l r) vars = both (apply op) (known_value l vars) (known_value r vars)
-known_value (source.Random e) vars = None
-
--- the value of an expression without variables and RND, where no division is by zero
-abbrev pub constant : Expression → Option ℕ
-constant e = known_value e []
 
 -- a constant, where there is one, into slot k, and else that code
 abbrev pub or_constant : Option ℕ → ℕ → List Instr → List Instr

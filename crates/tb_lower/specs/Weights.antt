@@ -4,7 +4,7 @@ use Rattle.tb_syntax.specs.Source.{Item, Text, Value, Zone, Command, Let, Print,
 use Rattle.tb_syntax.specs.Source as source
 use Rattle.tb_lower.specs.Slots.{Instr, Put, Load, Store, Negate, Compute, Random, SendText, SendNumber, SendZone, SendNewline, Input, Hold, Poll, LeaveUnless, Jump, Call, JumpTo, CallTo, Return}
 use Rattle.tb_lower.specs.Slots as slots
-use Rattle.tb_lower.specs.Cost.{nodes}
+use Rattle.tb_meaning.specs.Cost.{nodes}
 
 -- a weight for each kind of instruction: work is put, load, negation, arithmetic and RND, an item is one send of a
 -- text or a number, a byte one of a text, a move one go to, gosub or return

@@ -10,10 +10,10 @@ ghost use Rattle.tb_lower.specs.Ranges.{IsCodeInRange};
 ghost use Rattle.tb_lower.specs.Refusals.{IsRefusal};
 ghost use Rattle.tb_lower.specs.PlainData.{instr_of, slot_line_of, code_of};
 
-use crate::evaluation::constant;
 use crate::needs::{SLOT_COUNT, command_need};
 use crate::slot_code::{SlotCode, SlotInstr, SlotLine};
 use std::alloc::{AllocError, Global};
+use tb_meaning::constant;
 use tb_syntax::{Expr, PrintItem, Program, Statement};
 use tb_words::Letter;
 

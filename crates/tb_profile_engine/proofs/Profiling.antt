@@ -7,7 +7,7 @@ use Rattle.tb_kernal.specs.Machine.{Content}
 use Rattle.tb_prg.specs.Prg.{content_of}
 use Rattle.tb_syntax.specs.Source.{Program}
 use Rattle.tb_parser.specs.Files.{Outcome as FileOutcome}
-use Rattle.tb_lower.specs.declared.missing.Warning.{Warning}
+use Rattle.tb_meaning.specs.declared.missing.Warning.{Warning}
 use Rattle.tb_runtime16.specs.Places.{LINES_AT}
 use Rattle.tb_codegen.specs.Answers.{HasOutcome, OutcomeAnswer, LinesMake}
 use Rattle.tb_codegen.specs.Compiled.{prg_of, starts_of, IsCompiled, PlacesRise}

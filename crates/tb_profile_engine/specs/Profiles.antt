@@ -6,7 +6,7 @@ use Rattle.tb_syntax.specs.Source.{Program, numbers}
 use Rattle.tb_codegen.specs.declared.compiled.Compiled.{Compiled}
 use Rattle.tb_codegen.specs.Answers.{HasOutcome, LinesMake}
 use Rattle.tb_driver.specs.Sources.{FromSource}
-use Rattle.tb_lower.specs.declared.missing.Warning.{Warning}
+use Rattle.tb_meaning.specs.declared.missing.Warning.{Warning}
 use Rattle.tb_engines.specs.Outcomes.{Product}
 use Rattle.tb_engines.specs.declared.delivery.Stop.{Stop}
 use Rattle.tb_engines.specs.declared.delivery.Stop.TheVariants.{Refused, NoMemory}

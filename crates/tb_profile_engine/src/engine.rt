@@ -15,7 +15,7 @@ use tb_codegen::{Compiled, Options, compile};
 use tb_driver::stop_of;
 use tb_engines::{End, Report, Stop, Text, deliver, without_input};
 use tb_kernal::{Keyboard, Outside};
-use tb_lower::Warning;
+use tb_meaning::Warning;
 use tb_profile_table::{Texts, texts_of};
 use tb_streams::{Tracked, read_input};
 

@@ -2,19 +2,18 @@
 ghost use Rattle.std.specs.Prelude.{◌≡◌, IfOk, IfErr, map};
 ghost use Rattle.tb_words.specs.Words.{word_of};
 ghost use Rattle.tb_syntax.specs.PlainData as shown;
-ghost use Rattle.tb_lower.specs.Evaluation.{IsEvaluation};
-ghost use Rattle.tb_lower.specs.Interpreted.{IsRun};
+ghost use Rattle.tb_meaning.specs.Evaluation.{IsEvaluation};
+ghost use Rattle.tb_meaning.specs.Interpreted.{IsRun};
 ghost use Rattle.tb_lower.specs.Lowered.{program_code};
-ghost use Rattle.tb_lower.specs.Meaning.{source_run};
-ghost use Rattle.tb_lower.specs.Missing.{missing_targets};
-ghost use Rattle.tb_lower.specs.Parts.{place_of};
+ghost use Rattle.tb_meaning.specs.Meaning.{source_run};
+ghost use Rattle.tb_meaning.specs.Missing.{missing_targets};
+ghost use Rattle.tb_meaning.specs.Parts.{place_of};
 ghost use Rattle.tb_lower.specs.Refusals.{IsRefusal};
 ghost use Rattle.tb_lower.specs.PlainData.{code_of};
 
 use std::alloc::{AllocError, Global};
-use tb_lower::{
-    EvalError, LowerError, SlotCode, SourceRun, Warning, eval, lower, run_source, warnings,
-};
+use tb_lower::{LowerError, SlotCode, lower};
+use tb_meaning::{EvalError, SourceRun, Warning, eval, run_source, warnings};
 use tb_syntax::{Expr, Program};
 
 /// `eval`.

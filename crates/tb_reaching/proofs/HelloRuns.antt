@@ -191,5 +191,5 @@ prints_hello s h es l =
     let above = (homed_start 0x080d HELLO program_from program_to hello_part st s h).above in
     ⊎_elim
     (λ d. inl (home_returned f' above (run es s) d.0, d.1 ∙ ap (λ l. l ++ hello_text) h.nothing_sent))
-    (λ d. inr (d.kept.runs, record { rest = d.to_come; split = d.whole ∙ sym (ap (λ l. l ++ d.to_come) (d.sent ∙ ap (λ l. l ++ d.so_far) h.nothing_sent)) }, d.few))
+    (λ d. inr (d.kept.runs, (d.to_come, ap (λ l. l ++ d.to_come) (d.sent ∙ ap (λ l. l ++ d.so_far) h.nothing_sent) ∙ sym d.whole), d.few))
     (settles (UnderWay f') (At f' (view_of s)) (Among f' (IsHome f')) hello_text 66 (runs s h).reaches (home_rests f' above) s (at_start 0x080d HELLO program_from program_to hello_part st s h) es l)

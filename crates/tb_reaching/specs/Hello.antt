@@ -5,7 +5,7 @@ use Rattle.tb_kernal.specs.declared.status.Status.TheVariants.{Running, Returned
 use Rattle.tb_kernal.specs.Machine.{State, status}
 use Rattle.tb_kernal.specs.Runs.{run, all_lawful, goes}
 use Rattle.tb_kernal.specs.Starts.{IsStart}
-use Rattle.tb_reaching.specs.Reaching.{IsPrefix}
+use Rattle.tb_words.specs.Prefixes.{IsPrefix}
 use Rattle.tb_reaching.specs.View.{View, Setup, Part, Holds, Fits, Comes, part_at, view, back_at, Bytes}
 
 -- ---- the routine

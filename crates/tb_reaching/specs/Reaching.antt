@@ -36,8 +36,3 @@ pub record Reaches (w p q : States) (t : List ℕ) (n : ℕ) : Type 0 where
 -- the least that is wanted on the way
 abbrev pub NotWrong : States
 NotWrong s = (e : Wrong) → status s ≢ WentWrong e
-
--- one list begins another
-pub record IsPrefix (a b : List ℕ) : Type 0 where
-  pub rest : List ℕ
-  pub split : b ≡ a ++ rest

@@ -3,7 +3,7 @@ use crate::setup::{Call, Called, End, ROMS, plain};
 use std::alloc::Global;
 use std::test::Fail;
 use tb_kernal::Machine;
-use tb_lower::{RunEnd, SourceRun, run_source};
+use tb_meaning::{RunEnd, SourceRun, run_source};
 use tb_runtime16::{COLUMN, LINE, OPEN, RESULT, Routine};
 use tb_syntax::{Program, Statement};
 use tb_words::{Letter, next_seed};

@@ -9,8 +9,8 @@ use Rattle.tb_reaching.specs.Start.{IsHome}
 use Rattle.tb_reaching.proofs.Comes.{looser}
 use Rattle.tb_reaching.proofs.Services.{serving}
 use Rattle.tb_reaching.proofs.Calls.{framed, under}
-use Rattle.tb_lower.specs.Control.{column_after, fault_text}
-use Rattle.tb_lower.specs.Input.{Reading, Nothing, Sign, Digits, Turn, Got, Bad, with_digit, number_end, signed_turn, turn}
+use Rattle.tb_meaning.specs.Control.{column_after, fault_text}
+use Rattle.tb_meaning.specs.Input.{Reading, Nothing, Sign, Digits, Turn, Got, Bad, with_digit, number_end, signed_turn, turn}
 use Rattle.tb_runtime16.specs.Places.{INPUT_AT, SEND_AT, COLUMN, LEFT, RESULT, HOME_S, LINE, BYTE, OPEN, SCRATCH}
 use Rattle.tb_runtime16.specs.Block.{block_part}
 use Rattle.tb_runtime16.specs.Ends.{Entered}

@@ -7,7 +7,7 @@ use Rattle.tb_reaching.specs.View.{Fits, view}
 use Rattle.tb_reaching.proofs.Comes.{looser}
 use Rattle.tb_reaching.proofs.Calls.{under}
 use Rattle.tb_reaching.proofs.Services.{serving}
-use Rattle.tb_lower.specs.Control.{fault_text}
+use Rattle.tb_meaning.specs.Control.{fault_text}
 use Rattle.tb_runtime16.specs.Places.{POLL_AT}
 use Rattle.tb_runtime16.specs.Ends.{PollLaw}
 use Rattle.tb_runtime16.proofs.Within.{poll_part, poll_in}

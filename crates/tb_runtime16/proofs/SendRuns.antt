@@ -7,7 +7,7 @@ use Rattle.tb_reaching.specs.View.{Setup, Holds, Fits, Comes, view}
 use Rattle.tb_reaching.proofs.Memory.{put_other}
 use Rattle.tb_reaching.proofs.Comes.{after, looser}
 use Rattle.tb_reaching.proofs.Services.{served_last}
-use Rattle.tb_lower.specs.Control.{column_after}
+use Rattle.tb_meaning.specs.Control.{column_after}
 use Rattle.tb_runtime16.specs.Places.{SEND_AT, COLUMN}
 use Rattle.tb_runtime16.specs.Block.{block_part}
 use Rattle.tb_runtime16.specs.Laws.{Back, Sent, nowhere, SendLaw}

@@ -4,8 +4,8 @@ use Rattle.tb_cpu.specs.Effects.{bit}
 use Rattle.tb_kernal.specs.Machine.{first_or_zero}
 use Rattle.tb_memmap.specs.Regions.{within}
 use Rattle.tb_words.specs.Words.{word, magnitude, quotient, digits_of}
-use Rattle.tb_lower.specs.Control.{fault_text, zone, column_after, has_line}
-use Rattle.tb_lower.specs.Input.{Got, Bad, Dry, Nothing, turn}
+use Rattle.tb_meaning.specs.Control.{fault_text, zone, column_after, has_line}
+use Rattle.tb_meaning.specs.Input.{Got, Bad, Dry, Nothing, turn}
 use Rattle.tb_runtime16.specs.Places.{VARS, HELD, NOTE_LOW, NOTE_HIGH, POINTER, COLUMN, OPEN, SEEDED, SEED, LINE, NOTES, LEFT, RIGHT, TABLE, WANTED, COUNT, LENGTH, SEND_AT, MULTIPLY_AT, DIVIDE_AT, RANDOM_AT, NUMBER_AT, TEXT_AT, ZONE_AT, INPUT_AT, SEARCH_AT, PUSH_AT, POP_AT, FAULT_LINE_AT, FAULT_AT, POLL_AT}
 use Rattle.tb_reaching.specs.View.{View, Setup, Part, Holds, Fits, Comes, back_at, Bytes}
 use Rattle.tb_reaching.specs.Start.{IsHome, IsWaiting}

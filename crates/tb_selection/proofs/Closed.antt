@@ -4,10 +4,11 @@ use Rattle.std.specs.Prelude.{nat_eq}
 use Rattle.std.proofs.lemmas.Bool.{eq-eqb, cases_eq}
 use Rattle.tb_syntax.specs.Source.{Expression, Number, Variable, Binary, Item, Text, Value, Zone, Command, Let, Print, If, Goto, Gosub, Remark, Program}
 use Rattle.tb_syntax.specs.Source as source
-use Rattle.tb_lower.specs.Control.{content_at}
+use Rattle.tb_meaning.specs.Control.{content_at}
 use Rattle.tb_lower.specs.Slots.{Instr, Store, Compute, SendNumber, Input, Hold, LeaveUnless, Jump, Call, JumpTo, CallTo}
 use Rattle.tb_lower.specs.Slots as slots
-use Rattle.tb_lower.specs.Lowered.{value_code, or_constant, constant, item_code, items_code, inputs_code, newline_code, target_code, command_code, list_code, program_code}
+use Rattle.tb_lower.specs.Lowered.{value_code, or_constant, item_code, items_code, inputs_code, newline_code, target_code, command_code, list_code, program_code}
+use Rattle.tb_meaning.specs.Values.{constant}
 use Rattle.tb_selection.specs.Laws.{AreClosed}
 use Rattle.tb_selection.specs.Liveness.{live, nothing_live, written, read}
 use Rattle.tb_selection.specs.declared.liveness.Live.{Live}

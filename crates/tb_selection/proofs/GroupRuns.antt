@@ -1,9 +1,9 @@
 -- The runs of groups are runs of slot instructions, and each line's beginning is a group's beginning.
 use Rattle.std.proofs.Common.{◌≡◌, ℕ, zero, suc, ◌+◌, ◌-◌, ◌≤◌, ◌<◌, List, [], ◌∷◌, ◌++◌, refl, sym, ap, ◌∙◌, subst, append-nil, arith, ⊎_elim}
 use Rattle.std.proofs.lemmas.Bool.{cases_lt}
-use Rattle.tb_lower.specs.Steps.{Step, Goes, Stops, and_then, after_sending, Run, GoesOn, Over, joined, advance, advance_by}
+use Rattle.tb_meaning.specs.Steps.{Step, Goes, Stops, and_then, after_sending, Run, GoesOn, Over, joined, advance, advance_by}
 use Rattle.tb_lower.specs.Slots.{Instr, Put, Store, Compute, LeaveUnless, JumpTo, SlotCode, Rest, Whole, Left, SlotState, slot_step, begins, beginnings}
-use Rattle.tb_lower.proofs.Runs.{advance_sum, joined_after}
+use Rattle.tb_meaning.proofs.Runs.{advance_sum, joined_after}
 use Rattle.tb_lower.proofs.Lists.{beginnings_sum}
 use Rattle.tb_selection.specs.Groups.{Operand, Constant, Variable, InSlot, HeldBefore, HeldNow, Group, Calculate, Stepped, Convert, Move, Use, Test, TestGo, OnLeft, OnRight, Divides, Remains, Single, fetch, keep, kept, convert, use_of, slot_of, expand}
 use Rattle.tb_selection.specs.Select.{select}

@@ -1,8 +1,8 @@
 -- What a group does: the steps of its slot instructions, while they stay in the line, and behind the last one the fall
 -- into the next line.
 use Rattle.std.specs.Prelude.{ℕ, zero, suc, ◌+◌, List, [], ◌∷◌, Option, Some, None}
-use Rattle.tb_lower.specs.Steps.{Step, Goes, and_then, Run, GoesOn, Over, advance}
-use Rattle.tb_lower.specs.Control.{Place, At, Past, content_at}
+use Rattle.tb_meaning.specs.Steps.{Step, Goes, and_then, Run, GoesOn, Over, advance}
+use Rattle.tb_meaning.specs.Control.{Place, At, Past, content_at}
 use Rattle.tb_lower.specs.Slots.{Instr, SlotCode, Rest, Whole, Left, SlotState, slot_step, begins_in}
 use Rattle.tb_selection.specs.Groups.{Group, expand}
 use Rattle.tb_selection.specs.Select.{select}

@@ -1,8 +1,8 @@
 -- What is promised of groups, beside that they are the list.
 use Rattle.std.specs.Prelude.{◌≡◌, ℕ, ◌≤◌, true, List, [], ◌∷◌, Option, Some, None, take}
 use Rattle.tb_syntax.specs.Source.{Program}
-use Rattle.tb_lower.specs.Steps.{Run, advance_by}
-use Rattle.tb_lower.specs.Control.{content_at}
+use Rattle.tb_meaning.specs.Steps.{Run, advance_by}
+use Rattle.tb_meaning.specs.Control.{content_at}
 use Rattle.tb_lower.specs.Slots.{Instr, SlotCode, SlotState, slot_step, beginnings}
 use Rattle.tb_lower.specs.Lowered.{program_code}
 use Rattle.tb_selection.specs.Groups.{Group, expand_all}

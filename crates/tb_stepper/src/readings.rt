@@ -6,12 +6,12 @@ ghost use Rattle.tb_words.specs.Words.{word_of};
 ghost use Rattle.tb_words.specs.Letters.{place};
 ghost use Rattle.tb_syntax.specs.PlainData.{expression_of};
 ghost use Rattle.tb_runtime16.specs.Places.{NOTES};
-ghost use Rattle.tb_lower.specs.Evaluation.{IsEvaluation};
+ghost use Rattle.tb_meaning.specs.Evaluation.{IsEvaluation};
 ghost use Rattle.tb_stepper.specs.Readings.{variable_in, variables_in};
 
 use crate::stepper::Stepper;
 use tb_kernal::Outside;
-use tb_lower::{EvalError, eval};
+use tb_meaning::{EvalError, eval};
 use tb_memmap::Memory;
 use tb_runtime16::{NOTES, VARS};
 use tb_syntax::Expr;

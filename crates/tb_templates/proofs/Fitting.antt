@@ -15,9 +15,10 @@ use Rattle.tb_syntax.specs.declared.expressions.Operator.{Operator}
 use Rattle.tb_syntax.specs.declared.expressions.Operator.TheVariants.{Add, Subtract, Multiply, Divide}
 use Rattle.tb_syntax.specs.Source.{Expression, Number, Variable, Binary, Item, Text, Value, Zone, Command, Let, Print, If, Goto, Gosub, Remark, Program}
 use Rattle.tb_syntax.specs.Source as source
-use Rattle.tb_lower.specs.Control.{has_line}
-use Rattle.tb_lower.specs.Cost.{nodes, item_cost, command_cost, cost}
-use Rattle.tb_lower.specs.Lowered.{value_code, constant, or_constant, target_code, item_code, items_code, inputs_code, newline_code, command_code, program_code}
+use Rattle.tb_meaning.specs.Control.{has_line}
+use Rattle.tb_meaning.specs.Cost.{nodes, item_cost, command_cost, cost}
+use Rattle.tb_lower.specs.Lowered.{value_code, or_constant, target_code, item_code, items_code, inputs_code, newline_code, command_code, program_code}
+use Rattle.tb_meaning.specs.Values.{constant}
 use Rattle.tb_lower.specs.Slots.{Instr, Put, Load, Store, Negate, Compute, Random, SendText, SendNumber, SendZone, SendNewline, Input, Poll, Hold, LeaveUnless, Jump, Call, JumpTo, CallTo, Return, End}
 use Rattle.tb_selection.specs.Groups.{Conversion, Negated, Drawn, Usage, AsNumber, AsLine, AsSubroutine, Constant, Variable as OfVariable, InSlot, Operand, Divisibility, Group, Calculate, Stepped, Convert, Move, Use, Test, TestGo, OnLeft, OnRight, Divides, Remains, Single, compared, contrary, multiple, onward, Home, IntoVariable, IntoHeld, slot_of, fetch, keep, kept, held, convert, use_of, denied, expand, expand_all}
 use Rattle.tb_selection.specs.Select.{select}

@@ -15,7 +15,7 @@ use Rattle.tb_asm.specs.declared.errors.AsmErrorKind.TheVariants.{UnknownLabel}
 use Rattle.tb_asm.specs.declared.items.Operand.TheVariants.{Byte, Word}
 use Rattle.tb_asm.specs.Layout.{Entry, instr, size, size_of, address_in}
 use Rattle.tb_asm.specs.Settle.{unknown_fault}
-use Rattle.tb_lower.specs.Control.{At, has_line, next_after}
+use Rattle.tb_meaning.specs.Control.{At, has_line, next_after}
 use Rattle.tb_lower.specs.Slots.{Instr, Put, Load, Store, Negate, Compute, Random, SendText, SendNumber, SendZone, SendNewline, Input, Poll, Hold, LeaveUnless, Jump, Call, JumpTo, CallTo, Return, End, SlotCode}
 use Rattle.tb_selection.specs.Groups.{Conversion, Negated, Drawn, Usage, AsNumber, AsLine, AsSubroutine, Constant, Variable, Divisibility, Group, Calculate, Stepped, Convert, Move, Use, Test, TestGo, Divides, Remains, Single, contrary, denied, slot_of}
 use Rattle.tb_selection.specs.Select.{select}

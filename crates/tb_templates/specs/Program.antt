@@ -4,7 +4,7 @@ use Rattle.tb_opcodes.specs.declared.Mnemonic.TheVariants.{Jmp}
 use Rattle.tb_asm.specs.declared.items.Operand.TheVariants as operand
 use Rattle.tb_asm.specs.Layout.{Entry, bytes, word}
 use Rattle.tb_syntax.specs.Source.{Numbered, numbers}
-use Rattle.tb_lower.specs.Control.{highest}
+use Rattle.tb_meaning.specs.Control.{highest}
 use Rattle.tb_lower.specs.Slots.{Instr, Poll, SlotCode}
 use Rattle.tb_lower.specs.Ranges.{AreInRange}
 use Rattle.tb_selection.specs.Groups.{Group}

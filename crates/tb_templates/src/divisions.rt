@@ -1,7 +1,7 @@
 //! Tests whether a divisor divides a word, and what it leaves over.
 ghost use Rattle.std.specs.Prelude.{◌≡◌, ◌+◌, ◌<◌, OnOk, [], ◌∷◌, ◌++◌, map};
 ghost use Rattle.tb_asm.specs.Layout.{entry_of};
-ghost use Rattle.tb_lower.specs.Control.{has_line};
+ghost use Rattle.tb_meaning.specs.Control.{has_line};
 ghost use Rattle.tb_selection.specs.Groups as selection;
 ghost use Rattle.tb_selection.specs.PlainData.{divisibility_of};
 ghost use Rattle.tb_templates.specs.Templates as templates;

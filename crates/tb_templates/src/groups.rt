@@ -1,7 +1,7 @@
 //! The code of each group.
 ghost use Rattle.std.specs.Prelude.{◌≡◌, ◌+◌, ◌<◌, ◌≤◌, OnOk, [], ◌∷◌, ◌++◌, map, length};
 ghost use Rattle.tb_asm.specs.Layout.{entry_of};
-ghost use Rattle.tb_lower.specs.Control.{has_line};
+ghost use Rattle.tb_meaning.specs.Control.{has_line};
 ghost use Rattle.tb_lower.specs.Ranges.{AreInRange, IsInRange};
 ghost use Rattle.tb_lower.specs.PlainData.{instr_of};
 ghost use Rattle.tb_selection.specs.Groups as selection;

@@ -7,7 +7,7 @@ ghost use Rattle.tb_templates.specs.Labels.{label_of};
 ghost use Rattle.tb_runtime16.specs.Places as places;
 ghost use Rattle.tb_asm.specs.Layout.{entry_of};
 ghost use Rattle.tb_syntax.specs.Source.{numbers};
-ghost use Rattle.tb_lower.specs.Control.{highest};
+ghost use Rattle.tb_meaning.specs.Control.{highest};
 ghost use Rattle.tb_lower.specs.Ranges.{AreInRange};
 ghost use Rattle.tb_lower.specs.PlainData.{instr_of, slot_line_of, code_of};
 ghost use Rattle.tb_selection.specs.Select.{select};

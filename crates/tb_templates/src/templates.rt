@@ -2,7 +2,7 @@
 ghost use Rattle.std.specs.Prelude.{◌≡◌, ◌+◌, ◌<◌, ◌≤◌, OnOk, [], ◌∷◌, ◌++◌, map, length};
 ghost use Rattle.tb_asm.specs.Layout as layout;
 ghost use Rattle.tb_asm.specs.Layout.{entry_of};
-ghost use Rattle.tb_lower.specs.Control.{has_line};
+ghost use Rattle.tb_meaning.specs.Control.{has_line};
 ghost use Rattle.tb_lower.specs.Ranges.{IsInRange};
 ghost use Rattle.tb_lower.specs.PlainData.{instr_of};
 ghost use Rattle.tb_templates.specs.declared.labels.Inner.TheVariants as inner;

@@ -1,7 +1,7 @@
 //! Labels, listing and map of a compiled program.
 ghost use Rattle.std.specs.Prelude.{◌≡◌, ◌+◌, ◌-◌, ◌≤◌, length, drop, map, IfOk};
 ghost use Rattle.tb_syntax.specs.PlainData.{lines_of};
-ghost use Rattle.tb_lower.specs.Cost as cost;
+ghost use Rattle.tb_meaning.specs.Cost as cost;
 ghost use Rattle.tb_runtime16.specs.Places.{PROLOGUE_AT};
 ghost use Rattle.tb_disasm.specs.Back.{GivesBack};
 ghost use Rattle.tb_codegen.specs.Compiled.{pair_of, prg_of, starts_of, table_of};

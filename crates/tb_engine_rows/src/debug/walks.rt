@@ -6,7 +6,7 @@ use tb_codegen::{Compiled, Options, compile};
 use tb_debug::{Beside, Command, Debugger, Reached};
 use tb_engines::start_machine;
 use tb_kernal::Machine;
-use tb_lower::{Place, RunEnd, SourceRun, run_source};
+use tb_meaning::{Place, RunEnd, SourceRun, run_source};
 use tb_parser::{Letter, Program, parse};
 use tb_test_parts::keyboard_of;
 

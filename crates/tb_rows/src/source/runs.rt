@@ -1,6 +1,7 @@
 //! What programs do when they run as sources, their slot code, and the values of expressions.
 use crate::page::Page;
-use tb_lower::{SlotCode, SourceRun, eval, lower, run_source, warnings};
+use tb_lower::{SlotCode, lower};
+use tb_meaning::{SourceRun, eval, run_source, warnings};
 use tb_parser::{Program, parse, parse_expr};
 use tb_selection::select;
 

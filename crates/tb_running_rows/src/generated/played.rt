@@ -5,7 +5,7 @@ use crate::generated::trials::{AMPLE, Ran, SCANT, agrees, run_of};
 use std::alloc::{AllocError, Global};
 use std::test::Fail;
 use tb_driver::{Played, Tracked, play_compiled, read_source};
-use tb_lower::{RunEnd, SourceRun};
+use tb_meaning::{RunEnd, SourceRun};
 
 /// How many programs are played.
 const PROGRAMS: usize = 200;

@@ -1,3 +1,4 @@
+-- The goals of `digits` in src/lib.rt.
 use Rattle.std.proofs.Common.{◌≡◌, ◌∙◌, rules}
 use Rattle.std.specs.Fmt.{signed_decimal}
 use Rattle.tb_words.proofs.Bridge.{digits_are}

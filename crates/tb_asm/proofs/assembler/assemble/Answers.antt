@@ -1,3 +1,4 @@
+-- The goals of `assemble` in src/assembler.rt.
 use Rattle.std.proofs.Common.{map, sym, subst}
 use Rattle.tb_asm.specs.Layout.{entry_of, image_of}
 use Rattle.tb_asm.specs.Suited.{BytesStand, Decodes, LabelsStand}

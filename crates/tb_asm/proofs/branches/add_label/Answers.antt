@@ -1,3 +1,4 @@
+-- The goals of `add_label` in src/branches.rt.
 use Rattle.std.proofs.Common.{◌≡◌, sym, subst}
 use Rattle.std.specs.Prelude.{MatchResult}
 use Rattle.tb_asm.specs.declared.errors.AsmErrorKind.TheVariants.{NoMemory}

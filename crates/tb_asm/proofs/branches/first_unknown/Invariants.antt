@@ -1,3 +1,4 @@
+-- What holds at each turn of the loop of `first_unknown` in src/branches.rt.
 use Rattle.std.proofs.Common.{◌≡◌, [], map}
 use Rattle.tb_asm.specs.Layout.{entry_of, first_fault}
 use Rattle.tb_asm.specs.Settle.{unknown_fault}

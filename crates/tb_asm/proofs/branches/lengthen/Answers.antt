@@ -1,3 +1,4 @@
+-- The goals of `lengthen` in src/branches.rt.
 use Rattle.std.proofs.Common.{◌≡◌, ◌<◌, false, length, map, replicate, sym, ap, subst, ◌∙◌}
 use Rattle.std.proofs.lemmas.List.{length-map, length-replicate}
 use Rattle.tb_asm.specs.Layout.{entry_of}

@@ -1,3 +1,4 @@
+-- What holds at each turn of the loop of `lengthen` in src/branches.rt.
 use Rattle.std.proofs.Common.{◌≡◌, List, length, map}
 use Rattle.tb_asm.specs.Layout.{entry_of}
 use Rattle.tb_asm.specs.Settle.{Form, kept, Settles}

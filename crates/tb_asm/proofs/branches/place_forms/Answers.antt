@@ -1,3 +1,4 @@
+-- The goals of `place_forms` in src/branches.rt.
 use Rattle.std.proofs.Common.{◌≡◌, ◌+◌, ◌%◌, ◌<◌, length, drop, map, false, get_or, sym, ap, subst, ◌∙◌, arith}
 use Rattle.tb_asm.specs.Layout.{entry_of}
 use Rattle.tb_asm.specs.Settle.{round_labels}

@@ -1,3 +1,4 @@
+-- What holds at each turn of the loop of `place_forms` in src/branches.rt.
 use Rattle.std.proofs.Common.{map, drop}
 use Rattle.tb_asm.specs.Layout.{entry_of}
 use Rattle.tb_asm.specs.Settle.{round_labels}

@@ -1,3 +1,4 @@
+-- The goals of `push_long` in src/branches.rt.
 use Rattle.std.proofs.Common.{◌≡◌, ◌+◌, ◌%◌, [], ◌∷◌, subst}
 use Rattle.tb_opcodes.specs.declared.Mnemonic.TheVariants.{Jmp}
 use Rattle.tb_opcodes.specs.declared.Mode.TheVariants.{Relative, Absolute}

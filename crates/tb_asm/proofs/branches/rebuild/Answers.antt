@@ -1,3 +1,4 @@
+-- The goals of `rebuild` in src/branches.rt.
 use Rattle.std.proofs.Common.{◌≡◌, ◌+◌, ◌%◌, ◌<◌, length, drop, map, false, get_or, ap, sym, subst, ◌∙◌, arith, refl, []}
 use Rattle.tb_asm.specs.Layout.{entry_of}
 use Rattle.tb_asm.specs.Settle.{items_from}

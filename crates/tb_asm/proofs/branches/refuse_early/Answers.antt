@@ -1,3 +1,4 @@
+-- The goals of `refuse_early` in src/branches.rt.
 use Rattle.std.proofs.Common.{map}
 use Rattle.tb_asm.specs.declared.errors.AsmErrorKind.TheVariants.{UnknownLabel}
 use Rattle.tb_asm.specs.Layout.{entry_of}

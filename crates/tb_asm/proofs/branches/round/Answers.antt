@@ -1,3 +1,4 @@
+-- The goals of `round` in src/branches.rt.
 use Rattle.std.proofs.Common.{◌≡◌, ◌<◌, ◌+◌, drop, map, false, ◌||◌, ◌++◌, ◌∷◌, [], length, get_or, sym, subst, arith, rules}
 use Rattle.tb_asm.specs.Layout.{entry_of}
 use Rattle.tb_asm.specs.Marks.{marks_from, new_mark}

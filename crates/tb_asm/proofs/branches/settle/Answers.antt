@@ -1,3 +1,4 @@
+-- The goals of `settle` in src/branches.rt.
 use Rattle.std.proofs.Common.{◌∙◌, ap, map, sym}
 use Rattle.tb_asm.specs.declared.errors.AsmErrorKind.TheVariants.{RunsPast}
 use Rattle.tb_asm.specs.Layout.{entry_of}

@@ -1,3 +1,4 @@
+-- What holds at each turn of the loop of `read_bytes` in src/forms.rt.
 use Rattle.std.proofs.Common.{◌≡◌, ◌++◌, length}
 use Rattle.std.specs.Prelude.{option_map}
 use Rattle.tb_asm.specs.Text.{byte_list}

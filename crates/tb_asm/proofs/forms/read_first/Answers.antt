@@ -1,3 +1,4 @@
+-- The goals of `read_first` in src/forms.rt.
 use Rattle.std.proofs.Common.{◌≡◌, true, drop, sym, subst, ◌∙◌, if◌then◌else◌}
 use Rattle.tb_asm.specs.Text.{is_colon_first, labelled, one_item}
 use Rattle.tb_asm.specs.Reads.{Pushes}

@@ -1,3 +1,4 @@
+-- The goals of `read_labelled` in src/forms.rt.
 use Rattle.std.proofs.Common.{sym, subst, ◌∷◌}
 use Rattle.std.specs.Prelude.{option_map, option_and_then}
 use Rattle.tb_asm.specs.Layout.{label}

@@ -1,3 +1,4 @@
+-- The goals of `mnemonic` in src/mnemonics.rt.
 use Rattle.std.proofs.Common.{sym, ap, ◌∙◌}
 use Rattle.tb_asm.specs.Mnemonics.{same_text}
 use Rattle.tb_asm.proofs.Mnemonic.{mnemonic_found, mnemonic_missed}

@@ -1,3 +1,4 @@
+-- What holds at each turn of the loop of `read_digits` in src/parts.rt.
 use Rattle.std.proofs.Common.{◌≡◌, ℕ, ◌<◌, slice_index, ◌≤◌, [], length, drop}
 use Rattle.tb_asm.specs.Parts.{parts_from, in_number}
 use Rattle.tb_asm.proofs.parts.read_digits.Given as goal

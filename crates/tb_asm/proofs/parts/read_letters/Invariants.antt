@@ -1,3 +1,4 @@
+-- What holds at each turn of the loop of `read_letters` in src/parts.rt.
 use Rattle.std.proofs.Common.{◌≡◌, ◌≤◌, [], ◌∷◌, length, drop}
 use Rattle.tb_asm.specs.Parts.{parts_from, in_identifier}
 use Rattle.tb_asm.proofs.parts.read_letters.Given as goal

@@ -1,3 +1,4 @@
+-- The goals of `read_part` in src/parts.rt.
 use Rattle.std.proofs.Common.{◌≡◌, ◌∷◌, true, sym, subst, rules}
 use Rattle.tb_asm.specs.Names.{fold_byte, is_letter}
 use Rattle.tb_asm.specs.Reads.{ReadsFirst}

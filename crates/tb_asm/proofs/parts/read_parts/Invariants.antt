@@ -1,3 +1,4 @@
+-- What holds at each turn of the loop of `read_parts` in src/parts.rt.
 use Rattle.std.proofs.Common.{◌≡◌, ◌++◌, length}
 use Rattle.std.specs.Prelude.{option_map}
 use Rattle.tb_asm.specs.Parts.{parts_of}

@@ -1,3 +1,4 @@
+-- The goals of `first_line` in src/text.rt.
 use Rattle.std.proofs.Common.{sym, ap, ◌∙◌, arith}
 use Rattle.tb_asm.specs.Text.{begins_with_10}
 use Rattle.tb_asm.proofs.ReadLines.{first_init, pair_ends, line_on, not_return, not_newline}

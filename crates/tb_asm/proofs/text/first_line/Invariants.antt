@@ -1,3 +1,4 @@
+-- What holds at each turn of the loop of `first_line` in src/text.rt.
 use Rattle.std.proofs.Common.{◌≡◌, take, drop}
 use Rattle.tb_asm.specs.Text.{split_lines}
 use Rattle.tb_asm.proofs.ReadLines.{puts}

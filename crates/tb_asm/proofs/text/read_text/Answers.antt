@@ -1,3 +1,4 @@
+-- The goals of `read_text` in src/text.rt.
 use Rattle.std.proofs.Common.{◌≡◌, ◌+◌, ◌-◌, ◌<◌, ◌≤◌, [], ◌∷◌, length, map, sym, ap, subst, ◌∙◌, arith, length-drop}
 use Rattle.std.specs.Prelude.{IfSome}
 use Rattle.tb_asm.specs.Layout.{entry_of}

@@ -1,3 +1,4 @@
+-- What holds at each turn of the loop of `read_text` in src/text.rt.
 use Rattle.std.proofs.Common.{◌≡◌, ◌+◌, ◌≤◌, length, map}
 use Rattle.tb_asm.specs.Layout.{entry_of}
 use Rattle.tb_asm.specs.Text.{split_lines, text_items, items_of_text}

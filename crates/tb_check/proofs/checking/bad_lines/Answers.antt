@@ -1,3 +1,4 @@
+-- The goals of `bad_lines` in src/checking.rt.
 use Rattle.std.proofs.Common.{arith}
 use Rattle.tb_check.proofs.Checked.{first_is, no_line, past_line}
 use Rattle.tb_check.proofs.checking.bad_lines.Goals as goal

@@ -1,3 +1,4 @@
+-- What holds at each turn of the loop of `bad_lines` in src/checking.rt.
 use Rattle.std.proofs.Common.{◌+◌, ◌≤◌, length}
 use Rattle.tb_check.proofs.Checked.{FoundTo}
 use Rattle.tb_check.proofs.checking.bad_lines.Given as goal

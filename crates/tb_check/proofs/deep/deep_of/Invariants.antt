@@ -1,3 +1,4 @@
+-- What holds at each turn of the loop of `deep_of` in src/deep.rt.
 use Rattle.std.proofs.Common.{◌≡◌, ◌++◌, drop, map}
 use Rattle.tb_check.specs.Entries.{deep_of, entry_of}
 use Rattle.tb_check.proofs.deep.deep_of.Given as goal

@@ -1,3 +1,4 @@
+-- What holds at each turn of the loop of `has_number` in src/deep.rt.
 use Rattle.std.proofs.Common.{◌≡◌, drop, map}
 use Rattle.tb_check.specs.Entries.{entry_of, has_number}
 use Rattle.tb_check.proofs.deep.has_number.Given as goal

@@ -1,3 +1,4 @@
+-- What holds at each turn of the loop of `noted` in src/examination.rt.
 use Rattle.std.proofs.Common.{◌≡◌, map, take}
 use Rattle.tb_check.proofs.examination.noted.Given as goal
 

@@ -1,3 +1,4 @@
+-- What holds at each turn of the loop of `deep_lines` in src/judging.rt.
 use Rattle.std.proofs.Common.{◌≡◌, ◌++◌}
 use Rattle.tb_syntax.specs.PlainData.{lines_of}
 use Rattle.tb_check.specs.Verdicts.{deep_lines}

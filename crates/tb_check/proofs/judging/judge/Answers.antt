@@ -1,3 +1,4 @@
+-- The goals of `judge` in src/judging.rt.
 use Rattle.tb_check.proofs.Agreed.{agree_on}
 use Rattle.tb_check.proofs.judging.judge.Goals as goal
 

@@ -1,3 +1,4 @@
+-- The goals of `judge_lines` in src/judging.rt.
 use Rattle.tb_parser.specs.Files.{at_end}
 use Rattle.tb_check.proofs.Emptied.{none_left}
 use Rattle.tb_check.proofs.judging.judge_lines.Goals as goal

@@ -1,3 +1,4 @@
+-- The goals of `judge_program` in src/judging.rt.
 use Rattle.tb_syntax.specs.PlainData.{lines_of}
 use Rattle.tb_codegen.proofs.SmallPrograms.{are_small, cost_small}
 use Rattle.tb_check.proofs.judging.judge_program.Goals as goal

@@ -1,3 +1,4 @@
+-- The goals of `numbered_lines` in src/lines.rt.
 use Rattle.std.proofs.Common.{map, arith}
 use Rattle.tb_check.specs.Entries.{entry_of}
 use Rattle.tb_check.proofs.Entered.{no_line, past_line}

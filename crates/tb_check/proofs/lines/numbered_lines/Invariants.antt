@@ -1,3 +1,4 @@
+-- What holds at each turn of the loop of `numbered_lines` in src/lines.rt.
 use Rattle.std.proofs.Common.{◌+◌, ◌≤◌, length, map}
 use Rattle.tb_check.specs.Entries.{entry_of}
 use Rattle.tb_check.proofs.Entered.{EnteredTo}

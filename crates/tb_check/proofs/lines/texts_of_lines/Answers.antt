@@ -1,3 +1,4 @@
+-- The goals of `texts_of_lines` in src/lines.rt.
 use Rattle.std.proofs.Common.{◌≡◌, ℕ, List, [], ◌++◌, ap, sym, ◌∙◌, append-nil}
 use Rattle.tb_parser.specs.Lines.{lines_from, lines_of_file}
 use Rattle.tb_check.proofs.lines.texts_of_lines.Goals as goal

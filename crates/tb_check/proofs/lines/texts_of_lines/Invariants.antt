@@ -1,3 +1,4 @@
+-- What holds at each turn of the loop of `texts_of_lines` in src/lines.rt.
 use Rattle.std.proofs.Common.{◌≡◌, ◌++◌, length, map}
 use Rattle.tb_parser.specs.Lines.{lines_of_file}
 use Rattle.tb_check.proofs.lines.texts_of_lines.Given as goal

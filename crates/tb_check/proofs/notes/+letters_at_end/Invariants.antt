@@ -1,3 +1,4 @@
+-- What decreases where `letters_at_end` in src/notes.rt calls itself.
 use Rattle.std.proofs.Common.{length}
 use Rattle.tb_check.proofs.notes.+letters_at_end.Given as goal
 

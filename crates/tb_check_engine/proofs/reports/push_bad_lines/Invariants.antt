@@ -1,3 +1,4 @@
+-- What holds at each turn of the loop of `push_bad_lines` in src/reports.rt.
 use Rattle.std.proofs.Common.{◌≡◌, ◌++◌, map, take}
 use Rattle.std.specs.Prelude.{flat_map}
 use Rattle.tb_check_engine.specs.Reports.{bad_line_rows}

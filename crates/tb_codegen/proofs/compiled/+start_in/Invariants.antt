@@ -1,3 +1,4 @@
+-- What decreases where `start_in` in src/compiled.rt calls itself.
 use Rattle.std.proofs.Common.{length}
 use Rattle.tb_codegen.proofs.compiled.+start_in.Given as goal
 

@@ -1,3 +1,4 @@
+-- The goals of `compile` in src/compiler.rt.
 use Rattle.std.proofs.Common.{refl, Result, Ok, Err}
 use Rattle.std.specs.Prelude.{IfOk}
 use Rattle.tb_syntax.specs.PlainData.{lines_of}

@@ -1,3 +1,4 @@
+-- The goals of `compile_program` in src/compiler.rt.
 use Rattle.std.proofs.Common.{ap, sym, subst, ◌∙◌, arith}
 use Rattle.tb_syntax.specs.PlainData.{lines_of}
 use Rattle.tb_syntax.specs.Source.{numbers}

@@ -1,3 +1,4 @@
+-- What decreases where `items_cost` in src/costs.rt calls itself.
 use Rattle.std.proofs.Common.{length}
 use Rattle.tb_codegen.proofs.costs.+items_cost.Given as goal
 

@@ -1,6 +1,7 @@
+-- The goals of `statement_cost` in src/costs.rt.
 use Rattle.std.proofs.Common.{ℕ, ◌≡◌, ◌∙◌, map, ap, sym, arith}
 use Rattle.tb_syntax.specs.PlainData.{item_of, command_of}
-use Rattle.tb_lower.specs.Cost.{command_cost}
+use Rattle.tb_meaning.specs.Cost.{command_cost}
 use Rattle.tb_templates.specs.Sizes.{items_cost}
 use Rattle.tb_templates.proofs.Fitting.{items_pay}
 use Rattle.tb_codegen.proofs.costs.+statement_cost.Goals as goal

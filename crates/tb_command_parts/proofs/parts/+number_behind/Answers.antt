@@ -1,3 +1,4 @@
+-- The goals of `number_behind` in src/parts.rt.
 use Rattle.std.proofs.Common.{rules}
 use Rattle.tb_command_parts.proofs.Numbers.{too_large}
 use Rattle.tb_command_parts.proofs.parts.+number_behind.Goals as goal

@@ -1,3 +1,4 @@
+-- What decreases where `number_behind` in src/parts.rt calls itself.
 use Rattle.std.proofs.Common.{length}
 use Rattle.tb_command_parts.proofs.parts.+number_behind.Given as goal
 

@@ -1,3 +1,4 @@
+-- The goals of `variable` in src/parts.rt.
 use Rattle.tb_command_parts.proofs.Names.{named_by}
 use Rattle.tb_command_parts.proofs.parts.variable.Goals as goal
 

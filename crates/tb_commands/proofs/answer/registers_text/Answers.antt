@@ -1,3 +1,4 @@
+-- The goals of `registers_text` in src/answer.rt.
 use Rattle.std.proofs.Common.{rules, ◌≡◌, ◌++◌, ◌∷◌, [], ◌/◌, ◌%◌, ap, ◌∙◌}
 use Rattle.std.specs.Prelude.{codes}
 use Rattle.hex.specs.Hex.{encode_upper}

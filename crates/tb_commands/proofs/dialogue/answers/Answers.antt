@@ -1,3 +1,4 @@
+-- The goals of `answers` in src/dialogue.rt.
 use Rattle.std.proofs.Common.{◌≡◌, ◌++◌, ◌∷◌, [], rules}
 use Rattle.std.specs.Prelude.{Some, None}
 use Rattle.tb_commands.specs.Commands.{asked_in}

@@ -1,3 +1,4 @@
+-- What holds at each turn of the loop of `answers` in src/dialogue.rt.
 use Rattle.std.proofs.Common.{length}
 use Rattle.tb_commands.specs.Lines.{lines_of}
 use Rattle.tb_commands.proofs.Talking.{Told}

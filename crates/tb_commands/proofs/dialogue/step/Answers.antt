@@ -1,3 +1,4 @@
+-- The goals of `step` in src/dialogue.rt.
 use Rattle.tb_kernal.specs.Machine.{state_of, status, is_stopped}
 use Rattle.tb_stepper.proofs.Walking.{status_by}
 use Rattle.tb_commands.proofs.dialogue.step.Goals as goal

@@ -1,3 +1,4 @@
+-- The goals of `value` in src/dialogue.rt.
 use Rattle.std.specs.Prelude.{Ok}
 use Rattle.tb_syntax.specs.PlainData.{expression_of}
 use Rattle.tb_commands.proofs.Refusing.{refused_text}

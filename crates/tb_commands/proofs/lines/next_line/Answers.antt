@@ -1,3 +1,4 @@
+-- The goals of `next_line` in src/lines.rt.
 use Rattle.std.proofs.Common.{arith, sym}
 use Rattle.std.proofs.lemmas.List.{length-take, length-drop}
 use Rattle.tb_commands.proofs.LineLemmas.{first_line_and_rest, only_line}

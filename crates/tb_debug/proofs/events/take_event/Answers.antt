@@ -1,3 +1,4 @@
+-- The goals of `take_event` in src/events.rt.
 use Rattle.std.proofs.Common.{ap, ◌∙◌}
 use Rattle.tb_kernal.specs.Machine.{happens}
 use Rattle.tb_kernal.proofs.Giving.{same_state}

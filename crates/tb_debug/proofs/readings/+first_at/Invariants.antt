@@ -1,3 +1,4 @@
+-- What decreases where `first_at` in src/readings.rt calls itself.
 use Rattle.std.proofs.Common.{length}
 use Rattle.tb_debug.proofs.readings.+first_at.Given as goal
 

@@ -1,3 +1,4 @@
+-- What decreases where `push_code` in src/readings.rt calls itself.
 use Rattle.tb_debug.proofs.readings.+push_code.Given as goal
 
 abbrev pub decreases-push_code : goal.decreases-push_code

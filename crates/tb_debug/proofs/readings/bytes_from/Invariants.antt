@@ -1,3 +1,4 @@
+-- What holds at each turn of the loop of `bytes_from` in src/readings.rt.
 use Rattle.std.proofs.Common.{◌≡◌}
 use Rattle.tb_memmap.specs.Bytes.{at}
 use Rattle.tb_debug.specs.Readings.{bytes_from}

@@ -1,3 +1,4 @@
+-- The goals of `returns` in src/readings.rt.
 use Rattle.std.proofs.Common.{ap, ◌∙◌}
 use Rattle.tb_memmap.specs.Bytes.{at}
 use Rattle.tb_codegen.specs.Compiled.{starts_of}

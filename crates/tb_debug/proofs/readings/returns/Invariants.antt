@@ -1,3 +1,4 @@
+-- What holds at each turn of the loop of `returns` in src/readings.rt.
 use Rattle.std.proofs.Common.{◌≡◌, ◌-◌, ◌++◌}
 use Rattle.tb_memmap.specs.Bytes.{at}
 use Rattle.tb_codegen.specs.Compiled.{starts_of}

@@ -1,3 +1,4 @@
+-- What holds at each turn of the loop of `variables` in src/readings.rt.
 use Rattle.std.proofs.Common.{◌≡◌, ℕ, ◌<◌, length, get_or}
 use Rattle.std.specs.Prelude.{pos}
 use Rattle.tb_memmap.specs.Bytes.{at}

@@ -1,3 +1,4 @@
+-- What holds at each turn of the loop of `capitals` in src/respond.rt.
 use Rattle.std.proofs.Common.{◌≡◌, take}
 use Rattle.std.specs.Prelude.{map}
 use Rattle.std.specs.Char.{to_ascii_uppercase}

@@ -1,3 +1,4 @@
+-- The goals of `marks` in src/starts.rt.
 use Rattle.std.proofs.Common.{rules, ◌||◌, false, map, slice_index_or, ap, ◌∙◌}
 use Rattle.std.proofs.Math.Bool.{or-false}
 use Rattle.tb_codegen.specs.Compiled.{pair_of}

@@ -1,3 +1,4 @@
+-- The goals of `no_marks` in src/starts.rt.
 use Rattle.tb_debug.proofs.starts.no_marks.Goals as goal
 
 pub returns-in-Ok : goal.returns-in-Ok

@@ -1,3 +1,4 @@
+-- The goals of `answer_lines` in src/dialogue.rt.
 use Rattle.std.proofs.Common.{rules, [], ◌∷◌, ◌++◌, ◌+◌, ◌≡◌, inr, length, refl, arith, ◌∙◌}
 use Rattle.std.proofs.KnownBytes.{Appends-nil}
 use Rattle.std.proofs.lemmas.List.{length-append}

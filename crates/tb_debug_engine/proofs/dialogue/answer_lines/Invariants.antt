@@ -1,3 +1,4 @@
+-- What holds at each turn of the loop of `answer_lines` in src/dialogue.rt.
 use Rattle.std.proofs.Common.{◌≡◌, ℕ, List, length}
 use Rattle.tb_debug_engine.specs.Dialogue.{IsBehind}
 use Rattle.tb_debug_engine.proofs.dialogue.answer_lines.Given as goal

@@ -1,3 +1,4 @@
+-- The goals of `debug` in src/dialogue.rt.
 use Rattle.std.proofs.Common.{inl, inr, refl, subst}
 use Rattle.tb_streams.specs.Failures.{failures_of}
 use Rattle.tb_debug_engine.specs.Dialogue.{Talks}

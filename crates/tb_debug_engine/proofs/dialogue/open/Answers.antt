@@ -1,3 +1,4 @@
+-- The goals of `open` in src/dialogue.rt.
 use Rattle.tb_debug_engine.proofs.Opening.{first_told, opened}
 use Rattle.tb_debug_engine.proofs.dialogue.open.Goals as goal
 

@@ -1,3 +1,4 @@
+-- What decreases where `index_from` in src/lists.rt calls itself.
 use Rattle.std.proofs.Common.{length}
 use Rattle.tb_debug_engine.proofs.lists.+index_from.Given as goal
 

@@ -1,3 +1,4 @@
+-- What holds at each turn of the loop of `push_list` in src/lists.rt.
 use Rattle.std.proofs.Common.{◌≡◌, ◌++◌, take}
 use Rattle.std.specs.Prelude.{flat_map, map}
 use Rattle.tb_written.specs.Lines.{pair_of}

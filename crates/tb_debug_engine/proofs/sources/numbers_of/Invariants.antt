@@ -1,3 +1,4 @@
+-- What holds at each turn of the loop of `numbers_of` in src/sources.rt.
 use Rattle.std.proofs.Common.{◌≡◌, take}
 use Rattle.std.specs.Prelude.{map}
 use Rattle.tb_codegen.specs.Compiled.{pair_of}

@@ -1,3 +1,4 @@
+-- What decreases where `push_bytes` in src/texts.rt calls itself.
 use Rattle.std.proofs.Common.{length}
 use Rattle.tb_debug_engine.proofs.texts.+push_bytes.Given as goal
 

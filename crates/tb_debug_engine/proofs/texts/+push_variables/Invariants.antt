@@ -1,3 +1,4 @@
+-- What decreases where `push_variables` in src/texts.rt calls itself.
 use Rattle.std.proofs.Common.{length}
 use Rattle.tb_debug_engine.proofs.texts.+push_variables.Given as goal
 

@@ -1,3 +1,4 @@
+-- What holds at each turn of the loop of `push_barred` in src/texts.rt.
 use Rattle.std.proofs.Common.{◌≡◌, ◌++◌, true, drop}
 use Rattle.tb_debug_engine.specs.Texts.{barred_from}
 use Rattle.tb_debug_engine.proofs.texts.push_barred.Given as goal

@@ -1,3 +1,4 @@
+-- The goals of `push_variable` in src/texts.rt.
 use Rattle.std.proofs.Common.{rules}
 use Rattle.std.specs.Int.{w16}
 use Rattle.std.proofs.Math.Facts.{to_z-of_z}

@@ -1,3 +1,4 @@
+-- The goals of `push_file` in src/blocks.rt.
 use Rattle.tb_disk.proofs.Laying.{laid_step, laid_end}
 use Rattle.tb_disk.proofs.blocks.push_file.Goals as goal
 

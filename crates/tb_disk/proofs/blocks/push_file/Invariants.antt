@@ -1,3 +1,4 @@
+-- What holds at each turn of the loop of `push_file` in src/blocks.rt.
 use Rattle.std.proofs.Common.{length}
 use Rattle.tb_disk.proofs.Laying.{LaidTo}
 use Rattle.tb_disk.proofs.blocks.push_file.Given as goal

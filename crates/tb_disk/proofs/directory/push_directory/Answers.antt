@@ -1,3 +1,4 @@
+-- The goals of `push_directory` in src/directory.rt.
 use Rattle.std.proofs.Common.{ℕ, ◌++◌, ◌-◌, length, ap, ◌∙◌, append_assoc}
 use Rattle.std.specs.Prelude.{flat_map}
 use Rattle.std.specs.List.{range_with_len, concat}

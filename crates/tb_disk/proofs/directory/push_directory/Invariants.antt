@@ -1,3 +1,4 @@
+-- What holds at each turn of the loops of `push_directory` in src/directory.rt.
 use Rattle.std.proofs.Common.{◌≡◌, ◌-◌, ◌++◌, length, flat_map}
 use Rattle.std.specs.List.{range_with_len}
 use Rattle.tb_disk.specs.Layout.{no_entry}

@@ -1,3 +1,4 @@
+-- The goals of `push_entry` in src/directory.rt.
 use Rattle.std.proofs.Common.{arith}
 use Rattle.tb_disk.proofs.directory.push_entry.Goals as goal
 

@@ -1,3 +1,4 @@
+-- The goals of `push_head` in src/head.rt.
 use Rattle.std.proofs.Common.{[], ◌∷◌, ◌++◌, refl, ap, ◌∙◌, append_assoc}
 use Rattle.std.proofs.lemmas.Slice.{pushed}
 use Rattle.tb_disk.specs.Layout.{free_map, title, head_block}

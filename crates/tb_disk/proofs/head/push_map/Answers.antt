@@ -1,3 +1,4 @@
+-- The goals of `push_map` in src/head.rt.
 use Rattle.tb_disk.specs.Layout.{track_map}
 use Rattle.tb_disk.proofs.Listing.{range_more, range_all}
 use Rattle.tb_disk.proofs.head.push_map.Goals as goal

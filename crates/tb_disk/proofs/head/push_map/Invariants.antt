@@ -1,3 +1,4 @@
+-- What holds at each turn of the loop of `push_map` in src/head.rt.
 use Rattle.std.proofs.Common.{◌≡◌, ◌-◌, ◌++◌, flat_map}
 use Rattle.std.specs.List.{range_with_len}
 use Rattle.tb_disk.specs.Layout.{track_map}

@@ -1,3 +1,4 @@
+-- The goals of `blocks_in` in src/image.rt.
 use Rattle.std.proofs.Common.{arith}
 use Rattle.tb_disk.proofs.Listing.{summed_more, summed_past}
 use Rattle.tb_disk.proofs.image.blocks_in.Goals as goal

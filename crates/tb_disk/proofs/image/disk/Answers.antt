@@ -1,3 +1,4 @@
+-- The goals of `disk` in src/image.rt.
 use Rattle.std.proofs.Common.{◌≡◌, take, drop, refl, ap, ◌∙◌, arith}
 use Rattle.std.proofs.lemmas.Slice.{pushed}
 use Rattle.tb_disk.specs.Layout.{image_of}

@@ -1,3 +1,4 @@
+-- The goals of `file_blocks` in src/image.rt.
 use Rattle.std.proofs.Common.{◌≡◌, ◌++◌, ◌-◌, ◌*◌, length, ap, ◌∙◌, arith}
 use Rattle.std.specs.Prelude.{replicate, sum_by}
 use Rattle.tb_disk.specs.Images.{blocks_of}

@@ -1,3 +1,4 @@
+-- What holds at each turn of the loop of `file_blocks` in src/image.rt.
 use Rattle.tb_disk.proofs.Listing.{AreLaid}
 use Rattle.tb_disk.proofs.image.file_blocks.Given as goal
 

@@ -1,3 +1,4 @@
+-- The goals of `disk_name` in src/names.rt.
 use Rattle.std.proofs.Common.{◌∷◌, [], take, ap, ◌∙◌, rules}
 use Rattle.tb_disk_engine.specs.Names.{without}
 use Rattle.tb_disk_engine.proofs.Naming.{named, unnamed}

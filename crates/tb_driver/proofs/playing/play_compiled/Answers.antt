@@ -1,3 +1,4 @@
+-- The goals of `play_compiled` in src/playing.rt.
 use Rattle.tb_driver.proofs.Shown.{shows_source}
 use Rattle.tb_driver.proofs.playing.play_compiled.Goals as goal
 

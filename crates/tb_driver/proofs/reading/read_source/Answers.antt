@@ -1,3 +1,4 @@
+-- The goals of `read_source` in src/reading.rt.
 use Rattle.tb_driver.proofs.ReadSources.{program_read}
 use Rattle.tb_driver.proofs.reading.read_source.Goals as goal
 

@@ -1,3 +1,4 @@
+-- The goals of `are_bytes` in src/sources.rt.
 use Rattle.tb_driver.proofs.Output.{all_bytes}
 use Rattle.tb_driver.proofs.sources.are_bytes.Goals as goal
 

@@ -1,3 +1,4 @@
+-- The goals of `build` in src/sources.rt.
 use Rattle.std.proofs.Common.{◌∙◌}
 use Rattle.tb_driver.specs.Sources.{IsFile}
 use Rattle.tb_driver.proofs.ReadSources.{nothing_made, program_made}

@@ -1,3 +1,4 @@
+-- The goals of `run_compiled` in src/sources.rt.
 use Rattle.std.proofs.Common.{subst}
 use Rattle.tb_runtime16.specs.Laws.{AllBytes}
 use Rattle.tb_driver.proofs.Output.{all_bytes, made_of_source}

@@ -1,3 +1,4 @@
+-- The goals of `run_text` in src/sources.rt.
 use Rattle.std.proofs.Common.{◌∙◌}
 use Rattle.tb_codegen.specs.Compiled.{prg_of}
 use Rattle.tb_engines.specs.Programs.{RunsPrg}

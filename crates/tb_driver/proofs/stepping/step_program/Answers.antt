@@ -1,3 +1,4 @@
+-- The goals of `step_program` in src/stepping.rt.
 use Rattle.std.proofs.Common.{sym, ap, ◌∙◌}
 use Rattle.tb_prg.specs.Prg.{content_of}
 use Rattle.tb_driver.proofs.Stepped.{stepped}

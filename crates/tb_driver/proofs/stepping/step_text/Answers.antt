@@ -1,3 +1,4 @@
+-- The goals of `step_text` in src/stepping.rt.
 use Rattle.std.proofs.Common.{rules, ◌≡◌}
 use Rattle.tb_codegen.specs.Compiled.{warnings_of}
 use Rattle.tb_driver.specs.Stepping.{StepsThrough, MadeFromTaken}

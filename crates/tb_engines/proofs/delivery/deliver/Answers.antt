@@ -1,3 +1,4 @@
+-- The goals of `deliver` in src/delivery.rt.
 use Rattle.std.proofs.Common.{rules, refl}
 use Rattle.tb_engines.proofs.delivery.deliver.Goals as goal
 

@@ -1,3 +1,4 @@
+-- The goals of `start_machine` in src/loading.rt.
 use Rattle.std.proofs.Common.{◌∙◌}
 use Rattle.tb_engines.proofs.Start.{never_refused, entered_is_start}
 use Rattle.tb_engines.proofs.loading.start_machine.Goals as goal

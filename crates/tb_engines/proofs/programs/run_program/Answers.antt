@@ -1,3 +1,4 @@
+-- The goals of `run_program` in src/programs.rt.
 use Rattle.std.proofs.Common.{rules}
 use Rattle.tb_engines.proofs.Start.{runs_at}
 use Rattle.tb_engines.proofs.programs.run_program.Goals as goal

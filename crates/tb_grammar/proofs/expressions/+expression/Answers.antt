@@ -1,3 +1,4 @@
+-- The goals of `expression`, `whole`, `sum`, `signed`, `term`, `factor` and `group` in src/expressions.rt.
 use Rattle.tb_grammar.specs.Grammar.{Whole, Term, Factor}
 use Rattle.tb_grammar.specs.Reading.{factor_at, term_at}
 use Rattle.tb_grammar.specs.ReadValues.{seen}

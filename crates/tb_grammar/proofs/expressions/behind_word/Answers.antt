@@ -1,3 +1,4 @@
+-- The goals of `behind_word` in src/expressions.rt.
 use Rattle.tb_grammar.proofs.Prefix.{stripped}
 use Rattle.tb_grammar.proofs.expressions.behind_word.Goals as goal
 

@@ -1,3 +1,4 @@
+-- The goals of `literal` in src/expressions.rt.
 use Rattle.std.proofs.Common.{length, arith, None, Some}
 use Rattle.tb_grammar.proofs.Literal.{is_literal, word_small, none_large, word_big, some_large}
 use Rattle.tb_grammar.proofs.expressions.literal.Goals as goal

@@ -1,3 +1,4 @@
+-- What holds at each turn of the loop of `literal` in src/expressions.rt.
 use Rattle.std.proofs.Common.{◌≡◌, ℕ, length}
 use Rattle.tb_grammar.specs.Reading.{digits_at}
 use Rattle.tb_grammar.proofs.Literal.{capped}

@@ -1,3 +1,4 @@
+-- The goals of `read_expression` in src/expressions.rt.
 use Rattle.tb_grammar.proofs.ExpressionLaws.{is_found, is_only}
 use Rattle.tb_grammar.proofs.expressions.read_expression.Goals as goal
 

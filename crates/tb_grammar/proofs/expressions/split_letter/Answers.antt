@@ -1,3 +1,4 @@
+-- The goals of `split_letter` in src/expressions.rt.
 use Rattle.std.proofs.Common.{◌-◌, ◌<◌, ℕ, arith, inl}
 use Rattle.tb_words.specs.Letters.{Spells}
 use Rattle.tb_grammar.specs.Grammar.{IsLetter}

@@ -1,3 +1,4 @@
+-- The goals of `input` in src/items.rt.
 use Rattle.std.proofs.Common.{sym, ◌∙◌}
 use Rattle.tb_words.specs.Letters.{place}
 use Rattle.tb_syntax.specs.PlainData.{letters_of}

@@ -1,3 +1,4 @@
+-- What holds at each turn of the loop of `input` in src/items.rt.
 use Rattle.std.proofs.Common.{◌≡◌, ℕ, ◌≤◌, length}
 use Rattle.tb_syntax.specs.PlainData.{letters_of}
 use Rattle.tb_grammar.specs.StatementReading.{letters_at}

@@ -1,3 +1,4 @@
+-- The goals of `print` in src/items.rt.
 use Rattle.std.proofs.Common.{[], ◌∷◌, ◌++◌, refl, ap, sym, ◌∙◌, map}
 use Rattle.std.proofs.lemmas.List.{append-nil}
 use Rattle.tb_syntax.specs.PlainData.{item_of}

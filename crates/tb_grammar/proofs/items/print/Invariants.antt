@@ -1,3 +1,4 @@
+-- What holds at each turn of the loop of `print` in src/items.rt.
 use Rattle.std.proofs.Common.{◌≡◌, ℕ, ◌≤◌, length, map, true}
 use Rattle.tb_syntax.specs.PlainData.{item_of}
 use Rattle.tb_grammar.specs.StatementReading.{items_at}

@@ -1,3 +1,4 @@
+-- What holds at each turn of the loop of `quotation` in src/items.rt.
 use Rattle.std.proofs.Common.{◌≡◌, length}
 use Rattle.tb_grammar.specs.StatementReading.{text_item_at}
 use Rattle.tb_grammar.proofs.ListLoops.{text_behind}

@@ -1,3 +1,4 @@
+-- The goals of `read_statement` in src/statements.rt.
 use Rattle.tb_grammar.proofs.StatementLaws.{is_found, is_only}
 use Rattle.tb_grammar.proofs.statements.read_statement.Goals as goal
 

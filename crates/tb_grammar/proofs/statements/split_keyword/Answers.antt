@@ -1,3 +1,4 @@
+-- The goals of `split_keyword` in src/statements.rt.
 use Rattle.std.proofs.Common.{◌≡◌, ◌+◌, ◌<◌, ℕ, suc, List, ◌∷◌, length, drop, get_or, Option, None, refl, sym, ap, ◌∙◌, arith}
 use Rattle.std.proofs.Math.Seq.{drop-cons}
 use Rattle.tb_grammar.specs.declared.statements.Keyword.{Keyword}

@@ -1,3 +1,4 @@
+-- What holds at each turn of the loop of `split_keyword` in src/statements.rt.
 use Rattle.std.proofs.Common.{◌≡◌, drop}
 use Rattle.tb_grammar.specs.StatementReading.{first_word, keyword_at}
 use Rattle.tb_grammar.proofs.statements.split_keyword.Given as goal

@@ -1,3 +1,4 @@
+-- The goals of `keeps` in src/promises.rt.
 use Rattle.std.proofs.Common.{arith}
 use Rattle.tb_syntax.specs.Source.{numbers}
 use Rattle.tb_reaching.specs.View.{part_at}

@@ -1,3 +1,4 @@
+-- The goals of `keeping_file` in src/image.rt.
 use Rattle.std.proofs.Common.{ℕ, ◌≡◌, ◌≤◌, arith, ap, map, subst, ◌∙◌}
 use Rattle.tb_syntax.specs.PlainData.{lines_of}
 use Rattle.tb_syntax.specs.Source.{Program, numbers}
@@ -6,7 +7,7 @@ use Rattle.tb_asm.specs.Layout.{entry_of}
 use Rattle.tb_runtime16.specs.Places.{PROLOGUE_AT}
 use Rattle.tb_settling.specs.Settled.{IsLaid}
 use Rattle.tb_templates.specs.Program.{program_code}
-use Rattle.tb_lower.specs.Cost.{cost}
+use Rattle.tb_meaning.specs.Cost.{cost}
 use Rattle.tb_lower.specs.Lowered as lowered
 use Rattle.tb_lower.specs.Ranges.{IsCodeInRange}
 use Rattle.tb_lower.specs.PlainData.{code_of}

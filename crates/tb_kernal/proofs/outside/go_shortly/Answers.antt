@@ -1,3 +1,4 @@
+-- The goals of `go_shortly` in src/outside.rt.
 use Rattle.std.proofs.Common.{rules, ◌≡◌, true}
 use Rattle.tb_kernal.proofs.Shortly.{given}
 use Rattle.tb_kernal.proofs.outside.go_shortly.Goals as goal

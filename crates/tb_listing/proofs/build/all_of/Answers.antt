@@ -1,3 +1,4 @@
+-- The goals of `all_of` in src/build.rt.
 use Rattle.std.proofs.Common.{◌∙◌}
 use Rattle.tb_listing.specs.Labels.{places, labels_text}
 use Rattle.tb_listing.proofs.build.all_of.Goals as goal

@@ -1,3 +1,4 @@
+-- The goals of `make` in src/build.rt.
 use Rattle.std.proofs.Common.{Ok}
 use Rattle.tb_syntax.specs.PlainData.{lines_of}
 use Rattle.tb_codegen.specs.Compiled.{IsCompiled, starts_of, table_of}

@@ -1,3 +1,4 @@
+-- The goals of `labels` in src/label_file.rt.
 use Rattle.std.proofs.Common.{[], ◌++◌, ◌∷◌, map, ap, sym, ◌∙◌}
 use Rattle.std.specs.Prelude.{codes}
 use Rattle.std.proofs.lemmas.Grind.{flat_map-append}

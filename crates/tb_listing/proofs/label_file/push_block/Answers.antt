@@ -1,3 +1,4 @@
+-- The goals of `push_block` in src/label_file.rt.
 use Rattle.std.proofs.Common.{◌++◌, map}
 use Rattle.std.specs.Prelude.{codes}
 use Rattle.tb_runtime16.specs.Places.{PROLOGUE_AT, SEND_AT}

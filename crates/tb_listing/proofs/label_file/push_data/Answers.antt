@@ -1,3 +1,4 @@
+-- The goals of `push_data` in src/label_file.rt.
 use Rattle.std.proofs.Common.{[], ◌++◌, map, ap, sym, ◌∙◌}
 use Rattle.std.specs.Prelude.{codes}
 use Rattle.std.specs.List.{range_with_len}

@@ -1,3 +1,4 @@
+-- The goals of `push_lines` in src/label_file.rt.
 use Rattle.std.proofs.Common.{map, refl}
 use Rattle.tb_codegen.specs.Compiled.{pair_of}
 use Rattle.tb_listing.specs.Labels.{line_place, label_text, labels_text}

@@ -1,3 +1,4 @@
+-- What holds at each turn of the loop of `push_lines` in src/label_file.rt.
 use Rattle.std.proofs.Common.{◌≡◌, ◌++◌, drop, map}
 use Rattle.tb_codegen.specs.Compiled.{pair_of}
 use Rattle.tb_listing.specs.Labels.{line_place, labels_text}

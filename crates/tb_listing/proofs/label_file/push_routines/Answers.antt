@@ -1,3 +1,4 @@
+-- The goals of `push_routines` in src/label_file.rt.
 use Rattle.std.proofs.Common.{◌∙◌, ◌++◌, map, refl}
 use Rattle.tb_listing.specs.Labels.{label_text, labels_text, routine_place, all_routines}
 use Rattle.tb_listing.proofs.Appending.{more}

@@ -1,3 +1,4 @@
+-- What holds at each turn of the loop of `push_routines` in src/label_file.rt.
 use Rattle.std.proofs.Common.{◌≡◌, ◌++◌, drop, map}
 use Rattle.tb_listing.specs.Labels.{routine_place, all_routines, labels_text}
 use Rattle.tb_listing.proofs.label_file.push_routines.Given as goal

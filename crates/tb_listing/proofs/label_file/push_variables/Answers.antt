@@ -1,3 +1,4 @@
+-- The goals of `push_variables` in src/label_file.rt.
 use Rattle.std.proofs.Common.{◌≡◌, ◌-◌, ◌++◌, map, refl, sym, ap, ◌∙◌, arith, append-nil}
 use Rattle.std.specs.List.{range_with_len}
 use Rattle.tb_listing.specs.Labels.{variable_place, label_text, labels_text}

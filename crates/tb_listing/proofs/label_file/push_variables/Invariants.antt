@@ -1,3 +1,4 @@
+-- What holds at each turn of the loop of `push_variables` in src/label_file.rt.
 use Rattle.std.proofs.Common.{◌≡◌, ◌++◌, ◌-◌, map}
 use Rattle.std.specs.List.{range_with_len}
 use Rattle.tb_listing.specs.Labels.{variable_place, labels_text}

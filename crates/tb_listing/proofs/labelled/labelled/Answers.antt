@@ -1,3 +1,4 @@
+-- The goals of `labelled` in src/labelled.rt.
 use Rattle.std.proofs.Common.{◌++◌, ◌∷◌, [], map, take, ap, subst, ◌∙◌, take_all}
 use Rattle.tb_codegen.specs.Compiled.{pair_of as start_pair}
 use Rattle.tb_written.specs.Lines.{pair_of}

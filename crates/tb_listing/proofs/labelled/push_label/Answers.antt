@@ -1,3 +1,4 @@
+-- The goals of `push_label` in src/labelled.rt.
 use Rattle.std.proofs.Common.{◌≡◌, ◌∷◌, [], false, ap, ◌∙◌}
 use Rattle.tb_listing.specs.Comments.{is_comment}
 use Rattle.tb_listing.proofs.Commented.{label_plain, row_keeps}

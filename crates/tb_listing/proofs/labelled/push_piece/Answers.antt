@@ -1,3 +1,4 @@
+-- The goals of `push_piece` in src/labelled.rt.
 use Rattle.std.proofs.Common.{◌∷◌, [], refl}
 use Rattle.tb_listing.proofs.Commented.{row_keeps}
 use Rattle.tb_listing.proofs.labelled.push_piece.Goals as goal

@@ -1,3 +1,4 @@
+-- What holds at each turn of the loop of `push_pieces` in src/labelled.rt.
 use Rattle.tb_listing.specs.Comments.{KeepsComments}
 use Rattle.tb_listing.proofs.labelled.push_pieces.Given as goal
 

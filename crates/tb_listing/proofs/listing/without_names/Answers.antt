@@ -1,3 +1,4 @@
+-- The goals of `without_names` in src/listing.rt.
 use Rattle.std.proofs.Common.{map}
 use Rattle.tb_runtime16.specs.Places.{PROLOGUE_AT}
 use Rattle.tb_disasm.specs.Lines.{shown}

@@ -1,3 +1,4 @@
+-- The goals of `chart` in src/map.rt.
 use Rattle.std.proofs.Common.{◌≡◌, [], ◌∷◌, ◌++◌, ◌+◌, ◌-◌, length, ap, ◌∙◌}
 use Rattle.std.specs.Prelude.{codes}
 use Rattle.tb_syntax.specs.PlainData.{lines_of}

@@ -1,6 +1,7 @@
+-- What holds at each turn of the loop of `push_lines` in src/map.rt.
 use Rattle.std.proofs.Common.{◌≡◌, ◌+◌, ◌++◌, map, sum_by}
 use Rattle.tb_syntax.specs.PlainData.{lines_of}
-use Rattle.tb_lower.specs.Cost.{command_cost, cost}
+use Rattle.tb_meaning.specs.Cost.{command_cost, cost}
 use Rattle.tb_codegen.specs.Compiled.{pair_of}
 use Rattle.tb_listing.specs.Map.{line_parts, rows_text}
 use Rattle.tb_listing.proofs.map.push_lines.Given as goal

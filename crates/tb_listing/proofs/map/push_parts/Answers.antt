@@ -1,3 +1,4 @@
+-- The goals of `push_parts` in src/map.rt.
 use Rattle.std.proofs.Common.{◌≡◌, ◌++◌, ap, ◌∙◌}
 use Rattle.std.specs.Prelude.{codes}
 use Rattle.tb_syntax.specs.PlainData.{lines_of}

@@ -1,3 +1,4 @@
+-- The goals of `lower` in src/lowering.rt.
 use Rattle.std.proofs.Common.{◌≡◌, ap, ◌∙◌}
 use Rattle.tb_syntax.specs.PlainData.{lines_of}
 use Rattle.tb_lower.specs.Lowered.{program_code}

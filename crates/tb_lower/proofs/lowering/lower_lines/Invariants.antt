@@ -1,3 +1,4 @@
+-- What holds at each turn of the loop of `lower_lines` in src/lowering.rt.
 use Rattle.std.proofs.Common.{◌≡◌, ◌++◌, map}
 use Rattle.tb_syntax.specs.PlainData.{lines_of}
 use Rattle.tb_lower.specs.Need.{too_deep}

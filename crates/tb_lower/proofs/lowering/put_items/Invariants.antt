@@ -1,3 +1,4 @@
+-- What holds at each turn of the loop of `put_items` in src/lowering.rt.
 use Rattle.std.proofs.Common.{◌≡◌, ◌++◌, ◌≤◌, map, drop}
 use Rattle.tb_syntax.specs.PlainData.{item_of}
 use Rattle.tb_lower.specs.Lowered.{items_code}

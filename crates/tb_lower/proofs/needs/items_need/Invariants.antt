@@ -1,3 +1,4 @@
+-- What holds at each turn of the loop of `items_need` in src/needs.rt.
 use Rattle.std.proofs.Common.{◌≡◌, map, max, min, drop}
 use Rattle.tb_syntax.specs.PlainData.{item_of}
 use Rattle.tb_lower.specs.Need.{items_need}

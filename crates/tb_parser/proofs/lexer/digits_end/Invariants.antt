@@ -1,3 +1,4 @@
+-- What holds at each turn of the loop of `digits_end` in src/lexer.rt.
 use Rattle.std.proofs.Common.{◌-◌, ◌<◌, ◌≤◌, length}
 use Rattle.tb_parser.proofs.lexer.digits_end.Given as goal
 

@@ -1,3 +1,4 @@
+-- What holds at each turn of the loop of `skip_spaces` in src/lexer.rt.
 use Rattle.std.proofs.Common.{◌-◌, ◌≤◌, length}
 use Rattle.tb_parser.specs.Tokens.{AreSpaces}
 use Rattle.tb_parser.proofs.lexer.skip_spaces.Given as goal

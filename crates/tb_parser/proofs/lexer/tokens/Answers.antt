@@ -1,3 +1,4 @@
+-- The goals of `tokens` in src/lexer.rt.
 use Rattle.std.proofs.Common.{[]}
 use Rattle.std.proofs.lemmas.List.{append-nil}
 use Rattle.tb_parser.proofs.lexer.tokens.Goals as goal

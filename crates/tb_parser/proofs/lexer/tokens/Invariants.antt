@@ -1,3 +1,4 @@
+-- What holds at each turn of the loop of `tokens` in src/lexer.rt.
 use Rattle.std.proofs.Common.{◌-◌, ◌≤◌, ◌++◌, List, length}
 use Rattle.tb_parser.specs.declared.lexer.Token.{Token}
 use Rattle.tb_parser.specs.Tokens.{AreTokens}

@@ -1,3 +1,4 @@
+-- The goals of `next_line` in src/lines.rt.
 use Rattle.std.proofs.Common.{arith, sym, ◌∙◌, length-drop}
 use Rattle.tb_parser.proofs.FirstLine.{first_line, only_line}
 use Rattle.tb_parser.proofs.Steps.{rest_of}

@@ -1,3 +1,4 @@
+-- What holds at each turn of the loop of `next_line` in src/lines.rt.
 use Rattle.std.proofs.Common.{◌≢◌, ℕ, ◌<◌, get_or}
 use Rattle.tb_parser.proofs.lines.next_line.Given as goal
 

@@ -1,3 +1,4 @@
+-- The goals of `parse` in src/parser.rt.
 use Rattle.std.proofs.Common.{◌≡◌, ℕ, List, [], Ok, Err, refl, arith, subst}
 use Rattle.tb_syntax.specs.declared.statements.Statement.{Statement}
 use Rattle.tb_syntax.specs.PlainData.{lines_of}

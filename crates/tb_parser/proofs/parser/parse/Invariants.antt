@@ -1,3 +1,4 @@
+-- What holds at each turn of the loop of `parse` in src/parser.rt.
 use Rattle.std.proofs.Common.{[], ◌+◌, ◌≤◌, length}
 use Rattle.tb_syntax.specs.PlainData.{lines_of}
 use Rattle.tb_parser.specs.Files.{LinesAre, Outcome}

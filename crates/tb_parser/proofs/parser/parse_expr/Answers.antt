@@ -1,3 +1,4 @@
+-- The goals of `parse_expr` in src/parser.rt.
 use Rattle.std.proofs.Common.{◌≡◌, ℕ, List, Result, Ok, Err, ap, refl, sym, subst, ◌∙◌}
 use Rattle.tb_syntax.specs.Source.{Expression}
 use Rattle.tb_syntax.specs.PlainData.{expression_of}

@@ -1,3 +1,4 @@
+-- The goals of `read_command` in src/parser.rt.
 use Rattle.std.proofs.Common.{◌≡◌, ◌∙◌}
 use Rattle.tb_syntax.specs.PlainData.{command_of}
 use Rattle.tb_grammar.specs.Statements.{States}

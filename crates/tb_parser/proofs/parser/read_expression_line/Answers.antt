@@ -1,3 +1,4 @@
+-- The goals of `read_expression_line` in src/parser.rt.
 use Rattle.std.proofs.Common.{◌≡◌, ◌∙◌, ℕ, List, Result, Ok, Err, IfSome}
 use Rattle.std.proofs.lemmas.Result.{err_from_is_err_and}
 use Rattle.tb_syntax.specs.declared.expressions.Expr.{Expr}

@@ -1,3 +1,4 @@
+-- The goals of `read_value` in src/parser.rt.
 use Rattle.std.proofs.Common.{◌≡◌, ◌∙◌}
 use Rattle.tb_syntax.specs.PlainData.{expression_of}
 use Rattle.tb_parser.specs.Readings.{Expresses}

@@ -1,3 +1,4 @@
+-- The goals of `bad_byte` in src/scans.rt.
 use Rattle.std.proofs.Common.{◌+◌, ◌∙◌, arith, sym}
 use Rattle.tb_parser.proofs.Steps.{bad_later, bad_here, bad_nowhere}
 use Rattle.tb_parser.proofs.scans.bad_byte.Goals as goal

@@ -1,3 +1,4 @@
+-- What holds at each turn of the loop of `bad_byte` in src/scans.rt.
 use Rattle.std.proofs.Common.{◌≡◌, ◌+◌, drop}
 use Rattle.tb_parser.specs.Scans.{first_bad}
 use Rattle.tb_parser.specs.declared.squeeze.Mode.TheVariants.{Code}

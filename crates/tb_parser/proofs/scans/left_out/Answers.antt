@@ -1,3 +1,4 @@
+-- The goals of `left_out` in src/scans.rt.
 use Rattle.std.proofs.Common.{◌≡◌, ◌<◌, ◌∙◌, refl, arith, sym, get_or, length, false, ◌&&◌, drop}
 use Rattle.tb_parser.specs.declared.squeeze.Placed.{Placed}
 use Rattle.tb_parser.specs.Scans.{is_left_out}

@@ -1,3 +1,4 @@
+-- What holds at each turn of the loop of `left_out` in src/scans.rt.
 use Rattle.std.proofs.Common.{◌≡◌, drop}
 use Rattle.tb_parser.specs.Scans.{left_out_word}
 use Rattle.tb_parser.proofs.scans.left_out.Given as goal

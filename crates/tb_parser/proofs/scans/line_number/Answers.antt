@@ -1,3 +1,4 @@
+-- The goals of `line_number` in src/scans.rt.
 use Rattle.std.proofs.Common.{◌+◌, ◌*◌, ◌∙◌, arith, sym, ap}
 use Rattle.tb_parser.specs.Scans.{Counted}
 use Rattle.tb_parser.proofs.Numbers.{grows, number_ends}

@@ -1,3 +1,4 @@
+-- What holds at each turn of the loop of `line_number` in src/scans.rt.
 use Rattle.std.proofs.Common.{◌≡◌, ◌≤◌, length}
 use Rattle.tb_parser.specs.Scans.{number_at}
 use Rattle.tb_parser.proofs.scans.line_number.Given as goal

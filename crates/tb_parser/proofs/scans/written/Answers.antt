@@ -1,3 +1,4 @@
+-- The goals of `written` in src/scans.rt.
 use Rattle.std.proofs.Common.{◌+◌, ◌∙◌, arith, sym}
 use Rattle.tb_parser.proofs.Steps.{written_later, written_here, written_nowhere}
 use Rattle.tb_parser.proofs.scans.written.Goals as goal

@@ -1,3 +1,4 @@
+-- What holds at each turn of the loop of `written` in src/scans.rt.
 use Rattle.std.proofs.Common.{◌≡◌, ◌+◌, drop}
 use Rattle.tb_parser.specs.Scans.{first_written}
 use Rattle.tb_parser.proofs.scans.written.Given as goal

@@ -1,3 +1,4 @@
+-- The goals of `squeeze` in src/squeeze.rt.
 use Rattle.std.proofs.Common.{arith, ◌≡◌, ◌+◌, ◌<◌, ◌∙◌, true, false, length, get_or, sym}
 use Rattle.tb_parser.specs.Squeezed.{is_dropped}
 use Rattle.tb_parser.proofs.Steps.{squeezed_kept, squeezed_dropped, squeezed_ends}

@@ -1,3 +1,4 @@
+-- What holds at each turn of the loop of `squeeze` in src/squeeze.rt.
 use Rattle.std.proofs.Common.{◌≡◌, ◌++◌, ◌+◌, drop}
 use Rattle.tb_parser.specs.Squeezed.{squeezed_from}
 use Rattle.tb_parser.specs.declared.squeeze.Mode.TheVariants.{Code}

@@ -1,3 +1,4 @@
+-- The goals of `play_file` in src/files.rt.
 use Rattle.tb_play.proofs.OneRun.{one_run}
 use Rattle.tb_play.proofs.files.play_file.Goals as goal
 

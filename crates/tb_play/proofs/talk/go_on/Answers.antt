@@ -1,3 +1,4 @@
+-- The goals of `go_on` in src/talk.rt.
 use Rattle.tb_play.proofs.Sending.{stretch_longer}
 use Rattle.tb_play.proofs.talk.go_on.Goals as goal
 

@@ -1,3 +1,4 @@
+-- The goals of `talk` in src/talk.rt.
 use Rattle.std.proofs.Common.{rules, refl, sym, subst, [], ◌∷◌, ◌++◌, ◌∙◌, ap}
 use Rattle.std.proofs.KnownBytes.{Appends-nil}
 use Rattle.std.specs.Io.KnownBytes.{Appends}

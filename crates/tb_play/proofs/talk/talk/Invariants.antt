@@ -1,3 +1,4 @@
+-- What holds at each turn of the loop of `talk` in src/talk.rt.
 use Rattle.std.proofs.Common.{◌≡◌, ◌≤◌, ◌+◌, ◌-◌, List, ℕ, vec_len}
 use Rattle.tb_play.specs.Lines.{most_typed, typed_of}
 use Rattle.tb_play.specs.Talks.{IsBehind}

@@ -1,3 +1,4 @@
+-- The goals of `run_counted` in src/run.rt.
 use Rattle.std.proofs.Common.{rules, ◌≡◌, true, false, length, ◌∷◌, [], ◌++◌, sym, ◌∙◌, arith, length-append}
 use Rattle.tb_kernal.specs.Machine.{state_of, status, is_running}
 use Rattle.tb_kernal.specs.declared.status.Status.TheVariants.{Running}

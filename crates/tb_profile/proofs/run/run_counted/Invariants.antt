@@ -1,3 +1,4 @@
+-- What holds at each turn of the loop of `run_counted` in src/run.rt.
 use Rattle.std.proofs.Common.{◌≡◌, List, length}
 use Rattle.tb_kernal.specs.declared.events.Event.{Event}
 use Rattle.tb_kernal.specs.Machine.{state_of}

@@ -1,3 +1,4 @@
+-- The goals of `take_event` in src/run.rt.
 use Rattle.tb_kernal.proofs.Giving.{same_state}
 use Rattle.tb_profile.proofs.run.take_event.Goals as goal
 

@@ -1,3 +1,4 @@
+-- The goals of `marks` in src/tally.rt.
 use Rattle.std.proofs.Common.{rules, ◌||◌, false, slice_index_or, ap, ◌∙◌}
 use Rattle.std.proofs.lemmas.List.{get_or-replicate}
 use Rattle.std.proofs.Math.Bool.{or-false}

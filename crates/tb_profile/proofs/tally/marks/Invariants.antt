@@ -1,3 +1,4 @@
+-- What holds at each turn of the loop of `marks` in src/tally.rt.
 use Rattle.std.proofs.Common.{◌≡◌, ℕ, ◌<◌, ◌||◌, false, drop, slice_index_or, vec_len}
 use Rattle.tb_profile.specs.Steps.{is_place}
 use Rattle.tb_profile.proofs.tally.marks.Given as goal

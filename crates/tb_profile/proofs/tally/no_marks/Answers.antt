@@ -1,3 +1,4 @@
+-- The goals of `no_marks` in src/tally.rt.
 use Rattle.tb_profile.proofs.tally.no_marks.Goals as goal
 
 pub returns-in-Ok : goal.returns-in-Ok

@@ -1,3 +1,4 @@
+-- The goals of `zeros` in src/tally.rt.
 use Rattle.tb_profile.proofs.tally.zeros.Goals as goal
 
 pub returns-in-Ok : goal.returns-in-Ok

@@ -1,3 +1,4 @@
+-- The goals of `make_texts` in src/engine.rt.
 use Rattle.std.proofs.Common.{refl}
 use Rattle.tb_driver.proofs.Loadable.{answer_loads}
 use Rattle.tb_profile_engine.proofs.Profiling.{profiles}

@@ -1,3 +1,4 @@
+-- The goals of `profile_compiled` in src/engine.rt.
 use Rattle.std.proofs.Common.{rules, ◌≡◌}
 use Rattle.tb_codegen.specs.Compiled.{warnings_of}
 use Rattle.tb_profile_engine.specs.Profiles.{Profiles}

@@ -1,3 +1,4 @@
+-- The goals of `profile_program` in src/running.rt.
 use Rattle.std.proofs.Common.{sym, ap, ◌∙◌}
 use Rattle.tb_prg.specs.Prg.{content_of}
 use Rattle.tb_profile_engine.proofs.Profiling.{started}

@@ -1,3 +1,4 @@
+-- The goals of `page_text` in src/page.rt.
 use Rattle.std.proofs.Common.{◌≡◌, ◌++◌, map, ap, ◌∙◌}
 use Rattle.tb_profile_table.specs.Lines.{line_pair}
 use Rattle.tb_profile_table.specs.Table.{sum_of}

@@ -1,3 +1,4 @@
+-- What holds at each turn of the loop of `push_all_escaped` in src/page.rt.
 use Rattle.std.proofs.Common.{◌≡◌, ◌++◌, take}
 use Rattle.std.specs.Prelude.{flat_map}
 use Rattle.tb_profile_table.specs.Page.{escaped}

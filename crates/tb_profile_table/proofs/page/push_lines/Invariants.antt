@@ -1,3 +1,4 @@
+-- What holds at each turn of the loop of `push_lines` in src/page.rt.
 use Rattle.std.proofs.Common.{◌≡◌, ◌++◌, map, take}
 use Rattle.std.specs.Prelude.{flat_map}
 use Rattle.tb_profile_table.specs.Page.{line_row}

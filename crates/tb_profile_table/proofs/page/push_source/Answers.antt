@@ -1,3 +1,4 @@
+-- The goals of `push_source` in src/page.rt.
 use Rattle.std.proofs.Common.{◌≡◌, ◌++◌}
 use Rattle.std.specs.Prelude.{codes, flat_map}
 use Rattle.tb_profile_table.specs.Page.{escaped, source}

@@ -1,3 +1,4 @@
+-- The goals of `push_sum` in src/page.rt.
 use Rattle.std.proofs.Common.{rules, ◌≡◌, ◌++◌}
 use Rattle.std.specs.Prelude.{codes}
 use Rattle.tb_profile_table.specs.Page.{cell, sum_row}

@@ -1,3 +1,4 @@
+-- The goals of `push_sums` in src/page.rt.
 use Rattle.std.proofs.Common.{rules, ◌≡◌, ◌++◌}
 use Rattle.std.specs.Prelude.{codes}
 use Rattle.tb_profile_table.specs.Page.{sum_row, sums}

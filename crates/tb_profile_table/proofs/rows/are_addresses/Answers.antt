@@ -1,3 +1,4 @@
+-- The goals of `are_addresses` in src/rows.rt.
 use Rattle.tb_profile_table.proofs.rows.are_addresses.Goals as goal
 
 pub returns : goal.returns

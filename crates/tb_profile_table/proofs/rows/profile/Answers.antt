@@ -1,3 +1,4 @@
+-- The goals of `profile` in src/rows.rt.
 use Rattle.std.proofs.Common.{◌<◌, ℕ, List, Ok, slice_index, subst}
 use Rattle.tb_profile.specs.Profiles.{Profiled}
 use Rattle.tb_profile_table.proofs.Tabling.{profiles}

@@ -1,3 +1,4 @@
+-- What holds at each turn of the loop of `rows_of` in src/rows.rt.
 use Rattle.std.proofs.Common.{◌≡◌, map, take}
 use Rattle.tb_profile_table.specs.Rows.{row_in}
 use Rattle.tb_profile_table.proofs.rows.rows_of.Given as goal

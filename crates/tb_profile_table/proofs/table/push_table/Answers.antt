@@ -1,3 +1,4 @@
+-- The goals of `push_table` in src/table.rt.
 use Rattle.std.proofs.Common.{◌≡◌, ◌++◌, map, ap, ◌∙◌, subst}
 use Rattle.std.specs.Prelude.{OnOk, codes, flat_map}
 use Rattle.tb_profile_table.specs.declared.table.Figures.{Figures}

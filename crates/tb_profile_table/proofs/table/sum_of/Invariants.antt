@@ -1,3 +1,4 @@
+-- What holds at each turn of the loop of `sum_of` in src/table.rt.
 use Rattle.std.proofs.Common.{◌≡◌, ◌≤◌, ◌*◌, map, take}
 use Rattle.std.specs.Prelude.{sum_by}
 use Rattle.tb_profile_table.specs.Lines.{line_pair}

@@ -1,3 +1,4 @@
+-- The goals of `prints_hello` in src/example.rt.
 use Rattle.tb_reaching.proofs.example.prints_hello.Goals as goal
 use Rattle.tb_reaching.proofs.HelloRuns.{prints_hello}
 

@@ -1,3 +1,4 @@
+-- The goals of `chain` in src/theory.rt.
 use Rattle.tb_reaching.proofs.theory.chain.Goals as goal
 use Rattle.tb_reaching.specs.Laws.{Passes}
 use Rattle.tb_reaching.proofs.Laws.{chain}

@@ -1,3 +1,4 @@
+-- The goals of `never_wrong` in src/theory.rt.
 use Rattle.std.proofs.Common.{◌≡◌, true}
 use Rattle.tb_reaching.proofs.theory.never_wrong.Goals as goal
 use Rattle.tb_reaching.proofs.Ends.{never_wrong}

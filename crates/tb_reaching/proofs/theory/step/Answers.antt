@@ -1,3 +1,4 @@
+-- The goals of `step` in src/theory.rt.
 use Rattle.tb_reaching.proofs.theory.step.Goals as goal
 use Rattle.tb_reaching.specs.Laws.{Passes}
 use Rattle.tb_reaching.proofs.Laws.{step}

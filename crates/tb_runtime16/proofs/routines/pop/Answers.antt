@@ -1,3 +1,4 @@
+-- The goals of `pop` in src/routines.rt.
 use Rattle.tb_runtime16.proofs.routines.pop.Goals as goal
 use Rattle.tb_runtime16.proofs.NotesRuns.{pop_law}
 

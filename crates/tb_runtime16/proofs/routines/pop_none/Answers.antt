@@ -1,3 +1,4 @@
+-- The goals of `pop_none` in src/routines.rt.
 use Rattle.tb_runtime16.proofs.routines.pop_none.Goals as goal
 use Rattle.tb_runtime16.proofs.NotesRuns.{pop_none_law}
 

@@ -1,3 +1,4 @@
+-- The goals of `push` in src/routines.rt.
 use Rattle.tb_runtime16.proofs.routines.push.Goals as goal
 use Rattle.tb_runtime16.proofs.NotesRuns.{push_law}
 

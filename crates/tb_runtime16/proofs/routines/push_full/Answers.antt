@@ -1,3 +1,4 @@
+-- The goals of `push_full` in src/routines.rt.
 use Rattle.tb_runtime16.proofs.routines.push_full.Goals as goal
 use Rattle.tb_runtime16.proofs.NotesRuns.{push_full_law}
 

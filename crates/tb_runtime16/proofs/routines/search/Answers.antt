@@ -1,3 +1,4 @@
+-- The goals of `search` in src/routines.rt.
 use Rattle.tb_runtime16.proofs.routines.search.Goals as goal
 use Rattle.tb_runtime16.proofs.SearchRuns.{search_law}
 

@@ -1,3 +1,4 @@
+-- The goals of `groups_run_as_slot_code` in src/laws.rt.
 use Rattle.tb_selection.proofs.laws.groups_run_as_slot_code.Goals as goal
 use Rattle.tb_selection.proofs.GroupRuns.{reached, found}
 

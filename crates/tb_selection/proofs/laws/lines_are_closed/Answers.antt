@@ -1,3 +1,4 @@
+-- The goals of `lines_are_closed` in src/laws.rt.
 use Rattle.tb_selection.proofs.laws.lines_are_closed.Goals as goal
 use Rattle.tb_selection.proofs.Closed.{all_closed}
 

@@ -1,3 +1,4 @@
+-- The goals of `omitted_words_are_dead` in src/laws.rt.
 use Rattle.tb_selection.proofs.laws.omitted_words_are_dead.Goals as goal
 use Rattle.tb_selection.proofs.Chosen.{chosen}
 

@@ -1,3 +1,4 @@
+-- The goals of `joined` in src/selecting.rt.
 use Rattle.std.proofs.Common.{refl}
 use Rattle.tb_selection.specs.PlainData.{group_of}
 use Rattle.tb_selection.proofs.Stacked.{three_joined}

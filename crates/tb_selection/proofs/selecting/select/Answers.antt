@@ -1,3 +1,4 @@
+-- The goals of `select` in src/selecting.rt.
 use Rattle.std.proofs.Common.{rules, ◌≡◌, [], sym, ap, ◌∙◌, subst, map}
 use Rattle.tb_lower.specs.PlainData.{instr_of}
 use Rattle.tb_selection.specs.Groups.{expand_all}

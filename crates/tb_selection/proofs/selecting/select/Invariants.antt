@@ -1,3 +1,4 @@
+-- What holds at each turn of the loops of `select` in src/selecting.rt.
 use Rattle.std.proofs.Common.{◌≡◌, ◌++◌, map, length}
 use Rattle.tb_lower.specs.PlainData.{instr_of}
 use Rattle.tb_selection.specs.Groups.{expand_all}

@@ -1,3 +1,4 @@
+-- The goals of `assemble_settled` in src/settling.rt.
 use Rattle.std.proofs.Common.{map, sym, subst, Result, Ok, Err}
 use Rattle.std.specs.Prelude.{IfOk, IfErr}
 use Rattle.tb_asm.specs.Layout.{entry_of}

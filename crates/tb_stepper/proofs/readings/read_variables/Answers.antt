@@ -1,3 +1,4 @@
+-- The goals of `read_variables` in src/readings.rt.
 use Rattle.std.proofs.Common.{rules, length-set, ◌≡◌, ◌<◌, length, ◌∙◌, to_z, of_z, arith}
 use Rattle.tb_memmap.specs.Bytes.{at}
 use Rattle.tb_words.specs.Words.{word_of}

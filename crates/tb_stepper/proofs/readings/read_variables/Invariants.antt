@@ -1,3 +1,4 @@
+-- What holds at each turn of the loop of `read_variables` in src/readings.rt.
 use Rattle.std.proofs.Common.{◌≡◌, length}
 use Rattle.tb_memmap.specs.Bytes.{at}
 use Rattle.tb_stepper.specs.Readings.{variable_in}

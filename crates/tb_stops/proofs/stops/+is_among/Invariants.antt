@@ -1,3 +1,4 @@
+-- What decreases where `is_among` in src/stops.rt calls itself.
 use Rattle.std.proofs.Common.{length}
 use Rattle.tb_stops.proofs.stops.+is_among.Given as goal
 

@@ -1,3 +1,4 @@
+-- The goals of `key_file` in src/key_files.rt.
 use Rattle.std.proofs.Common.{rules, ◌≡◌, ap, ◌∙◌, arith}
 use Rattle.hex.specs.Hex.{IsBytes}
 use Rattle.tb_streams.specs.KeyFiles.{keys_of_file, key_file_of}

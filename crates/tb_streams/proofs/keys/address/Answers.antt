@@ -1,3 +1,4 @@
+-- The goals of `address` in src/keys.rt.
 use Rattle.std.proofs.Common.{refl}
 use Rattle.hex.proofs.HexLemmas.{IsOk-decode_sized}
 use Rattle.tb_streams.proofs.keys.address.Goals as goal

@@ -1,3 +1,4 @@
+-- The goals of `read_line` in src/lines.rt.
 use Rattle.std.proofs.Common.{rules, ◌++◌, ◌∷◌, [], ◌≡◌, inl, get_or, subst, sym}
 use Rattle.tb_streams.specs.Lines.{IsLine}
 use Rattle.std.specs.Io.KnownBytes.{Consumes}

@@ -1,3 +1,4 @@
+-- What holds at each turn of the loop of `read_line` in src/lines.rt.
 use Rattle.std.proofs.Common.{◌≡◌, ◌≤◌, ◌+◌, ◌-◌, vec_len}
 use Rattle.std.specs.Io.KnownBytes.{Consumes}
 use Rattle.tb_streams.specs.Lines.{IsLine}

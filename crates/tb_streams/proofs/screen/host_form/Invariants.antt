@@ -1,3 +1,4 @@
+-- What holds at each turn of the loop of `host_form` in src/screen.rt.
 use Rattle.std.proofs.Common.{◌≡◌, take}
 use Rattle.tb_streams.specs.HostForm.{host_form_of}
 use Rattle.tb_streams.proofs.screen.host_form.Given as goal

@@ -1,3 +1,4 @@
+-- The goals of `read_up_to` in src/stream.rt.
 use Rattle.std.proofs.Common.{rules, ◌≤◌, ◌+◌, ◌++◌, take, length, length-append}
 use Rattle.std.proofs.KnownBytes.{Consumes-trans}
 use Rattle.tb_streams.proofs.stream.read_up_to.Goals as goal

@@ -1,3 +1,4 @@
+-- What holds at each turn of the loop of `read_up_to` in src/stream.rt.
 use Rattle.std.proofs.Common.{◌≡◌, ◌≤◌, ◌+◌, ◌-◌, vec_len}
 use Rattle.std.specs.Io.KnownBytes.{Consumes}
 use Rattle.tb_streams.proofs.stream.read_up_to.Given as goal

@@ -1,3 +1,4 @@
+-- The goals of `write_output` in src/stream.rt.
 use Rattle.std.proofs.Common.{rules, ◌+◌, ap, ◌∙◌, drop}
 use Rattle.std.proofs.lemmas.List.{drop-drop, take_rest}
 use Rattle.tb_streams.proofs.Written.{appends_more}

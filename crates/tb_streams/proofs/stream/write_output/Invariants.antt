@@ -1,3 +1,4 @@
+-- What holds at each turn of the loop of `write_output` in src/stream.rt.
 use Rattle.std.proofs.Common.{◌≡◌, ℕ, length, take, drop}
 use Rattle.std.specs.Io.KnownBytes.{Appends}
 use Rattle.tb_streams.proofs.stream.write_output.Given as goal

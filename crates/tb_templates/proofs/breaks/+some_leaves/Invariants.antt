@@ -1,3 +1,4 @@
+-- What decreases where `some_leaves` in src/breaks.rt calls itself.
 use Rattle.std.proofs.Common.{length}
 use Rattle.tb_templates.proofs.breaks.+some_leaves.Given as goal
 

@@ -1,3 +1,4 @@
+-- What holds at each turn of the loop of `put_all_broken` in src/breaks.rt.
 use Rattle.std.proofs.Common.{◌≡◌, ◌++◌, map, drop}
 use Rattle.tb_asm.specs.Layout.{entry_of}
 use Rattle.tb_templates.specs.Breaks.{all_broken}

@@ -1,3 +1,4 @@
+-- The goals of `put_broken` in src/breaks.rt.
 use Rattle.tb_templates.proofs.Appends.{two}
 use Rattle.tb_templates.proofs.breaks.put_broken.Goals as goal
 

@@ -1,3 +1,4 @@
+-- The goals of `put_polled` in src/breaks.rt.
 use Rattle.tb_templates.proofs.Appends.{three}
 use Rattle.tb_templates.proofs.breaks.put_polled.Goals as goal
 

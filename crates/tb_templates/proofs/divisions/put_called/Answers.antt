@@ -1,3 +1,4 @@
+-- The goals of `put_called` in src/divisions.rt.
 use Rattle.tb_templates.proofs.Appends.{three}
 use Rattle.tb_templates.proofs.divisions.put_called.Goals as goal
 

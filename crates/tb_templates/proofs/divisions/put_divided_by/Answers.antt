@@ -1,3 +1,4 @@
+-- The goals of `put_divided_by` in src/divisions.rt.
 use Rattle.std.proofs.Common.{◌++◌, [], ◌∷◌, map, ap, ◌∙◌}
 use Rattle.tb_asm.specs.Layout.{entry_of}
 use Rattle.tb_templates.specs.GroupTemplates.{left_over}

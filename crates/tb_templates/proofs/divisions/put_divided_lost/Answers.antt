@@ -1,3 +1,4 @@
+-- The goals of `put_divided_lost` in src/divisions.rt.
 use Rattle.tb_templates.proofs.Appends.{two}
 use Rattle.tb_templates.proofs.divisions.put_divided_lost.Goals as goal
 

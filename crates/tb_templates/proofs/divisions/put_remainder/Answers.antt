@@ -1,3 +1,4 @@
+-- The goals of `put_remainder` in src/divisions.rt.
 use Rattle.tb_templates.proofs.Appends.{three}
 use Rattle.tb_templates.proofs.divisions.put_remainder.Goals as goal
 

@@ -1,3 +1,4 @@
+-- The goals of `put_remainder_in` in src/divisions.rt.
 use Rattle.tb_templates.proofs.Appends.{after_line}
 use Rattle.tb_templates.proofs.divisions.put_remainder_in.Goals as goal
 

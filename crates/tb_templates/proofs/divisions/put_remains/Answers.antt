@@ -1,3 +1,4 @@
+-- The goals of `put_remains` in src/divisions.rt.
 use Rattle.std.proofs.Common.{◌++◌, map, ap, ◌∙◌}
 use Rattle.tb_asm.specs.Layout.{entry_of}
 use Rattle.tb_templates.specs.GroupTemplates.{asked_rest, signed_rest}

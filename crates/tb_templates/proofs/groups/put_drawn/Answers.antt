@@ -1,3 +1,4 @@
+-- The goals of `put_drawn` in src/groups.rt.
 use Rattle.tb_templates.proofs.Appends.{after_line}
 use Rattle.tb_templates.proofs.groups.put_drawn.Goals as goal
 

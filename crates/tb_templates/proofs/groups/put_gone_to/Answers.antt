@@ -1,3 +1,4 @@
+-- The goals of `put_gone_to` in src/groups.rt.
 use Rattle.tb_templates.proofs.Appends.{two}
 use Rattle.tb_templates.proofs.groups.put_gone_to.Goals as goal
 

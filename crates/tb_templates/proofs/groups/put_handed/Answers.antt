@@ -1,3 +1,4 @@
+-- The goals of `put_handed` in src/groups.rt.
 use Rattle.tb_templates.proofs.Appends.{four}
 use Rattle.tb_templates.proofs.groups.put_handed.Goals as goal
 

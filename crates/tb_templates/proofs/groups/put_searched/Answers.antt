@@ -1,3 +1,4 @@
+-- The goals of `put_searched` in src/groups.rt.
 use Rattle.tb_templates.proofs.Appends.{three}
 use Rattle.tb_templates.proofs.groups.put_searched.Goals as goal
 

@@ -1,3 +1,4 @@
+-- The goals of `put_sent` in src/groups.rt.
 use Rattle.tb_templates.proofs.Appends.{two}
 use Rattle.tb_templates.proofs.groups.put_sent.Goals as goal
 

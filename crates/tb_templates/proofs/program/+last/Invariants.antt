@@ -1,3 +1,4 @@
+-- What decreases where `last` in src/program.rt calls itself.
 use Rattle.std.proofs.Common.{length}
 use Rattle.tb_templates.proofs.program.+last.Given as goal
 

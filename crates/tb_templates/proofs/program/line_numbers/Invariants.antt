@@ -1,3 +1,4 @@
+-- What holds at each turn of the loop of `line_numbers` in src/program.rt.
 use Rattle.std.proofs.Common.{◌≡◌, ◌++◌, drop}
 use Rattle.tb_syntax.specs.Source.{numbers}
 use Rattle.tb_lower.specs.PlainData.{code_of}

@@ -1,3 +1,4 @@
+-- The goals of `program_items` in src/program.rt.
 use Rattle.std.proofs.Common.{[], ◌++◌, map, sym, ap, ◌∙◌, subst}
 use Rattle.tb_asm.specs.Layout.{entry_of}
 use Rattle.tb_syntax.specs.Source.{numbers}

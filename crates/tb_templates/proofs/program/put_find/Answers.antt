@@ -1,3 +1,4 @@
+-- The goals of `put_find` in src/program.rt.
 use Rattle.tb_templates.proofs.Appends.{four}
 use Rattle.tb_templates.proofs.program.put_find.Goals as goal
 

@@ -1,3 +1,4 @@
+-- The goals of `put_groups` in src/program.rt.
 use Rattle.std.proofs.Common.{◌≡◌, ◌++◌, map, length, refl, ap, ◌∙◌, arith}
 use Rattle.std.proofs.lemmas.List.{length-map}
 use Rattle.tb_asm.specs.Layout.{entry_of}

@@ -1,3 +1,4 @@
+-- What holds at each turn of the loop of `put_lines` in src/program.rt.
 use Rattle.std.proofs.Common.{◌≡◌, ◌++◌, map, length}
 use Rattle.tb_asm.specs.Layout.{entry_of}
 use Rattle.tb_lower.specs.PlainData.{code_of}

@@ -1,3 +1,4 @@
+-- The goals of `put_row` in src/program.rt.
 use Rattle.tb_templates.proofs.Appends.{two}
 use Rattle.tb_templates.proofs.program.put_row.Goals as goal
 

@@ -1,3 +1,4 @@
+-- What decreases where `put_by_bits` in src/scaled.rt calls itself.
 use Rattle.tb_templates.proofs.scaled.+put_by_bits.Given as goal
 
 abbrev pub decreases-put_by_bits : goal.decreases-put_by_bits

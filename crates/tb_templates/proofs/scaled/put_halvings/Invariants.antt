@@ -1,3 +1,4 @@
+-- What holds at each turn of the loop of `put_halvings` in src/scaled.rt.
 use Rattle.std.proofs.Common.{◌≡◌, ◌++◌, map}
 use Rattle.tb_asm.specs.Layout.{entry_of}
 use Rattle.tb_templates.specs.Scaled as scaled

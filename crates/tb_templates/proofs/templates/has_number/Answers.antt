@@ -1,3 +1,4 @@
+-- The goals of `has_number` in src/templates.rt.
 use Rattle.std.proofs.Common.{◌∙◌}
 use Rattle.tb_templates.proofs.Searched.{found}
 use Rattle.tb_templates.proofs.templates.has_number.Goals as goal

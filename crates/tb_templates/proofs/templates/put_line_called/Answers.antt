@@ -1,3 +1,4 @@
+-- The goals of `put_line_called` in src/templates.rt.
 use Rattle.tb_templates.proofs.Appends.{four}
 use Rattle.tb_templates.proofs.templates.put_line_called.Goals as goal
 

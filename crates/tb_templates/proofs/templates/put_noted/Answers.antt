@@ -1,3 +1,4 @@
+-- The goals of `put_noted` in src/templates.rt.
 use Rattle.tb_templates.proofs.Appends.{three}
 use Rattle.tb_templates.proofs.templates.put_noted.Goals as goal
 

@@ -1,3 +1,4 @@
+-- The goals of `put_taken_back` in src/templates.rt.
 use Rattle.tb_templates.proofs.Appends.{four}
 use Rattle.tb_templates.proofs.templates.put_taken_back.Goals as goal
 

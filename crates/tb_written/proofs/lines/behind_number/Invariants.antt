@@ -1,3 +1,4 @@
+-- What holds at each turn of the loop of `behind_number` in src/lines.rt.
 use Rattle.std.proofs.Common.{◌≡◌, drop}
 use Rattle.tb_written.specs.Lines.{behind_number}
 use Rattle.tb_written.proofs.lines.behind_number.Given as goal

@@ -1,3 +1,4 @@
+-- What holds at each turn of the loop of `number_of` in src/lines.rt.
 use Rattle.std.proofs.Common.{◌≡◌, ◌≤◌, drop}
 use Rattle.tb_written.specs.Lines.{number_with}
 use Rattle.tb_written.proofs.lines.number_of.Given as goal

@@ -1,3 +1,4 @@
+-- The goals of `numbered_lines` in src/lines.rt.
 use Rattle.std.proofs.Common.{◌≡◌, ℕ, List, [], ◌++◌, ap, sym, ◌∙◌, append-nil}
 use Rattle.tb_parser.specs.Lines.{lines_from}
 use Rattle.tb_written.specs.Lines.{numbered}

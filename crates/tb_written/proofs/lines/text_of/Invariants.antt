@@ -1,3 +1,4 @@
+-- What holds at each turn of the loop of `text_of` in src/lines.rt.
 use Rattle.std.proofs.Common.{◌≡◌, [], drop, map}
 use Rattle.tb_written.specs.Lines.{last_of, pair_of}
 use Rattle.tb_written.proofs.lines.text_of.Given as goal

@@ -1,3 +1,4 @@
+-- The goals of `cut` in src/showing.rt.
 use Rattle.std.proofs.Common.{sym, arith, length-take-le, take_all}
 use Rattle.tb_written.proofs.showing.cut.Goals as goal
 

@@ -1,3 +1,4 @@
+-- What holds at each turn of the loop of `push_shown` in src/showing.rt.
 use Rattle.std.proofs.Common.{◌≡◌, ◌++◌, map, take}
 use Rattle.tb_written.specs.ShownBytes.{shown}
 use Rattle.tb_written.proofs.showing.push_shown.Given as goal

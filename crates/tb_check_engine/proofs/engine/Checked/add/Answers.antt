@@ -1,3 +1,4 @@
+-- The goals of `Checked::add` in src/engine.rt.
 use Rattle.tb_check_engine.proofs.Added.{added}
 use Rattle.tb_check_engine.proofs.engine.Checked.add.Goals as goal
 

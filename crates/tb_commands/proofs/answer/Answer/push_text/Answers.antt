@@ -1,3 +1,4 @@
+-- The goals of `Answer::push_text` in src/answer.rt.
 use Rattle.std.proofs.Common.{rules, ◌≡◌, ◌∙◌, ap, sym, to_z, of_z}
 use Rattle.tb_words.specs.Words.{word_of, digits_of}
 use Rattle.tb_commands.specs.Answers.{text_of}

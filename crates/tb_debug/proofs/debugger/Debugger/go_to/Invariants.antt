@@ -1,3 +1,4 @@
+-- What holds at each turn of the loop of `Debugger::go_to` in src/searching.rt.
 use Rattle.std.proofs.Common.{◌≡◌, ◌+◌, ◌≤◌}
 use Rattle.tb_debug.specs.Debuggers.{KeepsRun, OnRun}
 use Rattle.tb_debug.specs.Runs.{Point}

@@ -1,3 +1,4 @@
+-- The goals of `Debugger::line_here` in src/debugger.rt.
 use Rattle.std.proofs.Common.{ap, ◌∙◌}
 use Rattle.tb_codegen.specs.Compiled.{starts_of}
 use Rattle.tb_debug.specs.Lines.{line_at}

@@ -1,3 +1,4 @@
+-- The goals of `Debugger::new` in src/debugger.rt.
 use Rattle.std.proofs.Common.{◌≤◌, refl, sym, subst, arith}
 use Rattle.std.proofs.lemmas.List.Elements.{All-nil}
 use Rattle.tb_kernal.specs.Machine.{state_of}

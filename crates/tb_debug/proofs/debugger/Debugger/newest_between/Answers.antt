@@ -1,3 +1,4 @@
+-- The goals of `Debugger::newest_between` in src/searching.rt.
 use Rattle.std.proofs.Common.{◌-◌, ◌≤◌, subst, arith}
 use Rattle.tb_debug.specs.Begins.{EndsAt}
 use Rattle.tb_debug.proofs.Stopping.{all_passed, one_between, past_last}

@@ -1,3 +1,4 @@
+-- What holds at each turn of the loop of `Debugger::newest_between` in src/searching.rt.
 use Rattle.std.proofs.Common.{◌≡◌, ◌-◌, ◌≤◌}
 use Rattle.tb_debug.specs.Debuggers.{OnRun}
 use Rattle.tb_debug.specs.Runs.{Point, IsOfRun}

@@ -1,3 +1,4 @@
+-- The goals of `Debugger::newest_stop` in src/searching.rt.
 use Rattle.tb_debug.proofs.Stopping.{enough, from_first}
 use Rattle.std.proofs.Common.{◌≤◌, arith}
 use Rattle.tb_debug.proofs.debugger.Debugger.newest_stop.Goals as goal

@@ -1,3 +1,4 @@
+-- The goals of `Debugger::next_line` in src/debugger.rt.
 use Rattle.std.proofs.Common.{refl, sym, subst}
 use Rattle.tb_debug.specs.Runs.{IsFirst}
 use Rattle.tb_debug.proofs.Keeping.{kept_later}

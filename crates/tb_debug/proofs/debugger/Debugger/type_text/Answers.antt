@@ -1,3 +1,4 @@
+-- The goals of `Debugger::type_text` in src/debugger.rt.
 use Rattle.std.proofs.Common.{refl, sym, subst, ◌∙◌, arith}
 use Rattle.tb_debug.specs.Runs.{AreKept, typed}
 use Rattle.tb_debug.proofs.Typing.{typed_all, typed_kept, typed_moment}

@@ -1,8 +1,9 @@
+-- The goals of `Debugger::value` in src/respond.rt.
 use Rattle.std.proofs.Common.{ap, subst}
 use Rattle.std.specs.Prelude.{Ok, Some, map}
 use Rattle.tb_words.specs.Words.{word_of}
 use Rattle.tb_syntax.specs.PlainData.{expression_of}
-use Rattle.tb_lower.specs.Evaluation.{IsEvaluation}
+use Rattle.tb_meaning.specs.Evaluation.{IsEvaluation}
 use Rattle.tb_debug.proofs.Refusing.{refused_text}
 use Rattle.tb_debug.proofs.debugger.Debugger.value.Goals as goal
 

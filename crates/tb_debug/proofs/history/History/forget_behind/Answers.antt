@@ -1,3 +1,4 @@
+-- The goals of `History::forget_behind` in src/history.rt.
 use Rattle.std.proofs.Common.{rules, ◌≤◌, subst, sym}
 use Rattle.std.specs.Prelude.{nat_le}
 use Rattle.std.proofs.lemmas.Fn.{All-from_retain, filter_same}

@@ -1,3 +1,4 @@
+-- The goals of `History::keep` in src/history.rt.
 use Rattle.std.proofs.Common.{arith, ◌≤◌, subst, sym}
 use Rattle.std.proofs.lemmas.List.Elements.{All-push}
 use Rattle.tb_debug.specs.Runs.{AreKept, IsKept}

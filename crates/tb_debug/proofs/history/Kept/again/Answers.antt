@@ -1,3 +1,4 @@
+-- The goals of `Kept::again` in src/history.rt.
 use Rattle.std.proofs.Common.{take, ap, ◌∙◌}
 use Rattle.std.proofs.lemmas.List.{take_min}
 use Rattle.tb_debug.proofs.Keeping.{again_of}

@@ -1,3 +1,4 @@
+-- The goals of `Moment::first` in src/moment.rt.
 use Rattle.std.proofs.Common.{sym, arith, ◌∙◌}
 use Rattle.tb_kernal.specs.Machine.{state_of}
 use Rattle.tb_debug.specs.Runs.{first_point}

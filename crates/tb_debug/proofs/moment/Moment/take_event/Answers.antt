@@ -1,3 +1,4 @@
+-- The goals of `Moment::take_event` in src/moment.rt.
 use Rattle.std.proofs.Common.{◌+◌, ap, refl, ◌∙◌, arith}
 use Rattle.std.specs.Prelude.{◌&&◌, if◌then◌else◌}
 use Rattle.tb_debug.specs.Besides.{event_at}

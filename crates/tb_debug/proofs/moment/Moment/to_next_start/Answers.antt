@@ -1,3 +1,4 @@
+-- The goals of `Moment::to_next_start` in src/moment.rt.
 use Rattle.std.proofs.Common.{◌&&◌, ◌∙◌, sym, arith}
 use Rattle.tb_debug.proofs.Beginning.{comes_by, none_before, none_more, tally_few, tally_more}
 use Rattle.tb_debug.proofs.moment.Moment.to_next_start.Goals as goal

@@ -1,3 +1,4 @@
+-- What holds at each turn of the loop of `Moment::to_next_start` in src/moment.rt.
 use Rattle.std.proofs.Common.{suc, ◌-◌, ◌≤◌}
 use Rattle.tb_debug.specs.Begins.{NoneBegins}
 use Rattle.tb_debug.specs.Runs.{Point, IsOfRun, StaysOnRun}

@@ -1,3 +1,4 @@
+-- What holds at each turn of the loop of `Listing::text` in src/listing.rt.
 use Rattle.std.proofs.Common.{◌≡◌, map, take}
 use Rattle.tb_disasm.specs.Lines.{shown}
 use Rattle.tb_disasm.specs.ListingText.{text_of}

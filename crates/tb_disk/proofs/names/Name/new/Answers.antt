@@ -1,3 +1,4 @@
+-- The goals of `Name::new` in src/names.rt.
 use Rattle.std.proofs.Common.{ap, ◌∙◌, rules}
 use Rattle.tb_disk.specs.D64.{name_in}
 use Rattle.tb_disk.proofs.Filling.{named, name_back}

@@ -1,3 +1,4 @@
+-- The goals of `DiskFiles::has` in src/files.rt.
 use Rattle.std.proofs.Common.{rules}
 use Rattle.tb_disk_engine.proofs.Used.{is_used, is_unused}
 use Rattle.tb_disk_engine.proofs.files.DiskFiles.has.Goals as goal

@@ -1,3 +1,4 @@
+-- What holds at each turn of the loop of `DiskFiles::has` in src/files.rt.
 use Rattle.std.proofs.Common.{◌≡◌, ℕ, ◌<◌, get_or}
 use Rattle.tb_disk_engine.specs.declared.files.Taken.{Taken}
 use Rattle.tb_disk_engine.proofs.files.DiskFiles.has.Given as goal

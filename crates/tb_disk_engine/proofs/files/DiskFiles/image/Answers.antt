@@ -1,3 +1,4 @@
+-- The goals of `DiskFiles::image` in src/files.rt.
 use Rattle.std.proofs.Common.{map, ap, ◌∙◌}
 use Rattle.tb_disk_engine.specs.Files.{entry_in, entry_of}
 use Rattle.tb_disk_engine.proofs.Imaging.{imaged}

@@ -1,3 +1,4 @@
+-- The goals of `Machine::enter` in src/machine.rt.
 use Rattle.std.proofs.Common.{rules, arith}
 use Rattle.tb_kernal.proofs.machine.Machine.enter.Goals as goal
 

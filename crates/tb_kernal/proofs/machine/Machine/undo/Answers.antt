@@ -1,3 +1,4 @@
+-- The goals of `Machine::undo` in src/machine/undoing.rt.
 use Rattle.std.proofs.Common.{rules}
 use Rattle.tb_kernal.proofs.TakingBack.{takes_back}
 use Rattle.tb_kernal.proofs.machine.Machine.undo.Goals as goal

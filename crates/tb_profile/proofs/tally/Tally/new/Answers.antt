@@ -1,3 +1,4 @@
+-- The goals of `Tally::new` in src/tally.rt.
 use Rattle.std.proofs.Common.{rules, ◌≡◌, ◌≤◌, ap, ◌∙◌, refl, arith, length, slice_index, List, ℕ, replicate}
 use Rattle.std.proofs.lemmas.List.{length-replicate}
 use Rattle.tb_memmap.proofs.View.{zeros}

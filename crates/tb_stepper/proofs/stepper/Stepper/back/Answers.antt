@@ -1,3 +1,4 @@
+-- The goals of `Stepper::back` in src/stepper.rt.
 use Rattle.std.proofs.Common.{rules, ◌≡◌, ◌++◌, [], ◌∷◌, true, refl, sym, ap, subst, ◌∙◌, length, length-append, arith}
 use Rattle.circular_buffer.proofs.Items.{pops_last}
 use Rattle.tb_kernal.specs.Machine.{state_of}

@@ -1,3 +1,4 @@
+-- The goals of `Stepper::take_event` in src/stepper.rt.
 use Rattle.std.proofs.Common.{◌≡◌, ◌≤◌, ◌++◌, ◌∷◌, [], length, ap, refl, sym, subst, ◌∙◌}
 use Rattle.std.specs.Prelude.{Ok}
 use Rattle.circular_buffer.specs.Buffer.{keep_last}

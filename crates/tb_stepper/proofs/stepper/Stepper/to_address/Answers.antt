@@ -1,3 +1,4 @@
+-- The goals of `Stepper::to_address` in src/stepper.rt.
 use Rattle.std.proofs.Common.{rules, ◌≡◌, ◌<◌, nat_lt}
 use Rattle.std.specs.Prelude.{None, Ok, Err}
 use Rattle.tb_kernal.specs.Machine.{state_of}

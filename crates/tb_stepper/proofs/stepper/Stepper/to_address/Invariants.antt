@@ -1,3 +1,4 @@
+-- What holds at each turn of the loop of `Stepper::to_address` in src/stepper.rt.
 use Rattle.tb_stepper.specs.History.{Walked}
 use Rattle.tb_stepper.proofs.stepper.Stepper.to_address.Given as goal
 

@@ -1,3 +1,4 @@
+-- The goals of `Stops::turn_breakpoint` in src/stops.rt.
 use Rattle.std.proofs.Common.{◌≡◌, nat_eq, true, false, rules, ap, sym, ◌∙◌, subst}
 use Rattle.std.specs.Prelude.{not}
 use Rattle.std.proofs.lemmas.Fn.{filter_same}

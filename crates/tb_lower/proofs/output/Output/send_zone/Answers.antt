@@ -1,8 +1,0 @@
-use Rattle.std.proofs.Common.{◌≡◌, ◌%◌, OnOk, subst}
-use Rattle.tb_lower.specs.Control.{column_after}
-use Rattle.tb_lower.proofs.Interpreting.{spaces}
-use Rattle.tb_lower.proofs.output.Output.send_zone.Goals as goal
-
-pub returns-clause-column : goal.returns-clause-column
-returns-clause-column c =
-    subst (λ text. OnOk c.send_all.result (c.send_all.new.self.column ≡ column_after c.args.self.now.column text)) (spaces (c.args.self.now.column % 8)) c.send_all.ensures.column

@@ -1,8 +1,0 @@
-use Rattle.std.proofs.Common.{◌≡◌}
-use Rattle.tb_syntax.specs.PlainData.{lines_of}
-use Rattle.tb_syntax.specs.Source.{numbers}
-use Rattle.tb_lower.specs.Control.{next_after}
-use Rattle.tb_lower.proofs.places.next_after.Given as goal
-
-abbrev pub invariant-loop-line : goal.invariant-loop-line
-invariant-loop-line l = next_after (numbers (lines_of l.line-iterator)) l.number ≡ next_after (numbers (lines_of l.program)) l.number

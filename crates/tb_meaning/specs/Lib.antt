@@ -1,0 +1,11 @@
+pub mod Steps
+pub mod Control
+pub mod Input
+pub mod Values
+pub mod Meaning
+pub mod Cost
+pub mod Evaluation
+pub mod Missing
+pub mod Parts
+pub mod Interpreted
+pub mod Turns

@@ -1,0 +1,17 @@
+//! What a program means.
+//!
+//! The meaning is a definition (`specs/Meaning.antt`); `run_source` is a plain program that runs it.
+#![tactic(auto)]
+
+mod evaluation;
+mod faults;
+mod interpreter;
+mod missing;
+mod output;
+mod places;
+mod turns;
+
+pub use evaluation::{EvalError, constant, eval};
+pub use interpreter::{RunEnd, SourceRun, run_source};
+pub use missing::{Warning, warnings};
+pub use places::Place;
