@@ -253,6 +253,14 @@ fn last(bytes: &[u8], count: usize) -> &[u8] {
     bytes.split_at(bytes.len().saturating_sub(count)).1
 }
 
+// A load of an address by its two bytes, so far apart.
+fn loads(low: u8, high: u8, apart: usize) -> Option<Load> {
+    Some(Load {
+        address: u16::from_le_bytes([low, high]),
+        apart,
+    })
+}
+
 // The load that begins here: of the line that is noted, in line or by Push, of the line table for the search, or of a
 // text.
 fn first_load(program: &Program<'_>, at: u16, rest: &[u8]) -> Option<Load> {
@@ -270,25 +278,14 @@ fn first_load(program: &Program<'_>, at: u16, rest: &[u8]) -> Option<Load> {
             to_low,
             to_high,
             ..
-        ] if u16::from_le_bytes([*to_low, *to_high]) == entry(Routine::Push) => {
-            Some(Load {
-                address: u16::from_le_bytes([*low, *high]),
-                apart: 4,
-            })
-        }
+        ] if u16::from_le_bytes([*to_low, *to_high]) == entry(Routine::Push) => loads(
+            *low, *high, 4,
+        ),
         [LDA, low, STA_BY_X, to_low, to_high, LDA, high, STA_BY_X, ..]
-            if u16::from_le_bytes([*to_low, *to_high]) == NOTE_LOW => {
-            Some(Load {
-                address: u16::from_le_bytes([*low, *high]),
-                apart: 5,
-            })
-        }
-        [LDA, low, STA_ZERO_PAGE, _, LDA, high, ..] if at == program.search() => {
-            Some(Load {
-                address: u16::from_le_bytes([*low, *high]),
-                apart: 4,
-            })
-        }
+            if u16::from_le_bytes([*to_low, *to_high]) == NOTE_LOW => loads(*low, *high, 5),
+        [LDA, low, STA_ZERO_PAGE, _, LDA, high, ..] if at == program.search() => loads(
+            *low, *high, 4,
+        ),
         [
             LDA,
             low,
@@ -307,12 +304,9 @@ fn first_load(program: &Program<'_>, at: u16, rest: &[u8]) -> Option<Load> {
             to_low,
             to_high,
             ..
-        ] if u16::from_le_bytes([*to_low, *to_high]) == entry(Routine::Text) => {
-            Some(Load {
-                address: u16::from_le_bytes([*low, *high]),
-                apart: 4,
-            })
-        }
+        ] if u16::from_le_bytes([*to_low, *to_high]) == entry(Routine::Text) => loads(
+            *low, *high, 4,
+        ),
         _ => None,
     }
 }
