@@ -10,7 +10,8 @@ use Rattle.tb_runtime16.specs.Laws.{AllBytes}
 use Rattle.tb_syntax.specs.Source.{Program}
 use Rattle.tb_keeping.specs.Kept.{Starts}
 use Rattle.tb_engines.specs.Programs.{IsUnloadable, start}
-use Rattle.tb_engines.specs.declared.delivery.Stop.TheVariants.{Refused as CantLoad}
+use Rattle.tb_engines.specs.declared.delivery.Stop.{Stop}
+use Rattle.tb_engines.specs.declared.delivery.Stop.TheVariants.{NoMemory as NoMachine, Refused as CantLoad}
 use Rattle.tb_engines.specs.declared.outcome.Refusal.{Refusal}
 use Rattle.tb_driver.proofs.Loadable.{address_in, bytes_in, machine_at_start}
 use Rattle.tb_driver.proofs.Output.{bytes_behind, file_loads, in_ram, starts}
@@ -28,7 +29,7 @@ use Rattle.tb_debug.specs.declared.moment.Reached.{Reached}
 use Rattle.tb_debug.specs.declared.answer.Answer.{Answer}
 use Rattle.tb_debug.specs.declared.beside.Beside.{Beside}
 use Rattle.tb_debug.specs.declared.debugger.Debugger.{Debugger}
-use Rattle.tb_debug_engine.specs.Dialogue.{IsBarred, IsBegun, IsFirst, Opens, Says}
+use Rattle.tb_debug_engine.specs.Dialogue.{Begins, IsBarred, IsBegun, IsFirst, Opens, Says, outcome_of}
 use Rattle.tb_debug_engine.specs.Sources.{shown_of}
 use Rattle.tb_debug_engine.specs.declared.sources.Written.{Written}
 
@@ -88,6 +89,17 @@ barred program file at bytes why same content unloadable =
           unloadable.1 (subst (λ a. IsOpenRange a (length bytes)) (sym first)
           (subst (λ l. IsOpenRange 0x0801 (length l)) (sym rest) (in_ram (length (loaded_of program)) whole.1)));
     }
+
+-- where the machine can't be started there is no debugger
+pub not_begun : (program : Compiled) (file text answers : List ℕ) (beside : Beside) (at : ℕ) (bytes : List ℕ) (stop : Stop) (outcome : Outcome)
+    → outcome ≡ outcome_of stop → file ≡ prg_of program → content_of file ≡ Ok (at, bytes) → IsUnloadable at bytes stop
+    → Begins program text answers beside (Err outcome)
+not_begun program file text answers beside at bytes stop outcome is same content unloadable =
+    subst (λ o. Begins program text answers beside (Err o)) (sym is) (by stop unloadable)
+  where
+    by : (stop : Stop) → IsUnloadable at bytes stop → Begins program text answers beside (Err (outcome_of stop))
+    by (CantLoad why) unloadable = barred program file at bytes why same content unloadable
+    by NoMachine unloadable = tt
 
 -- a debugger that only looks how it stands stops at no limit
 unlimited : (why : Status) (begins : Bool) → is_limit (standing_by why begins) ≡ false

@@ -8,7 +8,8 @@ use Rattle.tb_streams.specs.Streams.{AppendsPrefix, most_input}
 use Rattle.tb_streams.specs.Lines.{TakesLine, TakesNothing, TakesPart, without_return}
 use Rattle.tb_prg.specs.Prg.{content_of}
 use Rattle.tb_engines.specs.Programs.{IsUnloadable, start}
-use Rattle.tb_engines.specs.declared.delivery.Stop.TheVariants.{Refused as CantLoad}
+use Rattle.tb_engines.specs.declared.delivery.Stop.{Stop}
+use Rattle.tb_engines.specs.declared.delivery.Stop.TheVariants.{NoMemory as NoMachine, Refused as CantLoad}
 use Rattle.tb_engines.specs.declared.outcome.End.TheVariants.{Done}
 use Rattle.tb_engines.specs.declared.outcome.Outcome.{Outcome}
 use Rattle.tb_engines.specs.declared.outcome.Refusal.{Refusal}
@@ -146,6 +147,11 @@ pub record IsBegun (program : Compiled) (text answers : List ℕ) (beside : Besi
   pub on : OnRun (first_point (state_of (start at bytes text answers)) beside) d
   pub opens : IsOpening (first_point (state_of (start at bytes text answers)) beside) d
   pub shows : (source : Program) (seed : ℕ) → IsMadeOf source seed program → sources.Debugs source seed (state_of (start at bytes text answers)) beside d
+
+-- how a dialogue ends whose machine can't be started
+abbrev pub outcome_of : Stop → Outcome
+outcome_of (CantLoad why) = Refused why
+outcome_of NoMachine = NoMemory
 
 -- why a program is not debugged: it doesn't lie in RAM, as none does that `compile` makes
 pub record IsBarred (program : Compiled) (why : Refusal) : Type 0 where

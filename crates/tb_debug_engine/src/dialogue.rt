@@ -3,7 +3,7 @@ ghost use Rattle.std.specs.Prelude.{◌≡◌, OnErr, OnOk, is_err};
 ghost use Rattle.std.specs.Io.KnownBytes.{Appends};
 ghost use Rattle.tb_streams.specs.Failures.{failures_of};
 ghost use Rattle.tb_streams.specs.Streams.{AppendsPrefix, counted};
-ghost use Rattle.tb_debug_engine.specs.Dialogue.{Asks, Begins, Debugs, Exchanges, Opens, Says, Talks, prompt};
+ghost use Rattle.tb_debug_engine.specs.Dialogue.{Asks, Begins, Debugs, Exchanges, Opens, Says, Talks, outcome_of, prompt};
 ghost use Rattle.tb_debug_engine.specs.Sources.{shown_of};
 
 use crate::sources::{Sources, Written};
@@ -134,6 +134,16 @@ fn answer_lines<R: Read, W: Write>(
     Outcome::Ended(End::Done)
 }
 
+// How a dialogue ends whose machine can't be started.
+fn outcome_of(stop: Stop) -> Outcome
+    ensures { result ≡ outcome_of stop }
+{
+    match stop {
+        Stop::Refused(refusal) => Outcome::Refused(refusal),
+        Stop::NoMemory => Outcome::NoMemory,
+    }
+}
+
 // The debugger of a program at its first line.
 fn debugger_of<'a>(
     alloc: Global,
@@ -153,8 +163,7 @@ fn debugger_of<'a>(
     };
     let machine = match start_machine(alloc, loaded, keyboard) {
         Ok(machine) => machine,
-        Err(Stop::Refused(refusal)) => return Err(Outcome::Refused(refusal)),
-        Err(Stop::NoMemory) => return Err(Outcome::NoMemory),
+        Err(stop) => return Err(outcome_of(stop)),
     };
     match Debugger::new(alloc, &sources.program, machine, beside) {
         Ok(debugger) => Ok(debugger),
