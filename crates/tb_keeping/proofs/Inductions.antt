@@ -35,7 +35,7 @@ sent_in (Stops why t) = t
 
 sends_more : (es : List Event) (x : machine.State) → IsPrefix x.sent (run es x).sent
 sends_more [] x = ([], append-nil x.sent)
-sends_more (e ∷ es) x = let p = sends_on e x in prefix_trans _ _ _ (p.rest, sym p.split) (sends_more es (happens x e))
+sends_more (e ∷ es) x = prefix_trans _ _ _ (sends_on e x) (sends_more es (happens x e))
 
 -- the events behind the first ones
 pub lawful_back : (front back es : List Event) (x : machine.State) → front ++ back ≡ es → all_lawful es x ≡ true → all_lawful back (run front x) ≡ true
