@@ -1,5 +1,5 @@
 //! Going on and back to a breakpoint or a watch.
-ghost use Rattle.std.specs.Prelude.{◌≡◌, ◌⊎◌, ◌≤◌, ℕ, IfOk, OnOk};
+ghost use Rattle.std.specs.Prelude.{◌≡◌, ◌⊎◌, ◌≤◌, IfOk, OnOk};
 ghost use Rattle.tb_codegen.specs.Compiled.{starts_of};
 ghost use Rattle.tb_debug.specs.Debuggers.{KeepsRun, OnRun, StandsAt};
 ghost use Rattle.tb_debug.specs.Begins.{StandsBy};
@@ -48,12 +48,7 @@ impl<'a> Debugger<'a> {
     }
 
     // On to the next line that is looked for.
-    fn go_to(
-        &mut self,
-        alloc: Global,
-        to: Destination,
-        limit: u64,
-    ) -> Result<Reached, NoMemory>
+    fn go_to(&mut self, alloc: Global, to: Destination, limit: u64) -> Result<Reached, NoMemory>
         ensures run { OnOk result (KeepsRun self.old self.new) }
         ensures there { IfOk result (λ reached. IsThere to reached self.new) }
         ensures leads { IfOk result (λ reached. LeadsOnTo to limit self.old reached self.new.present) }
