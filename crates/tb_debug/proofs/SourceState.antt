@@ -1,10 +1,8 @@
 -- What a debugger shows of memory is what the source has.
-use Rattle.std.proofs.Common.{◌≡◌, ℕ, zero, suc, ◌+◌, ◌*◌, ◌%◌, ◌<◌, ◌≤◌, Bool, true, false, ◌||◌, List, [], ◌∷◌, length, refl, sym, ap, ◌∙◌, subst, arith}
-use Rattle.std.specs.Prelude.{if◌then◌else◌, nat_eq, nat_le, map, Option, Some, None, Ok, slice_index}
-use Rattle.std.specs.Int.{cast_signed, w16}
-use Rattle.std.proofs.lemmas.Bool.{eqb-true, ne_eqb, or_right}
+use Rattle.std.proofs.Common.{◌≡◌, ℕ, ◌+◌, ◌%◌, ◌<◌, ◌≤◌, Bool, true, false, ◌||◌, List, [], ◌∷◌, length, refl, sym, ap, ◌∙◌, subst, arith}
+use Rattle.std.specs.Prelude.{if◌then◌else◌, nat_eq, nat_le, map, Some, None}
+use Rattle.std.proofs.lemmas.Bool.{eqb-true, ne_eqb}
 use Rattle.std.proofs.lemmas.Bool.Decides.{nat_tests}
-use Rattle.tb_memmap.specs.Bytes.{peek}
 use Rattle.tb_memmap.specs.Regions.{is_open}
 use Rattle.tb_cpu.specs.Operands.{word, word_in}
 use Rattle.tb_asm.specs.declared.names.Name.{Name}
@@ -17,7 +15,7 @@ use Rattle.tb_keeping.specs.LineStarts as kept
 use Rattle.tb_keeping.specs.LineStarts.{HoldsReturns, StandsFor}
 use Rattle.tb_codegen.specs.Compiled.{PlacesRise, stands_at, starts_in}
 use Rattle.tb_debug.specs.Lines.{line_at}
-use Rattle.tb_debug.specs.Readings.{byte_at, lines_of_notes, note_at, notes_in, or_zero, returns_of, word_at}
+use Rattle.tb_debug.specs.Readings.{byte_at, lines_of_notes, note_at, notes_in, word_at}
 use Rattle.tb_debug.specs.Runs.{begins_at}
 use Rattle.tb_debug.specs.Sources.{line_of}
 

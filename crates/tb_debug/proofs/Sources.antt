@@ -20,7 +20,7 @@ use Rattle.tb_debug.specs.Runs.{begins_at, first_point, is_marked}
 use Rattle.tb_debug.specs.Lines.{line_at}
 use Rattle.std.specs.Int.{cast_signed, w16}
 use Rattle.std.specs.Prelude.{length}
-use Rattle.std.proofs.Common.{◌<◌, ◌≤◌, arith}
+use Rattle.std.proofs.Common.{arith}
 use Rattle.tb_runtime16.specs.Places.{LINES_AT}
 use Rattle.tb_templates.specs.Templates.{var_at}
 use Rattle.tb_codegen.specs.Compiled.{PlacesRise}

@@ -1,17 +1,16 @@
 -- Where going on and going back stop.
-use Rattle.std.proofs.Common.{◌≡◌, ℕ, suc, ◌+◌, ◌-◌, ◌≤◌, ◌&&◌, ◌||◌, ◌==◌, Bool, true, false, refl, sym, ap, ◌∙◌, subst, inl, inr, ◌⊎◌, arith}
+use Rattle.std.proofs.Common.{◌≡◌, ℕ, suc, ◌+◌, ◌-◌, ◌≤◌, ◌&&◌, Bool, true, false, refl, sym, ap, ◌∙◌, subst, inl, inr, ◌⊎◌, arith}
 use Rattle.std.specs.Prelude.{if◌then◌else◌, min, nat_lt}
 use Rattle.std.proofs.lemmas.Bool.{cases_lt}
 use Rattle.tb_kernal.specs.declared.status.Status.TheVariants.{Running}
 use Rattle.tb_kernal.specs.Machine.{status}
 use Rattle.tb_codegen.specs.Compiled.{starts_of}
-use Rattle.tb_debug.specs.Begins.{EndsAt, GoesTo, IsLimited, IsNowhere, NoneBegins, comes_to}
+use Rattle.tb_debug.specs.Begins.{EndsAt, GoesTo, IsLimited, IsNowhere, NoneBegins}
 use Rattle.tb_debug.specs.Debuggers.{KeepsRun, OnRun}
 use Rattle.tb_debug.specs.Runs.{Point, IsOfRun, IsFirst, IsKept, point_at, shown}
 use Rattle.tb_debug.specs.Searching.{KnowsBehind, NewestBetween}
 use Rattle.tb_debug.specs.Stopping.{IsNewest, LeadsTo, breaks_at, changes, comes_where, is_sought, leads_back, leads_from}
 use Rattle.tb_debug.specs.declared.searching.Destination.{Destination}
-use Rattle.tb_debug.specs.declared.searching.Destination.TheVariants.{Stop, Address}
 use Rattle.tb_debug.specs.declared.debugger.Debugger.{Debugger}
 use Rattle.tb_debug.specs.declared.history.Kept.{Kept}
 use Rattle.tb_debug.specs.declared.moment.Moment.{Moment}
@@ -32,18 +31,8 @@ pub record Passed (to : Destination) (start : Point) (d e : Debugger) : Type 0 w
 pub passed_here : (to : Destination) (start : Point) (d : Debugger) → Passed to start d d
 passed_here to start d = record { later = omega arith; nowhere = λ k above below. absurd (omega (arith, above, below)) }
 
--- what is looked for hangs on the program, on what is set and on the place alone
-sought_same : (to : Destination) (d e : Debugger) (p q : Point) → e.program ≡ d.program → e.stops ≡ d.stops → p ≡ q → is_sought to e p ≡ is_sought to d q
-sought_same Stop d e p q program stops place =
-    λ i. breaks_at (starts_of (program i).now) (stops i) (place i) || changes (stops i) (place i)
-sought_same (Address address) d e p q program stops place = ap (λ r. r.state.regs.pc == address) place
-
 -- a way goes on from a debugger e to one f, on the same run
-module _ (to : Destination) (start : Point) (d e f : Debugger) (limit : ℕ) (keep : KeepsRun d e) (keeps : KeepsRun d f) (stops : f.stops ≡ d.stops)
-    (on : OnRun start d) (passed : Passed to start d e) where
-  is_there : ℕ → Bool
-  is_there = comes_where (is_sought to d) d.starts start
-
+module _ (to : Destination) (start : Point) (d e f : Debugger) (limit : ℕ) (keep : KeepsRun d e) (passed : Passed to start d e) where
   -- where no line begins there is none that is looked for
   none_at : (n : ℕ) → NoneBegins e.starts start e.present.events n → IsNowhere (comes_where (is_sought to d) d.starts start) d.present n
   none_at n none k above below =
@@ -53,16 +42,6 @@ module _ (to : Destination) (start : Point) (d e f : Debugger) (limit : ℕ) (ke
         | inr before ↦ passed.nowhere k above (omega (arith, before))
       ]
 
-  -- whether the place where a line begins is looked for
-  there_is : (b : Bool) → comes_to e.starts start f.present.events ≡ true → b ≡ is_sought to f (shown f.present)
-      → comes_where (is_sought to d) d.starts start f.present.events ≡ b
-  there_is b comes is =
-      let now = keeps.2 start on in
-      let place : shown f.present ≡ point_at d.starts start f.present.events = now.of_run.stands ∙ ap (λ ms. point_at ms start f.present.events) keeps.1 in
-      let begins : comes_to d.starts start f.present.events ≡ true = subst (λ ms. comes_to ms start f.present.events ≡ true) keep.1 comes in
-      ap (λ c. c && is_sought to d (point_at d.starts start f.present.events)) begins
-      ∙ sym (is ∙ sought_same to d f (shown f.present) (point_at d.starts start f.present.events) keeps.0 stops place)
-
   -- it isn't at a line's beginning
   pub off : (whole : ℕ) (reached : Reached) → ((reached ≡ Line) → ⊥) → EndsAt e.starts start limit e.present reached f.present
       → IsLimited whole reached d.present f.present → GoesTo (comes_where (is_sought to d) d.starts start) whole reached d.present f.present
@@ -70,25 +49,6 @@ module _ (to : Destination) (start : Point) (d e f : Debugger) (limit : ℕ) (ke
   off whole Within other h used = h
   off whole (Ended why) other h used = (none_at _ h.0, h.1, h.2)
   off whole Limit other h used = (none_at _ h.0, used)
-
-  -- it is at a line that is looked for
-  pub stop_there : (whole : ℕ) (b : Bool) → b ≡ is_sought to f (shown f.present) → b ≡ true
-      → EndsAt e.starts start limit e.present Line f.present → GoesTo (comes_where (is_sought to d) d.starts start) whole Line d.present f.present
-  stop_there whole b is holds h = (omega (arith, h.0, passed.later), there_is b h.1 is ∙ holds, none_at _ h.2)
-
-  -- it is at a line that isn't
-  pub no_stop_there : (b : Bool) → b ≡ is_sought to f (shown f.present) → b ≡ false
-      → EndsAt e.starts start limit e.present Line f.present → Passed to start d f
-  no_stop_there b is fails h =
-      record {
-        later = omega (arith, h.0, passed.later);
-        nowhere = λ k above below. elim (cases_lt k f.present.events) [
-          | inl before ↦ none_at _ h.2 k above before
-          | inr from ↦
-              let same : k ≡ f.present.events = omega (arith, from, below) in
-              ap (comes_where (is_sought to d) d.starts start) same ∙ there_is b h.1 is ∙ fails
-        ];
-      }
 
 -- the last event that may be taken
 pub last_is : (n limit last : ℕ) → last ≡ min (n + limit) 18446744073709551615 → (last ≡ n + limit) ⊎ (last ≡ 18446744073709551615)

@@ -1,5 +1,5 @@
 //! A run that can be walked both ways.
-ghost use Rattle.std.specs.Prelude.{◌≡◌, ◌+◌, ◌-◌, ◌<◌, ◌≤◌, ℕ, true, if◌then◌else◌, vec_len, IfOk, IfSome, OnOk};
+ghost use Rattle.std.specs.Prelude.{◌≡◌, ◌+◌, ◌-◌, ◌<◌, ◌≤◌, ℕ, if◌then◌else◌, vec_len, IfOk, IfSome, OnOk};
 ghost use Rattle.tb_kernal.specs.Machine.{State, state_of};
 ghost use Rattle.tb_syntax.specs.Source.{Program};
 ghost use Rattle.tb_codegen.specs.Compiled.{starts_of};

@@ -1,5 +1,5 @@
 -- What a line comes to.
-use Rattle.std.proofs.Common.{◌≡◌, ◌≢◌, inl, inr, List, [], ◌∷◌, ◌++◌, ℕ, ◌+◌, Bool, Option, Some, length, take, sym, ap, subst, ◌∙◌, append_assoc}
+use Rattle.std.proofs.Common.{◌≡◌, ◌≢◌, inl, inr, List, [], ◌∷◌, ◌++◌, ℕ, ◌+◌, Option, Some, length, take, sym, ap, subst, ◌∙◌, append_assoc}
 use Rattle.std.specs.Prelude.{Err, ℤ, min}
 use Rattle.std.proofs.KnownBytes.{Appends-kept, Appends-trans}
 use Rattle.std.proofs.Math.Seq.{take-append-add}

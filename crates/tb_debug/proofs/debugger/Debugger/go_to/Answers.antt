@@ -1,8 +1,8 @@
 -- The goals of `Debugger::go_to` in src/searching.rt.
 use Rattle.std.proofs.Common.{arith, refl, subst, ◌∙◌}
-use Rattle.tb_debug.specs.Begins.{EndsAt, StandsBy}
+use Rattle.tb_debug.specs.Begins.{StandsBy}
 use Rattle.tb_debug.proofs.Leading.{not_there}
-use Rattle.tb_debug.proofs.Stopping.{last_is, limited_on, no_stop_there, off, passed_here, stop_there, then_keeps}
+use Rattle.tb_debug.proofs.Stopping.{last_is, limited_on, off, passed_here, then_keeps}
 use Rattle.tb_debug.proofs.debugger.Debugger.go_to.Goals as goal
 
 pub loop-done-init : goal.loop-done-init
@@ -24,14 +24,13 @@ returns-in_default c =
     let reached = c.in_ok-reached.reached in
     let known = c.loop-done.invariant in
     let next = c.in_ok-reached.ensures in
-    let keeps = then_keeps d e f known.run next.run in
     let used = limited_on c.args.limit c.saturating_add-last.result c.left.result reached d.present e.present f.present next.limited c.left.ensures known.few
     (last_is d.present.events c.args.limit _ c.saturating_add-last.ensures) in
     record {
-      run = keeps;
+      run = then_keeps d e f known.run next.run;
       there = not_there c.args.to reached f c.in_default.not-Line;
       leads = λ start on.
-          off c.args.to start d e f c.left.result known.run keeps (next.stops ∙ known.stops) on (known.passed start on) c.args.limit reached
+          off c.args.to start d e f c.left.result known.run (known.passed start on) c.args.limit reached
           c.in_default.not-Line (next.ends start (known.run.2 start on).of_run) used;
       stands = subst (λ marks. StandsBy marks reached f.present) known.run.1 next.stands;
       shown = next.shown ∙ known.shown;

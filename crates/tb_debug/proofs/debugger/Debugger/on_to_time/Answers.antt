@@ -1,6 +1,5 @@
 -- The goals of `Debugger::on_to_time` in src/debugger.rt.
-use Rattle.std.proofs.Common.{◌∙◌, ap, subst, sym}
-use Rattle.std.specs.Prelude.{◌==◌, ◌&&◌}
+use Rattle.std.proofs.Common.{◌∙◌, subst, sym}
 use Rattle.tb_debug.specs.Begins.{StandsBy}
 use Rattle.tb_debug.specs.Runs.{is_marked}
 use Rattle.tb_debug.proofs.Leading.{no_time, time_more}
