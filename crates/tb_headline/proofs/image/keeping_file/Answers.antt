@@ -1,52 +1,41 @@
 -- The goals of `keeping_file` in src/image.rt.
-use Rattle.std.proofs.Common.{ℕ, ◌≡◌, ◌≤◌, arith, ap, map, subst, ◌∙◌}
+use Rattle.std.proofs.Common.{ap, map, subst, ◌∙◌}
 use Rattle.tb_syntax.specs.PlainData.{lines_of}
-use Rattle.tb_syntax.specs.Source.{Program, numbers}
-use Rattle.tb_syntax.specs.Texts.{HasShortTexts}
 use Rattle.tb_asm.specs.Layout.{entry_of}
 use Rattle.tb_runtime16.specs.Places.{PROLOGUE_AT}
 use Rattle.tb_settling.specs.Settled.{IsLaid}
 use Rattle.tb_templates.specs.Program.{program_code}
-use Rattle.tb_meaning.specs.Cost.{cost}
 use Rattle.tb_lower.specs.Lowered as lowered
-use Rattle.tb_lower.specs.Ranges.{IsCodeInRange}
 use Rattle.tb_lower.specs.PlainData.{code_of}
-use Rattle.tb_lower.specs.Slots.{SlotCode}
-use Rattle.tb_parser.specs.Files.{AreStated, RisesFrom}
 use Rattle.tb_codegen.proofs.SmallPrograms.{are_small, cost_small}
 use Rattle.tb_codegen.proofs.Kept.{file_keeps}
-use Rattle.tb_codegen.proofs.Sized.{IsSettling, settling}
+use Rattle.tb_codegen.proofs.Sized.{settling}
 use Rattle.tb_headline.proofs.image.keeping_file.Goals as goal
 
 pub cost-cost-requires : goal.cost-cost-requires
 cost-cost-requires c = cost_small (lines_of c.args.program.now) (are_small (lines_of c.args.program.now) c.requires.stated) c.requires.rising
 
--- a program whose cost was counted and is no more than the most
-fits : (seed : ℕ) (p : Program) (code : SlotCode) (n : ℕ) → code ≡ lowered.program_code p → AreStated p → RisesFrom 0 (numbers p)
-    → ((limit : ℕ) → HasShortTexts limit p → IsCodeInRange limit code) → n ≤ 37888 → n ≡ cost p → IsSettling seed code
-fits seed p code n same stated rises ranges small is = settling seed p code same stated rises ranges (omega (arith, small, is))
-
 pub program_items-requires-clause-lists : goal.program_items-requires-clause-lists
 program_items-requires-clause-lists c =
-    (fits c.args.seed (lines_of c.args.program.now) (code_of c.in_ok-code.code) c.cost-cost.result c.in_ok-code.ensures.lowered c.requires.stated c.requires.rising
+    (settling c.args.seed (lines_of c.args.program.now) c.in_ok-code.ensures.lowered c.requires.stated c.requires.rising
     c.in_ok-code.ensures.in_range c.if-cost-gt-MOST.false c.cost-cost.ensures).lists
 
 pub program_items-requires-clause-lines : goal.program_items-requires-clause-lines
 program_items-requires-clause-lines c =
-    (fits c.args.seed (lines_of c.args.program.now) (code_of c.in_ok-code.code) c.cost-cost.result c.in_ok-code.ensures.lowered c.requires.stated c.requires.rising
+    (settling c.args.seed (lines_of c.args.program.now) c.in_ok-code.ensures.lowered c.requires.stated c.requires.rising
     c.in_ok-code.ensures.in_range c.if-cost-gt-MOST.false c.cost-cost.ensures).lines
 
 pub program_items-requires-clause-rising : goal.program_items-requires-clause-rising
 program_items-requires-clause-rising c =
-    (fits c.args.seed (lines_of c.args.program.now) (code_of c.in_ok-code.code) c.cost-cost.result c.in_ok-code.ensures.lowered c.requires.stated c.requires.rising
+    (settling c.args.seed (lines_of c.args.program.now) c.in_ok-code.ensures.lowered c.requires.stated c.requires.rising
     c.in_ok-code.ensures.in_range c.if-cost-gt-MOST.false c.cost-cost.ensures).rising
 
 pub returns : goal.returns
 returns c =
     let code = code_of c.in_ok-code.code in
-    let ready = fits c.args.seed (lines_of c.args.program.now) code c.cost-cost.result c.in_ok-code.ensures.lowered c.requires.stated c.requires.rising
+    let ready = settling c.args.seed (lines_of c.args.program.now) c.in_ok-code.ensures.lowered c.requires.stated c.requires.rising
     c.in_ok-code.ensures.in_range c.if-cost-gt-MOST.false c.cost-cost.ensures in
     let laid : IsLaid PROLOGUE_AT (program_code c.args.seed code) c.in-Ok.image.at c.in-Ok.image.bytes.items c.in-Ok.image.labels.entries =
     subst (λ es. IsLaid PROLOGUE_AT es c.in-Ok.image.at c.in-Ok.image.bytes.items c.in-Ok.image.labels.entries) (ap (map entry_of) c.deref.ensures.value ∙ c.in_ok-items.ensures) c.in-Ok.ensures.laid in
-    file_keeps c.args.seed (lines_of c.args.program.now) code c.in_ok-write.field-0.items c.in-Ok.image.bytes.items c.in-Ok.image.at c.in-Ok.image.labels.entries c.ranges.seed.fits c.requires.some
+    file_keeps c.ranges.seed.fits c.requires.some
     c.in_ok-code.ensures.lowered c.in_ok-code.ensures.follows ready laid c.in_ok-write.ensures
