@@ -6,7 +6,7 @@ use tb_disasm::ListError;
 use tb_disk::DiskError;
 use tb_driver::KeyError;
 use tb_lower::LowerError;
-use tb_memmap::{LoadError, NoMemory};
+use tb_memmap::LoadError;
 use tb_parser::{SourceError, SourceErrorKind};
 use tb_prg::PrgError;
 use thiserror::Error;
@@ -64,12 +64,6 @@ impl From<AllocError> for Failure {
 
 impl<T: Drop> From<AllocFailed<T>> for Failure {
     fn from(_: AllocFailed<T>) -> Failure {
-        Failure::NoMemory
-    }
-}
-
-impl From<NoMemory> for Failure {
-    fn from(_: NoMemory) -> Failure {
         Failure::NoMemory
     }
 }

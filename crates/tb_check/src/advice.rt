@@ -3,7 +3,6 @@ use crate::lines::{LastLine, NumberedLine, last_lines, outdone_by};
 use std::alloc::{AllocError, Global};
 use std::collections::BTreeMap;
 use tb_meaning::{Warning as MissingJump, constant, warnings as missing_jumps};
-use tb_parser::NoMemory;
 use tb_syntax::{Expr, PrintItem, Program, Statement};
 
 /// The largest bound of RND to which there is a better one.
@@ -44,12 +43,12 @@ pub fn warnings(
     alloc: Global,
     program: &Program,
     lines: &[NumberedLine],
-) -> Result<Vec<LineWarning>, NoMemory> {
+) -> Result<Vec<LineWarning>, AllocError> {
     let facts = facts_of(alloc, program, lines)?;
     warnings_by(alloc, &facts, lines)
 }
 
-fn facts_of(alloc: Global, program: &Program, lines: &[NumberedLine]) -> Result<Facts, NoMemory> {
+fn facts_of(alloc: Global, program: &Program, lines: &[NumberedLine]) -> Result<Facts, AllocError> {
     let last = last_lines(alloc, lines)?;
     Ok(Facts {
         last,

@@ -5,11 +5,11 @@ ghost use Rattle.tb_parser.specs.declared.errors.SourceErrorKind.TheVariants as 
 ghost use Rattle.tb_check.specs.BadLines.{BadLinesAre, FirstIs, IsFaultOf, LooksAt};
 
 use std::alloc::{AllocError, Global};
-use tb_parser::{Fault, NoMemory, SourceError, SourceErrorKind, next_line, read_line};
+use tb_parser::{Fault, SourceError, SourceErrorKind, next_line, read_line};
 
 /// The bad lines of a source, in order, each with its first fault: line and column as `compile` counts them. A bad line
 /// hides no later one, and a line that is replaced later is looked at too.
-pub fn bad_lines(alloc: Global, source: &[u8]) -> Result<Vec<SourceError>, NoMemory>
+pub fn bad_lines(alloc: Global, source: &[u8]) -> Result<Vec<SourceError>, AllocError>
     // Exactly the bad lines, in their order.
     ensures lines { IfOk result (λ found. BadLinesAre 1 (lines_of_file source.now) found.items) }
     // The first one is why the file is refused; where there is none, no line of the file is why it is.
@@ -32,7 +32,7 @@ fn look_at(
     line: &[u8],
     number: usize,
     found: &mut Vec<SourceError>,
-) -> Result<(), NoMemory>
+) -> Result<(), AllocError>
     ensures { OnOk result (LooksAt number line.now found.old.items found.new.items) }
 {
     match fault_of(alloc, line)? {
@@ -48,7 +48,7 @@ fn look_at(
     }
 }
 
-fn push(found: &mut Vec<SourceError>, error: SourceError) -> Result<(), NoMemory>
+fn push(found: &mut Vec<SourceError>, error: SourceError) -> Result<(), AllocError>
     ensures { OnOk result (found.new.items ≡ found.old.items ++ error ∷ []) }
 {
     found.push(error)?;
@@ -56,7 +56,7 @@ fn push(found: &mut Vec<SourceError>, error: SourceError) -> Result<(), NoMemory
 }
 
 // What is wrong with a line, if it is bad.
-fn fault_of(alloc: Global, line: &[u8]) -> Result<Option<Fault>, NoMemory>
+fn fault_of(alloc: Global, line: &[u8]) -> Result<Option<Fault>, AllocError>
     ensures { IfOk result (IsFaultOf line.now) }
 {
     match read_line(alloc, line) {
@@ -66,7 +66,7 @@ fn fault_of(alloc: Global, line: &[u8]) -> Result<Option<Fault>, NoMemory>
 }
 
 /// A fault, where it is none of memory.
-pub fn told(fault: Fault) -> Result<Option<Fault>, NoMemory>
+pub fn told(fault: Fault) -> Result<Option<Fault>, AllocError>
     ensures { IfOk result (λ told. (told ≡ Some fault) × (fault.kind ≢ kind.NoMemory)) }
 {
     match fault.kind {

@@ -5,10 +5,9 @@ ghost use Rattle.tb_check.specs.Entries.{DeepLinesAre, deep_here, deep_of, entry
 use crate::lines::{NumberedLine, numbered_lines};
 use std::alloc::{AllocError, Global};
 use tb_lower::{SLOT_COUNT, command_need};
-use tb_parser::NoMemory;
 
 /// The lines of a file, from 1, with an expression that is too deep, which no later line replaces or takes out.
-pub fn deep_lines(alloc: Global, source: &[u8]) -> Result<Vec<usize>, NoMemory>
+pub fn deep_lines(alloc: Global, source: &[u8]) -> Result<Vec<usize>, AllocError>
     ensures { IfOk result (λ deep. DeepLinesAre source.now deep.items) }
 {
     let lines = numbered_lines(alloc, source)?;

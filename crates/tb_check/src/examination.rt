@@ -8,7 +8,7 @@ use crate::judging::{Verdict, judge};
 use crate::lines::{numbered_lines, texts_of_lines};
 use crate::notes::{Note, note_of};
 use std::alloc::{AllocError, Global};
-use tb_parser::{NoMemory, SourceError};
+use tb_parser::SourceError;
 use tb_syntax::Program;
 
 /// A bad line's first fault, with a note where there is one.
@@ -37,7 +37,7 @@ pub enum Findings {
 }
 
 /// Looks at a source.
-pub fn examine(alloc: Global, source: &[u8]) -> Result<Findings, NoMemory>
+pub fn examine(alloc: Global, source: &[u8]) -> Result<Findings, AllocError>
     ensures { IfOk result (AreFindings source.now) }
 {
     let verdict = judge(alloc, source)?;
@@ -45,7 +45,7 @@ pub fn examine(alloc: Global, source: &[u8]) -> Result<Findings, NoMemory>
 }
 
 // What there is to say of a source, by what becomes of it.
-fn findings_by(alloc: Global, source: &[u8], verdict: &Verdict) -> Result<Findings, NoMemory>
+fn findings_by(alloc: Global, source: &[u8], verdict: &Verdict) -> Result<Findings, AllocError>
     ensures { IfOk result (Tells source.now verdict.now) }
 {
     match verdict {
@@ -65,7 +65,7 @@ fn warnings_on(
     alloc: Global,
     source: &[u8],
     program: &Program,
-) -> Result<Vec<LineWarning>, NoMemory> {
+) -> Result<Vec<LineWarning>, AllocError> {
     let lines = numbered_lines(alloc, source)?;
     warnings(alloc, program, &lines)
 }
@@ -75,7 +75,7 @@ fn with_notes(
     alloc: Global,
     source: &[u8],
     errors: &[SourceError],
-) -> Result<Vec<BadLine>, NoMemory>
+) -> Result<Vec<BadLine>, AllocError>
     ensures { IfOk result (λ lines. map (λ l. l.error) lines.items ≡ errors.now) }
 {
     let texts = texts_of_lines(alloc, source)?;
@@ -83,7 +83,7 @@ fn with_notes(
 }
 
 // Bad lines with their notes, by the lines of their file.
-fn noted(alloc: Global, texts: &[&[u8]], errors: &[SourceError]) -> Result<Vec<BadLine>, NoMemory>
+fn noted(alloc: Global, texts: &[&[u8]], errors: &[SourceError]) -> Result<Vec<BadLine>, AllocError>
     ensures { IfOk result (λ lines. map (λ l. l.error) lines.items ≡ errors.now) }
 {
     let mut found = Vec::new(alloc);
@@ -98,14 +98,14 @@ fn push_noted(
     texts: &[&[u8]],
     error: SourceError,
     found: &mut Vec<BadLine>,
-) -> Result<(), NoMemory>
+) -> Result<(), AllocError>
     ensures { OnOk result (map (λ l. l.error) found.new.items ≡ map (λ l. l.error) found.old.items ++ error ∷ []) }
 {
     found.push(with_note(alloc, texts, error)?)?;
     Ok(())
 }
 
-fn with_note(alloc: Global, texts: &[&[u8]], error: SourceError) -> Result<BadLine, NoMemory>
+fn with_note(alloc: Global, texts: &[&[u8]], error: SourceError) -> Result<BadLine, AllocError>
     ensures { IfOk result (λ line. line.error ≡ error) }
 {
     let note = match texts.get(error.line.saturating_sub(1)) {

@@ -14,7 +14,7 @@ use crate::checking::bad_lines;
 use std::alloc::{AllocError, Global};
 use tb_codegen::cost;
 use tb_lower::{SLOT_COUNT, command_need};
-use tb_parser::{NoMemory, SourceError, SourceErrorKind, parse};
+use tb_parser::{SourceError, SourceErrorKind, parse};
 use tb_syntax::Program;
 
 /// The most that a program may cost.
@@ -43,7 +43,7 @@ pub enum Verdict {
 }
 
 /// Judges a source.
-pub fn judge(alloc: Global, source: &[u8]) -> Result<Verdict, NoMemory>
+pub fn judge(alloc: Global, source: &[u8]) -> Result<Verdict, AllocError>
     ensures judged { IfOk result (Judges source.now) }
     // What the compiler answers agrees with it.
     ensures agrees { IfOk result (λ v. (seed : ℕ) (answer : Result Compiled CompileError) → Compiles seed source.now answer → AgreesWith v answer) }
@@ -57,7 +57,7 @@ pub fn judge(alloc: Global, source: &[u8]) -> Result<Verdict, NoMemory>
 }
 
 // Judges a source without bad lines.
-fn judge_lines(alloc: Global, source: &[u8]) -> Result<Verdict, NoMemory>
+fn judge_lines(alloc: Global, source: &[u8]) -> Result<Verdict, AllocError>
     requires { (p : SourceProgram) × LinesMake source.now (at_end p) }
     ensures { IfOk result (Judges source.now) }
 {
@@ -70,7 +70,7 @@ fn judge_lines(alloc: Global, source: &[u8]) -> Result<Verdict, NoMemory>
     }
 }
 
-fn judge_program(alloc: Global, program: Program) -> Result<Verdict, NoMemory>
+fn judge_program(alloc: Global, program: Program) -> Result<Verdict, AllocError>
     requires stated { AreStated (lines_of program) }
     requires rising { RisesFrom 0 (numbers (lines_of program)) }
     ensures { IfOk result (JudgesProgram (lines_of program)) }
@@ -83,7 +83,7 @@ fn judge_program(alloc: Global, program: Program) -> Result<Verdict, NoMemory>
     })
 }
 
-fn faults_of(alloc: Global, program: &Program) -> Result<ProgramFaults, NoMemory>
+fn faults_of(alloc: Global, program: &Program) -> Result<ProgramFaults, AllocError>
     requires { costs.cost (lines_of program.now) < 4294967296 }
     ensures { IfOk result (HasFaults (lines_of program.now)) }
 {
@@ -94,7 +94,7 @@ fn faults_of(alloc: Global, program: &Program) -> Result<ProgramFaults, NoMemory
 }
 
 // The lines with an expression that is too deep.
-fn deep_lines(alloc: Global, program: &Program) -> Result<Vec<u16>, NoMemory>
+fn deep_lines(alloc: Global, program: &Program) -> Result<Vec<u16>, AllocError>
     ensures { IfOk result (λ deep. deep.items ≡ deep_lines (lines_of program.now)) }
 {
     let mut deep = Vec::new(alloc);

@@ -17,5 +17,5 @@ pub use examination::{BadLine, Findings, examine};
 pub use judging::{ProgramFaults, Verdict, judge};
 pub use lines::texts_of_lines;
 pub use notes::Note;
-pub use tb_parser::{NoMemory, SourceError, SourceErrorKind};
+pub use tb_parser::{SourceError, SourceErrorKind};
 pub use words::Missing;

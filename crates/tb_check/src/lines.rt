@@ -6,7 +6,7 @@ ghost use Rattle.tb_check.specs.Entries.{EntriesAre, Enters, IsEntry, entry_of, 
 use crate::checking::told;
 use std::alloc::{AllocError, Global};
 use std::collections::BTreeMap;
-use tb_parser::{LineEdit, NoMemory, next_line, read_line};
+use tb_parser::{LineEdit, next_line, read_line};
 use tb_syntax::Statement;
 
 /// A line of a file that has a number.
@@ -20,7 +20,7 @@ pub struct NumberedLine {
 }
 
 /// The lines of a file as they stand there.
-pub fn texts_of_lines(alloc: Global, source: &[u8]) -> Result<Vec<&[u8]>, NoMemory>
+pub fn texts_of_lines(alloc: Global, source: &[u8]) -> Result<Vec<&[u8]>, AllocError>
     ensures { IfOk result (λ texts. map (λ t. t.now) texts.items ≡ lines_of_file source.now) }
 {
     let mut texts = Vec::new(alloc);
@@ -33,7 +33,7 @@ pub fn texts_of_lines(alloc: Global, source: &[u8]) -> Result<Vec<&[u8]>, NoMemo
 }
 
 /// The lines of a file that have a number, in order. Bad lines are left out.
-pub fn numbered_lines(alloc: Global, source: &[u8]) -> Result<Vec<NumberedLine>, NoMemory>
+pub fn numbered_lines(alloc: Global, source: &[u8]) -> Result<Vec<NumberedLine>, AllocError>
     ensures { IfOk result (λ found. EntriesAre 1 (lines_of_file source.now) (map entry_of found.items)) }
 {
     let mut found = Vec::new(alloc);
@@ -52,7 +52,7 @@ fn push_numbered(
     text: &[u8],
     line: usize,
     found: &mut Vec<NumberedLine>,
-) -> Result<(), NoMemory>
+) -> Result<(), AllocError>
     ensures { OnOk result (Enters line text.now (map entry_of found.old.items) (map entry_of found.new.items)) }
 {
     if let Some((number, statement)) = numbered(alloc, text)? {
@@ -66,7 +66,7 @@ fn push_numbered(
 }
 
 // A line's number and its statement, where it has them.
-fn numbered(alloc: Global, text: &[u8]) -> Result<Option<(u16, Option<Statement>)>, NoMemory>
+fn numbered(alloc: Global, text: &[u8]) -> Result<Option<(u16, Option<Statement>)>, AllocError>
     ensures { IfOk result (λ found. IsEntry text.now (number_and_command found)) }
 {
     match read_line(alloc, text) {

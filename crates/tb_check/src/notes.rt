@@ -3,7 +3,7 @@ ghost use Rattle.std.specs.Prelude.{◌<◌, ◌≤◌, length};
 
 use crate::words::{Missing, missing_word, near_statement};
 use std::alloc::{AllocError, Global};
-use tb_parser::{NoMemory, SourceError, SourceErrorKind};
+use tb_parser::{SourceError, SourceErrorKind};
 
 /// The bytes with which some editors begin a file.
 const BYTE_ORDER_MARK: &[u8] = &[0xef, 0xbb, 0xbf];
@@ -33,7 +33,7 @@ pub enum Note {
 }
 
 /// The note on the first fault of a line, where there is one.
-pub fn note_of(alloc: Global, line: &[u8], error: SourceError) -> Result<Option<Note>, NoMemory> {
+pub fn note_of(alloc: Global, line: &[u8], error: SourceError) -> Result<Option<Note>, AllocError> {
     match error.kind {
         SourceErrorKind::BadByte => Ok(note_on_byte(line, error)),
         SourceErrorKind::Syntax => note_on_syntax(alloc, line, error.column.saturating_sub(1)),
@@ -52,13 +52,13 @@ fn note_on_byte(line: &[u8], error: SourceError) -> Option<Note> {
 }
 
 // The note on a place of a line, from 0, where no line of the language goes on like this.
-fn note_on_syntax(alloc: Global, line: &[u8], place: usize) -> Result<Option<Note>, NoMemory> {
+fn note_on_syntax(alloc: Global, line: &[u8], place: usize) -> Result<Option<Note>, AllocError> {
     let line = in_upper_case(alloc, line)?;
     note_at(alloc, &line, place)
 }
 
 // The same on a line in upper case.
-fn note_at(alloc: Global, line: &[u8], place: usize) -> Result<Option<Note>, NoMemory> {
+fn note_at(alloc: Global, line: &[u8], place: usize) -> Result<Option<Note>, AllocError> {
     match line.get(place) {
         None => Ok(note_on_end(line)),
         Some(b'?') => Ok(Some(Note::QuestionMark)),
@@ -149,7 +149,7 @@ fn letters_at_end(text: &[u8]) -> usize
 }
 
 // The list of words comes before nearness.
-fn note_on_word(alloc: Global, word: &Word<'_>) -> Result<Option<Note>, NoMemory> {
+fn note_on_word(alloc: Global, word: &Word<'_>) -> Result<Option<Note>, AllocError> {
     if let Some(missing) = missing_word(word.letters, word.whole) {
         return Ok(Some(Note::Missing(missing)));
     }
@@ -178,7 +178,7 @@ impl Word<'_> {
 }
 
 // The note on a word that stands where a statement does.
-fn note_on_slip(alloc: Global, word: &[u8]) -> Result<Option<Note>, NoMemory> {
+fn note_on_slip(alloc: Global, word: &[u8]) -> Result<Option<Note>, AllocError> {
     match near_statement(alloc, word)? {
         Some(statement) => Ok(Some(Note::Near(statement))),
         None if word.len() == 2 => Ok(Some(Note::LongName)),

@@ -1,7 +1,6 @@
 //! Words that stand where no statement has them: those of other BASICs, and slips of the pen.
-use std::alloc::Global;
+use std::alloc::{AllocError, Global};
 use strsim::generic_levenshtein;
-use tb_parser::NoMemory;
 
 /// A word of other BASICs that Tiny BASIC has not.
 #[derive(Clone, Copy, Drop)]
@@ -116,7 +115,7 @@ pub fn missing_word(letters: &[u8], whole: &[u8]) -> Option<Missing> {
 }
 
 /// The word of a statement from which a word in upper case is one letter away: changed, left out or added.
-pub fn near_statement(alloc: Global, word: &[u8]) -> Result<Option<&'static str>, NoMemory> {
+pub fn near_statement(alloc: Global, word: &[u8]) -> Result<Option<&'static str>, AllocError> {
     for statement in STATEMENTS {
         if generic_levenshtein(alloc, word, statement.as_bytes())? == 1 {
             return Ok(Some(statement));

@@ -6,7 +6,7 @@ use Rattle.tb_parser.specs.declared.errors.SourceErrorKind.TheVariants.{Syntax, 
 use Rattle.tb_parser.specs.Answers.{refusal_of, InLineOne}
 use Rattle.tb_parser.specs.Files.{refused_at}
 use Rattle.tb_parser.specs.Readings.{ExpressionIs, at_column}
-use Rattle.tb_stepper.specs.Notes.{Holds}
+use Rattle.tb_stepper.specs.Holding.{Holds}
 use Rattle.tb_commands.specs.declared.answer.Answer.TheVariants.{What}
 use Rattle.tb_commands.specs.Dialogue.{SaysValue}
 

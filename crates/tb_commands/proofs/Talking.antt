@@ -3,7 +3,7 @@ use Rattle.std.proofs.Common.{ℕ, ◌≡◌, List, [], ◌∷◌, ◌++◌, ref
 use Rattle.std.specs.Prelude.{Option, Some, None, Ok}
 use Rattle.tb_kernal.specs.declared.events.Event.{Event}
 use Rattle.tb_kernal.specs.Machine.{Content}
-use Rattle.tb_stepper.specs.Notes.{Holds}
+use Rattle.tb_stepper.specs.Holding.{Holds}
 use Rattle.tb_commands.specs.declared.answer.Answer.{Answer}
 use Rattle.tb_commands.specs.Commands.{Asked, asked_in}
 use Rattle.tb_commands.specs.Answers.{text_of}

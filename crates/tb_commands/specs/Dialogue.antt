@@ -1,7 +1,7 @@
 -- What a history answers to commands, and what becomes of it.
 use Rattle.std.specs.Prelude.{ℕ, ℤ, ◌≡◌, ◌⊎◌, List, [], ◌∷◌, ◌++◌, Option, Some, None, Result, Ok, Err}
 use Rattle.tb_memmap.specs.Bytes.{at}
-use Rattle.tb_memmap.specs.declared.memory.NoMemory.{NoMemory}
+use Rattle.std.specs.declared.alloc.AllocError.{AllocError}
 use Rattle.tb_words.specs.Words.{word_of}
 use Rattle.tb_syntax.specs.Source.{Expression}
 use Rattle.tb_parser.specs.Answers.{InLineOne}
@@ -15,7 +15,7 @@ use Rattle.tb_kernal.specs.Machine.{Content, state_of, status, SameKeyboard}
 use Rattle.tb_cpu.specs.Operands.{word_in}
 use Rattle.tb_runtime16.specs.Places.{NOTES}
 use Rattle.tb_codegen.specs.Compiled.{starts_of, table_of, line_in, start_in}
-use Rattle.tb_stepper.specs.Notes.{Holds, machines}
+use Rattle.tb_stepper.specs.Holding.{Holds, machines}
 use Rattle.tb_stepper.specs.History.{Stepped, ReachesLine}
 use Rattle.tb_stepper.specs.Readings.{variable_in, variables_in}
 use Rattle.tb_stepper.specs.declared.reached.Reached.{Reached}
@@ -33,7 +33,7 @@ abbrev pub registers_of : {O : Type 0} → Holds O → Answer
 registers_of h = Registers h.machine.regs (line_in (starts_of h.program) (table_of h.program) h.machine.regs.pc) (status (state_of h.machine))
 
 -- a step, and how the machine then stands
-abbrev pub SaysStep : {O : Type 0} → (O → Content → Event → O → Type 0) → Holds O → Result Answer NoMemory → Holds O → Type 0
+abbrev pub SaysStep : {O : Type 0} → (O → Content → Event → O → Type 0) → Holds O → Result Answer AllocError → Holds O → Type 0
 SaysStep gives h (Ok answer) k = Stepped gives h (Ok (status (state_of k.machine))) k × (answer ≡ registers_of k)
 SaysStep gives h (Err e) k = Stepped gives h (Err e) k
 
@@ -47,10 +47,10 @@ pub record TakenBack {O : Type 0} (h k : Holds O) : Type 0 where
 -- a step back, and how the machine then stands, or that no step is noted
 abbrev pub SaysBack : {O : Type 0} → Holds O → Answer → Holds O → Type 0
 SaysBack h answer k =
-    (TakenBack h k × (answer ≡ registers_of k)) ⊎ ((h.notes ≡ []) × (k ≡ h) × (answer ≡ NothingBack))
+    (TakenBack h k × (answer ≡ registers_of k)) ⊎ ((h.undos ≡ []) × (k ≡ h) × (answer ≡ NothingBack))
 
 -- the answer where a walk to a line came to this
-abbrev pub walk_answer : ℕ → Result Reached StepError → Result Answer NoMemory
+abbrev pub walk_answer : ℕ → Result Reached StepError → Result Answer AllocError
 walk_answer line (Ok reached.There) = Ok (At line)
 walk_answer line (Ok (reached.Stopped t)) = Ok (Stands t)
 walk_answer line (Ok reached.Limit) = Ok Limit
@@ -58,7 +58,7 @@ walk_answer line (Err error.NoSuchLine) = Ok NoSuchLine
 walk_answer line (Err error.NoMemory) = Err (record {})
 
 -- a walk to a line
-abbrev pub SaysGo : {O : Type 0} → (O → Content → Event → O → Type 0) → (limit line : ℕ) → Holds O → Result Answer NoMemory → Holds O → Type 0
+abbrev pub SaysGo : {O : Type 0} → (O → Content → Event → O → Type 0) → (limit line : ℕ) → Holds O → Result Answer AllocError → Holds O → Type 0
 SaysGo gives limit line h result k =
     (r : Result Reached StepError) × ReachesLine gives (start_in (starts_of h.program) line) limit h r k × (result ≡ walk_answer line r)
 
@@ -78,19 +78,19 @@ abbrev pub SaysValue : {O : Type 0} → Holds O → List ℕ → Answer → Type
 SaysValue h text answer = (r : Result Expression FileRefusal) × InLineOne (ExpressionIs text) r × SaysOf h r answer
 
 -- an answer for which only the history is read; want of memory is none
-abbrev pub Reads : {O : Type 0} → (Answer → Type 0) → Holds O → Result (Option Answer) NoMemory → Holds O → Type 0
+abbrev pub Reads : {O : Type 0} → (Answer → Type 0) → Holds O → Result (Option Answer) AllocError → Holds O → Type 0
 Reads says h (Ok (Some answer)) k = says answer × (k ≡ h)
 Reads says h (Ok None) k = ⊥
 Reads says h (Err e) k = k ≡ h
 
 -- an answer, or want of memory
-abbrev pub Answered : (Result Answer NoMemory → Type 0) → Result (Option Answer) NoMemory → Type 0
+abbrev pub Answered : (Result Answer AllocError → Type 0) → Result (Option Answer) AllocError → Type 0
 Answered says (Ok (Some answer)) = says (Ok answer)
 Answered says (Ok None) = ⊥
 Answered says (Err e) = says (Err e)
 
 -- what is answered to a command, and the history after it
-abbrev pub Responds : {O : Type 0} → (O → Content → Event → O → Type 0) → ℕ → Holds O → Asked → Result (Option Answer) NoMemory → Holds O → Type 0
+abbrev pub Responds : {O : Type 0} → (O → Content → Event → O → Type 0) → ℕ → Holds O → Asked → Result (Option Answer) AllocError → Holds O → Type 0
 Responds gives limit h asked.Step result k = Answered (λ r. SaysStep gives h r k) result
 Responds gives limit h asked.Back (Ok (Some answer)) k = SaysBack h answer k
 Responds gives limit h asked.Back (Ok None) k = ⊥

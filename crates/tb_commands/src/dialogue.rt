@@ -7,23 +7,22 @@ ghost use Rattle.tb_commands.specs.Dialogue.{registers_of, SaysStep, SaysBack, S
 use crate::answer::Answer;
 use crate::command::{Command, read_command};
 use crate::lines::next_line;
-use std::alloc::Global;
+use std::alloc::{AllocError, Global};
 use tb_kernal::Outside;
 use tb_meaning::EvalError;
-use tb_memmap::NoMemory;
 use tb_parser::{SourceErrorKind, parse_expr};
 use tb_stepper::{Reached, StepError, Stepper};
 
 /// Does what a command asks for, and answers it; there is no answer to `Quit`. A walk to a line takes at most `limit`
 /// steps.
 ///
-/// After NoMemory all stands as before, but for a walk: then the machine stands after the steps so far.
+/// After AllocError all stands as before, but for a walk: then the machine stands after the steps so far.
 pub fn respond<O: Outside + Drop>(
     alloc: Global,
     stepper: &mut Stepper<'_, O>,
     command: Command<'_>,
     limit: u64,
-) -> Result<Option<Answer>, NoMemory>
+) -> Result<Option<Answer>, AllocError>
     ensures { Responds O.gives limit stepper.old (asked_of command.entry) result stepper.new }
 {
     let answer = match command {
@@ -50,7 +49,7 @@ fn registers<O: Outside + Drop>(stepper: &Stepper<'_, O>) -> Answer
     }
 }
 
-fn step<O: Outside + Drop>(stepper: &mut Stepper<'_, O>) -> Result<Answer, NoMemory>
+fn step<O: Outside + Drop>(stepper: &mut Stepper<'_, O>) -> Result<Answer, AllocError>
     ensures { SaysStep O.gives stepper.old result stepper.new }
 {
     stepper.step()?;
@@ -70,7 +69,7 @@ fn go<O: Outside + Drop>(
     stepper: &mut Stepper<'_, O>,
     line: u16,
     limit: u64,
-) -> Result<Answer, NoMemory>
+) -> Result<Answer, AllocError>
     ensures { SaysGo O.gives limit line stepper.old result stepper.new }
 {
     match stepper.to_line(line, limit) {
@@ -78,7 +77,7 @@ fn go<O: Outside + Drop>(
         Ok(Reached::Stopped(status)) => Ok(Answer::Stands(status)),
         Ok(Reached::Limit) => Ok(Answer::Limit),
         Err(StepError::NoSuchLine) => Ok(Answer::NoSuchLine),
-        Err(StepError::NoMemory) => Err(NoMemory),
+        Err(StepError::NoMemory) => Err(AllocError),
     }
 }
 
@@ -86,13 +85,13 @@ fn value<O: Outside + Drop>(
     alloc: Global,
     stepper: &Stepper<'_, O>,
     text: &[u8],
-) -> Result<Answer, NoMemory>
+) -> Result<Answer, AllocError>
     ensures { IfOk result (SaysValue stepper.now text.now) }
 {
     match parse_expr(alloc, text) {
         Ok(expression) => Ok(value_answer(stepper.value_of(&expression))),
         Err(error) => match error.kind {
-            SourceErrorKind::NoMemory => Err(NoMemory),
+            SourceErrorKind::NoMemory => Err(AllocError),
             _ => Ok(Answer::What),
         },
     }
@@ -114,7 +113,7 @@ pub fn answers<O: Outside + Drop>(
     stepper: &mut Stepper<'_, O>,
     commands: &[u8],
     limit: u64,
-) -> Result<Vec<u8>, NoMemory>
+) -> Result<Vec<u8>, AllocError>
     ensures { IfOk result (λ text. Dialogue O.gives limit stepper.old (lines_of commands.now) text.items stepper.new) }
 {
     let mut text = Vec::new(alloc);
@@ -124,7 +123,7 @@ pub fn answers<O: Outside + Drop>(
             return Ok(text);
         };
         if answer.push_line(alloc, &mut text).is_err() {
-            return Err(NoMemory);
+            return Err(AllocError);
         }
         rest = behind;
     }

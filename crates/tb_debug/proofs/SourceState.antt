@@ -4,7 +4,7 @@ use Rattle.std.specs.Prelude.{if◌then◌else◌, nat_eq, nat_le, map, Some, No
 use Rattle.std.proofs.lemmas.Bool.{eqb-true, ne_eqb}
 use Rattle.std.proofs.lemmas.Bool.Decides.{nat_tests}
 use Rattle.tb_memmap.specs.Regions.{is_open}
-use Rattle.tb_cpu.specs.Operands.{word, word_in}
+use Rattle.tb_cpu.specs.Operands.{word_from, word_in}
 use Rattle.tb_asm.specs.declared.names.Name.{Name}
 use Rattle.tb_meaning.specs.Control.{At, Past, Place, has_line}
 use Rattle.tb_runtime16.specs.Places.{NOTES, NOTE_HIGH, NOTE_LOW}
@@ -30,12 +30,12 @@ open_data a from to = grind (arith, nat_tests)
 pub word_there : (m : ℕ → ℕ) (a : ℕ) → 0xC000 ≤ a → a + 1 < 0xD000 → word_at m a ≡ word_in m a
 word_there m a from to =
     let next : (a + 1) % 65536 ≡ a + 1 = omega (arith, to) in
-    (λ i. word (byte_there m a (open_data a from (omega (arith, to))) i) (byte_at m (next i)))
-    ∙ ap (word (m a)) (byte_there m (a + 1) (open_data (a + 1) (omega (arith, from)) to))
+    (λ i. word_from (byte_there m a (open_data a from (omega (arith, to))) i) (byte_at m (next i)))
+    ∙ ap (word_from (m a)) (byte_there m (a + 1) (open_data (a + 1) (omega (arith, from)) to))
 
 note_there : (m : ℕ → ℕ) (k : ℕ) → k < 500 → note_at m k ≡ kept.note_at m k
 note_there m k few =
-    λ i. word (byte_there m (NOTE_LOW + k) (open_data (NOTE_LOW + k) (omega arith) (omega (arith, few))) i)
+    λ i. word_from (byte_there m (NOTE_LOW + k) (open_data (NOTE_LOW + k) (omega arith) (omega (arith, few))) i)
     (byte_there m (NOTE_HIGH + k) (open_data (NOTE_HIGH + k) (omega arith) (omega (arith, few))) i)
 
 -- ---- the lines of places

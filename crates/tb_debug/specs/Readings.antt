@@ -4,7 +4,7 @@ use Rattle.std.specs.List.{range_with_len}
 use Rattle.std.specs.Int.{cast_signed, w16}
 use Rattle.tb_memmap.specs.Bytes.{peek}
 use Rattle.tb_memmap.specs.declared.memory.Closed.{Closed}
-use Rattle.tb_cpu.specs.Operands.{word}
+use Rattle.tb_cpu.specs.Operands.{word_from}
 use Rattle.tb_asm.specs.Layout.{Entry, size_of}
 use Rattle.tb_disasm.specs.declared.listing.Line.{Line}
 use Rattle.tb_disasm.specs.Lines.{shown}
@@ -23,7 +23,7 @@ byte_at m a = or_zero (peek m a)
 
 -- the word at an address, low byte first
 abbrev pub word_at : (ℕ → ℕ) → ℕ → ℕ
-word_at m a = word (byte_at m a) (byte_at m ((a + 1) % 65536))
+word_at m a = word_from (byte_at m a) (byte_at m ((a + 1) % 65536))
 
 -- the value of the variable at a place in the alphabet
 abbrev pub variable_of : (ℕ → ℕ) → ℕ → ℤ
@@ -39,7 +39,7 @@ notes_in m = if nat_le (word_at m NOTES) 500 then word_at m NOTES else 500
 
 -- where the line begins to which a note returns
 abbrev pub note_at : (ℕ → ℕ) → ℕ → ℕ
-note_at m k = word (byte_at m (NOTE_LOW + k)) (byte_at m (NOTE_HIGH + k))
+note_at m k = word_from (byte_at m (NOTE_LOW + k)) (byte_at m (NOTE_HIGH + k))
 
 -- the lines of the first so many notes, the newest first
 abbrev pub lines_of_notes : List (ℕ × ℕ) → (ℕ → ℕ) → ℕ → List (Option ℕ)

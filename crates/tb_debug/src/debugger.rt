@@ -18,10 +18,9 @@ use crate::history::{History, Kept};
 use crate::moment::{Moment, Reached};
 use crate::readings::{line_from, variables_in};
 use crate::starts::Starts;
-use std::alloc::Global;
+use std::alloc::{AllocError, Global};
 use tb_codegen::Compiled;
 use tb_kernal::Machine;
-use tb_memmap::NoMemory;
 use tb_stops::{Stops, Variables};
 
 /// The most events that come before the first line.
@@ -46,7 +45,7 @@ impl<'a> Debugger<'a> {
         program: &'a Compiled,
         machine: Machine,
         beside: Beside,
-    ) -> Result<Debugger<'a>, NoMemory>
+    ) -> Result<Debugger<'a>, AllocError>
         ensures run { IfOk result (λ d. (d.program.now ≡ program.now) × OnRun (first_point (state_of machine) beside) d) }
         // It stands at its first line, if it comes to one in a number of events, with nothing shown, set or watched.
         ensures opens { IfOk result (λ d. IsOpening (first_point (state_of machine) beside) d) }
@@ -106,7 +105,7 @@ impl<'a> Debugger<'a> {
     }
 
     // Goes on to the next beginning of a line, by at most `limit` events.
-    pub(crate) fn next_line(&mut self, alloc: Global, limit: u64) -> Result<Reached, NoMemory>
+    pub(crate) fn next_line(&mut self, alloc: Global, limit: u64) -> Result<Reached, AllocError>
         ensures run { OnOk result (KeepsRun self.old self.new) }
         ensures stops { OnOk result (self.new.stops ≡ self.old.stops) }
         ensures ends { IfOk result (λ reached. (start : Point) → IsOfRun self.old.starts start self.old.present
@@ -133,7 +132,7 @@ impl<'a> Debugger<'a> {
     }
 
     /// On by so many lines.
-    pub fn on(&mut self, alloc: Global, lines: u64, limit: u64) -> Result<Reached, NoMemory>
+    pub fn on(&mut self, alloc: Global, lines: u64, limit: u64) -> Result<Reached, AllocError>
         ensures run { OnOk result (KeepsRun self.old self.new) }
         ensures shown { OnOk result (self.new.shown ≡ self.old.shown) }
         ensures lines { IfOk result (λ reached. (start : Point) → OnRun start self.old
@@ -151,7 +150,7 @@ impl<'a> Debugger<'a> {
     }
 
     /// To a time, on or back.
-    pub fn to_time(&mut self, alloc: Global, time: u64, limit: u64) -> Result<Reached, NoMemory>
+    pub fn to_time(&mut self, alloc: Global, time: u64, limit: u64) -> Result<Reached, AllocError>
         ensures run { OnOk result (KeepsRun self.old self.new) }
         ensures time { IfOk result (λ reached. LeadsToTime time limit self.old reached self.new.present) }
         ensures stands { IfOk result (λ reached. StandsBy self.old.starts reached self.new.present) }
@@ -165,7 +164,7 @@ impl<'a> Debugger<'a> {
     }
 
     // On to a time that has not passed.
-    fn on_to_time(&mut self, alloc: Global, time: u64, limit: u64) -> Result<Reached, NoMemory>
+    fn on_to_time(&mut self, alloc: Global, time: u64, limit: u64) -> Result<Reached, AllocError>
         ensures run { OnOk result (KeepsRun self.old self.new) }
         ensures time { IfOk result (λ reached. IsAtTime time self.old.starts reached self.new.present) }
         ensures few { OnOk result (begun_by self.old ≤ time → begun_by self.new ≤ time) }
@@ -187,7 +186,7 @@ impl<'a> Debugger<'a> {
     }
 
     /// Back to a time that has passed: the run is run again from the newest moment that is kept of before.
-    pub fn back_to(&mut self, alloc: Global, time: u64) -> Result<Reached, NoMemory>
+    pub fn back_to(&mut self, alloc: Global, time: u64) -> Result<Reached, AllocError>
         ensures run { OnOk result (KeepsRun self.old self.new) }
         ensures time { IfOk result (λ reached. IsAtTime time self.old.starts reached self.new.present) }
         ensures back { IfOk result (λ reached. (start : Point) → start.begun ≡ 0 → OnRun start self.old → time < begun_by self.old → reached ≡ Line) }
@@ -203,7 +202,7 @@ impl<'a> Debugger<'a> {
     }
 
     // Back to a kept moment, by its place among them; those behind it are forgotten.
-    fn back_to_kept(&mut self, alloc: Global, index: usize) -> Result<(), NoMemory>
+    fn back_to_kept(&mut self, alloc: Global, index: usize) -> Result<(), AllocError>
         ensures run { OnOk result (KeepsRun self.old self.new) }
         ensures shown { OnOk result (self.new.shown ≡ self.old.shown) }
         ensures before { OnOk result ((time : ℕ) (start : Point) → IsUntil time self.old.history.later.items (vec_len self.old.history.later) index → start.begun ≡ 0 → OnRun start self.old
@@ -219,7 +218,7 @@ impl<'a> Debugger<'a> {
     }
 
     /// Back by so many lines. From within a line the first one back is its beginning.
-    pub fn back(&mut self, alloc: Global, lines: u64) -> Result<Reached, NoMemory>
+    pub fn back(&mut self, alloc: Global, lines: u64) -> Result<Reached, AllocError>
         ensures run { OnOk result (KeepsRun self.old self.new) }
         ensures lines { IfOk result (λ reached. LeadsBackBy lines self.old reached self.new.present) }
         ensures stands { IfOk result (λ reached. StandsBy self.old.starts reached self.new.present) }
@@ -232,7 +231,7 @@ impl<'a> Debugger<'a> {
     }
 
     /// On by so many events.
-    pub fn step(&mut self, events: u64) -> Result<Reached, NoMemory>
+    pub fn step(&mut self, events: u64) -> Result<Reached, AllocError>
         ensures run { OnOk result (KeepsRun self.old self.new) }
         ensures steps { OnOk result (StepsBy events self.old.present self.new.present) }
         ensures stands { IfOk result (λ reached. reached ≡ standing_of self.old.starts self.new.present) }
@@ -243,7 +242,7 @@ impl<'a> Debugger<'a> {
     }
 
     /// Puts bytes behind the keyboard's text, in each moment of the run.
-    pub fn type_text(&mut self, bytes: &[u8]) -> Result<(), NoMemory>
+    pub fn type_text(&mut self, bytes: &[u8]) -> Result<(), AllocError>
         ensures run { OnOk result (KeepsRunTyped bytes.now self.old self.new) }
         ensures shown { self.new.shown ≡ self.old.shown }
     {

@@ -3,8 +3,8 @@ ghost use Rattle.std.specs.Prelude.{◌≡◌, IfOk};
 ghost use Rattle.tb_kernal.specs.Runs.{is_own};
 ghost use Rattle.tb_debug.specs.Events.{Took};
 
+use std::alloc::AllocError;
 use tb_kernal::{Event, Machine, Outside};
-use tb_memmap::NoMemory;
 
 // Whether an event is the program's own.
 fn is_own(event: &Event) -> bool
@@ -14,11 +14,11 @@ fn is_own(event: &Event) -> bool
 }
 
 /// Lets an outside's next event happen: whether it was the program's own.
-pub fn take_event<O: Outside>(machine: &mut Machine, outside: &mut O) -> Result<bool, NoMemory>
+pub fn take_event<O: Outside>(machine: &mut Machine, outside: &mut O) -> Result<bool, AllocError>
     ensures { IfOk result (λ own. Took O.gives outside.old machine.old own outside.new machine.new) }
 {
     if machine.reserve(1).is_err() {
-        return Err(NoMemory);
+        return Err(AllocError);
     }
     let event = outside.next(machine);
     let own = is_own(&event);

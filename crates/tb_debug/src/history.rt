@@ -5,8 +5,7 @@ ghost use Rattle.tb_debug.specs.Searching.{IsUntil};
 ghost use Rattle.tb_debug.specs.Runs.{Point, IsOfRun, IsFirst, IsKept, IsTyped, AreKept, AreTyped};
 
 use crate::moment::Moment;
-use std::alloc::Global;
-use tb_memmap::NoMemory;
+use std::alloc::{AllocError, Global};
 
 /// How many moments are kept at most. Each has a memory of 65,536 bytes and the keyboard's bytes; what was sent isn't
 /// kept with them.
@@ -24,7 +23,7 @@ pub struct Kept {
 
 impl Kept {
     /// The same moment.
-    pub fn of(alloc: Global, moment: &Moment) -> Result<Kept, NoMemory>
+    pub fn of(alloc: Global, moment: &Moment) -> Result<Kept, AllocError>
         ensures kept { IfOk result (λ k. (marks : List Bool) (start : Point) → IsOfRun marks start moment.now → IsKept marks start k) }
         ensures events { IfOk result (λ k. k.moment.events ≡ moment.now.events) }
     {
@@ -35,7 +34,7 @@ impl Kept {
     }
 
     /// The moment that was kept, of a run that has sent at least these bytes.
-    pub fn again(&self, alloc: Global, sent: &[u8]) -> Result<Moment, NoMemory>
+    pub fn again(&self, alloc: Global, sent: &[u8]) -> Result<Moment, AllocError>
         ensures again { IfOk result (λ m. (marks : List Bool) (start : Point) (now : Moment) → IsOfRun marks start now → sent.now ≡ now.machine.sent
             → IsKept marks start self.now → self.now.moment.events ≤ now.events → IsOfRun marks start m) }
         ensures events { IfOk result (λ m. m.events ≡ self.now.moment.events) }
@@ -88,7 +87,7 @@ impl History {
     }
 
     /// Keeps a moment, where enough events lie before it.
-    pub fn keep(&mut self, alloc: Global, moment: &Moment) -> Result<(), NoMemory>
+    pub fn keep(&mut self, alloc: Global, moment: &Moment) -> Result<(), AllocError>
         ensures first { self.new.first ≡ self.old.first }
         ensures later { OnOk result ((marks : List Bool) (start : Point) → IsOfRun marks start moment.now
             → AreKept marks start moment.now.events self.old.later.items → AreKept marks start moment.now.events self.new.later.items) }
@@ -102,14 +101,11 @@ impl History {
         Ok(())
     }
 
-    fn push(&mut self, kept: Kept) -> Result<(), NoMemory>
+    fn push(&mut self, kept: Kept) -> Result<(), AllocError>
         ensures first { self.new.first ≡ self.old.first }
         ensures later { OnOk result (self.new.later.items ≡ self.old.later.items ++ kept ∷ []) }
     {
-        match self.later.push(kept) {
-            Ok(()) => Ok(()),
-            Err(_) => Err(NoMemory),
-        }
+        self.later.push(kept)
     }
 
     // Whether a moment behind so many events is worth keeping.
@@ -172,7 +168,7 @@ impl History {
     }
 
     /// Puts bytes behind the keyboard's text in each moment.
-    pub fn type_text(&mut self, bytes: &[u8]) -> Result<(), NoMemory>
+    pub fn type_text(&mut self, bytes: &[u8]) -> Result<(), AllocError>
         ensures first { OnOk result (IsTyped bytes.now self.old.first.moment self.new.first.moment) }
         ensures sent { self.new.first.sent ≡ self.old.first.sent }
         ensures later { OnOk result (AreTyped bytes.now self.old.later.items self.new.later.items) }
@@ -183,7 +179,7 @@ impl History {
 }
 
 // Puts bytes behind the keyboard's text in each of these moments.
-fn type_to_all(moments: &mut Vec<Kept>, bytes: &[u8]) -> Result<(), NoMemory>
+fn type_to_all(moments: &mut Vec<Kept>, bytes: &[u8]) -> Result<(), AllocError>
     ensures { OnOk result (AreTyped bytes.now moments.old.items moments.new.items) }
 {
     for index in 0..moments.len() {

@@ -10,9 +10,8 @@ use crate::beside::Beside;
 use crate::events::take_event;
 use crate::readings::variables_in;
 use crate::starts::Starts;
-use std::alloc::Global;
+use std::alloc::{AllocError, Global};
 use tb_kernal::{Machine, Status};
-use tb_memmap::NoMemory;
 use tb_stops::Variables;
 
 /// Where a walk ended.
@@ -65,7 +64,7 @@ impl Moment {
     }
 
     /// The same moment of the same run, of which these bytes were sent.
-    pub fn copied(&self, alloc: Global, sent: &[u8]) -> Result<Moment, NoMemory>
+    pub fn copied(&self, alloc: Global, sent: &[u8]) -> Result<Moment, AllocError>
         ensures { IfOk result (λ m. m ≡ record self.now { machine = record self.now.machine { sent = sent.now; room = 0 } }) }
     {
         Ok(Moment {
@@ -100,7 +99,7 @@ impl Moment {
     }
 
     /// Puts bytes behind the keyboard's text.
-    pub fn type_text(&mut self, bytes: &[u8]) -> Result<(), NoMemory>
+    pub fn type_text(&mut self, bytes: &[u8]) -> Result<(), AllocError>
         ensures { OnOk result (IsTyped bytes.now self.old self.new) }
     {
         self.machine.type_text(bytes)
@@ -129,7 +128,7 @@ impl Moment {
     }
 
     // Takes the next event of a machine that runs: whether it was the program's own.
-    fn take_event(&mut self, starts: &Starts) -> Result<bool, NoMemory>
+    fn take_event(&mut self, starts: &Starts) -> Result<bool, AllocError>
         requires countable { (self.old.events < 18446744073709551615) × (self.old.begun < 18446744073709551615) }
         requires runs { status (state_of self.old.machine) ≡ status.Running }
         ensures run { OnOk result (StaysOnRun starts.now self.old self.new) }
@@ -151,7 +150,7 @@ impl Moment {
     }
 
     /// Goes on until a line begins or the machine doesn't run, by at most `limit` events.
-    pub fn to_next_start(&mut self, starts: &Starts, limit: u64) -> Result<Reached, NoMemory>
+    pub fn to_next_start(&mut self, starts: &Starts, limit: u64) -> Result<Reached, AllocError>
         ensures run { OnOk result (StaysOnRun starts.now self.old self.new) }
         ensures within { OnOk result (self.new.events ≤ self.old.events + limit) }
         ensures advances { IfOk result (λ reached. Advances reached self.old self.new) }
@@ -189,7 +188,7 @@ impl Moment {
     }
 
     /// Takes so many events, or fewer where the machine doesn't run then.
-    pub fn step(&mut self, starts: &Starts, count: u64) -> Result<(), NoMemory>
+    pub fn step(&mut self, starts: &Starts, count: u64) -> Result<(), AllocError>
         ensures run { OnOk result (StaysOnRun starts.now self.old self.new) }
         ensures steps { OnOk result (StepsBy count self.old self.new) }
     {

@@ -2,7 +2,7 @@
 ghost use Rattle.std.specs.Prelude.{◌≡◌, ◌++◌, ◌<◌, map, min, IfOk, OnOk};
 ghost use Rattle.tb_memmap.specs.Bytes.{at, peek};
 ghost use Rattle.tb_disasm.specs.Lines.{shown};
-ghost use Rattle.tb_cpu.specs.Operands.{word};
+ghost use Rattle.tb_cpu.specs.Operands.{word_from};
 ghost use Rattle.tb_kernal.specs.Machine.{state_of};
 ghost use Rattle.tb_codegen.specs.Compiled.{pair_of, starts_of};
 ghost use Rattle.tb_debug.specs.Readings.{IsCodeLine, as_read, byte_at, bytes_of, code_bytes, code_of, word_at, variable_of, variables_of, note_at, notes_in, returns_of};
@@ -36,8 +36,8 @@ fn byte(memory: &Memory, address: u16) -> u8
 }
 
 // A word from its bytes.
-fn make_word(low: u8, high: u8) -> u16
-    ensures { result ≡ word low high }
+fn word_from(low: u8, high: u8) -> u16
+    ensures { result ≡ word_from low high }
 {
     u16::from(high) << 8 | u16::from(low)
 }
@@ -46,7 +46,7 @@ fn make_word(low: u8, high: u8) -> u16
 fn word(memory: &Memory, address: u16) -> u16
     ensures { result ≡ word_at (at memory.now) address }
 {
-    make_word(byte(memory, address), byte(memory, address.wrapping_add(1)))
+    word_from(byte(memory, address), byte(memory, address.wrapping_add(1)))
 }
 
 // The value of the variable at a place in the alphabet.
@@ -108,7 +108,7 @@ fn note(memory: &Memory, index: u16) -> u16
     requires { index < 500 }
     ensures { result ≡ note_at (at memory.now) index }
 {
-    make_word(
+    word_from(
         byte(memory, NOTE_LOW + index),
         byte(memory, NOTE_HIGH + index),
     )

@@ -17,7 +17,6 @@ use std::alloc::{AllocError, Global};
 use tb_debug_commands::Command;
 use tb_kernal::Status;
 use tb_meaning::{EvalError, eval};
-use tb_memmap::NoMemory;
 use tb_parser::{SourceErrorKind, parse_expr};
 use tb_words::Letter;
 
@@ -34,7 +33,7 @@ impl<'a> Debugger<'a> {
         alloc: Global,
         command: Command<'_>,
         limit: u64,
-    ) -> Result<Option<Answer>, NoMemory>
+    ) -> Result<Option<Answer>, AllocError>
         ensures run { OnOk result (Responds command.entry self.old self.new) }
         ensures tells { IfOk result (Tells limit command.entry self.old self.new) }
         // What a command shows that leads nowhere is no stop.
@@ -54,7 +53,7 @@ impl<'a> Debugger<'a> {
     }
 
     // The same, of a command that types nothing and isn't the end.
-    fn act(&mut self, alloc: Global, command: Command<'_>, limit: u64) -> Result<Answer, NoMemory>
+    fn act(&mut self, alloc: Global, command: Command<'_>, limit: u64) -> Result<Answer, AllocError>
         requires { IsAct command }
         ensures run { OnOk result (KeepsRun self.old self.new) }
         ensures tells { IfOk result (λ told. Tells limit command.entry self.old self.new (Some told)) }
@@ -78,7 +77,7 @@ impl<'a> Debugger<'a> {
         alloc: Global,
         command: Command<'_>,
         limit: u64,
-    ) -> Result<Option<Reached>, NoMemory>
+    ) -> Result<Option<Reached>, AllocError>
         ensures run { OnOk result (KeepsRun self.old self.new) }
         ensures walks { IfOk result (λ reached. Walks limit command.entry self.old reached self.new) }
     {
@@ -98,7 +97,7 @@ impl<'a> Debugger<'a> {
     }
 
     /// The stop at which the run stands, and what was sent since the last one.
-    pub fn stop(&mut self, alloc: Global, reached: Reached) -> Result<Answer, NoMemory>
+    pub fn stop(&mut self, alloc: Global, reached: Reached) -> Result<Answer, AllocError>
         ensures run { OnOk result (KeepsRun self.old self.new) }
         ensures tells { IfOk result (TellsStop self.old.shown (is_limit reached) self.new) }
         // Nothing else changes.
@@ -106,7 +105,7 @@ impl<'a> Debugger<'a> {
     {
         let sent = self.present.machine.sent();
         let Ok(since) = Vec::from_slice(alloc, behind(sent, self.shown)) else {
-            return Err(NoMemory);
+            return Err(AllocError);
         };
         self.shown = sent.len();
         Ok(Answer::Stop(Stand {
@@ -143,7 +142,7 @@ impl<'a> Debugger<'a> {
     }
 
     // What a command that doesn't move the run is answered by.
-    fn tell(&mut self, alloc: Global, command: Command<'_>) -> Result<Answer, NoMemory>
+    fn tell(&mut self, alloc: Global, command: Command<'_>) -> Result<Answer, AllocError>
         requires { IsTold command self.old }
         ensures run { OnOk result (KeepsRun self.old self.new) }
         ensures tells { IfOk result (λ told. (limit : ℕ) → Tells limit command.entry self.old self.new (Some told)) }
@@ -199,7 +198,7 @@ impl<'a> Debugger<'a> {
         }
     }
 
-    fn turn_breakpoint(&mut self, line: u16) -> Result<Answer, NoMemory>
+    fn turn_breakpoint(&mut self, line: u16) -> Result<Answer, AllocError>
         ensures run { OnOk result (KeepsRun self.old self.new) }
         ensures shown { OnOk result (self.new.shown ≡ self.old.shown) }
         ensures answer { IfOk result (λ told. told ≡ breakpoint_answer (start_in (starts_of self.old.program.now) line) (not (is_among (breakpoints_of self.old.stops) line))) }
@@ -207,30 +206,24 @@ impl<'a> Debugger<'a> {
         if self.program.start_of(line).is_none() {
             return Ok(Answer::NoSuchLine);
         }
-        match self.stops.turn_breakpoint(line) {
-            Ok(is_set) => Ok(turned(is_set)),
-            Err(_) => Err(NoMemory),
-        }
+        let is_set = self.stops.turn_breakpoint(line)?;
+        Ok(turned(is_set))
     }
 
-    fn turn_watch(&mut self, letter: Letter) -> Result<Answer, NoMemory>
+    fn turn_watch(&mut self, letter: Letter) -> Result<Answer, AllocError>
         ensures run { OnOk result (KeepsRun self.old self.new) }
         ensures shown { OnOk result (self.new.shown ≡ self.old.shown) }
         ensures answer { IfOk result (λ told. told ≡ set_or_cleared (not (is_watched (watches_of self.old.stops) (place letter)))) }
     {
-        match self.stops.turn_watch(letter) {
-            Ok(is_set) => Ok(turned(is_set)),
-            Err(_) => Err(NoMemory),
-        }
+        let is_set = self.stops.turn_watch(letter)?;
+        Ok(turned(is_set))
     }
 
-    fn breakpoints(&self, alloc: Global) -> Result<Answer, NoMemory>
+    fn breakpoints(&self, alloc: Global) -> Result<Answer, AllocError>
         ensures { IfOk result (λ told. breakpoints_told (Some told) ≡ Some (breakpoints_of self.now.stops)) }
     {
-        match Vec::from_slice(alloc, self.stops.breakpoints()) {
-            Ok(lines) => Ok(Answer::Breakpoints(lines)),
-            Err(_) => Err(NoMemory),
-        }
+        let lines = Vec::from_slice(alloc, self.stops.breakpoints())?;
+        Ok(Answer::Breakpoints(lines))
     }
 
     fn variable(&self, letter: Letter) -> Answer
@@ -243,58 +236,50 @@ impl<'a> Debugger<'a> {
         }
     }
 
-    fn value(&self, alloc: Global, text: &[u8]) -> Result<Answer, NoMemory>
+    fn value(&self, alloc: Global, text: &[u8]) -> Result<Answer, AllocError>
         ensures { IfOk result (λ told. TellsText text.now self.now (Some told)) }
     {
         match parse_expr(alloc, text) {
             Ok(expression) => { Ok(value_answer(eval(&expression, &self.variables()))) }
             Err(error) => match error.kind {
-                SourceErrorKind::NoMemory => Err(NoMemory),
+                SourceErrorKind::NoMemory => Err(AllocError),
                 _ => Ok(Answer::What),
             },
         }
     }
 
-    fn return_list(&self, alloc: Global) -> Result<Answer, NoMemory>
+    fn return_list(&self, alloc: Global) -> Result<Answer, AllocError>
         ensures { IfOk result (λ told. returns_told (Some told) ≡ Some (returns_here self.now)) }
     {
-        match returns(alloc, self.present.machine.memory(), self.program) {
-            Ok(lines) => Ok(Answer::Returns(lines)),
-            Err(_) => Err(NoMemory),
-        }
+        let lines = returns(alloc, self.present.machine.memory(), self.program)?;
+        Ok(Answer::Returns(lines))
     }
 
-    fn output(&self, alloc: Global) -> Result<Answer, NoMemory>
+    fn output(&self, alloc: Global) -> Result<Answer, AllocError>
         ensures { IfOk result (λ told. output_told (Some told) ≡ Some self.now.present.machine.sent) }
     {
-        match Vec::from_slice(alloc, self.present.machine.sent()) {
-            Ok(sent) => Ok(Answer::Output(sent)),
-            Err(_) => Err(NoMemory),
-        }
+        let sent = Vec::from_slice(alloc, self.present.machine.sent())?;
+        Ok(Answer::Output(sent))
     }
 
-    fn bytes(&self, alloc: Global, at: u16, count: u16) -> Result<Answer, NoMemory>
+    fn bytes(&self, alloc: Global, at: u16, count: u16) -> Result<Answer, AllocError>
         ensures { IfOk result (λ told. memory_told (Some told) ≡ Some (at, bytes_of (state_of self.now.present.machine).mem at count)) }
     {
-        match bytes_from(alloc, self.present.machine.memory(), at, count) {
-            Ok(bytes) => Ok(Answer::Memory { at, bytes }),
-            Err(_) => Err(NoMemory),
-        }
+        let bytes = bytes_from(alloc, self.present.machine.memory(), at, count)?;
+        Ok(Answer::Memory { at, bytes })
     }
 
     // The code from PC on, up to a closed place.
-    fn code(&self, alloc: Global) -> Result<Answer, NoMemory>
+    fn code(&self, alloc: Global) -> Result<Answer, AllocError>
         ensures { IfOk result (λ told. code_told (Some told) ≡ Some (code_of most_code (state_of self.now.present.machine).mem self.now.present.machine.regs.pc)) }
     {
         let machine = &self.present.machine;
-        match code_from(alloc, machine.memory(), machine.regs().pc, CODE_LINES) {
-            Ok(lines) => Ok(Answer::Code(lines)),
-            Err(_) => Err(NoMemory),
-        }
+        let lines = code_from(alloc, machine.memory(), machine.regs().pc, CODE_LINES)?;
+        Ok(Answer::Code(lines))
     }
 
     // Types a line: its letters as capitals, and a return.
-    fn type_line(&mut self, alloc: Global, text: &[u8]) -> Result<(), NoMemory>
+    fn type_line(&mut self, alloc: Global, text: &[u8]) -> Result<(), AllocError>
         ensures run { OnOk result (KeepsRunTyped (keys_of text.now) self.old self.new) }
         ensures shown { OnOk result (self.new.shown ≡ self.old.shown) }
     {
@@ -322,16 +307,7 @@ fn is_limit(reached: Reached) -> bool
 }
 
 // What a typed line hands over.
-fn keys(alloc: Global, text: &[u8]) -> Result<Vec<u8>, NoMemory>
-    ensures { IfOk result (λ keys. keys.items ≡ keys_of text.now) }
-{
-    match capitals(alloc, text) {
-        Ok(keys) => Ok(keys),
-        Err(_) => Err(NoMemory),
-    }
-}
-
-fn capitals(alloc: Global, text: &[u8]) -> Result<Vec<u8>, AllocError>
+fn keys(alloc: Global, text: &[u8]) -> Result<Vec<u8>, AllocError>
     ensures { IfOk result (λ keys. keys.items ≡ keys_of text.now) }
 {
     let mut keys = Vec::new(alloc);

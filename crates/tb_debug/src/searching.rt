@@ -13,8 +13,7 @@ use crate::debugger::Debugger;
 use crate::history::Kept;
 use crate::moment::{Moment, Reached};
 use crate::readings::{line_from, variables_in};
-use std::alloc::Global;
-use tb_memmap::NoMemory;
+use std::alloc::{AllocError, Global};
 
 /// What a way on looks for.
 #[derive(Clone, Copy, Debug, Drop)]
@@ -27,7 +26,7 @@ pub enum Destination {
 
 impl<'a> Debugger<'a> {
     /// On to the next line with a breakpoint, or behind the next line that gives a watched variable another value.
-    pub fn go_on(&mut self, alloc: Global, limit: u64) -> Result<Reached, NoMemory>
+    pub fn go_on(&mut self, alloc: Global, limit: u64) -> Result<Reached, AllocError>
         ensures run { OnOk result (KeepsRun self.old self.new) }
         ensures stop { IfOk result (λ reached. LeadsOnTo destination.Stop limit self.old reached self.new.present) }
         ensures stands { IfOk result (λ reached. StandsBy self.old.starts reached self.new.present) }
@@ -37,7 +36,7 @@ impl<'a> Debugger<'a> {
     }
 
     /// On to the beginning of the line at an address.
-    pub fn on_to(&mut self, alloc: Global, address: u16, limit: u64) -> Result<Reached, NoMemory>
+    pub fn on_to(&mut self, alloc: Global, address: u16, limit: u64) -> Result<Reached, AllocError>
         ensures run { OnOk result (KeepsRun self.old self.new) }
         ensures there { IfOk result (λ reached. StandsAt address reached self.new.present) }
         ensures line { IfOk result (λ reached. LeadsOnTo (destination.Address address) limit self.old reached self.new.present) }
@@ -48,7 +47,7 @@ impl<'a> Debugger<'a> {
     }
 
     // On to the next line that is looked for.
-    fn go_to(&mut self, alloc: Global, to: Destination, limit: u64) -> Result<Reached, NoMemory>
+    fn go_to(&mut self, alloc: Global, to: Destination, limit: u64) -> Result<Reached, AllocError>
         ensures run { OnOk result (KeepsRun self.old self.new) }
         ensures there { IfOk result (λ reached. IsThere to reached self.new) }
         ensures leads { IfOk result (λ reached. LeadsOnTo to limit self.old reached self.new.present) }
@@ -82,7 +81,7 @@ impl<'a> Debugger<'a> {
 
     /// Back to the newest line before with a breakpoint, or that gave a watched variable another value; to the first line
     /// where there is none.
-    pub fn go_back(&mut self, alloc: Global) -> Result<Reached, NoMemory>
+    pub fn go_back(&mut self, alloc: Global) -> Result<Reached, AllocError>
         ensures run { OnOk result (KeepsRun self.old self.new) }
         ensures stop { IfOk result (λ reached. LeadsBackToNewest self.old reached self.new.present) }
         ensures stands { IfOk result (λ reached. StandsBy self.old.starts reached self.new.present) }
@@ -97,7 +96,7 @@ impl<'a> Debugger<'a> {
     }
 
     // The newest time to which going back leads.
-    fn newest_stop(&self, alloc: Global) -> Result<u64, NoMemory>
+    fn newest_stop(&self, alloc: Global) -> Result<u64, AllocError>
         ensures { IfOk result (λ time. (start : Point) → start.begun ≡ 0 → OnRun start self.now → IsNewest self.now start time) }
     {
         let mut newest = self.leads_back(&self.present);
@@ -116,7 +115,7 @@ impl<'a> Debugger<'a> {
     }
 
     // The newest time to which going back leads from behind a kept moment, where from behind so many events it is known.
-    fn with_kept(&self, alloc: Global, kept: &Kept, last: u64, newest: u64) -> Result<u64, NoMemory>
+    fn with_kept(&self, alloc: Global, kept: &Kept, last: u64, newest: u64) -> Result<u64, AllocError>
         ensures { IfOk result (λ time. (start : Point) → start.begun ≡ 0 → OnRun start self.now → IsKept self.now.starts start kept.now
             → kept.now.moment.events ≤ self.now.present.events
             → last ≤ self.now.present.events → KnowsBehind self.now start last newest → KnowsBehind self.now start kept.now.moment.events time) }
@@ -130,7 +129,7 @@ impl<'a> Debugger<'a> {
     }
 
     // The newest time to which the lines lead back that begin behind a moment and up to so many events.
-    fn newest_between(&self, from: Moment, last: u64) -> Result<u64, NoMemory>
+    fn newest_between(&self, from: Moment, last: u64) -> Result<u64, AllocError>
         ensures { IfOk result (λ time. (start : Point) → start.begun ≡ 0 → OnRun start self.now → IsOfRun self.now.starts start from
             → last ≤ self.now.present.events → NewestBetween self.now start from.events last time) }
     {

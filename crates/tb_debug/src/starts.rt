@@ -3,10 +3,9 @@ ghost use Rattle.std.specs.Prelude.{◌≡◌, ◌<◌, ℕ, false, map, replica
 ghost use Rattle.tb_codegen.specs.Compiled.{pair_of, starts_of};
 ghost use Rattle.tb_debug.specs.Runs.{begins_at, is_marked};
 
-use std::alloc::Global;
+use std::alloc::{AllocError, Global};
 use std::marker::Model;
 use tb_codegen::{Compiled, LineStart};
-use tb_memmap::NoMemory;
 
 /// As many addresses as there are.
 const ADDRESSES: usize = 65_536;
@@ -29,7 +28,7 @@ impl Model for Starts {
 
 impl Starts {
     /// Those of a compiled program.
-    pub fn new(alloc: Global, program: &Compiled) -> Result<Starts, NoMemory>
+    pub fn new(alloc: Global, program: &Compiled) -> Result<Starts, AllocError>
         ensures { IfOk result (λ s. (a : ℕ) → is_marked s a ≡ begins_at (starts_of program.now) a) }
     {
         Ok(Starts {
@@ -46,22 +45,13 @@ impl Starts {
 }
 
 // Whether a line begins, address by address.
-fn marks(alloc: Global, starts: &[LineStart]) -> Result<Vec<bool>, NoMemory>
+fn marks(alloc: Global, starts: &[LineStart]) -> Result<Vec<bool>, AllocError>
     ensures { IfOk result (λ v. (vec_len v ≡ 65536)
         × ((a : ℕ) → is_marked v.items a ≡ begins_at (map pair_of starts.now) a)) }
 {
-    let mut begins = no_marks(alloc)?;
+    let mut begins = vec![in alloc; false; ADDRESSES]?;
     for start in starts {
         begins[start.at as usize] = true;
     }
     Ok(begins)
-}
-
-fn no_marks(alloc: Global) -> Result<Vec<bool>, NoMemory>
-    ensures { IfOk result (λ v. v.items ≡ replicate 65536 false) }
-{
-    match vec![in alloc; false; ADDRESSES] {
-        Ok(begins) => Ok(begins),
-        Err(_) => Err(NoMemory),
-    }
 }

@@ -2,19 +2,19 @@
 ghost use Rattle.std.specs.Prelude.{◌≡◌, IfOk};
 ghost use Rattle.tb_kernal.specs.Runs.{is_quiet};
 
-use std::alloc::Global;
+use std::alloc::{AllocError, Global};
 use tb_kernal::{Event, Machine, Outside, Quiet};
-use tb_memmap::{Memory, NoMemory};
+use tb_memmap::Memory;
 
 /// `Memory::copied`.
-pub fn memory_copied(memory: &Memory, alloc: Global) -> Result<Memory, NoMemory>
+pub fn memory_copied(memory: &Memory, alloc: Global) -> Result<Memory, AllocError>
     ensures { IfOk result (λ m. m ≡ memory.now) }
 {
     memory.copied(alloc)
 }
 
 /// `Machine::copied`.
-pub fn machine_copied(machine: &Machine, alloc: Global, sent: &[u8]) -> Result<Machine, NoMemory>
+pub fn machine_copied(machine: &Machine, alloc: Global, sent: &[u8]) -> Result<Machine, AllocError>
     ensures { IfOk result (λ m. m ≡ record machine.now { sent = sent.now; room = 0 }) }
 {
     machine.copied(alloc, sent)

@@ -11,12 +11,11 @@ ghost use Rattle.tb_debug.specs.Sources.{Debugs, ShowsLine};
 ghost use Rattle.tb_debug.specs.Telling.{Tells};
 ghost use Rattle.tb_debug.specs.declared.beside.Beside.{Beside};
 
-use std::alloc::Global;
+use std::alloc::{AllocError, Global};
 use tb_debug::{Answer, Command, Debugger, Reached};
-use tb_memmap::NoMemory;
 
 /// `Debugger::go_on`.
-pub fn gone_on(debugger: &mut Debugger<'_>, alloc: Global, limit: u64) -> Result<Reached, NoMemory>
+pub fn gone_on(debugger: &mut Debugger<'_>, alloc: Global, limit: u64) -> Result<Reached, AllocError>
     ensures run { OnOk result (KeepsRun debugger.old debugger.new) }
     ensures stop { IfOk result (λ reached. LeadsOnTo destination.Stop limit debugger.old reached debugger.new.present) }
     ensures stands { IfOk result (λ reached. StandsBy debugger.old.starts reached debugger.new.present) }
@@ -25,7 +24,7 @@ pub fn gone_on(debugger: &mut Debugger<'_>, alloc: Global, limit: u64) -> Result
 }
 
 /// `Debugger::go_back`.
-pub fn gone_back(debugger: &mut Debugger<'_>, alloc: Global) -> Result<Reached, NoMemory>
+pub fn gone_back(debugger: &mut Debugger<'_>, alloc: Global) -> Result<Reached, AllocError>
     ensures run { OnOk result (KeepsRun debugger.old debugger.new) }
     ensures stop { IfOk result (λ reached. LeadsBackToNewest debugger.old reached debugger.new.present) }
     ensures stands { IfOk result (λ reached. StandsBy debugger.old.starts reached debugger.new.present) }
@@ -39,7 +38,7 @@ pub fn gone_to(
     alloc: Global,
     time: u64,
     limit: u64,
-) -> Result<Reached, NoMemory>
+) -> Result<Reached, AllocError>
     ensures run { OnOk result (KeepsRun debugger.old debugger.new) }
     ensures time { IfOk result (λ reached. LeadsToTime time limit debugger.old reached debugger.new.present) }
     ensures stands { IfOk result (λ reached. StandsBy debugger.old.starts reached debugger.new.present) }
@@ -52,7 +51,7 @@ pub fn stepped_back(
     debugger: &mut Debugger<'_>,
     alloc: Global,
     lines: u64,
-) -> Result<Reached, NoMemory>
+) -> Result<Reached, AllocError>
     ensures run { OnOk result (KeepsRun debugger.old debugger.new) }
     ensures lines { IfOk result (λ reached. LeadsBackBy lines debugger.old reached debugger.new.present) }
     ensures stands { IfOk result (λ reached. StandsBy debugger.old.starts reached debugger.new.present) }
@@ -69,7 +68,7 @@ pub fn line_begun(debugger: &Debugger<'_>) -> Option<u16>
 }
 
 /// `Debugger::type_text`.
-pub fn typed(debugger: &mut Debugger<'_>, bytes: &[u8]) -> Result<(), NoMemory>
+pub fn typed(debugger: &mut Debugger<'_>, bytes: &[u8]) -> Result<(), AllocError>
     ensures run { OnOk result (KeepsRunTyped bytes.now debugger.old debugger.new) }
     ensures shown { debugger.new.shown ≡ debugger.old.shown }
 {
@@ -82,7 +81,7 @@ pub fn answered(
     alloc: Global,
     command: Command<'_>,
     limit: u64,
-) -> Result<Option<Answer>, NoMemory>
+) -> Result<Option<Answer>, AllocError>
     ensures run { OnOk result (Responds command.entry debugger.old debugger.new) }
     ensures tells { IfOk result (Tells limit command.entry debugger.old debugger.new) }
     ensures shown { OnOk result (¬ (IsWalk command.entry debugger.old) → debugger.new.shown ≡ debugger.old.shown) }

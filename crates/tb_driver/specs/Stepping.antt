@@ -7,7 +7,7 @@ use Rattle.tb_meaning.specs.declared.missing.Warning.{Warning}
 use Rattle.tb_kernal.specs.declared.outside.Quiet.{Quiet}
 use Rattle.tb_codegen.specs.Compiled.{prg_of, loaded_of}
 use Rattle.tb_codegen.specs.declared.compiled.Compiled.{Compiled}
-use Rattle.tb_stepper.specs.Notes.{Holds}
+use Rattle.tb_stepper.specs.Holding.{Holds}
 use Rattle.tb_commands.specs.Lines.{lines_of}
 use Rattle.tb_commands.specs.Dialogue.{Dialogue}
 use Rattle.tb_streams.specs.Streams.{MayPassMost, Reads}
@@ -27,7 +27,7 @@ IsLoadable program =
 -- the history of a program's start machine alone
 abbrev pub start_of_history : List ℕ → List ℕ → Compiled → Holds Quiet
 start_of_history text answers program =
-    record { machine = start 0x0801 (loaded_of program) text answers; outside = record {}; notes = []; program = program }
+    record { machine = start 0x0801 (loaded_of program) text answers; outside = record {}; undos = []; program = program }
 
 -- the answers to commands, over a program
 abbrev pub Steps : List ℕ → List ℕ → ℕ → Compiled → List ℕ → Product → Type 0

@@ -2,7 +2,7 @@
 use md5::{Digest, Md5};
 use std::alloc::{AllocError, Global};
 use tb_cpu::{Flags, Regs, Wrong, step};
-use tb_memmap::{LoadError, Memory, NoMemory};
+use tb_memmap::{LoadError, Memory};
 use tb_opcodes::{Mnemonic, Mode, decode};
 use thiserror::Error;
 
@@ -29,12 +29,6 @@ pub enum Failure {
 
 impl From<AllocError> for Failure {
     fn from(_: AllocError) -> Failure {
-        Failure::NoMemory
-    }
-}
-
-impl From<NoMemory> for Failure {
-    fn from(_: NoMemory) -> Failure {
         Failure::NoMemory
     }
 }

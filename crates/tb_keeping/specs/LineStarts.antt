@@ -1,6 +1,6 @@
 -- Where a machine that runs a program's code begins a line, the program does.
 use Rattle.std.specs.Prelude.{◌≡◌, ℕ, ◌+◌, ◌≤◌, ◌<◌, true, false, if◌then◌else◌, List, [], ◌∷◌, ◌++◌, length, slice_index}
-use Rattle.tb_cpu.specs.Operands.{word, word_in}
+use Rattle.tb_cpu.specs.Operands.{word_from, word_in}
 use Rattle.tb_kernal.specs.declared.events.Event.{Event}
 use Rattle.tb_kernal.specs.declared.events.Event.TheVariants.{Go, Interrupt}
 use Rattle.tb_kernal.specs.declared.events.Clobber.{Clobber}
@@ -29,7 +29,7 @@ StandsFor start ns Past a = is_start start ns a ≡ false
 
 -- the address that the return list holds behind so many others
 abbrev pub note_at : (ℕ → ℕ) → ℕ → ℕ
-note_at m k = word (m (NOTE_LOW + k)) (m (NOTE_HIGH + k))
+note_at m k = word_from (m (NOTE_LOW + k)) (m (NOTE_HIGH + k))
 
 -- the return list holds these places, the newest first
 abbrev pub HoldsReturns : (ℕ → ℕ) → List ℕ → (ℕ → ℕ) → List Place → Type 0

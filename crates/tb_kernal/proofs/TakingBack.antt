@@ -19,10 +19,10 @@ use Rattle.tb_kernal.specs.declared.events.Event.TheVariants.{Go, Interrupt}
 use Rattle.tb_kernal.specs.declared.status.Status.{Status}
 use Rattle.tb_kernal.specs.declared.status.Status.TheVariants.{Running, Waits, Returned, Wrong as WentWrong}
 use Rattle.tb_kernal.specs.declared.status.EventError.TheVariants.{Unlawful, Sent}
-use Rattle.tb_kernal.specs.Notes.{Note}
+use Rattle.tb_kernal.specs.Former.{Former}
 use Rattle.tb_kernal.specs.Places.{all_writable, all_open, old_of, written_open, service_at}
 use Rattle.tb_kernal.specs.Machine.{State, Content, state_of, status, is_stopped, happens, gone, gone_at, stepped, is_lawful, is_lawful_go, sends, SameKeyboard, Happened}
-use Rattle.tb_kernal.specs.Undoing.{Noted, Undone, TakesBack, SameButRoom, places_of, places_of_go, back_to}
+use Rattle.tb_kernal.specs.Undoing.{IsFormer, Undone, TakesBack, SameButRoom, places_of, places_of_go, back_to}
 use Rattle.tb_kernal.proofs.WriteLists.{rom_writable_open}
 use Rattle.tb_kernal.proofs.Restoring.{is_among, all_among, AreOf, restored_open}
 
@@ -187,7 +187,7 @@ back_is : (noted now n : ℕ) → noted ≤ n → back_to noted now n ≡ noted
 back_is noted now n h = let t : nat_le noted n ≡ true = grind (arith, nat_tests) in rw t refl
 
 -- undoing what came to t, an onward state whose writes the noted bytes take back
-taken_back_from : (u : Note) (m n q : Content) (e : Event) (t : State) → Noted u m e → Undone u n q → state_of n ≡ t → SameKeyboard m n → Onward (state_of m) t →
+taken_back_from : (u : Former) (m n q : Content) (e : Event) (t : State) → IsFormer u m e → Undone u n q → state_of n ≡ t → SameKeyboard m n → Onward (state_of m) t →
     written_open t.mem (old_of (at m.memory) (places_of e m)) ≡ at m.memory →
     SameButRoom m q × (q.room ≡ n.room + (length n.sent - length m.sent))
 taken_back_from u m n q e t noted done s keys on back =
@@ -215,7 +215,7 @@ lawful_if : (b c : Bool) → (if not b then Some Unlawful else if c then Some Se
 lawful_if true c h = refl
 lawful_if false c h = absurd (cc)
 
-pub takes_back : (u : Note) (n q : Content) → Undone u n q → TakesBack u n q
+pub takes_back : (u : Former) (n q : Content) → Undone u n q → TakesBack u n q
 takes_back u n q done m e (Ok t) after noted h same =
     let lawful = lawful_if (is_lawful (state_of m) e) (sends (state_of m) && m.room == 0) h.0 in
     let keys : SameKeyboard m n = (same.1.0 ∙ h.4.0, same.1.1 ∙ h.4.1) in
@@ -225,10 +225,10 @@ takes_back u n q done m e (Err w) after noted h same =
     let keys : SameKeyboard m n = (same.1.0 ∙ ap (λ (c : Content). c.all_text) h.1, same.1.1 ∙ ap (λ (c : Content). c.all_answers) h.1) in
     taken_back_from u m n q e (state_of m) noted done unchanged keys (onward_same (state_of m) (state_of m) refl refl refl) (nothing_back (at m.memory) (places_of e m))
 
--- what the note of an event gives back of the machine that the event came to
-pub note_gives_back : (u : Note) (m : Content) (e : Event) (t : Status) (n : Content) → Noted u m e → Happened m e (Ok t) n →
+-- what the undo of an event gives back of the machine that the event came to
+pub former_gives_back : (u : Former) (m : Content) (e : Event) (t : Status) (n : Content) → IsFormer u m e → Happened m e (Ok t) n →
     (written_open (at n.memory) u.bytes ≡ at m.memory) × (take u.sent n.sent ≡ m.sent) × (n.home ≡ m.home) × (n.home_s ≡ m.home_s)
-note_gives_back u m e t n noted h =
+former_gives_back u m e t n noted h =
     let lawful = lawful_if (is_lawful (state_of m) e) (sends (state_of m) && m.room == 0) h.0 in
     let on = onward (state_of m) e in
     let mem : at n.memory ≡ (happens (state_of m) e).mem = ap (λ (x : State). x.mem) h.1 in

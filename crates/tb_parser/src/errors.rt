@@ -4,9 +4,6 @@ ghost use Rattle.tb_parser.specs.Refusals.{out_of_memory, fault_of_memory, at_li
 
 use std::alloc::{AllocError, AllocFailed};
 
-/// Want of memory, where nothing else can be wrong.
-pub type NoMemory = AllocError;
-
 /// What is wrong, in the order in which a line's faults are looked for.
 #[derive(Clone, Copy, Debug, PartialEq, Eq)]
 pub enum SourceErrorKind {

@@ -2,8 +2,7 @@
 ghost use Rattle.std.specs.Prelude.{◌≡◌, ◌+◌, ◌<◌, ◌≤◌, ◌^◌, length, IfOk, IfSome, MatchOption};
 ghost use Rattle.tb_parser.specs.Tokens.{AreSpaces, AreTokens, IsNext, end_of};
 
-use crate::errors::NoMemory;
-use std::alloc::Global;
+use std::alloc::{AllocError, Global};
 
 /// A word of the language.
 #[derive(Clone, Copy, Debug, PartialEq, Eq)]
@@ -311,7 +310,7 @@ fn keyword_at(line: &[u8], start: usize) -> Option<(Keyword, usize)>
 /// INPUT, IF, GOTO or GOSUB it is RND where those letters stand there, else a variable. Everywhere else it is a
 /// variable where `=` follows, else the longest keyword that stands there, else a stray byte. What stands behind REM is
 /// one token, with its spaces, if it isn't empty.
-pub fn tokens(alloc: Global, line: &[u8]) -> Result<Vec<Token<'_>>, NoMemory>
+pub fn tokens(alloc: Global, line: &[u8]) -> Result<Vec<Token<'_>>, AllocError>
     ensures { IfOk result (λ v. AreTokens line.now 0 v.items) }
 {
     let mut found = Vec::new(alloc);

@@ -4,9 +4,8 @@
 ghost use Rattle.std.specs.Prelude.{◌≡◌, ◌++◌, IfOk, MatchResult, Ok, Err};
 ghost use Rattle.tb_prg.specs.Prg.{content_of, header};
 
-use std::alloc::Global;
+use std::alloc::{AllocError, Global};
 use tb_asm::Image;
-use tb_memmap::NoMemory;
 use thiserror::Error;
 
 /// The load address `$0801` and the line `10 SYS2061`, whose machine code lies at `$080D`.
@@ -34,16 +33,16 @@ pub struct Loaded<'a> {
 
 /// The PRG file of an image at `$080D`: its load address is `$0801`, and there the line `10 SYS2061`
 /// stands before the image.
-pub fn write(alloc: Global, image: &Image) -> Result<Vec<u8>, NoMemory>
+pub fn write(alloc: Global, image: &Image) -> Result<Vec<u8>, AllocError>
     requires { image.now.at ≡ 0x080d }
     ensures { IfOk result (λ file. file.items ≡ header ++ image.now.bytes.items) }
 {
     let mut file = Vec::new(alloc);
     if file.extend_from_slice(&HEADER).is_err() {
-        return Err(NoMemory);
+        return Err(AllocError);
     }
     if file.extend_from_slice(image.bytes.as_slice()).is_err() {
-        return Err(NoMemory);
+        return Err(AllocError);
     }
     Ok(file)
 }

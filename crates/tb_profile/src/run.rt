@@ -10,10 +10,9 @@ ghost use Rattle.tb_profile.specs.Tallies.{CountsEvent, Took, most_cycles};
 ghost use Rattle.tb_profile.specs.Profiles.{Profiled};
 
 use crate::tally::Tally;
-use std::alloc::Global;
+use std::alloc::{AllocError, Global};
 use tb_cycles::cycles;
 use tb_kernal::{Event, Machine, Outside, Status};
-use tb_memmap::NoMemory;
 
 /// What a service counts, whose time isn't the program's: its RTS.
 const SERVICE_CYCLES: u8 = 6;
@@ -72,13 +71,13 @@ fn take_event<O: Outside>(
     machine: &mut Machine,
     outside: &mut O,
     tally: &mut Tally,
-) -> Result<(), NoMemory>
+) -> Result<(), AllocError>
     requires running { status (state_of machine.old) ≡ Running }
     requires few { tally.old.taken < 2 ^ 32 }
     ensures { OnOk result (Took O.gives outside.old machine.old tally.old outside.new machine.new tally.new) }
 {
     if machine.reserve(1).is_err() {
-        return Err(NoMemory);
+        return Err(AllocError);
     }
     let event = outside.next(machine);
     count_event(tally, &event, machine);
@@ -96,7 +95,7 @@ pub fn run_counted<O: Outside>(
     outside: &mut O,
     places: &[u16],
     limit: u32,
-) -> Result<Profile, NoMemory>
+) -> Result<Profile, AllocError>
     ensures { Profiled O.gives outside.old machine.old places.now limit result outside.new machine.new }
 {
     let mut tally = Tally::new(alloc, places)?;

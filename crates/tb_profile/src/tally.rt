@@ -3,9 +3,8 @@ ghost use Rattle.std.specs.Prelude.{◌≡◌, ◌<◌, ◌≤◌, ◌+◌, ◌*
 ghost use Rattle.tb_profile.specs.Steps.{is_place};
 ghost use Rattle.tb_profile.specs.Tallies.{IsTally, with_more, after_step, most_cycles};
 
-use std::alloc::Global;
+use std::alloc::{AllocError, Global};
 use std::marker::Model;
-use tb_memmap::NoMemory;
 
 /// As many addresses as there are.
 const ADDRESSES: usize = 65_536;
@@ -46,7 +45,7 @@ impl Model for Tally {
 
 impl Tally {
     /// The tally of no steps, of a program whose lines begin at these places.
-    pub fn new(alloc: Global, places: &[u16]) -> Result<Tally, NoMemory>
+    pub fn new(alloc: Global, places: &[u16]) -> Result<Tally, AllocError>
         ensures { IfOk result (λ t. IsTally places.now [] t) }
     {
         Ok(Tally {
@@ -112,34 +111,22 @@ impl Tally {
     }
 }
 
-fn zeros(alloc: Global) -> Result<Vec<u64>, NoMemory>
+fn zeros(alloc: Global) -> Result<Vec<u64>, AllocError>
     ensures { IfOk result (λ v. v.items ≡ replicate 65536 0) }
 {
-    match vec![in alloc; 0u64; ADDRESSES] {
-        Ok(counts) => Ok(counts),
-        Err(_) => Err(NoMemory),
-    }
+    vec![in alloc; 0u64; ADDRESSES]
 }
 
 // Whether a line begins, address by address.
-fn marks(alloc: Global, places: &[u16]) -> Result<Vec<bool>, NoMemory>
+fn marks(alloc: Global, places: &[u16]) -> Result<Vec<bool>, AllocError>
     ensures { IfOk result (λ v. (vec_len v ≡ 65536)
         × ((a : ℕ) → a < 65536 → slice_index_or v.items a false ≡ is_place places.now a)) }
 {
-    let mut begins = no_marks(alloc)?;
+    let mut begins = vec![in alloc; false; ADDRESSES]?;
     for place in places {
         begins[*place as usize] = true;
     }
     Ok(begins)
-}
-
-fn no_marks(alloc: Global) -> Result<Vec<bool>, NoMemory>
-    ensures { IfOk result (λ v. v.items ≡ replicate 65536 false) }
-{
-    match vec![in alloc; false; ADDRESSES] {
-        Ok(begins) => Ok(begins),
-        Err(_) => Err(NoMemory),
-    }
 }
 
 fn add(counts: &mut Vec<u64>, place: u16, more: u64)

@@ -1,7 +1,7 @@
 -- The table of a tally of a run.
 use Rattle.std.proofs.Common.{◌≡◌, ℕ, suc, ◌<◌, List, [], ◌∷◌, Result, Ok, Err, map, refl, subst, ap, ◌∙◌, slice_index, lit<}
 use Rattle.std.specs.Prelude.{IfOk}
-use Rattle.tb_memmap.specs.declared.memory.NoMemory.{NoMemory}
+use Rattle.std.specs.declared.alloc.AllocError.{AllocError}
 use Rattle.tb_kernal.specs.declared.events.Event.{Event}
 use Rattle.tb_kernal.specs.Machine.{Content, state_of}
 use Rattle.tb_profile.specs.declared.run.Profile.{Profile}
@@ -63,7 +63,7 @@ module _ {O : Type 0} (gives : O → Content → Event → O → Type 0) (o : O)
         adds_up = adds_up ran.events (state_of m) (map start_pair starts) table made;
       }
 
-  pub profiles : (places : List ℕ) (result : Result Table NoMemory) (profile : Profile) → places ≡ map (λ s. s.place) starts
+  pub profiles : (places : List ℕ) (result : Result Table AllocError) (profile : Profile) → places ≡ map (λ s. s.place) starts
       → ((k : ℕ) → slice_index places k < 65536) → Profiled gives o m places limit (Ok profile) p n
       → IfOk result (IsTableOf profile.tally starts profile.status) → Profiles gives o m (map start_pair starts) limit result p n
   profiles places (Ok table) profile are below counted is =
@@ -71,4 +71,4 @@ module _ {O : Type 0} (gives : O → Content → Event → O → Type 0) (o : O)
       tabled table profile
       (subst (λ (ps : List ℕ). (k : ℕ) → slice_index ps k < 65536) there below)
       (subst (λ ps. Profiled gives o m ps limit (Ok profile) p n) there counted) is
-  profiles places (Err NoMemory) profile are below counted is = tt
+  profiles places (Err e) profile are below counted is = tt

@@ -1,6 +1,6 @@
 -- The rows of lines, by what a tally has counted at the places where they begin.
 use Rattle.std.specs.Prelude.{ℕ, ◌≡◌, ◌+◌, ◌<◌, false, List, [], ◌∷◌, map, length, slice_index, sum_by, Result, Ok, Err}
-use Rattle.tb_memmap.specs.declared.memory.NoMemory.{NoMemory}
+use Rattle.std.specs.declared.alloc.AllocError.{AllocError}
 use Rattle.tb_kernal.specs.declared.events.Event.{Event}
 use Rattle.tb_kernal.specs.declared.status.Status.{Status}
 use Rattle.tb_kernal.specs.Machine.{Content, state_of}
@@ -74,6 +74,6 @@ pub record Tabled {O : Type 0} (gives : O → Content → Event → O → Type 0
   pub adds_up : AreApart (map (λ s. s.1) starts) → AddsUp table
 
 -- a table, where memory was not wanting
-abbrev pub Profiles : {O : Type 0} → (O → Content → Event → O → Type 0) → O → Content → List (ℕ × ℕ) → ℕ → Result Table NoMemory → O → Content → Type 0
+abbrev pub Profiles : {O : Type 0} → (O → Content → Event → O → Type 0) → O → Content → List (ℕ × ℕ) → ℕ → Result Table AllocError → O → Content → Type 0
 Profiles gives o m starts limit (Ok table) p n = Tabled gives o m starts limit table p n
-Profiles gives o m starts limit (Err NoMemory) p n = Unit {0}
+Profiles gives o m starts limit (Err e) p n = Unit {0}

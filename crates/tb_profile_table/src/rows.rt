@@ -2,9 +2,8 @@
 ghost use Rattle.std.specs.Prelude.{◌≡◌, ◌<◌, ℕ, map, slice_index, IfOk};
 ghost use Rattle.tb_profile_table.specs.Rows.{IsTableOf, Profiles, row_in, start_pair, whole_in};
 
-use std::alloc::Global;
+use std::alloc::{AllocError, Global};
 use tb_kernal::{Machine, Outside, Status};
-use tb_memmap::NoMemory;
 use tb_profile::{Tally, run_counted};
 
 /// Where a line begins.
@@ -44,13 +43,13 @@ pub struct Table {
 }
 
 // Where lines begin.
-fn places_of(alloc: Global, starts: &[Start]) -> Result<Vec<u16>, NoMemory>
+fn places_of(alloc: Global, starts: &[Start]) -> Result<Vec<u16>, AllocError>
     ensures { IfOk result (λ places. places.items ≡ map (λ s. s.place) starts.now) }
 {
     let mut places = Vec::new(alloc);
     for start in starts {
         if places.push(start.place).is_err() {
-            return Err(NoMemory);
+            return Err(AllocError);
         }
     }
     Ok(places)
@@ -74,13 +73,13 @@ fn row_at(tally: &Tally, line: u16, place: u16) -> Row
 }
 
 // What these lines took.
-fn rows_of(alloc: Global, tally: &Tally, starts: &[Start]) -> Result<Vec<Row>, NoMemory>
+fn rows_of(alloc: Global, tally: &Tally, starts: &[Start]) -> Result<Vec<Row>, AllocError>
     ensures { IfOk result (λ rows. rows.items ≡ map (λ s. row_in tally.now s.line s.place) starts.now) }
 {
     let mut rows = Vec::new(alloc);
     for start in starts {
         if rows.push(row_at(tally, start.line, start.place)).is_err() {
-            return Err(NoMemory);
+            return Err(AllocError);
         }
     }
     Ok(rows)
@@ -106,7 +105,7 @@ fn table_of(
     tally: &Tally,
     starts: &[Start],
     status: Status,
-) -> Result<Table, NoMemory>
+) -> Result<Table, AllocError>
     ensures { IfOk result (IsTableOf tally.now starts.now status) }
 {
     Ok(Table {
@@ -123,7 +122,7 @@ pub fn profile<O: Outside>(
     outside: &mut O,
     starts: &[Start],
     limit: u32,
-) -> Result<Table, NoMemory>
+) -> Result<Table, AllocError>
     ensures { Profiles O.gives outside.old machine.old (map start_pair starts.now) limit result outside.new machine.new }
 {
     let places = places_of(alloc, starts)?;

@@ -11,9 +11,9 @@ ghost use Rattle.tb_parser.specs.Lines.{lines_of_file};
 ghost use Rattle.tb_parser.specs.Readings.{ExpressionIs};
 ghost use Rattle.tb_parser.specs.Tokens.{AreTokens};
 
-use std::alloc::Global;
+use std::alloc::{AllocError, Global};
 use tb_grammar::{ReadExpression, ReadStatement, Stop, read_expression, read_statement};
-use tb_parser::{Expr, NoMemory, Program, SourceError, Token, parse, parse_expr, tokens};
+use tb_parser::{Expr, Program, SourceError, Token, parse, parse_expr, tokens};
 
 /// `read_statement`.
 pub fn statement_of(alloc: Global, text: &[u8]) -> Result<ReadStatement, Stop>
@@ -32,7 +32,7 @@ pub fn expression_of(alloc: Global, text: &[u8]) -> Result<ReadExpression, Stop>
 }
 
 /// `tokens`.
-pub fn tokens_of(alloc: Global, line: &[u8]) -> Result<Vec<Token<'_>>, NoMemory>
+pub fn tokens_of(alloc: Global, line: &[u8]) -> Result<Vec<Token<'_>>, AllocError>
     ensures { IfOk result (λ v. AreTokens line.now 0 v.items) }
 {
     tokens(alloc, line)

@@ -13,7 +13,7 @@ use Rattle.tb_cpu.specs.declared.registers.Regs.{Regs}
 use Rattle.tb_cpu.specs.declared.wrong.Wrong.{Wrong}
 use Rattle.tb_cpu.specs.declared.wrong.Wrong.TheVariants.{Closed, Brk}
 use Rattle.tb_cpu.specs.Effects.{status_flags}
-use Rattle.tb_cpu.specs.Operands.{Reader, reading, and_then, operand_of, is_accumulator, word}
+use Rattle.tb_cpu.specs.Operands.{Reader, reading, and_then, operand_of, is_accumulator, word_from}
 use Rattle.tb_cpu.specs.Instructions.{Outcome, executed, executed_on_a, advanced, instruction, outcome, finished, unchanged, next, pulled as pulled_byte}
 use Rattle.tb_kernal.specs.declared.places.Service.TheVariants.{Chrout, Chrin, Getin}
 use Rattle.tb_kernal.specs.declared.events.Clobber.{Clobber}
@@ -243,10 +243,10 @@ module _ (f : Setup) (room : ℕ) (fits : Fits f room) (v : View) (s : State) (a
       go [] e h = absurd (none≢some w h)
       go (lo ∷ []) e h = absurd (none≢some w h)
       go (lo ∷ hi ∷ bs) e h =
-          let q = record r { pc = (word lo hi + 1) % 65536 } in
+          let q = record r { pc = (word_from lo hi + 1) % 65536 } in
           let one = pulled f v s at lo q (hi ∷ bs) e in
           let two = pulled f (record v { regs = q; stack = hi ∷ bs }) (record s { regs = with_s (up s.regs.s) q }) one.3 hi q bs refl in
-          let second = λ (low : ℕ) (x : Result ℕ Wrong). and_then x (λ high. unchanged (record r { s = up (up s.regs.s); pc = (word low high + 1) % 65536 })) in (
+          let second = λ (low : ℕ) (x : Result ℕ Wrong). and_then x (λ high. unchanged (record r { s = up (up s.regs.s); pc = (word_from low high + 1) % 65536 })) in (
             (with_s (up (up s.regs.s)) q, []),
             ap (λ x. and_then x (λ low. second low (reading s.mem (256 + up (up s.regs.s))))) one.2 ∙ ap (second lo) two.2,
             subst (λ x. At f x (record s { regs = with_s (up (up s.regs.s)) q })) (some_eq h) two.3,
@@ -260,14 +260,14 @@ module _ (f : Setup) (room : ℕ) (fits : Fits f room) (v : View) (s : State) (a
       go (p ∷ []) e h = absurd (none≢some w h)
       go (p ∷ lo ∷ []) e h = absurd (none≢some w h)
       go (p ∷ lo ∷ hi ∷ bs) e h =
-          let q = record r { flags = status_flags p; pc = word lo hi } in
+          let q = record r { flags = status_flags p; pc = word_from lo hi } in
           let s1 = up s.regs.s in
           let s2 = up s1 in
           let s3 = up s2 in
           let one = pulled f v s at p q (lo ∷ hi ∷ bs) e in
           let two = pulled f (record v { regs = q; stack = lo ∷ hi ∷ bs }) (record s { regs = with_s s1 q }) one.3 lo q (hi ∷ bs) refl in
           let three = pulled f (record v { regs = q; stack = hi ∷ bs }) (record s { regs = with_s s2 q }) two.3 hi q bs refl in
-          let third = λ (p low : ℕ) (x : Result ℕ Wrong). and_then x (λ high. unchanged (record r { s = s3; flags = status_flags p; pc = word low high })) in
+          let third = λ (p low : ℕ) (x : Result ℕ Wrong). and_then x (λ high. unchanged (record r { s = s3; flags = status_flags p; pc = word_from low high })) in
           let second = λ (p : ℕ) (x : Result ℕ Wrong). and_then x (λ low. third p low (reading s.mem (256 + s3))) in (
             (with_s s3 q, []),
             ap (λ x. and_then x (λ p. second p (reading s.mem (256 + s2)))) one.2 ∙ ap (second p) two.2 ∙ ap (third p lo) three.2,

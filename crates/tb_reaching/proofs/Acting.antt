@@ -9,7 +9,7 @@ use Rattle.tb_cpu.specs.declared.registers.Regs.{Regs}
 use Rattle.tb_cpu.specs.declared.wrong.Wrong.{Wrong}
 use Rattle.tb_cpu.specs.declared.wrong.Wrong.TheVariants.{Closed}
 use Rattle.tb_cpu.specs.Effects.{loaded_a, status_byte, status_flags}
-use Rattle.tb_cpu.specs.Operands.{Reader, operand_of, is_accumulator, word}
+use Rattle.tb_cpu.specs.Operands.{Reader, operand_of, is_accumulator, word_from}
 use Rattle.tb_cpu.specs.Instructions.{Outcome, executed, executed_on_a, advanced}
 use Rattle.tb_reaching.specs.View.{View, Part, is_data}
 
@@ -55,12 +55,12 @@ pull_one m v r _ = None
 
 -- RTS
 abbrev pub pull_two : View → Regs → List ℕ → Option View
-pull_two v r (lo ∷ hi ∷ bs) = Some (record v { regs = record r { pc = (word lo hi + 1) % 65536 }; stack = bs })
+pull_two v r (lo ∷ hi ∷ bs) = Some (record v { regs = record r { pc = (word_from lo hi + 1) % 65536 }; stack = bs })
 pull_two v r _ = None
 
 -- RTI
 abbrev pub pull_three : View → Regs → List ℕ → Option View
-pull_three v r (p ∷ lo ∷ hi ∷ bs) = Some (record v { regs = record r { flags = status_flags p; pc = word lo hi }; stack = bs })
+pull_three v r (p ∷ lo ∷ hi ∷ bs) = Some (record v { regs = record r { flags = status_flags p; pc = word_from lo hi }; stack = bs })
 pull_three v r _ = None
 
 -- the address that a call pushes

@@ -3,7 +3,7 @@ use Rattle.std.proofs.Common.{◌≡◌, ℕ, ◌+◌, ◌%◌, true, false, not
 use Rattle.std.proofs.lemmas.Bool.{ne_eqb, eq-eqb, leb-true}
 use Rattle.tb_memmap.specs.Bytes.{written}
 use Rattle.tb_cpu.specs.declared.registers.Regs.{Regs}
-use Rattle.tb_cpu.specs.Operands.{word}
+use Rattle.tb_cpu.specs.Operands.{word_from}
 use Rattle.tb_kernal.specs.declared.places.Service.{Service}
 use Rattle.tb_kernal.specs.declared.places.Service.TheVariants.{Chrout, Chrin, Getin}
 use Rattle.tb_kernal.specs.declared.events.Clobber.{Clobber}
@@ -38,7 +38,7 @@ module _ (f : Setup) where
       let q = record r { pc = back_at lo hi } in
       let one = pulled f v s at lo q (hi ∷ bs) e in
       let two = pulled f (record v { regs = q; stack = hi ∷ bs }) (record s { regs = with_s (up s.regs.s) q }) one.3 hi q bs refl in
-      let to : (word (s.mem (256 + up s.regs.s)) (s.mem (256 + up (up s.regs.s))) + 1) % 65536 ≡ back_at lo hi = ap₂ (λ l h. (word l h + 1) % 65536) one.1 two.1 in
+      let to : (word_from (s.mem (256 + up s.regs.s)) (s.mem (256 + up (up s.regs.s))) + 1) % 65536 ≡ back_at lo hi = ap₂ (λ l h. (word_from l h + 1) % 65536) one.1 two.1 in
       subst (λ p. At f (record v { regs = q; stack = bs }) (record s { regs = record r { pc = p; s = up (up s.regs.s) } })) (sym to) two.3
 
   -- the status at a service

@@ -3,7 +3,7 @@ use Rattle.std.proofs.Common.{◌≡◌, ℕ, zero, suc, ◌+◌, ◌-◌, ◌%�
 use Rattle.std.specs.Prelude.{if◌then◌else◌}
 use Rattle.std.proofs.lemmas.Bool.{and_parts, cases_eq, eqb-true, eq-eqb, ne_eqb}
 use Rattle.std.proofs.lemmas.Bool.Decides.{nat_tests}
-use Rattle.tb_cpu.specs.Operands.{word}
+use Rattle.tb_cpu.specs.Operands.{word_from}
 use Rattle.tb_memmap.specs.Regions.{is_rom}
 use Rattle.tb_kernal.specs.Machine.{State}
 use Rattle.tb_kernal.specs.Starts.{IsStart, LieAt}
@@ -61,7 +61,7 @@ module _ (place : ℕ) (bytes : List ℕ) (from : 0x0800 ≤ place) (to : place 
       let low : 257 + s.regs.s ≡ 0x0101 + s.regs.s = omega arith in
       let high : 258 + s.regs.s ≡ 0x0101 + s.regs.s + 1 = omega arith in
       record {
-        home = h.home ∙ ap (λ a. (word (s.mem a) (s.mem (258 + s.regs.s)) + 1) % 65536) low ∙ ap (λ a. (word (s.mem (0x0101 + s.regs.s)) (s.mem a) + 1) % 65536) high;
+        home = h.home ∙ ap (λ a. (word_from (s.mem a) (s.mem (258 + s.regs.s)) + 1) % 65536) low ∙ ap (λ a. (word_from (s.mem (0x0101 + s.regs.s)) (s.mem a) + 1) % 65536) high;
         above = omega (arith, h.home_s, length_from s.mem (0x0101 + s.regs.s + 1 + 1) (253 - s.regs.s), h.s_to);
       }
 

@@ -4,7 +4,6 @@ ghost use Rattle.tb_refusals.specs.Refusals.{of_source, of_lower};
 
 use std::alloc::AllocError;
 use tb_lower::LowerError;
-use tb_memmap::NoMemory;
 use tb_parser::{SourceError, SourceErrorKind};
 
 /// Why a source text is not compiled, in the order in which it is looked for.
@@ -52,12 +51,3 @@ impl From<AllocError> for CompileError {
     }
 }
 
-impl From<NoMemory> for CompileError {
-    ghost use Rattle.tb_refusals.specs.declared.refusals.CompileError.TheVariants as error;
-
-    ghost from_gives = { λ _ r. r ≡ error.NoMemory };
-
-    fn from(_: NoMemory) -> Self {
-        CompileError::NoMemory
-    }
-}

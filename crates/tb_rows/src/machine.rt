@@ -11,10 +11,10 @@ mod writing;
 
 use self::setting::{Setting, first_regs};
 use crate::page::Page;
-use std::alloc::Global;
+use std::alloc::{AllocError, Global};
 use tb_cpu::Regs;
 use tb_kernal::Machine;
-use tb_memmap::{Memory, NoMemory};
+use tb_memmap::Memory;
 
 /// What the rows of the memory, the processor and the machine work on, from one to the next.
 #[derive(Drop)]
@@ -26,7 +26,7 @@ pub struct Bench {
 }
 
 impl Bench {
-    pub fn new(alloc: Global) -> Result<Bench, NoMemory> {
+    pub fn new(alloc: Global) -> Result<Bench, AllocError> {
         Ok(Bench {
             regs: first_regs(),
             memory: Memory::new(alloc)?,

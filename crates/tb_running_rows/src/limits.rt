@@ -1,11 +1,10 @@
 //! Endless programs, and where a run's PC is.
 use crate::machines::{LIMIT, Ran, clean};
 use crate::rows::{PLAIN, Row};
-use std::alloc::Global;
+use std::alloc::{AllocError, Global};
 use std::test::Fail;
 use tb_codegen::Compiled;
 use tb_kernal::{Machine, Quiet, Rude, Status, run};
-use tb_memmap::NoMemory;
 use tb_runtime16::{Routine, entry};
 
 const ONES: Row<'static> = Row {
@@ -94,7 +93,7 @@ fn an_endless_program_is_cut_off(rt: HostRuntime) -> Result<(), Fail> {
 }
 
 // Whether PC comes to a place on the way to the end.
-fn passes(machine: &mut Machine, place: u16) -> Result<bool, NoMemory> {
+fn passes(machine: &mut Machine, place: u16) -> Result<bool, AllocError> {
     for _ in 0..LIMIT {
         if machine.regs().pc == place {
             return Ok(true);

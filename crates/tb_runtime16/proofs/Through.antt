@@ -5,7 +5,7 @@ use Rattle.tb_opcodes.specs.declared.Mnemonic.TheVariants.{Lda, Cmp, Sbc}
 use Rattle.tb_opcodes.specs.declared.Mode.TheVariants.{IndirectY}
 use Rattle.tb_cpu.specs.declared.registers.Regs.{Regs}
 use Rattle.tb_cpu.specs.Effects.{bit}
-use Rattle.tb_cpu.specs.Operands.{and_then, word}
+use Rattle.tb_cpu.specs.Operands.{and_then, word_from}
 use Rattle.tb_reaching.specs.View.{View, Setup, Part, Fits, Comes, view, is_data, Bytes}
 use Rattle.tb_reaching.proofs.Acting.{read_view}
 use Rattle.tb_reaching.proofs.Instr.{ins, operand_by}
@@ -15,8 +15,8 @@ use Rattle.tb_runtime16.proofs.Words.{doubled, added, borrow}
 -- the address of (o),Y
 pointed : (code : Part) (m : ℕ → ℕ) (r : Regs) (o at : ℕ) → is_data o ≡ true → is_data ((o + 1) % 256) ≡ true → (m o + 256 * m ((o + 1) % 256) + r.y) % 65536 ≡ at → operand_by IndirectY o r (read_view code m) ≡ Ok at
 pointed code m r o at l h e =
-    ap (λ x. and_then (and_then x (λ low. and_then (read_view code m ((o + 1) % 256)) (λ high. Ok (word low high)))) (λ p. Ok ((p + r.y) % 65536))) (reads_data code m o l)
-    ∙ ap (λ x. and_then (and_then x (λ high. Ok (word (m o) high))) (λ p. Ok ((p + r.y) % 65536))) (reads_data code m ((o + 1) % 256) h)
+    ap (λ x. and_then (and_then x (λ low. and_then (read_view code m ((o + 1) % 256)) (λ high. Ok (word_from low high)))) (λ p. Ok ((p + r.y) % 65536))) (reads_data code m o l)
+    ∙ ap (λ x. and_then (and_then x (λ high. Ok (word_from (m o) high))) (λ p. Ok ((p + r.y) % 65536))) (reads_data code m ((o + 1) % 256) h)
     ∙ ap (λ a. Ok a) e
 
 module _ (f : Setup) (room : ℕ) (fits : Fits f room) (o pc at b : ℕ) (a x y : ℕ) (n v i z c : Bool) (stack : List ℕ) (m : ℕ → ℕ) (text answers : List ℕ) (q : View → Type 0) (t : List ℕ) (k : ℕ) where

@@ -1,7 +1,7 @@
 -- States that follow one another.
 use Rattle.std.proofs.Common.{ℕ, List, [], ◌∷◌, ◌++◌, drop, zero, suc}
 use Rattle.tb_kernal.specs.Machine.{State}
-use Rattle.tb_stepper.specs.Notes.{Follows, EachFollows}
+use Rattle.tb_stepper.specs.Holding.{Follows, EachFollows}
 
 pub follows_more : (l : List State) (s t : State) → EachFollows (l ++ s ∷ []) → Follows s t → EachFollows ((l ++ s ∷ []) ++ t ∷ [])
 follows_more [] s t h f = (f, tt)

@@ -1,7 +1,7 @@
 -- Walks to an address.
 use Rattle.std.proofs.Common.{ℕ, ◌≡◌, ◌<◌, ◌+◌, Bool, true, false, nat_lt, refl, sym, ap, ◌∙◌, subst, arith, suc}
 use Rattle.std.specs.Prelude.{None, Ok, Err}
-use Rattle.tb_memmap.specs.declared.memory.NoMemory.{NoMemory}
+use Rattle.std.specs.declared.alloc.AllocError.{AllocError}
 use Rattle.tb_kernal.specs.declared.events.Event.{Event}
 use Rattle.tb_kernal.specs.declared.status.Status.{Status}
 use Rattle.tb_kernal.specs.Machine.{Content, state_of, status, is_stopped}
@@ -20,12 +20,12 @@ module _ {O : Type 0} (gives : O → Content → Event → O → Type 0) where
       let next : suc n ≡ n + 1 = omega arith in
       subst (λ m. Walked gives address m h k) next (b, w, e, status_by (is_stopped (status (state_of b.machine))) b k t s)
 
-  refused_by : (b : Bool) (h k : Holds O) (e : NoMemory) → SteppedBy b gives h (Err e) k → (h.machine.room ≡ 0) × (k ≡ h)
+  refused_by : (b : Bool) (h k : Holds O) (e : AllocError) → SteppedBy b gives h (Err e) k → (h.machine.room ≡ 0) × (k ≡ h)
   refused_by true h k e x = absurd (cc)
   refused_by false h k e x = x
 
   -- a step for which there was no room
-  pub refused : (address limit n : ℕ) (h b k : Holds O) (e : NoMemory) → Walked gives address n h b → end_at address (nat_lt 0 n) (state_of b.machine) ≡ None → n < limit → Stepped gives b (Err e) k →
+  pub refused : (address limit n : ℕ) (h b k : Holds O) (e : AllocError) → Walked gives address n h b → end_at address (nat_lt 0 n) (state_of b.machine) ≡ None → n < limit → Stepped gives b (Err e) k →
       Reaches gives address limit h (Err e) k
   refused address limit n h b k e w none less s =
       let r = refused_by (is_stopped (status (state_of b.machine))) b k e s in

@@ -1,7 +1,7 @@
 -- A history of machines, and its steps.
 use Rattle.std.specs.Prelude.{ℕ, ◌≡◌, ◌<◌, ◌≤◌, nat_lt, suc, zero, Err, ◌&&◌, ◌==◌, Bool, true, false, [], ◌∷◌, ◌++◌, Option, Some, None, Result, Ok, MatchResult}
 use Rattle.circular_buffer.specs.Buffer.{keep_last}
-use Rattle.tb_memmap.specs.declared.memory.NoMemory.{NoMemory}
+use Rattle.std.specs.declared.alloc.AllocError.{AllocError}
 use Rattle.tb_kernal.specs.declared.events.Event.{Event}
 use Rattle.tb_kernal.specs.declared.status.Status.{Status}
 use Rattle.tb_kernal.specs.Machine.{State, Content, state_of, status, is_stopped, happens}
@@ -10,7 +10,7 @@ use Rattle.tb_stepper.specs.declared.reached.StepError.{StepError}
 use Rattle.tb_stepper.specs.declared.reached.StepError.TheVariants.{NoSuchLine, NoMemory as NoRoom}
 use Rattle.tb_stepper.specs.declared.reached.Reached.{Reached}
 use Rattle.tb_stepper.specs.declared.reached.Reached.TheVariants.{There, Stopped, Limit}
-pub use Rattle.tb_stepper.specs.Notes.{Holds, machines}
+pub use Rattle.tb_stepper.specs.Holding.{Holds, machines}
 
 -- one event that the outside gave to the machine, for which room may have been made, and the machine after it; at most 1,001 machines are kept
 pub record Added {O : Type 0} (gives : O → Content → Event → O → Type 0) (h k : Holds O) : Type 0 where
@@ -22,20 +22,20 @@ pub record Added {O : Type 0} (gives : O → Content → Event → O → Type 0)
   pub program : k.program ≡ h.program
   pub kept : machines k ≡ keep_last 1001 (machines h ++ state_of k.machine ∷ [])
 
--- a step of a machine that isn't stopped; NoMemory comes only where there is no room, and changes nothing
-abbrev pub Moved : {O : Type 0} → (O → Content → Event → O → Type 0) → Holds O → Result Status NoMemory → Holds O → Type 0
+-- a step of a machine that isn't stopped; AllocError comes only where there is no room, and changes nothing
+abbrev pub Moved : {O : Type 0} → (O → Content → Event → O → Type 0) → Holds O → Result Status AllocError → Holds O → Type 0
 Moved gives h result k =
     MatchResult result
     (λ t. Added gives h k × (t ≡ status (state_of k.machine)))
     (λ _. (h.machine.room ≡ 0) × (k ≡ h))
 
 -- the same, by whether the machine is stopped: where it is, it stays as it is, and nobody is asked
-abbrev pub SteppedBy : {O : Type 0} → Bool → (O → Content → Event → O → Type 0) → Holds O → Result Status NoMemory → Holds O → Type 0
+abbrev pub SteppedBy : {O : Type 0} → Bool → (O → Content → Event → O → Type 0) → Holds O → Result Status AllocError → Holds O → Type 0
 SteppedBy true gives h result k = (result ≡ Ok (status (state_of h.machine))) × (k ≡ h)
 SteppedBy false gives h result k = Moved gives h result k
 
 -- a step
-abbrev pub Stepped : {O : Type 0} → (O → Content → Event → O → Type 0) → Holds O → Result Status NoMemory → Holds O → Type 0
+abbrev pub Stepped : {O : Type 0} → (O → Content → Event → O → Type 0) → Holds O → Result Status AllocError → Holds O → Type 0
 Stepped gives h result k = SteppedBy (is_stopped (status (state_of h.machine))) gives h result k
 
 -- why a walk ends in a state, its limit aside: PC is there after a step, else the machine isn't Running
@@ -60,7 +60,7 @@ Answers (Some e) n limit answer = answer ≡ e
 Answers None n limit answer = (answer ≡ Limit) × (n ≡ limit)
 
 -- a walk to an address: the steps and the answer; NoMemory comes before a step for which there was no room
-pub record Reaches {O : Type 0} (gives : O → Content → Event → O → Type 0) (address limit : ℕ) (h : Holds O) (result : Result Reached NoMemory) (k : Holds O) : Type 0 where
+pub record Reaches {O : Type 0} (gives : O → Content → Event → O → Type 0) (address limit : ℕ) (h : Holds O) (result : Result Reached AllocError) (k : Holds O) : Type 0 where
   pub steps : ℕ
   pub walked : Walked gives address steps h k
   pub few : steps ≤ limit
@@ -71,7 +71,7 @@ pub record Reaches {O : Type 0} (gives : O → Content → Event → O → Type 
 -- the same, with want of memory as a walk to a line answers it
 abbrev pub ReachesStart : {O : Type 0} → (O → Content → Event → O → Type 0) → ℕ → ℕ → Holds O → Result Reached StepError → Holds O → Type 0
 ReachesStart gives address limit h (Ok answer) k = Reaches gives address limit h (Ok answer) k
-ReachesStart gives address limit h (Err NoRoom) k = (e : NoMemory) × Reaches gives address limit h (Err e) k
+ReachesStart gives address limit h (Err NoRoom) k = (e : AllocError) × Reaches gives address limit h (Err e) k
 ReachesStart gives address limit h (Err NoSuchLine) k = ⊥
 
 -- a walk to where a line begins; without such a line nothing changes

@@ -1,3 +1,3 @@
-pub mod Notes
+pub mod Holding
 pub mod History
 pub mod Readings

@@ -1,17 +1,16 @@
-//! A machine, with notes that take its last steps back.
+//! A machine, with undos that take its last steps back.
 ghost use Rattle.std.specs.Prelude.{◌≡◌, ◌≤◌, ◌+◌, ◌<◌, ◌++◌, [], ◌∷◌, true, length, nat_lt, OnOk, OnErr, IfOk, IfErr, MatchResult};
 ghost use Rattle.tb_kernal.specs.Machine.{state_of, is_stopped, SameKeyboard};
 ghost use Rattle.tb_codegen.specs.Compiled.{starts_of, table_of, line_in, start_in};
-ghost use Rattle.tb_stepper.specs.Notes.{EachFollows};
+ghost use Rattle.tb_stepper.specs.Holding.{EachFollows};
 ghost use Rattle.tb_stepper.specs.History.{Holds, machines, Moved, Stepped, Reaches, ReachesLine, end_at};
 
 use crate::reached::{Reached, StepError};
 use circular_buffer::HeapCircularBuffer;
-use std::alloc::Global;
+use std::alloc::{AllocError, Global};
 use std::marker::Model;
 use tb_codegen::Compiled;
 use tb_kernal::{Machine, Outside, Status, Undo};
-use tb_memmap::NoMemory;
 
 /// How many steps can be taken back.
 const KEPT: usize = 1000;
@@ -41,22 +40,22 @@ fn has_stopped(status: Status) -> bool
 pub struct Stepper<'a, O: Outside + Drop> {
     machine: Machine,
     outside: O,
-    notes: HeapCircularBuffer<Undo>,
+    undos: HeapCircularBuffer<Undo>,
     program: &'a Compiled,
 }
 
 impl<'a, O: Outside + Drop> Model for Stepper<'a, O> {
     ghost use Rattle.std.specs.Prelude.{◌≡◌, ◌≤◌, true, length};
-    ghost use Rattle.tb_stepper.specs.Notes.{Holds, machines, all_fit, EachFollows};
+    ghost use Rattle.tb_stepper.specs.Holding.{Holds, machines, all_fit, EachFollows};
 
     ghost Value = { Holds O };
 
-    ghost view = { λ h. record { machine = h.machine; outside = h.outside; notes = h.notes.items; program = h.program.now } };
+    ghost view = { λ h. record { machine = h.machine; outside = h.outside; undos = h.undos.items; program = h.program.now } };
 
-    ghost invariant = { λ h. (h.notes.capacity ≡ 1000)
-        × (all_fit h.machine.all_text h.machine.all_answers h.notes.items ≡ true)
-        × EachFollows (machines (record { machine = h.machine; outside = h.outside; notes = h.notes.items; program = h.program.now }))
-        × (length h.notes.items ≤ 1000) };
+    ghost invariant = { λ h. (h.undos.capacity ≡ 1000)
+        × (all_fit h.machine.all_text h.machine.all_answers h.undos.items ≡ true)
+        × EachFollows (machines (record { machine = h.machine; outside = h.outside; undos = h.undos.items; program = h.program.now }))
+        × (length h.undos.items ≤ 1000) };
 }
 
 impl<'a, O: Outside + Drop> Stepper<'a, O> {
@@ -67,14 +66,14 @@ impl<'a, O: Outside + Drop> Stepper<'a, O> {
         program: &'a Compiled,
         outside: O,
     ) -> Result<Stepper<'a, O>, Refused<O>>
-        ensures held { IfOk result (λ h. h ≡ record { machine = machine; outside = outside; notes = []; program = program.now }) }
+        ensures held { IfOk result (λ h. h ≡ record { machine = machine; outside = outside; undos = []; program = program.now }) }
         ensures handed_back { IfErr result (λ e. (e.machine ≡ machine) × (e.outside ≡ outside)) }
     {
         match HeapCircularBuffer::with_capacity(alloc, KEPT) {
-            Ok(notes) => Ok(Stepper {
+            Ok(undos) => Ok(Stepper {
                 machine,
                 outside,
-                notes,
+                undos,
                 program,
             }),
             Err(_) => Err(Refused { machine, outside }),
@@ -92,8 +91,8 @@ impl<'a, O: Outside + Drop> Stepper<'a, O> {
     }
 
     /// Lets the outside's next event happen, and answers how the machine then stands. A stopped
-    /// machine stays as it is, and the outside isn't asked. NoMemory changes nothing.
-    pub fn step(&mut self) -> Result<Status, NoMemory>
+    /// machine stays as it is, and the outside isn't asked. AllocError changes nothing.
+    pub fn step(&mut self) -> Result<Status, AllocError>
         ensures { Stepped O.gives self.old result self.new }
     {
         let status = self.machine.status();
@@ -104,17 +103,17 @@ impl<'a, O: Outside + Drop> Stepper<'a, O> {
     }
 
     // A step of a machine that isn't stopped.
-    fn take_event(&mut self) -> Result<Status, NoMemory>
+    fn take_event(&mut self) -> Result<Status, AllocError>
         ensures { Moved O.gives self.old result self.new }
     {
         if self.machine.reserve(1).is_err() {
-            return Err(NoMemory);
+            return Err(AllocError);
         }
         let event = self.outside.next(&self.machine);
-        let note = self.machine.note(&event);
+        let undo = self.machine.note(&event);
         match self.machine.event(event) {
             Ok(status) => {
-                self.notes.push_back(note);
+                self.undos.push_back(undo);
                 Ok(status)
             }
             Err(_) => unreachable!(),
@@ -128,11 +127,11 @@ impl<'a, O: Outside + Drop> Stepper<'a, O> {
             ≡ machines self.new ++ state_of self.old.machine ∷ []) }
         ensures rest { (self.new.outside ≡ self.old.outside) × (self.new.program ≡ self.old.program)
             × SameKeyboard self.old.machine self.new.machine }
-        ensures refused { OnErr result ((self.old.notes ≡ []) × (self.new ≡ self.old)) }
+        ensures refused { OnErr result ((self.old.undos ≡ []) × (self.new ≡ self.old)) }
     {
-        match self.notes.pop_back() {
-            Some(note) => {
-                self.machine.undo(&note);
+        match self.undos.pop_back() {
+            Some(undo) => {
+                self.machine.undo(&undo);
                 Ok(())
             }
             None => Err(NothingBack),
@@ -141,8 +140,8 @@ impl<'a, O: Outside + Drop> Stepper<'a, O> {
 
     // Takes steps until PC is at an address after at least one step, or the machine isn't Running,
     // or `limit` steps were taken; before each step this is looked at in this order. After
-    // NoMemory the machine stands after the steps so far.
-    fn to_address(&mut self, address: u16, limit: u64) -> Result<Reached, NoMemory>
+    // AllocError the machine stands after the steps so far.
+    fn to_address(&mut self, address: u16, limit: u64) -> Result<Reached, AllocError>
         ensures { Reaches O.gives address limit self.old result self.new }
     {
         for taken in 0..limit {
@@ -180,7 +179,7 @@ impl<'a, O: Outside + Drop> Stepper<'a, O> {
     /// this order.
     ///
     /// Refused as NoSuchLine where the program has no such line; then nothing changes. After
-    /// NoMemory the machine stands after the steps so far.
+    /// AllocError the machine stands after the steps so far.
     pub fn to_line(&mut self, line: u16, limit: u64) -> Result<Reached, StepError>
         ensures { ReachesLine O.gives (start_in (starts_of self.old.program) line) limit self.old result self.new }
     {
@@ -189,7 +188,7 @@ impl<'a, O: Outside + Drop> Stepper<'a, O> {
         };
         match self.to_address(address, limit) {
             Ok(reached) => Ok(reached),
-            Err(NoMemory) => Err(StepError::NoMemory),
+            Err(AllocError) => Err(StepError::NoMemory),
         }
     }
 }

@@ -14,12 +14,12 @@ ghost use Rattle.tb_check_engine.specs.Rows.{caret_row};
 
 use std::alloc::{AllocError, Global};
 use std::io::Read;
-use tb_check::{Findings, NoMemory, SourceError, Verdict, bad_lines, examine, judge};
+use tb_check::{Findings, SourceError, Verdict, bad_lines, examine, judge};
 use tb_check_engine::{CheckOutcome, Checked, push_caret};
 use tb_streams::Tracked;
 
 /// `bad_lines`.
-pub fn lines_that_are_bad(alloc: Global, source: &[u8]) -> Result<Vec<SourceError>, NoMemory>
+pub fn lines_that_are_bad(alloc: Global, source: &[u8]) -> Result<Vec<SourceError>, AllocError>
     ensures lines { IfOk result (λ found. BadLinesAre 1 (lines_of_file source.now) found.items) }
     ensures first { IfOk result (λ found. FirstIs source.now found.items) }
 {
@@ -27,7 +27,7 @@ pub fn lines_that_are_bad(alloc: Global, source: &[u8]) -> Result<Vec<SourceErro
 }
 
 /// `judge`.
-pub fn judged(alloc: Global, source: &[u8]) -> Result<Verdict, NoMemory>
+pub fn judged(alloc: Global, source: &[u8]) -> Result<Verdict, AllocError>
     ensures judged { IfOk result (Judges source.now) }
     ensures agrees { IfOk result (λ v. (seed : ℕ) (answer : Result Compiled CompileError) → Compiles seed source.now answer → AgreesWith v answer) }
 {
@@ -35,7 +35,7 @@ pub fn judged(alloc: Global, source: &[u8]) -> Result<Verdict, NoMemory>
 }
 
 /// `examine`.
-pub fn examined(alloc: Global, source: &[u8]) -> Result<Findings, NoMemory>
+pub fn examined(alloc: Global, source: &[u8]) -> Result<Findings, AllocError>
     ensures { IfOk result (AreFindings source.now) }
 {
     examine(alloc, source)

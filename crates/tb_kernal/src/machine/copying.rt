@@ -2,12 +2,11 @@
 ghost use Rattle.std.specs.Prelude.{◌≡◌, IfOk};
 
 use crate::machine::{Keyboard, Machine};
-use std::alloc::Global;
-use tb_memmap::NoMemory;
+use std::alloc::{AllocError, Global};
 
 impl Machine {
     /// A machine of its own that stands as this one does, but has sent these bytes, and has no room.
-    pub fn copied(&self, alloc: Global, sent: &[u8]) -> Result<Machine, NoMemory>
+    pub fn copied(&self, alloc: Global, sent: &[u8]) -> Result<Machine, AllocError>
         ensures { IfOk result (λ m. m ≡ record self.now { sent = sent.now; room = 0 }) }
     {
         Ok(Machine {
@@ -16,7 +15,7 @@ impl Machine {
             keyboard: self.keyboard.copied(alloc)?,
             text_taken: self.text_taken,
             answers_taken: self.answers_taken,
-            sent: own_bytes(alloc, sent)?,
+            sent: Vec::from_slice(alloc, sent)?,
             room: 0,
             wrong: self.wrong,
             home: self.home,
@@ -27,22 +26,13 @@ impl Machine {
 
 impl Keyboard {
     // A keyboard of its own that gives the same.
-    fn copied(&self, alloc: Global) -> Result<Keyboard, NoMemory>
+    fn copied(&self, alloc: Global) -> Result<Keyboard, AllocError>
         ensures text { IfOk result (λ k. k.text.items ≡ self.now.text.items) }
         ensures answers { IfOk result (λ k. k.answers.items ≡ self.now.answers.items) }
     {
         Ok(Keyboard {
-            text: own_bytes(alloc, self.text.as_slice())?,
-            answers: own_bytes(alloc, self.answers.as_slice())?,
+            text: Vec::from_slice(alloc, self.text.as_slice())?,
+            answers: Vec::from_slice(alloc, self.answers.as_slice())?,
         })
-    }
-}
-
-fn own_bytes(alloc: Global, bytes: &[u8]) -> Result<Vec<u8>, NoMemory>
-    ensures { IfOk result (λ own. own.items ≡ bytes.now) }
-{
-    match Vec::from_slice(alloc, bytes) {
-        Ok(own) => Ok(own),
-        Err(_) => Err(NoMemory),
     }
 }

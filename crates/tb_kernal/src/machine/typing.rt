@@ -3,21 +3,18 @@ ghost use Rattle.std.specs.Prelude.{◌≡◌, OnOk, OnErr};
 ghost use Rattle.tb_kernal.specs.Machine.{state_of};
 ghost use Rattle.tb_kernal.specs.Typing.{with_typed, with_more};
 
+use std::alloc::AllocError;
 use crate::machine::Machine;
-use tb_memmap::NoMemory;
 
 impl Machine {
-    /// Puts bytes behind the keyboard's text, so that a machine that waits for a key goes on. NoMemory
+    /// Puts bytes behind the keyboard's text, so that a machine that waits for a key goes on. AllocError
     /// comes only where a growth was refused; then nothing changes.
     #[tactic(auto, using(crate::proofs::Typing::typed_is_more))]
-    pub fn type_text(&mut self, bytes: &[u8]) -> Result<(), NoMemory>
+    pub fn type_text(&mut self, bytes: &[u8]) -> Result<(), AllocError>
         ensures typed { OnOk result (self.new ≡ with_typed self.old bytes.now) }
         ensures more { OnOk result (state_of self.new ≡ with_more bytes.now (state_of self.old)) }
         ensures refused { OnErr result (self.new ≡ self.old) }
     {
-        match self.keyboard.text.extend_from_slice(bytes) {
-            Ok(()) => Ok(()),
-            Err(_) => Err(NoMemory),
-        }
+        self.keyboard.text.extend_from_slice(bytes)
     }
 }

@@ -2,7 +2,7 @@
 ghost use Rattle.std.specs.Prelude.{◌≡◌, ◌+◌, take, length};
 ghost use Rattle.tb_memmap.specs.Bytes.{at};
 ghost use Rattle.tb_kernal.specs.Places.{old_of};
-ghost use Rattle.tb_kernal.specs.Undoing.{Undone, Noted, TakesBack, back_to, places_of, places_of_step};
+ghost use Rattle.tb_kernal.specs.Undoing.{Undone, IsFormer, TakesBack, back_to, places_of, places_of_step};
 
 use crate::events::{Event, Writes};
 use crate::machine::Machine;
@@ -23,9 +23,9 @@ pub struct Undo {
 }
 
 impl Model for Undo {
-    ghost use Rattle.tb_kernal.specs.Notes.{Note};
+    ghost use Rattle.tb_kernal.specs.Former.{Former};
 
-    ghost Value = { Note };
+    ghost Value = { Former };
 
     ghost view = { λ u. record {
       regs = u.regs;
@@ -41,7 +41,7 @@ impl Machine {
     /// What an event may change, to be handed to `undo` after it: registers, the refusal, how much
     /// was taken and sent, and the bytes at the places that the event can write.
     pub fn note(&self, event: &Event) -> Undo
-        ensures { Noted result self.now event.now }
+        ensures { IsFormer result self.now event.now }
     {
         Undo {
             regs: self.regs(),
@@ -49,12 +49,12 @@ impl Machine {
             text_taken: self.text_taken,
             answers_taken: self.answers_taken,
             sent: self.sent.len(),
-            bytes: self.note_bytes(event),
+            bytes: self.bytes_before(event),
         }
     }
 
     // The bytes at the places that an event may write.
-    fn note_bytes(&self, event: &Event) -> Writes
+    fn bytes_before(&self, event: &Event) -> Writes
         ensures { result.items ≡ old_of (at self.now.memory) (places_of event.now self.now) }
     {
         match event {
@@ -63,13 +63,13 @@ impl Machine {
                 if service_of(self.regs.pc).is_some() {
                     old_bytes(&self.memory, &clobber.writes)
                 } else {
-                    self.note_step()
+                    self.bytes_before_step()
                 }
             }
         }
     }
 
-    fn note_step(&self) -> Writes
+    fn bytes_before_step(&self) -> Writes
         ensures { result.items ≡ old_of (at self.now.memory) (places_of_step self.now) }
     {
         let mut places = ArrayVec::new();
@@ -79,7 +79,7 @@ impl Machine {
         old_bytes(&self.memory, &places)
     }
 
-    /// Takes back the newest event, by the note that was made just before it.
+    /// Takes back the newest event, by the undo that was made just before it.
     ///
     /// On a machine that differs at most in room from what that event came to, this restores
     /// registers, memory, sent bytes, keyboard and status, and raises the room by the count of
@@ -95,7 +95,7 @@ impl Machine {
         self.wrong = undo.wrong;
     }
 
-    // The keys taken since the note count as not taken.
+    // The keys taken since the undo count as not taken.
     fn give_back_keys(&mut self, undo: &Undo)
         ensures { self.new ≡ record self.old {
           text_taken = back_to undo.now.text_taken self.old.text_taken (length self.old.all_text);

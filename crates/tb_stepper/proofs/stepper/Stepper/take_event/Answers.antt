@@ -3,9 +3,9 @@ use Rattle.std.proofs.Common.{◌≡◌, ◌≤◌, ◌++◌, ◌∷◌, [], len
 use Rattle.std.specs.Prelude.{Ok}
 use Rattle.circular_buffer.specs.Buffer.{keep_last}
 use Rattle.tb_kernal.specs.Machine.{Happened}
-use Rattle.tb_kernal.specs.Notes.{Note}
+use Rattle.tb_kernal.specs.Former.{Former}
 use Rattle.circular_buffer.specs.Buffer.{Buffer}
-use Rattle.tb_stepper.specs.Notes.{Holds, all_fit}
+use Rattle.tb_stepper.specs.Holding.{Holds, all_fit}
 use Rattle.tb_stepper.specs.History.{Added}
 use Rattle.tb_stepper.proofs.GivingBack.{kept_fit, few_kept, added, added_follows}
 use Rattle.tb_stepper.proofs.stepper.Stepper.take_event.Goals as goal
@@ -13,23 +13,23 @@ use Rattle.tb_stepper.proofs.stepper.Stepper.take_event.Goals as goal
 pub invariant_of-self-in-Ok : goal.invariant_of-self-in-Ok
 invariant_of-self-in-Ok g c =
     let happened : Happened c.reserve.new.self c.next-event.result (Ok c.in-Ok.status) c.event.new.self = c.in-Ok.ensures in
-    let fit = kept_fit c.self.inside.machine c.reserve.new.self c.event.new.self c.next-event.result c.in-Ok.status c.note-note.result c.self.inside.notes.items
-    c.reserve.ensures.rest c.note-note.ensures happened c.self.invariant.1 in
-    let notes : c.push_back.new.self.items ≡ keep_last 1000 (c.self.inside.notes.items ++ c.note-note.result ∷ []) =
-    ap (λ (b : Buffer Note). b.items) c.push_back.ensures.items ∙ ap (λ n. keep_last n (c.self.inside.notes.items ++ c.note-note.result ∷ [])) c.self.invariant.0 in
-    let before : Holds g.row.O.Denot = record { machine = c.self.inside.machine; outside = c.self.inside.outside; notes = c.self.inside.notes.items; program = c.self.inside.program.now } in
-    let after : Holds g.row.O.Denot = record { machine = c.event.new.self; outside = c.next-event.new.self; notes = c.push_back.new.self.items; program = c.self.inside.program.now } in
+    let fit = kept_fit c.self.inside.machine c.reserve.new.self c.event.new.self c.next-event.result c.in-Ok.status c.note-undo.result c.self.inside.undos.items
+    c.reserve.ensures.rest c.note-undo.ensures happened c.self.invariant.1 in
+    let undos : c.push_back.new.self.items ≡ keep_last 1000 (c.self.inside.undos.items ++ c.note-undo.result ∷ []) =
+    ap (λ (b : Buffer Former). b.items) c.push_back.ensures.items ∙ ap (λ n. keep_last n (c.self.inside.undos.items ++ c.note-undo.result ∷ [])) c.self.invariant.0 in
+    let before : Holds g.row.O.Denot = record { machine = c.self.inside.machine; outside = c.self.inside.outside; undos = c.self.inside.undos.items; program = c.self.inside.program.now } in
+    let after : Holds g.row.O.Denot = record { machine = c.event.new.self; outside = c.next-event.new.self; undos = c.push_back.new.self.items; program = c.self.inside.program.now } in
     let more : Added g.O.Outside.gives before after =
-    added g.O.Outside.gives before after c.reserve.new.self c.next-event.result c.in-Ok.status c.note-note.result c.reserve.ensures.rest c.next-event.ensures c.note-note.ensures happened notes refl in
-    (ap (λ (b : Buffer Note). b.capacity) c.push_back.ensures.items ∙ c.self.invariant.0, ap (all_fit c.event.new.self.all_text c.event.new.self.all_answers) notes ∙ fit, added_follows g.O.Outside.gives g.met.O.Outside.gives_lawful before after more c.self.invariant.2, subst (λ us. length us ≤ 1000) (sym notes) (few_kept (c.self.inside.notes.items ++ c.note-note.result ∷ [])))
+    added g.O.Outside.gives before after c.reserve.new.self c.next-event.result c.in-Ok.status c.note-undo.result c.reserve.ensures.rest c.next-event.ensures c.note-undo.ensures happened undos refl in
+    (ap (λ (b : Buffer Former). b.capacity) c.push_back.ensures.items ∙ c.self.invariant.0, ap (all_fit c.event.new.self.all_text c.event.new.self.all_answers) undos ∙ fit, added_follows g.O.Outside.gives g.met.O.Outside.gives_lawful before after more c.self.invariant.2, subst (λ us. length us ≤ 1000) (sym undos) (few_kept (c.self.inside.undos.items ++ c.note-undo.result ∷ [])))
 
 pub returns : goal.returns
 returns g c =
     let happened : Happened c.reserve.new.self c.next-event.result (Ok c.in-Ok.status) c.event.new.self = c.in-Ok.ensures in
-    let notes : c.push_back.new.self.items ≡ keep_last 1000 (c.self.inside.notes.items ++ c.note-note.result ∷ []) =
-    ap (λ (b : Buffer Note). b.items) c.push_back.ensures.items ∙ ap (λ n. keep_last n (c.self.inside.notes.items ++ c.note-note.result ∷ [])) c.self.invariant.0 in
+    let undos : c.push_back.new.self.items ≡ keep_last 1000 (c.self.inside.undos.items ++ c.note-undo.result ∷ []) =
+    ap (λ (b : Buffer Former). b.items) c.push_back.ensures.items ∙ ap (λ n. keep_last n (c.self.inside.undos.items ++ c.note-undo.result ∷ [])) c.self.invariant.0 in
     rw (← c.self.view_is) (
-      added g.O.Outside.gives (record { machine = c.self.inside.machine; outside = c.self.inside.outside; notes = c.self.inside.notes.items; program = c.self.inside.program.now }) (record { machine = c.event.new.self; outside = c.next-event.new.self; notes = c.push_back.new.self.items; program = c.self.inside.program.now }) c.reserve.new.self c.next-event.result c.in-Ok.status c.note-note.result
-          c.reserve.ensures.rest c.next-event.ensures c.note-note.ensures happened notes refl,
+      added g.O.Outside.gives (record { machine = c.self.inside.machine; outside = c.self.inside.outside; undos = c.self.inside.undos.items; program = c.self.inside.program.now }) (record { machine = c.event.new.self; outside = c.next-event.new.self; undos = c.push_back.new.self.items; program = c.self.inside.program.now }) c.reserve.new.self c.next-event.result c.in-Ok.status c.note-undo.result
+          c.reserve.ensures.rest c.next-event.ensures c.note-undo.ensures happened undos refl,
       happened.2,
     )

@@ -1,11 +1,11 @@
--- What a note for undoing holds.
+-- What an undo holds.
 use Rattle.std.specs.Prelude.{ℕ, Option}
 use Rattle.tb_memmap.specs.Bytes.{Writes}
 use Rattle.tb_cpu.specs.declared.registers.Regs.{Regs}
 use Rattle.tb_cpu.specs.declared.wrong.Wrong.{Wrong}
 
 -- what an event may change, as it was before
-pub record Note : Type 0 where
+pub record Former : Type 0 where
   pub regs : Regs
   pub wrong : Option Wrong
   -- how many keys were taken, and how many bytes sent
