@@ -1,10 +1,10 @@
 -- The lines to return to, one by one.
 use Rattle.std.proofs.Common.{◌≡◌, append_assoc, ℕ, suc, ◌+◌, ◌-◌, ◌<◌, List, [], ◌∷◌, ◌++◌, Option, sym, ap, ◌∙◌, arith}
 use Rattle.tb_debug.specs.Lines.{line_at}
-use Rattle.tb_debug.specs.Readings.{lines_of_notes, note_at}
+use Rattle.tb_debug.specs.Readings.{lines_of_notes, note_read}
 
 module _ (lines : List (ℕ × ℕ)) (m : ℕ → ℕ) (told : List (Option ℕ)) (count n : ℕ) where
-  pub one_told : (now : List (Option ℕ)) (line : Option ℕ) → n < count → now ≡ told ++ line ∷ [] → line ≡ line_at lines (note_at m (count - 1 - n))
+  pub one_told : (now : List (Option ℕ)) (line : Option ℕ) → n < count → now ≡ told ++ line ∷ [] → line ≡ line_at lines (note_read m (count - 1 - n))
       → told ++ lines_of_notes lines m (count - n) ≡ lines_of_notes lines m count → now ++ lines_of_notes lines m (count - (n + 1)) ≡ lines_of_notes lines m count
   one_told now line few pushed is h =
       let k = count - 1 - n in

@@ -15,7 +15,7 @@ use Rattle.tb_keeping.specs.LineStarts as kept
 use Rattle.tb_keeping.specs.LineStarts.{HoldsReturns, StandsFor}
 use Rattle.tb_codegen.specs.Compiled.{PlacesRise, stands_at, starts_in}
 use Rattle.tb_debug.specs.Lines.{line_at}
-use Rattle.tb_debug.specs.Readings.{byte_at, lines_of_notes, note_at, notes_in, word_at}
+use Rattle.tb_debug.specs.Readings.{byte_at, lines_of_notes, note_read, notes_in, word_at}
 use Rattle.tb_debug.specs.Runs.{begins_at}
 use Rattle.tb_debug.specs.Sources.{line_of}
 
@@ -33,7 +33,7 @@ word_there m a from to =
     (λ i. word_from (byte_there m a (open_data a from (omega (arith, to))) i) (byte_at m (next i)))
     ∙ ap (word_from (m a)) (byte_there m (a + 1) (open_data (a + 1) (omega (arith, from)) to))
 
-note_there : (m : ℕ → ℕ) (k : ℕ) → k < 500 → note_at m k ≡ kept.note_at m k
+note_there : (m : ℕ → ℕ) (k : ℕ) → k < 500 → note_read m k ≡ kept.note_at m k
 note_there m k few =
     λ i. word_from (byte_there m (NOTE_LOW + k) (open_data (NOTE_LOW + k) (omega arith) (omega (arith, few))) i)
     (byte_there m (NOTE_HIGH + k) (open_data (NOTE_HIGH + k) (omega arith) (omega (arith, few))) i)
@@ -95,7 +95,7 @@ module _ (labels : List (Name × ℕ)) where
         → lines_of_notes (starts_in labels ns) m (length ps) ≡ map line_of ps
     notes_told m [] few held = refl
     notes_told m (p ∷ ps) few held =
-        let here : line_at (starts_in labels ns) (note_at m (length ps)) ≡ line_of p =
+        let here : line_at (starts_in labels ns) (note_read m (length ps)) ≡ line_of p =
         ap (line_at (starts_in labels ns)) (note_there m (length ps) (omega (arith, few))) ∙ place_told p (kept.note_at m (length ps)) held.0 in
         let rest = notes_told m ps (omega (arith, few)) held.1 in
         λ i. here i ∷ rest i

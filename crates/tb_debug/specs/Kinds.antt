@@ -56,8 +56,8 @@ IsShown command.Unknown d = Unit {0}
 IsShown (command.ToLine line) d = IsMissing line d
 IsShown _ d = ⊥
 
--- a command led somewhere, and nothing more was shown; or it moves nothing
+-- a command led somewhere, nothing more was shown, and breakpoints and watches are the same; or it moves nothing
 abbrev pub Walks : ℕ → Command → Debugger → Option Reached → Debugger → Type 0
 Walks limit c d (Some reached) e =
-    IsWalk c d × Leads limit c d reached e.present × StandsBy d.starts reached e.present × (e.shown ≡ d.shown)
+    IsWalk c d × Leads limit c d reached e.present × StandsBy d.starts reached e.present × (e.shown ≡ d.shown) × (e.stops ≡ d.stops)
 Walks limit c d None e = (IsAct c → IsTold c d) × (e ≡ d)

@@ -4,6 +4,7 @@ pub mod Debuggers
 pub mod Events
 pub mod Kinds
 pub mod Leading
+pub mod Leaving
 pub mod Lines
 pub mod Readings
 pub mod Runs

@@ -38,13 +38,13 @@ abbrev pub notes_in : (ℕ → ℕ) → ℕ
 notes_in m = if nat_le (word_at m NOTES) 500 then word_at m NOTES else 500
 
 -- where the line begins to which a note returns
-abbrev pub note_at : (ℕ → ℕ) → ℕ → ℕ
-note_at m k = word_from (byte_at m (NOTE_LOW + k)) (byte_at m (NOTE_HIGH + k))
+abbrev pub note_read : (ℕ → ℕ) → ℕ → ℕ
+note_read m k = word_from (byte_at m (NOTE_LOW + k)) (byte_at m (NOTE_HIGH + k))
 
 -- the lines of the first so many notes, the newest first
 abbrev pub lines_of_notes : List (ℕ × ℕ) → (ℕ → ℕ) → ℕ → List (Option ℕ)
 lines_of_notes lines m zero = []
-lines_of_notes lines m (suc k) = line_at lines (note_at m k) ∷ lines_of_notes lines m k
+lines_of_notes lines m (suc k) = line_at lines (note_read m k) ∷ lines_of_notes lines m k
 
 -- the lines to return to, the newest first; none for a return behind the last line
 abbrev pub returns_of : List (ℕ × ℕ) → (ℕ → ℕ) → List (Option ℕ)

@@ -135,6 +135,7 @@ impl<'a> Debugger<'a> {
     pub fn on(&mut self, alloc: Global, lines: u64, limit: u64) -> Result<Reached, AllocError>
         ensures run { OnOk result (KeepsRun self.old self.new) }
         ensures shown { OnOk result (self.new.shown ≡ self.old.shown) }
+        ensures stops { OnOk result (self.new.stops ≡ self.old.stops) }
         ensures lines { IfOk result (λ reached. (start : Point) → OnRun start self.old
             → GoesBy lines self.old.starts start limit reached self.old.present self.new.present) }
         ensures stands { IfOk result (λ reached. StandsBy self.old.starts reached self.new.present) }
@@ -155,6 +156,7 @@ impl<'a> Debugger<'a> {
         ensures time { IfOk result (λ reached. LeadsToTime time limit self.old reached self.new.present) }
         ensures stands { IfOk result (λ reached. StandsBy self.old.starts reached self.new.present) }
         ensures shown { OnOk result (self.new.shown ≡ self.old.shown) }
+        ensures stops { OnOk result (self.new.stops ≡ self.old.stops) }
     {
         if time < self.present.begun {
             self.back_to(alloc, time)
@@ -171,6 +173,7 @@ impl<'a> Debugger<'a> {
         ensures stands { IfOk result (λ reached. StandsBy self.old.starts reached self.new.present) }
         ensures limited { IfOk result (λ reached. IsLimited limit reached self.old.present self.new.present) }
         ensures shown { OnOk result (self.new.shown ≡ self.old.shown) }
+        ensures stops { OnOk result (self.new.stops ≡ self.old.stops) }
     {
         let last = self.present.events.saturating_add(limit);
         for done in 0..u64::MAX {
@@ -192,6 +195,7 @@ impl<'a> Debugger<'a> {
         ensures back { IfOk result (λ reached. (start : Point) → start.begun ≡ 0 → OnRun start self.old → time < begun_by self.old → reached ≡ Line) }
         ensures stands { IfOk result (λ reached. StandsBy self.old.starts reached self.new.present) }
         ensures shown { OnOk result (self.new.shown ≡ self.old.shown) }
+        ensures stops { OnOk result (self.new.stops ≡ self.old.stops) }
     {
         // It is run again no farther than to here.
         let most = self.present.events();
@@ -205,6 +209,7 @@ impl<'a> Debugger<'a> {
     fn back_to_kept(&mut self, alloc: Global, index: usize) -> Result<(), AllocError>
         ensures run { OnOk result (KeepsRun self.old self.new) }
         ensures shown { OnOk result (self.new.shown ≡ self.old.shown) }
+        ensures stops { OnOk result (self.new.stops ≡ self.old.stops) }
         ensures before { OnOk result ((time : ℕ) (start : Point) → IsUntil time self.old.history.later.items (vec_len self.old.history.later) index → start.begun ≡ 0 → OnRun start self.old
             → begun_by self.new ≤ time) }
     {
@@ -223,6 +228,7 @@ impl<'a> Debugger<'a> {
         ensures lines { IfOk result (λ reached. LeadsBackBy lines self.old reached self.new.present) }
         ensures stands { IfOk result (λ reached. StandsBy self.old.starts reached self.new.present) }
         ensures shown { OnOk result (self.new.shown ≡ self.old.shown) }
+        ensures stops { OnOk result (self.new.stops ≡ self.old.stops) }
     {
         if lines == 0 || self.present.begun == 0 {
             return Ok(self.standing());
@@ -236,6 +242,7 @@ impl<'a> Debugger<'a> {
         ensures steps { OnOk result (StepsBy events self.old.present self.new.present) }
         ensures stands { IfOk result (λ reached. reached ≡ standing_of self.old.starts self.new.present) }
         ensures shown { OnOk result (self.new.shown ≡ self.old.shown) }
+        ensures stops { OnOk result (self.new.stops ≡ self.old.stops) }
     {
         self.present.step(&self.starts, events)?;
         Ok(self.standing())
@@ -245,6 +252,9 @@ impl<'a> Debugger<'a> {
     pub fn type_text(&mut self, bytes: &[u8]) -> Result<(), AllocError>
         ensures run { OnOk result (KeepsRunTyped bytes.now self.old self.new) }
         ensures shown { self.new.shown ≡ self.old.shown }
+        ensures stops { self.new.stops ≡ self.old.stops }
+        // It stands where it stood.
+        ensures place { OnOk result (self.new.present.events ≡ self.old.present.events) }
     {
         self.present.type_text(bytes)?;
         self.history.type_text(bytes)?;

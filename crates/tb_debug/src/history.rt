@@ -105,7 +105,8 @@ impl History {
         ensures first { self.new.first ≡ self.old.first }
         ensures later { OnOk result (self.new.later.items ≡ self.old.later.items ++ kept ∷ []) }
     {
-        self.later.push(kept)
+        self.later.push(kept)?;
+        Ok(())
     }
 
     // Whether a moment behind so many events is worth keeping.

@@ -5,7 +5,7 @@ ghost use Rattle.tb_disasm.specs.Lines.{shown};
 ghost use Rattle.tb_cpu.specs.Operands.{word_from};
 ghost use Rattle.tb_kernal.specs.Machine.{state_of};
 ghost use Rattle.tb_codegen.specs.Compiled.{pair_of, starts_of};
-ghost use Rattle.tb_debug.specs.Readings.{IsCodeLine, as_read, byte_at, bytes_of, code_bytes, code_of, word_at, variable_of, variables_of, note_at, notes_in, returns_of};
+ghost use Rattle.tb_debug.specs.Readings.{IsCodeLine, as_read, byte_at, bytes_of, code_bytes, code_of, word_at, variable_of, variables_of, note_read, notes_in, returns_of};
 ghost use Rattle.tb_debug.specs.Lines.{line_at};
 
 use std::alloc::{AllocError, Global};
@@ -106,7 +106,7 @@ fn notes(memory: &Memory) -> u16
 // A note by its place in the return list.
 fn note(memory: &Memory, index: u16) -> u16
     requires { index < 500 }
-    ensures { result ≡ note_at (at memory.now) index }
+    ensures { result ≡ note_read (at memory.now) index }
 {
     word_from(
         byte(memory, NOTE_LOW + index),

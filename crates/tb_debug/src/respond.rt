@@ -5,6 +5,7 @@ ghost use Rattle.tb_kernal.specs.Machine.{state_of};
 ghost use Rattle.tb_codegen.specs.Compiled.{start_in, starts_of};
 ghost use Rattle.tb_stops.specs.Stops.{breakpoints_of, is_among, is_watched, watches_of};
 ghost use Rattle.tb_debug.specs.Debuggers.{KeepsRun, KeepsRunTyped, Responds, keys_of};
+ghost use Rattle.tb_debug.specs.Leaving.{Leaves, LeavesPlace, TurnsBreakpoint, TurnsWatch};
 ghost use Rattle.tb_debug.specs.Kinds.{IsAct, IsShown, IsTold, IsWalk, Walks};
 ghost use Rattle.tb_debug.specs.Readings.{bytes_of, code_of, most_code};
 ghost use Rattle.tb_debug.specs.Telling.{Tells, TellsStop, TellsText, TellsValue, breakpoint_answer, breakpoints_told, code_told, is_limit, line_here, list_answer, memory_told, output_told, place_here, returns_here, returns_told, set_or_cleared, value_answer};
@@ -38,6 +39,7 @@ impl<'a> Debugger<'a> {
         ensures tells { IfOk result (Tells limit command.entry self.old self.new) }
         // What a command shows that leads nowhere is no stop.
         ensures shown { OnOk result (¬ (IsWalk command.entry self.old) → self.new.shown ≡ self.old.shown) }
+        ensures leaves { OnOk result (Leaves command.entry self.old self.new) }
     {
         match command {
             Command::Quit => Ok(None),
@@ -58,6 +60,7 @@ impl<'a> Debugger<'a> {
         ensures run { OnOk result (KeepsRun self.old self.new) }
         ensures tells { IfOk result (λ told. Tells limit command.entry self.old self.new (Some told)) }
         ensures shown { OnOk result (¬ (IsWalk command.entry self.old) → self.new.shown ≡ self.old.shown) }
+        ensures leaves { OnOk result (Leaves command.entry self.old self.new) }
     {
         match self.walk(alloc, command, limit)? {
             Some(reached) => {
@@ -147,6 +150,7 @@ impl<'a> Debugger<'a> {
         ensures run { OnOk result (KeepsRun self.old self.new) }
         ensures tells { IfOk result (λ told. (limit : ℕ) → Tells limit command.entry self.old self.new (Some told)) }
         ensures shown { OnOk result (self.new.shown ≡ self.old.shown) }
+        ensures leaves { OnOk result (Leaves command.entry self.old self.new) }
     {
         match command {
             Command::Breakpoint(line) => self.turn_breakpoint(line),
@@ -201,6 +205,7 @@ impl<'a> Debugger<'a> {
     fn turn_breakpoint(&mut self, line: u16) -> Result<Answer, AllocError>
         ensures run { OnOk result (KeepsRun self.old self.new) }
         ensures shown { OnOk result (self.new.shown ≡ self.old.shown) }
+        ensures turns { OnOk result (TurnsBreakpoint (start_in (starts_of self.old.program.now) line) line self.old self.new) }
         ensures answer { IfOk result (λ told. told ≡ breakpoint_answer (start_in (starts_of self.old.program.now) line) (not (is_among (breakpoints_of self.old.stops) line))) }
     {
         if self.program.start_of(line).is_none() {
@@ -213,6 +218,7 @@ impl<'a> Debugger<'a> {
     fn turn_watch(&mut self, letter: Letter) -> Result<Answer, AllocError>
         ensures run { OnOk result (KeepsRun self.old self.new) }
         ensures shown { OnOk result (self.new.shown ≡ self.old.shown) }
+        ensures turns { OnOk result (TurnsWatch letter self.old self.new) }
         ensures answer { IfOk result (λ told. told ≡ set_or_cleared (not (is_watched (watches_of self.old.stops) (place letter)))) }
     {
         let is_set = self.stops.turn_watch(letter)?;
@@ -281,7 +287,7 @@ impl<'a> Debugger<'a> {
     // Types a line: its letters as capitals, and a return.
     fn type_line(&mut self, alloc: Global, text: &[u8]) -> Result<(), AllocError>
         ensures run { OnOk result (KeepsRunTyped (keys_of text.now) self.old self.new) }
-        ensures shown { OnOk result (self.new.shown ≡ self.old.shown) }
+        ensures place { OnOk result (LeavesPlace self.old self.new) }
     {
         let keys = keys(alloc, text)?;
         self.type_text(keys.as_slice())?;

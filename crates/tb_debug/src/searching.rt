@@ -31,6 +31,7 @@ impl<'a> Debugger<'a> {
         ensures stop { IfOk result (λ reached. LeadsOnTo destination.Stop limit self.old reached self.new.present) }
         ensures stands { IfOk result (λ reached. StandsBy self.old.starts reached self.new.present) }
         ensures shown { OnOk result (self.new.shown ≡ self.old.shown) }
+        ensures stops { OnOk result (self.new.stops ≡ self.old.stops) }
     {
         self.go_to(alloc, Destination::Stop, limit)
     }
@@ -42,6 +43,7 @@ impl<'a> Debugger<'a> {
         ensures line { IfOk result (λ reached. LeadsOnTo (destination.Address address) limit self.old reached self.new.present) }
         ensures stands { IfOk result (λ reached. StandsBy self.old.starts reached self.new.present) }
         ensures shown { OnOk result (self.new.shown ≡ self.old.shown) }
+        ensures stops { OnOk result (self.new.stops ≡ self.old.stops) }
     {
         self.go_to(alloc, Destination::Address(address), limit)
     }
@@ -53,6 +55,7 @@ impl<'a> Debugger<'a> {
         ensures leads { IfOk result (λ reached. LeadsOnTo to limit self.old reached self.new.present) }
         ensures stands { IfOk result (λ reached. StandsBy self.old.starts reached self.new.present) }
         ensures shown { OnOk result (self.new.shown ≡ self.old.shown) }
+        ensures stops { OnOk result (self.new.stops ≡ self.old.stops) }
     {
         let last = self.present.events.saturating_add(limit);
         for done in 0..u64::MAX {
@@ -86,6 +89,7 @@ impl<'a> Debugger<'a> {
         ensures stop { IfOk result (λ reached. LeadsBackToNewest self.old reached self.new.present) }
         ensures stands { IfOk result (λ reached. StandsBy self.old.starts reached self.new.present) }
         ensures shown { OnOk result (self.new.shown ≡ self.old.shown) }
+        ensures stops { OnOk result (self.new.stops ≡ self.old.stops) }
     {
         if self.present.begun == 0 {
             return Ok(self.standing());
@@ -115,7 +119,13 @@ impl<'a> Debugger<'a> {
     }
 
     // The newest time to which going back leads from behind a kept moment, where from behind so many events it is known.
-    fn with_kept(&self, alloc: Global, kept: &Kept, last: u64, newest: u64) -> Result<u64, AllocError>
+    fn with_kept(
+        &self,
+        alloc: Global,
+        kept: &Kept,
+        last: u64,
+        newest: u64,
+    ) -> Result<u64, AllocError>
         ensures { IfOk result (λ time. (start : Point) → start.begun ≡ 0 → OnRun start self.now → IsKept self.now.starts start kept.now
             → kept.now.moment.events ≤ self.now.present.events
             → last ≤ self.now.present.events → KnowsBehind self.now start last newest → KnowsBehind self.now start kept.now.moment.events time) }

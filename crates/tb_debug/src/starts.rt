@@ -44,12 +44,19 @@ impl Starts {
     }
 }
 
+fn no_marks(alloc: Global) -> Result<Vec<bool>, AllocError>
+    ensures { IfOk result (λ v. v.items ≡ replicate 65536 false) }
+{
+    let begins = vec![in alloc; false; ADDRESSES]?;
+    Ok(begins)
+}
+
 // Whether a line begins, address by address.
 fn marks(alloc: Global, starts: &[LineStart]) -> Result<Vec<bool>, AllocError>
     ensures { IfOk result (λ v. (vec_len v ≡ 65536)
         × ((a : ℕ) → is_marked v.items a ≡ begins_at (map pair_of starts.now) a)) }
 {
-    let mut begins = vec![in alloc; false; ADDRESSES]?;
+    let mut begins = no_marks(alloc)?;
     for start in starts {
         begins[start.at as usize] = true;
     }

@@ -9,6 +9,7 @@ use Rattle.tb_debug_commands.specs.Commands.{asked_in, asked_of}
 use Rattle.tb_debug_commands.specs.declared.command.Command.{Command}
 use Rattle.tb_debug.specs.Debuggers.{Responds}
 use Rattle.tb_debug.specs.Kinds.{IsWalk}
+use Rattle.tb_debug.specs.Leaving.{Leaves}
 use Rattle.tb_debug.specs.Telling.{Tells}
 use Rattle.tb_streams.specs.Streams.{AppendsPrefix}
 use Rattle.tb_engines.specs.declared.outcome.Outcome.{Outcome}
@@ -34,9 +35,10 @@ taken_in_part had left taken (is_line, inr (some, whole, end)) = (is_line, inl w
 
 -- a line that spells a command is answered as the debugger responds to it
 pub answered : (limit : ℕ) (d e : Debugger) (command : Command) (taken : List ℕ) (told : Option Answer) → asked_of command ≡ asked_in (without_return taken)
-    → Responds command d e → Tells limit command d e told → (¬ (IsWalk command d) → e.shown ≡ d.shown) → Answers limit d taken told e
-answered limit d e command taken told spelled run tells shown =
-    record { command = command; spelled = spelled; run = run; tells = tells; shown = shown }
+    → Responds command d e → Tells limit command d e told → (¬ (IsWalk command d) → e.shown ≡ d.shown) → Leaves command d e
+    → Answers limit d taken told e
+answered limit d e command taken told spelled run tells shown leaves =
+    record { command = command; spelled = spelled; run = run; tells = tells; shown = shown; leaves = leaves }
 
 -- a line that can't be read
 pub asked_wrong : (w : Written) (setting : Setting) (d e : Debugger) (outcome : Outcome) (had left old new : Option (List ℕ)) (read read' wrote wrote' : ℕ)

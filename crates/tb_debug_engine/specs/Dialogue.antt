@@ -29,6 +29,7 @@ use Rattle.tb_debug.specs.declared.answer.Answer.{Answer}
 use Rattle.tb_debug.specs.declared.beside.Beside.{Beside}
 use Rattle.tb_debug.specs.declared.debugger.Debugger.{Debugger}
 use Rattle.tb_debug.specs.Kinds.{IsWalk}
+use Rattle.tb_debug.specs.Leaving.{Leaves}
 use Rattle.tb_debug_engine.specs.declared.dialogue.Setting.{Setting}
 use Rattle.tb_debug_engine.specs.Sources.{AreWritten, shown_of}
 use Rattle.tb_debug_engine.specs.declared.sources.Sources.{Sources}
@@ -37,13 +38,14 @@ use Rattle.tb_debug_engine.specs.declared.sources.Written.{Written}
 -- ---- one line
 
 -- a line is answered: what it spells is done, by at most so many events where it goes on, and this is told, or nothing where
--- it ends the dialogue; what is shown since a stop is told with the next one
+-- it ends the dialogue; what is shown since a stop is told with the next one, and what it doesn't ask for stays
 pub record Answers (limit : ℕ) (d : Debugger) (line : List ℕ) (told : Option Answer) (e : Debugger) : Type 0 where
   pub command : Command
   pub spelled : asked_of command ≡ asked_in (without_return line)
   pub run : Responds command d e
   pub tells : Tells limit command d e told
   pub shown : ¬ (IsWalk command d) → e.shown ≡ d.shown
+  pub leaves : Leaves command d e
 
 -- what stands before a line that is typed at a terminal
 abbrev pub prompt : Bool → List ℕ

@@ -6,6 +6,7 @@ ghost use Rattle.tb_debug.specs.Debuggers.{KeepsRun, KeepsRunTyped, LeadsBackBy,
 ghost use Rattle.tb_debug.specs.Begins.{StandsBy};
 ghost use Rattle.tb_debug.specs.Kinds.{IsWalk};
 ghost use Rattle.tb_debug.specs.Leading.{LeadsBackToNewest, LeadsOnTo};
+ghost use Rattle.tb_debug.specs.Leaving.{Leaves};
 ghost use Rattle.tb_debug.specs.declared.searching.Destination.TheVariants as destination;
 ghost use Rattle.tb_debug.specs.Sources.{Debugs, ShowsLine};
 ghost use Rattle.tb_debug.specs.Telling.{Tells};
@@ -19,6 +20,7 @@ pub fn gone_on(debugger: &mut Debugger<'_>, alloc: Global, limit: u64) -> Result
     ensures run { OnOk result (KeepsRun debugger.old debugger.new) }
     ensures stop { IfOk result (λ reached. LeadsOnTo destination.Stop limit debugger.old reached debugger.new.present) }
     ensures stands { IfOk result (λ reached. StandsBy debugger.old.starts reached debugger.new.present) }
+    ensures stops { OnOk result (debugger.new.stops ≡ debugger.old.stops) }
 {
     debugger.go_on(alloc, limit)
 }
@@ -28,6 +30,7 @@ pub fn gone_back(debugger: &mut Debugger<'_>, alloc: Global) -> Result<Reached, 
     ensures run { OnOk result (KeepsRun debugger.old debugger.new) }
     ensures stop { IfOk result (λ reached. LeadsBackToNewest debugger.old reached debugger.new.present) }
     ensures stands { IfOk result (λ reached. StandsBy debugger.old.starts reached debugger.new.present) }
+    ensures stops { OnOk result (debugger.new.stops ≡ debugger.old.stops) }
 {
     debugger.go_back(alloc)
 }
@@ -42,6 +45,7 @@ pub fn gone_to(
     ensures run { OnOk result (KeepsRun debugger.old debugger.new) }
     ensures time { IfOk result (λ reached. LeadsToTime time limit debugger.old reached debugger.new.present) }
     ensures stands { IfOk result (λ reached. StandsBy debugger.old.starts reached debugger.new.present) }
+    ensures stops { OnOk result (debugger.new.stops ≡ debugger.old.stops) }
 {
     debugger.to_time(alloc, time, limit)
 }
@@ -55,6 +59,7 @@ pub fn stepped_back(
     ensures run { OnOk result (KeepsRun debugger.old debugger.new) }
     ensures lines { IfOk result (λ reached. LeadsBackBy lines debugger.old reached debugger.new.present) }
     ensures stands { IfOk result (λ reached. StandsBy debugger.old.starts reached debugger.new.present) }
+    ensures stops { OnOk result (debugger.new.stops ≡ debugger.old.stops) }
 {
     debugger.back(alloc, lines)
 }
@@ -71,6 +76,8 @@ pub fn line_begun(debugger: &Debugger<'_>) -> Option<u16>
 pub fn typed(debugger: &mut Debugger<'_>, bytes: &[u8]) -> Result<(), AllocError>
     ensures run { OnOk result (KeepsRunTyped bytes.now debugger.old debugger.new) }
     ensures shown { debugger.new.shown ≡ debugger.old.shown }
+    ensures stops { debugger.new.stops ≡ debugger.old.stops }
+    ensures place { OnOk result (debugger.new.present.events ≡ debugger.old.present.events) }
 {
     debugger.type_text(bytes)
 }
@@ -85,6 +92,7 @@ pub fn answered(
     ensures run { OnOk result (Responds command.entry debugger.old debugger.new) }
     ensures tells { IfOk result (Tells limit command.entry debugger.old debugger.new) }
     ensures shown { OnOk result (¬ (IsWalk command.entry debugger.old) → debugger.new.shown ≡ debugger.old.shown) }
+    ensures leaves { OnOk result (Leaves command.entry debugger.old debugger.new) }
 {
     debugger.respond(alloc, command, limit)
 }

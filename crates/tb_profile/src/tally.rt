@@ -114,7 +114,15 @@ impl Tally {
 fn zeros(alloc: Global) -> Result<Vec<u64>, AllocError>
     ensures { IfOk result (λ v. v.items ≡ replicate 65536 0) }
 {
-    vec![in alloc; 0u64; ADDRESSES]
+    let counts = vec![in alloc; 0u64; ADDRESSES]?;
+    Ok(counts)
+}
+
+fn no_marks(alloc: Global) -> Result<Vec<bool>, AllocError>
+    ensures { IfOk result (λ v. v.items ≡ replicate 65536 false) }
+{
+    let begins = vec![in alloc; false; ADDRESSES]?;
+    Ok(begins)
 }
 
 // Whether a line begins, address by address.
@@ -122,7 +130,7 @@ fn marks(alloc: Global, places: &[u16]) -> Result<Vec<bool>, AllocError>
     ensures { IfOk result (λ v. (vec_len v ≡ 65536)
         × ((a : ℕ) → a < 65536 → slice_index_or v.items a false ≡ is_place places.now a)) }
 {
-    let mut begins = vec![in alloc; false; ADDRESSES]?;
+    let mut begins = no_marks(alloc)?;
     for place in places {
         begins[*place as usize] = true;
     }

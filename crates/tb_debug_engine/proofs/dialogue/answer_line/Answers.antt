@@ -17,7 +17,7 @@ returns-in-Ok g c =
         c.in-Ok-Some.line.items,
         took,
         answered c.args.setting.limit c.args.debugger.now c.respond.new.self c.read_command-command.result c.in-Ok-Some.line.items _ spelled
-            done.run (rw c.in-Ok-Some-respond.field-0-is at done.tells) done.shown,
+            done.run (rw c.in-Ok-Some-respond.field-0-is at done.tells) done.shown done.leaves,
       ),
       Appends-trans _ _ _ _ _ prompted all,
       read,
@@ -32,7 +32,7 @@ returns-in-Ok-Some-respond g c =
     said_wrong c.args.source.now c.args.setting c.args.debugger.now c.respond.new.self c.in-Err-say.outcome c.in-Ok-Some.line.items
     c.in-Ok-Some-respond.answer _ _ _ _ _ _ _ _ _ _ took
     (answered c.args.setting.limit c.args.debugger.now c.respond.new.self c.read_command-command.result c.in-Ok-Some.line.items _ spelled
-    done.run (rw c.in-Ok-Some-respond.field-0-is at done.tells) done.shown)
+    done.run (rw c.in-Ok-Some-respond.field-0-is at done.tells) done.shown done.leaves)
     read prompted wrote c.in-Err-say.ensures
 
 pub returns-in-Ok-None-respond : goal.returns-in-Ok-None-respond
@@ -45,7 +45,7 @@ returns-in-Ok-None-respond g c =
         c.respond.new.self,
         took,
         answered c.args.setting.limit c.args.debugger.now c.respond.new.self c.read_command-command.result c.in-Ok-Some.line.items _ spelled
-            done.run (rw c.in-Ok-None-respond.field-0-is at done.tells) done.shown,
+            done.run (rw c.in-Ok-None-respond.field-0-is at done.tells) done.shown done.leaves,
       ),
       prompted,
       read,

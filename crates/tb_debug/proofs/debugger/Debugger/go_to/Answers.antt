@@ -34,4 +34,5 @@ returns-in_default c =
           c.in_default.not-Line (next.ends start (known.run.2 start on).of_run) used;
       stands = subst (λ marks. StandsBy marks reached f.present) known.run.1 next.stands;
       shown = next.shown ∙ known.shown;
+      stops = next.stops ∙ known.stops;
     }

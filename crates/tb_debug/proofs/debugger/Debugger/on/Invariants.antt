@@ -9,6 +9,7 @@ abbrev pub invariant-loop-done : goal.invariant-loop-done
 invariant-loop-done l = record {
   run : KeepsRun l.fn.self l.self;
   shown : l.self.shown ≡ l.fn.self.shown;
+  stops : l.self.stops ≡ l.fn.self.stops;
   few : l.self.present.events ≤ l.last;
   passed : (start : Point) → OnRun start l.fn.self → Passes l.fn.self.starts start l.fn.self.present.events l.done l.self.present.events;
 }

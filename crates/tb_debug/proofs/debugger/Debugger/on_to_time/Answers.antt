@@ -24,4 +24,5 @@ returns-in_default c =
       limited = limited_on c.args.limit c.saturating_add-last.result c.left.result reached d.present e.present f.present next.limited c.left.ensures known.few
           (last_is d.present.events c.args.limit _ c.saturating_add-last.ensures);
       shown = next.shown ∙ known.shown;
+      stops = next.stops ∙ known.stops;
     }

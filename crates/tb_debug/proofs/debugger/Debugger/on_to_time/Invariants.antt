@@ -7,6 +7,7 @@ abbrev pub invariant-loop-done : goal.invariant-loop-done
 invariant-loop-done l = record {
   run : KeepsRun l.fn.self l.self;
   shown : l.self.shown ≡ l.fn.self.shown;
+  stops : l.self.stops ≡ l.fn.self.stops;
   few : l.self.present.events ≤ l.last;
   many : l.fn.self.present.events + l.done ≤ l.self.present.events;
   before : begun_by l.fn.self ≤ l.time → begun_by l.self ≤ l.time;

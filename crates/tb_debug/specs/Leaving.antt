@@ -1,0 +1,50 @@
+-- What commands leave as it was.
+use Rattle.std.specs.Prelude.{◌≡◌, ℕ, Option, Some, None}
+use Rattle.tb_words.specs.declared.Letter.{Letter}
+use Rattle.tb_words.specs.Letters.{place}
+use Rattle.tb_codegen.specs.Compiled.{start_in, starts_of}
+use Rattle.tb_stops.specs.Stops.{Turned, WatchTurned, breakpoints_of, watches_of}
+use Rattle.tb_debug_commands.specs.declared.command.Command.{Command}
+use Rattle.tb_debug_commands.specs.declared.command.Command.TheVariants as command
+use Rattle.tb_debug.specs.declared.debugger.Debugger.{Debugger}
+
+-- a command that moves the run leaves breakpoints and watches
+abbrev pub LeavesStops : Debugger → Debugger → Type 0
+LeavesStops d e = e.stops ≡ d.stops
+
+-- the breakpoint of a line of the program is turned, and nothing else changes; a line that is none changes nothing
+abbrev pub TurnsBreakpoint : Option ℕ → ℕ → Debugger → Debugger → Type 0
+TurnsBreakpoint (Some address) line d e =
+    Turned line (breakpoints_of d.stops) (breakpoints_of e.stops) × (watches_of e.stops ≡ watches_of d.stops) × (e ≡ record d { stops = e.stops })
+TurnsBreakpoint None line d e = e ≡ d
+
+-- the watch of a variable is turned, and nothing else changes
+abbrev pub TurnsWatch : Letter → Debugger → Debugger → Type 0
+TurnsWatch letter d e =
+    WatchTurned (place letter) (watches_of d.stops) (watches_of e.stops) × (breakpoints_of e.stops ≡ breakpoints_of d.stops)
+    × (e ≡ record d { stops = e.stops })
+
+-- what is typed changes the keyboard's text alone: the run stands behind as many events as before
+pub record LeavesPlace (d e : Debugger) : Type 0 where
+  pub events : e.present.events ≡ d.present.events
+  pub stops : e.stops ≡ d.stops
+  pub shown : e.shown ≡ d.shown
+
+-- the way to a line leaves breakpoints and watches; a line that is none leaves all
+abbrev pub LeavesToLine : Option ℕ → Debugger → Debugger → Type 0
+LeavesToLine (Some address) d e = LeavesStops d e
+LeavesToLine None d e = e ≡ d
+
+-- what each command leaves: those that only tell leave all
+abbrev pub Leaves : Command → Debugger → Debugger → Type 0
+Leaves (command.On lines) d e = LeavesStops d e
+Leaves (command.Back lines) d e = LeavesStops d e
+Leaves command.GoOn d e = LeavesStops d e
+Leaves command.GoBack d e = LeavesStops d e
+Leaves (command.ToTime time) d e = LeavesStops d e
+Leaves (command.Step events) d e = LeavesStops d e
+Leaves (command.ToLine line) d e = LeavesToLine (start_in (starts_of d.program.now) line) d e
+Leaves (command.Breakpoint line) d e = TurnsBreakpoint (start_in (starts_of d.program.now) line) line d e
+Leaves (command.Watch letter) d e = TurnsWatch letter d e
+Leaves (command.Type text) d e = LeavesPlace d e
+Leaves _ d e = e ≡ d
