@@ -1,5 +1,5 @@
 -- What is said of a file.
-use Rattle.std.specs.Prelude.{ℕ, ◌-◌, List, [], ◌++◌, codes, flat_map, unwrap_or, Option, Some, None}
+use Rattle.std.specs.Prelude.{ℕ, ◌-◌, List, [], ◌++◌, codes, flat_map, map, unwrap_or, Option, Some, None}
 use Rattle.std.specs.List.{slice_get}
 use Rattle.std.specs.Fmt.{decimal}
 use Rattle.tb_parser.specs.declared.errors.SourceError.{SourceError}
@@ -10,8 +10,13 @@ use Rattle.tb_check.specs.declared.examination.BadLine.{BadLine}
 use Rattle.tb_check.specs.declared.examination.Findings.{Findings}
 use Rattle.tb_check.specs.declared.examination.Findings.TheVariants.{BadLines, Empty, Refused, Accepted}
 use Rattle.tb_check.specs.declared.notes.Note.{Note}
+use Rattle.tb_check_engine.specs.declared.reports.Source.{Source}
 use Rattle.tb_check_engine.specs.Rows.{caret_row, line_row}
 use Rattle.tb_check_engine.specs.Texts.{note_text, warning_text}
+
+-- the lines of a file of which something is said
+abbrev pub lines_in : Source → List (List ℕ)
+lines_in source = map (λ t. t.now) source.lines.now
 
 -- a line of the file, counted from 1
 abbrev pub line_at : List (List ℕ) → ℕ → List ℕ
@@ -22,26 +27,32 @@ line_at lines n = unwrap_or (slice_get lines (n - 1)) []
 abbrev pub file_row : List ℕ → List ℕ → List ℕ
 file_row name said = name ++ (codes ": error: " ++ (said ++ codes "\n"))
 
+-- `NAME:LINE`, what it is, and `TEXT`, with the line
+abbrev pub rows_on : List ℕ → List (List ℕ) → ℕ → List ℕ → List ℕ → List ℕ
+rows_on name lines line is said =
+    name ++ (codes ":" ++ (decimal line ++ (is ++ (said ++ codes "\n")))) ++ line_row (decimal line) (line_at lines line)
+
 -- `NAME:LINE: error: TEXT`, with the line
 abbrev pub deep_rows : List ℕ → List (List ℕ) → ℕ → List ℕ
-deep_rows name lines line =
-    name ++ (codes ":" ++ (decimal line ++ (codes ": error: " ++ (too_deep_text ++ codes "\n")))) ++ line_row (decimal line) (line_at lines line)
+deep_rows name lines line = rows_on name lines line (codes ": error: ") too_deep_text
 
 -- `NAME:LINE: warning: TEXT`, with the line
 abbrev pub warning_rows : List ℕ → List (List ℕ) → LineWarning → List ℕ
-warning_rows name lines w =
-    name ++ (codes ":" ++ (decimal w.line ++ (codes ": warning: " ++ (warning_text w.warning ++ codes "\n")))) ++ line_row (decimal w.line) (line_at lines w.line)
+warning_rows name lines w = rows_on name lines w.line (codes ": warning: ") (warning_text w.warning)
+
+-- `NAME:LINE:COLUMN`, what it is, and `TEXT`
+abbrev pub row_at : List ℕ → SourceError → List ℕ → List ℕ → List ℕ
+row_at name e is said =
+    name ++ (codes ":" ++ (decimal e.line ++ (codes ":" ++ (decimal e.column ++ (is ++ (said ++ codes "\n"))))))
 
 -- `NAME:LINE:COLUMN: error: TEXT`
 abbrev pub error_row : List ℕ → SourceError → List ℕ
-error_row name e =
-    name ++ (codes ":" ++ (decimal e.line ++ (codes ":" ++ (decimal e.column ++ (codes ": error: " ++ (source_text e.kind ++ codes "\n"))))))
+error_row name e = row_at name e (codes ": error: ") (source_text e.kind)
 
 -- `NAME:LINE:COLUMN: note: TEXT`
 abbrev pub note_row : List ℕ → SourceError → Option Note → List ℕ
 note_row name e None = []
-note_row name e (Some note) =
-    name ++ (codes ":" ++ (decimal e.line ++ (codes ":" ++ (decimal e.column ++ (codes ": note: " ++ (note_text note ++ codes "\n"))))))
+note_row name e (Some note) = row_at name e (codes ": note: ") (note_text note)
 
 -- the line of an error, and a caret under its column
 abbrev pub place_rows : List (List ℕ) → SourceError → List ℕ

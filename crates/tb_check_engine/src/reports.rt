@@ -1,8 +1,8 @@
 //! What there is to say of a file, as a text.
-ghost use Rattle.std.specs.Prelude.{◌≡◌, ◌++◌, IfOk, OnOk, flat_map, map, string_bytes};
+ghost use Rattle.std.specs.Prelude.{◌≡◌, ◌++◌, IfOk, OnOk, flat_map, string_bytes};
 ghost use Rattle.std.specs.Fmt.{decimal};
 ghost use Rattle.tb_engines.specs.Texts.{too_deep_text};
-ghost use Rattle.tb_check_engine.specs.Reports.{bad_line_rows, deep_rows, error_row, file_row, line_at, note_row, place_rows, report, too_large_row, warning_rows};
+ghost use Rattle.tb_check_engine.specs.Reports.{bad_line_rows, deep_rows, error_row, file_row, line_at, lines_in, note_row, place_rows, report, too_large_row, warning_rows};
 ghost use Rattle.tb_check_engine.specs.Rows.{line_row};
 
 use crate::rows::{push_caret, push_line};
@@ -22,7 +22,7 @@ pub struct Source<'a> {
 impl Source<'_> {
     // A line, counted from 1.
     fn line(&self, number: usize) -> &[u8]
-        ensures { result.now ≡ line_at (map (λ t. t.now) self.now.lines.now) number }
+        ensures { result.now ≡ line_at (lines_in self.now) number }
     {
         match self.lines.get(number.saturating_sub(1)) {
             Some(line) => line,
@@ -37,7 +37,7 @@ pub fn report(
     source: &Source<'_>,
     findings: &Findings,
 ) -> Result<Vec<u8>, AllocError>
-    ensures { IfOk result (λ text. text.items ≡ report source.now.name.now (map (λ t. t.now) source.now.lines.now) findings.now) }
+    ensures { IfOk result (λ text. text.items ≡ report source.now.name.now (lines_in source.now) findings.now) }
 {
     let mut text = Vec::new(alloc);
     push_findings(alloc, &mut text, source, findings)?;
@@ -50,7 +50,7 @@ fn push_findings(
     source: &Source<'_>,
     findings: &Findings,
 ) -> Result<(), AllocError>
-    ensures { OnOk result (text.new.items ≡ text.old.items ++ report source.now.name.now (map (λ t. t.now) source.now.lines.now) findings.now) }
+    ensures { OnOk result (text.new.items ≡ text.old.items ++ report source.now.name.now (lines_in source.now) findings.now) }
 {
     match findings {
         Findings::BadLines(lines) => push_bad_lines(alloc, text, source, lines),
@@ -93,7 +93,7 @@ fn push_bad_lines(
     source: &Source<'_>,
     lines: &[BadLine],
 ) -> Result<(), AllocError>
-    ensures { OnOk result (text.new.items ≡ text.old.items ++ flat_map (bad_line_rows source.now.name.now (map (λ t. t.now) source.now.lines.now)) lines.now) }
+    ensures { OnOk result (text.new.items ≡ text.old.items ++ flat_map (bad_line_rows source.now.name.now (lines_in source.now)) lines.now) }
 {
     for line in lines {
         push_bad_line(alloc, text, source, line)?;
@@ -107,7 +107,7 @@ fn push_bad_line(
     source: &Source<'_>,
     bad: &BadLine,
 ) -> Result<(), AllocError>
-    ensures { OnOk result (text.new.items ≡ text.old.items ++ bad_line_rows source.now.name.now (map (λ t. t.now) source.now.lines.now) bad.now) }
+    ensures { OnOk result (text.new.items ≡ text.old.items ++ bad_line_rows source.now.name.now (lines_in source.now) bad.now) }
 {
     push_error(alloc, text, source, bad.error)?;
     push_place(alloc, text, source, bad.error)?;
@@ -137,7 +137,7 @@ fn push_place(
     source: &Source<'_>,
     error: SourceError,
 ) -> Result<(), AllocError>
-    ensures { OnOk result (text.new.items ≡ text.old.items ++ place_rows (map (λ t. t.now) source.now.lines.now) error) }
+    ensures { OnOk result (text.new.items ≡ text.old.items ++ place_rows (lines_in source.now) error) }
 {
     let line = error.line;
     let number = format!(in alloc; "{line}")?;
@@ -172,7 +172,7 @@ fn push_source_line(
     source: &Source<'_>,
     line: usize,
 ) -> Result<(), AllocError>
-    ensures { OnOk result (text.new.items ≡ text.old.items ++ line_row (decimal line) (line_at (map (λ t. t.now) source.now.lines.now) line)) }
+    ensures { OnOk result (text.new.items ≡ text.old.items ++ line_row (decimal line) (line_at (lines_in source.now) line)) }
 {
     let number = format!(in alloc; "{line}")?;
     push_line(text, number.as_bytes(), source.line(line))
@@ -184,7 +184,7 @@ fn push_deep_lines(
     source: &Source<'_>,
     lines: &[usize],
 ) -> Result<(), AllocError>
-    ensures { OnOk result (text.new.items ≡ text.old.items ++ flat_map (deep_rows source.now.name.now (map (λ t. t.now) source.now.lines.now)) lines.now) }
+    ensures { OnOk result (text.new.items ≡ text.old.items ++ flat_map (deep_rows source.now.name.now (lines_in source.now)) lines.now) }
 {
     for line in lines {
         push_deep_line(alloc, text, source, *line)?;
@@ -205,7 +205,7 @@ fn push_deep_line(
     source: &Source<'_>,
     line: usize,
 ) -> Result<(), AllocError>
-    ensures { OnOk result (text.new.items ≡ text.old.items ++ deep_rows source.now.name.now (map (λ t. t.now) source.now.lines.now) line) }
+    ensures { OnOk result (text.new.items ≡ text.old.items ++ deep_rows source.now.name.now (lines_in source.now) line) }
 {
     let name = source.name;
     let fault = too_deep();
@@ -236,7 +236,7 @@ fn push_warnings(
     source: &Source<'_>,
     warnings: &[LineWarning],
 ) -> Result<(), AllocError>
-    ensures { OnOk result (text.new.items ≡ text.old.items ++ flat_map (warning_rows source.now.name.now (map (λ t. t.now) source.now.lines.now)) warnings.now) }
+    ensures { OnOk result (text.new.items ≡ text.old.items ++ flat_map (warning_rows source.now.name.now (lines_in source.now)) warnings.now) }
 {
     for warning in warnings {
         push_warning(alloc, text, source, *warning)?;
@@ -250,7 +250,7 @@ fn push_warning(
     source: &Source<'_>,
     warning: LineWarning,
 ) -> Result<(), AllocError>
-    ensures { OnOk result (text.new.items ≡ text.old.items ++ warning_rows source.now.name.now (map (λ t. t.now) source.now.lines.now) warning) }
+    ensures { OnOk result (text.new.items ≡ text.old.items ++ warning_rows source.now.name.now (lines_in source.now) warning) }
 {
     let (name, line) = (source.name, warning.line);
     let said = WarningText(warning.warning);

@@ -284,11 +284,13 @@ fn file<'a>(alloc: Global, id: &'a str, help: &'a str) -> Arg<'a> {
     Arg::new(alloc, id).help(help).required(true)
 }
 
+// An option of this name with a value.
+fn option<'a>(alloc: Global, name: &'a str, value: &'a str) -> Arg<'a> {
+    Arg::new(alloc, name).long(name).value_name(value)
+}
+
 fn written_option<'a>(alloc: Global, name: &'a str, help: &'a str) -> Arg<'a> {
-    Arg::new(alloc, name)
-        .long(name)
-        .value_name("FILE")
-        .help(help)
+    option(alloc, name, "FILE").help(help)
 }
 
 // A source that may be missing beside a PRG file.
@@ -299,80 +301,77 @@ fn source_or_prg<'a>(alloc: Global) -> Result<Arg<'a>, AllocError> {
 }
 
 fn prg_option<'a>(alloc: Global) -> Result<Arg<'a>, AllocError> {
-    Arg::new(alloc, "prg")
-        .long("prg")
-        .value_name("FILE")
+    option(alloc, "prg", "FILE")
         .help("Run this PRG file in place of a source")
         .conflicts_with("SOURCE")
 }
 
 fn rude_option<'a>(alloc: Global) -> Arg<'a> {
-    Arg::new(alloc, "rude")
-        .long("rude")
-        .value_name("N")
+    option(alloc, "rude", "N")
         .value_parser(value_parser!(u16))
         .help("Let the ROM write and clobber all that it may, by this seed [0 to 65535]")
 }
 
 fn at_option<'a>(alloc: Global) -> Arg<'a> {
-    Arg::new(alloc, "at")
-        .long("at")
-        .value_name("HEX")
+    option(alloc, "at", "HEX")
         .help("The address of the first byte, four hexadecimal digits")
         .required(true)
 }
 
 fn seed_option<'a>(alloc: Global) -> Arg<'a> {
-    Arg::new(alloc, "seed")
-        .long("seed")
-        .value_name("N")
+    option(alloc, "seed", "N")
         .value_parser(value_parser!(u16))
         .default_value("1")
         .help("The first state of RND, 0 to 65535")
 }
 
-fn keys_option<'a>(alloc: Global) -> Arg<'a> {
-    Arg::new(alloc, "keys")
-        .long("keys")
-        .value_name("HEX")
+// Pairs of digits, none where the option is missing.
+fn digits_option<'a>(alloc: Global, name: &'a str, help: &'a str) -> Arg<'a> {
+    option(alloc, name, "HEX")
         .default_value("")
         .hide_default_value(true)
-        .help("What is typed, as pairs of hexadecimal digits: 350d is a 5 and return")
+        .help(help)
+}
+
+fn keys_option<'a>(alloc: Global) -> Arg<'a> {
+    digits_option(
+        alloc,
+        "keys",
+        "What is typed, as pairs of hexadecimal digits: 350d is a 5 and return",
+    )
 }
 
 fn key_file_option<'a>(alloc: Global) -> Result<Arg<'a>, AllocError> {
-    Arg::new(alloc, "keys-file")
-        .long("keys-file")
-        .value_name("FILE")
+    option(alloc, "keys-file", "FILE")
         .help("A file of what is typed, as pairs of hexadecimal digits")
         .conflicts_with("keys")
 }
 
 fn answers_option<'a>(alloc: Global) -> Arg<'a> {
-    Arg::new(alloc, "answers")
-        .long("answers")
-        .value_name("HEX")
-        .default_value("")
-        .hide_default_value(true)
-        .help("What each poll of the keyboard gives, as pairs of digits: 00 is no key, 03 is STOP")
+    digits_option(
+        alloc,
+        "answers",
+        "What each poll of the keyboard gives, as pairs of digits: 00 is no key, 03 is STOP",
+    )
+}
+
+fn limited<'a>(alloc: Global, default_limit: &'a str, help: &'a str) -> Arg<'a> {
+    option(alloc, "limit", "N")
+        .value_parser(value_parser!(u32).range(1..=1_000_000_000))
+        .default_value(default_limit)
+        .help(help)
 }
 
 fn limit_option<'a>(alloc: Global) -> Arg<'a> {
-    Arg::new(alloc, "limit")
-        .long("limit")
-        .value_name("N")
-        .value_parser(value_parser!(u32).range(1..=1_000_000_000))
-        .default_value("10000000")
-        .help("The most events, 1 to 1000000000")
+    limited(alloc, "10000000", "The most events, 1 to 1000000000")
 }
 
 fn play_limit_option<'a>(alloc: Global) -> Arg<'a> {
-    Arg::new(alloc, "limit")
-        .long("limit")
-        .value_name("N")
-        .value_parser(value_parser!(u32).range(1..=1_000_000_000))
-        .default_value("1000000000")
-        .help("The most events from one line that is typed to the next, 1 to 1000000000")
+    limited(
+        alloc,
+        "1000000000",
+        "The most events from one line that is typed to the next, 1 to 1000000000",
+    )
 }
 
 fn job_of(alloc: Global, name: &str, found: &ArgMatches<'_>) -> Result<Job, AllocError>
@@ -413,7 +412,7 @@ fn run_job(alloc: Global, found: &ArgMatches<'_>) -> Result<Job, AllocError>
     Ok(Job::Run {
         what: runnable_of(alloc, found)?,
         settings: settings_of(alloc, found)?,
-        rude: found.get_one::<u16>("rude"),
+        rude: rude_of(found),
     })
 }
 
@@ -453,7 +452,7 @@ fn debug_job(alloc: Global, found: &ArgMatches<'_>) -> Result<Job, AllocError>
     Ok(Job::Debug {
         source: text(alloc, found, "SOURCE")?,
         settings: settings_of(alloc, found)?,
-        rude: found.get_one::<u16>("rude"),
+        rude: rude_of(found),
     })
 }
 
@@ -463,7 +462,7 @@ fn profile_job(alloc: Global, found: &ArgMatches<'_>) -> Result<Job, AllocError>
     Ok(Job::Profile {
         source: text(alloc, found, "SOURCE")?,
         settings: settings_of(alloc, found)?,
-        rude: found.get_one::<u16>("rude"),
+        rude: rude_of(found),
         html: optional_text(alloc, found, "html")?,
     })
 }
@@ -505,7 +504,7 @@ fn text(alloc: Global, found: &ArgMatches<'_>, id: &str) -> Result<String, Alloc
     String::from_str(alloc, found.get_str(id).unwrap_or(""))
 }
 
-// A copy of the text of an argument, where it is there.
+// The files that are written beside a PRG file.
 fn beside_of(alloc: Global, found: &ArgMatches<'_>) -> Result<Beside, AllocError> {
     Ok(Beside {
         labels: optional_text(alloc, found, "labels")?,
@@ -514,6 +513,7 @@ fn beside_of(alloc: Global, found: &ArgMatches<'_>) -> Result<Beside, AllocError
     })
 }
 
+// A copy of the text of an argument, where it is there.
 fn optional_text(
     alloc: Global,
     found: &ArgMatches<'_>,
@@ -536,6 +536,10 @@ fn texts(alloc: Global, found: &ArgMatches<'_>, id: &str) -> Result<Vec<String>,
 
 fn seed_of(found: &ArgMatches<'_>) -> u16 {
     found.get_one::<u16>("seed").unwrap_or(1)
+}
+
+fn rude_of(found: &ArgMatches<'_>) -> Option<u16> {
+    found.get_one::<u16>("rude")
 }
 
 fn limit_of(found: &ArgMatches<'_>, default_limit: Limit) -> Limit {

@@ -3,4 +3,4 @@ mod ReadSources
 pub mod Output
 pub mod Loadable
 mod Stepped
-mod Shown
+mod PlayedSources

@@ -90,7 +90,7 @@ start_holds bytes small =
 -- the start machine of a program below $A000, with a keyboard of bytes
 pub starts : (bytes text answers : List ℕ) → 0x0801 + length bytes ≤ 0xa000 → AllBytes bytes → AllBytes text → AllBytes answers
     → Starts 0x0801 bytes (state_of (start 0x0801 bytes text answers))
-starts bytes text answers ends small keys polls =
+starts bytes text answers ends small small_text small_answers =
     let reads = memory_reads bytes ends in
     record {
       start = record {
@@ -106,8 +106,8 @@ starts bytes text answers ends small keys polls =
         nothing_refused = refl;
         nothing_sent = refl;
       };
-      text = keys;
-      answers = polls;
+      text = small_text;
+      answers = small_answers;
     }
 
 -- ---- the run
@@ -140,28 +140,28 @@ in_ram n h k below = let a : 0x0801 + k < 0xa000 = omega arith in open_so (0x080
     open_so : (a : ℕ) → 0x0801 ≤ a → a < 0xa000 → is_open a ≡ true
     open_so a from to = grind (arith, nat_tests)
 
-module _ {O : Type 0} (gives : O → Content → Event → O → Type 0) (o : O) (seed : ℕ) (source file keys answers : List ℕ) (limit : ℕ) (kept : KeepsSource seed source file) (small : AllBytes file) (small_keys : AllBytes keys) (small_answers : AllBytes answers) where
+module _ {O : Type 0} (gives : O → Content → Event → O → Type 0) (o : O) (seed : ℕ) (source file text answers : List ℕ) (limit : ℕ) (kept : KeepsSource seed source file) (small : AllBytes file) (small_text : AllBytes text) (small_answers : AllBytes answers) where
   abbrev bytes : List ℕ
   bytes = drop 2 file
 
   abbrev begun : State
-  begun = state_of (start 0x0801 bytes keys answers)
+  begun = state_of (start 0x0801 bytes text answers)
 
   begins : Starts 0x0801 bytes begun
-  begins = starts bytes keys answers kept.ends (bytes_behind file small) small_keys small_answers
+  begins = starts bytes text answers kept.ends (bytes_behind file small) small_text small_answers
 
-  runs_loaded : (x : Product) → RunsAt gives o 0x0801 bytes keys answers limit x → RunsSource seed keys answers source x
-  runs_loaded (Ok text) (opens, (t, p, n, ran, is)) =
+  runs_loaded : (x : Product) → RunsAt gives o 0x0801 bytes text answers limit x → RunsSource seed text answers source x
+  runs_loaded (Ok product) (opens, (t, p, n, ran, is)) =
       let sound = subst (IsSound kept.program seed begun) (sym ran.ran) (kept.keeps.sound begun begins ran.events ran.lawful) in
-      (kept.program, kept.made, subst (λ x. ShowsOutput kept.program seed keys answers x.1 x.0) (sym is) (shows kept.program seed begun (state_of n) n.regs.pc t sound ran.answer.0))
+      (kept.program, kept.made, subst (λ x. ShowsOutput kept.program seed text answers x.1 x.0) (sym is) (shows kept.program seed begun (state_of n) n.regs.pc t sound ran.answer.0))
   runs_loaded (Err e) (is, closed) = absurd (closed (in_ram (length bytes) kept.ends))
 
-  pub runs_source : (x : Product) → RunsPrg gives o keys answers limit file x → RunsSource seed keys answers source x
-  runs_source x runs = runs_loaded x (subst (λ c. RunsContent gives o c keys answers limit x) kept.content runs)
+  pub runs_source : (x : Product) → RunsPrg gives o text answers limit file x → RunsSource seed text answers source x
+  runs_source x runs = runs_loaded x (subst (λ c. RunsContent gives o c text answers limit x) kept.content runs)
 
   -- what is made by running the file is made by running the source
-  pub made_of_source : (made : Result Text Stop) → Makes (RunsPrg gives o keys answers limit file) made → Makes (RunsSource seed keys answers source) made
-  made_of_source made m = makes_as (RunsPrg gives o keys answers limit file) (RunsSource seed keys answers source) runs_source made m
+  pub made_of_source : (made : Result Text Stop) → Makes (RunsPrg gives o text answers limit file) made → Makes (RunsSource seed text answers source) made
+  made_of_source made m = makes_as (RunsPrg gives o text answers limit file) (RunsSource seed text answers source) runs_source made m
 
 -- ---- the compiled file
 

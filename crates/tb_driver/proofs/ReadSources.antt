@@ -81,10 +81,10 @@ module _ (seed : ℕ) (had : Option (List ℕ)) (program : Compiled) (read read'
       (answers_as (Shows made) (makes (prg_of program)) (shown (makes (prg_of program)) made here) outcome old new written)
 
   -- running its file is running the source
-  pub file_run : (keys answers file : List ℕ) (made : Result Text Stop) → file ≡ prg_of program
-      → ((seed : ℕ) (source : List ℕ) → KeepsSource seed source file → Makes (RunsSource seed keys answers source) made)
-      → Answers (Shows made) outcome old new → Answers (MadeFrom had (RunsSource seed keys answers)) outcome old new
-  file_run keys answers file made same runs written =
+  pub file_run : (text answers file : List ℕ) (made : Result Text Stop) → file ≡ prg_of program
+      → ((seed : ℕ) (source : List ℕ) → KeepsSource seed source file → Makes (RunsSource seed text answers source) made)
+      → Answers (Shows made) outcome old new → Answers (MadeFrom had (RunsSource seed text answers)) outcome old new
+  file_run text answers file made same runs written =
       let run = runs seed is.0 (subst (KeepsSource seed is.0) (sym same) is.3) in
-      answers_as (Shows made) (MadeFrom had (RunsSource seed keys answers))
-      (λ x s. (is.0, is.1, shown (RunsSource seed keys answers is.0) made run x s)) outcome old new written
+      answers_as (Shows made) (MadeFrom had (RunsSource seed text answers))
+      (λ x s. (is.0, is.1, shown (RunsSource seed text answers is.0) made run x s)) outcome old new written

@@ -15,35 +15,35 @@ use Rattle.tb_engines.specs.declared.outcome.End.{End}
 use Rattle.tb_engines.specs.declared.outcome.End.TheVariants.{Done, StepLimit, WaitsForKey, WentWrong}
 use Rattle.tb_engines.specs.declared.outcome.Refusal.TheVariants.{Source}
 
--- a text is the host form of a program's whole output: of all that it sent when its run was over so
-pub record ShowsWhole (program : Program) (seed : ℕ) (keys answers : List ℕ) (why : source.End) (text : List ℕ) : Type 0 where
+-- what is written is the host form of a program's whole output: of all that it sent when its run was over so
+pub record ShowsWhole (program : Program) (seed : ℕ) (text answers : List ℕ) (why : source.End) (written : List ℕ) : Type 0 where
   pub lines : ℕ
   pub output : List ℕ
-  pub over : source_run program seed keys answers lines ≡ Over why output
-  pub shown : text ≡ host_form_of output
+  pub over : source_run program seed text answers lines ≡ Over why output
+  pub shown : written ≡ host_form_of output
 
--- a text is the host form of a prefix of what some number of a program's lines sends
-pub record ShowsPart (program : Program) (seed : ℕ) (keys answers : List ℕ) (text : List ℕ) : Type 0 where
+-- what is written is the host form of a prefix of what some number of a program's lines sends
+pub record ShowsPart (program : Program) (seed : ℕ) (text answers : List ℕ) (written : List ℕ) : Type 0 where
   pub lines : ℕ
   pub output : List ℕ
-  pub prefix : IsPrefix output (sent_by (source_run program seed keys answers lines))
-  pub shown : text ≡ host_form_of output
+  pub prefix : IsPrefix output (sent_by (source_run program seed text answers lines))
+  pub shown : written ≡ host_form_of output
 
--- the text of a program, by how the engine ends: done where the source ended or faulted, waiting where it waits, and else
--- at the step limit; it never goes wrong
+-- what is written of a program, by how the engine ends: done where the source ended or faulted, waiting where it waits,
+-- and else at the step limit; it never goes wrong
 abbrev pub ShowsOutput : Program → ℕ → List ℕ → List ℕ → End → List ℕ → Type 0
-ShowsOutput program seed keys answers Done text =
-    ShowsWhole program seed keys answers Ended text ⊎ ShowsWhole program seed keys answers Faulted text
-ShowsOutput program seed keys answers WaitsForKey text = ShowsWhole program seed keys answers Waits text
-ShowsOutput program seed keys answers StepLimit text = ShowsPart program seed keys answers text
-ShowsOutput program seed keys answers (WentWrong wrong pc) text = ⊥
+ShowsOutput program seed text answers Done written =
+    ShowsWhole program seed text answers Ended written ⊎ ShowsWhole program seed text answers Faulted written
+ShowsOutput program seed text answers WaitsForKey written = ShowsWhole program seed text answers Waits written
+ShowsOutput program seed text answers StepLimit written = ShowsPart program seed text answers written
+ShowsOutput program seed text answers (WentWrong wrong pc) written = ⊥
 
--- what comes of running a source: the text of the program that its lines make, or the compiler's refusal
+-- what comes of running a source: what is written of the program that its lines make, or the compiler's refusal
 abbrev pub RunsSource : ℕ → List ℕ → List ℕ → List ℕ → Product → Type 0
-RunsSource seed keys answers source (Ok shown) =
-    (program : Program) × LinesMake source (Ok program) × ShowsOutput program seed keys answers shown.1 shown.0
-RunsSource seed keys answers source (Err (Source e)) = Compiles seed source (Err e)
-RunsSource seed keys answers source (Err e) = ⊥
+RunsSource seed text answers source (Ok shown) =
+    (program : Program) × LinesMake source (Ok program) × ShowsOutput program seed text answers shown.1 shown.0
+RunsSource seed text answers source (Err (Source e)) = Compiles seed source (Err e)
+RunsSource seed text answers source (Err e) = ⊥
 
 -- a PRG file, loaded at $0801 below $A000, keeps the program that the source's lines make
 pub record KeepsSource (seed : ℕ) (source file : List ℕ) : Type 0 where

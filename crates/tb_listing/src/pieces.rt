@@ -261,52 +261,30 @@ fn loads(low: u8, high: u8, apart: usize) -> Option<Load> {
     })
 }
 
+// Whether these two bytes are where a routine is entered.
+fn is_entry(low: u8, high: u8, routine: Routine) -> bool {
+    u16::from_le_bytes([low, high]) == entry(routine)
+}
+
+// Whether the address is handed to Push or to Text behind the loads.
+fn hands_over(rest: &[u8]) -> bool {
+    match rest {
+        [STA_ZERO_PAGE, _, JSR, low, high, ..] => is_entry(*low, *high, Routine::Push),
+        [STA_ZERO_PAGE, _, LDA, _, STA, _, _, JSR, low, high, ..] => {
+            is_entry(*low, *high, Routine::Text)
+        }
+        _ => false,
+    }
+}
+
 // The load that begins here: of the line that is noted, in line or by Push, of the line table for the search, or of a
 // text.
 fn first_load(program: &Program<'_>, at: u16, rest: &[u8]) -> Option<Load> {
     match rest {
-        [
-            LDA,
-            low,
-            STA_ZERO_PAGE,
-            _,
-            LDA,
-            high,
-            STA_ZERO_PAGE,
-            _,
-            JSR,
-            to_low,
-            to_high,
-            ..
-        ] if u16::from_le_bytes([*to_low, *to_high]) == entry(Routine::Push) => loads(
-            *low, *high, 4,
-        ),
+        [LDA, low, STA_ZERO_PAGE, _, LDA, high, behind @ ..]
+            if at == program.search() || hands_over(behind) => loads(*low, *high, 4),
         [LDA, low, STA_BY_X, to_low, to_high, LDA, high, STA_BY_X, ..]
             if u16::from_le_bytes([*to_low, *to_high]) == NOTE_LOW => loads(*low, *high, 5),
-        [LDA, low, STA_ZERO_PAGE, _, LDA, high, ..] if at == program.search() => loads(
-            *low, *high, 4,
-        ),
-        [
-            LDA,
-            low,
-            STA_ZERO_PAGE,
-            _,
-            LDA,
-            high,
-            STA_ZERO_PAGE,
-            _,
-            LDA,
-            _,
-            STA,
-            _,
-            _,
-            JSR,
-            to_low,
-            to_high,
-            ..
-        ] if u16::from_le_bytes([*to_low, *to_high]) == entry(Routine::Text) => loads(
-            *low, *high, 4,
-        ),
         _ => None,
     }
 }

@@ -1,8 +1,8 @@
 -- What holds at each turn of the loop of `push_warnings` in src/reports.rt.
-use Rattle.std.proofs.Common.{◌≡◌, ◌++◌, map, take}
+use Rattle.std.proofs.Common.{◌≡◌, ◌++◌, take}
 use Rattle.std.specs.Prelude.{flat_map}
-use Rattle.tb_check_engine.specs.Reports.{warning_rows}
+use Rattle.tb_check_engine.specs.Reports.{warning_rows, lines_in}
 use Rattle.tb_check_engine.proofs.reports.push_warnings.Given as goal
 
 abbrev pub invariant-loop-warning : goal.invariant-loop-warning
-invariant-loop-warning l = l.text.items ≡ l.initial.text.items ++ flat_map (warning_rows l.source.name.now (map (λ t. t.now) l.source.lines.now)) (take l.warning-index l.warnings)
+invariant-loop-warning l = l.text.items ≡ l.initial.text.items ++ flat_map (warning_rows l.source.name.now (lines_in l.source)) (take l.warning-index l.warnings)

@@ -1,5 +1,5 @@
 -- The goals of `play_compiled` in src/playing.rt.
-use Rattle.tb_driver.proofs.Shown.{shows_source}
+use Rattle.tb_driver.proofs.PlayedSources.{shows_source}
 use Rattle.tb_driver.proofs.playing.play_compiled.Goals as goal
 
 pub returns-clause-output : goal.returns-clause-output
