@@ -14,7 +14,7 @@ use Rattle.tb_meaning.specs.Control.{has_line}
 use Rattle.tb_lower.specs.Ranges.{AreInRange}
 use Rattle.tb_lower.specs.Slots as slots
 use Rattle.tb_runtime16.specs.Places.{LEFT, LINE, NOTES, NOTE_HIGH, NOTE_LOW, POP_AT, PUSH_AT, RESULT}
-use Rattle.tb_selection.specs.Groups.{Constant, Group, Calculate, Stepped, Convert, Move, Use, Test, TestGo, Single, slot_of, expand, Divides, Remains}
+use Rattle.tb_selection.specs.Groups.{Constant, Group, Calculate, Stepped, Single, slot_of, expand, Remains}
 use Rattle.tb_templates.specs.declared.labels.Inner.TheVariants as inside
 use Rattle.tb_templates.specs.declared.labels.Target.TheVariants as target
 use Rattle.tb_templates.specs.Labels.{label_of}
@@ -264,27 +264,4 @@ module _ (labels : List (Name × ℕ)) (ns : List ℕ) (seed n : ℕ) (seed_smal
     each_emitted i at (Remains x d to) fs q range h r =
         let e = remains_emitted labels n at (target.Inside inside.Skip n i) (AtPlace (var_at x)) (source_of (slot_of to + 2) d) (destination_at to) n_small tt (source_word (slot_of to + 2) d) fs h r in
         record { first = e.first; second = Short; emits = e.emits; reach = e.reach }
-    each_emitted i at (Convert what a d) fs q range h r = without_branches i at (Convert what a d) fs refl q range h r
-    each_emitted i at (Move a home) fs q range h r = without_branches i at (Move a home) fs refl q range h r
-    each_emitted i at (Use how a) fs q range h r = without_branches i at (Use how a) fs refl q range h r
-    each_emitted i at (Test rel a b) fs q range h r = without_branches i at (Test rel a b) fs refl q range h r
-    each_emitted i at (TestGo rel a b to) fs q range h r = without_branches i at (TestGo rel a b to) fs refl q range h r
-    each_emitted i at (Divides how x d side to) fs q range h r = without_branches i at (Divides how x d side to) fs refl q range h r
-    each_emitted i at (Single (slots.Put k w)) fs q range h r = without_branches i at (Single (slots.Put k w)) fs refl q range h r
-    each_emitted i at (Single (slots.Load k x)) fs q range h r = without_branches i at (Single (slots.Load k x)) fs refl q range h r
-    each_emitted i at (Single (slots.Store x)) fs q range h r = without_branches i at (Single (slots.Store x)) fs refl q range h r
-    each_emitted i at (Single (slots.Negate k)) fs q range h r = without_branches i at (Single (slots.Negate k)) fs refl q range h r
-    each_emitted i at (Single (slots.Compute op k)) fs q range h r = without_branches i at (Single (slots.Compute op k)) fs refl q range h r
-    each_emitted i at (Single (slots.Random k)) fs q range h r = without_branches i at (Single (slots.Random k)) fs refl q range h r
-    each_emitted i at (Single (slots.SendText bs)) fs q range h r = without_branches i at (Single (slots.SendText bs)) fs refl q range h r
-    each_emitted i at (Single slots.SendNumber) fs q range h r = without_branches i at (Single slots.SendNumber) fs refl q range h r
-    each_emitted i at (Single slots.SendZone) fs q range h r = without_branches i at (Single slots.SendZone) fs refl q range h r
-    each_emitted i at (Single slots.SendNewline) fs q range h r = without_branches i at (Single slots.SendNewline) fs refl q range h r
-    each_emitted i at (Single (slots.Input x)) fs q range h r = without_branches i at (Single (slots.Input x)) fs refl q range h r
-    each_emitted i at (Single slots.Poll) fs q range h r = without_branches i at (Single slots.Poll) fs refl q range h r
-    each_emitted i at (Single slots.Hold) fs q range h r = without_branches i at (Single slots.Hold) fs refl q range h r
-    each_emitted i at (Single (slots.LeaveUnless rel)) fs q range h r = without_branches i at (Single (slots.LeaveUnless rel)) fs refl q range h r
-    each_emitted i at (Single slots.Jump) fs q range h r = without_branches i at (Single slots.Jump) fs refl q range h r
-    each_emitted i at (Single slots.Call) fs q range h r = without_branches i at (Single slots.Call) fs refl q range h r
-    each_emitted i at (Single (slots.JumpTo to)) fs q range h r = without_branches i at (Single (slots.JumpTo to)) fs refl q range h r
-    each_emitted i at (Single slots.End) fs q range h r = without_branches i at (Single slots.End) fs refl q range h r
+    each_emitted i at g fs q range h r = without_branches i at g fs refl q range h r
