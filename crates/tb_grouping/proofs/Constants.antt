@@ -18,7 +18,7 @@ use Rattle.tb_templates.specs.Scaled.{bits_size, is_factor}
 use Rattle.tb_templates.proofs.Factors.{IsScaling, by_right, by_left, by_routine, IsShifting, by_shifts, by_call}
 use Rattle.tb_grouping.proofs.GroupCode.{GroupsLie, product_code, quotient_code}
 use Rattle.tb_grouping.proofs.Divisions.{divide_fails, divide_law}
-use Rattle.tb_grouping.proofs.Halves.{power_some}
+use Rattle.tb_grouping.proofs.Halves.{power_size}
 use Rattle.tb_grouping.proofs.Multiples.{times_law}
 use Rattle.tb_grouping.proofs.Operands.{SourceHolds, operand_beyond}
 use Rattle.tb_grouping.proofs.Products.{multiply_law}
@@ -41,7 +41,7 @@ module _ {around : Surroundings} (fits : Fits around.f 16) (limit : ℕ) (rs : S
   quotient_law _ (by_shifts v j e few power) lies rest =
       let same = constant_is w.mem v y right e (right_holds h w.mem (kept h)) in
       let is_power : y ≡ 2 ^ (j + 1) = sym same.0 ∙ power in
-      let some : y ≢ 0 = λ z. let p = power_some j few in omega (arith, p, is_power, z) in
+      let some : y ≢ 0 = λ z. let p = power_size j few in omega (arith, p.0, is_power, z) in
       looser f w _ _ _ 31 (17 + limit) (omega (arith, wide)) (λ u z. z) (shift_law fits code h j few lies rest is_power some)
   quotient_law _ by_call lies rest =
       ⊎_elim (λ zero. divide_fails fits limit rs code h lies rest zero) (λ some. divide_law fits limit rs code h lies rest some) (cases_eq y 0)
