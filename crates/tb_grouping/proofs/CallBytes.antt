@@ -34,15 +34,16 @@ use Rattle.tb_grouping.proofs.GroupCode as coded
 use Rattle.tb_grouping.proofs.GroupCode.{Way, Short, Zero, way_size}
 use Rattle.tb_grouping.proofs.Emits.{Emits, block, branches, ends, formed, labelled}
 use Rattle.tb_grouping.proofs.ItemBytes.{AllEncode, Encodes, Rest, behind_branch, behind_label, behind_straight, cut, cut_branch, gets_there, label_here, no_more, source_word, value_of}
-use Rattle.tb_grouping.proofs.GroupBytes.{GroupEmitted, group_emitted}
+use Rattle.tb_grouping.proofs.GroupBytes.{GroupEmitted, Starting, group_emitted}
 use Rattle.tb_grouping.proofs.Singles.{IsAlone}
 
 module _ (labels : List (Name × ℕ)) (ns : List ℕ) (seed n : ℕ) (seed_small : seed < 65536) (n_small : n < 65536) where
   abbrev ly : Layout
   ly = layout_of labels ns seed
 
-  module _ (there : address_in labels (label_of (next_line ns n)) ≡ Some (next_at ly n)) (top : next_at ly n ≤ highest_code)
-      (lines_there : (m : ℕ) → has_line ns m ≡ true → address_in labels (label_of (target.Line m)) ≡ Some (ly.start m)) (starts_top : (m : ℕ) → ly.start m ≤ highest_code) where
+  module _ (starting : Starting labels ns seed n) where
+    open starting use {there, top}
+
     next_small : next_at ly n < 65536
     next_small = omega (arith, top)
 
@@ -246,7 +247,7 @@ module _ (labels : List (Name × ℕ)) (ns : List ℕ) (seed n : ℕ) (seed_smal
 
     without_branches : (i at : ℕ) (g : Group) (fs : List Form) → coded.is_branching g ≡ false → IsAlone g → AreInRange 256 (expand g) → AreFormsOf (items.group_template ns seed n i g) fs → Rest labels at fs
         → GroupEmitted labels ly n at g fs
-    without_branches = group_emitted labels ns seed n seed_small n_small there top lines_there starts_top
+    without_branches = group_emitted labels ns seed n seed_small n_small starting
 
     -- the forms of each group emit it
     pub each_emitted : (i at : ℕ) (g : Group) (fs : List Form) → IsAlone g → AreInRange 256 (expand g) → AreFormsOf (items.group_template ns seed n i g) fs → Rest labels at fs

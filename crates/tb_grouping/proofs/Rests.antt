@@ -1,5 +1,5 @@
 -- The law of what is left over of a variable: its slot instructions and its code give the remainder's size with its sign.
-use Rattle.std.proofs.Common.{◌≡◌, ◌≢◌, ℕ, ◌+◌, ◌-◌, ◌*◌, ◌/◌, ◌%◌, ◌<◌, Bool, true, false, true≢false, List, [], ◌∷◌, ◌++◌, length, refl, sym, ap, ◌∙◌, subst, arith, ⊎_elim, Some, length-set}
+use Rattle.std.proofs.Common.{◌≡◌, ◌≢◌, ℕ, ◌+◌, ◌-◌, ◌*◌, ◌/◌, ◌%◌, ◌<◌, Bool, true, false, List, [], ◌∷◌, ◌++◌, length, refl, sym, ap, ◌∙◌, subst, arith, ⊎_elim, Some, length-set}
 use Rattle.std.specs.Prelude.{slice_index, nat_lt}
 use Rattle.std.proofs.lemmas.Bool.{cases_eq, eq-eqb, leb-true, ltb-false, ltb-true, ne_eqb}
 use Rattle.tb_cpu.specs.Effects.{has_bit}
@@ -32,7 +32,7 @@ use Rattle.tb_templates.specs.Sources.{destination_at, source_of}
 use Rattle.tb_templates.specs.Templates.{var_at}
 use Rattle.tb_grouping.proofs.Calculations.{subtracted_word}
 use Rattle.tb_grouping.proofs.GroupCode.{Negative, brought, over_at, remains_code, rest_asked, rest_at, rest_turned, sign_looked_at, signed_rest, way_size}
-use Rattle.tb_grouping.proofs.Constants.{constant_is}
+use Rattle.tb_grouping.proofs.Constants.{never_zero}
 use Rattle.tb_grouping.proofs.Handed.{asks_by, comes_back, result_gives}
 use Rattle.tb_grouping.proofs.InPlace.{Forked, forked}
 use Rattle.tb_grouping.proofs.Landing.{DestFits}
@@ -352,16 +352,12 @@ module _ (around : Surroundings) (fits : Fits around.f 16) (code : SlotCode) (li
           copies_out _ (word_put u.mem RESULT _ _ value (difference.0 ∙ ap (λ v. v % 256) same) (difference.1 ∙ ap (λ v. v / 256) same) (omega arith)) (kept_put around (live js) s r u.mem RESULT _ _ h.some_read refl refl told.kept) q l))
 
   -- ---- by 0
-  never : (b : Source) → SourceHolds w.mem b y → may_be_zero b ≡ false → y ≢ 0
-  never (FixedWord v) k e = λ zero. let same = constant_is w.mem v y (FixedWord v) refl k in absurd (true≢false (sym (eq-eqb v 0 (same.0 ∙ zero)) ∙ e))
-  never (AtPlace p) k e = absurd (true≢false e)
-
   faults : y ≡ 0 → Comes f w (IsHome f) (fault_text 2 n) (13 + limit)
   faults zero =
       looser f w _ _ (fault_text 2 n) (4 + (9 + limit)) (13 + limit) (omega arith) (λ u z. z)
       (lines_by fits h risky asking parts.0 _ (fault_text 2 n) (9 + limit)
       (asks_by fits h DIVIDE_AT at a b [] m c asking_lies x y a_apart b_apart (a_holds m c) b_holds _ (fault_text 2 n) limit
-      (λ m' g. rs.divide_by_zero _ _ m' w.text w.answers x n g.left (subst (WordAt m' RIGHT) zero g.right) (g.line (number_set h risky (λ e. never b (b_holds w.mem first) e zero))) g.kept.homed)))
+      (λ m' g. rs.divide_by_zero _ _ m' w.text w.answers x n g.left (subst (WordAt m' RIGHT) zero g.right) (g.line (number_set h risky (λ e. never_zero w.mem y b (b_holds w.mem first) e zero))) g.kept.homed)))
 
   abbrev pub RemainsLeads : Step SlotState → Type 0
   RemainsLeads z = Comes f w (Target around z) (sent_in z) (34 + (limit + limit))
