@@ -14,7 +14,7 @@ use Rattle.tb_meaning.specs.Control.{has_line}
 use Rattle.tb_lower.specs.Ranges.{AreInRange}
 use Rattle.tb_lower.specs.Slots as slots
 use Rattle.tb_runtime16.specs.Places.{LEFT, LINE, NOTES, NOTE_HIGH, NOTE_LOW, POP_AT, PUSH_AT, RESULT}
-use Rattle.tb_selection.specs.Groups.{Constant, Group, Calculate, Stepped, Convert, Move, Use, Test, TestGo, Single, slot_of, expand, Divides, Remains}
+use Rattle.tb_selection.specs.Groups.{Constant, Group, Calculate, Stepped, Single, slot_of, expand, Remains}
 use Rattle.tb_templates.specs.declared.labels.Inner.TheVariants as inside
 use Rattle.tb_templates.specs.declared.labels.Target.TheVariants as target
 use Rattle.tb_templates.specs.Labels.{label_of}
@@ -34,15 +34,16 @@ use Rattle.tb_grouping.proofs.GroupCode as coded
 use Rattle.tb_grouping.proofs.GroupCode.{Way, Short, Zero, way_size}
 use Rattle.tb_grouping.proofs.Emits.{Emits, block, branches, ends, formed, labelled}
 use Rattle.tb_grouping.proofs.ItemBytes.{AllEncode, Encodes, Rest, behind_branch, behind_label, behind_straight, cut, cut_branch, gets_there, label_here, no_more, source_word, value_of}
-use Rattle.tb_grouping.proofs.GroupBytes.{GroupEmitted, group_emitted}
+use Rattle.tb_grouping.proofs.GroupBytes.{GroupEmitted, Starting, group_emitted}
 use Rattle.tb_grouping.proofs.Singles.{IsAlone}
 
 module _ (labels : List (Name × ℕ)) (ns : List ℕ) (seed n : ℕ) (seed_small : seed < 65536) (n_small : n < 65536) where
   abbrev ly : Layout
   ly = layout_of labels ns seed
 
-  module _ (there : address_in labels (label_of (next_line ns n)) ≡ Some (next_at ly n)) (top : next_at ly n ≤ highest_code)
-      (lines_there : (m : ℕ) → has_line ns m ≡ true → address_in labels (label_of (target.Line m)) ≡ Some (ly.start m)) (starts_top : (m : ℕ) → ly.start m ≤ highest_code) where
+  module _ (starting : Starting labels ns seed n) where
+    open starting use {there, top}
+
     next_small : next_at ly n < 65536
     next_small = omega (arith, top)
 
@@ -246,7 +247,7 @@ module _ (labels : List (Name × ℕ)) (ns : List ℕ) (seed n : ℕ) (seed_smal
 
     without_branches : (i at : ℕ) (g : Group) (fs : List Form) → coded.is_branching g ≡ false → IsAlone g → AreInRange 256 (expand g) → AreFormsOf (items.group_template ns seed n i g) fs → Rest labels at fs
         → GroupEmitted labels ly n at g fs
-    without_branches = group_emitted labels ns seed n seed_small n_small there top lines_there starts_top
+    without_branches = group_emitted labels ns seed n seed_small n_small starting
 
     -- the forms of each group emit it
     pub each_emitted : (i at : ℕ) (g : Group) (fs : List Form) → IsAlone g → AreInRange 256 (expand g) → AreFormsOf (items.group_template ns seed n i g) fs → Rest labels at fs
@@ -264,27 +265,4 @@ module _ (labels : List (Name × ℕ)) (ns : List ℕ) (seed n : ℕ) (seed_smal
     each_emitted i at (Remains x d to) fs q range h r =
         let e = remains_emitted labels n at (target.Inside inside.Skip n i) (AtPlace (var_at x)) (source_of (slot_of to + 2) d) (destination_at to) n_small tt (source_word (slot_of to + 2) d) fs h r in
         record { first = e.first; second = Short; emits = e.emits; reach = e.reach }
-    each_emitted i at (Convert what a d) fs q range h r = without_branches i at (Convert what a d) fs refl q range h r
-    each_emitted i at (Move a home) fs q range h r = without_branches i at (Move a home) fs refl q range h r
-    each_emitted i at (Use how a) fs q range h r = without_branches i at (Use how a) fs refl q range h r
-    each_emitted i at (Test rel a b) fs q range h r = without_branches i at (Test rel a b) fs refl q range h r
-    each_emitted i at (TestGo rel a b to) fs q range h r = without_branches i at (TestGo rel a b to) fs refl q range h r
-    each_emitted i at (Divides how x d side to) fs q range h r = without_branches i at (Divides how x d side to) fs refl q range h r
-    each_emitted i at (Single (slots.Put k w)) fs q range h r = without_branches i at (Single (slots.Put k w)) fs refl q range h r
-    each_emitted i at (Single (slots.Load k x)) fs q range h r = without_branches i at (Single (slots.Load k x)) fs refl q range h r
-    each_emitted i at (Single (slots.Store x)) fs q range h r = without_branches i at (Single (slots.Store x)) fs refl q range h r
-    each_emitted i at (Single (slots.Negate k)) fs q range h r = without_branches i at (Single (slots.Negate k)) fs refl q range h r
-    each_emitted i at (Single (slots.Compute op k)) fs q range h r = without_branches i at (Single (slots.Compute op k)) fs refl q range h r
-    each_emitted i at (Single (slots.Random k)) fs q range h r = without_branches i at (Single (slots.Random k)) fs refl q range h r
-    each_emitted i at (Single (slots.SendText bs)) fs q range h r = without_branches i at (Single (slots.SendText bs)) fs refl q range h r
-    each_emitted i at (Single slots.SendNumber) fs q range h r = without_branches i at (Single slots.SendNumber) fs refl q range h r
-    each_emitted i at (Single slots.SendZone) fs q range h r = without_branches i at (Single slots.SendZone) fs refl q range h r
-    each_emitted i at (Single slots.SendNewline) fs q range h r = without_branches i at (Single slots.SendNewline) fs refl q range h r
-    each_emitted i at (Single (slots.Input x)) fs q range h r = without_branches i at (Single (slots.Input x)) fs refl q range h r
-    each_emitted i at (Single slots.Poll) fs q range h r = without_branches i at (Single slots.Poll) fs refl q range h r
-    each_emitted i at (Single slots.Hold) fs q range h r = without_branches i at (Single slots.Hold) fs refl q range h r
-    each_emitted i at (Single (slots.LeaveUnless rel)) fs q range h r = without_branches i at (Single (slots.LeaveUnless rel)) fs refl q range h r
-    each_emitted i at (Single slots.Jump) fs q range h r = without_branches i at (Single slots.Jump) fs refl q range h r
-    each_emitted i at (Single slots.Call) fs q range h r = without_branches i at (Single slots.Call) fs refl q range h r
-    each_emitted i at (Single (slots.JumpTo to)) fs q range h r = without_branches i at (Single (slots.JumpTo to)) fs refl q range h r
-    each_emitted i at (Single slots.End) fs q range h r = without_branches i at (Single slots.End) fs refl q range h r
+    each_emitted i at g fs q range h r = without_branches i at g fs refl q range h r

@@ -1,7 +1,7 @@
 -- The laws of products and quotients, by routines, or where one word is a constant by its bits and by shifts.
-use Rattle.std.proofs.Common.{◌≡◌, ◌≢◌, ℕ, ◌+◌, ◌*◌, ◌^◌, ◌≤◌, ◌<◌, true, List, sym, ap, ◌∙◌, subst, arith, Option, ⊎_elim, mul_comm}
+use Rattle.std.proofs.Common.{◌≡◌, ◌≢◌, ℕ, ◌+◌, ◌*◌, ◌^◌, ◌≤◌, ◌<◌, true, false, true≢false, List, refl, sym, ap, ◌∙◌, subst, arith, Option, ⊎_elim, mul_comm}
 use Rattle.std.specs.Prelude.{nat_le}
-use Rattle.std.proofs.lemmas.Bool.{and_parts, cases_eq, leb-true}
+use Rattle.std.proofs.lemmas.Bool.{and_parts, cases_eq, eq-eqb, leb-true}
 use Rattle.tb_words.specs.Words.{word}
 use Rattle.tb_syntax.specs.declared.expressions.Operator.TheVariants as op
 use Rattle.tb_meaning.specs.Control.{State}
@@ -13,12 +13,13 @@ use Rattle.tb_keeping.proofs.Resolved.{Lies, pieces_size}
 use Rattle.tb_selection.specs.Groups.{Operand, Destination, Calculate}
 use Rattle.tb_selection.specs.Select.{select}
 use Rattle.tb_templates.specs.declared.sources.Source.{Source}
-use Rattle.tb_templates.specs.declared.sources.Source.TheVariants.{FixedWord}
+use Rattle.tb_templates.specs.declared.sources.Source.TheVariants.{AtPlace, FixedWord}
+use Rattle.tb_templates.specs.GroupTemplates.{may_be_zero}
 use Rattle.tb_templates.specs.Scaled.{bits_size, is_factor}
 use Rattle.tb_templates.proofs.Factors.{IsScaling, by_right, by_left, by_routine, IsShifting, by_shifts, by_call}
 use Rattle.tb_grouping.proofs.GroupCode.{GroupsLie, product_code, quotient_code}
 use Rattle.tb_grouping.proofs.Divisions.{divide_fails, divide_law}
-use Rattle.tb_grouping.proofs.Halves.{power_some}
+use Rattle.tb_grouping.proofs.Halves.{power_size}
 use Rattle.tb_grouping.proofs.Multiples.{times_law}
 use Rattle.tb_grouping.proofs.Operands.{SourceHolds, operand_beyond}
 use Rattle.tb_grouping.proofs.Products.{multiply_law}
@@ -33,6 +34,11 @@ use Rattle.tb_grouping.proofs.GroupInvariants.{kept}
 pub constant_is : (m : ℕ → ℕ) (v y : ℕ) (a : Source) → a ≡ FixedWord v → SourceHolds m a y → (v ≡ y) × (y < 65536)
 constant_is m v y a e h = (let k = subst (λ a. SourceHolds m a y) e h in let l = k.low_byte in let g = k.high_byte in omega (arith, l, g), h.small)
 
+-- a constant that is not 0 is known
+pub never_zero : (m : ℕ → ℕ) (y : ℕ) (b : Source) → SourceHolds m b y → may_be_zero b ≡ false → y ≢ 0
+never_zero m y (FixedWord v) k e = λ zero. let same = constant_is m v y (FixedWord v) refl k in absurd (true≢false (sym (eq-eqb v 0 (same.0 ∙ zero)) ∙ e))
+never_zero m y (AtPlace p) k e = absurd (true≢false e)
+
 module _ {around : Surroundings} (fits : Fits around.f 16) (limit : ℕ) (rs : Serves around limit) (wide : 200 ≤ limit) (code : SlotCode) {n : ℕ} {a b : Operand} {d : Destination} {is : List Instr} {s : State} {r : Slots} {w : View} (h : Ready around n (Calculate op.Divide a b d) (spread op.Divide a b d is) is s r w) where
   open around use {ly, f}
   open calculation a b d s r use {y, left, right, to}
@@ -41,7 +47,7 @@ module _ {around : Surroundings} (fits : Fits around.f 16) (limit : ℕ) (rs : S
   quotient_law _ (by_shifts v j e few power) lies rest =
       let same = constant_is w.mem v y right e (right_holds h w.mem (kept h)) in
       let is_power : y ≡ 2 ^ (j + 1) = sym same.0 ∙ power in
-      let some : y ≢ 0 = λ z. let p = power_some j few in omega (arith, p, is_power, z) in
+      let some : y ≢ 0 = λ z. let p = power_size j few in omega (arith, p.0, is_power, z) in
       looser f w _ _ _ 31 (17 + limit) (omega (arith, wide)) (λ u z. z) (shift_law fits code h j few lies rest is_power some)
   quotient_law _ by_call lies rest =
       ⊎_elim (λ zero. divide_fails fits limit rs code h lies rest zero) (λ some. divide_law fits limit rs code h lies rest some) (cases_eq y 0)

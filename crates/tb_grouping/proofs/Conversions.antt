@@ -7,9 +7,9 @@ use Rattle.tb_lower.specs.Slots.{Instr, Slots, SlotCode}
 use Rattle.tb_reaching.proofs.Comes.{looser}
 use Rattle.tb_reaching.specs.View.{Comes, Fits, View}
 use Rattle.tb_runtime16.specs.Laws.{Drawn}
-use Rattle.tb_runtime16.specs.Routines.{WordAt, is_state}
+use Rattle.tb_runtime16.specs.Routines.{is_state}
 use Rattle.tb_templates.specs.GroupTemplates.{may_have_none}
-use Rattle.tb_runtime16.specs.Places.{HOME_S, LEFT, LINE, RANDOM_AT, RESULT, SEED, SEEDED}
+use Rattle.tb_runtime16.specs.Places.{HOME_S, LEFT, RANDOM_AT, RESULT, SEED, SEEDED}
 use Rattle.tb_runtime16.proofs.StatePlaces.{not_argument, not_scratch, not_seed}
 use Rattle.tb_keeping.proofs.Frames.{low_is_state, state_drawn}
 use Rattle.tb_keeping.proofs.Joins.{sent_in}
@@ -26,7 +26,7 @@ use Rattle.tb_templates.specs.Sources.{destination_at, source_of}
 use Rattle.tb_grouping.proofs.GroupCode.{GroupsLie, routine, taken}
 use Rattle.tb_grouping.proofs.Frames.{live_same}
 use Rattle.tb_grouping.proofs.Handed.{asks, gives, result_gives}
-use Rattle.tb_grouping.proofs.GroupInvariants.{Kept, behind_line, kept as kept_first, kept_by, lies_by, lined_by, lines_by, numbered, rest_by, word_lands}
+use Rattle.tb_grouping.proofs.GroupInvariants.{Kept, going_on, kept as kept_first, lies_by, lines_by, number_set, rest_by, word_lands}
 use Rattle.tb_grouping.proofs.Matching.{Target}
 use Rattle.tb_grouping.proofs.OneWord.{ConvertFits, convert_fits, convert_lasting, convert_reads, draw_fails, draw_goes, negate_goes, spread_convert, word_asked}
 use Rattle.tb_grouping.proofs.Operands.{SourceHolds, dest_in_data, operand_apart, operand_grounded, operand_held}
@@ -82,20 +82,13 @@ module _ (around : Surroundings) (fits : Fits around.f 16) (code : SlotCode) (n 
     abbrev code_of : List Piece
     code_of = routine RANDOM_AT RESULT src (FixedWord ly.seed) (destination_at d)
 
-    abbrev at : ℕ
-    at = behind_line h risky
-
-    abbrev m : ℕ → ℕ
-    m = lined_by h risky
+    open going_on h risky use {at, m, c}
 
     lies : Lies f.code at code_of
     lies = lies_by h risky code_of h.lies
 
     fit : ConvertFits a d
     fit = convert_fits IsDrawn a d h.ranged
-
-    c : Kept around (live js) s r m
-    c = kept_by h risky
 
     bound_holds : SourceHolds m src x
     bound_holds = operand_held ly s (live js) r m k a c.state c.read fit.word (asked IsDrawn)
@@ -141,10 +134,6 @@ module _ (around : Surroundings) (fits : Fits around.f 16) (code : SlotCode) (n 
     never k (Variable x) e = absurd (true≢false e)
     never k InSlot e = absurd (true≢false e)
 
-    line_set : (t : Bool) → risky ≡ t → (nat_eq x 0 || nat_le 32768 x) ≡ true → WordAt (lined_by h t) LINE n
-    line_set true e bad = numbered h
-    line_set false e bad = absurd (true≢false (sym bad ∙ never k a e))
-
     pub draw_fails_law : (nat_eq x 0 || nat_le 32768 x) ≡ true → ConvertLeads IsDrawn (17 + limit)
     draw_fails_law bad =
         subst (λ x. Comes f w (Target around x) (sent_in x) (17 + limit)) (sym (draw_fails code n a d is s r h.read.all_words fit.slot bad))
@@ -152,4 +141,4 @@ module _ (around : Surroundings) (fits : Fits around.f 16) (code : SlotCode) (n 
         (lines_by fits h risky code_of h.lies _ (fault_text 3 n) (9 + limit)
         (asks fits h RANDOM_AT RESULT at src (FixedWord ly.seed) d m c lies x ly.seed
         (operand_apart k a LEFT (omega arith) fit.slot fit.word) tt bound_holds option_holds
-        _ (fault_text 3 n) limit (λ m' g. rs.random_fails _ _ m' w.text w.answers x n g.left bad (g.line (line_set risky refl bad)) g.kept.homed))))
+        _ (fault_text 3 n) limit (λ m' g. rs.random_fails _ _ m' w.text w.answers x n g.left bad (g.line (number_set h risky (λ e. true≢false (sym bad ∙ never k a e)))) g.kept.homed))))

@@ -1,5 +1,5 @@
 -- The laws of a division, which may fault: it sets the line's number just before its call.
-use Rattle.std.proofs.Common.{◌≡◌, ◌≢◌, ℕ, ◌+◌, if◌then◌else◌, List, [], refl, sym, ap, subst, arith, Some, None, ◌∙◌, Bool, true, false, true≢false}
+use Rattle.std.proofs.Common.{◌≡◌, ◌≢◌, ℕ, ◌+◌, if◌then◌else◌, List, [], refl, sym, ap, subst, arith, Some, None, ◌∙◌, Bool, false, true≢false}
 use Rattle.std.proofs.lemmas.Bool.{eq-eqb}
 use Rattle.tb_words.specs.Words.{quotient}
 use Rattle.tb_syntax.specs.declared.expressions.Operator.TheVariants as op
@@ -9,7 +9,7 @@ use Rattle.tb_meaning.specs.Values.{apply}
 use Rattle.tb_reaching.proofs.Comes.{looser}
 use Rattle.tb_reaching.specs.View.{Comes, Fits, View}
 use Rattle.tb_runtime16.specs.Routines.{WordAt}
-use Rattle.tb_runtime16.specs.Places.{DIVIDE_AT, LEFT, LINE, RIGHT}
+use Rattle.tb_runtime16.specs.Places.{DIVIDE_AT, LEFT, RIGHT}
 use Rattle.tb_runtime16.proofs.StatePlaces.{not_argument}
 use Rattle.tb_keeping.proofs.Joins.{sent_in}
 use Rattle.tb_keeping.proofs.Resolved.{Lies, pieces_size, Piece}
@@ -21,9 +21,9 @@ use Rattle.tb_selection.specs.Select.{select}
 use Rattle.tb_templates.specs.Sources.{destination_at, source_of}
 use Rattle.tb_grouping.proofs.GroupCode.{GroupsLie, lined_code, routine}
 use Rattle.tb_grouping.proofs.Handed.{asks, left_gives}
-use Rattle.tb_grouping.proofs.GroupInvariants.{Kept, behind_line, kept_by, kept_scratch, lies_by, lined_by, lines_by, numbered, rest_by, kept}
+use Rattle.tb_grouping.proofs.GroupInvariants.{going_on, kept_scratch, lies_by, lines_by, number_set, rest_by}
 use Rattle.tb_grouping.proofs.Matching.{Target}
-use Rattle.tb_grouping.proofs.Ready.{Ready, here}
+use Rattle.tb_grouping.proofs.Ready.{Ready}
 use Rattle.tb_grouping.proofs.SlotSide.{calculate_fails, fetched, spread}
 use Rattle.tb_grouping.proofs.Surroundings.{Serves, Surroundings}
 use Rattle.tb_grouping.proofs.Calculated.{Leads, calculation, fit, leads_on, left_apart, left_holds, on_two, quotient_is, right_apart, right_holds}
@@ -41,14 +41,10 @@ module _ {around : Surroundings} (fits : Fits around.f 16) (limit : ℕ) (rs : S
   abbrev code_of : List Piece
   code_of = routine DIVIDE_AT LEFT left right to
 
-  abbrev m : ℕ → ℕ
-  m = lined_by h risky
+  open going_on h risky use {at, m, c}
 
-  lies : Lies f.code (behind_line h risky) code_of
+  lies : Lies f.code at code_of
   lies = lies_by h risky code_of there
-
-  c : Kept around (live (spread op.Divide a b d is)) s r m
-  c = kept_by h risky
 
   none_is : y ≡ 0 → apply op.Divide x y ≡ None
   none_is zero = ap (λ t. if t then None else Some (quotient x y)) (eq-eqb y 0 zero)
@@ -58,7 +54,7 @@ module _ {around : Surroundings} (fits : Fits around.f 16) (limit : ℕ) (rs : S
       leads_on h code (quotient x y) (17 + limit) (quotient_is x y some)
       (looser f w _ _ [] (4 + (13 + limit)) (17 + limit) (omega arith) (λ u z. z)
       (lines_by fits h risky code_of there _ [] (13 + limit)
-      (on_two h code fits DIVIDE_AT LEFT (behind_line h risky) m c lies (quotient x y) limit left_gives (rest_by h risky code_of rest)
+      (on_two h code fits DIVIDE_AT LEFT at m c lies (quotient x y) limit left_gives (rest_by h risky code_of rest)
       (λ l g m k u e. looser f u _ _ [] limit limit (omega arith)
       (λ u q. record {
         here = back_here _ _ w.text w.answers _ u q refl;
@@ -73,14 +69,10 @@ module _ {around : Surroundings} (fits : Fits around.f 16) (limit : ℕ) (rs : S
   never k (Variable x) e = absurd (true≢false e)
   never k InSlot e = absurd (true≢false e)
 
-  line_set : (t : Bool) → risky ≡ t → y ≡ 0 → WordAt (lined_by h t) LINE n
-  line_set true e zero = numbered h
-  line_set false e zero = absurd (never (k + 1) b e zero)
-
   pub divide_fails : y ≡ 0 → Leads h code (17 + limit)
   divide_fails zero =
       subst (λ x. Comes f w (Target around x) (sent_in x) (17 + limit)) (sym (calculate_fails code n op.Divide a b d is s r h.read.all_words (fit h).slot (none_is zero)))
       (looser f w _ _ (fault_text 2 n) (4 + (9 + limit)) (17 + limit) (omega arith) (λ u z. z)
       (lines_by fits h risky code_of there _ (fault_text 2 n) (9 + limit)
-      (asks fits h DIVIDE_AT LEFT (behind_line h risky) left right d m c lies x y (left_apart h) (right_apart h RIGHT (omega arith)) (left_holds h m c) (right_holds h)
-      _ (fault_text 2 n) limit (λ m' g. rs.divide_by_zero _ _ m' w.text w.answers x n g.left (subst (WordAt m' RIGHT) zero g.right) (g.line (line_set risky refl zero)) g.kept.homed))))
+      (asks fits h DIVIDE_AT LEFT at left right d m c lies x y (left_apart h) (right_apart h RIGHT (omega arith)) (left_holds h m c) (right_holds h)
+      _ (fault_text 2 n) limit (λ m' g. rs.divide_by_zero _ _ m' w.text w.answers x n g.left (subst (WordAt m' RIGHT) zero g.right) (g.line (number_set h risky (λ e. never (k + 1) b e zero))) g.kept.homed))))

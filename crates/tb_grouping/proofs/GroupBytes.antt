@@ -70,12 +70,20 @@ pub record GroupEmitted (labels : List (Name × ℕ)) (ly : Layout) (n at : ℕ)
   pub emits : Emits labels at fs (group_code ly n at first second g)
   pub reach : BranchesReach ly n at first second g
 
+-- the next line's code and every line's begin where their labels are
+pub record Starting (labels : List (Name × ℕ)) (ns : List ℕ) (seed n : ℕ) : Type 0 where
+  pub there : address_in labels (label_of (next_line ns n)) ≡ Some (next_at (layout_of labels ns seed) n)
+  pub top : next_at (layout_of labels ns seed) n ≤ highest_code
+  pub lines_there : (m : ℕ) → has_line ns m ≡ true → address_in labels (label_of (target.Line m)) ≡ Some ((layout_of labels ns seed).start m)
+  pub starts_top : (m : ℕ) → (layout_of labels ns seed).start m ≤ highest_code
+
 module _ (labels : List (Name × ℕ)) (ns : List ℕ) (seed n : ℕ) (seed_small : seed < 65536) (n_small : n < 65536) where
   abbrev ly : Layout
   ly = layout_of labels ns seed
 
-  module _ (there : address_in labels (label_of (next_line ns n)) ≡ Some (next_at ly n)) (top : next_at ly n ≤ highest_code)
-      (lines_there : (m : ℕ) → has_line ns m ≡ true → address_in labels (label_of (target.Line m)) ≡ Some (ly.start m)) (starts_top : (m : ℕ) → ly.start m ≤ highest_code) where
+  module _ (starting : Starting labels ns seed n) where
+    open starting use {there, top, lines_there, starts_top}
+
     next_small : next_at ly n < 65536
     next_small = omega (arith, top)
 

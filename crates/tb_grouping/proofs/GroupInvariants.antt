@@ -136,6 +136,24 @@ module _ {around : Surroundings} {n : ℕ} {g : Group} {js is : List Instr} {s :
   kept_by true = kept_lined
   kept_by false = kept
 
+  -- where it goes on behind that, with which memory, and what is kept there
+  pub record GoingOn : Type 0 where
+    pub at : ℕ
+    pub m : ℕ → ℕ
+    pub c : Kept around (live js) s r m
+
+  abbrev pub going_on : Bool → GoingOn
+  going_on t = record { at = behind_line t; m = lined_by t; c = kept_by t }
+
+  -- what faults has its line's number
+  pub number_set : (t : Bool) → (t ≡ false → ⊥) → WordAt (lined_by t) LINE n
+  number_set true some = numbered
+  number_set false some = absurd (some refl)
+
+  pub end_by : (t : Bool) (ps : List Piece) → behind_line t + pieces_size ps ≡ w.regs.pc + pieces_size (lined_code t n ps)
+  end_by true ps = omega arith
+  end_by false ps = refl
+
   pub lies_by : (t : Bool) (ps : List Piece) → Lies f.code w.regs.pc (lined_code t n ps) → Lies f.code (behind_line t) ps
   lies_by true ps lies = lies.2
   lies_by false ps lies = lies

@@ -63,51 +63,34 @@ above (suc k) v h =
     let p = above k v h in
     (halve_above (halve_times k v) (omega (arith, p.0, p.1)) ∙ ap (λ x. x / 2 + 32768) p.0, omega arith)
 
+-- what holds of 0 to 5 holds of each number below 6
+below_six : (P : ℕ → Type 0) → P 0 → P 1 → P 2 → P 3 → P 4 → P 5 → (k : ℕ) → k < 6 → P k
+below_six P a b c d e f zero h = a
+below_six P a b c d e f (suc zero) h = b
+below_six P a b c d e f (suc (suc zero)) h = c
+below_six P a b c d e f (suc (suc (suc zero))) h = d
+below_six P a b c d e f (suc (suc (suc (suc zero)))) h = e
+below_six P a b c d e f (suc (suc (suc (suc (suc zero))))) h = f
+below_six P a b c d e f (suc (suc (suc (suc (suc (suc k)))))) h = absurd (omega (arith, h))
+
 floor_is : (k x : ℕ) → k < 6 → x < 32768 → floor (suc k) x ≡ word (x / 2 ^ (k + 1))
-floor_is zero x h lt = omega (arith, lt)
-floor_is (suc zero) x h lt = omega (arith, lt)
-floor_is (suc (suc zero)) x h lt = omega (arith, lt)
-floor_is (suc (suc (suc zero))) x h lt = omega (arith, lt)
-floor_is (suc (suc (suc (suc zero)))) x h lt = omega (arith, lt)
-floor_is (suc (suc (suc (suc (suc zero))))) x h lt = omega (arith, lt)
-floor_is (suc (suc (suc (suc (suc (suc k)))))) x h lt = absurd (omega (arith, h))
+floor_is k x h lt = below_six (λ k. floor (suc k) x ≡ word (x / 2 ^ (k + 1))) (omega (arith, lt)) (omega (arith, lt)) (omega (arith, lt)) (omega (arith, lt)) (omega (arith, lt)) (omega (arith, lt)) k h
 
 sunk_is : (k x : ℕ) → k < 6 → 32768 ≤ x → x + (2 ^ (k + 1) - 1) < 65536 → sunk (suc k) (x + (2 ^ (k + 1) - 1)) ≡ negated (word ((65536 - x) / 2 ^ (k + 1)))
-sunk_is zero x h lo lt = omega (arith, lo, lt)
-sunk_is (suc zero) x h lo lt = omega (arith, lo, lt)
-sunk_is (suc (suc zero)) x h lo lt = omega (arith, lo, lt)
-sunk_is (suc (suc (suc zero))) x h lo lt = omega (arith, lo, lt)
-sunk_is (suc (suc (suc (suc zero)))) x h lo lt = omega (arith, lo, lt)
-sunk_is (suc (suc (suc (suc (suc zero))))) x h lo lt = omega (arith, lo, lt)
-sunk_is (suc (suc (suc (suc (suc (suc k)))))) x h lo lt = absurd (omega (arith, h))
+sunk_is k x h lo lt =
+    below_six (λ k. x + (2 ^ (k + 1) - 1) < 65536 → sunk (suc k) (x + (2 ^ (k + 1) - 1)) ≡ negated (word ((65536 - x) / 2 ^ (k + 1))))
+    (λ lt. omega (arith, lo, lt)) (λ lt. omega (arith, lo, lt)) (λ lt. omega (arith, lo, lt)) (λ lt. omega (arith, lo, lt)) (λ lt. omega (arith, lo, lt)) (λ lt. omega (arith, lo, lt)) k h lt
 
 -- what is raised to 0 and above has the quotient 0
 none_is : (k x : ℕ) → k < 6 → x < 65536 → 65536 ≤ x + (2 ^ (k + 1) - 1) → (word (x + (2 ^ (k + 1) - 1)) < 32768) × (floor (suc k) (word (x + (2 ^ (k + 1) - 1))) ≡ negated (word ((65536 - x) / 2 ^ (k + 1))))
-none_is zero x h lt le = (omega (arith, lt, le), omega (arith, lt, le))
-none_is (suc zero) x h lt le = (omega (arith, lt, le), omega (arith, lt, le))
-none_is (suc (suc zero)) x h lt le = (omega (arith, lt, le), omega (arith, lt, le))
-none_is (suc (suc (suc zero))) x h lt le = (omega (arith, lt, le), omega (arith, lt, le))
-none_is (suc (suc (suc (suc zero)))) x h lt le = (omega (arith, lt, le), omega (arith, lt, le))
-none_is (suc (suc (suc (suc (suc zero))))) x h lt le = (omega (arith, lt, le), omega (arith, lt, le))
-none_is (suc (suc (suc (suc (suc (suc k)))))) x h lt le = absurd (omega (arith, h))
+none_is k x h lt le =
+    below_six (λ k. 65536 ≤ x + (2 ^ (k + 1) - 1) → (word (x + (2 ^ (k + 1) - 1)) < 32768) × (floor (suc k) (word (x + (2 ^ (k + 1) - 1))) ≡ negated (word ((65536 - x) / 2 ^ (k + 1)))))
+    (λ le. (omega (arith, lt, le), omega (arith, lt, le))) (λ le. (omega (arith, lt, le), omega (arith, lt, le))) (λ le. (omega (arith, lt, le), omega (arith, lt, le)))
+    (λ le. (omega (arith, lt, le), omega (arith, lt, le))) (λ le. (omega (arith, lt, le), omega (arith, lt, le))) (λ le. (omega (arith, lt, le), omega (arith, lt, le))) k h le
 
-pub power_small : (k : ℕ) → k < 6 → 2 ^ (k + 1) < 65
-power_small zero h = omega arith
-power_small (suc zero) h = omega arith
-power_small (suc (suc zero)) h = omega arith
-power_small (suc (suc (suc zero))) h = omega arith
-power_small (suc (suc (suc (suc zero)))) h = omega arith
-power_small (suc (suc (suc (suc (suc zero))))) h = omega arith
-power_small (suc (suc (suc (suc (suc (suc k)))))) h = absurd (omega (arith, h))
-
-pub power_some : (k : ℕ) → k < 6 → 1 ≤ 2 ^ (k + 1)
-power_some zero h = omega arith
-power_some (suc zero) h = omega arith
-power_some (suc (suc zero)) h = omega arith
-power_some (suc (suc (suc zero))) h = omega arith
-power_some (suc (suc (suc (suc zero)))) h = omega arith
-power_some (suc (suc (suc (suc (suc zero))))) h = omega arith
-power_some (suc (suc (suc (suc (suc (suc k)))))) h = absurd (omega (arith, h))
+-- a power of two is some and few
+pub power_size : (k : ℕ) → k < 6 → (1 ≤ 2 ^ (k + 1)) × (2 ^ (k + 1) < 65)
+power_size k h = below_six (λ k. (1 ≤ 2 ^ (k + 1)) × (2 ^ (k + 1) < 65)) (omega arith, omega arith) (omega arith, omega arith) (omega arith, omega arith) (omega arith, omega arith) (omega arith, omega arith) (omega arith, omega arith) k h
 
 -- a quotient with a divisor that is not negative
 quotient_by : (x d : ℕ) → d < 32768 → (t : Bool) → is_negative x ≡ t → quotient x d ≡ with_sign t ((if t then 65536 - x else x) / d)
@@ -133,7 +116,7 @@ halves_are k x few small = ⊎_elim positive negative (cases_lt x 32768)
     d = 2 ^ (k + 1)
 
     d_small : d < 32768
-    d_small = let p = power_small k few in omega (arith, p)
+    d_small = let p = power_size k few in omega (arith, p.1)
 
     positive : x < 32768 → halve_times (suc k) (word (x + more k (nat_le 32768 x))) ≡ quotient x (2 ^ (k + 1))
     positive lt =
@@ -167,7 +150,7 @@ sign_is x h = ⊎_elim
     (cases_lt x 32768)
 
 pub more_small : (k : ℕ) (t : Bool) → k < 6 → more k t < 256
-more_small k true h = let p = power_small k h in omega (arith, p)
+more_small k true h = let p = power_size k h in omega (arith, p.1)
 more_small k false h = omega arith
 
 -- ---- doubles

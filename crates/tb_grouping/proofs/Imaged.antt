@@ -25,7 +25,8 @@ use Rattle.tb_templates.proofs.Reached.{either}
 use Rattle.tb_templates.proofs.Settled.{Sections, broken_straight, joined_items, last_broken, line_at, sections, some_bytes, straight_items, total_size}
 use Rattle.tb_templates.proofs.Taken.{block_size}
 use Rattle.tb_keeping.specs.Layout.{Lies, place_of, layout_of, place_at}
-use Rattle.tb_grouping.specs.Laid.{ArePolled, IsBelowAll, AreRising, Laid}
+use Rattle.tb_runtime16.specs.Search.{IsBelowAll, AreRising}
+use Rattle.tb_grouping.specs.Laid.{ArePolled, Laid}
 use Rattle.tb_grouping.proofs.Laying.{front, back}
 use Rattle.tb_keeping.proofs.Numbers.{start_of_line}
 

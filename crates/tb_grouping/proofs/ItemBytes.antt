@@ -41,7 +41,7 @@ use Rattle.tb_keeping.proofs.Resolved.{Piece, Code, highest_code}
 use Rattle.tb_grouping.proofs.Sources.{lda, adc, sbc, cmp}
 use Rattle.tb_grouping.proofs.GroupCode as coded
 use Rattle.tb_grouping.proofs.GroupCode.{low, high, weighed, difference, Way, way_size, BranchReaches}
-use Rattle.tb_grouping.proofs.Halves.{power_small}
+use Rattle.tb_grouping.proofs.Halves.{power_size}
 use Rattle.tb_grouping.proofs.Remainders.{mask_small}
 use Rattle.tb_grouping.proofs.Emits.{formed, formed_size, branch_formed, Emits, emitted_size, ends, block, reaches}
 use Rattle.tb_keeping.proofs.Numbers.{constant_bytes, copied_bytes, store_bytes, low_byte, high_byte}
@@ -140,26 +140,11 @@ jump_straight ns n to true e = rw e refl
 jump_straight ns n to false e = rw e refl
 
 pub template_straight : (ns : List ℕ) (n i : ℕ) (c : slots.Instr) → coded.has_branches c ≡ false → list_all is_straight (product.template ns n i c) ≡ true
-template_straight ns n i (slots.Put k w) b = refl
 template_straight ns n i (slots.Load k x) b = copied_straight (product.var_at x) (product.slot_at k)
-template_straight ns n i (slots.Store x) b = refl
-template_straight ns n i (slots.Negate k) b = refl
-template_straight ns n i (slots.Compute op k) b = refl
-template_straight ns n i (slots.Random k) b = refl
-template_straight ns n i (slots.SendText bs) b = refl
-template_straight ns n i slots.SendNumber b = refl
-template_straight ns n i slots.SendZone b = refl
-template_straight ns n i slots.SendNewline b = refl
-template_straight ns n i (slots.Input x) b = refl
-template_straight ns n i slots.Poll b = refl
-template_straight ns n i slots.Hold b = refl
-template_straight ns n i (slots.LeaveUnless rel) b = refl
-template_straight ns n i slots.Jump b = refl
-template_straight ns n i slots.Call b = refl
 template_straight ns n i (slots.JumpTo to) b = jump_straight ns n to (has_line ns to) refl
 template_straight ns n i (slots.CallTo to) b = absurd (true≢false b)
 template_straight ns n i slots.Return b = absurd (true≢false b)
-template_straight ns n i slots.End b = refl
+template_straight ns n i _ b = refl
 
 pub no_more : (fs : List Form) → AreFormsOf [] fs → fs ≡ []
 no_more [] h = refl
@@ -170,7 +155,7 @@ flat_append [] js = refl
 flat_append (i ∷ is) js = ap (λ t. instr_bytes i ++ t) (flat_append is js) ∙ sym (append_assoc (instr_bytes i) (flat is) (flat js))
 
 masked : (k : ℕ) → k < 6 → scaled.all_but_lowest k % 256 ≡ scaled.all_but_lowest k
-masked k few = let p = power_small k few in omega (arith, p)
+masked k few = let p = power_size k few in omega (arith, p.1)
 
 module _ (labels : List (Name × ℕ)) where
   -- the labels of settled items stand for their places, their branches reach, and they end below $A000

@@ -1,7 +1,6 @@
 -- What the code of a test by a divisor does: Z is whether nothing is left over, and the branch that asks it.
-use Rattle.std.proofs.Common.{◌≡◌, ◌≢◌, ℕ, ◌+◌, ◌-◌, ◌%◌, ◌^◌, ◌≤◌, Bool, true, false, true≢false, cond, List, [], ◌∷◌, ◌++◌, length, refl, sym, ap, ◌∙◌, subst, arith, leb, eqb, bit_and, Option}
+use Rattle.std.proofs.Common.{◌≡◌, ◌≢◌, ℕ, ◌+◌, ◌-◌, ◌%◌, ◌^◌, ◌≤◌, Bool, true, cond, List, [], ◌∷◌, ◌++◌, length, refl, sym, ap, ◌∙◌, subst, arith, leb, eqb, bit_and, Option}
 use Rattle.std.specs.Prelude.{nat_eq, bit_or}
-use Rattle.std.proofs.lemmas.Bool.{eq-eqb}
 use Rattle.tb_opcodes.specs.declared.Mnemonic.TheVariants.{Ora}
 use Rattle.tb_words.specs.Words.{magnitude}
 use Rattle.tb_meaning.specs.Control.{State, fault_text}
@@ -11,7 +10,7 @@ use Rattle.tb_reaching.proofs.Instr.{Stands, ins, instr_bytes}
 use Rattle.tb_reaching.proofs.Placed.{placed_last}
 use Rattle.tb_reaching.specs.Start.{IsHome}
 use Rattle.tb_reaching.specs.View.{Bytes, Comes, Fits, Setup, View, is_data, view}
-use Rattle.tb_runtime16.specs.Places.{DIVIDE_AT, LEFT, LINE, RESULT, RIGHT}
+use Rattle.tb_runtime16.specs.Places.{DIVIDE_AT, LEFT, RESULT, RIGHT}
 use Rattle.tb_runtime16.specs.Routines.{Here, Moves, WithA, WordAt}
 use Rattle.tb_runtime16.proofs.StatePlaces.{not_argument}
 use Rattle.tb_keeping.proofs.Mirrors.{Flagged}
@@ -21,15 +20,14 @@ use Rattle.tb_keeping.proofs.Returning.{back_here}
 use Rattle.tb_selection.specs.Groups.{Divisibility, Group}
 use Rattle.tb_selection.specs.Liveness.{live}
 use Rattle.tb_templates.specs.declared.sources.Source.{Source}
-use Rattle.tb_templates.specs.declared.sources.Source.TheVariants.{FixedWord, AtPlace}
 use Rattle.tb_templates.specs.GroupTemplates.{may_be_zero}
 use Rattle.tb_templates.specs.Masks.{mask}
 use Rattle.tb_templates.proofs.Divided.{IsMasking, by_bits, by_division, masking_is}
 use Rattle.tb_grouping.proofs.Branches.{branch_behind, branch_size, branches, last_leads}
 use Rattle.tb_grouping.proofs.GroupCode.{DividedReaches, Way, Zero, branch_code, branch_on, divided_at, divided_code, leaves_on, left_over, lined_code, low, lowest_bits, remainder, told}
-use Rattle.tb_grouping.proofs.Constants.{constant_is}
+use Rattle.tb_grouping.proofs.Constants.{constant_is, never_zero}
 use Rattle.tb_grouping.proofs.Handed.{asks_by, comes_back}
-use Rattle.tb_grouping.proofs.GroupInvariants.{Kept, behind_line, kept, kept_by, kept_scratch, lies_by, lined_by, lines_by, numbered}
+use Rattle.tb_grouping.proofs.GroupInvariants.{Kept, end_by, going_on, kept, kept_scratch, lies_by, lines_by, number_set}
 use Rattle.tb_grouping.proofs.Operands.{SourceHolds}
 use Rattle.tb_grouping.proofs.Ready.{Ready, here}
 use Rattle.tb_grouping.proofs.Remainders.{either_byte, lowest_bits_are, some_power}
@@ -111,18 +109,7 @@ module _ {around : Surroundings} (fits : Fits around.f 16) (limit : ℕ) (rs : S
   abbrev risky : Bool
   risky = may_be_zero b
 
-  abbrev at : ℕ
-  at = behind_line h risky
-
-  abbrev m : ℕ → ℕ
-  m = lined_by h risky
-
-  c : Kept around (live js) s r m
-  c = kept_by h risky
-
-  end_by : (t : Bool) → behind_line h t + pieces_size (remainder a b) ≡ w.regs.pc + pieces_size (lined_code t n (remainder a b))
-  end_by true = omega arith
-  end_by false = refl
+  open going_on h risky use {at, m, c}
 
   abbrev tail : List Piece
   tail = Code told ∷ []
@@ -143,7 +130,7 @@ module _ {around : Surroundings} (fits : Fits around.f 16) (limit : ℕ) (rs : S
       chained f u _ _ [] [] limit 2 (rs.divide _ _ m' w.text w.answers x y k.left k.right some u e) (λ v q.
       let there = back_here _ _ w.text w.answers _ v q (comes_back fits h DIVIDE_AT at a b tail m c l x y ga gb (ha m c) hb) in
       looser f v _ _ [] 2 2 (omega arith)
-      (flagged_told _ _ v.mem _ _ (let e = end_by risky in omega (arith, e)) refl (kept_scratch around (live js) s r m' v.mem h.some_read (λ p o. q.memory.others p (not_argument p o)) k.kept))
+      (flagged_told _ _ v.mem _ _ (let e = end_by h risky (remainder a b) in omega (arith, e)) refl (kept_scratch around (live js) s r m' v.mem h.some_read (λ p o. q.memory.others p (not_argument p o)) k.kept))
       (tells_rest f 16 fits _ own v.mem w.text w.answers refl (magnitude x % magnitude y) l.2.2.2.0 q.memory.rest l.2.2.2.1 v there)))))
 
   -- Z is whether nothing is left over
@@ -177,14 +164,6 @@ module _ {around : Surroundings} (fits : Fits around.f 16) (limit : ℕ) (rs : S
       (branches f 16 fits own u.mem w.text w.answers refl at way Zero (leaves_on how) divided next (branch_behind f at way Zero (leaves_on how) next [] parts.1).0 reach parts.1.1 u t.here t.zero)))
 
   -- ---- by 0
-  never : (b : Source) → SourceHolds w.mem b y → may_be_zero b ≡ false → y ≢ 0
-  never (FixedWord v) k e = λ zero. let same = constant_is w.mem v y (FixedWord v) refl k in absurd (true≢false (sym (eq-eqb v 0 (same.0 ∙ zero)) ∙ e))
-  never (AtPlace p) k e = absurd (true≢false e)
-
-  line_set : (t : Bool) → risky ≡ t → y ≡ 0 → WordAt (lined_by h t) LINE n
-  line_set true e zero = numbered h
-  line_set false e zero = absurd (never b (hb w.mem first) e zero)
-
   left_fails : (o : Option ℕ) → IsMasking b o → Lies f.code w.regs.pc (left_over n o a b) → y ≡ 0 → Comes f w (IsHome f) (fault_text 2 n) (13 + limit)
   left_fails _ (by_bits v k e few power) lies zero =
       let same = constant_is w.mem v y b e (hb w.mem first) in absurd (some_power k few (sym power ∙ same.0 ∙ zero))
@@ -192,7 +171,7 @@ module _ {around : Surroundings} (fits : Fits around.f 16) (limit : ℕ) (rs : S
       looser f w _ _ (fault_text 2 n) (4 + (9 + limit)) (13 + limit) (omega arith) (λ u z. z)
       (lines_by fits h risky (remainder a b) lies _ (fault_text 2 n) (9 + limit)
       (asks_by fits h DIVIDE_AT at a b tail m c (asked_lies lies) x y ga gb (ha m c) hb _ (fault_text 2 n) limit
-      (λ m' k. rs.divide_by_zero _ _ m' w.text w.answers x n k.left (subst (WordAt m' RIGHT) zero k.right) (k.line (line_set risky refl zero)) k.kept.homed)))
+      (λ m' k. rs.divide_by_zero _ _ m' w.text w.answers x n k.left (subst (WordAt m' RIGHT) zero k.right) (k.line (number_set h risky (λ e. never_zero w.mem y b (hb w.mem first) e zero))) k.kept.homed)))
 
   pub divided_fails : (how : Divisibility) (way : Way) (next : ℕ) → Lies f.code w.regs.pc (divided_code n w.regs.pc way how a b next) → y ≡ 0 → Comes f w (IsHome f) (fault_text 2 n) (13 + limit)
   divided_fails how way next lies zero =

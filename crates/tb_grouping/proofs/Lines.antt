@@ -112,7 +112,7 @@ module _ (labels : List (Name × ℕ)) (seed : ℕ) (code : Part) (sc : slots.Sl
         let rs = subst (Rest labels at) s.are r in
         let below = rs.below in
         let range = range_split (expand g) (expand_all gs) ranged in
-        let m = each_emitted labels ns seed n laid.seed_small small (next_stands n) (next_below n) starts_there starts_below i at g s.front alone.0 range.0 s.of_front (rest_before labels at s.front s.back rs) in
+        let m = each_emitted labels ns seed n laid.seed_small small (record { there = next_stands n; top = next_below n; lines_there = starts_there; starts_top = starts_below }) i at g s.front alone.0 range.0 s.of_front (rest_before labels at s.front s.back rs) in
         let ps = group_code ly n at m.first m.second g in
         let long : forms_size s.front ≡ pieces_size ps = emitted_size labels m.emits in
         let bs = part_bytes within at s.front s.back below (subst (λ k. Bytes within at (bytes_from labels at (items_from at k))) s.are b) in

@@ -29,7 +29,7 @@ use Rattle.tb_grouping.proofs.SlotSide.{line, fetches, keeps, fetched, with_fetc
 use Rattle.tb_grouping.proofs.Landing.{DestFits, Elsewhere, home_kept, state_landed}
 use Rattle.tb_grouping.proofs.Operands.{OperandFits, operand_held, operand_grounded, dest_in_data, range_fetch}
 use Rattle.tb_grouping.proofs.Sums.{brings}
-use Rattle.tb_grouping.proofs.Ready.{Ready, here, stood}
+use Rattle.tb_grouping.proofs.Ready.{Ready, here, stood, landed_answers, landed_text}
 use Rattle.tb_grouping.proofs.Surroundings.{Surroundings}
 
 -- the list with its parts bracketed to the right
@@ -114,24 +114,12 @@ module _ (around : Surroundings) (fits : Fits around.f 16) (code : SlotCode) (n 
       few : (live is).slots ≤ 16
       few = h.few_behind
 
-  texts : (landed (IntoHome home) v s).text ≡ s.text
-  texts = by home
-    where
-      by : (home : Home) → (landed (IntoHome home) v s).text ≡ s.text
-      by (IntoVariable x) = refl
-      by IntoHeld = refl
-
-  answers : (landed (IntoHome home) v s).answers ≡ s.answers
-  answers = by home
-    where
-      by : (home : Home) → (landed (IntoHome home) v s).answers ≡ s.answers
-      by (IntoVariable x) = refl
-      by IntoHeld = refl
-
   pub move_law : Comes f w (Target around (steps code (expand (Move a home)) (line code n (spread_move a home is) s r))) (sent_in (steps code (expand (Move a home)) (line code n (spread_move a home is) s r))) 4
   move_law =
       let text = brought (source_of 0 a) (home_at home) in
       let behind : w.regs.pc + (size text + 0) ≡ w.regs.pc + size text = omega arith in
+      let texts = landed_text (IntoHome home) v s in
+      let answers = landed_answers (IntoHome home) v s in
       subst (λ x. Comes f w (Target around x) (sent_in x) 4) (sym (move_goes code n a home is s r h.read.all_words))
       (looser f w _ _ [] 4 4 (omega arith)
       (stood around code n h.small is (landed (IntoHome home) v s) (moved s r a home) (w.regs.pc + size text) after w.text w.answers (subst (λ p. GroupsLie ly f.code n p (select is)) behind h.rest)

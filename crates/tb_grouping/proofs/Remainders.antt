@@ -78,15 +78,23 @@ some_size : (t : Bool) (b y : ℕ) → HasSign t b y → y ≢ 0 → 1 ≤ b
 some_size true b y h n = h.1
 some_size false b y h n = omega (arith, h.0, n)
 
-again : (s t : Bool) (a b x y : ℕ) → HasSign s a x → HasSign t b y → y ≢ 0 → nat_eq (word (with_sign (differ s t) (a / b) * y)) x ≡ nat_eq (a % b) 0
-again s t a b x y hx hy some =
+-- a word's quotient times the divisor is the word's part that the divisor divides
+record Product (s t : Bool) (a b x y : ℕ) : Type 0 where
+  few : a ≤ 32768
+  whole : a / b * b + a % b ≡ a
+  is : word (with_sign (differ s t) (a / b) * y) ≡ with_sign s (a / b * b)
+
+product_of : (s t : Bool) (a b x y : ℕ) → HasSign s a x → HasSign t b y → y ≢ 0 → Product s t a b x y
+product_of s t a b x y hx hy some =
     let one = some_size t b y hy some in
     let few = sign_bound s a x hx in
     let whole : b * (a / b) + a % b ≡ a = omega (arith, one) in
     let same = mul_comm (a / b) b in
     let less = div-le_self a b in
-    ap (λ n. nat_eq n x) (product_sign s t b (a / b) y hy (omega (arith, less, few)) (omega (arith, whole, same, few)))
-    ∙ part_is s a x (a / b * b) (a % b) hx (omega (arith, whole, same))
+    record { few = few; whole = omega (arith, whole, same); is = product_sign s t b (a / b) y hy (omega (arith, less, few)) (omega (arith, whole, same, few)) }
+
+again : (s t : Bool) (a b x y : ℕ) → HasSign s a x → HasSign t b y → y ≢ 0 → nat_eq (word (with_sign (differ s t) (a / b) * y)) x ≡ nat_eq (a % b) 0
+again s t a b x y hx hy some = let p = product_of s t a b x y hx hy some in ap (λ n. nat_eq n x) p.is ∙ part_is s a x (a / b * b) (a % b) hx p.whole
 
 -- a word's quotient times the divisor is the word where the remainder is 0
 pub multiple_is : (x y : ℕ) → x < 65536 → y < 65536 → y ≢ 0 → nat_eq (word (quotient x y * y)) x ≡ nat_eq (magnitude x % magnitude y) 0
@@ -103,14 +111,7 @@ less_part true a x p r h few e = ⊎_elim (λ z. omega (arith, h.0, h.1, few, e,
 less_part false a x p r h few e = omega (arith, h.0, few, e)
 
 left_of : (s t : Bool) (a b x y : ℕ) → HasSign s a x → HasSign t b y → y ≢ 0 → word (x + (65536 - word (with_sign (differ s t) (a / b) * y))) ≡ turned_size s (a % b)
-left_of s t a b x y hx hy some =
-    let one = some_size t b y hy some in
-    let few = sign_bound s a x hx in
-    let whole : b * (a / b) + a % b ≡ a = omega (arith, one) in
-    let same = mul_comm (a / b) b in
-    let less = div-le_self a b in
-    ap (λ n. word (x + (65536 - n))) (product_sign s t b (a / b) y hy (omega (arith, less, few)) (omega (arith, whole, same, few)))
-    ∙ less_part s a x (a / b * b) (a % b) hx few (omega (arith, whole, same))
+left_of s t a b x y hx hy some = let p = product_of s t a b x y hx hy some in ap (λ n. word (x + (65536 - n))) p.is ∙ less_part s a x (a / b * b) (a % b) hx p.few p.whole
 
 -- a word less its quotient times the divisor is the size of the remainder with the word's sign
 pub rest_is : (x y : ℕ) → x < 65536 → y < 65536 → y ≢ 0 → word (x + (65536 - word (quotient x y * y))) ≡ turned_size (is_negative x) (magnitude x % magnitude y)

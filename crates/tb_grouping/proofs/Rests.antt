@@ -1,5 +1,5 @@
 -- The law of what is left over of a variable: its slot instructions and its code give the remainder's size with its sign.
-use Rattle.std.proofs.Common.{◌≡◌, ◌≢◌, ℕ, ◌+◌, ◌-◌, ◌*◌, ◌/◌, ◌%◌, ◌<◌, Bool, true, false, true≢false, List, [], ◌∷◌, ◌++◌, length, refl, sym, ap, ◌∙◌, subst, arith, ⊎_elim, Some, length-set}
+use Rattle.std.proofs.Common.{◌≡◌, ◌≢◌, ℕ, ◌+◌, ◌-◌, ◌*◌, ◌/◌, ◌%◌, ◌<◌, Bool, true, false, List, [], ◌∷◌, ◌++◌, length, refl, sym, ap, ◌∙◌, subst, arith, ⊎_elim, Some, length-set}
 use Rattle.std.specs.Prelude.{slice_index, nat_lt}
 use Rattle.std.proofs.lemmas.Bool.{cases_eq, eq-eqb, leb-true, ltb-false, ltb-true, ne_eqb}
 use Rattle.tb_cpu.specs.Effects.{has_bit}
@@ -13,7 +13,7 @@ use Rattle.tb_meaning.specs.Values.{apply, given}
 use Rattle.tb_reaching.proofs.Comes.{chained, looser}
 use Rattle.tb_reaching.specs.Start.{IsHome}
 use Rattle.tb_reaching.specs.View.{Comes, Fits, View}
-use Rattle.tb_runtime16.specs.Places.{DIVIDE_AT, LEFT, LINE, RESULT, RIGHT}
+use Rattle.tb_runtime16.specs.Places.{DIVIDE_AT, LEFT, RESULT, RIGHT}
 use Rattle.tb_runtime16.specs.Routines.{Here, Moves, WordAt}
 use Rattle.tb_runtime16.proofs.StatePlaces.{not_argument}
 use Rattle.tb_keeping.proofs.Frames.{word_put}
@@ -31,12 +31,12 @@ use Rattle.tb_templates.specs.GroupTemplates.{may_be_zero}
 use Rattle.tb_templates.specs.Sources.{destination_at, source_of}
 use Rattle.tb_templates.specs.Templates.{var_at}
 use Rattle.tb_grouping.proofs.Calculations.{subtracted_word}
-use Rattle.tb_grouping.proofs.GroupCode.{Negative, brought, lined_code, over_at, remains_code, rest_asked, rest_at, rest_turned, sign_looked_at, signed_rest, way_size}
-use Rattle.tb_grouping.proofs.Constants.{constant_is}
+use Rattle.tb_grouping.proofs.GroupCode.{Negative, brought, over_at, remains_code, rest_asked, rest_at, rest_turned, sign_looked_at, signed_rest, way_size}
+use Rattle.tb_grouping.proofs.Constants.{never_zero}
 use Rattle.tb_grouping.proofs.Handed.{asks_by, comes_back, result_gives}
 use Rattle.tb_grouping.proofs.InPlace.{Forked, forked}
 use Rattle.tb_grouping.proofs.Landing.{DestFits}
-use Rattle.tb_grouping.proofs.GroupInvariants.{Kept, behind_line, kept as kept_first, kept_by, kept_put, kept_scratch, lies_by, lined_by, lines_by, numbered, word_lands}
+use Rattle.tb_grouping.proofs.GroupInvariants.{Kept, end_by, going_on, kept as kept_first, kept_put, kept_scratch, lies_by, lines_by, number_set, word_lands}
 use Rattle.tb_grouping.proofs.Matching.{Matches, Target}
 use Rattle.tb_grouping.proofs.MultipleSide.{held_stands, multiple_fails, multiple_next, multiplied, multiplied_length, others_stand, product_stands}
 use Rattle.tb_grouping.proofs.Operands.{OperandFits, SourceHolds, dest_fits, dest_in_data, operand_apart, operand_held, range_fetch}
@@ -242,14 +242,7 @@ module _ (around : Surroundings) (fits : Fits around.f 16) (code : SlotCode) (li
   abbrev risky : Bool
   risky = may_be_zero b
 
-  abbrev at : ℕ
-  at = behind_line h risky
-
-  abbrev m : ℕ → ℕ
-  m = lined_by h risky
-
-  c : Kept around (live js) s r m
-  c = kept_by h risky
+  open going_on h risky use {at, m, c}
 
   abbrev asking : List Piece
   asking = Code (brought a LEFT) ∷ Code (brought b RIGHT) ∷ Code (call DIVIDE_AT) ∷ []
@@ -273,12 +266,8 @@ module _ (around : Surroundings) (fits : Fits around.f 16) (code : SlotCode) (li
   b_apart : Grounded b RIGHT
   b_apart = operand_apart (k + 2) d RIGHT (omega arith) (let room = fit.room in omega (arith, room)) fit.divisor
 
-  end_by : (t : Bool) → behind_line h t + pieces_size asking ≡ w.regs.pc + pieces_size (lined_code t n asking)
-  end_by true = omega arith
-  end_by false = refl
-
   middle_is : at + size (brought a LEFT) + size (brought b RIGHT) + 3 ≡ middle
-  middle_is = let e = end_by risky in omega (arith, e)
+  middle_is = let e = end_by h risky asking in omega (arith, e)
 
   -- the remainder's size stands in RESULT
   record Told (u : View) : Type 0 where
@@ -363,20 +352,12 @@ module _ (around : Surroundings) (fits : Fits around.f 16) (code : SlotCode) (li
           copies_out _ (word_put u.mem RESULT _ _ value (difference.0 ∙ ap (λ v. v % 256) same) (difference.1 ∙ ap (λ v. v / 256) same) (omega arith)) (kept_put around (live js) s r u.mem RESULT _ _ h.some_read refl refl told.kept) q l))
 
   -- ---- by 0
-  never : (b : Source) → SourceHolds w.mem b y → may_be_zero b ≡ false → y ≢ 0
-  never (FixedWord v) k e = λ zero. let same = constant_is w.mem v y (FixedWord v) refl k in absurd (true≢false (sym (eq-eqb v 0 (same.0 ∙ zero)) ∙ e))
-  never (AtPlace p) k e = absurd (true≢false e)
-
-  line_set : (t : Bool) → risky ≡ t → y ≡ 0 → WordAt (lined_by h t) LINE n
-  line_set true e zero = numbered h
-  line_set false e zero = absurd (never b (b_holds w.mem first) e zero)
-
   faults : y ≡ 0 → Comes f w (IsHome f) (fault_text 2 n) (13 + limit)
   faults zero =
       looser f w _ _ (fault_text 2 n) (4 + (9 + limit)) (13 + limit) (omega arith) (λ u z. z)
       (lines_by fits h risky asking parts.0 _ (fault_text 2 n) (9 + limit)
       (asks_by fits h DIVIDE_AT at a b [] m c asking_lies x y a_apart b_apart (a_holds m c) b_holds _ (fault_text 2 n) limit
-      (λ m' g. rs.divide_by_zero _ _ m' w.text w.answers x n g.left (subst (WordAt m' RIGHT) zero g.right) (g.line (line_set risky refl zero)) g.kept.homed)))
+      (λ m' g. rs.divide_by_zero _ _ m' w.text w.answers x n g.left (subst (WordAt m' RIGHT) zero g.right) (g.line (number_set h risky (λ e. never_zero w.mem y b (b_holds w.mem first) e zero))) g.kept.homed)))
 
   abbrev pub RemainsLeads : Step SlotState → Type 0
   RemainsLeads z = Comes f w (Target around z) (sent_in z) (34 + (limit + limit))

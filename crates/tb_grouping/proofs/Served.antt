@@ -16,15 +16,14 @@ use Rattle.tb_lower.specs.Slots.{SlotCode}
 use Rattle.tb_runtime16.specs.Places.{PROLOGUE_AT}
 use Rattle.tb_templates.specs.Program.{rows_code}
 use Rattle.tb_runtime16.specs.Block.{block_bytes, block_part}
-use Rattle.tb_runtime16.specs.Search as table
-use Rattle.tb_runtime16.specs.Search.{table_bytes, Rising, AllWords}
+use Rattle.tb_runtime16.specs.Search.{table_bytes, AllWords}
 use Rattle.tb_runtime16.specs.Ends.{Begun}
 use Rattle.tb_runtime16.specs.Routines.{Routines, Tabled, entries, limit_by}
 use Rattle.tb_runtime16.proofs.AllLaws.{all_laws}
 use Rattle.tb_runtime16.proofs.PrologueRuns.{prologue_law}
 use Rattle.tb_keeping.specs.Kept.{Starts}
 use Rattle.tb_keeping.specs.Layout.{Layout, layout_of, start_at, inner}
-use Rattle.tb_grouping.specs.Laid.{IsBelowAll, AreRising, Laid}
+use Rattle.tb_grouping.specs.Laid.{Laid}
 use Rattle.tb_keeping.proofs.Numbers.{start_of_line}
 use Rattle.tb_keeping.proofs.Headline.{setup, room_so, begins_so, inner_within}
 use Rattle.tb_grouping.proofs.Laying.{block_short, block_lies, table_lies, start_small}
@@ -41,14 +40,6 @@ rows_bytes labels all seed (n ∷ ns) among a =
     let e = start_of_line labels all seed n (among n (ap (λ b. b || has_line ns n) (eq-eqb n n refl))) in
     let r = rows_bytes labels all seed ns (λ m h. among m (ap (λ b. nat_eq n m || b) h ∙ or-true (nat_eq n m))) (a + 2 + 2) in
     λ i. n % 256 ∷ n / 256 ∷ e i % 256 ∷ e i / 256 ∷ r i
-
-all_above : (start : ℕ → ℕ) (k : ℕ) (ns : List ℕ) → IsBelowAll k ns → table.AllAbove k (entries start ns)
-all_above start k [] h = tt
-all_above start k (n ∷ ns) h = (h.0, all_above start k ns h.1)
-
-rises : (start : ℕ → ℕ) (ns : List ℕ) → AreRising ns → Rising (entries start ns)
-rises start [] h = tt
-rises start (n ∷ ns) h = (all_above start n ns h.0, rises start ns h.1)
 
 all_words : (start : ℕ → ℕ) (ns : List ℕ) → ((n : ℕ) → has_line ns n ≡ true → n < 65536) → ((n : ℕ) → start n < 65536) → AllWords (entries start ns)
 all_words start [] small places = tt
@@ -101,7 +92,7 @@ module _ (place : ℕ) (bytes : List ℕ) (from : 0x0800 ≤ place) (to : place 
           from = program_from ly.table held.0;
           to = omega (arith, laid.table.below, rows_size ns);
           some = laid.some;
-          rising = rises ly.start ns laid.rising;
+          rising = laid.rising;
           words = all_words ly.start ns (λ n e. let c = has_content sc n e in (laid.lines n c.0 c.1).small) (λ n. omega (arith, start_small labels seed code sc laid n));
         }
 

@@ -22,7 +22,7 @@ use Rattle.std.proofs.lemmas.List.{append-nil}
 use Rattle.tb_reaching.proofs.Instr.{flat}
 use Rattle.tb_keeping.proofs.Resolved.{Piece, copied, template, jump_to}
 use Rattle.tb_grouping.proofs.GroupCode.{has_branches}
-use Rattle.tb_selection.specs.Groups.{Group, Calculate, Stepped, Convert, Move, Use, Test, TestGo, Divides, Remains, Single}
+use Rattle.tb_selection.specs.Groups.{Group, Calculate, Single}
 use Rattle.tb_selection.specs.Select.{alone}
 use Rattle.tb_keeping.proofs.Emitted.{pieces_bytes}
 
@@ -52,14 +52,7 @@ module _ (labels : List (Name × ℕ)) (ns : List ℕ) (seed : ℕ) (seed_small 
   abbrev is_single : Group → Bool
   is_single (Single c) = true
   is_single (Calculate op a b d) = false
-  is_single (Convert what a d) = false
-  is_single (Move a home) = false
-  is_single (Use how a) = false
-  is_single (Test rel a b) = false
-  is_single (TestGo rel a b to) = false
-  is_single (Stepped op a b by w x) = false
-  is_single (Divides how x d side to) = false
-  is_single (Remains x d to) = false
+  is_single _ = false
 
   not_alone : {g : Group} {c : slots.Instr} → is_single g ≡ false → g ≡ Single c → ⊥
   not_alone f q = true≢false (ap is_single (sym q) ∙ f)
@@ -74,21 +67,13 @@ module _ (labels : List (Name × ℕ)) (ns : List ℕ) (seed : ℕ) (seed_small 
   unfolding opcodes.encoded
   template_bytes i at (slots.Put k w) f q r b h = constant_bytes labels ns seed at (word w) (slot_at k) (omega arith)
   template_bytes i at (slots.Load k x) f q r b h = copied_bytes labels ns seed at (var_at x) (slot_at k) ∙ sym (append-nil (flat (copied (var_at x) (slot_at k))))
-  template_bytes i at (slots.Store x) f q r b h = absurd (not_alone refl q)
-  template_bytes i at (slots.Negate k) f q r b h = absurd (not_alone refl q)
-  template_bytes i at (slots.Compute op k) f q r b h = absurd (not_alone refl q)
-  template_bytes i at (slots.Random k) f q r b h = absurd (not_alone refl q)
   template_bytes i at (slots.SendText t) f q r b h = text_bytes i at t r (omega (arith, b)) h
-  template_bytes i at slots.SendNumber f q r b h = absurd (not_alone refl q)
   template_bytes i at slots.SendZone f q r b h = refl
   template_bytes i at slots.SendNewline f q r b h = refl
   template_bytes i at (slots.Input x) f q r b h = refl
   template_bytes i at slots.Poll f q r b h = refl
-  template_bytes i at slots.Hold f q r b h = absurd (not_alone refl q)
-  template_bytes i at (slots.LeaveUnless rel) f q r b h = absurd (not_alone refl q)
-  template_bytes i at slots.Jump f q r b h = absurd (not_alone refl q)
-  template_bytes i at slots.Call f q r b h = absurd (not_alone refl q)
   template_bytes i at (slots.JumpTo to) f q r b h = to_bytes i at to (has_line ns to) refl
   template_bytes i at (slots.CallTo to) f q r b h = absurd (true≢false f)
   template_bytes i at slots.Return f q r b h = absurd (true≢false f)
   template_bytes i at slots.End f q r b h = refl
+  template_bytes i at _ f q r b h = absurd (not_alone refl q)

@@ -243,20 +243,8 @@ module _ (op : Operator) (a b : Operand) (d : Destination) (is : List Instr) whe
           where
             go : (a b : Operand) → right_slot_dead a b k (live is) ≡ true → j ≢ k → (j ≢ k + 1) ⊎ (b ≡ InSlot)
             go InSlot InSlot f n = inr refl
-            go InSlot (Constant w) f n = inl (λ e. omega (arith, e, lt, leb-true _ _ f))
-            go InSlot (Variable x) f n = inl (λ e. omega (arith, e, lt, leb-true _ _ f))
-            go (Constant w) b f n = inl (λ e. omega (arith, e, lt, low w b f))
-              where
-                low : (w : ℕ) (b : Operand) → right_slot_dead (Constant w) b k (live is) ≡ true → (live is).slots ≤ k + 1
-                low w InSlot f = leb-true _ _ f
-                low w (Constant v) f = leb-true _ _ f
-                low w (Variable x) f = leb-true _ _ f
-            go (Variable x) b f n = inl (λ e. omega (arith, e, lt, low x b f))
-              where
-                low : (x : ℕ) (b : Operand) → right_slot_dead (Variable x) b k (live is) ≡ true → (live is).slots ≤ k + 1
-                low x InSlot f = leb-true _ _ f
-                low x (Constant v) f = leb-true _ _ f
-                low x (Variable y) f = leb-true _ _ f
+            go _ InSlot f n = inl (λ e. omega (arith, e, lt, leb-true _ _ f))
+            go _ _ f n = inl (λ e. omega (arith, e, lt, leb-true _ _ f))
 
         in_slot : (k : ℕ) → j ≢ k → (j ≢ k + 1) ⊎ (b ≡ InSlot) → (j < (live (fetch k a ++ (fetch (k + 1) b ++ Compute op k ∷ is))).slots) × (slice_index (with_fetched s (with_fetched s r k a) (k + 1) b).words j ≡ slice_index r.words j)
         in_slot k n q = (

@@ -9,6 +9,7 @@ use Rattle.tb_lower.specs.Slots.{Instr, Poll, SlotCode}
 use Rattle.tb_lower.specs.Ranges.{AreInRange}
 use Rattle.tb_runtime16.specs.Places.{PROLOGUE_AT, LINES_AT}
 use Rattle.tb_runtime16.specs.Block.{block_bytes}
+use Rattle.tb_runtime16.specs.Search.{AreRising}
 use Rattle.tb_settling.specs.Settled.{AreFormsOf}
 use Rattle.tb_templates.specs.declared.labels.Target.TheVariants as target
 use Rattle.tb_templates.specs.Templates.{next_line}
@@ -40,16 +41,6 @@ pub record LineLies (labels : List (Name × ℕ)) (code : Part) (ns : List ℕ) 
   pub ranged : AreInRange 256 is
   pub small : n < 65536
   pub after_block : LINES_AT ≤ place_of labels (target.Line n)
-
--- each number is below all behind it
-abbrev pub IsBelowAll : ℕ → List ℕ → Type 0
-IsBelowAll k [] = Unit {0}
-IsBelowAll k (n ∷ ns) = (k < n) × IsBelowAll k ns
-
--- the numbers of a list rise
-abbrev pub AreRising : List ℕ → Type 0
-AreRising [] = Unit {0}
-AreRising (n ∷ ns) = IsBelowAll n ns × AreRising ns
 
 -- the code of a program lies where the labels say
 pub record Laid (labels : List (Name × ℕ)) (seed : ℕ) (code : Part) (program : SlotCode) : Type 0 where

@@ -92,22 +92,26 @@ module _ (ly : Layout) (s : State) (m m' : ℕ → ℕ) (h : HoldsState ly s m) 
         all_vars = h.all_vars;
       }
 
-  -- the newest note is taken away
-  pub state_popped : (p : Place) (ps : List Place) → s.returns ≡ p ∷ ps → WordAt m' NOTES (length ps) → ((a : ℕ) → is_state a ≡ true → a ≢ NOTES → a ≢ NOTES + 1 → m' a ≡ m a) → HoldsState ly (record s { place = p; returns = ps }) m'
-  state_popped p ps q count e =
-      let low : (a : ℕ) → 0xC000 ≤ a → a ≤ 0xC061 → a ≢ NOTES → a ≢ NOTES + 1 → m' a ≡ m a = λ a lo hi. e a (low_is_state a lo hi) in
-      let few : suc (length ps) ≤ 500 = subst (λ l. length l ≤ 500) q h.few in
-      let notes : Noted m (notes_of ly (p ∷ ps)) = subst (λ l. Noted m (notes_of ly l)) q h.notes in
+  -- the list of notes is another one
+  state_noted : (place : Place) (ps : List Place) → length ps ≤ 500 → WordAt m' NOTES (length ps) → Noted m' (notes_of ly ps) → ((a : ℕ) → 0xC000 ≤ a → a ≤ 0xC061 → a ≢ NOTES → a ≢ NOTES + 1 → m' a ≡ m a) → HoldsState ly (record s { place = place; returns = ps }) m'
+  state_noted place ps few count notes low =
       record {
         vars = vars_kept (λ a lo hi. low a lo (omega (arith, hi)) (λ e. omega (arith, e, hi)) (λ e. omega (arith, e, hi)));
         column = low COLUMN (omega arith) (omega arith) (λ e. omega (arith, e)) (λ e. omega (arith, e)) ∙ h.column;
         opened = low OPEN (omega arith) (omega arith) (λ e. omega (arith, e)) (λ e. omega (arith, e)) ∙ h.opened;
         seeded = seed_over m m' (low SEEDED (omega arith) (omega arith) (λ e. omega (arith, e)) (λ e. omega (arith, e))) (low SEED (omega arith) (omega arith) (λ e. omega (arith, e)) (λ e. omega (arith, e))) (low (SEED + 1) (omega arith) (omega arith) (λ e. omega (arith, e)) (λ e. omega (arith, e))) h.seeded;
         count = count;
-        notes = notes_kept ly m m' ps (omega (arith, few)) (λ a lo hi. e a (note_is_state a lo hi) (λ e. omega (arith, e, lo)) (λ e. omega (arith, e, lo))) notes.1;
-        few = omega (arith, few);
+        notes = notes;
+        few = few;
         all_vars = h.all_vars;
       }
+
+  -- the newest note is taken away
+  pub state_popped : (p : Place) (ps : List Place) → s.returns ≡ p ∷ ps → WordAt m' NOTES (length ps) → ((a : ℕ) → is_state a ≡ true → a ≢ NOTES → a ≢ NOTES + 1 → m' a ≡ m a) → HoldsState ly (record s { place = p; returns = ps }) m'
+  state_popped p ps q count e =
+      let few : suc (length ps) ≤ 500 = subst (λ l. length l ≤ 500) q h.few in
+      let notes : Noted m (notes_of ly (p ∷ ps)) = subst (λ l. Noted m (notes_of ly l)) q h.notes in
+      state_noted p ps (omega (arith, few)) count (notes_kept ly m m' ps (omega (arith, few)) (λ a lo hi. e a (note_is_state a lo hi) (λ e. omega (arith, e, lo)) (λ e. omega (arith, e, lo))) notes.1) (λ a lo hi. e a (low_is_state a lo hi))
 
   -- the RND state is stored
   pub state_drawn : (seed : ℕ) → m' SEEDED ≡ 1 → WordAt m' SEED seed → ((a : ℕ) → is_state a ≡ true → a ≢ SEEDED → a ≢ SEED → a ≢ SEED + 1 → m' a ≡ m a) → HoldsState ly (record s { seed = seed }) m'
@@ -141,14 +145,4 @@ module _ (ly : Layout) (s : State) (m m' : ℕ → ℕ) (h : HoldsState ly s m) 
 
   -- a note more
   pub state_pushed : (to p : Place) → length s.returns < 500 → WordAt m' NOTES (suc (length s.returns)) → Noted m' (notes_of ly (p ∷ s.returns)) → ((a : ℕ) → 0xC000 ≤ a → a ≤ 0xC061 → a ≢ NOTES → a ≢ NOTES + 1 → m' a ≡ m a) → HoldsState ly (record s { place = to; returns = p ∷ s.returns }) m'
-  state_pushed to p few count note low =
-      record {
-        vars = vars_kept (λ a lo hi. low a lo (omega (arith, hi)) (λ e. omega (arith, e, hi)) (λ e. omega (arith, e, hi)));
-        column = low COLUMN (omega arith) (omega arith) (λ e. omega (arith, e)) (λ e. omega (arith, e)) ∙ h.column;
-        opened = low OPEN (omega arith) (omega arith) (λ e. omega (arith, e)) (λ e. omega (arith, e)) ∙ h.opened;
-        seeded = seed_over m m' (low SEEDED (omega arith) (omega arith) (λ e. omega (arith, e)) (λ e. omega (arith, e))) (low SEED (omega arith) (omega arith) (λ e. omega (arith, e)) (λ e. omega (arith, e))) (low (SEED + 1) (omega arith) (omega arith) (λ e. omega (arith, e)) (λ e. omega (arith, e))) h.seeded;
-        count = count;
-        notes = note;
-        few = few;
-        all_vars = h.all_vars;
-      }
+  state_pushed to p few count note low = state_noted to (p ∷ s.returns) few count note low

@@ -10,7 +10,7 @@ use Rattle.tb_opcodes.specs.declared.Mode.TheVariants.{Absolute, ZeroPage}
 use Rattle.tb_reaching.proofs.Comes.{chained, known, looser}
 use Rattle.tb_reaching.proofs.Placed.{changes_at, placing, reads_data, stores_at, takes_at, placed_last}
 use Rattle.tb_reaching.specs.View.{Bytes}
-use Rattle.tb_reaching.proofs.Instr.{Instr, Stands, act_instr, ins, instr_bytes}
+use Rattle.tb_reaching.proofs.Instr.{Stands, ins, instr_bytes}
 use Rattle.tb_reaching.specs.View.{Comes, Fits, Setup, View, is_data, view, with_s}
 use Rattle.tb_runtime16.specs.Places.{RESULT}
 use Rattle.std.specs.Prelude.{◌==◌, if◌then◌else◌}

@@ -18,9 +18,9 @@ use Rattle.tb_runtime16.specs.Laws.{AllBytes, Leaves, Back, Drawn, seed_of}
 use Rattle.tb_runtime16.specs.Input as asking
 use Rattle.tb_runtime16.specs.Input.{prompt, Taken}
 use Rattle.tb_runtime16.specs.Notes.{Noted, Notes}
-use Rattle.tb_runtime16.specs.Search.{address_of, Searched}
+use Rattle.tb_runtime16.specs.Search.{AreRising, address_of, Searched}
 use Rattle.tb_runtime16.specs.Routines.{WordAt, SeedAt, stored, first, Entered, line_end, Tabled, entries, limit_by, Routines, AllLaws}
-use Rattle.tb_runtime16.proofs.Gathered.{from_here, from_a, from_line, beside, unchanged, faulting, entries_length, found, not_found}
+use Rattle.tb_runtime16.proofs.Gathered.{from_here, from_a, from_line, beside, unchanged, faulting, entries_length, entries_numbers, found, not_found}
 use Rattle.tb_runtime16.proofs.StatePlaces.{unless_scratch, not_argument, not_pointer}
 use Rattle.tb_runtime16.proofs.SendRuns.{send_law}
 use Rattle.tb_runtime16.proofs.TextRuns.{text_law}
@@ -74,7 +74,7 @@ module _ (table seed_option : ℕ) (numbers : List ℕ) (start : ℕ → ℕ) (f
       let size = entries_length start numbers in
       subst (λ o. Comes (under f own) (view x y z b v i c d SEARCH_AT (l ∷ h ∷ []) m text answers) (Searched l h m text answers o) [] 510) is
       (search_law (under f own) (omega (arith, fits)) block l h text answers m x y z b v i c d n table (entries start numbers) left at (subst (WordAt m COUNT) (sym size) count)
-      laid.shown laid.from (omega (arith, size, laid.to)) (omega (arith, size, laid.some)) laid.rising laid.words)
+      laid.shown laid.from (omega (arith, size, laid.to)) (omega (arith, size, laid.some)) (subst AreRising (sym (entries_numbers start numbers)) laid.rising) laid.words)
 
   asks : (l h : ℕ) (m : ℕ → ℕ) (text answers : List ℕ) (o : Bool) (j : ℕ) (t : Turn) → m OPEN ≡ bit o → m COLUMN < 256 → AllBytes text → WordAt m LINE j → Entered f lo hi m → turn Nothing text ≡ t → (x y z : ℕ) (n b i c d : Bool) → Comes f (view x y z n b i c d INPUT_AT (l ∷ h ∷ own) m text answers) (asking.Ended f l h own m answers (m COLUMN) (prompt o) t) (prompt o ++ asking.turn_sends j t) (45 * length text + 587)
   asks l h m text answers o j t is_open column small line e is x y z n b i c d =

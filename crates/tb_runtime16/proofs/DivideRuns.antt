@@ -17,7 +17,7 @@ use Rattle.tb_runtime16.specs.Laws.{unsigned_at, negate_left_at, is_argument, Wo
 use Rattle.tb_runtime16.proofs.InMemory.{IsWord, bytes_of, holds_word, of_word, same_place, value}
 use Rattle.tb_runtime16.proofs.Within.{divide_part, divide_in}
 use Rattle.tb_runtime16.proofs.Words.{small_byte, taken_from_zero, sign_of, sign_small, sign_none, negated_size, negated_sign, magnitude_positive, quotient_positive, quotient_negative, with_sign_positive, with_sign_negative}
-use Rattle.tb_runtime16.proofs.Frames.{Frame, frame_put, frame_then}
+use Rattle.tb_runtime16.proofs.Frames.{Frame, frame_put, frame_then, leaves_now}
 use Rattle.tb_runtime16.proofs.Called.{calls, back_looser}
 use Rattle.tb_runtime16.proofs.UnsignedRuns.{unsigned_law}
 
@@ -74,7 +74,7 @@ divided_negated m w q r h =
 module _ (f : Setup) (fits : Fits f 2) (block : Holds block_part f.code) (lo hi : ℕ) (text answers : List ℕ) where
   negate_return : (a x y : ℕ) (n v i z c : Bool) (w : ℕ → ℕ) (q : (ℕ → ℕ) → Type 0) → q w → Comes f (view a x y n v i z c (DIVIDE_AT + 36) (lo ∷ hi ∷ []) w text answers) (Back lo hi text answers q) [] 1
   negate_return a x y n v i z c w q h = ending f 2 fits divide_part (divide_in f.code block) 0 (view a x y n v i z c (DIVIDE_AT + 36) (lo ∷ hi ∷ []) w text answers) _ refl
-      (record { pc = refl; stack_is = refl; binary = refl; same_text = refl; same_answers = refl; memory = h })
+      (leaves_now refl h)
 
   pub negate_left : (a x y : ℕ) (n v i z c : Bool) (w : ℕ → ℕ) (q : (ℕ → ℕ) → Type 0) → q (negated_left w) → Comes f (view a x y n v i z c negate_left_at (lo ∷ hi ∷ []) w text answers) (Back lo hi text answers q) [] 9
   negate_left a x y n v i z c w q h =
@@ -188,4 +188,4 @@ divide_by_zero_law f fits block lo hi text answers m a x y n v i z c e =
     let b : eqb (bit_or (m RIGHT) (m (RIGHT + 1))) 0 ≡ true = eq-eqb _ _ (ap₂ bit_or e.low e.high) in
     after f 2 fits divide_part (divide_in f.code block) 2 (view a x y n v i z c DIVIDE_AT (lo ∷ hi ∷ []) m text answers) _ _ 2 refl
     (rw b (ending f 2 fits divide_part (divide_in f.code block) 1 (view _ _ _ _ _ _ _ _ (DIVIDE_AT + 6) (lo ∷ hi ∷ []) m text answers) _ refl
-    (record { leaves = record { pc = refl; stack_is = refl; binary = refl; same_text = refl; same_answers = refl; memory = refl }; number = refl })))
+    (record { leaves = leaves_now refl refl; number = refl })))

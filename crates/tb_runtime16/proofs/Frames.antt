@@ -1,8 +1,9 @@
--- The places that a routine changes: writes to them leave the others.
-use Rattle.std.proofs.Common.{◌≡◌, ℕ, Bool, true, false, sym, ap, ◌∙◌}
+-- What a routine leaves: the places that it does not change, and how it ends.
+use Rattle.std.proofs.Common.{◌≡◌, ℕ, Bool, true, false, refl, sym, ap, ◌∙◌}
 use Rattle.std.proofs.lemmas.Bool.{false≢true}
 use Rattle.tb_memmap.specs.Bytes.{with_byte}
-use Rattle.tb_runtime16.specs.Laws.{Changes, is_argument}
+use Rattle.tb_reaching.specs.View.{View}
+use Rattle.tb_runtime16.specs.Laws.{Changes, Leaves, is_argument}
 use Rattle.tb_reaching.proofs.Memory.{put_other}
 
 -- a write to a place of this kind leaves the others
@@ -21,3 +22,7 @@ frame_put = changes_put is_argument
 
 pub frame_then : (m0 m w : ℕ → ℕ) → Frame m0 m → Frame m w → Frame m0 w
 frame_then m0 m w h k a e = k a e ∙ h a e
+
+-- a state leaves itself, with what is said of its memory
+pub leaves_now : {q : (ℕ → ℕ) → Type 0} {w : View} → w.regs.flags.d ≡ false → q w.mem → Leaves w.regs.pc w.stack w.text w.answers q w
+leaves_now binary memory = record { pc = refl; stack_is = refl; binary = binary; same_text = refl; same_answers = refl; memory = memory }

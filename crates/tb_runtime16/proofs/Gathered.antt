@@ -10,7 +10,7 @@ use Rattle.tb_reaching.proofs.Comes.{known, looser}
 use Rattle.tb_reaching.proofs.Calls.{calling, framed, under, stacked_on}
 use Rattle.tb_runtime16.specs.Block.{block_part}
 use Rattle.tb_runtime16.specs.Laws.{WordAt, Leaves, Faults}
-use Rattle.tb_runtime16.specs.Search.{address_of}
+use Rattle.tb_runtime16.specs.Search.{address_of, numbers_in}
 use Rattle.tb_runtime16.specs.Routines.{Entered, Here, WithA, WithLine, Moves, entries}
 use Rattle.tb_runtime16.proofs.InMemory.{same_place}
 use Rattle.tb_runtime16.proofs.FaultRuns.{fault_law}
@@ -67,6 +67,10 @@ faulting f lo hi fits block l h k small m text answers n line e v q j limit le c
 pub entries_length : (start : ℕ → ℕ) (ns : List ℕ) → length (entries start ns) ≡ length ns
 entries_length start [] = refl
 entries_length start (n ∷ ns) = ap (λ k. suc k) (entries_length start ns)
+
+pub entries_numbers : (start : ℕ → ℕ) (ns : List ℕ) → numbers_in (entries start ns) ≡ ns
+entries_numbers start [] = refl
+entries_numbers start (n ∷ ns) = ap (λ ns. n ∷ ns) (entries_numbers start ns)
 
 pub found : (start : ℕ → ℕ) (ns : List ℕ) (n : ℕ) → has_line ns n ≡ true → address_of n (entries start ns) ≡ Some (start n)
 found start [] n h = cc

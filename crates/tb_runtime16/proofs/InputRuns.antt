@@ -18,7 +18,7 @@ use Rattle.tb_runtime16.specs.Input.{MINUS, is_changed, turn_sends, Ended, Input
 use Rattle.tb_runtime16.specs.Laws.{AllBytes, WordAt, Changes, Sent, nowhere}
 use Rattle.tb_runtime16.proofs.Words.{small_byte, taken_from_zero}
 use Rattle.tb_runtime16.proofs.Tens.{times_ten}
-use Rattle.tb_runtime16.proofs.Frames.{changes_put}
+use Rattle.tb_runtime16.proofs.Frames.{changes_put, leaves_now}
 use Rattle.tb_runtime16.proofs.InMemory.{IsWord, holds_word, same_place}
 use Rattle.tb_runtime16.proofs.Within.{input_part, input_in}
 use Rattle.tb_runtime16.proofs.Called.{after_on, calls, ending_on}
@@ -138,7 +138,7 @@ module _ (f : Setup) (room : ℕ) (most : 13 ≤ room) (fits : Fits f room) (blo
       looser f _ _ _ [] (3 + 1) 14 (omega arith) (λ w h. h)
       (after_on f own 4 free input_part st 2 (view a x y n v i z c (INPUT_AT + 0xC4) (lo ∷ hi ∷ []) m text answers) _ _ 1 refl
       (rw e (ending_on f own 4 free input_part st 0 (view _ _ _ _ _ _ _ _ (INPUT_AT + 0xD5) (lo ∷ hi ∷ []) m text answers) _ refl
-      (record { pc = refl; stack_is = refl; binary = refl; same_text = refl; same_answers = refl; memory = record { gives = record { result = holds_word m RESULT value h.is_word h.value_is; others = h.others }; line_open = h.line_open; column_is = h.column } }))))
+      (leaves_now refl (record { gives = record { result = holds_word m RESULT value h.is_word h.value_is; others = h.others }; line_open = h.line_open; column_is = h.column })))))
   finish value false a x y n v i z c m text h e =
       after_on f own 4 free input_part st 2 (view a x y n v i z c (INPUT_AT + 0xC4) (lo ∷ hi ∷ []) m text answers) _ _ (4 + 7) refl
       (rw e (after_on f own 4 free input_part st 3 (view _ _ _ _ _ _ _ _ (INPUT_AT + 0xCB) (lo ∷ hi ∷ []) m text answers) _ _ 7 refl

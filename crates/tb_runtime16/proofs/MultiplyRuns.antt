@@ -13,7 +13,7 @@ use Rattle.tb_runtime16.specs.Laws.{is_argument, Back, Gives, MultiplyLaw}
 use Rattle.tb_runtime16.proofs.InMemory.{IsWord, bytes_of, holds_word, of_word}
 use Rattle.tb_runtime16.proofs.Within.{multiply_part, multiply_in}
 use Rattle.tb_runtime16.proofs.Words.{pow2, halved, doubled, added, turn_even, turn_odd, turn_double}
-use Rattle.tb_runtime16.proofs.Frames.{Frame, frame_put}
+use Rattle.tb_runtime16.proofs.Frames.{Frame, frame_put, leaves_now}
 
 pow2_rises : (k j : ℕ) → pow2 k ≤ pow2 (k + j)
 pow2_rises k zero = let e : k ≡ k + 0 = omega arith in subst (λ n. pow2 k ≤ pow2 n) e (omega arith)
@@ -48,7 +48,7 @@ module _ (f : Setup) (fits : Fits f 2) (block : Holds block_part f.code) (lo hi 
 
   last : (a x y : ℕ) (n v i z c : Bool) (m : ℕ → ℕ) (product : ℕ) → a < 256 → Held m → product ≡ a + 256 * m (RESULT + 1) → Comes f (view a x y n v i z c (MULTIPLY_AT + 37) (lo ∷ hi ∷ []) m text answers) (Back lo hi text answers (Gives is_argument m0 product)) [] 2
   last a x y n v i z c m product small h e = ending f 2 fits multiply_part (multiply_in f.code block) 1 (view a x y n v i z c (MULTIPLY_AT + 37) (lo ∷ hi ∷ []) m text answers) _ refl
-      (record { pc = refl; stack_is = refl; binary = refl; same_text = refl; same_answers = refl; memory = record { result = holds_word _ RESULT product (small, h.r) (sym e); others = frame_put _ _ RESULT _ refl h.others } })
+      (leaves_now refl (record { result = holds_word _ RESULT product (small, h.r) (sym e); others = frame_put _ _ RESULT _ refl h.others }))
 
   doubled_held : (m : ℕ → ℕ) → Held m → Held (with_byte (with_byte m LEFT (2 * m LEFT % 256)) (LEFT + 1) (2 * m (LEFT + 1) % 256 + bit (eqb (m LEFT / 128 % 2) 1)))
   doubled_held m h = record {

@@ -17,7 +17,7 @@ use Rattle.tb_runtime16.proofs.InMemory.{IsWord, holds_word}
 use Rattle.tb_runtime16.proofs.Within.{divide_part, divide_in}
 use Rattle.tb_runtime16.proofs.Words.{pow2, small_byte, one_high}
 use Rattle.tb_runtime16.proofs.WideRuns.{double, double_one}
-use Rattle.tb_runtime16.proofs.Frames.{Frame, frame_put}
+use Rattle.tb_runtime16.proofs.Frames.{Frame, frame_put, leaves_now}
 
 sum_less : (l r q d p n l' r' : ℕ) → l < 256 → l' ≡ 2 * l % 256 → r' ≡ 2 * r + l / 128 → r * 256 + l + q * d * 256 ≡ p * n + q → r' * 256 + l' + (q + q) * d * 256 ≡ (p + p) * n + (q + q)
 sum_less l r q d p n l' r' small e e' h = omega (arith, double q d, double p n)
@@ -67,7 +67,7 @@ module _ (f : Setup) (fits : Fits f 2) (block : Holds block_part f.code) (lo hi 
 
   last : (a x y : ℕ) (n v i z c : Bool) (m : ℕ → ℕ) (q : ℕ) → Held 8 q a m → Goal (view a x y n v i z c (DIVIDE_AT + 89) (lo ∷ hi ∷ []) m text answers) 2
   last a x y n v i z c m q h = ending f 2 fits divide_part (divide_in f.code block) 1 (view a x y n v i z c (DIVIDE_AT + 89) (lo ∷ hi ∷ []) m text answers) _ refl
-      (record { pc = refl; stack_is = refl; binary = refl; same_text = refl; same_answers = refl; memory = parted m q a h })
+      (leaves_now refl (parted m q a h))
 
   less_none : Less 0
   unfolding Less

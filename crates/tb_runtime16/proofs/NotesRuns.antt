@@ -7,7 +7,7 @@ use Rattle.tb_cpu.specs.Operands.{word_in}
 use Rattle.tb_memmap.specs.Bytes.{with_byte}
 use Rattle.tb_opcodes.specs.declared.Mnemonic.TheVariants.{Lda, Ldy, Sta}
 use Rattle.tb_opcodes.specs.declared.Mode.TheVariants.{AbsoluteX}
-use Rattle.tb_reaching.specs.View.{Setup, Holds, Fits, Comes, view, is_data}
+use Rattle.tb_reaching.specs.View.{View, Setup, Holds, Fits, Comes, Bytes, view, is_data}
 use Rattle.tb_reaching.proofs.Instr.{ins}
 use Rattle.tb_reaching.proofs.Memory.{put_other, put_same}
 use Rattle.tb_reaching.proofs.Comes.{after, ending, looser}
@@ -18,7 +18,7 @@ use Rattle.tb_runtime16.specs.Laws.{Changes, Back, Faults}
 use Rattle.tb_runtime16.specs.Notes.{NoteAt, Noted, Notes, push_changes, pop_changes, Pushed, Popped, PushLaw, PushFullLaw, PopLaw, PopNoneLaw}
 use Rattle.tb_runtime16.proofs.InMemory.{IsWord, bytes_of, holds_word, of_word, value}
 use Rattle.tb_runtime16.proofs.Within.{notes_part, notes_in}
-use Rattle.tb_runtime16.proofs.Frames.{changes_put}
+use Rattle.tb_runtime16.proofs.Frames.{changes_put, leaves_now}
 
 -- ---- the list in memory
 note_same : (m k : ℕ → ℕ) (j note : ℕ) → k (NOTE_LOW + j) ≡ m (NOTE_LOW + j) → k (NOTE_HIGH + j) ≡ m (NOTE_HIGH + j) → NoteAt m j note → NoteAt k j note
@@ -63,14 +63,7 @@ module _ (f : Setup) (fits : Fits f 2) (block : Holds block_part f.code) (lo hi 
       let t : eqb ((m NOTES + 1) % 256) 0 ≡ true = eq-eqb _ _ over in
       after f 2 fits notes_part (notes_in f.code block) 1 (view a x y n v i z c (PUSH_AT + 0x12) (lo ∷ hi ∷ []) m text answers) _ _ 2 refl
       (rw t (ending f 2 fits notes_part (notes_in f.code block) 1 (view _ _ _ _ _ _ _ _ (PUSH_AT + 0x17) (lo ∷ hi ∷ []) m1 text answers) _ refl
-      (record {
-        pc = refl;
-        stack_is = refl;
-        binary = refl;
-        same_text = refl;
-        same_answers = refl;
-        memory = record { notes = record { count = holds_word _ NOTES _ (u.0, u.1) u.2; few = omega (arith, small); noted = noted_same m m2 (note ∷ ns) (λ j p. (same _ (omega arith), same _ (omega arith))) h }; others = changes_put _ _ _ (NOTES + 1) _ refl (changes_put _ _ _ NOTES _ refl r) };
-      })))
+      (leaves_now refl (record { notes = record { count = holds_word _ NOTES _ (u.0, u.1) u.2; few = omega (arith, small); noted = noted_same m m2 (note ∷ ns) (λ j p. (same _ (omega arith), same _ (omega arith))) h }; others = changes_put _ _ _ (NOTES + 1) _ refl (changes_put _ _ _ NOTES _ refl r) }))))
 
   -- and without one
   count_plain : (a x y : ℕ) (n v i z c : Bool) (m : ℕ → ℕ) (note : ℕ) (ns : List ℕ) → m NOTES < 256 → m NOTES + 256 * m (NOTES + 1) ≡ length ns → length ns < 500 → Noted m (note ∷ ns) → Changes push_changes m0 m → (m NOTES + 1) % 256 ≢ 0 → Comes f (view a x y n v i z c (PUSH_AT + 0x12) (lo ∷ hi ∷ []) m text answers) (Back lo hi text answers (Pushed m0 (note ∷ ns))) [] 3
@@ -81,14 +74,7 @@ module _ (f : Setup) (fits : Fits f 2) (block : Holds block_part f.code) (lo hi 
       let t : eqb ((m NOTES + 1) % 256) 0 ≡ false = ne_eqb _ _ under in
       after f 2 fits notes_part (notes_in f.code block) 1 (view a x y n v i z c (PUSH_AT + 0x12) (lo ∷ hi ∷ []) m text answers) _ _ 1 refl
       (rw t (ending f 2 fits notes_part (notes_in f.code block) 0 (view _ _ _ _ _ _ _ _ (PUSH_AT + 0x1A) (lo ∷ hi ∷ []) m1 text answers) _ refl
-      (record {
-        pc = refl;
-        stack_is = refl;
-        binary = refl;
-        same_text = refl;
-        same_answers = refl;
-        memory = record { notes = record { count = holds_word _ NOTES _ (u.0, u.1) u.2; few = omega (arith, small); noted = noted_same m m1 (note ∷ ns) (λ j p. (same _ (omega arith), same _ (omega arith))) h }; others = changes_put _ _ _ NOTES _ refl r };
-      })))
+      (leaves_now refl (record { notes = record { count = holds_word _ NOTES _ (u.0, u.1) u.2; few = omega (arith, small); noted = noted_same m m1 (note ∷ ns) (λ j p. (same _ (omega arith), same _ (omega arith))) h }; others = changes_put _ _ _ NOTES _ refl r }))))
 
   count : (a x y : ℕ) (n v i z c : Bool) (m : ℕ → ℕ) (note : ℕ) (ns : List ℕ) → m NOTES < 256 → m NOTES + 256 * m (NOTES + 1) ≡ length ns → length ns < 500 → Noted m (note ∷ ns) → Changes push_changes m0 m → Comes f (view a x y n v i z c (PUSH_AT + 0x12) (lo ∷ hi ∷ []) m text answers) (Back lo hi text answers (Pushed m0 (note ∷ ns))) [] 4
   count a x y n v i z c m note ns low is small h r =
@@ -97,100 +83,107 @@ module _ (f : Setup) (fits : Fits f 2) (block : Holds block_part f.code) (lo hi 
       (λ under. looser f _ _ _ [] 3 4 (omega arith) (λ w h. h) (count_plain a x y n v i z c m note ns low is small h r under))
       (cases_eq ((m NOTES + 1) % 256) 0)
 
-  -- a new note's bytes at their places
-  abbrev with_note : ℕ → ℕ → ℕ
-  with_note j = with_byte (with_byte m0 (NOTE_LOW + j) (m0 LEFT)) (NOTE_HIGH + j) (m0 (LEFT + 1))
+  -- an instruction at a place of the list, by X
+  module _ (o pc at a x y : ℕ) (n v i z c : Bool) (m : ℕ → ℕ) (q : View → Type 0) (k : ℕ) (there : (o + x) % 65536 ≡ at) (from : 0xc000 ≤ at) (to : at ≤ 0xCFFF) where
+    abbrev here : View
+    here = view a x y n v i z c pc (lo ∷ hi ∷ []) m text answers
 
-  -- memory with a new note
-  record Stands (ns : List ℕ) : Type 0 where
-    low : with_note (length ns) NOTES < 256
-    is : with_note (length ns) NOTES + 256 * with_note (length ns) (NOTES + 1) ≡ length ns
-    kept : with_note (length ns) (NOTES + 1) ≡ m0 (NOTES + 1)
-    noted : Noted (with_note (length ns)) (word_in m0 LEFT ∷ ns)
-    others : Changes push_changes m0 (with_note (length ns))
+    -- STA o,X
+    storing : Bytes f.code pc (0x9D ∷ o % 256 ∷ o / 256 ∷ []) → Comes f (view a x y n v i z c ((pc + 3) % 65536) (lo ∷ hi ∷ []) (with_byte m at a) text answers) q [] k → Comes f here q [] (1 + k)
+    storing stands next = placing f 2 fits (ins 0x9D o) here _ q [] k refl stands (stores_at f.code 2 (ins 0x9D o) here Sta AbsoluteX at refl refl refl refl (ap (λ a. Ok a) there) a (data_place at from to) refl) next
 
-  stands : (ns : List ℕ) → IsWord m0 LEFT → Notes m0 ns → length ns < 500 → Stands ns
-  stands ns left h small =
-      let j = length ns in
-      let p = NOTE_LOW + j in
-      let q = NOTE_HIGH + j in
-      let m1 = with_byte m0 p (m0 LEFT) in
-      let m2 = with_note j in
-      let apart : (a : ℕ) → a ≢ p → a ≢ q → m2 a ≡ m0 a = λ a s t. put_other m1 q (m0 (LEFT + 1)) a t ∙ put_other m0 p (m0 LEFT) a s in
-      let n0 : m2 NOTES ≡ m0 NOTES = apart NOTES (λ e. omega arith) (λ e. omega arith) in
-      let n1 : m2 (NOTES + 1) ≡ m0 (NOTES + 1) = apart (NOTES + 1) (λ e. omega arith) (λ e. omega arith) in
-      let b0 : m2 p ≡ m0 LEFT = put_other m1 q (m0 (LEFT + 1)) p (λ e. omega (arith, e)) ∙ put_same m0 p (m0 LEFT) p refl in
-      let b1 : m2 q ≡ m0 (LEFT + 1) = put_same m1 q (m0 (LEFT + 1)) q refl in
-      let w = bytes_of m0 NOTES _ h.count in
-      let e = value m0 NOTES _ h.count in
-      record {
-        low = omega (arith, n0, w.0);
-        is = omega (arith, n0, n1, e);
-        kept = n1;
-        noted = (
-          record { low = omega (arith, b0, left.0); high = omega (arith, b1, left.0, left.1); small = omega (arith, left.0, left.1) },
-          noted_same m0 m2 ns (λ k l. (apart (NOTE_LOW + k) (λ e. omega (arith, e, l)) (λ e. omega (arith, e, l, small)), apart (NOTE_HIGH + k) (λ e. omega (arith, e, l, small)) (λ e. omega (arith, e, l)))) h.noted,
-        );
-        others = changes_put push_changes m0 m1 q _ (high_place q (omega arith) (omega (arith, small))) (changes_put push_changes m0 m0 p _ (low_place p (omega arith) (omega (arith, small))) (λ a e. refl));
-      }
+    -- LDA o,X and LDY o,X
+    to_a : Bytes f.code pc (0xBD ∷ o % 256 ∷ o / 256 ∷ []) → Comes f (view (m at) x y (eqb (m at / 128 % 2) 1) v i (eqb (m at) 0) c ((pc + 3) % 65536) (lo ∷ hi ∷ []) m text answers) q [] k → Comes f here q [] (1 + k)
+    to_a stands next = placing f 2 fits (ins 0xBD o) here _ q [] k refl stands (takes_at f.code 2 (ins 0xBD o) here Lda AbsoluteX at refl refl refl refl (ap (λ a. Ok a) there) (m at) _ (reads_data f.code m at (data_place at from to)) refl) next
 
-  -- LEFT's bytes into the list: on its first page
-  store_near : (a y : ℕ) (n v i z c : Bool) (ns : List ℕ) → IsWord m0 LEFT → Notes m0 ns → length ns < 500 → m0 (NOTES + 1) ≡ 0 → Comes f (view a (m0 NOTES) y n v i z c (PUSH_AT + 0x08) (lo ∷ hi ∷ []) m0 text answers) (Back lo hi text answers (Pushed m0 (word_in m0 LEFT ∷ ns))) [] 8
-  store_near a y n v i z c ns left h small zero =
-      let x = m0 NOTES in
-      let p = NOTE_LOW + length ns in
-      let q = NOTE_HIGH + length ns in
-      let l = m0 LEFT in
-      let g = m0 (LEFT + 1) in
-      let m1 = with_byte m0 p l in
-      let e = value m0 NOTES _ h.count in
-      let s = stands ns left h small in
-      let first = view l x y (eqb (l / 128 % 2) 1) v i (eqb l 0) c (PUSH_AT + 0x0A) (lo ∷ hi ∷ []) m0 text answers in
-      let second = view g x y (eqb (g / 128 % 2) 1) v i (eqb g 0) c (PUSH_AT + 0x0F) (lo ∷ hi ∷ []) m1 text answers in
-      let kept : m1 (LEFT + 1) ≡ g = put_other m0 p l (LEFT + 1) (λ e. omega arith) in
-      after f 2 fits notes_part (notes_in f.code block) 0 (view a x y n v i z c (PUSH_AT + 0x08) (lo ∷ hi ∷ []) m0 text answers) _ _ 7 refl
-      (placing f 2 fits (ins 0x9D NOTE_LOW) first _ _ [] 6 refl (notes_in f.code block _ _ refl, (notes_in f.code block _ _ refl, (notes_in f.code block _ _ refl, tt))) (stores_at f.code 2 (ins 0x9D NOTE_LOW) first Sta AbsoluteX p refl refl refl refl (ap (λ a. Ok a) (let t : (NOTE_LOW + m0 NOTES) % 65536 ≡ p = omega (arith, e, zero, small) in t)) l (data_place p (omega arith) (omega (arith, small))) refl)
-      (after f 2 fits notes_part (notes_in f.code block) 0 (view l x y (eqb (l / 128 % 2) 1) v i (eqb l 0) c (PUSH_AT + 0x0D) (lo ∷ hi ∷ []) m1 text answers) _ _ 5 refl
-      (rw kept (placing f 2 fits (ins 0x9D NOTE_HIGH) second _ _ [] 4 refl (notes_in f.code block _ _ refl, (notes_in f.code block _ _ refl, (notes_in f.code block _ _ refl, tt))) (stores_at f.code 2 (ins 0x9D NOTE_HIGH) second Sta AbsoluteX q refl refl refl refl (ap (λ a. Ok a) (let t : (NOTE_HIGH + m0 NOTES) % 65536 ≡ q = omega (arith, e, zero, small) in t)) g (data_place q (omega arith) (omega (arith, small))) refl)
-      (count _ _ _ _ _ _ _ _ (with_note (length ns)) (word_in m0 LEFT) ns s.low s.is small s.noted s.others)))))
+    to_y : Bytes f.code pc (0xBC ∷ o % 256 ∷ o / 256 ∷ []) → Comes f (view a x (m at) (eqb (m at / 128 % 2) 1) v i (eqb (m at) 0) c ((pc + 3) % 65536) (lo ∷ hi ∷ []) m text answers) q [] k → Comes f here q [] (1 + k)
+    to_y stands next = placing f 2 fits (ins 0xBC o) here _ q [] k refl stands (takes_at f.code 2 (ins 0xBC o) here Ldy AbsoluteX at refl refl refl refl (ap (λ a. Ok a) there) (m at) _ (reads_data f.code m at (data_place at from to)) refl) next
 
-  -- and on its second one
-  store_far : (a y : ℕ) (n v i z : Bool) (ns : List ℕ) → IsWord m0 LEFT → Notes m0 ns → length ns < 500 → m0 (NOTES + 1) ≡ 1 → Comes f (view a (m0 NOTES) y n v i z false (PUSH_AT + 0x1F) (lo ∷ hi ∷ []) m0 text answers) (Back lo hi text answers (Pushed m0 (word_in m0 LEFT ∷ ns))) [] 8
-  store_far a y n v i z ns left h small one =
-      let x = m0 NOTES in
-      let p = NOTE_LOW + length ns in
-      let q = NOTE_HIGH + length ns in
-      let l = m0 LEFT in
-      let g = m0 (LEFT + 1) in
-      let m1 = with_byte m0 p l in
-      let e = value m0 NOTES _ h.count in
-      let s = stands ns left h small in
-      let first = view l x y (eqb (l / 128 % 2) 1) v i (eqb l 0) false (PUSH_AT + 0x21) (lo ∷ hi ∷ []) m0 text answers in
-      let second = view g x y (eqb (g / 128 % 2) 1) v i (eqb g 0) false (PUSH_AT + 0x26) (lo ∷ hi ∷ []) m1 text answers in
-      let kept : m1 (LEFT + 1) ≡ g = put_other m0 p l (LEFT + 1) (λ e. omega arith) in
-      after f 2 fits notes_part (notes_in f.code block) 0 (view a x y n v i z false (PUSH_AT + 0x1F) (lo ∷ hi ∷ []) m0 text answers) _ _ 7 refl
-      (placing f 2 fits (ins 0x9D (NOTE_LOW + 256)) first _ _ [] 6 refl (notes_in f.code block _ _ refl, (notes_in f.code block _ _ refl, (notes_in f.code block _ _ refl, tt))) (stores_at f.code 2 (ins 0x9D (NOTE_LOW + 256)) first Sta AbsoluteX p refl refl refl refl (ap (λ a. Ok a) (let t : (NOTE_LOW + 256 + m0 NOTES) % 65536 ≡ p = omega (arith, e, one, small) in t)) l (data_place p (omega arith) (omega (arith, small))) refl)
-      (after f 2 fits notes_part (notes_in f.code block) 0 (view l x y (eqb (l / 128 % 2) 1) v i (eqb l 0) false (PUSH_AT + 0x24) (lo ∷ hi ∷ []) m1 text answers) _ _ 5 refl
-      (rw kept (placing f 2 fits (ins 0x9D (NOTE_HIGH + 256)) second _ _ [] 4 refl (notes_in f.code block _ _ refl, (notes_in f.code block _ _ refl, (notes_in f.code block _ _ refl, tt))) (stores_at f.code 2 (ins 0x9D (NOTE_HIGH + 256)) second Sta AbsoluteX q refl refl refl refl (ap (λ a. Ok a) (let t : (NOTE_HIGH + 256 + m0 NOTES) % 65536 ≡ q = omega (arith, e, one, small) in t)) g (data_place q (omega arith) (omega (arith, small))) refl)
-      (after f 2 fits notes_part (notes_in f.code block) 0 (view g x y (eqb (g / 128 % 2) 1) v i (eqb g 0) false (PUSH_AT + 0x29) (lo ∷ hi ∷ []) (with_note (length ns)) text answers) _ _ 3 refl
-      (count_plain _ _ _ _ _ _ _ _ (with_note (length ns)) (word_in m0 LEFT) ns s.low s.is small s.noted s.others (λ full. omega (arith, full, s.is, s.low, s.kept, one, e, small))))))))
+  module _ (ns : List ℕ) (left : IsWord m0 LEFT) (h : Notes m0 ns) (small : length ns < 500) where
+    -- the places of a new note's bytes, and memory with the first of them and with both
+    abbrev low_at : ℕ
+    low_at = NOTE_LOW + length ns
 
-  push_whole : (a x y : ℕ) (n v i z c : Bool) (ns : List ℕ) → IsWord m0 LEFT → Notes m0 ns → length ns < 500 → Comes f (view a x y n v i z c PUSH_AT (lo ∷ hi ∷ []) m0 text answers) (Back lo hi text answers (Pushed m0 (word_in m0 LEFT ∷ ns))) [] 13
-  push_whole a x y n v i z c ns left h small =
-      let w = bytes_of m0 NOTES _ h.count in
-      let e = value m0 NOTES _ h.count in
-      ⊎_elim
-      (λ near. let t : eqb (m0 (NOTES + 1)) 0 ≡ true = eq-eqb _ _ near in
-      looser f _ _ _ [] (3 + 8) 13 (omega arith) (λ w h. h)
-      (after f 2 fits notes_part (notes_in f.code block) 2 (view a x y n v i z c PUSH_AT (lo ∷ hi ∷ []) m0 text answers) _ _ 8 refl
-      (rw t (store_near _ _ _ _ _ _ _ ns left h small near))))
-      (λ far. let t : eqb (m0 (NOTES + 1)) 0 ≡ false = ne_eqb _ _ far in
-      let one : m0 (NOTES + 1) ≡ 1 = omega (arith, far, e, small) in
-      let room : nat_le 244 (m0 NOTES) ≡ false = lt-leb 244 (m0 NOTES) (omega (arith, one, e, small)) in
-      after f 2 fits notes_part (notes_in f.code block) 2 (view a x y n v i z c PUSH_AT (lo ∷ hi ∷ []) m0 text answers) _ _ (2 + 8) refl
-      (rw t (after f 2 fits notes_part (notes_in f.code block) 1 (view _ (m0 NOTES) y _ v i _ c (PUSH_AT + 0x1B) (lo ∷ hi ∷ []) m0 text answers) _ _ 8 refl
-      (rw room (store_far _ _ _ _ _ _ ns left h small one)))))
-      (cases_eq (m0 (NOTES + 1)) 0)
+    abbrev high_at : ℕ
+    high_at = NOTE_HIGH + length ns
+
+    abbrev with_low : ℕ → ℕ
+    with_low = with_byte m0 low_at (m0 LEFT)
+
+    abbrev with_note : ℕ → ℕ
+    with_note = with_byte with_low high_at (m0 (LEFT + 1))
+
+    counted_is : m0 NOTES + 256 * m0 (NOTES + 1) ≡ length ns
+    counted_is = value m0 NOTES _ h.count
+
+    high_stays : with_low (LEFT + 1) ≡ m0 (LEFT + 1)
+    high_stays = put_other m0 low_at (m0 LEFT) (LEFT + 1) (λ e. omega arith)
+
+    -- memory with a new note
+    record Stands : Type 0 where
+      low : with_note NOTES < 256
+      is : with_note NOTES + 256 * with_note (NOTES + 1) ≡ length ns
+      kept : with_note (NOTES + 1) ≡ m0 (NOTES + 1)
+      noted : Noted with_note (word_in m0 LEFT ∷ ns)
+      others : Changes push_changes m0 with_note
+
+    stands : Stands
+    stands =
+        let apart : (a : ℕ) → a ≢ low_at → a ≢ high_at → with_note a ≡ m0 a = λ a s t. put_other with_low high_at (m0 (LEFT + 1)) a t ∙ put_other m0 low_at (m0 LEFT) a s in
+        let n0 : with_note NOTES ≡ m0 NOTES = apart NOTES (λ e. omega arith) (λ e. omega arith) in
+        let n1 : with_note (NOTES + 1) ≡ m0 (NOTES + 1) = apart (NOTES + 1) (λ e. omega arith) (λ e. omega arith) in
+        let b0 : with_note low_at ≡ m0 LEFT = put_other with_low high_at (m0 (LEFT + 1)) low_at (λ e. omega (arith, e)) ∙ put_same m0 low_at (m0 LEFT) low_at refl in
+        let b1 : with_note high_at ≡ m0 (LEFT + 1) = put_same with_low high_at (m0 (LEFT + 1)) high_at refl in
+        let w = bytes_of m0 NOTES _ h.count in
+        let e = counted_is in
+        record {
+          low = omega (arith, n0, w.0);
+          is = omega (arith, n0, n1, e);
+          kept = n1;
+          noted = (
+            record { low = omega (arith, b0, left.0); high = omega (arith, b1, left.0, left.1); small = omega (arith, left.0, left.1) },
+            noted_same m0 with_note ns (λ k l. (apart (NOTE_LOW + k) (λ e. omega (arith, e, l)) (λ e. omega (arith, e, l, small)), apart (NOTE_HIGH + k) (λ e. omega (arith, e, l, small)) (λ e. omega (arith, e, l)))) h.noted,
+          );
+          others = changes_put push_changes m0 with_low high_at _ (high_place high_at (omega arith) (omega (arith, small))) (changes_put push_changes m0 m0 low_at _ (low_place low_at (omega arith) (omega (arith, small))) (λ a e. refl));
+        }
+
+    -- LEFT's bytes into the list: on its first page
+    store_near : (a y : ℕ) (n v i z c : Bool) → m0 (NOTES + 1) ≡ 0 → Comes f (view a (m0 NOTES) y n v i z c (PUSH_AT + 0x08) (lo ∷ hi ∷ []) m0 text answers) (Back lo hi text answers (Pushed m0 (word_in m0 LEFT ∷ ns))) [] 8
+    store_near a y n v i z c zero =
+        let e = counted_is in
+        after f 2 fits notes_part (notes_in f.code block) 0 (view a (m0 NOTES) y n v i z c (PUSH_AT + 0x08) (lo ∷ hi ∷ []) m0 text answers) _ _ 7 refl
+        (storing NOTE_LOW (PUSH_AT + 0x0A) low_at (m0 LEFT) _ _ _ _ _ _ _ m0 _ 6 (omega (arith, e, zero, small)) (omega arith) (omega (arith, small)) (notes_in f.code block _ _ refl, (notes_in f.code block _ _ refl, (notes_in f.code block _ _ refl, tt)))
+        (after f 2 fits notes_part (notes_in f.code block) 0 (view (m0 LEFT) (m0 NOTES) y _ v i _ c (PUSH_AT + 0x0D) (lo ∷ hi ∷ []) with_low text answers) _ _ 5 refl
+        (rw high_stays (storing NOTE_HIGH (PUSH_AT + 0x0F) high_at (m0 (LEFT + 1)) _ _ _ _ _ _ _ with_low _ 4 (omega (arith, e, zero, small)) (omega arith) (omega (arith, small)) (notes_in f.code block _ _ refl, (notes_in f.code block _ _ refl, (notes_in f.code block _ _ refl, tt)))
+        (count _ _ _ _ _ _ _ _ with_note (word_in m0 LEFT) ns stands.low stands.is small stands.noted stands.others)))))
+
+    -- and on its second one
+    store_far : (a y : ℕ) (n v i z : Bool) → m0 (NOTES + 1) ≡ 1 → Comes f (view a (m0 NOTES) y n v i z false (PUSH_AT + 0x1F) (lo ∷ hi ∷ []) m0 text answers) (Back lo hi text answers (Pushed m0 (word_in m0 LEFT ∷ ns))) [] 8
+    store_far a y n v i z one =
+        let e = counted_is in
+        let s = stands in
+        after f 2 fits notes_part (notes_in f.code block) 0 (view a (m0 NOTES) y n v i z false (PUSH_AT + 0x1F) (lo ∷ hi ∷ []) m0 text answers) _ _ 7 refl
+        (storing (NOTE_LOW + 256) (PUSH_AT + 0x21) low_at (m0 LEFT) _ _ _ _ _ _ _ m0 _ 6 (omega (arith, e, one, small)) (omega arith) (omega (arith, small)) (notes_in f.code block _ _ refl, (notes_in f.code block _ _ refl, (notes_in f.code block _ _ refl, tt)))
+        (after f 2 fits notes_part (notes_in f.code block) 0 (view (m0 LEFT) (m0 NOTES) y _ v i _ false (PUSH_AT + 0x24) (lo ∷ hi ∷ []) with_low text answers) _ _ 5 refl
+        (rw high_stays (storing (NOTE_HIGH + 256) (PUSH_AT + 0x26) high_at (m0 (LEFT + 1)) _ _ _ _ _ _ _ with_low _ 4 (omega (arith, e, one, small)) (omega arith) (omega (arith, small)) (notes_in f.code block _ _ refl, (notes_in f.code block _ _ refl, (notes_in f.code block _ _ refl, tt)))
+        (after f 2 fits notes_part (notes_in f.code block) 0 (view (m0 (LEFT + 1)) (m0 NOTES) y _ v i _ false (PUSH_AT + 0x29) (lo ∷ hi ∷ []) with_note text answers) _ _ 3 refl
+        (count_plain _ _ _ _ _ _ _ _ with_note (word_in m0 LEFT) ns s.low s.is small s.noted s.others (λ full. omega (arith, full, s.is, s.low, s.kept, one, e, small))))))))
+
+    push_whole : (a x y : ℕ) (n v i z c : Bool) → Comes f (view a x y n v i z c PUSH_AT (lo ∷ hi ∷ []) m0 text answers) (Back lo hi text answers (Pushed m0 (word_in m0 LEFT ∷ ns))) [] 13
+    push_whole a x y n v i z c =
+        let e = counted_is in
+        ⊎_elim
+        (λ near. let t : eqb (m0 (NOTES + 1)) 0 ≡ true = eq-eqb _ _ near in
+        looser f _ _ _ [] (3 + 8) 13 (omega arith) (λ w h. h)
+        (after f 2 fits notes_part (notes_in f.code block) 2 (view a x y n v i z c PUSH_AT (lo ∷ hi ∷ []) m0 text answers) _ _ 8 refl
+        (rw t (store_near _ _ _ _ _ _ _ near))))
+        (λ far. let t : eqb (m0 (NOTES + 1)) 0 ≡ false = ne_eqb _ _ far in
+        let one : m0 (NOTES + 1) ≡ 1 = omega (arith, far, e, small) in
+        let room : nat_le 244 (m0 NOTES) ≡ false = lt-leb 244 (m0 NOTES) (omega (arith, one, e, small)) in
+        after f 2 fits notes_part (notes_in f.code block) 2 (view a x y n v i z c PUSH_AT (lo ∷ hi ∷ []) m0 text answers) _ _ (2 + 8) refl
+        (rw t (after f 2 fits notes_part (notes_in f.code block) 1 (view _ (m0 NOTES) y _ v i _ c (PUSH_AT + 0x1B) (lo ∷ hi ∷ []) m0 text answers) _ _ 8 refl
+        (rw room (store_far _ _ _ _ _ _ one)))))
+        (cases_eq (m0 (NOTES + 1)) 0)
 
   push_full : (a x y : ℕ) (n v i z c : Bool) (ns : List ℕ) → Notes m0 ns → length ns ≡ 500 → Comes f (view a x y n v i z c PUSH_AT (lo ∷ hi ∷ []) m0 text answers) (Faults lo hi text answers 4 (λ w. w ≡ m0)) [] 7
   push_full a x y n v i z c ns h full =
@@ -201,7 +194,7 @@ module _ (f : Setup) (fits : Fits f 2) (block : Holds block_part f.code) (lo hi 
       after f 2 fits notes_part (notes_in f.code block) 2 (view a x y n v i z c PUSH_AT (lo ∷ hi ∷ []) m0 text answers) _ _ (2 + 2) refl
       (rw t (after f 2 fits notes_part (notes_in f.code block) 1 (view _ (m0 NOTES) y _ v i _ c (PUSH_AT + 0x1B) (lo ∷ hi ∷ []) m0 text answers) _ _ 2 refl
       (rw room (ending f 2 fits notes_part (notes_in f.code block) 1 (view _ _ _ _ _ _ _ _ (PUSH_AT + 0x2B) (lo ∷ hi ∷ []) m0 text answers) _ refl
-      (record { leaves = record { pc = refl; stack_is = refl; binary = refl; same_text = refl; same_answers = refl; memory = refl }; number = refl })))))
+      (record { leaves = leaves_now refl refl; number = refl })))))
 
   -- ---- Pop
   -- memory without the newest note
@@ -227,54 +220,40 @@ module _ (f : Setup) (fits : Fits f 2) (block : Holds block_part f.code) (lo hi 
       let m1 = with_byte m RESULT a in
       let m2 = with_byte m1 (RESULT + 1) y in
       ending f 2 fits notes_part (notes_in f.code block) 2 (view a x y n v i z c (PUSH_AT + 0x4C) (lo ∷ hi ∷ []) m text answers) _ refl
-      (record {
-        pc = refl;
-        stack_is = refl;
-        binary = refl;
-        same_text = refl;
-        same_answers = refl;
-        memory = record {
-          gives = record { result = holds_word m2 RESULT note (word.0, word.1) word.2; others = changes_put _ _ _ (RESULT + 1) _ refl (changes_put _ _ _ RESULT _ refl r) };
-          notes = record { count = holds_word m2 NOTES (length ns) (low, top) is; few = omega (arith, small); noted = noted m2 (λ a p. put_other m1 (RESULT + 1) y a (λ e. omega (arith, e, p)) ∙ put_other m RESULT _ a (λ e. omega (arith, e, p))) };
-        };
-      })
+      (leaves_now refl (record {
+        gives = record { result = holds_word m2 RESULT note (word.0, word.1) word.2; others = changes_put _ _ _ (RESULT + 1) _ refl (changes_put _ _ _ RESULT _ refl r) };
+        notes = record { count = holds_word m2 NOTES (length ns) (low, top) is; few = omega (arith, small); noted = noted m2 (λ a p. put_other m1 (RESULT + 1) y a (λ e. omega (arith, e, p)) ∙ put_other m RESULT _ a (λ e. omega (arith, e, p))) };
+      }))
 
-  -- the newest note, on the first page
-  take_near : (a y : ℕ) (n v i z c : Bool) (m : ℕ → ℕ) (note : ℕ) (ns : List ℕ) → m (NOTES + 1) ≡ 0 → (m NOTES + 255) % 256 + 256 * m (NOTES + 1) ≡ length ns → length ns < 500 → Noted m (note ∷ ns) → Changes pop_changes m0 m → Comes f (view a (m NOTES) y n v i z c (PUSH_AT + 0x3D) (lo ∷ hi ∷ []) m text answers) (Back lo hi text answers (Popped m0 note ns)) [] 9
-  take_near a y n v i z c m note ns near is small h r =
-      let x = (m NOTES + 255) % 256 in
-      let p = NOTE_LOW + length ns in
-      let q = NOTE_HIGH + length ns in
-      let m1 = counted m in
-      let g = fetched m note ns h in
-      let b = m1 p in
-      let d = m1 q in
-      let t : eqb (m (NOTES + 1)) 0 ≡ true = eq-eqb _ _ near in
-      let first = view (m (NOTES + 1)) x y (eqb (m (NOTES + 1) / 128 % 2) 1) v i true c (PUSH_AT + 0x46) (lo ∷ hi ∷ []) m1 text answers in
-      let second = view (m (NOTES + 1)) x d (eqb (d / 128 % 2) 1) v i (eqb d 0) c (PUSH_AT + 0x49) (lo ∷ hi ∷ []) m1 text answers in
-      after f 2 fits notes_part (notes_in f.code block) 3 (view a (m NOTES) y n v i z c (PUSH_AT + 0x3D) (lo ∷ hi ∷ []) m text answers) _ _ (1 + (1 + 3)) refl
-      (rw t (placing f 2 fits (ins 0xBC NOTE_HIGH) first _ _ [] (1 + 3) refl (notes_in f.code block _ _ refl, (notes_in f.code block _ _ refl, (notes_in f.code block _ _ refl, tt))) (takes_at f.code 2 (ins 0xBC NOTE_HIGH) first Ldy AbsoluteX q refl refl refl refl (ap (λ a. Ok a) (let t : (NOTE_HIGH + x) % 65536 ≡ q = omega (arith, is, near, small) in t)) d _ (reads_data f.code m1 q (data_place q (omega arith) (omega (arith, small)))) refl)
-      (placing f 2 fits (ins 0xBD NOTE_LOW) second _ _ [] 3 refl (notes_in f.code block _ _ refl, (notes_in f.code block _ _ refl, (notes_in f.code block _ _ refl, tt))) (takes_at f.code 2 (ins 0xBD NOTE_LOW) second Lda AbsoluteX p refl refl refl refl (ap (λ a. Ok a) (let t : (NOTE_LOW + x) % 65536 ≡ p = omega (arith, is, near, small) in t)) b _ (reads_data f.code m1 p (data_place p (omega arith) (omega (arith, small)))) refl)
-      (give b x d _ _ _ _ _ m1 note ns g.word (omega arith) (omega (arith, near)) is small g.noted (changes_put pop_changes m0 m NOTES x refl r)))))
+  module _ (m : ℕ → ℕ) (note : ℕ) (ns : List ℕ) (is : (m NOTES + 255) % 256 + 256 * m (NOTES + 1) ≡ length ns) (small : length ns < 500) (h : Noted m (note ∷ ns)) (r : Changes pop_changes m0 m) where
+    -- the places of the newest note's bytes
+    abbrev low_from : ℕ
+    low_from = NOTE_LOW + length ns
 
-  -- and on the second one
-  take_far : (a y : ℕ) (n v i z c : Bool) (m : ℕ → ℕ) (note : ℕ) (ns : List ℕ) → m (NOTES + 1) ≡ 1 → (m NOTES + 255) % 256 + 256 * m (NOTES + 1) ≡ length ns → length ns < 500 → Noted m (note ∷ ns) → Changes pop_changes m0 m → Comes f (view a (m NOTES) y n v i z c (PUSH_AT + 0x3D) (lo ∷ hi ∷ []) m text answers) (Back lo hi text answers (Popped m0 note ns)) [] 10
-  take_far a y n v i z c m note ns far is small h r =
-      let x = (m NOTES + 255) % 256 in
-      let p = NOTE_LOW + length ns in
-      let q = NOTE_HIGH + length ns in
-      let m1 = counted m in
-      let g = fetched m note ns h in
-      let b = m1 p in
-      let d = m1 q in
-      let t : eqb (m (NOTES + 1)) 0 ≡ false = ne_eqb _ _ (λ e. omega (arith, e, far)) in
-      let first = view (m (NOTES + 1)) x y (eqb (m (NOTES + 1) / 128 % 2) 1) v i false c (PUSH_AT + 0x53) (lo ∷ hi ∷ []) m1 text answers in
-      let second = view (m (NOTES + 1)) x d (eqb (d / 128 % 2) 1) v i (eqb d 0) c (PUSH_AT + 0x56) (lo ∷ hi ∷ []) m1 text answers in
-      after f 2 fits notes_part (notes_in f.code block) 3 (view a (m NOTES) y n v i z c (PUSH_AT + 0x3D) (lo ∷ hi ∷ []) m text answers) _ _ (1 + (1 + (1 + 3))) refl
-      (rw t (placing f 2 fits (ins 0xBC (NOTE_HIGH + 256)) first _ _ [] (1 + (1 + 3)) refl (notes_in f.code block _ _ refl, (notes_in f.code block _ _ refl, (notes_in f.code block _ _ refl, tt))) (takes_at f.code 2 (ins 0xBC (NOTE_HIGH + 256)) first Ldy AbsoluteX q refl refl refl refl (ap (λ a. Ok a) (let t : (NOTE_HIGH + 256 + x) % 65536 ≡ q = omega (arith, is, far, small) in t)) d _ (reads_data f.code m1 q (data_place q (omega arith) (omega (arith, small)))) refl)
-      (placing f 2 fits (ins 0xBD (NOTE_LOW + 256)) second _ _ [] (1 + 3) refl (notes_in f.code block _ _ refl, (notes_in f.code block _ _ refl, (notes_in f.code block _ _ refl, tt))) (takes_at f.code 2 (ins 0xBD (NOTE_LOW + 256)) second Lda AbsoluteX p refl refl refl refl (ap (λ a. Ok a) (let t : (NOTE_LOW + 256 + x) % 65536 ≡ p = omega (arith, is, far, small) in t)) b _ (reads_data f.code m1 p (data_place p (omega arith) (omega (arith, small)))) refl)
-      (after f 2 fits notes_part (notes_in f.code block) 0 (view b x d _ _ _ _ _ (PUSH_AT + 0x59) (lo ∷ hi ∷ []) m1 text answers) _ _ 3 refl
-      (give b x d _ _ _ _ _ m1 note ns g.word (omega arith) (omega (arith, far)) is small g.noted (changes_put pop_changes m0 m NOTES x refl r))))))
+    abbrev high_from : ℕ
+    high_from = NOTE_HIGH + length ns
+
+    gives : m (NOTES + 1) < 256 → (n v i z c : Bool) → Comes f (view (counted m low_from) ((m NOTES + 255) % 256) (counted m high_from) n v i z c (PUSH_AT + 0x4C) (lo ∷ hi ∷ []) (counted m) text answers) (Back lo hi text answers (Popped m0 note ns)) [] 3
+    gives top n v i z c = let g = fetched m note ns h in give _ _ _ n v i z c (counted m) note ns g.word (omega arith) top is small g.noted (changes_put pop_changes m0 m NOTES _ refl r)
+
+    -- the newest note, on the first page
+    take_near : (a y : ℕ) (n v i z c : Bool) → m (NOTES + 1) ≡ 0 → Comes f (view a (m NOTES) y n v i z c (PUSH_AT + 0x3D) (lo ∷ hi ∷ []) m text answers) (Back lo hi text answers (Popped m0 note ns)) [] 9
+    take_near a y n v i z c near =
+        let t : eqb (m (NOTES + 1)) 0 ≡ true = eq-eqb _ _ near in
+        after f 2 fits notes_part (notes_in f.code block) 3 (view a (m NOTES) y n v i z c (PUSH_AT + 0x3D) (lo ∷ hi ∷ []) m text answers) _ _ (1 + (1 + 3)) refl
+        (rw t (to_y NOTE_HIGH (PUSH_AT + 0x46) high_from _ _ _ _ _ _ _ _ (counted m) _ (1 + 3) (omega (arith, is, near, small)) (omega arith) (omega (arith, small)) (notes_in f.code block _ _ refl, (notes_in f.code block _ _ refl, (notes_in f.code block _ _ refl, tt)))
+        (to_a NOTE_LOW (PUSH_AT + 0x49) low_from _ _ _ _ _ _ _ _ (counted m) _ 3 (omega (arith, is, near, small)) (omega arith) (omega (arith, small)) (notes_in f.code block _ _ refl, (notes_in f.code block _ _ refl, (notes_in f.code block _ _ refl, tt)))
+        (gives (omega (arith, near)) _ _ _ _ _))))
+
+    -- and on the second one
+    take_far : (a y : ℕ) (n v i z c : Bool) → m (NOTES + 1) ≡ 1 → Comes f (view a (m NOTES) y n v i z c (PUSH_AT + 0x3D) (lo ∷ hi ∷ []) m text answers) (Back lo hi text answers (Popped m0 note ns)) [] 10
+    take_far a y n v i z c far =
+        let t : eqb (m (NOTES + 1)) 0 ≡ false = ne_eqb _ _ (λ e. omega (arith, e, far)) in
+        after f 2 fits notes_part (notes_in f.code block) 3 (view a (m NOTES) y n v i z c (PUSH_AT + 0x3D) (lo ∷ hi ∷ []) m text answers) _ _ (1 + (1 + (1 + 3))) refl
+        (rw t (to_y (NOTE_HIGH + 256) (PUSH_AT + 0x53) high_from _ _ _ _ _ _ _ _ (counted m) _ (1 + (1 + 3)) (omega (arith, is, far, small)) (omega arith) (omega (arith, small)) (notes_in f.code block _ _ refl, (notes_in f.code block _ _ refl, (notes_in f.code block _ _ refl, tt)))
+        (to_a (NOTE_LOW + 256) (PUSH_AT + 0x56) low_from _ _ _ _ _ _ _ _ (counted m) _ (1 + 3) (omega (arith, is, far, small)) (omega arith) (omega (arith, small)) (notes_in f.code block _ _ refl, (notes_in f.code block _ _ refl, (notes_in f.code block _ _ refl, tt)))
+        (after f 2 fits notes_part (notes_in f.code block) 0 (view _ _ _ _ _ _ _ _ (PUSH_AT + 0x59) (lo ∷ hi ∷ []) (counted m) text answers) _ _ 3 refl
+        (gives (omega (arith, far)) _ _ _ _ _)))))
 
   pop_whole : (a x y : ℕ) (n v i z c : Bool) (note : ℕ) (ns : List ℕ) → Notes m0 (note ∷ ns) → Comes f (view a x y n v i z c POP_AT (lo ∷ hi ∷ []) m0 text answers) (Back lo hi text answers (Popped m0 note ns)) [] 14
   pop_whole a x y n v i z c note ns h =
@@ -287,14 +266,14 @@ module _ (f : Setup) (fits : Fits f 2) (block : Holds block_part f.code) (lo hi 
       after f 2 fits notes_part (notes_in f.code block) 1 (view a x y n v i z c POP_AT (lo ∷ hi ∷ []) m0 text answers) _ _ (2 + (1 + 9)) refl
       (rw t (after f 2 fits notes_part (notes_in f.code block) 1 (view _ (m0 NOTES) _ _ _ _ _ _ (PUSH_AT + 0x35) (lo ∷ hi ∷ []) m0 text answers) _ _ (1 + 9) refl
       (rw s (after f 2 fits notes_part (notes_in f.code block) 0 (view _ (m0 NOTES) _ _ _ _ _ _ (PUSH_AT + 0x3A) (lo ∷ hi ∷ []) m0 text answers) _ _ 9 refl
-      (take_near _ _ _ _ _ _ _ (with_byte m0 (NOTES + 1) ((m0 (NOTES + 1) + 255) % 256)) note ns (omega arith) (omega arith) (omega arith)
-      (noted_same m0 _ (note ∷ ns) (λ j p. (put_other m0 (NOTES + 1) _ _ (λ e. omega arith), put_other m0 (NOTES + 1) _ _ (λ e. omega arith))) h.noted) (changes_put _ _ _ (NOTES + 1) _ refl (λ a e. refl))))))))
+      (take_near (with_byte m0 (NOTES + 1) ((m0 (NOTES + 1) + 255) % 256)) note ns (omega arith) (omega arith)
+      (noted_same m0 _ (note ∷ ns) (λ j p. (put_other m0 (NOTES + 1) _ _ (λ e. omega arith), put_other m0 (NOTES + 1) _ _ (λ e. omega arith))) h.noted) (changes_put _ _ _ (NOTES + 1) _ refl (λ a e. refl)) _ _ _ _ _ _ _ (omega arith)))))))
       (λ some. let t : eqb (m0 NOTES) 0 ≡ false = ne_eqb _ _ some in
       looser f _ _ _ [] (2 + 10) 14 (omega arith) (λ w h. h)
       (after f 2 fits notes_part (notes_in f.code block) 1 (view a x y n v i z c POP_AT (lo ∷ hi ∷ []) m0 text answers) _ _ 10 refl
       (rw t (⊎_elim
-      (λ near. looser f _ _ _ [] 9 10 (omega arith) (λ w h. h) (take_near _ _ _ _ _ _ _ m0 note ns near (omega arith) (omega arith) h.noted (λ a e. refl)))
-      (λ far. take_far _ _ _ _ _ _ _ m0 note ns (omega arith) (omega arith) (omega arith) h.noted (λ a e. refl))
+      (λ near. looser f _ _ _ [] 9 10 (omega arith) (λ w h. h) (take_near m0 note ns (omega arith) (omega arith) h.noted (λ a e. refl) _ _ _ _ _ _ _ near))
+      (λ far. take_far m0 note ns (omega arith) (omega arith) h.noted (λ a e. refl) _ _ _ _ _ _ _ (omega arith))
       (cases_eq (m0 (NOTES + 1)) 0)))))
       (cases_eq (m0 NOTES) 0)
 
@@ -306,12 +285,12 @@ module _ (f : Setup) (fits : Fits f 2) (block : Holds block_part f.code) (lo hi 
       after f 2 fits notes_part (notes_in f.code block) 1 (view a x y n v i z c POP_AT (lo ∷ hi ∷ []) m0 text answers) _ _ (2 + 2) refl
       (rw t (after f 2 fits notes_part (notes_in f.code block) 1 (view _ (m0 NOTES) _ _ _ _ _ _ (PUSH_AT + 0x35) (lo ∷ hi ∷ []) m0 text answers) _ _ 2 refl
       (rw s (ending f 2 fits notes_part (notes_in f.code block) 1 (view _ _ _ _ _ _ _ _ (PUSH_AT + 0x5C) (lo ∷ hi ∷ []) m0 text answers) _ refl
-      (record { leaves = record { pc = refl; stack_is = refl; binary = refl; same_text = refl; same_answers = refl; memory = refl }; number = refl })))))
+      (record { leaves = leaves_now refl refl; number = refl })))))
 
 pub push_law : PushLaw
 push_law f fits block lo hi text answers m a x y n v i z c note notes left h small =
     of_word (λ j. Comes f (view a x y n v i z c PUSH_AT (lo ∷ hi ∷ []) m text answers) (Back lo hi text answers (Pushed m (j ∷ notes))) [] 13) m LEFT note left
-    (push_whole f fits block lo hi text answers m a x y n v i z c notes (bytes_of m LEFT note left) h small)
+    (push_whole f fits block lo hi text answers m notes (bytes_of m LEFT note left) h small a x y n v i z c)
 
 pub push_full_law : PushFullLaw
 push_full_law f fits block lo hi text answers m a x y n v i z c notes h full = push_full f fits block lo hi text answers m a x y n v i z c notes h full

@@ -13,6 +13,7 @@ use Rattle.tb_runtime16.specs.Ends.{PollLaw}
 use Rattle.tb_runtime16.proofs.Within.{poll_part, poll_in}
 use Rattle.tb_runtime16.proofs.Called.{after_on, ending_on}
 use Rattle.tb_runtime16.proofs.FaultRuns.{fault_law}
+use Rattle.tb_runtime16.proofs.Frames.{leaves_now}
 
 pub poll_law : PollLaw
 poll_law f room most fits block hlo hhi above deep lo hi text answers m e line is_line byte a x y n v i z c =
@@ -25,7 +26,7 @@ poll_law f room most fits block hlo hhi above deep lo hi text answers m e line i
           (serving f room fits Getin _ _ _ _ _ _ 3 (le-leb _ _ (omega (arith, deep, size))) refl refl refl (λ j.
           after_on f own 4 free poll_part st 1 (view (first_or_zero answers) j.x j.y j.n j.v j.i j.z j.c (POLL_AT + 0x3) (lo ∷ hi ∷ []) m text (drop 1 answers)) _ _ 1 refl
           (rw t (ending_on f own 4 free poll_part st 0 (view _ _ _ _ _ _ _ _ (POLL_AT + 0x7) (lo ∷ hi ∷ []) m text (drop 1 answers)) _ refl
-          (record { pc = refl; stack_is = refl; binary = refl; same_text = refl; same_answers = refl; memory = refl }))))),
+          (leaves_now refl refl))))),
       λ stop. let t : eqb ((first_or_zero answers + 256 - 3) % 256) 0 ≡ true = eq-eqb _ _ (omega (arith, stop)) in
           looser f _ _ _ (fault_text 0 line) (1 + (1 + (2 + (2 + 540)))) 546 (omega arith) (λ w h. h)
           (after_on f own 4 free poll_part st 0 (view a x y n v i z c POLL_AT (lo ∷ hi ∷ []) m text answers) _ _ (1 + (2 + (2 + 540))) refl

@@ -16,7 +16,7 @@ use Rattle.tb_runtime16.specs.Laws.{is_argument, is_seed, unsigned_at, Back, Fau
 use Rattle.tb_runtime16.proofs.InMemory.{IsWord, bytes_of, holds_word, of_word, same_place, value}
 use Rattle.tb_runtime16.proofs.Within.{random_part, random_in}
 use Rattle.tb_runtime16.proofs.Words.{small_byte, added}
-use Rattle.tb_runtime16.proofs.Frames.{skip}
+use Rattle.tb_runtime16.proofs.Frames.{skip, leaves_now}
 use Rattle.tb_runtime16.proofs.Called.{calls, back_looser}
 use Rattle.tb_runtime16.proofs.MultiplyRuns.{multiply_law}
 use Rattle.tb_runtime16.proofs.UnsignedRuns.{unsigned_law}
@@ -127,7 +127,7 @@ random_law f fits block lo hi text answers m a x y n v i z c bound option stored
 module _ (f : Setup) (fits : Fits f 2) (block : Holds block_part f.code) (lo hi : ℕ) (text answers : List ℕ) (m : ℕ → ℕ) where
   bad : (a x y : ℕ) (n v i z c : Bool) → Comes f (view a x y n v i z c (RANDOM_AT + 10) (lo ∷ hi ∷ []) m text answers) (Faults lo hi text answers 3 (λ w. w ≡ m)) [] 2
   bad a x y n v i z c = ending f 2 fits random_part (random_in f.code block) 1 (view a x y n v i z c (RANDOM_AT + 10) (lo ∷ hi ∷ []) m text answers) _ refl
-      (record { leaves = record { pc = refl; stack_is = refl; binary = refl; same_text = refl; same_answers = refl; memory = refl }; number = refl })
+      (record { leaves = leaves_now refl refl; number = refl })
 
 pub random_range_law : RandomRangeLaw
 random_range_law f fits block lo hi text answers m a x y n v i z c bound p (inl none) =

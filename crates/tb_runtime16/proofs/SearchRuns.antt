@@ -12,11 +12,11 @@ use Rattle.tb_reaching.proofs.Comes.{after, ending, looser}
 use Rattle.tb_runtime16.specs.Places.{SEARCH_AT, POINTER, WANTED, RESULT, TABLE, COUNT, SCRATCH}
 use Rattle.tb_runtime16.specs.Block.{block_part}
 use Rattle.tb_runtime16.specs.Laws.{Changes}
-use Rattle.tb_runtime16.specs.Search.{Line, table_bytes, Rising, AllWords, address_of, search_changes, Searched, SearchLaw}
+use Rattle.tb_runtime16.specs.Search.{Line, table_bytes, AreRising, numbers_in, AllWords, address_of, search_changes, Searched, SearchLaw}
 use Rattle.tb_runtime16.proofs.InMemory.{IsWord, bytes_of, value}
 use Rattle.tb_runtime16.proofs.Within.{search_part, search_in}
 use Rattle.tb_runtime16.proofs.Words.{pow2, halved}
-use Rattle.tb_runtime16.proofs.Frames.{changes_put}
+use Rattle.tb_runtime16.proofs.Frames.{changes_put, leaves_now}
 use Rattle.tb_runtime16.proofs.Pointed.{carry_at_least, carry_below}
 use Rattle.tb_runtime16.proofs.Through.{loading, comparing, subtracting, times_four, summed, difference}
 use Rattle.tb_runtime16.proofs.Tables.{cut, entry_bytes, bytes_front, bytes_back, rising_front, rising_back, words_front, words_back, other_line, address_front, address_back}
@@ -37,7 +37,7 @@ module _ (f : Setup) (fits : Fits f 2) (block : Holds block_part f.code) (lo hi 
     shown : Bytes f.code at (table_bytes es)
     from : 0x0800 ≤ at
     to : at + 4 * length es ≤ 0xa000
-    rising : Rising es
+    rising : AreRising (numbers_in es)
     words : AllWords es
     same : address_of (word_in m0 WANTED) es ≡ r
 
@@ -57,6 +57,35 @@ module _ (f : Setup) (fits : Fits f 2) (block : Holds block_part f.code) (lo hi 
     size : m COUNT ≡ length es
     part : Piece es at
     others : Changes search_changes m0 m
+
+  -- WANTED stays
+  record Wanted (m : ℕ → ℕ) : Type 0 where
+    low : m WANTED ≡ m0 WANTED
+    high : m (WANTED + 1) ≡ m0 (WANTED + 1)
+    low_small : m WANTED < 256
+    high_small : m (WANTED + 1) < 256
+
+  wanted : (m : ℕ → ℕ) → Changes search_changes m0 m → Wanted m
+  wanted m others =
+      let low : m WANTED ≡ m0 WANTED = others WANTED refl in
+      let high : m (WANTED + 1) ≡ m0 (WANTED + 1) = others (WANTED + 1) refl in
+      record { low = low; high = high; low_small = omega (arith, left.0); high_small = omega (arith, left.1) }
+
+  -- an entry in the middle: where it stands, and its number
+  record Middle (front : List Line) (e : Line) (at : ℕ) : Type 0 where
+    start : 0x0800 ≤ at + 4 * length front
+    end : at + 4 * length front + 4 ≤ 0xa000
+    low : f.code (at + 4 * length front) ≡ Some (e.0 % 256)
+    high : f.code (at + 4 * length front + 1) ≡ Some (e.0 / 256)
+    number : e.0 < 65536
+
+  middle : (front : List Line) (e : Line) (back : List Line) (at : ℕ) → Piece (front ++ (e ∷ back)) at → Middle front e at
+  middle front e back at h =
+      let to = h.to in
+      let from = h.from in
+      let whole = length-append front (e ∷ back) in
+      let shown = entry_bytes f.code (at + 4 * length front) e back (omega (arith, whole)) (bytes_back f.code at front (e ∷ back) (omega (arith, whole)) h.shown) in
+      record { start = omega arith; end = omega (arith, whole); low = shown.0; high = shown.1; number = (words_back front (e ∷ back) h.words).0 }
 
   -- the entries before one in the middle
   front_part : (front : List Line) (e : Line) (back : List Line) (at : ℕ) → Piece (front ++ (e ∷ back)) at → word_in m0 WANTED < e.0 → Piece front at
@@ -89,7 +118,7 @@ module _ (f : Setup) (fits : Fits f 2) (block : Holds block_part f.code) (lo hi 
   none : (a x y : ℕ) (n v i z c : Bool) (m : ℕ → ℕ) → Changes search_changes m0 m → None ≡ r → Comes f (view a x y n v i z c (SEARCH_AT + 0xB5) (lo ∷ hi ∷ []) m text answers) (Searched lo hi m0 text answers r) [] 2
   none a x y n v i z c m k e = subst (λ o. Comes f (view a x y n v i z c (SEARCH_AT + 0xB5) (lo ∷ hi ∷ []) m text answers) (Searched lo hi m0 text answers o) [] 2) e
       (ending f 2 fits search_part (search_in f.code block) 1 (view a x y n v i z c (SEARCH_AT + 0xB5) (lo ∷ hi ∷ []) m text answers) _ refl
-      (record { leaves = record { pc = refl; stack_is = refl; binary = refl; same_text = refl; same_answers = refl; memory = k }; number = refl }))
+      (record { leaves = leaves_now refl k; number = refl }))
 
   found : (a x y : ℕ) (n v i z c : Bool) (m : ℕ → ℕ) (e : Line) (at : ℕ) → Short m (e ∷ []) at → y ≡ m POINTER + 1 → Some e.1 ≡ r → Comes f (view a x y n v i z c (SEARCH_AT + 0xA8) (lo ∷ hi ∷ []) m text answers) (Searched lo hi m0 text answers r) [] 7
   found a x y n v i z c m e at h index s =
@@ -110,14 +139,7 @@ module _ (f : Setup) (fits : Fits f 2) (block : Holds block_part f.code) (lo hi 
       (after f 2 fits search_part (search_in f.code block) 1 (view (e.1 % 256) x y1 _ v i _ c (SEARCH_AT + 0xAB) (lo ∷ hi ∷ []) m text answers) _ _ 3 refl
       (loading f 2 fits TABLE (SEARCH_AT + 0xAF) (at + 3) (e.1 / 256) _ _ y2 _ _ _ _ _ _ m1 text answers _ _ 2 (search_in f.code block _ _ refl, (search_in f.code block _ _ refl, tt)) refl refl refl p3 (program_place (at + 3) (omega arith) (omega arith)) b.3
       (ending f 2 fits search_part (search_in f.code block) 1 (view (e.1 / 256) x y2 _ v i _ c (SEARCH_AT + 0xB1) (lo ∷ hi ∷ []) m1 text answers) _ refl
-      (record {
-        pc = refl;
-        stack_is = refl;
-        binary = refl;
-        same_text = refl;
-        same_answers = refl;
-        memory = record { result = record { low = refl; high = refl; small = small }; others = changes_put _ _ _ (RESULT + 1) _ refl (changes_put _ _ _ RESULT _ refl h.others) };
-      }))))))
+      (leaves_now refl (record { result = record { low = refl; high = refl; small = small }; others = changes_put _ _ _ (RESULT + 1) _ refl (changes_put _ _ _ RESULT _ refl h.others) })))))))
 
   last_high : (a x y : ℕ) (n v i z c : Bool) (m : ℕ → ℕ) (e : Line) (at : ℕ) → Short m (e ∷ []) at → y ≡ m POINTER → e.0 % 256 ≡ m WANTED → Comes f (view a x y n v i z c (SEARCH_AT + 0xA0) (lo ∷ hi ∷ []) m text answers) (Searched lo hi m0 text answers r) [] 11
   last_high a x y n v i z c m e at h index low =
@@ -126,8 +148,7 @@ module _ (f : Setup) (fits : Fits f 2) (block : Holds block_part f.code) (lo hi 
       let place = h.place in
       let near = h.near in
       let y1 = (y + 1) % 256 in
-      let l0 : m WANTED ≡ m0 WANTED = h.others WANTED refl in
-      let l1 : m (WANTED + 1) ≡ m0 (WANTED + 1) = h.others (WANTED + 1) refl in
+      let asked = wanted m h.others in
       let p1 : (m TABLE + 256 * m (TABLE + 1) + y1) % 65536 ≡ at + 1 = omega arith in
       let next : y1 ≡ m POINTER + 1 = omega arith in
       let load = λ (N : ℕ). λ (k : (n z : Bool) → Comes f (view (e.0 / 256) x y1 n v i z c (SEARCH_AT + 0xA3) (lo ∷ hi ∷ []) m text answers) (Searched lo hi m0 text answers r) [] N).
@@ -135,13 +156,13 @@ module _ (f : Setup) (fits : Fits f 2) (block : Holds block_part f.code) (lo hi 
       (loading f 2 fits TABLE (SEARCH_AT + 0xA1) (at + 1) (e.0 / 256) _ _ y1 _ _ _ _ _ _ m text answers _ _ N (search_in f.code block _ _ refl, (search_in f.code block _ _ refl, tt)) refl refl refl p1 (program_place (at + 1) (omega arith) (omega arith)) (entry_bytes f.code at e [] (omega arith) h.part.shown).1 (k _ _)) in
       ⊎_elim
       (λ yes. let t : eqb ((e.0 / 256 + 256 - m (WANTED + 1)) % 256) 0 ≡ true = eq-eqb _ _ (omega (arith, yes)) in
-      let num : e.0 ≡ word_in m0 WANTED = same_bytes e.0 (m0 WANTED) (m0 (WANTED + 1)) (low ∙ l0) (yes ∙ l1) in
+      let num : e.0 ≡ word_in m0 WANTED = same_bytes e.0 (m0 WANTED) (m0 (WANTED + 1)) (low ∙ asked.low) (yes ∙ asked.high) in
       load (2 + 7) (λ n z. after f 2 fits search_part (search_in f.code block) 1 (view (e.0 / 256) x y1 n v i z c (SEARCH_AT + 0xA3) (lo ∷ hi ∷ []) m text answers) _ _ 7 refl
       (rw t (found _ _ _ _ _ _ _ _ m e at h next (ap (λ b. if b then Some e.1 else None) (sym (eq-eqb e.0 (word_in m0 WANTED) num)) ∙ h.part.same)))))
-      (λ differs. let t : eqb ((e.0 / 256 + 256 - m (WANTED + 1)) % 256) 0 ≡ false = other_byte (e.0 / 256) (m (WANTED + 1)) (omega (arith, h.part.words.0)) (omega (arith, l1, left.1)) differs in
+      (λ differs. let t : eqb ((e.0 / 256 + 256 - m (WANTED + 1)) % 256) 0 ≡ false = other_byte (e.0 / 256) (m (WANTED + 1)) (omega (arith, h.part.words.0)) asked.high_small differs in
       looser f _ _ _ [] (1 + (1 + (2 + 2))) 11 (omega arith) (λ w h. h)
       (load (2 + 2) (λ n z. after f 2 fits search_part (search_in f.code block) 1 (view (e.0 / 256) x y1 n v i z c (SEARCH_AT + 0xA3) (lo ∷ hi ∷ []) m text answers) _ _ 2 refl
-      (rw t (none _ _ _ _ _ _ _ _ m h.others (sym (other_line (word_in m0 WANTED) e [] (λ x. differs (high_byte e.0 (m0 WANTED) (m0 (WANTED + 1)) left.0 left.1 x ∙ sym l1))) ∙ h.part.same))))))
+      (rw t (none _ _ _ _ _ _ _ _ m h.others (sym (other_line (word_in m0 WANTED) e [] (λ x. differs (high_byte e.0 (m0 WANTED) (m0 (WANTED + 1)) left.0 left.1 x ∙ sym asked.high))) ∙ h.part.same))))))
       (cases_eq (e.0 / 256) (m (WANTED + 1)))
     where
       high_byte : (n l h : ℕ) → l < 256 → h < 256 → n ≡ l + 256 * h → n / 256 ≡ h
@@ -155,7 +176,7 @@ module _ (f : Setup) (fits : Fits f 2) (block : Holds block_part f.code) (lo hi 
       let from = h.part.from in
       let place = h.place in
       let near = h.near in
-      let l0 : m WANTED ≡ m0 WANTED = h.others WANTED refl in
+      let asked = wanted m h.others in
       let p0 : (m TABLE + 256 * m (TABLE + 1) + m POINTER) % 65536 ≡ at = omega arith in
       let load = λ (N : ℕ). λ (k : (n z : Bool) → Comes f (view (e.0 % 256) x (m POINTER) n v i z c (SEARCH_AT + 0x9B) (lo ∷ hi ∷ []) m text answers) (Searched lo hi m0 text answers r) [] N).
       after f 2 fits search_part (search_in f.code block) 0 (view a x y n v i z c (SEARCH_AT + 0x97) (lo ∷ hi ∷ []) m text answers) _ _ (1 + N) refl
@@ -164,10 +185,10 @@ module _ (f : Setup) (fits : Fits f 2) (block : Holds block_part f.code) (lo hi 
       (λ yes. let t : eqb ((e.0 % 256 + 256 - m WANTED) % 256) 0 ≡ true = eq-eqb _ _ (omega (arith, yes)) in
       load (2 + 11) (λ n z. after f 2 fits search_part (search_in f.code block) 1 (view (e.0 % 256) x (m POINTER) n v i z c (SEARCH_AT + 0x9B) (lo ∷ hi ∷ []) m text answers) _ _ 11 refl
       (rw t (last_high _ _ _ _ _ _ _ _ m e at h refl yes))))
-      (λ differs. let t : eqb ((e.0 % 256 + 256 - m WANTED) % 256) 0 ≡ false = other_byte (e.0 % 256) (m WANTED) (omega arith) (omega (arith, l0, left.0)) differs in
+      (λ differs. let t : eqb ((e.0 % 256 + 256 - m WANTED) % 256) 0 ≡ false = other_byte (e.0 % 256) (m WANTED) (omega arith) asked.low_small differs in
       looser f _ _ _ [] (1 + (1 + (2 + 2))) 15 (omega arith) (λ w h. h)
       (load (2 + 2) (λ n z. after f 2 fits search_part (search_in f.code block) 1 (view (e.0 % 256) x (m POINTER) n v i z c (SEARCH_AT + 0x9B) (lo ∷ hi ∷ []) m text answers) _ _ 2 refl
-      (rw t (none _ _ _ _ _ _ _ _ m h.others (sym (other_line (word_in m0 WANTED) e [] (λ x. differs (low_byte e.0 (m0 WANTED) (m0 (WANTED + 1)) left.0 left.1 x ∙ sym l0))) ∙ h.part.same))))))
+      (rw t (none _ _ _ _ _ _ _ _ m h.others (sym (other_line (word_in m0 WANTED) e [] (λ x. differs (low_byte e.0 (m0 WANTED) (m0 (WANTED + 1)) left.0 left.1 x ∙ sym asked.low))) ∙ h.part.same))))))
       (cases_eq (e.0 % 256) (m WANTED))
     where
       low_byte : (n l h : ℕ) → l < 256 → h < 256 → n ≡ l + 256 * h → n % 256 ≡ l
@@ -224,29 +245,23 @@ module _ (f : Setup) (fits : Fits f 2) (block : Holds block_part f.code) (lo hi 
       let place = h.place in
       let whole = length-append front (e ∷ back) in
       let here = at + 4 * length front in
-      let start : 0x0800 ≤ here = omega arith in
-      let end : here + 4 ≤ 0xa000 = omega (arith, whole) in
-      let shown = entry_bytes f.code (at + 4 * length front) e back (omega (arith, length-append front (e ∷ back))) (bytes_back f.code at front (e ∷ back) (omega (arith, length-append front (e ∷ back))) h.part.shown) in
-      let number : e.0 < 65536 = (words_back front (e ∷ back) h.part.words).0 in
-      let l0 : m WANTED ≡ m0 WANTED = h.others WANTED refl in
-      let l1 : m (WANTED + 1) ≡ m0 (WANTED + 1) = h.others (WANTED + 1) refl in
+      let one = middle front e back at h.part in
+      let asked = wanted m h.others in
       let y1 = (y + 1) % 256 in
-      let p0 : (m TABLE + 256 * m (TABLE + 1) + y) % 65536 ≡ here = omega (arith, end, whole) in
-      let p1 : (m TABLE + 256 * m (TABLE + 1) + y1) % 65536 ≡ here + 1 = omega (arith, end, whole) in
+      let p0 : (m TABLE + 256 * m (TABLE + 1) + y) % 65536 ≡ here = omega (arith, one.end, whole) in
+      let p1 : (m TABLE + 256 * m (TABLE + 1) + y1) % 65536 ≡ here + 1 = omega (arith, one.end, whole) in
       let next_index : y1 ≡ m POINTER + 4 * length front + 1 = omega (arith, whole) in
-      let l0_small : m WANTED < 256 = omega (arith, left.0) in
-      let l1_small : m (WANTED + 1) < 256 = omega (arith, left.1) in
       let go_on = λ (N : ℕ). λ (next : (a : ℕ) (n v z : Bool) → Comes f (view a x y1 n v i z (nat_le (e.0 / 256 + bit (not (nat_le (e.0 % 256) (m WANTED)))) (m (WANTED + 1))) (SEARCH_AT + 0x80) (lo ∷ hi ∷ []) m text answers) (Searched lo hi m0 text answers r) [] N).
       after f 2 fits search_part (search_in f.code block) 0 (view a x y n v i z c (SEARCH_AT + 0x75) (lo ∷ hi ∷ []) m text answers) _ _ (1 + (2 + (1 + N))) refl
-      (comparing f 2 fits TABLE (SEARCH_AT + 0x78) here (e.0 % 256) (m WANTED) x y _ _ _ _ _ _ m text answers _ _ (2 + (1 + N)) (search_in f.code block _ _ refl, (search_in f.code block _ _ refl, tt)) refl refl refl p0 (program_place here start (omega arith)) shown.0 (λ n z.
+      (comparing f 2 fits TABLE (SEARCH_AT + 0x78) here (e.0 % 256) (m WANTED) x y _ _ _ _ _ _ m text answers _ _ (2 + (1 + N)) (search_in f.code block _ _ refl, (search_in f.code block _ _ refl, tt)) refl refl refl p0 (program_place here one.start (omega arith)) one.low (λ n z.
       after f 2 fits search_part (search_in f.code block) 1 (view (m WANTED) x y n v i z _ (SEARCH_AT + 0x7A) (lo ∷ hi ∷ []) m text answers) _ _ (1 + N) refl
-      (subtracting f 2 fits TABLE (SEARCH_AT + 0x7E) (here + 1) (e.0 / 256) (m (WANTED + 1)) x y1 _ _ _ _ _ _ m text answers _ _ N (search_in f.code block _ _ refl, (search_in f.code block _ _ refl, tt)) refl refl refl p1 (program_place (here + 1) (omega arith) (omega arith)) shown.1 next))) in
+      (subtracting f 2 fits TABLE (SEARCH_AT + 0x7E) (here + 1) (e.0 / 256) (m (WANTED + 1)) x y1 _ _ _ _ _ _ m text answers _ _ N (search_in f.code block _ _ refl, (search_in f.code block _ _ refl, tt)) refl refl refl p1 (program_place (here + 1) (omega arith) (omega arith)) one.high next))) in
       ⊎_elim
-      (λ less. let t = carry_below (m WANTED) (m (WANTED + 1)) (e.0 % 256) (e.0 / 256) l0_small l1_small (omega arith) (omega arith) (omega arith) in
+      (λ less. let t = carry_below (m WANTED) (m (WANTED + 1)) (e.0 % 256) (e.0 / 256) asked.low_small asked.high_small (omega arith) (omega arith) (omega arith) in
       looser f _ _ _ [] (1 + (1 + (2 + (1 + (1 + (3 + (21 * k + 17))))))) (6 + (7 + (21 * k + 17))) (omega arith) (λ w h. h)
       (go_on (1 + (3 + (21 * k + 17))) (λ a n v z. after f 2 fits search_part (search_in f.code block) 0 (view a x y1 n v i z (nat_le (e.0 / 256 + bit (not (nat_le (e.0 % 256) (m WANTED)))) (m (WANTED + 1))) (SEARCH_AT + 0x80) (lo ∷ hi ∷ []) m text answers) _ _ (3 + (21 * k + 17)) refl
       (rw t (halve_front k go _ _ _ _ _ _ _ _ m front e back at h size some few_front less)))))
-      (λ least. let t = carry_at_least (m WANTED) (m (WANTED + 1)) (e.0 % 256) (e.0 / 256) l0_small l1_small (omega arith) (omega arith) (omega arith) in
+      (λ least. let t = carry_at_least (m WANTED) (m (WANTED + 1)) (e.0 % 256) (e.0 / 256) asked.low_small asked.high_small (omega arith) (omega arith) (omega arith) in
       looser f _ _ _ [] (1 + (1 + (2 + (1 + (1 + (7 + (21 * k + 17))))))) (6 + (7 + (21 * k + 17))) (omega arith) (λ w h. h)
       (go_on (1 + (7 + (21 * k + 17))) (λ a n v z. after f 2 fits search_part (search_in f.code block) 0 (view a x y1 n v i z (nat_le (e.0 / 256 + bit (not (nat_le (e.0 % 256) (m WANTED)))) (m (WANTED + 1))) (SEARCH_AT + 0x80) (lo ∷ hi ∷ []) m text answers) _ _ (7 + (21 * k + 17)) refl
       (rw t (halve_back k go _ _ _ _ _ _ _ m front e back at h size next_index few_back least)))))
@@ -344,27 +359,21 @@ module _ (f : Setup) (fits : Fits f 2) (block : Holds block_part f.code) (lo hi 
       let from = h.part.from in
       let whole = length-append front (e ∷ back) in
       let here = at + 4 * length front in
-      let start : 0x0800 ≤ here = omega arith in
-      let end : here + 4 ≤ 0xa000 = omega (arith, whole) in
-      let shown = entry_bytes f.code (at + 4 * length front) e back (omega (arith, length-append front (e ∷ back))) (bytes_back f.code at front (e ∷ back) (omega (arith, length-append front (e ∷ back))) h.part.shown) in
-      let number : e.0 < 65536 = (words_back front (e ∷ back) h.part.words).0 in
-      let l0 : m WANTED ≡ m0 WANTED = h.others WANTED refl in
-      let l1 : m (WANTED + 1) ≡ m0 (WANTED + 1) = h.others (WANTED + 1) refl in
+      let one = middle front e back at h.part in
+      let asked = wanted m h.others in
       let p0 : (m POINTER + 256 * m (POINTER + 1) + 0) % 65536 ≡ here = omega arith in
       let p1 : (m POINTER + 256 * m (POINTER + 1) + 1) % 65536 ≡ here + 1 = omega arith in
-      let l0_small : m WANTED < 256 = omega (arith, left.0) in
-      let l1_small : m (WANTED + 1) < 256 = omega (arith, left.1) in
       let go_on = λ (N : ℕ). λ (next : (a : ℕ) (n v z : Bool) → Comes f (view a x 1 n v i z (nat_le (e.0 / 256 + bit (not (nat_le (e.0 % 256) (m WANTED)))) (m (WANTED + 1))) (SEARCH_AT + 0x3A) (lo ∷ hi ∷ []) m text answers) (Searched lo hi m0 text answers r) [] N).
       after f 2 fits search_part (search_in f.code block) 1 (view a x y n v i z c (SEARCH_AT + 0x2D) (lo ∷ hi ∷ []) m text answers) _ _ (1 + (2 + (1 + N))) refl
-      (comparing f 2 fits POINTER (SEARCH_AT + 0x32) here (e.0 % 256) (m WANTED) x 0 _ _ _ _ _ _ m text answers _ _ (2 + (1 + N)) (search_in f.code block _ _ refl, (search_in f.code block _ _ refl, tt)) refl refl refl p0 (program_place here start (omega arith)) shown.0 (λ n z.
+      (comparing f 2 fits POINTER (SEARCH_AT + 0x32) here (e.0 % 256) (m WANTED) x 0 _ _ _ _ _ _ m text answers _ _ (2 + (1 + N)) (search_in f.code block _ _ refl, (search_in f.code block _ _ refl, tt)) refl refl refl p0 (program_place here one.start (omega arith)) one.low (λ n z.
       after f 2 fits search_part (search_in f.code block) 1 (view (m WANTED) x 0 n v i z _ (SEARCH_AT + 0x34) (lo ∷ hi ∷ []) m text answers) _ _ (1 + N) refl
-      (subtracting f 2 fits POINTER (SEARCH_AT + 0x38) (here + 1) (e.0 / 256) (m (WANTED + 1)) x 1 _ _ _ _ _ _ m text answers _ _ N (search_in f.code block _ _ refl, (search_in f.code block _ _ refl, tt)) refl refl refl p1 (program_place (here + 1) (omega arith) (omega arith)) shown.1 next))) in
+      (subtracting f 2 fits POINTER (SEARCH_AT + 0x38) (here + 1) (e.0 / 256) (m (WANTED + 1)) x 1 _ _ _ _ _ _ m text answers _ _ N (search_in f.code block _ _ refl, (search_in f.code block _ _ refl, tt)) refl refl refl p1 (program_place (here + 1) (omega arith) (omega arith)) one.high next))) in
       ⊎_elim
-      (λ less. let t = carry_below (m WANTED) (m (WANTED + 1)) (e.0 % 256) (e.0 / 256) l0_small l1_small (omega arith) (omega arith) (omega arith) in
+      (λ less. let t = carry_below (m WANTED) (m (WANTED + 1)) (e.0 % 256) (e.0 / 256) asked.low_small asked.high_small (omega arith) (omega arith) (omega arith) in
       looser f _ _ _ [] (2 + (1 + (2 + (1 + (1 + (5 + (40 * k + 150))))))) (7 + (11 + (40 * k + 150))) (omega arith) (λ w h. h)
       (go_on (1 + (5 + (40 * k + 150))) (λ a n v z. after f 2 fits search_part (search_in f.code block) 0 (view a x 1 n v i z (nat_le (e.0 / 256 + bit (not (nat_le (e.0 % 256) (m WANTED)))) (m (WANTED + 1))) (SEARCH_AT + 0x3A) (lo ∷ hi ∷ []) m text answers) _ _ (5 + (40 * k + 150)) refl
       (rw t (lower k go _ _ _ _ _ _ _ _ m front e back at h w size some few_front less)))))
-      (λ least. let t = carry_at_least (m WANTED) (m (WANTED + 1)) (e.0 % 256) (e.0 / 256) l0_small l1_small (omega arith) (omega arith) (omega arith) in
+      (λ least. let t = carry_at_least (m WANTED) (m (WANTED + 1)) (e.0 % 256) (e.0 / 256) asked.low_small asked.high_small (omega arith) (omega arith) (omega arith) in
       looser f _ _ _ [] (2 + (1 + (2 + (1 + (1 + (11 + (40 * k + 150))))))) (7 + (11 + (40 * k + 150))) (omega arith) (λ w h. h)
       (go_on (1 + (11 + (40 * k + 150))) (λ a n v z. after f 2 fits search_part (search_in f.code block) 0 (view a x 1 n v i z (nat_le (e.0 / 256 + bit (not (nat_le (e.0 % 256) (m WANTED)))) (m (WANTED + 1))) (SEARCH_AT + 0x3A) (lo ∷ hi ∷ []) m text answers) _ _ (11 + (40 * k + 150)) refl
       (rw t (upper k go _ _ _ _ _ _ _ m front e back at h w size p place few_back least)))))
@@ -461,7 +470,7 @@ module _ (f : Setup) (fits : Fits f 2) (block : Holds block_part f.code) (lo hi 
       (λ a x y n v i z c. wide k (probes k) a x y n v i z c m es at h large most)))
       (cases_lt (length es) 64)
 
-  whole : (a x y : ℕ) (n v i z c : Bool) (es : List Line) → IsWord m0 TABLE → IsWord m0 COUNT → Bytes f.code (word_in m0 TABLE) (table_bytes es) → 0x0800 ≤ word_in m0 TABLE → word_in m0 TABLE + 4 * length es ≤ 0xa000 → word_in m0 COUNT ≡ length es → 1 ≤ length es → Rising es → AllWords es → address_of (word_in m0 WANTED) es ≡ r → Comes f (view a x y n v i z c SEARCH_AT (lo ∷ hi ∷ []) m0 text answers) (Searched lo hi m0 text answers r) [] 510
+  whole : (a x y : ℕ) (n v i z c : Bool) (es : List Line) → IsWord m0 TABLE → IsWord m0 COUNT → Bytes f.code (word_in m0 TABLE) (table_bytes es) → 0x0800 ≤ word_in m0 TABLE → word_in m0 TABLE + 4 * length es ≤ 0xa000 → word_in m0 COUNT ≡ length es → 1 ≤ length es → AreRising (numbers_in es) → AllWords es → address_of (word_in m0 WANTED) es ≡ r → Comes f (view a x y n v i z c SEARCH_AT (lo ∷ hi ∷ []) m0 text answers) (Searched lo hi m0 text answers r) [] 510
   unfolding Probe
   whole a x y n v i z c es table size shown from to count some rising words same =
       probes 9 a x y n v i z c m0 es (word_in m0 TABLE)

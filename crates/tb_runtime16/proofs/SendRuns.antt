@@ -12,6 +12,7 @@ use Rattle.tb_runtime16.specs.Places.{SEND_AT, COLUMN}
 use Rattle.tb_runtime16.specs.Block.{block_part}
 use Rattle.tb_runtime16.specs.Laws.{Back, Sent, nowhere, SendLaw}
 use Rattle.tb_runtime16.proofs.Within.{send_part, send_in}
+use Rattle.tb_runtime16.proofs.Frames.{leaves_now}
 
 -- the column behind a return, and behind another byte
 pub column_cr : (c b : ℕ) → b ≡ 13 → column_after c (b ∷ []) ≡ 0
@@ -25,7 +26,7 @@ module _ (f : Setup) (fits : Fits f 2) (block : Holds block_part f.code) (lo hi 
   count : (a x y : ℕ) (n v i z c : Bool) (m : ℕ → ℕ) → (m COLUMN + 1) % 256 ≡ column_after (m0 COLUMN) (a ∷ []) % 256 → ((a : ℕ) → a ≢ COLUMN → m a ≡ m0 a) → Comes f (view a x y n v i z c (SEND_AT + 0x9) (lo ∷ hi ∷ []) m text answers) (Back lo hi text answers (Sent nowhere m0 (a ∷ []))) (a ∷ []) 3
   count a x y n v i z c m e r =
       after f 2 fits send_part (send_in f.code block) 1 (view a x y n v i z c (SEND_AT + 0x9) (lo ∷ hi ∷ []) m text answers) _ _ 1 refl
-      (served_last f 2 fits Chrout _ _ _ _ _ refl refl refl refl (λ j. record { pc = refl; stack_is = refl; binary = refl; same_text = refl; same_answers = refl; memory = record { column = e; others = λ a s p. put_other m COLUMN _ a p ∙ r a p } }))
+      (served_last f 2 fits Chrout _ _ _ _ _ refl refl refl refl (λ j. leaves_now refl (record { column = e; others = λ a s p. put_other m COLUMN _ a p ∙ r a p })))
 
   whole : (a x y : ℕ) (n v i z c : Bool) → a < 256 → Comes f (view a x y n v i z c SEND_AT (lo ∷ hi ∷ []) m0 text answers) (Back lo hi text answers (Sent nowhere m0 (a ∷ []))) (a ∷ []) 7
   whole a x y n v i z c small =

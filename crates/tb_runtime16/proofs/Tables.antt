@@ -2,7 +2,7 @@
 use Rattle.std.proofs.Common.{◌≡◌, ◌≢◌, ℕ, zero, suc, ◌+◌, ◌*◌, ◌/◌, ◌%◌, ◌<◌, ◌≤◌, List, [], ◌∷◌, ◌++◌, length, refl, ap, ◌∙◌, subst, arith, if◌then◌else◌, eqb, Some, None}
 use Rattle.std.proofs.lemmas.Bool.{ne_eqb}
 use Rattle.tb_reaching.specs.View.{Part, Bytes}
-use Rattle.tb_runtime16.specs.Search.{Line, table_bytes, AllAbove, Rising, AllWords, address_of}
+use Rattle.tb_runtime16.specs.Search.{Line, table_bytes, IsBelowAll, AreRising, numbers_in, AllWords, address_of}
 
 -- a table cut before its entry h
 pub record Cut (es : List Line) (h : ℕ) : Type 0 where
@@ -44,19 +44,19 @@ bytes_back code at (e ∷ a) b r h =
     subst (λ n. Bytes code n (table_bytes b)) (let e : at + 4 + 4 * length a ≡ at + 4 * suc (length a) = omega arith in e) (bytes_back code (at + 4) a b (omega (arith, r)) rest)
 
 -- ---- the order
-pub above_front : (k : ℕ) (a b : List Line) → AllAbove k (a ++ b) → AllAbove k a
+pub above_front : (k : ℕ) (a b : List Line) → IsBelowAll k (numbers_in (a ++ b)) → IsBelowAll k (numbers_in a)
 above_front k [] b h = tt
 above_front k (e ∷ a) b h = (h.0, above_front k a b h.1)
 
-pub above_here : (k : ℕ) (a : List Line) (e : Line) (b : List Line) → AllAbove k (a ++ (e ∷ b)) → k < e.0
+pub above_here : (k : ℕ) (a : List Line) (e : Line) (b : List Line) → IsBelowAll k (numbers_in (a ++ (e ∷ b))) → k < e.0
 above_here k [] e b h = h.0
 above_here k (x ∷ a) e b h = above_here k a e b h.1
 
-pub rising_front : (a b : List Line) → Rising (a ++ b) → Rising a
+pub rising_front : (a b : List Line) → AreRising (numbers_in (a ++ b)) → AreRising (numbers_in a)
 rising_front [] b h = tt
 rising_front (e ∷ a) b h = (above_front e.0 a b h.0, rising_front a b h.1)
 
-pub rising_back : (a b : List Line) → Rising (a ++ b) → Rising b
+pub rising_back : (a b : List Line) → AreRising (numbers_in (a ++ b)) → AreRising (numbers_in b)
 rising_back [] b h = h
 rising_back (e ∷ a) b h = rising_back a b h.1
 
@@ -72,17 +72,17 @@ words_back (e ∷ a) b h = words_back a b h.2
 pub other_line : (t : ℕ) (e : Line) (es : List Line) → e.0 ≢ t → address_of t (e ∷ es) ≡ address_of t es
 other_line t e es h = ap (λ b. if b then Some e.1 else address_of t es) (ne_eqb e.0 t h)
 
-pub none_above : (k t : ℕ) (es : List Line) → AllAbove k es → t ≤ k → address_of t es ≡ None
+pub none_above : (k t : ℕ) (es : List Line) → IsBelowAll k (numbers_in es) → t ≤ k → address_of t es ≡ None
 none_above k t [] h l = refl
 none_above k t (e ∷ es) h l = other_line t e es (λ x. let p = h.0 in omega arith) ∙ none_above k t es h.1 l
 
 -- a number below an entry's is before it
-pub address_front : (t : ℕ) (a : List Line) (e : Line) (b : List Line) → Rising (a ++ (e ∷ b)) → t < e.0 → address_of t (a ++ (e ∷ b)) ≡ address_of t a
+pub address_front : (t : ℕ) (a : List Line) (e : Line) (b : List Line) → AreRising (numbers_in (a ++ (e ∷ b))) → t < e.0 → address_of t (a ++ (e ∷ b)) ≡ address_of t a
 address_front t [] e b h l = other_line t e b (λ x. omega arith) ∙ none_above e.0 t b h.0 (omega arith)
 address_front t (x ∷ a) e b h l = ap (λ o. if eqb x.0 t then Some x.1 else o) (address_front t a e b h.1 l)
 
 -- and any other from it on
-pub address_back : (t : ℕ) (a : List Line) (e : Line) (b : List Line) → Rising (a ++ (e ∷ b)) → e.0 ≤ t → address_of t (a ++ (e ∷ b)) ≡ address_of t (e ∷ b)
+pub address_back : (t : ℕ) (a : List Line) (e : Line) (b : List Line) → AreRising (numbers_in (a ++ (e ∷ b))) → e.0 ≤ t → address_of t (a ++ (e ∷ b)) ≡ address_of t (e ∷ b)
 address_back t [] e b h l = refl
 address_back t (x ∷ a) e b h l =
     let less = above_here x.0 a e b h.0 in

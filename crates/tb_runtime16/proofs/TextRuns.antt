@@ -21,6 +21,7 @@ use Rattle.tb_runtime16.proofs.Within.{text_part, text_in}
 use Rattle.tb_runtime16.proofs.Called.{calls}
 use Rattle.tb_runtime16.proofs.Columns.{column_same}
 use Rattle.tb_runtime16.proofs.SendRuns.{send_law}
+use Rattle.tb_runtime16.proofs.Frames.{leaves_now}
 
 module _ (f : Setup) (fits : Fits f 4) (block : Holds block_part f.code) (lo hi : ℕ) (text answers : List ℕ) (m0 : ℕ → ℕ) (all : List ℕ) where
   -- the bytes from an address on are still to be sent, and those before are
@@ -48,7 +49,7 @@ module _ (f : Setup) (fits : Fits f 4) (block : Holds block_part f.code) (lo hi 
 
   last : (a x y : ℕ) (n v i z c : Bool) (m : ℕ → ℕ) → Told m0 all m → Comes f (view a x y n v i z c (TEXT_AT + 23) (lo ∷ hi ∷ []) m text answers) (Back lo hi text answers (Told m0 all)) [] 1
   last a x y n v i z c m h = ending f 4 fits text_part (text_in f.code block) 0 (view a x y n v i z c (TEXT_AT + 23) (lo ∷ hi ∷ []) m text answers) _ refl
-      (record { pc = refl; stack_is = refl; binary = refl; same_text = refl; same_answers = refl; memory = h })
+      (leaves_now refl h)
 
   Loop : List ℕ → Type 0
   Loop bs = (a x y : ℕ) (n v i z c : Bool) (m : ℕ → ℕ) (b at : ℕ) → Still m at (b ∷ bs) → m LENGTH ≡ suc (length bs) → Comes f (view a x y n v i z c (TEXT_AT + 5) (lo ∷ hi ∷ []) m text answers) (Back lo hi text answers (Told m0 all)) (b ∷ bs) (15 * length bs + 16)

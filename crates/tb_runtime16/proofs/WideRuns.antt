@@ -14,7 +14,7 @@ use Rattle.tb_runtime16.specs.Laws.{Back, Parted}
 use Rattle.tb_runtime16.proofs.InMemory.{IsWord, holds_word}
 use Rattle.tb_runtime16.proofs.Within.{divide_part, divide_in}
 use Rattle.tb_runtime16.proofs.Words.{pow2, small_byte, carried, doubled, doubled_in, subtracted, compared, compared_less}
-use Rattle.tb_runtime16.proofs.Frames.{Frame, frame_put}
+use Rattle.tb_runtime16.proofs.Frames.{Frame, frame_put, leaves_now}
 
 pub double : (a b : ℕ) → (a + a) * b ≡ a * b + a * b
 double a b = grind arith
@@ -82,7 +82,7 @@ module _ (f : Setup) (fits : Fits f 2) (block : Holds block_part f.code) (lo hi 
 
   last : (a x y : ℕ) (n v i z c : Bool) (m : ℕ → ℕ) (q : ℕ) → Held 16 q m → Goal (view a x y n v i z c (DIVIDE_AT + 138) (lo ∷ hi ∷ []) m text answers) 1
   last a x y n v i z c m q h = ending f 2 fits divide_part (divide_in f.code block) 0 (view a x y n v i z c (DIVIDE_AT + 138) (lo ∷ hi ∷ []) m text answers) _ refl
-      (record { pc = refl; stack_is = refl; binary = refl; same_text = refl; same_answers = refl; memory = parted m q h })
+      (leaves_now refl (parted m q h))
 
   less_none : Less 0
   unfolding Less

@@ -12,6 +12,7 @@ use Rattle.tb_runtime16.proofs.Within.{zone_part, zone_in}
 use Rattle.tb_runtime16.proofs.Called.{calls}
 use Rattle.tb_runtime16.proofs.Columns.{sent_then}
 use Rattle.tb_runtime16.proofs.SendRuns.{send_law}
+use Rattle.tb_runtime16.proofs.Frames.{leaves_now}
 
 low_bits : (c : ℕ) → bit_and c 7 ≡ c % 8
 low_bits c = and_numeral c 6 refl
@@ -32,7 +33,7 @@ module _ (f : Setup) (fits : Fits f 4) (block : Holds block_part f.code) (lo hi 
       looser f _ _ _ [] (3 + 1) 4 (omega arith) (λ w h. h)
       (after f 4 fits zone_part (zone_in f.code block) 2 (view a x y n v i z c (ZONE_AT + 5) (lo ∷ hi ∷ []) m text answers) _ _ 1 refl
       (rw done (ending f 4 fits zone_part (zone_in f.code block) 0 (view _ _ _ _ _ _ _ _ (ZONE_AT + 12) (lo ∷ hi ∷ []) m text answers) _ refl
-      (record { pc = refl; stack_is = refl; binary = refl; same_text = refl; same_answers = refl; memory = h }))))
+      (leaves_now refl h))))
 
   more : (k : ℕ) → Loop k → Test (suc k)
   unfolding Test Loop

@@ -16,7 +16,7 @@ pub use Rattle.tb_runtime16.specs.Ends.{Entered}
 use Rattle.tb_runtime16.specs.Input.{prompt, Taken}
 pub use Rattle.tb_runtime16.specs.Notes.{Noted}
 use Rattle.tb_runtime16.specs.Notes.{Popped, Pushed}
-use Rattle.tb_runtime16.specs.Search.{Line, table_bytes, Rising, AllWords, search_changes}
+use Rattle.tb_runtime16.specs.Search.{Line, table_bytes, AreRising, AllWords, search_changes}
 
 -- ---- memory
 
@@ -131,7 +131,7 @@ pub record Tabled (code : Part) (table : ℕ) (numbers : List ℕ) (start : ℕ 
   pub from : 0x0800 ≤ table
   pub to : table + 4 * length numbers ≤ 0xa000
   pub some : 1 ≤ length numbers
-  pub rising : Rising (entries start numbers)
+  pub rising : AreRising numbers
   pub words : AllWords (entries start numbers)
 
 -- how many Go events a routine takes at most, by the length of the keyboard's text

@@ -1,5 +1,5 @@
 -- The line table and Search.
-use Rattle.std.specs.Prelude.{◌<◌, ◌≤◌, Bool, ℕ, List, [], ◌∷◌, ◌+◌, ◌*◌, ◌/◌, ◌%◌, ◌||◌, if◌then◌else◌, nat_eq, length, Option, Some, None}
+use Rattle.std.specs.Prelude.{◌<◌, ◌≤◌, Bool, ℕ, List, [], ◌∷◌, ◌+◌, ◌*◌, ◌/◌, ◌%◌, ◌||◌, if◌then◌else◌, nat_eq, length, map, Option, Some, None}
 use Rattle.tb_memmap.specs.Regions.{within}
 use Rattle.tb_reaching.specs.View.{View, Setup, Holds, Fits, Comes, view, Bytes}
 use Rattle.tb_runtime16.specs.Places.{SEARCH_AT, POINTER, WANTED, RESULT, TABLE, COUNT, SCRATCH}
@@ -16,15 +16,19 @@ abbrev pub table_bytes : List Line → List ℕ
 table_bytes [] = []
 table_bytes (e ∷ es) = e.0 % 256 ∷ e.0 / 256 ∷ e.1 % 256 ∷ e.1 / 256 ∷ table_bytes es
 
--- each of these lines has a number above k
-abbrev pub AllAbove : ℕ → List Line → Type 0
-AllAbove k [] = Unit {0}
-AllAbove k (e ∷ es) = (k < e.0) × AllAbove k es
+-- a number is below all of these
+abbrev pub IsBelowAll : ℕ → List ℕ → Type 0
+IsBelowAll k [] = Unit {0}
+IsBelowAll k (n ∷ ns) = (k < n) × IsBelowAll k ns
 
--- the numbers of the lines rise
-abbrev pub Rising : List Line → Type 0
-Rising [] = Unit {0}
-Rising (e ∷ es) = AllAbove e.0 es × Rising es
+-- the numbers of a list rise
+abbrev pub AreRising : List ℕ → Type 0
+AreRising [] = Unit {0}
+AreRising (n ∷ ns) = IsBelowAll n ns × AreRising ns
+
+-- the numbers of the lines of a table
+abbrev pub numbers_in : List Line → List ℕ
+numbers_in es = map (λ e. e.0) es
 
 -- numbers and addresses of the lines are below 65,536
 abbrev pub AllWords : List Line → Type 0
@@ -47,4 +51,4 @@ Searched lo hi m text answers None w = Faults lo hi text answers 1 (Changes sear
 
 -- Search gives the address of the line with the number at WANTED, or comes to Fault with 1, within 510 Go events for every table
 abbrev pub SearchLaw : Type 0
-SearchLaw = (f : Setup) → Fits f 2 → Holds block_part f.code → (lo hi : ℕ) (text answers : List ℕ) (m : ℕ → ℕ) (a x y : ℕ) (n v i z c : Bool) (number table : ℕ) (lines : List Line) → WordAt m WANTED number → WordAt m TABLE table → WordAt m COUNT (length lines) → Bytes f.code table (table_bytes lines) → 0x0800 ≤ table → table + 4 * length lines ≤ 0xa000 → 1 ≤ length lines → Rising lines → AllWords lines → Comes f (view a x y n v i z c SEARCH_AT (lo ∷ hi ∷ []) m text answers) (Searched lo hi m text answers (address_of number lines)) [] 510
+SearchLaw = (f : Setup) → Fits f 2 → Holds block_part f.code → (lo hi : ℕ) (text answers : List ℕ) (m : ℕ → ℕ) (a x y : ℕ) (n v i z c : Bool) (number table : ℕ) (lines : List Line) → WordAt m WANTED number → WordAt m TABLE table → WordAt m COUNT (length lines) → Bytes f.code table (table_bytes lines) → 0x0800 ≤ table → table + 4 * length lines ≤ 0xa000 → 1 ≤ length lines → AreRising (numbers_in lines) → AllWords lines → Comes f (view a x y n v i z c SEARCH_AT (lo ∷ hi ∷ []) m text answers) (Searched lo hi m text answers (address_of number lines)) [] 510

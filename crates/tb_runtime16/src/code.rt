@@ -2,6 +2,9 @@
 //! Each routine is a macro that puts its bytes behind those that it is given, and hands them to the next one: so one table
 //! makes the block and each routine by itself.
 //! Addresses inside the block are those of `targets`, which follow from the routines' lengths.
+ghost use Rattle.std.specs.Prelude.{◌≡◌, ◌≤◌, ◌+◌, length};
+ghost use Rattle.tb_runtime16.specs.Places.{PROLOGUE_AT, LINES_AT};
+ghost use Rattle.tb_runtime16.specs.Block.{block_bytes};
 
 use crate::places::{
     BLOCK_LENGTH, DIVIDE_LENGTH, FAULT_LENGTH, FAULT_LINE_LENGTH, INPUT_LENGTH, MULTIPLY_LENGTH,
@@ -584,8 +587,8 @@ macro_rules! array {
     };
 }
 
-/// The block: its routines one behind the other.
-pub static BLOCK: [u8; BLOCK_LENGTH] = prologue!(
+// The block: its routines one behind the other.
+static BLOCK: [u8; BLOCK_LENGTH] = prologue!(
     [] send multiply divide random number text zone input search push pop fault_line fault poll array
 );
 
@@ -619,3 +622,12 @@ pub const FAULT_LINE_BYTES: [u8; FAULT_LINE_LENGTH] = fault_line!([] array);
 pub const FAULT_BYTES: [u8; FAULT_LENGTH] = fault!([] array);
 
 pub const POLL_BYTES: [u8; POLL_LENGTH] = poll!([] array);
+
+/// The routines that every program has: the bytes from `$080D` on, which begin with the prologue's CLD and end before `$0C00`.
+/// They are the same for every program.
+pub fn block() -> &'static [u8]
+    ensures bytes { result.now ≡ block_bytes }
+    ensures fits { PROLOGUE_AT + length result.now ≤ LINES_AT }
+{
+    &BLOCK
+}

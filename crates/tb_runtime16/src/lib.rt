@@ -7,8 +7,8 @@ mod laws;
 mod places;
 mod routines;
 mod targets;
-mod whole;
 
+pub use code::block;
 pub use laws::constants_are_places;
 pub use places::{
     BLOCK_AT, BYTE, COLUMN, COUNT, HELD, HOME_S, LEFT, LENGTH, LINE, LINES_AT, NOTE_HIGH, NOTE_LOW,
@@ -20,4 +20,3 @@ pub use routines::{
     number, poll, pop, pop_none, prologue, push, push_full, random, random_range, search, send,
     text, zone,
 };
-pub use whole::block;

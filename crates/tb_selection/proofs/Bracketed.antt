@@ -4,8 +4,8 @@ use Rattle.std.specs.Prelude.{◌&&◌, nat_eq, option_map}
 use Rattle.std.proofs.lemmas.Bool.{and_parts, eqb-true}
 use Rattle.tb_words.specs.declared.Rel.{Rel}
 use Rattle.tb_syntax.specs.declared.expressions.Operator.{Operator}
-use Rattle.tb_lower.specs.Slots.{Instr, Put, Load, Store, Negate, Compute, Random, SendText, SendNumber, SendZone, SendNewline, Input, Poll, Hold, LeaveUnless, Jump, Call, JumpTo, CallTo, Return, End}
-use Rattle.tb_selection.specs.Groups.{Operand, Constant, Variable, InSlot, Home, IntoVariable, IntoHeld, Destination, IntoSlot, IntoHome, Tested, HeldBefore, HeldNow, Conversion, Negated, Drawn, Usage, Group, Calculate, Stepped, Convert, Move, Use, Test, TestGo, Divides, Remains, Single, fetch, keep, slot_of, kept, held, convert, use_of, expand, expand_all}
+use Rattle.tb_lower.specs.Slots.{Instr, Put, Load, Store, Negate, Compute, Random, Hold, LeaveUnless, JumpTo}
+use Rattle.tb_selection.specs.Groups.{Operand, Constant, Variable, InSlot, Home, IntoVariable, Destination, IntoHome, Tested, HeldBefore, HeldNow, Conversion, Negated, Drawn, Usage, Group, Calculate, Stepped, Convert, Move, Use, Test, TestGo, Single, fetch, keep, slot_of, kept, held, convert, use_of, expand, expand_all}
 use Rattle.tb_selection.specs.Liveness.{live}
 use Rattle.tb_selection.specs.Select.{alone, provided, calculate_with, operands_with, convert_with, move_with, use_with, words_with, with_word, goes_on, calculated, converted, held_before, gone, merged, omits_only_dead, may_stand, three_as_one, four_as_one, allowed, instead, fused, tried, attach, select}
 use Rattle.tb_selection.proofs.SeveralAsOne.{IsFour, IsThree, four_is, three_is}
@@ -13,25 +13,7 @@ use Rattle.tb_selection.proofs.SeveralAsOne.{IsFour, IsThree, four_is, three_is}
 -- an instruction alone is itself
 pub alone_is : (i : Instr) → expand (alone i) ≡ i ∷ []
 alone_is (Put k w) = refl
-alone_is (Load k x) = refl
-alone_is (Store x) = refl
-alone_is (Negate k) = refl
-alone_is (Compute op k) = refl
-alone_is (Random k) = refl
-alone_is (SendText t) = refl
-alone_is SendNumber = refl
-alone_is SendZone = refl
-alone_is SendNewline = refl
-alone_is (Input x) = refl
-alone_is Poll = refl
-alone_is Hold = refl
-alone_is (LeaveUnless rel) = refl
-alone_is Jump = refl
-alone_is Call = refl
-alone_is (JumpTo target) = refl
-alone_is (CallTo target) = refl
-alone_is Return = refl
-alone_is End = refl
+alone_is _ = refl
 
 -- a group that is these instructions, if it is one
 abbrev pub IsThis : List Instr → Option Group → Type 0
@@ -79,41 +61,33 @@ module _ (k : ℕ) (i : Instr) (l : Operand) (h : Fetches k i l) where
   more j is e = ap (λ j. fetch j l ++ is) (sym (eqb-true k j e)) ∙ ap (λ f. f ++ is) (fetched k i l h)
 
   calculate_is : (op : Operator) (a b : Operand) (d : Destination) → IsThis (i ∷ expand (Calculate op a b d)) (calculate_with k l op a b d)
-  calculate_is op (Constant v) b d = tt
-  calculate_is op (Variable y) b d = tt
   calculate_is op InSlot InSlot d = at_slot (nat_eq k (slot_of d + 1)) (Calculate op InSlot l d) _ (more (slot_of d + 1) (Compute op (slot_of d) ∷ kept d))
   calculate_is op InSlot (Constant v) d = at_slot (nat_eq k (slot_of d)) (Calculate op l (Constant v) d) _ (more (slot_of d) (Put (slot_of d + 1) v ∷ Compute op (slot_of d) ∷ kept d))
   calculate_is op InSlot (Variable y) d = at_slot (nat_eq k (slot_of d)) (Calculate op l (Variable y) d) _ (more (slot_of d) (Load (slot_of d + 1) y ∷ Compute op (slot_of d) ∷ kept d))
+  calculate_is op _ b d = tt
 
   stepped_is : (op : Operator) (a b : Operand) (by : Operator) (w x : ℕ) → IsThis (i ∷ expand (Stepped op a b by w x)) (option_map (λ words. Stepped op words.0 words.1 by w x) (operands_with k l a b))
-  stepped_is op (Constant v) b by w x = tt
-  stepped_is op (Variable y) b by w x = tt
   stepped_is op InSlot InSlot by w x = at_operands _ op by w x (nat_eq k 1) InSlot l (more 1 (Compute op 0 ∷ Put 1 w ∷ Compute by 0 ∷ Store x ∷ []))
   stepped_is op InSlot (Constant v) by w x = at_operands _ op by w x (nat_eq k 0) l (Constant v) (more 0 (Put 1 v ∷ Compute op 0 ∷ Put 1 w ∷ Compute by 0 ∷ Store x ∷ []))
   stepped_is op InSlot (Variable y) by w x = at_operands _ op by w x (nat_eq k 0) l (Variable y) (more 0 (Load 1 y ∷ Compute op 0 ∷ Put 1 w ∷ Compute by 0 ∷ Store x ∷ []))
+  stepped_is op _ b by w x = tt
 
   move_is : (a : Operand) (home : Home) → IsThis (i ∷ expand (Move a home)) (move_with k l a home)
   move_is InSlot home = at_slot (nat_eq k 0) (Move l home) _ (more 0 (keep home ∷ []))
-  move_is (Constant v) home = tt
-  move_is (Variable y) home = tt
+  move_is _ home = tt
 
   convert_is : (what : Conversion) (a : Operand) (d : Destination) → IsThis (i ∷ expand (Convert what a d)) (convert_with k l what a d)
   convert_is what InSlot d = at_slot (nat_eq k (slot_of d)) (Convert what l d) _ (more (slot_of d) (convert what (slot_of d) ∷ kept d))
-  convert_is what (Constant v) d = tt
-  convert_is what (Variable y) d = tt
+  convert_is what _ d = tt
 
   use_is : (how : Usage) (a : Operand) → IsThis (i ∷ expand (Use how a)) (use_with k l how a)
   use_is how InSlot = at_slot (nat_eq k 0) (Use how l) _ (more 0 (use_of how ∷ []))
-  use_is how (Constant v) = tt
-  use_is how (Variable y) = tt
+  use_is how _ = tt
 
   words_are : (rel : Rel) (behind : List Instr) (a : Tested) (b : Operand) → TestThis rel behind (i ∷ (held a ++ (fetch 0 b ++ LeaveUnless rel ∷ behind))) (words_with k l a b)
   words_are rel behind HeldBefore InSlot = at_zero rel behind _ (nat_eq k 0) HeldBefore l (more 0 (LeaveUnless rel ∷ behind))
-  words_are rel behind HeldBefore (Constant v) = tt
-  words_are rel behind HeldBefore (Variable y) = tt
   words_are rel behind (HeldNow InSlot) b = at_zero rel behind _ (nat_eq k 0) (HeldNow l) b (λ e. append_assoc (fetch 0 l) (Hold ∷ []) (fetch 0 b ++ LeaveUnless rel ∷ behind) ∙ more 0 (Hold ∷ (fetch 0 b ++ LeaveUnless rel ∷ behind)) e)
-  words_are rel behind (HeldNow (Constant v)) b = tt
-  words_are rel behind (HeldNow (Variable y)) b = tt
+  words_are rel behind _ b = tt
 
   with_is : (g : Group) → IsThis (i ∷ expand g) (with_word k l g)
   with_is (Calculate op a b d) = calculate_is op a b d
@@ -123,89 +97,26 @@ module _ (k : ℕ) (i : Instr) (l : Operand) (h : Fetches k i l) where
   with_is (Use how a) = use_is how a
   with_is (Test rel a b) = test_this rel _ (words_with k l a b) (words_are rel [] a b)
   with_is (TestGo rel a b to) = go_this rel to _ (words_with k l a b) (words_are rel (JumpTo to ∷ []) a b)
-  with_is (Divides how x d side to) = tt
-  with_is (Remains x d to) = tt
-  with_is (Single j) = tt
+  with_is _ = tt
 
 calculated_is : (op : Operator) (k : ℕ) (g : Group) → IsThis (Compute op k ∷ expand g) (calculated op k g)
 calculated_is op k (Move InSlot home) = at_slot (nat_eq k 0) (Calculate op InSlot InSlot (IntoHome home)) _ (λ e. ap (λ j. Compute op j ∷ keep home ∷ []) (sym (eqb-true k 0 e)))
-calculated_is op k (Move (Constant w) home) = tt
-calculated_is op k (Move (Variable x) home) = tt
 calculated_is op k (Calculate by InSlot (Constant w) (IntoHome (IntoVariable x))) =
     at_slot (nat_eq k 0 && goes_on by w) (Stepped op InSlot InSlot by w x) _ (λ e. ap (λ j. Compute op j ∷ Put 1 w ∷ Compute by 0 ∷ Store x ∷ []) (sym (eqb-true k 0 (and_parts (nat_eq k 0) (goes_on by w) e).0)))
-calculated_is op k (Calculate by InSlot (Constant w) (IntoHome IntoHeld)) = tt
-calculated_is op k (Calculate by InSlot (Constant w) (IntoSlot j)) = tt
-calculated_is op k (Calculate by InSlot (Variable y) d) = tt
-calculated_is op k (Calculate by InSlot InSlot d) = tt
-calculated_is op k (Calculate by (Constant v) b d) = tt
-calculated_is op k (Calculate by (Variable y) b d) = tt
-calculated_is op k (Stepped op' a b by w x) = tt
-calculated_is op k (Convert what a d) = tt
-calculated_is op k (Use how a) = tt
-calculated_is op k (Test rel a b) = tt
-calculated_is op k (TestGo rel a b to) = tt
-calculated_is op k (Divides how x d side to) = tt
-calculated_is op k (Remains x d to) = tt
-calculated_is op k (Single i) = tt
+calculated_is op k _ = tt
 
 converted_is : (what : Conversion) (k : ℕ) (g : Group) → IsThis (convert what k ∷ expand g) (converted what k g)
 converted_is what k (Move InSlot home) = at_slot (nat_eq k 0) (Convert what InSlot (IntoHome home)) _ (λ e. ap (λ j. convert what j ∷ keep home ∷ []) (sym (eqb-true k 0 e)))
-converted_is what k (Move (Constant w) home) = tt
-converted_is what k (Move (Variable x) home) = tt
-converted_is what k (Calculate op a b d) = tt
-converted_is what k (Convert what' a d) = tt
-converted_is what k (Use how a) = tt
-converted_is what k (Test rel a b) = tt
-converted_is what k (TestGo rel a b to) = tt
-converted_is what k (Stepped op a b by w x) = tt
-converted_is what k (Divides how x d side to) = tt
-converted_is what k (Remains x d to) = tt
-converted_is what k (Single i) = tt
+converted_is what k _ = tt
 
 gone_is : (rel : Rel) (g : Group) → IsThis (LeaveUnless rel ∷ expand g) (gone rel g)
 gone_is rel (Single (JumpTo to)) = refl
-gone_is rel (Single (Put k w)) = tt
-gone_is rel (Single (Load k x)) = tt
-gone_is rel (Single (Store x)) = tt
-gone_is rel (Single (Negate k)) = tt
-gone_is rel (Single (Compute op k)) = tt
-gone_is rel (Single (Random k)) = tt
-gone_is rel (Single (SendText t)) = tt
-gone_is rel (Single SendNumber) = tt
-gone_is rel (Single SendZone) = tt
-gone_is rel (Single SendNewline) = tt
-gone_is rel (Single (Input x)) = tt
-gone_is rel (Single Poll) = tt
-gone_is rel (Single Hold) = tt
-gone_is rel (Single (LeaveUnless rel')) = tt
-gone_is rel (Single Jump) = tt
-gone_is rel (Single Call) = tt
-gone_is rel (Single (CallTo target)) = tt
-gone_is rel (Single Return) = tt
-gone_is rel (Single End) = tt
-gone_is rel (Calculate op a b d) = tt
-gone_is rel (Convert what a d) = tt
-gone_is rel (Move a home) = tt
-gone_is rel (Use how a) = tt
-gone_is rel (Test rel' a b) = tt
-gone_is rel (TestGo rel' a b to) = tt
-gone_is rel (Stepped op a b by w x) = tt
-gone_is rel (Divides how x d side to) = tt
-gone_is rel (Remains x d to) = tt
+gone_is rel _ = tt
 
 held_is : (g : Group) → IsThis (Hold ∷ expand g) (held_before g)
 held_is (Test rel HeldBefore b) = refl
-held_is (Test rel (HeldNow a) b) = tt
 held_is (TestGo rel HeldBefore b to) = refl
-held_is (TestGo rel (HeldNow a) b to) = tt
-held_is (Calculate op a b d) = tt
-held_is (Convert what a d) = tt
-held_is (Use how a) = tt
-held_is (Move a home) = tt
-held_is (Stepped op a b by w x) = tt
-held_is (Divides how x d side to) = tt
-held_is (Remains x d to) = tt
-held_is (Single i) = tt
+held_is _ = tt
 
 -- a merged group is both
 pub merged_is : (i : Instr) (g : Group) → IsThis (i ∷ expand g) (merged i g)
@@ -213,22 +124,10 @@ merged_is (Put k w) g = with_is k (Put k w) (Constant w) (puts w refl) g
 merged_is (Load k x) g = with_is k (Load k x) (Variable x) (loads x refl) g
 merged_is (Compute op k) g = calculated_is op k g
 merged_is Hold g = held_is g
-merged_is (Store x) g = tt
 merged_is (Negate k) g = converted_is Negated k g
 merged_is (Random k) g = converted_is Drawn k g
-merged_is (SendText t) g = tt
-merged_is SendNumber g = tt
-merged_is SendZone g = tt
-merged_is SendNewline g = tt
-merged_is (Input x) g = tt
-merged_is Poll g = tt
 merged_is (LeaveUnless rel) g = gone_is rel g
-merged_is Jump g = tt
-merged_is Call g = tt
-merged_is (JumpTo target) g = tt
-merged_is (CallTo target) g = tt
-merged_is Return g = tt
-merged_is End g = tt
+merged_is _ g = tt
 
 alone_before : (i : Instr) (gs : List Group) → expand_all (alone i ∷ gs) ≡ i ∷ expand_all gs
 alone_before i gs = ap (λ l. l ++ expand_all gs) (alone_is i)

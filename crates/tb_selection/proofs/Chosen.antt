@@ -2,7 +2,7 @@
 use Rattle.std.proofs.Common.{◌≡◌, Bool, true, false, List, [], ◌∷◌, refl, sym, ap, ◌∙◌, arith, Option, Some, None}
 use Rattle.std.specs.Prelude.{◌&&◌, nat_le, not}
 use Rattle.std.proofs.lemmas.Bool.{and_parts, leb-true}
-use Rattle.tb_lower.specs.Slots.{Instr, Put, Load, Store, Negate, Compute, Random, SendText, SendNumber, SendZone, SendNewline, Input, Poll, Hold, LeaveUnless, Jump, Call, JumpTo, CallTo, Return, End}
+use Rattle.tb_lower.specs.Slots.{Instr, Put}
 use Rattle.tb_selection.specs.declared.liveness.Live.{Live}
 use Rattle.tb_selection.specs.Groups.{Group, expand_all}
 use Rattle.tb_selection.specs.Liveness.{live, nothing_live}
@@ -13,48 +13,12 @@ use Rattle.tb_selection.proofs.Bracketed.{brackets}
 -- an instruction alone omits nothing
 pub alone_free : (i : Instr) (r : Live) → omits_only_dead (alone i) r ≡ true
 alone_free (Put k w) r = refl
-alone_free (Load k x) r = refl
-alone_free (Store x) r = refl
-alone_free (Negate k) r = refl
-alone_free (Compute op k) r = refl
-alone_free (Random k) r = refl
-alone_free (SendText t) r = refl
-alone_free SendNumber r = refl
-alone_free SendZone r = refl
-alone_free SendNewline r = refl
-alone_free (Input x) r = refl
-alone_free Poll r = refl
-alone_free Hold r = refl
-alone_free (LeaveUnless rel) r = refl
-alone_free Jump r = refl
-alone_free Call r = refl
-alone_free (JumpTo target) r = refl
-alone_free (CallTo target) r = refl
-alone_free Return r = refl
-alone_free End r = refl
+alone_free _ r = refl
 
 -- and it may stand anywhere
 alone_stands : (i : Instr) (gs : List Group) → may_stand (alone i) gs ≡ true
 alone_stands (Put k w) gs = refl
-alone_stands (Load k x) gs = refl
-alone_stands (Store x) gs = refl
-alone_stands (Negate k) gs = refl
-alone_stands (Compute op k) gs = refl
-alone_stands (Random k) gs = refl
-alone_stands (SendText t) gs = refl
-alone_stands SendNumber gs = refl
-alone_stands SendZone gs = refl
-alone_stands SendNewline gs = refl
-alone_stands (Input x) gs = refl
-alone_stands Poll gs = refl
-alone_stands Hold gs = refl
-alone_stands (LeaveUnless r) gs = refl
-alone_stands Jump gs = refl
-alone_stands Call gs = refl
-alone_stands (JumpTo to) gs = refl
-alone_stands (CallTo to) gs = refl
-alone_stands Return gs = refl
-alone_stands End gs = refl
+alone_stands _ gs = refl
 
 -- one group in place of some
 instead_chosen : (o : Option Group) (gs others : List Group) → select (expand_all gs) ≡ gs → AreChosen gs → AreChosen others → AreChosen (instead (allowed o gs) gs others)

@@ -5,8 +5,8 @@ use Rattle.std.proofs.lemmas.Bool.{and_parts, eqb-true}
 use Rattle.tb_words.specs.declared.Rel.{Rel}
 use Rattle.tb_words.specs.declared.Rel.TheVariants as rel
 use Rattle.tb_syntax.specs.declared.expressions.Operator.TheVariants as op
-use Rattle.tb_lower.specs.Slots.{Instr, Put, Load, Store, Negate, Compute, Random, SendText, SendNumber, SendZone, SendNewline, Input, Poll, Hold, LeaveUnless, Jump, Call, JumpTo, CallTo, Return, End}
-use Rattle.tb_selection.specs.Groups.{Operand, Constant, Variable, InSlot, IntoVariable, IntoHeld, Destination, IntoSlot, IntoHome, HeldBefore, HeldNow, Divisibility, OnLeft, OnRight, Group, Calculate, Stepped, Convert, Move, Use, Test, TestGo, Divides, Remains, Single, compared, expand, slot_of}
+use Rattle.tb_lower.specs.Slots.{Instr, Load}
+use Rattle.tb_selection.specs.Groups.{Operand, Constant, Variable, InSlot, IntoHeld, Destination, IntoSlot, HeldBefore, HeldNow, Divisibility, Divisible, Indivisible, OnLeft, OnRight, Group, Calculate, Move, Test, TestGo, Divides, Remains, Single, compared, expand, slot_of}
 use Rattle.tb_selection.specs.Select.{provided, quotient_in, factor_in, difference_in, loaded_in, held_in, asked, equality_in, against_in, same_operand, multiple_of, multiple_in, divides_left, divides_right, is_shifted, remains, or_else, three_as_one, four_as_one}
 
 -- a test of slot 0 with a variable, and one of the held word with slot 0
@@ -48,186 +48,45 @@ IsAgainst g (Some t) = g ≡ against_of t.0 t.1
 IsAgainst g None = Unit {0}
 
 quotient_is : (g : Group) → IsQuotient g (quotient_in g)
-quotient_is (Calculate op.Add a b d) = tt
-quotient_is (Calculate op.Subtract a b d) = tt
-quotient_is (Calculate op.Multiply a b d) = tt
 quotient_is (Calculate op.Divide (Variable x) d (IntoSlot k)) = refl
-quotient_is (Calculate op.Divide (Variable x) d (IntoHome home)) = tt
-quotient_is (Calculate op.Divide (Constant w) b d) = tt
-quotient_is (Calculate op.Divide InSlot b d) = tt
-quotient_is (Stepped op a b by w x) = tt
-quotient_is (Convert what a d) = tt
-quotient_is (Move a home) = tt
-quotient_is (Use how a) = tt
-quotient_is (Test rel a b) = tt
-quotient_is (TestGo rel a b to) = tt
-quotient_is (Divides how x d side to) = tt
-quotient_is (Remains x d to) = tt
-quotient_is (Single i) = tt
+quotient_is _ = tt
 
 product_is : (g : Group) → IsProduct g (factor_in g)
-product_is (Calculate op.Add a b d) = tt
-product_is (Calculate op.Subtract a b d) = tt
 product_is (Calculate op.Multiply InSlot d (IntoSlot k)) = refl
-product_is (Calculate op.Multiply InSlot d (IntoHome home)) = tt
-product_is (Calculate op.Multiply (Constant w) b d) = tt
-product_is (Calculate op.Multiply (Variable x) b d) = tt
-product_is (Calculate op.Divide a b d) = tt
-product_is (Stepped op a b by w x) = tt
-product_is (Convert what a d) = tt
-product_is (Move a home) = tt
-product_is (Use how a) = tt
-product_is (Test rel a b) = tt
-product_is (TestGo rel a b to) = tt
-product_is (Divides how x d side to) = tt
-product_is (Remains x d to) = tt
-product_is (Single i) = tt
+product_is _ = tt
 
 difference_is : (g : Group) → IsDifference g (difference_in g)
-difference_is (Calculate op.Add a b d) = tt
 difference_is (Calculate op.Subtract InSlot InSlot d) = refl
-difference_is (Calculate op.Subtract InSlot (Constant w) d) = tt
-difference_is (Calculate op.Subtract InSlot (Variable x) d) = tt
-difference_is (Calculate op.Subtract (Constant w) b d) = tt
-difference_is (Calculate op.Subtract (Variable x) b d) = tt
-difference_is (Calculate op.Multiply a b d) = tt
-difference_is (Calculate op.Divide a b d) = tt
-difference_is (Stepped op a b by w x) = tt
-difference_is (Convert what a d) = tt
-difference_is (Move a home) = tt
-difference_is (Use how a) = tt
-difference_is (Test rel a b) = tt
-difference_is (TestGo rel a b to) = tt
-difference_is (Divides how x d side to) = tt
-difference_is (Remains x d to) = tt
-difference_is (Single i) = tt
+difference_is _ = tt
 
 loaded_is : (g : Group) → IsLoaded g (loaded_in g)
-loaded_is (Single (Put k w)) = tt
 loaded_is (Single (Load k x)) = refl
-loaded_is (Single (Store x)) = tt
-loaded_is (Single (Negate k)) = tt
-loaded_is (Single (Compute op k)) = tt
-loaded_is (Single (Random k)) = tt
-loaded_is (Single (SendText t)) = tt
-loaded_is (Single SendNumber) = tt
-loaded_is (Single SendZone) = tt
-loaded_is (Single SendNewline) = tt
-loaded_is (Single (Input x)) = tt
-loaded_is (Single Poll) = tt
-loaded_is (Single Hold) = tt
-loaded_is (Single (LeaveUnless rel)) = tt
-loaded_is (Single Jump) = tt
-loaded_is (Single Call) = tt
-loaded_is (Single (JumpTo target)) = tt
-loaded_is (Single (CallTo target)) = tt
-loaded_is (Single Return) = tt
-loaded_is (Single End) = tt
-loaded_is (Calculate op a b d) = tt
-loaded_is (Stepped op a b by w x) = tt
-loaded_is (Convert what a d) = tt
-loaded_is (Move a home) = tt
-loaded_is (Use how a) = tt
-loaded_is (Test rel a b) = tt
-loaded_is (TestGo rel a b to) = tt
-loaded_is (Divides how x d side to) = tt
-loaded_is (Remains x d to) = tt
+loaded_is _ = tt
 
 held_is : (g : Group) → IsHeld g (held_in g)
 held_is (Move (Variable x) IntoHeld) = refl
-held_is (Move (Variable x) (IntoVariable y)) = tt
-held_is (Move (Constant w) home) = tt
-held_is (Move InSlot home) = tt
-held_is (Calculate op a b d) = tt
-held_is (Stepped op a b by w x) = tt
-held_is (Convert what a d) = tt
-held_is (Use how a) = tt
-held_is (Test rel a b) = tt
-held_is (TestGo rel a b to) = tt
-held_is (Divides how x d side to) = tt
-held_is (Remains x d to) = tt
-held_is (Single i) = tt
+held_is _ = tt
+
+-- what follows a relation that asks for a multiple, or for none, and any other
+by_asked : (P : Rel → Option Divisibility → Type 0) → ((how : Divisibility) → P (compared how) (Some how)) → ((r : Rel) → P r None) → (r : Rel) → P r (asked r)
+by_asked P asks other rel.Eq = asks Divisible
+by_asked P asks other rel.Ne = asks Indivisible
+by_asked P asks other r = other r
 
 test_is : (g : Group) → IsTest g (equality_in g)
-test_is (Test r (HeldNow InSlot) (Variable x)) = by r
-  where
-    by : (r : Rel) → IsTest (Test r (HeldNow InSlot) (Variable x)) (option_map (λ how. (how, x, None)) (asked r))
-    by rel.Eq = refl
-    by rel.Ne = refl
-    by rel.Lt = tt
-    by rel.Gt = tt
-    by rel.Le = tt
-    by rel.Ge = tt
-test_is (TestGo r (HeldNow InSlot) (Variable x) to) = by r
-  where
-    by : (r : Rel) → IsTest (TestGo r (HeldNow InSlot) (Variable x) to) (option_map (λ how. (how, x, (Some to))) (asked r))
-    by rel.Eq = refl
-    by rel.Ne = refl
-    by rel.Lt = tt
-    by rel.Gt = tt
-    by rel.Le = tt
-    by rel.Ge = tt
-test_is (Test r (HeldNow InSlot) (Constant w)) = tt
-test_is (Test r (HeldNow InSlot) InSlot) = tt
-test_is (Test r (HeldNow (Constant w)) b) = tt
-test_is (Test r (HeldNow (Variable x)) b) = tt
-test_is (Test r HeldBefore b) = tt
-test_is (TestGo r (HeldNow InSlot) (Constant w) to) = tt
-test_is (TestGo r (HeldNow InSlot) InSlot to) = tt
-test_is (TestGo r (HeldNow (Constant w)) b to) = tt
-test_is (TestGo r (HeldNow (Variable x)) b to) = tt
-test_is (TestGo r HeldBefore b to) = tt
-test_is (Calculate op a b d) = tt
-test_is (Stepped op a b by w x) = tt
-test_is (Convert what a d) = tt
-test_is (Move a home) = tt
-test_is (Use how a) = tt
-test_is (Divides how x d side to) = tt
-test_is (Remains x d to) = tt
-test_is (Single i) = tt
+test_is (Test r (HeldNow InSlot) (Variable x)) = by_asked (λ r o. IsTest (Test r (HeldNow InSlot) (Variable x)) (option_map (λ how. (how, x, None)) o)) (λ how. refl) (λ r. tt) r
+test_is (TestGo r (HeldNow InSlot) (Variable x) to) = by_asked (λ r o. IsTest (TestGo r (HeldNow InSlot) (Variable x) to) (option_map (λ how. (how, x, (Some to))) o)) (λ how. refl) (λ r. tt) r
+test_is _ = tt
 
 against_is : (g : Group) → IsAgainst g (against_in g)
-against_is (Test r HeldBefore InSlot) = by r
-  where
-    by : (r : Rel) → IsAgainst (Test r HeldBefore InSlot) (option_map (λ how. (how, None)) (asked r))
-    by rel.Eq = refl
-    by rel.Ne = refl
-    by rel.Lt = tt
-    by rel.Gt = tt
-    by rel.Le = tt
-    by rel.Ge = tt
-against_is (TestGo r HeldBefore InSlot to) = by r
-  where
-    by : (r : Rel) → IsAgainst (TestGo r HeldBefore InSlot to) (option_map (λ how. (how, (Some to))) (asked r))
-    by rel.Eq = refl
-    by rel.Ne = refl
-    by rel.Lt = tt
-    by rel.Gt = tt
-    by rel.Le = tt
-    by rel.Ge = tt
-against_is (Test r HeldBefore (Constant w)) = tt
-against_is (Test r HeldBefore (Variable x)) = tt
-against_is (Test r (HeldNow a) b) = tt
-against_is (TestGo r HeldBefore (Constant w) to) = tt
-against_is (TestGo r HeldBefore (Variable x) to) = tt
-against_is (TestGo r (HeldNow a) b to) = tt
-against_is (Calculate op a b d) = tt
-against_is (Stepped op a b by w x) = tt
-against_is (Convert what a d) = tt
-against_is (Move a home) = tt
-against_is (Use how a) = tt
-against_is (Divides how x d side to) = tt
-against_is (Remains x d to) = tt
-against_is (Single i) = tt
+against_is (Test r HeldBefore InSlot) = by_asked (λ r o. IsAgainst (Test r HeldBefore InSlot) (option_map (λ how. (how, None)) o)) (λ how. refl) (λ r. tt) r
+against_is (TestGo r HeldBefore InSlot to) = by_asked (λ r o. IsAgainst (TestGo r HeldBefore InSlot to) (option_map (λ how. (how, (Some to))) o)) (λ how. refl) (λ r. tt) r
+against_is _ = tt
 
 operand_is : (a b : Operand) → same_operand a b ≡ true → a ≡ b
 operand_is (Constant v) (Constant w) e = ap Constant (eqb-true v w e)
 operand_is (Variable x) (Variable y) e = ap Variable (eqb-true x y e)
-operand_is (Constant v) (Variable y) e = cc
-operand_is (Constant v) InSlot e = cc
-operand_is (Variable x) (Constant w) e = cc
-operand_is (Variable x) InSlot e = cc
-operand_is InSlot b e = cc
+operand_is _ _ e = cc
 
 -- ── a multiple ──
 -- two groups are the quotient of a variable and that times the divisor
@@ -246,8 +105,7 @@ multiple_is a b = by (quotient_in a) (factor_in b) (quotient_is a) (product_is b
             let p = and_parts (nat_eq q.0 f.0) (same_operand q.2 f.1) e in
             (ea, eb ∙ (λ i. Calculate op.Multiply InSlot (sym (operand_is q.2 f.1 p.1) i) (IntoSlot (sym (eqb-true q.0 f.0 p.0) i))))
         go false e = tt
-    by (Some q) None ea eb = tt
-    by None f ea eb = tt
+    by _ _ ea eb = tt
 
 -- ── the one ──
 -- a group, if there is one, has the slot instructions of three, or of four
@@ -295,8 +153,7 @@ three_is a b c = by (multiple_in a b) (equality_in c) (multiple_is a b) (test_is
             let et : c ≡ test_of t.0 m.1 t.2 = ec ∙ ap (λ x. test_of t.0 x t.2) (sym (eqb-true m.1 t.1 p.1)) in
             left_expanded t.0 m.1 m.2 t.2 is ∙ (λ i. expand (sym ea i) ++ (expand (sym eb i) ++ (expand (sym et i) ++ is)))
         go false e = tt
-    by (Some m) None es ec = tt
-    by None t es ec = tt
+    by _ _ es ec = tt
 
 right_is : (a b c e : Group) → IsFour a b c e (divides_right (held_in a) (multiple_in b c) (against_in e))
 right_is a b c e = by (held_in a) (multiple_in b c) (against_in e) (held_is a) (multiple_is b c) (against_is e)
@@ -313,9 +170,7 @@ right_is a b c e = by (held_in a) (multiple_in b c) (against_in e) (held_is a) (
             let ec : c ≡ Calculate op.Multiply InSlot m.2 (IntoSlot 0) = es.1 ∙ ap (λ k. Calculate op.Multiply InSlot m.2 (IntoSlot k)) zero in
             right_expanded t.0 m.1 m.2 t.1 is ∙ (λ i. expand (sym eh i) ++ (expand (sym eb i) ++ (expand (sym ec i) ++ (expand (sym ee i) ++ is))))
         go false q = tt
-    by (Some x) (Some m) None ea es ee = tt
-    by (Some x) None t ea es ee = tt
-    by None m t ea es ee = tt
+    by _ _ _ ea es ee = tt
 
 rest_is : (a b c e : Group) → IsFour a b c e (remains (loaded_in a) (multiple_in b c) (difference_in e))
 rest_is a b c e = by (loaded_in a) (multiple_in b c) (difference_in e) (loaded_is a) (multiple_is b c) (difference_is e)
@@ -335,9 +190,7 @@ rest_is a b c e = by (loaded_in a) (multiple_in b c) (difference_in e) (loaded_i
             let ec : c ≡ Calculate op.Multiply InSlot m.2 (IntoSlot (slot_of d + 1)) = es.1 ∙ ap (λ k. Calculate op.Multiply InSlot m.2 (IntoSlot k)) next in
             rest_expanded m.1 m.2 d is ∙ (λ i. expand (sym el i) ++ (expand (sym eb i) ++ (expand (sym ec i) ++ (expand (sym ee i) ++ is))))
         go false q = tt
-    by (Some l) (Some m) None ea es ee = tt
-    by (Some l) None d ea es ee = tt
-    by None m d ea es ee = tt
+    by _ _ _ ea es ee = tt
 
 pub four_is : (a b c e : Group) → IsFour a b c e (four_as_one a b c e)
 four_is a b c e = by (divides_right (held_in a) (multiple_in b c) (against_in e)) (right_is a b c e)

@@ -9,13 +9,12 @@ use Rattle.tb_opcodes.specs.declared.Mode.{Mode}
 use Rattle.tb_opcodes.specs.declared.Mode.TheVariants.{Absolute, Relative, ZeroPage}
 use Rattle.tb_opcodes.specs.Opcodes.{rows, find_opcode, encoded}
 use Rattle.tb_words.specs.declared.Rel.{Rel}
-use Rattle.tb_words.specs.declared.Rel.TheVariants.{Eq, Lt, Gt, Le, Ge, Ne}
 use Rattle.tb_syntax.specs.declared.expressions.Operator.{Operator}
 use Rattle.tb_syntax.specs.declared.expressions.Operator.TheVariants.{Add, Subtract, Multiply, Divide}
 use Rattle.tb_asm.specs.declared.items.Operand.TheVariants.{Byte, Word}
 use Rattle.tb_asm.specs.Layout.{Entry, instr, label, bytes, word, suits, has_mode}
 use Rattle.tb_meaning.specs.Control.{has_line}
-use Rattle.tb_lower.specs.Slots.{Instr, Put, Load, Store, Negate, Compute, Random, SendText, SendNumber, SendZone, SendNewline, Input, Poll, Hold, LeaveUnless, Jump, Call, JumpTo, CallTo, Return, End, SlotCode}
+use Rattle.tb_lower.specs.Slots.{Instr, Load, JumpTo, CallTo, SlotCode}
 use Rattle.tb_selection.specs.Groups.{Conversion, Negated, Drawn, Usage, AsNumber, AsLine, AsSubroutine, Constant, Variable, Divisibility, Divisible, Indivisible, Group, Calculate, Stepped, Convert, Move, Use, Test, TestGo, Divides, Remains, Single, contrary, denied, slot_of}
 use Rattle.tb_selection.specs.Select.{select}
 use Rattle.tb_runtime16.specs.Places.{LEFT, RIGHT, RESULT, LINE, MULTIPLY_AT, DIVIDE_AT, RANDOM_AT}
@@ -29,12 +28,12 @@ use Rattle.tb_templates.specs.Scaled.{scaling, times, shifts, shifted}
 use Rattle.tb_templates.specs.InPlace.{Change, Increment, Decrement, Raise, Lower, Halve, Double, change_of, changed}
 use Rattle.tb_templates.specs.Masks.{mask}
 use Rattle.tb_templates.proofs.Divided.{asked_rest_plain, left_over_plain}
-use Rattle.tb_templates.specs.Orders.{Side, Below, NotBelow, Order, BySign, ByConstant, ByDifference, lifted, order_of, ordered_by, signed, unless_carry, unless_negative, wanted_side, weighed}
+use Rattle.tb_templates.specs.Orders.{Side, Below, NotBelow, Order, BySign, ByConstant, ByDifference, lifted, ordered_by, signed, unless_carry, unless_negative, wanted_side, weighed}
 use Rattle.tb_templates.specs.Program.{rest_code, list_code, line_code, lines_code, past_code, find_code, rows_code, table_code, program_code, still_asking}
 use Rattle.tb_templates.specs.Breaks.{polled, broken, all_broken, ends_away, done_behind, left_behind}
 use Rattle.tb_settling.specs.Settled.{may_move}
 use Rattle.tb_syntax.specs.Source.{numbers}
-use Rattle.tb_templates.proofs.Listed.{by_poll}
+use Rattle.tb_templates.proofs.Listed.{by_poll, tested_by}
 use Rattle.tb_templates.proofs.Plain.{has_form, lifted_plain, plain_forms, times_plain, shifted_plain}
 
 -- ── forms ──
@@ -96,26 +95,10 @@ call_forms ns n i to true e = rw e refl
 call_forms ns n i to false e = rw e refl
 
 template_forms : (ns : List ℕ) (n i : ℕ) (c : Instr) → list_all has_form (template ns n i c) ≡ true
-template_forms ns n i (Put k w) = refl
 template_forms ns n i (Load k x) = copied_forms (var_at x) (slot_at k)
-template_forms ns n i (Store x) = refl
-template_forms ns n i (Negate k) = refl
-template_forms ns n i (Compute op k) = refl
-template_forms ns n i (Random k) = refl
-template_forms ns n i (SendText bs) = refl
-template_forms ns n i SendNumber = refl
-template_forms ns n i SendZone = refl
-template_forms ns n i SendNewline = refl
-template_forms ns n i (Input x) = refl
-template_forms ns n i Poll = refl
-template_forms ns n i Hold = refl
-template_forms ns n i (LeaveUnless rel) = refl
-template_forms ns n i Jump = refl
-template_forms ns n i Call = refl
 template_forms ns n i (JumpTo to) = jump_forms ns n to (has_line ns to) refl
 template_forms ns n i (CallTo to) = call_forms ns n i to (has_line ns to) refl
-template_forms ns n i Return = refl
-template_forms ns n i End = refl
+template_forms ns n i _ = refl
 
 single_forms : (t : Bool) (ns : List ℕ) (n i : ℕ) (c : Instr) → list_all has_form (if t then constant n LINE ++ template ns n i c else template ns n i c) ≡ true
 single_forms true ns n i c = template_forms ns n i c
@@ -221,12 +204,8 @@ ordered_forms (ByConstant side a w) wanted skip next =
 ordered_forms (ByDifference a b) wanted skip next = weighed_forms wanted a b skip next
 
 tested_forms : (rel : Rel) (a b : Source) (skip next : Target) → list_all has_form (tested rel a b skip next) ≡ true
-tested_forms Eq a b skip next = equal_forms a b next
-tested_forms Ne a b skip next = unequal_forms a b skip next
-tested_forms Lt a b skip next = ordered_forms (order_of a b) Below skip next
-tested_forms Ge a b skip next = ordered_forms (order_of a b) NotBelow skip next
-tested_forms Gt a b skip next = ordered_forms (order_of b a) Below skip next
-tested_forms Le a b skip next = ordered_forms (order_of b a) NotBelow skip next
+tested_forms rel a b skip next =
+    tested_by (λ es. list_all has_form es ≡ true) skip next (λ a b. equal_forms a b next) (λ a b. unequal_forms a b skip next) (λ order side. ordered_forms order side skip next) rel a b
 
 gone_forms : (n : ℕ) (rel : Rel) (a b : Source) (skip next : Target) (t : Bool) (to : ℕ) → list_all has_form (gone n rel a b skip next t to) ≡ true
 gone_forms n rel a b skip next true to = tested_forms (denied rel) a b skip (Line to)

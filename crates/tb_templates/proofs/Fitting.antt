@@ -10,7 +10,6 @@ use Rattle.tb_opcodes.specs.declared.Mode.TheVariants.{Absolute, ZeroPage}
 use Rattle.tb_asm.specs.declared.items.Operand.TheVariants.{Byte, Word}
 use Rattle.tb_asm.specs.Layout.{Entry, instr}
 use Rattle.tb_words.specs.declared.Rel.{Rel}
-use Rattle.tb_words.specs.declared.Rel.TheVariants.{Eq, Lt, Gt, Le, Ge, Ne}
 use Rattle.tb_syntax.specs.declared.expressions.Operator.{Operator}
 use Rattle.tb_syntax.specs.declared.expressions.Operator.TheVariants.{Add, Subtract, Multiply, Divide}
 use Rattle.tb_syntax.specs.Source.{Expression, Number, Variable, Binary, Item, Text, Value, Zone, Command, Let, Print, If, Goto, Gosub, Remark, Program}
@@ -19,7 +18,7 @@ use Rattle.tb_meaning.specs.Control.{has_line}
 use Rattle.tb_meaning.specs.Cost.{nodes, item_cost, command_cost, cost}
 use Rattle.tb_lower.specs.Lowered.{value_code, or_constant, target_code, item_code, items_code, inputs_code, newline_code, command_code, program_code}
 use Rattle.tb_meaning.specs.Values.{constant}
-use Rattle.tb_lower.specs.Slots.{Instr, Put, Load, Store, Negate, Compute, Random, SendText, SendNumber, SendZone, SendNewline, Input, Poll, Hold, LeaveUnless, Jump, Call, JumpTo, CallTo, Return, End}
+use Rattle.tb_lower.specs.Slots.{Instr, Put, Load, Store, Negate, Compute, Random, SendNumber, Hold, LeaveUnless, Jump, Call, JumpTo, CallTo}
 use Rattle.tb_selection.specs.Groups.{Conversion, Negated, Drawn, Usage, AsNumber, AsLine, AsSubroutine, Constant, Variable as OfVariable, InSlot, Operand, Divisibility, Group, Calculate, Stepped, Convert, Move, Use, Test, TestGo, OnLeft, OnRight, Divides, Remains, Single, compared, contrary, multiple, onward, Home, IntoVariable, IntoHeld, slot_of, fetch, keep, kept, held, convert, use_of, denied, expand, expand_all}
 use Rattle.tb_selection.specs.Select.{select}
 use Rattle.tb_selection.proofs.Bracketed.{brackets}
@@ -31,7 +30,7 @@ use Rattle.tb_templates.specs.Templates.{branch, const, next_line, call, copied,
 use Rattle.tb_templates.specs.Sources.{Source, FixedWord, AtPlace, source_of, tested_source, home_at, destination_at}
 use Rattle.tb_templates.specs.GroupTemplates.{low_of, high_of, brought, joined, handed, multiplied, divided, calculated, computed, changed_or, converted, used, equal, unequal, tested, gone, group_template, lined, may_be_zero, may_have_none, told, remainder, left_over as beyond, unless, divided_by, divided_gone, divides, asked_rest, signed_rest, remains}
 use Rattle.tb_templates.specs.Masks.{mask}
-use Rattle.tb_templates.specs.Orders.{Side, Below, NotBelow, Order, BySign, ByConstant, ByDifference, order_of, ordered_by}
+use Rattle.tb_templates.specs.Orders.{Side, Order, BySign, ByConstant, ByDifference, ordered_by}
 use Rattle.tb_templates.specs.Scaled.{at_zero, rounded, raised, halved, halvings, high_first, shifts, shifted, by_bit, by_bits, bits_size, is_factor, scaling, low_first, times}
 use Rattle.tb_templates.specs.InPlace.{Change, Increment, Decrement, Raise, Lower, Halve, Double, change_of, changed}
 use Rattle.tb_templates.specs.Breaks.{polled}
@@ -39,7 +38,7 @@ use Rattle.tb_templates.specs.Program.{rest_code, list_code}
 use Rattle.tb_settling.specs.Settled.{most_of, most}
 use Rattle.tb_settling.proofs.Forms.{most_append}
 use Rattle.tb_templates.specs.Sizes.{room, list_room, lines_room, rest_room, items_cost, AreApart, IsSpaced, AreSpaced}
-use Rattle.tb_templates.proofs.Listed.{by_poll}
+use Rattle.tb_templates.proofs.Listed.{by_poll, tested_by}
 use Rattle.tb_templates.proofs.Factors.{IsScaling, by_right, by_left, by_routine, scaling_is, IsShifting, by_shifts, by_call, shifting_is}
 
 list_append : (xs ys : List Instr) → list_room (xs ++ ys) ≡ list_room xs + list_room ys
@@ -67,26 +66,10 @@ call_fits ns seed n i to true e = rw e (omega arith)
 call_fits ns seed n i to false e = rw e (omega arith)
 
 single_fits : (ns : List ℕ) (seed n i : ℕ) (c : Instr) → most (group_template ns seed n i (Single c)) ≤ room c
-single_fits ns seed n i (Put k w) = omega arith
 single_fits ns seed n i (Load k x) = copied_fits (var_at x) (slot_at k)
-single_fits ns seed n i (Store x) = omega arith
-single_fits ns seed n i (Negate k) = omega arith
-single_fits ns seed n i (Compute op k) = omega arith
-single_fits ns seed n i (Random k) = omega arith
-single_fits ns seed n i (SendText bs) = omega arith
-single_fits ns seed n i SendNumber = omega arith
-single_fits ns seed n i SendZone = omega arith
-single_fits ns seed n i SendNewline = omega arith
-single_fits ns seed n i (Input x) = omega arith
-single_fits ns seed n i Poll = omega arith
-single_fits ns seed n i Hold = omega arith
-single_fits ns seed n i (LeaveUnless rel) = omega arith
-single_fits ns seed n i Jump = omega arith
-single_fits ns seed n i Call = omega arith
 single_fits ns seed n i (JumpTo to) = jump_fits ns seed n i to (has_line ns to) refl
 single_fits ns seed n i (CallTo to) = call_fits ns seed n i to (has_line ns to) refl
-single_fits ns seed n i Return = omega arith
-single_fits ns seed n i End = omega arith
+single_fits ns seed n i _ = omega arith
 
 -- ── a group ──
 low_most : (m : Mnemonic) (a : Source) → most_of (low_of m a) ≤ 3
@@ -217,12 +200,8 @@ ordered_fits (ByDifference a b) wanted skip next =
     let l = low_most Lda a in let h = high_most Lda a in let p = low_most Cmp b in let q = high_most Sbc b in omega (arith, l, h, p, q)
 
 tested_fits : (rel : Rel) (a b : Source) (skip next : Target) → most (tested rel a b skip next) ≤ 24
-tested_fits Eq a b skip next = equal_fits a b next
-tested_fits Ne a b skip next = unequal_fits a b skip next
-tested_fits Lt a b skip next = ordered_fits (order_of a b) Below skip next
-tested_fits Ge a b skip next = ordered_fits (order_of a b) NotBelow skip next
-tested_fits Gt a b skip next = ordered_fits (order_of b a) Below skip next
-tested_fits Le a b skip next = ordered_fits (order_of b a) NotBelow skip next
+tested_fits rel a b skip next =
+    tested_by (λ es. most es ≤ 24) skip next (λ a b. equal_fits a b next) (λ a b. unequal_fits a b skip next) (λ order side. ordered_fits order side skip next) rel a b
 
 gone_fits : (n : ℕ) (rel : Rel) (a b : Source) (skip next : Target) (t : Bool) (to : ℕ) → most (gone n rel a b skip next t to) ≤ 33
 gone_fits n rel a b skip next true to = let h = tested_fits (denied rel) a b skip (Line to) in omega (arith, h)

@@ -5,13 +5,12 @@ use Rattle.std.proofs.lemmas.Bool.Decides.{nat_tests}
 use Rattle.tb_opcodes.specs.declared.Mnemonic.{Mnemonic}
 use Rattle.tb_opcodes.specs.declared.Mnemonic.TheVariants.{Adc, Sbc}
 use Rattle.tb_words.specs.declared.Rel.{Rel}
-use Rattle.tb_words.specs.declared.Rel.TheVariants.{Eq, Lt, Gt, Le, Ge, Ne}
 use Rattle.tb_syntax.specs.declared.expressions.Operator.{Operator}
 use Rattle.tb_syntax.specs.declared.expressions.Operator.TheVariants.{Add, Subtract, Multiply, Divide}
 use Rattle.tb_syntax.specs.Source.{numbers}
 use Rattle.tb_asm.specs.Layout.{Entry}
 use Rattle.tb_meaning.specs.Control.{At, has_line, next_after}
-use Rattle.tb_lower.specs.Slots.{Instr, Put, Load, Store, Negate, Compute, Random, SendText, SendNumber, SendZone, SendNewline, Input, Poll, Hold, LeaveUnless, Jump, Call, JumpTo, CallTo, Return, End, SlotCode}
+use Rattle.tb_lower.specs.Slots.{Instr, SendText, JumpTo, CallTo, Return, SlotCode}
 use Rattle.tb_selection.specs.Groups.{Conversion, Negated, Drawn, Usage, AsNumber, AsLine, AsSubroutine, Constant, Variable, Divisibility, Group, Calculate, Stepped, Convert, Move, Use, Test, TestGo, Divides, Remains, Single, contrary, denied, slot_of}
 use Rattle.tb_selection.specs.Select.{select}
 use Rattle.tb_runtime16.specs.Places.{LEFT, RIGHT, RESULT, LINE, MULTIPLY_AT, DIVIDE_AT, RANDOM_AT}
@@ -27,10 +26,10 @@ use Rattle.tb_templates.specs.Scaled.{scaling, times, shifts, shifted}
 use Rattle.tb_templates.specs.InPlace.{Change, Increment, Decrement, Raise, Lower, Halve, Double, change_of, changed}
 use Rattle.tb_templates.specs.Masks.{mask}
 use Rattle.tb_templates.proofs.Divided.{asked_rest_plain, copied_plain, left_over_plain}
-use Rattle.tb_templates.specs.Orders.{Side, Below, NotBelow, Order, BySign, ByConstant, ByDifference, lifted, order_of, ordered_by, signed, unless_carry, wanted_side, weighed}
+use Rattle.tb_templates.specs.Orders.{Side, Order, BySign, ByConstant, ByDifference, lifted, ordered_by, signed, unless_carry, wanted_side, weighed}
 use Rattle.tb_templates.specs.Program.{rest_code, list_code, line_code, lines_code, past_code, find_code, rows_code, table_code, program_code, AreCodable, RisingFrom, first_of, AreInTurn, still_asking}
 use Rattle.tb_templates.specs.Breaks.{polled, all_broken, ends_away, done_behind, left_behind}
-use Rattle.tb_templates.proofs.Listed.{by_poll}
+use Rattle.tb_templates.proofs.Listed.{tested_by, by_poll}
 use Rattle.tb_templates.proofs.Plain.{lifted_plain, plain_rises, times_plain, shifted_plain}
 use Rattle.tb_templates.proofs.Ranged.{selected_few}
 use Rattle.tb_templates.proofs.Rising.{key_of, base, break_base, line_key, inside_key, Rising, rising_append, rising_lower}
@@ -92,12 +91,8 @@ module _ (low high : ℕ) (skip : Target) (above : low ≤ key_of (label_of skip
   ordered_rises up (ByDifference a b) wanted next = weighed_rises wanted a b next
 
   tested_rises : (up : low ≤ high) (rel : Rel) (a b : Source) (next : Target) → Rising low (tested rel a b skip next) high
-  tested_rises up Eq a b next = equal_rises low high up a b next
-  tested_rises up Ne a b next = unequal_rises a b next
-  tested_rises up Lt a b next = ordered_rises up (order_of a b) Below next
-  tested_rises up Ge a b next = ordered_rises up (order_of a b) NotBelow next
-  tested_rises up Gt a b next = ordered_rises up (order_of b a) Below next
-  tested_rises up Le a b next = ordered_rises up (order_of b a) NotBelow next
+  tested_rises up rel a b next =
+      tested_by (λ es. Rising low es high) skip next (λ a b. equal_rises low high up a b next) (λ a b. unequal_rises a b next) (λ order side. ordered_rises up order side next) rel a b
 
 handed_rises : (low high : ℕ) (routine from : ℕ) (a b : Source) (to : ℕ) → low ≤ high → Rising low (handed routine from a b to) high
 handed_rises low high routine from a b to up =
@@ -160,26 +155,11 @@ module _ (ns : List ℕ) (seed n i : ℕ) (small : n < 65536) (index : i < 65536
   call_rises to false = up
 
   template_rises : (c : Instr) → Rising (base n i) (template ns n i c) (base n (i + 1))
-  template_rises (Put k w) = up
-  template_rises (Load k x) = up
-  template_rises (Store x) = up
-  template_rises (Negate k) = up
-  template_rises (Compute op k) = up
-  template_rises (Random k) = up
   template_rises (SendText bs) = (let t = keyed inner.Text in omega (arith, t), (let t = keyed inner.Text in let u = keyed inner.Behind in omega (arith, t, u), let u = keyed inner.Behind in omega (arith, u)))
-  template_rises SendNumber = up
-  template_rises SendZone = up
-  template_rises SendNewline = up
-  template_rises (Input x) = up
-  template_rises Poll = up
-  template_rises Hold = up
-  template_rises (LeaveUnless rel) = up
-  template_rises Jump = up
-  template_rises Call = up
   template_rises (JumpTo to) = jump_rises ns n to (base n i) (base n (i + 1)) (has_line ns to) refl up
   template_rises (CallTo to) = call_rises to (has_line ns to)
   template_rises Return = (let u = keyed inner.Behind in omega (arith, u), let u = keyed inner.Behind in omega (arith, u))
-  template_rises End = up
+  template_rises _ = up
 
   single_rises : (t : Bool) (c : Instr) → Rising (base n i) (if t then constant n LINE ++ template ns n i c else template ns n i c) (base n (i + 1))
   single_rises true c = template_rises c

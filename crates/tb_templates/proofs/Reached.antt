@@ -7,7 +7,6 @@ use Rattle.tb_opcodes.specs.declared.Mnemonic.{Mnemonic}
 use Rattle.tb_opcodes.specs.declared.Mnemonic.TheVariants.{Adc, Cmp, Lda, Sbc, Sta}
 use Rattle.tb_opcodes.specs.declared.Mode.TheVariants.{Absolute, ZeroPage}
 use Rattle.tb_words.specs.declared.Rel.{Rel}
-use Rattle.tb_words.specs.declared.Rel.TheVariants.{Eq, Lt, Gt, Le, Ge, Ne}
 use Rattle.tb_syntax.specs.declared.expressions.Operator.{Operator}
 use Rattle.tb_syntax.specs.declared.expressions.Operator.TheVariants.{Add, Subtract, Multiply, Divide}
 use Rattle.tb_asm.specs.declared.names.Name.{Name}
@@ -16,7 +15,7 @@ use Rattle.tb_asm.specs.declared.items.Operand.TheVariants.{Byte, Word}
 use Rattle.tb_asm.specs.Layout.{Entry, instr, size, size_of, address_in}
 use Rattle.tb_asm.specs.Settle.{unknown_fault}
 use Rattle.tb_meaning.specs.Control.{At, has_line, next_after}
-use Rattle.tb_lower.specs.Slots.{Instr, Put, Load, Store, Negate, Compute, Random, SendText, SendNumber, SendZone, SendNewline, Input, Poll, Hold, LeaveUnless, Jump, Call, JumpTo, CallTo, Return, End, SlotCode}
+use Rattle.tb_lower.specs.Slots.{Instr, Put, Load, SendText, SendZone, SendNewline, Input, Poll, JumpTo, CallTo, Return, End, SlotCode}
 use Rattle.tb_selection.specs.Groups.{Conversion, Negated, Drawn, Usage, AsNumber, AsLine, AsSubroutine, Constant, Variable, Divisibility, Group, Calculate, Stepped, Convert, Move, Use, Test, TestGo, Divides, Remains, Single, contrary, denied, slot_of}
 use Rattle.tb_selection.specs.Select.{select}
 use Rattle.tb_syntax.specs.Source.{numbers}
@@ -33,11 +32,11 @@ use Rattle.tb_templates.specs.Scaled.{scaling, times, shifts, shifted}
 use Rattle.tb_templates.specs.InPlace.{Change, Increment, Decrement, Raise, Lower, Halve, Double, change_of, changed}
 use Rattle.tb_templates.specs.Masks.{mask}
 use Rattle.tb_templates.proofs.Divided.{asked_rest_plain, left_over_plain}
-use Rattle.tb_templates.specs.Orders.{Side, Below, NotBelow, Order, BySign, ByConstant, ByDifference, lifted, order_of, ordered_by, unless_carry, wanted_side, weighed}
+use Rattle.tb_templates.specs.Orders.{Side, Order, BySign, ByConstant, ByDifference, lifted, ordered_by, unless_carry, wanted_side, weighed}
 use Rattle.tb_templates.specs.Program.{rest_code, list_code, line_code, lines_code, past_code, find_code, rows_code, table_code, block_code, program_code, still_asking}
 use Rattle.tb_templates.specs.Breaks.{polled, all_broken, ends_away, done_behind, left_behind}
 use Rattle.tb_settling.specs.Settled.{AllKnown}
-use Rattle.tb_templates.proofs.Listed.{by_poll}
+use Rattle.tb_templates.proofs.Listed.{tested_by, by_poll}
 use Rattle.tb_templates.proofs.Plain.{lifted_plain, plain_known, times_plain, shifted_plain}
 
 -- ── lists one behind the other ──
@@ -145,24 +144,16 @@ module _ (labels : List (Name × ℕ)) (ns : List ℕ) (known : Known labels ns)
   template_known : (n i a : ℕ) (c : Instr) → LabelsAt labels a (template ns n i c) → AllKnown labels (template ns n i c)
   template_known n i a (Put k w) h = (refl ▹ refl ▹ refl ▹ refl ▹ tt)
   template_known n i a (Load k x) h = copied_known (var_at x) (slot_at k)
-  template_known n i a (Store x) h = tt
-  template_known n i a (Negate k) h = tt
-  template_known n i a (Compute op k) h = tt
-  template_known n i a (Random k) h = tt
   template_known n i a (SendText bs) h = text_known n i a bs h
-  template_known n i a SendNumber h = tt
   template_known n i a SendZone h = (refl ▹ tt)
   template_known n i a SendNewline h = (refl ▹ refl ▹ refl ▹ refl ▹ tt)
   template_known n i a (Input x) h = (refl ▹ refl ▹ refl ▹ refl ▹ refl ▹ tt)
   template_known n i a Poll h = (refl ▹ tt)
-  template_known n i a Hold h = tt
-  template_known n i a (LeaveUnless rel) h = tt
-  template_known n i a Jump h = tt
-  template_known n i a Call h = tt
   template_known n i a (JumpTo to) h = jump_known n to (has_line ns to) refl
   template_known n i a (CallTo to) h = call_known n a to (next_line ns n) (target.Inside inner.Skip n i) (target.Inside inner.Behind n i) (has_line ns to) refl (next_known n) h
   template_known n i a Return h = returned_known n a (target.Inside inner.Behind n i) h
   template_known n i a End h = (refl ▹ tt)
+  template_known n i a _ h = tt
 
   single_known : (n i a : ℕ) (t : Bool) (c : Instr) → LabelsAt labels a (if t then constant n LINE ++ template ns n i c else template ns n i c)
       → AllKnown labels (if t then constant n LINE ++ template ns n i c else template ns n i c)
@@ -265,12 +256,9 @@ module _ (labels : List (Name × ℕ)) (ns : List ℕ) (known : Known labels ns)
   ordered_known at (ByDifference a b) wanted skip next s h = weighed_known wanted a b skip next (weighed_skip at wanted a b skip next h) s
 
   tested_known : (at : ℕ) (rel : Rel) (a b : Source) (skip next : Target) → Stands labels next → LabelsAt labels at (tested rel a b skip next) → AllKnown labels (tested rel a b skip next)
-  tested_known at Eq a b skip next t h = equal_known a b next t
-  tested_known at Ne a b skip next t h = unequal_known a b skip next (unequal_skip at a b skip next h) t
-  tested_known at Lt a b skip next t h = ordered_known at (order_of a b) Below skip next t h
-  tested_known at Ge a b skip next t h = ordered_known at (order_of a b) NotBelow skip next t h
-  tested_known at Gt a b skip next t h = ordered_known at (order_of b a) Below skip next t h
-  tested_known at Le a b skip next t h = ordered_known at (order_of b a) NotBelow skip next t h
+  tested_known at rel a b skip next t h =
+      tested_by (λ es. LabelsAt labels at es → AllKnown labels es) skip next (λ a b h. equal_known a b next t) (λ a b h. unequal_known a b skip next (unequal_skip at a b skip next h) t)
+      (λ order side h. ordered_known at order side skip next t h) rel a b h
 
   gone_known : (n at : ℕ) (rel : Rel) (a b : Source) (skip next : Target) (t : Bool) (to : ℕ) → has_line ns to ≡ t → Stands labels next
       → LabelsAt labels at (gone n rel a b skip next t to) → AllKnown labels (gone n rel a b skip next t to)

@@ -7,6 +7,7 @@ use Rattle.tb_selection.specs.Groups.{Operand, Constant, Variable, InSlot, Home,
 use Rattle.tb_runtime16.specs.Places.{HELD}
 use Rattle.tb_templates.specs.Templates.{at, const, var_at, slot_at}
 pub use Rattle.tb_templates.specs.declared.sources.Source.{Source}
+pub use Rattle.tb_templates.specs.declared.sources.Words.{Words}
 pub use Rattle.tb_templates.specs.declared.sources.Source.TheVariants.{FixedWord, AtPlace}
 
 -- where an operand comes from that belongs into slot k
@@ -34,6 +35,10 @@ destination_at (IntoHome home) = home_at home
 abbrev pub IsWhole : Source → Type 0
 IsWhole (FixedWord w) = Unit {0}
 IsWhole (AtPlace p) = p + 1 < 65536
+
+-- and so it is with two words
+abbrev pub AreWhole : Words → Type 0
+AreWhole words = IsWhole words.left × IsWhole words.right
 
 -- an instruction on the low byte of a word
 abbrev pub low_of : Mnemonic → Source → Entry

@@ -8,7 +8,7 @@ ghost use Rattle.tb_templates.specs.Templates as templates;
 ghost use Rattle.tb_templates.specs.declared.labels.Inner.TheVariants.{Skip};
 ghost use Rattle.tb_templates.specs.declared.labels.Target.TheVariants.{Inside};
 ghost use Rattle.tb_templates.specs.Sources as sources;
-ghost use Rattle.tb_templates.specs.Sources.{IsWhole};
+ghost use Rattle.tb_templates.specs.Sources.{AreWhole, IsWhole};
 ghost use Rattle.tb_runtime16.specs.Places as places;
 ghost use Rattle.tb_templates.specs.GroupTemplates as groups;
 ghost use Rattle.tb_templates.specs.Masks as masks;
@@ -17,7 +17,7 @@ ghost use Rattle.tb_templates.specs.Program.{RisingFrom};
 use crate::groups::{may_be_zero, put_brought, put_lined, put_taken};
 use crate::labels::Target;
 use crate::pieces::{put_at, put_branch, put_call, put_const, put_copied, put_faulted, put_here};
-use crate::sources::{Source, put_high, put_low};
+use crate::sources::{Source, Words, against_none, put_high, put_low};
 use crate::templates::{NO_LINE, Spot, has_number};
 use std::alloc::AllocError;
 use tb_asm::Item;
@@ -70,44 +70,34 @@ fn put_told(items: &mut Vec<Item>) -> Result<(), AllocError>
 }
 
 // The same of a word over another one.
-fn put_remainder(items: &mut Vec<Item>, left: Source, right: Source) -> Result<(), AllocError>
-    requires { IsWhole left × IsWhole right }
-    ensures { OnOk result (map entry_of items.new.items ≡ map entry_of items.old.items ++ groups.remainder left right) }
+fn put_remainder(items: &mut Vec<Item>, words: Words) -> Result<(), AllocError>
+    requires { AreWhole words }
+    ensures { OnOk result (map entry_of items.new.items ≡ map entry_of items.old.items ++ groups.remainder words.left words.right) }
 {
-    put_brought(items, left, LEFT)?;
-    put_brought(items, right, RIGHT)?;
+    put_brought(items, words.left, LEFT)?;
+    put_brought(items, words.right, RIGHT)?;
     put_told(items)?;
     Ok(())
 }
 
 // The remainder in a line.
-fn put_remainder_in(
-    items: &mut Vec<Item>,
-    line: u16,
-    left: Source,
-    right: Source,
-) -> Result<(), AllocError>
-    requires { IsWhole left × IsWhole right }
-    ensures { OnOk result (map entry_of items.new.items ≡ map entry_of items.old.items ++ groups.lined (groups.may_be_zero right) line (groups.remainder left right)) }
+fn put_remainder_in(items: &mut Vec<Item>, line: u16, words: Words) -> Result<(), AllocError>
+    requires { AreWhole words }
+    ensures { OnOk result (map entry_of items.new.items ≡ map entry_of items.old.items ++ groups.lined (groups.may_be_zero words.right) line (groups.remainder words.left words.right)) }
 {
-    put_lined(items, may_be_zero(right), line)?;
-    put_remainder(items, left, right)?;
+    put_lined(items, may_be_zero(words.right), line)?;
+    put_remainder(items, words)?;
     Ok(())
 }
 
 // What a divisor leaves of a word.
-fn put_left_over(
-    items: &mut Vec<Item>,
-    line: u16,
-    left: Source,
-    right: Source,
-) -> Result<(), AllocError>
-    requires { IsWhole left × IsWhole right }
-    ensures { OnOk result (map entry_of items.new.items ≡ map entry_of items.old.items ++ groups.left_over line (masks.mask right) left right) }
+fn put_left_over(items: &mut Vec<Item>, line: u16, words: Words) -> Result<(), AllocError>
+    requires { AreWhole words }
+    ensures { OnOk result (map entry_of items.new.items ≡ map entry_of items.old.items ++ groups.left_over line (masks.mask words.right) words.left words.right) }
 {
-    match mask(right) {
-        Some(bits) => put_lowest_bits(items, bits, left),
-        None => put_remainder_in(items, line, left, right),
+    match mask(words.right) {
+        Some(bits) => put_lowest_bits(items, bits, words.left),
+        None => put_remainder_in(items, line, words),
     }
 }
 
@@ -136,14 +126,13 @@ fn put_divided_by(
     items: &mut Vec<Item>,
     line: u16,
     how: Divisibility,
-    left: Source,
-    right: Source,
+    words: Words,
     next: Target,
 ) -> Result<(), AllocError>
-    requires { IsWhole left × IsWhole right }
-    ensures { OnOk result (map entry_of items.new.items ≡ map entry_of items.old.items ++ groups.divided_by line (divisibility_of how) left right next) }
+    requires { AreWhole words }
+    ensures { OnOk result (map entry_of items.new.items ≡ map entry_of items.old.items ++ groups.divided_by line (divisibility_of how) words.left words.right next) }
 {
-    put_left_over(items, line, left, right)?;
+    put_left_over(items, line, words)?;
     put_branch(items, unless(how), next)?;
     Ok(())
 }
@@ -153,13 +142,12 @@ fn put_divided_lost(
     items: &mut Vec<Item>,
     spot: Spot,
     how: Divisibility,
-    left: Source,
-    right: Source,
+    words: Words,
 ) -> Result<(), AllocError>
-    requires { IsWhole left × IsWhole right }
-    ensures { OnOk result (map entry_of items.new.items ≡ map entry_of items.old.items ++ (groups.divided_by spot.line (divisibility_of how) left right spot.next ++ templates.faulted spot.line 1)) }
+    requires { AreWhole words }
+    ensures { OnOk result (map entry_of items.new.items ≡ map entry_of items.old.items ++ (groups.divided_by spot.line (divisibility_of how) words.left words.right spot.next ++ templates.faulted spot.line 1)) }
 {
-    put_divided_by(items, spot.line, how, left, right, spot.next)?;
+    put_divided_by(items, spot.line, how, words, spot.next)?;
     put_faulted(items, spot.line, NO_LINE)?;
     Ok(())
 }
@@ -170,19 +158,18 @@ fn put_divided_gone(
     numbers: &[u16],
     spot: Spot,
     how: Divisibility,
-    left: Source,
-    right: Source,
+    words: Words,
     to: u16,
 ) -> Result<(), AllocError>
     requires rising { RisingFrom 0 numbers.now }
-    requires whole { IsWhole left × IsWhole right }
-    ensures { OnOk result (map entry_of items.new.items ≡ map entry_of items.old.items ++ groups.divided_gone spot.line (divisibility_of how) left right spot.next (has_line numbers.now to) to) }
+    requires whole { AreWhole words }
+    ensures { OnOk result (map entry_of items.new.items ≡ map entry_of items.old.items ++ groups.divided_gone spot.line (divisibility_of how) words.left words.right spot.next (has_line numbers.now to) to) }
 {
     if has_number(numbers, to) {
         let line = Target::Line(to);
-        put_divided_by(items, spot.line, contrary(how), left, right, line)
+        put_divided_by(items, spot.line, contrary(how), words, line)
     } else {
-        put_divided_lost(items, spot, how, left, right)
+        put_divided_lost(items, spot, how, words)
     }
 }
 
@@ -192,44 +179,38 @@ pub fn put_divides(
     numbers: &[u16],
     spot: Spot,
     how: Divisibility,
-    left: Source,
-    right: Source,
+    words: Words,
     to: Option<u16>,
 ) -> Result<(), AllocError>
     requires rising { RisingFrom 0 numbers.now }
     requires next { spot.next ≡ templates.next_line numbers.now spot.line }
-    requires whole { IsWhole left × IsWhole right }
-    ensures { OnOk result (map entry_of items.new.items ≡ map entry_of items.old.items ++ groups.divides numbers.now spot.line (divisibility_of how) left right to) }
+    requires whole { AreWhole words }
+    ensures { OnOk result (map entry_of items.new.items ≡ map entry_of items.old.items ++ groups.divides numbers.now spot.line (divisibility_of how) words.left words.right to) }
 {
     match to {
-        Some(to) => put_divided_gone(items, numbers, spot, how, left, right, to),
-        None => put_divided_by(items, spot.line, how, left, right, spot.next),
+        Some(to) => put_divided_gone(items, numbers, spot, how, words, to),
+        None => put_divided_by(items, spot.line, how, words, spot.next),
     }
 }
 
 // The routine divides a word by another one.
-fn put_called(items: &mut Vec<Item>, left: Source, right: Source) -> Result<(), AllocError>
-    requires { IsWhole left × IsWhole right }
-    ensures { OnOk result (map entry_of items.new.items ≡ map entry_of items.old.items ++ (groups.brought left places.LEFT ++ (groups.brought right places.RIGHT ++ (templates.call places.DIVIDE_AT ∷ [])))) }
+fn put_called(items: &mut Vec<Item>, words: Words) -> Result<(), AllocError>
+    requires { AreWhole words }
+    ensures { OnOk result (map entry_of items.new.items ≡ map entry_of items.old.items ++ (groups.brought words.left places.LEFT ++ (groups.brought words.right places.RIGHT ++ (templates.call places.DIVIDE_AT ∷ [])))) }
 {
-    put_brought(items, left, LEFT)?;
-    put_brought(items, right, RIGHT)?;
+    put_brought(items, words.left, LEFT)?;
+    put_brought(items, words.right, RIGHT)?;
     put_call(items, Routine::Divide)?;
     Ok(())
 }
 
 // The same in a line: it leaves the remainder's size.
-fn put_asked_rest(
-    items: &mut Vec<Item>,
-    line: u16,
-    left: Source,
-    right: Source,
-) -> Result<(), AllocError>
-    requires { IsWhole left × IsWhole right }
-    ensures { OnOk result (map entry_of items.new.items ≡ map entry_of items.old.items ++ groups.asked_rest line left right) }
+fn put_asked_rest(items: &mut Vec<Item>, line: u16, words: Words) -> Result<(), AllocError>
+    requires { AreWhole words }
+    ensures { OnOk result (map entry_of items.new.items ≡ map entry_of items.old.items ++ groups.asked_rest line words.left words.right) }
 {
-    put_lined(items, may_be_zero(right), line)?;
-    put_called(items, left, right)?;
+    put_lined(items, may_be_zero(words.right), line)?;
+    put_called(items, words)?;
     Ok(())
 }
 
@@ -237,8 +218,7 @@ fn put_asked_rest(
 fn put_rest_taken(items: &mut Vec<Item>) -> Result<(), AllocError>
     ensures { OnOk result (map entry_of items.new.items ≡ map entry_of items.old.items ++ groups.taken (sources.FixedWord 0) (sources.AtPlace places.RESULT) places.RESULT) }
 {
-    let (none, rest) = (Source::FixedWord(0), Source::AtPlace(RESULT));
-    put_taken(items, none, rest, RESULT)
+    put_taken(items, against_none(Source::AtPlace(RESULT)), RESULT)
 }
 
 // A remainder's size goes to a place with the sign of the word that was divided.
@@ -263,14 +243,13 @@ fn put_signed_rest(
 pub fn put_remains(
     items: &mut Vec<Item>,
     spot: Spot,
-    left: Source,
-    right: Source,
+    words: Words,
     to: u16,
 ) -> Result<(), AllocError>
-    requires { IsWhole left × IsWhole right × (to < 65535) }
-    ensures { OnOk result (map entry_of items.new.items ≡ map entry_of items.old.items ++ groups.remains spot.line (Inside Skip spot.line spot.index) left right to) }
+    requires { AreWhole words × (to < 65535) }
+    ensures { OnOk result (map entry_of items.new.items ≡ map entry_of items.old.items ++ groups.remains spot.line (Inside Skip spot.line spot.index) words.left words.right to) }
 {
-    put_asked_rest(items, spot.line, left, right)?;
-    put_signed_rest(items, spot.skip(), left, to)?;
+    put_asked_rest(items, spot.line, words)?;
+    put_signed_rest(items, spot.skip(), words.left, to)?;
     Ok(())
 }

@@ -12,7 +12,7 @@ ghost use Rattle.tb_templates.specs.declared.labels.Inner.TheVariants.{Behind, S
 ghost use Rattle.tb_templates.specs.declared.labels.Target.TheVariants.{Inside};
 ghost use Rattle.tb_templates.specs.Templates as templates;
 ghost use Rattle.tb_templates.specs.Sources as sources;
-ghost use Rattle.tb_templates.specs.Sources.{IsWhole};
+ghost use Rattle.tb_templates.specs.Sources.{AreWhole, IsWhole};
 ghost use Rattle.tb_templates.specs.GroupTemplates as groups;
 ghost use Rattle.tb_templates.specs.Scaled.{scaling, shifts};
 ghost use Rattle.tb_templates.specs.Program.{RisingFrom};
@@ -27,8 +27,8 @@ use crate::pieces::{
 };
 use crate::scaled::{put_shifted, put_times, scaling, shifts};
 use crate::sources::{
-    Source, destination_at, home_at, put_high, put_low, slot_of, source_of, tested_source,
-    variable_at,
+    Source, Words, against_none, destination_at, home_at, put_high, put_low, slot_of, source_of,
+    tested_words, turned, variable_at, words_of,
 };
 use crate::templates::{NO_LINE, Spot, has_number, put_instruction};
 use std::alloc::AllocError;
@@ -55,42 +55,36 @@ pub fn put_brought(items: &mut Vec<Item>, word: Source, to: u16) -> Result<(), A
 fn put_joined(
     items: &mut Vec<Item>,
     mnemonic: Mnemonic,
-    left: Source,
-    right: Source,
+    words: Words,
     to: u16,
 ) -> Result<(), AllocError>
-    requires { IsWhole left × IsWhole right × (to < 65535) }
-    ensures { OnOk result (map entry_of items.new.items ≡ map entry_of items.old.items ++ groups.joined mnemonic left right to) }
+    requires { AreWhole words × (to < 65535) }
+    ensures { OnOk result (map entry_of items.new.items ≡ map entry_of items.old.items ++ groups.joined mnemonic words.left words.right to) }
 {
-    put_low(items, Mnemonic::Lda, left)?;
-    put_low(items, mnemonic, right)?;
+    put_low(items, Mnemonic::Lda, words.left)?;
+    put_low(items, mnemonic, words.right)?;
     put_at(items, Mnemonic::Sta, to)?;
-    put_high(items, Mnemonic::Lda, left)?;
-    put_high(items, mnemonic, right)?;
+    put_high(items, Mnemonic::Lda, words.left)?;
+    put_high(items, mnemonic, words.right)?;
     put_at(items, Mnemonic::Sta, to + 1)
 }
 
 // The sum of two words.
-fn put_summed(items: &mut Vec<Item>, left: Source, right: Source, to: u16) -> Result<(), AllocError>
-    requires { IsWhole left × IsWhole right × (to < 65535) }
-    ensures { OnOk result (map entry_of items.new.items ≡ map entry_of items.old.items ++ groups.summed left right to) }
+fn put_summed(items: &mut Vec<Item>, words: Words, to: u16) -> Result<(), AllocError>
+    requires { AreWhole words × (to < 65535) }
+    ensures { OnOk result (map entry_of items.new.items ≡ map entry_of items.old.items ++ groups.summed words.left words.right to) }
 {
     put_alone(items, Mnemonic::Clc)?;
-    put_joined(items, Mnemonic::Adc, left, right, to)
+    put_joined(items, Mnemonic::Adc, words, to)
 }
 
 /// The left word less the right one.
-pub fn put_taken(
-    items: &mut Vec<Item>,
-    left: Source,
-    right: Source,
-    to: u16,
-) -> Result<(), AllocError>
-    requires { IsWhole left × IsWhole right × (to < 65535) }
-    ensures { OnOk result (map entry_of items.new.items ≡ map entry_of items.old.items ++ groups.taken left right to) }
+pub fn put_taken(items: &mut Vec<Item>, words: Words, to: u16) -> Result<(), AllocError>
+    requires { AreWhole words × (to < 65535) }
+    ensures { OnOk result (map entry_of items.new.items ≡ map entry_of items.old.items ++ groups.taken words.left words.right to) }
 {
     put_alone(items, Mnemonic::Sec)?;
-    put_joined(items, Mnemonic::Sbc, left, right, to)
+    put_joined(items, Mnemonic::Sbc, words, to)
 }
 
 // What a routine makes of two words, from where it leaves it.
@@ -98,15 +92,14 @@ fn put_handed(
     items: &mut Vec<Item>,
     routine: Routine,
     from: u16,
-    left: Source,
-    right: Source,
+    words: Words,
     to: u16,
 ) -> Result<(), AllocError>
-    requires { IsWhole left × IsWhole right × (from < 65535) × (to < 65535) }
-    ensures { OnOk result (map entry_of items.new.items ≡ map entry_of items.old.items ++ groups.handed (places.entry_of routine) from left right to) }
+    requires { AreWhole words × (from < 65535) × (to < 65535) }
+    ensures { OnOk result (map entry_of items.new.items ≡ map entry_of items.old.items ++ groups.handed (places.entry_of routine) from words.left words.right to) }
 {
-    put_brought(items, left, LEFT)?;
-    put_brought(items, right, RIGHT)?;
+    put_brought(items, words.left, LEFT)?;
+    put_brought(items, words.right, RIGHT)?;
     put_call(items, routine)?;
     put_copied(items, from, to)?;
     Ok(())
@@ -144,18 +137,12 @@ fn may_have_none(word: Source) -> bool
 }
 
 // The quotient of two words.
-fn put_quotient(
-    items: &mut Vec<Item>,
-    line: u16,
-    left: Source,
-    right: Source,
-    to: u16,
-) -> Result<(), AllocError>
-    requires { IsWhole left × IsWhole right × (to < 65535) }
-    ensures { OnOk result (map entry_of items.new.items ≡ map entry_of items.old.items ++ groups.lined (groups.may_be_zero right) line (groups.handed places.DIVIDE_AT places.LEFT left right to)) }
+fn put_quotient(items: &mut Vec<Item>, line: u16, words: Words, to: u16) -> Result<(), AllocError>
+    requires { AreWhole words × (to < 65535) }
+    ensures { OnOk result (map entry_of items.new.items ≡ map entry_of items.old.items ++ groups.lined (groups.may_be_zero words.right) line (groups.handed places.DIVIDE_AT places.LEFT words.left words.right to)) }
 {
-    put_lined(items, may_be_zero(right), line)?;
-    put_handed(items, Routine::Divide, LEFT, left, right, to)?;
+    put_lined(items, may_be_zero(words.right), line)?;
+    put_handed(items, Routine::Divide, LEFT, words, to)?;
     Ok(())
 }
 
@@ -171,41 +158,33 @@ fn put_drawn(
     ensures { OnOk result (map entry_of items.new.items ≡ map entry_of items.old.items ++ groups.lined (groups.may_have_none bound) line (groups.handed places.RANDOM_AT places.RESULT bound (sources.FixedWord seed) to)) }
 {
     put_lined(items, may_have_none(bound), line)?;
-    let seed = Source::FixedWord(seed);
-    put_handed(items, Routine::Random, RESULT, bound, seed, to)?;
+    let words = Words {
+        left: bound,
+        right: Source::FixedWord(seed),
+    };
+    put_handed(items, Routine::Random, RESULT, words, to)?;
     Ok(())
 }
 
 // A product: of a constant and a word by the constant's bits, where they are few.
-fn put_multiplied(
-    items: &mut Vec<Item>,
-    left: Source,
-    right: Source,
-    to: u16,
-) -> Result<(), AllocError>
-    requires { IsWhole left × IsWhole right × (to < 65535) }
-    ensures { OnOk result (map entry_of items.new.items ≡ map entry_of items.old.items ++ groups.multiplied (scaling left right) left right to) }
+fn put_multiplied(items: &mut Vec<Item>, words: Words, to: u16) -> Result<(), AllocError>
+    requires { AreWhole words × (to < 65535) }
+    ensures { OnOk result (map entry_of items.new.items ≡ map entry_of items.old.items ++ groups.multiplied (scaling words.left words.right) words.left words.right to) }
 {
-    match scaling(left, right) {
+    match scaling(words.left, words.right) {
         Some((factor, word)) => put_times(items, factor, word, to),
-        None => put_handed(items, Routine::Multiply, RESULT, left, right, to),
+        None => put_handed(items, Routine::Multiply, RESULT, words, to),
     }
 }
 
 // A quotient of a line: over a power of two by shifts.
-fn put_divided(
-    items: &mut Vec<Item>,
-    line: u16,
-    left: Source,
-    right: Source,
-    to: u16,
-) -> Result<(), AllocError>
-    requires { IsWhole left × IsWhole right × (to < 65535) }
-    ensures { OnOk result (map entry_of items.new.items ≡ map entry_of items.old.items ++ groups.divided line (shifts right) left right to) }
+fn put_divided(items: &mut Vec<Item>, line: u16, words: Words, to: u16) -> Result<(), AllocError>
+    requires { AreWhole words × (to < 65535) }
+    ensures { OnOk result (map entry_of items.new.items ≡ map entry_of items.old.items ++ groups.divided line (shifts words.right) words.left words.right to) }
 {
-    match shifts(right) {
-        Some(more) => put_shifted(items, more, left, to),
-        None => put_quotient(items, line, left, right, to),
+    match shifts(words.right) {
+        Some(more) => put_shifted(items, more, words.left, to),
+        None => put_quotient(items, line, words, to),
     }
 }
 
@@ -214,18 +193,17 @@ fn put_calculated(
     items: &mut Vec<Item>,
     line: u16,
     operator: Operator,
-    left: Source,
-    right: Source,
+    words: Words,
     to: u16,
 ) -> Result<(), AllocError>
-    requires { IsWhole left × IsWhole right × (to < 65535) }
-    ensures { OnOk result (map entry_of items.new.items ≡ map entry_of items.old.items ++ groups.calculated line operator left right to) }
+    requires { AreWhole words × (to < 65535) }
+    ensures { OnOk result (map entry_of items.new.items ≡ map entry_of items.old.items ++ groups.calculated line operator words.left words.right to) }
 {
     match operator {
-        Operator::Add => put_summed(items, left, right, to),
-        Operator::Subtract => put_taken(items, left, right, to),
-        Operator::Multiply => put_multiplied(items, left, right, to),
-        Operator::Divide => put_divided(items, line, left, right, to),
+        Operator::Add => put_summed(items, words, to),
+        Operator::Subtract => put_taken(items, words, to),
+        Operator::Multiply => put_multiplied(items, words, to),
+        Operator::Divide => put_divided(items, line, words, to),
     }
 }
 
@@ -235,16 +213,15 @@ fn put_computed(
     line: u16,
     skip: Target,
     operator: Operator,
-    left: Source,
-    right: Source,
+    words: Words,
     to: u16,
 ) -> Result<(), AllocError>
-    requires { IsWhole left × IsWhole right × (to < 65535) }
-    ensures { OnOk result (map entry_of items.new.items ≡ map entry_of items.old.items ++ groups.computed line skip operator left right to) }
+    requires { AreWhole words × (to < 65535) }
+    ensures { OnOk result (map entry_of items.new.items ≡ map entry_of items.old.items ++ groups.computed line skip operator words.left words.right to) }
 {
-    match change_of(operator, left, right, to) {
+    match change_of(operator, words.left, words.right, to) {
         Some(change) => put_changed(items, change, to, skip),
-        None => put_calculated(items, line, operator, left, right, to),
+        None => put_calculated(items, line, operator, words, to),
     }
 }
 
@@ -259,16 +236,11 @@ fn put_going_on(
     requires { IsWhole constant × (to < 65535) }
     ensures { OnOk result (map entry_of items.new.items ≡ map entry_of items.old.items ++ groups.computed spot.line (Inside Behind spot.line spot.index) operator (sources.AtPlace to) constant to) }
 {
-    let word = Source::AtPlace(to);
-    put_computed(
-        items,
-        spot.line,
-        spot.behind(),
-        operator,
-        word,
-        constant,
-        to,
-    )
+    let words = Words {
+        left: Source::AtPlace(to),
+        right: constant,
+    };
+    put_computed(items, spot.line, spot.behind(), operator, words, to)
 }
 
 // A calculation whose result goes to a variable, and goes on there by a constant.
@@ -276,15 +248,14 @@ fn put_stepped(
     items: &mut Vec<Item>,
     spot: Spot,
     operator: Operator,
-    left: Source,
-    right: Source,
+    words: Words,
     by: (Operator, Source),
     to: u16,
 ) -> Result<(), AllocError>
-    requires { IsWhole left × IsWhole right × IsWhole by.1 × (to < 65535) }
-    ensures { OnOk result (map entry_of items.new.items ≡ map entry_of items.old.items ++ groups.stepped spot.line (Inside Skip spot.line spot.index) (Inside Behind spot.line spot.index) operator left right by.0 by.1 to) }
+    requires { AreWhole words × IsWhole by.1 × (to < 65535) }
+    ensures { OnOk result (map entry_of items.new.items ≡ map entry_of items.old.items ++ groups.stepped spot.line (Inside Skip spot.line spot.index) (Inside Behind spot.line spot.index) operator words.left words.right by.0 by.1 to) }
 {
-    put_computed(items, spot.line, spot.skip(), operator, left, right, to)?;
+    put_computed(items, spot.line, spot.skip(), operator, words, to)?;
     put_going_on(items, spot, by.0, by.1, to)?;
     Ok(())
 }
@@ -302,7 +273,7 @@ fn put_converted(
     ensures { OnOk result (map entry_of items.new.items ≡ map entry_of items.old.items ++ groups.converted line seed (conversion_of conversion) word to) }
 {
     match conversion {
-        Conversion::Negated => put_taken(items, Source::FixedWord(0), word, to),
+        Conversion::Negated => put_taken(items, against_none(word), to),
         Conversion::Drawn => put_drawn(items, line, seed, word, to),
     }
 }
@@ -373,39 +344,33 @@ fn put_used(
 }
 
 // Stays where both bytes are equal.
-fn put_equal(
-    items: &mut Vec<Item>,
-    left: Source,
-    right: Source,
-    next: Target,
-) -> Result<(), AllocError>
-    requires { IsWhole left × IsWhole right }
-    ensures { OnOk result (map entry_of items.new.items ≡ map entry_of items.old.items ++ groups.equal left right next) }
+fn put_equal(items: &mut Vec<Item>, words: Words, next: Target) -> Result<(), AllocError>
+    requires { AreWhole words }
+    ensures { OnOk result (map entry_of items.new.items ≡ map entry_of items.old.items ++ groups.equal words.left words.right next) }
 {
-    put_low(items, Mnemonic::Lda, left)?;
-    put_low(items, Mnemonic::Cmp, right)?;
+    put_low(items, Mnemonic::Lda, words.left)?;
+    put_low(items, Mnemonic::Cmp, words.right)?;
     put_branch(items, Mnemonic::Bne, next)?;
-    put_high(items, Mnemonic::Lda, left)?;
-    put_high(items, Mnemonic::Cmp, right)?;
+    put_high(items, Mnemonic::Lda, words.left)?;
+    put_high(items, Mnemonic::Cmp, words.right)?;
     put_branch(items, Mnemonic::Bne, next)
 }
 
 // Stays where one of the two bytes differs.
 fn put_unequal(
     items: &mut Vec<Item>,
-    left: Source,
-    right: Source,
+    words: Words,
     stays: Target,
     next: Target,
 ) -> Result<(), AllocError>
-    requires { IsWhole left × IsWhole right }
-    ensures { OnOk result (map entry_of items.new.items ≡ map entry_of items.old.items ++ groups.unequal left right stays next) }
+    requires { AreWhole words }
+    ensures { OnOk result (map entry_of items.new.items ≡ map entry_of items.old.items ++ groups.unequal words.left words.right stays next) }
 {
-    put_low(items, Mnemonic::Lda, left)?;
-    put_low(items, Mnemonic::Cmp, right)?;
+    put_low(items, Mnemonic::Lda, words.left)?;
+    put_low(items, Mnemonic::Cmp, words.right)?;
     put_branch(items, Mnemonic::Bne, stays)?;
-    put_high(items, Mnemonic::Lda, left)?;
-    put_high(items, Mnemonic::Cmp, right)?;
+    put_high(items, Mnemonic::Lda, words.left)?;
+    put_high(items, Mnemonic::Cmp, words.right)?;
     put_branch(items, Mnemonic::Beq, next)?;
     put_here(items, stays)
 }
@@ -414,21 +379,20 @@ fn put_unequal(
 fn put_tested(
     items: &mut Vec<Item>,
     rel: Rel,
-    left: Source,
-    right: Source,
+    words: Words,
     skip: Target,
     next: Target,
 ) -> Result<(), AllocError>
-    requires { IsWhole left × IsWhole right }
-    ensures { OnOk result (map entry_of items.new.items ≡ map entry_of items.old.items ++ groups.tested rel left right skip next) }
+    requires { AreWhole words }
+    ensures { OnOk result (map entry_of items.new.items ≡ map entry_of items.old.items ++ groups.tested rel words.left words.right skip next) }
 {
     match rel {
-        Rel::Eq => put_equal(items, left, right, next),
-        Rel::Ne => put_unequal(items, left, right, skip, next),
-        Rel::Lt => put_ordered(items, Side::Below, left, right, skip, next),
-        Rel::Ge => put_ordered(items, Side::NotBelow, left, right, skip, next),
-        Rel::Gt => put_ordered(items, Side::Below, right, left, skip, next),
-        Rel::Le => put_ordered(items, Side::NotBelow, right, left, skip, next),
+        Rel::Eq => put_equal(items, words, next),
+        Rel::Ne => put_unequal(items, words, skip, next),
+        Rel::Lt => put_ordered(items, Side::Below, words, skip, next),
+        Rel::Ge => put_ordered(items, Side::NotBelow, words, skip, next),
+        Rel::Gt => put_ordered(items, Side::Below, turned(words), skip, next),
+        Rel::Le => put_ordered(items, Side::NotBelow, turned(words), skip, next),
     }
 }
 
@@ -447,17 +411,11 @@ fn denied(rel: Rel) -> Rel
 }
 
 // Leaves the line unless two words are so related, and else faults for want of a line.
-fn put_lost(
-    items: &mut Vec<Item>,
-    spot: Spot,
-    rel: Rel,
-    left: Source,
-    right: Source,
-) -> Result<(), AllocError>
-    requires { IsWhole left × IsWhole right }
-    ensures { OnOk result (map entry_of items.new.items ≡ map entry_of items.old.items ++ (groups.tested rel left right (Inside Skip spot.line spot.index) spot.next ++ templates.faulted spot.line 1)) }
+fn put_lost(items: &mut Vec<Item>, spot: Spot, rel: Rel, words: Words) -> Result<(), AllocError>
+    requires { AreWhole words }
+    ensures { OnOk result (map entry_of items.new.items ≡ map entry_of items.old.items ++ (groups.tested rel words.left words.right (Inside Skip spot.line spot.index) spot.next ++ templates.faulted spot.line 1)) }
 {
-    put_tested(items, rel, left, right, spot.skip(), spot.next)?;
+    put_tested(items, rel, words, spot.skip(), spot.next)?;
     put_faulted(items, spot.line, NO_LINE)?;
     Ok(())
 }
@@ -468,25 +426,17 @@ fn put_gone(
     numbers: &[u16],
     spot: Spot,
     rel: Rel,
-    left: Source,
-    right: Source,
+    words: Words,
     to: u16,
 ) -> Result<(), AllocError>
     requires rising { RisingFrom 0 numbers.now }
-    requires whole { IsWhole left × IsWhole right }
-    ensures { OnOk result (map entry_of items.new.items ≡ map entry_of items.old.items ++ groups.gone spot.line rel left right (Inside Skip spot.line spot.index) spot.next (has_line numbers.now to) to) }
+    requires whole { AreWhole words }
+    ensures { OnOk result (map entry_of items.new.items ≡ map entry_of items.old.items ++ groups.gone spot.line rel words.left words.right (Inside Skip spot.line spot.index) spot.next (has_line numbers.now to) to) }
 {
     if has_number(numbers, to) {
-        put_tested(
-            items,
-            denied(rel),
-            left,
-            right,
-            spot.skip(),
-            Target::Line(to),
-        )
+        put_tested(items, denied(rel), words, spot.skip(), Target::Line(to))
     } else {
-        put_lost(items, spot, rel, left, right)
+        put_lost(items, spot, rel, words)
     }
 }
 
@@ -531,14 +481,14 @@ pub fn put_group(
     match group {
         Group::Calculate(operator, left, right, destination) => {
             let slot = slot_of(destination);
-            let (left, right) = (source_of(slot, left), source_of(slot + 1, right));
+            let words = words_of(slot, left, right);
             let to = destination_at(destination);
-            put_computed(items, spot.line, spot.skip(), operator, left, right, to)
+            put_computed(items, spot.line, spot.skip(), operator, words, to)
         }
         Group::Stepped(operator, left, right, by, word, letter) => {
-            let (left, right) = (source_of(0, left), source_of(1, right));
+            let words = words_of(0, left, right);
             let by = (by, source_of(1, Operand::Constant(word)));
-            put_stepped(items, spot, operator, left, right, by, variable_at(letter))
+            put_stepped(items, spot, operator, words, by, variable_at(letter))
         }
         Group::Convert(conversion, word, destination) => {
             let word = source_of(slot_of(destination), word);
@@ -550,24 +500,22 @@ pub fn put_group(
             put_used(items, spot.line, spot.next, usage, source_of(0, word))
         }
         Group::Test(rel, left, right) => {
-            let (left, right) = (tested_source(left), source_of(0, right));
-            put_tested(items, rel, left, right, spot.skip(), spot.next)
+            let words = tested_words(left, right);
+            put_tested(items, rel, words, spot.skip(), spot.next)
         }
         Group::TestGo(rel, left, right, to) => {
-            let (left, right) = (tested_source(left), source_of(0, right));
-            put_gone(items, numbers, spot, rel, left, right, to)
+            put_gone(items, numbers, spot, rel, tested_words(left, right), to)
         }
         Group::Remains(letter, divisor, destination) => {
-            let left = Source::AtPlace(variable_at(letter));
-            let right = source_of(slot_of(destination) + 2, divisor);
-            put_remains(items, spot, left, right, destination_at(destination))
+            let words = Words {
+                left: Source::AtPlace(variable_at(letter)),
+                right: source_of(slot_of(destination) + 2, divisor),
+            };
+            put_remains(items, spot, words, destination_at(destination))
         }
         Group::Divides(how, letter, divisor, _, to) => {
-            let (left, right) = (
-                source_of(0, Operand::Variable(letter)),
-                source_of(1, divisor),
-            );
-            put_divides(items, numbers, spot, how, left, right, to)
+            let words = words_of(0, Operand::Variable(letter), divisor);
+            put_divides(items, numbers, spot, how, words, to)
         }
         Group::Single(instruction) => put_single(items, numbers, spot, instruction),
     }

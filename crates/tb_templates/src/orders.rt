@@ -2,13 +2,13 @@
 ghost use Rattle.std.specs.Prelude.{◌≡◌, ◌+◌, ◌<◌, OnOk, [], ◌∷◌, ◌++◌, map};
 ghost use Rattle.tb_asm.specs.Layout.{entry_of};
 ghost use Rattle.tb_templates.specs.Orders as orders;
-ghost use Rattle.tb_templates.specs.Sources.{IsWhole};
+ghost use Rattle.tb_templates.specs.Sources.{AreWhole, IsWhole};
 ghost use Rattle.tb_templates.specs.Templates.{branch};
 
 use crate::labels::Target;
 use crate::pieces::{put_branch, put_const, put_here};
 use crate::scaled::SIGN;
-use crate::sources::{Source, put_high, put_low};
+use crate::sources::{Source, Words, put_high, put_low};
 use std::alloc::AllocError;
 use tb_asm::Item;
 use tb_opcodes::Mnemonic;
@@ -164,18 +164,17 @@ fn put_against(
 fn put_weighed(
     items: &mut Vec<Item>,
     side: Side,
-    left: Source,
-    right: Source,
+    words: Words,
     skip: Target,
     next: Target,
 ) -> Result<(), AllocError>
-    requires { IsWhole left × IsWhole right }
-    ensures { OnOk result (map entry_of items.new.items ≡ map entry_of items.old.items ++ orders.weighed side left right skip next) }
+    requires { AreWhole words }
+    ensures { OnOk result (map entry_of items.new.items ≡ map entry_of items.old.items ++ orders.weighed side words.left words.right skip next) }
 {
-    put_low(items, Mnemonic::Lda, left)?;
-    put_low(items, Mnemonic::Cmp, right)?;
-    put_high(items, Mnemonic::Lda, left)?;
-    put_high(items, Mnemonic::Sbc, right)?;
+    put_low(items, Mnemonic::Lda, words.left)?;
+    put_low(items, Mnemonic::Cmp, words.right)?;
+    put_high(items, Mnemonic::Lda, words.left)?;
+    put_high(items, Mnemonic::Sbc, words.right)?;
     put_branch(items, Mnemonic::Bvc, skip)?;
     put_const(items, Mnemonic::Eor, SIGN)?;
     put_here(items, skip)?;
@@ -186,19 +185,24 @@ fn put_weighed(
 pub fn put_ordered(
     items: &mut Vec<Item>,
     wanted: Side,
-    left: Source,
-    right: Source,
+    words: Words,
     skip: Target,
     next: Target,
 ) -> Result<(), AllocError>
-    requires { IsWhole left × IsWhole right }
-    ensures { OnOk result (map entry_of items.new.items ≡ map entry_of items.old.items ++ orders.ordered wanted left right skip next) }
+    requires { AreWhole words }
+    ensures { OnOk result (map entry_of items.new.items ≡ map entry_of items.old.items ++ orders.ordered wanted words.left words.right skip next) }
 {
-    match order_of(left, right) {
+    match order_of(words.left, words.right) {
         Order::BySign(side, word) => put_signed(items, wanted_side(wanted, side), word, next),
         Order::ByConstant(side, word, constant) => {
             put_against(items, wanted_side(wanted, side), word, constant, next)
         }
-        Order::ByDifference(left, right) => put_weighed(items, wanted, left, right, skip, next),
+        Order::ByDifference(left, right) => put_weighed(
+            items,
+            wanted,
+            Words { left, right },
+            skip,
+            next,
+        ),
     }
 }

@@ -6,7 +6,7 @@ ghost use Rattle.tb_selection.specs.Groups as groups;
 ghost use Rattle.tb_selection.specs.PlainData.{operand_of, home_of, tested_of, destination_of};
 ghost use Rattle.tb_templates.specs.Templates.{var_at, slot_at};
 ghost use Rattle.tb_templates.specs.Sources as sources;
-ghost use Rattle.tb_templates.specs.Sources.{IsWhole};
+ghost use Rattle.tb_templates.specs.Sources.{AreWhole, IsWhole};
 
 use crate::pieces::{put_at, put_const};
 use std::alloc::AllocError;
@@ -23,6 +23,35 @@ pub enum Source {
     FixedWord(u16),
     /// It stands here, low byte first.
     AtPlace(u16),
+}
+
+/// Where two words come from.
+#[derive(Clone, Copy, Debug, Drop)]
+pub struct Words {
+    /// The left one.
+    pub left: Source,
+    /// The right one.
+    pub right: Source,
+}
+
+/// Two words in the other order.
+pub fn turned(words: Words) -> Words
+    ensures { (result.left ≡ words.right) × (result.right ≡ words.left) }
+{
+    Words {
+        left: words.right,
+        right: words.left,
+    }
+}
+
+/// A word that is taken from 0.
+pub fn against_none(word: Source) -> Words
+    ensures { (result.left ≡ sources.FixedWord 0) × (result.right ≡ word) }
+{
+    Words {
+        left: Source::FixedWord(0),
+        right: word,
+    }
 }
 
 /// Where a variable stands.
@@ -55,14 +84,39 @@ pub fn source_of(slot: u8, operand: Operand) -> Source
     }
 }
 
-/// Where the left word of a test comes from.
-pub fn tested_source(tested: Tested) -> Source
+// Where the left word of a test comes from.
+fn tested_source(tested: Tested) -> Source
     ensures source { result ≡ sources.tested_source (tested_of tested) }
     ensures whole { IsWhole result }
 {
     match tested {
         Tested::HeldBefore => Source::AtPlace(HELD),
         Tested::HeldNow(operand) => source_of(0, operand),
+    }
+}
+
+/// Where two operands come from that belong into a slot and the one behind it.
+pub fn words_of(slot: u8, left: Operand, right: Operand) -> Words
+    requires { slot < 15 }
+    ensures left { result.left ≡ sources.source_of slot (operand_of left) }
+    ensures right { result.right ≡ sources.source_of (slot + 1) (operand_of right) }
+    ensures whole { AreWhole result }
+{
+    Words {
+        left: source_of(slot, left),
+        right: source_of(slot + 1, right),
+    }
+}
+
+/// Where the words of a test come from.
+pub fn tested_words(left: Tested, right: Operand) -> Words
+    ensures left { result.left ≡ sources.tested_source (tested_of left) }
+    ensures right { result.right ≡ sources.source_of 0 (operand_of right) }
+    ensures whole { AreWhole result }
+{
+    Words {
+        left: tested_source(left),
+        right: source_of(0, right),
     }
 }
 

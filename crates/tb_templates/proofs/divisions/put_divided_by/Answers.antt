@@ -10,4 +10,4 @@ use Rattle.tb_templates.proofs.divisions.put_divided_by.Goals as goal
 pub returns : goal.returns
 returns c =
     two _ _ _ _ _ c.in_ok-put_left_over.ensures c.in_ok-put_branch.ensures
-    ∙ ap (λ m. map entry_of c.args.items.now.items ++ (left_over c.args.line (mask c.args.right) c.args.left c.args.right ++ (branch m c.args.next ∷ []))) c.unless.ensures
+    ∙ ap (λ m. map entry_of c.args.items.now.items ++ (left_over c.args.line (mask c.args.words.right) c.args.words.left c.args.words.right ++ (branch m c.args.next ∷ []))) c.unless.ensures

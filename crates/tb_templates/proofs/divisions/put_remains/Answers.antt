@@ -8,4 +8,4 @@ use Rattle.tb_templates.proofs.divisions.put_remains.Goals as goal
 pub returns : goal.returns
 returns c =
     two _ _ _ _ _ c.in_ok-put_asked_rest.ensures c.in_ok-put_signed_rest.ensures
-    ∙ ap (λ skip. map entry_of c.args.items.now.items ++ (asked_rest c.args.spot.line c.args.left c.args.right ++ signed_rest skip c.args.left c.args.to)) c.skip.ensures
+    ∙ ap (λ skip. map entry_of c.args.items.now.items ++ (asked_rest c.args.spot.line c.args.words.left c.args.words.right ++ signed_rest skip c.args.words.left c.args.to)) c.skip.ensures

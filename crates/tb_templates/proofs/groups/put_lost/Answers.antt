@@ -9,4 +9,4 @@ use Rattle.tb_templates.proofs.groups.put_lost.Goals as goal
 pub returns : goal.returns
 returns c =
     two _ _ _ _ _ c.in_ok-put_tested.ensures c.in_ok-put_faulted.ensures
-    ∙ ap (λ skip. map entry_of c.args.items.now.items ++ (tested c.args.rel c.args.left c.args.right skip c.args.spot.next ++ faulted c.args.spot.line 1)) c.skip.ensures
+    ∙ ap (λ skip. map entry_of c.args.items.now.items ++ (tested c.args.rel c.args.words.left c.args.words.right skip c.args.spot.next ++ faulted c.args.spot.line 1)) c.skip.ensures
