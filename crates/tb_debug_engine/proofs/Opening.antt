@@ -6,7 +6,7 @@ use Rattle.tb_kernal.specs.declared.status.Status.{Status}
 use Rattle.tb_kernal.specs.declared.status.Status.TheVariants.{Returned, Running, Waits, Wrong}
 use Rattle.tb_prg.specs.Prg.{content_of}
 use Rattle.tb_memmap.specs.Bytes.{IsOpenRange}
-use Rattle.tb_runtime16.specs.Laws.{AllBytes}
+use Rattle.tb_opcodes.specs.Bytes.{AreBytes}
 use Rattle.tb_syntax.specs.Source.{Program}
 use Rattle.tb_keeping.specs.Kept.{Starts}
 use Rattle.tb_engines.specs.Programs.{IsUnloadable, start}
@@ -40,7 +40,7 @@ loads source seed c made = file_loads seed [] c (Ok source) made.compiled
 
 -- the machine that `run` starts for it is one from which its line starts are known
 shows_so : (c : Compiled) (text answers : List ℕ) (beside : Beside) (at : ℕ) (bytes : List ℕ) (d : Debugger) → content_of (prg_of c) ≡ Ok (at, bytes)
-    → d.program.now ≡ c → OnRun (first_point (state_of (start at bytes text answers)) beside) d → AllBytes (prg_of c) → AllBytes text → AllBytes answers
+    → d.program.now ≡ c → OnRun (first_point (state_of (start at bytes text answers)) beside) d → AreBytes (prg_of c) → AreBytes text → AreBytes answers
     → (source : Program) (seed : ℕ) → IsMadeOf source seed c → sources.Debugs source seed (state_of (start at bytes text answers)) beside d
 shows_so c text answers beside at bytes d content of on file keys polls source seed made =
     let whole = loads source seed c made in
@@ -57,7 +57,7 @@ shows_so c text answers beside at bytes d content of on file keys polls source s
 -- a debugger on the run of a program's file
 pub begun : (program : Compiled) (file text answers : List ℕ) (beside : Beside) (at : ℕ) (bytes : List ℕ) (m : Content) (d : Debugger)
     → file ≡ prg_of program → content_of file ≡ Ok (at, bytes) → m ≡ start at bytes text answers → d.program.now ≡ program
-    → OnRun (first_point (state_of m) beside) d → IsOpening (first_point (state_of m) beside) d → AllBytes file → AllBytes text → AllBytes answers
+    → OnRun (first_point (state_of m) beside) d → IsOpening (first_point (state_of m) beside) d → AreBytes file → AreBytes text → AreBytes answers
     → IsBegun program text answers beside d
 begun program file text answers beside at bytes m d same content machine of on opens small keys polls =
     let there = ap content_of (sym same) ∙ content in
@@ -69,7 +69,7 @@ begun program file text answers beside at bytes m d same content machine of on o
       content = there;
       on = here;
       opens = subst (λ x. IsOpening (first_point (state_of x) beside) d) machine opens;
-      shows = shows_so program text answers beside at bytes d there of here (subst AllBytes same small) keys polls;
+      shows = shows_so program text answers beside at bytes d there of here (subst AreBytes same small) keys polls;
     }
 
 -- a program that can't be loaded is none that `compile` made

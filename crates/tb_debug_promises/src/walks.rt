@@ -16,7 +16,11 @@ use std::alloc::{AllocError, Global};
 use tb_debug::{Answer, Command, Debugger, Reached};
 
 /// `Debugger::go_on`.
-pub fn gone_on(debugger: &mut Debugger<'_>, alloc: Global, limit: u64) -> Result<Reached, AllocError>
+pub fn gone_on(
+    debugger: &mut Debugger<'_>,
+    alloc: Global,
+    limit: u64,
+) -> Result<Reached, AllocError>
     ensures run { OnOk result (KeepsRun debugger.old debugger.new) }
     ensures stop { IfOk result (λ reached. LeadsOnTo destination.Stop limit debugger.old reached debugger.new.present) }
     ensures stands { IfOk result (λ reached. StandsBy debugger.old.starts reached debugger.new.present) }

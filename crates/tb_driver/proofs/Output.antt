@@ -19,7 +19,7 @@ use Rattle.tb_meaning.specs.Meaning.{source_run}
 use Rattle.tb_meaning.specs.Steps.{End, Ended, Faulted, Waits, Over}
 use Rattle.tb_parser.specs.Files.{Outcome}
 use Rattle.tb_runtime16.specs.Places.{PROLOGUE_AT}
-use Rattle.tb_runtime16.specs.Laws.{AllBytes}
+use Rattle.tb_opcodes.specs.Bytes.{AreBytes}
 use Rattle.tb_keeping.specs.Kept.{Starts, HasEnded, IsSound, Keeps}
 use Rattle.tb_codegen.specs.declared.compiled.Compiled.{Compiled}
 use Rattle.tb_codegen.specs.Answers.{LinesMake, OutcomeAnswer, Answered}
@@ -37,16 +37,16 @@ use Rattle.tb_engines.proofs.Start.{home_of-start}
 
 -- ---- bytes
 
-pub all_bytes : (xs : List ℕ) → ((k : ℕ) → slice_index xs k < 256) → AllBytes xs
+pub all_bytes : (xs : List ℕ) → ((k : ℕ) → slice_index xs k < 256) → AreBytes xs
 all_bytes [] h = tt
 all_bytes (x ∷ xs) h = (h 0, all_bytes xs (λ k. h (suc k)))
 
-byte_at : (xs : List ℕ) → AllBytes xs → (k : ℕ) → slice_index xs k < 256
+byte_at : (xs : List ℕ) → AreBytes xs → (k : ℕ) → slice_index xs k < 256
 byte_at [] h k = omega arith
 byte_at (x ∷ xs) h zero = h.0
 byte_at (x ∷ xs) h (suc k) = byte_at xs h.1 k
 
-pub bytes_behind : (xs : List ℕ) → AllBytes xs → AllBytes (drop 2 xs)
+pub bytes_behind : (xs : List ℕ) → AreBytes xs → AreBytes (drop 2 xs)
 bytes_behind [] h = tt
 bytes_behind (x ∷ []) h = tt
 bytes_behind (x ∷ y ∷ xs) h = h.1.1
@@ -54,7 +54,7 @@ bytes_behind (x ∷ y ∷ xs) h = h.1.1
 -- ---- the start
 
 -- bytes put into a memory of bytes
-put_bytes : (m : ℕ → ℕ) (a : ℕ) (bytes : List ℕ) → HoldsBytes m → AllBytes bytes → HoldsBytes (with_bytes m a bytes)
+put_bytes : (m : ℕ → ℕ) (a : ℕ) (bytes : List ℕ) → HoldsBytes m → AreBytes bytes → HoldsBytes (with_bytes m a bytes)
 put_bytes m a bytes h small b = chosen (nat_le a b && nat_lt b (a + length bytes))
   where
     chosen : (t : Bool) → (if t then slice_index bytes (b - a) else m b) < 256
@@ -82,13 +82,13 @@ program_lies bytes k below =
     let back : 0x0801 + k - 0x0801 ≡ k = omega arith in
     rw (behind, here, back) refl
 
-start_holds : (bytes : List ℕ) → AllBytes bytes → HoldsBytes (start_reads bytes)
+start_holds : (bytes : List ℕ) → AreBytes bytes → HoldsBytes (start_reads bytes)
 start_holds bytes small =
     put_bytes (with_bytes (λ b. 0) 0x0801 bytes) 0x01f1 return_bytes (put_bytes (λ b. 0) 0x0801 bytes (λ b. omega arith) small)
     (omega arith, (omega arith, tt))
 
 -- the start machine of a program below $A000, with a keyboard of bytes
-pub starts : (bytes text answers : List ℕ) → 0x0801 + length bytes ≤ 0xa000 → AllBytes bytes → AllBytes text → AllBytes answers
+pub starts : (bytes text answers : List ℕ) → 0x0801 + length bytes ≤ 0xa000 → AreBytes bytes → AreBytes text → AreBytes answers
     → Starts 0x0801 bytes (state_of (start 0x0801 bytes text answers))
 starts bytes text answers ends small small_text small_answers =
     let reads = memory_reads bytes ends in
@@ -140,7 +140,7 @@ in_ram n h k below = let a : 0x0801 + k < 0xa000 = omega arith in open_so (0x080
     open_so : (a : ℕ) → 0x0801 ≤ a → a < 0xa000 → is_open a ≡ true
     open_so a from to = grind (arith, nat_tests)
 
-module _ {O : Type 0} (gives : O → Content → Event → O → Type 0) (o : O) (seed : ℕ) (source file text answers : List ℕ) (limit : ℕ) (kept : KeepsSource seed source file) (small : AllBytes file) (small_text : AllBytes text) (small_answers : AllBytes answers) where
+module _ {O : Type 0} (gives : O → Content → Event → O → Type 0) (o : O) (seed : ℕ) (source file text answers : List ℕ) (limit : ℕ) (kept : KeepsSource seed source file) (small : AreBytes file) (small_text : AreBytes text) (small_answers : AreBytes answers) where
   abbrev bytes : List ℕ
   bytes = drop 2 file
 

@@ -1,6 +1,6 @@
 -- What playing a source's PRG file shows is the source's output.
 use Rattle.std.proofs.Common.{ℕ, List, [], ◌∷◌, Option, inl, inr}
-use Rattle.tb_runtime16.specs.Laws.{AllBytes}
+use Rattle.tb_opcodes.specs.Bytes.{AreBytes}
 use Rattle.tb_engines.specs.Outcomes.{Product}
 use Rattle.tb_engines.specs.declared.outcome.Outcome.{Outcome}
 use Rattle.tb_engines.specs.declared.outcome.Outcome.TheVariants.{Ended, Refused, ReadFault, WriteFault, NoMemory}
@@ -10,7 +10,7 @@ use Rattle.tb_play.specs.Plays.{RunsTyped, Shows}
 use Rattle.tb_driver.specs.Output.{RunsSource, KeepsSource}
 use Rattle.tb_driver.proofs.Output.{runs_source}
 
-all_bytes : (xs : List ℕ) → AreBytes xs → AllBytes xs
+all_bytes : (xs : List ℕ) → AreBytes xs → AreBytes xs
 all_bytes [] h = tt
 all_bytes (x ∷ xs) (small, h) = (small, all_bytes xs h)
 
@@ -24,7 +24,7 @@ shows_as p q wider WriteFault typed old new (so_far, text, end, runs, written) =
 shows_as p q wider NoMemory typed old new (inl kept) = inl kept
 shows_as p q wider NoMemory typed old new (inr (so_far, text, end, runs, written)) = inr (so_far, text, end, wider _ _ runs, written)
 
-pub shows_source : (seed : ℕ) (source file : List ℕ) → KeepsSource seed source file → AllBytes file → (outcome : Outcome) (typed : List ℕ) (old new : Option (List ℕ))
+pub shows_source : (seed : ℕ) (source file : List ℕ) → KeepsSource seed source file → AreBytes file → (outcome : Outcome) (typed : List ℕ) (old new : Option (List ℕ))
     → Shows (RunsTyped file) outcome typed old new → Shows (λ text product. RunsSource seed text [] source product) outcome typed old new
 shows_source seed source file kept small outcome typed old new shown =
     shows_as (RunsTyped file) (λ text product. RunsSource seed text [] source product)

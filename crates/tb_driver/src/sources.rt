@@ -1,6 +1,6 @@
 //! Building a source, and running it.
 ghost use Rattle.std.specs.Prelude.{◌+◌, ℕ, List};
-ghost use Rattle.tb_runtime16.specs.Laws.{AllBytes};
+ghost use Rattle.tb_opcodes.specs.Bytes.{AreBytes};
 ghost use Rattle.tb_streams.specs.Streams.{most_input, ConsumesAtMost};
 ghost use Rattle.tb_streams.specs.Failures.{failures_of};
 ghost use Rattle.tb_engines.specs.Outcomes.{Answers, Faults, MadeFrom};
@@ -62,7 +62,7 @@ pub fn build<R: Read, W: Write>(
 
 /// Bytes are numbers below 256: nothing is done, proofs take it from here.
 pub fn are_bytes(bytes: &[u8])
-    ensures { AllBytes bytes.now }
+    ensures { AreBytes bytes.now }
 {}
 
 // Runs the PRG file of a source.

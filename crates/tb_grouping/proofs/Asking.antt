@@ -10,7 +10,7 @@ use Rattle.tb_reaching.proofs.Comes.{chained, looser}
 use Rattle.tb_reaching.specs.Start.{IsHome}
 use Rattle.tb_reaching.specs.View.{Comes, Fits, View}
 use Rattle.tb_runtime16.specs.Input.{Taken, prompt}
-use Rattle.tb_runtime16.specs.Laws.{AllBytes}
+use Rattle.tb_opcodes.specs.Bytes.{AreBytes}
 use Rattle.tb_runtime16.specs.Routines.{Here, Moves, Waiting, WordAt, is_state, line_end}
 use Rattle.tb_runtime16.specs.Places.{COLUMN, HOME_S, INPUT_AT, LINE, OPEN, POLL_AT, RESULT}
 use Rattle.tb_runtime16.proofs.StatePlaces.{not_asked}
@@ -120,7 +120,7 @@ module _ (around : Surroundings) (fits : Fits around.f 16) (limit : ℕ) (rs : S
     answered_state : (left : List ℕ) (m : ℕ → ℕ) → HoldsState ly s m → HoldsState ly (record s { answers = left }) m
     answered_state left m hs = record { vars = hs.vars; column = hs.column; opened = hs.opened; seeded = hs.seeded; count = hs.count; notes = hs.notes; few = hs.few; all_vars = hs.all_vars }
 
-    pub poll_law : (left : List ℕ) → drop 1 s.answers ≡ left → AllBytes left → nat_eq (first_or_zero s.answers) 3 ≡ false → Comes f w (Matches around (line code n is (record s { answers = left }) r)) [] (5 + limit)
+    pub poll_law : (left : List ℕ) → drop 1 s.answers ≡ left → AreBytes left → nat_eq (first_or_zero s.answers) 3 ≡ false → Comes f w (Matches around (line code n is (record s { answers = left }) r)) [] (5 + limit)
     poll_law left q small other =
         let lies = h.lies.2 in
         looser f w _ _ [] (4 + (1 + limit)) (5 + limit) (omega arith) (λ u x. x)
@@ -131,7 +131,7 @@ module _ (around : Surroundings) (fits : Fits around.f 16) (limit : ℕ) (rs : S
         let k = kept_scratch around (live is) s r polled v.mem h.few_behind (λ a z. ap (λ k. k a) g.memory) kept_polled in
         stood around code n h.small is (record s { answers = left }) r (w.regs.pc + 13) v.mem w.text (drop 1 w.answers) h.rest (answered_state left v.mem k.state) k.read k.homed h.text (ap (drop 1) h.answers ∙ q) (record { short = h.short.short; text_bytes = h.short.text_bytes; answer_bytes = small }) v
         (back_here _ (w.regs.pc + 13) w.text (drop 1 w.answers) _ v g (behind_call at lies.0 ∙ (let e : at + 3 ≡ w.regs.pc + 13 = omega arith in e))))
-        (rs.poll _ _ polled w.text w.answers n (subst AllBytes (sym h.answers) h.short.answer_bytes) (ap (λ l. nat_eq (first_or_zero l) 3) h.answers ∙ other) (numbered h) kept_polled.homed u e))))
+        (rs.poll _ _ polled w.text w.answers n (subst AreBytes (sym h.answers) h.short.answer_bytes) (ap (λ l. nat_eq (first_or_zero l) 3) h.answers ∙ other) (numbered h) kept_polled.homed u e))))
 
     pub poll_breaks : nat_eq (first_or_zero s.answers) 3 ≡ true → Comes f w (IsHome f) (fault_text 0 n) (5 + limit)
     poll_breaks three =
@@ -139,4 +139,4 @@ module _ (around : Surroundings) (fits : Fits around.f 16) (limit : ℕ) (rs : S
         looser f w _ _ (fault_text 0 n) (4 + (1 + limit)) (5 + limit) (omega arith) (λ u x. x)
         (lines fits h h.lies.0 h.lies.1 _ (fault_text 0 n) (1 + limit) (λ u e.
         chained f u _ _ [] (fault_text 0 n) 1 limit (calls f 16 fits at own polled w.text w.answers refl POLL_AT refl lies.0 lies.1 u e)
-        (rs.poll_breaks _ _ polled w.text w.answers n (subst AllBytes (sym h.answers) h.short.answer_bytes) (ap (λ l. nat_eq (first_or_zero l) 3) h.answers ∙ three) (numbered h) kept_polled.homed)))
+        (rs.poll_breaks _ _ polled w.text w.answers n (subst AreBytes (sym h.answers) h.short.answer_bytes) (ap (λ l. nat_eq (first_or_zero l) 3) h.answers ∙ three) (numbered h) kept_polled.homed)))

@@ -6,7 +6,8 @@ use Rattle.tb_meaning.specs.Steps.{Step, Goes, Stops, and_then}
 use Rattle.tb_reaching.proofs.Comes.{chained, looser}
 use Rattle.tb_reaching.proofs.Instr.{Stands}
 use Rattle.tb_reaching.specs.View.{Comes, Fits, View}
-use Rattle.tb_runtime16.specs.Laws.{AllBytes, Sent}
+use Rattle.tb_runtime16.specs.Laws.{Sent}
+use Rattle.tb_opcodes.specs.Bytes.{AreBytes}
 use Rattle.tb_runtime16.specs.Routines.{Entered, Here, Moves, WordAt, is_state, is_scratch}
 use Rattle.tb_runtime16.specs.Places.{COLUMN, HOME_S, LINE}
 use Rattle.tb_keeping.specs.Layout.{place_at}
@@ -99,7 +100,7 @@ module _ (around : Surroundings) where
         (read_landed u d is r q m m' v fit last c.read there away)
         (homed_kept m m' (home_kept d fit m m' away) c.homed)
         (text ∙ sym same) (got ∙ sym left)
-        (record { short = subst (λ t. length t ≤ keys) (sym same) short.short; text_bytes = subst AllBytes (sym same) short.text_bytes; answer_bytes = subst AllBytes (sym left) short.answer_bytes })
+        (record { short = subst (λ t. length t ≤ keys) (sym same) short.short; text_bytes = subst AreBytes (sym same) short.text_bytes; answer_bytes = subst AreBytes (sym left) short.answer_bytes })
         w e
 
 -- from the beginning of a group

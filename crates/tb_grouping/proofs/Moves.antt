@@ -8,7 +8,7 @@ use Rattle.tb_lower.specs.Slots.{Instr, Store, Slots, SlotCode}
 use Rattle.tb_meaning.specs.Steps.{Goes}
 use Rattle.tb_reaching.proofs.Comes.{looser}
 use Rattle.tb_reaching.specs.View.{Comes, Fits, View}
-use Rattle.tb_runtime16.specs.Laws.{AllBytes}
+use Rattle.tb_opcodes.specs.Bytes.{AreBytes}
 use Rattle.tb_runtime16.specs.Routines.{WordAt}
 use Rattle.tb_runtime16.specs.Places.{HELD}
 use Rattle.tb_templates.specs.Templates.{slot_at}
@@ -126,5 +126,5 @@ module _ (around : Surroundings) (fits : Fits around.f 16) (code : SlotCode) (n 
       (state_landed ly s w.mem after (IntoHome home) v fit.1 h.state there away) read_on
       (homed_kept w.mem after (home_kept (IntoHome home) fit.1 w.mem after away) h.homed)
       (h.text ∙ sym texts) (h.answers ∙ sym answers)
-      (record { short = subst (λ t. length t ≤ keys) (sym texts) h.short.short; text_bytes = subst AllBytes (sym texts) h.short.text_bytes; answer_bytes = subst AllBytes (sym answers) h.short.answer_bytes }))
+      (record { short = subst (λ t. length t ≤ keys) (sym texts) h.short.short; text_bytes = subst AreBytes (sym texts) h.short.text_bytes; answer_bytes = subst AreBytes (sym answers) h.short.answer_bytes }))
       (brings f 16 fits w.regs.pc (lo ∷ hi ∷ []) w.mem w.text w.answers refl (source_of 0 a) (home_at home) h.lies.0 (operand_grounded 0 a (IntoHome home) (omega arith) fit.0) (dest_in_data (IntoHome home) fit.1) h.lies.1 w (here h)))

@@ -12,7 +12,7 @@ use Rattle.tb_reaching.proofs.Comes.{chained, looser}
 use Rattle.tb_reaching.proofs.Services.{served_last}
 use Rattle.tb_reaching.specs.Start.{IsHome}
 use Rattle.tb_reaching.specs.View.{Comes, Fits, View, view}
-use Rattle.tb_runtime16.specs.Laws.{AllBytes}
+use Rattle.tb_opcodes.specs.Bytes.{AreBytes}
 use Rattle.tb_runtime16.specs.Routines.{Here, Moves, WithA}
 use Rattle.tb_keeping.specs.Layout.{place_at}
 use Rattle.tb_keeping.proofs.Joins.{LawAt, sent_in}
@@ -128,7 +128,7 @@ module _ (around : Surroundings) (fits : Fits around.f 16) (limit : ℕ) (rs : S
     with_answers : (l : List ℕ) → HoldsState ly (record s { answers = l }) w.mem
     with_answers l = let k = h.state in record { vars = k.vars; column = k.column; opened = k.opened; seeded = k.seeded; count = k.count; notes = k.notes; few = k.few; all_vars = k.all_vars }
 
-    by_break : (a : ℕ) (l : List ℕ) → s.answers ≡ a ∷ l → AllBytes (a ∷ l) → (t : Bool) → nat_eq a 3 ≡ t → Led (if t then Stops Faulted (fault_text 0 n) else Goes (line code n is (record s { answers = l }) r) [])
+    by_break : (a : ℕ) (l : List ℕ) → s.answers ≡ a ∷ l → AreBytes (a ∷ l) → (t : Bool) → nat_eq a 3 ≡ t → Led (if t then Stops Faulted (fault_text 0 n) else Goes (line code n is (record s { answers = l }) r) [])
     by_break a l e bytes true q u g =
         let stop_is : stop ≡ a = ap first_or_zero e in
         looser f u _ _ (fault_text 0 n) (1 + (2 + (4 + limit))) (10 + limit) (omega arith) (λ v x. x)
@@ -139,7 +139,7 @@ module _ (around : Surroundings) (fits : Fits around.f 16) (limit : ℕ) (rs : S
         (chained f u _ _ [] [] 1 2 (compared false (ap (λ x. eqb x 3) stop_is ∙ q) (omega (arith, stop_is, bytes.0)) u g)
         (goes_on (record s { answers = l }) refl (ap (drop 1) e) (with_answers l) (record { short = h.short.short; text_bytes = h.short.text_bytes; answer_bytes = bytes.1 })))
 
-    led : (l : List ℕ) → s.answers ≡ l → AllBytes l → Led (outcome code n is s r l)
+    led : (l : List ℕ) → s.answers ≡ l → AreBytes l → Led (outcome code n is s r l)
     led [] e bytes u g =
         let stop_is : stop ≡ 0 = ap first_or_zero e in
         looser f u _ _ [] (1 + 2) (10 + limit) (omega arith) (λ v x. x)

@@ -8,7 +8,7 @@ use Rattle.tb_lower.specs.Slots.{Instr, Put, Load, Store, Negate, Compute, Rando
 use Rattle.tb_meaning.specs.Steps.{Goes, Step, after_sending}
 use Rattle.tb_reaching.proofs.Comes.{looser}
 use Rattle.tb_reaching.specs.View.{Comes, Fits, View}
-use Rattle.tb_runtime16.specs.Laws.{AllBytes}
+use Rattle.tb_opcodes.specs.Bytes.{AreBytes}
 use Rattle.tb_keeping.proofs.Joins.{sent_in}
 use Rattle.tb_selection.specs.Groups.{Single}
 use Rattle.tb_selection.specs.Select.{alone}
@@ -61,7 +61,7 @@ module _ (around : Surroundings) (fits : Fits around.f 16) (limit : ℕ) (rs : S
 
     by_break : Begins Poll → (a : ℕ) (l : List ℕ) → s.answers ≡ a ∷ l → (t : Bool) → nat_eq a 3 ≡ t → Leads w (settled n is r (staying r (if t then fault 0 n else Goes (record s { answers = l }) [])))
     by_break h a l e true q = looser f w _ _ (fault_text 0 n) (5 + limit) most (omega arith) (λ u x. x) (poll_breaks around fits limit rs code n is s r w h (ap (λ l. nat_eq (first_or_zero l) 3) e ∙ q))
-    by_break h a l e false q = looser f w _ _ [] (5 + limit) most (omega arith) (λ u x. x) (poll_law around fits limit rs code n is s r w h l (ap (drop 1) e) (subst AllBytes e h.short.answer_bytes).1 (ap (λ l. nat_eq (first_or_zero l) 3) e ∙ q))
+    by_break h a l e false q = looser f w _ _ [] (5 + limit) most (omega arith) (λ u x. x) (poll_law around fits limit rs code n is s r w h l (ap (drop 1) e) (subst AreBytes e h.short.answer_bytes).1 (ap (λ l. nat_eq (first_or_zero l) 3) e ∙ q))
 
     by_answers : Begins Poll → (l : List ℕ) → s.answers ≡ l → Leads w (settled n is r (staying r (answered n l s)))
     by_answers h [] e = looser f w _ _ [] (5 + limit) most (omega arith) (λ u x. x) (poll_law around fits limit rs code n is s r w h s.answers (ap (drop 1) e ∙ sym e) h.short.answer_bytes (ap (λ l. nat_eq (first_or_zero l) 3) e))

@@ -4,7 +4,7 @@ use Rattle.tb_reaching.specs.View.{Part}
 use Rattle.tb_reaching.specs.View.{Bytes}
 use Rattle.tb_reaching.proofs.Instr.{Instr, instr_bytes, flat}
 use Rattle.tb_reaching.proofs.Parts.{bytes_front, bytes_back, stands}
-use Rattle.tb_runtime16.specs.Laws.{AllBytes}
+use Rattle.tb_opcodes.specs.Bytes.{AreBytes}
 use Rattle.tb_keeping.proofs.Resolved.{Piece, Code, Text, size, piece_size, pieces_size, Lies, PieceLies, highest_code}
 
 abbrev pub piece_bytes : Piece → List ℕ
@@ -28,7 +28,7 @@ pieces_length [] = refl
 pieces_length (p ∷ ps) = length-append (piece_bytes p) (pieces_bytes ps) ∙ ap (λ n. n + length (pieces_bytes ps)) (piece_length p) ∙ ap (λ n. piece_size p + n) (pieces_length ps)
 
 -- what stands in code that is bytes is bytes
-shown_bytes : (code : Part) → ((a b : ℕ) → code a ≡ Some b → b < 256) → (at : ℕ) (bs : List ℕ) → Bytes code at bs → AllBytes bs
+shown_bytes : (code : Part) → ((a b : ℕ) → code a ≡ Some b → b < 256) → (at : ℕ) (bs : List ℕ) → Bytes code at bs → AreBytes bs
 shown_bytes code small at [] h = tt
 shown_bytes code small at (b ∷ bs) h = (small at b h.0, shown_bytes code small ((at + 1) % 65536) bs h.1)
 

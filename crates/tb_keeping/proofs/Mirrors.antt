@@ -8,7 +8,7 @@ use Rattle.tb_meaning.specs.Control.{Place, State}
 use Rattle.tb_lower.specs.Slots.{SlotState}
 use Rattle.tb_runtime16.specs.Places.{COLUMN, OPEN, NOTES}
 use Rattle.tb_templates.specs.Templates.{var_at}
-use Rattle.tb_runtime16.specs.Laws.{AllBytes}
+use Rattle.tb_opcodes.specs.Bytes.{AreBytes}
 use Rattle.tb_keeping.specs.Layout.{Layout, place_at}
 use Rattle.tb_runtime16.specs.Routines.{WordAt, SeedAt, Noted, Entered, Here, Waiting}
 
@@ -39,8 +39,8 @@ pub record Carrying (at : ℕ) (bs : List ℕ) (m : ℕ → ℕ) (text answers :
 -- the keyboard's text is at most so long, and it and the answers are bytes
 pub record Typable (keys : ℕ) (text answers : List ℕ) : Type 0 where
   pub short : length text ≤ keys
-  pub text_bytes : AllBytes text
-  pub answer_bytes : AllBytes answers
+  pub text_bytes : AreBytes text
+  pub answer_bytes : AreBytes answers
 
 -- a run stands at the beginning of a place, the memory holding its state
 pub record Opens (ly : Layout) (f : Setup) (lo hi : ℕ) (keys : ℕ) (s : State) (w : View) : Type 0 where

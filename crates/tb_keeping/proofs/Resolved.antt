@@ -8,7 +8,7 @@ use Rattle.tb_meaning.specs.Control.{has_line, highest}
 use Rattle.tb_lower.specs.Slots as slots
 use Rattle.tb_runtime16.specs.Places.{POINTER, RESULT, TABLE, COUNT, LENGTH, COLUMN, CHROUT, TEXT_AT, ZONE_AT, INPUT_AT, SEARCH_AT, FAULT_LINE_AT, POLL_AT}
 use Rattle.tb_templates.specs.Templates.{var_at, slot_at}
-use Rattle.tb_runtime16.specs.Laws.{AllBytes}
+use Rattle.tb_opcodes.specs.Bytes.{AreBytes}
 use Rattle.tb_keeping.specs.Layout.{Layout}
 
 -- ---- pieces of code
@@ -108,7 +108,7 @@ highest_code = 0xA000
 
 abbrev pub PieceLies : Part → ℕ → Piece → Type 0
 PieceLies code at (Code is) = Stands code at is
-PieceLies code at (Text bs) = Bytes code at bs × AllBytes bs
+PieceLies code at (Text bs) = Bytes code at bs × AreBytes bs
 
 -- pieces one behind the other
 abbrev pub Lies : Part → ℕ → List Piece → Type 0

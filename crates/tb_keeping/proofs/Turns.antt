@@ -2,11 +2,11 @@
 use Rattle.std.proofs.Common.{◌-◌, ℕ, suc, ◌≤◌, Bool, true, false, ◌&&◌, ◌||◌, if◌then◌else◌, List, [], ◌∷◌, length, arith}
 use Rattle.std.specs.Prelude.{nat_eq, nat_le}
 use Rattle.tb_meaning.specs.Input.{Bad, Digits, Dry, Got, Nothing, Reading, Sign, Turn, number_end, signed_turn, turn, with_digit}
-use Rattle.tb_runtime16.specs.Laws.{AllBytes}
+use Rattle.tb_opcodes.specs.Bytes.{AreBytes}
 
 -- a turn leaves bytes, at most so many
 abbrev pub Leaves : ℕ → Turn → Type 0
-Leaves k (Got v stays left) = (length left ≤ k) × AllBytes left
+Leaves k (Got v stays left) = (length left ≤ k) × AreBytes left
 Leaves k Bad = Unit {0}
 Leaves k Dry = Unit {0}
 
@@ -22,7 +22,7 @@ short_if : (k : ℕ) (b : Bool) (t u : Turn) → Short k t → Short k u → Sho
 short_if k true t u h i = h
 short_if k false t u h i = i
 
-short_end : (r : Reading) (stays : Bool) (left : List ℕ) → AllBytes left → Short (suc (length left)) (number_end r stays left)
+short_end : (r : Reading) (stays : Bool) (left : List ℕ) → AreBytes left → Short (suc (length left)) (number_end r stays left)
 short_end Nothing stays left h = record { few = tt }
 short_end (Sign negative) stays left h = record { few = tt }
 short_end (Digits negative n) stays left h = record { few = (omega arith, h) }
@@ -32,7 +32,7 @@ short_signed k Nothing t h = h
 short_signed k (Sign negative) t h = record { few = tt }
 short_signed k (Digits negative n) t h = record { few = tt }
 
-pub turn_short : (text : List ℕ) (r : Reading) → AllBytes text → Short (length text) (turn r text)
+pub turn_short : (text : List ℕ) (r : Reading) → AreBytes text → Short (length text) (turn r text)
 turn_short [] r h = record { few = tt }
 turn_short (b ∷ text) r h =
     let k = suc (length text) in

@@ -12,13 +12,13 @@ use Rattle.tb_meaning.specs.Steps.{End, Ended, Faulted, Waits, Run, GoesOn, Over
 use Rattle.tb_words.specs.Prefixes.{IsPrefix}
 use Rattle.tb_meaning.specs.Control.{State}
 use Rattle.tb_meaning.specs.Meaning.{source_run}
-use Rattle.tb_runtime16.specs.Laws.{AllBytes}
+use Rattle.tb_opcodes.specs.Bytes.{AreBytes}
 
 -- a start of a program whose keyboard gives bytes; all else is arbitrary
 pub record Starts (place : ℕ) (bytes : List ℕ) (s : machine.State) : Type 0 where
   pub start : IsStart place bytes s
-  pub text : AllBytes s.text
-  pub answers : AllBytes s.answers
+  pub text : AreBytes s.text
+  pub answers : AreBytes s.answers
 
 -- the status of a machine where a run of the source ended so
 abbrev pub HasEnded : End → machine.State → Type 0

@@ -12,11 +12,11 @@ header =
     0x00 ∷ 0x00 ∷ []
 
 -- an address and the bytes from there on, of which none may lie behind $FFFF
-abbrev pub within : ℕ → List ℕ → Result (ℕ × List ℕ) PrgError
-within at bytes = if nat_lt 65536 (at + length bytes) then Err RunsPast else Ok (at, bytes)
+abbrev pub placed_at : ℕ → List ℕ → Result (ℕ × List ℕ) PrgError
+placed_at at bytes = if nat_lt 65536 (at + length bytes) then Err RunsPast else Ok (at, bytes)
 
 -- the load address and the bytes of a file; TooShort for fewer than two bytes, RunsPast for bytes behind $FFFF
 abbrev pub content_of : List ℕ → Result (ℕ × List ℕ) PrgError
 content_of [] = Err TooShort
 content_of (low ∷ []) = Err TooShort
-content_of (low ∷ high ∷ bytes) = within (low + 256 * high) bytes
+content_of (low ∷ high ∷ bytes) = placed_at (low + 256 * high) bytes

@@ -50,4 +50,3 @@ impl From<AllocError> for CompileError {
         CompileError::NoMemory
     }
 }
-

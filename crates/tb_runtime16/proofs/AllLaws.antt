@@ -14,7 +14,8 @@ use Rattle.tb_reaching.specs.Start.{IsHome, IsWaiting}
 use Rattle.tb_reaching.proofs.Comes.{looser}
 use Rattle.tb_reaching.proofs.Calls.{under}
 use Rattle.tb_runtime16.specs.Block.{block_part}
-use Rattle.tb_runtime16.specs.Laws.{AllBytes, Leaves, Back, Drawn, seed_of}
+use Rattle.tb_runtime16.specs.Laws.{Leaves, Back, Drawn, seed_of}
+use Rattle.tb_opcodes.specs.Bytes.{AreBytes}
 use Rattle.tb_runtime16.specs.Input as asking
 use Rattle.tb_runtime16.specs.Input.{prompt, Taken}
 use Rattle.tb_runtime16.specs.Notes.{Noted, Notes}
@@ -50,7 +51,7 @@ bad_range a h = ⊎_elim (λ e. inl (eqb-true a 0 e)) (λ e. inr (leb-true 32768
 zero_or : (b : ℕ) → (b ≡ 0) ⊎ (1 ≤ b)
 zero_or b = ⊎_elim (λ e. inl e) (λ e. inr (omega arith)) (cases_eq b 0)
 
-first_small : (answers : List ℕ) → AllBytes answers → first_or_zero answers < 256
+first_small : (answers : List ℕ) → AreBytes answers → first_or_zero answers < 256
 first_small [] h = omega arith
 first_small (a ∷ rest) h = h.0
 
@@ -76,7 +77,7 @@ module _ (table seed_option : ℕ) (numbers : List ℕ) (start : ℕ → ℕ) (f
       (search_law (under f own) (omega (arith, fits)) block l h text answers m x y z b v i c d n table (entries start numbers) left at (subst (WordAt m COUNT) (sym size) count)
       laid.shown laid.from (omega (arith, size, laid.to)) (omega (arith, size, laid.some)) (subst AreRising (sym (entries_numbers start numbers)) laid.rising) laid.words)
 
-  asks : (l h : ℕ) (m : ℕ → ℕ) (text answers : List ℕ) (o : Bool) (j : ℕ) (t : Turn) → m OPEN ≡ bit o → m COLUMN < 256 → AllBytes text → WordAt m LINE j → Entered f lo hi m → turn Nothing text ≡ t → (x y z : ℕ) (n b i c d : Bool) → Comes f (view x y z n b i c d INPUT_AT (l ∷ h ∷ own) m text answers) (asking.Ended f l h own m answers (m COLUMN) (prompt o) t) (prompt o ++ asking.turn_sends j t) (45 * length text + 587)
+  asks : (l h : ℕ) (m : ℕ → ℕ) (text answers : List ℕ) (o : Bool) (j : ℕ) (t : Turn) → m OPEN ≡ bit o → m COLUMN < 256 → AreBytes text → WordAt m LINE j → Entered f lo hi m → turn Nothing text ≡ t → (x y z : ℕ) (n b i c d : Bool) → Comes f (view x y z n b i c d INPUT_AT (l ∷ h ∷ own) m text answers) (asking.Ended f l h own m answers (m COLUMN) (prompt o) t) (prompt o ++ asking.turn_sends j t) (45 * length text + 587)
   asks l h m text answers o j t is_open column small line e is x y z n b i c d =
       subst (λ t. Comes f (view x y z n b i c d INPUT_AT (l ∷ h ∷ own) m text answers) (asking.Ended f l h own m answers (m COLUMN) (prompt o) t) (prompt o ++ asking.turn_sends j t) (45 * length text + 587)) is
       (input_law f 16 (let most : 13 ≤ 16 = omega arith in most) fits block lo hi [] (let deep : 6 ≤ 16 = omega arith in deep) l h text answers m e j line small o is_open (m COLUMN) (let r : m COLUMN ≡ m COLUMN % 256 = omega (arith, column) in r) x y z n b i c d)

@@ -15,7 +15,8 @@ use Rattle.tb_runtime16.specs.Places.{INPUT_AT, SEND_AT, COLUMN, LEFT, RESULT, H
 use Rattle.tb_runtime16.specs.Block.{block_part}
 use Rattle.tb_runtime16.specs.Ends.{Entered}
 use Rattle.tb_runtime16.specs.Input.{MINUS, is_changed, turn_sends, Ended, InputLaw}
-use Rattle.tb_runtime16.specs.Laws.{AllBytes, WordAt, Changes, Sent, nowhere}
+use Rattle.tb_runtime16.specs.Laws.{WordAt, Changes, Sent, nowhere}
+use Rattle.tb_opcodes.specs.Bytes.{AreBytes}
 use Rattle.tb_runtime16.proofs.Words.{small_byte, taken_from_zero}
 use Rattle.tb_runtime16.proofs.Tens.{times_ten}
 use Rattle.tb_runtime16.proofs.Frames.{changes_put, leaves_now}
@@ -196,10 +197,10 @@ module _ (f : Setup) (room : ℕ) (most : 13 ≤ room) (fits : Fits f room) (blo
 
   -- ---- a turn goes on
   Reads : List ℕ → Type 0
-  Reads text = (r : Reading) (a x y : ℕ) (n v i z c : Bool) (m : ℕ → ℕ) → Held r m → AllBytes text → Comes f (view a x y n v i z c (INPUT_AT + 0x22) (lo ∷ hi ∷ own) m text answers) (Goal (turn r text)) (sends (turn r text)) (45 * length text + (102 + 458))
+  Reads text = (r : Reading) (a x y : ℕ) (n v i z c : Bool) (m : ℕ → ℕ) → Held r m → AreBytes text → Comes f (view a x y n v i z c (INPUT_AT + 0x22) (lo ∷ hi ∷ own) m text answers) (Goal (turn r text)) (sends (turn r text)) (45 * length text + (102 + 458))
 
   -- a sign
-  at_sign : (r : Reading) (negative : Bool) (a x y : ℕ) (n v i z c : Bool) (m : ℕ → ℕ) (text : List ℕ) → Reads text → Held r m → same_byte (m BYTE) 45 ≡ negative → AllBytes text → Comes f (view a x y n v i z c (INPUT_AT + 0x8D) (lo ∷ hi ∷ own) m text answers) (Goal (signed_turn r (turn (Sign negative) text))) (sends (signed_turn r (turn (Sign negative) text))) (45 * length text + (109 + 458))
+  at_sign : (r : Reading) (negative : Bool) (a x y : ℕ) (n v i z c : Bool) (m : ℕ → ℕ) (text : List ℕ) → Reads text → Held r m → same_byte (m BYTE) 45 ≡ negative → AreBytes text → Comes f (view a x y n v i z c (INPUT_AT + 0x8D) (lo ∷ hi ∷ own) m text answers) (Goal (signed_turn r (turn (Sign negative) text))) (sends (signed_turn r (turn (Sign negative) text))) (45 * length text + (109 + 458))
   unfolding Reads
   at_sign Nothing negative a x y n v i z c m text go h e bs =
       let t : eqb (m SCRATCH) 0 ≡ true = eq-eqb _ _ h.seen in
@@ -220,7 +221,7 @@ module _ (f : Setup) (room : ℕ) (most : 13 ≤ room) (fits : Fits f room) (blo
       (rw t (bad _ _ _ _ _ _ _ _ m text h.others)))
 
   -- a digit, which BYTE holds
-  at_digit : (r : Reading) (d : ℕ) (a x y : ℕ) (n v i z c : Bool) (m : ℕ → ℕ) (text : List ℕ) → Reads text → Held r m → m BYTE ≡ d → d < 10 → AllBytes text → Comes f (view a x y n v i z c (INPUT_AT + 0x46) (lo ∷ hi ∷ own) m text answers) (Goal (turn (with_digit r d) text)) (sends (turn (with_digit r d) text)) (27 + (45 * length text + (102 + 458)))
+  at_digit : (r : Reading) (d : ℕ) (a x y : ℕ) (n v i z c : Bool) (m : ℕ → ℕ) (text : List ℕ) → Reads text → Held r m → m BYTE ≡ d → d < 10 → AreBytes text → Comes f (view a x y n v i z c (INPUT_AT + 0x46) (lo ∷ hi ∷ own) m text answers) (Goal (turn (with_digit r d) text)) (sends (turn (with_digit r d) text)) (27 + (45 * length text + (102 + 458)))
   unfolding Reads
   at_digit r d a x y n v i z c m text go h e small bs =
       let ten = times_ten (m RESULT) (m (RESULT + 1)) (m BYTE) h.is_word.0 h.is_word.1 (omega (arith, e)) in
@@ -244,7 +245,7 @@ module _ (f : Setup) (room : ℕ) (most : 13 ≤ room) (fits : Fits f room) (blo
 
   -- ---- a byte has come
   abbrev Byte : ℕ → List ℕ → Reading → Type 0
-  Byte b text r = (x y : ℕ) (n v i z c : Bool) (m : ℕ → ℕ) → Held r m → AllBytes text → Comes f (view b x y n v i z c (INPUT_AT + 0x25) (lo ∷ hi ∷ own) m text answers) (Goal (turn r (b ∷ text))) (sends (turn r (b ∷ text))) (45 * length text + (145 + 458))
+  Byte b text r = (x y : ℕ) (n v i z c : Bool) (m : ℕ → ℕ) → Held r m → AreBytes text → Comes f (view b x y n v i z c (INPUT_AT + 0x25) (lo ∷ hi ∷ own) m text answers) (Goal (turn r (b ∷ text))) (sends (turn r (b ∷ text))) (45 * length text + (145 + 458))
 
   space : (text : List ℕ) → Reads text → (r : Reading) → Byte 32 text r
   unfolding Reads
@@ -278,7 +279,7 @@ module _ (f : Setup) (room : ℕ) (most : 13 ≤ room) (fits : Fits f room) (blo
       (done r false _ _ _ _ _ _ _ _ _ text (held_byte r m 13 h) refl))
 
   -- a byte that may be a digit
-  digit : (text : List ℕ) → Reads text → (r : Reading) (b : ℕ) → 48 ≤ b → b ≤ 57 → (x y : ℕ) (n v i z c : Bool) (m : ℕ → ℕ) → Held r m → AllBytes text → Comes f (view b x y n v i z c (INPUT_AT + 0x3C) (lo ∷ hi ∷ own) m text answers) (Goal (turn r (b ∷ text))) (sends (turn r (b ∷ text))) (5 + (27 + (45 * length text + (102 + 458))))
+  digit : (text : List ℕ) → Reads text → (r : Reading) (b : ℕ) → 48 ≤ b → b ≤ 57 → (x y : ℕ) (n v i z c : Bool) (m : ℕ → ℕ) → Held r m → AreBytes text → Comes f (view b x y n v i z c (INPUT_AT + 0x3C) (lo ∷ hi ∷ own) m text answers) (Goal (turn r (b ∷ text))) (sends (turn r (b ∷ text))) (5 + (27 + (45 * length text + (102 + 458))))
   digit text go r b from to x y n v i z c m h bs =
       let d : (b + 256 - 48) % 256 ≡ b - 48 = omega arith in
       let t : leb 10 ((b + 256 - 48) % 256) ≡ false = lt-leb 10 _ (omega arith) in
@@ -343,7 +344,7 @@ module _ (f : Setup) (room : ℕ) (most : 13 ≤ room) (fits : Fits f room) (blo
       (serving f room fits Chrin _ _ _ _ _ (sends (turn r (b ∷ text))) (45 * length text + (145 + 458)) (le-leb _ _ (omega (arith, deep, length-append above (hlo ∷ hhi ∷ [])))) refl refl refl (λ j.
       any text (reads_all text) r b bs.0 j.x j.y j.n j.v j.i j.z j.c m h bs.1)))
 
-  start : (a x y : ℕ) (n v i z c : Bool) (m : ℕ → ℕ) (text : List ℕ) → AllBytes text → m OPEN ≡ 1 → m COLUMN ≡ column_after col before % 256 → Changes is_changed m0 m → Comes f (view a x y n v i z c (INPUT_AT + 0x14) (lo ∷ hi ∷ own) m text answers) (Goal (turn Nothing text)) (sends (turn Nothing text)) (5 + (45 * length text + (102 + 458)))
+  start : (a x y : ℕ) (n v i z c : Bool) (m : ℕ → ℕ) (text : List ℕ) → AreBytes text → m OPEN ≡ 1 → m COLUMN ≡ column_after col before % 256 → Changes is_changed m0 m → Comes f (view a x y n v i z c (INPUT_AT + 0x14) (lo ∷ hi ∷ own) m text answers) (Goal (turn Nothing text)) (sends (turn Nothing text)) (5 + (45 * length text + (102 + 458)))
   unfolding Reads
   start a x y n v i z c m text bs o e k =
       after_on f own 4 free input_part st 4 (view a x y n v i z c (INPUT_AT + 0x14) (lo ∷ hi ∷ []) m text answers) _ _ (45 * length text + (102 + 458)) refl

@@ -12,7 +12,8 @@ use Rattle.tb_runtime16.specs.Block.{block_part}
 use Rattle.tb_runtime16.specs.Laws.{is_argument, Back, Gives, MultiplyLaw}
 use Rattle.tb_runtime16.proofs.InMemory.{IsWord, bytes_of, holds_word, of_word}
 use Rattle.tb_runtime16.proofs.Within.{multiply_part, multiply_in}
-use Rattle.tb_runtime16.proofs.Words.{pow2, halved, doubled, added, turn_even, turn_odd, turn_double}
+use Rattle.tb_runtime16.proofs.Words.{halved, doubled, added, turn_even, turn_odd, turn_double}
+use Rattle.tb_words.proofs.Powers.{pow2}
 use Rattle.tb_runtime16.proofs.Frames.{Frame, frame_put, leaves_now}
 
 pow2_rises : (k j : ℕ) → pow2 k ≤ pow2 (k + j)

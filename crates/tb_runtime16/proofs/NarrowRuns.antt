@@ -15,7 +15,8 @@ use Rattle.tb_runtime16.specs.Block.{block_part}
 use Rattle.tb_runtime16.specs.Laws.{Back, Parted}
 use Rattle.tb_runtime16.proofs.InMemory.{IsWord, holds_word}
 use Rattle.tb_runtime16.proofs.Within.{divide_part, divide_in}
-use Rattle.tb_runtime16.proofs.Words.{pow2, small_byte, one_high}
+use Rattle.tb_runtime16.proofs.Words.{small_byte, one_high}
+use Rattle.tb_words.proofs.Powers.{pow2}
 use Rattle.tb_runtime16.proofs.WideRuns.{double, double_one}
 use Rattle.tb_runtime16.proofs.Frames.{Frame, frame_put, leaves_now}
 

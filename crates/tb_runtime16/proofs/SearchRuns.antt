@@ -15,7 +15,8 @@ use Rattle.tb_runtime16.specs.Laws.{Changes}
 use Rattle.tb_runtime16.specs.Search.{Line, table_bytes, AreRising, numbers_in, AllWords, address_of, search_changes, Searched, SearchLaw}
 use Rattle.tb_runtime16.proofs.InMemory.{IsWord, bytes_of, value}
 use Rattle.tb_runtime16.proofs.Within.{search_part, search_in}
-use Rattle.tb_runtime16.proofs.Words.{pow2, halved}
+use Rattle.tb_runtime16.proofs.Words.{halved}
+use Rattle.tb_words.proofs.Powers.{pow2}
 use Rattle.tb_runtime16.proofs.Frames.{changes_put, leaves_now}
 use Rattle.tb_runtime16.proofs.Pointed.{carry_at_least, carry_below}
 use Rattle.tb_runtime16.proofs.Through.{loading, comparing, subtracting, times_four, summed, difference}

@@ -15,7 +15,8 @@ use Rattle.tb_reaching.proofs.Placed.{placing, takes_at, reads_code}
 use Rattle.tb_meaning.specs.Control.{column_after}
 use Rattle.tb_runtime16.specs.Places.{TEXT_AT, COLUMN, POINTER, LENGTH}
 use Rattle.tb_runtime16.specs.Block.{block_part}
-use Rattle.tb_runtime16.specs.Laws.{AllBytes, Back, Sent, Told, nowhere, TextLaw}
+use Rattle.tb_runtime16.specs.Laws.{Back, Sent, Told, nowhere, TextLaw}
+use Rattle.tb_opcodes.specs.Bytes.{AreBytes}
 use Rattle.tb_runtime16.proofs.InMemory.{bytes_of, value}
 use Rattle.tb_runtime16.proofs.Within.{text_part, text_in}
 use Rattle.tb_runtime16.proofs.Called.{calls}
@@ -33,7 +34,7 @@ module _ (f : Setup) (fits : Fits f 4) (block : Holds block_part f.code) (lo hi 
     from : 0x0800 ≤ at
     to : at + length bytes ≤ 0xa000
     few : length bytes < 256
-    small : AllBytes bytes
+    small : AreBytes bytes
     others : (a : ℕ) → a ≢ COLUMN → a ≢ POINTER → a ≢ POINTER + 1 → a ≢ LENGTH → m a ≡ m0 a
     column : column_after (m COLUMN) bytes % 256 ≡ column_after (m0 COLUMN) all % 256
     column_small : m0 COLUMN < 256 → m COLUMN < 256

@@ -13,7 +13,8 @@ use Rattle.tb_runtime16.specs.Block.{block_part}
 use Rattle.tb_runtime16.specs.Laws.{Back, Parted}
 use Rattle.tb_runtime16.proofs.InMemory.{IsWord, holds_word}
 use Rattle.tb_runtime16.proofs.Within.{divide_part, divide_in}
-use Rattle.tb_runtime16.proofs.Words.{pow2, small_byte, carried, doubled, doubled_in, subtracted, compared, compared_less}
+use Rattle.tb_runtime16.proofs.Words.{small_byte, carried, doubled, doubled_in, subtracted, compared, compared_less}
+use Rattle.tb_words.proofs.Powers.{pow2}
 use Rattle.tb_runtime16.proofs.Frames.{Frame, frame_put, leaves_now}
 
 pub double : (a b : ℕ) → (a + a) * b ≡ a * b + a * b

@@ -5,13 +5,10 @@ use Rattle.std.proofs.lemmas.Nat.{mul-mod_first}
 use Rattle.std.proofs.Math.Nat.{add-mod-mod, mod-add-mod, div-le_self}
 use Rattle.std.specs.Prelude.{nat_lt, nat_le}
 use Rattle.tb_cpu.specs.Effects.{bit}
+use Rattle.tb_words.proofs.Powers.{pow2}
 use Rattle.tb_words.specs.Words.{word, is_negative, magnitude, negated, with_sign, differ, quotient}
 
 -- ---- powers, bytes, bits and carries
-abbrev pub pow2 : ℕ → ℕ
-pow2 zero = 1
-pow2 (suc k) = pow2 k + pow2 k
-
 pub small_byte : (n : ℕ) → n % 256 < 256
 small_byte n = omega arith
 

@@ -1,5 +1,6 @@
 -- What the routines promise, whatever the ROM does.
 use Rattle.std.specs.Prelude.{◌≡◌, ◌⊎◌, ◌≢◌, ℕ, ◌+◌, ◌*◌, ◌/◌, ◌%◌, ◌<◌, ◌≤◌, Bool, false, ◌||◌, ◌==◌, if◌then◌else◌, List, [], ◌∷◌, length}
+use Rattle.tb_opcodes.specs.Bytes.{AreBytes}
 use Rattle.tb_memmap.specs.Regions.{within}
 use Rattle.tb_reaching.specs.View.{View, Setup, Holds, Fits, Comes, view, back_at, Bytes}
 use Rattle.tb_words.specs.Words.{word, magnitude, quotient, seed_after, digits_of}
@@ -71,11 +72,6 @@ SendLaw =
 
 -- ---- Text
 
--- each number of a list is below 256
-abbrev pub AllBytes : List ℕ → Type 0
-AllBytes [] = Unit {0}
-AllBytes (b ∷ bs) = (b < 256) × AllBytes bs
-
 -- a text of at most 255 bytes in the program, and where it begins and how long it is, as the routine is told
 pub record Points (f : Setup) (m : ℕ → ℕ) (at : ℕ) (bytes : List ℕ) : Type 0 where
   pub pointer : WordAt m POINTER at
@@ -84,7 +80,7 @@ pub record Points (f : Setup) (m : ℕ → ℕ) (at : ℕ) (bytes : List ℕ) : 
   pub to : at + length bytes ≤ 0xa000
   pub count : m LENGTH ≡ length bytes
   pub few : length bytes < 256
-  pub bytes_small : AllBytes bytes
+  pub bytes_small : AreBytes bytes
 
 -- memory after Text sent bytes: COLUMN as behind them, POINTER and LENGTH lost, and all else as it was
 pub record Told (m0 : ℕ → ℕ) (sent : List ℕ) (m : ℕ → ℕ) : Type 0 where

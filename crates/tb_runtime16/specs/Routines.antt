@@ -11,7 +11,8 @@ use Rattle.tb_reaching.specs.View.{View, Setup, Part, Holds, Fits, Comes, back_a
 use Rattle.tb_reaching.specs.Start.{IsHome, IsWaiting}
 use Rattle.tb_runtime16.specs.Block.{block_part}
 pub use Rattle.tb_runtime16.specs.Laws.{WordAt}
-use Rattle.tb_runtime16.specs.Laws.{AllBytes, Leaves, Gives, Parts, Sent, Drawn, is_argument}
+use Rattle.tb_runtime16.specs.Laws.{Leaves, Gives, Parts, Sent, Drawn, is_argument}
+use Rattle.tb_opcodes.specs.Bytes.{AreBytes}
 pub use Rattle.tb_runtime16.specs.Ends.{Entered}
 use Rattle.tb_runtime16.specs.Input.{prompt, Taken}
 pub use Rattle.tb_runtime16.specs.Notes.{Noted}
@@ -81,7 +82,7 @@ pub record Routines (table seed_option : ℕ) (numbers : List ℕ) (start : ℕ 
       Moves f (Here DIVIDE_AT (l ∷ h ∷ lo ∷ hi ∷ []) m text answers) (IsHome f) (fault_text 2 n) limit
   pub number : (l h : ℕ) (m : ℕ → ℕ) (text answers : List ℕ) (a : ℕ) → WordAt m LEFT a → m COLUMN < 256 →
       Moves f (Here NUMBER_AT (l ∷ h ∷ lo ∷ hi ∷ []) m text answers) (Leaves (back_at l h) (lo ∷ hi ∷ []) text answers (Sent is_scratch m (digits_of a))) (digits_of a) limit
-  pub text : (l h : ℕ) (m : ℕ → ℕ) (text answers : List ℕ) (at : ℕ) (bytes : List ℕ) → WordAt m POINTER at → m LENGTH ≡ length bytes → Bytes f.code at bytes → AllBytes bytes → 0x0800 ≤ at → at + length bytes ≤ 0xa000 → length bytes < 256 → m COLUMN < 256 →
+  pub text : (l h : ℕ) (m : ℕ → ℕ) (text answers : List ℕ) (at : ℕ) (bytes : List ℕ) → WordAt m POINTER at → m LENGTH ≡ length bytes → Bytes f.code at bytes → AreBytes bytes → 0x0800 ≤ at → at + length bytes ≤ 0xa000 → length bytes < 256 → m COLUMN < 256 →
       Moves f (Here TEXT_AT (l ∷ h ∷ lo ∷ hi ∷ []) m text answers) (Leaves (back_at l h) (lo ∷ hi ∷ []) text answers (Sent is_scratch m bytes)) bytes limit
   pub zone : (l h : ℕ) (m : ℕ → ℕ) (text answers : List ℕ) → m COLUMN < 256 →
       Moves f (Here ZONE_AT (l ∷ h ∷ lo ∷ hi ∷ []) m text answers) (Leaves (back_at l h) (lo ∷ hi ∷ []) text answers (Sent is_scratch m (zone (m COLUMN)))) (zone (m COLUMN)) limit
@@ -107,15 +108,15 @@ pub record Routines (table seed_option : ℕ) (numbers : List ℕ) (start : ℕ 
       Moves f (Here PUSH_AT (l ∷ h ∷ lo ∷ hi ∷ []) m text answers) (Leaves (back_at l h) (lo ∷ hi ∷ []) text answers (Pushed m (note ∷ notes))) [] limit
   pub push_fails : (l h : ℕ) (m : ℕ → ℕ) (text answers notes : List ℕ) (n : ℕ) → WordAt m NOTES (length notes) → Noted m notes → length notes ≡ 500 → WordAt m LINE n → Entered f lo hi m →
       Moves f (Here PUSH_AT (l ∷ h ∷ lo ∷ hi ∷ []) m text answers) (IsHome f) (fault_text 4 n) limit
-  pub input : (l h : ℕ) (m : ℕ → ℕ) (text answers : List ℕ) (o stays : Bool) (v : ℕ) (left : List ℕ) (n : ℕ) → m OPEN ≡ bit o → m COLUMN < 256 → AllBytes text → length text ≤ keys → WordAt m LINE n → Entered f lo hi m → turn Nothing text ≡ Got v stays left →
+  pub input : (l h : ℕ) (m : ℕ → ℕ) (text answers : List ℕ) (o stays : Bool) (v : ℕ) (left : List ℕ) (n : ℕ) → m OPEN ≡ bit o → m COLUMN < 256 → AreBytes text → length text ≤ keys → WordAt m LINE n → Entered f lo hi m → turn Nothing text ≡ Got v stays left →
       Moves f (Here INPUT_AT (l ∷ h ∷ lo ∷ hi ∷ []) m text answers) (Leaves (back_at l h) (lo ∷ hi ∷ []) left answers (Taken m (column_after (m COLUMN) (prompt o ++ line_end stays) % 256) v stays)) (prompt o ++ line_end stays) limit
-  pub input_fails : (l h : ℕ) (m : ℕ → ℕ) (text answers : List ℕ) (o : Bool) (n : ℕ) → m OPEN ≡ bit o → m COLUMN < 256 → AllBytes text → length text ≤ keys → turn Nothing text ≡ Bad → WordAt m LINE n → Entered f lo hi m →
+  pub input_fails : (l h : ℕ) (m : ℕ → ℕ) (text answers : List ℕ) (o : Bool) (n : ℕ) → m OPEN ≡ bit o → m COLUMN < 256 → AreBytes text → length text ≤ keys → turn Nothing text ≡ Bad → WordAt m LINE n → Entered f lo hi m →
       Moves f (Here INPUT_AT (l ∷ h ∷ lo ∷ hi ∷ []) m text answers) (IsHome f) (prompt o ++ fault_text 6 n) limit
-  pub input_waits : (l h : ℕ) (m : ℕ → ℕ) (text answers : List ℕ) (o : Bool) (n : ℕ) → m OPEN ≡ bit o → m COLUMN < 256 → AllBytes text → length text ≤ keys → turn Nothing text ≡ Dry → WordAt m LINE n → Entered f lo hi m →
+  pub input_waits : (l h : ℕ) (m : ℕ → ℕ) (text answers : List ℕ) (o : Bool) (n : ℕ) → m OPEN ≡ bit o → m COLUMN < 256 → AreBytes text → length text ≤ keys → turn Nothing text ≡ Dry → WordAt m LINE n → Entered f lo hi m →
       Moves f (Here INPUT_AT (l ∷ h ∷ lo ∷ hi ∷ []) m text answers) Waiting (prompt o) limit
-  pub poll : (l h : ℕ) (m : ℕ → ℕ) (text answers : List ℕ) (n : ℕ) → AllBytes answers → nat_eq (first_or_zero answers) 3 ≡ false → WordAt m LINE n → Entered f lo hi m →
+  pub poll : (l h : ℕ) (m : ℕ → ℕ) (text answers : List ℕ) (n : ℕ) → AreBytes answers → nat_eq (first_or_zero answers) 3 ≡ false → WordAt m LINE n → Entered f lo hi m →
       Moves f (Here POLL_AT (l ∷ h ∷ lo ∷ hi ∷ []) m text answers) (Leaves (back_at l h) (lo ∷ hi ∷ []) text (drop 1 answers) (λ w. w ≡ m)) [] limit
-  pub poll_breaks : (l h : ℕ) (m : ℕ → ℕ) (text answers : List ℕ) (n : ℕ) → AllBytes answers → nat_eq (first_or_zero answers) 3 ≡ true → WordAt m LINE n → Entered f lo hi m →
+  pub poll_breaks : (l h : ℕ) (m : ℕ → ℕ) (text answers : List ℕ) (n : ℕ) → AreBytes answers → nat_eq (first_or_zero answers) 3 ≡ true → WordAt m LINE n → Entered f lo hi m →
       Moves f (Here POLL_AT (l ∷ h ∷ lo ∷ hi ∷ []) m text answers) (IsHome f) (fault_text 0 n) limit
 
 -- ---- what they stand on

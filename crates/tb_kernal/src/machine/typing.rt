@@ -3,8 +3,8 @@ ghost use Rattle.std.specs.Prelude.{◌≡◌, OnOk, OnErr};
 ghost use Rattle.tb_kernal.specs.Machine.{state_of};
 ghost use Rattle.tb_kernal.specs.Typing.{with_typed, with_more};
 
-use std::alloc::AllocError;
 use crate::machine::Machine;
+use std::alloc::AllocError;
 
 impl Machine {
     /// Puts bytes behind the keyboard's text, so that a machine that waits for a key goes on. AllocError
