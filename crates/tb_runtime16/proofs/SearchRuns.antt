@@ -42,12 +42,16 @@ module _ (f : Setup) (fits : Fits f 2) (block : Holds block_part f.code) (lo hi 
     words : AllWords es
     same : address_of (word_in m0 WANTED) es ≡ r
 
+  -- the bytes at TABLE and COUNT tell where they stand and how many they are
+  record Told (t0 t1 c0 c1 : ℕ) (es : List Line) (at : ℕ) : Type 0 where
+    table : t0 + 256 * t1 ≡ at
+    table_word : (t0 < 256) × (t1 < 256)
+    size : c0 + 256 * c1 ≡ length es
+    size_word : (c0 < 256) × (c1 < 256)
+
   -- and memory tells of them
   record Range (m : ℕ → ℕ) (es : List Line) (at : ℕ) : Type 0 where
-    table : m TABLE + 256 * m (TABLE + 1) ≡ at
-    table_word : IsWord m TABLE
-    size : m COUNT + 256 * m (COUNT + 1) ≡ length es
-    size_word : IsWord m COUNT
+    told : Told (m TABLE) (m (TABLE + 1)) (m COUNT) (m (COUNT + 1)) es at
     part : Piece es at
     others : Changes search_changes m0 m
 
@@ -303,8 +307,8 @@ module _ (f : Setup) (fits : Fits f 2) (block : Holds block_part f.code) (lo hi 
   few : (a x y : ℕ) (n v i z c : Bool) (m : ℕ → ℕ) (es : List Line) (at : ℕ) → Range m es at → 1 ≤ length es → length es < 64 → Comes f (view a x y n v i z c SEARCH_AT (lo ∷ hi ∷ []) m text answers) (Searched lo hi m0 text answers r) [] 150
   unfolding Halve
   few a x y n v i z c m es at h some small =
-      let size = h.size in
-      let table = h.table in
+      let size = h.told.size in
+      let table = h.told.table in
       let t : eqb (m (COUNT + 1)) 0 ≡ true = eq-eqb _ _ (omega (arith, size)) in
       let u : nat_le 64 (m COUNT) ≡ false = lt-leb 64 (m COUNT) (omega (arith, size)) in
       after f 2 fits search_part (search_in f.code block) 1 (view a x y n v i z c SEARCH_AT (lo ∷ hi ∷ []) m text answers) _ _ (3 + (2 + 143)) refl
@@ -326,10 +330,7 @@ module _ (f : Setup) (fits : Fits f 2) (block : Holds block_part f.code) (lo hi 
       after f 2 fits search_part (search_in f.code block) 4 (view a x y n v i z c (SEARCH_AT + 0x58) (lo ∷ hi ∷ []) m text answers) _ _ (40 * k + 150) refl
       (go _ _ _ _ _ _ _ _ _ front at
       (record {
-        table = h.table;
-        table_word = h.table_word;
-        size = size;
-        size_word = w;
+        told = record { table = h.told.table; table_word = h.told.table_word; size = size; size_word = w };
         part = front_part front e back at h.part less;
         others = changes_put _ _ _ (COUNT + 1) _ refl (changes_put _ _ _ COUNT _ refl h.others);
       }) some few)
@@ -339,16 +340,13 @@ module _ (f : Setup) (fits : Fits f 2) (block : Holds block_part f.code) (lo hi 
   unfolding Probe
   upper k go a x y n v i z m front e back at h w size p place few least =
       let whole = length-append front (e ∷ back) in
-      let count = h.size in
-      let d = difference (m COUNT) (m (COUNT + 1)) (m SCRATCH) (m (SCRATCH + 1)) (length (front ++ (e ∷ back))) (length front) (suc (length back)) h.size_word.0 h.size_word.1 w.0 w.1 h.size size (omega (arith, whole)) in
-      let t = carry_at_least (m COUNT) (m (COUNT + 1)) (m SCRATCH + 0) (m (SCRATCH + 1)) h.size_word.0 h.size_word.1 (omega (arith, w.0)) w.1 (omega (arith, count, size, whole)) in
+      let count = h.told.size in
+      let d = difference (m COUNT) (m (COUNT + 1)) (m SCRATCH) (m (SCRATCH + 1)) (length (front ++ (e ∷ back))) (length front) (suc (length back)) h.told.size_word.0 h.told.size_word.1 w.0 w.1 h.told.size size (omega (arith, whole)) in
+      let t = carry_at_least (m COUNT) (m (COUNT + 1)) (m SCRATCH + 0) (m (SCRATCH + 1)) h.told.size_word.0 h.told.size_word.1 (omega (arith, w.0)) w.1 (omega (arith, count, size, whole)) in
       after f 2 fits search_part (search_in f.code block) 10 (view a x y n v i z true (SEARCH_AT + 0x3C) (lo ∷ hi ∷ []) m text answers) _ _ (40 * k + 150) refl
       (rw t (go _ _ _ _ _ _ _ _ _ (e ∷ back) (at + 4 * length front)
       (record {
-        table = place;
-        table_word = p;
-        size = d.2;
-        size_word = (d.0, d.1);
+        told = record { table = place; table_word = p; size = d.2; size_word = (d.0, d.1) };
         part = back_part front e back at h.part least;
         others = changes_put _ _ _ (COUNT + 1) _ refl (changes_put _ _ _ COUNT _ refl (changes_put _ _ _ (TABLE + 1) _ refl (changes_put _ _ _ TABLE _ refl h.others)));
       }) (omega arith) few))
@@ -385,14 +383,11 @@ module _ (f : Setup) (fits : Fits f 2) (block : Holds block_part f.code) (lo hi 
   add : (k : ℕ) → Probe k → (a x y : ℕ) (n v i z c : Bool) (m : ℕ → ℕ) (front : List Line) (e : Line) (back : List Line) (at : ℕ) → Range m (front ++ (e ∷ back)) at → IsWord m SCRATCH → m SCRATCH + 256 * m (SCRATCH + 1) ≡ length front → a < 256 → m (POINTER + 1) < 256 → a + 256 * m (POINTER + 1) ≡ 4 * length front → 1 ≤ length front → length front ≤ 32 * pow2 k → suc (length back) ≤ 32 * pow2 k → Comes f (view a x y n v i z c (SEARCH_AT + 0x22) (lo ∷ hi ∷ []) m text answers) (Searched lo hi m0 text answers r) [] (6 + (7 + (11 + (40 * k + 150))))
   add k go a x y n v i z c m front e back at h w size low high four some few_front few_back =
       let to = h.part.to in
-      let sum = summed a (m (POINTER + 1)) (m TABLE) (m (TABLE + 1)) (4 * length front) at low high h.table_word.0 h.table_word.1 four h.table (omega (arith, length-append front (e ∷ back))) in
+      let sum = summed a (m (POINTER + 1)) (m TABLE) (m (TABLE + 1)) (4 * length front) at low high h.told.table_word.0 h.told.table_word.1 four h.told.table (omega (arith, length-append front (e ∷ back))) in
       after f 2 fits search_part (search_in f.code block) 5 (view a x y n v i z c (SEARCH_AT + 0x22) (lo ∷ hi ∷ []) m text answers) _ _ (7 + (11 + (40 * k + 150))) refl
       (compare k go _ _ _ _ _ _ _ _ _ front e back at
       (record {
-        table = h.table;
-        table_word = h.table_word;
-        size = h.size;
-        size_word = h.size_word;
+        told = h.told;
         part = h.part;
         others = changes_put _ _ _ (POINTER + 1) _ refl (changes_put _ _ _ POINTER _ refl h.others);
       }) w size (sum.0, sum.1) sum.2 some few_front few_back)
@@ -406,10 +401,7 @@ module _ (f : Setup) (fits : Fits f 2) (block : Holds block_part f.code) (lo hi 
       after f 2 fits search_part (search_in f.code block) 3 (view (m SCRATCH) x y n v i z c (SEARCH_AT + 0x1C) (lo ∷ hi ∷ []) m text answers) _ _ (6 + (7 + (11 + (40 * k + 150)))) refl
       (add k go _ _ _ _ _ _ _ _ _ front e back at
       (record {
-        table = h.table;
-        table_word = h.table_word;
-        size = h.size;
-        size_word = h.size_word;
+        told = h.told;
         part = h.part;
         others = changes_put _ _ _ (POINTER + 1) _ refl (changes_put _ _ _ (POINTER + 1) _ refl h.others);
       }) w size four.0 four.1 four.2 some few_front few_back)
@@ -427,16 +419,13 @@ module _ (f : Setup) (fits : Fits f 2) (block : Holds block_part f.code) (lo hi 
 
   wide : (k : ℕ) → Probe k → (a x y : ℕ) (n v i z c : Bool) (m : ℕ → ℕ) (es : List Line) (at : ℕ) → Range m es at → 64 ≤ length es → length es ≤ 32 * (pow2 k + pow2 k) → Comes f (view a x y n v i z c (SEARCH_AT + 0x0C) (lo ∷ hi ∷ []) m text answers) (Searched lo hi m0 text answers r) [] (7 + (4 + (6 + (7 + (11 + (40 * k + 150))))))
   wide k go a x y n v i z c m es at h many few =
-      let half = halved (m COUNT) (m (COUNT + 1)) h.size_word.0 h.size_word.1 in
-      let size = h.size in
-      let small = h.size_word in
+      let half = halved (m COUNT) (m (COUNT + 1)) h.told.size_word.0 h.told.size_word.1 in
+      let size = h.told.size in
+      let small = h.told.size_word in
       after f 2 fits search_part (search_in f.code block) 6 (view a x y n v i z c (SEARCH_AT + 0x0C) (lo ∷ hi ∷ []) m text answers) _ _ (4 + (6 + (7 + (11 + (40 * k + 150))))) refl
       (split k go _ _ _ _ _ _ _ (halves m) es at (length es / 2)
       (record {
-        table = h.table;
-        table_word = h.table_word;
-        size = h.size;
-        size_word = h.size_word;
+        told = h.told;
         part = h.part;
         others = changes_put _ _ _ SCRATCH _ refl (changes_put _ _ _ (POINTER + 1) _ refl (changes_put _ _ _ (SCRATCH + 1) _ refl h.others));
       }) (omega (arith, half, small.0, small.1), omega (arith, small.1)) (half ∙ ap (λ n. n / 2) size) refl refl (omega (arith, many)) few)
@@ -444,7 +433,7 @@ module _ (f : Setup) (fits : Fits f 2) (block : Holds block_part f.code) (lo hi 
   -- to the wide search
   many : (N : ℕ) → (a x y : ℕ) (n v i z c : Bool) (m : ℕ → ℕ) (es : List Line) (at : ℕ) → Range m es at → 64 ≤ length es → ((a x y : ℕ) (n v i z c : Bool) → Comes f (view a x y n v i z c (SEARCH_AT + 0x0C) (lo ∷ hi ∷ []) m text answers) (Searched lo hi m0 text answers r) [] N) → Comes f (view a x y n v i z c SEARCH_AT (lo ∷ hi ∷ []) m text answers) (Searched lo hi m0 text answers r) [] (5 + N)
   many N a x y n v i z c m es at h some next =
-      let size = h.size in
+      let size = h.told.size in
       ⊎_elim
       (λ low. let t : eqb (m (COUNT + 1)) 0 ≡ true = eq-eqb _ _ low in
       let u : nat_le 64 (m COUNT) ≡ true = le-leb 64 (m COUNT) (omega (arith, size, low, some)) in
@@ -476,10 +465,7 @@ module _ (f : Setup) (fits : Fits f 2) (block : Holds block_part f.code) (lo hi 
   whole a x y n v i z c es table size shown from to count some rising words same =
       probes 9 a x y n v i z c m0 es (word_in m0 TABLE)
       (record {
-        table = refl;
-        table_word = table;
-        size = count;
-        size_word = size;
+        told = record { table = refl; table_word = table; size = count; size_word = size };
         part = record { shown = shown; from = from; to = to; rising = rising; words = words; same = same };
         others = λ a e. refl;
       }) some (omega arith)

@@ -12,6 +12,7 @@ use Rattle.tb_templates.specs.Templates.{call, constant, copied, on}
 use Rattle.tb_templates.specs.Sources.{Source, FixedWord, AtPlace}
 use Rattle.tb_templates.specs.GroupTemplates.{asked_rest, brought, left_over, lined, may_be_zero, remainder, told}
 use Rattle.tb_templates.specs.Masks.{mask}
+use Rattle.tb_templates.proofs.Factors.{one_of}
 use Rattle.tb_templates.proofs.Plain.{IsPlain, ArePlain, Is, ◌▹◌, plain_append, immediate, absolute, zero_page, low_byte, high_byte}
 
 -- ── plain items ──
@@ -56,26 +57,15 @@ pub data IsMasking (b : Source) : Option ℕ → Type 0 where
   by_bits : (w k : ℕ) → b ≡ FixedWord w → k < 8 → w ≡ 2 ^ (k + 1) → IsMasking b (Some (2 ^ (k + 1) - 1))
   by_division : IsMasking b None
 
--- a power of two before those behind it
-one_of : (b : Source) (w v k : ℕ) (o : Option ℕ) → b ≡ FixedWord w → k < 8 → v ≡ 2 ^ (k + 1) → IsMasking b o → (t : Bool) → nat_eq w v ≡ t → IsMasking b (if t then Some (2 ^ (k + 1) - 1) else o)
-one_of b w v k o e few p rest true q = by_bits w k e few (omega (arith, eqb-true w v q, p))
-one_of b w v k o e few p rest false q = rest
-
 pub masking_is : (b : Source) → IsMasking b (mask b)
 masking_is (FixedWord w) =
-    one_of (FixedWord w) w 2 0 _ refl (omega arith) refl
-    (one_of (FixedWord w) w 4 1 _ refl (omega arith) refl
-    (one_of (FixedWord w) w 8 2 _ refl (omega arith) refl
-    (one_of (FixedWord w) w 16 3 _ refl (omega arith) refl
-    (one_of (FixedWord w) w 32 4 _ refl (omega arith) refl
-    (one_of (FixedWord w) w 64 5 _ refl (omega arith) refl
-    (one_of (FixedWord w) w 128 6 _ refl (omega arith) refl
-    (one_of (FixedWord w) w 256 7 _ refl (omega arith) refl by_division (nat_eq w 256) refl)
-    (nat_eq w 128) refl)
-    (nat_eq w 64) refl)
-    (nat_eq w 32) refl)
-    (nat_eq w 16) refl)
-    (nat_eq w 8) refl)
-    (nat_eq w 4) refl)
-    (nat_eq w 2) refl
+    let P = λ (o : Option ℕ). IsMasking (FixedWord w) o in
+    one_of P w 2 1 _ (by_bits w 0 refl (omega arith))
+    (one_of P w 4 3 _ (by_bits w 1 refl (omega arith))
+    (one_of P w 8 7 _ (by_bits w 2 refl (omega arith))
+    (one_of P w 16 15 _ (by_bits w 3 refl (omega arith))
+    (one_of P w 32 31 _ (by_bits w 4 refl (omega arith))
+    (one_of P w 64 63 _ (by_bits w 5 refl (omega arith))
+    (one_of P w 128 127 _ (by_bits w 6 refl (omega arith))
+    (one_of P w 256 255 _ (by_bits w 7 refl (omega arith)) by_division)))))))
 masking_is (AtPlace p) = by_division

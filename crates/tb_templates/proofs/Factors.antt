@@ -29,22 +29,21 @@ pub data IsShifting (b : Source) : Option ℕ → Type 0 where
   by_shifts : (w k : ℕ) → b ≡ FixedWord w → k < 6 → w ≡ 2 ^ (k + 1) → IsShifting b (Some k)
   by_call : IsShifting b None
 
--- a power of two before those behind it
-one_of : (b : Source) (w v k : ℕ) (o : Option ℕ) → b ≡ FixedWord w → k < 6 → v ≡ 2 ^ (k + 1) → IsShifting b o → (t : Bool) → nat_eq w v ≡ t → IsShifting b (if t then Some k else o)
-one_of b w v k o e few p rest true q = by_shifts w k e few (omega (arith, eqb-true w v q, p))
-one_of b w v k o e few p rest false q = rest
+-- what is found at a number, before what is told of others
+pub one_of : (P : Option ℕ → Type 0) (w v found : ℕ) (o : Option ℕ) → (w ≡ v → P (Some found)) → P o → P (if nat_eq w v then Some found else o)
+one_of P w v found o here rest = by (nat_eq w v) refl
+  where
+    by : (t : Bool) → nat_eq w v ≡ t → P (if t then Some found else o)
+    by true e = here (eqb-true w v e)
+    by false e = rest
 
 pub shifting_is : (b : Source) → IsShifting b (shifts b)
 shifting_is (FixedWord w) =
-    one_of (FixedWord w) w 2 0 _ refl (omega arith) refl
-    (one_of (FixedWord w) w 4 1 _ refl (omega arith) refl
-    (one_of (FixedWord w) w 8 2 _ refl (omega arith) refl
-    (one_of (FixedWord w) w 16 3 _ refl (omega arith) refl
-    (one_of (FixedWord w) w 32 4 _ refl (omega arith) refl
-    (one_of (FixedWord w) w 64 5 _ refl (omega arith) refl by_call (nat_eq w 64) refl)
-    (nat_eq w 32) refl)
-    (nat_eq w 16) refl)
-    (nat_eq w 8) refl)
-    (nat_eq w 4) refl)
-    (nat_eq w 2) refl
+    let P = λ (o : Option ℕ). IsShifting (FixedWord w) o in
+    one_of P w 2 0 _ (by_shifts w 0 refl (omega arith))
+    (one_of P w 4 1 _ (by_shifts w 1 refl (omega arith))
+    (one_of P w 8 2 _ (by_shifts w 2 refl (omega arith))
+    (one_of P w 16 3 _ (by_shifts w 3 refl (omega arith))
+    (one_of P w 32 4 _ (by_shifts w 4 refl (omega arith))
+    (one_of P w 64 5 _ (by_shifts w 5 refl (omega arith)) by_call)))))
 shifting_is (AtPlace p) = by_call
