@@ -87,6 +87,18 @@ impl Branch {
     }
 }
 
+// The texts of the worked rows.
+fn texts(alloc: Global) -> Result<Vec<Vec<u8>>, Failure> {
+    let mut texts = Vec::new(alloc);
+    for branch in BRANCHES {
+        texts.push(branch.text(alloc)?)?;
+    }
+    for row in TEXTS {
+        texts.push(Vec::from_slice(alloc, row)?)?;
+    }
+    Ok(texts)
+}
+
 fn show_image(image: &Image, text: &mut String) -> Result<(), Failure> {
     show_bytes(text, image.bytes.as_slice())?;
     writeln!(text, "{:?}", image.labels)?;
@@ -105,27 +117,19 @@ fn show_assembled(alloc: Global, items: &[Item], text: &mut String) -> Result<()
     }
 }
 
-fn show_assembled_branch(alloc: Global, branch: Branch, text: &mut String) -> Result<(), Failure> {
-    let items = branch.items(alloc)?;
-    show_assembled(alloc, items.as_slice(), text)
-}
-
-pub fn show_assemble(alloc: Global, text: &mut String) -> Result<(), Failure> {
-    for branch in BRANCHES {
-        show_assembled_branch(alloc, branch, text)?;
-    }
-    for row in TEXTS {
-        show_assembled_text(alloc, row, text)?;
-    }
-    Ok(())
-}
-
 // Assembles a row's text. A bad line is an answer.
 fn show_assembled_text(alloc: Global, row: &[u8], text: &mut String) -> Result<(), Failure> {
     match read_text(alloc, row) {
         Ok(items) => show_assembled(alloc, items.as_slice(), text),
         Err(error) => show_text_error(error, text),
     }
+}
+
+pub fn show_assemble(alloc: Global, text: &mut String) -> Result<(), Failure> {
+    for row in texts(alloc)? {
+        show_assembled_text(alloc, row.as_slice(), text)?;
+    }
+    Ok(())
 }
 
 fn show_text_error(error: TextError, text: &mut String) -> Result<(), Failure> {
@@ -175,17 +179,9 @@ fn show_read(alloc: Global, row: &[u8], text: &mut String) -> Result<(), Failure
     }
 }
 
-fn show_read_branch(alloc: Global, branch: Branch, text: &mut String) -> Result<(), Failure> {
-    let row = branch.text(alloc)?;
-    show_read(alloc, row.as_slice(), text)
-}
-
 pub fn show_read_text(alloc: Global, text: &mut String) -> Result<(), Failure> {
-    for branch in BRANCHES {
-        show_read_branch(alloc, branch, text)?;
-    }
-    for row in TEXTS {
-        show_read(alloc, row, text)?;
+    for row in texts(alloc)? {
+        show_read(alloc, row.as_slice(), text)?;
     }
     Ok(())
 }

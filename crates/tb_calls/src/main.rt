@@ -9,6 +9,7 @@ mod sources;
 
 use failure::Failure;
 use machines::StepperCall;
+use sources::SourceCall;
 use std::alloc::Global;
 use std::process::ExitCode;
 use std::rt::Env;
@@ -28,14 +29,14 @@ fn show(alloc: Global, name: &str, text: &mut String) -> Result<(), Failure> {
     match name {
         "host_form" => sources::show_host_form(alloc, text),
         "key_list" => sources::show_key_list(alloc, text),
-        "compile" => sources::show_compile(alloc, text),
-        "make" => sources::show_make(alloc, text),
+        "compile" => sources::show_sources(alloc, SourceCall::Compile, text),
+        "make" => sources::show_sources(alloc, SourceCall::Make, text),
         "bad_lines" => sources::show_bad_lines(alloc, text),
-        "parse" => sources::show_parse(alloc, text),
+        "parse" => sources::show_sources(alloc, SourceCall::Parse, text),
         "parse_expr" => sources::show_parse_expr(alloc, text),
         "tokens" => sources::show_tokens(alloc, text),
-        "lower" => sources::show_lower(alloc, text),
-        "warnings" => sources::show_warnings(alloc, text),
+        "lower" => sources::show_sources(alloc, SourceCall::Lower, text),
+        "warnings" => sources::show_sources(alloc, SourceCall::Warnings, text),
         "assemble" => assembly::show_assemble(alloc, text),
         "settle" => assembly::show_settle(alloc, text),
         "assemble_settled" => assembly::show_assemble_settled(alloc, text),

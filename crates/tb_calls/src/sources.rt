@@ -26,6 +26,16 @@ pub const SOURCES: [&[u8]; 5] = [
 /// The keyboard texts of the worked rows, as they are typed in.
 const KEY_LISTS: [&str; 6] = ["332c202d340d", "37303030302c300d", "350d", "58", "0d", "31"];
 
+/// A call that is made on each source.
+#[derive(Clone, Copy, Drop)]
+pub enum SourceCall {
+    Compile,
+    Make,
+    Parse,
+    Lower,
+    Warnings,
+}
+
 /// Has good lines between bad ones.
 const BAD: &[u8] = b"10 PRINT 1\n20 PRINT (1\n30 END\n40 FOR I=1\n";
 
@@ -111,13 +121,6 @@ fn show_compile_of(alloc: Global, source: &[u8], text: &mut String) -> Result<()
     show_compiled(&compiled, text)
 }
 
-pub fn show_compile(alloc: Global, text: &mut String) -> Result<(), Failure> {
-    for source in SOURCES {
-        show_compile_of(alloc, source, text)?;
-    }
-    Ok(())
-}
-
 fn show_made(made: &Made, text: &mut String) -> Result<(), Failure> {
     show_bytes(text, &made.prg)?;
     for beside in [&made.labels, &made.listing, &made.map] {
@@ -129,13 +132,6 @@ fn show_made(made: &Made, text: &mut String) -> Result<(), Failure> {
 fn show_make_of(alloc: Global, source: &[u8], text: &mut String) -> Result<(), Failure> {
     let made = make(alloc, source, 1)?;
     show_made(&made, text)
-}
-
-pub fn show_make(alloc: Global, text: &mut String) -> Result<(), Failure> {
-    for source in SOURCES {
-        show_make_of(alloc, source, text)?;
-    }
-    Ok(())
 }
 
 pub fn show_bad_lines(alloc: Global, text: &mut String) -> Result<(), Failure> {
@@ -153,13 +149,6 @@ fn show_program(program: &Program, text: &mut String) -> Result<(), Failure> {
 fn show_parse_of(alloc: Global, source: &[u8], text: &mut String) -> Result<(), Failure> {
     let program = parse(alloc, source)?;
     show_program(&program, text)
-}
-
-pub fn show_parse(alloc: Global, text: &mut String) -> Result<(), Failure> {
-    for source in SOURCES {
-        show_parse_of(alloc, source, text)?;
-    }
-    Ok(())
 }
 
 pub fn show_parse_expr(alloc: Global, text: &mut String) -> Result<(), Failure> {
@@ -190,13 +179,6 @@ fn show_lower_of(alloc: Global, source: &[u8], text: &mut String) -> Result<(), 
     show_each(text, code.lines())
 }
 
-pub fn show_lower(alloc: Global, text: &mut String) -> Result<(), Failure> {
-    for source in SOURCES {
-        show_lower_of(alloc, source, text)?;
-    }
-    Ok(())
-}
-
 fn show_warned(alloc: Global, program: &Program, text: &mut String) -> Result<(), Failure> {
     let found = warnings(alloc, program)?;
     writeln!(text, "{} warnings", found.len())?;
@@ -208,9 +190,22 @@ fn show_warnings_of(alloc: Global, source: &[u8], text: &mut String) -> Result<(
     show_warned(alloc, &program, text)
 }
 
-pub fn show_warnings(alloc: Global, text: &mut String) -> Result<(), Failure> {
+impl SourceCall {
+    fn show_of(self, alloc: Global, source: &[u8], text: &mut String) -> Result<(), Failure> {
+        match self {
+            SourceCall::Compile => show_compile_of(alloc, source, text),
+            SourceCall::Make => show_make_of(alloc, source, text),
+            SourceCall::Parse => show_parse_of(alloc, source, text),
+            SourceCall::Lower => show_lower_of(alloc, source, text),
+            SourceCall::Warnings => show_warnings_of(alloc, source, text),
+        }
+    }
+}
+
+/// Makes a call on each source.
+pub fn show_sources(alloc: Global, call: SourceCall, text: &mut String) -> Result<(), Failure> {
     for source in SOURCES {
-        show_warnings_of(alloc, source, text)?;
+        call.show_of(alloc, source, text)?;
     }
     Ok(())
 }
