@@ -35,6 +35,11 @@ impl Page {
         self.has_failed = true;
     }
 
+    // Notes where a growth is refused.
+    fn note<E: Drop>(&mut self, grown: Result<(), E>) {
+        self.has_failed = self.has_failed || grown.is_err();
+    }
+
     /// What an answer holds. Notes where it is a refusal.
     pub fn held<T: Drop, E: Drop>(&mut self, answer: Result<T, E>) -> Option<T> {
         match answer {
@@ -49,37 +54,51 @@ impl Page {
     /// Appends a value as it shows itself. A call takes the prover a fraction of what a `format_args!` takes.
     pub fn put<D: Display + Drop>(&mut self, shown: D) {
         let grown = write!(self.text, "{shown}");
-        self.has_failed = self.has_failed || grown.is_err();
+        self.note(grown);
     }
 
     /// Appends a value as its type writes it for programmers.
     pub fn put_debug<D: Debug>(&mut self, shown: &D) {
         let grown = write!(self.text, "{shown:?}");
-        self.has_failed = self.has_failed || grown.is_err();
+        self.note(grown);
+    }
+
+    /// Appends a part of an answer: a space, and a value as its type writes it for programmers.
+    pub fn put_part<D: Debug>(&mut self, shown: &D) {
+        self.put(" ");
+        self.put_debug(shown);
+    }
+
+    /// Appends why a call of a layer has no answer.
+    pub fn put_refusal<E: Debug>(&mut self, layer: &'static str, error: &E) {
+        self.put(layer);
+        self.put("(");
+        self.put_debug(error);
+        self.put(")");
     }
 
     /// Appends a word as four hexadecimal digits.
     pub fn put_word(&mut self, word: u16) {
         let grown = write!(self.text, "{word:04X}");
-        self.has_failed = self.has_failed || grown.is_err();
+        self.note(grown);
     }
 
     /// Appends a word as four hexadecimal digits in small letters.
     pub fn put_low_word(&mut self, word: u16) {
         let grown = write!(self.text, "{word:04x}");
-        self.has_failed = self.has_failed || grown.is_err();
+        self.note(grown);
     }
 
     /// Appends a byte as two hexadecimal digits.
     pub fn put_byte(&mut self, byte: u8) {
         let grown = write!(self.text, "{byte:02X}");
-        self.has_failed = self.has_failed || grown.is_err();
+        self.note(grown);
     }
 
     /// Appends a byte as two hexadecimal digits in small letters.
     pub fn put_low_byte(&mut self, byte: u8) {
         let grown = write!(self.text, "{byte:02x}");
-        self.has_failed = self.has_failed || grown.is_err();
+        self.note(grown);
     }
 
     /// Appends where a stream fails, and how many bytes it hands on at once.
@@ -94,7 +113,7 @@ impl Page {
     pub fn put_ascii(&mut self, bytes: &[u8]) {
         for byte in bytes {
             let grown = self.text.push(char::from(*byte));
-            self.has_failed = self.has_failed || grown.is_err();
+            self.note(grown);
         }
     }
 }

@@ -4,6 +4,7 @@ mod runs;
 
 use crate::notation::decoded;
 use crate::page::Page;
+use std::fmt::Debug;
 use tb_grammar::{expressions_are_unique, statements_are_unique};
 use tb_selection::{groups_run_as_slot_code, lines_are_closed, omitted_words_are_dead};
 
@@ -14,6 +15,14 @@ pub fn laws() {
     omitted_words_are_dead();
     lines_are_closed();
     groups_run_as_slot_code();
+}
+
+/// Appends what stands on a line, behind its number.
+pub fn put_line<D: Debug>(page: &mut Page, number: u16, shown: &D) {
+    page.put(" ");
+    page.put(number);
+    page.put_part(shown);
+    page.put(";");
 }
 
 /// Appends the answer of a row. Few calls are given something beside a text.

@@ -53,8 +53,7 @@ pub fn enter(page: &mut Page, setting: &mut Setting) -> Option<Result<Machine, E
 
 fn put_refused(page: &mut Page, error: &EnterError) {
     let kind = error.kind;
-    page.put(" ");
-    page.put_debug(&kind);
+    page.put_part(&kind);
     put_read(page, error.memory.read(PROGRAM_AT));
     put_quoted(page, error.keyboard.text.as_slice());
 }
@@ -107,10 +106,7 @@ fn put_event(page: &mut Page, machine: &mut Machine, event: Event) {
     let room = machine.room();
     match machine.event(event) {
         Ok(status) => put_status(page, status),
-        Err(error) => {
-            page.put(" ");
-            page.put_debug(&error);
-        }
+        Err(error) => page.put_part(&error),
     }
     put_registers(page, &machine.regs());
     put_quoted(page, machine.sent());
@@ -128,8 +124,7 @@ fn put_reserved(page: &mut Page, machine: &mut Machine, rest: &str) {
     } else {
         "no room"
     };
-    page.put(" ");
-    page.put_debug(&reserved);
+    page.put_part(&reserved);
     page.put(" ");
     page.put(room);
 }

@@ -28,8 +28,7 @@ fn put_region(page: &mut Page, address: u16) {
     } else {
         "refused"
     };
-    page.put(" ");
-    page.put_debug(&region);
+    page.put_part(&region);
     page.put(" ");
     page.put(access);
 }
@@ -45,6 +44,5 @@ fn put_written(page: &mut Page, memory: &mut Memory, address: u16, byte: &str) {
 fn put_loaded(page: &mut Page, memory: &mut Memory, address: u16, groups: &str) {
     let bytes = bytes_of(page, groups);
     let loaded = memory.load(address, bytes.as_slice());
-    page.put(" ");
-    page.put_debug(&loaded);
+    page.put_part(&loaded);
 }

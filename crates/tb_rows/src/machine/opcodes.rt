@@ -39,10 +39,8 @@ fn put_encoded(page: &mut Page, rest: &str) {
 fn put_length(page: &mut Page, rest: &str) {
     let (_, mode) = instruction(page, rest);
     let length = length(mode);
-    page.put(" ");
-    page.put_debug(&mode);
-    page.put(" ");
-    page.put_debug(&length);
+    page.put_part(&mode);
+    page.put_part(&length);
 }
 
 fn put_documented(page: &mut Page) {
@@ -70,8 +68,7 @@ fn put_column(page: &mut Page, opcode: u8) {
         Some((mnemonic, mode)) => {
             page.put(" | ");
             page.put_debug(&mnemonic);
-            page.put(" ");
-            page.put_debug(&mode);
+            page.put_part(&mode);
             if encode(mnemonic, mode) != Some(opcode) {
                 page.put(" is encoded otherwise");
             }

@@ -21,8 +21,7 @@ fn put_status_byte(page: &mut Page, status: &str) {
     let byte = flags.to_byte();
     page.put(" ");
     page.put_low_byte(byte);
-    page.put(" ");
-    page.put_debug(&flags);
+    page.put_part(&flags);
 }
 
 // The first instruction of a program.

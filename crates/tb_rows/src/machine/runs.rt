@@ -165,14 +165,10 @@ fn put_everything(shown: &mut Page, machine: &Machine) {
         machine.room(),
     );
     shown.put_debug(&regs);
-    shown.put(" ");
-    shown.put_debug(&status);
-    shown.put(" ");
-    shown.put_debug(&sent);
-    shown.put(" ");
-    shown.put_debug(&text);
-    shown.put(" ");
-    shown.put_debug(&answers);
+    shown.put_part(&status);
+    shown.put_part(&sent);
+    shown.put_part(&text);
+    shown.put_part(&answers);
     shown.put(" ");
     shown.put(room);
     for address in 0..=0xffff {

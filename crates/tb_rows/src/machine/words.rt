@@ -55,8 +55,7 @@ fn put_calculated(page: &mut Page, name: &str, a: i16, b: i16) {
     let result = match name {
         "divide" => {
             let parts = div_rem(a, b);
-            page.put(" ");
-            page.put_debug(&parts);
+            page.put_part(&parts);
             return;
         }
         "add" => add(a, b),
@@ -72,8 +71,7 @@ fn put_calculated(page: &mut Page, name: &str, a: i16, b: i16) {
 fn put_relations(page: &mut Page, a: i16, b: i16) {
     for rel in [Rel::Eq, Rel::Lt, Rel::Gt, Rel::Le, Rel::Ge, Rel::Ne] {
         if holds(rel, a, b) {
-            page.put(" ");
-            page.put_debug(&rel);
+            page.put_part(&rel);
         }
     }
 }

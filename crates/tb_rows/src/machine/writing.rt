@@ -32,10 +32,7 @@ fn put_closed(page: &mut Page, address: u16) {
 pub fn put_wrong(page: &mut Page, wrong: Wrong) {
     match wrong {
         Wrong::Closed(address) => put_closed(page, address),
-        other => {
-            page.put(" ");
-            page.put_debug(&other);
-        }
+        other => page.put_part(&other),
     }
 }
 
@@ -43,10 +40,7 @@ pub fn put_wrong(page: &mut Page, wrong: Wrong) {
 pub fn put_status(page: &mut Page, status: Status) {
     match status {
         Status::Wrong(wrong) => put_wrong(page, wrong),
-        other => {
-            page.put(" ");
-            page.put_debug(&other);
-        }
+        other => page.put_part(&other),
     }
 }
 

@@ -1,5 +1,6 @@
 //! What the grammar and the parser answer.
 use crate::page::Page;
+use crate::source::put_line;
 use tb_grammar::{read_expression, read_statement};
 use tb_parser::{SourceError, parse, parse_expr, tokens};
 
@@ -16,14 +17,10 @@ fn put_large(page: &mut Page, large: Option<usize>) {
 pub fn put_expression(page: &mut Page, text: &[u8]) {
     match read_expression(page.alloc(), text) {
         Ok(read) => {
-            page.put(" ");
-            page.put_debug(&read.expr);
+            page.put_part(&read.expr);
             put_large(page, read.large);
         }
-        Err(stop) => {
-            page.put(" ");
-            page.put_debug(&stop);
-        }
+        Err(stop) => page.put_part(&stop),
     }
 }
 
@@ -31,22 +28,17 @@ pub fn put_expression(page: &mut Page, text: &[u8]) {
 pub fn put_statement(page: &mut Page, text: &[u8]) {
     match read_statement(page.alloc(), text) {
         Ok(read) => {
-            page.put(" ");
-            page.put_debug(&read.statement);
+            page.put_part(&read.statement);
             put_large(page, read.large);
         }
-        Err(stop) => {
-            page.put(" ");
-            page.put_debug(&stop);
-        }
+        Err(stop) => page.put_part(&stop),
     }
 }
 
 // What is wrong, and the line and the column.
 fn put_refusal(page: &mut Page, error: SourceError) {
     let SourceError { kind, line, column } = error;
-    page.put(" ");
-    page.put_debug(&kind);
+    page.put_part(&kind);
     page.put(" ");
     page.put(line);
     page.put(":");
@@ -58,11 +50,7 @@ pub fn put_parsed(page: &mut Page, source: &[u8]) {
     match parse(page.alloc(), source) {
         Ok(program) => {
             for (number, statement) in program.lines() {
-                page.put(" ");
-                page.put(number);
-                page.put(" ");
-                page.put_debug(&statement);
-                page.put(";");
+                put_line(page, *number, statement);
             }
         }
         Err(error) => put_refusal(page, error),
@@ -72,10 +60,7 @@ pub fn put_parsed(page: &mut Page, source: &[u8]) {
 /// An expression as a user writes it.
 pub fn put_parsed_expression(page: &mut Page, text: &[u8]) {
     match parse_expr(page.alloc(), text) {
-        Ok(expr) => {
-            page.put(" ");
-            page.put_debug(&expr);
-        }
+        Ok(expr) => page.put_part(&expr),
         Err(error) => put_refusal(page, error),
     }
 }
@@ -99,8 +84,7 @@ pub fn put_kinds(page: &mut Page, line: &[u8]) {
     if let Some(tokens) = page.held(tokens) {
         for token in tokens.as_slice() {
             let kind = token.kind;
-            page.put(" ");
-            page.put_debug(&kind);
+            page.put_part(&kind);
         }
     }
 }

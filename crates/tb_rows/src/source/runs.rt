@@ -1,5 +1,6 @@
 //! What programs do when they run as sources, their slot code, and the values of expressions.
 use crate::page::Page;
+use crate::source::put_line;
 use tb_lower::{SlotCode, lower};
 use tb_meaning::{SourceRun, eval, run_source, warnings};
 use tb_parser::{Program, parse, parse_expr};
@@ -30,8 +31,7 @@ pub fn put_program(page: &mut Page, name: &str, source: &[u8], beside: &[u8]) {
 // How a run ended and what it sent.
 fn put_sent(page: &mut Page, run: &SourceRun) {
     let sent = run.sent.escape_ascii();
-    page.put(" ");
-    page.put_debug(&run.end);
+    page.put_part(&run.end);
     page.put(" \"");
     page.put(sent);
     page.put("\"");
@@ -50,10 +50,8 @@ fn put_ten_lines(page: &mut Page, program: &Program) {
     let run = run_source(page.alloc(), program, SEED, &[], &[], 10);
     if let Some(run) = page.held(run) {
         put_sent(page, &run);
-        page.put(" ");
-        page.put_debug(&run.place);
-        page.put(" ");
-        page.put_debug(&run.variables);
+        page.put_part(&run.place);
+        page.put_part(&run.variables);
     }
 }
 
@@ -76,8 +74,7 @@ pub fn put_value(page: &mut Page, text: &[u8]) {
         let mut variables = [0; 26];
         variables[0] = 5;
         let value = eval(&expr, &variables);
-        page.put(" ");
-        page.put_debug(&value);
+        page.put_part(&value);
     }
 }
 
@@ -86,21 +83,14 @@ fn put_lowered(page: &mut Page, name: &str, program: &Program) {
     match lower(page.alloc(), program) {
         Ok(code) if name == "lower" => put_code(page, &code),
         Ok(code) => put_groups(page, &code),
-        Err(error) => {
-            page.put(" ");
-            page.put_debug(&error);
-        }
+        Err(error) => page.put_part(&error),
     }
 }
 
 // The slot code of each line.
 fn put_code(page: &mut Page, code: &SlotCode) {
     for line in code.lines() {
-        page.put(" ");
-        page.put(line.number);
-        page.put(" ");
-        page.put_debug(&line.code);
-        page.put(";");
+        put_line(page, line.number, &line.code);
     }
 }
 
@@ -109,11 +99,7 @@ fn put_groups(page: &mut Page, code: &SlotCode) {
     for line in code.lines() {
         let groups = select(page.alloc(), &line.code);
         if let Some(groups) = page.held(groups) {
-            page.put(" ");
-            page.put(line.number);
-            page.put(" ");
-            page.put_debug(&groups);
-            page.put(";");
+            put_line(page, line.number, &groups);
         }
     }
 }

@@ -24,9 +24,7 @@ pub fn items_in(page: &mut Page, text: &[u8]) -> Option<Vec<Item>> {
     match read_text(page.alloc(), text) {
         Ok(items) => Some(items),
         Err(error) => {
-            page.put("Text(");
-            page.put_debug(&error);
-            page.put(")");
+            page.put_refusal("Text", &error);
             None
         }
     }
@@ -50,9 +48,7 @@ fn items_of(page: &mut Page, escaped: &str) -> Option<Vec<Item>> {
 
 /// Says why items were not assembled.
 pub fn put_refusal(page: &mut Page, error: AsmError) {
-    page.put("Item(");
-    page.put_debug(&error);
-    page.put(")");
+    page.put_refusal("Item", &error);
 }
 
 /// The image of items at an address. Says why there is none.
@@ -72,20 +68,24 @@ fn put_assembled(page: &mut Page, at: u16, items: &[Item]) {
     }
 }
 
-// The bytes of a row's text at its address.
-fn put_image_of(page: &mut Page, row: &str) {
+// The address of a row, and the items of its text. Says why there are none.
+fn row_of(page: &mut Page, row: &str) -> Option<(u16, Vec<Item>)> {
     let (at, text) = cut(row);
     let at = hex_word(page, at);
-    if let Some(items) = items_of(page, text) {
+    let items = items_of(page, text)?;
+    Some((at, items))
+}
+
+// The bytes of a row's text at its address.
+fn put_image_of(page: &mut Page, row: &str) {
+    if let Some((at, items)) = row_of(page, row) {
         put_assembled(page, at, &items);
     }
 }
 
 // The bytes of a text whose branches are settled.
 fn put_settled(page: &mut Page, row: &str) {
-    let (at, text) = cut(row);
-    let at = hex_word(page, at);
-    let Some(items) = items_of(page, text) else {
+    let Some((at, items)) = row_of(page, row) else {
         return;
     };
     match settle(page.alloc(), at, &items) {
@@ -111,9 +111,7 @@ fn put_labels(page: &mut Page, image: &Image) {
 
 // The bytes of a text that is settled and assembled at once, and its labels' addresses.
 fn put_laid(page: &mut Page, row: &str) {
-    let (at, text) = cut(row);
-    let at = hex_word(page, at);
-    let Some(items) = items_of(page, text) else {
+    let Some((at, items)) = row_of(page, row) else {
         return;
     };
     match assemble_settled(page.alloc(), at, &items) {
@@ -136,9 +134,7 @@ fn put_one_byte(page: &mut Page, row: &str) {
 // The address of the label with a name, and those of all labels in order.
 fn put_label(page: &mut Page, row: &str) {
     let (name, rest) = cut(row);
-    let (at, text) = cut(rest);
-    let at = hex_word(page, at);
-    let Some(items) = items_of(page, text) else {
+    let Some((at, items)) = row_of(page, rest) else {
         return;
     };
     if let Some(image) = assembled(page, at, &items) {

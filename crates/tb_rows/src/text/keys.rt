@@ -31,11 +31,7 @@ fn put_keys(page: &mut Page, escaped: &str) {
 fn put_key_list(page: &mut Page, text: &str) {
     match key_list(page.alloc(), text) {
         Ok(keys) => put_bytes(page, &keys),
-        Err(error) => {
-            page.put("Keys(");
-            page.put_debug(&error);
-            page.put(")");
-        }
+        Err(error) => page.put_refusal("Keys", &error),
     }
 }
 

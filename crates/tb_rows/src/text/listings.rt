@@ -37,11 +37,7 @@ fn put_listing_of(page: &mut Page, row: &str) {
                 put_listing(page, at, &bytes, &text);
             }
         }
-        Err(error) => {
-            page.put("List(");
-            page.put_debug(&error);
-            page.put(")");
-        }
+        Err(error) => page.put_refusal("List", &error),
     }
 }
 
@@ -65,11 +61,7 @@ fn put_loaded(page: &mut Page, groups: &str) {
             page.put(": ");
             put_bytes(page, loaded.bytes);
         }
-        Err(error) => {
-            page.put("Prg(");
-            page.put_debug(&error);
-            page.put(")");
-        }
+        Err(error) => page.put_refusal("Prg", &error),
     }
 }
 
