@@ -24,10 +24,6 @@ pub data Place : Type 0 where
 abbrev pub digit_value : ℕ → Option ℕ
 digit_value b = if is_between 48 57 b then Some (b - 48) else if is_between 65 70 b then Some (b - 55) else if is_between 97 102 b then Some (b - 87) else None
 
--- the hexadecimal digit in upper case for a value from 0 to 15
-abbrev pub hex_digit : ℕ → ℕ
-hex_digit d = if nat_lt d 10 then 48 + d else 55 + d
-
 -- the sign that a byte is: `#`, `<`, `>`, `(`, `)`, a comma or a colon; None for any other byte
 abbrev pub sign_of : ℕ → Option Part
 sign_of b =

@@ -1,6 +1,7 @@
 //! Words that stand where no statement has them: those of other BASICs, and slips of the pen.
 use std::alloc::{AllocError, Global};
 use strsim::generic_levenshtein;
+use tb_grammar::{KEYWORDS, Keyword, THEN};
 
 /// A word of other BASICs that Tiny BASIC has not.
 #[derive(Clone, Copy, Drop)]
@@ -48,11 +49,6 @@ const ALL_MISSING: [Missing; 20] = [
     Missing::Abs,
     Missing::Tab,
     Missing::Chr,
-];
-
-/// The words of statements that a slip may have meant.
-const STATEMENTS: [&str; 10] = [
-    "LET", "PRINT", "INPUT", "IF", "THEN", "GOTO", "GOSUB", "RETURN", "END", "REM",
 ];
 
 impl Missing {
@@ -114,12 +110,20 @@ pub fn missing_word(letters: &[u8], whole: &[u8]) -> Option<Missing> {
     None
 }
 
-/// The word of a statement from which a word in upper case is one letter away: changed, left out or added.
+/// The word of a statement, but PR, from which a word in upper case is one letter away: changed, left out or added.
 pub fn near_statement(alloc: Global, word: &[u8]) -> Result<Option<&'static str>, AllocError> {
-    for statement in STATEMENTS {
-        if generic_levenshtein(alloc, word, statement.as_bytes())? == 1 {
-            return Ok(Some(statement));
+    for keyword in KEYWORDS {
+        if keyword != Keyword::Pr && is_near(alloc, word, keyword.spelling())? {
+            return Ok(Some(keyword.spelling()));
         }
     }
-    Ok(None)
+    Ok(if is_near(alloc, word, THEN)? {
+        Some(THEN)
+    } else {
+        None
+    })
+}
+
+fn is_near(alloc: Global, word: &[u8], other: &str) -> Result<bool, AllocError> {
+    Ok(generic_levenshtein(alloc, word, other.as_bytes())? == 1)
 }

@@ -1,5 +1,6 @@
 -- What is compiled keeps its program.
 use Rattle.std.proofs.Common.{Ok, ◌≡◌, ℕ, suc, ◌+◌, ◌≤◌, ◌<◌, List, [], ◌∷◌, ◌++◌, drop, length, refl, sym, ap, ◌∙◌, subst, arith}
+use Rattle.tb_memmap.specs.Regions.{BASIC_START}
 use Rattle.tb_asm.specs.declared.names.Name.{Name}
 use Rattle.tb_lower.specs.Follows.{Follows}
 use Rattle.tb_lower.specs.Lowered as lowered
@@ -26,11 +27,11 @@ pub all_polled : (p : Program) → ArePolled (lowered.program_code p)
 all_polled [] = tt
 all_polled (line ∷ lines) = ((lowered.command_code line.content, refl), all_polled lines)
 
-pub file_keeps : {seed : ℕ} {p : Program} {code : SlotCode} {file image : List ℕ} {from : ℕ} {labels : List (Name × ℕ)} → seed < 65536 → 1 ≤ length p → code ≡ lowered.program_code p → Follows p code → (s : IsSettling seed code) (l : IsLaid PROLOGUE_AT (program_code seed code) from image labels) → file ≡ header ++ image → Keeps 0x0801 (drop 2 file) p seed
+pub file_keeps : {seed : ℕ} {p : Program} {code : SlotCode} {file image : List ℕ} {from : ℕ} {labels : List (Name × ℕ)} → seed < 65536 → 1 ≤ length p → code ≡ lowered.program_code p → Follows p code → (s : IsSettling seed code) (l : IsLaid PROLOGUE_AT (program_code seed code) from image labels) → file ≡ header ++ image → Keeps BASIC_START (drop 2 file) p seed
 file_keeps {seed} {p} {code} small some same follows s l is =
     let n : numbers code ≡ numbers p = ap numbers same ∙ same_numbers p in
     let some_numbers : 1 ≤ length (numbers code) = (let a = ap length n in let b = count_numbers p in omega (arith, a, b, some)) in
-    subst (λ f. Keeps 0x0801 (drop 2 f) p seed) (sym (is ∙ ap (λ b. header ++ b) l.bytes_are))
+    subst (λ f. Keeps BASIC_START (drop 2 f) p seed) (sym (is ∙ ap (λ b. header ++ b) l.bytes_are))
     (image_keeps seed p code small follows s.rising s.lists (subst ArePolled (sym same) (all_polled p)) (subst AreClosed (sym same) (all_closed p)) some_numbers s.lines l.items l.settled (items_end s l) (drop 2 header) refl)
 
 same_made : (a b : Program) → ◌≡◌ {A = Outcome} (Ok a) (Ok b) → a ≡ b

@@ -1,5 +1,6 @@
 //! From a source text to a PRG file.
 ghost use Rattle.std.specs.Prelude.{◌≡◌, ◌<◌, ◌≤◌, ℕ, Ok, All, IfOk, IfErr, Some, None, true, is_some, length, map};
+ghost use Rattle.tb_memmap.specs.Regions.{BASIC_START};
 ghost use Rattle.tb_asm.specs.Layout.{address_in};
 ghost use Rattle.tb_syntax.specs.PlainData.{lines_of};
 ghost use Rattle.tb_syntax.specs.Source.{Program as SourceProgram, numbers};
@@ -49,9 +50,9 @@ pub fn compile(alloc: Global, source: &[u8], options: Options) -> Result<Compile
     // and whatever they make is what is answered.
     ensures only { (outcome : Outcome) → LinesMake source.now outcome → OutcomeAnswer options.seed outcome result }
     // A compiled file's code, loaded at $0801, keeps the program that its source makes, whatever the ROM does.
-    ensures keeps { IfOk result (λ c. (program : SourceProgram) × LinesMake source.now (Ok program) × Keeps 0x0801 (loaded_of c) program options.seed) }
+    ensures keeps { IfOk result (λ c. (program : SourceProgram) × LinesMake source.now (Ok program) × Keeps BASIC_START (loaded_of c) program options.seed) }
     // Where it comes to the address that start_of answers for a line, the program begins that line, in the same state.
-    ensures marks { IfOk result (λ c. (program : SourceProgram) × LinesMake source.now (Ok program) × MarksLines 0x0801 (loaded_of c) program options.seed (start_of c)) }
+    ensures marks { IfOk result (λ c. (program : SourceProgram) × LinesMake source.now (Ok program) × MarksLines BASIC_START (loaded_of c) program options.seed (start_of c)) }
 {
     let program = parse(alloc, source)?;
     compile_program(alloc, &program, options.seed)
@@ -62,8 +63,8 @@ fn compile_program(alloc: Global, program: &Program, seed: u16) -> Result<Compil
     requires stated { AreStated (lines_of program.now) }
     requires rising { RisesFrom 0 (numbers (lines_of program.now)) }
     ensures answer { ProgramAnswer seed (lines_of program.now) result }
-    ensures keeps { 1 ≤ length (lines_of program.now) → IfOk result (λ c. Keeps 0x0801 (loaded_of c) (lines_of program.now) seed) }
-    ensures marks { 1 ≤ length (lines_of program.now) → IfOk result (λ c. MarksLines 0x0801 (loaded_of c) (lines_of program.now) seed (start_of c)) }
+    ensures keeps { 1 ≤ length (lines_of program.now) → IfOk result (λ c. Keeps BASIC_START (loaded_of c) (lines_of program.now) seed) }
+    ensures marks { 1 ≤ length (lines_of program.now) → IfOk result (λ c. MarksLines BASIC_START (loaded_of c) (lines_of program.now) seed (start_of c)) }
 {
     let code = lower(alloc, program)?;
     let cost = cost(program);

@@ -58,9 +58,6 @@ pub record IsTally (marks : List Bool) (first now : Moment) : Type 0 where
   pub few : now.begun ≤ first.begun + (if is_marked marks first.machine.regs.pc then 1 else 0)
   pub here : is_marked marks now.machine.regs.pc ≡ true → (is_marked marks first.machine.regs.pc ≡ true) × (now.begun ≡ first.begun)
 
-pub tally_none : (marks : List Bool) (first : Moment) → IsTally marks first first
-tally_none marks first = record { few = omega arith; here = λ marked. (marked, refl) }
-
 -- one event more
 pub tally_few : (marks : List Bool) (first p q : Moment) (own : Bool) → IsTally marks first p
     → q.begun ≡ p.begun + (if own && is_marked marks p.machine.regs.pc then 1 else 0)

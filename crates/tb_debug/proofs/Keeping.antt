@@ -1,10 +1,7 @@
 -- Kept moments are of the run.
-use Rattle.std.proofs.Common.{◌≡◌, ℕ, ◌+◌, ◌<◌, ◌≤◌, Bool, List, length, take, sym, ap, ◌∙◌, subst, inl, inr, arith}
-use Rattle.std.specs.Prelude.{slice_index_or}
-use Rattle.std.proofs.lemmas.Bool.{cases_lt}
+use Rattle.std.proofs.Common.{◌≡◌, ℕ, ◌≤◌, Bool, List, length, take, sym, ap, ◌∙◌, arith}
 use Rattle.std.proofs.lemmas.List.Elements.{All-weaker}
 use Rattle.tb_debug.specs.Runs.{Point, IsOfRun, IsKept, AreKept, point_at, shown}
-use Rattle.tb_debug.specs.Searching.{IsUntil}
 use Rattle.tb_debug.specs.declared.history.Kept.{Kept}
 use Rattle.tb_debug.specs.declared.moment.Moment.{Moment}
 use Rattle.tb_debug.proofs.Running.{sent_before}
@@ -34,33 +31,3 @@ pub kept_later : (marks : List Bool) (start : Point) (n m : ℕ) (ks : List Kept
 kept_later marks start n m ks few all =
     All-weaker (λ k. IsKept marks start k × (k.moment.events ≤ n)) (λ k. IsKept marks start k × (k.moment.events ≤ m))
     (λ k h. (h.0, omega (arith, few, h.1))) ks all
-
--- ---- the newest moment before a time
-
-pub until_none : (time : ℕ) (ks : List Kept) → IsUntil time ks 0 0
-until_none time ks =
-    record { few = omega arith; before = λ k d e. absurd (omega (arith, e)); behind = λ k d from below. absurd (omega (arith, below)) }
-
--- the next one comes before it
-pub until_this : (time : ℕ) (ks : List Kept) (n : ℕ) → ((d : Kept) → (slice_index_or ks n d).moment.begun ≤ time) → IsUntil time ks (n + 1) (n + 1)
-until_this time ks n here =
-    record {
-      few = omega arith;
-      before = λ k d e. let same : n ≡ k = omega (arith, e) in subst (λ i. (slice_index_or ks i d).moment.begun ≤ time) same (here d);
-      behind = λ k d from below. absurd (omega (arith, from, below));
-    }
-
--- or it doesn't
-pub until_before : (time : ℕ) (ks : List Kept) (n place : ℕ) → ((d : Kept) → time < (slice_index_or ks n d).moment.begun) → IsUntil time ks n place
-    → IsUntil time ks (n + 1) place
-until_before time ks n place here h =
-    record {
-      few = omega (arith, h.few);
-      before = h.before;
-      behind = λ k d from below. elim (cases_lt k n) [
-        | inl before ↦ h.behind k d from before
-        | inr not ↦
-            let same : n ≡ k = omega (arith, not, below) in
-            subst (λ i. time < (slice_index_or ks i d).moment.begun) same (here d)
-      ];
-    }

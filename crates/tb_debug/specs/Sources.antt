@@ -1,6 +1,7 @@
 -- What a debugger shows at a line's beginning is what the source's interpreter has.
 use Rattle.std.specs.Prelude.{◌≡◌, ◌<◌, ℕ, map, Option, Some, None, slice_index}
 use Rattle.std.specs.Int.{cast_signed, w16}
+use Rattle.tb_memmap.specs.Regions.{BASIC_START}
 use Rattle.tb_meaning.specs.Control.{At, Past, Place}
 use Rattle.tb_kernal.specs.Machine.{State, state_of}
 use Rattle.tb_keeping.specs.Kept.{Starts}
@@ -17,12 +18,12 @@ use Rattle.tb_debug.specs.Debuggers.{OnRun}
 -- a compiled program as `compile` makes it of a source program, with the option's first RND state
 pub record IsMadeOf (source : Program) (seed : ℕ) (c : Compiled) : Type 0 where
   pub compiled : IsCompiled seed source c
-  pub marks : MarksLines 0x0801 (loaded_of c) source seed (start_of c)
+  pub marks : MarksLines BASIC_START (loaded_of c) source seed (start_of c)
 
 -- a debugger on the run of a source program's code from a start, beside a ROM
 pub record Debugs (source : Program) (seed : ℕ) (start : State) (beside : Beside) (d : Debugger) : Type 0 where
   pub made : IsMadeOf source seed d.program.now
-  pub starts : Starts 0x0801 (loaded_of d.program.now) start
+  pub starts : Starts BASIC_START (loaded_of d.program.now) start
   pub on : OnRun (first_point start beside) d
 
 -- the line of a place of the source; none past the last one

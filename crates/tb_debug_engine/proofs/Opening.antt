@@ -1,6 +1,7 @@
 -- The beginning of a dialogue.
 use Rattle.std.proofs.Common.{◌≡◌, ◌+◌, ◌≤◌, Bool, true, false, List, [], length, ℕ, Option, refl, sym, ap, subst, ◌∙◌}
 use Rattle.std.specs.Prelude.{Result, Ok, Err}
+use Rattle.tb_memmap.specs.Regions.{BASIC_START}
 use Rattle.tb_kernal.specs.Machine.{Content, state_of, status}
 use Rattle.tb_kernal.specs.declared.status.Status.{Status}
 use Rattle.tb_kernal.specs.declared.status.Status.TheVariants.{Returned, Running, Waits, Wrong}
@@ -35,7 +36,7 @@ use Rattle.tb_debug_engine.specs.declared.sources.Written.{Written}
 
 -- a program that `compile` made is loaded at $0801, below $A000
 loads : (source : Program) (seed : ℕ) (c : Compiled) → IsMadeOf source seed c
-    → (content_of (prg_of c) ≡ Ok (0x0801, loaded_of c)) × (0x0801 + length (loaded_of c) ≤ 0xa000)
+    → (content_of (prg_of c) ≡ Ok (BASIC_START, loaded_of c)) × (BASIC_START + length (loaded_of c) ≤ 0xa000)
 loads source seed c made = file_loads seed [] c (Ok source) made.compiled
 
 -- the machine that `run` starts for it is one from which its line starts are known
@@ -44,13 +45,13 @@ shows_so : (c : Compiled) (text answers : List ℕ) (beside : Beside) (at : ℕ)
     → (source : Program) (seed : ℕ) → IsMadeOf source seed c → sources.Debugs source seed (state_of (start at bytes text answers)) beside d
 shows_so c text answers beside at bytes d content of on file keys polls source seed made =
     let whole = loads source seed c made in
-    let same : start at bytes text answers ≡ start 0x0801 (loaded_of c) text answers =
+    let same : start at bytes text answers ≡ start BASIC_START (loaded_of c) text answers =
     machine_at_start text answers c at bytes (start at bytes text answers) (whole.0, in_ram (length (loaded_of c)) whole.1) content refl in
     let begun = starts (loaded_of c) text answers whole.1 (bytes_behind (prg_of c) file) keys polls in
     record {
       made = subst (IsMadeOf source seed) (sym of) made;
-      starts = subst (λ p. Starts 0x0801 (loaded_of p) (state_of (start at bytes text answers))) (sym of)
-          (subst (λ m. Starts 0x0801 (loaded_of c) (state_of m)) (sym same) begun);
+      starts = subst (λ p. Starts BASIC_START (loaded_of p) (state_of (start at bytes text answers))) (sym of)
+          (subst (λ m. Starts BASIC_START (loaded_of c) (state_of m)) (sym same) begun);
       on = on;
     }
 
@@ -84,10 +85,10 @@ barred program file at bytes why same content unloadable =
       unloadable = unloadable;
       unmade = λ source seed made.
           let whole = loads source seed program made in
-          let first : at ≡ 0x0801 = ap address_in (sym there ∙ whole.0) in
+          let first : at ≡ BASIC_START = ap address_in (sym there ∙ whole.0) in
           let rest : bytes ≡ loaded_of program = ap bytes_in (sym there ∙ whole.0) in
           unloadable.1 (subst (λ a. IsOpenRange a (length bytes)) (sym first)
-          (subst (λ l. IsOpenRange 0x0801 (length l)) (sym rest) (in_ram (length (loaded_of program)) whole.1)));
+          (subst (λ l. IsOpenRange BASIC_START (length l)) (sym rest) (in_ram (length (loaded_of program)) whole.1)));
     }
 
 -- where the machine can't be started there is no debugger

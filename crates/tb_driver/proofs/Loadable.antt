@@ -1,5 +1,6 @@
 -- A compiled program's file is loaded at $0801, all of it lies in RAM, and the machine that it starts is known.
 use Rattle.std.proofs.Common.{◌≡◌, ℕ, List, [], length, Result, Ok, Err, sym, ap, ◌∙◌}
+use Rattle.tb_memmap.specs.Regions.{BASIC_START}
 use Rattle.tb_kernal.specs.Machine.{Content}
 use Rattle.tb_prg.specs.declared.PrgError.{PrgError}
 use Rattle.tb_prg.specs.Prg.{content_of}
@@ -27,8 +28,8 @@ bytes_in (Err e) = []
 
 -- the machine of what was read of a loadable program's file
 pub machine_at_start : (text answers : List ℕ) (c : Compiled) (at : ℕ) (bytes : List ℕ) (m : Content) → IsLoadable c → content_of (prg_of c) ≡ Ok (at, bytes)
-    → m ≡ start at bytes text answers → m ≡ start 0x0801 (loaded_of c) text answers
+    → m ≡ start at bytes text answers → m ≡ start BASIC_START (loaded_of c) text answers
 machine_at_start text answers c at bytes m loadable content machine =
-    let first : at ≡ 0x0801 = ap address_in (sym content ∙ loadable.0) in
+    let first : at ≡ BASIC_START = ap address_in (sym content ∙ loadable.0) in
     let rest : bytes ≡ loaded_of c = ap bytes_in (sym content ∙ loadable.0) in
     machine ∙ (λ i. start (first i) (rest i) text answers)

@@ -4,7 +4,7 @@ use Rattle.std.specs.Prelude.{◌&&◌, nat_le, nat_lt, replicate, slice_index, 
 use Rattle.std.proofs.lemmas.Bool.Decides.{nat_tests}
 use Rattle.std.proofs.lemmas.List.{length-replicate}
 use Rattle.tb_memmap.specs.Bytes.{at, loaded, with_bytes, IsOpenRange}
-use Rattle.tb_memmap.specs.Regions.{is_open}
+use Rattle.tb_memmap.specs.Regions.{BASIC_START, is_open}
 use Rattle.tb_memmap.proofs.View.{at_zero, at_loaded, length-loaded}
 use Rattle.tb_asm.specs.Layout.{labels_from, image_of}
 use Rattle.tb_asm.proofs.Laws.{all_size}
@@ -65,41 +65,41 @@ abbrev return_bytes : List ℕ
 return_bytes = 0xff ∷ 0xa0 ∷ []
 
 abbrev start_reads : List ℕ → ℕ → ℕ
-start_reads bytes = with_bytes (with_bytes (λ b. 0) 0x0801 bytes) 0x01f1 return_bytes
+start_reads bytes = with_bytes (with_bytes (λ b. 0) BASIC_START bytes) 0x01f1 return_bytes
 
-memory_reads : (bytes : List ℕ) → 0x0801 + length bytes ≤ 0xa000 → at (start_memory 0x0801 bytes) ≡ start_reads bytes
+memory_reads : (bytes : List ℕ) → BASIC_START + length bytes ≤ 0xa000 → at (start_memory BASIC_START bytes) ≡ start_reads bytes
 memory_reads bytes h =
     let empty : List ℕ = replicate 65536 0 in
     let zeros : length empty ≡ 65536 = length-replicate {A = ℕ} 65536 0 in
-    let whole : length (loaded empty 0x0801 bytes) ≡ 65536 = length-loaded empty 0x0801 bytes (omega arith) ∙ zeros in
-    at_loaded (loaded empty 0x0801 bytes) 0x01f1 return_bytes (omega arith)
-    ∙ ap (λ m. with_bytes m 0x01f1 return_bytes) (at_loaded empty 0x0801 bytes (omega arith) ∙ ap (λ m. with_bytes m 0x0801 bytes) (at_zero 65536))
+    let whole : length (loaded empty BASIC_START bytes) ≡ 65536 = length-loaded empty BASIC_START bytes (omega arith) ∙ zeros in
+    at_loaded (loaded empty BASIC_START bytes) 0x01f1 return_bytes (omega arith)
+    ∙ ap (λ m. with_bytes m 0x01f1 return_bytes) (at_loaded empty BASIC_START bytes (omega arith) ∙ ap (λ m. with_bytes m BASIC_START bytes) (at_zero 65536))
 
-program_lies : (bytes : List ℕ) → LieAt 0x0801 bytes (start_reads bytes)
+program_lies : (bytes : List ℕ) → LieAt BASIC_START bytes (start_reads bytes)
 program_lies bytes k below =
-    let behind : (nat_le 0x01f1 (0x0801 + k) && nat_lt (0x0801 + k) (0x01f1 + length return_bytes)) ≡ false = grind (arith, nat_tests) in
-    let here : (nat_le 0x0801 (0x0801 + k) && nat_lt (0x0801 + k) (0x0801 + length bytes)) ≡ true = grind (arith, nat_tests) in
-    let back : 0x0801 + k - 0x0801 ≡ k = omega arith in
+    let behind : (nat_le 0x01f1 (BASIC_START + k) && nat_lt (BASIC_START + k) (0x01f1 + length return_bytes)) ≡ false = grind (arith, nat_tests) in
+    let here : (nat_le BASIC_START (BASIC_START + k) && nat_lt (BASIC_START + k) (BASIC_START + length bytes)) ≡ true = grind (arith, nat_tests) in
+    let back : BASIC_START + k - BASIC_START ≡ k = omega arith in
     rw (behind, here, back) refl
 
 start_holds : (bytes : List ℕ) → AreBytes bytes → HoldsBytes (start_reads bytes)
 start_holds bytes small =
-    put_bytes (with_bytes (λ b. 0) 0x0801 bytes) 0x01f1 return_bytes (put_bytes (λ b. 0) 0x0801 bytes (λ b. omega arith) small)
+    put_bytes (with_bytes (λ b. 0) BASIC_START bytes) 0x01f1 return_bytes (put_bytes (λ b. 0) BASIC_START bytes (λ b. omega arith) small)
     (omega arith, (omega arith, tt))
 
 -- the start machine of a program below $A000, with a keyboard of bytes
-pub starts : (bytes text answers : List ℕ) → 0x0801 + length bytes ≤ 0xa000 → AreBytes bytes → AreBytes text → AreBytes answers
-    → Starts 0x0801 bytes (state_of (start 0x0801 bytes text answers))
+pub starts : (bytes text answers : List ℕ) → BASIC_START + length bytes ≤ 0xa000 → AreBytes bytes → AreBytes text → AreBytes answers
+    → Starts BASIC_START bytes (state_of (start BASIC_START bytes text answers))
 starts bytes text answers ends small small_text small_answers =
     let reads = memory_reads bytes ends in
     record {
       start = record {
-        loaded = subst (LieAt 0x0801 bytes) (sym reads) (program_lies bytes);
+        loaded = subst (LieAt BASIC_START bytes) (sym reads) (program_lies bytes);
         holds_bytes = subst HoldsBytes (sym reads) (start_holds bytes small);
         pc = refl;
         s_from = omega arith;
         s_to = omega arith;
-        home = sym (home_of-start 0x0801 bytes (omega arith));
+        home = sym (home_of-start BASIC_START bytes (omega arith));
         home_s = refl;
         in_rom = refl;
         no_service = refl;
@@ -134,10 +134,10 @@ shows program seed s t pc WaitsForKey sound e =
     waits Faulted over h = let no : WaitsForKey ≡ Returned = e ∙ h in cc
     waits Waits over h = record { lines = sound.lines; output = t.sent; over = over; shown = refl }
 
-pub in_ram : (n : ℕ) → 0x0801 + n ≤ 0xa000 → IsOpenRange 0x0801 n
-in_ram n h k below = let a : 0x0801 + k < 0xa000 = omega arith in open_so (0x0801 + k) (omega arith) a
+pub in_ram : (n : ℕ) → BASIC_START + n ≤ 0xa000 → IsOpenRange BASIC_START n
+in_ram n h k below = let a : BASIC_START + k < 0xa000 = omega arith in open_so (BASIC_START + k) (omega arith) a
   where
-    open_so : (a : ℕ) → 0x0801 ≤ a → a < 0xa000 → is_open a ≡ true
+    open_so : (a : ℕ) → BASIC_START ≤ a → a < 0xa000 → is_open a ≡ true
     open_so a from to = grind (arith, nat_tests)
 
 module _ {O : Type 0} (gives : O → Content → Event → O → Type 0) (o : O) (seed : ℕ) (source file text answers : List ℕ) (limit : ℕ) (kept : KeepsSource seed source file) (small : AreBytes file) (small_text : AreBytes text) (small_answers : AreBytes answers) where
@@ -145,12 +145,12 @@ module _ {O : Type 0} (gives : O → Content → Event → O → Type 0) (o : O)
   bytes = drop 2 file
 
   abbrev begun : State
-  begun = state_of (start 0x0801 bytes text answers)
+  begun = state_of (start BASIC_START bytes text answers)
 
-  begins : Starts 0x0801 bytes begun
+  begins : Starts BASIC_START bytes begun
   begins = starts bytes text answers kept.ends (bytes_behind file small) small_text small_answers
 
-  runs_loaded : (x : Product) → RunsAt gives o 0x0801 bytes text answers limit x → RunsSource seed text answers source x
+  runs_loaded : (x : Product) → RunsAt gives o BASIC_START bytes text answers limit x → RunsSource seed text answers source x
   runs_loaded (Ok product) (opens, (t, p, n, ran, is)) =
       let sound = subst (IsSound kept.program seed begun) (sym ran.ran) (kept.keeps.sound begun begins ran.events ran.lawful) in
       (kept.program, kept.made, subst (λ x. ShowsOutput kept.program seed text answers x.1 x.0) (sym is) (shows kept.program seed begun (state_of n) n.regs.pc t sound ran.answer.0))
@@ -166,13 +166,13 @@ module _ {O : Type 0} (gives : O → Content → Event → O → Type 0) (o : O)
 -- ---- the compiled file
 
 abbrev IsLoaded : List ℕ → Type 0
-IsLoaded file = (content_of file ≡ Ok (0x0801, drop 2 file)) × (0x0801 + length (drop 2 file) ≤ 0xa000)
+IsLoaded file = (content_of file ≡ Ok (BASIC_START, drop 2 file)) × (BASIC_START + length (drop 2 file) ≤ 0xa000)
 
 image_loads : (image : List ℕ) → PROLOGUE_AT + length image ≤ 0xa000 → IsLoaded (header ++ image)
 image_loads image h =
     let l : length (drop 2 header ++ image) ≡ 12 + length image = length-append (drop 2 header) image in
-    let ends : 0x0801 + length (drop 2 header ++ image) ≤ 0xa000 = omega arith in
-    let below : nat_lt 65536 (0x0801 + length (drop 2 header ++ image)) ≡ false = grind (arith, nat_tests) in
+    let ends : BASIC_START + length (drop 2 header ++ image) ≤ 0xa000 = omega arith in
+    let below : nat_lt 65536 (BASIC_START + length (drop 2 header ++ image)) ≡ false = grind (arith, nat_tests) in
     (rw below refl, ends)
 
 module _ (seed : ℕ) (source : List ℕ) (c : Compiled) where
@@ -184,7 +184,7 @@ module _ (seed : ℕ) (source : List ℕ) (c : Compiled) where
 
   -- a compiled file keeps its source
   pub keeps_source : Answered seed source (Ok c)
-      → (program : Program) × LinesMake source (Ok program) × Keeps 0x0801 (loaded_of c) program seed → KeepsSource seed source (prg_of c)
+      → (program : Program) × LinesMake source (Ok program) × Keeps BASIC_START (loaded_of c) program seed → KeepsSource seed source (prg_of c)
   keeps_source found (program, made, keeps) =
       let loads = file_loads found.outcome found.answer in
       record { program = program; made = made; content = loads.0; ends = loads.1; keeps = keeps }

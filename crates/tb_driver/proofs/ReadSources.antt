@@ -1,6 +1,7 @@
 -- What is delivered of a source that was read.
 use Rattle.std.proofs.Common.{◌≡◌, ℕ, List, [], Option, Some, None, Result, Ok, Err, refl, subst, sym}
 use Rattle.std.specs.Io.KnownBytes.{Keeps as KeepsBytes}
+use Rattle.tb_memmap.specs.Regions.{BASIC_START}
 use Rattle.tb_meaning.specs.declared.missing.Warning.{Warning}
 use Rattle.tb_syntax.specs.Source.{Program}
 use Rattle.tb_keeping.specs.Kept.{Keeps}
@@ -29,7 +30,7 @@ use Rattle.tb_driver.proofs.Output.{keeps_source}
 -- a program that the compiler answered for all that was read
 pub program_read : (seed : ℕ) (had : Option (List ℕ)) (input source : List ℕ) (c : Compiled) (read read' : ℕ) → Reads had input → source ≡ input
     → HasOutcome seed source (Ok c) → ((outcome : FileOutcome) → LinesMake source outcome → OutcomeAnswer seed outcome (Ok c))
-    → (program : Program) × LinesMake source (Ok program) × Keeps 0x0801 (loaded_of c) program seed → read' ≡ read → ReadsSource seed (Ok c) had read read'
+    → (program : Program) × LinesMake source (Ok program) × Keeps BASIC_START (loaded_of c) program seed → read' ≡ read → ReadsSource seed (Ok c) had read read'
 program_read seed had input source c read read' reads same found only keeps failed =
     (source, subst (Reads had) (sym same) reads, record { found = found; only = only }, keeps_source seed source c found keeps, failed)
 

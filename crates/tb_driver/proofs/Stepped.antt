@@ -1,6 +1,7 @@
 -- What is delivered of a source and commands.
 use Rattle.std.proofs.Common.{◌≡◌, ℕ, List, [], Option, Result, Ok, Err, refl, subst, ◌∙◌}
 use Rattle.std.specs.Io.KnownBytes.{Consumes}
+use Rattle.tb_memmap.specs.Regions.{BASIC_START}
 use Rattle.tb_meaning.specs.declared.missing.Warning.{Warning}
 use Rattle.tb_kernal.specs.declared.outside.Quiet.{Quiet}
 use Rattle.tb_kernal.specs.Machine.{Content}
@@ -31,7 +32,7 @@ module _ (text answers : List ℕ) (limit : ℕ) where
       → content_of (prg_of program) ≡ Ok (at, bytes) → m ≡ start at bytes text answers → h ≡ record (start_of_history text answers program) { machine = m }
       → Dialogue gives_quiet limit h (lines_of commands) said k → Steps text answers limit program commands (Ok (said, Done))
   stepped program commands at bytes m h k said loadable content same_machine same talked =
-      let machine : m ≡ start 0x0801 (loaded_of program) text answers = machine_at_start text answers program at bytes m loadable content same_machine in
+      let machine : m ≡ start BASIC_START (loaded_of program) text answers = machine_at_start text answers program at bytes m loadable content same_machine in
       let whole : h ≡ start_of_history text answers program = same ∙ (λ i. record (start_of_history text answers program) { machine = machine i }) in
       (k, subst (λ x. Dialogue gives_quiet limit x (lines_of commands) said k) whole talked, refl)
 

@@ -1,5 +1,6 @@
 -- Running a text writes the source's output: what is said of the source alone.
 use Rattle.std.specs.Prelude.{ℕ, ◌≡◌, ◌⊎◌, ◌+◌, ◌≤◌, List, length, drop, Ok, Err}
+use Rattle.tb_memmap.specs.Regions.{BASIC_START}
 use Rattle.tb_syntax.specs.Source.{Program}
 use Rattle.tb_meaning.specs.Steps as source
 use Rattle.tb_meaning.specs.Steps.{Ended, Faulted, Waits, Over, sent_by}
@@ -49,6 +50,6 @@ RunsSource seed text answers source (Err e) = ⊥
 pub record KeepsSource (seed : ℕ) (source file : List ℕ) : Type 0 where
   pub program : Program
   pub made : LinesMake source (Ok program)
-  pub content : content_of file ≡ Ok (0x0801, drop 2 file)
-  pub ends : 0x0801 + length (drop 2 file) ≤ 0xa000
-  pub keeps : Keeps 0x0801 (drop 2 file) program seed
+  pub content : content_of file ≡ Ok (BASIC_START, drop 2 file)
+  pub ends : BASIC_START + length (drop 2 file) ≤ 0xa000
+  pub keeps : Keeps BASIC_START (drop 2 file) program seed

@@ -1,6 +1,7 @@
 -- What comes of a source and of commands.
 use Rattle.std.specs.Prelude.{ℕ, ◌≡◌, ◌≢◌, ◌⊎◌, List, [], length, Option, Ok, Err}
 use Rattle.std.specs.Io.KnownBytes.{Consumes}
+use Rattle.tb_memmap.specs.Regions.{BASIC_START}
 use Rattle.tb_memmap.specs.Bytes.{IsOpenRange}
 use Rattle.tb_prg.specs.Prg.{content_of}
 use Rattle.tb_meaning.specs.declared.missing.Warning.{Warning}
@@ -22,12 +23,12 @@ use Rattle.tb_engines.specs.declared.outcome.Outcome.TheVariants.{Ended, Refused
 -- a program's PRG file is loaded at $0801, and all of it lies in RAM
 abbrev pub IsLoadable : Compiled → Type 0
 IsLoadable program =
-    (content_of (prg_of program) ≡ Ok (0x0801, loaded_of program)) × IsOpenRange 0x0801 (length (loaded_of program))
+    (content_of (prg_of program) ≡ Ok (BASIC_START, loaded_of program)) × IsOpenRange BASIC_START (length (loaded_of program))
 
 -- the history of a program's start machine alone
 abbrev pub start_of_history : List ℕ → List ℕ → Compiled → Holds Quiet
 start_of_history text answers program =
-    record { machine = start 0x0801 (loaded_of program) text answers; outside = record {}; undos = []; program = program }
+    record { machine = start BASIC_START (loaded_of program) text answers; outside = record {}; undos = []; program = program }
 
 -- the answers to commands, over a program
 abbrev pub Steps : List ℕ → List ℕ → ℕ → Compiled → List ℕ → Product → Type 0

@@ -1,5 +1,6 @@
 -- The run of a PRG file.
 use Rattle.std.specs.Prelude.{ℕ, ◌≡◌, false, List, [], ◌∷◌, length, replicate, nat_eq, None, Result, Ok, Err, if◌then◌else◌}
+use Rattle.tb_memmap.specs.Regions.{BASIC_START, CODE_START}
 use Rattle.tb_cpu.specs.declared.registers.Regs.{Regs}
 use Rattle.tb_memmap.specs.Bytes.{loaded, IsOpenRange}
 use Rattle.tb_kernal.specs.declared.events.Event.{Event}
@@ -19,7 +20,7 @@ use Rattle.tb_engines.specs.declared.outcome.Refusal.TheVariants.{Prg, NotRam}
 
 -- a program at $0801 begins behind its BASIC line, any other at its first byte
 abbrev pub first_pc : ℕ → ℕ
-first_pc at = if nat_eq at 0x0801 then 0x080d else at
+first_pc at = if nat_eq at BASIC_START then CODE_START else at
 
 -- the registers where a program at an address starts: PC is at its first instruction, S is $F0, the rest is 0 or clear
 abbrev pub start_regs : ℕ → Regs

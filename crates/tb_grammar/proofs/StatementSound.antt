@@ -4,8 +4,8 @@ use Rattle.std.specs.Option.{option_or}
 use Rattle.std.proofs.lemmas.List.{append-nil}
 use Rattle.std.specs.Prelude.{codes}
 use Rattle.tb_syntax.specs.Source.{Expression, Command, Let, Print, Input, If, Goto, Gosub, Return, End, Remark}
-use Rattle.tb_grammar.specs.declared.statements.Keyword.{Keyword}
-use Rattle.tb_grammar.specs.declared.statements.Keyword.TheVariants as keyword
+use Rattle.tb_grammar.specs.declared.keywords.Keyword.{Keyword}
+use Rattle.tb_grammar.specs.declared.keywords.Keyword.TheVariants as keyword
 use Rattle.tb_grammar.specs.Grammar.{IsLetter, Whole, Reads}
 use Rattle.tb_grammar.specs.Reading.{◌>>=◌, when, behind, behind_word, letter_at, front_of, expression_in}
 use Rattle.tb_grammar.specs.Statements.{MayThen, bare, then, States, let_assign, assign, print, short_print, input, conditional, goto, gosub, return, end, remark}

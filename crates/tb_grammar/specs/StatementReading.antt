@@ -4,8 +4,8 @@ use Rattle.std.specs.Option.{option_or}
 use Rattle.tb_words.specs.declared.Rel.{Rel}
 use Rattle.tb_words.specs.declared.Rel.TheVariants.{Eq, Lt, Gt, Le, Ge, Ne}
 use Rattle.tb_syntax.specs.Source.{Expression, Item, Text, Value, Zone, Command, Let, Print, Input, If, Goto, Gosub, Return, End, Remark}
-use Rattle.tb_grammar.specs.declared.statements.Keyword.{Keyword}
-use Rattle.tb_grammar.specs.declared.statements.Keyword.TheVariants as keyword
+use Rattle.tb_grammar.specs.declared.keywords.Keyword.{Keyword}
+use Rattle.tb_grammar.specs.declared.keywords.Keyword.TheVariants as keyword
 use Rattle.tb_grammar.specs.Reading.{◌>>=◌, when, Found, behind, behind_word, letter_at, front_of, expression_in}
 
 -- a statement that was read, and where its first literal above 65,535 begins

@@ -7,11 +7,13 @@
 
 mod expressions;
 mod items;
+mod keywords;
 mod laws;
 mod statements;
 mod stop;
 
 pub use expressions::{ReadExpression, read_expression};
+pub use keywords::{KEYWORDS, Keyword, THEN};
 pub use laws::{expressions_are_unique, statements_are_unique};
 pub use statements::{ReadStatement, read_statement};
 pub use stop::Stop;

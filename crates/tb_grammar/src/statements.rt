@@ -4,11 +4,12 @@ ghost use Rattle.tb_words.specs.Letters.{place};
 ghost use Rattle.tb_syntax.specs.Source.{Command, Let, Goto, Gosub};
 ghost use Rattle.tb_syntax.specs.PlainData.{command_of};
 ghost use Rattle.tb_grammar.specs.ReadValues.{told, Gives, Answers};
-ghost use Rattle.tb_grammar.specs.StatementReading.{target_at, relation_at, made, alone, behind_then, conditional_by, keyword_at, assigned_at, behind_keyword, statement_at, statement_in, spelled};
+ghost use Rattle.tb_grammar.specs.StatementReading.{target_at, relation_at, made, alone, behind_then, conditional_by, keyword_at, assigned_at, behind_keyword, statement_at, statement_in};
 ghost use Rattle.tb_grammar.specs.Statements.{States};
 
 use crate::expressions::{behind, behind_word, expression, leading, split_letter};
 use crate::items::{behind_variable, input, print};
+use crate::keywords::{KEYWORDS, Keyword, THEN};
 use crate::stop::{Stop, left_at};
 use std::alloc::Global;
 use std::boxed::Box;
@@ -24,58 +25,12 @@ pub struct ReadStatement {
     pub large: Option<usize>,
 }
 
-/// The first words of statements.
-#[derive(Clone, Copy)]
-pub(crate) enum Keyword {
-    Let,
-    Print,
-    Pr,
-    Input,
-    If,
-    Goto,
-    Gosub,
-    Return,
-    End,
-    Rem,
-}
-
-fn spelling(keyword: Keyword) -> &'static [u8]
-    ensures { result.now ≡ spelled keyword }
-{
-    match keyword {
-        Keyword::Let => b"LET",
-        Keyword::Print => b"PRINT",
-        Keyword::Pr => b"PR",
-        Keyword::Input => b"INPUT",
-        Keyword::If => b"IF",
-        Keyword::Goto => b"GOTO",
-        Keyword::Gosub => b"GOSUB",
-        Keyword::Return => b"RETURN",
-        Keyword::End => b"END",
-        Keyword::Rem => b"REM",
-    }
-}
-
-// PRINT stands before PR, which begins it.
-const KEYWORDS: [Keyword; 10] = [
-    Keyword::Let,
-    Keyword::Print,
-    Keyword::Pr,
-    Keyword::Input,
-    Keyword::If,
-    Keyword::Goto,
-    Keyword::Gosub,
-    Keyword::Return,
-    Keyword::End,
-    Keyword::Rem,
-];
-
 #[tactic(auto, unfolding(crate::specs::StatementReading::keyword_at))]
 fn split_keyword(text: &[u8]) -> Option<(Keyword, &[u8])>
     ensures { MatchOption result (keyword_at text.now ≡ None) (λ p. keyword_at text.now ≡ Some (p.0, p.1.now)) }
 {
     for keyword in KEYWORDS {
-        if let Some(rest) = behind_word(spelling(keyword), text) {
+        if let Some(rest) = behind_word(keyword.spelling().as_bytes(), text) {
             return Some((keyword, rest));
         }
     }
@@ -140,7 +95,7 @@ fn alone(statement: Statement, text: &[u8]) -> Result<ReadStatement, Stop>
 fn behind_then(text: &[u8]) -> &[u8]
     ensures { result.now ≡ behind_then text.now }
 {
-    behind_word(b"THEN", text).unwrap_or(text)
+    behind_word(THEN.as_bytes(), text).unwrap_or(text)
 }
 
 #[tactic(auto, unfolding(crate::specs::StatementReading::made))]

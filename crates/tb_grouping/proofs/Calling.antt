@@ -106,7 +106,7 @@ module _ (around : Surroundings) (fits : Fits around.f 16) (limit : ℕ) (rs : S
       Ends u = Matches around (record { state = called; rest = Whole; slots = r }) u
 
       -- a memory with the note, from where it goes on
-      goes : (at : ℕ) (m : ℕ → ℕ) → length s.returns < 500 → WordAt m NOTES (suc (length s.returns)) → Noted m (note ∷ notes) → ((a : ℕ) → 0xC000 ≤ a → a ≤ 0xC061 → a ≢ NOTES → a ≢ NOTES + 1 → m a ≡ w.mem a) → (u : View) → Here (ly.start t) own m w.text w.answers u → Ends u
+      goes : (at : ℕ) (m : ℕ → ℕ) → length s.returns < deepest → WordAt m NOTES (suc (length s.returns)) → Noted m (note ∷ notes) → ((a : ℕ) → 0xC000 ≤ a → a ≤ 0xC061 → a ≢ NOTES → a ≢ NOTES + 1 → m a ≡ w.mem a) → (u : View) → Here (ly.start t) own m w.text w.answers u → Ends u
       goes at m few count noted others =
           arrived around called r (ly.start t) m w.text w.answers refl
           (state_pushed ly s w.mem m h.state (At t) (next_after ly.numbers n) few count noted others) h.read.all_words
@@ -126,13 +126,13 @@ module _ (around : Surroundings) (fits : Fits around.f 16) (limit : ℕ) (rs : S
         abbrev low : ℕ
         low = (with_note f 16 fits own w.mem w.text w.answers refl storing (note % 256) (note / 256) few NOTES + 1) % 256
 
-        added_goes : (m : ℕ → ℕ) → Added w.mem note notes m → length s.returns < 500 → Moves f (Here going own m w.text w.answers) Ends [] 1
+        added_goes : (m : ℕ → ℕ) → Added w.mem note notes m → length s.returns < deepest → Moves f (Here going own m w.text w.answers) Ends [] 1
         added_goes m a free u e =
             looser f u _ _ [] 1 1 (omega arith)
             (goes going m free (subst (λ k. WordAt m NOTES (suc k)) same_length a.count) a.noted (λ x lo hi p q. a.others x (omega (arith, hi)) p q))
             (jumps f 16 fits going own m w.text w.answers refl (ly.start t) onward.1 u e)
 
-        by_carry : (z : Bool) → eqb low 0 ≡ z → length s.returns < 500 → Moves f (Flagged asking own stored w.text w.answers (eqb low 0)) Ends [] 4
+        by_carry : (z : Bool) → eqb low 0 ≡ z → length s.returns < deepest → Moves f (Flagged asking own stored w.text w.answers (eqb low 0)) Ends [] 4
         by_carry false e free u k =
             looser f u _ _ [] (2 + 1) 4 (omega arith) (λ v x. x)
             (chained f u _ _ [] [] 2 1 (branches f 16 fits own stored w.text w.answers refl asking second Zero false false going raising.0 reach.1 noting.2.1 u k.here (k.zero ∙ e))
@@ -142,7 +142,7 @@ module _ (around : Surroundings) (fits : Fits around.f 16) (limit : ℕ) (rs : S
             chained f v _ _ [] [] 1 1 (raises f 16 fits own stored w.text w.answers refl (asking + way_size second) raising.1.0 raising.1.1 v g.here)
             (added_goes _ (carried w.mem note notes note_small counts h.state.notes near e) free))
 
-        in_line : length s.returns < 500 → Comes f w Ends [] 13
+        in_line : length s.returns < deepest → Comes f w Ends [] 13
         in_line free =
             chained f w _ _ [] [] 3 10 (asks f 16 fits own w.mem w.text w.answers refl start (NOTES + 1) pushing first false true (noting_code ly n start first second t) refl (eq-eqb page 0 near) reach.0 lies w (here h)) (λ u g.
             chained f u _ _ [] [] 6 4 (stores_note f 16 fits own w.mem w.text w.answers refl storing (note % 256) (note / 256) few noting.0 noting.1 u g.here) (by_carry (eqb low 0) refl free))
@@ -174,7 +174,7 @@ module _ (around : Surroundings) (fits : Fits around.f 16) (limit : ℕ) (rs : S
           chained f v _ q [] l 4 (1 + b) (points f 16 fits at own one w.text w.answers refl note LEFT routine.2.0 (refl, refl) routine.2.1 v e) (λ v e.
           chained f v _ q [] l 1 b (calls f 16 fits (at + 8) own two w.text w.answers refl PUSH_AT refl routine.2.2.0 routine.2.2.1 v e) next)))
 
-      pushes : page ≢ 0 → length s.returns < 500 → Comes f w Ends [] (13 + limit)
+      pushes : page ≢ 0 → length s.returns < deepest → Comes f w Ends [] (13 + limit)
       pushes far free =
           let c = kept_two in
           looser f w _ _ [] (3 + (4 + (4 + (1 + (limit + 1))))) (13 + limit) (omega arith) (λ u x. x)
@@ -190,13 +190,13 @@ module _ (around : Surroundings) (fits : Fits around.f 16) (limit : ℕ) (rs : S
 
       pub call_to_found : nat_lt (length s.returns) deepest ≡ true → Comes f w Ends [] (13 + limit)
       call_to_found free =
-          let room : length s.returns < 500 = omega (arith, ltb-true _ _ free) in
+          let room : length s.returns < deepest = omega (arith, ltb-true _ _ free) in
           ⊎_elim (λ near. looser f w _ _ [] 13 (13 + limit) (omega arith) (λ u x. x) (in_line near room)) (λ far. pushes far room) (cases_eq page 0)
 
       pub call_to_full : nat_lt (length s.returns) deepest ≡ false → Comes f w (IsHome f) (fault_text 4 n) (12 + limit)
       call_to_full full =
           let c = kept_two in
-          let all : length s.returns ≡ 500 = omega (arith, ltb-false _ _ full, c.state.few) in
+          let all : length s.returns ≡ deepest = omega (arith, ltb-false _ _ full, c.state.few) in
           looser f w _ _ (fault_text 4 n) (3 + (4 + (4 + (1 + limit)))) (12 + limit) (omega arith) (λ u x. x)
           (up_to_push (λ z. omega (arith, z, all, h.state.count.high)) _ (fault_text 4 n) limit (rs.push_fails _ _ two w.text w.answers notes n (subst (λ k. WordAt two NOTES k) (sym same_length) c.state.count) c.state.notes (omega (arith, all, same_length)) number c.homed))
 
@@ -272,7 +272,7 @@ module _ (around : Surroundings) (fits : Fits around.f 16) (limit : ℕ) (rs : S
 
       pops : (page ≢ 0) ⊎ (w.mem NOTES ≡ 0) → Comes f w Returns [] (12 + limit)
       pops why =
-          let few : suc (length ps) ≤ 500 = subst (λ l. length l ≤ 500) q c.state.few in
+          let few : suc (length ps) ≤ deepest = subst (λ l. length l ≤ deepest) q c.state.few in
           let noted : Noted m (notes_of ly (p ∷ ps)) = subst (λ l. Noted m (notes_of ly l)) q c.state.notes in
           let count : WordAt m NOTES (suc (length ps)) = subst (λ l. WordAt m NOTES (length l)) q c.state.count in
           looser f w _ _ [] (6 + (4 + (1 + (limit + 1)))) (12 + limit) (omega arith) (λ u x. x)

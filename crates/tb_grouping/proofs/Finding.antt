@@ -184,7 +184,7 @@ module _ (around : Surroundings) (fits : Fits around.f 16) (limit : ℕ) (rs : S
 
       pub call_found : has_line ly.numbers place ≡ true → nat_lt (length s.returns) deepest ≡ true → Comes f w (Matches around (record { state = record s { place = At place; returns = next_after ly.numbers n ∷ s.returns }; rest = Whole; slots = slots })) [] (34 + (limit + limit))
       call_found found free =
-          let few : length s.returns < 500 = omega (arith, ltb-true _ _ free) in
+          let few : length s.returns < deepest = omega (arith, ltb-true _ _ free) in
           let same : length (notes_of ly s.returns) ≡ length s.returns = length-map s.returns (place_at ly) in
           looser f w _ _ [] (4 + (4 + (1 + (4 + (4 + (1 + (limit + (4 + (1 + (limit + 1)))))))))) (34 + (limit + limit)) (omega arith) (λ u x. x)
           (calls_push found _ [] (limit + 1) (λ u result l c v e.

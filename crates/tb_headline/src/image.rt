@@ -1,5 +1,6 @@
 //! An image that keeps its program.
 ghost use Rattle.std.specs.Prelude.{◌≤◌, drop, length, IfOk};
+ghost use Rattle.tb_memmap.specs.Regions.{BASIC_START};
 ghost use Rattle.tb_syntax.specs.PlainData.{lines_of};
 ghost use Rattle.tb_syntax.specs.Source.{numbers};
 ghost use Rattle.tb_parser.specs.Files.{AreStated, RisesFrom};
@@ -22,7 +23,7 @@ pub fn keeping_file(alloc: Global, program: &Program, seed: u16) -> Result<Vec<u
     requires stated { AreStated (lines_of program.now) }
     requires rising { RisesFrom 0 (numbers (lines_of program.now)) }
     requires some { 1 ≤ length (lines_of program.now) }
-    ensures { IfOk result (λ file. Keeps 0x0801 (drop 2 file.items) (lines_of program.now) seed) }
+    ensures { IfOk result (λ file. Keeps BASIC_START (drop 2 file.items) (lines_of program.now) seed) }
 {
     let code = lower(alloc, program)?;
     let cost = cost(program);

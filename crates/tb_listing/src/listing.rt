@@ -98,12 +98,12 @@ fn assembles_to(alloc: Global, items: &[Item], image: &[u8]) -> Result<bool, All
 {
     match assemble(alloc, BLOCK_AT, items) {
         Ok(made) => Ok(made.bytes.as_slice() == image),
-        Err(error) => unequal(error.kind),
+        Err(error) => no_image(error.kind),
     }
 }
 
 // What is not assembled gives no image.
-fn unequal(kind: AsmErrorKind) -> Result<bool, AllocError>
+fn no_image(kind: AsmErrorKind) -> Result<bool, AllocError>
     ensures { IfOk result (λ same. same ≡ false) }
 {
     match kind {

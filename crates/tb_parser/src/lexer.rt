@@ -3,59 +3,7 @@ ghost use Rattle.std.specs.Prelude.{◌≡◌, ◌+◌, ◌<◌, ◌≤◌, ◌^
 ghost use Rattle.tb_parser.specs.Tokens.{AreSpaces, AreTokens, IsNext, end_of};
 
 use std::alloc::{AllocError, Global};
-
-/// A word of the language.
-#[derive(Clone, Copy, Debug, PartialEq, Eq)]
-pub enum Keyword {
-    Let,
-    Print,
-    /// PRINT in short.
-    Pr,
-    Input,
-    If,
-    Then,
-    Goto,
-    Gosub,
-    Return,
-    End,
-    Rem,
-}
-
-// The keywords, each before those that are its beginnings.
-const KEYWORDS: [Keyword; 11] = [
-    Keyword::Let,
-    Keyword::Print,
-    Keyword::Pr,
-    Keyword::Input,
-    Keyword::If,
-    Keyword::Then,
-    Keyword::Goto,
-    Keyword::Gosub,
-    Keyword::Return,
-    Keyword::End,
-    Keyword::Rem,
-];
-
-impl Keyword {
-    // How it is written.
-    fn letters(self) -> &'static [u8]
-        ensures { 0 < length result.now }
-    {
-        match self {
-            Keyword::Let => b"LET",
-            Keyword::Print => b"PRINT",
-            Keyword::Pr => b"PR",
-            Keyword::Input => b"INPUT",
-            Keyword::If => b"IF",
-            Keyword::Then => b"THEN",
-            Keyword::Goto => b"GOTO",
-            Keyword::Gosub => b"GOSUB",
-            Keyword::Return => b"RETURN",
-            Keyword::End => b"END",
-            Keyword::Rem => b"REM",
-        }
-    }
-}
+use tb_grammar::{KEYWORDS, Keyword, THEN};
 
 /// What a token is.
 #[derive(Clone, Copy, Debug, PartialEq, Eq)]
@@ -66,8 +14,10 @@ pub enum TokenKind {
     Variable,
     /// RND.
     Random,
-    /// A word of the language.
+    /// The first word of a statement.
     Keyword(Keyword),
+    /// THEN.
+    Then,
     /// `+`, `-`, `*` or `/`.
     Operator,
     /// `=`, `<`, `>`, `<=`, `>=`, `<>` or `><`.
@@ -128,7 +78,7 @@ impl TokenKind {
                 | Keyword::Goto
                 | Keyword::Gosub => Awaits::Operand,
                 Keyword::Rem => Awaits::Remark,
-                Keyword::Then | Keyword::Return | Keyword::End => Awaits::Word,
+                Keyword::Return | Keyword::End => Awaits::Word,
             },
             _ => Awaits::Word,
         }
@@ -285,20 +235,20 @@ fn letter_token(line: &[u8], start: usize, awaits: Awaits) -> (TokenKind, usize)
     if place < line.len() && line[place] == b'=' {
         return (TokenKind::Variable, one);
     }
-    match keyword_at(line, start) {
-        Some((keyword, end)) => (TokenKind::Keyword(keyword), end),
-        None => (TokenKind::Stray, one),
-    }
+    word_token(line, start).unwrap_or((TokenKind::Stray, one))
 }
 
-// The longest keyword that stands here, with the place behind it.
-fn keyword_at(line: &[u8], start: usize) -> Option<(Keyword, usize)>
+// THEN, or the longest first word of a statement that stands here, with the place behind it.
+fn word_token(line: &[u8], start: usize) -> Option<(TokenKind, usize)>
     requires { start < length line.now }
     ensures { IfSome result (λ p. (start < p.1) × (p.1 ≤ length line.now)) }
 {
+    if let Some(end) = word_end(line, start, THEN.as_bytes()) {
+        return Some((TokenKind::Then, end));
+    }
     for keyword in KEYWORDS {
-        if let Some(end) = word_end(line, start, keyword.letters()) {
-            return Some((keyword, end));
+        if let Some(end) = word_end(line, start, keyword.spelling().as_bytes()) {
+            return Some((TokenKind::Keyword(keyword), end));
         }
     }
     None

@@ -14,7 +14,7 @@ mod squeeze;
 
 pub use edits::{LineEdit, apply};
 pub use errors::{Fault, SourceError, SourceErrorKind};
-pub use lexer::{Keyword, Token, TokenKind, tokens};
+pub use lexer::{Token, TokenKind, tokens};
 pub use lines::next_line;
 pub use parser::{parse, parse_expr, read_line};
 pub use tb_syntax::{Expr, Operator, PrintItem, Program, Statement};

@@ -1,5 +1,6 @@
 -- The run of a compiled program from its start, with the table of its lines.
 use Rattle.std.specs.Prelude.{ℕ, ◌≡◌, List, Result, Ok, Err}
+use Rattle.tb_memmap.specs.Regions.{BASIC_START}
 use Rattle.tb_kernal.specs.declared.events.Event.{Event}
 use Rattle.tb_kernal.specs.Machine.{Content}
 use Rattle.tb_codegen.specs.Compiled.{starts_of, loaded_of}
@@ -20,7 +21,7 @@ pub record RunsFrom {O : Type 0} (gives : O → Content → Event → O → Type
 
 -- the same from a program's start machine
 abbrev pub IsProfile : {O : Type 0} → (O → Content → Event → O → Type 0) → O → List ℕ → List ℕ → ℕ → Compiled → Ran → Type 0
-IsProfile gives o text answers limit program ran = RunsFrom gives o limit program (start 0x0801 (loaded_of program) text answers) ran
+IsProfile gives o text answers limit program ran = RunsFrom gives o limit program (start BASIC_START (loaded_of program) text answers) ran
 
 -- a run, where memory was not wanting
 abbrev pub ComesTo : (Ran → Type 0) → Result Ran Stop → Type 0

@@ -1,10 +1,11 @@
 //! Sources as programs.
-ghost use Rattle.std.specs.Prelude.{◌≡◌, ℕ, Option, Result, IfOk, []};
+ghost use Rattle.std.specs.Prelude.{◌≡◌, ◌<◌, ℕ, Option, Result, IfOk, [], length};
 ghost use Rattle.tb_syntax.specs.Source.{Command, Expression};
 ghost use Rattle.tb_syntax.specs.PlainData.{command_of, expression_of, lines_of};
 ghost use Rattle.tb_grammar.specs.Grammar.{Whole, Reads};
 ghost use Rattle.tb_grammar.specs.Statements.{States};
 ghost use Rattle.tb_grammar.specs.ReadValues as shown;
+ghost use Rattle.tb_grammar.specs.StatementReading.{spelled};
 ghost use Rattle.tb_parser.specs.Answers.{Answers, InLineOne};
 ghost use Rattle.tb_parser.specs.Files.{FileRefusal, LinesAre, Outcome};
 ghost use Rattle.tb_parser.specs.Lines.{lines_of_file};
@@ -12,8 +13,16 @@ ghost use Rattle.tb_parser.specs.Readings.{ExpressionIs};
 ghost use Rattle.tb_parser.specs.Tokens.{AreTokens};
 
 use std::alloc::{AllocError, Global};
-use tb_grammar::{ReadExpression, ReadStatement, Stop, read_expression, read_statement};
+use tb_grammar::{Keyword, ReadExpression, ReadStatement, Stop, read_expression, read_statement};
 use tb_parser::{Expr, Program, SourceError, Token, parse, parse_expr, tokens};
+
+/// `Keyword::spelling`.
+pub fn spelling_of(keyword: Keyword) -> &'static str
+    ensures spells { result.now ≡ spelled keyword }
+    ensures some { 0 < length result.now }
+{
+    keyword.spelling()
+}
 
 /// `read_statement`.
 pub fn statement_of(alloc: Global, text: &[u8]) -> Result<ReadStatement, Stop>

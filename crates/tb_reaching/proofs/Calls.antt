@@ -12,9 +12,9 @@ abbrev pub stacked_on : List ℕ → View → View
 stacked_on own v = record v { stack = v.stack ++ own }
 
 module _ (f : Setup) (own : List ℕ) where
-  into : (v : View) (s : State) → At f (stacked_on own v) s → At (under f own) v s
-  into v s at =
-      let e = append_assoc v.stack own f.rest in
+  -- the same stack, parted otherwise into what is the view's and the rest
+  parted : (a b xs ys : List ℕ) (v : View) (s : State) → xs ++ a ≡ ys ++ b → At (record f { rest = a }) (record v { stack = xs }) s → At (record f { rest = b }) (record v { stack = ys }) s
+  parted a b xs ys v s e at =
       let st = at.stays in
       record {
         regs = at.regs;
@@ -26,19 +26,11 @@ module _ (f : Setup) (own : List ℕ) where
         stays = record { whole = st.whole; inner = st.inner; right = st.right; home = st.home; home_s = st.home_s; far = st.far; apart = st.apart };
       }
 
+  into : (v : View) (s : State) → At f (stacked_on own v) s → At (under f own) v s
+  into v s = parted f.rest (own ++ f.rest) (v.stack ++ own) v.stack v s (append_assoc v.stack own f.rest)
+
   out_of : (v : View) (s : State) → At (under f own) v s → At f (stacked_on own v) s
-  out_of v s at =
-      let e = sym (append_assoc v.stack own f.rest) in
-      let st = at.stays in
-      record {
-        regs = at.regs;
-        depth = subst (λ l. s.regs.s + length l ≡ 255) e at.depth;
-        stack = subst (Stacked s.mem (0x0101 + s.regs.s)) e at.stack;
-        bytes = at.bytes;
-        text = at.text;
-        answers = at.answers;
-        stays = record { whole = st.whole; inner = st.inner; right = st.right; home = st.home; home_s = st.home_s; far = st.far; apart = st.apart };
-      }
+  out_of v s = parted (own ++ f.rest) f.rest v.stack (v.stack ++ own) v s (sym (append_assoc v.stack own f.rest))
 
   -- a routine's law, in its caller
   pub framed : (v : View) (q : View → Type 0) (t : List ℕ) (n : ℕ) → Comes (under f own) v q t n → Comes f (stacked_on own v) (λ w. (u : View) × q u × (stacked_on own u ≡ w)) t n

@@ -6,7 +6,7 @@ use Rattle.std.proofs.lemmas.Bool.Decides.{nat_tests}
 use Rattle.tb_cpu.specs.Effects.{bit}
 use Rattle.tb_kernal.specs.Machine.{first_or_zero}
 use Rattle.tb_words.specs.Words.{digits_of}
-use Rattle.tb_meaning.specs.Control.{fault_text, zone, column_after}
+use Rattle.tb_meaning.specs.Control.{fault_text, zone, column_after, deepest}
 use Rattle.tb_meaning.specs.Input.{Turn, Got, Bad, Dry, Nothing, turn}
 use Rattle.tb_runtime16.specs.Places.{COLUMN, OPEN, HOME_S, SEED, LINE, NOTES, TABLE, WANTED, COUNT, RANDOM_AT, INPUT_AT, SEARCH_AT, FAULT_LINE_AT}
 use Rattle.tb_reaching.specs.View.{View, Setup, Holds, Fits, Comes, view, back_at}
@@ -37,7 +37,7 @@ use Rattle.tb_runtime16.proofs.FaultRuns.{fault_law, fault_line_law}
 use Rattle.tb_runtime16.proofs.PollRuns.{poll_law}
 
 -- ---- the return list
-notes_of : (m : ℕ → ℕ) (ns : List ℕ) → WordAt m NOTES (length ns) → Noted m ns → length ns ≤ 500 → Notes m ns
+notes_of : (m : ℕ → ℕ) (ns : List ℕ) → WordAt m NOTES (length ns) → Noted m ns → length ns ≤ deepest → Notes m ns
 notes_of m ns w h few = record { count = w; few = few; noted = h }
 
 -- ---- INPUT
@@ -152,7 +152,7 @@ module _ (table seed_option : ℕ) (numbers : List ℕ) (start : ℕ → ℕ) (f
     pop_fails = λ l h m text answers j count line e.
         from_here f _ _ m text answers _ (fault_text 5 j) (limit_by keys) (λ x y z n v i c d.
         faulting f lo hi fits block l h 5 (let s : 5 < 10 = omega arith in s) m text answers j line e _ _ 6 (limit_by keys) (omega arith)
-        (pop_none_law (under f own) (omega (arith, fits)) block l h text answers m x y z n v i c d (notes_of m [] count tt (let s : 0 ≤ 500 = omega arith in s)))
+        (pop_none_law (under f own) (omega (arith, fits)) block l h text answers m x y z n v i c d (notes_of m [] count tt (let s : 0 ≤ deepest = omega arith in s)))
         (unchanged m));
     random = λ l h m text answers a seed left right stored_at range.
         let g = not_zero a range in

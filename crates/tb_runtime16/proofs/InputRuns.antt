@@ -27,10 +27,10 @@ use Rattle.tb_runtime16.proofs.SendRuns.{send_law}
 use Rattle.tb_runtime16.proofs.FaultRuns.{fault_law}
 
 -- a comparison of bytes
-abbrev same_byte : ℕ → ℕ → Bool
-same_byte b k = eqb ((b + 256 - k) % 256) 0
+abbrev compares_same : ℕ → ℕ → Bool
+compares_same b k = eqb ((b + 256 - k) % 256) 0
 
-other_byte : (b k : ℕ) → b < 256 → k < 256 → b ≢ k → same_byte b k ≡ false
+other_byte : (b k : ℕ) → b < 256 → k < 256 → b ≢ k → compares_same b k ≡ false
 other_byte b k p q n = ne_eqb _ _ (λ h. n (omega (arith, p, q, h)))
 
 -- a call of Send, and then
@@ -108,7 +108,7 @@ module _ (f : Setup) (room : ℕ) (most : 13 ≤ room) (fits : Fits f room) (blo
 
   record Held (r : Reading) (m : ℕ → ℕ) : Type 0 where
     seen : m SCRATCH ≡ state r
-    minus : same_byte (m MINUS) 45 ≡ is_minus r
+    minus : compares_same (m MINUS) 45 ≡ is_minus r
     is_word : IsWord m RESULT
     value : word_in m RESULT ≡ number r % 65536
     line_open : m OPEN ≡ 1
@@ -134,7 +134,7 @@ module _ (f : Setup) (room : ℕ) (most : 13 ≤ room) (fits : Fits f room) (blo
     column : m COLUMN ≡ column_after col before % 256
     others : Changes is_changed m0 m
 
-  finish : (value : ℕ) (stays : Bool) (a x y : ℕ) (n v i z c : Bool) (m : ℕ → ℕ) (text : List ℕ) → Read value m → same_byte (m BYTE) 44 ≡ stays → Comes f (view a x y n v i z c (INPUT_AT + 0xC4) (lo ∷ hi ∷ own) m text answers) (Goal (Got value stays text)) (sends (Got value stays text)) 14
+  finish : (value : ℕ) (stays : Bool) (a x y : ℕ) (n v i z c : Bool) (m : ℕ → ℕ) (text : List ℕ) → Read value m → compares_same (m BYTE) 44 ≡ stays → Comes f (view a x y n v i z c (INPUT_AT + 0xC4) (lo ∷ hi ∷ own) m text answers) (Goal (Got value stays text)) (sends (Got value stays text)) 14
   finish value true a x y n v i z c m text h e =
       looser f _ _ _ [] (3 + 1) 14 (omega arith) (λ w h. h)
       (after_on f own 4 free input_part st 2 (view a x y n v i z c (INPUT_AT + 0xC4) (lo ∷ hi ∷ []) m text answers) _ _ 1 refl
@@ -163,25 +163,25 @@ module _ (f : Setup) (room : ℕ) (most : 13 ≤ room) (fits : Fits f room) (blo
       (send_law (under f own) (omega (arith, free)) block lo hi text answers _ _ _ _ _ _ _ _ _ (omega arith))))))
 
   -- the number ends
-  done : (r : Reading) (stays : Bool) (a x y : ℕ) (n v i z c : Bool) (m : ℕ → ℕ) (text : List ℕ) → Held r m → same_byte (m BYTE) 44 ≡ stays → Comes f (view a x y n v i z c (INPUT_AT + 0xA5) (lo ∷ hi ∷ own) m text answers) (Goal (number_end r stays text)) (sends (number_end r stays text)) (87 + 458)
+  done : (r : Reading) (stays : Bool) (a x y : ℕ) (n v i z c : Bool) (m : ℕ → ℕ) (text : List ℕ) → Held r m → compares_same (m BYTE) 44 ≡ stays → Comes f (view a x y n v i z c (INPUT_AT + 0xA5) (lo ∷ hi ∷ own) m text answers) (Goal (number_end r stays text)) (sends (number_end r stays text)) (87 + 458)
   done Nothing stays a x y n v i z c m text h e =
-      let t : same_byte (m SCRATCH) 2 ≡ false = ne_eqb _ _ (λ e. omega (arith, h.seen, e)) in
+      let t : compares_same (m SCRATCH) 2 ≡ false = ne_eqb _ _ (λ e. omega (arith, h.seen, e)) in
       looser f _ _ _ (fault_text 6 line) (3 + (84 + 458)) (87 + 458) (omega arith) (λ w h. h)
       (after_on f own 4 free input_part st 2 (view a x y n v i z c (INPUT_AT + 0xA5) (lo ∷ hi ∷ []) m text answers) _ _ (84 + 458) refl
       (rw t (bad _ _ _ _ _ _ _ _ m text h.others)))
   done (Sign negative) stays a x y n v i z c m text h e =
-      let t : same_byte (m SCRATCH) 2 ≡ false = ne_eqb _ _ (λ e. omega (arith, h.seen, e)) in
+      let t : compares_same (m SCRATCH) 2 ≡ false = ne_eqb _ _ (λ e. omega (arith, h.seen, e)) in
       looser f _ _ _ (fault_text 6 line) (3 + (84 + 458)) (87 + 458) (omega arith) (λ w h. h)
       (after_on f own 4 free input_part st 2 (view a x y n v i z c (INPUT_AT + 0xA5) (lo ∷ hi ∷ []) m text answers) _ _ (84 + 458) refl
       (rw t (bad _ _ _ _ _ _ _ _ m text h.others)))
   done (Digits false k) stays a x y n v i z c m text h e =
-      let t : same_byte (m SCRATCH) 2 ≡ true = eq-eqb _ _ (omega (arith, h.seen)) in
+      let t : compares_same (m SCRATCH) 2 ≡ true = eq-eqb _ _ (omega (arith, h.seen)) in
       looser f _ _ _ (sends (Got (k % 65536) stays text)) (3 + (3 + 14)) (87 + 458) (omega arith) (λ w h. h)
       (after_on f own 4 free input_part st 2 (view a x y n v i z c (INPUT_AT + 0xA5) (lo ∷ hi ∷ []) m text answers) _ _ (3 + 14) refl
       (rw t (after_on f own 4 free input_part st 2 (view _ _ _ _ _ _ _ _ (INPUT_AT + 0xAC) (lo ∷ hi ∷ []) m text answers) _ _ 14 refl
       (rw h.minus (finish (k % 65536) stays _ _ _ _ _ _ _ _ m text (record { is_word = h.is_word; value_is = h.value; line_open = h.line_open; column = h.column; others = h.others }) e)))))
   done (Digits true k) stays a x y n v i z c m text h e =
-      let t : same_byte (m SCRATCH) 2 ≡ true = eq-eqb _ _ (omega (arith, h.seen)) in
+      let t : compares_same (m SCRATCH) 2 ≡ true = eq-eqb _ _ (omega (arith, h.seen)) in
       looser f _ _ _ (sends (Got ((65536 - k % 65536) % 65536) stays text)) (3 + (3 + (7 + 14))) (87 + 458) (omega arith) (λ w h. h)
       (after_on f own 4 free input_part st 2 (view a x y n v i z c (INPUT_AT + 0xA5) (lo ∷ hi ∷ []) m text answers) _ _ (3 + (7 + 14)) refl
       (rw t (after_on f own 4 free input_part st 2 (view _ _ _ _ _ _ _ _ (INPUT_AT + 0xAC) (lo ∷ hi ∷ []) m text answers) _ _ (7 + 14) refl
@@ -200,7 +200,7 @@ module _ (f : Setup) (room : ℕ) (most : 13 ≤ room) (fits : Fits f room) (blo
   Reads text = (r : Reading) (a x y : ℕ) (n v i z c : Bool) (m : ℕ → ℕ) → Held r m → AreBytes text → Comes f (view a x y n v i z c (INPUT_AT + 0x22) (lo ∷ hi ∷ own) m text answers) (Goal (turn r text)) (sends (turn r text)) (45 * length text + (102 + 458))
 
   -- a sign
-  at_sign : (r : Reading) (negative : Bool) (a x y : ℕ) (n v i z c : Bool) (m : ℕ → ℕ) (text : List ℕ) → Reads text → Held r m → same_byte (m BYTE) 45 ≡ negative → AreBytes text → Comes f (view a x y n v i z c (INPUT_AT + 0x8D) (lo ∷ hi ∷ own) m text answers) (Goal (signed_turn r (turn (Sign negative) text))) (sends (signed_turn r (turn (Sign negative) text))) (45 * length text + (109 + 458))
+  at_sign : (r : Reading) (negative : Bool) (a x y : ℕ) (n v i z c : Bool) (m : ℕ → ℕ) (text : List ℕ) → Reads text → Held r m → compares_same (m BYTE) 45 ≡ negative → AreBytes text → Comes f (view a x y n v i z c (INPUT_AT + 0x8D) (lo ∷ hi ∷ own) m text answers) (Goal (signed_turn r (turn (Sign negative) text))) (sends (signed_turn r (turn (Sign negative) text))) (45 * length text + (109 + 458))
   unfolding Reads
   at_sign Nothing negative a x y n v i z c m text go h e bs =
       let t : eqb (m SCRATCH) 0 ≡ true = eq-eqb _ _ h.seen in
@@ -295,11 +295,11 @@ module _ (f : Setup) (room : ℕ) (most : 13 ≤ room) (fits : Fits f room) (blo
   -- past the five tests
   past : (text : List ℕ) (b : ℕ) (u : Turn) (k : ℕ) → b < 256 → b ≢ 32 → b ≢ 43 → b ≢ 45 → b ≢ 44 → b ≢ 13 → (x y : ℕ) (n v i z c : Bool) (m : ℕ → ℕ) → ((n z c : Bool) → Comes f (view b x y n v i z c (INPUT_AT + 0x3C) (lo ∷ hi ∷ own) (with_byte m BYTE b) text answers) (Goal u) (sends u) k) → Comes f (view b x y n v i z c (INPUT_AT + 0x25) (lo ∷ hi ∷ own) m text answers) (Goal u) (sends u) (3 + (2 + (2 + (2 + (2 + k)))))
   past text b u k small n32 n43 n45 n44 n13 x y n v i z c m next =
-      let t32 : same_byte b 32 ≡ false = other_byte b 32 small (omega arith) n32 in
-      let t43 : same_byte b 43 ≡ false = other_byte b 43 small (omega arith) n43 in
-      let t45 : same_byte b 45 ≡ false = other_byte b 45 small (omega arith) n45 in
-      let t44 : same_byte b 44 ≡ false = other_byte b 44 small (omega arith) n44 in
-      let t13 : same_byte b 13 ≡ false = other_byte b 13 small (omega arith) n13 in
+      let t32 : compares_same b 32 ≡ false = other_byte b 32 small (omega arith) n32 in
+      let t43 : compares_same b 43 ≡ false = other_byte b 43 small (omega arith) n43 in
+      let t45 : compares_same b 45 ≡ false = other_byte b 45 small (omega arith) n45 in
+      let t44 : compares_same b 44 ≡ false = other_byte b 44 small (omega arith) n44 in
+      let t13 : compares_same b 13 ≡ false = other_byte b 13 small (omega arith) n13 in
       after_on f own 4 free input_part st 2 (view b x y n v i z c (INPUT_AT + 0x25) (lo ∷ hi ∷ []) m text answers) _ _ (2 + (2 + (2 + (2 + k)))) refl
       (rw t32 (after_on f own 4 free input_part st 1 (view _ _ _ _ _ _ _ _ (INPUT_AT + 0x2C) (lo ∷ hi ∷ []) (with_byte m BYTE b) text answers) _ _ (2 + (2 + (2 + k))) refl
       (rw t43 (after_on f own 4 free input_part st 1 (view _ _ _ _ _ _ _ _ (INPUT_AT + 0x30) (lo ∷ hi ∷ []) (with_byte m BYTE b) text answers) _ _ (2 + (2 + k)) refl

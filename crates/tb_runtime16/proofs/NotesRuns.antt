@@ -12,6 +12,7 @@ use Rattle.tb_reaching.proofs.Instr.{ins}
 use Rattle.tb_reaching.proofs.Memory.{put_other, put_same}
 use Rattle.tb_reaching.proofs.Comes.{after, ending, looser}
 use Rattle.tb_reaching.proofs.Placed.{placing, takes_at, stores_at, reads_data}
+use Rattle.tb_meaning.specs.Control.{deepest}
 use Rattle.tb_runtime16.specs.Places.{PUSH_AT, POP_AT, LEFT, RESULT, NOTES, NOTE_LOW, NOTE_HIGH}
 use Rattle.tb_runtime16.specs.Block.{block_part}
 use Rattle.tb_runtime16.specs.Laws.{Changes, Back, Faults}
@@ -41,10 +42,10 @@ high_place : (a : ℕ) → NOTE_HIGH ≤ a → a ≤ NOTE_HIGH + 499 → push_ch
 high_place a p q = grind (arith, nat_tests)
 
 -- a count goes up, with and without a carry
-up_carry : (l h k : ℕ) → l < 256 → l + 256 * h ≡ k → k < 500 → (l + 1) % 256 ≡ 0 → ((l + 1) % 256 < 256) × ((h + 1) % 256 < 256) × ((l + 1) % 256 + 256 * ((h + 1) % 256) ≡ suc k)
+up_carry : (l h k : ℕ) → l < 256 → l + 256 * h ≡ k → k < deepest → (l + 1) % 256 ≡ 0 → ((l + 1) % 256 < 256) × ((h + 1) % 256 < 256) × ((l + 1) % 256 + 256 * ((h + 1) % 256) ≡ suc k)
 up_carry l h k p q r e = (omega arith, omega arith, omega arith)
 
-up_plain : (l h k : ℕ) → l < 256 → l + 256 * h ≡ k → k < 500 → (l + 1) % 256 ≢ 0 → ((l + 1) % 256 < 256) × (h < 256) × ((l + 1) % 256 + 256 * h ≡ suc k)
+up_plain : (l h k : ℕ) → l < 256 → l + 256 * h ≡ k → k < deepest → (l + 1) % 256 ≢ 0 → ((l + 1) % 256 < 256) × (h < 256) × ((l + 1) % 256 + 256 * h ≡ suc k)
 up_plain l h k p q r e = (omega arith, omega arith, omega arith)
 
 -- the word in two bytes of a note
@@ -54,7 +55,7 @@ note_word low high note l h s = (omega arith, omega (arith, h, s), omega (arith,
 module _ (f : Setup) (fits : Fits f 2) (block : Holds block_part f.code) (lo hi : ℕ) (text answers : List ℕ) (m0 : ℕ → ℕ) where
   -- ---- Push
   -- the note's bytes stand, and NOTES goes up: with a carry
-  count_over : (a x y : ℕ) (n v i z c : Bool) (m : ℕ → ℕ) (note : ℕ) (ns : List ℕ) → m NOTES < 256 → m NOTES + 256 * m (NOTES + 1) ≡ length ns → length ns < 500 → Noted m (note ∷ ns) → Changes push_changes m0 m → (m NOTES + 1) % 256 ≡ 0 → Comes f (view a x y n v i z c (PUSH_AT + 0x12) (lo ∷ hi ∷ []) m text answers) (Back lo hi text answers (Pushed m0 (note ∷ ns))) [] 4
+  count_over : (a x y : ℕ) (n v i z c : Bool) (m : ℕ → ℕ) (note : ℕ) (ns : List ℕ) → m NOTES < 256 → m NOTES + 256 * m (NOTES + 1) ≡ length ns → length ns < deepest → Noted m (note ∷ ns) → Changes push_changes m0 m → (m NOTES + 1) % 256 ≡ 0 → Comes f (view a x y n v i z c (PUSH_AT + 0x12) (lo ∷ hi ∷ []) m text answers) (Back lo hi text answers (Pushed m0 (note ∷ ns))) [] 4
   count_over a x y n v i z c m note ns low is small h r over =
       let m1 = with_byte m NOTES ((m NOTES + 1) % 256) in
       let m2 = with_byte m1 (NOTES + 1) ((m1 (NOTES + 1) + 1) % 256) in
@@ -66,7 +67,7 @@ module _ (f : Setup) (fits : Fits f 2) (block : Holds block_part f.code) (lo hi 
       (leaves_now refl (record { notes = record { count = holds_word _ NOTES _ (u.0, u.1) u.2; few = omega (arith, small); noted = noted_same m m2 (note ∷ ns) (λ j p. (same _ (omega arith), same _ (omega arith))) h }; others = changes_put _ _ _ (NOTES + 1) _ refl (changes_put _ _ _ NOTES _ refl r) }))))
 
   -- and without one
-  count_plain : (a x y : ℕ) (n v i z c : Bool) (m : ℕ → ℕ) (note : ℕ) (ns : List ℕ) → m NOTES < 256 → m NOTES + 256 * m (NOTES + 1) ≡ length ns → length ns < 500 → Noted m (note ∷ ns) → Changes push_changes m0 m → (m NOTES + 1) % 256 ≢ 0 → Comes f (view a x y n v i z c (PUSH_AT + 0x12) (lo ∷ hi ∷ []) m text answers) (Back lo hi text answers (Pushed m0 (note ∷ ns))) [] 3
+  count_plain : (a x y : ℕ) (n v i z c : Bool) (m : ℕ → ℕ) (note : ℕ) (ns : List ℕ) → m NOTES < 256 → m NOTES + 256 * m (NOTES + 1) ≡ length ns → length ns < deepest → Noted m (note ∷ ns) → Changes push_changes m0 m → (m NOTES + 1) % 256 ≢ 0 → Comes f (view a x y n v i z c (PUSH_AT + 0x12) (lo ∷ hi ∷ []) m text answers) (Back lo hi text answers (Pushed m0 (note ∷ ns))) [] 3
   count_plain a x y n v i z c m note ns low is small h r under =
       let m1 = with_byte m NOTES ((m NOTES + 1) % 256) in
       let same : (a : ℕ) → NOTE_LOW ≤ a → m1 a ≡ m a = λ a p. put_other m NOTES _ a (λ e. omega (arith, e, p)) in
@@ -76,7 +77,7 @@ module _ (f : Setup) (fits : Fits f 2) (block : Holds block_part f.code) (lo hi 
       (rw t (ending f 2 fits notes_part (notes_in f.code block) 0 (view _ _ _ _ _ _ _ _ (PUSH_AT + 0x1A) (lo ∷ hi ∷ []) m1 text answers) _ refl
       (leaves_now refl (record { notes = record { count = holds_word _ NOTES _ (u.0, u.1) u.2; few = omega (arith, small); noted = noted_same m m1 (note ∷ ns) (λ j p. (same _ (omega arith), same _ (omega arith))) h }; others = changes_put _ _ _ NOTES _ refl r }))))
 
-  count : (a x y : ℕ) (n v i z c : Bool) (m : ℕ → ℕ) (note : ℕ) (ns : List ℕ) → m NOTES < 256 → m NOTES + 256 * m (NOTES + 1) ≡ length ns → length ns < 500 → Noted m (note ∷ ns) → Changes push_changes m0 m → Comes f (view a x y n v i z c (PUSH_AT + 0x12) (lo ∷ hi ∷ []) m text answers) (Back lo hi text answers (Pushed m0 (note ∷ ns))) [] 4
+  count : (a x y : ℕ) (n v i z c : Bool) (m : ℕ → ℕ) (note : ℕ) (ns : List ℕ) → m NOTES < 256 → m NOTES + 256 * m (NOTES + 1) ≡ length ns → length ns < deepest → Noted m (note ∷ ns) → Changes push_changes m0 m → Comes f (view a x y n v i z c (PUSH_AT + 0x12) (lo ∷ hi ∷ []) m text answers) (Back lo hi text answers (Pushed m0 (note ∷ ns))) [] 4
   count a x y n v i z c m note ns low is small h r =
       ⊎_elim
       (λ over. count_over a x y n v i z c m note ns low is small h r over)
@@ -99,7 +100,7 @@ module _ (f : Setup) (fits : Fits f 2) (block : Holds block_part f.code) (lo hi 
     to_y : Bytes f.code pc (0xBC ∷ o % 256 ∷ o / 256 ∷ []) → Comes f (view a x (m at) (eqb (m at / 128 % 2) 1) v i (eqb (m at) 0) c ((pc + 3) % 65536) (lo ∷ hi ∷ []) m text answers) q [] k → Comes f here q [] (1 + k)
     to_y stands next = placing f 2 fits (ins 0xBC o) here _ q [] k refl stands (takes_at f.code 2 (ins 0xBC o) here Ldy AbsoluteX at refl refl refl refl (ap (λ a. Ok a) there) (m at) _ (reads_data f.code m at (data_place at from to)) refl) next
 
-  module _ (ns : List ℕ) (left : IsWord m0 LEFT) (h : Notes m0 ns) (small : length ns < 500) where
+  module _ (ns : List ℕ) (left : IsWord m0 LEFT) (h : Notes m0 ns) (small : length ns < deepest) where
     -- the places of a new note's bytes, and memory with the first of them and with both
     abbrev low_at : ℕ
     low_at = NOTE_LOW + length ns
@@ -185,7 +186,7 @@ module _ (f : Setup) (fits : Fits f 2) (block : Holds block_part f.code) (lo hi 
         (rw room (store_far _ _ _ _ _ _ one)))))
         (cases_eq (m0 (NOTES + 1)) 0)
 
-  push_full : (a x y : ℕ) (n v i z c : Bool) (ns : List ℕ) → Notes m0 ns → length ns ≡ 500 → Comes f (view a x y n v i z c PUSH_AT (lo ∷ hi ∷ []) m0 text answers) (Faults lo hi text answers 4 (λ w. w ≡ m0)) [] 7
+  push_full : (a x y : ℕ) (n v i z c : Bool) (ns : List ℕ) → Notes m0 ns → length ns ≡ deepest → Comes f (view a x y n v i z c PUSH_AT (lo ∷ hi ∷ []) m0 text answers) (Faults lo hi text answers 4 (λ w. w ≡ m0)) [] 7
   push_full a x y n v i z c ns h full =
       let w = bytes_of m0 NOTES _ h.count in
       let e = value m0 NOTES _ h.count in
@@ -215,7 +216,7 @@ module _ (f : Setup) (fits : Fits f 2) (block : Holds block_part f.code) (lo hi 
       }
 
   -- RESULT takes A and Y
-  give : (a x y : ℕ) (n v i z c : Bool) (m : ℕ → ℕ) (note : ℕ) (ns : List ℕ) → (a < 256) × (y < 256) × (a + 256 * y ≡ note) → m NOTES < 256 → m (NOTES + 1) < 256 → m NOTES + 256 * m (NOTES + 1) ≡ length ns → length ns < 500 → ((m' : ℕ → ℕ) → ((a : ℕ) → NOTE_LOW ≤ a → m' a ≡ m a) → Noted m' ns) → Changes pop_changes m0 m → Comes f (view a x y n v i z c (PUSH_AT + 0x4C) (lo ∷ hi ∷ []) m text answers) (Back lo hi text answers (Popped m0 note ns)) [] 3
+  give : (a x y : ℕ) (n v i z c : Bool) (m : ℕ → ℕ) (note : ℕ) (ns : List ℕ) → (a < 256) × (y < 256) × (a + 256 * y ≡ note) → m NOTES < 256 → m (NOTES + 1) < 256 → m NOTES + 256 * m (NOTES + 1) ≡ length ns → length ns < deepest → ((m' : ℕ → ℕ) → ((a : ℕ) → NOTE_LOW ≤ a → m' a ≡ m a) → Noted m' ns) → Changes pop_changes m0 m → Comes f (view a x y n v i z c (PUSH_AT + 0x4C) (lo ∷ hi ∷ []) m text answers) (Back lo hi text answers (Popped m0 note ns)) [] 3
   give a x y n v i z c m note ns word low top is small noted r =
       let m1 = with_byte m RESULT a in
       let m2 = with_byte m1 (RESULT + 1) y in
@@ -225,7 +226,7 @@ module _ (f : Setup) (fits : Fits f 2) (block : Holds block_part f.code) (lo hi 
         notes = record { count = holds_word m2 NOTES (length ns) (low, top) is; few = omega (arith, small); noted = noted m2 (λ a p. put_other m1 (RESULT + 1) y a (λ e. omega (arith, e, p)) ∙ put_other m RESULT _ a (λ e. omega (arith, e, p))) };
       }))
 
-  module _ (m : ℕ → ℕ) (note : ℕ) (ns : List ℕ) (is : (m NOTES + 255) % 256 + 256 * m (NOTES + 1) ≡ length ns) (small : length ns < 500) (h : Noted m (note ∷ ns)) (r : Changes pop_changes m0 m) where
+  module _ (m : ℕ → ℕ) (note : ℕ) (ns : List ℕ) (is : (m NOTES + 255) % 256 + 256 * m (NOTES + 1) ≡ length ns) (small : length ns < deepest) (h : Noted m (note ∷ ns)) (r : Changes pop_changes m0 m) where
     -- the places of the newest note's bytes
     abbrev low_from : ℕ
     low_from = NOTE_LOW + length ns

@@ -2,6 +2,7 @@
 use Rattle.std.specs.Prelude.{◌≡◌, ◌<◌, ◌≤◌, Bool, ℕ, List, [], ◌∷◌, ◌+◌, ◌/◌, ◌%◌, ◌||◌, length}
 use Rattle.tb_memmap.specs.Regions.{within}
 use Rattle.tb_reaching.specs.View.{Setup, Holds, Fits, Comes, view}
+use Rattle.tb_meaning.specs.Control.{deepest}
 use Rattle.tb_runtime16.specs.Places.{PUSH_AT, POP_AT, LEFT, RESULT, NOTES, NOTE_LOW, NOTE_HIGH}
 use Rattle.tb_runtime16.specs.Block.{block_part}
 use Rattle.tb_runtime16.specs.Laws.{WordAt, Changes, Back, Faults, Gives}
@@ -20,7 +21,7 @@ Noted m (n ∷ ns) = NoteAt m (length ns) n × Noted m ns
 -- the return list holds these notes, at most 500, the newest first, and NOTES is their count
 pub record Notes (m : ℕ → ℕ) (notes : List ℕ) : Type 0 where
   pub count : WordAt m NOTES (length notes)
-  pub few : length notes ≤ 500
+  pub few : length notes ≤ deepest
   pub noted : Noted m notes
 
 -- the places that Push may change: NOTES, and the notes' low and high bytes
@@ -43,11 +44,11 @@ pub record Popped (m0 : ℕ → ℕ) (n : ℕ) (ns : List ℕ) (m : ℕ → ℕ)
 
 -- Push puts the word at LEFT on the return list
 abbrev pub PushLaw : Type 0
-PushLaw = (f : Setup) → Fits f 2 → Holds block_part f.code → (lo hi : ℕ) (text answers : List ℕ) (m : ℕ → ℕ) (a x y : ℕ) (n v i z c : Bool) (note : ℕ) (notes : List ℕ) → WordAt m LEFT note → Notes m notes → length notes < 500 → Comes f (view a x y n v i z c PUSH_AT (lo ∷ hi ∷ []) m text answers) (Back lo hi text answers (Pushed m (note ∷ notes))) [] 13
+PushLaw = (f : Setup) → Fits f 2 → Holds block_part f.code → (lo hi : ℕ) (text answers : List ℕ) (m : ℕ → ℕ) (a x y : ℕ) (n v i z c : Bool) (note : ℕ) (notes : List ℕ) → WordAt m LEFT note → Notes m notes → length notes < deepest → Comes f (view a x y n v i z c PUSH_AT (lo ∷ hi ∷ []) m text answers) (Back lo hi text answers (Pushed m (note ∷ notes))) [] 13
 
 -- 500 notes already
 abbrev pub PushFullLaw : Type 0
-PushFullLaw = (f : Setup) → Fits f 2 → Holds block_part f.code → (lo hi : ℕ) (text answers : List ℕ) (m : ℕ → ℕ) (a x y : ℕ) (n v i z c : Bool) (notes : List ℕ) → Notes m notes → length notes ≡ 500 → Comes f (view a x y n v i z c PUSH_AT (lo ∷ hi ∷ []) m text answers) (Faults lo hi text answers 4 (λ w. w ≡ m)) [] 7
+PushFullLaw = (f : Setup) → Fits f 2 → Holds block_part f.code → (lo hi : ℕ) (text answers : List ℕ) (m : ℕ → ℕ) (a x y : ℕ) (n v i z c : Bool) (notes : List ℕ) → Notes m notes → length notes ≡ deepest → Comes f (view a x y n v i z c PUSH_AT (lo ∷ hi ∷ []) m text answers) (Faults lo hi text answers 4 (λ w. w ≡ m)) [] 7
 
 -- Pop takes the newest word from the return list
 abbrev pub PopLaw : Type 0

@@ -4,7 +4,7 @@ use Rattle.tb_cpu.specs.Effects.{bit}
 use Rattle.tb_kernal.specs.Machine.{first_or_zero}
 use Rattle.tb_memmap.specs.Regions.{within}
 use Rattle.tb_words.specs.Words.{word, magnitude, quotient, digits_of}
-use Rattle.tb_meaning.specs.Control.{fault_text, zone, column_after, has_line}
+use Rattle.tb_meaning.specs.Control.{fault_text, zone, column_after, has_line, deepest}
 use Rattle.tb_meaning.specs.Input.{Got, Bad, Dry, Nothing, turn}
 use Rattle.tb_runtime16.specs.Places.{VARS, HELD, NOTE_LOW, NOTE_HIGH, POINTER, COLUMN, OPEN, SEEDED, SEED, LINE, NOTES, LEFT, RIGHT, TABLE, WANTED, COUNT, LENGTH, SEND_AT, MULTIPLY_AT, DIVIDE_AT, RANDOM_AT, NUMBER_AT, TEXT_AT, ZONE_AT, INPUT_AT, SEARCH_AT, PUSH_AT, POP_AT, FAULT_LINE_AT, FAULT_AT, POLL_AT}
 use Rattle.tb_reaching.specs.View.{View, Setup, Part, Holds, Fits, Comes, back_at, Bytes}
@@ -96,7 +96,7 @@ pub record Routines (table seed_option : ℕ) (numbers : List ℕ) (start : ℕ 
       Moves f (WithA FAULT_AT k (lo ∷ hi ∷ []) m text answers) (IsHome f) (fault_text k n) limit
   pub fault_line : (k : ℕ) → k < 10 → (m : ℕ → ℕ) (text answers : List ℕ) (n : ℕ) → n < 65536 → Entered f lo hi m →
       Moves f (WithLine FAULT_LINE_AT k n (lo ∷ hi ∷ []) m text answers) (IsHome f) (fault_text k n) limit
-  pub pop : (l h : ℕ) (m : ℕ → ℕ) (text answers : List ℕ) (note : ℕ) (notes : List ℕ) → WordAt m NOTES (suc (length notes)) → Noted m (note ∷ notes) → suc (length notes) ≤ 500 →
+  pub pop : (l h : ℕ) (m : ℕ → ℕ) (text answers : List ℕ) (note : ℕ) (notes : List ℕ) → WordAt m NOTES (suc (length notes)) → Noted m (note ∷ notes) → suc (length notes) ≤ deepest →
       Moves f (Here POP_AT (l ∷ h ∷ lo ∷ hi ∷ []) m text answers) (Leaves (back_at l h) (lo ∷ hi ∷ []) text answers (Popped m note notes)) [] limit
   pub pop_fails : (l h : ℕ) (m : ℕ → ℕ) (text answers : List ℕ) (n : ℕ) → WordAt m NOTES 0 → WordAt m LINE n → Entered f lo hi m →
       Moves f (Here POP_AT (l ∷ h ∷ lo ∷ hi ∷ []) m text answers) (IsHome f) (fault_text 5 n) limit
@@ -104,9 +104,9 @@ pub record Routines (table seed_option : ℕ) (numbers : List ℕ) (start : ℕ 
       Moves f (Here RANDOM_AT (l ∷ h ∷ lo ∷ hi ∷ []) m text answers) (Leaves (back_at l h) (lo ∷ hi ∷ []) text answers (Drawn m a seed)) [] limit
   pub random_fails : (l h : ℕ) (m : ℕ → ℕ) (text answers : List ℕ) (a n : ℕ) → WordAt m LEFT a → (nat_eq a 0 || nat_le 32768 a) ≡ true → WordAt m LINE n → Entered f lo hi m →
       Moves f (Here RANDOM_AT (l ∷ h ∷ lo ∷ hi ∷ []) m text answers) (IsHome f) (fault_text 3 n) limit
-  pub push : (l h : ℕ) (m : ℕ → ℕ) (text answers : List ℕ) (note : ℕ) (notes : List ℕ) → WordAt m LEFT note → WordAt m NOTES (length notes) → Noted m notes → length notes < 500 →
+  pub push : (l h : ℕ) (m : ℕ → ℕ) (text answers : List ℕ) (note : ℕ) (notes : List ℕ) → WordAt m LEFT note → WordAt m NOTES (length notes) → Noted m notes → length notes < deepest →
       Moves f (Here PUSH_AT (l ∷ h ∷ lo ∷ hi ∷ []) m text answers) (Leaves (back_at l h) (lo ∷ hi ∷ []) text answers (Pushed m (note ∷ notes))) [] limit
-  pub push_fails : (l h : ℕ) (m : ℕ → ℕ) (text answers notes : List ℕ) (n : ℕ) → WordAt m NOTES (length notes) → Noted m notes → length notes ≡ 500 → WordAt m LINE n → Entered f lo hi m →
+  pub push_fails : (l h : ℕ) (m : ℕ → ℕ) (text answers notes : List ℕ) (n : ℕ) → WordAt m NOTES (length notes) → Noted m notes → length notes ≡ deepest → WordAt m LINE n → Entered f lo hi m →
       Moves f (Here PUSH_AT (l ∷ h ∷ lo ∷ hi ∷ []) m text answers) (IsHome f) (fault_text 4 n) limit
   pub input : (l h : ℕ) (m : ℕ → ℕ) (text answers : List ℕ) (o stays : Bool) (v : ℕ) (left : List ℕ) (n : ℕ) → m OPEN ≡ bit o → m COLUMN < 256 → AreBytes text → length text ≤ keys → WordAt m LINE n → Entered f lo hi m → turn Nothing text ≡ Got v stays left →
       Moves f (Here INPUT_AT (l ∷ h ∷ lo ∷ hi ∷ []) m text answers) (Leaves (back_at l h) (lo ∷ hi ∷ []) left answers (Taken m (column_after (m COLUMN) (prompt o ++ line_end stays) % 256) v stays)) (prompt o ++ line_end stays) limit

@@ -1,9 +1,9 @@
 -- A number for each label, and lists of items whose labels rise.
 use Rattle.std.proofs.Common.{◌≡◌, ℕ, ◌+◌, ◌-◌, ◌*◌, ◌/◌, ◌%◌, ◌<◌, ◌≤◌, Bool, List, [], ◌∷◌, ◌++◌, refl, arith, slice_index, nat_lt}
 use Rattle.std.specs.Prelude.{if◌then◌else◌}
+use Rattle.tb_words.specs.Hexadecimal.{hex_digit}
 use Rattle.tb_asm.specs.declared.names.Name.{Name}
 use Rattle.tb_asm.specs.Layout.{Entry, instr, label, bytes, word}
-use Rattle.tb_asm.specs.Parts.{hex_digit}
 use Rattle.tb_templates.specs.declared.labels.Inner.{Inner}
 use Rattle.tb_templates.specs.declared.labels.Target.TheVariants.{Line, Inside, Break}
 use Rattle.tb_templates.specs.Labels.{label_of, letter_of}

@@ -1,15 +1,11 @@
 -- The labels of a program's code: numbers in hexadecimal digits, and letters.
-use Rattle.std.specs.Prelude.{ℕ, ◌/◌, ◌%◌, List, [], ◌∷◌, codes}
+use Rattle.std.specs.Prelude.{ℕ, List, [], ◌∷◌, codes}
+use Rattle.tb_words.specs.Hexadecimal.{four_digits}
 use Rattle.tb_asm.specs.declared.names.Name.{Name}
-use Rattle.tb_asm.specs.Parts.{hex_digit}
 use Rattle.tb_templates.specs.declared.labels.Inner.{Inner}
 use Rattle.tb_templates.specs.declared.labels.Inner.TheVariants.{Text, Behind, Skip}
 use Rattle.tb_templates.specs.declared.labels.Target.{Target}
 use Rattle.tb_templates.specs.declared.labels.Target.TheVariants.{Line, Inside, Break, Past, Find, Table}
-
--- the four digits of a word before a text
-abbrev pub four_digits : ℕ → List ℕ → List ℕ
-four_digits w text = hex_digit (w / 4096) ∷ hex_digit (w / 256 % 16) ∷ hex_digit (w / 16 % 16) ∷ hex_digit (w % 16) ∷ text
 
 -- the name that these characters make
 abbrev pub named : List ℕ → Name

@@ -1,11 +1,12 @@
 //! The places of a program's code that have a label.
 ghost use Rattle.std.specs.Prelude.{◌≡◌, ◌<◌, ◌≤◌, ◌+◌, ◌∷◌, ◌++◌, []};
 ghost use Rattle.arrayvec.specs.ArrayVec.{array_vec_len};
-ghost use Rattle.tb_asm.specs.Parts.{hex_digit};
-ghost use Rattle.tb_templates.specs.Labels.{label_of, letter_of, four_digits, named};
+ghost use Rattle.tb_words.specs.Hexadecimal.{four_digits};
+ghost use Rattle.tb_templates.specs.Labels.{label_of, letter_of, named};
 
 use arrayvec::ArrayVec;
 use tb_asm::Name;
+use tb_words::hex_digits;
 
 /// A place inside the code of a group.
 #[derive(Clone, Copy, Debug, PartialEq, Eq, Drop)]
@@ -49,28 +50,17 @@ pub fn label(target: Target) -> Name
     }
 }
 
-// A hexadecimal digit.
-fn digit(value: u16) -> u8
-    requires { value < 16 }
-    ensures { result ≡ hex_digit value }
-{
-    if value < 10 {
-        b'0' + value as u8
-    } else {
-        b'A' + (value as u8 - 10)
-    }
-}
-
 // Appends the four digits of a word.
 fn push_digits(letters: &mut ArrayVec<u8, 31>, word: u16)
     requires { array_vec_len letters.old ≤ 20 }
     ensures digits { letters.new.items ≡ letters.old.items ++ four_digits word [] }
     ensures longer { array_vec_len letters.new ≡ array_vec_len letters.old + 4 }
 {
-    letters.push(digit(word / 4096));
-    letters.push(digit(word / 256 % 16));
-    letters.push(digit(word / 16 % 16));
-    letters.push(digit(word % 16));
+    let [first, second, third, fourth] = hex_digits(word);
+    letters.push(first);
+    letters.push(second);
+    letters.push(third);
+    letters.push(fourth);
 }
 
 // A letter and a line's number.

@@ -2,7 +2,7 @@
 use crate::machine::writing::put_quoted;
 use crate::notation::{cut, word};
 use crate::page::Page;
-use tb_words::{Letter, Rel, add, digits, div_rem, holds, mul, neg, next_seed, sub};
+use tb_words::{Letter, Rel, add, digits, div_rem, hex_digits, holds, mul, neg, next_seed, sub};
 
 pub fn put_answer(page: &mut Page, name: &str, rest: &str) {
     match name {
@@ -11,6 +11,10 @@ pub fn put_answer(page: &mut Page, name: &str, rest: &str) {
             let next = next_seed(word(page, rest));
             page.put(" ");
             page.put(next);
+        }
+        "hexadecimal" => {
+            let digits = hex_digits(word(page, rest));
+            put_quoted(page, digits.as_slice());
         }
         _ => put_number(page, name, rest),
     }

@@ -1,7 +1,7 @@
 -- The goals of `split_keyword` in src/statements.rt.
 use Rattle.std.proofs.Common.{◌≡◌, ◌+◌, ◌<◌, ℕ, suc, List, ◌∷◌, length, drop, get_or, Option, None, refl, sym, ap, ◌∙◌, arith}
 use Rattle.std.proofs.Math.Seq.{drop-cons}
-use Rattle.tb_grammar.specs.declared.statements.Keyword.{Keyword}
+use Rattle.tb_grammar.specs.declared.keywords.Keyword.{Keyword}
 use Rattle.tb_grammar.specs.Reading.{behind_word}
 use Rattle.tb_grammar.specs.StatementReading.{spelled, first_word, keywords}
 use Rattle.tb_grammar.proofs.statements.split_keyword.Goals as goal
@@ -16,4 +16,4 @@ passed words i word none text spelling total inside is spells nothing before =
     rw e (sym step ∙ ap (λ (ks : List Keyword). first_word ks text) (sym (drop-cons words i none inside)) ∙ before)
 
 pub loop-keyword-preserved : goal.loop-keyword-preserved
-loop-keyword-preserved c = passed keywords c.loop-keyword.keyword-index _ _ c.args.text.now c.spelling.result.now _ c.loop-keyword-test.true refl c.spelling.ensures c.in_default.ensures c.loop-keyword.invariant
+loop-keyword-preserved c = passed keywords c.loop-keyword.keyword-index _ _ c.args.text.now c.as_bytes.result.now _ c.loop-keyword-test.true refl (c.as_bytes.ensures.value ∙ c.spelling.ensures.spells) c.in_default.ensures c.loop-keyword.invariant
