@@ -5,6 +5,7 @@ use std::alloc::Global;
 use tb_asm::{AsmErrorKind, Image, Item, TextError, assemble, read_text, settle};
 use tb_disasm::{Listing, disassemble};
 use tb_disk::{File, Name, disk};
+use tb_memmap::CODE_START;
 use tb_prg::write;
 use tb_settling::assemble_settled;
 
@@ -13,9 +14,6 @@ const LISTED: [&[u8]; 2] = [
     &[0xa9, 0x05, 0x8d, 0x20, 0xd0, 0x60],
     &[0xad, 0x12, 0x00, 0xff, 0x6c, 0xff, 0x12, 0xa9],
 ];
-
-/// Where a program starts.
-const CODE_START: u16 = 0x080d;
 
 /// How many bytes stand before a program's image in its PRG file.
 const HEADER_SIZE: usize = 14;

@@ -7,7 +7,7 @@ use tb_codegen::Compiled;
 use tb_cpu::Regs;
 use tb_engines::start_regs;
 use tb_kernal::{Machine, Outside, Quiet, Rude, Status, run};
-use tb_memmap::Memory;
+use tb_memmap::{BASIC_START, Memory};
 use tb_prg::read;
 use tb_stepper::{StepError, Stepper};
 use tb_test_parts::no_keys;
@@ -59,7 +59,7 @@ fn machine_from(alloc: Global, source: &[u8]) -> Result<Machine, Failure> {
 }
 
 fn show_reads(memory: &Memory, text: &mut String) -> Result<(), Failure> {
-    for address in [0x0002, 0x0801, 0x9fff, 0xcfff] {
+    for address in [0x0002, BASIC_START, 0x9fff, 0xcfff] {
         writeln!(text, "{:?}", memory.read(address))?;
     }
     Ok(())

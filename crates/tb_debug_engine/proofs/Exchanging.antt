@@ -16,7 +16,7 @@ use Rattle.tb_engines.specs.declared.outcome.Outcome.{Outcome}
 use Rattle.tb_engines.specs.declared.outcome.Outcome.TheVariants.{Ended, Refused, ReadFault, WriteFault, NoMemory}
 use Rattle.tb_debug.specs.declared.answer.Answer.{Answer}
 use Rattle.tb_debug.specs.declared.debugger.Debugger.{Debugger}
-use Rattle.tb_debug_engine.specs.Dialogue.{Answers, Asks, Exchanges, Says, prompt}
+use Rattle.tb_debug_engine.specs.Dialogue.{Answers, Exchanges, Says, prompt}
 use Rattle.tb_words.specs.Words.{digits_of, word_of}
 use Rattle.tb_debug_engine.specs.Sources.{shown_of}
 use Rattle.tb_debug_engine.specs.declared.dialogue.Setting.{Setting}
@@ -39,15 +39,6 @@ pub answered : (limit : ℕ) (d e : Debugger) (command : Command) (taken : List 
     → Answers limit d taken told e
 answered limit d e command taken told spelled run tells shown leaves =
     record { command = command; spelled = spelled; run = run; tells = tells; shown = shown; leaves = leaves }
-
--- a line that can't be read
-pub asked_wrong : (w : Written) (setting : Setting) (d e : Debugger) (outcome : Outcome) (had left old new : Option (List ℕ)) (read read' wrote wrote' : ℕ)
-    → Asks setting.prompts (Err outcome) had left read read' old new wrote wrote' → Exchanges w setting d (Err outcome) e had left read read' old new wrote wrote'
-asked_wrong w setting d e ReadFault had left old new read read' wrote wrote' h = h
-asked_wrong w setting d e WriteFault had left old new read read' wrote wrote' (same, part, count, other) = (count, other, inl (same, part))
-asked_wrong w setting d e NoMemory had left old new read read' wrote wrote' h = h
-asked_wrong w setting d e (Ended end) had left old new read read' wrote wrote' h = absurd h
-asked_wrong w setting d e (Refused why) had left old new read read' wrote wrote' h = absurd h
 
 -- an answer that can't be told
 pub said_wrong : (w : Written) (setting : Setting) (d e : Debugger) (outcome : Outcome) (taken : List ℕ) (told : Answer) (had left old now new : Option (List ℕ))

@@ -8,14 +8,8 @@ use crate::outcome::Refusal;
 use std::alloc::Global;
 use tb_cpu::{Flags, Regs};
 use tb_kernal::{Keyboard, Machine};
-use tb_memmap::{LoadError, Memory};
+use tb_memmap::{BASIC_START, CODE_START, LoadError, Memory};
 use tb_prg::Loaded;
-
-/// The load address of a program that begins with a BASIC line.
-const BASIC_START: u16 = 0x0801;
-
-/// Where the machine code behind that line begins.
-const CODE_START: u16 = 0x080d;
 
 /// The stack pointer at the start.
 const START_S: u8 = 0xf0;

@@ -1,6 +1,6 @@
 -- The start of a program in a machine of which nothing else is known.
 use Rattle.std.specs.Prelude.{ℕ, ◌≡◌, ◌+◌, ◌<◌, ◌≤◌, true, None, List, [], length, slice_index}
-use Rattle.tb_memmap.specs.Regions.{is_rom}
+use Rattle.tb_memmap.specs.Regions.{CODE_START, is_rom}
 use Rattle.tb_kernal.specs.Places.{service_at}
 use Rattle.tb_kernal.specs.Machine.{State, home_of}
 
@@ -16,7 +16,7 @@ HoldsBytes m = (a : ℕ) → m a < 256
 pub record IsStart (place : ℕ) (bytes : List ℕ) (s : State) : Type 0 where
   pub loaded : LieAt place bytes s.mem
   pub holds_bytes : HoldsBytes s.mem
-  pub pc : s.regs.pc ≡ 0x080d
+  pub pc : s.regs.pc ≡ CODE_START
   pub s_from : 0x60 ≤ s.regs.s
   pub s_to : s.regs.s ≤ 0xfd
   -- the program returns behind the word on the stack, which leads into ROM and to no service

@@ -2,6 +2,7 @@
 #![tactic(auto)]
 
 ghost use Rattle.std.specs.Prelude.{◌≡◌, ◌++◌, IfOk, MatchResult, Ok, Err};
+ghost use Rattle.tb_memmap.specs.Regions.{CODE_START};
 ghost use Rattle.tb_prg.specs.Prg.{content_of, header};
 
 use std::alloc::{AllocError, Global};
@@ -34,7 +35,7 @@ pub struct Loaded<'a> {
 /// The PRG file of an image at `$080D`: its load address is `$0801`, and there the line `10 SYS2061`
 /// stands before the image.
 pub fn write(alloc: Global, image: &Image) -> Result<Vec<u8>, AllocError>
-    requires { image.now.at ≡ 0x080d }
+    requires { image.now.at ≡ CODE_START }
     ensures { IfOk result (λ file. file.items ≡ header ++ image.now.bytes.items) }
 {
     let mut file = Vec::new(alloc);

@@ -3,6 +3,7 @@ use Rattle.std.proofs.Common.{◌≡◌, ◌≢◌, ℕ, suc, ◌+◌, ◌*◌, 
 use Rattle.std.specs.Prelude.{Ok}
 use Rattle.std.proofs.lemmas.Bool.{ne_eqb, eq-eqb, cases_eq}
 use Rattle.tb_memmap.specs.Bytes.{with_byte}
+use Rattle.tb_memmap.specs.Regions.{CODE_START}
 use Rattle.tb_opcodes.specs.declared.Mnemonic.TheVariants.{Lda}
 use Rattle.tb_opcodes.specs.declared.Mode.TheVariants.{IndirectY}
 use Rattle.tb_kernal.specs.declared.places.Service.TheVariants.{Chrout}
@@ -154,17 +155,17 @@ sends_text f fits st lo hi text answers m a x y n v i z c sent p =
     whole f fits st lo hi text answers m a x y n v i z c sent (record { word_is = refl; low = p.low; high_byte = p.high; shown = p.shown; from = p.from; to = p.to; few = p.few; others = λ a p q r. refl }) p.count
 
 -- ---- the program
-program_from : 0x0800 ≤ 0x080d
+program_from : 0x0800 ≤ CODE_START
 program_from = omega arith
 
-program_to : 0x080d + length HELLO ≤ 0xa000
+program_to : CODE_START + length HELLO ≤ 0xa000
 program_to = let size : length HELLO ≡ 48 = refl in omega (arith, size)
 
 -- the text stands behind the code
 shown : (code : Part) → Holds hello_part code → Bytes code 0x0837 hello_text
 shown code st = (st _ _ refl, (st _ _ refl, (st _ _ refl, (st _ _ refl, (st _ _ refl, (st _ _ refl, tt))))))
 
-module _ (s : State) (h : IsStart 0x080d HELLO s) where
+module _ (s : State) (h : IsStart CODE_START HELLO s) where
   abbrev f : Setup
   f = setup_of hello_part hello_part s
 
@@ -174,8 +175,8 @@ module _ (s : State) (h : IsStart 0x080d HELLO s) where
   runs : Comes f (view_of s) (IsHome f) hello_text 66
   runs =
       let st = holds_itself hello_part in
-      let fits = fits_start 0x080d HELLO program_from program_to hello_part st s h in
-      let home = homed_start 0x080d HELLO program_from program_to hello_part st s h in
+      let fits = fits_start CODE_START HELLO program_from program_to hello_part st s h in
+      let home = homed_start CODE_START HELLO program_from program_to hello_part st s h in
       after f 18 fits hello_part st 7 (view_of s) (IsHome f) hello_text 58 refl
       (calling f own (view _ _ _ _ _ _ _ _ 0x081f (0x1d ∷ 0x08 ∷ []) _ s.text s.answers) _ (IsHome f) hello_text [] 57 1
       (sends_text (under f own) (omega (arith, fits)) st 0x1d 0x08 s.text s.answers _ _ _ _ _ _ _ _ _ hello_text
@@ -188,8 +189,8 @@ pub prints_hello : Prints HELLO hello_text 66
 prints_hello s h es l =
     let st = holds_itself hello_part in
     let f' = setup_of hello_part hello_part s in
-    let above = (homed_start 0x080d HELLO program_from program_to hello_part st s h).above in
+    let above = (homed_start CODE_START HELLO program_from program_to hello_part st s h).above in
     ⊎_elim
     (λ d. inl (home_returned f' above (run es s) d.0, d.1 ∙ ap (λ l. l ++ hello_text) h.nothing_sent))
     (λ d. inr (d.kept.runs, (d.to_come, ap (λ l. l ++ d.to_come) (d.sent ∙ ap (λ l. l ++ d.so_far) h.nothing_sent) ∙ sym d.whole), d.few))
-    (settles (UnderWay f') (At f' (view_of s)) (Among f' (IsHome f')) hello_text 66 (runs s h).reaches (home_rests f' above) s (at_start 0x080d HELLO program_from program_to hello_part st s h) es l)
+    (settles (UnderWay f') (At f' (view_of s)) (Among f' (IsHome f')) hello_text 66 (runs s h).reaches (home_rests f' above) s (at_start CODE_START HELLO program_from program_to hello_part st s h) es l)

@@ -1,5 +1,6 @@
 -- A program that sends a line, and its routine that sends any text.
 use Rattle.std.specs.Prelude.{◌≡◌, ◌≢◌, ◌⊎◌, ℕ, ◌+◌, ◌*◌, ◌<◌, ◌≤◌, Bool, true, false, List, [], ◌∷◌, length}
+use Rattle.tb_memmap.specs.Regions.{CODE_START}
 use Rattle.tb_kernal.specs.declared.events.Event.{Event}
 use Rattle.tb_kernal.specs.declared.status.Status.TheVariants.{Running, Returned}
 use Rattle.tb_kernal.specs.Machine.{State, status}
@@ -20,7 +21,7 @@ left = 0xc000
 
 -- the program's part, from the start on
 abbrev pub program_part : List ℕ → Part
-program_part program = part_at 0x080d program
+program_part program = part_at CODE_START program
 
 -- a text of at most 255 bytes in the program, and where it begins and how long it is, as the routine is told
 pub record Points (f : Setup) (m : ℕ → ℕ) (text : List ℕ) : Type 0 where
@@ -59,6 +60,6 @@ hello_text = 72 ∷ 69 ∷ 76 ∷ 76 ∷ 79 ∷ 13 ∷ []
 -- events, or just the text was sent and the machine returned
 abbrev pub Prints : List ℕ → List ℕ → ℕ → Type 0
 Prints program text n =
-    (s : State) → IsStart 0x080d program s → (es : List Event) → all_lawful es s ≡ true →
+    (s : State) → IsStart CODE_START program s → (es : List Event) → all_lawful es s ≡ true →
     ((status (run es s) ≡ Returned) × ((run es s).sent ≡ text))
     ⊎ ((status (run es s) ≡ Running) × IsPrefix (run es s).sent text × (goes es < n))

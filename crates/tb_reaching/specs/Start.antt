@@ -1,5 +1,6 @@
 -- How the view of a started program begins, and where it ends.
 use Rattle.std.specs.Prelude.{◌≡◌, ℕ, zero, suc, ◌+◌, ◌-◌, false, List, [], ◌∷◌, length}
+use Rattle.tb_memmap.specs.Regions.{CODE_START}
 use Rattle.tb_kernal.specs.Machine.{State}
 use Rattle.tb_reaching.specs.View.{View, Setup, Part, back_at}
 
@@ -29,7 +30,7 @@ setup_of code whole s = record {
 
 -- the return address is on the view's stack
 abbrev pub view_of : State → View
-view_of s = record { regs = record s.regs { s = 0; pc = 0x080d }; stack = home_low s ∷ home_high s ∷ []; mem = s.mem; text = s.text; answers = s.answers }
+view_of s = record { regs = record s.regs { s = 0; pc = CODE_START }; stack = home_low s ∷ home_high s ∷ []; mem = s.mem; text = s.text; answers = s.answers }
 
 -- ---- where a program ends
 

@@ -4,12 +4,12 @@ use std::test::Fail;
 use tb_cpu::{Flags, Regs};
 use tb_kernal::{Machine, Quiet, Rude, Status, run};
 use tb_memmap::{Closed, Memory};
-use tb_runtime16::{BLOCK_AT, HOME_S, LINE, RESULT, Routine, VARS, block, entry};
+use tb_runtime16::{BLOCK_AT, HOME_S, LINE, LINES_AT, RESULT, Routine, VARS, block, entry};
 use tb_test_parts::keyboard_of;
 use tb_words::next_seed;
 
 /// Where the caller lies, which is where a program's lines begin.
-pub const CALLER: u16 = 0x0c00;
+pub const CALLER: u16 = LINES_AT;
 
 /// Where a row's own bytes may lie: a text, a line table.
 pub const PROGRAM: u16 = 0x0d00;

@@ -7,7 +7,7 @@ use tb_cpu::Regs;
 use tb_driver::{Tracked, host_form, run_text};
 use tb_engines::start_regs;
 use tb_kernal::{Machine, Outside, Status};
-use tb_memmap::Memory;
+use tb_memmap::{BASIC_START, Memory};
 use tb_test_parts::keyboard_of;
 
 /// More events than any program takes that comes to an end.
@@ -20,14 +20,11 @@ pub struct Start {
     pub regs: Regs,
 }
 
-/// Where a compiled program is loaded.
-const LOADED_AT: u16 = 0x0801;
-
 /// How `tbc run` begins.
 pub fn clean() -> Start {
     Start {
         byte: 0,
-        regs: start_regs(LOADED_AT),
+        regs: start_regs(BASIC_START),
     }
 }
 

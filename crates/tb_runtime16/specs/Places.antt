@@ -1,5 +1,6 @@
 -- Where the code of a program keeps its data, and where its routines begin. A word stands low byte first.
 use Rattle.std.specs.Prelude.{ℕ}
+use Rattle.tb_memmap.specs.Regions.{CODE_START}
 use Rattle.tb_runtime16.specs.declared.places.TheConstants as place
 use Rattle.tb_runtime16.specs.declared.places.Routine.{Routine}
 use Rattle.tb_runtime16.specs.declared.places.Routine.TheVariants.{Multiply, Divide, Random, Number, Text, Zone, Input, Search, Push, Pop, FaultLine, Fault, Poll}
@@ -115,7 +116,7 @@ LINES_AT = 0x0C00
 -- ── the block and its routines ──
 -- where the block begins: the prologue, which a program starts with
 abbrev pub PROLOGUE_AT : ℕ
-PROLOGUE_AT = 0x080D
+PROLOGUE_AT = CODE_START
 
 -- the entry of Send
 abbrev pub SEND_AT : ℕ

@@ -3,6 +3,8 @@ ghost use Rattle.std.specs.Prelude.{◌≡◌};
 ghost use Rattle.tb_runtime16.specs.Block.{StandAt, bytes_of};
 ghost use Rattle.tb_runtime16.specs.Places.{entry_of};
 
+use tb_memmap::CODE_START;
+
 /// Where the code of the lines begins.
 pub const LINES_AT: u16 = 0x0c00;
 /// A routine's first argument; of Divide, its result too.
@@ -82,7 +84,7 @@ pub const FAULT_LENGTH: usize = 64;
 /// Bytes of Poll.
 pub const POLL_LENGTH: usize = 13;
 /// Where the block begins: the prologue, which a program starts with.
-pub const BLOCK_AT: u16 = 0x080d;
+pub const BLOCK_AT: u16 = CODE_START;
 /// Where Send begins, which sends the byte in A and keeps `COLUMN`: what the other routines call for a single byte.
 pub const SEND_AT: u16 = BLOCK_AT + PROLOGUE_LENGTH as u16;
 /// Where Multiply begins.

@@ -4,12 +4,9 @@ use crate::page::Page;
 use tb_codegen::Compiled;
 use tb_engines::start_regs;
 use tb_kernal::{Machine, Outside};
-use tb_memmap::Memory;
+use tb_memmap::{BASIC_START, Memory};
 use tb_stepper::Stepper;
 use tb_test_parts::keyboard_of;
-
-/// Where compiled programs are loaded.
-const LOADED_AT: u16 = 0x0801;
 
 /// What a machine starts with.
 #[derive(Clone, Copy)]
@@ -56,7 +53,7 @@ impl<'a> Start<'a> {
         let memory = Memory::new(page.alloc());
         let mut memory = page.held(memory)?;
         self.load(page, &mut memory);
-        let machine = Machine::enter(page.alloc(), memory, start_regs(LOADED_AT), keyboard);
+        let machine = Machine::enter(page.alloc(), memory, start_regs(BASIC_START), keyboard);
         page.held(machine)
     }
 

@@ -5,10 +5,8 @@ use crate::text::assembly::{assembled, items_in, put_refusal};
 use crate::text::writing::{put_bytes, put_text};
 use tb_asm::assemble;
 use tb_disasm::disassemble;
+use tb_memmap::CODE_START;
 use tb_prg::PrgError;
-
-/// The only address at which an image can stand in a PRG file.
-const CODE_START: u16 = 0x080d;
 
 /// Appends the answer of a row.
 pub fn put_answer(page: &mut Page, name: &str, rest: &str) {

@@ -3,7 +3,7 @@ use Rattle.std.proofs.Common.{inr, ap, ◌∙◌}
 use Rattle.std.proofs.KnownBytes.{Appends-trans}
 use Rattle.tb_streams.specs.Lines.{without_return}
 use Rattle.tb_debug_commands.specs.Commands.{asked_in}
-use Rattle.tb_debug_engine.proofs.Exchanging.{answered, asked_wrong, said_wrong}
+use Rattle.tb_debug_engine.proofs.Exchanging.{answered, said_wrong}
 use Rattle.tb_debug_engine.proofs.dialogue.answer_line.Goals as goal
 
 pub returns-in-Ok : goal.returns-in-Ok
