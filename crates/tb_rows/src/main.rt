@@ -1,7 +1,7 @@
 //! Worked rows of all layers: of the machine, of sources, of texts and files, of what is wrong with sources, and of
 //! compiled programs. The rows lie in text files in the folder where the program runs: a row is a word that names a call,
 //! and what the call is given. Each is written with what the call answers; comments and empty lines are written as they
-//! are.
+//! are. The source text of the routine block lies there too: it is assembled, and compared with the block.
 #![tactic(auto)]
 
 mod check;
@@ -30,6 +30,7 @@ enum Subject {
     Runs,
     Sources,
     Assembly,
+    Block,
     Listings,
     Engines,
     Keys,
@@ -38,7 +39,7 @@ enum Subject {
     Steps,
 }
 
-const FILES: [(&str, Subject); 24] = [
+const FILES: [(&str, Subject); 25] = [
     ("machine/words.txt", Subject::Words),
     ("machine/opcodes.txt", Subject::Opcodes),
     ("machine/memory.txt", Subject::Memory),
@@ -51,6 +52,7 @@ const FILES: [(&str, Subject); 24] = [
     ("source/parsing.txt", Subject::Sources),
     ("source/runs.txt", Subject::Sources),
     ("text/assembly.txt", Subject::Assembly),
+    ("text/block.asm", Subject::Block),
     ("text/listings.txt", Subject::Listings),
     ("text/engines.txt", Subject::Engines),
     ("text/keys.txt", Subject::Keys),
@@ -100,7 +102,9 @@ fn put_answer<R: Files + AllocGlobal>(
         Subject::Engines => text::engines::put_answer(page, word, rest, row),
         Subject::Keys => text::keys::put_answer(page, word, rest),
         Subject::Checks => check::put_answer(page, word, rest),
-        Subject::Programs | Subject::Steps => compiler::put_answer(rt, page, word, rest),
+        Subject::Programs | Subject::Steps | Subject::Block => compiler::put_answer(
+            rt, page, word, rest,
+        ),
     }
 }
 
@@ -139,6 +143,7 @@ fn put_file<R: Files + AllocGlobal>(
     let read = fs::read_to_string(rt, path);
     if let Some(rows) = page.held(read) {
         match subject {
+            Subject::Block => text::block::put_block(page, rows.as_str()),
             Subject::Steps => compiler::steps::put_blocks(page, rows.as_str()),
             _ => put_rows(rt, page, bench, subject, rows.as_str()),
         }

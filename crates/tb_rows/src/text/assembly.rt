@@ -138,12 +138,13 @@ fn put_label(page: &mut Page, row: &str) {
         return;
     };
     if let Some(image) = assembled(page, at, &items) {
-        put_found(page, &image, name);
+        put_address(page, &image, name);
         put_labels(page, &image);
     }
 }
 
-fn put_found(page: &mut Page, image: &Image, name: &str) {
+/// Appends the address of a label.
+pub fn put_address(page: &mut Page, image: &Image, name: &str) {
     let Some(name) = Name::read(name.as_bytes()) else {
         return page.fail();
     };

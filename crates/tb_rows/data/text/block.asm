@@ -3,7 +3,7 @@
 ; It lies at $080D, right behind the BASIC line "10 SYS2061", takes 996 bytes and is the same in every program.
 ; The program's own lines begin at $0C00 and call these routines.
 ;
-; This text is the source of the bytes that tb_runtime16 holds. The program tb_block_text assembles it and compares;
+; This text is the source of the bytes that tb_runtime16 holds. A program of the gate (tb_rows) assembles it and compares;
 ; by hand: tbc asm block.asm block.prg --at 080D. The assembler has no names for numbers, so the name of a data
 ; place stands in the comment.
 ;
