@@ -1,7 +1,7 @@
 #!/usr/bin/env bash
 # Runs the gate and prints the seconds of processor time that each crate's proof, tests and edits take in it, the dearest
-# first. It runs a copy of rt that puts `time` before each of the prover's commands. `taskset -c 0,1` before it shows the
-# gate on two processors.
+# first, and what share of the time in which processors were wanted the host gave to other machines. It runs a copy of rt
+# that puts `time` before each of the prover's commands. `taskset -c 0,1` before it shows the gate on two processors.
 . "$(dirname "${BASH_SOURCE[0]}")/setup.sh"
 needs rt awk python3 /usr/bin/time
 kit=$(dirname "$(readlink -f "$(command -v rt)")")
@@ -13,7 +13,10 @@ def timed(words=rtlib.guarded):\
 \
 rtlib.guarded = timed' "$kit/rt" >timed_rt
 
+used_and_stolen() { awk '/^cpu / { print $2 + $3 + $4 + $7 + $8, $9 }' /proc/stat; } # in hundredths of a second
+
 began=$SECONDS
+before=$(used_and_stolen)
 status=0
 (cd "$root" && TIMES=$work/times python3 "$work/timed_rt" ci) || status=$?
 
@@ -29,5 +32,7 @@ END {
     for (it in seconds) printf "%7.0f s  %s\n", seconds[it], it
     printf "%7.0f s  all\n", all
 }' times | sort -rn
+echo "$before $(used_and_stolen)" |
+    awk '{ used = $3 - $1; stolen = $4 - $2; printf "%.0f %% of the time was given to other machines\n", 100 * stolen / (used + stolen) }'
 echo "the gate took $(((SECONDS - began) / 60)) min $(((SECONDS - began) % 60)) s"
 exit "$status"
