@@ -6,9 +6,11 @@ ghost use Rattle.tb_asm.specs.Settle.{SettlesTo};
 ghost use Rattle.tb_asm.specs.Marks.{SettleErr};
 ghost use Rattle.tb_asm.specs.Text.{items_of_text};
 ghost use Rattle.tb_asm.specs.Reads.{ReadsText};
+ghost use Rattle.tb_settling.specs.Settled.{IsLaid, MayRefuse, Suits};
 
 use std::alloc::Global;
-use tb_asm::{AsmError, Image, Item, TextError, assemble, read_text, settle};
+use tb_asm::{AsmError, AsmErrorKind, Image, Item, TextError, assemble, read_text, settle};
+use tb_settling::assemble_settled;
 
 /// `assemble`.
 pub fn assembled(alloc: Global, at: u16, items: &[Item]) -> Result<Image, AsmError>
@@ -24,6 +26,15 @@ pub fn settled(alloc: Global, at: u16, items: &[Item]) -> Result<Vec<Item>, AsmE
     ensures refused { IfErr result (λ e. SettleErr at (map entry_of items.now) e.kind e.item) }
 {
     settle(alloc, at, items)
+}
+
+/// `assemble_settled`.
+pub fn assembled_settled(alloc: Global, at: u16, items: &[Item]) -> Result<Image, AsmError>
+    ensures laid { IfOk result (λ image. IsLaid at (map entry_of items.now) image.at image.bytes.items image.labels.entries) }
+    ensures refused { IfErr result (λ e. MayRefuse at (map entry_of items.now) e.kind e.item) }
+    ensures suited { Suits at (map entry_of items.now) → IfErr result (λ e. e.kind ≡ AsmErrorKind.NoMemory) }
+{
+    assemble_settled(alloc, at, items)
 }
 
 /// `read_text`.
