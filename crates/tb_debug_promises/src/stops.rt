@@ -1,0 +1,30 @@
+//! Breakpoints and watches.
+ghost use Rattle.std.specs.Prelude.{◌≡◌, not, IfOk, OnOk, OnErr};
+ghost use Rattle.tb_stops.specs.Stops.{Turned, breakpoints_of, watches_of, is_among, breaks, differ};
+
+use std::alloc::AllocError;
+use tb_stops::{Stops, Variables};
+
+/// `Stops::breaks`.
+pub fn breaks_at(stops: &Stops, line: Option<u16>) -> bool
+    ensures { result ≡ breaks (breakpoints_of stops.now) line }
+{
+    stops.breaks(line)
+}
+
+/// `Stops::differ`.
+pub fn watched_differ(stops: &Stops, before: &Variables, after: &Variables) -> bool
+    ensures { result ≡ differ (watches_of stops.now) before.now after.now }
+{
+    stops.differ(before, after)
+}
+
+/// `Stops::turn_breakpoint`.
+pub fn breakpoint_turned(stops: &mut Stops, line: u16) -> Result<bool, AllocError>
+    ensures set { IfOk result (λ set. set ≡ not (is_among (breakpoints_of stops.old) line)) }
+    ensures turned { OnOk result (Turned line (breakpoints_of stops.old) (breakpoints_of stops.new)) }
+    ensures refused { OnErr result (breakpoints_of stops.new ≡ breakpoints_of stops.old) }
+    ensures watches { watches_of stops.new ≡ watches_of stops.old }
+{
+    stops.turn_breakpoint(line)
+}
