@@ -1,4 +1,4 @@
-//! What the engines promise that compile nothing, and the one that makes disks, once more and in one place: functions that
+//! What readers and writers, disks and the engines that compile nothing promise, once more and in one place: functions that
 //! only hand a call on, each with the contract of the call.
 //!
 //! As in `tb_promises`, wrong bodies are tried here (`must-fail/`), where no proof of the engines counts: what refuses
@@ -7,6 +7,10 @@
 
 mod disks;
 mod engines;
+mod play;
+mod streams;
 
-pub use disks::with_file;
+pub use disks::{image_of, name_of, with_file};
 pub use engines::{delivered, listed_file, run_of_file};
+pub use play::played;
+pub use streams::{key_text, keys_read, pulled, written};

@@ -1,5 +1,5 @@
-//! What checks and listings promise, once more and in one place: functions that only hand a call on, each with the
-//! contract of the call.
+//! What checks, listings, the engines of sources and the stepper promise, once more and in one place: functions that only
+//! hand a call on, each with the contract of the call.
 //!
 //! As in `tb_promises`, wrong bodies are tried here (`must-fail/`), where no proof of the tools counts: what refuses them
 //! is the promise alone.
@@ -7,6 +7,12 @@
 
 mod checks;
 mod listings;
+mod sources;
+mod stepping;
 
 pub use checks::{caret_put, examined, judged, lines_that_are_bad, with_source};
 pub use listings::{labels_of, listing_of, map_of};
+pub use sources::{built, ran, source_read};
+pub use stepping::{
+    answers_to, command_of, gone_to_line, line_here, stepped, stepped_through, taken_back,
+};

@@ -1,5 +1,5 @@
 //! The source text of the routine block.
-ghost use Rattle.std.specs.Prelude.{◌≡◌};
+ghost use Rattle.std.specs.Prelude.{◌≡◌, true};
 ghost use Rattle.tb_runtime16.specs.Block.{block_bytes};
 
 use crate::page::Page;

@@ -1,0 +1,102 @@
+//! Stepping, and the commands that ask for it.
+ghost use Rattle.std.specs.Prelude.{◌≡◌, ◌+◌, ◌++◌, [], ◌∷◌, IfOk, OnOk, OnErr};
+ghost use Rattle.tb_streams.specs.Streams.{most_input, ConsumesAtMost};
+ghost use Rattle.tb_streams.specs.Failures.{failures_of};
+ghost use Rattle.tb_kernal.specs.Machine.{state_of, SameKeyboard};
+ghost use Rattle.tb_codegen.specs.Compiled.{starts_of, table_of, line_in, start_in};
+ghost use Rattle.tb_stepper.specs.History.{machines, Stepped, ReachesLine};
+ghost use Rattle.tb_commands.specs.Commands.{asked_of, asked_in};
+ghost use Rattle.tb_commands.specs.Lines.{lines_of};
+ghost use Rattle.tb_commands.specs.Dialogue.{Dialogue};
+ghost use Rattle.tb_engines.specs.Outcomes.{Answers};
+ghost use Rattle.tb_driver.specs.Sources.{WarnsOfRead};
+ghost use Rattle.tb_driver.specs.Stepping.{StepsThrough, MadeFromBoth, FaultsOfBoth};
+
+use std::alloc::{AllocError, Global};
+use std::io::{Read, Write};
+use tb_commands::{Command, answers, read_command};
+use tb_driver::{Report, step_text};
+use tb_kernal::{Keyboard, Outside, Status};
+use tb_stepper::{NothingBack, Reached, StepError, Stepper};
+use tb_streams::Tracked;
+
+/// `Stepper::step`.
+pub fn stepped<O: Outside + Drop>(stepper: &mut Stepper<'_, O>) -> Result<Status, AllocError>
+    ensures { Stepped O.gives stepper.old result stepper.new }
+{
+    stepper.step()
+}
+
+/// `Stepper::back`.
+pub fn taken_back<O: Outside + Drop>(stepper: &mut Stepper<'_, O>) -> Result<(), NothingBack>
+    ensures restored { OnOk result (machines stepper.old
+        ≡ machines stepper.new ++ state_of stepper.old.machine ∷ []) }
+    ensures rest { (stepper.new.outside ≡ stepper.old.outside) × (stepper.new.program ≡ stepper.old.program)
+        × SameKeyboard stepper.old.machine stepper.new.machine }
+    ensures refused { OnErr result ((stepper.old.undos ≡ []) × (stepper.new ≡ stepper.old)) }
+{
+    stepper.back()
+}
+
+/// `Stepper::line`.
+pub fn line_here<O: Outside + Drop>(stepper: &Stepper<'_, O>) -> Option<u16>
+    ensures { result ≡ line_in (starts_of stepper.now.program) (table_of stepper.now.program) stepper.now.machine.regs.pc }
+{
+    stepper.line()
+}
+
+/// `Stepper::to_line`.
+pub fn gone_to_line<O: Outside + Drop>(
+    stepper: &mut Stepper<'_, O>,
+    line: u16,
+    limit: u64,
+) -> Result<Reached, StepError>
+    ensures { ReachesLine O.gives (start_in (starts_of stepper.old.program) line) limit stepper.old result stepper.new }
+{
+    stepper.to_line(line, limit)
+}
+
+/// `read_command`.
+pub fn command_of(line: &[u8]) -> Command<'_>
+    ensures { asked_of result ≡ asked_in line.now }
+{
+    read_command(line)
+}
+
+/// `answers`.
+pub fn answers_to<O: Outside + Drop>(
+    alloc: Global,
+    stepper: &mut Stepper<'_, O>,
+    commands: &[u8],
+    limit: u64,
+) -> Result<Vec<u8>, AllocError>
+    ensures { IfOk result (λ text. Dialogue O.gives limit stepper.old (lines_of commands.now) text.items stepper.new) }
+{
+    answers(alloc, stepper, commands, limit)
+}
+
+/// `step_text`.
+pub fn stepped_through<R: Read, C: Read, W: Write>(
+    alloc: Global,
+    source: &mut Tracked<R>,
+    commands: &mut Tracked<C>,
+    writer: &mut Tracked<W>,
+    seed: u16,
+    keyboard: Keyboard,
+    limit: u64,
+) -> Report
+    ensures answers { Answers (MadeFromBoth (R.remaining source.old.stream) (C.remaining commands.old.stream)
+        (C.remaining commands.new.stream) (StepsThrough seed keyboard.text.items keyboard.answers.items limit result.warnings.items)) result.outcome
+        (W.contents writer.old.stream) (W.contents writer.new.stream) }
+    ensures warned { WarnsOfRead result.outcome result.warnings.items }
+    ensures faults { FaultsOfBoth result.outcome
+        (R.remaining source.old.stream) (failures_of source.old) (failures_of source.new)
+        (C.remaining commands.old.stream) (failures_of commands.old) (failures_of commands.new)
+        (failures_of writer.old) (failures_of writer.new) }
+    ensures source_taken { ConsumesAtMost (R.remaining source.old.stream) (R.remaining source.new.stream)
+        (most_input + 1) }
+    ensures commands_taken { ConsumesAtMost (C.remaining commands.old.stream) (C.remaining commands.new.stream)
+        (most_input + 1) }
+{
+    step_text(alloc, source, commands, writer, seed, keyboard, limit)
+}
