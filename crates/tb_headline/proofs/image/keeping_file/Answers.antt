@@ -5,7 +5,6 @@ use Rattle.tb_asm.specs.Layout.{entry_of}
 use Rattle.tb_runtime16.specs.Places.{PROLOGUE_AT}
 use Rattle.tb_settling.specs.Settled.{IsLaid}
 use Rattle.tb_templates.specs.Program.{program_code}
-use Rattle.tb_lower.specs.Lowered as lowered
 use Rattle.tb_lower.specs.PlainData.{code_of}
 use Rattle.tb_codegen.proofs.SmallPrograms.{are_small, cost_small}
 use Rattle.tb_codegen.proofs.Kept.{file_keeps}
