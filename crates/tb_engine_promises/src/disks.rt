@@ -1,15 +1,14 @@
-//! Names on a disk, files for one, and its image.
-ghost use Rattle.std.specs.Prelude.{◌≡◌, ◌↔◌, ◌+◌, IfSome, IsSome, MatchResult};
+//! Names on a disk, and files for one.
+ghost use Rattle.std.specs.Prelude.{◌≡◌, ◌↔◌, ◌+◌, IfSome, IsSome};
 ghost use Rattle.tb_streams.specs.Failures.{failures_of};
 ghost use Rattle.tb_streams.specs.Streams.{most_input, ConsumesAtMost};
 ghost use Rattle.tb_disk.specs.D64.{name_in};
-ghost use Rattle.tb_disk.specs.Images.{IsDiskOf, Refuses};
 ghost use Rattle.tb_disk.specs.Names.{IsName, field_of};
 ghost use Rattle.tb_disk_engine.specs.Files.{Adds, AddFaults};
 
 use std::alloc::Global;
 use std::io::Read;
-use tb_disk::{DiskError, File, Name, disk};
+use tb_disk::Name;
 use tb_disk_engine::{DiskFiles, DiskOutcome};
 use tb_streams::Tracked;
 
@@ -20,15 +19,6 @@ pub fn name_of(text: &[u8]) -> Option<Name>
     ensures back { IfSome result (λ n. name_in n.field ≡ text.now) }
 {
     Name::new(text)
-}
-
-/// `disk`.
-pub fn image_of(alloc: Global, name: &Name, files: &[File<'_>]) -> Result<Vec<u8>, DiskError>
-    ensures { MatchResult result
-        (λ image. IsDiskOf name.now files.now image.items)
-        (Refuses files.now) }
-{
-    disk(alloc, name, files)
 }
 
 /// `DiskFiles::add`.

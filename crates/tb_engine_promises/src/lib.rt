@@ -1,5 +1,5 @@
-//! What readers and writers, disks and the engines that compile nothing promise, once more and in one place: functions that
-//! only hand a call on, each with the contract of the call.
+//! What readers and writers, files for disks and the engines that compile nothing promise, once more and in one place:
+//! functions that only hand a call on, each with the contract of the call.
 //!
 //! As in `tb_promises`, wrong bodies are tried here (`must-fail/`), where no proof of the engines counts: what refuses
 //! them is the promise alone.
@@ -10,7 +10,7 @@ mod engines;
 mod play;
 mod streams;
 
-pub use disks::{image_of, name_of, with_file};
+pub use disks::{name_of, with_file};
 pub use engines::{delivered, listed_file, run_of_file};
 pub use play::played;
 pub use streams::{key_text, keys_read, pulled, written};
