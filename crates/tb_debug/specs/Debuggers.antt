@@ -1,5 +1,5 @@
 -- A debugger on the run of its program.
-use Rattle.std.specs.Prelude.{◌≡◌, ◌⊎◌, ℕ, ◌-◌, ◌<◌, ◌≤◌, Bool, true, List, [], ◌∷◌, ◌++◌, map}
+use Rattle.std.specs.Prelude.{◌≡◌, ◌⊎◌, ℕ, ◌-◌, ◌<◌, ◌≤◌, Bool, true, List, [], ◌∷◌, ◌++◌, length, map}
 use Rattle.std.specs.Char.{to_ascii_uppercase}
 use Rattle.tb_codegen.specs.Compiled.{starts_of}
 use Rattle.tb_codegen.specs.declared.compiled.Compiled.{Compiled}
@@ -12,14 +12,16 @@ use Rattle.tb_debug.specs.declared.moment.Reached.{Reached}
 use Rattle.tb_debug.specs.declared.moment.Reached.TheVariants.{Line, Within, Ended, Limit}
 use Rattle.tb_stops.specs.Stops.{breakpoints_of, watches_of}
 use Rattle.tb_debug.specs.Begins.{EndsAt, IsLimited, standing_of}
-use Rattle.tb_debug.specs.Runs.{Point, IsOfRun, IsFirst, AreKept, begins_at, is_marked, typed}
+use Rattle.tb_debug.specs.Runs.{Point, IsOfRun, IsFirst, AreKept, begins_at, is_marked, most_kept, typed}
 
--- marks stand where the lines of a program begin, and the present moment and the kept ones are of the run from a start
+-- marks stand where the lines of a program begin, and the present moment and the kept ones, of which there are no more than
+-- may be, are of the run from a start
 pub record StandsOn (program : Compiled) (start : Point) (marks : List Bool) (history : History) (present : Moment) : Type 0 where
   pub marked : (a : ℕ) → is_marked marks a ≡ begins_at (starts_of program) a
   pub of_run : IsOfRun marks start present
   pub of_first : IsFirst marks start history.first
   pub of_past : AreKept marks start present.events history.later.items
+  pub few : length history.later.items < most_kept
 
 -- a debugger stands on its program's run from a start
 abbrev pub OnRun : Point → Debugger → Type 0

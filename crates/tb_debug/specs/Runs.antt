@@ -1,5 +1,5 @@
 -- The run of a machine beside a ROM, and its moments.
-use Rattle.std.specs.Prelude.{◌≡◌, ℕ, zero, suc, ◌+◌, ◌<◌, ◌≤◌, ◌==◌, ◌&&◌, ◌||◌, Bool, false, if◌then◌else◌, ℤ, List, [], ◌∷◌, All, length, slice_index_or}
+use Rattle.std.specs.Prelude.{◌≡◌, ℕ, zero, suc, ◌+◌, ◌-◌, ◌<◌, ◌≤◌, ◌==◌, ◌&&◌, ◌||◌, Bool, false, if◌then◌else◌, ℤ, List, [], ◌∷◌, All, length, slice_index_or}
 use Rattle.tb_kernal.specs.declared.events.Event.{Event}
 use Rattle.tb_kernal.specs.declared.status.Status.TheVariants.{Running}
 use Rattle.tb_kernal.specs.Machine.{State, state_of, happens, status}
@@ -99,6 +99,18 @@ IsFirst marks start k = IsKept marks start k × (k.moment.events ≡ 0)
 -- kept moments of the run from a start, of its first so many events
 abbrev pub AreKept : List Bool → Point → ℕ → List Kept → Type 0
 AreKept marks start n ks = All (λ k. IsKept marks start k × (k.moment.events ≤ n)) ks
+
+-- how many moments are kept at most, the run's first one among them
+abbrev pub most_kept : ℕ
+most_kept = 32
+
+-- how many events lie between a kept moment and the next one at least
+abbrev pub spacing : ℕ
+spacing = 131072
+
+-- how many events came before the newest kept moment, by the first one and the later ones
+abbrev pub newest_events : Kept → List Kept → ℕ
+newest_events first later = (slice_index_or later (length later - 1) first).moment.events
 
 -- ---- typing
 

@@ -1,8 +1,8 @@
 //! The moments that are kept, from which a run is run again.
-ghost use Rattle.std.specs.Prelude.{◌≡◌, ◌∷◌, ◌++◌, ◌+◌, ◌<◌, ◌≤◌, [], ℕ, List, Bool, IfOk, IfSome, IsSome, OnOk, slice_index_or, vec_len};
+ghost use Rattle.std.specs.Prelude.{◌≡◌, ◌∷◌, ◌++◌, ◌+◌, ◌<◌, ◌≤◌, [], ℕ, List, Bool, IfOk, IfSome, IsSome, OnOk, IsTrue, ◌↔◌, length, slice_index_or, vec_len};
 ghost use Rattle.tb_debug.specs.declared.history.Kept.{Kept};
 ghost use Rattle.tb_debug.specs.Searching.{IsUntil};
-ghost use Rattle.tb_debug.specs.Runs.{Point, IsOfRun, IsFirst, IsKept, IsTyped, AreKept, AreTyped};
+ghost use Rattle.tb_debug.specs.Runs.{Point, IsOfRun, IsFirst, IsKept, IsTyped, AreKept, AreTyped, most_kept, newest_events, spacing};
 
 use crate::moment::Moment;
 use std::alloc::{AllocError, Global};
@@ -91,6 +91,10 @@ impl History {
         ensures first { self.new.first ≡ self.old.first }
         ensures later { OnOk result ((marks : List Bool) (start : Point) → IsOfRun marks start moment.now
             → AreKept marks start moment.now.events self.old.later.items → AreKept marks start moment.now.events self.new.later.items) }
+        ensures early { moment.now.events < newest_events self.old.first self.old.later.items + spacing → self.new ≡ self.old }
+        ensures due { OnOk result (newest_events self.old.first self.old.later.items + spacing ≤ moment.now.events
+            → newest_events self.new.first self.new.later.items ≡ moment.now.events) }
+        ensures few { length self.old.later.items < most_kept → length self.new.later.items < most_kept }
     {
         if !self.is_due(moment.events) {
             return Ok(());
@@ -104,18 +108,23 @@ impl History {
     fn push(&mut self, kept: Kept) -> Result<(), AllocError>
         ensures first { self.new.first ≡ self.old.first }
         ensures later { OnOk result (self.new.later.items ≡ self.old.later.items ++ kept ∷ []) }
+        ensures one { length self.new.later.items ≤ length self.old.later.items + 1 }
     {
         self.later.push(kept)?;
         Ok(())
     }
 
     // Whether a moment behind so many events is worth keeping.
-    fn is_due(&self, events: u64) -> bool {
+    fn is_due(&self, events: u64) -> bool
+        ensures { IsTrue result ↔ (newest_events self.now.first self.now.later.items + spacing ≤ events) }
+    {
         SPACING <= events.saturating_sub(self.newest_events())
     }
 
     // How many events came before the newest kept moment.
-    fn newest_events(&self) -> u64 {
+    fn newest_events(&self) -> u64
+        ensures { result ≡ newest_events self.now.first self.now.later.items }
+    {
         match self.later.last() {
             Some(last) => last.moment.events,
             None => self.first.moment.events,
@@ -126,6 +135,7 @@ impl History {
     fn make_room(&mut self, now: u64)
         ensures first { self.new.first ≡ self.old.first }
         ensures later { (marks : List Bool) (start : Point) (n : ℕ) → AreKept marks start n self.old.later.items → AreKept marks start n self.new.later.items }
+        ensures room { length self.old.later.items < most_kept → length self.new.later.items + 1 < most_kept }
     {
         let index = self.spare(now);
         if MOST_KEPT <= self.len() && index < self.later.len() {
@@ -135,7 +145,9 @@ impl History {
 
     // The newest of the later moments whose neighbours are no farther apart than they are from here; the first of them
     // where there is none. So what lies farther back is kept less densely.
-    fn spare(&self, now: u64) -> usize {
+    fn spare(&self, now: u64) -> usize
+        ensures { 0 < length self.now.later.items → result < length self.now.later.items }
+    {
         let mut found = 0;
         for index in 1..self.later.len().saturating_sub(1) {
             let before = self.later[index - 1].moment.events;
@@ -164,6 +176,7 @@ impl History {
     pub fn forget_behind(&mut self, events: u64)
         ensures first { self.new.first ≡ self.old.first }
         ensures later { (marks : List Bool) (start : Point) (n : ℕ) → AreKept marks start n self.old.later.items → AreKept marks start events self.new.later.items }
+        ensures few { length self.new.later.items ≤ length self.old.later.items }
     {
         self.later.retain(|kept| kept.moment.events <= events);
     }

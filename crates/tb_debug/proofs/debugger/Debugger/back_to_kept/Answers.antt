@@ -18,6 +18,7 @@ returns-clause-run c = (
         of_run = c.in_ok-moment.ensures.again marks start present h.of_run c.sent.ensures kept.0 kept.1;
         of_first = subst (IsFirst marks start) (sym c.forget_behind.ensures.first) h.of_first;
         of_past = c.forget_behind.ensures.later marks start present.events h.of_past;
+        few = omega (arith, c.forget_behind.ensures.few, h.few);
       },
 )
 

@@ -1,5 +1,5 @@
 -- The goals of `Debugger::new` in src/debugger.rt.
-use Rattle.std.proofs.Common.{◌≤◌, refl, sym, subst, arith}
+use Rattle.std.proofs.Common.{◌≤◌, ap, length, refl, sym, subst, arith}
 use Rattle.std.proofs.lemmas.List.Elements.{All-nil}
 use Rattle.tb_kernal.specs.Machine.{state_of}
 use Rattle.tb_debug.specs.Runs.{AreKept, IsFirst, IsKept, first_point}
@@ -18,6 +18,7 @@ returns-clause-run c =
         of_first = subst (IsFirst marks start) (sym c.new-history.ensures.first) (c.in_ok-first.ensures.kept marks start first, omega (arith, c.in_ok-first.ensures.events, c.first-present.ensures.events));
         of_past = subst (AreKept marks start now.events) (sym c.new-history.ensures.later)
             (All-nil (λ k. IsKept marks start k × (k.moment.events ≤ now.events)));
+        few = omega (arith, ap length c.new-history.ensures.later);
       },
     )
 

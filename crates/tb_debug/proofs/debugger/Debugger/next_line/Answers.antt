@@ -17,5 +17,6 @@ returns-in_ok-keep-clause-run c = (
         of_run = now;
         of_first = subst (IsFirst marks start) (sym c.in_ok-keep.ensures.first) h.of_first;
         of_past = c.in_ok-keep.ensures.later marks start now (kept_later marks start _ _ _ on.later h.of_past);
+        few = c.in_ok-keep.ensures.few h.few;
       },
 )

@@ -20,5 +20,6 @@ returns-clause-run c = (
             (first.0, c.in_ok-type_text-2.ensures.first.events ∙ h.of_first.1);
         of_past = subst (λ n. AreKept marks (typed more start) n c.type_text-2.new.self.later.items) (sym now.events)
             (typed_all marks start more c.args.self.now.present.events c.args.self.now.history.later.items c.type_text-2.new.self.later.items h.of_run.ran c.in_ok-type_text-2.ensures.later h.of_past);
+        few = omega (arith, c.in_ok-type_text-2.ensures.later.many, h.few);
       },
 )
