@@ -43,45 +43,49 @@ fn call_with(
 }
 
 // Whether all notes of the full list but one stand as they were, and that one is this.
-fn holds_list(called: &Called, but: Option<(u16, u16)>) -> Result<bool, Fail> {
-    let memory = called.machine.memory();
+fn holds_list(called: &Called, but: Option<(u16, u16)>) -> bool {
     for number in 0..MOST {
         let note = match but {
             Some((at, note)) if at == number => note,
             _ => note_of(number),
         };
-        let low = memory.read(NOTE_LOW.saturating_add(number))?;
-        let high = memory.read(NOTE_HIGH.saturating_add(number))?;
-        if u16::from_le_bytes([low, high]) != note {
-            return Ok(false);
+        let [low, high] = note.to_le_bytes();
+        if called.byte(NOTE_LOW.saturating_add(number)) != Some(low)
+            || called.byte(NOTE_HIGH.saturating_add(number)) != Some(high)
+        {
+            return false;
         }
     }
-    Ok(true)
+    true
 }
 
 // Whether Push notes a word behind so many.
 fn pushes(alloc: Global, rom: Option<u16>, list: &[u8], count: u16) -> Result<bool, Fail> {
-    let called = call_with(alloc, rom, Routine::Push, list, count)?;
-    let notes = called.word(NOTES)?;
+    Ok(has_pushed(&call_with(alloc, rom, Routine::Push, list, count)?, count))
+}
+
+fn has_pushed(called: &Called, count: u16) -> bool {
     if count == MOST {
-        return Ok(called.faults(alloc, b"", 4)? && notes == MOST && holds_list(&called, None)?);
+        return called.faults(b"", 4) && holds(called, MOST, None);
     }
-    Ok(
-        called.sends(b"")?
-            && notes.checked_sub(1) == Some(count)
-            && holds_list(&called, Some((count, 0x1234)))?,
-    )
+    called.sends(b"") && holds(called, count.saturating_add(1), Some((count, 0x1234)))
+}
+
+// Whether so many notes count, and the list is as `holds_list` says.
+fn holds(called: &Called, count: u16, but: Option<(u16, u16)>) -> bool {
+    called.word(NOTES) == Some(count) && holds_list(called, but)
 }
 
 // Whether Pop takes the last note of so many.
 fn pops(alloc: Global, rom: Option<u16>, list: &[u8], count: u16) -> Result<bool, Fail> {
-    let called = call_with(alloc, rom, Routine::Pop, list, count)?;
-    let notes = called.word(NOTES)?;
-    let holds = match count.checked_sub(1) {
-        Some(left) => called.gives(note_of(left))? && notes == left,
-        None => called.faults(alloc, b"", 5)? && notes == 0,
-    };
-    Ok(holds && holds_list(&called, None)?)
+    Ok(has_popped(&call_with(alloc, rom, Routine::Pop, list, count)?, count))
+}
+
+fn has_popped(called: &Called, count: u16) -> bool {
+    match count.checked_sub(1) {
+        Some(left) => called.gives(note_of(left)) && holds(called, left, None),
+        None => called.faults(b"", 5) && holds(called, 0, None),
+    }
 }
 
 #[test]

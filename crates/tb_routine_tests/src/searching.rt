@@ -49,10 +49,10 @@ fn is_found(
     number: u16,
 ) -> Result<bool, Fail> {
     let called = search(alloc, rom, table, count, number)?;
-    match address_of(number, count) {
-        Some(address) => Ok(called.gives(address)? && called.word(WANTED)? == number),
-        None => called.faults(alloc, b"", 1),
-    }
+    Ok(match address_of(number, count) {
+        Some(address) => called.gives(address) && called.word(WANTED) == Some(number),
+        None => called.faults(b"", 1),
+    })
 }
 
 // Whether each line of a table is found, and numbers near it are not.

@@ -15,8 +15,8 @@ fn column_after(column: u8, text: &[u8]) -> u8 {
 }
 
 // Whether a call sent this from a column on.
-fn is_sent(called: &Called, column: u8, text: &[u8]) -> Result<bool, Fail> {
-    Ok(called.sends(text)? && called.byte(COLUMN)? == column_after(column, text))
+fn is_sent(called: &Called, column: u8, text: &[u8]) -> bool {
+    called.sends(text) && called.byte(COLUMN) == Some(column_after(column, text))
 }
 
 // Whether Number sends this for a word, from a column that varies with it.
@@ -28,7 +28,7 @@ fn sends_number(alloc: Global, rom: Option<u16>, word: u16, text: &[u8]) -> Resu
         ..plain(Routine::Number)
     }
     .run(alloc, rom)?;
-    is_sent(&called, column, text)
+    Ok(is_sent(&called, column, text))
 }
 
 #[test]
@@ -84,7 +84,7 @@ fn sends_first(
     }
     .run(alloc, rom)?;
     let sent = text.get(..usize::from(length)).unwrap_or(&[]);
-    is_sent(&called, length, sent)
+    Ok(is_sent(&called, length, sent))
 }
 
 #[test]
@@ -110,7 +110,7 @@ fn goes_by(alloc: Global, rom: Option<u16>, column: u8, spaces: u8) -> Result<bo
     }
     .run(alloc, rom)?;
     let text = b"        ".get(..usize::from(spaces)).unwrap_or(&[]);
-    is_sent(&called, column, text)
+    Ok(is_sent(&called, column, text))
 }
 
 #[test]

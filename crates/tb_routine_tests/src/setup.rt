@@ -3,10 +3,10 @@ use std::alloc::Global;
 use std::test::Fail;
 use tb_cpu::{Flags, Regs};
 use tb_kernal::{Machine, Quiet, Rude, Status, run};
-use tb_memmap::{Closed, Memory};
+use tb_memmap::Memory;
 use tb_runtime16::{BLOCK_AT, HOME_S, LINE, LINES_AT, RESULT, Routine, VARS, block, entry};
 use tb_test_parts::keyboard_of;
-use tb_words::next_seed;
+use tb_words::{digits, next_seed};
 
 /// Where the caller lies, which is where a program's lines begin.
 pub const CALLER: u16 = LINES_AT;
@@ -82,14 +82,7 @@ impl Call<'_> {
     /// Runs the call beside a ROM.
     pub fn run(&self, alloc: Global, rom: Option<u16>) -> Result<Called, Fail> {
         let mut machine = self.machine(alloc)?;
-        let status = run_beside(&mut machine, rom)?;
-        let is_back = machine.memory().read(BACK)? == 1;
-        let end = match status {
-            Status::Returned if is_back => End::Back,
-            Status::Returned => End::Home,
-            Status::Waits => End::Waits,
-            _ => return Err("neither returned nor waiting".into()),
-        };
+        let end = run_to_end(&mut machine, rom)?;
         Ok(Called { end, machine })
     }
 
@@ -127,6 +120,16 @@ impl Call<'_> {
     }
 }
 
+// Runs a call to its end.
+fn run_to_end(machine: &mut Machine, rom: Option<u16>) -> Result<End, Fail> {
+    match run_beside(machine, rom)? {
+        Status::Returned if machine.memory().read(BACK)? == 1 => Ok(End::Back),
+        Status::Returned => Ok(End::Home),
+        Status::Waits => Ok(End::Waits),
+        _ => Err("neither returned nor waiting".into()),
+    }
+}
+
 /// Runs a machine until it has returned, went wrong or waits.
 pub fn run_beside(machine: &mut Machine, rom: Option<u16>) -> Result<Status, Fail> {
     Ok(match rom {
@@ -147,8 +150,12 @@ pub fn memory_with_block(alloc: Global, s: u8) -> Result<Memory, Fail> {
 /// Registers of which only PC, S and D are set.
 pub fn noisy_regs(pc: u16, s: u8, d: bool) -> Regs {
     let flags = Flags {
+        n: true,
+        v: true,
         d,
-        ..Flags::from_byte(0xff)
+        i: true,
+        z: true,
+        c: true,
     };
     Regs {
         a: NOISE,
@@ -162,45 +169,63 @@ pub fn noisy_regs(pc: u16, s: u8, d: bool) -> Regs {
 
 impl Called {
     /// The byte at a place.
-    pub fn byte(&self, place: u16) -> Result<u8, Closed> {
-        self.machine.memory().read(place)
+    pub fn byte(&self, place: u16) -> Option<u8> {
+        self.machine.memory().read(place).ok()
     }
 
     /// The word at a place.
-    pub fn word(&self, place: u16) -> Result<u16, Closed> {
+    pub fn word(&self, place: u16) -> Option<u16> {
         let low = self.byte(place)?;
         let high = self.byte(place.saturating_add(1))?;
-        Ok(u16::from_le_bytes([low, high]))
+        Some(u16::from_le_bytes([low, high]))
     }
 
     /// Whether the call came back with this word as its result and sent nothing.
-    pub fn gives(&self, word: u16) -> Result<bool, Closed> {
-        Ok(self.sends(b"")? && self.word(RESULT)? == word)
+    pub fn gives(&self, word: u16) -> bool {
+        self.sends(b"") && self.word(RESULT) == Some(word)
     }
 
     /// Whether the call came back and sent this.
-    pub fn sends(&self, text: &[u8]) -> Result<bool, Closed> {
-        Ok(self.end == End::Back && self.machine.sent() == text && self.keeps()?)
+    pub fn sends(&self, text: &[u8]) -> bool {
+        self.end == End::Back && self.machine.sent() == text && self.keeps()
     }
 
     /// Whether the call sent this and then a fault's text, and the program has ended.
-    pub fn faults(&self, alloc: Global, before: &[u8], fault: u8) -> Result<bool, Fail> {
-        let line = self.word(LINE)?;
-        let mut text = Vec::from_slice(alloc, before)?;
-        text.extend_from_slice(format!(in alloc; "\r!{fault} AT {line}\r")?.as_bytes())?;
-        Ok(self.end == End::Home && self.machine.sent() == text.as_slice() && self.keeps()?)
+    pub fn faults(&self, before: &[u8], fault: u8) -> bool {
+        self.end == End::Home && self.has_sent_fault(before, fault) && self.keeps()
+    }
+
+    fn has_sent_fault(&self, before: &[u8], fault: u8) -> bool {
+        match (self.word(LINE), self.machine.sent().strip_prefix(before)) {
+            (Some(line), Some(text)) => is_fault(text, fault, line),
+            _ => false,
+        }
     }
 
     /// Whether the places that no routine changes are as they were: variables, slots, the held word and the stack
     /// pointer's.
-    pub fn keeps(&self) -> Result<bool, Closed> {
+    pub fn keeps(&self) -> bool {
         for place in (0xc000..0xc034u16).chain(0xc040..0xc062) {
-            if self.byte(place)? != NOISE {
-                return Ok(false);
+            if self.byte(place) != Some(NOISE) {
+                return false;
             }
         }
-        Ok(self.byte(HOME_S)? == 0xf0)
+        self.byte(HOME_S) == Some(0xf0)
     }
+}
+
+// Whether a text is that of a fault at a line.
+fn is_fault(text: &[u8], fault: u8, line: u16) -> bool {
+    let digits = digits(line.cast_signed());
+    let number = [b'0'.wrapping_add(fault)];
+    let mut rest = text;
+    for part in [b"\r!".as_slice(), &number, b" AT ", &digits, b"\r"] {
+        match rest.strip_prefix(part) {
+            Some(behind) => rest = behind,
+            None => return false,
+        }
+    }
+    rest.is_empty()
 }
 
 /// Words at the edges.
