@@ -4,22 +4,22 @@ use std::test::Fail;
 use tb_command_line::{Failure, job};
 
 /// Words, and the job that they become.
-static JOBS: [(&[&str], &[u8]); 22] = [
+static JOBS: [(&[&str], &str); 22] = [
     (
         &["build", "a", "b"],
-        b"Ok(Build { source: \"a\", out: \"b\", seed: 1, beside: Beside { labels: None, listing: None, map: None } })",
+        "Ok(Build { source: \"a\", out: \"b\", seed: 1, beside: Beside { labels: None, listing: None, map: None } })",
     ),
     (
         &["build", "--seed", "65535", "a", "b"],
-        b"Ok(Build { source: \"a\", out: \"b\", seed: 65535, beside: Beside { labels: None, listing: None, map: None } })",
+        "Ok(Build { source: \"a\", out: \"b\", seed: 65535, beside: Beside { labels: None, listing: None, map: None } })",
     ),
     (
         &["build", "a", "b", "--map=m", "--labels", "v", "--list", "s"],
-        b"Ok(Build { source: \"a\", out: \"b\", seed: 1, beside: Beside { labels: Some(\"v\"), listing: Some(\"s\"), map: Some(\"m\") } })",
+        "Ok(Build { source: \"a\", out: \"b\", seed: 1, beside: Beside { labels: Some(\"v\"), listing: Some(\"s\"), map: Some(\"m\") } })",
     ),
     (
         &["run", "a"],
-        b"Ok(Run { what: Source(\"a\"), settings: Settings { seed: 1, keys: Digits(\"\"), answers: \"\", limit: Limit { events: 10000000 } }, rude: None })",
+        "Ok(Run { what: Source(\"a\"), settings: Settings { seed: 1, keys: Digits(\"\"), answers: \"\", limit: Limit { events: 10000000 } }, rude: None })",
     ),
     (
         &[
@@ -33,34 +33,34 @@ static JOBS: [(&[&str], &[u8]); 22] = [
             "--rude",
             "65535",
         ],
-        b"Ok(Run { what: Source(\"a\"), settings: Settings { seed: 1, keys: Digits(\"330d\"), answers: \"00\", limit: Limit { events: 1000000000 } }, rude: Some(65535) })",
+        "Ok(Run { what: Source(\"a\"), settings: Settings { seed: 1, keys: Digits(\"330d\"), answers: \"00\", limit: Limit { events: 1000000000 } }, rude: Some(65535) })",
     ),
     (
         &["run", "--prg", "p", "--seed", "0", "--limit", "1"],
-        b"Ok(Run { what: Prg(\"p\"), settings: Settings { seed: 0, keys: Digits(\"\"), answers: \"\", limit: Limit { events: 1 } }, rude: None })",
+        "Ok(Run { what: Prg(\"p\"), settings: Settings { seed: 0, keys: Digits(\"\"), answers: \"\", limit: Limit { events: 1 } }, rude: None })",
     ),
     (
         &["run", "a", "--keys-file", "k", "--answers", "03"],
-        b"Ok(Run { what: Source(\"a\"), settings: Settings { seed: 1, keys: File(\"k\"), answers: \"03\", limit: Limit { events: 10000000 } }, rude: None })",
+        "Ok(Run { what: Source(\"a\"), settings: Settings { seed: 1, keys: File(\"k\"), answers: \"03\", limit: Limit { events: 10000000 } }, rude: None })",
     ),
     (
         &["play", "a"],
-        b"Ok(Play { what: Source(\"a\"), seed: 1, limit: Limit { events: 1000000000 }, record: None })",
+        "Ok(Play { what: Source(\"a\"), seed: 1, limit: Limit { events: 1000000000 }, record: None })",
     ),
     (
         &[
             "play", "--prg=p", "--seed", "9", "--limit", "5", "--record", "r",
         ],
-        b"Ok(Play { what: Prg(\"p\"), seed: 9, limit: Limit { events: 5 }, record: Some(\"r\") })",
+        "Ok(Play { what: Prg(\"p\"), seed: 9, limit: Limit { events: 5 }, record: Some(\"r\") })",
     ),
     (
         &["asm", "a", "b", "--at", "c00"],
-        b"Ok(Asm { text: \"a\", out: \"b\", at: \"c00\" })",
+        "Ok(Asm { text: \"a\", out: \"b\", at: \"c00\" })",
     ),
-    (&["dis", "a"], b"Ok(Dis { prg: \"a\" })"),
+    (&["dis", "a"], "Ok(Dis { prg: \"a\" })"),
     (
         &["debug", "a"],
-        b"Ok(Debug { source: \"a\", settings: Settings { seed: 1, keys: Digits(\"\"), answers: \"\", limit: Limit { events: 10000000 } }, rude: None })",
+        "Ok(Debug { source: \"a\", settings: Settings { seed: 1, keys: Digits(\"\"), answers: \"\", limit: Limit { events: 10000000 } }, rude: None })",
     ),
     (
         &[
@@ -73,11 +73,11 @@ static JOBS: [(&[&str], &[u8]); 22] = [
             "--limit",
             "9",
         ],
-        b"Ok(Debug { source: \"a\", settings: Settings { seed: 1, keys: File(\"k\"), answers: \"\", limit: Limit { events: 9 } }, rude: Some(7) })",
+        "Ok(Debug { source: \"a\", settings: Settings { seed: 1, keys: File(\"k\"), answers: \"\", limit: Limit { events: 9 } }, rude: Some(7) })",
     ),
     (
         &["profile", "a"],
-        b"Ok(Profile { source: \"a\", settings: Settings { seed: 1, keys: Digits(\"\"), answers: \"\", limit: Limit { events: 10000000 } }, rude: None, html: None })",
+        "Ok(Profile { source: \"a\", settings: Settings { seed: 1, keys: Digits(\"\"), answers: \"\", limit: Limit { events: 10000000 } }, rude: None, html: None })",
     ),
     (
         &[
@@ -91,28 +91,28 @@ static JOBS: [(&[&str], &[u8]); 22] = [
             "--limit",
             "9",
         ],
-        b"Ok(Profile { source: \"a\", settings: Settings { seed: 1, keys: File(\"k\"), answers: \"\", limit: Limit { events: 9 } }, rude: Some(7), html: Some(\"p\") })",
+        "Ok(Profile { source: \"a\", settings: Settings { seed: 1, keys: File(\"k\"), answers: \"\", limit: Limit { events: 9 } }, rude: Some(7), html: Some(\"p\") })",
     ),
     (
         &["disk", "o", "a"],
-        b"Ok(Disk { out: \"o\", files: [\"a\"] })",
+        "Ok(Disk { out: \"o\", files: [\"a\"] })",
     ),
     (
         &["disk", "o", "b", "--", "a", "-b"],
-        b"Ok(Disk { out: \"o\", files: [\"b\", \"a\", \"-b\"] })",
+        "Ok(Disk { out: \"o\", files: [\"b\", \"a\", \"-b\"] })",
     ),
-    (&["check", "a"], b"Ok(Check { sources: [\"a\"] })"),
+    (&["check", "a"], "Ok(Check { sources: [\"a\"] })"),
     (
         &["check", "a", "b", "--", "-c"],
-        b"Ok(Check { sources: [\"a\", \"b\", \"-c\"] })",
+        "Ok(Check { sources: [\"a\", \"b\", \"-c\"] })",
     ),
     (
         &["step", "a"],
-        b"Ok(Step { source: \"a\", settings: Settings { seed: 1, keys: Digits(\"\"), answers: \"\", limit: Limit { events: 10000000 } } })",
+        "Ok(Step { source: \"a\", settings: Settings { seed: 1, keys: Digits(\"\"), answers: \"\", limit: Limit { events: 10000000 } } })",
     ),
     (
         &["step", "--keys-file=k", "a"],
-        b"Ok(Step { source: \"a\", settings: Settings { seed: 1, keys: File(\"k\"), answers: \"\", limit: Limit { events: 10000000 } } })",
+        "Ok(Step { source: \"a\", settings: Settings { seed: 1, keys: File(\"k\"), answers: \"\", limit: Limit { events: 10000000 } } })",
     ),
     (
         &[
@@ -127,7 +127,7 @@ static JOBS: [(&[&str], &[u8]); 22] = [
             "--seed",
             "7",
         ],
-        b"Ok(Step { source: \"a\", settings: Settings { seed: 7, keys: Digits(\"31\"), answers: \"03\", limit: Limit { events: 5 } } })",
+        "Ok(Step { source: \"a\", settings: Settings { seed: 7, keys: Digits(\"31\"), answers: \"03\", limit: Limit { events: 5 } } })",
     ),
 ];
 
@@ -162,22 +162,22 @@ static REFUSED: [&[&str]; 26] = [
 ];
 
 /// Words that ask for a text, and how it begins.
-static TEXTS: [(&[&str], &[u8]); 6] = [
-    (&["--help"], b"Ok(Show { text: \"Compiles Tiny BASIC"),
-    (&["-h"], b"Ok(Show { text: \"Compiles Tiny BASIC"),
+static TEXTS: [(&[&str], &str); 6] = [
+    (&["--help"], "Ok(Show { text: \"Compiles Tiny BASIC"),
+    (&["-h"], "Ok(Show { text: \"Compiles Tiny BASIC"),
     (
         &["run", "--help"],
-        b"Ok(Show { text: \"Run a source or a PRG file",
+        "Ok(Show { text: \"Run a source or a PRG file",
     ),
     (
         &["play", "-h"],
-        b"Ok(Show { text: \"Play a source or a PRG file",
+        "Ok(Show { text: \"Play a source or a PRG file",
     ),
     (
         &["check", "--help"],
-        b"Ok(Show { text: \"Show everything that is wrong",
+        "Ok(Show { text: \"Show everything that is wrong",
     ),
-    (&["--version"], b"Ok(Show { text: \"tbc "),
+    (&["--version"], "Ok(Show { text: \"tbc "),
 ];
 
 // What becomes of words, as a text.
@@ -186,12 +186,16 @@ fn shown(alloc: Global, words: &[&str]) -> Result<String, Fail> {
     Ok(format!(in alloc; "{job:?}")?)
 }
 
-fn becomes(alloc: Global, words: &[&str], wanted: &[u8]) -> Result<bool, Fail> {
-    Ok(shown(alloc, words)?.as_bytes() == wanted)
+fn becomes(alloc: Global, words: &[&str], wanted: &str) -> Result<bool, Fail> {
+    Ok(shown(alloc, words)?.as_str() == wanted)
 }
 
-fn begins(alloc: Global, words: &[&str], beginning: &[u8]) -> Result<bool, Fail> {
-    Ok(shown(alloc, words)?.as_bytes().starts_with(beginning))
+fn begins(alloc: Global, words: &[&str], beginning: &str) -> Result<bool, Fail> {
+    Ok(
+        shown(alloc, words)?
+            .as_bytes()
+            .starts_with(beginning.as_bytes()),
+    )
 }
 
 #[test]
@@ -206,7 +210,7 @@ fn words_become_jobs(rt: HostRuntime) -> Result<(), Fail> {
 fn words_that_are_refused(rt: HostRuntime) -> Result<(), Fail> {
     for &words in &REFUSED {
         assert!(rt;
-            begins(rt.alloc(), words, b"Err(Words(\"error: ")?,
+            begins(rt.alloc(), words, "Err(Words(\"error: ")?,
             "{words:?}"
         );
     }

@@ -63,7 +63,7 @@ fn run_past(alloc: Global, machine: &mut Machine, event: usize, s: u8) -> Result
 impl Row<'_> {
     // Whether it shows a fault, or something is typed or waited for.
     fn faults_or_asks(&self) -> bool {
-        self.shown.contains(&b'!') || !self.keys.is_empty() || self.status == 6
+        self.shown.as_bytes().contains(&b'!') || !self.keys.is_empty() || self.status == 6
     }
 
     // The stack pointer before each event that the program takes beside a quiet ROM.

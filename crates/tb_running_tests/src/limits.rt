@@ -8,12 +8,12 @@ use tb_kernal::{Machine, Quiet, Rude, Status, run};
 use tb_runtime16::{Routine, entry};
 
 const ONES: Row<'static> = Row {
-    source: b"10 PRINT 1\n20 GOTO 10",
+    source: "10 PRINT 1\n20 GOTO 10",
     ..PLAIN
 };
 
 const LETTERS: Row<'static> = Row {
-    source: b"10 PRINT \"A\";\n20 GOTO 10",
+    source: "10 PRINT \"A\";\n20 GOTO 10",
     ..PLAIN
 };
 
@@ -120,10 +120,10 @@ fn row_searches(alloc: Global, row: &Row<'_>) -> Result<bool, Fail> {
 // A jump to a number is direct; one to a variable searches the table.
 #[test]
 fn a_direct_jump_searches_for_nothing(rt: HostRuntime) -> Result<(), Fail> {
-    let sources: [(&[u8], bool); 3] = [
-        (b"10 GOTO 20\n20 END", false),
-        (b"10 GOTO 5*4\n20 END", false),
-        (b"10 A=20\n15 GOTO A\n20 END", true),
+    let sources: [(&str, bool); 3] = [
+        ("10 GOTO 20\n20 END", false),
+        ("10 GOTO 5*4\n20 END", false),
+        ("10 A=20\n15 GOTO A\n20 END", true),
     ];
     for &(source, searches) in &sources {
         let row = Row { source, ..PLAIN };

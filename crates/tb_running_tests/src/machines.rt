@@ -75,7 +75,7 @@ impl Row<'_> {
         outside: &mut O,
     ) -> Result<(u8, String), Fail> {
         let keyboard = keyboard_of(alloc, self.keys, self.answers)?;
-        let mut source = Tracked::new(self.source);
+        let mut source = Tracked::new(self.source.as_bytes());
         let report = run_text(
             alloc,
             &mut source,
@@ -107,7 +107,7 @@ impl Row<'_> {
 
     /// The program, compiled.
     pub fn compiled(&self, alloc: Global) -> Result<Compiled, Fail> {
-        Ok(compile(alloc, self.source, Options { seed: self.seed })?)
+        Ok(compile(alloc, self.source.as_bytes(), Options { seed: self.seed })?)
     }
 
     /// The machine that is about to run a program.
@@ -129,7 +129,10 @@ impl Row<'_> {
     /// Whether a machine has ended and sent as the row says.
     pub fn is_done_by(&self, alloc: Global, machine: &Machine) -> Result<bool, Fail> {
         let shown = host_form(alloc, machine.sent())?;
-        Ok(exit_status(machine.status()) == self.status && shown.as_slice() == self.shown)
+        Ok(
+            exit_status(machine.status()) == self.status
+                && shown.as_slice() == self.shown.as_bytes(),
+        )
     }
 }
 

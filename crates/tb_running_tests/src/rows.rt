@@ -5,7 +5,7 @@ use std::test::Fail;
 /// A program, what it is run on, and what it comes to.
 #[derive(Clone, Copy)]
 pub struct Row<'a> {
-    pub source: &'a [u8],
+    pub source: &'a str,
     /// The first RND state.
     pub seed: u16,
     /// The keyboard's text.
@@ -15,263 +15,263 @@ pub struct Row<'a> {
     /// The exit status.
     pub status: u8,
     /// The text on standard output.
-    pub shown: &'a [u8],
+    pub shown: &'a str,
     /// The text on standard error.
-    pub said: &'a [u8],
+    pub said: &'a str,
 }
 
 /// A program that shows nothing and ends.
 pub const PLAIN: Row<'static> = Row {
-    source: b"",
+    source: "",
     seed: 1,
     keys: b"",
     answers: b"",
     status: 0,
-    shown: b"",
-    said: b"",
+    shown: "",
+    said: "",
 };
 
 const TWO_INPUTS: Row<'static> = Row {
-    source: b"10 INPUT A,B\n20 PRINT A+B\n30 END",
+    source: "10 INPUT A,B\n20 PRINT A+B\n30 END",
     ..PLAIN
 };
 
 const HELLO: Row<'static> = Row {
-    source: b"10 PRINT \"HELLO\"\n20 END",
+    source: "10 PRINT \"HELLO\"\n20 END",
     ..PLAIN
 };
 
 static ROWS: [Row<'static>; 45] = [
     Row {
-        shown: b"HELLO\n",
+        shown: "HELLO\n",
         ..HELLO
     },
     Row {
-        source: b"10 PRINT \"a b\"",
-        shown: b"A B\n\n!7 AT 10\n",
+        source: "10 PRINT \"a b\"",
+        shown: "A B\n\n!7 AT 10\n",
         ..PLAIN
     },
     Row {
-        source: b"10 PRINT 1,2,3\n20 PRINT 1;2;3\n30 PRINT \"AB\",\n40 PRINT \"C\"\n50 END",
-        shown: b"1       2       3\n123\nAB      C\n",
+        source: "10 PRINT 1,2,3\n20 PRINT 1;2;3\n30 PRINT \"AB\",\n40 PRINT \"C\"\n50 END",
+        shown: "1       2       3\n123\nAB      C\n",
         ..PLAIN
     },
     Row {
-        source: b"10 PRINT \"12345678\",9\n20 END",
-        shown: b"12345678        9\n",
+        source: "10 PRINT \"12345678\",9\n20 END",
+        shown: "12345678        9\n",
         ..PLAIN
     },
     Row {
-        source: b"10 PRINT 32767+1\n20 END",
-        shown: b"-32768\n",
+        source: "10 PRINT 32767+1\n20 END",
+        shown: "-32768\n",
         ..PLAIN
     },
     Row {
-        source: b"10 PRINT (0-32768)/(0-1)\n20 PRINT (0-7)/2\n30 END",
-        shown: b"-32768\n-3\n",
+        source: "10 PRINT (0-32768)/(0-1)\n20 PRINT (0-7)/2\n30 END",
+        shown: "-32768\n-3\n",
         ..PLAIN
     },
     Row {
-        source: b"10 IF 0-32768<32767 PRINT \"YES\"\n20 END",
-        shown: b"YES\n",
+        source: "10 IF 0-32768<32767 PRINT \"YES\"\n20 END",
+        shown: "YES\n",
         ..PLAIN
     },
     Row {
-        source: b"10 PRINT \"A\";1/0\n20 END",
-        shown: b"A\n!2 AT 10\n",
+        source: "10 PRINT \"A\";1/0\n20 END",
+        shown: "A\n!2 AT 10\n",
         ..PLAIN
     },
     Row {
-        source: b"10 PRINT RND(10);RND(10)\n20 END",
-        shown: b"27\n",
+        source: "10 PRINT RND(10);RND(10)\n20 END",
+        shown: "27\n",
         ..PLAIN
     },
     Row {
-        source: b"10 PRINT RND(0)",
-        shown: b"\n!3 AT 10\n",
+        source: "10 PRINT RND(0)",
+        shown: "\n!3 AT 10\n",
         ..PLAIN
     },
     Row {
-        source: b"10 A=4\n20 GOTO 10*A\n30 PRINT \"NO\"\n40 END",
+        source: "10 A=4\n20 GOTO 10*A\n30 PRINT \"NO\"\n40 END",
         ..PLAIN
     },
     Row {
-        source: b"10 A=5\n20 GOTO 10*A\n30 PRINT \"NO\"\n40 END",
-        shown: b"\n!1 AT 20\n",
+        source: "10 A=5\n20 GOTO 10*A\n30 PRINT \"NO\"\n40 END",
+        shown: "\n!1 AT 20\n",
         ..PLAIN
     },
     Row {
-        source: b"10 A=4\n20 GOTO 10-20\n30 PRINT \"NO\"\n40 END",
-        shown: b"\n!1 AT 20\n",
-        said: b"tbc: warning: line 20: no line -10\n",
+        source: "10 A=4\n20 GOTO 10-20\n30 PRINT \"NO\"\n40 END",
+        shown: "\n!1 AT 20\n",
+        said: "tbc: warning: line 20: no line -10\n",
         ..PLAIN
     },
     Row {
-        source: b"10 GOTO 99",
-        shown: b"\n!1 AT 10\n",
-        said: b"tbc: warning: line 10: no line 99\n",
+        source: "10 GOTO 99",
+        shown: "\n!1 AT 10\n",
+        said: "tbc: warning: line 10: no line 99\n",
         ..PLAIN
     },
     Row {
-        source: b"10 INPUT A\n20 GOTO 1\n30 GOSUB 2",
+        source: "10 INPUT A\n20 GOTO 1\n30 GOSUB 2",
         status: 6,
-        shown: b"? ",
-        said: b"tbc: warning: line 20: no line 1\ntbc: warning: line 30: no line 2\ntbc: waits for a key\n",
+        shown: "? ",
+        said: "tbc: warning: line 20: no line 1\ntbc: warning: line 30: no line 2\ntbc: waits for a key\n",
         ..PLAIN
     },
     Row {
         keys: b"3, -4\r",
-        shown: b"? \n-1\n",
+        shown: "? \n-1\n",
         ..TWO_INPUTS
     },
     Row {
         keys: b"70000,0\r",
-        shown: b"? \n4464\n",
+        shown: "? \n4464\n",
         ..TWO_INPUTS
     },
     Row {
         keys: b"5\r",
         status: 6,
-        shown: b"? \n? ",
-        said: b"tbc: waits for a key\n",
+        shown: "? \n? ",
+        said: "tbc: waits for a key\n",
         ..TWO_INPUTS
     },
     Row {
         keys: b"X",
-        shown: b"? \n!6 AT 10\n",
+        shown: "? \n!6 AT 10\n",
         ..TWO_INPUTS
     },
     Row {
         keys: b"\r",
-        shown: b"? \n!6 AT 10\n",
+        shown: "? \n!6 AT 10\n",
         ..TWO_INPUTS
     },
     Row {
         keys: b"1",
         status: 6,
-        shown: b"? ",
-        said: b"tbc: waits for a key\n",
+        shown: "? ",
+        said: "tbc: waits for a key\n",
         ..TWO_INPUTS
     },
     Row {
-        source: b"10 INPUT A\n20 INPUT B\n30 PRINT B\n40 END",
+        source: "10 INPUT A\n20 INPUT B\n30 PRINT B\n40 END",
         keys: b"1,2\r",
-        shown: b"? \n2\n",
+        shown: "? \n2\n",
         ..PLAIN
     },
     Row {
-        source: b"10 A=A+1\n20 IF A=65 END\n30 GOSUB 10",
+        source: "10 A=A+1\n20 IF A=65 END\n30 GOSUB 10",
         ..PLAIN
     },
     Row {
-        source: b"10 A=A+1\n20 IF A=66 END\n30 GOSUB 10",
+        source: "10 A=A+1\n20 IF A=66 END\n30 GOSUB 10",
         ..PLAIN
     },
     Row {
-        source: b"10 A=A+1\n20 IF A=501 END\n30 GOSUB 10",
+        source: "10 A=A+1\n20 IF A=501 END\n30 GOSUB 10",
         ..PLAIN
     },
     Row {
-        source: b"10 A=A+1\n20 IF A=502 END\n30 GOSUB 10",
-        shown: b"\n!4 AT 30\n",
+        source: "10 A=A+1\n20 IF A=502 END\n30 GOSUB 10",
+        shown: "\n!4 AT 30\n",
         ..PLAIN
     },
     Row {
-        source: b"10 RETURN",
-        shown: b"\n!5 AT 10\n",
+        source: "10 RETURN",
+        shown: "\n!5 AT 10\n",
         ..PLAIN
     },
     Row {
-        source: b"10 GOTO 30\n20 RETURN\n30 GOSUB 20",
-        shown: b"\n!7 AT 30\n",
+        source: "10 GOTO 30\n20 RETURN\n30 GOSUB 20",
+        shown: "\n!7 AT 30\n",
         ..PLAIN
     },
     Row {
-        source: b"30 END\n10 PRINT 1\n10 PRINT 2\n20 PRINT 3\n20",
-        shown: b"2\n",
+        source: "30 END\n10 PRINT 1\n10 PRINT 2\n20 PRINT 3\n20",
+        shown: "2\n",
         ..PLAIN
     },
     Row {
-        source: b"5 GOTO100\n10 PRINT 1\n100 END",
+        source: "5 GOTO100\n10 PRINT 1\n100 END",
         ..PLAIN
     },
     Row {
-        source: b"10 I=1\n20 IF I=I F=5\n30 PRINT F\n40 IF P=P REM\n50 END",
-        shown: b"5\n",
+        source: "10 I=1\n20 IF I=I F=5\n30 PRINT F\n40 IF P=P REM\n50 END",
+        shown: "5\n",
         ..PLAIN
     },
     Row {
-        source: b"10 PRINT 1+(1+(1+(1+(1+(1+(1+(1+(1+(1+(1+(1+(1+(1+(1+(1)))))))))))))))\n20 END",
-        shown: b"16\n",
+        source: "10 PRINT 1+(1+(1+(1+(1+(1+(1+(1+(1+(1+(1+(1+(1+(1+(1+(1)))))))))))))))\n20 END",
+        shown: "16\n",
         ..PLAIN
     },
     Row {
-        source: b"10 PRINT 1/0*0",
-        shown: b"\n!2 AT 10\n",
+        source: "10 PRINT 1/0*0",
+        shown: "\n!2 AT 10\n",
         ..PLAIN
     },
     Row {
-        source: b"10 PRINT 0*RND(0)",
-        shown: b"\n!3 AT 10\n",
+        source: "10 PRINT 0*RND(0)",
+        shown: "\n!3 AT 10\n",
         ..PLAIN
     },
     Row {
-        source: b"10 PRINT 0*RND(10);RND(10)\n20 END",
-        shown: b"07\n",
+        source: "10 PRINT 0*RND(10);RND(10)\n20 END",
+        shown: "07\n",
         ..PLAIN
     },
     Row {
-        source: b"10 IF 1=1 GOTO 10*3\n20 PRINT \"NO\"\n30 PRINT 6*7\n40 END",
-        shown: b"42\n",
+        source: "10 IF 1=1 GOTO 10*3\n20 PRINT \"NO\"\n30 PRINT 6*7\n40 END",
+        shown: "42\n",
         ..PLAIN
     },
     Row {
-        source: b"10 PRINT \"A\"",
-        shown: b"A\n\n!7 AT 10\n",
+        source: "10 PRINT \"A\"",
+        shown: "A\n\n!7 AT 10\n",
         ..PLAIN
     },
     Row {
-        source: b"10 LET A=-1\n20 PRINT \"\";A\n30 PRINT\n40 END",
-        shown: b"-1\n\n",
+        source: "10 LET A=-1\n20 PRINT \"\";A\n30 PRINT\n40 END",
+        shown: "-1\n\n",
         ..PLAIN
     },
     Row {
-        source: b"10 REM a remark: ~{}\n20 pr \"a\"\n30 e n d",
-        shown: b"A\n",
+        source: "10 REM a remark: ~{}\n20 pr \"a\"\n30 e n d",
+        shown: "A\n",
         ..PLAIN
     },
     Row {
         answers: b"\x03",
-        shown: b"\n!0 AT 10\n",
+        shown: "\n!0 AT 10\n",
         ..HELLO
     },
     Row {
         answers: b"A\x00\x03",
-        shown: b"HELLO\n",
+        shown: "HELLO\n",
         ..HELLO
     },
     Row {
-        source: b"10 PRINT \"A\";\n20 GOTO 10",
+        source: "10 PRINT \"A\";\n20 GOTO 10",
         answers: b"\x00\x00\x00\x03",
-        shown: b"AA\n!0 AT 20\n",
+        shown: "AA\n!0 AT 20\n",
         ..PLAIN
     },
     Row {
-        source: b"10 PRINT \"A\"",
+        source: "10 PRINT \"A\"",
         answers: b"\x00\x03",
-        shown: b"A\n\n!7 AT 10\n",
+        shown: "A\n\n!7 AT 10\n",
         ..PLAIN
     },
     Row {
-        source: b"10 PRINT RND(10)\n20 END",
+        source: "10 PRINT RND(10)\n20 END",
         seed: 39022,
-        shown: b"7\n",
+        shown: "7\n",
         ..PLAIN
     },
     Row {
-        source: b"10 PRINT RND(10)\n20 END",
+        source: "10 PRINT RND(10)\n20 END",
         seed: 0,
-        shown: b"9\n",
+        shown: "9\n",
         ..PLAIN
     },
 ];
@@ -289,21 +289,21 @@ pub fn rows(alloc: Global, long: &LongSources) -> Result<Vec<Row<'_>>, Fail> {
     Ok(rows)
 }
 
-fn append_end(alloc: Global, source: &mut Vec<u8>, line: u16) -> Result<(), Fail> {
+fn append_end(alloc: Global, source: &mut String, line: u16) -> Result<(), Fail> {
     let text = format!(in alloc; "{line} END\n")?;
-    Ok(source.extend_from_slice(text.as_bytes())?)
+    Ok(source.push_str(text.as_str())?)
 }
 
-fn append_search(alloc: Global, source: &mut Vec<u8>) -> Result<(), Fail> {
-    source.extend_from_slice(b"10 INPUT A\n20 GOTO A\n")?;
+fn append_search(alloc: Global, source: &mut String) -> Result<(), Fail> {
+    source.push_str("10 INPUT A\n20 GOTO A\n")?;
     for line in (30..3000u16).step_by(10) {
         append_end(alloc, source, line)?;
     }
-    Ok(source.extend_from_slice(b"3000 PRINT \"Z\"")?)
+    Ok(source.push_str("3000 PRINT \"Z\"")?)
 }
 
-fn append_largest(alloc: Global, source: &mut Vec<u8>) -> Result<(), Fail> {
-    source.extend_from_slice(b"1 PRINT \"\"\n")?;
+fn append_largest(alloc: Global, source: &mut String) -> Result<(), Fail> {
+    source.push_str("1 PRINT \"\"\n")?;
     for line in 2..1051u16 {
         append_end(alloc, source, line)?;
     }
@@ -314,16 +314,16 @@ fn append_largest(alloc: Global, source: &mut Vec<u8>) -> Result<(), Fail> {
 #[derive(Drop)]
 pub struct LongSources {
     /// Goes to the line that is typed, among the lines 30, 40, .. 3000.
-    search: Vec<u8>,
+    search: String,
     /// The largest program that compiles.
-    largest: Vec<u8>,
+    largest: String,
 }
 
 impl LongSources {
     pub fn new(alloc: Global) -> Result<LongSources, Fail> {
-        let mut search = Vec::new(alloc);
+        let mut search = String::new(alloc);
         append_search(alloc, &mut search)?;
-        let mut largest = Vec::new(alloc);
+        let mut largest = String::new(alloc);
         append_largest(alloc, &mut largest)?;
         Ok(LongSources { search, largest })
     }
@@ -331,48 +331,48 @@ impl LongSources {
     /// Their rows.
     fn rows(&self) -> [Row<'_>; 8] {
         let jump = Row {
-            source: self.search.as_slice(),
+            source: self.search.as_str(),
             ..PLAIN
         };
         [
             Row {
                 keys: b"3000\r",
-                shown: b"? \nZ\n\n!7 AT 3000\n",
+                shown: "? \nZ\n\n!7 AT 3000\n",
                 ..jump
             },
             Row {
                 keys: b"30\r",
-                shown: b"? \n",
+                shown: "? \n",
                 ..jump
             },
             Row {
                 keys: b"2990\r",
-                shown: b"? \n",
+                shown: "? \n",
                 ..jump
             },
             Row {
                 keys: b"25\r",
-                shown: b"? \n\n!1 AT 20\n",
+                shown: "? \n\n!1 AT 20\n",
                 ..jump
             },
             Row {
                 keys: b"3001\r",
-                shown: b"? \n\n!1 AT 20\n",
+                shown: "? \n\n!1 AT 20\n",
                 ..jump
             },
             Row {
                 keys: b"0\r",
-                shown: b"? \n\n!1 AT 20\n",
+                shown: "? \n\n!1 AT 20\n",
                 ..jump
             },
             Row {
                 keys: b"-1\r",
-                shown: b"? \n\n!1 AT 20\n",
+                shown: "? \n\n!1 AT 20\n",
                 ..jump
             },
             Row {
-                source: self.largest.as_slice(),
-                shown: b"\n",
+                source: self.largest.as_str(),
+                shown: "\n",
                 ..PLAIN
             },
         ]

@@ -14,8 +14,8 @@ impl Row<'_> {
         let ran = self.run_by_engine(alloc, LIMIT, outside)?;
         Ok(
             ran.status == self.status
-                && ran.shown.as_slice() == self.shown
-                && ran.said.as_bytes() == self.said,
+                && ran.shown.as_slice() == self.shown.as_bytes()
+                && ran.said.as_str() == self.said,
         )
     }
 
@@ -136,7 +136,7 @@ fn first_failed<'a>(
     alloc: Global,
     rows: &[Row<'a>],
     trial: Trial,
-) -> Result<Option<&'a [u8]>, Fail> {
+) -> Result<Option<&'a str>, Fail> {
     for row in rows {
         if !row.passes(alloc, trial)? {
             return Ok(Some(row.source));

@@ -10,7 +10,7 @@ use tb_streams::Tracked;
 
 // In a dialogue each command stands behind `> `, and the other lines are answered.
 
-const LINES_FORTH_AND_BACK: &[u8] = b"10 LET A=3
+const LINES_FORTH_AND_BACK: &str = "10 LET A=3
 > n
 20 PRINT A
 > n
@@ -62,7 +62,7 @@ none
 > q
 ";
 
-const BREAKPOINTS: &[u8] = b"10 LET A=3
+const BREAKPOINTS: &str = "10 LET A=3
 > b
 none
 > b 30
@@ -109,7 +109,7 @@ returned
 no such line
 ";
 
-const WATCHES: &[u8] = b"10 LET A=3
+const WATCHES: &str = "10 LET A=3
 > w a
 set
 > c
@@ -142,7 +142,7 @@ what?
 what?
 ";
 
-const A_WATCH_FROM_WITHIN_A_LINE: &[u8] = b"10 LET A=3
+const A_WATCH_FROM_WITHIN_A_LINE: &str = "10 LET A=3
 > w A
 set
 > s 6
@@ -157,7 +157,7 @@ A=3
 10 LET A=3
 ";
 
-const A_BREAKPOINT_IN_A_SUBROUTINE: &[u8] = b"10 LET N=4
+const A_BREAKPOINT_IN_A_SUBROUTINE: &str = "10 LET N=4
 > b 140
 set
 > b 110
@@ -209,7 +209,7 @@ S=9
 S=0
 ";
 
-const A_PROGRAM_THAT_WAITS: &[u8] = b"10 PRINT \"A,B\"
+const A_PROGRAM_THAT_WAITS: &str = "10 PRINT \"A,B\"
 > n
 | A,B
 20 INPUT A,B
@@ -262,7 +262,7 @@ returned
 20 INPUT A,B
 ";
 
-const A_PROGRAM_THAT_FAULTS: &[u8] = b"10 LET A=2
+const A_PROGRAM_THAT_FAULTS: &str = "10 LET A=2
 > c
 | 3
 | 6
@@ -277,7 +277,7 @@ none
 none
 ";
 
-const A_PROGRAM_THAT_RUNS_FOREVER: &[u8] = b"10 LET A=RND(6)
+const A_PROGRAM_THAT_RUNS_FOREVER: &str = "10 LET A=RND(6)
 > g 50
 no such line
 > t 9
@@ -294,7 +294,7 @@ set
 cleared
 ";
 
-const WHAT_IS_DRAWN: &[u8] = b"10 LET I=1
+const WHAT_IS_DRAWN: &str = "10 LET I=1
 > c
 | *
 | **
@@ -308,7 +308,7 @@ returned
 | *
 ";
 
-const THE_MACHINE: &[u8] = b"10 LET A=3
+const THE_MACHINE: &str = "10 LET A=3
 > x
 0C00 A=00 X=F0 Y=00 S=F0 P=B0 10 running
 > i
@@ -340,7 +340,7 @@ what?
 ";
 
 /// Programs, and dialogues about them.
-static DIALOGUES: [(&[u8], &[u8]); 10] = [
+static DIALOGUES: [(&[u8], &str); 10] = [
     (LOOP, LINES_FORTH_AND_BACK),
     (LOOP, BREAKPOINTS),
     (LOOP, WATCHES),
@@ -396,6 +396,7 @@ fn awaited(alloc: Global, source: &[u8], dialogue: &[u8]) -> Result<(u8, Vec<u8>
 #[test]
 fn dialogues(rt: HostRuntime) -> Result<(), Fail> {
     for &(source, dialogue) in &DIALOGUES {
+        let dialogue = dialogue.as_bytes();
         let (status, text) = awaited(rt.alloc(), source, dialogue)?;
         assert_eq!(rt; (status, text), (0, wanted(rt.alloc(), dialogue)?));
     }

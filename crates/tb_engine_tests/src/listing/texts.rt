@@ -3,10 +3,10 @@ use std::test::Fail;
 use tb_listing::make;
 
 /// Of two lines of a number the last counts. A line's number may be an address of the code.
-const SOURCE: &[u8] = b"10 REM ONCE\n10 PRINT \"H\"\n20 gosub 3072\n3072 LET B=A*2\n3080 RETURN\n";
+const SOURCE: &str = "10 REM ONCE\n10 PRINT \"H\"\n20 gosub 3072\n3072 LET B=A*2\n3080 RETURN\n";
 
 /// The text of a PRINT, by the names of what lies where.
-const PRINTED: &[u8] = b"  BEQ at0C61 ; 0C05  F0 5A
+const PRINTED: &str = "  BEQ at0C61 ; 0C05  F0 5A
   LDA #<text0C1A ; 0C07  A9 1A
   STA $FB ; 0C09  85 FB  left
   LDA #>text0C1A ; 0C0B  A9 0C
@@ -27,7 +27,7 @@ line20:
 ";
 
 /// What belongs to no line.
-const BEHIND: &[u8] = b"past:
+const BEHIND: &str = "past:
   LDX #$08 ; 0CD3  A2 08
   LDY #$0C ; 0CD5  A0 0C
   LDA #$07 ; 0CD7  A9 07
@@ -53,7 +53,7 @@ line_table:
   .word line3080 ; 0CFF  8D 0C
 ";
 
-const LABELS: &[u8] = b"al C:0be4 .poll
+const LABELS: &str = "al C:0be4 .poll
 al C:0c00 .line10
 al C:0c25 .line20
 al C:0c73 .line3072
@@ -62,7 +62,7 @@ al C:0cf1 .line_table
 al C:c000 .varA
 ";
 
-const MAP: &[u8] = b"part        addr   bytes    cost
+const MAP: &str = "part        addr   bytes    cost
 block       080D    1011      64
 line 10     0C00      37      61
 line 20     0C25      78     132
@@ -84,10 +84,10 @@ fn contains(text: &[u8], part: &[u8]) -> bool {
 
 #[test]
 fn listings_labels_and_maps_have_their_names(rt: HostRuntime) -> Result<(), Fail> {
-    let made = make(rt.alloc(), SOURCE, 1)?;
-    assert!(rt; contains(&made.listing, PRINTED));
-    assert!(rt; made.listing.ends_with(BEHIND));
-    assert!(rt; contains(&made.labels, LABELS));
-    assert!(rt; made.map.as_slice() == MAP);
+    let made = make(rt.alloc(), SOURCE.as_bytes(), 1)?;
+    assert!(rt; contains(&made.listing, PRINTED.as_bytes()));
+    assert!(rt; made.listing.ends_with(BEHIND.as_bytes()));
+    assert!(rt; contains(&made.labels, LABELS.as_bytes()));
+    assert!(rt; made.map.as_slice() == MAP.as_bytes());
     Ok(())
 }

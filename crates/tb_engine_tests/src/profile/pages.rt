@@ -1,5 +1,5 @@
 //! Pages: what a browser would take for its own stands escaped, and each row stands once.
-use crate::profile::programs::{PROGRAMS, Program, profiles};
+use crate::profile::programs::{Program, profiles, programs};
 use std::alloc::Global;
 use std::test::Fail;
 use tb_streams::Tracked;
@@ -7,11 +7,11 @@ use tb_streams::Tracked;
 /// A program whose line has each byte that is escaped.
 const MARKED: Program = Program {
     name: "marks",
-    source: b"10 PRINT \"<A & 'B'>\"\n20 END\n",
+    source: "10 PRINT \"<A & 'B'>\"\n20 END\n",
     keys: b"",
     limit: 10_000,
     status: 0,
-    table: b"",
+    table: "",
 };
 
 fn page_of(alloc: Global, program: &Program) -> Vec<u8> {
@@ -19,7 +19,7 @@ fn page_of(alloc: Global, program: &Program) -> Vec<u8> {
     let (_, page) = profiles(
         alloc,
         program,
-        &mut Tracked::new(program.source),
+        &mut Tracked::new(program.source.as_bytes()),
         &mut writer,
     );
     page
@@ -48,9 +48,13 @@ fn a_statement_stands_for_itself(rt: HostRuntime) -> Result<(), Fail> {
 
 #[test]
 fn a_page_has_a_row_for_each_line(rt: HostRuntime) -> Result<(), Fail> {
-    for program in &PROGRAMS {
+    for program in programs() {
         let page = page_of(rt.alloc(), program);
-        let rows = program.table.split(|byte| *byte == b'\n').count();
+        let rows = program
+            .table
+            .as_bytes()
+            .split(|byte| *byte == b'\n')
+            .count();
         assert!(rt; page.as_slice().starts_with(b"<!DOCTYPE html>\n"));
         assert!(rt; page.as_slice().ends_with(b"</table>\n</body>\n</html>\n"));
         assert_eq!(rt;

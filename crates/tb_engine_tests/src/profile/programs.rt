@@ -7,13 +7,14 @@ use tb_streams::Tracked;
 use tb_test_parts::keyboard_of;
 
 /// A source, what is typed, a limit of events, and what comes of it.
+#[derive(Clone, Copy)]
 pub struct Program {
     pub name: &'static str,
-    pub source: &'static [u8],
+    pub source: &'static str,
     pub keys: &'static [u8],
     pub limit: u32,
     pub status: u8,
-    pub table: &'static [u8],
+    pub table: &'static str,
 }
 
 /// The status and the page of a profile.
@@ -38,14 +39,14 @@ pub fn profiles<R: Read, W: Write>(
     (report.outcome.status(), page)
 }
 
-pub const PROGRAMS: [Program; 8] = [
-    Program {
-        name: "a loop",
-        source: b"10 LET I=1\n20 PRINT I\n30 LET I=I+1\n40 IF I<6 GOTO 20\n50 END\n",
-        keys: b"",
-        limit: 100_000,
-        status: 0,
-        table: b" line      times instructions        cycles   share  statement
+/// The first of them.
+pub const LOOP: Program = Program {
+    name: "a loop",
+    source: "10 LET I=1\n20 PRINT I\n30 LET I=I+1\n40 IF I<6 GOTO 20\n50 END\n",
+    keys: b"",
+    limit: 100_000,
+    status: 0,
+    table: " line      times instructions        cycles   share  statement
 start          1          192           634   35.5%
    10          1            8            28    1.6%  LET I=1
    20          5          250           815   45.6%  PRINT I
@@ -54,14 +55,17 @@ start          1          192           634   35.5%
    50          1            5            22    1.2%  END
   sum         17          535          1788  100.0%
 ",
-    },
+};
+
+static PROGRAMS: [Program; 8] = [
+    LOOP,
     Program {
         name: "GOSUB",
-        source: b"10 LET A=7\n20 GOSUB 100\n30 GOSUB 100\n40 END\n100 PRINT A*A\n110 RETURN\n",
+        source: "10 LET A=7\n20 GOSUB 100\n30 GOSUB 100\n40 END\n100 PRINT A*A\n110 RETURN\n",
         keys: b"",
         limit: 100_000,
         status: 0,
-        table: b" line      times instructions        cycles   share  statement
+        table: " line      times instructions        cycles   share  statement
 start          1          192           634   31.6%
    10          1            8            28    1.4%  LET A=7
    20          1           14            52    2.6%  GOSUB 100
@@ -74,11 +78,11 @@ start          1          192           634   31.6%
     },
     Program {
         name: "a fault",
-        source: b"10 LET A=0\n20 PRINT 1/A\n30 PRINT 2\n",
+        source: "10 LET A=0\n20 PRINT 1/A\n30 PRINT 2\n",
         keys: b"",
         limit: 100_000,
         status: 0,
-        table: b" line      times instructions        cycles   share  statement
+        table: " line      times instructions        cycles   share  statement
 start          1          192           634   52.3%
    10          1            8            28    2.3%  LET A=0
    20          1          161           551   45.4%  PRINT 1/A
@@ -88,11 +92,11 @@ start          1          192           634   52.3%
     },
     Program {
         name: "a wait for a key",
-        source: b"10 PRINT \"HOW MANY\"\n20 INPUT A,B\n30 PRINT A+B\n",
+        source: "10 PRINT \"HOW MANY\"\n20 INPUT A,B\n30 PRINT A+B\n",
         keys: b"12\r",
         limit: 100_000,
         status: 6,
-        table: b" line      times instructions        cycles   share  statement
+        table: " line      times instructions        cycles   share  statement
 start          1          192           634   36.0%
    10          1          116           473   26.8%  PRINT \"HOW MANY\"
    20          1          188           655   37.2%  INPUT A,B
@@ -102,11 +106,11 @@ start          1          192           634   36.0%
     },
     Program {
         name: "an end before any line",
-        source: b"10 PRINT 1\n20 END\n",
+        source: "10 PRINT 1\n20 END\n",
         keys: b"",
         limit: 100,
         status: 5,
-        table: b" line      times instructions        cycles   share  statement
+        table: " line      times instructions        cycles   share  statement
 start          1          100           331  100.0%
    10          0            0             0    0.0%  PRINT 1
    20          0            0             0    0.0%  END
@@ -115,11 +119,11 @@ start          1          100           331  100.0%
     },
     Program {
         name: "a line that is never reached",
-        source: b"10 GOTO 30\n20 PRINT \"NO\"\n30 PRINT \"YES\"\n40 END\n",
+        source: "10 GOTO 30\n20 PRINT \"NO\"\n30 PRINT \"YES\"\n40 END\n",
         keys: b"",
         limit: 100_000,
         status: 0,
-        table: b" line      times instructions        cycles   share  statement
+        table: " line      times instructions        cycles   share  statement
 start          1          192           634   70.7%
    10          1            5            19    2.1%  GOTO 30
    20          0            0             0    0.0%  PRINT \"NO\"
@@ -130,11 +134,11 @@ start          1          192           634   70.7%
     },
     Program {
         name: "a limit in a loop",
-        source: b"10 LET A=A+1\n20 GOTO 10\n",
+        source: "10 LET A=A+1\n20 GOTO 10\n",
         keys: b"",
         limit: 5_000,
         status: 5,
-        table: b" line      times instructions        cycles   share  statement
+        table: " line      times instructions        cycles   share  statement
 start          1          192           634    3.2%
    10        437         2623         10930   55.0%  LET A=A+1
    20        437         2185          8303   41.8%  GOTO 10
@@ -143,11 +147,11 @@ start          1          192           634    3.2%
     },
     Program {
         name: "lines of any look",
-        source: b" 1 0 LET A = 1\r\n20 PRINT \"OLD\"\r\n\r\n5REM a b\r\n 2 0  PRINT \"<A & 'B'>\",A\r30 PRINT\r\n30\n40 END",
+        source: " 1 0 LET A = 1\r\n20 PRINT \"OLD\"\r\n\r\n5REM a b\r\n 2 0  PRINT \"<A & 'B'>\",A\r30 PRINT\r\n30\n40 END",
         keys: b"",
         limit: 100_000,
         status: 0,
-        table: b" line      times instructions        cycles   share  statement
+        table: " line      times instructions        cycles   share  statement
 start          1          192           634   39.2%
     5          1            4            16    1.0%  REM a b
    10          1            8            28    1.7%  LET A = 1
@@ -157,3 +161,8 @@ start          1          192           634   39.2%
 ",
     },
 ];
+
+/// All of them. The table is named here alone: each function that names it is dear to prove.
+pub fn programs() -> &'static [Program] {
+    &PROGRAMS
+}

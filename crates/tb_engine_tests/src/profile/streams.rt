@@ -1,29 +1,27 @@
 //! Streams that fail, and that hand on few bytes at a time.
-use crate::profile::programs::{PROGRAMS, profiles};
+use crate::profile::programs::{LOOP, profiles};
 use std::test::Fail;
 use tb_streams::Tracked;
 use tb_test_parts::{FailingReader, FailingWriter};
 
 #[test]
 fn a_source_is_read_however_few_bytes_come_at_once(rt: HostRuntime) -> Result<(), Fail> {
-    let program = &PROGRAMS[0];
     for most in 1..12 {
-        let reader = FailingReader::new(program.source, usize::MAX, most);
+        let reader = FailingReader::new(LOOP.source.as_bytes(), usize::MAX, most);
         let mut writer = Tracked::new(Vec::new(rt.alloc()));
-        let (status, _) = profiles(rt.alloc(), program, &mut Tracked::new(reader), &mut writer);
-        assert_eq!(rt; status, program.status);
-        assert_eq!(rt; writer.stream.as_slice(), program.table);
+        let (status, _) = profiles(rt.alloc(), &LOOP, &mut Tracked::new(reader), &mut writer);
+        assert_eq!(rt; status, LOOP.status);
+        assert_eq!(rt; writer.stream.as_slice(), LOOP.table.as_bytes());
     }
     Ok(())
 }
 
 #[test]
 fn a_reader_of_a_source_that_fails(rt: HostRuntime) -> Result<(), Fail> {
-    let program = &PROGRAMS[0];
-    for until_fault in 0..=program.source.len() {
-        let reader = FailingReader::new(program.source, until_fault, 5);
+    for until_fault in 0..=LOOP.source.len() {
+        let reader = FailingReader::new(LOOP.source.as_bytes(), until_fault, 5);
         let mut writer = Tracked::new(Vec::new(rt.alloc()));
-        let (status, page) = profiles(rt.alloc(), program, &mut Tracked::new(reader), &mut writer);
+        let (status, page) = profiles(rt.alloc(), &LOOP, &mut Tracked::new(reader), &mut writer);
         assert_eq!(rt; status, 3);
         assert!(rt; writer.stream.is_empty() && page.is_empty());
     }
@@ -32,18 +30,17 @@ fn a_reader_of_a_source_that_fails(rt: HostRuntime) -> Result<(), Fail> {
 
 #[test]
 fn a_writer_of_a_table_that_fails(rt: HostRuntime) -> Result<(), Fail> {
-    let program = &PROGRAMS[0];
-    for until_fault in 0..program.table.len() {
+    for until_fault in 0..LOOP.table.len() {
         let writer = FailingWriter::new(rt.alloc(), until_fault, 7);
         let mut writer = Tracked::new(writer);
         let (status, _) = profiles(
             rt.alloc(),
-            program,
-            &mut Tracked::new(program.source),
+            &LOOP,
+            &mut Tracked::new(LOOP.source.as_bytes()),
             &mut writer,
         );
         assert_eq!(rt; status, 3);
-        let beginning = program.table.get(..until_fault);
+        let beginning = LOOP.table.as_bytes().get(..until_fault);
         assert_eq!(rt; Some(writer.stream.taken.as_slice()), beginning);
     }
     Ok(())
@@ -51,11 +48,10 @@ fn a_writer_of_a_table_that_fails(rt: HostRuntime) -> Result<(), Fail> {
 
 #[test]
 fn a_refused_source_has_no_table(rt: HostRuntime) -> Result<(), Fail> {
-    let program = &PROGRAMS[0];
     let mut writer = Tracked::new(Vec::new(rt.alloc()));
     let (status, page) = profiles(
         rt.alloc(),
-        program,
+        &LOOP,
         &mut Tracked::new(b"10 PRINT 1\n20 FOR I\n".as_slice()),
         &mut writer,
     );
