@@ -19,7 +19,7 @@ use std::fs;
 use std::process::ExitCode;
 use std::rt::Files;
 
-/// What the rows of a file are about.
+/// What rows are about.
 #[derive(Clone, Copy)]
 enum Subject {
     Words,
@@ -30,41 +30,52 @@ enum Subject {
     Runs,
     Sources,
     Assembly,
-    Block,
     Listings,
     Engines,
     Keys,
     Checks,
     Programs,
+}
+
+/// What a file holds.
+#[derive(Clone, Copy)]
+enum Contents {
+    Rows(Subject),
+    /// The source text of the routine block.
+    Block,
+    /// What steppers start with, and calls of them.
     Steps,
 }
 
-const FILES: [(&str, Subject); 25] = [
-    ("machine/words.txt", Subject::Words),
-    ("machine/opcodes.txt", Subject::Opcodes),
-    ("machine/memory.txt", Subject::Memory),
-    ("machine/instructions.txt", Subject::Processor),
-    ("machine/effects.txt", Subject::Processor),
-    ("machine/events.txt", Subject::Events),
-    ("machine/runs.txt", Subject::Runs),
-    ("source/grammar.txt", Subject::Sources),
-    ("source/refusals.txt", Subject::Sources),
-    ("source/parsing.txt", Subject::Sources),
-    ("source/runs.txt", Subject::Sources),
-    ("text/assembly.txt", Subject::Assembly),
-    ("text/block.asm", Subject::Block),
-    ("text/listings.txt", Subject::Listings),
-    ("text/engines.txt", Subject::Engines),
-    ("text/keys.txt", Subject::Keys),
-    ("check/notes.txt", Subject::Checks),
-    ("check/faults.txt", Subject::Checks),
-    ("check/warnings.txt", Subject::Checks),
-    ("check/rows.txt", Subject::Checks),
-    ("check/streams.txt", Subject::Checks),
-    ("compiler/programs.txt", Subject::Programs),
-    ("compiler/refusals.txt", Subject::Programs),
-    ("compiler/steps.txt", Subject::Steps),
-    ("compiler/commands.txt", Subject::Programs),
+const FILES: [(&str, Contents); 25] = [
+    ("machine/words.txt", Contents::Rows(Subject::Words)),
+    ("machine/opcodes.txt", Contents::Rows(Subject::Opcodes)),
+    ("machine/memory.txt", Contents::Rows(Subject::Memory)),
+    (
+        "machine/instructions.txt",
+        Contents::Rows(Subject::Processor),
+    ),
+    ("machine/effects.txt", Contents::Rows(Subject::Processor)),
+    ("machine/events.txt", Contents::Rows(Subject::Events)),
+    ("machine/runs.txt", Contents::Rows(Subject::Runs)),
+    ("source/grammar.txt", Contents::Rows(Subject::Sources)),
+    ("source/refusals.txt", Contents::Rows(Subject::Sources)),
+    ("source/parsing.txt", Contents::Rows(Subject::Sources)),
+    ("source/runs.txt", Contents::Rows(Subject::Sources)),
+    ("text/assembly.txt", Contents::Rows(Subject::Assembly)),
+    ("text/block.asm", Contents::Block),
+    ("text/listings.txt", Contents::Rows(Subject::Listings)),
+    ("text/engines.txt", Contents::Rows(Subject::Engines)),
+    ("text/keys.txt", Contents::Rows(Subject::Keys)),
+    ("check/notes.txt", Contents::Rows(Subject::Checks)),
+    ("check/faults.txt", Contents::Rows(Subject::Checks)),
+    ("check/warnings.txt", Contents::Rows(Subject::Checks)),
+    ("check/rows.txt", Contents::Rows(Subject::Checks)),
+    ("check/streams.txt", Contents::Rows(Subject::Checks)),
+    ("compiler/programs.txt", Contents::Rows(Subject::Programs)),
+    ("compiler/refusals.txt", Contents::Rows(Subject::Programs)),
+    ("compiler/steps.txt", Contents::Steps),
+    ("compiler/commands.txt", Contents::Rows(Subject::Programs)),
 ];
 
 /// What is written between a row and its answer, behind the answer, and behind the last row of a file.
@@ -102,9 +113,7 @@ fn put_answer<R: Files + AllocGlobal>(
         Subject::Engines => text::engines::put_answer(page, word, rest, row),
         Subject::Keys => text::keys::put_answer(page, word, rest),
         Subject::Checks => check::put_answer(page, word, rest),
-        Subject::Programs | Subject::Steps | Subject::Block => compiler::put_answer(
-            rt, page, word, rest,
-        ),
+        Subject::Programs => compiler::put_answer(rt, page, word, rest),
     }
 }
 
@@ -138,14 +147,14 @@ fn put_file<R: Files + AllocGlobal>(
     page: &mut Page,
     bench: &mut Bench,
     path: &'static str,
-    subject: Subject,
+    contents: Contents,
 ) {
     let read = fs::read_to_string(rt, path);
-    if let Some(rows) = page.held(read) {
-        match subject {
-            Subject::Block => text::block::put_block(page, rows.as_str()),
-            Subject::Steps => compiler::steps::put_blocks(page, rows.as_str()),
-            _ => put_rows(rt, page, bench, subject, rows.as_str()),
+    if let Some(text) = page.held(read) {
+        match contents {
+            Contents::Rows(subject) => put_rows(rt, page, bench, subject, text.as_str()),
+            Contents::Block => text::block::put_block(page, text.as_str()),
+            Contents::Steps => compiler::steps::put_blocks(page, text.as_str()),
         }
     }
 }
@@ -153,8 +162,8 @@ fn put_file<R: Files + AllocGlobal>(
 fn put_files<R: Files + AllocGlobal>(rt: &R, page: &mut Page) {
     let bench = Bench::new(rt.alloc());
     if let Some(mut bench) = page.held(bench) {
-        for (path, subject) in FILES {
-            put_file(rt, page, &mut bench, path, subject);
+        for (path, contents) in FILES {
+            put_file(rt, page, &mut bench, path, contents);
         }
     }
 }

@@ -219,18 +219,31 @@ fn count_running(stepper: &mut Stepper<'_, Quiet>, count: u64) -> u64 {
     running
 }
 
-// Appends how many of so many steps left the machine running, how many of them are taken back, and whether it then
-// stands as another one does after the others.
-fn put_kept(page: &mut Page, start: Start<'_>, count: &str) {
-    let count = number(page, count);
-    let Some(mut stepper) = start.stepper(page, Quiet) else {
-        return;
-    };
+// How many of so many steps left the machine running, how many of them are taken back, and whether it then stands as
+// another one does after the others.
+fn kept(page: &mut Page, start: Start<'_>, count: u64) -> Option<(u64, u64, bool)> {
+    let mut stepper = start.stepper(page, Quiet)?;
     let running = count_running(&mut stepper, count);
     let back = take_back(&mut stepper);
-    if let Some(mut other) = start.stepper(page, Quiet) {
-        take_steps(&mut other, count.saturating_sub(back));
-        let is_same = are_same(stepper.machine(), other.machine());
+    let is_same = stands_as_after(page, start, stepper.machine(), count.saturating_sub(back))?;
+    Some((running, back, is_same))
+}
+
+// Whether a machine stands as another one does after so many steps.
+fn stands_as_after(
+    page: &mut Page,
+    start: Start<'_>,
+    machine: &Machine,
+    count: u64,
+) -> Option<bool> {
+    let mut other = start.stepper(page, Quiet)?;
+    take_steps(&mut other, count);
+    Some(are_same(machine, other.machine()))
+}
+
+fn put_kept(page: &mut Page, start: Start<'_>, count: &str) {
+    let count = number(page, count);
+    if let Some((running, back, is_same)) = kept(page, start, count) {
         page.put(" => ");
         page.put(running);
         page.put(" running, ");
