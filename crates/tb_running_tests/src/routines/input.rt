@@ -1,5 +1,5 @@
 //! Input against the definition's own rows and against the interpreter of sources.
-use crate::setup::{Call, Called, End, ROMS, plain};
+use crate::routines::setup::{Call, Called, End, ROMS, plain};
 use std::alloc::Global;
 use std::test::Fail;
 use tb_kernal::Machine;

@@ -1,5 +1,5 @@
 //! Multiply, Divide and Random against the functions of words.
-use crate::setup::{Call, Called, Pair, ROMS, pairs, plain};
+use crate::routines::setup::{Call, Called, Pair, ROMS, pairs, plain};
 use std::alloc::Global;
 use std::test::Fail;
 use tb_runtime16::{LEFT, LINE, RIGHT, Routine, SEED, SEEDED};

@@ -1,5 +1,5 @@
 //! Search in line tables of several sizes.
-use crate::setup::{Call, Called, PROGRAM, ROMS, plain};
+use crate::routines::setup::{Call, Called, PROGRAM, ROMS, plain};
 use std::alloc::Global;
 use std::test::Fail;
 use tb_runtime16::{COUNT, LINE, Routine, TABLE, WANTED};

@@ -1,5 +1,5 @@
 //! Number, Text and Zone: what they send.
-use crate::setup::{Call, Called, EDGES, PROGRAM, ROMS, plain};
+use crate::routines::setup::{Call, Called, EDGES, PROGRAM, ROMS, plain};
 use std::alloc::Global;
 use std::test::Fail;
 use tb_runtime16::{COLUMN, LEFT, LENGTH, POINTER, Routine};

@@ -1,5 +1,5 @@
 //! Push and Pop: the return list at each length.
-use crate::setup::{Call, Called, ROMS, plain};
+use crate::routines::setup::{Call, Called, ROMS, plain};
 use std::alloc::Global;
 use std::test::Fail;
 use tb_runtime16::{LEFT, LINE, NOTE_HIGH, NOTE_LOW, NOTES, Routine};

@@ -1,5 +1,7 @@
 //! Fault, Poll and the prologue: how a program ends and begins.
-use crate::setup::{Call, Called, NOISE, ROMS, memory_with_block, noisy_regs, plain, run_beside};
+use crate::routines::setup::{
+    Call, Called, NOISE, ROMS, memory_with_block, noisy_regs, plain, run_beside,
+};
 use std::alloc::Global;
 use std::test::Fail;
 use tb_kernal::{Machine, Status};

@@ -1,0 +1,9 @@
+//! Each routine of the block by itself: on a machine that holds the block and a caller of one call, beside a quiet and a
+//! rude ROM.
+mod arithmetic;
+mod input;
+mod returns;
+mod searching;
+mod sending;
+mod setup;
+mod stopping;
