@@ -9,11 +9,11 @@ in_file() { sed -n "s/$2/\1/p" "crates/$1"; } # FILE PATTERN: what the pattern's
 echo "$(cat crates/tb_rows/data/{machine,source,text,compiler}/*.txt | grep -vc '^#\|^ *$') worked rows in text"
 echo "$(grep -hc '^check' crates/tb_rows/data/check/*.txt | awk '{ n += $1 } END { print n }') worked checks of sources"
 echo "$(cat crates/*/src/*.rt crates/*/src/*/*.rt | grep -c '^#\[test\]$') tests in code"
-echo "$(in_file tb_running_tests/src/generated/trials.rt '^const PROGRAMS: u16 = \([0-9]*\);') generated programs of each of two kinds, compared with the interpreter"
-echo "$(in_file tb_running_tests/src/generated/played.rt '^const PROGRAMS: usize = \([0-9]*\);') generated programs that are played, compared with it"
-short=$(in_file tb_running_tests/src/rows.rt '^static ROWS: .*; \([0-9]*\)\] = \[')
-long=$(in_file tb_running_tests/src/rows.rt '.*fn rows(&self) -> \[.*; \([0-9]*\)\].*')
-seeds=$(in_file tb_running_tests/src/running.rt '^        for seed in 0\.\.\([0-9]*\) {')
+echo "$(in_file tb_tests/src/generated/trials.rt '^const PROGRAMS: u16 = \([0-9]*\);') generated programs of each of two kinds, compared with the interpreter"
+echo "$(in_file tb_tests/src/generated/played.rt '^const PROGRAMS: usize = \([0-9]*\);') generated programs that are played, compared with it"
+short=$(in_file tb_tests/src/rows.rt '^static ROWS: .*; \([0-9]*\)\] = \[')
+long=$(in_file tb_tests/src/rows.rt '.*fn rows(&self) -> \[.*; \([0-9]*\)\].*')
+seeds=$(in_file tb_tests/src/running.rt '^        for seed in 0\.\.\([0-9]*\) {')
 echo "$(((short + long) * (seeds + 2))) runs beside hostile ROMs: $((short + long)) programs, $seeds seeds of the rude ROM and two ROMs of the tests"
 echo "$(grep -c '^prefixes ' crates/tb_rows/data/text/engines.txt) inputs of these engines, cut off at each length"
 awk '/=> [0-9]+ faults, and nothing written/ { faults += $(NF - 4) } END { print faults, "readers that fail, of the engines that compile nothing" }' crates/tb_rows/stdout

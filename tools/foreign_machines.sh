@@ -11,8 +11,8 @@
 #   tools/foreign_machines.sh [COUNT]    how many random PRGs; 20,000 by default
 . "$(dirname "${BASH_SOURCE[0]}")/setup.sh"
 needs_program
-end_states=$root/crates/tb_end_states/out/tb_end_states
-[ -x "$end_states" ] || { echo "build the program of end states first: cd crates/tb_end_states && rt run <stdin" >&2; exit 1; }
+trials=$root/crates/tb_trials/out/tb_trials
+[ -x "$trials" ] || { echo "build the trials first: cd crates/tb_trials && rt run <stdin" >&2; exit 1; }
 needs python3
 installs sim65 cc65
 foreign=$root/tools/foreign
@@ -76,5 +76,5 @@ spoilt examples_hello '' 0
 spoilt examples_collatz '27\r7\r' 6
 
 echo "$rows runs on ${machines[*]}, $failed other than they should be"
-python3 "$foreign/random_programs.py" "$end_states" "${1:-20000}" || failed=$((failed + 1))
+python3 "$foreign/random_programs.py" "$trials" "${1:-20000}" || failed=$((failed + 1))
 [ "$failed" = 0 ]

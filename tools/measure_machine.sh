@@ -10,11 +10,11 @@
 # The runs go in turn, and the best round of each counts, since other load only ever makes a round longer.
 . "$(dirname "${BASH_SOURCE[0]}")/setup.sh"
 needs rt
-speed=$root/crates/tb_speed/out/tb_speed
+trials=$root/crates/tb_trials/out/tb_trials
 
-(cd "$root/crates/tb_speed" && rt run >"$work/build.txt" 2>&1) || { cat build.txt; exit 1; }
+(cd "$root/crates/tb_trials" && rt run <stdin >"$work/build.txt" 2>&1) || { cat build.txt; exit 1; }
 
-# A program for sim65: its mark, version 2, a 6502, stack pointer at 0, load address and start $0C00, the bytes of tb_speed's program.
+# A program for sim65: its mark, version 2, a 6502, stack pointer at 0, load address and start $0C00, the bytes of the program in tb_trials.
 mark='sim65\x02\x00\x00\x00\x0c\x00\x0c'
 printf "$mark"'\xe8\xd0\xfd\xc8\xd0\xfa\xee\x00\xc0\x4c\x00\x0c' >loop
 printf "$mark"'\xad\x00\xc0\x18\x6d\x02\xc0\x8d\x00\xc0\xad\x01\xc0\x6d\x03\xc0\x8d\x01\xc0\xce\x04\xc0\xd0\xe8\x4c\x00\x0c' >sums
@@ -32,8 +32,8 @@ if [ "${1:-}" = --instructions ]; then
     sim65=$(command -v sim65 || true)
     for name in loop sums; do
         for events in 1000000 2000000; do
-            counted "$speed" "$name" "$events" >"events.$events"
-            counted "$speed" "$name" "$events" steps >"steps.$events"
+            counted "$trials" speed "$name" "$events" >"events.$events"
+            counted "$trials" speed "$name" "$events" steps >"steps.$events"
             [ -z "$sim65" ] || counted "$sim65" -x "$(cycles_of "$name" "$events")" "$name" >"sim65.$events"
         done
         # the difference leaves out what start and end cost
@@ -61,8 +61,8 @@ best() { sort -n "$1.us" | head -1; }
 for name in loop sums; do
     cycles=$(cycles_of "$name" "$events")
     for _ in $(seq "$rounds"); do
-        timed "$name.events" "$speed" "$name" "$events"
-        timed "$name.steps" "$speed" "$name" "$events" steps
+        timed "$name.events" "$trials" speed "$name" "$events"
+        timed "$name.steps" "$trials" speed "$name" "$events" steps
         [ ! -x "$tbc" ] || timed "$name.line" "$tbc" run --prg "$name.prg" --limit "$events" # ends at the limit
         timed "$name.sim65" sim65 -x "$cycles" "$name" # ends with a status of its own where the cycles are used up
     done

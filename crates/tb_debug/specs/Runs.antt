@@ -1,5 +1,5 @@
 -- The run of a machine beside a ROM, and its moments.
-use Rattle.std.specs.Prelude.{◌≡◌, ℕ, zero, suc, ◌+◌, ◌-◌, ◌<◌, ◌≤◌, ◌==◌, ◌&&◌, ◌||◌, Bool, false, if◌then◌else◌, ℤ, List, [], ◌∷◌, All, length, slice_index_or}
+use Rattle.std.specs.Prelude.{◌≡◌, ℕ, zero, suc, ◌+◌, ◌-◌, ◌<◌, ◌≤◌, ◌==◌, ◌&&◌, ◌||◌, Bool, false, if◌then◌else◌, ℤ, List, [], ◌∷◌, ◌++◌, All, length, slice_index_or, remove}
 use Rattle.tb_kernal.specs.declared.events.Event.{Event}
 use Rattle.tb_kernal.specs.declared.status.Status.TheVariants.{Running}
 use Rattle.tb_kernal.specs.Machine.{State, state_of, happens, status}
@@ -111,6 +111,20 @@ spacing = 131072
 -- how many events came before the newest kept moment, by the first one and the later ones
 abbrev pub newest_events : Kept → List Kept → ℕ
 newest_events first later = (slice_index_or later (length later - 1) first).moment.events
+
+-- kept moments, one of them left out
+pub record WithoutOne (old new : List Kept) : Type 0 where
+  pub place : ℕ
+  pub inside : place < length old
+  pub others : new ≡ remove old place
+
+-- kept moments with one more behind them: all that were, but for one of them where there are as many as may be
+pub record KeepsOneMore (old new : List Kept) : Type 0 where
+  pub left : List Kept
+  pub newest : Kept
+  pub joined : new ≡ left ++ newest ∷ []
+  pub all : length old + 1 < most_kept → left ≡ old
+  pub one : most_kept ≤ length old + 1 → WithoutOne old left
 
 -- ---- typing
 

@@ -2,7 +2,7 @@
 ghost use Rattle.std.specs.Prelude.{◌≡◌, ◌∷◌, ◌++◌, ◌+◌, ◌<◌, ◌≤◌, [], ℕ, List, Bool, IfOk, IfSome, IsSome, OnOk, IsTrue, ◌↔◌, length, slice_index_or, vec_len};
 ghost use Rattle.tb_debug.specs.declared.history.Kept.{Kept};
 ghost use Rattle.tb_debug.specs.Searching.{IsUntil};
-ghost use Rattle.tb_debug.specs.Runs.{Point, IsOfRun, IsFirst, IsKept, IsTyped, AreKept, AreTyped, most_kept, newest_events, spacing};
+ghost use Rattle.tb_debug.specs.Runs.{Point, IsOfRun, IsFirst, IsKept, IsTyped, AreKept, AreTyped, KeepsOneMore, WithoutOne, most_kept, newest_events, spacing};
 
 use crate::moment::Moment;
 use std::alloc::{AllocError, Global};
@@ -94,6 +94,8 @@ impl History {
         ensures early { moment.now.events < newest_events self.old.first self.old.later.items + spacing → self.new ≡ self.old }
         ensures due { OnOk result (newest_events self.old.first self.old.later.items + spacing ≤ moment.now.events
             → newest_events self.new.first self.new.later.items ≡ moment.now.events) }
+        ensures others { OnOk result (newest_events self.old.first self.old.later.items + spacing ≤ moment.now.events
+            → KeepsOneMore self.old.later.items self.new.later.items) }
         ensures few { length self.old.later.items < most_kept → length self.new.later.items < most_kept }
     {
         if !self.is_due(moment.events) {
@@ -136,6 +138,8 @@ impl History {
         ensures first { self.new.first ≡ self.old.first }
         ensures later { (marks : List Bool) (start : Point) (n : ℕ) → AreKept marks start n self.old.later.items → AreKept marks start n self.new.later.items }
         ensures room { length self.old.later.items < most_kept → length self.new.later.items + 1 < most_kept }
+        ensures all { length self.old.later.items + 1 < most_kept → self.new.later.items ≡ self.old.later.items }
+        ensures one { most_kept ≤ length self.old.later.items + 1 → WithoutOne self.old.later.items self.new.later.items }
     {
         let index = self.spare(now);
         if MOST_KEPT <= self.len() && index < self.later.len() {

@@ -7,39 +7,22 @@ use tb_test_parts::FailingReader;
 
 const SOURCE: &[u8] = b"10 A=5\n20 END\n";
 
-/// A command, and the answer where the commands end behind each of its bytes.
-type Row = (&'static [u8], &'static [&'static [u8]]);
+/// A command, and the answers where the commands end behind each of its bytes, with `|` between two.
+type Row = (&'static str, &'static str);
 
 /// Commands in their order. What stands behind `q` has no answer.
 static ROWS: [Row; 11] = [
-    (b"s", &[b"080E A=00 X=00 Y=00 S=F0 P=30 - running\n"]),
-    (b"b", &[b"080D A=00 X=00 Y=00 S=F0 P=30 - running\n"]),
-    (b"b", &[b"nothing back\n"]),
-    (
-        b"g 20",
-        &[b"what?\n", b"what?\n", b"no such line\n", b"at 20\n"],
-    ),
-    (b"v A", &[b"what?\n", b"what?\n", b"5\n"]),
-    (
-        b"e A*2-1",
-        &[
-            b"what?\n", b"what?\n", b"5\n", b"what?\n", b"10\n", b"what?\n", b"9\n",
-        ],
-    ),
-    (
-        b"e 1/0",
-        &[
-            b"what?\n",
-            b"what?\n",
-            b"1\n",
-            b"what?\n",
-            b"division by zero\n",
-        ],
-    ),
-    (b"d", &[b"0\n"]),
-    (b"x", &[b"what?\n"]),
-    (b"q", &[b""]),
-    (b"s", &[b""]),
+    ("s", "080E A=00 X=00 Y=00 S=F0 P=30 - running"),
+    ("b", "080D A=00 X=00 Y=00 S=F0 P=30 - running"),
+    ("b", "nothing back"),
+    ("g 20", "what?|what?|no such line|at 20"),
+    ("v A", "what?|what?|5"),
+    ("e A*2-1", "what?|what?|5|what?|10|what?|9"),
+    ("e 1/0", "what?|what?|1|what?|division by zero"),
+    ("d", "0"),
+    ("x", "what?"),
+    ("q", ""),
+    ("s", ""),
 ];
 
 // The table is named here alone: each function that names it is dear to prove.
@@ -59,6 +42,15 @@ fn answers(alloc: Global, commands: &[u8], text: &[u8]) -> Result<bool, AllocErr
     Ok(report.status() == 0 && out.stream.as_slice() == text)
 }
 
+// Appends an answer's line, if there is one.
+fn append_answer(text: &mut Vec<u8>, answer: &str) -> Result<(), AllocError> {
+    text.extend_from_slice(answer.as_bytes())?;
+    if !answer.is_empty() {
+        text.push(b'\n')?;
+    }
+    Ok(())
+}
+
 // Whether the commands are answered, also with one more behind them that is cut off behind each of its bytes. Leaves
 // it there whole, and in the text what they answer.
 fn answers_one_more(
@@ -72,10 +64,10 @@ fn answers_one_more(
     if !answers(alloc, commands, text)? {
         return Ok(false);
     }
-    for (byte, answer) in command.iter().zip(*prefixes) {
-        commands.push(*byte)?;
+    for (byte, answer) in command.bytes().zip(prefixes.split('|')) {
+        commands.push(byte)?;
         text.truncate(behind);
-        text.extend_from_slice(answer)?;
+        append_answer(text, answer)?;
         if !answers(alloc, commands, text)? {
             return Ok(false);
         }
@@ -105,7 +97,7 @@ fn each_prefix_of_commands_is_answered(rt: HostRuntime) -> Result<(), Fail> {
 
 fn append_commands(commands: &mut Vec<u8>) -> Result<(), Fail> {
     for (command, _) in rows() {
-        commands.extend_from_slice(command)?;
+        commands.extend_from_slice(command.as_bytes())?;
         commands.push(b'\n')?;
     }
     Ok(())

@@ -1,7 +1,8 @@
 //! Calls of the memory, of the machine and of the stepper. Where one is refused memory, it is looked whether what it was
 //! called on is as it was.
+use super::sources::{ASSIGNMENT, GREETING, SOURCES, compiled, show_bytes};
 use crate::failure::Failure;
-use crate::sources::{ASSIGNMENT, GREETING, SOURCES, compiled, show_bytes};
+use crate::memories::machine_with;
 use std::alloc::Global;
 use tb_codegen::Compiled;
 use tb_cpu::Regs;
@@ -10,7 +11,6 @@ use tb_kernal::{Machine, Outside, Quiet, Rude, Status, run};
 use tb_memmap::{BASIC_START, Memory};
 use tb_prg::read;
 use tb_stepper::{StepError, Stepper};
-use tb_test_parts::no_keys;
 use tb_words::Letter;
 
 /// More events than any program here takes.
@@ -26,25 +26,6 @@ fn seen(machine: &Machine) -> Seen {
         machine.sent().len(),
         machine.room(),
     )
-}
-
-fn load(memory: &mut Memory, at: u16, bytes: &[u8]) -> Result<(), Failure> {
-    memory.load(at, bytes)?;
-    memory.load(0x01f1, &[0xff, 0xa0])?;
-    Ok(())
-}
-
-// A memory with bytes at an address, and a return to $A100.
-fn memory_with(alloc: Global, at: u16, bytes: &[u8]) -> Result<Memory, Failure> {
-    let mut memory = Memory::new(alloc)?;
-    load(&mut memory, at, bytes)?;
-    Ok(memory)
-}
-
-// A machine with such a memory and no keys.
-fn machine_with(alloc: Global, at: u16, bytes: &[u8], regs: Regs) -> Result<Machine, Failure> {
-    let memory = memory_with(alloc, at, bytes)?;
-    Machine::enter(alloc, memory, regs, no_keys(alloc)).map_err(|_| Failure::Refused)
 }
 
 // A machine at the start of a compiled program.

@@ -1,6 +1,6 @@
 //! Calls of the assembler, of the disassembler, on PRG files and on disks.
+use super::sources::{SOURCES, compiled, show_bytes, show_each, show_letters};
 use crate::failure::Failure;
-use crate::sources::{SOURCES, compiled, show_bytes, show_each, show_letters};
 use std::alloc::Global;
 use tb_asm::{AsmErrorKind, Image, Item, TextError, assemble, read_text, settle};
 use tb_disasm::{Listing, disassemble};

@@ -1,31 +1,15 @@
-//! Makes one call on the input of its worked row and writes what it answers. The one word names the call. Where the call,
-//! or what stands before it, is refused memory, nothing is written, and the status is 4.
-#![tactic(auto)]
-
+//! Each call that may want memory, on the input of its worked row.
 mod assembly;
-mod failure;
 mod machines;
 mod sources;
 
-use failure::Failure;
+use crate::failure::Failure;
 use machines::StepperCall;
 use sources::SourceCall;
 use std::alloc::Global;
-use std::process::ExitCode;
-use std::rt::Env;
-use std::{env, io};
 
-// The one word.
-fn word<R: Env + AllocGlobal>(rt: &R) -> Result<String, Failure> {
-    match env::args(rt) {
-        Ok(mut words) => words.nth(1).ok_or(Failure::NoSuchCall),
-        Err(error) if error.kind() == io::ErrorKind::OutOfMemory => Err(Failure::NoMemory),
-        Err(_) => Err(Failure::NoSuchCall),
-    }
-}
-
-// Makes the call of a name, and appends its answer to a text.
-fn show(alloc: Global, name: &str, text: &mut String) -> Result<(), Failure> {
+/// Makes the call of a name, and appends its answer to a text.
+pub fn show(alloc: Global, name: &str, text: &mut String) -> Result<(), Failure> {
     match name {
         "host_form" => sources::show_host_form(alloc, text),
         "key_list" => sources::show_key_list(alloc, text),
@@ -52,31 +36,6 @@ fn show(alloc: Global, name: &str, text: &mut String) -> Result<(), Failure> {
         "Stepper::new" => machines::show_stepper(alloc, StepperCall::New, text),
         "step" => machines::show_stepper(alloc, StepperCall::Step, text),
         "to_line" => machines::show_stepper(alloc, StepperCall::ToLine, text),
-        _ => Err(Failure::NoSuchCall),
-    }
-}
-
-fn text_of(alloc: Global, name: &str) -> Result<String, Failure> {
-    let mut text = String::new(alloc);
-    show(alloc, name, &mut text)?;
-    Ok(text)
-}
-
-fn answer<R: Env + AllocGlobal>(rt: &R) -> Result<String, Failure> {
-    let name = word(rt)?;
-    text_of(rt.alloc(), name.as_str())
-}
-
-fn main(rt: HostRuntime) -> ExitCode {
-    // Nobody can be told that the standard streams fail.
-    match answer(&rt) {
-        Ok(text) => {
-            let _ = print!(rt; "{text}");
-            ExitCode::SUCCESS
-        }
-        Err(failure) => {
-            let _ = eprintln!(rt; "tb_calls: {failure}");
-            ExitCode::from(failure.status())
-        }
+        _ => Err(Failure::NoSuchWord),
     }
 }

@@ -1,10 +1,11 @@
-//! A record, and how its program ends.
+//! Runs records by the processor's `step` alone. The line of each has the registers and a digest of the memory where its
+//! program came to `$A100`, else why it didn't; `tools/foreign_machines.sh` compares it with what another processor does.
+use crate::failure::Failure;
 use md5::{Digest, Md5};
 use std::alloc::{AllocError, Global};
 use tb_cpu::{Flags, Regs, Wrong, step};
-use tb_memmap::{LoadError, Memory};
+use tb_memmap::Memory;
 use tb_opcodes::{Mnemonic, Mode, decode};
-use thiserror::Error;
 
 /// The bytes of a record: a seed, and a PRG file of 64 bytes.
 const RECORD: usize = 65;
@@ -17,27 +18,6 @@ const MOST_STEPS: u32 = 1000;
 
 /// The stack pointer at the start.
 const START_S: u8 = 0xf0;
-
-/// Why no lines are written.
-#[derive(Clone, Copy, Debug, PartialEq, Eq, Drop, Error)]
-pub enum Failure {
-    #[error("out of memory")]
-    NoMemory,
-    #[error("standard input holds no records")]
-    Input,
-}
-
-impl From<AllocError> for Failure {
-    fn from(_: AllocError) -> Failure {
-        Failure::NoMemory
-    }
-}
-
-impl From<LoadError> for Failure {
-    fn from(_: LoadError) -> Failure {
-        Failure::Input
-    }
-}
 
 /// How a program ended.
 #[derive(Clone, Copy, Drop)]
@@ -132,7 +112,7 @@ fn start(alloc: Global, record: &[u8]) -> Result<(Regs, Memory), Failure> {
 fn filled(alloc: Global, seed: u8, at: u16, program: &[u8]) -> Result<Memory, Failure> {
     let mut memory = Memory::new(alloc)?;
     fill(&mut memory, seed);
-    memory.load(at, program)?;
+    memory.load(at, program).map_err(|_| Failure::Input)?;
     Ok(memory)
 }
 
@@ -222,14 +202,13 @@ fn append_line(alloc: Global, record: &[u8], text: &mut String) -> Result<(), Fa
     Ok(())
 }
 
-/// The lines of an input's records.
-pub fn lines_of(alloc: Global, input: &[u8]) -> Result<String, Failure> {
+/// Appends the lines of an input's records.
+pub fn append_lines(alloc: Global, input: &[u8], text: &mut String) -> Result<(), Failure> {
     if input.is_empty() || input.len() % RECORD != 0 {
         return Err(Failure::Input);
     }
-    let mut text = String::new(alloc);
     for record in input.chunks(RECORD) {
-        append_line(alloc, record, &mut text)?;
+        append_line(alloc, record, text)?;
     }
-    Ok(text)
+    Ok(())
 }

@@ -23,8 +23,10 @@ pub enum Failure {
     /// A call was refused memory, and something is not as it was before.
     #[error("a refusal changed something")]
     Changed,
-    #[error("no such call")]
-    NoSuchCall,
+    #[error("no such word")]
+    NoSuchWord,
+    #[error("standard input holds no records")]
+    Input,
 }
 
 impl Failure {
@@ -50,8 +52,8 @@ impl Failure {
     pub fn status(self) -> u8 {
         match self {
             Failure::NoMemory => 4,
-            Failure::NoSuchCall => 2,
-            Failure::Refused | Failure::Changed => 1,
+            Failure::NoSuchWord => 2,
+            Failure::Refused | Failure::Changed | Failure::Input => 1,
         }
     }
 }
