@@ -1,7 +1,7 @@
 #!/usr/bin/env bash
 # Measures the machine against sim65 of cc65 on the same 6502 code, and prints events a second of both and their ratio.
 #
-#   tools/measure_machine.sh [EVENTS] [ROUNDS]      default: 100000000 events, 5 rounds; needs rt and sim65 (Debian's cc65)
+#   tools/measure_machine.sh [EVENTS] [ROUNDS]      default: 100000000 events, 5 rounds; needs sim65 (Debian's cc65)
 #   tools/measure_machine.sh --instructions         instructions of this processor for each event, and for each of sim65's
 #                                                   instructions where it is installed; needs valgrind
 #
@@ -9,10 +9,8 @@
 # is built, by the command line (`tbc run --prg`).
 # The runs go in turn, and the best round of each counts, since other load only ever makes a round longer.
 . "$(dirname "${BASH_SOURCE[0]}")/setup.sh"
-needs rt
 trials=$root/crates/tb_trials/out/tb_trials
-
-(cd "$root/crates/tb_trials" && rt run <stdin >"$work/build.txt" 2>&1) || { cat build.txt; exit 1; }
+[ -x "$trials" ] || { echo "build the trials first: cd crates/tb_trials && rt run <stdin" >&2; exit 1; }
 
 # A program for sim65: its mark, version 2, a 6502, stack pointer at 0, load address and start $0C00, the bytes of the program in tb_trials.
 mark='sim65\x02\x00\x00\x00\x0c\x00\x0c'

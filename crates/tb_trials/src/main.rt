@@ -45,6 +45,15 @@ fn append_end_states<R: Input + AllocGlobal>(rt: &R, text: &mut String) -> Resul
     end_states::append_lines(rt.alloc(), input.as_slice(), text)
 }
 
+// Whether the last word asks for `step` alone.
+fn is_by_steps(words: &mut Args) -> Result<bool, Failure> {
+    match words.next() {
+        None => Ok(false),
+        Some(word) if word.as_str() == "steps" => Ok(true),
+        Some(_) => Err(Failure::NoSuchWord),
+    }
+}
+
 fn append_speed<R: Clock + AllocGlobal>(
     rt: &R,
     words: &mut Args,
@@ -52,13 +61,8 @@ fn append_speed<R: Clock + AllocGlobal>(
 ) -> Result<(), Failure> {
     let name = words.next().ok_or(Failure::NoSuchWord)?;
     let events = words.next().ok_or(Failure::NoSuchWord)?;
-    speed::append_one(
-        rt,
-        name.as_str(),
-        events.as_str(),
-        words.next().is_some(),
-        text,
-    )
+    let by_steps = is_by_steps(words)?;
+    speed::append_one(rt, name.as_str(), events.as_str(), by_steps, text)
 }
 
 // Some of each.
