@@ -10,9 +10,3 @@ mod copies;
 mod engine;
 mod stops;
 mod walks;
-
-pub use commands::command_of;
-pub use copies::{machine_copied, memory_copied, quiet_event};
-pub use engine::{debugged, sources_read, warnings_of_sources};
-pub use stops::{breakpoint_turned, breaks_at, watched_differ};
-pub use walks::{answered, gone_back, gone_on, gone_to, line_begun, stepped_back, typed};

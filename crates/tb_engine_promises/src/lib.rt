@@ -9,8 +9,3 @@ mod disks;
 mod engines;
 mod play;
 mod streams;
-
-pub use disks::{name_of, with_file};
-pub use engines::{delivered, listed_file, run_of_file};
-pub use play::played;
-pub use streams::{key_text, keys_read, pulled, written};

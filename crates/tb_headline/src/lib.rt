@@ -8,8 +8,3 @@ mod image;
 mod labels;
 mod lists;
 mod sources;
-
-pub use image::keeping_file;
-pub use labels::label_alone;
-pub use lists::following_lists;
-pub use sources::{line_there, marked_lines, source_compiled};

@@ -9,10 +9,3 @@ mod checks;
 mod listings;
 mod sources;
 mod stepping;
-
-pub use checks::{caret_put, examined, judged, lines_that_are_bad, with_source};
-pub use listings::{labels_of, listing_of, map_of};
-pub use sources::{built, ran, source_read};
-pub use stepping::{
-    answers_to, command_of, gone_to_line, line_here, stepped, stepped_through, taken_back,
-};
