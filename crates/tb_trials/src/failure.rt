@@ -9,6 +9,7 @@ use tb_lower::LowerError;
 use tb_memmap::LoadError;
 use tb_parser::{SourceError, SourceErrorKind};
 use tb_prg::PrgError;
+use tb_streams::InputError;
 use thiserror::Error;
 
 /// Why no answer is written.
@@ -109,6 +110,15 @@ impl From<ListError> for Failure {
 impl From<KeyError> for Failure {
     fn from(error: KeyError) -> Failure {
         Failure::of(error == KeyError::NoMemory)
+    }
+}
+
+impl From<InputError> for Failure {
+    fn from(error: InputError) -> Failure {
+        match error {
+            InputError::NoMemory => Failure::NoMemory,
+            InputError::Fault => Failure::Input,
+        }
     }
 }
 

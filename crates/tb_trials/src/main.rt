@@ -39,9 +39,7 @@ fn append_call<R: AllocGlobal>(rt: &R, words: &mut Args, text: &mut String) -> R
 }
 
 fn append_end_states<R: Input + AllocGlobal>(rt: &R, text: &mut String) -> Result<(), Failure> {
-    let Ok(input) = read_input(rt.alloc(), &mut Tracked::new(rt.reader())) else {
-        return Err(Failure::Input);
-    };
+    let input = read_input(rt.alloc(), &mut Tracked::new(rt.reader()))?;
     end_states::append_lines(rt.alloc(), input.as_slice(), text)
 }
 

@@ -3,7 +3,8 @@ use crate::failure::Failure;
 use crate::memories::{machine_with, memory_with};
 use std::rt::Clock;
 use std::time::Instant;
-use tb_cpu::{Flags, Regs, step};
+use tb_cpu::step;
+use tb_engines::start_regs;
 use tb_kernal::{Quiet, run};
 
 // Where the programs lie.
@@ -23,18 +24,6 @@ const SUMS: [u8; 27] = [
 // Events for the line that is always the same.
 const FEW: u64 = 100_000;
 
-// Registers before a program.
-fn first_regs() -> Regs {
-    Regs {
-        a: 0,
-        x: 0,
-        y: 0,
-        s: 0xf0,
-        pc: PLACE,
-        flags: Flags::from_byte(0),
-    }
-}
-
 // The milliseconds since a time.
 fn millis_since<R: Clock>(rt: &R, start: Instant) -> Result<u128, Failure> {
     let elapsed = start.elapsed(rt).map_err(|_| Failure::Refused)?;
@@ -52,7 +41,7 @@ fn measure_steps<R: Clock + AllocGlobal>(
     steps: u64,
 ) -> Result<(u128, u16), Failure> {
     let mut memory = memory_with(rt.alloc(), PLACE, program)?;
-    let mut regs = first_regs();
+    let mut regs = start_regs(PLACE);
     let start = now(rt)?;
     for _ in 0..steps {
         step(&mut regs, &mut memory).map_err(|_| Failure::Refused)?;
@@ -66,9 +55,9 @@ fn measure<R: Clock + AllocGlobal>(
     program: &[u8],
     events: u64,
 ) -> Result<(u128, u16), Failure> {
-    let mut machine = machine_with(rt.alloc(), PLACE, program, first_regs())?;
+    let mut machine = machine_with(rt.alloc(), PLACE, program, start_regs(PLACE))?;
     let start = now(rt)?;
-    run(&mut machine, &mut Quiet, events).map_err(|_| Failure::Refused)?;
+    run(&mut machine, &mut Quiet, events)?;
     Ok((millis_since(rt, start)?, machine.regs().pc))
 }
 
