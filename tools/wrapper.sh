@@ -66,7 +66,8 @@ case $1:${AS-} in
         exit 6
         ;;
     try:*) echo 'error[some]: no such thing' >&2; exit 1 ;;
-    all:good) printf '== tb_words\n== tb_opcodes\nfn f: proved\nlogic=proved functions=1\n== summary\n2 of 2 crates ok\n' ;;
+    all:good) printf '== tb_words\nrt: tb_words: begins with what a check kept elsewhere\n'
+        printf '== tb_opcodes\nfn f: proved\nlogic=proved functions=1\n== summary\n2 of 2 crates ok\n' ;;
     all:bad) printf '== tb_words\nfn f: not proved\nlogic=unproved\n'; exec sleep 1000 ;;
     all:long) echo $$ >"$STUB/pid"; exec sleep 1000 ;;
     run:*) cp "$TBC" out/tbc ;;
