@@ -6,3 +6,5 @@ pub mod Texts
 pub mod Kept
 pub mod Marked
 pub mod Stretches
+pub mod Roomy
+pub mod Same

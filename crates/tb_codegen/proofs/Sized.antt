@@ -1,5 +1,5 @@
 -- Small programs have code that settles and that the assembler takes, and where their lines lie.
-use Rattle.std.proofs.Common.{◌≡◌, ℕ, ◌+◌, ◌<◌, ◌≤◌, List, [], ◌∷◌, ◌++◌, length, map, ap, sym, subst, ◌∙◌, arith, refl, true, None, Some, is_some, append_assoc, length-append}
+use Rattle.std.proofs.Common.{◌≡◌, ℕ, ◌+◌, ◌*◌, ◌<◌, ◌≤◌, List, [], ◌∷◌, ◌++◌, length, map, ap, sym, subst, ◌∙◌, arith, refl, true, None, Some, is_some, append_assoc, length-append}
 use Rattle.tb_asm.specs.declared.names.Name.{Name}
 use Rattle.tb_asm.specs.Layout.{Entry, size, address_in, labels_from, image_of, bytes_from}
 use Rattle.tb_asm.specs.Settle.{items_from, SettlesTo}
@@ -16,13 +16,20 @@ use Rattle.tb_parser.specs.Files.{AreStated, RisesFrom}
 use Rattle.tb_prg.specs.Prg.{header}
 use Rattle.tb_runtime16.specs.Places.{PROLOGUE_AT, LINES_AT}
 use Rattle.tb_settling.specs.Settled.{IsLaid, Suits, most as most_bytes}
-use Rattle.tb_settling.proofs.Forms.{forms_most, items_size}
+use Rattle.tb_settling.proofs.Forms.{forms_most, items_size, size_append}
 use Rattle.tb_templates.specs.declared.labels.Target.TheVariants.{Past, Table}
 use Rattle.tb_templates.specs.Labels.{label_of}
-use Rattle.tb_templates.specs.Sizes.{room, list_room, lines_room}
-use Rattle.tb_templates.specs.Program.{past_code, find_code, table_code, block_code, program_code, AreCodable, RisingFrom}
-use Rattle.tb_templates.proofs.Fitting.{program_fits}
-use Rattle.tb_templates.proofs.Taken.{block_size, program_most, program_suits}
+use Rattle.tb_templates.specs.Sizes.{room, list_room}
+use Rattle.tb_templates.specs.Program.{lines_code, past_code, find_code, rows_code, still_asking, table_code, block_code, program_code, AreCodable, RisingFrom}
+use Rattle.tb_templates.specs.Breaks.{all_broken}
+use Rattle.tb_codegen.proofs.Roomy.{unsettled_long}
+use Rattle.tb_templates.proofs.Fitting.{command_room, program_fits}
+use Rattle.tb_templates.proofs.Taken.{block_size, program_labels, program_most, program_suits}
+use Rattle.tb_templates.proofs.Woven.{lowest, distinct}
+use Rattle.tb_templates.proofs.Ordered.{program_woven}
+use Rattle.tb_templates.proofs.Accepted.{program_modes, program_moves}
+use Rattle.tb_templates.proofs.Reached.{program_known}
+use Rattle.tb_codegen.specs.Roomy.{EndsFrom, SuitsAnywhere}
 use Rattle.tb_words.specs.Words.{word_of}
 use Rattle.tb_codegen.specs.declared.compiled.Compiled.{Compiled}
 use Rattle.tb_codegen.specs.Compiled.{prg_of, starts_of, table_of, warnings_of, IsCompiled, starts_in, stands_at, AreKnown, PlacesRise, most}
@@ -30,7 +37,7 @@ use Rattle.tb_codegen.specs.Texts.{LinesHoldTexts, offset_of}
 use Rattle.tb_templates.proofs.Settled.{Sections, last_broken, sections}
 use Rattle.tb_codegen.proofs.Placed.{lines_known, lines_begin_in_order, start_numbers}
 use Rattle.tb_codegen.proofs.Texts.{lines_texts}
-use Rattle.tb_codegen.proofs.SmallPrograms.{AreSmall, are_small, small_spaced, small_short}
+use Rattle.tb_codegen.proofs.SmallPrograms.{AreSmall, are_small, small_spaced, small_short, few_lines, count_numbers}
 
 -- ── counts ──
 one_room : (i : Instr) → 1 ≤ room i
@@ -59,14 +66,6 @@ list_length : (is : List Instr) → length is ≤ list_room is
 list_length [] = omega arith
 list_length (i ∷ is) = let a = one_room i in let b = list_length is in omega (arith, a, b)
 
-pub lines_length : (code : SlotCode) → length code ≤ lines_room code
-lines_length [] = omega arith
-lines_length (line ∷ lines) = let a = lines_length lines in omega (arith, a)
-
-pub codable : (code : SlotCode) → IsCodeInRange 256 code → lines_room code < 65536 → AreCodable code
-codable [] h l = tt
-codable (line ∷ lines) h l = (h.0, let a = list_length line.content in omega (arith, a, l), codable lines h.1 (omega (arith, l)))
-
 -- ── numbers ──
 pub same_numbers : (p : Program) → numbers (lowered.program_code p) ≡ numbers p
 same_numbers [] = refl
@@ -83,11 +82,69 @@ rising_zero (n ∷ ns) h = (omega arith, h.1, h.2)
 pub code_rises : (p : Program) → RisesFrom 0 (numbers p) → RisingFrom 0 (numbers (lowered.program_code p))
 code_rises p h = subst (RisingFrom 0) (sym (same_numbers p)) (rising_zero (numbers p) (rising_words 0 (numbers p) h))
 
--- ── a small program's code ──
-pub record IsSettling (seed : ℕ) (code : SlotCode) : Type 0 where
+-- ── a file's code ──
+-- code that is listed and laid out: its lists and lines can be counted, and its numbers rise
+pub record IsListed (code : SlotCode) : Type 0 where
   pub lists : AreCodable code
   pub lines : length code < 65536
   pub rising : RisingFrom 0 (numbers code)
+
+-- a line of a file has a list of a bounded length
+lists_codable : (p : Program) → AreSmall p → IsCodeInRange 256 (lowered.program_code p) → AreCodable (lowered.program_code p)
+lists_codable [] small ranges = tt
+lists_codable (line ∷ lines) small ranges = (
+  ranges.0,
+  let a = list_length (lowered.list_code line.content) in let b = command_room line.content small.0.spaced in let c = small.0.paid in omega (arith, a, b, c),
+  lists_codable lines small.1 ranges.1,
+)
+
+listed_code : (p : Program) → AreSmall p → RisesFrom 0 (numbers p) → IsCodeInRange 256 (lowered.program_code p) → IsListed (lowered.program_code p)
+listed_code p small rises ranges =
+    record {
+      lists = lists_codable p small ranges;
+      lines = let a = few_lines p rises in let b = count_numbers (lowered.program_code p) in let c = ap length (same_numbers p) in let d = count_numbers p in omega (arith, a, b, c, d);
+      rising = code_rises p rises;
+    }
+
+pub listed : (p : Program) {code : SlotCode} → code ≡ lowered.program_code p → AreStated p → RisesFrom 0 (numbers p) → ((limit : ℕ) → HasShortTexts limit p → IsCodeInRange limit code) → IsListed code
+listed p same stated rises ranges =
+    let small = are_small p stated in
+    subst IsListed (sym same) (listed_code p small rises (subst (IsCodeInRange 256) same (ranges 256 (small_short p small))))
+
+-- it settles, wherever it ends
+pub suits_anywhere : (seed : ℕ) {code : SlotCode} → IsListed code → SuitsAnywhere PROLOGUE_AT (program_code seed code)
+suits_anywhere seed {code} s =
+    let es = program_code seed code in
+    record {
+      modes = program_modes seed code;
+      names = distinct lowest 0 es (program_woven seed code s.rising s.lists);
+      known = program_known (labels_from PROLOGUE_AT es) PROLOGUE_AT seed code (program_labels seed code s.rising s.lists);
+      movable = program_moves seed code;
+    }
+
+-- a row of the line table for each line
+rows_size : (ns : List ℕ) → size (rows_code ns) ≡ 4 * length ns
+rows_size [] = refl
+rows_size (n ∷ ns) = let a = rows_size ns in omega (arith, a)
+
+rows_within : (seed : ℕ) (code : SlotCode) → 4 * length (numbers code) ≤ size (program_code seed code)
+rows_within seed code =
+    let ns = numbers code in
+    let lines = lines_code ns seed [] code in let past = past_code ns in let last = all_broken (still_asking [] code) in let search = find_code ns in let table = table_code ns in
+    let b = size_append block_code (lines ++ (past ++ (last ++ (search ++ table)))) in
+    let c = size_append lines (past ++ (last ++ (search ++ table))) in
+    let d = size_append past (last ++ (search ++ table)) in
+    let e = size_append last (search ++ table) in
+    let f = size_append search table in
+    let g = rows_size ns in
+    omega (arith, b, c, d, e, f, g)
+
+pub many_lines : (seed : ℕ) (code : SlotCode) → 38899 < 4 * length code → EndsFrom 0xA001 PROLOGUE_AT (program_code seed code)
+many_lines seed code many = unsettled_long PROLOGUE_AT (program_code seed code) (let a = rows_within seed code in let b = count_numbers code in omega (arith, a, b, many))
+
+-- ── a small program's code ──
+pub record IsSettling (seed : ℕ) (code : SlotCode) : Type 0 where
+  pub listed : IsListed code
   pub ends : PROLOGUE_AT + most_bytes (program_code seed code) ≤ 0xA000
   pub suits : Suits PROLOGUE_AT (program_code seed code)
 
@@ -95,15 +152,12 @@ settling_code : (seed : ℕ) (p : Program) → AreSmall p → RisesFrom 0 (numbe
 settling_code seed p small rises ranges cheap =
     let code = lowered.program_code p in
     let a = program_fits p (small_spaced p small) in
-    let b = lines_length code in
     let c = program_most seed code in
-    let lists : AreCodable code = codable code ranges (omega (arith, a, cheap)) in
+    let l = listed_code p small rises ranges in
     record {
-      lists = lists;
-      lines = omega (arith, a, b, cheap);
-      rising = code_rises p rises;
+      listed = l;
       ends = omega (arith, a, c, cheap);
-      suits = program_suits seed code (code_rises p rises) lists (omega (arith, a, c, cheap));
+      suits = program_suits seed code l.rising l.lists (omega (arith, a, c, cheap));
     }
 
 pub settling : (seed : ℕ) (p : Program) {code : SlotCode} {n : ℕ} → code ≡ lowered.program_code p → AreStated p → RisesFrom 0 (numbers p) → ((limit : ℕ) → HasShortTexts limit p → IsCodeInRange limit code) → n ≤ most → n ≡ cost p → IsSettling seed code
@@ -112,7 +166,7 @@ settling seed p same stated rises ranges cheap costs =
     subst (IsSettling seed) (sym same) (settling_code seed p small rises (subst (IsCodeInRange 256) same (ranges 256 (small_short p small))) (omega (arith, cheap, costs)))
 
 -- ── its image ──
-module _ {seed : ℕ} {code : SlotCode} (s : IsSettling seed code) {from : ℕ} {image : List ℕ} {labels : List (Name × ℕ)} (l : IsLaid PROLOGUE_AT (program_code seed code) from image labels) where
+module _ (seed : ℕ) {code : SlotCode} (s : IsListed code) {from : ℕ} {image : List ℕ} {labels : List (Name × ℕ)} (l : IsLaid PROLOGUE_AT (program_code seed code) from image labels) where
   abbrev items : List Entry
   items = l.items
 
@@ -128,13 +182,18 @@ module _ {seed : ℕ} {code : SlotCode} (s : IsSettling seed code) {from : ℕ} 
   pub has_table : is_some (address_in labels (label_of Table)) ≡ true
   has_table = ap (λ ls. is_some (address_in ls (label_of Table))) l.labels_are ∙ ap is_some placed.table
 
-  pub items_end : PROLOGUE_AT + size items ≤ 0xA000
-  items_end =
-      let a = forms_most (program_code seed code) l.settled.forms l.settled.of in
-      let b = items_size PROLOGUE_AT l.settled.forms in
-      let c = ap size l.settled.are in
-      let d = s.ends in
-      omega (arith, a, b, c, d)
+  -- as long as its bytes
+  pub bytes_end : PROLOGUE_AT + length image ≤ 0xA000 → PROLOGUE_AT + size items ≤ 0xA000
+  bytes_end h = let a = ap length l.bytes_are in let b = all_size own PROLOGUE_AT items in omega (arith, a, b, h)
+
+-- a small program's code ends by $9FFF
+pub items_end : {seed : ℕ} {code : SlotCode} (s : IsSettling seed code) {from : ℕ} {image : List ℕ} {labels : List (Name × ℕ)} (l : IsLaid PROLOGUE_AT (program_code seed code) from image labels) → PROLOGUE_AT + size l.items ≤ 0xA000
+items_end {seed} {code} s l =
+    let a = forms_most (program_code seed code) l.settled.forms l.settled.of in
+    let b = items_size PROLOGUE_AT l.settled.forms in
+    let c = ap size l.settled.are in
+    let d = s.ends in
+    omega (arith, a, b, c, d)
 
 -- ── what is compiled ──
 -- the texts of a PRG file's program
@@ -161,24 +220,23 @@ file_texts seed p items file g is =
     (lines_texts labels ns seed (stands_at labels (label_of Past)) LINES_AT [] p g.lines (header ++ block) back g.of_lines g.line_labels g.past (omega arith) before)
 
 -- a program's compiled form, from its image's bytes and labels
-pub made : {seed : ℕ} {p : Program} {code : SlotCode} (c : Compiled) {from : ℕ} {image : List ℕ} {labels : List (Name × ℕ)} → code ≡ lowered.program_code p → IsSettling seed code → too_deep p ≡ None → cost p ≤ most
-    → IsLaid PROLOGUE_AT (program_code seed code) from image labels
+pub made : {seed : ℕ} {p : Program} {code : SlotCode} (c : Compiled) {from : ℕ} {image : List ℕ} {labels : List (Name × ℕ)} → code ≡ lowered.program_code p → IsListed code → too_deep p ≡ None
+    → (l : IsLaid PROLOGUE_AT (program_code seed code) from image labels) → PROLOGUE_AT + size l.items ≤ 0xA000
     → prg_of c ≡ header ++ image → starts_of c ≡ starts_in labels (numbers code) → address_in labels (label_of Table) ≡ Some (table_of c)
     → map (λ w. (w.line, word_of w.target)) (warnings_of c) ≡ missing_targets p → IsCompiled seed p c
-made {seed} {p} {code} c same s shallow small l file starts table warned =
+made {seed} {p} {code} c same s shallow l ends file starts table warned =
     let own = labels_from PROLOGUE_AT l.items in
     let own_numbers : numbers code ≡ numbers p = ap numbers same ∙ same_numbers p in
     let all : starts_of c ≡ starts_in own (numbers p) = starts ∙ ap (λ ls. starts_in ls (numbers code)) l.labels_are ∙ ap (starts_in own) own_numbers in
     let bytes : prg_of c ≡ header ++ image_of PROLOGUE_AT l.items = file ∙ ap (λ b. header ++ b) l.bytes_are in
-    let g : Sections seed (lowered.program_code p) l.items own = subst (λ k. Sections seed k l.items own) same (placed s l) in
+    let g : Sections seed (lowered.program_code p) l.items own = subst (λ k. Sections seed k l.items own) same (placed seed s l) in
     record {
       shallow = shallow;
-      small = small;
       items = l.items;
       settled = subst (λ k. SettlesTo PROLOGUE_AT (program_code seed k) l.items) same l.rounds;
       prg = bytes;
       texts = subst (λ ss. LinesHoldTexts (prg_of c) (stands_at own (label_of Past)) ss p) (sym all) (file_texts seed p l.items (prg_of c) g bytes);
-      ends = items_end s l;
+      ends = ends;
       starts = all;
       lines = ap (map (λ s. s.0)) all ∙ start_numbers own (numbers p);
       rising = subst (PlacesRise LINES_AT) (sym all) (lines_begin_in_order own (numbers (lowered.program_code p)) seed LINES_AT [] p g.lines g.of_lines g.line_labels);

@@ -2,7 +2,7 @@
 use Rattle.std.proofs.Common.{◌≡◌, ℕ, ◌+◌, ◌*◌, ◌<◌, ◌≤◌, List, [], ◌∷◌, length, arith, None, sum_by}
 use Rattle.std.proofs.lemmas.List.Sums.{sum_by-cons}
 use Rattle.std.proofs.lemmas.List.{length-map}
-use Rattle.tb_syntax.specs.Source.{Command, Program, numbers}
+use Rattle.tb_syntax.specs.Source.{Command, Numbered, Program, numbers}
 use Rattle.tb_meaning.specs.Cost.{command_cost, cost}
 use Rattle.tb_syntax.specs.Texts.{AreShort, HasShortTexts}
 use Rattle.tb_syntax.specs.Texts.{command_texts}
@@ -42,6 +42,13 @@ small_short (line ∷ lines) h = (h.0.short, small_short lines h.1)
 rising_length : (low : ℕ) (ns : List ℕ) → low ≤ 32767 → RisesFrom low ns → length ns + low ≤ 32767
 rising_length low [] l h = omega (arith, l)
 rising_length low (n ∷ ns) l h = let a = rising_length n ns h.1 h.2 in omega (arith, a, h.0)
+
+pub count_numbers : {A : Type 0} (p : List (Numbered A)) → length (numbers p) ≡ length p
+count_numbers p = length-map p (λ line. line.number)
+
+-- a file has few lines
+pub few_lines : (p : Program) → RisesFrom 0 (numbers p) → length p ≤ 32767
+few_lines p r = let a = rising_length 0 (numbers p) (omega arith) r in let b = count_numbers p in omega (arith, a, b)
 
 lines_cost : (p : Program) → AreSmall p → sum_by (λ line. 36 + command_cost line.content) p ≤ 18396 * length p
 lines_cost [] h = omega arith

@@ -1,5 +1,5 @@
 -- What `compile` answers.
-use Rattle.std.specs.Prelude.{◌≡◌, ℕ, ◌<◌, List, [], Option, Some, None, Result, Ok, Err}
+use Rattle.std.specs.Prelude.{◌≡◌, ℕ, ◌<◌, ◌≤◌, List, [], map, Option, Some, None, Result, Ok, Err}
 use Rattle.tb_syntax.specs.Source.{Program}
 use Rattle.tb_meaning.specs.Cost.{cost}
 use Rattle.tb_lower.specs.Need.{too_deep}
@@ -11,16 +11,31 @@ use Rattle.tb_parser.specs.Readings.{Refusal}
 use Rattle.tb_codegen.specs.declared.compiled.Compiled.{Compiled}
 use Rattle.tb_refusals.specs.declared.refusals.CompileError.{CompileError}
 use Rattle.tb_refusals.specs.declared.refusals.CompileError.TheVariants.{Source, Lower, TooLarge, NoMemory}
-use Rattle.tb_codegen.specs.Compiled.{IsCompiled, most}
+use Rattle.tb_codegen.specs.Compiled.{IsCompiled, most, prg_of, starts_of, table_of, warnings_of}
+use Rattle.tb_words.specs.Words.{word_of}
+use Rattle.tb_codegen.specs.Roomy.{EndsFrom}
+use Rattle.tb_lower.specs.Lowered as lowered
+use Rattle.tb_runtime16.specs.Places.{PROLOGUE_AT}
+use Rattle.tb_templates.specs.Program.{program_code}
 
 -- the answer for a program: its expressions are looked at before its cost
 abbrev pub ProgramAnswer : ℕ → Program → Result Compiled CompileError → Type 0
-ProgramAnswer seed program (Ok c) = IsCompiled seed program c
+ProgramAnswer seed program (Ok c) = (cost program ≤ most) × IsCompiled seed program c
 ProgramAnswer seed program (Err (Source e)) = ⊥
 ProgramAnswer seed program (Err (Lower deep.NoMemory)) = ⊥
 ProgramAnswer seed program (Err (Lower (deep.TooDeep n))) = too_deep program ≡ Some n
 ProgramAnswer seed program (Err (TooLarge n)) = (too_deep program ≡ None) × (cost program ≡ n) × (most < n)
 ProgramAnswer seed program (Err NoMemory) = Unit {0}
+
+-- the answer of `compile_to_fit` for a program: it is refused by where its settled code and line table end, past $9FFF;
+-- what is told is its cost
+abbrev pub FitAnswer : ℕ → Program → Result Compiled CompileError → Type 0
+FitAnswer seed program (Ok c) = IsCompiled seed program c
+FitAnswer seed program (Err (Source e)) = ⊥
+FitAnswer seed program (Err (Lower deep.NoMemory)) = ⊥
+FitAnswer seed program (Err (Lower (deep.TooDeep n))) = too_deep program ≡ Some n
+FitAnswer seed program (Err (TooLarge n)) = (too_deep program ≡ None) × (cost program ≡ n) × EndsFrom 0xA001 PROLOGUE_AT (program_code seed (lowered.program_code program))
+FitAnswer seed program (Err NoMemory) = Unit {0}
 
 -- what an error tells of a line is the file's refusal; an error that tells nothing, as want of memory, is none
 abbrev pub Tells : Option Refusal → ℕ → FileRefusal → Type 0
@@ -54,3 +69,30 @@ pub record Answered (seed : ℕ) (source : List ℕ) (result : Result Compiled C
 abbrev pub HasOutcome : ℕ → List ℕ → Result Compiled CompileError → Type 0
 HasOutcome seed source (Err NoMemory) = Unit {0}
 HasOutcome seed source result = Answered seed source result
+
+-- ── the answer of `compile_to_fit` ──
+abbrev pub FitOutcome : ℕ → Outcome → Result Compiled CompileError → Type 0
+FitOutcome seed (Ok program) result = FitAnswer seed program result
+FitOutcome seed (Err r) result = RefusalAnswer r result
+
+pub record FitAnswered (seed : ℕ) (source : List ℕ) (result : Result Compiled CompileError) : Type 0 where
+  pub outcome : Outcome
+  pub made : LinesMake source outcome
+  pub answer : FitOutcome seed outcome result
+
+abbrev pub HasFitOutcome : ℕ → List ℕ → Result Compiled CompileError → Type 0
+HasFitOutcome seed source (Err NoMemory) = Unit {0}
+HasFitOutcome seed source result = FitAnswered seed source result
+
+-- two compiled programs show the same
+pub record AreSame (c d : Compiled) : Type 0 where
+  pub prg : prg_of c ≡ prg_of d
+  pub starts : starts_of c ≡ starts_of d
+  pub table : table_of c ≡ table_of d
+  pub warned : map {B = ℕ × ℕ} (λ w. (w.line, word_of w.target)) (warnings_of c) ≡ map (λ w. (w.line, word_of w.target)) (warnings_of d)
+
+-- unless memory ran out, the answer is the same program
+abbrev pub GivesSame : Compiled → Result Compiled CompileError → Type 0
+GivesSame c (Ok d) = AreSame c d
+GivesSame c (Err NoMemory) = Unit {0}
+GivesSame c (Err e) = ⊥

@@ -6,7 +6,6 @@ use Rattle.tb_asm.specs.declared.names.Name.{Name}
 use Rattle.tb_asm.specs.Layout.{Entry, size, image_of, labels_from, address_in}
 use Rattle.tb_asm.specs.Settle.{SettlesTo}
 use Rattle.tb_prg.specs.Prg.{header}
-use Rattle.tb_meaning.specs.Cost.{cost}
 use Rattle.tb_lower.specs.Lowered as lowered
 use Rattle.tb_meaning.specs.Missing.{missing_targets}
 use Rattle.tb_lower.specs.Need.{too_deep}
@@ -92,7 +91,6 @@ most = 37888
 -- line begins where its label stands among them, and so does the line table.
 pub record IsCompiled (seed : ℕ) (program : Program) (c : Compiled) : Type 0 where
   pub shallow : too_deep program ≡ None
-  pub small : cost program ≤ most
   pub items : List Entry
   pub settled : SettlesTo PROLOGUE_AT (program_code seed (lowered.program_code program)) items
   pub prg : prg_of c ≡ header ++ image_of PROLOGUE_AT items

@@ -1,0 +1,59 @@
+-- What both calls compile is the same.
+use Rattle.std.proofs.Common.{◌≡◌, ℕ, List, ◌++◌, map, Option, Some, None, Result, Ok, Err, sym, ap, ◌∙◌, subst, arith, is_some, true≢false}
+use Rattle.tb_syntax.specs.Source.{Program, numbers}
+use Rattle.tb_asm.specs.Layout.{Entry, size, labels_from, image_of, address_in}
+use Rattle.tb_asm.specs.Settle.{kept, items_from, SettlesTo}
+use Rattle.tb_lower.specs.Lowered as lowered
+use Rattle.tb_lower.specs.declared.lowering.LowerError.TheVariants as deep
+use Rattle.tb_parser.specs.Files.{Outcome}
+use Rattle.tb_prg.specs.Prg.{header}
+use Rattle.tb_refusals.specs.declared.refusals.CompileError.{CompileError}
+use Rattle.tb_refusals.specs.declared.refusals.CompileError.TheVariants.{Source, Lower, TooLarge, NoMemory}
+use Rattle.tb_runtime16.specs.Places.{PROLOGUE_AT}
+use Rattle.tb_templates.specs.declared.labels.Target.TheVariants.{Table}
+use Rattle.tb_templates.specs.Labels.{label_of}
+use Rattle.tb_templates.specs.Program.{program_code}
+use Rattle.tb_codegen.specs.declared.compiled.Compiled.{Compiled}
+use Rattle.tb_codegen.specs.Compiled.{IsCompiled, starts_in, table_of}
+use Rattle.tb_codegen.specs.Answers.{HasOutcome, OutcomeAnswer, LinesMake, FitAnswer, FitOutcome, AreSame, GivesSame}
+use Rattle.tb_codegen.proofs.Roomy.{one_way}
+
+same_items : (at : ℕ) (es items others : List Entry) → SettlesTo at es items → SettlesTo at es others → items ≡ others
+same_items at es items others a b = a.are ∙ ap (items_from at) (one_way at (map kept es) a.forms b.forms a.settled b.settled) ∙ sym b.are
+
+some_same : (a b : ℕ) → ◌≡◌ {A = Option ℕ} (Some a) (Some b) → a ≡ b
+some_same a b e = cc
+
+compiled_same : (seed : ℕ) (p : Program) (c d : Compiled) → IsCompiled seed p c → IsCompiled seed p d → AreSame c d
+compiled_same seed p c d a b =
+    let e = same_items PROLOGUE_AT (program_code seed (lowered.program_code p)) a.items b.items a.settled b.settled in
+    record {
+      prg = a.prg ∙ ap (λ items. header ++ image_of PROLOGUE_AT items) e ∙ sym b.prg;
+      starts = a.starts ∙ ap (λ items. starts_in (labels_from PROLOGUE_AT items) (numbers p)) e ∙ sym b.starts;
+      table = some_same (table_of c) (table_of d) (sym a.table ∙ ap (λ items. address_in (labels_from PROLOGUE_AT items) (label_of Table)) e ∙ b.table);
+      warned = a.warned ∙ sym b.warned;
+    }
+
+program_same : (seed : ℕ) (p : Program) (c : Compiled) (r : Result Compiled CompileError) → IsCompiled seed p c → FitAnswer seed p r → GivesSame c r
+program_same seed p c (Ok d) a h = compiled_same seed p c d a h
+program_same seed p c (Err (Source e)) a h = h
+program_same seed p c (Err (Lower deep.NoMemory)) a h = h
+program_same seed p c (Err (Lower (deep.TooDeep n))) a h = let e : None ≡ Some n = sym a.shallow ∙ h in true≢false (sym (ap is_some e))
+program_same seed p c (Err (TooLarge n)) a h =
+    let es = program_code seed (lowered.program_code p) in
+    let e = ap size (a.settled.are ∙ ap (items_from PROLOGUE_AT) (one_way PROLOGUE_AT (map kept es) a.settled.forms h.2.forms a.settled.settled h.2.rounds)) in
+    let b = h.2.beyond in let f = a.ends in
+    absurd (omega (arith, e, b, f))
+program_same seed p c (Err NoMemory) a h = tt
+
+pub gives_same : (seed : ℕ) (source : List ℕ) (r : Result Compiled CompileError) → ((outcome : Outcome) → LinesMake source outcome → FitOutcome seed outcome r)
+    → (c : Compiled) → HasOutcome seed source (Ok c) → GivesSame c r
+gives_same seed source r only c h = by h.outcome h.answer (only h.outcome h.made)
+  where
+    by : (o : Outcome) → OutcomeAnswer seed o (Ok c) → FitOutcome seed o r → GivesSame c r
+    by (Ok p) a b = program_same seed p c r a.1 b
+    by (Err e) a b = absurd a
+
+pub gives_same_of : (seed : ℕ) (source : List ℕ) (r : Result Compiled CompileError) (p : Program) → ((outcome : Outcome) → LinesMake source outcome → ◌≡◌ {A = Outcome} (Ok p) outcome) → FitAnswer seed p r
+    → (c : Compiled) → HasOutcome seed source (Ok c) → GivesSame c r
+gives_same_of seed source r p only answer = gives_same seed source r (λ o made. subst (λ x. FitOutcome seed x r) (only o made) answer)
