@@ -159,7 +159,7 @@ END
 refused_sources build SOURCE out.prg
 refused_sources run SOURCE
 
-# Checks. What is said of which source stands in tb_rows
+# Checks. What is said of which source stands in tb_golden
 file slips.bas '10 FOR I=1 TO 10\n20 PRINT "\xe4"\n\n30 PRIMT I\n10 END\n'
 file dice.bas '10 PRINT RND(6)+1\n20 GOTO 100\n10 PRINT RND(6)/5000+1\n'
 cat >slips.said <<'END'

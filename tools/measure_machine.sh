@@ -9,10 +9,10 @@
 # is built, by the command line (`tbc run --prg`).
 # The runs go in turn, and the best round of each counts, since other load only ever makes a round longer.
 . "$(dirname "${BASH_SOURCE[0]}")/setup.sh"
-trials=$root/crates/tb_trials/out/tb_trials
-[ -x "$trials" ] || { echo "build the trials first: cd crates/tb_trials && rt run <stdin" >&2; exit 1; }
+trials=$root/crates/tb_bench/out/tb_bench
+[ -x "$trials" ] || { echo "build the trials first: cd crates/tb_bench && rt run <stdin" >&2; exit 1; }
 
-# A program for sim65: its mark, version 2, a 6502, stack pointer at 0, load address and start $0C00, the bytes of the program in tb_trials.
+# A program for sim65: its mark, version 2, a 6502, stack pointer at 0, load address and start $0C00, the bytes of the program in tb_bench.
 mark='sim65\x02\x00\x00\x00\x0c\x00\x0c'
 printf "$mark"'\xe8\xd0\xfd\xc8\xd0\xfa\xee\x00\xc0\x4c\x00\x0c' >loop
 printf "$mark"'\xad\x00\xc0\x18\x6d\x02\xc0\x8d\x00\xc0\xad\x01\xc0\x6d\x03\xc0\x8d\x01\xc0\xce\x04\xc0\xd0\xe8\x4c\x00\x0c' >sums

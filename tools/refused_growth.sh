@@ -3,11 +3,11 @@
 # meets no refusal. Each run must end with status 4, `tbc: out of memory` and nothing written (of a program that is
 # played, debugged or profiled, its warnings and a beginning of what it shows), or answer exactly what the command answers with ample memory;
 # where no growth was refused, it must not be out of memory. So must the calls that no command makes or shows, each a
-# name behind `tb_trials call`. The refusing malloc is preloaded, so this needs a C compiler (cc) and glibc.
+# name behind `tb_bench call`. The refusing malloc is preloaded, so this needs a C compiler (cc) and glibc.
 . "$(dirname "${BASH_SOURCE[0]}")/setup.sh"
 needs_program
-trials=$root/crates/tb_trials/out/tb_trials
-[ -x "$trials" ] || { echo "build the trials first: cd crates/tb_trials && rt run <stdin" >&2; exit 1; }
+trials=$root/crates/tb_bench/out/tb_bench
+[ -x "$trials" ] || { echo "build the trials first: cd crates/tb_bench && rt run <stdin" >&2; exit 1; }
 needs cc
 with_step=yes
 
@@ -109,7 +109,7 @@ check() { refuse_each "$tbc" "$@"; } # WORD..: a command of the program
 
 check_call() { # NAME: a call, whose answer is a text
     refuse_each "$trials" call "$1"
-    [ -s shown.wanted ] || { echo "tb_trials call $1: no answer: $(<said.wanted)" >&2; failed=$((failed + 1)); }
+    [ -s shown.wanted ] || { echo "tb_bench call $1: no answer: $(<said.wanted)" >&2; failed=$((failed + 1)); }
 }
 
 : >commands

@@ -173,7 +173,7 @@ row 3 '' "tbc: step at a keyboard $beyond"* at_terminal unbuilt/tbc step hello.b
 
 # What is stale: sources, definitions and the list of crates of what the program stands on, and nothing else
 mkdir -p built/crates/tb_words/proofs
-touch built/crates/tb_words/proofs/Lib.antt built/crates/tb_rows/src/main.rt
+touch built/crates/tb_words/proofs/Lib.antt built/crates/tb_golden/src/main.rt
 row 0 '' HELLO built/tbc run hello.bas
 for file in crates/tb_words/src/lib.rt crates/tb_memmap/specs/Lib.antt crates.txt; do
     touch -d '1 minute' "built/$file"

@@ -6,8 +6,8 @@ use Rattle.tb_meaning.specs.Cost.{cost}
 use Rattle.tb_lower.specs.Need.{command_need, too_deep}
 use Rattle.tb_lower.specs.declared.lowering.LowerError.TheVariants as deep
 use Rattle.tb_parser.specs.declared.errors.SourceError.{SourceError}
-use Rattle.tb_refusals.specs.declared.refusals.CompileError.TheVariants.{Source, Lower, TooLarge, NoMemory}
-use Rattle.tb_refusals.specs.declared.refusals.CompileError.{CompileError}
+use Rattle.tb_compile_errors.specs.declared.refusals.CompileError.TheVariants.{Source, Lower, TooLarge, NoMemory}
+use Rattle.tb_compile_errors.specs.declared.refusals.CompileError.{CompileError}
 use Rattle.tb_codegen.specs.Answers.{ProgramAnswer}
 use Rattle.tb_codegen.specs.Compiled.{most}
 use Rattle.tb_codegen.specs.declared.compiled.Compiled.{Compiled}

@@ -6,8 +6,8 @@ use Rattle.tb_parser.specs.declared.errors.SourceErrorKind.TheVariants as kind
 use Rattle.tb_parser.specs.Answers.{refusal_of}
 use Rattle.tb_parser.specs.Files.{Outcome, refused_at}
 use Rattle.tb_parser.specs.Readings.{Refusal, at_column}
-use Rattle.tb_refusals.specs.declared.refusals.CompileError.TheVariants.{Source, Lower, TooLarge, NoMemory}
-use Rattle.tb_refusals.specs.declared.refusals.CompileError.{CompileError}
+use Rattle.tb_compile_errors.specs.declared.refusals.CompileError.TheVariants.{Source, Lower, TooLarge, NoMemory}
+use Rattle.tb_compile_errors.specs.declared.refusals.CompileError.{CompileError}
 use Rattle.tb_codegen.specs.Answers.{LinesMake, OutcomeAnswer, RefusalAnswer}
 use Rattle.tb_codegen.specs.declared.compiled.Compiled.{Compiled}
 use Rattle.tb_check.specs.declared.judging.ProgramFaults.{ProgramFaults}

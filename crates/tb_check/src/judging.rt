@@ -4,7 +4,7 @@ ghost use Rattle.tb_syntax.specs.Source.{Program as SourceProgram, numbers};
 ghost use Rattle.tb_syntax.specs.PlainData.{lines_of};
 ghost use Rattle.tb_meaning.specs.Cost as costs;
 ghost use Rattle.tb_parser.specs.Files.{AreStated, RisesFrom, at_end};
-ghost use Rattle.tb_refusals.specs.declared.refusals.CompileError.{CompileError};
+ghost use Rattle.tb_compile_errors.specs.declared.refusals.CompileError.{CompileError};
 ghost use Rattle.tb_codegen.specs.Answers.{LinesMake};
 ghost use Rattle.tb_codegen.specs.declared.compiled.Compiled.{Compiled};
 ghost use Rattle.tb_check.specs.Agreement.{AgreesWith, Compiles};

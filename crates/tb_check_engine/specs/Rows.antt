@@ -1,6 +1,6 @@
 -- The rows that show a line of a source, and a place in it.
 use Rattle.std.specs.Prelude.{ℕ, ◌-◌, max, List, [], ◌∷◌, ◌++◌, length, map, take, replicate, nat_lt, ◌||◌, ◌==◌, if◌then◌else◌}
-use Rattle.tb_written.specs.ShownBytes.{shown}
+use Rattle.tb_source_text.specs.ShownBytes.{shown}
 
 -- a space, a bar, a space
 abbrev pub bar : List ℕ

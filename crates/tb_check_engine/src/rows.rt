@@ -3,7 +3,7 @@ ghost use Rattle.std.specs.Prelude.{◌≡◌, ◌++◌, OnOk};
 ghost use Rattle.tb_check_engine.specs.Rows.{caret_row, line_row};
 
 use std::alloc::AllocError;
-use tb_written::{MOST_SHOWN, cut, push_shown, push_spaces};
+use tb_source_text::{MOST_SHOWN, cut, push_shown, push_spaces};
 
 /// The columns of a line's number.
 const NUMBER_COLUMNS: usize = 5;

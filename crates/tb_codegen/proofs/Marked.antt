@@ -17,11 +17,11 @@ use Rattle.tb_selection.specs.Laws.{AreClosed}
 use Rattle.tb_selection.proofs.Closed.{all_closed}
 use Rattle.tb_settling.specs.Settled.{IsLaid}
 use Rattle.tb_templates.specs.Program.{program_code}
-use Rattle.tb_keeping.specs.Layout.{place_of}
-use Rattle.tb_keeping.specs.LineStarts.{MarksLines}
-use Rattle.tb_grouping.specs.Laid.{ArePolled}
-use Rattle.tb_grouping.proofs.Compiled.{image_marks}
-use Rattle.tb_keeping.proofs.Numbers.{start_of_line}
+use Rattle.tb_simulation.specs.Layout.{place_of}
+use Rattle.tb_simulation.specs.LineStarts.{MarksLines}
+use Rattle.tb_correctness.specs.Laid.{ArePolled}
+use Rattle.tb_correctness.proofs.Compiled.{image_marks}
+use Rattle.tb_simulation.proofs.Numbers.{start_of_line}
 use Rattle.tb_codegen.specs.Compiled.{start_in, starts_in}
 use Rattle.tb_codegen.proofs.Kept.{all_polled}
 use Rattle.tb_codegen.proofs.Sized.{IsListed, same_numbers}

@@ -7,8 +7,8 @@ use Rattle.tb_lower.specs.Lowered as lowered
 use Rattle.tb_lower.specs.declared.lowering.LowerError.TheVariants as deep
 use Rattle.tb_parser.specs.Files.{Outcome}
 use Rattle.tb_prg.specs.Prg.{header}
-use Rattle.tb_refusals.specs.declared.refusals.CompileError.{CompileError}
-use Rattle.tb_refusals.specs.declared.refusals.CompileError.TheVariants.{Source, Lower, TooLarge, NoMemory}
+use Rattle.tb_compile_errors.specs.declared.refusals.CompileError.{CompileError}
+use Rattle.tb_compile_errors.specs.declared.refusals.CompileError.TheVariants.{Source, Lower, TooLarge, NoMemory}
 use Rattle.tb_runtime16.specs.Places.{PROLOGUE_AT}
 use Rattle.tb_templates.specs.declared.labels.Target.TheVariants.{Table}
 use Rattle.tb_templates.specs.Labels.{label_of}

@@ -9,8 +9,8 @@ use Rattle.tb_parser.specs.Files.{FileRefusal, Outcome, LinesAre, refused_at}
 use Rattle.tb_parser.specs.Lines.{lines_of_file}
 use Rattle.tb_parser.specs.Readings.{Refusal}
 use Rattle.tb_codegen.specs.declared.compiled.Compiled.{Compiled}
-use Rattle.tb_refusals.specs.declared.refusals.CompileError.{CompileError}
-use Rattle.tb_refusals.specs.declared.refusals.CompileError.TheVariants.{Source, Lower, TooLarge, NoMemory}
+use Rattle.tb_compile_errors.specs.declared.refusals.CompileError.{CompileError}
+use Rattle.tb_compile_errors.specs.declared.refusals.CompileError.TheVariants.{Source, Lower, TooLarge, NoMemory}
 use Rattle.tb_codegen.specs.Compiled.{IsCompiled, most, prg_of, starts_of, table_of, warnings_of}
 use Rattle.tb_words.specs.Words.{word_of}
 use Rattle.tb_codegen.specs.Roomy.{EndsFrom}

@@ -8,4 +8,4 @@ mod costs;
 pub use compiled::{Compiled, LineStart};
 pub use compiler::{Options, compile, compile_to_fit};
 pub use costs::{cost, line_cost};
-pub use tb_refusals::CompileError;
+pub use tb_compile_errors::CompileError;

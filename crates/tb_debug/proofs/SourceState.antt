@@ -10,9 +10,9 @@ use Rattle.tb_meaning.specs.Control.{At, Past, Place, has_line}
 use Rattle.tb_runtime16.specs.Places.{NOTES, NOTE_HIGH, NOTE_LOW}
 use Rattle.tb_templates.specs.declared.labels.Target.TheVariants.{Line}
 use Rattle.tb_templates.specs.Labels.{label_of}
-use Rattle.tb_keeping.specs.Layout.{is_start}
-use Rattle.tb_keeping.specs.LineStarts as kept
-use Rattle.tb_keeping.specs.LineStarts.{HoldsReturns, StandsFor}
+use Rattle.tb_simulation.specs.Layout.{is_start}
+use Rattle.tb_simulation.specs.LineStarts as kept
+use Rattle.tb_simulation.specs.LineStarts.{HoldsReturns, StandsFor}
 use Rattle.tb_codegen.specs.Compiled.{PlacesRise, stands_at, starts_in}
 use Rattle.tb_debug.specs.Lines.{line_at}
 use Rattle.tb_debug.specs.Readings.{byte_at, lines_of_notes, note_read, notes_in, word_at}

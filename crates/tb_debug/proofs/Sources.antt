@@ -7,8 +7,8 @@ use Rattle.tb_asm.specs.Layout.{labels_from}
 use Rattle.tb_runtime16.specs.Places.{PROLOGUE_AT}
 use Rattle.tb_kernal.specs.Machine.{State, state_of}
 use Rattle.tb_kernal.specs.Runs.{run}
-use Rattle.tb_keeping.specs.Layout.{is_start}
-use Rattle.tb_keeping.specs.LineStarts.{BeginsLine, begun}
+use Rattle.tb_simulation.specs.Layout.{is_start}
+use Rattle.tb_simulation.specs.LineStarts.{BeginsLine, begun}
 use Rattle.tb_meaning.specs.Control.{has_line}
 use Rattle.tb_syntax.specs.Source.{Program, numbers}
 use Rattle.tb_templates.specs.declared.labels.Target.TheVariants.{Line}

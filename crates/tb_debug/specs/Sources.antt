@@ -4,8 +4,8 @@ use Rattle.std.specs.Int.{cast_signed, w16}
 use Rattle.tb_memmap.specs.Regions.{BASIC_START}
 use Rattle.tb_meaning.specs.Control.{At, Past, Place}
 use Rattle.tb_kernal.specs.Machine.{State, state_of}
-use Rattle.tb_keeping.specs.Kept.{Starts}
-use Rattle.tb_keeping.specs.LineStarts.{BeginsLine, MarksLines}
+use Rattle.tb_simulation.specs.Kept.{Starts}
+use Rattle.tb_simulation.specs.LineStarts.{BeginsLine, MarksLines}
 use Rattle.tb_syntax.specs.Source.{Program}
 use Rattle.tb_codegen.specs.Compiled.{IsCompiled, loaded_of, start_of, starts_of}
 use Rattle.tb_debug.specs.Readings.{returns_of, variable_of}

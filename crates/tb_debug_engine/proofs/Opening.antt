@@ -9,7 +9,7 @@ use Rattle.tb_prg.specs.Prg.{content_of}
 use Rattle.tb_memmap.specs.Bytes.{IsOpenRange}
 use Rattle.tb_opcodes.specs.Bytes.{AreBytes}
 use Rattle.tb_syntax.specs.Source.{Program}
-use Rattle.tb_keeping.specs.Kept.{Starts}
+use Rattle.tb_simulation.specs.Kept.{Starts}
 use Rattle.tb_engines.specs.Programs.{IsUnloadable, start}
 use Rattle.tb_engines.specs.declared.delivery.Stop.{Stop}
 use Rattle.tb_engines.specs.declared.delivery.Stop.TheVariants.{NoMemory as NoMachine, Refused as CantLoad}

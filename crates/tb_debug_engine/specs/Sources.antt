@@ -1,15 +1,15 @@
 -- A source that is debugged.
 use Rattle.std.specs.Prelude.{◌≡◌, ◌≢◌, ◌⊎◌, ℕ, List, map, Option, Result, Ok, Err}
 use Rattle.tb_syntax.specs.Source.{Program}
-use Rattle.tb_refusals.specs.declared.refusals.CompileError.{CompileError}
-use Rattle.tb_refusals.specs.declared.refusals.CompileError.TheVariants.{NoMemory as NoProgramMemory}
+use Rattle.tb_compile_errors.specs.declared.refusals.CompileError.{CompileError}
+use Rattle.tb_compile_errors.specs.declared.refusals.CompileError.TheVariants.{NoMemory as NoProgramMemory}
 use Rattle.tb_codegen.specs.Answers.{HasOutcome, LinesMake}
 use Rattle.tb_codegen.specs.Compiled.{starts_of}
 use Rattle.tb_streams.specs.Streams.{MayPassMost, Reads}
 use Rattle.tb_engines.specs.declared.outcome.Outcome.{Outcome}
 use Rattle.tb_engines.specs.declared.outcome.Outcome.TheVariants.{Ended, Refused, ReadFault, WriteFault, NoMemory}
 use Rattle.tb_engines.specs.declared.outcome.Refusal.TheVariants.{Source}
-use Rattle.tb_written.specs.Lines.{numbered, pair_of}
+use Rattle.tb_source_text.specs.Lines.{numbered, pair_of}
 use Rattle.tb_debug.specs.Sources.{IsMadeOf}
 use Rattle.tb_debug.specs.declared.answer.Answer.{Answer}
 use Rattle.tb_debug_engine.specs.Texts.{text_of}

@@ -11,7 +11,7 @@ use tb_codegen::{CompileError, Compiled, LineStart, Options, compile};
 use tb_engines::{Outcome, Refusal, without_input};
 use tb_meaning::Warning;
 use tb_streams::{Tracked, read_input};
-use tb_written::{Numbered, numbered_lines};
+use tb_source_text::{Numbered, numbered_lines};
 
 /// A source, and what it was compiled to.
 #[derive(Drop)]

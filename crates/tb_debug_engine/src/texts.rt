@@ -1,6 +1,6 @@
 //! The texts of answers.
 ghost use Rattle.std.specs.Prelude.{◌≡◌, ◌+◌, ◌^◌, ◌++◌, ◌<◌, flat_map, length, map, min, true, IfOk, OnOk};
-ghost use Rattle.tb_written.specs.Lines.{pair_of};
+ghost use Rattle.tb_source_text.specs.Lines.{pair_of};
 ghost use Rattle.tb_debug_engine.specs.Lists.{written};
 ghost use Rattle.tb_debug_engine.specs.Sources.{shown_of};
 ghost use Rattle.tb_debug_engine.specs.Texts as texts;
@@ -16,7 +16,7 @@ use tb_disasm::{Line, Listing};
 use tb_engines::end_of;
 use tb_kernal::Status;
 use tb_streams::host_form;
-use tb_written::Numbered;
+use tb_source_text::Numbered;
 
 /// How many bytes of memory stand on a line.
 const ROW: usize = 16;

@@ -2,8 +2,8 @@
 use Rattle.std.proofs.Common.{◌≡◌, ℕ, List, [], Option, Result, Ok, Err, refl, subst, sym}
 use Rattle.tb_meaning.specs.declared.missing.Warning.{Warning}
 use Rattle.tb_parser.specs.Files.{Outcome as FileOutcome}
-use Rattle.tb_refusals.specs.declared.refusals.CompileError.{CompileError}
-use Rattle.tb_refusals.specs.declared.refusals.CompileError.TheVariants.{Source as BadSource, Lower, TooLarge, NoMemory as NoCompilerMemory}
+use Rattle.tb_compile_errors.specs.declared.refusals.CompileError.{CompileError}
+use Rattle.tb_compile_errors.specs.declared.refusals.CompileError.TheVariants.{Source as BadSource, Lower, TooLarge, NoMemory as NoCompilerMemory}
 use Rattle.tb_codegen.specs.Answers.{HasOutcome, LinesMake, OutcomeAnswer}
 use Rattle.tb_codegen.specs.Compiled.{warnings_of}
 use Rattle.tb_codegen.specs.declared.compiled.Compiled.{Compiled}

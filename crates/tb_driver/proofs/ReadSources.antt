@@ -4,9 +4,9 @@ use Rattle.std.specs.Io.KnownBytes.{Keeps as KeepsBytes}
 use Rattle.tb_memmap.specs.Regions.{BASIC_START}
 use Rattle.tb_meaning.specs.declared.missing.Warning.{Warning}
 use Rattle.tb_syntax.specs.Source.{Program}
-use Rattle.tb_keeping.specs.Kept.{Keeps}
+use Rattle.tb_simulation.specs.Kept.{Keeps}
 use Rattle.tb_parser.specs.Files.{Outcome as FileOutcome}
-use Rattle.tb_refusals.specs.declared.refusals.CompileError.{CompileError}
+use Rattle.tb_compile_errors.specs.declared.refusals.CompileError.{CompileError}
 use Rattle.tb_codegen.specs.Answers.{HasOutcome, LinesMake, OutcomeAnswer}
 use Rattle.tb_codegen.specs.Compiled.{prg_of, loaded_of, warnings_of}
 use Rattle.tb_codegen.specs.declared.compiled.Compiled.{Compiled}

@@ -6,7 +6,7 @@ use Rattle.tb_meaning.specs.Steps as source
 use Rattle.tb_meaning.specs.Steps.{Ended, Faulted, Waits, Over, sent_by}
 use Rattle.tb_words.specs.Prefixes.{IsPrefix}
 use Rattle.tb_meaning.specs.Meaning.{source_run}
-use Rattle.tb_keeping.specs.Kept.{Keeps}
+use Rattle.tb_simulation.specs.Kept.{Keeps}
 use Rattle.tb_codegen.specs.Answers.{LinesMake}
 use Rattle.tb_prg.specs.Prg.{content_of}
 use Rattle.tb_streams.specs.HostForm.{host_form_of}

@@ -3,8 +3,8 @@ use Rattle.std.specs.Prelude.{ℕ, ◌≡◌, List, [], Result, Ok, Err}
 use Rattle.tb_meaning.specs.declared.missing.Warning.{Warning}
 use Rattle.tb_parser.specs.Files.{Outcome}
 use Rattle.tb_codegen.specs.declared.compiled.Compiled.{Compiled}
-use Rattle.tb_refusals.specs.declared.refusals.CompileError.{CompileError}
-use Rattle.tb_refusals.specs.declared.refusals.CompileError.TheVariants.{NoMemory}
+use Rattle.tb_compile_errors.specs.declared.refusals.CompileError.{CompileError}
+use Rattle.tb_compile_errors.specs.declared.refusals.CompileError.TheVariants.{NoMemory}
 use Rattle.tb_codegen.specs.Answers.{HasOutcome, LinesMake, OutcomeAnswer}
 use Rattle.tb_codegen.specs.Compiled.{prg_of, warnings_of}
 use Rattle.tb_engines.specs.Outcomes.{Product}

@@ -9,7 +9,7 @@ use tb_cpu::Wrong;
 use tb_lower::LowerError;
 use tb_parser::{SourceError, SourceErrorKind};
 use tb_prg::PrgError;
-use tb_refusals::CompileError;
+use tb_compile_errors::CompileError;
 
 fn kind_text(kind: AsmErrorKind) -> &'static str {
     match kind {

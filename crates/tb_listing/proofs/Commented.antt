@@ -5,7 +5,7 @@ use Rattle.std.specs.List.{filter}
 use Rattle.std.specs.Prelude.{Result, Ok, Err, OnOk}
 use Rattle.std.proofs.lemmas.List.{map-append, take_more, length-take, length-drop}
 use Rattle.tb_asm.specs.Text.{split_lines, begins_with_10, put}
-use Rattle.tb_written.specs.ShownBytes.{shown}
+use Rattle.tb_source_text.specs.ShownBytes.{shown}
 use Rattle.tb_listing.specs.Comments.{is_comment, comments, comment, comment_row, HasComments, KeepsComments}
 
 -- what is shown ends no line

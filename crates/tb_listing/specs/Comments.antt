@@ -5,8 +5,8 @@ use Rattle.tb_asm.specs.Text.{split_lines}
 use Rattle.tb_disasm.specs.Listing.{lines_of}
 use Rattle.tb_disasm.specs.ListingText.{text_of}
 use Rattle.tb_runtime16.specs.Places.{PROLOGUE_AT}
-use Rattle.tb_written.specs.Lines.{last_of, numbered}
-use Rattle.tb_written.specs.ShownBytes.{shown}
+use Rattle.tb_source_text.specs.Lines.{last_of, numbered}
+use Rattle.tb_source_text.specs.ShownBytes.{shown}
 
 -- a line that is a comment and nothing else
 abbrev pub is_comment : List ℕ → Bool

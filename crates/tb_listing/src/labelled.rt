@@ -2,8 +2,8 @@
 ghost use Rattle.std.specs.Prelude.{◌≡◌, ◌≤◌, ◌∷◌, ◌++◌, [], IfOk, OnOk, length, map};
 ghost use Rattle.tb_codegen.specs.Compiled.{pair_of as start_pair};
 ghost use Rattle.tb_listing.specs.Comments.{KeepsComments, comment_on, comment_row, comments};
-ghost use Rattle.tb_written.specs.Lines.{pair_of};
-ghost use Rattle.tb_written.specs.ShownBytes.{shown};
+ghost use Rattle.tb_source_text.specs.Lines.{pair_of};
+ghost use Rattle.tb_source_text.specs.ShownBytes.{shown};
 
 use crate::marks::Marks;
 use crate::names::{has_label, name_of, push_outside};
@@ -12,7 +12,7 @@ use std::alloc::{AllocError, Global};
 use tb_asm::name;
 use tb_disasm::{Content, first_line, write_byte, write_item, write_word};
 use tb_opcodes::Mode;
-use tb_written::{Numbered, cut, push_shown, text_of};
+use tb_source_text::{Numbered, cut, push_shown, text_of};
 
 /// All that a listing shows.
 #[derive(Clone, Copy, Drop)]

@@ -6,7 +6,7 @@ ghost use Rattle.tb_runtime16.specs.Places.{PROLOGUE_AT};
 ghost use Rattle.tb_codegen.specs.Compiled.{prg_of, starts_of};
 ghost use Rattle.tb_disasm.specs.Back.{GivesBack};
 ghost use Rattle.tb_listing.specs.Comments.{ShowsLines, comment_on, comments, plain};
-ghost use Rattle.tb_written.specs.Lines.{numbered};
+ghost use Rattle.tb_source_text.specs.Lines.{numbered};
 
 use crate::labelled::{View, labelled};
 use crate::marks::marks_of;
@@ -16,7 +16,7 @@ use tb_asm::{AsmErrorKind, Item, TextError, assemble, read_text};
 use tb_codegen::Compiled;
 use tb_disasm::disassemble;
 use tb_runtime16::BLOCK_AT;
-use tb_written::numbered_lines;
+use tb_source_text::numbered_lines;
 
 /// How many bytes a PRG file has before the block: its load address and the BASIC line.
 const HEADER: usize = 14;

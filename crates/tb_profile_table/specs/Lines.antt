@@ -1,6 +1,6 @@
 -- The statements of a source, as they were written.
 use Rattle.std.specs.Prelude.{ℕ, List, [], map}
-use Rattle.tb_written.specs.Lines.{behind_number, last_of, numbered}
+use Rattle.tb_source_text.specs.Lines.{behind_number, last_of, numbered}
 use Rattle.tb_profile_table.specs.declared.rows.Row.{Row}
 use Rattle.tb_profile_table.specs.declared.lines.Line.{Line}
 

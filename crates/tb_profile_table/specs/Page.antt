@@ -5,7 +5,7 @@ use Rattle.tb_profile_table.specs.declared.page.TheConstants.{HEAD, ROWS, FOOT}
 use Rattle.tb_profile_table.specs.declared.rows.Row.{Row}
 use Rattle.tb_profile_table.specs.declared.rows.Whole.{Whole}
 use Rattle.tb_profile_table.specs.declared.table.Figures.{Figures}
-use Rattle.tb_written.specs.ShownBytes.{shown}
+use Rattle.tb_source_text.specs.ShownBytes.{shown}
 use Rattle.tb_profile_table.specs.Figures.{percent, share}
 use Rattle.tb_profile_table.specs.Table.{figures_of, sum_of}
 

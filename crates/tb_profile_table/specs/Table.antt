@@ -4,7 +4,7 @@ use Rattle.std.specs.Fmt.{decimal}
 use Rattle.tb_profile_table.specs.declared.rows.Row.{Row}
 use Rattle.tb_profile_table.specs.declared.rows.Whole.{Whole}
 use Rattle.tb_profile_table.specs.declared.table.Figures.{Figures}
-use Rattle.tb_written.specs.ShownBytes.{shown}
+use Rattle.tb_source_text.specs.ShownBytes.{shown}
 use Rattle.tb_profile_table.specs.Figures.{percent, right, share}
 
 -- what stands in the row of a line

@@ -4,7 +4,7 @@ ghost use Rattle.std.specs.Fmt.{decimal};
 ghost use Rattle.tb_profile_table.specs.Figures.{percent, right, share};
 
 use std::alloc::{AllocError, Global};
-use tb_written::push_spaces;
+use tb_source_text::push_spaces;
 
 /// Appends a number.
 pub fn push_number(alloc: Global, text: &mut Vec<u8>, number: u128) -> Result<(), AllocError>

@@ -1,11 +1,11 @@
 //! Lines with their statements, as they were written.
 ghost use Rattle.std.specs.Prelude.{◌≡◌, IfOk, map};
 ghost use Rattle.tb_profile_table.specs.Lines.{line_pair, stated, stated_in};
-ghost use Rattle.tb_written.specs.Lines.{pair_of};
+ghost use Rattle.tb_source_text.specs.Lines.{pair_of};
 
 use crate::rows::Row;
 use std::alloc::{AllocError, Global};
-use tb_written::{Numbered, behind_number, numbered_lines, text_of};
+use tb_source_text::{Numbered, behind_number, numbered_lines, text_of};
 
 /// What a line took, and what stands behind its number.
 #[derive(Clone, Copy, Drop)]

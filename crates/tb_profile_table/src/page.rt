@@ -8,7 +8,7 @@ use crate::lines::Line;
 use crate::rows::{Row, Whole};
 use crate::table::{Figures, figures_of, sum_of};
 use std::alloc::{AllocError, Global};
-use tb_written::shown;
+use tb_source_text::shown;
 
 /// The page up to the sums.
 pub const HEAD: &[u8] = b"<!DOCTYPE html>

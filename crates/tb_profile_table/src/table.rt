@@ -8,7 +8,7 @@ use crate::figures::{percent, push_column, push_right, share};
 use crate::lines::Line;
 use crate::rows::{Row, Whole};
 use std::alloc::{AllocError, Global};
-use tb_written::push_shown;
+use tb_source_text::push_shown;
 
 /// What stands in a row: how often its line was begun, and what it took.
 #[derive(Clone, Copy, Drop)]

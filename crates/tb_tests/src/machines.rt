@@ -8,7 +8,7 @@ use tb_driver::{Tracked, host_form, run_text};
 use tb_engines::start_regs;
 use tb_kernal::{Machine, Outside, Status};
 use tb_memmap::{BASIC_START, Memory};
-use tb_test_parts::keyboard_of;
+use tb_test_support::keyboard_of;
 
 /// More events than any program takes that comes to an end.
 pub const LIMIT: u64 = 10_000_000;

@@ -3,7 +3,7 @@ use crate::cut::engines::{has_said, step};
 use std::alloc::{AllocError, Global};
 use std::test::Fail;
 use tb_driver::{Outcome, Tracked};
-use tb_test_parts::FailingReader;
+use tb_test_support::FailingReader;
 
 const SOURCE: &[u8] = b"10 A=5\n20 END\n";
 

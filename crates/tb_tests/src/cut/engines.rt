@@ -4,7 +4,7 @@ use std::io::{Read, Write};
 use std::test::Fail;
 use tb_driver::{Report, Tracked, build, run_text, step_text};
 use tb_kernal::Quiet;
-use tb_test_parts::{keyboard_of, no_keys};
+use tb_test_support::{keyboard_of, no_keys};
 
 /// An engine that compiles a source.
 #[derive(Clone, Copy, PartialEq, Eq, Debug, Drop)]

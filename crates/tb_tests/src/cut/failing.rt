@@ -3,7 +3,7 @@ use crate::cut::engines::{Engine, answer_of, call};
 use std::alloc::{AllocError, Global};
 use std::test::Fail;
 use tb_driver::{End, Outcome, Tracked};
-use tb_test_parts::{FailingReader, FailingWriter, HoldingWriter};
+use tb_test_support::{FailingReader, FailingWriter, HoldingWriter};
 
 /// Asks for two numbers, and shows their sum. One jump is warned of.
 const SOURCE: &[u8] = b"10 INPUT A,B\n20 PRINT \"SUM\",A+B\n30 END\n40 GOTO 99\n";

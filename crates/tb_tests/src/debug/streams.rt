@@ -6,7 +6,7 @@ use std::test::Fail;
 use tb_debug_engine::{Beside, Setting, Sources, debug, read_sources};
 use tb_engines::Outcome;
 use tb_streams::Tracked;
-use tb_test_parts::{CountingWriter, FailingReader, FailingWriter, HoldingWriter, no_keys};
+use tb_test_support::{CountingWriter, FailingReader, FailingWriter, HoldingWriter, no_keys};
 
 /// Each of them once, and some that are none.
 const COMMANDS: &[u8] =

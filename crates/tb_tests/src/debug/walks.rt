@@ -8,7 +8,7 @@ use tb_engines::start_machine;
 use tb_kernal::Machine;
 use tb_meaning::{Place, RunEnd, SourceRun, run_source};
 use tb_parser::{Letter, Program, parse};
-use tb_test_parts::keyboard_of;
+use tb_test_support::keyboard_of;
 
 /// How many lines of a run are looked at.
 const MOST_TIME: u64 = 150;

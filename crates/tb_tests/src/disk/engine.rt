@@ -6,7 +6,7 @@ use tb_disk::{File, disk};
 use tb_disk_engine::{DiskFiles, DiskOutcome, DiskRefusal, Name};
 use tb_prg::PrgError;
 use tb_streams::Tracked;
-use tb_test_parts::{FailingReader, FailingWriter};
+use tb_test_support::{FailingReader, FailingWriter};
 
 /// The bytes of a disk.
 const DISK: usize = 174_848;

@@ -7,7 +7,7 @@ use tb_driver::{End, Outcome, Tracked, build, host_form, run_prg};
 use tb_kernal::{Quiet, Rude};
 use tb_meaning::{RunEnd, SourceRun, run_source};
 use tb_parser::parse;
-use tb_test_parts::keyboard_of;
+use tb_test_support::keyboard_of;
 
 /// How many programs of a kind are tried.
 const PROGRAMS: u16 = 500;

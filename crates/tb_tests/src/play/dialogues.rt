@@ -6,7 +6,7 @@ use tb_engines::{Outcome, run_prg};
 use tb_kernal::Quiet;
 use tb_play::{MOST_TYPED, Played, play_file};
 use tb_streams::{Tracked, host_form};
-use tb_test_parts::{CountingWriter, FailingReader, FailingWriter, HoldingWriter, keyboard_of};
+use tb_test_support::{CountingWriter, FailingReader, FailingWriter, HoldingWriter, keyboard_of};
 
 /// At `$C000`: sends a `?`, and then in turn takes a byte and sends it.
 const ECHO: [u8; 16] = [

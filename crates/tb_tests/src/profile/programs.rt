@@ -4,7 +4,7 @@ use std::io::{Read, Write};
 use tb_kernal::Quiet;
 use tb_profile_engine::{Profiled, profile_text};
 use tb_streams::Tracked;
-use tb_test_parts::keyboard_of;
+use tb_test_support::keyboard_of;
 
 /// A source, what is typed, a limit of events, and what comes of it.
 #[derive(Clone, Copy)]

@@ -2,7 +2,7 @@
 use crate::profile::programs::{LOOP, profiles};
 use std::test::Fail;
 use tb_streams::Tracked;
-use tb_test_parts::{FailingReader, FailingWriter};
+use tb_test_support::{FailingReader, FailingWriter};
 
 #[test]
 fn a_source_is_read_however_few_bytes_come_at_once(rt: HostRuntime) -> Result<(), Fail> {

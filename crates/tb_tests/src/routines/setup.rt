@@ -5,7 +5,7 @@ use tb_cpu::{Flags, Regs};
 use tb_kernal::{Machine, Quiet, Rude, Status, run};
 use tb_memmap::Memory;
 use tb_runtime16::{BLOCK_AT, HOME_S, LINE, LINES_AT, RESULT, Routine, VARS, block, entry};
-use tb_test_parts::keyboard_of;
+use tb_test_support::keyboard_of;
 use tb_words::{digits, next_seed};
 
 /// Where the caller lies, which is where a program's lines begin.

@@ -7,7 +7,7 @@ use std::test::Fail;
 use tb_kernal::{Machine, Status};
 use tb_memmap::Memory;
 use tb_runtime16::{BLOCK_AT, COLUMN, HOME_S, LINE, LINES_AT, NOTES, Routine, SEED, VARS};
-use tb_test_parts::no_keys;
+use tb_test_support::no_keys;
 
 // Whether Fault sends the text of a fault at a line, and ends.
 fn faults(alloc: Global, rom: Option<u16>, a: u8, line: u16) -> Result<bool, Fail> {

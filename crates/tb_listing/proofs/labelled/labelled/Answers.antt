@@ -1,7 +1,7 @@
 -- The goals of `labelled` in src/labelled.rt.
 use Rattle.std.proofs.Common.{◌++◌, ◌∷◌, [], map, take, ap, subst, ◌∙◌, take_all}
 use Rattle.tb_codegen.specs.Compiled.{pair_of as start_pair}
-use Rattle.tb_written.specs.Lines.{pair_of}
+use Rattle.tb_source_text.specs.Lines.{pair_of}
 use Rattle.tb_listing.specs.Comments.{HasComments, comment, comment_on}
 use Rattle.tb_listing.proofs.Commented.{commented, in_all, line_more, within_all}
 use Rattle.tb_listing.proofs.labelled.labelled.Goals as goal

@@ -1,7 +1,7 @@
 -- What holds at each turn of the loop of `labelled` in src/labelled.rt.
 use Rattle.std.proofs.Common.{◌≤◌, length, map, take}
 use Rattle.tb_codegen.specs.Compiled.{pair_of as start_pair}
-use Rattle.tb_written.specs.Lines.{pair_of}
+use Rattle.tb_source_text.specs.Lines.{pair_of}
 use Rattle.tb_listing.specs.Comments.{HasComments, comment_on}
 use Rattle.tb_listing.proofs.labelled.labelled.Given as goal
 

@@ -1,7 +1,7 @@
 -- What holds at each turn of the loop of `stated_in` in src/lines.rt.
 use Rattle.std.proofs.Common.{◌≡◌, map, take}
 use Rattle.tb_profile_table.specs.Lines.{line_pair, stated_in}
-use Rattle.tb_written.specs.Lines.{pair_of}
+use Rattle.tb_source_text.specs.Lines.{pair_of}
 use Rattle.tb_profile_table.proofs.lines.stated_in.Given as goal
 
 abbrev pub invariant-loop-row : goal.invariant-loop-row

@@ -1,0 +1,52 @@
+//! Why a source text is not compiled.
+ghost use Rattle.std.specs.Prelude.{◌≡◌};
+ghost use Rattle.tb_compile_errors.specs.Refusals.{of_source, of_lower};
+
+use std::alloc::AllocError;
+use tb_lower::LowerError;
+use tb_parser::{SourceError, SourceErrorKind};
+
+/// Why a source text is not compiled, in the order in which it is looked for.
+#[derive(Clone, Copy, Debug, PartialEq, Eq)]
+pub enum CompileError {
+    /// It is no program.
+    Source(SourceError),
+    /// An expression needs too many slots.
+    Lower(LowerError),
+    /// The program's cost, in bytes, is above 37,888.
+    TooLarge(u32),
+    /// Memory ran out.
+    NoMemory,
+}
+
+impl From<SourceError> for CompileError {
+    ghost from_gives = { λ e r. r ≡ of_source e };
+
+    fn from(e: SourceError) -> Self {
+        match e.kind {
+            SourceErrorKind::NoMemory => CompileError::NoMemory,
+            _ => CompileError::Source(e),
+        }
+    }
+}
+
+impl From<LowerError> for CompileError {
+    ghost from_gives = { λ e r. r ≡ of_lower e };
+
+    fn from(e: LowerError) -> Self {
+        match e {
+            LowerError::NoMemory => CompileError::NoMemory,
+            LowerError::TooDeep(_) => CompileError::Lower(e),
+        }
+    }
+}
+
+impl From<AllocError> for CompileError {
+    ghost use Rattle.tb_compile_errors.specs.declared.refusals.CompileError.TheVariants.{NoMemory};
+
+    ghost from_gives = { λ _ r. r ≡ NoMemory };
+
+    fn from(_: AllocError) -> Self {
+        CompileError::NoMemory
+    }
+}

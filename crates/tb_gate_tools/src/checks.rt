@@ -1,0 +1,63 @@
+//! Checks of sources.
+ghost use Rattle.std.specs.Prelude.{◌≡◌, ◌+◌, ◌++◌, ℕ, Result, IfOk, OnOk};
+ghost use Rattle.tb_parser.specs.Lines.{lines_of_file};
+ghost use Rattle.tb_compile_errors.specs.declared.refusals.CompileError.{CompileError};
+ghost use Rattle.tb_codegen.specs.declared.compiled.Compiled.{Compiled};
+ghost use Rattle.tb_streams.specs.Streams.{most_input, ConsumesAtMost};
+ghost use Rattle.tb_streams.specs.Failures.{failures_of};
+ghost use Rattle.tb_check.specs.Agreement.{AgreesWith, Compiles};
+ghost use Rattle.tb_check.specs.BadLines.{BadLinesAre, FirstIs};
+ghost use Rattle.tb_check.specs.Findings.{AreFindings};
+ghost use Rattle.tb_check.specs.Verdicts.{Judges};
+ghost use Rattle.tb_check_engine.specs.Checks.{Adds};
+ghost use Rattle.tb_check_engine.specs.Rows.{caret_row};
+
+use std::alloc::{AllocError, Global};
+use std::io::Read;
+use tb_check::{Findings, SourceError, Verdict, bad_lines, examine, judge};
+use tb_check_engine::{CheckOutcome, Checked, push_caret};
+use tb_streams::Tracked;
+
+/// `bad_lines`.
+pub fn lines_that_are_bad(alloc: Global, source: &[u8]) -> Result<Vec<SourceError>, AllocError>
+    ensures lines { IfOk result (λ found. BadLinesAre 1 (lines_of_file source.now) found.items) }
+    ensures first { IfOk result (λ found. FirstIs source.now found.items) }
+{
+    bad_lines(alloc, source)
+}
+
+/// `judge`.
+pub fn judged(alloc: Global, source: &[u8]) -> Result<Verdict, AllocError>
+    ensures judged { IfOk result (Judges source.now) }
+    ensures agrees { IfOk result (λ v. (seed : ℕ) (answer : Result Compiled CompileError) → Compiles seed source.now answer → AgreesWith v answer) }
+{
+    judge(alloc, source)
+}
+
+/// `examine`.
+pub fn examined(alloc: Global, source: &[u8]) -> Result<Findings, AllocError>
+    ensures { IfOk result (AreFindings source.now) }
+{
+    examine(alloc, source)
+}
+
+/// `Checked::add`.
+pub fn with_source<R: Read>(
+    checked: Checked,
+    alloc: Global,
+    name: &str,
+    reader: &mut Tracked<R>,
+) -> Result<Checked, CheckOutcome>
+    ensures adds { Adds checked name.now (R.remaining reader.old.stream) (failures_of reader.old) (failures_of reader.new) result }
+    ensures taken { ConsumesAtMost (R.remaining reader.old.stream) (R.remaining reader.new.stream)
+        (most_input + 1) }
+{
+    checked.add(alloc, name, reader)
+}
+
+/// `push_caret`.
+pub fn caret_put(text: &mut Vec<u8>, number: &[u8], column: usize) -> Result<(), AllocError>
+    ensures { OnOk result (text.new.items ≡ text.old.items ++ caret_row number.now column) }
+{
+    push_caret(text, number, column)
+}

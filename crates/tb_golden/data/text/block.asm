@@ -1,0 +1,715 @@
+; The routine block: the machine code that every compiled program shares.
+;
+; It lies at $080D, right behind the BASIC line "10 SYS2061", takes 996 bytes and is the same in every program.
+; The program's own lines begin at $0C00 and call these routines.
+;
+; This text is the source of the bytes that tb_runtime16 holds. A program of the gate (tb_golden) assembles it and compares;
+; by hand: tbc asm block.asm block.prg --at 080D. The assembler has no names for numbers, so the name of a data
+; place stands in the comment.
+;
+;
+; ---- Data
+;
+; A word stands low byte first. All these places belong to the program: no ROM writes them.
+;
+;   $00FB  LEFT       word: first argument; POINTER, the byte or the table entry that is looked at
+;   $00FD  RIGHT      word: second argument; TABLE, the line table's address
+;   $C000  VARS       26 words, the variables A to Z
+;   $C034  COLUMN     byte: bytes sent since the last 13 or the start, modulo 256
+;   $C035  OPEN       byte: 1 where an input line is open, else 0
+;   $C036  SEEDED     byte: 1 where SEED holds an RND state, else 0
+;   $C037  HOME_S     byte: the stack pointer as at the start
+;   $C038  SEED       word: the RND state
+;   $C03A  LINE       word: the number of the line that is executed
+;   $C03C  NOTES      word: how many notes the return list holds, 0 to 500
+;   $C040  SLOTS      16 words, of the lines' code
+;   $C060  HELD       word, of the lines' code
+;   $C066  RESULT     word: result
+;   $C068  WANTED     word: the number of the line that Search looks for
+;   $C06A  COUNT      word: how many entries the line table has
+;   $C06C  LENGTH     byte: a text's length
+;   $C06D  BYTE       byte: the byte that is sent or was read
+;   $C06E  SCRATCH    18 bytes, up to $C07F
+;   $C100  NOTE_LOW   500 bytes, the notes' low bytes
+;   $C300  NOTE_HIGH  500 bytes, their high bytes
+;
+;
+; ---- Rules
+;
+; A service (CHROUT $FFD2, CHRIN $FFCF, GETIN $FFE4) may leave anything in X, Y and the flags but D, and in A
+; unless it gives a byte there. Between any two instructions an interrupt may rewrite page zero but $FB to $FE,
+; $0200 to $07FF, and the stack at or below the stack pointer. So nothing is kept in a register or a flag over a
+; service, and what is kept in memory stands in the places above, or on the stack above the stack pointer.
+;
+; A routine is called by JSR, with D clear: the prologue clears it, and nothing sets it again. Its arguments are
+; used up unless it says that they stand, and A, X, Y and the flags are worth nothing after it. Of the other data
+; it changes what its head says, and no more.
+;
+; "Stack" is the most that a routine has on the stack below its return address, in bytes. "Time" is the most
+; instructions that it takes, where a service counts as one; this is proved, and so is what each routine does.
+;
+; A fault is JMP FAULT with the fault's number in A, from any depth: it ends the program.
+;
+;
+; ---- Prologue: where SYS begins the program
+;
+; Out:     $C000 to $C036 and $C038 to $C03D are 0 (VARS, COLUMN, OPEN, SEEDED, SEED, LINE, NOTES), HOME_S is S,
+;          D is clear; goes to the first line.
+; Stack:   0.  Time: 192.
+;
+; X runs from $3D down to 0 and is $FF after the last byte, which ends the loop. HOME_S is cleared with the rest
+; and set behind the loop.
+PROLOGUE:
+        CLD                     ; the caller may have left it set
+        LDX #$3D
+        LDA #$00
+CLEAR:
+        STA $C000,X             ; VARS + X
+        DEX
+        BPL CLEAR
+        TSX
+        STX $C037               ; HOME_S
+        JMP $0C00               ; the first line
+
+; ---- Send: sends a byte, and keeps COLUMN
+;
+; In:      A: the byte.
+; Changes: COLUMN: one more, or 0 after a 13.
+; Stack:   0 (CHROUT returns to Send's caller).  Time: 7.
+;
+; Each byte raises COLUMN. For a 13 it is set to $FF before, so that it comes to 0. A is not touched on the way.
+SEND:
+        CMP #$0D
+        BNE SEND1
+        LDX #$FF
+        STX $C034               ; COLUMN
+SEND1:
+        INC $C034               ; COLUMN
+        JMP $FFD2               ; CHROUT
+
+; ---- Multiply: RESULT = LEFT * RIGHT, modulo 65,536, with or without signs
+;
+; In:      LEFT, RIGHT.
+; Out:     RESULT.
+; Stack:   0.  Time: 245.
+;
+; A round for each bit of RIGHT from the lowest on, up to the last that is 1: the bit is shifted out, and where it
+; is 1, LEFT is added to the sum, whose low byte is in A and whose high byte is RESULT's. LEFT doubles in each round.
+MULTIPLY:
+        LDX #$00
+        STX $C067               ; RESULT's high byte = 0; its low byte stays in A
+        TXA
+MULTIPLY1:
+        LSR $FE                 ; RIGHT = RIGHT / 2, its lowest bit in C
+        ROR $FD
+        BCC MULTIPLY2
+        CLC
+        ADC $FB                 ; RESULT = RESULT + LEFT
+        TAY
+        LDA $C067
+        ADC $FC
+        STA $C067
+        TYA
+MULTIPLY2:
+        ASL $FB                 ; LEFT = LEFT * 2
+        ROL $FC
+        LDX $FD                 ; on while RIGHT has a bit left
+        BNE MULTIPLY1
+        LDX $FE
+        BNE MULTIPLY1
+        STA $C066
+        RTS
+
+; ---- Divide: LEFT = LEFT / RIGHT, signed, truncated toward zero; RESULT = the remainder without its sign
+;
+; In:      LEFT, RIGHT.
+; Out:     LEFT, RESULT. -32768 / -1 gives -32768: as a word it is its own negative, and all three negations keep it.
+; Fault:   2 where RIGHT is 0.
+; Stack:   4.  Time: 316, and 5 up to the fault.
+DIVIDE:
+        LDA $FD                 ; RIGHT
+        ORA $FE
+        BNE DIVIDESIGNED
+        LDA #$02
+        JMP FAULT
+
+; A negative LEFT is negated before, and the quotient after: that is what follows.
+DIVIDESIGNED:
+        LDA $FC                 ; LEFT's sign
+        BPL DIVIDEBY
+        JSR NEGATELEFT
+        JSR DIVIDEBY
+
+; LEFT = -LEFT. Time: 9. Stack: 0.
+NEGATELEFT:
+        LDX #$00
+
+; The word at LEFT + X is negated: X is 0 for LEFT, 2 for RIGHT.
+NEGATE:
+        SEC
+        LDA #$00
+        SBC $FB,X               ; LEFT + X
+        STA $FB,X
+        LDA #$00
+        SBC $FC,X
+        STA $FC,X
+        RTS
+
+; LEFT = LEFT / RIGHT, where LEFT is 0 to 32768 and RIGHT is signed. A negative RIGHT is negated before, and the
+; quotient after.
+DIVIDEBY:
+        LDA $FE                 ; RIGHT's sign
+        BPL UNSIGNED
+        LDX #$02
+        JSR NEGATE
+        JSR UNSIGNED
+        JMP NEGATELEFT
+
+; LEFT = LEFT / RIGHT, RESULT = the remainder, without signs, for RIGHT from 1 to 32768. RIGHT stands.
+; Divide and Random divide by it. Stack: 0. Time: 268.
+;
+; Where RIGHT is below 128 and LEFT's high byte below RIGHT, the quotient fits a byte: then that high byte is the
+; remainder of the first eight rounds, and stays in A, with eight rounds left on LEFT's low byte. A is below RIGHT at
+; the head of a round, so it fits a byte when it is doubled and takes a bit more. X counts the rounds.
+UNSIGNED:
+        LDA $FE                 ; RIGHT
+        BNE WIDE
+        LDA $FD
+        BMI WIDE
+        LDA $FC                 ; LEFT
+        CMP $FD
+        BCS WIDE
+        LDX #$00
+        STX $FC
+        STX $C067               ; RESULT
+        LDX #$08
+NARROW:
+        ASL $FB                 ; LEFT, its highest bit into A
+        ROL A
+        CMP $FD                 ; RIGHT
+        BCC NARROWLESS
+        SBC $FD
+        INC $FB
+NARROWLESS:
+        DEX
+        BNE NARROW
+        STA $C066
+        RTS
+
+; The same by sixteen rounds, whatever the words. Time: 261.
+;
+; The rounds are counted in Y, since no service is called. Each moves the highest bit of LEFT into the lowest of
+; RESULT, and where RIGHT goes into RESULT, takes it off and sets the lowest bit of LEFT, which the shift made 0.
+; So the quotient comes into LEFT from below while the dividend leaves it above. RESULT is below RIGHT at the head
+; of a round, so it fits a word when it is doubled and takes a bit more.
+WIDE:
+        LDA #$00
+        STA $C066               ; RESULT = 0
+        STA $C067
+        LDY #$10
+WIDENEXT:
+        ASL $FB                 ; LEFT
+        ROL $FC
+        ROL $C066               ; RESULT
+        ROL $C067
+        LDA $C066               ; RESULT - RIGHT in A and X, C clear where RIGHT is greater
+        SEC
+        SBC $FD
+        TAX
+        LDA $C067
+        SBC $FE
+        BCC WIDELESS
+        STX $C066
+        STA $C067
+        INC $FB                 ; LEFT
+WIDELESS:
+        DEY
+        BNE WIDENEXT
+        RTS
+
+; ---- Random: RESULT = the next RND state modulo LEFT
+;
+; In:      LEFT: the bound. RIGHT: the first RND state, used only where SEEDED is 0.
+; Out:     RESULT: 0 to LEFT - 1.
+; Changes: SEED: 25173 times the state before, plus 13849, modulo 65,536; SEEDED: 1; SCRATCH.
+; Fault:   3 where LEFT is below 1.
+; Stack:   4.  Time: 549, and 7 up to the fault.
+;
+; The bound waits on the stack while Multiply has LEFT and RIGHT. The state is read without a sign, as Unsigned
+; does, and the remainder that Unsigned leaves in RESULT is the answer.
+RANDOM:
+        LDA $FC                 ; LEFT
+        BMI RANDOMBAD
+        BNE RANDOMGO
+        LDA $FB
+        BNE RANDOMGO
+RANDOMBAD:
+        LDA #$03
+        JMP FAULT
+RANDOMGO:
+        LDA $C036               ; SEEDED
+        BEQ RANDOMFIRST
+        LDA $C038               ; RIGHT = SEED
+        STA $FD
+        LDA $C039
+        STA $FE
+RANDOMFIRST:
+        LDA #$01
+        STA $C036               ; SEEDED
+        LDA $FB                 ; the bound
+        PHA
+        LDA $FC
+        PHA
+        LDA #$55                ; LEFT = 25173
+        STA $FB
+        LDA #$62
+        STA $FC
+        JSR MULTIPLY
+        CLC
+        LDA $C066               ; SEED = LEFT = RESULT + 13849
+        ADC #$19
+        STA $C038
+        STA $FB
+        LDA $C067
+        ADC #$36
+        STA $C039
+        STA $FC
+        PLA                     ; RIGHT = the bound
+        STA $FE
+        PLA
+        STA $FD
+        JMP UNSIGNED
+
+; ---- Number: sends a signed word in decimal, as short as can be
+;
+; In:      LEFT.
+; Changes: RIGHT, COLUMN.
+; Stack:   2.  Time: 458.
+;
+; A negative word sends its sign and is negated. Then 10,000, 1,000, 100 and 10 are taken from LEFT, each as often as
+; it goes in, and what is left is the last digit. X counts the powers, and begins at 100 where LEFT is below 256. Y
+; counts how often one went in, from RIGHT on, which is 0 as long as no digit was sent, and then the text of the digit
+; 0: so where Y is 0 a digit is left out. X waits in RIGHT + 1 while a digit is sent.
+NUMBER:
+        LDA $FC                 ; LEFT's sign
+        BPL NUMBERPLAIN
+        LDA #$2D                ; -
+        JSR SEND
+        JSR NEGATELEFT
+NUMBERPLAIN:
+        LDA #$00
+        STA $FD                 ; RIGHT: no digit was sent
+        LDX #$03
+        LDA $FC
+        BNE NUMBERNEXT
+        LDX #$01
+NUMBERNEXT:
+        LDY $FD
+NUMBERTAKE:
+        LDA $FB                 ; LEFT - the power: C clear where LEFT is below
+        CMP POWERSLOW,X
+        LDA $FC
+        SBC POWERSHIGH,X
+        BCC NUMBERDIGIT
+        STA $FC                 ; LEFT = LEFT - the power
+        LDA $FB
+        SBC POWERSLOW,X
+        STA $FB
+        INY
+        BNE NUMBERTAKE          ; always
+NUMBERDIGIT:
+        TYA
+        BEQ NUMBERSKIP
+        ORA #$30
+        LDY #$30
+        STY $FD                 ; RIGHT: a digit was sent
+        STX $FE
+        JSR SEND
+        LDX $FE
+NUMBERSKIP:
+        DEX
+        BPL NUMBERNEXT
+        LDA $FB                 ; LEFT: the last digit
+        ORA #$30
+        JMP SEND
+POWERSLOW:
+        .byte $0A,$64,$E8,$10   ; 10, 100, 1000, 10000
+POWERSHIGH:
+        .byte $00,$00,$03,$27
+
+; ---- Text: sends bytes of the program
+;
+; In:      POINTER: where they stand. LENGTH: how many, 0 to 255.
+; Changes: COLUMN.
+; Stack:   2.  Time: 15 for each byte, and 3.
+;
+; Y is 0 for each byte anew, and POINTER goes on instead: Y would not outlast CHROUT.
+TEXT:
+        LDA $C06C               ; LENGTH
+        BEQ TEXT3
+TEXT1:
+        LDY #$00
+        LDA ($FB),Y             ; POINTER
+        JSR SEND
+        INC $FB                 ; POINTER = POINTER + 1
+        BNE TEXT2
+        INC $FC
+TEXT2:
+        DEC $C06C               ; LENGTH
+        BNE TEXT1
+TEXT3:
+        RTS
+
+; ---- Zone: sends spaces up to the next column that 8 divides, at least one
+;
+; Changes: COLUMN.
+; Stack:   2.  Time: 97.
+ZONE:
+        LDA #$20
+        JSR SEND
+        LDA $C034               ; COLUMN modulo 8
+        AND #$07
+        BNE ZONE
+        RTS
+
+; ---- Input: one variable's turn of INPUT
+;
+; Out:     RESULT: the number's value modulo 65,536.
+; Changes: OPEN, COLUMN; BYTE; LEFT; SCRATCH: what was seen of the number, 0 nothing, 1 a sign, 2 digits;
+;          SCRATCH + 1: the sign's byte, or 0.
+; Fault:   6 at a byte that is not the number's next.
+; Waits:   in CHRIN where the keyboard's text ends.
+; Stack:   2.  Time: 45 for each byte of the keyboard's text, and 587 (with the fault).
+;
+; Where no line is open, "? " is sent and a line is open. Spaces are passed over, before, inside and behind the
+; number. It ends at a comma, which leaves the line open for the next turn, or at a 13, which is sent and closes
+; the line; at least one digit must have come. Each digit makes RESULT 10 times itself and the digit. A bad byte
+; sends nothing of its own.
+INPUT:
+        LDA $C035               ; OPEN
+        BNE INPUT1
+        LDA #$3F                ; ?
+        JSR SEND
+        LDA #$20
+        JSR SEND
+        LDA #$01
+        STA $C035               ; OPEN
+INPUT1:
+        LDA #$00
+        STA $C066               ; RESULT = 0
+        STA $C067
+        STA $C06E               ; SCRATCH: nothing seen
+        STA $C06F               ; SCRATCH + 1: no sign
+READ:
+        JSR $FFCF               ; CHRIN
+        STA $C06D               ; BYTE
+        CMP #$20
+        BEQ READ
+        CMP #$2B                ; +
+        BEQ SIGN
+        CMP #$2D                ; -
+        BEQ SIGN
+        CMP #$2C                ; ,
+        BEQ DONE
+        CMP #$0D
+        BEQ DONE
+        SEC
+        SBC #$30
+        STA $C06D               ; BYTE: the digit's value, where it is one
+        CMP #$0A
+        BCS BAD
+        LDA $C066               ; LEFT = RESULT
+        STA $FB
+        LDA $C067
+        STA $FC
+        ASL $C066               ; RESULT = RESULT * 4
+        ROL $C067
+        ASL $C066
+        ROL $C067
+        CLC
+        LDA $C066               ; RESULT = RESULT + LEFT: 5 times
+        ADC $FB
+        STA $C066
+        LDA $C067
+        ADC $FC
+        STA $C067
+        ASL $C066               ; 10 times
+        ROL $C067
+        CLC
+        LDA $C066               ; RESULT = RESULT + BYTE
+        ADC $C06D
+        STA $C066
+        LDA $C067
+        ADC #$00
+        STA $C067
+        LDA #$02
+        STA $C06E               ; SCRATCH: digits seen
+        JMP READ
+SIGN:
+        LDA $C06E               ; SCRATCH: a sign stands only before all else
+        BNE BAD
+        LDA $C06D               ; SCRATCH + 1 = BYTE
+        STA $C06F
+        LDA #$01
+        STA $C06E               ; SCRATCH: a sign seen
+        JMP READ
+BAD:
+        LDA #$06
+        JMP FAULT
+DONE:
+        LDA $C06E               ; SCRATCH: digits must have come
+        CMP #$02
+        BNE BAD
+        LDA $C06F               ; SCRATCH + 1
+        CMP #$2D
+        BNE DONE1
+        SEC                     ; RESULT = -RESULT
+        LDA #$00
+        SBC $C066
+        STA $C066
+        LDA #$00
+        SBC $C067
+        STA $C067
+DONE1:
+        LDA $C06D               ; BYTE
+        CMP #$2C
+        BEQ DONE2
+        LDA #$00
+        STA $C035               ; OPEN
+        LDA #$0D
+        JMP SEND
+DONE2:
+        RTS
+
+; ---- Search: RESULT = the code address of the line with the number WANTED
+;
+; In:      WANTED: the number, which stands. TABLE, COUNT: the line table, of at least one entry.
+; Out:     RESULT.
+; Changes: POINTER, TABLE, COUNT; SCRATCH: a word, HALF.
+; Fault:   1 where no entry has the number.
+; Stack:   0.  Time: 510, whatever the table that memory holds.
+;
+; An entry is four bytes, a line's number and its code's address, and the numbers rise. All is compared without
+; signs, so a negative WANTED is above every number.
+;
+; By halving: the entry is, if anywhere, among the COUNT entries from TABLE on. HALF is COUNT / 2. The entry HALF
+; further on is probed: where WANTED is below its number, the HALF entries before it are left, else those from it on,
+; COUNT - HALF.
+SEARCH:
+        LDA $C06B               ; 64 entries or more?
+        BNE SEARCH_WIDE
+        LDA $C06A
+        CMP #$40
+        BCC SEARCH_SHORT
+SEARCH_WIDE:
+        LDA $C06B               ; HALF = COUNT / 2, its high byte in POINTER + 1 too
+        LSR A
+        STA $C06F
+        STA $FC
+        LDA $C06A
+        ROR A
+        STA $C06E
+        ASL A                   ; POINTER + 1 and A: HALF * 4
+        ROL $FC
+        ASL A
+        ROL $FC
+        CLC
+        ADC $FD                 ; POINTER = TABLE + HALF * 4
+        STA $FB
+        LDA $FC
+        ADC $FE
+        STA $FC
+        LDY #$00
+        LDA $C068               ; WANTED - the number there: C clear where WANTED is below
+        CMP ($FB),Y
+        INY
+        LDA $C069
+        SBC ($FB),Y
+        BCC SEARCH_LOWER
+        LDA $FB                 ; TABLE = POINTER
+        STA $FD
+        LDA $FC
+        STA $FE
+        LDA $C06A               ; COUNT = COUNT - HALF: C is set still
+        SBC $C06E
+        STA $C06A
+        LDA $C06B
+        SBC $C06F
+        STA $C06B
+        BCS SEARCH              ; always: HALF is not above COUNT
+SEARCH_LOWER:
+        LDA $C06E               ; COUNT = HALF
+        STA $C06A
+        LDA $C06F
+        STA $C06B
+        JMP SEARCH
+;
+; Fewer than 64 entries are fewer than 256 bytes: TABLE stands, and POINTER's low byte is how far the entries in
+; question lie behind it. A is COUNT at the head of a round, X is HALF. The last entry is compared by itself.
+SEARCH_SHORT:
+        LDY #$00
+        STY $FB
+SEARCH_HALVE:
+        LSR A
+        BEQ SEARCH_LAST
+        TAX
+        ASL A                   ; Y = POINTER + HALF * 4
+        ASL A
+        CLC
+        ADC $FB
+        TAY
+        LDA $C068               ; WANTED - the number there: C clear where WANTED is below
+        CMP ($FD),Y
+        INY
+        LDA $C069
+        SBC ($FD),Y
+        BCC SEARCH_FRONT
+        DEY
+        STY $FB                 ; POINTER = Y
+        STX $FC
+        LDA $C06A               ; COUNT = COUNT - HALF: C is set still
+        SBC $FC
+        STA $C06A
+        BCS SEARCH_HALVE        ; always
+SEARCH_FRONT:
+        STX $C06A               ; COUNT = HALF
+        TXA
+        BNE SEARCH_HALVE        ; always
+SEARCH_LAST:
+        LDY $FB
+        LDA ($FD),Y             ; the number
+        CMP $C068               ; WANTED
+        BNE SEARCH_NONE
+        INY
+        LDA ($FD),Y
+        CMP $C069
+        BNE SEARCH_NONE
+        INY
+        LDA ($FD),Y             ; RESULT = the address
+        STA $C066
+        INY
+        LDA ($FD),Y
+        STA $C067
+        RTS
+SEARCH_NONE:
+        LDA #$01
+        JMP FAULT
+
+; ---- Push: one more note on the return list
+;
+; In:      LEFT: the note, a code address; it stands.
+; Changes: NOTES, one more; NOTE_LOW, NOTE_HIGH. RESULT stands: GOSUB keeps its target there.
+; Fault:   4 where NOTES is 500 already.
+; Stack:   0.  Time: 13, and 7 up to the fault.
+;
+; The low byte of NOTES is the note's place on a page: on the first pages of NOTE_LOW and NOTE_HIGH where the high
+; byte is 0, else on the second ones.
+PUSH:
+        LDX $C03C               ; NOTES
+        LDA $C03D
+        BNE PUSH_FAR
+        LDA $FB                 ; LEFT
+        STA $C100,X             ; NOTE_LOW
+        LDA $FC
+        STA $C300,X             ; NOTE_HIGH
+PUSH_COUNT:
+        INC $C03C               ; NOTES = NOTES + 1
+        BNE PUSH_END
+        INC $C03D
+PUSH_END:
+        RTS
+PUSH_FAR:
+        CPX #$F4                ; NOTES - 500: C set where it is not negative
+        BCS PUSH_FULL
+        LDA $FB                 ; LEFT
+        STA $C200,X
+        LDA $FC
+        STA $C400,X
+        BCC PUSH_COUNT          ; always: C is clear still
+PUSH_FULL:
+        LDA #$04
+        JMP FAULT
+
+; ---- Pop: RESULT = the newest note, which leaves the return list
+;
+; Out:     RESULT.
+; Changes: NOTES, one less.
+; Fault:   5 where NOTES is 0.
+; Stack:   0.  Time: 14, and 6 up to the fault.
+POP:
+        LDX $C03C               ; NOTES = NOTES - 1, borrowing where the low byte is 0
+        BNE POP_LOW
+        LDA $C03D
+        BEQ POP_NONE
+        DEC $C03D
+POP_LOW:
+        DEX
+        STX $C03C
+        LDA $C03D
+        BNE POP_FAR
+        LDY $C300,X             ; NOTE_HIGH
+        LDA $C100,X             ; NOTE_LOW
+POP_STORE:
+        STA $C066               ; RESULT
+        STY $C067
+        RTS
+POP_FAR:
+        LDY $C400,X
+        LDA $C200,X
+        JMP POP_STORE
+POP_NONE:
+        LDA #$05
+        JMP FAULT
+
+; ---- Fault: ends the program with the text of a fault: 13, !k AT n, 13
+;
+; In:      A: the fault's number k, 0 to 7. LINE: n. HOME_S.
+; Stack:   4 below the start's.  Time: 540, and 542 from FAULTLINE on.
+;
+; FAULTLINE takes n in X (low byte) and Y, and puts it into LINE.
+;
+; Goes back to where SYS came from, from any depth: S is set to what it was at the start, and the last CHROUT
+; returns there. Nothing is called that could fault.
+FAULTLINE:
+        STX $C03A               ; LINE = n
+        STY $C03B
+FAULT:
+        CLC
+        ADC #$30
+        STA $C06D               ; BYTE: k as a digit
+        LDX $C037               ; HOME_S
+        TXS
+        LDA #$0D
+        JSR SEND
+        LDA #$21                ; !
+        JSR SEND
+        LDA $C06D               ; BYTE
+        JSR SEND
+        LDA #$20
+        JSR SEND
+        LDA #$41                ; A
+        JSR SEND
+        LDA #$54                ; T
+        JSR SEND
+        LDA #$20
+        JSR SEND
+        LDA $C03A               ; LEFT = LINE
+        STA $FB
+        LDA $C03B
+        STA $FC
+        JSR NUMBER
+        LDA #$0D
+        JMP SEND
+
+; ---- Poll: one look at the keyboard
+;
+; Fault:   0 where the STOP key is down, that is where GETIN gives 3; any other answer is lost.
+; Stack:   2.  Time: 5, and 546 with the fault.
+POLL:
+        JSR $FFE4               ; GETIN
+        CMP #$03
+        BEQ POLL1
+        RTS
+POLL1:
+        LDA #$00
+        JMP FAULT

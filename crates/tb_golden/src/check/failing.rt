@@ -1,0 +1,110 @@
+//! Checks over readers and writers that fail anywhere.
+use crate::check::checks::{Ending, File, checked, ending_of, put_outcome, with_file, with_reader};
+use crate::page::Page;
+use std::alloc::Global;
+use tb_check_engine::{CheckOutcome, Checked};
+use tb_streams::Tracked;
+use tb_test_support::{FailingReader, FailingWriter};
+
+/// The source that a reader fails to give.
+const FIRST: &[u8] = b"10 FOR\n20 END\n";
+
+// A check whose first source comes from a reader that fails behind so many bytes.
+fn over_reader(
+    alloc: Global,
+    files: &[File],
+    until_fault: usize,
+    most: usize,
+) -> Result<Checked, CheckOutcome> {
+    let reader = FailingReader::new(FIRST, until_fault, most);
+    let mut checked = with_reader(alloc, Checked::new(alloc), "first.bas", reader)?;
+    for file in files {
+        checked = with_file(alloc, checked, file)?;
+    }
+    Ok(checked)
+}
+
+// Whether it ends in a read fault, and writes what a check of the others does.
+fn reader_fails(
+    alloc: Global,
+    files: &[File],
+    whole: &Ending,
+    until_fault: usize,
+    most: usize,
+) -> bool {
+    match over_reader(alloc, files, until_fault, most) {
+        Ok(checked) => {
+            let ending = ending_of(alloc, &checked);
+            ending.outcome == CheckOutcome::ReadFault && ending.wrote == whole.wrote
+        }
+        Err(_) => false,
+    }
+}
+
+/// Appends what a check writes whose first source comes from a reader that fails anywhere: always the same, of the
+/// others.
+pub fn put_readers(page: &mut Page, files: &[File]) {
+    let checked = checked(page.alloc(), files);
+    if let Some(checked) = page.held(checked) {
+        let whole = ending_of(page.alloc(), &checked);
+        put_failing_readers(page, files, &whole);
+    }
+}
+
+fn put_failing_readers(page: &mut Page, files: &[File], whole: &Ending) {
+    for until_fault in 0..=FIRST.len() {
+        for most in [1, 7, 4096] {
+            if !reader_fails(page.alloc(), files, whole, until_fault, most) {
+                page.put("=> another answer behind ");
+                page.put_fault(until_fault, most);
+                page.put("\n");
+                return;
+            }
+        }
+    }
+    put_outcome(page, CheckOutcome::ReadFault);
+}
+
+// Whether a check writes what its writer takes, and tells of a fault where that is not all.
+fn is_prefix(
+    alloc: Global,
+    checked: &Checked,
+    whole: &Ending,
+    until_fault: usize,
+    most: usize,
+) -> bool {
+    let mut writer = Tracked::new(FailingWriter::new(alloc, until_fault, most));
+    let outcome = checked.write(&mut writer);
+    let wanted = if until_fault < whole.wrote.len() {
+        CheckOutcome::WriteFault
+    } else {
+        whole.outcome
+    };
+    outcome == wanted && Some(writer.stream.taken.as_slice()) == whole.wrote.get(..until_fault)
+}
+
+/// Appends how many writers that fail took a prefix of what a check writes, or the first that did not.
+pub fn put_writers(page: &mut Page, files: &[File]) {
+    let checked = checked(page.alloc(), files);
+    if let Some(checked) = page.held(checked) {
+        let whole = ending_of(page.alloc(), &checked);
+        put_failing_writers(page, &checked, &whole);
+    }
+}
+
+fn put_failing_writers(page: &mut Page, checked: &Checked, whole: &Ending) {
+    let length = whole.wrote.len();
+    for until_fault in 0..=length {
+        for most in [1, 2, 4096] {
+            if !is_prefix(page.alloc(), checked, whole, until_fault, most) {
+                page.put("=> no prefix behind ");
+                page.put_fault(until_fault, most);
+                page.put("\n");
+                return;
+            }
+        }
+    }
+    page.put("=> a prefix up to each of ");
+    page.put(length);
+    page.put(" bytes\n");
+}
