@@ -3,7 +3,7 @@ use Rattle.std.proofs.Common.{◌≡◌, ◌≢◌, ℕ, ◌≤◌, ◌<◌, nat
 use Rattle.std.specs.Prelude.{IfOk}
 use Rattle.tb_syntax.specs.Source.{Program}
 use Rattle.tb_meaning.specs.Cost.{cost}
-use Rattle.tb_lower.specs.Need.{command_need, too_deep}
+use Rattle.tb_lower.specs.Need.{statement_need, too_deep}
 use Rattle.tb_lower.specs.declared.lowering.LowerError.TheVariants as deep
 use Rattle.tb_parser.specs.declared.errors.SourceError.{SourceError}
 use Rattle.tb_compile_errors.specs.declared.refusals.CompileError.TheVariants.{Source, Lower, TooLarge, NoMemory}
@@ -25,7 +25,7 @@ first_step n rest ns false h = refl
 
 first_deep : (p : Program) → first_of (deep_lines p) ≡ too_deep p
 first_deep [] = refl
-first_deep (line ∷ lines) = first_step line.number (too_deep lines) (deep_lines lines) (nat_le (command_need line.content) 16) (first_deep lines)
+first_deep (line ∷ lines) = first_step line.number (too_deep lines) (deep_lines lines) (nat_le (statement_need line.content) 16) (first_deep lines)
 
 none_first : (ns : List ℕ) → first_of ns ≡ None → ns ≡ []
 none_first [] h = refl

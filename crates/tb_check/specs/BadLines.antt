@@ -2,7 +2,7 @@
 use Rattle.std.specs.Prelude.{◌≡◌, ◌⊎◌, ℕ, ◌+◌, List, [], ◌∷◌, ◌++◌, Option, Some, None, Ok, Err}
 use Rattle.tb_syntax.specs.Source.{Program}
 use Rattle.tb_parser.specs.declared.errors.SourceError.{SourceError}
-use Rattle.tb_parser.specs.declared.errors.Fault.{Fault}
+use Rattle.tb_parser.specs.declared.errors.LineFault.{LineFault}
 use Rattle.tb_parser.specs.Answers.{refusal_of}
 use Rattle.tb_parser.specs.Files.{LinesAre, at_end, refused_at}
 use Rattle.tb_parser.specs.Lines.{lines_of_file}
@@ -22,7 +22,7 @@ FirstIs source [] = (p : Program) × LinesAre 1 [] (lines_of_file source) (at_en
 FirstIs source (e ∷ found) = (r : Refusal) × (refusal_of e.kind e.column ≡ Some r) × LinesAre 1 [] (lines_of_file source) (Err (refused_at e.line r))
 
 -- what is wrong with a line: nothing where it does something to the program, else its first fault
-abbrev pub IsFaultOf : List ℕ → Option Fault → Type 0
+abbrev pub IsFaultOf : List ℕ → Option LineFault → Type 0
 IsFaultOf line None = (edit : Edit) × LineIs line (Ok edit)
 IsFaultOf line (Some fault) = (r : Refusal) × (refusal_of fault.kind fault.column ≡ Some r) × LineIs line (Err r)
 

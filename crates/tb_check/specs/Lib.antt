@@ -3,4 +3,4 @@ pub mod BadLines
 pub mod Verdicts
 pub mod Agreement
 pub mod Findings
-pub mod Words
+pub mod ForeignWords

@@ -3,7 +3,7 @@ use Rattle.std.specs.Prelude.{◌≡◌, ◌≢◌, ℕ, nat_le, List, [], ◌�
 use Rattle.tb_syntax.specs.Source.{Program}
 use Rattle.tb_syntax.specs.PlainData.{lines_of}
 use Rattle.tb_meaning.specs.Cost.{cost}
-use Rattle.tb_lower.specs.Need.{command_need}
+use Rattle.tb_lower.specs.Need.{statement_need}
 use Rattle.tb_parser.specs.Files.{at_end}
 use Rattle.tb_parser.specs.Lines.{lines_of_file}
 use Rattle.tb_codegen.specs.Answers.{LinesMake}
@@ -16,7 +16,7 @@ use Rattle.tb_check.specs.declared.judging.Verdict.TheVariants.{BadLines, Empty,
 -- the lines that need more than 16 slots
 abbrev pub deep_lines : Program → List ℕ
 deep_lines [] = []
-deep_lines (line ∷ lines) = if nat_le (command_need line.content) 16 then deep_lines lines else line.number ∷ deep_lines lines
+deep_lines (line ∷ lines) = if nat_le (statement_need line.content) 16 then deep_lines lines else line.number ∷ deep_lines lines
 
 -- a cost that is too much
 abbrev pub excess : ℕ → Option ℕ

@@ -5,7 +5,7 @@ ghost use Rattle.tb_parser.specs.declared.errors.SourceErrorKind.TheVariants as 
 ghost use Rattle.tb_check.specs.BadLines.{BadLinesAre, FirstIs, IsFaultOf, LooksAt};
 
 use std::alloc::{AllocError, Global};
-use tb_parser::{Fault, SourceError, SourceErrorKind, next_line, read_line};
+use tb_parser::{LineFault, SourceError, SourceErrorKind, next_line, read_line};
 
 /// The bad lines of a source, in order, each with its first fault: line and column as `compile` counts them. A bad line
 /// hides no later one, and a line that is replaced later is looked at too.
@@ -37,7 +37,7 @@ fn look_at(
 {
     match fault_of(alloc, line)? {
         None => Ok(()),
-        Some(Fault { kind, column }) => push(
+        Some(LineFault { kind, column }) => push(
             found,
             SourceError {
                 kind,
@@ -56,7 +56,7 @@ fn push(found: &mut Vec<SourceError>, error: SourceError) -> Result<(), AllocErr
 }
 
 // What is wrong with a line, if it is bad.
-fn fault_of(alloc: Global, line: &[u8]) -> Result<Option<Fault>, AllocError>
+fn fault_of(alloc: Global, line: &[u8]) -> Result<Option<LineFault>, AllocError>
     ensures { IfOk result (IsFaultOf line.now) }
 {
     match read_line(alloc, line) {
@@ -66,7 +66,7 @@ fn fault_of(alloc: Global, line: &[u8]) -> Result<Option<Fault>, AllocError>
 }
 
 /// A fault, where it is none of memory.
-pub fn told(fault: Fault) -> Result<Option<Fault>, AllocError>
+pub fn told(fault: LineFault) -> Result<Option<LineFault>, AllocError>
     ensures { IfOk result (λ told. (told ≡ Some fault) × (fault.kind ≢ kind.NoMemory)) }
 {
     match fault.kind {

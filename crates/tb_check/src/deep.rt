@@ -4,7 +4,7 @@ ghost use Rattle.tb_check.specs.Entries.{DeepLinesAre, deep_here, deep_of, entry
 
 use crate::lines::{NumberedLine, numbered_lines};
 use std::alloc::{AllocError, Global};
-use tb_lower::{SLOT_COUNT, command_need};
+use tb_lower::{SLOT_COUNT, statement_need};
 
 /// The lines of a file, from 1, with an expression that is too deep, which no later line replaces or takes out.
 pub fn deep_lines(alloc: Global, source: &[u8]) -> Result<Vec<usize>, AllocError>
@@ -43,7 +43,7 @@ fn is_deep(line: &NumberedLine) -> bool
     ensures { result ≡ is_deep (entry_of line.now).states }
 {
     match &line.statement {
-        Some(statement) => command_need(statement) > SLOT_COUNT,
+        Some(statement) => statement_need(statement) > SLOT_COUNT,
         None => false,
     }
 }

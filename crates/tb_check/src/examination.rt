@@ -2,7 +2,7 @@
 ghost use Rattle.std.specs.Prelude.{◌≡◌, ◌∷◌, ◌++◌, [], IfOk, OnOk, map};
 ghost use Rattle.tb_check.specs.Findings.{AreFindings, Tells};
 
-use crate::advice::{LineWarning, warnings};
+use crate::warnings::{LineWarning, warnings};
 use crate::deep::deep_lines;
 use crate::judging::{Verdict, judge};
 use crate::lines::{numbered_lines, texts_of_lines};

@@ -13,7 +13,7 @@ ghost use Rattle.tb_check.specs.Verdicts.{HasFaults, Judges, JudgesProgram, deep
 use crate::checking::bad_lines;
 use std::alloc::{AllocError, Global};
 use tb_codegen::cost;
-use tb_lower::{SLOT_COUNT, command_need};
+use tb_lower::{SLOT_COUNT, statement_need};
 use tb_parser::{SourceError, SourceErrorKind, parse};
 use tb_syntax::Program;
 
@@ -99,7 +99,7 @@ fn deep_lines(alloc: Global, program: &Program) -> Result<Vec<u16>, AllocError>
 {
     let mut deep = Vec::new(alloc);
     for (number, statement) in program.lines() {
-        if command_need(statement) > SLOT_COUNT {
+        if statement_need(statement) > SLOT_COUNT {
             deep.push(*number)?;
         }
     }

@@ -1,7 +1,7 @@
 //! The lines of a file, each with its number and its statement.
 ghost use Rattle.std.specs.Prelude.{◌≡◌, IfOk, OnOk, map};
 ghost use Rattle.tb_parser.specs.Lines.{lines_of_file};
-ghost use Rattle.tb_check.specs.Entries.{EntriesAre, Enters, IsEntry, entry_of, number_and_command};
+ghost use Rattle.tb_check.specs.Entries.{EntriesAre, Enters, IsEntry, entry_of, number_and_statement};
 
 use crate::checking::told;
 use std::alloc::{AllocError, Global};
@@ -67,7 +67,7 @@ fn push_numbered(
 
 // A line's number and its statement, where it has them.
 fn numbered(alloc: Global, text: &[u8]) -> Result<Option<(u16, Option<Statement>)>, AllocError>
-    ensures { IfOk result (λ found. IsEntry text.now (number_and_command found)) }
+    ensures { IfOk result (λ found. IsEntry text.now (number_and_statement found)) }
 {
     match read_line(alloc, text) {
         Ok(LineEdit::Nothing) => Ok(None),

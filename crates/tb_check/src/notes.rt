@@ -1,7 +1,7 @@
 //! Notes: what may help with a bad line, by what stands where its fault is.
 ghost use Rattle.std.specs.Prelude.{◌<◌, ◌≤◌, length};
 
-use crate::words::{Missing, missing_word, near_statement};
+use crate::foreign_words::{ForeignWord, foreign_word, near_statement};
 use std::alloc::{AllocError, Global};
 use tb_parser::{SourceError, SourceErrorKind};
 
@@ -12,7 +12,7 @@ const BYTE_ORDER_MARK: &[u8] = &[0xef, 0xbb, 0xbf];
 #[derive(Clone, Copy, Drop)]
 pub enum Note {
     /// A word of other BASICs.
-    Missing(Missing),
+    ForeignWord(ForeignWord),
     /// `?` in place of PRINT.
     QuestionMark,
     /// A colon between statements.
@@ -150,8 +150,8 @@ fn letters_at_end(text: &[u8]) -> usize
 
 // The list of words comes before nearness.
 fn note_on_word(alloc: Global, word: &Word<'_>) -> Result<Option<Note>, AllocError> {
-    if let Some(missing) = missing_word(word.letters, word.whole) {
-        return Ok(Some(Note::Missing(missing)));
+    if let Some(missing) = foreign_word(word.letters, word.whole) {
+        return Ok(Some(Note::ForeignWord(missing)));
     }
     if word.letters.len() < word.whole.len() {
         return Ok(Some(Note::TextName));

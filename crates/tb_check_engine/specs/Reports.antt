@@ -5,7 +5,7 @@ use Rattle.std.specs.Fmt.{decimal}
 use Rattle.tb_parser.specs.declared.errors.SourceError.{SourceError}
 use Rattle.tb_parser.specs.declared.errors.SourceErrorKind.TheVariants.{Empty as NothingLeft}
 use Rattle.tb_engines.specs.Texts.{source_text, too_large_text, too_deep_text}
-use Rattle.tb_check.specs.declared.advice.LineWarning.{LineWarning}
+use Rattle.tb_check.specs.declared.warnings.LineWarning.{LineWarning}
 use Rattle.tb_check.specs.declared.examination.BadLine.{BadLine}
 use Rattle.tb_check.specs.declared.examination.Findings.{Findings}
 use Rattle.tb_check.specs.declared.examination.Findings.TheVariants.{BadLines, Empty, Refused, Accepted}

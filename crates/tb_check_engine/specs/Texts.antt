@@ -1,16 +1,16 @@
 -- The texts of notes and warnings.
 use Rattle.std.specs.Prelude.{ℕ, ◌*◌, ◌/◌, ◌==◌, if◌then◌else◌, List, ◌++◌, codes}
 use Rattle.std.specs.Fmt.{decimal, signed_decimal}
-use Rattle.tb_check.specs.Words.{name_of}
-use Rattle.tb_check.specs.declared.words.Missing.{Missing}
-use Rattle.tb_check.specs.declared.words.Missing.TheVariants as missing
+use Rattle.tb_check.specs.ForeignWords.{name_of}
+use Rattle.tb_check.specs.declared.foreign_words.ForeignWord.{ForeignWord}
+use Rattle.tb_check.specs.declared.foreign_words.ForeignWord.TheVariants as missing
 use Rattle.tb_check.specs.declared.notes.Note.{Note}
 use Rattle.tb_check.specs.declared.notes.Note.TheVariants as note
-use Rattle.tb_check.specs.declared.advice.Warning.{Warning}
-use Rattle.tb_check.specs.declared.advice.Warning.TheVariants as warning
+use Rattle.tb_check.specs.declared.warnings.Warning.{Warning}
+use Rattle.tb_check.specs.declared.warnings.Warning.TheVariants as warning
 
 -- what helps where a word of other BASICs is missing
-abbrev pub advice : Missing → List ℕ
+abbrev pub advice : ForeignWord → List ℕ
 advice missing.For = codes "count with LET, IF and GOTO"
 advice missing.Next = codes "count with LET, IF and GOTO"
 advice missing.Step = codes "count with LET, IF and GOTO"
@@ -34,7 +34,7 @@ advice missing.Chr = codes "PRINT takes texts between quotes"
 
 -- the text of a note
 abbrev pub note_text : Note → List ℕ
-note_text (note.Missing m) = codes "Tiny BASIC has no " ++ (name_of m ++ (codes "; " ++ advice m))
+note_text (note.ForeignWord m) = codes "Tiny BASIC has no " ++ (name_of m ++ (codes "; " ++ advice m))
 note_text note.QuestionMark = codes "Tiny BASIC has no ? for PRINT; write PRINT or PR"
 note_text note.Colon = codes "a line has one statement; give the next one a line of its own"
 note_text note.LongName = codes "a variable's name is one letter, A to Z"

@@ -3,7 +3,7 @@ ghost use Rattle.std.specs.Prelude.{◌≡◌, ◌≤◌, Some};
 ghost use Rattle.tb_check_engine.specs.Texts.{advice, note_text, times_of, warning_text};
 
 use std::fmt;
-use tb_check::{Missing, Note, Warning};
+use tb_check::{ForeignWord, Note, Warning};
 
 /// The largest bound of RND that is advised.
 const ADVISED: u32 = 30_000;
@@ -17,26 +17,26 @@ pub struct NoteText(pub Note);
 pub struct WarningText(pub Warning);
 
 // What helps where a word of other BASICs is missing.
-fn advice(missing: Missing) -> &'static str
+fn advice(missing: ForeignWord) -> &'static str
     ensures { result.now ≡ advice missing }
 {
     match missing {
-        Missing::For | Missing::Next | Missing::Step => "count with LET, IF and GOTO",
-        Missing::Poke | Missing::Peek => "a program has its variables and no other memory",
-        Missing::Dim => "there are the variables A to Z and no arrays",
-        Missing::Get => "INPUT takes numbers from the keyboard",
-        Missing::On => "GOTO and GOSUB take an expression, as GOTO 100*X",
-        Missing::Read | Missing::Data => "set variables with LET",
-        Missing::Def => "write the expression where it is used, or GOSUB",
-        Missing::Else => "write a second IF, or GOTO",
-        Missing::And => "an IF may stand behind an IF: IF A=1 IF B=2 GOTO 100",
-        Missing::Or => "write an IF for each side, on lines of their own",
-        Missing::Not => "turn the relation round: <> for =, >= for <",
-        Missing::Stop => "END ends the run",
-        Missing::Cls => "PRINT writes new lines",
-        Missing::Abs => "IF X<0 LET X=-X does it",
-        Missing::Tab => "a comma in PRINT goes on to the next zone of 8 columns",
-        Missing::Chr => "PRINT takes texts between quotes",
+        ForeignWord::For | ForeignWord::Next | ForeignWord::Step => "count with LET, IF and GOTO",
+        ForeignWord::Poke | ForeignWord::Peek => "a program has its variables and no other memory",
+        ForeignWord::Dim => "there are the variables A to Z and no arrays",
+        ForeignWord::Get => "INPUT takes numbers from the keyboard",
+        ForeignWord::On => "GOTO and GOSUB take an expression, as GOTO 100*X",
+        ForeignWord::Read | ForeignWord::Data => "set variables with LET",
+        ForeignWord::Def => "write the expression where it is used, or GOSUB",
+        ForeignWord::Else => "write a second IF, or GOTO",
+        ForeignWord::And => "an IF may stand behind an IF: IF A=1 IF B=2 GOTO 100",
+        ForeignWord::Or => "write an IF for each side, on lines of their own",
+        ForeignWord::Not => "turn the relation round: <> for =, >= for <",
+        ForeignWord::Stop => "END ends the run",
+        ForeignWord::Cls => "PRINT writes new lines",
+        ForeignWord::Abs => "IF X<0 LET X=-X does it",
+        ForeignWord::Tab => "a comma in PRINT goes on to the next zone of 8 columns",
+        ForeignWord::Chr => "PRINT takes texts between quotes",
     }
 }
 
@@ -45,7 +45,7 @@ impl fmt::Display for NoteText {
 
     fn fmt<W: fmt::Write>(&self, f: &mut fmt::Formatter<W>) -> fmt::Result {
         match self.0 {
-            Note::Missing(missing) => {
+            Note::ForeignWord(missing) => {
                 write!(
                     f,
                     "Tiny BASIC has no {}; {}",

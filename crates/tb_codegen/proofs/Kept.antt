@@ -23,7 +23,7 @@ use Rattle.tb_codegen.proofs.SmallPrograms.{count_numbers}
 -- each line of a program takes an answer first
 pub all_polled : (p : Program) → ArePolled (lowered.program_code p)
 all_polled [] = tt
-all_polled (line ∷ lines) = ((lowered.command_code line.content, refl), all_polled lines)
+all_polled (line ∷ lines) = ((lowered.statement_code line.content, refl), all_polled lines)
 
 pub file_keeps : {seed : ℕ} {p : Program} {code : SlotCode} {file image : List ℕ} {from : ℕ} {labels : List (Name × ℕ)} → seed < 65536 → 1 ≤ length p → code ≡ lowered.program_code p → Follows p code → (s : IsListed code) (l : IsLaid PROLOGUE_AT (program_code seed code) from image labels) → PROLOGUE_AT + size l.items ≤ 0xA000 → file ≡ header ++ image → Keeps BASIC_START (drop 2 file) p seed
 file_keeps {seed} {p} {code} small some same follows s l ends is =

@@ -1,9 +1,9 @@
 -- What a text is no longer than: the cost of what it reads as.
 use Rattle.std.proofs.Common.{◌≡◌, ℕ, ◌+◌, ◌*◌, ◌<◌, ◌≤◌, Bool, true, false, List, [], ◌∷◌, ◌++◌, length, ap, arith, length-append, Option}
-use Rattle.tb_syntax.specs.Source.{Expression, Item, Zone, Command}
-use Rattle.tb_meaning.specs.Cost.{nodes, item_cost, command_cost}
+use Rattle.tb_syntax.specs.Source.{Expression, Item, Zone, Statement}
+use Rattle.tb_meaning.specs.Cost.{nodes, item_cost, statement_cost}
 use Rattle.tb_syntax.specs.Texts.{AreShort}
-use Rattle.tb_syntax.specs.Texts.{command_texts, item_texts}
+use Rattle.tb_syntax.specs.Texts.{statement_texts, item_texts}
 use Rattle.tb_words.specs.declared.Rel.{Rel}
 use Rattle.tb_grammar.specs.Grammar.{Part, Reads, number, variable, random, parentheses, factor, product, term, plus, minus, sum}
 use Rattle.tb_grammar.specs.Statements.{Relates, equal, less, greater, at_most, at_least, less_or_greater, greater_or_less, MayThen, bare, then, ReadsItem, value, quotation, comma, semicolon, Prints, nothing, last, next, Variables, one, more, States, let_assign, assign, print, short_print, input, conditional, goto, gosub, return, end, remark}
@@ -93,13 +93,13 @@ then_read : (text rest : List ℕ) → MayThen text rest → length rest ≤ len
 then_read _ _ (bare text) = omega arith
 then_read _ _ (then text) = omega arith
 
--- a command of a text that is shorter than a limit
-pub record Told (limit : ℕ) (text : List ℕ) (c : Command) : Type 0 where
+-- a statement of a text that is shorter than a limit
+pub record Told (limit : ℕ) (text : List ℕ) (c : Statement) : Type 0 where
   pub spaced : IsSpaced c
-  pub short : length text < limit → AreShort limit (command_texts c)
-  pub paid : command_cost c ≤ 72 * length text
+  pub short : length text < limit → AreShort limit (statement_texts c)
+  pub paid : statement_cost c ≤ 72 * length text
 
-pub stated : (limit : ℕ) (text : List ℕ) (c : Command) (large : Option ℕ) → States text c large → Told limit text c
+pub stated : (limit : ℕ) (text : List ℕ) (c : Statement) (large : Option ℕ) → States text c large → Told limit text c
 stated limit _ _ _ (let_assign v text e large l r) = record { spaced = tt; short = λ h. tt; paid = let a = nodes_read _ text e large [] r in omega (arith, a) }
 stated limit _ _ _ (assign v text e large l r) = record { spaced = tt; short = λ h. tt; paid = let a = nodes_read _ text e large [] r in omega (arith, a) }
 stated limit _ _ _ (print text items ends_line large p) = record {

@@ -23,7 +23,7 @@ use Rattle.tb_templates.specs.Sizes.{room, list_room}
 use Rattle.tb_templates.specs.Program.{lines_code, past_code, find_code, rows_code, still_asking, table_code, block_code, program_code, AreCodable, RisingFrom}
 use Rattle.tb_templates.specs.Breaks.{all_broken}
 use Rattle.tb_codegen.proofs.Roomy.{unsettled_long}
-use Rattle.tb_templates.proofs.Fitting.{command_room, program_fits}
+use Rattle.tb_templates.proofs.Fitting.{statement_room, program_fits}
 use Rattle.tb_templates.proofs.Taken.{block_size, program_labels, program_most, program_suits}
 use Rattle.tb_templates.proofs.Woven.{lowest, distinct}
 use Rattle.tb_templates.proofs.Ordered.{program_woven}
@@ -94,7 +94,7 @@ lists_codable : (p : Program) → AreSmall p → IsCodeInRange 256 (lowered.prog
 lists_codable [] small ranges = tt
 lists_codable (line ∷ lines) small ranges = (
   ranges.0,
-  let a = list_length (lowered.list_code line.content) in let b = command_room line.content small.0.spaced in let c = small.0.paid in omega (arith, a, b, c),
+  let a = list_length (lowered.list_code line.content) in let b = statement_room line.content small.0.spaced in let c = small.0.paid in omega (arith, a, b, c),
   lists_codable lines small.1 ranges.1,
 )
 

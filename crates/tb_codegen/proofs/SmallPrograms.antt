@@ -2,28 +2,28 @@
 use Rattle.std.proofs.Common.{◌≡◌, ℕ, ◌+◌, ◌*◌, ◌<◌, ◌≤◌, List, [], ◌∷◌, length, arith, None, sum_by}
 use Rattle.std.proofs.lemmas.List.Sums.{sum_by-cons}
 use Rattle.std.proofs.lemmas.List.{length-map}
-use Rattle.tb_syntax.specs.Source.{Command, Numbered, Program, numbers}
-use Rattle.tb_meaning.specs.Cost.{command_cost, cost}
+use Rattle.tb_syntax.specs.Source.{Statement, Numbered, Program, numbers}
+use Rattle.tb_meaning.specs.Cost.{statement_cost, cost}
 use Rattle.tb_syntax.specs.Texts.{AreShort, HasShortTexts}
-use Rattle.tb_syntax.specs.Texts.{command_texts}
+use Rattle.tb_syntax.specs.Texts.{statement_texts}
 use Rattle.tb_parser.specs.Files.{IsStated, AreStated, RisesFrom}
 use Rattle.tb_templates.specs.Sizes.{IsSpaced, AreSpaced}
 use Rattle.tb_codegen.proofs.Reading.{Told, stated}
 
--- ── a small command ──
-pub record IsSmall (c : Command) : Type 0 where
+-- ── a small statement ──
+pub record IsSmall (c : Statement) : Type 0 where
   pub spaced : IsSpaced c
-  pub short : AreShort 256 (command_texts c)
-  pub paid : command_cost c ≤ 18360
+  pub short : AreShort 256 (statement_texts c)
+  pub paid : statement_cost c ≤ 18360
 
 abbrev pub AreSmall : Program → Type 0
 AreSmall [] = Unit {0}
 AreSmall (line ∷ lines) = IsSmall line.content × AreSmall lines
 
-small_told : (text : List ℕ) (c : Command) → length text ≤ 255 → Told 256 text c → IsSmall c
+small_told : (text : List ℕ) (c : Statement) → length text ≤ 255 → Told 256 text c → IsSmall c
 small_told text c l t = let p = t.paid in record { spaced = t.spaced; short = t.short (omega (arith, l)); paid = omega (arith, l, p) }
 
-small_stated : (c : Command) → IsStated c → IsSmall c
+small_stated : (c : Statement) → IsStated c → IsSmall c
 small_stated c h = small_told h.text c h.short (stated 256 h.text c None h.states)
 
 pub are_small : (p : Program) → AreStated p → AreSmall p
@@ -50,10 +50,10 @@ count_numbers p = length-map p (λ line. line.number)
 pub few_lines : (p : Program) → RisesFrom 0 (numbers p) → length p ≤ 32767
 few_lines p r = let a = rising_length 0 (numbers p) (omega arith) r in let b = count_numbers p in omega (arith, a, b)
 
-lines_cost : (p : Program) → AreSmall p → sum_by (λ line. 36 + command_cost line.content) p ≤ 18396 * length p
+lines_cost : (p : Program) → AreSmall p → sum_by (λ line. 36 + statement_cost line.content) p ≤ 18396 * length p
 lines_cost [] h = omega arith
 lines_cost (line ∷ lines) h =
-    let a = lines_cost lines h.1 in let b = h.0.paid in let c = sum_by-cons (λ line. 36 + command_cost line.content) line lines in
+    let a = lines_cost lines h.1 in let b = h.0.paid in let c = sum_by-cons (λ line. 36 + statement_cost line.content) line lines in
     omega (arith, a, b, c)
 
 -- a program of a file costs less than 2^32

@@ -13,11 +13,11 @@ use Rattle.tb_asm.specs.Settle as settle
 use Rattle.tb_asm.specs.Settle.{Form, items_from}
 use Rattle.tb_asm.proofs.Settled.{items_kept}
 use Rattle.tb_asm.proofs.Laws.{all_size, bytes_append}
-use Rattle.tb_syntax.specs.Source.{Program, Command, Numbered, numbers}
+use Rattle.tb_syntax.specs.Source.{Program, Statement, Numbered, numbers}
 use Rattle.tb_lower.specs.Lowered as lowered
 use Rattle.tb_lower.specs.Slots.{Instr, Put, Load, Store, Negate, Compute, Random, SendText, SendNumber, SendZone, SendNewline, Input, Poll, Hold, LeaveUnless, Jump, Call, JumpTo, CallTo, Return, End}
 use Rattle.tb_lower.specs.Weights.{instr_texts}
-use Rattle.tb_syntax.specs.Texts.{command_texts}
+use Rattle.tb_syntax.specs.Texts.{statement_texts}
 use Rattle.tb_lower.proofs.Weighed.{same_texts}
 use Rattle.tb_templates.specs.declared.labels.Inner.TheVariants as inner
 use Rattle.tb_templates.specs.declared.labels.Target.TheVariants as target
@@ -253,27 +253,27 @@ module _ (labels : List (Name × ℕ)) (ns : List ℕ) (seed n : ℕ) where
   rest_texts i (Single Return ∷ gs) = silent i (Single Return) gs _ refl (rest_texts (i + 1) gs)
   rest_texts i (Single End ∷ gs) = silent i (Single End) gs _ refl (rest_texts (i + 1) gs)
 
-  -- those of a line's command stand in the line's code
-  line_texts : (a : ℕ) (c : Command) (fs : List Form) → AreFormsOf (line_code ns seed (record { number = n; content = lowered.list_code c })) fs → Holds labels a (items_from a fs) (command_texts c)
+  -- those of a line's statement stand in the line's code
+  line_texts : (a : ℕ) (c : Statement) (fs : List Form) → AreFormsOf (line_code ns seed (record { number = n; content = lowered.list_code c })) fs → Holds labels a (items_from a fs) (statement_texts c)
   line_texts a c fs h =
-      subst (Holds labels a (items_from a fs)) (ap instr_texts (brackets (lowered.command_code c)) ∙ same_texts c)
-      (quiet_forms labels a (here (target.Line n) ∷ polled n) (rest_code ns seed n 1 (select (lowered.command_code c))) fs (instr_texts (expand_all (select (lowered.command_code c)))) h (rest_texts 1 (select (lowered.command_code c))))
+      subst (Holds labels a (items_from a fs)) (ap instr_texts (brackets (lowered.statement_code c)) ∙ same_texts c)
+      (quiet_forms labels a (here (target.Line n) ∷ polled n) (rest_code ns seed n 1 (select (lowered.statement_code c))) fs (instr_texts (expand_all (select (lowered.statement_code c)))) h (rest_texts 1 (select (lowered.statement_code c))))
 
 -- ---- lines
 module _ (labels : List (Name × ℕ)) (ns : List ℕ) (seed past : ℕ) where
-  abbrev own_line : Numbered Command → Numbered (List Instr)
+  abbrev own_line : Numbered Statement → Numbered (List Instr)
   own_line line = record { number = line.number; content = lowered.list_code line.content }
 
   -- a line begins where its label stands
-  begins : (a : ℕ) (asking : List ℕ) (line : Numbered Command) (fs : List Form) → AreFormsOf (stretch ns seed asking (own_line line)) fs → LabelsAt labels a (items_from a fs) → stands_at labels (label_of (target.Line line.number)) ≡ a
+  begins : (a : ℕ) (asking : List ℕ) (line : Numbered Statement) (fs : List Form) → AreFormsOf (stretch ns seed asking (own_line line)) fs → LabelsAt labels a (items_from a fs) → stands_at labels (label_of (target.Line line.number)) ≡ a
   begins a asking line fs h l = ap (λ o. unwrap_or o 0) (stretch_at labels ns seed a asking (own_line line) fs h l)
 
   -- its texts stand in its code, and so in that with what is done behind it
-  stretch_texts : (a : ℕ) (asking : List ℕ) (line : Numbered Command) (fs : List Form) → AreFormsOf (stretch ns seed asking (own_line line)) fs → Holds labels a (items_from a fs) (command_texts line.content)
+  stretch_texts : (a : ℕ) (asking : List ℕ) (line : Numbered Statement) (fs : List Form) → AreFormsOf (stretch ns seed asking (own_line line)) fs → Holds labels a (items_from a fs) (statement_texts line.content)
   stretch_texts a asking line fs h =
       let s = split (line_code ns seed (own_line line)) (done_behind (ends_away (own_line line).content) (asking ++ line.number ∷ [])) fs h in
-      subst (λ es. Holds labels a es (command_texts line.content)) (sym (joined_items a fs s.front s.back s.are))
-      (quiet_behind labels a (items_from a s.front) (items_from (a + forms_size s.front) s.back) (command_texts line.content) (line_texts labels ns seed line.number a line.content s.front s.of_front))
+      subst (λ es. Holds labels a es (statement_texts line.content)) (sym (joined_items a fs s.front s.back s.are))
+      (quiet_behind labels a (items_from a s.front) (items_from (a + forms_size s.front) s.back) (statement_texts line.content) (line_texts labels ns seed line.number a line.content s.front s.of_front))
 
   -- where these lines begin, or what is behind them
   ends_there : (a : ℕ) (asking : List ℕ) (p : Program) (fs : List Form) → AreFormsOf (lines_code ns seed asking (lowered.program_code p)) fs → LabelsAt labels a (items_from a fs) → past ≡ a + forms_size fs → end_before past (starts_in labels (numbers p)) ≡ a
@@ -309,12 +309,12 @@ module _ (labels : List (Name × ℕ)) (ns : List ℕ) (seed past : ℕ) where
       let ends : end_before past (starts_in labels (numbers lines)) ≡ b = ends_there b on lines s.back s.of_back ls.1 past_is in
       let here_from : length front ≡ offset_of (stands_at labels (label_of (target.Line line.number))) = at ∙ ap offset_of (sym starts_there) in
       let here_to : length front + size own ≡ offset_of (end_before past (starts_in labels (numbers lines))) = (let q = ap offset_of ends in omega (arith, q, at, long, low)) in
-      let first : TextsStand file (length front + size own) (length front) (command_texts line.content) =
-      subst (λ f. TextsStand f (length front + size own) (length front) (command_texts line.content)) (sym (shown ∙ append_assoc front own_bytes (rest_bytes ++ back)))
+      let first : TextsStand file (length front + size own) (length front) (statement_texts line.content) =
+      subst (λ f. TextsStand f (length front + size own) (length front) (statement_texts line.content)) (sym (shown ∙ append_assoc front own_bytes (rest_bytes ++ back)))
       (stretch_texts a asking line s.front s.of_front front (rest_bytes ++ back)) in
       let next : length (front ++ own_bytes) ≡ offset_of b = (let q = front_length labels a own front in omega (arith, q, at, long, low)) in (
-        subst (λ to. TextsStand file to (offset_of (stands_at labels (label_of (target.Line line.number)))) (command_texts line.content)) here_to
-            (subst (λ from. TextsStand file (length front + size own) from (command_texts line.content)) here_from first),
+        subst (λ to. TextsStand file to (offset_of (stands_at labels (label_of (target.Line line.number)))) (statement_texts line.content)) here_to
+            (subst (λ from. TextsStand file (length front + size own) from (statement_texts line.content)) here_from first),
         subst (λ f. LinesHoldTexts f past (starts_in labels (numbers lines)) lines) (sym shown)
             (lines_texts b on lines s.back (front ++ own_bytes) back s.of_back ls.1 past_is (omega (arith, low)) next),
       )

@@ -1,7 +1,7 @@
 -- The texts of lines in a PRG file.
 use Rattle.std.specs.Prelude.{◌≡◌, ℕ, ◌+◌, ◌-◌, ◌≤◌, List, [], ◌∷◌, length, take, drop}
 use Rattle.tb_syntax.specs.Source.{Program}
-use Rattle.tb_syntax.specs.Texts.{command_texts}
+use Rattle.tb_syntax.specs.Texts.{statement_texts}
 use Rattle.tb_prg.specs.Prg.{header}
 use Rattle.tb_runtime16.specs.Places.{PROLOGUE_AT}
 
@@ -25,4 +25,4 @@ abbrev pub LinesHoldTexts : List ℕ → ℕ → List (ℕ × ℕ) → Program �
 LinesHoldTexts file past starts [] = Unit {0}
 LinesHoldTexts file past [] (line ∷ lines) = ⊥
 LinesHoldTexts file past (s ∷ starts) (line ∷ lines) =
-    TextsStand file (offset_of (end_before past starts)) (offset_of s.1) (command_texts line.content) × LinesHoldTexts file past starts lines
+    TextsStand file (offset_of (end_before past starts)) (offset_of s.1) (statement_texts line.content) × LinesHoldTexts file past starts lines

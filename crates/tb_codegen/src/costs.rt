@@ -1,6 +1,6 @@
 //! What a program costs: a bound on the bytes of its code and line table.
 ghost use Rattle.std.specs.Prelude.{◌≡◌, ◌+◌, ◌<◌, map};
-ghost use Rattle.tb_syntax.specs.PlainData.{expression_of, item_of, command_of, lines_of};
+ghost use Rattle.tb_syntax.specs.PlainData.{expression_of, item_of, statement_of, lines_of};
 ghost use Rattle.tb_templates.specs.Sizes.{items_cost};
 ghost use Rattle.tb_meaning.specs.Cost as cost;
 
@@ -20,16 +20,16 @@ pub fn cost(program: &Program) -> u32
 
 /// What a line with this statement costs in bytes, where it can be counted by 32 bits.
 pub fn line_cost(statement: &Statement) -> u32
-    requires { 36 + cost.command_cost (command_of statement.now) < 4294967296 }
-    ensures { result ≡ 36 + cost.command_cost (command_of statement.now) }
+    requires { 36 + cost.statement_cost (statement_of statement.now) < 4294967296 }
+    ensures { result ≡ 36 + cost.statement_cost (statement_of statement.now) }
 {
     36 + statement_cost(statement)
 }
 
 // What a statement costs.
 fn statement_cost(statement: &Statement) -> u32
-    requires { cost.command_cost (command_of statement.now) < 4294967296 }
-    ensures { result ≡ cost.command_cost (command_of statement.now) }
+    requires { cost.statement_cost (statement_of statement.now) < 4294967296 }
+    ensures { result ≡ cost.statement_cost (statement_of statement.now) }
 {
     match statement {
         Statement::Let(_, e) => 48 * nodes(e),

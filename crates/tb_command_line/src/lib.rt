@@ -3,5 +3,5 @@
 
 mod words;
 
-pub use tb_jobs::{Beside, Failure, Job, JobError, Limit, Runnable, Settings, Typed};
+pub use tb_jobs::{BuildExtras, Failure, Job, JobError, Limit, Runnable, Settings, Typed};
 pub use words::job;

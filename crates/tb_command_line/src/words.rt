@@ -5,7 +5,7 @@ ghost use Rattle.tb_jobs.specs.Limits.{IsWithinLimit};
 use clap::error::ErrorKind;
 use clap::{Arg, ArgMatches, Command, value_parser};
 use std::alloc::{AllocError, Global};
-use tb_jobs::{Beside, Job, JobError, Limit, Runnable, Settings, Typed};
+use tb_jobs::{BuildExtras, Job, JobError, Limit, Runnable, Settings, Typed};
 
 /// Reads the words after the program's own name.
 pub fn job(alloc: Global, words: &[&str]) -> Result<Job, JobError>
@@ -505,8 +505,8 @@ fn text(alloc: Global, found: &ArgMatches<'_>, id: &str) -> Result<String, Alloc
 }
 
 // The files that are written beside a PRG file.
-fn beside_of(alloc: Global, found: &ArgMatches<'_>) -> Result<Beside, AllocError> {
-    Ok(Beside {
+fn beside_of(alloc: Global, found: &ArgMatches<'_>) -> Result<BuildExtras, AllocError> {
+    Ok(BuildExtras {
         labels: optional_text(alloc, found, "labels")?,
         listing: optional_text(alloc, found, "list")?,
         map: optional_text(alloc, found, "map")?,

@@ -1,12 +1,12 @@
 -- The stepper's commands, and the lines that spell them.
 use Rattle.std.specs.Prelude.{ℕ, ◌==◌, nat_le, List, [], ◌∷◌, Option, Some, None, if◌then◌else◌}
 use Rattle.std.specs.Option.{option_and_then}
-use Rattle.tb_words.specs.Letters.{place}
-use Rattle.tb_command_parts.specs.Parts.{number_of, variable_in}
+use Rattle.tb_words.specs.Letters.{letter_index}
+use Rattle.tb_debug_commands.specs.Parts.{number_of, variable_in}
 use Rattle.tb_commands.specs.declared.command.Command.{Command}
 use Rattle.tb_commands.specs.declared.command.Command.TheVariants as command
 
--- what a line asks for: a variable is said by its place in the alphabet, a value by the text of its expression
+-- what a line asks for: a variable is said by its index in the alphabet, a value by the text of its expression
 pub data Asked : Type 0 where
   Step : Asked
   Back : Asked
@@ -22,7 +22,7 @@ abbrev pub asked_of : Command → Asked
 asked_of command.Step = Step
 asked_of command.Back = Back
 asked_of (command.Go line) = Go line
-asked_of (command.Variable letter) = Variable (place letter)
+asked_of (command.Variable letter) = Variable (letter_index letter)
 asked_of (command.Value text) = Value text.now
 asked_of command.Depth = Depth
 asked_of command.Quit = Quit

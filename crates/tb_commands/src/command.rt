@@ -2,7 +2,7 @@
 ghost use Rattle.std.specs.Prelude.{◌≡◌};
 ghost use Rattle.tb_commands.specs.Commands.{asked_of, asked_in, alone, with_text, line_in};
 
-use tb_command_parts::{number, variable};
+use tb_debug_commands::{number, variable};
 use tb_words::Letter;
 
 /// The most digits of a line number.

@@ -1,7 +1,7 @@
 -- How many lines a run has begun.
 use Rattle.std.proofs.Common.{◌≡◌, ℕ, zero, suc, ◌+◌, ◌-◌, ◌≤◌, Bool, true, false, List, ap, subst, arith}
 use Rattle.std.specs.Prelude.{if◌then◌else◌}
-use Rattle.tb_debug.specs.Besides.{event_at}
+use Rattle.tb_debug.specs.Roms.{event_at}
 use Rattle.tb_debug.specs.Runs.{Point, is_begin, point_at}
 use Rattle.tb_debug.proofs.Running.{at_next, at_start}
 
@@ -11,7 +11,7 @@ at_most_one false = omega arith
 
 -- whether the event behind so many others begins a line
 abbrev begin_at : List Bool → Point → ℕ → Bool
-begin_at marks start n = is_begin marks (point_at marks start n).state (event_at (point_at marks start n).beside (point_at marks start n).state.regs)
+begin_at marks start n = is_begin marks (point_at marks start n).state (event_at (point_at marks start n).rom (point_at marks start n).state.regs)
 
 one_counted : (marks : List Bool) (start : Point) (n : ℕ)
     → (point_at marks start (suc n)).begun ≡ (point_at marks start n).begun + (if begin_at marks start n then 1 else 0)

@@ -13,10 +13,10 @@ use Rattle.tb_kernal.specs.LawfulEvents.{rude_writable, lawful_at, writes_of}
 use Rattle.tb_reaching.proofs.Laws.{run_append}
 use Rattle.tb_simulation.specs.Layout.{is_start}
 use Rattle.tb_simulation.specs.LineStarts.{begun}
-use Rattle.tb_debug.specs.Besides.{event_at}
+use Rattle.tb_debug.specs.Roms.{event_at}
 use Rattle.tb_debug.specs.Runs.{Point, is_marked, point_at}
-use Rattle.tb_debug.specs.declared.beside.Beside.{Beside}
-use Rattle.tb_debug.specs.declared.beside.Beside.TheVariants.{Quiet, Rude}
+use Rattle.tb_debug.specs.declared.rom.Rom.{Rom}
+use Rattle.tb_debug.specs.declared.rom.Rom.TheVariants.{Quiet, Rude}
 use Rattle.tb_debug.proofs.Running.{at_next, at_start}
 
 -- ---- what a ROM gives is lawful
@@ -30,7 +30,7 @@ writable_by : (b : Bool) (s : ℕ) (one two : Event) → all_writable s (writes_
 writable_by true s one two h k = h
 writable_by false s one two h k = k
 
-writable : (b : Beside) (s : State) → all_writable s.regs.s (writes_of (event_at b s.regs)) ≡ true
+writable : (b : Rom) (s : State) → all_writable s.regs.s (writes_of (event_at b s.regs)) ≡ true
 writable Quiet s = refl
 writable (Rude seed) s = rude (seed_after seed)
   where
@@ -43,7 +43,7 @@ writable (Rude seed) s = rude (seed_after seed)
 
 module _ (marks : List Bool) (start : Point) where
   event : ℕ → Event
-  event n = event_at (point_at marks start n).beside (point_at marks start n).state.regs
+  event n = event_at (point_at marks start n).rom (point_at marks start n).state.regs
 
   -- the first so many events
   pub events_to : ℕ → List Event
@@ -71,7 +71,7 @@ module _ (marks : List Bool) (start : Point) where
   lawful_to (suc n) =
       let s = (point_at marks start n).state in
       lawful_append (events_to n) (event n) start.state (lawful_to n)
-      (ap (λ t. is_lawful t (event n)) (run_to n) ∙ lawful_by s (event n) (writable (point_at marks start n).beside s))
+      (ap (λ t. is_lawful t (event n)) (run_to n) ∙ lawful_by s (event n) (writable (point_at marks start n).rom s))
 
   begun_append : (first : ℕ → ℕ) (ns : List ℕ) (es : List Event) (e : Event) (s : State)
       → begun first ns (es ++ e ∷ []) s ≡ begun first ns es s + (if is_own e && is_start first ns (run es s).regs.pc then 1 else 0)

@@ -1,5 +1,5 @@
 pub mod Beginning
-pub mod Besides
+pub mod Roms
 pub mod CodeLines
 pub mod Counting
 pub mod EventLists
@@ -15,3 +15,4 @@ pub mod Sources
 pub mod Stopping
 pub mod TypedLists
 pub mod Typing
+mod Turning

@@ -27,12 +27,12 @@ tells_way limit c d m e reached n told leads stands same is_stop stop =
 -- and so is what the command tells, which leaves breakpoints and watches
 by_kind : (limit : ℕ) (c : Command) (d e : Debugger) (told : Answer) → IsWalk c d → TellsWay limit c d e (Some told) → LeavesStops d e
     → Tells limit c d e (Some told) × Leaves c d e
-by_kind limit (command.On lines) d e told walk way same = (way, same)
-by_kind limit (command.Back lines) d e told walk way same = (way, same)
+by_kind limit (command.Next lines) d e told walk way same = (way, same)
+by_kind limit (command.Previous lines) d e told walk way same = (way, same)
 by_kind limit command.Breakpoints d e told walk way same = absurd walk
 by_kind limit (command.Breakpoint line) d e told walk way same = absurd walk
-by_kind limit command.GoOn d e told walk way same = (way, same)
-by_kind limit command.GoBack d e told walk way same = (way, same)
+by_kind limit command.Continue d e told walk way same = (way, same)
+by_kind limit command.ReverseContinue d e told walk way same = (way, same)
 by_kind limit (command.Watch letter) d e told walk way same = absurd walk
 by_kind limit (command.ToLine line) d e told (address, found) way same =
     (subst (λ x. TellsLine limit x (command.ToLine line) d e (Some told)) (sym found) way, subst (λ x. LeavesToLine x d e) (sym found) same)

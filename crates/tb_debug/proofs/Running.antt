@@ -9,7 +9,7 @@ use Rattle.tb_words.specs.Prefixes.{IsPrefix}
 use Rattle.tb_words.proofs.Prefixes.{prefix_same, prefix_trans}
 use Rattle.tb_reaching.proofs.Grows.{sends_on}
 use Rattle.std.specs.Prelude.{ℤ, ◌&&◌, true, false, if◌then◌else◌}
-use Rattle.tb_debug.specs.Besides.{after, event_at}
+use Rattle.tb_debug.specs.Roms.{after, event_at}
 use Rattle.tb_debug.specs.Readings.{variables_of}
 use Rattle.tb_debug.specs.Runs.{Point, RunsUpTo, behind, is_begin, next_point, point_at}
 
@@ -22,7 +22,7 @@ unfolding point_at
 at_next marks start n = refl
 
 -- what an event leaves, part by part
-pub behind_by : (marks : List Bool) (p q : Point) (e : Event) (begins : Bool) → q.state ≡ happens p.state e → q.beside ≡ after p.beside
+pub behind_by : (marks : List Bool) (p q : Point) (e : Event) (begins : Bool) → q.state ≡ happens p.state e → q.rom ≡ after p.rom
     → begins ≡ is_begin marks p.state e → q.begun ≡ p.begun + (if begins then 1 else 0) → q.last ≡ (if begins then p.state.regs.pc else p.last)
     → q.opened ≡ (if begins then variables_of p.state.mem else p.opened) → q ≡ behind marks p e
 behind_by marks p q e begins happened left is counted moved told =
@@ -30,7 +30,7 @@ behind_by marks p q e begins happened left is counted moved told =
     let place : q.last ≡ (if is_begin marks p.state e then p.state.regs.pc else p.last) = moved ∙ ap (λ x. if x then p.state.regs.pc else p.last) is in
     let values : q.opened ≡ (if is_begin marks p.state e then variables_of p.state.mem else p.opened) =
     told ∙ ap (λ x. if x then variables_of p.state.mem else p.opened) is in
-    λ i. record { state = happened i; beside = left i; begun = count i; last = place i; opened = values i }
+    λ i. record { state = happened i; rom = left i; begun = count i; last = place i; opened = values i }
 
 -- values that are read where a line may begin, and kept where one does
 pub opened_where : (begins own marked : Bool) (here before : List ℤ) → begins ≡ (own && marked)
@@ -41,7 +41,7 @@ opened_where true true false here before e = cc
 opened_where true false marked here before e = cc
 
 -- one event more
-pub one_more : (marks : List Bool) (start p q : Point) (n m : ℕ) (e : Event) → p ≡ point_at marks start n → e ≡ event_at p.beside p.state.regs
+pub one_more : (marks : List Bool) (start p q : Point) (n m : ℕ) (e : Event) → p ≡ point_at marks start n → e ≡ event_at p.rom p.state.regs
     → q ≡ behind marks p e → m ≡ n + 1 → q ≡ point_at marks start m
 one_more marks start p q n m e here given moved counted =
     moved ∙ ap (behind marks p) given ∙ ap (next_point marks) here ∙ sym (at_next marks start n) ∙ ap (point_at marks start) (sym (counted ∙ add-one n))
@@ -60,7 +60,7 @@ sent_on marks start n zero =
     prefix_same _ _ (ap (λ k. (point_at marks start k).state.sent) e)
 sent_on marks start n (suc more) =
     let p = point_at marks start (more + n) in
-    let next = sends_on (event_at p.beside p.state.regs) p.state in
+    let next = sends_on (event_at p.rom p.state.regs) p.state in
     let one : suc more + n ≡ suc (more + n) = omega arith in
     let e : (point_at marks start (suc more + n)).state.sent ≡ (next_point marks p).state.sent =
     ap (λ k. (point_at marks start k).state.sent) one ∙ ap (λ q. q.state.sent) (at_next marks start (more + n)) in

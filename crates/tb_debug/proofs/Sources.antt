@@ -14,7 +14,7 @@ use Rattle.tb_syntax.specs.Source.{Program, numbers}
 use Rattle.tb_templates.specs.declared.labels.Target.TheVariants.{Line}
 use Rattle.tb_templates.specs.Labels.{label_of}
 use Rattle.tb_codegen.specs.Compiled.{stands_at, start_in, start_of, starts_in, starts_of}
-use Rattle.tb_debug.specs.declared.beside.Beside.{Beside}
+use Rattle.tb_debug.specs.declared.rom.Rom.{Rom}
 use Rattle.tb_debug.specs.declared.debugger.Debugger.{Debugger}
 use Rattle.tb_debug.specs.Runs.{begins_at, first_point, is_marked}
 use Rattle.tb_debug.specs.Lines.{line_at}
@@ -93,9 +93,9 @@ shows_all source seed start d n made firsts same begins =
     }
 
 -- where a debugger stands at a line's beginning, the source goes on at that line
-pub shows_line : (source : Program) (seed : ℕ) (start : State) (beside : Beside) (d : Debugger) (n : ℕ) → Debugs source seed start beside d
+pub shows_line : (source : Program) (seed : ℕ) (start : State) (rom : Rom) (d : Debugger) (n : ℕ) → Debugs source seed start rom d
     → line_at (starts_of d.program.now) d.present.machine.regs.pc ≡ Some n → ShowsLine source seed start d n
-shows_line source seed start beside d n h here =
+shows_line source seed start rom d n h here =
     let c = d.program.now in
     let told = h.made.compiled.starts in
     let ns = numbers source in
@@ -104,7 +104,7 @@ shows_line source seed start beside d n h here =
     λ k has. ap (λ ss. unwrap_or (start_in ss k) 0) told ∙ found labels ns k has in
     let same : (a : ℕ) → is_start (start_of c) ns a ≡ is_marked d.starts a =
     λ a. starts_same labels (start_of c) ns a firsts ∙ sym (ap (λ ss. begins_at ss a) told) ∙ sym (h.on.marked a) in
-    let first = first_point start beside in
+    let first = first_point start rom in
     let es = events_to d.starts first d.present.events in
     let ran : run es start ≡ state_of d.present.machine = run_to d.starts first d.present.events ∙ sym (ap (λ p. p.state) h.on.of_run.stands) in
     let count : begun (start_of c) ns es start ≡ d.present.begun =
@@ -116,7 +116,7 @@ shows_line source seed start beside d n h here =
     (subst (λ m. BeginsLine source seed (start_of c) start m n (state_of d.present.machine)) count
     (subst (λ t. BeginsLine source seed (start_of c) start (begun (start_of c) ns es start) n t) ran begins))
 
-pub shows_some : (source : Program) (seed : ℕ) (start : State) (beside : Beside) (d : Debugger) (o : Option ℕ) → Debugs source seed start beside d
+pub shows_some : (source : Program) (seed : ℕ) (start : State) (rom : Rom) (d : Debugger) (o : Option ℕ) → Debugs source seed start rom d
     → o ≡ line_at (starts_of d.program.now) d.present.machine.regs.pc → IfSome o (λ line. ShowsLine source seed start d line)
-shows_some source seed start beside d None h is = tt
-shows_some source seed start beside d (Some n) h is = shows_line source seed start beside d n h (sym is)
+shows_some source seed start rom d None h is = tt
+shows_some source seed start rom d (Some n) h is = shows_line source seed start rom d n h (sym is)

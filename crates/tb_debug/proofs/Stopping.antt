@@ -12,7 +12,7 @@ use Rattle.tb_debug.specs.Searching.{KnowsBehind, NewestBetween}
 use Rattle.tb_debug.specs.Stopping.{IsNewest, LeadsTo, breaks_at, changes, comes_where, is_sought, leads_back, leads_from}
 use Rattle.tb_debug.specs.declared.searching.Destination.{Destination}
 use Rattle.tb_debug.specs.declared.debugger.Debugger.{Debugger}
-use Rattle.tb_debug.specs.declared.history.Kept.{Kept}
+use Rattle.tb_debug.specs.declared.history.Checkpoint.{Checkpoint}
 use Rattle.tb_debug.specs.declared.moment.Moment.{Moment}
 use Rattle.tb_debug.specs.declared.moment.Reached.{Reached}
 use Rattle.tb_debug.specs.declared.moment.Reached.TheVariants.{Line, Within, Ended, Limit}
@@ -154,7 +154,7 @@ all_passed d start from last time p q past h =
     }
 
 -- no line before a place leads to a time behind that place's
-pub enough : (d : Debugger) (start : Point) (k : Kept) (time : ℕ) → IsKept d.starts start k → k.moment.begun ≤ time
+pub enough : (d : Debugger) (start : Point) (k : Checkpoint) (time : ℕ) → IsKept d.starts start k → k.moment.begun ≤ time
     → KnowsBehind d start k.moment.events time → IsNewest d start time
 enough d start k time kept few h =
     record {
@@ -171,7 +171,7 @@ enough d start k time kept few h =
     }
 
 -- before the first moment there is none
-pub from_first : (d : Debugger) (start : Point) (k : Kept) (time : ℕ) → start.begun ≡ 0 → IsFirst d.starts start k → KnowsBehind d start k.moment.events time
+pub from_first : (d : Debugger) (start : Point) (k : Checkpoint) (time : ℕ) → start.begun ≡ 0 → IsFirst d.starts start k → KnowsBehind d start k.moment.events time
     → IsNewest d start time
 from_first d start k time none first h =
     let count = ap (λ x. x.begun) first.0.stands in

@@ -4,9 +4,9 @@ use Rattle.std.specs.Prelude.{◌≢◌}
 use Rattle.tb_kernal.specs.declared.status.Status.TheVariants.{Running, Waits}
 use Rattle.tb_kernal.specs.Machine.{State, status}
 use Rattle.tb_kernal.proofs.Typing.{happens_kept, status_kept}
-use Rattle.tb_debug.specs.Besides.{event_at}
+use Rattle.tb_debug.specs.Roms.{event_at}
 use Rattle.tb_debug.specs.Runs.{Point, RunsUpTo, IsOfRun, IsKept, AreKept, IsTyped, AreTyped, next_point, point_at, typed, unsent}
-use Rattle.tb_debug.specs.declared.history.Kept.{Kept}
+use Rattle.tb_debug.specs.declared.history.Checkpoint.{Checkpoint}
 use Rattle.tb_debug.specs.declared.moment.Moment.{Moment}
 use Rattle.tb_debug.proofs.Running.{at_next, at_start}
 
@@ -16,7 +16,7 @@ never_both s runs waits = let no : Running ≡ Waits = sym runs ∙ waits in abs
 next_typed : (marks : List Bool) (more : List ℕ) (p : Point) → status p.state ≡ Running
     → next_point marks (typed more p) ≡ typed more (next_point marks p)
 next_typed marks more p runs =
-    ap (λ s. record (next_point marks p) { state = s }) (happens_kept (event_at p.beside p.state.regs) p.state more (never_both p.state runs))
+    ap (λ s. record (next_point marks p) { state = s }) (happens_kept (event_at p.rom p.state.regs) p.state more (never_both p.state runs))
 
 -- a run that has not waited goes the same way
 pub typed_at : (marks : List Bool) (start : Point) (more : List ℕ) (n : ℕ) → RunsUpTo marks start n
@@ -41,7 +41,7 @@ typed_moment marks start more m n t h = record {
   ran = λ k below. typed_ran marks start more m.events h.ran k (omega (arith, below, t.events));
 }
 
-pub typed_kept : (marks : List Bool) (start : Point) (more : List ℕ) (n : ℕ) (k l : Kept) → RunsUpTo marks start n → IsTyped more k.moment l.moment
+pub typed_kept : (marks : List Bool) (start : Point) (more : List ℕ) (n : ℕ) (k l : Checkpoint) → RunsUpTo marks start n → IsTyped more k.moment l.moment
     → l.sent ≡ k.sent → IsKept marks start k × (k.moment.events ≤ n) → IsKept marks (typed more start) l × (l.moment.events ≤ n)
 typed_kept marks start more n k l ran t sent (h, few) =
     let there = typed_at marks start more k.moment.events (λ j below. ran j (omega (arith, below, few))) in
@@ -53,7 +53,7 @@ typed_kept marks start more n k l ran t sent (h, few) =
       omega (arith, few, t.events),
     )
 
-pub typed_all : (marks : List Bool) (start : Point) (more : List ℕ) (n : ℕ) (ks ls : List Kept) → RunsUpTo marks start n → AreTyped more ks ls
+pub typed_all : (marks : List Bool) (start : Point) (more : List ℕ) (n : ℕ) (ks ls : List Checkpoint) → RunsUpTo marks start n → AreTyped more ks ls
     → AreKept marks start n ks → AreKept marks (typed more start) n ls
 typed_all marks start more n ks ls ran t all i d inside =
     let there : i < length ks = omega (arith, inside, t.many) in

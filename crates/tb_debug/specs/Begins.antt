@@ -4,7 +4,7 @@ use Rattle.tb_kernal.specs.declared.status.Status.{Status}
 use Rattle.tb_kernal.specs.declared.status.Status.TheVariants.{Running}
 use Rattle.tb_kernal.specs.Machine.{state_of, status}
 use Rattle.tb_kernal.specs.Runs.{is_own}
-use Rattle.tb_debug.specs.Besides.{event_at}
+use Rattle.tb_debug.specs.Roms.{event_at}
 use Rattle.tb_debug.specs.Runs.{Point, is_marked, point_at}
 use Rattle.tb_debug.specs.declared.moment.Moment.{Moment}
 use Rattle.tb_debug.specs.declared.moment.Reached.{Reached}
@@ -12,7 +12,7 @@ use Rattle.tb_debug.specs.declared.moment.Reached.TheVariants.{Line, Within, End
 
 -- the event behind so many others is the program's own
 abbrev pub own_at : List Bool → Point → ℕ → Bool
-own_at marks start n = is_own (event_at (point_at marks start n).beside (point_at marks start n).state.regs)
+own_at marks start n = is_own (event_at (point_at marks start n).rom (point_at marks start n).state.regs)
 
 -- a line begins at the place behind so many events, and the last of them, one of the program's own, led there
 unfoldable pub comes_to : List Bool → Point → ℕ → Bool

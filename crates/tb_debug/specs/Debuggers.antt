@@ -10,7 +10,7 @@ use Rattle.tb_debug.specs.declared.history.History.{History}
 use Rattle.tb_debug.specs.declared.moment.Moment.{Moment}
 use Rattle.tb_debug.specs.declared.moment.Reached.{Reached}
 use Rattle.tb_debug.specs.declared.moment.Reached.TheVariants.{Line, Within, Ended, Limit}
-use Rattle.tb_stops.specs.Stops.{breakpoints_of, watches_of}
+use Rattle.tb_debug.specs.Breakpoints.{breakpoints_of, watches_of}
 use Rattle.tb_debug.specs.Begins.{EndsAt, IsLimited, standing_of}
 use Rattle.tb_debug.specs.Runs.{Point, IsOfRun, IsFirst, AreKept, begins_at, is_marked, most_kept, typed}
 

@@ -24,10 +24,10 @@ IsFound line d = (address : ℕ) × (start_in (starts_of d.program.now) line ≡
 
 -- such a command that moves the run
 abbrev pub IsWalk : Command → Debugger → Type 0
-IsWalk (command.On lines) d = Unit {0}
-IsWalk (command.Back lines) d = Unit {0}
-IsWalk command.GoOn d = Unit {0}
-IsWalk command.GoBack d = Unit {0}
+IsWalk (command.Next lines) d = Unit {0}
+IsWalk (command.Previous lines) d = Unit {0}
+IsWalk command.Continue d = Unit {0}
+IsWalk command.ReverseContinue d = Unit {0}
 IsWalk (command.ToTime time) d = Unit {0}
 IsWalk (command.Step events) d = Unit {0}
 IsWalk (command.ToLine line) d = IsFound line d
@@ -35,10 +35,10 @@ IsWalk _ d = ⊥
 
 -- such a command that doesn't
 abbrev pub IsTold : Command → Debugger → Type 0
-IsTold (command.On lines) d = ⊥
-IsTold (command.Back lines) d = ⊥
-IsTold command.GoOn d = ⊥
-IsTold command.GoBack d = ⊥
+IsTold (command.Next lines) d = ⊥
+IsTold (command.Previous lines) d = ⊥
+IsTold command.Continue d = ⊥
+IsTold command.ReverseContinue d = ⊥
 IsTold (command.ToTime time) d = ⊥
 IsTold (command.Step events) d = ⊥
 IsTold (command.ToLine line) d = IsMissing line d

@@ -26,10 +26,10 @@ LeadsBackToNewest d reached m =
 -- `n` leads on by so many lines, `p` back by so many, `c` to the next stop, `rc` to the newest stop before, `t` to a time,
 -- `g` to a line, `s` on by so many events; going on takes at most so many events as the limit
 abbrev pub Leads : ℕ → Command → Debugger → Reached → Moment → Type 0
-Leads limit (command.On lines) d reached m = (start : Point) → OnRun start d → GoesBy lines d.starts start limit reached d.present m
-Leads limit (command.Back lines) d reached m = LeadsBackBy lines d reached m
-Leads limit command.GoOn d reached m = LeadsOnTo Stop limit d reached m
-Leads limit command.GoBack d reached m = LeadsBackToNewest d reached m
+Leads limit (command.Next lines) d reached m = (start : Point) → OnRun start d → GoesBy lines d.starts start limit reached d.present m
+Leads limit (command.Previous lines) d reached m = LeadsBackBy lines d reached m
+Leads limit command.Continue d reached m = LeadsOnTo Stop limit d reached m
+Leads limit command.ReverseContinue d reached m = LeadsBackToNewest d reached m
 Leads limit (command.ToTime time) d reached m = LeadsToTime time limit d reached m
 Leads limit (command.ToLine line) d reached m =
     (address : ℕ) → start_in (starts_of d.program.now) line ≡ Some address → StandsAt address reached m × LeadsOnTo (Address address) limit d reached m

@@ -1,9 +1,9 @@
 -- What commands leave as it was.
 use Rattle.std.specs.Prelude.{◌≡◌, ℕ, Option, Some, None}
 use Rattle.tb_words.specs.declared.Letter.{Letter}
-use Rattle.tb_words.specs.Letters.{place}
+use Rattle.tb_words.specs.Letters.{letter_index}
 use Rattle.tb_codegen.specs.Compiled.{start_in, starts_of}
-use Rattle.tb_stops.specs.Stops.{Turned, WatchTurned, breakpoints_of, watches_of}
+use Rattle.tb_debug.specs.Breakpoints.{Turned, WatchTurned, breakpoints_of, watches_of}
 use Rattle.tb_debug_commands.specs.declared.command.Command.{Command}
 use Rattle.tb_debug_commands.specs.declared.command.Command.TheVariants as command
 use Rattle.tb_debug.specs.declared.debugger.Debugger.{Debugger}
@@ -21,7 +21,7 @@ TurnsBreakpoint None line d e = e ≡ d
 -- the watch of a variable is turned, and nothing else changes
 abbrev pub TurnsWatch : Letter → Debugger → Debugger → Type 0
 TurnsWatch letter d e =
-    WatchTurned (place letter) (watches_of d.stops) (watches_of e.stops) × (breakpoints_of e.stops ≡ breakpoints_of d.stops)
+    WatchTurned (letter_index letter) (watches_of d.stops) (watches_of e.stops) × (breakpoints_of e.stops ≡ breakpoints_of d.stops)
     × (e ≡ record d { stops = e.stops })
 
 -- what is typed changes the keyboard's text alone: the run stands behind as many events as before
@@ -37,10 +37,10 @@ LeavesToLine None d e = e ≡ d
 
 -- what each command leaves: those that only tell leave all
 abbrev pub Leaves : Command → Debugger → Debugger → Type 0
-Leaves (command.On lines) d e = LeavesStops d e
-Leaves (command.Back lines) d e = LeavesStops d e
-Leaves command.GoOn d e = LeavesStops d e
-Leaves command.GoBack d e = LeavesStops d e
+Leaves (command.Next lines) d e = LeavesStops d e
+Leaves (command.Previous lines) d e = LeavesStops d e
+Leaves command.Continue d e = LeavesStops d e
+Leaves command.ReverseContinue d e = LeavesStops d e
 Leaves (command.ToTime time) d e = LeavesStops d e
 Leaves (command.Step events) d e = LeavesStops d e
 Leaves (command.ToLine line) d e = LeavesToLine (start_in (starts_of d.program.now) line) d e

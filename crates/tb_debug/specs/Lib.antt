@@ -1,5 +1,5 @@
 pub mod Begins
-pub mod Besides
+pub mod Roms
 pub mod Debuggers
 pub mod Events
 pub mod Kinds
@@ -12,3 +12,4 @@ pub mod Searching
 pub mod Sources
 pub mod Stopping
 pub mod Telling
+pub mod Breakpoints

@@ -5,10 +5,10 @@ use Rattle.tb_kernal.specs.declared.status.Status.TheVariants.{Running}
 use Rattle.tb_kernal.specs.Machine.{State, state_of, happens, status}
 use Rattle.tb_kernal.specs.Typing.{with_more}
 use Rattle.tb_kernal.specs.Runs.{is_own}
-use Rattle.tb_debug.specs.Besides.{after, event_at}
+use Rattle.tb_debug.specs.Roms.{after, event_at}
 use Rattle.tb_debug.specs.Readings.{variables_of}
-use Rattle.tb_debug.specs.declared.beside.Beside.{Beside}
-use Rattle.tb_debug.specs.declared.history.Kept.{Kept}
+use Rattle.tb_debug.specs.declared.rom.Rom.{Rom}
+use Rattle.tb_debug.specs.declared.history.Checkpoint.{Checkpoint}
 use Rattle.tb_debug.specs.declared.moment.Moment.{Moment}
 
 -- ---- where lines begin
@@ -32,21 +32,21 @@ is_begin marks s e = is_own e && is_marked marks s.regs.pc
 -- variables as it began; as the run did, where none was begun
 pub record Point : Type 0 where
   pub state : State
-  pub beside : Beside
+  pub rom : Rom
   pub begun : ℕ
   pub last : ℕ
   pub opened : List ℤ
 
 -- where a run starts
-abbrev pub first_point : State → Beside → Point
-first_point s beside = record { state = s; beside = beside; begun = 0; last = 0; opened = variables_of s.mem }
+abbrev pub first_point : State → Rom → Point
+first_point s rom = record { state = s; rom = rom; begun = 0; last = 0; opened = variables_of s.mem }
 
 -- the place behind an event
 abbrev pub behind : List Bool → Point → Event → Point
 behind marks p e =
     record {
       state = happens p.state e;
-      beside = after p.beside;
+      rom = after p.rom;
       begun = p.begun + (if is_begin marks p.state e then 1 else 0);
       last = if is_begin marks p.state e then p.state.regs.pc else p.last;
       opened = if is_begin marks p.state e then variables_of p.state.mem else p.opened;
@@ -54,7 +54,7 @@ behind marks p e =
 
 -- the place behind the event that the ROM gives there
 abbrev pub next_point : List Bool → Point → Point
-next_point marks p = behind marks p (event_at p.beside p.state.regs)
+next_point marks p = behind marks p (event_at p.rom p.state.regs)
 
 -- the place behind so many events: the run is a function of its start
 unfoldable pub point_at : List Bool → Point → ℕ → Point
@@ -69,7 +69,7 @@ RunsUpTo marks start n = (k : ℕ) → k < n → status (point_at marks start k)
 
 -- the place of a run that a moment shows
 abbrev pub shown : Moment → Point
-shown m = record { state = state_of m.machine; beside = m.beside; begun = m.begun; last = m.last; opened = m.opened }
+shown m = record { state = state_of m.machine; rom = m.rom; begun = m.begun; last = m.last; opened = m.opened }
 
 -- a moment of the run from a start: it shows the place behind as many events as it counts, before each of which the machine ran
 pub record IsOfRun (marks : List Bool) (start : Point) (m : Moment) : Type 0 where
@@ -88,16 +88,16 @@ abbrev pub unsent : Point → Point
 unsent p = record p { state = record p.state { sent = [] } }
 
 -- a kept moment of the run from a start: it shows its place but for what was sent, and counts that
-pub record IsKept (marks : List Bool) (start : Point) (k : Kept) : Type 0 where
+pub record IsKept (marks : List Bool) (start : Point) (k : Checkpoint) : Type 0 where
   pub stands : shown k.moment ≡ unsent (point_at marks start k.moment.events)
   pub counts : k.sent ≡ length (point_at marks start k.moment.events).state.sent
 
 -- the run's first moment, as it is kept
-abbrev pub IsFirst : List Bool → Point → Kept → Type 0
+abbrev pub IsFirst : List Bool → Point → Checkpoint → Type 0
 IsFirst marks start k = IsKept marks start k × (k.moment.events ≡ 0)
 
 -- kept moments of the run from a start, of its first so many events
-abbrev pub AreKept : List Bool → Point → ℕ → List Kept → Type 0
+abbrev pub AreKept : List Bool → Point → ℕ → List Checkpoint → Type 0
 AreKept marks start n ks = All (λ k. IsKept marks start k × (k.moment.events ≤ n)) ks
 
 -- how many moments are kept at most, the run's first one among them
@@ -109,19 +109,19 @@ abbrev pub spacing : ℕ
 spacing = 131072
 
 -- how many events came before the newest kept moment, by the first one and the later ones
-abbrev pub newest_events : Kept → List Kept → ℕ
+abbrev pub newest_events : Checkpoint → List Checkpoint → ℕ
 newest_events first later = (slice_index_or later (length later - 1) first).moment.events
 
 -- kept moments, one of them left out
-pub record WithoutOne (old new : List Kept) : Type 0 where
+pub record WithoutOne (old new : List Checkpoint) : Type 0 where
   pub place : ℕ
   pub inside : place < length old
   pub others : new ≡ remove old place
 
 -- kept moments with one more behind them: all that were, but for one of them where there are as many as may be
-pub record KeepsOneMore (old new : List Kept) : Type 0 where
-  pub left : List Kept
-  pub newest : Kept
+pub record KeepsOneMore (old new : List Checkpoint) : Type 0 where
+  pub left : List Checkpoint
+  pub newest : Checkpoint
   pub joined : new ≡ left ++ newest ∷ []
   pub all : length old + 1 < most_kept → left ≡ old
   pub one : most_kept ≤ length old + 1 → WithoutOne old left
@@ -138,7 +138,7 @@ pub record IsTyped (more : List ℕ) (m n : Moment) : Type 0 where
   pub events : n.events ≡ m.events
 
 -- the same kept moments, each with more behind the keyboard's text
-pub record AreTyped (more : List ℕ) (ks ls : List Kept) : Type 0 where
+pub record AreTyped (more : List ℕ) (ks ls : List Checkpoint) : Type 0 where
   pub many : length ls ≡ length ks
-  pub each : (i : ℕ) (d : Kept) → i < length ks → IsTyped more (slice_index_or ks i d).moment (slice_index_or ls i d).moment
-  pub sent : (i : ℕ) (d : Kept) → i < length ks → (slice_index_or ls i d).sent ≡ (slice_index_or ks i d).sent
+  pub each : (i : ℕ) (d : Checkpoint) → i < length ks → IsTyped more (slice_index_or ks i d).moment (slice_index_or ls i d).moment
+  pub sent : (i : ℕ) (d : Checkpoint) → i < length ks → (slice_index_or ls i d).sent ≡ (slice_index_or ks i d).sent

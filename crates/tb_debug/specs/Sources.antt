@@ -10,7 +10,7 @@ use Rattle.tb_syntax.specs.Source.{Program}
 use Rattle.tb_codegen.specs.Compiled.{IsCompiled, loaded_of, start_of, starts_of}
 use Rattle.tb_debug.specs.Readings.{returns_of, variable_of}
 use Rattle.tb_codegen.specs.declared.compiled.Compiled.{Compiled}
-use Rattle.tb_debug.specs.declared.beside.Beside.{Beside}
+use Rattle.tb_debug.specs.declared.rom.Rom.{Rom}
 use Rattle.tb_debug.specs.declared.debugger.Debugger.{Debugger}
 use Rattle.tb_debug.specs.Runs.{first_point}
 use Rattle.tb_debug.specs.Debuggers.{OnRun}
@@ -21,10 +21,10 @@ pub record IsMadeOf (source : Program) (seed : ℕ) (c : Compiled) : Type 0 wher
   pub marks : MarksLines BASIC_START (loaded_of c) source seed (start_of c)
 
 -- a debugger on the run of a source program's code from a start, beside a ROM
-pub record Debugs (source : Program) (seed : ℕ) (start : State) (beside : Beside) (d : Debugger) : Type 0 where
+pub record Debugs (source : Program) (seed : ℕ) (start : State) (rom : Rom) (d : Debugger) : Type 0 where
   pub made : IsMadeOf source seed d.program.now
   pub starts : Starts BASIC_START (loaded_of d.program.now) start
-  pub on : OnRun (first_point start beside) d
+  pub on : OnRun (first_point start rom) d
 
 -- the line of a place of the source; none past the last one
 abbrev pub line_of : Place → Option ℕ

@@ -1,8 +1,8 @@
 -- Where going on and going back stop.
 use Rattle.std.specs.Prelude.{◌≡◌, ◌⊎◌, ℕ, ◌-◌, ◌≤◌, ◌&&◌, ◌||◌, ◌==◌, Bool, true, if◌then◌else◌, nat_lt, List}
 use Rattle.tb_codegen.specs.Compiled.{starts_of}
-use Rattle.tb_stops.specs.Stops.{breakpoints_of, watches_of, breaks, differ}
-use Rattle.tb_stops.specs.declared.stops.Stops.{Stops}
+use Rattle.tb_debug.specs.Breakpoints.{breakpoints_of, watches_of, breaks, differ}
+use Rattle.tb_debug.specs.declared.breakpoints.StopPoints.{StopPoints}
 use Rattle.tb_debug.specs.Begins.{comes_to}
 use Rattle.tb_debug.specs.Lines.{line_at}
 use Rattle.tb_debug.specs.Readings.{variables_of}
@@ -14,11 +14,11 @@ use Rattle.tb_debug.specs.declared.searching.Destination.{Destination}
 use Rattle.tb_debug.specs.declared.searching.Destination.TheVariants.{Stop, Address}
 
 -- a breakpoint stands at the line that begins at a place
-abbrev pub breaks_at : List (ℕ × ℕ) → Stops → Point → Bool
+abbrev pub breaks_at : List (ℕ × ℕ) → StopPoints → Point → Bool
 breaks_at lines stops p = breaks (breakpoints_of stops) (line_at lines p.state.regs.pc)
 
 -- the line that was begun last gave a watched variable another value
-abbrev pub changes : Stops → Point → Bool
+abbrev pub changes : StopPoints → Point → Bool
 changes stops p = differ (watches_of stops) p.opened (variables_of p.state.mem)
 
 -- ---- going on
@@ -45,7 +45,7 @@ IsThere to _ d = Unit {0}
 
 -- the time to which a place leads back: its own where a line with a breakpoint begins there, before as many lines were
 -- begun as now; else that of the line before it, where this changed a watched variable; else the start
-abbrev pub leads_back : List (ℕ × ℕ) → Stops → ℕ → Point → ℕ
+abbrev pub leads_back : List (ℕ × ℕ) → StopPoints → ℕ → Point → ℕ
 leads_back lines stops now p =
     if nat_lt p.begun now && breaks_at lines stops p then p.begun
     else if changes stops p then p.begun - 1

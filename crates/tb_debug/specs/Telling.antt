@@ -2,7 +2,7 @@
 use Rattle.std.specs.Prelude.{◌≡◌, ℕ, Bool, true, false, ℤ, pos, not, List, drop, length, map, Option, Some, None, Result, Ok, Err, if◌then◌else◌, slice_index_or}
 use Rattle.tb_words.specs.Words.{word_of}
 use Rattle.tb_words.specs.declared.Letter.{Letter}
-use Rattle.tb_words.specs.Letters.{place}
+use Rattle.tb_words.specs.Letters.{letter_index}
 use Rattle.tb_syntax.specs.Source.{Expression}
 use Rattle.tb_parser.specs.Answers.{InLineOne}
 use Rattle.tb_parser.specs.Files.{FileRefusal}
@@ -16,13 +16,13 @@ use Rattle.tb_kernal.specs.Machine.{state_of, status}
 use Rattle.tb_asm.specs.Layout.{Entry}
 use Rattle.tb_disasm.specs.Lines.{shown}
 use Rattle.tb_codegen.specs.Compiled.{line_in, start_in, starts_of, table_of}
-use Rattle.tb_stops.specs.Stops.{breakpoints_of, watches_of, is_among, is_watched}
+use Rattle.tb_debug.specs.Breakpoints.{breakpoints_of, watches_of, is_among, is_watched}
 use Rattle.tb_debug_commands.specs.declared.command.Command.{Command}
 use Rattle.tb_debug_commands.specs.declared.command.Command.TheVariants as command
 use Rattle.tb_debug.specs.declared.answer.Answer.{Answer}
 use Rattle.tb_debug.specs.declared.answer.Answer.TheVariants as answer
-use Rattle.tb_debug.specs.declared.answer.Place.{Place}
-use Rattle.tb_debug.specs.declared.answer.Place.TheVariants as stands
+use Rattle.tb_debug.specs.declared.answer.Location.{Location}
+use Rattle.tb_debug.specs.declared.answer.Location.TheVariants as stands
 use Rattle.tb_debug.specs.declared.answer.Stand.{Stand}
 use Rattle.tb_debug.specs.declared.debugger.Debugger.{Debugger}
 use Rattle.tb_debug.specs.declared.moment.Reached.{Reached}
@@ -53,17 +53,17 @@ line_here d =
     or_line (line_at (starts_of d.program.now) d.present.machine.regs.pc) (line_at (starts_of d.program.now) d.present.last)
 
 -- where a machine that runs stands: at a line, or before the first one
-abbrev pub place_of : Option ℕ → Place
+abbrev pub place_of : Option ℕ → Location
 place_of (Some line) = stands.Line line
 place_of None = stands.Opening
 
 -- the place of a machine that stands so, with its program counter
-abbrev pub place_by : Status → Option ℕ → ℕ → Place
+abbrev pub place_by : Status → Option ℕ → ℕ → Location
 place_by Running line pc = place_of line
 place_by why line pc = stands.Ended why pc
 
 -- where the run stands
-abbrev pub place_here : Debugger → Place
+abbrev pub place_here : Debugger → Location
 place_here d = place_by (status (state_of d.present.machine)) (line_here d) d.present.machine.regs.pc
 
 -- ---- stops
@@ -132,7 +132,7 @@ output_told _ = None
 
 -- the value of a variable is told
 abbrev pub TellsValue : Letter → Debugger → Option Answer → Type 0
-TellsValue letter d told = told ≡ Some (answer.Variable (place letter) (slice_index_or (variables_here d) (place letter) (pos 0)))
+TellsValue letter d told = told ≡ Some (answer.Variable (letter_index letter) (slice_index_or (variables_here d) (letter_index letter) (pos 0)))
 
 -- the answer for what an expression came to
 abbrev pub value_answer : Result ℤ EvalError → Answer
@@ -171,17 +171,17 @@ code_told _ = None
 
 -- what a command tells, where going on takes at most so many events; a debugger before it and behind it
 abbrev pub Tells : ℕ → Command → Debugger → Debugger → Option Answer → Type 0
-Tells limit (command.On lines) d e told = TellsWay limit (command.On lines) d e told
-Tells limit (command.Back lines) d e told = TellsWay limit (command.Back lines) d e told
-Tells limit command.GoOn d e told = TellsWay limit command.GoOn d e told
-Tells limit command.GoBack d e told = TellsWay limit command.GoBack d e told
+Tells limit (command.Next lines) d e told = TellsWay limit (command.Next lines) d e told
+Tells limit (command.Previous lines) d e told = TellsWay limit (command.Previous lines) d e told
+Tells limit command.Continue d e told = TellsWay limit command.Continue d e told
+Tells limit command.ReverseContinue d e told = TellsWay limit command.ReverseContinue d e told
 Tells limit (command.ToTime time) d e told = TellsWay limit (command.ToTime time) d e told
 Tells limit (command.Step events) d e told = TellsWay limit (command.Step events) d e told
 Tells limit (command.ToLine line) d e told = TellsLine limit (start_in (starts_of d.program.now) line) (command.ToLine line) d e told
 Tells limit command.Breakpoints d e told = breakpoints_told told ≡ Some (breakpoints_of e.stops)
 Tells limit (command.Breakpoint line) d e told =
     told ≡ Some (breakpoint_answer (start_in (starts_of d.program.now) line) (not (is_among (breakpoints_of d.stops) line)))
-Tells limit (command.Watch letter) d e told = told ≡ Some (set_or_cleared (not (is_watched (watches_of d.stops) (place letter))))
+Tells limit (command.Watch letter) d e told = told ≡ Some (set_or_cleared (not (is_watched (watches_of d.stops) (letter_index letter))))
 Tells limit command.ListHere d e told = told ≡ Some (answer.List (line_here e) (line_here e))
 Tells limit (command.List line) d e told = told ≡ Some (list_answer (start_in (starts_of d.program.now) line) line (line_here e))
 Tells limit command.Variables d e told = told ≡ Some (answer.Variables (variables_here e))

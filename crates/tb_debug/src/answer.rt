@@ -2,11 +2,11 @@
 use tb_cpu::Regs;
 use tb_disasm::Line;
 use tb_kernal::Status;
-use tb_stops::Variables;
+use crate::breakpoints::Variables;
 
 /// Where a run stands.
 #[derive(Clone, Copy, PartialEq, Eq, Debug, Drop)]
-pub enum Place {
+pub enum Location {
     /// At a line, or within it.
     Line(u16),
     /// Before the first line.
@@ -22,7 +22,7 @@ pub struct Stand {
     pub sent: Vec<u8>,
     /// Whether the limit of events ended a going on.
     pub is_limit: bool,
-    pub place: Place,
+    pub place: Location,
 }
 
 /// What a command is answered by.

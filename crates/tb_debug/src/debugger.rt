@@ -10,18 +10,18 @@ ghost use Rattle.tb_debug.specs.Runs.{Point, IsOfRun, first_point, is_marked};
 ghost use Rattle.tb_debug.specs.Searching.{IsUntil};
 ghost use Rattle.tb_debug.specs.Sources.{Debugs, ShowsLine};
 ghost use Rattle.tb_debug.specs.declared.moment.Reached.TheVariants.{Line};
-ghost use Rattle.tb_debug.specs.declared.beside.Beside.{Beside};
+ghost use Rattle.tb_debug.specs.declared.rom.Rom.{Rom};
 ghost use Rattle.tb_debug.specs.Debuggers.{IsAtTime, IsOpening, KeepsRun, KeepsRunTyped, LeadsBackBy, LeadsToTime, OnRun, begun_by};
 
-use crate::beside::Beside;
-use crate::history::{History, Kept};
+use crate::rom::Rom;
+use crate::history::{History, Checkpoint};
 use crate::moment::{Moment, Reached};
 use crate::readings::{line_from, variables_in};
 use crate::starts::Starts;
 use std::alloc::{AllocError, Global};
 use tb_codegen::Compiled;
 use tb_kernal::Machine;
-use tb_stops::{Stops, Variables};
+use crate::breakpoints::{StopPoints, Variables};
 
 /// The most events that come before the first line.
 pub const MOST_OPENING: u64 = 1_000_000;
@@ -33,7 +33,7 @@ pub struct Debugger<'a> {
     pub(crate) starts: Starts,
     pub(crate) history: History,
     pub(crate) present: Moment,
-    pub(crate) stops: Stops,
+    pub(crate) stops: StopPoints,
     /// How many of the sent bytes were shown.
     pub(crate) shown: usize,
 }
@@ -44,15 +44,15 @@ impl<'a> Debugger<'a> {
         alloc: Global,
         program: &'a Compiled,
         machine: Machine,
-        beside: Beside,
+        rom: Rom,
     ) -> Result<Debugger<'a>, AllocError>
-        ensures run { IfOk result (λ d. (d.program.now ≡ program.now) × OnRun (first_point (state_of machine) beside) d) }
+        ensures run { IfOk result (λ d. (d.program.now ≡ program.now) × OnRun (first_point (state_of machine) rom) d) }
         // It stands at its first line, if it comes to one in a number of events, with nothing shown, set or watched.
-        ensures opens { IfOk result (λ d. IsOpening (first_point (state_of machine) beside) d) }
+        ensures opens { IfOk result (λ d. IsOpening (first_point (state_of machine) rom) d) }
     {
         let starts = Starts::new(alloc, program)?;
-        let mut present = Moment::first(machine, beside);
-        let first = Kept::of(alloc, &present)?;
+        let mut present = Moment::first(machine, rom);
+        let first = Checkpoint::of(alloc, &present)?;
         let history = History::new(alloc, first);
         present.to_next_start(&starts, MOST_OPENING)?;
         Ok(Debugger {
@@ -60,7 +60,7 @@ impl<'a> Debugger<'a> {
             starts,
             history,
             present,
-            stops: Stops::new(alloc),
+            stops: StopPoints::new(alloc),
             shown: 0,
         })
     }
@@ -77,7 +77,7 @@ impl<'a> Debugger<'a> {
         ensures line { result ≡ line_at (starts_of self.now.program.now) self.now.present.machine.regs.pc }
         // Where the program is one that `compile` made, and the run one from its start, the source goes on at that line after
         // as many lines as were begun, with what stands in the machine.
-        ensures source { (source : Program) (seed : ℕ) (start : State) (beside : Beside) → Debugs source seed start beside self.now
+        ensures source { (source : Program) (seed : ℕ) (start : State) (rom : Rom) → Debugs source seed start rom self.now
             → IfSome result (λ line. ShowsLine source seed start self.now line) }
     {
         line_from(self.program, self.present.machine.regs().pc)
@@ -132,7 +132,7 @@ impl<'a> Debugger<'a> {
     }
 
     /// On by so many lines.
-    pub fn on(&mut self, alloc: Global, lines: u64, limit: u64) -> Result<Reached, AllocError>
+    pub fn next(&mut self, alloc: Global, lines: u64, limit: u64) -> Result<Reached, AllocError>
         ensures run { OnOk result (KeepsRun self.old self.new) }
         ensures shown { OnOk result (self.new.shown ≡ self.old.shown) }
         ensures stops { OnOk result (self.new.stops ≡ self.old.stops) }
@@ -159,14 +159,14 @@ impl<'a> Debugger<'a> {
         ensures stops { OnOk result (self.new.stops ≡ self.old.stops) }
     {
         if time < self.present.begun {
-            self.back_to(alloc, time)
+            self.rewind_to(alloc, time)
         } else {
-            self.on_to_time(alloc, time, limit)
+            self.run_to_time(alloc, time, limit)
         }
     }
 
     // On to a time that has not passed.
-    fn on_to_time(&mut self, alloc: Global, time: u64, limit: u64) -> Result<Reached, AllocError>
+    fn run_to_time(&mut self, alloc: Global, time: u64, limit: u64) -> Result<Reached, AllocError>
         ensures run { OnOk result (KeepsRun self.old self.new) }
         ensures time { IfOk result (λ reached. IsAtTime time self.old.starts reached self.new.present) }
         ensures few { OnOk result (begun_by self.old ≤ time → begun_by self.new ≤ time) }
@@ -189,7 +189,7 @@ impl<'a> Debugger<'a> {
     }
 
     /// Back to a time that has passed: the run is run again from the newest moment that is kept of before.
-    pub fn back_to(&mut self, alloc: Global, time: u64) -> Result<Reached, AllocError>
+    pub fn rewind_to(&mut self, alloc: Global, time: u64) -> Result<Reached, AllocError>
         ensures run { OnOk result (KeepsRun self.old self.new) }
         ensures time { IfOk result (λ reached. IsAtTime time self.old.starts reached self.new.present) }
         ensures back { IfOk result (λ reached. (start : Point) → start.begun ≡ 0 → OnRun start self.old → time < begun_by self.old → reached ≡ Line) }
@@ -200,13 +200,13 @@ impl<'a> Debugger<'a> {
         // It is run again no farther than to here.
         let most = self.present.events();
         let newest = self.history.newest_until(time);
-        self.back_to_kept(alloc, newest)?;
-        let reached = self.on_to_time(alloc, time, most)?;
+        self.rewind_to_checkpoint(alloc, newest)?;
+        let reached = self.run_to_time(alloc, time, most)?;
         Ok(reached)
     }
 
     // Back to a kept moment, by its place among them; those behind it are forgotten.
-    fn back_to_kept(&mut self, alloc: Global, index: usize) -> Result<(), AllocError>
+    fn rewind_to_checkpoint(&mut self, alloc: Global, index: usize) -> Result<(), AllocError>
         ensures run { OnOk result (KeepsRun self.old self.new) }
         ensures shown { OnOk result (self.new.shown ≡ self.old.shown) }
         ensures stops { OnOk result (self.new.stops ≡ self.old.stops) }
@@ -223,7 +223,7 @@ impl<'a> Debugger<'a> {
     }
 
     /// Back by so many lines. From within a line the first one back is its beginning.
-    pub fn back(&mut self, alloc: Global, lines: u64) -> Result<Reached, AllocError>
+    pub fn previous(&mut self, alloc: Global, lines: u64) -> Result<Reached, AllocError>
         ensures run { OnOk result (KeepsRun self.old self.new) }
         ensures lines { IfOk result (λ reached. LeadsBackBy lines self.old reached self.new.present) }
         ensures stands { IfOk result (λ reached. StandsBy self.old.starts reached self.new.present) }
@@ -233,7 +233,7 @@ impl<'a> Debugger<'a> {
         if lines == 0 || self.present.begun == 0 {
             return Ok(self.standing());
         }
-        self.back_to(alloc, self.present.begun.saturating_sub(lines))
+        self.rewind_to(alloc, self.present.begun.saturating_sub(lines))
     }
 
     /// On by so many events.

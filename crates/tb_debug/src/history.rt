@@ -1,6 +1,6 @@
 //! The moments that are kept, from which a run is run again.
 ghost use Rattle.std.specs.Prelude.{◌≡◌, ◌∷◌, ◌++◌, ◌+◌, ◌<◌, ◌≤◌, [], ℕ, List, Bool, IfOk, IfSome, IsSome, OnOk, IsTrue, ◌↔◌, length, slice_index_or, vec_len};
-ghost use Rattle.tb_debug.specs.declared.history.Kept.{Kept};
+ghost use Rattle.tb_debug.specs.declared.history.Checkpoint.{Checkpoint};
 ghost use Rattle.tb_debug.specs.Searching.{IsUntil};
 ghost use Rattle.tb_debug.specs.Runs.{Point, IsOfRun, IsFirst, IsKept, IsTyped, AreKept, AreTyped, KeepsOneMore, WithoutOne, most_kept, newest_events, spacing};
 
@@ -16,18 +16,18 @@ pub const SPACING: u64 = 131_072;
 
 /// A moment whose sent bytes are left out, and how many they were.
 #[derive(Drop)]
-pub struct Kept {
+pub struct Checkpoint {
     pub moment: Moment,
     pub sent: usize,
 }
 
-impl Kept {
+impl Checkpoint {
     /// The same moment.
-    pub fn of(alloc: Global, moment: &Moment) -> Result<Kept, AllocError>
+    pub fn of(alloc: Global, moment: &Moment) -> Result<Checkpoint, AllocError>
         ensures kept { IfOk result (λ k. (marks : List Bool) (start : Point) → IsOfRun marks start moment.now → IsKept marks start k) }
         ensures events { IfOk result (λ k. k.moment.events ≡ moment.now.events) }
     {
-        Ok(Kept {
+        Ok(Checkpoint {
             moment: moment.copied(alloc, &[])?,
             sent: moment.machine.sent().len(),
         })
@@ -49,13 +49,13 @@ impl Kept {
 /// The kept moments: the run's first one, and later ones in the order of their times.
 #[derive(Drop)]
 pub struct History {
-    pub(crate) first: Kept,
-    pub(crate) later: Vec<Kept>,
+    pub(crate) first: Checkpoint,
+    pub(crate) later: Vec<Checkpoint>,
 }
 
 impl History {
     /// That of a run of which no more than this moment is known.
-    pub fn new(alloc: Global, first: Kept) -> History
+    pub fn new(alloc: Global, first: Checkpoint) -> History
         ensures first { result.first ≡ first }
         ensures later { result.later.items ≡ [] }
     {
@@ -73,12 +73,12 @@ impl History {
     }
 
     /// The kept moment at a place among them, from the first one on.
-    pub fn get(&self, index: usize) -> Option<&Kept>
+    pub fn get(&self, index: usize) -> Option<&Checkpoint>
         ensures kept { (marks : List Bool) (start : Point) (n : ℕ) → IsFirst marks start self.now.first → AreKept marks start n self.now.later.items
             → IfSome result (λ k. IsKept marks start k.now × (k.now.moment.events ≤ n)) }
         ensures some { index < vec_len self.now.later + 1 → IsSome result }
         ensures first { index ≡ 0 → IfSome result (λ k. k.now ≡ self.now.first) }
-        ensures later { (place : ℕ) (d : Kept) → index ≡ place + 1 → IfSome result (λ k. k.now ≡ slice_index_or self.now.later.items place d) }
+        ensures later { (place : ℕ) (d : Checkpoint) → index ≡ place + 1 → IfSome result (λ k. k.now ≡ slice_index_or self.now.later.items place d) }
     {
         match index.checked_sub(1) {
             Some(place) => self.later.get(place),
@@ -101,13 +101,13 @@ impl History {
         if !self.is_due(moment.events) {
             return Ok(());
         }
-        let kept = Kept::of(alloc, moment)?;
+        let kept = Checkpoint::of(alloc, moment)?;
         self.make_room(moment.events);
         self.push(kept)?;
         Ok(())
     }
 
-    fn push(&mut self, kept: Kept) -> Result<(), AllocError>
+    fn push(&mut self, kept: Checkpoint) -> Result<(), AllocError>
         ensures first { self.new.first ≡ self.old.first }
         ensures later { OnOk result (self.new.later.items ≡ self.old.later.items ++ kept ∷ []) }
         ensures one { length self.new.later.items ≤ length self.old.later.items + 1 }
@@ -197,7 +197,7 @@ impl History {
 }
 
 // Puts bytes behind the keyboard's text in each of these moments.
-fn type_to_all(moments: &mut Vec<Kept>, bytes: &[u8]) -> Result<(), AllocError>
+fn type_to_all(moments: &mut Vec<Checkpoint>, bytes: &[u8]) -> Result<(), AllocError>
     ensures { OnOk result (AreTyped bytes.now moments.old.items moments.new.items) }
 {
     for index in 0..moments.len() {

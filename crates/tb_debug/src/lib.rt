@@ -5,7 +5,8 @@
 #![tactic(auto)]
 
 mod answer;
-mod beside;
+mod breakpoints;
+mod rom;
 mod debugger;
 mod events;
 mod history;
@@ -15,8 +16,9 @@ mod respond;
 mod searching;
 mod starts;
 
-pub use answer::{Answer, Place, Stand};
-pub use beside::Beside;
+pub use answer::{Answer, Location, Stand};
+pub use breakpoints::{StopPoints, Variables};
+pub use rom::Rom;
 pub use debugger::{Debugger, MOST_OPENING};
 pub use history::{MOST_KEPT, SPACING};
 pub use moment::Reached;

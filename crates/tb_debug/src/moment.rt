@@ -6,13 +6,13 @@ ghost use Rattle.tb_debug.specs.Begins.{Advances, EndsAt, IsLimited, StandsBy, S
 ghost use Rattle.tb_debug.specs.Readings.{variables_of};
 ghost use Rattle.tb_debug.specs.Runs.{Point, IsOfRun, IsTyped, StaysOnRun, first_point, is_marked};
 
-use crate::beside::Beside;
+use crate::rom::Rom;
 use crate::events::take_event;
 use crate::readings::variables_in;
 use crate::starts::Starts;
 use std::alloc::{AllocError, Global};
 use tb_kernal::{Machine, Status};
-use tb_stops::Variables;
+use crate::breakpoints::Variables;
 
 /// Where a walk ended.
 #[derive(Clone, Copy, PartialEq, Eq, Debug, Drop)]
@@ -35,7 +35,7 @@ const MOST_EVENTS: u64 = u64::MAX;
 pub struct Moment {
     pub machine: Machine,
     /// The ROM beside it.
-    pub beside: Beside,
+    pub rom: Rom,
     /// How many events came before it.
     pub events: u64,
     /// How many of them began a line.
@@ -48,14 +48,14 @@ pub struct Moment {
 
 impl Moment {
     /// The first moment of a run.
-    pub fn first(machine: Machine, beside: Beside) -> Moment
-        ensures run { (marks : List Bool) → IsOfRun marks (first_point (state_of machine) beside) result }
+    pub fn first(machine: Machine, rom: Rom) -> Moment
+        ensures run { (marks : List Bool) → IsOfRun marks (first_point (state_of machine) rom) result }
         ensures events { result.events ≡ 0 }
     {
         let opened = variables_in(&machine);
         Moment {
             machine,
-            beside,
+            rom,
             events: 0,
             begun: 0,
             last: 0,
@@ -69,7 +69,7 @@ impl Moment {
     {
         Ok(Moment {
             machine: self.machine.copied(alloc, sent)?,
-            beside: self.beside,
+            rom: self.rom,
             events: self.events,
             begun: self.begun,
             last: self.last,
@@ -140,7 +140,7 @@ impl Moment {
         let pc = self.machine.regs().pc;
         let marked = starts.begins(pc);
         let here = self.opened_by(marked);
-        let is_own = take_event(&mut self.machine, &mut self.beside)?;
+        let is_own = take_event(&mut self.machine, &mut self.rom)?;
         let begins = both(is_own, marked);
         self.events += 1;
         self.begun = counted(self.begun, begins);

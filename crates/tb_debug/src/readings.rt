@@ -14,7 +14,7 @@ use tb_disasm::{Line, first_line};
 use tb_kernal::Machine;
 use tb_memmap::Memory;
 use tb_runtime16::{NOTE_HIGH, NOTE_LOW, NOTES, VARS};
-use tb_stops::Variables;
+use crate::breakpoints::Variables;
 
 /// How many notes the return list has at most.
 const MOST_NOTES: u16 = 500;

@@ -1,16 +1,16 @@
 //! What commands do, and their answers.
 ghost use Rattle.std.specs.Prelude.{◌≡◌, ℕ, Some, drop, length, not, IfOk, OnOk};
-ghost use Rattle.tb_words.specs.Letters.{place};
+ghost use Rattle.tb_words.specs.Letters.{letter_index};
 ghost use Rattle.tb_kernal.specs.Machine.{state_of};
 ghost use Rattle.tb_codegen.specs.Compiled.{start_in, starts_of};
-ghost use Rattle.tb_stops.specs.Stops.{breakpoints_of, is_among, is_watched, watches_of};
+ghost use Rattle.tb_debug.specs.Breakpoints.{breakpoints_of, is_among, is_watched, watches_of};
 ghost use Rattle.tb_debug.specs.Debuggers.{KeepsRun, KeepsRunTyped, Responds, keys_of};
 ghost use Rattle.tb_debug.specs.Leaving.{Leaves, LeavesPlace, TurnsBreakpoint, TurnsWatch};
 ghost use Rattle.tb_debug.specs.Kinds.{IsAct, IsShown, IsTold, IsWalk, Walks};
 ghost use Rattle.tb_debug.specs.Readings.{bytes_of, code_of, most_code};
 ghost use Rattle.tb_debug.specs.Telling.{Tells, TellsStop, TellsText, TellsValue, breakpoint_answer, breakpoints_told, code_told, is_limit, line_here, list_answer, memory_told, output_told, place_here, returns_here, returns_told, set_or_cleared, value_answer};
 
-use crate::answer::{Answer, Place, Stand};
+use crate::answer::{Answer, Location, Stand};
 use crate::debugger::Debugger;
 use crate::moment::Reached;
 use crate::readings::{bytes_from, code_from, line_from, returns};
@@ -85,14 +85,14 @@ impl<'a> Debugger<'a> {
         ensures walks { IfOk result (λ reached. Walks limit command.entry self.old reached self.new) }
     {
         match command {
-            Command::On(lines) => Ok(Some(self.on(alloc, lines, limit)?)),
-            Command::Back(lines) => Ok(Some(self.back(alloc, lines)?)),
-            Command::GoOn => Ok(Some(self.go_on(alloc, limit)?)),
-            Command::GoBack => Ok(Some(self.go_back(alloc)?)),
+            Command::Next(lines) => Ok(Some(self.next(alloc, lines, limit)?)),
+            Command::Previous(lines) => Ok(Some(self.previous(alloc, lines)?)),
+            Command::Continue => Ok(Some(self.continue_(alloc, limit)?)),
+            Command::ReverseContinue => Ok(Some(self.reverse_continue(alloc)?)),
             Command::ToTime(time) => Ok(Some(self.to_time(alloc, time, limit)?)),
             Command::Step(events) => Ok(Some(self.step(events)?)),
             Command::ToLine(line) => match self.program.start_of(line) {
-                Some(address) => Ok(Some(self.on_to(alloc, address, limit)?)),
+                Some(address) => Ok(Some(self.run_to_line(alloc, address, limit)?)),
                 None => Ok(None),
             },
             _ => Ok(None),
@@ -119,15 +119,15 @@ impl<'a> Debugger<'a> {
     }
 
     // Where the run stands.
-    fn place(&self) -> Place
+    fn place(&self) -> Location
         ensures { result ≡ place_here self.now }
     {
         match self.present.machine.status() {
             Status::Running => match self.line() {
-                Some(line) => Place::Line(line),
-                None => Place::Opening,
+                Some(line) => Location::Line(line),
+                None => Location::Opening,
             },
-            status => Place::Ended {
+            status => Location::Ended {
                 status,
                 pc: self.present.machine.regs().pc,
             },
@@ -219,7 +219,7 @@ impl<'a> Debugger<'a> {
         ensures run { OnOk result (KeepsRun self.old self.new) }
         ensures shown { OnOk result (self.new.shown ≡ self.old.shown) }
         ensures turns { OnOk result (TurnsWatch letter self.old self.new) }
-        ensures answer { IfOk result (λ told. told ≡ set_or_cleared (not (is_watched (watches_of self.old.stops) (place letter)))) }
+        ensures answer { IfOk result (λ told. told ≡ set_or_cleared (not (is_watched (watches_of self.old.stops) (letter_index letter)))) }
     {
         let is_set = self.stops.turn_watch(letter)?;
         Ok(turned(is_set))

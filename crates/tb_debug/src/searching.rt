@@ -10,7 +10,7 @@ ghost use Rattle.tb_debug.specs.Searching.{KnowsBehind, NewestBetween};
 ghost use Rattle.tb_debug.specs.Stopping.{IsNewest, IsThere, breaks_at, changes, is_sought, leads_back};
 
 use crate::debugger::Debugger;
-use crate::history::Kept;
+use crate::history::Checkpoint;
 use crate::moment::{Moment, Reached};
 use crate::readings::{line_from, variables_in};
 use std::alloc::{AllocError, Global};
@@ -26,18 +26,18 @@ pub enum Destination {
 
 impl<'a> Debugger<'a> {
     /// On to the next line with a breakpoint, or behind the next line that gives a watched variable another value.
-    pub fn go_on(&mut self, alloc: Global, limit: u64) -> Result<Reached, AllocError>
+    pub fn continue_(&mut self, alloc: Global, limit: u64) -> Result<Reached, AllocError>
         ensures run { OnOk result (KeepsRun self.old self.new) }
         ensures stop { IfOk result (λ reached. LeadsOnTo destination.Stop limit self.old reached self.new.present) }
         ensures stands { IfOk result (λ reached. StandsBy self.old.starts reached self.new.present) }
         ensures shown { OnOk result (self.new.shown ≡ self.old.shown) }
         ensures stops { OnOk result (self.new.stops ≡ self.old.stops) }
     {
-        self.go_to(alloc, Destination::Stop, limit)
+        self.run_until(alloc, Destination::Stop, limit)
     }
 
     /// On to the beginning of the line at an address.
-    pub fn on_to(&mut self, alloc: Global, address: u16, limit: u64) -> Result<Reached, AllocError>
+    pub fn run_to_line(&mut self, alloc: Global, address: u16, limit: u64) -> Result<Reached, AllocError>
         ensures run { OnOk result (KeepsRun self.old self.new) }
         ensures there { IfOk result (λ reached. StandsAt address reached self.new.present) }
         ensures line { IfOk result (λ reached. LeadsOnTo (destination.Address address) limit self.old reached self.new.present) }
@@ -45,11 +45,11 @@ impl<'a> Debugger<'a> {
         ensures shown { OnOk result (self.new.shown ≡ self.old.shown) }
         ensures stops { OnOk result (self.new.stops ≡ self.old.stops) }
     {
-        self.go_to(alloc, Destination::Address(address), limit)
+        self.run_until(alloc, Destination::Address(address), limit)
     }
 
     // On to the next line that is looked for.
-    fn go_to(&mut self, alloc: Global, to: Destination, limit: u64) -> Result<Reached, AllocError>
+    fn run_until(&mut self, alloc: Global, to: Destination, limit: u64) -> Result<Reached, AllocError>
         ensures run { OnOk result (KeepsRun self.old self.new) }
         ensures there { IfOk result (λ reached. IsThere to reached self.new) }
         ensures leads { IfOk result (λ reached. LeadsOnTo to limit self.old reached self.new.present) }
@@ -84,7 +84,7 @@ impl<'a> Debugger<'a> {
 
     /// Back to the newest line before with a breakpoint, or that gave a watched variable another value; to the first line
     /// where there is none.
-    pub fn go_back(&mut self, alloc: Global) -> Result<Reached, AllocError>
+    pub fn reverse_continue(&mut self, alloc: Global) -> Result<Reached, AllocError>
         ensures run { OnOk result (KeepsRun self.old self.new) }
         ensures stop { IfOk result (λ reached. LeadsBackToNewest self.old reached self.new.present) }
         ensures stands { IfOk result (λ reached. StandsBy self.old.starts reached self.new.present) }
@@ -95,7 +95,7 @@ impl<'a> Debugger<'a> {
             return Ok(self.standing());
         }
         let time = self.newest_stop(alloc)?;
-        let reached = self.back_to(alloc, time)?;
+        let reached = self.rewind_to(alloc, time)?;
         Ok(reached)
     }
 
@@ -122,7 +122,7 @@ impl<'a> Debugger<'a> {
     fn with_kept(
         &self,
         alloc: Global,
-        kept: &Kept,
+        kept: &Checkpoint,
         last: u64,
         newest: u64,
     ) -> Result<u64, AllocError>

@@ -1,20 +1,20 @@
 -- The debugger's commands, and the lines that spell them.
 use Rattle.std.specs.Prelude.{ℕ, ◌+◌, ◌-◌, ◌*◌, ◌==◌, ◌&&◌, nat_le, List, [], ◌∷◌, length, Option, Some, None, if◌then◌else◌}
 use Rattle.std.specs.Option.{option_and_then}
-use Rattle.tb_words.specs.Letters.{place}
-use Rattle.tb_command_parts.specs.Parts.{number_of, variable_in}
+use Rattle.tb_words.specs.Letters.{letter_index}
+use Rattle.tb_debug_commands.specs.Parts.{number_of, variable_in}
 use Rattle.tb_debug_commands.specs.declared.command.Command.{Command}
 use Rattle.tb_debug_commands.specs.declared.command.Command.TheVariants as command
 use Rattle.tb_grammar.specs.Grammar.{word_of}
 
--- what a line asks for: a variable is said by its place in the alphabet, a text by its bytes
+-- what a line asks for: a variable is said by its index in the alphabet, a text by its bytes
 pub data Asked : Type 0 where
-  On : (lines : ℕ) → Asked
-  Back : (lines : ℕ) → Asked
+  Next : (lines : ℕ) → Asked
+  Previous : (lines : ℕ) → Asked
   Breakpoints : Asked
   Breakpoint : (line : ℕ) → Asked
-  GoOn : Asked
-  GoBack : Asked
+  Continue : Asked
+  ReverseContinue : Asked
   Watch : (index : ℕ) → Asked
   ToLine : (line : ℕ) → Asked
   ToTime : (time : ℕ) → Asked
@@ -36,19 +36,19 @@ pub data Asked : Type 0 where
 
 -- a command that was read, as what its line asks for
 abbrev pub asked_of : Command → Asked
-asked_of (command.On lines) = On lines
-asked_of (command.Back lines) = Back lines
+asked_of (command.Next lines) = Next lines
+asked_of (command.Previous lines) = Previous lines
 asked_of command.Breakpoints = Breakpoints
 asked_of (command.Breakpoint line) = Breakpoint line
-asked_of command.GoOn = GoOn
-asked_of command.GoBack = GoBack
-asked_of (command.Watch letter) = Watch (place letter)
+asked_of command.Continue = Continue
+asked_of command.ReverseContinue = ReverseContinue
+asked_of (command.Watch letter) = Watch (letter_index letter)
 asked_of (command.ToLine line) = ToLine line
 asked_of (command.ToTime time) = ToTime time
 asked_of command.ListHere = ListHere
 asked_of (command.List line) = ListAt line
 asked_of command.Variables = Variables
-asked_of (command.Variable letter) = Variable (place letter)
+asked_of (command.Variable letter) = Variable (letter_index letter)
 asked_of (command.Value text) = Value text.now
 asked_of command.Returns = Returns
 asked_of command.Output = Output
@@ -85,10 +85,10 @@ address_of a b c d =
 -- a letter alone; `k` alone types the return
 abbrev pub alone : ℕ → Asked
 alone c =
-    if c == 110 then On 1
-    else if c == 112 then Back 1
+    if c == 110 then Next 1
+    else if c == 112 then Previous 1
     else if c == 98 then Breakpoints
-    else if c == 99 then GoOn
+    else if c == 99 then Continue
     else if c == 108 then ListHere
     else if c == 118 then Variables
     else if c == 114 then Returns
@@ -104,8 +104,8 @@ alone c =
 -- a letter before a number: n, p, t, s, b, g or l
 abbrev pub counting : ℕ → ℕ → Asked
 counting c n =
-    if c == 110 then On n
-    else if c == 112 then Back n
+    if c == 110 then Next n
+    else if c == 112 then Previous n
     else if c == 116 then ToTime n
     else if c == 115 then Step n
     else if c == 98 then Breakpoint (word_of n)
@@ -147,7 +147,7 @@ with_text c text =
 
 -- a letter and a text with a space between them, or rc
 abbrev pub words : ℕ → ℕ → List ℕ → Asked
-words c next text = if next == 32 then with_text c text else if c == 114 && next == 99 && length text == 0 then GoBack else Unknown
+words c next text = if next == 32 then with_text c text else if c == 114 && next == 99 && length text == 0 then ReverseContinue else Unknown
 
 -- a line
 abbrev pub asked_in : List ℕ → Asked

@@ -1,10 +1,10 @@
 //! The debugger's commands, as lines spell them.
 ghost use Rattle.std.specs.Prelude.{◌≡◌, ◌≤◌, ◌<◌, length, IfSome};
-ghost use Rattle.tb_command_parts.specs.Parts.{number_of};
+ghost use Rattle.tb_debug_commands.specs.Parts.{number_of};
 ghost use Rattle.tb_grammar.specs.Grammar.{word_of};
 ghost use Rattle.tb_debug_commands.specs.Commands.{asked_of, asked_in, alone, words, with_text, with_number, counting, memory_in, memory_at, address_of, digit_of, most_digits};
 
-use tb_command_parts::{number, variable};
+use crate::parts::{number, variable};
 use tb_words::Letter;
 
 /// The most digits of a number.
@@ -20,17 +20,17 @@ const BYTES: u64 = 16;
 #[derive(Clone, Copy, PartialEq, Eq, Debug, Drop)]
 pub enum Command<'a> {
     /// `n [K]`: on by K lines.
-    On(u64),
+    Next(u64),
     /// `p [K]`: back by K lines.
-    Back(u64),
+    Previous(u64),
     /// `b`: lists the breakpoints.
     Breakpoints,
     /// `b N`: sets or clears a breakpoint.
     Breakpoint(u16),
     /// `c`: on to a stop.
-    GoOn,
+    Continue,
     /// `rc`: back to a stop.
-    GoBack,
+    ReverseContinue,
     /// `w X`: sets or clears a watch.
     Watch(Letter),
     /// `g N`: on to a line.
@@ -87,7 +87,7 @@ fn words(letter: u8, next: u8, text: &[u8]) -> Command<'_>
     if next == b' ' {
         with_text(letter, text)
     } else if letter == b'r' && next == b'c' && text.is_empty() {
-        Command::GoBack
+        Command::ReverseContinue
     } else {
         Command::Unknown
     }
@@ -98,10 +98,10 @@ fn alone<'a>(letter: u8) -> Command<'a>
     ensures { asked_of result ≡ alone letter }
 {
     match letter {
-        b'n' => Command::On(1),
-        b'p' => Command::Back(1),
+        b'n' => Command::Next(1),
+        b'p' => Command::Previous(1),
         b'b' => Command::Breakpoints,
-        b'c' => Command::GoOn,
+        b'c' => Command::Continue,
         b'l' => Command::ListHere,
         b'v' => Command::Variables,
         b'r' => Command::Returns,
@@ -150,8 +150,8 @@ fn counting<'a>(letter: u8, number: u64) -> Command<'a>
     ensures { asked_of result ≡ counting letter number }
 {
     match letter {
-        b'n' => Command::On(number),
-        b'p' => Command::Back(number),
+        b'n' => Command::Next(number),
+        b'p' => Command::Previous(number),
         b't' => Command::ToTime(number),
         b's' => Command::Step(number),
         b'b' => Command::Breakpoint(line_number(number)),

@@ -2,5 +2,7 @@
 #![tactic(auto)]
 
 mod command;
+mod parts;
 
 pub use command::{Command, read_command};
+pub use parts::{number, variable};

@@ -11,8 +11,8 @@ use Rattle.tb_opcodes.specs.Bytes.{AreBytes}
 use Rattle.tb_syntax.specs.Source.{Program}
 use Rattle.tb_simulation.specs.Kept.{Starts}
 use Rattle.tb_engines.specs.Programs.{IsUnloadable, start}
-use Rattle.tb_engines.specs.declared.delivery.Stop.{Stop}
-use Rattle.tb_engines.specs.declared.delivery.Stop.TheVariants.{NoMemory as NoMachine, Refused as CantLoad}
+use Rattle.tb_engines.specs.declared.delivery.NoText.{NoText}
+use Rattle.tb_engines.specs.declared.delivery.NoText.TheVariants.{NoMemory as NoMachine, Refused as CantLoad}
 use Rattle.tb_engines.specs.declared.outcome.Refusal.{Refusal}
 use Rattle.tb_driver.proofs.Loadable.{address_in, bytes_in, machine_at_start}
 use Rattle.tb_driver.proofs.Output.{bytes_behind, file_loads, in_ram, starts}
@@ -28,7 +28,7 @@ use Rattle.tb_debug.specs.Runs.{first_point, is_marked}
 use Rattle.tb_debug.specs.Telling.{TellsStop, is_limit}
 use Rattle.tb_debug.specs.declared.moment.Reached.{Reached}
 use Rattle.tb_debug.specs.declared.answer.Answer.{Answer}
-use Rattle.tb_debug.specs.declared.beside.Beside.{Beside}
+use Rattle.tb_debug.specs.declared.rom.Rom.{Rom}
 use Rattle.tb_debug.specs.declared.debugger.Debugger.{Debugger}
 use Rattle.tb_debug_engine.specs.Dialogue.{Begins, IsBarred, IsBegun, IsFirst, Opens, Says, outcome_of}
 use Rattle.tb_debug_engine.specs.Sources.{shown_of}
@@ -40,10 +40,10 @@ loads : (source : Program) (seed : ℕ) (c : Compiled) → IsMadeOf source seed 
 loads source seed c made = file_loads seed [] c (Ok source) made.compiled
 
 -- the machine that `run` starts for it is one from which its line starts are known
-shows_so : (c : Compiled) (text answers : List ℕ) (beside : Beside) (at : ℕ) (bytes : List ℕ) (d : Debugger) → content_of (prg_of c) ≡ Ok (at, bytes)
-    → d.program.now ≡ c → OnRun (first_point (state_of (start at bytes text answers)) beside) d → AreBytes (prg_of c) → AreBytes text → AreBytes answers
-    → (source : Program) (seed : ℕ) → IsMadeOf source seed c → sources.Debugs source seed (state_of (start at bytes text answers)) beside d
-shows_so c text answers beside at bytes d content of on file keys polls source seed made =
+shows_so : (c : Compiled) (text answers : List ℕ) (rom : Rom) (at : ℕ) (bytes : List ℕ) (d : Debugger) → content_of (prg_of c) ≡ Ok (at, bytes)
+    → d.program.now ≡ c → OnRun (first_point (state_of (start at bytes text answers)) rom) d → AreBytes (prg_of c) → AreBytes text → AreBytes answers
+    → (source : Program) (seed : ℕ) → IsMadeOf source seed c → sources.Debugs source seed (state_of (start at bytes text answers)) rom d
+shows_so c text answers rom at bytes d content of on file keys polls source seed made =
     let whole = loads source seed c made in
     let same : start at bytes text answers ≡ start BASIC_START (loaded_of c) text answers =
     machine_at_start text answers c at bytes (start at bytes text answers) (whole.0, in_ram (length (loaded_of c)) whole.1) content refl in
@@ -56,21 +56,21 @@ shows_so c text answers beside at bytes d content of on file keys polls source s
     }
 
 -- a debugger on the run of a program's file
-pub begun : (program : Compiled) (file text answers : List ℕ) (beside : Beside) (at : ℕ) (bytes : List ℕ) (m : Content) (d : Debugger)
+pub begun : (program : Compiled) (file text answers : List ℕ) (rom : Rom) (at : ℕ) (bytes : List ℕ) (m : Content) (d : Debugger)
     → file ≡ prg_of program → content_of file ≡ Ok (at, bytes) → m ≡ start at bytes text answers → d.program.now ≡ program
-    → OnRun (first_point (state_of m) beside) d → IsOpening (first_point (state_of m) beside) d → AreBytes file → AreBytes text → AreBytes answers
-    → IsBegun program text answers beside d
-begun program file text answers beside at bytes m d same content machine of on opens small keys polls =
+    → OnRun (first_point (state_of m) rom) d → IsOpening (first_point (state_of m) rom) d → AreBytes file → AreBytes text → AreBytes answers
+    → IsBegun program text answers rom d
+begun program file text answers rom at bytes m d same content machine of on opens small keys polls =
     let there = ap content_of (sym same) ∙ content in
-    let here = subst (λ x. OnRun (first_point (state_of x) beside) d) machine on in
+    let here = subst (λ x. OnRun (first_point (state_of x) rom) d) machine on in
     record {
       of = of;
       at = at;
       bytes = bytes;
       content = there;
       on = here;
-      opens = subst (λ x. IsOpening (first_point (state_of x) beside) d) machine opens;
-      shows = shows_so program text answers beside at bytes d there of here (subst AreBytes same small) keys polls;
+      opens = subst (λ x. IsOpening (first_point (state_of x) rom) d) machine opens;
+      shows = shows_so program text answers rom at bytes d there of here (subst AreBytes same small) keys polls;
     }
 
 -- a program that can't be loaded is none that `compile` made
@@ -92,13 +92,13 @@ barred program file at bytes why same content unloadable =
     }
 
 -- where the machine can't be started there is no debugger
-pub not_begun : (program : Compiled) (file text answers : List ℕ) (beside : Beside) (at : ℕ) (bytes : List ℕ) (stop : Stop) (outcome : Outcome)
+pub not_begun : (program : Compiled) (file text answers : List ℕ) (rom : Rom) (at : ℕ) (bytes : List ℕ) (stop : NoText) (outcome : Outcome)
     → outcome ≡ outcome_of stop → file ≡ prg_of program → content_of file ≡ Ok (at, bytes) → IsUnloadable at bytes stop
-    → Begins program text answers beside (Err outcome)
-not_begun program file text answers beside at bytes stop outcome is same content unloadable =
-    subst (λ o. Begins program text answers beside (Err o)) (sym is) (by stop unloadable)
+    → Begins program text answers rom (Err outcome)
+not_begun program file text answers rom at bytes stop outcome is same content unloadable =
+    subst (λ o. Begins program text answers rom (Err o)) (sym is) (by stop unloadable)
   where
-    by : (stop : Stop) → IsUnloadable at bytes stop → Begins program text answers beside (Err (outcome_of stop))
+    by : (stop : NoText) → IsUnloadable at bytes stop → Begins program text answers rom (Err (outcome_of stop))
     by (CantLoad why) unloadable = barred program file at bytes why same content unloadable
     by NoMachine unloadable = tt
 

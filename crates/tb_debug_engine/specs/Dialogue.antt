@@ -8,8 +8,8 @@ use Rattle.tb_streams.specs.Streams.{AppendsPrefix, most_input}
 use Rattle.tb_streams.specs.Lines.{TakesLine, TakesNothing, TakesPart, without_return}
 use Rattle.tb_prg.specs.Prg.{content_of}
 use Rattle.tb_engines.specs.Programs.{IsUnloadable, start}
-use Rattle.tb_engines.specs.declared.delivery.Stop.{Stop}
-use Rattle.tb_engines.specs.declared.delivery.Stop.TheVariants.{NoMemory as NoMachine, Refused as CantLoad}
+use Rattle.tb_engines.specs.declared.delivery.NoText.{NoText}
+use Rattle.tb_engines.specs.declared.delivery.NoText.TheVariants.{NoMemory as NoMachine, Refused as CantLoad}
 use Rattle.tb_engines.specs.declared.outcome.End.TheVariants.{Done}
 use Rattle.tb_engines.specs.declared.outcome.Outcome.{Outcome}
 use Rattle.tb_engines.specs.declared.outcome.Refusal.{Refusal}
@@ -26,7 +26,7 @@ use Rattle.tb_syntax.specs.Source.{Program}
 use Rattle.tb_debug.specs.Runs.{first_point}
 use Rattle.tb_debug.specs.Telling.{Tells, TellsStop}
 use Rattle.tb_debug.specs.declared.answer.Answer.{Answer}
-use Rattle.tb_debug.specs.declared.beside.Beside.{Beside}
+use Rattle.tb_debug.specs.declared.rom.Rom.{Rom}
 use Rattle.tb_debug.specs.declared.debugger.Debugger.{Debugger}
 use Rattle.tb_debug.specs.Kinds.{IsWalk}
 use Rattle.tb_debug.specs.Leaving.{Leaves}
@@ -141,17 +141,17 @@ pub record Talks (w : Written) (setting : Setting) (d : Debugger) (outcome : Out
 
 -- a debugger of a program at the first line of its run from the machine that `run` starts, with this keyboard, beside a ROM.
 -- At each line's beginning to which its commands lead, a program that `compile` made shows its source: `line_here` says what.
-pub record IsBegun (program : Compiled) (text answers : List ℕ) (beside : Beside) (d : Debugger) : Type 0 where
+pub record IsBegun (program : Compiled) (text answers : List ℕ) (rom : Rom) (d : Debugger) : Type 0 where
   pub of : d.program.now ≡ program
   pub at : ℕ
   pub bytes : List ℕ
   pub content : content_of (prg_of program) ≡ Ok (at, bytes)
-  pub on : OnRun (first_point (state_of (start at bytes text answers)) beside) d
-  pub opens : IsOpening (first_point (state_of (start at bytes text answers)) beside) d
-  pub shows : (source : Program) (seed : ℕ) → IsMadeOf source seed program → sources.Debugs source seed (state_of (start at bytes text answers)) beside d
+  pub on : OnRun (first_point (state_of (start at bytes text answers)) rom) d
+  pub opens : IsOpening (first_point (state_of (start at bytes text answers)) rom) d
+  pub shows : (source : Program) (seed : ℕ) → IsMadeOf source seed program → sources.Debugs source seed (state_of (start at bytes text answers)) rom d
 
 -- how a dialogue ends whose machine can't be started
-abbrev pub outcome_of : Stop → Outcome
+abbrev pub outcome_of : NoText → Outcome
 outcome_of (CantLoad why) = Refused why
 outcome_of NoMachine = NoMemory
 
@@ -164,13 +164,13 @@ pub record IsBarred (program : Compiled) (why : Refusal) : Type 0 where
   pub unmade : (source : Program) (seed : ℕ) → ¬ (IsMadeOf source seed program)
 
 -- the debugger of a source at its beginning, or why there is none
-abbrev pub Begins : Compiled → List ℕ → List ℕ → Beside → Result Debugger Outcome → Type 0
-Begins program text answers beside (Ok d) = IsBegun program text answers beside d
-Begins program text answers beside (Err (Refused why)) = IsBarred program why
-Begins program text answers beside (Err NoMemory) = Unit {0}
-Begins program text answers beside (Err ReadFault) = ⊥
-Begins program text answers beside (Err WriteFault) = ⊥
-Begins program text answers beside (Err (Ended end)) = ⊥
+abbrev pub Begins : Compiled → List ℕ → List ℕ → Rom → Result Debugger Outcome → Type 0
+Begins program text answers rom (Ok d) = IsBegun program text answers rom d
+Begins program text answers rom (Err (Refused why)) = IsBarred program why
+Begins program text answers rom (Err NoMemory) = Unit {0}
+Begins program text answers rom (Err ReadFault) = ⊥
+Begins program text answers rom (Err WriteFault) = ⊥
+Begins program text answers rom (Err (Ended end)) = ⊥
 
 -- the stop at which a debugger stands
 pub record IsFirst (d : Debugger) (told : Answer) (e : Debugger) : Type 0 where
@@ -192,9 +192,9 @@ Opens w d (Err (Refused why)) e old new wrote wrote' = ⊥
 -- ---- the whole
 
 -- the lines of a source, and its debugger at the beginning
-pub record AreReady (s : Sources) (text answers : List ℕ) (beside : Beside) (w : Written) (d : Debugger) : Type 0 where
+pub record AreReady (s : Sources) (text answers : List ℕ) (rom : Rom) (w : Written) (d : Debugger) : Type 0 where
   pub written : AreWritten s w
-  pub begun : IsBegun s.program text answers beside d
+  pub begun : IsBegun s.program text answers rom d
 
 -- nothing is done where there is no debugger
 abbrev pub DoesNothing : Compiled → Outcome → Option (List ℕ) → Option (List ℕ) → ℕ → ℕ → Option (List ℕ) → Option (List ℕ) → ℕ → ℕ → Type 0
@@ -217,7 +217,7 @@ OpensAndTalks w setting d outcome had left read read' old new wrote wrote' =
 abbrev pub Debugs : Sources → List ℕ → List ℕ → Setting → Outcome → Option (List ℕ) → Option (List ℕ) → ℕ → ℕ → Option (List ℕ) → Option (List ℕ) → ℕ → ℕ → Type 0
 Debugs s text answers setting outcome had left read read' old new wrote wrote' =
     DoesNothing s.program outcome had left read read' old new wrote wrote'
-    ⊎ ((w : Written) × (d : Debugger) × AreReady s text answers setting.beside w d
+    ⊎ ((w : Written) × (d : Debugger) × AreReady s text answers setting.rom w d
     × (FailsToOpen w d outcome had left read read' old new wrote wrote'
     ⊎ OpensAndTalks w setting d outcome had left read read' old new wrote wrote'))
 

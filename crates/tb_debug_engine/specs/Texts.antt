@@ -14,8 +14,8 @@ use Rattle.tb_disasm.specs.ListingText.{text_of as listing_text}
 use Rattle.tb_commands.specs.Answers.{registers_text}
 use Rattle.tb_debug.specs.declared.answer.Answer.{Answer}
 use Rattle.tb_debug.specs.declared.answer.Answer.TheVariants as answer
-use Rattle.tb_debug.specs.declared.answer.Place.{Place}
-use Rattle.tb_debug.specs.declared.answer.Place.TheVariants as place
+use Rattle.tb_debug.specs.declared.answer.Location.{Location}
+use Rattle.tb_debug.specs.declared.answer.Location.TheVariants as place
 use Rattle.tb_debug.specs.declared.answer.Stand.{Stand}
 use Rattle.tb_debug_engine.specs.Lists.{list_text, written}
 
@@ -49,7 +49,7 @@ status_text Returned pc = codes "returned"
 status_text (Wrong w) pc = end_text (end_of (Wrong w) pc)
 
 -- the line at which a run stands, `start` before the first one, or how its machine stands
-abbrev pub place_text : List (ℕ × List ℕ) → Place → List ℕ
+abbrev pub place_text : List (ℕ × List ℕ) → Location → List ℕ
 place_text lines (place.Line number) = written lines number
 place_text lines place.Opening = line (codes "start")
 place_text lines (place.Ended status pc) = line (status_text status pc)

@@ -10,11 +10,11 @@ use crate::sources::{Sources, Written};
 use crate::texts::push_answer;
 use std::alloc::Global;
 use std::io::{Read, Write};
-use tb_debug::{Answer, Beside, Debugger, read_command};
+use tb_debug::{Answer, Rom, Debugger, read_command};
 use tb_driver::are_bytes;
-use tb_engines::{End, Outcome, Stop, start_machine, without_input};
+use tb_engines::{End, Outcome, NoText, start_machine, without_input};
 use tb_kernal::Keyboard;
-use tb_streams::{Fault, MOST_INPUT, Tracked, read_line, without_return, write_output};
+use tb_streams::{MOST_INPUT, StreamFailure, Tracked, read_line, without_return, write_output};
 
 /// What stands before a command that is typed at a terminal.
 const PROMPT: &[u8] = b"> ";
@@ -22,7 +22,7 @@ const PROMPT: &[u8] = b"> ";
 /// How a program is debugged.
 #[derive(Clone, Copy, Debug, Drop)]
 pub struct Setting {
-    pub beside: Beside,
+    pub rom: Rom,
     /// How many events a going on may take.
     pub limit: u64,
     /// Whether a prompt is shown.
@@ -50,7 +50,7 @@ fn say<W: Write>(
 }
 
 // Writes the prompt where one is shown.
-fn prompt<W: Write>(writer: &mut Tracked<W>, prompts: bool) -> Result<(), Fault>
+fn prompt<W: Write>(writer: &mut Tracked<W>, prompts: bool) -> Result<(), StreamFailure>
     ensures whole { OnOk result (Appends (W.contents writer.old.stream) (W.contents writer.new.stream) (prompt prompts)) }
     ensures prefix { OnErr result (AppendsPrefix (W.contents writer.old.stream) (W.contents writer.new.stream) (prompt prompts)) }
     ensures noted { failures_of writer.new ≡ counted (failures_of writer.old) (is_err result) }
@@ -135,12 +135,12 @@ fn answer_lines<R: Read, W: Write>(
 }
 
 // How a dialogue ends whose machine can't be started.
-fn outcome_of(stop: Stop) -> Outcome
+fn outcome_of(stop: NoText) -> Outcome
     ensures { result ≡ outcome_of stop }
 {
     match stop {
-        Stop::Refused(refusal) => Outcome::Refused(refusal),
-        Stop::NoMemory => Outcome::NoMemory,
+        NoText::Refused(refusal) => Outcome::Refused(refusal),
+        NoText::NoMemory => Outcome::NoMemory,
     }
 }
 
@@ -149,9 +149,9 @@ fn debugger_of<'a>(
     alloc: Global,
     sources: &'a Sources,
     keyboard: Keyboard,
-    beside: Beside,
+    rom: Rom,
 ) -> Result<Debugger<'a>, Outcome>
-    ensures { Begins sources.now.program keyboard.text.items keyboard.answers.items beside result }
+    ensures { Begins sources.now.program keyboard.text.items keyboard.answers.items rom result }
 {
     let file = sources.program.prg();
     are_bytes(file);
@@ -165,7 +165,7 @@ fn debugger_of<'a>(
         Ok(machine) => machine,
         Err(stop) => return Err(outcome_of(stop)),
     };
-    match Debugger::new(alloc, &sources.program, machine, beside) {
+    match Debugger::new(alloc, &sources.program, machine, rom) {
         Ok(debugger) => Ok(debugger),
         Err(_) => Err(Outcome::NoMemory),
     }
@@ -204,7 +204,7 @@ pub fn debug<R: Read, W: Write>(
     let Ok(source) = Written::new(alloc, sources) else {
         return Outcome::NoMemory;
     };
-    let mut debugger = match debugger_of(alloc, sources, keyboard, setting.beside) {
+    let mut debugger = match debugger_of(alloc, sources, keyboard, setting.rom) {
         Ok(debugger) => debugger,
         Err(outcome) => return outcome,
     };

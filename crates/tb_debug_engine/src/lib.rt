@@ -8,4 +8,4 @@ mod texts;
 
 pub use dialogue::{Setting, debug};
 pub use sources::{Sources, read_sources, warnings};
-pub use tb_debug::Beside;
+pub use tb_debug::Rom;

@@ -11,7 +11,7 @@ use crate::sources::Written;
 use hex::encode_upper;
 use std::alloc::{AllocError, Global};
 use tb_commands::Answer as Word;
-use tb_debug::{Answer, Place, Stand};
+use tb_debug::{Answer, Location, Stand};
 use tb_disasm::{Line, Listing};
 use tb_engines::end_of;
 use tb_kernal::Status;
@@ -103,14 +103,14 @@ fn push_place(
     alloc: Global,
     text: &mut Vec<u8>,
     lines: &[Numbered<'_>],
-    place: Place,
+    place: Location,
 ) -> Result<(), AllocError>
     ensures { OnOk result (text.new.items ≡ text.old.items ++ place_text (map pair_of lines.now) place) }
 {
     match place {
-        Place::Line(number) => push_written(text, lines, number),
-        Place::Opening => text.extend_from_slice(b"start\n"),
-        Place::Ended { status, pc } => push_status(alloc, text, status, pc),
+        Location::Line(number) => push_written(text, lines, number),
+        Location::Opening => text.extend_from_slice(b"start\n"),
+        Location::Ended { status, pc } => push_status(alloc, text, status, pc),
     }
 }
 

@@ -12,8 +12,8 @@ use Rattle.tb_engines.specs.Outcomes.{Product, Answers, MadeFrom}
 use Rattle.tb_engines.specs.Delivery.{Makes, Shows}
 use Rattle.tb_driver.specs.Sources.{Compiles, stop_of, FromSource}
 use Rattle.tb_engines.specs.declared.delivery.Text.{Text}
-use Rattle.tb_engines.specs.declared.delivery.Stop.{Stop}
-use Rattle.tb_engines.specs.declared.delivery.Stop.TheVariants.{Refused as StopRefused, NoMemory as StopNoMemory}
+use Rattle.tb_engines.specs.declared.delivery.NoText.{NoText}
+use Rattle.tb_engines.specs.declared.delivery.NoText.TheVariants.{Refused as NoTextRefused, NoMemory as NoTextNoMemory}
 use Rattle.tb_engines.specs.declared.outcome.Outcome.{Outcome}
 use Rattle.tb_engines.specs.declared.outcome.Outcome.TheVariants.{Ended, Refused, ReadFault, WriteFault, NoMemory}
 use Rattle.tb_engines.specs.declared.report.Report.{Report}
@@ -21,10 +21,10 @@ use Rattle.tb_engines.specs.declared.report.Report.{Report}
 -- ---- what was made, and what was written of it
 
 -- what was made of one kind of products was made of any wider kind
-pub makes_as : (p q : Product → Type 0) → ((x : Product) → p x → q x) → (made : Result Text Stop) → Makes p made → Makes q made
+pub makes_as : (p q : Product → Type 0) → ((x : Product) → p x → q x) → (made : Result Text NoText) → Makes p made → Makes q made
 makes_as p q wider (Ok text) m = wider _ m
-makes_as p q wider (Err (StopRefused e)) m = wider _ m
-makes_as p q wider (Err StopNoMemory) m = tt
+makes_as p q wider (Err (NoTextRefused e)) m = wider _ m
+makes_as p q wider (Err NoTextNoMemory) m = tt
 
 -- and so it is with what was written
 pub answers_as : (p q : Product → Type 0) → ((x : Product) → p x → q x) → (outcome : Outcome) → (old new : Option (List ℕ))
@@ -36,13 +36,13 @@ answers_as p q wider WriteFault old new (text, end, made, written) = (text, end,
 answers_as p q wider NoMemory old new kept = kept
 
 -- what is shown of what was made is of its kind
-pub shown : (makes : Product → Type 0) (made : Result Text Stop) → Makes makes made → (x : Product) → Shows made x → makes x
+pub shown : (makes : Product → Type 0) (made : Result Text NoText) → Makes makes made → (x : Product) → Shows made x → makes x
 shown makes (Ok text) m x s = subst makes (sym s) m
-shown makes (Err (StopRefused e)) m x s = subst makes (sym s) m
-shown makes (Err StopNoMemory) m x s = absurd s
+shown makes (Err (NoTextRefused e)) m x s = subst makes (sym s) m
+shown makes (Err NoTextNoMemory) m x s = absurd s
 
 -- what was written of what was made of an input
-pub delivered : (makes : List ℕ → Product → Type 0) (had : Option (List ℕ)) (input source : List ℕ) (made : Result Text Stop)
+pub delivered : (makes : List ℕ → Product → Type 0) (had : Option (List ℕ)) (input source : List ℕ) (made : Result Text NoText)
     (outcome : Outcome) (old new : Option (List ℕ)) → Reads had input → source ≡ input → Makes (makes source) made
     → Answers (Shows made) outcome old new → Answers (MadeFrom had makes) outcome old new
 delivered makes had input source made outcome old new reads same m written =
@@ -51,7 +51,7 @@ delivered makes had input source made outcome old new reads same m written =
 
 -- what was written where there is no program to warn of
 pub refusal_delivered : (makes : List Warning → List ℕ → Product → Type 0) (had : Option (List ℕ)) (input source : List ℕ) (e : CompileError)
-    (stop : Stop) (outcome : Outcome) (report : Report) (old new : Option (List ℕ)) → Reads had input → source ≡ input
+    (stop : NoText) (outcome : Outcome) (report : Report) (old new : Option (List ℕ)) → Reads had input → source ≡ input
     → Makes (makes [] source) (Err (stop_of e)) → stop ≡ stop_of e → Answers (Shows (Err stop)) outcome old new
     → report.outcome ≡ outcome → report.warnings.items ≡ [] → Answers (MadeFrom had (makes report.warnings.items)) report.outcome old new
 refusal_delivered makes had input source e stop outcome report old new reads same m stops written ends none =
@@ -64,7 +64,7 @@ refusal_delivered makes had input source e stop outcome report old new reads sam
 
 -- what is made of a source's program is made of the source
 pub from_compiled : (seed : ℕ) (makes : Compiled → Product → Type 0) (source : List ℕ) (c : Compiled) (warnings : List Warning)
-    (made : Result Text Stop) → Compiles seed source (Ok c) → warnings ≡ warnings_of c → Makes (makes c) made
+    (made : Result Text NoText) → Compiles seed source (Ok c) → warnings ≡ warnings_of c → Makes (makes c) made
     → Makes (FromSource seed makes warnings source) made
 from_compiled seed makes source c warnings made compiled warned m =
     makes_as (makes c) (FromSource seed makes warnings source) (λ x h. (Ok c, compiled, (warned, h))) made m

@@ -30,7 +30,7 @@ use Rattle.tb_engines.specs.Delivery.{Makes}
 use Rattle.tb_engines.specs.Programs.{start_memory, start, end_of, RunsAt, RunsContent, RunsPrg}
 use Rattle.tb_driver.specs.Output.{ShowsOutput, RunsSource, KeepsSource}
 use Rattle.tb_engines.specs.declared.delivery.Text.{Text}
-use Rattle.tb_engines.specs.declared.delivery.Stop.{Stop}
+use Rattle.tb_engines.specs.declared.delivery.NoText.{NoText}
 use Rattle.tb_engines.specs.declared.outcome.End.TheVariants.{Done}
 use Rattle.tb_driver.proofs.Delivered.{makes_as}
 use Rattle.tb_engines.proofs.Start.{home_of-start}
@@ -160,7 +160,7 @@ module _ {O : Type 0} (gives : O → Content → Event → O → Type 0) (o : O)
   runs_source x runs = runs_loaded x (subst (λ c. RunsContent gives o c text answers limit x) kept.content runs)
 
   -- what is made by running the file is made by running the source
-  pub made_of_source : (made : Result Text Stop) → Makes (RunsPrg gives o text answers limit file) made → Makes (RunsSource seed text answers source) made
+  pub made_of_source : (made : Result Text NoText) → Makes (RunsPrg gives o text answers limit file) made → Makes (RunsSource seed text answers source) made
   made_of_source made m = makes_as (RunsPrg gives o text answers limit file) (RunsSource seed text answers source) runs_source made m
 
 -- ---- the compiled file

@@ -17,7 +17,7 @@ use Rattle.tb_driver.specs.Sources.{Compiles, FromSource}
 use Rattle.tb_driver.specs.Output.{KeepsSource, RunsSource}
 use Rattle.tb_driver.specs.Reading.{ReadsSource}
 use Rattle.tb_engines.specs.declared.delivery.Text.{Text}
-use Rattle.tb_engines.specs.declared.delivery.Stop.{Stop}
+use Rattle.tb_engines.specs.declared.delivery.NoText.{NoText}
 use Rattle.tb_engines.specs.declared.outcome.Outcome.{Outcome}
 use Rattle.tb_engines.specs.declared.outcome.Outcome.TheVariants.{Ended, Refused, ReadFault, WriteFault, NoMemory}
 use Rattle.tb_engines.specs.declared.outcome.Refusal.TheVariants.{TextLine, Item, Prg, NotRam, Source}
@@ -73,7 +73,7 @@ module _ (seed : ℕ) (had : Option (List ℕ)) (program : Compiled) (read read'
       answers_as (makes program) (MadeFrom had (FromSource seed makes warnings)) (λ x h. (is.0, is.1, (Ok program, is.2, (warned, h)))) outcome old new written
 
   -- so is what is made of its file
-  pub file_made : (makes : List ℕ → Product → Type 0) (warnings : List Warning) (file : List ℕ) (made : Result Text Stop) → file ≡ prg_of program
+  pub file_made : (makes : List ℕ → Product → Type 0) (warnings : List Warning) (file : List ℕ) (made : Result Text NoText) → file ≡ prg_of program
       → warnings ≡ warnings_of program → Makes (makes file) made → Answers (Shows made) outcome old new
       → Answers (MadeFrom had (FromSource seed (λ c. makes (prg_of c)) warnings)) outcome old new
   file_made makes warnings file made same warned m written =
@@ -82,7 +82,7 @@ module _ (seed : ℕ) (had : Option (List ℕ)) (program : Compiled) (read read'
       (answers_as (Shows made) (makes (prg_of program)) (shown (makes (prg_of program)) made here) outcome old new written)
 
   -- running its file is running the source
-  pub file_run : (text answers file : List ℕ) (made : Result Text Stop) → file ≡ prg_of program
+  pub file_run : (text answers file : List ℕ) (made : Result Text NoText) → file ≡ prg_of program
       → ((seed : ℕ) (source : List ℕ) → KeepsSource seed source file → Makes (RunsSource seed text answers source) made)
       → Answers (Shows made) outcome old new → Answers (MadeFrom had (RunsSource seed text answers)) outcome old new
   file_run text answers file made same runs written =

@@ -21,7 +21,7 @@ use Rattle.tb_engines.specs.Programs.{start}
 use Rattle.tb_driver.specs.Sources.{Compiles, stop_of, FromSource}
 use Rattle.tb_driver.specs.Stepping.{IsLoadable, start_of_history, Steps, StepsThrough, MadeFromTaken}
 use Rattle.tb_engines.specs.declared.delivery.Text.{Text}
-use Rattle.tb_engines.specs.declared.delivery.Stop.{Stop}
+use Rattle.tb_engines.specs.declared.delivery.NoText.{NoText}
 use Rattle.tb_engines.specs.declared.outcome.End.TheVariants.{Done}
 use Rattle.tb_driver.proofs.Delivered.{makes_as, from_compiled, from_refusal}
 use Rattle.tb_driver.proofs.Loadable.{machine_at_start}
@@ -38,7 +38,7 @@ module _ (text answers : List ℕ) (limit : ℕ) where
 
   -- what was made of a source's program and of commands that were read
   pub steps_made : (seed : ℕ) (had_commands left_commands : Option (List ℕ)) (source typed commands : List ℕ) (program : Compiled) (warnings : List Warning)
-      (made : Result Text Stop) → Reads had_commands typed → Consumes had_commands left_commands typed → commands ≡ typed → Compiles seed source (Ok program) → warnings ≡ warnings_of program
+      (made : Result Text NoText) → Reads had_commands typed → Consumes had_commands left_commands typed → commands ≡ typed → Compiles seed source (Ok program) → warnings ≡ warnings_of program
       → Makes (Steps text answers limit program commands) made
       → Makes (MadeFromTaken had_commands left_commands (StepsThrough seed text answers limit warnings source)) made
   steps_made seed had_commands left_commands source typed commands program warnings made reads taken same compiled warned m =

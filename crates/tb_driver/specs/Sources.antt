@@ -8,8 +8,8 @@ use Rattle.tb_compile_errors.specs.declared.refusals.CompileError.TheVariants.{N
 use Rattle.tb_codegen.specs.Answers.{HasOutcome, LinesMake, OutcomeAnswer}
 use Rattle.tb_codegen.specs.Compiled.{prg_of, warnings_of}
 use Rattle.tb_engines.specs.Outcomes.{Product}
-use Rattle.tb_engines.specs.declared.delivery.Stop.{Stop}
-use Rattle.tb_engines.specs.declared.delivery.Stop.TheVariants.{Refused as StopRefused, NoMemory as StopNoMemory}
+use Rattle.tb_engines.specs.declared.delivery.NoText.{NoText}
+use Rattle.tb_engines.specs.declared.delivery.NoText.TheVariants.{Refused as NoTextRefused, NoMemory as NoTextNoMemory}
 use Rattle.tb_engines.specs.declared.outcome.End.TheVariants.{Done}
 use Rattle.tb_engines.specs.declared.outcome.Outcome.{Outcome as EngineOutcome}
 use Rattle.tb_engines.specs.declared.outcome.Outcome.TheVariants.{Ended, Refused, ReadFault, WriteFault, NoMemory as NoEngineMemory}
@@ -27,9 +27,9 @@ Compiles seed source (Err NoMemory) = ⊥
 Compiles seed source answer = IsAnswer seed source answer
 
 -- how an engine stops where there is no program
-abbrev pub stop_of : CompileError → Stop
-stop_of NoMemory = StopNoMemory
-stop_of e = StopRefused (Source e)
+abbrev pub stop_of : CompileError → NoText
+stop_of NoMemory = NoTextNoMemory
+stop_of e = NoTextRefused (Source e)
 
 -- the PRG file is written as it is
 abbrev pub IsFile : Compiled → Product → Type 0

@@ -8,16 +8,16 @@ ghost use Rattle.tb_driver.specs.Reading.{ReadsSource};
 use std::alloc::Global;
 use std::io::Read;
 use tb_codegen::{CompileError, Compiled, Options, compile};
-use tb_engines::{Outcome, Refusal, Stop, without_input};
+use tb_engines::{Outcome, Refusal, NoText, without_input};
 use tb_streams::{Tracked, read_input};
 
 /// How an engine stops where a source is not compiled. Want of memory is no refusal.
-pub fn stop_of(error: CompileError) -> Stop
+pub fn stop_of(error: CompileError) -> NoText
     ensures { result ≡ stop_of error }
 {
     match error {
-        CompileError::NoMemory => Stop::NoMemory,
-        _ => Stop::Refused(Refusal::Source(error)),
+        CompileError::NoMemory => NoText::NoMemory,
+        _ => NoText::Refused(Refusal::Source(error)),
     }
 }
 

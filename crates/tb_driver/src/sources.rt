@@ -14,7 +14,7 @@ use crate::reading::read_source;
 use std::alloc::Global;
 use std::io::{Read, Write};
 use tb_codegen::Compiled;
-use tb_engines::{End, Outcome, Report, Stop, Text, deliver, run_file};
+use tb_engines::{End, Outcome, Report, NoText, Text, deliver, run_file};
 use tb_kernal::{Keyboard, Outside};
 use tb_streams::{Tracked, write_output};
 
@@ -72,7 +72,7 @@ fn run_compiled<O: Outside>(
     keyboard: Keyboard,
     limit: u64,
     outside: &mut O,
-) -> Result<Text, Stop>
+) -> Result<Text, NoText>
     ensures machine { Makes (RunsPrg O.gives outside.old keyboard.text.items keyboard.answers.items
         limit file.now) result }
     ensures output { (seed : ℕ) (source : List ℕ) → KeepsSource seed source file.now

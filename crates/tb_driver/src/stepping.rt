@@ -12,7 +12,7 @@ use std::alloc::Global;
 use std::io::{Read, Write};
 use tb_codegen::{Compiled, Options, compile};
 use tb_commands::answers;
-use tb_engines::{End, Outcome, Report, Stop, Text, deliver, start_machine, without_input};
+use tb_engines::{End, Outcome, Report, NoText, Text, deliver, start_machine, without_input};
 use tb_kernal::{Keyboard, Quiet};
 use tb_stepper::Stepper;
 use tb_streams::{Tracked, read_input};
@@ -24,7 +24,7 @@ fn step_program(
     keyboard: Keyboard,
     commands: &[u8],
     limit: u64,
-) -> Result<Text, Stop>
+) -> Result<Text, NoText>
     requires { IsLoadable program.now }
     ensures { Makes (Steps keyboard.text.items keyboard.answers.items limit program.now commands.now) result }
 {
@@ -33,14 +33,14 @@ fn step_program(
     };
     let machine = start_machine(alloc, loaded, keyboard)?;
     let Ok(mut stepper) = Stepper::new(alloc, machine, program, Quiet) else {
-        return Err(Stop::NoMemory);
+        return Err(NoText::NoMemory);
     };
     match answers(alloc, &mut stepper, commands, limit) {
         Ok(bytes) => Ok(Text {
             bytes,
             end: End::Done,
         }),
-        Err(_) => Err(Stop::NoMemory),
+        Err(_) => Err(NoText::NoMemory),
     }
 }
 

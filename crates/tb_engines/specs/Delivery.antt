@@ -1,8 +1,8 @@
 -- The steps of an engine: what it made, and how that is delivered.
 use Rattle.std.specs.Prelude.{ℕ, ◌≡◌, ◌≢◌, Result, Ok, Err}
 use Rattle.tb_engines.specs.declared.delivery.Text.{Text}
-use Rattle.tb_engines.specs.declared.delivery.Stop.{Stop}
-use Rattle.tb_engines.specs.declared.delivery.Stop.TheVariants.{Refused as StopRefused, NoMemory as StopNoMemory}
+use Rattle.tb_engines.specs.declared.delivery.NoText.{NoText}
+use Rattle.tb_engines.specs.declared.delivery.NoText.TheVariants.{Refused as NoTextRefused, NoMemory as NoTextNoMemory}
 use Rattle.tb_streams.specs.declared.stream.InputError.{InputError}
 use Rattle.tb_streams.specs.declared.stream.InputError.TheVariants.{Fault, NoMemory as InputNoMemory}
 use Rattle.tb_engines.specs.declared.outcome.Outcome.{Outcome}
@@ -15,16 +15,16 @@ outcome_of Fault = ReadFault
 outcome_of InputNoMemory = NoMemory
 
 -- what was made is a product; there is none where memory was wanting
-abbrev pub Makes : (Product → Type 0) → Result Text Stop → Type 0
+abbrev pub Makes : (Product → Type 0) → Result Text NoText → Type 0
 Makes makes (Ok text) = makes (Ok (text.bytes.items, text.end))
-Makes makes (Err (StopRefused e)) = makes (Err e)
-Makes makes (Err StopNoMemory) = Unit {0}
+Makes makes (Err (NoTextRefused e)) = makes (Err e)
+Makes makes (Err NoTextNoMemory) = Unit {0}
 
 -- the product that was made
-abbrev pub Shows : Result Text Stop → Product → Type 0
+abbrev pub Shows : Result Text NoText → Product → Type 0
 Shows (Ok text) product = product ≡ Ok (text.bytes.items, text.end)
-Shows (Err (StopRefused e)) product = product ≡ Err e
-Shows (Err StopNoMemory) product = ⊥
+Shows (Err (NoTextRefused e)) product = product ≡ Err e
+Shows (Err NoTextNoMemory) product = ⊥
 
 -- delivering never ends in a read fault, and in a write fault only where the writer failed
 abbrev pub DeliveryFaults : Outcome → ℕ → ℕ → Type 0

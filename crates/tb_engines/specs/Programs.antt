@@ -14,8 +14,8 @@ use Rattle.tb_streams.specs.HostForm.{host_form_of}
 use Rattle.tb_engines.specs.Outcomes.{Product}
 use Rattle.tb_engines.specs.declared.outcome.End.{End}
 use Rattle.tb_engines.specs.declared.outcome.End.TheVariants.{Done, StepLimit, WaitsForKey, WentWrong}
-use Rattle.tb_engines.specs.declared.delivery.Stop.{Stop}
-use Rattle.tb_engines.specs.declared.delivery.Stop.TheVariants.{Refused, NoMemory}
+use Rattle.tb_engines.specs.declared.delivery.NoText.{NoText}
+use Rattle.tb_engines.specs.declared.delivery.NoText.TheVariants.{Refused, NoMemory}
 use Rattle.tb_engines.specs.declared.outcome.Refusal.TheVariants.{Prg, NotRam}
 
 -- a program at $0801 begins behind its BASIC line, any other at its first byte
@@ -91,6 +91,6 @@ RunsPrg gives o text answers limit file product =
     RunsContent gives o (content_of file) text answers limit product
 
 -- why a program is not loaded: it does not lie in RAM, or memory is wanting
-abbrev pub IsUnloadable : ℕ → List ℕ → Stop → Type 0
+abbrev pub IsUnloadable : ℕ → List ℕ → NoText → Type 0
 IsUnloadable at bytes (Refused e) = (e ≡ NotRam) × ¬ (IsOpenRange at (length bytes))
 IsUnloadable at bytes NoMemory = Unit {0}

@@ -6,7 +6,7 @@ ghost use Rattle.tb_engines.specs.Outcomes.{Answers, Faults, MadeFrom};
 ghost use Rattle.tb_engines.specs.Delivery.{Makes};
 ghost use Rattle.tb_engines.specs.Assembly.{Assembles, ListsPrg};
 
-use crate::delivery::{Stop, Text, deliver, without_input};
+use crate::delivery::{NoText, Text, deliver, without_input};
 use crate::outcome::{End, Outcome, Refusal};
 use std::alloc::Global;
 use std::io::{Read, Write};
@@ -16,25 +16,25 @@ use tb_prg::PrgError;
 use tb_streams::{Tracked, read_input};
 
 // The load address and the image of an assembler text.
-fn assemble_prg(alloc: Global, at: u16, text: &[u8]) -> Result<Text, Stop>
+fn assemble_prg(alloc: Global, at: u16, text: &[u8]) -> Result<Text, NoText>
     ensures { Makes (Assembles at text.now) result }
 {
     let items = match read_text(alloc, text) {
         Ok(items) => items,
-        Err(TextError::Line(line)) => return Err(Stop::Refused(Refusal::TextLine(line))),
-        Err(TextError::NoMemory) => return Err(Stop::NoMemory),
+        Err(TextError::Line(line)) => return Err(NoText::Refused(Refusal::TextLine(line))),
+        Err(TextError::NoMemory) => return Err(NoText::NoMemory),
     };
     let image = match assemble(alloc, at, items.as_slice()) {
         Ok(image) => image,
-        Err(error) if error.kind == AsmErrorKind::NoMemory => return Err(Stop::NoMemory),
-        Err(error) => return Err(Stop::Refused(Refusal::Item(error))),
+        Err(error) if error.kind == AsmErrorKind::NoMemory => return Err(NoText::NoMemory),
+        Err(error) => return Err(NoText::Refused(Refusal::Item(error))),
     };
     let mut bytes = Vec::new(alloc);
     if bytes.extend_from_slice(&at.to_le_bytes()).is_err() {
-        return Err(Stop::NoMemory);
+        return Err(NoText::NoMemory);
     }
     if bytes.extend_from_slice(image.bytes.as_slice()).is_err() {
-        return Err(Stop::NoMemory);
+        return Err(NoText::NoMemory);
     }
     Ok(Text {
         bytes,
@@ -43,24 +43,24 @@ fn assemble_prg(alloc: Global, at: u16, text: &[u8]) -> Result<Text, Stop>
 }
 
 // The listing of a PRG file.
-fn list_prg(alloc: Global, file: &[u8]) -> Result<Text, Stop>
+fn list_prg(alloc: Global, file: &[u8]) -> Result<Text, NoText>
     ensures { Makes (ListsPrg file.now) result }
 {
     let program = match tb_prg::read(file) {
         Ok(program) => program,
-        Err(error) => return Err(Stop::Refused(Refusal::Prg(error))),
+        Err(error) => return Err(NoText::Refused(Refusal::Prg(error))),
     };
     let listing = match disassemble(alloc, program.at, program.bytes) {
         Ok(listing) => listing,
         Err(ListError::RunsPast) => unreachable!(),
-        Err(ListError::NoMemory) => return Err(Stop::NoMemory),
+        Err(ListError::NoMemory) => return Err(NoText::NoMemory),
     };
     match listing.text(alloc) {
         Ok(bytes) => Ok(Text {
             bytes,
             end: End::Done,
         }),
-        Err(_) => Err(Stop::NoMemory),
+        Err(_) => Err(NoText::NoMemory),
     }
 }
 

@@ -19,7 +19,7 @@ pub struct Text {
 
 /// Why there is no text.
 #[derive(Clone, Copy, PartialEq, Eq, Debug, Drop)]
-pub enum Stop {
+pub enum NoText {
     Refused(Refusal),
     NoMemory,
 }
@@ -35,15 +35,15 @@ pub fn without_input(error: InputError) -> Outcome
 }
 
 /// Writes a text that was made.
-pub fn deliver<W: Write>(writer: &mut Tracked<W>, made: Result<Text, Stop>) -> Outcome
+pub fn deliver<W: Write>(writer: &mut Tracked<W>, made: Result<Text, NoText>) -> Outcome
     ensures answers { Answers (Shows made) result
         (W.contents writer.old.stream) (W.contents writer.new.stream) }
     ensures faults { DeliveryFaults result (failures_of writer.old) (failures_of writer.new) }
 {
     let text = match made {
         Ok(text) => text,
-        Err(Stop::Refused(refusal)) => return Outcome::Refused(refusal),
-        Err(Stop::NoMemory) => return Outcome::NoMemory,
+        Err(NoText::Refused(refusal)) => return Outcome::Refused(refusal),
+        Err(NoText::NoMemory) => return Outcome::NoMemory,
     };
     match write_output(writer, text.bytes.as_slice()) {
         Ok(()) => Outcome::Ended(text.end),

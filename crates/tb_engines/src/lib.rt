@@ -11,7 +11,7 @@ mod report;
 mod texts;
 
 pub use assembly::{asm_text, dis_text};
-pub use delivery::{Stop, Text, deliver, without_input};
+pub use delivery::{NoText, Text, deliver, without_input};
 pub use loading::{start_machine, start_regs};
 pub use outcome::{End, Outcome, Refusal};
 pub use programs::{end_of, run_file, run_prg};

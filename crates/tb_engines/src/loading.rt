@@ -3,7 +3,7 @@ ghost use Rattle.std.specs.Prelude.{◌≡◌, ◌+◌, ◌≤◌, length, Match
 ghost use Rattle.tb_memmap.specs.Bytes.{IsOpenRange};
 ghost use Rattle.tb_engines.specs.Programs.{start_regs, start_memory, start, IsUnloadable};
 
-use crate::delivery::Stop;
+use crate::delivery::NoText;
 use crate::outcome::Refusal;
 use std::alloc::Global;
 use tb_cpu::{Flags, Regs};
@@ -35,7 +35,7 @@ pub fn start_regs(at: u16) -> Regs
 }
 
 // The memory at the start.
-fn start_memory(alloc: Global, program: Loaded<'_>) -> Result<Memory, Stop>
+fn start_memory(alloc: Global, program: Loaded<'_>) -> Result<Memory, NoText>
     requires { program.at + length program.bytes.now ≤ 65536 }
     ensures { MatchResult result
         (λ m. IsOpenRange program.entry.at (length program.entry.bytes.now)
@@ -43,12 +43,12 @@ fn start_memory(alloc: Global, program: Loaded<'_>) -> Result<Memory, Stop>
         (IsUnloadable program.entry.at program.entry.bytes.now) }
 {
     let Ok(mut memory) = Memory::new(alloc) else {
-        return Err(Stop::NoMemory);
+        return Err(NoText::NoMemory);
     };
     match memory.load(program.at, program.bytes) {
         Ok(()) => {}
         Err(LoadError::RunsPast) => unreachable!(),
-        Err(LoadError::NotRam) => return Err(Stop::Refused(Refusal::NotRam)),
+        Err(LoadError::NotRam) => return Err(NoText::Refused(Refusal::NotRam)),
     }
     match memory.load(RETURN_AT, &RETURN) {
         Ok(()) => Ok(memory),
@@ -61,7 +61,7 @@ pub fn start_machine(
     alloc: Global,
     program: Loaded<'_>,
     keyboard: Keyboard,
-) -> Result<Machine, Stop>
+) -> Result<Machine, NoText>
     requires { program.at + length program.bytes.now ≤ 65536 }
     ensures { MatchResult result
         (λ m. IsOpenRange program.entry.at (length program.entry.bytes.now)

@@ -6,7 +6,7 @@ ghost use Rattle.tb_engines.specs.Outcomes.{Answers, Faults, MadeFrom};
 ghost use Rattle.tb_engines.specs.Delivery.{Makes};
 ghost use Rattle.tb_engines.specs.Programs.{end_of, RunsAt, RunsPrg};
 
-use crate::delivery::{Stop, Text, deliver, without_input};
+use crate::delivery::{NoText, Text, deliver, without_input};
 use crate::loading::start_machine;
 use crate::outcome::{End, Outcome, Refusal};
 use std::alloc::Global;
@@ -34,19 +34,19 @@ fn run_program<O: Outside>(
     keyboard: Keyboard,
     limit: u64,
     outside: &mut O,
-) -> Result<Text, Stop>
+) -> Result<Text, NoText>
     requires { program.at + length program.bytes.now ≤ 65536 }
     ensures { Makes (RunsAt O.gives outside.old program.entry.at program.entry.bytes.now
         keyboard.text.items keyboard.answers.items limit) result }
 {
     let mut machine = start_machine(alloc, program, keyboard)?;
     let Ok(status) = run(&mut machine, outside, limit) else {
-        return Err(Stop::NoMemory);
+        return Err(NoText::NoMemory);
     };
     let end = end_of(status, machine.regs().pc);
     match host_form(alloc, machine.sent()) {
         Ok(bytes) => Ok(Text { bytes, end }),
-        Err(_) => Err(Stop::NoMemory),
+        Err(_) => Err(NoText::NoMemory),
     }
 }
 
@@ -57,13 +57,13 @@ pub fn run_file<O: Outside>(
     keyboard: Keyboard,
     limit: u64,
     outside: &mut O,
-) -> Result<Text, Stop>
+) -> Result<Text, NoText>
     ensures { Makes (RunsPrg O.gives outside.old keyboard.text.items keyboard.answers.items limit
         file.now) result }
 {
     match tb_prg::read(file) {
         Ok(program) => run_program(alloc, program, keyboard, limit, outside),
-        Err(error) => Err(Stop::Refused(Refusal::Prg(error))),
+        Err(error) => Err(NoText::Refused(Refusal::Prg(error))),
     }
 }
 

@@ -1,26 +1,26 @@
 //! Breakpoints and watches.
 ghost use Rattle.std.specs.Prelude.{◌≡◌, not, IfOk, OnOk, OnErr};
-ghost use Rattle.tb_stops.specs.Stops.{Turned, breakpoints_of, watches_of, is_among, breaks, differ};
+ghost use Rattle.tb_debug.specs.Breakpoints.{Turned, breakpoints_of, watches_of, is_among, breaks, differ};
 
 use std::alloc::AllocError;
-use tb_stops::{Stops, Variables};
+use tb_debug::{StopPoints, Variables};
 
-/// `Stops::breaks`.
-pub fn breaks_at(stops: &Stops, line: Option<u16>) -> bool
+/// `StopPoints::breaks`.
+pub fn breaks_at(stops: &StopPoints, line: Option<u16>) -> bool
     ensures { result ≡ breaks (breakpoints_of stops.now) line }
 {
     stops.breaks(line)
 }
 
-/// `Stops::differ`.
-pub fn watched_differ(stops: &Stops, before: &Variables, after: &Variables) -> bool
+/// `StopPoints::differ`.
+pub fn watched_differ(stops: &StopPoints, before: &Variables, after: &Variables) -> bool
     ensures { result ≡ differ (watches_of stops.now) before.now after.now }
 {
     stops.differ(before, after)
 }
 
-/// `Stops::turn_breakpoint`.
-pub fn breakpoint_turned(stops: &mut Stops, line: u16) -> Result<bool, AllocError>
+/// `StopPoints::turn_breakpoint`.
+pub fn breakpoint_turned(stops: &mut StopPoints, line: u16) -> Result<bool, AllocError>
     ensures set { IfOk result (λ set. set ≡ not (is_among (breakpoints_of stops.old) line)) }
     ensures turned { OnOk result (Turned line (breakpoints_of stops.old) (breakpoints_of stops.new)) }
     ensures refused { OnErr result (breakpoints_of stops.new ≡ breakpoints_of stops.old) }

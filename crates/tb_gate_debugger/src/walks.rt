@@ -10,12 +10,12 @@ ghost use Rattle.tb_debug.specs.Leaving.{Leaves};
 ghost use Rattle.tb_debug.specs.declared.searching.Destination.TheVariants as destination;
 ghost use Rattle.tb_debug.specs.Sources.{Debugs, ShowsLine};
 ghost use Rattle.tb_debug.specs.Telling.{Tells};
-ghost use Rattle.tb_debug.specs.declared.beside.Beside.{Beside};
+ghost use Rattle.tb_debug.specs.declared.rom.Rom.{Rom};
 
 use std::alloc::{AllocError, Global};
 use tb_debug::{Answer, Command, Debugger, Reached};
 
-/// `Debugger::go_on`.
+/// `Debugger::continue_`.
 pub fn gone_on(
     debugger: &mut Debugger<'_>,
     alloc: Global,
@@ -26,17 +26,17 @@ pub fn gone_on(
     ensures stands { IfOk result (λ reached. StandsBy debugger.old.starts reached debugger.new.present) }
     ensures stops { OnOk result (debugger.new.stops ≡ debugger.old.stops) }
 {
-    debugger.go_on(alloc, limit)
+    debugger.continue_(alloc, limit)
 }
 
-/// `Debugger::go_back`.
+/// `Debugger::reverse_continue`.
 pub fn gone_back(debugger: &mut Debugger<'_>, alloc: Global) -> Result<Reached, AllocError>
     ensures run { OnOk result (KeepsRun debugger.old debugger.new) }
     ensures stop { IfOk result (λ reached. LeadsBackToNewest debugger.old reached debugger.new.present) }
     ensures stands { IfOk result (λ reached. StandsBy debugger.old.starts reached debugger.new.present) }
     ensures stops { OnOk result (debugger.new.stops ≡ debugger.old.stops) }
 {
-    debugger.go_back(alloc)
+    debugger.reverse_continue(alloc)
 }
 
 /// `Debugger::to_time`.
@@ -65,12 +65,12 @@ pub fn stepped_back(
     ensures stands { IfOk result (λ reached. StandsBy debugger.old.starts reached debugger.new.present) }
     ensures stops { OnOk result (debugger.new.stops ≡ debugger.old.stops) }
 {
-    debugger.back(alloc, lines)
+    debugger.previous(alloc, lines)
 }
 
 /// `Debugger::line_here`.
 pub fn line_begun(debugger: &Debugger<'_>) -> Option<u16>
-    ensures { (source : Program) (seed : ℕ) (start : State) (beside : Beside) → Debugs source seed start beside debugger.now
+    ensures { (source : Program) (seed : ℕ) (start : State) (rom : Rom) → Debugs source seed start rom debugger.now
         → IfSome result (λ line. ShowsLine source seed start debugger.now line) }
 {
     debugger.line_here()

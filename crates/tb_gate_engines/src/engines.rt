@@ -9,12 +9,12 @@ ghost use Rattle.tb_engines.specs.Programs.{RunsPrg};
 
 use std::alloc::Global;
 use std::io::{Read, Write};
-use tb_engines::{Outcome, Stop, Text, deliver, dis_text, run_file};
+use tb_engines::{Outcome, NoText, Text, deliver, dis_text, run_file};
 use tb_kernal::{Keyboard, Outside};
 use tb_streams::Tracked;
 
 /// `deliver`.
-pub fn delivered<W: Write>(writer: &mut Tracked<W>, made: Result<Text, Stop>) -> Outcome
+pub fn delivered<W: Write>(writer: &mut Tracked<W>, made: Result<Text, NoText>) -> Outcome
     ensures answers { Answers (Shows made) result
         (W.contents writer.old.stream) (W.contents writer.new.stream) }
     ensures faults { DeliveryFaults result (failures_of writer.old) (failures_of writer.new) }
@@ -29,7 +29,7 @@ pub fn run_of_file<O: Outside>(
     keyboard: Keyboard,
     limit: u64,
     outside: &mut O,
-) -> Result<Text, Stop>
+) -> Result<Text, NoText>
     ensures { Makes (RunsPrg O.gives outside.old keyboard.text.items keyboard.answers.items limit
         file.now) result }
 {

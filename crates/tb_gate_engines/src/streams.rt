@@ -8,10 +8,10 @@ ghost use Rattle.tb_streams.specs.KeyFiles.{keys_of_file, key_file_of, ReadsKeyF
 
 use std::alloc::{AllocError, Global};
 use std::io::{Read, Write};
-use tb_streams::{Fault, KeyFileError, Tracked, key_file, read_key_file, write_output};
+use tb_streams::{KeyFileError, StreamFailure, Tracked, key_file, read_key_file, write_output};
 
 /// `write_output`.
-pub fn written<W: Write>(writer: &mut Tracked<W>, text: &[u8]) -> Result<(), Fault>
+pub fn written<W: Write>(writer: &mut Tracked<W>, text: &[u8]) -> Result<(), StreamFailure>
     ensures whole { OnOk result (Appends (W.contents writer.old.stream) (W.contents writer.new.stream)
         text.now) }
     ensures prefix { OnErr result (AppendsPrefix (W.contents writer.old.stream)
@@ -22,7 +22,7 @@ pub fn written<W: Write>(writer: &mut Tracked<W>, text: &[u8]) -> Result<(), Fau
 }
 
 /// `Tracked::pull`.
-pub fn pulled<R: Read>(reader: &mut Tracked<R>, buf: &mut [u8]) -> Result<usize, Fault>
+pub fn pulled<R: Read>(reader: &mut Tracked<R>, buf: &mut [u8]) -> Result<usize, StreamFailure>
     ensures bound { ReadsAtMost result buf.new }
     ensures bytes { ReadConsumes (R.remaining reader.old.stream) (R.remaining reader.new.stream) result
         buf.new }

@@ -1,7 +1,7 @@
 //! Sources as programs.
 ghost use Rattle.std.specs.Prelude.{◌≡◌, ◌<◌, ℕ, Option, Result, IfOk, [], length};
-ghost use Rattle.tb_syntax.specs.Source.{Command, Expression};
-ghost use Rattle.tb_syntax.specs.PlainData.{command_of, expression_of, lines_of};
+ghost use Rattle.tb_syntax.specs.Source.{Statement as SourceStatement, Expression};
+ghost use Rattle.tb_syntax.specs.PlainData.{statement_of, expression_of, lines_of};
 ghost use Rattle.tb_grammar.specs.Grammar.{Whole, Reads};
 ghost use Rattle.tb_grammar.specs.Statements.{States};
 ghost use Rattle.tb_grammar.specs.ReadValues as shown;
@@ -13,7 +13,7 @@ ghost use Rattle.tb_parser.specs.Readings.{ExpressionIs};
 ghost use Rattle.tb_parser.specs.Tokens.{AreTokens};
 
 use std::alloc::{AllocError, Global};
-use tb_grammar::{Keyword, ReadExpression, ReadStatement, Stop, read_expression, read_statement};
+use tb_grammar::{Keyword, ReadExpression, ReadStatement, ReadError, read_expression, read_statement};
 use tb_parser::{Expr, Program, SourceError, Token, parse, parse_expr, tokens};
 
 /// `Keyword::spelling`.
@@ -25,15 +25,15 @@ pub fn spelling_of(keyword: Keyword) -> &'static str
 }
 
 /// `read_statement`.
-pub fn statement_of(alloc: Global, text: &[u8]) -> Result<ReadStatement, Stop>
-    ensures found { IfOk result (λ r. States text.now (command_of r.statement) r.large) }
-    ensures only { (s : Command) (large : Option ℕ) → States text.now s large → shown.Answers result (λ r. (command_of r.statement ≡ s) × (r.large ≡ large)) }
+pub fn statement_of(alloc: Global, text: &[u8]) -> Result<ReadStatement, ReadError>
+    ensures found { IfOk result (λ r. States text.now (statement_of r.statement) r.large) }
+    ensures only { (s : SourceStatement) (large : Option ℕ) → States text.now s large → shown.Answers result (λ r. (statement_of r.statement ≡ s) × (r.large ≡ large)) }
 {
     read_statement(alloc, text)
 }
 
 /// `read_expression`.
-pub fn expression_of(alloc: Global, text: &[u8]) -> Result<ReadExpression, Stop>
+pub fn expression_of(alloc: Global, text: &[u8]) -> Result<ReadExpression, ReadError>
     ensures found { IfOk result (λ r. Reads Whole text.now (expression_of r.expr) r.large []) }
     ensures only { (e : Expression) (large : Option ℕ) → Reads Whole text.now e large [] → shown.Answers result (λ r. (expression_of r.expr ≡ e) × (r.large ≡ large)) }
 {

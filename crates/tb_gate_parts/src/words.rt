@@ -4,7 +4,7 @@ ghost use Rattle.tb_words.specs.Signed.{wrapped, IsDivision, Holds};
 ghost use Rattle.tb_words.specs.Words.{word_of, negated, quotient};
 ghost use Rattle.tb_words.specs.Words.{holds as holds_on};
 ghost use Rattle.tb_words.specs.Hexadecimal.{four_digits};
-ghost use Rattle.tb_words.specs.Letters.{place, Spells};
+ghost use Rattle.tb_words.specs.Letters.{letter_index, Spells};
 
 use tb_words::{Letter, Rel, div_rem, hex_digits, holds, neg};
 
@@ -37,7 +37,7 @@ pub fn are_related(rel: Rel, a: i16, b: i16) -> bool
 /// `Letter::read`.
 pub fn letter_of(byte: u8) -> Option<Letter>
     ensures { MatchOption result ((n : ℕ) → n < 26 → ¬ (Spells byte n))
-        (λ letter. Spells byte (place letter)) }
+        (λ letter. Spells byte (letter_index letter)) }
 {
     Letter::read(byte)
 }

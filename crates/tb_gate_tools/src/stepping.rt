@@ -57,7 +57,7 @@ pub fn gone_to_line<O: Outside + Drop>(
 }
 
 /// `read_command`.
-pub fn command_of(line: &[u8]) -> Command<'_>
+pub fn statement_of(line: &[u8]) -> Command<'_>
     ensures { asked_of result ≡ asked_in line.now }
 {
     read_command(line)

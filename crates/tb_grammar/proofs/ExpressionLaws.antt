@@ -4,8 +4,8 @@ use Rattle.std.specs.Prelude.{IfOk}
 use Rattle.tb_syntax.specs.Source.{Expression}
 use Rattle.tb_syntax.specs.PlainData.{expression_of}
 use Rattle.tb_grammar.specs.declared.expressions.ReadExpression.{ReadExpression}
-use Rattle.tb_grammar.specs.declared.stop.Stop.{Stop}
-use Rattle.tb_grammar.specs.declared.stop.Stop.TheVariants as stop
+use Rattle.tb_grammar.specs.declared.read_error.ReadError.{ReadError}
+use Rattle.tb_grammar.specs.declared.read_error.ReadError.TheVariants as stop
 use Rattle.tb_grammar.specs.Grammar.{Whole, Reads, ExpressionsAreUnique}
 use Rattle.tb_grammar.specs.Reading.{Found, at_end, ended, front_of, expression_in}
 use Rattle.tb_grammar.specs.ReadValues.{whole_seen, Gives, Answers}
@@ -29,14 +29,14 @@ pub expression_read : (text : List ℕ) (e : Expression) (large : Option ℕ) �
 unfolding expression_in
 expression_read text e large r = rw (front_read text e large [] r nothing_follows) refl
 
-pub is_found : (text : List ℕ) (r : Result ReadExpression Stop) → Gives whole_seen r (expression_in text) → IfOk r (λ r. Reads Whole text (expression_of r.expr) r.large [])
+pub is_found : (text : List ℕ) (r : Result ReadExpression ReadError) → Gives whole_seen r (expression_in text) → IfOk r (λ r. Reads Whole text (expression_of r.expr) r.large [])
 is_found text (Err e) h = tt
 is_found text (Ok p) h = expression_is text (whole_seen p) h
 
 same_parts : (f g : Found) → Some f ≡ Some g → (f.tree ≡ g.tree) × (f.large ≡ g.large)
 same_parts f g e = let s = some_is f g e in (ap (λ (f : Found). f.tree) s, ap (λ (f : Found). f.large) s)
 
-pub is_only : (text : List ℕ) (r : Result ReadExpression Stop) → Gives whole_seen r (expression_in text) → (e : Expression) (large : Option ℕ) → Reads Whole text e large []
+pub is_only : (text : List ℕ) (r : Result ReadExpression ReadError) → Gives whole_seen r (expression_in text) → (e : Expression) (large : Option ℕ) → Reads Whole text e large []
     → Answers r (λ r. (expression_of r.expr ≡ e) × (r.large ≡ large))
 is_only text (Ok p) h e large r = same_parts (whole_seen p) (record { tree = e; large = large; rest = [] }) (sym h ∙ expression_read text e large r)
 is_only text (Err stop.NoMemory) h e large r = tt

@@ -3,7 +3,7 @@ use Rattle.std.proofs.Common.{◌≡◌, ℕ, zero, suc, ◌<◌, ◌≤◌, Boo
 use Rattle.std.specs.Option.{option_or}
 use Rattle.std.proofs.lemmas.Bool.{eqb-true}
 use Rattle.std.proofs.lemmas.List.{map-append}
-use Rattle.tb_words.specs.Letters.{place}
+use Rattle.tb_words.specs.Letters.{letter_index}
 use Rattle.tb_words.specs.declared.Letter.{Letter}
 use Rattle.tb_syntax.specs.declared.statements.PrintItem.{PrintItem}
 use Rattle.tb_syntax.specs.PlainData.{item_of, letters_of}
@@ -113,14 +113,14 @@ module _ (k : ℕ) (letters rest : List ℕ) (v : ℕ) (others : List ℕ) (fits
 pub item_pushed : (old new : List PrintItem) (x : PrintItem) → new ≡ old ++ x ∷ [] → map item_of new ≡ map item_of old ++ item_of x ∷ []
 item_pushed old new x e = ap (map item_of) e ∙ map-append item_of old (x ∷ [])
 
-pub letter_pushed : (old new : List Letter) (x : Letter) → new ≡ old ++ x ∷ [] → letters_of new ≡ letters_of old ++ place x ∷ []
-letter_pushed old new x e = ap letters_of e ∙ map-append place old (x ∷ [])
+pub letter_pushed : (old new : List Letter) (x : Letter) → new ≡ old ++ x ∷ [] → letters_of new ≡ letters_of old ++ letter_index x ∷ []
+letter_pushed old new x e = ap letters_of e ∙ map-append letter_index old (x ∷ [])
 
 pub no_letter : (k : ℕ) (letters rest : List ℕ) → letter_at rest ≡ None → letters_behind k letters rest ≡ None
 no_letter zero letters rest e = refl
 no_letter (suc k) letters rest e = rw e refl
 
-pub input_is : (text letters : List ℕ) → letters_at (length text) text ≡ Some letters → input_at text ≡ Some (record { command = Input letters; large = None })
+pub input_is : (text letters : List ℕ) → letters_at (length text) text ≡ Some letters → input_at text ≡ Some (record { statement = Input letters; large = None })
 unfolding input_at
 input_is text letters e = rw e refl
 

@@ -4,7 +4,7 @@ use Rattle.std.specs.Option.{option_or}
 use Rattle.std.specs.Prelude.{codes}
 use Rattle.std.proofs.lemmas.Bool.{cases_Bool, ne_eqb}
 use Rattle.tb_words.specs.declared.Rel.{Rel}
-use Rattle.tb_syntax.specs.Source.{Expression, Item, Command, Let, Print, Input, If, Goto, Gosub, Return, End, Remark}
+use Rattle.tb_syntax.specs.Source.{Expression, Item, Statement, Let, Print, Input, If, Goto, Gosub, Return, End, Remark}
 use Rattle.tb_grammar.specs.Grammar.{IsLetter, Whole, Term, Reads}
 use Rattle.tb_grammar.specs.Reading.{starts_digit, behind_word, operator_at, front_of}
 use Rattle.tb_grammar.specs.Statements.{MayThen, bare, then, Prints, Variables, States, let_assign, assign, print, short_print, input, conditional, goto, gosub, return, end, remark}
@@ -30,7 +30,7 @@ assign_no_random v text = elim (cases_Bool (v == 78)) [ inl h ↦ rw h refl | in
 assign_no_then : (v : ℕ) (text : List ℕ) → behind_word (codes "THEN") (v ∷ 61 ∷ text) ≡ None
 assign_no_then v text = elim (cases_Bool (v == 84)) [ inl h ↦ rw h refl | inr h ↦ rw h refl ]
 
-statement_starts : {text : List ℕ} {s : Command} {large : Option ℕ} → States text s large → Starts text
+statement_starts : {text : List ℕ} {s : Statement} {large : Option ℕ} → States text s large → Starts text
 statement_starts (assign v text e large h r) =
     word_starts (letter_no_digit v h) (assign_no_random v text) (rw (ne_eqb v 42 (omega arith), ne_eqb v 47 (omega arith)) refl) (rw (ne_eqb v 43 (omega arith), ne_eqb v 45 (omega arith)) refl) (assign_no_then v text)
 statement_starts (let_assign v text e large h r) = word_starts refl refl refl refl refl
@@ -56,22 +56,22 @@ then_read : {text body : List ℕ} → MayThen text body → behind_word (codes 
 then_read (bare text) e = rw e refl
 then_read (then text) e = refl
 
-made_read : (command : Expression → Command) (text : List ℕ) (e : Expression) (large : Option ℕ) → Reads Whole text e large [] → made command text ≡ Some (record { command = command e; large = large })
+made_read : (statement : Expression → Statement) (text : List ℕ) (e : Expression) (large : Option ℕ) → Reads Whole text e large [] → made statement text ≡ Some (record { statement = statement e; large = large })
 unfolding made
-made_read command text e large r = rw (expression_read text e large r) refl
+made_read statement text e large r = rw (expression_read text e large r) refl
 
-print_read : (text : List ℕ) (items : List Item) (ends_line : Bool) (large : Option ℕ) → Prints true text items ends_line large → print_at text ≡ Some (record { command = Print items ends_line; large = large })
+print_read : (text : List ℕ) (items : List Item) (ends_line : Bool) (large : Option ℕ) → Prints true text items ends_line large → print_at text ≡ Some (record { statement = Print items ends_line; large = large })
 unfolding print_at
 print_read text items ends_line large p = rw (items_read p (length text) (omega arith)) refl
 
-input_read : (text letters : List ℕ) → Variables text letters → input_at text ≡ Some (record { command = Input letters; large = None })
+input_read : (text letters : List ℕ) → Variables text letters → input_at text ≡ Some (record { statement = Input letters; large = None })
 unfolding input_at
 input_read text letters v = rw (letters_read v (length text) (omega arith)) refl
 
-conditional_read : (reader : List ℕ → Option Told) (text : List ℕ) (a : Expression) (la : Option ℕ) (rest : List ℕ) (rel : Rel) (middle : List ℕ) (b : Expression) (lb : Option ℕ) (after body : List ℕ) (s : Command) (ls : Option ℕ)
+conditional_read : (reader : List ℕ → Option Told) (text : List ℕ) (a : Expression) (la : Option ℕ) (rest : List ℕ) (rel : Rel) (middle : List ℕ) (b : Expression) (lb : Option ℕ) (after body : List ℕ) (s : Statement) (ls : Option ℕ)
     → front_of text ≡ Some (record { tree = a; large = la; rest = rest }) → relation_at rest ≡ Some (rel, middle) → front_of middle ≡ Some (record { tree = b; large = lb; rest = after })
-    → behind_then after ≡ body → reader body ≡ Some (record { command = s; large = ls })
-    → conditional_by reader text ≡ Some (record { command = If a rel b s; large = option_or la (option_or lb ls) })
+    → behind_then after ≡ body → reader body ≡ Some (record { statement = s; large = ls })
+    → conditional_by reader text ≡ Some (record { statement = If a rel b s; large = option_or la (option_or lb ls) })
 unfolding conditional_by
 conditional_read reader text a la rest rel middle b lb after body s ls ea er eb et es = rw (ea, er, eb, et, es) refl
 
@@ -109,19 +109,19 @@ gosub_first : (n : ℕ) (text : List ℕ) → statement_at (suc n) (codes "GOSUB
 unfolding statement_at keyword_at behind_keyword target_at
 gosub_first n text = refl
 
-return_first : (n : ℕ) → statement_at (suc n) (codes "RETURN") ≡ Some (record { command = Return; large = None })
+return_first : (n : ℕ) → statement_at (suc n) (codes "RETURN") ≡ Some (record { statement = Return; large = None })
 unfolding statement_at keyword_at behind_keyword target_at
 return_first n = refl
 
-end_first : (n : ℕ) → statement_at (suc n) (codes "END") ≡ Some (record { command = End; large = None })
+end_first : (n : ℕ) → statement_at (suc n) (codes "END") ≡ Some (record { statement = End; large = None })
 unfolding statement_at keyword_at behind_keyword target_at
 end_first n = refl
 
-remark_first : (n : ℕ) (any : List ℕ) → statement_at (suc n) (codes "REM" ++ any) ≡ Some (record { command = Remark; large = None })
+remark_first : (n : ℕ) (any : List ℕ) → statement_at (suc n) (codes "REM" ++ any) ≡ Some (record { statement = Remark; large = None })
 unfolding statement_at keyword_at behind_keyword target_at
 remark_first n any = refl
 
-complete_statement : {text : List ℕ} {s : Command} {large : Option ℕ} → States text s large → (n : ℕ) → length text ≤ n → statement_at (suc n) text ≡ Some (record { command = s; large = large })
+complete_statement : {text : List ℕ} {s : Statement} {large : Option ℕ} → States text s large → (n : ℕ) → length text ≤ n → statement_at (suc n) text ≡ Some (record { statement = s; large = large })
 complete_statement (let_assign v text e large h r) n le = let_first n v text h ∙ made_read (Let (v - 65)) text e large r
 complete_statement (assign v text e large h r) n le = assign_first n v text h ∙ made_read (Let (v - 65)) text e large r
 complete_statement (print text items ends_line large p) n le = print_first n text ∙ print_read text items ends_line large p
@@ -146,5 +146,5 @@ complete_statement return n le = return_first n
 complete_statement end n le = end_first n
 complete_statement (remark any) n le = remark_first n any
 
-pub statement_read : (text : List ℕ) (s : Command) (large : Option ℕ) → States text s large → statement_at (length text + 1) text ≡ Some (record { command = s; large = large })
+pub statement_read : (text : List ℕ) (s : Statement) (large : Option ℕ) → States text s large → statement_at (length text + 1) text ≡ Some (record { statement = s; large = large })
 statement_read text s large r = let n : length text + 1 ≡ suc (length text) = omega arith in rw n (complete_statement r (length text) (omega arith))

@@ -1,11 +1,11 @@
 -- The two laws of reading a statement.
 use Rattle.std.proofs.Common.{◌≡◌, ℕ, ◌+◌, List, length, Option, Some, None, Result, Ok, Err, sym, ap, ◌∙◌}
 use Rattle.std.specs.Prelude.{IfOk}
-use Rattle.tb_syntax.specs.Source.{Command}
-use Rattle.tb_syntax.specs.PlainData.{command_of}
+use Rattle.tb_syntax.specs.Source.{Statement}
+use Rattle.tb_syntax.specs.PlainData.{statement_of}
 use Rattle.tb_grammar.specs.declared.statements.ReadStatement.{ReadStatement}
-use Rattle.tb_grammar.specs.declared.stop.Stop.{Stop}
-use Rattle.tb_grammar.specs.declared.stop.Stop.TheVariants as stop
+use Rattle.tb_grammar.specs.declared.read_error.ReadError.{ReadError}
+use Rattle.tb_grammar.specs.declared.read_error.ReadError.TheVariants as stop
 use Rattle.tb_grammar.specs.ReadValues.{told, Gives, Answers}
 use Rattle.tb_grammar.specs.Statements.{States, StatementsAreUnique}
 use Rattle.tb_grammar.specs.StatementReading.{Told, statement_in}
@@ -13,22 +13,22 @@ use Rattle.tb_grammar.proofs.Steps.{some_is}
 use Rattle.tb_grammar.proofs.StatementSound.{statement_is}
 use Rattle.tb_grammar.proofs.StatementComplete.{statement_read}
 
-pub is_found : (text : List ℕ) (r : Result ReadStatement Stop) → Gives told r (statement_in text) → IfOk r (λ r. States text (command_of r.statement) r.large)
+pub is_found : (text : List ℕ) (r : Result ReadStatement ReadError) → Gives told r (statement_in text) → IfOk r (λ r. States text (statement_of r.statement) r.large)
 unfolding statement_in
 is_found text (Err e) h = tt
 is_found text (Ok r) h = statement_is (length text + 1) text (told r) h
 
-same_parts : (s t : Told) → Some s ≡ Some t → (s.command ≡ t.command) × (s.large ≡ t.large)
-same_parts s t e = let same = some_is s t e in (ap (λ (t : Told). t.command) same, ap (λ (t : Told). t.large) same)
+same_parts : (s t : Told) → Some s ≡ Some t → (s.statement ≡ t.statement) × (s.large ≡ t.large)
+same_parts s t e = let same = some_is s t e in (ap (λ (t : Told). t.statement) same, ap (λ (t : Told). t.large) same)
 
-pub is_only : (text : List ℕ) (r : Result ReadStatement Stop) → Gives told r (statement_in text) → (s : Command) (large : Option ℕ) → States text s large
-    → Answers r (λ r. (command_of r.statement ≡ s) × (r.large ≡ large))
+pub is_only : (text : List ℕ) (r : Result ReadStatement ReadError) → Gives told r (statement_in text) → (s : Statement) (large : Option ℕ) → States text s large
+    → Answers r (λ r. (statement_of r.statement ≡ s) × (r.large ≡ large))
 unfolding statement_in
-is_only text (Ok r) h s large p = same_parts (told r) (record { command = s; large = large }) (sym h ∙ statement_read text s large p)
+is_only text (Ok r) h s large p = same_parts (told r) (record { statement = s; large = large }) (sym h ∙ statement_read text s large p)
 is_only text (Err stop.NoMemory) h s large p = tt
 is_only text (Err (stop.NoReading left)) h s large p =
-    let same : None ≡ Some (let t : Told = record { command = s; large = large } in t) = sym h ∙ statement_read text s large p in
+    let same : None ≡ Some (let t : Told = record { statement = s; large = large } in t) = sym h ∙ statement_read text s large p in
     absurd cc
 
 pub unique : StatementsAreUnique
-unique text s t ls lt p q = same_parts (record { command = s; large = ls }) (record { command = t; large = lt }) (sym (statement_read text s ls p) ∙ statement_read text t lt q)
+unique text s t ls lt p q = same_parts (record { statement = s; large = ls }) (record { statement = t; large = lt }) (sym (statement_read text s ls p) ∙ statement_read text t lt q)

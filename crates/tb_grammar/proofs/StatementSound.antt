@@ -3,7 +3,7 @@ use Rattle.std.proofs.Common.{◌≡◌, ℕ, zero, suc, ◌-◌, List, [], ◌�
 use Rattle.std.specs.Option.{option_or}
 use Rattle.std.proofs.lemmas.List.{append-nil}
 use Rattle.std.specs.Prelude.{codes}
-use Rattle.tb_syntax.specs.Source.{Expression, Command, Let, Print, Input, If, Goto, Gosub, Return, End, Remark}
+use Rattle.tb_syntax.specs.Source.{Expression, Statement, Let, Print, Input, If, Goto, Gosub, Return, End, Remark}
 use Rattle.tb_grammar.specs.declared.keywords.Keyword.{Keyword}
 use Rattle.tb_grammar.specs.declared.keywords.Keyword.TheVariants as keyword
 use Rattle.tb_grammar.specs.Grammar.{IsLetter, Whole, Reads}
@@ -17,7 +17,7 @@ use Rattle.tb_grammar.proofs.Relations.{relation_is}
 use Rattle.tb_grammar.proofs.Lists.{items_is, letters_is}
 
 abbrev pub IsTold : List ℕ → Told → Type 0
-IsTold text t = States text t.command t.large
+IsTold text t = States text t.statement t.large
 
 target_is : (text : List ℕ) (p : ℕ × List ℕ) → target_at text ≡ Some p → (v : ℕ) × IsLetter v × (text ≡ v ∷ 61 ∷ p.1) × (p.0 ≡ v - 65)
 unfolding target_at
@@ -29,30 +29,30 @@ target_is text p e =
     (l.0, l.1, l.2 ∙ ap (λ (t : List ℕ). l.0 ∷ t) (behind_is 61 a.0.1 b.0 b.1) ∙ ap (λ (q : ℕ × List ℕ). l.0 ∷ 61 ∷ q.1) same, sym (ap (λ (q : ℕ × List ℕ). q.0) same) ∙ l.3)
 
 -- a statement made of one expression
-made_is : (command : Expression → Command) (front text : List ℕ) → ((e : Expression) (large : Option ℕ) → Reads Whole text e large [] → States front (command e) large)
-    → (t : Told) → made command text ≡ Some t → IsTold front t
+made_is : (statement : Expression → Statement) (front text : List ℕ) → ((e : Expression) (large : Option ℕ) → Reads Whole text e large [] → States front (statement e) large)
+    → (t : Told) → made statement text ≡ Some t → IsTold front t
 unfolding made
-made_is command front text is t e =
-    let a = bind_some (expression_in text) (λ f. Some (record { command = command f.tree; large = f.large })) t e in
-    subst (IsTold front) (some_is (record { command = command a.0.tree; large = a.0.large }) t a.2) (is a.0.tree a.0.large (expression_is text a.0 a.1))
+made_is statement front text is t e =
+    let a = bind_some (expression_in text) (λ f. Some (record { statement = statement f.tree; large = f.large })) t e in
+    subst (IsTold front) (some_is (record { statement = statement a.0.tree; large = a.0.large }) t a.2) (is a.0.tree a.0.large (expression_is text a.0 a.1))
 
-alone_is : (command : Command) (front : List ℕ) → States front command None → (text : List ℕ) (t : Told) → alone command text ≡ Some t → IsTold (front ++ text) t
-alone_is command front is [] t e = subst (λ (x : List ℕ). IsTold x t) (sym (append-nil front)) (subst (IsTold front) (some_is (record { command = command; large = None }) t e) is)
-alone_is command front is (b ∷ text) t e = absurd cc
+alone_is : (statement : Statement) (front : List ℕ) → States front statement None → (text : List ℕ) (t : Told) → alone statement text ≡ Some t → IsTold (front ++ text) t
+alone_is statement front is [] t e = subst (λ (x : List ℕ). IsTold x t) (sym (append-nil front)) (subst (IsTold front) (some_is (record { statement = statement; large = None }) t e) is)
+alone_is statement front is (b ∷ text) t e = absurd cc
 
 print_is : (text : List ℕ) (t : Told) → print_at text ≡ Some t → IsTold (codes "PRINT" ++ text) t × IsTold (codes "PR" ++ text) t
 unfolding print_at
 print_is text t e =
-    let a = bind_some (items_at (length text) true text) (λ p. Some (record { command = Print p.items p.ends_line; large = p.large })) t e in
+    let a = bind_some (items_at (length text) true text) (λ p. Some (record { statement = Print p.items p.ends_line; large = p.large })) t e in
     let p = items_is (length text) true text a.0 a.1 in
-    let same : (let t : Told = record { command = Print a.0.items a.0.ends_line; large = a.0.large } in t) ≡ t = some_is (record { command = Print a.0.items a.0.ends_line; large = a.0.large }) t a.2 in
+    let same : (let t : Told = record { statement = Print a.0.items a.0.ends_line; large = a.0.large } in t) ≡ t = some_is (record { statement = Print a.0.items a.0.ends_line; large = a.0.large }) t a.2 in
     (subst (IsTold (codes "PRINT" ++ text)) same (print text a.0.items a.0.ends_line a.0.large p), subst (IsTold (codes "PR" ++ text)) same (short_print text a.0.items a.0.ends_line a.0.large p))
 
 input_is : (text : List ℕ) (t : Told) → input_at text ≡ Some t → IsTold (codes "INPUT" ++ text) t
 unfolding input_at
 input_is text t e =
-    let a = bind_some (letters_at (length text) text) (λ letters. Some (record { command = Input letters; large = None })) t e in
-    subst (IsTold (codes "INPUT" ++ text)) (some_is (record { command = Input a.0; large = None }) t a.2) (input text a.0 (letters_is (length text) text a.0 a.1))
+    let a = bind_some (letters_at (length text) text) (λ letters. Some (record { statement = Input letters; large = None })) t e in
+    subst (IsTold (codes "INPUT" ++ text)) (some_is (record { statement = Input a.0; large = None }) t a.2) (input text a.0 (letters_is (length text) text a.0 a.1))
 
 then_is : (text : List ℕ) → MayThen text (behind_then text)
 then_is text = go (behind_word (codes "THEN") text) refl
@@ -68,14 +68,14 @@ record Tells (reader : List ℕ → Option Told) : Type 0 where
 conditional_is : (reader : List ℕ → Option Told) → Tells reader → (text : List ℕ) (t : Told) → conditional_by reader text ≡ Some t → IsTold (codes "IF" ++ text) t
 unfolding conditional_by
 conditional_is reader tells text t h =
-    let a = bind_some (front_of text) (λ a. relation_at a.rest >>= λ rel. front_of rel.1 >>= λ b. reader (behind_then b.rest) >>= λ s. Some (record { command = If a.tree rel.0 b.tree s.command; large = option_or a.large (option_or b.large s.large) })) t h in
-    let r = bind_some (relation_at a.0.rest) (λ rel. front_of rel.1 >>= λ b. reader (behind_then b.rest) >>= λ s. Some (record { command = If a.0.tree rel.0 b.tree s.command; large = option_or a.0.large (option_or b.large s.large) })) t a.2 in
-    let b = bind_some (front_of r.0.1) (λ b. reader (behind_then b.rest) >>= λ s. Some (record { command = If a.0.tree r.0.0 b.tree s.command; large = option_or a.0.large (option_or b.large s.large) })) t r.2 in
-    let s = bind_some (reader (behind_then b.0.rest)) (λ s. Some (record { command = If a.0.tree r.0.0 b.0.tree s.command; large = option_or a.0.large (option_or b.0.large s.large) })) t b.2 in
-    let made : Told = record { command = If a.0.tree r.0.0 b.0.tree s.0.command; large = option_or a.0.large (option_or b.0.large s.0.large) } in
+    let a = bind_some (front_of text) (λ a. relation_at a.rest >>= λ rel. front_of rel.1 >>= λ b. reader (behind_then b.rest) >>= λ s. Some (record { statement = If a.tree rel.0 b.tree s.statement; large = option_or a.large (option_or b.large s.large) })) t h in
+    let r = bind_some (relation_at a.0.rest) (λ rel. front_of rel.1 >>= λ b. reader (behind_then b.rest) >>= λ s. Some (record { statement = If a.0.tree rel.0 b.tree s.statement; large = option_or a.0.large (option_or b.large s.large) })) t a.2 in
+    let b = bind_some (front_of r.0.1) (λ b. reader (behind_then b.rest) >>= λ s. Some (record { statement = If a.0.tree r.0.0 b.tree s.statement; large = option_or a.0.large (option_or b.large s.large) })) t r.2 in
+    let s = bind_some (reader (behind_then b.0.rest)) (λ s. Some (record { statement = If a.0.tree r.0.0 b.0.tree s.statement; large = option_or a.0.large (option_or b.0.large s.large) })) t b.2 in
+    let made : Told = record { statement = If a.0.tree r.0.0 b.0.tree s.0.statement; large = option_or a.0.large (option_or b.0.large s.0.large) } in
     let same : made ≡ t = some_is made t s.2 in
     subst (IsTold (codes "IF" ++ text)) {x = made} same
-    (conditional text a.0.tree a.0.large a.0.rest r.0.0 r.0.1 b.0.tree b.0.large b.0.rest (behind_then b.0.rest) s.0.command s.0.large
+    (conditional text a.0.tree a.0.large a.0.rest r.0.0 r.0.1 b.0.tree b.0.large b.0.rest (behind_then b.0.rest) s.0.statement s.0.large
     (front_is text a.0 a.1) (relation_is a.0.rest r.0 r.1) (front_is r.0.1 b.0 b.1) (then_is b.0.rest) (tells.by (behind_then b.0.rest) s.0 s.1))
 
 let_is : (rest : List ℕ) (t : Told) → assigned_at rest ≡ Some t → IsTold (codes "LET" ++ rest) t
@@ -97,7 +97,7 @@ behind_keyword_is reader tells keyword.Goto text t e = made_is Goto (codes "GOTO
 behind_keyword_is reader tells keyword.Gosub text t e = made_is Gosub (codes "GOSUB" ++ text) text (gosub text) t e
 behind_keyword_is reader tells keyword.Return text t e = alone_is Return (codes "RETURN") return text t e
 behind_keyword_is reader tells keyword.End text t e = alone_is End (codes "END") end text t e
-behind_keyword_is reader tells keyword.Rem text t e = subst (IsTold (codes "REM" ++ text)) (some_is (record { command = Remark; large = None }) t e) (remark text)
+behind_keyword_is reader tells keyword.Rem text t e = subst (IsTold (codes "REM" ++ text)) (some_is (record { statement = Remark; large = None }) t e) (remark text)
 
 first_word_is : (words : List Keyword) (text : List ℕ) (p : Keyword × List ℕ) → first_word words text ≡ Some p → text ≡ spelled p.0 ++ p.1
 first_word_is [] text p e = absurd cc

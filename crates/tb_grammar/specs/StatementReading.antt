@@ -3,14 +3,14 @@ use Rattle.std.specs.Prelude.{ℕ, zero, suc, ◌+◌, List, [], ◌∷◌, ◌+
 use Rattle.std.specs.Option.{option_or}
 use Rattle.tb_words.specs.declared.Rel.{Rel}
 use Rattle.tb_words.specs.declared.Rel.TheVariants.{Eq, Lt, Gt, Le, Ge, Ne}
-use Rattle.tb_syntax.specs.Source.{Expression, Item, Text, Value, Zone, Command, Let, Print, Input, If, Goto, Gosub, Return, End, Remark}
+use Rattle.tb_syntax.specs.Source.{Expression, Item, Text, Value, Zone, Statement, Let, Print, Input, If, Goto, Gosub, Return, End, Remark}
 use Rattle.tb_grammar.specs.declared.keywords.Keyword.{Keyword}
 use Rattle.tb_grammar.specs.declared.keywords.Keyword.TheVariants as keyword
 use Rattle.tb_grammar.specs.Reading.{◌>>=◌, when, Found, behind, behind_word, letter_at, front_of, expression_in}
 
 -- a statement that was read, and where its first literal above 65,535 begins
 pub record Told : Type 0 where
-  pub command : Command
+  pub statement : Statement
   pub large : Option ℕ
 
 -- a variable with the = behind it
@@ -27,13 +27,13 @@ relation_at text =
     (λ rest. Some (Eq, rest))
 
 -- an expression up to the end, and the statement that it belongs to
-unfoldable pub made : (Expression → Command) → List ℕ → Option Told
-made command text = expression_in text >>= λ f. Some (record { command = command f.tree; large = f.large })
+unfoldable pub made : (Expression → Statement) → List ℕ → Option Told
+made statement text = expression_in text >>= λ f. Some (record { statement = statement f.tree; large = f.large })
 
 -- a statement that nothing may follow
-abbrev pub alone : Command → List ℕ → Option Told
-alone command [] = Some (record { command = command; large = None })
-alone command (b ∷ text) = None
+abbrev pub alone : Statement → List ℕ → Option Told
+alone statement [] = Some (record { statement = statement; large = None })
+alone statement (b ∷ text) = None
 
 -- the bytes of a text up to its second quote, and what is left behind it
 abbrev pub quotation_at : List ℕ → Option (List ℕ × List ℕ)
@@ -89,7 +89,7 @@ items_at (suc k) ends (b ∷ text) = item_at (b ∷ text) >>= λ i. others_by (i
 
 -- PRINT from behind its word on: items up to the end of the text
 unfoldable pub print_at : List ℕ → Option Told
-print_at text = items_at (length text) true text >>= λ p. Some (record { command = Print p.items p.ends_line; large = p.large })
+print_at text = items_at (length text) true text >>= λ p. Some (record { statement = Print p.items p.ends_line; large = p.large })
 
 -- what follows a variable: nothing, or a comma and the variables that others reads
 abbrev pub letters_after : (List ℕ → Option (List ℕ)) → ℕ → List ℕ → Option (List ℕ)
@@ -103,7 +103,7 @@ letters_at (suc k) text = letter_at text >>= λ v. letters_after (letters_at k) 
 
 -- INPUT from behind its word on: one or more variables up to the end of the text
 unfoldable pub input_at : List ℕ → Option Told
-input_at text = letters_at (length text) text >>= λ letters. Some (record { command = Input letters; large = None })
+input_at text = letters_at (length text) text >>= λ letters. Some (record { statement = Input letters; large = None })
 
 -- what is left behind THEN, where it stands there
 abbrev pub behind_then : List ℕ → List ℕ
@@ -116,7 +116,7 @@ conditional_by statement text = do
   rel ← relation_at a.rest
   b ← front_of rel.1
   s ← statement (behind_then b.rest)
-  Some (record { command = If a.tree rel.0 b.tree s.command; large = option_or a.large (option_or b.large s.large) })
+  Some (record { statement = If a.tree rel.0 b.tree s.statement; large = option_or a.large (option_or b.large s.large) })
 
 -- how a first word is spelled
 abbrev pub spelled : Keyword → List ℕ
@@ -159,7 +159,7 @@ behind_keyword statement keyword.Goto text = made Goto text
 behind_keyword statement keyword.Gosub text = made Gosub text
 behind_keyword statement keyword.Return text = alone Return text
 behind_keyword statement keyword.End text = alone End text
-behind_keyword statement keyword.Rem text = Some (record { command = Remark; large = None })
+behind_keyword statement keyword.Rem text = Some (record { statement = Remark; large = None })
 
 -- a statement in which IF is nested less than n deep
 unfoldable pub statement_at : ℕ → List ℕ → Option Told

@@ -3,7 +3,7 @@ use Rattle.std.specs.Prelude.{◌≡◌, ◌≢◌, ℕ, ◌-◌, Bool, true, fa
 use Rattle.std.specs.Option.{option_or}
 use Rattle.tb_words.specs.declared.Rel.{Rel}
 use Rattle.tb_words.specs.declared.Rel.TheVariants.{Eq, Lt, Gt, Le, Ge, Ne}
-use Rattle.tb_syntax.specs.Source.{Expression, Item, Text, Value, Zone, Command, Let, Print, Input, If, Goto, Gosub, Return, End, Remark}
+use Rattle.tb_syntax.specs.Source.{Expression, Item, Text, Value, Zone, Statement, Let, Print, Input, If, Goto, Gosub, Return, End, Remark}
 use Rattle.tb_grammar.specs.Grammar.{IsLetter, Whole, Reads}
 
 -- a relation at the front of a text, and what is left behind it
@@ -46,13 +46,13 @@ pub data Variables : List ℕ → List ℕ → Type 0 where
   more : (v : ℕ) (text letters : List ℕ) → IsLetter v → Variables text letters → Variables (v ∷ 44 ∷ text) ((v - 65) ∷ letters)
 
 -- the whole text is a statement; `large` is the place of the first literal above 65,535
-pub data States : List ℕ → Command → Option ℕ → Type 0 where
+pub data States : List ℕ → Statement → Option ℕ → Type 0 where
   let_assign : (v : ℕ) (text : List ℕ) (e : Expression) (large : Option ℕ) → IsLetter v → Reads Whole text e large [] → States (codes "LET" ++ v ∷ 61 ∷ text) (Let (v - 65) e) large
   assign : (v : ℕ) (text : List ℕ) (e : Expression) (large : Option ℕ) → IsLetter v → Reads Whole text e large [] → States (v ∷ 61 ∷ text) (Let (v - 65) e) large
   print : (text : List ℕ) (items : List Item) (ends_line : Bool) (large : Option ℕ) → Prints true text items ends_line large → States (codes "PRINT" ++ text) (Print items ends_line) large
   short_print : (text : List ℕ) (items : List Item) (ends_line : Bool) (large : Option ℕ) → Prints true text items ends_line large → States (codes "PR" ++ text) (Print items ends_line) large
   input : (text letters : List ℕ) → Variables text letters → States (codes "INPUT" ++ text) (Input letters) None
-  conditional : (text : List ℕ) (a : Expression) (la : Option ℕ) (rest : List ℕ) (rel : Rel) (middle : List ℕ) (b : Expression) (lb : Option ℕ) (after body : List ℕ) (s : Command) (ls : Option ℕ)
+  conditional : (text : List ℕ) (a : Expression) (la : Option ℕ) (rest : List ℕ) (rel : Rel) (middle : List ℕ) (b : Expression) (lb : Option ℕ) (after body : List ℕ) (s : Statement) (ls : Option ℕ)
       → Reads Whole text a la rest → Relates rest rel middle → Reads Whole middle b lb after → MayThen after body → States body s ls
       → States (codes "IF" ++ text) (If a rel b s) (option_or la (option_or lb ls))
   goto : (text : List ℕ) (e : Expression) (large : Option ℕ) → Reads Whole text e large [] → States (codes "GOTO" ++ text) (Goto e) large
@@ -63,4 +63,4 @@ pub data States : List ℕ → Command → Option ℕ → Type 0 where
 
 -- no text is two statements
 abbrev pub StatementsAreUnique : Type 0
-StatementsAreUnique = (text : List ℕ) (s t : Command) (ls lt : Option ℕ) → States text s ls → States text t lt → (s ≡ t) × (ls ≡ lt)
+StatementsAreUnique = (text : List ℕ) (s t : Statement) (ls lt : Option ℕ) → States text s ls → States text t lt → (s ≡ t) × (ls ≡ lt)

@@ -1,13 +1,13 @@
 //! Expressions, read by recursive descent.
 ghost use Rattle.std.specs.Prelude.{◌≡◌, ℕ, false, ◌∷◌, [], ◌+◌, ◌<◌, ◌≤◌, List, length, Option, Some, None, Ok, IfOk, MatchOption, codes};
-ghost use Rattle.tb_words.specs.Letters.{place};
+ghost use Rattle.tb_words.specs.Letters.{letter_index};
 ghost use Rattle.tb_syntax.specs.PlainData.{expression_of};
 ghost use Rattle.tb_syntax.specs.Source.{Expression};
 ghost use Rattle.tb_grammar.specs.Grammar.{Whole, Term, Reads};
 ghost use Rattle.tb_grammar.specs.Reading.{starts_digit, behind, behind_word, literal_at, letter_at, variable_at, factor_at, term_at, whole_at, operator_at, group_by, signed_by, whole_by, front_of, expression_in, joined as join};
 ghost use Rattle.tb_grammar.specs.ReadValues.{seen, whole_seen, Gives, Answers};
 
-use crate::stop::{Stop, left_at};
+use crate::read_error::{ReadError, left_at};
 use std::alloc::{AllocError, Global};
 use std::boxed::Box;
 use tb_syntax::{Expr, Operator};
@@ -77,7 +77,7 @@ fn literal(text: &[u8]) -> Front<'_>
 }
 
 pub(crate) fn split_letter(text: &[u8]) -> Option<(Letter, &[u8])>
-    ensures { MatchOption result (letter_at text.now ≡ None) (λ p. letter_at text.now ≡ Some (place p.0, p.1.now)) }
+    ensures { MatchOption result (letter_at text.now ≡ None) (λ p. letter_at text.now ≡ Some (letter_index p.0, p.1.now)) }
 {
     match text {
         [byte, rest @ ..] if byte.is_ascii_uppercase() => Some((Letter::read(*byte)?, rest)),
@@ -86,10 +86,10 @@ pub(crate) fn split_letter(text: &[u8]) -> Option<(Letter, &[u8])>
 }
 
 #[tactic(auto, unfolding(crate::specs::Reading::variable_at))]
-fn variable(text: &[u8]) -> Result<Front<'_>, Stop>
+fn variable(text: &[u8]) -> Result<Front<'_>, ReadError>
     ensures { Gives seen result (variable_at text.now) }
 {
-    let (letter, rest) = split_letter(text).ok_or(Stop::NoReading(left_at(text)))?;
+    let (letter, rest) = split_letter(text).ok_or(ReadError::NoReading(left_at(text)))?;
     Ok(Front {
         expr: Expr::Variable(letter),
         large: None,
@@ -99,12 +99,12 @@ fn variable(text: &[u8]) -> Result<Front<'_>, Stop>
 
 #[cycle(expression)]
 #[tactic(auto, unfolding(crate::specs::Reading::group_by))]
-fn group(alloc: Global, nesting: usize, text: &[u8]) -> Result<Front<'_>, Stop>
+fn group(alloc: Global, nesting: usize, text: &[u8]) -> Result<Front<'_>, ReadError>
     ensures { Gives seen result (group_by (whole_at nesting) text.now) }
 {
-    let inner = behind(b'(', text).ok_or(Stop::NoReading(left_at(text)))?;
+    let inner = behind(b'(', text).ok_or(ReadError::NoReading(left_at(text)))?;
     let found = whole(alloc, nesting, inner)?;
-    let rest = behind(b')', found.rest).ok_or(Stop::NoReading(left_at(found.rest)))?;
+    let rest = behind(b')', found.rest).ok_or(ReadError::NoReading(left_at(found.rest)))?;
     Ok(Front {
         expr: found.expr,
         large: found.large,
@@ -115,7 +115,7 @@ fn group(alloc: Global, nesting: usize, text: &[u8]) -> Result<Front<'_>, Stop>
 // RND is one word wherever an operand may begin, whether a parenthesis follows it or not.
 #[cycle(expression)]
 #[tactic(auto, unfolding(crate::specs::Reading::factor_by))]
-fn factor(alloc: Global, nesting: usize, text: &[u8]) -> Result<Front<'_>, Stop>
+fn factor(alloc: Global, nesting: usize, text: &[u8]) -> Result<Front<'_>, ReadError>
     ensures { Gives seen result (factor_at nesting text.now) }
 {
     if starts_with_digit(text) {
@@ -176,7 +176,7 @@ fn joined<'a>(
 
 #[cycle(expression)]
 #[tactic(auto, unfolding(crate::specs::Reading::term_by))]
-fn term(alloc: Global, nesting: usize, text: &[u8]) -> Result<Front<'_>, Stop>
+fn term(alloc: Global, nesting: usize, text: &[u8]) -> Result<Front<'_>, ReadError>
     ensures { Gives seen result (term_at nesting text.now) }
 {
     let mut found = factor(alloc, nesting, text)?;
@@ -188,7 +188,7 @@ fn term(alloc: Global, nesting: usize, text: &[u8]) -> Result<Front<'_>, Stop>
 }
 
 #[cycle(expression)]
-fn signed(alloc: Global, nesting: usize, text: &[u8]) -> Result<Front<'_>, Stop>
+fn signed(alloc: Global, nesting: usize, text: &[u8]) -> Result<Front<'_>, ReadError>
     ensures { Gives seen result (signed_by (term_at nesting) text.now) }
 {
     match text {
@@ -207,7 +207,7 @@ fn signed(alloc: Global, nesting: usize, text: &[u8]) -> Result<Front<'_>, Stop>
 
 #[cycle(expression)]
 #[tactic(auto, unfolding(crate::specs::Reading::whole_by))]
-fn sum(alloc: Global, nesting: usize, text: &[u8]) -> Result<Front<'_>, Stop>
+fn sum(alloc: Global, nesting: usize, text: &[u8]) -> Result<Front<'_>, ReadError>
     ensures { Gives seen result (whole_by (factor_at nesting) text.now) }
 {
     let mut found = signed(alloc, nesting, text)?;
@@ -221,17 +221,17 @@ fn sum(alloc: Global, nesting: usize, text: &[u8]) -> Result<Front<'_>, Stop>
 // The measure is the nesting: each parenthesis takes a byte, so a text's length is enough.
 #[cycle(expression)]
 #[tactic(auto, unfolding(crate::specs::Reading::whole_at))]
-fn whole(alloc: Global, nesting: usize, text: &[u8]) -> Result<Front<'_>, Stop>
+fn whole(alloc: Global, nesting: usize, text: &[u8]) -> Result<Front<'_>, ReadError>
     ensures { Gives seen result (whole_at nesting text.now) }
 {
     if nesting == 0 {
-        return Err(Stop::NoReading(left_at(text)));
+        return Err(ReadError::NoReading(left_at(text)));
     }
     sum(alloc, nesting - 1, text)
 }
 
 #[tactic(auto, unfolding(crate::specs::Reading::front_of))]
-pub(crate) fn leading(alloc: Global, text: &[u8]) -> Result<Front<'_>, Stop>
+pub(crate) fn leading(alloc: Global, text: &[u8]) -> Result<Front<'_>, ReadError>
     ensures { Gives seen result (front_of text.now) }
 {
     whole(alloc, text.len() + 1, text)
@@ -247,7 +247,7 @@ pub struct ReadExpression {
 }
 
 #[tactic(auto, unfolding(crate::specs::Reading::expression_in))]
-pub(crate) fn expression(alloc: Global, text: &[u8]) -> Result<ReadExpression, Stop>
+pub(crate) fn expression(alloc: Global, text: &[u8]) -> Result<ReadExpression, ReadError>
     ensures { Gives whole_seen result (expression_in text.now) }
 {
     let found = leading(alloc, text)?;
@@ -256,12 +256,12 @@ pub(crate) fn expression(alloc: Global, text: &[u8]) -> Result<ReadExpression, S
             expr: found.expr,
             large: found.large,
         }),
-        [_, ..] => Err(Stop::NoReading(left_at(found.rest))),
+        [_, ..] => Err(ReadError::NoReading(left_at(found.rest))),
     }
 }
 
 /// The expression that a squeezed text is (Tiny BASIC User Manual, the grammar of expressions).
-pub fn read_expression(alloc: Global, text: &[u8]) -> Result<ReadExpression, Stop>
+pub fn read_expression(alloc: Global, text: &[u8]) -> Result<ReadExpression, ReadError>
     // What is read is in the grammar.
     ensures found { IfOk result (λ r. Reads Whole text.now (expression_of r.expr) r.large []) }
     // What is in the grammar is read, unless memory runs out.

@@ -5,7 +5,7 @@ ghost use Rattle.tb_grammar.specs.ReadValues.{item_seen, told, Gives};
 
 use crate::expressions::{behind, leading, split_letter};
 use crate::statements::ReadStatement;
-use crate::stop::{Stop, left_at};
+use crate::read_error::{ReadError, left_at};
 use std::alloc::Global;
 use tb_syntax::{PrintItem, Statement};
 
@@ -18,7 +18,7 @@ pub(crate) struct FrontItem<'a> {
 }
 
 // A text behind its first quote.
-fn quotation(alloc: Global, inside: &[u8]) -> Result<FrontItem<'_>, Stop>
+fn quotation(alloc: Global, inside: &[u8]) -> Result<FrontItem<'_>, ReadError>
     ensures { Gives item_seen result (text_item_at inside.now) }
 {
     let mut bytes = Vec::new(alloc);
@@ -34,11 +34,11 @@ fn quotation(alloc: Global, inside: &[u8]) -> Result<FrontItem<'_>, Stop>
         bytes.push(*byte)?;
         rest = tail;
     }
-    Err(Stop::NoReading(0))
+    Err(ReadError::NoReading(0))
 }
 
 #[tactic(auto, unfolding(crate::specs::StatementReading::item_at))]
-fn item(alloc: Global, text: &[u8]) -> Result<FrontItem<'_>, Stop>
+fn item(alloc: Global, text: &[u8]) -> Result<FrontItem<'_>, ReadError>
     ensures { Gives item_seen result (item_at text.now) }
 {
     match text {
@@ -56,7 +56,7 @@ fn item(alloc: Global, text: &[u8]) -> Result<FrontItem<'_>, Stop>
 
 /// PRINT behind its word.
 #[tactic(auto, unfolding(crate::specs::StatementReading::print_at))]
-pub(crate) fn print(alloc: Global, text: &[u8]) -> Result<ReadStatement, Stop>
+pub(crate) fn print(alloc: Global, text: &[u8]) -> Result<ReadStatement, ReadError>
     ensures { Gives told result (print_at text.now) }
 {
     let mut items = Vec::new(alloc);
@@ -76,7 +76,7 @@ pub(crate) fn print(alloc: Global, text: &[u8]) -> Result<ReadStatement, Stop>
         } else if let Some(others) = behind(b';', found.rest) {
             others
         } else {
-            return Err(Stop::NoReading(left_at(found.rest)));
+            return Err(ReadError::NoReading(left_at(found.rest)));
         };
     }
     Ok(ReadStatement {
@@ -96,7 +96,7 @@ pub(crate) fn behind_variable(text: &[u8]) -> &[u8] {
 
 /// INPUT behind its word.
 #[tactic(auto, unfolding(crate::specs::StatementReading::input_at))]
-pub(crate) fn input(alloc: Global, text: &[u8]) -> Result<ReadStatement, Stop>
+pub(crate) fn input(alloc: Global, text: &[u8]) -> Result<ReadStatement, ReadError>
     ensures { Gives told result (input_at text.now) }
 {
     let mut letters = Vec::new(alloc);
@@ -114,5 +114,5 @@ pub(crate) fn input(alloc: Global, text: &[u8]) -> Result<ReadStatement, Stop>
             None => break,
         }
     }
-    Err(Stop::NoReading(left_at(behind_variable(rest))))
+    Err(ReadError::NoReading(left_at(behind_variable(rest))))
 }

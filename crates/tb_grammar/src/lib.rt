@@ -10,10 +10,10 @@ mod items;
 mod keywords;
 mod laws;
 mod statements;
-mod stop;
+mod read_error;
 
 pub use expressions::{ReadExpression, read_expression};
 pub use keywords::{KEYWORDS, Keyword, THEN};
 pub use laws::{expressions_are_unique, statements_are_unique};
 pub use statements::{ReadStatement, read_statement};
-pub use stop::Stop;
+pub use read_error::ReadError;

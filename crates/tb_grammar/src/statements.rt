@@ -1,8 +1,8 @@
 //! Statements, read by their first words.
 ghost use Rattle.std.specs.Prelude.{◌≡◌, ℕ, [], length, Option, Some, None, IfOk, MatchOption};
-ghost use Rattle.tb_words.specs.Letters.{place};
-ghost use Rattle.tb_syntax.specs.Source.{Command, Let, Goto, Gosub};
-ghost use Rattle.tb_syntax.specs.PlainData.{command_of};
+ghost use Rattle.tb_words.specs.Letters.{letter_index};
+ghost use Rattle.tb_syntax.specs.Source.{Statement as SourceStatement, Let, Goto, Gosub};
+ghost use Rattle.tb_syntax.specs.PlainData.{statement_of};
 ghost use Rattle.tb_grammar.specs.ReadValues.{told, Gives, Answers};
 ghost use Rattle.tb_grammar.specs.StatementReading.{target_at, relation_at, made, alone, behind_then, conditional_by, keyword_at, assigned_at, behind_keyword, statement_at, statement_in};
 ghost use Rattle.tb_grammar.specs.Statements.{States};
@@ -10,7 +10,7 @@ ghost use Rattle.tb_grammar.specs.Statements.{States};
 use crate::expressions::{behind, behind_word, expression, leading, split_letter};
 use crate::items::{behind_variable, input, print};
 use crate::keywords::{KEYWORDS, Keyword, THEN};
-use crate::stop::{Stop, left_at};
+use crate::read_error::{ReadError, left_at};
 use std::alloc::Global;
 use std::boxed::Box;
 use tb_syntax::Statement;
@@ -39,7 +39,7 @@ fn split_keyword(text: &[u8]) -> Option<(Keyword, &[u8])>
 
 #[tactic(auto, unfolding(crate::specs::StatementReading::target_at))]
 fn target(text: &[u8]) -> Option<(Letter, &[u8])>
-    ensures { MatchOption result (target_at text.now ≡ None) (λ p. target_at text.now ≡ Some (place p.0, p.1.now)) }
+    ensures { MatchOption result (target_at text.now ≡ None) (λ p. target_at text.now ≡ Some (letter_index p.0, p.1.now)) }
 {
     let (letter, rest) = split_letter(text)?;
     Some((letter, behind(b'=', rest)?))
@@ -62,8 +62,8 @@ fn relation(text: &[u8]) -> Option<(Rel, &[u8])>
 }
 
 #[tactic(auto, unfolding(crate::specs::StatementReading::made))]
-fn assignment(alloc: Global, letter: Letter, text: &[u8]) -> Result<ReadStatement, Stop>
-    ensures { Gives told result (made (Let (place letter)) text.now) }
+fn assignment(alloc: Global, letter: Letter, text: &[u8]) -> Result<ReadStatement, ReadError>
+    ensures { Gives told result (made (Let (letter_index letter)) text.now) }
 {
     let value = expression(alloc, text)?;
     Ok(ReadStatement {
@@ -73,22 +73,22 @@ fn assignment(alloc: Global, letter: Letter, text: &[u8]) -> Result<ReadStatemen
 }
 
 #[tactic(auto, unfolding(crate::specs::StatementReading::assigned_at))]
-fn let_assignment(alloc: Global, text: &[u8]) -> Result<ReadStatement, Stop>
+fn let_assignment(alloc: Global, text: &[u8]) -> Result<ReadStatement, ReadError>
     ensures { Gives told result (assigned_at text.now) }
 {
-    let (letter, value) = target(text).ok_or(Stop::NoReading(left_at(behind_variable(text))))?;
+    let (letter, value) = target(text).ok_or(ReadError::NoReading(left_at(behind_variable(text))))?;
     assignment(alloc, letter, value)
 }
 
-fn alone(statement: Statement, text: &[u8]) -> Result<ReadStatement, Stop>
-    ensures { Gives told result (alone (command_of statement) text.now) }
+fn alone(statement: Statement, text: &[u8]) -> Result<ReadStatement, ReadError>
+    ensures { Gives told result (alone (statement_of statement) text.now) }
 {
     match text {
         [] => Ok(ReadStatement {
             statement,
             large: None,
         }),
-        [_, ..] => Err(Stop::NoReading(left_at(text))),
+        [_, ..] => Err(ReadError::NoReading(left_at(text))),
     }
 }
 
@@ -99,7 +99,7 @@ fn behind_then(text: &[u8]) -> &[u8]
 }
 
 #[tactic(auto, unfolding(crate::specs::StatementReading::made))]
-fn goto(alloc: Global, text: &[u8]) -> Result<ReadStatement, Stop>
+fn goto(alloc: Global, text: &[u8]) -> Result<ReadStatement, ReadError>
     ensures { Gives told result (made Goto text.now) }
 {
     let line = expression(alloc, text)?;
@@ -110,7 +110,7 @@ fn goto(alloc: Global, text: &[u8]) -> Result<ReadStatement, Stop>
 }
 
 #[tactic(auto, unfolding(crate::specs::StatementReading::made))]
-fn gosub(alloc: Global, text: &[u8]) -> Result<ReadStatement, Stop>
+fn gosub(alloc: Global, text: &[u8]) -> Result<ReadStatement, ReadError>
     ensures { Gives told result (made Gosub text.now) }
 {
     let line = expression(alloc, text)?;
@@ -122,11 +122,11 @@ fn gosub(alloc: Global, text: &[u8]) -> Result<ReadStatement, Stop>
 
 #[cycle(statement)]
 #[tactic(auto, unfolding(crate::specs::StatementReading::conditional_by))]
-fn conditional(alloc: Global, nesting: usize, text: &[u8]) -> Result<ReadStatement, Stop>
+fn conditional(alloc: Global, nesting: usize, text: &[u8]) -> Result<ReadStatement, ReadError>
     ensures { Gives told result (conditional_by (statement_at nesting) text.now) }
 {
     let left = leading(alloc, text)?;
-    let (rel, rest) = relation(left.rest).ok_or(Stop::NoReading(left_at(left.rest)))?;
+    let (rel, rest) = relation(left.rest).ok_or(ReadError::NoReading(left_at(left.rest)))?;
     let right = leading(alloc, rest)?;
     let body = statement(alloc, nesting, behind_then(right.rest))?;
     Ok(ReadStatement {
@@ -142,7 +142,7 @@ fn behind_keyword(
     nesting: usize,
     keyword: Keyword,
     text: &[u8],
-) -> Result<ReadStatement, Stop>
+) -> Result<ReadStatement, ReadError>
     ensures { Gives told result (behind_keyword (statement_at nesting) keyword text.now) }
 {
     match keyword {
@@ -164,32 +164,32 @@ fn behind_keyword(
 // The measure is the nesting: each IF takes a byte, so a text's length is enough.
 #[cycle(statement)]
 #[tactic(auto, unfolding(crate::specs::StatementReading::statement_at))]
-fn statement(alloc: Global, nesting: usize, text: &[u8]) -> Result<ReadStatement, Stop>
+fn statement(alloc: Global, nesting: usize, text: &[u8]) -> Result<ReadStatement, ReadError>
     ensures { Gives told result (statement_at nesting text.now) }
 {
     if nesting == 0 {
-        return Err(Stop::NoReading(left_at(text)));
+        return Err(ReadError::NoReading(left_at(text)));
     }
     if let Some((letter, value)) = target(text) {
         return assignment(alloc, letter, value);
     }
-    let (keyword, rest) = split_keyword(text).ok_or(Stop::NoReading(left_at(text)))?;
+    let (keyword, rest) = split_keyword(text).ok_or(ReadError::NoReading(left_at(text)))?;
     behind_keyword(alloc, nesting - 1, keyword, rest)
 }
 
 #[tactic(auto, unfolding(crate::specs::StatementReading::statement_in))]
-fn whole_statement(alloc: Global, text: &[u8]) -> Result<ReadStatement, Stop>
+fn whole_statement(alloc: Global, text: &[u8]) -> Result<ReadStatement, ReadError>
     ensures { Gives told result (statement_in text.now) }
 {
     statement(alloc, text.len() + 1, text)
 }
 
 /// The statement that a squeezed text is (Tiny BASIC User Manual, the grammar of statements).
-pub fn read_statement(alloc: Global, text: &[u8]) -> Result<ReadStatement, Stop>
+pub fn read_statement(alloc: Global, text: &[u8]) -> Result<ReadStatement, ReadError>
     // What is read is in the grammar.
-    ensures found { IfOk result (λ r. States text.now (command_of r.statement) r.large) }
+    ensures found { IfOk result (λ r. States text.now (statement_of r.statement) r.large) }
     // What is in the grammar is read, unless memory runs out.
-    ensures only { (s : Command) (large : Option ℕ) → States text.now s large → Answers result (λ r. (command_of r.statement ≡ s) × (r.large ≡ large)) }
+    ensures only { (s : SourceStatement) (large : Option ℕ) → States text.now s large → Answers result (λ r. (statement_of r.statement ≡ s) × (r.large ≡ large)) }
 {
     whole_statement(alloc, text)
 }

@@ -75,7 +75,7 @@ pub struct Settings {
 
 /// The files that a build writes beside the PRG file, where they are wanted.
 #[derive(Debug, Drop)]
-pub struct Beside {
+pub struct BuildExtras {
     /// The label file.
     pub labels: Option<String>,
     /// The listing.
@@ -94,7 +94,7 @@ pub enum Job {
         /// The first state of RND.
         seed: u16,
         /// The files of the texts that tell of it.
-        beside: Beside,
+        beside: BuildExtras,
     },
     /// Runs a program, and shows what it sends.
     Run {

@@ -5,4 +5,4 @@ mod failure;
 mod jobs;
 
 pub use failure::Failure;
-pub use jobs::{Beside, Job, JobError, Limit, MOST_EVENTS, Runnable, Settings, Typed};
+pub use jobs::{BuildExtras, Job, JobError, Limit, MOST_EVENTS, Runnable, Settings, Typed};

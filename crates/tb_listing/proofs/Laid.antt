@@ -62,7 +62,7 @@ lines_rise labels ns seed a asking (line ∷ lines) fs end h l le =
     let ls = labels_behind labels a fs s.front s.back s.are l in
     let at = stands_at labels (label_of (Line line.number)) in
     let there : at ≡ a = ap (λ o. unwrap_or o 0) (stretch_at labels ns seed a asking own s.front s.of_front ls.0) in
-    let long = stretch_some ns seed line.number asking (lowered.command_code line.content) s.front s.of_front in
+    let long = stretch_some ns seed line.number asking (lowered.statement_code line.content) s.front s.of_front in
     let all = total_size a fs s.front s.back s.are in
     let b = a + forms_size s.front in (
       not_below a at there,

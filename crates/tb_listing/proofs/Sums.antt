@@ -2,7 +2,7 @@
 use Rattle.std.proofs.Common.{◌≡◌, ℕ, ◌+◌, ◌-◌, ◌≤◌, List, [], ◌∷◌, ◌++◌, drop, map, length, get_or, ap, sym, ◌∙◌, arith, sum_by}
 use Rattle.std.proofs.lemmas.List.Sums.{sum_by-append, sum_by-cons}
 use Rattle.tb_syntax.specs.Source.{Program, numbers}
-use Rattle.tb_meaning.specs.Cost.{command_cost, cost}
+use Rattle.tb_meaning.specs.Cost.{statement_cost, cost}
 use Rattle.tb_runtime16.specs.Places.{PROLOGUE_AT, LINES_AT}
 use Rattle.tb_codegen.specs.Compiled.{PlacesRise}
 use Rattle.tb_codegen.specs.Texts.{end_before}
@@ -23,16 +23,16 @@ lines_bytes low table (s ∷ starts) (line ∷ lines) h e =
     let more = lines_bytes (s.1 + 1) table starts lines h.1 (ap (drop 1) e) in
     let behind = ends_behind (s.1 + 1) table starts h.1 in
     let whole : sum_by (λ q. q.bytes) (line_parts (s ∷ starts) table (line ∷ lines)) ≡ end_before table starts - s.1 + sum_by (λ q. q.bytes) (line_parts starts table lines) =
-    sum_by-cons (λ q. q.bytes) (get_or (first_part (s ∷ starts) table line.number (36 + command_cost line.content)) 0 (table_part table 0)) (line_parts starts table lines) in
+    sum_by-cons (λ q. q.bytes) (get_or (first_part (s ∷ starts) table line.number (36 + statement_cost line.content)) 0 (table_part table 0)) (line_parts starts table lines) in
     omega (arith, more, behind, whole)
 
-lines_prices : (table : ℕ) (starts : List (ℕ × ℕ)) (p : Program) → map (λ s. s.0) starts ≡ numbers p → sum_by (λ q. q.price) (line_parts starts table p) ≡ sum_by (λ line. 36 + command_cost line.content) p
+lines_prices : (table : ℕ) (starts : List (ℕ × ℕ)) (p : Program) → map (λ s. s.0) starts ≡ numbers p → sum_by (λ q. q.price) (line_parts starts table p) ≡ sum_by (λ line. 36 + statement_cost line.content) p
 lines_prices table [] [] e = omega arith
 lines_prices table [] (line ∷ lines) e = absurd (let l = ap length e in omega (arith, l))
 lines_prices table (s ∷ starts) [] e = absurd (let l = ap length e in omega (arith, l))
 lines_prices table (s ∷ starts) (line ∷ lines) e =
-    sum_by-cons (λ q. q.price) (get_or (first_part (s ∷ starts) table line.number (36 + command_cost line.content)) 0 (table_part table 0)) (line_parts starts table lines)
-    ∙ ap (λ n. 36 + command_cost line.content + n) (lines_prices table starts lines (ap (drop 1) e)) ∙ sym (sum_by-cons (λ l. 36 + command_cost l.content) line lines)
+    sum_by-cons (λ q. q.price) (get_or (first_part (s ∷ starts) table line.number (36 + statement_cost line.content)) 0 (table_part table 0)) (line_parts starts table lines)
+    ∙ ap (λ n. 36 + statement_cost line.content + n) (lines_prices table starts lines (ap (drop 1) e)) ∙ sym (sum_by-cons (λ l. 36 + statement_cost l.content) line lines)
 
 pub bytes_add_up : (starts : List (ℕ × ℕ)) (table bytes : ℕ) (p : Program) → AreLaid starts table bytes → map (λ s. s.0) starts ≡ numbers p → sum_by (λ q. q.bytes) (parts starts table bytes p) ≡ bytes
 bytes_add_up starts table bytes p h e =
@@ -52,4 +52,4 @@ prices_add_up starts table bytes p e =
     let last : sum_by (λ q. q.price) (table_part table bytes ∷ []) ≡ 0 + 0 = sum_by-cons (λ q. q.price) (table_part table bytes) [] in
     let whole : sum_by (λ q. q.price) (parts starts table bytes p) ≡ 64 + sum_by (λ q. q.price) (line_parts starts table p ++ table_part table bytes ∷ []) =
     sum_by-cons (λ q. q.price) (block_part starts table) (line_parts starts table p ++ table_part table bytes ∷ []) in
-    whole ∙ ap (λ n. 64 + n) (let e : sum_by (λ q. q.price) (line_parts starts table p ++ table_part table bytes ∷ []) ≡ sum_by (λ line. 36 + command_cost line.content) p = omega (arith, lines, both, last) in e)
+    whole ∙ ap (λ n. 64 + n) (let e : sum_by (λ q. q.price) (line_parts starts table p ++ table_part table bytes ∷ []) ≡ sum_by (λ line. 36 + statement_cost line.content) p = omega (arith, lines, both, last) in e)

@@ -3,7 +3,7 @@ use Rattle.std.specs.Prelude.{ℕ, ◌+◌, ◌-◌, ◌/◌, ◌%◌, List, [],
 use Rattle.std.specs.Fmt.{decimal}
 use Rattle.hex.specs.Hex.{encode_upper}
 use Rattle.tb_syntax.specs.Source.{Program}
-use Rattle.tb_meaning.specs.Cost.{command_cost, cost}
+use Rattle.tb_meaning.specs.Cost.{statement_cost, cost}
 use Rattle.tb_runtime16.specs.Places.{PROLOGUE_AT}
 use Rattle.tb_codegen.specs.Compiled.{most}
 use Rattle.tb_codegen.specs.Texts.{end_before}
@@ -24,7 +24,7 @@ first_part (s ∷ starts) table n price = record { name = codes "line " ++ decim
 -- the lines, by where they begin and the line table does
 abbrev pub line_parts : List (ℕ × ℕ) → ℕ → Program → List Part
 line_parts starts table [] = []
-line_parts starts table (line ∷ lines) = first_part starts table line.number (36 + command_cost line.content) ++ line_parts (drop 1 starts) table lines
+line_parts starts table (line ∷ lines) = first_part starts table line.number (36 + statement_cost line.content) ++ line_parts (drop 1 starts) table lines
 
 -- the block, up to the first line, and what every program costs
 abbrev pub block_part : List (ℕ × ℕ) → ℕ → Part

@@ -1,6 +1,6 @@
 pub mod Folded
 pub mod Values
-pub mod Commands
+pub mod Statements
 pub mod Lists
 pub mod Weighed
 pub mod Ranged

@@ -2,20 +2,20 @@
 use Rattle.std.proofs.Common.{◌≡◌, ℕ, zero, suc, ◌+◌, ◌-◌, ◌*◌, ◌≤◌, Bool, true, false, if◌then◌else◌, List, [], ◌∷◌, ◌++◌, length, Option, Some, None, option_map, nat_eq, nat_le, slice_index, refl, sym, ap, ◌∙◌, subst, arith, length-set, zero-add, suc-add, add_assoc, ⊎_elim, leb-true}
 use Rattle.std.proofs.lemmas.Bool.{cases_lt}
 use Rattle.tb_words.specs.Words.{holds}
-use Rattle.tb_syntax.specs.Source.{Command, Numbered, Program, numbers}
+use Rattle.tb_syntax.specs.Source.{Statement, Numbered, Program, numbers}
 use Rattle.tb_meaning.specs.Steps.{and_then, End, Step, Goes, Stops, after_sending, Run, GoesOn, Over, joined, advance, advance_by, sent_by}
 use Rattle.tb_meaning.specs.Control.{Place, At, Past, State, content_at, poll, fall, past}
 use Rattle.tb_meaning.specs.Input.{input}
 use Rattle.tb_meaning.specs.Values.{Valued, Gives, Fails}
 use Rattle.tb_meaning.specs.Meaning.{does, does_at, does_found, line, start}
-use Rattle.tb_lower.specs.Need.{command_need, too_deep}
+use Rattle.tb_lower.specs.Need.{statement_need, too_deep}
 use Rattle.tb_lower.specs.Slots.{Instr, Put, Load, Store, Negate, Compute, Random, SendText, SendNumber, SendZone, SendNewline, Input, Poll, Hold, LeaveUnless, Jump, Call, JumpTo, CallTo, Return, SlotCode, Rest, Whole, Left, Slots, SlotState, After, Stays, Leaves, staying, leaving, with_word, into, act, settled, instr, instr_found, instr_at, slot_step, slot_start, slot_run, begins, begins_in, beginnings}
 use Rattle.tb_lower.specs.Slots as slots
 use Rattle.tb_lower.specs.Lowered.{list_code, program_code}
 use Rattle.tb_lower.specs.Follows.{longest, Meets, Agrees, IsListOf, Follows}
 use Rattle.tb_meaning.proofs.Runs.{joined_after, over_stays, advance_sum, grows}
 use Rattle.tb_lower.proofs.Values.{stay_then, perform}
-use Rattle.tb_lower.proofs.Commands.{polled_runs}
+use Rattle.tb_lower.proofs.Statements.{polled_runs}
 use Rattle.tb_lower.proofs.Weighed.{bounded_list, same_texts}
 
 -- an instruction that stays in the line keeps the number of slots
@@ -73,7 +73,7 @@ numbers_code : (lines : Program) → numbers (program_code lines) ≡ numbers li
 numbers_code [] = refl
 numbers_code (l ∷ lines) = ap (λ ns. l.number ∷ ns) (numbers_code lines)
 
-found_if : (b : Bool) (c : Command) (x : Option Command) → (if b then Some (list_code c) else option_map list_code x) ≡ option_map list_code (if b then Some c else x)
+found_if : (b : Bool) (c : Statement) (x : Option Statement) → (if b then Some (list_code c) else option_map list_code x) ≡ option_map list_code (if b then Some c else x)
 found_if true c x = refl
 found_if false c x = refl
 
@@ -83,22 +83,22 @@ found_code (l ∷ lines) n =
     ap (λ x. if nat_eq l.number n then Some (list_code l.content) else x) (found_code lines n)
     ∙ found_if (nat_eq l.number n) l.content (content_at lines n)
 
--- a command that is found is shallow, and its code is at most so long
-abbrev IsFit : ℕ → Option Command → Type 0
-IsFit size (Some c) = (command_need c ≤ 16) × (length (list_code c) ≤ size)
+-- a statement that is found is shallow, and its code is at most so long
+abbrev IsFit : ℕ → Option Statement → Type 0
+IsFit size (Some c) = (statement_need c ≤ 16) × (length (list_code c) ≤ size)
 IsFit size None = Unit {0}
 
-fit_more : (a b : ℕ) (x : Option Command) → a ≤ b → IsFit a x → IsFit b x
+fit_more : (a b : ℕ) (x : Option Statement) → a ≤ b → IsFit a x → IsFit b x
 fit_more a b (Some c) le h = (h.0, omega (arith, h.1))
 fit_more a b None le h = tt
 
-fit_if : (b : Bool) (size : ℕ) (c : Command) (x : Option Command) → IsFit size (Some c) → IsFit size x → IsFit size (if b then Some c else x)
+fit_if : (b : Bool) (size : ℕ) (c : Statement) (x : Option Statement) → IsFit size (Some c) → IsFit size x → IsFit size (if b then Some c else x)
 fit_if true size c x h k = h
 fit_if false size c x h k = k
 
 pub data IsShallow : Program → Type 0 where
   none : IsShallow []
-  more : {l : Numbered Command} {lines : Program} → command_need l.content ≤ 16 → IsShallow lines → IsShallow (l ∷ lines)
+  more : {l : Numbered Statement} {lines : Program} → statement_need l.content ≤ 16 → IsShallow lines → IsShallow (l ∷ lines)
 
 found_fit : (lines : Program) (n : ℕ) → IsShallow lines → IsFit (longest (program_code lines)) (content_at lines n)
 found_fit [] n h = tt
@@ -153,8 +153,8 @@ meets_sum c m a b passed source r h =
 
 -- the lines of a program, none of which needs more than 16 slots
 module _ (program : Program) (shallow : IsShallow program) where
-  -- a line from its beginning, where its command is x and its list x'
-  found_arrives : (n : ℕ) (s : State) (w : Slots) (out : List ℕ) (x : Option Command) (x' : Option (List Instr)) → x' ≡ option_map list_code x → length w.words ≡ 16 → IsFit (longest (program_code program)) x → Arrives (program_code program) (longest (program_code program)) 1 1 (joined out (does_found (numbers program) n x s)) (joined out (instr_found (numbers (program_code program)) n x' s w))
+  -- a line from its beginning, where its statement is x and its list x'
+  found_arrives : (n : ℕ) (s : State) (w : Slots) (out : List ℕ) (x : Option Statement) (x' : Option (List Instr)) → x' ≡ option_map list_code x → length w.words ≡ 16 → IsFit (longest (program_code program)) x → Arrives (program_code program) (longest (program_code program)) 1 1 (joined out (does_found (numbers program) n x s)) (joined out (instr_found (numbers (program_code program)) n x' s w))
   found_arrives n s w out None x' e len fit =
       subst (λ y. Arrives (program_code program) (longest (program_code program)) 1 1 (joined out (past (numbers program))) (joined out (instr_found (numbers (program_code program)) n y s w))) (sym e)
       record { steps = 0; few = omega arith; meets = (ap (λ ns. joined out (past ns)) (numbers_code program), omega arith) }
@@ -259,7 +259,7 @@ agrees_after c d m b q sooner why out e h =
     let stays : q ≡ Over why out = e ∙ ap (advance_by (slot_step c) d) h.0 ∙ over_stays (slot_step c) d why out in
     subst (λ r. Agrees r (Over why out)) (sym stays) refl
 
-list_of : (x : Option Command) → IsListOf x (option_map list_code x)
+list_of : (x : Option Statement) → IsListOf x (option_map list_code x)
 list_of None = tt
 list_of (Some c) = (bounded_list c, same_texts c)
 
@@ -294,13 +294,13 @@ follows program shallow = record {
         agrees_before c (j - k) k (beginnings c j r) (advance_by (slot_step c) k r) (advance_by (slot_step c) j r) (Over why out) (ap (λ n. advance_by (slot_step c) n r) d ∙ advance_sum (slot_step c) k (j - k) r) h)
         (cases_lt j k)
 
-shallow_if : (b : Bool) (l : Numbered Command) (lines : Program) → nat_le (command_need l.content) 16 ≡ b → ((too_deep lines ≡ None) → IsShallow lines) → (if b then too_deep lines else Some l.number) ≡ None → IsShallow (l ∷ lines)
-shallow_if true l lines e next h = more (leb-true (command_need l.content) 16 e) (next h)
+shallow_if : (b : Bool) (l : Numbered Statement) (lines : Program) → nat_le (statement_need l.content) 16 ≡ b → ((too_deep lines ≡ None) → IsShallow lines) → (if b then too_deep lines else Some l.number) ≡ None → IsShallow (l ∷ lines)
+shallow_if true l lines e next h = more (leb-true (statement_need l.content) 16 e) (next h)
 shallow_if false l lines e next h = absurd cc
 
 pub shallow : (lines : Program) → too_deep lines ≡ None → IsShallow lines
 shallow [] h = none
-shallow (l ∷ lines) h = shallow_if (nat_le (command_need l.content) 16) l lines refl (shallow lines) h
+shallow (l ∷ lines) h = shallow_if (nat_le (statement_need l.content) 16) l lines refl (shallow lines) h
 
 -- a program that is not too deep is followed by its code
 pub lowered : (lines : Program) (code : SlotCode) → too_deep lines ≡ None → code ≡ program_code lines → Follows lines code

@@ -1,14 +1,14 @@
 -- The operands of slot code are in their ranges.
 use Rattle.std.proofs.Common.{◌≡◌, ℕ, ◌+◌, ◌≤◌, ◌<◌, true, false, List, [], ◌∷◌, ◌++◌, Option, Some, None, refl, sym, subst, arith}
-use Rattle.tb_syntax.specs.declared.statements.Statement.{Statement}
-use Rattle.tb_syntax.specs.Source.{Expression, Number, Variable, Binary, Item, Text, Value, Zone, Command, Let, Print, If, Goto, Gosub, Remark}
+use Rattle.tb_syntax.specs.declared.statements.Statement.{RustStatement as RustStatement}
+use Rattle.tb_syntax.specs.Source.{Expression, Number, Variable, Binary, Item, Text, Value, Zone, RustStatement, Let, Print, If, Goto, Gosub, Remark}
 use Rattle.tb_syntax.specs.Source as source
-use Rattle.tb_syntax.specs.PlainData.{command_of, lines_of}
-use Rattle.tb_lower.specs.Need.{need, items_need, command_need, too_deep}
+use Rattle.tb_syntax.specs.PlainData.{statement_of, lines_of}
+use Rattle.tb_lower.specs.Need.{need, items_need, statement_need, too_deep}
 use Rattle.tb_lower.specs.Slots.{Instr, Store, Negate, Compute, Random, SendNumber, SendNewline, Jump, Call, JumpTo, CallTo, SlotCode}
 use Rattle.tb_meaning.specs.Values.{constant}
-use Rattle.tb_lower.specs.Lowered.{or_constant, target_code, value_code, items_code, inputs_code, command_code, program_code}
-use Rattle.tb_syntax.specs.Texts.{item_texts, command_texts, AreShort, HasShortTexts}
+use Rattle.tb_lower.specs.Lowered.{or_constant, target_code, value_code, items_code, inputs_code, statement_code, program_code}
+use Rattle.tb_syntax.specs.Texts.{item_texts, statement_texts, AreShort, HasShortTexts}
 use Rattle.tb_lower.specs.Ranges.{AreInRange, IsCodeInRange}
 use Rattle.tb_meaning.proofs.Constants.{constant_small}
 use Rattle.tb_meaning.proofs.Lettered.{IsLettered, AreLettered, AreLetters, DoesLettered, statement_letters}
@@ -51,33 +51,33 @@ module _ (limit : ℕ) where
   inputs_in_range [] h = tt
   inputs_in_range (x ∷ xs) h = (h.0, inputs_in_range xs h.1)
 
-  command_in_range : (c : Command) → command_need c ≤ 16 → DoesLettered c → AreShort limit (command_texts c) → AreInRange limit (command_code c)
-  command_in_range (Let x e) fits h short = both_in_range (value_code e 0) (Store x ∷ []) (value_in_range e 0 (omega arith) h.1) (h.0, tt)
-  command_in_range (Print items true) fits h short = both_in_range (items_code items) (SendNewline ∷ []) (items_in_range items fits h short) (tt, tt)
-  command_in_range (Print items false) fits h short = both_in_range (items_code items) [] (items_in_range items fits h short) tt
-  command_in_range (source.Input xs) fits h short = inputs_in_range xs h
-  command_in_range (If l rel r c) fits h short =
+  statement_in_range : (c : RustStatement) → statement_need c ≤ 16 → DoesLettered c → AreShort limit (statement_texts c) → AreInRange limit (statement_code c)
+  statement_in_range (Let x e) fits h short = both_in_range (value_code e 0) (Store x ∷ []) (value_in_range e 0 (omega arith) h.1) (h.0, tt)
+  statement_in_range (Print items true) fits h short = both_in_range (items_code items) (SendNewline ∷ []) (items_in_range items fits h short) (tt, tt)
+  statement_in_range (Print items false) fits h short = both_in_range (items_code items) [] (items_in_range items fits h short) tt
+  statement_in_range (source.Input xs) fits h short = inputs_in_range xs h
+  statement_in_range (If l rel r c) fits h short =
       both_in_range (value_code l 0) _ (value_in_range l 0 (omega arith) h.0)
-      (tt, both_in_range (value_code r 0) _ (value_in_range r 0 (omega arith) h.1) (tt, command_in_range c (omega arith) h.2 short))
-  command_in_range (Goto e) fits h short = target (constant e) refl
+      (tt, both_in_range (value_code r 0) _ (value_in_range r 0 (omega arith) h.1) (tt, statement_in_range c (omega arith) h.2 short))
+  statement_in_range (Goto e) fits h short = target (constant e) refl
     where
       target : (x : Option ℕ) → constant e ≡ x → AreInRange limit (target_code x JumpTo (value_code e 0 ++ Jump ∷ []))
       target (Some v) same = (constant_small e v same, tt)
       target None same = both_in_range (value_code e 0) (Jump ∷ []) (value_in_range e 0 (omega arith) h) (tt, tt)
-  command_in_range (Gosub e) fits h short = target (constant e) refl
+  statement_in_range (Gosub e) fits h short = target (constant e) refl
     where
       target : (x : Option ℕ) → constant e ≡ x → AreInRange limit (target_code x CallTo (value_code e 0 ++ Call ∷ []))
       target (Some v) same = (constant_small e v same, tt)
       target None same = both_in_range (value_code e 0) (Call ∷ []) (value_in_range e 0 (omega arith) h) (tt, tt)
-  command_in_range source.Return fits h short = (tt, tt)
-  command_in_range source.End fits h short = (tt, tt)
-  command_in_range Remark fits h short = tt
+  statement_in_range source.Return fits h short = (tt, tt)
+  statement_in_range source.End fits h short = (tt, tt)
+  statement_in_range Remark fits h short = tt
 
-  code_in_range : (lines : List (ℕ × Statement)) → IsShallow (lines_of lines) → HasShortTexts limit (lines_of lines) → IsCodeInRange limit (program_code (lines_of lines))
+  code_in_range : (lines : List (ℕ × RustStatement)) → IsShallow (lines_of lines) → HasShortTexts limit (lines_of lines) → IsCodeInRange limit (program_code (lines_of lines))
   code_in_range [] shallow short = tt
   code_in_range (l ∷ ls) (more fits rest) short =
-      ((tt, command_in_range (command_of l.1) fits (statement_letters l.1) short.0), code_in_range ls rest short.1)
+      ((tt, statement_in_range (statement_of l.1) fits (statement_letters l.1) short.0), code_in_range ls rest short.1)
 
-pub in_range : (lines : List (ℕ × Statement)) (code : SlotCode) → too_deep (lines_of lines) ≡ None → code ≡ program_code (lines_of lines) → (limit : ℕ) → HasShortTexts limit (lines_of lines) → IsCodeInRange limit code
+pub in_range : (lines : List (ℕ × RustStatement)) (code : SlotCode) → too_deep (lines_of lines) ≡ None → code ≡ program_code (lines_of lines) → (limit : ℕ) → HasShortTexts limit (lines_of lines) → IsCodeInRange limit code
 in_range lines code deep same limit short =
     subst (IsCodeInRange limit) (sym same) (code_in_range limit lines (shallow (lines_of lines) deep) short)

@@ -2,7 +2,7 @@
 use Rattle.std.specs.Prelude.{◌≡◌, ℕ, ◌*◌, ◌+◌, true, false, List, [], ◌∷◌, ◌++◌, refl, codes, replicate, Some, None, suc, zero}
 use Rattle.tb_words.specs.declared.Rel.TheVariants.{Eq, Lt}
 use Rattle.tb_syntax.specs.declared.expressions.Operator.TheVariants.{Add, Subtract, Multiply, Divide}
-use Rattle.tb_syntax.specs.Source.{Expression, Number, Variable, Binary, Random, Text, Value, Zone, Command, Let, Print, Input, If, Goto, Gosub, Return, End, Remark, Numbered, Program}
+use Rattle.tb_syntax.specs.Source.{Expression, Number, Variable, Binary, Random, Text, Value, Zone, Statement, Let, Print, Input, If, Goto, Gosub, Return, End, Remark, Numbered, Program}
 use Rattle.tb_meaning.specs.Steps as steps
 use Rattle.tb_meaning.specs.Steps.{Over, Ended, Faulted, Waits, sent_by}
 use Rattle.tb_meaning.specs.Meaning.{source_run}
@@ -12,7 +12,7 @@ use Rattle.tb_lower.specs.Slots as slots
 use Rattle.tb_lower.specs.Slots.{slot_run, Slots}
 use Rattle.tb_lower.specs.Lowered.{program_code}
 
-abbrev line : ℕ → Command → Numbered Command
+abbrev line : ℕ → Statement → Numbered Statement
 line n c = record { number = n; content = c }
 
 abbrev cr : List ℕ
@@ -181,7 +181,7 @@ break_unmet_past_last : Sends (line 10 (Print ((Text (codes "A")) ∷ []) true) 
 break_unmet_past_last = (refl, refl)
 
 -- so many lines from n on, a step apart, which do the same, and then the rest
-abbrev repeated : ℕ → ℕ → ℕ → Command → Program → Program
+abbrev repeated : ℕ → ℕ → ℕ → Statement → Program → Program
 repeated zero n apart c rest = rest
 repeated (suc k) n apart c rest = line n c ∷ repeated k (n + apart) apart c rest
 

@@ -1,13 +1,13 @@
--- The slot code of a command has no more instructions of a kind than it may, and its texts in order.
+-- The slot code of a statement has no more instructions of a kind than it may, and its texts in order.
 use Rattle.std.proofs.Common.{◌≡◌, ℕ, ◌+◌, ◌*◌, ◌≤◌, true, false, List, [], ◌∷◌, ◌++◌, length, Option, Some, None, refl, sym, ap, ap₂, ◌∙◌, arith, append-nil}
-use Rattle.tb_syntax.specs.Source.{Expression, Number, Variable, Binary, Item, Text, Value, Zone, Command, Let, Print, If, Goto, Gosub, Remark}
+use Rattle.tb_syntax.specs.Source.{Expression, Number, Variable, Binary, Item, Text, Value, Zone, Statement, Let, Print, If, Goto, Gosub, Remark}
 use Rattle.tb_syntax.specs.Source as source
 use Rattle.tb_meaning.specs.Cost.{nodes}
 use Rattle.tb_lower.specs.Slots.{Instr, Store, Negate, Compute, Random, SendText, SendNumber, SendNewline, Hold, LeaveUnless, Jump, Call, JumpTo, CallTo}
 use Rattle.tb_meaning.specs.Values.{constant}
-use Rattle.tb_lower.specs.Lowered.{or_constant, target_code, list_code, value_code, item_code, items_code, inputs_code, command_code}
+use Rattle.tb_lower.specs.Lowered.{or_constant, target_code, list_code, value_code, item_code, items_code, inputs_code, statement_code}
 use Rattle.tb_lower.specs.Weights.{share, Weights, weigh, item_share, items_share, IsBounded, instr_texts}
-use Rattle.tb_syntax.specs.Texts.{item_texts, command_texts}
+use Rattle.tb_syntax.specs.Texts.{item_texts, statement_texts}
 
 weigh_append : (w : Weights) (xs ys : List Instr) → weigh w (xs ++ ys) ≡ weigh w xs + weigh w ys
 weigh_append w [] ys = omega arith
@@ -46,13 +46,13 @@ target_weight : (w : Weights) (x : Option ℕ) (direct : ℕ → Instr) (code : 
 target_weight w (Some v) direct code most h h' = h v
 target_weight w None direct code most h h' = h'
 
-pub bounded : (c : Command) (w : Weights) → weigh w (command_code c) ≤ w.store + w.newline + w.stop + share w c
+pub bounded : (c : Statement) (w : Weights) → weigh w (statement_code c) ≤ w.store + w.newline + w.stop + share w c
 bounded (Let x e) w = omega (arith, weigh_append w (value_code e 0) (Store x ∷ []), value_weight w e 0)
 bounded (Print items true) w = omega (arith, weigh_append w (items_code items) (SendNewline ∷ []), items_weight w items)
 bounded (Print items false) w = omega (arith, weigh_append w (items_code items) [], items_weight w items)
 bounded (source.Input xs) w = omega (arith, inputs_weight w xs)
 bounded (If l rel r c) w =
-    omega (arith, weigh_append w (value_code l 0) (Hold ∷ (value_code r 0 ++ (LeaveUnless rel ∷ command_code c))), weigh_append w (value_code r 0) (LeaveUnless rel ∷ command_code c), value_weight w l 0, value_weight w r 0, bounded c w)
+    omega (arith, weigh_append w (value_code l 0) (Hold ∷ (value_code r 0 ++ (LeaveUnless rel ∷ statement_code c))), weigh_append w (value_code r 0) (LeaveUnless rel ∷ statement_code c), value_weight w l 0, value_weight w r 0, bounded c w)
 bounded (Goto e) w =
     target_weight w (constant e) JumpTo _ _ (λ v. omega arith) (omega (arith, weigh_append w (value_code e 0) (Jump ∷ []), value_weight w e 0))
 bounded (Gosub e) w =
@@ -99,10 +99,10 @@ items_texts (Value e ∷ is) js =
     ∙ sym (texts_append (items_code is) js) ∙ items_texts is js
 items_texts (Zone ∷ is) js = items_texts is js
 
-pub bounded_list : (c : Command) → IsBounded c (list_code c)
+pub bounded_list : (c : Statement) → IsBounded c (list_code c)
 bounded_list c w = omega (arith, bounded c w)
 
-pub same_texts : (c : Command) → instr_texts (command_code c) ≡ command_texts c
+pub same_texts : (c : Statement) → instr_texts (statement_code c) ≡ statement_texts c
 same_texts (Let x e) = value_texts e 0 _
 same_texts (Print items true) = items_texts items _ ∙ append-nil _
 same_texts (Print items false) = items_texts items _ ∙ append-nil _

@@ -1,7 +1,7 @@
 -- What it is that slot code has the runs of a program.
 use Rattle.std.specs.Prelude.{◌≡◌, ℕ, ◌+◌, ◌*◌, ◌≤◌, max, List, [], ◌∷◌, length, Option, Some, None}
-use Rattle.tb_syntax.specs.Source.{Command, Program, numbers}
-use Rattle.tb_syntax.specs.Texts.{command_texts}
+use Rattle.tb_syntax.specs.Source.{Statement, Program, numbers}
+use Rattle.tb_syntax.specs.Texts.{statement_texts}
 use Rattle.tb_lower.specs.Weights.{IsBounded, instr_texts}
 use Rattle.tb_meaning.specs.Steps.{Run, GoesOn, Over, sent_by}
 use Rattle.tb_words.specs.Prefixes.{IsPrefix}
@@ -26,9 +26,9 @@ Agrees (GoesOn c out) source = IsPrefix out (sent_by source)
 Agrees (Over e out) source = source ≡ Over e out
 
 -- a line's list: bounded by kind, with the texts of its items
-abbrev pub IsListOf : Option Command → Option (List Instr) → Type 0
+abbrev pub IsListOf : Option Statement → Option (List Instr) → Type 0
 IsListOf None None = Unit {0}
-IsListOf (Some c) (Some is) = IsBounded c is × (instr_texts is ≡ command_texts c)
+IsListOf (Some c) (Some is) = IsBounded c is × (instr_texts is ≡ statement_texts c)
 IsListOf None (Some is) = ⊥
 IsListOf (Some c) None = ⊥
 

@@ -1,7 +1,7 @@
 -- The slot code of a program.
 use Rattle.std.specs.Prelude.{ℕ, ◌+◌, Bool, true, false, List, [], ◌∷◌, ◌++◌, map, Option, Some, None}
 use Rattle.tb_words.specs.Words.{word}
-use Rattle.tb_syntax.specs.Source.{Expression, Number, Variable, Binary, Item, Text, Value, Zone, Command, Let, Print, If, Goto, Gosub, Remark, Program}
+use Rattle.tb_syntax.specs.Source.{Expression, Number, Variable, Binary, Item, Text, Value, Zone, Statement, Let, Print, If, Goto, Gosub, Remark, Program}
 use Rattle.tb_syntax.specs.Source as source
 use Rattle.tb_meaning.specs.Values.{constant}
 use Rattle.tb_lower.specs.Slots.{Instr, Put, Load, Compute, Store, SendText, SendNumber, SendZone, SendNewline, Poll, Hold, LeaveUnless, Jump, Call, JumpTo, CallTo, SlotCode}
@@ -46,21 +46,21 @@ abbrev pub target_code : Option ℕ → (ℕ → Instr) → List Instr → List 
 target_code (Some v) direct code = direct v ∷ []
 target_code None direct code = code
 
--- the slot code of a command; the left side of IF is held while the right one is valued
-abbrev pub command_code : Command → List Instr
-command_code (Let x e) = value_code e 0 ++ Store x ∷ []
-command_code (Print items ends) = items_code items ++ newline_code ends
-command_code (source.Input xs) = inputs_code xs
-command_code (If l rel r c) = value_code l 0 ++ (Hold ∷ (value_code r 0 ++ (LeaveUnless rel ∷ command_code c)))
-command_code (Goto e) = target_code (constant e) JumpTo (value_code e 0 ++ Jump ∷ [])
-command_code (Gosub e) = target_code (constant e) CallTo (value_code e 0 ++ Call ∷ [])
-command_code source.Return = slots.Return ∷ []
-command_code source.End = slots.End ∷ []
-command_code Remark = []
+-- the slot code of a statement; the left side of IF is held while the right one is valued
+abbrev pub statement_code : Statement → List Instr
+statement_code (Let x e) = value_code e 0 ++ Store x ∷ []
+statement_code (Print items ends) = items_code items ++ newline_code ends
+statement_code (source.Input xs) = inputs_code xs
+statement_code (If l rel r c) = value_code l 0 ++ (Hold ∷ (value_code r 0 ++ (LeaveUnless rel ∷ statement_code c)))
+statement_code (Goto e) = target_code (constant e) JumpTo (value_code e 0 ++ Jump ∷ [])
+statement_code (Gosub e) = target_code (constant e) CallTo (value_code e 0 ++ Call ∷ [])
+statement_code source.Return = slots.Return ∷ []
+statement_code source.End = slots.End ∷ []
+statement_code Remark = []
 
 -- a line takes an answer before anything else
-abbrev pub list_code : Command → List Instr
-list_code c = Poll ∷ command_code c
+abbrev pub list_code : Statement → List Instr
+list_code c = Poll ∷ statement_code c
 
 -- each line's list, under its number
 abbrev pub program_code : Program → SlotCode

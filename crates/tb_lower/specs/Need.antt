@@ -1,6 +1,6 @@
 -- How many slots an expression needs, and which programs need too many.
 use Rattle.std.specs.Prelude.{ℕ, ◌+◌, max, List, [], ◌∷◌, if◌then◌else◌, nat_le, Option, Some, None}
-use Rattle.tb_syntax.specs.Source.{Expression, Number, Variable, Negate, Binary, Random, Item, Text, Value, Zone, Command, Let, Print, Input, If, Goto, Gosub, Return, End, Remark, Program}
+use Rattle.tb_syntax.specs.Source.{Expression, Number, Variable, Negate, Binary, Random, Item, Text, Value, Zone, Statement, Let, Print, Input, If, Goto, Gosub, Return, End, Remark, Program}
 
 -- an operator keeps its left value in one slot while its right operand is valued
 abbrev pub need : Expression → ℕ
@@ -22,18 +22,18 @@ items_need [] = 0
 items_need (i ∷ is) = max (item_need i) (items_need is)
 
 -- the two sides of a relation are two expressions
-abbrev pub command_need : Command → ℕ
-command_need (Let x e) = need e
-command_need (Print items ends) = items_need items
-command_need (Input xs) = 0
-command_need (If l rel r c) = max (max (need l) (need r)) (command_need c)
-command_need (Goto e) = need e
-command_need (Gosub e) = need e
-command_need Return = 0
-command_need End = 0
-command_need Remark = 0
+abbrev pub statement_need : Statement → ℕ
+statement_need (Let x e) = need e
+statement_need (Print items ends) = items_need items
+statement_need (Input xs) = 0
+statement_need (If l rel r c) = max (max (need l) (need r)) (statement_need c)
+statement_need (Goto e) = need e
+statement_need (Gosub e) = need e
+statement_need Return = 0
+statement_need End = 0
+statement_need Remark = 0
 
 -- the lowest line that needs more than 16 slots
 abbrev pub too_deep : Program → Option ℕ
 too_deep [] = None
-too_deep (line ∷ lines) = if nat_le (command_need line.content) 16 then too_deep lines else Some line.number
+too_deep (line ∷ lines) = if nat_le (statement_need line.content) 16 then too_deep lines else Some line.number

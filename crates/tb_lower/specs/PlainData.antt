@@ -1,6 +1,6 @@
 -- The crate's slot code as plain data.
 use Rattle.std.specs.Prelude.{List, map}
-use Rattle.tb_words.specs.Letters.{place}
+use Rattle.tb_words.specs.Letters.{letter_index}
 use Rattle.tb_syntax.specs.Source.{Numbered}
 use Rattle.tb_lower.specs.declared.slot_code.SlotInstr.{SlotInstr}
 use Rattle.tb_lower.specs.declared.slot_code.SlotInstr.TheVariants as instr
@@ -10,8 +10,8 @@ use Rattle.tb_lower.specs.Slots.{Instr, Put, Load, Store, Negate, Compute, Rando
 -- an instruction; a letter by its place from 0 for A
 abbrev pub instr_of : SlotInstr → Instr
 instr_of (instr.Put k n) = Put k n
-instr_of (instr.Load k x) = Load k (place x)
-instr_of (instr.Store x) = Store (place x)
+instr_of (instr.Load k x) = Load k (letter_index x)
+instr_of (instr.Store x) = Store (letter_index x)
 instr_of (instr.Negate k) = Negate k
 instr_of (instr.Compute op k) = Compute op k
 instr_of (instr.Random k) = Random k
@@ -19,7 +19,7 @@ instr_of (instr.SendText t) = SendText t.items
 instr_of instr.SendNumber = SendNumber
 instr_of instr.SendZone = SendZone
 instr_of instr.SendNewline = SendNewline
-instr_of (instr.Input x) = Input (place x)
+instr_of (instr.Input x) = Input (letter_index x)
 instr_of instr.Poll = Poll
 instr_of instr.Hold = Hold
 instr_of (instr.LeaveUnless rel) = LeaveUnless rel

@@ -1,6 +1,6 @@
 -- How many instructions of each kind a line's list has, as a bound on its weight under any weights.
 use Rattle.std.specs.Prelude.{ℕ, ◌+◌, ◌*◌, ◌≤◌, List, [], ◌∷◌, length}
-use Rattle.tb_syntax.specs.Source.{Item, Text, Value, Zone, Command, Let, Print, If, Goto, Gosub, Remark}
+use Rattle.tb_syntax.specs.Source.{Item, Text, Value, Zone, Statement, Let, Print, If, Goto, Gosub, Remark}
 use Rattle.tb_syntax.specs.Source as source
 use Rattle.tb_lower.specs.Slots.{Instr, Put, Load, Store, Negate, Compute, Random, SendText, SendNumber, SendZone, SendNewline, Input, Hold, Poll, LeaveUnless, Jump, Call, JumpTo, CallTo, Return}
 use Rattle.tb_lower.specs.Slots as slots
@@ -61,8 +61,8 @@ abbrev pub items_share : Weights → List Item → ℕ
 items_share w [] = 0
 items_share w (i ∷ is) = item_share w i + items_share w is
 
--- what a command's parts may weigh
-abbrev pub share : Weights → Command → ℕ
+-- what a statement's parts may weigh
+abbrev pub share : Weights → Statement → ℕ
 share w (Let x e) = w.work * nodes e
 share w (Print items ends) = items_share w items
 share w (source.Input xs) = w.input * length xs
@@ -73,9 +73,9 @@ share w source.Return = w.move
 share w source.End = 0
 share w Remark = 0
 
--- at most one store, one newline, one stop and one poll, and of the rest as many as the command has parts: work for
+-- at most one store, one newline, one stop and one poll, and of the rest as many as the statement has parts: work for
 -- each node of an expression, an item for each text and value, and so on
-abbrev pub IsBounded : Command → List Instr → Type 0
+abbrev pub IsBounded : Statement → List Instr → Type 0
 IsBounded c is = (w : Weights) → weigh w is ≤ w.store + w.newline + w.stop + w.poll + share w c
 
 -- the texts that a list sends, in order

@@ -8,5 +8,5 @@ mod needs;
 mod slot_code;
 
 pub use lowering::{LowerError, lower};
-pub use needs::{SLOT_COUNT, command_need};
+pub use needs::{SLOT_COUNT, statement_need};
 pub use slot_code::{SlotCode, SlotInstr, SlotLine};

@@ -1,16 +1,16 @@
 //! From programs to slot code.
 ghost use Rattle.std.specs.Prelude.{◌≡◌, ◌+◌, ◌≤◌, Some, None, IfOk, IfErr, OnOk, [], ◌∷◌, ◌++◌, ℕ, map};
-ghost use Rattle.tb_syntax.specs.PlainData.{expression_of, item_of, letters_of, command_of, lines_of};
+ghost use Rattle.tb_syntax.specs.PlainData.{expression_of, item_of, letters_of, statement_of, lines_of};
 ghost use Rattle.tb_syntax.specs.Source as source;
-ghost use Rattle.tb_lower.specs.Need.{need, item_need, items_need, command_need, too_deep};
-ghost use Rattle.tb_lower.specs.Lowered.{value_code, item_code, items_code, inputs_code, command_code, list_code, program_code};
+ghost use Rattle.tb_lower.specs.Need.{need, item_need, items_need, statement_need, too_deep};
+ghost use Rattle.tb_lower.specs.Lowered.{value_code, item_code, items_code, inputs_code, statement_code, list_code, program_code};
 ghost use Rattle.tb_lower.specs.Follows.{Follows};
 ghost use Rattle.tb_syntax.specs.Texts.{HasShortTexts};
 ghost use Rattle.tb_lower.specs.Ranges.{IsCodeInRange};
 ghost use Rattle.tb_lower.specs.Refusals.{IsRefusal};
 ghost use Rattle.tb_lower.specs.PlainData.{instr_of, slot_line_of, code_of};
 
-use crate::needs::{SLOT_COUNT, command_need};
+use crate::needs::{SLOT_COUNT, statement_need};
 use crate::slot_code::{SlotCode, SlotInstr, SlotLine};
 use std::alloc::{AllocError, Global};
 use tb_meaning::constant;
@@ -62,7 +62,7 @@ fn lower_lines(alloc: Global, program: &Program) -> Result<Vec<SlotLine>, LowerE
 {
     let mut lines = Vec::new(alloc);
     for (number, statement) in program.lines() {
-        if command_need(statement) > SLOT_COUNT {
+        if statement_need(statement) > SLOT_COUNT {
             return Err(LowerError::TooDeep(*number));
         }
         let line = lower_line(alloc, *number, statement)?;
@@ -79,12 +79,12 @@ fn push_line(lines: &mut Vec<SlotLine>, line: SlotLine) -> Result<(), AllocError
 }
 
 fn lower_line(alloc: Global, number: u16, statement: &Statement) -> Result<SlotLine, AllocError>
-    requires { command_need (command_of statement.now) ≤ 16 }
-    ensures { IfOk result (λ line. slot_line_of line ≡ record { number = number; content = list_code (command_of statement.now) }) }
+    requires { statement_need (statement_of statement.now) ≤ 16 }
+    ensures { IfOk result (λ line. slot_line_of line ≡ record { number = number; content = list_code (statement_of statement.now) }) }
 {
     let mut code = Vec::with_capacity(alloc, USUAL_LENGTH)?;
     put(&mut code, SlotInstr::Poll)?;
-    put_command(&mut code, statement)?;
+    put_statement(&mut code, statement)?;
     Ok(SlotLine { number, code })
 }
 
@@ -157,7 +157,7 @@ fn put_inputs(code: &mut Vec<SlotInstr>, letters: &[Letter]) -> Result<(), Alloc
 
 fn put_goto(code: &mut Vec<SlotInstr>, target: &Expr) -> Result<(), AllocError>
     requires { need (expression_of target.now) ≤ 16 }
-    ensures { OnOk result (map instr_of code.new.items ≡ map instr_of code.old.items ++ command_code (source.Goto (expression_of target.now))) }
+    ensures { OnOk result (map instr_of code.new.items ≡ map instr_of code.old.items ++ statement_code (source.Goto (expression_of target.now))) }
 {
     if let Some(number) = constant(target) {
         return put(code, SlotInstr::JumpTo(number));
@@ -168,7 +168,7 @@ fn put_goto(code: &mut Vec<SlotInstr>, target: &Expr) -> Result<(), AllocError>
 
 fn put_gosub(code: &mut Vec<SlotInstr>, target: &Expr) -> Result<(), AllocError>
     requires { need (expression_of target.now) ≤ 16 }
-    ensures { OnOk result (map instr_of code.new.items ≡ map instr_of code.old.items ++ command_code (source.Gosub (expression_of target.now))) }
+    ensures { OnOk result (map instr_of code.new.items ≡ map instr_of code.old.items ++ statement_code (source.Gosub (expression_of target.now))) }
 {
     if let Some(number) = constant(target) {
         return put(code, SlotInstr::CallTo(number));
@@ -177,9 +177,9 @@ fn put_gosub(code: &mut Vec<SlotInstr>, target: &Expr) -> Result<(), AllocError>
     put(code, SlotInstr::Call)
 }
 
-fn put_command(code: &mut Vec<SlotInstr>, s: &Statement) -> Result<(), AllocError>
-    requires { command_need (command_of s.now) ≤ 16 }
-    ensures { OnOk result (map instr_of code.new.items ≡ map instr_of code.old.items ++ command_code (command_of s.now)) }
+fn put_statement(code: &mut Vec<SlotInstr>, s: &Statement) -> Result<(), AllocError>
+    requires { statement_need (statement_of s.now) ≤ 16 }
+    ensures { OnOk result (map instr_of code.new.items ≡ map instr_of code.old.items ++ statement_code (statement_of s.now)) }
 {
     match s {
         Statement::Let(x, e) => {
@@ -200,7 +200,7 @@ fn put_command(code: &mut Vec<SlotInstr>, s: &Statement) -> Result<(), AllocErro
             put(code, SlotInstr::Hold)?;
             put_value(code, r, 0)?;
             put(code, SlotInstr::LeaveUnless(*rel))?;
-            put_command(code, s)
+            put_statement(code, s)
         }
         Statement::Goto(e) => put_goto(code, e),
         Statement::Gosub(e) => put_gosub(code, e),

@@ -1,7 +1,7 @@
 //! How many slots expressions need.
 ghost use Rattle.std.specs.Prelude.{◌≡◌, map, min};
-ghost use Rattle.tb_syntax.specs.PlainData.{expression_of, item_of, command_of};
-ghost use Rattle.tb_lower.specs.Need.{need, items_need, command_need};
+ghost use Rattle.tb_syntax.specs.PlainData.{expression_of, item_of, statement_of};
+ghost use Rattle.tb_lower.specs.Need.{need, items_need, statement_need};
 
 use tb_syntax::{Expr, PrintItem, Statement};
 
@@ -32,13 +32,13 @@ fn items_need(items: &[PrintItem]) -> u8
 }
 
 /// How many slots the expressions of a statement need at most, up to 17.
-pub fn command_need(s: &Statement) -> u8
-    ensures { result ≡ min (command_need (command_of s.now)) 17 }
+pub fn statement_need(s: &Statement) -> u8
+    ensures { result ≡ min (statement_need (statement_of s.now)) 17 }
 {
     match s {
         Statement::Let(_, e) | Statement::Goto(e) | Statement::Gosub(e) => need(e),
         Statement::Print(items, _) => items_need(items),
-        Statement::If(l, _, r, s) => need(l).max(need(r)).max(command_need(s)),
+        Statement::If(l, _, r, s) => need(l).max(need(r)).max(statement_need(s)),
         Statement::Input(_) | Statement::Return | Statement::End | Statement::Remark => 0,
     }
 }

@@ -1,16 +1,16 @@
 -- The variables of a program are letters.
 use Rattle.std.proofs.Common.{ℕ, ◌<◌, List, [], ◌∷◌, map}
-use Rattle.tb_words.specs.Letters.{place}
+use Rattle.tb_words.specs.Letters.{letter_index}
 use Rattle.tb_words.specs.declared.Letter.{Letter}
 use Rattle.tb_syntax.specs.declared.expressions.Expr.{Expr}
 use Rattle.tb_syntax.specs.declared.expressions.Expr.TheVariants as expr
 use Rattle.tb_syntax.specs.declared.statements.PrintItem.{PrintItem}
 use Rattle.tb_syntax.specs.declared.statements.PrintItem.TheVariants as item
-use Rattle.tb_syntax.specs.declared.statements.Statement.{Statement}
+use Rattle.tb_syntax.specs.declared.statements.Statement.{RustStatement as RustStatement}
 use Rattle.tb_syntax.specs.declared.statements.Statement.TheVariants as statement
-use Rattle.tb_syntax.specs.Source.{Expression, Number, Variable, Binary, Item, Value, Command, Let, Print, If, Goto, Gosub}
+use Rattle.tb_syntax.specs.Source.{Expression, Number, Variable, Binary, Item, Value, RustStatement, Let, Print, If, Goto, Gosub}
 use Rattle.tb_syntax.specs.Source as source
-use Rattle.tb_syntax.specs.PlainData.{expression_of, item_of, letters_of, command_of}
+use Rattle.tb_syntax.specs.PlainData.{expression_of, item_of, letters_of, statement_of}
 
 abbrev pub IsLettered : Expression → Type 0
 IsLettered (Number n) = Unit {0}
@@ -28,7 +28,7 @@ abbrev pub AreLetters : List ℕ → Type 0
 AreLetters [] = Unit {0}
 AreLetters (x ∷ xs) = (x < 26) × AreLetters xs
 
-abbrev pub DoesLettered : Command → Type 0
+abbrev pub DoesLettered : RustStatement → Type 0
 DoesLettered (Let x e) = (x < 26) × IsLettered e
 DoesLettered (Print items ends) = AreLettered items
 DoesLettered (source.Input xs) = AreLetters xs
@@ -37,7 +37,7 @@ DoesLettered (Goto e) = IsLettered e
 DoesLettered (Gosub e) = IsLettered e
 DoesLettered _ = Unit {0}
 
-letter : (x : Letter) → place x < 26
+letter : (x : Letter) → letter_index x < 26
 letter x = x.in_alphabet
 
 pub expression_letters : (e : Expr) → IsLettered (expression_of e)
@@ -57,7 +57,7 @@ letters : (xs : List Letter) → AreLetters (letters_of xs)
 letters [] = tt
 letters (x ∷ xs) = (letter x, letters xs)
 
-pub statement_letters : (s : Statement) → DoesLettered (command_of s)
+pub statement_letters : (s : RustStatement) → DoesLettered (statement_of s)
 statement_letters (statement.Let x e) = (letter x, expression_letters e)
 statement_letters (statement.Print items ends) = items_letters items.items
 statement_letters (statement.Input xs) = letters xs.items

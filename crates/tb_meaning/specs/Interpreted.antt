@@ -3,8 +3,8 @@ use Rattle.std.specs.Prelude.{◌≡◌, ℕ, Bool, List, ◌++◌, map, reverse
 use Rattle.tb_words.specs.Words.{holds}
 use Rattle.tb_words.specs.declared.Rel.{Rel}
 use Rattle.tb_syntax.specs.Source.{Expression}
-use Rattle.tb_meaning.specs.declared.faults.Stop.{Stop}
-use Rattle.tb_meaning.specs.declared.faults.Stop.TheVariants as stop
+use Rattle.tb_meaning.specs.declared.faults.RunStop.{RunStop}
+use Rattle.tb_meaning.specs.declared.faults.RunStop.TheVariants as stop
 use Rattle.tb_meaning.specs.declared.interpreter.Interpreter.{Interpreter}
 use Rattle.tb_meaning.specs.declared.interpreter.RunEnd.{RunEnd}
 use Rattle.tb_meaning.specs.declared.interpreter.RunEnd.TheVariants as run_end
@@ -27,26 +27,26 @@ state_of i = record {
 }
 
 -- how a run stands once an interpreter stops, with what it has sent; want of memory says nothing
-abbrev pub IsStopped : Run State → List ℕ → Stop → Type 0
+abbrev pub IsStopped : Run State → List ℕ → RunStop → Type 0
 IsStopped r out stop.Ended = r ≡ Over Ended out
 IsStopped r out stop.Waits = r ≡ Over Waits out
 IsStopped r out (stop.Fault k n) = r ≡ Over Faulted (out ++ fault_text (fault_of k) n)
 IsStopped r out stop.NoMemory = Unit {0}
 
 -- the interpreter did a step
-abbrev pub Ran : Step State → Interpreter → Interpreter → Result (Unit {0}) Stop → Type 0
+abbrev pub Ran : Step State → Interpreter → Interpreter → Result (Unit {0}) RunStop → Type 0
 Ran x old new (Ok u) = joined old.output.sent.items x ≡ GoesOn (state_of new) new.output.sent.items
 Ran x old new (Err e) = IsStopped (joined old.output.sent.items x) new.output.sent.items e
 
 -- the interpreter valued an expression at line n: whatever comes next, it goes on with the value, or the run stops
-abbrev pub HasValue : ℕ → Expression → Interpreter → Interpreter → Result ℕ Stop → Type 0
+abbrev pub HasValue : ℕ → Expression → Interpreter → Interpreter → Result ℕ RunStop → Type 0
 HasValue n e old new (Ok v) =
     (go : ℕ → State → Step State) → joined old.output.sent.items (valued n e (state_of old) go) ≡ joined new.output.sent.items (go v (state_of new))
 HasValue n e old new (Err why) =
     (go : ℕ → State → Step State) → IsStopped (joined old.output.sent.items (valued n e (state_of old) go)) new.output.sent.items why
 
 -- it compared the values of two expressions: whatever comes next, it goes on with the answer, or the run stops
-abbrev pub HasRelation : ℕ → Expression → Rel → Expression → Interpreter → Interpreter → Result Bool Stop → Type 0
+abbrev pub HasRelation : ℕ → Expression → Rel → Expression → Interpreter → Interpreter → Result Bool RunStop → Type 0
 HasRelation n l rel r old new (Ok b) =
     (go : Bool → State → Step State) → joined old.output.sent.items (valued n l (state_of old) (λ x s. valued n r s (λ y s'. go (holds rel x y) s'))) ≡ joined new.output.sent.items (go b (state_of new))
 HasRelation n l rel r old new (Err why) =

@@ -1,6 +1,6 @@
 -- What a program does, line by line.
 use Rattle.std.specs.Prelude.{ℕ, true, false, List, [], ◌∷◌, replicate, if◌then◌else◌, Option, Some, None, slice_set}
-use Rattle.tb_syntax.specs.Source.{Expression, Item, Text, Value, Zone, Command, Let, Print, Input, If, Goto, Gosub, Return, End, Remark, Program, numbers}
+use Rattle.tb_syntax.specs.Source.{Expression, Item, Text, Value, Zone, Statement, Let, Print, Input, If, Goto, Gosub, Return, End, Remark, Program, numbers}
 use Rattle.tb_words.specs.Words.{holds, digits_of}
 use Rattle.tb_meaning.specs.Steps.{Ended, Step, Goes, Stops, and_then, Run, GoesOn, advance_by}
 use Rattle.tb_meaning.specs.Control.{Place, At, Past, State, content_at, first_place, fault, send, zone, fall, go_to, go_sub, go_back, poll, past}
@@ -36,8 +36,8 @@ inputs n (x ∷ xs) s = and_then (input n x s) (inputs n xs)
 abbrev pub stored : ℕ → ℕ → State → State
 stored x v s = record s { vars = slice_set s.vars x v }
 
--- what a command does, at line n of the lines ns
-abbrev pub does : List ℕ → ℕ → Command → State → Step State
+-- what a statement does, at line n of the lines ns
+abbrev pub does : List ℕ → ℕ → Statement → State → Step State
 does ns n (Let x e) s = valued n e s (λ v s'. fall ns n (stored x v s'))
 does ns n (Print items true) s = and_then (print_items n items s) (λ s'. and_then (send (13 ∷ []) s') (fall ns n))
 does ns n (Print items false) s = and_then (print_items n items s) (fall ns n)
@@ -50,8 +50,8 @@ does ns n Return s = go_back n s
 does ns n End s = Stops Ended []
 does ns n Remark s = fall ns n s
 
--- the command at a line, where there is one
-abbrev pub does_found : List ℕ → ℕ → Option Command → State → Step State
+-- the statement at a line, where there is one
+abbrev pub does_found : List ℕ → ℕ → Option Statement → State → Step State
 does_found ns n (Some c) s = and_then (poll n s) (does ns n c)
 does_found ns n None s = past ns
 

@@ -1,6 +1,6 @@
 -- Constant targets that are missing.
 use Rattle.std.specs.Prelude.{ℕ, List, [], ◌∷◌, if◌then◌else◌, Option, Some, None}
-use Rattle.tb_syntax.specs.Source.{Command, If, Goto, Gosub, Program, numbers}
+use Rattle.tb_syntax.specs.Source.{Statement, If, Goto, Gosub, Program, numbers}
 use Rattle.tb_meaning.specs.Control.{has_line}
 use Rattle.tb_meaning.specs.Values.{constant}
 
@@ -9,8 +9,8 @@ abbrev pub without_line : List ℕ → Option ℕ → Option ℕ
 without_line ns (Some target) = if has_line ns target then None else Some target
 without_line ns None = None
 
--- the constant target of a command, where it is missing
-abbrev pub missing_target : List ℕ → Command → Option ℕ
+-- the constant target of a statement, where it is missing
+abbrev pub missing_target : List ℕ → Statement → Option ℕ
 missing_target ns (Goto e) = without_line ns (constant e)
 missing_target ns (Gosub e) = without_line ns (constant e)
 missing_target ns (If l rel r c) = missing_target ns c

@@ -39,7 +39,7 @@ impl Fault {
 
 /// Why a run does not go on.
 #[derive(Clone, Copy, PartialEq, Eq, Debug, Drop)]
-pub enum Stop {
+pub enum RunStop {
     Ended,
     Waits,
     /// A fault at this line.
@@ -47,13 +47,13 @@ pub enum Stop {
     NoMemory,
 }
 
-impl From<AllocError> for Stop {
+impl From<AllocError> for RunStop {
     ghost use Rattle.std.specs.Prelude.{◌≡◌};
-    ghost use Rattle.tb_meaning.specs.declared.faults.Stop.TheVariants.{NoMemory};
+    ghost use Rattle.tb_meaning.specs.declared.faults.RunStop.TheVariants.{NoMemory};
 
     ghost from_gives = { λ _ e. e ≡ NoMemory };
 
     fn from(_: AllocError) -> Self {
-        Stop::NoMemory
+        RunStop::NoMemory
     }
 }

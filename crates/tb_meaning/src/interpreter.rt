@@ -1,7 +1,7 @@
 //! A plain program that runs a source.
 ghost use Rattle.std.specs.Prelude.{◌≡◌, [], ◌∷◌, ◌++◌, IfOk, OnOk, MatchResult, map};
-ghost use Rattle.tb_words.specs.Letters.{place};
-ghost use Rattle.tb_syntax.specs.PlainData.{expression_of, item_of, letters_of, command_of, lines_of};
+ghost use Rattle.tb_words.specs.Letters.{letter_index};
+ghost use Rattle.tb_syntax.specs.PlainData.{expression_of, item_of, letters_of, statement_of, lines_of};
 ghost use Rattle.tb_syntax.specs.Source.{numbers, Let, Print, Input, Goto, Gosub};
 ghost use Rattle.tb_meaning.specs.Control.{go_to, go_sub, go_back, fall, poll, State};
 ghost use Rattle.tb_meaning.specs.Input.{Nothing, input, take_turn, turn};
@@ -12,7 +12,7 @@ ghost use Rattle.tb_meaning.specs.Steps.{Run, GoesOn, and_then, advance_by};
 ghost use Rattle.tb_meaning.specs.Values.{Gives, Fails, random, value};
 
 use crate::evaluation::{apply_words, negated};
-use crate::faults::{Fault, Stop};
+use crate::faults::{Fault, RunStop};
 use crate::output::Output;
 use crate::places::{Place, first_place, has_line, highest, next_after, statement_at};
 use crate::turns::{Turn, take_number};
@@ -117,22 +117,22 @@ impl<'a> Interpreter<'a> {
         Ok(RunEnd::GoesOn)
     }
 
-    fn stop(&mut self, stop: Stop) -> Result<RunEnd, AllocError>
+    fn stop(&mut self, stop: RunStop) -> Result<RunEnd, AllocError>
         ensures { IfOk result (λ end. (r : Run State) → IsStopped r self.old.output.sent.items stop → IsRun r end self.new.output.sent.items (place_of self.new.place) self.new.variables) }
     {
         match stop {
-            Stop::Ended => Ok(RunEnd::Ended),
-            Stop::Waits => Ok(RunEnd::Waits),
-            Stop::Fault(fault, number) => {
+            RunStop::Ended => Ok(RunEnd::Ended),
+            RunStop::Waits => Ok(RunEnd::Waits),
+            RunStop::Fault(fault, number) => {
                 self.output.send_fault(fault, number)?;
                 Ok(RunEnd::Faulted)
             }
-            Stop::NoMemory => Err(AllocError),
+            RunStop::NoMemory => Err(AllocError),
         }
     }
 
     // One line.
-    fn line(&mut self, program: &Program) -> Result<(), Stop>
+    fn line(&mut self, program: &Program) -> Result<(), RunStop>
         ensures { Ran (line (lines_of program.now) (state_of self.old)) self.old self.new result }
     {
         if let Place::At(number) = self.place {
@@ -140,24 +140,24 @@ impl<'a> Interpreter<'a> {
                 return self.polled(program, number, statement);
             }
         }
-        Err(Stop::Fault(Fault::PastLast, highest(program)))
+        Err(RunStop::Fault(Fault::PastLast, highest(program)))
     }
 
     // A line at whose number this statement stands.
-    fn polled(&mut self, program: &Program, number: u16, statement: &Statement) -> Result<(), Stop>
-        ensures { Ran (and_then (poll number (state_of self.old)) (does (numbers (lines_of program.now)) number (command_of statement.now))) self.old self.new result }
+    fn polled(&mut self, program: &Program, number: u16, statement: &Statement) -> Result<(), RunStop>
+        ensures { Ran (and_then (poll number (state_of self.old)) (does (numbers (lines_of program.now)) number (statement_of statement.now))) self.old self.new result }
     {
         self.poll(number)?;
         self.statement(program, number, statement)
     }
 
     // Takes an answer, which may be a break.
-    fn poll(&mut self, number: u16) -> Result<(), Stop>
+    fn poll(&mut self, number: u16) -> Result<(), RunStop>
         ensures { Ran (poll number (state_of self.old)) self.old self.new result }
     {
         if let Some((answer, rest)) = self.answers.split_first() {
             if *answer == 3 {
-                return Err(Stop::Fault(Fault::Break, number));
+                return Err(RunStop::Fault(Fault::Break, number));
             }
             self.answers = rest;
         }
@@ -169,8 +169,8 @@ impl<'a> Interpreter<'a> {
         program: &Program,
         number: u16,
         statement: &Statement,
-    ) -> Result<(), Stop>
-        ensures { Ran (does (numbers (lines_of program.now)) number (command_of statement.now) (state_of self.old)) self.old self.new result }
+    ) -> Result<(), RunStop>
+        ensures { Ran (does (numbers (lines_of program.now)) number (statement_of statement.now) (state_of self.old)) self.old self.new result }
     {
         match statement {
             Statement::Let(x, e) => self.assign(program, number, *x, e),
@@ -186,7 +186,7 @@ impl<'a> Interpreter<'a> {
             Statement::Goto(target) => self.go_to(program, number, target),
             Statement::Gosub(target) => self.go_sub(program, number, target),
             Statement::Return => self.go_back(number),
-            Statement::End => Err(Stop::Ended),
+            Statement::End => Err(RunStop::Ended),
             Statement::Remark => self.fall(program, number),
         }
     }
@@ -197,8 +197,8 @@ impl<'a> Interpreter<'a> {
         number: u16,
         letter: Letter,
         e: &Expr,
-    ) -> Result<(), Stop>
-        ensures { Ran (does (numbers (lines_of program.now)) number (Let (place letter) (expression_of e.now)) (state_of self.old)) self.old self.new result }
+    ) -> Result<(), RunStop>
+        ensures { Ran (does (numbers (lines_of program.now)) number (Let (letter_index letter) (expression_of e.now)) (state_of self.old)) self.old self.new result }
     {
         let value = self.value(number, e)?;
         self.store(letter, value);
@@ -211,7 +211,7 @@ impl<'a> Interpreter<'a> {
         number: u16,
         items: &[PrintItem],
         ends_line: bool,
-    ) -> Result<(), Stop>
+    ) -> Result<(), RunStop>
         ensures { Ran (does (numbers (lines_of program.now)) number (Print (map item_of items.now) ends_line) (state_of self.old)) self.old self.new result }
     {
         self.print_items(number, items)?;
@@ -221,7 +221,7 @@ impl<'a> Interpreter<'a> {
         self.fall(program, number)
     }
 
-    fn input(&mut self, program: &Program, number: u16, letters: &[Letter]) -> Result<(), Stop>
+    fn input(&mut self, program: &Program, number: u16, letters: &[Letter]) -> Result<(), RunStop>
         ensures { Ran (does (numbers (lines_of program.now)) number (Input (letters_of letters.now)) (state_of self.old)) self.old self.new result }
     {
         self.take_inputs(number, letters)?;
@@ -229,7 +229,7 @@ impl<'a> Interpreter<'a> {
     }
 
     // Whether the values of two expressions are so related.
-    fn relate(&mut self, number: u16, l: &Expr, rel: Rel, r: &Expr) -> Result<bool, Stop>
+    fn relate(&mut self, number: u16, l: &Expr, rel: Rel, r: &Expr) -> Result<bool, RunStop>
         ensures { HasRelation number (expression_of l.now) rel (expression_of r.now) self.old self.new result }
     {
         let left = self.value(number, l)?;
@@ -238,52 +238,52 @@ impl<'a> Interpreter<'a> {
     }
 
     // On to the next line.
-    fn fall(&mut self, program: &Program, number: u16) -> Result<(), Stop>
+    fn fall(&mut self, program: &Program, number: u16) -> Result<(), RunStop>
         ensures { Ran (fall (numbers (lines_of program.now)) number (state_of self.old)) self.old self.new result }
     {
         self.place = next_after(program, number);
         Ok(())
     }
 
-    fn go_to(&mut self, program: &Program, number: u16, target: &Expr) -> Result<(), Stop>
+    fn go_to(&mut self, program: &Program, number: u16, target: &Expr) -> Result<(), RunStop>
         ensures { Ran (does (numbers (lines_of program.now)) number (Goto (expression_of target.now)) (state_of self.old)) self.old self.new result }
     {
         let target = self.value(number, target)?;
         self.jump(program, number, target)
     }
 
-    fn jump(&mut self, program: &Program, number: u16, target: u16) -> Result<(), Stop>
+    fn jump(&mut self, program: &Program, number: u16, target: u16) -> Result<(), RunStop>
         ensures { Ran (go_to (numbers (lines_of program.now)) number target (state_of self.old)) self.old self.new result }
     {
         if !has_line(program, target) {
-            return Err(Stop::Fault(Fault::NoLine, number));
+            return Err(RunStop::Fault(Fault::NoLine, number));
         }
         self.place = Place::At(target);
         Ok(())
     }
 
-    fn go_sub(&mut self, program: &Program, number: u16, target: &Expr) -> Result<(), Stop>
+    fn go_sub(&mut self, program: &Program, number: u16, target: &Expr) -> Result<(), RunStop>
         ensures { Ran (does (numbers (lines_of program.now)) number (Gosub (expression_of target.now)) (state_of self.old)) self.old self.new result }
     {
         let target = self.value(number, target)?;
         self.call(program, number, target)
     }
 
-    fn call(&mut self, program: &Program, number: u16, target: u16) -> Result<(), Stop>
+    fn call(&mut self, program: &Program, number: u16, target: u16) -> Result<(), RunStop>
         ensures { Ran (go_sub (numbers (lines_of program.now)) number target (state_of self.old)) self.old self.new result }
     {
         if !has_line(program, target) {
-            return Err(Stop::Fault(Fault::NoLine, number));
+            return Err(RunStop::Fault(Fault::NoLine, number));
         }
         if self.returns.len() >= DEEPEST {
-            return Err(Stop::Fault(Fault::ReturnsTooDeep, number));
+            return Err(RunStop::Fault(Fault::ReturnsTooDeep, number));
         }
         note(&mut self.returns, next_after(program, number))?;
         self.place = Place::At(target);
         Ok(())
     }
 
-    fn go_back(&mut self, number: u16) -> Result<(), Stop>
+    fn go_back(&mut self, number: u16) -> Result<(), RunStop>
         ensures { Ran (go_back number (state_of self.old)) self.old self.new result }
     {
         match self.returns.pop() {
@@ -291,11 +291,11 @@ impl<'a> Interpreter<'a> {
                 self.place = place;
                 Ok(())
             }
-            None => Err(Stop::Fault(Fault::NoReturn, number)),
+            None => Err(RunStop::Fault(Fault::NoReturn, number)),
         }
     }
 
-    fn print_items(&mut self, number: u16, items: &[PrintItem]) -> Result<(), Stop>
+    fn print_items(&mut self, number: u16, items: &[PrintItem]) -> Result<(), RunStop>
         ensures { Ran (print_items number (map item_of items.now) (state_of self.old)) self.old self.new result }
     {
         for item in items {
@@ -304,7 +304,7 @@ impl<'a> Interpreter<'a> {
         Ok(())
     }
 
-    fn print_item(&mut self, number: u16, item: &PrintItem) -> Result<(), Stop>
+    fn print_item(&mut self, number: u16, item: &PrintItem) -> Result<(), RunStop>
         ensures { Ran (print_item number (item_of item.now) (state_of self.old)) self.old self.new result }
     {
         match item {
@@ -318,7 +318,7 @@ impl<'a> Interpreter<'a> {
         Ok(())
     }
 
-    fn take_inputs(&mut self, number: u16, letters: &[Letter]) -> Result<(), Stop>
+    fn take_inputs(&mut self, number: u16, letters: &[Letter]) -> Result<(), RunStop>
         ensures { Ran (inputs number (letters_of letters.now) (state_of self.old)) self.old self.new result }
     {
         for letter in letters {
@@ -328,8 +328,8 @@ impl<'a> Interpreter<'a> {
     }
 
     // One variable's turn.
-    fn take_input(&mut self, number: u16, letter: Letter) -> Result<(), Stop>
-        ensures { Ran (input number (place letter) (state_of self.old)) self.old self.new result }
+    fn take_input(&mut self, number: u16, letter: Letter) -> Result<(), RunStop>
+        ensures { Ran (input number (letter_index letter) (state_of self.old)) self.old self.new result }
     {
         if !self.open_line {
             self.output.send_all(b"? ")?;
@@ -337,8 +337,8 @@ impl<'a> Interpreter<'a> {
         self.take_turn(number, letter)
     }
 
-    fn take_turn(&mut self, number: u16, letter: Letter) -> Result<(), Stop>
-        ensures { Ran (take_turn number (place letter) (turn Nothing (state_of self.old).text) (state_of self.old)) self.old self.new result }
+    fn take_turn(&mut self, number: u16, letter: Letter) -> Result<(), RunStop>
+        ensures { Ran (take_turn number (letter_index letter) (turn Nothing (state_of self.old).text) (state_of self.old)) self.old self.new result }
     {
         match take_number(self.text) {
             Turn::Got(word, stays_open, rest) => {
@@ -350,25 +350,25 @@ impl<'a> Interpreter<'a> {
                 }
                 Ok(())
             }
-            Turn::Bad => Err(Stop::Fault(Fault::BadInput, number)),
-            Turn::Dry => Err(Stop::Waits),
+            Turn::Bad => Err(RunStop::Fault(Fault::BadInput, number)),
+            Turn::Dry => Err(RunStop::Waits),
         }
     }
 
     fn store(&mut self, letter: Letter, value: u16)
-        ensures state { state_of self.new ≡ stored (place letter) value (state_of self.old) }
+        ensures state { state_of self.new ≡ stored (letter_index letter) value (state_of self.old) }
         ensures output { self.new.output ≡ self.old.output }
     {
         self.variables[letter.index()] = value;
     }
 
     // The value of an expression.
-    fn value(&mut self, number: u16, e: &Expr) -> Result<u16, Stop>
+    fn value(&mut self, number: u16, e: &Expr) -> Result<u16, RunStop>
         ensures { HasValue number (expression_of e.now) self.old self.new result }
     {
         match value(e, &self.variables, &mut self.seed) {
             Ok(value) => Ok(value),
-            Err(fault) => Err(Stop::Fault(fault, number)),
+            Err(fault) => Err(RunStop::Fault(fault, number)),
         }
     }
 }

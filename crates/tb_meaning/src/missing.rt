@@ -1,7 +1,7 @@
 //! Warnings: jumps to constant lines that are missing.
 ghost use Rattle.std.specs.Prelude.{◌≡◌, ◌++◌, [], ◌∷◌, IfOk, OnOk, map, option_map};
 ghost use Rattle.tb_words.specs.Words.{word_of};
-ghost use Rattle.tb_syntax.specs.PlainData.{expression_of, command_of, lines_of};
+ghost use Rattle.tb_syntax.specs.PlainData.{expression_of, statement_of, lines_of};
 ghost use Rattle.tb_syntax.specs.Source.{numbers};
 ghost use Rattle.tb_meaning.specs.Values.{constant};
 ghost use Rattle.tb_meaning.specs.Missing.{without_line, missing_target, missing_targets};
@@ -36,7 +36,7 @@ pub fn warnings(alloc: Global, program: &Program) -> Result<Vec<Warning>, AllocE
 
 // The constant target of a statement, where it is missing.
 fn missing_target(program: &Program, statement: &Statement) -> Option<i16>
-    ensures { option_map word_of result ≡ missing_target (numbers (lines_of program.now)) (command_of statement.now) }
+    ensures { option_map word_of result ≡ missing_target (numbers (lines_of program.now)) (statement_of statement.now) }
 {
     match statement {
         Statement::Goto(target) | Statement::Gosub(target) => without_line(program, target),

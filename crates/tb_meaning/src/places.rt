@@ -1,6 +1,6 @@
 //! Where a run stands.
 ghost use Rattle.std.specs.Prelude.{◌≡◌, option_map};
-ghost use Rattle.tb_syntax.specs.PlainData.{command_of, lines_of};
+ghost use Rattle.tb_syntax.specs.PlainData.{statement_of, lines_of};
 ghost use Rattle.tb_syntax.specs.Source.{numbers};
 ghost use Rattle.tb_meaning.specs.Control.{has_line, content_at, next_after, first_place, highest};
 ghost use Rattle.tb_meaning.specs.Parts.{place_of};
@@ -57,7 +57,7 @@ pub fn has_line(program: &Program, number: u16) -> bool
 
 /// The statement of a line.
 pub fn statement_at(program: &Program, number: u16) -> Option<&Statement>
-    ensures { option_map (λ s. command_of s.now) result ≡ content_at (lines_of program.now) number }
+    ensures { option_map (λ s. statement_of s.now) result ≡ content_at (lines_of program.now) number }
 {
     for (line, statement) in program.lines() {
         if *line == number {

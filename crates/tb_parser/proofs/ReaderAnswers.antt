@@ -1,6 +1,6 @@
 -- What the readers tell.
 use Rattle.std.proofs.Common.{◌≡◌, ℕ, List, Option, Some, None, Result, Ok, Err, refl, MatchOption, IfSome}
-use Rattle.tb_parser.specs.declared.errors.Fault.{Fault}
+use Rattle.tb_parser.specs.declared.errors.LineFault.{LineFault}
 use Rattle.tb_parser.specs.declared.errors.SourceErrorKind.TheVariants.{NotCompiled, NumberTooLarge, Syntax}
 use Rattle.tb_parser.specs.declared.squeeze.Placed.{Placed}
 use Rattle.tb_parser.specs.Answers.{refusal_of, Says}
@@ -9,7 +9,7 @@ use Rattle.tb_parser.specs.Scans.{column_left, left_out_word}
 use Rattle.tb_parser.specs.Squeezed.{bytes}
 
 -- a reading without a large literal is the value, one with a large literal is refused there
-pub says_in_range : {X A : Type 0} (view : X → A) (grammar : Grammar A) (text : List Placed) (x : X) (large : Option ℕ) (result : Result X Fault)
+pub says_in_range : {X A : Type 0} (view : X → A) (grammar : Grammar A) (text : List Placed) (x : X) (large : Option ℕ) (result : Result X LineFault)
     → grammar (bytes text) (view x) large
     → MatchOption large (result ≡ Ok x) (λ left. result ≡ Err (record { kind = NumberTooLarge; column = column_left left text }))
     → Says view result (TextIs A grammar text)
@@ -17,7 +17,7 @@ says_in_range view grammar text x None result reading e = rw e (reads (view x) r
 says_in_range view grammar text x (Some left) result reading e = rw e (number_too_large (view x) left reading)
 
 -- without a reading the first left-out word decides
-pub says_unread : {X A : Type 0} (view : X → A) (grammar : Grammar A) (text : List Placed) (fault : Fault)
+pub says_unread : {X A : Type 0} (view : X → A) (grammar : Grammar A) (text : List Placed) (fault : LineFault)
     → HasNoReading grammar (bytes text)
     → MatchOption (left_out_word text) (fault.kind ≡ Syntax) (λ column. fault ≡ record { kind = NotCompiled; column = column })
     → Says view (Err fault) (TextIs A grammar text)

@@ -3,7 +3,7 @@ use Rattle.std.proofs.Common.{◌≡◌, ℕ, ◌+◌, ◌<◌, ◌≤◌, Bool,
 use Rattle.std.proofs.lemmas.Bool.Decides.{nat_tests}
 use Rattle.std.specs.Prelude.{nat_lt}
 use Rattle.std.proofs.lemmas.Bool.{eqb-true}
-use Rattle.tb_syntax.specs.Source.{Command, Program, numbers}
+use Rattle.tb_syntax.specs.Source.{Statement, Program, numbers}
 use Rattle.tb_parser.specs.Files.{Outcome, line_at, with_line, without_line, edited, at_end, LinesAre, end, bad, good, RisesFrom}
 use Rattle.tb_parser.specs.Readings.{Refusal, Edit, LineIs, blank, unfit, unnumbered, bad_line_number, deletes, sets, unread}
 
@@ -20,7 +20,7 @@ below_from_test a b e = grind (arith, nat_tests)
 above_from_tests : (a b : ℕ) → nat_lt a b ≡ false → (a == b) ≡ false → b < a
 above_from_tests a b e f = grind (arith, nat_tests)
 
-with_line_rises : (n : ℕ) (c : Command) (low : ℕ) (p : Program) → low < n → n ≤ 32767 → RisesFrom low (numbers p) → RisesFrom low (numbers (with_line n c p))
+with_line_rises : (n : ℕ) (c : Statement) (low : ℕ) (p : Program) → low < n → n ≤ 32767 → RisesFrom low (numbers p) → RisesFrom low (numbers (with_line n c p))
 with_line_rises n c low [] above within h = (above, within, tt)
 with_line_rises n c low (line ∷ lines) above within h = go (nat_lt n line.number) (n == line.number) refl refl (λ higher. with_line_rises n c line.number lines higher within h.2)
   where

@@ -3,7 +3,7 @@ use Rattle.std.proofs.Common.{◌≡◌, ℕ, ◌+◌, false, true, List, [], �
 use Rattle.tb_syntax.specs.declared.statements.Statement.{Statement}
 use Rattle.tb_syntax.specs.Source.{Program}
 use Rattle.tb_syntax.specs.PlainData.{lines_of}
-use Rattle.tb_parser.specs.declared.errors.Fault.{Fault}
+use Rattle.tb_parser.specs.declared.errors.LineFault.{LineFault}
 use Rattle.tb_parser.specs.declared.errors.SourceError.{SourceError}
 use Rattle.tb_parser.specs.Answers.{Answers, Says, edit_of, refusal_of}
 use Rattle.tb_parser.specs.Files.{Outcome, refused_at, edited, at_end, LinesAre, end, bad, good}
@@ -18,7 +18,7 @@ module _ (n : ℕ) (p : Program) (text : List ℕ) (Total : Outcome → Type 0) 
   Decides = (outcome : Outcome) → LinesAre n p (lines_of_file text) outcome → Total outcome
 
   -- a bad line ends it
-  pub bad_line : (line behind : List ℕ) (fault : Fault) (error : SourceError) → lines_of_file text ≡ line ∷ lines_of_file behind
+  pub bad_line : (line behind : List ℕ) (fault : LineFault) (error : SourceError) → lines_of_file text ≡ line ∷ lines_of_file behind
       → Says edit_of (Err fault) (LineIs line) → error ≡ at_line n fault → Decides → Answers lines_of (Err error) Total
   bad_line line behind fault error first said is decides =
       let Family : SourceError → Type 0 = λ e. Answers lines_of (Err e) Total in

@@ -1,7 +1,7 @@
 -- Each statement of a file's program stands in a text that is no longer than a line.
 use Rattle.std.proofs.Common.{◌≡◌, ℕ, ◌+◌, ◌-◌, ◌*◌, ◌≤◌, Bool, true, false, List, [], ◌∷◌, length, ap, arith, Result, Ok, Err, ◌==◌, if◌then◌else◌}
 use Rattle.std.specs.Prelude.{nat_lt}
-use Rattle.tb_syntax.specs.Source.{Command, Program}
+use Rattle.tb_syntax.specs.Source.{Statement, Program}
 use Rattle.tb_grammar.specs.Statements.{States}
 use Rattle.tb_grammar.specs.Reading.{is_digit}
 use Rattle.tb_parser.specs.declared.squeeze.Mode.{Mode}
@@ -45,16 +45,16 @@ text_length line number text n =
     let e : length (bytes text) ≡ length text = bytes_length text in
     omega (arith, a, b, c, d, e)
 
-IsStatedAnswer : Result Command Refusal → Type 0
+IsStatedAnswer : Result Statement Refusal → Type 0
 IsStatedAnswer (Ok c) = IsStated c
 IsStatedAnswer (Err r) = Unit {0}
 
-text_stated : (text : List Placed) (m : Result Command Refusal) → length (bytes text) ≤ 255 → TextIs Command States text m → IsStatedAnswer m
+text_stated : (text : List Placed) (m : Result Statement Refusal) → length (bytes text) ≤ 255 → TextIs Statement States text m → IsStatedAnswer m
 unfolding IsStatedAnswer
 text_stated text _ l (reads a s) = record { text = bytes text; short = l; states = s }
 text_stated text (Err r) l t = tt
 
-with_stated : (n : ℕ) (c : Command) (p : Program) → IsStated c → AreStated p → AreStated (with_line n c p)
+with_stated : (n : ℕ) (c : Statement) (p : Program) → IsStated c → AreStated p → AreStated (with_line n c p)
 with_stated n c [] s h = (s, tt)
 with_stated n c (line ∷ lines) s h = by (nat_lt n line.number) (n == line.number) (with_stated n c lines s h.1)
   where

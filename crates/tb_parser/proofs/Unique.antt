@@ -1,7 +1,7 @@
 -- No text, line or file has two meanings.
 use Rattle.std.proofs.Common.{◌≡◌, ◌≢◌, ℕ, ◌+◌, ◌<◌, ◌≤◌, Bool, true, false, List, [], ◌∷◌, length, Option, Some, None, Result, Ok, Err, refl, sym, ap, ◌∙◌, arith, ◌⊎◌, inl, inr, if◌then◌else◌, nat_le, ◌&&◌}
 use Rattle.std.proofs.lemmas.Bool.Decides.{nat_tests}
-use Rattle.tb_syntax.specs.Source.{Command, Expression, Program}
+use Rattle.tb_syntax.specs.Source.{Statement, Expression, Program}
 use Rattle.tb_grammar.specs.Statements.{States}
 use Rattle.tb_grammar.proofs.ExpressionLaws as expression_laws
 use Rattle.tb_grammar.proofs.StatementLaws as statement_laws
@@ -82,7 +82,7 @@ judged line =
     else Decided (Err (at_column LineTooLong 256)))
 
 -- what a statement does at a line number
-at_number : ℕ → Result Command Refusal → Result Edit Refusal
+at_number : ℕ → Result Statement Refusal → Result Edit Refusal
 at_number number (Ok c) = Ok (Sets number c)
 at_number number (Err r) = Err r
 
@@ -90,8 +90,8 @@ record Reads (line : List ℕ) (m : Result Edit Refusal) : Type 0 where
   number : ℕ
   text : List Placed
   is_judged : judged line ≡ Statement number text
-  said : Result Command Refusal
-  reading : TextIs Command States text said
+  said : Result Statement Refusal
+  reading : TextIs Statement States text said
   meaning : m ≡ at_number number said
 
 low_enough : (a b : ℕ) → a ≤ b → nat_le a b ≡ true

@@ -1,9 +1,9 @@
 -- What the crate's answers say.
 use Rattle.std.specs.Prelude.{◌≡◌, ℕ, Option, Some, None, Result, Ok, Err, IfSome}
-use Rattle.tb_syntax.specs.PlainData.{command_of}
+use Rattle.tb_syntax.specs.PlainData.{statement_of}
 use Rattle.tb_parser.specs.declared.edits.LineEdit.{LineEdit}
 use Rattle.tb_parser.specs.declared.edits.LineEdit.TheVariants as line_edit
-use Rattle.tb_parser.specs.declared.errors.Fault.{Fault}
+use Rattle.tb_parser.specs.declared.errors.LineFault.{LineFault}
 use Rattle.tb_parser.specs.declared.errors.SourceError.{SourceError}
 use Rattle.tb_parser.specs.declared.errors.SourceErrorKind.{SourceErrorKind}
 use Rattle.tb_parser.specs.declared.errors.SourceErrorKind.TheVariants.{Syntax, NoMemory}
@@ -17,7 +17,7 @@ refusal_of Syntax column = Some (record { kind = Syntax; column = None })
 refusal_of kind column = Some (at_column kind column)
 
 -- the answer for a line is one of these, unless memory ran out
-abbrev pub Says : {X A : Type 0} → (X → A) → Result X Fault → (Result A Refusal → Type 0) → Type 0
+abbrev pub Says : {X A : Type 0} → (X → A) → Result X LineFault → (Result A Refusal → Type 0) → Type 0
 Says view (Ok x) Is = Is (Ok (view x))
 Says view (Err fault) Is = IfSome (refusal_of fault.kind fault.column) (λ r. Is (Err r))
 
@@ -34,5 +34,5 @@ InLineOne Is (Err r) = (r.line ≡ 1) × Is (Err r.refusal)
 -- what a line does, as plain data
 abbrev pub edit_of : LineEdit → Edit
 edit_of line_edit.Nothing = Nothing
-edit_of (line_edit.Set number statement) = Sets number (command_of statement)
+edit_of (line_edit.Set number statement) = Sets number (statement_of statement)
 edit_of (line_edit.Delete number) = Deletes number

@@ -1,16 +1,16 @@
 -- The program of a file, line by line.
 use Rattle.std.specs.Prelude.{ℕ, ◌+◌, ◌<◌, ◌≤◌, List, [], ◌∷◌, length, Some, None, Result, Ok, Err, if◌then◌else◌, ◌==◌, nat_lt}
-use Rattle.tb_syntax.specs.Source.{Command, Numbered, Program}
+use Rattle.tb_syntax.specs.Source.{Statement, Numbered, Program}
 use Rattle.tb_grammar.specs.Statements.{States}
 use Rattle.tb_parser.specs.declared.errors.SourceErrorKind.TheVariants.{Empty}
 use Rattle.tb_parser.specs.Readings.{Refusal, Edit, Nothing, Sets, Deletes, LineIs}
 
 -- a line of a program
-abbrev pub line_at : ℕ → Command → Numbered Command
+abbrev pub line_at : ℕ → Statement → Numbered Statement
 line_at number c = record { number = number; content = c }
 
 -- a program with one line's entry set, in rising order
-abbrev pub with_line : ℕ → Command → Program → Program
+abbrev pub with_line : ℕ → Statement → Program → Program
 with_line number c [] = line_at number c ∷ []
 with_line number c (line ∷ lines) =
     if nat_lt number line.number then line_at number c ∷ line ∷ lines
@@ -59,7 +59,7 @@ RisesFrom low [] = Unit {0}
 RisesFrom low (n ∷ ns) = (low < n) × (n ≤ 32767) × RisesFrom n ns
 
 -- a statement that stands in a text of at most 255 bytes
-pub record IsStated (c : Command) : Type 0 where
+pub record IsStated (c : Statement) : Type 0 where
   pub text : List ℕ
   pub short : length text ≤ 255
   pub states : States text c None

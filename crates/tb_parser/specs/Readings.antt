@@ -1,6 +1,6 @@
 -- What a line says, or why it is refused.
 use Rattle.std.specs.Prelude.{◌≡◌, ◌≢◌, ℕ, ◌<◌, ◌≤◌, List, [], length, false, true, Option, Some, None, Result, Ok, Err}
-use Rattle.tb_syntax.specs.Source.{Expression, Command}
+use Rattle.tb_syntax.specs.Source.{Expression, Statement}
 use Rattle.tb_grammar.specs.Grammar.{Reads, Whole}
 use Rattle.tb_grammar.specs.Statements.{States}
 use Rattle.tb_parser.specs.declared.errors.SourceErrorKind.{SourceErrorKind}
@@ -59,7 +59,7 @@ pub record IsNumbered (line : List ℕ) (number : ℕ) (text : List Placed) : Ty
 -- what a line does to the program
 pub data Edit : Type 0 where
   Nothing : Edit
-  Sets : (number : ℕ) (c : Command) → Edit
+  Sets : (number : ℕ) (c : Statement) → Edit
   Deletes : (number : ℕ) → Edit
 
 -- A line of a file. Its faults are looked for in this order: line too long, bad byte (`IsUnfit`), unnumbered, bad line
@@ -71,8 +71,8 @@ pub data LineIs (line : List ℕ) : Result Edit Refusal → Type 0 where
   bad_line_number : (first : ℕ) → first_written 1 line ≡ Some first → IsFit line → starts_with_digit (squeezed line) ≡ true
       → (IsLineNumber (number_at 0 (squeezed line)).value → ⊥) → LineIs line (Err (at_column BadLineNumber first))
   deletes : (number : ℕ) → IsNumbered line number [] → LineIs line (Ok (Deletes number))
-  sets : (number : ℕ) (text : List Placed) (c : Command) → IsNumbered line number text → text ≢ [] → TextIs Command States text (Ok c) → LineIs line (Ok (Sets number c))
-  unread : (number : ℕ) (text : List Placed) (r : Refusal) → IsNumbered line number text → text ≢ [] → TextIs Command States text (Err r) → LineIs line (Err r)
+  sets : (number : ℕ) (text : List Placed) (c : Statement) → IsNumbered line number text → text ≢ [] → TextIs Statement States text (Ok c) → LineIs line (Ok (Sets number c))
+  unread : (number : ℕ) (text : List Placed) (r : Refusal) → IsNumbered line number text → text ≢ [] → TextIs Statement States text (Err r) → LineIs line (Err r)
 
 -- the whole text is one expression
 abbrev pub Expresses : Grammar Expression

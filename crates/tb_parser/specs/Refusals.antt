@@ -1,6 +1,6 @@
 -- Refusals of a line and of a file.
 use Rattle.std.specs.Prelude.{ℕ}
-use Rattle.tb_parser.specs.declared.errors.Fault.{Fault}
+use Rattle.tb_parser.specs.declared.errors.LineFault.{LineFault}
 use Rattle.tb_parser.specs.declared.errors.SourceError.{SourceError}
 use Rattle.tb_parser.specs.declared.errors.SourceErrorKind.{SourceErrorKind}
 use Rattle.tb_parser.specs.declared.errors.SourceErrorKind.TheVariants.{NoMemory}
@@ -10,7 +10,7 @@ abbrev pub out_of_memory : SourceError
 out_of_memory = record { kind = NoMemory; line = 0; column = 0 }
 
 -- the same of a line
-abbrev pub fault_of_memory : Fault
+abbrev pub fault_of_memory : LineFault
 fault_of_memory = record { kind = NoMemory; column = 0 }
 
 -- a fault of a line of a file
@@ -19,5 +19,5 @@ error_at NoMemory line column = out_of_memory
 error_at kind line column = record { kind = kind; line = line; column = column }
 
 -- the same, from what the crate holds
-abbrev pub at_line : ℕ → Fault → SourceError
+abbrev pub at_line : ℕ → LineFault → SourceError
 at_line line fault = error_at fault.kind line fault.column

@@ -54,7 +54,7 @@ impl<T: Drop> From<AllocFailed<T>> for SourceError {
 
 /// What is wrong in a line, and at which byte of it, from 1.
 #[derive(Clone, Copy, Debug, PartialEq, Eq)]
-pub struct Fault {
+pub struct LineFault {
     /// What is wrong.
     pub kind: SourceErrorKind,
     /// The byte of the line, from 1.
@@ -62,12 +62,12 @@ pub struct Fault {
 }
 
 /// Want of memory.
-pub(crate) const OUT_OF_MEMORY: Fault = Fault {
+pub(crate) const OUT_OF_MEMORY: LineFault = LineFault {
     kind: SourceErrorKind::NoMemory,
     column: 0,
 };
 
-impl Fault {
+impl LineFault {
     /// The same with the line's number in its file.
     pub fn at_line(self, line: usize) -> SourceError
         ensures { result ≡ at_line line self }
@@ -87,10 +87,10 @@ impl Fault {
     }
 }
 
-impl From<AllocError> for Fault {
+impl From<AllocError> for LineFault {
     ghost from_gives = { λ _ e. e ≡ fault_of_memory };
 
-    fn from(_e: AllocError) -> Fault {
+    fn from(_e: AllocError) -> LineFault {
         OUT_OF_MEMORY
     }
 }

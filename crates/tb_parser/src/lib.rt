@@ -13,7 +13,7 @@ mod scans;
 mod squeeze;
 
 pub use edits::{LineEdit, apply};
-pub use errors::{Fault, SourceError, SourceErrorKind};
+pub use errors::{LineFault, SourceError, SourceErrorKind};
 pub use lexer::{Token, TokenKind, tokens};
 pub use lines::next_line;
 pub use parser::{parse, parse_expr, read_line};

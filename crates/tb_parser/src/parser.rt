@@ -1,7 +1,7 @@
 //! Source texts read: a file, a line of it, one expression.
 ghost use Rattle.std.specs.Prelude.{◌≡◌, ◌≢◌, ℕ, [], None, Some, Result, Ok, Err, IfErr, IfOk, IfSome, MatchOption, MatchResult, length};
-ghost use Rattle.tb_syntax.specs.Source.{Command, Expression, numbers};
-ghost use Rattle.tb_syntax.specs.PlainData.{command_of, expression_of, lines_of};
+ghost use Rattle.tb_syntax.specs.Source.{Statement as SourceStatement, Expression, numbers};
+ghost use Rattle.tb_syntax.specs.PlainData.{statement_of, expression_of, lines_of};
 ghost use Rattle.tb_grammar.specs.Statements.{States};
 ghost use Rattle.tb_parser.specs.declared.errors.SourceErrorKind.TheVariants.{NoMemory, NotCompiled, NumberTooLarge, Syntax};
 ghost use Rattle.tb_parser.specs.Answers.{edit_of, refusal_of, Answers, InLineOne, Says};
@@ -12,12 +12,12 @@ ghost use Rattle.tb_parser.specs.Refusals.{out_of_memory};
 ghost use Rattle.tb_parser.specs.Scans.{column_left, left_out_word};
 
 use crate::edits::{LineEdit, apply};
-use crate::errors::{Fault, OUT_OF_MEMORY, SourceError, SourceErrorKind};
+use crate::errors::{LineFault, OUT_OF_MEMORY, SourceError, SourceErrorKind};
 use crate::lines::next_line;
 use crate::scans::{bad_byte, column_of_left, is_numbered, left_out, line_number, written};
 use crate::squeeze::{Placed, bytes_of, squeeze};
 use std::alloc::Global;
-use tb_grammar::{Stop, read_expression, read_statement};
+use tb_grammar::{ReadError, read_expression, read_statement};
 use tb_syntax::{Expr, Program, Statement};
 
 /// The most bytes that a line has.
@@ -74,7 +74,7 @@ pub fn parse_expr(alloc: Global, text: &[u8]) -> Result<Expr, SourceError>
 }
 
 /// What a line of a file does, or its first fault. Want of memory is a fault too, of column 0.
-pub fn read_line(alloc: Global, line: &[u8]) -> Result<LineEdit, Fault>
+pub fn read_line(alloc: Global, line: &[u8]) -> Result<LineEdit, LineFault>
     ensures { Says edit_of result (LineIs line.now) }
 {
     let Some(first) = written(line) else {
@@ -83,13 +83,13 @@ pub fn read_line(alloc: Global, line: &[u8]) -> Result<LineEdit, Fault>
     check_bytes(line)?;
     let placed = squeeze(alloc, line)?;
     if !is_numbered(&placed) {
-        return Err(Fault {
+        return Err(LineFault {
             kind: SourceErrorKind::Unnumbered,
             column: first,
         });
     }
     let Some((number, text)) = line_number(&placed) else {
-        return Err(Fault {
+        return Err(LineFault {
             kind: SourceErrorKind::BadLineNumber,
             column: first,
         });
@@ -97,22 +97,22 @@ pub fn read_line(alloc: Global, line: &[u8]) -> Result<LineEdit, Fault>
     if text.is_empty() {
         return Ok(LineEdit::Delete(number));
     }
-    Ok(LineEdit::Set(number, read_command(alloc, line, text)?))
+    Ok(LineEdit::Set(number, read_line_statement(alloc, line, text)?))
 }
 
 // A line that is neither too long nor has a bad byte.
 #[tactic(auto, using(crate::specs::Readings::line_too_long, crate::specs::Readings::bad_byte))]
-fn check_bytes(line: &[u8]) -> Result<(), Fault>
+fn check_bytes(line: &[u8]) -> Result<(), LineFault>
     ensures { MatchResult result (λ _. IsFit line.now) (λ fault. IfSome (refusal_of fault.kind fault.column) (IsUnfit line.now)) }
 {
     if line.len() > LONGEST_LINE {
-        return Err(Fault {
+        return Err(LineFault {
             kind: SourceErrorKind::LineTooLong,
             column: LONGEST_LINE + 1,
         });
     }
     match bad_byte(line) {
-        Some(column) => Err(Fault {
+        Some(column) => Err(LineFault {
             kind: SourceErrorKind::BadByte,
             column,
         }),
@@ -121,19 +121,19 @@ fn check_bytes(line: &[u8]) -> Result<(), Fault>
 }
 
 // The statement behind a line's number.
-fn read_command(alloc: Global, line: &[u8], text: &[Placed]) -> Result<Statement, Fault>
-    ensures { Says command_of result (TextIs Command States text.now) }
+fn read_line_statement(alloc: Global, line: &[u8], text: &[Placed]) -> Result<Statement, LineFault>
+    ensures { Says statement_of result (TextIs SourceStatement States text.now) }
 {
     let bytes = bytes_of(alloc, text)?;
     match read_statement(alloc, &bytes) {
         Ok(read) => in_range(read.statement, read.large, text),
-        Err(Stop::NoMemory) => Err(OUT_OF_MEMORY),
-        Err(Stop::NoReading(left)) => Err(unread(line, text, left)),
+        Err(ReadError::NoMemory) => Err(OUT_OF_MEMORY),
+        Err(ReadError::NoReading(left)) => Err(unread(line, text, left)),
     }
 }
 
 // A line that is one expression.
-fn read_expression_line(alloc: Global, line: &[u8]) -> Result<Expr, Fault>
+fn read_expression_line(alloc: Global, line: &[u8]) -> Result<Expr, LineFault>
     ensures { Says expression_of result (ExpressionIs line.now) }
 {
     check_bytes(line)?;
@@ -142,24 +142,24 @@ fn read_expression_line(alloc: Global, line: &[u8]) -> Result<Expr, Fault>
 }
 
 // The expression that a line's text is.
-fn read_value(alloc: Global, line: &[u8], text: &[Placed]) -> Result<Expr, Fault>
+fn read_value(alloc: Global, line: &[u8], text: &[Placed]) -> Result<Expr, LineFault>
     ensures { Says expression_of result (TextIs Expression Expresses text.now) }
 {
     let bytes = bytes_of(alloc, text)?;
     match read_expression(alloc, &bytes) {
         Ok(read) => in_range(read.expr, read.large, text),
-        Err(Stop::NoMemory) => Err(OUT_OF_MEMORY),
-        Err(Stop::NoReading(left)) => Err(unread(line, text, left)),
+        Err(ReadError::NoMemory) => Err(OUT_OF_MEMORY),
+        Err(ReadError::NoReading(left)) => Err(unread(line, text, left)),
     }
 }
 
 // What was read, unless a literal is too large; `large` is how many bytes are left from the first such literal on.
-fn in_range<T: Drop>(tree: T, large: Option<usize>, text: &[Placed]) -> Result<T, Fault>
+fn in_range<T: Drop>(tree: T, large: Option<usize>, text: &[Placed]) -> Result<T, LineFault>
     ensures { MatchOption large (result ≡ Ok tree) (λ left. result ≡ Err (record { kind = NumberTooLarge; column = column_left left text.now })) }
 {
     match large {
         None => Ok(tree),
-        Some(left) => Err(Fault {
+        Some(left) => Err(LineFault {
             kind: SourceErrorKind::NumberTooLarge,
             column: column_of_left(text, left),
         }),
@@ -167,15 +167,15 @@ fn in_range<T: Drop>(tree: T, large: Option<usize>, text: &[Placed]) -> Result<T
 }
 
 // Why a text of a line has no reading; `left` is how many bytes are left from the first token on that cannot stand there.
-fn unread(line: &[u8], text: &[Placed], left: usize) -> Fault
+fn unread(line: &[u8], text: &[Placed], left: usize) -> LineFault
     ensures { MatchOption (left_out_word text.now) (result.kind ≡ Syntax) (λ column. result ≡ record { kind = NotCompiled; column = column }) }
 {
     match left_out(text) {
-        Some(column) => Fault {
+        Some(column) => LineFault {
             kind: SourceErrorKind::NotCompiled,
             column,
         },
-        None => Fault {
+        None => LineFault {
             kind: SourceErrorKind::Syntax,
             column: match left {
                 0 => line.len() + 1,

@@ -7,8 +7,8 @@ use Rattle.tb_prg.specs.Prg.{content_of}
 use Rattle.tb_streams.specs.Streams.{AppendsPrefix}
 use Rattle.tb_engines.specs.Outcomes.{Product}
 use Rattle.tb_engines.specs.Programs.{start, RunsPrg}
-use Rattle.tb_engines.specs.declared.delivery.Stop.{Stop}
-use Rattle.tb_engines.specs.declared.delivery.Stop.TheVariants.{Refused as StopRefused, NoMemory as StopNoMemory}
+use Rattle.tb_engines.specs.declared.delivery.NoText.{NoText}
+use Rattle.tb_engines.specs.declared.delivery.NoText.TheVariants.{Refused as NoTextRefused, NoMemory as NoTextNoMemory}
 use Rattle.tb_engines.specs.declared.outcome.End.{End}
 use Rattle.tb_engines.specs.declared.outcome.End.TheVariants.{WaitsForKey}
 use Rattle.tb_engines.specs.declared.outcome.Outcome.{Outcome}
@@ -27,10 +27,10 @@ pub record IsStart (file : List ℕ) (m : Content) : Type 0 where
   pub machine : m ≡ start address bytes [] []
 
 -- the start machine, or why there is none: it is what a run of the file comes to
-abbrev pub IsStarted : List ℕ → Result Content Stop → Type 0
+abbrev pub IsStarted : List ℕ → Result Content NoText → Type 0
 IsStarted file (Ok m) = IsStart file m
-IsStarted file (Err (StopRefused e)) = RunsPrg gives_quiet (record {}) [] [] 0 file (Err e)
-IsStarted file (Err StopNoMemory) = Unit {0}
+IsStarted file (Err (NoTextRefused e)) = RunsPrg gives_quiet (record {}) [] [] 0 file (Err e)
+IsStarted file (Err NoTextNoMemory) = Unit {0}
 
 -- what playing a PRG file came to: its start machine was played, or nothing was done
 abbrev pub PlaysFile : ℕ → List ℕ → Outcome → List ℕ → Option (List ℕ) → Option (List ℕ) → ℕ → ℕ → Option (List ℕ) → Option (List ℕ) → Type 0

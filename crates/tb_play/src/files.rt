@@ -6,12 +6,12 @@ ghost use Rattle.tb_play.specs.Plays.{IsStarted, PlaysFile, PlayFaults, RunsType
 use crate::talk::{Played, play};
 use std::alloc::Global;
 use std::io::{Read, Write};
-use tb_engines::{Refusal, Stop, deliver, start_machine};
+use tb_engines::{Refusal, NoText, deliver, start_machine};
 use tb_kernal::{Keyboard, Machine};
 use tb_streams::Tracked;
 
 // The machine at the start of a PRG file, with nothing typed.
-fn start(alloc: Global, file: &[u8]) -> Result<Machine, Stop>
+fn start(alloc: Global, file: &[u8]) -> Result<Machine, NoText>
     ensures { IsStarted file.now result }
 {
     let keyboard = Keyboard {
@@ -20,7 +20,7 @@ fn start(alloc: Global, file: &[u8]) -> Result<Machine, Stop>
     };
     match tb_prg::read(file) {
         Ok(program) => start_machine(alloc, program, keyboard),
-        Err(error) => Err(Stop::Refused(Refusal::Prg(error))),
+        Err(error) => Err(NoText::Refused(Refusal::Prg(error))),
     }
 }
 

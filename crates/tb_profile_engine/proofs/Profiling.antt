@@ -14,8 +14,8 @@ use Rattle.tb_codegen.specs.Compiled.{prg_of, starts_of, IsCompiled, PlacesRise}
 use Rattle.tb_codegen.specs.declared.compiled.Compiled.{Compiled}
 use Rattle.tb_engines.specs.Programs.{start}
 use Rattle.tb_engines.specs.Outcomes.{Product}
-use Rattle.tb_engines.specs.declared.delivery.Stop.{Stop}
-use Rattle.tb_engines.specs.declared.delivery.Stop.TheVariants.{Refused, NoMemory}
+use Rattle.tb_engines.specs.declared.delivery.NoText.{NoText}
+use Rattle.tb_engines.specs.declared.delivery.NoText.TheVariants.{Refused, NoMemory}
 use Rattle.tb_driver.specs.Stepping.{IsLoadable}
 use Rattle.tb_driver.proofs.Loadable.{machine_at_start}
 use Rattle.tb_profile.specs.Steps.{Step, is_place}
@@ -33,7 +33,7 @@ use Rattle.tb_profile_engine.specs.Profiles.{IsProfileOf, Profiles, MakesTexts, 
 
 -- a run of the machine that was started is a profile
 pub started : {O : Type 0} (gives : O → Content → Event → O → Type 0) (o : O) (text answers : List ℕ) (limit : ℕ) (program : Compiled)
-    (at : ℕ) (bytes : List ℕ) (m : Content) (result : Result Ran Stop) → IsLoadable program → content_of (prg_of program) ≡ Ok (at, bytes)
+    (at : ℕ) (bytes : List ℕ) (m : Content) (result : Result Ran NoText) → IsLoadable program → content_of (prg_of program) ≡ Ok (at, bytes)
     → m ≡ start at bytes text answers → ComesTo (RunsFrom gives o limit program m) result → ComesTo (IsProfile gives o text answers limit program) result
 started gives o text answers limit program at bytes m result loadable content machine ran =
     subst (λ s. ComesTo (RunsFrom gives o limit program s) result) (machine_at_start text answers program at bytes m loadable content machine) ran
@@ -88,7 +88,7 @@ module _ {O : Type 0} (gives : O → Content → Event → O → Type 0) (o : O)
 
 -- ---- what is prepared
 
-pub prepares : (makes : List ℕ → Product → Type 0) (warnings warned : List Warning) (made : Result Made Stop) (p : Prepared)
+pub prepares : (makes : List ℕ → Product → Type 0) (warnings warned : List Warning) (made : Result Made NoText) (p : Prepared)
     → warned ≡ warnings → MakesTexts makes made → IsPrepared made warned p → Prepares makes warnings p
 prepares makes warnings warned (Ok made) p same m is =
     subst (λ t. PreparesText makes warnings p.warnings.items p.page.items t) (sym is.0)

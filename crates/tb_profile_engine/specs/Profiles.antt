@@ -8,8 +8,8 @@ use Rattle.tb_codegen.specs.Answers.{HasOutcome, LinesMake}
 use Rattle.tb_driver.specs.Sources.{FromSource}
 use Rattle.tb_meaning.specs.declared.missing.Warning.{Warning}
 use Rattle.tb_engines.specs.Outcomes.{Product}
-use Rattle.tb_engines.specs.declared.delivery.Stop.{Stop}
-use Rattle.tb_engines.specs.declared.delivery.Stop.TheVariants.{Refused, NoMemory}
+use Rattle.tb_engines.specs.declared.delivery.NoText.{NoText}
+use Rattle.tb_engines.specs.declared.delivery.NoText.TheVariants.{Refused, NoMemory}
 use Rattle.tb_profile_table.specs.Rows.{AddsUp}
 use Rattle.tb_profile_table.specs.Lines.{stated}
 use Rattle.tb_profile_table.specs.Table.{table_of}
@@ -42,7 +42,7 @@ abbrev pub IsProgramOf : List ℕ → Compiled → Type 0
 IsProgramOf source compiled = (seed : ℕ) × HasOutcome seed source (Ok compiled)
 
 -- what was made of a program; there is nothing where memory was wanting
-abbrev pub MakesTexts : (List ℕ → Product → Type 0) → Result Made Stop → Type 0
+abbrev pub MakesTexts : (List ℕ → Product → Type 0) → Result Made NoText → Type 0
 MakesTexts makes (Ok made) = makes made.texts.page.items (Ok (made.texts.table.items, made.end))
 MakesTexts makes (Err (Refused e)) = ⊥
 MakesTexts makes (Err NoMemory) = Unit {0}
@@ -55,18 +55,18 @@ ProfilesSource gives o seed text answers limit warnings page source product =
 -- ---- steps of the engine
 
 -- nothing is to be written
-pub record IsStopped (stop : Stop) (warned : List Warning) (p : Prepared) : Type 0 where
+pub record IsStopped (stop : NoText) (warned : List Warning) (p : Prepared) : Type 0 where
   pub text : p.text ≡ Err stop
   pub warnings : p.warnings.items ≡ warned
 
 -- what was made is to be written, with the page beside it
-abbrev pub IsPrepared : Result Made Stop → List Warning → Prepared → Type 0
+abbrev pub IsPrepared : Result Made NoText → List Warning → Prepared → Type 0
 IsPrepared (Ok made) warnings p =
     (p.text ≡ Ok (record { bytes = made.texts.table; end = made.end })) × (p.warnings.items ≡ warnings) × (p.page.items ≡ made.texts.page.items)
 IsPrepared (Err stop) warnings p = IsStopped stop warnings p
 
 -- a text of its kind, with the warnings; nothing is said of them where memory was wanting
-abbrev pub PreparesText : (List ℕ → Product → Type 0) → List Warning → List Warning → List ℕ → Result Text Stop → Type 0
+abbrev pub PreparesText : (List ℕ → Product → Type 0) → List Warning → List Warning → List ℕ → Result Text NoText → Type 0
 PreparesText makes warnings warned page (Ok text) = (warned ≡ warnings) × makes page (Ok (text.bytes.items, text.end))
 PreparesText makes warnings warned page (Err (Refused e)) = ⊥
 PreparesText makes warnings warned page (Err NoMemory) = Unit {0}

@@ -6,8 +6,8 @@ use Rattle.tb_kernal.specs.Machine.{Content}
 use Rattle.tb_codegen.specs.Compiled.{starts_of, loaded_of}
 use Rattle.tb_codegen.specs.declared.compiled.Compiled.{Compiled}
 use Rattle.tb_engines.specs.Programs.{start, end_of}
-use Rattle.tb_engines.specs.declared.delivery.Stop.{Stop}
-use Rattle.tb_engines.specs.declared.delivery.Stop.TheVariants.{Refused, NoMemory}
+use Rattle.tb_engines.specs.declared.delivery.NoText.{NoText}
+use Rattle.tb_engines.specs.declared.delivery.NoText.TheVariants.{Refused, NoMemory}
 use Rattle.tb_profile_table.specs.Rows.{Tabled}
 use Rattle.tb_profile_engine.specs.declared.running.Ran.{Ran}
 
@@ -24,7 +24,7 @@ abbrev pub IsProfile : {O : Type 0} → (O → Content → Event → O → Type 
 IsProfile gives o text answers limit program ran = RunsFrom gives o limit program (start BASIC_START (loaded_of program) text answers) ran
 
 -- a run, where memory was not wanting
-abbrev pub ComesTo : (Ran → Type 0) → Result Ran Stop → Type 0
+abbrev pub ComesTo : (Ran → Type 0) → Result Ran NoText → Type 0
 ComesTo is (Ok ran) = is ran
 ComesTo is (Err (Refused e)) = ⊥
 ComesTo is (Err NoMemory) = Unit {0}

@@ -13,7 +13,7 @@ use std::alloc::Global;
 use std::io::{Read, Write};
 use tb_codegen::{Compiled, Options, compile};
 use tb_driver::stop_of;
-use tb_engines::{End, Report, Stop, Text, deliver, without_input};
+use tb_engines::{End, Report, NoText, Text, deliver, without_input};
 use tb_kernal::{Keyboard, Outside};
 use tb_meaning::Warning;
 use tb_profile_table::{Texts, texts_of};
@@ -36,7 +36,7 @@ struct Made {
 // What is to be written of a source, the warnings, and the page.
 #[derive(Drop)]
 struct Prepared {
-    text: Result<Text, Stop>,
+    text: Result<Text, NoText>,
     warnings: Vec<Warning>,
     page: Vec<u8>,
 }
@@ -49,7 +49,7 @@ fn make_texts<O: Outside>(
     keyboard: Keyboard,
     limit: u32,
     outside: &mut O,
-) -> Result<Made, Stop>
+) -> Result<Made, NoText>
     requires { IsProgramOf source.now program.now }
     ensures { MakesTexts (Profiles O.gives outside.old keyboard.text.items keyboard.answers.items limit source.now
         program.now) result }
@@ -60,12 +60,12 @@ fn make_texts<O: Outside>(
             texts,
             end: ran.end,
         }),
-        Err(_) => Err(Stop::NoMemory),
+        Err(_) => Err(NoText::NoMemory),
     }
 }
 
 // Where there is no table.
-fn without_page(alloc: Global, stop: Stop, warnings: Vec<Warning>) -> Prepared
+fn without_page(alloc: Global, stop: NoText, warnings: Vec<Warning>) -> Prepared
     ensures { IsStopped stop warnings.items result }
 {
     Prepared {
@@ -75,7 +75,7 @@ fn without_page(alloc: Global, stop: Stop, warnings: Vec<Warning>) -> Prepared
     }
 }
 
-fn prepare(alloc: Global, made: Result<Made, Stop>, warnings: Vec<Warning>) -> Prepared
+fn prepare(alloc: Global, made: Result<Made, NoText>, warnings: Vec<Warning>) -> Prepared
     ensures { IsPrepared made warnings.items result }
 {
     match made {
@@ -105,7 +105,7 @@ fn profile_compiled<O: Outside>(
         program.now) (warnings_of program.now) result }
 {
     let Ok(warnings) = Vec::from_slice(alloc, program.warnings()) else {
-        return without_page(alloc, Stop::NoMemory, Vec::new(alloc));
+        return without_page(alloc, NoText::NoMemory, Vec::new(alloc));
     };
     prepare(
         alloc,

@@ -7,7 +7,7 @@ ghost use Rattle.tb_profile_engine.specs.Running.{ComesTo, IsProfile, RunsFrom};
 
 use std::alloc::{AllocError, Global};
 use tb_codegen::Compiled;
-use tb_engines::{End, Stop, end_of, start_machine};
+use tb_engines::{End, NoText, end_of, start_machine};
 use tb_kernal::{Keyboard, Machine, Outside};
 use tb_profile_table::{Start, Table, profile};
 
@@ -40,18 +40,18 @@ fn profile_machine<O: Outside>(
     program: &Compiled,
     limit: u32,
     outside: &mut O,
-) -> Result<Ran, Stop>
+) -> Result<Ran, NoText>
     ensures { ComesTo (RunsFrom O.gives outside.old limit program.now machine.old) result }
 {
     let Ok(starts) = starts_of(alloc, program) else {
-        return Err(Stop::NoMemory);
+        return Err(NoText::NoMemory);
     };
     match profile(alloc, machine, outside, &starts, limit) {
         Ok(table) => Ok(Ran {
             end: end_of(table.status, machine.regs().pc),
             table,
         }),
-        Err(_) => Err(Stop::NoMemory),
+        Err(_) => Err(NoText::NoMemory),
     }
 }
 
@@ -62,7 +62,7 @@ pub fn profile_program<O: Outside>(
     keyboard: Keyboard,
     limit: u32,
     outside: &mut O,
-) -> Result<Ran, Stop>
+) -> Result<Ran, NoText>
     requires { IsLoadable program.now }
     ensures { ComesTo (IsProfile O.gives outside.old keyboard.text.items keyboard.answers.items limit program.now) result }
 {

@@ -2,12 +2,12 @@
 use Rattle.std.proofs.Common.{◌≡◌, ℕ, ◌+◌, ◌≤◌, Bool, true, false, if◌then◌else◌, List, [], ◌∷◌, ◌++◌, refl, sym, ap, ◌∙◌, subst, append_assoc, arith, Option, Some, None, ⊎_elim}
 use Rattle.std.specs.Prelude.{nat_eq}
 use Rattle.std.proofs.lemmas.Bool.{eq-eqb, cases_eq}
-use Rattle.tb_syntax.specs.Source.{Expression, Number, Variable, Binary, Item, Text, Value, Zone, Command, Let, Print, If, Goto, Gosub, Remark, Program}
+use Rattle.tb_syntax.specs.Source.{Expression, Number, Variable, Binary, Item, Text, Value, Zone, Statement, Let, Print, If, Goto, Gosub, Remark, Program}
 use Rattle.tb_syntax.specs.Source as source
 use Rattle.tb_meaning.specs.Control.{content_at}
 use Rattle.tb_lower.specs.Slots.{Instr, Store, Compute, SendNumber, Input, Hold, LeaveUnless, Jump, Call, JumpTo, CallTo}
 use Rattle.tb_lower.specs.Slots as slots
-use Rattle.tb_lower.specs.Lowered.{value_code, or_constant, item_code, items_code, inputs_code, newline_code, target_code, command_code, list_code, program_code}
+use Rattle.tb_lower.specs.Lowered.{value_code, or_constant, item_code, items_code, inputs_code, newline_code, target_code, statement_code, list_code, program_code}
 use Rattle.tb_meaning.specs.Values.{constant}
 use Rattle.tb_selection.specs.Laws.{AreClosed}
 use Rattle.tb_selection.specs.Liveness.{live, nothing_live, written, read}
@@ -83,20 +83,20 @@ gosub_below : (o : Option ℕ) (e : Expression) → Below 0 false (live (target_
 gosub_below (Some v) e = nothing
 gosub_below None e = value_below e 0 false (Call ∷ []) (first_read false [] nothing)
 
-command_below : (c : Command) → Below 0 false (live (command_code c))
-command_below (Let x e) = value_below e 0 false (Store x ∷ []) (first_read false [] nothing)
-command_below (Print items ends) = items_below items (newline_code ends) (newline_below ends)
-command_below (source.Input xs) = inputs_below xs
-command_below (If l rel r c) =
-    let b = command_below c in
-    let tested : Below 1 true (live (LeaveUnless rel ∷ command_code c)) = record { slots = omega (arith, b.slots); held = refl } in
-    let right = value_below r 0 true (LeaveUnless rel ∷ command_code c) tested in
-    value_below l 0 false (Hold ∷ (value_code r 0 ++ LeaveUnless rel ∷ command_code c)) (record { slots = omega (arith, right.slots); held = refl })
-command_below (Goto e) = goto_below (constant e) e
-command_below (Gosub e) = gosub_below (constant e) e
-command_below source.Return = nothing
-command_below source.End = nothing
-command_below Remark = nothing
+statement_below : (c : Statement) → Below 0 false (live (statement_code c))
+statement_below (Let x e) = value_below e 0 false (Store x ∷ []) (first_read false [] nothing)
+statement_below (Print items ends) = items_below items (newline_code ends) (newline_below ends)
+statement_below (source.Input xs) = inputs_below xs
+statement_below (If l rel r c) =
+    let b = statement_below c in
+    let tested : Below 1 true (live (LeaveUnless rel ∷ statement_code c)) = record { slots = omega (arith, b.slots); held = refl } in
+    let right = value_below r 0 true (LeaveUnless rel ∷ statement_code c) tested in
+    value_below l 0 false (Hold ∷ (value_code r 0 ++ LeaveUnless rel ∷ statement_code c)) (record { slots = omega (arith, right.slots); held = refl })
+statement_below (Goto e) = goto_below (constant e) e
+statement_below (Gosub e) = gosub_below (constant e) e
+statement_below source.Return = nothing
+statement_below source.End = nothing
+statement_below Remark = nothing
 
 some_is : {A : Type 0} (a b : A) → ◌≡◌ {A = Option A} (Some a) (Some b) → a ≡ b
 some_is a b h = cc
@@ -110,8 +110,8 @@ is_nothing r b =
     let none : r.slots ≡ 0 = omega (arith, b.slots) in
     ap (λ k. record { slots = k; held = r.held }) none ∙ ap (λ h. record { slots = 0; held = h }) b.held
 
-closed_by : (t : Bool) (c : Command) (o : Option (List Instr)) (is : List Instr) → (o ≡ Some is → live is ≡ nothing_live) → (if t then Some (list_code c) else o) ≡ Some is → live is ≡ nothing_live
-closed_by true c o is later e = ap live (sym (some_is _ _ e)) ∙ is_nothing (live (list_code c)) (command_below c)
+closed_by : (t : Bool) (c : Statement) (o : Option (List Instr)) (is : List Instr) → (o ≡ Some is → live is ≡ nothing_live) → (if t then Some (list_code c) else o) ≡ Some is → live is ≡ nothing_live
+closed_by true c o is later e = ap live (sym (some_is _ _ e)) ∙ is_nothing (live (list_code c)) (statement_below c)
 closed_by false c o is later e = later e
 
 pub all_closed : (program : Program) → AreClosed (program_code program)

@@ -1,6 +1,6 @@
 -- The crate's groups as plain data.
 use Rattle.std.specs.Prelude.{ℕ, List, map, reverse, Option}
-use Rattle.tb_words.specs.Letters.{place}
+use Rattle.tb_words.specs.Letters.{letter_index}
 use Rattle.tb_words.specs.declared.Letter.{Letter}
 use Rattle.tb_lower.specs.PlainData.{instr_of}
 use Rattle.tb_selection.specs.declared.groups.Operand as operand
@@ -28,12 +28,12 @@ use Rattle.tb_selection.specs.Groups.{Operand, Constant, Variable, InSlot, Home,
 -- an operand; a letter by its place from 0 for A
 abbrev pub operand_of : operand.Operand → Operand
 operand_of (operands.Constant w) = Constant w
-operand_of (operands.Variable x) = Variable (place x)
+operand_of (operands.Variable x) = Variable (letter_index x)
 operand_of operands.InSlot = InSlot
 
 -- where slot 0 goes
 abbrev pub home_of : home.Home → Home
-home_of (homes.IntoVariable x) = IntoVariable (place x)
+home_of (homes.IntoVariable x) = IntoVariable (letter_index x)
 home_of homes.IntoHeld = IntoHeld
 
 -- where a result goes
@@ -78,14 +78,14 @@ side_of sides.OnRight = OnRight
 -- a group
 abbrev pub group_of : group.Group → Group
 group_of (groups.Calculate op a b d) = Calculate op (operand_of a) (operand_of b) (destination_of d)
-group_of (groups.Stepped op a b by w x) = Stepped op (operand_of a) (operand_of b) by w (place x)
+group_of (groups.Stepped op a b by w x) = Stepped op (operand_of a) (operand_of b) by w (letter_index x)
 group_of (groups.Convert what a d) = Convert (conversion_of what) (operand_of a) (destination_of d)
 group_of (groups.Move a h) = Move (operand_of a) (home_of h)
 group_of (groups.Use how a) = Use (usage_of how) (operand_of a)
 group_of (groups.Test rel a b) = Test rel (tested_of a) (operand_of b)
 group_of (groups.TestGo rel a b to) = TestGo rel (tested_of a) (operand_of b) to
-group_of (groups.Divides how x d s to) = Divides (divisibility_of how) (place x) (operand_of d) (side_of s) to
-group_of (groups.Remains x d to) = Remains (place x) (operand_of d) (destination_of to)
+group_of (groups.Divides how x d s to) = Divides (divisibility_of how) (letter_index x) (operand_of d) (side_of s) to
+group_of (groups.Remains x d to) = Remains (letter_index x) (operand_of d) (destination_of to)
 group_of (groups.Single i) = Single (instr_of i.now)
 
 -- groups of which the last one stands first, each with what is live behind it
@@ -101,16 +101,16 @@ groups_in ps = map (λ p. p.0) ps
 
 -- what groups that may become one hold
 abbrev pub multiple_of : ℕ × Letter × operand.Operand → ℕ × ℕ × Operand
-multiple_of m = (m.0, place m.1, operand_of m.2)
+multiple_of m = (m.0, letter_index m.1, operand_of m.2)
 
 abbrev pub factor_of : ℕ × operand.Operand → ℕ × Operand
 factor_of f = (f.0, operand_of f.1)
 
 abbrev pub loaded_of : ℕ × Letter → ℕ × ℕ
-loaded_of l = (l.0, place l.1)
+loaded_of l = (l.0, letter_index l.1)
 
 abbrev pub equality_of : divisibility.Divisibility × Letter × Option ℕ → Divisibility × ℕ × Option ℕ
-equality_of t = (divisibility_of t.0, place t.1, t.2)
+equality_of t = (divisibility_of t.0, letter_index t.1, t.2)
 
 abbrev pub against_of : divisibility.Divisibility × Option ℕ → Divisibility × Option ℕ
 against_of t = (divisibility_of t.0, t.1)

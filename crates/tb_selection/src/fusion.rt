@@ -1,6 +1,6 @@
 //! Several groups as one.
 ghost use Rattle.std.specs.Prelude.{◌≡◌, option_map};
-ghost use Rattle.tb_words.specs.Letters.{place};
+ghost use Rattle.tb_words.specs.Letters.{letter_index};
 ghost use Rattle.tb_selection.specs.Select as select;
 ghost use Rattle.tb_selection.specs.PlainData.{against_of, destination_of, divisibility_of, equality_of, factor_of, group_of, loaded_of, multiple_of, operand_of};
 
@@ -62,7 +62,7 @@ fn loaded_in(group: Group<'_>) -> Option<(u8, Letter)>
 
 // A variable that is held.
 fn held_in(group: Group<'_>) -> Option<Letter>
-    ensures { option_map place result ≡ select.held_in (group_of group.entry) }
+    ensures { option_map letter_index result ≡ select.held_in (group_of group.entry) }
 {
     match group {
         Group::Move(Operand::Variable(x), Home::IntoHeld) => Some(x),

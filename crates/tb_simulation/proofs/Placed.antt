@@ -2,7 +2,7 @@
 use Rattle.std.proofs.Common.{◌≡◌, ℕ, zero, suc, Bool, true, false, ◌||◌, List, [], ◌∷◌, length, refl, ap, subst, Option, Some, None}
 use Rattle.std.specs.Prelude.{if◌then◌else◌, nat_lt, nat_eq}
 use Rattle.std.proofs.lemmas.Bool.{eq-eqb}
-use Rattle.tb_syntax.specs.Source.{Item, Text, Value, Zone, Command, Let, Print, Input, If, Goto, Gosub, Return, End, Remark, Program, numbers}
+use Rattle.tb_syntax.specs.Source.{Item, Text, Value, Zone, Statement, Let, Print, Input, If, Goto, Gosub, Return, End, Remark, Program, numbers}
 use Rattle.tb_words.specs.Words.{holds}
 use Rattle.tb_meaning.specs.Steps.{Step, Goes, Stops, and_then, after_sending, Run, GoesOn, Over, joined, advance, advance_by}
 use Rattle.tb_meaning.specs.Control.{Place, At, Past, State, content_at, has_line, next_after, first_place, fall, fault, go_to, go_sub, return_to, deepest, answered, poll, column_after}
@@ -106,7 +106,7 @@ module _ (ns : List ℕ) where
   items_led n [] s h = record { led = h }
   items_led n (i ∷ is) s h = then_led (print_item n i s) (print_items n is) (item_led n i s h) (items_led n is)
 
-  does_led : (n : ℕ) (c : Command) (s : State) → IsPlaced s → Led (does ns n c s)
+  does_led : (n : ℕ) (c : Statement) (s : State) → IsPlaced s → Led (does ns n c s)
   does_led n (Let x e) s h = value_led n (value e s.vars s.seed) s _ h (λ v s' h'. record { led = record { here = next_led n; notes = h'.notes } })
   does_led n (Print items true) s h = then_led (print_items n items s) _ (items_led n items s h) (λ s' h'. record { led = record { here = next_led n; notes = h'.notes } })
   does_led n (Print items false) s h = then_led (print_items n items s) _ (items_led n items s h) (fall_led n)
@@ -125,7 +125,7 @@ module _ (ns : List ℕ) where
   poll_led n [] s h = record { led = h }
   poll_led n (a ∷ l) s h = if_led (nat_eq a 3) _ _ (record { led = tt }) (record { led = record { here = h.here; notes = h.notes } })
 
-  found_led : (n : ℕ) (o : Option Command) (s : State) → IsPlaced s → Led (does_found ns n o s)
+  found_led : (n : ℕ) (o : Option Statement) (s : State) → IsPlaced s → Led (does_found ns n o s)
   found_led n (Some c) s h = then_led (poll n s) (does ns n c) (poll_led n s.answers s h) (does_led n c)
   found_led n None s h = record { led = tt }
 

@@ -3,7 +3,7 @@ ghost use Rattle.std.specs.Prelude.{◌≡◌, ◌+◌, ◌*◌, ◌<◌, ◌≤
 ghost use Rattle.tb_memmap.specs.Bytes.{at};
 ghost use Rattle.tb_cpu.specs.Operands.{word_in};
 ghost use Rattle.tb_words.specs.Words.{word_of};
-ghost use Rattle.tb_words.specs.Letters.{place};
+ghost use Rattle.tb_words.specs.Letters.{letter_index};
 ghost use Rattle.tb_syntax.specs.PlainData.{expression_of};
 ghost use Rattle.tb_runtime16.specs.Places.{NOTES};
 ghost use Rattle.tb_meaning.specs.Evaluation.{IsEvaluation};
@@ -21,7 +21,7 @@ impl<'a, O: Outside + Drop> Stepper<'a, O> {
     /// The value of a variable: the word at `$C000` and twice the letter's index, low byte first,
     /// read as signed.
     pub fn variable(&self, letter: Letter) -> i16
-        ensures { word_of result ≡ variable_in (at self.now.machine.memory) (place letter) }
+        ensures { word_of result ≡ variable_in (at self.now.machine.memory) (letter_index letter) }
     {
         read_variable(self.machine().memory(), letter.index())
     }
@@ -52,7 +52,7 @@ fn read_word(memory: &Memory, address: u16) -> u16
     }
 }
 
-// A variable, by its place in the alphabet.
+// A variable, by its index in the alphabet.
 fn read_variable(memory: &Memory, index: usize) -> i16
     requires { index < 26 }
     ensures { word_of result ≡ variable_in (at memory.now) index }

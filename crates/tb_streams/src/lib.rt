@@ -14,4 +14,4 @@ pub use keys::{KeyError, address, key_list};
 pub use lines::{read_line, without_return};
 pub use screen::host_form;
 pub use stream::{InputError, MOST_INPUT, read_input, write_output};
-pub use tracked::{Fault, Tracked};
+pub use tracked::{StreamFailure, Tracked};

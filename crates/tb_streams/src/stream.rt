@@ -5,7 +5,7 @@ ghost use Rattle.tb_streams.specs.Streams.{most_input, counted, Reads, ConsumesA
 ghost use Rattle.tb_streams.specs.Inputs.{InputFaults, ReadsUpTo};
 ghost use Rattle.tb_streams.specs.Failures.{failures_of};
 
-use crate::tracked::{Fault, Tracked};
+use crate::tracked::{StreamFailure, Tracked};
 use std::alloc::Global;
 use std::io::{Read, Write};
 
@@ -67,7 +67,7 @@ pub fn read_input<R: Read>(alloc: Global, reader: &mut Tracked<R>) -> Result<Vec
 }
 
 /// Writes a text, all of it or up to where the writer failed.
-pub fn write_output<W: Write>(writer: &mut Tracked<W>, text: &[u8]) -> Result<(), Fault>
+pub fn write_output<W: Write>(writer: &mut Tracked<W>, text: &[u8]) -> Result<(), StreamFailure>
     ensures whole { OnOk result (Appends (W.contents writer.old.stream) (W.contents writer.new.stream)
         text.now) }
     ensures prefix { OnErr result (AppendsPrefix (W.contents writer.old.stream)

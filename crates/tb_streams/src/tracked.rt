@@ -8,7 +8,7 @@ use std::io::{Read, Write};
 
 /// The other end failed.
 #[derive(Clone, Copy, PartialEq, Eq, Debug, Drop)]
-pub struct Fault;
+pub struct StreamFailure;
 
 /// A reader or a writer, with the number of its calls that failed, modulo 2^64. Since the count grows at each
 /// failure, it tells those of one call of an engine from earlier ones. Only `pull`, `push` and `flush` count, each
@@ -45,7 +45,7 @@ impl<R: Read> Tracked<R> {
     ghost use Rattle.tb_streams.specs.Failures.{failures_of};
 
     /// One read. Every error of the reader counts, `Interrupted` too.
-    pub fn pull(&mut self, buf: &mut [u8]) -> Result<usize, Fault>
+    pub fn pull(&mut self, buf: &mut [u8]) -> Result<usize, StreamFailure>
         ensures bound { ReadsAtMost result buf.new }
         ensures bytes { ReadConsumes (R.remaining self.old.stream) (R.remaining self.new.stream) result
             buf.new }
@@ -55,7 +55,7 @@ impl<R: Read> Tracked<R> {
             Ok(count) => Ok(count),
             Err(_) => {
                 self.failures = self.failures.wrapping_add(1);
-                Err(Fault)
+                Err(StreamFailure)
             }
         }
     }
@@ -66,7 +66,7 @@ impl<W: Write> Tracked<W> {
 
     /// One write of a text that isn't empty. Every error of the writer counts, and so does a write that
     /// takes nothing.
-    pub fn push(&mut self, text: &[u8]) -> Result<usize, Fault>
+    pub fn push(&mut self, text: &[u8]) -> Result<usize, StreamFailure>
         requires { 0 < length text.now }
         ensures bound { IfOk result (λ n. (0 < n) × (n ≤ length text.now)) }
         ensures bytes { WriteAppends (W.contents self.old.stream) (W.contents self.new.stream) result
@@ -77,13 +77,13 @@ impl<W: Write> Tracked<W> {
             Ok(count) if 0 < count => Ok(count),
             _ => {
                 self.failures = self.failures.wrapping_add(1);
-                Err(Fault)
+                Err(StreamFailure)
             }
         }
     }
 
     /// Hands on what a buffer holds.
-    pub fn flush(&mut self) -> Result<(), Fault>
+    pub fn flush(&mut self) -> Result<(), StreamFailure>
         ensures bytes { Keeps (W.contents self.old.stream) (W.contents self.new.stream) }
         ensures noted { failures_of self.new ≡ counted (failures_of self.old) (is_err result) }
     {
@@ -91,7 +91,7 @@ impl<W: Write> Tracked<W> {
             Ok(()) => Ok(()),
             Err(_) => {
                 self.failures = self.failures.wrapping_add(1);
-                Err(Fault)
+                Err(StreamFailure)
             }
         }
     }

@@ -18,16 +18,16 @@ pub data Item : Type 0 where
   Zone : Item
 
 -- a statement; PRINT says whether the line ends behind its items, the targets of GOTO and GOSUB are expressions
-pub data Command : Type 0 where
-  Let : (letter : ℕ) (e : Expression) → Command
-  Print : (items : List Item) (ends_line : Bool) → Command
-  Input : (letters : List ℕ) → Command
-  If : (left : Expression) (rel : Rel) (right : Expression) (c : Command) → Command
-  Goto : (e : Expression) → Command
-  Gosub : (e : Expression) → Command
-  Return : Command
-  End : Command
-  Remark : Command
+pub data Statement : Type 0 where
+  Let : (letter : ℕ) (e : Expression) → Statement
+  Print : (items : List Item) (ends_line : Bool) → Statement
+  Input : (letters : List ℕ) → Statement
+  If : (left : Expression) (rel : Rel) (right : Expression) (c : Statement) → Statement
+  Goto : (e : Expression) → Statement
+  Gosub : (e : Expression) → Statement
+  Return : Statement
+  End : Statement
+  Remark : Statement
 
 -- something at a line number
 pub record Numbered (A : Type 0) : Type 0 where
@@ -36,7 +36,7 @@ pub record Numbered (A : Type 0) : Type 0 where
 
 -- a program's lines, in rising order
 abbrev pub Program : Type 0
-Program = List (Numbered Command)
+Program = List (Numbered Statement)
 
 -- the line numbers of lines, in their order
 abbrev pub numbers : {A : Type 0} → List (Numbered A) → List ℕ

@@ -12,11 +12,11 @@ use Rattle.tb_asm.specs.Layout.{Entry, instr}
 use Rattle.tb_words.specs.declared.Rel.{Rel}
 use Rattle.tb_syntax.specs.declared.expressions.Operator.{Operator}
 use Rattle.tb_syntax.specs.declared.expressions.Operator.TheVariants.{Add, Subtract, Multiply, Divide}
-use Rattle.tb_syntax.specs.Source.{Expression, Number, Variable, Binary, Item, Text, Value, Zone, Command, Let, Print, If, Goto, Gosub, Remark, Program}
+use Rattle.tb_syntax.specs.Source.{Expression, Number, Variable, Binary, Item, Text, Value, Zone, Statement, Let, Print, If, Goto, Gosub, Remark, Program}
 use Rattle.tb_syntax.specs.Source as source
 use Rattle.tb_meaning.specs.Control.{has_line}
-use Rattle.tb_meaning.specs.Cost.{nodes, item_cost, command_cost, cost}
-use Rattle.tb_lower.specs.Lowered.{value_code, or_constant, target_code, item_code, items_code, inputs_code, newline_code, command_code, program_code}
+use Rattle.tb_meaning.specs.Cost.{nodes, item_cost, statement_cost, cost}
+use Rattle.tb_lower.specs.Lowered.{value_code, or_constant, target_code, item_code, items_code, inputs_code, newline_code, statement_code, program_code}
 use Rattle.tb_meaning.specs.Values.{constant}
 use Rattle.tb_lower.specs.Slots.{Instr, Put, Load, Store, Negate, Compute, Random, SendNumber, Hold, LeaveUnless, Jump, Call, JumpTo, CallTo}
 use Rattle.tb_selection.specs.Groups.{Conversion, Negated, Drawn, Usage, AsNumber, AsLine, AsSubroutine, Constant, Variable as OfVariable, InSlot, Operand, Divisibility, Group, Calculate, Stepped, Convert, Move, Use, Test, TestGo, OnLeft, OnRight, Divides, Remains, Single, compared, contrary, multiple, onward, Home, IntoVariable, IntoHeld, slot_of, fetch, keep, kept, held, convert, use_of, denied, expand, expand_all}
@@ -310,7 +310,7 @@ list_fits ns seed n is =
     (λ js e. let p = ap list_room e in let q = most_append (polled n) (rest_code ns seed n 1 (select js)) in let r = selected_fits ns seed n 1 js in omega (arith, p, q, r))
     (selected_fits ns seed n 1 is)
 
--- ── the code of a command ──
+-- ── the code of a statement ──
 pub one_node : (e : Expression) → 1 ≤ nodes e
 one_node (Number n) = omega arith
 one_node (Variable x) = omega arith
@@ -374,33 +374,33 @@ pub items_pay : (is : List Item) → items_cost is ≡ sum_by item_cost is
 items_pay [] = refl
 items_pay (i ∷ is) = ap (λ n. item_cost i + n) (items_pay is) ∙ sym (sum_by-cons item_cost i is)
 
-pub command_room : (c : Command) → IsSpaced c → list_room (command_code c) ≤ 10 + command_cost c
-command_room (Let x e) h = let a = value_room e 0 in let b = list_append (value_code e 0) (Store x ∷ []) in omega (arith, a, b)
-command_room (Print items ends) h =
+pub statement_room : (c : Statement) → IsSpaced c → list_room (statement_code c) ≤ 10 + statement_cost c
+statement_room (Let x e) h = let a = value_room e 0 in let b = list_append (value_code e 0) (Store x ∷ []) in omega (arith, a, b)
+statement_room (Print items ends) h =
     let a = items_room false items h in let b = newline_room ends in
     let c = list_append (items_code items) (newline_code ends) in let d = items_pay items in
     omega (arith, a, b, c, d)
-command_room (source.Input xs) h = let a = inputs_room xs in omega (arith, a)
-command_room (If l rel r c) h =
-    let a = value_room l 0 in let b = value_room r 0 in let d = command_room c h in
-    let e = list_append (value_code r 0) (LeaveUnless rel ∷ command_code c) in
-    let f = list_append (value_code l 0) (Hold ∷ (value_code r 0 ++ (LeaveUnless rel ∷ command_code c))) in
+statement_room (source.Input xs) h = let a = inputs_room xs in omega (arith, a)
+statement_room (If l rel r c) h =
+    let a = value_room l 0 in let b = value_room r 0 in let d = statement_room c h in
+    let e = list_append (value_code r 0) (LeaveUnless rel ∷ statement_code c) in
+    let f = list_append (value_code l 0) (Hold ∷ (value_code r 0 ++ (LeaveUnless rel ∷ statement_code c))) in
     omega (arith, a, b, d, e, f)
-command_room (Goto e) h =
+statement_room (Goto e) h =
     let a = value_room e 0 in let b = list_append (value_code e 0) (Jump ∷ []) in
     target_room (constant e) JumpTo 15 (10 + (48 + 48 * nodes e)) (value_code e 0 ++ Jump ∷ []) (λ n. omega arith) (omega arith) (omega (arith, a, b))
-command_room (Gosub e) h =
+statement_room (Gosub e) h =
     let a = value_room e 0 in let b = list_append (value_code e 0) (Call ∷ []) in
     target_room (constant e) CallTo 59 (10 + (48 + 48 * nodes e)) (value_code e 0 ++ Call ∷ []) (λ n. omega arith) (omega arith) (omega (arith, a, b))
-command_room source.Return h = omega arith
-command_room source.End h = omega arith
-command_room Remark h = omega arith
+statement_room source.Return h = omega arith
+statement_room source.End h = omega arith
+statement_room Remark h = omega arith
 
-lines_pay : (lines : Program) → AreSpaced lines → lines_room (program_code lines) ≤ sum_by (λ line. 36 + command_cost line.content) lines
+lines_pay : (lines : Program) → AreSpaced lines → lines_room (program_code lines) ≤ sum_by (λ line. 36 + statement_cost line.content) lines
 lines_pay [] h = omega arith
 lines_pay (line ∷ lines) h =
-    let a = lines_pay lines h.1 in let b = command_room line.content h.0 in
-    let c = sum_by-cons (λ line. 36 + command_cost line.content) line lines in
+    let a = lines_pay lines h.1 in let b = statement_room line.content h.0 in
+    let c = sum_by-cons (λ line. 36 + statement_cost line.content) line lines in
     omega (arith, a, b, c)
 
 -- lines, line table and what belongs to no line

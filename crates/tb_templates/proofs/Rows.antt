@@ -3,7 +3,7 @@ use Rattle.std.specs.Prelude.{◌≡◌, ℕ, true, List, [], ◌∷◌, ◌++�
 use Rattle.tb_opcodes.specs.declared.Mnemonic.TheVariants.{Adc, Bcc, Bcs, Bmi, Bne, Bpl, Bvc, Clc, Cmp, Eor, Dec, Inc, Jmp, Lda, Ldx, Ldy, Rts, Sbc, Sec, Sta, And, Asl, Rol, Ror, Tax, Txa, Beq, Ora}
 use Rattle.tb_words.specs.declared.Rel.TheVariants.{Eq, Ge, Gt, Le, Lt, Ne}
 use Rattle.tb_syntax.specs.declared.expressions.Operator.TheVariants.{Add, Subtract, Divide, Multiply}
-use Rattle.tb_syntax.specs.Source.{Number, Variable, Negate, Random, Value, Binary, Command, Let, Print, If, Goto, Gosub, End}
+use Rattle.tb_syntax.specs.Source.{Number, Variable, Negate, Random, Value, Binary, Statement, Let, Print, If, Goto, Gosub, End}
 use Rattle.tb_lower.specs.Lowered as lowered
 use Rattle.tb_asm.specs.Layout.{Entry}
 use Rattle.tb_runtime16.specs.Places.{LEFT, DIVIDE_AT, RANDOM_AT, NUMBER_AT, PUSH_AT, FAULT_LINE_AT}
@@ -15,7 +15,7 @@ use Rattle.tb_templates.specs.Masks.{mask_of}
 use Rattle.tb_templates.specs.Program.{line_code}
 
 -- the items of a line of a program with the lines 10, 20 and 30
-abbrev items : ℕ → Command → List Entry
+abbrev items : ℕ → Statement → List Entry
 items n c = line_code (10 ∷ 20 ∷ 30 ∷ []) 1 (record { number = n; content = lowered.list_code c })
 
 -- 10 LET A=B+1: the variables stand at $C000 and $C002, the line's number at $C03A

@@ -1,6 +1,6 @@
 -- How many bytes the code of a group takes at most, by its instructions, and that of a program.
 use Rattle.std.specs.Prelude.{ℕ, ◌+◌, Bool, true, false, List, [], ◌∷◌, length}
-use Rattle.tb_syntax.specs.Source.{Item, Text, Value, Zone, Command, Print, If, Program}
+use Rattle.tb_syntax.specs.Source.{Item, Text, Value, Zone, Statement, Print, If, Program}
 use Rattle.tb_meaning.specs.Cost.{item_cost}
 use Rattle.tb_lower.specs.Slots.{Instr, Put, Load, Store, Negate, Compute, Random, SendText, SendNumber, SendZone, SendNewline, Input, Poll, Hold, LeaveUnless, Jump, Call, JumpTo, CallTo, Return, End, SlotCode}
 
@@ -51,12 +51,12 @@ AreApart behind (Text bs ∷ items) = AreApart true items
 AreApart behind (Value e ∷ items) = AreApart true items
 
 -- in a PRINT, alone or behind IFs, each comma stands behind a text or a value of its own
-abbrev pub IsSpaced : Command → Type 0
+abbrev pub IsSpaced : Statement → Type 0
 IsSpaced (Print items ends) = AreApart false items
 IsSpaced (If l rel r c) = IsSpaced c
 IsSpaced _ = Unit {0}
 
--- so it is in the command of each line
+-- so it is in the statement of each line
 abbrev pub AreSpaced : Program → Type 0
 AreSpaced [] = Unit {0}
 AreSpaced (line ∷ lines) = IsSpaced line.content × AreSpaced lines

@@ -1,7 +1,7 @@
 //! Where the operands of a group come from, and where its result goes.
 ghost use Rattle.std.specs.Prelude.{◌≡◌, ◌+◌, ◌<◌, ◌≤◌, OnOk, [], ◌∷◌, ◌++◌, map};
 ghost use Rattle.tb_asm.specs.Layout.{entry_of};
-ghost use Rattle.tb_words.specs.Letters.{place};
+ghost use Rattle.tb_words.specs.Letters.{letter_index};
 ghost use Rattle.tb_selection.specs.Groups as groups;
 ghost use Rattle.tb_selection.specs.PlainData.{operand_of, home_of, tested_of, destination_of};
 ghost use Rattle.tb_templates.specs.Templates.{var_at, slot_at};
@@ -56,7 +56,7 @@ pub fn against_none(word: Source) -> Words
 
 /// Where a variable stands.
 pub fn variable_at(letter: Letter) -> u16
-    ensures at { result ≡ var_at (place letter) }
+    ensures at { result ≡ var_at (letter_index letter) }
     ensures below { result < 65000 }
 {
     VARS + 2 * letter.index() as u16

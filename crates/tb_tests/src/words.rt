@@ -7,15 +7,15 @@ use tb_command_line::{Failure, job};
 static JOBS: [(&[&str], &str); 22] = [
     (
         &["build", "a", "b"],
-        "Ok(Build { source: \"a\", out: \"b\", seed: 1, beside: Beside { labels: None, listing: None, map: None } })",
+        "Ok(Build { source: \"a\", out: \"b\", seed: 1, beside: BuildExtras { labels: None, listing: None, map: None } })",
     ),
     (
         &["build", "--seed", "65535", "a", "b"],
-        "Ok(Build { source: \"a\", out: \"b\", seed: 65535, beside: Beside { labels: None, listing: None, map: None } })",
+        "Ok(Build { source: \"a\", out: \"b\", seed: 65535, beside: BuildExtras { labels: None, listing: None, map: None } })",
     ),
     (
         &["build", "a", "b", "--map=m", "--labels", "v", "--list", "s"],
-        "Ok(Build { source: \"a\", out: \"b\", seed: 1, beside: Beside { labels: Some(\"v\"), listing: Some(\"s\"), map: Some(\"m\") } })",
+        "Ok(Build { source: \"a\", out: \"b\", seed: 1, beside: BuildExtras { labels: Some(\"v\"), listing: Some(\"s\"), map: Some(\"m\") } })",
     ),
     (
         &["run", "a"],

@@ -1,11 +1,11 @@
--- The letters of the alphabet by their places, from 0 for A.
+-- The letters of the alphabet by their indices, from 0 for A.
 use Rattle.std.specs.Prelude.{ℕ, ◌≡◌, ◌+◌, ◌⊎◌}
 use Rattle.tb_words.specs.declared.Letter.{Letter}
 
--- the place of a letter
-abbrev pub place : Letter → ℕ
-place letter = letter.index
+-- the index of a letter in the alphabet
+abbrev pub letter_index : Letter → ℕ
+letter_index letter = letter.index
 
--- a byte is the capital or the small letter at a place
+-- a byte is the capital or the small letter at an index
 abbrev pub Spells : ℕ → ℕ → Type 0
 Spells byte n = (byte ≡ 65 + n) ⊎ (byte ≡ 97 + n)

@@ -2,19 +2,19 @@
 use crate::files::{open, save, write_file};
 use std::alloc::{AllocError, Global};
 use std::rt::Files;
-use tb_command_line::{Beside, Failure};
+use tb_command_line::{BuildExtras, Failure};
 use tb_driver::{End, Outcome, Refusal, Report, Tracked, build, read_input, without_input};
 use tb_listing::{CompileError, Made, make};
 
-/// Compiles a source, and writes its PRG file and what is wanted beside it. No name of a file may come twice then.
+/// Compiles a source, and writes its PRG file and what is wanted extras it. No name of a file may come twice then.
 pub fn build_files<R: Files + AllocGlobal>(
     rt: &R,
     source: &str,
     out: &str,
     seed: u16,
-    beside: &Beside,
+    extras: &BuildExtras,
 ) -> Result<Report, Failure> {
-    let names = names_of(rt.alloc(), beside)?;
+    let names = names_of(rt.alloc(), extras)?;
     if names.is_empty() {
         return Ok(build_file(rt, source, out, seed));
     }
@@ -23,7 +23,7 @@ pub fn build_files<R: Files + AllocGlobal>(
     }
     Ok(match made_of(rt, source, seed) {
         Ok(made) => Report {
-            outcome: write_all(rt, out, beside, &made),
+            outcome: write_all(rt, out, extras, &made),
             warnings: made.warnings,
         },
         Err(outcome) => Report::new(rt.alloc(), outcome),
@@ -31,9 +31,9 @@ pub fn build_files<R: Files + AllocGlobal>(
 }
 
 // The names of the files that are wanted.
-fn names_of(alloc: Global, beside: &Beside) -> Result<Vec<&str>, AllocError> {
+fn names_of(alloc: Global, extras: &BuildExtras) -> Result<Vec<&str>, AllocError> {
     let mut names = Vec::new(alloc);
-    for name in [&beside.labels, &beside.listing, &beside.map] {
+    for name in [&extras.labels, &extras.listing, &extras.map] {
         if let Some(name) = name {
             names.push(name.as_str())?;
         }
@@ -75,18 +75,18 @@ fn of_source(error: CompileError) -> Outcome {
 }
 
 // Each file is written whole before the next one is opened.
-fn write_all<R: Files>(rt: &R, out: &str, beside: &Beside, made: &Made) -> Outcome {
-    match write_each(rt, out, beside, made) {
+fn write_all<R: Files>(rt: &R, out: &str, extras: &BuildExtras, made: &Made) -> Outcome {
+    match write_each(rt, out, extras, made) {
         Ok(()) => Outcome::Ended(End::Done),
         Err(outcome) => outcome,
     }
 }
 
-fn write_each<R: Files>(rt: &R, out: &str, beside: &Beside, made: &Made) -> Result<(), Outcome> {
+fn write_each<R: Files>(rt: &R, out: &str, extras: &BuildExtras, made: &Made) -> Result<(), Outcome> {
     write_file(rt, out, made.prg.as_slice())?;
-    write_wanted(rt, &beside.labels, made.labels.as_slice())?;
-    write_wanted(rt, &beside.listing, made.listing.as_slice())?;
-    write_wanted(rt, &beside.map, made.map.as_slice())
+    write_wanted(rt, &extras.labels, made.labels.as_slice())?;
+    write_wanted(rt, &extras.listing, made.listing.as_slice())?;
+    write_wanted(rt, &extras.map, made.map.as_slice())
 }
 
 fn write_wanted<R: Files>(rt: &R, name: &Option<String>, bytes: &[u8]) -> Result<(), Outcome> {

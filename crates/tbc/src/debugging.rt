@@ -3,7 +3,7 @@ use crate::files::open;
 use std::io;
 use std::rt::Files;
 use tb_command_line::Settings;
-use tb_debug_engine::{Beside, Setting, Sources, debug, read_sources, warnings};
+use tb_debug_engine::{Rom, Setting, Sources, debug, read_sources, warnings};
 use tb_driver::{End, Outcome, Report, Tracked};
 use tb_kernal::Keyboard;
 
@@ -19,7 +19,7 @@ pub fn debug_file<R: Files + Print + Eprint + Input + AllocGlobal>(
     match read_file(rt, source, settings.seed) {
         Ok(sources) => {
             let setting = Setting {
-                beside: beside(rude),
+                rom: rom(rude),
                 limit: u64::from(settings.limit.events),
                 prompts,
             };
@@ -38,10 +38,10 @@ pub fn debug_file<R: Files + Print + Eprint + Input + AllocGlobal>(
     }
 }
 
-fn beside(rude: Option<u16>) -> Beside {
+fn rom(rude: Option<u16>) -> Rom {
     match rude {
-        Some(seed) => Beside::Rude(seed),
-        None => Beside::Quiet,
+        Some(seed) => Rom::Rude(seed),
+        None => Rom::Quiet,
     }
 }
 

@@ -3,7 +3,7 @@ use crate::debug::programs::LOOP;
 use std::alloc::Global;
 use std::io::{Read, Write};
 use std::test::Fail;
-use tb_debug_engine::{Beside, Setting, Sources, debug, read_sources};
+use tb_debug_engine::{Rom, Setting, Sources, debug, read_sources};
 use tb_engines::Outcome;
 use tb_streams::Tracked;
 use tb_test_support::{CountingWriter, FailingReader, FailingWriter, HoldingWriter, no_keys};
@@ -21,7 +21,7 @@ pub fn debugs<R: Read, W: Write>(
     writer: &mut Tracked<W>,
 ) -> Outcome {
     let setting = Setting {
-        beside: Beside::Quiet,
+        rom: Rom::Quiet,
         limit: 100_000,
         prompts: false,
     };

@@ -3,7 +3,7 @@ use crate::debug::programs::{ASKS, DRAWS, FAULTS, FOREVER, LOOP, NESTS, RUNS_PAS
 use std::alloc::{AllocError, Global};
 use std::test::Fail;
 use tb_codegen::{Compiled, Options, compile};
-use tb_debug::{Beside, Command, Debugger, Reached};
+use tb_debug::{Rom, Command, Debugger, Reached};
 use tb_engines::start_machine;
 use tb_kernal::Machine;
 use tb_meaning::{Place, RunEnd, SourceRun, run_source};
@@ -179,18 +179,18 @@ fn command(
     match dice.throw(7) {
         0 => {
             let lines = lines.min(last.saturating_sub(time));
-            (Command::On(lines as u64), time.saturating_add(lines))
+            (Command::Next(lines as u64), time.saturating_add(lines))
         }
-        1 => (Command::Back(lines as u64), time.saturating_sub(lines)),
+        1 => (Command::Previous(lines as u64), time.saturating_sub(lines)),
         2 => {
             let to = dice.throw(last.saturating_add(1));
             (Command::ToTime(to as u64), to)
         }
         3 | 4 => match course.on_from(time, wanted) {
-            Some(to) => (Command::GoOn, to),
-            None => (Command::On(0), time),
+            Some(to) => (Command::Continue, to),
+            None => (Command::Next(0), time),
         },
-        _ => (Command::GoBack, course.back_from(time, wanted)),
+        _ => (Command::ReverseContinue, course.back_from(time, wanted)),
     }
 }
 
@@ -205,11 +205,11 @@ fn machine_of(alloc: Global, program: &Compiled) -> Result<Machine, Fail> {
 }
 
 // The ROM of a walk.
-fn beside(dice: &mut Dice) -> Beside {
+fn rom(dice: &mut Dice) -> Rom {
     if dice.throw(2) == 0 {
-        Beside::Quiet
+        Rom::Quiet
     } else {
-        Beside::Rude(u16::try_from(dice.throw(9)).unwrap_or(0))
+        Rom::Rude(u16::try_from(dice.throw(9)).unwrap_or(0))
     }
 }
 
@@ -263,7 +263,7 @@ fn walk(
     dice: &mut Dice,
 ) -> Result<usize, Fail> {
     let machine = machine_of(alloc, program)?;
-    let mut debugger = Debugger::new(alloc, program, machine, beside(dice))
+    let mut debugger = Debugger::new(alloc, program, machine, rom(dice))
         .ok()
         .ok_or("no debugger")?;
     let wanted = stops(dice, program);

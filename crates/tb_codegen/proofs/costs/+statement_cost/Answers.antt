@@ -1,17 +1,17 @@
 -- The goals of `statement_cost` in src/costs.rt.
 use Rattle.std.proofs.Common.{ℕ, ◌≡◌, ◌∙◌, map, ap, sym, arith}
-use Rattle.tb_syntax.specs.PlainData.{item_of, command_of}
-use Rattle.tb_meaning.specs.Cost.{command_cost}
+use Rattle.tb_syntax.specs.PlainData.{item_of, statement_of}
+use Rattle.tb_meaning.specs.Cost.{statement_cost}
 use Rattle.tb_templates.specs.Sizes.{items_cost}
 use Rattle.tb_templates.proofs.Fitting.{items_pay}
 use Rattle.tb_codegen.proofs.costs.+statement_cost.Goals as goal
 
 -- the cost of a PRINT is that of its items
-printed : (t : ℕ) (c : goal.After-deref t) → items_cost (map item_of c.deref.result.now) ≡ command_cost (command_of c.args.statement.now)
-printed t c = ap (λ is. items_cost (map item_of is)) c.deref.ensures.value ∙ items_pay (map item_of c.in-Print.items.items) ∙ ap (λ s. command_cost (command_of s)) (sym c.in-Print.is)
+printed : (t : ℕ) (c : goal.After-deref t) → items_cost (map item_of c.deref.result.now) ≡ statement_cost (statement_of c.args.statement.now)
+printed t c = ap (λ is. items_cost (map item_of is)) c.deref.ensures.value ∙ items_pay (map item_of c.in-Print.items.items) ∙ ap (λ s. statement_cost (statement_of s)) (sym c.in-Print.is)
 
 pub items_cost-requires : goal.items_cost-requires
 items_cost-requires t c = let e = printed t c in let h = c.requires in omega (arith, e, h)
 
 pub returns-in-Print : goal.returns-in-Print
-returns-in-Print t c = c.items_cost.ensures ∙ ap (λ is. items_cost (map item_of is)) c.deref.ensures.value ∙ items_pay (map item_of c.in-Print.items.items) ∙ ap (λ s. command_cost (command_of s)) (sym c.in-Print.is)
+returns-in-Print t c = c.items_cost.ensures ∙ ap (λ is. items_cost (map item_of is)) c.deref.ensures.value ∙ items_pay (map item_of c.in-Print.items.items) ∙ ap (λ s. statement_cost (statement_of s)) (sym c.in-Print.is)

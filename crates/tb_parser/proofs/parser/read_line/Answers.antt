@@ -2,10 +2,10 @@
 use Rattle.std.proofs.Common.{◌≡◌, ◌≢◌, ◌∙◌, arith, ℕ, List, [], ◌∷◌, true, false, length, sym, refl, Some, Err, IfSome, ◌==◌}
 use Rattle.std.proofs.lemmas.Result.{err_from_is_err_and}
 use Rattle.std.proofs.lemmas.Bool.{eqb-true}
-use Rattle.tb_syntax.specs.Source.{Command}
-use Rattle.tb_syntax.specs.PlainData.{command_of}
+use Rattle.tb_syntax.specs.Source.{Statement}
+use Rattle.tb_syntax.specs.PlainData.{statement_of}
 use Rattle.tb_grammar.specs.Statements.{States}
-use Rattle.tb_parser.specs.declared.errors.Fault.{Fault}
+use Rattle.tb_parser.specs.declared.errors.LineFault.{LineFault}
 use Rattle.tb_parser.specs.declared.squeeze.Placed.{Placed}
 use Rattle.tb_parser.specs.Answers.{Says, edit_of, refusal_of}
 use Rattle.tb_parser.specs.Readings.{LineIs, IsFit, IsUnfit, IsLineNumber, IsNumbered, TextIs, blank, unfit, unnumbered, bad_line_number, deletes, sets, unread}
@@ -14,12 +14,12 @@ use Rattle.tb_parser.specs.Squeezed.{squeezed}
 use Rattle.tb_parser.proofs.ReaderAnswers.{passes}
 use Rattle.tb_parser.proofs.parser.read_line.Goals as goal
 
-line_unfit : (line : List ℕ) (first : ℕ) (fault : Fault) → first_written 1 line ≡ Some first → IfSome (refusal_of fault.kind fault.column) (IsUnfit line) → Says edit_of (Err fault) (LineIs line)
+line_unfit : (line : List ℕ) (first : ℕ) (fault : LineFault) → first_written 1 line ≡ Some first → IfSome (refusal_of fault.kind fault.column) (IsUnfit line) → Says edit_of (Err fault) (LineIs line)
 line_unfit line first fault e h = passes (refusal_of fault.kind fault.column) (IsUnfit line) (λ r. LineIs line (Err r)) (λ r u. unfit first r e u) h
 
-line_unread : (line : List ℕ) (number : ℕ) (text : List Placed) (fault : Fault) → IsNumbered line number text → text ≢ [] → Says command_of (Err fault) (TextIs Command States text) → Says edit_of (Err fault) (LineIs line)
+line_unread : (line : List ℕ) (number : ℕ) (text : List Placed) (fault : LineFault) → IsNumbered line number text → text ≢ [] → Says statement_of (Err fault) (TextIs Statement States text) → Says edit_of (Err fault) (LineIs line)
 line_unread line number text fault numbered some h =
-    passes (refusal_of fault.kind fault.column) (λ r. TextIs Command States text (Err r)) (λ r. LineIs line (Err r)) (λ r t. unread number text r numbered some t) h
+    passes (refusal_of fault.kind fault.column) (λ r. TextIs Statement States text (Err r)) (λ r. LineIs line (Err r)) (λ r t. unread number text r numbered some t) h
 
 not_empty : (text : List Placed) → (length text == 0) ≡ false → text ≢ []
 not_empty [] e = λ h. cc
@@ -57,17 +57,17 @@ returns-then-is_empty c =
     let n = c.in-Some-line_number in
     deletes n.number (numbered c.args.line.now n.number [] c.in_ok-check_bytes.ensures n.ensures.0 (rw placed at n.ensures.1) (rw placed at n.ensures.2 ∙ is_empty n.text.now (sym c.if-is_empty.ensures)))
 
-pub returns-in_err-read_command : goal.returns-in_err-read_command
-returns-in_err-read_command c =
+pub returns-in_err-read_line_statement : goal.returns-in_err-read_line_statement
+returns-in_err-read_line_statement c =
     let placed : c.deref-2.result.now ≡ squeezed c.args.line.now = c.deref-2.ensures.value ∙ c.in_ok-placed.ensures in
     let n = c.in-Some-line_number in
     let is = numbered c.args.line.now n.number n.text.now c.in_ok-check_bytes.ensures n.ensures.0 (rw placed at n.ensures.1) (rw placed at n.ensures.2) in
-    let p = err_from_is_err_and c.from_residual-in_err-read_command.result c.from_residual-in_err-read_command.ensures.1 in
-    rw (p.1, p.2) (line_unread c.args.line.now n.number n.text.now c.in_err-read_command.field-0.0 is (not_empty n.text.now (sym c.if-is_empty.ensures)) c.in_err-read_command.ensures)
+    let p = err_from_is_err_and c.from_residual-in_err-read_line_statement.result c.from_residual-in_err-read_line_statement.ensures.1 in
+    rw (p.1, p.2) (line_unread c.args.line.now n.number n.text.now c.in_err-read_line_statement.field-0.0 is (not_empty n.text.now (sym c.if-is_empty.ensures)) c.in_err-read_line_statement.ensures)
 
 pub returns : goal.returns
 returns c =
     let placed : c.deref-2.result.now ≡ squeezed c.args.line.now = c.deref-2.ensures.value ∙ c.in_ok-placed.ensures in
     let n = c.in-Some-line_number in
     let is = numbered c.args.line.now n.number n.text.now c.in_ok-check_bytes.ensures n.ensures.0 (rw placed at n.ensures.1) (rw placed at n.ensures.2) in
-    sets n.number n.text.now (command_of c.in_ok-read_command.field-0) is (not_empty n.text.now (sym c.if-is_empty.ensures)) c.in_ok-read_command.ensures
+    sets n.number n.text.now (statement_of c.in_ok-read_line_statement.field-0) is (not_empty n.text.now (sym c.if-is_empty.ensures)) c.in_ok-read_line_statement.ensures

@@ -6,6 +6,6 @@ use Rattle.tb_debug.proofs.Sources.{shows_some}
 use Rattle.tb_debug.proofs.debugger.Debugger.line_here.Goals as goal
 
 pub returns-clause-source : goal.returns-clause-source
-returns-clause-source c = λ source seed start beside h.
-    shows_some source seed start beside c.args.self.now c.line_from.result h
+returns-clause-source c = λ source seed start rom h.
+    shows_some source seed start rom c.args.self.now c.line_from.result h
     (c.line_from.ensures ∙ ap (λ r. line_at (starts_of c.args.self.now.program.now) r.pc) c.regs.ensures)

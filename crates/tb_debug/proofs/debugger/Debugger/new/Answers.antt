@@ -8,7 +8,7 @@ use Rattle.tb_debug.proofs.debugger.Debugger.new.Goals as goal
 pub returns-clause-run : goal.returns-clause-run
 returns-clause-run c =
     let marks = c.in_ok-starts.starts in
-    let start = first_point (state_of c.args.machine) c.args.beside in
+    let start = first_point (state_of c.args.machine) c.args.rom in
     let first = c.first-present.ensures.run marks in
     let now = c.to_next_start.new.self in (
       refl,
@@ -25,7 +25,7 @@ returns-clause-run c =
 pub returns-clause-opens : goal.returns-clause-opens
 returns-clause-opens c =
     let marks = c.in_ok-starts.starts in
-    let start = first_point (state_of c.args.machine) c.args.beside in
+    let start = first_point (state_of c.args.machine) c.args.rom in
     record {
       first = c.first-present.result;
       none = c.first-present.ensures.events;

@@ -1,9 +1,9 @@
 -- The goals of `Moment::take_event` in src/moment.rt.
 use Rattle.std.proofs.Common.{◌+◌, ap, refl, ◌∙◌, arith}
 use Rattle.std.specs.Prelude.{◌&&◌, if◌then◌else◌}
-use Rattle.tb_debug.specs.Besides.{event_at}
+use Rattle.tb_debug.specs.Roms.{event_at}
 use Rattle.tb_debug.specs.Runs.{is_marked, shown}
-use Rattle.tb_debug.proofs.Besides.{given_at}
+use Rattle.tb_debug.proofs.Roms.{given_at}
 use Rattle.tb_kernal.specs.Machine.{state_of}
 use Rattle.tb_debug.proofs.Beginning.{stays_there}
 use Rattle.tb_debug.proofs.Running.{behind_by, one_more, opened_where, runs_on}
@@ -15,7 +15,7 @@ returns-clause-run c =
     let took = c.in_ok-is_own.ensures in
     let marks = c.args.starts.now in
     let before = c.args.self.now in
-    let given = given_at before.beside took.ready before.machine took.event took.same took.given.0 in
+    let given = given_at before.rom took.ready before.machine took.event took.same took.given.0 in
     let marked = c.begins-marked.ensures ∙ ap (λ r. is_marked marks r.pc) c.regs-pc.ensures in
     let begins = c.both-begins.ensures ∙ (λ i. took.is_own i && marked i) in
     let opened =
@@ -35,8 +35,8 @@ pub returns-clause-own : goal.returns-clause-own
 returns-clause-own c = λ start h.
     let took = c.in_ok-is_own.ensures in
     let before = c.args.self.now in
-    let given = given_at before.beside took.ready before.machine took.event took.same took.given.0 in
-    took.is_own ∙ ap is_own given ∙ ap (λ p. is_own (event_at p.beside p.state.regs)) h.stands
+    let given = given_at before.rom took.ready before.machine took.event took.same took.given.0 in
+    took.is_own ∙ ap is_own given ∙ ap (λ p. is_own (event_at p.rom p.state.regs)) h.stands
 
 pub returns-clause-begun : goal.returns-clause-begun
 returns-clause-begun c =

@@ -1,5 +1,5 @@
 -- The goals of `Interpreter::polled` in src/interpreter.rt.
-use Rattle.tb_syntax.specs.PlainData.{command_of, lines_of}
+use Rattle.tb_syntax.specs.PlainData.{statement_of, lines_of}
 use Rattle.tb_syntax.specs.Source.{numbers}
 use Rattle.tb_meaning.specs.Control.{poll}
 use Rattle.tb_meaning.specs.Interpreted.{state_of}
@@ -9,4 +9,4 @@ use Rattle.tb_meaning.proofs.interpreter.Interpreter.polled.Goals as goal
 
 pub returns : goal.returns
 returns c =
-    ran_then (poll c.args.number (state_of c.args.self.now)) (does (numbers (lines_of c.args.program.now)) c.args.number (command_of c.args.statement.now)) c.args.self.now c.poll.new.self c.statement.new.self c.statement.result c.in_ok-poll.ensures c.statement.ensures
+    ran_then (poll c.args.number (state_of c.args.self.now)) (does (numbers (lines_of c.args.program.now)) c.args.number (statement_of c.args.statement.now)) c.args.self.now c.poll.new.self c.statement.new.self c.statement.result c.in_ok-poll.ensures c.statement.ensures

@@ -1,0 +1,15 @@
+-- What holds at each turn of the loop of `Debugger::next` in src/debugger.rt.
+use Rattle.std.proofs.Common.{◌≡◌, ◌≤◌}
+use Rattle.tb_debug.specs.Begins.{Passes}
+use Rattle.tb_debug.specs.Debuggers.{KeepsRun, OnRun}
+use Rattle.tb_debug.specs.Runs.{Point}
+use Rattle.tb_debug.proofs.debugger.Debugger.next.Given as goal
+
+abbrev pub invariant-loop-done : goal.invariant-loop-done
+invariant-loop-done l = record {
+  run : KeepsRun l.fn.self l.self;
+  shown : l.self.shown ≡ l.fn.self.shown;
+  stops : l.self.stops ≡ l.fn.self.stops;
+  few : l.self.present.events ≤ l.last;
+  passed : (start : Point) → OnRun start l.fn.self → Passes l.fn.self.starts start l.fn.self.present.events l.done l.self.present.events;
+}

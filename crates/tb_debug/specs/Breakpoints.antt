@@ -1,0 +1,48 @@
+-- Breakpoints and watches.
+use Rattle.std.specs.Prelude.{◌≡◌, ℕ, Bool, false, not, ◌||◌, ◌==◌, if◌then◌else◌, ℤ, pos, List, [], ◌∷◌, Option, Some, None, slice_index_or}
+use Rattle.std.specs.Ordering.{int_eq}
+use Rattle.tb_words.specs.declared.Letter.{Letter}
+use Rattle.tb_words.specs.Letters.{letter_index}
+use Rattle.tb_debug.specs.declared.breakpoints.StopPoints.{StopPoints}
+
+-- the lines with a breakpoint
+abbrev pub breakpoints_of : StopPoints → List ℕ
+breakpoints_of s = s.breakpoints.items
+
+-- the watched variables
+abbrev pub watches_of : StopPoints → List Letter
+watches_of s = s.watches.items
+
+-- a line is one of these
+abbrev pub is_among : List ℕ → ℕ → Bool
+is_among [] line = false
+is_among (l ∷ ls) line = (line == l) || is_among ls line
+
+-- the variable at an index in the alphabet is one of these
+abbrev pub is_watched : List Letter → ℕ → Bool
+is_watched [] k = false
+is_watched (w ∷ ws) k = (k == letter_index w) || is_watched ws k
+
+-- lines in which one is set where it was cleared, and cleared where it was set; the others are as they were
+abbrev pub Turned : ℕ → List ℕ → List ℕ → Type 0
+Turned line before after =
+    (n : ℕ) → is_among after n ≡ (if n == line then not (is_among before n) else is_among before n)
+
+-- the same of watched variables
+abbrev pub WatchTurned : ℕ → List Letter → List Letter → Type 0
+WatchTurned index before after =
+    (k : ℕ) → is_watched after k ≡ (if k == index then not (is_watched before k) else is_watched before k)
+
+-- a line has a breakpoint
+abbrev pub breaks : List ℕ → Option ℕ → Bool
+breaks lines None = false
+breaks lines (Some line) = is_among lines line
+
+-- the value of a variable
+abbrev pub value_in : List ℤ → Letter → ℤ
+value_in values letter = slice_index_or values (letter_index letter) (pos 0)
+
+-- one of these variables has another value
+abbrev pub differ : List Letter → List ℤ → List ℤ → Bool
+differ [] before after = false
+differ (w ∷ ws) before after = not (int_eq (value_in before w) (value_in after w)) || differ ws before after

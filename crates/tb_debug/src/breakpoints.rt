@@ -1,0 +1,157 @@
+//! Breakpoints and watches.
+ghost use Rattle.std.specs.Prelude.{◌≡◌, ◌≤◌, [], true, not, length, IfOk, OnOk, OnErr};
+ghost use Rattle.tb_words.specs.Letters.{letter_index};
+ghost use Rattle.tb_debug.specs.Breakpoints.{Turned, WatchTurned, breakpoints_of, watches_of, is_among, is_watched, breaks, differ};
+
+use std::alloc::{AllocError, Global};
+use tb_words::Letter;
+
+/// The values of A to Z.
+pub type Variables = [i16; 26];
+
+/// Breakpoints and watches.
+#[derive(Drop)]
+pub struct StopPoints {
+    /// Lines, in rising order.
+    breakpoints: Vec<u16>,
+    watches: Vec<Letter>,
+}
+
+impl StopPoints {
+    /// None.
+    pub fn new(alloc: Global) -> StopPoints
+        ensures breakpoints { breakpoints_of result ≡ [] }
+        ensures watches { watches_of result ≡ [] }
+    {
+        StopPoints {
+            breakpoints: Vec::new(alloc),
+            watches: Vec::new(alloc),
+        }
+    }
+
+    /// The lines with a breakpoint, in rising order.
+    pub fn breakpoints(&self) -> &[u16]
+        ensures { result.now ≡ breakpoints_of self.now }
+    {
+        self.breakpoints.as_slice()
+    }
+
+    /// Whether a line has a breakpoint; none has none.
+    pub fn breaks(&self, line: Option<u16>) -> bool
+        ensures { result ≡ breaks (breakpoints_of self.now) line }
+    {
+        match line {
+            Some(line) => is_among(self.breakpoints.as_slice(), line),
+            None => false,
+        }
+    }
+
+    /// Whether no line has a breakpoint.
+    pub fn breaks_nowhere(&self) -> bool
+        ensures none { result ≡ true → breakpoints_of self.now ≡ [] }
+        ensures only { breakpoints_of self.now ≡ [] → result ≡ true }
+    {
+        self.breakpoints.is_empty()
+    }
+
+    /// Whether no variable is watched.
+    pub fn watches_none(&self) -> bool
+        ensures none { result ≡ true → watches_of self.now ≡ [] }
+        ensures only { watches_of self.now ≡ [] → result ≡ true }
+    {
+        self.watches.is_empty()
+    }
+
+    /// Whether a watched variable has another value.
+    pub fn differ(&self, before: &Variables, after: &Variables) -> bool
+        ensures { result ≡ differ (watches_of self.now) before.now after.now }
+    {
+        differ(self.watches.as_slice(), before, after)
+    }
+
+    /// Sets a breakpoint, or clears it where it is set: whether it is set then.
+    pub fn turn_breakpoint(&mut self, line: u16) -> Result<bool, AllocError>
+        ensures set { IfOk result (λ set. set ≡ not (is_among (breakpoints_of self.old) line)) }
+        ensures turned { OnOk result (Turned line (breakpoints_of self.old) (breakpoints_of self.new)) }
+        ensures refused { OnErr result (breakpoints_of self.new ≡ breakpoints_of self.old) }
+        ensures watches { watches_of self.new ≡ watches_of self.old }
+    {
+        if is_among(self.breakpoints.as_slice(), line) {
+            self.breakpoints.retain(|set| *set != line);
+            return Ok(false);
+        }
+        let index = position_of(self.breakpoints.as_slice(), line);
+        self.breakpoints.insert(index, line)?;
+        Ok(true)
+    }
+
+    /// Sets a watch, or clears it where it is set: whether it is set then.
+    pub fn turn_watch(&mut self, letter: Letter) -> Result<bool, AllocError>
+        ensures set { IfOk result (λ set. set ≡ not (is_watched (watches_of self.old) (letter_index letter))) }
+        ensures turned { OnOk result (WatchTurned (letter_index letter) (watches_of self.old) (watches_of self.new)) }
+        ensures refused { OnErr result (watches_of self.new ≡ watches_of self.old) }
+        ensures breakpoints { breakpoints_of self.new ≡ breakpoints_of self.old }
+    {
+        let index = letter.index();
+        if is_watched(self.watches.as_slice(), index) {
+            self.watches.retain(|set| set.index() != index);
+            return Ok(false);
+        }
+        self.watches.push(letter)?;
+        Ok(true)
+    }
+}
+
+// Whether a line is one of these.
+fn is_among(lines: &[u16], line: u16) -> bool
+    ensures { result ≡ is_among lines.now line }
+{
+    match lines {
+        [] => false,
+        [first, rest @ ..] => if line == *first {
+            true
+        } else {
+            is_among(rest, line)
+        },
+    }
+}
+
+// Whether one of these variables has another value.
+fn differ(letters: &[Letter], before: &Variables, after: &Variables) -> bool
+    ensures { result ≡ differ letters.now before.now after.now }
+{
+    match letters {
+        [] => false,
+        [first, rest @ ..] => if before[first.index()] != after[first.index()] {
+            true
+        } else {
+            differ(rest, before, after)
+        },
+    }
+}
+
+// Whether the variable at an index in the alphabet is one of these.
+fn is_watched(letters: &[Letter], index: usize) -> bool
+    ensures { result ≡ is_watched letters.now index }
+{
+    match letters {
+        [] => false,
+        [first, rest @ ..] => if index == first.index() {
+            true
+        } else {
+            is_watched(rest, index)
+        },
+    }
+}
+
+// How many lines stand before a line, where lines rise.
+fn position_of(lines: &[u16], line: u16) -> usize
+    ensures { result ≤ length lines.now }
+{
+    for (index, other) in lines.iter().enumerate() {
+        if line < *other {
+            return index;
+        }
+    }
+    lines.len()
+}
