@@ -2,11 +2,11 @@
 ghost use Rattle.std.specs.Prelude.{◌≡◌, ◌∷◌, ◌++◌, [], IfOk, OnOk, map};
 ghost use Rattle.tb_check.specs.Findings.{AreFindings, Tells};
 
-use crate::warnings::{LineWarning, warnings};
 use crate::deep::deep_lines;
 use crate::judging::{Verdict, judge};
 use crate::lines::{numbered_lines, texts_of_lines};
 use crate::notes::{Note, note_of};
+use crate::warnings::{LineWarning, warnings};
 use std::alloc::{AllocError, Global};
 use tb_parser::SourceError;
 use tb_syntax::Program;

@@ -87,7 +87,11 @@ impl ForeignWord {
     fn takes_name(self) -> bool {
         matches!(
             self,
-            ForeignWord::For | ForeignWord::Next | ForeignWord::Dim | ForeignWord::Get | ForeignWord::Read
+            ForeignWord::For
+                | ForeignWord::Next
+                | ForeignWord::Dim
+                | ForeignWord::Get
+                | ForeignWord::Read
         )
     }
 

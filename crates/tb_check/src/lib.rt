@@ -2,20 +2,20 @@
 //! is wrong with the whole, what helps, and what there is to warn of.
 #![tactic(auto)]
 
-mod warnings;
 mod checking;
 mod deep;
 mod examination;
+mod foreign_words;
 mod judging;
 mod lines;
 mod notes;
-mod foreign_words;
+mod warnings;
 
-pub use warnings::{LineWarning, Warning};
 pub use checking::bad_lines;
 pub use examination::{BadLine, Findings, examine};
+pub use foreign_words::ForeignWord;
 pub use judging::{ProgramFaults, Verdict, judge};
 pub use lines::texts_of_lines;
 pub use notes::Note;
 pub use tb_parser::{SourceError, SourceErrorKind};
-pub use foreign_words::ForeignWord;
+pub use warnings::{LineWarning, Warning};

@@ -1,8 +1,8 @@
 //! What commands are answered by.
+use crate::breakpoints::Variables;
 use tb_cpu::Regs;
 use tb_disasm::Line;
 use tb_kernal::Status;
-use crate::breakpoints::Variables;
 
 /// Where a run stands.
 #[derive(Clone, Copy, PartialEq, Eq, Debug, Drop)]

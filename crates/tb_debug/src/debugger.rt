@@ -13,15 +13,15 @@ ghost use Rattle.tb_debug.specs.declared.moment.Reached.TheVariants.{Line};
 ghost use Rattle.tb_debug.specs.declared.rom.Rom.{Rom};
 ghost use Rattle.tb_debug.specs.Debuggers.{IsAtTime, IsOpening, KeepsRun, KeepsRunTyped, LeadsBackBy, LeadsToTime, OnRun, begun_by};
 
-use crate::rom::Rom;
-use crate::history::{History, Checkpoint};
+use crate::breakpoints::{StopPoints, Variables};
+use crate::history::{Checkpoint, History};
 use crate::moment::{Moment, Reached};
 use crate::readings::{line_from, variables_in};
+use crate::rom::Rom;
 use crate::starts::Starts;
 use std::alloc::{AllocError, Global};
 use tb_codegen::Compiled;
 use tb_kernal::Machine;
-use crate::breakpoints::{StopPoints, Variables};
 
 /// The most events that come before the first line.
 pub const MOST_OPENING: u64 = 1_000_000;

@@ -6,20 +6,20 @@
 
 mod answer;
 mod breakpoints;
-mod rom;
 mod debugger;
 mod events;
 mod history;
 mod moment;
 mod readings;
 mod respond;
+mod rom;
 mod searching;
 mod starts;
 
 pub use answer::{Answer, Location, Stand};
 pub use breakpoints::{StopPoints, Variables};
-pub use rom::Rom;
 pub use debugger::{Debugger, MOST_OPENING};
 pub use history::{MOST_KEPT, SPACING};
 pub use moment::Reached;
+pub use rom::Rom;
 pub use tb_debug_commands::{Command, read_command};

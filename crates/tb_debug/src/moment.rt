@@ -6,13 +6,13 @@ ghost use Rattle.tb_debug.specs.Begins.{Advances, EndsAt, IsLimited, StandsBy, S
 ghost use Rattle.tb_debug.specs.Readings.{variables_of};
 ghost use Rattle.tb_debug.specs.Runs.{Point, IsOfRun, IsTyped, StaysOnRun, first_point, is_marked};
 
-use crate::rom::Rom;
+use crate::breakpoints::Variables;
 use crate::events::take_event;
 use crate::readings::variables_in;
+use crate::rom::Rom;
 use crate::starts::Starts;
 use std::alloc::{AllocError, Global};
 use tb_kernal::{Machine, Status};
-use crate::breakpoints::Variables;
 
 /// Where a walk ended.
 #[derive(Clone, Copy, PartialEq, Eq, Debug, Drop)]

@@ -8,13 +8,13 @@ ghost use Rattle.tb_codegen.specs.Compiled.{pair_of, starts_of};
 ghost use Rattle.tb_debug.specs.Readings.{IsCodeLine, as_read, byte_at, bytes_of, code_bytes, code_of, word_at, variable_of, variables_of, note_read, notes_in, returns_of};
 ghost use Rattle.tb_debug.specs.Lines.{line_at};
 
+use crate::breakpoints::Variables;
 use std::alloc::{AllocError, Global};
 use tb_codegen::{Compiled, LineStart};
 use tb_disasm::{Line, first_line};
 use tb_kernal::Machine;
 use tb_memmap::Memory;
 use tb_runtime16::{NOTE_HIGH, NOTE_LOW, NOTES, VARS};
-use crate::breakpoints::Variables;
 
 /// How many notes the return list has at most.
 const MOST_NOTES: u16 = 500;

@@ -37,7 +37,12 @@ impl<'a> Debugger<'a> {
     }
 
     /// On to the beginning of the line at an address.
-    pub fn run_to_line(&mut self, alloc: Global, address: u16, limit: u64) -> Result<Reached, AllocError>
+    pub fn run_to_line(
+        &mut self,
+        alloc: Global,
+        address: u16,
+        limit: u64,
+    ) -> Result<Reached, AllocError>
         ensures run { OnOk result (KeepsRun self.old self.new) }
         ensures there { IfOk result (λ reached. StandsAt address reached self.new.present) }
         ensures line { IfOk result (λ reached. LeadsOnTo (destination.Address address) limit self.old reached self.new.present) }
@@ -49,7 +54,12 @@ impl<'a> Debugger<'a> {
     }
 
     // On to the next line that is looked for.
-    fn run_until(&mut self, alloc: Global, to: Destination, limit: u64) -> Result<Reached, AllocError>
+    fn run_until(
+        &mut self,
+        alloc: Global,
+        to: Destination,
+        limit: u64,
+    ) -> Result<Reached, AllocError>
         ensures run { OnOk result (KeepsRun self.old self.new) }
         ensures there { IfOk result (λ reached. IsThere to reached self.new) }
         ensures leads { IfOk result (λ reached. LeadsOnTo to limit self.old reached self.new.present) }

@@ -10,9 +10,9 @@ use crate::sources::{Sources, Written};
 use crate::texts::push_answer;
 use std::alloc::Global;
 use std::io::{Read, Write};
-use tb_debug::{Answer, Rom, Debugger, read_command};
+use tb_debug::{Answer, Debugger, Rom, read_command};
 use tb_driver::are_bytes;
-use tb_engines::{End, Outcome, NoText, start_machine, without_input};
+use tb_engines::{End, NoText, Outcome, start_machine, without_input};
 use tb_kernal::Keyboard;
 use tb_streams::{MOST_INPUT, StreamFailure, Tracked, read_line, without_return, write_output};
 

@@ -10,8 +10,8 @@ use std::io::Read;
 use tb_codegen::{CompileError, Compiled, LineStart, Options, compile};
 use tb_engines::{Outcome, Refusal, without_input};
 use tb_meaning::Warning;
-use tb_streams::{Tracked, read_input};
 use tb_source_text::{Numbered, numbered_lines};
+use tb_streams::{Tracked, read_input};
 
 /// A source, and what it was compiled to.
 #[derive(Drop)]

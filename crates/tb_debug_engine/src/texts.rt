@@ -15,8 +15,8 @@ use tb_debug::{Answer, Location, Stand};
 use tb_disasm::{Line, Listing};
 use tb_engines::end_of;
 use tb_kernal::Status;
-use tb_streams::host_form;
 use tb_source_text::Numbered;
+use tb_streams::host_form;
 
 /// How many bytes of memory stand on a line.
 const ROW: usize = 16;

@@ -14,6 +14,6 @@ pub use stepping::step_text;
 pub use tb_engines::{End, Outcome, Refusal, Report, asm_text, dis_text, run_prg, without_input};
 pub use tb_play::{MOST_TYPED, Played, play_file};
 pub use tb_streams::{
-    InputError, KeyError, KeyFileError, MOST_INPUT, StreamFailure, Tracked, address, host_form, key_file,
-    key_list, read_input, read_key_file, write_output,
+    InputError, KeyError, KeyFileError, MOST_INPUT, StreamFailure, Tracked, address, host_form,
+    key_file, key_list, read_input, read_key_file, write_output,
 };

@@ -8,7 +8,7 @@ ghost use Rattle.tb_driver.specs.Reading.{ReadsSource};
 use std::alloc::Global;
 use std::io::Read;
 use tb_codegen::{CompileError, Compiled, Options, compile};
-use tb_engines::{Outcome, Refusal, NoText, without_input};
+use tb_engines::{NoText, Outcome, Refusal, without_input};
 use tb_streams::{Tracked, read_input};
 
 /// How an engine stops where a source is not compiled. Want of memory is no refusal.

@@ -14,7 +14,7 @@ use crate::reading::read_source;
 use std::alloc::Global;
 use std::io::{Read, Write};
 use tb_codegen::Compiled;
-use tb_engines::{End, Outcome, Report, NoText, Text, deliver, run_file};
+use tb_engines::{End, NoText, Outcome, Report, Text, deliver, run_file};
 use tb_kernal::{Keyboard, Outside};
 use tb_streams::{Tracked, write_output};
 

@@ -12,7 +12,7 @@ use std::alloc::Global;
 use std::io::{Read, Write};
 use tb_codegen::{Compiled, Options, compile};
 use tb_commands::answers;
-use tb_engines::{End, Outcome, Report, NoText, Text, deliver, start_machine, without_input};
+use tb_engines::{End, NoText, Outcome, Report, Text, deliver, start_machine, without_input};
 use tb_kernal::{Keyboard, Quiet};
 use tb_stepper::Stepper;
 use tb_streams::{Tracked, read_input};

@@ -3,9 +3,9 @@ ghost use Rattle.std.specs.Prelude.{◌≡◌};
 ghost use Rattle.tb_engines.specs.Outcomes.{status_of, status_of_end};
 
 use tb_asm::AsmError;
+use tb_compile_errors::CompileError;
 use tb_cpu::Wrong;
 use tb_prg::PrgError;
-use tb_compile_errors::CompileError;
 
 /// How an engine ended whose whole text was written.
 #[derive(Clone, Copy, PartialEq, Eq, Debug, Drop)]

@@ -5,11 +5,11 @@ ghost use Rattle.tb_engines.specs.Texts.{end_text, source_text, too_large_text, 
 use crate::outcome::{End, Outcome, Refusal};
 use std::fmt;
 use tb_asm::AsmErrorKind;
+use tb_compile_errors::CompileError;
 use tb_cpu::Wrong;
 use tb_lower::LowerError;
 use tb_parser::{SourceError, SourceErrorKind};
 use tb_prg::PrgError;
-use tb_compile_errors::CompileError;
 
 fn kind_text(kind: AsmErrorKind) -> &'static str {
     match kind {

@@ -9,7 +9,7 @@ ghost use Rattle.tb_engines.specs.Programs.{RunsPrg};
 
 use std::alloc::Global;
 use std::io::{Read, Write};
-use tb_engines::{Outcome, NoText, Text, deliver, dis_text, run_file};
+use tb_engines::{NoText, Outcome, Text, deliver, dis_text, run_file};
 use tb_kernal::{Keyboard, Outside};
 use tb_streams::Tracked;
 

@@ -13,7 +13,9 @@ ghost use Rattle.tb_parser.specs.Readings.{ExpressionIs};
 ghost use Rattle.tb_parser.specs.Tokens.{AreTokens};
 
 use std::alloc::{AllocError, Global};
-use tb_grammar::{Keyword, ReadExpression, ReadStatement, ReadError, read_expression, read_statement};
+use tb_grammar::{
+    Keyword, ReadError, ReadExpression, ReadStatement, read_expression, read_statement,
+};
 use tb_parser::{Expr, Program, SourceError, Token, parse, parse_expr, tokens};
 
 /// `Keyword::spelling`.

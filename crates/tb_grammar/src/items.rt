@@ -4,8 +4,8 @@ ghost use Rattle.tb_grammar.specs.StatementReading.{text_item_at, item_at, print
 ghost use Rattle.tb_grammar.specs.ReadValues.{item_seen, told, Gives};
 
 use crate::expressions::{behind, leading, split_letter};
-use crate::statements::ReadStatement;
 use crate::read_error::{ReadError, left_at};
+use crate::statements::ReadStatement;
 use std::alloc::Global;
 use tb_syntax::{PrintItem, Statement};
 

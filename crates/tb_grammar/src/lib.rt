@@ -9,11 +9,11 @@ mod expressions;
 mod items;
 mod keywords;
 mod laws;
-mod statements;
 mod read_error;
+mod statements;
 
 pub use expressions::{ReadExpression, read_expression};
 pub use keywords::{KEYWORDS, Keyword, THEN};
 pub use laws::{expressions_are_unique, statements_are_unique};
-pub use statements::{ReadStatement, read_statement};
 pub use read_error::ReadError;
+pub use statements::{ReadStatement, read_statement};

@@ -144,7 +144,12 @@ impl<'a> Interpreter<'a> {
     }
 
     // A line at whose number this statement stands.
-    fn polled(&mut self, program: &Program, number: u16, statement: &Statement) -> Result<(), RunStop>
+    fn polled(
+        &mut self,
+        program: &Program,
+        number: u16,
+        statement: &Statement,
+    ) -> Result<(), RunStop>
         ensures { Ran (and_then (poll number (state_of self.old)) (does (numbers (lines_of program.now)) number (statement_of statement.now))) self.old self.new result }
     {
         self.poll(number)?;

@@ -6,7 +6,7 @@ ghost use Rattle.tb_play.specs.Plays.{IsStarted, PlaysFile, PlayFaults, RunsType
 use crate::talk::{Played, play};
 use std::alloc::Global;
 use std::io::{Read, Write};
-use tb_engines::{Refusal, NoText, deliver, start_machine};
+use tb_engines::{NoText, Refusal, deliver, start_machine};
 use tb_kernal::{Keyboard, Machine};
 use tb_streams::Tracked;
 

@@ -13,7 +13,7 @@ use std::alloc::Global;
 use std::io::{Read, Write};
 use tb_codegen::{Compiled, Options, compile};
 use tb_driver::stop_of;
-use tb_engines::{End, Report, NoText, Text, deliver, without_input};
+use tb_engines::{End, NoText, Report, Text, deliver, without_input};
 use tb_kernal::{Keyboard, Outside};
 use tb_meaning::Warning;
 use tb_profile_table::{Texts, texts_of};

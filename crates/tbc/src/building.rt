@@ -82,7 +82,12 @@ fn write_all<R: Files>(rt: &R, out: &str, extras: &BuildExtras, made: &Made) -> 
     }
 }
 
-fn write_each<R: Files>(rt: &R, out: &str, extras: &BuildExtras, made: &Made) -> Result<(), Outcome> {
+fn write_each<R: Files>(
+    rt: &R,
+    out: &str,
+    extras: &BuildExtras,
+    made: &Made,
+) -> Result<(), Outcome> {
     write_file(rt, out, made.prg.as_slice())?;
     write_wanted(rt, &extras.labels, made.labels.as_slice())?;
     write_wanted(rt, &extras.listing, made.listing.as_slice())?;

@@ -3,7 +3,7 @@ use crate::debug::programs::{ASKS, DRAWS, FAULTS, FOREVER, LOOP, NESTS, RUNS_PAS
 use std::alloc::{AllocError, Global};
 use std::test::Fail;
 use tb_codegen::{Compiled, Options, compile};
-use tb_debug::{Rom, Command, Debugger, Reached};
+use tb_debug::{Command, Debugger, Reached, Rom};
 use tb_engines::start_machine;
 use tb_kernal::Machine;
 use tb_meaning::{Place, RunEnd, SourceRun, run_source};
