@@ -1,5 +1,7 @@
 -- Lines read one behind the other.
-use Rattle.std.proofs.Common.{◌≡◌, ℕ, ◌+◌, ◌-◌, ◌<◌, ◌≤◌, Bool, true, false, List, [], ◌∷◌, ◌++◌, length, take, drop, get_or, Option, Some, None, Result, Ok, Err, refl, sym, ap, ◌∙◌, eqb, add-one, drop-cons, append_assoc, ◌&&◌, if◌then◌else◌, arith, length-drop, map}
+use Rattle.std.proofs.Common.{◌≡◌, ℕ, ◌+◌, ◌-◌, ◌<◌, ◌≤◌, Bool, true, false, List, [], ◌∷◌, ◌++◌, length, take, drop}
+use Rattle.std.proofs.Common.{get_or, Option, Some, None, Result, Ok, Err, refl, sym, ap, ◌∙◌, eqb, add-one, drop-cons, append_assoc, ◌&&◌}
+use Rattle.std.proofs.Common.{if◌then◌else◌, arith, length-drop, map}
 use Rattle.std.specs.Prelude.{option_map}
 use Rattle.std.proofs.lemmas.Bool.Decides.{nat_tests}
 use Rattle.std.proofs.lemmas.List.{append-nil, take_more, drop-drop}
@@ -34,7 +36,8 @@ puts_none (b ∷ bs) = by (eqb b 10) (eqb b 13 && begins_with_10 bs) (puts_none 
     onto (l ∷ ls) = refl
 
     by : (s t : Bool) → puts [] (split_lines bs) ≡ split_lines bs
-        → puts [] (if s then [] ∷ split_lines bs else if t then split_lines bs else put b (split_lines bs)) ≡ (if s then [] ∷ split_lines bs else if t then split_lines bs else put b (split_lines bs))
+        → puts [] (if s then [] ∷ split_lines bs else if t then split_lines bs else put b (split_lines bs))
+            ≡ (if s then [] ∷ split_lines bs else if t then split_lines bs else put b (split_lines bs))
     by true t h = refl
     by false true h = h
     by false false h = onto (split_lines bs)

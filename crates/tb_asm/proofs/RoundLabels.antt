@@ -1,5 +1,6 @@
 -- The labels of a round, and the other loops over forms.
-use Rattle.std.proofs.Common.{◌≡◌, ℕ, map, ◌+◌, ◌%◌, ◌<◌, ◌≤◌, Bool, true, false, List, [], ◌∷◌, ◌++◌, Option, Some, None, refl, sym, ap, ◌∙◌, cond, arith, Result, Ok, Err, length, drop, get_or, append_assoc, subst, is_some, if◌then◌else◌}
+use Rattle.std.proofs.Common.{◌≡◌, ℕ, map, ◌+◌, ◌%◌, ◌<◌, ◌≤◌, Bool, true, false, List, [], ◌∷◌, ◌++◌, Option, Some, None}
+use Rattle.std.proofs.Common.{refl, sym, ap, ◌∙◌, cond, arith, Result, Ok, Err, length, drop, get_or, append_assoc, subst, is_some, if◌then◌else◌}
 use Rattle.std.specs.Prelude.{MatchResult, OnOk, IfErr}
 use Rattle.std.proofs.Math.ListN.{drop_of_length-le}
 use Rattle.tb_opcodes.specs.declared.Mnemonic.{Mnemonic}

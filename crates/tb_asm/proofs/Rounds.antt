@@ -1,5 +1,7 @@
 -- What the loops of settling keep from item to item.
-use Rattle.std.proofs.Common.{◌≡◌, ℕ, suc, length, map, drop, get_or, drop-cons, add-one, ◌+◌, ◌%◌, ◌<◌, ◌≤◌, Bool, true, false, not, ◌&&◌, ◌||◌, List, [], ◌∷◌, ◌++◌, Option, Some, None, refl, sym, ap, subst, ◌∙◌, arith, append_assoc, if◌then◌else◌, true≢false}
+use Rattle.std.proofs.Common.{◌≡◌, ℕ, suc, length, map, drop, get_or, drop-cons, add-one, ◌+◌, ◌%◌, ◌<◌, ◌≤◌, Bool, true, false, not}
+use Rattle.std.proofs.Common.{◌&&◌, ◌||◌, List, [], ◌∷◌, ◌++◌, Option, Some, None, refl, sym, ap, subst, ◌∙◌, arith, append_assoc}
+use Rattle.std.proofs.Common.{if◌then◌else◌, true≢false}
 use Rattle.std.specs.Prelude.{replicate}
 use Rattle.tb_opcodes.specs.declared.Mnemonic.{Mnemonic}
 use Rattle.tb_asm.specs.declared.names.Name.{Name}

@@ -1,5 +1,6 @@
 -- Laws of images, and of items that assemble.
-use Rattle.std.proofs.Common.{◌≡◌, ℕ, ◌+◌, ◌<◌, Bool, true, false, not, ◌||◌, cond, List, [], ◌∷◌, ◌++◌, length, take, drop, Option, Some, None, refl, sym, ap, subst, ◌∙◌, arith, append_assoc, true≢false, if◌then◌else◌, is_some}
+use Rattle.std.proofs.Common.{◌≡◌, ℕ, ◌+◌, ◌<◌, Bool, true, false, not, ◌||◌, cond, List, [], ◌∷◌, ◌++◌, length, take, drop}
+use Rattle.std.proofs.Common.{Option, Some, None, refl, sym, ap, subst, ◌∙◌, arith, append_assoc, true≢false, if◌then◌else◌, is_some}
 use Rattle.std.specs.Prelude.{slice_index, unwrap_or}
 use Rattle.std.specs.List.{list_all, list_any}
 use Rattle.std.proofs.lemmas.Bool.Decides.{nat_tests}
@@ -13,14 +14,17 @@ use Rattle.tb_opcodes.proofs.Inverse.{decodes_back}
 use Rattle.tb_asm.specs.declared.names.Name.{Name}
 use Rattle.tb_asm.specs.declared.errors.AsmErrorKind.{AsmErrorKind}
 use Rattle.tb_asm.specs.declared.errors.AsmErrorKind.TheVariants.{NoSuchMode, LabelTwice, RunsPast}
-use Rattle.tb_asm.specs.Layout.{Entry, instr, label, bytes, word, size_of, size, suits, has_mode, same_name, address_in, labels_from, bytes_from, opcode_of, operand_bytes, number_in, image_of, is_label_in, runs_past, place_fault, place_fault_in, code_fault_in, first_fault, place_refusal, code_refusal}
+use Rattle.tb_asm.specs.Layout.{Entry, instr, label, bytes, word, size_of, size, suits, has_mode, same_name, address_in, labels_from, bytes_from, opcode_of}
+use Rattle.tb_asm.specs.Layout.{operand_bytes, number_in, image_of, is_label_in, runs_past, place_fault, place_fault_in, code_fault_in, first_fault}
+use Rattle.tb_asm.specs.Layout.{place_refusal, code_refusal}
 use Rattle.tb_asm.specs.Assembled.{refusal, either}
 use Rattle.tb_asm.specs.Suited.{BytesStand, Decodes, LabelsStand, name_at, names_of, AreDistinct, AllReachFrom, Suited}
 use Rattle.tb_asm.proofs.Faults.{first_none, none_first, size_push, taken}
 use Rattle.tb_asm.proofs.Laws.{none_of, stands, label_stands, bytes_append, all_size}
 
 -- where nothing is refused, no item has a fault in its place
-fault_none : (fault : List Entry → Entry → Option AsmErrorKind) (front before after : List Entry) (e : Entry) → first_fault fault front (before ++ e ∷ after) ≡ None → fault (front ++ before) e ≡ None
+fault_none : (fault : List Entry → Entry → Option AsmErrorKind) (front before after : List Entry) (e : Entry)
+    → first_fault fault front (before ++ e ∷ after) ≡ None → fault (front ++ before) e ≡ None
 fault_none fault front [] after e h = ap (λ f. fault f e) (append-nil front) ∙ none_first fault front after e h
 fault_none fault front (x ∷ before) after e h =
     let none = none_first fault front (before ++ e ∷ after) x h in

@@ -2,7 +2,9 @@
 use Rattle.std.specs.Prelude.{ℕ, Bool, Option, Some, None, List, [], ◌∷◌, nat_eq, if◌then◌else◌, codes}
 use lib.Pointwise.{pointwise}
 use Rattle.tb_opcodes.specs.declared.Mnemonic.{Mnemonic}
-use Rattle.tb_opcodes.specs.declared.Mnemonic.TheVariants.{Adc, And, Asl, Bcc, Bcs, Beq, Bit, Bmi, Bne, Bpl, Brk, Bvc, Bvs, Clc, Cld, Cli, Clv, Cmp, Cpx, Cpy, Dec, Dex, Dey, Eor, Inc, Inx, Iny, Jmp, Jsr, Lda, Ldx, Ldy, Lsr, Nop, Ora, Pha, Php, Pla, Plp, Rol, Ror, Rti, Rts, Sbc, Sec, Sed, Sei, Sta, Stx, Sty, Tax, Tay, Tsx, Txa, Txs, Tya}
+use Rattle.tb_opcodes.specs.declared.Mnemonic.TheVariants.{Adc, And, Asl, Bcc, Bcs, Beq, Bit, Bmi, Bne, Bpl, Brk, Bvc, Bvs, Clc, Cld, Cli, Clv, Cmp, Cpx, Cpy}
+use Rattle.tb_opcodes.specs.declared.Mnemonic.TheVariants.{Dec, Dex, Dey, Eor, Inc, Inx, Iny, Jmp, Jsr, Lda, Ldx, Ldy, Lsr, Nop, Ora, Pha, Php, Pla, Plp, Rol}
+use Rattle.tb_opcodes.specs.declared.Mnemonic.TheVariants.{Ror, Rti, Rts, Sbc, Sec, Sed, Sei, Sta, Stx, Sty, Tax, Tay, Tsx, Txa, Txs, Tya}
 
 -- the names of the mnemonics
 abbrev pub name_of : Mnemonic → List ℕ
@@ -65,7 +67,9 @@ name_of Tya = codes "TYA"
 
 -- the 56 mnemonics, each once, in the order of their names
 abbrev pub all_mnemonics : List Mnemonic
-all_mnemonics = Adc ∷ And ∷ Asl ∷ Bcc ∷ Bcs ∷ Beq ∷ Bit ∷ Bmi ∷ Bne ∷ Bpl ∷ Brk ∷ Bvc ∷ Bvs ∷ Clc ∷ Cld ∷ Cli ∷ Clv ∷ Cmp ∷ Cpx ∷ Cpy ∷ Dec ∷ Dex ∷ Dey ∷ Eor ∷ Inc ∷ Inx ∷ Iny ∷ Jmp ∷ Jsr ∷ Lda ∷ Ldx ∷ Ldy ∷ Lsr ∷ Nop ∷ Ora ∷ Pha ∷ Php ∷ Pla ∷ Plp ∷ Rol ∷ Ror ∷ Rti ∷ Rts ∷ Sbc ∷ Sec ∷ Sed ∷ Sei ∷ Sta ∷ Stx ∷ Sty ∷ Tax ∷ Tay ∷ Tsx ∷ Txa ∷ Txs ∷ Tya ∷ []
+all_mnemonics = Adc ∷ And ∷ Asl ∷ Bcc ∷ Bcs ∷ Beq ∷ Bit ∷ Bmi ∷ Bne ∷ Bpl ∷ Brk ∷ Bvc ∷ Bvs ∷ Clc ∷ Cld ∷ Cli ∷ Clv ∷ Cmp ∷ Cpx ∷ Cpy ∷ Dec ∷ Dex
+    ∷ Dey ∷ Eor ∷ Inc ∷ Inx ∷ Iny ∷ Jmp ∷ Jsr ∷ Lda ∷ Ldx ∷ Ldy ∷ Lsr ∷ Nop ∷ Ora ∷ Pha ∷ Php ∷ Pla ∷ Plp ∷ Rol ∷ Ror ∷ Rti ∷ Rts ∷ Sbc ∷ Sec ∷ Sed
+    ∷ Sei ∷ Sta ∷ Stx ∷ Sty ∷ Tax ∷ Tay ∷ Tsx ∷ Txa ∷ Txs ∷ Tya ∷ []
 
 -- whether two texts have the same bytes
 abbrev pub same_text : List ℕ → List ℕ → Bool

@@ -1,5 +1,6 @@
 -- The verdict and the compiler's answer.
-use Rattle.std.proofs.Common.{◌≡◌, ◌≢◌, ℕ, ◌≤◌, ◌<◌, nat_le, true, false, List, [], ◌∷◌, Option, Some, None, Result, Ok, Err, if◌then◌else◌, refl, sym, ap, ◌∙◌, subst, arith, is_some, true≢false}
+use Rattle.std.proofs.Common.{◌≡◌, ◌≢◌, ℕ, ◌≤◌, ◌<◌, nat_le, true, false, List, [], ◌∷◌, Option, Some, None, Result, Ok, Err}
+use Rattle.std.proofs.Common.{if◌then◌else◌, refl, sym, ap, ◌∙◌, subst, arith, is_some, true≢false}
 use Rattle.std.specs.Prelude.{IfOk}
 use Rattle.tb_syntax.specs.Source.{Program}
 use Rattle.tb_meaning.specs.Cost.{cost}
@@ -60,7 +61,8 @@ accepted seed p (Err (Lower (deep.TooDeep n))) good h = none_is_some n (sym (ap 
 accepted seed p (Err (TooLarge n)) good h = none_is_some (cost p) (sym good.small ∙ beyond (cost p) (subst (λ k. most < k) (sym h.1) h.2))
 accepted seed p (Err NoMemory) good h = tt
 
-first : (seed : ℕ) (source : List ℕ) (found : List SourceError) (answer : Result Compiled CompileError) → FirstIs source found → found ≢ [] → Compiles seed source answer → RefusesFirst found answer
+first : (seed : ℕ) (source : List ℕ) (found : List SourceError) (answer : Result Compiled CompileError) → FirstIs source found → found ≢ []
+    → Compiles seed source answer → RefusesFirst found answer
 first seed source [] answer is some only = some refl
 first seed source (e ∷ found) answer is some only = (is.0, is.1, only _ is.2)
 

@@ -1,8 +1,8 @@
 -- The lines of a file that have a number, and those of them that are too deep.
 use Rattle.std.specs.Prelude.{◌≡◌, ◌⊎◌, ℕ, ◌+◌, nat_lt, Bool, false, not, ◌&&◌, ◌||◌, ◌==◌, if◌then◌else◌, List, [], ◌∷◌, ◌++◌, Option, Some, None, option_map, Ok, Err}
-use Rattle.tb_syntax.specs.Source.{RustStatement}
+use Rattle.tb_syntax.specs.Source.{Statement}
 use Rattle.tb_syntax.specs.PlainData.{statement_of}
-use Rattle.tb_syntax.specs.declared.statements.Statement.{RustStatement as RustStatement}
+use Rattle.tb_syntax.specs.declared.statements.Statement.{Statement as RustStatement}
 use Rattle.tb_lower.specs.Need.{statement_need}
 use Rattle.tb_parser.specs.Lines.{lines_of_file}
 use Rattle.tb_parser.specs.Readings.{LineIs, Refusal, Nothing, Sets, Deletes}
@@ -12,13 +12,13 @@ use Rattle.tb_check.specs.declared.lines.NumberedLine.{NumberedLine}
 pub record Entry : Type 0 where
   pub line : ℕ
   pub number : ℕ
-  pub states : Option RustStatement
+  pub states : Option Statement
 
 abbrev pub entry_of : NumberedLine → Entry
 entry_of l = record { line = l.line; number = l.number; states = option_map statement_of l.statement }
 
 -- a line's number and its statement; None where it has no number or is bad
-abbrev pub IsEntry : List ℕ → Option (ℕ × Option RustStatement) → Type 0
+abbrev pub IsEntry : List ℕ → Option (ℕ × Option Statement) → Type 0
 IsEntry line None = LineIs line (Ok Nothing) ⊎ ((r : Refusal) × LineIs line (Err r))
 IsEntry line (Some (number, Some c)) = LineIs line (Ok (Sets number c))
 IsEntry line (Some (number, None)) = LineIs line (Ok (Deletes number))
@@ -32,7 +32,7 @@ pub data EntriesAre : ℕ → List (List ℕ) → List Entry → Type 0 where
 
 -- ── lines that are too deep ──
 -- whether a statement needs more than 16 slots
-abbrev pub is_deep : Option RustStatement → Bool
+abbrev pub is_deep : Option Statement → Bool
 is_deep None = false
 is_deep (Some c) = nat_lt 16 (statement_need c)
 
@@ -56,7 +56,7 @@ DeepLinesAre source deep = (es : List Entry) × EntriesAre 1 (lines_of_file sour
 
 -- ── steps ──
 -- what is found in a line, as plain data
-abbrev pub number_and_statement : Option (ℕ × Option RustStatement) → Option (ℕ × Option RustStatement)
+abbrev pub number_and_statement : Option (ℕ × Option RustStatement) → Option (ℕ × Option Statement)
 number_and_statement found = option_map (λ p. (p.0, option_map statement_of p.1)) found
 
 -- line n was looked at: it has no entry, or its entry was appended

@@ -25,12 +25,15 @@ pub all_polled : (p : Program) → ArePolled (lowered.program_code p)
 all_polled [] = tt
 all_polled (line ∷ lines) = ((lowered.statement_code line.content, refl), all_polled lines)
 
-pub file_keeps : {seed : ℕ} {p : Program} {code : SlotCode} {file image : List ℕ} {from : ℕ} {labels : List (Name × ℕ)} → seed < 65536 → 1 ≤ length p → code ≡ lowered.program_code p → Follows p code → (s : IsListed code) (l : IsLaid PROLOGUE_AT (program_code seed code) from image labels) → PROLOGUE_AT + size l.items ≤ 0xA000 → file ≡ header ++ image → Keeps BASIC_START (drop 2 file) p seed
+pub file_keeps : {seed : ℕ} {p : Program} {code : SlotCode} {file image : List ℕ} {from : ℕ} {labels : List (Name × ℕ)} → seed < 65536 → 1 ≤ length p
+    → code ≡ lowered.program_code p → Follows p code → (s : IsListed code) (l : IsLaid PROLOGUE_AT (program_code seed code) from image labels)
+    → PROLOGUE_AT + size l.items ≤ 0xA000 → file ≡ header ++ image → Keeps BASIC_START (drop 2 file) p seed
 file_keeps {seed} {p} {code} small some same follows s l ends is =
     let n : numbers code ≡ numbers p = ap numbers same ∙ same_numbers p in
     let some_numbers : 1 ≤ length (numbers code) = (let a = ap length n in let b = count_numbers p in omega (arith, a, b, some)) in
     subst (λ f. Keeps BASIC_START (drop 2 f) p seed) (sym (is ∙ ap (λ b. header ++ b) l.bytes_are))
-    (image_keeps seed p code small follows s.rising s.lists (subst ArePolled (sym same) (all_polled p)) (subst AreClosed (sym same) (all_closed p)) some_numbers s.lines l.items l.settled ends (drop 2 header) refl)
+    (image_keeps seed p code small follows s.rising s.lists (subst ArePolled (sym same) (all_polled p)) (subst AreClosed (sym same) (all_closed p))
+        some_numbers s.lines l.items l.settled ends (drop 2 header) refl)
 
 same_made : (a b : Program) → ◌≡◌ {A = Outcome} (Ok a) (Ok b) → a ≡ b
 same_made a b e = cc

@@ -16,7 +16,8 @@ use Rattle.tb_templates.proofs.Settled.{labels_behind}
 use Rattle.tb_codegen.proofs.Stretches.{asking_on, stretch, stretch_at, stretch_some, stretched}
 use Rattle.tb_codegen.specs.Compiled.{starts_in, stands_at, AreKnown, PlacesRise}
 
-pub lines_known : (labels : List (Name × ℕ)) (ns : List ℕ) (seed a : ℕ) (asking : List ℕ) (lines : SlotCode) (fs : List Form) → AreFormsOf (lines_code ns seed asking lines) fs → LabelsAt labels a (items_from a fs) → AreKnown labels (numbers lines)
+pub lines_known : (labels : List (Name × ℕ)) (ns : List ℕ) (seed a : ℕ) (asking : List ℕ) (lines : SlotCode) (fs : List Form)
+    → AreFormsOf (lines_code ns seed asking lines) fs → LabelsAt labels a (items_from a fs) → AreKnown labels (numbers lines)
 lines_known labels ns seed a asking [] fs h l = tt
 lines_known labels ns seed a asking (line ∷ lines) fs h l =
     let on = asking_on asking line in
@@ -28,7 +29,8 @@ pub starts_low : (low low' : ℕ) (starts : List (ℕ × ℕ)) → low ≤ low' 
 starts_low low low' [] l h = tt
 starts_low low low' (s ∷ starts) l h = (omega (arith, l, h.0), h.1)
 
-pub lines_begin_in_order : (labels : List (Name × ℕ)) (ns : List ℕ) (seed a : ℕ) (asking : List ℕ) (p : Program) (fs : List Form) → AreFormsOf (lines_code ns seed asking (lowered.program_code p)) fs → LabelsAt labels a (items_from a fs) → PlacesRise a (starts_in labels (numbers p))
+pub lines_begin_in_order : (labels : List (Name × ℕ)) (ns : List ℕ) (seed a : ℕ) (asking : List ℕ) (p : Program) (fs : List Form)
+    → AreFormsOf (lines_code ns seed asking (lowered.program_code p)) fs → LabelsAt labels a (items_from a fs) → PlacesRise a (starts_in labels (numbers p))
 lines_begin_in_order labels ns seed a asking [] fs h l = tt
 lines_begin_in_order labels ns seed a asking (line ∷ lines) fs h l =
     let own : Numbered (List Instr) = record { number = line.number; content = lowered.list_code line.content } in
@@ -38,7 +40,8 @@ lines_begin_in_order labels ns seed a asking (line ∷ lines) fs h l =
     let there : stands_at labels (label_of (Line line.number)) ≡ a = ap (λ o. unwrap_or o 0) (stretch_at labels ns seed a asking own s.front s.of_front ls.0) in
     let long = stretch_some ns seed line.number asking (lowered.statement_code line.content) s.front s.of_front in
     let b = a + forms_size s.front in
-    (omega (arith, there), starts_low (stands_at labels (label_of (Line line.number)) + 1) b (starts_in labels (numbers lines)) (omega (arith, there, long)) (lines_begin_in_order labels ns seed b on lines s.back s.of_back ls.1))
+    (omega (arith, there), starts_low (stands_at labels (label_of (Line line.number)) + 1) b (starts_in labels (numbers lines))
+        (omega (arith, there, long)) (lines_begin_in_order labels ns seed b on lines s.back s.of_back ls.1))
 
 pub start_numbers : (labels : List (Name × ℕ)) (ns : List ℕ) → map (λ s. s.0) (starts_in labels ns) ≡ ns
 start_numbers labels [] = refl

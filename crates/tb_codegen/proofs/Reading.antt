@@ -6,7 +6,9 @@ use Rattle.tb_syntax.specs.Texts.{AreShort}
 use Rattle.tb_syntax.specs.Texts.{statement_texts, item_texts}
 use Rattle.tb_words.specs.declared.Rel.{Rel}
 use Rattle.tb_grammar.specs.Grammar.{Part, Reads, number, variable, random, parentheses, factor, product, term, plus, minus, sum}
-use Rattle.tb_grammar.specs.Statements.{Relates, equal, less, greater, at_most, at_least, less_or_greater, greater_or_less, MayThen, bare, then, ReadsItem, value, quotation, comma, semicolon, Prints, nothing, last, next, Variables, one, more, States, let_assign, assign, print, short_print, input, conditional, goto, gosub, return, end, remark}
+use Rattle.tb_grammar.specs.Statements.{Relates, equal, less, greater, at_most, at_least, less_or_greater, greater_or_less, MayThen, bare, then, ReadsItem}
+use Rattle.tb_grammar.specs.Statements.{value, quotation, comma, semicolon, Prints, nothing, last, next, Variables, one, more, States, let_assign, assign}
+use Rattle.tb_grammar.specs.Statements.{print, short_print, input, conditional, goto, gosub, return, end, remark}
 use Rattle.tb_templates.specs.Sizes.{items_cost, AreApart, IsSpaced}
 use Rattle.tb_templates.proofs.Fitting.{one_node, items_pay}
 
@@ -41,7 +43,8 @@ items_read _ _ _ _ _ (next ends text item la sign _ rest items ends_line lb r se
     let a = item_read text item la (59 ∷ rest) r in let b = items_read false rest items ends_line lb p in omega (arith, a, b)
 
 -- a zone stands behind an item
-behind_item : (text : List ℕ) (item : Item) (large : Option ℕ) (rest : List ℕ) → ReadsItem text item large rest → (b : Bool) (items : List Item) → AreApart true items → AreApart b (item ∷ items)
+behind_item : (text : List ℕ) (item : Item) (large : Option ℕ) (rest : List ℕ) → ReadsItem text item large rest → (b : Bool) (items : List Item)
+    → AreApart true items → AreApart b (item ∷ items)
 behind_item _ _ _ _ (value text e large rest r) true items h = h
 behind_item _ _ _ _ (value text e large rest r) false items h = h
 behind_item _ _ _ _ (quotation bytes rest q) true items h = h

@@ -1,5 +1,7 @@
 -- Items that settle: refused for want of memory alone, or for their length.
-use Rattle.std.proofs.Common.{◌≡◌, ℕ, ◌+◌, ◌/◌, ◌%◌, ◌<◌, ◌≤◌, ◌⊎◌, inl, inr, zero, suc, length, replicate, Bool, true, false, not, ◌&&◌, ◌||◌, cond, List, [], ◌∷◌, ◌++◌, Option, Some, None, refl, sym, ap, ◌∙◌, subst, arith, true≢false, is_some, map, if◌then◌else◌}
+use Rattle.std.proofs.Common.{◌≡◌, ℕ, ◌+◌, ◌/◌, ◌%◌, ◌<◌, ◌≤◌, ◌⊎◌, inl, inr, zero, suc, length, replicate, Bool, true}
+use Rattle.std.proofs.Common.{false, not, ◌&&◌, ◌||◌, cond, List, [], ◌∷◌, ◌++◌, Option, Some, None, refl, sym, ap, ◌∙◌, subst, arith}
+use Rattle.std.proofs.Common.{true≢false, is_some, map, if◌then◌else◌}
 use Rattle.std.specs.Prelude.{eqb, ltb}
 use Rattle.std.specs.List.{list_all, list_any}
 use Rattle.std.specs.Option.{option_map}
@@ -14,9 +16,11 @@ use Rattle.tb_asm.specs.declared.items.Operand.{Operand}
 use Rattle.tb_asm.specs.declared.items.Operand.TheVariants.{Nothing, Byte, Word, Label, LowOf, HighOf}
 use Rattle.tb_asm.specs.declared.errors.AsmErrorKind.{AsmErrorKind}
 use Rattle.tb_asm.specs.declared.errors.AsmErrorKind.TheVariants.{NoSuchMode, UnknownLabel, LabelTwice, BranchOutOfRange, RunsPast, IndirectAtPageEnd, NoMemory}
-use Rattle.tb_asm.specs.Layout.{Entry, instr, label, bytes, word, size_of, size, has_mode, same_name, labels_from, address_in, value_in, distance, is_near, with_value, reach_fault, code_fault, first_fault, place_refusal}
+use Rattle.tb_asm.specs.Layout.{Entry, instr, label, bytes, word, size_of, size, has_mode, same_name, labels_from, address_in, value_in, distance, is_near}
+use Rattle.tb_asm.specs.Layout.{with_value, reach_fault, code_fault, first_fault, place_refusal}
 use Rattle.tb_asm.specs.Assembled.{refusal, either, RefusesAt}
-use Rattle.tb_asm.specs.Settle.{Form, Settles, done, more, some_far, round, round_labels, kept, long, inverse, items_at, items_from, form_size, is_beyond, is_far, form_past, past_from, unknown_fault, early_refusal, SettlesTo, some_branch_far}
+use Rattle.tb_asm.specs.Settle.{Form, Settles, done, more, some_far, round, round_labels, kept, long, inverse, items_at, items_from, form_size, is_beyond}
+use Rattle.tb_asm.specs.Settle.{is_far, form_past, past_from, unknown_fault, early_refusal, SettlesTo, some_branch_far}
 use Rattle.tb_asm.specs.Marks.{SettleErr, forms_of, marks_from}
 use Rattle.tb_asm.specs.Suited.{names_of, AreDistinct, AllReachFrom, Suited}
 use Rattle.tb_asm.proofs.Faults.{first_none}
@@ -116,7 +120,8 @@ none_past i a (f ∷ fs) h =
     ∙ none_past (i + 1) (a + form_size f) fs (omega (arith, h))
 
 -- ---- reach
-near_there : (labels : List (Name × ℕ)) (a : ℕ) (o : Option ℕ) → (if is_some o then None else Some UnknownLabel) ≡ None → is_beyond a o ≡ false → with_value o (reach_fault Relative a) ≡ None
+near_there : (labels : List (Name × ℕ)) (a : ℕ) (o : Option ℕ) → (if is_some o then None else Some UnknownLabel) ≡ None → is_beyond a o ≡ false
+    → with_value o (reach_fault Relative a) ≡ None
 near_there labels a None k h = cc
 near_there labels a (Some v) k h = by (is_near (distance a v)) h
   where

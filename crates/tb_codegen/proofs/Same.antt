@@ -54,6 +54,7 @@ gives_same seed source r only c h = by h.outcome h.answer (only h.outcome h.made
     by (Ok p) a b = program_same seed p c r a.1 b
     by (Err e) a b = absurd a
 
-pub gives_same_of : (seed : ℕ) (source : List ℕ) (r : Result Compiled CompileError) (p : Program) → ((outcome : Outcome) → LinesMake source outcome → ◌≡◌ {A = Outcome} (Ok p) outcome) → FitAnswer seed p r
+pub gives_same_of : (seed : ℕ) (source : List ℕ) (r : Result Compiled CompileError) (p : Program) → ((outcome : Outcome) → LinesMake source outcome
+    → ◌≡◌ {A = Outcome} (Ok p) outcome) → FitAnswer seed p r
     → (c : Compiled) → HasOutcome seed source (Ok c) → GivesSame c r
 gives_same_of seed source r p only answer = gives_same seed source r (λ o made. subst (λ x. FitOutcome seed x r) (only o made) answer)

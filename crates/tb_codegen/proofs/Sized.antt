@@ -1,5 +1,6 @@
 -- Small programs have code that settles and that the assembler takes, and where their lines lie.
-use Rattle.std.proofs.Common.{◌≡◌, ℕ, ◌+◌, ◌*◌, ◌<◌, ◌≤◌, List, [], ◌∷◌, ◌++◌, length, map, ap, sym, subst, ◌∙◌, arith, refl, true, None, Some, is_some, append_assoc, length-append}
+use Rattle.std.proofs.Common.{◌≡◌, ℕ, ◌+◌, ◌*◌, ◌<◌, ◌≤◌, List, [], ◌∷◌, ◌++◌, length, map, ap, sym, subst, ◌∙◌}
+use Rattle.std.proofs.Common.{arith, refl, true, None, Some, is_some, append_assoc, length-append}
 use Rattle.tb_asm.specs.declared.names.Name.{Name}
 use Rattle.tb_asm.specs.Layout.{Entry, size, address_in, labels_from, image_of, bytes_from}
 use Rattle.tb_asm.specs.Settle.{items_from, SettlesTo}
@@ -11,7 +12,8 @@ use Rattle.tb_lower.specs.Lowered as lowered
 use Rattle.tb_meaning.specs.Missing.{missing_targets}
 use Rattle.tb_lower.specs.Need.{too_deep}
 use Rattle.tb_lower.specs.Ranges.{IsCodeInRange}
-use Rattle.tb_lower.specs.Slots.{Instr, Put, Load, Store, Negate, Compute, Random, SendText, SendNumber, SendZone, SendNewline, Input, Poll, Hold, LeaveUnless, Jump, Call, JumpTo, CallTo, Return, End, SlotCode}
+use Rattle.tb_lower.specs.Slots.{Instr, Put, Load, Store, Negate, Compute, Random, SendText, SendNumber, SendZone, SendNewline, Input, Poll, Hold, LeaveUnless}
+use Rattle.tb_lower.specs.Slots.{Jump, Call, JumpTo, CallTo, Return, End, SlotCode}
 use Rattle.tb_parser.specs.Files.{AreStated, RisesFrom}
 use Rattle.tb_prg.specs.Prg.{header}
 use Rattle.tb_runtime16.specs.Places.{PROLOGUE_AT, LINES_AT}
@@ -106,7 +108,8 @@ listed_code p small rises ranges =
       rising = code_rises p rises;
     }
 
-pub listed : (p : Program) {code : SlotCode} → code ≡ lowered.program_code p → AreStated p → RisesFrom 0 (numbers p) → ((limit : ℕ) → HasShortTexts limit p → IsCodeInRange limit code) → IsListed code
+pub listed : (p : Program) {code : SlotCode} → code ≡ lowered.program_code p → AreStated p → RisesFrom 0 (numbers p)
+    → ((limit : ℕ) → HasShortTexts limit p → IsCodeInRange limit code) → IsListed code
 listed p same stated rises ranges =
     let small = are_small p stated in
     subst IsListed (sym same) (listed_code p small rises (subst (IsCodeInRange 256) same (ranges 256 (small_short p small))))
@@ -160,7 +163,8 @@ settling_code seed p small rises ranges cheap =
       suits = program_suits seed code l.rising l.lists (omega (arith, a, c, cheap));
     }
 
-pub settling : (seed : ℕ) (p : Program) {code : SlotCode} {n : ℕ} → code ≡ lowered.program_code p → AreStated p → RisesFrom 0 (numbers p) → ((limit : ℕ) → HasShortTexts limit p → IsCodeInRange limit code) → n ≤ most → n ≡ cost p → IsSettling seed code
+pub settling : (seed : ℕ) (p : Program) {code : SlotCode} {n : ℕ} → code ≡ lowered.program_code p → AreStated p → RisesFrom 0 (numbers p)
+    → ((limit : ℕ) → HasShortTexts limit p → IsCodeInRange limit code) → n ≤ most → n ≡ cost p → IsSettling seed code
 settling seed p same stated rises ranges cheap costs =
     let small = are_small p stated in
     subst (IsSettling seed) (sym same) (settling_code seed p small rises (subst (IsCodeInRange 256) same (ranges 256 (small_short p small))) (omega (arith, cheap, costs)))
@@ -187,7 +191,8 @@ module _ (seed : ℕ) {code : SlotCode} (s : IsListed code) {from : ℕ} {image 
   bytes_end h = let a = ap length l.bytes_are in let b = all_size own PROLOGUE_AT items in omega (arith, a, b, h)
 
 -- a small program's code ends by $9FFF
-pub items_end : {seed : ℕ} {code : SlotCode} (s : IsSettling seed code) {from : ℕ} {image : List ℕ} {labels : List (Name × ℕ)} (l : IsLaid PROLOGUE_AT (program_code seed code) from image labels) → PROLOGUE_AT + size l.items ≤ 0xA000
+pub items_end : {seed : ℕ} {code : SlotCode} (s : IsSettling seed code) {from : ℕ} {image : List ℕ} {labels : List (Name × ℕ)}
+    (l : IsLaid PROLOGUE_AT (program_code seed code) from image labels) → PROLOGUE_AT + size l.items ≤ 0xA000
 items_end {seed} {code} s l =
     let a = forms_most (program_code seed code) l.settled.forms l.settled.of in
     let b = items_size PROLOGUE_AT l.settled.forms in
@@ -197,7 +202,8 @@ items_end {seed} {code} s l =
 
 -- ── what is compiled ──
 -- the texts of a PRG file's program
-file_texts : (seed : ℕ) (p : Program) (items : List Entry) (file : List ℕ) → Sections seed (lowered.program_code p) items (labels_from PROLOGUE_AT items) → file ≡ header ++ image_of PROLOGUE_AT items
+file_texts : (seed : ℕ) (p : Program) (items : List Entry) (file : List ℕ) → Sections seed (lowered.program_code p) items
+    (labels_from PROLOGUE_AT items) → file ≡ header ++ image_of PROLOGUE_AT items
     → LinesHoldTexts file (stands_at (labels_from PROLOGUE_AT items) (label_of Past)) (starts_in (labels_from PROLOGUE_AT items) (numbers p)) p
 file_texts seed p items file g is =
     let code = lowered.program_code p in
@@ -220,7 +226,8 @@ file_texts seed p items file g is =
     (lines_texts labels ns seed (stands_at labels (label_of Past)) LINES_AT [] p g.lines (header ++ block) back g.of_lines g.line_labels g.past (omega arith) before)
 
 -- a program's compiled form, from its image's bytes and labels
-pub made : {seed : ℕ} {p : Program} {code : SlotCode} (c : Compiled) {from : ℕ} {image : List ℕ} {labels : List (Name × ℕ)} → code ≡ lowered.program_code p → IsListed code → too_deep p ≡ None
+pub made : {seed : ℕ} {p : Program} {code : SlotCode} (c : Compiled) {from : ℕ} {image : List ℕ} {labels : List (Name × ℕ)}
+    → code ≡ lowered.program_code p → IsListed code → too_deep p ≡ None
     → (l : IsLaid PROLOGUE_AT (program_code seed code) from image labels) → PROLOGUE_AT + size l.items ≤ 0xA000
     → prg_of c ≡ header ++ image → starts_of c ≡ starts_in labels (numbers code) → address_in labels (label_of Table) ≡ Some (table_of c)
     → map (λ w. (w.line, word_of w.target)) (warnings_of c) ≡ missing_targets p → IsCompiled seed p c

@@ -21,16 +21,20 @@ abbrev pub asking_on : List ℕ → Numbered (List Instr) → List ℕ
 asking_on asking line = left_behind (ends_away line.content) (asking ++ line.number ∷ [])
 
 -- the forms of lines are those of the first stretch and of the rest
-pub stretched : (ns : List ℕ) (seed : ℕ) (asking : List ℕ) (line : Numbered (List Instr)) (lines : SlotCode) (fs : List Form) → AreFormsOf (lines_code ns seed asking (line ∷ lines)) fs → AreFormsOf (stretch ns seed asking line ++ lines_code ns seed (asking_on asking line) lines) fs
+pub stretched : (ns : List ℕ) (seed : ℕ) (asking : List ℕ) (line : Numbered (List Instr)) (lines : SlotCode) (fs : List Form)
+    → AreFormsOf (lines_code ns seed asking (line ∷ lines)) fs → AreFormsOf (stretch ns seed asking line ++ lines_code ns seed (asking_on asking line) lines) fs
 stretched ns seed asking line lines fs h =
-    subst (λ es. AreFormsOf es fs) (sym (append_assoc (line_code ns seed line) (done_behind (ends_away line.content) (asking ++ line.number ∷ [])) (lines_code ns seed (asking_on asking line) lines))) h
+    subst (λ es. AreFormsOf es fs) (sym (append_assoc (line_code ns seed line) (done_behind (ends_away line.content) (asking ++ line.number ∷ []))
+        (lines_code ns seed (asking_on asking line) lines))) h
 
-pub stretch_at : (labels : List (Name × ℕ)) (ns : List ℕ) (seed a : ℕ) (asking : List ℕ) (line : Numbered (List Instr)) (fs : List Form) → AreFormsOf (stretch ns seed asking line) fs → LabelsAt labels a (items_from a fs) → address_in labels (label_of (Line line.number)) ≡ Some a
+pub stretch_at : (labels : List (Name × ℕ)) (ns : List ℕ) (seed a : ℕ) (asking : List ℕ) (line : Numbered (List Instr)) (fs : List Form)
+    → AreFormsOf (stretch ns seed asking line) fs → LabelsAt labels a (items_from a fs) → address_in labels (label_of (Line line.number)) ≡ Some a
 stretch_at labels ns seed a asking line fs h l =
     let s = split (line_code ns seed line) (done_behind (ends_away line.content) (asking ++ line.number ∷ [])) fs h in
     line_at labels ns seed a line s.front s.of_front (labels_behind labels a fs s.front s.back s.are l).0
 
-pub stretch_some : (ns : List ℕ) (seed n : ℕ) (asking : List ℕ) (is : List Instr) (fs : List Form) → AreFormsOf (stretch ns seed asking (record { number = n; content = Poll ∷ is })) fs → 1 ≤ forms_size fs
+pub stretch_some : (ns : List ℕ) (seed n : ℕ) (asking : List ℕ) (is : List Instr) (fs : List Form)
+    → AreFormsOf (stretch ns seed asking (record { number = n; content = Poll ∷ is })) fs → 1 ≤ forms_size fs
 stretch_some ns seed n asking is fs h =
     let line : Numbered (List Instr) = record { number = n; content = Poll ∷ is } in
     let s = split (line_code ns seed line) (done_behind (ends_away line.content) (asking ++ n ∷ [])) fs h in

@@ -1,5 +1,6 @@
 -- The texts of a line stand in its settled code.
-use Rattle.std.proofs.Common.{◌≡◌, ℕ, ◌+◌, ◌≤◌, List, [], ◌∷◌, ◌++◌, length, take, drop, map, true, refl, sym, ap, subst, ◌∙◌, arith, append_assoc, length-append, Option, Some, None}
+use Rattle.std.proofs.Common.{◌≡◌, ℕ, ◌+◌, ◌≤◌, List, [], ◌∷◌, ◌++◌, length, take, drop, map, true, refl, sym, ap, subst, ◌∙◌}
+use Rattle.std.proofs.Common.{arith, append_assoc, length-append, Option, Some, None}
 use Rattle.std.specs.Prelude.{unwrap_or}
 use Rattle.std.specs.List.{list_all}
 use Rattle.tb_words.specs.declared.Rel.{Rel}
@@ -29,7 +30,10 @@ use Rattle.tb_templates.specs.Layout.{LabelsAt}
 use Rattle.tb_templates.specs.Program.{rest_code, line_code, lines_code}
 use Rattle.tb_settling.specs.Settled.{AreFormsOf}
 use Rattle.tb_settling.proofs.Forms.{forms_size, items_append, items_size, size_append, split, is_straight, straight_forms}
-use Rattle.tb_selection.specs.Groups.{Operand, Constant, Variable, InSlot, Home, IntoVariable, IntoHeld, Destination, IntoSlot, IntoHome, Tested, HeldBefore, HeldNow, Conversion, Negated, Drawn, Usage, AsNumber, AsLine, AsSubroutine, Divisibility, Group, Calculate, Convert, Move, Use, Test, TestGo, Divides, Single, fetch, keep, kept, held, convert, use_of, slot_of, expand, expand_all, Side, OnLeft, OnRight, Remains, Stepped, multiple, compared}
+use Rattle.tb_selection.specs.Groups.{Operand, Constant, Variable, InSlot, Home, IntoVariable, IntoHeld, Destination, IntoSlot, IntoHome, Tested, HeldBefore}
+use Rattle.tb_selection.specs.Groups.{HeldNow, Conversion, Negated, Drawn, Usage, AsNumber, AsLine, AsSubroutine, Divisibility, Group, Calculate, Convert, Move}
+use Rattle.tb_selection.specs.Groups.{Use, Test, TestGo, Divides, Single, fetch, keep, kept, held, convert, use_of, slot_of, expand, expand_all, Side, OnLeft}
+use Rattle.tb_selection.specs.Groups.{OnRight, Remains, Stepped, multiple, compared}
 use Rattle.tb_selection.specs.Select.{select}
 use Rattle.tb_selection.proofs.Bracketed.{brackets}
 use Rattle.tb_codegen.specs.Compiled.{stands_at, starts_in}
@@ -81,7 +85,8 @@ quiet labels a xs ys texts h front back =
     lower (front ++ (bytes_from labels a (xs ++ ys) ++ back)) (length front + size (xs ++ ys)) (length front) (length front + size xs) texts (omega arith) (later labels a xs ys texts h front back)
 
 -- a text between two pieces
-loud : (labels : List (Name × ℕ)) (a : ℕ) (xs ys : List Entry) (t : List ℕ) (texts : List (List ℕ)) → Holds labels (a + size (xs ++ bytes t ∷ [])) ys texts → Holds labels a ((xs ++ bytes t ∷ []) ++ ys) (t ∷ texts)
+loud : (labels : List (Name × ℕ)) (a : ℕ) (xs ys : List Entry) (t : List ℕ) (texts : List (List ℕ))
+    → Holds labels (a + size (xs ++ bytes t ∷ [])) ys texts → Holds labels a ((xs ++ bytes t ∷ []) ++ ys) (t ∷ texts)
 loud labels a xs ys t texts h front back =
     let es = xs ++ bytes t ∷ [] in
     let image = front ++ (bytes_from labels a (es ++ ys) ++ back) in
@@ -101,7 +106,8 @@ loud labels a xs ys t texts h front back =
 quiet_behind : (labels : List (Name × ℕ)) (a : ℕ) (xs ys : List Entry) (texts : List (List ℕ)) → Holds labels a xs texts → Holds labels a (xs ++ ys) texts
 quiet_behind labels a xs ys texts h front back =
     let code = bytes_from labels a xs in let more = bytes_from labels (a + size xs) ys in
-    let same : front ++ (code ++ (more ++ back)) ≡ front ++ (bytes_from labels a (xs ++ ys) ++ back) = sym (ap (λ b. front ++ (b ++ back)) (bytes_append labels a xs ys) ∙ ap (λ b. front ++ b) (append_assoc code more back)) in
+    let same : front ++ (code ++ (more ++ back)) ≡ front ++ (bytes_from labels a (xs ++ ys) ++ back) =
+        sym (ap (λ b. front ++ (b ++ back)) (bytes_append labels a xs ys) ∙ ap (λ b. front ++ b) (append_assoc code more back)) in
     raise (front ++ (bytes_from labels a (xs ++ ys) ++ back)) (length front + size xs) (length front + size (xs ++ ys)) (length front) texts (let e = size_append xs ys in omega (arith, e))
     (subst (λ image. TextsStand image (length front + size xs) (length front) texts) same (h front (more ++ back)))
 
@@ -118,8 +124,10 @@ quiet_forms labels a xs ys fs texts h rest =
     (subst (λ b. Holds labels b (items_from (a + forms_size s.front) s.back) texts) there (rest (a + forms_size s.front) s.back s.of_back)))
 
 -- and of one that ends by a text and a label
-loud_forms : (labels : List (Name × ℕ)) (a : ℕ) (xs : List Entry) (t : List ℕ) (l : Entry) (ys : List Entry) (fs : List Form) (texts : List (List ℕ)) → list_all is_straight ((xs ++ bytes t ∷ []) ++ l ∷ []) ≡ true
-    → AreFormsOf (((xs ++ bytes t ∷ []) ++ l ∷ []) ++ ys) fs → ((b : ℕ) (gs : List Form) → AreFormsOf ys gs → Holds labels b (items_from b gs) texts) → Holds labels a (items_from a fs) (t ∷ texts)
+loud_forms : (labels : List (Name × ℕ)) (a : ℕ) (xs : List Entry) (t : List ℕ) (l : Entry) (ys : List Entry) (fs : List Form) (texts : List (List ℕ))
+    → list_all is_straight ((xs ++ bytes t ∷ []) ++ l ∷ []) ≡ true
+    → AreFormsOf (((xs ++ bytes t ∷ []) ++ l ∷ []) ++ ys) fs → ((b : ℕ) (gs : List Form) → AreFormsOf ys gs → Holds labels b (items_from b gs) texts)
+        → Holds labels a (items_from a fs) (t ∷ texts)
 loud_forms labels a xs t l ys fs texts straight h rest =
     let own = (xs ++ bytes t ∷ []) ++ l ∷ [] in
     let s = split own ys fs h in
@@ -127,8 +135,10 @@ loud_forms labels a xs t l ys fs texts straight h rest =
     let front : items_from a s.front ≡ own = ap (items_from a) same ∙ items_kept a own in
     let b = a + forms_size s.front in
     let back = items_from b s.back in
-    let whole : items_from a fs ≡ (xs ++ bytes t ∷ []) ++ (l ∷ back) = ap (items_from a) s.are ∙ items_append a s.front s.back ∙ ap (λ es. es ++ back) front ∙ append_assoc (xs ++ bytes t ∷ []) (l ∷ []) back in
-    let there : b ≡ a + size (xs ++ bytes t ∷ []) + size (l ∷ []) = (let e = items_size a s.front in let f = ap size front in let g = size_append (xs ++ bytes t ∷ []) (l ∷ []) in omega (arith, e, f, g)) in
+    let whole : items_from a fs ≡ (xs ++ bytes t ∷ []) ++ (l ∷ back) = ap (items_from a) s.are ∙ items_append a s.front s.back
+        ∙ ap (λ es. es ++ back) front ∙ append_assoc (xs ++ bytes t ∷ []) (l ∷ []) back in
+    let there : b ≡ a + size (xs ++ bytes t ∷ []) + size (l ∷ []) = (let e = items_size a s.front in let f = ap size front in
+        let g = size_append (xs ++ bytes t ∷ []) (l ∷ []) in omega (arith, e, f, g)) in
     subst (λ es. Holds labels a es (t ∷ texts)) (sym whole)
     (loud labels a xs (l ∷ back) t texts
     (quiet labels (a + size (xs ++ bytes t ∷ [])) (l ∷ []) back texts (subst (λ c. Holds labels c back texts) there (rest b s.back s.of_back))))
@@ -194,10 +204,12 @@ remains_texts x d to is = multiple_texts (slot_of to + 1) x d (Compute Subtract 
 
 stepped_texts : (op : Operator) (a b : Operand) (by : Operator) (w x : ℕ) (is : List Instr) → instr_texts (expand (Stepped op a b by w x) ++ is) ≡ instr_texts is
 stepped_texts op a b by w x is =
-    ap instr_texts (append_assoc (fetch 0 a) (fetch 1 b ++ Compute op 0 ∷ Put 1 w ∷ Compute by 0 ∷ Store x ∷ []) is) ∙ fetch_texts 0 a ((fetch 1 b ++ Compute op 0 ∷ Put 1 w ∷ Compute by 0 ∷ Store x ∷ []) ++ is)
+    ap instr_texts (append_assoc (fetch 0 a) (fetch 1 b ++ Compute op 0 ∷ Put 1 w ∷ Compute by 0 ∷ Store x ∷ []) is)
+        ∙ fetch_texts 0 a ((fetch 1 b ++ Compute op 0 ∷ Put 1 w ∷ Compute by 0 ∷ Store x ∷ []) ++ is)
     ∙ ap instr_texts (append_assoc (fetch 1 b) (Compute op 0 ∷ Put 1 w ∷ Compute by 0 ∷ Store x ∷ []) is) ∙ fetch_texts 1 b (Compute op 0 ∷ Put 1 w ∷ Compute by 0 ∷ Store x ∷ is)
 
-test_texts : (rel : Rel) (a : Tested) (b : Operand) (js is : List Instr) → instr_texts (js ++ is) ≡ instr_texts is → instr_texts ((held a ++ (fetch 0 b ++ LeaveUnless rel ∷ js)) ++ is) ≡ instr_texts is
+test_texts : (rel : Rel) (a : Tested) (b : Operand) (js is : List Instr) → instr_texts (js ++ is) ≡ instr_texts is
+    → instr_texts ((held a ++ (fetch 0 b ++ LeaveUnless rel ∷ js)) ++ is) ≡ instr_texts is
 test_texts rel a b js is e =
     ap instr_texts (append_assoc (held a) (fetch 0 b ++ LeaveUnless rel ∷ js) is) ∙ held_texts a ((fetch 0 b ++ LeaveUnless rel ∷ js) ++ is)
     ∙ ap instr_texts (append_assoc (fetch 0 b) (LeaveUnless rel ∷ js) is) ∙ fetch_texts 0 b (LeaveUnless rel ∷ (js ++ is)) ∙ e
@@ -212,7 +224,8 @@ module _ (labels : List (Name × ℕ)) (ns : List ℕ) (seed n : ℕ) where
   RestHolds i gs texts = (a : ℕ) (fs : List Form) → AreFormsOf (rest_code ns seed n i gs) fs → Holds labels a (items_from a fs) texts
 
   -- a group without texts before others
-  silent : (i : ℕ) (g : Group) (gs : List Group) (texts : List (List ℕ)) → texts ≡ instr_texts (expand_all gs) → RestHolds (i + 1) gs (instr_texts (expand_all gs)) → RestHolds i (g ∷ gs) texts
+  silent : (i : ℕ) (g : Group) (gs : List Group) (texts : List (List ℕ)) → texts ≡ instr_texts (expand_all gs)
+      → RestHolds (i + 1) gs (instr_texts (expand_all gs)) → RestHolds i (g ∷ gs) texts
   silent i g gs texts e rest a fs h =
       quiet_forms labels a (group_template ns seed n i g) (rest_code ns seed n (i + 1) gs) fs texts h (λ b fs' h'. subst (Holds labels b (items_from b fs')) (sym e) (rest b fs' h'))
 
@@ -254,10 +267,12 @@ module _ (labels : List (Name × ℕ)) (ns : List ℕ) (seed n : ℕ) where
   rest_texts i (Single End ∷ gs) = silent i (Single End) gs _ refl (rest_texts (i + 1) gs)
 
   -- those of a line's statement stand in the line's code
-  line_texts : (a : ℕ) (c : Statement) (fs : List Form) → AreFormsOf (line_code ns seed (record { number = n; content = lowered.list_code c })) fs → Holds labels a (items_from a fs) (statement_texts c)
+  line_texts : (a : ℕ) (c : Statement) (fs : List Form) → AreFormsOf (line_code ns seed (record { number = n; content = lowered.list_code c })) fs
+      → Holds labels a (items_from a fs) (statement_texts c)
   line_texts a c fs h =
       subst (Holds labels a (items_from a fs)) (ap instr_texts (brackets (lowered.statement_code c)) ∙ same_texts c)
-      (quiet_forms labels a (here (target.Line n) ∷ polled n) (rest_code ns seed n 1 (select (lowered.statement_code c))) fs (instr_texts (expand_all (select (lowered.statement_code c)))) h (rest_texts 1 (select (lowered.statement_code c))))
+      (quiet_forms labels a (here (target.Line n) ∷ polled n) (rest_code ns seed n 1 (select (lowered.statement_code c))) fs
+          (instr_texts (expand_all (select (lowered.statement_code c)))) h (rest_texts 1 (select (lowered.statement_code c))))
 
 -- ---- lines
 module _ (labels : List (Name × ℕ)) (ns : List ℕ) (seed past : ℕ) where
@@ -265,18 +280,22 @@ module _ (labels : List (Name × ℕ)) (ns : List ℕ) (seed past : ℕ) where
   own_line line = record { number = line.number; content = lowered.list_code line.content }
 
   -- a line begins where its label stands
-  begins : (a : ℕ) (asking : List ℕ) (line : Numbered Statement) (fs : List Form) → AreFormsOf (stretch ns seed asking (own_line line)) fs → LabelsAt labels a (items_from a fs) → stands_at labels (label_of (target.Line line.number)) ≡ a
+  begins : (a : ℕ) (asking : List ℕ) (line : Numbered Statement) (fs : List Form) → AreFormsOf (stretch ns seed asking (own_line line)) fs
+      → LabelsAt labels a (items_from a fs) → stands_at labels (label_of (target.Line line.number)) ≡ a
   begins a asking line fs h l = ap (λ o. unwrap_or o 0) (stretch_at labels ns seed a asking (own_line line) fs h l)
 
   -- its texts stand in its code, and so in that with what is done behind it
-  stretch_texts : (a : ℕ) (asking : List ℕ) (line : Numbered Statement) (fs : List Form) → AreFormsOf (stretch ns seed asking (own_line line)) fs → Holds labels a (items_from a fs) (statement_texts line.content)
+  stretch_texts : (a : ℕ) (asking : List ℕ) (line : Numbered Statement) (fs : List Form) → AreFormsOf (stretch ns seed asking (own_line line)) fs
+      → Holds labels a (items_from a fs) (statement_texts line.content)
   stretch_texts a asking line fs h =
       let s = split (line_code ns seed (own_line line)) (done_behind (ends_away (own_line line).content) (asking ++ line.number ∷ [])) fs h in
       subst (λ es. Holds labels a es (statement_texts line.content)) (sym (joined_items a fs s.front s.back s.are))
-      (quiet_behind labels a (items_from a s.front) (items_from (a + forms_size s.front) s.back) (statement_texts line.content) (line_texts labels ns seed line.number a line.content s.front s.of_front))
+      (quiet_behind labels a (items_from a s.front) (items_from (a + forms_size s.front) s.back) (statement_texts line.content)
+          (line_texts labels ns seed line.number a line.content s.front s.of_front))
 
   -- where these lines begin, or what is behind them
-  ends_there : (a : ℕ) (asking : List ℕ) (p : Program) (fs : List Form) → AreFormsOf (lines_code ns seed asking (lowered.program_code p)) fs → LabelsAt labels a (items_from a fs) → past ≡ a + forms_size fs → end_before past (starts_in labels (numbers p)) ≡ a
+  ends_there : (a : ℕ) (asking : List ℕ) (p : Program) (fs : List Form) → AreFormsOf (lines_code ns seed asking (lowered.program_code p)) fs
+      → LabelsAt labels a (items_from a fs) → past ≡ a + forms_size fs → end_before past (starts_in labels (numbers p)) ≡ a
   ends_there a asking [] [] h l e = e ∙ (let q : a + 0 ≡ a = omega arith in q)
   ends_there a asking [] (f ∷ fs) h l e = absurd h
   ends_there a asking (line ∷ lines) fs h l e =
@@ -285,7 +304,9 @@ module _ (labels : List (Name × ℕ)) (ns : List ℕ) (seed past : ℕ) where
       begins a asking line s.front s.of_front (labels_behind labels a fs s.front s.back s.are l).0
 
   -- where the settled code of lines stands in a file, so do their texts
-  pub lines_texts : (a : ℕ) (asking : List ℕ) (p : Program) (fs : List Form) (front back : List ℕ) → AreFormsOf (lines_code ns seed asking (lowered.program_code p)) fs → LabelsAt labels a (items_from a fs) → past ≡ a + forms_size fs → PROLOGUE_AT ≤ a → length front ≡ offset_of a
+  pub lines_texts : (a : ℕ) (asking : List ℕ) (p : Program) (fs : List Form) (front back : List ℕ)
+      → AreFormsOf (lines_code ns seed asking (lowered.program_code p)) fs → LabelsAt labels a (items_from a fs) → past ≡ a + forms_size fs
+      → PROLOGUE_AT ≤ a → length front ≡ offset_of a
       → LinesHoldTexts (front ++ (bytes_from labels a (items_from a fs) ++ back)) past (starts_in labels (numbers p)) p
   lines_texts a asking [] fs front back h l e low at = tt
   lines_texts a asking (line ∷ lines) fs front back h l e low at =

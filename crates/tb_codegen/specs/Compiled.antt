@@ -1,5 +1,6 @@
 -- Compiled programs: where the code of lines begins and ends, and what the PRG file is.
-use Rattle.std.specs.Prelude.{◌≡◌, ℕ, ◌+◌, ◌≤◌, true, is_some, List, [], ◌∷◌, ◌++◌, drop, map, Bool, ◌&&◌, nat_le, nat_lt, nat_eq, if◌then◌else◌, Option, Some, None, unwrap_or}
+use Rattle.std.specs.Prelude.{◌≡◌, ℕ, ◌+◌, ◌≤◌, true, is_some, List, [], ◌∷◌, ◌++◌, drop, map, Bool, ◌&&◌, nat_le, nat_lt}
+use Rattle.std.specs.Prelude.{nat_eq, if◌then◌else◌, Option, Some, None, unwrap_or}
 use Rattle.tb_words.specs.Words.{word_of}
 use Rattle.tb_syntax.specs.Source.{Program, numbers}
 use Rattle.tb_asm.specs.declared.names.Name.{Name}

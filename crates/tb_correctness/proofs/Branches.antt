@@ -65,7 +65,8 @@ branch_size Short which wanted at to = ap (λ l. l + 0) (length_is which wanted 
 branch_size Long which wanted at to = ap (λ op. length (instr_bytes (ins op 3)) + 3) (opposite_is which wanted) ∙ ap (λ l. l + 3) (length_is which (not wanted) 3)
 
 -- a branch stands, and what is behind it
-pub branch_behind : (f : Setup) (at : ℕ) (way : Way) (which : Flag) (wanted : Bool) (to : ℕ) (ps : List Piece) → Lies f.code at (Code (branch_code way (branch_on which wanted) at to) ∷ ps) → (at + way_size way ≤ highest_code) × Lies f.code (at + way_size way) ps
+pub branch_behind : (f : Setup) (at : ℕ) (way : Way) (which : Flag) (wanted : Bool) (to : ℕ) (ps : List Piece)
+    → Lies f.code at (Code (branch_code way (branch_on which wanted) at to) ∷ ps) → (at + way_size way ≤ highest_code) × Lies f.code (at + way_size way) ps
 branch_behind f at way which wanted to ps lies =
     let e = branch_size way which wanted at to in
     (subst (λ n. at + n ≤ highest_code) e lies.0, subst (λ n. Lies f.code (at + n) ps) e lies.2)
@@ -100,12 +101,14 @@ module _ (f : Setup) (room : ℕ) (fits : Fits f room) (bs : List ℕ) (m : ℕ 
     pub negative : u.regs.flags.n ≡ w.regs.flags.n
     pub carry : u.regs.flags.c ≡ w.regs.flags.c
 
-  same_view : (at : ℕ) (w : View) (q : View → Type 0) → Here at bs m text answers w → Comes f (view w.regs.a w.regs.x w.regs.y w.regs.flags.n w.regs.flags.v w.regs.flags.i w.regs.flags.z w.regs.flags.c at bs m text answers) q [] 1 → Comes f w q [] 1
+  same_view : (at : ℕ) (w : View) (q : View → Type 0) → Here at bs m text answers w
+      → Comes f (view w.regs.a w.regs.x w.regs.y w.regs.flags.n w.regs.flags.v w.regs.flags.i w.regs.flags.z w.regs.flags.c at bs m text answers) q [] 1 → Comes f w q [] 1
   same_view at w q h c =
       known f w at bs text answers q [] 1 h.pc h.stack h.binary h.text h.answers
       (subst (λ m. Comes f (view w.regs.a w.regs.x w.regs.y w.regs.flags.n w.regs.flags.v w.regs.flags.i w.regs.flags.z w.regs.flags.c at bs m text answers) q [] 1) (sym h.mem) c)
 
-  acts : (at : ℕ) (which : Flag) (wanted : Bool) (d a x y : ℕ) (n v i z c : Bool) → act_instr f.code room (ins (branch_on which wanted) d) (view a x y n v i z c at bs m text answers) ≡ Some (view a x y n v i z c (if is_taken wanted (asked which n v c z) then added at d else (at + 2) % 65536) bs m text answers)
+  acts : (at : ℕ) (which : Flag) (wanted : Bool) (d a x y : ℕ) (n v i z c : Bool) → act_instr f.code room (ins (branch_on which wanted) d)
+      (view a x y n v i z c at bs m text answers) ≡ Some (view a x y n v i z c (if is_taken wanted (asked which n v c z) then added at d else (at + 2) % 65536) bs m text answers)
   acts at Negative false d a x y n v i z c = refl
   acts at Negative true d a x y n v i z c = refl
   acts at Overflow false d a x y n v i z c = refl
@@ -116,12 +119,16 @@ module _ (f : Setup) (room : ℕ) (fits : Fits f room) (bs : List ℕ) (m : ℕ 
   acts at Zero true d a x y n v i z c = refl
 
   -- a branch by itself
-  steps : (at : ℕ) (which : Flag) (wanted there : Bool) (d to : ℕ) → at + 2 ≤ highest_code → added at d ≡ to → Bytes f.code at (instr_bytes (ins (branch_on which wanted) d)) → (w : View) → Here at bs m text answers w → asked_in which w ≡ there → Comes f w (Led w (cond (is_taken wanted there) to (at + 2))) [] 1
+  steps : (at : ℕ) (which : Flag) (wanted there : Bool) (d to : ℕ) → at + 2 ≤ highest_code → added at d ≡ to
+      → Bytes f.code at (instr_bytes (ins (branch_on which wanted) d)) → (w : View) → Here at bs m text answers w → asked_in which w ≡ there
+      → Comes f w (Led w (cond (is_taken wanted there) to (at + 2))) [] 1
   steps at which wanted there d to below leads st w h e =
       same_view at w _ h
-      (placed_last f room fits (ins (branch_on which wanted) d) (view w.regs.a w.regs.x w.regs.y w.regs.flags.n w.regs.flags.v w.regs.flags.i w.regs.flags.z w.regs.flags.c at bs m text answers) _ _ small st
+      (placed_last f room fits (ins (branch_on which wanted) d) (view w.regs.a w.regs.x w.regs.y w.regs.flags.n w.regs.flags.v w.regs.flags.i
+          w.regs.flags.z w.regs.flags.c at bs m text answers) _ _ small st
       (acts at which wanted d w.regs.a w.regs.x w.regs.y w.regs.flags.n w.regs.flags.v w.regs.flags.i w.regs.flags.z w.regs.flags.c)
-      (record { here = record { pc = ap (λ t. if is_taken wanted t then added at d else (at + 2) % 65536) e ∙ by (is_taken wanted there); stack = refl; binary = refl; mem = refl; text = refl; answers = refl }; number = refl; index = refl; negative = refl; carry = refl }))
+      (record { here = record { pc = ap (λ t. if is_taken wanted t then added at d else (at + 2) % 65536) e ∙ by (is_taken wanted there);
+          stack = refl; binary = refl; mem = refl; text = refl; answers = refl }; number = refl; index = refl; negative = refl; carry = refl }))
     where
       by : (t : Bool) → (if t then added at d else (at + 2) % 65536) ≡ cond t to (at + 2)
       by true = leads
@@ -134,7 +141,9 @@ module _ (f : Setup) (room : ℕ) (fits : Fits f room) (bs : List ℕ) (m : ℕ 
       (record { here = record { pc = refl; stack = refl; binary = refl; mem = refl; text = refl; answers = refl }; number = refl; index = refl; negative = refl; carry = refl }))
 
   -- where a branch leads
-  pub branches : (at : ℕ) (way : Way) (which : Flag) (wanted there : Bool) (to : ℕ) → at + way_size way ≤ highest_code → BranchReaches way at to → Stands f.code at (branch_code way (branch_on which wanted) at to) → (w : View) → Here at bs m text answers w → asked_in which w ≡ there → Comes f w (Led w (cond (is_taken wanted there) to (at + way_size way))) [] 2
+  pub branches : (at : ℕ) (way : Way) (which : Flag) (wanted there : Bool) (to : ℕ) → at + way_size way ≤ highest_code → BranchReaches way at to
+      → Stands f.code at (branch_code way (branch_on which wanted) at to) → (w : View) → Here at bs m text answers w → asked_in which w ≡ there
+      → Comes f w (Led w (cond (is_taken wanted there) to (at + way_size way))) [] 2
   branches at Short which wanted there to below reach st w h e =
       looser f w _ _ [] 1 2 (omega arith) (λ u g. g)
       (steps at which wanted there (distance at to % 256) to below (gets_there at to below reach.1 reach.0) st.0 w h e)
@@ -144,7 +153,8 @@ module _ (f : Setup) (room : ℕ) (fits : Fits f room) (bs : List ℕ) (m : ℕ 
       over = subst (λ op. Stands f.code at (ins op 3 ∷ jump to)) (opposite_is which wanted) st
 
       jump_stands : Bytes f.code (at + 2) (instr_bytes (ins 0x4C to))
-      jump_stands = subst (λ p. Bytes f.code p (instr_bytes (ins 0x4C to))) (let q : (at + length (instr_bytes (ins (branch_on which (not wanted)) 3))) % 65536 ≡ at + 2 = omega (arith, below, length_is which (not wanted) 3) in q) over.1.0
+      jump_stands = subst (λ p. Bytes f.code p (instr_bytes (ins 0x4C to)))
+          (let q : (at + length (instr_bytes (ins (branch_on which (not wanted)) 3))) % 65536 ≡ at + 2 = omega (arith, below, length_is which (not wanted) 3) in q) over.1.0
 
       first : (t : Bool) → is_taken wanted there ≡ t → Comes f w (Led w (cond (not t) (at + 5) (at + 2))) [] 1
       first t taken =
@@ -154,5 +164,6 @@ module _ (f : Setup) (room : ℕ) (fits : Fits f room) (bs : List ℕ) (m : ℕ 
       by : (t : Bool) → is_taken wanted there ≡ t → Comes f w (Led w (cond t to (at + 5))) [] 2
       by true taken =
           chained f w _ _ [] [] 1 1 (first true taken) (λ u g.
-          looser f u _ _ [] 1 1 (omega arith) (λ v k. record { here = k.here; number = k.number ∙ g.number; index = k.index ∙ g.index; negative = k.negative ∙ g.negative; carry = k.carry ∙ g.carry }) (jumps_on (at + 2) to jump_stands u g.here))
+          looser f u _ _ [] 1 1 (omega arith) (λ v k. record { here = k.here; number = k.number ∙ g.number; index = k.index ∙ g.index;
+              negative = k.negative ∙ g.negative; carry = k.carry ∙ g.carry }) (jumps_on (at + 2) to jump_stands u g.here))
       by false taken = looser f w _ _ [] 1 2 (omega arith) (λ u g. g) (first false taken)

@@ -53,7 +53,8 @@ calculation a b d s r = record {
 pub quotient_is : (x y : ℕ) → y ≢ 0 → apply op.Divide x y ≡ Some (quotient x y)
 quotient_is x y some = ap (λ t. if t then None else Some (quotient x y)) (ne_eqb y 0 some)
 
-module _ {around : Surroundings} {n : ℕ} {op : Operator} {a b : Operand} {d : Destination} {is : List Instr} {s : State} {r : Slots} {w : View} (h : Ready around n (Calculate op a b d) (spread op a b d is) is s r w) where
+module _ {around : Surroundings} {n : ℕ} {op : Operator} {a b : Operand} {d : Destination} {is : List Instr} {s : State} {r : Slots} {w : View}
+    (h : Ready around n (Calculate op a b d) (spread op a b d is) is s r w) where
   open around use {ly, f, lo, hi}
   open calculation a b d s r use {k, x, y, left, right, to}
 
@@ -76,18 +77,24 @@ module _ {around : Surroundings} {n : ℕ} {op : Operator} {a b : Operand} {d : 
   module _ (code : SlotCode) where
     -- where the slot steps lead
     abbrev pub Leads : ℕ → Type 0
-    Leads j = Comes f w (Target around (steps code (expand (Calculate op a b d)) (line code n (spread op a b d is) s r))) (sent_in (steps code (expand (Calculate op a b d)) (line code n (spread op a b d is) s r))) j
+    Leads j = Comes f w (Target around (steps code (expand (Calculate op a b d)) (line code n (spread op a b d is) s r)))
+        (sent_in (steps code (expand (Calculate op a b d)) (line code n (spread op a b d is) s r))) j
 
     -- by its result
     pub leads_on : (v j : ℕ) → apply op x y ≡ Some v → Comes f w (Matches around (line code n is (landed d v s) (calculated s r a b d v))) [] j → Leads j
     leads_on v j e c = subst (λ z. Comes f w (Target around z) (sent_in z) j) (sym (calculate_goes code n op a b d is s r h.read.all_words fit.slot v e)) c
 
     -- the result was written to where it goes
-    pub result_lands : (v l g at : ℕ) (m : ℕ → ℕ) → l ≡ v % 256 → g ≡ v / 256 → v < 65536 → GroupsLie ly f.code n at (select is) → Kept around (live (spread op a b d is)) s r m → (u : View) → Here at (lo ∷ hi ∷ []) (put_word m to l g) w.text w.answers u → Matches around (line code n is (landed d v s) (calculated s r a b d v)) u
-    result_lands v l g at m low high small rest c = word_lands around code n h.small (live (spread op a b d is)) d is s r (with_fetched s (with_fetched s r k a) (k + 1) b) v l g at m w.text w.answers low high small fit.dest (calculate_lasting op a b d is s r h.free) rest c h.text h.answers h.short
+    pub result_lands : (v l g at : ℕ) (m : ℕ → ℕ) → l ≡ v % 256 → g ≡ v / 256 → v < 65536 → GroupsLie ly f.code n at (select is)
+        → Kept around (live (spread op a b d is)) s r m → (u : View) → Here at (lo ∷ hi ∷ []) (put_word m to l g) w.text w.answers u
+        → Matches around (line code n is (landed d v s) (calculated s r a b d v)) u
+    result_lands v l g at m low high small rest c = word_lands around code n h.small (live (spread op a b d is)) d is s r
+        (with_fetched s (with_fetched s r k a) (k + 1) b) v l g at m w.text w.answers low high small fit.dest
+        (calculate_lasting op a b d is s r h.free) rest c h.text h.answers h.short
 
     -- a routine gets both words, and its answer goes there
-    pub on_two : (fits : Fits f 16) (entry from at : ℕ) (m : ℕ → ℕ) → Kept around (live (spread op a b d is)) s r m → Lies f.code at (routine entry from left right to) → (v limit : ℕ) → Gives from → GroupsLie ly f.code n (at + pieces_size (routine entry from left right to)) (select is)
+    pub on_two : (fits : Fits f 16) (entry from at : ℕ) (m : ℕ → ℕ) → Kept around (live (spread op a b d is)) s r m
+        → Lies f.code at (routine entry from left right to) → (v limit : ℕ) → Gives from → GroupsLie ly f.code n (at + pieces_size (routine entry from left right to)) (select is)
         → ((l g : ℕ) (m' : ℕ → ℕ) → Handed fits h m x y m' → Moves f (Here entry (l ∷ g ∷ lo ∷ hi ∷ []) m' w.text w.answers) (Given fits h from (back_at l g) s v) [] limit)
         → Moves f (Here at (lo ∷ hi ∷ []) m w.text w.answers) (Matches around (line code n is (landed d v s) (calculated s r a b d v))) [] (13 + limit)
     on_two fits entry from at m c lies v limit g rest does =

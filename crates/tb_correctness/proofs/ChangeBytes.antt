@@ -32,7 +32,9 @@ use Rattle.tb_correctness.proofs.Changes.{IsByte, IsChange, change_is, of_left, 
 use Rattle.tb_correctness.proofs.GroupCode as coded
 use Rattle.tb_correctness.proofs.GroupCode.{Carry, Flag, Negative, Way, Short, Zero, way_size}
 use Rattle.tb_correctness.proofs.Emits.{Emits, block, branch_by, branches, emits_append, emitted_size, formed, labelled}
-use Rattle.tb_correctness.proofs.ItemBytes.{AllEncode, IsWord, Rest, all_made, asked_emits, behind_branch, behind_straight, calculated_emits, calculated_straight, copied_made, copied_straight, cut, cut_branch, gets_there, high_made, high_straight, label_here, rest_before, rest_behind, taken_bytes, value_of}
+use Rattle.tb_correctness.proofs.ItemBytes.{AllEncode, IsWord, Rest, all_made, asked_emits, behind_branch, behind_straight, calculated_emits}
+use Rattle.tb_correctness.proofs.ItemBytes.{calculated_straight, copied_made, copied_straight, cut, cut_branch, gets_there, high_made, high_straight}
+use Rattle.tb_correctness.proofs.ItemBytes.{label_here, rest_before, rest_behind, taken_bytes, value_of}
 
 module _ (labels : List (Name × ℕ)) where
   -- ---- code with a branch over a part of it
@@ -68,7 +70,8 @@ module _ (labels : List (Name × ℕ)) where
             reach = gets_there labels _ _ way (branch_by which wanted) skip _ h (let q = p3.below in omega (arith, q)) p1;
           }
 
-    over_emitted : (at : ℕ) (fs : List Form) → AreFormsOf (before ++ (instr (branch_by which wanted) Relative (Label skip) ∷ (skipped ++ (label skip ∷ behind)))) fs → Rest labels at fs → Over at fs
+    over_emitted : (at : ℕ) (fs : List Form)
+        → AreFormsOf (before ++ (instr (branch_by which wanted) Relative (Label skip) ∷ (skipped ++ (label skip ∷ behind)))) fs → Rest labels at fs → Over at fs
     over_emitted at fs h r =
         let c1 = cut before (instr (branch_by which wanted) Relative (Label skip) ∷ (skipped ++ (label skip ∷ behind))) fs plain_front h in
         let b1 = cut_branch (branch_by which wanted) skip (skipped ++ (label skip ∷ behind)) c1.rest c1.of in
@@ -129,19 +132,25 @@ module _ (labels : List (Name × ℕ)) where
 
     change_emitted : (c : Change) → IsByte c → AreFormsOf (in_place.changed c p skip) fs → Rest labels at fs → ChangeEmitted c p at fs
     change_emitted Increment few h r =
-        let e = over_emitted (product.at Inc p ∷ []) (product.at Inc (p + 1) ∷ []) [] (ins 0xEE p ∷ []) (ins 0xEE (p + 1) ∷ []) [] Zero false (label_of skip) refl refl refl (inc_bytes p) (inc_bytes (p + 1)) none_bytes at fs h r in
+        let e = over_emitted (product.at Inc p ∷ []) (product.at Inc (p + 1) ∷ []) [] (ins 0xEE p ∷ []) (ins 0xEE (p + 1) ∷ []) [] Zero false
+            (label_of skip) refl refl refl (inc_bytes p) (inc_bytes (p + 1)) none_bytes at fs h r in
         record { first = e.first; emits = e.emits; reach = e.reach }
     change_emitted Decrement few h r =
-        let e = over_emitted (product.at Lda p ∷ []) (product.at Dec (p + 1) ∷ []) (product.at Dec p ∷ []) (ins 0xAD p ∷ []) (ins 0xCE (p + 1) ∷ []) (ins 0xCE p ∷ []) Zero false (label_of skip) refl refl refl lda_bytes (dec_bytes (p + 1)) (dec_bytes p) at fs h r in
+        let e = over_emitted (product.at Lda p ∷ []) (product.at Dec (p + 1) ∷ []) (product.at Dec p ∷ []) (ins 0xAD p ∷ []) (ins 0xCE (p + 1) ∷ [])
+            (ins 0xCE p ∷ []) Zero false (label_of skip) refl refl refl lda_bytes (dec_bytes (p + 1)) (dec_bytes p) at fs h r in
         record { first = e.first; emits = e.emits; reach = e.reach }
     change_emitted (Raise c) few h r =
-        let e = over_emitted (product.alone Clc ∷ product.at Lda p ∷ product.const Adc c ∷ product.at Sta p ∷ []) (product.at Inc (p + 1) ∷ []) [] (coded.low_raised c p) (ins 0xEE (p + 1) ∷ []) [] Carry false (label_of skip) refl refl refl (raised_bytes c few) (inc_bytes (p + 1)) none_bytes at fs h r in
+        let e = over_emitted (product.alone Clc ∷ product.at Lda p ∷ product.const Adc c ∷ product.at Sta p ∷ []) (product.at Inc (p + 1) ∷ []) []
+            (coded.low_raised c p) (ins 0xEE (p + 1) ∷ []) [] Carry false (label_of skip) refl refl refl (raised_bytes c few) (inc_bytes (p + 1)) none_bytes at fs h r in
         record { first = e.first; emits = e.emits; reach = e.reach }
     change_emitted (Lower c) few h r =
-        let e = over_emitted (product.alone Sec ∷ product.at Lda p ∷ product.const Sbc c ∷ product.at Sta p ∷ []) (product.at Dec (p + 1) ∷ []) [] (coded.low_lowered c p) (ins 0xCE (p + 1) ∷ []) [] Carry true (label_of skip) refl refl refl (lowered_bytes c few) (dec_bytes (p + 1)) none_bytes at fs h r in
+        let e = over_emitted (product.alone Sec ∷ product.at Lda p ∷ product.const Sbc c ∷ product.at Sta p ∷ []) (product.at Dec (p + 1) ∷ []) []
+            (coded.low_lowered c p) (ins 0xCE (p + 1) ∷ []) [] Carry true (label_of skip) refl refl refl (lowered_bytes c few) (dec_bytes (p + 1)) none_bytes at fs h r in
         record { first = e.first; emits = e.emits; reach = e.reach }
     change_emitted Halve few h r =
-        let e = over_emitted (product.at Lda (p + 1) ∷ scaled.on_a Asl ∷ []) (in_place.one_more p ++ (scaled.on_a Asl ∷ [])) (product.at Ror (p + 1) ∷ product.at Ror p ∷ []) (coded.sign_asked p) (coded.raised_by_sign p) (coded.turned_right p) Carry false (label_of skip) refl refl refl sign_bytes by_sign_bytes right_bytes at fs h r in
+        let e = over_emitted (product.at Lda (p + 1) ∷ scaled.on_a Asl ∷ []) (in_place.one_more p ++ (scaled.on_a Asl ∷ []))
+            (product.at Ror (p + 1) ∷ product.at Ror p ∷ []) (coded.sign_asked p) (coded.raised_by_sign p) (coded.turned_right p) Carry false
+            (label_of skip) refl refl refl sign_bytes by_sign_bytes right_bytes at fs h r in
         record { first = e.first; emits = e.emits; reach = e.reach }
     change_emitted Double few h r =
         let is : fs ≡ map kept (in_place.doubled_in_place p) = straight_forms (in_place.doubled_in_place p) fs refl h in
@@ -152,8 +161,10 @@ module _ (labels : List (Name × ℕ)) where
         }
 
   -- ---- calculations
-  pub computed_emitted : (n at : ℕ) (skip : Target) (op : Operator) (a b : Source) (to : ℕ) (o : Option Change) → IsChange op a b to o → n < 65536 → IsWord a → IsWord b → (fs : List Form)
-      → AreFormsOf (items.changed_or o n skip op a b to) fs → Rest labels at fs → (first : Way) × Emits labels at fs (coded.changed_or o first n at op a b to) × coded.ChangedReaches o first at to
+  pub computed_emitted : (n at : ℕ) (skip : Target) (op : Operator) (a b : Source) (to : ℕ) (o : Option Change) → IsChange op a b to o → n < 65536
+      → IsWord a → IsWord b → (fs : List Form)
+      → AreFormsOf (items.changed_or o n skip op a b to) fs → Rest labels at fs → (first : Way)
+          × Emits labels at fs (coded.changed_or o first n at op a b to) × coded.ChangedReaches o first at to
   computed_emitted n at skip op a b to _ (of_left w c e e' k) small u v fs h r = let m = change_emitted to at skip fs c k.few h r in (m.first, m.emits, m.reach)
   computed_emitted n at skip op a b to _ (of_right w c e e' k) small u v fs h r = let m = change_emitted to at skip fs c k.few h r in (m.first, m.emits, m.reach)
   computed_emitted n at skip op a b to _ elsewhere small u v fs h r =
@@ -167,7 +178,8 @@ module _ (labels : List (Name × ℕ)) where
     pub emits : Emits labels at fs (coded.stepped_code first second n at op a b by c to)
     pub reach : coded.StepReaches first second n at op a b by c to
 
-  pub stepped_emitted : (n at : ℕ) (skip behind : Target) (op : Operator) (a b : Source) (by : Operator) (c : Source) (to : ℕ) → n < 65536 → IsWord a → IsWord b → IsWord c → (fs : List Form)
+  pub stepped_emitted : (n at : ℕ) (skip behind : Target) (op : Operator) (a b : Source) (by : Operator) (c : Source) (to : ℕ) → n < 65536 → IsWord a
+      → IsWord b → IsWord c → (fs : List Form)
       → AreFormsOf (items.stepped n skip behind op a b by c to) fs → Rest labels at fs → StepEmitted n at op a b by c to fs
   stepped_emitted n at skip behind op a b by c to small u v w fs h r =
       let s = split (items.computed n skip op a b to) (items.computed n behind by (AtPlace to) c to) fs h in
@@ -189,7 +201,8 @@ module _ (labels : List (Name × ℕ)) where
     pub emits : Emits labels at fs (coded.remains_code first n at a b to)
     pub reach : coded.RestReaches first n at a b
 
-  pub remains_emitted : (n at : ℕ) (skip : Target) (a b : Source) (to : ℕ) → n < 65536 → IsWord a → IsWord b → (fs : List Form) → AreFormsOf (items.remains n skip a b to) fs → Rest labels at fs → RestEmitted n at a b to fs
+  pub remains_emitted : (n at : ℕ) (skip : Target) (a b : Source) (to : ℕ) → n < 65536 → IsWord a → IsWord b → (fs : List Form)
+      → AreFormsOf (items.remains n skip a b to) fs → Rest labels at fs → RestEmitted n at a b to fs
   remains_emitted n at skip a b to small u v fs h r =
       let s = split (items.asked_rest n a b) (items.signed_rest skip a to) fs h in
       let parts = subst (Rest labels at) s.are r in
@@ -197,7 +210,10 @@ module _ (labels : List (Name × ℕ)) where
       let asks : Emits labels at s.front (coded.rest_asked n a b) = subst (λ fs. Emits labels at fs (coded.rest_asked n a b)) (sym front) (asked_emits labels n at a b small u v) in
       let next = coded.rest_at n at a b in
       let back = rest_behind labels at next s.front s.back (ap (λ k. at + k) (emitted_size labels asks)) parts in
-      let e = over_emitted (items.high_of Lda a ∷ []) (items.taken (FixedWord 0) (AtPlace RESULT) RESULT) (product.copied RESULT to) (coded.sign_looked_at a) coded.rest_turned (copied RESULT to) Negative false (label_of skip) (ap (λ b. b && true) (high_straight Lda a)) refl (copied_straight RESULT to) (high_made labels a u) (taken_bytes labels (FixedWord 0) (AtPlace RESULT) RESULT (omega arith) tt) (copied_made labels RESULT to) next s.back s.of_back back in
+      let e = over_emitted (items.high_of Lda a ∷ []) (items.taken (FixedWord 0) (AtPlace RESULT) RESULT) (product.copied RESULT to)
+          (coded.sign_looked_at a) coded.rest_turned (copied RESULT to) Negative false (label_of skip) (ap (λ b. b && true) (high_straight Lda a))
+          refl (copied_straight RESULT to) (high_made labels a u) (taken_bytes labels (FixedWord 0) (AtPlace RESULT) RESULT (omega arith) tt)
+          (copied_made labels RESULT to) next s.back s.of_back back in
       record {
         first = e.first;
         emits = subst (λ fs. Emits labels at fs (coded.remains_code e.first n at a b to)) (sym s.are) (emits_append labels asks e.emits);

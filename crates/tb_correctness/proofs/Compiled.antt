@@ -26,7 +26,11 @@ use Rattle.tb_correctness.proofs.Lines.{groups_laid}
 use Rattle.tb_correctness.proofs.Served.{routines, prologue}
 use Rattle.tb_correctness.proofs.Imaged.{image_laid}
 
-module _ (seed : ℕ) (program : Program) (code : SlotCode) (seed_small : seed < 65536) (follows : Follows program code) (rises : RisingFrom 0 (numbers code)) (codable : AreCodable code) (polled : ArePolled code) (closed : AreClosed code) (some : 1 ≤ length (numbers code)) (few : length code < 65536) (items : List Entry) (settled : IsSettled PROLOGUE_AT (program_code seed code) items) (ends : PROLOGUE_AT + size items ≤ 0xa000) (line : List ℕ) (line_is : BASIC_START + length line ≡ PROLOGUE_AT) where
+module _ (seed : ℕ) (program : Program) (code : SlotCode) (seed_small : seed < 65536) (follows : Follows program code)
+    (rises : RisingFrom 0 (numbers code)) (codable : AreCodable code) (polled : ArePolled code) (closed : AreClosed code)
+    (some : 1 ≤ length (numbers code)) (few : length code < 65536) (items : List Entry)
+    (settled : IsSettled PROLOGUE_AT (program_code seed code) items) (ends : PROLOGUE_AT + size items ≤ 0xa000) (line : List ℕ)
+    (line_is : BASIC_START + length line ≡ PROLOGUE_AT) where
   abbrev labels : List (Name × ℕ)
   labels = labels_from PROLOGUE_AT items
 
@@ -59,7 +63,9 @@ module _ (seed : ℕ) (program : Program) (code : SlotCode) (seed_small : seed <
   abbrev kept : (s : machine.State) → Starts BASIC_START bytes s → Keeps BASIC_START bytes program seed
   kept s h =
       let l = laid s h in
-      whole.keeps BASIC_START bytes from to (layout_of labels (numbers code) seed) program code follows closed l.first (groups_laid labels seed part code l polled) limit_by (λ k. omega arith) 192 (routines BASIC_START bytes from to labels seed code l) (prologue BASIC_START bytes from to labels seed code l)
+      whole.keeps BASIC_START bytes from to (layout_of labels (numbers code) seed) program code follows closed l.first
+          (groups_laid labels seed part code l polled) limit_by (λ k. omega arith) 192 (routines BASIC_START bytes from to labels seed code l)
+          (prologue BASIC_START bytes from to labels seed code l)
 
   pub image_keeps : Keeps BASIC_START bytes program seed
   image_keeps = record {
@@ -71,7 +77,9 @@ module _ (seed : ℕ) (program : Program) (code : SlotCode) (seed_small : seed <
   abbrev marked : (s : machine.State) → Starts BASIC_START bytes s → MarksLines BASIC_START bytes program seed (layout_of labels (numbers code) seed).start
   marked s h =
       let l = laid s h in
-      whole.marks BASIC_START bytes from to (layout_of labels (numbers code) seed) program code follows closed l.first (groups_laid labels seed part code l polled) limit_by (λ k. omega arith) 192 (routines BASIC_START bytes from to labels seed code l) (prologue BASIC_START bytes from to labels seed code l)
+      whole.marks BASIC_START bytes from to (layout_of labels (numbers code) seed) program code follows closed l.first
+          (groups_laid labels seed part code l polled) limit_by (λ k. omega arith) 192 (routines BASIC_START bytes from to labels seed code l)
+          (prologue BASIC_START bytes from to labels seed code l)
 
   pub image_marks : (start : ℕ → ℕ) → Agree (layout_of labels (numbers code) seed).start start (numbers program) → MarksLines BASIC_START bytes program seed start
   image_marks start agree = told_so (layout_of labels (numbers code) seed).start start BASIC_START bytes program seed agree

@@ -1,5 +1,6 @@
 -- The laws of products and quotients, by routines, or where one word is a constant by its bits and by shifts.
-use Rattle.std.proofs.Common.{◌≡◌, ◌≢◌, ℕ, ◌+◌, ◌*◌, ◌^◌, ◌≤◌, ◌<◌, true, false, true≢false, List, refl, sym, ap, ◌∙◌, subst, arith, Option, ⊎_elim, mul_comm}
+use Rattle.std.proofs.Common.{◌≡◌, ◌≢◌, ℕ, ◌+◌, ◌*◌, ◌^◌, ◌≤◌, ◌<◌, true, false, true≢false, List, refl, sym, ap}
+use Rattle.std.proofs.Common.{◌∙◌, subst, arith, Option, ⊎_elim, mul_comm}
 use Rattle.std.specs.Prelude.{nat_le}
 use Rattle.std.proofs.lemmas.Bool.{and_parts, cases_eq, eq-eqb, leb-true}
 use Rattle.tb_words.specs.Words.{word}
@@ -39,11 +40,14 @@ pub never_zero : (m : ℕ → ℕ) (y : ℕ) (b : Source) → SourceHolds m b y 
 never_zero m y (FixedWord v) k e = λ zero. let same = constant_is m v y (FixedWord v) refl k in absurd (true≢false (sym (eq-eqb v 0 (same.0 ∙ zero)) ∙ e))
 never_zero m y (AtPlace p) k e = absurd (true≢false e)
 
-module _ {around : Surroundings} (fits : Fits around.f 16) (limit : ℕ) (rs : Serves around limit) (wide : 200 ≤ limit) (code : SlotCode) {n : ℕ} {a b : Operand} {d : Destination} {is : List Instr} {s : State} {r : Slots} {w : View} (h : Ready around n (Calculate op.Divide a b d) (spread op.Divide a b d is) is s r w) where
+module _ {around : Surroundings} (fits : Fits around.f 16) (limit : ℕ) (rs : Serves around limit) (wide : 200 ≤ limit) (code : SlotCode) {n : ℕ}
+    {a b : Operand} {d : Destination} {is : List Instr} {s : State} {r : Slots} {w : View} (h : Ready around n (Calculate op.Divide a b d)
+    (spread op.Divide a b d is) is s r w) where
   open around use {ly, f}
   open calculation a b d s r use {y, left, right, to}
 
-  pub quotient_law : (o : Option ℕ) → IsShifting right o → Lies f.code w.regs.pc (quotient_code n o left right to) → GroupsLie ly f.code n (w.regs.pc + pieces_size (quotient_code n o left right to)) (select is) → Leads h code (17 + limit)
+  pub quotient_law : (o : Option ℕ) → IsShifting right o → Lies f.code w.regs.pc (quotient_code n o left right to)
+      → GroupsLie ly f.code n (w.regs.pc + pieces_size (quotient_code n o left right to)) (select is) → Leads h code (17 + limit)
   quotient_law _ (by_shifts v j e few power) lies rest =
       let same = constant_is w.mem v y right e (right_holds h w.mem (kept h)) in
       let is_power : y ≡ 2 ^ (j + 1) = sym same.0 ∙ power in
@@ -52,14 +56,17 @@ module _ {around : Surroundings} (fits : Fits around.f 16) (limit : ℕ) (rs : S
   quotient_law _ by_call lies rest =
       ⊎_elim (λ zero. divide_fails fits limit rs code h lies rest zero) (λ some. divide_law fits limit rs code h lies rest some) (cases_eq y 0)
 
-module _ {around : Surroundings} (fits : Fits around.f 16) (limit : ℕ) (rs : Serves around limit) (wide : 200 ≤ limit) (code : SlotCode) {n : ℕ} {a b : Operand} {d : Destination} {is : List Instr} {s : State} {r : Slots} {w : View} (h : Ready around n (Calculate op.Multiply a b d) (spread op.Multiply a b d is) is s r w) where
+module _ {around : Surroundings} (fits : Fits around.f 16) (limit : ℕ) (rs : Serves around limit) (wide : 200 ≤ limit) (code : SlotCode) {n : ℕ}
+    {a b : Operand} {d : Destination} {is : List Instr} {s : State} {r : Slots} {w : View} (h : Ready around n (Calculate op.Multiply a b d)
+    (spread op.Multiply a b d is) is s r w) where
   open around use {ly, f}
   open calculation a b d s r use {k, x, y, left, right, to}
 
   above_one : (v : ℕ) → is_factor v ≡ true → 2 ≤ v
   above_one v e = leb-true 2 v (and_parts (nat_le 2 v) (nat_le (bits_size 15 v) 60) e).0
 
-  pub product_law : (o : Option (ℕ × Source)) → IsScaling left right o → Lies f.code w.regs.pc (product_code o left right to) → GroupsLie ly f.code n (w.regs.pc + pieces_size (product_code o left right to)) (select is) → Leads h code (13 + limit)
+  pub product_law : (o : Option (ℕ × Source)) → IsScaling left right o → Lies f.code w.regs.pc (product_code o left right to)
+      → GroupsLie ly f.code n (w.regs.pc + pieces_size (product_code o left right to)) (select is) → Leads h code (13 + limit)
   product_law _ (by_right v e good) lies rest =
       let same = constant_is w.mem v y right e (right_holds h w.mem (kept h)) in
       let two = above_one v good in
@@ -69,5 +76,6 @@ module _ {around : Surroundings} (fits : Fits around.f 16) (limit : ℕ) (rs : S
       let same = constant_is w.mem v x left e (left_holds h w.mem (kept h)) in
       let two = above_one v good in
       looser f w _ _ _ 141 (13 + limit) (omega (arith, wide)) (λ u z. z)
-      (times_law fits code h v (omega (arith, two)) (omega (arith, same)) right y (right_apart h LEFT (omega arith)) (operand_beyond (k + 1) b) (right_holds h w.mem (kept h)) lies rest (ap word (mul_comm x y) ∙ ap (λ z. word (y * z)) (sym same.0)))
+      (times_law fits code h v (omega (arith, two)) (omega (arith, same)) right y (right_apart h LEFT (omega arith)) (operand_beyond (k + 1) b)
+          (right_holds h w.mem (kept h)) lies rest (ap word (mul_comm x y) ∙ ap (λ z. word (y * z)) (sym same.0)))
   product_law _ by_routine lies rest = multiply_law fits limit rs code h lies rest

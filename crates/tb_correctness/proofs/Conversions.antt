@@ -1,5 +1,6 @@
 -- The laws of conversions: 0 minus a word, and RND, which may fault.
-use Rattle.std.proofs.Common.{◌≡◌, ◌≢◌, ℕ, ◌+◌, ◌-◌, ◌/◌, ◌%◌, ◌<◌, Bool, true, false, true≢false, ◌||◌, List, [], ◌∷◌, ◌++◌, refl, sym, ap, ◌∙◌, subst, arith}
+use Rattle.std.proofs.Common.{◌≡◌, ◌≢◌, ℕ, ◌+◌, ◌-◌, ◌/◌, ◌%◌, ◌<◌, Bool, true, false, true≢false, ◌||◌, List, []}
+use Rattle.std.proofs.Common.{◌∷◌, ◌++◌, refl, sym, ap, ◌∙◌, subst, arith}
 use Rattle.std.specs.Prelude.{nat_eq, nat_le}
 use Rattle.tb_words.specs.Words.{negated, seed_after, word}
 use Rattle.tb_meaning.specs.Control.{State, fault_text}
@@ -52,7 +53,8 @@ module _ (around : Surroundings) (fits : Fits around.f 16) (code : SlotCode) (n 
 
   -- where the slot steps lead
   abbrev pub ConvertLeads : Conversion → ℕ → Type 0
-  ConvertLeads what k = Comes f w (Target around (steps code (expand (Convert what a d)) (line code n (spread_convert what a d is) s r))) (sent_in (steps code (expand (Convert what a d)) (line code n (spread_convert what a d is) s r))) k
+  ConvertLeads what k = Comes f w (Target around (steps code (expand (Convert what a d)) (line code n (spread_convert what a d is) s r)))
+      (sent_in (steps code (expand (Convert what a d)) (line code n (spread_convert what a d is) s r))) k
 
   asked : (what : Conversion) → StandsIn a k (live (spread_convert what a d is))
   asked what = word_asked k a (convert what k) (kept d ++ is) (convert_reads what k (kept d ++ is))
@@ -67,8 +69,12 @@ module _ (around : Surroundings) (fits : Fits around.f 16) (code : SlotCode) (n 
       let behind : w.regs.pc + (size text + 0) ≡ w.regs.pc + size text = omega arith in
       subst (λ x. Comes f w (Target around x) (sent_in x) 7) (sym (negate_goes code n a d is s r h.read.all_words fit.slot))
       (looser f w _ _ [] 7 7 (omega arith)
-      (word_lands around code n h.small (live (spread_convert Negated a d is)) d is s r (with_fetched s r k a) (negated x) _ _ (w.regs.pc + size text) w.mem w.text w.answers (difference.0 ∙ ap (λ y. word y % 256) same) (difference.1 ∙ ap (λ y. word y / 256) same) (omega arith) fit.dest (convert_lasting Negated a d is s r h.free) (subst (λ p. GroupsLie ly f.code n p (select is)) behind h.rest) (kept_first h) h.text h.answers h.short)
-      (differs f 16 fits w.regs.pc (lo ∷ hi ∷ []) w.mem w.text w.answers refl (FixedWord 0) src (destination_at d) h.lies.0 tt (operand_grounded k a d fit.slot fit.word) (dest_in_data d fit.dest) h.lies.1 w (here h)))
+      (word_lands around code n h.small (live (spread_convert Negated a d is)) d is s r (with_fetched s r k a) (negated x) _ _
+          (w.regs.pc + size text) w.mem w.text w.answers (difference.0 ∙ ap (λ y. word y % 256) same) (difference.1 ∙ ap (λ y. word y / 256) same)
+          (omega arith) fit.dest (convert_lasting Negated a d is s r h.free) (subst (λ p. GroupsLie ly f.code n p (select is)) behind h.rest)
+          (kept_first h) h.text h.answers h.short)
+      (differs f 16 fits w.regs.pc (lo ∷ hi ∷ []) w.mem w.text w.answers refl (FixedWord 0) src (destination_at d) h.lies.0 tt
+          (operand_grounded k a d fit.slot fit.word) (dest_in_data d fit.dest) h.lies.1 w (here h)))
 
   -- ---- RND
   module _ (limit : ℕ) (rs : Serves around limit) (seed_small : ly.seed < 65536) (h : Begins IsDrawn) where
@@ -105,10 +111,12 @@ module _ (around : Surroundings) (fits : Fits around.f 16) (code : SlotCode) (n 
 
     drawn_kept : (bound : ℕ) (m' m'' : ℕ → ℕ) → Kept around (live js) s r m' → Drawn m' bound s.seed m'' → Kept around (live js) drawn r m''
     drawn_kept bound m' m'' q g =
-        let others : (p : ℕ) → is_state p ≡ true → p ≢ SEEDED → p ≢ SEED → p ≢ SEED + 1 → m'' p ≡ m' p = λ p o x y z. g.others p (not_argument p o) (not_scratch p o) (not_seed p x y z) in
+        let others : (p : ℕ) → is_state p ≡ true → p ≢ SEEDED → p ≢ SEED → p ≢ SEED + 1 → m'' p ≡ m' p = λ p o x y z. g.others p (not_argument p o)
+            (not_scratch p o) (not_seed p x y z) in
         record {
           state = state_drawn ly s m' m'' q.state (seed_after s.seed) g.seeded g.seed_at others;
-          read = live_same (live js) r m' m'' h.some_read (λ a lo hi. others a (low_is_state a (omega (arith, lo)) hi) (λ e. omega (arith, e, lo)) (λ e. omega (arith, e, lo)) (λ e. omega (arith, e, lo))) q.read;
+          read = live_same (live js) r m' m'' h.some_read (λ a lo hi. others a (low_is_state a (omega (arith, lo)) hi) (λ e. omega (arith, e, lo))
+              (λ e. omega (arith, e, lo)) (λ e. omega (arith, e, lo))) q.read;
           homed = homed_kept m' m'' (g.others HOME_S refl refl refl) q.homed;
         }
 

@@ -1,5 +1,6 @@
 -- The law of a test by a divisor: that its slot instructions ask whether nothing is left over, and where its code leads.
-use Rattle.std.proofs.Common.{not, ◌≡◌, ◌≢◌, ℕ, ◌+◌, ◌*◌, ◌%◌, ◌<◌, Bool, true, false, cond, List, [], ◌∷◌, ◌++◌, length, refl, sym, ap, ◌∙◌, subst, arith, ⊎_elim, Option, Some, None, length-set}
+use Rattle.std.proofs.Common.{not, ◌≡◌, ◌≢◌, ℕ, ◌+◌, ◌*◌, ◌%◌, ◌<◌, Bool, true, false, cond, List, [], ◌∷◌, ◌++◌}
+use Rattle.std.proofs.Common.{length, refl, sym, ap, ◌∙◌, subst, arith, ⊎_elim, Option, Some, None, length-set}
 use Rattle.std.specs.Prelude.{slice_index, nat_eq}
 use Rattle.std.proofs.lemmas.Bool.{cases_eq, eq-eqb, eqb-true, ne_eqb}
 use Rattle.std.proofs.lemmas.List.{nil_from_length}
@@ -19,7 +20,8 @@ use Rattle.tb_simulation.specs.Layout.{next_at}
 use Rattle.tb_simulation.proofs.Joins.{sent_in}
 use Rattle.tb_simulation.proofs.Resolved.{Code, Lies, Piece, faulting, pieces_size}
 use Rattle.tb_selection.specs.declared.liveness.Live.{Live}
-use Rattle.tb_selection.specs.Groups.{Operand, Constant, Variable, InSlot, Tested, HeldBefore, HeldNow, Divisibility, Divisible, Indivisible, Side, OnLeft, OnRight, Divides, compared, contrary, dividing, expand, fetch, multiple, onward}
+use Rattle.tb_selection.specs.Groups.{Operand, Constant, Variable, InSlot, Tested, HeldBefore, HeldNow, Divisibility, Divisible, Indivisible, Side, OnLeft}
+use Rattle.tb_selection.specs.Groups.{OnRight, Divides, compared, contrary, dividing, expand, fetch, multiple, onward}
 use Rattle.tb_selection.specs.GroupSteps.{steps}
 use Rattle.tb_selection.specs.Liveness.{live, nothing_live}
 use Rattle.tb_selection.specs.Select.{may_stand, omits_only_dead, select, test_words_dead}
@@ -127,10 +129,13 @@ module _ (code : SlotCode) (n : ℕ) (how : Divisibility) (v : ℕ) (d : Operand
   abbrev Next : Step SlotState → (js back : List Instr) → Type 0
   Next z js back = steps code (dividing how v d side js) (line code n (dividing how v d side back) s r) ≡ z
 
-  begins : (js back : List Instr) (z : Step SlotState) → steps code (multiple 0 v d (test_before (compared how) (left_word side) (right_word v side) js)) (line code n (multiple 0 v d (spread_test (compared how) (left_word side) (right_word v side) back)) s start) ≡ z → Next z js back
+  begins : (js back : List Instr) (z : Step SlotState)
+      → steps code (multiple 0 v d (test_before (compared how) (left_word side) (right_word v side) js))
+      (line code n (multiple 0 v d (spread_test (compared how) (left_word side) (right_word v side) back)) s start) ≡ z → Next z js back
   begins js back z = by side
     where
-      by : (side : Side) → steps code (multiple 0 v d (test_before (compared how) (left_word side) (right_word v side) js)) (line code n (multiple 0 v d (spread_test (compared how) (left_word side) (right_word v side) back)) s (begun s r v side)) ≡ z
+      by : (side : Side) → steps code (multiple 0 v d (test_before (compared how) (left_word side) (right_word v side) js))
+          (line code n (multiple 0 v d (spread_test (compared how) (left_word side) (right_word v side) back)) s (begun s r v side)) ≡ z
           → steps code (dividing how v d side js) (line code n (dividing how v d side back) s r) ≡ z
       by OnLeft e = e
       by OnRight e =
@@ -140,16 +145,19 @@ module _ (code : SlotCode) (n : ℕ) (how : Divisibility) (v : ℕ) (d : Operand
           ∙ acts code n Hold ks behind s s (with_word r 0 (slice_index s.vars v)) (begun s r v OnRight) refl
           ∙ e
 
-  divides_next : (js back : List Instr) → divisor ≢ 0 → Next (steps code (test_before (compared how) (left_word side) (right_word v side) js) (line code n (spread_test (compared how) (left_word side) (right_word v side) back) s last)) js back
+  divides_next : (js back : List Instr) → divisor ≢ 0 → Next (steps code (test_before (compared how) (left_word side) (right_word v side) js)
+      (line code n (spread_test (compared how) (left_word side) (right_word v side) back) s last)) js back
   divides_next js back some =
       begins js back (steps code (test_before (compared how) (left_word side) (right_word v side) js) (line code n (spread_test (compared how) (left_word side) (right_word v side) back) s last))
-      (multiple_next code n 0 v d s start start_length (omega arith) (test_before (compared how) (left_word side) (right_word v side) js) (spread_test (compared how) (left_word side) (right_word v side) back) (λ e. some (sym (divisor_begun s r v side d) ∙ e)))
+      (multiple_next code n 0 v d s start start_length (omega arith) (test_before (compared how) (left_word side) (right_word v side) js)
+          (spread_test (compared how) (left_word side) (right_word v side) back) (λ e. some (sym (divisor_begun s r v side d) ∙ e)))
 
   -- by 0 it faults
   divides_fails : (js back : List Instr) → divisor ≡ 0 → Next (Stops Faulted (fault_text 2 n)) js back
   divides_fails js back zero =
       begins js back (Stops Faulted (fault_text 2 n))
-      (multiple_fails code n 0 v d s start start_length (omega arith) (test_before (compared how) (left_word side) (right_word v side) js) (spread_test (compared how) (left_word side) (right_word v side) back) (divisor_begun s r v side d ∙ zero))
+      (multiple_fails code n 0 v d s start start_length (omega arith) (test_before (compared how) (left_word side) (right_word v side) js)
+          (spread_test (compared how) (left_word side) (right_word v side) back) (divisor_begun s r v side d ∙ zero))
 
   -- whether the product is the dividend
   abbrev asked : Bool
@@ -166,11 +174,13 @@ module _ (code : SlotCode) (n : ℕ) (how : Divisibility) (v : ℕ) (d : Operand
   swapped Divisible p q = same_either_way p q
   swapped Indivisible p q = ap not (same_either_way p q)
 
-  words_by : (side : Side) (q : Slots) → slice_index q.words 0 ≡ product → q.held ≡ (begun s r v side).held → holds (compared how) (tested_word s q (left_word side)) (fetched s q 0 (right_word v side)) ≡ holds (compared how) product dividend
+  words_by : (side : Side) (q : Slots) → slice_index q.words 0 ≡ product → q.held ≡ (begun s r v side).held
+      → holds (compared how) (tested_word s q (left_word side)) (fetched s q 0 (right_word v side)) ≡ holds (compared how) product dividend
   words_by OnLeft q e e' = ap (λ p. holds (compared how) p dividend) e
   words_by OnRight q e e' = (λ i. holds (compared how) ((e' ∙ same_slot r 0 dividend (omega (arith, all))) i) (e i)) ∙ swapped how dividend product
 
-  holds_so : dividend < 65536 → divisor < 65536 → divisor ≢ 0 → (t : Bool) → asked ≡ t → holds (compared how) (tested_word s last (left_word side)) (fetched s last 0 (right_word v side)) ≡ t
+  holds_so : dividend < 65536 → divisor < 65536 → divisor ≢ 0 → (t : Bool) → asked ≡ t → holds (compared how) (tested_word s last (left_word side))
+      (fetched s last 0 (right_word v side)) ≡ t
   holds_so small small' some t e = words_by side last product_is (held_stands code n 0 v d s start start_length (omega arith)) ∙ by how ∙ e
     where
       same : nat_eq product dividend ≡ nat_eq (magnitude dividend % magnitude divisor) 0
@@ -186,12 +196,15 @@ contrary_turned Indivisible true = refl
 contrary_turned Indivisible false = refl
 
 -- what is dead behind it is dead behind its test
-test_free : (how : Divisibility) (v : ℕ) (d : Operand) (side : Side) (to : Option ℕ) (u : Live) → omits_only_dead (Divides how v d side to) u ≡ true → test_words_dead (left_word side) (right_word v side) u ≡ true
+test_free : (how : Divisibility) (v : ℕ) (d : Operand) (side : Side) (to : Option ℕ) (u : Live) → omits_only_dead (Divides how v d side to) u ≡ true
+    → test_words_dead (left_word side) (right_word v side) u ≡ true
 test_free how v d OnLeft to u free = free
 test_free how v d OnRight to u free = refl
 
 -- ---- the law
-module _ (around : Surroundings) (fits : Fits around.f 16) (code : SlotCode) (same_numbers : numbers code ≡ around.ly.numbers) (limit : ℕ) (rs : Serves around limit) (n : ℕ) (how : Divisibility) (v : ℕ) (d : Operand) (side : Side) (to : Option ℕ) (is : List Instr) (s : State) (r : Slots) (w : View) (h : Ready around n (Divides how v d side to) (spread_divides how v d side to is) is s r w) where
+module _ (around : Surroundings) (fits : Fits around.f 16) (code : SlotCode) (same_numbers : numbers code ≡ around.ly.numbers) (limit : ℕ)
+    (rs : Serves around limit) (n : ℕ) (how : Divisibility) (v : ℕ) (d : Operand) (side : Side) (to : Option ℕ) (is : List Instr) (s : State)
+    (r : Slots) (w : View) (h : Ready around n (Divides how v d side to) (spread_divides how v d side to is) is s r w) where
   open around use {ly, f}
 
   abbrev js : List Instr
@@ -239,21 +252,27 @@ module _ (around : Surroundings) (fits : Fits around.f 16) (code : SlotCode) (sa
 
   -- at a place, with all that is live
   abbrev At : ℕ → View → Type 0
-  At = Led fits limit rs h left right x y (operand_apart 0 (Variable v) 0 (omega arith) (omega arith) left_fits) (operand_apart 0 (Variable v) LEFT (omega arith) (omega arith) left_fits) (operand_apart 1 d RIGHT (omega arith) (omega arith) right_fits) left_holds right_holds
+  At = Led fits limit rs h left right x y (operand_apart 0 (Variable v) 0 (omega arith) (omega arith) left_fits)
+      (operand_apart 0 (Variable v) LEFT (omega arith) (omega arith) left_fits) (operand_apart 1 d RIGHT (omega arith) (omega arith) right_fits) left_holds right_holds
 
   leads : (how' : Divisibility) (next : ℕ) → Lies f.code w.regs.pc (divided_code n w.regs.pc h.first how' left right next) → DividedReaches n w.regs.pc h.first left right next → y ≢ 0
       → Comes f w (At (cond (turned (leaves_on how') (nat_eq (magnitude x % magnitude y) 0)) (w.regs.pc + pieces_size (divided_code n w.regs.pc h.first how' left right next)) next)) [] (17 + limit)
-  leads how' next = divided_leads fits limit rs h left right x y (operand_apart 0 (Variable v) 0 (omega arith) (omega arith) left_fits) (operand_apart 0 (Variable v) LEFT (omega arith) (omega arith) left_fits) (operand_apart 1 d RIGHT (omega arith) (omega arith) right_fits) left_holds right_holds how' h.first next
+  leads how' next = divided_leads fits limit rs h left right x y (operand_apart 0 (Variable v) 0 (omega arith) (omega arith) left_fits)
+      (operand_apart 0 (Variable v) LEFT (omega arith) (omega arith) left_fits) (operand_apart 1 d RIGHT (omega arith) (omega arith) right_fits)
+      left_holds right_holds how' h.first next
 
   abbrev pub Ends : Step SlotState → Type 0
   Ends z = Comes f w (Target around z) (sent_in z) (34 + (limit + limit))
 
   -- by 0
-  faults : (how' : Divisibility) (next : ℕ) → Lies f.code w.regs.pc (divided_code n w.regs.pc h.first how' left right next) → y ≡ 0 → (ks back : List Instr) → Ends (steps code (dividing how v d side ks) (line code n (dividing how v d side back) s r))
+  faults : (how' : Divisibility) (next : ℕ) → Lies f.code w.regs.pc (divided_code n w.regs.pc h.first how' left right next) → y ≡ 0
+      → (ks back : List Instr) → Ends (steps code (dividing how v d side ks) (line code n (dividing how v d side back) s r))
   faults how' next lies zero ks back =
       subst Ends (sym (divides_fails code n how v d side s r h.read.all_words ks back zero))
       (looser f w _ _ (fault_text 2 n) (13 + limit) (34 + (limit + limit)) (omega arith) (λ u z. z)
-      (divided_fails fits limit rs h left right x y (operand_apart 0 (Variable v) 0 (omega arith) (omega arith) left_fits) (operand_apart 0 (Variable v) LEFT (omega arith) (omega arith) left_fits) (operand_apart 1 d RIGHT (omega arith) (omega arith) right_fits) left_holds right_holds how' h.first next lies zero))
+      (divided_fails fits limit rs h left right x y (operand_apart 0 (Variable v) 0 (omega arith) (omega arith) left_fits)
+          (operand_apart 0 (Variable v) LEFT (omega arith) (omega arith) left_fits) (operand_apart 1 d RIGHT (omega arith) (omega arith) right_fits)
+          left_holds right_holds how' h.first next lies zero))
 
   -- the words of its test
   abbrev first_word : Tested
@@ -295,21 +314,27 @@ module _ (around : Surroundings) (fits : Fits around.f 16) (code : SlotCode) (sa
       → Ends (steps code (expand (Divides how v d side None)) (line code n (spread_divides how v d side None is) s r))
   stays lies reach rest = ⊎_elim
       (λ zero. faults how (next_at ly n) lies zero [] is)
-      (λ some. subst Ends (sym (divides_next code n how v d side s r h.read.all_words [] is some ∙ test_goes code n rel first_word second_word is s last_slots (last_length code n how v d side s r h.read.all_words) free question (held_is some)))
+      (λ some. subst Ends (sym (divides_next code n how v d side s r h.read.all_words [] is some
+          ∙ test_goes code n rel first_word second_word is s last_slots (last_length code n how v d side s r h.read.all_words) free question (held_is some)))
       (by question (leads how (next_at ly n) lies reach some)))
       (cases_eq y 0)
     where
       by : (t : Bool) → Comes f w (At (cond t (w.regs.pc + pieces_size here_code) (next_at ly n))) [] (17 + limit) → Ends (branched code n rel first_word second_word is s last_slots t)
       by true c =
           looser f w _ _ [] (17 + limit) (34 + (limit + limit)) (omega arith)
-          (λ u a. stood around code n h.small is s end_slots (w.regs.pc + pieces_size here_code) u.mem w.text w.answers rest a.kept.state (end_read u.mem) a.kept.homed h.text h.answers h.short u a.here) c
+          (λ u a. stood around code n h.small is s end_slots (w.regs.pc + pieces_size here_code) u.mem w.text w.answers rest a.kept.state
+              (end_read u.mem) a.kept.homed h.text h.answers h.short u a.here) c
       by false c = looser f w _ _ [] (17 + limit) (34 + (limit + limit)) (omega arith) leaves c
 
   -- ---- that goes to a line
-  module _ (t : ℕ) (lies : Lies f.code w.regs.pc (divided_go ly n w.regs.pc h.first how left right (has_line ly.numbers t) t)) (reach : DividedGoes ly n w.regs.pc h.first left right (has_line ly.numbers t) t) (rest : GroupsLie ly f.code n (w.regs.pc + pieces_size (divided_go ly n w.regs.pc h.first how left right (has_line ly.numbers t) t)) (select is)) (stands : nat_eq (length (select is)) 0 ≡ true) where
+  module _ (t : ℕ) (lies : Lies f.code w.regs.pc (divided_go ly n w.regs.pc h.first how left right (has_line ly.numbers t) t))
+      (reach : DividedGoes ly n w.regs.pc h.first left right (has_line ly.numbers t) t)
+      (rest : GroupsLie ly f.code n (w.regs.pc + pieces_size (divided_go ly n w.regs.pc h.first how left right (has_line ly.numbers t) t))
+      (select is)) (stands : nat_eq (length (select is)) 0 ≡ true) where
     -- it is the line's last group, and so the next line is behind it
     is_last : w.regs.pc + pieces_size (divided_go ly n w.regs.pc h.first how left right (has_line ly.numbers t) t) ≡ next_at ly n
-    is_last = subst (GroupsLie ly f.code n (w.regs.pc + pieces_size (divided_go ly n w.regs.pc h.first how left right (has_line ly.numbers t) t))) (nil_from_length (select is) (eqb-true _ _ stands)) rest
+    is_last = subst (GroupsLie ly f.code n (w.regs.pc + pieces_size (divided_go ly n w.regs.pc h.first how left right (has_line ly.numbers t) t)))
+        (nil_from_length (select is) (eqb-true _ _ stands)) rest
 
     abbrev ks : List Instr
     ks = JumpTo t ∷ []
@@ -323,7 +348,8 @@ module _ (around : Surroundings) (fits : Fits around.f 16) (code : SlotCode) (sa
     goes : y ≢ 0 → (found : Bool) → has_line ly.numbers t ≡ found → steps code (dividing how v d side ks) (line code n (dividing how v d side back) s r) ≡ outcome question found
     goes some found e =
         divides_next code n how v d side s r h.read.all_words ks back some
-        ∙ go_goes code n rel first_word second_word t is s last_slots (last_length code n how v d side s r h.read.all_words) free question found (held_is some) (ap (λ ns. has_line ns t) same_numbers ∙ e)
+        ∙ go_goes code n rel first_word second_word t is s last_slots (last_length code n how v d side s r h.read.all_words) free question found
+            (held_is some) (ap (λ ns. has_line ns t) same_numbers ∙ e)
 
     by_line : (found : Bool) → has_line ly.numbers t ≡ found → Ends (steps code (dividing how v d side ks) (line code n (dividing how v d side back) s r))
     by_line true e = ⊎_elim
@@ -346,7 +372,8 @@ module _ (around : Surroundings) (fits : Fits around.f 16) (code : SlotCode) (sa
         by : (q : Bool) → Comes f w (At (cond (not q) (next_at ly n) (ly.start t))) [] (17 + limit) → Ends (outcome q true)
         by true c =
             looser f w _ _ [] (17 + limit) (34 + (limit + limit)) (omega arith)
-            (λ u a. arrived around (record s { place = control.At t }) end_slots (ly.start t) u.mem w.text w.answers refl (state_placed ly (control.At t) s u.mem a.kept.state) (none_read u.mem).all_words a.kept.homed h.text h.answers h.short u a.here) c
+            (λ u a. arrived around (record s { place = control.At t }) end_slots (ly.start t) u.mem w.text w.answers refl
+                (state_placed ly (control.At t) s u.mem a.kept.state) (none_read u.mem).all_words a.kept.homed h.text h.answers h.short u a.here) c
         by false c = looser f w _ _ [] (17 + limit) (34 + (limit + limit)) (omega arith) leaves c
     by_line false e = ⊎_elim
         (λ zero. faults how (next_at ly n) parts.0 zero ks back)
@@ -359,7 +386,8 @@ module _ (around : Surroundings) (fits : Fits around.f 16) (code : SlotCode) (sa
         by : (q : Bool) → Comes f w (At (cond q (w.regs.pc + pieces_size here_code) (next_at ly n))) [] (17 + limit) → Ends (outcome q false)
         by true c =
             looser f w _ _ (fault_text 1 n) (17 + limit + (4 + limit)) (34 + (limit + limit)) (omega arith) (λ u g. g)
-            (chained f w _ _ [] (fault_text 1 n) (17 + limit) (4 + limit) c (λ u a. faults_at around fits limit rs n 1 h.small (omega arith) (w.regs.pc + pieces_size here_code) u.mem w.text w.answers parts.1 a.kept.homed u a.here))
+            (chained f w _ _ [] (fault_text 1 n) (17 + limit) (4 + limit) c (λ u a. faults_at around fits limit rs n 1 h.small (omega arith)
+                (w.regs.pc + pieces_size here_code) u.mem w.text w.answers parts.1 a.kept.homed u a.here))
         by false c = looser f w _ _ [] (17 + limit) (34 + (limit + limit)) (omega arith) leaves c
 
   by_to : (o : Option ℕ) → to ≡ o → Ends (steps code (expand (Divides how v d side o)) (line code n (spread_divides how v d side o is) s r))

@@ -1,5 +1,6 @@
 -- Bytes of settled items, and the pieces of code that they are.
-use Rattle.std.proofs.Common.{◌≡◌, ℕ, ◌+◌, ◌%◌, ◌/◌, ◌≤◌, ◌<◌, Bool, true, false, not, ◌||◌, List, [], ◌∷◌, ◌++◌, length, map, refl, sym, ap, ◌∙◌, subst, arith, Option, Some, None, append_assoc, true≢false}
+use Rattle.std.proofs.Common.{◌≡◌, ℕ, ◌+◌, ◌%◌, ◌/◌, ◌≤◌, ◌<◌, Bool, true, false, not, ◌||◌, List, [], ◌∷◌, ◌++◌}
+use Rattle.std.proofs.Common.{length, map, refl, sym, ap, ◌∙◌, subst, arith, Option, Some, None, append_assoc, true≢false}
 use Rattle.std.proofs.lemmas.List.{append-nil}
 use Rattle.tb_opcodes.specs.Opcodes as opcodes
 use Rattle.tb_opcodes.specs.declared.Mnemonic.{Mnemonic}
@@ -63,7 +64,8 @@ module _ (labels : List (Name × ℕ)) where
   pub emitted_size : {at : ℕ} {fs : List Form} {ps : List Piece} → Emits at fs ps → forms_size fs ≡ pieces_size ps
   emitted_size {at} {fs} {ps} h = sym (items_size at fs) ∙ sym (all_size labels at (items_from at fs)) ∙ ap length h.bytes ∙ pieces_length ps
 
-  pub bytes_behind : (at : ℕ) (fs gs : List Form) → bytes_from labels at (items_from at (fs ++ gs)) ≡ bytes_from labels at (items_from at fs) ++ bytes_from labels (at + forms_size fs) (items_from (at + forms_size fs) gs)
+  pub bytes_behind : (at : ℕ) (fs gs : List Form) → bytes_from labels at (items_from at (fs ++ gs)) ≡ bytes_from labels at (items_from at fs)
+      ++ bytes_from labels (at + forms_size fs) (items_from (at + forms_size fs) gs)
   bytes_behind at fs gs =
       ap (bytes_from labels at) (items_append at fs gs)
       ∙ bytes_append labels at (items_from at fs) (items_from (at + forms_size fs) gs)

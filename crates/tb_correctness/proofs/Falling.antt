@@ -28,7 +28,8 @@ module _ (around : Surroundings) where
 
   module _ (code : SlotCode) (same_numbers : numbers code ≡ ly.numbers) where
     -- behind all of a line the relation is the one at the next line's beginning
-    next_begins : (n : ℕ) (s : State) (r : Slots) (w : View) → Matches around (line code n [] s r) w → Matches around (record { state = record s { place = next_after (numbers code) n }; rest = Whole; slots = r }) w
+    next_begins : (n : ℕ) (s : State) (r : Slots) (w : View) → Matches around (line code n [] s r) w
+        → Matches around (record { state = record s { place = next_after (numbers code) n }; rest = Whole; slots = r }) w
     next_begins n s r w h =
         let k = h.state in
         record {
@@ -52,7 +53,8 @@ module _ (around : Surroundings) where
     falls (Stops Waits t) w h = h
     falls (Goes d t) w h = by d.rest d.state d.slots h
       where
-        by : (q : Rest) (s : State) (r : Slots) → Matches around (record { state = s; rest = q; slots = r }) w → Leads f Between (after_sending t (fallen code q (record { state = s; rest = q; slots = r }))) w
+        by : (q : Rest) (s : State) (r : Slots) → Matches around (record { state = s; rest = q; slots = r }) w
+            → Leads f Between (after_sending t (fallen code q (record { state = s; rest = q; slots = r }))) w
         by Whole s r h = (h, tt)
         by (Left n (i ∷ is)) s r h = (h, tt)
         by (Left n []) s r h = (next_begins n s r w h, tt)

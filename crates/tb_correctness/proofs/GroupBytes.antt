@@ -21,7 +21,9 @@ use Rattle.tb_lower.specs.Ranges.{AreInRange, IsInRange}
 use Rattle.tb_lower.specs.Slots as slots
 use Rattle.tb_runtime16.specs.Places.{LINE, LEFT, RESULT, WANTED, RANDOM_AT, NUMBER_AT, PUSH_AT}
 use Rattle.tb_selection.specs.Select.{alone}
-use Rattle.tb_selection.specs.Groups.{Operand, Variable, Tested, Conversion, Negated, Drawn, Usage, AsNumber, AsLine, AsSubroutine, Divisibility, Divisible, Indivisible, Group, Calculate, Stepped, Convert, Move, Use, Test, TestGo, Divides, Remains, Single, contrary, denied, slot_of, expand}
+use Rattle.tb_selection.specs.Groups.{Operand, Variable, Tested, Conversion, Negated, Drawn, Usage, AsNumber, AsLine, AsSubroutine, Divisibility, Divisible}
+use Rattle.tb_selection.specs.Groups.{Indivisible, Group, Calculate, Stepped, Convert, Move, Use, Test, TestGo, Divides, Remains, Single, contrary, denied}
+use Rattle.tb_selection.specs.Groups.{slot_of, expand}
 use Rattle.tb_templates.specs.declared.labels.Inner.TheVariants as inside
 use Rattle.tb_templates.specs.declared.labels.Target.{Target}
 use Rattle.tb_templates.specs.declared.labels.Target.TheVariants as target
@@ -46,7 +48,9 @@ use Rattle.tb_correctness.proofs.Singles.{IsAlone}
 use Rattle.tb_correctness.proofs.Emits.{formed, branch_by, Emits, emits_append, emitted_size, ends, block, branches}
 use Rattle.tb_simulation.proofs.Numbers.{address_bytes, constant_bytes, faulted_bytes, next_same}
 use Rattle.tb_correctness.proofs.SingleBytes.{template_bytes}
-use Rattle.tb_correctness.proofs.ItemBytes.{AllEncode, IsWord, Rest, all_straight, behind_straight, brought_bytes, brought_straight, cut, cut_branch, gets_there, handed_emits, handed_straight, joined_straight, left_over_emits, lined_emits, lined_straight, no_more, rest_before, rest_behind, source_word, taken_bytes, template_straight, tested_word, value_of}
+use Rattle.tb_correctness.proofs.ItemBytes.{AllEncode, IsWord, Rest, all_straight, behind_straight, brought_bytes, brought_straight, cut, cut_branch}
+use Rattle.tb_correctness.proofs.ItemBytes.{gets_there, handed_emits, handed_straight, joined_straight, left_over_emits, lined_emits, lined_straight, no_more}
+use Rattle.tb_correctness.proofs.ItemBytes.{rest_before, rest_behind, source_word, taken_bytes, template_straight, tested_word, value_of}
 use Rattle.tb_correctness.proofs.TestBytes.{equal_emitted, unequal_emitted, compared_emitted}
 
 -- ---- groups
@@ -120,7 +124,8 @@ module _ (labels : List (Name × ℕ)) (ns : List ℕ) (seed n : ℕ) (seed_smal
 
     -- an instruction alone without branches
     plain_emitted : (at : ℕ) (c : slots.Instr) (fs : List Form) (t : Bool) → t ≡ false → Emits labels at fs (coded.plain_code ly n at c)
-        → (first second : Way) × Emits labels at fs (if t then coded.branching_code ly n at first second c else coded.plain_code ly n at c) × coded.OnlyIf t (coded.BranchingReaches ly first second at c)
+        → (first second : Way) × Emits labels at fs (if t then coded.branching_code ly n at first second c else coded.plain_code ly n at c)
+            × coded.OnlyIf t (coded.BranchingReaches ly first second at c)
     plain_emitted at c fs true e h = absurd (true≢false e)
     plain_emitted at c fs false e h = (Short, Short, h, tt)
 
@@ -132,7 +137,8 @@ module _ (labels : List (Name × ℕ)) (ns : List ℕ) (seed n : ℕ) (seed_smal
 
     -- a test whose branches go to any label
     module _ (to : ℕ) (goal skip : Target) (goal_there : address_in labels (label_of goal) ≡ Some to) (goal_top : to ≤ highest_code) where
-      tested_emitted : (r : Rel) (at : ℕ) (x : Tested) (b : Operand) (fs : List Form) → AreFormsOf (items.tested r (tested_source x) (source_of 0 b) skip goal) fs → Rest labels at fs → TestEmitted labels r at (tested_source x) (source_of 0 b) to fs
+      tested_emitted : (r : Rel) (at : ℕ) (x : Tested) (b : Operand) (fs : List Form)
+          → AreFormsOf (items.tested r (tested_source x) (source_of 0 b) skip goal) fs → Rest labels at fs → TestEmitted labels r at (tested_source x) (source_of 0 b) to fs
       tested_emitted rel.Eq at x b fs h r =
           let e = equal_emitted labels (tested_source x) (source_of 0 b) (tested_word x) (source_word 0 b) to (label_of goal) goal_there goal_top at fs h r in
           record { first = e.first; second = e.second; emits = e.emits; reach = e.reach }
@@ -159,7 +165,8 @@ module _ (labels : List (Name × ℕ)) (ns : List ℕ) (seed n : ℕ) (seed_smal
     -- a test that goes straight to a line, by whether there is one
     go_emitted : (i at : ℕ) (r : Rel) (x : Tested) (b : Operand) (to : ℕ) (has : Bool) → has_line ns to ≡ has → (fs : List Form)
         → AreFormsOf (items.gone n r (tested_source x) (source_of 0 b) (target.Inside inside.Skip n i) (next_line ns n) has to) fs → Rest labels at fs
-        → (first second : Way) × Emits labels at fs (coded.go_code ly n at first second r (tested_source x) (source_of 0 b) has to) × coded.GoReaches ly n at first second r (tested_source x) (source_of 0 b) has to
+        → (first second : Way) × Emits labels at fs (coded.go_code ly n at first second r (tested_source x) (source_of 0 b) has to)
+            × coded.GoReaches ly n at first second r (tested_source x) (source_of 0 b) has to
     go_emitted i at r x b to true has fs h rest =
         let e = tested_emitted (ly.start to) (target.Line to) (target.Inside inside.Skip n i) (lines_there to has) (starts_top to) (denied r) at x b fs h rest in
         (e.first, e.second, e.emits, e.reach)
@@ -169,7 +176,8 @@ module _ (labels : List (Name × ℕ)) (ns : List ℕ) (seed n : ℕ) (seed_smal
         let parts = subst (Rest labels at) s.are rest in
         let e = tested_emitted (next_at ly n) (next_line ns n) (target.Inside inside.Skip n i) there top r at x b s.front s.of_front (rest_before labels at s.front s.back parts) in
         let behind : s.back ≡ map kept (product.faulted n 1) = straight_forms (product.faulted n 1) s.back refl s.of_back in
-        (e.first, e.second, subst (λ k. Emits labels at k (coded.go_code ly n at e.first e.second r (tested_source x) (source_of 0 b) false to)) (sym (s.are ∙ ap (λ k. s.front ++ k) behind)) (emits_append labels e.emits fault_emits), e.reach)
+        (e.first, e.second, subst (λ k. Emits labels at k (coded.go_code ly n at e.first e.second r (tested_source x) (source_of 0 b) false to))
+            (sym (s.are ∙ ap (λ k. s.front ++ k) behind)) (emits_append labels e.emits fault_emits), e.reach)
 
     -- a test by a divisor whose branch goes to any label
     module _ (to : ℕ) (goal : Target) (goal_there : address_in labels (label_of goal) ≡ Some to) (goal_top : to ≤ highest_code) (x y : Source) (x_word : IsWord x) (y_word : IsWord y) where
@@ -187,7 +195,8 @@ module _ (labels : List (Name × ℕ)) (ns : List ℕ) (seed n : ℕ) (seed_smal
         emits : Emits labels at fs (coded.left_over n (mask y) x y ++ (Code (coded.branch_code first (coded.branch_on Zero wanted) (coded.divided_at n at x y) to) ∷ []))
         reach : BranchReaches first (coded.divided_at n at x y) to
 
-      leaving_emitted : (wanted : Bool) (at : ℕ) (fs : List Form) → AreFormsOf (left_items ++ (instr (leaving wanted) Relative (Label (label_of goal)) ∷ [])) fs → Rest labels at fs → Leaving wanted at fs
+      leaving_emitted : (wanted : Bool) (at : ℕ) (fs : List Form)
+          → AreFormsOf (left_items ++ (instr (leaving wanted) Relative (Label (label_of goal)) ∷ [])) fs → Rest labels at fs → Leaving wanted at fs
       leaving_emitted wanted at fs h r =
           let l = label_of goal in
           let c1 = cut left_items (instr (leaving wanted) Relative (Label l) ∷ []) fs (plain_straight left_items (left_over_plain n (mask y) x y)) h in
@@ -195,7 +204,8 @@ module _ (labels : List (Name × ℕ)) (ns : List ℕ) (seed n : ℕ) (seed_smal
           let is : fs ≡ map kept left_items ++ (formed b1.way (leaving wanted) l ∷ []) =
           c1.is ∙ ap (λ t. map kept left_items ++ t) (b1.is ∙ ap (λ t. formed b1.way (leaving wanted) l ∷ t) (no_more b1.rest b1.of)) in
           let e = left_emits at in
-          let r1 = rest_behind labels at (coded.divided_at n at x y) (map kept left_items) (formed b1.way (leaving wanted) l ∷ []) (ap (λ k. at + k) (emitted_size labels e)) (subst (Rest labels at) is r) in
+          let r1 = rest_behind labels at (coded.divided_at n at x y) (map kept left_items) (formed b1.way (leaving wanted) l ∷ [])
+              (ap (λ k. at + k) (emitted_size labels e)) (subst (Rest labels at) is r) in
           subst (Leaving wanted at) (sym is)
           (record {
             first = b1.way;
@@ -220,15 +230,18 @@ module _ (labels : List (Name × ℕ)) (ns : List ℕ) (seed n : ℕ) (seed_smal
         let parts = subst (Rest labels at) s.are rest in
         let e = divided_emitted (next_at ly n) (next_line ns n) there top x y xw yw how at s.front s.of_front (rest_before labels at s.front s.back parts) in
         let behind : s.back ≡ map kept (product.faulted n 1) = straight_forms (product.faulted n 1) s.back refl s.of_back in
-        (e.first, subst (λ k. Emits labels at k (coded.divided_go ly n at e.first how x y false to)) (sym (s.are ∙ ap (λ k. s.front ++ k) behind)) (emits_append labels e.emits fault_emits), e.reach)
+        (e.first, subst (λ k. Emits labels at k (coded.divided_go ly n at e.first how x y false to)) (sym (s.are ∙ ap (λ k. s.front ++ k) behind))
+            (emits_append labels e.emits fault_emits), e.reach)
 
-    divides_emitted : (at : ℕ) (how : Divisibility) (x y : Source) → IsWord x → IsWord y → (to : Option ℕ) (fs : List Form) → AreFormsOf (items.divides ns n how x y to) fs → Rest labels at fs
+    divides_emitted : (at : ℕ) (how : Divisibility) (x y : Source) → IsWord x → IsWord y → (to : Option ℕ) (fs : List Form)
+        → AreFormsOf (items.divides ns n how x y to) fs → Rest labels at fs
         → (first : Way) × Emits labels at fs (coded.divides_code ly n at first how x y to) × coded.DividesReach ly n at first x y to
     divides_emitted at how x y xw yw None fs h r = let e = divided_emitted (next_at ly n) (next_line ns n) there top x y xw yw how at fs h r in (e.first, e.emits, e.reach)
     divides_emitted at how x y xw yw (Some to) fs h r = divided_gone at how x y xw yw to (has_line ns to) refl fs h r
 
     -- the search in the line table for a word, and what is behind it
-    searched_emits : {at : ℕ} {fs : List Form} {ps : List Piece} (x : Source) → IsWord x → Emits labels (at + 10 + resolved.size (coded.brought x WANTED) + 3) fs ps → Emits labels at (map kept (items.searched n x) ++ fs) (coded.searched ly n x ps)
+    searched_emits : {at : ℕ} {fs : List Form} {ps : List Piece} (x : Source) → IsWord x
+        → Emits labels (at + 10 + resolved.size (coded.brought x WANTED) + 3) fs ps → Emits labels at (map kept (items.searched n x) ++ fs) (coded.searched ly n x ps)
     unfolding opcodes.encoded
     searched_emits x w e =
         block labels (product.constant n LINE) (resolved.constant n LINE) (line_set.same 0)
@@ -242,11 +255,13 @@ module _ (labels : List (Name × ℕ)) (ns : List ℕ) (seed n : ℕ) (seed_smal
 
     used_emits : {at : ℕ} (how : Usage) (x : Source) → IsWord x → Emits labels at (map kept (items.used n (next_line ns n) how x)) (coded.use_code ly n how x)
     unfolding opcodes.encoded
-    used_emits AsNumber x w = block labels (items.brought x LEFT) (coded.brought x LEFT) ((brought_bytes labels x LEFT w).same _) (block labels (product.call NUMBER_AT ∷ []) (resolved.call NUMBER_AT) refl (ends labels))
+    used_emits AsNumber x w = block labels (items.brought x LEFT) (coded.brought x LEFT) ((brought_bytes labels x LEFT w).same _)
+        (block labels (product.call NUMBER_AT ∷ []) (resolved.call NUMBER_AT) refl (ends labels))
     used_emits AsLine x w = searched_emits x w (block labels product.jump_through resolved.jump_through refl (ends labels))
     used_emits AsSubroutine x w =
         searched_emits x w
-        (block labels (product.address (next_line ns n) LEFT) (resolved.pointed (next_at ly n) LEFT) (address_bytes labels ns seed 0 (next_line ns n) (next_at ly n) LEFT (next_same labels ns seed n) next_small (omega arith))
+        (block labels (product.address (next_line ns n) LEFT) (resolved.pointed (next_at ly n) LEFT) (address_bytes labels ns seed 0 (next_line ns n)
+            (next_at ly n) LEFT (next_same labels ns seed n) next_small (omega arith))
         (block labels (product.call PUSH_AT ∷ []) (resolved.call PUSH_AT) refl (block labels product.jump_through resolved.jump_through refl (ends labels))))
 
     converted_straight : (what : Conversion) (x : Source) (to : ℕ) → list_all is_straight (items.converted n seed what x to) ≡ true
@@ -256,10 +271,12 @@ module _ (labels : List (Name × ℕ)) (ns : List ℕ) (seed n : ℕ) (seed_smal
     converted_emits : (at : ℕ) (what : Conversion) (x : Source) (to : ℕ) → IsWord x → Emits labels at (map kept (items.converted n seed what x to)) (coded.convert_code ly n what x to)
     converted_emits at Negated x to w = block labels (items.taken (FixedWord 0) x to) (coded.taken (FixedWord 0) x to) ((taken_bytes labels (FixedWord 0) x to (omega arith) w).same _) (ends labels)
     converted_emits at Drawn x to w =
-        lined_emits labels at (items.may_have_none x) n n_small (items.handed RANDOM_AT RESULT x (FixedWord seed) to) (coded.routine RANDOM_AT RESULT x (FixedWord seed) to) (λ b. handed_emits labels {at = b} RANDOM_AT RESULT x (FixedWord seed) to w seed_small)
+        lined_emits labels at (items.may_have_none x) n n_small (items.handed RANDOM_AT RESULT x (FixedWord seed) to)
+            (coded.routine RANDOM_AT RESULT x (FixedWord seed) to) (λ b. handed_emits labels {at = b} RANDOM_AT RESULT x (FixedWord seed) to w seed_small)
 
     -- the forms of each group without branches of a single instruction emit it
-    pub group_emitted : (i at : ℕ) (g : Group) (fs : List Form) → coded.is_branching g ≡ false → IsAlone g → AreInRange 256 (expand g) → AreFormsOf (items.group_template ns seed n i g) fs → Rest labels at fs
+    pub group_emitted : (i at : ℕ) (g : Group) (fs : List Form) → coded.is_branching g ≡ false → IsAlone g → AreInRange 256 (expand g)
+        → AreFormsOf (items.group_template ns seed n i g) fs → Rest labels at fs
         → GroupEmitted labels ly n at g fs
     group_emitted i at (Calculate o a b d) fs plain q range h r = absurd (true≢false plain)
     group_emitted i at (Stepped o a b by w x) fs plain q range h r = absurd (true≢false plain)
@@ -267,7 +284,8 @@ module _ (labels : List (Name × ℕ)) (ns : List ℕ) (seed n : ℕ) (seed_smal
     group_emitted i at (Move a home) fs plain q range h r =
         let x = source_of 0 a in let to = home_at home in
         straight_emitted at (Move a home) (items.brought x to) fs (brought_straight x to) h r
-        (λ s. record { first = Short; second = Short; emits = block labels (items.brought x to) (coded.brought x to) ((brought_bytes labels x to (source_word 0 a)).same at) (ends labels); reach = tt })
+        (λ s. record { first = Short; second = Short; emits = block labels (items.brought x to) (coded.brought x to)
+            ((brought_bytes labels x to (source_word 0 a)).same at) (ends labels); reach = tt })
     group_emitted i at (Convert what a d) fs plain q range h r =
         let x = source_of (slot_of d) a in let to = destination_at d in
         straight_emitted at (Convert what a d) (items.converted n seed what x to) fs (converted_straight what x to) h r
@@ -303,7 +321,8 @@ module _ (labels : List (Name × ℕ)) (ns : List ℕ) (seed n : ℕ) (seed_smal
   unfolding opcodes.encoded
   stop_asked_bytes = record { same = λ a. refl }
 
-  pub poll_emitted : (at stop : ℕ) (l : Name) (fs : List Form) → address_in labels l ≡ Some stop → stop ≤ highest_code → AreFormsOf (stop_asked ++ (instr Beq Relative (Label l) ∷ [])) fs → Rest labels at fs → PollEmitted at stop fs
+  pub poll_emitted : (at stop : ℕ) (l : Name) (fs : List Form) → address_in labels l ≡ Some stop → stop ≤ highest_code
+      → AreFormsOf (stop_asked ++ (instr Beq Relative (Label l) ∷ [])) fs → Rest labels at fs → PollEmitted at stop fs
   poll_emitted at stop l fs there top h r =
       let c1 = cut stop_asked (instr Beq Relative (Label l) ∷ []) fs refl h in
       let b1 = cut_branch Beq l [] c1.rest c1.of in
@@ -313,6 +332,7 @@ module _ (labels : List (Name × ℕ)) (ns : List ℕ) (seed n : ℕ) (seed_smal
       subst (PollEmitted at stop) (sym is)
       (record {
         way = b1.way;
-        emits = block labels stop_asked (ins 0xC9 3 ∷ []) (stop_asked_bytes.same at) (branches labels b1.way Zero true l (let q = r1.below in omega (arith, q)) (value_of labels l stop there) (ends labels));
+        emits = block labels stop_asked (ins 0xC9 3 ∷ []) (stop_asked_bytes.same at) (branches labels b1.way Zero true l (let q = r1.below in
+            omega (arith, q)) (value_of labels l stop there) (ends labels));
         reach = gets_there labels (at + 2) stop b1.way Beq l _ there top r1;
       })

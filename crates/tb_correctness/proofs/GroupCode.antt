@@ -1,5 +1,6 @@
 -- The code of groups as instructions at their places.
-use Rattle.std.specs.Prelude.{◌≡◌, ℕ, zero, suc, ◌+◌, ◌/◌, ◌%◌, ◌≤◌, ◌<◌, List, [], ◌∷◌, ◌++◌, length, Bool, true, false, not, if◌then◌else◌, bit_xor, nat_eq, nat_lt, Option, Some, None}
+use Rattle.std.specs.Prelude.{◌≡◌, ℕ, zero, suc, ◌+◌, ◌/◌, ◌%◌, ◌≤◌, ◌<◌, List, [], ◌∷◌, ◌++◌, length, Bool, true}
+use Rattle.std.specs.Prelude.{false, not, if◌then◌else◌, bit_xor, nat_eq, nat_lt, Option, Some, None}
 use Rattle.tb_asm.specs.Layout.{distance, is_near}
 use Rattle.tb_syntax.specs.Source.{numbers}
 use Rattle.tb_reaching.specs.View.{Part}
@@ -30,7 +31,9 @@ use Rattle.tb_templates.specs.Templates.{var_at}
 use Rattle.tb_templates.specs.Sources.{source_of, tested_source, home_at, destination_at}
 use Rattle.tb_simulation.specs.Layout.{Layout, next_at, place_at}
 use Rattle.tb_simulation.proofs.Resolved.{Piece, Code, Lies, pieces_size, size, sta_at, copied, constant, pointed, call, faulting, jump, jump_through, template, highest_code, find_code, past_code}
-use Rattle.tb_selection.specs.Groups.{Conversion, Negated, Drawn, Usage, AsNumber, AsLine, AsSubroutine, Constant, Variable, Divisibility, Divisible, Indivisible, Group, Calculate, Stepped, Convert, Move, Use, Test, TestGo, Divides, Remains, Single, contrary, denied, slot_of, expand_all}
+use Rattle.tb_selection.specs.Groups.{Conversion, Negated, Drawn, Usage, AsNumber, AsLine, AsSubroutine, Constant, Variable, Divisibility, Divisible}
+use Rattle.tb_selection.specs.Groups.{Indivisible, Group, Calculate, Stepped, Convert, Move, Use, Test, TestGo, Divides, Remains, Single, contrary, denied}
+use Rattle.tb_selection.specs.Groups.{slot_of, expand_all}
 use Rattle.tb_selection.specs.Select.{select}
 use Rattle.tb_correctness.proofs.Sources.{Byte, Fixed, At, lda, adc, sbc, cmp}
 
@@ -592,7 +595,8 @@ Behind g claim = OnlyIf (not (leaves g)) claim
 abbrev pub GroupsLie : Layout → Part → (n at : ℕ) → List Group → Type 0
 GroupsLie ly code n at [] = at ≡ next_at ly n
 GroupsLie ly code n at (g ∷ gs) =
-    (first second : Way) × AreInRange 256 (expand_all (g ∷ gs)) × Lies code at (group_code ly n at first second g) × Behind g (GroupsLie ly code n (at + pieces_size (group_code ly n at first second g)) gs) × BranchesReach ly n at first second g × (0x0800 ≤ at)
+    (first second : Way) × AreInRange 256 (expand_all (g ∷ gs)) × Lies code at (group_code ly n at first second g)
+        × Behind g (GroupsLie ly code n (at + pieces_size (group_code ly n at first second g)) gs) × BranchesReach ly n at first second g × (0x0800 ≤ at)
 
 -- ---- lines
 -- behind the call of GETIN, at an address: the STOP key leads elsewhere
@@ -606,7 +610,8 @@ broken_code n = Code (faulting n 0) ∷ []
 -- a line whose list begins with a poll; its first instruction is among all the program's bytes only
 abbrev pub LineStands : Layout → (code whole : Part) (n at : ℕ) → List slots.Instr → Type 0
 LineStands ly code whole n at is =
-    (way : Way) × (stop : ℕ) × (at + 3 ≤ highest_code) × Stands whole at (call 0xFFE4) × Lies code (at + 3) (poll_code (at + 3) way stop) × BranchReaches way (at + 5) stop × Lies code stop (broken_code n) × GroupsLie ly code n (at + 5 + way_size way) (select is)
+    (way : Way) × (stop : ℕ) × (at + 3 ≤ highest_code) × Stands whole at (call 0xFFE4) × Lies code (at + 3) (poll_code (at + 3) way stop)
+        × BranchReaches way (at + 5) stop × Lies code stop (broken_code n) × GroupsLie ly code n (at + 5 + way_size way) (select is)
 
 -- a list that begins with a poll, the rest of which stands behind it
 pub record PolledLine (ly : Layout) (code whole : Part) (n : ℕ) (js : List slots.Instr) : Type 0 where

@@ -1,5 +1,6 @@
 -- What holds while the code of a group runs, and behind it; and that an instruction alone is one step.
-use Rattle.std.proofs.Common.{◌≡◌, ℕ, ◌+◌, ◌/◌, ◌%◌, ◌≤◌, ◌<◌, Bool, true, false, List, [], ◌∷◌, length, refl, sym, ap, ◌∙◌, subst, arith, append-nil, not, ◌≢◌}
+use Rattle.std.proofs.Common.{◌≡◌, ℕ, ◌+◌, ◌/◌, ◌%◌, ◌≤◌, ◌<◌, Bool, true, false, List, [], ◌∷◌, length, refl, sym, ap}
+use Rattle.std.proofs.Common.{◌∙◌, subst, arith, append-nil, not, ◌≢◌}
 use Rattle.tb_meaning.specs.Control.{State, column_after}
 use Rattle.tb_lower.specs.Slots.{Instr, Rest, Whole, Left, Slots, SlotCode, SlotState, slot_step, with_word}
 use Rattle.tb_meaning.specs.Steps.{Step, Goes, Stops, and_then}
@@ -59,11 +60,13 @@ module _ (around : Surroundings) where
     homed = homed_kept m m' (e HOME_S (low_is_state HOME_S (omega arith) (omega arith))) c.homed;
   }
 
-  pub kept_put : (u : Live) (s : State) (r : Slots) (m : ℕ → ℕ) (p l h : ℕ) → u.slots ≤ 16 → is_state p ≡ false → is_state (p + 1) ≡ false → Kept u s r m → Kept u s r (put_word m p l h)
+  pub kept_put : (u : Live) (s : State) (r : Slots) (m : ℕ → ℕ) (p l h : ℕ) → u.slots ≤ 16 → is_state p ≡ false → is_state (p + 1) ≡ false
+      → Kept u s r m → Kept u s r (put_word m p l h)
   kept_put u s r m p l h few k k' c = kept_scratch u s r m (put_word m p l h) few (scratch_put m p l h k k') c
 
   -- bytes were sent
-  pub kept_told : (u : Live) (s : State) (r : Slots) (m : ℕ → ℕ) (t : List ℕ) (m' : ℕ → ℕ) → u.slots ≤ 16 → Sent is_scratch m t m' → Kept u s r m → Kept u (record s { column = column_after s.column t }) r m'
+  pub kept_told : (u : Live) (s : State) (r : Slots) (m : ℕ → ℕ) (t : List ℕ) (m' : ℕ → ℕ) → u.slots ≤ 16 → Sent is_scratch m t m' → Kept u s r m
+      → Kept u (record s { column = column_after s.column t }) r m'
   kept_told u s r m t m' few g c =
       let others : (p : ℕ) → is_state p ≡ true → p ≢ COLUMN → m' p ≡ m p = λ p o q. g.others p (ap not o) q in
       record {
@@ -73,7 +76,9 @@ module _ (around : Surroundings) where
       }
 
   -- where it has left the line
-  pub arrived : (s : State) (r : Slots) (at : ℕ) (m : ℕ → ℕ) (t answers : List ℕ) → at ≡ place_at ly s.place → HoldsState ly s m → length r.words ≡ 16 → Entered f lo hi m → t ≡ s.text → answers ≡ s.answers → Typable keys s.text s.answers → (w : View) → Here at (lo ∷ hi ∷ []) m t answers w → Matches around (record { state = s; rest = Whole; slots = r }) w
+  pub arrived : (s : State) (r : Slots) (at : ℕ) (m : ℕ → ℕ) (t answers : List ℕ) → at ≡ place_at ly s.place → HoldsState ly s m → length r.words ≡ 16
+      → Entered f lo hi m → t ≡ s.text → answers ≡ s.answers → Typable keys s.text s.answers → (w : View) → Here at (lo ∷ hi ∷ []) m t answers w
+      → Matches around (record { state = s; rest = Whole; slots = r }) w
   arrived s r at m t answers there hs all en text got short w e = record {
     pc = e.pc ∙ there;
     stack = e.stack;
@@ -88,7 +93,10 @@ module _ (around : Surroundings) where
 
   module _ (code : SlotCode) where
     -- a word was written to where it goes, over a memory that still held all
-    pub word_lands : (n : ℕ) → n < 65536 → (u : Live) (d : Destination) (is : List Instr) (s : State) (r q : Slots) (v l h at : ℕ) (m : ℕ → ℕ) (t answers : List ℕ) → l ≡ v % 256 → h ≡ v / 256 → v < 65536 → DestFits d → Lasting u d is r q → GroupsLie ly f.code n at (select is) → Kept u s r m → t ≡ s.text → answers ≡ s.answers → Typable keys s.text s.answers → (w : View) → Here at (lo ∷ hi ∷ []) (put_word m (destination_at d) l h) t answers w → Matches around (line code n is (landed d v s) (slots_landed d v (with_word q (slot_of d) v))) w
+    pub word_lands : (n : ℕ) → n < 65536 → (u : Live) (d : Destination) (is : List Instr) (s : State) (r q : Slots) (v l h at : ℕ) (m : ℕ → ℕ)
+        (t answers : List ℕ) → l ≡ v % 256 → h ≡ v / 256 → v < 65536 → DestFits d → Lasting u d is r q → GroupsLie ly f.code n at (select is)
+        → Kept u s r m → t ≡ s.text → answers ≡ s.answers → Typable keys s.text s.answers → (w : View)
+        → Here at (lo ∷ hi ∷ []) (put_word m (destination_at d) l h) t answers w → Matches around (line code n is (landed d v s) (slots_landed d v (with_word q (slot_of d) v))) w
     word_lands n number u d is s r q v l h at m t answers el eh small fit last rl c text got short w e =
         let m' = put_word m (destination_at d) l h in
         let there : WordAt m' (destination_at d) v = word_put m (destination_at d) l h v el eh small in
@@ -100,7 +108,8 @@ module _ (around : Surroundings) where
         (read_landed u d is r q m m' v fit last c.read there away)
         (homed_kept m m' (home_kept d fit m m' away) c.homed)
         (text ∙ sym same) (got ∙ sym left)
-        (record { short = subst (λ t. length t ≤ keys) (sym same) short.short; text_bytes = subst AreBytes (sym same) short.text_bytes; answer_bytes = subst AreBytes (sym left) short.answer_bytes })
+        (record { short = subst (λ t. length t ≤ keys) (sym same) short.short; text_bytes = subst AreBytes (sym same) short.text_bytes; answer_bytes =
+            subst AreBytes (sym left) short.answer_bytes })
         w e
 
 -- from the beginning of a group
@@ -167,9 +176,11 @@ module _ {around : Surroundings} (fits : Fits around.f 16) {n : ℕ} {g : Group}
   open around use {f, lo, hi}
 
   -- the line's number is set first
-  pub lines : w.regs.pc + 10 ≤ highest_code → Stands f.code w.regs.pc (constant n LINE) → (q : View → Type 0) (t : List ℕ) (k : ℕ) → Moves f (Here (w.regs.pc + 10) (lo ∷ hi ∷ []) (lined h) w.text w.answers) q t k → Comes f w q t (4 + k)
+  pub lines : w.regs.pc + 10 ≤ highest_code → Stands f.code w.regs.pc (constant n LINE) → (q : View → Type 0) (t : List ℕ) (k : ℕ)
+      → Moves f (Here (w.regs.pc + 10) (lo ∷ hi ∷ []) (lined h) w.text w.answers) q t k → Comes f w q t (4 + k)
   lines room lies q t k next = chained f w _ q [] t 4 k (sets f 16 fits w.regs.pc (lo ∷ hi ∷ []) w.mem w.text w.answers refl n LINE room (refl, refl) lies w (here h)) next
 
-  pub lines_by : (t : Bool) (ps : List Piece) → Lies f.code w.regs.pc (lined_code t n ps) → (q : View → Type 0) (l : List ℕ) (k : ℕ) → Moves f (Here (behind_line h t) (lo ∷ hi ∷ []) (lined_by h t) w.text w.answers) q l k → Comes f w q l (4 + k)
+  pub lines_by : (t : Bool) (ps : List Piece) → Lies f.code w.regs.pc (lined_code t n ps) → (q : View → Type 0) (l : List ℕ) (k : ℕ)
+      → Moves f (Here (behind_line h t) (lo ∷ hi ∷ []) (lined_by h t) w.text w.answers) q l k → Comes f w q l (4 + k)
   lines_by true ps lies q l k next = lines lies.0 lies.1 q l k next
   lines_by false ps lies q l k next = looser f w q q l k (4 + k) (omega arith) (λ u x. x) (next w (here h))

@@ -23,7 +23,8 @@ module _ (code : Part) where
       omega (arith, low, high, small, small')
 
   -- a short branch leads where its distance does, and a long one where its jump does
-  same_stop : (at a b : ℕ) (way other : Way) → at + 2 ≤ highest_code → Stands code at (branch_code way (branch_on Zero true) at a) → Stands code at (branch_code other (branch_on Zero true) at b) → BranchReaches way at a → BranchReaches other at b → a ≡ b
+  same_stop : (at a b : ℕ) (way other : Way) → at + 2 ≤ highest_code → Stands code at (branch_code way (branch_on Zero true) at a)
+      → Stands code at (branch_code other (branch_on Zero true) at b) → BranchReaches way at a → BranchReaches other at b → a ≡ b
   same_stop at a b Short Short below h k r q =
       let d = same_byte _ (distance at a % 256) (distance at b % 256) h.0.1.0 k.0.1.0 in
       sym (gets_there at a below r.1 r.0) ∙ ap (added at) d ∙ gets_there at b below q.1 q.0
@@ -66,7 +67,8 @@ module _ (ly : Layout) (whole : Part) (sc : SlotCode) (laid : GroupsLaid ly (inn
       let branch : ly.start m + 3 + 2 ≡ at = omega arith in
       let mine = subst (λ p. Stands within p (branch_code there.0 (branch_on Zero true) p there.1)) branch there.4.2.1 in
       let other = subst (λ p. Stands within p (branch_code k.stands.0 (branch_on Zero true) p k.stands.1)) branch k.stands.4.2.1 in
-      let stop : there.1 ≡ k.stands.1 = same_stop within at there.1 k.stands.1 there.0 k.stands.0 (let b = there.4.2.0 in let z = branch_size there.0 Zero true (ly.start m + 3 + 2) there.1 in let w = some_bytes there.0 in omega (arith, b, z, w)) mine other there.5 k.stands.5 in
+      let stop : there.1 ≡ k.stands.1 = same_stop within at there.1 k.stands.1 there.0 k.stands.0 (let b = there.4.2.0 in
+          let z = branch_size there.0 Zero true (ly.start m + 3 + 2) there.1 in let w = some_bytes there.0 in omega (arith, b, z, w)) mine other there.5 k.stands.5 in
       same_number within k.stands.1 n m l.small k.small (subst (λ p. Lies within p (broken_code n)) stop there.6) k.stands.6
 
   pub lines_apart : AreApart ly sc

@@ -19,7 +19,8 @@ module _ (code : SlotCode) where
     none_goes : (n : ℕ) → s.place ≡ At n → content_at code n ≡ None → ⊥
     none_goes n here none =
         let stops : first_group code whole ≡ Stops Faulted (fault_text 7 (highest (numbers code))) =
-        ap (λ p. first code (select (ahead code Whole p)) whole) here ∙ ap (λ o. first code (select (or_empty o)) whole) none ∙ ap (λ p. instr_at code Whole p s r) here ∙ ap (λ o. instr_found (numbers code) n o s r) none in
+        ap (λ p. first code (select (ahead code Whole p)) whole) here ∙ ap (λ o. first code (select (or_empty o)) whole) none
+            ∙ ap (λ p. instr_at code Whole p s r) here ∙ ap (λ o. instr_found (numbers code) n o s r) none in
         let no : Stops Faulted (fault_text 7 (highest (numbers code))) ≡ Goes d t = sym (ap (λ x. and_then x (λ c. fallen code c.rest c)) stops) ∙ e in
         cc
 
@@ -31,7 +32,8 @@ module _ (code : SlotCode) where
         by (Some is) q = refl
         by None q = absurd (none_goes n here q)
 
-  goes_begins : (q : Rest) (s : State) (r : Slots) (d : SlotState) (t : List ℕ) → group_step code (record { state = s; rest = q; slots = r }) ≡ Goes d t → begins q s.place ≡ lines_at code q s.place
+  goes_begins : (q : Rest) (s : State) (r : Slots) (d : SlotState) (t : List ℕ) → group_step code (record { state = s; rest = q; slots = r })
+      ≡ Goes d t → begins q s.place ≡ lines_at code q s.place
   goes_begins (Left n is) s r d t e = refl
   goes_begins Whole s r d t e = whole_begins s r d t e s.place refl
 

@@ -29,7 +29,9 @@ use Rattle.tb_correctness.proofs.Matching.{StandsAt}
 use Rattle.tb_meaning.specs.Meaning.{start}
 use Rattle.tb_correctness.proofs.Surroundings.{Serves, Surroundings}
 
-module _ (place : ℕ) (bytes : List ℕ) (from : 0x0800 ≤ place) (to : place + length bytes ≤ 0xa000) (ly : Layout) (program : Program) (sc : SlotCode) (follows : Follows program sc) (closed : AreClosed sc) (first_at : place_at ly (first_place (numbers sc)) ≡ LINES_AT) (laid : GroupsLaid ly (inner ly (part_at place bytes)) (part_at place bytes) sc) where
+module _ (place : ℕ) (bytes : List ℕ) (from : 0x0800 ≤ place) (to : place + length bytes ≤ 0xa000) (ly : Layout) (program : Program) (sc : SlotCode)
+    (follows : Follows program sc) (closed : AreClosed sc) (first_at : place_at ly (first_place (numbers sc)) ≡ LINES_AT)
+    (laid : GroupsLaid ly (inner ly (part_at place bytes)) (part_at place bytes) sc) where
   -- what stands round the code, at each start
   abbrev pub around : machine.State → Surroundings
   around s = record { ly = ly; f = setup place bytes from to ly s; lo = home_low s; hi = home_high s; keys = length s.text }
@@ -46,7 +48,8 @@ module _ (place : ℕ) (bytes : List ℕ) (from : 0x0800 ≤ place) (to : place 
   Related s = Between (around s)
 
   pub known : (s : machine.State) (c : SlotState) (w : View) → Related s c w → c.rest ≡ Whole → Known ly c.state w
-  known s c w m e = record { pc = subst (λ q. StandsAt ly (setup place bytes from to ly s).code w.regs.pc q c.state.place) e m.0.pc; vars = m.0.state.vars; count = m.0.state.count; noted = m.0.state.notes; few = m.0.state.few }
+  known s c w m e = record { pc = subst (λ q. StandsAt ly (setup place bytes from to ly s).code w.regs.pc q c.state.place) e m.0.pc;
+      vars = m.0.state.vars; count = m.0.state.count; noted = m.0.state.notes; few = m.0.state.few }
 
   module _ (limit : ℕ → ℕ) (wide : (k : ℕ) → 200 ≤ limit k) (n : ℕ) (routines : RoutineLaws limit) (prologue : PrologueLaw n) where
     pub opening : OpeningLaw place bytes from to ly Related sc n
@@ -70,4 +73,5 @@ module _ (place : ℕ) (bytes : List ℕ) (from : 0x0800 ≤ place) (to : place 
     keeps = headline place bytes from to ly program sc follows (group_step sc) (group_stride sc) Related (λ k. 34 + (limit k + limit k)) positive n opening laws
 
     abbrev pub marks : MarksLines place bytes program ly.seed ly.start
-    marks = all_marks place bytes from to ly program sc follows (lines_apart ly (part_at place bytes) sc laid) (group_step sc) (group_stride sc) Related known (λ k. 34 + (limit k + limit k)) positive n opening laws
+    marks = all_marks place bytes from to ly program sc follows (lines_apart ly (part_at place bytes) sc laid) (group_step sc)
+        (group_stride sc) Related known (λ k. 34 + (limit k + limit k)) positive n opening laws

@@ -74,7 +74,8 @@ below_six P a b c d e f (suc (suc (suc (suc (suc zero))))) h = f
 below_six P a b c d e f (suc (suc (suc (suc (suc (suc k)))))) h = absurd (omega (arith, h))
 
 floor_is : (k x : ℕ) → k < 6 → x < 32768 → floor (suc k) x ≡ word (x / 2 ^ (k + 1))
-floor_is k x h lt = below_six (λ k. floor (suc k) x ≡ word (x / 2 ^ (k + 1))) (omega (arith, lt)) (omega (arith, lt)) (omega (arith, lt)) (omega (arith, lt)) (omega (arith, lt)) (omega (arith, lt)) k h
+floor_is k x h lt = below_six (λ k. floor (suc k) x ≡ word (x / 2 ^ (k + 1))) (omega (arith, lt)) (omega (arith, lt)) (omega (arith, lt))
+    (omega (arith, lt)) (omega (arith, lt)) (omega (arith, lt)) k h
 
 sunk_is : (k x : ℕ) → k < 6 → 32768 ≤ x → x + (2 ^ (k + 1) - 1) < 65536 → sunk (suc k) (x + (2 ^ (k + 1) - 1)) ≡ negated (word ((65536 - x) / 2 ^ (k + 1)))
 sunk_is k x h lo lt =
@@ -82,7 +83,8 @@ sunk_is k x h lo lt =
     (λ lt. omega (arith, lo, lt)) (λ lt. omega (arith, lo, lt)) (λ lt. omega (arith, lo, lt)) (λ lt. omega (arith, lo, lt)) (λ lt. omega (arith, lo, lt)) (λ lt. omega (arith, lo, lt)) k h lt
 
 -- what is raised to 0 and above has the quotient 0
-none_is : (k x : ℕ) → k < 6 → x < 65536 → 65536 ≤ x + (2 ^ (k + 1) - 1) → (word (x + (2 ^ (k + 1) - 1)) < 32768) × (floor (suc k) (word (x + (2 ^ (k + 1) - 1))) ≡ negated (word ((65536 - x) / 2 ^ (k + 1))))
+none_is : (k x : ℕ) → k < 6 → x < 65536 → 65536 ≤ x + (2 ^ (k + 1) - 1) → (word (x + (2 ^ (k + 1) - 1)) < 32768)
+    × (floor (suc k) (word (x + (2 ^ (k + 1) - 1))) ≡ negated (word ((65536 - x) / 2 ^ (k + 1))))
 none_is k x h lt le =
     below_six (λ k. 65536 ≤ x + (2 ^ (k + 1) - 1) → (word (x + (2 ^ (k + 1) - 1)) < 32768) × (floor (suc k) (word (x + (2 ^ (k + 1) - 1))) ≡ negated (word ((65536 - x) / 2 ^ (k + 1)))))
     (λ le. (omega (arith, lt, le), omega (arith, lt, le))) (λ le. (omega (arith, lt, le), omega (arith, lt, le))) (λ le. (omega (arith, lt, le), omega (arith, lt, le)))
@@ -90,7 +92,8 @@ none_is k x h lt le =
 
 -- a power of two is some and few
 pub power_size : (k : ℕ) → k < 6 → (1 ≤ 2 ^ (k + 1)) × (2 ^ (k + 1) < 65)
-power_size k h = below_six (λ k. (1 ≤ 2 ^ (k + 1)) × (2 ^ (k + 1) < 65)) (omega arith, omega arith) (omega arith, omega arith) (omega arith, omega arith) (omega arith, omega arith) (omega arith, omega arith) (omega arith, omega arith) k h
+power_size k h = below_six (λ k. (1 ≤ 2 ^ (k + 1)) × (2 ^ (k + 1) < 65)) (omega arith, omega arith) (omega arith, omega arith) (omega arith,
+    omega arith) (omega arith, omega arith) (omega arith, omega arith) (omega arith, omega arith) k h
 
 -- a quotient with a divisor that is not negative
 quotient_by : (x d : ℕ) → d < 32768 → (t : Bool) → is_negative x ≡ t → quotient x d ≡ with_sign t ((if t then 65536 - x else x) / d)

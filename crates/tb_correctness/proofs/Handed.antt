@@ -67,7 +67,9 @@ module _ {around : Surroundings} (fits : Fits around.f 16) {n : ℕ} {g : Group}
     pub kept : Kept around (live js) s r m'
 
   -- its two words, its call and what is behind it
-  module _ (entry at : ℕ) (a b : Source) (tail : List Piece) (m : ℕ → ℕ) (c : Kept around (live js) s r m) (lies : Lies f.code at (Code (brought a LEFT) ∷ Code (brought b RIGHT) ∷ Code (call entry) ∷ tail)) (x y : ℕ) (ga : Grounded a LEFT) (gb : Grounded b RIGHT) (ha : SourceHolds m a x) (hb : (m' : ℕ → ℕ) → Kept around (live js) s r m' → SourceHolds m' b y) where
+  module _ (entry at : ℕ) (a b : Source) (tail : List Piece) (m : ℕ → ℕ) (c : Kept around (live js) s r m)
+      (lies : Lies f.code at (Code (brought a LEFT) ∷ Code (brought b RIGHT) ∷ Code (call entry) ∷ tail)) (x y : ℕ) (ga : Grounded a LEFT)
+      (gb : Grounded b RIGHT) (ha : SourceHolds m a x) (hb : (m' : ℕ → ℕ) → Kept around (live js) s r m' → SourceHolds m' b y) where
     -- memory with the left word, then with the right one
     abbrev one : ℕ → ℕ
     one = put_word m LEFT (value m (low a)) (value m (high a))
@@ -96,7 +98,9 @@ module _ {around : Surroundings} (fits : Fits around.f 16) {n : ℕ} {g : Group}
     call_at = second_at + size (brought b RIGHT)
 
     -- up to the call
-    pub asks_by : (q : View → Type 0) (t : List ℕ) (k : ℕ) → ((m' : ℕ → ℕ) → Handed m x y m' → Moves f (Here entry ((call_at + 2) % 256 ∷ (call_at + 2) / 256 ∷ own) m' w.text w.answers) q t k) → Moves f (Here at own m w.text w.answers) q t (9 + k)
+    pub asks_by : (q : View → Type 0) (t : List ℕ) (k : ℕ)
+        → ((m' : ℕ → ℕ) → Handed m x y m' → Moves f (Here entry ((call_at + 2) % 256 ∷ (call_at + 2) / 256 ∷ own) m' w.text w.answers) q t k)
+        → Moves f (Here at own m w.text w.answers) q t (9 + k)
     asks_by q t k next u e =
         looser f u q q t (4 + (4 + (1 + k))) (9 + k) (omega arith) (λ v z. z)
         (chained f u _ q [] t 4 (4 + (1 + k)) (brings f 16 fits at own m w.text w.answers refl a LEFT lies.0 ga (refl, refl) lies.1 u e) (λ u e.
@@ -107,14 +111,18 @@ module _ {around : Surroundings} (fits : Fits around.f 16) {n : ℕ} {g : Group}
     comes_back = behind_call call_at lies.2.2.0
 
   -- the same with its result taken to where it goes
-  module _ (entry from at : ℕ) (a b : Source) (d : Destination) (m : ℕ → ℕ) (c : Kept around (live js) s r m) (lies : Lies f.code at (routine entry from a b (destination_at d))) (x y : ℕ) (ga : Grounded a LEFT) (gb : Grounded b RIGHT) (ha : SourceHolds m a x) (hb : (m' : ℕ → ℕ) → Kept around (live js) s r m' → SourceHolds m' b y) where
+  module _ (entry from at : ℕ) (a b : Source) (d : Destination) (m : ℕ → ℕ) (c : Kept around (live js) s r m)
+      (lies : Lies f.code at (routine entry from a b (destination_at d))) (x y : ℕ) (ga : Grounded a LEFT) (gb : Grounded b RIGHT)
+      (ha : SourceHolds m a x) (hb : (m' : ℕ → ℕ) → Kept around (live js) s r m' → SourceHolds m' b y) where
     abbrev taken : List Piece
     taken = Code (copied from (destination_at d)) ∷ []
 
     abbrev place : ℕ
     place = at + size (brought a LEFT) + size (brought b RIGHT)
 
-    pub asks : (q : View → Type 0) (t : List ℕ) (k : ℕ) → ((m' : ℕ → ℕ) → Handed m x y m' → Moves f (Here entry ((place + 2) % 256 ∷ (place + 2) / 256 ∷ own) m' w.text w.answers) q t k) → Moves f (Here at own m w.text w.answers) q t (9 + k)
+    pub asks : (q : View → Type 0) (t : List ℕ) (k : ℕ)
+        → ((m' : ℕ → ℕ) → Handed m x y m' → Moves f (Here entry ((place + 2) % 256 ∷ (place + 2) / 256 ∷ own) m' w.text w.answers) q t k)
+        → Moves f (Here at own m w.text w.answers) q t (9 + k)
     asks = asks_by entry at a b taken m c lies x y ga gb ha hb
 
     abbrev end_at : ℕ
@@ -124,12 +132,18 @@ module _ {around : Surroundings} (fits : Fits around.f 16) {n : ℕ} {g : Group}
     behind_is = let e : at + (size (brought a LEFT) + (size (brought b RIGHT) + (3 + (size (copied from (destination_at d)) + 0)))) ≡ end_at = omega arith in e
 
     -- and on, where it gives a word
-    pub gives : (code : SlotCode) (s' : State) (q : Slots) (v limit : ℕ) → Gives from → DestFits d → Lasting (live js) d is r q → GroupsLie ly f.code n (at + pieces_size (routine entry from a b (destination_at d))) (select is) → w.text ≡ s'.text → w.answers ≡ s'.answers → Typable keys s'.text s'.answers → ((l k : ℕ) (m' : ℕ → ℕ) → Handed m x y m' → Moves f (Here entry (l ∷ k ∷ own) m' w.text w.answers) (Given from (back_at l k) s' v) [] limit) → Moves f (Here at own m w.text w.answers) (Matches around (line code n is (landed d v s') (slots_landed d v (with_word q (slot_of d) v)))) [] (13 + limit)
+    pub gives : (code : SlotCode) (s' : State) (q : Slots) (v limit : ℕ) → Gives from → DestFits d → Lasting (live js) d is r q
+        → GroupsLie ly f.code n (at + pieces_size (routine entry from a b (destination_at d))) (select is) → w.text ≡ s'.text → w.answers ≡ s'.answers
+        → Typable keys s'.text s'.answers → ((l k : ℕ) (m' : ℕ → ℕ) → Handed m x y m' → Moves f (Here entry (l ∷ k ∷ own) m' w.text w.answers)
+        (Given from (back_at l k) s' v) [] limit) → Moves f (Here at own m w.text w.answers)
+        (Matches around (line code n is (landed d v s') (slots_landed d v (with_word q (slot_of d) v)))) [] (13 + limit)
     gives code s' q v limit g fit last rest text answers short does u e =
         looser f u _ _ [] (9 + (limit + 4)) (13 + limit) (omega arith) (λ v z. z)
         (asks _ [] (limit + 4) (λ m' k u e.
         chained f u _ _ [] [] limit 4 (does _ _ m' k u e) (λ u c'.
         looser f u _ _ [] 4 4 (omega arith)
-        (word_lands around code n h.small (live js) d is s' r q v _ _ end_at u.mem w.text w.answers c'.result.low c'.result.high c'.result.small fit last (subst (λ p. GroupsLie ly f.code n p (select is)) behind_is rest) c'.kept text answers short)
+        (word_lands around code n h.small (live js) d is s' r q v _ _ end_at u.mem w.text w.answers c'.result.low c'.result.high c'.result.small fit
+            last (subst (λ p. GroupsLie ly f.code n p (select is)) behind_is rest) c'.kept text answers short)
         (copies f 16 fits (place + 3) own u.mem w.text w.answers refl from (destination_at d) lies.2.2.2.0 g.0 (dest_in_data d fit) (g.1 d fit) lies.2.2.2.1 u
-        (record { pc = c'.here.pc ∙ comes_back entry at a b taken m c lies x y ga gb ha hb; stack = c'.here.stack; binary = c'.here.binary; mem = refl; text = c'.here.text; answers = c'.here.answers })))) u e)
+        (record { pc = c'.here.pc ∙ comes_back entry at a b taken m c lies x y ga gb ha hb; stack = c'.here.stack; binary = c'.here.binary;
+            mem = refl; text = c'.here.text; answers = c'.here.answers })))) u e)

@@ -1,5 +1,7 @@
 -- The settled code of a program that is laid from the block's address lies where its labels say.
-use Rattle.std.proofs.Common.{Option, ◌≡◌, ◌⊎◌, ℕ, suc, ◌+◌, ◌-◌, ◌≤◌, ◌<◌, Bool, true, false, ◌||◌, List, [], ◌∷◌, ◌++◌, length, replicate, refl, sym, ap, ◌∙◌, subst, inl, inr, ⊎_elim, arith, true≢false, append-nil, append_assoc, Some}
+use Rattle.std.proofs.Common.{Option, ◌≡◌, ◌⊎◌, ℕ, suc, ◌+◌, ◌-◌, ◌≤◌, ◌<◌, Bool, true, false, ◌||◌, List, [], ◌∷◌}
+use Rattle.std.proofs.Common.{◌++◌, length, replicate, refl, sym, ap, ◌∙◌, subst, inl, inr, ⊎_elim, arith, true≢false, append-nil, append_assoc}
+use Rattle.std.proofs.Common.{Some}
 use Rattle.std.specs.Prelude.{if◌then◌else◌, nat_eq, unwrap_or}
 use Rattle.std.proofs.lemmas.Bool.{eq-eqb, eqb-true}
 use Rattle.std.specs.List.{list_all}
@@ -147,14 +149,16 @@ module _ (part : Part) (labels : List (Name × ℕ)) (ns : List ℕ) (seed : ℕ
         polled = polls.1;
       }
 
-  within : (lines : SlotCode) (a : ℕ) (asking : List ℕ) (fs : List Form) → ArePolled lines → Lined a asking lines fs → (m : ℕ) → has_line (numbers lines) m ≡ true → (a ≤ at m) × (at m < a + forms_size fs)
+  within : (lines : SlotCode) (a : ℕ) (asking : List ℕ) (fs : List Form) → ArePolled lines → Lined a asking lines fs → (m : ℕ)
+      → has_line (numbers lines) m ≡ true → (a ≤ at m) × (at m < a + forms_size fs)
   within [] a asking fs polls h m e = cc
   within (l ∷ ls) a asking fs polls h m e = go (nat_eq l.number m) refl (within ls (then_at a asking l ls fs p) (asking_behind asking l) p.rest p.polled p.behind m) e
     where
       p : Parted a asking l ls fs
       p = parted a asking l ls fs polls h
 
-      go : (t : Bool) → nat_eq l.number m ≡ t → (has_line (numbers ls) m ≡ true → (then_at a asking l ls fs p ≤ at m) × (at m < then_at a asking l ls fs p + forms_size p.rest)) → (t || has_line (numbers ls) m) ≡ true → (a ≤ at m) × (at m < a + forms_size fs)
+      go : (t : Bool) → nat_eq l.number m ≡ t → (has_line (numbers ls) m ≡ true → (then_at a asking l ls fs p ≤ at m)
+          × (at m < then_at a asking l ls fs p + forms_size p.rest)) → (t || has_line (numbers ls) m) ≡ true → (a ≤ at m) × (at m < a + forms_size fs)
       go true q later e =
           let k = ap (λ j. at j) (eqb-true l.number m q) in
           let h = p.here in let s = p.total in let o = p.some in
@@ -165,7 +169,8 @@ module _ (part : Part) (labels : List (Name × ℕ)) (ns : List ℕ) (seed : ℕ
           (omega (arith, r.0), omega (arith, r.1, s))
 
   -- where the first of these lines begins, or what is behind them
-  first_there : (lines : SlotCode) (a : ℕ) (asking : List ℕ) (fs : List Form) → ArePolled lines → Lined a asking lines fs → place_of labels target.Past ≡ a + forms_size fs → place_of labels (first_of lines) ≡ a
+  first_there : (lines : SlotCode) (a : ℕ) (asking : List ℕ) (fs : List Form) → ArePolled lines → Lined a asking lines fs
+      → place_of labels target.Past ≡ a + forms_size fs → place_of labels (first_of lines) ≡ a
   first_there [] a asking [] polls h past = past ∙ (let e : a + 0 ≡ a = omega arith in e)
   first_there [] a asking (f ∷ fs) polls h past = absurd h.of
   first_there (l ∷ ls) a asking fs polls h past = (parted a asking l ls fs polls h).here
@@ -189,7 +194,8 @@ module _ (part : Part) (labels : List (Name × ℕ)) (ns : List ℕ) (seed : ℕ
   done_nothing false ms e = refl
 
   -- the first line of these, as the line of its number
-  first_found : (a : ℕ) (asking : List ℕ) (l : Numbered (List Instr)) (ls : SlotCode) (fs : List Form) (p : Parted a asking l ls fs) → place_of labels (next_line ns l.number) ≡ then_at a asking l ls fs p → Found (numbers (l ∷ ls)) a (a + forms_size fs) l.number l.content
+  first_found : (a : ℕ) (asking : List ℕ) (l : Numbered (List Instr)) (ls : SlotCode) (fs : List Form) (p : Parted a asking l ls fs)
+      → place_of labels (next_line ns l.number) ≡ then_at a asking l ls fs p → Found (numbers (l ∷ ls)) a (a + forms_size fs) l.number l.content
   first_found a asking l ls fs p next =
       let there : a ≡ at l.number = sym p.here in
       let mine : Lies part labels (at l.number) (items_from (at l.number) p.own) = subst (λ b. Lies part labels b (items_from b p.own)) there p.lies in
@@ -202,7 +208,8 @@ module _ (part : Part) (labels : List (Name × ℕ)) (ns : List ℕ) (seed : ℕ
         some = (let o = p.some in omega (arith, long, o));
         lies = mine;
         near = subst (λ b. some_branch_far labels b (items_from b p.own) ≡ false) there p.near;
-        next = λ stays. (let z = done_nothing (ends_away l.content) (asking ++ l.number ∷ []) stays in let e : at l.number + size (items_from (at l.number) p.own) ≡ then_at a asking l ls fs p = omega (arith, long, h, z) in e) ∙ sym next;
+        next = λ stays. (let z = done_nothing (ends_away l.content) (asking ++ l.number ∷ []) stays in
+            let e : at l.number + size (items_from (at l.number) p.own) ≡ then_at a asking l ls fs p = omega (arith, long, h, z) in e) ∙ sym next;
         ends = omega (arith, long, h, s);
         clear = clear;
       }
@@ -212,13 +219,17 @@ module _ (part : Part) (labels : List (Name × ℕ)) (ns : List ℕ) (seed : ℕ
         where
           by : (t : Bool) → nat_eq l.number m ≡ t → (t || has_line (numbers ls) m) ≡ true → (at m ≤ at l.number) ⊎ (at l.number + size (items_from (at l.number) p.own) ≤ at m)
           by true q e = inl (let k = ap (λ j. at j) (eqb-true l.number m q) in omega (arith, k))
-          by false q e = inr (let w = within ls (then_at a asking l ls fs p) (asking_behind asking l) p.rest p.polled p.behind m e in let long = items_size (at l.number) p.own in let h = p.here in omega (arith, w.0, long, h))
+          by false q e = inr (let w = within ls (then_at a asking l ls fs p) (asking_behind asking l) p.rest p.polled p.behind m e in
+              let long = items_size (at l.number) p.own in let h = p.here in omega (arith, w.0, long, h))
 
-  same_line : (ms : List ℕ) (l : Numbered (List Instr)) (n : ℕ) (is : List Instr) → l.number ≡ n → l.content ≡ is → (a to : ℕ) → Found ms a to l.number l.content → Found ms a to n is
+  same_line : (ms : List ℕ) (l : Numbered (List Instr)) (n : ℕ) (is : List Instr) → l.number ≡ n → l.content ≡ is → (a to : ℕ)
+      → Found ms a to l.number l.content → Found ms a to n is
   same_line ms l n is e c a to f = subst (λ is. Found ms a to n is) c (subst (λ k. Found ms a to k l.content) e f)
 
   -- a line behind the first one
-  later_found : (a : ℕ) (asking : List ℕ) (l : Numbered (List Instr)) (ls : SlotCode) (fs : List Form) (p : Parted a asking l ls fs) (n : ℕ) (is : List Instr) → Found (numbers ls) (then_at a asking l ls fs p) (then_at a asking l ls fs p + forms_size p.rest) n is → Found (numbers (l ∷ ls)) a (a + forms_size fs) n is
+  later_found : (a : ℕ) (asking : List ℕ) (l : Numbered (List Instr)) (ls : SlotCode) (fs : List Form) (p : Parted a asking l ls fs) (n : ℕ)
+      (is : List Instr) → Found (numbers ls) (then_at a asking l ls fs p) (then_at a asking l ls fs p + forms_size p.rest) n is
+      → Found (numbers (l ∷ ls)) a (a + forms_size fs) n is
   later_found a asking l ls fs p n is f =
       let s = p.total in
       record { from = omega (arith, f.from); forms = f.forms; of = f.of; some = f.some; lies = f.lies; near = f.near; next = f.next; ends = omega (arith, f.ends, s); clear = clear }
@@ -230,15 +241,18 @@ module _ (part : Part) (labels : List (Name × ℕ)) (ns : List ℕ) (seed : ℕ
           by true q e = inl (let k = ap (λ j. at j) (eqb-true l.number m q) in let h = p.here in omega (arith, k, h, f.from))
           by false q e = f.clear m e
 
-  found : (lines : SlotCode) (a : ℕ) (asking : List ℕ) (fs : List Form) → ArePolled lines → AreInTurn ns lines → Lined a asking lines fs → place_of labels target.Past ≡ a + forms_size fs → (n : ℕ) (is : List Instr) → content_at lines n ≡ Some is → Found (numbers lines) a (a + forms_size fs) n is
+  found : (lines : SlotCode) (a : ℕ) (asking : List ℕ) (fs : List Form) → ArePolled lines → AreInTurn ns lines → Lined a asking lines fs
+      → place_of labels target.Past ≡ a + forms_size fs → (n : ℕ) (is : List Instr) → content_at lines n ≡ Some is → Found (numbers lines) a (a + forms_size fs) n is
   found [] a asking fs polls turns h past n is e = cc
   found (l ∷ ls) a asking fs polls turns h past n is e =
       let p = parted a asking l ls fs polls h in
       let b = then_at a asking l ls fs p in
       let later : place_of labels target.Past ≡ b + forms_size p.rest = (let s = p.total in omega (arith, past, s)) in
-      go p (ap (place_of labels) (sym turns.0) ∙ first_there ls b (asking_behind asking l) p.rest p.polled p.behind later) (found ls b (asking_behind asking l) p.rest p.polled turns.1 p.behind later n is) (nat_eq l.number n) refl e
+      go p (ap (place_of labels) (sym turns.0) ∙ first_there ls b (asking_behind asking l) p.rest p.polled p.behind later)
+          (found ls b (asking_behind asking l) p.rest p.polled turns.1 p.behind later n is) (nat_eq l.number n) refl e
     where
-      go : (p : Parted a asking l ls fs) → place_of labels (next_line ns l.number) ≡ then_at a asking l ls fs p → (content_at ls n ≡ Some is → Found (numbers ls) (then_at a asking l ls fs p) (then_at a asking l ls fs p + forms_size p.rest) n is)
+      go : (p : Parted a asking l ls fs) → place_of labels (next_line ns l.number) ≡ then_at a asking l ls fs p
+          → (content_at ls n ≡ Some is → Found (numbers ls) (then_at a asking l ls fs p) (then_at a asking l ls fs p + forms_size p.rest) n is)
           → (t : Bool) → nat_eq l.number n ≡ t → (if t then Some l.content else content_at ls n) ≡ Some is → Found (numbers (l ∷ ls)) a (a + forms_size fs) n is
       go p next rest true q e = same_line (numbers (l ∷ ls)) l n is (eqb-true l.number n q) (same_some l.content is e) a (a + forms_size fs) (first_found a asking l ls fs p next)
       go p next rest false q e = later_found a asking l ls fs p n is (rest e)
@@ -252,7 +266,8 @@ module _ (part : Part) (labels : List (Name × ℕ)) (ns : List ℕ) (seed : ℕ
   abbrev AllBroken : List ℕ → Type 0
   AllBroken ms = (n : ℕ) → has_line ms n ≡ true → Broken n
 
-  broken_in : (b to : ℕ) (ms : List ℕ) → Lies part labels b (all_broken ms) → b + size (all_broken ms) ≤ to → ((m : ℕ) → has_line ns m ≡ true → (at m < b) ⊎ (to ≤ at m)) → AllBroken ms
+  broken_in : (b to : ℕ) (ms : List ℕ) → Lies part labels b (all_broken ms) → b + size (all_broken ms) ≤ to
+      → ((m : ℕ) → has_line ns m ≡ true → (at m < b) ⊎ (to ≤ at m)) → AllBroken ms
   broken_in b to [] h le clear n e = absurd (true≢false (sym e))
   broken_in b to (k ∷ ms) h le clear n e =
       let first = front part labels b (broken k) (all_broken ms) h in
@@ -261,17 +276,20 @@ module _ (part : Part) (labels : List (Name × ℕ)) (ns : List ℕ) (seed : ℕ
         lies = subst (λ a. Lies part labels a (broken k)) (sym there) first;
         clear = λ m q. ⊎_elim (λ l. inl (omega (arith, l, there))) (λ l. inr (omega (arith, l, le, there))) (clear m q);
       } in
-      by (nat_eq k n) refl e own (broken_in (b + size (broken k)) to ms (back part labels b (broken k) (all_broken ms) h) (omega (arith, le)) (λ m q. ⊎_elim (λ l. inl (omega (arith, l))) (λ l. inr l) (clear m q)) n)
+      by (nat_eq k n) refl e own (broken_in (b + size (broken k)) to ms (back part labels b (broken k) (all_broken ms) h) (omega (arith, le))
+          (λ m q. ⊎_elim (λ l. inl (omega (arith, l))) (λ l. inr l) (clear m q)) n)
     where
       by : (t : Bool) → nat_eq k n ≡ t → (t || has_line ms n) ≡ true → Broken k → (has_line ms n ≡ true → Broken n) → Broken n
       by true q e own later = subst Broken (eqb-true k n q) own
       by false q e own later = later e
 
-  done_all : (t : Bool) (b to : ℕ) (ms ks : List ℕ) → Lies part labels b (done_behind t ms) → b + size (done_behind t ms) ≤ to → ((m : ℕ) → has_line ns m ≡ true → (at m < b) ⊎ (to ≤ at m)) → AllBroken (left_behind t ms ++ ks) → AllBroken (ms ++ ks)
+  done_all : (t : Bool) (b to : ℕ) (ms ks : List ℕ) → Lies part labels b (done_behind t ms) → b + size (done_behind t ms) ≤ to
+      → ((m : ℕ) → has_line ns m ≡ true → (at m < b) ⊎ (to ≤ at m)) → AllBroken (left_behind t ms ++ ks) → AllBroken (ms ++ ks)
   done_all true b to ms ks h le clear rest = λ n. either (Broken n) ms ks n (broken_in b to ms h le clear n) (rest n)
   done_all false b to ms ks h le clear rest = rest
 
-  lines_broken : (lines : SlotCode) (a : ℕ) (asking : List ℕ) (fs : List Form) → ArePolled lines → Lined a asking lines fs → ((m : ℕ) → has_line ns m ≡ true → (at m < a) ⊎ (has_line (numbers lines) m ≡ true)) → AllBroken (still_asking asking lines) → AllBroken (asking ++ numbers lines)
+  lines_broken : (lines : SlotCode) (a : ℕ) (asking : List ℕ) (fs : List Form) → ArePolled lines → Lined a asking lines fs
+      → ((m : ℕ) → has_line ns m ≡ true → (at m < a) ⊎ (has_line (numbers lines) m ≡ true)) → AllBroken (still_asking asking lines) → AllBroken (asking ++ numbers lines)
   lines_broken [] a asking fs polls h before last = subst AllBroken (sym (append-nil asking)) last
   lines_broken (l ∷ ls) a asking fs polls h before last =
       let p = parted a asking l ls fs polls h in
@@ -291,11 +309,13 @@ module _ (part : Part) (labels : List (Name × ℕ)) (ns : List ℕ) (seed : ℕ
           by false q e = inr e
 
 -- ---- the whole program
-first_at : (labels : List (Name × ℕ)) (seed : ℕ) (code : SlotCode) → 1 ≤ length (numbers code) → place_of labels (first_of code) ≡ LINES_AT → place_at (layout_of labels (numbers code) seed) (first_place (numbers code)) ≡ LINES_AT
+first_at : (labels : List (Name × ℕ)) (seed : ℕ) (code : SlotCode) → 1 ≤ length (numbers code) → place_of labels (first_of code) ≡ LINES_AT
+    → place_at (layout_of labels (numbers code) seed) (first_place (numbers code)) ≡ LINES_AT
 first_at labels seed [] some h = absurd (let no : ⊥ = omega (arith, some) in no)
 first_at labels seed (l ∷ ls) some h = sym (start_of_line labels (numbers (l ∷ ls)) seed l.number (ap (λ b. b || has_line (numbers ls) l.number) (eq-eqb l.number l.number refl))) ∙ h
 
-pub image_laid : (seed : ℕ) (code : SlotCode) → seed < 65536 → RisingFrom 0 (numbers code) → AreCodable code → ArePolled code → 1 ≤ length (numbers code) → length code < 65536 → (items : List Entry) → IsSettled PROLOGUE_AT (program_code seed code) items → PROLOGUE_AT + size items ≤ 0xa000 →
+pub image_laid : (seed : ℕ) (code : SlotCode) → seed < 65536 → RisingFrom 0 (numbers code) → AreCodable code → ArePolled code
+    → 1 ≤ length (numbers code) → length code < 65536 → (items : List Entry) → IsSettled PROLOGUE_AT (program_code seed code) items → PROLOGUE_AT + size items ≤ 0xa000 →
     (part : Part) → ((a b : ℕ) → part a ≡ Some b → b < 256) → Bytes part PROLOGUE_AT (image_of PROLOGUE_AT items) → Laid (labels_from PROLOGUE_AT items) seed part code
 image_laid seed code seed_small rises codable polls some few items settled ends part small shown =
     let ns = numbers code in
@@ -313,7 +333,8 @@ image_laid seed code seed_small rises codable polls some few items settled ends 
     let start : PROLOGUE_AT + size block_code ≡ LINES_AT = (let b = block_size in omega (arith, b)) in
     let head = front part labels PROLOGUE_AT block_code (lines ++ tail) cut in
     let s = subst (λ a. Lies part labels a (lines ++ tail)) start (back part labels PROLOGUE_AT block_code (lines ++ tail) cut) in
-    let lines_near = (near_split labels LINES_AT lines tail (subst (λ a. some_branch_far labels a (lines ++ tail) ≡ false) start (near_split labels PROLOGUE_AT block_code (lines ++ tail) (subst (λ es. some_branch_far labels PROLOGUE_AT es ≡ false) parts near)).1)).0 in
+    let lines_near = (near_split labels LINES_AT lines tail (subst (λ a. some_branch_far labels a (lines ++ tail) ≡ false) start
+        (near_split labels PROLOGUE_AT block_code (lines ++ tail) (subst (λ es. some_branch_far labels PROLOGUE_AT es ≡ false) parts near)).1)).0 in
     let own : Lined part labels ns seed LINES_AT [] code g.lines = record { of = g.of_lines; lies = front part labels LINES_AT lines tail s; near = lines_near } in
     let behind : LINES_AT + size lines ≡ here = omega (arith, long) in
     let t = subst (λ a. Lies part labels a tail) behind (back part labels LINES_AT lines tail s) in
@@ -328,8 +349,10 @@ image_laid seed code seed_small rises codable polls some few items settled ends 
     let at_find : b + size last ≡ place_of labels target.Find = sym (ap (λ o. unwrap_or o 0) f.labelled.0) in
     let at_table : b + size last + size search ≡ place_of labels target.Table = sym (ap (λ o. unwrap_or o 0) v.labelled.0) in
     let turns = lines_in_turn code rises in
-    let before : (to : ℕ) → here ≤ to → (m : ℕ) → has_line ns m ≡ true → place_of labels (target.Line m) < to = λ to l m e. omega (arith, l, (within part labels ns seed code LINES_AT [] g.lines polls own m e).1) in
-    let all_done = lines_broken part labels ns seed code LINES_AT [] g.lines polls own (λ m e. inr e) (broken_in part labels ns seed b (b + size last) (still_asking [] code) r (omega arith) (λ m e. inl (before b (omega arith) m e))) in
+    let before : (to : ℕ) → here ≤ to → (m : ℕ) → has_line ns m ≡ true → place_of labels (target.Line m) < to = λ to l m e. omega (arith, l,
+        (within part labels ns seed code LINES_AT [] g.lines polls own m e).1) in
+    let all_done = lines_broken part labels ns seed code LINES_AT [] g.lines polls own (λ m e. inr e) (broken_in part labels ns seed b (b + size last)
+        (still_asking [] code) r (omega arith) (λ m e. inl (before b (omega arith) m e))) in
     record {
       block = bytes_front part PROLOGUE_AT block_bytes (replicate (LINES_AT - PROLOGUE_AT - length block_bytes) 0 ++ []) head.bytes;
       lines = λ n is e.

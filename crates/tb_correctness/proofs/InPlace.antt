@@ -1,5 +1,6 @@
 -- The laws of changes in place: one more or less, by a constant, half, double.
-use Rattle.std.proofs.Common.{◌≡◌, ◌≢◌, ℕ, zero, suc, ◌+◌, ◌-◌, ◌*◌, ◌/◌, ◌%◌, ◌≤◌, ◌<◌, Bool, true, false, cond, List, [], ◌∷◌, length, refl, sym, ap, ◌∙◌, subst, arith, leb, eqb, Option, Some, ⊎_elim}
+use Rattle.std.proofs.Common.{◌≡◌, ◌≢◌, ℕ, zero, suc, ◌+◌, ◌-◌, ◌*◌, ◌/◌, ◌%◌, ◌≤◌, ◌<◌, Bool, true, false, cond}
+use Rattle.std.proofs.Common.{List, [], ◌∷◌, length, refl, sym, ap, ◌∙◌, subst, arith, leb, eqb, Option, Some, ⊎_elim}
 use Rattle.std.specs.Prelude.{if◌then◌else◌, nat_le, nat_lt}
 use Rattle.std.proofs.lemmas.Bool.{cases_lt, eq-eqb, eqb-true, ltb-true, ltb-false, leb-true, leb-false, le-leb, lt-leb, ne_eqb}
 use Rattle.tb_cpu.specs.Effects.{bit, has_bit}
@@ -29,7 +30,8 @@ use Rattle.tb_templates.specs.declared.in_place.Change.TheVariants.{Increment, D
 use Rattle.tb_correctness.proofs.Branches.{Led, asked_in, branch_behind, branch_size, branches, is_taken}
 use Rattle.tb_correctness.proofs.Changes.{IsByte, IsChange, changed, of_left, of_right, elsewhere}
 use Rattle.tb_correctness.proofs.Constants.{constant_is}
-use Rattle.tb_correctness.proofs.GroupCode.{Carry, Flag, Zero, GroupsLie, OverReaches, Way, ChangeReaches, ChangedReaches, calc_code, change_code, changed_or, low_lowered, low_raised, over_at, over_code, raised_by_sign, sign_asked, turned_right, way_size}
+use Rattle.tb_correctness.proofs.GroupCode.{Carry, Flag, Zero, GroupsLie, OverReaches, Way, ChangeReaches, ChangedReaches, calc_code, change_code, changed_or}
+use Rattle.tb_correctness.proofs.GroupCode.{low_lowered, low_raised, over_at, over_code, raised_by_sign, sign_asked, turned_right, way_size}
 use Rattle.tb_correctness.proofs.Halves.{double_high, double_low, halve, halve_small, halves_are, high_half, low_half, more, sign_is}
 use Rattle.tb_correctness.proofs.GroupInvariants.{kept}
 use Rattle.tb_correctness.proofs.Operands.{SourceHolds, dest_in_data}
@@ -82,40 +84,61 @@ high_bit h small = ⊎_elim
 module _ (f : Setup) (room : ℕ) (fits : Fits f room) (at : ℕ) (bs : List ℕ) (m : ℕ → ℕ) (text answers : List ℕ) (small : leb (length bs) room ≡ true) where
   -- ---- single instructions on a byte at a place
   -- one more, and one less
-  counts_up : (p : ℕ) → is_data p ≡ true → at + 3 ≤ highest_code → Bytes f.code at (instr_bytes (ins 0xEE p)) → Moves f (Here at bs m text answers) (Flagged (at + 3) bs (with_byte m p ((m p + 1) % 256)) text answers (eqb ((m p + 1) % 256) 0)) [] 1
+  counts_up : (p : ℕ) → is_data p ≡ true → at + 3 ≤ highest_code → Bytes f.code at (instr_bytes (ins 0xEE p)) → Moves f (Here at bs m text answers)
+      (Flagged (at + 3) bs (with_byte m p ((m p + 1) % 256)) text answers (eqb ((m p + 1) % 256) 0)) [] 1
   counts_up p d r st = whatever f room fits at bs m text answers _ [] 1 (λ a x y n v i z c.
-      changes_last f room fits 0xEE p ((m p + 1) % 256) Inc (view a x y n v i z c at bs m text answers) _ _ refl refl refl small st d refl (record { here = record { pc = let e : (at + 3) % 65536 ≡ at + 3 = omega arith in e; stack = refl; binary = refl; mem = refl; text = refl; answers = refl }; zero = refl }))
+      changes_last f room fits 0xEE p ((m p + 1) % 256) Inc (view a x y n v i z c at bs m text answers) _ _ refl refl refl small st d refl
+          (record { here = record { pc = let e : (at + 3) % 65536 ≡ at + 3 = omega arith in e; stack = refl; binary = refl; mem = refl; text = refl;
+          answers = refl }; zero = refl }))
 
-  counts_down : (p : ℕ) → is_data p ≡ true → at + 3 ≤ highest_code → Bytes f.code at (instr_bytes (ins 0xCE p)) → Moves f (Here at bs m text answers) (Here (at + 3) bs (with_byte m p ((m p + 255) % 256)) text answers) [] 1
+  counts_down : (p : ℕ) → is_data p ≡ true → at + 3 ≤ highest_code → Bytes f.code at (instr_bytes (ins 0xCE p)) → Moves f (Here at bs m text answers)
+      (Here (at + 3) bs (with_byte m p ((m p + 255) % 256)) text answers) [] 1
   counts_down p d r st = whatever f room fits at bs m text answers _ [] 1 (λ a x y n v i z c.
-      changes_last f room fits 0xCE p ((m p + 255) % 256) Dec (view a x y n v i z c at bs m text answers) _ _ refl refl refl small st d refl (record { pc = let e : (at + 3) % 65536 ≡ at + 3 = omega arith in e; stack = refl; binary = refl; mem = refl; text = refl; answers = refl }))
+      changes_last f room fits 0xCE p ((m p + 255) % 256) Dec (view a x y n v i z c at bs m text answers) _ _ refl refl refl small st d refl
+          (record { pc = let e : (at + 3) % 65536 ≡ at + 3 = omega arith in e; stack = refl; binary = refl; mem = refl; text = refl; answers = refl }))
 
   -- whether it is 0
-  looks : (p : ℕ) → is_data p ≡ true → at + 3 ≤ highest_code → Bytes f.code at (instr_bytes (ins 0xAD p)) → Moves f (Here at bs m text answers) (Flagged (at + 3) bs m text answers (eqb (m p) 0)) [] 1
+  looks : (p : ℕ) → is_data p ≡ true → at + 3 ≤ highest_code → Bytes f.code at (instr_bytes (ins 0xAD p)) → Moves f (Here at bs m text answers)
+      (Flagged (at + 3) bs m text answers (eqb (m p) 0)) [] 1
   looks p d r st = whatever f room fits at bs m text answers _ [] 1 (λ a x y n v i z c.
-      loads_last f room fits 0xAD p Lda (view a x y n v i z c at bs m text answers) _ _ refl refl refl small st d refl (record { here = record { pc = let e : (at + 3) % 65536 ≡ at + 3 = omega arith in e; stack = refl; binary = refl; mem = refl; text = refl; answers = refl }; zero = refl }))
+      loads_last f room fits 0xAD p Lda (view a x y n v i z c at bs m text answers) _ _ refl refl refl small st d refl
+          (record { here = record { pc = let e : (at + 3) % 65536 ≡ at + 3 = omega arith in e; stack = refl; binary = refl; mem = refl; text = refl;
+          answers = refl }; zero = refl }))
 
   -- shifts
-  shifts_left : (p : ℕ) → is_data p ≡ true → at + 3 ≤ highest_code → Bytes f.code at (instr_bytes (ins 0x0E p)) → Moves f (Here at bs m text answers) (Carrying (at + 3) bs (with_byte m p (2 * m p % 256)) text answers (has_bit (m p) 128)) [] 1
+  shifts_left : (p : ℕ) → is_data p ≡ true → at + 3 ≤ highest_code → Bytes f.code at (instr_bytes (ins 0x0E p)) → Moves f (Here at bs m text answers)
+      (Carrying (at + 3) bs (with_byte m p (2 * m p % 256)) text answers (has_bit (m p) 128)) [] 1
   shifts_left p d r st = whatever f room fits at bs m text answers _ [] 1 (λ a x y n v i z c.
-      changes_last f room fits 0x0E p (2 * m p % 256) Asl (view a x y n v i z c at bs m text answers) _ _ refl refl refl small st d refl (record { here = record { pc = let e : (at + 3) % 65536 ≡ at + 3 = omega arith in e; stack = refl; binary = refl; mem = refl; text = refl; answers = refl }; carry = refl }))
+      changes_last f room fits 0x0E p (2 * m p % 256) Asl (view a x y n v i z c at bs m text answers) _ _ refl refl refl small st d refl
+          (record { here = record { pc = let e : (at + 3) % 65536 ≡ at + 3 = omega arith in e; stack = refl; binary = refl; mem = refl; text = refl;
+          answers = refl }; carry = refl }))
 
-  turns_left : (p : ℕ) (c : Bool) → is_data p ≡ true → at + 3 ≤ highest_code → Bytes f.code at (instr_bytes (ins 0x2E p)) → Moves f (Carrying at bs m text answers c) (Here (at + 3) bs (with_byte m p (2 * m p % 256 + bit c)) text answers) [] 1
+  turns_left : (p : ℕ) (c : Bool) → is_data p ≡ true → at + 3 ≤ highest_code → Bytes f.code at (instr_bytes (ins 0x2E p))
+      → Moves f (Carrying at bs m text answers c) (Here (at + 3) bs (with_byte m p (2 * m p % 256 + bit c)) text answers) [] 1
   turns_left p c d r st = whatever_with f room fits at bs m text answers c _ [] 1 (λ a x y n v i z.
-      changes_last f room fits 0x2E p (2 * m p % 256 + bit c) Rol (view a x y n v i z c at bs m text answers) _ _ refl refl refl small st d refl (record { pc = let e : (at + 3) % 65536 ≡ at + 3 = omega arith in e; stack = refl; binary = refl; mem = refl; text = refl; answers = refl }))
+      changes_last f room fits 0x2E p (2 * m p % 256 + bit c) Rol (view a x y n v i z c at bs m text answers) _ _ refl refl refl small st d refl
+          (record { pc = let e : (at + 3) % 65536 ≡ at + 3 = omega arith in e; stack = refl; binary = refl; mem = refl; text = refl; answers = refl }))
 
-  turns_right : (p : ℕ) (c : Bool) → is_data p ≡ true → at + 3 ≤ highest_code → Bytes f.code at (instr_bytes (ins 0x6E p)) → Moves f (Carrying at bs m text answers c) (Carrying (at + 3) bs (with_byte m p (m p / 2 + 128 * bit c)) text answers (has_bit (m p) 1)) [] 1
+  turns_right : (p : ℕ) (c : Bool) → is_data p ≡ true → at + 3 ≤ highest_code → Bytes f.code at (instr_bytes (ins 0x6E p))
+      → Moves f (Carrying at bs m text answers c) (Carrying (at + 3) bs (with_byte m p (m p / 2 + 128 * bit c)) text answers (has_bit (m p) 1)) [] 1
   turns_right p c d r st = whatever_with f room fits at bs m text answers c _ [] 1 (λ a x y n v i z.
-      changes_last f room fits 0x6E p (m p / 2 + 128 * bit c) Ror (view a x y n v i z c at bs m text answers) _ _ refl refl refl small st d refl (record { here = record { pc = let e : (at + 3) % 65536 ≡ at + 3 = omega arith in e; stack = refl; binary = refl; mem = refl; text = refl; answers = refl }; carry = refl }))
+      changes_last f room fits 0x6E p (m p / 2 + 128 * bit c) Ror (view a x y n v i z c at bs m text answers) _ _ refl refl refl small st d refl
+          (record { here = record { pc = let e : (at + 3) % 65536 ≡ at + 3 = omega arith in e; stack = refl; binary = refl; mem = refl; text = refl;
+          answers = refl }; carry = refl }))
 
   -- A goes to a place and stays, and its sign goes to C
-  keeps_a : (p a : ℕ) (c : Bool) → is_data p ≡ true → at + 3 ≤ highest_code → Bytes f.code at (instr_bytes (ins 0x8D p)) → Moves f (Known at a c bs m text answers) (WithA (at + 3) a bs (with_byte m p a) text answers) [] 1
+  keeps_a : (p a : ℕ) (c : Bool) → is_data p ≡ true → at + 3 ≤ highest_code → Bytes f.code at (instr_bytes (ins 0x8D p))
+      → Moves f (Known at a c bs m text answers) (WithA (at + 3) a bs (with_byte m p a) text answers) [] 1
   keeps_a p a c d r st = whatever_known f room fits at a c bs m text answers _ [] 1 (λ x y n v i z.
-      stores_last f room fits p (view a x y n v i z c at bs m text answers) _ small st d (record { here = record { pc = let e : (at + 3) % 65536 ≡ at + 3 = omega arith in e; stack = refl; binary = refl; mem = refl; text = refl; answers = refl }; number = refl }))
+      stores_last f room fits p (view a x y n v i z c at bs m text answers) _ small st d
+          (record { here = record { pc = let e : (at + 3) % 65536 ≡ at + 3 = omega arith in e; stack = refl; binary = refl; mem = refl; text = refl;
+          answers = refl }; number = refl }))
 
   signs_a : (a : ℕ) → at + 1 ≤ highest_code → Bytes f.code at (instr_bytes (ins 0x0A 0)) → Moves f (WithA at a bs m text answers) (Carrying (at + 1) bs m text answers (has_bit a 128)) [] 1
   signs_a a r st = whatever_a f room fits at a bs m text answers _ [] 1 (λ x y n v i z c.
-      placed_last f room fits (ins 0x0A 0) (view a x y n v i z c at bs m text answers) _ _ small st refl (record { here = record { pc = let e : (at + 1) % 65536 ≡ at + 1 = omega arith in e; stack = refl; binary = refl; mem = refl; text = refl; answers = refl }; carry = refl }))
+      placed_last f room fits (ins 0x0A 0) (view a x y n v i z c at bs m text answers) _ _ small st refl
+          (record { here = record { pc = let e : (at + 1) % 65536 ≡ at + 1 = omega arith in e; stack = refl; binary = refl; mem = refl; text = refl;
+          answers = refl }; carry = refl }))
 
 module _ (f : Setup) (room : ℕ) (fits : Fits f room) (bs text answers : List ℕ) (small : leb (length bs) room ≡ true) where
   -- ---- code with a branch over a part of it
@@ -128,7 +151,8 @@ module _ (f : Setup) (room : ℕ) (fits : Fits f room) (bs text answers : List �
     pub leads : (m : ℕ → ℕ) (t : Bool) (w : View) → Here (at + size before) bs m text answers w → asked_in which w ≡ t
         → Comes f w (Led f room fits bs m text answers small w (cond (is_taken wanted t) (over_at first at before skipped) (at + size before + way_size first))) [] 2
 
-  pub forked : (first : Way) (at : ℕ) (before : List machine.Instr) (which : Flag) (wanted : Bool) (skipped back : List machine.Instr) → Lies f.code at (over_code first at before which wanted skipped back) → OverReaches first at before skipped
+  pub forked : (first : Way) (at : ℕ) (before : List machine.Instr) (which : Flag) (wanted : Bool) (skipped back : List machine.Instr)
+      → Lies f.code at (over_code first at before which wanted skipped back) → OverReaches first at before skipped
       → Forked first at before which wanted skipped back
   forked first at before which wanted skipped back lies reach =
       let parts = branch_behind f (at + size before) first which wanted (over_at first at before skipped) (Code skipped ∷ Code back ∷ []) lies.2 in record {
@@ -179,15 +203,18 @@ module _ (f : Setup) (room : ℕ) (fits : Fits f room) (bs text answers : List �
         end : ℕ
         end = at + pieces_size (change_code first at Increment p)
 
-        by : Forked first at (ins 0xEE p ∷ []) Zero false (ins 0xEE (p + 1) ∷ []) [] → (t : Bool) → eqb l 0 ≡ t → (u : View) → Flagged (at + 3) bs m1 text answers (eqb l 0) u → Comes f u (Stored end (word (x + 1))) [] 15
+        by : Forked first at (ins 0xEE p ∷ []) Zero false (ins 0xEE (p + 1) ∷ []) [] → (t : Bool) → eqb l 0 ≡ t → (u : View)
+            → Flagged (at + 3) bs m1 text answers (eqb l 0) u → Comes f u (Stored end (word (x + 1))) [] 15
         by o true e u g =
             chained f u _ _ [] [] 2 13 (o.leads m1 true u (here_at (at + 3) (at + size (ins 0xEE p ∷ [])) m1 u (omega arith) g.here) (g.zero ∙ e)) (λ v k.
             looser f v _ _ [] 1 13 (omega arith)
-            (λ y j. stored end (word (x + 1)) _ _ y (let q = o.end_is in omega (arith, q)) (both_put m p l ((m1 (p + 1) + 1) % 256) (word (x + 1)) (omega (arith, lo)) (let q = other l in let z = eqb-true l 0 e in omega (arith, q, z, lo, hi, hs.small))) j.here)
+            (λ y j. stored end (word (x + 1)) _ _ y (let q = o.end_is in omega (arith, q)) (both_put m p l ((m1 (p + 1) + 1) % 256) (word (x + 1))
+                (omega (arith, lo)) (let q = other l in let z = eqb-true l 0 e in omega (arith, q, z, lo, hi, hs.small))) j.here)
             (counts_up f room fits (at + size (ins 0xEE p ∷ []) + way_size first) bs m1 text answers small (p + 1) d.1 (let q = o.ends in omega (arith, q)) o.stands.0 v k.here))
         by o false e u g =
             looser f u _ _ [] 2 15 (omega arith)
-            (λ v k. stored end (word (x + 1)) _ _ v (let q = o.end_is in omega (arith, q)) (low_put m p l (word (x + 1)) (omega (arith, lo)) (let z = some_is l e in omega (arith, z, lo, hi, hs.small))) k.here)
+            (λ v k. stored end (word (x + 1)) _ _ v (let q = o.end_is in omega (arith, q)) (low_put m p l (word (x + 1)) (omega (arith, lo))
+                (let z = some_is l e in omega (arith, z, lo, hi, hs.small))) k.here)
             (o.leads m1 false u (here_at (at + 3) (at + size (ins 0xEE p ∷ [])) m1 u (omega arith) g.here) (g.zero ∙ e))
 
     decrements : Lies f.code at (change_code first at Decrement p) → ChangeReaches first at Decrement p
@@ -220,13 +247,15 @@ module _ (f : Setup) (room : ℕ) (fits : Fits f room) (bs text answers : List �
         same : m1 p ≡ m p
         same = put_other m (p + 1) h1 p (λ q. omega (arith, q))
 
-        by : Forked first at (ins 0xAD p ∷ []) Zero false (ins 0xCE (p + 1) ∷ []) (ins 0xCE p ∷ []) → (t : Bool) → eqb (m p) 0 ≡ t → (u : View) → Flagged (at + 3) bs m text answers (eqb (m p) 0) u → Comes f u (Stored end v) [] 15
+        by : Forked first at (ins 0xAD p ∷ []) Zero false (ins 0xCE (p + 1) ∷ []) (ins 0xCE p ∷ []) → (t : Bool) → eqb (m p) 0 ≡ t → (u : View)
+            → Flagged (at + 3) bs m text answers (eqb (m p) 0) u → Comes f u (Stored end v) [] 15
         by o true e u g =
             let z = eqb-true (m p) 0 e in
             chained f u _ _ [] [] 2 13 (o.leads m true u (here_at (at + 3) fork m u (omega arith) g.here) (g.zero ∙ e)) (λ y k.
             chained f y _ _ [] [] 1 12 (counts_down f room fits (fork + way_size first) bs m text answers small (p + 1) d.1 (let q = o.ends in omega (arith, q)) o.stands.0 y k.here) (λ y k.
             looser f y _ _ [] 1 12 (omega arith)
-            (λ y j. stored end v _ _ y (let q = o.end_is in omega (arith, q)) (swapped m (p + 1) p h1 l apart ∙ both_put m p l h1 v (omega (arith, same, lo, hs.small)) (omega (arith, z, lo, hi, hs.small))) j)
+            (λ y j. stored end v _ _ y (let q = o.end_is in omega (arith, q)) (swapped m (p + 1) p h1 l apart
+                ∙ both_put m p l h1 v (omega (arith, same, lo, hs.small)) (omega (arith, z, lo, hi, hs.small))) j)
             (counts_down f room fits back bs m1 text answers small p d.0 (let q = o.ends in omega (arith, q)) o.behind_stands.0 y (here_at (fork + way_size first + 3) back m1 y (omega arith) k))))
         by o false e u g =
             let z = some_is (m p) e in
@@ -266,12 +295,14 @@ module _ (f : Setup) (room : ℕ) (fits : Fits f room) (bs text answers : List �
         fork : ℕ
         fork = at + size (low_raised c p)
 
-        by : Forked first at (low_raised c p) Carry false (ins 0xEE (p + 1) ∷ []) [] → (t : Bool) → nat_lt 255 sum ≡ t → (u : View) → Carrying (at + 1 + 3 + 2 + 3) bs m1 text answers (nat_lt 255 sum) u → Comes f u (Stored end v) [] 12
+        by : Forked first at (low_raised c p) Carry false (ins 0xEE (p + 1) ∷ []) [] → (t : Bool) → nat_lt 255 sum ≡ t → (u : View)
+            → Carrying (at + 1 + 3 + 2 + 3) bs m1 text answers (nat_lt 255 sum) u → Comes f u (Stored end v) [] 12
         by o true e u g =
             let z = ltb-true 255 sum e in
             chained f u _ _ [] [] 2 10 (o.leads m1 true u (here_at _ fork m1 u (omega arith) g.here) (g.carry ∙ e)) (λ y k.
             looser f y _ _ [] 1 10 (omega arith)
-            (λ y j. stored end v _ _ y (let q = o.end_is in omega (arith, q)) (both_put m p l ((m1 (p + 1) + 1) % 256) v (omega (arith, lo)) (let q = other l in omega (arith, q, z, few, lo, hi, hs.small))) j.here)
+            (λ y j. stored end v _ _ y (let q = o.end_is in omega (arith, q)) (both_put m p l ((m1 (p + 1) + 1) % 256) v (omega (arith, lo))
+                (let q = other l in omega (arith, q, z, few, lo, hi, hs.small))) j.here)
             (counts_up f room fits (fork + way_size first) bs m1 text answers small (p + 1) d.1 (let q = o.ends in omega (arith, q)) o.stands.0 y k.here))
         by o false e u g =
             let z = ltb-false 255 sum e in
@@ -307,12 +338,14 @@ module _ (f : Setup) (room : ℕ) (fits : Fits f room) (bs text answers : List �
         fork : ℕ
         fork = at + size (low_lowered c p)
 
-        by : Forked first at (low_lowered c p) Carry true (ins 0xCE (p + 1) ∷ []) [] → (t : Bool) → nat_le (c + 0) (m p) ≡ t → (u : View) → Carrying (at + 1 + 3 + 2 + 3) bs m1 text answers (nat_le (c + 0) (m p)) u → Comes f u (Stored end v) [] 12
+        by : Forked first at (low_lowered c p) Carry true (ins 0xCE (p + 1) ∷ []) [] → (t : Bool) → nat_le (c + 0) (m p) ≡ t → (u : View)
+            → Carrying (at + 1 + 3 + 2 + 3) bs m1 text answers (nat_le (c + 0) (m p)) u → Comes f u (Stored end v) [] 12
         by o false e u g =
             let z = leb-false (c + 0) (m p) e in
             chained f u _ _ [] [] 2 10 (o.leads m1 false u (here_at _ fork m1 u (omega arith) g.here) (g.carry ∙ e)) (λ y k.
             looser f y _ _ [] 1 10 (omega arith)
-            (λ y j. stored end v _ _ y (let q = o.end_is in omega (arith, q)) (both_put m p l ((m1 (p + 1) + 255) % 256) v (omega (arith, few, lo, hs.small)) (let q = other l in omega (arith, q, z, few, lo, hi, hs.small))) j)
+            (λ y j. stored end v _ _ y (let q = o.end_is in omega (arith, q)) (both_put m p l ((m1 (p + 1) + 255) % 256) v
+                (omega (arith, few, lo, hs.small)) (let q = other l in omega (arith, q, z, few, lo, hi, hs.small))) j)
             (counts_down f room fits (fork + way_size first) bs m1 text answers small (p + 1) d.1 (let q = o.ends in omega (arith, q)) o.stands.0 y k.here))
         by o true e u g =
             let z = leb-true (c + 0) (m p) e in
@@ -325,7 +358,8 @@ module _ (f : Setup) (room : ℕ) (fits : Fits f room) (bs text answers : List �
         let s1 = behind f.code at (ins 0x0E p) (ins 0x2E (p + 1) ∷ []) (omega (arith, lies.0)) lies.1 in
         moves_then f _ _ _ [] [] 1 15 (shifts_left f room fits at bs m text answers small p d.0 (omega (arith, lies.0)) lies.1.0)
         (moves_looser f _ _ _ [] 1 15 (omega arith)
-        (λ y j. stored (at + pieces_size (change_code first at Double p)) (word (2 * x)) _ _ y (omega arith) (both_put m p l (2 * m1 (p + 1) % 256 + bit (has_bit (m p) 128)) (word (2 * x)) (ap (λ b. 2 * b % 256) lo ∙ double_low x) high) j)
+        (λ y j. stored (at + pieces_size (change_code first at Double p)) (word (2 * x)) _ _ y (omega arith)
+            (both_put m p l (2 * m1 (p + 1) % 256 + bit (has_bit (m p) 128)) (word (2 * x)) (ap (λ b. 2 * b % 256) lo ∙ double_low x) high) j)
         (turns_left f room fits (at + 3) bs m1 text answers small (p + 1) (has_bit (m p) 128) d.1 (omega (arith, lies.0)) s1.0))
       where
         l : ℕ
@@ -339,7 +373,8 @@ module _ (f : Setup) (room : ℕ) (fits : Fits f room) (bs text answers : List �
 
     -- ---- half
     -- behind the branch: a word y with its sign in C is shifted to the right
-    shifts_right : (at to y : ℕ) (k : ℕ → ℕ) (c : Bool) → at + 6 ≤ highest_code → at + 6 ≡ to → Stands f.code at (turned_right p) → k p ≡ y % 256 → k (p + 1) ≡ y / 256 → y < 65536 → c ≡ nat_le 128 (y / 256)
+    shifts_right : (at to y : ℕ) (k : ℕ → ℕ) (c : Bool) → at + 6 ≤ highest_code → at + 6 ≡ to → Stands f.code at (turned_right p) → k p ≡ y % 256
+        → k (p + 1) ≡ y / 256 → y < 65536 → c ≡ nat_le 128 (y / 256)
         → Moves f (Carrying at bs k text answers c) (Here to bs (put_word k p (halve y % 256) (halve y / 256)) text answers) [] 2
     shifts_right at to y k c r e st l h s sign =
         let s1 = behind f.code at (ins 0x6E (p + 1)) (ins 0x6E p ∷ []) (omega (arith, r)) st in
@@ -352,7 +387,8 @@ module _ (f : Setup) (room : ℕ) (fits : Fits f room) (bs text answers : List �
         let a_is : a ≡ halve y % 256 = (λ i. (same ∙ l) i / 2 + 128 * bit (has_bit (h i) 1)) ∙ low_half y s in
         moves_then f _ _ _ [] [] 1 1 (turns_right f room fits at bs k text answers small (p + 1) c d.1 (omega (arith, r)) st.0)
         (moves_looser f _ _ _ [] 1 1 (omega arith)
-        (λ u g. record { pc = g.here.pc ∙ (let q : at + 3 + 3 ≡ to = omega (arith, e) in q); stack = g.here.stack; binary = g.here.binary; mem = g.here.mem ∙ swapped k (p + 1) p b a apart ∙ (λ i. put_word k p (a_is i) (b_is i)); text = g.here.text; answers = g.here.answers })
+        (λ u g. record { pc = g.here.pc ∙ (let q : at + 3 + 3 ≡ to = omega (arith, e) in q); stack = g.here.stack; binary = g.here.binary;
+            mem = g.here.mem ∙ swapped k (p + 1) p b a apart ∙ (λ i. put_word k p (a_is i) (b_is i)); text = g.here.text; answers = g.here.answers })
         (turns_right f room fits (at + 3) bs k1 text answers small p t d.0 (omega (arith, r)) s1.0))
 
     halves : Lies f.code at (change_code first at Halve p) → ChangeReaches first at Halve p
@@ -420,7 +456,8 @@ module _ (f : Setup) (room : ℕ) (fits : Fits f room) (bs text answers : List �
         y_sign : has_bit h 128 ≡ nat_le 128 (y / 256)
         y_sign = ap (λ b. has_bit b 128) h_is ∙ high_bit (y / 256) (omega arith)
 
-        raises_word : Stands f.code mid (raised_by_sign p) → mid + 17 ≤ highest_code → mid + 17 ≡ back → Moves f (Carrying mid bs m text answers true) (Carrying back bs m2 text answers (has_bit h 128)) [] 7
+        raises_word : Stands f.code mid (raised_by_sign p) → mid + 17 ≤ highest_code → mid + 17 ≡ back → Moves f (Carrying mid bs m text answers true)
+            (Carrying back bs m2 text answers (has_bit h 128)) [] 7
         raises_word st r e =
             let a1 = behind f.code mid (ins 0xAD p) (ins 0x69 0 ∷ ins 0x8D p ∷ ins 0xAD (p + 1) ∷ ins 0x69 0 ∷ ins 0x8D (p + 1) ∷ ins 0x0A 0 ∷ []) (omega (arith, r)) st in
             let a2 = behind f.code (mid + 3) (ins 0x69 0) (ins 0x8D p ∷ ins 0xAD (p + 1) ∷ ins 0x69 0 ∷ ins 0x8D (p + 1) ∷ ins 0x0A 0 ∷ []) (omega (arith, r)) a1 in
@@ -438,21 +475,24 @@ module _ (f : Setup) (room : ℕ) (fits : Fits f room) (bs text answers : List �
             (λ u k. record { here = here_at (mid + 3 + 2 + 3 + 3 + 2 + 3 + 1) back m2 u (omega (arith, e)) k.here; carry = k.carry })
             (signs_a f room fits (mid + 3 + 2 + 3 + 3 + 2 + 3) bs m2 text answers small h (omega (arith, r)) a6.0)))))))
 
-        by : Forked first at (sign_asked p) Carry false (raised_by_sign p) (turned_right p) → (t : Bool) → has_bit (m (p + 1)) 128 ≡ t → (u : View) → Carrying (at + 3 + 1) bs m text answers (has_bit (m (p + 1)) 128) u → Comes f u (Stored end (quotient x 2)) [] 14
+        by : Forked first at (sign_asked p) Carry false (raised_by_sign p) (turned_right p) → (t : Bool) → has_bit (m (p + 1)) 128 ≡ t → (u : View)
+            → Carrying (at + 3 + 1) bs m text answers (has_bit (m (p + 1)) 128) u → Comes f u (Stored end (quotient x 2)) [] 14
         by o false e u g =
             let same : word (x + more 0 false) ≡ x = omega (arith, hs.small) in
             let v_is : halve x ≡ quotient x 2 = ap halve (sym same) ∙ half_is false (sym by_sign ∙ e) in
             chained f u _ _ [] [] 2 12 (o.leads m false u (here_at _ fork m u (omega arith) g.here) (g.carry ∙ e)) (λ y k.
             looser f y _ _ [] 2 12 (omega arith)
             (λ y j. stored end (quotient x 2) end _ y refl (ap (λ v. put_word m p (v % 256) (v / 256)) v_is) j)
-            (shifts_right back end x m false (let q = o.ends in omega (arith, q)) (let q = o.end_is in omega (arith, q)) o.behind_stands lo hi hs.small (sym e ∙ sign) y (record { here = k.here; carry = k.carry ∙ g.carry ∙ e })))
+            (shifts_right back end x m false (let q = o.ends in omega (arith, q)) (let q = o.end_is in omega (arith, q)) o.behind_stands lo hi
+                hs.small (sym e ∙ sign) y (record { here = k.here; carry = k.carry ∙ g.carry ∙ e })))
         by o true e u g =
             let v_is : halve (word (x + 1)) ≡ quotient x 2 = half_is true (sym by_sign ∙ e) in
             chained f u _ _ [] [] 2 12 (o.leads m true u (here_at _ fork m u (omega arith) g.here) (g.carry ∙ e)) (λ y k.
             chained f y _ _ [] [] 7 5 (raises_word o.stands (let q = o.ends in omega (arith, q)) (omega arith) y (record { here = k.here; carry = k.carry ∙ g.carry ∙ e })) (λ y k.
             looser f y _ _ [] 2 5 (omega arith)
             (λ y j. stored end (quotient x 2) end _ y refl (put_over m p l h _ _ ∙ ap (λ v. put_word m p (v % 256) (v / 256)) v_is) j)
-            (shifts_right back end (word (x + 1)) m2 (has_bit h 128) (let q = o.ends in omega (arith, q)) (let q = o.end_is in omega (arith, q)) o.behind_stands m2_low m2_high (omega arith) y_sign y k)))
+            (shifts_right back end (word (x + 1)) m2 (has_bit h 128) (let q = o.ends in omega (arith, q)) (let q = o.end_is in
+                omega (arith, q)) o.behind_stands m2_low m2_high (omega arith) y_sign y k)))
 
     -- ---- each change
     pub changes : (c : Change) → IsByte c → Lies f.code at (change_code first at c p) → ChangeReaches first at c p
@@ -472,13 +512,15 @@ changed_small (Lower c) x h = omega arith
 changed_small Halve x h = subst (λ v. v < 65536) (halves_are 0 x (omega arith) h) (halve_small (word (x + more 0 (nat_le 32768 x))) (omega arith))
 changed_small Double x h = omega arith
 
-module _ {around : Surroundings} (fits : Fits around.f 16) (code : SlotCode) {n : ℕ} {op : Operator} {a b : Operand} {d : Destination} {is : List Instr} {s : State} {r : Slots} {w : View} (h : Ready around n (Calculate op a b d) (spread op a b d is) is s r w) where
+module _ {around : Surroundings} (fits : Fits around.f 16) (code : SlotCode) {n : ℕ} {op : Operator} {a b : Operand} {d : Destination}
+    {is : List Instr} {s : State} {r : Slots} {w : View} (h : Ready around n (Calculate op a b d) (spread op a b d is) is s r w) where
   open around use {ly, f}
   open calculation a b d s r use {x, y, left, right, to}
 
   -- the word z at the place is changed
   change_law : (c : Change) (first : Way) (z : ℕ) → IsByte c → SourceHolds w.mem (AtPlace to) z → apply op x y ≡ Some (changed c z)
-      → Lies f.code w.regs.pc (change_code first w.regs.pc c to) → GroupsLie ly f.code n (w.regs.pc + pieces_size (change_code first w.regs.pc c to)) (select is) → ChangeReaches first w.regs.pc c to → Leads h code 16
+      → Lies f.code w.regs.pc (change_code first w.regs.pc c to) → GroupsLie ly f.code n (w.regs.pc + pieces_size (change_code first w.regs.pc c to))
+          (select is) → ChangeReaches first w.regs.pc c to → Leads h code 16
   change_law c first z few hs e lies rest reach =
       let v = changed c z in
       leads_on h code v 16 e
@@ -487,8 +529,11 @@ module _ {around : Surroundings} (fits : Fits around.f 16) (code : SlotCode) {n 
       (changes f 16 fits (around.lo ∷ around.hi ∷ []) w.text w.answers refl first w.regs.pc to (dest_in_data d (fit h).dest) w.mem z hs c few lies reach w (here h)))
 
   -- a calculation, by whether it is a change
-  pub computed_law : (j : ℕ) → 16 ≤ j → (first : Way) (o : Option Change) → IsChange op left right to o → Lies f.code w.regs.pc (changed_or o first n w.regs.pc op left right to) → GroupsLie ly f.code n (w.regs.pc + pieces_size (changed_or o first n w.regs.pc op left right to)) (select is)
-      → ChangedReaches o first w.regs.pc to → (Lies f.code w.regs.pc (calc_code n op left right to) → GroupsLie ly f.code n (w.regs.pc + pieces_size (calc_code n op left right to)) (select is) → Leads h code j) → Leads h code j
+  pub computed_law : (j : ℕ) → 16 ≤ j → (first : Way) (o : Option Change) → IsChange op left right to o
+      → Lies f.code w.regs.pc (changed_or o first n w.regs.pc op left right to)
+      → GroupsLie ly f.code n (w.regs.pc + pieces_size (changed_or o first n w.regs.pc op left right to)) (select is)
+      → ChangedReaches o first w.regs.pc to → (Lies f.code w.regs.pc (calc_code n op left right to)
+          → GroupsLie ly f.code n (w.regs.pc + pieces_size (calc_code n op left right to)) (select is) → Leads h code j) → Leads h code j
   computed_law j le first _ (of_left v c e e' m) lies rest reach other =
       let q = constant_is w.mem v _ right e' (right_holds h w.mem (kept h)) in
       looser f w _ _ _ 16 j le (λ u z. z)

@@ -1,5 +1,6 @@
 -- The bytes of items without a branch, and forms cut behind such items and behind a branch.
-use Rattle.std.proofs.Common.{◌≡◌, ℕ, ◌+◌, ◌/◌, ◌%◌, ◌≤◌, ◌<◌, Bool, true, false, ◌&&◌, List, [], ◌∷◌, ◌++◌, map, refl, sym, ap, ◌∙◌, subst, arith, Some, append_assoc, true≢false}
+use Rattle.std.proofs.Common.{◌≡◌, ℕ, ◌+◌, ◌/◌, ◌%◌, ◌≤◌, ◌<◌, Bool, true, false, ◌&&◌, List, [], ◌∷◌, ◌++◌, map}
+use Rattle.std.proofs.Common.{refl, sym, ap, ◌∙◌, subst, arith, Some, append_assoc, true≢false}
 use Rattle.std.specs.Prelude.{zero, suc, ◌-◌, ◌^◌, if◌then◌else◌, nat_eq, nat_lt, unwrap_or, Option, None}
 use Rattle.std.proofs.lemmas.List.{append-nil}
 use Rattle.std.specs.List.{list_all}
@@ -288,7 +289,8 @@ module _ (labels : List (Name × ℕ)) where
   unfolding opcodes.encoded
   rounded_bytes zero s few = lda_low s ▹ record { same = λ a. refl } ▹ none
   rounded_bytes (suc k) s few =
-      record { same = λ a. refl } ▹ record { same = λ a. refl } ▹ record { same = λ a. ap (λ b. 0x29 ∷ b ∷ []) (masked (suc k) few) } ▹ record { same = λ a. ap (λ b. 0x49 ∷ b ∷ []) (masked (suc k) few) } ▹ adc_low s ▹ none
+      record { same = λ a. refl } ▹ record { same = λ a. refl } ▹ record { same = λ a. ap (λ b. 0x29 ∷ b ∷ []) (masked (suc k) few) }
+          ▹ record { same = λ a. ap (λ b. 0x49 ∷ b ∷ []) (masked (suc k) few) } ▹ adc_low s ▹ none
 
   signed_bytes : (s : Source) → IsWord s → AllEncode (items.high_of Lda s ∷ product.const Cmp 128 ∷ []) (coded.signed s)
   unfolding opcodes.encoded
@@ -313,9 +315,13 @@ module _ (labels : List (Name × ℕ)) where
   shifted_bytes : (k : ℕ) (s : Source) (to : ℕ) → k < 6 → IsWord s → AllEncode (scaled.shifted k s to) (coded.shifted k s to)
   shifted_bytes k s to few h =
       let tail = made_append (scaled.halvings (suc k)) (scaled.high_first to) (coded.halvings (suc k)) (coded.high_first to) (halvings_bytes (suc k)) (high_first_bytes to) in
-      let front = made_append (scaled.rounded k s) (scaled.at_zero Sta LEFT ∷ items.high_of Lda s ∷ product.const Adc 0 ∷ []) (coded.rounded k s) (coded.carried s) (rounded_bytes k s few) (carried_bytes s h) in
-      let raised = made_append (items.high_of Lda s ∷ product.const Cmp 128 ∷ []) (scaled.rounded k s ++ (scaled.at_zero Sta LEFT ∷ items.high_of Lda s ∷ product.const Adc 0 ∷ [])) (coded.signed s) (coded.rounded k s ++ coded.carried s) (signed_bytes s h) front in
-      let all = made_append (scaled.raised k s) (scaled.halvings (suc k) ++ scaled.high_first to) (coded.signed s ++ (coded.rounded k s ++ coded.carried s)) (coded.halvings (suc k) ++ coded.high_first to) raised tail in
+      let front = made_append (scaled.rounded k s) (scaled.at_zero Sta LEFT ∷ items.high_of Lda s ∷ product.const Adc 0 ∷ []) (coded.rounded k s)
+          (coded.carried s) (rounded_bytes k s few) (carried_bytes s h) in
+      let raised = made_append (items.high_of Lda s ∷ product.const Cmp 128 ∷ [])
+          (scaled.rounded k s ++ (scaled.at_zero Sta LEFT ∷ items.high_of Lda s ∷ product.const Adc 0 ∷ [])) (coded.signed s)
+          (coded.rounded k s ++ coded.carried s) (signed_bytes s h) front in
+      let all = made_append (scaled.raised k s) (scaled.halvings (suc k) ++ scaled.high_first to)
+          (coded.signed s ++ (coded.rounded k s ++ coded.carried s)) (coded.halvings (suc k) ++ coded.high_first to) raised tail in
       subst (AllEncode (scaled.shifted k s to)) (ap (λ is. coded.signed s ++ is) (append_assoc (coded.rounded k s) (coded.carried s) (coded.halvings (suc k) ++ coded.high_first to))) all
 
   doubled_bytes : AllEncode scaled.doubled coded.doubled
@@ -324,7 +330,8 @@ module _ (labels : List (Name × ℕ)) where
 
   increased_bytes : (s : Source) → IsWord s → AllEncode (scaled.increased s) (coded.increased s)
   unfolding opcodes.encoded
-  increased_bytes s h = clear ▹ adc_low s ▹ record { same = λ a. refl } ▹ record { same = λ a. refl } ▹ adc_high s h ▹ record { same = λ a. refl } ▹ record { same = λ a. refl } ▹ none
+  increased_bytes s h = clear ▹ adc_low s ▹ record { same = λ a. refl } ▹ record { same = λ a. refl } ▹ adc_high s h ▹ record { same = λ a. refl }
+      ▹ record { same = λ a. refl } ▹ none
 
   bit_bytes : (t : Bool) (s : Source) → IsWord s → AllEncode (scaled.by_bit t s) (coded.by_bit t s)
   bit_bytes false s h = doubled_bytes
@@ -337,7 +344,8 @@ module _ (labels : List (Name × ℕ)) where
       odd : Bool
       odd = nat_eq (factor % 2) 1
 
-      by : AllEncode (scaled.by_bits k (factor / 2) s) (coded.by_bits k (factor / 2) s) → (t : Bool) → AllEncode (if t then [] else scaled.by_bits k (factor / 2) s ++ scaled.by_bit odd s) (if t then [] else coded.by_bits k (factor / 2) s ++ coded.by_bit odd s)
+      by : AllEncode (scaled.by_bits k (factor / 2) s) (coded.by_bits k (factor / 2) s) → (t : Bool)
+          → AllEncode (if t then [] else scaled.by_bits k (factor / 2) s ++ scaled.by_bit odd s) (if t then [] else coded.by_bits k (factor / 2) s ++ coded.by_bit odd s)
       by b true = none
       by b false = made_append (scaled.by_bits k (factor / 2) s) (scaled.by_bit odd s) (coded.by_bits k (factor / 2) s) (coded.by_bit odd s) b (bit_bytes odd s h)
 
@@ -352,7 +360,8 @@ module _ (labels : List (Name × ℕ)) where
   times_bytes : (factor : ℕ) (s : Source) (to : ℕ) → IsWord s → AllEncode (scaled.times factor s to) (coded.times factor s to)
   times_bytes factor s to h =
       let tail = made_append (scaled.by_bits 15 factor s) (scaled.low_first to) (coded.by_bits 15 factor s) (coded.low_first to) (bits_bytes 15 factor s h) (low_first_bytes to) in
-      made_append (items.high_of Lda s ∷ scaled.at_zero Sta LEFT ∷ items.low_of Lda s ∷ []) (scaled.by_bits 15 factor s ++ scaled.low_first to) (coded.begun s) (coded.by_bits 15 factor s ++ coded.low_first to) (begun_bytes s h) tail
+      made_append (items.high_of Lda s ∷ scaled.at_zero Sta LEFT ∷ items.low_of Lda s ∷ []) (scaled.by_bits 15 factor s ++ scaled.low_first to)
+          (coded.begun s) (coded.by_bits 15 factor s ++ coded.low_first to) (begun_bytes s h) tail
 
   -- ---- tests by bytes
   pub weighed_low : (s t : Source) → AllEncode (items.low_of Lda s ∷ items.low_of Cmp t ∷ []) (weighed (low s) (low t))
@@ -376,16 +385,19 @@ module _ (labels : List (Name × ℕ)) where
       (block labels (product.call entry ∷ []) (resolved.call entry) refl
       (block labels (product.copied from to) (resolved.copied from to) (copied_bytes labels [] 0 _ from to) (ends labels))))
 
-  pub lined_emits : (at : ℕ) (t : Bool) (n : ℕ) → n < 65536 → (es : List Entry) (ps : List Piece) → ((b : ℕ) → Emits labels b (map kept es) ps) → Emits labels at (map kept (items.lined t n es)) (coded.lined_code t n ps)
+  pub lined_emits : (at : ℕ) (t : Bool) (n : ℕ) → n < 65536 → (es : List Entry) (ps : List Piece) → ((b : ℕ) → Emits labels b (map kept es) ps)
+      → Emits labels at (map kept (items.lined t n es)) (coded.lined_code t n ps)
   lined_emits at true n l es ps e = block labels (product.constant n LINE) (resolved.constant n LINE) (constant_bytes labels [] 0 at n LINE l) (e (at + 10))
   lined_emits at false n l es ps e = e at
 
-  product_emits : {at : ℕ} (o : Option (ℕ × Source)) (s t : Source) (to : ℕ) → IsScaling s t o → IsWord s → IsWord t → Emits labels at (map kept (items.multiplied o s t to)) (coded.product_code o s t to)
+  product_emits : {at : ℕ} (o : Option (ℕ × Source)) (s t : Source) (to : ℕ) → IsScaling s t o → IsWord s → IsWord t
+      → Emits labels at (map kept (items.multiplied o s t to)) (coded.product_code o s t to)
   product_emits _ s t to (by_right w e good) h k = all_made (scaled.times w s to) (coded.times w s to) (times_bytes w s to h)
   product_emits _ s t to (by_left v e good) h k = all_made (scaled.times v t to) (coded.times v t to) (times_bytes v t to k)
   product_emits _ s t to by_routine h k = handed_emits MULTIPLY_AT RESULT s t to h k
 
-  quotient_emits : (n at : ℕ) (o : Option ℕ) (s t : Source) (to : ℕ) → IsShifting t o → n < 65536 → IsWord s → IsWord t → Emits labels at (map kept (items.divided n o s t to)) (coded.quotient_code n o s t to)
+  quotient_emits : (n at : ℕ) (o : Option ℕ) (s t : Source) (to : ℕ) → IsShifting t o → n < 65536 → IsWord s → IsWord t
+      → Emits labels at (map kept (items.divided n o s t to)) (coded.quotient_code n o s t to)
   unfolding opcodes.encoded
   quotient_emits n at _ s t to (by_shifts w j e few p) l h k = all_made (scaled.shifted j s to) (coded.shifted j s to) (shifted_bytes j s to few h)
   quotient_emits n at _ s t to by_call l h k =
@@ -400,7 +412,9 @@ module _ (labels : List (Name × ℕ)) where
       (block labels (product.call DIVIDE_AT ∷ []) (resolved.call DIVIDE_AT) refl
       (block labels (product.at Lda RESULT ∷ product.at Ora (RESULT + 1) ∷ []) coded.told refl (ends labels))))
 
-  called_emits : {at : ℕ} (s t : Source) → IsWord s → IsWord t → Emits labels at (map kept (items.brought s LEFT ++ (items.brought t RIGHT ++ (product.call DIVIDE_AT ∷ [])))) (Code (coded.brought s LEFT) ∷ Code (coded.brought t RIGHT) ∷ Code (resolved.call DIVIDE_AT) ∷ [])
+  called_emits : {at : ℕ} (s t : Source) → IsWord s → IsWord t
+      → Emits labels at (map kept (items.brought s LEFT ++ (items.brought t RIGHT ++ (product.call DIVIDE_AT ∷ [])))) (Code (coded.brought s LEFT)
+      ∷ Code (coded.brought t RIGHT) ∷ Code (resolved.call DIVIDE_AT) ∷ [])
   unfolding opcodes.encoded
   called_emits s t h k =
       block labels (items.brought s LEFT) (coded.brought s LEFT) ((brought_bytes s LEFT h).same _)
@@ -420,11 +434,13 @@ module _ (labels : List (Name × ℕ)) where
   unfolding opcodes.encoded
   bits_bytes_of k s few = lda_low s ▹ record { same = λ a. ap (λ b. 0x29 ∷ b ∷ []) (mask_small k few) } ▹ none
 
-  pub left_over_emits : (n at : ℕ) (o : Option ℕ) (s t : Source) → IsMasking t o → n < 65536 → IsWord s → IsWord t → Emits labels at (map kept (items.left_over n o s t)) (coded.left_over n o s t)
+  pub left_over_emits : (n at : ℕ) (o : Option ℕ) (s t : Source) → IsMasking t o → n < 65536 → IsWord s → IsWord t
+      → Emits labels at (map kept (items.left_over n o s t)) (coded.left_over n o s t)
   left_over_emits n at _ s t (by_bits w k e few p) l h g = all_made (lowest_bits (2 ^ (k + 1) - 1) s) (coded.lowest_bits (2 ^ (k + 1) - 1) s) (bits_bytes_of k s few)
   left_over_emits n at _ s t by_division l h g = lined_emits at (items.may_be_zero t) n l (items.remainder s t) (coded.remainder s t) (λ b. remainder_emits {at = b} s t h g)
 
-  pub calculated_emits : (n at : ℕ) (o : Operator) (s t : Source) (to : ℕ) → n < 65536 → IsWord s → IsWord t → Emits labels at (map kept (items.calculated n o s t to)) (coded.calc_code n o s t to)
+  pub calculated_emits : (n at : ℕ) (o : Operator) (s t : Source) (to : ℕ) → n < 65536 → IsWord s → IsWord t
+      → Emits labels at (map kept (items.calculated n o s t to)) (coded.calc_code n o s t to)
   unfolding opcodes.encoded
   calculated_emits n at op.Add s t to l h k = block labels (items.summed s t to) (coded.summed s t to) ((summed_bytes s t to h k).same at) (ends labels)
   calculated_emits n at op.Subtract s t to l h k = block labels (items.taken s t to) (coded.taken s t to) ((taken_bytes s t to h k).same at) (ends labels)
@@ -454,5 +470,6 @@ module _ (labels : List (Name × ℕ)) where
   value_of l a e = ap (λ o. unwrap_or o 0) e
 
   -- a branch of these forms reaches
-  pub gets_there : (at to : ℕ) (way : Way) (n : Mnemonic) (l : Name) (fs : List Form) → address_in labels l ≡ Some to → to ≤ highest_code → Rest at (formed way n l ∷ fs) → BranchReaches way at to
+  pub gets_there : (at to : ℕ) (way : Way) (n : Mnemonic) (l : Name) (fs : List Form) → address_in labels l ≡ Some to → to ≤ highest_code
+      → Rest at (formed way n l ∷ fs) → BranchReaches way at to
   gets_there at to way n l fs h top r = reaches labels way n at to l (items_from (at + form_size (formed way n l)) fs) h top r.near

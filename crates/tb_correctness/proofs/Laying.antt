@@ -1,5 +1,6 @@
 -- A program whose settled code lies where its labels say is laid out as the laws of the groups want it.
-use Rattle.std.proofs.Common.{leb, ◌≡◌, ◌⊎◌, ℕ, ◌+◌, ◌%◌, ◌≤◌, ◌<◌, Bool, true, false, ◌||◌, List, [], ◌∷◌, ◌++◌, length, refl, sym, ap, ◌∙◌, subst, inr, ⊎_elim, arith, Some, None}
+use Rattle.std.proofs.Common.{leb, ◌≡◌, ◌⊎◌, ℕ, ◌+◌, ◌%◌, ◌≤◌, ◌<◌, Bool, true, false, ◌||◌, List, [], ◌∷◌, ◌++◌}
+use Rattle.std.proofs.Common.{length, refl, sym, ap, ◌∙◌, subst, inr, ⊎_elim, arith, Some, None}
 use Rattle.std.specs.Prelude.{if◌then◌else◌, nat_eq}
 use Rattle.std.proofs.lemmas.Bool.{leb-true, eq-eqb, ne_eqb}
 use Rattle.std.proofs.Math.Bool.{or-true}
@@ -41,7 +42,8 @@ module _ (code : Part) (labels : List (Name × ℕ)) where
 
   pub back : (a : ℕ) (xs ys : List Entry) → Lies code labels a (xs ++ ys) → Lies code labels (a + size xs) ys
   back a xs ys h = record {
-    bytes = subst (λ n. Bytes code (a + n) (bytes_from labels (a + size xs) ys)) (all_size labels a xs) (behind code a (bytes_from labels a xs) (bytes_from labels (a + size xs) ys) (omega (arith, h.below, size_append xs ys, all_size labels a xs)) (subst (Bytes code a) (bytes_append labels a xs ys) h.bytes));
+    bytes = subst (λ n. Bytes code (a + n) (bytes_from labels (a + size xs) ys)) (all_size labels a xs) (behind code a (bytes_from labels a xs)
+        (bytes_from labels (a + size xs) ys) (omega (arith, h.below, size_append xs ys, all_size labels a xs)) (subst (Bytes code a) (bytes_append labels a xs ys) h.bytes));
     labelled = (labels_split labels a xs ys h.labelled).1;
     below = omega (arith, h.below, size_append xs ys);
   }
@@ -51,12 +53,14 @@ module _ (ly : Layout) (code : Part) where
   inner_same : (a : ℕ) → is_start ly.start ly.numbers a ≡ false → inner ly code a ≡ code a
   inner_same a e = ap (λ t. if t then None else code a) e
 
-  pub inner_bytes : (at : ℕ) (bs : List ℕ) → at + length bs ≤ 0xa000 → ((a : ℕ) → at ≤ a → a < at + length bs → is_start ly.start ly.numbers a ≡ false) → Bytes code at bs → Bytes (inner ly code) at bs
+  pub inner_bytes : (at : ℕ) (bs : List ℕ) → at + length bs ≤ 0xa000 → ((a : ℕ) → at ≤ a → a < at + length bs → is_start ly.start ly.numbers a
+      ≡ false) → Bytes code at bs → Bytes (inner ly code) at bs
   inner_bytes at [] small none h = tt
   inner_bytes at (b ∷ bs) small none h =
       let e : (at + 1) % 65536 ≡ at + 1 = omega (arith, small) in (
         inner_same at (none at (omega arith) (omega arith)) ∙ h.0,
-        subst (λ p. Bytes (inner ly code) p bs) (sym e) (inner_bytes (at + 1) bs (omega (arith, small)) (λ a lo hi. none a (omega (arith, lo)) (omega (arith, hi))) (subst (λ p. Bytes code p bs) e h.1)),
+        subst (λ p. Bytes (inner ly code) p bs) (sym e) (inner_bytes (at + 1) bs (omega (arith, small)) (λ a lo hi. none a (omega (arith, lo))
+            (omega (arith, hi))) (subst (λ p. Bytes code p bs) e h.1)),
       )
 
 -- a number of the list has a line
@@ -65,7 +69,8 @@ module _ (labels : List (Name × ℕ)) (all : List ℕ) (seed : ℕ) where
   ly = layout_of labels all seed
 
   -- an address that is no line's label is no start
-  pub no_start : (ns : List ℕ) → ((n : ℕ) → has_line ns n ≡ true → has_line all n ≡ true) → (a : ℕ) → ((n : ℕ) → has_line all n ≡ true → a ≡ place_of labels (target.Line n) → ⊥) → is_start ly.start ns a ≡ false
+  pub no_start : (ns : List ℕ) → ((n : ℕ) → has_line ns n ≡ true → has_line all n ≡ true) → (a : ℕ)
+      → ((n : ℕ) → has_line all n ≡ true → a ≡ place_of labels (target.Line n) → ⊥) → is_start ly.start ns a ≡ false
   no_start [] among a none = refl
   no_start (n ∷ ns) among a none =
       let here : has_line all n ≡ true = among n (ap (λ b. b || has_line ns n) (eq-eqb n n refl)) in
@@ -134,13 +139,16 @@ module _ (labels : List (Name × ℕ)) (seed : ℕ) (code : Part) (sc : slots.Sl
   top_small (l ∷ k ∷ ls) h = top_small (k ∷ ls) (λ n e. h n (ap (λ b. nat_eq l.number n || b) e ∙ or-true (nat_eq l.number n)))
 
   -- ---- where no line begins
-  pub none_between : (from to : ℕ) → ((n : ℕ) → has_line ns n ≡ true → (place_of labels (target.Line n) < from) ⊎ (to ≤ place_of labels (target.Line n))) → (a : ℕ) → from ≤ a → a < to → is_start laid_layout.start laid_layout.numbers a ≡ false
-  none_between from to clear a lo hi = no_start labels ns seed ns (λ n h. h) a (λ n e q. ⊎_elim (λ l. (let no : ⊥ = omega (arith, l, q, lo) in no)) (λ l. (let no : ⊥ = omega (arith, l, q, hi) in no)) (clear n e))
+  pub none_between : (from to : ℕ) → ((n : ℕ) → has_line ns n ≡ true → (place_of labels (target.Line n) < from) ⊎
+      (to ≤ place_of labels (target.Line n))) → (a : ℕ) → from ≤ a → a < to → is_start laid_layout.start laid_layout.numbers a ≡ false
+  none_between from to clear a lo hi = no_start labels ns seed ns (λ n h. h) a (λ n e q. ⊎_elim (λ l. (let no : ⊥ = omega (arith, l, q, lo) in no))
+      (λ l. (let no : ⊥ = omega (arith, l, q, hi) in no)) (clear n e))
 
   -- items that no line begins in lie among the inner bytes
   inside : (at : ℕ) (es : List Entry) → Lies code labels at es → IsClear labels ns at es → Lies within labels at es
   inside at es h clear = record {
-    bytes = inner_bytes laid_layout code at (bytes_from labels at es) (omega (arith, h.below, all_size labels at es)) (λ a lo hi. none_between at (at + size es) clear a lo (omega (arith, hi, all_size labels at es))) h.bytes;
+    bytes = inner_bytes laid_layout code at (bytes_from labels at es) (omega (arith, h.below, all_size labels at es))
+        (λ a lo hi. none_between at (at + size es) clear a lo (omega (arith, hi, all_size labels at es))) h.bytes;
     labelled = h.labelled;
     below = h.below;
   }
@@ -174,8 +182,10 @@ module _ (labels : List (Name × ℕ)) (seed : ℕ) (code : Part) (sc : slots.Sl
   find_lies =
       let at = place_of labels target.Find in
       (pieces at (program.find_code ns) (resolved.find_code laid_layout) (inside at (program.find_code ns) laid.find laid.find_clear)
-      (joined labels ns seed at 8 (product.here target.Find ∷ product.address target.Table TABLE) (product.constant (length ns) COUNT ++ (product.at Jmp SEARCH_AT ∷ [])) _ _ refl (address_bytes labels ns seed at target.Table (place_of labels target.Table) TABLE refl table_small (omega arith))
-      (joined labels ns seed (at + 8) 10 (product.constant (length ns) COUNT) (product.at Jmp SEARCH_AT ∷ []) _ _ refl (constant_bytes labels ns seed (at + 8) (length ns) COUNT laid.count_small) refl))).1
+      (joined labels ns seed at 8 (product.here target.Find ∷ product.address target.Table TABLE) (product.constant (length ns) COUNT
+          ++ (product.at Jmp SEARCH_AT ∷ [])) _ _ refl (address_bytes labels ns seed at target.Table (place_of labels target.Table) TABLE refl table_small (omega arith))
+      (joined labels ns seed (at + 8) 10 (product.constant (length ns) COUNT) (product.at Jmp SEARCH_AT ∷ []) _ _ refl
+          (constant_bytes labels ns seed (at + 8) (length ns) COUNT laid.count_small) refl))).1
 
   -- the block and the line table lie among the inner bytes, for the routines
   pub block_short : leb (length block_bytes) 1011 ≡ true

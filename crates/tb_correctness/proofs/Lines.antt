@@ -1,5 +1,6 @@
 -- The settled code of lines is laid out as the laws of the groups want it.
-use Rattle.std.proofs.Common.{◌≡◌, ℕ, ◌+◌, ◌≤◌, ◌<◌, Bool, true, false, List, [], ◌∷◌, ◌++◌, length, refl, sym, ap, ◌∙◌, subst, inl, inr, ⊎_elim, arith, Option, Some, None}
+use Rattle.std.proofs.Common.{◌≡◌, ℕ, ◌+◌, ◌≤◌, ◌<◌, Bool, true, false, List, [], ◌∷◌, ◌++◌, length, refl, sym, ap, ◌∙◌}
+use Rattle.std.proofs.Common.{subst, inl, inr, ⊎_elim, arith, Option, Some, None}
 use Rattle.std.specs.Prelude.{if◌then◌else◌, not, ◌||◌, nat_eq, unwrap_or}
 use Rattle.tb_opcodes.specs.Opcodes as opcodes
 use Rattle.tb_opcodes.specs.declared.Mnemonic.TheVariants.{Beq, Cmp, Jsr}
@@ -41,7 +42,8 @@ use Rattle.tb_correctness.proofs.Emits.{bytes_behind, emitted_size}
 use Rattle.tb_correctness.proofs.CallBytes.{each_emitted}
 use Rattle.tb_correctness.proofs.ItemBytes.{Rest, rest_before, rest_behind}
 use Rattle.tb_correctness.proofs.GroupBytes.{poll_emitted}
-use Rattle.tb_correctness.proofs.Laying.{inner_bytes, line_of, none_between, start_small, place_small, within_small, broken_lies, past_lies, find_lies, top_small, table_small, content_has, content_none}
+use Rattle.tb_correctness.proofs.Laying.{inner_bytes, line_of, none_between, start_small, place_small, within_small, broken_lies, past_lies, find_lies}
+use Rattle.tb_correctness.proofs.Laying.{top_small, table_small, content_has, content_none}
 use Rattle.tb_correctness.proofs.Singles.{AreAlone, all_alone}
 
 -- the poll's code behind the call of GETIN
@@ -112,7 +114,8 @@ module _ (labels : List (Name × ℕ)) (seed : ℕ) (code : Part) (sc : slots.Sl
         let rs = subst (Rest labels at) s.are r in
         let below = rs.below in
         let range = range_split (expand g) (expand_all gs) ranged in
-        let m = each_emitted labels ns seed n laid.seed_small small (record { there = next_stands n; top = next_below n; lines_there = starts_there; starts_top = starts_below }) i at g s.front alone.0 range.0 s.of_front (rest_before labels at s.front s.back rs) in
+        let m = each_emitted labels ns seed n laid.seed_small small (record { there = next_stands n; top = next_below n; lines_there = starts_there;
+            starts_top = starts_below }) i at g s.front alone.0 range.0 s.of_front (rest_before labels at s.front s.back rs) in
         let ps = group_code ly n at m.first m.second g in
         let long : forms_size s.front ≡ pieces_size ps = emitted_size labels m.emits in
         let bs = part_bytes within at s.front s.back below (subst (λ k. Bytes within at (bytes_from labels at (items_from at k))) s.are b) in
@@ -123,8 +126,10 @@ module _ (labels : List (Name × ℕ)) (seed : ℕ) (code : Part) (sc : slots.Sl
           m.second,
           ranged,
           lies within (within_small labels seed code sc laid) at ps (omega (arith, below, sum, long)) (subst (Bytes within at) m.emits.bytes bs.0),
-          behind_by (leaves g) (λ stays. rest_lies (i + 1) (at + pieces_size ps) gs s.back (omega (arith, low)) range.1 alone.1 s.of_back (rest_behind labels at (at + pieces_size ps) s.front s.back there rs)
-              (subst (λ a. Bytes within a (bytes_from labels a (items_from a s.back))) there bs.1) (λ none. let q = e (ap (λ t. t || some_leaves gs) stays ∙ none) in omega (arith, q, size_is, sum, long))),
+          behind_by (leaves g) (λ stays. rest_lies (i + 1) (at + pieces_size ps) gs s.back (omega (arith, low)) range.1 alone.1 s.of_back
+              (rest_behind labels at (at + pieces_size ps) s.front s.back there rs)
+              (subst (λ a. Bytes within a (bytes_from labels a (items_from a s.back))) there bs.1) (λ none. let q =
+                  e (ap (λ t. t || some_leaves gs) stays ∙ none) in omega (arith, q, size_is, sum, long))),
           m.reach,
           low,
         )
@@ -151,21 +156,25 @@ module _ (labels : List (Name × ℕ)) (seed : ℕ) (code : Part) (sc : slots.Sl
         let head : items_from at s.front ≡ asks = straight_items at asks s.front refl s.of_front in
         let three : forms_size s.front ≡ 3 = (let a = items_size at s.front in let b = ap size head in omega (arith, a, b)) in
         let long : size (items_from at l.forms) ≡ forms_size l.forms = items_size at l.forms in
-        let total : forms_size l.forms ≡ forms_size s.front + (forms_size t.front + forms_size t.back) = ap forms_size whole ∙ forms_append s.front (t.front ++ t.back) ∙ ap (λ k. forms_size s.front + k) (forms_append t.front t.back) in
+        let total : forms_size l.forms ≡ forms_size s.front + (forms_size t.front + forms_size t.back) = ap forms_size whole
+            ∙ forms_append s.front (t.front ++ t.back) ∙ ap (λ k. forms_size s.front + k) (forms_append t.front t.back) in
         let below : at + forms_size l.forms ≤ highest_code = (let b = l.lies.below in omega (arith, b, long)) in
         let all : Rest labels at (s.front ++ (t.front ++ t.back)) = subst (Rest labels at) whole (record { labels_at = l.lies.labelled; near = l.near; below = below }) in
         let there : at + forms_size s.front ≡ at + 3 = omega (arith, three) in
         let behind_call : Rest labels (at + 3) (t.front ++ t.back) = rest_behind labels at (at + 3) s.front (t.front ++ t.back) there all in
         let bytes = part_bytes code at s.front (t.front ++ t.back) (let b = all.below in b) (subst (λ k. Bytes code at (bytes_from labels at (items_from at k))) whole l.lies.bytes) in
         let call_bytes : Bytes code at (flat (call 0xFFE4)) = subst (λ es. Bytes code at (bytes_from labels at es)) head bytes.0 in
-        let later : Bytes code (at + 3) (bytes_from labels (at + 3) (items_from (at + 3) (t.front ++ t.back))) = subst (λ a. Bytes code a (bytes_from labels a (items_from a (t.front ++ t.back)))) there bytes.1 in
+        let later : Bytes code (at + 3) (bytes_from labels (at + 3) (items_from (at + 3) (t.front ++ t.back))) =
+            subst (λ a. Bytes code a (bytes_from labels a (items_from a (t.front ++ t.back)))) there bytes.1 in
         let inner_later : Bytes within (at + 3) (bytes_from labels (at + 3) (items_from (at + 3) (t.front ++ t.back))) =
         inner_bytes ly code (at + 3) (bytes_from labels (at + 3) (items_from (at + 3) (t.front ++ t.back))) (later_end at s.front t.front t.back three total below)
-        (λ a lo hi. none_between labels seed code sc laid (at + 3) (at + size (items_from at l.forms)) (λ m e. ⊎_elim (λ q. inl (omega (arith, q))) (λ q. inr q) (l.clear m e)) a lo (later_inside at s.front t.front t.back l.forms three total long a hi)) later in
+        (λ a lo hi. none_between labels seed code sc laid (at + 3) (at + size (items_from at l.forms)) (λ m e. ⊎_elim (λ q. inl (omega (arith, q)))
+            (λ q. inr q) (l.clear m e)) a lo (later_inside at s.front t.front t.back l.forms three total long a hi)) later in
         let poll_rest = rest_before labels (at + 3) t.front t.back behind_call in
         let broken = laid.breaks n has in
         let to = place_of labels (target.Break n) in
-        let p = poll_emitted labels ns seed n laid.seed_small small (at + 3) to stop t.front (stands (target.Break n) _ broken.labelled.0) (let b = broken.below in omega (arith, b)) t.of_front poll_rest in
+        let p = poll_emitted labels ns seed n laid.seed_small small (at + 3) to stop t.front (stands (target.Break n) _ broken.labelled.0)
+            (let b = broken.below in omega (arith, b)) t.of_front poll_rest in
         let ps = poll_code (at + 3) p.way to in
         let poll_long : forms_size t.front ≡ pieces_size ps = emitted_size labels p.emits in
         let behind_below = behind_call.below in
@@ -185,13 +194,19 @@ module _ (labels : List (Name × ℕ)) (seed : ℕ) (code : Part) (sc : slots.Sl
               (λ none. line_end at l.forms s.front t.front t.back p.way three total long groups_at (l.next none) ∙ next_same labels ns seed n),
         )
       where
-        later_end : (at : ℕ) (f g h : List Form) → forms_size f ≡ 3 → forms_size l.forms ≡ forms_size f + (forms_size g + forms_size h) → at + forms_size l.forms ≤ highest_code → at + 3 + length (bytes_from labels (at + 3) (items_from (at + 3) (g ++ h))) ≤ 0xa000
-        later_end at f g h three total below = let a = all_size labels (at + 3) (items_from (at + 3) (g ++ h)) in let b = items_size (at + 3) (g ++ h) in let c = forms_append g h in omega (arith, a, b, c, three, total, below)
+        later_end : (at : ℕ) (f g h : List Form) → forms_size f ≡ 3 → forms_size l.forms ≡ forms_size f + (forms_size g + forms_size h)
+            → at + forms_size l.forms ≤ highest_code → at + 3 + length (bytes_from labels (at + 3) (items_from (at + 3) (g ++ h))) ≤ 0xa000
+        later_end at f g h three total below = let a = all_size labels (at + 3) (items_from (at + 3) (g ++ h)) in
+            let b = items_size (at + 3) (g ++ h) in let c = forms_append g h in omega (arith, a, b, c, three, total, below)
 
-        later_inside : (at : ℕ) (f g h fs : List Form) → forms_size f ≡ 3 → forms_size fs ≡ forms_size f + (forms_size g + forms_size h) → size (items_from at fs) ≡ forms_size fs → (a : ℕ) → a < at + 3 + length (bytes_from labels (at + 3) (items_from (at + 3) (g ++ h))) → a < at + size (items_from at fs)
-        later_inside at f g h fs three total long x hi = let a = all_size labels (at + 3) (items_from (at + 3) (g ++ h)) in let b = items_size (at + 3) (g ++ h) in let c = forms_append g h in omega (arith, a, b, c, three, total, long, hi)
+        later_inside : (at : ℕ) (f g h fs : List Form) → forms_size f ≡ 3 → forms_size fs ≡ forms_size f + (forms_size g + forms_size h)
+            → size (items_from at fs) ≡ forms_size fs → (a : ℕ) → a < at + 3 + length (bytes_from labels (at + 3) (items_from (at + 3) (g ++ h))) → a < at + size (items_from at fs)
+        later_inside at f g h fs three total long x hi = let a = all_size labels (at + 3) (items_from (at + 3) (g ++ h)) in
+            let b = items_size (at + 3) (g ++ h) in let c = forms_append g h in omega (arith, a, b, c, three, total, long, hi)
 
-        line_end : (at : ℕ) (fs f g h : List Form) (way : Way) → forms_size f ≡ 3 → forms_size fs ≡ forms_size f + (forms_size g + forms_size h) → size (items_from at fs) ≡ forms_size fs → at + 3 + forms_size g ≡ at + 5 + way_size way → at + size (items_from at fs) ≡ place_of labels (next_line ns n) → at + 5 + way_size way + forms_size h ≡ place_of labels (next_line ns n)
+        line_end : (at : ℕ) (fs f g h : List Form) (way : Way) → forms_size f ≡ 3 → forms_size fs ≡ forms_size f + (forms_size g + forms_size h)
+            → size (items_from at fs) ≡ forms_size fs → at + 3 + forms_size g ≡ at + 5 + way_size way → at + size (items_from at fs)
+            ≡ place_of labels (next_line ns n) → at + 5 + way_size way + forms_size h ≡ place_of labels (next_line ns n)
         line_end at fs f g h way three total long there next = (let q : at + 5 + way_size way + forms_size h ≡ at + size (items_from at fs) = omega (arith, three, total, long, there) in q) ∙ next
 
   -- the whole program
@@ -205,7 +220,8 @@ module _ (labels : List (Name × ℕ)) (seed : ℕ) (code : Part) (sc : slots.Sl
       same : (a b : List slots.Instr) → ◌≡◌ {A = Option (List slots.Instr)} (Some a) (Some b) → a ≡ b
       same a b e = cc
 
-      go : (content_at ls n ≡ Some is → (rest : List slots.Instr) × (is ≡ slots.Poll ∷ rest)) → (t : Bool) → (if t then Some l.content else content_at ls n) ≡ Some is → (rest : List slots.Instr) × (is ≡ slots.Poll ∷ rest)
+      go : (content_at ls n ≡ Some is → (rest : List slots.Instr) × (is ≡ slots.Poll ∷ rest)) → (t : Bool)
+          → (if t then Some l.content else content_at ls n) ≡ Some is → (rest : List slots.Instr) × (is ≡ slots.Poll ∷ rest)
       go later true e = (h.0.0, sym (same l.content is e) ∙ h.0.1)
       go later false e = later e
 
@@ -218,7 +234,8 @@ module _ (labels : List (Name × ℕ)) (seed : ℕ) (code : Part) (sc : slots.Sl
         record {
           rest = p.0;
           polled = p.1;
-          stands = subst (λ a. LineStands ly within code n a p.0) (start_of_line labels ns seed n (content_has labels seed code sc laid sc n is e)) (line_lies n (laid.lines n is e).small p.0 (content_has labels seed code sc laid sc n is e) l);
+          stands = subst (λ a. LineStands ly within code n a p.0) (start_of_line labels ns seed n (content_has labels seed code sc laid sc n is e))
+              (line_lies n (laid.lines n is e).small p.0 (content_has labels seed code sc laid sc n is e) l);
           small = (laid.lines n is e).small;
         };
     absent = λ n e. ap (λ t. if t then place_of labels (target.Line n) else place_of labels target.Past) (content_none labels seed code sc laid sc n e);

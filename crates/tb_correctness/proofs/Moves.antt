@@ -44,7 +44,8 @@ abbrev pub moved : State → Slots → Operand → Home → Slots
 moved s r a home = slots_landed (IntoHome home) (fetched s r 0 a) (with_fetched s r 0 a)
 
 -- what its steps do
-move_goes : (code : SlotCode) (n : ℕ) (a : Operand) (home : Home) (is : List Instr) (s : State) (r : Slots) → length r.words ≡ 16 → steps code (expand (Move a home)) (line code n (spread_move a home is) s r) ≡ Goes (line code n is (landed (IntoHome home) (fetched s r 0 a) s) (moved s r a home)) []
+move_goes : (code : SlotCode) (n : ℕ) (a : Operand) (home : Home) (is : List Instr) (s : State) (r : Slots) → length r.words ≡ 16
+    → steps code (expand (Move a home)) (line code n (spread_move a home is) s r) ≡ Goes (line code n is (landed (IntoHome home) (fetched s r 0 a) s) (moved s r a home)) []
 move_goes code n a home is s r all =
     fetches code n 0 a (keep home ∷ []) (keep home ∷ is) s r
     ∙ keeps code n (IntoHome home) is s (with_fetched s r 0 a)
@@ -68,23 +69,30 @@ moved_length s r a (IntoVariable x) = fetched_length s r 0 a
 moved_length s r a IntoHeld = fetched_length s r 0 a
 
 -- a slot that is read behind it stands before it, and is the same
-slot_kept : (a : Operand) (home : Home) (is : List Instr) (s : State) (r : Slots) (m : ℕ → ℕ) (k : ℕ) → omits_only_dead (Move a home) (live is) ≡ true → HoldsLive (live (spread_move a home is)) r m → k < (live is).slots → WordAt m (slot_at k) (slice_index (moved s r a home).words k)
+slot_kept : (a : Operand) (home : Home) (is : List Instr) (s : State) (r : Slots) (m : ℕ → ℕ) (k : ℕ) → omits_only_dead (Move a home) (live is) ≡ true
+    → HoldsLive (live (spread_move a home is)) r m → k < (live is).slots → WordAt m (slot_at k) (slice_index (moved s r a home).words k)
 slot_kept (Constant w) home is s r m k f h lt = absurd (omega (arith, lt, leb-true _ _ f))
 slot_kept (Variable x) home is s r m k f h lt = absurd (omega (arith, lt, leb-true _ _ f))
 slot_kept InSlot (IntoVariable x) is s r m k f h lt = h.words k (omega (arith, lt))
 slot_kept InSlot IntoHeld is s r m k f h lt = h.words k (omega (arith, lt))
 
-slot_apart : (home : Home) → DestFits (IntoHome home) → (k : ℕ) → k < 16 → (m m' : ℕ → ℕ) (v : ℕ) → Elsewhere m m' (home_at home) → WordAt m (slot_at k) v → WordAt m' (slot_at k) v
-slot_apart (IntoVariable x) fit k lt m m' v e w = word_kept m m' (slot_at k) v (e _ (λ q. omega (arith, q, fit)) (λ q. omega (arith, q, fit))) (e _ (λ q. omega (arith, q, fit)) (λ q. omega (arith, q, fit))) w
+slot_apart : (home : Home) → DestFits (IntoHome home) → (k : ℕ) → k < 16 → (m m' : ℕ → ℕ) (v : ℕ) → Elsewhere m m' (home_at home)
+    → WordAt m (slot_at k) v → WordAt m' (slot_at k) v
+slot_apart (IntoVariable x) fit k lt m m' v e w = word_kept m m' (slot_at k) v (e _ (λ q. omega (arith, q, fit)) (λ q. omega (arith, q, fit)))
+    (e _ (λ q. omega (arith, q, fit)) (λ q. omega (arith, q, fit))) w
 slot_apart IntoHeld fit k lt m m' v e w = word_kept m m' (slot_at k) v (e _ (λ q. omega (arith, q, lt)) (λ q. omega (arith, q, lt))) (e _ (λ q. omega (arith, q, lt)) (λ q. omega (arith, q, lt))) w
 
-held_kept : (a : Operand) (home : Home) (is : List Instr) (s : State) (r : Slots) (m m' : ℕ → ℕ) → DestFits (IntoHome home) → HoldsLive (live (spread_move a home is)) r m → WordAt m' (home_at home) (fetched s r 0 a) → Elsewhere m m' (home_at home) → (live is).held ≡ true → WordAt m' HELD (moved s r a home).held
+held_kept : (a : Operand) (home : Home) (is : List Instr) (s : State) (r : Slots) (m m' : ℕ → ℕ) → DestFits (IntoHome home)
+    → HoldsLive (live (spread_move a home is)) r m → WordAt m' (home_at home) (fetched s r 0 a) → Elsewhere m m' (home_at home) → (live is).held
+    ≡ true → WordAt m' HELD (moved s r a home).held
 held_kept a IntoHeld is s r m m' fit h w e q = w
 held_kept a (IntoVariable x) is s r m m' fit h w e q =
     subst (λ v. WordAt m' HELD v) (sym (fetched_held s r 0 a))
-    (word_kept m m' HELD r.held (e HELD (λ q. omega (arith, q, fit)) (λ q. omega (arith, q, fit))) (e (HELD + 1) (λ q. omega (arith, q, fit)) (λ q. omega (arith, q, fit))) (h.held (fetch_held 0 a (Store x ∷ is) ∙ q)))
+    (word_kept m m' HELD r.held (e HELD (λ q. omega (arith, q, fit)) (λ q. omega (arith, q, fit))) (e (HELD + 1) (λ q. omega (arith, q, fit))
+        (λ q. omega (arith, q, fit))) (h.held (fetch_held 0 a (Store x ∷ is) ∙ q)))
 
-module _ (around : Surroundings) (fits : Fits around.f 16) (code : SlotCode) (n : ℕ) (a : Operand) (home : Home) (is : List Instr) (s : State) (r : Slots) (w : View) (h : Ready around n (Move a home) (spread_move a home is) is s r w) where
+module _ (around : Surroundings) (fits : Fits around.f 16) (code : SlotCode) (n : ℕ) (a : Operand) (home : Home) (is : List Instr) (s : State)
+    (r : Slots) (w : View) (h : Ready around n (Move a home) (spread_move a home is) is s r w) where
   open around use {ly, f, lo, hi, keys}
 
   abbrev v : ℕ
@@ -114,7 +122,8 @@ module _ (around : Surroundings) (fits : Fits around.f 16) (code : SlotCode) (n 
       few : (live is).slots ≤ 16
       few = h.few_behind
 
-  pub move_law : Comes f w (Target around (steps code (expand (Move a home)) (line code n (spread_move a home is) s r))) (sent_in (steps code (expand (Move a home)) (line code n (spread_move a home is) s r))) 4
+  pub move_law : Comes f w (Target around (steps code (expand (Move a home)) (line code n (spread_move a home is) s r)))
+      (sent_in (steps code (expand (Move a home)) (line code n (spread_move a home is) s r))) 4
   move_law =
       let text = brought (source_of 0 a) (home_at home) in
       let behind : w.regs.pc + (size text + 0) ≡ w.regs.pc + size text = omega arith in
@@ -126,5 +135,7 @@ module _ (around : Surroundings) (fits : Fits around.f 16) (code : SlotCode) (n 
       (state_landed ly s w.mem after (IntoHome home) v fit.1 h.state there away) read_on
       (homed_kept w.mem after (home_kept (IntoHome home) fit.1 w.mem after away) h.homed)
       (h.text ∙ sym texts) (h.answers ∙ sym answers)
-      (record { short = subst (λ t. length t ≤ keys) (sym texts) h.short.short; text_bytes = subst AreBytes (sym texts) h.short.text_bytes; answer_bytes = subst AreBytes (sym answers) h.short.answer_bytes }))
-      (brings f 16 fits w.regs.pc (lo ∷ hi ∷ []) w.mem w.text w.answers refl (source_of 0 a) (home_at home) h.lies.0 (operand_grounded 0 a (IntoHome home) (omega arith) fit.0) (dest_in_data (IntoHome home) fit.1) h.lies.1 w (here h)))
+      (record { short = subst (λ t. length t ≤ keys) (sym texts) h.short.short; text_bytes = subst AreBytes (sym texts) h.short.text_bytes;
+          answer_bytes = subst AreBytes (sym answers) h.short.answer_bytes }))
+      (brings f 16 fits w.regs.pc (lo ∷ hi ∷ []) w.mem w.text w.answers refl (source_of 0 a) (home_at home) h.lies.0
+          (operand_grounded 0 a (IntoHome home) (omega arith) fit.0) (dest_in_data (IntoHome home) fit.1) h.lies.1 w (here h)))

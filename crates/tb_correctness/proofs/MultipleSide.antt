@@ -58,7 +58,8 @@ module _ (code : SlotCode) (n j v : ℕ) (d : Operand) (s : State) (r : Slots) (
   divisor_stands : slice_index again.words (j + 1) ≡ divisor
   divisor_stands = fetched_same s divided (j + 1) d (omega (arith, room, again_length, fetched_length s divided (j + 1) d)) ∙ by d right_is
     where
-      by : (d : Operand) → slice_index (with_fetched s (with_word r j dividend) (j + 1) d).words (j + 1) ≡ fetched s r (j + 1) d → fetched s (with_word (with_fetched s (with_word r j dividend) (j + 1) d) j (quotient dividend (fetched s r (j + 1) d))) (j + 1) d ≡ fetched s r (j + 1) d
+      by : (d : Operand) → slice_index (with_fetched s (with_word r j dividend) (j + 1) d).words (j + 1) ≡ fetched s r (j + 1) d
+          → fetched s (with_word (with_fetched s (with_word r j dividend) (j + 1) d) j (quotient dividend (fetched s r (j + 1) d))) (j + 1) d ≡ fetched s r (j + 1) d
       by (Constant w) e = refl
       by (Variable x) e = refl
       by InSlot e = other_slot (with_word r j dividend) j (j + 1) (quotient dividend (slice_index r.words (j + 1))) (λ q. omega (arith, q)) ∙ e
@@ -79,7 +80,8 @@ module _ (code : SlotCode) (n j v : ℕ) (d : Operand) (s : State) (r : Slots) (
   held_stands = fetched_held s divided (j + 1) d ∙ fetched_held s (with_word r j dividend) (j + 1) d
 
   -- up to the quotient, with some instructions behind it and some behind these
-  quotient_next : (js back : List Instr) → steps code (Load j v ∷ (fetch (j + 1) d ++ Compute op.Divide j ∷ js)) (line code n (Load j v ∷ (fetch (j + 1) d ++ Compute op.Divide j ∷ back)) s r) ≡ steps code (Compute op.Divide j ∷ js) (line code n (Compute op.Divide j ∷ back) s both)
+  quotient_next : (js back : List Instr) → steps code (Load j v ∷ (fetch (j + 1) d ++ Compute op.Divide j ∷ js))
+      (line code n (Load j v ∷ (fetch (j + 1) d ++ Compute op.Divide j ∷ back)) s r) ≡ steps code (Compute op.Divide j ∷ js) (line code n (Compute op.Divide j ∷ back) s both)
   quotient_next js back =
       fetches code n j (Variable v) (fetch (j + 1) d ++ Compute op.Divide j ∷ js) (fetch (j + 1) d ++ Compute op.Divide j ∷ back) s r
       ∙ fetches code n (j + 1) d (Compute op.Divide j ∷ js) (Compute op.Divide j ∷ back) s (with_word r j dividend)
@@ -92,7 +94,8 @@ module _ (code : SlotCode) (n j v : ℕ) (d : Operand) (s : State) (r : Slots) (
       let multiplies : apply op.Multiply (slice_index again.words j) (slice_index again.words (j + 1)) ≡ Some product =
       (λ i. apply op.Multiply (quotient_stands i) (divisor_stands i)) in
       quotient_next (fetch (j + 1) d ++ Compute op.Multiply j ∷ js) (fetch (j + 1) d ++ Compute op.Multiply j ∷ back)
-      ∙ acts code n (Compute op.Divide j) (fetch (j + 1) d ++ Compute op.Multiply j ∷ js) (fetch (j + 1) d ++ Compute op.Multiply j ∷ back) s s both divided (ap (λ o. into n j (given o s.seed) s both) divides)
+      ∙ acts code n (Compute op.Divide j) (fetch (j + 1) d ++ Compute op.Multiply j ∷ js) (fetch (j + 1) d ++ Compute op.Multiply j ∷ back) s s both
+          divided (ap (λ o. into n j (given o s.seed) s both) divides)
       ∙ fetches code n (j + 1) d (Compute op.Multiply j ∷ js) (Compute op.Multiply j ∷ back) s divided
       ∙ acts code n (Compute op.Multiply j) js back s s again multiplied (ap (λ o. into n j (given o s.seed) s again) multiplies)
 
@@ -102,4 +105,5 @@ module _ (code : SlotCode) (n j v : ℕ) (d : Operand) (s : State) (r : Slots) (
       let divides : apply op.Divide (slice_index both.words j) (slice_index both.words (j + 1)) ≡ None =
       (λ i. apply op.Divide (left_is i) (right_is i)) ∙ ap (λ t. if t then None else Some (quotient dividend divisor)) (eq-eqb divisor 0 zero) in
       quotient_next (fetch (j + 1) d ++ Compute op.Multiply j ∷ js) (fetch (j + 1) d ++ Compute op.Multiply j ∷ back)
-      ∙ stops code n (Compute op.Divide j) (fetch (j + 1) d ++ Compute op.Multiply j ∷ js) (fetch (j + 1) d ++ Compute op.Multiply j ∷ back) s both (fault_text 2 n) (ap (λ o. into n j (given o s.seed) s both) divides)
+      ∙ stops code n (Compute op.Divide j) (fetch (j + 1) d ++ Compute op.Multiply j ∷ js) (fetch (j + 1) d ++ Compute op.Multiply j ∷ back) s both
+          (fault_text 2 n) (ap (λ o. into n j (given o s.seed) s both) divides)

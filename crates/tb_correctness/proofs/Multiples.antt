@@ -1,5 +1,6 @@
 -- The law of a product with a constant, which is made by the constant's bits.
-use Rattle.std.proofs.Common.{◌≡◌, ◌≢◌, ℕ, zero, suc, ◌+◌, ◌*◌, ◌/◌, ◌%◌, ◌≤◌, ◌<◌, Bool, true, false, List, [], ◌∷◌, ◌++◌, length, refl, sym, ap, ◌∙◌, subst, arith, leb}
+use Rattle.std.proofs.Common.{◌≡◌, ◌≢◌, ℕ, zero, suc, ◌+◌, ◌*◌, ◌/◌, ◌%◌, ◌≤◌, ◌<◌, Bool, true, false, List, []}
+use Rattle.std.proofs.Common.{◌∷◌, ◌++◌, length, refl, sym, ap, ◌∙◌, subst, arith, leb}
 use Rattle.std.specs.Prelude.{if◌then◌else◌, nat_eq, nat_lt}
 use Rattle.std.proofs.lemmas.Bool.{eqb-true, ltb-true, ltb-false}
 use Rattle.tb_cpu.specs.Effects.{bit, has_bit}
@@ -79,7 +80,8 @@ module _ (f : Setup) (room : ℕ) (fits : Fits f room) (bs : List ℕ) (m : ℕ 
         (λ u k. record {
           here = record { pc = k.here.pc; stack = k.here.stack; binary = k.here.binary; mem = refl; text = k.here.text; answers = k.here.answers };
           low = k.number ∙ (λ i. (e.low i + low_is i + 0) % 256) ∙ sum_low v x;
-          high = ap (λ m. m LEFT) k.here.mem ∙ put_same w.mem LEFT h LEFT refl ∙ (λ i. (e.high i + high_is i + bit (nat_lt 255 (e.low i + low_is i + 0))) % 256) ∙ sum_high v x e.is_word ha.small;
+          high = ap (λ m. m LEFT) k.here.mem ∙ put_same w.mem LEFT h LEFT refl
+              ∙ (λ i. (e.high i + high_is i + bit (nat_lt 255 (e.low i + low_is i + 0))) % 256) ∙ sum_high v x e.is_word ha.small;
           is_word = omega arith;
           others = λ p n. ap (λ m. m p) k.here.mem ∙ put_other w.mem LEFT h p n ∙ e.others p n;
         })
@@ -113,7 +115,8 @@ module _ (f : Setup) (room : ℕ) (fits : Fits f room) (bs : List ℕ) (m : ℕ 
     one_times factor e = let s : word (x * 1) ≡ x = (let h = ha.small in omega (arith, h)) in sym s ∙ ap (λ n. word (x * n)) (sym e)
 
     -- by the bits of a factor, and then
-    bits_then : (k factor at : ℕ) → 1 ≤ factor → factor < pow2 (suc k) → at + size (by_bits k factor a) ≤ highest_code → Stands f.code at (by_bits k factor a) → (q : View → Type 0) (n : ℕ)
+    bits_then : (k factor at : ℕ) → 1 ≤ factor → factor < pow2 (suc k) → at + size (by_bits k factor a) ≤ highest_code
+        → Stands f.code at (by_bits k factor a) → (q : View → Type 0) (n : ℕ)
         → Moves f (LowInA (at + size (by_bits k factor a)) (word (x * factor))) q [] n → Moves f (LowInA at x) q [] (9 * k + n)
     bits_then zero factor at one few r st q n next w e =
         looser f w q q [] n (9 * 0 + n) (omega arith) (λ u z. z)
@@ -125,11 +128,15 @@ module _ (f : Setup) (room : ℕ) (fits : Fits f room) (bs : List ℕ) (m : ℕ 
         odd = nat_eq (factor % 2) 1
 
         cases : (t : Bool) → nat_lt factor 2 ≡ t
-            → (1 ≤ factor / 2 → at + size (by_bits k (factor / 2) a) ≤ highest_code → Stands f.code at (by_bits k (factor / 2) a) → (q : View → Type 0) (n : ℕ) → Moves f (LowInA (at + size (by_bits k (factor / 2) a)) (word (x * (factor / 2)))) q [] n → Moves f (LowInA at x) q [] (9 * k + n))
-            → at + size (if t then [] else by_bits k (factor / 2) a ++ by_bit odd a) ≤ highest_code → Stands f.code at (if t then [] else by_bits k (factor / 2) a ++ by_bit odd a) → Moves f (LowInA (at + size (if t then [] else by_bits k (factor / 2) a ++ by_bit odd a)) (word (x * factor))) q [] n → Comes f w q [] (9 * suc k + n)
+            → (1 ≤ factor / 2 → at + size (by_bits k (factor / 2) a) ≤ highest_code → Stands f.code at (by_bits k (factor / 2) a)
+                → (q : View → Type 0) (n : ℕ) → Moves f (LowInA (at + size (by_bits k (factor / 2) a)) (word (x * (factor / 2)))) q [] n → Moves f (LowInA at x) q [] (9 * k + n))
+            → at + size (if t then [] else by_bits k (factor / 2) a ++ by_bit odd a) ≤ highest_code
+                → Stands f.code at (if t then [] else by_bits k (factor / 2) a ++ by_bit odd a)
+                → Moves f (LowInA (at + size (if t then [] else by_bits k (factor / 2) a ++ by_bit odd a)) (word (x * factor))) q [] n → Comes f w q [] (9 * suc k + n)
         cases true t again r st next =
             looser f w q q [] n (9 * suc k + n) (omega arith) (λ u z. z)
-            (next w (subst (λ p. LowInA p (word (x * factor)) w) (let s : at ≡ at + 0 = omega arith in s) (subst (λ v. LowInA at v w) (one_times factor (omega (arith, one, ltb-true factor 2 t))) e)))
+            (next w (subst (λ p. LowInA p (word (x * factor)) w) (let s : at ≡ at + 0 = omega arith in s)
+                (subst (λ v. LowInA at v w) (one_times factor (omega (arith, one, ltb-true factor 2 t))) e)))
         cases false t again r st next =
             let s = size_append (by_bits k (factor / 2) a) (by_bit odd a) in
             let p = at + size (by_bits k (factor / 2) a) in
@@ -188,9 +195,11 @@ module _ (f : Setup) (room : ℕ) (fits : Fits f room) (bs : List ℕ) (m : ℕ 
           (chained f w _ q [] [] 3 (9 * 15 + j) (begins f room fits at bs m text answers small a (omega (arith, r, sizes)) ga (low_still (with_byte m LEFT h) still a away) s1.0 w e) (λ u g.
           bits_then 15 factor p1 some (omega (arith, few, all)) (omega (arith, r, sizes)) s2.0 q j next u (begun_here u g)))
 
-module _ {around : Surroundings} (fits : Fits around.f 16) (code : SlotCode) {n : ℕ} {a b : Operand} {d : Destination} {is : List Instr} {s : State} {r : Slots} {w : View} (h : Ready around n (Calculate op.Multiply a b d) (spread op.Multiply a b d is) is s r w)
+module _ {around : Surroundings} (fits : Fits around.f 16) (code : SlotCode) {n : ℕ} {a b : Operand} {d : Destination} {is : List Instr} {s : State}
+    {r : Slots} {w : View} (h : Ready around n (Calculate op.Multiply a b d) (spread op.Multiply a b d is) is s r w)
     (factor : ℕ) (some : 1 ≤ factor) (few : factor < 65536) (c : Source) (z : ℕ) (gc : Grounded c LEFT) (away : Away c) (hc : SourceHolds w.mem c z)
-    (lies : Lies around.f.code w.regs.pc (Code (times factor c (destination_at d)) ∷ [])) (rest : GroupsLie around.ly around.f.code n (w.regs.pc + pieces_size (Code (times factor c (destination_at d)) ∷ [])) (select is)) where
+    (lies : Lies around.f.code w.regs.pc (Code (times factor c (destination_at d)) ∷ [])) (rest : GroupsLie around.ly around.f.code n
+        (w.regs.pc + pieces_size (Code (times factor c (destination_at d)) ∷ [])) (select is)) where
   open around use {ly, f, lo, hi}
   open calculation a b d s r use {x, y, to}
 
@@ -213,8 +222,10 @@ module _ {around : Surroundings} (fits : Fits around.f 16) (code : SlotCode) {n 
   lands : Moves f (LowInA f 16 fits own w.mem w.text w.answers refl at product) (Matches around (line code n is (landed d product s) (calculated s r a b d product))) [] 3
   lands u g =
       looser f u _ _ [] 3 3 (omega arith)
-      (result_lands h code product u.regs.a (u.mem LEFT) (at + 8) u.mem g.low g.high g.is_word behind (kept_scratch around (live (spread op.Multiply a b d is)) s r w.mem u.mem h.some_read (λ p o. g.others p (apart p LEFT o refl)) (kept h)))
-      (ends_low f 16 fits at own u.mem w.text w.answers refl u.regs.a to (let e = end_here in omega (arith, e, lies.0)) (dest_beyond d (fit h).dest) (last_stands f 16 fits own w.mem w.text w.answers refl c z gc away hc w.regs.pc factor some few to lies.0 lies.1) u (record { here = g.here; number = refl }))
+      (result_lands h code product u.regs.a (u.mem LEFT) (at + 8) u.mem g.low g.high g.is_word behind
+          (kept_scratch around (live (spread op.Multiply a b d is)) s r w.mem u.mem h.some_read (λ p o. g.others p (apart p LEFT o refl)) (kept h)))
+      (ends_low f 16 fits at own u.mem w.text w.answers refl u.regs.a to (let e = end_here in omega (arith, e, lies.0)) (dest_beyond d (fit h).dest)
+          (last_stands f 16 fits own w.mem w.text w.answers refl c z gc away hc w.regs.pc factor some few to lies.0 lies.1) u (record { here = g.here; number = refl }))
 
   pub times_law : product ≡ word (z * factor) → Leads h code 141
   times_law same =

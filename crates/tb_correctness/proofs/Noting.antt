@@ -1,5 +1,6 @@
 -- A note that is stored or taken in line: the code's pieces, and what they leave in memory.
-use Rattle.std.proofs.Common.{◌≡◌, ◌≢◌, ℕ, suc, ◌+◌, ◌/◌, ◌%◌, ◌≤◌, ◌<◌, Bool, true, false, cond, List, [], ◌∷◌, length, refl, sym, ap, ◌∙◌, subst, arith, leb, eqb, Ok}
+use Rattle.std.proofs.Common.{◌≡◌, ◌≢◌, ℕ, suc, ◌+◌, ◌/◌, ◌%◌, ◌≤◌, ◌<◌, Bool, true, false, cond, List, [], ◌∷◌}
+use Rattle.std.proofs.Common.{length, refl, sym, ap, ◌∙◌, subst, arith, leb, eqb, Ok}
 use Rattle.std.proofs.lemmas.Bool.Decides.{nat_tests}
 use Rattle.tb_cpu.specs.declared.registers.Regs.{Regs}
 use Rattle.tb_cpu.specs.Instructions.{executed, advanced}
@@ -28,7 +29,8 @@ module _ (f : Setup) (room : ℕ) (fits : Fits f room) (bs : List ℕ) (m : ℕ 
     pub here : Here at bs m text answers w
     pub index : w.regs.x ≡ x
 
-  whatever_x : (at x : ℕ) (q : View → Type 0) (t : List ℕ) (l : ℕ) → ((a y : ℕ) (n v i z c : Bool) → Comes f (view a x y n v i z c at bs m text answers) q t l) → Moves f (Indexed at x) q t l
+  whatever_x : (at x : ℕ) (q : View → Type 0) (t : List ℕ) (l : ℕ)
+      → ((a y : ℕ) (n v i z c : Bool) → Comes f (view a x y n v i z c at bs m text answers) q t l) → Moves f (Indexed at x) q t l
   whatever_x at x q t l h w e =
       known f w at bs text answers q t l e.here.pc e.here.stack e.here.binary e.here.text e.here.answers
       (subst (λ m. Comes f (view w.regs.a w.regs.x w.regs.y w.regs.flags.n w.regs.flags.v w.regs.flags.i w.regs.flags.z w.regs.flags.c at bs m text answers) q t l) (sym e.here.mem)
@@ -42,10 +44,13 @@ module _ (f : Setup) (room : ℕ) (fits : Fits f room) (bs : List ℕ) (m : ℕ 
   loads_x : (at p : ℕ) → at + 3 ≤ highest_code → is_data p ≡ true → Bytes f.code at (instr_bytes (ins 0xAE p)) → Moves f (Here at bs m text answers) (Loaded (at + 3) (m p)) [] 1
   loads_x at p r d st = whatever f room fits at bs m text answers _ [] 1 (λ a x y n v i z c.
       loads_last f room fits 0xAE p Ldx (view a x y n v i z c at bs m text answers) _ _ refl refl refl small st d refl
-      (record { indexed = record { here = record { pc = let e : (at + 3) % 65536 ≡ at + 3 = omega (arith, r) in e; stack = refl; binary = refl; mem = refl; text = refl; answers = refl }; index = refl }; zero = refl }))
+      (record { indexed = record { here = record { pc = let e : (at + 3) % 65536 ≡ at + 3 = omega (arith, r) in e; stack = refl; binary = refl;
+          mem = refl; text = refl; answers = refl }; index = refl }; zero = refl }))
 
   -- where a branch leads by whether such a byte is 0
-  pub asks : (at p to : ℕ) (way : Way) (wanted t : Bool) (ps : List Piece) → is_data p ≡ true → eqb (m p) 0 ≡ t → BranchReaches way (at + 3) to → Lies f.code at (Code (asked p) ∷ Code (branch_code way (branch_on Zero wanted) (at + 3) to) ∷ ps) → Moves f (Here at bs m text answers) (Indexed (cond (is_taken wanted t) to (at + 3 + way_size way)) (m p)) [] 3
+  pub asks : (at p to : ℕ) (way : Way) (wanted t : Bool) (ps : List Piece) → is_data p ≡ true → eqb (m p) 0 ≡ t → BranchReaches way (at + 3) to
+      → Lies f.code at (Code (asked p) ∷ Code (branch_code way (branch_on Zero wanted) (at + 3) to) ∷ ps) → Moves f (Here at bs m text answers)
+      (Indexed (cond (is_taken wanted t) to (at + 3 + way_size way)) (m p)) [] 3
   asks at p to way wanted t ps d e reach lies w h =
       let room_behind = branch_behind f (at + 3) way Zero wanted to ps lies.2 in
       chained f w _ _ [] [] 1 2 (loads_x at p lies.0 d lies.1.0 w h) (λ u g.
@@ -53,13 +58,19 @@ module _ (f : Setup) (room : ℕ) (fits : Fits f room) (bs : List ℕ) (m : ℕ 
       (branches f room fits bs m text answers small (at + 3) way Zero wanted t to room_behind.0 reach lies.2.1 u g.indexed.here (g.zero ∙ e)))
 
   -- ---- a note's bytes by X
-  stores_by_x : (base p : ℕ) (v : View) (q : View → Type 0) (t : List ℕ) (n : ℕ) → leb (length v.stack) room ≡ true → Bytes f.code v.regs.pc (instr_bytes (ins 0x9D base)) → (base + v.regs.x) % 65536 ≡ p → is_data p ≡ true → Comes f (record v { regs = advanced v.regs AbsoluteX; mem = with_byte v.mem p v.regs.a }) q t n → Comes f v q t (1 + n)
+  stores_by_x : (base p : ℕ) (v : View) (q : View → Type 0) (t : List ℕ) (n : ℕ) → leb (length v.stack) room ≡ true
+      → Bytes f.code v.regs.pc (instr_bytes (ins 0x9D base)) → (base + v.regs.x) % 65536 ≡ p → is_data p ≡ true
+      → Comes f (record v { regs = advanced v.regs AbsoluteX; mem = with_byte v.mem p v.regs.a }) q t n → Comes f v q t (1 + n)
   stores_by_x base p v q t n short b e d next =
-      placing f room fits (ins 0x9D base) v (record v { regs = advanced v.regs AbsoluteX; mem = with_byte v.mem p v.regs.a }) q t n short b (stores_at f.code room (ins 0x9D base) v Sta AbsoluteX p refl refl refl refl (ap (λ a. Ok a) e) v.regs.a d refl) next
+      placing f room fits (ins 0x9D base) v (record v { regs = advanced v.regs AbsoluteX; mem = with_byte v.mem p v.regs.a }) q t n short b
+          (stores_at f.code room (ins 0x9D base) v Sta AbsoluteX p refl refl refl refl (ap (λ a. Ok a) e) v.regs.a d refl) next
 
-  loads_by_x : (base p : ℕ) (v : View) (r : Regs) (q : View → Type 0) (t : List ℕ) (n : ℕ) → leb (length v.stack) room ≡ true → Bytes f.code v.regs.pc (instr_bytes (ins 0xBD base)) → (base + v.regs.x) % 65536 ≡ p → is_data p ≡ true → executed Lda (advanced v.regs AbsoluteX) (λ a. Ok (v.mem p)) p ≡ Ok (r, []) → Comes f (record v { regs = with_s v.regs.s r }) q t n → Comes f v q t (1 + n)
+  loads_by_x : (base p : ℕ) (v : View) (r : Regs) (q : View → Type 0) (t : List ℕ) (n : ℕ) → leb (length v.stack) room ≡ true
+      → Bytes f.code v.regs.pc (instr_bytes (ins 0xBD base)) → (base + v.regs.x) % 65536 ≡ p → is_data p ≡ true
+      → executed Lda (advanced v.regs AbsoluteX) (λ a. Ok (v.mem p)) p ≡ Ok (r, []) → Comes f (record v { regs = with_s v.regs.s r }) q t n → Comes f v q t (1 + n)
   loads_by_x base p v r q t n short b e d e' next =
-      placing f room fits (ins 0xBD base) v (record v { regs = with_s v.regs.s r }) q t n short b (takes_at f.code room (ins 0xBD base) v Lda AbsoluteX p refl refl refl refl (ap (λ a. Ok a) e) (v.mem p) r (reads_data f.code v.mem p d) e') next
+      placing f room fits (ins 0xBD base) v (record v { regs = with_s v.regs.s r }) q t n short b
+          (takes_at f.code room (ins 0xBD base) v Lda AbsoluteX p refl refl refl refl (ap (λ a. Ok a) e) (v.mem p) r (reads_data f.code v.mem p d) e') next
 
   module _ (at l h : ℕ) (few : m NOTES < 256) where
     -- memory with the two bytes, and with their count
@@ -69,18 +80,23 @@ module _ (f : Setup) (room : ℕ) (fits : Fits f room) (bs : List ℕ) (m : ℕ 
     abbrev pub counted : ℕ → ℕ
     counted = with_byte with_note NOTES ((with_note NOTES + 1) % 256)
 
-    pub stores_note : at + 16 ≤ highest_code → Stands f.code at (note_stored l h) → Moves f (Here at bs m text answers) (Flagged (at + 16) bs counted text answers (eqb ((with_note NOTES + 1) % 256) 0)) [] 6
+    pub stores_note : at + 16 ≤ highest_code → Stands f.code at (note_stored l h) → Moves f (Here at bs m text answers)
+        (Flagged (at + 16) bs counted text answers (eqb ((with_note NOTES + 1) % 256) 0)) [] 6
     stores_note r st = whatever f room fits at bs m text answers _ [] 6 (λ a x y n v i z c.
         placing f room fits (ins 0xAE NOTES) (view a x y n v i z c at bs m text answers) _ _ [] 5 small st.0 refl
         (placing f room fits (ins 0xA9 l) (view a (m NOTES) y _ v i _ c ((at + 3) % 65536) bs m text answers) _ _ [] 4 small st.1.0 refl
-        (stores_by_x NOTE_LOW (NOTE_LOW + m NOTES) (view l (m NOTES) y _ v i _ c ((((at + 3) % 65536) + 2) % 65536) bs m text answers) _ [] 3 small st.1.1.0 (omega (arith, few)) (note_place (NOTE_LOW + m NOTES) (omega arith) (omega (arith, few)))
+        (stores_by_x NOTE_LOW (NOTE_LOW + m NOTES) (view l (m NOTES) y _ v i _ c ((((at + 3) % 65536) + 2) % 65536) bs m text answers) _ [] 3 small
+            st.1.1.0 (omega (arith, few)) (note_place (NOTE_LOW + m NOTES) (omega arith) (omega (arith, few)))
         (placing f room fits (ins 0xA9 h) (view l (m NOTES) y _ v i _ c ((((((at + 3) % 65536) + 2) % 65536) + 3) % 65536) bs _ text answers) _ _ [] 2 small st.1.1.1.0 refl
-        (stores_by_x NOTE_HIGH (NOTE_HIGH + m NOTES) (view h (m NOTES) y _ v i _ c ((((((((at + 3) % 65536) + 2) % 65536) + 3) % 65536) + 2) % 65536) bs _ text answers) _ [] 1 small st.1.1.1.1.0 (omega (arith, few)) (note_place (NOTE_HIGH + m NOTES) (omega arith) (omega (arith, few)))
-        (placed_last f room fits (ins 0xEE NOTES) (view h (m NOTES) y _ v i _ c ((((((((((at + 3) % 65536) + 2) % 65536) + 3) % 65536) + 2) % 65536) + 3) % 65536) bs with_note text answers) _ _ small st.1.1.1.1.1.0 refl
+        (stores_by_x NOTE_HIGH (NOTE_HIGH + m NOTES) (view h (m NOTES) y _ v i _ c ((((((((at + 3) % 65536) + 2) % 65536) + 3) % 65536) + 2) % 65536)
+            bs _ text answers) _ [] 1 small st.1.1.1.1.0 (omega (arith, few)) (note_place (NOTE_HIGH + m NOTES) (omega arith) (omega (arith, few)))
+        (placed_last f room fits (ins 0xEE NOTES) (view h (m NOTES) y _ v i _ c ((((((((((at + 3) % 65536) + 2) % 65536) + 3) % 65536) + 2) % 65536)
+            + 3) % 65536) bs with_note text answers) _ _ small st.1.1.1.1.1.0 refl
         (record { here = record { pc = omega (arith, r); stack = refl; binary = refl; mem = refl; text = refl; answers = refl }; zero = refl })))))))
 
   -- the high byte of the count goes up
-  pub raises : (at : ℕ) → at + 3 ≤ highest_code → Stands f.code at (ins 0xEE (NOTES + 1) ∷ []) → Moves f (Here at bs m text answers) (Here (at + 3) bs (with_byte m (NOTES + 1) ((m (NOTES + 1) + 1) % 256)) text answers) [] 1
+  pub raises : (at : ℕ) → at + 3 ≤ highest_code → Stands f.code at (ins 0xEE (NOTES + 1) ∷ []) → Moves f (Here at bs m text answers)
+      (Here (at + 3) bs (with_byte m (NOTES + 1) ((m (NOTES + 1) + 1) % 256)) text answers) [] 1
   raises at r st = whatever f room fits at bs m text answers _ [] 1 (λ a x y n v i z c.
       placed_last f room fits (ins 0xEE (NOTES + 1)) (view a x y n v i z c at bs m text answers) _ _ small st.0 refl
       (record { pc = omega (arith, r); stack = refl; binary = refl; mem = refl; text = refl; answers = refl }))
@@ -103,15 +119,19 @@ module _ (f : Setup) (room : ℕ) (fits : Fits f room) (bs : List ℕ) (m : ℕ 
     takes_note r st = whatever_x at x _ [] 6 (λ a y n v i z c.
         placing f room fits (ins 0xCA 0) (view a x y n v i z c at bs m text answers) _ _ [] 5 small st.0 refl
         (placing f room fits (ins 0x8E NOTES) (view a left y _ v i _ c ((at + 1) % 65536) bs m text answers) _ _ [] 4 small st.1.0 refl
-        (loads_by_x NOTE_LOW (NOTE_LOW + left) (view a left y _ v i _ c ((((at + 1) % 65536) + 3) % 65536) bs less text answers) _ _ [] 3 small st.1.1.0 (omega arith) (note_place (NOTE_LOW + left) (omega arith) (omega arith)) refl
+        (loads_by_x NOTE_LOW (NOTE_LOW + left) (view a left y _ v i _ c ((((at + 1) % 65536) + 3) % 65536) bs less text answers) _ _ [] 3 small
+            st.1.1.0 (omega arith) (note_place (NOTE_LOW + left) (omega arith) (omega arith)) refl
         (stores f room fits RESULT (view _ left y _ v i _ c ((((((at + 1) % 65536) + 3) % 65536) + 3) % 65536) bs less text answers) _ [] 2 small st.1.1.1.0 refl
-        (loads_by_x NOTE_HIGH (NOTE_HIGH + left) (view _ left y _ v i _ c ((((((((at + 1) % 65536) + 3) % 65536) + 3) % 65536) + 3) % 65536) bs half_taken text answers) _ _ [] 1 small st.1.1.1.1.0 (omega arith) (note_place (NOTE_HIGH + left) (omega arith) (omega arith)) refl
-        (stores_last f room fits (RESULT + 1) (view _ left y _ v i _ c ((((((((((at + 1) % 65536) + 3) % 65536) + 3) % 65536) + 3) % 65536) + 3) % 65536) bs half_taken text answers) _ small st.1.1.1.1.1.0 refl
+        (loads_by_x NOTE_HIGH (NOTE_HIGH + left) (view _ left y _ v i _ c ((((((((at + 1) % 65536) + 3) % 65536) + 3) % 65536) + 3) % 65536) bs
+            half_taken text answers) _ _ [] 1 small st.1.1.1.1.0 (omega arith) (note_place (NOTE_HIGH + left) (omega arith) (omega arith)) refl
+        (stores_last f room fits (RESULT + 1) (view _ left y _ v i _ c ((((((((((at + 1) % 65536) + 3) % 65536) + 3) % 65536) + 3) % 65536) + 3) %
+            65536) bs half_taken text answers) _ small st.1.1.1.1.1.0 refl
         (record { pc = omega (arith, r); stack = refl; binary = refl; mem = refl; text = refl; answers = refl })))))))
 
 -- ---- what they leave in memory
 -- what changes no byte of the first notes leaves them
-noted_same : (m k : ℕ → ℕ) (ns : List ℕ) → ((j : ℕ) → j < length ns → (k (NOTE_LOW + j) ≡ m (NOTE_LOW + j)) × (k (NOTE_HIGH + j) ≡ m (NOTE_HIGH + j))) → Noted m ns → Noted k ns
+noted_same : (m k : ℕ → ℕ) (ns : List ℕ) → ((j : ℕ) → j < length ns → (k (NOTE_LOW + j) ≡ m (NOTE_LOW + j)) × (k (NOTE_HIGH + j) ≡ m (NOTE_HIGH + j)))
+    → Noted m ns → Noted k ns
 noted_same m k [] e h = tt
 noted_same m k (n ∷ ns) e h =
     let s = e (length ns) (omega arith) in
@@ -155,7 +175,8 @@ module _ (m : ℕ → ℕ) (note : ℕ) (ns : List ℕ) (word : note < 65536) (c
       high = ap (λ j. two (NOTE_HIGH + j)) (sym index) ∙ put_same one q (note / 256) q refl;
       small = word;
     },
-    noted_same m two ns (λ j lt. (apart (NOTE_LOW + j) (λ e. omega (arith, e, lt, index)) (λ e. omega (arith, e, lt, few, index)), apart (NOTE_HIGH + j) (λ e. omega (arith, e, lt, few, index)) (λ e. omega (arith, e, lt, index)))) noted,
+    noted_same m two ns (λ j lt. (apart (NOTE_LOW + j) (λ e. omega (arith, e, lt, index)) (λ e. omega (arith, e, lt, few, index)),
+        apart (NOTE_HIGH + j) (λ e. omega (arith, e, lt, few, index)) (λ e. omega (arith, e, lt, index)))) noted,
   )
 
   low_byte : two NOTES ≡ length ns
@@ -168,7 +189,8 @@ module _ (m : ℕ → ℕ) (note : ℕ) (ns : List ℕ) (word : note < 65536) (c
   with_count : (m' : ℕ → ℕ) → ((a : ℕ) → a ≢ NOTES → a ≢ NOTES + 1 → m' a ≡ two a) → WordAt m' NOTES (suc (length ns)) → Added m note ns m'
   with_count m' e c = record {
     count = c;
-    noted = noted_same two m' (note ∷ ns) (λ j lt. (e (NOTE_LOW + j) (λ k. omega (arith, k)) (λ k. omega (arith, k)), e (NOTE_HIGH + j) (λ k. omega (arith, k)) (λ k. omega (arith, k)))) two_notes;
+    noted = noted_same two m' (note ∷ ns) (λ j lt. (e (NOTE_LOW + j) (λ k. omega (arith, k)) (λ k. omega (arith, k)),
+        e (NOTE_HIGH + j) (λ k. omega (arith, k)) (λ k. omega (arith, k)))) two_notes;
     others = λ a lo n n'. e a n n' ∙ apart a (λ k. omega (arith, k, lo)) (λ k. omega (arith, k, lo));
   }
 

@@ -1,5 +1,6 @@
 -- What the slot instructions of a group with one word do, and what they read.
-use Rattle.std.proofs.Common.{◌≡◌, ℕ, ◌+◌, ◌%◌, ◌<◌, Bool, true, false, ◌||◌, if◌then◌else◌, List, [], ◌∷◌, ◌++◌, length, refl, ap, ◌∙◌, subst, sym, arith, append_assoc}
+use Rattle.std.proofs.Common.{◌≡◌, ℕ, ◌+◌, ◌%◌, ◌<◌, Bool, true, false, ◌||◌, if◌then◌else◌, List, [], ◌∷◌, ◌++◌}
+use Rattle.std.proofs.Common.{length, refl, ap, ◌∙◌, subst, sym, arith, append_assoc}
 use Rattle.std.specs.Prelude.{slice_index, nat_eq, nat_le}
 use Rattle.std.proofs.lemmas.Bool.{leb-true}
 use Rattle.tb_words.specs.Words.{digits_of, negated, seed_after}
@@ -12,7 +13,8 @@ use Rattle.tb_meaning.specs.Values.{Fails, Gives, random}
 use Rattle.tb_runtime16.specs.Places.{HELD}
 use Rattle.tb_runtime16.specs.Routines.{WordAt}
 use Rattle.tb_templates.specs.Templates.{slot_at}
-use Rattle.tb_selection.specs.Groups.{Operand, Constant, Variable, InSlot, IntoHome, IntoSlot, Destination, Conversion, Negated, Drawn, Convert, Usage, AsNumber, AsLine, AsSubroutine, Use, convert, expand, fetch, kept, slot_of, use_of}
+use Rattle.tb_selection.specs.Groups.{Operand, Constant, Variable, InSlot, IntoHome, IntoSlot, Destination, Conversion, Negated, Drawn, Convert, Usage}
+use Rattle.tb_selection.specs.Groups.{AsNumber, AsLine, AsSubroutine, Use, convert, expand, fetch, kept, slot_of, use_of}
 use Rattle.tb_selection.specs.Liveness.{live, live_before, read}
 use Rattle.tb_selection.specs.Select.{omits_only_dead, slot_dead}
 use Rattle.tb_selection.specs.GroupSteps.{steps}
@@ -20,7 +22,8 @@ use Rattle.tb_correctness.proofs.Landing.{DestFits}
 use Rattle.tb_correctness.proofs.GroupInvariants.{one_step}
 use Rattle.tb_correctness.proofs.Matching.{HoldsLive}
 use Rattle.tb_correctness.proofs.Operands.{OperandFits, dest_fits, range_fetch}
-use Rattle.tb_correctness.proofs.SlotSide.{IsDead, Lasting, StandsIn, ends, fetch_held, fetch_reads, fetched, fetched_held, fetched_length, fetched_other, fetched_same, fetches, kept_reads, landed, line, slots_landed, stops, with_fetched}
+use Rattle.tb_correctness.proofs.SlotSide.{IsDead, Lasting, StandsIn, ends, fetch_held, fetch_reads, fetched, fetched_held, fetched_length, fetched_other}
+use Rattle.tb_correctness.proofs.SlotSide.{fetched_same, fetches, kept_reads, landed, line, slots_landed, stops, with_fetched}
 
 -- an instruction that reads slot k before what is behind it
 abbrev pub Reads : ℕ → Instr → List Instr → Type 0
@@ -96,7 +99,8 @@ module _ (code : SlotCode) (n : ℕ) (a : Operand) (d : Destination) (is : List 
       ∙ stops code n (Random k) (kept d) (kept d ++ is) s q (fault_text 3 n) (drawn true e)
 
 -- what it reads, and that it leaves out nothing that is read behind it
-pub convert_lasting : (what : Conversion) (a : Operand) (d : Destination) (is : List Instr) (s : State) (r : Slots) → omits_only_dead (Convert what a d) (live is) ≡ true → Lasting (live (spread_convert what a d is)) d is r (with_fetched s r (slot_of d) a)
+pub convert_lasting : (what : Conversion) (a : Operand) (d : Destination) (is : List Instr) (s : State) (r : Slots)
+    → omits_only_dead (Convert what a d) (live is) ≡ true → Lasting (live (spread_convert what a d is)) d is r (with_fetched s r (slot_of d) a)
 convert_lasting what a d is s r free = record {
   all = fetched_length s r (slot_of d) a;
   same_held = fetched_held s r (slot_of d) a;
@@ -140,7 +144,9 @@ pub use_fits : (how : Usage) (a : Operand) → AreInRange 256 (expand (Use how a
 use_fits how a h = (range_fetch 0 a (use_of how ∷ []) h).0
 
 -- what it does: its instruction, on its word
-pub use_steps : (code : SlotCode) (n : ℕ) (how : Usage) (a : Operand) (is : List Instr) (s : State) (r : Slots) → length r.words ≡ 16 → steps code (expand (Use how a)) (line code n (spread_use how a is) s r) ≡ settled n is (with_fetched s r 0 a) (used (numbers code) n how (fetched s r 0 a) s (with_fetched s r 0 a))
+pub use_steps : (code : SlotCode) (n : ℕ) (how : Usage) (a : Operand) (is : List Instr) (s : State) (r : Slots) → length r.words ≡ 16
+    → steps code (expand (Use how a)) (line code n (spread_use how a is) s r) ≡ settled n is (with_fetched s r 0 a)
+    (used (numbers code) n how (fetched s r 0 a) s (with_fetched s r 0 a))
 use_steps code n how a is s r all =
     fetches code n 0 a (use_of how ∷ []) (use_of how ∷ is) s r
     ∙ one_step code (use_of how) (line code n (use_of how ∷ is) s (with_fetched s r 0 a))
@@ -155,14 +161,16 @@ use_steps code n how a is s r all =
     by AsSubroutine = ap (λ x. used (numbers code) n AsSubroutine x s (with_fetched s r 0 a)) same
 
 -- behind it all that is read stands
-pub used_read : (how : Usage) (a : Operand) (is : List Instr) (s : State) (r : Slots) (m : ℕ → ℕ) → omits_only_dead (Use how a) (live is) ≡ true → HoldsLive (live (spread_use how a is)) r m → HoldsLive (live is) (with_fetched s r 0 a) m
+pub used_read : (how : Usage) (a : Operand) (is : List Instr) (s : State) (r : Slots) (m : ℕ → ℕ) → omits_only_dead (Use how a) (live is) ≡ true
+    → HoldsLive (live (spread_use how a is)) r m → HoldsLive (live is) (with_fetched s r 0 a) m
 used_read how a is s r m free h = record {
   words = by a free h;
   held = λ p. subst (λ v. WordAt m HELD v) (sym (fetched_held s r 0 a)) (h.held (fetch_held 0 a (use_of how ∷ is) ∙ ap (λ u. u.held) (use_reads how is) ∙ p));
   all_words = fetched_length s r 0 a ∙ h.all_words;
 }
   where
-    by : (a : Operand) → slot_dead a (live is) ≡ true → HoldsLive (live (spread_use how a is)) r m → (k : ℕ) → k < (live is).slots → WordAt m (slot_at k) (slice_index (with_fetched s r 0 a).words k)
+    by : (a : Operand) → slot_dead a (live is) ≡ true → HoldsLive (live (spread_use how a is)) r m → (k : ℕ) → k < (live is).slots
+        → WordAt m (slot_at k) (slice_index (with_fetched s r 0 a).words k)
     by (Constant w) f h k lt = absurd (omega (arith, lt, leb-true _ _ f))
     by (Variable x) f h k lt = absurd (omega (arith, lt, leb-true _ _ f))
     by InSlot f h k lt = h.words k (subst (λ u. k < u.slots) (sym (use_reads how is)) (omega (arith, lt)))

@@ -54,7 +54,8 @@ pub record SourceHolds (m : ℕ → ℕ) (a : Source) (w : ℕ) : Type 0 where
   pub high_byte : value m (high a) ≡ w / 256
   pub small : w < 65536
 
-pub operand_held : (ly : Layout) (s : State) (u : Live) (r : Slots) (m : ℕ → ℕ) (k : ℕ) (a : Operand) → HoldsState ly s m → HoldsLive u r m → OperandFits a → StandsIn a k u → SourceHolds m (source_of k a) (fetched s r k a)
+pub operand_held : (ly : Layout) (s : State) (u : Live) (r : Slots) (m : ℕ → ℕ) (k : ℕ) (a : Operand) → HoldsState ly s m → HoldsLive u r m
+    → OperandFits a → StandsIn a k u → SourceHolds m (source_of k a) (fetched s r k a)
 operand_held ly s u r m k (Constant w) hs hr fit st = record { low_byte = refl; high_byte = refl; small = omega arith }
 operand_held ly s u r m k (Variable x) hs hr fit st = let v = hs.vars x fit in record { low_byte = v.low; high_byte = v.high; small = v.small }
 operand_held ly s u r m k InSlot hs hr fit st = let v = hr.words k st in record { low_byte = v.low; high_byte = v.high; small = v.small }

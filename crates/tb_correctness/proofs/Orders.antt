@@ -1,5 +1,6 @@
 -- A test for order: N behind the difference, turned where V is set, and the branch on it.
-use Rattle.std.proofs.Common.{not, ◌≡◌, ℕ, ◌+◌, ◌-◌, ◌%◌, ◌≤◌, ◌<◌, Bool, true, false, cond, List, [], ◌∷◌, length, refl, sym, ap, ◌∙◌, subst, arith, leb, int_lt, pos, ◌-ℤ◌}
+use Rattle.std.proofs.Common.{not, ◌≡◌, ℕ, ◌+◌, ◌-◌, ◌%◌, ◌≤◌, ◌<◌, Bool, true, false, cond, List, [], ◌∷◌, length, refl}
+use Rattle.std.proofs.Common.{sym, ap, ◌∙◌, subst, arith, leb, int_lt, pos, ◌-ℤ◌}
 use Rattle.std.proofs.lemmas.Bool.{eqb-true}
 use Rattle.std.specs.Prelude.{if◌then◌else◌, nat_eq, nat_le, bit_xor}
 use Rattle.tb_cpu.specs.Effects.{bit, signed_byte, has_bit, is_outside_byte}
@@ -20,7 +21,8 @@ use Rattle.tb_templates.specs.declared.orders.Side.TheVariants.{Below, NotBelow}
 use Rattle.tb_templates.specs.declared.orders.Order.{Order}
 use Rattle.tb_templates.specs.declared.orders.Order.TheVariants.{BySign, ByConstant, ByDifference}
 use Rattle.tb_templates.specs.Orders.{against, order_of, wanted_side}
-use Rattle.tb_correctness.proofs.GroupCode.{Negative, OrderReaches, Overflow, ReachesBy, SignReaches, Way, WeighingReaches, branch_code, branch_on, difference, high, leaves_below, low, order_by, order_code, sign_code, turned_at, way_size, weighed, weighing_code}
+use Rattle.tb_correctness.proofs.GroupCode.{Negative, OrderReaches, Overflow, ReachesBy, SignReaches, Way, WeighingReaches, branch_code, branch_on, difference}
+use Rattle.tb_correctness.proofs.GroupCode.{high, leaves_below, low, order_by, order_code, sign_code, turned_at, way_size, weighed, weighing_code}
 use Rattle.tb_correctness.proofs.Branches.{branch_behind, branch_size, branches, last_leads}
 use Rattle.tb_correctness.proofs.Operands.{SourceHolds}
 use Rattle.tb_correctness.proofs.Sums.{Grounded, low_read, high_read}
@@ -47,17 +49,27 @@ module _ (f : Setup) (room : ℕ) (fits : Fits f room) (at : ℕ) (bs : List ℕ
   abbrev outside : ℕ → Byte → Bool → Bool
   outside a b c = is_outside_byte (signed_byte a -ℤ signed_byte (value m b) -ℤ pos (bit (not c)))
 
-  takes_signed : (b : Byte) (a : ℕ) (c : Bool) → IsRead b → at + len (sbc b) ≤ highest_code → Bytes f.code at (instr_bytes (sbc b)) → Moves f (Known at a c bs m text answers) (Signed (at + len (sbc b)) (less a b c) (has_bit (less a b c) 128) (outside a b c) bs m text answers) [] 1
+  takes_signed : (b : Byte) (a : ℕ) (c : Bool) → IsRead b → at + len (sbc b) ≤ highest_code → Bytes f.code at (instr_bytes (sbc b))
+      → Moves f (Known at a c bs m text answers) (Signed (at + len (sbc b)) (less a b c) (has_bit (less a b c) 128) (outside a b c) bs m text answers) [] 1
   takes_signed (Fixed b) a c d r st = whatever_known f room fits at a c bs m text answers _ [] 1 (λ x y n v i z.
-      placed_last f room fits (ins 0xE9 b) (view a x y n v i z c at bs m text answers) _ _ small st refl (record { here = record { pc = let e : (at + 2) % 65536 ≡ at + 2 = omega arith in e; stack = refl; binary = refl; mem = refl; text = refl; answers = refl }; number = refl; negative = refl; overflow = refl }))
+      placed_last f room fits (ins 0xE9 b) (view a x y n v i z c at bs m text answers) _ _ small st refl
+          (record { here = record { pc = let e : (at + 2) % 65536 ≡ at + 2 = omega arith in e; stack = refl; binary = refl; mem = refl; text = refl;
+          answers = refl }; number = refl; negative = refl; overflow = refl }))
   takes_signed (At p) a c d r st = whatever_known f room fits at a c bs m text answers _ [] 1 (λ x y n v i z.
-      loads_last f room fits 0xED p Sbc (view a x y n v i z c at bs m text answers) _ _ refl refl refl small st d refl (record { here = record { pc = let e : (at + 3) % 65536 ≡ at + 3 = omega arith in e; stack = refl; binary = refl; mem = refl; text = refl; answers = refl }; number = refl; negative = refl; overflow = refl }))
+      loads_last f room fits 0xED p Sbc (view a x y n v i z c at bs m text answers) _ _ refl refl refl small st d refl
+          (record { here = record { pc = let e : (at + 3) % 65536 ≡ at + 3 = omega arith in e; stack = refl; binary = refl; mem = refl; text = refl;
+          answers = refl }; number = refl; negative = refl; overflow = refl }))
 
-  turns : (a : ℕ) → at + 2 ≤ highest_code → Bytes f.code at (instr_bytes (ins 0x49 128)) → Moves f (WithA at a bs m text answers) (WithN (at + 2) (has_bit (bit_xor a 128) 128) bs m text answers) [] 1
+  turns : (a : ℕ) → at + 2 ≤ highest_code → Bytes f.code at (instr_bytes (ins 0x49 128)) → Moves f (WithA at a bs m text answers)
+      (WithN (at + 2) (has_bit (bit_xor a 128) 128) bs m text answers) [] 1
   turns a r st = whatever_a f room fits at a bs m text answers _ [] 1 (λ x y n v i z c.
-      placed_last f room fits (ins 0x49 128) (view a x y n v i z c at bs m text answers) _ _ small st refl (record { here = record { pc = let e : (at + 2) % 65536 ≡ at + 2 = omega arith in e; stack = refl; binary = refl; mem = refl; text = refl; answers = refl }; negative = refl }))
+      placed_last f room fits (ins 0x49 128) (view a x y n v i z c at bs m text answers) _ _ small st refl
+          (record { here = record { pc = let e : (at + 2) % 65536 ≡ at + 2 = omega arith in e; stack = refl; binary = refl; mem = refl; text = refl;
+          answers = refl }; negative = refl }))
 
-module _ (f : Setup) (room : ℕ) (fits : Fits f room) (at : ℕ) (bs : List ℕ) (m : ℕ → ℕ) (text answers : List ℕ) (small : leb (length bs) room ≡ true) (a b : Source) (x y : ℕ) (ga : Grounded a 0) (gb : Grounded b 0) (ha : SourceHolds m a x) (hb : SourceHolds m b y) (below : Bool) (first second : Way) (next : ℕ) (lies : Lies f.code at (weighing_code below first second at a b next)) (reach : WeighingReaches first second at a b next) where
+module _ (f : Setup) (room : ℕ) (fits : Fits f room) (at : ℕ) (bs : List ℕ) (m : ℕ → ℕ) (text answers : List ℕ) (small : leb (length bs) room ≡ true)
+    (a b : Source) (x y : ℕ) (ga : Grounded a 0) (gb : Grounded b 0) (ha : SourceHolds m a x) (hb : SourceHolds m b y) (below : Bool)
+    (first second : Way) (next : ℕ) (lies : Lies f.code at (weighing_code below first second at a b next)) (reach : WeighingReaches first second at a b next) where
   abbrev c : Bool
   c = nat_le (value m (low b)) (value m (low a))
 
@@ -107,9 +119,12 @@ module _ (f : Setup) (room : ℕ) (fits : Fits f room) (at : ℕ) (bs : List ℕ
       let lows : at + size (weighed (low a) (low b)) ≡ p2 = omega arith in
       moves_then f _ _ _ [] [] 2 2 (weighs f room fits at bs m text answers small (low a) (low b) (omega (arith, lies.0)) (low_read a 0 ga) (low_read b 0 gb) (lies.1.0, (lies.1.1.0, tt)))
       (moves_then f _ _ _ [] [] 1 1
-      (λ w g. loads_with f room fits p2 bs m text answers small (high a) c (high_read a 0 ga) (omega (arith, lies.0)) s2.0 w (record { here = record { pc = g.here.pc ∙ lows; stack = g.here.stack; binary = g.here.binary; mem = g.here.mem; text = g.here.text; answers = g.here.answers }; carry = g.carry }))
+      (λ w g. loads_with f room fits p2 bs m text answers small (high a) c (high_read a 0 ga) (omega (arith, lies.0)) s2.0 w
+          (record { here = record { pc = g.here.pc ∙ lows; stack = g.here.stack; binary = g.here.binary; mem = g.here.mem; text = g.here.text;
+          answers = g.here.answers }; carry = g.carry }))
       (moves_looser f _ _ _ [] 1 1 (omega arith)
-      (λ w g. record { here = record { pc = g.here.pc ∙ (let q : p3 + len (sbc (high b)) ≡ p4 = omega arith in q); stack = g.here.stack; binary = g.here.binary; mem = g.here.mem; text = g.here.text; answers = g.here.answers }; number = g.number; negative = g.negative; overflow = g.overflow })
+      (λ w g. record { here = record { pc = g.here.pc ∙ (let q : p3 + len (sbc (high b)) ≡ p4 = omega arith in q); stack = g.here.stack;
+          binary = g.here.binary; mem = g.here.mem; text = g.here.text; answers = g.here.answers }; number = g.number; negative = g.negative; overflow = g.overflow })
       (takes_signed f room fits p3 bs m text answers small (high b) (value m (high a)) c (high_read b 0 gb) (omega (arith, lies.0)) s3.0)))
 
   -- N turned where V is set
@@ -138,7 +153,8 @@ module _ (f : Setup) (room : ℕ) (fits : Fits f room) (at : ℕ) (bs : List ℕ
   end_is = omega (arith, branch_size first Overflow false p4 p5, branch_size second Negative below p5 next)
 
   -- where it leads: behind it where the first word is below the second, or, where that is wanted, where it is not
-  weighs_order : Moves f (Here at bs m text answers) (Here (cond (turned below (int_lt (signed x) (signed y))) (at + pieces_size (weighing_code below first second at a b next)) next) bs m text answers) [] 9
+  weighs_order : Moves f (Here at bs m text answers)
+      (Here (cond (turned below (int_lt (signed x) (signed y))) (at + pieces_size (weighing_code below first second at a b next)) next) bs m text answers) [] 9
   weighs_order =
       moves_then f _ _ _ [] [] 4 5 differs
       (moves_then f _ _ _ [] [] 3 2 (turned_by v)
@@ -146,13 +162,19 @@ module _ (f : Setup) (room : ℕ) (fits : Fits f room) (at : ℕ) (bs : List ℕ
 
 -- ---- of a word and 0
 module _ (f : Setup) (room : ℕ) (fits : Fits f room) (at : ℕ) (bs : List ℕ) (m : ℕ → ℕ) (text answers : List ℕ) (small : leb (length bs) room ≡ true) where
-  pub loads_sign : (b : Byte) → IsRead b → at + len (lda b) ≤ highest_code → Bytes f.code at (instr_bytes (lda b)) → Moves f (Here at bs m text answers) (WithN (at + len (lda b)) (has_bit (value m b) 128) bs m text answers) [] 1
+  pub loads_sign : (b : Byte) → IsRead b → at + len (lda b) ≤ highest_code → Bytes f.code at (instr_bytes (lda b))
+      → Moves f (Here at bs m text answers) (WithN (at + len (lda b)) (has_bit (value m b) 128) bs m text answers) [] 1
   loads_sign (Fixed b) d r st = whatever f room fits at bs m text answers _ [] 1 (λ a x y n v i z c.
-      placed_last f room fits (ins 0xA9 b) (view a x y n v i z c at bs m text answers) _ _ small st refl (record { here = record { pc = let e : (at + 2) % 65536 ≡ at + 2 = omega arith in e; stack = refl; binary = refl; mem = refl; text = refl; answers = refl }; negative = refl }))
+      placed_last f room fits (ins 0xA9 b) (view a x y n v i z c at bs m text answers) _ _ small st refl
+          (record { here = record { pc = let e : (at + 2) % 65536 ≡ at + 2 = omega arith in e; stack = refl; binary = refl; mem = refl; text = refl;
+          answers = refl }; negative = refl }))
   loads_sign (At p) d r st = whatever f room fits at bs m text answers _ [] 1 (λ a x y n v i z c.
-      loads_last f room fits 0xAD p Lda (view a x y n v i z c at bs m text answers) _ _ refl refl refl small st d refl (record { here = record { pc = let e : (at + 3) % 65536 ≡ at + 3 = omega arith in e; stack = refl; binary = refl; mem = refl; text = refl; answers = refl }; negative = refl }))
+      loads_last f room fits 0xAD p Lda (view a x y n v i z c at bs m text answers) _ _ refl refl refl small st d refl
+          (record { here = record { pc = let e : (at + 3) % 65536 ≡ at + 3 = omega arith in e; stack = refl; binary = refl; mem = refl; text = refl;
+          answers = refl }; negative = refl }))
 
-  module _ (a : Source) (x : ℕ) (ga : Grounded a 0) (ha : SourceHolds m a x) (below : Bool) (first : Way) (next : ℕ) (lies : Lies f.code at (sign_code below first at a next)) (reach : SignReaches first at a next) where
+  module _ (a : Source) (x : ℕ) (ga : Grounded a 0) (ha : SourceHolds m a x) (below : Bool) (first : Way) (next : ℕ)
+      (lies : Lies f.code at (sign_code below first at a next)) (reach : SignReaches first at a next) where
     abbrev negative : Bool
     negative = int_lt (signed x) (pos 0)
 
@@ -171,7 +193,8 @@ module _ (f : Setup) (room : ℕ) (fits : Fits f room) (at : ℕ) (bs : List ℕ
     tests_sign : Moves f (Here at bs m text answers) (Here (cond (turned below negative) (at + pieces_size (sign_code below first at a next)) next) bs m text answers) [] 3
     tests_sign w h =
         chained f w _ _ [] [] 1 2 (loads_sign (high a) (high_read a 0 ga) (omega (arith, lies.0)) lies.1.0 w h) (λ u g.
-        looser f u _ _ [] 2 2 (omega arith) (λ v k. subst (λ e. Here (cond (turned below negative) e next) bs m text answers v) sign_end (subst (λ p. Here p bs m text answers v) (last_leads below negative next (branch_at + way_size first)) k.here))
+        looser f u _ _ [] 2 2 (omega arith) (λ v k. subst (λ e. Here (cond (turned below negative) e next) bs m text answers v) sign_end
+            (subst (λ p. Here p bs m text answers v) (last_leads below negative next (branch_at + way_size first)) k.here))
         (branches f room fits bs m text answers small branch_at first Negative below negative next (branch_behind f branch_at first Negative below next [] lies.2).0 reach lies.2.1 u
         (record { pc = g.here.pc ∙ loaded_to; stack = g.here.stack; binary = g.here.binary; mem = g.here.mem; text = g.here.text; answers = g.here.answers }) (g.negative ∙ sign_so)))
 
@@ -183,7 +206,8 @@ side_turned NotBelow Below t = refl
 side_turned NotBelow NotBelow true = refl
 side_turned NotBelow NotBelow false = refl
 
-module _ (f : Setup) (room : ℕ) (fits : Fits f room) (at : ℕ) (bs : List ℕ) (m : ℕ → ℕ) (text answers : List ℕ) (small : leb (length bs) room ≡ true) (wanted : Side) (first second : Way) (next : ℕ) where
+module _ (f : Setup) (room : ℕ) (fits : Fits f room) (at : ℕ) (bs : List ℕ) (m : ℕ → ℕ) (text answers : List ℕ) (small : leb (length bs) room ≡ true)
+    (wanted : Side) (first second : Way) (next : ℕ) where
   -- behind the code where a word is below another one, or, where that is wanted, where it is not
   abbrev Leads : Order → Bool → Type 0
   Leads order less = Lies f.code at (order_by order wanted first second at next) → ReachesBy order first second at next
@@ -199,7 +223,8 @@ module _ (f : Setup) (room : ℕ) (fits : Fits f room) (at : ℕ) (bs : List ℕ
       (ap (λ v. turned (leaves_below (wanted_side wanted side)) (int_lt (signed x) (signed v))) (sym (eqb-true _ _ e)) ∙ side_turned wanted side (int_lt (signed x) (signed w))) h) led
   by_against side a x w ga ha word false e lies reach =
       moves_looser f _ _ _ [] 7 9 (omega arith)
-      (λ u h. subst (λ t. Here (cond t (at + pieces_size (order_by (ByConstant side a w) wanted first second at next)) next) bs m text answers u) (side_turned wanted side (int_lt (signed x) (signed w))) h)
+      (λ u h. subst (λ t. Here (cond t (at + pieces_size (order_by (ByConstant side a w) wanted first second at next)) next) bs m text answers u)
+          (side_turned wanted side (int_lt (signed x) (signed w))) h)
       (tests_against f room fits at bs m text answers small a x w ga ha word (leaves_below (wanted_side wanted side)) first next lies reach)
 
   by_difference : (a b : Source) (x y : ℕ) → Grounded a 0 → Grounded b 0 → SourceHolds m a x → SourceHolds m b y → Leads (ByDifference a b) (int_lt (signed x) (signed y))
@@ -227,7 +252,9 @@ module _ (f : Setup) (room : ℕ) (fits : Fits f room) (at : ℕ) (bs : List ℕ
   by_words (AtPlace p) (AtPlace q) x y ga gb ha hb = by_difference (AtPlace p) (AtPlace q) x y ga gb ha hb
 
 -- where a test for order leads
-module _ (f : Setup) (room : ℕ) (fits : Fits f room) (at : ℕ) (bs : List ℕ) (m : ℕ → ℕ) (text answers : List ℕ) (small : leb (length bs) room ≡ true) (a b : Source) (x y : ℕ) (ga : Grounded a 0) (gb : Grounded b 0) (ha : SourceHolds m a x) (hb : SourceHolds m b y) (wanted : Side) (first second : Way) (next : ℕ) where
+module _ (f : Setup) (room : ℕ) (fits : Fits f room) (at : ℕ) (bs : List ℕ) (m : ℕ → ℕ) (text answers : List ℕ) (small : leb (length bs) room ≡ true)
+    (a b : Source) (x y : ℕ) (ga : Grounded a 0) (gb : Grounded b 0) (ha : SourceHolds m a x) (hb : SourceHolds m b y) (wanted : Side) (first second : Way) (next : ℕ) where
   pub tests_order : Lies f.code at (order_code wanted first second at a b next) → OrderReaches first second at a b next
-      → Moves f (Here at bs m text answers) (Here (cond (turned (leaves_below wanted) (int_lt (signed x) (signed y))) (at + pieces_size (order_code wanted first second at a b next)) next) bs m text answers) [] 9
+      → Moves f (Here at bs m text answers) (Here (cond (turned (leaves_below wanted) (int_lt (signed x) (signed y)))
+          (at + pieces_size (order_code wanted first second at a b next)) next) bs m text answers) [] 9
   tests_order = by_words f room fits at bs m text answers small wanted first second next a b x y ga gb ha hb

@@ -1,5 +1,6 @@
 -- The law of a line's beginning: an answer is taken in line; LINE is left alone.
-use Rattle.std.proofs.Common.{◌≡◌, ℕ, ◌+◌, ◌/◌, ◌%◌, ◌≤◌, ◌<◌, cond, Bool, true, false, if◌then◌else◌, List, [], ◌∷◌, drop, refl, sym, ap, ◌∙◌, subst, arith, eqb, Option, Some, None, inl, inr}
+use Rattle.std.proofs.Common.{◌≡◌, ℕ, ◌+◌, ◌/◌, ◌%◌, ◌≤◌, ◌<◌, cond, Bool, true, false, if◌then◌else◌, List, [], ◌∷◌}
+use Rattle.std.proofs.Common.{drop, refl, sym, ap, ◌∙◌, subst, arith, eqb, Option, Some, None, inl, inr}
 use Rattle.std.specs.Prelude.{nat_eq}
 use Rattle.tb_syntax.specs.Source.{numbers}
 use Rattle.tb_kernal.specs.declared.places.Service.TheVariants.{Getin}
@@ -52,7 +53,9 @@ module _ (code : SlotCode) (n : ℕ) (is : List Instr) (s : State) (r : Slots) w
   polls : steps code (Poll ∷ []) (line code n (Poll ∷ is) s r) ≡ outcome s.answers
   polls = by s.answers
     where
-      decide : (a : ℕ) (l : List ℕ) (t : Bool) → next code n [] (settled n is r (staying r (if t then Stops Faulted (fault_text 0 n) else Goes (record s { answers = l }) []))) ≡ (if t then Stops Faulted (fault_text 0 n) else Goes (line code n is (record s { answers = l }) r) [])
+      decide : (a : ℕ) (l : List ℕ) (t : Bool)
+          → next code n [] (settled n is r (staying r (if t then Stops Faulted (fault_text 0 n) else Goes (record s { answers = l }) [])))
+          ≡ (if t then Stops Faulted (fault_text 0 n) else Goes (line code n is (record s { answers = l }) r) [])
       decide a l true = refl
       decide a l false = refl
 
@@ -67,12 +70,14 @@ module _ (around : Surroundings) (fits : Fits around.f 16) (limit : ℕ) (rs : S
   own = lo ∷ hi ∷ []
 
   -- the answer is in A
-  asks : (at : ℕ) (m : ℕ → ℕ) (text answers : List ℕ) → at + 3 ≤ highest_code → Moves f (Here 0xFFE4 ((at + 2) % 256 ∷ (at + 2) / 256 ∷ own) m text answers) (WithA (at + 3) (first_or_zero answers) own m text (drop 1 answers)) [] 1
+  asks : (at : ℕ) (m : ℕ → ℕ) (text answers : List ℕ) → at + 3 ≤ highest_code
+      → Moves f (Here 0xFFE4 ((at + 2) % 256 ∷ (at + 2) / 256 ∷ own) m text answers) (WithA (at + 3) (first_or_zero answers) own m text (drop 1 answers)) [] 1
   asks at m text answers b = whatever f 16 fits 0xFFE4 ((at + 2) % 256 ∷ (at + 2) / 256 ∷ own) m text answers _ [] 1 (λ a x y n v i z c.
       served_last f 16 fits Getin (view a x y n v i z c 0xFFE4 ((at + 2) % 256 ∷ (at + 2) / 256 ∷ own) m text answers) ((at + 2) % 256) ((at + 2) / 256) own _ refl refl refl refl
       (λ j. record { here = record { pc = behind_call at b; stack = refl; binary = refl; mem = refl; text = refl; answers = refl }; number = refl }))
 
-  module _ (n : ℕ) (small : n < 65536) (is : List Instr) (s : State) (r : Slots) (closed : AreClosed code) (some : content_at code n ≡ Some (Poll ∷ is)) (w : View) (h : Matches around (record { state = s; rest = Whole; slots = r }) w) (lies : LineStands ly f.code f.whole n (ly.start n) is) where
+  module _ (n : ℕ) (small : n < 65536) (is : List Instr) (s : State) (r : Slots) (closed : AreClosed code) (some : content_at code n
+      ≡ Some (Poll ∷ is)) (w : View) (h : Matches around (record { state = s; rest = Whole; slots = r }) w) (lies : LineStands ly f.code f.whole n (ly.start n) is) where
     abbrev at : ℕ
     at = ly.start n
 
@@ -108,7 +113,8 @@ module _ (around : Surroundings) (fits : Fits around.f 16) (limit : ℕ) (rs : S
     setting = branch_behind f near way Zero true away [] lies.4.2
 
     parts : (z : Bool) → Moves f (Flagged near own w.mem s.text (drop 1 s.answers) z) (Here (cond z away onward) own w.mem s.text (drop 1 s.answers)) [] 2
-    parts z u g = looser f u _ _ [] 2 2 (omega arith) (λ v k. k.here) (branches f 16 fits own w.mem s.text (drop 1 s.answers) refl near way Zero true z away setting.0 reach lies.4.2.1 u g.here g.zero)
+    parts z u g = looser f u _ _ [] 2 2 (omega arith) (λ v k. k.here) (branches f 16 fits own w.mem s.text (drop 1 s.answers) refl near way Zero true
+        z away setting.0 reach lies.4.2.1 u g.here g.zero)
 
     -- a break
     breaks : Moves f (Flagged near own w.mem s.text (drop 1 s.answers) true) (IsHome f) (fault_text 0 n) (2 + (4 + limit))
@@ -117,9 +123,11 @@ module _ (around : Surroundings) (fits : Fits around.f 16) (limit : ℕ) (rs : S
         (faults_at around fits limit rs n 0 small (omega arith) away w.mem s.text (drop 1 s.answers) lies.6 h.homed)
 
     -- no break
-    goes_on : (s' : State) → s'.text ≡ s.text → drop 1 s.answers ≡ s'.answers → HoldsState ly s' w.mem → Typable keys s'.text s'.answers → Moves f (Flagged near own w.mem s.text (drop 1 s.answers) false) (Matches around (line code n is s' r)) [] 2
+    goes_on : (s' : State) → s'.text ≡ s.text → drop 1 s.answers ≡ s'.answers → HoldsState ly s' w.mem → Typable keys s'.text s'.answers
+        → Moves f (Flagged near own w.mem s.text (drop 1 s.answers) false) (Matches around (line code n is s' r)) [] 2
     goes_on s' et ea hs short = moves_looser f _ _ _ [] 2 2 (omega arith)
-        (stood around code n small is s' r onward w.mem s.text (drop 1 s.answers) rest hs (subst (λ u. HoldsLive u r w.mem) (sym (closed n (Poll ∷ is) some)) (nothing_read r w.mem h.read.all_words)) h.homed (sym et) ea short)
+        (stood around code n small is s' r onward w.mem s.text (drop 1 s.answers) rest hs
+            (subst (λ u. HoldsLive u r w.mem) (sym (closed n (Poll ∷ is) some)) (nothing_read r w.mem h.read.all_words)) h.homed (sym et) ea short)
         (parts false)
 
     abbrev Led : Step SlotState → Type 0
@@ -128,7 +136,8 @@ module _ (around : Surroundings) (fits : Fits around.f 16) (limit : ℕ) (rs : S
     with_answers : (l : List ℕ) → HoldsState ly (record s { answers = l }) w.mem
     with_answers l = let k = h.state in record { vars = k.vars; column = k.column; opened = k.opened; seeded = k.seeded; count = k.count; notes = k.notes; few = k.few; all_vars = k.all_vars }
 
-    by_break : (a : ℕ) (l : List ℕ) → s.answers ≡ a ∷ l → AreBytes (a ∷ l) → (t : Bool) → nat_eq a 3 ≡ t → Led (if t then Stops Faulted (fault_text 0 n) else Goes (line code n is (record s { answers = l }) r) [])
+    by_break : (a : ℕ) (l : List ℕ) → s.answers ≡ a ∷ l → AreBytes (a ∷ l) → (t : Bool) → nat_eq a 3 ≡ t
+        → Led (if t then Stops Faulted (fault_text 0 n) else Goes (line code n is (record s { answers = l }) r) [])
     by_break a l e bytes true q u g =
         let stop_is : stop ≡ a = ap first_or_zero e in
         looser f u _ _ (fault_text 0 n) (1 + (2 + (4 + limit))) (10 + limit) (omega arith) (λ v x. x)
@@ -151,7 +160,8 @@ module _ (around : Surroundings) (fits : Fits around.f 16) (limit : ℕ) (rs : S
     same_step here = line_step code n (Poll ∷ is) s r here some ∙ ap (λ gs. first code gs (line code n (Poll ∷ is) s r)) (select_poll is) ∙ polls code n is s r
 
     -- the law of the line's beginning
-    pub line_law : s.place ≡ At n → Enters f w (Target around (first_group code (record { state = s; rest = Whole; slots = r }))) (sent_in (first_group code (record { state = s; rest = Whole; slots = r }))) (34 + (limit + limit))
+    pub line_law : s.place ≡ At n → Enters f w (Target around (first_group code (record { state = s; rest = Whole; slots = r })))
+        (sent_in (first_group code (record { state = s; rest = Whole; slots = r }))) (34 + (limit + limit))
     line_law here =
         subst (λ x. Enters f w (Target around x) (sent_in x) (34 + (limit + limit))) (sym (same_step here))
         (record {
@@ -159,7 +169,8 @@ module _ (around : Surroundings) (fits : Fits around.f 16) (limit : ℕ) (rs : S
           few = omega arith;
           one = looser (opened f) w _ _ [] 1 1 (omega arith)
               (λ u g. chained f u _ _ [] (sent_in (outcome code n is s r s.answers)) 1 (10 + limit) (asks at w.mem s.text s.answers lies.2 u g) (led s.answers refl h.short.answer_bytes))
-              (calls (opened f) 16 fits at own w.mem s.text s.answers refl 0xFFE4 refl lies.2 lies.3 w (record { pc = h.pc ∙ ap (place_at ly) here; stack = h.stack; binary = h.binary; mem = refl; text = h.text; answers = h.answers }));
+              (calls (opened f) 16 fits at own w.mem s.text s.answers refl 0xFFE4 refl lies.2 lies.3 w (record { pc = h.pc ∙ ap (place_at ly) here;
+                  stack = h.stack; binary = h.binary; mem = refl; text = h.text; answers = h.answers }));
         })
 
   -- ---- any place
@@ -172,18 +183,22 @@ module _ (around : Surroundings) (fits : Fits around.f 16) (limit : ℕ) (rs : S
     past_law at =
         let n = highest ly.numbers in
         looser f w _ _ (fault_text 7 n) (4 + limit) (34 + (limit + limit)) (omega arith) (λ u x. x)
-        (faults_at around fits limit rs n 7 laid.top (omega arith) ly.past w.mem w.text w.answers laid.past h.homed w (record { pc = at; stack = h.stack; binary = h.binary; mem = refl; text = refl; answers = refl }))
+        (faults_at around fits limit rs n 7 laid.top (omega arith) ly.past w.mem w.text w.answers laid.past h.homed w
+            (record { pc = at; stack = h.stack; binary = h.binary; mem = refl; text = refl; answers = refl }))
 
     -- no line there: fault 7
-    no_line : w.regs.pc ≡ ly.past → first_group code whole ≡ Stops Faulted (fault_text 7 (highest (numbers code))) → LawAt Whole f w (Target around (first_group code whole)) (sent_in (first_group code whole)) (34 + (limit + limit))
+    no_line : w.regs.pc ≡ ly.past → first_group code whole ≡ Stops Faulted (fault_text 7 (highest (numbers code)))
+        → LawAt Whole f w (Target around (first_group code whole)) (sent_in (first_group code whole)) (34 + (limit + limit))
     no_line at e =
         subst (λ x. LawAt Whole f w (Target around x) (sent_in x) (34 + (limit + limit))) (sym e)
         (inl (subst (λ ns. Comes f w (IsHome f) (fault_text 7 (highest ns)) (34 + (limit + limit))) (sym laid.numbered) (past_law at)))
 
-    at_number : (n : ℕ) → s.place ≡ At n → (o : Option (List Instr)) → content_at code n ≡ o → LawAt Whole f w (Target around (first_group code whole)) (sent_in (first_group code whole)) (34 + (limit + limit))
+    at_number : (n : ℕ) → s.place ≡ At n → (o : Option (List Instr)) → content_at code n ≡ o
+        → LawAt Whole f w (Target around (first_group code whole)) (sent_in (first_group code whole)) (34 + (limit + limit))
     at_number n here None e =
         no_line (h.pc ∙ ap (place_at ly) here ∙ laid.absent n e)
-        (ap (λ p. first code (select (ahead code Whole p)) whole) here ∙ ap (λ o. first code (select (or_empty o)) whole) e ∙ ap (λ p. instr_at code Whole p s r) here ∙ ap (λ o. instr_found (numbers code) n o s r) e)
+        (ap (λ p. first code (select (ahead code Whole p)) whole) here ∙ ap (λ o. first code (select (or_empty o)) whole) e
+            ∙ ap (λ p. instr_at code Whole p s r) here ∙ ap (λ o. instr_found (numbers code) n o s r) e)
     at_number n here (Some js) e =
         let p = laid.lines n js e in
         inr (line_law n p.small p.rest s r closed (e ∙ ap (λ l. Some l) p.polled) w h p.stands here)

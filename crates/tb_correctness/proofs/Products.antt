@@ -21,11 +21,13 @@ use Rattle.tb_correctness.proofs.SlotSide.{spread}
 use Rattle.tb_correctness.proofs.Surroundings.{Serves, Surroundings}
 use Rattle.tb_correctness.proofs.Calculated.{Leads, calculation, leads_on, on_two}
 
-module _ {around : Surroundings} (fits : Fits around.f 16) (limit : ℕ) (rs : Serves around limit) (code : SlotCode) {n : ℕ} {a b : Operand} {d : Destination} {is : List Instr} {s : State} {r : Slots} {w : View} (h : Ready around n (Calculate op.Multiply a b d) (spread op.Multiply a b d is) is s r w) where
+module _ {around : Surroundings} (fits : Fits around.f 16) (limit : ℕ) (rs : Serves around limit) (code : SlotCode) {n : ℕ} {a b : Operand}
+    {d : Destination} {is : List Instr} {s : State} {r : Slots} {w : View} (h : Ready around n (Calculate op.Multiply a b d) (spread op.Multiply a b d is) is s r w) where
   open around use {ly, f}
   open calculation a b d s r use {x, y, left, right, to}
 
-  pub multiply_law : Lies f.code w.regs.pc (routine MULTIPLY_AT RESULT left right to) → GroupsLie ly f.code n (w.regs.pc + pieces_size (routine MULTIPLY_AT RESULT left right to)) (select is) → Leads h code (13 + limit)
+  pub multiply_law : Lies f.code w.regs.pc (routine MULTIPLY_AT RESULT left right to)
+      → GroupsLie ly f.code n (w.regs.pc + pieces_size (routine MULTIPLY_AT RESULT left right to)) (select is) → Leads h code (13 + limit)
   multiply_law lies rest =
       leads_on h code (word (x * y)) (13 + limit) refl
       (on_two h code fits MULTIPLY_AT RESULT w.regs.pc w.mem (kept h) lies (word (x * y)) limit result_gives rest

@@ -52,7 +52,8 @@ module _ (around : Surroundings) where
     pub short : Typable keys s.text s.answers
 
   -- the relation gives it of the first group
-  pub ready : (code : SlotCode) (n : ℕ) (g : Group) (gs : List Group) (js : List Instr) (s : State) (r : Slots) (w : View) → select js ≡ g ∷ gs → Matches around (line code n js s r) w → Ready n g js (expand_all gs) s r w
+  pub ready : (code : SlotCode) (n : ℕ) (g : Group) (gs : List Group) (js : List Instr) (s : State) (r : Slots) (w : View) → select js ≡ g ∷ gs
+      → Matches around (line code n js s r) w → Ready n g js (expand_all gs) s r w
   ready code n g gs js s r w e h =
       let lies : GroupsLie ly f.code n w.regs.pc (g ∷ gs) = subst (GroupsLie ly f.code n w.regs.pc) e h.pc.0 in
       let good : AreChosen (g ∷ gs) = subst AreChosen e (chosen js) in
@@ -81,12 +82,17 @@ module _ (around : Surroundings) where
       }
 
   -- and a law of its slot steps is one of the group's step
-  pub opened : (code : SlotCode) (n : ℕ) (g : Group) (gs : List Group) (js : List Instr) (s : State) (r : Slots) (w : View) (k : ℕ) → select js ≡ g ∷ gs → Comes f w (Target around (steps code (expand g) (line code n js s r))) (sent_in (steps code (expand g) (line code n js s r))) k → Comes f w (Target around (first_group code (line code n js s r))) (sent_in (first_group code (line code n js s r))) k
+  pub opened : (code : SlotCode) (n : ℕ) (g : Group) (gs : List Group) (js : List Instr) (s : State) (r : Slots) (w : View) (k : ℕ)
+      → select js ≡ g ∷ gs → Comes f w (Target around (steps code (expand g) (line code n js s r)))
+      (sent_in (steps code (expand g) (line code n js s r))) k → Comes f w (Target around (first_group code (line code n js s r)))
+      (sent_in (first_group code (line code n js s r))) k
   opened code n g gs js s r w k e h =
       subst (λ l. Comes f w (Target around (first code l (line code n js s r))) (sent_in (first code l (line code n js s r))) k) (sym e) h
 
   -- ---- behind a group
-  pub stood : (code : SlotCode) (n : ℕ) → n < 65536 → (is : List Instr) (s : State) (r : Slots) (at : ℕ) (m : ℕ → ℕ) (t answers : List ℕ) → GroupsLie ly f.code n at (select is) → HoldsState ly s m → HoldsLive (live is) r m → Entered f lo hi m → t ≡ s.text → answers ≡ s.answers → Typable keys s.text s.answers → (w : View) → Here at (lo ∷ hi ∷ []) m t answers w → Matches around (line code n is s r) w
+  pub stood : (code : SlotCode) (n : ℕ) → n < 65536 → (is : List Instr) (s : State) (r : Slots) (at : ℕ) (m : ℕ → ℕ) (t answers : List ℕ)
+      → GroupsLie ly f.code n at (select is) → HoldsState ly s m → HoldsLive (live is) r m → Entered f lo hi m → t ≡ s.text → answers ≡ s.answers
+      → Typable keys s.text s.answers → (w : View) → Here at (lo ∷ hi ∷ []) m t answers w → Matches around (line code n is s r) w
   stood code n number is s r at m t answers rl hs hr en text got short w e = record {
     pc = (subst (λ p. GroupsLie ly f.code n p (select is)) (sym e.pc) rl, number);
     stack = e.stack;
@@ -100,7 +106,8 @@ module _ (around : Surroundings) where
   }
 
 -- where it begins
-pub here : {around : Surroundings} {n : ℕ} {g : Group} {js is : List Instr} {s : State} {r : Slots} {w : View} → Ready around n g js is s r w → Here w.regs.pc (around.lo ∷ around.hi ∷ []) w.mem w.text w.answers w
+pub here : {around : Surroundings} {n : ℕ} {g : Group} {js is : List Instr} {s : State} {r : Slots} {w : View} → Ready around n g js is s r w
+    → Here w.regs.pc (around.lo ∷ around.hi ∷ []) w.mem w.text w.answers w
 here h = record { pc = refl; stack = h.stack; binary = h.binary; mem = refl; text = refl; answers = refl }
 
 pub landed_text : (d : Destination) (v : ℕ) (s : State) → (landed d v s).text ≡ s.text

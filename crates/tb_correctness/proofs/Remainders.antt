@@ -1,5 +1,6 @@
 -- A word's quotient times the divisor is the word again where nothing is left over, and where that is seen.
-use Rattle.std.proofs.Common.{◌≡◌, ◌≢◌, ℕ, zero, suc, ◌+◌, ◌-◌, ◌*◌, ◌/◌, ◌%◌, ◌^◌, ◌≤◌, ◌<◌, Bool, true, false, refl, sym, ap, ◌∙◌, arith, eqb, bit_and, ◌⊎◌, inl, inr, ⊎_elim, mul_comm}
+use Rattle.std.proofs.Common.{◌≡◌, ◌≢◌, ℕ, zero, suc, ◌+◌, ◌-◌, ◌*◌, ◌/◌, ◌%◌, ◌^◌, ◌≤◌, ◌<◌, Bool, true, false}
+use Rattle.std.proofs.Common.{refl, sym, ap, ◌∙◌, arith, eqb, bit_and, ◌⊎◌, inl, inr, ⊎_elim, mul_comm}
 use Rattle.std.specs.Prelude.{if◌then◌else◌, nat_eq, bit_or}
 use Rattle.std.proofs.lemmas.Bool.{cases_eq, eq-eqb, ltb-true, ltb-false, ne_eqb}
 use Rattle.std.proofs.lemmas.Grind.{and_numeral}
@@ -133,14 +134,30 @@ sizes x h = by (is_negative x)
 
 -- the lowest bits of a word tell a multiple of a power of two
 bits_tell : (k : ℕ) → k < 8 → (x m : ℕ) → (m ≡ x) ⊎ (m + x ≡ 65536) → eqb (bit_and (x % 256) (2 ^ (k + 1) - 1)) 0 ≡ nat_eq (m % 2 ^ (k + 1)) 0
-bits_tell zero few x m h = decide _ _ (λ z. ⊎_elim (λ e. omega (arith, e, z, and_numeral (x % 256) 0 refl)) (λ e. omega (arith, e, z, and_numeral (x % 256) 0 refl)) h) (λ z. ⊎_elim (λ e. omega (arith, e, z, and_numeral (x % 256) 0 refl)) (λ e. omega (arith, e, z, and_numeral (x % 256) 0 refl)) h)
-bits_tell (suc zero) few x m h = decide _ _ (λ z. ⊎_elim (λ e. omega (arith, e, z, and_numeral (x % 256) 2 refl)) (λ e. omega (arith, e, z, and_numeral (x % 256) 2 refl)) h) (λ z. ⊎_elim (λ e. omega (arith, e, z, and_numeral (x % 256) 2 refl)) (λ e. omega (arith, e, z, and_numeral (x % 256) 2 refl)) h)
-bits_tell (suc (suc zero)) few x m h = decide _ _ (λ z. ⊎_elim (λ e. omega (arith, e, z, and_numeral (x % 256) 6 refl)) (λ e. omega (arith, e, z, and_numeral (x % 256) 6 refl)) h) (λ z. ⊎_elim (λ e. omega (arith, e, z, and_numeral (x % 256) 6 refl)) (λ e. omega (arith, e, z, and_numeral (x % 256) 6 refl)) h)
-bits_tell (suc (suc (suc zero))) few x m h = decide _ _ (λ z. ⊎_elim (λ e. omega (arith, e, z, and_numeral (x % 256) 14 refl)) (λ e. omega (arith, e, z, and_numeral (x % 256) 14 refl)) h) (λ z. ⊎_elim (λ e. omega (arith, e, z, and_numeral (x % 256) 14 refl)) (λ e. omega (arith, e, z, and_numeral (x % 256) 14 refl)) h)
-bits_tell (suc (suc (suc (suc zero)))) few x m h = decide _ _ (λ z. ⊎_elim (λ e. omega (arith, e, z, and_numeral (x % 256) 30 refl)) (λ e. omega (arith, e, z, and_numeral (x % 256) 30 refl)) h) (λ z. ⊎_elim (λ e. omega (arith, e, z, and_numeral (x % 256) 30 refl)) (λ e. omega (arith, e, z, and_numeral (x % 256) 30 refl)) h)
-bits_tell (suc (suc (suc (suc (suc zero))))) few x m h = decide _ _ (λ z. ⊎_elim (λ e. omega (arith, e, z, and_numeral (x % 256) 62 refl)) (λ e. omega (arith, e, z, and_numeral (x % 256) 62 refl)) h) (λ z. ⊎_elim (λ e. omega (arith, e, z, and_numeral (x % 256) 62 refl)) (λ e. omega (arith, e, z, and_numeral (x % 256) 62 refl)) h)
-bits_tell (suc (suc (suc (suc (suc (suc zero)))))) few x m h = decide _ _ (λ z. ⊎_elim (λ e. omega (arith, e, z, and_numeral (x % 256) 126 refl)) (λ e. omega (arith, e, z, and_numeral (x % 256) 126 refl)) h) (λ z. ⊎_elim (λ e. omega (arith, e, z, and_numeral (x % 256) 126 refl)) (λ e. omega (arith, e, z, and_numeral (x % 256) 126 refl)) h)
-bits_tell (suc (suc (suc (suc (suc (suc (suc zero))))))) few x m h = decide _ _ (λ z. ⊎_elim (λ e. omega (arith, e, z, and_numeral (x % 256) 254 refl)) (λ e. omega (arith, e, z, and_numeral (x % 256) 254 refl)) h) (λ z. ⊎_elim (λ e. omega (arith, e, z, and_numeral (x % 256) 254 refl)) (λ e. omega (arith, e, z, and_numeral (x % 256) 254 refl)) h)
+bits_tell zero few x m h = decide _ _ (λ z. ⊎_elim (λ e. omega (arith, e, z, and_numeral (x % 256) 0 refl))
+    (λ e. omega (arith, e, z, and_numeral (x % 256) 0 refl)) h) (λ z. ⊎_elim (λ e. omega (arith, e, z, and_numeral (x % 256) 0 refl))
+    (λ e. omega (arith, e, z, and_numeral (x % 256) 0 refl)) h)
+bits_tell (suc zero) few x m h = decide _ _ (λ z. ⊎_elim (λ e. omega (arith, e, z, and_numeral (x % 256) 2 refl))
+    (λ e. omega (arith, e, z, and_numeral (x % 256) 2 refl)) h) (λ z. ⊎_elim (λ e. omega (arith, e, z, and_numeral (x % 256) 2 refl))
+    (λ e. omega (arith, e, z, and_numeral (x % 256) 2 refl)) h)
+bits_tell (suc (suc zero)) few x m h = decide _ _ (λ z. ⊎_elim (λ e. omega (arith, e, z, and_numeral (x % 256) 6 refl))
+    (λ e. omega (arith, e, z, and_numeral (x % 256) 6 refl)) h) (λ z. ⊎_elim (λ e. omega (arith, e, z, and_numeral (x % 256) 6 refl))
+    (λ e. omega (arith, e, z, and_numeral (x % 256) 6 refl)) h)
+bits_tell (suc (suc (suc zero))) few x m h = decide _ _ (λ z. ⊎_elim (λ e. omega (arith, e, z, and_numeral (x % 256) 14 refl))
+    (λ e. omega (arith, e, z, and_numeral (x % 256) 14 refl)) h) (λ z. ⊎_elim (λ e. omega (arith, e, z, and_numeral (x % 256) 14 refl))
+    (λ e. omega (arith, e, z, and_numeral (x % 256) 14 refl)) h)
+bits_tell (suc (suc (suc (suc zero)))) few x m h = decide _ _ (λ z. ⊎_elim (λ e. omega (arith, e, z, and_numeral (x % 256) 30 refl))
+    (λ e. omega (arith, e, z, and_numeral (x % 256) 30 refl)) h) (λ z. ⊎_elim (λ e. omega (arith, e, z, and_numeral (x % 256) 30 refl))
+    (λ e. omega (arith, e, z, and_numeral (x % 256) 30 refl)) h)
+bits_tell (suc (suc (suc (suc (suc zero))))) few x m h = decide _ _ (λ z. ⊎_elim (λ e. omega (arith, e, z, and_numeral (x % 256) 62 refl))
+    (λ e. omega (arith, e, z, and_numeral (x % 256) 62 refl)) h) (λ z. ⊎_elim (λ e. omega (arith, e, z, and_numeral (x % 256) 62 refl))
+    (λ e. omega (arith, e, z, and_numeral (x % 256) 62 refl)) h)
+bits_tell (suc (suc (suc (suc (suc (suc zero)))))) few x m h = decide _ _ (λ z. ⊎_elim (λ e. omega (arith, e, z, and_numeral (x % 256) 126 refl))
+    (λ e. omega (arith, e, z, and_numeral (x % 256) 126 refl)) h) (λ z. ⊎_elim (λ e. omega (arith, e, z, and_numeral (x % 256) 126 refl))
+    (λ e. omega (arith, e, z, and_numeral (x % 256) 126 refl)) h)
+bits_tell (suc (suc (suc (suc (suc (suc (suc zero))))))) few x m h =
+    decide _ _ (λ z. ⊎_elim (λ e. omega (arith, e, z, and_numeral (x % 256) 254 refl)) (λ e. omega (arith, e, z, and_numeral (x % 256) 254 refl)) h)
+    (λ z. ⊎_elim (λ e. omega (arith, e, z, and_numeral (x % 256) 254 refl)) (λ e. omega (arith, e, z, and_numeral (x % 256) 254 refl)) h)
 bits_tell (suc (suc (suc (suc (suc (suc (suc (suc k)))))))) few x m h = absurd (omega (arith, few))
 
 pub mask_small : (k : ℕ) → k < 8 → (2 ^ (k + 1) - 1) % 256 ≡ 2 ^ (k + 1) - 1

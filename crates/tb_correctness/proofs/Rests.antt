@@ -1,5 +1,6 @@
 -- The law of what is left over of a variable: its slot instructions and its code give the remainder's size with its sign.
-use Rattle.std.proofs.Common.{◌≡◌, ◌≢◌, ℕ, ◌+◌, ◌-◌, ◌*◌, ◌/◌, ◌%◌, ◌<◌, Bool, true, false, List, [], ◌∷◌, ◌++◌, length, refl, sym, ap, ◌∙◌, subst, arith, ⊎_elim, Some, length-set}
+use Rattle.std.proofs.Common.{◌≡◌, ◌≢◌, ℕ, ◌+◌, ◌-◌, ◌*◌, ◌/◌, ◌%◌, ◌<◌, Bool, true, false, List, [], ◌∷◌, ◌++◌}
+use Rattle.std.proofs.Common.{length, refl, sym, ap, ◌∙◌, subst, arith, ⊎_elim, Some, length-set}
 use Rattle.std.specs.Prelude.{slice_index, nat_lt}
 use Rattle.std.proofs.lemmas.Bool.{cases_eq, eq-eqb, leb-true, ltb-false, ltb-true, ne_eqb}
 use Rattle.tb_cpu.specs.Effects.{has_bit}
@@ -119,7 +120,8 @@ module _ (code : SlotCode) (n v : ℕ) (d : Operand) (to : Destination) (is : Li
   less_behind = Compute op.Subtract slot ∷ (kept to ++ is)
 
   -- where the divisor is a word
-  remains_goes : divisor ≢ 0 → steps code (expand (Remains v d to)) (line code n (spread_remains v d to is) s r) ≡ Goes (line code n is (landed to left_over s) (slots_landed to left_over (with_word both slot left_over))) []
+  remains_goes : divisor ≢ 0 → steps code (expand (Remains v d to)) (line code n (spread_remains v d to is) s r)
+      ≡ Goes (line code n is (landed to left_over s) (slots_landed to left_over (with_word both slot left_over))) []
   remains_goes some =
       let got : apply op.Subtract (slice_index both.words slot) (slice_index both.words (slot + 1)) ≡ Some left_over = (λ i. apply op.Subtract (left_is i) (right_is i)) in
       fetches code n slot (Variable v) (multiple (slot + 1) v d less) (multiple (slot + 1) v d less_behind) s r
@@ -158,9 +160,11 @@ module _ (v : ℕ) (d : Operand) (to : Destination) (is : List Instr) where
       by (Variable x) = tt
       by InSlot =
           let behind = Compute op.Divide (slot_of to + 1) ∷ Compute op.Multiply (slot_of to + 1) ∷ Compute op.Subtract (slot_of to) ∷ (kept to ++ is) in
-          fetch_reads (slot_of to + 2) (slot_of to) (Variable v) (Load (slot_of to + 1) v ∷ behind) (fetch_reads (slot_of to + 2) (slot_of to + 1) (Variable v) behind (omega arith) (λ q. omega (arith, q))) (λ q. omega (arith, q))
+          fetch_reads (slot_of to + 2) (slot_of to) (Variable v) (Load (slot_of to + 1) v ∷ behind) (fetch_reads (slot_of to + 2) (slot_of to + 1)
+              (Variable v) behind (omega arith) (λ q. omega (arith, q))) (λ q. omega (arith, q))
 
-  remains_lasting : (code : SlotCode) (n : ℕ) (s : State) (r : Slots) (all : length r.words ≡ 16) (room : slot_of to + 1 + 1 < 16) → omits_only_dead (Remains v d to) (live is) ≡ true → Lasting (live (spread_remains v d to is)) to is r (both code n v d to is s r all room)
+  remains_lasting : (code : SlotCode) (n : ℕ) (s : State) (r : Slots) (all : length r.words ≡ 16) (room : slot_of to + 1 + 1 < 16)
+      → omits_only_dead (Remains v d to) (live is) ≡ true → Lasting (live (spread_remains v d to is)) to is r (both code n v d to is s r all room)
   remains_lasting code n s r all room free = record {
     all = both_length code n v d to is s r all room ∙ sym all;
     same_held = held_stands code n (slot_of to + 1) v d s (with_word r (slot_of to) (slice_index s.vars v)) (length-set r.words (slot_of to) (slice_index s.vars v) ∙ all) room;
@@ -179,7 +183,8 @@ module _ (v : ℕ) (d : Operand) (to : Destination) (is : List Instr) where
 
       same : (j : ℕ) → j < slot_of to → slice_index (both code n v d to is s r all room).words j ≡ slice_index r.words j
       same j lt =
-          others_stand code n (slot_of to + 1) v d s (with_word r (slot_of to) (slice_index s.vars v)) (length-set r.words (slot_of to) (slice_index s.vars v) ∙ all) room j (λ q. omega (arith, q, lt)) (λ q. omega (arith, q, lt))
+          others_stand code n (slot_of to + 1) v d s (with_word r (slot_of to) (slice_index s.vars v))
+              (length-set r.words (slot_of to) (slice_index s.vars v) ∙ all) room j (λ q. omega (arith, q, lt)) (λ q. omega (arith, q, lt))
           ∙ other_slot r (slot_of to) j (slice_index s.vars v) (λ q. omega (arith, q, lt))
 
 -- ---- single pieces
@@ -192,7 +197,8 @@ sign_bit x h = by (nat_lt 32767 x) refl
     by false e = ne_eqb (x / 256 / 128 % 2) 1 (λ q. omega (arith, q, ltb-false 32767 x e))
 
 -- ---- the law
-module _ (around : Surroundings) (fits : Fits around.f 16) (code : SlotCode) (limit : ℕ) (rs : Serves around limit) (n v : ℕ) (d : Operand) (to : Destination) (is : List Instr) (s : State) (r : Slots) (w : View) (h : Ready around n (Remains v d to) (spread_remains v d to is) is s r w) where
+module _ (around : Surroundings) (fits : Fits around.f 16) (code : SlotCode) (limit : ℕ) (rs : Serves around limit) (n v : ℕ) (d : Operand)
+    (to : Destination) (is : List Instr) (s : State) (r : Slots) (w : View) (h : Ready around n (Remains v d to) (spread_remains v d to is) is s r w) where
   open around use {ly, f, lo, hi}
 
   abbrev own : List ℕ
@@ -315,7 +321,8 @@ module _ (around : Surroundings) (fits : Fits around.f 16) (code : SlotCode) (li
   copies_out : (m : ℕ → ℕ) → WordAt m RESULT value → Kept around (live js) s r m → Moves f (Here copy_at own m w.text w.answers) Ends [] 4
   copies_out m q c =
       moves_looser f _ _ _ [] 4 4 (omega arith)
-      (λ u e. word_lands around code n h.small (live js) to is s r last value _ _ end m w.text w.answers q.low q.high q.small fit.dest (remains_lasting v d to is code n s r h.read.all_words fit.room h.free) h.rest c h.text h.answers h.short u (moved _ end own _ w.text w.answers u e end_is))
+      (λ u e. word_lands around code n h.small (live js) to is s r last value _ _ end m w.text w.answers q.low q.high q.small fit.dest
+          (remains_lasting v d to is code n s r h.read.all_words fit.room h.free) h.rest c h.text h.answers h.short u (moved _ end own _ w.text w.answers u e end_is))
       (copies f 16 fits copy_at own m w.text w.answers refl RESULT dest fork.ends result_gives.0 (dest_in_data to fit.dest) (result_gives.1 to fit.dest) fork.behind_stands)
 
   -- where it is taken from 0
@@ -325,7 +332,8 @@ module _ (around : Surroundings) (fits : Fits around.f 16) (code : SlotCode) (li
   -- by the sign of the variable
   signs : y ≢ 0 → Moves f Told Ends [] 14
   signs some u told =
-      chained f u _ _ [] [] 1 13 (loads_sign f 16 fits middle own u.mem w.text w.answers refl (At (var_at v + 1)) a_apart.0.1 (let r = parts.1.0 in omega (arith, r)) parts.1.1.0 u told.here) (λ z g. by (is_negative x) refl z g)
+      chained f u _ _ [] [] 1 13 (loads_sign f 16 fits middle own u.mem w.text w.answers refl (At (var_at v + 1)) a_apart.0.1 (let r = parts.1.0 in
+          omega (arith, r)) parts.1.1.0 u told.here) (λ z g. by (is_negative x) refl z g)
     where
       x_held : SourceHolds u.mem a x
       x_held = a_holds u.mem told.kept
@@ -348,8 +356,10 @@ module _ (around : Surroundings) (fits : Fits around.f 16) (code : SlotCode) (li
           let difference = subtracted_word 0 0 _ _ 0 rest_size refl refl told.result.low told.result.high (omega arith) told.result.small in
           let same = sym (value_is true e) in
           chained f z _ _ [] [] 2 11 (fork.leads u.mem true z (moved _ _ own _ w.text w.answers z g.here (omega arith)) (g.negative ∙ sign_is ∙ e)) (λ q l.
-          chained f q _ _ [] [] 7 4 (differs f 16 fits turned_at own u.mem w.text w.answers refl (FixedWord 0) (AtPlace RESULT) RESULT (let r = fork.ends in omega (arith, r)) tt ((refl, refl), λ e. omega (arith, e)) (refl, refl) fork.stands q l.here) (λ q l.
-          copies_out _ (word_put u.mem RESULT _ _ value (difference.0 ∙ ap (λ v. v % 256) same) (difference.1 ∙ ap (λ v. v / 256) same) (omega arith)) (kept_put around (live js) s r u.mem RESULT _ _ h.some_read refl refl told.kept) q l))
+          chained f q _ _ [] [] 7 4 (differs f 16 fits turned_at own u.mem w.text w.answers refl (FixedWord 0) (AtPlace RESULT) RESULT
+              (let r = fork.ends in omega (arith, r)) tt ((refl, refl), λ e. omega (arith, e)) (refl, refl) fork.stands q l.here) (λ q l.
+          copies_out _ (word_put u.mem RESULT _ _ value (difference.0 ∙ ap (λ v. v % 256) same) (difference.1 ∙ ap (λ v. v / 256) same) (omega arith))
+              (kept_put around (live js) s r u.mem RESULT _ _ h.some_read refl refl told.kept) q l))
 
   -- ---- by 0
   faults : y ≡ 0 → Comes f w (IsHome f) (fault_text 2 n) (13 + limit)
@@ -357,7 +367,8 @@ module _ (around : Surroundings) (fits : Fits around.f 16) (code : SlotCode) (li
       looser f w _ _ (fault_text 2 n) (4 + (9 + limit)) (13 + limit) (omega arith) (λ u z. z)
       (lines_by fits h risky asking parts.0 _ (fault_text 2 n) (9 + limit)
       (asks_by fits h DIVIDE_AT at a b [] m c asking_lies x y a_apart b_apart (a_holds m c) b_holds _ (fault_text 2 n) limit
-      (λ m' g. rs.divide_by_zero _ _ m' w.text w.answers x n g.left (subst (WordAt m' RIGHT) zero g.right) (g.line (number_set h risky (λ e. never_zero w.mem y b (b_holds w.mem first) e zero))) g.kept.homed)))
+      (λ m' g. rs.divide_by_zero _ _ m' w.text w.answers x n g.left (subst (WordAt m' RIGHT) zero g.right)
+          (g.line (number_set h risky (λ e. never_zero w.mem y b (b_holds w.mem first) e zero))) g.kept.homed)))
 
   abbrev pub RemainsLeads : Step SlotState → Type 0
   RemainsLeads z = Comes f w (Target around z) (sent_in z) (34 + (limit + limit))

@@ -34,7 +34,8 @@ rows_size : (ns : List ℕ) → size (rows_code ns) ≡ 4 * length ns
 rows_size [] = refl
 rows_size (n ∷ ns) = let r = rows_size ns in omega (arith, r)
 
-rows_bytes : (labels : List (Name × ℕ)) (all : List ℕ) (seed : ℕ) (ns : List ℕ) → ((n : ℕ) → has_line ns n ≡ true → has_line all n ≡ true) → (a : ℕ) → bytes_from labels a (rows_code ns) ≡ table_bytes (entries (start_at labels all) ns)
+rows_bytes : (labels : List (Name × ℕ)) (all : List ℕ) (seed : ℕ) (ns : List ℕ) → ((n : ℕ) → has_line ns n ≡ true → has_line all n ≡ true) → (a : ℕ)
+    → bytes_from labels a (rows_code ns) ≡ table_bytes (entries (start_at labels all) ns)
 rows_bytes labels all seed [] among a = refl
 rows_bytes labels all seed (n ∷ ns) among a =
     let e = start_of_line labels all seed n (among n (ap (λ b. b || has_line ns n) (eq-eqb n n refl))) in
@@ -56,7 +57,8 @@ first_byte code at start (n ∷ ns) some h = (n % 256, h.0)
 program_from : (a : ℕ) → is_program a ≡ true → 0x0800 ≤ a
 program_from a h = grind (arith, nat_tests)
 
-module _ (place : ℕ) (bytes : List ℕ) (from : 0x0800 ≤ place) (to : place + length bytes ≤ 0xa000) (labels : List (Name × ℕ)) (seed : ℕ) (sc : SlotCode) (laid : Laid labels seed (part_at place bytes) sc) where
+module _ (place : ℕ) (bytes : List ℕ) (from : 0x0800 ≤ place) (to : place + length bytes ≤ 0xa000) (labels : List (Name × ℕ)) (seed : ℕ)
+    (sc : SlotCode) (laid : Laid labels seed (part_at place bytes) sc) where
   abbrev ns : List ℕ
   ns = numbers sc
 

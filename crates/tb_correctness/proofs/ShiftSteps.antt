@@ -1,5 +1,6 @@
 -- Shifts and sums on a word of which one byte is in A and the other in LEFT, each from view to view.
-use Rattle.std.proofs.Common.{◌≡◌, ◌≢◌, ℕ, zero, suc, ◌+◌, ◌-◌, ◌*◌, ◌/◌, ◌%◌, ◌^◌, ◌≤◌, ◌<◌, Bool, true, false, List, [], ◌∷◌, ◌++◌, length, refl, sym, ap, ◌∙◌, subst, arith, leb, eqb}
+use Rattle.std.proofs.Common.{◌≡◌, ◌≢◌, ℕ, zero, suc, ◌+◌, ◌-◌, ◌*◌, ◌/◌, ◌%◌, ◌^◌, ◌≤◌, ◌<◌, Bool, true, false}
+use Rattle.std.proofs.Common.{List, [], ◌∷◌, ◌++◌, length, refl, sym, ap, ◌∙◌, subst, arith, leb, eqb}
 use Rattle.std.specs.Prelude.{if◌then◌else◌, nat_lt, nat_le, bit_and, bit_xor}
 use Rattle.std.proofs.lemmas.Bool.{eqb-true}
 use Rattle.tb_cpu.specs.Effects.{bit, has_bit}
@@ -56,7 +57,8 @@ pub record Aside (at x : ℕ) (c : Bool) (bs : List ℕ) (m : ℕ → ℕ) (text
   pub carry : w.regs.flags.c ≡ c
 
 -- whatever the other registers and flags
-whatever_aside : (f : Setup) (room : ℕ) (fits : Fits f room) (at x : ℕ) (c : Bool) (bs : List ℕ) (m : ℕ → ℕ) (text answers : List ℕ) (q : View → Type 0) (t : List ℕ) (l : ℕ) → ((a y : ℕ) (n v i z : Bool) → Comes f (view a x y n v i z c at bs m text answers) q t l) → Moves f (Aside at x c bs m text answers) q t l
+whatever_aside : (f : Setup) (room : ℕ) (fits : Fits f room) (at x : ℕ) (c : Bool) (bs : List ℕ) (m : ℕ → ℕ) (text answers : List ℕ) (q : View
+    → Type 0) (t : List ℕ) (l : ℕ) → ((a y : ℕ) (n v i z : Bool) → Comes f (view a x y n v i z c at bs m text answers) q t l) → Moves f (Aside at x c bs m text answers) q t l
 whatever_aside f room fits at x c bs m text answers q t l h w e =
     known f w at bs text answers q t l e.here.pc e.here.stack e.here.binary e.here.text e.here.answers
     (subst (λ m. Comes f (view w.regs.a w.regs.x w.regs.y w.regs.flags.n w.regs.flags.v w.regs.flags.i w.regs.flags.z w.regs.flags.c at bs m text answers) q t l) (sym e.here.mem)
@@ -65,31 +67,44 @@ whatever_aside f room fits at x c bs m text answers q t l h w e =
 
 module _ (f : Setup) (room : ℕ) (fits : Fits f room) (at : ℕ) (bs : List ℕ) (m : ℕ → ℕ) (text answers : List ℕ) (small : leb (length bs) room ≡ true) where
   -- ---- single instructions
-  masks : (b a : ℕ) (c : Bool) → at + 2 ≤ highest_code → Bytes f.code at (instr_bytes (ins 0x29 b)) → Moves f (Known at a c bs m text answers) (Known (at + 2) (bit_and a b) c bs m text answers) [] 1
+  masks : (b a : ℕ) (c : Bool) → at + 2 ≤ highest_code → Bytes f.code at (instr_bytes (ins 0x29 b)) → Moves f (Known at a c bs m text answers)
+      (Known (at + 2) (bit_and a b) c bs m text answers) [] 1
   masks b a c r st = whatever_known f room fits at a c bs m text answers _ [] 1 (λ x y n v i z.
-      placed_last f room fits (ins 0x29 b) (view a x y n v i z c at bs m text answers) _ _ small st refl (record { here = record { pc = let e : (at + 2) % 65536 ≡ at + 2 = omega arith in e; stack = refl; binary = refl; mem = refl; text = refl; answers = refl }; number = refl; carry = refl }))
+      placed_last f room fits (ins 0x29 b) (view a x y n v i z c at bs m text answers) _ _ small st refl
+          (record { here = record { pc = let e : (at + 2) % 65536 ≡ at + 2 = omega arith in e; stack = refl; binary = refl; mem = refl; text = refl;
+          answers = refl }; number = refl; carry = refl }))
 
-  pub turns : (b a : ℕ) (c : Bool) → at + 2 ≤ highest_code → Bytes f.code at (instr_bytes (ins 0x49 b)) → Moves f (Known at a c bs m text answers) (Known (at + 2) (bit_xor a b) c bs m text answers) [] 1
+  pub turns : (b a : ℕ) (c : Bool) → at + 2 ≤ highest_code → Bytes f.code at (instr_bytes (ins 0x49 b)) → Moves f (Known at a c bs m text answers)
+      (Known (at + 2) (bit_xor a b) c bs m text answers) [] 1
   turns b a c r st = whatever_known f room fits at a c bs m text answers _ [] 1 (λ x y n v i z.
-      placed_last f room fits (ins 0x49 b) (view a x y n v i z c at bs m text answers) _ _ small st refl (record { here = record { pc = let e : (at + 2) % 65536 ≡ at + 2 = omega arith in e; stack = refl; binary = refl; mem = refl; text = refl; answers = refl }; number = refl; carry = refl }))
+      placed_last f room fits (ins 0x49 b) (view a x y n v i z c at bs m text answers) _ _ small st refl
+          (record { here = record { pc = let e : (at + 2) % 65536 ≡ at + 2 = omega arith in e; stack = refl; binary = refl; mem = refl; text = refl;
+          answers = refl }; number = refl; carry = refl }))
 
-  keeps_left : (a : ℕ) (c : Bool) → at + 2 ≤ highest_code → Bytes f.code at (instr_bytes (ins 0x85 LEFT)) → Moves f (Known at a c bs m text answers) (Carrying (at + 2) bs (with_byte m LEFT a) text answers c) [] 1
+  keeps_left : (a : ℕ) (c : Bool) → at + 2 ≤ highest_code → Bytes f.code at (instr_bytes (ins 0x85 LEFT)) → Moves f (Known at a c bs m text answers)
+      (Carrying (at + 2) bs (with_byte m LEFT a) text answers c) [] 1
   keeps_left a c r st = whatever_known f room fits at a c bs m text answers _ [] 1 (λ x y n v i z.
-      placed_last f room fits (ins 0x85 LEFT) (view a x y n v i z c at bs m text answers) _ _ small st refl (record { here = record { pc = let e : (at + 2) % 65536 ≡ at + 2 = omega arith in e; stack = refl; binary = refl; mem = refl; text = refl; answers = refl }; carry = refl }))
+      placed_last f room fits (ins 0x85 LEFT) (view a x y n v i z c at bs m text answers) _ _ small st refl
+          (record { here = record { pc = let e : (at + 2) % 65536 ≡ at + 2 = omega arith in e; stack = refl; binary = refl; mem = refl; text = refl;
+          answers = refl }; carry = refl }))
 
   loads_left : at + 2 ≤ highest_code → Bytes f.code at (instr_bytes (ins 0xA5 LEFT)) → Moves f (Here at bs m text answers) (WithA (at + 2) (m LEFT) bs m text answers) [] 1
   loads_left r st w e = whatever_a f room fits at w.regs.a bs m text answers _ [] 1 (λ x y n v i z c.
-      placed_last f room fits (ins 0xA5 LEFT) (view w.regs.a x y n v i z c at bs m text answers) _ _ small st refl (record { here = record { pc = let e : (at + 2) % 65536 ≡ at + 2 = omega arith in e; stack = refl; binary = refl; mem = refl; text = refl; answers = refl }; number = refl })) w (record { here = e; number = refl })
+      placed_last f room fits (ins 0xA5 LEFT) (view w.regs.a x y n v i z c at bs m text answers) _ _ small st refl
+          (record { here = record { pc = let e : (at + 2) % 65536 ≡ at + 2 = omega arith in e; stack = refl; binary = refl; mem = refl; text = refl;
+          answers = refl }; number = refl })) w (record { here = e; number = refl })
 
   -- ---- shifts
-  pub halves : (a : ℕ) → at + size halved ≤ highest_code → Stands f.code at halved → Moves f (WithA at a bs m text answers) (WithA (at + size halved) (a / 2 + 128 * bit (nat_le 128 a)) bs (with_byte m LEFT (m LEFT / 2 + 128 * bit (has_bit a 1))) text answers) [] 3
+  pub halves : (a : ℕ) → at + size halved ≤ highest_code → Stands f.code at halved → Moves f (WithA at a bs m text answers)
+      (WithA (at + size halved) (a / 2 + 128 * bit (nat_le 128 a)) bs (with_byte m LEFT (m LEFT / 2 + 128 * bit (has_bit a 1))) text answers) [] 3
   halves a r st = whatever_a f room fits at a bs m text answers _ [] 3 (λ x y n v i z c.
       placing f room fits (ins 0xC9 128) (view a x y n v i z c at bs m text answers) _ _ [] 2 small st.0 refl
       (placing f room fits (ins 0x6A 0) (view a x y _ v i _ (nat_le 128 a) ((at + 2) % 65536) bs m text answers) _ _ [] 1 small st.1.0 refl
       (placed_last f room fits (ins 0x66 LEFT) (view (a / 2 + 128 * bit (nat_le 128 a)) x y _ v i _ (has_bit a 1) ((((at + 2) % 65536) + 1) % 65536) bs m text answers) _ _ small st.1.1.0 refl
       (record { here = record { pc = omega (arith, r); stack = refl; binary = refl; mem = refl; text = refl; answers = refl }; number = refl }))))
 
-  pub doubles : (a : ℕ) → at + size doubled ≤ highest_code → Stands f.code at doubled → Moves f (WithA at a bs m text answers) (WithA (at + size doubled) (2 * a % 256) bs (with_byte m LEFT (2 * m LEFT % 256 + bit (has_bit a 128))) text answers) [] 2
+  pub doubles : (a : ℕ) → at + size doubled ≤ highest_code → Stands f.code at doubled → Moves f (WithA at a bs m text answers)
+      (WithA (at + size doubled) (2 * a % 256) bs (with_byte m LEFT (2 * m LEFT % 256 + bit (has_bit a 128))) text answers) [] 2
   doubles a r st = whatever_a f room fits at a bs m text answers _ [] 2 (λ x y n v i z c.
       placing f room fits (ins 0x0A 0) (view a x y n v i z c at bs m text answers) _ _ [] 1 small st.0 refl
       (placed_last f room fits (ins 0x26 LEFT) (view (2 * a % 256) x y _ v i _ (has_bit a 128) ((at + 1) % 65536) bs m text answers) _ _ small st.1.0 refl
@@ -134,14 +149,16 @@ module _ (f : Setup) (room : ℕ) (fits : Fits f room) (at : ℕ) (bs : List ℕ
   sum_low l a = l + value m (low a) + 0
 
   pub increases : (l : ℕ) (a : Source) → at + size (increased a) ≤ highest_code → IsRead (low a) → IsRead (high a) → Stands f.code at (increased a)
-      → Moves f (WithA at l bs m text answers) (WithA (at + size (increased a)) (sum_low l a % 256) bs (with_byte m LEFT ((m LEFT + value m (high a) + bit (nat_lt 255 (sum_low l a))) % 256)) text answers) [] 7
+      → Moves f (WithA at l bs m text answers) (WithA (at + size (increased a)) (sum_low l a % 256) bs
+          (with_byte m LEFT ((m LEFT + value m (high a) + bit (nat_lt 255 (sum_low l a))) % 256)) text answers) [] 7
   increases l a r rl rh st =
       let front = ins 0x18 0 ∷ adc (low a) ∷ ins 0xAA 0 ∷ [] in
       let back = ins 0xA5 LEFT ∷ adc (high a) ∷ ins 0x85 LEFT ∷ ins 0x8A 0 ∷ [] in
       let parts = stands_split f.code at front back (omega (arith, r)) st in
       moves_then f _ _ _ [] [] 3 4 (adds_aside f room fits at bs m text answers small (low a) l (omega (arith, r)) rl parts.0)
       (moves_looser f _ _ _ [] 4 4 (omega arith)
-      (λ u k. record { here = record { pc = k.here.pc ∙ (let q : at + size front + size back ≡ at + size (increased a) = omega arith in q); stack = k.here.stack; binary = k.here.binary; mem = k.here.mem; text = k.here.text; answers = k.here.answers }; number = k.number })
+      (λ u k. record { here = record { pc = k.here.pc ∙ (let q : at + size front + size back ≡ at + size (increased a) = omega arith in q);
+          stack = k.here.stack; binary = k.here.binary; mem = k.here.mem; text = k.here.text; answers = k.here.answers }; number = k.number })
       (adds_back f room fits (at + size front) bs m text answers small (high a) (sum_low l a % 256) (nat_lt 255 (sum_low l a)) (omega (arith, r)) rh parts.1))
 
   -- a word is brought, its low byte into A
@@ -157,7 +174,8 @@ module _ (f : Setup) (room : ℕ) (fits : Fits f room) (at : ℕ) (bs : List ℕ
       moves_then f _ _ _ [] [] 1 2 (loads_with f room fits at bs m text answers small (high a) c (high_read a LEFT g) (omega (arith, r)) st.0)
       (moves_then f _ _ _ [] [] 1 1 (keeps_left f room fits p1 bs m text answers small h c (omega (arith, r)) s1.0)
       (moves_looser f _ _ _ [] 1 1 (omega arith)
-      (λ u k. record { here = record { pc = k.here.pc ∙ (let q : p2 + len (lda (low a)) ≡ at + size (begun a) = omega arith in q); stack = k.here.stack; binary = k.here.binary; mem = k.here.mem; text = k.here.text; answers = k.here.answers }; number = k.number ∙ same })
+      (λ u k. record { here = record { pc = k.here.pc ∙ (let q : p2 + len (lda (low a)) ≡ at + size (begun a) = omega arith in q);
+          stack = k.here.stack; binary = k.here.binary; mem = k.here.mem; text = k.here.text; answers = k.here.answers }; number = k.number ∙ same })
       (λ u k. loads_byte f room fits p2 bs (with_byte m LEFT h) text answers small (low a) (low_read a LEFT g) (omega (arith, r)) s2.0 u k.here))) w (record { here = e; carry = refl })
 
   -- C is the sign of a word
@@ -168,10 +186,12 @@ module _ (f : Setup) (room : ℕ) (fits : Fits f room) (at : ℕ) (bs : List ℕ
       let s1 = behind f.code at (lda (high a)) (cmp (Fixed 128) ∷ []) (omega (arith, r)) st in
       moves_then f _ _ _ [] [] 1 1 (loads_byte f room fits at bs m text answers small (high a) (high_read a LEFT g) (omega (arith, r)) st.0)
       (moves_looser f _ _ _ [] 1 1 (omega arith)
-      (λ u k. record { here = record { pc = k.here.pc ∙ (let q : p1 + 2 ≡ at + size (signed a) = omega arith in q); stack = k.here.stack; binary = k.here.binary; mem = k.here.mem; text = k.here.text; answers = k.here.answers }; carry = k.carry })
+      (λ u k. record { here = record { pc = k.here.pc ∙ (let q : p1 + 2 ≡ at + size (signed a) = omega arith in q); stack = k.here.stack;
+          binary = k.here.binary; mem = k.here.mem; text = k.here.text; answers = k.here.answers }; carry = k.carry })
       (compares_byte f room fits p1 bs m text answers small (Fixed 128) (value m (high a)) tt (omega (arith, r)) s1.0))
 
-  masked : (k : ℕ) → k < 5 → (bit_xor (bit_and 255 (all_but_lowest (suc k))) (all_but_lowest (suc k)) ≡ 0) × (bit_xor (bit_and 0 (all_but_lowest (suc k))) (all_but_lowest (suc k)) + 1 ≡ 2 ^ (suc k + 1) - 1)
+  masked : (k : ℕ) → k < 5 → (bit_xor (bit_and 255 (all_but_lowest (suc k))) (all_but_lowest (suc k)) ≡ 0)
+      × (bit_xor (bit_and 0 (all_but_lowest (suc k))) (all_but_lowest (suc k)) + 1 ≡ 2 ^ (suc k + 1) - 1)
   masked zero h = (refl, refl)
   masked (suc zero) h = (refl, refl)
   masked (suc (suc zero)) h = (refl, refl)
@@ -200,7 +220,9 @@ module _ (f : Setup) (room : ℕ) (fits : Fits f room) (at : ℕ) (bs : List ℕ
       moves_looser f _ _ _ [] 2 5 (omega arith) (λ u k. k)
       (moves_then f _ _ _ [] [] 1 1 (loads_with f room fits at bs m text answers small (low a) c (low_read a LEFT g) (omega (arith, r)) st.0)
       (moves_looser f _ _ _ [] 1 1 (omega arith)
-      (λ u k. record { here = record { pc = k.here.pc ∙ (let q : p1 + 2 ≡ at + size (rounded zero a) = omega arith in q); stack = k.here.stack; binary = k.here.binary; mem = k.here.mem; text = k.here.text; answers = k.here.answers }; number = k.number ∙ ap (λ n. n % 256) e; carry = k.carry ∙ ap (λ n. nat_lt 255 n) e })
+      (λ u k. record { here = record { pc = k.here.pc ∙ (let q : p1 + 2 ≡ at + size (rounded zero a) = omega arith in q); stack = k.here.stack;
+          binary = k.here.binary; mem = k.here.mem; text = k.here.text; answers = k.here.answers }; number = k.number ∙ ap (λ n. n % 256) e;
+          carry = k.carry ∙ ap (λ n. nat_lt 255 n) e })
       (adds_byte f room fits p1 bs m text answers small (Fixed 0) l c tt (omega (arith, r)) s1.0)))
     where
       by : (c : Bool) → value m (low a) + 0 + bit c ≡ value m (low a) + more zero c
@@ -224,7 +246,9 @@ module _ (f : Setup) (room : ℕ) (fits : Fits f room) (at : ℕ) (bs : List ℕ
       (moves_then f _ _ _ [] [] 1 2 (masks f room fits (at + 2 + 2) bs m text answers small mask (filled c) c1 (omega (arith, r)) s2.0)
       (moves_then f _ _ _ [] [] 1 1 (turns f room fits (at + 2 + 2 + 2) bs m text answers small mask (bit_and (filled c) mask) c1 (omega (arith, r)) s3.0)
       (moves_looser f _ _ _ [] 1 1 (omega arith)
-      (λ u k'. record { here = record { pc = k'.here.pc ∙ (let q : at + 2 + 2 + 2 + 2 + len (adc (low a)) ≡ at + size (rounded (suc k) a) = omega arith in q); stack = k'.here.stack; binary = k'.here.binary; mem = k'.here.mem; text = k'.here.text; answers = k'.here.answers }; number = k'.number ∙ ap (λ n. n % 256) e; carry = k'.carry ∙ ap (λ n. nat_lt 255 n) e })
+      (λ u k'. record { here = record { pc = k'.here.pc ∙ (let q : at + 2 + 2 + 2 + 2 + len (adc (low a)) ≡ at + size (rounded (suc k) a) =
+          omega arith in q); stack = k'.here.stack; binary = k'.here.binary; mem = k'.here.mem; text = k'.here.text; answers = k'.here.answers };
+          number = k'.number ∙ ap (λ n. n % 256) e; carry = k'.carry ∙ ap (λ n. nat_lt 255 n) e })
       (adds_byte f room fits (at + 2 + 2 + 2 + 2) bs m text answers small (low a) (left_in k c) c1 (low_read a LEFT g) (omega (arith, r)) s4.0)))))
 
   -- the low byte is kept, and the carry added to the high one
@@ -241,11 +265,13 @@ module _ (f : Setup) (room : ℕ) (fits : Fits f room) (at : ℕ) (bs : List ℕ
       moves_then f _ _ _ [] [] 1 2 (keeps_left f room fits at bs m text answers small l c (omega (arith, r)) st.0)
       (moves_then f _ _ _ [] [] 1 1 (loads_with f room fits p1 bs m1 text answers small (high a) c (high_read a LEFT g) (omega (arith, r)) s1.0)
       (moves_looser f _ _ _ [] 1 1 (omega arith)
-      (λ u k. record { here = record { pc = k.here.pc ∙ (let q : p2 + 2 ≡ at + size (carried a) = omega arith in q); stack = k.here.stack; binary = k.here.binary; mem = k.here.mem; text = k.here.text; answers = k.here.answers }; number = k.number ∙ ap (λ n. n % 256) e })
+      (λ u k. record { here = record { pc = k.here.pc ∙ (let q : p2 + 2 ≡ at + size (carried a) = omega arith in q); stack = k.here.stack;
+          binary = k.here.binary; mem = k.here.mem; text = k.here.text; answers = k.here.answers }; number = k.number ∙ ap (λ n. n % 256) e })
       (adds_byte f room fits p2 bs m1 text answers small (Fixed 0) h c tt (omega (arith, r)) s2.0)))
 
   -- ---- to its place
-  pub ends_low : (l to : ℕ) → at + 8 ≤ highest_code → Beyond to → Stands f.code at (low_first to) → Moves f (WithA at l bs m text answers) (Here (at + 8) bs (put_word m to l (m LEFT)) text answers) [] 3
+  pub ends_low : (l to : ℕ) → at + 8 ≤ highest_code → Beyond to → Stands f.code at (low_first to) → Moves f (WithA at l bs m text answers)
+      (Here (at + 8) bs (put_word m to l (m LEFT)) text answers) [] 3
   ends_low l to r d st =
       let m1 = with_byte m to l in
       let s1 = behind f.code at (ins 0x8D to) (ins 0xA5 LEFT ∷ ins 0x8D (to + 1) ∷ []) (omega (arith, r)) st in
@@ -254,10 +280,12 @@ module _ (f : Setup) (room : ℕ) (fits : Fits f room) (at : ℕ) (bs : List ℕ
       moves_then f _ _ _ [] [] 1 2 (puts_byte f room fits at bs m text answers small to l d.0.0 (omega (arith, r)) st.0)
       (moves_then f _ _ _ [] [] 1 1 (loads_left f room fits (at + 3) bs m1 text answers small (omega (arith, r)) s1.0)
       (moves_looser f _ _ _ [] 1 1 (omega arith)
-      (λ u k. record { pc = k.pc ∙ (let q : at + 3 + 2 + 3 ≡ at + 8 = omega arith in q); stack = k.stack; binary = k.binary; mem = k.mem ∙ ap (λ b. with_byte m1 (to + 1) b) same; text = k.text; answers = k.answers })
+      (λ u k. record { pc = k.pc ∙ (let q : at + 3 + 2 + 3 ≡ at + 8 = omega arith in q); stack = k.stack; binary = k.binary; mem = k.mem
+          ∙ ap (λ b. with_byte m1 (to + 1) b) same; text = k.text; answers = k.answers })
       (puts_byte f room fits (at + 3 + 2) bs m1 text answers small (to + 1) (m1 LEFT) d.0.1 (omega (arith, r)) s2.0)))
 
-  pub ends_high : (h to : ℕ) → at + 8 ≤ highest_code → Beyond to → Stands f.code at (high_first to) → Moves f (WithA at h bs m text answers) (Here (at + 8) bs (put_word m to (m LEFT) h) text answers) [] 3
+  pub ends_high : (h to : ℕ) → at + 8 ≤ highest_code → Beyond to → Stands f.code at (high_first to) → Moves f (WithA at h bs m text answers)
+      (Here (at + 8) bs (put_word m to (m LEFT) h) text answers) [] 3
   ends_high h to r d st =
       let m1 = with_byte m (to + 1) h in
       let s1 = behind f.code at (ins 0x8D (to + 1)) (ins 0xA5 LEFT ∷ ins 0x8D to ∷ []) (omega (arith, r)) st in
@@ -266,5 +294,6 @@ module _ (f : Setup) (room : ℕ) (fits : Fits f room) (at : ℕ) (bs : List ℕ
       moves_then f _ _ _ [] [] 1 2 (puts_byte f room fits at bs m text answers small (to + 1) h d.0.1 (omega (arith, r)) st.0)
       (moves_then f _ _ _ [] [] 1 1 (loads_left f room fits (at + 3) bs m1 text answers small (omega (arith, r)) s1.0)
       (moves_looser f _ _ _ [] 1 1 (omega arith)
-      (λ u k. record { pc = k.pc ∙ (let q : at + 3 + 2 + 3 ≡ at + 8 = omega arith in q); stack = k.stack; binary = k.binary; mem = k.mem ∙ ap (λ b. with_byte m1 to b) same ∙ swapped m (to + 1) to h (m LEFT) (λ q. omega (arith, q)); text = k.text; answers = k.answers })
+      (λ u k. record { pc = k.pc ∙ (let q : at + 3 + 2 + 3 ≡ at + 8 = omega arith in q); stack = k.stack; binary = k.binary; mem = k.mem
+          ∙ ap (λ b. with_byte m1 to b) same ∙ swapped m (to + 1) to h (m LEFT) (λ q. omega (arith, q)); text = k.text; answers = k.answers })
       (puts_byte f room fits (at + 3 + 2) bs m1 text answers small to (m1 LEFT) d.0.0 (omega (arith, r)) s2.0)))

@@ -1,5 +1,6 @@
 -- The law of a quotient over a power of two, which is made by shifts and can't fault.
-use Rattle.std.proofs.Common.{◌≡◌, ◌≢◌, ℕ, zero, suc, ◌+◌, ◌*◌, ◌/◌, ◌%◌, ◌^◌, ◌≤◌, ◌<◌, Bool, true, List, [], ◌∷◌, ◌++◌, length, refl, sym, ap, ◌∙◌, subst, arith, leb}
+use Rattle.std.proofs.Common.{◌≡◌, ◌≢◌, ℕ, zero, suc, ◌+◌, ◌*◌, ◌/◌, ◌%◌, ◌^◌, ◌≤◌, ◌<◌, Bool, true, List, []}
+use Rattle.std.proofs.Common.{◌∷◌, ◌++◌, length, refl, sym, ap, ◌∙◌, subst, arith, leb}
 use Rattle.std.specs.Prelude.{nat_le, nat_lt}
 use Rattle.tb_cpu.specs.Effects.{bit, has_bit}
 use Rattle.tb_memmap.specs.Bytes.{with_byte}
@@ -57,7 +58,8 @@ module _ (f : Setup) (room : ℕ) (fits : Fits f room) (bs : List ℕ) (m : ℕ 
       (halves f room fits at bs w.mem text answers small h r st w (record { here = e.here; number = refl }))
 
   -- so many halves, and then
-  halves_then : (k at v : ℕ) → at + size (halvings k) ≤ highest_code → Stands f.code at (halvings k) → (q : View → Type 0) (n : ℕ) → Moves f (HighInA (at + size (halvings k)) (halve_times k v)) q [] n → Moves f (HighInA at v) q [] (3 * k + n)
+  halves_then : (k at v : ℕ) → at + size (halvings k) ≤ highest_code → Stands f.code at (halvings k) → (q : View → Type 0) (n : ℕ)
+      → Moves f (HighInA (at + size (halvings k)) (halve_times k v)) q [] n → Moves f (HighInA at v) q [] (3 * k + n)
   halves_then zero at v r st q n next w e =
       looser f w q q [] n (3 * 0 + n) (omega arith) (λ u z. z) (next w (subst (λ p. HighInA p v w) (let s : at ≡ at + 0 = omega arith in s) e))
   halves_then (suc k) at v r st q n next w e =
@@ -70,7 +72,8 @@ module _ (f : Setup) (room : ℕ) (fits : Fits f room) (bs : List ℕ) (m : ℕ 
       (λ u g. chained f u _ q [] [] 3 n (halves_on p (halve_times k v) (omega (arith, r, s)) parts.1 u g) (λ x y. next x (subst (λ a. HighInA a (halve_times (suc k) v) x) there y))) w e)
 
   -- ---- a word over 2^(k + 1)
-  module _ (at : ℕ) (a : Source) (x : ℕ) (ga : Grounded a LEFT) (ha : SourceHolds m a x) (k : ℕ) (few : k < 6) (to : ℕ) (r : at + size (shifted k a to) ≤ highest_code) (st : Stands f.code at (shifted k a to)) where
+  module _ (at : ℕ) (a : Source) (x : ℕ) (ga : Grounded a LEFT) (ha : SourceHolds m a x) (k : ℕ) (few : k < 6) (to : ℕ)
+      (r : at + size (shifted k a to) ≤ highest_code) (st : Stands f.code at (shifted k a to)) where
     sizes : size (shifted k a to) ≡ size (signed a) + (size (rounded k a) + (size (carried a) + (size (halvings (suc k)) + 8)))
     sizes =
         let e1 = size_append (signed a) (rounded k a ++ (carried a ++ (halvings (suc k) ++ high_first to))) in
@@ -120,7 +123,8 @@ module _ (f : Setup) (room : ℕ) (fits : Fits f room) (bs : List ℕ) (m : ℕ 
     same_sign = ap (nat_le 128) ha.high_byte ∙ sign_is x ha.small
 
     -- the word raised where it is negative
-    raised_here : (u : View) → WithA p3 ((value m (high a) + bit (nat_lt 255 (value m (low a) + n))) % 256) bs (with_byte m LEFT ((value m (low a) + n) % 256)) text answers u → HighInA p3 (word (x + more k (nat_le 32768 x))) u
+    raised_here : (u : View) → WithA p3 ((value m (high a) + bit (nat_lt 255 (value m (low a) + n))) % 256) bs
+        (with_byte m LEFT ((value m (low a) + n) % 256)) text answers u → HighInA p3 (word (x + more k (nat_le 32768 x))) u
     raised_here u g =
         let l = (value m (low a) + n) % 256 in
         let nn = more k (nat_le 32768 x) in record {
@@ -137,11 +141,14 @@ module _ (f : Setup) (room : ℕ) (fits : Fits f room) (bs : List ℕ) (m : ℕ 
         looser f w q q [] (2 + (5 + (3 + (3 * suc k + j)))) (28 + j) (omega (arith, few)) (λ u z. z)
         (chained f w _ q [] [] 2 (5 + (3 + (3 * suc k + j))) (signs f room fits at bs m text answers small a (omega (arith, r, sizes)) ga s1.0 w e) (λ u g.
         chained f u _ q [] [] 5 (3 + (3 * suc k + j)) (rounds f room fits p1 bs m text answers small k a c few (omega (arith, r, sizes)) ga s2.0 u g) (λ u g.
-        chained f u _ q [] [] 3 (3 * suc k + j) (carries f room fits p2 bs m text answers small ((value m (low a) + n) % 256) (nat_lt 255 (value m (low a) + n)) a (omega (arith, r, sizes)) ga s3.0 u g) (λ u g.
+        chained f u _ q [] [] 3 (3 * suc k + j) (carries f room fits p2 bs m text answers small ((value m (low a) + n) % 256)
+            (nat_lt 255 (value m (low a) + n)) a (omega (arith, r, sizes)) ga s3.0 u g) (λ u g.
         halves_then (suc k) p3 (word (x + more k (nat_le 32768 x))) (omega (arith, r, sizes)) s4.0 q j (λ u g. next u (subst (λ v. HighInA p4 v u) there g)) u (raised_here u g)))))
 
-module _ {around : Surroundings} (fits : Fits around.f 16) (code : SlotCode) {n : ℕ} {a b : Operand} {d : Destination} {is : List Instr} {s : State} {r : Slots} {w : View} (h : Ready around n (Calculate op.Divide a b d) (spread op.Divide a b d is) is s r w) (j : ℕ) (few : j < 6)
-    (lies : Lies around.f.code w.regs.pc (Code (shifted j (source_of (slot_of d) a) (destination_at d)) ∷ [])) (rest : GroupsLie around.ly around.f.code n (w.regs.pc + pieces_size (Code (shifted j (source_of (slot_of d) a) (destination_at d)) ∷ [])) (select is)) where
+module _ {around : Surroundings} (fits : Fits around.f 16) (code : SlotCode) {n : ℕ} {a b : Operand} {d : Destination} {is : List Instr} {s : State}
+    {r : Slots} {w : View} (h : Ready around n (Calculate op.Divide a b d) (spread op.Divide a b d is) is s r w) (j : ℕ) (few : j < 6)
+    (lies : Lies around.f.code w.regs.pc (Code (shifted j (source_of (slot_of d) a) (destination_at d)) ∷ []))
+        (rest : GroupsLie around.ly around.f.code n (w.regs.pc + pieces_size (Code (shifted j (source_of (slot_of d) a) (destination_at d)) ∷ [])) (select is)) where
   open around use {ly, f, lo, hi}
   open calculation a b d s r use {x, y, left, to}
 
@@ -167,8 +174,10 @@ module _ {around : Surroundings} (fits : Fits around.f 16) (code : SlotCode) {n 
   lands : Moves f (HighInA f 16 fits own w.mem w.text w.answers refl at v) (Matches around (line code n is (landed d v s) (calculated s r a b d v))) [] 3
   lands u g =
       looser f u _ _ [] 3 3 (omega arith)
-      (result_lands h code v (u.mem LEFT) u.regs.a (at + 8) u.mem g.low g.high g.is_word behind (kept_scratch around (live (spread op.Divide a b d is)) s r w.mem u.mem h.some_read (λ p o. g.others p (apart p LEFT o refl)) (kept h)))
-      (ends_high f 16 fits at own u.mem w.text w.answers refl u.regs.a to (let e = end_here in omega (arith, e, lies.0)) (dest_beyond d (fit h).dest) (last_stands f 16 fits own w.mem w.text w.answers refl w.regs.pc left x (left_apart h) ha j few to lies.0 lies.1) u (record { here = g.here; number = refl }))
+      (result_lands h code v (u.mem LEFT) u.regs.a (at + 8) u.mem g.low g.high g.is_word behind
+          (kept_scratch around (live (spread op.Divide a b d is)) s r w.mem u.mem h.some_read (λ p o. g.others p (apart p LEFT o refl)) (kept h)))
+      (ends_high f 16 fits at own u.mem w.text w.answers refl u.regs.a to (let e = end_here in omega (arith, e, lies.0)) (dest_beyond d (fit h).dest)
+          (last_stands f 16 fits own w.mem w.text w.answers refl w.regs.pc left x (left_apart h) ha j few to lies.0 lies.1) u (record { here = g.here; number = refl }))
 
   pub shift_law : y ≡ 2 ^ (j + 1) → y ≢ 0 → Leads h code 31
   shift_law power some =

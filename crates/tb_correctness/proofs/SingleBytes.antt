@@ -1,5 +1,6 @@
 -- The bytes of the code of single instructions.
-use Rattle.std.proofs.Common.{◌≡◌, ℕ, ◌+◌, ◌/◌, ◌%◌, ◌≤◌, ◌<◌, Bool, true, false, List, [], ◌∷◌, ◌++◌, length, refl, sym, ap, ◌∙◌, arith, Some, true≢false}
+use Rattle.std.proofs.Common.{◌≡◌, ℕ, ◌+◌, ◌/◌, ◌%◌, ◌≤◌, ◌<◌, Bool, true, false, List, [], ◌∷◌, ◌++◌, length, refl}
+use Rattle.std.proofs.Common.{sym, ap, ◌∙◌, arith, Some, true≢false}
 use Rattle.std.specs.Prelude.{if◌then◌else◌, unwrap_or}
 use Rattle.tb_opcodes.specs.Opcodes as opcodes
 use Rattle.tb_asm.specs.declared.names.Name.{Name}
@@ -36,7 +37,8 @@ module _ (labels : List (Name × ℕ)) (ns : List ℕ) (seed : ℕ) (seed_small 
   abbrev resolved : ℕ → slots.Instr → List Piece
   resolved at i = template (ly labels ns seed) n at i
 
-  text_bytes : (i at : ℕ) (t : List ℕ) → length t < 256 → at < 0xa000 → LabelsAt labels at (product.template ns n i (slots.SendText t)) → bytes_from labels at (product.template ns n i (slots.SendText t)) ≡ pieces_bytes (resolved at (slots.SendText t))
+  text_bytes : (i at : ℕ) (t : List ℕ) → length t < 256 → at < 0xa000 → LabelsAt labels at (product.template ns n i (slots.SendText t))
+      → bytes_from labels at (product.template ns n i (slots.SendText t)) ≡ pieces_bytes (resolved at (slots.SendText t))
   unfolding opcodes.encoded
   text_bytes i at t small below h =
       let text = target.Inside inside.Text n i in
@@ -46,7 +48,8 @@ module _ (labels : List (Name × ℕ)) (ns : List ℕ) (seed : ℕ) (seed_small 
       let l : number_in labels (LowOf (label_of text)) % 256 ≡ (at + 19) % 256 = omega (arith, low_of labels ns seed (label_of text), here) in
       let r : number_in labels (HighOf (label_of text)) % 256 ≡ (at + 19) / 256 = omega (arith, high_of labels ns seed (label_of text), here, below) in
       let m : length t % 256 ≡ length t = omega (arith, small) in
-      λ j. 0xa9 ∷ l j ∷ 0x85 ∷ POINTER ∷ 0xa9 ∷ r j ∷ 0x85 ∷ (POINTER + 1) ∷ 0xa9 ∷ m j ∷ 0x8d ∷ LENGTH % 256 ∷ LENGTH / 256 ∷ 0x20 ∷ TEXT_AT % 256 ∷ TEXT_AT / 256 ∷ 0x4c ∷ end j % 256 ∷ end j / 256 ∷ (t ++ [])
+      λ j. 0xa9 ∷ l j ∷ 0x85 ∷ POINTER ∷ 0xa9 ∷ r j ∷ 0x85 ∷ (POINTER + 1) ∷ 0xa9 ∷ m j ∷ 0x8d ∷ LENGTH % 256 ∷ LENGTH / 256 ∷ 0x20 ∷ TEXT_AT % 256
+          ∷ TEXT_AT / 256 ∷ 0x4c ∷ end j % 256 ∷ end j / 256 ∷ (t ++ [])
 
   -- a group of another kind is none of a single instruction
   abbrev is_single : Group → Bool
@@ -57,13 +60,16 @@ module _ (labels : List (Name × ℕ)) (ns : List ℕ) (seed : ℕ) (seed_small 
   not_alone : {g : Group} {c : slots.Instr} → is_single g ≡ false → g ≡ Single c → ⊥
   not_alone f q = true≢false (ap is_single (sym q) ∙ f)
 
-  to_bytes : (i at to : ℕ) (t : Bool) → has_line ns to ≡ t → bytes_from labels at (if t then product.jump (target.Line to) ∷ [] else product.faulted n 1) ≡ pieces_bytes (jump_to (ly labels ns seed) n t to)
+  to_bytes : (i at to : ℕ) (t : Bool) → has_line ns to ≡ t → bytes_from labels at (if t then product.jump (target.Line to)
+      ∷ [] else product.faulted n 1) ≡ pieces_bytes (jump_to (ly labels ns seed) n t to)
   unfolding opcodes.encoded
   to_bytes i at to true e = jump_bytes labels ns seed at (target.Line to) _ (start_of_line labels ns seed to e)
   to_bytes i at to false e = faulted_bytes labels ns seed at n 1 n_small (omega arith)
 
   -- the bytes of each template without branches
-  pub template_bytes : (i at : ℕ) (c : slots.Instr) → has_branches c ≡ false → alone c ≡ Single c → IsInRange 256 c → at + size (product.template ns n i c) ≤ 0xa000 → LabelsAt labels at (product.template ns n i c) → bytes_from labels at (product.template ns n i c) ≡ pieces_bytes (resolved at c)
+  pub template_bytes : (i at : ℕ) (c : slots.Instr) → has_branches c ≡ false → alone c ≡ Single c → IsInRange 256 c
+      → at + size (product.template ns n i c) ≤ 0xa000 → LabelsAt labels at (product.template ns n i c)
+      → bytes_from labels at (product.template ns n i c) ≡ pieces_bytes (resolved at c)
   unfolding opcodes.encoded
   template_bytes i at (slots.Put k w) f q r b h = constant_bytes labels ns seed at (word w) (slot_at k) (omega arith)
   template_bytes i at (slots.Load k x) f q r b h = copied_bytes labels ns seed at (var_at x) (slot_at k) ∙ sym (append-nil (flat (copied (var_at x) (slot_at k))))

@@ -1,5 +1,7 @@
 -- What the slot instructions of a group do, and what they read.
-use Rattle.std.proofs.Common.{◌≡◌, ◌≢◌, ℕ, ◌+◌, ◌≤◌, ◌<◌, Bool, true, false, if◌then◌else◌, List, [], ◌∷◌, ◌++◌, length, refl, sym, ap, ◌∙◌, subst, arith, Some, None, ◌⊎◌, inl, inr, get_or-set_same, get_or-set_other, length-set, append_assoc}
+use Rattle.std.proofs.Common.{◌≡◌, ◌≢◌, ℕ, ◌+◌, ◌≤◌, ◌<◌, Bool, true, false, if◌then◌else◌, List, [], ◌∷◌, ◌++◌}
+use Rattle.std.proofs.Common.{length, refl, sym, ap, ◌∙◌, subst, arith, Some, None, ◌⊎◌, inl, inr, get_or-set_same, get_or-set_other, length-set}
+use Rattle.std.proofs.Common.{append_assoc}
 use Rattle.std.specs.Prelude.{slice_index, slice_set, nat_eq}
 use Rattle.std.proofs.lemmas.Bool.{eqb-true, leb-true}
 use Rattle.tb_words.specs.Words.{word}
@@ -93,7 +95,8 @@ module _ (code : SlotCode) (n : ℕ) where
   abbrev pub line : List Instr → State → Slots → SlotState
   line is s r = record { state = s; rest = Left n is; slots = r }
 
-  pub fetches : (k : ℕ) (a : Operand) (js back : List Instr) (s : State) (r : Slots) → steps code (fetch k a ++ js) (line (fetch k a ++ back) s r) ≡ steps code js (line back s (with_fetched s r k a))
+  pub fetches : (k : ℕ) (a : Operand) (js back : List Instr) (s : State) (r : Slots) → steps code (fetch k a ++ js) (line (fetch k a ++ back) s r)
+      ≡ steps code js (line back s (with_fetched s r k a))
   fetches k (Constant w) js back s r = after_nothing (steps code js (line back s (with_word r k (word w))))
   fetches k (Variable x) js back s r = after_nothing (steps code js (line back s (with_word r k (slice_index s.vars x))))
   fetches k InSlot js back s r = refl
@@ -103,19 +106,24 @@ module _ (code : SlotCode) (n : ℕ) where
   next js x = and_then x (λ c. inside (steps code js) c.rest c)
 
   -- an instruction that stays, and one that faults
-  pub acts : (i : Instr) (js back : List Instr) (s s' : State) (r r' : Slots) → act (numbers code) n i s r ≡ Goes (Stays s' r') [] → steps code (i ∷ js) (line (i ∷ back) s r) ≡ steps code js (line back s' r')
+  pub acts : (i : Instr) (js back : List Instr) (s s' : State) (r r' : Slots) → act (numbers code) n i s r ≡ Goes (Stays s' r') []
+      → steps code (i ∷ js) (line (i ∷ back) s r) ≡ steps code js (line back s' r')
   acts i js back s s' r r' e = ap (λ x. next js (settled n back r x)) e ∙ after_nothing (steps code js (line back s' r'))
 
-  pub stops : (i : Instr) (js back : List Instr) (s : State) (r : Slots) (t : List ℕ) → act (numbers code) n i s r ≡ Stops Faulted t → steps code (i ∷ js) (line (i ∷ back) s r) ≡ Stops Faulted t
+  pub stops : (i : Instr) (js back : List Instr) (s : State) (r : Slots) (t : List ℕ) → act (numbers code) n i s r ≡ Stops Faulted t
+      → steps code (i ∷ js) (line (i ∷ back) s r) ≡ Stops Faulted t
   stops i js back s r t e = ap (λ x. next js (settled n back r x)) e
 
-  pub keeps : (d : Destination) (is : List Instr) (s : State) (r : Slots) → steps code (kept d) (line (kept d ++ is) s r) ≡ Goes (line is (landed d (slice_index r.words (slot_of d)) s) (slots_landed d (slice_index r.words (slot_of d)) r)) []
+  pub keeps : (d : Destination) (is : List Instr) (s : State) (r : Slots) → steps code (kept d) (line (kept d ++ is) s r)
+      ≡ Goes (line is (landed d (slice_index r.words (slot_of d)) s) (slots_landed d (slice_index r.words (slot_of d)) r)) []
   keeps (IntoSlot k) is s r = refl
   keeps (IntoHome (IntoVariable x)) is s r = refl
   keeps (IntoHome IntoHeld) is s r = refl
 
   -- the word that is worked out goes to where it goes
-  pub ends : (i : Instr) (d : Destination) (is : List Instr) (s s' : State) (q : Slots) (v : ℕ) → slot_of d < length q.words → act (numbers code) n i s q ≡ Goes (Stays s' (with_word q (slot_of d) v)) [] → steps code (i ∷ kept d) (line (i ∷ (kept d ++ is)) s q) ≡ Goes (line is (landed d v s') (slots_landed d v (with_word q (slot_of d) v))) []
+  pub ends : (i : Instr) (d : Destination) (is : List Instr) (s s' : State) (q : Slots) (v : ℕ) → slot_of d < length q.words
+      → act (numbers code) n i s q ≡ Goes (Stays s' (with_word q (slot_of d) v)) [] → steps code (i ∷ kept d) (line (i ∷ (kept d ++ is)) s q)
+      ≡ Goes (line is (landed d v s') (slots_landed d v (with_word q (slot_of d) v))) []
   ends i d is s s' q v lt e =
       acts i (kept d) (kept d ++ is) s s' q (with_word q (slot_of d) v) e
       ∙ keeps d is s' (with_word q (slot_of d) v)
@@ -146,15 +154,19 @@ module _ (code : SlotCode) (n : ℕ) (op : Operator) (a b : Operand) (d : Destin
       ∙ fetches code n (k + 1) b (Compute op k ∷ kept d) (Compute op k ∷ (kept d ++ is)) s (with_fetched s r k a)
 
   -- where the operator has a value
-  pub calculate_goes : (v : ℕ) → apply op (fetched s r k a) (fetched s r (k + 1) b) ≡ Some v → steps code (expand (Calculate op a b d)) (line code n (spread op a b d is) s r) ≡ Goes (line code n is (landed d v s) (calculated s r a b d v)) []
+  pub calculate_goes : (v : ℕ) → apply op (fetched s r k a) (fetched s r (k + 1) b) ≡ Some v → steps code (expand (Calculate op a b d))
+      (line code n (spread op a b d is) s r) ≡ Goes (line code n is (landed d v s) (calculated s r a b d v)) []
   calculate_goes v e =
-      let got : apply op (slice_index both.words k) (slice_index both.words (k + 1)) ≡ Some v = ap (λ x. apply op x (slice_index both.words (k + 1))) left_is ∙ ap (λ y. apply op (fetched s r k a) y) right_is ∙ e in
+      let got : apply op (slice_index both.words k) (slice_index both.words (k + 1)) ≡ Some v = ap (λ x. apply op x (slice_index both.words (k + 1)))
+          left_is ∙ ap (λ y. apply op (fetched s r k a) y) right_is ∙ e in
       so_far ∙ ends code n (Compute op k) d is s s both v (omega (arith, both_length, room)) (ap (λ o. into n k (given o s.seed) s both) got)
 
   -- and where it has none
-  pub calculate_fails : apply op (fetched s r k a) (fetched s r (k + 1) b) ≡ None → steps code (expand (Calculate op a b d)) (line code n (spread op a b d is) s r) ≡ Stops Faulted (fault_text 2 n)
+  pub calculate_fails : apply op (fetched s r k a) (fetched s r (k + 1) b) ≡ None → steps code (expand (Calculate op a b d))
+      (line code n (spread op a b d is) s r) ≡ Stops Faulted (fault_text 2 n)
   calculate_fails e =
-      let got : apply op (slice_index both.words k) (slice_index both.words (k + 1)) ≡ None = ap (λ x. apply op x (slice_index both.words (k + 1))) left_is ∙ ap (λ y. apply op (fetched s r k a) y) right_is ∙ e in
+      let got : apply op (slice_index both.words k) (slice_index both.words (k + 1)) ≡ None = ap (λ x. apply op x (slice_index both.words (k + 1)))
+          left_is ∙ ap (λ y. apply op (fetched s r k a) y) right_is ∙ e in
       so_far ∙ stops code n (Compute op k) (kept d) (kept d ++ is) s both (fault_text 2 n) (ap (λ o. into n k (given o s.seed) s both) got)
 
 -- ---- what is read
@@ -246,7 +258,8 @@ module _ (op : Operator) (a b : Operand) (d : Destination) (is : List Instr) whe
             go _ InSlot f n = inl (λ e. omega (arith, e, lt, leb-true _ _ f))
             go _ _ f n = inl (λ e. omega (arith, e, lt, leb-true _ _ f))
 
-        in_slot : (k : ℕ) → j ≢ k → (j ≢ k + 1) ⊎ (b ≡ InSlot) → (j < (live (fetch k a ++ (fetch (k + 1) b ++ Compute op k ∷ is))).slots) × (slice_index (with_fetched s (with_fetched s r k a) (k + 1) b).words j ≡ slice_index r.words j)
+        in_slot : (k : ℕ) → j ≢ k → (j ≢ k + 1) ⊎ (b ≡ InSlot) → (j < (live (fetch k a ++ (fetch (k + 1) b ++ Compute op k ∷ is))).slots)
+            × (slice_index (with_fetched s (with_fetched s r k a) (k + 1) b).words j ≡ slice_index r.words j)
         in_slot k n q = (
           fetch_reads j k a (fetch (k + 1) b ++ Compute op k ∷ is) (right q) n,
           same q ∙ fetched_other s r k j a n,
@@ -260,7 +273,8 @@ module _ (op : Operator) (a b : Operand) (d : Destination) (is : List Instr) whe
             same (inl x) = fetched_other s (with_fetched s r k a) (k + 1) j b x
             same (inr e) = ap (λ b. slice_index (with_fetched s (with_fetched s r k a) (k + 1) b).words j) e
 
-        by : (d : Destination) → omits_only_dead (Calculate op a b d) (live is) ≡ true → j ≢ slot_of d → (j < (live (spread op a b d is)).slots) × (slice_index (with_fetched s (with_fetched s r (slot_of d) a) (slot_of d + 1) b).words j ≡ slice_index r.words j)
+        by : (d : Destination) → omits_only_dead (Calculate op a b d) (live is) ≡ true → j ≢ slot_of d → (j < (live (spread op a b d is)).slots)
+            × (slice_index (with_fetched s (with_fetched s r (slot_of d) a) (slot_of d + 1) b).words j ≡ slice_index r.words j)
         by (IntoSlot k) f n = in_slot k n (apart k f n)
         by (IntoHome home) f n = absurd (omega (arith, lt, leb-true _ _ f))
 

@@ -1,6 +1,7 @@
 -- A calculation that goes on by a constant is two: its result goes to a variable, and the variable is then calculated with
 -- that constant.
-use Rattle.std.proofs.Common.{◌≡◌, ℕ, ◌+◌, ◌≤◌, ◌<◌, true, if◌then◌else◌, List, [], ◌∷◌, ◌++◌, length, max, refl, sym, ap, ◌∙◌, subst, arith, Option, Some, None, length-set, append_assoc}
+use Rattle.std.proofs.Common.{◌≡◌, ℕ, ◌+◌, ◌≤◌, ◌<◌, true, if◌then◌else◌, List, [], ◌∷◌, ◌++◌, length, max, refl, sym, ap}
+use Rattle.std.proofs.Common.{◌∙◌, subst, arith, Option, Some, None, length-set, append_assoc}
 use Rattle.std.specs.Prelude.{◌&&◌, nat_eq, nat_le, slice_index}
 use Rattle.std.proofs.lemmas.Bool.{leb-true}
 use Rattle.std.proofs.lemmas.List.{set-set}
@@ -20,7 +21,8 @@ use Rattle.tb_simulation.proofs.Resolved.{Lies, Piece, pieces_size}
 use Rattle.tb_selection.specs.Groups.{Operand, Constant, Variable, InSlot, Home, IntoVariable, Destination, IntoSlot, IntoHome, Group, Calculate, Stepped, Move, fetch, expand, expand_all}
 use Rattle.tb_selection.specs.GroupSteps.{steps}
 use Rattle.tb_selection.specs.Liveness.{live, written}
-use Rattle.tb_selection.specs.Select.{allowed, attach, divides_left, divides_right, equality_in, against_in, difference_in, factor_in, fused, held_in, instead, loaded_in, merged, multiple_in, multiple_of, or_else, provided, quotient_in, remains, select, tried}
+use Rattle.tb_selection.specs.Select.{allowed, attach, divides_left, divides_right, equality_in, against_in, difference_in, factor_in, fused, held_in, instead}
+use Rattle.tb_selection.specs.Select.{loaded_in, merged, multiple_in, multiple_of, or_else, provided, quotient_in, remains, select, tried}
 use Rattle.tb_selection.proofs.Bracketed.{brackets}
 use Rattle.tb_correctness.proofs.GroupCode.{GroupsLie, group_code}
 use Rattle.tb_correctness.proofs.LeftOver.{pieces_append}
@@ -79,7 +81,8 @@ stored_alone x [] = refl
 stored_alone x (g ∷ gs) = fused_by (Move InSlot (IntoVariable x)) (g ∷ gs) refl refl refl
 
 -- an instruction that becomes one group with a calculation behind it
-attached : (i : Instr) (g : Group) (by : Operator) (a b : Operand) (x : ℕ) (gs : List Group) → merged i g ≡ Some (Calculate by a b (home x)) → nat_le (live (expand_all gs)).slots 0 ≡ true → attach i (g ∷ gs) ≡ Calculate by a b (home x) ∷ gs
+attached : (i : Instr) (g : Group) (by : Operator) (a b : Operand) (x : ℕ) (gs : List Group) → merged i g ≡ Some (Calculate by a b (home x))
+    → nat_le (live (expand_all gs)).slots 0 ≡ true → attach i (g ∷ gs) ≡ Calculate by a b (home x) ∷ gs
 attached i g by a b x gs e free =
     ap (λ o. tried (allowed o gs) i g gs) e
     ∙ ap (λ t. tried (provided (t && true) (Calculate by a b (home x))) i g gs) free
@@ -113,16 +116,19 @@ fetch_live k (Constant w) xs ys e = ap (written k) e
 fetch_live k (Variable x) xs ys e = ap (written k) e
 fetch_live k InSlot xs ys e = e
 
-pub same_live : (op : Operator) (a b : Operand) (by : Operator) (w x : ℕ) (is : List Instr) → (live is).slots ≡ 0 → live (spread_stepped op a b by w x is) ≡ live (spread op a b (home x) (behind_first by w x is))
+pub same_live : (op : Operator) (a b : Operand) (by : Operator) (w x : ℕ) (is : List Instr) → (live is).slots ≡ 0
+    → live (spread_stepped op a b by w x is) ≡ live (spread op a b (home x) (behind_first by w x is))
 same_live op a b by w x is e = fetch_live 0 a _ _ (fetch_live 1 b _ _ (tails_live op by w x is e))
 
 -- ---- what is in range
-first_ranged : (op : Operator) (a b : Operand) (by : Operator) (w x : ℕ) → AreInRange 256 (expand (Stepped op a b by w x)) → AreInRange 256 (expand (first_of op a b x)) × AreInRange 256 (expand (second_of by w x))
+first_ranged : (op : Operator) (a b : Operand) (by : Operator) (w x : ℕ) → AreInRange 256 (expand (Stepped op a b by w x))
+    → AreInRange 256 (expand (first_of op a b x)) × AreInRange 256 (expand (second_of by w x))
 first_ranged op a b by w x h =
     let l = range_fetch 0 a (fetch 1 b ++ tail op by w x []) h in
     let r = range_fetch 1 b (tail op by w x []) l.1 in
     let k = r.1 in
-    (ranged 0 a _ l.0 (omega arith) (range_words 0 a _ h) (ranged 1 b _ r.0 (omega arith) (range_words 1 b _ l.1) (k.0, (k.1.1.1.0, tt))), ((omega arith, k.1.1.1.0), (k.1.0, (k.1.1.0, (k.1.1.1.0, tt)))))
+    (ranged 0 a _ l.0 (omega arith) (range_words 0 a _ h) (ranged 1 b _ r.0 (omega arith) (range_words 1 b _ l.1) (k.0, (k.1.1.1.0, tt))),
+        ((omega arith, k.1.1.1.0), (k.1.0, (k.1.1.0, (k.1.1.1.0, tt)))))
   where
     -- a word that is fetched is one
     WordFits : Operand → Type 0
@@ -182,13 +188,15 @@ module _ (code : SlotCode) (n : ℕ) (op : Operator) (a b : Operand) (by : Opera
       ∙ ap (λ y. apply op left y) (right_is code n op a b (IntoSlot 0) is s r all (omega arith)) ∙ e
 
   pub first_fails : apply op left right ≡ None → steps code (expand (Stepped op a b by w x)) (line code n js s r) ≡ Stops Faulted (fault_text 2 n)
-  first_fails e = so_far (tail op by w x []) (tail op by w x is) ∙ stops code n (Compute op 0) (Put 1 w ∷ Compute by 0 ∷ Store x ∷ []) (Put 1 w ∷ Compute by 0 ∷ Store x ∷ is) s both (fault_text 2 n) (ap (λ o. into n 0 (given o s.seed) s both) (got None e))
+  first_fails e = so_far (tail op by w x []) (tail op by w x is) ∙ stops code n (Compute op 0) (Put 1 w ∷ Compute by 0 ∷ Store x ∷ [])
+      (Put 1 w ∷ Compute by 0 ∷ Store x ∷ is) s both (fault_text 2 n) (ap (λ o. into n 0 (given o s.seed) s both) (got None e))
 
   module _ (v : ℕ) (e : apply op left right ≡ Some v) where
     first_done : steps code (expand (Stepped op a b by w x)) (line code n js s r) ≡ steps code (Compute by 0 ∷ Store x ∷ []) (line code n (Compute by 0 ∷ Store x ∷ is) s (with_constant v))
     first_done =
         so_far (tail op by w x []) (tail op by w x is)
-        ∙ acts code n (Compute op 0) (Put 1 w ∷ Compute by 0 ∷ Store x ∷ []) (Put 1 w ∷ Compute by 0 ∷ Store x ∷ is) s s both (resulted v) (ap (λ o. into n 0 (given o s.seed) s both) (got (Some v) e))
+        ∙ acts code n (Compute op 0) (Put 1 w ∷ Compute by 0 ∷ Store x ∷ []) (Put 1 w ∷ Compute by 0 ∷ Store x ∷ is) s s both (resulted v)
+            (ap (λ o. into n 0 (given o s.seed) s both) (got (Some v) e))
         ∙ fetches code n 1 (Constant w) (Compute by 0 ∷ Store x ∷ []) (Compute by 0 ∷ Store x ∷ is) s (resulted v)
 
     result_stands : slice_index (with_constant v).words 0 ≡ v
@@ -201,9 +209,11 @@ module _ (code : SlotCode) (n : ℕ) (op : Operator) (a b : Operand) (by : Opera
     got_on o q = (λ i. apply by (result_stands i) (constant_stands i)) ∙ q
 
     pub second_fails : apply by v (word w) ≡ None → steps code (expand (Stepped op a b by w x)) (line code n js s r) ≡ Stops Faulted (fault_text 2 n)
-    second_fails q = first_done ∙ stops code n (Compute by 0) (Store x ∷ []) (Store x ∷ is) s (with_constant v) (fault_text 2 n) (ap (λ o. into n 0 (given o s.seed) s (with_constant v)) (got_on None q))
+    second_fails q = first_done ∙ stops code n (Compute by 0) (Store x ∷ []) (Store x ∷ is) s (with_constant v) (fault_text 2 n)
+        (ap (λ o. into n 0 (given o s.seed) s (with_constant v)) (got_on None q))
 
-    pub stepped_goes : (u : ℕ) → apply by v (word w) ≡ Some u → steps code (expand (Stepped op a b by w x)) (line code n js s r) ≡ Goes (line code n is (meaning.stored x u s) (stepped_slots v u)) []
+    pub stepped_goes : (u : ℕ) → apply by v (word w) ≡ Some u → steps code (expand (Stepped op a b by w x)) (line code n js s r)
+        ≡ Goes (line code n is (meaning.stored x u s) (stepped_slots v u)) []
     stepped_goes u q =
         first_done
         ∙ acts code n (Compute by 0) (Store x ∷ []) (Store x ∷ is) s s (with_constant v) (stepped_slots v u) (ap (λ o. into n 0 (given o s.seed) s (with_constant v)) (got_on (Some u) q))
@@ -215,7 +225,8 @@ pub stored_again : (x u v : ℕ) (s : State) → meaning.stored x v (meaning.sto
 stored_again x u v s = ap (λ l. record s { vars = l }) (set-set s.vars x u v)
 
 -- ---- where it begins
-module _ (around : Surroundings) (n : ℕ) (op : Operator) (a b : Operand) (by : Operator) (w x : ℕ) (is : List Instr) (s : State) (r : Slots) (u : View) (h : Ready around n (Stepped op a b by w x) (spread_stepped op a b by w x is) is s r u) where
+module _ (around : Surroundings) (n : ℕ) (op : Operator) (a b : Operand) (by : Operator) (w x : ℕ) (is : List Instr) (s : State) (r : Slots)
+    (u : View) (h : Ready around n (Stepped op a b by w x) (spread_stepped op a b by w x is) is s r u) where
   open around use {ly, f}
 
   abbrev first_group : Group
@@ -240,7 +251,8 @@ module _ (around : Surroundings) (n : ℕ) (op : Operator) (a b : Operand) (by :
   parts = lies_parts f.code u.regs.pc first_code second_code h.lies
 
   lies_behind : GroupsLie ly f.code n (next + pieces_size second_code) (select is)
-  lies_behind = subst (λ p. GroupsLie ly f.code n p (select is)) (let e = pieces_append first_code second_code in let q : u.regs.pc + pieces_size (first_code ++ second_code) ≡ next + pieces_size second_code = omega (arith, e) in q) h.rest
+  lies_behind = subst (λ p. GroupsLie ly f.code n p (select is)) (let e = pieces_append first_code second_code in
+      let q : u.regs.pc + pieces_size (first_code ++ second_code) ≡ next + pieces_size second_code = omega (arith, e) in q) h.rest
 
   ranged : AreInRange 256 (expand first_group) × AreInRange 256 (expand second_group)
   ranged = first_ranged op a b by w x h.ranged
@@ -262,7 +274,8 @@ module _ (around : Surroundings) (n : ℕ) (op : Operator) (a b : Operand) (by :
         ranged = ranged.0;
         rest =
             subst (GroupsLie ly f.code n next) (sym (second_selected by w x is h.free))
-            (h.second, h.second, (let k = ranged.1 in (k.0, (k.1.0, (k.1.1.0, (k.1.1.1.0, behind_ranged (select is) _ lies_behind))))), parts.1, lies_behind, h.reach.1, (let q = h.above in omega (arith, q)));
+            (h.second, h.second, (let k = ranged.1 in (k.0, (k.1.0, (k.1.1.0, (k.1.1.1.0, behind_ranged (select is) _ lies_behind))))), parts.1,
+                lies_behind, h.reach.1, (let q = h.above in omega (arith, q)));
         reach = h.reach.0;
         above = h.above;
         free = ap (λ k. nat_le k 0) no_slots;
@@ -280,7 +293,9 @@ module _ (around : Surroundings) (n : ℕ) (op : Operator) (a b : Operand) (by :
       }
 
 -- behind both it matches what the one leads to
-pub matches_again : (around : Surroundings) (code : SlotCode) (n x u v : ℕ) (is : List Instr) (s : State) (p q : Slots) (w : View) → (live is).slots ≡ 0 → p.held ≡ q.held → length q.words ≡ 16 → Matches around (line code n is (meaning.stored x v (meaning.stored x u s)) p) w → Matches around (line code n is (meaning.stored x v s) q) w
+pub matches_again : (around : Surroundings) (code : SlotCode) (n x u v : ℕ) (is : List Instr) (s : State) (p q : Slots) (w : View) → (live is).slots
+    ≡ 0 → p.held ≡ q.held → length q.words ≡ 16 → Matches around (line code n is (meaning.stored x v (meaning.stored x u s)) p) w
+    → Matches around (line code n is (meaning.stored x v s) q) w
 matches_again around code n x u v is s p q w none same all h =
     subst (λ t. Matches around (line code n is t q) w) (stored_again x u v s)
     (record {

@@ -31,7 +31,9 @@ use Rattle.tb_correctness.proofs.Sources.{lda}
 use Rattle.tb_correctness.proofs.GroupCode as coded
 use Rattle.tb_correctness.proofs.GroupCode.{low, high, weighed, difference, Way, Short, way_size, Flag, Zero, Overflow, Negative, Carry, BranchReaches, branch_code, branch_on, second_at, turned_at}
 use Rattle.tb_correctness.proofs.Emits.{formed, branch_by, Emits, ends, block, labelled, branches}
-use Rattle.tb_correctness.proofs.ItemBytes.{AllEncode, IsWord, Rest, behind_branch, behind_label, behind_straight, cut, cut_branch, difference_bytes, gets_there, high_made, high_straight, label_here, lifted_bytes, low_straight, no_more, value_of, weighed_high, weighed_low}
+use Rattle.tb_correctness.proofs.ItemBytes.{AllEncode, IsWord, Rest, behind_branch, behind_label, behind_straight, cut, cut_branch, difference_bytes}
+use Rattle.tb_correctness.proofs.ItemBytes.{gets_there, high_made, high_straight, label_here, lifted_bytes, low_straight, no_more, value_of, weighed_high}
+use Rattle.tb_correctness.proofs.ItemBytes.{weighed_low}
 
 module _ (labels : List (Name × ℕ)) where
   -- ---- tests
@@ -93,14 +95,16 @@ module _ (labels : List (Name × ℕ)) where
         );
       }
 
-    pub equal_emitted : (at : ℕ) (fs : List Form) → AreFormsOf (low_pair ++ (instr Bne Relative (Label leaves) ∷ (high_pair ++ (instr Bne Relative (Label leaves) ∷ [])))) fs → Rest labels at fs → Equality false at fs
+    pub equal_emitted : (at : ℕ) (fs : List Form)
+        → AreFormsOf (low_pair ++ (instr Bne Relative (Label leaves) ∷ (high_pair ++ (instr Bne Relative (Label leaves) ∷ [])))) fs → Rest labels at fs → Equality false at fs
     equal_emitted at fs h r =
         let c1 = cut low_pair (instr Bne Relative (Label leaves) ∷ (high_pair ++ (instr Bne Relative (Label leaves) ∷ []))) fs low_pair_straight h in
         let b1 = cut_branch Bne leaves (high_pair ++ (instr Bne Relative (Label leaves) ∷ [])) c1.rest c1.of in
         let c2 = cut high_pair (instr Bne Relative (Label leaves) ∷ []) b1.rest high_pair_straight b1.of in
         let b2 = cut_branch Bne leaves [] c2.rest c2.of in
         let is : fs ≡ equality_forms false b1.way b2.way leaves [] =
-        c1.is ∙ ap (λ t. map kept low_pair ++ t) (b1.is ∙ ap (λ t. formed b1.way Bne leaves ∷ t) (c2.is ∙ ap (λ t. map kept high_pair ++ t) (b2.is ∙ ap (λ t. formed b2.way Bne leaves ∷ t) (no_more b2.rest b2.of)))) in
+        c1.is ∙ ap (λ t. map kept low_pair ++ t) (b1.is ∙ ap (λ t. formed b1.way Bne leaves ∷ t) (c2.is ∙ ap (λ t. map kept high_pair ++ t) (b2.is
+            ∙ ap (λ t. formed b2.way Bne leaves ∷ t) (no_more b2.rest b2.of)))) in
         subst (Equality false at) (sym is) (equality false b1.way b2.way at leaves [] (subst (Rest labels at) is r) there top (ends labels))
 
     pub unequal_emitted : (at : ℕ) (skip : Name) (fs : List Form)
@@ -113,7 +117,8 @@ module _ (labels : List (Name × ℕ)) where
         let c3 = cut (label skip ∷ []) [] b2.rest refl b2.of in
         let tail : List Form = kept (label skip) ∷ [] in
         let is : fs ≡ equality_forms true b1.way b2.way skip tail =
-        c1.is ∙ ap (λ t. map kept low_pair ++ t) (b1.is ∙ ap (λ t. formed b1.way Bne skip ∷ t) (c2.is ∙ ap (λ t. map kept high_pair ++ t) (b2.is ∙ ap (λ t. formed b2.way Beq leaves ∷ t) (c3.is ∙ ap (λ t. kept (label skip) ∷ t) (no_more c3.rest c3.of))))) in
+        c1.is ∙ ap (λ t. map kept low_pair ++ t) (b1.is ∙ ap (λ t. formed b1.way Bne skip ∷ t) (c2.is ∙ ap (λ t. map kept high_pair ++ t) (b2.is
+            ∙ ap (λ t. formed b2.way Beq leaves ∷ t) (c3.is ∙ ap (λ t. kept (label skip) ∷ t) (no_more c3.rest c3.of))))) in
         let r' = subst (Rest labels at) is r in
         let end = r4 true b1.way b2.way at skip tail r' in
         subst (Equality true at) (sym is)
@@ -138,7 +143,8 @@ module _ (labels : List (Name × ℕ)) where
         map kept both_pairs ++ (formed first (branch_by Overflow false) skip ∷ (map kept turn ++ (kept (label skip) ∷ formed second (branch_by Negative below) leaves ∷ [])))
 
     module _ (below : Bool) (first second : Way) (at : ℕ) (skip : Name) (r : Rest labels at (order_forms below first second skip)) where
-      o1 : Rest labels (at + resolved.size (difference a b)) (formed first (branch_by Overflow false) skip ∷ (map kept turn ++ (kept (label skip) ∷ formed second (branch_by Negative below) leaves ∷ [])))
+      o1 : Rest labels (at + resolved.size (difference a b)) (formed first (branch_by Overflow false) skip
+          ∷ (map kept turn ++ (kept (label skip) ∷ formed second (branch_by Negative below) leaves ∷ [])))
       o1 = behind_straight labels at both_pairs (difference a b) _ (difference_bytes labels a b a_word b_word) r
 
       o2 : Rest labels (at + resolved.size (difference a b) + way_size first) (map kept turn ++ (kept (label skip) ∷ formed second (branch_by Negative below) leaves ∷ []))
@@ -167,14 +173,17 @@ module _ (labels : List (Name × ℕ)) where
           }
 
     pub weighing_emitted : (below : Bool) (at : ℕ) (skip : Name) (fs : List Form)
-        → AreFormsOf (both_pairs ++ (instr Bvc Relative (Label skip) ∷ ((product.const Eor 128 ∷ label skip ∷ []) ++ (instr (branch_by Negative below) Relative (Label leaves) ∷ [])))) fs → Rest labels at fs → Weighing below at fs
+        → AreFormsOf (both_pairs ++ (instr Bvc Relative (Label skip) ∷ ((product.const Eor 128 ∷ label skip ∷ [])
+            ++ (instr (branch_by Negative below) Relative (Label leaves) ∷ [])))) fs → Rest labels at fs → Weighing below at fs
     weighing_emitted below at skip fs h r =
-        let c1 = cut both_pairs (instr Bvc Relative (Label skip) ∷ ((product.const Eor 128 ∷ label skip ∷ []) ++ (instr (branch_by Negative below) Relative (Label leaves) ∷ []))) fs both_straight h in
+        let c1 = cut both_pairs (instr Bvc Relative (Label skip) ∷ ((product.const Eor 128 ∷ label skip ∷ [])
+            ++ (instr (branch_by Negative below) Relative (Label leaves) ∷ []))) fs both_straight h in
         let b1 = cut_branch Bvc skip ((product.const Eor 128 ∷ label skip ∷ []) ++ (instr (branch_by Negative below) Relative (Label leaves) ∷ [])) c1.rest c1.of in
         let c2 = cut (product.const Eor 128 ∷ label skip ∷ []) (instr (branch_by Negative below) Relative (Label leaves) ∷ []) b1.rest refl b1.of in
         let b2 = cut_branch (branch_by Negative below) leaves [] c2.rest c2.of in
         let is : fs ≡ order_forms below b1.way b2.way skip =
-        c1.is ∙ ap (λ t. map kept both_pairs ++ t) (b1.is ∙ ap (λ t. formed b1.way Bvc skip ∷ t) (c2.is ∙ ap (λ t. kept (product.const Eor 128) ∷ kept (label skip) ∷ t) (b2.is ∙ ap (λ t. formed b2.way (branch_by Negative below) leaves ∷ t) (no_more b2.rest b2.of)))) in
+        c1.is ∙ ap (λ t. map kept both_pairs ++ t) (b1.is ∙ ap (λ t. formed b1.way Bvc skip ∷ t) (c2.is
+            ∙ ap (λ t. kept (product.const Eor 128) ∷ kept (label skip) ∷ t) (b2.is ∙ ap (λ t. formed b2.way (branch_by Negative below) leaves ∷ t) (no_more b2.rest b2.of)))) in
         subst (Weighing below at) (sym is) (order below b1.way b2.way at skip (subst (Rest labels at) is r))
 
   -- ---- order, by how it is told
@@ -201,11 +210,13 @@ module _ (labels : List (Name × ℕ)) where
           reach = gets_there labels _ to b1.way n l _ there top r1;
         })
 
-    sign_emitted : (side : Side) (s : Source) (at : ℕ) (fs : List Form) → IsWord s → AreFormsOf (orders.signed side s goal) fs → Rest labels at fs → Ended (lda (high s) ∷ []) Negative (coded.leaves_below side) at fs
+    sign_emitted : (side : Side) (s : Source) (at : ℕ) (fs : List Form) → IsWord s → AreFormsOf (orders.signed side s goal) fs → Rest labels at fs
+        → Ended (lda (high s) ∷ []) Negative (coded.leaves_below side) at fs
     sign_emitted Below s at fs h f r = ended (items.high_of Lda s ∷ []) (lda (high s) ∷ []) Negative false at fs (λ i. high_straight Lda s i && true) (high_made labels s h) f r
     sign_emitted NotBelow s at fs h f r = ended (items.high_of Lda s ∷ []) (lda (high s) ∷ []) Negative true at fs (λ i. high_straight Lda s i && true) (high_made labels s h) f r
 
-    lifted_emitted : (side : Side) (s : Source) (w at : ℕ) (fs : List Form) → IsWord s → AreFormsOf (orders.lifted s w ++ (product.branch (orders.unless_carry side) goal ∷ [])) fs → Rest labels at fs
+    lifted_emitted : (side : Side) (s : Source) (w at : ℕ) (fs : List Form) → IsWord s
+        → AreFormsOf (orders.lifted s w ++ (product.branch (orders.unless_carry side) goal ∷ [])) fs → Rest labels at fs
         → Ended (coded.lifted s w) Carry (not (coded.leaves_below side)) at fs
     lifted_emitted Below s w at fs h f r = ended (orders.lifted s w) (coded.lifted s w) Carry true at fs (plain_straight (orders.lifted s w) (lifted_plain s w)) (lifted_bytes labels s w h) f r
     lifted_emitted NotBelow s w at fs h f r = ended (orders.lifted s w) (coded.lifted s w) Carry false at fs (plain_straight (orders.lifted s w) (lifted_plain s w)) (lifted_bytes labels s w h) f r
@@ -238,12 +249,14 @@ module _ (labels : List (Name × ℕ)) where
       pub emits : Emits labels at fs (coded.order_by order wanted first second at to)
       pub reach : coded.ReachesBy order first second at to
 
-    weighed_emitted : (wanted : Side) (s t : Source) (skip : Target) (at : ℕ) (fs : List Form) (h : IsWord s) (k : IsWord t) → AreFormsOf (orders.weighed wanted s t skip goal) fs → Rest labels at fs
+    weighed_emitted : (wanted : Side) (s t : Source) (skip : Target) (at : ℕ) (fs : List Form) (h : IsWord s) (k : IsWord t)
+        → AreFormsOf (orders.weighed wanted s t skip goal) fs → Rest labels at fs
         → Weighing s t h k to (label_of goal) there top (coded.leaves_below wanted) at fs
     weighed_emitted Below s t skip at fs h k f r = weighing_emitted s t h k to (label_of goal) there top false at (label_of skip) fs f r
     weighed_emitted NotBelow s t skip at fs h k f r = weighing_emitted s t h k to (label_of goal) there top true at (label_of skip) fs f r
 
-    order_emitted : (order : Order) (wanted : Side) (skip : Target) (at : ℕ) (fs : List Form) → AreWords order → AreFormsOf (orders.ordered_by order wanted skip goal) fs → Rest labels at fs → OrderEmitted order wanted at fs
+    order_emitted : (order : Order) (wanted : Side) (skip : Target) (at : ℕ) (fs : List Form) → AreWords order
+        → AreFormsOf (orders.ordered_by order wanted skip goal) fs → Rest labels at fs → OrderEmitted order wanted at fs
     order_emitted (BySign side s) wanted skip at fs h f r =
         let e = sign_emitted (wanted_side wanted side) s at fs h f r in record { first = e.first; second = Short; emits = e.emits; reach = e.reach }
     order_emitted (ByConstant side s w) wanted skip at fs h f r =
@@ -251,5 +264,6 @@ module _ (labels : List (Name × ℕ)) where
     order_emitted (ByDifference s t) wanted skip at fs h f r =
         let e = weighed_emitted wanted s t skip at fs h.0 h.1 f r in record { first = e.first; second = e.second; emits = e.emits; reach = e.reach }
 
-    pub compared_emitted : (s t : Source) (wanted : Side) (skip : Target) (at : ℕ) (fs : List Form) → IsWord s → IsWord t → AreFormsOf (orders.ordered wanted s t skip goal) fs → Rest labels at fs → OrderEmitted (order_of s t) wanted at fs
+    pub compared_emitted : (s t : Source) (wanted : Side) (skip : Target) (at : ℕ) (fs : List Form) → IsWord s → IsWord t
+        → AreFormsOf (orders.ordered wanted s t skip goal) fs → Rest labels at fs → OrderEmitted (order_of s t) wanted at fs
     compared_emitted s t wanted skip at fs h k f r = order_emitted (order_of s t) wanted skip at fs (order_words s t h k) f r

@@ -52,12 +52,16 @@ lies_parts code at (p ∷ ps) qs h =
     ((h.0, h.1, k.0), subst (λ a. Lies code a qs) (let e : at + piece_size p + pieces_size ps ≡ at + (piece_size p + pieces_size ps) = omega arith in e) k.1)
 
 -- ---- what the code of a test does
-module _ (f : Setup) (room : ℕ) (fits : Fits f room) (at : ℕ) (bs : List ℕ) (m : ℕ → ℕ) (text answers : List ℕ) (small : leb (length bs) room ≡ true) (a b : Source) (x y : ℕ) (ga : Grounded a 0) (gb : Grounded b 0) (ha : SourceHolds m a x) (hb : SourceHolds m b y) (first second : Way) (next : ℕ) where
+module _ (f : Setup) (room : ℕ) (fits : Fits f room) (at : ℕ) (bs : List ℕ) (m : ℕ → ℕ) (text answers : List ℕ) (small : leb (length bs) room ≡ true)
+    (a b : Source) (x y : ℕ) (ga : Grounded a 0) (gb : Grounded b 0) (ha : SourceHolds m a x) (hb : SourceHolds m b y) (first second : Way) (next : ℕ) where
   -- to the place behind it where the test holds, and else to another one
   abbrev pub Tests : Rel → Type 0
-  Tests rel = Lies f.code at (test_code rel first second at a b next) → TestReaches rel first second at a b next → Moves f (Here at bs m text answers) (Here (cond (holds rel x y) (at + pieces_size (test_code rel first second at a b next)) next) bs m text answers) [] 9
+  Tests rel = Lies f.code at (test_code rel first second at a b next) → TestReaches rel first second at a b next → Moves f (Here at bs m text answers)
+      (Here (cond (holds rel x y) (at + pieces_size (test_code rel first second at a b next)) next) bs m text answers) [] 9
 
-  by_equality : (differ : Bool) → Lies f.code at (equality_code differ first second at a b next) → EqualityReaches differ first second at a b next → Moves f (Here at bs m text answers) (Here (cond (turned differ (nat_eq x y)) (at + pieces_size (equality_code differ first second at a b next)) next) bs m text answers) [] 9
+  by_equality : (differ : Bool) → Lies f.code at (equality_code differ first second at a b next) → EqualityReaches differ first second at a b next
+      → Moves f (Here at bs m text answers)
+      (Here (cond (turned differ (nat_eq x y)) (at + pieces_size (equality_code differ first second at a b next)) next) bs m text answers) [] 9
   by_equality differ lies reach = moves_looser f _ _ _ [] 8 9 (omega arith) (λ w h. h) (tests_equality f room fits at bs m text answers small a b x y ga gb ha hb differ first second next lies reach)
 
   pub tests : (rel : Rel) → Tests rel
@@ -81,7 +85,8 @@ denies rel.Gt x y = refl
 denies rel.Le x y = not_not (int_lt (signed y) (signed x))
 
 -- ---- what its slot instructions do
-module _ (code : SlotCode) (n : ℕ) (rel : Rel) (a : Tested) (b : Operand) (to : ℕ) (is : List Instr) (s : State) (r : Slots) (all : length r.words ≡ 16) (free : test_words_dead a b (live (JumpTo to ∷ is)) ≡ true) where
+module _ (code : SlotCode) (n : ℕ) (rel : Rel) (a : Tested) (b : Operand) (to : ℕ) (is : List Instr) (s : State) (r : Slots) (all : length r.words
+    ≡ 16) (free : test_words_dead a b (live (JumpTo to ∷ is)) ≡ true) where
   abbrev after : Slots
   after = tested s r a b
 
@@ -95,7 +100,8 @@ module _ (code : SlotCode) (n : ℕ) (rel : Rel) (a : Tested) (b : Operand) (to 
   jumps_by true = refl
   jumps_by false = refl
 
-  decides : (held found : Bool) → has_line (numbers code) to ≡ found → next code n (JumpTo to ∷ []) (settled n (JumpTo to ∷ is) after (if held then Goes (Stays s after) [] else leaving (fall (numbers code) n s))) ≡ gone_by held found
+  decides : (held found : Bool) → has_line (numbers code) to ≡ found
+      → next code n (JumpTo to ∷ []) (settled n (JumpTo to ∷ is) after (if held then Goes (Stays s after) [] else leaving (fall (numbers code) n s))) ≡ gone_by held found
   decides false found e = refl
   decides true found e =
       after_nothing (steps code (JumpTo to ∷ []) (line code n (JumpTo to ∷ is) s after))
@@ -103,14 +109,17 @@ module _ (code : SlotCode) (n : ℕ) (rel : Rel) (a : Tested) (b : Operand) (to 
       ∙ ap (λ t. settled n is after (leaving (if t then Goes (record s { place = control.At to }) [] else fault 1 n))) e
       ∙ jumps_by found
 
-  pub go_goes : (held found : Bool) → holds rel (tested_word s r a) (fetched s r 0 b) ≡ held → has_line (numbers code) to ≡ found → steps code (expand (TestGo rel a b to)) (line code n (spread_test rel a b (JumpTo to ∷ is)) s r) ≡ gone_by held found
+  pub go_goes : (held found : Bool) → holds rel (tested_word s r a) (fetched s r 0 b) ≡ held → has_line (numbers code) to ≡ found
+      → steps code (expand (TestGo rel a b to)) (line code n (spread_test rel a b (JumpTo to ∷ is)) s r) ≡ gone_by held found
   go_goes held found e q =
       so_far code n rel a b (JumpTo to ∷ is) s r (JumpTo to ∷ [])
-      ∙ ap (λ t. next code n (JumpTo to ∷ []) (settled n (JumpTo to ∷ is) after (if t then Goes (Stays s after) [] else leaving (fall (numbers code) n s)))) (decided code n rel a b (JumpTo to ∷ is) s r all free held e)
+      ∙ ap (λ t. next code n (JumpTo to ∷ []) (settled n (JumpTo to ∷ is) after (if t then Goes (Stays s after) [] else leaving
+          (fall (numbers code) n s)))) (decided code n rel a b (JumpTo to ∷ is) s r all free held e)
       ∙ decides held found q
 
 -- ---- the laws
-module _ (around : Surroundings) (fits : Fits around.f 16) (code : SlotCode) (same_numbers : numbers code ≡ around.ly.numbers) (n : ℕ) (a : Tested) (b : Operand) (s : State) (r : Slots) (w : View) where
+module _ (around : Surroundings) (fits : Fits around.f 16) (code : SlotCode) (same_numbers : numbers code ≡ around.ly.numbers) (n : ℕ) (a : Tested)
+    (b : Operand) (s : State) (r : Slots) (w : View) where
   open around use {ly, f, lo, hi, keys}
 
   abbrev own : List ℕ
@@ -141,7 +150,8 @@ module _ (around : Surroundings) (fits : Fits around.f 16) (code : SlotCode) (sa
     left_word : SourceHolds w.mem left x
     right_word : SourceHolds w.mem right y
 
-  words : (rel : Rel) (js is : List Instr) → AreInRange 256 (test_before rel a b js) → test_words_dead a b (live is) ≡ true → HoldsState ly s w.mem → HoldsLive (live (spread_test rel a b is)) r w.mem → Words
+  words : (rel : Rel) (js is : List Instr) → AreInRange 256 (test_before rel a b js) → test_words_dead a b (live is) ≡ true → HoldsState ly s w.mem
+      → HoldsLive (live (spread_test rel a b is)) r w.mem → Words
   words rel js is ranged free state read =
       let fit = test_fits rel a b js ranged in
       record {
@@ -152,11 +162,16 @@ module _ (around : Surroundings) (fits : Fits around.f 16) (code : SlotCode) (sa
       }
 
   -- the code of the test, by which words it is on
-  leads : Words → (rel : Rel) (first second : Way) (next : ℕ) → Lies f.code w.regs.pc (test_code rel first second w.regs.pc left right next) → TestReaches rel first second w.regs.pc left right next → At w.regs.pc w → Comes f w (At (cond (holds rel x y) (w.regs.pc + pieces_size (test_code rel first second w.regs.pc left right next)) next)) [] 9
-  leads v rel first second next lies reach here = tests f 16 fits w.regs.pc own w.mem w.text w.answers refl left right x y v.left_apart v.right_apart v.left_word v.right_word first second next rel lies reach w here
+  leads : Words → (rel : Rel) (first second : Way) (next : ℕ) → Lies f.code w.regs.pc (test_code rel first second w.regs.pc left right next)
+      → TestReaches rel first second w.regs.pc left right next → At w.regs.pc w
+      → Comes f w (At (cond (holds rel x y) (w.regs.pc + pieces_size (test_code rel first second w.regs.pc left right next)) next)) [] 9
+  leads v rel first second next lies reach here = tests f 16 fits w.regs.pc own w.mem w.text w.answers refl left right x y v.left_apart v.right_apart
+      v.left_word v.right_word first second next rel lies reach w here
 
   -- out of the line, with nothing done
-  leaves : HoldsState ly s w.mem → length r.words ≡ 16 → Entered f lo hi w.mem → w.text ≡ s.text → w.answers ≡ s.answers → Typable keys s.text s.answers → (u : View) → At next_line u → Matches around (record { state = record s { place = next_after (numbers code) n }; rest = Whole; slots = tested s r a b }) u
+  leaves : HoldsState ly s w.mem → length r.words ≡ 16 → Entered f lo hi w.mem → w.text ≡ s.text → w.answers ≡ s.answers
+      → Typable keys s.text s.answers → (u : View) → At next_line u
+      → Matches around (record { state = record s { place = next_after (numbers code) n }; rest = Whole; slots = tested s r a b }) u
   leaves state all homed text answers short = left_at around code same_numbers n s (tested s r a b) w.mem w.text w.answers state (left_read s r a b w.mem all) homed text answers short
 
   -- ---- a test that stays in the line
@@ -171,7 +186,8 @@ module _ (around : Surroundings) (fits : Fits around.f 16) (code : SlotCode) (sa
     by_test t e = by t (subst (λ t. Comes f w (At (cond t behind next_line)) [] 9) e (leads (words rel [] is h.ranged h.free h.state h.read) rel h.first h.second next_line h.lies h.reach (here h)))
       where
         by : (t : Bool) → Comes f w (At (cond t behind next_line)) [] 9 → Led (branched code n rel a b is s r t)
-        by true c = looser f w _ _ [] 9 9 (omega arith) (stood around code n h.small is s (tested s r a b) behind w.mem w.text w.answers h.rest h.state (tested_read rel a b is s r w.mem h.free h.read) h.homed h.text h.answers h.short) c
+        by true c = looser f w _ _ [] 9 9 (omega arith) (stood around code n h.small is s (tested s r a b) behind w.mem w.text w.answers h.rest
+            h.state (tested_read rel a b is s r w.mem h.free h.read) h.homed h.text h.answers h.short) c
         by false c = looser f w _ _ [] 9 9 (omega arith) (leaves h.state h.read.all_words h.homed h.text h.answers h.short) c
 
     pub test_law : Led (steps code (expand (Test rel a b)) (line code n (spread_test rel a b is) s r))
@@ -217,7 +233,9 @@ module _ (around : Surroundings) (fits : Fits around.f 16) (code : SlotCode) (sa
       by_found t e = by t (subst (λ t. Comes f w (At (cond (not t) next_line (ly.start to))) [] 9) e goes_there)
         where
           by : (t : Bool) → Comes f w (At (cond (not t) next_line (ly.start to))) [] 9 → Gone (outcome t true)
-          by true c = looser f w _ _ [] 9 (15 + limit) (omega arith) (arrived around (record s { place = control.At to }) (tested s r a b) (ly.start to) w.mem w.text w.answers refl (state_placed ly (control.At to) s w.mem h.state) (left_read s r a b w.mem h.read.all_words).all_words h.homed h.text h.answers h.short) c
+          by true c = looser f w _ _ [] 9 (15 + limit) (omega arith) (arrived around (record s { place = control.At to }) (tested s r a b)
+              (ly.start to) w.mem w.text w.answers refl (state_placed ly (control.At to) s w.mem h.state)
+              (left_read s r a b w.mem h.read.all_words).all_words h.homed h.text h.answers h.short) c
           by false c = looser f w _ _ [] 9 (15 + limit) (omega arith) (out true) c
 
     module _ (lost : has_line ly.numbers to ≡ false) where
@@ -231,12 +249,14 @@ module _ (around : Surroundings) (fits : Fits around.f 16) (code : SlotCode) (sa
       parts = lies_parts f.code w.regs.pc code_lost faulty (subst (λ d. Lies f.code w.regs.pc (go_code ly n w.regs.pc h.first h.second rel left right d to)) lost h.lies)
 
       by_lost : (t : Bool) → holds rel x y ≡ t → Gone (outcome t false)
-      by_lost t e = by t (subst (λ t. Comes f w (At (cond t (w.regs.pc + pieces_size code_lost) next_line)) [] 9) e (leads test_words rel h.first h.second next_line parts.0 (subst (λ d. GoReaches ly n w.regs.pc h.first h.second rel left right d to) lost h.reach) starts))
+      by_lost t e = by t (subst (λ t. Comes f w (At (cond t (w.regs.pc + pieces_size code_lost) next_line)) [] 9) e
+          (leads test_words rel h.first h.second next_line parts.0 (subst (λ d. GoReaches ly n w.regs.pc h.first h.second rel left right d to) lost h.reach) starts))
         where
           by : (t : Bool) → Comes f w (At (cond t (w.regs.pc + pieces_size code_lost) next_line)) [] 9 → Gone (outcome t false)
           by true c =
               looser f w _ _ (fault_text 1 n) (9 + (4 + limit)) (15 + limit) (omega arith) (λ u g. g)
-              (chained f w _ _ [] (fault_text 1 n) 9 (4 + limit) c (faults_at around fits limit rs n 1 h.small (omega arith) (w.regs.pc + pieces_size code_lost) w.mem w.text w.answers parts.1 h.homed))
+              (chained f w _ _ [] (fault_text 1 n) 9 (4 + limit) c (faults_at around fits limit rs n 1 h.small (omega arith)
+                  (w.regs.pc + pieces_size code_lost) w.mem w.text w.answers parts.1 h.homed))
           by false c = looser f w _ _ [] 9 (15 + limit) (omega arith) (out false) c
 
     by_line : (found : Bool) → has_line ly.numbers to ≡ found → Gone (outcome (holds rel x y) found)
@@ -244,4 +264,5 @@ module _ (around : Surroundings) (fits : Fits around.f 16) (code : SlotCode) (sa
     by_line false e = by_lost e (holds rel x y) refl
 
     pub go_law : Gone (steps code (expand (TestGo rel a b to)) (line code n (spread_test rel a b (JumpTo to ∷ is)) s r))
-    go_law = subst Gone (sym (go_goes code n rel a b to is s r h.read.all_words h.free (holds rel x y) (has_line ly.numbers to) refl (ap (λ ns. has_line ns to) same_numbers))) (by_line (has_line ly.numbers to) refl)
+    go_law = subst Gone (sym (go_goes code n rel a b to is s r h.read.all_words h.free (holds rel x y) (has_line ly.numbers to) refl
+        (ap (λ ns. has_line ns to) same_numbers))) (by_line (has_line ly.numbers to) refl)

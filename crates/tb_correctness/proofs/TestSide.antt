@@ -52,16 +52,20 @@ spread_test_is rel (HeldNow InSlot) b js is = ap (λ l. Hold ∷ l) (append_asso
 
 module _ (code : SlotCode) (n : ℕ) (rel : Rel) (a : Tested) (b : Operand) (is : List Instr) (s : State) (r : Slots) where
   -- up to the test itself, with some instructions behind it
-  pub so_far : (js : List Instr) → steps code (test_before rel a b js) (line code n (spread_test rel a b is) s r) ≡ steps code (LeaveUnless rel ∷ js) (line code n (LeaveUnless rel ∷ is) s (tested s r a b))
+  pub so_far : (js : List Instr) → steps code (test_before rel a b js) (line code n (spread_test rel a b is) s r) ≡ steps code (LeaveUnless rel ∷ js)
+      (line code n (LeaveUnless rel ∷ is) s (tested s r a b))
   so_far js = by a
     where
-      right : (r : Slots) → steps code (fetch 0 b ++ LeaveUnless rel ∷ js) (line code n (fetch 0 b ++ LeaveUnless rel ∷ is) s r) ≡ steps code (LeaveUnless rel ∷ js) (line code n (LeaveUnless rel ∷ is) s (with_fetched s r 0 b))
+      right : (r : Slots) → steps code (fetch 0 b ++ LeaveUnless rel ∷ js) (line code n (fetch 0 b ++ LeaveUnless rel ∷ is) s r)
+          ≡ steps code (LeaveUnless rel ∷ js) (line code n (LeaveUnless rel ∷ is) s (with_fetched s r 0 b))
       right r = fetches code n 0 b (LeaveUnless rel ∷ js) (LeaveUnless rel ∷ is) s r
 
-      hold : (r : Slots) → steps code (Hold ∷ (fetch 0 b ++ LeaveUnless rel ∷ js)) (line code n (Hold ∷ (fetch 0 b ++ LeaveUnless rel ∷ is)) s r) ≡ steps code (fetch 0 b ++ LeaveUnless rel ∷ js) (line code n (fetch 0 b ++ LeaveUnless rel ∷ is) s (record r { held = slice_index r.words 0 }))
+      hold : (r : Slots) → steps code (Hold ∷ (fetch 0 b ++ LeaveUnless rel ∷ js)) (line code n (Hold ∷ (fetch 0 b ++ LeaveUnless rel ∷ is)) s r)
+          ≡ steps code (fetch 0 b ++ LeaveUnless rel ∷ js) (line code n (fetch 0 b ++ LeaveUnless rel ∷ is) s (record r { held = slice_index r.words 0 }))
       hold r = after_nothing (steps code (fetch 0 b ++ LeaveUnless rel ∷ js) (line code n (fetch 0 b ++ LeaveUnless rel ∷ is) s (record r { held = slice_index r.words 0 })))
 
-      by : (a : Tested) → steps code (test_before rel a b js) (line code n (spread_test rel a b is) s r) ≡ steps code (LeaveUnless rel ∷ js) (line code n (LeaveUnless rel ∷ is) s (tested s r a b))
+      by : (a : Tested) → steps code (test_before rel a b js) (line code n (spread_test rel a b is) s r) ≡ steps code (LeaveUnless rel ∷ js)
+          (line code n (LeaveUnless rel ∷ is) s (tested s r a b))
       by HeldBefore = right r
       by (HeldNow a) =
           ap (λ l. steps code l (line code n (spread_test rel (HeldNow a) b is) s r)) (append_assoc (fetch 0 a) (Hold ∷ []) (fetch 0 b ++ LeaveUnless rel ∷ js))
@@ -104,7 +108,8 @@ module _ (code : SlotCode) (n : ℕ) (rel : Rel) (a : Tested) (b : Operand) (is 
 
     -- what the whole test does
     pub test_goes : (t : Bool) → holds rel (tested_word s r a) (fetched s r 0 b) ≡ t → steps code (expand (Test rel a b)) (line code n (spread_test rel a b is) s r) ≡ branched t
-    test_goes t e = so_far [] ∙ ap (λ t. next code n [] (settled n is (tested s r a b) (if t then Goes (Stays s (tested s r a b)) [] else leaving (fall (numbers code) n s)))) (decided t e) ∙ decides t
+    test_goes t e = so_far [] ∙ ap (λ t. next code n [] (settled n is (tested s r a b) (if t then Goes (Stays s (tested s r a b)) [] else leaving
+        (fall (numbers code) n s)))) (decided t e) ∙ decides t
 
 -- ---- what is read
 not_both : (t : Bool) → t ≡ true → not t ≡ true → ⊥
@@ -116,17 +121,22 @@ tested_length s r HeldBefore b = fetched_length s r 0 b
 tested_length s r (HeldNow a) b = fetched_length s (with_held s r (HeldNow a)) 0 b ∙ fetched_length s r 0 a
 
 -- behind a test all that is read stands
-pub tested_read : (rel : Rel) (a : Tested) (b : Operand) (is : List Instr) (s : State) (r : Slots) (m : ℕ → ℕ) → test_words_dead a b (live is) ≡ true → HoldsLive (live (spread_test rel a b is)) r m → HoldsLive (live is) (tested s r a b) m
+pub tested_read : (rel : Rel) (a : Tested) (b : Operand) (is : List Instr) (s : State) (r : Slots) (m : ℕ → ℕ) → test_words_dead a b (live is) ≡ true
+    → HoldsLive (live (spread_test rel a b is)) r m → HoldsLive (live is) (tested s r a b) m
 tested_read rel HeldBefore InSlot is s r m f h = record { words = λ k lt. h.words k (omega (arith, lt)); held = λ q. h.held refl; all_words = h.all_words }
-tested_read rel HeldBefore (Constant w) is s r m f h = record { words = λ k lt. absurd (omega (arith, lt, leb-true _ _ f)); held = λ q. h.held refl; all_words = tested_length s r HeldBefore (Constant w) ∙ h.all_words }
-tested_read rel HeldBefore (Variable x) is s r m f h = record { words = λ k lt. absurd (omega (arith, lt, leb-true _ _ f)); held = λ q. h.held refl; all_words = tested_length s r HeldBefore (Variable x) ∙ h.all_words }
+tested_read rel HeldBefore (Constant w) is s r m f h = record { words = λ k lt. absurd (omega (arith, lt, leb-true _ _ f)); held = λ q. h.held refl;
+    all_words = tested_length s r HeldBefore (Constant w) ∙ h.all_words }
+tested_read rel HeldBefore (Variable x) is s r m f h = record { words = λ k lt. absurd (omega (arith, lt, leb-true _ _ f)); held = λ q. h.held refl;
+    all_words = tested_length s r HeldBefore (Variable x) ∙ h.all_words }
 tested_read rel (HeldNow a) InSlot is s r m f h = absurd (let no : ⊥ = cc in no)
 tested_read rel (HeldNow a) (Constant w) is s r m f h =
     let p = and_parts (nat_le (live is).slots 0) (not (live is).held) f in
-    record { words = λ k lt. absurd (omega (arith, lt, leb-true _ _ p.0)); held = λ q. absurd (let no : ⊥ = not_both (live is).held q p.1 in no); all_words = tested_length s r (HeldNow a) (Constant w) ∙ h.all_words }
+    record { words = λ k lt. absurd (omega (arith, lt, leb-true _ _ p.0)); held = λ q. absurd (let no : ⊥ = not_both (live is).held q p.1 in no);
+        all_words = tested_length s r (HeldNow a) (Constant w) ∙ h.all_words }
 tested_read rel (HeldNow a) (Variable x) is s r m f h =
     let p = and_parts (nat_le (live is).slots 0) (not (live is).held) f in
-    record { words = λ k lt. absurd (omega (arith, lt, leb-true _ _ p.0)); held = λ q. absurd (let no : ⊥ = not_both (live is).held q p.1 in no); all_words = tested_length s r (HeldNow a) (Variable x) ∙ h.all_words }
+    record { words = λ k lt. absurd (omega (arith, lt, leb-true _ _ p.0)); held = λ q. absurd (let no : ⊥ = not_both (live is).held q p.1 in no);
+        all_words = tested_length s r (HeldNow a) (Variable x) ∙ h.all_words }
 
 -- past a test that leaves the line nothing is read
 pub left_read : (s : State) (r : Slots) (a : Tested) (b : Operand) (m : ℕ → ℕ) → length r.words ≡ 16 → HoldsLive nothing_live (tested s r a b) m
@@ -147,13 +157,15 @@ test_fits rel (HeldNow a) b js h =
     let p = range_fetch 0 a (Hold ∷ (fetch 0 b ++ LeaveUnless rel ∷ js)) (subst (AreInRange 256) (append_assoc (fetch 0 a) (Hold ∷ []) (fetch 0 b ++ LeaveUnless rel ∷ js)) h) in
     record { left = p.0; right = (range_fetch 0 b (LeaveUnless rel ∷ js) p.1.1).0 }
 
-pub left_held : (ly : Layout) (rel : Rel) (a : Tested) (b : Operand) (is : List Instr) (s : State) (r : Slots) (m : ℕ → ℕ) → HoldsState ly s m → HoldsLive (live (spread_test rel a b is)) r m → TestedFits a → SourceHolds m (tested_source a) (tested_word s r a)
+pub left_held : (ly : Layout) (rel : Rel) (a : Tested) (b : Operand) (is : List Instr) (s : State) (r : Slots) (m : ℕ → ℕ) → HoldsState ly s m
+    → HoldsLive (live (spread_test rel a b is)) r m → TestedFits a → SourceHolds m (tested_source a) (tested_word s r a)
 left_held ly rel HeldBefore b is s r m hs hr fit = let v = hr.held (fetch_held 0 b (LeaveUnless rel ∷ is)) in record { low_byte = v.low; high_byte = v.high; small = v.small }
 left_held ly rel (HeldNow (Constant w)) b is s r m hs hr fit = operand_held ly s _ r m 0 (Constant w) hs hr tt tt
 left_held ly rel (HeldNow (Variable x)) b is s r m hs hr fit = operand_held ly s _ r m 0 (Variable x) hs hr fit tt
 left_held ly rel (HeldNow InSlot) b is s r m hs hr fit = operand_held ly s _ r m 0 InSlot hs hr tt (omega arith)
 
-pub right_held : (ly : Layout) (rel : Rel) (a : Tested) (b : Operand) (is : List Instr) (s : State) (r : Slots) (m : ℕ → ℕ) → test_words_dead a b (live is) ≡ true → HoldsState ly s m → HoldsLive (live (spread_test rel a b is)) r m → OperandFits b → SourceHolds m (source_of 0 b) (fetched s r 0 b)
+pub right_held : (ly : Layout) (rel : Rel) (a : Tested) (b : Operand) (is : List Instr) (s : State) (r : Slots) (m : ℕ → ℕ)
+    → test_words_dead a b (live is) ≡ true → HoldsState ly s m → HoldsLive (live (spread_test rel a b is)) r m → OperandFits b → SourceHolds m (source_of 0 b) (fetched s r 0 b)
 right_held ly rel HeldBefore InSlot is s r m f hs hr fit = operand_held ly s _ r m 0 InSlot hs hr tt (omega arith)
 right_held ly rel (HeldNow a) InSlot is s r m f hs hr fit = absurd (let no : ⊥ = cc in no)
 right_held ly rel a (Constant w) is s r m f hs hr fit = operand_held ly s _ r m 0 (Constant w) hs hr tt tt

@@ -1,5 +1,6 @@
 -- A test for equality, whose branches go to the next line or on.
-use Rattle.std.proofs.Common.{◌≡◌, ℕ, ◌+◌, ◌-◌, ◌/◌, ◌%◌, ◌≤◌, ◌<◌, Bool, true, false, cond, List, [], ◌∷◌, length, refl, sym, ap, ◌∙◌, subst, arith, leb, eqb, ⊎_elim}
+use Rattle.std.proofs.Common.{◌≡◌, ℕ, ◌+◌, ◌-◌, ◌/◌, ◌%◌, ◌≤◌, ◌<◌, Bool, true, false, cond, List, [], ◌∷◌, length}
+use Rattle.std.proofs.Common.{refl, sym, ap, ◌∙◌, subst, arith, leb, eqb, ⊎_elim}
 use Rattle.std.specs.Prelude.{nat_eq, nat_le}
 use Rattle.std.proofs.lemmas.Bool.{eqb-true, eq-eqb, ne_eqb, cases_eq}
 use Rattle.tb_reaching.proofs.Comes.{looser}
@@ -23,20 +24,26 @@ same_byte l r ls rs = ⊎_elim (λ e. eq-eqb _ _ (omega (arith, e)) ∙ sym (eq-
 
 module _ (f : Setup) (room : ℕ) (fits : Fits f room) (at : ℕ) (bs : List ℕ) (m : ℕ → ℕ) (text answers : List ℕ) (small : leb (length bs) room ≡ true) where
   -- two bytes compared
-  pub weighs : (a b : Byte) → at + size (weighed a b) ≤ highest_code → IsRead a → IsRead b → Stands f.code at (weighed a b) → Moves f (Here at bs m text answers) (Compared (at + size (weighed a b)) (eqb ((value m a + 256 - value m b) % 256) 0) (nat_le (value m b) (value m a)) bs m text answers) [] 2
+  pub weighs : (a b : Byte) → at + size (weighed a b) ≤ highest_code → IsRead a → IsRead b → Stands f.code at (weighed a b)
+      → Moves f (Here at bs m text answers) (Compared (at + size (weighed a b)) (eqb ((value m a + 256 - value m b) % 256) 0)
+      (nat_le (value m b) (value m a)) bs m text answers) [] 2
   weighs a b r da db st =
       let p1 = at + len (lda a) in
       let s1 = behind f.code at (lda a) (cmp b ∷ []) (omega (arith, r)) st in
       moves_then f _ _ _ [] [] 1 1 (loads_byte f room fits at bs m text answers small a da (omega (arith, r)) st.0)
       (moves_looser f _ _ _ [] 1 1 (omega arith)
-      (λ w h. record { here = record { pc = h.here.pc ∙ (let q : p1 + len (cmp b) ≡ at + size (weighed a b) = omega arith in q); stack = h.here.stack; binary = h.here.binary; mem = h.here.mem; text = h.here.text; answers = h.here.answers }; zero = h.zero; carry = h.carry })
+      (λ w h. record { here = record { pc = h.here.pc ∙ (let q : p1 + len (cmp b) ≡ at + size (weighed a b) = omega arith in q); stack = h.here.stack;
+          binary = h.here.binary; mem = h.here.mem; text = h.here.text; answers = h.here.answers }; zero = h.zero; carry = h.carry })
       (compares_byte f room fits p1 bs m text answers small b (value m a) db (omega (arith, r)) s1.0))
 
   -- whether they are equal is in Z
-  tells : (a b : Byte) → at + size (weighed a b) ≤ highest_code → IsRead a → IsRead b → value m a < 256 → value m b < 256 → Stands f.code at (weighed a b) → Moves f (Here at bs m text answers) (Flagged (at + size (weighed a b)) bs m text answers (eqb (value m a) (value m b))) [] 2
+  tells : (a b : Byte) → at + size (weighed a b) ≤ highest_code → IsRead a → IsRead b → value m a < 256 → value m b < 256
+      → Stands f.code at (weighed a b) → Moves f (Here at bs m text answers) (Flagged (at + size (weighed a b)) bs m text answers (eqb (value m a) (value m b))) [] 2
   tells a b r da db sa sb st = moves_looser f _ _ _ [] 2 2 (omega arith) (λ w h. record { here = h.here; zero = h.zero ∙ same_byte _ _ sa sb }) (weighs a b r da db st)
 
-module _ (f : Setup) (room : ℕ) (fits : Fits f room) (at : ℕ) (bs : List ℕ) (m : ℕ → ℕ) (text answers : List ℕ) (small : leb (length bs) room ≡ true) (a b : Source) (x y : ℕ) (ga : Grounded a 0) (gb : Grounded b 0) (ha : SourceHolds m a x) (hb : SourceHolds m b y) (differ : Bool) (first second : Way) (next : ℕ) (lies : Lies f.code at (equality_code differ first second at a b next)) (reach : EqualityReaches differ first second at a b next) where
+module _ (f : Setup) (room : ℕ) (fits : Fits f room) (at : ℕ) (bs : List ℕ) (m : ℕ → ℕ) (text answers : List ℕ) (small : leb (length bs) room ≡ true)
+    (a b : Source) (x y : ℕ) (ga : Grounded a 0) (gb : Grounded b 0) (ha : SourceHolds m a x) (hb : SourceHolds m b y) (differ : Bool)
+    (first second : Way) (next : ℕ) (lies : Lies f.code at (equality_code differ first second at a b next)) (reach : EqualityReaches differ first second at a b next) where
   abbrev low_same : Bool
   low_same = eqb (value m (low a)) (value m (low b))
 
@@ -74,14 +81,17 @@ module _ (f : Setup) (room : ℕ) (fits : Fits f room) (at : ℕ) (bs : List ℕ
   begins = tells f room fits at bs m text answers small (low a) (low b) lies.0 (low_read a 0 ga) (low_read b 0 gb) (omega (arith, ha.low_byte)) (omega (arith, hb.low_byte)) lies.1
 
   goes_on : Moves f (Here (p1 + way_size first) bs m text answers) (Flagged p2 bs m text answers high_same) [] 2
-  goes_on = tells f room fits (p1 + way_size first) bs m text answers small (high a) (high b) lies_second.1.0 (high_read a 0 ga) (high_read b 0 gb) (omega (arith, ha.high_byte, ha.small)) (omega (arith, hb.high_byte, hb.small)) lies_second.1.1
+  goes_on = tells f room fits (p1 + way_size first) bs m text answers small (high a) (high b) lies_second.1.0 (high_read a 0 ga) (high_read b 0 gb)
+      (omega (arith, ha.high_byte, ha.small)) (omega (arith, hb.high_byte, hb.small)) lies_second.1.1
 
-  parts : (same : Bool) → low_same ≡ same → Moves f (Flagged p1 bs m text answers low_same) (Here (cond same (p1 + way_size first) (first_to differ first second at a b next)) bs m text answers) [] 2
+  parts : (same : Bool) → low_same ≡ same → Moves f (Flagged p1 bs m text answers low_same)
+      (Here (cond same (p1 + way_size first) (first_to differ first second at a b next)) bs m text answers) [] 2
   parts same e w h = by same e
     where
       by : (same : Bool) → low_same ≡ same → Comes f w (Here (cond same (p1 + way_size first) (first_to differ first second at a b next)) bs m text answers) [] 2
       by true e = looser f w _ _ [] 2 2 (omega arith) (λ u g. g.here) (branches f room fits bs m text answers small p1 first Zero false true _ lies_second.0 reach.0 lies.2.1 w h.here (h.zero ∙ e))
-      by false e = looser f w _ _ [] 2 2 (omega arith) (λ u g. g.here) (branches f room fits bs m text answers small p1 first Zero false false _ lies_second.0 reach.0 lies.2.1 w h.here (h.zero ∙ e))
+      by false e = looser f w _ _ [] 2 2 (omega arith) (λ u g. g.here) (branches f room fits bs m text answers small p1 first Zero false false _
+          lies_second.0 reach.0 lies.2.1 w h.here (h.zero ∙ e))
 
   ends : Moves f (Flagged p2 bs m text answers high_same) (Here (to high_same) bs m text answers) [] 2
   ends w h =

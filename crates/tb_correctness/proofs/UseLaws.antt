@@ -18,7 +18,8 @@ use Rattle.tb_correctness.proofs.Sending.{number_law}
 use Rattle.tb_correctness.proofs.SlotSide.{fetched, line, with_fetched}
 use Rattle.tb_correctness.proofs.Surroundings.{Serves, Surroundings}
 
-module _ (around : Surroundings) (fits : Fits around.f 16) (limit : ℕ) (rs : Serves around limit) (code : SlotCode) (laid : GroupsLaid around.ly around.f.code around.f.whole code) (n : ℕ) (a : Operand) (is : List Instr) (s : State) (r : Slots) (w : View) where
+module _ (around : Surroundings) (fits : Fits around.f 16) (limit : ℕ) (rs : Serves around limit) (code : SlotCode)
+    (laid : GroupsLaid around.ly around.f.code around.f.whole code) (n : ℕ) (a : Operand) (is : List Instr) (s : State) (r : Slots) (w : View) where
   open around use {ly, f}
 
   abbrev most : ℕ
@@ -34,11 +35,14 @@ module _ (around : Surroundings) (fits : Fits around.f 16) (limit : ℕ) (rs : S
   abbrev slots : Slots
   slots = with_fetched s r 0 a
 
-  by_line : Begins AsLine → (t : Bool) → has_line ly.numbers x ≡ t → Leads around fits limit rs code laid w (settled n is slots (leaving (if t then Goes (record s { place = At x }) [] else fault 1 n)))
+  by_line : Begins AsLine → (t : Bool) → has_line ly.numbers x ≡ t → Leads around fits limit rs code laid w
+      (settled n is slots (leaving (if t then Goes (record s { place = At x }) [] else fault 1 n)))
   by_line h true e = looser f w _ _ [] (19 + limit) most (omega arith) (λ u x. x) (jump_found around fits limit rs code laid n is s r w a h e)
   by_line h false e = looser f w _ _ (fault_text 1 n) (19 + limit) most (omega arith) (λ u x. x) (jump_fails around fits limit rs code laid n is s r w a h e)
 
-  by_room : Begins AsSubroutine → (t u : Bool) → has_line ly.numbers x ≡ t → nat_lt (length s.returns) deepest ≡ u → Leads around fits limit rs code laid w (settled n is slots (leaving (if t then (if u then Goes (record s { place = At x; returns = next_after ly.numbers n ∷ s.returns }) [] else fault 4 n) else fault 1 n)))
+  by_room : Begins AsSubroutine → (t u : Bool) → has_line ly.numbers x ≡ t → nat_lt (length s.returns) deepest ≡ u
+      → Leads around fits limit rs code laid w
+      (settled n is slots (leaving (if t then (if u then Goes (record s { place = At x; returns = next_after ly.numbers n ∷ s.returns }) [] else fault 4 n) else fault 1 n)))
   by_room h false u e e' = looser f w _ _ (fault_text 1 n) (19 + limit) most (omega arith) (λ u x. x) (call_fails around fits limit rs code laid n is s r w a h e)
   by_room h true false e e' = call_full around fits limit rs code laid n is s r w a h e e'
   by_room h true true e e' = call_found around fits limit rs code laid n is s r w a h e e'

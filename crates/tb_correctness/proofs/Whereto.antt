@@ -24,14 +24,17 @@ tested_apart (HeldNow a) fit = operand_apart 0 a 0 (omega arith) (omega arith) f
 module _ (around : Surroundings) (code : SlotCode) (same_numbers : numbers code ≡ around.ly.numbers) (n : ℕ) (s : State) (r : Slots) where
   open around use {ly, f, lo, hi, keys}
 
-  pub left_at : (m : ℕ → ℕ) (t answers : List ℕ) → HoldsState ly s m → HoldsLive nothing_live r m → Entered f lo hi m → t ≡ s.text → answers ≡ s.answers → Typable keys s.text s.answers → (w : View) → Here (next_at ly n) (lo ∷ hi ∷ []) m t answers w → Matches around (record { state = record s { place = next_after (numbers code) n }; rest = Whole; slots = r }) w
+  pub left_at : (m : ℕ → ℕ) (t answers : List ℕ) → HoldsState ly s m → HoldsLive nothing_live r m → Entered f lo hi m → t ≡ s.text
+      → answers ≡ s.answers → Typable keys s.text s.answers → (w : View) → Here (next_at ly n) (lo ∷ hi ∷ []) m t answers w
+      → Matches around (record { state = record s { place = next_after (numbers code) n }; rest = Whole; slots = r }) w
   left_at m t answers hs hr en text got short w e = record {
     pc = e.pc ∙ ap (λ ns. place_at ly (next_after ns n)) (sym same_numbers);
     stack = e.stack;
     binary = e.binary;
     text = e.text ∙ text;
     answers = e.answers ∙ got;
-    state = subst (HoldsState ly (record s { place = next_after (numbers code) n })) (sym e.mem) (record { vars = hs.vars; column = hs.column; opened = hs.opened; seeded = hs.seeded; count = hs.count; notes = hs.notes; few = hs.few; all_vars = hs.all_vars });
+    state = subst (HoldsState ly (record s { place = next_after (numbers code) n })) (sym e.mem) (record { vars = hs.vars; column = hs.column;
+        opened = hs.opened; seeded = hs.seeded; count = hs.count; notes = hs.notes; few = hs.few; all_vars = hs.all_vars });
     read = subst (HoldsLive nothing_live r) (sym e.mem) hr;
     homed = subst (Entered f lo hi) (sym e.mem) en;
     short = short;

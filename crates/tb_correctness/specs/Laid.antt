@@ -37,7 +37,8 @@ pub record LineLies (labels : List (Name × ℕ)) (code : Part) (ns : List ℕ) 
   pub lies : Lies code labels (place_of labels (target.Line n)) (items_from (place_of labels (target.Line n)) forms)
   pub near : some_branch_far labels (place_of labels (target.Line n)) (items_from (place_of labels (target.Line n)) forms) ≡ false
   pub next : ends_away is ≡ false → place_of labels (target.Line n) + size (items_from (place_of labels (target.Line n)) forms) ≡ place_of labels (next_line ns n)
-  pub clear : (m : ℕ) → has_line ns m ≡ true → (place_of labels (target.Line m) ≤ place_of labels (target.Line n)) ⊎ (place_of labels (target.Line n) + size (items_from (place_of labels (target.Line n)) forms) ≤ place_of labels (target.Line m))
+  pub clear : (m : ℕ) → has_line ns m ≡ true → (place_of labels (target.Line m) ≤ place_of labels (target.Line n)) ⊎ (place_of labels (target.Line n)
+      + size (items_from (place_of labels (target.Line n)) forms) ≤ place_of labels (target.Line m))
   pub ranged : AreInRange 256 is
   pub small : n < 65536
   pub after_block : LINES_AT ≤ place_of labels (target.Line n)

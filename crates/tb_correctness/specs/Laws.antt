@@ -23,8 +23,10 @@ pub record IsImage (place : ℕ) (bytes : List ℕ) (labels : List (Name × ℕ)
 
 -- every image of a program keeps the program
 abbrev pub KeepingLaw : Type 0
-KeepingLaw = (place : ℕ) (bytes : List ℕ) (labels : List (Name × ℕ)) (seed : ℕ) (program : Program) (code : SlotCode) → IsImage place bytes labels seed program code → Keeps place bytes program seed
+KeepingLaw = (place : ℕ) (bytes : List ℕ) (labels : List (Name × ℕ)) (seed : ℕ) (program : Program) (code : SlotCode)
+    → IsImage place bytes labels seed program code → Keeps place bytes program seed
 
 -- every image of a program marks the program's lines, each at the address that its label stands for
 abbrev pub MarkingLaw : Type 0
-MarkingLaw = (place : ℕ) (bytes : List ℕ) (labels : List (Name × ℕ)) (seed : ℕ) (program : Program) (code : SlotCode) → IsImage place bytes labels seed program code → MarksLines place bytes program seed (layout_of labels (numbers code) seed).start
+MarkingLaw = (place : ℕ) (bytes : List ℕ) (labels : List (Name × ℕ)) (seed : ℕ) (program : Program) (code : SlotCode)
+    → IsImage place bytes labels seed program code → MarksLines place bytes program seed (layout_of labels (numbers code) seed).start

@@ -4,7 +4,8 @@ use Rattle.std.specs.Prelude.{ℕ, ◌+◌, ◌/◌, ◌%◌, Bool, true, false,
 use Rattle.tb_opcodes.specs.Opcodes.{decoded}
 use Rattle.tb_opcodes.specs.declared.Mnemonic.{Mnemonic}
 use Rattle.tb_opcodes.specs.declared.Mode.{Mode}
-use Rattle.tb_opcodes.specs.declared.Mnemonic.TheVariants.{Adc, And, Asl, Bcc, Bcs, Beq, Bit, Bmi, Bne, Bpl, Brk, Bvc, Bvs, Cmp, Cpx, Cpy, Dec, Eor, Inc, Jmp, Jsr, Lda, Ldx, Ldy, Lsr, Ora, Pha, Php, Pla, Plp, Rol, Ror, Rti, Rts, Sbc, Sta, Stx, Sty}
+use Rattle.tb_opcodes.specs.declared.Mnemonic.TheVariants.{Adc, And, Asl, Bcc, Bcs, Beq, Bit, Bmi, Bne, Bpl, Brk, Bvc, Bvs, Cmp, Cpx, Cpy, Dec, Eor, Inc, Jmp}
+use Rattle.tb_opcodes.specs.declared.Mnemonic.TheVariants.{Jsr, Lda, Ldx, Ldy, Lsr, Ora, Pha, Php, Pla, Plp, Rol, Ror, Rti, Rts, Sbc, Sta, Stx, Sty}
 use Rattle.tb_opcodes.specs.declared.Mode.TheVariants.{Accumulator, Immediate, ZeroPage, ZeroPageX, ZeroPageY, IndirectX, IndirectY, Relative, Absolute, AbsoluteX, AbsoluteY, Indirect}
 use Rattle.tb_cpu.specs.declared.registers.Regs.{Regs}
 use Rattle.tb_cpu.specs.declared.registers.Flags.{Flags}

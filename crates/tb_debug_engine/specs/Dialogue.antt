@@ -78,7 +78,8 @@ Closes setting d had left =
 
 -- What the next line comes to: whether the dialogue goes on; the reader of commands and the writer before and after,
 -- with their counts of failures. The answer is written behind the prompt.
-abbrev pub Exchanges : Written → Setting → Debugger → Result Bool Outcome → Debugger → Option (List ℕ) → Option (List ℕ) → ℕ → ℕ → Option (List ℕ) → Option (List ℕ) → ℕ → ℕ → Type 0
+abbrev pub Exchanges : Written → Setting → Debugger → Result Bool Outcome → Debugger → Option (List ℕ) → Option (List ℕ) → ℕ → ℕ → Option (List ℕ)
+    → Option (List ℕ) → ℕ → ℕ → Type 0
 Exchanges w setting d (Ok true) e had left read read' old new wrote wrote' =
     (told : Answer) × Exchanged setting d told e had left × Appends old new (prompt setting.prompts ++ shown_of w told) × (read' ≡ read) × (wrote' ≡ wrote)
 Exchanges w setting d (Ok false) e had left read read' old new wrote wrote' =
@@ -115,7 +116,8 @@ abbrev pub most_lines : ℕ
 most_lines = 18446744073709551615
 
 -- how a dialogue ends behind so many lines
-abbrev pub Ends : Written → Setting → ℕ → Debugger → Outcome → Option (List ℕ) → Option (List ℕ) → ℕ → ℕ → Option (List ℕ) → Option (List ℕ) → ℕ → ℕ → Type 0
+abbrev pub Ends : Written → Setting → ℕ → Debugger → Outcome → Option (List ℕ) → Option (List ℕ) → ℕ → ℕ → Option (List ℕ) → Option (List ℕ) → ℕ
+    → ℕ → Type 0
 Ends w setting count d (Ended end) had left read read' old new wrote wrote' =
     (end ≡ Done)
     × (((e : Debugger) × Exchanges w setting d (Ok false) e had left read read' old new wrote wrote')
@@ -129,7 +131,8 @@ Ends w setting count d NoMemory had left read read' old new wrote wrote' =
 Ends w setting count d (Refused why) had left read read' old new wrote wrote' = ⊥
 
 -- a dialogue from a debugger on that ends so
-pub record Talks (w : Written) (setting : Setting) (d : Debugger) (outcome : Outcome) (had left : Option (List ℕ)) (read read' : ℕ) (old new : Option (List ℕ)) (wrote wrote' : ℕ) : Type 0 where
+pub record Talks (w : Written) (setting : Setting) (d : Debugger) (outcome : Outcome) (had left : Option (List ℕ)) (read read' : ℕ)
+    (old new : Option (List ℕ)) (wrote wrote' : ℕ) : Type 0 where
   pub lines : List (List ℕ)
   pub last : Debugger
   pub mid : Option (List ℕ)
@@ -208,13 +211,15 @@ FailsToOpen w d outcome had left read read' old new wrote wrote' =
     (e : Debugger) × Opens w d (Err outcome) e old new wrote wrote' × (left ≡ had) × (read' ≡ read)
 
 -- the first stop is told, and then lines are answered
-abbrev pub OpensAndTalks : Written → Setting → Debugger → Outcome → Option (List ℕ) → Option (List ℕ) → ℕ → ℕ → Option (List ℕ) → Option (List ℕ) → ℕ → ℕ → Type 0
+abbrev pub OpensAndTalks : Written → Setting → Debugger → Outcome → Option (List ℕ) → Option (List ℕ) → ℕ → ℕ → Option (List ℕ) → Option (List ℕ) → ℕ
+    → ℕ → Type 0
 OpensAndTalks w setting d outcome had left read read' old new wrote wrote' =
     (e : Debugger) × (told : Answer) × (now : Option (List ℕ)) × IsFirst d told e × Appends old now (shown_of w told)
     × Talks w setting e outcome had left read read' now new wrote wrote'
 
 -- what debugging a source comes to
-abbrev pub Debugs : Sources → List ℕ → List ℕ → Setting → Outcome → Option (List ℕ) → Option (List ℕ) → ℕ → ℕ → Option (List ℕ) → Option (List ℕ) → ℕ → ℕ → Type 0
+abbrev pub Debugs : Sources → List ℕ → List ℕ → Setting → Outcome → Option (List ℕ) → Option (List ℕ) → ℕ → ℕ → Option (List ℕ) → Option (List ℕ) → ℕ
+    → ℕ → Type 0
 Debugs s text answers setting outcome had left read read' old new wrote wrote' =
     DoesNothing s.program outcome had left read read' old new wrote wrote'
     ⊎ ((w : Written) × (d : Debugger) × AreReady s text answers setting.rom w d

@@ -1,5 +1,6 @@
 -- Following the chain of a file that was laid out.
-use Rattle.std.proofs.Common.{◌≡◌, ℕ, zero, suc, ◌==◌, ◌+◌, ◌-◌, ◌*◌, ◌<◌, ◌≤◌, List, [], ◌∷◌, ◌++◌, length, take, drop, map, Option, Some, None, sym, ap, ◌∙◌, arith, append_assoc, length-append, length-drop}
+use Rattle.std.proofs.Common.{◌≡◌, ℕ, zero, suc, ◌==◌, ◌+◌, ◌-◌, ◌*◌, ◌<◌, ◌≤◌, List, [], ◌∷◌, ◌++◌, length, take}
+use Rattle.std.proofs.Common.{drop, map, Option, Some, None, sym, ap, ◌∙◌, arith, append_assoc, length-append, length-drop}
 use Rattle.std.specs.Prelude.{replicate, flat_map, slice_index, option_map, if◌then◌else◌}
 use Rattle.std.specs.List.{range_with_len}
 use Rattle.std.proofs.lemmas.List.{take_at, drop_at, drop-drop, length-take-le, length-replicate, append-nil, take-append-drop}
@@ -19,7 +20,8 @@ chain_steps most blocks p b h e =
     ∙ ap (λ q. step most blocks q (blocks q)) (place_back p h)
     ∙ ap (step most blocks p) e
 
-pub chain_last : (most : ℕ) (blocks : ℕ → List ℕ) (p n : ℕ) (rest : List ℕ) → p < 683 → blocks p ≡ 0 ∷ n ∷ rest → chain (suc most) blocks (track_at p) (sector_at p) ≡ Some (p ∷ [])
+pub chain_last : (most : ℕ) (blocks : ℕ → List ℕ) (p n : ℕ) (rest : List ℕ) → p < 683 → blocks p ≡ 0 ∷ n ∷ rest → chain (suc most) blocks (track_at p)
+    (sector_at p) ≡ Some (p ∷ [])
 unfolding step
 chain_last most blocks p n rest h e = chain_steps most blocks p (0 ∷ n ∷ rest) h e
 

@@ -1,5 +1,6 @@
 -- The image is that of a disk with the files.
-use Rattle.std.proofs.Common.{◌≡◌, ℕ, suc, ◌+◌, ◌-◌, ◌*◌, ◌/◌, ◌≤◌, Bool, true, false, List, [], ◌∷◌, ◌++◌, length, take, drop, map, Some, refl, sym, ap, subst, ◌∙◌, arith, append_assoc, length-append, length-drop}
+use Rattle.std.proofs.Common.{◌≡◌, ℕ, suc, ◌+◌, ◌-◌, ◌*◌, ◌/◌, ◌≤◌, Bool, true, false, List, [], ◌∷◌, ◌++◌, length}
+use Rattle.std.proofs.Common.{take, drop, map, Some, refl, sym, ap, subst, ◌∙◌, arith, append_assoc, length-append, length-drop}
 use Rattle.std.specs.Prelude.{replicate, slice_index, option_map, option_and_then, sum_by, if◌then◌else◌}
 use Rattle.std.specs.List.{range_with_len}
 use Rattle.std.proofs.lemmas.List.{take_at, drop_at, length-take-le, length-replicate}
@@ -16,7 +17,8 @@ use Rattle.tb_disk.proofs.Catalog.{ReadsDirectory, directory_chain, entries_ther
 use Rattle.tb_disk.proofs.Mapping.{times, all_used, uses_are, bits_are, counts_are, bit_tells, free_map_length}
 
 title_length : (field : List ℕ) → length field ≡ 16 → length (title field) ≡ 112
-title_length field e = omega (arith, length-append field (0xa0 ∷ 0xa0 ∷ 84 ∷ 66 ∷ 0xa0 ∷ 50 ∷ 65 ∷ 0xa0 ∷ 0xa0 ∷ 0xa0 ∷ 0xa0 ∷ replicate 85 0), e, length-replicate {A = ℕ} 85 0)
+title_length field e = omega (arith, length-append field (0xa0 ∷ 0xa0 ∷ 84 ∷ 66 ∷ 0xa0 ∷ 50 ∷ 65 ∷ 0xa0 ∷ 0xa0 ∷ 0xa0 ∷ 0xa0 ∷ replicate 85 0), e,
+    length-replicate {A = ℕ} 85 0)
 
 head_length : (used d : ℕ) (field : List ℕ) → length field ≡ 16 → length (head_block used d field) ≡ 256
 unfolding head_block

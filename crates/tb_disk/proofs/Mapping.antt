@@ -1,5 +1,7 @@
 -- The map of free blocks is right.
-use Rattle.std.proofs.Common.{◌≡◌, ◌≢◌, ℕ, zero, suc, ◌==◌, ◌+◌, ◌-◌, ◌*◌, ◌/◌, ◌%◌, ◌^◌, ◌<◌, ◌≤◌, Bool, true, false, ◌&&◌, List, [], ◌∷◌, ◌++◌, length, map, get_or, refl, sym, ap, ◌∙◌, inl, inr, arith, length-append}
+use Rattle.std.proofs.Common.{◌≡◌, ◌≢◌, ℕ, zero, suc, ◌==◌, ◌+◌, ◌-◌, ◌*◌, ◌/◌, ◌%◌, ◌^◌, ◌<◌, ◌≤◌, Bool}
+use Rattle.std.proofs.Common.{true, false, ◌&&◌, List, [], ◌∷◌, ◌++◌, length, map, get_or, refl, sym, ap, ◌∙◌, inl, inr, arith}
+use Rattle.std.proofs.Common.{length-append}
 use Rattle.std.specs.Prelude.{flat_map, slice_index, sum_by, count_by, nat_le, nat_lt, if◌then◌else◌}
 use Rattle.std.specs.List.{range_with_len}
 use Rattle.std.proofs.lemmas.Bool.{eq-eqb, ne_eqb, cases_lt, cases_eq, lt-ltb, le-ltb, le-leb, lt-leb}
@@ -106,7 +108,8 @@ pub uses_are : (used d p : ℕ) → d ≤ 18 → times p (all_used used d) ≡ (
 uses_are used d p few = elim (cases_lt p 357) [
   | inl l ↦
       times_not p 357 (behind_head used d) (λ e. absurd (omega (arith, e, l))) ∙ parts used d p ∙ (λ i. directory_out d p (omega arith) i + files_below used p l i)
-      ∙ plus_zero (if nat_le used p then 0 else 1) ∙ ap (λ b. if (if b then nat_le used p else if nat_le p 375 then nat_lt (357 + d) p else nat_le (used + 19) p) then 0 else 1) (sym (lt-ltb p 357 l))
+      ∙ plus_zero (if nat_le used p then 0 else 1)
+          ∙ ap (λ b. if (if b then nat_le used p else if nat_le p 375 then nat_lt (357 + d) p else nat_le (used + 19) p) then 0 else 1) (sym (lt-ltb p 357 l))
   | inr g ↦ ap (λ n. n) (above g) ∙ ap (λ b. if (if b then nat_le used p else if nat_le p 375 then nat_lt (357 + d) p else nat_le (used + 19) p) then 0 else 1) (sym (le-ltb p 357 g))
 ]
   where

@@ -1,5 +1,6 @@
 -- What the image of a disk with files is.
-use Rattle.std.specs.Prelude.{ℕ, ◌≡◌, ◌<◌, ◌≤◌, ◌-◌, ◌+◌, ◌*◌, ◌/◌, ◌==◌, List, [], ◌∷◌, map, length, take, drop, slice_index, sum_by, count_by, Some, if◌then◌else◌}
+use Rattle.std.specs.Prelude.{ℕ, ◌≡◌, ◌<◌, ◌≤◌, ◌-◌, ◌+◌, ◌*◌, ◌/◌, ◌==◌, List, [], ◌∷◌, map, length, take, drop}
+use Rattle.std.specs.Prelude.{slice_index, sum_by, count_by, Some, if◌then◌else◌}
 use Rattle.std.specs.List.{range_with_len}
 use Rattle.tb_disk.specs.D64.{Walk, walk, block, head, sectors, in_use, map_bit, free_on, name_in, is_on_disk, place}
 use Rattle.tb_disk.specs.declared.names.Name.{Name}

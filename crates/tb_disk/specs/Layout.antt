@@ -1,6 +1,7 @@
 -- How the maker lays a disk out: the blocks of the files lie in the order of places, file after file, and leave out
 -- track 18.
-use Rattle.std.specs.Prelude.{ℕ, zero, suc, Bool, ◌==◌, ◌+◌, ◌-◌, ◌*◌, ◌/◌, ◌%◌, not, max, nat_le, nat_lt, List, [], ◌∷◌, ◌++◌, flat_map, length, take, drop, replicate, sum_by, if◌then◌else◌}
+use Rattle.std.specs.Prelude.{ℕ, zero, suc, Bool, ◌==◌, ◌+◌, ◌-◌, ◌*◌, ◌/◌, ◌%◌, not, max, nat_le, nat_lt, List, [], ◌∷◌}
+use Rattle.std.specs.Prelude.{◌++◌, flat_map, length, take, drop, replicate, sum_by, if◌then◌else◌}
 use Rattle.std.specs.List.{range_with_len, concat}
 use Rattle.tb_disk.specs.D64.{sectors_on, place}
 use Rattle.tb_disk.specs.Images.{blocks_of}

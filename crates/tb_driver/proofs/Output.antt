@@ -1,5 +1,6 @@
 -- Running the PRG file of a source shows the source's output.
-use Rattle.std.proofs.Common.{◌≡◌, ℕ, zero, suc, ◌+◌, ◌-◌, ◌<◌, ◌≤◌, Bool, true, false, List, [], ◌∷◌, ◌++◌, length, drop, Result, Ok, Err, refl, sym, ap, subst, ◌∙◌, inl, inr, ⊎_elim, arith, length-append}
+use Rattle.std.proofs.Common.{◌≡◌, ℕ, zero, suc, ◌+◌, ◌-◌, ◌<◌, ◌≤◌, Bool, true, false, List, [], ◌∷◌, ◌++◌, length, drop}
+use Rattle.std.proofs.Common.{Result, Ok, Err, refl, sym, ap, subst, ◌∙◌, inl, inr, ⊎_elim, arith, length-append}
 use Rattle.std.specs.Prelude.{◌&&◌, nat_le, nat_lt, replicate, slice_index, if◌then◌else◌}
 use Rattle.std.proofs.lemmas.Bool.Decides.{nat_tests}
 use Rattle.std.proofs.lemmas.List.{length-replicate}
@@ -140,7 +141,8 @@ in_ram n h k below = let a : BASIC_START + k < 0xa000 = omega arith in open_so (
     open_so : (a : ℕ) → BASIC_START ≤ a → a < 0xa000 → is_open a ≡ true
     open_so a from to = grind (arith, nat_tests)
 
-module _ {O : Type 0} (gives : O → Content → Event → O → Type 0) (o : O) (seed : ℕ) (source file text answers : List ℕ) (limit : ℕ) (kept : KeepsSource seed source file) (small : AreBytes file) (small_text : AreBytes text) (small_answers : AreBytes answers) where
+module _ {O : Type 0} (gives : O → Content → Event → O → Type 0) (o : O) (seed : ℕ) (source file text answers : List ℕ) (limit : ℕ)
+    (kept : KeepsSource seed source file) (small : AreBytes file) (small_text : AreBytes text) (small_answers : AreBytes answers) where
   abbrev bytes : List ℕ
   bytes = drop 2 file
 

@@ -38,7 +38,8 @@ module _ (text answers : List ℕ) (limit : ℕ) where
 
   -- what was made of a source's program and of commands that were read
   pub steps_made : (seed : ℕ) (had_commands left_commands : Option (List ℕ)) (source typed commands : List ℕ) (program : Compiled) (warnings : List Warning)
-      (made : Result Text NoText) → Reads had_commands typed → Consumes had_commands left_commands typed → commands ≡ typed → Compiles seed source (Ok program) → warnings ≡ warnings_of program
+      (made : Result Text NoText) → Reads had_commands typed → Consumes had_commands left_commands typed → commands ≡ typed
+          → Compiles seed source (Ok program) → warnings ≡ warnings_of program
       → Makes (Steps text answers limit program commands) made
       → Makes (MadeFromTaken had_commands left_commands (StepsThrough seed text answers limit warnings source)) made
   steps_made seed had_commands left_commands source typed commands program warnings made reads taken same compiled warned m =
@@ -47,7 +48,8 @@ module _ (text answers : List ℕ) (limit : ℕ) where
       (λ x h. (typed, reads, taken, h)) made (from_compiled seed (λ p. Steps text answers limit p typed) source program warnings made compiled warned here)
 
   -- what was made of a source that is refused
-  pub steps_refused : (seed : ℕ) (had_commands left_commands : Option (List ℕ)) (source typed : List ℕ) (e : CompileError) → Reads had_commands typed → Consumes had_commands left_commands typed → HasOutcome seed source (Err e)
+  pub steps_refused : (seed : ℕ) (had_commands left_commands : Option (List ℕ)) (source typed : List ℕ) (e : CompileError) → Reads had_commands typed
+      → Consumes had_commands left_commands typed → HasOutcome seed source (Err e)
       → ((outcome : FileOutcome) → LinesMake source outcome → OutcomeAnswer seed outcome (Err e))
       → Makes (MadeFromTaken had_commands left_commands (StepsThrough seed text answers limit [] source)) (Err (stop_of e))
   steps_refused seed had_commands left_commands source typed e reads taken found only =

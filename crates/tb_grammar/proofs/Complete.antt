@@ -1,5 +1,6 @@
 -- What is in the grammar is read.
-use Rattle.std.proofs.Common.{◌≡◌, ◌≢◌, ℕ, zero, suc, ◌+◌, ◌-◌, ◌*◌, ◌<◌, ◌≤◌, true, false, List, [], ◌∷◌, ◌++◌, inl, inr, length, Option, Some, None, refl, sym, ap, subst, ◌∙◌, arith, ◌==◌, length-append}
+use Rattle.std.proofs.Common.{◌≡◌, ◌≢◌, ℕ, zero, suc, ◌+◌, ◌-◌, ◌*◌, ◌<◌, ◌≤◌, true, false, List, [], ◌∷◌, ◌++◌}
+use Rattle.std.proofs.Common.{inl, inr, length, Option, Some, None, refl, sym, ap, subst, ◌∙◌, arith, ◌==◌, length-append}
 use Rattle.std.specs.Option.{option_or}
 use Rattle.std.proofs.lemmas.Bool.{eqb-true, cases_Bool, ne_eqb}
 use Rattle.std.proofs.lemmas.Bool.Decides.{nat_tests}
@@ -7,8 +8,10 @@ use Rattle.std.specs.Prelude.{All, codes}
 use Rattle.std.proofs.lemmas.List.Elements.{All-head, All-tail}
 use Rattle.tb_syntax.specs.declared.expressions.Operator.{Operator}
 use Rattle.tb_syntax.specs.Source.{Expression, Number, Variable, Binary, Random}
-use Rattle.tb_grammar.specs.Grammar.{IsDigit, IsLetter, value_after, word_of, large_at, Part, Whole, Term, Factor, operator, Reads, number, variable, random, parentheses, factor, product, term, plus, minus, sum}
-use Rattle.tb_grammar.specs.Reading.{◌>>=◌, Found, is_digit, is_letter, digits_at, literal_at, behind, behind_word, closed, negated, variable_at, group_by, starts_digit, factor_by, operator_at, more, term_by, signed_by, whole_by, whole_at, factor_at, term_at, front_of}
+use Rattle.tb_grammar.specs.Grammar.{IsDigit, IsLetter, value_after, word_of, large_at, Part, Whole, Term, Factor, operator, Reads, number, variable, random}
+use Rattle.tb_grammar.specs.Grammar.{parentheses, factor, product, term, plus, minus, sum}
+use Rattle.tb_grammar.specs.Reading.{◌>>=◌, Found, is_digit, is_letter, digits_at, literal_at, behind, behind_word, closed, negated, variable_at, group_by}
+use Rattle.tb_grammar.specs.Reading.{starts_digit, factor_by, operator_at, more, term_by, signed_by, whole_by, whole_at, factor_at, term_at, front_of}
 use Rattle.tb_grammar.proofs.Steps.{chosen}
 
 -- A part takes at least one byte.
@@ -75,7 +78,8 @@ digits_read n [] (b ∷ rest) h e = rw e refl
 digits_read n (d ∷ digits) rest h e = rw (is_digit_true d (All-head IsDigit d digits h)) (digits_read (10 * n + (d - 48)) digits rest (All-tail IsDigit d digits h) e)
 
 number_read : (whole : List ℕ → Option Found) (d : ℕ) (digits rest : List ℕ) → All IsDigit (d ∷ digits) → starts_digit rest ≡ false
-    → factor_by whole (d ∷ digits ++ rest) ≡ Some (record { tree = Number (word_of (value_after 0 (d ∷ digits))); large = large_at (value_after 0 (d ∷ digits)) (length (d ∷ digits ++ rest)); rest = rest })
+    → factor_by whole (d ∷ digits ++ rest) ≡ Some (record { tree = Number (word_of (value_after 0 (d ∷ digits)));
+        large = large_at (value_after 0 (d ∷ digits)) (length (d ∷ digits ++ rest)); rest = rest })
 unfolding factor_by literal_at
 number_read whole d digits rest h e =
     rw (is_digit_true d (All-head IsDigit d digits h), digits_read (10 * 0 + (d - 48)) digits rest (All-tail IsDigit d digits h) e) refl
@@ -96,7 +100,8 @@ variable_read whole v rest h ends =
     ]
 
 -- no sign begins a term
-unsigned : {part : Part} {text : List ℕ} {e : Expression} {large : Option ℕ} {rest : List ℕ} → Reads part text e large rest → part ≢ Whole → (behind 43 text ≡ None) × (behind 45 text ≡ None)
+unsigned : {part : Part} {text : List ℕ} {e : Expression} {large : Option ℕ} {rest : List ℕ} → Reads part text e large rest → part ≢ Whole
+    → (behind 43 text ≡ None) × (behind 45 text ≡ None)
 unsigned (number text d digits rest h ds) ne = let first = All-head IsDigit d digits ds in rw h (rw (ne_eqb d 43 (omega arith), ne_eqb d 45 (omega arith)) (refl, refl))
 unsigned (variable v rest h) ne = rw (ne_eqb v 43 (omega arith), ne_eqb v 45 (omega arith)) (refl, refl)
 unsigned (random text e large rest r) ne = (refl, refl)
@@ -123,7 +128,8 @@ Claim Whole n text f = Ends f.rest → operator_at Term f.rest ≡ None → (k :
 term_ends : (n : ℕ) (text : List ℕ) (f : Found) → Claim Term n text f → Ends f.rest → operator_at Term f.rest ≡ None → term_at n text ≡ Some f
 term_ends n text f claim ends none = let c = claim ends in c.2 ∙ more_ends Term (factor_at n) c.0 f none
 
-pub whole_ends : (n : ℕ) (text : List ℕ) (f : Found) → Claim Whole n text f → Ends f.rest → operator_at Term f.rest ≡ None → operator_at Whole f.rest ≡ None → whole_at (suc n) text ≡ Some f
+pub whole_ends : (n : ℕ) (text : List ℕ) (f : Found) → Claim Whole n text f → Ends f.rest → operator_at Term f.rest ≡ None → operator_at Whole f.rest
+    ≡ None → whole_at (suc n) text ≡ Some f
 unfolding whole_at
 whole_ends n text f claim ends none no_sign = let c = claim ends none in c.2 ∙ more_ends Whole (term_at n) c.0 f no_sign
 
@@ -158,7 +164,8 @@ term_first : (operand : List ℕ → Option Found) (text : List ℕ) (f : Found)
 unfolding term_by
 term_first operand text f e = rw e refl
 
-whole_first : (operand : List ℕ → Option Found) (text : List ℕ) (f : Found) → signed_by (term_by operand) text ≡ Some f → whole_by operand text ≡ more Whole (term_by operand) (length f.rest) f
+whole_first : (operand : List ℕ → Option Found) (text : List ℕ) (f : Found) → signed_by (term_by operand) text ≡ Some f → whole_by operand text
+    ≡ more Whole (term_by operand) (length f.rest) f
 unfolding whole_by
 whole_first operand text f e = rw e refl
 
@@ -177,7 +184,8 @@ complete (product text a b la lb sign op middle rest r h q) n le = λ ends.
     let c = complete r n le (operator_ends Term sign op middle h) in
     let j = one_more c.0 (length middle) c.1 in
     let d = complete q n (omega arith) ends in
-    (j.0, omega (arith, j.1, c.1), c.2 ∙ ap (λ (k : ℕ). more Term (factor_at n) k (record { tree = a; large = la; rest = sign ∷ middle })) j.1 ∙ goes_on Term (factor_at n) j.0 a b la lb sign op middle rest h d)
+    (j.0, omega (arith, j.1, c.1), c.2 ∙ ap (λ (k : ℕ). more Term (factor_at n) k (record { tree = a; large = la; rest = sign ∷ middle })) j.1
+        ∙ goes_on Term (factor_at n) j.0 a b la lb sign op middle rest h d)
 complete (term text e large rest r) n le = λ ends none.
     let u = unsigned r (λ h. cc) in
     let f : Found = record { tree = e; large = large; rest = rest } in
@@ -195,7 +203,8 @@ complete (sum text a b la lb sign op middle rest r h q) n le = λ ends none.
     let j = one_more c.0 (length middle) c.1 in
     let f : Found = record { tree = b; large = lb; rest = rest } in
     let d = term_ends n middle f (complete q n (omega arith)) ends none in
-    (j.0, omega (arith, j.1, c.1), c.2 ∙ ap (λ (k : ℕ). more Whole (term_at n) k (record { tree = a; large = la; rest = sign ∷ middle })) j.1 ∙ goes_on Whole (term_at n) j.0 a b la lb sign op middle rest h d)
+    (j.0, omega (arith, j.1, c.1), c.2 ∙ ap (λ (k : ℕ). more Whole (term_at n) k (record { tree = a; large = la; rest = sign ∷ middle })) j.1
+        ∙ goes_on Whole (term_at n) j.0 a b la lb sign op middle rest h d)
 
 -- what may follow an expression
 pub record Follows (rest : List ℕ) : Type 0 where
@@ -207,7 +216,8 @@ pub nothing_follows : Follows []
 nothing_follows = record { ends = record { no_digit = refl; no_random = refl }; no_term = refl; no_whole = refl }
 
 -- A text that begins with an expression is read as it, and no other.
-pub front_read : (text : List ℕ) (e : Expression) (large : Option ℕ) (rest : List ℕ) → Reads Whole text e large rest → Follows rest → front_of text ≡ Some (record { tree = e; large = large; rest = rest })
+pub front_read : (text : List ℕ) (e : Expression) (large : Option ℕ) (rest : List ℕ) → Reads Whole text e large rest → Follows rest → front_of text
+    ≡ Some (record { tree = e; large = large; rest = rest })
 unfolding front_of
 front_read text e large rest r f =
     let n : length text + 1 ≡ suc (length text) = omega arith in
@@ -218,7 +228,8 @@ abbrev pub NoOther : List ℕ → Type 0
 NoOther text = (behind 34 text ≡ None) × (behind 60 text ≡ None) × (behind 61 text ≡ None) × (behind 62 text ≡ None)
 
 pub no_other : {part : Part} {text : List ℕ} {e : Expression} {large : Option ℕ} {rest : List ℕ} → Reads part text e large rest → NoOther text
-no_other (number text d digits rest h ds) = let first = All-head IsDigit d digits ds in rw h (rw (ne_eqb d 34 (omega arith), ne_eqb d 60 (omega arith), ne_eqb d 61 (omega arith), ne_eqb d 62 (omega arith)) (refl, refl, refl, refl))
+no_other (number text d digits rest h ds) = let first = All-head IsDigit d digits ds in
+    rw h (rw (ne_eqb d 34 (omega arith), ne_eqb d 60 (omega arith), ne_eqb d 61 (omega arith), ne_eqb d 62 (omega arith)) (refl, refl, refl, refl))
 no_other (variable v rest h) = rw (ne_eqb v 34 (omega arith), ne_eqb v 60 (omega arith), ne_eqb v 61 (omega arith), ne_eqb v 62 (omega arith)) (refl, refl, refl, refl)
 no_other (random text e large rest r) = (refl, refl, refl, refl)
 no_other (parentheses text e large rest r) = (refl, refl, refl, refl)

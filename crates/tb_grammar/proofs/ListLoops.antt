@@ -1,5 +1,6 @@
 -- The loops that read a text, the items of PRINT and the variables of INPUT.
-use Rattle.std.proofs.Common.{◌≡◌, ℕ, zero, suc, ◌<◌, ◌≤◌, Bool, true, false, List, [], ◌∷◌, ◌++◌, length, Option, Some, None, refl, sym, ap, ◌∙◌, arith, append_assoc, map, inl, inr, ◌==◌}
+use Rattle.std.proofs.Common.{◌≡◌, ℕ, zero, suc, ◌<◌, ◌≤◌, Bool, true, false, List, [], ◌∷◌, ◌++◌, length, Option, Some, None, refl}
+use Rattle.std.proofs.Common.{sym, ap, ◌∙◌, arith, append_assoc, map, inl, inr, ◌==◌}
 use Rattle.std.specs.Option.{option_or}
 use Rattle.std.proofs.lemmas.Bool.{eqb-true}
 use Rattle.std.proofs.lemmas.List.{map-append}
@@ -45,7 +46,8 @@ printed_step : (k : ℕ) (ends : Bool) (items : List Item) (large : Option ℕ) 
 printed_step k ends items large rest i some is =
     ap (λ (o : Option Printed). o >>= λ p. Some (with_items items large p)) (items_step k ends rest i some is) ∙ go (others_by (items_at k false) i.rest)
   where
-    go : (o : Option Printed) → ((o >>= λ p. Some (with_items (i.item ∷ []) i.large p)) >>= λ p. Some (with_items items large p)) ≡ (o >>= λ p. Some (with_items (items ++ i.item ∷ []) (option_or large i.large) p))
+    go : (o : Option Printed) → ((o >>= λ p. Some (with_items (i.item ∷ []) i.large p)) >>= λ p. Some (with_items items large p))
+        ≡ (o >>= λ p. Some (with_items (items ++ i.item ∷ []) (option_or large i.large) p))
     go None = refl
     go (Some p) = rw (append_assoc items (i.item ∷ []) p.items, or_assoc large i.large p.large) refl
 
@@ -57,7 +59,8 @@ module _ (k : ℕ) (ends : Bool) (items : List Item) (large : Option ℕ) (rest 
   pub printed_shrinks : (b : ℕ) (others : List ℕ) → behind b i.rest ≡ Some others → length others < length rest
   printed_shrinks b others e = let s = item_shorter (item_is rest i is) in omega (arith, s, ap length (behind_is b i.rest others e))
 
-  pub printed_next : (b : ℕ) (others : List ℕ) (zone : List Item) (items' : List Item) (ends' : Bool) (large' : Option ℕ) (total : Option Printed) → behind b i.rest ≡ Some others → between b ≡ Some zone
+  pub printed_next : (b : ℕ) (others : List ℕ) (zone : List Item) (items' : List Item) (ends' : Bool) (large' : Option ℕ) (total : Option Printed)
+      → behind b i.rest ≡ Some others → between b ≡ Some zone
       → items' ≡ (items ++ i.item ∷ []) ++ zone → ends' ≡ false → large' ≡ option_or large i.large → printed_behind k ends items large rest ≡ total
       → (j : ℕ) × (length others ≤ j) × (printed_behind j ends' items' large' others ≡ total)
   printed_next b others zone items' ends' large' total e h ei ee el t = (
@@ -69,7 +72,8 @@ module _ (k : ℕ) (ends : Bool) (items : List Item) (large : Option ℕ) (rest 
         ∙ rw h (go (items_at fuel.0 false others))) ∙ t),
   )
     where
-      go : (o : Option Printed) → ((o >>= λ p. Some (with_items zone None p)) >>= λ p. Some (with_items (items ++ i.item ∷ []) (option_or large i.large) p)) ≡ (o >>= λ p. Some (with_items ((items ++ i.item ∷ []) ++ zone) (option_or large i.large) p))
+      go : (o : Option Printed) → ((o >>= λ p. Some (with_items zone None p)) >>= λ p. Some
+          (with_items (items ++ i.item ∷ []) (option_or large i.large) p)) ≡ (o >>= λ p. Some (with_items ((items ++ i.item ∷ []) ++ zone) (option_or large i.large) p))
       go None = refl
       go (Some p) = rw (append_assoc (items ++ i.item ∷ []) zone p.items) refl
 
@@ -88,7 +92,8 @@ module _ (k : ℕ) (letters rest : List ℕ) (v : ℕ) (others : List ℕ) (fits
   letter_step = ap (λ (k : ℕ). letters_behind k letters rest) one_letter.1 ∙ rw is refl
 
   pub letters_last : (letters' : List ℕ) (total : Option (List ℕ)) → others ≡ [] → letters' ≡ letters ++ v ∷ [] → letters_behind k letters rest ≡ total → total ≡ Some letters'
-  letters_last letters' total e el t = sym t ∙ letter_step ∙ ap (λ (t : List ℕ). letters_after (letters_at one_letter.0) v t >>= λ more. Some (letters ++ more)) e ∙ ap (λ (l : List ℕ). Some l) (sym el)
+  letters_last letters' total e el t = sym t ∙ letter_step ∙ ap (λ (t : List ℕ). letters_after (letters_at one_letter.0) v t >>= λ more. Some
+      (letters ++ more)) e ∙ ap (λ (l : List ℕ). Some l) (sym el)
 
   pub letters_next : (after letters' : List ℕ) (total : Option (List ℕ)) → behind 44 others ≡ Some after → letters' ≡ letters ++ v ∷ [] → letters_behind k letters rest ≡ total
       → (j : ℕ) × (length after ≤ j) × (letters_behind j letters' after ≡ total)

@@ -1,5 +1,6 @@
 -- The lists of PRINT and INPUT: what is read is in the grammar, and what is in the grammar is read.
-use Rattle.std.proofs.Common.{◌≡◌, ◌≢◌, ℕ, zero, suc, ◌-◌, ◌<◌, ◌≤◌, Bool, true, false, List, [], ◌∷◌, ◌++◌, inl, inr, length, Option, Some, None, refl, sym, ap, subst, ◌∙◌, arith, ◌==◌, length-append}
+use Rattle.std.proofs.Common.{◌≡◌, ◌≢◌, ℕ, zero, suc, ◌-◌, ◌<◌, ◌≤◌, Bool, true, false, List, [], ◌∷◌, ◌++◌, inl, inr}
+use Rattle.std.proofs.Common.{length, Option, Some, None, refl, sym, ap, subst, ◌∙◌, arith, ◌==◌, length-append}
 use Rattle.std.specs.Option.{option_or}
 use Rattle.std.specs.Prelude.{All}
 use Rattle.std.proofs.lemmas.Bool.{eqb-true, ne_eqb}
@@ -78,7 +79,8 @@ abbrev IsPrinted : Bool → List ℕ → Printed → Type 0
 IsPrinted ends text p = Prints ends text p.items p.ends_line p.large
 
 -- what follows an item, where others finds nothing else
-others_is : (others : List ℕ → Option Printed) → ((text : List ℕ) (p : Printed) → others text ≡ Some p → IsPrinted false text p) → (ends : Bool) (text : List ℕ) (i : FoundItem) → ReadsItem text i.item i.large i.rest
+others_is : (others : List ℕ → Option Printed) → ((text : List ℕ) (p : Printed) → others text ≡ Some p → IsPrinted false text p)
+    → (ends : Bool) (text : List ℕ) (i : FoundItem) → ReadsItem text i.item i.large i.rest
     → (rest : List ℕ) → i.rest ≡ rest → (p : Printed) → others_by others rest ≡ Some p → IsPrinted ends text (with_items (i.item ∷ []) i.large p)
 others_is others is ends text i r [] h p e =
     let made : Printed = record { items = []; ends_line = true; large = None } in
@@ -101,7 +103,8 @@ items_is (suc k) ends (b ∷ text) p e =
     subst (IsPrinted ends (b ∷ text)) (some_is (with_items (i.0.item ∷ []) i.0.large o.0) p o.2)
     (others_is (items_at k false) (items_is k false) ends (b ∷ text) i.0 (item_is (b ∷ text) i.0 i.1) i.0.rest refl o.0 o.1)
 
-item_read : {text : List ℕ} {item : Item} {large : Option ℕ} {rest : List ℕ} → ReadsItem text item large rest → Follows rest → item_at text ≡ Some (record { item = item; large = large; rest = rest })
+item_read : {text : List ℕ} {item : Item} {large : Option ℕ} {rest : List ℕ} → ReadsItem text item large rest → Follows rest → item_at text
+    ≡ Some (record { item = item; large = large; rest = rest })
 unfolding item_at
 item_read (value text e large rest r) f = rw ((no_other r).0, front_read text e large rest r f) refl
 item_read (quotation bytes rest h) f = rw (quotation_read bytes rest h) refl
@@ -141,7 +144,8 @@ letters_after_is others is v h (b ∷ rest) letters e =
     elim (chosen (b == 44) _ None (Some letters) e) [
       | inl c ↦
           let a = bind_some (others rest) (λ letters. Some ((v - 65) ∷ letters)) letters c.1 in
-          subst (λ (b : ℕ). Variables (v ∷ b ∷ rest) letters) (sym (eqb-true b 44 c.0)) (subst (Variables (v ∷ 44 ∷ rest)) (some_is ((v - 65) ∷ a.0) letters a.2) (more v rest a.0 h (is rest a.0 a.1)))
+          subst (λ (b : ℕ). Variables (v ∷ b ∷ rest) letters) (sym (eqb-true b 44 c.0))
+              (subst (Variables (v ∷ 44 ∷ rest)) (some_is ((v - 65) ∷ a.0) letters a.2) (more v rest a.0 h (is rest a.0 a.1)))
       | inr c ↦ let e' = c.1 in absurd cc
     ]
 

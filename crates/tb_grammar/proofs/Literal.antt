@@ -12,7 +12,8 @@ pub no_digit : (n : ℕ) (text : List ℕ) → starts_digit text ≡ false → d
 no_digit n [] e = refl
 no_digit n (b ∷ text) e = rw e refl
 
-pub is_literal : (text rest : List ℕ) (n word : ℕ) (large : Option ℕ) → digits_at n rest ≡ digits_at 0 text → starts_digit rest ≡ false → word ≡ word_of n → large ≡ large_at n (length text)
+pub is_literal : (text rest : List ℕ) (n word : ℕ) (large : Option ℕ) → digits_at n rest ≡ digits_at 0 text → starts_digit rest ≡ false
+    → word ≡ word_of n → large ≡ large_at n (length text)
     → (let f : Found = record { tree = Number word; large = large; rest = rest } in f) ≡ literal_at text
 unfolding literal_at
 is_literal text rest n word large same none w l =

@@ -13,7 +13,8 @@ module _ (part lower : Part) (operand : List ℕ → Option Found) (finds : Find
       let s = shorter (finds.by tail g e) in
       omega (arith, ap length a.1, ap (λ (h : Found). length h.rest) n)
 
-  pub goes_on : (k : ℕ) (total : Option Found) → length f.rest ≤ k → more part operand k f ≡ total → operator_at part f.rest ≡ Some (op, tail) → operand tail ≡ Some g → new ≡ joined op f g
+  pub goes_on : (k : ℕ) (total : Option Found) → length f.rest ≤ k → more part operand k f ≡ total → operator_at part f.rest ≡ Some (op, tail)
+      → operand tail ≡ Some g → new ≡ joined op f g
       → (j : ℕ) × (length new.rest ≤ j) × (more part operand j new ≡ total)
   goes_on zero total le h o e n = let s = shrinks o e n in absurd (omega arith)
   goes_on (suc k) total le h o e n =

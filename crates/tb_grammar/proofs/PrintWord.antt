@@ -21,11 +21,13 @@ abbrev rest_in : Option Found → List ℕ
 rest_in None = []
 rest_in (Some f) = f.rest
 
-int_value : (text : List ℕ) (e : Expression) (large : Option ℕ) (rest t : List ℕ) → front_of text ≡ Some (record { tree = e; large = large; rest = rest }) → text ≡ 73 ∷ 78 ∷ 84 ∷ t → rest ≡ 78 ∷ 84 ∷ t
+int_value : (text : List ℕ) (e : Expression) (large : Option ℕ) (rest t : List ℕ) → front_of text
+    ≡ Some (record { tree = e; large = large; rest = rest }) → text ≡ 73 ∷ 78 ∷ 84 ∷ t → rest ≡ 78 ∷ 84 ∷ t
 int_value text e large rest t r h = ap rest_in (sym r) ∙ ap (λ (x : List ℕ). rest_in (front_of x)) h ∙ ap rest_in (int_front t)
 
 -- behind an item that begins with INT stands N
-int_item : {text : List ℕ} {item : Item} {large : Option ℕ} {rest : List ℕ} → ReadsItem text item large rest → Follows rest → (t : List ℕ) → text ≡ 73 ∷ 78 ∷ 84 ∷ t → rest ≡ 78 ∷ 84 ∷ t
+int_item : {text : List ℕ} {item : Item} {large : Option ℕ} {rest : List ℕ} → ReadsItem text item large rest → Follows rest → (t : List ℕ)
+    → text ≡ 73 ∷ 78 ∷ 84 ∷ t → rest ≡ 78 ∷ 84 ∷ t
 int_item (value text e large rest r) f t h = int_value text e large rest t (front_read text e large rest r f) h
 int_item (quotation bytes rest h) f t e = absurd (omega (arith, ap first_byte e))
 
@@ -38,7 +40,8 @@ no_int (nothing ends) t h = omega (arith, ap first_byte h)
 no_int (last ends text item large i) t h = omega (arith, ap first_byte (int_item i nothing_follows t h))
 no_int (next ends text item la sign zone rest items ends_line lb i s p) t h = sign_no_n s (ap first_byte (int_item i (separator_follows rest s) t h))
 
-pub int_begins_no_items : {ends : Bool} {text : List ℕ} {items : List Item} {ends_line : Bool} {large : Option ℕ} → Prints ends text items ends_line large → behind_word (codes "INT") text ≡ None
+pub int_begins_no_items : {ends : Bool} {text : List ℕ} {items : List Item} {ends_line : Bool} {large : Option ℕ}
+    → Prints ends text items ends_line large → behind_word (codes "INT") text ≡ None
 int_begins_no_items {text = text} p = elim (some_or_none (behind_word (codes "INT") text)) [
   | inl e ↦ e
   | inr e ↦ absurd (no_int p e.0 (behind_word_is (codes "INT") text e.0 e.1))

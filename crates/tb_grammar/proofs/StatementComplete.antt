@@ -1,5 +1,6 @@
 -- A statement in the grammar is read.
-use Rattle.std.proofs.Common.{◌≡◌, ℕ, zero, suc, ◌+◌, ◌-◌, ◌≤◌, Bool, true, false, List, [], ◌∷◌, ◌++◌, inl, inr, length, Option, Some, None, refl, ◌∙◌, arith, ◌==◌}
+use Rattle.std.proofs.Common.{◌≡◌, ℕ, zero, suc, ◌+◌, ◌-◌, ◌≤◌, Bool, true, false, List, [], ◌∷◌, ◌++◌, inl, inr, length}
+use Rattle.std.proofs.Common.{Option, Some, None, refl, ◌∙◌, arith, ◌==◌}
 use Rattle.std.specs.Option.{option_or}
 use Rattle.std.specs.Prelude.{codes}
 use Rattle.std.proofs.lemmas.Bool.{cases_Bool, ne_eqb}
@@ -20,7 +21,8 @@ record Starts (text : List ℕ) : Type 0 where
   follows : Follows text
   no_then : behind_word (codes "THEN") text ≡ None
 
-word_starts : {text : List ℕ} → starts_digit text ≡ false → behind_word (codes "ND") text ≡ None → operator_at Term text ≡ None → operator_at Whole text ≡ None → behind_word (codes "THEN") text ≡ None → Starts text
+word_starts : {text : List ℕ} → starts_digit text ≡ false → behind_word (codes "ND") text ≡ None → operator_at Term text ≡ None
+    → operator_at Whole text ≡ None → behind_word (codes "THEN") text ≡ None → Starts text
 word_starts d r t w n = record { follows = record { ends = record { no_digit = d; no_random = r }; no_term = t; no_whole = w }; no_then = n }
 
 -- no word goes on with an = behind a letter
@@ -32,7 +34,8 @@ assign_no_then v text = elim (cases_Bool (v == 84)) [ inl h ↦ rw h refl | inr 
 
 statement_starts : {text : List ℕ} {s : Statement} {large : Option ℕ} → States text s large → Starts text
 statement_starts (assign v text e large h r) =
-    word_starts (letter_no_digit v h) (assign_no_random v text) (rw (ne_eqb v 42 (omega arith), ne_eqb v 47 (omega arith)) refl) (rw (ne_eqb v 43 (omega arith), ne_eqb v 45 (omega arith)) refl) (assign_no_then v text)
+    word_starts (letter_no_digit v h) (assign_no_random v text) (rw (ne_eqb v 42 (omega arith), ne_eqb v 47 (omega arith)) refl)
+        (rw (ne_eqb v 43 (omega arith), ne_eqb v 45 (omega arith)) refl) (assign_no_then v text)
 statement_starts (let_assign v text e large h r) = word_starts refl refl refl refl refl
 statement_starts (print text items ends_line large p) = word_starts refl refl refl refl refl
 statement_starts (short_print text items ends_line large p) = word_starts refl refl refl refl refl
@@ -56,11 +59,13 @@ then_read : {text body : List ℕ} → MayThen text body → behind_word (codes 
 then_read (bare text) e = rw e refl
 then_read (then text) e = refl
 
-made_read : (statement : Expression → Statement) (text : List ℕ) (e : Expression) (large : Option ℕ) → Reads Whole text e large [] → made statement text ≡ Some (record { statement = statement e; large = large })
+made_read : (statement : Expression → Statement) (text : List ℕ) (e : Expression) (large : Option ℕ) → Reads Whole text e large []
+    → made statement text ≡ Some (record { statement = statement e; large = large })
 unfolding made
 made_read statement text e large r = rw (expression_read text e large r) refl
 
-print_read : (text : List ℕ) (items : List Item) (ends_line : Bool) (large : Option ℕ) → Prints true text items ends_line large → print_at text ≡ Some (record { statement = Print items ends_line; large = large })
+print_read : (text : List ℕ) (items : List Item) (ends_line : Bool) (large : Option ℕ) → Prints true text items ends_line large → print_at text
+    ≡ Some (record { statement = Print items ends_line; large = large })
 unfolding print_at
 print_read text items ends_line large p = rw (items_read p (length text) (omega arith)) refl
 
@@ -68,7 +73,8 @@ input_read : (text letters : List ℕ) → Variables text letters → input_at t
 unfolding input_at
 input_read text letters v = rw (letters_read v (length text) (omega arith)) refl
 
-conditional_read : (reader : List ℕ → Option Told) (text : List ℕ) (a : Expression) (la : Option ℕ) (rest : List ℕ) (rel : Rel) (middle : List ℕ) (b : Expression) (lb : Option ℕ) (after body : List ℕ) (s : Statement) (ls : Option ℕ)
+conditional_read : (reader : List ℕ → Option Told) (text : List ℕ) (a : Expression) (la : Option ℕ) (rest : List ℕ) (rel : Rel) (middle : List ℕ)
+    (b : Expression) (lb : Option ℕ) (after body : List ℕ) (s : Statement) (ls : Option ℕ)
     → front_of text ≡ Some (record { tree = a; large = la; rest = rest }) → relation_at rest ≡ Some (rel, middle) → front_of middle ≡ Some (record { tree = b; large = lb; rest = after })
     → behind_then after ≡ body → reader body ≡ Some (record { statement = s; large = ls })
     → conditional_by reader text ≡ Some (record { statement = If a rel b s; large = option_or la (option_or lb ls) })
@@ -121,7 +127,8 @@ remark_first : (n : ℕ) (any : List ℕ) → statement_at (suc n) (codes "REM" 
 unfolding statement_at keyword_at behind_keyword target_at
 remark_first n any = refl
 
-complete_statement : {text : List ℕ} {s : Statement} {large : Option ℕ} → States text s large → (n : ℕ) → length text ≤ n → statement_at (suc n) text ≡ Some (record { statement = s; large = large })
+complete_statement : {text : List ℕ} {s : Statement} {large : Option ℕ} → States text s large → (n : ℕ) → length text ≤ n → statement_at (suc n) text
+    ≡ Some (record { statement = s; large = large })
 complete_statement (let_assign v text e large h r) n le = let_first n v text h ∙ made_read (Let (v - 65)) text e large r
 complete_statement (assign v text e large h r) n le = assign_first n v text h ∙ made_read (Let (v - 65)) text e large r
 complete_statement (print text items ends_line large p) n le = print_first n text ∙ print_read text items ends_line large p

@@ -9,7 +9,8 @@ use Rattle.tb_grammar.specs.declared.keywords.Keyword.TheVariants as keyword
 use Rattle.tb_grammar.specs.Grammar.{IsLetter, Whole, Reads}
 use Rattle.tb_grammar.specs.Reading.{◌>>=◌, when, behind, behind_word, letter_at, front_of, expression_in}
 use Rattle.tb_grammar.specs.Statements.{MayThen, bare, then, States, let_assign, assign, print, short_print, input, conditional, goto, gosub, return, end, remark}
-use Rattle.tb_grammar.specs.StatementReading.{Told, target_at, relation_at, made, alone, items_at, print_at, letters_at, input_at, behind_then, conditional_by, spelled, first_word, keywords, keyword_at, assigned_at, behind_keyword, statement_at}
+use Rattle.tb_grammar.specs.StatementReading.{Told, target_at, relation_at, made, alone, items_at, print_at, letters_at, input_at, behind_then, conditional_by}
+use Rattle.tb_grammar.specs.StatementReading.{spelled, first_word, keywords, keyword_at, assigned_at, behind_keyword, statement_at}
 use Rattle.tb_grammar.proofs.Steps.{some_is, bind_some, when_cases, behind_is, behind_word_is, letter_found}
 use Rattle.tb_grammar.proofs.Sound.{front_is}
 use Rattle.tb_grammar.proofs.ExpressionLaws.{expression_is}
@@ -45,7 +46,8 @@ unfolding print_at
 print_is text t e =
     let a = bind_some (items_at (length text) true text) (λ p. Some (record { statement = Print p.items p.ends_line; large = p.large })) t e in
     let p = items_is (length text) true text a.0 a.1 in
-    let same : (let t : Told = record { statement = Print a.0.items a.0.ends_line; large = a.0.large } in t) ≡ t = some_is (record { statement = Print a.0.items a.0.ends_line; large = a.0.large }) t a.2 in
+    let same : (let t : Told = record { statement = Print a.0.items a.0.ends_line; large = a.0.large } in t) ≡ t =
+        some_is (record { statement = Print a.0.items a.0.ends_line; large = a.0.large }) t a.2 in
     (subst (IsTold (codes "PRINT" ++ text)) same (print text a.0.items a.0.ends_line a.0.large p), subst (IsTold (codes "PR" ++ text)) same (short_print text a.0.items a.0.ends_line a.0.large p))
 
 input_is : (text : List ℕ) (t : Told) → input_at text ≡ Some t → IsTold (codes "INPUT" ++ text) t
@@ -68,9 +70,12 @@ record Tells (reader : List ℕ → Option Told) : Type 0 where
 conditional_is : (reader : List ℕ → Option Told) → Tells reader → (text : List ℕ) (t : Told) → conditional_by reader text ≡ Some t → IsTold (codes "IF" ++ text) t
 unfolding conditional_by
 conditional_is reader tells text t h =
-    let a = bind_some (front_of text) (λ a. relation_at a.rest >>= λ rel. front_of rel.1 >>= λ b. reader (behind_then b.rest) >>= λ s. Some (record { statement = If a.tree rel.0 b.tree s.statement; large = option_or a.large (option_or b.large s.large) })) t h in
-    let r = bind_some (relation_at a.0.rest) (λ rel. front_of rel.1 >>= λ b. reader (behind_then b.rest) >>= λ s. Some (record { statement = If a.0.tree rel.0 b.tree s.statement; large = option_or a.0.large (option_or b.large s.large) })) t a.2 in
-    let b = bind_some (front_of r.0.1) (λ b. reader (behind_then b.rest) >>= λ s. Some (record { statement = If a.0.tree r.0.0 b.tree s.statement; large = option_or a.0.large (option_or b.large s.large) })) t r.2 in
+    let a = bind_some (front_of text) (λ a. relation_at a.rest >>= λ rel. front_of rel.1 >>= λ b. reader (behind_then b.rest) >>= λ s. Some
+        (record { statement = If a.tree rel.0 b.tree s.statement; large = option_or a.large (option_or b.large s.large) })) t h in
+    let r = bind_some (relation_at a.0.rest) (λ rel. front_of rel.1 >>= λ b. reader (behind_then b.rest) >>= λ s. Some
+        (record { statement = If a.0.tree rel.0 b.tree s.statement; large = option_or a.0.large (option_or b.large s.large) })) t a.2 in
+    let b = bind_some (front_of r.0.1) (λ b. reader (behind_then b.rest) >>= λ s. Some (record { statement = If a.0.tree r.0.0 b.tree s.statement;
+        large = option_or a.0.large (option_or b.large s.large) })) t r.2 in
     let s = bind_some (reader (behind_then b.0.rest)) (λ s. Some (record { statement = If a.0.tree r.0.0 b.0.tree s.statement; large = option_or a.0.large (option_or b.0.large s.large) })) t b.2 in
     let made : Told = record { statement = If a.0.tree r.0.0 b.0.tree s.0.statement; large = option_or a.0.large (option_or b.0.large s.0.large) } in
     let same : made ≡ t = some_is made t s.2 in

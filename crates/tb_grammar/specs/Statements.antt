@@ -52,7 +52,8 @@ pub data States : List ℕ → Statement → Option ℕ → Type 0 where
   print : (text : List ℕ) (items : List Item) (ends_line : Bool) (large : Option ℕ) → Prints true text items ends_line large → States (codes "PRINT" ++ text) (Print items ends_line) large
   short_print : (text : List ℕ) (items : List Item) (ends_line : Bool) (large : Option ℕ) → Prints true text items ends_line large → States (codes "PR" ++ text) (Print items ends_line) large
   input : (text letters : List ℕ) → Variables text letters → States (codes "INPUT" ++ text) (Input letters) None
-  conditional : (text : List ℕ) (a : Expression) (la : Option ℕ) (rest : List ℕ) (rel : Rel) (middle : List ℕ) (b : Expression) (lb : Option ℕ) (after body : List ℕ) (s : Statement) (ls : Option ℕ)
+  conditional : (text : List ℕ) (a : Expression) (la : Option ℕ) (rest : List ℕ) (rel : Rel) (middle : List ℕ) (b : Expression) (lb : Option ℕ)
+      (after body : List ℕ) (s : Statement) (ls : Option ℕ)
       → Reads Whole text a la rest → Relates rest rel middle → Reads Whole middle b lb after → MayThen after body → States body s ls
       → States (codes "IF" ++ text) (If a rel b s) (option_or la (option_or lb ls))
   goto : (text : List ℕ) (e : Expression) (large : Option ℕ) → Reads Whole text e large [] → States (codes "GOTO" ++ text) (Goto e) large

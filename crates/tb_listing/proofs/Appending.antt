@@ -4,7 +4,8 @@ use Rattle.std.specs.List.{range_with_len}
 use Rattle.std.proofs.lemmas.List.{drop_more}
 
 -- one item more of those that are still to come
-pub more : {A : Type 0} (F : List A → List ℕ) (f : A → List ℕ) → ((x : A) (xs : List A) → F (x ∷ xs) ≡ f x ++ F xs) → (xs : List A) (i : ℕ) (d : A) (now new whole : List ℕ) → i < length xs
+pub more : {A : Type 0} (F : List A → List ℕ) (f : A → List ℕ) → ((x : A) (xs : List A) → F (x ∷ xs) ≡ f x ++ F xs)
+    → (xs : List A) (i : ℕ) (d : A) (now new whole : List ℕ) → i < length xs
     → now ++ F (drop i xs) ≡ whole → new ≡ now ++ f (get_or xs i d) → new ++ F (drop (i + 1) xs) ≡ whole
 more F f each xs i d now new whole l e a =
     let x = get_or xs i d in let rest = drop (i + 1) xs in

@@ -1,5 +1,6 @@
 -- What rows do to the comments of a text.
-use Rattle.std.proofs.Common.{◌≡◌, ℕ, Bool, true, false, List, [], ◌∷◌, ◌++◌, map, take, ap, sym, ◌∙◌, refl, arith, append_assoc, append-nil, subst, get_or, length, ◌<◌, ◌≤◌, ◌+◌, ◌-◌, drop, if◌then◌else◌, ◌&&◌, eqb, ◌==◌}
+use Rattle.std.proofs.Common.{◌≡◌, ℕ, Bool, true, false, List, [], ◌∷◌, ◌++◌, map, take, ap, sym, ◌∙◌, refl, arith, append_assoc}
+use Rattle.std.proofs.Common.{append-nil, subst, get_or, length, ◌<◌, ◌≤◌, ◌+◌, ◌-◌, drop, if◌then◌else◌, ◌&&◌, eqb, ◌==◌}
 use Rattle.std.proofs.lemmas.Bool.Decides.{nat_tests}
 use Rattle.std.specs.List.{filter}
 use Rattle.std.specs.Prelude.{Result, Ok, Err, OnOk}
@@ -41,7 +42,8 @@ row_kept text bs cs plain h more =
     ∙ h (map shown bs ++ 10 ∷ more)
     ∙ ap (λ c. cs ++ c) (ap (filter is_comment) (shown_line bs more) ∙ kept (map shown bs) (split_lines more) plain)
 
-pub row_taken : (text bs : List ℕ) (cs : List (List ℕ)) → is_comment (map shown bs) ≡ true → HasComments text cs → HasComments (text ++ (map shown bs ++ 10 ∷ [])) (cs ++ map shown bs ∷ [])
+pub row_taken : (text bs : List ℕ) (cs : List (List ℕ)) → is_comment (map shown bs) ≡ true → HasComments text cs
+    → HasComments (text ++ (map shown bs ++ 10 ∷ [])) (cs ++ map shown bs ∷ [])
 row_taken text bs cs is h more =
     ap comments (append_assoc text (map shown bs ++ 10 ∷ []) more ∙ ap (λ t. text ++ t) (append_assoc (map shown bs) (10 ∷ []) more))
     ∙ h (map shown bs ++ 10 ∷ more)

@@ -52,7 +52,8 @@ before_table : (table own past last find : ℕ) → table ≡ LINES_AT + own + p
 before_table table own past last find e = omega arith
 
 -- lines begin one behind the other, and what lies behind their code comes behind them
-lines_rise : (labels : List (Name × ℕ)) (ns : List ℕ) (seed a : ℕ) (asking : List ℕ) (p : Program) (fs : List Form) (end : ℕ) → AreFormsOf (lines_code ns seed asking (lowered.program_code p)) fs → LabelsAt labels a (items_from a fs) → a + forms_size fs ≤ end
+lines_rise : (labels : List (Name × ℕ)) (ns : List ℕ) (seed a : ℕ) (asking : List ℕ) (p : Program) (fs : List Form) (end : ℕ)
+    → AreFormsOf (lines_code ns seed asking (lowered.program_code p)) fs → LabelsAt labels a (items_from a fs) → a + forms_size fs ≤ end
     → PlacesRise a (starts_in labels (numbers p) ++ (0, end) ∷ [])
 lines_rise labels ns seed a asking [] fs end h l le = (front_within a (forms_size fs) end le, tt)
 lines_rise labels ns seed a asking (line ∷ lines) fs end h l le =
@@ -70,30 +71,37 @@ lines_rise labels ns seed a asking (line ∷ lines) fs end h l le =
           (lines_rise labels ns seed b on lines s.back end s.of_back ls.1 (back_within a (forms_size fs) (forms_size s.front) (forms_size s.back) end all le)),
     )
 
-pub are_laid : (seed : ℕ) (ls : List (ℕ × Statement)) (c : Compiled) → AreStated (lines_of ls) → RisesFrom 0 (numbers (lines_of ls)) → IsCompiled seed (lines_of ls) c → AreLaid (starts_of c) (table_of c) (length (prg_of c) - 14)
+pub are_laid : (seed : ℕ) (ls : List (ℕ × Statement)) (c : Compiled) → AreStated (lines_of ls) → RisesFrom 0 (numbers (lines_of ls))
+    → IsCompiled seed (lines_of ls) c → AreLaid (starts_of c) (table_of c) (length (prg_of c) - 14)
 are_laid seed ls c stated rises h =
     let p = lines_of ls in
     let code = lowered.program_code p in
     let ns = numbers code in
     let s : IsSettling seed code = settling seed p refl stated rises (in_range ls code h.shallow refl) h.small refl in
     let labels = labels_from PROLOGUE_AT h.items in
-    let g : Sections seed code h.items labels = sections seed code s.lists s.rising h.items (settled_by PROLOGUE_AT (program_code seed code) h.items h.settled (settled_reaches PROLOGUE_AT (program_code seed code) h.items h.settled)) in
+    let g : Sections seed code h.items labels = sections seed code s.lists s.rising h.items
+        (settled_by PROLOGUE_AT (program_code seed code) h.items h.settled (settled_reaches PROLOGUE_AT (program_code seed code) h.items h.settled)) in
     let own = items_from LINES_AT g.lines in
     let past = past_code ns in let last = last_broken code in let find = find_code ns in let rows = table_code ns in
     let table : table_of c ≡ LINES_AT + forms_size g.lines + size past + size last + size find = ap (λ o. unwrap_or o 0) (sym h.table ∙ g.table) in
     let all : size h.items ≡ size block_code + (size own + (size past + (size last + (size find + size rows)))) =
-    ap size g.are ∙ size_append block_code (own ++ (past ++ (last ++ (find ++ rows)))) ∙ ap (λ n. size block_code + n) (size_append own (past ++ (last ++ (find ++ rows))) ∙ ap (λ n. size own + n) (size_append past (last ++ (find ++ rows)) ∙ ap (λ n. size past + n) (size_append last (find ++ rows) ∙ ap (λ n. size last + n) (size_append find rows)))) in
+    ap size g.are ∙ size_append block_code (own ++ (past ++ (last ++ (find ++ rows))))
+        ∙ ap (λ n. size block_code + n) (size_append own (past ++ (last ++ (find ++ rows)))
+        ∙ ap (λ n. size own + n) (size_append past (last ++ (find ++ rows)) ∙ ap (λ n. size past + n) (size_append last (find ++ rows)
+        ∙ ap (λ n. size last + n) (size_append find rows)))) in
     let own_size : size own ≡ forms_size g.lines = items_size LINES_AT g.lines in
     let file : length (prg_of c) ≡ length header + length (image_of PROLOGUE_AT h.items) = ap length h.prg ∙ length-append header (image_of PROLOGUE_AT h.items) in
     let image : length (image_of PROLOGUE_AT h.items) ≡ size h.items = all_size labels PROLOGUE_AT h.items in
     record {
       rising = subst (λ ss. PlacesRise LINES_AT (ss ++ (0, table_of c) ∷ [])) (sym h.starts)
           (lines_rise labels ns seed LINES_AT [] p g.lines (table_of c) g.of_lines g.line_labels (before_table (table_of c) (forms_size g.lines) (size past) (size last) (size find) table));
-      within = lies (table_of c) (length (prg_of c)) (length (image_of PROLOGUE_AT h.items)) (size h.items) (forms_size g.lines) (size block_code) (size past) (size last) (size find) (size rows) (size own) table all block_size own_size file image;
+      within = lies (table_of c) (length (prg_of c)) (length (image_of PROLOGUE_AT h.items)) (size h.items) (forms_size g.lines) (size block_code)
+          (size past) (size last) (size find) (size rows) (size own) table all block_size own_size file image;
       ends = fits (length (prg_of c)) (length (image_of PROLOGUE_AT h.items)) (size h.items) file image h.ends;
     }
   where
-    lies : (t n m k l block past last find rows own : ℕ) → t ≡ LINES_AT + l + past + last + find → k ≡ block + (own + (past + (last + (find + rows)))) → block ≡ 1011 → own ≡ l → n ≡ 14 + m → m ≡ k → t ≤ PROLOGUE_AT + (n - 14)
+    lies : (t n m k l block past last find rows own : ℕ) → t ≡ LINES_AT + l + past + last + find → k ≡ block + (own + (past + (last + (find + rows))))
+        → block ≡ 1011 → own ≡ l → n ≡ 14 + m → m ≡ k → t ≤ PROLOGUE_AT + (n - 14)
     lies t n m k l block past last find rows own e a b o f i = omega arith
 
     fits : (n m k : ℕ) → n ≡ 14 + m → m ≡ k → PROLOGUE_AT + k ≤ 0xA000 → PROLOGUE_AT + (n - 14) ≤ 0xA000

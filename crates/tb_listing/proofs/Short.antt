@@ -1,8 +1,11 @@
 -- How long a listing without names is: 19 bytes at most for each byte that is listed.
-use Rattle.std.proofs.Common.{◌≡◌, ℕ, zero, suc, ◌+◌, ◌-◌, ◌*◌, ◌<◌, ◌≤◌, Bool, true, false, List, [], ◌∷◌, ◌++◌, length, drop, Option, Some, None, refl, ap, ◌∙◌, nat_lt, if◌then◌else◌, arith, length-append, length-drop}
+use Rattle.std.proofs.Common.{◌≡◌, ℕ, zero, suc, ◌+◌, ◌-◌, ◌*◌, ◌<◌, ◌≤◌, Bool, true, false, List, [], ◌∷◌, ◌++◌}
+use Rattle.std.proofs.Common.{length, drop, Option, Some, None, refl, ap, ◌∙◌, nat_lt, if◌then◌else◌, arith, length-append, length-drop}
 use Rattle.tb_opcodes.specs.Opcodes.{decoded, length_of}
 use Rattle.tb_opcodes.specs.declared.Mnemonic.{Mnemonic}
-use Rattle.tb_opcodes.specs.declared.Mnemonic.TheVariants.{Adc, And, Asl, Bcc, Bcs, Beq, Bit, Bmi, Bne, Bpl, Brk, Bvc, Bvs, Clc, Cld, Cli, Clv, Cmp, Cpx, Cpy, Dec, Dex, Dey, Eor, Inc, Inx, Iny, Jmp, Jsr, Lda, Ldx, Ldy, Lsr, Nop, Ora, Pha, Php, Pla, Plp, Rol, Ror, Rti, Rts, Sbc, Sec, Sed, Sei, Sta, Stx, Sty, Tax, Tay, Tsx, Txa, Txs, Tya}
+use Rattle.tb_opcodes.specs.declared.Mnemonic.TheVariants.{Adc, And, Asl, Bcc, Bcs, Beq, Bit, Bmi, Bne, Bpl, Brk, Bvc, Bvs, Clc, Cld, Cli, Clv, Cmp, Cpx, Cpy}
+use Rattle.tb_opcodes.specs.declared.Mnemonic.TheVariants.{Dec, Dex, Dey, Eor, Inc, Inx, Iny, Jmp, Jsr, Lda, Ldx, Ldy, Lsr, Nop, Ora, Pha, Php, Pla, Plp, Rol}
+use Rattle.tb_opcodes.specs.declared.Mnemonic.TheVariants.{Ror, Rti, Rts, Sbc, Sec, Sed, Sei, Sta, Stx, Sty, Tax, Tay, Tsx, Txa, Txs, Tya}
 use Rattle.tb_opcodes.specs.declared.Mode.{Mode}
 use Rattle.tb_opcodes.specs.declared.Mode.TheVariants.{Implied, Accumulator, Immediate, ZeroPage, ZeroPageX, ZeroPageY, IndirectX, IndirectY, Relative, Absolute, AbsoluteX, AbsoluteY, Indirect}
 use Rattle.tb_asm.specs.Layout.{Entry, instr, bytes, size_of, number_in}
@@ -126,7 +129,8 @@ listed_short (suc k) a (b ∷ bs) =
     short n s m t l all some within left line rest whole = omega arith
 
 -- the listing of an image is a text that can be read
-pub listing_readable : (at : ℕ) (text bs : List ℕ) (lines : List (ℕ × Entry)) → text ≡ text_of lines → lines ≡ lines_of at bs → PROLOGUE_AT + length bs ≤ 0xA000 → length text ≤ 1048576
+pub listing_readable : (at : ℕ) (text bs : List ℕ) (lines : List (ℕ × Entry)) → text ≡ text_of lines → lines ≡ lines_of at bs
+    → PROLOGUE_AT + length bs ≤ 0xA000 → length text ≤ 1048576
 listing_readable at text bs lines is are ends =
     let e : length text ≡ length (text_of (lines_of at bs)) = ap length (is ∙ ap text_of are) in
     let s : length (text_of (lines_of at bs)) ≤ 19 * length bs = listed_short (length bs) at bs in

@@ -25,7 +25,8 @@ rise_both low end (p ∷ ps) qs e h =
     let first : nat_le low p.1 ≡ true = w.0 in
     ((let l : low ≤ p.1 = grind (arith, nat_tests) in l), rise_both (p.1 + 1) end ps qs w.1 h)
 
-lines_rise : (low : ℕ) (starts : List (ℕ × ℕ)) (table : ℕ) (name : List ℕ) (ps : List (List ℕ × ℕ)) → PlacesRise low (starts ++ (0, table) ∷ []) → PlacesRise (table + 1) ps → PlacesRise low (map line_place starts ++ ((name, table) ∷ ps))
+lines_rise : (low : ℕ) (starts : List (ℕ × ℕ)) (table : ℕ) (name : List ℕ) (ps : List (List ℕ × ℕ)) → PlacesRise low (starts ++ (0, table) ∷ [])
+    → PlacesRise (table + 1) ps → PlacesRise low (map line_place starts ++ ((name, table) ∷ ps))
 lines_rise low [] table name ps h r = (h.0, r)
 lines_rise low (s ∷ starts) table name ps h r = (h.0, lines_rise (s.1 + 1) starts table name ps h.1 r)
 

@@ -26,7 +26,8 @@ lines_bytes low table (s ∷ starts) (line ∷ lines) h e =
     sum_by-cons (λ q. q.bytes) (get_or (first_part (s ∷ starts) table line.number (36 + statement_cost line.content)) 0 (table_part table 0)) (line_parts starts table lines) in
     omega (arith, more, behind, whole)
 
-lines_prices : (table : ℕ) (starts : List (ℕ × ℕ)) (p : Program) → map (λ s. s.0) starts ≡ numbers p → sum_by (λ q. q.price) (line_parts starts table p) ≡ sum_by (λ line. 36 + statement_cost line.content) p
+lines_prices : (table : ℕ) (starts : List (ℕ × ℕ)) (p : Program) → map (λ s. s.0) starts ≡ numbers p
+    → sum_by (λ q. q.price) (line_parts starts table p) ≡ sum_by (λ line. 36 + statement_cost line.content) p
 lines_prices table [] [] e = omega arith
 lines_prices table [] (line ∷ lines) e = absurd (let l = ap length e in omega (arith, l))
 lines_prices table (s ∷ starts) [] e = absurd (let l = ap length e in omega (arith, l))
@@ -34,7 +35,8 @@ lines_prices table (s ∷ starts) (line ∷ lines) e =
     sum_by-cons (λ q. q.price) (get_or (first_part (s ∷ starts) table line.number (36 + statement_cost line.content)) 0 (table_part table 0)) (line_parts starts table lines)
     ∙ ap (λ n. 36 + statement_cost line.content + n) (lines_prices table starts lines (ap (drop 1) e)) ∙ sym (sum_by-cons (λ l. 36 + statement_cost l.content) line lines)
 
-pub bytes_add_up : (starts : List (ℕ × ℕ)) (table bytes : ℕ) (p : Program) → AreLaid starts table bytes → map (λ s. s.0) starts ≡ numbers p → sum_by (λ q. q.bytes) (parts starts table bytes p) ≡ bytes
+pub bytes_add_up : (starts : List (ℕ × ℕ)) (table bytes : ℕ) (p : Program) → AreLaid starts table bytes → map (λ s. s.0) starts ≡ numbers p
+    → sum_by (λ q. q.bytes) (parts starts table bytes p) ≡ bytes
 bytes_add_up starts table bytes p h e =
     let lines = lines_bytes LINES_AT table starts p h.rising e in
     let first = ends_behind LINES_AT table starts h.rising in
@@ -52,4 +54,5 @@ prices_add_up starts table bytes p e =
     let last : sum_by (λ q. q.price) (table_part table bytes ∷ []) ≡ 0 + 0 = sum_by-cons (λ q. q.price) (table_part table bytes) [] in
     let whole : sum_by (λ q. q.price) (parts starts table bytes p) ≡ 64 + sum_by (λ q. q.price) (line_parts starts table p ++ table_part table bytes ∷ []) =
     sum_by-cons (λ q. q.price) (block_part starts table) (line_parts starts table p ++ table_part table bytes ∷ []) in
-    whole ∙ ap (λ n. 64 + n) (let e : sum_by (λ q. q.price) (line_parts starts table p ++ table_part table bytes ∷ []) ≡ sum_by (λ line. 36 + statement_cost line.content) p = omega (arith, lines, both, last) in e)
+    whole ∙ ap (λ n. 64 + n) (let e : sum_by (λ q. q.price) (line_parts starts table p ++ table_part table bytes ∷ [])
+        ≡ sum_by (λ line. 36 + statement_cost line.content) p = omega (arith, lines, both, last) in e)

@@ -1,5 +1,7 @@
 -- From instruction to instruction: slot code has the runs of its program.
-use Rattle.std.proofs.Common.{◌≡◌, ℕ, zero, suc, ◌+◌, ◌-◌, ◌*◌, ◌≤◌, Bool, true, false, if◌then◌else◌, List, [], ◌∷◌, ◌++◌, length, Option, Some, None, option_map, nat_eq, nat_le, slice_index, refl, sym, ap, ◌∙◌, subst, arith, length-set, zero-add, suc-add, add_assoc, ⊎_elim, leb-true}
+use Rattle.std.proofs.Common.{◌≡◌, ℕ, zero, suc, ◌+◌, ◌-◌, ◌*◌, ◌≤◌, Bool, true, false, if◌then◌else◌, List, [], ◌∷◌}
+use Rattle.std.proofs.Common.{◌++◌, length, Option, Some, None, option_map, nat_eq, nat_le, slice_index, refl, sym, ap, ◌∙◌, subst, arith, length-set}
+use Rattle.std.proofs.Common.{zero-add, suc-add, add_assoc, ⊎_elim, leb-true}
 use Rattle.std.proofs.lemmas.Bool.{cases_lt}
 use Rattle.tb_words.specs.Words.{holds}
 use Rattle.tb_syntax.specs.Source.{Statement, Numbered, Program, numbers}
@@ -9,7 +11,9 @@ use Rattle.tb_meaning.specs.Input.{input}
 use Rattle.tb_meaning.specs.Values.{Valued, Gives, Fails}
 use Rattle.tb_meaning.specs.Meaning.{does, does_at, does_found, line, start}
 use Rattle.tb_lower.specs.Need.{statement_need, too_deep}
-use Rattle.tb_lower.specs.Slots.{Instr, Put, Load, Store, Negate, Compute, Random, SendText, SendNumber, SendZone, SendNewline, Input, Poll, Hold, LeaveUnless, Jump, Call, JumpTo, CallTo, Return, SlotCode, Rest, Whole, Left, Slots, SlotState, After, Stays, Leaves, staying, leaving, with_word, into, act, settled, instr, instr_found, instr_at, slot_step, slot_start, slot_run, begins, begins_in, beginnings}
+use Rattle.tb_lower.specs.Slots.{Instr, Put, Load, Store, Negate, Compute, Random, SendText, SendNumber, SendZone, SendNewline, Input, Poll, Hold, LeaveUnless}
+use Rattle.tb_lower.specs.Slots.{Jump, Call, JumpTo, CallTo, Return, SlotCode, Rest, Whole, Left, Slots, SlotState, After, Stays, Leaves, staying, leaving}
+use Rattle.tb_lower.specs.Slots.{with_word, into, act, settled, instr, instr_found, instr_at, slot_step, slot_start, slot_run, begins, begins_in, beginnings}
 use Rattle.tb_lower.specs.Slots as slots
 use Rattle.tb_lower.specs.Lowered.{list_code, program_code}
 use Rattle.tb_lower.specs.Follows.{longest, Meets, Agrees, IsListOf, Follows}
@@ -122,7 +126,9 @@ module _ (code : SlotCode) where
     pub meets : Meets m source (advance_by (slot_step code) steps r) (passed + beginnings code steps r)
 
   -- the first instruction's outcome x, and then the rest of the line
-  acted : (n : ℕ) (is : List Instr) (w : Slots) (out : List ℕ) (x : Step After) → length w.words ≡ 16 → SizeKept 16 x → ((s : State) (w' : Slots) (out' : List ℕ) → length w'.words ≡ 16 → Arrives (length is) 0 0 (joined out' (perform (numbers code) n is s w')) (joined out' (instr (numbers code) n is s w'))) → Arrives (suc (length is)) 0 0 (joined out (stay_then x (perform (numbers code) n is))) (joined out (settled n is w x))
+  acted : (n : ℕ) (is : List Instr) (w : Slots) (out : List ℕ) (x : Step After) → length w.words ≡ 16 → SizeKept 16 x
+      → ((s : State) (w' : Slots) (out' : List ℕ) → length w'.words ≡ 16 → Arrives (length is) 0 0 (joined out' (perform (numbers code) n is s w'))
+      (joined out' (instr (numbers code) n is s w'))) → Arrives (suc (length is)) 0 0 (joined out (stay_then x (perform (numbers code) n is))) (joined out (settled n is w x))
   acted n is w out (Goes (Stays s w') t) len size next =
       let a = next s w' (out ++ t) size in
       let ns = numbers code in
@@ -139,12 +145,15 @@ module _ (code : SlotCode) where
   acted n is w out (Stops e t) len size next = record { steps = 0; few = omega arith; meets = (refl, omega arith) }
 
   -- a list of instructions to its end, after the first one
-  list_arrives : (n : ℕ) (is : List Instr) (s : State) (w : Slots) (out : List ℕ) → length w.words ≡ 16 → Arrives (length is) 0 0 (joined out (perform (numbers code) n is s w)) (joined out (instr (numbers code) n is s w))
+  list_arrives : (n : ℕ) (is : List Instr) (s : State) (w : Slots) (out : List ℕ) → length w.words ≡ 16
+      → Arrives (length is) 0 0 (joined out (perform (numbers code) n is s w)) (joined out (instr (numbers code) n is s w))
   list_arrives n [] s w out len = record { steps = 0; few = omega arith; meets = (w, len, refl, refl) }
   list_arrives n (i ∷ is) s w out len =
       acted n is w out (act (numbers code) n i s w) len (act_size (numbers code) n 16 i s w len) (λ s' w' out' len'. list_arrives n is s' w' out' len')
 
-meets_sum : (c : SlotCode) (m a b passed : ℕ) (source : Run State) (r : Run SlotState) → Meets m source (advance_by (slot_step c) b (advance_by (slot_step c) a r)) (passed + beginnings c a r + beginnings c b (advance_by (slot_step c) a r)) → Meets m source (advance_by (slot_step c) (a + b) r) (passed + beginnings c (a + b) r)
+meets_sum : (c : SlotCode) (m a b passed : ℕ) (source : Run State) (r : Run SlotState)
+    → Meets m source (advance_by (slot_step c) b (advance_by (slot_step c) a r)) (passed + beginnings c a r + beginnings c b
+    (advance_by (slot_step c) a r)) → Meets m source (advance_by (slot_step c) (a + b) r) (passed + beginnings c (a + b) r)
 meets_sum c m a b passed source r h =
     let e : passed + beginnings c a r + beginnings c b (advance_by (slot_step c) a r) ≡ passed + beginnings c (a + b) r =
     add_assoc passed _ _ ∙ ap (λ n. passed + n) (sym (beginnings_sum c a b r)) in
@@ -154,9 +163,12 @@ meets_sum c m a b passed source r h =
 -- the lines of a program, none of which needs more than 16 slots
 module _ (program : Program) (shallow : IsShallow program) where
   -- a line from its beginning, where its statement is x and its list x'
-  found_arrives : (n : ℕ) (s : State) (w : Slots) (out : List ℕ) (x : Option Statement) (x' : Option (List Instr)) → x' ≡ option_map list_code x → length w.words ≡ 16 → IsFit (longest (program_code program)) x → Arrives (program_code program) (longest (program_code program)) 1 1 (joined out (does_found (numbers program) n x s)) (joined out (instr_found (numbers (program_code program)) n x' s w))
+  found_arrives : (n : ℕ) (s : State) (w : Slots) (out : List ℕ) (x : Option Statement) (x' : Option (List Instr)) → x' ≡ option_map list_code x
+      → length w.words ≡ 16 → IsFit (longest (program_code program)) x → Arrives (program_code program) (longest (program_code program)) 1 1
+      (joined out (does_found (numbers program) n x s)) (joined out (instr_found (numbers (program_code program)) n x' s w))
   found_arrives n s w out None x' e len fit =
-      subst (λ y. Arrives (program_code program) (longest (program_code program)) 1 1 (joined out (past (numbers program))) (joined out (instr_found (numbers (program_code program)) n y s w))) (sym e)
+      subst (λ y. Arrives (program_code program) (longest (program_code program)) 1 1 (joined out (past (numbers program)))
+          (joined out (instr_found (numbers (program_code program)) n y s w))) (sym e)
       record { steps = 0; few = omega arith; meets = (ap (λ ns. joined out (past ns)) (numbers_code program), omega arith) }
   found_arrives n s w out (Some c) x' e len fit =
       let ns = numbers (program_code program) in
@@ -173,7 +185,9 @@ module _ (program : Program) (shallow : IsShallow program) where
             (meets_shift 1 0 _ (joined out (perform ns n (list_code c) s w)) (advance_by (slot_step (program_code program)) a.steps r) a.meets));
       }
 
-  place_arrives : (p : Place) (s : State) (w : Slots) (out : List ℕ) → length w.words ≡ 16 → Arrives (program_code program) (longest (program_code program)) 1 (begins Whole p) (joined out (does_at program p s)) (joined out (instr_at (program_code program) Whole p s w))
+  place_arrives : (p : Place) (s : State) (w : Slots) (out : List ℕ) → length w.words ≡ 16
+      → Arrives (program_code program) (longest (program_code program)) 1 (begins Whole p) (joined out (does_at program p s))
+      (joined out (instr_at (program_code program) Whole p s w))
   place_arrives (At n) s w out len =
       found_arrives n s w out (content_at program n) (content_at (program_code program) n) (found_code program n) len (found_fit program n shallow)
   place_arrives Past s w out len =
@@ -186,7 +200,10 @@ module _ (program : Program) (shallow : IsShallow program) where
     meets : Meets m (advance_by (line program) m source) (advance_by (slot_step (program_code program)) k r) (beginnings (program_code program) k r)
 
   -- where the runs meet after a line, they meet after m more
-  goes_on : (m b : ℕ) (source : Run State) (r : Run SlotState) → Meets 1 source r b → ((s : State) (w : Slots) (out : List ℕ) → length w.words ≡ 16 → Reaches m (GoesOn s out) (GoesOn (record { state = s; rest = Whole; slots = w }) out)) → (k : ℕ) × (k ≤ m * (longest (program_code program) + 1)) × Meets (suc m) (advance_by (line program) m source) (advance_by (slot_step (program_code program)) k r) (b + beginnings (program_code program) k r)
+  goes_on : (m b : ℕ) (source : Run State) (r : Run SlotState) → Meets 1 source r b → ((s : State) (w : Slots) (out : List ℕ) → length w.words ≡ 16
+      → Reaches m (GoesOn s out) (GoesOn (record { state = s; rest = Whole; slots = w }) out)) → (k : ℕ)
+      × (k ≤ m * (longest (program_code program) + 1)) × Meets (suc m) (advance_by (line program) m source)
+      (advance_by (slot_step (program_code program)) k r) (b + beginnings (program_code program) k r)
   goes_on m b (GoesOn s out) r h next =
       let a = next s h.0 out h.1 in
       let c = program_code program in
@@ -254,7 +271,8 @@ agrees_before c d m b (Over why o) later (Over why' out) e h =
     ap source_over (sym h.0 ∙ e ∙ over_stays (slot_step c) d why o)
 
 -- a run that is over where the source's run is stays so
-agrees_after : (c : SlotCode) (d m b : ℕ) (q sooner : Run SlotState) (why : End) (out : List ℕ) → q ≡ advance_by (slot_step c) d sooner → Meets m (Over why out) sooner b → Agrees q (Over why out)
+agrees_after : (c : SlotCode) (d m b : ℕ) (q sooner : Run SlotState) (why : End) (out : List ℕ) → q ≡ advance_by (slot_step c) d sooner
+    → Meets m (Over why out) sooner b → Agrees q (Over why out)
 agrees_after c d m b q sooner why out e h =
     let stays : q ≡ Over why out = e ∙ ap (advance_by (slot_step c) d) h.0 ∙ over_stays (slot_step c) d why out in
     subst (λ r. Agrees r (Over why out)) (sym stays) refl
@@ -270,7 +288,8 @@ follows program shallow = record {
   reaches = λ seed text answers w len m.
       let c = program_code program in
       let a = all_reach program shallow m (start (numbers c) seed text answers) w [] len in
-      (a.k, a.few, subst (λ ns. Meets m (advance_by (line program) m (GoesOn (start ns seed text answers) [])) (slot_run c seed text answers w a.k) (beginnings c a.k (slot_start c seed text answers w))) (numbers_code program) a.meets);
+      (a.k, a.few, subst (λ ns. Meets m (advance_by (line program) m (GoesOn (start ns seed text answers) [])) (slot_run c seed text answers w a.k)
+          (beginnings c a.k (slot_start c seed text answers w))) (numbers_code program) a.meets);
   reaches_only = λ seed text answers w len k.
       let c = program_code program in
       let a = all_reach program shallow k (start (numbers c) seed text answers) w [] len in (
@@ -280,21 +299,26 @@ follows program shallow = record {
       );
 }
   where
-    agrees_at : (c : SlotCode) (k j : ℕ) (r : Run SlotState) (source : Run State) → Meets k source (advance_by (slot_step c) j r) (beginnings c j r) → Agrees (advance_by (slot_step c) k r) source
+    agrees_at : (c : SlotCode) (k j : ℕ) (r : Run SlotState) (source : Run State) → Meets k source (advance_by (slot_step c) j r) (beginnings c j r)
+        → Agrees (advance_by (slot_step c) k r) source
     agrees_at c k j r (GoesOn s out) h =
         let d : j ≡ k + (j - k) = omega (arith, few_beginnings c j r, h.3) in
-        agrees_before c (j - k) k (beginnings c j r) (advance_by (slot_step c) k r) (advance_by (slot_step c) j r) (GoesOn s out) (ap (λ n. advance_by (slot_step c) n r) d ∙ advance_sum (slot_step c) k (j - k) r) h
+        agrees_before c (j - k) k (beginnings c j r) (advance_by (slot_step c) k r) (advance_by (slot_step c) j r) (GoesOn s out)
+            (ap (λ n. advance_by (slot_step c) n r) d ∙ advance_sum (slot_step c) k (j - k) r) h
     agrees_at c k j r (Over why out) h =
         ⊎_elim
         (λ lt.
         let d : k ≡ j + (k - j) = omega arith in
-        agrees_after c (k - j) k (beginnings c j r) (advance_by (slot_step c) k r) (advance_by (slot_step c) j r) why out (ap (λ n. advance_by (slot_step c) n r) d ∙ advance_sum (slot_step c) j (k - j) r) h)
+        agrees_after c (k - j) k (beginnings c j r) (advance_by (slot_step c) k r) (advance_by (slot_step c) j r) why out
+            (ap (λ n. advance_by (slot_step c) n r) d ∙ advance_sum (slot_step c) j (k - j) r) h)
         (λ le.
         let d : j ≡ k + (j - k) = omega arith in
-        agrees_before c (j - k) k (beginnings c j r) (advance_by (slot_step c) k r) (advance_by (slot_step c) j r) (Over why out) (ap (λ n. advance_by (slot_step c) n r) d ∙ advance_sum (slot_step c) k (j - k) r) h)
+        agrees_before c (j - k) k (beginnings c j r) (advance_by (slot_step c) k r) (advance_by (slot_step c) j r) (Over why out)
+            (ap (λ n. advance_by (slot_step c) n r) d ∙ advance_sum (slot_step c) k (j - k) r) h)
         (cases_lt j k)
 
-shallow_if : (b : Bool) (l : Numbered Statement) (lines : Program) → nat_le (statement_need l.content) 16 ≡ b → ((too_deep lines ≡ None) → IsShallow lines) → (if b then too_deep lines else Some l.number) ≡ None → IsShallow (l ∷ lines)
+shallow_if : (b : Bool) (l : Numbered Statement) (lines : Program) → nat_le (statement_need l.content) 16 ≡ b
+    → ((too_deep lines ≡ None) → IsShallow lines) → (if b then too_deep lines else Some l.number) ≡ None → IsShallow (l ∷ lines)
 shallow_if true l lines e next h = more (leb-true (statement_need l.content) 16 e) (next h)
 shallow_if false l lines e next h = absurd cc
 

@@ -1,7 +1,7 @@
 -- The operands of slot code are in their ranges.
 use Rattle.std.proofs.Common.{◌≡◌, ℕ, ◌+◌, ◌≤◌, ◌<◌, true, false, List, [], ◌∷◌, ◌++◌, Option, Some, None, refl, sym, subst, arith}
-use Rattle.tb_syntax.specs.declared.statements.Statement.{RustStatement as RustStatement}
-use Rattle.tb_syntax.specs.Source.{Expression, Number, Variable, Binary, Item, Text, Value, Zone, RustStatement, Let, Print, If, Goto, Gosub, Remark}
+use Rattle.tb_syntax.specs.declared.statements.Statement.{Statement as RustStatement}
+use Rattle.tb_syntax.specs.Source.{Expression, Number, Variable, Binary, Item, Text, Value, Zone, Statement, Let, Print, If, Goto, Gosub, Remark}
 use Rattle.tb_syntax.specs.Source as source
 use Rattle.tb_syntax.specs.PlainData.{statement_of, lines_of}
 use Rattle.tb_lower.specs.Need.{need, items_need, statement_need, too_deep}
@@ -51,7 +51,7 @@ module _ (limit : ℕ) where
   inputs_in_range [] h = tt
   inputs_in_range (x ∷ xs) h = (h.0, inputs_in_range xs h.1)
 
-  statement_in_range : (c : RustStatement) → statement_need c ≤ 16 → DoesLettered c → AreShort limit (statement_texts c) → AreInRange limit (statement_code c)
+  statement_in_range : (c : Statement) → statement_need c ≤ 16 → DoesLettered c → AreShort limit (statement_texts c) → AreInRange limit (statement_code c)
   statement_in_range (Let x e) fits h short = both_in_range (value_code e 0) (Store x ∷ []) (value_in_range e 0 (omega arith) h.1) (h.0, tt)
   statement_in_range (Print items true) fits h short = both_in_range (items_code items) (SendNewline ∷ []) (items_in_range items fits h short) (tt, tt)
   statement_in_range (Print items false) fits h short = both_in_range (items_code items) [] (items_in_range items fits h short) tt
@@ -78,6 +78,7 @@ module _ (limit : ℕ) where
   code_in_range (l ∷ ls) (more fits rest) short =
       ((tt, statement_in_range (statement_of l.1) fits (statement_letters l.1) short.0), code_in_range ls rest short.1)
 
-pub in_range : (lines : List (ℕ × RustStatement)) (code : SlotCode) → too_deep (lines_of lines) ≡ None → code ≡ program_code (lines_of lines) → (limit : ℕ) → HasShortTexts limit (lines_of lines) → IsCodeInRange limit code
+pub in_range : (lines : List (ℕ × RustStatement)) (code : SlotCode) → too_deep (lines_of lines) ≡ None → code ≡ program_code (lines_of lines)
+    → (limit : ℕ) → HasShortTexts limit (lines_of lines) → IsCodeInRange limit code
 in_range lines code deep same limit short =
     subst (IsCodeInRange limit) (sym same) (code_in_range limit lines (shallow (lines_of lines) deep) short)

@@ -37,7 +37,10 @@ spaced_text : Sends (line 10 (Print ((Text (codes "A B")) ∷ []) true) ∷ []) 
 spaced_text = (refl, refl)
 
 -- 10 PRINT 1,2,3 / 20 PRINT 1;2;3 / 30 PRINT "AB", / 40 PRINT "C" / 50 END
-separators : Sends (line 10 (Print ((Value (Number 1)) ∷ Zone ∷ (Value (Number 2)) ∷ Zone ∷ (Value (Number 3)) ∷ []) true) ∷ line 20 (Print ((Value (Number 1)) ∷ (Value (Number 2)) ∷ (Value (Number 3)) ∷ []) true) ∷ line 30 (Print ((Text (codes "AB")) ∷ Zone ∷ []) false) ∷ line 40 (Print ((Text (codes "C")) ∷ []) true) ∷ line 50 End ∷ []) 1 ([]) ([]) 5 Ended (codes "1       2       3" ++ cr ++ codes "123" ++ cr ++ codes "AB      C" ++ cr)
+separators : Sends (line 10 (Print ((Value (Number 1)) ∷ Zone ∷ (Value (Number 2)) ∷ Zone ∷ (Value (Number 3)) ∷ []) true)
+    ∷ line 20 (Print ((Value (Number 1)) ∷ (Value (Number 2)) ∷ (Value (Number 3)) ∷ []) true)
+    ∷ line 30 (Print ((Text (codes "AB")) ∷ Zone ∷ []) false) ∷ line 40 (Print ((Text (codes "C")) ∷ []) true) ∷ line 50 End ∷ []) 1 ([]) ([]) 5 Ended
+    (codes "1       2       3" ++ cr ++ codes "123" ++ cr ++ codes "AB      C" ++ cr)
 separators = (refl, refl)
 
 -- 10 PRINT "12345678",9 / 20 END
@@ -49,15 +52,19 @@ sum_wraps : Sends (line 10 (Print ((Value (Binary Add (Number 32767) (Number 1))
 sum_wraps = (refl, refl)
 
 -- 10 PRINT (0-32768)/(0-1) / 20 PRINT (0-7)/2 / 30 END
-quotients : Sends (line 10 (Print ((Value (Binary Divide (Binary Subtract (Number 0) (Number 32768)) (Binary Subtract (Number 0) (Number 1)))) ∷ []) true) ∷ line 20 (Print ((Value (Binary Divide (Binary Subtract (Number 0) (Number 7)) (Number 2))) ∷ []) true) ∷ line 30 End ∷ []) 1 ([]) ([]) 3 Ended (codes "-32768" ++ cr ++ codes "-3" ++ cr)
+quotients : Sends (line 10 (Print ((Value (Binary Divide (Binary Subtract (Number 0) (Number 32768)) (Binary Subtract (Number 0) (Number 1)))) ∷ [])
+    true) ∷ line 20 (Print ((Value (Binary Divide (Binary Subtract (Number 0) (Number 7)) (Number 2))) ∷ []) true) ∷ line 30 End ∷ []) 1 ([])
+    ([]) 3 Ended (codes "-32768" ++ cr ++ codes "-3" ++ cr)
 quotients = (refl, refl)
 
 -- 10 IF 0-32768<32767 PRINT "YES" / 20 END
-signed_comparison : Sends (line 10 (If (Binary Subtract (Number 0) (Number 32768)) Lt (Number 32767) (Print ((Text (codes "YES")) ∷ []) true)) ∷ line 20 End ∷ []) 1 ([]) ([]) 2 Ended (codes "YES" ++ cr)
+signed_comparison : Sends (line 10 (If (Binary Subtract (Number 0) (Number 32768)) Lt (Number 32767) (Print ((Text (codes "YES")) ∷ []) true))
+    ∷ line 20 End ∷ []) 1 ([]) ([]) 2 Ended (codes "YES" ++ cr)
 signed_comparison = (refl, refl)
 
 -- 10 PRINT "A";1/0 / 20 END
-fault_keeps_items_sent : Sends (line 10 (Print ((Text (codes "A")) ∷ (Value (Binary Divide (Number 1) (Number 0))) ∷ []) true) ∷ line 20 End ∷ []) 1 ([]) ([]) 1 Faulted (codes "A" ++ cr ++ codes "!2 AT 10" ++ cr)
+fault_keeps_items_sent : Sends (line 10 (Print ((Text (codes "A")) ∷ (Value (Binary Divide (Number 1) (Number 0))) ∷ []) true) ∷ line 20 End ∷ []) 1
+    ([]) ([]) 1 Faulted (codes "A" ++ cr ++ codes "!2 AT 10" ++ cr)
 fault_keeps_items_sent = (refl, refl)
 
 -- 10 PRINT RND(10);RND(10) / 20 END
@@ -69,43 +76,53 @@ random_below_one : Sends (line 10 (Print ((Value (Random (Number 0))) ∷ []) tr
 random_below_one = (refl, refl)
 
 -- 10 A=4 / 20 GOTO 10*A / 30 PRINT "NO" / 40 END
-computed_goto : Sends (line 10 (Let 0 (Number 4)) ∷ line 20 (Goto (Binary Multiply (Number 10) (Variable 0))) ∷ line 30 (Print ((Text (codes "NO")) ∷ []) true) ∷ line 40 End ∷ []) 1 ([]) ([]) 3 Ended ([])
+computed_goto : Sends (line 10 (Let 0 (Number 4)) ∷ line 20 (Goto (Binary Multiply (Number 10) (Variable 0)))
+    ∷ line 30 (Print ((Text (codes "NO")) ∷ []) true) ∷ line 40 End ∷ []) 1 ([]) ([]) 3 Ended ([])
 computed_goto = (refl, refl)
 
 -- 10 A=5 / 20 GOTO 10*A / 30 PRINT "NO" / 40 END
-computed_goto_missing : Sends (line 10 (Let 0 (Number 5)) ∷ line 20 (Goto (Binary Multiply (Number 10) (Variable 0))) ∷ line 30 (Print ((Text (codes "NO")) ∷ []) true) ∷ line 40 End ∷ []) 1 ([]) ([]) 2 Faulted (cr ++ codes "!1 AT 20" ++ cr)
+computed_goto_missing : Sends (line 10 (Let 0 (Number 5)) ∷ line 20 (Goto (Binary Multiply (Number 10) (Variable 0)))
+    ∷ line 30 (Print ((Text (codes "NO")) ∷ []) true) ∷ line 40 End ∷ []) 1 ([]) ([]) 2 Faulted (cr ++ codes "!1 AT 20" ++ cr)
 computed_goto_missing = (refl, refl)
 
 -- 10 A=4 / 20 GOTO 10-20 / 30 PRINT "NO" / 40 END
-negative_goto : Sends (line 10 (Let 0 (Number 4)) ∷ line 20 (Goto (Binary Subtract (Number 10) (Number 20))) ∷ line 30 (Print ((Text (codes "NO")) ∷ []) true) ∷ line 40 End ∷ []) 1 ([]) ([]) 2 Faulted (cr ++ codes "!1 AT 20" ++ cr)
+negative_goto : Sends (line 10 (Let 0 (Number 4)) ∷ line 20 (Goto (Binary Subtract (Number 10) (Number 20)))
+    ∷ line 30 (Print ((Text (codes "NO")) ∷ []) true) ∷ line 40 End ∷ []) 1 ([]) ([]) 2 Faulted (cr ++ codes "!1 AT 20" ++ cr)
 negative_goto = (refl, refl)
 
 -- 10 INPUT A,B / 20 PRINT A+B / 30 END
-input_two : Sends (line 10 (Input (0 ∷ 1 ∷ [])) ∷ line 20 (Print ((Value (Binary Add (Variable 0) (Variable 1))) ∷ []) true) ∷ line 30 End ∷ []) 1 (codes "3, -4" ++ cr) ([]) 3 Ended (codes "? " ++ cr ++ codes "-1" ++ cr)
+input_two : Sends (line 10 (Input (0 ∷ 1 ∷ [])) ∷ line 20 (Print ((Value (Binary Add (Variable 0) (Variable 1))) ∷ []) true) ∷ line 30 End ∷ []) 1
+    (codes "3, -4" ++ cr) ([]) 3 Ended (codes "? " ++ cr ++ codes "-1" ++ cr)
 input_two = (refl, refl)
 
 -- 10 INPUT A,B / 20 PRINT A+B / 30 END
-input_wraps : Sends (line 10 (Input (0 ∷ 1 ∷ [])) ∷ line 20 (Print ((Value (Binary Add (Variable 0) (Variable 1))) ∷ []) true) ∷ line 30 End ∷ []) 1 (codes "70000,0" ++ cr) ([]) 3 Ended (codes "? " ++ cr ++ codes "4464" ++ cr)
+input_wraps : Sends (line 10 (Input (0 ∷ 1 ∷ [])) ∷ line 20 (Print ((Value (Binary Add (Variable 0) (Variable 1))) ∷ []) true) ∷ line 30 End ∷ []) 1
+    (codes "70000,0" ++ cr) ([]) 3 Ended (codes "? " ++ cr ++ codes "4464" ++ cr)
 input_wraps = (refl, refl)
 
 -- 10 INPUT A,B / 20 PRINT A+B / 30 END
-input_waits_for_second : Sends (line 10 (Input (0 ∷ 1 ∷ [])) ∷ line 20 (Print ((Value (Binary Add (Variable 0) (Variable 1))) ∷ []) true) ∷ line 30 End ∷ []) 1 (codes "5" ++ cr) ([]) 1 Waits (codes "? " ++ cr ++ codes "? ")
+input_waits_for_second : Sends (line 10 (Input (0 ∷ 1 ∷ [])) ∷ line 20 (Print ((Value (Binary Add (Variable 0) (Variable 1))) ∷ []) true)
+    ∷ line 30 End ∷ []) 1 (codes "5" ++ cr) ([]) 1 Waits (codes "? " ++ cr ++ codes "? ")
 input_waits_for_second = (refl, refl)
 
 -- 10 INPUT A,B / 20 PRINT A+B / 30 END
-input_letter : Sends (line 10 (Input (0 ∷ 1 ∷ [])) ∷ line 20 (Print ((Value (Binary Add (Variable 0) (Variable 1))) ∷ []) true) ∷ line 30 End ∷ []) 1 (codes "X") ([]) 1 Faulted (codes "? " ++ cr ++ codes "!6 AT 10" ++ cr)
+input_letter : Sends (line 10 (Input (0 ∷ 1 ∷ [])) ∷ line 20 (Print ((Value (Binary Add (Variable 0) (Variable 1))) ∷ []) true) ∷ line 30 End ∷ []) 1
+    (codes "X") ([]) 1 Faulted (codes "? " ++ cr ++ codes "!6 AT 10" ++ cr)
 input_letter = (refl, refl)
 
 -- 10 INPUT A,B / 20 PRINT A+B / 30 END
-input_empty_line : Sends (line 10 (Input (0 ∷ 1 ∷ [])) ∷ line 20 (Print ((Value (Binary Add (Variable 0) (Variable 1))) ∷ []) true) ∷ line 30 End ∷ []) 1 (cr) ([]) 1 Faulted (codes "? " ++ cr ++ codes "!6 AT 10" ++ cr)
+input_empty_line : Sends (line 10 (Input (0 ∷ 1 ∷ [])) ∷ line 20 (Print ((Value (Binary Add (Variable 0) (Variable 1))) ∷ []) true) ∷ line 30 End
+    ∷ []) 1 (cr) ([]) 1 Faulted (codes "? " ++ cr ++ codes "!6 AT 10" ++ cr)
 input_empty_line = (refl, refl)
 
 -- 10 INPUT A,B / 20 PRINT A+B / 30 END
-input_waits_in_number : Sends (line 10 (Input (0 ∷ 1 ∷ [])) ∷ line 20 (Print ((Value (Binary Add (Variable 0) (Variable 1))) ∷ []) true) ∷ line 30 End ∷ []) 1 (codes "1") ([]) 1 Waits (codes "? ")
+input_waits_in_number : Sends (line 10 (Input (0 ∷ 1 ∷ [])) ∷ line 20 (Print ((Value (Binary Add (Variable 0) (Variable 1))) ∷ []) true) ∷ line 30 End
+    ∷ []) 1 (codes "1") ([]) 1 Waits (codes "? ")
 input_waits_in_number = (refl, refl)
 
 -- 10 INPUT A / 20 INPUT B / 30 PRINT B / 40 END
-input_line_stays_open : Sends (line 10 (Input (0 ∷ [])) ∷ line 20 (Input (1 ∷ [])) ∷ line 30 (Print ((Value (Variable 1)) ∷ []) true) ∷ line 40 End ∷ []) 1 (codes "1,2" ++ cr) ([]) 4 Ended (codes "? " ++ cr ++ codes "2" ++ cr)
+input_line_stays_open : Sends (line 10 (Input (0 ∷ [])) ∷ line 20 (Input (1 ∷ [])) ∷ line 30 (Print ((Value (Variable 1)) ∷ []) true) ∷ line 40 End
+    ∷ []) 1 (codes "1,2" ++ cr) ([]) 4 Ended (codes "? " ++ cr ++ codes "2" ++ cr)
 input_line_stays_open = (refl, refl)
 
 -- 10 A=A+1 / 20 IF A=65 END / 30 GOSUB 10
@@ -121,7 +138,8 @@ gosub_501 : Sends (line 10 (Let 0 (Binary Add (Variable 0) (Number 1))) ∷ line
 gosub_501 = (refl, refl)
 
 -- 10 A=A+1 / 20 IF A=502 END / 30 GOSUB 10
-gosub_502 : Sends (line 10 (Let 0 (Binary Add (Variable 0) (Number 1))) ∷ line 20 (If (Variable 0) Eq (Number 502) End) ∷ line 30 (Gosub (Number 10)) ∷ []) 1 ([]) ([]) 1503 Faulted (cr ++ codes "!4 AT 30" ++ cr)
+gosub_502 : Sends (line 10 (Let 0 (Binary Add (Variable 0) (Number 1))) ∷ line 20 (If (Variable 0) Eq (Number 502) End) ∷ line 30 (Gosub (Number 10))
+    ∷ []) 1 ([]) ([]) 1503 Faulted (cr ++ codes "!4 AT 30" ++ cr)
 gosub_502 = (refl, refl)
 
 -- 10 RETURN
@@ -141,11 +159,20 @@ goto_skips : Sends (line 5 (Goto (Number 100)) ∷ line 10 (Print ((Value (Numbe
 goto_skips = (refl, refl)
 
 -- 10 I=1 / 20 IF I=I F=5 / 30 PRINT F / 40 IF P=P REM / 50 END
-variable_before_word : Sends (line 10 (Let 8 (Number 1)) ∷ line 20 (If (Variable 8) Eq (Variable 8) (Let 5 (Number 5))) ∷ line 30 (Print ((Value (Variable 5)) ∷ []) true) ∷ line 40 (If (Variable 15) Eq (Variable 15) Remark) ∷ line 50 End ∷ []) 1 ([]) ([]) 5 Ended (codes "5" ++ cr)
+variable_before_word : Sends (line 10 (Let 8 (Number 1)) ∷ line 20 (If (Variable 8) Eq (Variable 8) (Let 5 (Number 5)))
+    ∷ line 30 (Print ((Value (Variable 5)) ∷ []) true) ∷ line 40 (If (Variable 15) Eq (Variable 15) Remark) ∷ line 50 End ∷ []) 1 ([]) ([]) 5 Ended (codes "5" ++ cr)
 variable_before_word = (refl, refl)
 
 -- 10 PRINT 1+(1+( .. 1 .. )), sixteen deep / 20 END
-nested_sixteen : Sends (line 10 (Print ((Value (Binary Add (Number 1) (Binary Add (Number 1) (Binary Add (Number 1) (Binary Add (Number 1) (Binary Add (Number 1) (Binary Add (Number 1) (Binary Add (Number 1) (Binary Add (Number 1) (Binary Add (Number 1) (Binary Add (Number 1) (Binary Add (Number 1) (Binary Add (Number 1) (Binary Add (Number 1) (Binary Add (Number 1) (Binary Add (Number 1) (Number 1))))))))))))))))) ∷ []) true) ∷ line 20 End ∷ []) 1 ([]) ([]) 2 Ended (codes "16" ++ cr)
+nested_sixteen : Sends (line 10
+    (Print ((Value (Binary Add (Number 1)
+    (Binary Add (Number 1) (Binary Add (Number 1)
+    (Binary Add (Number 1) (Binary Add (Number 1)
+    (Binary Add (Number 1) (Binary Add (Number 1)
+    (Binary Add (Number 1) (Binary Add (Number 1)
+    (Binary Add (Number 1) (Binary Add (Number 1)
+    (Binary Add (Number 1) (Binary Add (Number 1) (Binary Add (Number 1) (Binary Add (Number 1) (Number 1))))))))))))))))) ∷ []) true) ∷ line 20 End
+    ∷ []) 1 ([]) ([]) 2 Ended (codes "16" ++ cr)
 nested_sixteen = (refl, refl)
 
 -- 10 PRINT 1/0*0
@@ -157,11 +184,14 @@ random_kept : Sends (line 10 (Print ((Value (Binary Multiply (Number 0) (Random 
 random_kept = (refl, refl)
 
 -- 10 PRINT 0*RND(10);RND(10) / 20 END
-seed_kept : Sends (line 10 (Print ((Value (Binary Multiply (Number 0) (Random (Number 10)))) ∷ (Value (Random (Number 10))) ∷ []) true) ∷ line 20 End ∷ []) 1 ([]) ([]) 2 Ended (codes "07" ++ cr)
+seed_kept : Sends (line 10 (Print ((Value (Binary Multiply (Number 0) (Random (Number 10)))) ∷ (Value (Random (Number 10))) ∷ []) true) ∷ line 20 End
+    ∷ []) 1 ([]) ([]) 2 Ended (codes "07" ++ cr)
 seed_kept = (refl, refl)
 
 -- 10 IF 1=1 GOTO 10*3 / 20 PRINT "NO" / 30 PRINT 6*7 / 40 END
-constant_goto : Sends (line 10 (If (Number 1) Eq (Number 1) (Goto (Binary Multiply (Number 10) (Number 3)))) ∷ line 20 (Print ((Text (codes "NO")) ∷ []) true) ∷ line 30 (Print ((Value (Binary Multiply (Number 6) (Number 7))) ∷ []) true) ∷ line 40 End ∷ []) 1 ([]) ([]) 3 Ended (codes "42" ++ cr)
+constant_goto : Sends (line 10 (If (Number 1) Eq (Number 1) (Goto (Binary Multiply (Number 10) (Number 3))))
+    ∷ line 20 (Print ((Text (codes "NO")) ∷ []) true) ∷ line 30 (Print ((Value (Binary Multiply (Number 6) (Number 7))) ∷ []) true) ∷ line 40 End
+    ∷ []) 1 ([]) ([]) 3 Ended (codes "42" ++ cr)
 constant_goto = (refl, refl)
 
 -- 10 PRINT "HELLO" / 20 END
@@ -244,7 +274,8 @@ left_needs_two : need (nested_left 40) ≡ 2
 left_needs_two = refl
 
 -- 2+3*4 has the code of 14, and 10*3 is a direct jump
-folded : program_code (line 10 (Print (Value (Binary Add (Number 2) (Binary Multiply (Number 3) (Number 4))) ∷ []) true) ∷ []) ≡ program_code (line 10 (Print (Value (Number 14) ∷ []) true) ∷ [])
+folded : program_code (line 10 (Print (Value (Binary Add (Number 2) (Binary Multiply (Number 3) (Number 4))) ∷ []) true) ∷ [])
+    ≡ program_code (line 10 (Print (Value (Number 14) ∷ []) true) ∷ [])
 folded = refl
 
 direct : program_code (line 10 (Goto (Binary Multiply (Number 10) (Number 3))) ∷ []) ≡ record { number = 10; content = slots.Poll ∷ slots.JumpTo 30 ∷ [] } ∷ []

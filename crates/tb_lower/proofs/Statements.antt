@@ -1,5 +1,6 @@
 -- The slot code of a statement, run to its end, does what the statement does.
-use Rattle.std.proofs.Common.{◌≡◌, ℕ, ◌≤◌, Bool, true, false, if◌then◌else◌, List, [], ◌∷◌, ◌++◌, length, Option, Some, None, slice_index, refl, sym, ap, ap₂, ◌∙◌, append_assoc, arith}
+use Rattle.std.proofs.Common.{◌≡◌, ℕ, ◌≤◌, Bool, true, false, if◌then◌else◌, List, [], ◌∷◌, ◌++◌, length, Option, Some, None}
+use Rattle.std.proofs.Common.{slice_index, refl, sym, ap, ap₂, ◌∙◌, append_assoc, arith}
 use Rattle.tb_words.specs.Words.{digits_of, holds}
 use Rattle.tb_syntax.specs.Source.{Expression, Item, Text, Value, Zone, Statement, Let, Print, If, Goto, Gosub, Remark}
 use Rattle.tb_syntax.specs.Source as source
@@ -15,7 +16,8 @@ use Rattle.tb_meaning.proofs.Constants.{constant_value}
 use Rattle.tb_meaning.proofs.Runs.{after_nothing, then_assoc}
 use Rattle.tb_lower.proofs.Values.{stay_then, perform, value_runs}
 
-valued_then_step : (n : ℕ) (w : Valued) (s : State) (f : ℕ → State → Step State) (g : State → Step State) → with_value n w s (λ v s'. and_then (f v s') g) ≡ and_then (with_value n w s f) g
+valued_then_step : (n : ℕ) (w : Valued) (s : State) (f : ℕ → State → Step State) (g : State → Step State)
+    → with_value n w s (λ v s'. and_then (f v s') g) ≡ and_then (with_value n w s f) g
 valued_then_step n (Gives v seed) s f g = refl
 valued_then_step n (Fails k) s f g = refl
 
@@ -36,7 +38,8 @@ module _ (ns : List ℕ) (n : ℕ) where
   abbrev pub Does : ℕ → List Instr → (State → Step State) → Type 0
   Does size is go = (s : State) (w : Slots) → length w.words ≡ size → perform ns n is s w ≡ go s
 
-  item_runs : (i : Item) (is : List Instr) (go : State → Step State) (size : ℕ) → item_need i ≤ size → Does size is go → Does size (item_code i ++ is) (λ s. and_then (print_item n i s) go)
+  item_runs : (i : Item) (is : List Instr) (go : State → Step State) (size : ℕ) → item_need i ≤ size → Does size is go
+      → Does size (item_code i ++ is) (λ s. and_then (print_item n i s) go)
   item_runs (Text t) is go size fits h s w len =
       staying_runs w (send t s) (perform ns n is) ∙ then_same (send t s) _ go (λ s'. h s' w len)
   item_runs (Value e) is go size fits h s w len =
@@ -50,7 +53,8 @@ module _ (ns : List ℕ) (n : ℕ) where
   item_runs Zone is go size fits h s w len =
       staying_runs w (send (zone s.column) s) (perform ns n is) ∙ then_same (send (zone s.column) s) _ go (λ s'. h s' w len)
 
-  items_runs : (items : List Item) (is : List Instr) (go : State → Step State) (size : ℕ) → items_need items ≤ size → Does size is go → Does size (items_code items ++ is) (λ s. and_then (print_items n items s) go)
+  items_runs : (items : List Item) (is : List Instr) (go : State → Step State) (size : ℕ) → items_need items ≤ size → Does size is go
+      → Does size (items_code items ++ is) (λ s. and_then (print_items n items s) go)
   items_runs [] is go size fits h s w len = h s w len ∙ sym (after_nothing (go s))
   items_runs (i ∷ items) is go size fits h s w len =
       ap (λ code. perform ns n code s w) (append_assoc (item_code i) (items_code items) is)
@@ -65,19 +69,22 @@ module _ (ns : List ℕ) (n : ℕ) where
       ∙ sym (then_assoc (input n x s) (inputs n xs) (fall ns n))
 
   -- the line goes on where the relation holds
-  leave_runs : (b : Bool) (is : List Instr) (s : State) (w : Slots) (go : Step State) → perform ns n is s w ≡ go → stay_then (if b then Goes (Stays s w) [] else leaving (fall ns n s)) (perform ns n is) ≡ (if b then go else fall ns n s)
+  leave_runs : (b : Bool) (is : List Instr) (s : State) (w : Slots) (go : Step State) → perform ns n is s w ≡ go
+      → stay_then (if b then Goes (Stays s w) [] else leaving (fall ns n s)) (perform ns n is) ≡ (if b then go else fall ns n s)
   leave_runs true is s w go h = after_nothing _ ∙ h
   leave_runs false is s w go h = refl
 
   -- a jump to a constant line, and one to a line that is worked out
-  goto_runs : (e : Expression) (x : Option ℕ) → constant e ≡ x → (size : ℕ) → need e ≤ size → Does size (target_code x JumpTo (value_code e 0 ++ Jump ∷ [])) (λ s. valued n e s (go_to ns n))
+  goto_runs : (e : Expression) (x : Option ℕ) → constant e ≡ x → (size : ℕ) → need e ≤ size
+      → Does size (target_code x JumpTo (value_code e 0 ++ Jump ∷ [])) (λ s. valued n e s (go_to ns n))
   goto_runs e (Some v) same size fits s w len =
       leaving_ends (go_to ns n v s) _ ∙ sym (ap (λ x. with_value n x s (go_to ns n)) (constant_value e v s.vars s.seed same))
   goto_runs e None same size fits s w len =
       value_runs ns n e 0 (Jump ∷ []) s w (go_to ns n) (omega arith)
       (λ v s' w' kept at. leaving_ends (go_to ns n (slice_index w'.words 0) s') _ ∙ ap (λ u. go_to ns n u s') at)
 
-  gosub_runs : (e : Expression) (x : Option ℕ) → constant e ≡ x → (size : ℕ) → need e ≤ size → Does size (target_code x CallTo (value_code e 0 ++ Call ∷ [])) (λ s. valued n e s (go_sub ns n))
+  gosub_runs : (e : Expression) (x : Option ℕ) → constant e ≡ x → (size : ℕ) → need e ≤ size
+      → Does size (target_code x CallTo (value_code e 0 ++ Call ∷ [])) (λ s. valued n e s (go_sub ns n))
   gosub_runs e (Some v) same size fits s w len =
       leaving_ends (go_sub ns n v s) _ ∙ sym (ap (λ x. with_value n x s (go_sub ns n)) (constant_value e v s.vars s.seed same))
   gosub_runs e None same size fits s w len =
@@ -94,10 +101,12 @@ module _ (ns : List ℕ) (n : ℕ) where
       items_runs items [] (fall ns n) size (omega arith) (λ s' w' len'. refl) s w len
   statement_runs (source.Input xs) size fits s w len = inputs_runs xs size s w len
   statement_runs (If l rel r c) size fits s w len =
-      value_runs ns n l 0 (Hold ∷ (value_code r 0 ++ (LeaveUnless rel ∷ statement_code c))) s w (λ a s'. valued n r s' (λ b s''. if holds rel a b then does ns n c s'' else fall ns n s'')) (omega arith)
+      value_runs ns n l 0 (Hold ∷ (value_code r 0 ++ (LeaveUnless rel ∷ statement_code c))) s w
+          (λ a s'. valued n r s' (λ b s''. if holds rel a b then does ns n c s'' else fall ns n s'')) (omega arith)
       (λ a s' w' kept at.
       after_nothing _
-      ∙ value_runs ns n r 0 (LeaveUnless rel ∷ statement_code c) s' (record w' { held = slice_index w'.words 0 }) (λ b s''. if holds rel a b then does ns n c s'' else fall ns n s'') (omega (arith, kept.size))
+      ∙ value_runs ns n r 0 (LeaveUnless rel ∷ statement_code c) s' (record w' { held = slice_index w'.words 0 })
+          (λ b s''. if holds rel a b then does ns n c s'' else fall ns n s'') (omega (arith, kept.size))
       (λ b s'' w'' kept' at'.
       leave_runs (holds rel w''.held (slice_index w''.words 0)) (statement_code c) s'' w'' (does ns n c s'') (statement_runs c size (omega arith) s'' w'' (kept'.size ∙ kept.size ∙ len))
       ∙ ap₂ (λ x y. if holds rel x y then does ns n c s'' else fall ns n s'') (kept'.held ∙ at) at'))

@@ -1,5 +1,6 @@
 -- The slot code of an expression puts its value into the slot.
-use Rattle.std.proofs.Common.{◌≡◌, ℕ, ◌+◌, ◌≤◌, ◌<◌, ◌≢◌, List, [], ◌∷◌, ◌++◌, length, Option, Some, None, slice_index, refl, sym, ap, ap₂, ◌∙◌, append_assoc, arith, length-set, get_or-set_same, get_or-set_other}
+use Rattle.std.proofs.Common.{◌≡◌, ℕ, ◌+◌, ◌≤◌, ◌<◌, ◌≢◌, List, [], ◌∷◌, ◌++◌, length, Option, Some, None, slice_index}
+use Rattle.std.proofs.Common.{refl, sym, ap, ap₂, ◌∙◌, append_assoc, arith, length-set, get_or-set_same, get_or-set_other}
 use Rattle.tb_words.specs.Words.{word, negated}
 use Rattle.tb_syntax.specs.Source.{Expression, Number, Variable, Binary}
 use Rattle.tb_syntax.specs.Source as source
@@ -56,11 +57,13 @@ need_pos (source.Negate e) = need_pos e
 need_pos (Binary op l r) = omega (arith, need_pos l)
 need_pos (source.Random e) = need_pos e
 
-negate_valued : (n : ℕ) (w : Valued) (s : State) (go : ℕ → State → Step State) → with_value n w s (λ v s'. go (negated v) s') ≡ with_value n (valued_then w (λ v seed. Gives (negated v) seed)) s go
+negate_valued : (n : ℕ) (w : Valued) (s : State) (go : ℕ → State → Step State) → with_value n w s (λ v s'. go (negated v) s')
+    ≡ with_value n (valued_then w (λ v seed. Gives (negated v) seed)) s go
 negate_valued n (Gives v seed) s go = refl
 negate_valued n (Fails k) s go = refl
 
-random_valued : (n : ℕ) (w : Valued) (s : State) (go : ℕ → State → Step State) → with_value n w s (λ v s'. with_value n (random v s'.seed) s' go) ≡ with_value n (valued_then w random) s go
+random_valued : (n : ℕ) (w : Valued) (s : State) (go : ℕ → State → Step State) → with_value n w s (λ v s'. with_value n (random v s'.seed) s' go)
+    ≡ with_value n (valued_then w random) s go
 random_valued n (Gives v seed) s go = again (random v seed)
   where
     again : (w : Valued) → with_value n w (record s { seed = seed }) go ≡ with_value n w s go
@@ -73,28 +76,35 @@ reseeded n seed (Gives v seed') s go = refl
 reseeded n seed (Fails k) s go = refl
 
 -- both operands, and then the operator
-binary_right : (n : ℕ) (op : Operator) (a seed : ℕ) (w : Valued) (s : State) (go : ℕ → State → Step State) → with_value n w (record s { seed = seed }) (λ b s'. with_value n (given (apply op a b) s'.seed) s' go) ≡ with_value n (valued_then w (λ b seed'. given (apply op a b) seed')) s go
+binary_right : (n : ℕ) (op : Operator) (a seed : ℕ) (w : Valued) (s : State) (go : ℕ → State → Step State) → with_value n w (record s { seed = seed })
+    (λ b s'. with_value n (given (apply op a b) s'.seed) s' go) ≡ with_value n (valued_then w (λ b seed'. given (apply op a b) seed')) s go
 binary_right n op a seed (Gives b seed') s go = reseeded n seed' (given (apply op a b) seed') s go
 binary_right n op a seed (Fails k) s go = refl
 
-binary_valued : (n : ℕ) (op : Operator) (r : Expression) (w : Valued) (s : State) (go : ℕ → State → Step State) → with_value n w s (λ a s'. valued n r s' (λ b s''. with_value n (given (apply op a b) s''.seed) s'' go)) ≡ with_value n (valued_then w (λ a seed. valued_then (value r s.vars seed) (λ b seed'. given (apply op a b) seed'))) s go
+binary_valued : (n : ℕ) (op : Operator) (r : Expression) (w : Valued) (s : State) (go : ℕ → State → Step State)
+    → with_value n w s (λ a s'. valued n r s' (λ b s''. with_value n (given (apply op a b) s''.seed) s'' go))
+    ≡ with_value n (valued_then w (λ a seed. valued_then (value r s.vars seed) (λ b seed'. given (apply op a b) seed'))) s go
 binary_valued n op r (Gives a seed) s go = binary_right n op a seed (value r s.vars seed) s go
 binary_valued n op r (Fails k) s go = refl
 
 module _ (ns : List ℕ) (n : ℕ) where
   -- a value into slot k, and then the rest
-  into_runs : (k : ℕ) (is : List Instr) (s : State) (w : Slots) (x : Valued) (go : ℕ → State → Step State) → ((v : ℕ) (s' : State) → perform ns n is s' (with_word w k v) ≡ go v s') → stay_then (into n k x s w) (perform ns n is) ≡ with_value n x s go
+  into_runs : (k : ℕ) (is : List Instr) (s : State) (w : Slots) (x : Valued) (go : ℕ → State → Step State)
+      → ((v : ℕ) (s' : State) → perform ns n is s' (with_word w k v) ≡ go v s') → stay_then (into n k x s w) (perform ns n is) ≡ with_value n x s go
   into_runs k is s w (Gives v seed) go h = after_nothing _ ∙ h v (record s { seed = seed })
   into_runs k is s w (Fails f) go h = refl
 
   -- a constant into slot k, or code that does the same
-  constant_runs : (e : Expression) (x : Option ℕ) (code : List Instr) (k : ℕ) (is : List Instr) (s : State) (w : Slots) (go : ℕ → State → Step State) → constant e ≡ x → k + need e ≤ length w.words → ((v : ℕ) (s' : State) (w' : Slots) → Kept k w w' → slice_index w'.words k ≡ v → perform ns n is s' w' ≡ go v s') → perform ns n (code ++ is) s w ≡ valued n e s go → perform ns n (or_constant x k code ++ is) s w ≡ valued n e s go
+  constant_runs : (e : Expression) (x : Option ℕ) (code : List Instr) (k : ℕ) (is : List Instr) (s : State) (w : Slots) (go : ℕ → State → Step State)
+      → constant e ≡ x → k + need e ≤ length w.words → ((v : ℕ) (s' : State) (w' : Slots) → Kept k w w' → slice_index w'.words k ≡ v
+      → perform ns n is s' w' ≡ go v s') → perform ns n (code ++ is) s w ≡ valued n e s go → perform ns n (or_constant x k code ++ is) s w ≡ valued n e s go
   constant_runs e (Some v) code k is s w go same fits h runs =
       after_nothing _ ∙ h (word v) s (with_word w k (word v)) (put_kept k _ w) (put_at k _ w (omega (arith, need_pos e)))
       ∙ ap (λ u. go u s) (constant_word e v same) ∙ sym (ap (λ x. with_value n x s go) (constant_value e v s.vars s.seed same))
   constant_runs e None code k is s w go same fits h runs = runs
 
-  pub value_runs : (e : Expression) (k : ℕ) (is : List Instr) (s : State) (w : Slots) (go : ℕ → State → Step State) → k + need e ≤ length w.words → ((v : ℕ) (s' : State) (w' : Slots) → Kept k w w' → slice_index w'.words k ≡ v → perform ns n is s' w' ≡ go v s') → perform ns n (value_code e k ++ is) s w ≡ valued n e s go
+  pub value_runs : (e : Expression) (k : ℕ) (is : List Instr) (s : State) (w : Slots) (go : ℕ → State → Step State) → k + need e ≤ length w.words
+      → ((v : ℕ) (s' : State) (w' : Slots) → Kept k w w' → slice_index w'.words k ≡ v → perform ns n is s' w' ≡ go v s') → perform ns n (value_code e k ++ is) s w ≡ valued n e s go
   value_runs (Number m) k is s w go fits h =
       after_nothing _ ∙ h (word (word m)) s (with_word w k (word (word m))) (put_kept k _ w) (put_at k _ w (omega arith))
       ∙ ap (λ u. go u s) (constant_word (Number m) (word m) refl)
@@ -128,6 +138,7 @@ module _ (ns : List ℕ) (n : ℕ) where
       (λ b s'' w'' kept' at'.
       let left : slice_index w''.words k ≡ a = kept'.below k (omega arith) ∙ at in
       into_runs k is s'' w'' (given (apply op (slice_index w''.words k) (slice_index w''.words (k + 1))) s''.seed) go
-      (λ v s3. h v s3 (with_word w'' k v) (kept_trans k k w w'' _ (omega arith) (kept_trans k (k + 1) w w' w'' (omega arith) kept kept') (put_kept k v w'')) (put_at k v w'' (omega (arith, kept.size, kept'.size))))
+      (λ v s3. h v s3 (with_word w'' k v) (kept_trans k k w w'' _ (omega arith) (kept_trans k (k + 1) w w' w'' (omega arith) kept kept')
+          (put_kept k v w'')) (put_at k v w'' (omega (arith, kept.size, kept'.size))))
       ∙ ap₂ (λ x y. with_value n (given (apply op x y) s''.seed) s'' go) left at'))
       ∙ binary_valued n op r (value l s.vars s.seed) s go)

@@ -25,7 +25,8 @@ value_weight w (source.Negate e) k =
     (omega (arith, weigh_append w (value_code e k) (Negate k ∷ []), value_weight w e k))
 value_weight w (Binary op l r) k =
     let few : weigh w (value_code l k ++ (value_code r (k + 1) ++ Compute op k ∷ [])) ≤ w.work * (1 + (nodes l + nodes r)) =
-    omega (arith, weigh_append w (value_code l k) (value_code r (k + 1) ++ Compute op k ∷ []), weigh_append w (value_code r (k + 1)) (Compute op k ∷ []), value_weight w l k, value_weight w r (k + 1)) in
+    omega (arith, weigh_append w (value_code l k) (value_code r (k + 1) ++ Compute op k ∷ []), weigh_append w (value_code r (k + 1))
+        (Compute op k ∷ []), value_weight w l k, value_weight w r (k + 1)) in
     omega (arith, constant_weight w (constant (Binary op l r)) k (nodes l + nodes r) _ few)
 value_weight w (source.Random e) k = omega (arith, weigh_append w (value_code e k) (Random k ∷ []), value_weight w e k)
 
@@ -42,7 +43,8 @@ inputs_weight : (w : Weights) (xs : List ℕ) → weigh w (inputs_code xs) ≡ w
 inputs_weight w [] = omega arith
 inputs_weight w (x ∷ xs) = omega (arith, inputs_weight w xs)
 
-target_weight : (w : Weights) (x : Option ℕ) (direct : ℕ → Instr) (code : List Instr) (most : ℕ) → ((v : ℕ) → weigh w (direct v ∷ []) ≤ most) → weigh w code ≤ most → weigh w (target_code x direct code) ≤ most
+target_weight : (w : Weights) (x : Option ℕ) (direct : ℕ → Instr) (code : List Instr) (most : ℕ) → ((v : ℕ) → weigh w (direct v ∷ []) ≤ most)
+    → weigh w code ≤ most → weigh w (target_code x direct code) ≤ most
 target_weight w (Some v) direct code most h h' = h v
 target_weight w None direct code most h h' = h'
 
@@ -52,7 +54,8 @@ bounded (Print items true) w = omega (arith, weigh_append w (items_code items) (
 bounded (Print items false) w = omega (arith, weigh_append w (items_code items) [], items_weight w items)
 bounded (source.Input xs) w = omega (arith, inputs_weight w xs)
 bounded (If l rel r c) w =
-    omega (arith, weigh_append w (value_code l 0) (Hold ∷ (value_code r 0 ++ (LeaveUnless rel ∷ statement_code c))), weigh_append w (value_code r 0) (LeaveUnless rel ∷ statement_code c), value_weight w l 0, value_weight w r 0, bounded c w)
+    omega (arith, weigh_append w (value_code l 0) (Hold ∷ (value_code r 0 ++ (LeaveUnless rel ∷ statement_code c))),
+        weigh_append w (value_code r 0) (LeaveUnless rel ∷ statement_code c), value_weight w l 0, value_weight w r 0, bounded c w)
 bounded (Goto e) w =
     target_weight w (constant e) JumpTo _ _ (λ v. omega arith) (omega (arith, weigh_append w (value_code e 0) (Jump ∷ []), value_weight w e 0))
 bounded (Gosub e) w =
@@ -86,7 +89,8 @@ silent (source.Random e) k = texts_append (value_code e k) _ ∙ ap (λ ts. ts +
 value_texts : (e : Expression) (k : ℕ) (is : List Instr) → instr_texts (value_code e k ++ is) ≡ instr_texts is
 value_texts e k is = texts_append (value_code e k) is ∙ ap (λ ts. ts ++ instr_texts is) (silent e k)
 
-target_texts : (x : Option ℕ) (direct : ℕ → Instr) (code : List Instr) → ((v : ℕ) → instr_texts (direct v ∷ []) ≡ []) → instr_texts code ≡ [] → instr_texts (target_code x direct code) ≡ []
+target_texts : (x : Option ℕ) (direct : ℕ → Instr) (code : List Instr) → ((v : ℕ) → instr_texts (direct v ∷ []) ≡ []) → instr_texts code ≡ []
+    → instr_texts (target_code x direct code) ≡ []
 target_texts (Some v) direct code h h' = h v
 target_texts None direct code h h' = h'
 

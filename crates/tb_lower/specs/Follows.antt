@@ -39,5 +39,7 @@ IsListOf (Some c) None = ⊥
 pub record Follows (program : Program) (code : SlotCode) : Type 0 where
   pub same_numbers : numbers code ≡ numbers program
   pub lists : (n : ℕ) → IsListOf (content_at program n) (content_at code n)
-  pub reaches : (seed : ℕ) (text answers : List ℕ) (slots : Slots) → length slots.words ≡ 16 → (m : ℕ) → (k : ℕ) × (k ≤ m * (longest code + 1)) × Meets m (source_run program seed text answers m) (slot_run code seed text answers slots k) (beginnings code k (slot_start code seed text answers slots))
-  pub reaches_only : (seed : ℕ) (text answers : List ℕ) (slots : Slots) → length slots.words ≡ 16 → (k : ℕ) → (m : ℕ) × Agrees (slot_run code seed text answers slots k) (source_run program seed text answers m)
+  pub reaches : (seed : ℕ) (text answers : List ℕ) (slots : Slots) → length slots.words ≡ 16 → (m : ℕ) → (k : ℕ) × (k ≤ m * (longest code + 1))
+      × Meets m (source_run program seed text answers m) (slot_run code seed text answers slots k) (beginnings code k (slot_start code seed text answers slots))
+  pub reaches_only : (seed : ℕ) (text answers : List ℕ) (slots : Slots) → length slots.words ≡ 16 → (k : ℕ) → (m : ℕ)
+      × Agrees (slot_run code seed text answers slots k) (source_run program seed text answers m)

@@ -5,7 +5,8 @@ use Rattle.tb_syntax.specs.Source.{Numbered}
 use Rattle.tb_lower.specs.declared.slot_code.SlotInstr.{SlotInstr}
 use Rattle.tb_lower.specs.declared.slot_code.SlotInstr.TheVariants as instr
 use Rattle.tb_lower.specs.declared.slot_code.SlotLine.{SlotLine}
-use Rattle.tb_lower.specs.Slots.{Instr, Put, Load, Store, Negate, Compute, Random, SendText, SendNumber, SendZone, SendNewline, Input, Poll, Hold, LeaveUnless, Jump, Call, JumpTo, CallTo, Return, End, SlotCode}
+use Rattle.tb_lower.specs.Slots.{Instr, Put, Load, Store, Negate, Compute, Random, SendText, SendNumber, SendZone, SendNewline, Input, Poll, Hold, LeaveUnless}
+use Rattle.tb_lower.specs.Slots.{Jump, Call, JumpTo, CallTo, Return, End, SlotCode}
 
 -- an instruction; a letter by its place from 0 for A
 abbrev pub instr_of : SlotInstr → Instr

@@ -1,5 +1,6 @@
 -- Constant parts of expressions.
-use Rattle.std.proofs.Common.{◌≡◌, ℕ, ◌<◌, Bool, true, false, if◌then◌else◌, nat_eq, List, [], Option, Some, None, option_map, slice_get, slice_index, refl, ap, ◌∙◌, subst, arith}
+use Rattle.std.proofs.Common.{◌≡◌, ℕ, ◌<◌, Bool, true, false, if◌then◌else◌, nat_eq, List, [], Option, Some, None, option_map, slice_get}
+use Rattle.std.proofs.Common.{slice_index, refl, ap, ◌∙◌, subst, arith}
 use Rattle.tb_words.specs.Words.{word, negated, with_sign, quotient}
 use Rattle.tb_syntax.specs.declared.expressions.Operator.{Operator}
 use Rattle.tb_syntax.specs.declared.expressions.Operator.TheVariants.{Add, Subtract, Multiply, Divide}
@@ -22,7 +23,8 @@ negate_sure : (vars : List ℕ) (seed : ℕ) (e : Expression) (x : Option ℕ) �
 negate_sure vars seed e (Some v) h = ap (λ w. valued_then w (λ v seed'. Gives (negated v) seed')) h
 negate_sure vars seed e None h = tt
 
-binary_sure : (vars : List ℕ) (seed : ℕ) (op : Operator) (l r : Expression) (x y : Option ℕ) → IsSure vars seed l x → IsSure vars seed r y → IsSure vars seed (Binary op l r) (both (apply op) x y)
+binary_sure : (vars : List ℕ) (seed : ℕ) (op : Operator) (l r : Expression) (x y : Option ℕ) → IsSure vars seed l x → IsSure vars seed r y
+    → IsSure vars seed (Binary op l r) (both (apply op) x y)
 binary_sure vars seed op l r (Some a) (Some b) h h' =
     worked (apply op a b)
     (ap (λ w. valued_then w (λ a seed'. valued_then (value r vars seed') (λ b seed''. given (apply op a b) seed''))) h

@@ -15,7 +15,8 @@ negate_answer : (x : Option ℕ) (seed : ℕ) → valued_then (given x seed) (λ
 negate_answer (Some v) seed = refl
 negate_answer None seed = refl
 
-binary_answer : (op : Operator) (x y : Option ℕ) (seed : ℕ) → valued_then (given x seed) (λ a seed'. valued_then (given y seed') (λ b seed''. given (apply op a b) seed'')) ≡ given (both (apply op) x y) seed
+binary_answer : (op : Operator) (x y : Option ℕ) (seed : ℕ)
+    → valued_then (given x seed) (λ a seed'. valued_then (given y seed') (λ b seed''. given (apply op a b) seed'')) ≡ given (both (apply op) x y) seed
 binary_answer op (Some a) (Some b) seed = refl
 binary_answer op (Some a) None seed = refl
 binary_answer op None y seed = refl
@@ -43,11 +44,14 @@ answers vars len (Binary op x y) h l seed =
     ∙ then_same (known_value x vars) right
     ∙ binary_answer op (known_value x vars) (known_value y vars) seed
   where
-    then_same : (z : Option ℕ) → ((s : ℕ) → value y vars s ≡ given (known_value y vars) s) → valued_then (given z seed) (λ a seed'. valued_then (value y vars seed') (λ b seed''. given (apply op a b) seed'')) ≡ valued_then (given z seed) (λ a seed'. valued_then (given (known_value y vars) seed') (λ b seed''. given (apply op a b) seed''))
+    then_same : (z : Option ℕ) → ((s : ℕ) → value y vars s ≡ given (known_value y vars) s)
+        → valued_then (given z seed) (λ a seed'. valued_then (value y vars seed') (λ b seed''. given (apply op a b) seed''))
+        ≡ valued_then (given z seed) (λ a seed'. valued_then (given (known_value y vars) seed') (λ b seed''. given (apply op a b) seed''))
     then_same (Some a) right = ap (λ w. valued_then w (λ b seed''. given (apply op a b) seed'')) (right seed)
     then_same None right = refl
 answers vars len (Random e) h l seed = absurd cc
 
-pub evaluated : (e : Expression) (vars : List ℕ) → 26 ≤ length vars → IsFalse (has_random e) → IsLettered e → (x : Option ℤ) → option_map word_of x ≡ known_value e vars → IsEvaluation e vars (ok_or x DivideByZero)
+pub evaluated : (e : Expression) (vars : List ℕ) → 26 ≤ length vars → IsFalse (has_random e) → IsLettered e → (x : Option ℤ) → option_map word_of x
+    ≡ known_value e vars → IsEvaluation e vars (ok_or x DivideByZero)
 evaluated e vars len h l (Some v) same = (h, λ seed. answers vars len e h l seed ∙ ap (λ x. given x seed) (sym same))
 evaluated e vars len h l None same = (h, λ seed. answers vars len e h l seed ∙ ap (λ x. given x seed) (sym same))

@@ -22,12 +22,14 @@ joined_then out (Goes s t) f = joined_after out t (f s)
 joined_then out (Stops e t) f = refl
 
 -- a step that goes on as another one does
-pub ran_by : (x y : Step State) (old mid new : Interpreter) (r : Result (Unit {0}) RunStop) → joined old.output.sent.items x ≡ joined mid.output.sent.items y → Ran y mid new r → Ran x old new r
+pub ran_by : (x y : Step State) (old mid new : Interpreter) (r : Result (Unit {0}) RunStop) → joined old.output.sent.items x
+    ≡ joined mid.output.sent.items y → Ran y mid new r → Ran x old new r
 ran_by x y old mid new (Ok u) e h = e ∙ h
 ran_by x y old mid new (Err why) e h = subst (λ q. IsStopped q new.output.sent.items why) (sym e) h
 
 -- two steps, the first of which goes on
-pub ran_then : (x : Step State) (f : State → Step State) (old mid new : Interpreter) (r : Result (Unit {0}) RunStop) → joined old.output.sent.items x ≡ GoesOn (state_of mid) mid.output.sent.items → Ran (f (state_of mid)) mid new r → Ran (and_then x f) old new r
+pub ran_then : (x : Step State) (f : State → Step State) (old mid new : Interpreter) (r : Result (Unit {0}) RunStop) → joined old.output.sent.items x
+    ≡ GoesOn (state_of mid) mid.output.sent.items → Ran (f (state_of mid)) mid new r → Ran (and_then x f) old new r
 ran_then x f old mid new r h h' =
     ran_by (and_then x f) (f (state_of mid)) old mid new r (joined_then old.output.sent.items x f ∙ ap (λ q. run_then q f) h) h'
 
@@ -40,12 +42,14 @@ abbrev pub decided : List ℕ → ℕ → Statement → Bool → State → Step 
 decided ns n c b s = if b then does ns n c s else fall ns n s
 
 -- a run of so many lines, one of which was done
-pub run_goes_on : (step : State → Step State) (limit counter : ℕ) (s s' : State) (out out' : List ℕ) (whole : Run State) → counter < limit → advance_by step (limit - counter) (GoesOn s out) ≡ whole → joined out (step s) ≡ GoesOn s' out' → advance_by step (limit - (counter + 1)) (GoesOn s' out') ≡ whole
+pub run_goes_on : (step : State → Step State) (limit counter : ℕ) (s s' : State) (out out' : List ℕ) (whole : Run State) → counter < limit
+    → advance_by step (limit - counter) (GoesOn s out) ≡ whole → joined out (step s) ≡ GoesOn s' out' → advance_by step (limit - (counter + 1)) (GoesOn s' out') ≡ whole
 run_goes_on step limit counter s s' out out' whole lt before h =
     let one : limit - counter ≡ suc (limit - (counter + 1)) = omega arith in
     ap (advance_by step (limit - (counter + 1))) (sym h) ∙ ap (λ n. advance_by step n (GoesOn s out)) (sym one) ∙ before
 
-pub run_stops : (step : State → Step State) (limit counter : ℕ) (s : State) (out out' : List ℕ) (whole : Run State) (why : RunStop) → counter < limit → advance_by step (limit - counter) (GoesOn s out) ≡ whole → IsStopped (joined out (step s)) out' why → IsStopped whole out' why
+pub run_stops : (step : State → Step State) (limit counter : ℕ) (s : State) (out out' : List ℕ) (whole : Run State) (why : RunStop) → counter < limit
+    → advance_by step (limit - counter) (GoesOn s out) ≡ whole → IsStopped (joined out (step s)) out' why → IsStopped whole out' why
 run_stops step limit counter s out out' whole why lt before h =
     let one : limit - counter ≡ suc (limit - (counter + 1)) = omega arith in
     subst (λ r. IsStopped r out' why) (ap (λ n. advance_by step n (GoesOn s out)) (sym one) ∙ before) (stays (limit - (counter + 1)) (joined out (step s)) why h)

@@ -6,9 +6,9 @@ use Rattle.tb_syntax.specs.declared.expressions.Expr.{Expr}
 use Rattle.tb_syntax.specs.declared.expressions.Expr.TheVariants as expr
 use Rattle.tb_syntax.specs.declared.statements.PrintItem.{PrintItem}
 use Rattle.tb_syntax.specs.declared.statements.PrintItem.TheVariants as item
-use Rattle.tb_syntax.specs.declared.statements.Statement.{RustStatement as RustStatement}
+use Rattle.tb_syntax.specs.declared.statements.Statement.{Statement as RustStatement}
 use Rattle.tb_syntax.specs.declared.statements.Statement.TheVariants as statement
-use Rattle.tb_syntax.specs.Source.{Expression, Number, Variable, Binary, Item, Value, RustStatement, Let, Print, If, Goto, Gosub}
+use Rattle.tb_syntax.specs.Source.{Expression, Number, Variable, Binary, Item, Value, Statement, Let, Print, If, Goto, Gosub}
 use Rattle.tb_syntax.specs.Source as source
 use Rattle.tb_syntax.specs.PlainData.{expression_of, item_of, letters_of, statement_of}
 
@@ -28,7 +28,7 @@ abbrev pub AreLetters : List ℕ → Type 0
 AreLetters [] = Unit {0}
 AreLetters (x ∷ xs) = (x < 26) × AreLetters xs
 
-abbrev pub DoesLettered : RustStatement → Type 0
+abbrev pub DoesLettered : Statement → Type 0
 DoesLettered (Let x e) = (x < 26) × IsLettered e
 DoesLettered (Print items ends) = AreLettered items
 DoesLettered (source.Input xs) = AreLetters xs

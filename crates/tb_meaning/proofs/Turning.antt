@@ -1,5 +1,6 @@
 -- Reading a number byte by byte.
-use Rattle.std.proofs.Common.{◌≡◌, ◌⊎◌, inl, inr, ◌<◌, length, get_or, drop, ℕ, ◌+◌, ◌-◌, ◌*◌, ◌≤◌, Bool, true, false, List, [], ◌∷◌, nat_eq, nat_le, refl, sym, ap, ◌∙◌, arith}
+use Rattle.std.proofs.Common.{◌≡◌, ◌⊎◌, inl, inr, ◌<◌, length, get_or, drop, ℕ, ◌+◌, ◌-◌, ◌*◌, ◌≤◌, Bool, true, false, List}
+use Rattle.std.proofs.Common.{[], ◌∷◌, nat_eq, nat_le, refl, sym, ap, ◌∙◌, arith}
 use Rattle.std.proofs.lemmas.Bool.Decides.{nat_tests}
 use Rattle.std.proofs.lemmas.List.{at_drop_more}
 use Rattle.tb_words.specs.Words.{word, negated}
@@ -41,6 +42,7 @@ digit_turn r b text low high =
     rw (space, above, below) refl
 
 -- one byte more of a text
-pub keeps : (r r' : Reading) (text : List ℕ) (i b : ℕ) → i < length text → get_or text i 0 ≡ b → turn r (b ∷ drop (i + 1) text) ≡ turn r' (drop (i + 1) text) → turn r (drop i text) ≡ turn Nothing text → turn r' (drop (i + 1) text) ≡ turn Nothing text
+pub keeps : (r r' : Reading) (text : List ℕ) (i b : ℕ) → i < length text → get_or text i 0 ≡ b → turn r (b ∷ drop (i + 1) text)
+    ≡ turn r' (drop (i + 1) text) → turn r (drop i text) ≡ turn Nothing text → turn r' (drop (i + 1) text) ≡ turn Nothing text
 keeps r r' text i b lt at next before =
     sym next ∙ ap (λ x. turn r (x ∷ drop (i + 1) text)) (sym at) ∙ sym (at_drop_more (turn r) text i 0 lt) ∙ before

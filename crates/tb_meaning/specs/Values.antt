@@ -1,5 +1,6 @@
 -- What an expression is worth.
-use Rattle.std.specs.Prelude.{ℕ, ◌+◌, ◌-◌, ◌*◌, ◌%◌, ◌||◌, Bool, true, false, List, if◌then◌else◌, nat_le, nat_eq, Option, Some, None, slice_index, [], option_map, slice_get}
+use Rattle.std.specs.Prelude.{ℕ, ◌+◌, ◌-◌, ◌*◌, ◌%◌, ◌||◌, Bool, true, false, List, if◌then◌else◌, nat_le, nat_eq, Option, Some}
+use Rattle.std.specs.Prelude.{None, slice_index, [], option_map, slice_get}
 use Rattle.tb_syntax.specs.declared.expressions.Operator.{Operator}
 use Rattle.tb_syntax.specs.declared.expressions.Operator.TheVariants.{Add, Subtract, Multiply, Divide}
 use Rattle.tb_syntax.specs.Source.{Expression, Number, Variable, Negate, Binary, Random}

@@ -1,5 +1,6 @@
 -- The laws of the table.
-use Rattle.std.proofs.Common.{◌<◌, zero, suc, length, slice_index_or, arith, if◌then◌else◌, ◌≡◌, refl, ℕ, Bool, true, false, List, [], ◌∷◌, Some, sym, ap, ◌∙◌, eqb, nat_eq, map}
+use Rattle.std.proofs.Common.{◌<◌, zero, suc, length, slice_index_or, arith, if◌then◌else◌, ◌≡◌, refl, ℕ, Bool, true, false, List, []}
+use Rattle.std.proofs.Common.{◌∷◌, Some, sym, ap, ◌∙◌, eqb, nat_eq, map}
 use Rattle.std.specs.Prelude.{Contains}
 use Rattle.std.specs.List.{IsDistinct}
 use Rattle.std.specs.Cmp.{nat_eq_equiv}

@@ -1,5 +1,6 @@
 -- Lines byte by byte: each walk at place i, where the next byte is either skipped, taken or not there.
-use Rattle.std.proofs.Common.{◌≡◌, ◌≢◌, ℕ, ◌+◌, ◌-◌, ◌<◌, ◌≤◌, true, false, List, [], ◌∷◌, ◌++◌, length, get_or, take, drop, Some, None, refl, sym, ◌∙◌, append_assoc, add-one, arith, drop-cons, ◌&&◌}
+use Rattle.std.proofs.Common.{◌≡◌, ◌≢◌, ℕ, ◌+◌, ◌-◌, ◌<◌, ◌≤◌, true, false, List, [], ◌∷◌, ◌++◌, length, get_or, take}
+use Rattle.std.proofs.Common.{drop, Some, None, refl, sym, ◌∙◌, append_assoc, add-one, arith, drop-cons, ◌&&◌}
 use Rattle.std.proofs.lemmas.List.{append-nil, drop_all, take_all, length-drop}
 use Rattle.std.proofs.lemmas.Bool.{ne_eqb, eq-eqb}
 use Rattle.tb_parser.specs.declared.squeeze.Mode.{Mode}
@@ -42,7 +43,8 @@ module _ (line : List ℕ) (i : ℕ) where
       → (old ++ record { byte = shown m here; column = column; in_code = is_in_code m } ∷ []) ++ squeezed_from (after m here) (column + 1) (drop (i + 1) line)
       ≡ old ++ squeezed_from m column (drop i line)
   unfolding squeezed_from
-  squeezed_kept m column old lt kept = rw (split line i 0 lt, kept) (append_assoc old (record { byte = shown m here; column = column; in_code = is_in_code m } ∷ []) (squeezed_from (after m here) (column + 1) (drop (i + 1) line)))
+  squeezed_kept m column old lt kept = rw (split line i 0 lt, kept)
+      (append_assoc old (record { byte = shown m here; column = column; in_code = is_in_code m } ∷ []) (squeezed_from (after m here) (column + 1) (drop (i + 1) line)))
 
   pub squeezed_dropped : (m : Mode) (column : ℕ) → i < length line → is_dropped m here ≡ true
       → squeezed_from (after m here) (column + 1) (drop (i + 1) line) ≡ squeezed_from m column (drop i line)

@@ -1,5 +1,6 @@
 -- No text, line or file has two meanings.
-use Rattle.std.proofs.Common.{◌≡◌, ◌≢◌, ℕ, ◌+◌, ◌<◌, ◌≤◌, Bool, true, false, List, [], ◌∷◌, length, Option, Some, None, Result, Ok, Err, refl, sym, ap, ◌∙◌, arith, ◌⊎◌, inl, inr, if◌then◌else◌, nat_le, ◌&&◌}
+use Rattle.std.proofs.Common.{◌≡◌, ◌≢◌, ℕ, ◌+◌, ◌<◌, ◌≤◌, Bool, true, false, List, [], ◌∷◌, length, Option, Some, None}
+use Rattle.std.proofs.Common.{Result, Ok, Err, refl, sym, ap, ◌∙◌, arith, ◌⊎◌, inl, inr, if◌then◌else◌, nat_le, ◌&&◌}
 use Rattle.std.proofs.lemmas.Bool.Decides.{nat_tests}
 use Rattle.tb_syntax.specs.Source.{Statement, Expression, Program}
 use Rattle.tb_grammar.specs.Statements.{States}
@@ -10,7 +11,9 @@ use Rattle.tb_parser.proofs.Numbers.{number_has_digit, blank_squeezed}
 use Rattle.tb_parser.specs.declared.errors.SourceErrorKind.TheVariants.{LineTooLong, BadByte, Unnumbered, BadLineNumber, NotCompiled, NumberTooLarge}
 use Rattle.tb_parser.specs.declared.squeeze.Mode.TheVariants.{Code}
 use Rattle.tb_parser.specs.declared.squeeze.Placed.{Placed}
-use Rattle.tb_parser.specs.Readings.{Refusal, at_column, Grammar, TextIs, reads, not_compiled, syntax, number_too_large, IsFit, IsUnfit, line_too_long, bad_byte, IsLineNumber, IsNumbered, Edit, Nothing, Sets, Deletes, LineIs, blank, unfit, unnumbered, bad_line_number, deletes, sets, unread, Expresses, ExpressionIs, unfit_text, fit_text}
+use Rattle.tb_parser.specs.Readings.{Refusal, at_column, Grammar, TextIs, reads, not_compiled, syntax, number_too_large, IsFit, IsUnfit, line_too_long}
+use Rattle.tb_parser.specs.Readings.{bad_byte, IsLineNumber, IsNumbered, Edit, Nothing, Sets, Deletes, LineIs, blank, unfit, unnumbered, bad_line_number}
+use Rattle.tb_parser.specs.Readings.{deletes, sets, unread, Expresses, ExpressionIs, unfit_text, fit_text}
 use Rattle.tb_parser.specs.Scans.{first_written, first_bad, starts_with_digit, number_at, left_out_word, column_left}
 use Rattle.tb_parser.specs.Squeezed.{squeezed, bytes}
 use Rattle.tb_parser.specs.Files.{Outcome, refused_at, edited, LinesAre, end, bad, good}
@@ -122,7 +125,8 @@ unfolding judged numbered_line
 judged_number line number text n =
     let low : 1 ≤ (number_at 0 (squeezed line)).value = rw (n.value) n.in_range.0 in
     let written = number_written line low in
-    rw (written.1, low_enough (length line) 255 n.fit.short, n.fit.clean, number_has_digit (squeezed line) low, n.value, n.rest, low_enough 1 number n.in_range.0, low_enough number 32767 n.in_range.1) refl
+    rw (written.1, low_enough (length line) 255 n.fit.short, n.fit.clean, number_has_digit (squeezed line) low, n.value, n.rest,
+        low_enough 1 number n.in_range.0, low_enough number 32767 n.in_range.1) refl
 
 statement_behind : (number : ℕ) (text : List Placed) → text ≢ [] → behind_number number text ≡ Statement number text
 unfolding behind_number
@@ -137,8 +141,10 @@ judged_as line _ (unfit first _ e (bad_byte column short f)) = inl (rw (e, low_e
 judged_as line _ (unnumbered first e fit d) = inl (rw (e, low_enough (length line) 255 fit.short, fit.clean, d) refl)
 judged_as line _ (bad_line_number first e fit d n) = inl (rw (e, low_enough (length line) 255 fit.short, fit.clean, d, no_number (number_at 0 (squeezed line)).value n) refl)
 judged_as line _ (deletes number n) = inl (judged_number line number [] n)
-judged_as line _ (sets number text c n some t) = inr (record { number = number; text = text; is_judged = judged_number line number text n ∙ statement_behind number text some; said = Ok c; reading = t; meaning = refl })
-judged_as line _ (unread number text r n some t) = inr (record { number = number; text = text; is_judged = judged_number line number text n ∙ statement_behind number text some; said = Err r; reading = t; meaning = refl })
+judged_as line _ (sets number text c n some t) = inr (record { number = number; text = text; is_judged = judged_number line number text n
+    ∙ statement_behind number text some; said = Ok c; reading = t; meaning = refl })
+judged_as line _ (unread number text r n some t) = inr (record { number = number; text = text; is_judged = judged_number line number text n
+    ∙ statement_behind number text some; said = Err r; reading = t; meaning = refl })
 
 decided_in : Result Edit Refusal → Judged → Result Edit Refusal
 decided_in m (Decided d) = d

@@ -22,7 +22,8 @@ use Rattle.tb_profile_engine.specs.Running.{IsProfile}
 
 -- A profile of the program that a source makes: a row for each of its lines in order, rows that add up to the whole run,
 -- and the table and the page of these rows with the statements of the source.
-pub record IsProfileOf {O : Type 0} (gives : O → Content → Event → O → Type 0) (o : O) (text answers : List ℕ) (limit : ℕ) (source : List ℕ) (compiled : Compiled) (html shown : List ℕ) (ran : Ran) : Type 0 where
+pub record IsProfileOf {O : Type 0} (gives : O → Content → Event → O → Type 0) (o : O) (text answers : List ℕ) (limit : ℕ) (source : List ℕ)
+    (compiled : Compiled) (html shown : List ℕ) (ran : Ran) : Type 0 where
   pub program : Program
   pub made : LinesMake source (Ok program)
   pub is : IsProfile gives o text answers limit compiled ran
@@ -48,7 +49,8 @@ MakesTexts makes (Err (Refused e)) = ⊥
 MakesTexts makes (Err NoMemory) = Unit {0}
 
 -- what comes of profiling a source: a table with its page, or the compiler's refusal
-abbrev pub ProfilesSource : {O : Type 0} → (O → Content → Event → O → Type 0) → O → ℕ → List ℕ → List ℕ → ℕ → List Warning → List ℕ → List ℕ → Product → Type 0
+abbrev pub ProfilesSource : {O : Type 0} → (O → Content → Event → O → Type 0) → O → ℕ → List ℕ → List ℕ → ℕ → List Warning → List ℕ → List ℕ
+    → Product → Type 0
 ProfilesSource gives o seed text answers limit warnings page source product =
     FromSource seed (λ compiled. Profiles gives o text answers limit source compiled page) warnings source product
 

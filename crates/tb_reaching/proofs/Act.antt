@@ -1,5 +1,6 @@
 -- The machine does what the view says, whatever the ROM does.
-use Rattle.std.proofs.Common.{◌≡◌, ℕ, suc, ◌+◌, ◌/◌, ◌%◌, ◌≤◌, Bool, true, false, ◌||◌, ◌&&◌, not, List, [], ◌∷◌, ◌++◌, length, refl, sym, ap, ◌∙◌, subst, ⊎_elim, arith, eqb, leb, Option, Some, None, length-append}
+use Rattle.std.proofs.Common.{◌≡◌, ℕ, suc, ◌+◌, ◌/◌, ◌%◌, ◌≤◌, Bool, true, false, ◌||◌, ◌&&◌, not, List, [], ◌∷◌}
+use Rattle.std.proofs.Common.{◌++◌, length, refl, sym, ap, ◌∙◌, subst, ⊎_elim, arith, eqb, leb, Option, Some, None, length-append}
 use Rattle.std.specs.Prelude.{Result, Ok, Err, if◌then◌else◌, ◌==◌}
 use Rattle.std.proofs.lemmas.Bool.{leb-true, ne_eqb}
 use Rattle.arrayvec.specs.ArrayVec.{ArrayVec}
@@ -24,8 +25,10 @@ use Rattle.tb_kernal.specs.Places.{all_writable, service_at}
 use Rattle.tb_kernal.specs.Machine.{State, status, status_by, is_home, waits_for, happens, gone, gone_at, stepped, interrupted, is_lawful, is_stopped}
 use Rattle.tb_kernal.proofs.Keeping.{written_keeps}
 use Rattle.tb_reaching.specs.View.{View, Setup, At, Stays, Part, Holds, Fits, Stacked, with_s, is_data, is_program, is_fixed}
-use Rattle.tb_reaching.proofs.Acting.{all_data, from_part, read_view, kind_of, finish_view, push_view, pushed_byte, with_pulled, pull_one, pull_two, pull_three, behind, act_kind, act_operand, act_row, act_opcode, act}
-use Rattle.tb_reaching.proofs.Memory.{fixed_owned, stack_owned, put_same, put_other, data_leaves, written_same, stacked_same, program_not_data, program_fixed, data_fixed, stack_not_data, fixed_not_stack, fixed_open, stack_open, program_range}
+use Rattle.tb_reaching.proofs.Acting.{all_data, from_part, read_view, kind_of, finish_view, push_view, pushed_byte, with_pulled, pull_one, pull_two, pull_three}
+use Rattle.tb_reaching.proofs.Acting.{behind, act_kind, act_operand, act_row, act_opcode, act}
+use Rattle.tb_reaching.proofs.Memory.{fixed_owned, stack_owned, put_same, put_other, data_leaves, written_same, stacked_same, program_not_data, program_fixed}
+use Rattle.tb_reaching.proofs.Memory.{data_fixed, stack_not_data, fixed_not_stack, fixed_open, stack_open, program_range}
 use Rattle.tb_reaching.proofs.Readers.{ok≢err, moved, on_a_moved, more_operand, more_executed}
 
 pub some_eq : {A : Type 0} {a b : A} → Some a ≡ Some b → a ≡ b
@@ -99,7 +102,8 @@ module _ (f : Setup) (v : View) (s : State) (at : At f v s) where
   rom_wrote ws h = record {
     regs = at.regs;
     depth = at.depth;
-    stack = stacked_same (0x0101 + s.regs.s) (0x0101 + s.regs.s) s.mem (written s.mem ws) _ (omega arith) (omega (arith, at.depth)) (λ a lo hi. rom_leaves ws h a (stack_owned s.regs.s a lo hi)) at.stack;
+    stack = stacked_same (0x0101 + s.regs.s) (0x0101 + s.regs.s) s.mem (written s.mem ws) _ (omega arith) (omega (arith, at.depth))
+        (λ a lo hi. rom_leaves ws h a (stack_owned s.regs.s a lo hi)) at.stack;
     bytes = λ a e. rom_leaves ws h a (fixed_owned s.regs.s a e) ∙ at.bytes a e;
     text = at.text;
     answers = at.answers;
@@ -142,7 +146,8 @@ module _ (f : Setup) (v : View) (s : State) (at : At f v s) where
   leaves_data ws h = record {
     regs = at.regs;
     depth = at.depth;
-    stack = stacked_same (0x0101 + s.regs.s) (0x0101 + s.regs.s) s.mem (written s.mem ws) _ (omega arith) (omega (arith, at.depth)) (λ a lo hi. data_leaves a ws s.mem (stack_not_data a (omega arith) hi) h) at.stack;
+    stack = stacked_same (0x0101 + s.regs.s) (0x0101 + s.regs.s) s.mem (written s.mem ws) _ (omega arith) (omega (arith, at.depth))
+        (λ a lo hi. data_leaves a ws s.mem (stack_not_data a (omega arith) hi) h) at.stack;
     bytes = λ a t. written_same a ws s.mem v.mem (at.bytes a t);
     text = at.text;
     answers = at.answers;
@@ -150,19 +155,22 @@ module _ (f : Setup) (v : View) (s : State) (at : At f v s) where
   }
 
   -- ---- the stack
-  pushed : (b : ℕ) (r : Regs) → 1 ≤ s.regs.s → At f (record v { regs = r; stack = b ∷ v.stack }) (record s { regs = with_s ((s.regs.s + 255) % 256) r; mem = with_byte s.mem (256 + s.regs.s) b })
+  pushed : (b : ℕ) (r : Regs) → 1 ≤ s.regs.s → At f (record v { regs = r; stack = b ∷ v.stack }) (record s { regs = with_s ((s.regs.s + 255) % 256) r;
+      mem = with_byte s.mem (256 + s.regs.s) b })
   pushed b r some =
       let down = (s.regs.s + 255) % 256 in
       let one_less : down + 1 ≡ s.regs.s = omega (arith, s_small) in
       let m = with_byte s.mem (256 + s.regs.s) b in
-      let other : (a : ℕ) → is_fixed a ≡ true → m a ≡ s.mem a = λ a t. put_other s.mem (256 + s.regs.s) b a (λ e. ⊎_elim (λ h. omega arith) (λ h. omega (arith, s_small)) (fixed_not_stack a t)) in
+      let other : (a : ℕ) → is_fixed a ≡ true → m a ≡ s.mem a = λ a t. put_other s.mem (256 + s.regs.s) b a
+          (λ e. ⊎_elim (λ h. omega arith) (λ h. omega (arith, s_small)) (fixed_not_stack a t)) in
       let at_one : 0x0101 + down + 1 ≡ 0x0101 + s.regs.s = omega arith in
       record {
         regs = refl;
         depth = omega (arith, at.depth);
         stack = (
           put_same s.mem (256 + s.regs.s) b (0x0101 + down) (omega arith),
-          subst (λ n. Stacked m n (v.stack ++ f.rest)) (sym at_one) (stacked_same (0x0101 + s.regs.s) (0x0101 + s.regs.s) s.mem m _ (omega arith) (omega (arith, at.depth)) (λ a lo hi. put_other s.mem (256 + s.regs.s) b a (λ e. omega arith)) at.stack),
+          subst (λ n. Stacked m n (v.stack ++ f.rest)) (sym at_one) (stacked_same (0x0101 + s.regs.s) (0x0101 + s.regs.s) s.mem m _ (omega arith)
+              (omega (arith, at.depth)) (λ a lo hi. put_other s.mem (256 + s.regs.s) b a (λ e. omega arith)) at.stack),
         );
         bytes = λ a t. other a t ∙ at.bytes a t;
         text = at.text;
@@ -171,7 +179,8 @@ module _ (f : Setup) (v : View) (s : State) (at : At f v s) where
       }
 
   -- a byte from the stack
-  pub pulled : (b : ℕ) (r : Regs) (bs : List ℕ) → v.stack ≡ b ∷ bs → (up s.regs.s ≡ s.regs.s + 1) × (s.mem (256 + up s.regs.s) ≡ b) × (reading s.mem (256 + up s.regs.s) ≡ Ok b) × At f (record v { regs = r; stack = bs }) (record s { regs = with_s (up s.regs.s) r })
+  pub pulled : (b : ℕ) (r : Regs) (bs : List ℕ) → v.stack ≡ b ∷ bs → (up s.regs.s ≡ s.regs.s + 1) × (s.mem (256 + up s.regs.s) ≡ b)
+      × (reading s.mem (256 + up s.regs.s) ≡ Ok b) × At f (record v { regs = r; stack = bs }) (record s { regs = with_s (up s.regs.s) r })
   pulled b r bs e =
       let st : Stacked s.mem (0x0101 + s.regs.s) (b ∷ (bs ++ f.rest)) = subst (λ l. Stacked s.mem (0x0101 + s.regs.s) (l ++ f.rest)) e at.stack in
       let len : length (v.stack ++ f.rest) ≡ suc (length (bs ++ f.rest)) = ap (λ l. length (l ++ f.rest)) e in
@@ -218,11 +227,13 @@ module _ (f : Setup) (room : ℕ) (fits : Fits f room) (v : View) (s : State) (a
   pushed_left : (bs : List ℕ) (r : Regs) (w : View) → push_view room v bs r ≡ Some w → (leb (length (bs ++ v.stack)) room ≡ true) × (record v { regs = r; stack = bs ++ v.stack } ≡ w)
   pushed_left bs r w h = go (leb (length (bs ++ v.stack)) room) refl h
     where
-      go : (t : Bool) → leb (length (bs ++ v.stack)) room ≡ t → (if t then Some (record v { regs = r; stack = bs ++ v.stack }) else None) ≡ Some w → (leb (length (bs ++ v.stack)) room ≡ true) × (record v { regs = r; stack = bs ++ v.stack } ≡ w)
+      go : (t : Bool) → leb (length (bs ++ v.stack)) room ≡ t → (if t then Some (record v { regs = r; stack = bs ++ v.stack }) else None) ≡ Some w
+          → (leb (length (bs ++ v.stack)) room ≡ true) × (record v { regs = r; stack = bs ++ v.stack } ≡ w)
       go true e h = (e, some_eq h)
       go false e h = cc
 
-  calls_left : (r : Regs) (o : ℕ) (w : View) → push_view room v (behind r % 256 ∷ behind r / 256 ∷ []) (record r { pc = o }) ≡ Some w → Left w (executed Jsr (with_s s.regs.s r) (reading s.mem) o)
+  calls_left : (r : Regs) (o : ℕ) (w : View) → push_view room v (behind r % 256 ∷ behind r / 256 ∷ []) (record r { pc = o }) ≡ Some w
+      → Left w (executed Jsr (with_s s.regs.s r) (reading s.mem) o)
   calls_left r o w h =
       let lo = behind r % 256 in
       let hi = behind r / 256 in
@@ -282,10 +293,12 @@ module _ (f : Setup) (room : ℕ) (fits : Fits f room) (v : View) (s : State) (a
       let one = pushed f v s at b r (omega arith) in
       (_, refl, subst (λ x. At f x (record s { regs = with_s ((s.regs.s + 255) % 256) r; mem = with_byte s.mem (256 + s.regs.s) b })) p.1 one)
 
-  pulls_left : (m : Mnemonic) (r : Regs) (w : View) → pull_one m v r v.stack ≡ Some w → Left w (and_then (pulled_byte (with_s s.regs.s r) (reading s.mem)) (λ b. unchanged (with_s (up s.regs.s) (with_pulled m r b))))
+  pulls_left : (m : Mnemonic) (r : Regs) (w : View) → pull_one m v r v.stack ≡ Some w
+      → Left w (and_then (pulled_byte (with_s s.regs.s r) (reading s.mem)) (λ b. unchanged (with_s (up s.regs.s) (with_pulled m r b))))
   pulls_left m r w h = go v.stack refl h
     where
-      go : (l : List ℕ) → v.stack ≡ l → pull_one m v r l ≡ Some w → Left w (and_then (pulled_byte (with_s s.regs.s r) (reading s.mem)) (λ b. unchanged (with_s (up s.regs.s) (with_pulled m r b))))
+      go : (l : List ℕ) → v.stack ≡ l → pull_one m v r l ≡ Some w
+          → Left w (and_then (pulled_byte (with_s s.regs.s r) (reading s.mem)) (λ b. unchanged (with_s (up s.regs.s) (with_pulled m r b))))
       go [] e h = absurd (none≢some w h)
       go (b ∷ bs) e h =
           let one = pulled f v s at b (with_pulled m r b) bs e in (
@@ -295,7 +308,8 @@ module _ (f : Setup) (room : ℕ) (fits : Fits f room) (v : View) (s : State) (a
           )
 
   -- any mnemonic, where a reader gives the machine's bytes at the operand
-  pub left : (read : Reader) (m : Mnemonic) (r : Regs) (o : ℕ) → ((b : ℕ) → read o ≡ Ok b → reading s.mem o ≡ Ok b) → (w : View) → act_kind (kind_of m) room m v r read o ≡ Some w → Left w (executed m (with_s s.regs.s r) (reading s.mem) o)
+  pub left : (read : Reader) (m : Mnemonic) (r : Regs) (o : ℕ) → ((b : ℕ) → read o ≡ Ok b → reading s.mem o ≡ Ok b) → (w : View)
+      → act_kind (kind_of m) room m v r read o ≡ Some w → Left w (executed m (with_s s.regs.s r) (reading s.mem) o)
   left read Jsr r o g w h = calls_left r o w h
   left read Rts r o g w h = returns_left r o w h
   left read Rti r o g w h = resumes_left r o w h
@@ -312,28 +326,36 @@ module _ (f : Setup) (room : ℕ) (fits : Fits f room) (v : View) (s : State) (a
   on_a_left m r w h = done_left w (executed_on_a m r) _ (λ e p. on_a_moved s.regs.s m r ∙ ap (λ x. elim x as (λ _. Result Outcome Wrong) [ Ok e ↦ Ok (moved s.regs.s e) | Err w ↦ Err w ]) p) h
 
   -- an instruction by its row, where its operand and a reader of it are known
-  pub mode_left : (read : Reader) (m : Mnemonic) (mode : Mode) (x : Result ℕ Wrong) → ((o : ℕ) → x ≡ Ok o → operand_of mode (with_s s.regs.s v.regs) (reading s.mem) ≡ Ok o) → ((o : ℕ) → x ≡ Ok o → (b : ℕ) → read o ≡ Ok b → reading s.mem o ≡ Ok b) → (w : View) → (if is_accumulator mode then finish_view v (executed_on_a m (advanced v.regs mode)) else act_operand room m v (advanced v.regs mode) read x) ≡ Some w → Left w (instruction (Some (m, mode)) (with_s s.regs.s v.regs) (reading s.mem))
+  pub mode_left : (read : Reader) (m : Mnemonic) (mode : Mode) (x : Result ℕ Wrong)
+      → ((o : ℕ) → x ≡ Ok o → operand_of mode (with_s s.regs.s v.regs) (reading s.mem) ≡ Ok o) → ((o : ℕ) → x ≡ Ok o → (b : ℕ) → read o ≡ Ok b
+      → reading s.mem o ≡ Ok b) → (w : View) → (if is_accumulator mode then finish_view v (executed_on_a m (advanced v.regs mode))
+      else act_operand room m v (advanced v.regs mode) read x) ≡ Some w → Left w (instruction (Some (m, mode)) (with_s s.regs.s v.regs) (reading s.mem))
   mode_left read m mode x there bytes w h = by_mode (is_accumulator mode) h
     where
-      by_operand : (y : Result ℕ Wrong) → x ≡ y → act_operand room m v (advanced v.regs mode) read y ≡ Some w → Left w (and_then (operand_of mode (with_s s.regs.s v.regs) (reading s.mem)) (λ o. executed m (with_s s.regs.s (advanced v.regs mode)) (reading s.mem) o))
+      by_operand : (y : Result ℕ Wrong) → x ≡ y → act_operand room m v (advanced v.regs mode) read y ≡ Some w
+          → Left w (and_then (operand_of mode (with_s s.regs.s v.regs) (reading s.mem)) (λ o. executed m (with_s s.regs.s (advanced v.regs mode)) (reading s.mem) o))
       by_operand (Err e) p h = absurd (none≢some w h)
       by_operand (Ok o) p h =
           let l = left read m (advanced v.regs mode) o (bytes o p) w h in
           (l.0, ap (λ x. and_then x (λ o. executed m (with_s s.regs.s (advanced v.regs mode)) (reading s.mem) o)) (there o p) ∙ l.1, l.2)
 
-      by_mode : (t : Bool) → (if t then finish_view v (executed_on_a m (advanced v.regs mode)) else act_operand room m v (advanced v.regs mode) read x) ≡ Some w → Left w (if t then executed_on_a m (with_s s.regs.s (advanced v.regs mode)) else and_then (operand_of mode (with_s s.regs.s v.regs) (reading s.mem)) (λ o. executed m (with_s s.regs.s (advanced v.regs mode)) (reading s.mem) o))
+      by_mode : (t : Bool) → (if t then finish_view v (executed_on_a m (advanced v.regs mode)) else act_operand room m v (advanced v.regs mode) read
+          x) ≡ Some w → Left w (if t then executed_on_a m (with_s s.regs.s (advanced v.regs mode)) else and_then
+          (operand_of mode (with_s s.regs.s v.regs) (reading s.mem)) (λ o. executed m (with_s s.regs.s (advanced v.regs mode)) (reading s.mem) o))
       by_mode true h = on_a_left m (advanced v.regs mode) w h
       by_mode false h = by_operand x refl h
 
   -- one Go at an opcode of the program
-  pub goes_by : (b : ℕ) → f.code v.regs.pc ≡ Some b → (b == 0) ≡ false → (w : View) → Left w (instruction (find_row rows b) (with_s s.regs.s v.regs) (reading s.mem)) → (k : Clobber) → At f w (happens s (Go k)) × ((happens s (Go k)).sent ≡ s.sent)
+  pub goes_by : (b : ℕ) → f.code v.regs.pc ≡ Some b → (b == 0) ≡ false → (w : View)
+      → Left w (instruction (find_row rows b) (with_s s.regs.s v.regs) (reading s.mem)) → (k : Clobber) → At f w (happens s (Go k)) × ((happens s (Go k)).sent ≡ s.sent)
   goes_by b here some w l k =
       let same : outcome s.regs (reading s.mem) ≡ Ok l.0 =
       ap (λ r. outcome r (reading s.mem)) at.regs
       ∙ ap (λ x. and_then x (λ b. if b == 0 then Err Brk else instruction (decoded b) (with_s s.regs.s v.regs) (reading s.mem))) (read_code f v s at v.regs.pc b here)
       ∙ ap (λ x. if x then Err Brk else instruction (decoded b) (with_s s.regs.s v.regs) (reading s.mem)) some
       ∙ ap (λ x. instruction x (with_s s.regs.s v.regs) (reading s.mem)) (decoded_by b) ∙ l.1 in
-      let e : happens s (Go k) ≡ record s { regs = l.0.0; mem = written s.mem l.0.1 } = goes_by_instruction f v s at (code_at f v s at v.regs.pc b here).0 k ∙ ap (λ x. stepped s (finished s.mem x)) same in
+      let e : happens s (Go k) ≡ record s { regs = l.0.0; mem = written s.mem l.0.1 } = goes_by_instruction f v s at
+          (code_at f v s at v.regs.pc b here).0 k ∙ ap (λ x. stepped s (finished s.mem x)) same in
       (subst (At f w) (sym e) l.2, ap (λ x. x.sent) e)
 
   -- ---- an instruction that is fetched from a part of the program

@@ -38,7 +38,8 @@ module _ (f : Setup) (own : List ℕ) where
     reaches = record {
       leads = λ s at es l.
           ⊎_elim
-          (λ a. let h = a.there in inl (record { before = a.before; after = a.after; split = a.split; some = a.some; few = a.few; there = (stacked_on own h.0, out_of h.0 _ h.1, (h.0, h.2, refl)); sent = a.sent }))
+          (λ a. let h = a.there in inl (record { before = a.before; after = a.after; split = a.split; some = a.some; few = a.few;
+              there = (stacked_on own h.0, out_of h.0 _ h.1, (h.0, h.2, refl)); sent = a.sent }))
           (λ a. let k = a.kept in inr (record {
             few = a.few;
             kept = record { runs = k.runs; not_below = k.not_below; not_above = omega (arith, k.not_above, length-append own f.rest); on_code = k.on_code };
@@ -52,5 +53,7 @@ module _ (f : Setup) (own : List ℕ) where
   }
 
   -- a call, and then
-  pub calling : (v : View) (q r : View → Type 0) (t u : List ℕ) (n m : ℕ) → Comes (under f own) v q t n → ((w : View) → q w → Comes f (stacked_on own w) r u m) → Comes f (stacked_on own v) r (t ++ u) (n + m)
-  calling v q r t u n m c next = chained f (stacked_on own v) (λ w. (u : View) × q u × (stacked_on own u ≡ w)) r t u n m (framed v q t n c) (λ w h. subst (λ w. Comes f w r u m) h.2 (next h.0 h.1))
+  pub calling : (v : View) (q r : View → Type 0) (t u : List ℕ) (n m : ℕ) → Comes (under f own) v q t n
+      → ((w : View) → q w → Comes f (stacked_on own w) r u m) → Comes f (stacked_on own v) r (t ++ u) (n + m)
+  calling v q r t u n m c next = chained f (stacked_on own v) (λ w. (u : View) × q u × (stacked_on own u ≡ w)) r t u n m (framed v q t n c)
+      (λ w h. subst (λ w. Comes f w r u m) h.2 (next h.0 h.1))

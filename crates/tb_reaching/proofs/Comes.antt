@@ -1,5 +1,6 @@
 -- From view to view: one instruction, n instructions by computation, one piece after another.
-use Rattle.std.proofs.Common.{◌≡◌, ℕ, zero, suc, ◌+◌, ◌≤◌, Bool, true, false, List, [], ◌++◌, length, refl, sym, ap, ◌∙◌, subst, arith, leb, Option, Some, None, append-nil, length-append, inr}
+use Rattle.std.proofs.Common.{◌≡◌, ℕ, zero, suc, ◌+◌, ◌≤◌, Bool, true, false, List, [], ◌++◌, length, refl, sym, ap, ◌∙◌, subst}
+use Rattle.std.proofs.Common.{arith, leb, Option, Some, None, append-nil, length-append, inr}
 use Rattle.std.specs.Prelude.{◌==◌, Ok}
 use Rattle.std.proofs.lemmas.Bool.{leb-true}
 use Rattle.tb_memmap.specs.Bytes.{written}
@@ -26,7 +27,9 @@ module _ (f : Setup) where
       record { runs = run; not_below = omega (arith, at.depth, len); not_above = omega (arith, at.depth, len); on_code = on }
 
   -- one event
-  pub comes_by : (v : View) (q : View → Type 0) (t : List ℕ) (room : ℕ) → Fits f room → length v.stack ≤ room → ((s : State) → At f v s → status s ≡ Running) → ((s : State) → At f v s → OnCode f s) → ((s : State) → At f v s → (k : Clobber) → is_lawful s (Go k) ≡ true → Among f q (happens s (Go k)) × ((happens s (Go k)).sent ≡ s.sent ++ t)) → Comes f v q t 1
+  pub comes_by : (v : View) (q : View → Type 0) (t : List ℕ) (room : ℕ) → Fits f room → length v.stack ≤ room
+      → ((s : State) → At f v s → status s ≡ Running) → ((s : State) → At f v s → OnCode f s) → ((s : State) → At f v s → (k : Clobber)
+      → is_lawful s (Go k) ≡ true → Among f q (happens s (Go k)) × ((happens s (Go k)).sent ≡ s.sent ++ t)) → Comes f v q t 1
   comes_by v q t room fits small run on g = record {
     reaches = step (UnderWay f) (At f v) _ t (record {
       inside = λ s at. under_way room fits v s small at (run s at) (on s at);
@@ -36,7 +39,8 @@ module _ (f : Setup) where
   }
 
   -- one event at an opcode of the program
-  pub comes_at : (v w : View) (q : View → Type 0) (room b : ℕ) → Fits f room → length v.stack ≤ room → f.code v.regs.pc ≡ Some b → ((s : State) → At f v s → (k : Clobber) → At f w (happens s (Go k)) × ((happens s (Go k)).sent ≡ s.sent)) → q w → Comes f v q [] 1
+  pub comes_at : (v w : View) (q : View → Type 0) (room b : ℕ) → Fits f room → length v.stack ≤ room → f.code v.regs.pc ≡ Some b
+      → ((s : State) → At f v s → (k : Clobber) → At f w (happens s (Go k)) × ((happens s (Go k)).sent ≡ s.sent)) → q w → Comes f v q [] 1
   comes_at v w q room b fits small here g x =
       comes_by v q [] room fits small
       (λ s at. runs f v s at (code_at f v s at v.regs.pc b here).0)
@@ -71,11 +75,13 @@ module _ (f : Setup) where
     first : (n : ℕ) (v w : View) → run_view part room (suc n) v ≡ Some w → First n v w
     first n v w h = at_depth (leb (length v.stack) room) refl h
       where
-        at_act : leb (length v.stack) room ≡ true → (x : Option View) → act part room v ≡ x → (elim x as (λ _. Option View) [ None ↦ None | Some w ↦ run_view part room n w ]) ≡ Some w → First n v w
+        at_act : leb (length v.stack) room ≡ true → (x : Option View) → act part room v ≡ x
+            → (elim x as (λ _. Option View) [ None ↦ None | Some w ↦ run_view part room n w ]) ≡ Some w → First n v w
         at_act d None a h = cc
         at_act d (Some u) a h = record { small = d; next = u; acted = a; rest = h }
 
-        at_depth : (t : Bool) → leb (length v.stack) room ≡ t → (elim t as (λ _. Option View) [ false ↦ None | true ↦ elim (act part room v) [ None ↦ None | Some w ↦ run_view part room n w ] ]) ≡ Some w → First n v w
+        at_depth : (t : Bool) → leb (length v.stack) room ≡ t
+            → (elim t as (λ _. Option View) [ false ↦ None | true ↦ elim (act part room v) [ None ↦ None | Some w ↦ run_view part room n w ] ]) ≡ Some w → First n v w
         at_depth true d h = at_act d (act part room v) refl h
         at_depth false d h = cc
 
@@ -97,7 +103,8 @@ module _ (f : Setup) where
     through n v w q t m h c = chained_at v w q [] t (suc n) m (several_from (Just w) n v w h refl) c
 
     -- the same where the view is computed
-    pub after : (n : ℕ) (v : View) (q : View → Type 0) (t : List ℕ) (m : ℕ) → is_there (run_view part room (suc n) v) ≡ true → Comes f (the v (run_view part room (suc n) v)) q t m → Comes f v q t (suc n + m)
+    pub after : (n : ℕ) (v : View) (q : View → Type 0) (t : List ℕ) (m : ℕ) → is_there (run_view part room (suc n) v) ≡ true
+        → Comes f (the v (run_view part room (suc n) v)) q t m → Comes f v q t (suc n + m)
     after n v q t m h c = through n v (the v (run_view part room (suc n) v)) q t m (there_is v (run_view part room (suc n) v) h) c
 
     -- n + 1 instructions, as the last piece
@@ -105,22 +112,29 @@ module _ (f : Setup) where
     ending n v q h x = several_from q n v (the v (run_view part room (suc n) v)) (there_is v (run_view part room (suc n) v) h) x
 
   -- an instruction that stands at PC, whose outcome is shown by hand, and then
-  pub by_hand : (room : ℕ) → Fits f room → (v w : View) (b : ℕ) (q : View → Type 0) (t : List ℕ) (m : ℕ) → leb (length v.stack) room ≡ true → f.code v.regs.pc ≡ Some b → (b == 0) ≡ false → ((s : State) → At f v s → (e : Outcome) × (instruction (find_row rows b) (with_s s.regs.s v.regs) (reading s.mem) ≡ Ok e) × At f w (record s { regs = e.0; mem = written s.mem e.1 })) → Comes f w q t m → Comes f v q t (1 + m)
+  pub by_hand : (room : ℕ) → Fits f room → (v w : View) (b : ℕ) (q : View → Type 0) (t : List ℕ) (m : ℕ) → leb (length v.stack) room ≡ true
+      → f.code v.regs.pc ≡ Some b → (b == 0) ≡ false → ((s : State) → At f v s → (e : Outcome)
+      × (instruction (find_row rows b) (with_s s.regs.s v.regs) (reading s.mem) ≡ Ok e) × At f w (record s { regs = e.0; mem = written s.mem e.1 }))
+      → Comes f w q t m → Comes f v q t (1 + m)
   by_hand room fits v w b q t m small here some g next =
       chained_at v w q [] t 1 m (comes_at v w (Just w) room b fits (leb-true _ _ small) here (λ s at k. goes_by f room fits v s at b here some w (g s at) k) refl) next
 
 -- ---- views that are known by their parts
 -- S is not looked at
 any_s : (f : Setup) (v : View) (k : ℕ) (q : View → Type 0) (t : List ℕ) (n : ℕ) → Comes f (record v { regs = with_s k v.regs }) q t n → Comes f v q t n
-any_s f v k q t n c = record { reaches = record { leads = λ s at. c.reaches.leads s (record { regs = at.regs; depth = at.depth; stack = at.stack; bytes = at.bytes; text = at.text; answers = at.answers; stays = at.stays }) } }
+any_s f v k q t n c = record { reaches = record { leads = λ s at. c.reaches.leads s (record { regs = at.regs; depth = at.depth; stack = at.stack;
+    bytes = at.bytes; text = at.text; answers = at.answers; stays = at.stays }) } }
 
 -- a view whose place, stack and keyboard are known, with D clear
-pub known : (f : Setup) (w : View) (pc : ℕ) (stack text answers : List ℕ) (q : View → Type 0) (t : List ℕ) (n : ℕ) → w.regs.pc ≡ pc → w.stack ≡ stack → w.regs.flags.d ≡ false → w.text ≡ text → w.answers ≡ answers → Comes f (view w.regs.a w.regs.x w.regs.y w.regs.flags.n w.regs.flags.v w.regs.flags.i w.regs.flags.z w.regs.flags.c pc stack w.mem text answers) q t n → Comes f w q t n
+pub known : (f : Setup) (w : View) (pc : ℕ) (stack text answers : List ℕ) (q : View → Type 0) (t : List ℕ) (n : ℕ) → w.regs.pc ≡ pc → w.stack ≡ stack
+    → w.regs.flags.d ≡ false → w.text ≡ text → w.answers ≡ answers
+    → Comes f (view w.regs.a w.regs.x w.regs.y w.regs.flags.n w.regs.flags.v w.regs.flags.i w.regs.flags.z w.regs.flags.c pc stack w.mem text answers) q t n → Comes f w q t n
 known f w pc stack text answers q t n p k d h e c = any_s f w 0 q t n (subst (λ u. Comes f u q t n) same c)
   where
     same : view w.regs.a w.regs.x w.regs.y w.regs.flags.n w.regs.flags.v w.regs.flags.i w.regs.flags.z w.regs.flags.c pc stack w.mem text answers ≡ record w { regs = with_s 0 w.regs }
     same = λ j. record {
-      regs = record { a = w.regs.a; x = w.regs.x; y = w.regs.y; s = 0; pc = sym p j; flags = record { n = w.regs.flags.n; v = w.regs.flags.v; d = sym d j; i = w.regs.flags.i; z = w.regs.flags.z; c = w.regs.flags.c } };
+      regs = record { a = w.regs.a; x = w.regs.x; y = w.regs.y; s = 0; pc = sym p j; flags = record { n = w.regs.flags.n; v = w.regs.flags.v;
+          d = sym d j; i = w.regs.flags.i; z = w.regs.flags.z; c = w.regs.flags.c } };
       stack = sym k j;
       mem = w.mem;
       text = sym h j;

@@ -32,7 +32,8 @@ rest_all p r (e ∷ es) s h l =
     (b.0, b.1 ∙ a.1)
 
 -- who reaches such states is on the way, or there with the whole output
-pub settles : (w p q : States) (t : List ℕ) (n : ℕ) → Reaches w p q t n → Rests q → (s : State) → p s → (es : List Event) → all_lawful es s ≡ true → (q (run es s) × ((run es s).sent ≡ s.sent ++ t)) ⊎ OnTheWay w t n s es
+pub settles : (w p q : States) (t : List ℕ) (n : ℕ) → Reaches w p q t n → Rests q → (s : State) → p s → (es : List Event) → all_lawful es s ≡ true
+    → (q (run es s) × ((run es s).sent ≡ s.sent ++ t)) ⊎ OnTheWay w t n s es
 settles w p q t n law r s h es l = ⊎_elim
     (λ a. let l' = lawful_after a.before a.after s (subst (λ x. all_lawful x s ≡ true) a.split l) in
     let b = rest_all q r a.after (run a.before s) a.there l' in

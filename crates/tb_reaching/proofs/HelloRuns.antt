@@ -1,5 +1,6 @@
 -- The program that sends a line, and its routine, whatever the ROM does.
-use Rattle.std.proofs.Common.{◌≡◌, ◌≢◌, ℕ, suc, ◌+◌, ◌*◌, ◌%◌, ◌<◌, ◌≤◌, Bool, true, false, List, [], ◌∷◌, ◌++◌, length, refl, sym, ap, ◌∙◌, subst, ⊎_elim, inl, inr, arith, eqb}
+use Rattle.std.proofs.Common.{◌≡◌, ◌≢◌, ℕ, suc, ◌+◌, ◌*◌, ◌%◌, ◌<◌, ◌≤◌, Bool, true, false, List, [], ◌∷◌, ◌++◌}
+use Rattle.std.proofs.Common.{length, refl, sym, ap, ◌∙◌, subst, ⊎_elim, inl, inr, arith, eqb}
 use Rattle.std.specs.Prelude.{Ok}
 use Rattle.std.proofs.lemmas.Bool.{ne_eqb, eq-eqb, cases_eq}
 use Rattle.tb_memmap.specs.Bytes.{with_byte}
@@ -65,11 +66,13 @@ module _ (f : Setup) (fits : Fits f 4) (st : Holds hello_part f.code) (lo hi : �
       (record { pc = refl; stack = refl; binary = refl; same_text = refl; same_answers = refl; others = h })
 
   Loop : List ℕ → Type 0
-  Loop bs = (a x y : ℕ) (n v i z c : Bool) (m : ℕ → ℕ) (b at : ℕ) → Still m at (b ∷ bs) → m left ≡ suc (length bs) → Comes f (view a x y n v i z c 0x0824 (lo ∷ hi ∷ []) m text answers) (Sent lo hi m0 text answers) (b ∷ bs) (9 * length bs + 10)
+  Loop bs = (a x y : ℕ) (n v i z c : Bool) (m : ℕ → ℕ) (b at : ℕ) → Still m at (b ∷ bs) → m left ≡ suc (length bs)
+      → Comes f (view a x y n v i z c 0x0824 (lo ∷ hi ∷ []) m text answers) (Sent lo hi m0 text answers) (b ∷ bs) (9 * length bs + 10)
 
   -- DEC left, and on
   Count : List ℕ → Type 0
-  Count bs = (a x y : ℕ) (n v i z c : Bool) (m : ℕ → ℕ) (at : ℕ) → Still m at bs → m left ≡ suc (length bs) → Comes f (view a x y n v i z c 0x0831 (lo ∷ hi ∷ []) m text answers) (Sent lo hi m0 text answers) bs (9 * length bs + 3)
+  Count bs = (a x y : ℕ) (n v i z c : Bool) (m : ℕ → ℕ) (at : ℕ) → Still m at bs → m left ≡ suc (length bs)
+      → Comes f (view a x y n v i z c 0x0831 (lo ∷ hi ∷ []) m text answers) (Sent lo hi m0 text answers) bs (9 * length bs + 3)
 
   count_none : Count []
   unfolding Count
@@ -90,7 +93,8 @@ module _ (f : Setup) (fits : Fits f 4) (st : Holds hello_part f.code) (lo hi : �
       less)))
 
   -- the pointer goes up
-  next_byte : (bs : List ℕ) → Count bs → (a x y : ℕ) (n v i z c : Bool) (m : ℕ → ℕ) (b at : ℕ) → Still m at (b ∷ bs) → m left ≡ suc (length bs) → Comes f (view a x y n v i z c 0x082b (lo ∷ hi ∷ []) m text answers) (Sent lo hi m0 text answers) bs (3 + (9 * length bs + 3))
+  next_byte : (bs : List ℕ) → Count bs → (a x y : ℕ) (n v i z c : Bool) (m : ℕ → ℕ) (b at : ℕ) → Still m at (b ∷ bs) → m left ≡ suc (length bs)
+      → Comes f (view a x y n v i z c 0x082b (lo ∷ hi ∷ []) m text answers) (Sent lo hi m0 text answers) bs (3 + (9 * length bs + 3))
   unfolding Count
   next_byte bs go a x y n v i z c m b at h e =
       let here = h.word_is in
@@ -104,18 +108,21 @@ module _ (f : Setup) (fits : Fits f 4) (st : Holds hello_part f.code) (lo hi : �
       (after f 4 fits hello_part st 1 (view a x y n v i z c 0x082b (lo ∷ hi ∷ []) m text answers) _ _ (1 + (9 * length bs + 3)) refl
       (rw t (after f 4 fits hello_part st 0 (view _ _ _ _ _ _ _ _ 0x082f (lo ∷ hi ∷ []) (with_byte m pointer ((m pointer + 1) % 256)) text answers) _ _ (9 * length bs + 3) refl
       (go _ _ _ _ _ _ _ _ _ (at + 1)
-      (record { word_is = omega arith; low = omega arith; high_byte = omega arith; shown = shown; from = omega (arith, h.from); to = omega (arith, h.to); few = omega (arith, h.few); others = put_high _ _ (put_pointer m _ h.others) })
+      (record { word_is = omega arith; low = omega arith; high_byte = omega arith; shown = shown; from = omega (arith, h.from);
+          to = omega (arith, h.to); few = omega (arith, h.few); others = put_high _ _ (put_pointer m _ h.others) })
       e)))))
       (λ under. let t : eqb ((m pointer + 1) % 256) 0 ≡ false = ne_eqb _ _ under in
       looser f _ _ _ bs (2 + (9 * length bs + 3)) (3 + (9 * length bs + 3)) (omega arith) (λ w h. h)
       (after f 4 fits hello_part st 1 (view a x y n v i z c 0x082b (lo ∷ hi ∷ []) m text answers) _ _ (9 * length bs + 3) refl
       (rw t (go _ _ _ _ _ _ _ _ _ (at + 1)
-      (record { word_is = omega arith; low = omega arith; high_byte = omega arith; shown = shown; from = omega (arith, h.from); to = omega (arith, h.to); few = omega (arith, h.few); others = put_pointer m _ h.others })
+      (record { word_is = omega arith; low = omega arith; high_byte = omega arith; shown = shown; from = omega (arith, h.from);
+          to = omega (arith, h.to); few = omega (arith, h.few); others = put_pointer m _ h.others })
       e))))
       (cases_eq ((m pointer + 1) % 256) 0)
 
   -- JSR CHROUT with the byte in A
-  send_a : (bs : List ℕ) → Count bs → (a x y : ℕ) (n v i z c : Bool) (m : ℕ → ℕ) (b at : ℕ) → Still m at (b ∷ bs) → m left ≡ suc (length bs) → Comes f (view a x y n v i z c 0x0828 (lo ∷ hi ∷ []) m text answers) (Sent lo hi m0 text answers) (a ∷ bs) (1 + (1 + (3 + (9 * length bs + 3))))
+  send_a : (bs : List ℕ) → Count bs → (a x y : ℕ) (n v i z c : Bool) (m : ℕ → ℕ) (b at : ℕ) → Still m at (b ∷ bs) → m left ≡ suc (length bs)
+      → Comes f (view a x y n v i z c 0x0828 (lo ∷ hi ∷ []) m text answers) (Sent lo hi m0 text answers) (a ∷ bs) (1 + (1 + (3 + (9 * length bs + 3))))
   send_a bs go a x y n v i z c m b at h e =
       after f 4 fits hello_part st 0 (view a x y n v i z c 0x0828 (lo ∷ hi ∷ []) m text answers) _ _ (1 + (3 + (9 * length bs + 3))) refl
       (serving f 4 fits Chrout _ _ _ _ _ _ (3 + (9 * length bs + 3)) refl refl refl refl (λ k. next_byte bs go k.a k.x k.y k.n k.v k.i k.z k.c m b at h e))
@@ -136,7 +143,8 @@ module _ (f : Setup) (fits : Fits f 4) (st : Holds hello_part f.code) (lo hi : �
   counts [] = count_none
   counts (b ∷ bs) = count_more b bs (send bs (counts bs))
 
-  whole : (a x y : ℕ) (n v i z c : Bool) (bytes : List ℕ) → Still m0 (m0 pointer + 256 * m0 high) bytes → m0 left ≡ length bytes → Comes f (view a x y n v i z c 0x081f (lo ∷ hi ∷ []) m0 text answers) (Sent lo hi m0 text answers) bytes (9 * length bytes + 3)
+  whole : (a x y : ℕ) (n v i z c : Bool) (bytes : List ℕ) → Still m0 (m0 pointer + 256 * m0 high) bytes → m0 left ≡ length bytes
+      → Comes f (view a x y n v i z c 0x081f (lo ∷ hi ∷ []) m0 text answers) (Sent lo hi m0 text answers) bytes (9 * length bytes + 3)
   unfolding Loop Rest
   whole a x y n v i z c [] h e =
       let none : eqb (m0 left) 0 ≡ true = eq-eqb _ _ e in
@@ -152,7 +160,8 @@ module _ (f : Setup) (fits : Fits f 4) (st : Holds hello_part f.code) (lo hi : �
 pub sends_text : SendsText HELLO
 unfolding Rest
 sends_text f fits st lo hi text answers m a x y n v i z c sent p =
-    whole f fits st lo hi text answers m a x y n v i z c sent (record { word_is = refl; low = p.low; high_byte = p.high; shown = p.shown; from = p.from; to = p.to; few = p.few; others = λ a p q r. refl }) p.count
+    whole f fits st lo hi text answers m a x y n v i z c sent (record { word_is = refl; low = p.low; high_byte = p.high; shown = p.shown;
+        from = p.from; to = p.to; few = p.few; others = λ a p q r. refl }) p.count
 
 -- ---- the program
 program_from : 0x0800 ≤ CODE_START
@@ -193,4 +202,5 @@ prints_hello s h es l =
     ⊎_elim
     (λ d. inl (home_returned f' above (run es s) d.0, d.1 ∙ ap (λ l. l ++ hello_text) h.nothing_sent))
     (λ d. inr (d.kept.runs, (d.to_come, ap (λ l. l ++ d.to_come) (d.sent ∙ ap (λ l. l ++ d.so_far) h.nothing_sent) ∙ sym d.whole), d.few))
-    (settles (UnderWay f') (At f' (view_of s)) (Among f' (IsHome f')) hello_text 66 (runs s h).reaches (home_rests f' above) s (at_start CODE_START HELLO program_from program_to hello_part st s h) es l)
+    (settles (UnderWay f') (At f' (view_of s)) (Among f' (IsHome f')) hello_text 66 (runs s h).reaches (home_rests f' above) s
+        (at_start CODE_START HELLO program_from program_to hello_part st s h) es l)

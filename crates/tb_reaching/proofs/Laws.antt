@@ -35,7 +35,8 @@ interrupted_sent (WentWrong w) ws s = refl
 pub interrupt_sends_nothing : (s : State) (ws : ArrayVec (ℕ × ℕ)) → (happens s (Interrupt ws)).sent ≡ s.sent
 interrupt_sends_nothing s ws = interrupted_sent (status s) ws.items s
 
-later_arrived : (q : States) (t : List ℕ) (n : ℕ) (s : State) (ws : ArrayVec (ℕ × ℕ)) (es : List Event) → (happens s (Interrupt ws)).sent ≡ s.sent → Arrived q t n (happens s (Interrupt ws)) es → Arrived q t n s (Interrupt ws ∷ es)
+later_arrived : (q : States) (t : List ℕ) (n : ℕ) (s : State) (ws : ArrayVec (ℕ × ℕ)) (es : List Event) → (happens s (Interrupt ws)).sent ≡ s.sent
+    → Arrived q t n (happens s (Interrupt ws)) es → Arrived q t n s (Interrupt ws ∷ es)
 later_arrived q t n s ws es e r = record {
   before = Interrupt ws ∷ r.before;
   after = r.after;
@@ -46,7 +47,8 @@ later_arrived q t n s ws es e r = record {
   sent = r.sent ∙ ap (λ l. l ++ t) e;
 }
 
-later_on_the_way : (i : States) (t : List ℕ) (n : ℕ) (s : State) (ws : ArrayVec (ℕ × ℕ)) (es : List Event) → (happens s (Interrupt ws)).sent ≡ s.sent → OnTheWay i t n (happens s (Interrupt ws)) es → OnTheWay i t n s (Interrupt ws ∷ es)
+later_on_the_way : (i : States) (t : List ℕ) (n : ℕ) (s : State) (ws : ArrayVec (ℕ × ℕ)) (es : List Event) → (happens s (Interrupt ws)).sent ≡ s.sent
+    → OnTheWay i t n (happens s (Interrupt ws)) es → OnTheWay i t n s (Interrupt ws ∷ es)
 later_on_the_way i t n s ws es e r = record {
   few = r.few;
   kept = r.kept;
@@ -92,7 +94,8 @@ then_arrived q r t u n m s es a b = record {
   sent = ap (λ x. x.sent) (run_append a.before b.before s) ∙ b.sent ∙ ap (λ l. l ++ u) a.sent ∙ append_assoc s.sent t u;
 }
 
-pub then_on_the_way : (i q : States) (t u : List ℕ) (n m : ℕ) (s : State) (es : List Event) → (a : Arrived q t n s es) → OnTheWay i u m (run a.before s) a.after → OnTheWay i (t ++ u) (n + m) s es
+pub then_on_the_way : (i q : States) (t u : List ℕ) (n m : ℕ) (s : State) (es : List Event) → (a : Arrived q t n s es)
+    → OnTheWay i u m (run a.before s) a.after → OnTheWay i (t ++ u) (n + m) s es
 then_on_the_way i q t u n m s es a b =
     let e : run es s ≡ run a.after (run a.before s) = ap (λ l. run l s) a.split ∙ run_append a.before a.after s in
     record {

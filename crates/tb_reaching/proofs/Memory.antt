@@ -36,7 +36,8 @@ written_same a [] m k h = h
 written_same a (w ∷ ws) m k h = written_same a ws (with_byte m w.0 w.1) (with_byte k w.0 w.1) (ap (λ x. if eqb a w.0 then w.1 else x) h)
 
 -- bytes of page one stand where memories agree on them
-pub stacked_same : (lo at : ℕ) (m k : ℕ → ℕ) (bs : List ℕ) → lo ≤ at → at + length bs ≤ 0x0200 → ((a : ℕ) → lo ≤ a → a < 0x0200 → k a ≡ m a) → Stacked m at bs → Stacked k at bs
+pub stacked_same : (lo at : ℕ) (m k : ℕ → ℕ) (bs : List ℕ) → lo ≤ at → at + length bs ≤ 0x0200 → ((a : ℕ) → lo ≤ a → a < 0x0200 → k a ≡ m a)
+    → Stacked m at bs → Stacked k at bs
 stacked_same lo at m k [] h e f st = tt
 stacked_same lo at m k (b ∷ bs) h e f st = (f at h (omega arith) ∙ st.0, stacked_same lo (at + 1) m k bs (omega arith) (omega arith) f st.1)
 

@@ -3,7 +3,9 @@ use Rattle.std.proofs.Common.{◌≡◌, ℕ, ◌+◌, ◌%◌, Bool, true, fals
 use Rattle.std.specs.Prelude.{Result, Ok, Err, if◌then◌else◌, bit_and, bit_or, bit_xor}
 use Rattle.tb_memmap.specs.Regions.{is_open}
 use Rattle.tb_opcodes.specs.declared.Mnemonic.{Mnemonic}
-use Rattle.tb_opcodes.specs.declared.Mnemonic.TheVariants.{Lda, Ldx, Ldy, Sta, Stx, Sty, Tsx, Txs, Adc, Sbc, Cmp, Cpx, Cpy, And, Ora, Eor, Bit, Inc, Dec, Asl, Lsr, Rol, Ror, Bpl, Bmi, Bvc, Bvs, Bcc, Bcs, Bne, Beq, Jsr, Rts, Rti, Pha, Pla, Php, Plp, Brk as BrkM}
+use Rattle.tb_opcodes.specs.declared.Mnemonic.TheVariants.{Lda, Ldx, Ldy, Sta, Stx, Sty, Tsx, Txs, Adc, Sbc, Cmp, Cpx, Cpy, And, Ora, Eor, Bit, Inc, Dec, Asl}
+use Rattle.tb_opcodes.specs.declared.Mnemonic.TheVariants.{Lsr, Rol, Ror, Bpl, Bmi, Bvc, Bvs, Bcc, Bcs, Bne, Beq, Jsr, Rts, Rti, Pha, Pla, Php, Plp}
+use Rattle.tb_opcodes.specs.declared.Mnemonic.TheVariants.{Brk as BrkM}
 use Rattle.tb_opcodes.specs.declared.Mode.{Mode}
 use Rattle.tb_opcodes.specs.declared.Mode.TheVariants.{Implied, Accumulator, Immediate, ZeroPage, ZeroPageX, ZeroPageY, IndirectX, IndirectY, Relative, Absolute, AbsoluteX, AbsoluteY, Indirect}
 use Rattle.tb_cpu.specs.declared.registers.Regs.{Regs}
@@ -29,7 +31,8 @@ then_ok : {A B : Type 0} (x : Result A Wrong) (f : A → Result B Wrong) (b : B)
 then_ok (Ok a) f b h = (a, refl, h)
 then_ok (Err e) f b h = absurd (ok≢err b e (Err e) h refl)
 
-pub then_more : {A B C : Type 0} (x y : Result A Wrong) (f : A → Result B Wrong) (g : A → Result C Wrong) (b : B) (c : C) → ((a : A) → x ≡ Ok a → y ≡ Ok a) → ((a : A) → f a ≡ Ok b → g a ≡ Ok c) → and_then x f ≡ Ok b → and_then y g ≡ Ok c
+pub then_more : {A B C : Type 0} (x y : Result A Wrong) (f : A → Result B Wrong) (g : A → Result C Wrong) (b : B) (c : C)
+    → ((a : A) → x ≡ Ok a → y ≡ Ok a) → ((a : A) → f a ≡ Ok b → g a ≡ Ok c) → and_then x f ≡ Ok b → and_then y g ≡ Ok c
 then_more x y f g b c hx hf h = let p = then_ok x f b h in ap (λ z. and_then z g) (hx p.0 p.1) ∙ hf p.0 p.2
 
 -- an outcome with another S
@@ -81,7 +84,8 @@ on_a_moved t _ q = refl
 -- a reader gives the same where the operand is
 module _ (r k : Reader) (o : ℕ) (ext : (b : ℕ) → r o ≡ Ok b → k o ≡ Ok b) (t : ℕ) where
   -- an instruction that only reads
-  more_takes : (q : Regs) (f g : ℕ → Result Regs Wrong) → ((v : ℕ) → g v ≡ regs_ok t (f v)) → (e : Outcome) → with_datum q r o f ≡ Ok e → with_datum (with_s t q) k o g ≡ Ok (moved t e)
+  more_takes : (q : Regs) (f g : ℕ → Result Regs Wrong) → ((v : ℕ) → g v ≡ regs_ok t (f v)) → (e : Outcome) → with_datum q r o f ≡ Ok e
+      → with_datum (with_s t q) k o g ≡ Ok (moved t e)
   more_takes q f g fg e h =
       then_more (r o) (k o) _ _ e (moved t e) ext (λ v h.
       let p = then_ok (f v) unchanged e h in

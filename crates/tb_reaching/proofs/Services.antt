@@ -1,5 +1,6 @@
 -- CHROUT, CHRIN and GETIN; waiting for a key, and coming home.
-use Rattle.std.proofs.Common.{◌≡◌, ℕ, ◌+◌, ◌%◌, true, false, not, ◌&&◌, ◌||◌, List, [], ◌∷◌, ◌++◌, length, drop, refl, sym, ap, ◌∙◌, subst, ap₂, arith, eqb, leb, Some, None, append-nil, inl}
+use Rattle.std.proofs.Common.{◌≡◌, ℕ, ◌+◌, ◌%◌, true, false, not, ◌&&◌, ◌||◌, List, [], ◌∷◌, ◌++◌, length, drop, refl, sym}
+use Rattle.std.proofs.Common.{ap, ◌∙◌, subst, ap₂, arith, eqb, leb, Some, None, append-nil, inl}
 use Rattle.std.proofs.lemmas.Bool.{ne_eqb, eq-eqb, leb-true}
 use Rattle.tb_memmap.specs.Bytes.{written}
 use Rattle.tb_cpu.specs.declared.registers.Regs.{Regs}
@@ -11,7 +12,8 @@ use Rattle.tb_kernal.specs.declared.events.Event.{Event}
 use Rattle.tb_kernal.specs.declared.events.Event.TheVariants.{Go, Interrupt}
 use Rattle.tb_kernal.specs.declared.status.Status.TheVariants.{Running, Waits, Returned}
 use Rattle.tb_kernal.specs.Places.{all_writable, service_at}
-use Rattle.tb_kernal.specs.Machine.{State, status, status_by, waits_for, happens, gone, gone_at, served, after_service, clobbered, returned, first_or_zero, interrupted, is_lawful, is_lawful_go, is_lawful_event, is_stopped}
+use Rattle.tb_kernal.specs.Machine.{State, status, status_by, waits_for, happens, gone, gone_at, served, after_service, clobbered, returned, first_or_zero}
+use Rattle.tb_kernal.specs.Machine.{interrupted, is_lawful, is_lawful_go, is_lawful_event, is_stopped}
 use Rattle.tb_reaching.specs.View.{View, Setup, At, Fits, Comes, with_s, back_at}
 use Rattle.tb_reaching.proofs.Laws.{interrupt_sends_nothing}
 use Rattle.tb_reaching.proofs.Act.{kept_by_interrupt, rom_wrote, pc_here, pulled, not_home, up}
@@ -33,7 +35,8 @@ module _ (f : Setup) where
   with_keys v s at t u l = record { regs = at.regs; depth = at.depth; stack = at.stack; bytes = at.bytes; text = refl; answers = refl; stays = at.stays }
 
   -- the return
-  returned_at : (v : View) (s : State) (lo hi : ℕ) (bs : List ℕ) (r : Regs) → At f v s → v.stack ≡ lo ∷ hi ∷ bs → At f (record v { regs = record r { pc = back_at lo hi }; stack = bs }) (record s { regs = returned s.mem (with_s s.regs.s r) })
+  returned_at : (v : View) (s : State) (lo hi : ℕ) (bs : List ℕ) (r : Regs) → At f v s → v.stack ≡ lo ∷ hi ∷ bs
+      → At f (record v { regs = record r { pc = back_at lo hi }; stack = bs }) (record s { regs = returned s.mem (with_s s.regs.s r) })
   returned_at v s lo hi bs r at e =
       let q = record r { pc = back_at lo hi } in
       let one = pulled f v s at lo q (hi ∷ bs) e in
@@ -54,37 +57,46 @@ module _ (f : Setup) where
   runs_at v s q at e w = at_service v s q at e ∙ ap (λ b. status_by false None b) w
 
   -- what a service leaves
-  serves : (q : Service) (v : View) (s : State) (k : Clobber) (lo hi : ℕ) (bs : List ℕ) → At f v s → all_writable s.regs.s k.writes.items ≡ true → v.stack ≡ lo ∷ hi ∷ bs → At f (served_view q k v (back_at lo hi) bs) (served q k s) × ((served q k s).sent ≡ s.sent ++ sent_by q v.regs.a)
+  serves : (q : Service) (v : View) (s : State) (k : Clobber) (lo hi : ℕ) (bs : List ℕ) → At f v s → all_writable s.regs.s k.writes.items ≡ true
+      → v.stack ≡ lo ∷ hi ∷ bs → At f (served_view q k v (back_at lo hi) bs) (served q k s) × ((served q k s).sent ≡ s.sent ++ sent_by q v.regs.a)
   serves q v s k lo hi bs at fair st = go q
     where
-      leaves : (a : ℕ) (t u l : List ℕ) → At f (record v { regs = record (clobbered k a v.regs) { pc = back_at lo hi }; stack = bs; text = t; answers = u }) (after_service k a (record s { text = t; answers = u; sent = l }))
+      leaves : (a : ℕ) (t u l : List ℕ) → At f (record v { regs = record (clobbered k a v.regs) { pc = back_at lo hi }; stack = bs; text = t;
+          answers = u }) (after_service k a (record s { text = t; answers = u; sent = l }))
       leaves a t u l =
           let m = written s.mem k.writes.items in
           let w = with_keys v (record s { mem = m }) (rom_wrote f v s at k.writes.items fair) t u l in
           let d = returned_at (record v { text = t; answers = u }) (record s { mem = m; text = t; answers = u; sent = l }) lo hi bs (clobbered k a v.regs) w st in
-          subst (λ r. At f (record v { regs = record (clobbered k a v.regs) { pc = back_at lo hi }; stack = bs; text = t; answers = u }) (record s { regs = returned m (clobbered k a r); mem = m; text = t; answers = u; sent = l })) (sym at.regs) d
+          subst (λ r. At f (record v { regs = record (clobbered k a v.regs) { pc = back_at lo hi }; stack = bs; text = t; answers = u })
+              (record s { regs = returned m (clobbered k a r); mem = m; text = t; answers = u; sent = l })) (sym at.regs) d
 
       both : ◌≡◌ {A = List ℕ × List ℕ} (v.text, v.answers) (s.text, s.answers)
       both = λ i. (sym at.text i, sym at.answers i)
 
       go : (q : Service) → At f (served_view q k v (back_at lo hi) bs) (served q k s) × ((served q k s).sent ≡ s.sent ++ sent_by q v.regs.a)
-      go Chrout = (subst (λ (p : List ℕ × List ℕ). At f (served_view Chrout k v (back_at lo hi) bs) (after_service k k.a (record s { text = p.0; answers = p.1; sent = s.sent ++ s.regs.a ∷ [] }))) both (leaves k.a v.text v.answers (s.sent ++ s.regs.a ∷ [])), ap (λ r. s.sent ++ r.a ∷ []) at.regs)
-      go Chrin = (subst (λ (p : List ℕ × List ℕ). At f (served_view Chrin k v (back_at lo hi) bs) (after_service k (first_or_zero p.0) (record s { text = drop 1 p.0; answers = p.1; sent = s.sent }))) both (leaves (first_or_zero v.text) (drop 1 v.text) v.answers s.sent), sym (append-nil s.sent))
-      go Getin = (subst (λ (p : List ℕ × List ℕ). At f (served_view Getin k v (back_at lo hi) bs) (after_service k (first_or_zero p.1) (record s { text = p.0; answers = drop 1 p.1; sent = s.sent }))) both (leaves (first_or_zero v.answers) v.text (drop 1 v.answers) s.sent), sym (append-nil s.sent))
+      go Chrout = (subst (λ (p : List ℕ × List ℕ). At f (served_view Chrout k v (back_at lo hi) bs)
+          (after_service k k.a (record s { text = p.0; answers = p.1; sent = s.sent ++ s.regs.a ∷ [] }))) both
+          (leaves k.a v.text v.answers (s.sent ++ s.regs.a ∷ [])), ap (λ r. s.sent ++ r.a ∷ []) at.regs)
+      go Chrin = (subst (λ (p : List ℕ × List ℕ). At f (served_view Chrin k v (back_at lo hi) bs) (after_service k (first_or_zero p.0)
+          (record s { text = drop 1 p.0; answers = p.1; sent = s.sent }))) both (leaves (first_or_zero v.text) (drop 1 v.text) v.answers s.sent), sym (append-nil s.sent))
+      go Getin = (subst (λ (p : List ℕ × List ℕ). At f (served_view Getin k v (back_at lo hi) bs) (after_service k (first_or_zero p.1)
+          (record s { text = p.0; answers = drop 1 p.1; sent = s.sent }))) both (leaves (first_or_zero v.answers) v.text (drop 1 v.answers) s.sent), sym (append-nil s.sent))
 
   -- some view after a service
   abbrev AfterService : Service → View → ℕ → List ℕ → View → Type 0
   AfterService q v pc bs w = (k : Clobber) × (served_view q k v pc bs ≡ w)
 
   module _ (room : ℕ) (fits : Fits f room) where
-    served_once : (q : Service) (v : View) (lo hi : ℕ) (bs : List ℕ) → leb (length v.stack) room ≡ true → service_at v.regs.pc ≡ Some q → waits_for (Some q) v.text ≡ false → v.stack ≡ lo ∷ hi ∷ bs → Comes f v (AfterService q v (back_at lo hi) bs) (sent_by q v.regs.a) 1
+    served_once : (q : Service) (v : View) (lo hi : ℕ) (bs : List ℕ) → leb (length v.stack) room ≡ true → service_at v.regs.pc ≡ Some q
+        → waits_for (Some q) v.text ≡ false → v.stack ≡ lo ∷ hi ∷ bs → Comes f v (AfterService q v (back_at lo hi) bs) (sent_by q v.regs.a) 1
     served_once q v lo hi bs small here ready st = comes_by f v _ (sent_by q v.regs.a) room fits (leb-true _ _ small)
         (λ s at. runs_at v s q at here ready)
         (λ s at. inl (q, ap service_at (pc_here f v s at) ∙ here))
         (λ s at k l.
         let run = runs_at v s q at here ready in
         let service : service_at s.regs.pc ≡ Some q = ap service_at (pc_here f v s at) ∙ here in
-        let fair : all_writable s.regs.s k.writes.items ≡ true = ap (λ x. is_lawful_go x s.regs.s k.writes.items) (sym service) ∙ ap (λ t. is_stopped t || is_lawful_event s (Go k)) (sym run) ∙ l in
+        let fair : all_writable s.regs.s k.writes.items ≡ true = ap (λ x. is_lawful_go x s.regs.s k.writes.items) (sym service)
+            ∙ ap (λ t. is_stopped t || is_lawful_event s (Go k)) (sym run) ∙ l in
         let e : happens s (Go k) ≡ served q k s = ap (λ t. gone t k s) run ∙ ap (λ x. gone_at x k s) service in
         let d = serves q v s k lo hi bs at fair st in (
           (served_view q k v (back_at lo hi) bs, subst (At f (served_view q k v (back_at lo hi) bs)) (sym e) d.0, (k, refl)),
@@ -92,13 +104,17 @@ module _ (f : Setup) where
         ))
 
     -- a service, and then
-    pub serving : (q : Service) (v : View) (lo hi : ℕ) (bs : List ℕ) (goal : View → Type 0) (u : List ℕ) (m : ℕ) → leb (length v.stack) room ≡ true → service_at v.regs.pc ≡ Some q → waits_for (Some q) v.text ≡ false → v.stack ≡ lo ∷ hi ∷ bs → ((k : Clobber) → Comes f (served_view q k v (back_at lo hi) bs) goal u m) → Comes f v goal (sent_by q v.regs.a ++ u) (1 + m)
+    pub serving : (q : Service) (v : View) (lo hi : ℕ) (bs : List ℕ) (goal : View → Type 0) (u : List ℕ) (m : ℕ) → leb (length v.stack) room ≡ true
+        → service_at v.regs.pc ≡ Some q → waits_for (Some q) v.text ≡ false → v.stack ≡ lo ∷ hi ∷ bs
+        → ((k : Clobber) → Comes f (served_view q k v (back_at lo hi) bs) goal u m) → Comes f v goal (sent_by q v.regs.a ++ u) (1 + m)
     serving q v lo hi bs goal u m small here ready st next =
         chained f v (AfterService q v (back_at lo hi) bs) goal (sent_by q v.regs.a) u 1 m (served_once q v lo hi bs small here ready st)
         (λ w h. subst (λ w. Comes f w goal u m) h.1 (next h.0))
 
     -- a service as the last piece
-    pub served_last : (q : Service) (v : View) (lo hi : ℕ) (bs : List ℕ) (goal : View → Type 0) → leb (length v.stack) room ≡ true → service_at v.regs.pc ≡ Some q → waits_for (Some q) v.text ≡ false → v.stack ≡ lo ∷ hi ∷ bs → ((k : Clobber) → goal (served_view q k v (back_at lo hi) bs)) → Comes f v goal (sent_by q v.regs.a) 1
+    pub served_last : (q : Service) (v : View) (lo hi : ℕ) (bs : List ℕ) (goal : View → Type 0) → leb (length v.stack) room ≡ true
+        → service_at v.regs.pc ≡ Some q → waits_for (Some q) v.text ≡ false → v.stack ≡ lo ∷ hi ∷ bs
+        → ((k : Clobber) → goal (served_view q k v (back_at lo hi) bs)) → Comes f v goal (sent_by q v.regs.a) 1
     served_last q v lo hi bs goal small here ready st next =
         looser f v (AfterService q v (back_at lo hi) bs) goal (sent_by q v.regs.a) 1 1 (omega arith) (λ w h. subst goal h.1 (next h.0)) (served_once q v lo hi bs small here ready st)
 

@@ -15,7 +15,8 @@ stacked_drop m at (x ∷ xs) ys h =
 
 module _ (f : Setup) (room : ℕ) (fits : Fits f room) where
   -- TSX
-  pub taking_s : (v : View) (x : ℕ) (q : View → Type 0) (t : List ℕ) (m : ℕ) → f.code v.regs.pc ≡ Some 0xba → leb (length v.stack) room ≡ true → x + length (v.stack ++ f.rest) ≡ 255 → Comes f (record v { regs = loaded_x (advanced v.regs Implied) x }) q t m → Comes f v q t (1 + m)
+  pub taking_s : (v : View) (x : ℕ) (q : View → Type 0) (t : List ℕ) (m : ℕ) → f.code v.regs.pc ≡ Some 0xba → leb (length v.stack) room ≡ true
+      → x + length (v.stack ++ f.rest) ≡ 255 → Comes f (record v { regs = loaded_x (advanced v.regs Implied) x }) q t m → Comes f v q t (1 + m)
   taking_s v x q t m here small deep next =
       by_hand f room fits v (record v { regs = loaded_x (advanced v.regs Implied) x }) 0xba q t m small here refl (λ s at.
       let same : s.regs.s ≡ x = omega (arith, at.depth, deep) in (
@@ -25,7 +26,9 @@ module _ (f : Setup) (room : ℕ) (fits : Fits f room) where
       )) next
 
   -- TXS, back over a part of the stack
-  pub putting_s : (v : View) (above kept : List ℕ) (q : View → Type 0) (t : List ℕ) (m : ℕ) → f.code v.regs.pc ≡ Some 0x9a → leb (length v.stack) room ≡ true → v.stack ≡ above ++ kept → v.regs.x + length (kept ++ f.rest) ≡ 255 → Comes f (record v { regs = advanced v.regs Implied; stack = kept }) q t m → Comes f v q t (1 + m)
+  pub putting_s : (v : View) (above kept : List ℕ) (q : View → Type 0) (t : List ℕ) (m : ℕ) → f.code v.regs.pc ≡ Some 0x9a → leb (length v.stack) room
+      ≡ true → v.stack ≡ above ++ kept → v.regs.x + length (kept ++ f.rest) ≡ 255
+      → Comes f (record v { regs = advanced v.regs Implied; stack = kept }) q t m → Comes f v q t (1 + m)
   putting_s v above kept q t m here small split deep next =
       by_hand f room fits v (record v { regs = advanced v.regs Implied; stack = kept }) 0x9a q t m small here refl (λ s at.
       let parts : v.stack ++ f.rest ≡ above ++ (kept ++ f.rest) = ap (λ l. l ++ f.rest) split ∙ append_assoc above kept f.rest in

@@ -1,5 +1,6 @@
 -- From an arbitrary start.
-use Rattle.std.proofs.Common.{◌≡◌, ℕ, zero, suc, ◌+◌, ◌-◌, ◌%◌, ◌≤◌, ◌<◌, Bool, true, ◌&&◌, List, [], ◌∷◌, length, refl, sym, ap, ◌∙◌, ⊎_elim, arith, eqb, Some}
+use Rattle.std.proofs.Common.{◌≡◌, ℕ, zero, suc, ◌+◌, ◌-◌, ◌%◌, ◌≤◌, ◌<◌, Bool, true, ◌&&◌, List, [], ◌∷◌, length, refl}
+use Rattle.std.proofs.Common.{sym, ap, ◌∙◌, ⊎_elim, arith, eqb, Some}
 use Rattle.std.specs.Prelude.{if◌then◌else◌}
 use Rattle.std.proofs.lemmas.Bool.{and_parts, cases_eq, eqb-true, eq-eqb, ne_eqb}
 use Rattle.std.proofs.lemmas.Bool.Decides.{nat_tests}
@@ -26,9 +27,11 @@ far_rom a h = grind (arith, nat_tests)
 pub in_program : (a : ℕ) → 0x0800 ≤ a → a < 0xa000 → is_program a ≡ true
 in_program a lo hi = grind (arith, nat_tests)
 
-lies : (place : ℕ) (bytes : List ℕ) (m : ℕ → ℕ) → 0x0800 ≤ place → place + length bytes ≤ 0xa000 → LieAt place bytes m → (a b : ℕ) → part_at place bytes a ≡ Some b → (is_program a ≡ true) × (m a ≡ b)
+lies : (place : ℕ) (bytes : List ℕ) (m : ℕ → ℕ) → 0x0800 ≤ place → place + length bytes ≤ 0xa000 → LieAt place bytes m → (a b : ℕ)
+    → part_at place bytes a ≡ Some b → (is_program a ≡ true) × (m a ≡ b)
 lies place [] m from to h a b e = cc
-lies place (x ∷ bytes) m from to h a b e = by_place (lies (place + 1) bytes m (omega arith) (omega arith) (λ k l. ap m (let s : place + 1 + k ≡ place + suc k = omega arith in s) ∙ h (suc k) (omega (arith, l))) a b)
+lies place (x ∷ bytes) m from to h a b e = by_place (lies (place + 1) bytes m (omega arith) (omega arith)
+    (λ k l. ap m (let s : place + 1 + k ≡ place + suc k = omega arith in s) ∙ h (suc k) (omega (arith, l))) a b)
   where
     by_place : (part_at (place + 1) bytes a ≡ Some b → (is_program a ≡ true) × (m a ≡ b)) → (is_program a ≡ true) × (m a ≡ b)
     by_place later = ⊎_elim
@@ -40,7 +43,8 @@ lies place (x ∷ bytes) m from to h a b e = by_place (lies (place + 1) bytes m 
         (cases_eq a place)
 
 -- ---- the view of a start
-module _ (place : ℕ) (bytes : List ℕ) (from : 0x0800 ≤ place) (to : place + length bytes ≤ 0xa000) (inner : Part) (holds : Holds inner (part_at place bytes)) (s : State) (h : IsStart place bytes s) where
+module _ (place : ℕ) (bytes : List ℕ) (from : 0x0800 ≤ place) (to : place + length bytes ≤ 0xa000) (inner : Part)
+    (holds : Holds inner (part_at place bytes)) (s : State) (h : IsStart place bytes s) where
   pub at_start : At (setup_of inner (part_at place bytes) s) (view_of s) s
   at_start = record {
     regs = ap (λ p. record s.regs { pc = p }) h.pc;

@@ -41,7 +41,8 @@ plain_either false a b p q = q
 
 plain_digits : (k n : ℕ) (text : List ℕ) → Plain text → Plain (digits_before k n text)
 plain_digits zero n text h = h
-plain_digits (suc k) n text h = plain_either (nat_lt n 10) ((48 + n) ∷ text) (digits_before k (n / 10) ((48 + n % 10) ∷ text)) ((λ e. omega arith), h) (plain_digits k (n / 10) ((48 + n % 10) ∷ text) ((λ e. omega arith), h))
+plain_digits (suc k) n text h = plain_either (nat_lt n 10) ((48 + n) ∷ text) (digits_before k (n / 10) ((48 + n % 10) ∷ text)) ((λ e. omega arith), h)
+    (plain_digits k (n / 10) ((48 + n % 10) ∷ text) ((λ e. omega arith), h))
 
 plain_number : (w : ℕ) → Plain (digits_of w)
 plain_number w = plain_either (is_negative w) (45 ∷ digits_before 5 (magnitude w) []) (digits_before 5 w []) ((λ e. omega arith), plain_digits 5 (magnitude w) [] tt) (plain_digits 5 w [] tt)

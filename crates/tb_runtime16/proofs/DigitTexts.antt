@@ -1,5 +1,6 @@
 -- The digits of a number by powers of ten, from the highest on.
-use Rattle.std.proofs.Common.{◌≡◌, ◌≢◌, ℕ, suc, ◌+◌, ◌/◌, ◌%◌, ◌<◌, ◌≤◌, Bool, true, false, if◌then◌else◌, List, [], ◌∷◌, refl, sym, ap, ap₂, ◌∙◌, ⊎_elim, arith, eqb}
+use Rattle.std.proofs.Common.{◌≡◌, ◌≢◌, ℕ, suc, ◌+◌, ◌/◌, ◌%◌, ◌<◌, ◌≤◌, Bool, true, false, if◌then◌else◌, List, []}
+use Rattle.std.proofs.Common.{◌∷◌, refl, sym, ap, ap₂, ◌∙◌, ⊎_elim, arith, eqb}
 use Rattle.std.specs.Prelude.{bit_or}
 use Rattle.std.specs.Int.Bits.{or_zero_r}
 use Rattle.std.proofs.lemmas.Bool.{ne_eqb, eq-eqb, cases_lt, le-leb, lt-leb}
@@ -44,10 +45,12 @@ two k w ds from to = ten_more (suc k) w ds from ∙ less_ten k (w / 10) ((48 + w
 three : (k w : ℕ) (ds : List ℕ) → 100 ≤ w → w < 1000 → digits_before (suc (suc (suc k))) w ds ≡ (48 + w / 10 / 10) ∷ (48 + w / 10 % 10) ∷ (48 + w % 10) ∷ ds
 three k w ds from to = ten_more (suc (suc k)) w ds (omega (arith, from)) ∙ two k (w / 10) ((48 + w % 10) ∷ ds) (omega (arith, from)) (omega (arith, to))
 
-four : (k w : ℕ) (ds : List ℕ) → 1000 ≤ w → w < 10000 → digits_before (suc (suc (suc (suc k)))) w ds ≡ (48 + w / 10 / 10 / 10) ∷ (48 + w / 10 / 10 % 10) ∷ (48 + w / 10 % 10) ∷ (48 + w % 10) ∷ ds
+four : (k w : ℕ) (ds : List ℕ) → 1000 ≤ w → w < 10000 → digits_before (suc (suc (suc (suc k)))) w ds ≡ (48 + w / 10 / 10 / 10)
+    ∷ (48 + w / 10 / 10 % 10) ∷ (48 + w / 10 % 10) ∷ (48 + w % 10) ∷ ds
 four k w ds from to = ten_more (suc (suc (suc k))) w ds (omega (arith, from)) ∙ three k (w / 10) ((48 + w % 10) ∷ ds) (omega (arith, from)) (omega (arith, to))
 
-five : (w : ℕ) → 10000 ≤ w → w < 100000 → digits_before 5 w [] ≡ (48 + w / 10 / 10 / 10 / 10) ∷ (48 + w / 10 / 10 / 10 % 10) ∷ (48 + w / 10 / 10 % 10) ∷ (48 + w / 10 % 10) ∷ (48 + w % 10) ∷ []
+five : (w : ℕ) → 10000 ≤ w → w < 100000 → digits_before 5 w [] ≡ (48 + w / 10 / 10 / 10 / 10) ∷ (48 + w / 10 / 10 / 10 % 10) ∷ (48 + w / 10 / 10 % 10)
+    ∷ (48 + w / 10 % 10) ∷ (48 + w % 10) ∷ []
 five w from to = ten_more 4 w [] (omega (arith, from)) ∙ four 0 (w / 10) ((48 + w % 10) ∷ []) (omega (arith, from)) (omega (arith, to))
 
 -- ---- both ways come to the same text
@@ -65,7 +68,8 @@ by_ten_thousand : (w : ℕ) → w / 10000 ≡ w / 10 / 10 / 10 / 10
 by_ten_thousand w = omega arith
 
 hundreds_same : (w : ℕ) → sent (100 ∷ 10 ∷ []) true w ≡ (48 + w / 10 / 10) ∷ (48 + w / 10 % 10) ∷ (48 + w % 10) ∷ []
-hundreds_same w = cons _ _ _ _ (ap (λ n. 48 + n) (by_hundred w)) (cons _ _ _ _ (let e : 48 + w % 100 / 10 ≡ 48 + w / 10 % 10 = omega arith in e) (cons _ _ _ _ (let e : 48 + w % 100 % 10 ≡ 48 + w % 10 = omega arith in e) refl))
+hundreds_same w = cons _ _ _ _ (ap (λ n. 48 + n) (by_hundred w)) (cons _ _ _ _ (let e : 48 + w % 100 / 10 ≡ 48 + w / 10 % 10 = omega arith in e)
+    (cons _ _ _ _ (let e : 48 + w % 100 % 10 ≡ 48 + w % 10 = omega arith in e) refl))
 
 thousands_same : (w : ℕ) → sent (1000 ∷ 100 ∷ 10 ∷ []) true w ≡ (48 + w / 10 / 10 / 10) ∷ (48 + w / 10 / 10 % 10) ∷ (48 + w / 10 % 10) ∷ (48 + w % 10) ∷ []
 thousands_same w =
@@ -74,13 +78,15 @@ thousands_same w =
     let c : w % 1000 % 10 ≡ w % 10 = omega arith in
     cons _ _ _ _ (ap (λ n. 48 + n) (by_thousand w)) (hundreds_same (w % 1000) ∙ cons _ _ _ _ (ap (λ n. 48 + n) a) (cons _ _ _ _ (ap (λ n. 48 + n) b) (cons _ _ _ _ (ap (λ n. 48 + n) c) refl)))
 
-ten_thousands_same : (w : ℕ) → sent (10000 ∷ 1000 ∷ 100 ∷ 10 ∷ []) true w ≡ (48 + w / 10 / 10 / 10 / 10) ∷ (48 + w / 10 / 10 / 10 % 10) ∷ (48 + w / 10 / 10 % 10) ∷ (48 + w / 10 % 10) ∷ (48 + w % 10) ∷ []
+ten_thousands_same : (w : ℕ) → sent (10000 ∷ 1000 ∷ 100 ∷ 10 ∷ []) true w ≡ (48 + w / 10 / 10 / 10 / 10) ∷ (48 + w / 10 / 10 / 10 % 10)
+    ∷ (48 + w / 10 / 10 % 10) ∷ (48 + w / 10 % 10) ∷ (48 + w % 10) ∷ []
 ten_thousands_same w =
     let a : w % 10000 / 10 / 10 / 10 ≡ w / 10 / 10 / 10 % 10 = omega arith in
     let b : w % 10000 / 10 / 10 % 10 ≡ w / 10 / 10 % 10 = omega arith in
     let c : w % 10000 / 10 % 10 ≡ w / 10 % 10 = omega arith in
     let d : w % 10000 % 10 ≡ w % 10 = omega arith in
-    cons _ _ _ _ (ap (λ n. 48 + n) (by_ten_thousand w)) (thousands_same (w % 10000) ∙ cons _ _ _ _ (ap (λ n. 48 + n) a) (cons _ _ _ _ (ap (λ n. 48 + n) b) (cons _ _ _ _ (ap (λ n. 48 + n) c) (cons _ _ _ _ (ap (λ n. 48 + n) d) refl))))
+    cons _ _ _ _ (ap (λ n. 48 + n) (by_ten_thousand w)) (thousands_same (w % 10000)
+        ∙ cons _ _ _ _ (ap (λ n. 48 + n) a) (cons _ _ _ _ (ap (λ n. 48 + n) b) (cons _ _ _ _ (ap (λ n. 48 + n) c) (cons _ _ _ _ (ap (λ n. 48 + n) d) refl))))
 
 tens : (k w : ℕ) → w < 100 → sent (10 ∷ []) false w ≡ digits_before (suc (suc k)) w []
 tens k w to = ⊎_elim
@@ -102,6 +108,7 @@ thousands k w to = ⊎_elim
 
 pub ten_thousands : (w : ℕ) → w < 100000 → sent (10000 ∷ 1000 ∷ 100 ∷ 10 ∷ []) false w ≡ digits_before 5 w []
 ten_thousands w to = ⊎_elim
-    (λ less. skipped 10000 (1000 ∷ 100 ∷ 10 ∷ []) w (omega (arith, less)) ∙ ap (sent (1000 ∷ 100 ∷ 10 ∷ []) false) (let e : w % 10000 ≡ w = omega (arith, less) in e) ∙ thousands 1 w less)
+    (λ less. skipped 10000 (1000 ∷ 100 ∷ 10 ∷ []) w (omega (arith, less)) ∙ ap (sent (1000 ∷ 100 ∷ 10 ∷ []) false) (let e : w % 10000 ≡ w =
+        omega (arith, less) in e) ∙ thousands 1 w less)
     (λ more. begins 10000 (1000 ∷ 100 ∷ 10 ∷ []) w (λ e. omega (arith, more, e)) ∙ ten_thousands_same w ∙ sym (five w more to))
     (cases_lt w 10000)

@@ -1,5 +1,6 @@
 -- Divide.
-use Rattle.std.proofs.Common.{◌≡◌, ◌⊎◌, ℕ, ◌+◌, ◌-◌, ◌/◌, ◌%◌, ◌<◌, ◌≤◌, Bool, true, false, not, List, [], ◌∷◌, refl, sym, ap, ap₂, ◌∙◌, subst, ⊎_elim, inl, inr, arith, eqb}
+use Rattle.std.proofs.Common.{◌≡◌, ◌⊎◌, ℕ, ◌+◌, ◌-◌, ◌/◌, ◌%◌, ◌<◌, ◌≤◌, Bool, true, false, not, List, [], ◌∷◌}
+use Rattle.std.proofs.Common.{refl, sym, ap, ap₂, ◌∙◌, subst, ⊎_elim, inl, inr, arith, eqb}
 use Rattle.std.specs.Prelude.{nat_le, bit_or}
 use Rattle.std.proofs.lemmas.Bool.{ne_eqb, eq-eqb}
 use Rattle.std.proofs.Math.Nat.{div-le_self}
@@ -16,7 +17,8 @@ use Rattle.tb_runtime16.specs.Block.{block_part}
 use Rattle.tb_runtime16.specs.Laws.{unsigned_at, negate_left_at, is_argument, WordAt, Back, Parts, DivideLaw, DivideByZeroLaw}
 use Rattle.tb_runtime16.proofs.InMemory.{IsWord, bytes_of, holds_word, of_word, same_place, value}
 use Rattle.tb_runtime16.proofs.Within.{divide_part, divide_in}
-use Rattle.tb_runtime16.proofs.Words.{small_byte, taken_from_zero, sign_of, sign_small, sign_none, negated_size, negated_sign, magnitude_positive, quotient_positive, quotient_negative, with_sign_positive, with_sign_negative}
+use Rattle.tb_runtime16.proofs.Words.{small_byte, taken_from_zero, sign_of, sign_small, sign_none, negated_size, negated_sign, magnitude_positive}
+use Rattle.tb_runtime16.proofs.Words.{quotient_positive, quotient_negative, with_sign_positive, with_sign_negative}
 use Rattle.tb_runtime16.proofs.Frames.{Frame, frame_put, frame_then, leaves_now}
 use Rattle.tb_runtime16.proofs.Called.{calls, back_looser}
 use Rattle.tb_runtime16.proofs.UnsignedRuns.{unsigned_law}
@@ -72,21 +74,26 @@ divided_negated m w q r h =
     }
 
 module _ (f : Setup) (fits : Fits f 2) (block : Holds block_part f.code) (lo hi : ℕ) (text answers : List ℕ) where
-  negate_return : (a x y : ℕ) (n v i z c : Bool) (w : ℕ → ℕ) (q : (ℕ → ℕ) → Type 0) → q w → Comes f (view a x y n v i z c (DIVIDE_AT + 36) (lo ∷ hi ∷ []) w text answers) (Back lo hi text answers q) [] 1
+  negate_return : (a x y : ℕ) (n v i z c : Bool) (w : ℕ → ℕ) (q : (ℕ → ℕ) → Type 0) → q w
+      → Comes f (view a x y n v i z c (DIVIDE_AT + 36) (lo ∷ hi ∷ []) w text answers) (Back lo hi text answers q) [] 1
   negate_return a x y n v i z c w q h = ending f 2 fits divide_part (divide_in f.code block) 0 (view a x y n v i z c (DIVIDE_AT + 36) (lo ∷ hi ∷ []) w text answers) _ refl
       (leaves_now refl h)
 
-  pub negate_left : (a x y : ℕ) (n v i z c : Bool) (w : ℕ → ℕ) (q : (ℕ → ℕ) → Type 0) → q (negated_left w) → Comes f (view a x y n v i z c negate_left_at (lo ∷ hi ∷ []) w text answers) (Back lo hi text answers q) [] 9
+  pub negate_left : (a x y : ℕ) (n v i z c : Bool) (w : ℕ → ℕ) (q : (ℕ → ℕ) → Type 0) → q (negated_left w)
+      → Comes f (view a x y n v i z c negate_left_at (lo ∷ hi ∷ []) w text answers) (Back lo hi text answers q) [] 9
   negate_left a x y n v i z c w q h =
       after f 2 fits divide_part (divide_in f.code block) 7 (view a x y n v i z c negate_left_at (lo ∷ hi ∷ []) w text answers) _ _ 1 refl
       (negate_return _ _ _ _ _ _ _ _ (negated_left w) q h)
 
 -- ---- LEFT is a magnitude, RIGHT a word with a sign
-module _ (f : Setup) (fits : Fits f 4) (block : Holds block_part f.code) (lo hi : ℕ) (text answers : List ℕ) (m : ℕ → ℕ) (p : IsWord m LEFT) (q : IsWord m RIGHT) (small : word_in m LEFT ≤ 32768) (some : 1 ≤ word_in m RIGHT) where
+module _ (f : Setup) (fits : Fits f 4) (block : Holds block_part f.code) (lo hi : ℕ) (text answers : List ℕ) (m : ℕ → ℕ) (p : IsWord m LEFT)
+    (q : IsWord m RIGHT) (small : word_in m LEFT ≤ 32768) (some : 1 ≤ word_in m RIGHT) where
   abbrev Half : (ℕ → ℕ) → Type 0
   Half = Parts is_argument m (with_sign (is_negative (word_in m RIGHT)) (word_in m LEFT / magnitude (word_in m RIGHT))) (word_in m LEFT % magnitude (word_in m RIGHT))
 
-  by_unsigned : (a x y : ℕ) (n v i z c : Bool) (w : ℕ → ℕ) → is_negative (word_in m RIGHT) ≡ true → IsWord w LEFT → word_in w LEFT ≡ word_in m LEFT → IsWord w RIGHT → word_in w RIGHT ≡ negated (word_in m RIGHT) → Frame m w → Comes f (view a x y n v i z c unsigned_at ((DIVIDE_AT + 48) % 256 ∷ (DIVIDE_AT + 48) / 256 ∷ lo ∷ hi ∷ []) w text answers) (Back lo hi text answers Half) [] (268 + 10)
+  by_unsigned : (a x y : ℕ) (n v i z c : Bool) (w : ℕ → ℕ) → is_negative (word_in m RIGHT) ≡ true → IsWord w LEFT → word_in w LEFT ≡ word_in m LEFT
+      → IsWord w RIGHT → word_in w RIGHT ≡ negated (word_in m RIGHT) → Frame m w
+      → Comes f (view a x y n v i z c unsigned_at ((DIVIDE_AT + 48) % 256 ∷ (DIVIDE_AT + 48) / 256 ∷ lo ∷ hi ∷ []) w text answers) (Back lo hi text answers Half) [] (268 + 10)
   by_unsigned a x y n v i z c w t wl le wr re h =
       let l = word_in m LEFT in
       let d = word_in m RIGHT in
@@ -96,13 +103,16 @@ module _ (f : Setup) (fits : Fits f 4) (block : Holds block_part f.code) (lo hi 
       let most : word_in w RIGHT ≤ 32768 = omega (arith, big, wide, re) in
       let size : word_in w RIGHT ≡ magnitude d = re ∙ negated_size d wide t in
       calls f (lo ∷ hi ∷ []) a x y n v i z c unsigned_at ((DIVIDE_AT + 48) % 256) ((DIVIDE_AT + 48) / 256) w text answers _ _ [] [] 268 10
-      (unsigned_law (under f (lo ∷ hi ∷ [])) (omega (arith, fits)) block ((DIVIDE_AT + 48) % 256) ((DIVIDE_AT + 48) / 256) text answers w a x y n v i z c l (magnitude d) (holds_word w LEFT l wl le) (holds_word w RIGHT (magnitude d) wr size) (omega (arith, size, least)) (omega (arith, size, most)))
-      (λ a x y n v i z c u g. subst (λ q0. Comes f (view a x y n v i z c (DIVIDE_AT + 49) (lo ∷ hi ∷ []) u text answers) (Back lo hi text answers (Parts is_argument m q0 (l % magnitude d))) [] 10) (sym (with_sign_negative d l small t))
+      (unsigned_law (under f (lo ∷ hi ∷ [])) (omega (arith, fits)) block ((DIVIDE_AT + 48) % 256) ((DIVIDE_AT + 48) / 256) text answers w a x y n v i
+          z c l (magnitude d) (holds_word w LEFT l wl le) (holds_word w RIGHT (magnitude d) wr size) (omega (arith, size, least)) (omega (arith, size, most)))
+      (λ a x y n v i z c u g. subst (λ q0. Comes f (view a x y n v i z c (DIVIDE_AT + 49) (lo ∷ hi ∷ []) u text answers)
+          (Back lo hi text answers (Parts is_argument m q0 (l % magnitude d))) [] 10) (sym (with_sign_negative d l small t))
       (after f 4 fits divide_part (divide_in f.code block) 0 (view a x y n v i z c (DIVIDE_AT + 49) (lo ∷ hi ∷ []) u text answers) _ _ 9 refl
       (negate_left f (omega (arith, fits)) block lo hi text answers a x y n v i z c u _ (divided_negated m u (l / magnitude d) (l % magnitude d)
       (record { left = g.parts.left; rest = g.parts.rest; others = frame_then m w u h g.parts.others })))))
 
-  by_negative : (a x y : ℕ) (n v i z c : Bool) → is_negative (word_in m RIGHT) ≡ true → Comes f (view a x y n v i z c (DIVIDE_AT + 41) (lo ∷ hi ∷ []) m text answers) (Back lo hi text answers Half) [] (11 + (268 + 10))
+  by_negative : (a x y : ℕ) (n v i z c : Bool) → is_negative (word_in m RIGHT) ≡ true
+      → Comes f (view a x y n v i z c (DIVIDE_AT + 41) (lo ∷ hi ∷ []) m text answers) (Back lo hi text answers Half) [] (11 + (268 + 10))
   by_negative a x y n v i z c t =
       after f 4 fits divide_part (divide_in f.code block) 10 (view a x y n v i z c (DIVIDE_AT + 41) (lo ∷ hi ∷ []) m text answers) _ _ (268 + 10) refl
       (by_unsigned _ _ _ _ _ _ _ _ (negated_right m) t p refl (bytes_negated (m RIGHT) (m (RIGHT + 1))) (taken_from_zero (m RIGHT) (m (RIGHT + 1)) q.0 q.1) (right_frame m m (λ a e. refl)))
@@ -120,16 +130,21 @@ module _ (f : Setup) (fits : Fits f 4) (block : Holds block_part f.code) (lo hi 
       let below = sign_none d t in
       looser f _ _ _ [] (2 + 268) 291 (omega arith) (λ w h. h)
       (after f 4 fits divide_part (divide_in f.code block) 1 (view a x y n v i z c (DIVIDE_AT + 37) (lo ∷ hi ∷ []) m text answers) _ _ 268 refl
-      (rw b (back_looser f _ lo hi text answers _ _ [] 268 268 (omega arith) (unsigned_law f (omega (arith, fits)) block lo hi text answers m _ _ _ _ _ _ _ _ l d (holds_word m LEFT l p refl) (holds_word m RIGHT d q refl) some (omega (arith, below)))
-      (λ w h. record { left = subst (WordAt w LEFT) (sym (with_sign_positive d l small t)) h.parts.left; rest = subst (WordAt w RESULT) (ap (λ r. l % r) (sym (magnitude_positive d t))) h.parts.rest; others = h.parts.others })))))
+      (rw b (back_looser f _ lo hi text answers _ _ [] 268 268 (omega arith) (unsigned_law f (omega (arith, fits)) block lo hi text answers m _ _ _ _
+          _ _ _ _ l d (holds_word m LEFT l p refl) (holds_word m RIGHT d q refl) some (omega (arith, below)))
+      (λ w h. record { left = subst (WordAt w LEFT) (sym (with_sign_positive d l small t)) h.parts.left;
+          rest = subst (WordAt w RESULT) (ap (λ r. l % r) (sym (magnitude_positive d t))) h.parts.rest; others = h.parts.others })))))
       (sign_case (is_negative d))
 
 -- ---- LEFT and RIGHT are words with signs
-module _ (f : Setup) (fits : Fits f 6) (block : Holds block_part f.code) (lo hi : ℕ) (text answers : List ℕ) (m : ℕ → ℕ) (p : IsWord m LEFT) (q : IsWord m RIGHT) (some : 1 ≤ word_in m RIGHT) where
+module _ (f : Setup) (fits : Fits f 6) (block : Holds block_part f.code) (lo hi : ℕ) (text answers : List ℕ) (m : ℕ → ℕ) (p : IsWord m LEFT)
+    (q : IsWord m RIGHT) (some : 1 ≤ word_in m RIGHT) where
   abbrev Goal : (ℕ → ℕ) → Type 0
   Goal = Parts is_argument m (quotient (word_in m LEFT) (word_in m RIGHT)) (magnitude (word_in m LEFT) % magnitude (word_in m RIGHT))
 
-  signed_by : (a x y : ℕ) (n v i z c : Bool) (w : ℕ → ℕ) → is_negative (word_in m LEFT) ≡ true → IsWord w LEFT → word_in w LEFT ≡ negated (word_in m LEFT) → IsWord w RIGHT → word_in w RIGHT ≡ word_in m RIGHT → Frame m w → Comes f (view a x y n v i z c (DIVIDE_AT + 37) ((DIVIDE_AT + 20) % 256 ∷ (DIVIDE_AT + 20) / 256 ∷ lo ∷ hi ∷ []) w text answers) (Back lo hi text answers Goal) [] (291 + 9)
+  signed_by : (a x y : ℕ) (n v i z c : Bool) (w : ℕ → ℕ) → is_negative (word_in m LEFT) ≡ true → IsWord w LEFT → word_in w LEFT
+      ≡ negated (word_in m LEFT) → IsWord w RIGHT → word_in w RIGHT ≡ word_in m RIGHT → Frame m w
+      → Comes f (view a x y n v i z c (DIVIDE_AT + 37) ((DIVIDE_AT + 20) % 256 ∷ (DIVIDE_AT + 20) / 256 ∷ lo ∷ hi ∷ []) w text answers) (Back lo hi text answers Goal) [] (291 + 9)
   signed_by a x y n v i z c w t wl le wr re h =
       let l = word_in m LEFT in
       let d = word_in m RIGHT in
@@ -138,8 +153,11 @@ module _ (f : Setup) (fits : Fits f 6) (block : Holds block_part f.code) (lo hi 
       let most : negated l ≤ 32768 = omega (arith, big, wide) in
       let few : negated l / magnitude d ≤ 32768 = let s = div-le_self (negated l) (magnitude d) in omega (arith, s, most) in
       calls f (lo ∷ hi ∷ []) a x y n v i z c (DIVIDE_AT + 37) ((DIVIDE_AT + 20) % 256) ((DIVIDE_AT + 20) / 256) w text answers _ _ [] [] 291 9
-      (by (under f (lo ∷ hi ∷ [])) (omega (arith, fits)) block ((DIVIDE_AT + 20) % 256) ((DIVIDE_AT + 20) / 256) text answers w wl wr (subst (λ r. r ≤ 32768) (sym le) most) (subst (λ r. 1 ≤ r) (sym re) some) a x y n v i z c)
-      (λ a x y n v i z c u g. subst (λ q0. Comes f (view a x y n v i z c negate_left_at (lo ∷ hi ∷ []) u text answers) (Back lo hi text answers (Parts is_argument m q0 (magnitude l % magnitude d))) [] 9) (negated_sign (is_negative d) (negated l / magnitude d) few ∙ sym (quotient_negative l d wide t))
+      (by (under f (lo ∷ hi ∷ [])) (omega (arith, fits)) block ((DIVIDE_AT + 20) % 256) ((DIVIDE_AT + 20) / 256) text answers w wl wr
+          (subst (λ r. r ≤ 32768) (sym le) most) (subst (λ r. 1 ≤ r) (sym re) some) a x y n v i z c)
+      (λ a x y n v i z c u g. subst (λ q0. Comes f (view a x y n v i z c negate_left_at (lo ∷ hi ∷ []) u text answers)
+          (Back lo hi text answers (Parts is_argument m q0 (magnitude l % magnitude d))) [] 9)
+          (negated_sign (is_negative d) (negated l / magnitude d) few ∙ sym (quotient_negative l d wide t))
       (negate_left f (omega (arith, fits)) block lo hi text answers a x y n v i z c u _ (divided_negated m u (with_sign (is_negative d) (negated l / magnitude d)) (magnitude l % magnitude d)
       (record {
         left = subst (WordAt u LEFT) (ap (λ r. with_sign (is_negative r) (word_in w LEFT / magnitude r)) re ∙ ap (λ r. with_sign (is_negative d) (r / magnitude d)) le) g.left;
@@ -147,7 +165,8 @@ module _ (f : Setup) (fits : Fits f 6) (block : Holds block_part f.code) (lo hi 
         others = frame_then m w u h g.others;
       }))))
 
-  signed_negative : (a x y : ℕ) (n v i z c : Bool) → is_negative (word_in m LEFT) ≡ true → Comes f (view a x y n v i z c (DIVIDE_AT + 15) (lo ∷ hi ∷ []) m text answers) (Back lo hi text answers Goal) [] (11 + (291 + 9))
+  signed_negative : (a x y : ℕ) (n v i z c : Bool) → is_negative (word_in m LEFT) ≡ true
+      → Comes f (view a x y n v i z c (DIVIDE_AT + 15) (lo ∷ hi ∷ []) m text answers) (Back lo hi text answers Goal) [] (11 + (291 + 9))
   signed_negative a x y n v i z c t =
       after f 6 fits divide_part (divide_in f.code block) 10 (view a x y n v i z c (DIVIDE_AT + 15) (lo ∷ hi ∷ []) m text answers) _ _ (291 + 9) refl
       (signed_by _ _ _ _ _ _ _ _ (negated_left m) t (bytes_negated (m LEFT) (m (LEFT + 1))) (taken_from_zero (m LEFT) (m (LEFT + 1)) p.0 p.1) q refl (left_frame m m (λ a e. refl)))
@@ -166,7 +185,8 @@ module _ (f : Setup) (fits : Fits f 6) (block : Holds block_part f.code) (lo hi 
       looser f _ _ _ [] (2 + 291) 313 (omega arith) (λ w h. h)
       (after f 6 fits divide_part (divide_in f.code block) 1 (view a x y n v i z c (DIVIDE_AT + 11) (lo ∷ hi ∷ []) m text answers) _ _ 291 refl
       (rw b (back_looser f _ lo hi text answers _ _ [] 291 291 (omega arith) (by f (omega (arith, fits)) block lo hi text answers m p q (omega (arith, below)) some _ _ _ _ _ _ _ _)
-      (λ w h. record { left = subst (WordAt w LEFT) (sym (quotient_positive l d t)) h.left; rest = subst (WordAt w RESULT) (ap (λ r. r % magnitude d) (sym (magnitude_positive l t))) h.rest; others = h.others })))))
+      (λ w h. record { left = subst (WordAt w LEFT) (sym (quotient_positive l d t)) h.left;
+          rest = subst (WordAt w RESULT) (ap (λ r. r % magnitude d) (sym (magnitude_positive l t))) h.rest; others = h.others })))))
       (sign_case (is_negative l))
 
   divide : (a x y : ℕ) (n v i z c : Bool) → Comes f (view a x y n v i z c DIVIDE_AT (lo ∷ hi ∷ []) m text answers) (Back lo hi text answers Goal) [] 316

@@ -1,5 +1,7 @@
 -- Input.
-use Rattle.std.proofs.Common.{◌≡◌, ◌≢◌, ℕ, ◌+◌, ◌-◌, ◌*◌, ◌%◌, ◌/◌, ◌<◌, ◌≤◌, Bool, true, false, ◌&&◌, ◌||◌, List, [], ◌∷◌, ◌++◌, length, refl, sym, ap, ◌∙◌, subst, ⊎_elim, inl, inr, ◌⊎◌, arith, eqb, leb, if◌then◌else◌, length-append}
+use Rattle.std.proofs.Common.{◌≡◌, ◌≢◌, ℕ, ◌+◌, ◌-◌, ◌*◌, ◌%◌, ◌/◌, ◌<◌, ◌≤◌, Bool, true, false, ◌&&◌, ◌||◌}
+use Rattle.std.proofs.Common.{List, [], ◌∷◌, ◌++◌, length, refl, sym, ap, ◌∙◌, subst, ⊎_elim, inl, inr, ◌⊎◌, arith, eqb, leb}
+use Rattle.std.proofs.Common.{if◌then◌else◌, length-append}
 use Rattle.std.proofs.lemmas.Bool.{ne_eqb, eq-eqb, cases_eq, cases_lt, lt-leb, le-leb, false≢true, and_left, and_right}
 use Rattle.tb_cpu.specs.Operands.{word_in}
 use Rattle.tb_memmap.specs.Bytes.{with_byte}
@@ -34,7 +36,10 @@ other_byte : (b k : ℕ) → b < 256 → k < 256 → b ≢ k → compares_same b
 other_byte b k p q n = ne_eqb _ _ (λ h. n (omega (arith, p, q, h)))
 
 -- a call of Send, and then
-saying : (f : Setup) (own : List ℕ) → Fits (under f own) 2 → Holds block_part f.code → (lo hi : ℕ) (text answers : List ℕ) (m : ℕ → ℕ) (a x y : ℕ) (n v i z c : Bool) → a < 256 → (q : View → Type 0) (u : List ℕ) (k : ℕ) → ((a' x y : ℕ) (n v i z c : Bool) (m' : ℕ → ℕ) → m' COLUMN ≡ column_after (m COLUMN) (a ∷ []) % 256 → ((p : ℕ) → p ≢ COLUMN → m' p ≡ m p) → Comes f (view a' x y n v i z c (back_at lo hi) own m' text answers) q u k) → Comes f (view a x y n v i z c SEND_AT (lo ∷ hi ∷ own) m text answers) q (a ∷ u) (7 + k)
+saying : (f : Setup) (own : List ℕ) → Fits (under f own) 2 → Holds block_part f.code → (lo hi : ℕ) (text answers : List ℕ) (m : ℕ → ℕ) (a x y : ℕ)
+    (n v i z c : Bool) → a < 256 → (q : View → Type 0) (u : List ℕ) (k : ℕ) → ((a' x y : ℕ) (n v i z c : Bool) (m' : ℕ → ℕ)
+    → m' COLUMN ≡ column_after (m COLUMN) (a ∷ []) % 256 → ((p : ℕ) → p ≢ COLUMN → m' p ≡ m p)
+    → Comes f (view a' x y n v i z c (back_at lo hi) own m' text answers) q u k) → Comes f (view a x y n v i z c SEND_AT (lo ∷ hi ∷ own) m text answers) q (a ∷ u) (7 + k)
 saying f own fits block lo hi text answers m a x y n v i z c small q u k next =
     calls f own a x y n v i z c SEND_AT lo hi m text answers (Sent nowhere m (a ∷ [])) q (a ∷ []) u 7 k (send_law (under f own) fits block lo hi text answers m a x y n v i z c small)
     (λ a' x y n v i z c w s. next a' x y n v i z c w s.column (λ p z. s.others p refl z))
@@ -73,12 +78,15 @@ number_digit (Digits negative n) d = refl
 -- ---- a turn's next byte
 turn_digit : (r : Reading) (b : ℕ) (text : List ℕ) → 48 ≤ b → b ≤ 57 → turn (with_digit r (b - 48)) text ≡ turn r (b ∷ text)
 turn_digit r b text lo hi =
-    let rest = λ (x y z : Bool). if x then turn r text else (if y && z then turn (with_digit r (b - 48)) text else (if eqb b 43 || eqb b 45 then signed_turn r (turn (Sign (eqb b 45)) text) else (if eqb b 44 then number_end r true text else (if eqb b 13 then number_end r false text else Bad)))) in
+    let rest = λ (x y z : Bool). if x then turn r text else (if y && z then turn (with_digit r (b - 48)) text else
+        (if eqb b 43 || eqb b 45 then signed_turn r (turn (Sign (eqb b 45)) text) else (if eqb b 44 then number_end r true text else
+        (if eqb b 13 then number_end r false text else Bad)))) in
     sym (ap (λ x. rest x (leb 48 b) (leb b 57)) (ne_eqb b 32 (λ e. omega arith)) ∙ ap (λ x. rest false x (leb b 57)) (le-leb 48 b lo) ∙ ap (λ x. rest false true x) (le-leb b 57 hi))
 
 turn_bad : (r : Reading) (b : ℕ) (text : List ℕ) → b ≢ 32 → b ≢ 43 → b ≢ 45 → b ≢ 44 → b ≢ 13 → (leb 48 b && leb b 57) ≡ false → Bad ≡ turn r (b ∷ text)
 turn_bad r b text n32 n43 n45 n44 n13 out =
-    let rest = λ (x y p q s t : Bool). if x then turn r text else (if y then turn (with_digit r (b - 48)) text else (if p || q then signed_turn r (turn (Sign (eqb b 45)) text) else (if s then number_end r true text else (if t then number_end r false text else Bad)))) in
+    let rest = λ (x y p q s t : Bool). if x then turn r text else (if y then turn (with_digit r (b - 48)) text else
+        (if p || q then signed_turn r (turn (Sign (eqb b 45)) text) else (if s then number_end r true text else (if t then number_end r false text else Bad)))) in
     sym (ap (λ x. rest x (leb 48 b && leb b 57) (eqb b 43) (eqb b 45) (eqb b 44) (eqb b 13)) (ne_eqb b 32 n32)
     ∙ ap (λ x. rest false x (eqb b 43) (eqb b 45) (eqb b 44) (eqb b 13)) out
     ∙ ap (λ x. rest false false x (eqb b 45) (eqb b 44) (eqb b 13)) (ne_eqb b 43 n43)
@@ -89,7 +97,9 @@ turn_bad r b text n32 n43 n45 n44 n13 out =
 apart : (a at : ℕ) → is_changed a ≡ false → is_changed at ≡ true → eqb a at ≡ false
 apart a at t h = ne_eqb a at (λ x. false≢true (sym t ∙ ap is_changed x ∙ h))
 
-module _ (f : Setup) (room : ℕ) (most : 13 ≤ room) (fits : Fits f room) (block : Holds block_part f.code) (hlo hhi : ℕ) (above : List ℕ) (deep : length above + 6 ≤ room) (lo hi : ℕ) (answers : List ℕ) (m0 : ℕ → ℕ) (entered : Entered f hlo hhi m0) (line : ℕ) (is_line : WordAt m0 LINE line) (col : ℕ) (before : List ℕ) where
+module _ (f : Setup) (room : ℕ) (most : 13 ≤ room) (fits : Fits f room) (block : Holds block_part f.code) (hlo hhi : ℕ) (above : List ℕ)
+    (deep : length above + 6 ≤ room) (lo hi : ℕ) (answers : List ℕ) (m0 : ℕ → ℕ) (entered : Entered f hlo hhi m0) (line : ℕ)
+    (is_line : WordAt m0 LINE line) (col : ℕ) (before : List ℕ) where
   abbrev own : List ℕ
   own = above ++ hlo ∷ hhi ∷ []
 
@@ -119,12 +129,14 @@ module _ (f : Setup) (room : ℕ) (most : 13 ≤ room) (fits : Fits f room) (blo
   held_byte r m b h = record { seen = h.seen; minus = h.minus; is_word = h.is_word; value = h.value; line_open = h.line_open; column = h.column; others = changes_put _ _ _ BYTE _ refl h.others }
 
   -- fault 6
-  bad : (a x y : ℕ) (n v i z c : Bool) (m : ℕ → ℕ) (text : List ℕ) → Changes is_changed m0 m → Comes f (view a x y n v i z c (INPUT_AT + 0xA0) (lo ∷ hi ∷ own) m text answers) (IsHome f) (fault_text 6 line) (84 + 458)
+  bad : (a x y : ℕ) (n v i z c : Bool) (m : ℕ → ℕ) (text : List ℕ) → Changes is_changed m0 m
+      → Comes f (view a x y n v i z c (INPUT_AT + 0xA0) (lo ∷ hi ∷ own) m text answers) (IsHome f) (fault_text 6 line) (84 + 458)
   bad a x y n v i z c m text k =
       let here : Entered f hlo hhi m = record { homed = entered.homed; kept = ap (λ s. s + 2) (k HOME_S refl) ∙ entered.kept } in
       looser f _ _ _ (fault_text 6 line) (2 + (82 + 458)) (84 + 458) (omega arith) (λ w h. h)
       (after_on f own 4 free input_part st 1 (view a x y n v i z c (INPUT_AT + 0xA0) (lo ∷ hi ∷ []) m text answers) _ _ (82 + 458) refl
-      (fault_law f room most fits block hlo hhi (lo ∷ hi ∷ above) (omega (arith, deep)) text answers m here line (same_place m0 m LINE line is_line (k LINE refl) (k (LINE + 1) refl)) 6 _ _ _ _ _ _ _ (omega arith)))
+      (fault_law f room most fits block hlo hhi (lo ∷ hi ∷ above) (omega (arith, deep)) text answers m here line
+          (same_place m0 m LINE line is_line (k LINE refl) (k (LINE + 1) refl)) 6 _ _ _ _ _ _ _ (omega arith)))
 
   -- ---- the end
   record Read (value : ℕ) (m : ℕ → ℕ) : Type 0 where
@@ -134,7 +146,8 @@ module _ (f : Setup) (room : ℕ) (most : 13 ≤ room) (fits : Fits f room) (blo
     column : m COLUMN ≡ column_after col before % 256
     others : Changes is_changed m0 m
 
-  finish : (value : ℕ) (stays : Bool) (a x y : ℕ) (n v i z c : Bool) (m : ℕ → ℕ) (text : List ℕ) → Read value m → compares_same (m BYTE) 44 ≡ stays → Comes f (view a x y n v i z c (INPUT_AT + 0xC4) (lo ∷ hi ∷ own) m text answers) (Goal (Got value stays text)) (sends (Got value stays text)) 14
+  finish : (value : ℕ) (stays : Bool) (a x y : ℕ) (n v i z c : Bool) (m : ℕ → ℕ) (text : List ℕ) → Read value m → compares_same (m BYTE) 44 ≡ stays
+      → Comes f (view a x y n v i z c (INPUT_AT + 0xC4) (lo ∷ hi ∷ own) m text answers) (Goal (Got value stays text)) (sends (Got value stays text)) 14
   finish value true a x y n v i z c m text h e =
       looser f _ _ _ [] (3 + 1) 14 (omega arith) (λ w h. h)
       (after_on f own 4 free input_part st 2 (view a x y n v i z c (INPUT_AT + 0xC4) (lo ∷ hi ∷ []) m text answers) _ _ 1 refl
@@ -152,7 +165,8 @@ module _ (f : Setup) (room : ℕ) (most : 13 ≤ room) (fits : Fits f room) (blo
         same_answers = g.1.same_answers;
         memory = record {
           gives = record {
-            result = same_place m g.0.mem RESULT value (holds_word m RESULT value h.is_word h.value_is) (g.1.memory.others RESULT refl (λ e. omega (arith, e))) (g.1.memory.others (RESULT + 1) refl (λ e. omega (arith, e)));
+            result = same_place m g.0.mem RESULT value (holds_word m RESULT value h.is_word h.value_is)
+                (g.1.memory.others RESULT refl (λ e. omega (arith, e))) (g.1.memory.others (RESULT + 1) refl (λ e. omega (arith, e)));
             others = λ a t. g.1.memory.others a refl (λ x. false≢true (sym t ∙ ap is_changed x)) ∙ changes_put _ _ _ OPEN _ refl h.others a t;
           };
           line_open = g.1.memory.others OPEN refl (λ e. omega (arith, e));
@@ -163,7 +177,8 @@ module _ (f : Setup) (room : ℕ) (most : 13 ≤ room) (fits : Fits f room) (blo
       (send_law (under f own) (omega (arith, free)) block lo hi text answers _ _ _ _ _ _ _ _ _ (omega arith))))))
 
   -- the number ends
-  done : (r : Reading) (stays : Bool) (a x y : ℕ) (n v i z c : Bool) (m : ℕ → ℕ) (text : List ℕ) → Held r m → compares_same (m BYTE) 44 ≡ stays → Comes f (view a x y n v i z c (INPUT_AT + 0xA5) (lo ∷ hi ∷ own) m text answers) (Goal (number_end r stays text)) (sends (number_end r stays text)) (87 + 458)
+  done : (r : Reading) (stays : Bool) (a x y : ℕ) (n v i z c : Bool) (m : ℕ → ℕ) (text : List ℕ) → Held r m → compares_same (m BYTE) 44 ≡ stays
+      → Comes f (view a x y n v i z c (INPUT_AT + 0xA5) (lo ∷ hi ∷ own) m text answers) (Goal (number_end r stays text)) (sends (number_end r stays text)) (87 + 458)
   done Nothing stays a x y n v i z c m text h e =
       let t : compares_same (m SCRATCH) 2 ≡ false = ne_eqb _ _ (λ e. omega (arith, h.seen, e)) in
       looser f _ _ _ (fault_text 6 line) (3 + (84 + 458)) (87 + 458) (omega arith) (λ w h. h)
@@ -197,10 +212,13 @@ module _ (f : Setup) (room : ℕ) (most : 13 ≤ room) (fits : Fits f room) (blo
 
   -- ---- a turn goes on
   Reads : List ℕ → Type 0
-  Reads text = (r : Reading) (a x y : ℕ) (n v i z c : Bool) (m : ℕ → ℕ) → Held r m → AreBytes text → Comes f (view a x y n v i z c (INPUT_AT + 0x22) (lo ∷ hi ∷ own) m text answers) (Goal (turn r text)) (sends (turn r text)) (45 * length text + (102 + 458))
+  Reads text = (r : Reading) (a x y : ℕ) (n v i z c : Bool) (m : ℕ → ℕ) → Held r m → AreBytes text
+      → Comes f (view a x y n v i z c (INPUT_AT + 0x22) (lo ∷ hi ∷ own) m text answers) (Goal (turn r text)) (sends (turn r text)) (45 * length text + (102 + 458))
 
   -- a sign
-  at_sign : (r : Reading) (negative : Bool) (a x y : ℕ) (n v i z c : Bool) (m : ℕ → ℕ) (text : List ℕ) → Reads text → Held r m → compares_same (m BYTE) 45 ≡ negative → AreBytes text → Comes f (view a x y n v i z c (INPUT_AT + 0x8D) (lo ∷ hi ∷ own) m text answers) (Goal (signed_turn r (turn (Sign negative) text))) (sends (signed_turn r (turn (Sign negative) text))) (45 * length text + (109 + 458))
+  at_sign : (r : Reading) (negative : Bool) (a x y : ℕ) (n v i z c : Bool) (m : ℕ → ℕ) (text : List ℕ) → Reads text → Held r m
+      → compares_same (m BYTE) 45 ≡ negative → AreBytes text → Comes f (view a x y n v i z c (INPUT_AT + 0x8D) (lo ∷ hi ∷ own) m text answers)
+      (Goal (signed_turn r (turn (Sign negative) text))) (sends (signed_turn r (turn (Sign negative) text))) (45 * length text + (109 + 458))
   unfolding Reads
   at_sign Nothing negative a x y n v i z c m text go h e bs =
       let t : eqb (m SCRATCH) 0 ≡ true = eq-eqb _ _ h.seen in
@@ -208,7 +226,8 @@ module _ (f : Setup) (room : ℕ) (most : 13 ≤ room) (fits : Fits f room) (blo
       (after_on f own 4 free input_part st 1 (view a x y n v i z c (INPUT_AT + 0x8D) (lo ∷ hi ∷ []) m text answers) _ _ (5 + (45 * length text + (102 + 458))) refl
       (rw t (after_on f own 4 free input_part st 4 (view _ _ _ _ _ _ _ _ (INPUT_AT + 0x92) (lo ∷ hi ∷ []) m text answers) _ _ (45 * length text + (102 + 458)) refl
       (go (Sign negative) _ _ _ _ _ _ _ _ _
-      (record { seen = refl; minus = e; is_word = h.is_word; value = h.value; line_open = h.line_open; column = h.column; others = changes_put _ _ _ SCRATCH _ refl (changes_put _ _ _ MINUS _ refl h.others) }) bs))))
+      (record { seen = refl; minus = e; is_word = h.is_word; value = h.value; line_open = h.line_open; column = h.column;
+          others = changes_put _ _ _ SCRATCH _ refl (changes_put _ _ _ MINUS _ refl h.others) }) bs))))
   at_sign (Sign before) negative a x y n v i z c m text go h e bs =
       let t : eqb (m SCRATCH) 0 ≡ false = ne_eqb _ _ (λ e. omega (arith, h.seen, e)) in
       looser f _ _ _ (fault_text 6 line) (2 + (84 + 458)) (45 * length text + (109 + 458)) (omega arith) (λ w h. h)
@@ -221,7 +240,9 @@ module _ (f : Setup) (room : ℕ) (most : 13 ≤ room) (fits : Fits f room) (blo
       (rw t (bad _ _ _ _ _ _ _ _ m text h.others)))
 
   -- a digit, which BYTE holds
-  at_digit : (r : Reading) (d : ℕ) (a x y : ℕ) (n v i z c : Bool) (m : ℕ → ℕ) (text : List ℕ) → Reads text → Held r m → m BYTE ≡ d → d < 10 → AreBytes text → Comes f (view a x y n v i z c (INPUT_AT + 0x46) (lo ∷ hi ∷ own) m text answers) (Goal (turn (with_digit r d) text)) (sends (turn (with_digit r d) text)) (27 + (45 * length text + (102 + 458)))
+  at_digit : (r : Reading) (d : ℕ) (a x y : ℕ) (n v i z c : Bool) (m : ℕ → ℕ) (text : List ℕ) → Reads text → Held r m → m BYTE ≡ d → d < 10
+      → AreBytes text → Comes f (view a x y n v i z c (INPUT_AT + 0x46) (lo ∷ hi ∷ own) m text answers) (Goal (turn (with_digit r d) text))
+      (sends (turn (with_digit r d) text)) (27 + (45 * length text + (102 + 458)))
   unfolding Reads
   at_digit r d a x y n v i z c m text go h e small bs =
       let ten = times_ten (m RESULT) (m (RESULT + 1)) (m BYTE) h.is_word.0 h.is_word.1 (omega (arith, e)) in
@@ -245,7 +266,8 @@ module _ (f : Setup) (room : ℕ) (most : 13 ≤ room) (fits : Fits f room) (blo
 
   -- ---- a byte has come
   abbrev Byte : ℕ → List ℕ → Reading → Type 0
-  Byte b text r = (x y : ℕ) (n v i z c : Bool) (m : ℕ → ℕ) → Held r m → AreBytes text → Comes f (view b x y n v i z c (INPUT_AT + 0x25) (lo ∷ hi ∷ own) m text answers) (Goal (turn r (b ∷ text))) (sends (turn r (b ∷ text))) (45 * length text + (145 + 458))
+  Byte b text r = (x y : ℕ) (n v i z c : Bool) (m : ℕ → ℕ) → Held r m → AreBytes text
+      → Comes f (view b x y n v i z c (INPUT_AT + 0x25) (lo ∷ hi ∷ own) m text answers) (Goal (turn r (b ∷ text))) (sends (turn r (b ∷ text))) (45 * length text + (145 + 458))
 
   space : (text : List ℕ) → Reads text → (r : Reading) → Byte 32 text r
   unfolding Reads
@@ -279,7 +301,9 @@ module _ (f : Setup) (room : ℕ) (most : 13 ≤ room) (fits : Fits f room) (blo
       (done r false _ _ _ _ _ _ _ _ _ text (held_byte r m 13 h) refl))
 
   -- a byte that may be a digit
-  digit : (text : List ℕ) → Reads text → (r : Reading) (b : ℕ) → 48 ≤ b → b ≤ 57 → (x y : ℕ) (n v i z c : Bool) (m : ℕ → ℕ) → Held r m → AreBytes text → Comes f (view b x y n v i z c (INPUT_AT + 0x3C) (lo ∷ hi ∷ own) m text answers) (Goal (turn r (b ∷ text))) (sends (turn r (b ∷ text))) (5 + (27 + (45 * length text + (102 + 458))))
+  digit : (text : List ℕ) → Reads text → (r : Reading) (b : ℕ) → 48 ≤ b → b ≤ 57 → (x y : ℕ) (n v i z c : Bool) (m : ℕ → ℕ) → Held r m → AreBytes text
+      → Comes f (view b x y n v i z c (INPUT_AT + 0x3C) (lo ∷ hi ∷ own) m text answers) (Goal (turn r (b ∷ text))) (sends (turn r (b ∷ text)))
+      (5 + (27 + (45 * length text + (102 + 458))))
   digit text go r b from to x y n v i z c m h bs =
       let d : (b + 256 - 48) % 256 ≡ b - 48 = omega arith in
       let t : leb 10 ((b + 256 - 48) % 256) ≡ false = lt-leb 10 _ (omega arith) in
@@ -287,13 +311,17 @@ module _ (f : Setup) (room : ℕ) (most : 13 ≤ room) (fits : Fits f room) (blo
       (after_on f own 4 free input_part st 4 (view b x y n v i z c (INPUT_AT + 0x3C) (lo ∷ hi ∷ []) m text answers) _ _ (27 + (45 * length text + (102 + 458))) refl
       (rw t (at_digit r (b - 48) _ _ _ _ _ _ _ _ _ text go (held_byte r m _ h) d (omega arith) bs)))
 
-  stray : (text : List ℕ) (r : Reading) (b : ℕ) → b < 256 → (leb 48 b && leb b 57) ≡ false → leb 10 ((b + 256 - 48) % 256) ≡ true → (x y : ℕ) (n v i z c : Bool) (m : ℕ → ℕ) → Held r m → Comes f (view b x y n v i z c (INPUT_AT + 0x3C) (lo ∷ hi ∷ own) m text answers) (IsHome f) (fault_text 6 line) (5 + (84 + 458))
+  stray : (text : List ℕ) (r : Reading) (b : ℕ) → b < 256 → (leb 48 b && leb b 57) ≡ false → leb 10 ((b + 256 - 48) % 256) ≡ true
+      → (x y : ℕ) (n v i z c : Bool) (m : ℕ → ℕ) → Held r m → Comes f (view b x y n v i z c (INPUT_AT + 0x3C) (lo ∷ hi ∷ own) m text answers)
+      (IsHome f) (fault_text 6 line) (5 + (84 + 458))
   stray text r b small out t x y n v i z c m h =
       after_on f own 4 free input_part st 4 (view b x y n v i z c (INPUT_AT + 0x3C) (lo ∷ hi ∷ []) m text answers) _ _ (84 + 458) refl
       (rw t (bad _ _ _ _ _ _ _ _ _ text (changes_put _ _ _ BYTE _ refl h.others)))
 
   -- past the five tests
-  past : (text : List ℕ) (b : ℕ) (u : Turn) (k : ℕ) → b < 256 → b ≢ 32 → b ≢ 43 → b ≢ 45 → b ≢ 44 → b ≢ 13 → (x y : ℕ) (n v i z c : Bool) (m : ℕ → ℕ) → ((n z c : Bool) → Comes f (view b x y n v i z c (INPUT_AT + 0x3C) (lo ∷ hi ∷ own) (with_byte m BYTE b) text answers) (Goal u) (sends u) k) → Comes f (view b x y n v i z c (INPUT_AT + 0x25) (lo ∷ hi ∷ own) m text answers) (Goal u) (sends u) (3 + (2 + (2 + (2 + (2 + k)))))
+  past : (text : List ℕ) (b : ℕ) (u : Turn) (k : ℕ) → b < 256 → b ≢ 32 → b ≢ 43 → b ≢ 45 → b ≢ 44 → b ≢ 13 → (x y : ℕ) (n v i z c : Bool) (m : ℕ → ℕ)
+      → ((n z c : Bool) → Comes f (view b x y n v i z c (INPUT_AT + 0x3C) (lo ∷ hi ∷ own) (with_byte m BYTE b) text answers) (Goal u) (sends u) k)
+      → Comes f (view b x y n v i z c (INPUT_AT + 0x25) (lo ∷ hi ∷ own) m text answers) (Goal u) (sends u) (3 + (2 + (2 + (2 + (2 + k)))))
   past text b u k small n32 n43 n45 n44 n13 x y n v i z c m next =
       let t32 : compares_same b 32 ≡ false = other_byte b 32 small (omega arith) n32 in
       let t43 : compares_same b 43 ≡ false = other_byte b 43 small (omega arith) n43 in
@@ -320,7 +348,8 @@ module _ (f : Setup) (room : ℕ) (most : 13 ≤ room) (fits : Fits f room) (blo
   other_digit : (text : List ℕ) → Reads text → (r : Reading) (b : ℕ) → b ≢ 32 → b ≢ 43 → b ≢ 45 → b ≢ 44 → b ≢ 13 → 48 ≤ b → b ≤ 57 → Byte b text r
   other_digit text go r b n32 n43 n45 n44 n13 from to x y n v i z c m h bs =
       looser f _ _ _ (sends (turn r (b ∷ text))) (3 + (2 + (2 + (2 + (2 + (5 + (27 + (45 * length text + (102 + 458))))))))) (45 * length text + (145 + 458)) (omega arith) (λ w h. h)
-      (past text b (turn r (b ∷ text)) (5 + (27 + (45 * length text + (102 + 458)))) (omega (arith, to)) n32 n43 n45 n44 n13 x y n v i z c m (λ n z c. digit text go r b from to x y n v i z c (with_byte m BYTE b) (held_byte r m b h) bs))
+      (past text b (turn r (b ∷ text)) (5 + (27 + (45 * length text + (102 + 458)))) (omega (arith, to)) n32 n43 n45 n44 n13 x y n v i z c m
+          (λ n z c. digit text go r b from to x y n v i z c (with_byte m BYTE b) (held_byte r m b h) bs))
 
   any : (text : List ℕ) → Reads text → (r : Reading) (b : ℕ) → b < 256 → Byte b text r
   any text go r b small =
@@ -341,15 +370,19 @@ module _ (f : Setup) (room : ℕ) (most : 13 ≤ room) (fits : Fits f room) (blo
   reads_all (b ∷ text) r a x y n v i z c m h bs =
       looser f _ _ _ (sends (turn r (b ∷ text))) (1 + (1 + (45 * length text + (145 + 458)))) (45 * length (b ∷ text) + (102 + 458)) (omega arith) (λ w h. h)
       (after_on f own 4 free input_part st 0 (view a x y n v i z c (INPUT_AT + 0x22) (lo ∷ hi ∷ []) m (b ∷ text) answers) _ _ (1 + (45 * length text + (145 + 458))) refl
-      (serving f room fits Chrin _ _ _ _ _ (sends (turn r (b ∷ text))) (45 * length text + (145 + 458)) (le-leb _ _ (omega (arith, deep, length-append above (hlo ∷ hhi ∷ [])))) refl refl refl (λ j.
+      (serving f room fits Chrin _ _ _ _ _ (sends (turn r (b ∷ text))) (45 * length text + (145 + 458))
+          (le-leb _ _ (omega (arith, deep, length-append above (hlo ∷ hhi ∷ [])))) refl refl refl (λ j.
       any text (reads_all text) r b bs.0 j.x j.y j.n j.v j.i j.z j.c m h bs.1)))
 
-  start : (a x y : ℕ) (n v i z c : Bool) (m : ℕ → ℕ) (text : List ℕ) → AreBytes text → m OPEN ≡ 1 → m COLUMN ≡ column_after col before % 256 → Changes is_changed m0 m → Comes f (view a x y n v i z c (INPUT_AT + 0x14) (lo ∷ hi ∷ own) m text answers) (Goal (turn Nothing text)) (sends (turn Nothing text)) (5 + (45 * length text + (102 + 458)))
+  start : (a x y : ℕ) (n v i z c : Bool) (m : ℕ → ℕ) (text : List ℕ) → AreBytes text → m OPEN ≡ 1 → m COLUMN ≡ column_after col before % 256
+      → Changes is_changed m0 m → Comes f (view a x y n v i z c (INPUT_AT + 0x14) (lo ∷ hi ∷ own) m text answers) (Goal (turn Nothing text))
+      (sends (turn Nothing text)) (5 + (45 * length text + (102 + 458)))
   unfolding Reads
   start a x y n v i z c m text bs o e k =
       after_on f own 4 free input_part st 4 (view a x y n v i z c (INPUT_AT + 0x14) (lo ∷ hi ∷ []) m text answers) _ _ (45 * length text + (102 + 458)) refl
       (reads_all text Nothing _ _ _ _ _ _ _ _ _
-      (record { seen = refl; minus = refl; is_word = (small_byte 0, small_byte 0); value = refl; line_open = o; column = e; others = changes_put _ _ _ MINUS _ refl (changes_put _ _ _ SCRATCH _ refl (changes_put _ _ _ (RESULT + 1) _ refl (changes_put _ _ _ RESULT _ refl k))) }) bs)
+      (record { seen = refl; minus = refl; is_word = (small_byte 0, small_byte 0); value = refl; line_open = o; column = e;
+          others = changes_put _ _ _ MINUS _ refl (changes_put _ _ _ SCRATCH _ refl (changes_put _ _ _ (RESULT + 1) _ refl (changes_put _ _ _ RESULT _ refl k))) }) bs)
 
 pub input_law : InputLaw
 input_law f room most fits block hlo hhi above deep lo hi text answers m e line is_line bs true o col column a x y n v i z c =
@@ -371,7 +404,8 @@ input_law f room most fits block hlo hhi above deep lo hi text answers m e line 
     looser f _ _ _ (63 ∷ 32 ∷ last) (2 + (2 + (7 + (2 + (7 + rest))))) (45 * length text + (129 + 458)) (omega arith) (λ w h. h)
     (after_on f own 4 free input_part st 1 (view a x y n v i z c INPUT_AT (lo ∷ hi ∷ []) m text answers) _ _ (2 + (7 + (2 + (7 + rest)))) refl
     (rw t (after_on f own 4 free input_part st 1 (view _ _ _ _ _ _ _ _ (INPUT_AT + 0x5) (lo ∷ hi ∷ []) m text answers) _ _ (7 + (2 + (7 + rest))) refl
-    (saying f (lo ∷ hi ∷ own) inside block ((INPUT_AT + 0x9) % 256) ((INPUT_AT + 0x9) / 256) text answers m 63 _ _ _ _ _ _ _ (omega arith) _ (32 ∷ last) (2 + (7 + rest)) (λ a x y n v i z c m1 c1 k1.
+    (saying f (lo ∷ hi ∷ own) inside block ((INPUT_AT + 0x9) % 256) ((INPUT_AT + 0x9) / 256) text answers m 63 _ _ _ _ _ _ _ (omega arith) _
+        (32 ∷ last) (2 + (7 + rest)) (λ a x y n v i z c m1 c1 k1.
     after_on f own 4 free input_part st 1 (view a x y n v i z c (INPUT_AT + 0xA) (lo ∷ hi ∷ []) m1 text answers) _ _ (7 + rest) refl
     (saying f (lo ∷ hi ∷ own) inside block ((INPUT_AT + 0xE) % 256) ((INPUT_AT + 0xE) / 256) text answers m1 32 _ _ _ _ _ _ _ (omega arith) _ last rest (λ a x y n v i z c m2 c2 k2.
     after_on f own 4 free input_part st 1 (view a x y n v i z c (INPUT_AT + 0xF) (lo ∷ hi ∷ []) m2 text answers) _ _ (5 + (45 * length text + (102 + 458))) refl

@@ -1,5 +1,6 @@
 -- Multiply.
-use Rattle.std.proofs.Common.{◌≡◌, ◌≢◌, ℕ, zero, suc, ◌+◌, ◌-◌, ◌*◌, ◌/◌, ◌%◌, ◌<◌, ◌≤◌, Bool, true, false, List, [], ◌∷◌, refl, sym, ap, ◌∙◌, subst, ⊎_elim, arith, eqb}
+use Rattle.std.proofs.Common.{◌≡◌, ◌≢◌, ℕ, zero, suc, ◌+◌, ◌-◌, ◌*◌, ◌/◌, ◌%◌, ◌<◌, ◌≤◌, Bool, true, false, List}
+use Rattle.std.proofs.Common.{[], ◌∷◌, refl, sym, ap, ◌∙◌, subst, ⊎_elim, arith, eqb}
 use Rattle.std.proofs.lemmas.Bool.{ne_eqb, eq-eqb, cases_eq, cases_lt}
 use Rattle.tb_cpu.specs.Operands.{word_in}
 use Rattle.tb_cpu.specs.Effects.{bit}
@@ -42,12 +43,17 @@ module _ (f : Setup) (fits : Fits f 2) (block : Holds block_part f.code) (lo hi 
 
   -- behind the sum, the low byte of the result in A: RIGHT has k bits left
   Skip : ℕ → Type 0
-  Skip k = (a x y : ℕ) (n v i z c : Bool) (m : ℕ → ℕ) (product : ℕ) → a < 256 → Held m → word_in m RIGHT < pow2 k → product ≡ (a + 256 * m (RESULT + 1) + 2 * word_in m LEFT * word_in m RIGHT) % 65536 → Comes f (view a x y n v i z c (MULTIPLY_AT + 25) (lo ∷ hi ∷ []) m text answers) (Back lo hi text answers (Gives is_argument m0 product)) [] (rounds k + 8)
+  Skip k = (a x y : ℕ) (n v i z c : Bool) (m : ℕ → ℕ) (product : ℕ) → a < 256 → Held m → word_in m RIGHT < pow2 k
+      → product ≡ (a + 256 * m (RESULT + 1) + 2 * word_in m LEFT * word_in m RIGHT) % 65536
+      → Comes f (view a x y n v i z c (MULTIPLY_AT + 25) (lo ∷ hi ∷ []) m text answers) (Back lo hi text answers (Gives is_argument m0 product)) [] (rounds k + 8)
 
   Turn : ℕ → Type 0
-  Turn k = (a x y : ℕ) (n v i z c : Bool) (m : ℕ → ℕ) (product : ℕ) → a < 256 → Held m → word_in m RIGHT < pow2 k + pow2 k → product ≡ (a + 256 * m (RESULT + 1) + word_in m LEFT * word_in m RIGHT) % 65536 → Comes f (view a x y n v i z c (MULTIPLY_AT + 6) (lo ∷ hi ∷ []) m text answers) (Back lo hi text answers (Gives is_argument m0 product)) [] (rounds k + 18)
+  Turn k = (a x y : ℕ) (n v i z c : Bool) (m : ℕ → ℕ) (product : ℕ) → a < 256 → Held m → word_in m RIGHT < pow2 k + pow2 k
+      → product ≡ (a + 256 * m (RESULT + 1) + word_in m LEFT * word_in m RIGHT) % 65536
+      → Comes f (view a x y n v i z c (MULTIPLY_AT + 6) (lo ∷ hi ∷ []) m text answers) (Back lo hi text answers (Gives is_argument m0 product)) [] (rounds k + 18)
 
-  last : (a x y : ℕ) (n v i z c : Bool) (m : ℕ → ℕ) (product : ℕ) → a < 256 → Held m → product ≡ a + 256 * m (RESULT + 1) → Comes f (view a x y n v i z c (MULTIPLY_AT + 37) (lo ∷ hi ∷ []) m text answers) (Back lo hi text answers (Gives is_argument m0 product)) [] 2
+  last : (a x y : ℕ) (n v i z c : Bool) (m : ℕ → ℕ) (product : ℕ) → a < 256 → Held m → product ≡ a + 256 * m (RESULT + 1)
+      → Comes f (view a x y n v i z c (MULTIPLY_AT + 37) (lo ∷ hi ∷ []) m text answers) (Back lo hi text answers (Gives is_argument m0 product)) [] 2
   last a x y n v i z c m product small h e = ending f 2 fits multiply_part (multiply_in f.code block) 1 (view a x y n v i z c (MULTIPLY_AT + 37) (lo ∷ hi ∷ []) m text answers) _ refl
       (leaves_now refl (record { result = holds_word _ RESULT product (small, h.r) (sym e); others = frame_put _ _ RESULT _ refl h.others }))
 
@@ -60,13 +66,16 @@ module _ (f : Setup) (fits : Fits f 2) (block : Holds block_part f.code) (lo hi 
   }
 
   -- RIGHT's low byte is 0: its high one is looked at
-  high_none : (a x y : ℕ) (n v i z c : Bool) (m : ℕ → ℕ) (product : ℕ) → a < 256 → Held m → m (RIGHT + 1) ≡ 0 → product ≡ a + 256 * m (RESULT + 1) → Comes f (view a x y n v i z c (MULTIPLY_AT + 33) (lo ∷ hi ∷ []) m text answers) (Back lo hi text answers (Gives is_argument m0 product)) [] 4
+  high_none : (a x y : ℕ) (n v i z c : Bool) (m : ℕ → ℕ) (product : ℕ) → a < 256 → Held m → m (RIGHT + 1) ≡ 0 → product ≡ a + 256 * m (RESULT + 1)
+      → Comes f (view a x y n v i z c (MULTIPLY_AT + 33) (lo ∷ hi ∷ []) m text answers) (Back lo hi text answers (Gives is_argument m0 product)) [] 4
   high_none a x y n v i z c m product small h none e =
       let t : eqb (m (RIGHT + 1)) 0 ≡ true = eq-eqb _ _ none in
       after f 2 fits multiply_part (multiply_in f.code block) 1 (view a x y n v i z c (MULTIPLY_AT + 33) (lo ∷ hi ∷ []) m text answers) _ _ 2 refl
       (rw t (last _ _ _ _ _ _ _ _ m product small h e))
 
-  high_more : (k : ℕ) → Turn k → (a x y : ℕ) (n v i z c : Bool) (m : ℕ → ℕ) (product : ℕ) → a < 256 → Held m → m (RIGHT + 1) ≢ 0 → word_in m RIGHT < pow2 k + pow2 k → product ≡ (a + 256 * m (RESULT + 1) + word_in m LEFT * word_in m RIGHT) % 65536 → Comes f (view a x y n v i z c (MULTIPLY_AT + 33) (lo ∷ hi ∷ []) m text answers) (Back lo hi text answers (Gives is_argument m0 product)) [] (2 + (rounds k + 18))
+  high_more : (k : ℕ) → Turn k → (a x y : ℕ) (n v i z c : Bool) (m : ℕ → ℕ) (product : ℕ) → a < 256 → Held m → m (RIGHT + 1) ≢ 0 → word_in m RIGHT
+      < pow2 k + pow2 k → product ≡ (a + 256 * m (RESULT + 1) + word_in m LEFT * word_in m RIGHT) % 65536
+      → Comes f (view a x y n v i z c (MULTIPLY_AT + 33) (lo ∷ hi ∷ []) m text answers) (Back lo hi text answers (Gives is_argument m0 product)) [] (2 + (rounds k + 18))
   unfolding Turn
   high_more k go a x y n v i z c m product small h some bound e =
       let t : eqb (m (RIGHT + 1)) 0 ≡ false = ne_eqb _ _ some in
@@ -74,7 +83,9 @@ module _ (f : Setup) (fits : Fits f 2) (block : Holds block_part f.code) (lo hi 
       (rw t (go _ _ _ _ _ _ _ _ m product small h bound e))
 
   -- LEFT is doubled, and nothing of RIGHT is left
-  stops : (a x y : ℕ) (n v i z c : Bool) (m : ℕ → ℕ) (product : ℕ) → a < 256 → Held m → m RIGHT ≡ 0 → m (RIGHT + 1) ≡ 0 → product ≡ (a + 256 * m (RESULT + 1) + 2 * word_in m LEFT * word_in m RIGHT) % 65536 → Comes f (view a x y n v i z c (MULTIPLY_AT + 25) (lo ∷ hi ∷ []) m text answers) (Back lo hi text answers (Gives is_argument m0 product)) [] 8
+  stops : (a x y : ℕ) (n v i z c : Bool) (m : ℕ → ℕ) (product : ℕ) → a < 256 → Held m → m RIGHT ≡ 0 → m (RIGHT + 1) ≡ 0
+      → product ≡ (a + 256 * m (RESULT + 1) + 2 * word_in m LEFT * word_in m RIGHT) % 65536
+      → Comes f (view a x y n v i z c (MULTIPLY_AT + 25) (lo ∷ hi ∷ []) m text answers) (Back lo hi text answers (Gives is_argument m0 product)) [] 8
   stops a x y n v i z c m product small h low high e =
       let t : eqb (m RIGHT) 0 ≡ true = eq-eqb _ _ low in
       let none : word_in m RIGHT ≡ 0 = omega (arith, low, high) in
@@ -87,17 +98,23 @@ module _ (f : Setup) (fits : Fits f 2) (block : Holds block_part f.code) (lo hi 
   skip_none a x y n v i z c m product small h bound e = stops a x y n v i z c m product small h (omega (arith, bound)) (omega (arith, bound)) e
 
   -- the product for LEFT doubled
-  twice : (a : ℕ) (m : ℕ → ℕ) (product : ℕ) → Held m → product ≡ (a + 256 * m (RESULT + 1) + 2 * word_in m LEFT * word_in m RIGHT) % 65536 → product ≡ (a + 256 * m (RESULT + 1) + (2 * m LEFT % 256 + 256 * (2 * m (LEFT + 1) % 256 + bit (eqb (m LEFT / 128 % 2) 1))) * word_in m RIGHT) % 65536
-  twice a m product h e = e ∙ sym (turn_double (a + 256 * m (RESULT + 1)) (word_in m LEFT) (word_in m RIGHT)) ∙ ap (λ x. (a + 256 * m (RESULT + 1) + x * word_in m RIGHT) % 65536) (sym (doubled (m LEFT) (m (LEFT + 1)) h.p.0 h.p.1))
+  twice : (a : ℕ) (m : ℕ → ℕ) (product : ℕ) → Held m → product ≡ (a + 256 * m (RESULT + 1) + 2 * word_in m LEFT * word_in m RIGHT) % 65536
+      → product ≡ (a + 256 * m (RESULT + 1) + (2 * m LEFT % 256 + 256 * (2 * m (LEFT + 1) % 256 + bit (eqb (m LEFT / 128 % 2) 1))) * word_in m RIGHT) % 65536
+  twice a m product h e = e ∙ sym (turn_double (a + 256 * m (RESULT + 1)) (word_in m LEFT) (word_in m RIGHT))
+      ∙ ap (λ x. (a + 256 * m (RESULT + 1) + x * word_in m RIGHT) % 65536) (sym (doubled (m LEFT) (m (LEFT + 1)) h.p.0 h.p.1))
 
-  goes_on : (k : ℕ) → Turn k → (a x y : ℕ) (n v i z c : Bool) (m : ℕ → ℕ) (product : ℕ) → a < 256 → Held m → m RIGHT ≢ 0 → word_in m RIGHT < pow2 k + pow2 k → product ≡ (a + 256 * m (RESULT + 1) + 2 * word_in m LEFT * word_in m RIGHT) % 65536 → Comes f (view a x y n v i z c (MULTIPLY_AT + 25) (lo ∷ hi ∷ []) m text answers) (Back lo hi text answers (Gives is_argument m0 product)) [] (4 + (rounds k + 18))
+  goes_on : (k : ℕ) → Turn k → (a x y : ℕ) (n v i z c : Bool) (m : ℕ → ℕ) (product : ℕ) → a < 256 → Held m → m RIGHT ≢ 0 → word_in m RIGHT
+      < pow2 k + pow2 k → product ≡ (a + 256 * m (RESULT + 1) + 2 * word_in m LEFT * word_in m RIGHT) % 65536
+      → Comes f (view a x y n v i z c (MULTIPLY_AT + 25) (lo ∷ hi ∷ []) m text answers) (Back lo hi text answers (Gives is_argument m0 product)) [] (4 + (rounds k + 18))
   unfolding Turn
   goes_on k go a x y n v i z c m product small h some bound e =
       let t : eqb (m RIGHT) 0 ≡ false = ne_eqb _ _ some in
       after f 2 fits multiply_part (multiply_in f.code block) 3 (view a x y n v i z c (MULTIPLY_AT + 25) (lo ∷ hi ∷ []) m text answers) _ _ (rounds k + 18) refl
       (rw t (go _ _ _ _ _ _ _ _ _ product small (doubled_held m h) bound (twice a m product h e)))
 
-  goes_high : (k : ℕ) → Turn k → (a x y : ℕ) (n v i z c : Bool) (m : ℕ → ℕ) (product : ℕ) → a < 256 → Held m → m RIGHT ≡ 0 → m (RIGHT + 1) ≢ 0 → word_in m RIGHT < pow2 k + pow2 k → product ≡ (a + 256 * m (RESULT + 1) + 2 * word_in m LEFT * word_in m RIGHT) % 65536 → Comes f (view a x y n v i z c (MULTIPLY_AT + 25) (lo ∷ hi ∷ []) m text answers) (Back lo hi text answers (Gives is_argument m0 product)) [] (4 + (2 + (rounds k + 18)))
+  goes_high : (k : ℕ) → Turn k → (a x y : ℕ) (n v i z c : Bool) (m : ℕ → ℕ) (product : ℕ) → a < 256 → Held m → m RIGHT ≡ 0 → m (RIGHT + 1) ≢ 0
+      → word_in m RIGHT < pow2 k + pow2 k → product ≡ (a + 256 * m (RESULT + 1) + 2 * word_in m LEFT * word_in m RIGHT) % 65536
+      → Comes f (view a x y n v i z c (MULTIPLY_AT + 25) (lo ∷ hi ∷ []) m text answers) (Back lo hi text answers (Gives is_argument m0 product)) [] (4 + (2 + (rounds k + 18)))
   goes_high k go a x y n v i z c m product small h low some bound e =
       let t : eqb (m RIGHT) 0 ≡ true = eq-eqb _ _ low in
       after f 2 fits multiply_part (multiply_in f.code block) 3 (view a x y n v i z c (MULTIPLY_AT + 25) (lo ∷ hi ∷ []) m text answers) _ _ (2 + (rounds k + 18)) refl
@@ -118,7 +135,9 @@ module _ (f : Setup) (fits : Fits f 2) (block : Holds block_part f.code) (lo hi 
       (cases_eq (m RIGHT) 0)
 
   -- the result and LEFT
-  sum : (k : ℕ) → Skip k → (a x y : ℕ) (n v i z c : Bool) (m : ℕ → ℕ) (product : ℕ) → a < 256 → Held m → word_in m RIGHT < pow2 k → product ≡ ((a + 256 * m (RESULT + 1) + word_in m LEFT) % 65536 + 2 * word_in m LEFT * word_in m RIGHT) % 65536 → Comes f (view a x y n v i z c (MULTIPLY_AT + 12) (lo ∷ hi ∷ []) m text answers) (Back lo hi text answers (Gives is_argument m0 product)) [] (7 + (rounds k + 8))
+  sum : (k : ℕ) → Skip k → (a x y : ℕ) (n v i z c : Bool) (m : ℕ → ℕ) (product : ℕ) → a < 256 → Held m → word_in m RIGHT < pow2 k
+      → product ≡ ((a + 256 * m (RESULT + 1) + word_in m LEFT) % 65536 + 2 * word_in m LEFT * word_in m RIGHT) % 65536
+      → Comes f (view a x y n v i z c (MULTIPLY_AT + 12) (lo ∷ hi ∷ []) m text answers) (Back lo hi text answers (Gives is_argument m0 product)) [] (7 + (rounds k + 8))
   unfolding Skip
   sum k go a x y n v i z c m product small h bound e =
       let s = added a (m (RESULT + 1)) (m LEFT) (m (LEFT + 1)) small h.r h.p.0 h.p.1 in
@@ -139,7 +158,8 @@ module _ (f : Setup) (fits : Fits f 2) (block : Holds block_part f.code) (lo hi 
       looser f _ _ _ [] (3 + (7 + (rounds k + 8))) (rounds k + 18) (omega arith) (λ w h. h)
       (after f 2 fits multiply_part (multiply_in f.code block) 2 (view a x y n v i z c (MULTIPLY_AT + 6) (lo ∷ hi ∷ []) m text answers) _ _ (7 + (rounds k + 8)) refl
       (rw b (sum k go _ _ _ _ _ _ _ _ _ product small shifted less
-      (e ∙ sym (turn_odd (a + 256 * m (RESULT + 1)) (word_in m LEFT) (word_in m RIGHT) (omega arith)) ∙ ap (λ q. ((a + 256 * m (RESULT + 1) + word_in m LEFT) % 65536 + 2 * word_in m LEFT * q) % 65536) (sym half))))))
+      (e ∙ sym (turn_odd (a + 256 * m (RESULT + 1)) (word_in m LEFT) (word_in m RIGHT) (omega arith))
+          ∙ ap (λ q. ((a + 256 * m (RESULT + 1) + word_in m LEFT) % 65536 + 2 * word_in m LEFT * q) % 65536) (sym half))))))
       (λ even. let b : eqb (m RIGHT / 1 % 2) 1 ≡ false = ne_eqb _ _ (λ h. even (omega (arith, h))) in
       looser f _ _ _ [] (3 + (rounds k + 8)) (rounds k + 18) (omega arith) (λ w h. h)
       (after f 2 fits multiply_part (multiply_in f.code block) 2 (view a x y n v i z c (MULTIPLY_AT + 6) (lo ∷ hi ∷ []) m text answers) _ _ (rounds k + 8) refl
@@ -151,7 +171,9 @@ module _ (f : Setup) (fits : Fits f 2) (block : Holds block_part f.code) (lo hi 
   skips zero = skip_none
   skips (suc k) = skip_more k (turn k (skips k))
 
-  whole : (a x y : ℕ) (n v i z c : Bool) → IsWord m0 LEFT → IsWord m0 RIGHT → Comes f (view a x y n v i z c MULTIPLY_AT (lo ∷ hi ∷ []) m0 text answers) (Back lo hi text answers (Gives is_argument m0 ((word_in m0 LEFT * word_in m0 RIGHT) % 65536))) [] 245
+  whole : (a x y : ℕ) (n v i z c : Bool) → IsWord m0 LEFT → IsWord m0 RIGHT
+      → Comes f (view a x y n v i z c MULTIPLY_AT (lo ∷ hi ∷ []) m0 text answers)
+      (Back lo hi text answers (Gives is_argument m0 ((word_in m0 LEFT * word_in m0 RIGHT) % 65536))) [] 245
   unfolding Turn
   whole a x y n v i z c p q =
       looser f _ _ _ [] (3 + 242) 245 (omega arith) (λ w h. h)

@@ -1,6 +1,7 @@
 -- Division without signs of a word by a byte above its high byte and below 128, inside Divide: eight rounds on the low
 -- byte, with the rest in A.
-use Rattle.std.proofs.Common.{◌≡◌, ℕ, zero, suc, ◌+◌, ◌-◌, ◌*◌, ◌/◌, ◌%◌, ◌<◌, Bool, true, false, List, [], ◌∷◌, refl, sym, ap, ◌∙◌, subst, ⊎_elim, arith, eqb}
+use Rattle.std.proofs.Common.{◌≡◌, ℕ, zero, suc, ◌+◌, ◌-◌, ◌*◌, ◌/◌, ◌%◌, ◌<◌, Bool, true, false, List, [], ◌∷◌, refl}
+use Rattle.std.proofs.Common.{sym, ap, ◌∙◌, subst, ⊎_elim, arith, eqb}
 use Rattle.std.specs.Prelude.{nat_le}
 use Rattle.std.proofs.lemmas.Bool.{ne_eqb, eq-eqb, cases_lt, le-leb, lt-leb}
 use Rattle.std.proofs.lemmas.Nat.{div-mul-add}
@@ -20,10 +21,12 @@ use Rattle.tb_words.proofs.Powers.{pow2}
 use Rattle.tb_runtime16.proofs.WideRuns.{double, double_one}
 use Rattle.tb_runtime16.proofs.Frames.{Frame, frame_put, leaves_now}
 
-sum_less : (l r q d p n l' r' : ℕ) → l < 256 → l' ≡ 2 * l % 256 → r' ≡ 2 * r + l / 128 → r * 256 + l + q * d * 256 ≡ p * n + q → r' * 256 + l' + (q + q) * d * 256 ≡ (p + p) * n + (q + q)
+sum_less : (l r q d p n l' r' : ℕ) → l < 256 → l' ≡ 2 * l % 256 → r' ≡ 2 * r + l / 128 → r * 256 + l + q * d * 256 ≡ p * n + q
+    → r' * 256 + l' + (q + q) * d * 256 ≡ (p + p) * n + (q + q)
 sum_less l r q d p n l' r' small e e' h = omega (arith, double q d, double p n)
 
-sum_more : (l r q d p n l' r' : ℕ) → l < 256 → l' ≡ 2 * l % 256 + 1 → r' + d ≡ 2 * r + l / 128 → r * 256 + l + q * d * 256 ≡ p * n + q → r' * 256 + l' + (q + q + 1) * d * 256 ≡ (p + p) * n + (q + q + 1)
+sum_more : (l r q d p n l' r' : ℕ) → l < 256 → l' ≡ 2 * l % 256 + 1 → r' + d ≡ 2 * r + l / 128 → r * 256 + l + q * d * 256 ≡ p * n + q
+    → r' * 256 + l' + (q + q + 1) * d * 256 ≡ (p + p) * n + (q + q + 1)
 sum_more l r q d p n l' r' small e e' h = omega (arith, double_one q d, double p n)
 
 module _ (f : Setup) (fits : Fits f 2) (block : Holds block_part f.code) (lo hi : ℕ) (text answers : List ℕ) (m0 : ℕ → ℕ) (top : m0 (RIGHT + 1) ≡ 0) (most : m0 RIGHT < 128) where
@@ -43,10 +46,12 @@ module _ (f : Setup) (fits : Fits f 2) (block : Holds block_part f.code) (lo hi 
   Goal v n = Comes f v (Back lo hi text answers (Parted m0 (word_in m0 LEFT / word_in m0 RIGHT) (word_in m0 LEFT % word_in m0 RIGHT))) [] n
 
   Less : ℕ → Type 0
-  Less k = (a x y : ℕ) (n v i z c : Bool) (m : ℕ → ℕ) (j q : ℕ) → Held j q a m → x ≡ suc k → j + k ≡ 8 → Goal (view a x y n v i z c (DIVIDE_AT + 86) (lo ∷ hi ∷ []) m text answers) (8 * k + 4)
+  Less k = (a x y : ℕ) (n v i z c : Bool) (m : ℕ → ℕ) (j q : ℕ) → Held j q a m → x ≡ suc k → j + k ≡ 8
+      → Goal (view a x y n v i z c (DIVIDE_AT + 86) (lo ∷ hi ∷ []) m text answers) (8 * k + 4)
 
   Next : ℕ → Type 0
-  Next k = (a x y : ℕ) (n v i z c : Bool) (m : ℕ → ℕ) (j q : ℕ) → Held j q a m → x ≡ suc k → suc j + k ≡ 8 → Goal (view a x y n v i z c (DIVIDE_AT + 75) (lo ∷ hi ∷ []) m text answers) (8 * k + 10)
+  Next k = (a x y : ℕ) (n v i z c : Bool) (m : ℕ → ℕ) (j q : ℕ) → Held j q a m → x ≡ suc k → suc j + k ≡ 8
+      → Goal (view a x y n v i z c (DIVIDE_AT + 75) (lo ∷ hi ∷ []) m text answers) (8 * k + 10)
 
   parted : (m : ℕ → ℕ) (q a : ℕ) → Held 8 q a m → Parted m0 (word_in m0 LEFT / word_in m0 RIGHT) (word_in m0 LEFT % word_in m0 RIGHT) (with_byte m RESULT a)
   parted m q a h =
@@ -59,7 +64,8 @@ module _ (f : Setup) (fits : Fits f 2) (block : Holds block_part f.code) (lo hi 
       record {
         parts = record {
           left = holds_word (with_byte m RESULT a) LEFT _ (h.left, omega (arith, h.left_high)) (same ∙ sym (div-mul-add q (word_in m0 RIGHT) a less) ∙ ap (λ n. n / word_in m0 RIGHT) total);
-          rest = holds_word (with_byte m RESULT a) RESULT _ (omega (arith, h.less, most), omega (arith, h.rest_high)) (rest ∙ sym (mul-add-mod_self_right q (word_in m0 RIGHT) a ∙ mod-eq_of_lt less) ∙ ap (λ n. n % word_in m0 RIGHT) total);
+          rest = holds_word (with_byte m RESULT a) RESULT _ (omega (arith, h.less, most), omega (arith, h.rest_high)) (rest
+              ∙ sym (mul-add-mod_self_right q (word_in m0 RIGHT) a ∙ mod-eq_of_lt less) ∙ ap (λ n. n % word_in m0 RIGHT) total);
           others = frame_put _ _ RESULT _ refl h.others;
         };
         right_low = h.low;
@@ -87,7 +93,8 @@ module _ (f : Setup) (fits : Fits f 2) (block : Holds block_part f.code) (lo hi 
       (rw more (go _ _ _ _ _ _ _ _ m j q h less (omega (arith, s)))))
 
   -- the divisor goes into the rest
-  keep : (k : ℕ) → Less k → (a x y : ℕ) (n v i z : Bool) (m : ℕ → ℕ) (j q : ℕ) → Held j q ((a + 256 - (m RIGHT + 0)) % 256) (with_byte m LEFT ((m LEFT + 1) % 256)) → x ≡ suc k → j + k ≡ 8 → Goal (view a x y n v i z true (DIVIDE_AT + 82) (lo ∷ hi ∷ []) m text answers) (2 + (8 * k + 4))
+  keep : (k : ℕ) → Less k → (a x y : ℕ) (n v i z : Bool) (m : ℕ → ℕ) (j q : ℕ) → Held j q ((a + 256 - (m RIGHT + 0)) % 256)
+      (with_byte m LEFT ((m LEFT + 1) % 256)) → x ≡ suc k → j + k ≡ 8 → Goal (view a x y n v i z true (DIVIDE_AT + 82) (lo ∷ hi ∷ []) m text answers) (2 + (8 * k + 4))
   unfolding Less
   keep k go a x y n v i z m j q h e s =
       after f 2 fits divide_part (divide_in f.code block) 1 (view a x y n v i z true (DIVIDE_AT + 82) (lo ∷ hi ∷ []) m text answers) _ _ (8 * k + 4) refl
@@ -145,5 +152,6 @@ module _ (f : Setup) (fits : Fits f 2) (block : Holds block_part f.code) (lo hi 
   narrow x y n v i z c p less =
       after f 2 fits divide_part (divide_in f.code block) 3 (view (m0 (LEFT + 1)) x y n v i z c (DIVIDE_AT + 66) (lo ∷ hi ∷ []) m0 text answers) _ _ 66 refl
       (turn 7 (lesses 7) _ _ _ _ _ _ _ _ _ 0 0
-      (record { left = p.0; left_high = refl; rest_high = refl; low = refl; high = refl; others = frame_put _ _ (RESULT + 1) _ refl (frame_put _ _ (LEFT + 1) _ refl (λ a e. refl)); less = less; few = omega arith; sum = omega arith })
+      (record { left = p.0; left_high = refl; rest_high = refl; low = refl; high = refl; others = frame_put _ _ (RESULT + 1) _ refl
+          (frame_put _ _ (LEFT + 1) _ refl (λ a e. refl)); less = less; few = omega arith; sum = omega arith })
       refl refl)

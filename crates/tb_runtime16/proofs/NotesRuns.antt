@@ -1,5 +1,6 @@
 -- Push and Pop.
-use Rattle.std.proofs.Common.{◌≡◌, ◌≢◌, ℕ, suc, ◌+◌, ◌*◌, ◌/◌, ◌%◌, ◌<◌, ◌≤◌, Bool, true, false, List, [], ◌∷◌, length, refl, ap, ◌∙◌, ⊎_elim, arith, eqb}
+use Rattle.std.proofs.Common.{◌≡◌, ◌≢◌, ℕ, suc, ◌+◌, ◌*◌, ◌/◌, ◌%◌, ◌<◌, ◌≤◌, Bool, true, false, List, [], ◌∷◌}
+use Rattle.std.proofs.Common.{length, refl, ap, ◌∙◌, ⊎_elim, arith, eqb}
 use Rattle.std.specs.Prelude.{Ok, nat_le}
 use Rattle.std.proofs.lemmas.Bool.{ne_eqb, eq-eqb, cases_eq, le-leb, lt-leb}
 use Rattle.std.proofs.lemmas.Bool.Decides.{nat_tests}
@@ -26,7 +27,8 @@ note_same : (m k : ℕ → ℕ) (j note : ℕ) → k (NOTE_LOW + j) ≡ m (NOTE_
 note_same m k j note e d h = record { low = e ∙ h.low; high = d ∙ h.high; small = h.small }
 
 -- what changes neither low nor high bytes of a list leaves it
-noted_same : (m k : ℕ → ℕ) (ns : List ℕ) → ((j : ℕ) → j < length ns → (k (NOTE_LOW + j) ≡ m (NOTE_LOW + j)) × (k (NOTE_HIGH + j) ≡ m (NOTE_HIGH + j))) → Noted m ns → Noted k ns
+noted_same : (m k : ℕ → ℕ) (ns : List ℕ) → ((j : ℕ) → j < length ns → (k (NOTE_LOW + j) ≡ m (NOTE_LOW + j)) × (k (NOTE_HIGH + j) ≡ m (NOTE_HIGH + j)))
+    → Noted m ns → Noted k ns
 noted_same m k [] e h = tt
 noted_same m k (n ∷ ns) e h =
     let here = e (length ns) (omega arith) in
@@ -42,7 +44,8 @@ high_place : (a : ℕ) → NOTE_HIGH ≤ a → a ≤ NOTE_HIGH + 499 → push_ch
 high_place a p q = grind (arith, nat_tests)
 
 -- a count goes up, with and without a carry
-up_carry : (l h k : ℕ) → l < 256 → l + 256 * h ≡ k → k < deepest → (l + 1) % 256 ≡ 0 → ((l + 1) % 256 < 256) × ((h + 1) % 256 < 256) × ((l + 1) % 256 + 256 * ((h + 1) % 256) ≡ suc k)
+up_carry : (l h k : ℕ) → l < 256 → l + 256 * h ≡ k → k < deepest → (l + 1) % 256 ≡ 0 → ((l + 1) % 256 < 256) × ((h + 1) % 256 < 256)
+    × ((l + 1) % 256 + 256 * ((h + 1) % 256) ≡ suc k)
 up_carry l h k p q r e = (omega arith, omega arith, omega arith)
 
 up_plain : (l h k : ℕ) → l < 256 → l + 256 * h ≡ k → k < deepest → (l + 1) % 256 ≢ 0 → ((l + 1) % 256 < 256) × (h < 256) × ((l + 1) % 256 + 256 * h ≡ suc k)
@@ -55,7 +58,9 @@ note_word low high note l h s = (omega arith, omega (arith, h, s), omega (arith,
 module _ (f : Setup) (fits : Fits f 2) (block : Holds block_part f.code) (lo hi : ℕ) (text answers : List ℕ) (m0 : ℕ → ℕ) where
   -- ---- Push
   -- the note's bytes stand, and NOTES goes up: with a carry
-  count_over : (a x y : ℕ) (n v i z c : Bool) (m : ℕ → ℕ) (note : ℕ) (ns : List ℕ) → m NOTES < 256 → m NOTES + 256 * m (NOTES + 1) ≡ length ns → length ns < deepest → Noted m (note ∷ ns) → Changes push_changes m0 m → (m NOTES + 1) % 256 ≡ 0 → Comes f (view a x y n v i z c (PUSH_AT + 0x12) (lo ∷ hi ∷ []) m text answers) (Back lo hi text answers (Pushed m0 (note ∷ ns))) [] 4
+  count_over : (a x y : ℕ) (n v i z c : Bool) (m : ℕ → ℕ) (note : ℕ) (ns : List ℕ) → m NOTES < 256 → m NOTES + 256 * m (NOTES + 1) ≡ length ns
+      → length ns < deepest → Noted m (note ∷ ns) → Changes push_changes m0 m → (m NOTES + 1) % 256 ≡ 0
+      → Comes f (view a x y n v i z c (PUSH_AT + 0x12) (lo ∷ hi ∷ []) m text answers) (Back lo hi text answers (Pushed m0 (note ∷ ns))) [] 4
   count_over a x y n v i z c m note ns low is small h r over =
       let m1 = with_byte m NOTES ((m NOTES + 1) % 256) in
       let m2 = with_byte m1 (NOTES + 1) ((m1 (NOTES + 1) + 1) % 256) in
@@ -64,10 +69,14 @@ module _ (f : Setup) (fits : Fits f 2) (block : Holds block_part f.code) (lo hi 
       let t : eqb ((m NOTES + 1) % 256) 0 ≡ true = eq-eqb _ _ over in
       after f 2 fits notes_part (notes_in f.code block) 1 (view a x y n v i z c (PUSH_AT + 0x12) (lo ∷ hi ∷ []) m text answers) _ _ 2 refl
       (rw t (ending f 2 fits notes_part (notes_in f.code block) 1 (view _ _ _ _ _ _ _ _ (PUSH_AT + 0x17) (lo ∷ hi ∷ []) m1 text answers) _ refl
-      (leaves_now refl (record { notes = record { count = holds_word _ NOTES _ (u.0, u.1) u.2; few = omega (arith, small); noted = noted_same m m2 (note ∷ ns) (λ j p. (same _ (omega arith), same _ (omega arith))) h }; others = changes_put _ _ _ (NOTES + 1) _ refl (changes_put _ _ _ NOTES _ refl r) }))))
+      (leaves_now refl (record { notes = record { count = holds_word _ NOTES _ (u.0, u.1) u.2; few = omega (arith, small);
+          noted = noted_same m m2 (note ∷ ns) (λ j p. (same _ (omega arith), same _ (omega arith))) h }; others = changes_put _ _ _ (NOTES + 1) _ refl
+          (changes_put _ _ _ NOTES _ refl r) }))))
 
   -- and without one
-  count_plain : (a x y : ℕ) (n v i z c : Bool) (m : ℕ → ℕ) (note : ℕ) (ns : List ℕ) → m NOTES < 256 → m NOTES + 256 * m (NOTES + 1) ≡ length ns → length ns < deepest → Noted m (note ∷ ns) → Changes push_changes m0 m → (m NOTES + 1) % 256 ≢ 0 → Comes f (view a x y n v i z c (PUSH_AT + 0x12) (lo ∷ hi ∷ []) m text answers) (Back lo hi text answers (Pushed m0 (note ∷ ns))) [] 3
+  count_plain : (a x y : ℕ) (n v i z c : Bool) (m : ℕ → ℕ) (note : ℕ) (ns : List ℕ) → m NOTES < 256 → m NOTES + 256 * m (NOTES + 1) ≡ length ns
+      → length ns < deepest → Noted m (note ∷ ns) → Changes push_changes m0 m → (m NOTES + 1) % 256 ≢ 0
+      → Comes f (view a x y n v i z c (PUSH_AT + 0x12) (lo ∷ hi ∷ []) m text answers) (Back lo hi text answers (Pushed m0 (note ∷ ns))) [] 3
   count_plain a x y n v i z c m note ns low is small h r under =
       let m1 = with_byte m NOTES ((m NOTES + 1) % 256) in
       let same : (a : ℕ) → NOTE_LOW ≤ a → m1 a ≡ m a = λ a p. put_other m NOTES _ a (λ e. omega (arith, e, p)) in
@@ -75,9 +84,12 @@ module _ (f : Setup) (fits : Fits f 2) (block : Holds block_part f.code) (lo hi 
       let t : eqb ((m NOTES + 1) % 256) 0 ≡ false = ne_eqb _ _ under in
       after f 2 fits notes_part (notes_in f.code block) 1 (view a x y n v i z c (PUSH_AT + 0x12) (lo ∷ hi ∷ []) m text answers) _ _ 1 refl
       (rw t (ending f 2 fits notes_part (notes_in f.code block) 0 (view _ _ _ _ _ _ _ _ (PUSH_AT + 0x1A) (lo ∷ hi ∷ []) m1 text answers) _ refl
-      (leaves_now refl (record { notes = record { count = holds_word _ NOTES _ (u.0, u.1) u.2; few = omega (arith, small); noted = noted_same m m1 (note ∷ ns) (λ j p. (same _ (omega arith), same _ (omega arith))) h }; others = changes_put _ _ _ NOTES _ refl r }))))
+      (leaves_now refl (record { notes = record { count = holds_word _ NOTES _ (u.0, u.1) u.2; few = omega (arith, small);
+          noted = noted_same m m1 (note ∷ ns) (λ j p. (same _ (omega arith), same _ (omega arith))) h }; others = changes_put _ _ _ NOTES _ refl r }))))
 
-  count : (a x y : ℕ) (n v i z c : Bool) (m : ℕ → ℕ) (note : ℕ) (ns : List ℕ) → m NOTES < 256 → m NOTES + 256 * m (NOTES + 1) ≡ length ns → length ns < deepest → Noted m (note ∷ ns) → Changes push_changes m0 m → Comes f (view a x y n v i z c (PUSH_AT + 0x12) (lo ∷ hi ∷ []) m text answers) (Back lo hi text answers (Pushed m0 (note ∷ ns))) [] 4
+  count : (a x y : ℕ) (n v i z c : Bool) (m : ℕ → ℕ) (note : ℕ) (ns : List ℕ) → m NOTES < 256 → m NOTES + 256 * m (NOTES + 1) ≡ length ns
+      → length ns < deepest → Noted m (note ∷ ns) → Changes push_changes m0 m
+      → Comes f (view a x y n v i z c (PUSH_AT + 0x12) (lo ∷ hi ∷ []) m text answers) (Back lo hi text answers (Pushed m0 (note ∷ ns))) [] 4
   count a x y n v i z c m note ns low is small h r =
       ⊎_elim
       (λ over. count_over a x y n v i z c m note ns low is small h r over)
@@ -90,15 +102,21 @@ module _ (f : Setup) (fits : Fits f 2) (block : Holds block_part f.code) (lo hi 
     here = view a x y n v i z c pc (lo ∷ hi ∷ []) m text answers
 
     -- STA o,X
-    storing : Bytes f.code pc (0x9D ∷ o % 256 ∷ o / 256 ∷ []) → Comes f (view a x y n v i z c ((pc + 3) % 65536) (lo ∷ hi ∷ []) (with_byte m at a) text answers) q [] k → Comes f here q [] (1 + k)
-    storing stands next = placing f 2 fits (ins 0x9D o) here _ q [] k refl stands (stores_at f.code 2 (ins 0x9D o) here Sta AbsoluteX at refl refl refl refl (ap (λ a. Ok a) there) a (data_place at from to) refl) next
+    storing : Bytes f.code pc (0x9D ∷ o % 256 ∷ o / 256 ∷ [])
+        → Comes f (view a x y n v i z c ((pc + 3) % 65536) (lo ∷ hi ∷ []) (with_byte m at a) text answers) q [] k → Comes f here q [] (1 + k)
+    storing stands next = placing f 2 fits (ins 0x9D o) here _ q [] k refl stands (stores_at f.code 2 (ins 0x9D o) here Sta AbsoluteX at refl refl
+        refl refl (ap (λ a. Ok a) there) a (data_place at from to) refl) next
 
     -- LDA o,X and LDY o,X
-    to_a : Bytes f.code pc (0xBD ∷ o % 256 ∷ o / 256 ∷ []) → Comes f (view (m at) x y (eqb (m at / 128 % 2) 1) v i (eqb (m at) 0) c ((pc + 3) % 65536) (lo ∷ hi ∷ []) m text answers) q [] k → Comes f here q [] (1 + k)
-    to_a stands next = placing f 2 fits (ins 0xBD o) here _ q [] k refl stands (takes_at f.code 2 (ins 0xBD o) here Lda AbsoluteX at refl refl refl refl (ap (λ a. Ok a) there) (m at) _ (reads_data f.code m at (data_place at from to)) refl) next
+    to_a : Bytes f.code pc (0xBD ∷ o % 256 ∷ o / 256 ∷ []) → Comes f (view (m at) x y (eqb (m at / 128 % 2) 1) v i (eqb (m at) 0) c ((pc + 3) % 65536)
+        (lo ∷ hi ∷ []) m text answers) q [] k → Comes f here q [] (1 + k)
+    to_a stands next = placing f 2 fits (ins 0xBD o) here _ q [] k refl stands (takes_at f.code 2 (ins 0xBD o) here Lda AbsoluteX at refl refl refl
+        refl (ap (λ a. Ok a) there) (m at) _ (reads_data f.code m at (data_place at from to)) refl) next
 
-    to_y : Bytes f.code pc (0xBC ∷ o % 256 ∷ o / 256 ∷ []) → Comes f (view a x (m at) (eqb (m at / 128 % 2) 1) v i (eqb (m at) 0) c ((pc + 3) % 65536) (lo ∷ hi ∷ []) m text answers) q [] k → Comes f here q [] (1 + k)
-    to_y stands next = placing f 2 fits (ins 0xBC o) here _ q [] k refl stands (takes_at f.code 2 (ins 0xBC o) here Ldy AbsoluteX at refl refl refl refl (ap (λ a. Ok a) there) (m at) _ (reads_data f.code m at (data_place at from to)) refl) next
+    to_y : Bytes f.code pc (0xBC ∷ o % 256 ∷ o / 256 ∷ []) → Comes f (view a x (m at) (eqb (m at / 128 % 2) 1) v i (eqb (m at) 0) c ((pc + 3) % 65536)
+        (lo ∷ hi ∷ []) m text answers) q [] k → Comes f here q [] (1 + k)
+    to_y stands next = placing f 2 fits (ins 0xBC o) here _ q [] k refl stands (takes_at f.code 2 (ins 0xBC o) here Ldy AbsoluteX at refl refl refl
+        refl (ap (λ a. Ok a) there) (m at) _ (reads_data f.code m at (data_place at from to)) refl) next
 
   module _ (ns : List ℕ) (left : IsWord m0 LEFT) (h : Notes m0 ns) (small : length ns < deepest) where
     -- the places of a new note's bytes, and memory with the first of them and with both
@@ -143,30 +161,38 @@ module _ (f : Setup) (fits : Fits f 2) (block : Holds block_part f.code) (lo hi 
           kept = n1;
           noted = (
             record { low = omega (arith, b0, left.0); high = omega (arith, b1, left.0, left.1); small = omega (arith, left.0, left.1) },
-            noted_same m0 with_note ns (λ k l. (apart (NOTE_LOW + k) (λ e. omega (arith, e, l)) (λ e. omega (arith, e, l, small)), apart (NOTE_HIGH + k) (λ e. omega (arith, e, l, small)) (λ e. omega (arith, e, l)))) h.noted,
+            noted_same m0 with_note ns (λ k l. (apart (NOTE_LOW + k) (λ e. omega (arith, e, l)) (λ e. omega (arith, e, l, small)),
+                apart (NOTE_HIGH + k) (λ e. omega (arith, e, l, small)) (λ e. omega (arith, e, l)))) h.noted,
           );
-          others = changes_put push_changes m0 with_low high_at _ (high_place high_at (omega arith) (omega (arith, small))) (changes_put push_changes m0 m0 low_at _ (low_place low_at (omega arith) (omega (arith, small))) (λ a e. refl));
+          others = changes_put push_changes m0 with_low high_at _ (high_place high_at (omega arith) (omega (arith, small)))
+              (changes_put push_changes m0 m0 low_at _ (low_place low_at (omega arith) (omega (arith, small))) (λ a e. refl));
         }
 
     -- LEFT's bytes into the list: on its first page
-    store_near : (a y : ℕ) (n v i z c : Bool) → m0 (NOTES + 1) ≡ 0 → Comes f (view a (m0 NOTES) y n v i z c (PUSH_AT + 0x08) (lo ∷ hi ∷ []) m0 text answers) (Back lo hi text answers (Pushed m0 (word_in m0 LEFT ∷ ns))) [] 8
+    store_near : (a y : ℕ) (n v i z c : Bool) → m0 (NOTES + 1) ≡ 0
+        → Comes f (view a (m0 NOTES) y n v i z c (PUSH_AT + 0x08) (lo ∷ hi ∷ []) m0 text answers) (Back lo hi text answers (Pushed m0 (word_in m0 LEFT ∷ ns))) [] 8
     store_near a y n v i z c zero =
         let e = counted_is in
         after f 2 fits notes_part (notes_in f.code block) 0 (view a (m0 NOTES) y n v i z c (PUSH_AT + 0x08) (lo ∷ hi ∷ []) m0 text answers) _ _ 7 refl
-        (storing NOTE_LOW (PUSH_AT + 0x0A) low_at (m0 LEFT) _ _ _ _ _ _ _ m0 _ 6 (omega (arith, e, zero, small)) (omega arith) (omega (arith, small)) (notes_in f.code block _ _ refl, (notes_in f.code block _ _ refl, (notes_in f.code block _ _ refl, tt)))
+        (storing NOTE_LOW (PUSH_AT + 0x0A) low_at (m0 LEFT) _ _ _ _ _ _ _ m0 _ 6 (omega (arith, e, zero, small)) (omega arith) (omega (arith, small))
+            (notes_in f.code block _ _ refl, (notes_in f.code block _ _ refl, (notes_in f.code block _ _ refl, tt)))
         (after f 2 fits notes_part (notes_in f.code block) 0 (view (m0 LEFT) (m0 NOTES) y _ v i _ c (PUSH_AT + 0x0D) (lo ∷ hi ∷ []) with_low text answers) _ _ 5 refl
-        (rw high_stays (storing NOTE_HIGH (PUSH_AT + 0x0F) high_at (m0 (LEFT + 1)) _ _ _ _ _ _ _ with_low _ 4 (omega (arith, e, zero, small)) (omega arith) (omega (arith, small)) (notes_in f.code block _ _ refl, (notes_in f.code block _ _ refl, (notes_in f.code block _ _ refl, tt)))
+        (rw high_stays (storing NOTE_HIGH (PUSH_AT + 0x0F) high_at (m0 (LEFT + 1)) _ _ _ _ _ _ _ with_low _ 4 (omega (arith, e, zero, small))
+            (omega arith) (omega (arith, small)) (notes_in f.code block _ _ refl, (notes_in f.code block _ _ refl, (notes_in f.code block _ _ refl, tt)))
         (count _ _ _ _ _ _ _ _ with_note (word_in m0 LEFT) ns stands.low stands.is small stands.noted stands.others)))))
 
     -- and on its second one
-    store_far : (a y : ℕ) (n v i z : Bool) → m0 (NOTES + 1) ≡ 1 → Comes f (view a (m0 NOTES) y n v i z false (PUSH_AT + 0x1F) (lo ∷ hi ∷ []) m0 text answers) (Back lo hi text answers (Pushed m0 (word_in m0 LEFT ∷ ns))) [] 8
+    store_far : (a y : ℕ) (n v i z : Bool) → m0 (NOTES + 1) ≡ 1
+        → Comes f (view a (m0 NOTES) y n v i z false (PUSH_AT + 0x1F) (lo ∷ hi ∷ []) m0 text answers) (Back lo hi text answers (Pushed m0 (word_in m0 LEFT ∷ ns))) [] 8
     store_far a y n v i z one =
         let e = counted_is in
         let s = stands in
         after f 2 fits notes_part (notes_in f.code block) 0 (view a (m0 NOTES) y n v i z false (PUSH_AT + 0x1F) (lo ∷ hi ∷ []) m0 text answers) _ _ 7 refl
-        (storing (NOTE_LOW + 256) (PUSH_AT + 0x21) low_at (m0 LEFT) _ _ _ _ _ _ _ m0 _ 6 (omega (arith, e, one, small)) (omega arith) (omega (arith, small)) (notes_in f.code block _ _ refl, (notes_in f.code block _ _ refl, (notes_in f.code block _ _ refl, tt)))
+        (storing (NOTE_LOW + 256) (PUSH_AT + 0x21) low_at (m0 LEFT) _ _ _ _ _ _ _ m0 _ 6 (omega (arith, e, one, small)) (omega arith)
+            (omega (arith, small)) (notes_in f.code block _ _ refl, (notes_in f.code block _ _ refl, (notes_in f.code block _ _ refl, tt)))
         (after f 2 fits notes_part (notes_in f.code block) 0 (view (m0 LEFT) (m0 NOTES) y _ v i _ false (PUSH_AT + 0x24) (lo ∷ hi ∷ []) with_low text answers) _ _ 5 refl
-        (rw high_stays (storing (NOTE_HIGH + 256) (PUSH_AT + 0x26) high_at (m0 (LEFT + 1)) _ _ _ _ _ _ _ with_low _ 4 (omega (arith, e, one, small)) (omega arith) (omega (arith, small)) (notes_in f.code block _ _ refl, (notes_in f.code block _ _ refl, (notes_in f.code block _ _ refl, tt)))
+        (rw high_stays (storing (NOTE_HIGH + 256) (PUSH_AT + 0x26) high_at (m0 (LEFT + 1)) _ _ _ _ _ _ _ with_low _ 4 (omega (arith, e, one, small))
+            (omega arith) (omega (arith, small)) (notes_in f.code block _ _ refl, (notes_in f.code block _ _ refl, (notes_in f.code block _ _ refl, tt)))
         (after f 2 fits notes_part (notes_in f.code block) 0 (view (m0 (LEFT + 1)) (m0 NOTES) y _ v i _ false (PUSH_AT + 0x29) (lo ∷ hi ∷ []) with_note text answers) _ _ 3 refl
         (count_plain _ _ _ _ _ _ _ _ with_note (word_in m0 LEFT) ns s.low s.is small s.noted s.others (λ full. omega (arith, full, s.is, s.low, s.kept, one, e, small))))))))
 
@@ -186,7 +212,8 @@ module _ (f : Setup) (fits : Fits f 2) (block : Holds block_part f.code) (lo hi 
         (rw room (store_far _ _ _ _ _ _ one)))))
         (cases_eq (m0 (NOTES + 1)) 0)
 
-  push_full : (a x y : ℕ) (n v i z c : Bool) (ns : List ℕ) → Notes m0 ns → length ns ≡ deepest → Comes f (view a x y n v i z c PUSH_AT (lo ∷ hi ∷ []) m0 text answers) (Faults lo hi text answers 4 (λ w. w ≡ m0)) [] 7
+  push_full : (a x y : ℕ) (n v i z c : Bool) (ns : List ℕ) → Notes m0 ns → length ns ≡ deepest
+      → Comes f (view a x y n v i z c PUSH_AT (lo ∷ hi ∷ []) m0 text answers) (Faults lo hi text answers 4 (λ w. w ≡ m0)) [] 7
   push_full a x y n v i z c ns h full =
       let w = bytes_of m0 NOTES _ h.count in
       let e = value m0 NOTES _ h.count in
@@ -216,17 +243,21 @@ module _ (f : Setup) (fits : Fits f 2) (block : Holds block_part f.code) (lo hi 
       }
 
   -- RESULT takes A and Y
-  give : (a x y : ℕ) (n v i z c : Bool) (m : ℕ → ℕ) (note : ℕ) (ns : List ℕ) → (a < 256) × (y < 256) × (a + 256 * y ≡ note) → m NOTES < 256 → m (NOTES + 1) < 256 → m NOTES + 256 * m (NOTES + 1) ≡ length ns → length ns < deepest → ((m' : ℕ → ℕ) → ((a : ℕ) → NOTE_LOW ≤ a → m' a ≡ m a) → Noted m' ns) → Changes pop_changes m0 m → Comes f (view a x y n v i z c (PUSH_AT + 0x4C) (lo ∷ hi ∷ []) m text answers) (Back lo hi text answers (Popped m0 note ns)) [] 3
+  give : (a x y : ℕ) (n v i z c : Bool) (m : ℕ → ℕ) (note : ℕ) (ns : List ℕ) → (a < 256) × (y < 256) × (a + 256 * y ≡ note) → m NOTES < 256
+      → m (NOTES + 1) < 256 → m NOTES + 256 * m (NOTES + 1) ≡ length ns → length ns < deepest → ((m' : ℕ → ℕ) → ((a : ℕ) → NOTE_LOW ≤ a → m' a ≡ m a)
+      → Noted m' ns) → Changes pop_changes m0 m → Comes f (view a x y n v i z c (PUSH_AT + 0x4C) (lo ∷ hi ∷ []) m text answers) (Back lo hi text answers (Popped m0 note ns)) [] 3
   give a x y n v i z c m note ns word low top is small noted r =
       let m1 = with_byte m RESULT a in
       let m2 = with_byte m1 (RESULT + 1) y in
       ending f 2 fits notes_part (notes_in f.code block) 2 (view a x y n v i z c (PUSH_AT + 0x4C) (lo ∷ hi ∷ []) m text answers) _ refl
       (leaves_now refl (record {
         gives = record { result = holds_word m2 RESULT note (word.0, word.1) word.2; others = changes_put _ _ _ (RESULT + 1) _ refl (changes_put _ _ _ RESULT _ refl r) };
-        notes = record { count = holds_word m2 NOTES (length ns) (low, top) is; few = omega (arith, small); noted = noted m2 (λ a p. put_other m1 (RESULT + 1) y a (λ e. omega (arith, e, p)) ∙ put_other m RESULT _ a (λ e. omega (arith, e, p))) };
+        notes = record { count = holds_word m2 NOTES (length ns) (low, top) is; few = omega (arith, small);
+            noted = noted m2 (λ a p. put_other m1 (RESULT + 1) y a (λ e. omega (arith, e, p)) ∙ put_other m RESULT _ a (λ e. omega (arith, e, p))) };
       }))
 
-  module _ (m : ℕ → ℕ) (note : ℕ) (ns : List ℕ) (is : (m NOTES + 255) % 256 + 256 * m (NOTES + 1) ≡ length ns) (small : length ns < deepest) (h : Noted m (note ∷ ns)) (r : Changes pop_changes m0 m) where
+  module _ (m : ℕ → ℕ) (note : ℕ) (ns : List ℕ) (is : (m NOTES + 255) % 256 + 256 * m (NOTES + 1) ≡ length ns) (small : length ns < deepest)
+      (h : Noted m (note ∷ ns)) (r : Changes pop_changes m0 m) where
     -- the places of the newest note's bytes
     abbrev low_from : ℕ
     low_from = NOTE_LOW + length ns
@@ -234,29 +265,37 @@ module _ (f : Setup) (fits : Fits f 2) (block : Holds block_part f.code) (lo hi 
     abbrev high_from : ℕ
     high_from = NOTE_HIGH + length ns
 
-    gives : m (NOTES + 1) < 256 → (n v i z c : Bool) → Comes f (view (counted m low_from) ((m NOTES + 255) % 256) (counted m high_from) n v i z c (PUSH_AT + 0x4C) (lo ∷ hi ∷ []) (counted m) text answers) (Back lo hi text answers (Popped m0 note ns)) [] 3
+    gives : m (NOTES + 1) < 256 → (n v i z c : Bool) → Comes f (view (counted m low_from) ((m NOTES + 255) % 256) (counted m high_from) n v i z c
+        (PUSH_AT + 0x4C) (lo ∷ hi ∷ []) (counted m) text answers) (Back lo hi text answers (Popped m0 note ns)) [] 3
     gives top n v i z c = let g = fetched m note ns h in give _ _ _ n v i z c (counted m) note ns g.word (omega arith) top is small g.noted (changes_put pop_changes m0 m NOTES _ refl r)
 
     -- the newest note, on the first page
-    take_near : (a y : ℕ) (n v i z c : Bool) → m (NOTES + 1) ≡ 0 → Comes f (view a (m NOTES) y n v i z c (PUSH_AT + 0x3D) (lo ∷ hi ∷ []) m text answers) (Back lo hi text answers (Popped m0 note ns)) [] 9
+    take_near : (a y : ℕ) (n v i z c : Bool) → m (NOTES + 1) ≡ 0
+        → Comes f (view a (m NOTES) y n v i z c (PUSH_AT + 0x3D) (lo ∷ hi ∷ []) m text answers) (Back lo hi text answers (Popped m0 note ns)) [] 9
     take_near a y n v i z c near =
         let t : eqb (m (NOTES + 1)) 0 ≡ true = eq-eqb _ _ near in
         after f 2 fits notes_part (notes_in f.code block) 3 (view a (m NOTES) y n v i z c (PUSH_AT + 0x3D) (lo ∷ hi ∷ []) m text answers) _ _ (1 + (1 + 3)) refl
-        (rw t (to_y NOTE_HIGH (PUSH_AT + 0x46) high_from _ _ _ _ _ _ _ _ (counted m) _ (1 + 3) (omega (arith, is, near, small)) (omega arith) (omega (arith, small)) (notes_in f.code block _ _ refl, (notes_in f.code block _ _ refl, (notes_in f.code block _ _ refl, tt)))
-        (to_a NOTE_LOW (PUSH_AT + 0x49) low_from _ _ _ _ _ _ _ _ (counted m) _ 3 (omega (arith, is, near, small)) (omega arith) (omega (arith, small)) (notes_in f.code block _ _ refl, (notes_in f.code block _ _ refl, (notes_in f.code block _ _ refl, tt)))
+        (rw t (to_y NOTE_HIGH (PUSH_AT + 0x46) high_from _ _ _ _ _ _ _ _ (counted m) _ (1 + 3) (omega (arith, is, near, small)) (omega arith)
+            (omega (arith, small)) (notes_in f.code block _ _ refl, (notes_in f.code block _ _ refl, (notes_in f.code block _ _ refl, tt)))
+        (to_a NOTE_LOW (PUSH_AT + 0x49) low_from _ _ _ _ _ _ _ _ (counted m) _ 3 (omega (arith, is, near, small)) (omega arith) (omega (arith, small))
+            (notes_in f.code block _ _ refl, (notes_in f.code block _ _ refl, (notes_in f.code block _ _ refl, tt)))
         (gives (omega (arith, near)) _ _ _ _ _))))
 
     -- and on the second one
-    take_far : (a y : ℕ) (n v i z c : Bool) → m (NOTES + 1) ≡ 1 → Comes f (view a (m NOTES) y n v i z c (PUSH_AT + 0x3D) (lo ∷ hi ∷ []) m text answers) (Back lo hi text answers (Popped m0 note ns)) [] 10
+    take_far : (a y : ℕ) (n v i z c : Bool) → m (NOTES + 1) ≡ 1
+        → Comes f (view a (m NOTES) y n v i z c (PUSH_AT + 0x3D) (lo ∷ hi ∷ []) m text answers) (Back lo hi text answers (Popped m0 note ns)) [] 10
     take_far a y n v i z c far =
         let t : eqb (m (NOTES + 1)) 0 ≡ false = ne_eqb _ _ (λ e. omega (arith, e, far)) in
         after f 2 fits notes_part (notes_in f.code block) 3 (view a (m NOTES) y n v i z c (PUSH_AT + 0x3D) (lo ∷ hi ∷ []) m text answers) _ _ (1 + (1 + (1 + 3))) refl
-        (rw t (to_y (NOTE_HIGH + 256) (PUSH_AT + 0x53) high_from _ _ _ _ _ _ _ _ (counted m) _ (1 + (1 + 3)) (omega (arith, is, far, small)) (omega arith) (omega (arith, small)) (notes_in f.code block _ _ refl, (notes_in f.code block _ _ refl, (notes_in f.code block _ _ refl, tt)))
-        (to_a (NOTE_LOW + 256) (PUSH_AT + 0x56) low_from _ _ _ _ _ _ _ _ (counted m) _ (1 + 3) (omega (arith, is, far, small)) (omega arith) (omega (arith, small)) (notes_in f.code block _ _ refl, (notes_in f.code block _ _ refl, (notes_in f.code block _ _ refl, tt)))
+        (rw t (to_y (NOTE_HIGH + 256) (PUSH_AT + 0x53) high_from _ _ _ _ _ _ _ _ (counted m) _ (1 + (1 + 3)) (omega (arith, is, far, small))
+            (omega arith) (omega (arith, small)) (notes_in f.code block _ _ refl, (notes_in f.code block _ _ refl, (notes_in f.code block _ _ refl, tt)))
+        (to_a (NOTE_LOW + 256) (PUSH_AT + 0x56) low_from _ _ _ _ _ _ _ _ (counted m) _ (1 + 3) (omega (arith, is, far, small)) (omega arith)
+            (omega (arith, small)) (notes_in f.code block _ _ refl, (notes_in f.code block _ _ refl, (notes_in f.code block _ _ refl, tt)))
         (after f 2 fits notes_part (notes_in f.code block) 0 (view _ _ _ _ _ _ _ _ (PUSH_AT + 0x59) (lo ∷ hi ∷ []) (counted m) text answers) _ _ 3 refl
         (gives (omega (arith, far)) _ _ _ _ _)))))
 
-  pop_whole : (a x y : ℕ) (n v i z c : Bool) (note : ℕ) (ns : List ℕ) → Notes m0 (note ∷ ns) → Comes f (view a x y n v i z c POP_AT (lo ∷ hi ∷ []) m0 text answers) (Back lo hi text answers (Popped m0 note ns)) [] 14
+  pop_whole : (a x y : ℕ) (n v i z c : Bool) (note : ℕ) (ns : List ℕ) → Notes m0 (note ∷ ns)
+      → Comes f (view a x y n v i z c POP_AT (lo ∷ hi ∷ []) m0 text answers) (Back lo hi text answers (Popped m0 note ns)) [] 14
   pop_whole a x y n v i z c note ns h =
       let w = bytes_of m0 NOTES _ h.count in
       let e = value m0 NOTES _ h.count in
@@ -268,7 +307,8 @@ module _ (f : Setup) (fits : Fits f 2) (block : Holds block_part f.code) (lo hi 
       (rw t (after f 2 fits notes_part (notes_in f.code block) 1 (view _ (m0 NOTES) _ _ _ _ _ _ (PUSH_AT + 0x35) (lo ∷ hi ∷ []) m0 text answers) _ _ (1 + 9) refl
       (rw s (after f 2 fits notes_part (notes_in f.code block) 0 (view _ (m0 NOTES) _ _ _ _ _ _ (PUSH_AT + 0x3A) (lo ∷ hi ∷ []) m0 text answers) _ _ 9 refl
       (take_near (with_byte m0 (NOTES + 1) ((m0 (NOTES + 1) + 255) % 256)) note ns (omega arith) (omega arith)
-      (noted_same m0 _ (note ∷ ns) (λ j p. (put_other m0 (NOTES + 1) _ _ (λ e. omega arith), put_other m0 (NOTES + 1) _ _ (λ e. omega arith))) h.noted) (changes_put _ _ _ (NOTES + 1) _ refl (λ a e. refl)) _ _ _ _ _ _ _ (omega arith)))))))
+      (noted_same m0 _ (note ∷ ns) (λ j p. (put_other m0 (NOTES + 1) _ _ (λ e. omega arith), put_other m0 (NOTES + 1) _ _ (λ e. omega arith)))
+          h.noted) (changes_put _ _ _ (NOTES + 1) _ refl (λ a e. refl)) _ _ _ _ _ _ _ (omega arith)))))))
       (λ some. let t : eqb (m0 NOTES) 0 ≡ false = ne_eqb _ _ some in
       looser f _ _ _ [] (2 + 10) 14 (omega arith) (λ w h. h)
       (after f 2 fits notes_part (notes_in f.code block) 1 (view a x y n v i z c POP_AT (lo ∷ hi ∷ []) m0 text answers) _ _ 10 refl

@@ -1,5 +1,6 @@
 -- Number.
-use Rattle.std.proofs.Common.{◌≡◌, ◌≢◌, ℕ, zero, suc, ◌+◌, ◌-◌, ◌*◌, ◌/◌, ◌%◌, ◌<◌, ◌≤◌, Bool, true, false, not, if◌then◌else◌, List, [], ◌∷◌, length, refl, sym, ap, ◌∙◌, subst, ⊎_elim, arith, eqb}
+use Rattle.std.proofs.Common.{◌≡◌, ◌≢◌, ℕ, zero, suc, ◌+◌, ◌-◌, ◌*◌, ◌/◌, ◌%◌, ◌<◌, ◌≤◌, Bool, true, false, not}
+use Rattle.std.proofs.Common.{if◌then◌else◌, List, [], ◌∷◌, length, refl, sym, ap, ◌∙◌, subst, ⊎_elim, arith, eqb}
 use Rattle.std.specs.Prelude.{nat_le, bit_or}
 use Rattle.std.proofs.lemmas.Bool.{false≢true, ne_eqb, eq-eqb, cases_eq}
 use Rattle.tb_cpu.specs.Operands.{word_in}
@@ -58,7 +59,8 @@ module _ (f : Setup) (fits : Fits f 6) (block : Holds block_part f.code) (lo hi 
 
   -- from a place, with the powers ps to come and the number below top
   From : ℕ → ℕ → Bool → List ℕ → ℕ → ℕ → Type 0
-  From pc x begun ps top k = (a y : ℕ) (n v i z c : Bool) (m : ℕ → ℕ) (w col : ℕ) → Left begun w m → w < top → (m COLUMN + length (sent ps begun w)) % 256 ≡ col → Comes f (view a x y n v i z c pc own m text answers) (Back lo hi text answers (Done col)) (sent ps begun w) k
+  From pc x begun ps top k = (a y : ℕ) (n v i z c : Bool) (m : ℕ → ℕ) (w col : ℕ) → Left begun w m → w < top
+      → (m COLUMN + length (sent ps begun w)) % 256 ≡ col → Comes f (view a x y n v i z c pc own m text answers) (Back lo hi text answers (Done col)) (sent ps begun w) k
 
   -- ---- the last digit
   last : (begun : Bool) → From (NUMBER_AT + 66) 0 begun [] 10 12
@@ -83,7 +85,9 @@ module _ (f : Setup) (fits : Fits f 6) (block : Holds block_part f.code) (lo hi 
       (rw b (go _ _ _ _ _ _ _ m w col h small e)))))
 
   -- ---- a digit is sent
-  digit : (begun : Bool) (ps : List ℕ) (x top k : ℕ) → From (NUMBER_AT + 66) x true ps top k → (d : ℕ) → d < 10 → (a y : ℕ) (n v i z c : Bool) (m : ℕ → ℕ) (w col : ℕ) → y ≡ base begun + d → y ≢ 0 → Left begun w m → w < top → (m COLUMN + length ((48 + d) ∷ sent ps true w)) % 256 ≡ col → Comes f (view a x y n v i z c (NUMBER_AT + 50) own m text answers) (Back lo hi text answers (Done col)) ((48 + d) ∷ sent ps true w) (2 + (5 + (7 + (1 + k))))
+  digit : (begun : Bool) (ps : List ℕ) (x top k : ℕ) → From (NUMBER_AT + 66) x true ps top k → (d : ℕ) → d < 10 → (a y : ℕ) (n v i z c : Bool) (m : ℕ
+      → ℕ) (w col : ℕ) → y ≡ base begun + d → y ≢ 0 → Left begun w m → w < top → (m COLUMN + length ((48 + d) ∷ sent ps true w)) % 256 ≡ col
+      → Comes f (view a x y n v i z c (NUMBER_AT + 50) own m text answers) (Back lo hi text answers (Done col)) ((48 + d) ∷ sent ps true w) (2 + (5 + (7 + (1 + k))))
   unfolding From Rest
   digit begun ps x top k go d few a y n v i z c m w col counted some h small e =
       let t : eqb y 0 ≡ false = ne_eqb _ _ some in
@@ -121,11 +125,15 @@ module _ (f : Setup) (fits : Fits f 6) (block : Holds block_part f.code) (lo hi 
 
   -- a comparison of LEFT with the power at X, and then
   abbrev Weighs : ℕ → ℕ → ℕ → Type 1
-  Weighs x l h = (a y : ℕ) (n v i z c : Bool) (m : ℕ → ℕ) (q : View → Type 0) (t : List ℕ) (k : ℕ) → ((n v z : Bool) → Comes f (view (high_left m l h) x y n v i z (goes_in m l h) (NUMBER_AT + 36) own m text answers) q t k) → Comes f (view a x y n v i z c (NUMBER_AT + 26) own m text answers) q t (4 + k)
+  Weighs x l h = (a y : ℕ) (n v i z c : Bool) (m : ℕ → ℕ) (q : View → Type 0) (t : List ℕ) (k : ℕ)
+      → ((n v z : Bool) → Comes f (view (high_left m l h) x y n v i z (goes_in m l h) (NUMBER_AT + 36) own m text answers) q t k)
+      → Comes f (view a x y n v i z c (NUMBER_AT + 26) own m text answers) q t (4 + k)
 
   -- the power is taken from LEFT and counted, and then
   abbrev Takes : ℕ → ℕ → Type 1
-  Takes x l = (a y : ℕ) (n v i z : Bool) (m : ℕ → ℕ) (q : View → Type 0) (t : List ℕ) (k : ℕ) → ((n v c : Bool) → Comes f (view (low_left m l) x ((y + 1) % 256) n v i (eqb ((y + 1) % 256) 0) c (NUMBER_AT + 48) own (with_byte (with_byte m (LEFT + 1) a) LEFT (low_left m l)) text answers) q t k) → Comes f (view a x y n v i z true (NUMBER_AT + 38) own m text answers) q t (5 + k)
+  Takes x l = (a y : ℕ) (n v i z : Bool) (m : ℕ → ℕ) (q : View → Type 0) (t : List ℕ) (k : ℕ)
+      → ((n v c : Bool) → Comes f (view (low_left m l) x ((y + 1) % 256) n v i (eqb ((y + 1) % 256) 0) c (NUMBER_AT + 48) own
+      (with_byte (with_byte m (LEFT + 1) a) LEFT (low_left m l)) text answers) q t k) → Comes f (view a x y n v i z true (NUMBER_AT + 38) own m text answers) q t (5 + k)
 
   module _ (x l h : ℕ) (l_small : l < 256) (h_small : h < 256) (weighs : Weighs x l h) (takes : Takes x l) where
     abbrev p : ℕ
@@ -136,10 +144,12 @@ module _ (f : Setup) (fits : Fits f 6) (block : Holds block_part f.code) (lo hi 
 
     -- behind the comparison that fails, with the count y and the rest r
     abbrev Stops : (ℕ → ℕ) → Bool → ℕ → ℕ → (View → Type 0) → List ℕ → ℕ → Type 0
-    Stops m i y r q t k = (a y' : ℕ) (n v z c : Bool) (m' : ℕ → ℕ) → y' ≡ y → IsWord m' LEFT → word_in m' LEFT ≡ r → Away m m' → Comes f (view a x y' n v i z c (NUMBER_AT + 50) own m' text answers) q t k
+    Stops m i y r q t k = (a y' : ℕ) (n v z c : Bool) (m' : ℕ → ℕ) → y' ≡ y → IsWord m' LEFT → word_in m' LEFT ≡ r → Away m m'
+        → Comes f (view a x y' n v i z c (NUMBER_AT + 50) own m' text answers) q t k
 
     -- d times the power, and a rest
-    down : (d r : ℕ) → r < p → (a y : ℕ) (n v i z c : Bool) (m : ℕ → ℕ) (q : View → Type 0) (t : List ℕ) (k : ℕ) → IsWord m LEFT → word_in m LEFT ≡ d * p + r → y + d < 256 → Stops m i (y + d) r q t k → Comes f (view a x y n v i z c (NUMBER_AT + 26) own m text answers) q t (11 * d + (5 + k))
+    down : (d r : ℕ) → r < p → (a y : ℕ) (n v i z c : Bool) (m : ℕ → ℕ) (q : View → Type 0) (t : List ℕ) (k : ℕ) → IsWord m LEFT → word_in m LEFT
+        ≡ d * p + r → y + d < 256 → Stops m i (y + d) r q t k → Comes f (view a x y n v i z c (NUMBER_AT + 26) own m text answers) q t (11 * d + (5 + k))
     down zero r less a y n v i z c m q t k w e few stop =
         let total : m LEFT + 256 * m (LEFT + 1) ≡ r = e ∙ (let z : 0 * p + r ≡ r = omega arith in z) in
         let b = carry_below (m LEFT) (m (LEFT + 1)) l h w.0 w.1 l_small h_small (omega (arith, total, less)) in
@@ -161,7 +171,8 @@ module _ (f : Setup) (fits : Fits f 6) (block : Holds block_part f.code) (lo hi 
         (rw b (takes high y n v i z m q t (1 + (11 * d + (5 + k))) (λ n v c.
         after f 6 fits number_part (number_in f.code block) 0 (view (low_left m l) x ((y + 1) % 256) n v i (eqb ((y + 1) % 256) 0) c (NUMBER_AT + 48) own m1 text answers) _ _ (11 * d + (5 + k)) refl
         (rw nz (down d r less _ ((y + 1) % 256) _ _ _ _ _ m1 q t k (omega arith, omega arith) left (omega (arith, up, few))
-        (λ a y' n v z c m' s g u away. stop a y' n v z c m' (s ∙ up) g u (λ a p1 p2. away a p1 p2 ∙ put_other (with_byte m (LEFT + 1) high) LEFT (low_left m l) a p1 ∙ put_other m (LEFT + 1) high a p2)))))))))
+        (λ a y' n v z c m' s g u away. stop a y' n v z c m' (s ∙ up) g u (λ a p1 p2. away a p1 p2 ∙ put_other (with_byte m (LEFT + 1) high) LEFT
+            (low_left m l) a p1 ∙ put_other m (LEFT + 1) high a p2)))))))))
 
     left_of : (begun : Bool) (m m' : ℕ → ℕ) (w r : ℕ) → Left begun w m → IsWord m' LEFT → word_in m' LEFT ≡ r → Away m m' → Left begun r m'
     unfolding Rest
@@ -174,11 +185,15 @@ module _ (f : Setup) (fits : Fits f 6) (block : Holds block_part f.code) (lo hi 
     }
 
     -- behind the count: a digit, or none
-    counted : (begun : Bool) (ps : List ℕ) (k : ℕ) → ((s : Bool) → From (NUMBER_AT + 66) x s ps p k) → (a y : ℕ) (n v i z c : Bool) (m m' : ℕ → ℕ) (w col : ℕ) → Left begun w m → (m COLUMN + length (sent (p ∷ ps) begun w)) % 256 ≡ col → w % p < p → w / p < 10 → y ≡ base begun + w / p → IsWord m' LEFT → word_in m' LEFT ≡ w % p → Away m m' → Comes f (view a x y n v i z c (NUMBER_AT + 50) own m' text answers) (Back lo hi text answers (Done col)) (sent (p ∷ ps) begun w) (2 + (5 + (7 + (1 + k))))
+    counted : (begun : Bool) (ps : List ℕ) (k : ℕ) → ((s : Bool) → From (NUMBER_AT + 66) x s ps p k) → (a y : ℕ) (n v i z c : Bool) (m m' : ℕ → ℕ)
+        (w col : ℕ) → Left begun w m → (m COLUMN + length (sent (p ∷ ps) begun w)) % 256 ≡ col → w % p < p → w / p < 10 → y ≡ base begun + w / p
+        → IsWord m' LEFT → word_in m' LEFT ≡ w % p → Away m m' → Comes f (view a x y n v i z c (NUMBER_AT + 50) own m' text answers)
+        (Back lo hi text answers (Done col)) (sent (p ∷ ps) begun w) (2 + (5 + (7 + (1 + k))))
     unfolding From
     counted true ps k go a y n v i z c m m' w col g e less small is_y is_word is away =
         let same : m' COLUMN ≡ m COLUMN = away COLUMN (λ q. omega (arith, q)) (λ q. omega (arith, q)) in
-        digit true ps x p k (go true) (w / p) small a y n v i z c m' (w % p) col is_y (λ q. let start : y ≡ 48 + w / p = is_y in omega (arith, q, start)) (left_of true m m' w (w % p) g is_word is away) less (ap (λ c. (c + length (sent (p ∷ ps) true w)) % 256) same ∙ e)
+        digit true ps x p k (go true) (w / p) small a y n v i z c m' (w % p) col is_y (λ q. let start : y ≡ 48 + w / p = is_y in
+            omega (arith, q, start)) (left_of true m m' w (w % p) g is_word is away) less (ap (λ c. (c + length (sent (p ∷ ps) true w)) % 256) same ∙ e)
     counted false ps k go a y n v i z c m m' w col g e less small is_y is_word is away =
         let same : m' COLUMN ≡ m COLUMN = away COLUMN (λ q. omega (arith, q)) (λ q. omega (arith, q)) in
         let held = left_of false m m' w (w % p) g is_word is away in
@@ -192,11 +207,13 @@ module _ (f : Setup) (fits : Fits f 6) (block : Holds block_part f.code) (lo hi 
         (rw b (go false _ _ _ _ _ _ _ m' (w % p) col held less (ap (λ c. (c + length (sent ps false (w % p))) % 256) same ∙ ap (λ s. (m COLUMN + length s) % 256) (sym t) ∙ e))))))
         (λ some. let t : sent (p ∷ ps) false w ≡ (48 + w / p) ∷ sent ps true (w % p) = begins p ps w some in
         subst (λ s. Comes f (view a x y n v i z c (NUMBER_AT + 50) own m' text answers) (Back lo hi text answers (Done col)) s (2 + (5 + (7 + (1 + k))))) (sym t)
-        (digit false ps x p k (go true) (w / p) small a y n v i z c m' (w % p) col is_y (λ q. some (let start : y ≡ 0 + w / p = is_y in omega (arith, start, q))) held less (ap (λ c. (c + length ((48 + w / p) ∷ sent ps true (w % p))) % 256) same ∙ ap (λ s. (m COLUMN + length s) % 256) (sym t) ∙ e)))
+        (digit false ps x p k (go true) (w / p) small a y n v i z c m' (w % p) col is_y (λ q. some (let start : y ≡ 0 + w / p = is_y in
+            omega (arith, start, q))) held less (ap (λ c. (c + length ((48 + w / p) ∷ sent ps true (w % p))) % 256) same ∙ ap (λ s. (m COLUMN + length s) % 256) (sym t) ∙ e)))
         (cases_eq (w / p) 0)
 
     -- the digit of the power, which is at most a number, and what comes behind it
-    power : (begun : Bool) (ps : List ℕ) (top most k : ℕ) → most < 10 → ((w : ℕ) → w < top → (w / p ≤ most) × (w / p * p + w % p ≡ w) × (w % p < p)) → ((s : Bool) → From (NUMBER_AT + 66) x s ps p k) → From (NUMBER_AT + 24) x begun (p ∷ ps) top (1 + (11 * most + (5 + (2 + (5 + (7 + (1 + k)))))))
+    power : (begun : Bool) (ps : List ℕ) (top most k : ℕ) → most < 10 → ((w : ℕ) → w < top → (w / p ≤ most) × (w / p * p + w % p ≡ w) × (w % p < p))
+        → ((s : Bool) → From (NUMBER_AT + 66) x s ps p k) → From (NUMBER_AT + 24) x begun (p ∷ ps) top (1 + (11 * most + (5 + (2 + (5 + (7 + (1 + k)))))))
     unfolding From
     power begun ps top most k few splits go a y n v i z c m w col g small e =
         let s = splits w small in
@@ -231,11 +248,14 @@ module _ (f : Setup) (fits : Fits f 6) (block : Holds block_part f.code) (lo hi 
   all_on begun = power 3 16 39 (omega arith) (omega arith)
       (λ a y n v i z c m q t k next. after f 6 fits number_part (number_in f.code block) 3 (view a 3 y n v i z c (NUMBER_AT + 26) own m text answers) q t k refl (next _ _ _))
       (λ a y n v i z m q t k next. after f 6 fits number_part (number_in f.code block) 4 (view a 3 y n v i z true (NUMBER_AT + 38) own m text answers) q t k refl (next _ _ _))
-      begun (1000 ∷ 100 ∷ 10 ∷ []) 40000 3 378 (omega arith) (λ w h. (omega (arith, h), omega arith, omega arith)) (λ s. on s (1000 ∷ 100 ∷ 10 ∷ []) 2 10000 376 (omega arith) (thousands_on s))
+      begun (1000 ∷ 100 ∷ 10 ∷ []) 40000 3 378 (omega arith) (λ w h. (omega (arith, h), omega arith, omega arith))
+          (λ s. on s (1000 ∷ 100 ∷ 10 ∷ []) 2 10000 376 (omega arith) (thousands_on s))
 
   -- ---- the whole
   -- from 100 on where the number is below 256
-  plain_byte : (a x y : ℕ) (n v i z c : Bool) (m : ℕ → ℕ) (w col : ℕ) → m (LEFT + 1) ≡ 0 → Left false w (with_byte m RIGHT 0) → w < 1000 → (m COLUMN + length (digits_before 5 w [])) % 256 ≡ col → Comes f (view a x y n v i z c (NUMBER_AT + 12) own m text answers) (Back lo hi text answers (Done col)) (digits_before 5 w []) (5 + (1 + 254))
+  plain_byte : (a x y : ℕ) (n v i z c : Bool) (m : ℕ → ℕ) (w col : ℕ) → m (LEFT + 1) ≡ 0 → Left false w (with_byte m RIGHT 0) → w < 1000
+      → (m COLUMN + length (digits_before 5 w [])) % 256 ≡ col → Comes f (view a x y n v i z c (NUMBER_AT + 12) own m text answers)
+      (Back lo hi text answers (Done col)) (digits_before 5 w []) (5 + (1 + 254))
   unfolding From
   plain_byte a x y n v i z c m w col none ready few l =
       let t : sent (100 ∷ 10 ∷ []) false w ≡ digits_before 5 w [] = hundreds 2 w few in
@@ -245,7 +265,9 @@ module _ (f : Setup) (fits : Fits f 6) (block : Holds block_part f.code) (lo hi 
       (rw b (after f 6 fits number_part (number_in f.code block) 0 (view _ _ _ _ _ _ _ _ (NUMBER_AT + 22) own (with_byte m RIGHT 0) text answers) _ _ 254 refl
       (hundreds_on false _ _ _ _ _ _ _ (with_byte m RIGHT 0) w col ready few (ap (λ s. (m COLUMN + length s) % 256) t ∙ l)))))
 
-  plain_word : (a x y : ℕ) (n v i z c : Bool) (m : ℕ → ℕ) (w col : ℕ) → m (LEFT + 1) ≢ 0 → Left false w (with_byte m RIGHT 0) → w < 40000 → w < 100000 → (m COLUMN + length (digits_before 5 w [])) % 256 ≡ col → Comes f (view a x y n v i z c (NUMBER_AT + 12) own m text answers) (Back lo hi text answers (Done col)) (digits_before 5 w []) (5 + 432)
+  plain_word : (a x y : ℕ) (n v i z c : Bool) (m : ℕ → ℕ) (w col : ℕ) → m (LEFT + 1) ≢ 0 → Left false w (with_byte m RIGHT 0) → w < 40000 → w < 100000
+      → (m COLUMN + length (digits_before 5 w [])) % 256 ≡ col → Comes f (view a x y n v i z c (NUMBER_AT + 12) own m text answers)
+      (Back lo hi text answers (Done col)) (digits_before 5 w []) (5 + 432)
   unfolding From
   plain_word a x y n v i z c m w col some ready few many l =
       let t : sent (10000 ∷ 1000 ∷ 100 ∷ 10 ∷ []) false w ≡ digits_before 5 w [] = ten_thousands w many in
@@ -254,7 +276,9 @@ module _ (f : Setup) (fits : Fits f 6) (block : Holds block_part f.code) (lo hi 
       (after f 6 fits number_part (number_in f.code block) 4 (view a x y n v i z c (NUMBER_AT + 12) own m text answers) _ _ 432 refl
       (rw b (all_on false _ _ _ _ _ _ _ (with_byte m RIGHT 0) w col ready few (ap (λ s. (m COLUMN + length s) % 256) t ∙ l))))
 
-  plain : (a x y : ℕ) (n v i z c : Bool) (m : ℕ → ℕ) (w col : ℕ) → IsWord m LEFT → word_in m LEFT ≡ w → w ≤ 32768 → Rest m → m COLUMN < 256 → (m COLUMN + length (digits_before 5 w [])) % 256 ≡ col → Comes f (view a x y n v i z c (NUMBER_AT + 12) own m text answers) (Back lo hi text answers (Done col)) (digits_before 5 w []) 437
+  plain : (a x y : ℕ) (n v i z c : Bool) (m : ℕ → ℕ) (w col : ℕ) → IsWord m LEFT → word_in m LEFT ≡ w → w ≤ 32768 → Rest m → m COLUMN < 256
+      → (m COLUMN + length (digits_before 5 w [])) % 256 ≡ col → Comes f (view a x y n v i z c (NUMBER_AT + 12) own m text answers)
+      (Back lo hi text answers (Done col)) (digits_before 5 w []) 437
   unfolding Rest
   plain a x y n v i z c m w col p e small r q l =
       let ready : Left false w (with_byte m RIGHT 0) = record { is_word = p; is = e; counts = refl; others = λ a s t. skip is_argument m RIGHT 0 a refl s ∙ r a s t; column = q } in
@@ -267,7 +291,9 @@ module _ (f : Setup) (fits : Fits f 6) (block : Holds block_part f.code) (lo hi 
       (cases_eq (m (LEFT + 1)) 0)
 
   -- behind the sign
-  negative : (a x y : ℕ) (n v i z c : Bool) (m : ℕ → ℕ) (col : ℕ) → IsWord m LEFT → is_negative (word_in m LEFT) ≡ true → Rest m → m COLUMN < 256 → (m COLUMN + length (digits_before 5 (magnitude (word_in m LEFT)) [])) % 256 ≡ col → Comes f (view a x y n v i z c (NUMBER_AT + 9) own m text answers) (Back lo hi text answers (Done col)) (digits_before 5 (magnitude (word_in m LEFT)) []) (1 + (9 + 437))
+  negative : (a x y : ℕ) (n v i z c : Bool) (m : ℕ → ℕ) (col : ℕ) → IsWord m LEFT → is_negative (word_in m LEFT) ≡ true → Rest m → m COLUMN < 256
+      → (m COLUMN + length (digits_before 5 (magnitude (word_in m LEFT)) [])) % 256 ≡ col
+      → Comes f (view a x y n v i z c (NUMBER_AT + 9) own m text answers) (Back lo hi text answers (Done col)) (digits_before 5 (magnitude (word_in m LEFT)) []) (1 + (9 + 437))
   unfolding Rest
   negative a x y n v i z c m col p t r q l =
       let w = word_in m LEFT in
@@ -278,9 +304,13 @@ module _ (f : Setup) (fits : Fits f 6) (block : Holds block_part f.code) (lo hi 
       after f 6 fits number_part (number_in f.code block) 0 (view a x y n v i z c (NUMBER_AT + 9) own m text answers) _ _ (9 + 437) refl
       (calls f own a x y n v i z c negate_left_at ((NUMBER_AT + 11) % 256) ((NUMBER_AT + 11) / 256) m text answers _ _ [] _ 9 437
       (negate_left (under f own) (omega (arith, fits)) block ((NUMBER_AT + 11) % 256) ((NUMBER_AT + 11) / 256) text answers a x y n v i z c m (Turned m (negated w)) (turned m p))
-      (λ a x y n v i z c u g. plain a x y n v i z c u (magnitude w) col g.is_word (g.value ∙ size) few (λ a b d. g.others a b ∙ r a b d) (omega (arith, g.others COLUMN refl, q)) (ap (λ c. (c + length (digits_before 5 (magnitude w) [])) % 256) (g.others COLUMN refl) ∙ l)))
+      (λ a x y n v i z c u g. plain a x y n v i z c u (magnitude w) col g.is_word (g.value ∙ size) few (λ a b d. g.others a b ∙ r a b d)
+          (omega (arith, g.others COLUMN refl, q)) (ap (λ c. (c + length (digits_before 5 (magnitude w) [])) % 256) (g.others COLUMN refl) ∙ l)))
 
-  minus : (a x y : ℕ) (n v i z c : Bool) (m : ℕ → ℕ) (col : ℕ) → IsWord m LEFT → is_negative (word_in m LEFT) ≡ true → Rest m → (m COLUMN + length (45 ∷ digits_before 5 (magnitude (word_in m LEFT)) [])) % 256 ≡ col → Comes f (view a x y n v i z c (NUMBER_AT + 4) own m text answers) (Back lo hi text answers (Done col)) (45 ∷ digits_before 5 (magnitude (word_in m LEFT)) []) (2 + (7 + (1 + (9 + 437))))
+  minus : (a x y : ℕ) (n v i z c : Bool) (m : ℕ → ℕ) (col : ℕ) → IsWord m LEFT → is_negative (word_in m LEFT) ≡ true → Rest m
+      → (m COLUMN + length (45 ∷ digits_before 5 (magnitude (word_in m LEFT)) [])) % 256 ≡ col
+      → Comes f (view a x y n v i z c (NUMBER_AT + 4) own m text answers) (Back lo hi text answers (Done col))
+      (45 ∷ digits_before 5 (magnitude (word_in m LEFT)) []) (2 + (7 + (1 + (9 + 437))))
   unfolding Rest
   minus a x y n v i z c m col p t r l =
       after f 6 fits number_part (number_in f.code block) 1 (view a x y n v i z c (NUMBER_AT + 4) own m text answers) _ _ (7 + (1 + (9 + 437))) refl
@@ -292,9 +322,12 @@ module _ (f : Setup) (fits : Fits f 6) (block : Holds block_part f.code) (lo hi 
       let same : word_in u LEFT ≡ word_in m LEFT = omega (arith, low, high) in
       let next : u COLUMN ≡ (m COLUMN + 1) % 256 = g.column in
       subst (λ w. Comes f (view a x y n v i z c (NUMBER_AT + 9) own u text answers) (Back lo hi text answers (Done col)) (digits_before 5 (magnitude w) []) (1 + (9 + 437))) same
-      (negative a x y n v i z c u col (omega (arith, low, p), omega (arith, high, p)) (ap is_negative same ∙ t) (λ a b d. g.others a refl d ∙ r a b d) (omega (arith, next)) (ap (λ w. (u COLUMN + length (digits_before 5 (magnitude w) [])) % 256) same ∙ one_later (m COLUMN) (u COLUMN) (length (digits_before 5 (magnitude (word_in m LEFT)) [])) next ∙ l))))
+      (negative a x y n v i z c u col (omega (arith, low, p), omega (arith, high, p)) (ap is_negative same ∙ t) (λ a b d. g.others a refl d ∙ r a b d)
+          (omega (arith, next)) (ap (λ w. (u COLUMN + length (digits_before 5 (magnitude w) [])) % 256) same
+          ∙ one_later (m COLUMN) (u COLUMN) (length (digits_before 5 (magnitude (word_in m LEFT)) [])) next ∙ l))))
 
-  whole : (a x y : ℕ) (n v i z c : Bool) → IsWord m0 LEFT → m0 COLUMN < 256 → Comes f (view a x y n v i z c NUMBER_AT own m0 text answers) (Back lo hi text answers (Done ((m0 COLUMN + length (digits_of (word_in m0 LEFT))) % 256))) (digits_of (word_in m0 LEFT)) 458
+  whole : (a x y : ℕ) (n v i z c : Bool) → IsWord m0 LEFT → m0 COLUMN < 256 → Comes f (view a x y n v i z c NUMBER_AT own m0 text answers)
+      (Back lo hi text answers (Done ((m0 COLUMN + length (digits_of (word_in m0 LEFT))) % 256))) (digits_of (word_in m0 LEFT)) 458
   unfolding Rest
   whole a x y n v i z c p q =
       let w = word_in m0 LEFT in

@@ -47,7 +47,8 @@ prologue_law place bytes from to inner holds block s h =
       binary = refl;
       same_text = refl;
       same_answers = refl;
-      cleared = λ a e. ⊎_elim (λ r. let p = inside VARS SEEDED a r in zero_at last VARS 55 refl a p.0 (omega (arith, p.1))) (λ r. let p = inside SEED (NOTES + 1) a r in zero_at last SEED 6 refl a p.0 (omega (arith, p.1))) (or_cases _ _ e);
+      cleared = λ a e. ⊎_elim (λ r. let p = inside VARS SEEDED a r in zero_at last VARS 55 refl a p.0 (omega (arith, p.1))) (λ r. let p =
+          inside SEED (NOTES + 1) a r in zero_at last SEED 6 refl a p.0 (omega (arith, p.1))) (or_cases _ _ e);
       bytes = put_small w.mem HOME_S s.regs.s (omega (arith, h.s_to)) (cleared_small 62 s.mem h.holds_bytes);
       entered = record { homed = homed_start place bytes from to inner holds s h; kept = sym h.home_s };
     })))

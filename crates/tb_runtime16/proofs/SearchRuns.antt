@@ -1,5 +1,7 @@
 -- Search.
-use Rattle.std.proofs.Common.{◌≡◌, ◌≢◌, ℕ, zero, suc, ◌+◌, ◌-◌, ◌*◌, ◌/◌, ◌%◌, ◌<◌, ◌≤◌, Bool, true, false, not, List, [], ◌∷◌, ◌++◌, length, refl, sym, ap, ◌∙◌, subst, ⊎_elim, arith, if◌then◌else◌, eqb, Option, Some, None, length-append}
+use Rattle.std.proofs.Common.{◌≡◌, ◌≢◌, ℕ, zero, suc, ◌+◌, ◌-◌, ◌*◌, ◌/◌, ◌%◌, ◌<◌, ◌≤◌, Bool, true, false, not}
+use Rattle.std.proofs.Common.{List, [], ◌∷◌, ◌++◌, length, refl, sym, ap, ◌∙◌, subst, ⊎_elim, arith, if◌then◌else◌, eqb, Option, Some}
+use Rattle.std.proofs.Common.{None, length-append}
 use Rattle.std.specs.Prelude.{nat_le}
 use Rattle.std.proofs.lemmas.Bool.{ne_eqb, eq-eqb, cases_eq, cases_lt, le-leb, lt-leb}
 use Rattle.tb_cpu.specs.Operands.{word_in}
@@ -120,12 +122,14 @@ module _ (f : Setup) (fits : Fits f 2) (block : Holds block_part f.code) (lo hi 
       }
 
   -- ---- the last entry
-  none : (a x y : ℕ) (n v i z c : Bool) (m : ℕ → ℕ) → Changes search_changes m0 m → None ≡ r → Comes f (view a x y n v i z c (SEARCH_AT + 0xB5) (lo ∷ hi ∷ []) m text answers) (Searched lo hi m0 text answers r) [] 2
+  none : (a x y : ℕ) (n v i z c : Bool) (m : ℕ → ℕ) → Changes search_changes m0 m → None ≡ r
+      → Comes f (view a x y n v i z c (SEARCH_AT + 0xB5) (lo ∷ hi ∷ []) m text answers) (Searched lo hi m0 text answers r) [] 2
   none a x y n v i z c m k e = subst (λ o. Comes f (view a x y n v i z c (SEARCH_AT + 0xB5) (lo ∷ hi ∷ []) m text answers) (Searched lo hi m0 text answers o) [] 2) e
       (ending f 2 fits search_part (search_in f.code block) 1 (view a x y n v i z c (SEARCH_AT + 0xB5) (lo ∷ hi ∷ []) m text answers) _ refl
       (record { leaves = leaves_now refl k; number = refl }))
 
-  found : (a x y : ℕ) (n v i z c : Bool) (m : ℕ → ℕ) (e : Line) (at : ℕ) → Short m (e ∷ []) at → y ≡ m POINTER + 1 → Some e.1 ≡ r → Comes f (view a x y n v i z c (SEARCH_AT + 0xA8) (lo ∷ hi ∷ []) m text answers) (Searched lo hi m0 text answers r) [] 7
+  found : (a x y : ℕ) (n v i z c : Bool) (m : ℕ → ℕ) (e : Line) (at : ℕ) → Short m (e ∷ []) at → y ≡ m POINTER + 1 → Some e.1 ≡ r
+      → Comes f (view a x y n v i z c (SEARCH_AT + 0xA8) (lo ∷ hi ∷ []) m text answers) (Searched lo hi m0 text answers r) [] 7
   found a x y n v i z c m e at h index s =
       let to = h.part.to in
       let from = h.part.from in
@@ -140,13 +144,16 @@ module _ (f : Setup) (fits : Fits f 2) (block : Holds block_part f.code) (lo hi 
       let m1 = with_byte m RESULT (e.1 % 256) in
       subst (λ o. Comes f (view a x y n v i z c (SEARCH_AT + 0xA8) (lo ∷ hi ∷ []) m text answers) (Searched lo hi m0 text answers o) [] 7) s
       (after f 2 fits search_part (search_in f.code block) 0 (view a x y n v i z c (SEARCH_AT + 0xA8) (lo ∷ hi ∷ []) m text answers) _ _ 6 refl
-      (loading f 2 fits TABLE (SEARCH_AT + 0xA9) (at + 2) (e.1 % 256) _ _ y1 _ _ _ _ _ _ m text answers _ _ 5 (search_in f.code block _ _ refl, (search_in f.code block _ _ refl, tt)) refl refl refl p2 (program_place (at + 2) (omega arith) (omega arith)) b.2
+      (loading f 2 fits TABLE (SEARCH_AT + 0xA9) (at + 2) (e.1 % 256) _ _ y1 _ _ _ _ _ _ m text answers _ _ 5 (search_in f.code block _ _ refl,
+          (search_in f.code block _ _ refl, tt)) refl refl refl p2 (program_place (at + 2) (omega arith) (omega arith)) b.2
       (after f 2 fits search_part (search_in f.code block) 1 (view (e.1 % 256) x y1 _ v i _ c (SEARCH_AT + 0xAB) (lo ∷ hi ∷ []) m text answers) _ _ 3 refl
-      (loading f 2 fits TABLE (SEARCH_AT + 0xAF) (at + 3) (e.1 / 256) _ _ y2 _ _ _ _ _ _ m1 text answers _ _ 2 (search_in f.code block _ _ refl, (search_in f.code block _ _ refl, tt)) refl refl refl p3 (program_place (at + 3) (omega arith) (omega arith)) b.3
+      (loading f 2 fits TABLE (SEARCH_AT + 0xAF) (at + 3) (e.1 / 256) _ _ y2 _ _ _ _ _ _ m1 text answers _ _ 2 (search_in f.code block _ _ refl,
+          (search_in f.code block _ _ refl, tt)) refl refl refl p3 (program_place (at + 3) (omega arith) (omega arith)) b.3
       (ending f 2 fits search_part (search_in f.code block) 1 (view (e.1 / 256) x y2 _ v i _ c (SEARCH_AT + 0xB1) (lo ∷ hi ∷ []) m1 text answers) _ refl
       (leaves_now refl (record { result = record { low = refl; high = refl; small = small }; others = changes_put _ _ _ (RESULT + 1) _ refl (changes_put _ _ _ RESULT _ refl h.others) })))))))
 
-  last_high : (a x y : ℕ) (n v i z c : Bool) (m : ℕ → ℕ) (e : Line) (at : ℕ) → Short m (e ∷ []) at → y ≡ m POINTER → e.0 % 256 ≡ m WANTED → Comes f (view a x y n v i z c (SEARCH_AT + 0xA0) (lo ∷ hi ∷ []) m text answers) (Searched lo hi m0 text answers r) [] 11
+  last_high : (a x y : ℕ) (n v i z c : Bool) (m : ℕ → ℕ) (e : Line) (at : ℕ) → Short m (e ∷ []) at → y ≡ m POINTER → e.0 % 256 ≡ m WANTED
+      → Comes f (view a x y n v i z c (SEARCH_AT + 0xA0) (lo ∷ hi ∷ []) m text answers) (Searched lo hi m0 text answers r) [] 11
   last_high a x y n v i z c m e at h index low =
       let to = h.part.to in
       let from = h.part.from in
@@ -158,7 +165,9 @@ module _ (f : Setup) (fits : Fits f 2) (block : Holds block_part f.code) (lo hi 
       let next : y1 ≡ m POINTER + 1 = omega arith in
       let load = λ (N : ℕ). λ (k : (n z : Bool) → Comes f (view (e.0 / 256) x y1 n v i z c (SEARCH_AT + 0xA3) (lo ∷ hi ∷ []) m text answers) (Searched lo hi m0 text answers r) [] N).
       after f 2 fits search_part (search_in f.code block) 0 (view a x y n v i z c (SEARCH_AT + 0xA0) (lo ∷ hi ∷ []) m text answers) _ _ (1 + N) refl
-      (loading f 2 fits TABLE (SEARCH_AT + 0xA1) (at + 1) (e.0 / 256) _ _ y1 _ _ _ _ _ _ m text answers _ _ N (search_in f.code block _ _ refl, (search_in f.code block _ _ refl, tt)) refl refl refl p1 (program_place (at + 1) (omega arith) (omega arith)) (entry_bytes f.code at e [] (omega arith) h.part.shown).1 (k _ _)) in
+      (loading f 2 fits TABLE (SEARCH_AT + 0xA1) (at + 1) (e.0 / 256) _ _ y1 _ _ _ _ _ _ m text answers _ _ N (search_in f.code block _ _ refl,
+          (search_in f.code block _ _ refl, tt)) refl refl refl p1 (program_place (at + 1) (omega arith) (omega arith))
+          (entry_bytes f.code at e [] (omega arith) h.part.shown).1 (k _ _)) in
       ⊎_elim
       (λ yes. let t : eqb ((e.0 / 256 + 256 - m (WANTED + 1)) % 256) 0 ≡ true = eq-eqb _ _ (omega (arith, yes)) in
       let num : e.0 ≡ word_in m0 WANTED = same_bytes e.0 (m0 WANTED) (m0 (WANTED + 1)) (low ∙ asked.low) (yes ∙ asked.high) in
@@ -167,13 +176,15 @@ module _ (f : Setup) (fits : Fits f 2) (block : Holds block_part f.code) (lo hi 
       (λ differs. let t : eqb ((e.0 / 256 + 256 - m (WANTED + 1)) % 256) 0 ≡ false = other_byte (e.0 / 256) (m (WANTED + 1)) (omega (arith, h.part.words.0)) asked.high_small differs in
       looser f _ _ _ [] (1 + (1 + (2 + 2))) 11 (omega arith) (λ w h. h)
       (load (2 + 2) (λ n z. after f 2 fits search_part (search_in f.code block) 1 (view (e.0 / 256) x y1 n v i z c (SEARCH_AT + 0xA3) (lo ∷ hi ∷ []) m text answers) _ _ 2 refl
-      (rw t (none _ _ _ _ _ _ _ _ m h.others (sym (other_line (word_in m0 WANTED) e [] (λ x. differs (high_byte e.0 (m0 WANTED) (m0 (WANTED + 1)) left.0 left.1 x ∙ sym asked.high))) ∙ h.part.same))))))
+      (rw t (none _ _ _ _ _ _ _ _ m h.others
+          (sym (other_line (word_in m0 WANTED) e [] (λ x. differs (high_byte e.0 (m0 WANTED) (m0 (WANTED + 1)) left.0 left.1 x ∙ sym asked.high))) ∙ h.part.same))))))
       (cases_eq (e.0 / 256) (m (WANTED + 1)))
     where
       high_byte : (n l h : ℕ) → l < 256 → h < 256 → n ≡ l + 256 * h → n / 256 ≡ h
       high_byte n l h p q e = omega arith
 
-  last : (a x y : ℕ) (n v i z c : Bool) (m : ℕ → ℕ) (es : List Line) (at : ℕ) → length es ≡ 1 → Short m es at → Comes f (view a x y n v i z c (SEARCH_AT + 0x97) (lo ∷ hi ∷ []) m text answers) (Searched lo hi m0 text answers r) [] 15
+  last : (a x y : ℕ) (n v i z c : Bool) (m : ℕ → ℕ) (es : List Line) (at : ℕ) → length es ≡ 1 → Short m es at
+      → Comes f (view a x y n v i z c (SEARCH_AT + 0x97) (lo ∷ hi ∷ []) m text answers) (Searched lo hi m0 text answers r) [] 15
   last a x y n v i z c m [] at one h = absurd (let none : ⊥ = omega arith in none)
   last a x y n v i z c m (e ∷ d ∷ es) at one h = absurd (let none : ⊥ = omega arith in none)
   last a x y n v i z c m (e ∷ []) at one h =
@@ -183,9 +194,11 @@ module _ (f : Setup) (fits : Fits f 2) (block : Holds block_part f.code) (lo hi 
       let near = h.near in
       let asked = wanted m h.others in
       let p0 : (m TABLE + 256 * m (TABLE + 1) + m POINTER) % 65536 ≡ at = omega arith in
-      let load = λ (N : ℕ). λ (k : (n z : Bool) → Comes f (view (e.0 % 256) x (m POINTER) n v i z c (SEARCH_AT + 0x9B) (lo ∷ hi ∷ []) m text answers) (Searched lo hi m0 text answers r) [] N).
+      let load = λ (N : ℕ). λ (k : (n z : Bool)
+          → Comes f (view (e.0 % 256) x (m POINTER) n v i z c (SEARCH_AT + 0x9B) (lo ∷ hi ∷ []) m text answers) (Searched lo hi m0 text answers r) [] N).
       after f 2 fits search_part (search_in f.code block) 0 (view a x y n v i z c (SEARCH_AT + 0x97) (lo ∷ hi ∷ []) m text answers) _ _ (1 + N) refl
-      (loading f 2 fits TABLE (SEARCH_AT + 0x99) at (e.0 % 256) _ _ (m POINTER) _ _ _ _ _ _ m text answers _ _ N (search_in f.code block _ _ refl, (search_in f.code block _ _ refl, tt)) refl refl refl p0 (program_place at (omega arith) (omega arith)) h.part.shown.0 (k _ _)) in
+      (loading f 2 fits TABLE (SEARCH_AT + 0x99) at (e.0 % 256) _ _ (m POINTER) _ _ _ _ _ _ m text answers _ _ N (search_in f.code block _ _ refl,
+          (search_in f.code block _ _ refl, tt)) refl refl refl p0 (program_place at (omega arith) (omega arith)) h.part.shown.0 (k _ _)) in
       ⊎_elim
       (λ yes. let t : eqb ((e.0 % 256 + 256 - m WANTED) % 256) 0 ≡ true = eq-eqb _ _ (omega (arith, yes)) in
       load (2 + 11) (λ n z. after f 2 fits search_part (search_in f.code block) 1 (view (e.0 % 256) x (m POINTER) n v i z c (SEARCH_AT + 0x9B) (lo ∷ hi ∷ []) m text answers) _ _ 11 refl
@@ -193,7 +206,8 @@ module _ (f : Setup) (fits : Fits f 2) (block : Holds block_part f.code) (lo hi 
       (λ differs. let t : eqb ((e.0 % 256 + 256 - m WANTED) % 256) 0 ≡ false = other_byte (e.0 % 256) (m WANTED) (omega arith) asked.low_small differs in
       looser f _ _ _ [] (1 + (1 + (2 + 2))) 15 (omega arith) (λ w h. h)
       (load (2 + 2) (λ n z. after f 2 fits search_part (search_in f.code block) 1 (view (e.0 % 256) x (m POINTER) n v i z c (SEARCH_AT + 0x9B) (lo ∷ hi ∷ []) m text answers) _ _ 2 refl
-      (rw t (none _ _ _ _ _ _ _ _ m h.others (sym (other_line (word_in m0 WANTED) e [] (λ x. differs (low_byte e.0 (m0 WANTED) (m0 (WANTED + 1)) left.0 left.1 x ∙ sym asked.low))) ∙ h.part.same))))))
+      (rw t (none _ _ _ _ _ _ _ _ m h.others
+          (sym (other_line (word_in m0 WANTED) e [] (λ x. differs (low_byte e.0 (m0 WANTED) (m0 (WANTED + 1)) left.0 left.1 x ∙ sym asked.low))) ∙ h.part.same))))))
       (cases_eq (e.0 % 256) (m WANTED))
     where
       low_byte : (n l h : ℕ) → l < 256 → h < 256 → n ≡ l + 256 * h → n % 256 ≡ l
@@ -201,10 +215,13 @@ module _ (f : Setup) (fits : Fits f 2) (block : Holds block_part f.code) (lo hi 
 
   -- ---- few entries: how many there are is in A too
   Halve : ℕ → Type 0
-  Halve k = (a x y : ℕ) (n v i z c : Bool) (m : ℕ → ℕ) (es : List Line) (at : ℕ) → Short m es at → a ≡ length es → 1 ≤ length es → length es ≤ pow2 k → Comes f (view a x y n v i z c (SEARCH_AT + 0x6B) (lo ∷ hi ∷ []) m text answers) (Searched lo hi m0 text answers r) [] (21 * k + 17)
+  Halve k = (a x y : ℕ) (n v i z c : Bool) (m : ℕ → ℕ) (es : List Line) (at : ℕ) → Short m es at → a ≡ length es → 1 ≤ length es → length es ≤ pow2 k
+      → Comes f (view a x y n v i z c (SEARCH_AT + 0x6B) (lo ∷ hi ∷ []) m text answers) (Searched lo hi m0 text answers r) [] (21 * k + 17)
 
   -- those before the one in the middle
-  halve_front : (k : ℕ) → Halve k → (a x y : ℕ) (n v i z c : Bool) (m : ℕ → ℕ) (front : List Line) (e : Line) (back : List Line) (at : ℕ) → Short m (front ++ (e ∷ back)) at → x ≡ length front → 1 ≤ length front → length front ≤ pow2 k → word_in m0 WANTED < e.0 → Comes f (view a x y n v i z c (SEARCH_AT + 0x91) (lo ∷ hi ∷ []) m text answers) (Searched lo hi m0 text answers r) [] (3 + (21 * k + 17))
+  halve_front : (k : ℕ) → Halve k → (a x y : ℕ) (n v i z c : Bool) (m : ℕ → ℕ) (front : List Line) (e : Line) (back : List Line) (at : ℕ)
+      → Short m (front ++ (e ∷ back)) at → x ≡ length front → 1 ≤ length front → length front ≤ pow2 k → word_in m0 WANTED < e.0
+      → Comes f (view a x y n v i z c (SEARCH_AT + 0x91) (lo ∷ hi ∷ []) m text answers) (Searched lo hi m0 text answers r) [] (3 + (21 * k + 17))
   unfolding Halve
   halve_front k go a x y n v i z c m front e back at h size some few less =
       let near = h.near in
@@ -220,7 +237,9 @@ module _ (f : Setup) (fits : Fits f 2) (block : Holds block_part f.code) (lo hi 
       }) size some few))
 
   -- and those from it on
-  halve_back : (k : ℕ) → Halve k → (a x y : ℕ) (n v i z : Bool) (m : ℕ → ℕ) (front : List Line) (e : Line) (back : List Line) (at : ℕ) → Short m (front ++ (e ∷ back)) at → x ≡ length front → y ≡ m POINTER + 4 * length front + 1 → suc (length back) ≤ pow2 k → e.0 ≤ word_in m0 WANTED → Comes f (view a x y n v i z true (SEARCH_AT + 0x82) (lo ∷ hi ∷ []) m text answers) (Searched lo hi m0 text answers r) [] (7 + (21 * k + 17))
+  halve_back : (k : ℕ) → Halve k → (a x y : ℕ) (n v i z : Bool) (m : ℕ → ℕ) (front : List Line) (e : Line) (back : List Line) (at : ℕ)
+      → Short m (front ++ (e ∷ back)) at → x ≡ length front → y ≡ m POINTER + 4 * length front + 1 → suc (length back) ≤ pow2 k
+      → e.0 ≤ word_in m0 WANTED → Comes f (view a x y n v i z true (SEARCH_AT + 0x82) (lo ∷ hi ∷ []) m text answers) (Searched lo hi m0 text answers r) [] (7 + (21 * k + 17))
   unfolding Halve
   halve_back k go a x y n v i z m front e back at h size index few least =
       let near = h.near in
@@ -242,7 +261,9 @@ module _ (f : Setup) (fits : Fits f 2) (block : Holds block_part f.code) (lo hi 
       }) rest (omega arith) few))
 
   -- WANTED against the number of the one in the middle
-  halve_by : (k : ℕ) → Halve k → (a x y : ℕ) (n v i z c : Bool) (m : ℕ → ℕ) (front : List Line) (e : Line) (back : List Line) (at : ℕ) → Short m (front ++ (e ∷ back)) at → x ≡ length front → y ≡ m POINTER + 4 * length front → 1 ≤ length front → length front ≤ pow2 k → suc (length back) ≤ pow2 k → Comes f (view a x y n v i z c (SEARCH_AT + 0x75) (lo ∷ hi ∷ []) m text answers) (Searched lo hi m0 text answers r) [] (6 + (7 + (21 * k + 17)))
+  halve_by : (k : ℕ) → Halve k → (a x y : ℕ) (n v i z c : Bool) (m : ℕ → ℕ) (front : List Line) (e : Line) (back : List Line) (at : ℕ)
+      → Short m (front ++ (e ∷ back)) at → x ≡ length front → y ≡ m POINTER + 4 * length front → 1 ≤ length front → length front ≤ pow2 k
+      → suc (length back) ≤ pow2 k → Comes f (view a x y n v i z c (SEARCH_AT + 0x75) (lo ∷ hi ∷ []) m text answers) (Searched lo hi m0 text answers r) [] (6 + (7 + (21 * k + 17)))
   halve_by k go a x y n v i z c m front e back at h size index some few_front few_back =
       let to = h.part.to in
       let from = h.part.from in
@@ -256,30 +277,41 @@ module _ (f : Setup) (fits : Fits f 2) (block : Holds block_part f.code) (lo hi 
       let p0 : (m TABLE + 256 * m (TABLE + 1) + y) % 65536 ≡ here = omega (arith, one.end, whole) in
       let p1 : (m TABLE + 256 * m (TABLE + 1) + y1) % 65536 ≡ here + 1 = omega (arith, one.end, whole) in
       let next_index : y1 ≡ m POINTER + 4 * length front + 1 = omega (arith, whole) in
-      let go_on = λ (N : ℕ). λ (next : (a : ℕ) (n v z : Bool) → Comes f (view a x y1 n v i z (nat_le (e.0 / 256 + bit (not (nat_le (e.0 % 256) (m WANTED)))) (m (WANTED + 1))) (SEARCH_AT + 0x80) (lo ∷ hi ∷ []) m text answers) (Searched lo hi m0 text answers r) [] N).
+      let go_on = λ (N : ℕ). λ (next : (a : ℕ) (n v z : Bool)
+          → Comes f (view a x y1 n v i z (nat_le (e.0 / 256 + bit (not (nat_le (e.0 % 256) (m WANTED)))) (m (WANTED + 1))) (SEARCH_AT + 0x80)
+              (lo ∷ hi ∷ []) m text answers) (Searched lo hi m0 text answers r) [] N).
       after f 2 fits search_part (search_in f.code block) 0 (view a x y n v i z c (SEARCH_AT + 0x75) (lo ∷ hi ∷ []) m text answers) _ _ (1 + (2 + (1 + N))) refl
-      (comparing f 2 fits TABLE (SEARCH_AT + 0x78) here (e.0 % 256) (m WANTED) x y _ _ _ _ _ _ m text answers _ _ (2 + (1 + N)) (search_in f.code block _ _ refl, (search_in f.code block _ _ refl, tt)) refl refl refl p0 (program_place here one.start (omega arith)) one.low (λ n z.
+      (comparing f 2 fits TABLE (SEARCH_AT + 0x78) here (e.0 % 256) (m WANTED) x y _ _ _ _ _ _ m text answers _ _ (2 + (1 + N))
+          (search_in f.code block _ _ refl, (search_in f.code block _ _ refl, tt)) refl refl refl p0 (program_place here one.start (omega arith)) one.low (λ n z.
       after f 2 fits search_part (search_in f.code block) 1 (view (m WANTED) x y n v i z _ (SEARCH_AT + 0x7A) (lo ∷ hi ∷ []) m text answers) _ _ (1 + N) refl
-      (subtracting f 2 fits TABLE (SEARCH_AT + 0x7E) (here + 1) (e.0 / 256) (m (WANTED + 1)) x y1 _ _ _ _ _ _ m text answers _ _ N (search_in f.code block _ _ refl, (search_in f.code block _ _ refl, tt)) refl refl refl p1 (program_place (here + 1) (omega arith) (omega arith)) one.high next))) in
+      (subtracting f 2 fits TABLE (SEARCH_AT + 0x7E) (here + 1) (e.0 / 256) (m (WANTED + 1)) x y1 _ _ _ _ _ _ m text answers _ _ N
+          (search_in f.code block _ _ refl, (search_in f.code block _ _ refl, tt)) refl refl refl p1 (program_place (here + 1) (omega arith) (omega arith)) one.high next))) in
       ⊎_elim
       (λ less. let t = carry_below (m WANTED) (m (WANTED + 1)) (e.0 % 256) (e.0 / 256) asked.low_small asked.high_small (omega arith) (omega arith) (omega arith) in
       looser f _ _ _ [] (1 + (1 + (2 + (1 + (1 + (3 + (21 * k + 17))))))) (6 + (7 + (21 * k + 17))) (omega arith) (λ w h. h)
-      (go_on (1 + (3 + (21 * k + 17))) (λ a n v z. after f 2 fits search_part (search_in f.code block) 0 (view a x y1 n v i z (nat_le (e.0 / 256 + bit (not (nat_le (e.0 % 256) (m WANTED)))) (m (WANTED + 1))) (SEARCH_AT + 0x80) (lo ∷ hi ∷ []) m text answers) _ _ (3 + (21 * k + 17)) refl
+      (go_on (1 + (3 + (21 * k + 17))) (λ a n v z. after f 2 fits search_part (search_in f.code block) 0
+          (view a x y1 n v i z (nat_le (e.0 / 256 + bit (not (nat_le (e.0 % 256) (m WANTED)))) (m (WANTED + 1))) (SEARCH_AT + 0x80)
+          (lo ∷ hi ∷ []) m text answers) _ _ (3 + (21 * k + 17)) refl
       (rw t (halve_front k go _ _ _ _ _ _ _ _ m front e back at h size some few_front less)))))
       (λ least. let t = carry_at_least (m WANTED) (m (WANTED + 1)) (e.0 % 256) (e.0 / 256) asked.low_small asked.high_small (omega arith) (omega arith) (omega arith) in
       looser f _ _ _ [] (1 + (1 + (2 + (1 + (1 + (7 + (21 * k + 17))))))) (6 + (7 + (21 * k + 17))) (omega arith) (λ w h. h)
-      (go_on (1 + (7 + (21 * k + 17))) (λ a n v z. after f 2 fits search_part (search_in f.code block) 0 (view a x y1 n v i z (nat_le (e.0 / 256 + bit (not (nat_le (e.0 % 256) (m WANTED)))) (m (WANTED + 1))) (SEARCH_AT + 0x80) (lo ∷ hi ∷ []) m text answers) _ _ (7 + (21 * k + 17)) refl
+      (go_on (1 + (7 + (21 * k + 17))) (λ a n v z. after f 2 fits search_part (search_in f.code block) 0
+          (view a x y1 n v i z (nat_le (e.0 / 256 + bit (not (nat_le (e.0 % 256) (m WANTED)))) (m (WANTED + 1))) (SEARCH_AT + 0x80)
+          (lo ∷ hi ∷ []) m text answers) _ _ (7 + (21 * k + 17)) refl
       (rw t (halve_back k go _ _ _ _ _ _ _ m front e back at h size next_index few_back least)))))
       (cases_lt (word_in m0 WANTED) e.0)
 
-  halve_at : (k : ℕ) → Halve k → (a x y : ℕ) (n v i z c : Bool) (m : ℕ → ℕ) (es : List Line) (at half : ℕ) → Short m es at → half ≡ length es / 2 → a ≡ half → 1 ≤ half → length es ≤ pow2 k + pow2 k → Comes f (view a x y n v i z c (SEARCH_AT + 0x6E) (lo ∷ hi ∷ []) m text answers) (Searched lo hi m0 text answers r) [] (6 + (6 + (7 + (21 * k + 17))))
+  halve_at : (k : ℕ) → Halve k → (a x y : ℕ) (n v i z c : Bool) (m : ℕ → ℕ) (es : List Line) (at half : ℕ) → Short m es at → half ≡ length es / 2
+      → a ≡ half → 1 ≤ half → length es ≤ pow2 k + pow2 k → Comes f (view a x y n v i z c (SEARCH_AT + 0x6E) (lo ∷ hi ∷ []) m text answers)
+      (Searched lo hi m0 text answers r) [] (6 + (6 + (7 + (21 * k + 17))))
   halve_at k go a x y n v i z c m es at half h middle is some few =
       let part = cut es half (omega arith) in
       let total : length es ≡ length part.front + suc (length part.back) = ap length part.whole ∙ length-append part.front (part.here ∷ part.back) in
       let size = part.size in
       let near = h.near in
       after f 2 fits search_part (search_in f.code block) 5 (view a x y n v i z c (SEARCH_AT + 0x6E) (lo ∷ hi ∷ []) m text answers) _ _ (6 + (7 + (21 * k + 17))) refl
-      (halve_by k go _ _ _ _ _ _ _ _ m part.front part.here part.back at (subst (λ l. Short m l at) part.whole h) (omega (arith, is, size)) (omega (arith, is, size, near, middle)) (omega (arith, size, some)) (omega (arith, size, middle, few)) (omega (arith, size, middle, few, total)))
+      (halve_by k go _ _ _ _ _ _ _ _ m part.front part.here part.back at (subst (λ l. Short m l at) part.whole h) (omega (arith, is, size))
+          (omega (arith, is, size, near, middle)) (omega (arith, size, some)) (omega (arith, size, middle, few)) (omega (arith, size, middle, few, total)))
 
   halves_all : (k : ℕ) → Halve k
   unfolding Halve
@@ -302,9 +334,11 @@ module _ (f : Setup) (fits : Fits f 2) (block : Holds block_part f.code) (lo hi 
 
   -- ---- any number of entries: below 64 they are few
   Probe : ℕ → Type 0
-  Probe k = (a x y : ℕ) (n v i z c : Bool) (m : ℕ → ℕ) (es : List Line) (at : ℕ) → Range m es at → 1 ≤ length es → length es ≤ 32 * pow2 k → Comes f (view a x y n v i z c SEARCH_AT (lo ∷ hi ∷ []) m text answers) (Searched lo hi m0 text answers r) [] (40 * k + 150)
+  Probe k = (a x y : ℕ) (n v i z c : Bool) (m : ℕ → ℕ) (es : List Line) (at : ℕ) → Range m es at → 1 ≤ length es → length es ≤ 32 * pow2 k
+      → Comes f (view a x y n v i z c SEARCH_AT (lo ∷ hi ∷ []) m text answers) (Searched lo hi m0 text answers r) [] (40 * k + 150)
 
-  few : (a x y : ℕ) (n v i z c : Bool) (m : ℕ → ℕ) (es : List Line) (at : ℕ) → Range m es at → 1 ≤ length es → length es < 64 → Comes f (view a x y n v i z c SEARCH_AT (lo ∷ hi ∷ []) m text answers) (Searched lo hi m0 text answers r) [] 150
+  few : (a x y : ℕ) (n v i z c : Bool) (m : ℕ → ℕ) (es : List Line) (at : ℕ) → Range m es at → 1 ≤ length es → length es < 64
+      → Comes f (view a x y n v i z c SEARCH_AT (lo ∷ hi ∷ []) m text answers) (Searched lo hi m0 text answers r) [] 150
   unfolding Halve
   few a x y n v i z c m es at h some small =
       let size = h.told.size in
@@ -324,7 +358,10 @@ module _ (f : Setup) (fits : Fits f 2) (block : Holds block_part f.code) (lo hi 
       }) (omega (arith, size)) some (omega (arith, small)))))))
 
   -- ---- the part below the entry
-  lower : (k : ℕ) → Probe k → (a x y : ℕ) (n v i z c : Bool) (m : ℕ → ℕ) (front : List Line) (e : Line) (back : List Line) (at : ℕ) → Range m (front ++ (e ∷ back)) at → IsWord m SCRATCH → m SCRATCH + 256 * m (SCRATCH + 1) ≡ length front → 1 ≤ length front → length front ≤ 32 * pow2 k → word_in m0 WANTED < e.0 → Comes f (view a x y n v i z c (SEARCH_AT + 0x58) (lo ∷ hi ∷ []) m text answers) (Searched lo hi m0 text answers r) [] (5 + (40 * k + 150))
+  lower : (k : ℕ) → Probe k → (a x y : ℕ) (n v i z c : Bool) (m : ℕ → ℕ) (front : List Line) (e : Line) (back : List Line) (at : ℕ)
+      → Range m (front ++ (e ∷ back)) at → IsWord m SCRATCH → m SCRATCH + 256 * m (SCRATCH + 1) ≡ length front → 1 ≤ length front → length front
+      ≤ 32 * pow2 k → word_in m0 WANTED < e.0 → Comes f (view a x y n v i z c (SEARCH_AT + 0x58) (lo ∷ hi ∷ []) m text answers)
+      (Searched lo hi m0 text answers r) [] (5 + (40 * k + 150))
   unfolding Probe
   lower k go a x y n v i z c m front e back at h w size some few less =
       after f 2 fits search_part (search_in f.code block) 4 (view a x y n v i z c (SEARCH_AT + 0x58) (lo ∷ hi ∷ []) m text answers) _ _ (40 * k + 150) refl
@@ -336,12 +373,16 @@ module _ (f : Setup) (fits : Fits f 2) (block : Holds block_part f.code) (lo hi 
       }) some few)
 
   -- ---- the part from the entry on
-  upper : (k : ℕ) → Probe k → (a x y : ℕ) (n v i z : Bool) (m : ℕ → ℕ) (front : List Line) (e : Line) (back : List Line) (at : ℕ) → Range m (front ++ (e ∷ back)) at → IsWord m SCRATCH → m SCRATCH + 256 * m (SCRATCH + 1) ≡ length front → IsWord m POINTER → m POINTER + 256 * m (POINTER + 1) ≡ at + 4 * length front → suc (length back) ≤ 32 * pow2 k → e.0 ≤ word_in m0 WANTED → Comes f (view a x y n v i z true (SEARCH_AT + 0x3C) (lo ∷ hi ∷ []) m text answers) (Searched lo hi m0 text answers r) [] (11 + (40 * k + 150))
+  upper : (k : ℕ) → Probe k → (a x y : ℕ) (n v i z : Bool) (m : ℕ → ℕ) (front : List Line) (e : Line) (back : List Line) (at : ℕ)
+      → Range m (front ++ (e ∷ back)) at → IsWord m SCRATCH → m SCRATCH + 256 * m (SCRATCH + 1) ≡ length front → IsWord m POINTER
+      → m POINTER + 256 * m (POINTER + 1) ≡ at + 4 * length front → suc (length back) ≤ 32 * pow2 k → e.0 ≤ word_in m0 WANTED
+      → Comes f (view a x y n v i z true (SEARCH_AT + 0x3C) (lo ∷ hi ∷ []) m text answers) (Searched lo hi m0 text answers r) [] (11 + (40 * k + 150))
   unfolding Probe
   upper k go a x y n v i z m front e back at h w size p place few least =
       let whole = length-append front (e ∷ back) in
       let count = h.told.size in
-      let d = difference (m COUNT) (m (COUNT + 1)) (m SCRATCH) (m (SCRATCH + 1)) (length (front ++ (e ∷ back))) (length front) (suc (length back)) h.told.size_word.0 h.told.size_word.1 w.0 w.1 h.told.size size (omega (arith, whole)) in
+      let d = difference (m COUNT) (m (COUNT + 1)) (m SCRATCH) (m (SCRATCH + 1)) (length (front ++ (e ∷ back))) (length front)
+          (suc (length back)) h.told.size_word.0 h.told.size_word.1 w.0 w.1 h.told.size size (omega (arith, whole)) in
       let t = carry_at_least (m COUNT) (m (COUNT + 1)) (m SCRATCH + 0) (m (SCRATCH + 1)) h.told.size_word.0 h.told.size_word.1 (omega (arith, w.0)) w.1 (omega (arith, count, size, whole)) in
       after f 2 fits search_part (search_in f.code block) 10 (view a x y n v i z true (SEARCH_AT + 0x3C) (lo ∷ hi ∷ []) m text answers) _ _ (40 * k + 150) refl
       (rw t (go _ _ _ _ _ _ _ _ _ (e ∷ back) (at + 4 * length front)
@@ -352,7 +393,10 @@ module _ (f : Setup) (fits : Fits f 2) (block : Holds block_part f.code) (lo hi 
       }) (omega arith) few))
 
   -- ---- WANTED against the entry's number
-  compare : (k : ℕ) → Probe k → (a x y : ℕ) (n v i z c : Bool) (m : ℕ → ℕ) (front : List Line) (e : Line) (back : List Line) (at : ℕ) → Range m (front ++ (e ∷ back)) at → IsWord m SCRATCH → m SCRATCH + 256 * m (SCRATCH + 1) ≡ length front → IsWord m POINTER → m POINTER + 256 * m (POINTER + 1) ≡ at + 4 * length front → 1 ≤ length front → length front ≤ 32 * pow2 k → suc (length back) ≤ 32 * pow2 k → Comes f (view a x y n v i z c (SEARCH_AT + 0x2D) (lo ∷ hi ∷ []) m text answers) (Searched lo hi m0 text answers r) [] (7 + (11 + (40 * k + 150)))
+  compare : (k : ℕ) → Probe k → (a x y : ℕ) (n v i z c : Bool) (m : ℕ → ℕ) (front : List Line) (e : Line) (back : List Line) (at : ℕ)
+      → Range m (front ++ (e ∷ back)) at → IsWord m SCRATCH → m SCRATCH + 256 * m (SCRATCH + 1) ≡ length front → IsWord m POINTER
+      → m POINTER + 256 * m (POINTER + 1) ≡ at + 4 * length front → 1 ≤ length front → length front ≤ 32 * pow2 k → suc (length back) ≤ 32 * pow2 k
+      → Comes f (view a x y n v i z c (SEARCH_AT + 0x2D) (lo ∷ hi ∷ []) m text answers) (Searched lo hi m0 text answers r) [] (7 + (11 + (40 * k + 150)))
   compare k go a x y n v i z c m front e back at h w size p place some few_front few_back =
       let to = h.part.to in
       let from = h.part.from in
@@ -362,28 +406,40 @@ module _ (f : Setup) (fits : Fits f 2) (block : Holds block_part f.code) (lo hi 
       let asked = wanted m h.others in
       let p0 : (m POINTER + 256 * m (POINTER + 1) + 0) % 65536 ≡ here = omega arith in
       let p1 : (m POINTER + 256 * m (POINTER + 1) + 1) % 65536 ≡ here + 1 = omega arith in
-      let go_on = λ (N : ℕ). λ (next : (a : ℕ) (n v z : Bool) → Comes f (view a x 1 n v i z (nat_le (e.0 / 256 + bit (not (nat_le (e.0 % 256) (m WANTED)))) (m (WANTED + 1))) (SEARCH_AT + 0x3A) (lo ∷ hi ∷ []) m text answers) (Searched lo hi m0 text answers r) [] N).
+      let go_on = λ (N : ℕ). λ (next : (a : ℕ) (n v z : Bool)
+          → Comes f (view a x 1 n v i z (nat_le (e.0 / 256 + bit (not (nat_le (e.0 % 256) (m WANTED)))) (m (WANTED + 1))) (SEARCH_AT + 0x3A)
+              (lo ∷ hi ∷ []) m text answers) (Searched lo hi m0 text answers r) [] N).
       after f 2 fits search_part (search_in f.code block) 1 (view a x y n v i z c (SEARCH_AT + 0x2D) (lo ∷ hi ∷ []) m text answers) _ _ (1 + (2 + (1 + N))) refl
-      (comparing f 2 fits POINTER (SEARCH_AT + 0x32) here (e.0 % 256) (m WANTED) x 0 _ _ _ _ _ _ m text answers _ _ (2 + (1 + N)) (search_in f.code block _ _ refl, (search_in f.code block _ _ refl, tt)) refl refl refl p0 (program_place here one.start (omega arith)) one.low (λ n z.
+      (comparing f 2 fits POINTER (SEARCH_AT + 0x32) here (e.0 % 256) (m WANTED) x 0 _ _ _ _ _ _ m text answers _ _ (2 + (1 + N))
+          (search_in f.code block _ _ refl, (search_in f.code block _ _ refl, tt)) refl refl refl p0 (program_place here one.start (omega arith)) one.low (λ n z.
       after f 2 fits search_part (search_in f.code block) 1 (view (m WANTED) x 0 n v i z _ (SEARCH_AT + 0x34) (lo ∷ hi ∷ []) m text answers) _ _ (1 + N) refl
-      (subtracting f 2 fits POINTER (SEARCH_AT + 0x38) (here + 1) (e.0 / 256) (m (WANTED + 1)) x 1 _ _ _ _ _ _ m text answers _ _ N (search_in f.code block _ _ refl, (search_in f.code block _ _ refl, tt)) refl refl refl p1 (program_place (here + 1) (omega arith) (omega arith)) one.high next))) in
+      (subtracting f 2 fits POINTER (SEARCH_AT + 0x38) (here + 1) (e.0 / 256) (m (WANTED + 1)) x 1 _ _ _ _ _ _ m text answers _ _ N
+          (search_in f.code block _ _ refl, (search_in f.code block _ _ refl, tt)) refl refl refl p1 (program_place (here + 1) (omega arith) (omega arith)) one.high next))) in
       ⊎_elim
       (λ less. let t = carry_below (m WANTED) (m (WANTED + 1)) (e.0 % 256) (e.0 / 256) asked.low_small asked.high_small (omega arith) (omega arith) (omega arith) in
       looser f _ _ _ [] (2 + (1 + (2 + (1 + (1 + (5 + (40 * k + 150))))))) (7 + (11 + (40 * k + 150))) (omega arith) (λ w h. h)
-      (go_on (1 + (5 + (40 * k + 150))) (λ a n v z. after f 2 fits search_part (search_in f.code block) 0 (view a x 1 n v i z (nat_le (e.0 / 256 + bit (not (nat_le (e.0 % 256) (m WANTED)))) (m (WANTED + 1))) (SEARCH_AT + 0x3A) (lo ∷ hi ∷ []) m text answers) _ _ (5 + (40 * k + 150)) refl
+      (go_on (1 + (5 + (40 * k + 150))) (λ a n v z. after f 2 fits search_part (search_in f.code block) 0
+          (view a x 1 n v i z (nat_le (e.0 / 256 + bit (not (nat_le (e.0 % 256) (m WANTED)))) (m (WANTED + 1))) (SEARCH_AT + 0x3A)
+          (lo ∷ hi ∷ []) m text answers) _ _ (5 + (40 * k + 150)) refl
       (rw t (lower k go _ _ _ _ _ _ _ _ m front e back at h w size some few_front less)))))
       (λ least. let t = carry_at_least (m WANTED) (m (WANTED + 1)) (e.0 % 256) (e.0 / 256) asked.low_small asked.high_small (omega arith) (omega arith) (omega arith) in
       looser f _ _ _ [] (2 + (1 + (2 + (1 + (1 + (11 + (40 * k + 150))))))) (7 + (11 + (40 * k + 150))) (omega arith) (λ w h. h)
-      (go_on (1 + (11 + (40 * k + 150))) (λ a n v z. after f 2 fits search_part (search_in f.code block) 0 (view a x 1 n v i z (nat_le (e.0 / 256 + bit (not (nat_le (e.0 % 256) (m WANTED)))) (m (WANTED + 1))) (SEARCH_AT + 0x3A) (lo ∷ hi ∷ []) m text answers) _ _ (11 + (40 * k + 150)) refl
+      (go_on (1 + (11 + (40 * k + 150))) (λ a n v z. after f 2 fits search_part (search_in f.code block) 0
+          (view a x 1 n v i z (nat_le (e.0 / 256 + bit (not (nat_le (e.0 % 256) (m WANTED)))) (m (WANTED + 1))) (SEARCH_AT + 0x3A)
+          (lo ∷ hi ∷ []) m text answers) _ _ (11 + (40 * k + 150)) refl
       (rw t (upper k go _ _ _ _ _ _ _ m front e back at h w size p place few_back least)))))
       (cases_lt (word_in m0 WANTED) e.0)
 
   -- ---- the entry in the middle
   -- POINTER, from four times SCRATCH in A and POINTER + 1
-  add : (k : ℕ) → Probe k → (a x y : ℕ) (n v i z c : Bool) (m : ℕ → ℕ) (front : List Line) (e : Line) (back : List Line) (at : ℕ) → Range m (front ++ (e ∷ back)) at → IsWord m SCRATCH → m SCRATCH + 256 * m (SCRATCH + 1) ≡ length front → a < 256 → m (POINTER + 1) < 256 → a + 256 * m (POINTER + 1) ≡ 4 * length front → 1 ≤ length front → length front ≤ 32 * pow2 k → suc (length back) ≤ 32 * pow2 k → Comes f (view a x y n v i z c (SEARCH_AT + 0x22) (lo ∷ hi ∷ []) m text answers) (Searched lo hi m0 text answers r) [] (6 + (7 + (11 + (40 * k + 150))))
+  add : (k : ℕ) → Probe k → (a x y : ℕ) (n v i z c : Bool) (m : ℕ → ℕ) (front : List Line) (e : Line) (back : List Line) (at : ℕ)
+      → Range m (front ++ (e ∷ back)) at → IsWord m SCRATCH → m SCRATCH + 256 * m (SCRATCH + 1) ≡ length front → a < 256 → m (POINTER + 1) < 256
+      → a + 256 * m (POINTER + 1) ≡ 4 * length front → 1 ≤ length front → length front ≤ 32 * pow2 k → suc (length back) ≤ 32 * pow2 k
+      → Comes f (view a x y n v i z c (SEARCH_AT + 0x22) (lo ∷ hi ∷ []) m text answers) (Searched lo hi m0 text answers r) [] (6 + (7 + (11 + (40 * k + 150))))
   add k go a x y n v i z c m front e back at h w size low high four some few_front few_back =
       let to = h.part.to in
-      let sum = summed a (m (POINTER + 1)) (m TABLE) (m (TABLE + 1)) (4 * length front) at low high h.told.table_word.0 h.told.table_word.1 four h.told.table (omega (arith, length-append front (e ∷ back))) in
+      let sum = summed a (m (POINTER + 1)) (m TABLE) (m (TABLE + 1)) (4 * length front) at low high h.told.table_word.0 h.told.table_word.1 four
+          h.told.table (omega (arith, length-append front (e ∷ back))) in
       after f 2 fits search_part (search_in f.code block) 5 (view a x y n v i z c (SEARCH_AT + 0x22) (lo ∷ hi ∷ []) m text answers) _ _ (7 + (11 + (40 * k + 150))) refl
       (compare k go _ _ _ _ _ _ _ _ _ front e back at
       (record {
@@ -392,7 +448,10 @@ module _ (f : Setup) (fits : Fits f 2) (block : Holds block_part f.code) (lo hi 
         others = changes_put _ _ _ (POINTER + 1) _ refl (changes_put _ _ _ POINTER _ refl h.others);
       }) w size (sum.0, sum.1) sum.2 some few_front few_back)
 
-  quadruple : (k : ℕ) → Probe k → (x y : ℕ) (n v i z c : Bool) (m : ℕ → ℕ) (front : List Line) (e : Line) (back : List Line) (at : ℕ) → Range m (front ++ (e ∷ back)) at → IsWord m SCRATCH → m SCRATCH + 256 * m (SCRATCH + 1) ≡ length front → m (POINTER + 1) ≡ m (SCRATCH + 1) → 1 ≤ length front → length front ≤ 32 * pow2 k → suc (length back) ≤ 32 * pow2 k → Comes f (view (m SCRATCH) x y n v i z c (SEARCH_AT + 0x1C) (lo ∷ hi ∷ []) m text answers) (Searched lo hi m0 text answers r) [] (4 + (6 + (7 + (11 + (40 * k + 150)))))
+  quadruple : (k : ℕ) → Probe k → (x y : ℕ) (n v i z c : Bool) (m : ℕ → ℕ) (front : List Line) (e : Line) (back : List Line) (at : ℕ)
+      → Range m (front ++ (e ∷ back)) at → IsWord m SCRATCH → m SCRATCH + 256 * m (SCRATCH + 1) ≡ length front → m (POINTER + 1) ≡ m (SCRATCH + 1)
+      → 1 ≤ length front → length front ≤ 32 * pow2 k → suc (length back) ≤ 32 * pow2 k
+      → Comes f (view (m SCRATCH) x y n v i z c (SEARCH_AT + 0x1C) (lo ∷ hi ∷ []) m text answers) (Searched lo hi m0 text answers r) [] (4 + (6 + (7 + (11 + (40 * k + 150)))))
   quadruple k go x y n v i z c m front e back at h w size copy some few_front few_back =
       let to = h.part.to in
       let total = length-append front (e ∷ back) in
@@ -406,18 +465,24 @@ module _ (f : Setup) (fits : Fits f 2) (block : Holds block_part f.code) (lo hi 
         others = changes_put _ _ _ (POINTER + 1) _ refl (changes_put _ _ _ (POINTER + 1) _ refl h.others);
       }) w size four.0 four.1 four.2 some few_front few_back)
 
-  split : (k : ℕ) → Probe k → (x y : ℕ) (n v i z c : Bool) (m : ℕ → ℕ) (es : List Line) (at half : ℕ) → Range m es at → IsWord m SCRATCH → m SCRATCH + 256 * m (SCRATCH + 1) ≡ half → m (POINTER + 1) ≡ m (SCRATCH + 1) → half ≡ length es / 2 → 1 ≤ half → length es ≤ 32 * (pow2 k + pow2 k) → Comes f (view (m SCRATCH) x y n v i z c (SEARCH_AT + 0x1C) (lo ∷ hi ∷ []) m text answers) (Searched lo hi m0 text answers r) [] (4 + (6 + (7 + (11 + (40 * k + 150)))))
+  split : (k : ℕ) → Probe k → (x y : ℕ) (n v i z c : Bool) (m : ℕ → ℕ) (es : List Line) (at half : ℕ) → Range m es at → IsWord m SCRATCH
+      → m SCRATCH + 256 * m (SCRATCH + 1) ≡ half → m (POINTER + 1) ≡ m (SCRATCH + 1) → half ≡ length es / 2 → 1 ≤ half
+      → length es ≤ 32 * (pow2 k + pow2 k) → Comes f (view (m SCRATCH) x y n v i z c (SEARCH_AT + 0x1C) (lo ∷ hi ∷ []) m text answers)
+      (Searched lo hi m0 text answers r) [] (4 + (6 + (7 + (11 + (40 * k + 150)))))
   split k go x y n v i z c m es at half h w size copy middle some few =
       let part = cut es half (omega arith) in
       let length_front = part.size in
       let total : length es ≡ length part.front + suc (length part.back) = ap length part.whole ∙ length-append part.front (part.here ∷ part.back) in
-      quadruple k go x y n v i z c m part.front part.here part.back at (subst (λ l. Range m l at) part.whole h) w (size ∙ sym length_front) copy (omega arith) (omega (arith, few)) (omega (arith, few, total))
+      quadruple k go x y n v i z c m part.front part.here part.back at (subst (λ l. Range m l at) part.whole h) w (size ∙ sym length_front) copy
+          (omega arith) (omega (arith, few)) (omega (arith, few, total))
 
   -- SCRATCH
   abbrev halves : (ℕ → ℕ) → ℕ → ℕ
   halves m = with_byte (with_byte (with_byte m (SCRATCH + 1) (m (COUNT + 1) / 2)) (POINTER + 1) (m (COUNT + 1) / 2)) SCRATCH (m COUNT / 2 + 128 * bit (eqb (m (COUNT + 1) / 1 % 2) 1))
 
-  wide : (k : ℕ) → Probe k → (a x y : ℕ) (n v i z c : Bool) (m : ℕ → ℕ) (es : List Line) (at : ℕ) → Range m es at → 64 ≤ length es → length es ≤ 32 * (pow2 k + pow2 k) → Comes f (view a x y n v i z c (SEARCH_AT + 0x0C) (lo ∷ hi ∷ []) m text answers) (Searched lo hi m0 text answers r) [] (7 + (4 + (6 + (7 + (11 + (40 * k + 150))))))
+  wide : (k : ℕ) → Probe k → (a x y : ℕ) (n v i z c : Bool) (m : ℕ → ℕ) (es : List Line) (at : ℕ) → Range m es at → 64 ≤ length es
+      → length es ≤ 32 * (pow2 k + pow2 k) → Comes f (view a x y n v i z c (SEARCH_AT + 0x0C) (lo ∷ hi ∷ []) m text answers)
+      (Searched lo hi m0 text answers r) [] (7 + (4 + (6 + (7 + (11 + (40 * k + 150))))))
   wide k go a x y n v i z c m es at h many few =
       let half = halved (m COUNT) (m (COUNT + 1)) h.told.size_word.0 h.told.size_word.1 in
       let size = h.told.size in
@@ -431,7 +496,9 @@ module _ (f : Setup) (fits : Fits f 2) (block : Holds block_part f.code) (lo hi 
       }) (omega (arith, half, small.0, small.1), omega (arith, small.1)) (half ∙ ap (λ n. n / 2) size) refl refl (omega (arith, many)) few)
 
   -- to the wide search
-  many : (N : ℕ) → (a x y : ℕ) (n v i z c : Bool) (m : ℕ → ℕ) (es : List Line) (at : ℕ) → Range m es at → 64 ≤ length es → ((a x y : ℕ) (n v i z c : Bool) → Comes f (view a x y n v i z c (SEARCH_AT + 0x0C) (lo ∷ hi ∷ []) m text answers) (Searched lo hi m0 text answers r) [] N) → Comes f (view a x y n v i z c SEARCH_AT (lo ∷ hi ∷ []) m text answers) (Searched lo hi m0 text answers r) [] (5 + N)
+  many : (N : ℕ) → (a x y : ℕ) (n v i z c : Bool) (m : ℕ → ℕ) (es : List Line) (at : ℕ) → Range m es at → 64 ≤ length es
+      → ((a x y : ℕ) (n v i z c : Bool) → Comes f (view a x y n v i z c (SEARCH_AT + 0x0C) (lo ∷ hi ∷ []) m text answers)
+      (Searched lo hi m0 text answers r) [] N) → Comes f (view a x y n v i z c SEARCH_AT (lo ∷ hi ∷ []) m text answers) (Searched lo hi m0 text answers r) [] (5 + N)
   many N a x y n v i z c m es at h some next =
       let size = h.told.size in
       ⊎_elim
@@ -460,7 +527,10 @@ module _ (f : Setup) (fits : Fits f 2) (block : Holds block_part f.code) (lo hi 
       (λ a x y n v i z c. wide k (probes k) a x y n v i z c m es at h large most)))
       (cases_lt (length es) 64)
 
-  whole : (a x y : ℕ) (n v i z c : Bool) (es : List Line) → IsWord m0 TABLE → IsWord m0 COUNT → Bytes f.code (word_in m0 TABLE) (table_bytes es) → 0x0800 ≤ word_in m0 TABLE → word_in m0 TABLE + 4 * length es ≤ 0xa000 → word_in m0 COUNT ≡ length es → 1 ≤ length es → AreRising (numbers_in es) → AllWords es → address_of (word_in m0 WANTED) es ≡ r → Comes f (view a x y n v i z c SEARCH_AT (lo ∷ hi ∷ []) m0 text answers) (Searched lo hi m0 text answers r) [] 510
+  whole : (a x y : ℕ) (n v i z c : Bool) (es : List Line) → IsWord m0 TABLE → IsWord m0 COUNT → Bytes f.code (word_in m0 TABLE) (table_bytes es)
+      → 0x0800 ≤ word_in m0 TABLE → word_in m0 TABLE + 4 * length es ≤ 0xa000 → word_in m0 COUNT ≡ length es → 1 ≤ length es
+      → AreRising (numbers_in es) → AllWords es → address_of (word_in m0 WANTED) es ≡ r
+      → Comes f (view a x y n v i z c SEARCH_AT (lo ∷ hi ∷ []) m0 text answers) (Searched lo hi m0 text answers r) [] 510
   unfolding Probe
   whole a x y n v i z c es table size shown from to count some rising words same =
       probes 9 a x y n v i z c m0 es (word_in m0 TABLE)
@@ -474,4 +544,5 @@ pub search_law : SearchLaw
 search_law f fits block lo hi text answers m a x y n v i z c number table lines wanted at count shown from to some rising words =
     let place = value m TABLE table at in
     whole f fits block lo hi text answers m (bytes_of m WANTED number wanted) (address_of number lines) a x y n v i z c lines (bytes_of m TABLE table at) (bytes_of m COUNT (length lines) count)
-    (subst (λ p. Bytes f.code p (table_bytes lines)) (sym place) shown) (omega (arith, place, from)) (omega (arith, place, to)) (value m COUNT (length lines) count) some rising words (ap (λ n. address_of n lines) (value m WANTED number wanted))
+    (subst (λ p. Bytes f.code p (table_bytes lines)) (sym place) shown) (omega (arith, place, from)) (omega (arith, place, to))
+        (value m COUNT (length lines) count) some rising words (ap (λ n. address_of n lines) (value m WANTED number wanted))

@@ -23,7 +23,9 @@ column_on c b e = ap (λ t. if t then 0 else c + 1) (ne_eqb b 13 e)
 
 module _ (f : Setup) (fits : Fits f 2) (block : Holds block_part f.code) (lo hi : ℕ) (text answers : List ℕ) (m0 : ℕ → ℕ) where
   -- INC COLUMN, JMP CHROUT
-  count : (a x y : ℕ) (n v i z c : Bool) (m : ℕ → ℕ) → (m COLUMN + 1) % 256 ≡ column_after (m0 COLUMN) (a ∷ []) % 256 → ((a : ℕ) → a ≢ COLUMN → m a ≡ m0 a) → Comes f (view a x y n v i z c (SEND_AT + 0x9) (lo ∷ hi ∷ []) m text answers) (Back lo hi text answers (Sent nowhere m0 (a ∷ []))) (a ∷ []) 3
+  count : (a x y : ℕ) (n v i z c : Bool) (m : ℕ → ℕ) → (m COLUMN + 1) % 256 ≡ column_after (m0 COLUMN) (a ∷ []) % 256
+      → ((a : ℕ) → a ≢ COLUMN → m a ≡ m0 a) → Comes f (view a x y n v i z c (SEND_AT + 0x9) (lo ∷ hi ∷ []) m text answers)
+      (Back lo hi text answers (Sent nowhere m0 (a ∷ []))) (a ∷ []) 3
   count a x y n v i z c m e r =
       after f 2 fits send_part (send_in f.code block) 1 (view a x y n v i z c (SEND_AT + 0x9) (lo ∷ hi ∷ []) m text answers) _ _ 1 refl
       (served_last f 2 fits Chrout _ _ _ _ _ refl refl refl refl (λ j. leaves_now refl (record { column = e; others = λ a s p. put_other m COLUMN _ a p ∙ r a p })))

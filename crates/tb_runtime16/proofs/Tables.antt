@@ -1,5 +1,6 @@
 -- Parts of a table.
-use Rattle.std.proofs.Common.{◌≡◌, ◌≢◌, ℕ, zero, suc, ◌+◌, ◌*◌, ◌/◌, ◌%◌, ◌<◌, ◌≤◌, List, [], ◌∷◌, ◌++◌, length, refl, ap, ◌∙◌, subst, arith, if◌then◌else◌, eqb, Some, None}
+use Rattle.std.proofs.Common.{◌≡◌, ◌≢◌, ℕ, zero, suc, ◌+◌, ◌*◌, ◌/◌, ◌%◌, ◌<◌, ◌≤◌, List, [], ◌∷◌, ◌++◌}
+use Rattle.std.proofs.Common.{length, refl, ap, ◌∙◌, subst, arith, if◌then◌else◌, eqb, Some, None}
 use Rattle.std.proofs.lemmas.Bool.{ne_eqb}
 use Rattle.tb_reaching.specs.View.{Part, Bytes}
 use Rattle.tb_runtime16.specs.Search.{Line, table_bytes, IsBelowAll, AreRising, numbers_in, AllWords, address_of}
@@ -21,7 +22,8 @@ cut (e ∷ es) (suc h) l =
 
 -- ---- the bytes
 -- the bytes of a table's first entry
-pub entry_bytes : (code : Part) (at : ℕ) (e : Line) (es : List Line) → at + 4 ≤ 0xa000 → Bytes code at (table_bytes (e ∷ es)) → (code at ≡ Some (e.0 % 256)) × (code (at + 1) ≡ Some (e.0 / 256)) × (code (at + 2) ≡ Some (e.1 % 256)) × (code (at + 3) ≡ Some (e.1 / 256))
+pub entry_bytes : (code : Part) (at : ℕ) (e : Line) (es : List Line) → at + 4 ≤ 0xa000 → Bytes code at (table_bytes (e ∷ es))
+    → (code at ≡ Some (e.0 % 256)) × (code (at + 1) ≡ Some (e.0 / 256)) × (code (at + 2) ≡ Some (e.1 % 256)) × (code (at + 3) ≡ Some (e.1 / 256))
 entry_bytes code at e es r h = (
   h.0,
   ap code (let p : at + 1 ≡ (at + 1) % 65536 = omega (arith, r) in p) ∙ h.1.0,

@@ -1,5 +1,6 @@
 -- Text.
-use Rattle.std.proofs.Common.{◌≡◌, ◌≢◌, ℕ, suc, ◌+◌, ◌*◌, ◌%◌, ◌<◌, ◌≤◌, Bool, true, false, List, [], ◌∷◌, length, refl, ap, ◌∙◌, subst, ⊎_elim, arith, eqb}
+use Rattle.std.proofs.Common.{◌≡◌, ◌≢◌, ℕ, suc, ◌+◌, ◌*◌, ◌%◌, ◌<◌, ◌≤◌, Bool, true, false, List, [], ◌∷◌, length}
+use Rattle.std.proofs.Common.{refl, ap, ◌∙◌, subst, ⊎_elim, arith, eqb}
 use Rattle.std.specs.Prelude.{Ok}
 use Rattle.std.proofs.lemmas.Bool.{ne_eqb, eq-eqb, cases_eq}
 use Rattle.tb_memmap.specs.Bytes.{with_byte}
@@ -39,25 +40,31 @@ module _ (f : Setup) (fits : Fits f 4) (block : Holds block_part f.code) (lo hi 
     column : column_after (m COLUMN) bytes % 256 ≡ column_after (m0 COLUMN) all % 256
     column_small : m0 COLUMN < 256 → m COLUMN < 256
 
-  put_pointer : (m : ℕ → ℕ) (b : ℕ) → ((a : ℕ) → a ≢ COLUMN → a ≢ POINTER → a ≢ POINTER + 1 → a ≢ LENGTH → m a ≡ m0 a) → (a : ℕ) → a ≢ COLUMN → a ≢ POINTER → a ≢ POINTER + 1 → a ≢ LENGTH → with_byte m POINTER b a ≡ m0 a
+  put_pointer : (m : ℕ → ℕ) (b : ℕ) → ((a : ℕ) → a ≢ COLUMN → a ≢ POINTER → a ≢ POINTER + 1 → a ≢ LENGTH → m a ≡ m0 a) → (a : ℕ) → a ≢ COLUMN
+      → a ≢ POINTER → a ≢ POINTER + 1 → a ≢ LENGTH → with_byte m POINTER b a ≡ m0 a
   put_pointer m b h a p q r s = put_other m POINTER b a q ∙ h a p q r s
 
-  put_high : (m : ℕ → ℕ) (b : ℕ) → ((a : ℕ) → a ≢ COLUMN → a ≢ POINTER → a ≢ POINTER + 1 → a ≢ LENGTH → m a ≡ m0 a) → (a : ℕ) → a ≢ COLUMN → a ≢ POINTER → a ≢ POINTER + 1 → a ≢ LENGTH → with_byte m (POINTER + 1) b a ≡ m0 a
+  put_high : (m : ℕ → ℕ) (b : ℕ) → ((a : ℕ) → a ≢ COLUMN → a ≢ POINTER → a ≢ POINTER + 1 → a ≢ LENGTH → m a ≡ m0 a) → (a : ℕ) → a ≢ COLUMN
+      → a ≢ POINTER → a ≢ POINTER + 1 → a ≢ LENGTH → with_byte m (POINTER + 1) b a ≡ m0 a
   put_high m b h a p q r s = put_other m (POINTER + 1) b a r ∙ h a p q r s
 
-  put_length : (m : ℕ → ℕ) (b : ℕ) → ((a : ℕ) → a ≢ COLUMN → a ≢ POINTER → a ≢ POINTER + 1 → a ≢ LENGTH → m a ≡ m0 a) → (a : ℕ) → a ≢ COLUMN → a ≢ POINTER → a ≢ POINTER + 1 → a ≢ LENGTH → with_byte m LENGTH b a ≡ m0 a
+  put_length : (m : ℕ → ℕ) (b : ℕ) → ((a : ℕ) → a ≢ COLUMN → a ≢ POINTER → a ≢ POINTER + 1 → a ≢ LENGTH → m a ≡ m0 a) → (a : ℕ) → a ≢ COLUMN
+      → a ≢ POINTER → a ≢ POINTER + 1 → a ≢ LENGTH → with_byte m LENGTH b a ≡ m0 a
   put_length m b h a p q r s = put_other m LENGTH b a s ∙ h a p q r s
 
-  last : (a x y : ℕ) (n v i z c : Bool) (m : ℕ → ℕ) → Told m0 all m → Comes f (view a x y n v i z c (TEXT_AT + 23) (lo ∷ hi ∷ []) m text answers) (Back lo hi text answers (Told m0 all)) [] 1
+  last : (a x y : ℕ) (n v i z c : Bool) (m : ℕ → ℕ) → Told m0 all m → Comes f (view a x y n v i z c (TEXT_AT + 23) (lo ∷ hi ∷ []) m text answers)
+      (Back lo hi text answers (Told m0 all)) [] 1
   last a x y n v i z c m h = ending f 4 fits text_part (text_in f.code block) 0 (view a x y n v i z c (TEXT_AT + 23) (lo ∷ hi ∷ []) m text answers) _ refl
       (leaves_now refl h)
 
   Loop : List ℕ → Type 0
-  Loop bs = (a x y : ℕ) (n v i z c : Bool) (m : ℕ → ℕ) (b at : ℕ) → Still m at (b ∷ bs) → m LENGTH ≡ suc (length bs) → Comes f (view a x y n v i z c (TEXT_AT + 5) (lo ∷ hi ∷ []) m text answers) (Back lo hi text answers (Told m0 all)) (b ∷ bs) (15 * length bs + 16)
+  Loop bs = (a x y : ℕ) (n v i z c : Bool) (m : ℕ → ℕ) (b at : ℕ) → Still m at (b ∷ bs) → m LENGTH ≡ suc (length bs)
+      → Comes f (view a x y n v i z c (TEXT_AT + 5) (lo ∷ hi ∷ []) m text answers) (Back lo hi text answers (Told m0 all)) (b ∷ bs) (15 * length bs + 16)
 
   -- DEC LENGTH, and on
   Count : List ℕ → Type 0
-  Count bs = (a x y : ℕ) (n v i z c : Bool) (m : ℕ → ℕ) (at : ℕ) → Still m at bs → m LENGTH ≡ suc (length bs) → Comes f (view a x y n v i z c (TEXT_AT + 18) (lo ∷ hi ∷ []) m text answers) (Back lo hi text answers (Told m0 all)) bs (15 * length bs + 3)
+  Count bs = (a x y : ℕ) (n v i z c : Bool) (m : ℕ → ℕ) (at : ℕ) → Still m at bs → m LENGTH ≡ suc (length bs)
+      → Comes f (view a x y n v i z c (TEXT_AT + 18) (lo ∷ hi ∷ []) m text answers) (Back lo hi text answers (Told m0 all)) bs (15 * length bs + 3)
 
   count_none : Count []
   unfolding Count
@@ -74,11 +81,14 @@ module _ (f : Setup) (fits : Fits f 4) (block : Holds block_part f.code) (lo hi 
       looser f _ _ _ (b ∷ bs) (2 + (15 * length bs + 16)) (15 * length (b ∷ bs) + 3) (omega arith) (λ w h. h)
       (after f 4 fits text_part (text_in f.code block) 1 (view a x y n v i z c (TEXT_AT + 18) (lo ∷ hi ∷ []) m text answers) _ _ (15 * length bs + 16) refl
       (rw more (go _ _ _ _ _ _ _ _ _ b at
-      (record { word_is = h.word_is; low = h.low; high = h.high; shown = h.shown; from = h.from; to = h.to; few = h.few; small = h.small; others = put_length m _ h.others; column = h.column; column_small = h.column_small })
+      (record { word_is = h.word_is; low = h.low; high = h.high; shown = h.shown; from = h.from; to = h.to; few = h.few; small = h.small;
+          others = put_length m _ h.others; column = h.column; column_small = h.column_small })
       less)))
 
   -- the pointer goes up; the byte before it was sent
-  next_byte : (bs : List ℕ) → Count bs → (a x y : ℕ) (n v i z c : Bool) (m w : ℕ → ℕ) (b at : ℕ) → Still m at (b ∷ bs) → Sent nowhere m (b ∷ []) w → m LENGTH ≡ suc (length bs) → Comes f (view a x y n v i z c (TEXT_AT + 12) (lo ∷ hi ∷ []) w text answers) (Back lo hi text answers (Told m0 all)) bs (3 + (15 * length bs + 3))
+  next_byte : (bs : List ℕ) → Count bs → (a x y : ℕ) (n v i z c : Bool) (m w : ℕ → ℕ) (b at : ℕ) → Still m at (b ∷ bs) → Sent nowhere m (b ∷ []) w
+      → m LENGTH ≡ suc (length bs) → Comes f (view a x y n v i z c (TEXT_AT + 12) (lo ∷ hi ∷ []) w text answers)
+      (Back lo hi text answers (Told m0 all)) bs (3 + (15 * length bs + 3))
   unfolding Count
   next_byte bs go a x y n v i z c m w b at h k e =
       let low : w POINTER ≡ m POINTER = k.others POINTER refl (λ e. omega (arith, e)) in
@@ -95,20 +105,24 @@ module _ (f : Setup) (fits : Fits f 4) (block : Holds block_part f.code) (lo hi 
       (λ over. let t : eqb ((w POINTER + 1) % 256) 0 ≡ true = eq-eqb _ _ over in
       looser f _ _ _ bs (2 + (1 + (15 * length bs + 3))) (3 + (15 * length bs + 3)) (omega arith) (λ w h. h)
       (after f 4 fits text_part (text_in f.code block) 1 (view a x y n v i z c (TEXT_AT + 12) (lo ∷ hi ∷ []) w text answers) _ _ (1 + (15 * length bs + 3)) refl
-      (rw t (after f 4 fits text_part (text_in f.code block) 0 (view _ _ _ _ _ _ _ _ (TEXT_AT + 16) (lo ∷ hi ∷ []) (with_byte w POINTER ((w POINTER + 1) % 256)) text answers) _ _ (15 * length bs + 3) refl
+      (rw t (after f 4 fits text_part (text_in f.code block) 0 (view _ _ _ _ _ _ _ _ (TEXT_AT + 16) (lo ∷ hi ∷ [])
+          (with_byte w POINTER ((w POINTER + 1) % 256)) text answers) _ _ (15 * length bs + 3) refl
       (go _ _ _ _ _ _ _ _ _ (at + 1)
-      (record { word_is = omega arith; low = omega arith; high = omega arith; shown = shown; from = omega (arith, h.from); to = omega (arith, h.to); few = omega (arith, h.few); small = h.small.1; others = put_high _ _ (put_pointer w _ others); column = column; column_small = λ p. omega (arith, k.column) })
+      (record { word_is = omega arith; low = omega arith; high = omega arith; shown = shown; from = omega (arith, h.from); to = omega (arith, h.to);
+          few = omega (arith, h.few); small = h.small.1; others = put_high _ _ (put_pointer w _ others); column = column; column_small = λ p. omega (arith, k.column) })
       length_is)))))
       (λ under. let t : eqb ((w POINTER + 1) % 256) 0 ≡ false = ne_eqb _ _ under in
       looser f _ _ _ bs (2 + (15 * length bs + 3)) (3 + (15 * length bs + 3)) (omega arith) (λ w h. h)
       (after f 4 fits text_part (text_in f.code block) 1 (view a x y n v i z c (TEXT_AT + 12) (lo ∷ hi ∷ []) w text answers) _ _ (15 * length bs + 3) refl
       (rw t (go _ _ _ _ _ _ _ _ _ (at + 1)
-      (record { word_is = omega arith; low = omega arith; high = omega arith; shown = shown; from = omega (arith, h.from); to = omega (arith, h.to); few = omega (arith, h.few); small = h.small.1; others = put_pointer w _ others; column = column; column_small = λ p. omega (arith, k.column) })
+      (record { word_is = omega arith; low = omega arith; high = omega arith; shown = shown; from = omega (arith, h.from); to = omega (arith, h.to);
+          few = omega (arith, h.few); small = h.small.1; others = put_pointer w _ others; column = column; column_small = λ p. omega (arith, k.column) })
       length_is))))
       (cases_eq ((w POINTER + 1) % 256) 0)
 
   -- JSR SEND with the byte in A
-  send_a : (bs : List ℕ) → Count bs → (x y : ℕ) (n v i z c : Bool) (m : ℕ → ℕ) (b at : ℕ) → Still m at (b ∷ bs) → m LENGTH ≡ suc (length bs) → Comes f (view b x y n v i z c (TEXT_AT + 9) (lo ∷ hi ∷ []) m text answers) (Back lo hi text answers (Told m0 all)) (b ∷ bs) (1 + (7 + (3 + (15 * length bs + 3))))
+  send_a : (bs : List ℕ) → Count bs → (x y : ℕ) (n v i z c : Bool) (m : ℕ → ℕ) (b at : ℕ) → Still m at (b ∷ bs) → m LENGTH ≡ suc (length bs)
+      → Comes f (view b x y n v i z c (TEXT_AT + 9) (lo ∷ hi ∷ []) m text answers) (Back lo hi text answers (Told m0 all)) (b ∷ bs) (1 + (7 + (3 + (15 * length bs + 3))))
   send_a bs go x y n v i z c m b at h e =
       after f 4 fits text_part (text_in f.code block) 0 (view b x y n v i z c (TEXT_AT + 9) (lo ∷ hi ∷ []) m text answers) _ _ (7 + (3 + (15 * length bs + 3))) refl
       (calls f (lo ∷ hi ∷ []) _ _ _ _ _ _ _ _ _ _ _ m text answers (Sent nowhere m (b ∷ [])) _ (b ∷ []) bs 7 (3 + (15 * length bs + 3))
@@ -131,7 +145,8 @@ module _ (f : Setup) (fits : Fits f 4) (block : Holds block_part f.code) (lo hi 
   counts [] = count_none
   counts (b ∷ bs) = count_more b bs (send bs (counts bs))
 
-  whole : (a x y : ℕ) (n v i z c : Bool) (m : ℕ → ℕ) (bytes : List ℕ) (at : ℕ) → Still m at bytes → m LENGTH ≡ length bytes → Comes f (view a x y n v i z c TEXT_AT (lo ∷ hi ∷ []) m text answers) (Back lo hi text answers (Told m0 all)) bytes (15 * length bytes + 3)
+  whole : (a x y : ℕ) (n v i z c : Bool) (m : ℕ → ℕ) (bytes : List ℕ) (at : ℕ) → Still m at bytes → m LENGTH ≡ length bytes
+      → Comes f (view a x y n v i z c TEXT_AT (lo ∷ hi ∷ []) m text answers) (Back lo hi text answers (Told m0 all)) bytes (15 * length bytes + 3)
   unfolding Loop
   whole a x y n v i z c m [] at h e =
       let none : eqb (m LENGTH) 0 ≡ true = eq-eqb _ _ e in
@@ -147,4 +162,5 @@ module _ (f : Setup) (fits : Fits f 4) (block : Holds block_part f.code) (lo hi 
 pub text_law : TextLaw
 text_law f fits block lo hi text answers m a x y n v i z c at bytes p =
     let small = bytes_of m POINTER at p.pointer in
-    whole f fits block lo hi text answers m bytes a x y n v i z c m bytes at (record { word_is = value m POINTER at p.pointer; low = small.0; high = small.1; shown = p.shown; from = p.from; to = p.to; few = p.few; small = p.bytes_small; others = λ a p q r s. refl; column = refl; column_small = λ p. p }) p.count
+    whole f fits block lo hi text answers m bytes a x y n v i z c m bytes at (record { word_is = value m POINTER at p.pointer; low = small.0;
+        high = small.1; shown = p.shown; from = p.from; to = p.to; few = p.few; small = p.bytes_small; others = λ a p q r s. refl; column = refl; column_small = λ p. p }) p.count

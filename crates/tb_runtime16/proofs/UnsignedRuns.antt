@@ -13,7 +13,8 @@ use Rattle.tb_runtime16.proofs.Within.{divide_part, divide_in}
 use Rattle.tb_runtime16.proofs.WideRuns.{wide}
 use Rattle.tb_runtime16.proofs.NarrowRuns.{narrow}
 
-module _ (f : Setup) (fits : Fits f 2) (block : Holds block_part f.code) (lo hi : ℕ) (text answers : List ℕ) (m : ℕ → ℕ) (p : IsWord m LEFT) (q : IsWord m RIGHT) (some : 1 ≤ word_in m RIGHT) (most : word_in m RIGHT ≤ 32768) where
+module _ (f : Setup) (fits : Fits f 2) (block : Holds block_part f.code) (lo hi : ℕ) (text answers : List ℕ) (m : ℕ → ℕ) (p : IsWord m LEFT)
+    (q : IsWord m RIGHT) (some : 1 ≤ word_in m RIGHT) (most : word_in m RIGHT ≤ 32768) where
   abbrev Goal : View → ℕ → Type 0
   Goal v n = Comes f v (Back lo hi text answers (Parted m (word_in m LEFT / word_in m RIGHT) (word_in m LEFT % word_in m RIGHT))) [] n
 

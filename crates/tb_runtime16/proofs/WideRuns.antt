@@ -1,5 +1,6 @@
 -- Division without signs by sixteen rounds, inside Divide.
-use Rattle.std.proofs.Common.{◌≡◌, ℕ, zero, suc, ◌+◌, ◌-◌, ◌*◌, ◌/◌, ◌%◌, ◌<◌, ◌≤◌, Bool, true, false, List, [], ◌∷◌, refl, sym, ap, ◌∙◌, subst, ⊎_elim, arith, eqb}
+use Rattle.std.proofs.Common.{◌≡◌, ℕ, zero, suc, ◌+◌, ◌-◌, ◌*◌, ◌/◌, ◌%◌, ◌<◌, ◌≤◌, Bool, true, false, List, []}
+use Rattle.std.proofs.Common.{◌∷◌, refl, sym, ap, ◌∙◌, subst, ⊎_elim, arith, eqb}
 use Rattle.std.proofs.lemmas.Bool.{ne_eqb, eq-eqb, cases_lt}
 use Rattle.std.proofs.lemmas.Nat.{div-mul-add}
 use Rattle.std.proofs.Math.Nat.{mul-add-mod_self_right, mod-eq_of_lt}
@@ -24,10 +25,12 @@ pub double_one : (a b : ℕ) → (a + a + 1) * b ≡ a * b + a * b + b
 double_one a b = grind arith
 
 -- rest, dividend and quotient of a turn
-sum_less : (l r q d p n l' r' : ℕ) → l < 65536 → l' ≡ 2 * l % 65536 → r' ≡ 2 * r + l / 32768 → r * 65536 + l + q * d * 65536 ≡ p * n + q → r' * 65536 + l' + (q + q) * d * 65536 ≡ (p + p) * n + (q + q)
+sum_less : (l r q d p n l' r' : ℕ) → l < 65536 → l' ≡ 2 * l % 65536 → r' ≡ 2 * r + l / 32768 → r * 65536 + l + q * d * 65536 ≡ p * n + q
+    → r' * 65536 + l' + (q + q) * d * 65536 ≡ (p + p) * n + (q + q)
 sum_less l r q d p n l' r' small e e' h = omega (arith, double q d, double p n)
 
-sum_more : (l r q d p n l' r' : ℕ) → l < 65536 → l' ≡ 2 * l % 65536 + 1 → r' + d ≡ 2 * r + l / 32768 → r * 65536 + l + q * d * 65536 ≡ p * n + q → r' * 65536 + l' + (q + q + 1) * d * 65536 ≡ (p + p) * n + (q + q + 1)
+sum_more : (l r q d p n l' r' : ℕ) → l < 65536 → l' ≡ 2 * l % 65536 + 1 → r' + d ≡ 2 * r + l / 32768 → r * 65536 + l + q * d * 65536 ≡ p * n + q
+    → r' * 65536 + l' + (q + q + 1) * d * 65536 ≡ (p + p) * n + (q + q + 1)
 sum_more l r q d p n l' r' small e e' h = omega (arith, double_one q d, double p n)
 
 -- a word goes up from an even one
@@ -62,10 +65,12 @@ module _ (f : Setup) (fits : Fits f 2) (block : Holds block_part f.code) (lo hi 
   Goal v n = Comes f v (Back lo hi text answers (Parted m0 (word_in m0 LEFT / word_in m0 RIGHT) (word_in m0 LEFT % word_in m0 RIGHT))) [] n
 
   Less : ℕ → Type 0
-  Less k = (a x y : ℕ) (n v i z c : Bool) (m : ℕ → ℕ) (j q : ℕ) → Held j q m → y ≡ suc k → j + k ≡ 16 → Goal (view a x y n v i z c (DIVIDE_AT + 135) (lo ∷ hi ∷ []) m text answers) (16 * k + 3)
+  Less k = (a x y : ℕ) (n v i z c : Bool) (m : ℕ → ℕ) (j q : ℕ) → Held j q m → y ≡ suc k → j + k ≡ 16
+      → Goal (view a x y n v i z c (DIVIDE_AT + 135) (lo ∷ hi ∷ []) m text answers) (16 * k + 3)
 
   Next : ℕ → Type 0
-  Next k = (a x y : ℕ) (n v i z c : Bool) (m : ℕ → ℕ) (j q : ℕ) → Held j q m → y ≡ suc k → suc j + k ≡ 16 → Goal (view a x y n v i z c (DIVIDE_AT + 103) (lo ∷ hi ∷ []) m text answers) (16 * k + 17)
+  Next k = (a x y : ℕ) (n v i z c : Bool) (m : ℕ → ℕ) (j q : ℕ) → Held j q m → y ≡ suc k → suc j + k ≡ 16
+      → Goal (view a x y n v i z c (DIVIDE_AT + 103) (lo ∷ hi ∷ []) m text answers) (16 * k + 17)
 
   parted : (m : ℕ → ℕ) (q : ℕ) → Held 16 q m → Parted m0 (word_in m0 LEFT / word_in m0 RIGHT) (word_in m0 LEFT % word_in m0 RIGHT) m
   parted m q h =
@@ -103,7 +108,9 @@ module _ (f : Setup) (fits : Fits f 2) (block : Holds block_part f.code) (lo hi 
       (rw more (go _ _ _ _ _ _ _ _ m j q h less (omega (arith, s)))))
 
   -- the divisor goes into the rest: X, A and 1
-  keep : (k : ℕ) → Less k → (a x y : ℕ) (n v i z c : Bool) (m : ℕ → ℕ) (j q : ℕ) → Held j q (with_byte (with_byte (with_byte m RESULT x) (RESULT + 1) a) LEFT ((m LEFT + 1) % 256)) → y ≡ suc k → j + k ≡ 16 → Goal (view a x y n v i z c (DIVIDE_AT + 127) (lo ∷ hi ∷ []) m text answers) (3 + (16 * k + 3))
+  keep : (k : ℕ) → Less k → (a x y : ℕ) (n v i z c : Bool) (m : ℕ → ℕ) (j q : ℕ)
+      → Held j q (with_byte (with_byte (with_byte m RESULT x) (RESULT + 1) a) LEFT ((m LEFT + 1) % 256)) → y ≡ suc k → j + k ≡ 16
+      → Goal (view a x y n v i z c (DIVIDE_AT + 127) (lo ∷ hi ∷ []) m text answers) (3 + (16 * k + 3))
   unfolding Less
   keep k go a x y n v i z c m j q h e s =
       after f 2 fits divide_part (divide_in f.code block) 2 (view a x y n v i z c (DIVIDE_AT + 127) (lo ∷ hi ∷ []) m text answers) _ _ (16 * k + 3) refl
@@ -118,7 +125,8 @@ module _ (f : Setup) (fits : Fits f 2) (block : Holds block_part f.code) (lo hi 
       let r1 = 2 * m (RESULT + 1) % 256 + bit (eqb (m RESULT / 128 % 2) 1) in
       let top = carried (m LEFT) (m (LEFT + 1)) h.left.0 h.left.1 in
       let left = doubled (m LEFT) (m (LEFT + 1)) h.left.0 h.left.1 in
-      let rest : r0 + 256 * r1 ≡ 2 * word_in m RESULT + word_in m LEFT / 32768 = omega (arith, top, h.left, h.less, most, doubled_in (m RESULT) (m (RESULT + 1)) (bit (eqb (m (LEFT + 1) / 128 % 2) 1)) h.rest.0 h.rest.1 (omega (arith, top, h.left))) in
+      let rest : r0 + 256 * r1 ≡ 2 * word_in m RESULT + word_in m LEFT / 32768 = omega (arith, top, h.left, h.less, most,
+          doubled_in (m RESULT) (m (RESULT + 1)) (bit (eqb (m (LEFT + 1) / 128 % 2) 1)) h.rest.0 h.rest.1 (omega (arith, top, h.left))) in
       let small0 : r0 < 256 = omega (arith, top, h.left) in
       let small1 : r1 < 256 = omega (arith, rest, h.left, h.less, most) in
       let right : IsWord m RIGHT = (omega (arith, h.low, d), omega (arith, h.high, d)) in
@@ -143,7 +151,8 @@ module _ (f : Setup) (fits : Fits f 2) (block : Holds block_part f.code) (lo hi 
         sum = sum_less (word_in m LEFT) (word_in m RESULT) q (word_in m0 RIGHT) (pow2 j) (word_in m0 LEFT) (l0 + 256 * l1) (r0 + 256 * r1) few left rest h.sum;
       }) e s))))
       (λ more. let t = compared r0 r1 (m RIGHT) (m (RIGHT + 1)) small0 small1 right.0 right.1 more in
-      let rest' = taken_from (r0 + 256 * r1) (word_in m0 RIGHT) _ wide (subst (λ d. d ≤ r0 + 256 * r1) same more) (subtracted r0 r1 (m RIGHT) (m (RIGHT + 1)) small0 small1 right.0 right.1 ∙ ap (λ d. (r0 + 256 * r1 + (65536 - d)) % 65536) same) in
+      let rest' = taken_from (r0 + 256 * r1) (word_in m0 RIGHT) _ wide (subst (λ d. d ≤ r0 + 256 * r1) same more)
+          (subtracted r0 r1 (m RIGHT) (m (RIGHT + 1)) small0 small1 right.0 right.1 ∙ ap (λ d. (r0 + 256 * r1 + (65536 - d)) % 65536) same) in
       looser f _ _ _ [] (11 + (3 + (16 * k + 3))) (16 * k + 17) (omega arith) (λ w h. h)
       (after f 2 fits divide_part (divide_in f.code block) 10 (view a x y n v i z c (DIVIDE_AT + 103) (lo ∷ hi ∷ []) m text answers) _ _ (3 + (16 * k + 3)) refl
       (rw t (keep k go _ _ _ _ _ _ _ _ _ (suc j) (q + q + 1)
@@ -152,7 +161,9 @@ module _ (f : Setup) (fits : Fits f 2) (block : Holds block_part f.code) (lo hi 
         rest = (small_byte _, small_byte _);
         low = h.low;
         high = h.high;
-        others = frame_put _ _ LEFT _ refl (frame_put _ _ (RESULT + 1) _ refl (frame_put _ _ RESULT _ refl (frame_put _ _ (RESULT + 1) _ refl (frame_put _ _ RESULT _ refl (frame_put _ _ (LEFT + 1) _ refl (frame_put _ _ LEFT _ refl h.others))))));
+        others = frame_put _ _ LEFT _ refl
+            (frame_put _ _ (RESULT + 1) _ refl
+            (frame_put _ _ RESULT _ refl (frame_put _ _ (RESULT + 1) _ refl (frame_put _ _ RESULT _ refl (frame_put _ _ (LEFT + 1) _ refl (frame_put _ _ LEFT _ refl h.others))))));
         less = rest_small _ (word_in m0 RIGHT) (word_in m RESULT) (word_in m LEFT) (rest' ∙ rest) h.less few;
         few = few_more q (pow2 j) h.few;
         sum = sum_more (word_in m LEFT) (word_in m RESULT) q (word_in m0 RIGHT) (pow2 j) (word_in m0 LEFT) _ _ few (up l0 l1 (word_in m LEFT) small2 small3 left) (rest' ∙ rest) h.sum;
@@ -169,5 +180,6 @@ module _ (f : Setup) (fits : Fits f 2) (block : Holds block_part f.code) (lo hi 
       looser f _ _ _ [] (4 + 257) 261 (omega arith) (λ w h. h)
       (after f 2 fits divide_part (divide_in f.code block) 3 (view a x y n v i z c (DIVIDE_AT + 93) (lo ∷ hi ∷ []) m0 text answers) _ _ 257 refl
       (turn 15 (lesses 15) _ _ _ _ _ _ _ _ _ 0 0
-      (record { left = p; rest = (omega arith, omega arith); low = refl; high = refl; others = frame_put _ _ (RESULT + 1) _ refl (frame_put _ _ RESULT _ refl (λ a e. refl)); less = omega (arith, some); few = omega arith; sum = omega arith })
+      (record { left = p; rest = (omega arith, omega arith); low = refl; high = refl; others = frame_put _ _ (RESULT + 1) _ refl
+          (frame_put _ _ RESULT _ refl (λ a e. refl)); less = omega (arith, some); few = omega arith; sum = omega arith })
       refl refl))

@@ -3,7 +3,9 @@ use Rattle.std.proofs.Common.{ℕ, List, ◌++◌}
 use Rattle.tb_reaching.specs.View.{Part, Holds, part_at}
 use Rattle.tb_reaching.proofs.Parts.{holds_itself, holds_then, part_front, part_back}
 use Rattle.tb_runtime16.specs.Places.{PROLOGUE_AT, SEND_AT, MULTIPLY_AT, DIVIDE_AT, RANDOM_AT, NUMBER_AT, TEXT_AT, ZONE_AT, INPUT_AT, SEARCH_AT, PUSH_AT, POP_AT, FAULT_LINE_AT, FAULT_AT, POLL_AT}
-use Rattle.tb_runtime16.specs.declared.code.TheConstants.{PROLOGUE_BYTES, SEND_BYTES, MULTIPLY_BYTES, DIVIDE_BYTES, RANDOM_BYTES, NUMBER_BYTES, TEXT_BYTES, ZONE_BYTES, INPUT_BYTES, SEARCH_BYTES, PUSH_BYTES, POP_BYTES, FAULT_LINE_BYTES, FAULT_BYTES, POLL_BYTES}
+use Rattle.tb_runtime16.specs.declared.code.TheConstants.{PROLOGUE_BYTES, SEND_BYTES, MULTIPLY_BYTES, DIVIDE_BYTES, RANDOM_BYTES, NUMBER_BYTES, TEXT_BYTES}
+use Rattle.tb_runtime16.specs.declared.code.TheConstants.{ZONE_BYTES, INPUT_BYTES, SEARCH_BYTES, PUSH_BYTES, POP_BYTES, FAULT_LINE_BYTES, FAULT_BYTES}
+use Rattle.tb_runtime16.specs.declared.code.TheConstants.{POLL_BYTES}
 use Rattle.tb_runtime16.specs.Block.{block_part}
 
 -- ---- the routines' bytes at their addresses, each by itself, so that a run looks a byte up among few
@@ -143,13 +145,15 @@ from_poll = holds_then (part_at POLL_AT poll_on) (part_at FAULT_AT fault_on) blo
 
 -- ---- where the block stands, each routine stands
 pub prologue_in : (code : Part) → Holds block_part code → Holds prologue_part code
-prologue_in code block = holds_then prologue_part block_part code (holds_then prologue_part (part_at PROLOGUE_AT prologue_on) block_part (part_front PROLOGUE_AT PROLOGUE_BYTES send_on) from_prologue) block
+prologue_in code block = holds_then prologue_part block_part code (holds_then prologue_part (part_at PROLOGUE_AT prologue_on) block_part
+    (part_front PROLOGUE_AT PROLOGUE_BYTES send_on) from_prologue) block
 
 pub send_in : (code : Part) → Holds block_part code → Holds send_part code
 send_in code block = holds_then send_part block_part code (holds_then send_part (part_at SEND_AT send_on) block_part (part_front SEND_AT SEND_BYTES multiply_on) from_send) block
 
 pub multiply_in : (code : Part) → Holds block_part code → Holds multiply_part code
-multiply_in code block = holds_then multiply_part block_part code (holds_then multiply_part (part_at MULTIPLY_AT multiply_on) block_part (part_front MULTIPLY_AT MULTIPLY_BYTES divide_on) from_multiply) block
+multiply_in code block = holds_then multiply_part block_part code (holds_then multiply_part (part_at MULTIPLY_AT multiply_on) block_part
+    (part_front MULTIPLY_AT MULTIPLY_BYTES divide_on) from_multiply) block
 
 pub divide_in : (code : Part) → Holds block_part code → Holds divide_part code
 divide_in code block = holds_then divide_part block_part code (holds_then divide_part (part_at DIVIDE_AT divide_on) block_part (part_front DIVIDE_AT DIVIDE_BYTES random_on) from_divide) block
@@ -173,7 +177,8 @@ pub search_in : (code : Part) → Holds block_part code → Holds search_part co
 search_in code block = holds_then search_part block_part code (holds_then search_part (part_at SEARCH_AT search_on) block_part (part_front SEARCH_AT SEARCH_BYTES push_on) from_search) block
 
 pub fault_line_in : (code : Part) → Holds block_part code → Holds fault_line_part code
-fault_line_in code block = holds_then fault_line_part block_part code (holds_then fault_line_part (part_at FAULT_LINE_AT fault_line_on) block_part (part_front FAULT_LINE_AT FAULT_LINE_BYTES fault_on) from_fault_line) block
+fault_line_in code block = holds_then fault_line_part block_part code (holds_then fault_line_part (part_at FAULT_LINE_AT fault_line_on) block_part
+    (part_front FAULT_LINE_AT FAULT_LINE_BYTES fault_on) from_fault_line) block
 
 pub fault_in : (code : Part) → Holds block_part code → Holds fault_part code
 fault_in code block = holds_then fault_part block_part code (holds_then fault_part (part_at FAULT_AT fault_on) block_part (part_front FAULT_AT FAULT_BYTES poll_on) from_fault) block

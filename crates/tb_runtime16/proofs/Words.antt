@@ -1,5 +1,6 @@
 -- Words in two bytes, as the processor's definitions come to them.
-use Rattle.std.proofs.Common.{◌≡◌, ℕ, ◌+◌, ◌-◌, ◌*◌, ◌/◌, ◌%◌, ◌<◌, ◌≤◌, Bool, true, false, not, if◌then◌else◌, refl, sym, ap, ◌∙◌, ⊎_elim, arith, eqb, mul_assoc, mul_comm}
+use Rattle.std.proofs.Common.{◌≡◌, ℕ, ◌+◌, ◌-◌, ◌*◌, ◌/◌, ◌%◌, ◌<◌, ◌≤◌, Bool, true, false, not, if◌then◌else◌}
+use Rattle.std.proofs.Common.{refl, sym, ap, ◌∙◌, ⊎_elim, arith, eqb, mul_assoc, mul_comm}
 use Rattle.std.proofs.lemmas.Bool.{cases_eq, cases_lt, eq-eqb, ne_eqb, le-leb, lt-leb, leb-true}
 use Rattle.std.proofs.lemmas.Nat.{mul-mod_first}
 use Rattle.std.proofs.Math.Nat.{add-mod-mod, mod-add-mod, div-le_self}
@@ -59,7 +60,8 @@ pub turn_double : (r p q : ℕ) → (r + 2 * p % 65536 * q) % 65536 ≡ (r + 2 *
 turn_double r p q = sym (add-mod-mod r (2 * p % 65536 * q) 65536) ∙ ap (λ x. (r + x) % 65536) (mul-mod_first (2 * p) q 65536) ∙ add-mod-mod r (2 * p * q) 65536
 
 -- ---- SEC, SBC, SBC
-pub subtracted : (l h k j : ℕ) → l < 256 → h < 256 → k < 256 → j < 256 → (l + 256 - (k + 0)) % 256 + 256 * ((h + 256 - (j + bit (not (nat_le (k + 0) l)))) % 256) ≡ (l + 256 * h + (65536 - (k + 256 * j))) % 65536
+pub subtracted : (l h k j : ℕ) → l < 256 → h < 256 → k < 256 → j < 256 → (l + 256 - (k + 0)) % 256
+    + 256 * ((h + 256 - (j + bit (not (nat_le (k + 0) l)))) % 256) ≡ (l + 256 * h + (65536 - (k + 256 * j))) % 65536
 subtracted l h k j p q r s = omega (arith, borrow (k + 0) l (omega arith) p)
 
 pub compared : (l h k j : ℕ) → l < 256 → h < 256 → k < 256 → j < 256 → k + 256 * j ≤ l + 256 * h → nat_le (j + bit (not (nat_le (k + 0) l))) h ≡ true
@@ -75,7 +77,8 @@ taken_from_zero k j r s = subtracted 0 0 k j (omega arith) (omega arith) r s ∙
 -- ---- signs
 -- the sign of a word is its high byte's
 pub sign_of : (l h : ℕ) → l < 256 → h < 256 → eqb (h / 128 % 2) 1 ≡ is_negative (l + 256 * h)
-sign_of l h p q = ⊎_elim (λ e. ne_eqb (h / 128 % 2) 1 (λ x. omega arith) ∙ sym (lt-leb 32768 (l + 256 * h) (omega arith))) (λ e. eq-eqb (h / 128 % 2) 1 (omega arith) ∙ sym (le-leb 32768 (l + 256 * h) (omega arith))) (cases_lt h 128)
+sign_of l h p q = ⊎_elim (λ e. ne_eqb (h / 128 % 2) 1 (λ x. omega arith) ∙ sym (lt-leb 32768 (l + 256 * h) (omega arith)))
+    (λ e. eq-eqb (h / 128 % 2) 1 (omega arith) ∙ sym (le-leb 32768 (l + 256 * h) (omega arith))) (cases_lt h 128)
 
 pub magnitude_negative : (w : ℕ) → is_negative w ≡ true → magnitude w ≡ 65536 - w
 magnitude_negative w e = ap (λ b. if b then 65536 - w else w) e
@@ -99,14 +102,17 @@ quotient_positive n d e = ap (λ b. with_sign (differ b (is_negative d)) ((if b 
 pub quotient_negative : (n d : ℕ) → n < 65536 → is_negative n ≡ true → quotient n d ≡ with_sign (not (is_negative d)) (negated n / magnitude d)
 quotient_negative n d p e =
     let h = sign_small n e in
-    ap (λ b. with_sign (differ b (is_negative d)) ((if b then 65536 - n else n) / magnitude d)) e ∙ ap (λ x. with_sign (not (is_negative d)) (x / magnitude d)) (let t : 65536 - n ≡ negated n = omega (arith, h) in t)
+    ap (λ b. with_sign (differ b (is_negative d)) ((if b then 65536 - n else n) / magnitude d)) e
+        ∙ ap (λ x. with_sign (not (is_negative d)) (x / magnitude d)) (let t : 65536 - n ≡ negated n = omega (arith, h) in t)
 
 -- a word that is read as negative, turned round
 pub negated_size : (d : ℕ) → d < 65536 → is_negative d ≡ true → negated d ≡ magnitude d
 negated_size d p e = let h = sign_small d e in let t : negated d ≡ 65536 - d = omega (arith, h, p) in t ∙ sym (magnitude_negative d e)
 
 pub with_sign_positive : (d n : ℕ) → n ≤ 32768 → is_negative d ≡ false → with_sign (is_negative d) (n / magnitude d) ≡ n / d
-with_sign_positive d n h e = ap (λ b. with_sign b (n / magnitude d)) e ∙ ap (λ x. word (n / x)) (magnitude_positive d e) ∙ (let s = div-le_self n d in let t : n / d % 65536 ≡ n / d = omega (arith, s) in t)
+with_sign_positive d n h e = ap (λ b. with_sign b (n / magnitude d)) e ∙ ap (λ x. word (n / x)) (magnitude_positive d e)
+    ∙ (let s = div-le_self n d in let t : n / d % 65536 ≡ n / d = omega (arith, s) in t)
 
 pub with_sign_negative : (d n : ℕ) → n ≤ 32768 → is_negative d ≡ true → with_sign (is_negative d) (n / magnitude d) ≡ negated (n / magnitude d)
-with_sign_negative d n h e = ap (λ b. with_sign b (n / magnitude d)) e ∙ (let s = div-le_self n (magnitude d) in ap negated (let t : n / magnitude d % 65536 ≡ n / magnitude d = omega (arith, s) in t))
+with_sign_negative d n h e = ap (λ b. with_sign b (n / magnitude d)) e ∙ (let s = div-le_self n (magnitude d) in
+    ap negated (let t : n / magnitude d % 65536 ≡ n / magnitude d = omega (arith, s) in t))

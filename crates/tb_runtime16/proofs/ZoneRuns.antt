@@ -20,11 +20,14 @@ low_bits c = and_numeral c 6 refl
 module _ (f : Setup) (fits : Fits f 4) (block : Holds block_part f.code) (lo hi : ℕ) (text answers : List ℕ) where
   -- the loop sends k + 1 spaces
   Loop : ℕ → Type 0
-  Loop k = (a x y : ℕ) (n v i z c : Bool) (m : ℕ → ℕ) → m COLUMN < 256 → m COLUMN % 8 + suc k ≡ 8 → Comes f (view a x y n v i z c ZONE_AT (lo ∷ hi ∷ []) m text answers) (Back lo hi text answers (Sent nowhere m (replicate (suc k) 32))) (replicate (suc k) 32) (12 * suc k + 1)
+  Loop k = (a x y : ℕ) (n v i z c : Bool) (m : ℕ → ℕ) → m COLUMN < 256 → m COLUMN % 8 + suc k ≡ 8
+      → Comes f (view a x y n v i z c ZONE_AT (lo ∷ hi ∷ []) m text answers) (Back lo hi text answers (Sent nowhere m (replicate (suc k) 32)))
+      (replicate (suc k) 32) (12 * suc k + 1)
 
   -- LDA COLUMN, AND #7, BNE, behind the space
   Test : ℕ → Type 0
-  Test k = (a x y : ℕ) (n v i z c : Bool) (m0 m : ℕ → ℕ) → Sent nowhere m0 (32 ∷ []) m → m0 COLUMN % 8 + suc k ≡ 8 → Comes f (view a x y n v i z c (ZONE_AT + 5) (lo ∷ hi ∷ []) m text answers) (Back lo hi text answers (Sent nowhere m0 (replicate (suc k) 32))) (replicate k 32) (12 * k + 4)
+  Test k = (a x y : ℕ) (n v i z c : Bool) (m0 m : ℕ → ℕ) → Sent nowhere m0 (32 ∷ []) m → m0 COLUMN % 8 + suc k ≡ 8
+      → Comes f (view a x y n v i z c (ZONE_AT + 5) (lo ∷ hi ∷ []) m text answers) (Back lo hi text answers (Sent nowhere m0 (replicate (suc k) 32))) (replicate k 32) (12 * k + 4)
 
   last : Test 0
   unfolding Test
@@ -42,7 +45,8 @@ module _ (f : Setup) (fits : Fits f 4) (block : Holds block_part f.code) (lo hi 
       looser f _ _ _ (replicate (suc k) 32) (3 + (12 * suc k + 1)) (12 * suc k + 4) (omega arith) (λ w h. h)
       (after f 4 fits zone_part (zone_in f.code block) 2 (view a x y n v i z c (ZONE_AT + 5) (lo ∷ hi ∷ []) m text answers) _ _ (12 * suc k + 1) refl
       (rw on (looser f _ _ _ (replicate (suc k) 32) (12 * suc k + 1) (12 * suc k + 1) (omega arith)
-      (λ w b. record { pc = b.pc; stack_is = b.stack_is; binary = b.binary; same_text = b.same_text; same_answers = b.same_answers; memory = sent_then nowhere m0 m w.mem (32 ∷ []) (replicate (suc k) 32) h b.memory })
+      (λ w b. record { pc = b.pc; stack_is = b.stack_is; binary = b.binary; same_text = b.same_text; same_answers = b.same_answers;
+          memory = sent_then nowhere m0 m w.mem (32 ∷ []) (replicate (suc k) 32) h b.memory })
       (go _ _ _ _ _ _ _ _ m (omega (arith, h.column)) (omega (arith, h.column, e))))))
 
   turn : (k : ℕ) → Test k → Loop k
@@ -58,7 +62,8 @@ module _ (f : Setup) (fits : Fits f 4) (block : Holds block_part f.code) (lo hi 
   loops zero = turn zero last
   loops (suc k) = turn (suc k) (more k (loops k))
 
-  whole : (a x y : ℕ) (n v i z c : Bool) (m : ℕ → ℕ) → m COLUMN < 256 → Comes f (view a x y n v i z c ZONE_AT (lo ∷ hi ∷ []) m text answers) (Back lo hi text answers (Sent nowhere m (replicate (8 - m COLUMN % 8) 32))) (replicate (8 - m COLUMN % 8) 32) 97
+  whole : (a x y : ℕ) (n v i z c : Bool) (m : ℕ → ℕ) → m COLUMN < 256 → Comes f (view a x y n v i z c ZONE_AT (lo ∷ hi ∷ []) m text answers)
+      (Back lo hi text answers (Sent nowhere m (replicate (8 - m COLUMN % 8) 32))) (replicate (8 - m COLUMN % 8) 32) 97
   unfolding Loop
   whole a x y n v i z c m small =
       let k = 7 - m COLUMN % 8 in

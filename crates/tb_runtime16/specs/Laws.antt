@@ -1,5 +1,6 @@
 -- What the routines promise, whatever the ROM does.
-use Rattle.std.specs.Prelude.{◌≡◌, ◌⊎◌, ◌≢◌, ℕ, ◌+◌, ◌*◌, ◌/◌, ◌%◌, ◌<◌, ◌≤◌, Bool, false, ◌||◌, ◌==◌, if◌then◌else◌, List, [], ◌∷◌, length}
+use Rattle.std.specs.Prelude.{◌≡◌, ◌⊎◌, ◌≢◌, ℕ, ◌+◌, ◌*◌, ◌/◌, ◌%◌, ◌<◌, ◌≤◌, Bool, false, ◌||◌, ◌==◌}
+use Rattle.std.specs.Prelude.{if◌then◌else◌, List, [], ◌∷◌, length}
 use Rattle.tb_opcodes.specs.Bytes.{AreBytes}
 use Rattle.tb_memmap.specs.Regions.{within}
 use Rattle.tb_reaching.specs.View.{View, Setup, Holds, Fits, Comes, view, back_at, Bytes}
@@ -91,7 +92,8 @@ pub record Told (m0 : ℕ → ℕ) (sent : List ℕ) (m : ℕ → ℕ) : Type 0 
 -- Text sends the bytes it is pointed to, in 15 Go events a byte and 3
 abbrev pub TextLaw : Type 0
 TextLaw =
-    (f : Setup) → Fits f 4 → Holds block_part f.code → (lo hi : ℕ) (text answers : List ℕ) (m : ℕ → ℕ) (a x y : ℕ) (n v i z c : Bool) (at : ℕ) (bytes : List ℕ) → Points f m at bytes →
+    (f : Setup) → Fits f 4 → Holds block_part f.code → (lo hi : ℕ) (text answers : List ℕ) (m : ℕ → ℕ) (a x y : ℕ) (n v i z c : Bool) (at : ℕ)
+        (bytes : List ℕ) → Points f m at bytes →
     Comes f (view a x y n v i z c TEXT_AT (lo ∷ hi ∷ []) m text answers) (Back lo hi text answers (Told m bytes)) bytes (15 * length bytes + 3)
 
 -- ---- Zone
@@ -107,7 +109,8 @@ ZoneLaw =
 -- Multiply gives the product modulo 65,536 within 245 Go events
 abbrev pub MultiplyLaw : Type 0
 MultiplyLaw =
-    (f : Setup) → Fits f 2 → Holds block_part f.code → (lo hi : ℕ) (text answers : List ℕ) (m : ℕ → ℕ) (a x y : ℕ) (n v i z c : Bool) (left right : ℕ) → WordAt m LEFT left → WordAt m RIGHT right →
+    (f : Setup) → Fits f 2 → Holds block_part f.code → (lo hi : ℕ) (text answers : List ℕ) (m : ℕ → ℕ) (a x y : ℕ) (n v i z c : Bool) (left right : ℕ)
+        → WordAt m LEFT left → WordAt m RIGHT right →
     Comes f (view a x y n v i z c MULTIPLY_AT (lo ∷ hi ∷ []) m text answers) (Back lo hi text answers (Gives is_argument m (word (left * right)))) [] 245
 
 -- ---- division without signs, inside Divide
@@ -125,7 +128,8 @@ pub record Parted (m0 : ℕ → ℕ) (q r : ℕ) (m : ℕ → ℕ) : Type 0 wher
 -- inside Divide: quotient and remainder of words without signs
 abbrev pub UnsignedLaw : Type 0
 UnsignedLaw =
-    (f : Setup) → Fits f 2 → Holds block_part f.code → (lo hi : ℕ) (text answers : List ℕ) (m : ℕ → ℕ) (a x y : ℕ) (n v i z c : Bool) (left right : ℕ) → WordAt m LEFT left → WordAt m RIGHT right → 1 ≤ right → right ≤ 32768 →
+    (f : Setup) → Fits f 2 → Holds block_part f.code → (lo hi : ℕ) (text answers : List ℕ) (m : ℕ → ℕ) (a x y : ℕ) (n v i z c : Bool) (left right : ℕ)
+        → WordAt m LEFT left → WordAt m RIGHT right → 1 ≤ right → right ≤ 32768 →
     Comes f (view a x y n v i z c unsigned_at (lo ∷ hi ∷ []) m text answers) (Back lo hi text answers (Parted m (left / right) (left % right))) [] 268
 
 -- ---- Divide
@@ -137,7 +141,8 @@ negate_left_at = DIVIDE_AT + 21
 -- Divide gives the quotient of signed words, truncated toward zero, and the remainder's size, within 316 Go events
 abbrev pub DivideLaw : Type 0
 DivideLaw =
-    (f : Setup) → Fits f 6 → Holds block_part f.code → (lo hi : ℕ) (text answers : List ℕ) (m : ℕ → ℕ) (a x y : ℕ) (n v i z c : Bool) (left right : ℕ) → WordAt m LEFT left → WordAt m RIGHT right → 1 ≤ right →
+    (f : Setup) → Fits f 6 → Holds block_part f.code → (lo hi : ℕ) (text answers : List ℕ) (m : ℕ → ℕ) (a x y : ℕ) (n v i z c : Bool) (left right : ℕ)
+        → WordAt m LEFT left → WordAt m RIGHT right → 1 ≤ right →
     Comes f (view a x y n v i z c DIVIDE_AT (lo ∷ hi ∷ []) m text answers) (Back lo hi text answers (Parts is_argument m (quotient left right) (magnitude left % magnitude right))) [] 316
 
 -- by 0, Divide comes to Fault with 2, with memory as it was
@@ -151,7 +156,8 @@ DivideByZeroLaw =
 -- Number sends the shortest decimal text of the signed word at LEFT
 abbrev pub NumberLaw : Type 0
 NumberLaw =
-    (f : Setup) → Fits f 6 → Holds block_part f.code → (lo hi : ℕ) (text answers : List ℕ) (m : ℕ → ℕ) (a x y : ℕ) (n v i z c : Bool) (number : ℕ) → WordAt m LEFT number → m COLUMN < 256 →
+    (f : Setup) → Fits f 6 → Holds block_part f.code → (lo hi : ℕ) (text answers : List ℕ) (m : ℕ → ℕ) (a x y : ℕ) (n v i z c : Bool) (number : ℕ)
+        → WordAt m LEFT number → m COLUMN < 256 →
     Comes f (view a x y n v i z c NUMBER_AT (lo ∷ hi ∷ []) m text answers) (Back lo hi text answers (Sent is_argument m (digits_of number))) (digits_of number) 458
 
 -- ---- Random
@@ -174,11 +180,13 @@ pub record Drawn (m0 : ℕ → ℕ) (bound seed : ℕ) (m : ℕ → ℕ) : Type 
 -- Random takes the next seed, and gives what the bound leaves of it
 abbrev pub RandomLaw : Type 0
 RandomLaw =
-    (f : Setup) → Fits f 6 → Holds block_part f.code → (lo hi : ℕ) (text answers : List ℕ) (m : ℕ → ℕ) (a x y : ℕ) (n v i z c : Bool) (bound option stored : ℕ) → WordAt m LEFT bound → WordAt m RIGHT option → WordAt m SEED stored → 1 ≤ bound → bound < 32768 →
+    (f : Setup) → Fits f 6 → Holds block_part f.code → (lo hi : ℕ) (text answers : List ℕ) (m : ℕ → ℕ) (a x y : ℕ) (n v i z c : Bool)
+        (bound option stored : ℕ) → WordAt m LEFT bound → WordAt m RIGHT option → WordAt m SEED stored → 1 ≤ bound → bound < 32768 →
     Comes f (view a x y n v i z c RANDOM_AT (lo ∷ hi ∷ []) m text answers) (Back lo hi text answers (Drawn m bound (seed_of m option stored))) [] 549
 
 -- for a bound below 1, Random comes to Fault with 3, with memory as it was
 abbrev pub RandomRangeLaw : Type 0
 RandomRangeLaw =
-    (f : Setup) → Fits f 2 → Holds block_part f.code → (lo hi : ℕ) (text answers : List ℕ) (m : ℕ → ℕ) (a x y : ℕ) (n v i z c : Bool) (bound : ℕ) → WordAt m LEFT bound → (bound ≡ 0) ⊎ (32768 ≤ bound) →
+    (f : Setup) → Fits f 2 → Holds block_part f.code → (lo hi : ℕ) (text answers : List ℕ) (m : ℕ → ℕ) (a x y : ℕ) (n v i z c : Bool) (bound : ℕ)
+        → WordAt m LEFT bound → (bound ≡ 0) ⊎ (32768 ≤ bound) →
     Comes f (view a x y n v i z c RANDOM_AT (lo ∷ hi ∷ []) m text answers) (Faults lo hi text answers 3 (λ w. w ≡ m)) [] 7

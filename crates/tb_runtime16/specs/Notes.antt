@@ -44,16 +44,21 @@ pub record Popped (m0 : ℕ → ℕ) (n : ℕ) (ns : List ℕ) (m : ℕ → ℕ)
 
 -- Push puts the word at LEFT on the return list
 abbrev pub PushLaw : Type 0
-PushLaw = (f : Setup) → Fits f 2 → Holds block_part f.code → (lo hi : ℕ) (text answers : List ℕ) (m : ℕ → ℕ) (a x y : ℕ) (n v i z c : Bool) (note : ℕ) (notes : List ℕ) → WordAt m LEFT note → Notes m notes → length notes < deepest → Comes f (view a x y n v i z c PUSH_AT (lo ∷ hi ∷ []) m text answers) (Back lo hi text answers (Pushed m (note ∷ notes))) [] 13
+PushLaw = (f : Setup) → Fits f 2 → Holds block_part f.code → (lo hi : ℕ) (text answers : List ℕ) (m : ℕ → ℕ) (a x y : ℕ) (n v i z c : Bool) (note : ℕ)
+    (notes : List ℕ) → WordAt m LEFT note → Notes m notes → length notes < deepest
+    → Comes f (view a x y n v i z c PUSH_AT (lo ∷ hi ∷ []) m text answers) (Back lo hi text answers (Pushed m (note ∷ notes))) [] 13
 
 -- 500 notes already
 abbrev pub PushFullLaw : Type 0
-PushFullLaw = (f : Setup) → Fits f 2 → Holds block_part f.code → (lo hi : ℕ) (text answers : List ℕ) (m : ℕ → ℕ) (a x y : ℕ) (n v i z c : Bool) (notes : List ℕ) → Notes m notes → length notes ≡ deepest → Comes f (view a x y n v i z c PUSH_AT (lo ∷ hi ∷ []) m text answers) (Faults lo hi text answers 4 (λ w. w ≡ m)) [] 7
+PushFullLaw = (f : Setup) → Fits f 2 → Holds block_part f.code → (lo hi : ℕ) (text answers : List ℕ) (m : ℕ → ℕ) (a x y : ℕ) (n v i z c : Bool)
+    (notes : List ℕ) → Notes m notes → length notes ≡ deepest → Comes f (view a x y n v i z c PUSH_AT (lo ∷ hi ∷ []) m text answers) (Faults lo hi text answers 4 (λ w. w ≡ m)) [] 7
 
 -- Pop takes the newest word from the return list
 abbrev pub PopLaw : Type 0
-PopLaw = (f : Setup) → Fits f 2 → Holds block_part f.code → (lo hi : ℕ) (text answers : List ℕ) (m : ℕ → ℕ) (a x y : ℕ) (n v i z c : Bool) (note : ℕ) (notes : List ℕ) → Notes m (note ∷ notes) → Comes f (view a x y n v i z c POP_AT (lo ∷ hi ∷ []) m text answers) (Back lo hi text answers (Popped m note notes)) [] 14
+PopLaw = (f : Setup) → Fits f 2 → Holds block_part f.code → (lo hi : ℕ) (text answers : List ℕ) (m : ℕ → ℕ) (a x y : ℕ) (n v i z c : Bool) (note : ℕ)
+    (notes : List ℕ) → Notes m (note ∷ notes) → Comes f (view a x y n v i z c POP_AT (lo ∷ hi ∷ []) m text answers) (Back lo hi text answers (Popped m note notes)) [] 14
 
 -- no note
 abbrev pub PopNoneLaw : Type 0
-PopNoneLaw = (f : Setup) → Fits f 2 → Holds block_part f.code → (lo hi : ℕ) (text answers : List ℕ) (m : ℕ → ℕ) (a x y : ℕ) (n v i z c : Bool) → Notes m [] → Comes f (view a x y n v i z c POP_AT (lo ∷ hi ∷ []) m text answers) (Faults lo hi text answers 5 (λ w. w ≡ m)) [] 6
+PopNoneLaw = (f : Setup) → Fits f 2 → Holds block_part f.code → (lo hi : ℕ) (text answers : List ℕ) (m : ℕ → ℕ) (a x y : ℕ) (n v i z c : Bool)
+    → Notes m [] → Comes f (view a x y n v i z c POP_AT (lo ∷ hi ∷ []) m text answers) (Faults lo hi text answers 5 (λ w. w ≡ m)) [] 6

@@ -1,7 +1,8 @@
 -- The public constants are the places that the definitions speak of.
 use Rattle.std.specs.Prelude.{◌≡◌}
 use Rattle.tb_runtime16.specs.declared.places.TheConstants as public
-use Rattle.tb_runtime16.specs.Places.{PROLOGUE_AT, LINES_AT, POINTER, VARS, COLUMN, OPEN, SEEDED, HOME_S, SEED, LINE, NOTES, SLOTS, HELD, LEFT, RIGHT, RESULT, TABLE, WANTED, COUNT, LENGTH, BYTE, SCRATCH, NOTE_LOW, NOTE_HIGH}
+use Rattle.tb_runtime16.specs.Places.{PROLOGUE_AT, LINES_AT, POINTER, VARS, COLUMN, OPEN, SEEDED, HOME_S, SEED, LINE, NOTES, SLOTS, HELD, LEFT, RIGHT, RESULT}
+use Rattle.tb_runtime16.specs.Places.{TABLE, WANTED, COUNT, LENGTH, BYTE, SCRATCH, NOTE_LOW, NOTE_HIGH}
 
 -- of the code
 abbrev pub CodeStands : Type 0
@@ -10,12 +11,14 @@ CodeStands = (public.BLOCK_AT ≡ PROLOGUE_AT) × (public.LINES_AT ≡ LINES_AT)
 -- what routines are given, and what they give
 abbrev pub ArgumentsStand : Type 0
 ArgumentsStand =
-    (public.POINTER ≡ POINTER) × (public.LENGTH ≡ LENGTH) × (public.LEFT ≡ LEFT) × (public.RIGHT ≡ RIGHT) × (public.RESULT ≡ RESULT) × (public.TABLE ≡ TABLE) × (public.WANTED ≡ WANTED) × (public.COUNT ≡ COUNT)
+    (public.POINTER ≡ POINTER) × (public.LENGTH ≡ LENGTH) × (public.LEFT ≡ LEFT) × (public.RIGHT ≡ RIGHT) × (public.RESULT ≡ RESULT)
+        × (public.TABLE ≡ TABLE) × (public.WANTED ≡ WANTED) × (public.COUNT ≡ COUNT)
 
 -- what stays between calls
 abbrev pub StateStands : Type 0
 StateStands =
-    (public.VARS ≡ VARS) × (public.COLUMN ≡ COLUMN) × (public.OPEN ≡ OPEN) × (public.SEEDED ≡ SEEDED) × (public.HOME_S ≡ HOME_S) × (public.SEED ≡ SEED) × (public.LINE ≡ LINE) × (public.NOTES ≡ NOTES) × (public.NOTE_LOW ≡ NOTE_LOW) × (public.NOTE_HIGH ≡ NOTE_HIGH)
+    (public.VARS ≡ VARS) × (public.COLUMN ≡ COLUMN) × (public.OPEN ≡ OPEN) × (public.SEEDED ≡ SEEDED) × (public.HOME_S ≡ HOME_S)
+        × (public.SEED ≡ SEED) × (public.LINE ≡ LINE) × (public.NOTES ≡ NOTES) × (public.NOTE_LOW ≡ NOTE_LOW) × (public.NOTE_HIGH ≡ NOTE_HIGH)
 
 -- what the lines' code and the routines work in
 abbrev pub WorkStands : Type 0

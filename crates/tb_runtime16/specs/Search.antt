@@ -51,4 +51,7 @@ Searched lo hi m text answers None w = Faults lo hi text answers 1 (Changes sear
 
 -- Search gives the address of the line with the number at WANTED, or comes to Fault with 1, within 510 Go events for every table
 abbrev pub SearchLaw : Type 0
-SearchLaw = (f : Setup) → Fits f 2 → Holds block_part f.code → (lo hi : ℕ) (text answers : List ℕ) (m : ℕ → ℕ) (a x y : ℕ) (n v i z c : Bool) (number table : ℕ) (lines : List Line) → WordAt m WANTED number → WordAt m TABLE table → WordAt m COUNT (length lines) → Bytes f.code table (table_bytes lines) → 0x0800 ≤ table → table + 4 * length lines ≤ 0xa000 → 1 ≤ length lines → AreRising (numbers_in lines) → AllWords lines → Comes f (view a x y n v i z c SEARCH_AT (lo ∷ hi ∷ []) m text answers) (Searched lo hi m text answers (address_of number lines)) [] 510
+SearchLaw = (f : Setup) → Fits f 2 → Holds block_part f.code → (lo hi : ℕ) (text answers : List ℕ) (m : ℕ → ℕ) (a x y : ℕ) (n v i z c : Bool)
+    (number table : ℕ) (lines : List Line) → WordAt m WANTED number → WordAt m TABLE table → WordAt m COUNT (length lines)
+    → Bytes f.code table (table_bytes lines) → 0x0800 ≤ table → table + 4 * length lines ≤ 0xa000 → 1 ≤ length lines → AreRising (numbers_in lines)
+    → AllWords lines → Comes f (view a x y n v i z c SEARCH_AT (lo ∷ hi ∷ []) m text answers) (Searched lo hi m text answers (address_of number lines)) [] 510

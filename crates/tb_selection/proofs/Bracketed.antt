@@ -5,9 +5,13 @@ use Rattle.std.proofs.lemmas.Bool.{and_parts, eqb-true}
 use Rattle.tb_words.specs.declared.Rel.{Rel}
 use Rattle.tb_syntax.specs.declared.expressions.Operator.{Operator}
 use Rattle.tb_lower.specs.Slots.{Instr, Put, Load, Store, Negate, Compute, Random, Hold, LeaveUnless, JumpTo}
-use Rattle.tb_selection.specs.Groups.{Operand, Constant, Variable, InSlot, Home, IntoVariable, Destination, IntoHome, Tested, HeldBefore, HeldNow, Conversion, Negated, Drawn, Usage, Group, Calculate, Stepped, Convert, Move, Use, Test, TestGo, Single, fetch, keep, slot_of, kept, held, convert, use_of, expand, expand_all}
+use Rattle.tb_selection.specs.Groups.{Operand, Constant, Variable, InSlot, Home, IntoVariable, Destination, IntoHome, Tested, HeldBefore, HeldNow, Conversion}
+use Rattle.tb_selection.specs.Groups.{Negated, Drawn, Usage, Group, Calculate, Stepped, Convert, Move, Use, Test, TestGo, Single, fetch, keep, slot_of, kept}
+use Rattle.tb_selection.specs.Groups.{held, convert, use_of, expand, expand_all}
 use Rattle.tb_selection.specs.Liveness.{live}
-use Rattle.tb_selection.specs.Select.{alone, provided, calculate_with, operands_with, convert_with, move_with, use_with, words_with, with_word, goes_on, calculated, converted, held_before, gone, merged, omits_only_dead, may_stand, three_as_one, four_as_one, allowed, instead, fused, tried, attach, select}
+use Rattle.tb_selection.specs.Select.{alone, provided, calculate_with, operands_with, convert_with, move_with, use_with, words_with, with_word, goes_on}
+use Rattle.tb_selection.specs.Select.{calculated, converted, held_before, gone, merged, omits_only_dead, may_stand, three_as_one, four_as_one, allowed, instead}
+use Rattle.tb_selection.specs.Select.{fused, tried, attach, select}
 use Rattle.tb_selection.proofs.SeveralAsOne.{IsFour, IsThree, four_is, three_is}
 
 -- an instruction alone is itself
@@ -34,7 +38,8 @@ at_slot true g is h = h refl
 at_slot false g is h = tt
 
 -- the same of the operands of a calculation that goes on by a constant
-at_operands : (is : List Instr) (op by : Operator) (w x : ℕ) (t : Bool) (a b : Operand) → (t ≡ true → expand (Stepped op a b by w x) ≡ is) → IsThis is (option_map (λ (words : Operand × Operand). Stepped op words.0 words.1 by w x) (if t then Some (a, b) else None))
+at_operands : (is : List Instr) (op by : Operator) (w x : ℕ) (t : Bool) (a b : Operand) → (t ≡ true → expand (Stepped op a b by w x) ≡ is)
+    → IsThis is (option_map (λ (words : Operand × Operand). Stepped op words.0 words.1 by w x) (if t then Some (a, b) else None))
 at_operands is op by w x true a b h = h refl
 at_operands is op by w x false a b h = tt
 
@@ -43,7 +48,8 @@ abbrev TestThis : Rel → (behind is : List Instr) → Option (Tested × Operand
 TestThis rel behind is None = Unit {0}
 TestThis rel behind is (Some words) = held words.0 ++ (fetch 0 words.1 ++ LeaveUnless rel ∷ behind) ≡ is
 
-at_zero : (rel : Rel) (behind is : List Instr) (t : Bool) (a : Tested) (b : Operand) → (t ≡ true → held a ++ (fetch 0 b ++ LeaveUnless rel ∷ behind) ≡ is) → TestThis rel behind is (if t then Some (a, b) else None)
+at_zero : (rel : Rel) (behind is : List Instr) (t : Bool) (a : Tested) (b : Operand) → (t ≡ true → held a ++ (fetch 0 b ++ LeaveUnless rel ∷ behind)
+    ≡ is) → TestThis rel behind is (if t then Some (a, b) else None)
 at_zero rel behind is true a b h = h refl
 at_zero rel behind is false a b h = tt
 
@@ -66,7 +72,8 @@ module _ (k : ℕ) (i : Instr) (l : Operand) (h : Fetches k i l) where
   calculate_is op InSlot (Variable y) d = at_slot (nat_eq k (slot_of d)) (Calculate op l (Variable y) d) _ (more (slot_of d) (Load (slot_of d + 1) y ∷ Compute op (slot_of d) ∷ kept d))
   calculate_is op _ b d = tt
 
-  stepped_is : (op : Operator) (a b : Operand) (by : Operator) (w x : ℕ) → IsThis (i ∷ expand (Stepped op a b by w x)) (option_map (λ words. Stepped op words.0 words.1 by w x) (operands_with k l a b))
+  stepped_is : (op : Operator) (a b : Operand) (by : Operator) (w x : ℕ) → IsThis (i ∷ expand (Stepped op a b by w x))
+      (option_map (λ words. Stepped op words.0 words.1 by w x) (operands_with k l a b))
   stepped_is op InSlot InSlot by w x = at_operands _ op by w x (nat_eq k 1) InSlot l (more 1 (Compute op 0 ∷ Put 1 w ∷ Compute by 0 ∷ Store x ∷ []))
   stepped_is op InSlot (Constant v) by w x = at_operands _ op by w x (nat_eq k 0) l (Constant v) (more 0 (Put 1 v ∷ Compute op 0 ∷ Put 1 w ∷ Compute by 0 ∷ Store x ∷ []))
   stepped_is op InSlot (Variable y) by w x = at_operands _ op by w x (nat_eq k 0) l (Variable y) (more 0 (Load 1 y ∷ Compute op 0 ∷ Put 1 w ∷ Compute by 0 ∷ Store x ∷ []))
@@ -86,7 +93,8 @@ module _ (k : ℕ) (i : Instr) (l : Operand) (h : Fetches k i l) where
 
   words_are : (rel : Rel) (behind : List Instr) (a : Tested) (b : Operand) → TestThis rel behind (i ∷ (held a ++ (fetch 0 b ++ LeaveUnless rel ∷ behind))) (words_with k l a b)
   words_are rel behind HeldBefore InSlot = at_zero rel behind _ (nat_eq k 0) HeldBefore l (more 0 (LeaveUnless rel ∷ behind))
-  words_are rel behind (HeldNow InSlot) b = at_zero rel behind _ (nat_eq k 0) (HeldNow l) b (λ e. append_assoc (fetch 0 l) (Hold ∷ []) (fetch 0 b ++ LeaveUnless rel ∷ behind) ∙ more 0 (Hold ∷ (fetch 0 b ++ LeaveUnless rel ∷ behind)) e)
+  words_are rel behind (HeldNow InSlot) b = at_zero rel behind _ (nat_eq k 0) (HeldNow l) b (λ e. append_assoc (fetch 0 l) (Hold ∷ [])
+      (fetch 0 b ++ LeaveUnless rel ∷ behind) ∙ more 0 (Hold ∷ (fetch 0 b ++ LeaveUnless rel ∷ behind)) e)
   words_are rel behind _ b = tt
 
   with_is : (g : Group) → IsThis (i ∷ expand g) (with_word k l g)
@@ -102,7 +110,8 @@ module _ (k : ℕ) (i : Instr) (l : Operand) (h : Fetches k i l) where
 calculated_is : (op : Operator) (k : ℕ) (g : Group) → IsThis (Compute op k ∷ expand g) (calculated op k g)
 calculated_is op k (Move InSlot home) = at_slot (nat_eq k 0) (Calculate op InSlot InSlot (IntoHome home)) _ (λ e. ap (λ j. Compute op j ∷ keep home ∷ []) (sym (eqb-true k 0 e)))
 calculated_is op k (Calculate by InSlot (Constant w) (IntoHome (IntoVariable x))) =
-    at_slot (nat_eq k 0 && goes_on by w) (Stepped op InSlot InSlot by w x) _ (λ e. ap (λ j. Compute op j ∷ Put 1 w ∷ Compute by 0 ∷ Store x ∷ []) (sym (eqb-true k 0 (and_parts (nat_eq k 0) (goes_on by w) e).0)))
+    at_slot (nat_eq k 0 && goes_on by w) (Stepped op InSlot InSlot by w x) _ (λ e. ap (λ j. Compute op j ∷ Put 1 w ∷ Compute by 0 ∷ Store x ∷ [])
+        (sym (eqb-true k 0 (and_parts (nat_eq k 0) (goes_on by w) e).0)))
 calculated_is op k _ = tt
 
 converted_is : (what : Conversion) (k : ℕ) (g : Group) → IsThis (convert what k ∷ expand g) (converted what k g)

@@ -1,5 +1,6 @@
 -- Nothing is live before a line's list: it reads no slot and not the held word before it writes them.
-use Rattle.std.proofs.Common.{◌≡◌, ℕ, ◌+◌, ◌≤◌, Bool, true, false, if◌then◌else◌, List, [], ◌∷◌, ◌++◌, refl, sym, ap, ◌∙◌, subst, append_assoc, arith, Option, Some, None, ⊎_elim}
+use Rattle.std.proofs.Common.{◌≡◌, ℕ, ◌+◌, ◌≤◌, Bool, true, false, if◌then◌else◌, List, [], ◌∷◌, ◌++◌, refl, sym, ap}
+use Rattle.std.proofs.Common.{◌∙◌, subst, append_assoc, arith, Option, Some, None, ⊎_elim}
 use Rattle.std.specs.Prelude.{nat_eq}
 use Rattle.std.proofs.lemmas.Bool.{eq-eqb, cases_eq}
 use Rattle.tb_syntax.specs.Source.{Expression, Number, Variable, Binary, Item, Text, Value, Zone, Statement, Let, Print, If, Goto, Gosub, Remark, Program}
@@ -110,7 +111,8 @@ is_nothing r b =
     let none : r.slots ≡ 0 = omega (arith, b.slots) in
     ap (λ k. record { slots = k; held = r.held }) none ∙ ap (λ h. record { slots = 0; held = h }) b.held
 
-closed_by : (t : Bool) (c : Statement) (o : Option (List Instr)) (is : List Instr) → (o ≡ Some is → live is ≡ nothing_live) → (if t then Some (list_code c) else o) ≡ Some is → live is ≡ nothing_live
+closed_by : (t : Bool) (c : Statement) (o : Option (List Instr)) (is : List Instr) → (o ≡ Some is → live is ≡ nothing_live)
+    → (if t then Some (list_code c) else o) ≡ Some is → live is ≡ nothing_live
 closed_by true c o is later e = ap live (sym (some_is _ _ e)) ∙ is_nothing (live (list_code c)) (statement_below c)
 closed_by false c o is later e = later e
 

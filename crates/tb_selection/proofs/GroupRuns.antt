@@ -5,7 +5,8 @@ use Rattle.tb_meaning.specs.Steps.{Step, Goes, Stops, and_then, after_sending, R
 use Rattle.tb_lower.specs.Slots.{Instr, Put, Store, Compute, LeaveUnless, JumpTo, SlotCode, Rest, Whole, Left, SlotState, slot_step, begins, beginnings}
 use Rattle.tb_meaning.proofs.Runs.{advance_sum, joined_after}
 use Rattle.tb_lower.proofs.Lists.{beginnings_sum}
-use Rattle.tb_selection.specs.Groups.{Operand, Constant, Variable, InSlot, HeldBefore, HeldNow, Group, Calculate, Stepped, Convert, Move, Use, Test, TestGo, OnLeft, OnRight, Divides, Remains, Single, fetch, keep, kept, convert, use_of, slot_of, expand}
+use Rattle.tb_selection.specs.Groups.{Operand, Constant, Variable, InSlot, HeldBefore, HeldNow, Group, Calculate, Stepped, Convert, Move, Use, Test, TestGo}
+use Rattle.tb_selection.specs.Groups.{OnLeft, OnRight, Divides, Remains, Single, fetch, keep, kept, convert, use_of, slot_of, expand}
 use Rattle.tb_selection.specs.Select.{select}
 use Rattle.tb_selection.specs.GroupSteps.{inside, steps, ahead, first, first_group, fallen, group_step, InsideRest, IsInside}
 use Rattle.tb_selection.specs.Laws.{Reached, Found}
@@ -79,7 +80,8 @@ module _ (code : SlotCode) where
       within (suc m) lt = h.within m (omega (arith, lt))
 
   -- a step and those behind it, by the ones behind it
-  on : (out : List ℕ) (f : SlotState → Step SlotState) (x : Step SlotState) → ((c : SlotState) (t : List ℕ) → InsideRest c.rest → Behind out (Goes c t) (after_sending t (f c))) → Behind out x (and_then x (λ c. inside f c.rest c))
+  on : (out : List ℕ) (f : SlotState → Step SlotState) (x : Step SlotState) → ((c : SlotState) (t : List ℕ) → InsideRest c.rest
+      → Behind out (Goes c t) (after_sending t (f c))) → Behind out x (and_then x (λ c. inside f c.rest c))
   on out f (Stops e t) next = record { more = 0; leads = refl; none_begins = refl; within = λ m lt. absurd (omega (arith, lt)) }
   on out f (Goes c t) next = by c.rest refl
     where
@@ -126,7 +128,8 @@ module _ (code : SlotCode) where
             more = h.more + 1;
             leads = advance_sum (slot_step code) h.more 1 r ∙ ap (advance (slot_step code)) h.leads ∙ sym (joined_after out t (slot_step code d));
             none_begins = omega (arith, sum, at, none, before);
-            within = λ m lt. ⊎_elim (λ less. h.within m less) (λ ge. let same : m ≡ h.more = omega (arith, lt, ge) in subst IsInside (sym (ap (λ k. advance_by (slot_step code) k r) same ∙ h.leads)) (subst InsideRest (sym e) tt)) (cases_lt m h.more);
+            within = λ m lt. ⊎_elim (λ less. h.within m less) (λ ge. let same : m ≡ h.more = omega (arith, lt, ge) in
+                subst IsInside (sym (ap (λ k. advance_by (slot_step code) k r) same ∙ h.leads)) (subst InsideRest (sym e) tt)) (cases_lt m h.more);
           }
 
   -- one group
@@ -168,13 +171,15 @@ module _ (code : SlotCode) where
       record { count = suc h.count; few = omega (arith, h.few); same = h.same; begun = ap (λ n. 0 + n) h.begun }
   found_within (suc fuel) (suc k) (GoesOn c o) le out = by (group_covers c o) (λ k' lt out'. found_within fuel k' (joined o (group_step code c)) (omega (arith, lt, le)) out')
     where
-      by : Covers c o (group_step code c) → ((k' : ℕ) → k' ≤ k → (IsInside (advance_by (slot_step code) k' (joined o (group_step code c))) → ⊥) → Found code k' (joined o (group_step code c))) → Found code (suc k) (GoesOn c o)
+      by : Covers c o (group_step code c) → ((k' : ℕ) → k' ≤ k → (IsInside (advance_by (slot_step code) k' (joined o (group_step code c))) → ⊥)
+          → Found code k' (joined o (group_step code c))) → Found code (suc k) (GoesOn c o)
       by g next = ⊎_elim (λ lt. absurd (out (g.within k lt))) (λ ge. far (k - g.more) (omega (arith, ge))) (cases_lt k g.more)
         where
           far : (k' : ℕ) → g.more + k' ≡ k → Found code (suc k) (GoesOn c o)
           far k' e =
               let r = advance (slot_step code) (GoesOn c o) in
-              let there : advance_by (slot_step code) k' (joined o (group_step code c)) ≡ advance_by (slot_step code) k r = ap (λ r. advance_by (slot_step code) k' r) (sym g.leads) ∙ sym (advance_sum (slot_step code) g.more k' r) ∙ ap (λ n. advance_by (slot_step code) n r) e in
+              let there : advance_by (slot_step code) k' (joined o (group_step code c)) ≡ advance_by (slot_step code) k r =
+                  ap (λ r. advance_by (slot_step code) k' r) (sym g.leads) ∙ sym (advance_sum (slot_step code) g.more k' r) ∙ ap (λ n. advance_by (slot_step code) n r) e in
               let h = next k' (omega (arith, e)) (λ i. out (subst IsInside there i)) in
               let sum = beginnings_sum code g.more k' r in
               let at = ap (λ r. beginnings code k' r) g.leads in

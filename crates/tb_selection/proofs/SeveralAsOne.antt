@@ -6,8 +6,10 @@ use Rattle.tb_words.specs.declared.Rel.{Rel}
 use Rattle.tb_words.specs.declared.Rel.TheVariants as rel
 use Rattle.tb_syntax.specs.declared.expressions.Operator.TheVariants as op
 use Rattle.tb_lower.specs.Slots.{Instr, Load}
-use Rattle.tb_selection.specs.Groups.{Operand, Constant, Variable, InSlot, IntoHeld, Destination, IntoSlot, HeldBefore, HeldNow, Divisibility, Divisible, Indivisible, OnLeft, OnRight, Group, Calculate, Move, Test, TestGo, Divides, Remains, Single, compared, expand, slot_of}
-use Rattle.tb_selection.specs.Select.{provided, quotient_in, factor_in, difference_in, loaded_in, held_in, asked, equality_in, against_in, same_operand, multiple_of, multiple_in, divides_left, divides_right, is_shifted, remains, or_else, three_as_one, four_as_one}
+use Rattle.tb_selection.specs.Groups.{Operand, Constant, Variable, InSlot, IntoHeld, Destination, IntoSlot, HeldBefore, HeldNow, Divisibility, Divisible}
+use Rattle.tb_selection.specs.Groups.{Indivisible, OnLeft, OnRight, Group, Calculate, Move, Test, TestGo, Divides, Remains, Single, compared, expand, slot_of}
+use Rattle.tb_selection.specs.Select.{provided, quotient_in, factor_in, difference_in, loaded_in, held_in, asked, equality_in, against_in, same_operand}
+use Rattle.tb_selection.specs.Select.{multiple_of, multiple_in, divides_left, divides_right, is_shifted, remains, or_else, three_as_one, four_as_one}
 
 -- a test of slot 0 with a variable, and one of the held word with slot 0
 abbrev test_of : Divisibility → ℕ → Option ℕ → Group
@@ -117,7 +119,8 @@ abbrev pub IsFour : Group → Group → Group → Group → Option Group → Typ
 IsFour a b c e None = Unit {0}
 IsFour a b c e (Some g) = (is : List Instr) → expand g ++ is ≡ expand a ++ (expand b ++ (expand c ++ (expand e ++ is)))
 
-left_expanded : (how : Divisibility) (x : ℕ) (d : Operand) (to : Option ℕ) (is : List Instr) → expand (Divides how x d OnLeft to) ++ is ≡ expand (Calculate op.Divide (Variable x) d (IntoSlot 0)) ++ (expand (Calculate op.Multiply InSlot d (IntoSlot 0)) ++ (expand (test_of how x to) ++ is))
+left_expanded : (how : Divisibility) (x : ℕ) (d : Operand) (to : Option ℕ) (is : List Instr) → expand (Divides how x d OnLeft to) ++ is
+    ≡ expand (Calculate op.Divide (Variable x) d (IntoSlot 0)) ++ (expand (Calculate op.Multiply InSlot d (IntoSlot 0)) ++ (expand (test_of how x to) ++ is))
 left_expanded how x (Constant w) None is = refl
 left_expanded how x (Constant w) (Some to) is = refl
 left_expanded how x (Variable y) None is = refl
@@ -125,7 +128,9 @@ left_expanded how x (Variable y) (Some to) is = refl
 left_expanded how x InSlot None is = refl
 left_expanded how x InSlot (Some to) is = refl
 
-right_expanded : (how : Divisibility) (x : ℕ) (d : Operand) (to : Option ℕ) (is : List Instr) → expand (Divides how x d OnRight to) ++ is ≡ expand (Move (Variable x) IntoHeld) ++ (expand (Calculate op.Divide (Variable x) d (IntoSlot 0)) ++ (expand (Calculate op.Multiply InSlot d (IntoSlot 0)) ++ (expand (against_of how to) ++ is)))
+right_expanded : (how : Divisibility) (x : ℕ) (d : Operand) (to : Option ℕ) (is : List Instr) → expand (Divides how x d OnRight to) ++ is
+    ≡ expand (Move (Variable x) IntoHeld) ++ (expand (Calculate op.Divide (Variable x) d (IntoSlot 0))
+    ++ (expand (Calculate op.Multiply InSlot d (IntoSlot 0)) ++ (expand (against_of how to) ++ is)))
 right_expanded how x (Constant w) None is = refl
 right_expanded how x (Constant w) (Some to) is = refl
 right_expanded how x (Variable y) None is = refl
@@ -133,7 +138,9 @@ right_expanded how x (Variable y) (Some to) is = refl
 right_expanded how x InSlot None is = refl
 right_expanded how x InSlot (Some to) is = refl
 
-rest_expanded : (x : ℕ) (d : Operand) (to : Destination) (is : List Instr) → expand (Remains x d to) ++ is ≡ expand (Single (Load (slot_of to) x)) ++ (expand (Calculate op.Divide (Variable x) d (IntoSlot (slot_of to + 1))) ++ (expand (Calculate op.Multiply InSlot d (IntoSlot (slot_of to + 1))) ++ (expand (Calculate op.Subtract InSlot InSlot to) ++ is)))
+rest_expanded : (x : ℕ) (d : Operand) (to : Destination) (is : List Instr) → expand (Remains x d to) ++ is ≡ expand (Single (Load (slot_of to) x))
+    ++ (expand (Calculate op.Divide (Variable x) d (IntoSlot (slot_of to + 1)))
+    ++ (expand (Calculate op.Multiply InSlot d (IntoSlot (slot_of to + 1))) ++ (expand (Calculate op.Subtract InSlot InSlot to) ++ is)))
 rest_expanded x (Constant w) to is = refl
 rest_expanded x (Variable y) to is = refl
 rest_expanded x InSlot to is = refl

@@ -81,8 +81,11 @@ module _ (a : Group) (groups : List Placed) where
       kept = front_is rest groups (third ∷ second ∷ []) (is ∙ ap (λ l. l ++ second ∷ []) some_is ∙ append_assoc rest (third ∷ []) (second ∷ []))
 
       -- one group for the first three
-      pub three_joined : (whole : Placed) (o : Option Group) → AreLive (in_order groups) → o ≡ three_as_one a b c → ◌≡◌ {A = Option Group} (Some (group_in whole)) (allowed o (groups_in (in_order rest))) → whole.behind ≡ third.behind → Shortens a groups (take (length rest) groups) whole
+      pub three_joined : (whole : Placed) (o : Option Group) → AreLive (in_order groups) → o ≡ three_as_one a b c
+          → ◌≡◌ {A = Option Group} (Some (group_in whole)) (allowed o (groups_in (in_order rest))) → whole.behind ≡ third.behind
+          → Shortens a groups (take (length rest) groups) whole
       three_joined whole o h q found same = record {
-        fuses = ap (λ l. fused a (groups_in l)) by_third ∙ fused_one a (group_in whole) b c (groups_in (in_order rest)) (ap (λ o. allowed o (groups_in (in_order rest))) (sym q) ∙ sym found) ∙ ap (λ ps. group_in whole ∷ groups_in (in_order ps)) (sym kept);
+        fuses = ap (λ l. fused a (groups_in l)) by_third ∙ fused_one a (group_in whole) b c (groups_in (in_order rest))
+            (ap (λ o. allowed o (groups_in (in_order rest))) (sym q) ∙ sym found) ∙ ap (λ ps. group_in whole ∷ groups_in (in_order ps)) (sym kept);
         live = subst (λ ps. AreLive (placed_of whole ∷ in_order ps)) (sym kept) (same ∙ (live_behind h).0, (live_behind h).1);
       }

@@ -6,7 +6,10 @@ use Rattle.tb_syntax.specs.declared.expressions.Operator.{Operator}
 use Rattle.tb_syntax.specs.declared.expressions.Operator.TheVariants.{Add as Sum, Divide as Quotient, Multiply as Product, Subtract as Difference}
 use Rattle.tb_lower.specs.Slots.{Instr, Put, Load, Store, Negate, Compute, Random, SendNumber, Hold, LeaveUnless, Jump, Call, JumpTo}
 use Rattle.tb_selection.specs.declared.liveness.Live.{Live}
-use Rattle.tb_selection.specs.Groups.{Operand, Constant, Variable, InSlot, Home, IntoVariable, IntoHeld, Destination, IntoSlot, IntoHome, Tested, HeldBefore, HeldNow, Conversion, Negated, Drawn, Usage, AsNumber, AsLine, AsSubroutine, Group, Calculate, Convert, Move, Use, Divisibility, Divisible, Indivisible, OnLeft, OnRight, Stepped, Test, TestGo, Divides, Remains, Single, slot_of, expand_all}
+use Rattle.tb_selection.specs.Groups.{Operand, Constant, Variable, InSlot, Home, IntoVariable, IntoHeld, Destination, IntoSlot, IntoHome, Tested, HeldBefore}
+use Rattle.tb_selection.specs.Groups.{HeldNow, Conversion, Negated, Drawn, Usage, AsNumber, AsLine, AsSubroutine, Group, Calculate, Convert, Move, Use}
+use Rattle.tb_selection.specs.Groups.{Divisibility, Divisible, Indivisible, OnLeft, OnRight, Stepped, Test, TestGo, Divides, Remains, Single, slot_of}
+use Rattle.tb_selection.specs.Groups.{expand_all}
 use Rattle.tb_selection.specs.Liveness.{live}
 
 -- an instruction as a group of its own

@@ -1,5 +1,6 @@
 -- Items that suit are refused neither by settling nor by the two passes behind it.
-use Rattle.std.proofs.Common.{◌≡◌, ℕ, ◌+◌, ◌/◌, ◌%◌, ◌<◌, ◌≤◌, Bool, true, false, not, ◌&&◌, ◌||◌, cond, List, [], ◌∷◌, ◌++◌, Option, Some, None, refl, sym, ap, ◌∙◌, subst, arith, true≢false, is_some, map, if◌then◌else◌}
+use Rattle.std.proofs.Common.{◌≡◌, ℕ, ◌+◌, ◌/◌, ◌%◌, ◌<◌, ◌≤◌, Bool, true, false, not, ◌&&◌, ◌||◌, cond, List, []}
+use Rattle.std.proofs.Common.{◌∷◌, ◌++◌, Option, Some, None, refl, sym, ap, ◌∙◌, subst, arith, true≢false, is_some, map, if◌then◌else◌}
 use Rattle.std.specs.Prelude.{eqb}
 use Rattle.std.specs.List.{list_all, list_any}
 use Rattle.std.specs.Option.{option_map}
@@ -14,7 +15,8 @@ use Rattle.tb_asm.specs.declared.items.Operand.{Operand}
 use Rattle.tb_asm.specs.declared.items.Operand.TheVariants.{Nothing, Byte, Word, Label, LowOf, HighOf}
 use Rattle.tb_asm.specs.declared.errors.AsmErrorKind.{AsmErrorKind}
 use Rattle.tb_asm.specs.declared.errors.AsmErrorKind.TheVariants.{NoSuchMode, UnknownLabel, LabelTwice, BranchOutOfRange, RunsPast, IndirectAtPageEnd, NoMemory}
-use Rattle.tb_asm.specs.Layout.{Entry, instr, label, bytes, word, size_of, size, has_mode, same_name, labels_from, address_in, value_in, distance, is_near, with_value, reach_fault, code_fault, first_fault, place_refusal, image_of}
+use Rattle.tb_asm.specs.Layout.{Entry, instr, label, bytes, word, size_of, size, has_mode, same_name, labels_from, address_in, value_in, distance, is_near}
+use Rattle.tb_asm.specs.Layout.{with_value, reach_fault, code_fault, first_fault, place_refusal, image_of}
 use Rattle.tb_asm.specs.Assembled.{refusal, either, RefusesAt}
 use Rattle.tb_asm.specs.Settle.{Form, kept, long, inverse, items_at, items_from, form_size, is_beyond, is_far, form_past, past_from, unknown_fault, early_refusal, SettlesTo, some_branch_far, AllReach}
 use Rattle.tb_asm.specs.Marks.{SettleErr}
@@ -116,7 +118,8 @@ none_past i a (f ∷ fs) h =
     ∙ none_past (i + 1) (a + form_size f) fs (omega (arith, h))
 
 -- ---- reach
-near_there : (labels : List (Name × ℕ)) (a : ℕ) (o : Option ℕ) → (if is_some o then None else Some UnknownLabel) ≡ None → is_beyond a o ≡ false → with_value o (reach_fault Relative a) ≡ None
+near_there : (labels : List (Name × ℕ)) (a : ℕ) (o : Option ℕ) → (if is_some o then None else Some UnknownLabel) ≡ None → is_beyond a o ≡ false
+    → with_value o (reach_fault Relative a) ≡ None
 near_there labels a None k h = cc
 near_there labels a (Some v) k h = by (is_near (distance a v)) h
   where
@@ -247,7 +250,8 @@ laid_at_once at es from image labels h =
     laid_by at es es from image labels rounds (settled_reaches at es es rounds) h
 
 -- where nothing is refused, it was memory that was short
-pub memory_short : (at : ℕ) (es items : List Entry) → SettlesTo at es items → AllReach at items → Suits at es → (k : AsmErrorKind) (i : ℕ) → RefusesAt (refusal at items) k i → k ≡ NoMemory
+pub memory_short : (at : ℕ) (es items : List Entry) → SettlesTo at es items → AllReach at items → Suits at es → (k : AsmErrorKind) (i : ℕ)
+    → RefusesAt (refusal at items) k i → k ≡ NoMemory
 memory_short at es items rounds reach s k i h = by k (subst (λ r. RefusesAt r k i) (passes_take at es s items (settled_by at es items rounds reach)) h)
   where
     by : (l : AsmErrorKind) → RefusesAt None l i → l ≡ NoMemory

@@ -1,5 +1,6 @@
 -- Forms of items: their sizes, their labels, and lists of them one behind the other.
-use Rattle.std.proofs.Common.{◌≡◌, ℕ, ◌+◌, ◌≤◌, Bool, true, false, not, ◌||◌, List, [], ◌∷◌, ◌++◌, Option, Some, None, refl, sym, ap, ◌∙◌, subst, arith, add_assoc, append_assoc, true≢false, is_some, map, if◌then◌else◌}
+use Rattle.std.proofs.Common.{◌≡◌, ℕ, ◌+◌, ◌≤◌, Bool, true, false, not, ◌||◌, List, [], ◌∷◌, ◌++◌, Option, Some, None, refl}
+use Rattle.std.proofs.Common.{sym, ap, ◌∙◌, subst, arith, add_assoc, append_assoc, true≢false, is_some, map, if◌then◌else◌}
 use Rattle.std.specs.List.{list_all}
 use Rattle.std.proofs.lemmas.List.{append-nil}
 use Rattle.std.proofs.lemmas.Bool.{and_parts, or_parts}
@@ -8,7 +9,8 @@ use Rattle.tb_asm.specs.declared.names.Name.{Name}
 use Rattle.tb_opcodes.specs.declared.Mode.TheVariants.{Relative}
 use Rattle.tb_asm.specs.declared.items.Operand.TheVariants.{Label}
 use Rattle.tb_asm.specs.Layout.{Entry, instr, size_of, size}
-use Rattle.tb_asm.specs.Settle.{Form, kept, long, branch_to, items_at, items_from, form_size, form_far, is_far, long_of, lengthened, widen, round, round_labels, Settles, done, more, SettlesTo, some_branch_far, AllReach}
+use Rattle.tb_asm.specs.Settle.{Form, kept, long, branch_to, items_at, items_from, form_size, form_far, is_far, long_of, lengthened, widen, round, round_labels}
+use Rattle.tb_asm.specs.Settle.{Settles, done, more, SettlesTo, some_branch_far, AllReach}
 use Rattle.tb_asm.specs.Suited.{name_at, names_of}
 use Rattle.tb_asm.proofs.Suits.{names_append}
 use Rattle.tb_asm.proofs.RoundLabels.{size_at}

@@ -48,5 +48,6 @@ module _ (code : Part) (bytes_small : (a b : ℕ) → code a ≡ Some b → b < 
       let here : at + piece_size p ≤ highest_code = omega (arith, r) in (
         here,
         piece_lies at p here (bytes_front code at (piece_bytes p) (pieces_bytes ps) h),
-        lies (at + piece_size p) ps (omega (arith, r)) (subst (λ n. Bytes code (at + n) (pieces_bytes ps)) (piece_length p) (behind code at (piece_bytes p) (pieces_bytes ps) (omega (arith, here, piece_length p)) h)),
+        lies (at + piece_size p) ps (omega (arith, r)) (subst (λ n. Bytes code (at + n) (pieces_bytes ps)) (piece_length p)
+            (behind code at (piece_bytes p) (pieces_bytes ps) (omega (arith, here, piece_length p)) h)),
       )

@@ -1,5 +1,6 @@
 -- What stays of the meaning's state when bytes are written.
-use Rattle.std.proofs.Common.{◌≡◌, ◌≢◌, ℕ, suc, ◌+◌, ◌/◌, ◌%◌, ◌≤◌, ◌<◌, Bool, true, false, List, [], ◌∷◌, length, refl, sym, ap, ◌∙◌, subst, arith, eqb, if◌then◌else◌}
+use Rattle.std.proofs.Common.{◌≡◌, ◌≢◌, ℕ, suc, ◌+◌, ◌/◌, ◌%◌, ◌≤◌, ◌<◌, Bool, true, false, List, [], ◌∷◌, length}
+use Rattle.std.proofs.Common.{refl, sym, ap, ◌∙◌, subst, arith, eqb, if◌then◌else◌}
 use Rattle.std.proofs.lemmas.List.{length-map}
 use Rattle.std.specs.Prelude.{slice_index}
 use Rattle.tb_cpu.specs.Effects.{bit}
@@ -64,7 +65,8 @@ pub column_mod : (c : ℕ) (t : List ℕ) → column_after (c % 256) t % 256 ≡
 column_mod c [] = omega arith
 column_mod c (b ∷ bs) = go (λ k. column_mod k bs) (eqb b 13)
   where
-    go : ((k : ℕ) → column_after (k % 256) bs % 256 ≡ column_after k bs % 256) → (z : Bool) → column_after (if z then 0 else c % 256 + 1) bs % 256 ≡ column_after (if z then 0 else c + 1) bs % 256
+    go : ((k : ℕ) → column_after (k % 256) bs % 256 ≡ column_after k bs % 256) → (z : Bool) → column_after (if z then 0 else c % 256 + 1) bs % 256
+        ≡ column_after (if z then 0 else c + 1) bs % 256
     go r true = refl
     go r false = sym (r (c % 256 + 1)) ∙ ap (λ x. column_after x bs % 256) (let e : (c % 256 + 1) % 256 ≡ (c + 1) % 256 = omega arith in e) ∙ r (c + 1)
 
@@ -78,14 +80,16 @@ module _ (ly : Layout) (s : State) (m m' : ℕ → ℕ) (h : HoldsState ly s m) 
   vars_kept e x lt = word_kept m m' (var_at x) _ (e _ (omega arith) (omega (arith, lt))) (e _ (omega arith) (omega (arith, lt))) (h.vars x lt)
 
   -- bytes are sent
-  pub state_told : (t : List ℕ) → m' COLUMN ≡ column_after (m COLUMN) t % 256 → ((a : ℕ) → is_state a ≡ true → a ≢ COLUMN → m' a ≡ m a) → HoldsState ly (record s { column = column_after s.column t }) m'
+  pub state_told : (t : List ℕ) → m' COLUMN ≡ column_after (m COLUMN) t % 256 → ((a : ℕ) → is_state a ≡ true → a ≢ COLUMN → m' a ≡ m a)
+      → HoldsState ly (record s { column = column_after s.column t }) m'
   state_told t co e =
       let low : (a : ℕ) → 0xC000 ≤ a → a ≤ 0xC061 → a ≢ COLUMN → m' a ≡ m a = λ a lo hi. e a (low_is_state a lo hi) in
       record {
         vars = vars_kept (λ a lo hi. low a lo (omega (arith, hi)) (λ e. omega (arith, e, hi)));
         column = co ∙ ap (λ c. column_after c t % 256) h.column ∙ column_mod s.column t;
         opened = low OPEN (omega arith) (omega arith) (λ e. omega (arith, e)) ∙ h.opened;
-        seeded = seed_over m m' (low SEEDED (omega arith) (omega arith) (λ e. omega (arith, e))) (low SEED (omega arith) (omega arith) (λ e. omega (arith, e))) (low (SEED + 1) (omega arith) (omega arith) (λ e. omega (arith, e))) h.seeded;
+        seeded = seed_over m m' (low SEEDED (omega arith) (omega arith) (λ e. omega (arith, e))) (low SEED (omega arith) (omega arith)
+            (λ e. omega (arith, e))) (low (SEED + 1) (omega arith) (omega arith) (λ e. omega (arith, e))) h.seeded;
         count = word_kept m m' NOTES _ (low NOTES (omega arith) (omega arith) (λ e. omega (arith, e))) (low (NOTES + 1) (omega arith) (omega arith) (λ e. omega (arith, e))) h.count;
         notes = notes_kept ly m m' s.returns h.few (λ a lo hi. e a (note_is_state a lo hi) (λ e. omega (arith, e, lo))) h.notes;
         few = h.few;
@@ -93,13 +97,16 @@ module _ (ly : Layout) (s : State) (m m' : ℕ → ℕ) (h : HoldsState ly s m) 
       }
 
   -- the list of notes is another one
-  state_noted : (place : Place) (ps : List Place) → length ps ≤ 500 → WordAt m' NOTES (length ps) → Noted m' (notes_of ly ps) → ((a : ℕ) → 0xC000 ≤ a → a ≤ 0xC061 → a ≢ NOTES → a ≢ NOTES + 1 → m' a ≡ m a) → HoldsState ly (record s { place = place; returns = ps }) m'
+  state_noted : (place : Place) (ps : List Place) → length ps ≤ 500 → WordAt m' NOTES (length ps) → Noted m' (notes_of ly ps)
+      → ((a : ℕ) → 0xC000 ≤ a → a ≤ 0xC061 → a ≢ NOTES → a ≢ NOTES + 1 → m' a ≡ m a) → HoldsState ly (record s { place = place; returns = ps }) m'
   state_noted place ps few count notes low =
       record {
         vars = vars_kept (λ a lo hi. low a lo (omega (arith, hi)) (λ e. omega (arith, e, hi)) (λ e. omega (arith, e, hi)));
         column = low COLUMN (omega arith) (omega arith) (λ e. omega (arith, e)) (λ e. omega (arith, e)) ∙ h.column;
         opened = low OPEN (omega arith) (omega arith) (λ e. omega (arith, e)) (λ e. omega (arith, e)) ∙ h.opened;
-        seeded = seed_over m m' (low SEEDED (omega arith) (omega arith) (λ e. omega (arith, e)) (λ e. omega (arith, e))) (low SEED (omega arith) (omega arith) (λ e. omega (arith, e)) (λ e. omega (arith, e))) (low (SEED + 1) (omega arith) (omega arith) (λ e. omega (arith, e)) (λ e. omega (arith, e))) h.seeded;
+        seeded = seed_over m m' (low SEEDED (omega arith) (omega arith) (λ e. omega (arith, e)) (λ e. omega (arith, e)))
+            (low SEED (omega arith) (omega arith) (λ e. omega (arith, e)) (λ e. omega (arith, e))) (low (SEED + 1) (omega arith) (omega arith)
+            (λ e. omega (arith, e)) (λ e. omega (arith, e))) h.seeded;
         count = count;
         notes = notes;
         few = few;
@@ -107,14 +114,17 @@ module _ (ly : Layout) (s : State) (m m' : ℕ → ℕ) (h : HoldsState ly s m) 
       }
 
   -- the newest note is taken away
-  pub state_popped : (p : Place) (ps : List Place) → s.returns ≡ p ∷ ps → WordAt m' NOTES (length ps) → ((a : ℕ) → is_state a ≡ true → a ≢ NOTES → a ≢ NOTES + 1 → m' a ≡ m a) → HoldsState ly (record s { place = p; returns = ps }) m'
+  pub state_popped : (p : Place) (ps : List Place) → s.returns ≡ p ∷ ps → WordAt m' NOTES (length ps) → ((a : ℕ) → is_state a ≡ true → a ≢ NOTES
+      → a ≢ NOTES + 1 → m' a ≡ m a) → HoldsState ly (record s { place = p; returns = ps }) m'
   state_popped p ps q count e =
       let few : suc (length ps) ≤ 500 = subst (λ l. length l ≤ 500) q h.few in
       let notes : Noted m (notes_of ly (p ∷ ps)) = subst (λ l. Noted m (notes_of ly l)) q h.notes in
-      state_noted p ps (omega (arith, few)) count (notes_kept ly m m' ps (omega (arith, few)) (λ a lo hi. e a (note_is_state a lo hi) (λ e. omega (arith, e, lo)) (λ e. omega (arith, e, lo))) notes.1) (λ a lo hi. e a (low_is_state a lo hi))
+      state_noted p ps (omega (arith, few)) count (notes_kept ly m m' ps (omega (arith, few)) (λ a lo hi. e a (note_is_state a lo hi)
+          (λ e. omega (arith, e, lo)) (λ e. omega (arith, e, lo))) notes.1) (λ a lo hi. e a (low_is_state a lo hi))
 
   -- the RND state is stored
-  pub state_drawn : (seed : ℕ) → m' SEEDED ≡ 1 → WordAt m' SEED seed → ((a : ℕ) → is_state a ≡ true → a ≢ SEEDED → a ≢ SEED → a ≢ SEED + 1 → m' a ≡ m a) → HoldsState ly (record s { seed = seed }) m'
+  pub state_drawn : (seed : ℕ) → m' SEEDED ≡ 1 → WordAt m' SEED seed → ((a : ℕ) → is_state a ≡ true → a ≢ SEEDED → a ≢ SEED → a ≢ SEED + 1
+      → m' a ≡ m a) → HoldsState ly (record s { seed = seed }) m'
   state_drawn seed one word e =
       let low : (a : ℕ) → 0xC000 ≤ a → a ≤ 0xC061 → a ≢ SEEDED → a ≢ SEED → a ≢ SEED + 1 → m' a ≡ m a = λ a lo hi. e a (low_is_state a lo hi) in
       record {
@@ -122,27 +132,33 @@ module _ (ly : Layout) (s : State) (m m' : ℕ → ℕ) (h : HoldsState ly s m) 
         column = low COLUMN (omega arith) (omega arith) (λ e. omega (arith, e)) (λ e. omega (arith, e)) (λ e. omega (arith, e)) ∙ h.column;
         opened = low OPEN (omega arith) (omega arith) (λ e. omega (arith, e)) (λ e. omega (arith, e)) (λ e. omega (arith, e)) ∙ h.opened;
         seeded = stored one word;
-        count = word_kept m m' NOTES _ (low NOTES (omega arith) (omega arith) (λ e. omega (arith, e)) (λ e. omega (arith, e)) (λ e. omega (arith, e))) (low (NOTES + 1) (omega arith) (omega arith) (λ e. omega (arith, e)) (λ e. omega (arith, e)) (λ e. omega (arith, e))) h.count;
+        count = word_kept m m' NOTES _ (low NOTES (omega arith) (omega arith) (λ e. omega (arith, e)) (λ e. omega (arith, e)) (λ e. omega (arith, e)))
+            (low (NOTES + 1) (omega arith) (omega arith) (λ e. omega (arith, e)) (λ e. omega (arith, e)) (λ e. omega (arith, e))) h.count;
         notes = notes_kept ly m m' s.returns h.few (λ a lo hi. e a (note_is_state a lo hi) (λ e. omega (arith, e, lo)) (λ e. omega (arith, e, lo)) (λ e. omega (arith, e, lo))) h.notes;
         few = h.few;
         all_vars = h.all_vars;
       }
 
   -- INPUT has read a number
-  pub state_asked : (stays : Bool) (c : ℕ) (text : List ℕ) → m' OPEN ≡ bit stays → m' COLUMN ≡ c % 256 → ((a : ℕ) → is_state a ≡ true → a ≢ OPEN → a ≢ COLUMN → m' a ≡ m a) → HoldsState ly (record s { open_line = stays; column = c; text = text }) m'
+  pub state_asked : (stays : Bool) (c : ℕ) (text : List ℕ) → m' OPEN ≡ bit stays → m' COLUMN ≡ c % 256 → ((a : ℕ) → is_state a ≡ true → a ≢ OPEN
+      → a ≢ COLUMN → m' a ≡ m a) → HoldsState ly (record s { open_line = stays; column = c; text = text }) m'
   state_asked stays c text op co e =
       let low : (a : ℕ) → 0xC000 ≤ a → a ≤ 0xC061 → a ≢ OPEN → a ≢ COLUMN → m' a ≡ m a = λ a lo hi. e a (low_is_state a lo hi) in
       record {
         vars = vars_kept (λ a lo hi. low a lo (omega (arith, hi)) (λ e. omega (arith, e, hi)) (λ e. omega (arith, e, hi)));
         column = co;
         opened = op;
-        seeded = seed_over m m' (low SEEDED (omega arith) (omega arith) (λ e. omega (arith, e)) (λ e. omega (arith, e))) (low SEED (omega arith) (omega arith) (λ e. omega (arith, e)) (λ e. omega (arith, e))) (low (SEED + 1) (omega arith) (omega arith) (λ e. omega (arith, e)) (λ e. omega (arith, e))) h.seeded;
-        count = word_kept m m' NOTES _ (low NOTES (omega arith) (omega arith) (λ e. omega (arith, e)) (λ e. omega (arith, e))) (low (NOTES + 1) (omega arith) (omega arith) (λ e. omega (arith, e)) (λ e. omega (arith, e))) h.count;
+        seeded = seed_over m m' (low SEEDED (omega arith) (omega arith) (λ e. omega (arith, e)) (λ e. omega (arith, e)))
+            (low SEED (omega arith) (omega arith) (λ e. omega (arith, e)) (λ e. omega (arith, e))) (low (SEED + 1) (omega arith) (omega arith)
+            (λ e. omega (arith, e)) (λ e. omega (arith, e))) h.seeded;
+        count = word_kept m m' NOTES _ (low NOTES (omega arith) (omega arith) (λ e. omega (arith, e)) (λ e. omega (arith, e)))
+            (low (NOTES + 1) (omega arith) (omega arith) (λ e. omega (arith, e)) (λ e. omega (arith, e))) h.count;
         notes = notes_kept ly m m' s.returns h.few (λ a lo hi. e a (note_is_state a lo hi) (λ e. omega (arith, e, lo)) (λ e. omega (arith, e, lo))) h.notes;
         few = h.few;
         all_vars = h.all_vars;
       }
 
   -- a note more
-  pub state_pushed : (to p : Place) → length s.returns < 500 → WordAt m' NOTES (suc (length s.returns)) → Noted m' (notes_of ly (p ∷ s.returns)) → ((a : ℕ) → 0xC000 ≤ a → a ≤ 0xC061 → a ≢ NOTES → a ≢ NOTES + 1 → m' a ≡ m a) → HoldsState ly (record s { place = to; returns = p ∷ s.returns }) m'
+  pub state_pushed : (to p : Place) → length s.returns < 500 → WordAt m' NOTES (suc (length s.returns)) → Noted m' (notes_of ly (p ∷ s.returns))
+      → ((a : ℕ) → 0xC000 ≤ a → a ≤ 0xC061 → a ≢ NOTES → a ≢ NOTES + 1 → m' a ≡ m a) → HoldsState ly (record s { place = to; returns = p ∷ s.returns }) m'
   state_pushed to p few count note low = state_noted to (p ∷ s.returns) few count note low

@@ -1,5 +1,6 @@
 -- A machine that reaches each next state of a run of steps keeps that run.
-use Rattle.std.proofs.Common.{◌≡◌, ℕ, zero, suc, ◌+◌, ◌*◌, ◌≤◌, ◌<◌, true, List, [], ◌∷◌, ◌++◌, refl, sym, ap, ◌∙◌, subst, append-nil, append_assoc, arith, length, ◌⊎◌, inl, inr, le_trans, mul-le-mul_right}
+use Rattle.std.proofs.Common.{◌≡◌, ℕ, zero, suc, ◌+◌, ◌*◌, ◌≤◌, ◌<◌, true, List, [], ◌∷◌, ◌++◌, refl, sym, ap, ◌∙◌}
+use Rattle.std.proofs.Common.{subst, append-nil, append_assoc, arith, length, ◌⊎◌, inl, inr, le_trans, mul-le-mul_right}
 use Rattle.std.proofs.lemmas.Bool.{and_parts}
 use Rattle.tb_kernal.specs.declared.events.Event.{Event}
 use Rattle.tb_kernal.specs.Machine as machine
@@ -81,12 +82,15 @@ module _ (IsEnd : End → machine.State → Type 0)
     joined_sent out (Stops why t) = refl
 
     -- never wrong, and what was sent is that of a run: by the number of the program's own events
-    pub stands : (fuel : ℕ) (c : SlotState) (x : machine.State) (es : List Event) → goes es < fuel → R c x → all_lawful es x ≡ true → (k : ℕ) × Stands (advance_by step k (GoesOn c x.sent)) (run es x)
+    pub stands : (fuel : ℕ) (c : SlotState) (x : machine.State) (es : List Event) → goes es < fuel → R c x → all_lawful es x ≡ true → (k : ℕ)
+        × Stands (advance_by step k (GoesOn c x.sent)) (run es x)
     stands zero c x es lt r h = absurd (omega arith)
     stands (suc fuel) c x es lt r h = by (law c x r es h) (λ c' y back lt' r' h'. stands fuel c' y back lt' r' h')
       where
         -- the goal, and the events after it
-        past_goal : (s : Step SlotState) (front back : List Event) → front ++ back ≡ es → 1 ≤ goes front → Goal s (run front x) → (run front x).sent ≡ x.sent ++ sent_in s → ((c' : SlotState) → goes back < fuel → R c' (run front x) → all_lawful back (run front x) ≡ true → (k : ℕ) × Stands (advance_by step k (GoesOn c' (run front x).sent)) (run back (run front x))) → (k : ℕ) × Stands (advance_by step k (joined x.sent s)) (run back (run front x))
+        past_goal : (s : Step SlotState) (front back : List Event) → front ++ back ≡ es → 1 ≤ goes front → Goal s (run front x) → (run front x).sent
+            ≡ x.sent ++ sent_in s → ((c' : SlotState) → goes back < fuel → R c' (run front x) → all_lawful back (run front x) ≡ true → (k : ℕ)
+            × Stands (advance_by step k (GoesOn c' (run front x).sent)) (run back (run front x))) → (k : ℕ) × Stands (advance_by step k (joined x.sent s)) (run back (run front x))
         past_goal (Goes c' t) front back e one goal same next =
             let k = next c' (omega (arith, goes_back front back es e)) goal (lawful_back front back es x e h) in
             (k.0, subst (λ o. Stands (advance_by step k.0 (GoesOn c' o)) (run back (run front x))) same k.1)
@@ -94,7 +98,9 @@ module _ (IsEnd : End → machine.State → Type 0)
             let stay = ends_stay why back (run front x) (lawful_back front back es x e h) goal in
             (0, over why (ap (λ o. Over why o) (sym (stay.1 ∙ same))) stay.0)
 
-        by : Way (R c) (Goal (step c)) W (sent_in (step c)) limit x es → ((c' : SlotState) (y : machine.State) (back : List Event) → goes back < fuel → R c' y → all_lawful back y ≡ true → (k : ℕ) × Stands (advance_by step k (GoesOn c' y.sent)) (run back y)) → (k : ℕ) × Stands (advance_by step k (GoesOn c x.sent)) (run es x)
+        by : Way (R c) (Goal (step c)) W (sent_in (step c)) limit x es → ((c' : SlotState) (y : machine.State) (back : List Event) → goes back < fuel
+            → R c' y → all_lawful back y ≡ true → (k : ℕ) × Stands (advance_by step k (GoesOn c' y.sent)) (run back y)) → (k : ℕ)
+            × Stands (advance_by step k (GoesOn c x.sent)) (run es x)
         by (still none a same) next = (0, at c (ap (λ o. GoesOn c o) (sym same)) a)
         by (on_way o) next =
             (1, behind o.kept (o.to_come, ap (λ l. l ++ o.to_come) o.sent ∙ append_assoc x.sent o.so_far o.to_come ∙ ap (λ l. x.sent ++ l) (sym o.whole) ∙ sym (joined_sent x.sent (step c))))
@@ -103,11 +109,15 @@ module _ (IsEnd : End → machine.State → Type 0)
             (suc k.0, subst (λ y. Stands (advance_by step k.0 (joined x.sent (step c))) y) (run_back a.before a.after es x (sym a.split)) k.1)
 
     -- within k times the limit the run's k steps are done
-    pub done : (k : ℕ) (c : SlotState) (x : machine.State) (es : List Event) → R c x → all_lawful es x ≡ true → k * limit ≤ goes es → Passes (advance_by step k (GoesOn c x.sent)) (run es x)
+    pub done : (k : ℕ) (c : SlotState) (x : machine.State) (es : List Event) → R c x → all_lawful es x ≡ true → k * limit ≤ goes es
+        → Passes (advance_by step k (GoesOn c x.sent)) (run es x)
     done zero c x es r h le = sends_more es x
     done (suc k) c x es r h le = by (law c x r es h) (λ c' y back r' h' le'. done k c' y back r' h' le')
       where
-        past_goal : (s : Step SlotState) (front back : List Event) → front ++ back ≡ es → goes front ≤ limit → Goal s (run front x) → (run front x).sent ≡ x.sent ++ sent_in s → ((c' : SlotState) → R c' (run front x) → all_lawful back (run front x) ≡ true → k * limit ≤ goes back → Passes (advance_by step k (GoesOn c' (run front x).sent)) (run back (run front x))) → Passes (advance_by step k (joined x.sent s)) (run back (run front x))
+        past_goal : (s : Step SlotState) (front back : List Event) → front ++ back ≡ es → goes front ≤ limit → Goal s (run front x)
+            → (run front x).sent ≡ x.sent ++ sent_in s → ((c' : SlotState) → R c' (run front x) → all_lawful back (run front x) ≡ true
+            → k * limit ≤ goes back → Passes (advance_by step k (GoesOn c' (run front x).sent)) (run back (run front x)))
+            → Passes (advance_by step k (joined x.sent s)) (run back (run front x))
         past_goal (Goes c' t) front back e few goal same next =
             subst (λ o. Passes (advance_by step k (GoesOn c' o)) (run back (run front x))) same
             (next c' goal (lawful_back front back es x e h) (omega (arith, goes_back front back es e)))
@@ -115,7 +125,9 @@ module _ (IsEnd : End → machine.State → Type 0)
             let stay = ends_stay why back (run front x) (lawful_back front back es x e h) goal in
             subst (λ r. Passes r (run back (run front x))) (sym (over_stays step k why (x.sent ++ t))) (stay.1 ∙ same, stay.0)
 
-        by : Way (R c) (Goal (step c)) W (sent_in (step c)) limit x es → ((c' : SlotState) (y : machine.State) (back : List Event) → R c' y → all_lawful back y ≡ true → k * limit ≤ goes back → Passes (advance_by step k (GoesOn c' y.sent)) (run back y)) → Passes (advance_by step k (joined x.sent (step c))) (run es x)
+        by : Way (R c) (Goal (step c)) W (sent_in (step c)) limit x es → ((c' : SlotState) (y : machine.State) (back : List Event) → R c' y
+            → all_lawful back y ≡ true → k * limit ≤ goes back → Passes (advance_by step k (GoesOn c' y.sent)) (run back y))
+            → Passes (advance_by step k (joined x.sent (step c))) (run es x)
         by (still none a same) next = absurd (omega arith)
         by (on_way o) next = absurd (let no : ⊥ = omega (arith, o.few, le) in no)
         by (there a) next =

@@ -33,7 +33,8 @@ LawAt Whole f v q t k = Comes f v q t k ⊎ Enters f v q t k
 pub law_looser : (r : Rest) (f : Setup) (v : View) (p q : View → Type 0) (t : List ℕ) (k : ℕ) → ((w : View) → p w → q w) → LawAt r f v p t k → LawAt r f v q t k
 law_looser (Left n is) f v p q t k g c = looser f v p q t k k (omega arith) g c
 law_looser Whole f v p q t k g (inl c) = inl (looser f v p q t k k (omega arith) g c)
-law_looser Whole f v p q t k g (inr e) = inr (record { rest = e.rest; few = e.few; one = looser (opened f) v _ _ [] 1 1 (omega arith) (λ u c. looser f u p q t e.rest e.rest (omega arith) g c) e.one })
+law_looser Whole f v p q t k g (inr e) =
+    inr (record { rest = e.rest; few = e.few; one = looser (opened f) v _ _ [] 1 1 (omega arith) (λ u c. looser f u p q t e.rest e.rest (omega arith) g c) e.one })
 
 -- the machine runs within its part of the stack
 pub record Runs (f : Setup) (s : machine.State) : Type 0 where
@@ -49,10 +50,12 @@ module _ (f : Setup) (v : View) (q : View → Type 0) (t : List ℕ) (n : ℕ) w
   law_runs (Left m is) c s at = under_way_runs f s (begins f v q t n c s at)
   law_runs Whole (inl c) s at = under_way_runs f s (begins f v q t n c s at)
   law_runs Whole (inr l) s at =
-      ⊎_elim (λ a. absurd (let no : ⊥ = omega (arith, a.some, ap goes a.split, goes_append a.before a.after) in no)) (λ a. let k = a.kept in record { runs = k.runs; not_below = k.not_below; not_above = k.not_above })
+      ⊎_elim (λ a. absurd (let no : ⊥ = omega (arith, a.some, ap goes a.split, goes_append a.before a.after) in no)) (λ a. let k = a.kept in
+          record { runs = k.runs; not_below = k.not_below; not_above = k.not_above })
       (l.one.reaches.leads s (open_up f v q t n v s at) [] refl)
 
-  law_leads : (r : Rest) → LawAt r f v q t n → (s : machine.State) → At f v s → (es : List Event) → all_lawful es s ≡ true → (goes es ≡ 0) ⊎ (Arrived (Among f q) t n s es ⊎ OnTheWay (UnderWay f) t n s es)
+  law_leads : (r : Rest) → LawAt r f v q t n → (s : machine.State) → At f v s → (es : List Event) → all_lawful es s ≡ true
+      → (goes es ≡ 0) ⊎ (Arrived (Among f q) t n s es ⊎ OnTheWay (UnderWay f) t n s es)
   law_leads (Left m is) c s at es h = inr (c.reaches.leads s at es h)
   law_leads Whole (inl c) s at es h = inr (c.reaches.leads s at es h)
   law_leads Whole (inr l) s at es h = enters f v q t n l s at es h

@@ -1,5 +1,7 @@
 -- Where the machine stands at a line's start, the program is at that line.
-use Rattle.std.proofs.Common.{◌≡◌, ℕ, ◌+◌, ◌*◌, ◌≤◌, ◌<◌, Bool, true, false, ◌||◌, nat_eq, slice_index, List, [], ◌∷◌, ◌++◌, length, refl, sym, ap, ◌∙◌, subst, ⊎_elim, arith, eqb, append-nil, append_assoc, Option, Some, None, if◌then◌else◌}
+use Rattle.std.proofs.Common.{◌≡◌, ℕ, ◌+◌, ◌*◌, ◌≤◌, ◌<◌, Bool, true, false, ◌||◌, nat_eq, slice_index, List, [], ◌∷◌}
+use Rattle.std.proofs.Common.{◌++◌, length, refl, sym, ap, ◌∙◌, subst, ⊎_elim, arith, eqb, append-nil, append_assoc, Option, Some, None}
+use Rattle.std.proofs.Common.{if◌then◌else◌}
 use Rattle.std.proofs.lemmas.Bool.{ne_eqb, eq-eqb, eqb-true, cases_lt}
 use Rattle.std.proofs.Math.Bool.{or-true}
 use Rattle.tb_kernal.specs.declared.events.Event.{Event}
@@ -68,7 +70,8 @@ pub found_start : (start : ℕ → ℕ) (sc : SlotCode) (n : ℕ) (is : List Ins
 found_start start [] n is e = cc
 found_start start (l ∷ ls) n is e = go (eqb l.number n) refl (found_start start ls n is) e
   where
-    go : (t : Bool) → eqb l.number n ≡ t → (content_at ls n ≡ Some is → is_start start (numbers ls) (start n) ≡ true) → (if t then Some l.content else content_at ls n) ≡ Some is → (nat_eq (start n) (start l.number) || is_start start (numbers ls) (start n)) ≡ true
+    go : (t : Bool) → eqb l.number n ≡ t → (content_at ls n ≡ Some is → is_start start (numbers ls) (start n) ≡ true)
+        → (if t then Some l.content else content_at ls n) ≡ Some is → (nat_eq (start n) (start l.number) || is_start start (numbers ls) (start n)) ≡ true
     go true q next e = ap (λ b. b || is_start start (numbers ls) (start n)) (eq-eqb (start n) (start l.number) (ap start (sym (eqb-true l.number n q))))
     go false q next e = ap (λ b. nat_eq (start n) (start l.number) || b) (next e) ∙ or-true (nat_eq (start n) (start l.number))
 
@@ -77,7 +80,8 @@ pub has_content : (lines : SlotCode) (n : ℕ) → has_line (numbers lines) n �
 has_content [] n e = cc
 has_content (l ∷ ls) n e = go (nat_eq l.number n) (has_content ls n) e
   where
-    go : (t : Bool) → (has_line (numbers ls) n ≡ true → (is : List Instr) × (content_at ls n ≡ Some is)) → (t || has_line (numbers ls) n) ≡ true → (is : List Instr) × ((if t then Some l.content else content_at ls n) ≡ Some is)
+    go : (t : Bool) → (has_line (numbers ls) n ≡ true → (is : List Instr) × (content_at ls n ≡ Some is)) → (t || has_line (numbers ls) n) ≡ true
+        → (is : List Instr) × ((if t then Some l.content else content_at ls n) ≡ Some is)
     go true later e = (l.content, refl)
     go false later e = later e
 
@@ -97,8 +101,10 @@ pub record Known (ly : Layout) (s : State) (w : View) : Type 0 where
   pub noted : Noted w.mem (notes_of ly s.returns)
   pub few : length s.returns ≤ 500
 
-module _ (place : ℕ) (bytes : List ℕ) (from : 0x0800 ≤ place) (to : place + length bytes ≤ 0xa000) (ly : Layout) (program : Program) (sc : SlotCode) (follows : Follows program sc) (apart : AreApart ly sc)
-    (step : SlotState → Step SlotState) (stride : IsStride sc step) (M : machine.State → SlotState → View → Type 0) (known : (s : machine.State) (c : SlotState) (w : View) → M s c w → c.rest ≡ Whole → Known ly c.state w)
+module _ (place : ℕ) (bytes : List ℕ) (from : 0x0800 ≤ place) (to : place + length bytes ≤ 0xa000) (ly : Layout) (program : Program) (sc : SlotCode)
+    (follows : Follows program sc) (apart : AreApart ly sc)
+    (step : SlotState → Step SlotState) (stride : IsStride sc step) (M : machine.State → SlotState → View → Type 0)
+        (known : (s : machine.State) (c : SlotState) (w : View) → M s c w → c.rest ≡ Whole → Known ly c.state w)
     (limit : ℕ → ℕ) (positive : (k : ℕ) → 1 ≤ limit k) (n : ℕ) (prologue : OpeningLaw place bytes from to ly M sc n) (laws : StepLaws place bytes from to ly M step limit)
     (s : machine.State) (h : Starts place bytes s) where
   abbrev f : Setup
@@ -138,7 +144,8 @@ module _ (place : ℕ) (bytes : List ℕ) (from : 0x0800 ≤ place) (to : place 
   entry c t r = by c.rest refl
     where
       at_number : (m : ℕ) (o : Option (List Instr)) → content_at sc m ≡ o → r.0.regs.pc ≡ ly.start m → starts ly t ≡ found_line o
-      at_number m (Some is) e p = ap (λ a. count 1 (is_start ly.start ly.numbers a)) (pc_here f r.0 t r.1 ∙ p) ∙ ap (λ ns. count 1 (is_start ly.start ns (ly.start m))) (sym apart.numbered) ∙ ap (count 1) (found_start ly.start sc m is e)
+      at_number m (Some is) e p = ap (λ a. count 1 (is_start ly.start ly.numbers a)) (pc_here f r.0 t r.1 ∙ p)
+          ∙ ap (λ ns. count 1 (is_start ly.start ns (ly.start m))) (sym apart.numbered) ∙ ap (count 1) (found_start ly.start sc m is e)
       at_number m None e p = ap (λ a. count 1 (is_start ly.start ly.numbers a)) (pc_here f r.0 t r.1 ∙ p ∙ apart.absent m e) ∙ ap (count 1) apart.past
 
       at_place : (p : Place) → r.0.regs.pc ≡ place_at ly p → starts ly t ≡ lines_at sc Whole p
@@ -146,7 +153,8 @@ module _ (place : ℕ) (bytes : List ℕ) (from : 0x0800 ≤ place) (to : place 
       at_place (control.At m) at = at_number m (content_at sc m) refl at
 
       by : (q : Rest) → c.rest ≡ q → starts ly t ≡ lines_at sc q c.state.place
-      by (Left m is) e = no_start t (begins f r.0 (Leads f (M s) (step c)) (sent_in (step c)) (limit k) (subst (λ q. LawAt q f r.0 (Leads f (M s) (step c)) (sent_in (step c)) (limit k)) e (laws s h c r.0 r.2)) t r.1)
+      by (Left m is) e = no_start t (begins f r.0 (Leads f (M s) (step c)) (sent_in (step c)) (limit k)
+          (subst (λ q. LawAt q f r.0 (Leads f (M s) (step c)) (sent_in (step c)) (limit k)) e (laws s h c r.0 r.2)) t r.1)
       by Whole e = at_place c.state.place (known s c r.0 r.2 e).pc
 
   -- ---- the prologue
@@ -182,7 +190,9 @@ module _ (place : ℕ) (bytes : List ℕ) (from : 0x0800 ≤ place) (to : place 
     pub noted : Noted t.mem (notes_of ly state.returns)
     pub few : length state.returns ≤ 500
 
-  line_begun : (m : ℕ) (t : machine.State) → lines.AtLine Ends (end_stays f (above_so place bytes from to ly s h)) program sc follows step stride Related (UnderWay f) (limit k) (positive k) (reaches f (above_so place bytes from to ly s h) (M s) step (limit k) (laws s h)) (starts ly) others_keep no_start no_start_at_end entry seed s.text s.answers m t → LineBegun m t
+  line_begun : (m : ℕ) (t : machine.State) → lines.AtLine Ends (end_stays f (above_so place bytes from to ly s h)) program sc follows step stride
+      Related (UnderWay f) (limit k) (positive k) (reaches f (above_so place bytes from to ly s h) (M s) step (limit k) (laws s h))
+      (starts ly) others_keep no_start no_start_at_end entry seed s.text s.answers m t → LineBegun m t
   line_begun m t a =
       let w = a.related.0 in
       let there = known s _ w a.related.2 refl in
@@ -194,7 +204,9 @@ module _ (place : ℕ) (bytes : List ℕ) (from : 0x0800 ≤ place) (to : place 
         done = a.done;
         at_place = a.place;
         pc = pc_here f w t at ∙ there.pc ∙ ap (place_at ly) a.place;
-        vars = λ x lt. word_kept w.mem t.mem (var_at x) (slice_index a.state.vars x) (fixed (var_at x) (word_in_data (var_at x) (omega arith) (omega (arith, lt))).0) (fixed (var_at x + 1) (word_in_data (var_at x) (omega arith) (omega (arith, lt))).1) (there.vars x lt);
+        vars = λ x lt. word_kept w.mem t.mem (var_at x) (slice_index a.state.vars x)
+            (fixed (var_at x) (word_in_data (var_at x) (omega arith) (omega (arith, lt))).0)
+            (fixed (var_at x + 1) (word_in_data (var_at x) (omega arith) (omega (arith, lt))).1) (there.vars x lt);
         notes = word_kept w.mem t.mem NOTES (length a.state.returns) (fixed NOTES refl) (fixed (NOTES + 1) refl) there.count;
         noted = notes_kept ly w.mem t.mem a.state.returns there.few (λ p lo hi. fixed p (word_in_data p (omega (arith, lo)) (omega (arith, hi))).0) there.noted;
         few = there.few;
@@ -210,7 +222,9 @@ module _ (place : ℕ) (bytes : List ℕ) (from : 0x0800 ≤ place) (to : place 
           let y = run front s in
           let join : run back y ≡ run es s = run_back front back es s eq in
           let lb = lawful_back front back es s eq l in
-          let a = lines.at_line Ends (end_stays f (above_so place bytes from to ly s h)) program sc follows step stride Related (UnderWay f) (limit k) (positive k) (reaches f (above_so place bytes from to ly s h) (M s) step (limit k) (laws s h)) (starts ly) others_keep no_start no_start_at_end entry seed s.text s.answers b.2.0 b.2.1 y (all ∙ append-nil s.sent ∙ h.start.nothing_sent) (b.0, b.1, b.2.2) back lb (ap (starts ly) join ∙ one) in
+          let a = lines.at_line Ends (end_stays f (above_so place bytes from to ly s h)) program sc follows step stride Related (UnderWay f) (limit k)
+              (positive k) (reaches f (above_so place bytes from to ly s h) (M s) step (limit k) (laws s h)) (starts ly) others_keep no_start
+              no_start_at_end entry seed s.text s.answers b.2.0 b.2.1 y (all ∙ append-nil s.sent ∙ h.start.nothing_sent) (b.0, b.1, b.2.2) back lb (ap (starts ly) join ∙ one) in
           let sum : lines.met (starts ly) back y ≡ met es = omega (arith, v, ap met (sym eq), lines.met_append (starts ly) front back s) in
           subst (λ m. LineBegun m (run es s)) sum (subst (λ t. LineBegun (lines.met (starts ly) back y) t) join (line_begun (lines.met (starts ly) back y) (run back y) a))
 
@@ -225,7 +239,9 @@ module _ (place : ℕ) (bytes : List ℕ) (from : 0x0800 ≤ place) (to : place 
     pub starts_here : starts ly (run front s) ≡ 1
     pub begun : met front ≡ m
 
-  pub line_comes : (m : ℕ) (state : State) (out : List ℕ) (number : ℕ) (is : List Instr) → source_run program seed s.text s.answers m ≡ GoesOn state out → state.place ≡ control.At number → content_at sc number ≡ Some is → (es : List Event) → all_lawful es s ≡ true → n + (m * (longest sc + 1) * limit k + 1) ≤ goes es → LineComes m (n + (m * (longest sc + 1) * limit k + 1)) es
+  pub line_comes : (m : ℕ) (state : State) (out : List ℕ) (number : ℕ) (is : List Instr) → source_run program seed s.text s.answers m
+      ≡ GoesOn state out → state.place ≡ control.At number → content_at sc number ≡ Some is → (es : List Event) → all_lawful es s ≡ true
+      → n + (m * (longest sc + 1) * limit k + 1) ≤ goes es → LineComes m (n + (m * (longest sc + 1) * limit k + 1)) es
   line_comes m state out number is done here found es l le = by (counted es l)
     where
       by : lines.Counted (starts ly) (At f (view_of s)) Entered (UnderWay f) [] 0 n s es → LineComes m (n + (m * (longest sc + 1) * limit k + 1)) es
@@ -235,7 +251,10 @@ module _ (place : ℕ) (bytes : List ℕ) (from : 0x0800 ≤ place) (to : place 
           let y = run front s in
           let lb = lawful_back front back es s eq l in
           let g = goes_append front back in
-          let a = lines.line_comes Ends (end_stays f (above_so place bytes from to ly s h)) program sc follows step stride Related (UnderWay f) (limit k) (positive k) (reaches f (above_so place bytes from to ly s h) (M s) step (limit k) (laws s h)) (starts ly) others_keep no_start no_start_at_end entry seed s.text s.answers b.2.0 b.2.1 y (all ∙ append-nil s.sent ∙ h.start.nothing_sent) (b.0, b.1, b.2.2) m state out number is done here found back lb (omega (arith, le, few, g, ap goes eq)) in
+          let a = lines.line_comes Ends (end_stays f (above_so place bytes from to ly s h)) program sc follows step stride Related (UnderWay f)
+              (limit k) (positive k) (reaches f (above_so place bytes from to ly s h) (M s) step (limit k) (laws s h))
+              (starts ly) others_keep no_start no_start_at_end entry seed s.text s.answers b.2.0 b.2.1 y (all ∙ append-nil s.sent
+              ∙ h.start.nothing_sent) (b.0, b.1, b.2.2) m state out number is done here found back lb (omega (arith, le, few, g, ap goes eq)) in
           let join : run (front ++ a.front) s ≡ run a.front y = run_append front a.front s in
           record {
             front = front ++ a.front;

@@ -59,8 +59,10 @@ returns_held ly m (p ∷ ps) past have noted = (place_held p have.0 (note_is ps 
     place_held (At n) has is = (has, is)
     place_held Past has is = ap (is_start ly.start ly.numbers) is ∙ past
 
-module _ (place : ℕ) (bytes : List ℕ) (from : 0x0800 ≤ place) (to : place + length bytes ≤ 0xa000) (ly : Layout) (program : Program) (sc : SlotCode) (follows : Follows program sc) (apart : AreApart ly sc)
-    (step : SlotState → Step SlotState) (stride : IsStride sc step) (M : machine.State → SlotState → View → Type 0) (known : (s : machine.State) (c : SlotState) (w : View) → M s c w → c.rest ≡ Whole → Known ly c.state w)
+module _ (place : ℕ) (bytes : List ℕ) (from : 0x0800 ≤ place) (to : place + length bytes ≤ 0xa000) (ly : Layout) (program : Program) (sc : SlotCode)
+    (follows : Follows program sc) (apart : AreApart ly sc)
+    (step : SlotState → Step SlotState) (stride : IsStride sc step) (M : machine.State → SlotState → View → Type 0)
+        (known : (s : machine.State) (c : SlotState) (w : View) → M s c w → c.rest ≡ Whole → Known ly c.state w)
     (limit : ℕ → ℕ) (positive : (k : ℕ) → 1 ≤ limit k) (n : ℕ) (prologue : OpeningLaw place bytes from to ly M sc n) (laws : StepLaws place bytes from to ly M step limit) where
   abbrev bound : ℕ → ℕ → ℕ
   bound k m = n + (m * (longest sc + 1) * limit k + 1)
@@ -69,11 +71,14 @@ module _ (place : ℕ) (bytes : List ℕ) (from : 0x0800 ≤ place) (to : place 
   lined : (number : ℕ) → has_line (numbers program) number ≡ true → (is : List Instr) × (content_at sc number ≡ Some is)
   lined number has = has_content sc number (ap (λ ns. has_line ns number) follows.same_numbers ∙ has)
 
-  pub at_line : (s : machine.State) (h : Starts place bytes s) (es : List Event) → all_lawful es s ≡ true → (number : ℕ) → has_line (numbers program) number ≡ true → (run es s).regs.pc ≡ ly.start number → BeginsLine program ly.seed ly.start s (begun ly.start (numbers program) es s) number (run es s)
+  pub at_line : (s : machine.State) (h : Starts place bytes s) (es : List Event) → all_lawful es s ≡ true → (number : ℕ)
+      → has_line (numbers program) number ≡ true → (run es s).regs.pc ≡ ly.start number → BeginsLine program ly.seed ly.start s
+      (begun ly.start (numbers program) es s) number (run es s)
   at_line s h es l number has pc =
       let list = lined number has in
       let same_numbers : ly.numbers ≡ numbers program = sym apart.numbered ∙ follows.same_numbers in
-      let here : is_start ly.start ly.numbers (run es s).regs.pc ≡ true = ap (is_start ly.start ly.numbers) pc ∙ ap (λ ns. is_start ly.start ns (ly.start number)) (sym apart.numbered) ∙ found_start ly.start sc number list.0 list.1 in
+      let here : is_start ly.start ly.numbers (run es s).regs.pc ≡ true = ap (is_start ly.start ly.numbers) pc
+          ∙ ap (λ ns. is_start ly.start ns (ly.start number)) (sym apart.numbered) ∙ found_start ly.start sc number list.0 list.1 in
       let y = run es s in
       let now : starts ly y ≡ 1 = one_at (is_start ly.start ly.numbers (run es s).regs.pc) here in
       let b = one.at_line place bytes from to ly program sc follows apart step stride M known limit positive n prologue laws s h es l now in
@@ -81,7 +86,8 @@ module _ (place : ℕ) (bytes : List ℕ) (from : 0x0800 ≤ place) (to : place 
       let met = lines.met (starts ly) es s in
       let led = at_lines program ly.seed s.text s.answers met b.state y.sent b.done in
       let there : has_line (numbers program) b.number ≡ true = subst (HasLine (numbers program)) b.at_place led.here in
-      let which : b.number ≡ number = apart.distinct b.number number (ap (λ ns. has_line ns b.number) same_numbers ∙ there) (ap (λ ns. has_line ns number) same_numbers ∙ has) (sym b.pc ∙ pc) in
+      let which : b.number ≡ number = apart.distinct b.number number (ap (λ ns. has_line ns b.number) same_numbers ∙ there)
+          (ap (λ ns. has_line ns number) same_numbers ∙ has) (sym b.pc ∙ pc) in
       subst (λ m. BeginsLine program ly.seed ly.start s m number (run es s)) counted
       (record {
         state = b.state;
@@ -94,7 +100,9 @@ module _ (place : ℕ) (bytes : List ℕ) (from : 0x0800 ≤ place) (to : place 
             (returns_held ly y.mem b.state.returns apart.past (subst (λ ns. AllHave ns b.state.returns) (sym same_numbers) led.notes) b.noted);
       })
 
-  pub comes : (s : machine.State) (h : Starts place bytes s) (m : ℕ) (state : State) (out : List ℕ) (number : ℕ) → source_run program ly.seed s.text s.answers m ≡ GoesOn state out → state.place ≡ At number → (es : List Event) → all_lawful es s ≡ true → bound (length s.text) m ≤ goes es → LineComes program ly.start s m (bound (length s.text) m) es
+  pub comes : (s : machine.State) (h : Starts place bytes s) (m : ℕ) (state : State) (out : List ℕ) (number : ℕ)
+      → source_run program ly.seed s.text s.answers m ≡ GoesOn state out → state.place ≡ At number → (es : List Event) → all_lawful es s ≡ true
+      → bound (length s.text) m ≤ goes es → LineComes program ly.start s m (bound (length s.text) m) es
   comes s h m state out number done here es l le =
       let has : has_line (numbers program) number ≡ true = subst (HasLine (numbers program)) here (at_lines program ly.seed s.text s.answers m state out done).here in
       let list = lined number has in
@@ -104,7 +112,9 @@ module _ (place : ℕ) (bytes : List ℕ) (from : 0x0800 ≤ place) (to : place 
       (ap (λ ns. is_start ly.start ns (run c.front s).regs.pc) same_numbers ∙ at_one (is_start ly.start ly.numbers (run c.front s).regs.pc) c.starts_here)
       (ap (λ ns. begun ly.start ns c.front s) same_numbers ∙ sym (same_begun ly c.front s) ∙ c.begun)
     where
-      by : (e : Event) → is_own e ≡ true → (front back : List Event) → front ++ (e ∷ back) ≡ es → goes front < bound (length s.text) m → is_start ly.start (numbers program) (run front s).regs.pc ≡ true → begun ly.start (numbers program) front s ≡ m → LineComes program ly.start s m (bound (length s.text) m) es
+      by : (e : Event) → is_own e ≡ true → (front back : List Event) → front ++ (e ∷ back) ≡ es → goes front < bound (length s.text) m
+          → is_start ly.start (numbers program) (run front s).regs.pc ≡ true → begun ly.start (numbers program) front s ≡ m
+          → LineComes program ly.start s m (bound (length s.text) m) es
       by (Go k) own front back split few at met = record { front = front; clobber = k; back = back; split = split; few = few; here = at; begun_before = met }
       by (Interrupt ws) own front back split few at met = cc
 

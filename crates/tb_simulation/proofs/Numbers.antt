@@ -70,7 +70,8 @@ module _ (labels : List (Name × ℕ)) (ns : List ℕ) (seed : ℕ) where
       go Past e = refl
 
   -- ---- bytes
-  pub joined : (at n : ℕ) (xs ys : List Entry) (b c : List ℕ) → size xs ≡ n → bytes_from labels at xs ≡ b → bytes_from labels (at + n) ys ≡ c → bytes_from labels at (xs ++ ys) ≡ b ++ c
+  pub joined : (at n : ℕ) (xs ys : List Entry) (b c : List ℕ) → size xs ≡ n → bytes_from labels at xs ≡ b → bytes_from labels (at + n) ys ≡ c
+      → bytes_from labels at (xs ++ ys) ≡ b ++ c
   joined at n xs ys b c e l r = bytes_append labels at xs ys ∙ ap (λ k. bytes_from labels at xs ++ bytes_from labels (at + k) ys) e ∙ (λ i. l i ++ r i)
 
   pub constant_bytes : (at w to : ℕ) → w < 65536 → bytes_from labels at (product.constant w to) ≡ flat (constant w to)
@@ -78,12 +79,14 @@ module _ (labels : List (Name × ℕ)) (ns : List ℕ) (seed : ℕ) where
   constant_bytes at w to h = λ i. 0xa9 ∷ low_byte w i ∷ 0x8d ∷ to % 256 ∷ to / 256 ∷ 0xa9 ∷ high_byte w h i ∷ 0x8d ∷ (to + 1) % 256 ∷ (to + 1) / 256 ∷ []
 
   -- an instruction on the byte at a place has the opcode of its mode there
-  loaded_bytes : (t : Bool) (p : ℕ) → nat_lt p 256 ≡ t → (a : ℕ) → bytes_of labels a (instr Lda (if t then ZeroPage else Absolute) (if t then Byte p else Word p)) ≡ instr_bytes (ins (if t then 0xA5 else 0xAD) p)
+  loaded_bytes : (t : Bool) (p : ℕ) → nat_lt p 256 ≡ t → (a : ℕ)
+      → bytes_of labels a (instr Lda (if t then ZeroPage else Absolute) (if t then Byte p else Word p)) ≡ instr_bytes (ins (if t then 0xA5 else 0xAD) p)
   unfolding opcodes.encoded
   loaded_bytes true p e a = ap (λ b. 0xa5 ∷ b ∷ []) (let k : p % 256 ≡ p = omega (arith, ltb-true p 256 e) in k)
   loaded_bytes false p e a = refl
 
-  stored_bytes : (t : Bool) (p : ℕ) → nat_lt p 256 ≡ t → (a : ℕ) → bytes_of labels a (instr Sta (if t then ZeroPage else Absolute) (if t then Byte p else Word p)) ≡ instr_bytes (ins (if t then 0x85 else 0x8D) p)
+  stored_bytes : (t : Bool) (p : ℕ) → nat_lt p 256 ≡ t → (a : ℕ)
+      → bytes_of labels a (instr Sta (if t then ZeroPage else Absolute) (if t then Byte p else Word p)) ≡ instr_bytes (ins (if t then 0x85 else 0x8D) p)
   unfolding opcodes.encoded
   stored_bytes true p e a = ap (λ b. 0x85 ∷ b ∷ []) (let k : p % 256 ≡ p = omega (arith, ltb-true p 256 e) in k)
   stored_bytes false p e a = refl

@@ -28,7 +28,8 @@ cleared_low a lo hi = grind (arith, nat_tests)
 zero_word : (m : ℕ → ℕ) (at : ℕ) → m at ≡ 0 → m (at + 1) ≡ 0 → WordAt m at 0
 zero_word m at l h = record { low = l; high = h; small = omega arith }
 
-module _ (ly : Layout) (f : Setup) (sc : SlotCode) (numbered : numbers sc ≡ ly.numbers) (first_at : place_at ly (first_place (numbers sc)) ≡ LINES_AT) (seed_small : ly.seed < 65536) (s : machine.State) (text : AreBytes s.text) (answers : AreBytes s.answers) (w : View) (b : Begun f s w) where
+module _ (ly : Layout) (f : Setup) (sc : SlotCode) (numbered : numbers sc ≡ ly.numbers) (first_at : place_at ly (first_place (numbers sc)) ≡ LINES_AT)
+    (seed_small : ly.seed < 65536) (s : machine.State) (text : AreBytes s.text) (answers : AreBytes s.answers) (w : View) (b : Begun f s w) where
   pub opened : Opens ly f (home_low s) (home_high s) (length s.text) (start (numbers sc) ly.seed s.text s.answers) w
   opened = record {
     pc = b.pc ∙ sym first_at;
@@ -37,7 +38,9 @@ module _ (ly : Layout) (f : Setup) (sc : SlotCode) (numbered : numbers sc ≡ ly
     text = b.same_text;
     answers = b.same_answers;
     holds = record {
-      vars = λ x lt. subst (WordAt w.mem (var_at x)) (sym (zeros 26 x)) (zero_word w.mem (var_at x) (b.cleared (var_at x) (cleared_low (var_at x) (omega arith) (omega (arith, lt)))) (b.cleared (var_at x + 1) (cleared_low (var_at x + 1) (omega arith) (omega (arith, lt)))));
+      vars = λ x lt. subst (WordAt w.mem (var_at x)) (sym (zeros 26 x))
+          (zero_word w.mem (var_at x) (b.cleared (var_at x) (cleared_low (var_at x) (omega arith) (omega (arith, lt))))
+          (b.cleared (var_at x + 1) (cleared_low (var_at x + 1) (omega arith) (omega (arith, lt)))));
       column = b.cleared COLUMN refl;
       opened = b.cleared OPEN refl;
       seeded = first (b.cleared SEEDED refl) refl seed_small 0 (zero_word w.mem SEED (b.cleared SEED refl) (b.cleared (SEED + 1) refl));

@@ -74,7 +74,8 @@ module _ (ns : List ℕ) where
   sub_led : (n to : ℕ) (s : State) → IsPlaced s → Led (go_sub ns n to s)
   sub_led n to s h = go (has_line ns to) refl
     where
-      go : (t : Bool) → has_line ns to ≡ t → Led (if t then (if nat_lt (length s.returns) deepest then Goes (record s { place = At to; returns = next_after ns n ∷ s.returns }) [] else fault 4 n) else fault 1 n)
+      go : (t : Bool) → has_line ns to ≡ t
+          → Led (if t then (if nat_lt (length s.returns) deepest then Goes (record s { place = At to; returns = next_after ns n ∷ s.returns }) [] else fault 4 n) else fault 1 n)
       go true e = if_led (nat_lt (length s.returns) deepest) _ _ (record { led = record { here = e; notes = (next_led n, h.notes) } }) (record { led = tt })
       go false e = record { led = tt }
 

@@ -16,7 +16,8 @@ apart a b h k e = let no : true ≡ false = sym h ∙ ap is_state e ∙ k in cc
 pub behind_call : (at : ℕ) → at + 3 ≤ highest_code → back_at ((at + 2) % 256) ((at + 2) / 256) ≡ at + 3
 behind_call at r = omega arith
 
-pub back_here : {lo hi : ℕ} (at at' : ℕ) (t answers : List ℕ) (q : (ℕ → ℕ) → Type 0) (u : View) → Leaves at (lo ∷ hi ∷ []) t answers q u → at ≡ at' → Here at' (lo ∷ hi ∷ []) u.mem t answers u
+pub back_here : {lo hi : ℕ} (at at' : ℕ) (t answers : List ℕ) (q : (ℕ → ℕ) → Type 0) (u : View) → Leaves at (lo ∷ hi ∷ []) t answers q u → at ≡ at'
+    → Here at' (lo ∷ hi ∷ []) u.mem t answers u
 back_here at at' t answers q u b e = record { pc = b.pc ∙ e; stack = b.stack_is; binary = b.binary; mem = refl; text = b.same_text; answers = b.same_answers }
 
 pub moved : (at at' : ℕ) (bs : List ℕ) (m : ℕ → ℕ) (t answers : List ℕ) (u : View) → Here at bs m t answers u → at ≡ at' → Here at' bs m t answers u

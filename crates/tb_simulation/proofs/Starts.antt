@@ -1,5 +1,7 @@
 -- Runs in which each start of a line is counted.
-use Rattle.std.proofs.Common.{◌≡◌, ℕ, zero, suc, ◌+◌, ◌-◌, ◌*◌, ◌≤◌, ◌<◌, Bool, true, false, if◌then◌else◌, List, [], ◌∷◌, ◌++◌, refl, sym, ap, ◌∙◌, subst, arith, length, Option, Some, None, append_assoc, ⊎_elim, ap₂, ◌&&◌, mul-le-mul_right, le_trans}
+use Rattle.std.proofs.Common.{◌≡◌, ℕ, zero, suc, ◌+◌, ◌-◌, ◌*◌, ◌≤◌, ◌<◌, Bool, true, false, if◌then◌else◌, List, []}
+use Rattle.std.proofs.Common.{◌∷◌, ◌++◌, refl, sym, ap, ◌∙◌, subst, arith, length, Option, Some, None, append_assoc, ⊎_elim, ap₂, ◌&&◌}
+use Rattle.std.proofs.Common.{mul-le-mul_right, le_trans}
 use Rattle.std.proofs.lemmas.Bool.{and_parts, cases_lt}
 use Rattle.tb_kernal.specs.declared.events.Event.{Event}
 use Rattle.tb_kernal.specs.declared.events.Event.TheVariants.{Go, Interrupt}
@@ -44,7 +46,10 @@ module _ (starts : machine.State → ℕ) where
     known : Z → Met W B Z room used x es
 
   -- from an answer for each list: the first front in B, all before it in W
-  first_met : (W B : machine.State → Type 0) (Z : Type 0) → ((y : machine.State) → W y → starts y ≡ 0) → (room used : ℕ) (es : List Event) (x : machine.State) → all_lawful es x ≡ true → ((fs : List Event) → all_lawful fs x ≡ true → Met W B Z room used x fs) → (W (run es x) → used + goes es < room → met es x ≡ 0 → Z) → ((front back : List Event) → front ++ back ≡ es → used + goes front ≤ room → B (run front x) → met front x ≡ 0 → Z) → Z
+  first_met : (W B : machine.State → Type 0) (Z : Type 0) → ((y : machine.State) → W y → starts y ≡ 0)
+      → (room used : ℕ) (es : List Event) (x : machine.State) → all_lawful es x ≡ true → ((fs : List Event) → all_lawful fs x ≡ true
+      → Met W B Z room used x fs) → (W (run es x) → used + goes es < room → met es x ≡ 0 → Z) → ((front back : List Event) → front ++ back ≡ es
+      → used + goes front ≤ room → B (run front x) → met front x ≡ 0 → Z) → Z
   first_met W B Z none room used [] x l law ends reaches = now (law [] refl)
     where
       now : Met W B Z room used x [] → Z
@@ -88,12 +93,14 @@ module _ (starts : machine.State → ℕ) where
   pub data Counted (A B W : machine.State → Type 0) (t : List ℕ) (first n : ℕ) (x : machine.State) (es : List Event) : Type 0 where
     before : goes es ≡ 0 → A (run es x) → (run es x).sent ≡ x.sent → met es x ≡ 0 → Counted A B W t first n x es
     between : W (run es x) → met es x ≡ first → goes es < n → Counted A B W t first n x es
-    behind : (front back : List Event) → front ++ back ≡ es → 1 ≤ goes front → goes front ≤ n → B (run front x) → (run front x).sent ≡ x.sent ++ t → met front x ≡ first → Counted A B W t first n x es
+    behind : (front back : List Event) → front ++ back ≡ es → 1 ≤ goes front → goes front ≤ n → B (run front x) → (run front x).sent ≡ x.sent ++ t
+        → met front x ≡ first → Counted A B W t first n x es
 
   module _ (A B W : machine.State → Type 0) (t : List ℕ) (first n : ℕ) (reaches : Reaches A B W t n)
       (keeps_entry : (e : Event) (x : machine.State) → is_own e ≡ false → is_lawful x e ≡ true → A x → A (happens x e) × ((happens x e).sent ≡ x.sent))
       (no_start : (y : machine.State) → W y → starts y ≡ 0) (entry : (y : machine.State) → A y → starts y ≡ first) where
-    shift : (e : Event) (es : List Event) (x : machine.State) → is_own e ≡ false → (happens x e).sent ≡ x.sent → Counted A B W t first n (happens x e) es → Counted A B W t first n x (e ∷ es)
+    shift : (e : Event) (es : List Event) (x : machine.State) → is_own e ≡ false → (happens x e).sent ≡ x.sent
+        → Counted A B W t first n (happens x e) es → Counted A B W t first n x (e ∷ es)
     shift e es x not_go same (before none a quiet v) =
         let g = ap (count 1) not_go in let s = ap (count (starts x)) not_go in
         before (omega (arith, g, none, first_counts e es)) a (quiet ∙ same) (omega (arith, s, v))
@@ -102,7 +109,8 @@ module _ (starts : machine.State → ℕ) where
         between w (omega (arith, s, v)) (omega (arith, g, few, first_counts e es))
     shift e es x not_go same (behind front back q some few b all v) =
         let g = ap (count 1) not_go in let s = ap (count (starts x)) not_go in
-        behind (e ∷ front) back (ap (λ l. e ∷ l) q) (omega (arith, g, some, first_counts e front)) (omega (arith, g, few, first_counts e front)) b (all ∙ ap (λ l. l ++ t) same) (omega (arith, s, v))
+        behind (e ∷ front) back (ap (λ l. e ∷ l) q) (omega (arith, g, some, first_counts e front)) (omega (arith, g, few, first_counts e front)) b
+            (all ∙ ap (λ l. l ++ t) same) (omega (arith, s, v))
 
     pub counted : (es : List Event) (x : machine.State) → A x → all_lawful es x ≡ true → Counted A B W t first n x es
     counted [] x a l = before refl a refl refl
@@ -111,7 +119,8 @@ module _ (starts : machine.State → ℕ) where
         ok : (is_lawful x e ≡ true) × (all_lawful es (happens x e) ≡ true)
         ok = and_parts _ _ l
 
-        arrived : (fs : List Event) → is_own e ≡ true → (front back : List Event) → front ++ back ≡ e ∷ fs → 1 ≤ goes front → goes front ≤ n → B (run front x) → (run front x).sent ≡ x.sent ++ t → Met (λ y. W y) (λ y. B y × (y.sent ≡ x.sent ++ t)) (Counted A B W t first n x (e ∷ es)) n 1 (happens x e) fs
+        arrived : (fs : List Event) → is_own e ≡ true → (front back : List Event) → front ++ back ≡ e ∷ fs → 1 ≤ goes front → goes front ≤ n
+            → B (run front x) → (run front x).sent ≡ x.sent ++ t → Met (λ y. W y) (λ y. B y × (y.sent ≡ x.sent ++ t)) (Counted A B W t first n x (e ∷ es)) n 1 (happens x e) fs
         arrived fs go [] back same some few b all = absurd (let no : ⊥ = omega (arith, some) in no)
         arrived fs go (a ∷ front) back same some few b all =
             let head : a ≡ e = cc in
@@ -120,7 +129,8 @@ module _ (starts : machine.State → ℕ) where
             at front back tail (omega (arith, g, few, ap (λ a. goes (a ∷ front)) head, first_counts e front))
             (subst (λ a. B (run front (happens x a))) head b, subst (λ a. (run front (happens x a)).sent ≡ x.sent ++ t) head all)
 
-        way : (fs : List Event) → is_own e ≡ true → Way A B W t n x (e ∷ fs) → Met (λ y. W y) (λ y. B y × (y.sent ≡ x.sent ++ t)) (Counted A B W t first n x (e ∷ es)) n 1 (happens x e) fs
+        way : (fs : List Event) → is_own e ≡ true → Way A B W t n x (e ∷ fs) → Met (λ y. W y) (λ y. B y × (y.sent ≡ x.sent ++ t))
+            (Counted A B W t first n x (e ∷ es)) n 1 (happens x e) fs
         way fs go (still none a same) = let g = ap (count 1) go in absurd (let no : ⊥ = omega (arith, g, none, first_counts e fs) in no)
         way fs go (on_way o) = let g = ap (count 1) go in on o.kept (omega (arith, o.few, g, first_counts e fs))
         way fs go (there a) = arrived fs go a.before a.after (sym a.split) a.some a.few a.there a.sent
@@ -132,7 +142,8 @@ module _ (starts : machine.State → ℕ) where
             first_met (λ y. W y) (λ y. B y × (y.sent ≡ x.sent ++ t)) _ no_start n 1 es (happens x e) ok.1
             (λ fs lf. way fs go (reaches x a (e ∷ fs) (λ i. ok.0 i && lf i)))
             (λ w few q. between w (omega (arith, s, q, entry x a)) (omega (arith, g, few, first_counts e es)))
-            (λ front back same le b q. behind (e ∷ front) back (ap (λ l. e ∷ l) same) (omega (arith, g, first_counts e front)) (omega (arith, g, le, first_counts e front)) b.0 b.1 (omega (arith, s, q, entry x a)))
+            (λ front back same le b q. behind (e ∷ front) back (ap (λ l. e ∷ l) same) (omega (arith, g, first_counts e front))
+                (omega (arith, g, le, first_counts e front)) b.0 b.1 (omega (arith, s, q, entry x a)))
 
 -- ── the slot code's runs ──
 
@@ -142,7 +153,8 @@ is_line code (Left n is) p e = absurd (let no : ⊥ = omega (arith, e) in no)
 is_line code Whole Past e = absurd (let no : ⊥ = omega (arith, e) in no)
 is_line code Whole (At n) e = found (content_at code n) refl e
   where
-    found : (o : Option (List Instr)) → content_at code n ≡ o → found_line o ≡ 1 → (n' : ℕ) × (is : List Instr) × (Whole ≡ Whole) × (At n ≡ At n') × (content_at code n' ≡ Some is)
+    found : (o : Option (List Instr)) → content_at code n ≡ o → found_line o ≡ 1 → (n' : ℕ) × (is : List Instr) × (Whole ≡ Whole) × (At n ≡ At n')
+        × (content_at code n' ≡ Some is)
     found (Some is) c e = (n, is, refl, refl, c)
     found None c e = absurd (let no : ⊥ = omega (arith, e) in no)
 
@@ -150,12 +162,14 @@ IsGoing : Run SlotState → Type 0
 IsGoing (GoesOn c out) = Unit {0}
 IsGoing (Over why out) = ⊥
 
-ended_before : (step : SlotState → Step SlotState) (d : ℕ) (r : Run SlotState) (why : End) (out : List ℕ) (c : SlotState) (o : List ℕ) → r ≡ Over why out → advance_by step d r ≡ GoesOn c o → ⊥
+ended_before : (step : SlotState → Step SlotState) (d : ℕ) (r : Run SlotState) (why : End) (out : List ℕ) (c : SlotState) (o : List ℕ)
+    → r ≡ Over why out → advance_by step d r ≡ GoesOn c o → ⊥
 unfolding IsGoing
 ended_before step d r why out c o e h = subst IsGoing (sym h ∙ ap (advance_by step d) e ∙ over_stays step d why out) tt
 
 -- at the beginning of a line with m beginnings before it, the source has done m lines
-module _ (code : SlotCode) (m : ℕ) (r : Run SlotState) (k : ℕ) (c : SlotState) (out : List ℕ) (now : advance_by (slot_step code) k r ≡ GoesOn c out) (met : beginnings code k r ≡ m) (begins_here : begins c.rest c.state.place ≡ 1) where
+module _ (code : SlotCode) (m : ℕ) (r : Run SlotState) (k : ℕ) (c : SlotState) (out : List ℕ) (now : advance_by (slot_step code) k r ≡ GoesOn c out)
+    (met : beginnings code k r ≡ m) (begins_here : begins c.rest c.state.place ≡ 1) where
   too_late : (j : ℕ) → k < j → m < beginnings code j r
   too_late j lt =
       let e : j ≡ k + suc (j - k - 1) = omega (arith, lt) in
@@ -163,7 +177,8 @@ module _ (code : SlotCode) (m : ℕ) (r : Run SlotState) (k : ℕ) (c : SlotStat
       let b : begins_in (advance_by (slot_step code) k r) ≡ 1 = ap begins_in now ∙ begins_here in
       omega (arith, s, b, met)
 
-  behind_place : (p : Place) (s : State) (w : Slots) (o : List ℕ) (j : ℕ) → s.place ≡ p → j < k → advance_by (slot_step code) j r ≡ GoesOn (record { state = s; rest = Whole; slots = w }) o → beginnings code j r ≡ m → ⊥
+  behind_place : (p : Place) (s : State) (w : Slots) (o : List ℕ) (j : ℕ) → s.place ≡ p → j < k → advance_by (slot_step code) j r
+      ≡ GoesOn (record { state = s; rest = Whole; slots = w }) o → beginnings code j r ≡ m → ⊥
   behind_place (At n) s w o j here lt e b =
       let d : k ≡ j + suc (k - j - 1) = omega (arith, lt) in
       let t = ap (λ n. beginnings code n r) d ∙ beginnings_sum code j (suc (k - j - 1)) r in
@@ -178,7 +193,8 @@ module _ (code : SlotCode) (m : ℕ) (r : Run SlotState) (k : ℕ) (c : SlotStat
   same_line : (source : Run State) (j : ℕ) → Meets m source (advance_by (slot_step code) j r) (beginnings code j r) → source ≡ GoesOn c.state out
   same_line (Over why o) j h =
       ⊎_elim (λ lt. absurd (let no : ⊥ = omega (arith, too_late j lt, h.1) in no))
-      (λ le. absurd (let d : k ≡ j + (k - j) = omega (arith, le) in ended_before (slot_step code) (k - j) (advance_by (slot_step code) j r) why o c out h.0 (sym (advance_sum (slot_step code) j (k - j) r) ∙ ap (λ n. advance_by (slot_step code) n r) (sym d) ∙ now)))
+      (λ le. absurd (let d : k ≡ j + (k - j) = omega (arith, le) in ended_before (slot_step code) (k - j) (advance_by (slot_step code) j r) why o c
+          out h.0 (sym (advance_sum (slot_step code) j (k - j) r) ∙ ap (λ n. advance_by (slot_step code) n r) (sym d) ∙ now)))
       (cases_lt k j)
   same_line (GoesOn s o) j h =
       ⊎_elim (λ lt. absurd (let no : ⊥ = omega (arith, too_late j lt, h.3) in no))
@@ -222,18 +238,23 @@ module _ (IsEnd : End → machine.State → Type 0)
     related : R c y
     begun : passed step k r ≡ b
 
-  stood : (fuel : ℕ) (c : SlotState) (x : machine.State) (es : List Event) → goes es < fuel → R c x → all_lawful es x ≡ true → starts (run es x) ≡ 1 → Stood (GoesOn c x.sent) (run es x) (met starts es x)
+  stood : (fuel : ℕ) (c : SlotState) (x : machine.State) (es : List Event) → goes es < fuel → R c x → all_lawful es x ≡ true → starts (run es x) ≡ 1
+      → Stood (GoesOn c x.sent) (run es x) (met starts es x)
   stood zero c x es lt r l one = absurd (omega arith)
   stood (suc fuel) c x es lt r l one = by (step_law c es x r l) (λ c' y back lt' r' l' one'. stood fuel c' y back lt' r' l' one')
     where
-      past_goal : (st : Step SlotState) → step c ≡ st → (front back : List Event) → front ++ back ≡ es → 1 ≤ goes front → Goal st (run front x) → (run front x).sent ≡ x.sent ++ sent_in st → met starts front x ≡ lines_at code c.rest c.state.place → ((c' : SlotState) (y : machine.State) (back : List Event) → goes back < fuel → R c' y → all_lawful back y ≡ true → starts (run back y) ≡ 1 → Stood (GoesOn c' y.sent) (run back y) (met starts back y)) → Stood (GoesOn c x.sent) (run es x) (met starts es x)
+      past_goal : (st : Step SlotState) → step c ≡ st → (front back : List Event) → front ++ back ≡ es → 1 ≤ goes front → Goal st (run front x)
+          → (run front x).sent ≡ x.sent ++ sent_in st → met starts front x ≡ lines_at code c.rest c.state.place
+          → ((c' : SlotState) (y : machine.State) (back : List Event) → goes back < fuel → R c' y → all_lawful back y ≡ true → starts (run back y) ≡ 1
+          → Stood (GoesOn c' y.sent) (run back y) (met starts back y)) → Stood (GoesOn c x.sent) (run es x) (met starts es x)
       past_goal (Stops why t) e front back eq some goal same v next =
           let stay = keeps.ends_stay IsEnd end_stays step R W limit why back (run front x) (lawful_back front back es x eq l) goal in
           absurd (let no : ⊥ = omega (arith, one, ap starts (run_back front back es x eq), no_start_at_end why _ stay.0) in no)
       past_goal (Goes c' t) e front back eq some goal same v next =
           let j = run_back front back es x eq in
           let s = next c' (run front x) back (omega (arith, lt, some, goes_back front back es eq)) goal (lawful_back front back es x eq l) (ap starts j ∙ one) in
-          let b : passed step s.k (joined x.sent (step c)) ≡ met starts back (run front x) = ap (λ st. passed step s.k (joined x.sent st)) e ∙ ap (λ o. passed step s.k (GoesOn c' o)) (sym same) ∙ s.begun in
+          let b : passed step s.k (joined x.sent (step c)) ≡ met starts back (run front x) = ap (λ st. passed step s.k (joined x.sent st)) e
+              ∙ ap (λ o. passed step s.k (GoesOn c' o)) (sym same) ∙ s.begun in
           let g = stride.begins_line c c' t e in
           record {
             k = suc s.k;
@@ -243,7 +264,8 @@ module _ (IsEnd : End → machine.State → Type 0)
             begun = omega (arith, b, g, v, met_sum front back es x eq);
           }
 
-      by : Law c x es → ((c' : SlotState) (y : machine.State) (back : List Event) → goes back < fuel → R c' y → all_lawful back y ≡ true → starts (run back y) ≡ 1 → Stood (GoesOn c' y.sent) (run back y) (met starts back y)) → Stood (GoesOn c x.sent) (run es x) (met starts es x)
+      by : Law c x es → ((c' : SlotState) (y : machine.State) (back : List Event) → goes back < fuel → R c' y → all_lawful back y ≡ true
+          → starts (run back y) ≡ 1 → Stood (GoesOn c' y.sent) (run back y) (met starts back y)) → Stood (GoesOn c x.sent) (run es x) (met starts es x)
       by (before none a same v) next = record { k = 0; c = c; now = ap (λ o. GoesOn c o) (sym same); related = a; begun = sym v }
       by (between w v few) next = absurd (let no : ⊥ = omega (arith, one, no_start _ w) in no)
       by (behind front back eq some few goal same v) next = past_goal (step c) refl front back eq some goal same v next
@@ -258,17 +280,23 @@ module _ (IsEnd : End → machine.State → Type 0)
     all : (run front x).sent ≡ out
     begun : met starts front x ≡ passed step k r
 
-  comes : (k : ℕ) (c : SlotState) (x : machine.State) (es : List Event) → R c x → all_lawful es x ≡ true → k * limit ≤ goes es → (c' : SlotState) (out : List ℕ) → advance_by step k (GoesOn c x.sent) ≡ GoesOn c' out → Come (GoesOn c x.sent) c' out k x es
-  comes zero c x es r l le c' out e = let a : c ≡ c' = cc in let o : x.sent ≡ out = cc in record { front = []; back = es; split = refl; few = omega arith; related = subst (λ c. R c x) a r; all = o; begun = refl }
+  comes : (k : ℕ) (c : SlotState) (x : machine.State) (es : List Event) → R c x → all_lawful es x ≡ true → k * limit ≤ goes es
+      → (c' : SlotState) (out : List ℕ) → advance_by step k (GoesOn c x.sent) ≡ GoesOn c' out → Come (GoesOn c x.sent) c' out k x es
+  comes zero c x es r l le c' out e = let a : c ≡ c' = cc in let o : x.sent ≡ out = cc in record { front = []; back = es; split = refl;
+      few = omega arith; related = subst (λ c. R c x) a r; all = o; begun = refl }
   comes (suc k) c x es r l le c' out e = by (step_law c es x r l) (λ d y back r' l' le' e'. comes k d y back r' l' le' c' out e')
     where
-      past_goal : (st : Step SlotState) → step c ≡ st → (front back : List Event) → front ++ back ≡ es → goes front ≤ limit → Goal st (run front x) → (run front x).sent ≡ x.sent ++ sent_in st → met starts front x ≡ lines_at code c.rest c.state.place → ((d : SlotState) (y : machine.State) (back : List Event) → R d y → all_lawful back y ≡ true → k * limit ≤ goes back → advance_by step k (GoesOn d y.sent) ≡ GoesOn c' out → Come (GoesOn d y.sent) c' out k y back) → Come (GoesOn c x.sent) c' out (suc k) x es
+      past_goal : (st : Step SlotState) → step c ≡ st → (front back : List Event) → front ++ back ≡ es → goes front ≤ limit → Goal st (run front x)
+          → (run front x).sent ≡ x.sent ++ sent_in st → met starts front x ≡ lines_at code c.rest c.state.place
+          → ((d : SlotState) (y : machine.State) (back : List Event) → R d y → all_lawful back y ≡ true → k * limit ≤ goes back
+          → advance_by step k (GoesOn d y.sent) ≡ GoesOn c' out → Come (GoesOn d y.sent) c' out k y back) → Come (GoesOn c x.sent) c' out (suc k) x es
       past_goal (Stops why t) q front back eq few goal same v next =
           absurd (ended_before step k (joined x.sent (step c)) why (x.sent ++ t) c' out (ap (joined x.sent) q) e)
       past_goal (Goes d t) q front back eq few goal same v next =
           let s = next d (run front x) back goal (lawful_back front back es x eq l) (omega (arith, le, few, goes_back front back es eq))
           (ap (λ o. advance_by step k (GoesOn d o)) same ∙ ap (λ st. advance_by step k (joined x.sent st)) (sym q) ∙ e) in
-          let b : passed step k (joined x.sent (step c)) ≡ met starts s.front (run front x) = ap (λ st. passed step k (joined x.sent st)) q ∙ ap (λ o. passed step k (GoesOn d o)) (sym same) ∙ sym s.begun in
+          let b : passed step k (joined x.sent (step c)) ≡ met starts s.front (run front x) = ap (λ st. passed step k (joined x.sent st)) q
+              ∙ ap (λ o. passed step k (GoesOn d o)) (sym same) ∙ sym s.begun in
           let g = stride.begins_line c d t q in
           let j = run_back front s.front (front ++ s.front) x refl in
           record {
@@ -281,7 +309,8 @@ module _ (IsEnd : End → machine.State → Type 0)
             begun = omega (arith, b, g, v, met_sum front s.front (front ++ s.front) x refl);
           }
 
-      by : Law c x es → ((d : SlotState) (y : machine.State) (back : List Event) → R d y → all_lawful back y ≡ true → k * limit ≤ goes back → advance_by step k (GoesOn d y.sent) ≡ GoesOn c' out → Come (GoesOn d y.sent) c' out k y back) → Come (GoesOn c x.sent) c' out (suc k) x es
+      by : Law c x es → ((d : SlotState) (y : machine.State) (back : List Event) → R d y → all_lawful back y ≡ true → k * limit ≤ goes back
+          → advance_by step k (GoesOn d y.sent) ≡ GoesOn c' out → Come (GoesOn d y.sent) c' out k y back) → Come (GoesOn c x.sent) c' out (suc k) x es
       by (before none a same v) next = absurd (let no : ⊥ = omega (arith, none, le, positive) in no)
       by (between w v few) next = absurd (let no : ⊥ = omega (arith, few, le) in no)
       by (behind front back eq some few goal same v) next = past_goal (step c) refl front back eq few goal same v next
@@ -312,7 +341,8 @@ module _ (IsEnd : End → machine.State → Type 0)
           let g = ap (count 1) not_go in
           let s = ap (count (starts x)) not_go in
           let n = next k.0 (omega (arith, some, g, first_counts e es)) in
-          record { front = e ∷ n.front; event = n.event; back = n.back; split = ap (λ l. e ∷ l) n.split; own = n.own; none = omega (arith, g, n.none, first_counts e n.front); related = n.related; all = n.all ∙ k.1; begun = omega (arith, s, n.begun) }
+          record { front = e ∷ n.front; event = n.event; back = n.back; split = ap (λ l. e ∷ l) n.split; own = n.own;
+              none = omega (arith, g, n.none, first_counts e n.front); related = n.related; all = n.all ∙ k.1; begun = omega (arith, s, n.begun) }
 
   -- ── against the source ──
   -- the source has done m lines and goes on at a line, and so does the machine
@@ -365,10 +395,13 @@ module _ (IsEnd : End → machine.State → Type 0)
         }
 
     -- where the source goes on at a line after m, the machine begins it within a bound
-    pub line_comes : (m : ℕ) (s : State) (out : List ℕ) (n : ℕ) (is : List Instr) → source_run program seed text answers m ≡ GoesOn s out → s.place ≡ At n → content_at code n ≡ Some is → (es : List Event) → all_lawful es x ≡ true → m * (longest code + 1) * limit + 1 ≤ goes es → Begins seed text answers m (m * (longest code + 1) * limit + 1) x es
+    pub line_comes : (m : ℕ) (s : State) (out : List ℕ) (n : ℕ) (is : List Instr) → source_run program seed text answers m ≡ GoesOn s out
+        → s.place ≡ At n → content_at code n ≡ Some is → (es : List Event) → all_lawful es x ≡ true → m * (longest code + 1) * limit + 1 ≤ goes es
+        → Begins seed text answers m (m * (longest code + 1) * limit + 1) x es
     line_comes m s out n is e here found es l le =
         let f = follows.reaches seed text answers slots size m in
-        let h : Meets m (GoesOn s out) (slot_run code seed text answers slots f.0) (beginnings code f.0 (slot_start code seed text answers slots)) = subst (λ q. Meets m q (slot_run code seed text answers slots f.0) (beginnings code f.0 (slot_start code seed text answers slots))) e f.2 in
+        let h : Meets m (GoesOn s out) (slot_run code seed text answers slots f.0) (beginnings code f.0 (slot_start code seed text answers slots)) =
+            subst (λ q. Meets m q (slot_run code seed text answers slots f.0) (beginnings code f.0 (slot_start code seed text answers slots))) e f.2 in
         let c : SlotState = record { state = s; rest = Whole; slots = h.0 } in
         let k = stride.found f.0 (GoesOn first []) (subst IsOutside (sym h.2) refl) in
         let small : k.count * limit ≤ m * (longest code + 1) * limit = mul-le-mul_right limit (le_trans k.few f.1) in

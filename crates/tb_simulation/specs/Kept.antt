@@ -46,4 +46,5 @@ HasDone (Over why out) t = (t.sent ≡ out) × HasEnded why t
 pub record Keeps (place : ℕ) (bytes : List ℕ) (program : Program) (seed : ℕ) : Type 0 where
   pub sound : (s : machine.State) → Starts place bytes s → (es : List Event) → all_lawful es s ≡ true → IsSound program seed s (run es s)
   pub pace : (text answers : List ℕ) (m : ℕ) → ℕ
-  pub paced : (s : machine.State) → Starts place bytes s → (es : List Event) → all_lawful es s ≡ true → (m : ℕ) → pace s.text s.answers m ≤ goes es → HasDone (source_run program seed s.text s.answers m) (run es s)
+  pub paced : (s : machine.State) → Starts place bytes s → (es : List Event) → all_lawful es s ≡ true → (m : ℕ) → pace s.text s.answers m ≤ goes es
+      → HasDone (source_run program seed s.text s.answers m) (run es s)

@@ -61,6 +61,9 @@ pub record LineComes (program : Program) (start : ℕ → ℕ) (s : machine.Stat
 -- the one at which the source goes on after m lines; and where the source goes on at a line after m lines, the machine
 -- begins one after m within a number of Go events that depends on the program, the first RND state, the keyboard and m alone
 pub record MarksLines (place : ℕ) (bytes : List ℕ) (program : Program) (seed : ℕ) (start : ℕ → ℕ) : Type 0 where
-  pub begins : (s : machine.State) → Starts place bytes s → (es : List Event) → all_lawful es s ≡ true → (n : ℕ) → has_line (numbers program) n ≡ true → (run es s).regs.pc ≡ start n → BeginsLine program seed start s (begun start (numbers program) es s) n (run es s)
+  pub begins : (s : machine.State) → Starts place bytes s → (es : List Event) → all_lawful es s ≡ true → (n : ℕ) → has_line (numbers program) n ≡ true
+      → (run es s).regs.pc ≡ start n → BeginsLine program seed start s (begun start (numbers program) es s) n (run es s)
   pub pace : (text answers : List ℕ) (m : ℕ) → ℕ
-  pub comes : (s : machine.State) → Starts place bytes s → (m : ℕ) (state : State) (out : List ℕ) (n : ℕ) → source_run program seed s.text s.answers m ≡ GoesOn state out → state.place ≡ At n → (es : List Event) → all_lawful es s ≡ true → pace s.text s.answers m ≤ goes es → LineComes program start s m (pace s.text s.answers m) es
+  pub comes : (s : machine.State) → Starts place bytes s → (m : ℕ) (state : State) (out : List ℕ) (n : ℕ) → source_run program seed s.text s.answers m
+      ≡ GoesOn state out → state.place ≡ At n → (es : List Event) → all_lawful es s ≡ true → pace s.text s.answers m ≤ goes es
+      → LineComes program start s m (pace s.text s.answers m) es

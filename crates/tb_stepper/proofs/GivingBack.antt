@@ -1,5 +1,6 @@
 -- Lists of undos: one more undo, and undos that are dropped.
-use Rattle.std.proofs.Common.{ℕ, ◌≡◌, ◌-◌, ◌+◌, ◌≤◌, Bool, true, ◌&&◌, List, [], ◌∷◌, ◌++◌, length, drop, refl, sym, ap, subst, ◌∙◌, arith, suc, zero, length-append, length-drop}
+use Rattle.std.proofs.Common.{ℕ, ◌≡◌, ◌-◌, ◌+◌, ◌≤◌, Bool, true, ◌&&◌, List, [], ◌∷◌, ◌++◌, length, drop, refl, sym, ap}
+use Rattle.std.proofs.Common.{subst, ◌∙◌, arith, suc, zero, length-append, length-drop}
 use Rattle.std.specs.Prelude.{nat_le, Ok}
 use Rattle.std.proofs.lemmas.Bool.{and_parts, and_from}
 use Rattle.std.proofs.lemmas.Bool.Decides.{nat_tests}
@@ -130,7 +131,8 @@ kept_fit m ready n e t u us r noted h f =
 
 -- an event that happened, with its undo, adds a machine
 pub added : {O : Type 0} (gives : O → Content → Event → O → Type 0) (h k : Holds O) (ready : Content) (e : Event) (t : Status) (u : Former) →
-    ready ≡ record h.machine { room = ready.room } → gives h.outside ready e k.outside → IsFormer u ready e → Happened ready e (Ok t) k.machine → k.undos ≡ keep_last 1000 (h.undos ++ u ∷ []) → k.program ≡ h.program →
+    ready ≡ record h.machine { room = ready.room } → gives h.outside ready e k.outside → IsFormer u ready e → Happened ready e (Ok t) k.machine
+        → k.undos ≡ keep_last 1000 (h.undos ++ u ∷ []) → k.program ≡ h.program →
     Added gives h k
 added gives h k ready e t u r given noted happened undos program =
     let same : state_of ready ≡ state_of h.machine = ap state_of r in

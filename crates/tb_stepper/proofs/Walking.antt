@@ -25,7 +25,8 @@ module _ {O : Type 0} (gives : O → Content → Event → O → Type 0) where
   refused_by false h k e x = x
 
   -- a step for which there was no room
-  pub refused : (address limit n : ℕ) (h b k : Holds O) (e : AllocError) → Walked gives address n h b → end_at address (nat_lt 0 n) (state_of b.machine) ≡ None → n < limit → Stepped gives b (Err e) k →
+  pub refused : (address limit n : ℕ) (h b k : Holds O) (e : AllocError) → Walked gives address n h b
+      → end_at address (nat_lt 0 n) (state_of b.machine) ≡ None → n < limit → Stepped gives b (Err e) k →
       Reaches gives address limit h (Err e) k
   refused address limit n h b k e w none less s =
       let r = refused_by (is_stopped (status (state_of b.machine))) b k e s in

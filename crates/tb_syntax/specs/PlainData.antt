@@ -6,9 +6,9 @@ use Rattle.tb_syntax.specs.declared.expressions.Expr.{Expr}
 use Rattle.tb_syntax.specs.declared.expressions.Expr.TheVariants as expr
 use Rattle.tb_syntax.specs.declared.statements.PrintItem.{PrintItem}
 use Rattle.tb_syntax.specs.declared.statements.PrintItem.TheVariants as item
-use Rattle.tb_syntax.specs.declared.statements.Statement.{RustStatement as RustStatement}
+use Rattle.tb_syntax.specs.declared.statements.Statement.{Statement as RustStatement}
 use Rattle.tb_syntax.specs.declared.statements.Statement.TheVariants as statement
-use Rattle.tb_syntax.specs.Source.{Expression, Number, Variable, Negate, Binary, Random, Item, Text, Value, Zone, RustStatement, Let, Print, Input, If, Goto, Gosub, Return, End, Remark, Numbered, Program}
+use Rattle.tb_syntax.specs.Source.{Expression, Number, Variable, Negate, Binary, Random, Item, Text, Value, Zone, Statement, Let, Print, Input, If, Goto, Gosub, Return, End, Remark, Numbered, Program}
 
 -- an expression as plain data
 abbrev pub expression_of : Expr → Expression
@@ -29,7 +29,7 @@ abbrev pub letters_of : List Letter → List ℕ
 letters_of xs = map letter_index xs
 
 -- a statement as plain data
-abbrev pub statement_of : RustStatement → RustStatement
+abbrev pub statement_of : RustStatement → Statement
 statement_of (statement.Let x e) = Let (letter_index x) (expression_of e)
 statement_of (statement.Print items ends) = Print (map item_of items.items) ends
 statement_of (statement.Input xs) = Input (letters_of xs.items)
@@ -41,7 +41,7 @@ statement_of statement.End = End
 statement_of statement.Remark = Remark
 
 -- a line number with its statement, as a line of plain data
-abbrev pub line_of : ℕ × RustStatement → Numbered RustStatement
+abbrev pub line_of : ℕ × RustStatement → Numbered Statement
 line_of l = record { number = l.0; content = statement_of l.1 }
 
 -- a program's model, which is the list of its numbers and statements

@@ -15,7 +15,9 @@ use Rattle.tb_asm.specs.declared.items.Operand.TheVariants.{Byte, Word}
 use Rattle.tb_asm.specs.Layout.{Entry, instr, label, bytes, word, suits, has_mode}
 use Rattle.tb_meaning.specs.Control.{has_line}
 use Rattle.tb_lower.specs.Slots.{Instr, Load, JumpTo, CallTo, SlotCode}
-use Rattle.tb_selection.specs.Groups.{Conversion, Negated, Drawn, Usage, AsNumber, AsLine, AsSubroutine, Constant, Variable, Divisibility, Divisible, Indivisible, Group, Calculate, Stepped, Convert, Move, Use, Test, TestGo, Divides, Remains, Single, contrary, denied, slot_of}
+use Rattle.tb_selection.specs.Groups.{Conversion, Negated, Drawn, Usage, AsNumber, AsLine, AsSubroutine, Constant, Variable, Divisibility, Divisible}
+use Rattle.tb_selection.specs.Groups.{Indivisible, Group, Calculate, Stepped, Convert, Move, Use, Test, TestGo, Divides, Remains, Single, contrary, denied}
+use Rattle.tb_selection.specs.Groups.{slot_of}
 use Rattle.tb_selection.specs.Select.{select}
 use Rattle.tb_runtime16.specs.Places.{LEFT, RIGHT, RESULT, LINE, MULTIPLY_AT, DIVIDE_AT, RANDOM_AT}
 use Rattle.tb_templates.specs.declared.labels.Inner.TheVariants.{Behind, Skip}
@@ -23,7 +25,9 @@ use Rattle.tb_templates.specs.declared.labels.Target.{Target}
 use Rattle.tb_templates.specs.declared.labels.Target.TheVariants.{Inside, Line}
 use Rattle.tb_templates.specs.Templates.{branch, slot_at, var_at, on, template, faulted, jump_to, call_to, next_line, call, copied, constant}
 use Rattle.tb_templates.specs.Sources.{Source, FixedWord, AtPlace, source_of, tested_source, home_at, destination_at}
-use Rattle.tb_templates.specs.GroupTemplates.{brought, summed, taken, handed, multiplied, divided, calculated, computed, changed_or, converted, used, equal, unequal, tested, gone, may_fault, group_template, lined, may_be_zero, may_have_none, left_over, unless, divided_by, divided_gone, divides, asked_rest, signed_rest, remains}
+use Rattle.tb_templates.specs.GroupTemplates.{brought, summed, taken, handed, multiplied, divided, calculated, computed, changed_or, converted, used, equal}
+use Rattle.tb_templates.specs.GroupTemplates.{unequal, tested, gone, may_fault, group_template, lined, may_be_zero, may_have_none, left_over, unless}
+use Rattle.tb_templates.specs.GroupTemplates.{divided_by, divided_gone, divides, asked_rest, signed_rest, remains}
 use Rattle.tb_templates.specs.Scaled.{scaling, times, shifts, shifted}
 use Rattle.tb_templates.specs.InPlace.{Change, Increment, Decrement, Raise, Lower, Halve, Double, change_of, changed}
 use Rattle.tb_templates.specs.Masks.{mask}
@@ -52,7 +56,8 @@ right_true false q h = absurd (true≢false (sym h))
 has_form_mode : (e : Entry) → has_form e ≡ true → has_mode e ≡ true
 has_form_mode (instr n m o) h =
     let rest = right_true (is_some (find_opcode rows n m)) (suits m o && may_move (instr n m o)) h in
-    and_from (is_some (encoded n m)) (suits m o) (ap is_some (encoded_by n m) ∙ left_true (is_some (find_opcode rows n m)) (suits m o && may_move (instr n m o)) h) (left_true (suits m o) (may_move (instr n m o)) rest)
+    and_from (is_some (encoded n m)) (suits m o) (ap is_some (encoded_by n m) ∙ left_true (is_some (find_opcode rows n m))
+        (suits m o && may_move (instr n m o)) h) (left_true (suits m o) (may_move (instr n m o)) rest)
 has_form_mode (label n) h = refl
 has_form_mode (bytes bs) h = refl
 has_form_mode (word o) h = h
@@ -123,7 +128,8 @@ taken_forms (AtPlace p) (AtPlace q) to = refl
 
 handed_forms : (routine from : ℕ) (a b : Source) (to : ℕ) → list_all has_form (handed routine from a b to) ≡ true
 handed_forms routine from a b to =
-    forms_append (brought a LEFT) (brought b RIGHT ++ (call routine ∷ copied from to)) (brought_forms a LEFT) (forms_append (brought b RIGHT) (call routine ∷ copied from to) (brought_forms b RIGHT) (copied_forms from to))
+    forms_append (brought a LEFT) (brought b RIGHT ++ (call routine ∷ copied from to)) (brought_forms a LEFT)
+        (forms_append (brought b RIGHT) (call routine ∷ copied from to) (brought_forms b RIGHT) (copied_forms from to))
 
 lined_forms : (t : Bool) (n : ℕ) (es : List Entry) → list_all has_form es ≡ true → list_all has_form (lined t n es) ≡ true
 lined_forms true n es h = h
@@ -262,7 +268,8 @@ rest_forms ns seed n i (g ∷ gs) = forms_append (group_template ns seed n i g) 
 
 line_forms : (ns : List ℕ) (seed n : ℕ) (is : List Instr) → list_all has_form (list_code ns seed n is) ≡ true
 line_forms ns seed n is =
-    by_poll (λ es. list_all has_form es ≡ true) ns seed n is (λ js e. forms_append (polled n) (rest_code ns seed n 1 (select js)) refl (rest_forms ns seed n 1 (select js))) (rest_forms ns seed n 1 (select is))
+    by_poll (λ es. list_all has_form es ≡ true) ns seed n is (λ js e. forms_append (polled n) (rest_code ns seed n 1 (select js)) refl
+        (rest_forms ns seed n 1 (select js))) (rest_forms ns seed n 1 (select is))
 
 broken_forms : (ns : List ℕ) → list_all has_form (all_broken ns) ≡ true
 broken_forms [] = refl

@@ -1,5 +1,6 @@
 -- The code of a program is no longer than its cost, however many branches are replaced.
-use Rattle.std.proofs.Common.{◌≡◌, ℕ, zero, suc, ◌+◌, ◌*◌, ◌/◌, ◌%◌, ◌<◌, ◌≤◌, Bool, true, false, List, [], ◌∷◌, ◌++◌, length, refl, sym, ap, ◌∙◌, arith, subst, sum_by, Option, Some, None}
+use Rattle.std.proofs.Common.{◌≡◌, ℕ, zero, suc, ◌+◌, ◌*◌, ◌/◌, ◌%◌, ◌<◌, ◌≤◌, Bool, true, false, List, [], ◌∷◌}
+use Rattle.std.proofs.Common.{◌++◌, length, refl, sym, ap, ◌∙◌, arith, subst, sum_by, Option, Some, None}
 use Rattle.std.specs.Prelude.{if◌then◌else◌, nat_eq, nat_le, nat_lt}
 use Rattle.std.proofs.lemmas.Bool.{and_parts, leb-true}
 use Rattle.std.proofs.lemmas.List.Sums.{sum_by-cons}
@@ -19,7 +20,10 @@ use Rattle.tb_meaning.specs.Cost.{nodes, item_cost, statement_cost, cost}
 use Rattle.tb_lower.specs.Lowered.{value_code, or_constant, target_code, item_code, items_code, inputs_code, newline_code, statement_code, program_code}
 use Rattle.tb_meaning.specs.Values.{constant}
 use Rattle.tb_lower.specs.Slots.{Instr, Put, Load, Store, Negate, Compute, Random, SendNumber, Hold, LeaveUnless, Jump, Call, JumpTo, CallTo}
-use Rattle.tb_selection.specs.Groups.{Conversion, Negated, Drawn, Usage, AsNumber, AsLine, AsSubroutine, Constant, Variable as OfVariable, InSlot, Operand, Divisibility, Group, Calculate, Stepped, Convert, Move, Use, Test, TestGo, OnLeft, OnRight, Divides, Remains, Single, compared, contrary, multiple, onward, Home, IntoVariable, IntoHeld, slot_of, fetch, keep, kept, held, convert, use_of, denied, expand, expand_all}
+use Rattle.tb_selection.specs.Groups.{Conversion, Negated, Drawn, Usage, AsNumber, AsLine, AsSubroutine, Constant, Variable as OfVariable, InSlot, Operand}
+use Rattle.tb_selection.specs.Groups.{Divisibility, Group, Calculate, Stepped, Convert, Move, Use, Test, TestGo, OnLeft, OnRight, Divides, Remains, Single}
+use Rattle.tb_selection.specs.Groups.{compared, contrary, multiple, onward, Home, IntoVariable, IntoHeld, slot_of, fetch, keep, kept, held, convert, use_of}
+use Rattle.tb_selection.specs.Groups.{denied, expand, expand_all}
 use Rattle.tb_selection.specs.Select.{select}
 use Rattle.tb_selection.proofs.Bracketed.{brackets}
 use Rattle.tb_runtime16.specs.Places.{LEFT, RIGHT, RESULT, MULTIPLY_AT, DIVIDE_AT, RANDOM_AT}
@@ -28,7 +32,9 @@ use Rattle.tb_templates.specs.declared.labels.Target.{Target}
 use Rattle.tb_templates.specs.declared.labels.Target.TheVariants.{Inside, Line}
 use Rattle.tb_templates.specs.Templates.{branch, const, next_line, call, copied, faulted, slot_at, var_at, on}
 use Rattle.tb_templates.specs.Sources.{Source, FixedWord, AtPlace, source_of, tested_source, home_at, destination_at}
-use Rattle.tb_templates.specs.GroupTemplates.{low_of, high_of, brought, joined, handed, multiplied, divided, calculated, computed, changed_or, converted, used, equal, unequal, tested, gone, group_template, lined, may_be_zero, may_have_none, told, remainder, left_over as beyond, unless, divided_by, divided_gone, divides, asked_rest, signed_rest, remains}
+use Rattle.tb_templates.specs.GroupTemplates.{low_of, high_of, brought, joined, handed, multiplied, divided, calculated, computed, changed_or, converted, used}
+use Rattle.tb_templates.specs.GroupTemplates.{equal, unequal, tested, gone, group_template, lined, may_be_zero, may_have_none, told, remainder}
+use Rattle.tb_templates.specs.GroupTemplates.{left_over as beyond, unless, divided_by, divided_gone, divides, asked_rest, signed_rest, remains}
 use Rattle.tb_templates.specs.Masks.{mask}
 use Rattle.tb_templates.specs.Orders.{Side, Order, BySign, ByConstant, ByDifference, ordered_by}
 use Rattle.tb_templates.specs.Scaled.{at_zero, rounded, raised, halved, halvings, high_first, shifts, shifted, by_bit, by_bits, bits_size, is_factor, scaling, low_first, times}
@@ -133,7 +139,8 @@ bits_fit (suc k) factor a = by (bits_fit k (factor / 2) a) (nat_lt factor 2)
     odd : Bool
     odd = nat_eq (factor % 2) 1
 
-    by : most (by_bits k (factor / 2) a) ≤ bits_size k (factor / 2) → (t : Bool) → most (if t then [] else by_bits k (factor / 2) a ++ by_bit odd a) ≤ (if t then 0 else bits_size k (factor / 2) + (if odd then 16 else 3))
+    by : most (by_bits k (factor / 2) a) ≤ bits_size k (factor / 2) → (t : Bool) → most (if t then [] else by_bits k (factor / 2) a ++ by_bit odd a)
+        ≤ (if t then 0 else bits_size k (factor / 2) + (if odd then 16 else 3))
     by f true = omega arith
     by f false = let e = most_append (by_bits k (factor / 2) a) (by_bit odd a) in let g = bit_fits odd a in omega (arith, e, f, g)
 
@@ -337,7 +344,8 @@ value_room (Binary op l r) k =
 value_room (source.Random e) k =
     let a = value_room e k in let b = list_append (value_code e k) (Random k ∷ []) in omega (arith, a, b)
 
-target_room : (v : Option ℕ) (direct : ℕ → Instr) (d b : ℕ) (code : List Instr) → ((n : ℕ) → room (direct n) ≤ d) → d ≤ b → list_room code ≤ b → list_room (target_code v direct code) ≤ b
+target_room : (v : Option ℕ) (direct : ℕ → Instr) (d b : ℕ) (code : List Instr) → ((n : ℕ) → room (direct n) ≤ d) → d ≤ b → list_room code ≤ b
+    → list_room (target_code v direct code) ≤ b
 target_room (Some v) direct d b code p q r = let h = p v in omega (arith, h, q)
 target_room None direct d b code p q r = r
 

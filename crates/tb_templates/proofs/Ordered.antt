@@ -1,5 +1,6 @@
 -- The labels of a whole program rise.
-use Rattle.std.proofs.Common.{◌≡◌, ℕ, ◌+◌, ◌<◌, ◌≤◌, Bool, true, false, List, [], ◌∷◌, ◌++◌, length, refl, sym, ap, ◌∙◌, arith, subst, append_assoc, append-nil, inl, nat_lt, Option, Some, None}
+use Rattle.std.proofs.Common.{◌≡◌, ℕ, ◌+◌, ◌<◌, ◌≤◌, Bool, true, false, List, [], ◌∷◌, ◌++◌, length, refl, sym, ap, ◌∙◌}
+use Rattle.std.proofs.Common.{arith, subst, append_assoc, append-nil, inl, nat_lt, Option, Some, None}
 use Rattle.std.specs.Prelude.{if◌then◌else◌}
 use Rattle.std.proofs.lemmas.Bool.Decides.{nat_tests}
 use Rattle.tb_opcodes.specs.declared.Mnemonic.{Mnemonic}
@@ -11,7 +12,8 @@ use Rattle.tb_syntax.specs.Source.{numbers}
 use Rattle.tb_asm.specs.Layout.{Entry}
 use Rattle.tb_meaning.specs.Control.{At, has_line, next_after}
 use Rattle.tb_lower.specs.Slots.{Instr, SendText, JumpTo, CallTo, Return, SlotCode}
-use Rattle.tb_selection.specs.Groups.{Conversion, Negated, Drawn, Usage, AsNumber, AsLine, AsSubroutine, Constant, Variable, Divisibility, Group, Calculate, Stepped, Convert, Move, Use, Test, TestGo, Divides, Remains, Single, contrary, denied, slot_of}
+use Rattle.tb_selection.specs.Groups.{Conversion, Negated, Drawn, Usage, AsNumber, AsLine, AsSubroutine, Constant, Variable, Divisibility, Group, Calculate}
+use Rattle.tb_selection.specs.Groups.{Stepped, Convert, Move, Use, Test, TestGo, Divides, Remains, Single, contrary, denied, slot_of}
 use Rattle.tb_selection.specs.Select.{select}
 use Rattle.tb_runtime16.specs.Places.{LEFT, RIGHT, RESULT, LINE, MULTIPLY_AT, DIVIDE_AT, RANDOM_AT}
 use Rattle.tb_templates.specs.declared.labels.Inner.{Inner}
@@ -21,13 +23,16 @@ use Rattle.tb_templates.specs.declared.labels.Target.{Target}
 use Rattle.tb_templates.specs.declared.labels.Target.TheVariants.{Line, Inside, Table, Past}
 use Rattle.tb_templates.specs.Templates.{branch, var_at, template, faulted, called, jump_to, next_line, target_of, call, copied, constant}
 use Rattle.tb_templates.specs.Sources.{Source, FixedWord, AtPlace, source_of, tested_source, home_at, destination_at}
-use Rattle.tb_templates.specs.GroupTemplates.{brought, joined, handed, multiplied, divided, calculated, computed, changed_or, converted, used, equal, unequal, tested, gone, may_fault, group_template, lined, may_be_zero, may_have_none, left_over, unless, divided_by, divided_gone, divides, asked_rest, signed_rest, remains}
+use Rattle.tb_templates.specs.GroupTemplates.{brought, joined, handed, multiplied, divided, calculated, computed, changed_or, converted, used, equal, unequal}
+use Rattle.tb_templates.specs.GroupTemplates.{tested, gone, may_fault, group_template, lined, may_be_zero, may_have_none, left_over, unless, divided_by}
+use Rattle.tb_templates.specs.GroupTemplates.{divided_gone, divides, asked_rest, signed_rest, remains}
 use Rattle.tb_templates.specs.Scaled.{scaling, times, shifts, shifted}
 use Rattle.tb_templates.specs.InPlace.{Change, Increment, Decrement, Raise, Lower, Halve, Double, change_of, changed}
 use Rattle.tb_templates.specs.Masks.{mask}
 use Rattle.tb_templates.proofs.Divided.{asked_rest_plain, copied_plain, left_over_plain}
 use Rattle.tb_templates.specs.Orders.{Side, Order, BySign, ByConstant, ByDifference, lifted, ordered_by, signed, unless_carry, wanted_side, weighed}
-use Rattle.tb_templates.specs.Program.{rest_code, list_code, line_code, lines_code, past_code, find_code, rows_code, table_code, program_code, AreCodable, RisingFrom, first_of, AreInTurn, still_asking}
+use Rattle.tb_templates.specs.Program.{rest_code, list_code, line_code, lines_code, past_code, find_code, rows_code, table_code, program_code, AreCodable}
+use Rattle.tb_templates.specs.Program.{RisingFrom, first_of, AreInTurn, still_asking}
 use Rattle.tb_templates.specs.Breaks.{polled, all_broken, ends_away, done_behind, left_behind}
 use Rattle.tb_templates.proofs.Listed.{tested_by, by_poll}
 use Rattle.tb_templates.proofs.Plain.{lifted_plain, plain_rises, times_plain, shifted_plain}
@@ -120,7 +125,8 @@ calculated_rises low high n Divide a b to up = divided_rises low high n (shifts 
 
 converted_rises : (low high n seed : ℕ) (what : Conversion) (a : Source) (to : ℕ) → low ≤ high → Rising low (converted n seed what a to) high
 converted_rises low high n seed Negated a to up = joined_rises low high up Sbc (FixedWord 0) a to
-converted_rises low high n seed Drawn a to up = lined_rises low high (may_have_none a) n (handed RANDOM_AT RESULT a (FixedWord seed) to) (handed_rises low high RANDOM_AT RESULT a (FixedWord seed) to up)
+converted_rises low high n seed Drawn a to up = lined_rises low high (may_have_none a) n (handed RANDOM_AT RESULT a (FixedWord seed) to)
+    (handed_rises low high RANDOM_AT RESULT a (FixedWord seed) to up)
 
 used_rises : (low high n : ℕ) (next : Target) (how : Usage) (a : Source) → low ≤ high → Rising low (used n next how a) high
 used_rises low high n next AsNumber (FixedWord w) up = up
@@ -155,7 +161,8 @@ module _ (ns : List ℕ) (seed n i : ℕ) (small : n < 65536) (index : i < 65536
   call_rises to false = up
 
   template_rises : (c : Instr) → Rising (base n i) (template ns n i c) (base n (i + 1))
-  template_rises (SendText bs) = (let t = keyed inner.Text in omega (arith, t), (let t = keyed inner.Text in let u = keyed inner.Behind in omega (arith, t, u), let u = keyed inner.Behind in omega (arith, u)))
+  template_rises (SendText bs) = (let t = keyed inner.Text in omega (arith, t), (let t = keyed inner.Text in let u = keyed inner.Behind in
+      omega (arith, t, u), let u = keyed inner.Behind in omega (arith, u)))
   template_rises (JumpTo to) = jump_rises ns n to (base n i) (base n (i + 1)) (has_line ns to) refl up
   template_rises (CallTo to) = call_rises to (has_line ns to)
   template_rises Return = (let u = keyed inner.Behind in omega (arith, u), let u = keyed inner.Behind in omega (arith, u))
@@ -166,18 +173,22 @@ module _ (ns : List ℕ) (seed n i : ℕ) (small : n < 65536) (index : i < 65536
   single_rises false c = template_rises c
 
   -- the label of a change in place, wherever it is
-  changes_rise : (low high : ℕ) (skip : Target) → low ≤ key_of (label_of skip) → key_of (label_of skip) < high → (o : Option Change) (op : Operator) (a b : Source) (to : ℕ) → Rising low (changed_or o n skip op a b to) high
+  changes_rise : (low high : ℕ) (skip : Target) → low ≤ key_of (label_of skip) → key_of (label_of skip) < high → (o : Option Change) (op : Operator)
+      (a b : Source) (to : ℕ) → Rising low (changed_or o n skip op a b to) high
   changes_rise low high skip above below (Some c) op a b to = changed_rises low high skip above (omega (arith, below)) (omega (arith, above, below)) c to
   changes_rise low high skip above below None op a b to = calculated_rises low high n op a b to (omega (arith, above, below))
 
   -- and that of a remainder's sign
   remains_rise : (a b : Source) (to : ℕ) → Rising (base n i) (remains n (Inside inner.Skip n i) a b to) (base n (i + 1))
   remains_rise a b to =
-      rising_append (base n i) (base n i) (base n (i + 1)) (asked_rest n a b) (signed_rest (Inside inner.Skip n i) a to) (plain_rises (base n i) (base n i) (asked_rest n a b) (omega arith) (asked_rest_plain n a b)) (by a)
+      rising_append (base n i) (base n i) (base n (i + 1)) (asked_rest n a b) (signed_rest (Inside inner.Skip n i) a to)
+          (plain_rises (base n i) (base n i) (asked_rest n a b) (omega arith) (asked_rest_plain n a b)) (by a)
     where
       by : (a : Source) → Rising (base n i) (signed_rest (Inside inner.Skip n i) a to) (base n (i + 1))
-      by (FixedWord w) = let s = keyed inner.Skip in (omega (arith, s), plain_rises (key_of (label_of (Inside inner.Skip n i)) + 1) (base n (i + 1)) (copied RESULT to) (omega (arith, s)) (copied_plain RESULT to))
-      by (AtPlace p) = let s = keyed inner.Skip in (omega (arith, s), plain_rises (key_of (label_of (Inside inner.Skip n i)) + 1) (base n (i + 1)) (copied RESULT to) (omega (arith, s)) (copied_plain RESULT to))
+      by (FixedWord w) = let s = keyed inner.Skip in (omega (arith, s), plain_rises (key_of (label_of (Inside inner.Skip n i)) + 1) (base n (i + 1))
+          (copied RESULT to) (omega (arith, s)) (copied_plain RESULT to))
+      by (AtPlace p) = let s = keyed inner.Skip in (omega (arith, s), plain_rises (key_of (label_of (Inside inner.Skip n i)) + 1) (base n (i + 1))
+          (copied RESULT to) (omega (arith, s)) (copied_plain RESULT to))
 
   -- the label of a change in place in its code
   computed_rises : (o : Option Change) (op : Operator) (a b : Source) (to : ℕ) → Rising (base n i) (changed_or o n (Inside inner.Skip n i) op a b to) (base n (i + 1))
@@ -203,9 +214,13 @@ module _ (ns : List ℕ) (seed n i : ℕ) (small : n < 65536) (index : i < 65536
       computed_rises (change_of op x y to) op x y to
   group_rises (Stepped op a b by w x) =
       let to = var_at x in
-      rising_append (base n i) (key_of (label_of (Inside inner.Skip n i)) + 1) (base n (i + 1)) (computed n (Inside inner.Skip n i) op (source_of 0 a) (source_of 1 b) to) (computed n (Inside inner.Behind n i) by (AtPlace to) (source_of 1 (Constant w)) to)
-      (changes_rise (base n i) (key_of (label_of (Inside inner.Skip n i)) + 1) (Inside inner.Skip n i) (let s = keyed inner.Skip in omega (arith, s)) (omega arith) (change_of op (source_of 0 a) (source_of 1 b) to) op (source_of 0 a) (source_of 1 b) to)
-      (changes_rise (key_of (label_of (Inside inner.Skip n i)) + 1) (base n (i + 1)) (Inside inner.Behind n i) (let s = keyed inner.Skip in let u = keyed inner.Behind in omega (arith, s, u)) (let u = keyed inner.Behind in omega (arith, u)) (change_of by (AtPlace to) (source_of 1 (Constant w)) to) by (AtPlace to) (source_of 1 (Constant w)) to)
+      rising_append (base n i) (key_of (label_of (Inside inner.Skip n i)) + 1) (base n (i + 1)) (computed n (Inside inner.Skip n i) op (source_of 0 a)
+          (source_of 1 b) to) (computed n (Inside inner.Behind n i) by (AtPlace to) (source_of 1 (Constant w)) to)
+      (changes_rise (base n i) (key_of (label_of (Inside inner.Skip n i)) + 1) (Inside inner.Skip n i) (let s = keyed inner.Skip in omega (arith, s))
+          (omega arith) (change_of op (source_of 0 a) (source_of 1 b) to) op (source_of 0 a) (source_of 1 b) to)
+      (changes_rise (key_of (label_of (Inside inner.Skip n i)) + 1) (base n (i + 1)) (Inside inner.Behind n i) (let s = keyed inner.Skip in
+          let u = keyed inner.Behind in omega (arith, s, u)) (let u = keyed inner.Behind in omega (arith, u))
+          (change_of by (AtPlace to) (source_of 1 (Constant w)) to) by (AtPlace to) (source_of 1 (Constant w)) to)
   group_rises (Convert what a d) = converted_rises (base n i) (base n (i + 1)) n seed what (source_of (slot_of d) a) (destination_at d) up
   group_rises (Move a home) = brought_rises (base n i) (base n (i + 1)) up (source_of 0 a) (home_at home)
   group_rises (Use how a) = used_rises (base n i) (base n (i + 1)) n (next_line ns n) how (source_of 0 a) up
@@ -227,7 +242,8 @@ polled_rises n = omega arith
 
 list_rises : (ns : List ℕ) (seed n : ℕ) (is : List Instr) → n < 65536 → length is < 65536 → Rising (base n 0 + 1) (list_code ns seed n is) (base (n + 1) 0)
 list_rises ns seed n is h l =
-    by_poll (λ es. Rising (base n 0 + 1) es (base (n + 1) 0)) ns seed n is (λ js e. rising_append (base n 0 + 1) (base n 1) (base (n + 1) 0) (polled n) (rest_code ns seed n 1 (select js)) (polled_rises n) (groups js (let s = ap length e in omega (arith, s, l))))
+    by_poll (λ es. Rising (base n 0 + 1) es (base (n + 1) 0)) ns seed n is (λ js e. rising_append (base n 0 + 1) (base n 1) (base (n + 1) 0)
+        (polled n) (rest_code ns seed n 1 (select js)) (polled_rises n) (groups js (let s = ap length e in omega (arith, s, l))))
     (rising_lower (base n 0 + 1) (base n 1) (base (n + 1) 0) (rest_code ns seed n 1 (select is)) (omega arith) (groups is l))
   where
     groups : (js : List Instr) → length js < 65536 → Rising (base n 1) (rest_code ns seed n 1 (select js)) (base (n + 1) 0)
@@ -262,13 +278,16 @@ pub lines_in_turn : (lines : SlotCode) → RisingFrom 0 (numbers lines) → AreI
 lines_in_turn lines r = in_turn (numbers lines) 0 lines r (λ n h. refl)
 
 -- what is done for the STOP key behind lines, before more
-done_woven : (low from : ℕ) (t : Bool) (ns ms : List ℕ) (ys : List Entry) → RisingFrom from (ns ++ ms) → ((to : ℕ) → RisingFrom to (left_behind t ns ++ ms) → Woven low (break_base to) ys) → Woven low (break_base from) (done_behind t ns ++ ys)
+done_woven : (low from : ℕ) (t : Bool) (ns ms : List ℕ) (ys : List Entry) → RisingFrom from (ns ++ ms)
+    → ((to : ℕ) → RisingFrom to (left_behind t ns ++ ms) → Woven low (break_base to) ys) → Woven low (break_base from) (done_behind t ns ++ ys)
 done_woven low from true ns ms ys r f = broken_woven low from ns ms ys r f
 done_woven low from false ns ms ys r f = f from r
 
-lines_woven : (ns : List ℕ) (seed low from : ℕ) (asking : List ℕ) (lines : SlotCode) (ys : List Entry) → low ≤ 65536 → RisingFrom low (numbers lines) → AreCodable lines → RisingFrom from (asking ++ numbers lines)
+lines_woven : (ns : List ℕ) (seed low from : ℕ) (asking : List ℕ) (lines : SlotCode) (ys : List Entry) → low ≤ 65536 → RisingFrom low (numbers lines)
+    → AreCodable lines → RisingFrom from (asking ++ numbers lines)
     → ((to : ℕ) → RisingFrom to (still_asking asking lines) → Woven (base 65536 0) (break_base to) ys) → Woven (base low 0) (break_base from) (lines_code ns seed asking lines ++ ys)
-lines_woven ns seed low from asking [] ys l r c a f = woven_lower (base low 0) (base 65536 0) (break_base from) (break_base from) ys (omega (arith, l)) (omega arith) (f from (subst (RisingFrom from) (append-nil asking) a))
+lines_woven ns seed low from asking [] ys l r c a f = woven_lower (base low 0) (base 65536 0) (break_base from) (break_base from) ys
+    (omega (arith, l)) (omega arith) (f from (subst (RisingFrom from) (append-nil asking) a))
 lines_woven ns seed low from asking (line ∷ lines) ys l r c a f =
     let n = line.number in
     let k = line_key n r.1 in

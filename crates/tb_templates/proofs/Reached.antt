@@ -1,5 +1,6 @@
 -- Each label that a program's code names is known.
-use Rattle.std.proofs.Common.{◌≡◌, ℕ, ◌+◌, ◌%◌, ◌/◌, Bool, true, false, List, [], ◌∷◌, ◌++◌, refl, sym, ap, arith, subst, append_assoc, append-nil, Option, Some, None, is_some, true≢false}
+use Rattle.std.proofs.Common.{◌≡◌, ℕ, ◌+◌, ◌%◌, ◌/◌, Bool, true, false, List, [], ◌∷◌, ◌++◌, refl, sym, ap, arith, subst}
+use Rattle.std.proofs.Common.{append_assoc, append-nil, Option, Some, None, is_some, true≢false}
 use Rattle.std.specs.Prelude.{option_map, if◌then◌else◌, ◌||◌, nat_lt, nat_eq}
 use Rattle.std.proofs.lemmas.Bool.Decides.{nat_tests}
 use Rattle.std.proofs.lemmas.Bool.{or_right, eq-eqb}
@@ -16,7 +17,8 @@ use Rattle.tb_asm.specs.Layout.{Entry, instr, size, size_of, address_in}
 use Rattle.tb_asm.specs.Settle.{unknown_fault}
 use Rattle.tb_meaning.specs.Control.{At, has_line, next_after}
 use Rattle.tb_lower.specs.Slots.{Instr, Put, Load, SendText, SendZone, SendNewline, Input, Poll, JumpTo, CallTo, Return, End, SlotCode}
-use Rattle.tb_selection.specs.Groups.{Conversion, Negated, Drawn, Usage, AsNumber, AsLine, AsSubroutine, Constant, Variable, Divisibility, Group, Calculate, Stepped, Convert, Move, Use, Test, TestGo, Divides, Remains, Single, contrary, denied, slot_of}
+use Rattle.tb_selection.specs.Groups.{Conversion, Negated, Drawn, Usage, AsNumber, AsLine, AsSubroutine, Constant, Variable, Divisibility, Group, Calculate}
+use Rattle.tb_selection.specs.Groups.{Stepped, Convert, Move, Use, Test, TestGo, Divides, Remains, Single, contrary, denied, slot_of}
 use Rattle.tb_selection.specs.Select.{select}
 use Rattle.tb_syntax.specs.Source.{numbers}
 use Rattle.tb_runtime16.specs.Places.{LEFT, RIGHT, RESULT, LINE, WANTED, MULTIPLY_AT, DIVIDE_AT, RANDOM_AT, NUMBER_AT}
@@ -27,7 +29,9 @@ use Rattle.tb_templates.specs.Labels.{label_of}
 use Rattle.tb_templates.specs.Layout.{LabelsAt}
 use Rattle.tb_templates.specs.Templates.{branch, slot_at, var_at, on, template, jump, faulted, called, returned, find, note, jump_through, target_of, next_line, call, copied, constant}
 use Rattle.tb_templates.specs.Sources.{Source, FixedWord, AtPlace, source_of, tested_source, home_at, destination_at}
-use Rattle.tb_templates.specs.GroupTemplates.{low_of, high_of, brought, joined, handed, multiplied, divided, calculated, computed, changed_or, converted, searched, used, equal, unequal, tested, gone, may_fault, group_template, lined, may_be_zero, may_have_none, left_over, unless, divided_by, divided_gone, divides, asked_rest, signed_rest, remains}
+use Rattle.tb_templates.specs.GroupTemplates.{low_of, high_of, brought, joined, handed, multiplied, divided, calculated, computed, changed_or, converted}
+use Rattle.tb_templates.specs.GroupTemplates.{searched, used, equal, unequal, tested, gone, may_fault, group_template, lined, may_be_zero, may_have_none}
+use Rattle.tb_templates.specs.GroupTemplates.{left_over, unless, divided_by, divided_gone, divides, asked_rest, signed_rest, remains}
 use Rattle.tb_templates.specs.Scaled.{scaling, times, shifts, shifted}
 use Rattle.tb_templates.specs.InPlace.{Change, Increment, Decrement, Raise, Lower, Halve, Double, change_of, changed}
 use Rattle.tb_templates.specs.Masks.{mask}
@@ -208,7 +212,8 @@ module _ (labels : List (Name × ℕ)) (ns : List ℕ) (known : Known labels ns)
       (refl ▹ refl ▹ to_label skip (ap is_some h.1.1.1.1.1.1.1.1.1.1.0) ▹ refl ▹ refl ▹ refl ▹ refl ▹ refl ▹ refl ▹ refl ▹ refl ▹ refl ▹ refl ▹ tt)
   changed_known at Double p skip h = (refl ▹ refl ▹ tt)
 
-  computed_known : (n at : ℕ) (o : Option Change) (skip : Target) (op : Operator) (a b : Source) (to : ℕ) → LabelsAt labels at (changed_or o n skip op a b to) → AllKnown labels (changed_or o n skip op a b to)
+  computed_known : (n at : ℕ) (o : Option Change) (skip : Target) (op : Operator) (a b : Source) (to : ℕ)
+      → LabelsAt labels at (changed_or o n skip op a b to) → AllKnown labels (changed_or o n skip op a b to)
   computed_known n at (Some c) skip op a b to h = changed_known at c to skip h
   computed_known n at None skip op a b to h = calculated_known n op a b to
 
@@ -249,7 +254,8 @@ module _ (labels : List (Name × ℕ)) (ns : List ℕ) (known : Known labels ns)
   weighed_skip a side (AtPlace p) (FixedWord w) skip next h = ap is_some h.1.1.1.1.1.1.0
   weighed_skip a side (AtPlace p) (AtPlace q) skip next h = ap is_some h.1.1.1.1.1.1.0
 
-  ordered_known : (at : ℕ) (order : Order) (wanted : Side) (skip next : Target) → Stands labels next → LabelsAt labels at (ordered_by order wanted skip next) → AllKnown labels (ordered_by order wanted skip next)
+  ordered_known : (at : ℕ) (order : Order) (wanted : Side) (skip next : Target) → Stands labels next
+      → LabelsAt labels at (ordered_by order wanted skip next) → AllKnown labels (ordered_by order wanted skip next)
   ordered_known at (BySign side a) wanted skip next s h = (high_known Lda a ▹ to_label next s ▹ tt)
   ordered_known at (ByConstant side a w) wanted skip next s h =
       known_append labels (lifted a w) (branch (unless_carry (wanted_side wanted side)) next ∷ []) (plain_known labels (lifted a w) (lifted_plain a w)) (to_label next s ▹ tt)
@@ -282,7 +288,8 @@ module _ (labels : List (Name × ℕ)) (ns : List ℕ) (known : Known labels ns)
 
   remains_known : (n at : ℕ) (skip : Target) (a b : Source) (to : ℕ) → LabelsAt labels at (remains n skip a b to) → AllKnown labels (remains n skip a b to)
   remains_known n at skip a b to h =
-      known_append labels (asked_rest n a b) (signed_rest skip a to) (plain_known labels (asked_rest n a b) (asked_rest_plain n a b)) (by a (labels_split labels at (asked_rest n a b) (signed_rest skip a to) h).1)
+      known_append labels (asked_rest n a b) (signed_rest skip a to) (plain_known labels (asked_rest n a b) (asked_rest_plain n a b))
+          (by a (labels_split labels at (asked_rest n a b) (signed_rest skip a to) h).1)
     where
       by : (a : Source) → LabelsAt labels (at + size (asked_rest n a b)) (signed_rest skip a to) → AllKnown labels (signed_rest skip a to)
       by a h = (high_known Lda a ▹ to_label skip (ap is_some h.1.1.1.1.1.1.1.1.1.0) ▹ refl ▹ refl ▹ refl ▹ refl ▹ refl ▹ refl ▹ refl ▹ refl ▹ copied_known RESULT to)
@@ -335,7 +342,8 @@ module _ (labels : List (Name × ℕ)) (ns : List ℕ) (known : Known labels ns)
   done_known true ms = broken_known ms
   done_known false ms = tt
 
-  lines_known : (seed a : ℕ) (asking : List ℕ) (lines : SlotCode) → BreaksStand labels (numbers lines) → LabelsAt labels a (lines_code ns seed asking lines) → AllKnown labels (lines_code ns seed asking lines)
+  lines_known : (seed a : ℕ) (asking : List ℕ) (lines : SlotCode) → BreaksStand labels (numbers lines)
+      → LabelsAt labels a (lines_code ns seed asking lines) → AllKnown labels (lines_code ns seed asking lines)
   lines_known seed a asking [] b h = tt
   lines_known seed a asking (line ∷ lines) b h =
       let n = line.number in
@@ -354,7 +362,8 @@ module _ (labels : List (Name × ℕ)) (ns : List ℕ) (known : Known labels ns)
       (refl ▹ to_label (target.Line m) (h m (first_line m ms)) ▹ rows_known ms (λ n e. h n (or_right (nat_eq m n) (has_line ms n) e)))
 
 -- ── a program ──
-lines_stand : (labels : List (Name × ℕ)) (ns : List ℕ) (seed a : ℕ) (asking : List ℕ) (lines : SlotCode) → LabelsAt labels a (lines_code ns seed asking lines) → LinesStand labels (numbers lines)
+lines_stand : (labels : List (Name × ℕ)) (ns : List ℕ) (seed a : ℕ) (asking : List ℕ) (lines : SlotCode)
+    → LabelsAt labels a (lines_code ns seed asking lines) → LinesStand labels (numbers lines)
 lines_stand labels ns seed a asking [] h = λ n e. absurd (true≢false (sym e))
 lines_stand labels ns seed a asking (line ∷ lines) h =
     let all = asking ++ line.number ∷ [] in let away = ends_away line.content in
@@ -388,11 +397,13 @@ broken_stand labels a (m ∷ ms) h = λ n e. by n (nat_eq m n) refl e (broken_st
     by n false e k rest = rest k
 
 -- what is done for the STOP key stands, of lines that ask for it behind some of them or behind them all
-done_stand : (labels : List (Name × ℕ)) (a : ℕ) (t : Bool) (ms ks : List ℕ) → LabelsAt labels a (done_behind t ms) → BreaksStand labels (left_behind t ms ++ ks) → BreaksStand labels (ms ++ ks)
+done_stand : (labels : List (Name × ℕ)) (a : ℕ) (t : Bool) (ms ks : List ℕ) → LabelsAt labels a (done_behind t ms)
+    → BreaksStand labels (left_behind t ms ++ ks) → BreaksStand labels (ms ++ ks)
 done_stand labels a true ms ks h b = λ n. either (Stands labels (target.Break n)) ms ks n (broken_stand labels a ms h n) (b n)
 done_stand labels a false ms ks h b = b
 
-breaks_stand : (labels : List (Name × ℕ)) (ns : List ℕ) (seed a : ℕ) (asking : List ℕ) (lines : SlotCode) → LabelsAt labels a (lines_code ns seed asking lines) → BreaksStand labels (still_asking asking lines) → BreaksStand labels (asking ++ numbers lines)
+breaks_stand : (labels : List (Name × ℕ)) (ns : List ℕ) (seed a : ℕ) (asking : List ℕ) (lines : SlotCode)
+    → LabelsAt labels a (lines_code ns seed asking lines) → BreaksStand labels (still_asking asking lines) → BreaksStand labels (asking ++ numbers lines)
 breaks_stand labels ns seed a asking [] h b = subst (BreaksStand labels) (sym (append-nil asking)) b
 breaks_stand labels ns seed a asking (line ∷ lines) h b =
     let all = asking ++ line.number ∷ [] in let away = ends_away line.content in

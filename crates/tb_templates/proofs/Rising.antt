@@ -28,7 +28,8 @@ digit_back d h = by (nat_lt d 10) refl
     by : (t : Bool) → nat_lt d 10 ≡ t → digit_value (hex_digit d) ≡ d
     by t e = grind (arith)
 
-word_back : (n : ℕ) → n < 65536 → 4096 * digit_value (hex_digit (n / 4096)) + 256 * digit_value (hex_digit (n / 256 % 16)) + 16 * digit_value (hex_digit (n / 16 % 16)) + digit_value (hex_digit (n % 16)) ≡ n
+word_back : (n : ℕ) → n < 65536 → 4096 * digit_value (hex_digit (n / 4096)) + 256 * digit_value (hex_digit (n / 256 % 16)) + 16 * digit_value
+    (hex_digit (n / 16 % 16)) + digit_value (hex_digit (n % 16)) ≡ n
 word_back n h =
     let a = digit_back (n / 4096) (omega (arith, h)) in
     let b = digit_back (n / 256 % 16) (omega arith) in

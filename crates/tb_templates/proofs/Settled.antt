@@ -35,7 +35,8 @@ total_size a fs front back e =
     omega (arith, q, r, t, u, v)
 
 -- labels of the second of two settled lists
-pub labels_behind : (labels : List (Name × ℕ)) (a : ℕ) (fs front back : List Form) → fs ≡ front ++ back → LabelsAt labels a (items_from a fs) → LabelsAt labels a (items_from a front) × LabelsAt labels (a + forms_size front) (items_from (a + forms_size front) back)
+pub labels_behind : (labels : List (Name × ℕ)) (a : ℕ) (fs front back : List Form) → fs ≡ front ++ back → LabelsAt labels a (items_from a fs)
+    → LabelsAt labels a (items_from a front) × LabelsAt labels (a + forms_size front) (items_from (a + forms_size front) back)
 labels_behind labels a fs front back e h =
     let own = items_from a front in let rest = items_from (a + forms_size front) back in
     let s = labels_split labels a own rest (subst (LabelsAt labels a) (joined_items a fs front back e) h) in
@@ -51,11 +52,16 @@ woven_settled : (a low breaks : ℕ) (es : List Entry) (fs : List Form) → AreF
 woven_settled a low breaks [] [] h r = r
 woven_settled a low breaks [] (f ∷ fs) h r = absurd h
 woven_settled a low breaks (e ∷ es) [] h r = absurd h
-woven_settled a low breaks (instr n m o ∷ es) (kept k ∷ fs) h r = subst (λ k. Woven low breaks (k ∷ items_from (a + size_of k) fs)) (sym h.0) (woven_settled (a + size_of (instr n m o)) low breaks es fs h.1 r)
-woven_settled a low breaks (label n ∷ es) (kept k ∷ fs) h (inl r) = subst (λ k. Woven low breaks (k ∷ items_from (a + size_of k) fs)) (sym h.0) (inl (r.0, r.1, woven_settled (a + size_of (label n)) (key_of n + 1) breaks es fs h.1 r.2))
-woven_settled a low breaks (label n ∷ es) (kept k ∷ fs) h (inr r) = subst (λ k. Woven low breaks (k ∷ items_from (a + size_of k) fs)) (sym h.0) (inr (r.0, r.1, woven_settled (a + size_of (label n)) low (key_of n + 1) es fs h.1 r.2))
-woven_settled a low breaks (bytes bs ∷ es) (kept k ∷ fs) h r = subst (λ k. Woven low breaks (k ∷ items_from (a + size_of k) fs)) (sym h.0) (woven_settled (a + size_of (bytes bs)) low breaks es fs h.1 r)
-woven_settled a low breaks (word o ∷ es) (kept k ∷ fs) h r = subst (λ k. Woven low breaks (k ∷ items_from (a + size_of k) fs)) (sym h.0) (woven_settled (a + size_of (word o)) low breaks es fs h.1 r)
+woven_settled a low breaks (instr n m o ∷ es) (kept k ∷ fs) h r = subst (λ k. Woven low breaks (k ∷ items_from (a + size_of k) fs)) (sym h.0)
+    (woven_settled (a + size_of (instr n m o)) low breaks es fs h.1 r)
+woven_settled a low breaks (label n ∷ es) (kept k ∷ fs) h (inl r) = subst (λ k. Woven low breaks (k ∷ items_from (a + size_of k) fs)) (sym h.0)
+    (inl (r.0, r.1, woven_settled (a + size_of (label n)) (key_of n + 1) breaks es fs h.1 r.2))
+woven_settled a low breaks (label n ∷ es) (kept k ∷ fs) h (inr r) = subst (λ k. Woven low breaks (k ∷ items_from (a + size_of k) fs)) (sym h.0)
+    (inr (r.0, r.1, woven_settled (a + size_of (label n)) low (key_of n + 1) es fs h.1 r.2))
+woven_settled a low breaks (bytes bs ∷ es) (kept k ∷ fs) h r = subst (λ k. Woven low breaks (k ∷ items_from (a + size_of k) fs)) (sym h.0)
+    (woven_settled (a + size_of (bytes bs)) low breaks es fs h.1 r)
+woven_settled a low breaks (word o ∷ es) (kept k ∷ fs) h r = subst (λ k. Woven low breaks (k ∷ items_from (a + size_of k) fs)) (sym h.0)
+    (woven_settled (a + size_of (word o)) low breaks es fs h.1 r)
 woven_settled a low breaks (instr n m o ∷ es) (long k l ∷ fs) h r = woven_settled (a + 5) low breaks es fs h.1 r
 woven_settled a low breaks (label n ∷ es) (long k l ∷ fs) h r = absurd (let no : ⊥ = cc in no)
 woven_settled a low breaks (bytes bs ∷ es) (long k l ∷ fs) h r = absurd (let no : ⊥ = cc in no)
@@ -63,7 +69,8 @@ woven_settled a low breaks (word o ∷ es) (long k l ∷ fs) h r = absurd (let n
 
 -- ── lines ──
 -- a line's label stands where its code does
-pub line_at : (labels : List (Name × ℕ)) (ns : List ℕ) (seed a : ℕ) (line : Numbered (List Instr)) (fs : List Form) → AreFormsOf (line_code ns seed line) fs → LabelsAt labels a (items_from a fs) → address_in labels (label_of (Line line.number)) ≡ Some a
+pub line_at : (labels : List (Name × ℕ)) (ns : List ℕ) (seed a : ℕ) (line : Numbered (List Instr)) (fs : List Form)
+    → AreFormsOf (line_code ns seed line) fs → LabelsAt labels a (items_from a fs) → address_in labels (label_of (Line line.number)) ≡ Some a
 line_at labels ns seed a line [] h l = absurd h
 line_at labels ns seed a line (kept e ∷ fs) h l = subst (LabelAt labels a) h.0 l.0
 line_at labels ns seed a line (long m t ∷ fs) h l = absurd (let no : ⊥ = cc in no)
@@ -106,7 +113,8 @@ pub record Sections (seed : ℕ) (code : SlotCode) (items : List Entry) (labels 
   pub past : unwrap_or (address_in labels (label_of Past)) 0 ≡ LINES_AT + forms_size lines
   pub table : address_in labels (label_of Table) ≡ Some (LINES_AT + forms_size lines + size (past_code (numbers code)) + size (last_broken code) + size (find_code (numbers code)))
 
-pub sections : (seed : ℕ) (code : SlotCode) → AreCodable code → RisingFrom 0 (numbers code) → (items : List Entry) → IsSettled PROLOGUE_AT (program_code seed code) items → Sections seed code items (labels_from PROLOGUE_AT items)
+pub sections : (seed : ℕ) (code : SlotCode) → AreCodable code → RisingFrom 0 (numbers code) → (items : List Entry)
+    → IsSettled PROLOGUE_AT (program_code seed code) items → Sections seed code items (labels_from PROLOGUE_AT items)
 sections seed code lists rises items settled =
     let ns = numbers code in
     let labels = labels_from PROLOGUE_AT items in
@@ -118,13 +126,16 @@ sections seed code lists rises items settled =
     let start : PROLOGUE_AT + forms_size s.front ≡ LINES_AT = (let a = items_size PROLOGUE_AT s.front in let b = ap size block in let c = block_size in omega (arith, a, b, c)) in
     let here = LINES_AT + forms_size t.front in
     let last_items : items_from here t.back ≡ tail = straight_items here tail t.back (straight_both last (search ++ table) (broken_straight (still_asking [] code)) (rows_straight ns)) t.of_back in
-    let rest : items_from (PROLOGUE_AT + forms_size s.front) s.back ≡ items_from LINES_AT t.front ++ tail = ap (λ a. items_from a s.back) start ∙ joined_items LINES_AT s.back t.front t.back t.are ∙ ap (λ es. items_from LINES_AT t.front ++ es) last_items in
+    let rest : items_from (PROLOGUE_AT + forms_size s.front) s.back ≡ items_from LINES_AT t.front ++ tail = ap (λ a. items_from a s.back) start
+        ∙ joined_items LINES_AT s.back t.front t.back t.are ∙ ap (λ es. items_from LINES_AT t.front ++ es) last_items in
     let are : items ≡ block_code ++ (items_from LINES_AT t.front ++ tail) = settled.are ∙ joined_items PROLOGUE_AT settled.forms s.front s.back s.are ∙ (λ i. block i ++ rest i) in
-    let hold : LabelsAt labels PROLOGUE_AT items = labels_hold PROLOGUE_AT lowest 0 [] items tt (subst (λ es. Woven lowest 0 es) (sym settled.are) (woven_settled PROLOGUE_AT lowest 0 (program_code seed code) settled.forms settled.of (program_woven seed code rises lists))) in
+    let hold : LabelsAt labels PROLOGUE_AT items = labels_hold PROLOGUE_AT lowest 0 [] items tt (subst (λ es. Woven lowest 0 es) (sym settled.are)
+        (woven_settled PROLOGUE_AT lowest 0 (program_code seed code) settled.forms settled.of (program_woven seed code rises lists))) in
     let own = items_from LINES_AT t.front in
     let long : size own ≡ forms_size t.front = items_size LINES_AT t.front in
     let after_block = labels_split labels PROLOGUE_AT block_code (own ++ tail) (subst (LabelsAt labels PROLOGUE_AT) are hold) in
-    let at_lines : LabelsAt labels LINES_AT (own ++ tail) = subst (λ a. LabelsAt labels a (own ++ tail)) (let b = block_size in let e : PROLOGUE_AT + size block_code ≡ LINES_AT = omega (arith, b) in e) after_block.1 in
+    let at_lines : LabelsAt labels LINES_AT (own ++ tail) = subst (λ a. LabelsAt labels a (own ++ tail)) (let b = block_size in
+        let e : PROLOGUE_AT + size block_code ≡ LINES_AT = omega (arith, b) in e) after_block.1 in
     let after_lines = labels_split labels LINES_AT own tail at_lines in
     let at_past : LabelsAt labels here tail = subst (λ a. LabelsAt labels a tail) (let e : LINES_AT + size own ≡ here = omega (arith, long) in e) after_lines.1 in
     let after_past = labels_split labels here past (last ++ (search ++ table)) at_past in

@@ -1,6 +1,7 @@
 -- The labels of a program's code: those of what is done for the STOP key rise, and so do all others between them. So
 -- none stands twice, and each stands for its place.
-use Rattle.std.proofs.Common.{◌≡◌, ◌⊎◌, ℕ, ◌+◌, ◌<◌, ◌≤◌, Bool, true, false, List, [], ◌∷◌, ◌++◌, refl, sym, ap, ◌∙◌, arith, inl, inr, Some, None, subst, append_assoc, cond}
+use Rattle.std.proofs.Common.{◌≡◌, ◌⊎◌, ℕ, ◌+◌, ◌<◌, ◌≤◌, Bool, true, false, List, [], ◌∷◌, ◌++◌, refl, sym, ap}
+use Rattle.std.proofs.Common.{◌∙◌, arith, inl, inr, Some, None, subst, append_assoc, cond}
 use Rattle.std.specs.Prelude.{◌||◌}
 use Rattle.std.specs.List.{list_any}
 use lib.Pointwise.{bytes_decides}
@@ -45,7 +46,8 @@ rising_woven low middle breaks (bytes bs ∷ xs) ys l h k = rising_woven low mid
 rising_woven low middle breaks (word o ∷ xs) ys l h k = rising_woven low middle breaks xs ys l h k
 
 -- what is done for the STOP key in lines before others
-pub broken_woven : (low from : ℕ) (ns ms : List ℕ) (ys : List Entry) → RisingFrom from (ns ++ ms) → ((to : ℕ) → RisingFrom to ms → Woven low (break_base to) ys) → Woven low (break_base from) (all_broken ns ++ ys)
+pub broken_woven : (low from : ℕ) (ns ms : List ℕ) (ys : List Entry) → RisingFrom from (ns ++ ms)
+    → ((to : ℕ) → RisingFrom to ms → Woven low (break_base to) ys) → Woven low (break_base from) (all_broken ns ++ ys)
 broken_woven low from [] ms ys r f = f from r
 broken_woven low from (n ∷ ns) ms ys r f =
     let k = break_key n r.1 in let least = r.0 in let small = r.1 in
@@ -133,7 +135,8 @@ absent : (low breaks : ℕ) (n : Name) (ps : List (Name × ℕ)) → IsFrom low 
 absent low breaks n [] f h = refl
 absent low breaks n (p ∷ ps) f h = ap (λ t. cond t (Some p.1) (address_in ps n)) (other n p.0 (λ e. differ low breaks (key_of p.0) (key_of n) h.0 f (sym e))) ∙ absent low breaks n ps f h.1
 
-below_label : (at low breaks : ℕ) (before : List Entry) (e : Entry) → AreBelow low breaks (labels_from at before) → AreBelow low breaks (label_at (at + size before) e) → AreBelow low breaks (labels_from at (before ++ e ∷ []))
+below_label : (at low breaks : ℕ) (before : List Entry) (e : Entry) → AreBelow low breaks (labels_from at before)
+    → AreBelow low breaks (label_at (at + size before) e) → AreBelow low breaks (labels_from at (before ++ e ∷ []))
 below_label at low breaks before e b h = subst (AreBelow low breaks) (sym (labels_push at before e)) (below_append low breaks (labels_from at before) (label_at (at + size before) e) b h)
 
 moved : (at : ℕ) (before : List Entry) (e : Entry) (es : List Entry)
@@ -143,7 +146,8 @@ moved at before e es h =
     subst (λ a. LabelsAt (labels_from at (before ++ e ∷ es)) a es) k (subst (λ l. LabelsAt (labels_from at l) (at + size (before ++ e ∷ [])) es) (append_assoc before (e ∷ []) es) h)
 
 -- where the labels of a list rise so from behind those before, each stands for its place
-pub labels_hold : (at low breaks : ℕ) (before es : List Entry) → AreBelow low breaks (labels_from at before) → Woven low breaks es → LabelsAt (labels_from at (before ++ es)) (at + size before) es
+pub labels_hold : (at low breaks : ℕ) (before es : List Entry) → AreBelow low breaks (labels_from at before) → Woven low breaks es
+    → LabelsAt (labels_from at (before ++ es)) (at + size before) es
 labels_hold at low breaks before [] b r = tt
 labels_hold at low breaks before (instr n m o ∷ es) b r =
     let e = instr n m o in (tt, moved at before e es (labels_hold at low breaks (before ++ e ∷ []) es (below_label at low breaks before e b tt) r))
@@ -151,13 +155,15 @@ labels_hold at low breaks before (label n ∷ es) b (inl r) =
     let e = label n in
     let k = key_of n in (
       label_stands at before es n (absent low breaks n (labels_from at before) (inl (r.0, r.1)) b),
-      moved at before e es (labels_hold at (k + 1) breaks (before ++ e ∷ []) es (below_label at (k + 1) breaks before e (all_more low (k + 1) breaks breaks (labels_from at before) (omega (arith, r.1)) (omega arith) b) (inl (r.0, omega arith), tt)) r.2),
+      moved at before e es (labels_hold at (k + 1) breaks (before ++ e ∷ []) es (below_label at (k + 1) breaks before e
+          (all_more low (k + 1) breaks breaks (labels_from at before) (omega (arith, r.1)) (omega arith) b) (inl (r.0, omega arith), tt)) r.2),
     )
 labels_hold at low breaks before (label n ∷ es) b (inr r) =
     let e = label n in
     let k = key_of n in (
       label_stands at before es n (absent low breaks n (labels_from at before) (inr (r.0, r.1)) b),
-      moved at before e es (labels_hold at low (k + 1) (before ++ e ∷ []) es (below_label at low (k + 1) before e (all_more low low breaks (k + 1) (labels_from at before) (omega arith) (omega (arith, r.1)) b) (inr (r.0, omega arith), tt)) r.2),
+      moved at before e es (labels_hold at low (k + 1) (before ++ e ∷ []) es (below_label at low (k + 1) before e
+          (all_more low low breaks (k + 1) (labels_from at before) (omega arith) (omega (arith, r.1)) b) (inr (r.0, omega arith), tt)) r.2),
     )
 labels_hold at low breaks before (bytes bs ∷ es) b r =
     let e = bytes bs in (tt, moved at before e es (labels_hold at low breaks (before ++ e ∷ []) es (below_label at low breaks before e b tt) r))

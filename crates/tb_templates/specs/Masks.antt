@@ -7,7 +7,8 @@ use Rattle.tb_templates.specs.Sources.{Source, FixedWord, AtPlace, low_of}
 
 -- for a power of two from 2 to 256 the one less
 abbrev pub mask_of : ℕ → Option ℕ
-mask_of w = if nat_eq w 2 then Some 1 else if nat_eq w 4 then Some 3 else if nat_eq w 8 then Some 7 else if nat_eq w 16 then Some 15 else if nat_eq w 32 then Some 31 else if nat_eq w 64 then Some 63 else if nat_eq w 128 then Some 127 else if nat_eq w 256 then Some 255 else None
+mask_of w = if nat_eq w 2 then Some 1 else if nat_eq w 4 then Some 3 else if nat_eq w 8 then Some 7 else if nat_eq w 16 then Some 15
+    else if nat_eq w 32 then Some 31 else if nat_eq w 64 then Some 63 else if nat_eq w 128 then Some 127 else if nat_eq w 256 then Some 255 else None
 
 -- so for a divisor
 abbrev pub mask : Source → Option ℕ

@@ -1,5 +1,6 @@
 -- Code for products with a constant and quotients over a power of two: shifts and sums.
-use Rattle.std.specs.Prelude.{ℕ, zero, suc, ◌+◌, ◌-◌, ◌/◌, ◌%◌, ◌^◌, Bool, true, false, ◌&&◌, List, [], ◌∷◌, ◌++◌, if◌then◌else◌, nat_eq, nat_le, nat_lt, Option, Some, None}
+use Rattle.std.specs.Prelude.{ℕ, zero, suc, ◌+◌, ◌-◌, ◌/◌, ◌%◌, ◌^◌, Bool, true, false, ◌&&◌, List, [], ◌∷◌, ◌++◌}
+use Rattle.std.specs.Prelude.{if◌then◌else◌, nat_eq, nat_le, nat_lt, Option, Some, None}
 use Rattle.tb_opcodes.specs.declared.Mnemonic.{Mnemonic}
 use Rattle.tb_opcodes.specs.declared.Mnemonic.TheVariants.{Adc, And, Asl, Clc, Cmp, Eor, Lda, Rol, Ror, Sta, Tax, Txa}
 use Rattle.tb_opcodes.specs.declared.Mode.TheVariants.{Accumulator, ZeroPage}
@@ -22,7 +23,8 @@ at_zero mnemonic place = instr mnemonic ZeroPage (Byte place)
 
 -- for 2^(k + 1) k, where it is one from 2 to 64
 abbrev pub shifts_of : ℕ → Option ℕ
-shifts_of w = if nat_eq w 2 then Some 0 else if nat_eq w 4 then Some 1 else if nat_eq w 8 then Some 2 else if nat_eq w 16 then Some 3 else if nat_eq w 32 then Some 4 else if nat_eq w 64 then Some 5 else None
+shifts_of w = if nat_eq w 2 then Some 0 else if nat_eq w 4 then Some 1 else if nat_eq w 8 then Some 2 else if nat_eq w 16 then Some 3
+    else if nat_eq w 32 then Some 4 else if nat_eq w 64 then Some 5 else None
 
 -- so for a divisor
 abbrev pub shifts : Source → Option ℕ

@@ -62,7 +62,8 @@ quotient_is n d f g =
     word_of-div n d
     ∙ (λ i. with_sign (differ (sym (sign_is n f) i) (sym (sign_is d g) i)) (sym (magnitude_is n f) i / sym (magnitude_is d g) i))
 
-pub quotient_word : (n d q : ℤ) → FitsSigned w16 n → FitsSigned w16 d → FitsSigned w16 q → q ≡ int_wrapping_div w16 (read n) (read d) → word_of (read q) ≡ quotient (word_of n) (word_of d)
+pub quotient_word : (n d q : ℤ) → FitsSigned w16 n → FitsSigned w16 d → FitsSigned w16 q → q ≡ int_wrapping_div w16 (read n) (read d)
+    → word_of (read q) ≡ quotient (word_of n) (word_of d)
 quotient_word n d q f g h e = ap word_of (read_quotient n d q f g h e) ∙ word_of-wrapped (int_div n d) ∙ quotient_is n d f g
 
 pub nonzero_word : (d : ℤ) → FitsSigned w16 d → (d ≡ pos 0 → ⊥) → word_of d ≡ 0 → ⊥

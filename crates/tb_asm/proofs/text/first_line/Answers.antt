@@ -18,6 +18,7 @@ pub loop-index-preserved : goal.loop-index-preserved
 loop-index-preserved c =
     line_on c.args.text.now c.loop-index.index c.loop-index-test.true c.loop-index.invariant c.if-byte-eq10.false
     (elim c.else-byte-eq13.branch [
-      | else-byte-eq13-via-then-byte-eq13+else-begins_with_newline w ↦ not_newline _ _ (sym (ap begins_with_10 w.behind.ensures) ∙ sym w.begins_with_newline.ensures ∙ w.if-begins_with_newline.false)
+      | else-byte-eq13-via-then-byte-eq13+else-begins_with_newline w ↦ not_newline _ _ (sym (ap begins_with_10 w.behind.ensures)
+          ∙ sym w.begins_with_newline.ensures ∙ w.if-begins_with_newline.false)
       | else-byte-eq13-via-else-byte-eq13 w ↦ not_return _ _ w.if-byte-eq13.false
     ])

@@ -27,17 +27,42 @@ pub fitted-requires-clause-rising : goal.fitted-requires-clause-rising
 fitted-requires-clause-rising c = (listed (lines_of c.args.program.now) c.in_ok-code.ensures.lowered c.requires.stated c.requires.rising c.in_ok-code.ensures.in_range).rising
 
 pub line_starts-requires : goal.line_starts-requires
-line_starts-requires c = subst (λ k. AreKnown c.in-Some.image.labels.entries (numbers (code_of k))) (sym c.lines.ensures) (known c.args.seed (listed (lines_of c.args.program.now) c.in_ok-code.ensures.lowered c.requires.stated c.requires.rising c.in_ok-code.ensures.in_range) (subst (λ o. IfSome o (λ image. IsLaid PROLOGUE_AT (program_code c.args.seed (code_of c.in_ok-code.code)) image.at image.bytes.items image.labels.entries × (PROLOGUE_AT + length image.bytes.items ≤ 0xA000))) c.in-Some.is c.in_ok-image.ensures.fits).0)
+line_starts-requires c = subst (λ k. AreKnown c.in-Some.image.labels.entries (numbers (code_of k))) (sym c.lines.ensures)
+    (known c.args.seed (listed (lines_of c.args.program.now) c.in_ok-code.ensures.lowered c.requires.stated c.requires.rising
+    c.in_ok-code.ensures.in_range)
+    (subst (λ o. IfSome o (λ image. IsLaid PROLOGUE_AT (program_code c.args.seed (code_of c.in_ok-code.code)) image.at image.bytes.items
+    image.labels.entries × (PROLOGUE_AT + length image.bytes.items ≤ 0xA000))) c.in-Some.is c.in_ok-image.ensures.fits).0)
 
 pub place_of-requires : goal.place_of-requires
-place_of-requires c = has_table c.args.seed (listed (lines_of c.args.program.now) c.in_ok-code.ensures.lowered c.requires.stated c.requires.rising c.in_ok-code.ensures.in_range) (subst (λ o. IfSome o (λ image. IsLaid PROLOGUE_AT (program_code c.args.seed (code_of c.in_ok-code.code)) image.at image.bytes.items image.labels.entries × (PROLOGUE_AT + length image.bytes.items ≤ 0xA000))) c.in-Some.is c.in_ok-image.ensures.fits).0
+place_of-requires c = has_table c.args.seed (listed (lines_of c.args.program.now) c.in_ok-code.ensures.lowered c.requires.stated c.requires.rising
+    c.in_ok-code.ensures.in_range)
+    (subst (λ o. IfSome o (λ image. IsLaid PROLOGUE_AT (program_code c.args.seed (code_of c.in_ok-code.code)) image.at image.bytes.items
+    image.labels.entries × (PROLOGUE_AT + length image.bytes.items ≤ 0xA000))) c.in-Some.is c.in_ok-image.ensures.fits).0
 
 pub returns-clause-keeps : goal.returns-clause-keeps
-returns-clause-keeps c some = file_keeps c.ranges.seed.fits some c.in_ok-code.ensures.lowered c.in_ok-code.ensures.follows (listed (lines_of c.args.program.now) c.in_ok-code.ensures.lowered c.requires.stated c.requires.rising c.in_ok-code.ensures.in_range) (subst (λ o. IfSome o (λ image. IsLaid PROLOGUE_AT (program_code c.args.seed (code_of c.in_ok-code.code)) image.at image.bytes.items image.labels.entries × (PROLOGUE_AT + length image.bytes.items ≤ 0xA000))) c.in-Some.is c.in_ok-image.ensures.fits).0 (bytes_end c.args.seed (listed (lines_of c.args.program.now) c.in_ok-code.ensures.lowered c.requires.stated c.requires.rising c.in_ok-code.ensures.in_range) (subst (λ o. IfSome o (λ image. IsLaid PROLOGUE_AT (program_code c.args.seed (code_of c.in_ok-code.code)) image.at image.bytes.items image.labels.entries × (PROLOGUE_AT + length image.bytes.items ≤ 0xA000))) c.in-Some.is c.in_ok-image.ensures.fits).0 (subst (λ o. IfSome o (λ image. IsLaid PROLOGUE_AT (program_code c.args.seed (code_of c.in_ok-code.code)) image.at image.bytes.items image.labels.entries × (PROLOGUE_AT + length image.bytes.items ≤ 0xA000))) c.in-Some.is c.in_ok-image.ensures.fits).1) c.in_ok-write.ensures
+returns-clause-keeps c some = file_keeps c.ranges.seed.fits some c.in_ok-code.ensures.lowered c.in_ok-code.ensures.follows
+    (listed (lines_of c.args.program.now) c.in_ok-code.ensures.lowered c.requires.stated c.requires.rising c.in_ok-code.ensures.in_range)
+    (subst (λ o. IfSome o (λ image. IsLaid PROLOGUE_AT (program_code c.args.seed (code_of c.in_ok-code.code)) image.at image.bytes.items
+    image.labels.entries × (PROLOGUE_AT + length image.bytes.items ≤ 0xA000))) c.in-Some.is c.in_ok-image.ensures.fits).0
+    (bytes_end c.args.seed (listed (lines_of c.args.program.now) c.in_ok-code.ensures.lowered c.requires.stated c.requires.rising
+    c.in_ok-code.ensures.in_range)
+    (subst (λ o. IfSome o (λ image. IsLaid PROLOGUE_AT (program_code c.args.seed (code_of c.in_ok-code.code)) image.at image.bytes.items
+    image.labels.entries × (PROLOGUE_AT + length image.bytes.items ≤ 0xA000))) c.in-Some.is c.in_ok-image.ensures.fits).0
+    (subst (λ o. IfSome o (λ image. IsLaid PROLOGUE_AT (program_code c.args.seed (code_of c.in_ok-code.code)) image.at image.bytes.items
+    image.labels.entries × (PROLOGUE_AT + length image.bytes.items ≤ 0xA000))) c.in-Some.is c.in_ok-image.ensures.fits).1) c.in_ok-write.ensures
 
 pub returns-clause-marks : goal.returns-clause-marks
 returns-clause-marks c some =
-    file_marks c.ranges.seed.fits some c.in_ok-code.ensures.lowered c.in_ok-code.ensures.follows (listed (lines_of c.args.program.now) c.in_ok-code.ensures.lowered c.requires.stated c.requires.rising c.in_ok-code.ensures.in_range) (subst (λ o. IfSome o (λ image. IsLaid PROLOGUE_AT (program_code c.args.seed (code_of c.in_ok-code.code)) image.at image.bytes.items image.labels.entries × (PROLOGUE_AT + length image.bytes.items ≤ 0xA000))) c.in-Some.is c.in_ok-image.ensures.fits).0 (bytes_end c.args.seed (listed (lines_of c.args.program.now) c.in_ok-code.ensures.lowered c.requires.stated c.requires.rising c.in_ok-code.ensures.in_range) (subst (λ o. IfSome o (λ image. IsLaid PROLOGUE_AT (program_code c.args.seed (code_of c.in_ok-code.code)) image.at image.bytes.items image.labels.entries × (PROLOGUE_AT + length image.bytes.items ≤ 0xA000))) c.in-Some.is c.in_ok-image.ensures.fits).0 (subst (λ o. IfSome o (λ image. IsLaid PROLOGUE_AT (program_code c.args.seed (code_of c.in_ok-code.code)) image.at image.bytes.items image.labels.entries × (PROLOGUE_AT + length image.bytes.items ≤ 0xA000))) c.in-Some.is c.in_ok-image.ensures.fits).1) c.in_ok-write.ensures
+    file_marks c.ranges.seed.fits some c.in_ok-code.ensures.lowered c.in_ok-code.ensures.follows
+        (listed (lines_of c.args.program.now) c.in_ok-code.ensures.lowered c.requires.stated c.requires.rising c.in_ok-code.ensures.in_range)
+        (subst (λ o. IfSome o (λ image. IsLaid PROLOGUE_AT (program_code c.args.seed (code_of c.in_ok-code.code)) image.at image.bytes.items
+        image.labels.entries × (PROLOGUE_AT + length image.bytes.items ≤ 0xA000))) c.in-Some.is c.in_ok-image.ensures.fits).0
+        (bytes_end c.args.seed (listed (lines_of c.args.program.now) c.in_ok-code.ensures.lowered c.requires.stated c.requires.rising
+        c.in_ok-code.ensures.in_range)
+        (subst (λ o. IfSome o (λ image. IsLaid PROLOGUE_AT (program_code c.args.seed (code_of c.in_ok-code.code)) image.at image.bytes.items
+        image.labels.entries × (PROLOGUE_AT + length image.bytes.items ≤ 0xA000))) c.in-Some.is c.in_ok-image.ensures.fits).0
+        (subst (λ o. IfSome o (λ image. IsLaid PROLOGUE_AT (program_code c.args.seed (code_of c.in_ok-code.code)) image.at image.bytes.items
+        image.labels.entries × (PROLOGUE_AT + length image.bytes.items ≤ 0xA000))) c.in-Some.is c.in_ok-image.ensures.fits).1) c.in_ok-write.ensures
     (c.in_ok-line_starts.ensures ∙ ap (λ k. starts_in c.in-Some.image.labels.entries (numbers (code_of k))) c.lines.ensures)
 
 pub fitted-requires-clause-suited : goal.fitted-requires-clause-suited
@@ -46,5 +71,14 @@ fitted-requires-clause-suited c = suits_anywhere c.args.seed (listed (lines_of c
 pub returns-clause-answer : goal.returns-clause-answer
 returns-clause-answer c =
     made (record { prg = c.in_ok-write.field-0; starts = c.in_ok-line_starts.field-0; table = c.place_of.result; warnings = c.in_ok-warnings.field-0 })
-    c.in_ok-code.ensures.lowered (listed (lines_of c.args.program.now) c.in_ok-code.ensures.lowered c.requires.stated c.requires.rising c.in_ok-code.ensures.in_range) c.in_ok-code.ensures.accepted (subst (λ o. IfSome o (λ image. IsLaid PROLOGUE_AT (program_code c.args.seed (code_of c.in_ok-code.code)) image.at image.bytes.items image.labels.entries × (PROLOGUE_AT + length image.bytes.items ≤ 0xA000))) c.in-Some.is c.in_ok-image.ensures.fits).0 (bytes_end c.args.seed (listed (lines_of c.args.program.now) c.in_ok-code.ensures.lowered c.requires.stated c.requires.rising c.in_ok-code.ensures.in_range) (subst (λ o. IfSome o (λ image. IsLaid PROLOGUE_AT (program_code c.args.seed (code_of c.in_ok-code.code)) image.at image.bytes.items image.labels.entries × (PROLOGUE_AT + length image.bytes.items ≤ 0xA000))) c.in-Some.is c.in_ok-image.ensures.fits).0 (subst (λ o. IfSome o (λ image. IsLaid PROLOGUE_AT (program_code c.args.seed (code_of c.in_ok-code.code)) image.at image.bytes.items image.labels.entries × (PROLOGUE_AT + length image.bytes.items ≤ 0xA000))) c.in-Some.is c.in_ok-image.ensures.fits).1) c.in_ok-write.ensures
+    c.in_ok-code.ensures.lowered (listed (lines_of c.args.program.now) c.in_ok-code.ensures.lowered c.requires.stated c.requires.rising
+        c.in_ok-code.ensures.in_range) c.in_ok-code.ensures.accepted
+        (subst (λ o. IfSome o (λ image. IsLaid PROLOGUE_AT (program_code c.args.seed (code_of c.in_ok-code.code)) image.at image.bytes.items
+        image.labels.entries × (PROLOGUE_AT + length image.bytes.items ≤ 0xA000))) c.in-Some.is c.in_ok-image.ensures.fits).0
+        (bytes_end c.args.seed (listed (lines_of c.args.program.now) c.in_ok-code.ensures.lowered c.requires.stated c.requires.rising
+        c.in_ok-code.ensures.in_range)
+        (subst (λ o. IfSome o (λ image. IsLaid PROLOGUE_AT (program_code c.args.seed (code_of c.in_ok-code.code)) image.at image.bytes.items
+        image.labels.entries × (PROLOGUE_AT + length image.bytes.items ≤ 0xA000))) c.in-Some.is c.in_ok-image.ensures.fits).0
+        (subst (λ o. IfSome o (λ image. IsLaid PROLOGUE_AT (program_code c.args.seed (code_of c.in_ok-code.code)) image.at image.bytes.items
+        image.labels.entries × (PROLOGUE_AT + length image.bytes.items ≤ 0xA000))) c.in-Some.is c.in_ok-image.ensures.fits).1) c.in_ok-write.ensures
     (c.in_ok-line_starts.ensures ∙ ap (λ k. starts_in c.in-Some.image.labels.entries (numbers (code_of k))) c.lines.ensures) c.place_of.ensures c.in_ok-warnings.ensures

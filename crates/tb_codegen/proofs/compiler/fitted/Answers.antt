@@ -21,7 +21,8 @@ returns c =
     let es = program_code c.args.seed (code_of c.args.code.now) in
     record {
       fits = tt;
-      too_long = λ none. refused_long PROLOGUE_AT es c.requires.suited c.in-Err.e.kind c.in-Err.e.item (subst (λ x. MayRefuse PROLOGUE_AT x c.in-Err.e.kind c.in-Err.e.item) e c.in-Err.ensures.refused) c.in_default.not-NoMemory;
+      too_long = λ none. refused_long PROLOGUE_AT es c.requires.suited c.in-Err.e.kind c.in-Err.e.item
+          (subst (λ x. MayRefuse PROLOGUE_AT x c.in-Err.e.kind c.in-Err.e.item) e c.in-Err.ensures.refused) c.in_default.not-NoMemory;
     }
 
 pub returns-then-has_too_many_lines-clause-too_long : goal.returns-then-has_too_many_lines-clause-too_long

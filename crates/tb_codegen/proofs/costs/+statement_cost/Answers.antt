@@ -14,4 +14,5 @@ pub items_cost-requires : goal.items_cost-requires
 items_cost-requires t c = let e = printed t c in let h = c.requires in omega (arith, e, h)
 
 pub returns-in-Print : goal.returns-in-Print
-returns-in-Print t c = c.items_cost.ensures ∙ ap (λ is. items_cost (map item_of is)) c.deref.ensures.value ∙ items_pay (map item_of c.in-Print.items.items) ∙ ap (λ s. statement_cost (statement_of s)) (sym c.in-Print.is)
+returns-in-Print t c = c.items_cost.ensures ∙ ap (λ is. items_cost (map item_of is)) c.deref.ensures.value
+    ∙ items_pay (map item_of c.in-Print.items.items) ∙ ap (λ s. statement_cost (statement_of s)) (sym c.in-Print.is)

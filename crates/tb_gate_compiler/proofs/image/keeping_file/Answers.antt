@@ -35,6 +35,7 @@ returns c =
     let ready = settling c.args.seed (lines_of c.args.program.now) c.in_ok-code.ensures.lowered c.requires.stated c.requires.rising
     c.in_ok-code.ensures.in_range c.if-cost-gt-MOST.false c.cost-cost.ensures in
     let laid : IsLaid PROLOGUE_AT (program_code c.args.seed code) c.in-Ok.image.at c.in-Ok.image.bytes.items c.in-Ok.image.labels.entries =
-    subst (λ es. IsLaid PROLOGUE_AT es c.in-Ok.image.at c.in-Ok.image.bytes.items c.in-Ok.image.labels.entries) (ap (map entry_of) c.deref.ensures.value ∙ c.in_ok-items.ensures) c.in-Ok.ensures.laid in
+    subst (λ es. IsLaid PROLOGUE_AT es c.in-Ok.image.at c.in-Ok.image.bytes.items c.in-Ok.image.labels.entries)
+        (ap (map entry_of) c.deref.ensures.value ∙ c.in_ok-items.ensures) c.in-Ok.ensures.laid in
     file_keeps c.ranges.seed.fits c.requires.some
     c.in_ok-code.ensures.lowered c.in_ok-code.ensures.follows ready laid c.in_ok-write.ensures

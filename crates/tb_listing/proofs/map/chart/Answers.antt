@@ -20,5 +20,6 @@ returns c =
     let two : t2 ≡ t1 ++ r = c.in_ok-cost.ensures.rows ∙ ap (λ x. t1 ++ x) (parts_text ss tb c.saturating_sub-size.result p) ∙ ap (λ m. t1 ++ rows_text (parts ss tb m p)) size in
     let three : t3 ≡ t2 ++ s = c.in_ok-push_row.ensures ∙ (λ i. t2 ++ row_text (record { name = codes "sum"; at = PROLOGUE_AT; bytes = size i; price = c.in_ok-cost.ensures.sum i })) in
     let four : t4 ≡ t3 ++ l =
-    c.in_ok-push_row-2.ensures ∙ (λ i. t3 ++ row_text (record { name = codes "left"; at = c.from.ensures i + size i; bytes = 0xA000 - (c.from.ensures i + size i); price = most - c.in_ok-cost.ensures.sum i })) in
+    c.in_ok-push_row-2.ensures ∙ (λ i. t3 ++ row_text (record { name = codes "left"; at = c.from.ensures i + size i;
+        bytes = 0xA000 - (c.from.ensures i + size i); price = most - c.in_ok-cost.ensures.sum i })) in
     four ∙ ap (λ x. x ++ l) (three ∙ ap (λ x. x ++ s) (two ∙ ap (λ x. x ++ r) one))

@@ -9,5 +9,6 @@ use Rattle.tb_listing.proofs.map.push_lines.Given as goal
 abbrev pub invariant-loop-number : goal.invariant-loop-number
 invariant-loop-number l = record {
   costs : l.sum + sum_by (λ line. 36 + statement_cost line.content) (lines_of l.number-iterator) ≡ cost (lines_of l.program);
-  rows : l.text.items ++ rows_text (line_parts (map pair_of l.rest) l.table (lines_of l.number-iterator)) ≡ l.initial.text.items ++ rows_text (line_parts (map pair_of l.starts) l.table (lines_of l.program));
+  rows : l.text.items ++ rows_text (line_parts (map pair_of l.rest) l.table (lines_of l.number-iterator)) ≡ l.initial.text.items ++ rows_text
+      (line_parts (map pair_of l.starts) l.table (lines_of l.program));
 }

@@ -17,5 +17,6 @@ loop-index-preserved c =
           keeps r r' text i (get_or text i 0) c.loop-index-test.true refl (rw (w.reading-is, w.in-Nothing.is) (sign_turn (get_or text i 0) (drop (i + 1) text) w.in-43.is)) c.loop-index.invariant
       | in-48-to-57 w ↦
           keeps r r' text i (get_or text i 0) c.loop-index-test.true refl
-          (rw w.reading-is (digit_turn r (get_or text i 0) (drop (i + 1) text) (omega arith) (omega arith) ∙ read_turn _ w.with_digit-reading.result (drop (i + 1) text) w.with_digit-reading.ensures)) c.loop-index.invariant
+          (rw w.reading-is (digit_turn r (get_or text i 0) (drop (i + 1) text) (omega arith) (omega arith) ∙ read_turn _ w.with_digit-reading.result
+              (drop (i + 1) text) w.with_digit-reading.ensures)) c.loop-index.invariant
     ]

@@ -27,7 +27,8 @@ whole_one text (Err r) (Err s) h k =
     let same : r.refusal ≡ s.refusal = err_same r.refusal s.refusal (expression_one text (Err r.refusal) (Err s.refusal) h.1 k.1) in
     ap (λ (v : FileRefusal). Err v) (in_line_one r h.0 ∙ ap (λ (v : Refusal). refused_at 1 v) same ∙ sym (in_line_one s k.0))
 
-said_at : (text : List ℕ) (fault : LineFault) (error : SourceError) → error ≡ at_line 1 fault → Says expression_of (Err fault) (ExpressionIs text) → Answers expression_of (Err error) (Whole text)
+said_at : (text : List ℕ) (fault : LineFault) (error : SourceError) → error ≡ at_line 1 fault → Says expression_of (Err fault) (ExpressionIs text)
+    → Answers expression_of (Err error) (Whole text)
 said_at text fault error is said =
     let Family : SourceError → Type 0 = λ e. Answers expression_of (Err e) (Whole text) in
     subst Family (sym is) (answers_at expression_of (Whole text) fault.kind fault.column 1

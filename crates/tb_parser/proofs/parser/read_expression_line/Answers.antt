@@ -14,9 +14,11 @@ use Rattle.tb_parser.proofs.parser.read_expression_line.Goals as goal
 expression_unfit : (line : List ℕ) (fault : LineFault) → IfSome (refusal_of fault.kind fault.column) (IsUnfit line) → Says expression_of (Err fault) (ExpressionIs line)
 expression_unfit line fault h = passes (refusal_of fault.kind fault.column) (IsUnfit line) (λ r. ExpressionIs line (Err r)) (λ r u. unfit_text r u) h
 
-expression_said : (line : List ℕ) (result : Result Expr LineFault) → IsFit line → Says expression_of result (TextIs Expression Expresses (squeezed line)) → Says expression_of result (ExpressionIs line)
+expression_said : (line : List ℕ) (result : Result Expr LineFault) → IsFit line
+    → Says expression_of result (TextIs Expression Expresses (squeezed line)) → Says expression_of result (ExpressionIs line)
 expression_said line (Ok x) fit h = fit_text (Ok (expression_of x)) fit h
-expression_said line (Err fault) fit h = passes (refusal_of fault.kind fault.column) (λ r. TextIs Expression Expresses (squeezed line) (Err r)) (λ r. ExpressionIs line (Err r)) (λ r t. fit_text (Err r) fit t) h
+expression_said line (Err fault) fit h = passes (refusal_of fault.kind fault.column) (λ r. TextIs Expression Expresses (squeezed line) (Err r))
+    (λ r. ExpressionIs line (Err r)) (λ r t. fit_text (Err r) fit t) h
 
 pub returns-in_err-check_bytes : goal.returns-in_err-check_bytes
 returns-in_err-check_bytes c =

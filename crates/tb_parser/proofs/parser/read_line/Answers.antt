@@ -14,10 +14,12 @@ use Rattle.tb_parser.specs.Squeezed.{squeezed}
 use Rattle.tb_parser.proofs.ReaderAnswers.{passes}
 use Rattle.tb_parser.proofs.parser.read_line.Goals as goal
 
-line_unfit : (line : List ℕ) (first : ℕ) (fault : LineFault) → first_written 1 line ≡ Some first → IfSome (refusal_of fault.kind fault.column) (IsUnfit line) → Says edit_of (Err fault) (LineIs line)
+line_unfit : (line : List ℕ) (first : ℕ) (fault : LineFault) → first_written 1 line ≡ Some first → IfSome (refusal_of fault.kind fault.column)
+    (IsUnfit line) → Says edit_of (Err fault) (LineIs line)
 line_unfit line first fault e h = passes (refusal_of fault.kind fault.column) (IsUnfit line) (λ r. LineIs line (Err r)) (λ r u. unfit first r e u) h
 
-line_unread : (line : List ℕ) (number : ℕ) (text : List Placed) (fault : LineFault) → IsNumbered line number text → text ≢ [] → Says statement_of (Err fault) (TextIs Statement States text) → Says edit_of (Err fault) (LineIs line)
+line_unread : (line : List ℕ) (number : ℕ) (text : List Placed) (fault : LineFault) → IsNumbered line number text → text ≢ []
+    → Says statement_of (Err fault) (TextIs Statement States text) → Says edit_of (Err fault) (LineIs line)
 line_unread line number text fault numbered some h =
     passes (refusal_of fault.kind fault.column) (λ r. TextIs Statement States text (Err r)) (λ r. LineIs line (Err r)) (λ r t. unread number text r numbered some t) h
 
@@ -29,7 +31,8 @@ is_empty : (text : List Placed) → (length text == 0) ≡ true → text ≡ []
 is_empty [] e = refl
 is_empty (p ∷ text) e = let none : length (p ∷ text) ≡ 0 = eqb-true (length (p ∷ text)) 0 e in absurd (omega arith)
 
-numbered : (line : List ℕ) (number : ℕ) (text : List Placed) → IsFit line → IsLineNumber number → (number_at 0 (squeezed line)).value ≡ number → (number_at 0 (squeezed line)).rest ≡ text → IsNumbered line number text
+numbered : (line : List ℕ) (number : ℕ) (text : List Placed) → IsFit line → IsLineNumber number → (number_at 0 (squeezed line)).value ≡ number
+    → (number_at 0 (squeezed line)).rest ≡ text → IsNumbered line number text
 numbered line number text fit range value rest = record { fit = fit; value = value; rest = rest; in_range = range }
 
 pub returns-in_default : goal.returns-in_default
@@ -55,7 +58,8 @@ pub returns-then-is_empty : goal.returns-then-is_empty
 returns-then-is_empty c =
     let placed : c.deref-2.result.now ≡ squeezed c.args.line.now = c.deref-2.ensures.value ∙ c.in_ok-placed.ensures in
     let n = c.in-Some-line_number in
-    deletes n.number (numbered c.args.line.now n.number [] c.in_ok-check_bytes.ensures n.ensures.0 (rw placed at n.ensures.1) (rw placed at n.ensures.2 ∙ is_empty n.text.now (sym c.if-is_empty.ensures)))
+    deletes n.number (numbered c.args.line.now n.number [] c.in_ok-check_bytes.ensures n.ensures.0 (rw placed at n.ensures.1)
+        (rw placed at n.ensures.2 ∙ is_empty n.text.now (sym c.if-is_empty.ensures)))
 
 pub returns-in_err-read_line_statement : goal.returns-in_err-read_line_statement
 returns-in_err-read_line_statement c =
