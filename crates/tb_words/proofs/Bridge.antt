@@ -21,15 +21,18 @@ word_of-cast n h = by (nat_lt n 32768) refl
     by true e = let s : cast_signed w16 n ≡ pos n = simp e in rw s (omega arith)
     by false e = let s : cast_signed w16 n ≡ negsuc (65536 - suc n) = simp e in rw s (omega (arith, nat_tests))
 
+-- wrapping a number does not change its word
 pub word_of-wrapped : (z : ℤ) → word_of (wrapped z) ≡ word_of z
 unfolding int_wrap
 word_of-wrapped (pos n) = word_of-cast (n % 65536) (omega arith)
 word_of-wrapped (negsuc n) = word_of-cast (65536 - 1 - n % 65536) (omega arith) ∙ omega arith
 
+-- the magnitude of a signed number's word is its distance from zero
 pub magnitude_is : (z : ℤ) → FitsSigned w16 z → magnitude (word_of z) ≡ unsigned_abs z
 magnitude_is (pos n) f = let h = f.sfits in grind (arith, nat_tests)
 magnitude_is (negsuc n) f = let h = f.sfits in grind (arith, nat_tests)
 
+-- the word of a signed 16-bit number, read as signed, is that number
 pub signed-word_of : (z : ℤ) → FitsSigned w16 z → signed (word_of z) ≡ z
 signed-word_of (pos n) f = let h = f.sfits in let t : nat_lt 32767 (n % 65536) ≡ false = grind (arith, nat_tests) in rw t (omega (arith, ints))
 signed-word_of (negsuc n) f = let h = f.sfits in let t : nat_lt 32767 (65535 - n % 65536) ≡ true = grind (arith, nat_tests) in rw t (omega (arith, ints))
@@ -57,15 +60,18 @@ word_of-div (pos n) (negsuc d) = word_of-neg (n / suc d)
 word_of-div (negsuc n) (pos d) = word_of-neg (suc n / d)
 word_of-div (negsuc n) (negsuc d) = refl
 
+-- the quotient of two signed numbers, as a word, is the quotient of their words
 pub quotient_is : (n d : ℤ) → FitsSigned w16 n → FitsSigned w16 d → word_of (int_div n d) ≡ quotient (word_of n) (word_of d)
 quotient_is n d f g =
     word_of-div n d
     ∙ (λ i. with_sign (differ (sym (sign_is n f) i) (sym (sign_is d g) i)) (sym (magnitude_is n f) i / sym (magnitude_is d g) i))
 
+-- the quotient that the code computes has the word that `quotient` gives
 pub quotient_word : (n d q : ℤ) → FitsSigned w16 n → FitsSigned w16 d → FitsSigned w16 q → q ≡ int_wrapping_div w16 (read n) (read d)
     → word_of (read q) ≡ quotient (word_of n) (word_of d)
 quotient_word n d q f g h e = ap word_of (read_quotient n d q f g h e) ∙ word_of-wrapped (int_div n d) ∙ quotient_is n d f g
 
+-- the word of a number other than 0 is not 0
 pub nonzero_word : (d : ℤ) → FitsSigned w16 d → (d ≡ pos 0 → ⊥) → word_of d ≡ 0 → ⊥
 nonzero_word d f h e =
     let z : pos 0 ≡ d = ap signed (sym e) ∙ signed-word_of d f in
@@ -73,9 +79,11 @@ nonzero_word d f h e =
 
 -- ---- negation and decimal text
 
+-- the machine's negation is the wrapped negative
 pub negation_is : (a : ℤ) → FitsSigned w16 a → int_wrapping_neg w16 a ≡ wrapped (pos 0 -ℤ a)
 negation_is a f = wrapping_neg_is w16 a f ∙ ap wrapped (sym (+ℤ_idl (neg_ℤ a)))
 
+-- the decimal text of a signed number is `digits_of` of its word
 pub digits_are : (z : ℤ) → FitsSigned w16 z → signed_decimal z ≡ digits_of (word_of z)
 digits_are (pos n) f =
     let h = f.sfits in

@@ -2,7 +2,7 @@
 ghost use Rattle.std.specs.Prelude.{◌≡◌, [], ◌<◌};
 ghost use Rattle.tb_words.specs.Hexadecimal.{four_digits, hex_digit};
 
-// The digit of a value from 0 to 15.
+// The ASCII digit of a value from 0 to 15.
 fn digit(value: u8) -> u8
     requires { value < 16 }
     ensures { result ≡ hex_digit value }
@@ -14,7 +14,7 @@ fn digit(value: u8) -> u8
     }
 }
 
-/// The four digits of a word.
+/// The four digits of a word in ASCII, the highest first.
 pub fn hex_digits(word: u16) -> [u8; 4]
     ensures { result ≡ four_digits word [] }
 {
