@@ -48,6 +48,7 @@ some_same o p q = cc
 distinct : IsDistinct nat_eq (map (λ (r : Row). r.opcode) rows)
 distinct = IsDistinct-from_count nat_eq_equiv _ refl
 
+-- the rows are a table: no opcode occurs twice, and decoding, encoding and the list agree
 pub table : IsTable
 table = record {
   count = refl;

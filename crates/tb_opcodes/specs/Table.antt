@@ -9,8 +9,8 @@ use Rattle.tb_opcodes.specs.Opcodes.{row, rows, decoded, encoded}
 abbrev pub IsListed : ℕ → Mnemonic → Mode → Type 0
 IsListed o n m = Contains rows (row o n m)
 
--- the list has 151 rows, no opcode and no pair of mnemonic and mode stands in it twice,
--- and what decodes, what encodes and what is listed are one
+-- the list has 151 rows, no opcode and no pair of mnemonic and mode occurs in it twice,
+-- and an opcode decodes to a pair, the pair encodes to it, and both are listed, exactly together
 pub record IsTable : Type 0 where
   pub count : length rows ≡ 151
   pub opcodes_differ : IsDistinct nat_eq (map (λ r. r.opcode) rows)

@@ -18,25 +18,25 @@ pub enum Mnemonic {
     And,
     /// Shift left, one bit.
     Asl,
-    /// Branch where C is clear.
+    /// Branch if C is clear.
     Bcc,
-    /// Branch where C is set.
+    /// Branch if C is set.
     Bcs,
-    /// Branch where Z is set.
+    /// Branch if Z is set.
     Beq,
     /// Test bits with A.
     Bit,
-    /// Branch where N is set.
+    /// Branch if N is set.
     Bmi,
-    /// Branch where Z is clear.
+    /// Branch if Z is clear.
     Bne,
-    /// Branch where N is clear.
+    /// Branch if N is clear.
     Bpl,
     /// Force break.
     Brk,
-    /// Branch where V is clear.
+    /// Branch if V is clear.
     Bvc,
-    /// Branch where V is set.
+    /// Branch if V is set.
     Bvs,
     /// Clear the carry.
     Clc,
@@ -133,7 +133,7 @@ pub enum Mode {
     Implied,
     /// A itself.
     Accumulator,
-    /// The byte behind the opcode.
+    /// The byte after the opcode.
     Immediate,
     /// A byte of page zero.
     ZeroPage,
@@ -157,7 +157,7 @@ pub enum Mode {
     Indirect,
 }
 
-/// The mnemonic and the mode that a byte stands for, where it is one of the 151 documented
+/// The mnemonic and the mode of an opcode; `None` if the byte is not one of the 151 documented
 /// opcodes.
 // Inlined, so that the processor reaches an instruction by one jump over the opcode.
 #[inline(always)]
@@ -333,7 +333,7 @@ pub fn length(mode: Mode) -> u8
     }
 }
 
-/// The opcode of a mnemonic in a mode, where it has that mode.
+/// The opcode of a mnemonic in a mode; `None` if the mnemonic does not have that mode.
 #[tactic(auto, unfolding(crate::specs::Opcodes::encoded))]
 pub fn encode(mnemonic: Mnemonic, mode: Mode) -> Option<u8>
     ensures { result ≡ encoded mnemonic mode }
