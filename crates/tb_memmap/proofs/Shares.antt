@@ -7,6 +7,7 @@ use Rattle.tb_memmap.specs.Shares.{OpenIsShared}
 open_spans : (a : ℕ) → a < 65536 → is_open a ≡ (within 0x0002 0x9fff a || within 0xc000 0xcfff a)
 open_spans a h = grind (arith, nat_tests)
 
+-- `OpenIsShared` holds: the law that `open_is_shared` hands on
 pub shared : OpenIsShared
 shared s a p q =
     let e = open_spans a q in

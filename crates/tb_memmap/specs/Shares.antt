@@ -8,6 +8,6 @@ pub record AreShared (s a : ℕ) : Type 0 where
   pub not_both : (rom_writable s a && is_owned s a) ≡ false
   pub rom_is_closed : (is_rom a && is_open a) ≡ false
 
--- the same of every address
+-- this holds for every stack pointer and every address
 abbrev pub OpenIsShared : Type 0
 OpenIsShared = (s a : ℕ) → s < 256 → a < 65536 → AreShared s a

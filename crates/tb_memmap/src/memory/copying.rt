@@ -5,7 +5,7 @@ use crate::memory::Memory;
 use std::alloc::{AllocError, Global};
 
 impl Memory {
-    /// A memory of its own with the same bytes. AllocError comes only where the allocator refused.
+    /// A new memory with the same bytes. Fails with AllocError only if the allocator refuses.
     pub fn copied(&self, alloc: Global) -> Result<Memory, AllocError>
         ensures { IfOk result (λ m. m ≡ self.now) }
     {
