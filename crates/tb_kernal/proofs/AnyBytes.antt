@@ -32,6 +32,7 @@ gone_on (Some Chrout) k s away right = inl right
 gone_on (Some Chrin) k s away right = inl right
 gone_on (Some Getin) k s away right = inl right
 
+-- `RunsAnyBytes` holds: the law that `runs_any_bytes` hands on
 pub runs_any_bytes : RunsAnyBytes
 runs_any_bytes s k h =
     let facts = running_by (is_home s) s.wrong (waits_for (service_at s.regs.pc) s.text) h in

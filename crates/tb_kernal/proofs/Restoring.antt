@@ -20,7 +20,7 @@ abbrev pub AreOf : (ℕ → ℕ) → Writes → Type 0
 AreOf m [] = Unit {0}
 AreOf m (u ∷ us) = (u.1 ≡ m u.0) × AreOf m us
 
--- a place that isn't written stands
+-- a place that is not written keeps its byte
 not_written : (b : ℕ) (us : Writes) (ws : Writes) (m : ℕ → ℕ) → all_among ws us ≡ true → is_among b us ≡ false → written m ws b ≡ m b
 not_written b us [] m h o = refl
 not_written b us (w ∷ ws) m h o =

@@ -80,7 +80,7 @@ among_itself (w ∷ ws) = and_from _ _ (or_left (nat_eq w.0 w.0) (is_among w.0 w
 writes_back : (m : ℕ → ℕ) (ps ws : Writes) → all_open ws ≡ true → all_among ws ps ≡ true → written_open (written m ws) (old_of m ps) ≡ m
 writes_back m ps ws o a = restored_open (old_of m ps) ws m (are_old m ps) (old_open m ps) (all_old_among m ws ps o a)
 
--- where nothing was written, nothing changes
+-- putting the noted bytes back where nothing was written changes nothing
 nothing_back : (m : ℕ → ℕ) (ps : Writes) → written_open m (old_of m ps) ≡ m
 nothing_back m ps = writes_back m ps [] refl refl
 
@@ -90,7 +90,7 @@ writable_open s (w ∷ ws) l h =
     let p = and_parts _ _ h in
     and_from _ _ (rom_writable_open s w.0 l p.0) (writable_open s ws l p.1)
 
--- the ROM's own writes
+-- the ROM's own writes are taken back
 own_back : (s : ℕ) (m : ℕ → ℕ) (ws : Writes) → s < 256 → all_writable s ws ≡ true → written_open (written m ws) (old_of m ws) ≡ m
 own_back s m ws l h = writes_back m ws ws (writable_open s ws l h) (among_itself ws)
 
@@ -146,7 +146,7 @@ memory_back m (Interrupt ws) l h = interrupted_back (is_stopped (status (state_o
 
 -- ---- what else an event leaves
 
--- the return stands, and what was sent stays sent
+-- the return address is kept, and what was sent stays sent
 record Onward (s t : State) : Type 0 where
   home : t.home ≡ s.home
   home_s : t.home_s ≡ s.home_s
@@ -216,6 +216,7 @@ lawful_if : (b c : Bool) → (if not b then Some Unlawful else if c then Some Se
 lawful_if true c h = refl
 lawful_if false c h = absurd (cc)
 
+-- `undo` with the undo of an event takes the event back
 pub takes_back : (u : Former) (n q : Content) → Undone u n q → TakesBack u n q
 takes_back u n q done m e (Ok t) after noted h same =
     let lawful = lawful_if (is_lawful (state_of m) e) (sends (state_of m) && m.room == 0) h.0 in

@@ -1,4 +1,4 @@
--- A run that has not waited is the same with more text behind.
+-- A run that has not waited is the same with more text after.
 use Rattle.std.proofs.Common.{◌≡◌, ℕ, ◌≤◌, Bool, true, false, ◌||◌, ◌&&◌, List, [], ◌∷◌, ◌++◌, length, refl, ap, ◌∙◌}
 use Rattle.std.proofs.lemmas.List.{drop-append-le}
 use Rattle.std.specs.Prelude.{◌≢◌, Option, Some, None, Result, Ok, Err, if◌then◌else◌}
@@ -18,7 +18,7 @@ use Rattle.tb_kernal.specs.Machine.{State, Content, state_of, status, status_by,
 use Rattle.tb_kernal.specs.Runs.{run, all_lawful}
 use Rattle.tb_kernal.specs.Typing.{with_typed, with_more, TypingKeepsRuns}
 
--- with more text behind, a machine that doesn't wait stands as before
+-- with more text after, a machine that does not wait has the same status
 same_status : (home : Bool) (wrong : Option Wrong) (o : Option Service) (text more : List ℕ) →
     status_by home wrong (waits_for o text) ≢ Waits →
     status_by home wrong (waits_for o (text ++ more)) ≡ status_by home wrong (waits_for o text)
@@ -30,6 +30,7 @@ same_status false None (Some Getin) text more h = refl
 same_status false None (Some Chrin) [] more h = absurd (h refl)
 same_status false None (Some Chrin) (b ∷ text) more h = refl
 
+-- the same for a machine's state
 pub status_kept : (s : State) (more : List ℕ) → status s ≢ Waits → status (with_more more s) ≡ status s
 status_kept s more h = same_status (is_home s) s.wrong (service_at s.regs.pc) s.text more h
 
@@ -37,7 +38,7 @@ stepped_kept : (s : State) (more : List ℕ) (x : Result cpu.State Wrong) → st
 stepped_kept s more (Ok t) = refl
 stepped_kept s more (Err w) = refl
 
--- a service or an instruction of a machine that has a byte where it wants one
+-- a service or an instruction of a machine that has a byte whenever it wants one
 gone_at_kept : (o : Option Service) (k : Clobber) (s : State) (text more : List ℕ) → waits_for o text ≡ false →
     gone_at o k (record s { text = text ++ more }) ≡ with_more more (gone_at o k (record s { text = text }))
 gone_at_kept None k s text more h = stepped_kept (record s { text = text }) more (next s.regs s.mem)
@@ -64,7 +65,7 @@ interrupted_kept : (b : Bool) (ws : Writes) (s : State) (more : List ℕ) →
 interrupted_kept true ws s more = refl
 interrupted_kept false ws s more = refl
 
--- an event of a machine that doesn't wait does the same with more text behind
+-- an event of a machine that doesn't wait does the same with more text after
 pub happens_kept : (e : Event) (s : State) (more : List ℕ) → status s ≢ Waits → happens (with_more more s) e ≡ with_more more (happens s e)
 happens_kept (Go k) s more h = ap (λ t. gone t k (with_more more s)) (status_kept s more h) ∙ gone_kept (status s) k s more refl
 happens_kept (Interrupt ws) s more h =
@@ -77,6 +78,7 @@ lawful_event_kept (Interrupt ws) s more = refl
 lawful_kept : (e : Event) (s : State) (more : List ℕ) → status s ≢ Waits → is_lawful (with_more more s) e ≡ is_lawful s e
 lawful_kept e s more h = λ i. is_stopped (status_kept s more h i) || lawful_event_kept e s more i
 
+-- `TypingKeepsRuns` holds: the law that `typing_keeps_runs` hands on
 pub typing_keeps_runs : TypingKeepsRuns
 typing_keeps_runs [] s more h = (refl, refl)
 typing_keeps_runs (e ∷ es) s more h =
@@ -84,6 +86,6 @@ typing_keeps_runs (e ∷ es) s more h =
     let later = typing_keeps_runs es (happens s e) more h.1 in
     (ap (run es) now ∙ later.0, λ i. lawful_kept e s more h.0 i && (ap (all_lawful es) now ∙ later.1) i)
 
--- what is put behind all text stands behind what is left of it
+-- what is put after the whole text comes after the rest that is not yet taken
 pub typed_is_more : (m : Content) (more : List ℕ) → m.text_taken ≤ length m.all_text → state_of (with_typed m more) ≡ with_more more (state_of m)
 typed_is_more m more h = ap (λ text. record (state_of m) { text = text }) (drop-append-le m.text_taken m.all_text more h)

@@ -1,4 +1,5 @@
--- That the events of the given outsides are lawful: lemmas, which stand here since each outside cites its own for the law of `Outside`.
+-- That the events of the given outsides are lawful. These lemmas are here since each outside cites its own for the
+-- law of `Outside`.
 use Rattle.std.proofs.Common.{ℕ, ◌≡◌, ◌-◌, ◌/◌, ◌%◌, Bool, true, false, List, [], ◌∷◌, refl, arith}
 use Rattle.std.proofs.lemmas.Bool.{or_right}
 use Rattle.std.specs.Prelude.{◌==◌, if◌then◌else◌, Option, Some, None}
@@ -16,7 +17,7 @@ lawful_go : (o : Option Service) (s : ℕ) → is_lawful_go o s [] ≡ true
 lawful_go None s = refl
 lawful_go (Some _) s = refl
 
--- the writes that an event brings: those of a service, where a Go calls one, or of an interrupt
+-- the writes that an event brings: those of a service, if a Go calls one, or of an interrupt
 abbrev pub writes_of : Event → Writes
 writes_of (Go k) = k.writes.items
 writes_of (Interrupt ws) = ws.items

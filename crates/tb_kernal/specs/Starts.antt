@@ -19,7 +19,7 @@ pub record IsStart (place : ℕ) (bytes : List ℕ) (s : State) : Type 0 where
   pub pc : s.regs.pc ≡ CODE_START
   pub s_from : 0x60 ≤ s.regs.s
   pub s_to : s.regs.s ≤ 0xfd
-  -- the program returns behind the word on the stack, which leads into ROM and to no service
+  -- the program returns after the word on the stack, which leads into ROM and to no service
   pub home : s.home ≡ home_of s.mem s.regs
   pub home_s : s.home_s ≡ s.regs.s + 2
   pub in_rom : is_rom s.home ≡ true

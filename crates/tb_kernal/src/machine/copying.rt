@@ -1,11 +1,12 @@
-//! A machine that stands as another one does.
+//! A copy of a machine.
 ghost use Rattle.std.specs.Prelude.{◌≡◌, IfOk};
 
 use crate::machine::{Keyboard, Machine};
 use std::alloc::{AllocError, Global};
 
 impl Machine {
-    /// A machine of its own that stands as this one does, but has sent these bytes, and has no room.
+    /// A new machine in the state of this one, but with these bytes sent, and no room. Fails with AllocError only if
+    /// the allocator refuses.
     pub fn copied(&self, alloc: Global, sent: &[u8]) -> Result<Machine, AllocError>
         ensures { IfOk result (λ m. m ≡ record self.now { sent = sent.now; room = 0 }) }
     {
@@ -25,7 +26,7 @@ impl Machine {
 }
 
 impl Keyboard {
-    // A keyboard of its own that gives the same.
+    // A new keyboard that gives the same bytes.
     fn copied(&self, alloc: Global) -> Result<Keyboard, AllocError>
         ensures text { IfOk result (λ k. k.text.items ≡ self.now.text.items) }
         ensures answers { IfOk result (λ k. k.answers.items ≡ self.now.answers.items) }

@@ -1,4 +1,4 @@
-//! Typing while the machine stands.
+//! Typing while the machine pauses.
 ghost use Rattle.std.specs.Prelude.{◌≡◌, OnOk, OnErr};
 ghost use Rattle.tb_kernal.specs.Machine.{state_of};
 ghost use Rattle.tb_kernal.specs.Typing.{with_typed, with_more};
@@ -7,8 +7,8 @@ use crate::machine::Machine;
 use std::alloc::AllocError;
 
 impl Machine {
-    /// Puts bytes behind the keyboard's text, so that a machine that waits for a key goes on. AllocError
-    /// comes only where a growth was refused; then nothing changes.
+    /// Puts bytes after the keyboard's text, so that a machine that waits for a key goes on. AllocError
+    /// comes only if the allocator refused; then nothing changes.
     #[tactic(auto, using(crate::proofs::Typing::typed_is_more))]
     pub fn type_text(&mut self, bytes: &[u8]) -> Result<(), AllocError>
         ensures typed { OnOk result (self.new ≡ with_typed self.old bytes.now) }
