@@ -1,4 +1,4 @@
--- Programs as plain data: no pointers, texts as lists of bytes, a letter by its place from 0 for A.
+-- Programs as plain data: no pointers, texts as lists of bytes, a letters by their places, from 0 for A.
 use Rattle.std.specs.Prelude.{ℕ, Bool, List, map}
 use Rattle.tb_words.specs.declared.Rel.{Rel}
 use Rattle.tb_syntax.specs.declared.expressions.Operator.{Operator}
@@ -11,13 +11,13 @@ pub data Expression : Type 0 where
   Binary : (op : Operator) (left right : Expression) → Expression
   Random : (bound : Expression) → Expression
 
--- a comma is a zone; a semicolon leaves nothing
+-- an item of PRINT: a text, a zone for a comma, or a value; a semicolon leaves nothing
 pub data Item : Type 0 where
   Text : (bytes : List ℕ) → Item
   Value : (e : Expression) → Item
   Zone : Item
 
--- a statement; PRINT says whether the line ends behind its items, the targets of GOTO and GOSUB are expressions
+-- a statement; PRINT says whether the line ends after its items, the targets of GOTO and GOSUB are expressions
 pub data Statement : Type 0 where
   Let : (letter : ℕ) (e : Expression) → Statement
   Print : (items : List Item) (ends_line : Bool) → Statement

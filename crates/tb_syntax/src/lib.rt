@@ -1,6 +1,6 @@
 //! Programs in Tiny BASIC as trees: expressions, statements and numbered lines.
 //!
-//! The crate has no text in it: the parser makes these trees, and every layer behind it reads them.
+//! The crate has no text in it: the parser makes these trees, and every layer after it reads them.
 #![tactic(auto)]
 
 mod expressions;

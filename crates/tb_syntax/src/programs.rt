@@ -37,7 +37,7 @@ impl Program {
         }
     }
 
-    /// Gives a line its statement, in place of the one that it had. On want of memory both come back.
+    /// Gives a line its statement, in place of any that it had. If memory runs out, number and statement come back.
     pub fn set(
         &mut self,
         number: u16,
@@ -51,7 +51,7 @@ impl Program {
         Ok(())
     }
 
-    /// Takes a line out, where there is one.
+    /// Removes the line of a number, if there is one.
     pub fn delete(&mut self, number: u16)
         ensures { self.new ≡ remove_entry (is_at (nat_cmp number)) self.old }
     {
@@ -65,7 +65,7 @@ impl Program {
         self.statements.contains_key(&number)
     }
 
-    /// Whether there is no line.
+    /// Whether the program has no lines.
     pub fn is_empty(&self) -> bool
         ensures { IsTrue result ↔ (self.now ≡ []) }
     {

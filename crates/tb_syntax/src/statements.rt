@@ -18,7 +18,7 @@ pub enum PrintItem {
 #[derive(Debug, Drop)]
 pub enum Statement {
     Let(Letter, Expr),
-    /// The items in order, and whether a carriage return follows (no separator stands last).
+    /// The items in order, and whether a carriage return follows (no separator comes last).
     Print(Vec<PrintItem>, bool),
     Input(Vec<Letter>),
     If(Expr, Rel, Expr, Box<Statement>),
