@@ -27,11 +27,12 @@ shorter (plus text e large rest r) = let s = shorter r in omega arith
 shorter (minus text e large rest r) = let s = shorter r in omega arith
 shorter (sum text a b la lb sign op middle rest r h q) = let s = shorter r in let t = shorter q in omega arith
 
--- what may follow a factor: no digit, and not the rest of RND
+-- what may follow a factor: neither a digit nor the rest of RND
 pub record Ends (rest : List ℕ) : Type 0 where
   pub no_digit : starts_digit rest ≡ false
   pub no_random : behind_word (codes "ND") rest ≡ None
 
+-- an operator may follow a factor
 pub operator_ends : (part : Part) (sign : ℕ) (op : Operator) (rest : List ℕ) → operator part sign ≡ Some op → Ends (sign ∷ rest)
 operator_ends Factor sign op rest e = absurd cc
 operator_ends Term sign op rest e =
@@ -65,21 +66,26 @@ sign_no_term sign op rest e =
 is_digit_true : (b : ℕ) → IsDigit b → is_digit b ≡ true
 is_digit_true b h = grind (arith, nat_tests)
 
+-- a letter passes the reader's test
 pub is_letter_true : (b : ℕ) → IsLetter b → is_letter b ≡ true
 is_letter_true b h = grind (arith, nat_tests)
 
+-- a letter is no digit
 pub letter_no_digit : (b : ℕ) → IsLetter b → is_digit b ≡ false
 letter_no_digit b h = grind (arith, nat_tests)
 
--- the digits at the front, where no other follows
+-- the digits at the front of a text are read if no digit follows them
 digits_read : (n : ℕ) (digits rest : List ℕ) → All IsDigit digits → starts_digit rest ≡ false → digits_at n (digits ++ rest) ≡ (value_after n digits, rest)
 digits_read n [] [] h e = refl
 digits_read n [] (b ∷ rest) h e = rw e refl
 digits_read n (d ∷ digits) rest h e = rw (is_digit_true d (All-head IsDigit d digits h)) (digits_read (10 * n + (d - 48)) digits rest (All-tail IsDigit d digits h) e)
 
 number_read : (whole : List ℕ → Option Found) (d : ℕ) (digits rest : List ℕ) → All IsDigit (d ∷ digits) → starts_digit rest ≡ false
-    → factor_by whole (d ∷ digits ++ rest) ≡ Some (record { tree = Number (word_of (value_after 0 (d ∷ digits)));
-        large = large_at (value_after 0 (d ∷ digits)) (length (d ∷ digits ++ rest)); rest = rest })
+    → factor_by whole (d ∷ digits ++ rest) ≡ Some (record {
+      tree = Number (word_of (value_after 0 (d ∷ digits)));
+      large = large_at (value_after 0 (d ∷ digits)) (length (d ∷ digits ++ rest));
+      rest = rest;
+    })
 unfolding factor_by literal_at
 number_read whole d digits rest h e =
     rw (is_digit_true d (All-head IsDigit d digits h), digits_read (10 * 0 + (d - 48)) digits rest (All-tail IsDigit d digits h) e) refl
@@ -113,7 +119,7 @@ unsigned (plus text e large rest r) ne = absurd (ne refl)
 unsigned (minus text e large rest r) ne = absurd (ne refl)
 unsigned (sum text a b la lb sign op middle rest r h q) ne = absurd (ne refl)
 
--- more operands, where none is left
+-- no more operands are read if none follows
 more_ends : (part : Part) (operand : List ℕ → Option Found) (k : ℕ) (f : Found) → operator_at part f.rest ≡ None → more part operand k f ≡ Some f
 more_ends part operand zero f e = refl
 more_ends part operand (suc k) f e = rw e refl
@@ -124,15 +130,17 @@ Claim Factor n text f = Ends f.rest → factor_at n text ≡ Some f
 Claim Term n text f = Ends f.rest → (k : ℕ) × (length f.rest ≤ k) × (term_at n text ≡ more Term (factor_at n) k f)
 Claim Whole n text f = Ends f.rest → operator_at Term f.rest ≡ None → (k : ℕ) × (length f.rest ≤ k) × (whole_by (factor_at n) text ≡ more Whole (term_at n) k f)
 
--- a term that ends
+-- a term with nothing of it left is read as it is
 term_ends : (n : ℕ) (text : List ℕ) (f : Found) → Claim Term n text f → Ends f.rest → operator_at Term f.rest ≡ None → term_at n text ≡ Some f
 term_ends n text f claim ends none = let c = claim ends in c.2 ∙ more_ends Term (factor_at n) c.0 f none
 
+-- an expression after which no operator follows is read by the reader of its depth
 pub whole_ends : (n : ℕ) (text : List ℕ) (f : Found) → Claim Whole n text f → Ends f.rest → operator_at Term f.rest ≡ None → operator_at Whole f.rest
     ≡ None → whole_at (suc n) text ≡ Some f
 unfolding whole_at
 whole_ends n text f claim ends none no_sign = let c = claim ends none in c.2 ∙ more_ends Whole (term_at n) c.0 f no_sign
 
+-- a closing parenthesis may follow a factor
 pub closing : (rest : List ℕ) → Ends (41 ∷ rest)
 closing rest = record { no_digit = refl; no_random = refl }
 
@@ -150,12 +158,13 @@ parentheses_read : (n : ℕ) (text : List ℕ) (e : Expression) (large : Option 
 unfolding factor_by group_by
 parentheses_read n text e large rest claim = group_read n text e large rest claim
 
--- one more operand
+-- one more operand is read with the operands before it
 goes_on : (part : Part) (operand : List ℕ → Option Found) (k : ℕ) (a b : Expression) (la lb : Option ℕ) (sign : ℕ) (op : Operator) (middle rest : List ℕ)
     → operator part sign ≡ Some op → operand middle ≡ Some (record { tree = b; large = lb; rest = rest })
     → more part operand (suc k) (record { tree = a; large = la; rest = sign ∷ middle }) ≡ more part operand k (record { tree = Binary op a b; large = option_or la lb; rest = rest })
 goes_on part operand k a b la lb sign op middle rest h e = rw (h, e) refl
 
+-- a bound above a number is a successor
 pub one_more : (k m : ℕ) → suc m ≤ k → (j : ℕ) × (k ≡ suc j)
 one_more zero m h = absurd (omega arith)
 one_more (suc j) m h = (j, refl)
@@ -169,6 +178,7 @@ whole_first : (operand : List ℕ → Option Found) (text : List ℕ) (f : Found
 unfolding whole_by
 whole_first operand text f e = rw e refl
 
+-- each part in the grammar is read at every bound from the text's length on
 pub complete : {part : Part} {text : List ℕ} {e : Expression} {large : Option ℕ} {rest : List ℕ} → Reads part text e large rest → (n : ℕ) → length text ≤ n
     → Claim part n text (record { tree = e; large = large; rest = rest })
 complete (number text d digits rest h ds) n le = λ ends. rw h (number_read (whole_at n) d digits rest ds ends.no_digit)
@@ -183,9 +193,12 @@ complete (product text a b la lb sign op middle rest r h q) n le = λ ends.
     let t = shorter q in
     let c = complete r n le (operator_ends Term sign op middle h) in
     let j = one_more c.0 (length middle) c.1 in
-    let d = complete q n (omega arith) ends in
-    (j.0, omega (arith, j.1, c.1), c.2 ∙ ap (λ (k : ℕ). more Term (factor_at n) k (record { tree = a; large = la; rest = sign ∷ middle })) j.1
-        ∙ goes_on Term (factor_at n) j.0 a b la lb sign op middle rest h d)
+    let d = complete q n (omega arith) ends in (
+      j.0,
+      omega (arith, j.1, c.1),
+      c.2 ∙ ap (λ (k : ℕ). more Term (factor_at n) k (record { tree = a; large = la; rest = sign ∷ middle })) j.1
+          ∙ goes_on Term (factor_at n) j.0 a b la lb sign op middle rest h d,
+    )
 complete (term text e large rest r) n le = λ ends none.
     let u = unsigned r (λ h. cc) in
     let f : Found = record { tree = e; large = large; rest = rest } in
@@ -202,9 +215,12 @@ complete (sum text a b la lb sign op middle rest r h q) n le = λ ends none.
     let c = complete r n le (operator_ends Whole sign op middle h) (sign_no_term sign op middle h) in
     let j = one_more c.0 (length middle) c.1 in
     let f : Found = record { tree = b; large = lb; rest = rest } in
-    let d = term_ends n middle f (complete q n (omega arith)) ends none in
-    (j.0, omega (arith, j.1, c.1), c.2 ∙ ap (λ (k : ℕ). more Whole (term_at n) k (record { tree = a; large = la; rest = sign ∷ middle })) j.1
-        ∙ goes_on Whole (term_at n) j.0 a b la lb sign op middle rest h d)
+    let d = term_ends n middle f (complete q n (omega arith)) ends none in (
+      j.0,
+      omega (arith, j.1, c.1),
+      c.2 ∙ ap (λ (k : ℕ). more Whole (term_at n) k (record { tree = a; large = la; rest = sign ∷ middle })) j.1
+          ∙ goes_on Whole (term_at n) j.0 a b la lb sign op middle rest h d,
+    )
 
 -- what may follow an expression
 pub record Follows (rest : List ℕ) : Type 0 where
@@ -212,6 +228,7 @@ pub record Follows (rest : List ℕ) : Type 0 where
   pub no_term : operator_at Term rest ≡ None
   pub no_whole : operator_at Whole rest ≡ None
 
+-- the end of the text may follow an expression
 pub nothing_follows : Follows []
 nothing_follows = record { ends = record { no_digit = refl; no_random = refl }; no_term = refl; no_whole = refl }
 
@@ -227,6 +244,7 @@ front_read text e large rest r f =
 abbrev pub NoOther : List ℕ → Type 0
 NoOther text = (behind 34 text ≡ None) × (behind 60 text ≡ None) × (behind 61 text ≡ None) × (behind 62 text ≡ None)
 
+-- each part begins with neither a quote nor a relation
 pub no_other : {part : Part} {text : List ℕ} {e : Expression} {large : Option ℕ} {rest : List ℕ} → Reads part text e large rest → NoOther text
 no_other (number text d digits rest h ds) = let first = All-head IsDigit d digits ds in
     rw h (rw (ne_eqb d 34 (omega arith), ne_eqb d 60 (omega arith), ne_eqb d 61 (omega arith), ne_eqb d 62 (omega arith)) (refl, refl, refl, refl))

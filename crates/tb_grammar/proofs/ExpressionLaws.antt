@@ -25,10 +25,12 @@ expression_is text f h =
     let e = ended_is a.0.rest a.0 f a.2 refl in
     subst (λ (r : List ℕ). Reads Whole text f.tree f.large r) e.1 (subst (λ (f : Found). Reads Whole text f.tree f.large f.rest) e.0 (front_is text a.0 a.1))
 
+-- an expression in the grammar is what `expression_in` finds
 pub expression_read : (text : List ℕ) (e : Expression) (large : Option ℕ) → Reads Whole text e large [] → expression_in text ≡ Some (record { tree = e; large = large; rest = [] })
 unfolding expression_in
 expression_read text e large r = rw (front_read text e large [] r nothing_follows) refl
 
+-- the clause `found` of `read_expression`: what is read is in the grammar
 pub is_found : (text : List ℕ) (r : Result ReadExpression ReadError) → Gives whole_seen r (expression_in text) → IfOk r (λ r. Reads Whole text (expression_of r.expr) r.large [])
 is_found text (Err e) h = tt
 is_found text (Ok p) h = expression_is text (whole_seen p) h
@@ -36,6 +38,7 @@ is_found text (Ok p) h = expression_is text (whole_seen p) h
 same_parts : (f g : Found) → Some f ≡ Some g → (f.tree ≡ g.tree) × (f.large ≡ g.large)
 same_parts f g e = let s = some_is f g e in (ap (λ (f : Found). f.tree) s, ap (λ (f : Found). f.large) s)
 
+-- the clause `only` of `read_expression`: what is in the grammar is answered
 pub is_only : (text : List ℕ) (r : Result ReadExpression ReadError) → Gives whole_seen r (expression_in text) → (e : Expression) (large : Option ℕ) → Reads Whole text e large []
     → Answers r (λ r. (expression_of r.expr ≡ e) × (r.large ≡ large))
 is_only text (Ok p) h e large r = same_parts (whole_seen p) (record { tree = e; large = large; rest = [] }) (sym h ∙ expression_read text e large r)
@@ -44,6 +47,7 @@ is_only text (Err (stop.NoReading left)) h e large r =
     let same : None ≡ Some (let f : Found = record { tree = e; large = large; rest = [] } in f) = sym h ∙ expression_read text e large r in
     absurd cc
 
+-- `ExpressionsAreUnique` holds: the law that `expressions_are_unique` hands on
 pub unique : ExpressionsAreUnique
 unique text a b la lb r q =
     same_parts (record { tree = a; large = la; rest = [] }) (record { tree = b; large = lb; rest = [] }) (sym (expression_read text a la r) ∙ expression_read text b lb q)

@@ -42,6 +42,7 @@ quotation_read (b ∷ bytes) rest h = rw (ne_eqb b 34 (All-head NoQuote b bytes 
 
 -- items
 
+-- an item that is read is in the grammar
 pub item_is : (text : List ℕ) (f : FoundItem) → item_at text ≡ Some f → ReadsItem text f.item f.large f.rest
 unfolding item_at
 item_is text f e =
@@ -57,10 +58,12 @@ item_is text f e =
           (subst (λ (t : List ℕ). ReadsItem t (Text a.0.0) None a.0.1) (sym spelled) (quotation a.0.0 a.0.1 q.1))
     ]
 
+-- an item takes at least one byte
 pub item_shorter : {text : List ℕ} {item : Item} {large : Option ℕ} {rest : List ℕ} → ReadsItem text item large rest → length rest < length text
 item_shorter (value text e large rest r) = shorter r
 item_shorter (quotation bytes rest h) = omega (arith, length-append bytes (34 ∷ rest))
 
+-- a byte that is read as a separator is one in the grammar
 pub separator_is : (b : ℕ) (zone : List Item) → between b ≡ Some zone → Separates b zone
 separator_is b zone e =
     elim (chosen (b == 44) _ _ (Some zone) e) [
@@ -71,6 +74,7 @@ separator_is b zone e =
       ]
     ]
 
+-- the first of two places is the first one, if there is no second
 pub no_second : (p : Option ℕ) → option_or p None ≡ p
 no_second None = refl
 no_second (Some n) = refl
@@ -78,7 +82,7 @@ no_second (Some n) = refl
 abbrev IsPrinted : Bool → List ℕ → Printed → Type 0
 IsPrinted ends text p = Prints ends text p.items p.ends_line p.large
 
--- what follows an item, where others finds nothing else
+-- what follows an item is in the grammar, if the reader of the others finds nothing else
 others_is : (others : List ℕ → Option Printed) → ((text : List ℕ) (p : Printed) → others text ≡ Some p → IsPrinted false text p)
     → (ends : Bool) (text : List ℕ) (i : FoundItem) → ReadsItem text i.item i.large i.rest
     → (rest : List ℕ) → i.rest ≡ rest → (p : Printed) → others_by others rest ≡ Some p → IsPrinted ends text (with_items (i.item ∷ []) i.large p)
@@ -92,6 +96,7 @@ others_is others is ends text i r (b ∷ rest) h p e =
     subst (λ (p : Printed). IsPrinted ends text (with_items (i.item ∷ []) i.large p)) (some_is (with_items z.0 None o.0) p o.2)
     (next ends text i.item i.large b z.0 rest o.0.items o.0.ends_line o.0.large (subst (ReadsItem text i.item i.large) h r) (separator_is b z.0 z.1) (is rest o.0 o.1))
 
+-- items that are read are in the grammar
 pub items_is : (k : ℕ) (ends : Bool) (text : List ℕ) (p : Printed) → items_at k ends text ≡ Some p → IsPrinted ends text p
 items_is k ends [] p e =
     let made : Printed = record { items = []; ends_line = ends; large = None } in
@@ -109,6 +114,7 @@ unfolding item_at
 item_read (value text e large rest r) f = rw ((no_other r).0, front_read text e large rest r f) refl
 item_read (quotation bytes rest h) f = rw (quotation_read bytes rest h) refl
 
+-- a separator may follow an expression
 pub separator_follows : {sign : ℕ} {zone : List Item} → (rest : List ℕ) → Separates sign zone → Follows (sign ∷ rest)
 separator_follows rest comma = record { ends = record { no_digit = refl; no_random = refl }; no_term = refl; no_whole = refl }
 separator_follows rest semicolon = record { ends = record { no_digit = refl; no_random = refl }; no_term = refl; no_whole = refl }
@@ -117,11 +123,13 @@ separator_read : {sign : ℕ} {zone : List Item} → Separates sign zone → bet
 separator_read comma = refl
 separator_read semicolon = refl
 
+-- reading items is reading one and then what follows it
 pub items_step : (k : ℕ) (ends : Bool) (text : List ℕ) (i : FoundItem) → 0 < length text → item_at text ≡ Some i
     → items_at (suc k) ends text ≡ (others_by (items_at k false) i.rest >>= λ p. Some (with_items (i.item ∷ []) i.large p))
 items_step k ends [] i h e = absurd (omega arith)
 items_step k ends (b ∷ text) i h e = rw e refl
 
+-- items in the grammar are read at every bound from the text's length on
 pub items_read : {ends : Bool} {text : List ℕ} {items : List Item} {ends_line : Bool} {large : Option ℕ} → Prints ends text items ends_line large
     → (k : ℕ) → length text ≤ k → items_at k ends text ≡ Some (record { items = items; ends_line = ends_line; large = large })
 items_read (nothing ends) k le = refl
@@ -145,10 +153,11 @@ letters_after_is others is v h (b ∷ rest) letters e =
       | inl c ↦
           let a = bind_some (others rest) (λ letters. Some ((v - 65) ∷ letters)) letters c.1 in
           subst (λ (b : ℕ). Variables (v ∷ b ∷ rest) letters) (sym (eqb-true b 44 c.0))
-              (subst (Variables (v ∷ 44 ∷ rest)) (some_is ((v - 65) ∷ a.0) letters a.2) (more v rest a.0 h (is rest a.0 a.1)))
+          (subst (Variables (v ∷ 44 ∷ rest)) (some_is ((v - 65) ∷ a.0) letters a.2) (more v rest a.0 h (is rest a.0 a.1)))
       | inr c ↦ let e' = c.1 in absurd cc
     ]
 
+-- variables that are read are in the grammar
 pub letters_is : (k : ℕ) (text letters : List ℕ) → letters_at k text ≡ Some letters → Variables text letters
 letters_is zero text letters e = absurd cc
 letters_is (suc k) text letters e =
@@ -157,6 +166,7 @@ letters_is (suc k) text letters e =
     subst (λ (t : List ℕ). Variables t letters) (sym l.2)
     (letters_after_is (letters_at k) (letters_is k) l.0 l.1 a.0.1 letters (ap (λ (n : ℕ). letters_after (letters_at k) n a.0.1) (sym l.3) ∙ a.2))
 
+-- variables in the grammar are read at every bound from the text's length on
 pub letters_read : {text letters : List ℕ} → Variables text letters → (k : ℕ) → length text ≤ k → letters_at k text ≡ Some letters
 letters_read (one v h) zero le = absurd (omega arith)
 letters_read (one v h) (suc k) le = rw (is_letter_true v h) refl

@@ -1,4 +1,4 @@
--- PR is no front of PRINT: INT begins no list of items.
+-- PRINT is not read as PR: INT begins no list of items.
 use Rattle.std.proofs.Common.{inl, inr, Bool, ◌≡◌, ◌≢◌, ℕ, suc, ◌+◌, List, [], ◌∷◌, length, Option, Some, None, refl, sym, ap, ◌∙◌, arith}
 use Rattle.std.specs.Prelude.{codes}
 use Rattle.tb_syntax.specs.Source.{Expression, Item, Variable}
@@ -25,7 +25,7 @@ int_value : (text : List ℕ) (e : Expression) (large : Option ℕ) (rest t : Li
     ≡ Some (record { tree = e; large = large; rest = rest }) → text ≡ 73 ∷ 78 ∷ 84 ∷ t → rest ≡ 78 ∷ 84 ∷ t
 int_value text e large rest t r h = ap rest_in (sym r) ∙ ap (λ (x : List ℕ). rest_in (front_of x)) h ∙ ap rest_in (int_front t)
 
--- behind an item that begins with INT stands N
+-- an item that begins with INT is the variable I, with N after it
 int_item : {text : List ℕ} {item : Item} {large : Option ℕ} {rest : List ℕ} → ReadsItem text item large rest → Follows rest → (t : List ℕ)
     → text ≡ 73 ∷ 78 ∷ 84 ∷ t → rest ≡ 78 ∷ 84 ∷ t
 int_item (value text e large rest r) f t h = int_value text e large rest t (front_read text e large rest r f) h
@@ -40,6 +40,7 @@ no_int (nothing ends) t h = omega (arith, ap first_byte h)
 no_int (last ends text item large i) t h = omega (arith, ap first_byte (int_item i nothing_follows t h))
 no_int (next ends text item la sign zone rest items ends_line lb i s p) t h = sign_no_n s (ap first_byte (int_item i (separator_follows rest s) t h))
 
+-- no list of items begins with INT, so that PR and PRINT are told apart
 pub int_begins_no_items : {ends : Bool} {text : List ℕ} {items : List Item} {ends_line : Bool} {large : Option ℕ}
     → Prints ends text items ends_line large → behind_word (codes "INT") text ≡ None
 int_begins_no_items {text = text} p = elim (some_or_none (behind_word (codes "INT") text)) [

@@ -37,6 +37,7 @@ greater_is rest =
       ]
     ]
 
+-- a relation that is read is in the grammar
 pub relation_is : (text : List ℕ) (p : Rel × List ℕ) → relation_at text ≡ Some p → Relates text p.0 p.1
 unfolding relation_at
 relation_is text p e =
@@ -53,6 +54,7 @@ relation_is text p e =
       ]
     ]
 
+-- a relation may follow an expression
 pub relation_follows : {text : List ℕ} {rel : Rel} {rest : List ℕ} → Relates text rel rest → Follows text
 relation_follows (equal rest) = record { ends = record { no_digit = refl; no_random = refl }; no_term = refl; no_whole = refl }
 relation_follows (less rest) = record { ends = record { no_digit = refl; no_random = refl }; no_term = refl; no_whole = refl }
@@ -62,6 +64,7 @@ relation_follows (at_least rest) = record { ends = record { no_digit = refl; no_
 relation_follows (less_or_greater rest) = record { ends = record { no_digit = refl; no_random = refl }; no_term = refl; no_whole = refl }
 relation_follows (greater_or_less rest) = record { ends = record { no_digit = refl; no_random = refl }; no_term = refl; no_whole = refl }
 
+-- a relation takes at least one byte
 pub relation_shorter : {text : List ℕ} {rel : Rel} {rest : List ℕ} → Relates text rel rest → length rest < length text
 relation_shorter (equal rest) = omega arith
 relation_shorter (less rest) = omega arith
@@ -71,6 +74,7 @@ relation_shorter (at_least rest) = omega arith
 relation_shorter (less_or_greater rest) = omega arith
 relation_shorter (greater_or_less rest) = omega arith
 
+-- a relation in the grammar is read if no further relation follows
 pub relation_read : {text : List ℕ} {rel : Rel} {rest : List ℕ} → Relates text rel rest → NoOther rest → relation_at text ≡ Some (rel, rest)
 unfolding relation_at
 relation_read (equal rest) h = refl

@@ -14,7 +14,7 @@ use Rattle.tb_grammar.proofs.Steps.{some_is, bind_some, when_cases, chosen, behi
 abbrev pub Is : Part → List ℕ → Found → Type 0
 Is part text f = Reads part text f.tree f.large f.rest
 
--- a reader of a part finds nothing else
+-- a reader of a part finds nothing that is not in the grammar
 pub record Finds (part : Part) (reader : List ℕ → Option Found) : Type 0 where
   pub by : (text : List ℕ) (f : Found) → reader text ≡ Some f → Is part text f
 
@@ -25,6 +25,7 @@ closed_is f g e =
     let same : made ≡ g = some_is made g a.2 in
     (behind_is 41 f.rest a.0 a.1 ∙ ap (λ (h : Found). 41 ∷ h.rest) same, sym (ap (λ (h : Found). h.tree) same), sym (ap (λ (h : Found). h.large) same))
 
+-- a reading of equal values is the same reading
 pub moved : {part : Part} {text : List ℕ} (t t' : Expression) (l l' : Option ℕ) (r r' : List ℕ) → t' ≡ t → l' ≡ l → r ≡ r' → Reads part text t l r → Reads part text t' l' r'
 moved t t' l l' r r' et el er h = rw (et, el, ← er) h
 
@@ -87,9 +88,11 @@ factor_is whole finds text f e =
       ]
     ]
 
+-- the reader of factors is sound if that of expressions is
 pub factor_finds : (whole : List ℕ → Option Found) → Finds Whole whole → Finds Factor (factor_by whole)
 factor_finds whole finds = record { by = factor_is whole finds }
 
+-- an operator that is read is the byte at the front
 pub operator_is : (part : Part) (text : List ℕ) (p : Operator × List ℕ) → operator_at part text ≡ Some p → (sign : ℕ) × (text ≡ sign ∷ p.1) × (operator part sign ≡ Some p.0)
 operator_is part [] p e = absurd cc
 operator_is part (b ∷ text) p e =
@@ -97,7 +100,7 @@ operator_is part (b ∷ text) p e =
     let same : (a.0, text) ≡ p = some_is (a.0, text) p a.2 in
     (b, ap (λ (q : Operator × List ℕ). b ∷ q.1) same, a.1 ∙ ap (λ (q : Operator × List ℕ). Some q.0) same)
 
--- a part that goes on behind an operator
+-- a part that goes on after an operator
 abbrev Joins : Part → Part → Type 0
 Joins part lower = (text : List ℕ) (a b : Expression) (la lb : Option ℕ) (sign : ℕ) (op : Operator) (middle rest : List ℕ)
     → Reads part text a la (sign ∷ middle) → operator part sign ≡ Some op → Reads lower middle b lb rest → Reads part text (Binary op a b) (option_or la lb) rest
@@ -121,6 +124,7 @@ term_is operand finds text f e =
     let a = bind_some (operand text) (λ f. more Term operand (length f.rest) f) f e in
     more_is Term Factor product operand finds text (length a.0.rest) a.0 f (factor text a.0.tree a.0.large a.0.rest (finds.by text a.0 a.1)) a.2
 
+-- the reader of terms is sound if that of factors is
 pub term_finds : (operand : List ℕ → Option Found) → Finds Factor operand → Finds Term (term_by operand)
 term_finds operand finds = record { by = term_is operand finds }
 
@@ -148,9 +152,11 @@ unfolding whole_at
 whole_at_is zero text f e = absurd cc
 whole_at_is (suc n) text f e = whole_is (factor_by (whole_at n)) (factor_finds (whole_at n) (record { by = whole_at_is n })) text f e
 
+-- the reader of expressions at a depth finds only what is in the grammar
 pub whole_finds : (n : ℕ) → Finds Whole (whole_at n)
 whole_finds n = record { by = whole_at_is n }
 
+-- an expression that is read at the front is in the grammar
 pub front_is : (text : List ℕ) (f : Found) → front_of text ≡ Some f → Reads Whole text f.tree f.large f.rest
 unfolding front_of
 front_is text f e = (whole_finds (length text + 1)).by text f e

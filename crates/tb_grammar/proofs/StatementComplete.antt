@@ -16,7 +16,7 @@ use Rattle.tb_grammar.proofs.Relations.{relation_follows, relation_shorter, rela
 use Rattle.tb_grammar.proofs.Lists.{items_read, letters_read}
 use Rattle.tb_grammar.proofs.PrintWord.{int_begins_no_items}
 
--- a statement may follow an expression, and is no THEN
+-- what begins a statement may follow an expression, and is no THEN
 record Starts (text : List ℕ) : Type 0 where
   follows : Follows text
   no_then : behind_word (codes "THEN") text ≡ None
@@ -25,7 +25,7 @@ word_starts : {text : List ℕ} → starts_digit text ≡ false → behind_word 
     → operator_at Whole text ≡ None → behind_word (codes "THEN") text ≡ None → Starts text
 word_starts d r t w n = record { follows = record { ends = record { no_digit = d; no_random = r }; no_term = t; no_whole = w }; no_then = n }
 
--- no word goes on with an = behind a letter
+-- no word goes on with an = after a letter
 assign_no_random : (v : ℕ) (text : List ℕ) → behind_word (codes "ND") (v ∷ 61 ∷ text) ≡ None
 assign_no_random v text = elim (cases_Bool (v == 78)) [ inl h ↦ rw h refl | inr h ↦ rw h refl ]
 
@@ -35,7 +35,7 @@ assign_no_then v text = elim (cases_Bool (v == 84)) [ inl h ↦ rw h refl | inr 
 statement_starts : {text : List ℕ} {s : Statement} {large : Option ℕ} → States text s large → Starts text
 statement_starts (assign v text e large h r) =
     word_starts (letter_no_digit v h) (assign_no_random v text) (rw (ne_eqb v 42 (omega arith), ne_eqb v 47 (omega arith)) refl)
-        (rw (ne_eqb v 43 (omega arith), ne_eqb v 45 (omega arith)) refl) (assign_no_then v text)
+    (rw (ne_eqb v 43 (omega arith), ne_eqb v 45 (omega arith)) refl) (assign_no_then v text)
 statement_starts (let_assign v text e large h r) = word_starts refl refl refl refl refl
 statement_starts (print text items ends_line large p) = word_starts refl refl refl refl refl
 statement_starts (short_print text items ends_line large p) = word_starts refl refl refl refl refl
@@ -81,7 +81,7 @@ conditional_read : (reader : List ℕ → Option Told) (text : List ℕ) (a : Ex
 unfolding conditional_by
 conditional_read reader text a la rest rel middle b lb after body s ls ea er eb et es = rw (ea, er, eb, et, es) refl
 
--- behind a first word
+-- after a first word
 
 let_first : (n v : ℕ) (text : List ℕ) → IsLetter v → statement_at (suc n) (codes "LET" ++ v ∷ 61 ∷ text) ≡ made (Let (v - 65)) text
 unfolding statement_at keyword_at behind_keyword assigned_at target_at
@@ -153,5 +153,6 @@ complete_statement return n le = return_first n
 complete_statement end n le = end_first n
 complete_statement (remark any) n le = remark_first n any
 
+-- a statement in the grammar is read
 pub statement_read : (text : List ℕ) (s : Statement) (large : Option ℕ) → States text s large → statement_at (length text + 1) text ≡ Some (record { statement = s; large = large })
 statement_read text s large r = let n : length text + 1 ≡ suc (length text) = omega arith in rw n (complete_statement r (length text) (omega arith))

@@ -13,6 +13,7 @@ use Rattle.tb_grammar.proofs.Steps.{some_is}
 use Rattle.tb_grammar.proofs.StatementSound.{statement_is}
 use Rattle.tb_grammar.proofs.StatementComplete.{statement_read}
 
+-- the clause `found` of `read_statement`: what is read is in the grammar
 pub is_found : (text : List ℕ) (r : Result ReadStatement ReadError) → Gives told r (statement_in text) → IfOk r (λ r. States text (statement_of r.statement) r.large)
 unfolding statement_in
 is_found text (Err e) h = tt
@@ -21,6 +22,7 @@ is_found text (Ok r) h = statement_is (length text + 1) text (told r) h
 same_parts : (s t : Told) → Some s ≡ Some t → (s.statement ≡ t.statement) × (s.large ≡ t.large)
 same_parts s t e = let same = some_is s t e in (ap (λ (t : Told). t.statement) same, ap (λ (t : Told). t.large) same)
 
+-- the clause `only` of `read_statement`: what is in the grammar is answered
 pub is_only : (text : List ℕ) (r : Result ReadStatement ReadError) → Gives told r (statement_in text) → (s : Statement) (large : Option ℕ) → States text s large
     → Answers r (λ r. (statement_of r.statement ≡ s) × (r.large ≡ large))
 unfolding statement_in
@@ -30,5 +32,6 @@ is_only text (Err (stop.NoReading left)) h s large p =
     let same : None ≡ Some (let t : Told = record { statement = s; large = large } in t) = sym h ∙ statement_read text s large p in
     absurd cc
 
+-- `StatementsAreUnique` holds: the law that `statements_are_unique` hands on
 pub unique : StatementsAreUnique
 unique text s t ls lt p q = same_parts (record { statement = s; large = ls }) (record { statement = t; large = lt }) (sym (statement_read text s ls p) ∙ statement_read text t lt q)

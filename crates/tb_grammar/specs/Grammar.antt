@@ -13,12 +13,12 @@ IsDigit b = (48 ≤ b) × (b ≤ 57)
 abbrev pub IsLetter : ℕ → Type 0
 IsLetter b = (65 ≤ b) × (b ≤ 90)
 
--- what digits stand for, behind a number that stands before them
+-- the value of digits after a number that the digits before them spell
 abbrev pub value_after : ℕ → List ℕ → ℕ
 value_after n [] = n
 value_after n (d ∷ digits) = value_after (10 * n + (d - 48)) digits
 
--- the word of a literal of any size: the largest word where the literal is larger
+-- the word of a literal of any size: the largest word if the literal is larger
 abbrev pub word_of : ℕ → ℕ
 word_of n = if nat_le n 65535 then n else 65535
 
@@ -26,7 +26,7 @@ word_of n = if nat_le n 65535 then n else 65535
 abbrev pub large_at : ℕ → ℕ → Option ℕ
 large_at n left = if nat_le n 65535 then None else Some left
 
--- an expression, a term of it, a factor of a term
+-- the parts: an expression, a term of it, a factor of a term
 pub data Part : Type 0 where
   Whole : Part
   Term : Part
@@ -38,8 +38,8 @@ operator Whole b = if b == 43 then Some Add else if b == 45 then Some Subtract e
 operator Term b = if b == 42 then Some Multiply else if b == 47 then Some Divide else None
 operator Factor b = None
 
--- The text begins with a part that stands for an expression, and the rest is left behind it.
--- `large` is the place of the first literal above 65,535, if any: of two places the first.
+-- The text begins with a part that spells an expression, and the rest is left after it.
+-- `large` is the place of the first literal above 65,535, if any: the first of two places.
 pub data Reads : Part → List ℕ → Expression → Option ℕ → List ℕ → Type 0 where
   number : (text : List ℕ) (d : ℕ) (digits rest : List ℕ) → text ≡ d ∷ digits ++ rest → All IsDigit (d ∷ digits)
       → Reads Factor text (Number (word_of (value_after 0 (d ∷ digits)))) (large_at (value_after 0 (d ∷ digits)) (length text)) rest

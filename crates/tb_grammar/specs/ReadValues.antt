@@ -10,15 +10,15 @@ use Rattle.tb_grammar.specs.declared.read_error.ReadError.TheVariants as stop
 use Rattle.tb_grammar.specs.Reading.{Found}
 use Rattle.tb_grammar.specs.StatementReading.{FoundItem, Told}
 
--- an expression that was read at the front of a text, with what is left behind it
+-- an expression that was read at the front of a text, with what is left after it
 abbrev pub seen : Front → Found
 seen f = record { tree = expression_of f.expr; large = f.large; rest = f.rest.now }
 
--- an expression that is a whole text, with nothing left behind it
+-- an expression that is a whole text, with nothing left after it
 abbrev pub whole_seen : ReadExpression → Found
 whole_seen r = record { tree = expression_of r.expr; large = r.large; rest = [] }
 
--- an item of PRINT that was read at the front of a text, with what is left behind it
+-- an item of PRINT that was read at the front of a text, with what is left after it
 abbrev pub item_seen : FrontItem → FoundItem
 item_seen f = record { item = item_of f.item; large = f.large; rest = f.rest.now }
 

@@ -1,4 +1,4 @@
--- Reading statements from left to right, as functions of lists. The program does this; what a text means is said by Statements alone.
+-- Reading statements from left to right, as functions of lists. The program does this; Statements alone says what a text means.
 use Rattle.std.specs.Prelude.{ℕ, zero, suc, ◌+◌, List, [], ◌∷◌, ◌++◌, length, Bool, true, false, Option, Some, None, ◌==◌, if◌then◌else◌, codes}
 use Rattle.std.specs.Option.{option_or}
 use Rattle.tb_words.specs.declared.Rel.{Rel}
@@ -13,11 +13,11 @@ pub record Told : Type 0 where
   pub statement : Statement
   pub large : Option ℕ
 
--- a variable with the = behind it
+-- a variable with the = after it
 unfoldable pub target_at : List ℕ → Option (ℕ × List ℕ)
 target_at text = letter_at text >>= λ v. behind 61 v.1 >>= λ rest. Some (v.0, rest)
 
--- a relation at the front, the longest that stands there, and what is left behind it
+-- the longest relation at the front, and what is left after it
 unfoldable pub relation_at : List ℕ → Option (Rel × List ℕ)
 relation_at text =
     when (behind 61 text)
@@ -35,7 +35,7 @@ abbrev pub alone : Statement → List ℕ → Option Told
 alone statement [] = Some (record { statement = statement; large = None })
 alone statement (b ∷ text) = None
 
--- the bytes of a text up to its second quote, and what is left behind it
+-- the bytes of a text up to its second quote, and what is left after it
 abbrev pub quotation_at : List ℕ → Option (List ℕ × List ℕ)
 quotation_at [] = None
 quotation_at (b ∷ text) = if b == 34 then Some ([], text) else (quotation_at text >>= λ q. Some (b ∷ q.0, q.1))
@@ -46,7 +46,7 @@ pub record FoundItem : Type 0 where
   pub large : Option ℕ
   pub rest : List ℕ
 
--- the bytes of a text, taken as an item of PRINT, with what is left behind its second quote
+-- the bytes of a text, taken as an item of PRINT, with what is left after its second quote
 abbrev pub as_text : List ℕ × List ℕ → FoundItem
 as_text q = record { item = Text q.0; large = None; rest = q.1 }
 
@@ -54,7 +54,7 @@ as_text q = record { item = Text q.0; large = None; rest = q.1 }
 abbrev pub as_value : Found → FoundItem
 as_value f = record { item = Value f.tree; large = f.large; rest = f.rest }
 
--- a text of PRINT from behind its first quote on; None without a second one
+-- a text of PRINT from after its first quote on; None without a second one
 abbrev pub text_item_at : List ℕ → Option FoundItem
 text_item_at inside = quotation_at inside >>= λ q. Some (as_text q)
 
@@ -66,7 +66,7 @@ item_at text = when (behind 34 text) (front_of text >>= λ f. Some (as_value f))
 abbrev pub between : ℕ → Option (List Item)
 between b = if b == 44 then Some (Zone ∷ []) else if b == 59 then Some [] else None
 
--- items that were read, whether the line ends behind them, and the place of a large literal
+-- items that were read, whether the line ends after them, and the place of a large literal
 pub record Printed : Type 0 where
   pub items : List Item
   pub ends_line : Bool
@@ -76,40 +76,40 @@ pub record Printed : Type 0 where
 abbrev pub with_items : List Item → Option ℕ → Printed → Printed
 with_items items large p = record { items = items ++ p.items; ends_line = p.ends_line; large = option_or large p.large }
 
--- what follows an item: nothing, or a separator and the items that others reads
+-- what follows an item: nothing, or a separator and the items that `others` reads
 abbrev pub others_by : (List ℕ → Option Printed) → List ℕ → Option Printed
 others_by others [] = Some (record { items = []; ends_line = true; large = None })
 others_by others (b ∷ text) = between b >>= λ zone. others text >>= λ p. Some (with_items zone None p)
 
--- at most so many items; the answer where nothing is left says whether the line ends
+-- at most the given number of items; if nothing is left, the given truth value says whether the line ends
 abbrev pub items_at : ℕ → Bool → List ℕ → Option Printed
 items_at k ends [] = Some (record { items = []; ends_line = ends; large = None })
 items_at zero ends (b ∷ text) = None
 items_at (suc k) ends (b ∷ text) = item_at (b ∷ text) >>= λ i. others_by (items_at k false) i.rest >>= λ p. Some (with_items (i.item ∷ []) i.large p)
 
--- PRINT from behind its word on: items up to the end of the text
+-- PRINT from after its word on: items up to the end of the text
 unfoldable pub print_at : List ℕ → Option Told
 print_at text = items_at (length text) true text >>= λ p. Some (record { statement = Print p.items p.ends_line; large = p.large })
 
--- what follows a variable: nothing, or a comma and the variables that others reads
+-- what follows a variable: nothing, or a comma and the variables that `others` reads
 abbrev pub letters_after : (List ℕ → Option (List ℕ)) → ℕ → List ℕ → Option (List ℕ)
 letters_after others v [] = Some (v ∷ [])
 letters_after others v (b ∷ text) = if b == 44 then (others text >>= λ letters. Some (v ∷ letters)) else None
 
--- variables with commas between them, at most so many
+-- variables with commas between them, at most the given number
 abbrev pub letters_at : ℕ → List ℕ → Option (List ℕ)
 letters_at zero text = None
 letters_at (suc k) text = letter_at text >>= λ v. letters_after (letters_at k) v.0 v.1
 
--- INPUT from behind its word on: one or more variables up to the end of the text
+-- INPUT from after its word on: one or more variables up to the end of the text
 unfoldable pub input_at : List ℕ → Option Told
 input_at text = letters_at (length text) text >>= λ letters. Some (record { statement = Input letters; large = None })
 
--- what is left behind THEN, where it stands there
+-- what is left after THEN, if it is at the front
 abbrev pub behind_then : List ℕ → List ℕ
 behind_then text = when (behind_word (codes "THEN") text) text (λ rest. rest)
 
--- IF from behind its word on; statement reads the statement that it guards
+-- IF from after its word on; `statement` reads the statement that it guards
 unfoldable pub conditional_by : (List ℕ → Option Told) → List ℕ → Option Told
 conditional_by statement text = do
   a ← front_of text
@@ -131,16 +131,16 @@ spelled keyword.Return = codes "RETURN"
 spelled keyword.End = codes "END"
 spelled keyword.Rem = codes "REM"
 
--- the first of these words that stands at the front, and what is left behind it
+-- the first of these words that is at the front, and what is left after it
 abbrev pub first_word : List Keyword → List ℕ → Option (Keyword × List ℕ)
 first_word [] text = None
 first_word (k ∷ others) text = when (behind_word (spelled k) text) (first_word others text) (λ rest. Some (k, rest))
 
--- PRINT stands before PR, which begins it
+-- the first words; PRINT comes before PR, its prefix
 abbrev pub keywords : List Keyword
 keywords = keyword.Let ∷ keyword.Print ∷ keyword.Pr ∷ keyword.Input ∷ keyword.If ∷ keyword.Goto ∷ keyword.Gosub ∷ keyword.Return ∷ keyword.End ∷ keyword.Rem ∷ []
 
--- the first word of a statement, and what is left behind it
+-- the first word of a statement, and what is left after it
 unfoldable pub keyword_at : List ℕ → Option (Keyword × List ℕ)
 keyword_at text = first_word keywords text
 
@@ -148,7 +148,7 @@ keyword_at text = first_word keywords text
 unfoldable pub assigned_at : List ℕ → Option Told
 assigned_at text = target_at text >>= λ t. made (Let t.0) t.1
 
--- a statement behind its first word
+-- a statement after its first word
 unfoldable pub behind_keyword : (List ℕ → Option Told) → Keyword → List ℕ → Option Told
 behind_keyword statement keyword.Let text = assigned_at text
 behind_keyword statement keyword.Print text = print_at text

@@ -6,7 +6,7 @@ use Rattle.tb_words.specs.declared.Rel.TheVariants.{Eq, Lt, Gt, Le, Ge, Ne}
 use Rattle.tb_syntax.specs.Source.{Expression, Item, Text, Value, Zone, Statement, Let, Print, Input, If, Goto, Gosub, Return, End, Remark}
 use Rattle.tb_grammar.specs.Grammar.{IsLetter, Whole, Reads}
 
--- a relation at the front of a text, and what is left behind it
+-- a relation at the front of a text, and what is left after it
 pub data Relates : List ℕ → Rel → List ℕ → Type 0 where
   equal : (rest : List ℕ) → Relates (codes "=" ++ rest) Eq rest
   less : (rest : List ℕ) → Relates (codes "<" ++ rest) Lt rest
@@ -16,7 +16,7 @@ pub data Relates : List ℕ → Rel → List ℕ → Type 0 where
   less_or_greater : (rest : List ℕ) → Relates (codes "<>" ++ rest) Ne rest
   greater_or_less : (rest : List ℕ) → Relates (codes "><" ++ rest) Ne rest
 
--- THEN may be left out
+-- a text with or without THEN at its front, and what is left after it
 pub data MayThen : List ℕ → List ℕ → Type 0 where
   bare : (text : List ℕ) → MayThen text text
   then : (text : List ℕ) → MayThen (codes "THEN" ++ text) text
@@ -31,8 +31,8 @@ pub data Separates : ℕ → List Item → Type 0 where
   comma : Separates 44 (Zone ∷ [])
   semicolon : Separates 59 []
 
--- The text is the items of PRINT from here on, and says whether the line ends behind them.
--- The first argument is that answer where nothing is left: true where PRINT is bare, false behind a separator.
+-- The text is the items of PRINT from here on, and says whether the line ends after them.
+-- The first argument is that answer for an empty text: true for a bare PRINT, false after a separator.
 pub data Prints : Bool → List ℕ → List Item → Bool → Option ℕ → Type 0 where
   nothing : (ends : Bool) → Prints ends [] [] ends None
   last : (ends : Bool) (text : List ℕ) (item : Item) (large : Option ℕ) → ReadsItem text item large [] → Prints ends text (item ∷ []) true large

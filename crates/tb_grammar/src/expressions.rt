@@ -13,11 +13,11 @@ use std::boxed::Box;
 use tb_syntax::{Expr, Operator};
 use tb_words::Letter;
 
-/// An expression at the front of a text, and what is left behind it.
+/// An expression at the front of a text, and what is left after it.
 #[derive(Drop)]
 pub(crate) struct Front<'a> {
     pub(crate) expr: Expr,
-    /// How much of the text is left where the first literal above 65,535 begins.
+    /// The number of bytes left where the first literal above 65,535 begins; `None` if there is none.
     pub(crate) large: Option<usize>,
     pub(crate) rest: &'a [u8],
 }
@@ -52,7 +52,7 @@ fn starts_with_digit(text: &[u8]) -> bool
     matches!(text, [b'0'..=b'9', ..])
 }
 
-// A larger literal counts as 65,536.
+// The literal at the front; a larger one counts as 65,536.
 fn literal(text: &[u8]) -> Front<'_>
     ensures { seen result ≡ literal_at text.now }
 {
@@ -240,9 +240,9 @@ pub(crate) fn leading(alloc: Global, text: &[u8]) -> Result<Front<'_>, ReadError
 /// An expression that was read.
 #[derive(Debug, Drop)]
 pub struct ReadExpression {
-    /// A literal above 65,535 stands in it as 65,535.
+    /// The expression, with 65,535 for each literal above it.
     pub expr: Expr,
-    /// The bytes left where the first literal above 65,535 begins.
+    /// The number of bytes left where the first literal above 65,535 begins; `None` if there is none.
     pub large: Option<usize>,
 }
 

@@ -9,7 +9,7 @@ use crate::statements::ReadStatement;
 use std::alloc::Global;
 use tb_syntax::{PrintItem, Statement};
 
-/// An item of PRINT at the front of a text, and what is left behind it.
+/// An item of PRINT at the front of a text, and what is left after it.
 #[derive(Drop)]
 pub(crate) struct FrontItem<'a> {
     pub(crate) item: PrintItem,
@@ -17,7 +17,7 @@ pub(crate) struct FrontItem<'a> {
     pub(crate) rest: &'a [u8],
 }
 
-// A text behind its first quote.
+// A text after its first quote.
 fn quotation(alloc: Global, inside: &[u8]) -> Result<FrontItem<'_>, ReadError>
     ensures { Gives item_seen result (text_item_at inside.now) }
 {
@@ -54,7 +54,7 @@ fn item(alloc: Global, text: &[u8]) -> Result<FrontItem<'_>, ReadError>
     }
 }
 
-/// PRINT behind its word.
+/// PRINT after its word.
 #[tactic(auto, unfolding(crate::specs::StatementReading::print_at))]
 pub(crate) fn print(alloc: Global, text: &[u8]) -> Result<ReadStatement, ReadError>
     ensures { Gives told result (print_at text.now) }
@@ -85,7 +85,7 @@ pub(crate) fn print(alloc: Global, text: &[u8]) -> Result<ReadStatement, ReadErr
     })
 }
 
-// Behind a variable, where one is wanted and stands; RND is one word there.
+// What is left after the variable at the front, or the whole text if there is none; RND is one word here.
 pub(crate) fn behind_variable(text: &[u8]) -> &[u8] {
     match text {
         [b'R', b'N', b'D', ..] => text,
@@ -94,7 +94,7 @@ pub(crate) fn behind_variable(text: &[u8]) -> &[u8] {
     }
 }
 
-/// INPUT behind its word.
+/// INPUT after its word.
 #[tactic(auto, unfolding(crate::specs::StatementReading::input_at))]
 pub(crate) fn input(alloc: Global, text: &[u8]) -> Result<ReadStatement, ReadError>
     ensures { Gives told result (input_at text.now) }

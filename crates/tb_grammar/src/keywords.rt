@@ -1,4 +1,4 @@
-//! The words of the language, but RND.
+//! The words of the language, except RND.
 ghost use Rattle.std.specs.Prelude.{◌≡◌, ◌<◌, length};
 ghost use Rattle.tb_grammar.specs.StatementReading.{spelled};
 
@@ -7,7 +7,7 @@ ghost use Rattle.tb_grammar.specs.StatementReading.{spelled};
 pub enum Keyword {
     Let,
     Print,
-    /// PRINT in short.
+    /// PR, short for PRINT.
     Pr,
     Input,
     If,
@@ -18,7 +18,7 @@ pub enum Keyword {
     Rem,
 }
 
-/// The first words, each before those that are its beginnings: PRINT stands before PR.
+/// The first words, each before those that are its prefixes: PRINT comes before PR.
 pub const KEYWORDS: [Keyword; 10] = [
     Keyword::Let,
     Keyword::Print,
@@ -32,11 +32,11 @@ pub const KEYWORDS: [Keyword; 10] = [
     Keyword::Rem,
 ];
 
-/// What may stand between the relation of an IF and its statement.
+/// The word that may come between the condition of an IF and its statement.
 pub const THEN: &str = "THEN";
 
 impl Keyword {
-    /// How it is spelled, in capital letters.
+    /// The spelling of the word, in capital letters.
     pub fn spelling(self) -> &'static str
         ensures spells { result.now ≡ spelled self }
         ensures some { 0 < length result.now }

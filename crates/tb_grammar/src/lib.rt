@@ -2,7 +2,7 @@
 //!
 //! A text is squeezed: it has no spaces outside texts and remarks, and its letters are in upper case.
 //! What it means is a relation by cases, in `specs/Grammar.antt` and `specs/Statements.antt`. Each call
-//! answers a reading of the text, the only one, and says that there is none only where there is none.
+//! answers the only reading of the text, or that there is none.
 #![tactic(auto)]
 
 mod expressions;

@@ -7,12 +7,12 @@ use std::alloc::{AllocError, AllocFailed};
 /// Why nothing was read.
 #[derive(Debug, Drop)]
 pub enum ReadError {
-    /// A growth was refused.
+    /// Memory ran out.
     NoMemory,
     /// The text has no reading. The number counts the bytes from the first token such that the
     /// tokens up to and including it begin no statement (or no expression) to the end of the text:
-    /// 0 where every token could still begin one, and where that token is a text without its
-    /// second quote. No clause says it.
+    /// 0 if every token could still begin one, or if that token is a text without its
+    /// second quote. No clause states this number.
     NoReading(usize),
 }
 
@@ -32,7 +32,7 @@ impl<T: Drop> From<AllocFailed<T>> for ReadError {
     }
 }
 
-// How much is left where a token doesn't fit: nothing behind a quote that isn't closed.
+// The length of the rest at a token that does not fit; 0 after a quote that is never closed.
 pub(crate) fn left_at(rest: &[u8]) -> usize
     ensures { result ≤ length rest.now }
 {

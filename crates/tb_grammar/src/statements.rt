@@ -19,9 +19,9 @@ use tb_words::{Letter, Rel};
 /// A statement that was read.
 #[derive(Debug, Drop)]
 pub struct ReadStatement {
-    /// A literal above 65,535 stands in it as 65,535.
+    /// The statement, with 65,535 for each literal above it.
     pub statement: Statement,
-    /// The bytes left where the first literal above 65,535 begins.
+    /// The number of bytes left where the first literal above 65,535 begins; `None` if there is none.
     pub large: Option<usize>,
 }
 

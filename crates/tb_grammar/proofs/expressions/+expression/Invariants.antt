@@ -1,4 +1,4 @@
--- What decreases where `expression` and others in src/expressions.rt call one another, and what holds in their loops.
+-- What decreases when `expression` and others in src/expressions.rt call one another, and what holds in their loops.
 use Rattle.std.proofs.Common.{◌≡◌, ℕ, ◌+◌, ◌*◌, ◌≤◌, length}
 use Rattle.tb_grammar.specs.Grammar.{Whole, Term}
 use Rattle.tb_grammar.specs.Reading.{more, factor_at, term_at, whole_by}

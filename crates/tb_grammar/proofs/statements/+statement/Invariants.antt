@@ -1,4 +1,4 @@
--- What decreases where `statement`, `behind_keyword` and `conditional` in src/statements.rt call one another.
+-- What decreases when `statement`, `behind_keyword` and `conditional` in src/statements.rt call one another.
 use Rattle.std.proofs.Common.{◌+◌, ◌*◌}
 use Rattle.tb_grammar.proofs.statements.+statement.Given as goal
 
