@@ -7,7 +7,7 @@ use Rattle.tb_parser.specs.Lines.{lines_from}
 abbrev pub IsInside : List ℕ → ℕ → Type 0
 IsInside text k = (get_or text k 0 ≢ 10) × (get_or text k 0 ≢ 13)
 
--- the first line ends where the text behind it begins with a line's end
+-- the first line ends where the text after it begins with a line's end
 pub first_line : (text : List ℕ) (i : ℕ) (more : List (List ℕ)) → i < length text → ((k : ℕ) → k < i → IsInside text k)
     → lines_from false (drop i text) ≡ [] ∷ more → lines_from false text ≡ take i text ∷ more
 unfolding lines_from
@@ -18,6 +18,7 @@ first_line (b ∷ text) (suc i) more lt inside e =
     let rest = first_line text i more (omega arith) (λ k below. inside (suc k) (omega arith)) e in
     rw (ne_eqb b 10 h.0, ne_eqb b 13 h.1, rest) refl
 
+-- a text without a line's end is one line
 pub last_line : (text : List ℕ) → text ≢ [] → ((k : ℕ) → k < length text → IsInside text k) → lines_from false text ≡ text ∷ []
 unfolding lines_from
 last_line [] ne inside = absurd (ne refl)
@@ -27,6 +28,7 @@ last_line (b ∷ c ∷ text) ne inside =
     let rest = last_line (c ∷ text) (λ e. cc) (λ k below. inside (suc k) (omega arith)) in
     rw (ne_eqb b 10 h.0, ne_eqb b 13 h.1, rest) refl
 
+-- a text that the loop has walked through to its end is one line
 pub only_line : (text : List ℕ) (i : ℕ) → (length text == 0) ≡ false → length text ≤ i → ((k : ℕ) → k < i → IsInside text k)
     → (lines_from false text ≡ text ∷ lines_from false []) × (0 < length text)
 unfolding lines_from

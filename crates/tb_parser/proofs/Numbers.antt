@@ -17,6 +17,7 @@ grows n (p ∷ placed) = go (grows (10 * n + (p.byte - 48)) placed) (is_digit p.
     go h true = omega (arith, h)
     go h false = omega arith
 
+-- a number ends before what is no digit
 pub number_ends : (n : ℕ) (placed : List Placed) → starts_with_digit placed ≡ false → number_at n placed ≡ record { value = n; rest = placed }
 unfolding number_at
 number_ends n [] e = refl
@@ -30,7 +31,7 @@ number_has_digit placed h = go (starts_with_digit placed) refl
     go true e = e
     go false e = absurd (omega (arith, h, ap (λ (r : Counted). r.value) (number_ends 0 placed e)))
 
--- of a blank line nothing is left
+-- nothing is left of a blank line
 pub blank_squeezed : (column : ℕ) (line : List ℕ) → first_written column line ≡ None → squeezed_from Code column line ≡ []
 unfolding first_written squeezed_from
 blank_squeezed column [] e = refl

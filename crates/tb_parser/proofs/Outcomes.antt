@@ -1,4 +1,4 @@
--- What an answer says, from what the definitions allow.
+-- What an answer says, from the outcomes that the definitions allow.
 use Rattle.std.proofs.Common.{◌≡◌, ℕ, Option, Some, None, Result, Ok, Err, IfSome}
 use Rattle.tb_parser.specs.declared.errors.SourceError.{SourceError}
 use Rattle.tb_parser.specs.declared.errors.SourceErrorKind.{SourceErrorKind}
@@ -9,6 +9,7 @@ use Rattle.tb_parser.specs.Readings.{Refusal}
 use Rattle.tb_parser.specs.Refusals.{error_at}
 
 module _ {X A : Type 0} (view : X → A) (Is : Result A FileRefusal → Type 0) where
+  -- the error at a place tells the refusal at that place, if it is not for want of memory
   pub answers_at : (kind : SourceErrorKind) (column line : ℕ) → IfSome (refusal_of kind column) (λ r. Is (Err (refused_at line r))) → Answers view (Err (error_at kind line column)) Is
   answers_at LineTooLong column line h = h
   answers_at BadByte column line h = h
@@ -20,7 +21,7 @@ module _ {X A : Type 0} (view : X → A) (Is : Result A FileRefusal → Type 0) 
   answers_at Empty column line h = h
   answers_at NoMemory column line h = tt
 
-  -- what is said is the one thing that may be
+  -- an answer that holds of one outcome is that outcome
   pub only_one : (result : Result X SourceError) → ((a b : Result A FileRefusal) → Is a → Is b → a ≡ b) → Answers view result Is
       → (outcome : Result A FileRefusal) → Is outcome → Answers view result (λ said. said ≡ outcome)
   only_one (Ok x) unique said outcome is = unique (Ok (view x)) outcome said is

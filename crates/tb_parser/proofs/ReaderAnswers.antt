@@ -1,4 +1,4 @@
--- What the readers tell.
+-- What the readers' answers say of a text.
 use Rattle.std.proofs.Common.{◌≡◌, ℕ, List, Option, Some, None, Result, Ok, Err, refl, MatchOption, IfSome}
 use Rattle.tb_parser.specs.declared.errors.LineFault.{LineFault}
 use Rattle.tb_parser.specs.declared.errors.SourceErrorKind.TheVariants.{NotCompiled, NumberTooLarge, Syntax}
@@ -28,7 +28,7 @@ says_unread {X} {A} view grammar text fault no_reading h = go (left_out_word tex
     go None e is_syntax = rw is_syntax (syntax no_reading e)
     go (Some column) e is_word = rw is_word (not_compiled column no_reading e)
 
--- a refusal, if there is one, for another reason
+-- what holds of a refusal, if there is one, follows from what holds of another
 pub passes : (o : Option Refusal) (P Q : Refusal → Type 0) → ((r : Refusal) → P r → Q r) → IfSome o P → IfSome o Q
 passes None P Q more h = tt
 passes (Some r) P Q more h = more r h

@@ -60,6 +60,7 @@ end_rises : (p : Program) → RisesFrom 0 (numbers p) → Rises (at_end p)
 end_rises [] h = tt
 end_rises (line ∷ lines) h = h
 
+-- the lines of a file make a program whose numbers rise
 pub lines_rise : (n : ℕ) (p : Program) (lines : List (List ℕ)) (outcome : Outcome) → RisesFrom 0 (numbers p) → LinesAre n p lines outcome → Rises outcome
 unfolding KeepsRising
 lines_rise n p _ _ h (end _ _) = end_rises p h

@@ -17,7 +17,7 @@ module _ (n : ℕ) (p : Program) (text : List ℕ) (Total : Outcome → Type 0) 
   abbrev pub Decides : Type 0
   Decides = (outcome : Outcome) → LinesAre n p (lines_of_file text) outcome → Total outcome
 
-  -- a bad line ends it
+  -- a bad line is the answer for the file
   pub bad_line : (line behind : List ℕ) (fault : LineFault) (error : SourceError) → lines_of_file text ≡ line ∷ lines_of_file behind
       → Says edit_of (Err fault) (LineIs line) → error ≡ at_line n fault → Decides → Answers lines_of (Err error) Total
   bad_line line behind fault error first said is decides =
@@ -31,10 +31,12 @@ module _ (n : ℕ) (p : Program) (text : List ℕ) (Total : Outcome → Type 0) 
       → (outcome : Outcome) → LinesAre (n + 1) (edited edit p) (lines_of_file behind) outcome → Total outcome
   good_line line behind edit first is decides outcome rest = decides outcome (rw first (good n p line (lines_of_file behind) edit outcome is rest))
 
+  -- at the end of the file the program is the answer
   pub no_line : text ≡ [] → Decides → Total (at_end p)
   unfolding lines_from
   no_line none decides = decides (at_end p) (rw none (end n p))
 
+-- a program with a line is accepted at the end of the file
 pub ended : (es : List (ℕ × Statement)) → (es ≡ [] → false ≡ true) → at_end (lines_of es) ≡ Ok (lines_of es)
 ended [] some = let no_match : false ≡ true = some refl in absurd cc
 ended (e ∷ es) some = refl

@@ -1,4 +1,4 @@
--- Each statement of a file's program stands in a text that is no longer than a line.
+-- Each statement of a file's program is spelled by a text that is no longer than a line.
 use Rattle.std.proofs.Common.{◌≡◌, ℕ, ◌+◌, ◌-◌, ◌*◌, ◌≤◌, Bool, true, false, List, [], ◌∷◌, length, ap, arith, Result, Ok, Err, ◌==◌, if◌then◌else◌}
 use Rattle.std.specs.Prelude.{nat_lt}
 use Rattle.tb_syntax.specs.Source.{Statement, Program}
@@ -19,7 +19,7 @@ squeezed_length m column (b ∷ line) = by (is_dropped m b) (squeezed_length (af
   where
     by : (t : Bool) → length (squeezed_from (after m b) (column + 1) line) ≤ length line
         → length (if t then squeezed_from (after m b) (column + 1) line else record { byte = shown m b; column = column; in_code = is_in_code m }
-            ∷ squeezed_from (after m b) (column + 1) line) ≤ length (b ∷ line)
+        ∷ squeezed_from (after m b) (column + 1) line) ≤ length (b ∷ line)
     by true h = omega (arith, h)
     by false h = omega (arith, h)
 
@@ -95,6 +95,7 @@ end_stated : (p : Program) → AreStated p → Stated (at_end p)
 end_stated [] h = tt
 end_stated (line ∷ lines) h = h
 
+-- the lines of a file make a program whose statements are spelled by texts of at most 255 bytes
 pub lines_stated : (n : ℕ) (p : Program) (lines : List (List ℕ)) (outcome : Outcome) → AreStated p → LinesAre n p lines outcome → Stated outcome
 unfolding KeepsStated
 lines_stated n p _ _ h (end _ _) = end_stated p h

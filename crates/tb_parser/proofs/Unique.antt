@@ -28,6 +28,7 @@ some_same : (m n : ℕ) (o : Option ℕ) → o ≡ Some m → o ≡ Some n → m
 some_same m n o e f = let both : Some m ≡ Some n = sym e ∙ f in cc
 
 module _ {A : Type 0} (grammar : Grammar A) (unique : IsUnique grammar) (text : List Placed) where
+  -- a text has one outcome
   pub text_one : {x y : Result A Refusal} → TextIs A grammar text x → TextIs A grammar text y → x ≡ y
   text_one (reads a h) (reads b k) = ap (λ (v : A). Ok v) (unique (bytes text) a b None None h k).0
   text_one (reads a h) (not_compiled c n e) = absurd (n a None h)
@@ -47,23 +48,26 @@ module _ {A : Type 0} (grammar : Grammar A) (unique : IsUnique grammar) (text : 
   text_one (number_too_large a l h) (number_too_large b k g) =
       ap (λ (v : ℕ). Err (at_column NumberTooLarge (column_left v text))) (some_same l k (Some l) refl (unique (bytes text) a b (Some l) (Some k) h g).1)
 
+-- a line is unfit for one reason
 pub unfit_one : {line : List ℕ} {r s : Refusal} → IsUnfit line r → IsUnfit line s → r ≡ s
 unfit_one (line_too_long h) (line_too_long k) = refl
 unfit_one (line_too_long h) (bad_byte d short f) = absurd (omega arith)
 unfit_one (bad_byte c short e) (line_too_long k) = absurd (omega arith)
 unfit_one {line} (bad_byte c short e) (bad_byte d again f) = ap (λ (v : ℕ). at_column BadByte v) (some_same c d (first_bad Code 1 line) e f)
 
+-- a fit line is not unfit
 pub fit_unfit : {line : List ℕ} {r : Refusal} → IsFit line → IsUnfit line r → ⊥
 fit_unfit fit (line_too_long h) = omega (arith, fit.short)
 fit_unfit {line} fit (bad_byte c short e) = none_some c (first_bad Code 1 line) fit.clean e
 
+-- a line has one outcome as an expression
 pub expression_one : (line : List ℕ) (x y : Result Expression Refusal) → ExpressionIs line x → ExpressionIs line y → x ≡ y
 expression_one line _ _ (unfit_text r h) (unfit_text s k) = ap (λ (v : Refusal). Err v) (unfit_one h k)
 expression_one line _ _ (unfit_text r h) (fit_text y fit k) = absurd (fit_unfit fit h)
 expression_one line _ _ (fit_text x fit h) (unfit_text s k) = absurd (fit_unfit fit k)
 expression_one line _ _ (fit_text x fit h) (fit_text y again k) = text_one Expresses expression_laws.unique (squeezed line) h k
 
--- how far a line is judged before the statement behind its number is read
+-- how far a line is judged before the statement after its number is read
 data Judged : Type 0 where
   Decided : Result Edit Refusal → Judged
   Statement : (number : ℕ) (text : List Placed) → Judged
@@ -125,8 +129,16 @@ unfolding judged numbered_line
 judged_number line number text n =
     let low : 1 ≤ (number_at 0 (squeezed line)).value = rw (n.value) n.in_range.0 in
     let written = number_written line low in
-    rw (written.1, low_enough (length line) 255 n.fit.short, n.fit.clean, number_has_digit (squeezed line) low, n.value, n.rest,
-        low_enough 1 number n.in_range.0, low_enough number 32767 n.in_range.1) refl
+    rw (
+      written.1,
+      low_enough (length line) 255 n.fit.short,
+      n.fit.clean,
+      number_has_digit (squeezed line) low,
+      n.value,
+      n.rest,
+      low_enough 1 number n.in_range.0,
+      low_enough number 32767 n.in_range.1,
+    ) refl
 
 statement_behind : (number : ℕ) (text : List Placed) → text ≢ [] → behind_number number text ≡ Statement number text
 unfolding behind_number
@@ -141,10 +153,24 @@ judged_as line _ (unfit first _ e (bad_byte column short f)) = inl (rw (e, low_e
 judged_as line _ (unnumbered first e fit d) = inl (rw (e, low_enough (length line) 255 fit.short, fit.clean, d) refl)
 judged_as line _ (bad_line_number first e fit d n) = inl (rw (e, low_enough (length line) 255 fit.short, fit.clean, d, no_number (number_at 0 (squeezed line)).value n) refl)
 judged_as line _ (deletes number n) = inl (judged_number line number [] n)
-judged_as line _ (sets number text c n some t) = inr (record { number = number; text = text; is_judged = judged_number line number text n
-    ∙ statement_behind number text some; said = Ok c; reading = t; meaning = refl })
-judged_as line _ (unread number text r n some t) = inr (record { number = number; text = text; is_judged = judged_number line number text n
-    ∙ statement_behind number text some; said = Err r; reading = t; meaning = refl })
+judged_as line _ (sets number text c n some t) = inr (record {
+  number = number;
+  text = text;
+  is_judged = judged_number line number text n
+      ∙ statement_behind number text some;
+  said = Ok c;
+  reading = t;
+  meaning = refl;
+})
+judged_as line _ (unread number text r n some t) = inr (record {
+  number = number;
+  text = text;
+  is_judged = judged_number line number text n
+      ∙ statement_behind number text some;
+  said = Err r;
+  reading = t;
+  meaning = refl;
+})
 
 decided_in : Result Edit Refusal → Judged → Result Edit Refusal
 decided_in m (Decided d) = d
@@ -170,6 +196,7 @@ read_one a b =
     let said : a.said ≡ b.said = text_one States statement_laws.unique b.text (rw text at a.reading) b.reading in
     a.meaning ∙ rw (number, said) refl ∙ sym b.meaning
 
+-- a line has one outcome
 pub line_one : (line : List ℕ) (m k : Result Edit Refusal) → LineIs line m → LineIs line k → m ≡ k
 unfolding decided_in
 line_one line m k h g = go (judged_as line m h) (judged_as line k g)
@@ -180,15 +207,19 @@ line_one line m k h g = go (judged_as line m h) (judged_as line k g)
     go (inr a) (inl f) = absurd (apart (judged line) k a.number a.text f a.is_judged)
     go (inr a) (inr b) = read_one a b
 
+-- `Ok` is no `Err`
 pub ok_err : {A B : Type 0} (a : A) (b : B) → Ok a ≡ Err b → ⊥
 ok_err a b e = cc
 
+-- `Ok` has one value
 pub ok_same : {A B : Type 0} (a b : A) → ◌≡◌ {A = Result A B} (Ok a) (Ok b) → a ≡ b
 ok_same a b e = cc
 
+-- `Err` has one value
 pub err_same : {A B : Type 0} (a b : B) → ◌≡◌ {A = Result A B} (Err a) (Err b) → a ≡ b
 err_same a b e = cc
 
+-- lines have one outcome
 pub lines_one : (n : ℕ) (p : Program) (lines : List (List ℕ)) (x y : Outcome) → LinesAre n p lines x → LinesAre n p lines y → x ≡ y
 lines_one n p _ _ _ (end _ _) (end _ _) = refl
 lines_one n p _ _ _ (bad _ _ line lines r h) (bad _ _ _ _ s k) = ap (λ (v : Refusal). Err (refused_at n v)) (err_same r s (line_one line (Err r) (Err s) h k))

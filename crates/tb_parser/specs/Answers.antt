@@ -10,7 +10,7 @@ use Rattle.tb_parser.specs.declared.errors.SourceErrorKind.TheVariants.{Syntax, 
 use Rattle.tb_parser.specs.Readings.{Refusal, at_column, Edit, Nothing, Sets, Deletes}
 use Rattle.tb_parser.specs.Files.{FileRefusal, refused_at}
 
--- the refusal that an error tells: None where memory ran out, and for Syntax without its column
+-- the refusal that an error tells: None if memory ran out, and for Syntax without its column
 abbrev pub refusal_of : SourceErrorKind → ℕ → Option Refusal
 refusal_of NoMemory column = None
 refusal_of Syntax column = Some (record { kind = Syntax; column = None })

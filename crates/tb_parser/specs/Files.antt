@@ -22,13 +22,13 @@ abbrev pub without_line : ℕ → Program → Program
 without_line number [] = []
 without_line number (line ∷ lines) = if number == line.number then lines else line ∷ without_line number lines
 
--- a program behind a line of its file
+-- a program after a line of its file
 abbrev pub edited : Edit → Program → Program
 edited Nothing p = p
 edited (Sets number c) p = with_line number c p
 edited (Deletes number) p = without_line number p
 
--- why a file is refused: its first bad line, from 1, or line 0 where it has no lines, and the refusal
+-- why a file is refused: its first bad line, from 1, or line 0 if it has no lines, and the refusal
 pub record FileRefusal : Type 0 where
   pub line : ℕ
   pub refusal : Refusal
@@ -58,13 +58,13 @@ abbrev pub RisesFrom : ℕ → List ℕ → Type 0
 RisesFrom low [] = Unit {0}
 RisesFrom low (n ∷ ns) = (low < n) × (n ≤ 32767) × RisesFrom n ns
 
--- a statement that stands in a text of at most 255 bytes
+-- a statement that is spelled by a text of at most 255 bytes
 pub record IsStated (c : Statement) : Type 0 where
   pub text : List ℕ
   pub short : length text ≤ 255
   pub states : States text c None
 
--- each statement of a program stands in a text of at most 255 bytes
+-- each statement of a program is spelled by a text of at most 255 bytes
 abbrev pub AreStated : Program → Type 0
 AreStated [] = Unit {0}
 AreStated (line ∷ lines) = IsStated line.content × AreStated lines

@@ -1,12 +1,12 @@
 -- The lines of a file. A line ends at a byte 10, at a byte 13, at 13 and 10 together, or at the end of the file.
 use Rattle.std.specs.Prelude.{ℕ, List, [], ◌∷◌, Bool, true, false, ◌==◌, ◌||◌, if◌then◌else◌}
 
--- a byte more at the front of the first line
+-- one more byte at the front of the first line
 abbrev pub longer : ℕ → List (List ℕ) → List (List ℕ)
 longer b [] = (b ∷ []) ∷ []
 longer b (line ∷ lines) = (b ∷ line) ∷ lines
 
--- The lines of what stands behind a byte 13, or behind another byte or none: behind a 13 a byte 10 belongs to the
+-- The lines of what follows a byte 13, or another byte or none: after a 13 a byte 10 belongs to the
 -- end of the line before.
 unfoldable pub lines_from : (behind_13 : Bool) → List ℕ → List (List ℕ)
 lines_from behind_13 [] = []
@@ -19,7 +19,7 @@ lines_from behind_13 (b ∷ bytes) =
 abbrev pub lines_of_file : List ℕ → List (List ℕ)
 lines_of_file bytes = lines_from false bytes
 
--- at the front a line ends
+-- whether the text begins with a line's end
 abbrev pub starts_with_end : List ℕ → Bool
 starts_with_end [] = false
 starts_with_end (b ∷ bytes) = (b == 10) || (b == 13)

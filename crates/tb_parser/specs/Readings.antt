@@ -10,25 +10,25 @@ use Rattle.tb_parser.specs.declared.squeeze.Placed.{Placed}
 use Rattle.tb_parser.specs.Squeezed.{squeezed, bytes}
 use Rattle.tb_parser.specs.Scans.{first_written, first_bad, starts_with_digit, number_at, left_out_word, column_left}
 
--- Why a line is refused. The column is None where no definition says it, which is for Syntax.
+-- Why a line is refused. The column is None for Syntax, whose column no definition states.
 pub record Refusal : Type 0 where
   pub kind : SourceErrorKind
   pub column : Option ℕ
 
--- a fault whose column is said
+-- a fault with its column
 abbrev pub at_column : SourceErrorKind → ℕ → Refusal
 at_column kind column = record { kind = kind; column = Some column }
 
--- A grammar: a text stands for a value. The place is that of the first literal above 65,535, as the bytes left there.
+-- A grammar: a text spells a value. The place is that of the first literal above 65,535, as the number of bytes left there.
 abbrev pub Grammar : Type 0 → Type 1
 Grammar A = List ℕ → A → Option ℕ → Type 0
 
--- the text stands for nothing
+-- the text spells nothing
 abbrev pub HasNoReading : {A : Type 0} → Grammar A → List ℕ → Type 0
 HasNoReading {A} grammar text = (a : A) (large : Option ℕ) → grammar text a large → ⊥
 
--- What a squeezed text is in a grammar: its value where it has a reading without a large literal, else one of three
--- faults. What has no reading is not compiled where a left-out word stands in it, and else bad in its syntax.
+-- What a squeezed text is in a grammar: its value if it has a reading without a large literal, else one of three
+-- faults. A text without a reading is not compiled if it contains a left-out word, else it is bad in its syntax.
 pub data TextIs (A : Type 0) (grammar : Grammar A) (text : List Placed) : Result A Refusal → Type 0 where
   reads : (a : A) → grammar (bytes text) a None → TextIs A grammar text (Ok a)
   not_compiled : (column : ℕ) → HasNoReading grammar (bytes text) → left_out_word text ≡ Some column → TextIs A grammar text (Err (at_column NotCompiled column))
@@ -49,7 +49,7 @@ pub record IsFit (line : List ℕ) : Type 0 where
 abbrev pub IsLineNumber : ℕ → Type 0
 IsLineNumber n = (1 ≤ n) × (n ≤ 32767)
 
--- a line with a line number, and the text behind it
+-- a line with a line number, and the text after it
 pub record IsNumbered (line : List ℕ) (number : ℕ) (text : List Placed) : Type 0 where
   pub fit : IsFit line
   pub value : (number_at 0 (squeezed line)).value ≡ number

@@ -12,8 +12,8 @@ upper b = if nat_le 97 b && nat_le b 122 then b - 32 else b
 abbrev pub after_code : Mode → ℕ → Mode → Mode
 after_code m b otherwise = if b == 32 then m else if b == 34 then Text else otherwise
 
--- The mode behind a byte. The first R, E and M, 82, 69 and 77, that follow each other in code begin the remark, which
--- goes on to the line's end, as a text without its second quote does.
+-- The mode after a byte. The first R, E and M, 82, 69 and 77, that follow each other in code begin the remark, which
+-- continues to the line's end, as does a text without its second quote.
 abbrev pub after : Mode → ℕ → Mode
 after Code b = after_code Code b (if upper b == 82 then CodeR else Code)
 after CodeR b = after_code CodeR b (if upper b == 69 then CodeRe else if upper b == 82 then CodeR else Code)
@@ -33,7 +33,7 @@ is_in_code Remark = false
 abbrev pub is_dropped : Mode → ℕ → Bool
 is_dropped m b = (b == 32) && is_in_code m
 
--- a byte as it is left: in upper case, but as it stands in a remark
+-- a byte as it is kept: in upper case, but unchanged in a remark
 abbrev pub shown : Mode → ℕ → ℕ
 shown Code b = upper b
 shown CodeR b = upper b
@@ -41,7 +41,7 @@ shown CodeRe b = upper b
 shown Text b = upper b
 shown Remark b = b
 
--- the bytes that are left, each with its column in the line and whether it stands in code
+-- the bytes that are left, each with its column in the line and whether it is in code
 unfoldable pub squeezed_from : Mode → ℕ → List ℕ → List Placed
 squeezed_from m column [] = []
 squeezed_from m column (b ∷ line) =

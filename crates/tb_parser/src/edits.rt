@@ -13,13 +13,13 @@ use tb_syntax::{Program, Statement};
 pub enum LineEdit {
     /// A blank line.
     Nothing,
-    /// A line with a statement: its number's entry is this one from here on.
+    /// A line with a statement, which becomes the entry of its number.
     Set(u16, Statement),
-    /// A bare number: it has no entry from here on.
+    /// A bare number, which loses its entry.
     Delete(u16),
 }
 
-/// Does it.
+/// Applies the edit to the program. Fails only if memory runs out.
 #[tactic(auto, using(crate::proofs::Maps::lines_of_insert, crate::proofs::Maps::lines_of_remove))]
 pub fn apply(program: &mut Program, edit: LineEdit) -> Result<(), SourceError>
     ensures ok { OnOk result (lines_of program.new ≡ edited (edit_of edit) (lines_of program.old)) }

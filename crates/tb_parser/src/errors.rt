@@ -9,19 +9,19 @@ use std::alloc::{AllocError, AllocFailed};
 pub enum SourceErrorKind {
     /// More than 255 bytes. The column is 256.
     LineTooLong,
-    /// Before the remark, a byte that is none of 32 to 90 and no lower-case letter. The column is that byte's.
+    /// Before the remark, a byte that is neither from 32 to 90 nor a lower-case letter. The column is that byte's.
     BadByte,
     /// The first byte that is no space is no digit. The column is that byte's.
     Unnumbered,
     /// The line number is 0 or above 32,767. The column is that of its first digit.
     BadLineNumber,
-    /// There is no reading, and USR, RUN, LIST or CLEAR stands outside texts and remarks, with or without spaces
+    /// There is no reading, and USR, RUN, LIST or CLEAR occurs outside texts and remarks, with or without spaces
     /// inside. The column is that of the first letter of the first one.
     NotCompiled,
     /// There is no reading. The column is that of the first token that no line of the language can have there, or one
-    /// behind the line's end.
+    /// after the line's end.
     Syntax,
-    /// There is a reading, but for a literal above 65,535. The column is that of the first one's first digit.
+    /// There is a reading, but with a literal above 65,535. The column is that of the first one's first digit.
     NumberTooLarge,
     /// No line is left at the end. Line and column are 0.
     Empty,
@@ -61,14 +61,14 @@ pub struct LineFault {
     pub column: usize,
 }
 
-/// Want of memory.
+/// Memory ran out.
 pub(crate) const OUT_OF_MEMORY: LineFault = LineFault {
     kind: SourceErrorKind::NoMemory,
     column: 0,
 };
 
 impl LineFault {
-    /// The same with the line's number in its file.
+    /// The error of this fault at a line of its file, from 1.
     pub fn at_line(self, line: usize) -> SourceError
         ensures { result ≡ at_line line self }
     {

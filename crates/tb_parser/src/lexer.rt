@@ -32,7 +32,7 @@ pub enum TokenKind {
     Semicolon,
     /// A text with its two quotes.
     Text,
-    /// What stands behind REM.
+    /// What follows REM.
     Remark,
     /// A byte that begins nothing, or a text without its second quote, which goes on to the line's end.
     Stray,
@@ -43,7 +43,7 @@ pub enum TokenKind {
 pub struct Token<'a> {
     /// What it is.
     pub kind: TokenKind,
-    /// Its bytes as they stand in the line, with spaces between the letters or digits.
+    /// Its bytes as they are in the line, with any spaces between the letters or digits.
     pub text: &'a [u8],
     /// Where it begins in the line, from 1.
     pub column: usize,
@@ -54,14 +54,14 @@ pub struct Token<'a> {
 enum Awaits {
     /// RND, else a variable.
     Operand,
-    /// A variable where `=` follows, else the longest keyword.
+    /// A variable if `=` follows, else the longest keyword.
     Word,
     /// What follows REM.
     Remark,
 }
 
 impl TokenKind {
-    /// What a letter behind this token begins.
+    /// What a letter after this token begins.
     fn awaits(self) -> Awaits {
         match self {
             TokenKind::Operator
@@ -86,7 +86,7 @@ impl TokenKind {
 }
 
 impl Token<'_> {
-    /// The place in the line behind the token, from 0.
+    /// The place in the line after the token, from 0.
     fn end(&self) -> usize
         requires { (1 ≤ self.now.column) × (self.now.column + length self.now.text.now < 2 ^ 64) }
         ensures { result ≡ end_of self.now }
@@ -108,7 +108,7 @@ fn skip_spaces(line: &[u8], at: usize) -> usize
     place
 }
 
-// The place behind a word's letters, where they stand from `at` on with at most spaces between.
+// The place after a word's letters, if the line has them from `at` on with at most spaces between.
 fn word_end(line: &[u8], at: usize, word: &[u8]) -> Option<usize>
     requires { at ≤ length line.now }
     ensures { IfSome result (λ end. (at ≤ end) × (end ≤ length line.now) × (0 < length word.now → at < end)) }
@@ -124,7 +124,7 @@ fn word_end(line: &[u8], at: usize, word: &[u8]) -> Option<usize>
     Some(end)
 }
 
-/// The next token from the place `at` on, where there is one.
+/// The next token from the place `at` on, if there is one.
 fn next_token(line: &[u8], at: usize, awaits: Awaits) -> Option<Token<'_>>
     requires { at ≤ length line.now }
     ensures { MatchOption result (AreSpaces line.now at (length line.now)) (λ t. IsNext line.now at t) }
@@ -147,7 +147,7 @@ fn next_token(line: &[u8], at: usize, awaits: Awaits) -> Option<Token<'_>>
     })
 }
 
-// The token that begins here, with the place behind it.
+// The token that begins here, with the place after it.
 fn token_at(line: &[u8], start: usize, awaits: Awaits) -> (TokenKind, usize)
     requires { start < length line.now }
     ensures { (start < result.1) × (result.1 ≤ length line.now) }
@@ -161,7 +161,7 @@ fn token_at(line: &[u8], start: usize, awaits: Awaits) -> (TokenKind, usize)
     }
 }
 
-// What a byte is that is a token alone.
+// The kind of a byte that is a token alone.
 fn mark_kind(byte: u8) -> TokenKind {
     match byte {
         b'+' | b'-' | b'*' | b'/' => TokenKind::Operator,
@@ -174,7 +174,7 @@ fn mark_kind(byte: u8) -> TokenKind {
     }
 }
 
-// The place behind a number that begins here.
+// The place after a number that begins here.
 fn digits_end(line: &[u8], start: usize) -> usize
     requires { start < length line.now }
     ensures { (start < result) × (result ≤ length line.now) }
@@ -188,7 +188,7 @@ fn digits_end(line: &[u8], start: usize) -> usize
     end
 }
 
-// The place behind a relation that begins here: two bytes where they make one relation, else one.
+// The place after a relation that begins here: two bytes if they make one relation, else one.
 fn relation_end(line: &[u8], start: usize) -> usize
     requires { start < length line.now }
     ensures { (start < result) × (result ≤ length line.now) }
@@ -206,7 +206,7 @@ fn relation_end(line: &[u8], start: usize) -> usize
     }
 }
 
-// The text whose first quote stands here.
+// The text whose first quote is here.
 fn text_token(line: &[u8], start: usize) -> (TokenKind, usize)
     requires { start < length line.now }
     ensures { (start < result.1) × (result.1 ≤ length line.now) }
@@ -238,7 +238,7 @@ fn letter_token(line: &[u8], start: usize, awaits: Awaits) -> (TokenKind, usize)
     word_token(line, start).unwrap_or((TokenKind::Stray, one))
 }
 
-// THEN, or the longest first word of a statement that stands here, with the place behind it.
+// THEN, or the longest first word of a statement that begins here, with the place after it.
 fn word_token(line: &[u8], start: usize) -> Option<(TokenKind, usize)>
     requires { start < length line.now }
     ensures { IfSome result (λ p. (start < p.1) × (p.1 ≤ length line.now)) }
@@ -257,8 +257,8 @@ fn word_token(line: &[u8], start: usize) -> Option<(TokenKind, usize)>
 /// The tokens of a line, in order: slices of it, with only spaces between and round them.
 ///
 /// What a letter begins depends on the token before it. After an operator, a relation, `(`, `,`, `;`, LET, PRINT, PR,
-/// INPUT, IF, GOTO or GOSUB it is RND where those letters stand there, else a variable. Everywhere else it is a
-/// variable where `=` follows, else the longest keyword that stands there, else a stray byte. What stands behind REM is
+/// INPUT, IF, GOTO or GOSUB it is RND if those letters are there, else a variable. Everywhere else it is a
+/// variable if `=` follows, else the longest keyword there, else a stray byte. What follows REM is
 /// one token, with its spaces, if it isn't empty.
 pub fn tokens(alloc: Global, line: &[u8]) -> Result<Vec<Token<'_>>, AllocError>
     ensures { IfOk result (λ v. AreTokens line.now 0 v.items) }

@@ -26,17 +26,17 @@ pub(crate) const LONGEST_LINE: usize = 255;
 /// The program that a file's lines make, or the first bad line.
 ///
 /// A line ends at a byte 10, at a byte 13, at both, 13 first, or at the end of the file. A line of spaces alone is
-/// counted and otherwise nothing, at any length. In their order, a line with a statement sets its number's entry in
-/// place of the one before, and a bare number deletes the entry, if there is one. A line that is replaced later is
-/// looked at too.
+/// counted and otherwise ignored, at any length. In their order, a line with a statement sets its number's entry in
+/// place of any earlier one, and a bare number deletes the entry, if there is one. A line that is replaced later is
+/// checked too.
 pub fn parse(alloc: Global, source: &[u8]) -> Result<Program, SourceError>
     // What is answered is what the file's lines make, from line 1 on.
     ensures found { Answers lines_of result (LinesAre 1 [] (lines_of_file source.now)) }
     // The numbers rise, from 1 to 32,767 at most.
     ensures rising { IfOk result (λ p. RisesFrom 0 (numbers (lines_of p))) }
-    // Each statement stands in a text that fits a line.
+    // Each statement is spelled by a text that fits a line.
     ensures stated { IfOk result (λ p. AreStated (lines_of p)) }
-    // And what they make is answered.
+    // What the lines make is answered, unless memory runs out.
     ensures only { (outcome : Outcome) → LinesAre 1 [] (lines_of_file source.now) outcome → Answers lines_of result (λ said. said ≡ outcome) }
     ensures memory { IfErr result (λ e. e.kind ≡ NoMemory → e ≡ out_of_memory) }
 {
@@ -73,7 +73,7 @@ pub fn parse_expr(alloc: Global, text: &[u8]) -> Result<Expr, SourceError>
     }
 }
 
-/// What a line of a file does, or its first fault. Want of memory is a fault too, of column 0.
+/// What a line of a file does, or its first fault. Running out of memory is a fault too, with column 0.
 pub fn read_line(alloc: Global, line: &[u8]) -> Result<LineEdit, LineFault>
     ensures { Says edit_of result (LineIs line.now) }
 {
@@ -120,7 +120,7 @@ fn check_bytes(line: &[u8]) -> Result<(), LineFault>
     }
 }
 
-// The statement behind a line's number.
+// The statement after a line's number.
 fn read_line_statement(alloc: Global, line: &[u8], text: &[Placed]) -> Result<Statement, LineFault>
     ensures { Says statement_of result (TextIs SourceStatement States text.now) }
 {
@@ -153,7 +153,7 @@ fn read_value(alloc: Global, line: &[u8], text: &[Placed]) -> Result<Expr, LineF
     }
 }
 
-// What was read, unless a literal is too large; `large` is how many bytes are left from the first such literal on.
+// What was read, unless a literal is too large; `large` is the number of bytes left from the first such literal on.
 fn in_range<T: Drop>(tree: T, large: Option<usize>, text: &[Placed]) -> Result<T, LineFault>
     ensures { MatchOption large (result ≡ Ok tree) (λ left. result ≡ Err (record { kind = NumberTooLarge; column = column_left left text.now })) }
 {
@@ -166,7 +166,7 @@ fn in_range<T: Drop>(tree: T, large: Option<usize>, text: &[Placed]) -> Result<T
     }
 }
 
-// Why a text of a line has no reading; `left` is how many bytes are left from the first token on that cannot stand there.
+// Why a text of a line has no reading; `left` is the number of bytes left from the first token that does not fit.
 fn unread(line: &[u8], text: &[Placed], left: usize) -> LineFault
     ensures { MatchOption (left_out_word text.now) (result.kind ≡ Syntax) (λ column. result ≡ record { kind = NotCompiled; column = column }) }
 {

@@ -9,7 +9,7 @@ use crate::squeeze::{Mode, Placed};
 /// The highest line number.
 pub(crate) const HIGHEST_LINE: u32 = 32_767;
 
-/// The column of the first byte that is no space.
+/// The column, from 1, of the first byte that is no space; `None` for a blank line.
 pub(crate) fn written(line: &[u8]) -> Option<usize>
     ensures { result ≡ first_written 1 line.now }
 {
@@ -30,7 +30,7 @@ fn is_bad_byte(mode: Mode, byte: u8) -> bool
     }
 }
 
-/// The column of the first byte that may not stand where it does.
+/// The column, from 1, of the first byte that is not allowed in its place; `None` if there is none.
 pub(crate) fn bad_byte(line: &[u8]) -> Option<usize>
     ensures { result ≡ first_bad Code 1 line.now }
 {
@@ -51,7 +51,7 @@ pub(crate) fn is_numbered(placed: &[Placed]) -> bool
     split_digit(placed).is_some()
 }
 
-// The digit at the front, and what is left behind it.
+// The digit at the front, and what is left after it.
 #[tactic(auto, unfolding(crate::specs::Scans::number_at))]
 fn split_digit(placed: &[Placed]) -> Option<(u8, &[Placed])>
     ensures { MatchOption result (starts_with_digit placed.now ≡ false) (λ p. (p.0 < 10) × (starts_with_digit placed.now ≡ true) × (length p.1.now < length placed.now) × ((n : ℕ) → number_at n placed.now ≡ number_at (10 * n + p.0) p.1.now)) }
@@ -62,7 +62,7 @@ fn split_digit(placed: &[Placed]) -> Option<(u8, &[Placed])>
     }
 }
 
-/// The line number, where it is one, and what is left behind it.
+/// The line number, `None` unless it is from 1 to 32,767, and what is left after it.
 pub(crate) fn line_number(placed: &[Placed]) -> Option<(u16, &[Placed])>
     ensures { MatchOption result (IsLineNumber (number_at 0 placed.now).value → ⊥) (λ p. IsLineNumber p.0 × ((number_at 0 placed.now).value ≡ p.0) × ((number_at 0 placed.now).rest ≡ p.1.now)) }
 {
@@ -102,7 +102,7 @@ fn begins_left_out(placed: &[Placed]) -> bool
         || begins_with(placed, b"CLEAR")
 }
 
-/// The column of the first USR, RUN, LIST or CLEAR outside texts and remarks.
+/// The column, from 1, of the first USR, RUN, LIST or CLEAR outside texts and remarks; `None` if there is none.
 pub(crate) fn left_out(placed: &[Placed]) -> Option<usize>
     ensures { result ≡ left_out_word placed.now }
 {

@@ -5,21 +5,21 @@ ghost use Rattle.tb_parser.specs.declared.squeeze.Mode.TheVariants.{Code};
 
 use std::alloc::{AllocError, Global};
 
-/// Where in a line the next byte stands, by the bytes before it.
+/// What part of a line the next byte is in, by the bytes before it.
 #[derive(Clone, Copy)]
 pub(crate) enum Mode {
     Code,
-    /// In code behind an R, with at most spaces between.
+    /// In code after an R, with at most spaces between.
     CodeR,
-    /// In code behind an R and an E, with at most spaces between.
+    /// In code after an R and an E, with at most spaces between.
     CodeRe,
-    /// In a text: behind its first quote.
+    /// In a text: after its first quote.
     Text,
     Remark,
 }
 
 impl Mode {
-    /// The mode behind a byte.
+    /// The mode after a byte.
     pub fn after(self, byte: u8) -> Mode
         ensures { result ≡ after self byte }
     {
@@ -36,7 +36,7 @@ impl Mode {
         }
     }
 
-    // Whether a byte here stands outside texts and remarks.
+    // Whether a byte here is outside texts and remarks.
     fn is_in_code(self) -> bool
         ensures { result ≡ is_in_code self }
     {
@@ -48,9 +48,9 @@ impl Mode {
 #[derive(Clone, Copy)]
 pub(crate) struct Placed {
     pub byte: u8,
-    /// Where it stands in the line, from 1.
+    /// Its column in the line, from 1.
     pub column: usize,
-    /// Whether it stands outside texts and remarks. The quote that opens a text does.
+    /// Whether it is outside texts and remarks. The quote that opens a text is.
     pub in_code: bool,
 }
 
@@ -69,7 +69,7 @@ fn show(mode: Mode, byte: u8) -> u8
     }
 }
 
-/// The line without spaces and in upper case, outside texts and remarks; a text keeps its spaces, a remark all.
+/// The line without spaces and in upper case outside texts and remarks. A text keeps its spaces, a remark is unchanged.
 pub(crate) fn squeeze(alloc: Global, line: &[u8]) -> Result<Vec<Placed>, AllocError>
     ensures { IfOk result (λ s. s.items ≡ squeezed_from Code 1 line.now) }
 {

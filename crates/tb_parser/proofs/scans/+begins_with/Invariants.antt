@@ -1,4 +1,4 @@
--- What decreases where `begins_with` in src/scans.rt calls itself.
+-- What decreases when `begins_with` in src/scans.rt calls itself.
 use Rattle.std.proofs.Common.{length}
 use Rattle.tb_parser.proofs.scans.+begins_with.Given as goal
 
