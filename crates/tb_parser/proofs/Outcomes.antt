@@ -21,7 +21,7 @@ module _ {X A : Type 0} (view : X → A) (Is : Result A FileRefusal → Type 0) 
   answers_at Empty column line h = h
   answers_at NoMemory column line h = tt
 
-  -- an answer that holds of one outcome is that outcome
+  -- if only one outcome is possible, the answer is that outcome
   pub only_one : (result : Result X SourceError) → ((a b : Result A FileRefusal) → Is a → Is b → a ≡ b) → Answers view result Is
       → (outcome : Result A FileRefusal) → Is outcome → Answers view result (λ said. said ≡ outcome)
   only_one (Ok x) unique said outcome is = unique (Ok (view x)) outcome said is

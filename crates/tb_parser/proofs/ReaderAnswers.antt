@@ -28,7 +28,7 @@ says_unread {X} {A} view grammar text fault no_reading h = go (left_out_word tex
     go None e is_syntax = rw is_syntax (syntax no_reading e)
     go (Some column) e is_word = rw is_word (not_compiled column no_reading e)
 
--- what holds of a refusal, if there is one, follows from what holds of another
+-- what holds of a refusal, if there is one, carries over to what follows from it
 pub passes : (o : Option Refusal) (P Q : Refusal → Type 0) → ((r : Refusal) → P r → Q r) → IfSome o P → IfSome o Q
 passes None P Q more h = tt
 passes (Some r) P Q more h = more r h
