@@ -7,7 +7,7 @@ use Rattle.tb_syntax.specs.declared.expressions.Operator.TheVariants.{Add, Subtr
 use Rattle.tb_syntax.specs.Source.{Expression, Number, Variable, Negate, Binary, Random}
 use Rattle.tb_meaning.specs.Values.{Gives, valued_then, apply, given, value, both, known_value, constant}
 
--- and the value of the expression over any variables that have the known ones' values; it leaves the seed
+-- variables that have the values of the known ones
 abbrev Extends : List ℕ → List ℕ → Type 0
 Extends known vars = (x v : ℕ) → slice_get known x ≡ Some v → slice_index vars x ≡ v
 
@@ -47,6 +47,7 @@ sure (Random e) known vars seed h = tt
 nothing_extends : (vars : List ℕ) → Extends [] vars
 nothing_extends vars x v h = absurd cc
 
+-- a constant expression has its constant's value with every seed, and keeps the seed
 pub constant_value : (e : Expression) (v : ℕ) (vars : List ℕ) (seed : ℕ) → constant e ≡ Some v → value e vars seed ≡ Gives v seed
 constant_value e v vars seed h = subst (IsSure vars seed e) h (sure e [] vars seed (nothing_extends vars))
 
@@ -85,8 +86,10 @@ small (Negate e) = negated_small (constant e)
 small (Binary op l r) = both_small op (constant l) (constant r)
 small (Random e) = tt
 
+-- the value of a constant expression is below 65,536
 pub constant_small : (e : Expression) (v : ℕ) → constant e ≡ Some v → v < 65536
 constant_small e v h = subst IsSmall h (small e)
 
+-- so it is its own word
 pub constant_word : (e : Expression) (v : ℕ) → constant e ≡ Some v → word v ≡ v
 constant_word e v h = let small : v < 65536 = constant_small e v h in omega arith

@@ -32,6 +32,7 @@ or_right false b h = h
 variable_answer : (vars : List ℕ) (x seed : ℕ) → x < length vars → Gives (slice_index vars x) seed ≡ given (slice_get vars x) seed
 variable_answer vars x seed lt = sym (ap (λ y. given y seed) (slice_get-get_or vars x 0 lt))
 
+-- the value of an expression without RND, with every seed, is `known_value` or fault 2
 pub answers : (vars : List ℕ) → 26 ≤ length vars → (e : Expression) → IsFalse (has_random e) → IsLettered e → (seed : ℕ) → value e vars seed ≡ given (known_value e vars) seed
 answers vars len (Number n) h l seed = refl
 answers vars len (Variable x) h l seed = variable_answer vars x seed (omega arith)
@@ -51,6 +52,7 @@ answers vars len (Binary op x y) h l seed =
     then_same None right = refl
 answers vars len (Random e) h l seed = absurd cc
 
+-- an answer whose word is the known value keeps the promise of `eval`
 pub evaluated : (e : Expression) (vars : List ℕ) → 26 ≤ length vars → IsFalse (has_random e) → IsLettered e → (x : Option ℤ) → option_map word_of x
     ≡ known_value e vars → IsEvaluation e vars (ok_or x DivideByZero)
 evaluated e vars len h l (Some v) same = (h, λ seed. answers vars len e h l seed ∙ ap (λ x. given x seed) (sym same))

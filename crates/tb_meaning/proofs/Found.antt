@@ -18,6 +18,7 @@ turned a b false e = grind (arith, nat_tests)
 other : (a b : ℕ) → nat_lt a b ≡ true → nat_eq b a ≡ false
 other a b e = grind (arith, nat_tests)
 
+-- a look-up in the map finds a line exactly if the program has it
 pub found_line : (es : List (ℕ × Statement)) (n : ℕ) → is_some (lookup (is_at (nat_cmp n)) es) ≡ has_line (numbers (lines_of es)) n
 found_line [] n = refl
 found_line (e ∷ es) n = go (found_line es n) (nat_lt n e.0) (n == e.0) refl refl

@@ -40,6 +40,7 @@ DoesLettered _ = Unit {0}
 letter : (x : Letter) → letter_index x < 26
 letter x = x.in_alphabet
 
+-- the variables of a tree's expression are letters
 pub expression_letters : (e : Expr) → IsLettered (expression_of e)
 expression_letters (expr.Number n) = tt
 expression_letters (expr.Variable x) = letter x
@@ -57,6 +58,7 @@ letters : (xs : List Letter) → AreLetters (letters_of xs)
 letters [] = tt
 letters (x ∷ xs) = (letter x, letters xs)
 
+-- the variables of a tree's statement are letters
 pub statement_letters : (s : RustStatement) → DoesLettered (statement_of s)
 statement_letters (statement.Let x e) = (letter x, expression_letters e)
 statement_letters (statement.Print items ends) = items_letters items.items

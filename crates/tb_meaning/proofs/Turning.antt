@@ -9,11 +9,12 @@ use Rattle.tb_meaning.specs.declared.turns.Reading.TheVariants as reading
 use Rattle.tb_meaning.specs.Turns.{reading_of, IsReading}
 use Rattle.tb_meaning.specs.Input.{Reading, Nothing, Sign, Digits, Got, with_digit, number_end, turn}
 
--- of the digits only the word counts
+-- only the word of the digits matters at the end of a number
 same_end : (negative : Bool) (m n : ℕ) (stays : Bool) (rest : List ℕ) → word m ≡ word n → number_end (Digits negative m) stays rest ≡ number_end (Digits negative n) stays rest
 same_end true m n stays rest h = ap (λ w. Got (negated w) stays rest) h
 same_end false m n stays rest h = ap (λ w. Got w stays rest) h
 
+-- only the word of the digits matters for the rest of a turn
 pub same_turn : (negative : Bool) (m n : ℕ) (text : List ℕ) → word m ≡ word n → turn (Digits negative m) text ≡ turn (Digits negative n) text
 same_turn negative m n [] h = refl
 same_turn negative m n (b ∷ text) h =
@@ -24,16 +25,19 @@ same_turn negative m n (b ∷ text) h =
     let closed_end = same_end negative m n false text h in
     cc
 
+-- a turn from what the interpreter has read is the meaning's turn
 pub read_turn : (r : Reading) (r' : rust_reading.Reading) (text : List ℕ) → IsReading r r' → turn r text ≡ turn (reading_of r') text
 read_turn r reading.Nothing text h = ap (λ x. turn x text) h
 read_turn r (reading.Sign negative) text h = ap (λ x. turn x text) h
 read_turn r (reading.Digits negative n) text h =
     ap (λ x. turn x text) h.1 ∙ same_turn negative h.0 n text h.2
 
+-- a plus or a minus at the start is read as a sign
 pub sign_turn : (b : ℕ) (text : List ℕ) → (b ≡ 43) ⊎ (b ≡ 45) → turn Nothing (b ∷ text) ≡ turn (Sign (nat_eq b 45)) text
 sign_turn b text (inl e) = rw e refl
 sign_turn b text (inr e) = rw e refl
 
+-- a digit is read as one more digit
 pub digit_turn : (r : Reading) (b : ℕ) (text : List ℕ) → 48 ≤ b → b ≤ 57 → turn r (b ∷ text) ≡ turn (with_digit r (b - 48)) text
 digit_turn r b text low high =
     let space : nat_eq b 32 ≡ false = grind (arith, nat_tests) in
@@ -41,7 +45,7 @@ digit_turn r b text low high =
     let below : nat_le b 57 ≡ true = grind (arith, nat_tests) in
     rw (space, above, below) refl
 
--- one byte more of a text
+-- one more byte of a text
 pub keeps : (r r' : Reading) (text : List ℕ) (i b : ℕ) → i < length text → get_or text i 0 ≡ b → turn r (b ∷ drop (i + 1) text)
     ≡ turn r' (drop (i + 1) text) → turn r (drop i text) ≡ turn Nothing text → turn r' (drop (i + 1) text) ≡ turn Nothing text
 keeps r r' text i b lt at next before =

@@ -4,7 +4,7 @@ use Rattle.tb_syntax.specs.Source.{Numbered}
 use Rattle.tb_words.specs.Words.{digits_of}
 use Rattle.tb_meaning.specs.Steps.{Faulted, Step, Goes, Stops}
 
--- where a run stands: at a line, or past the last one
+-- where a run is: at a line, or past the last one
 pub data Place : Type 0 where
   At : (n : ℕ) → Place
   Past : Place
@@ -67,7 +67,7 @@ abbrev pub column_after : ℕ → List ℕ → ℕ
 column_after c [] = c
 column_after c (b ∷ bs) = column_after (if nat_eq b 13 then 0 else c + 1) bs
 
--- bytes sent, and the column behind them
+-- bytes sent, and the column after them
 abbrev pub send : List ℕ → State → Step State
 send t s = Goes (record s { column = column_after s.column t }) t
 
@@ -75,7 +75,7 @@ send t s = Goes (record s { column = column_after s.column t }) t
 abbrev pub zone : ℕ → List ℕ
 zone column = replicate (8 - column % 8) 32
 
--- on to the next line
+-- the run goes on to the next line
 abbrev pub fall : List ℕ → ℕ → State → Step State
 fall ns n s = Goes (record s { place = next_after ns n }) []
 
@@ -92,7 +92,7 @@ go_sub ns n target s =
     else fault 4 n)
     else fault 1 n
 
--- to the place noted last
+-- the run goes to the place noted last
 abbrev pub return_to : ℕ → List Place → State → Step State
 return_to n [] s = fault 5 n
 return_to n (p ∷ ps) s = Goes (record s { place = p; returns = ps }) []
@@ -101,15 +101,15 @@ return_to n (p ∷ ps) s = Goes (record s { place = p; returns = ps }) []
 abbrev pub go_back : ℕ → State → Step State
 go_back n s = return_to n s.returns s
 
--- one answer is taken, and 3 is a break
+-- one answer is taken; 3 is a break
 abbrev pub answered : ℕ → List ℕ → State → Step State
 answered n [] s = Goes s []
 answered n (a ∷ rest) s = if nat_eq a 3 then fault 0 n else Goes (record s { answers = rest }) []
 
--- a line begins: it takes an answer, where one is left
+-- a line begins: it takes an answer, if one is left
 abbrev pub poll : ℕ → State → Step State
 poll n s = answered n s.answers s
 
--- a run stands past the last line
+-- a run is past the last line
 abbrev pub past : {S : Type 0} → List ℕ → Step S
 past ns = fault 7 (highest ns)

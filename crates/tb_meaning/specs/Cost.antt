@@ -10,7 +10,7 @@ nodes (Negate e) = 1 + nodes e
 nodes (Binary op l r) = 1 + nodes l + nodes r
 nodes (Random e) = 1 + nodes e
 
--- a comma costs nothing
+-- the cost of an item of PRINT; a comma costs nothing
 abbrev pub item_cost : Item → ℕ
 item_cost (Text t) = 24 + length t
 item_cost (Value e) = 24 + 48 * nodes e

@@ -6,7 +6,7 @@ use Rattle.tb_meaning.specs.declared.evaluation.EvalError.{EvalError}
 use Rattle.tb_meaning.specs.declared.evaluation.EvalError.TheVariants.{DivideByZero, HasRnd}
 use Rattle.tb_meaning.specs.Values.{Gives, Fails, value, has_random}
 
--- RND is looked at first; else the value is the definition's, with every seed, or its fault 2 is
+-- RND is checked first; else the value is the definition's with every seed, or so is its fault 2
 abbrev pub IsEvaluation : Expression → List ℕ → Result ℤ EvalError → Type 0
 IsEvaluation e vars (Ok v) = IsFalse (has_random e) × ((seed : ℕ) → value e vars seed ≡ Gives (word_of v) seed)
 IsEvaluation e vars (Err DivideByZero) = IsFalse (has_random e) × ((seed : ℕ) → value e vars seed ≡ Fails 2)

@@ -16,19 +16,19 @@ pub data Turn : Type 0 where
   Bad : Turn
   Dry : Turn
 
--- one digit more
+-- a reading with one more digit
 abbrev pub with_digit : Reading → ℕ → Reading
 with_digit Nothing d = Digits false d
 with_digit (Sign negative) d = Digits negative d
 with_digit (Digits negative n) d = Digits negative (n * 10 + d)
 
--- the number ends, at a comma or a return
+-- the turn at the end of a number, which is a comma or a carriage return
 abbrev pub number_end : Reading → Bool → List ℕ → Turn
 number_end Nothing stays rest = Bad
 number_end (Sign negative) stays rest = Bad
 number_end (Digits negative n) stays rest = Got (with_sign negative n) stays rest
 
--- the turn goes on behind a sign, which is good only in front
+-- the turn after a sign, which is good only in front of the digits
 abbrev pub signed_turn : Reading → Turn → Turn
 signed_turn Nothing t = t
 signed_turn (Sign negative) t = Bad
@@ -53,7 +53,7 @@ take_turn n x (Got v false rest) s =
 take_turn n x Bad s = fault 6 n
 take_turn n x Dry s = Stops Waits []
 
--- INPUT of one variable, with `? ` where no line is open
+-- INPUT of one variable, with `? ` if no line is open
 abbrev pub input : ℕ → ℕ → State → Step State
 input n x s =
     if s.open_line then take_turn n x (turn Nothing s.text) s

@@ -13,7 +13,7 @@ use Rattle.tb_meaning.specs.Control.{Place, State, fault_text}
 use Rattle.tb_meaning.specs.Meaning.{valued}
 use Rattle.tb_meaning.specs.Parts.{place_of, fault_of}
 
--- the interpreter notes the newest return last
+-- the state of an interpreter, which notes the newest return last
 abbrev pub state_of : Interpreter → State
 state_of i = record {
   place = place_of i.place;
@@ -26,7 +26,7 @@ state_of i = record {
   answers = i.answers.now;
 }
 
--- how a run stands once an interpreter stops, with what it has sent; want of memory says nothing
+-- the run once an interpreter has stopped, with what it has sent; nothing is said if memory ran out
 abbrev pub IsStopped : Run State → List ℕ → RunStop → Type 0
 IsStopped r out stop.Ended = r ≡ Over Ended out
 IsStopped r out stop.Waits = r ≡ Over Waits out
@@ -45,15 +45,15 @@ HasValue n e old new (Ok v) =
 HasValue n e old new (Err why) =
     (go : ℕ → State → Step State) → IsStopped (joined old.output.sent.items (valued n e (state_of old) go)) new.output.sent.items why
 
--- it compared the values of two expressions: whatever comes next, it goes on with the answer, or the run stops
+-- the interpreter compared two expressions: whatever comes next, it goes on with the answer, or the run stops
 abbrev pub HasRelation : ℕ → Expression → Rel → Expression → Interpreter → Interpreter → Result Bool RunStop → Type 0
 HasRelation n l rel r old new (Ok b) =
     (go : Bool → State → Step State) → joined old.output.sent.items (valued n l (state_of old) (λ x s. valued n r s (λ y s'. go (holds rel x y) s')))
-        ≡ joined new.output.sent.items (go b (state_of new))
+    ≡ joined new.output.sent.items (go b (state_of new))
 HasRelation n l rel r old new (Err why) =
     (go : Bool → State → Step State) → IsStopped (joined old.output.sent.items (valued n l (state_of old) (λ x s. valued n r s (λ y s'. go (holds rel x y) s')))) new.output.sent.items why
 
--- how a run stands, with what it has sent, and, where it goes on, with its place and variables
+-- the end of a run with what it has sent and, if it goes on, its place and variables
 abbrev pub IsRun : Run State → RunEnd → List ℕ → Place → List ℕ → Type 0
 IsRun r run_end.GoesOn out place vars = (s : State) × (r ≡ GoesOn s out) × (s.place ≡ place) × (s.vars ≡ vars)
 IsRun r run_end.Ended out place vars = r ≡ Over Ended out

@@ -7,7 +7,7 @@ use Rattle.tb_meaning.specs.Control.{Place, At, Past, State, content_at, first_p
 use Rattle.tb_meaning.specs.Input.{input}
 use Rattle.tb_meaning.specs.Values.{Valued, Gives, Fails, value}
 
--- what comes next with a value, at line n
+-- a value is handed to what comes next, or its fault ends the run, at line n
 abbrev pub with_value : {S : Type 0} → ℕ → Valued → State → (ℕ → State → Step S) → Step S
 with_value n (Gives v seed) s go = go v (record s { seed = seed })
 with_value n (Fails k) s go = fault k n
@@ -27,7 +27,7 @@ abbrev pub print_items : ℕ → List Item → State → Step State
 print_items n [] s = Goes s []
 print_items n (i ∷ is) s = and_then (print_item n i s) (print_items n is)
 
--- the variables in turn
+-- INPUT of the variables in turn
 abbrev pub inputs : ℕ → List ℕ → State → Step State
 inputs n [] s = Goes s []
 inputs n (x ∷ xs) s = and_then (input n x s) (inputs n xs)
@@ -50,7 +50,7 @@ does ns n Return s = go_back n s
 does ns n End s = Stops Ended []
 does ns n Remark s = fall ns n s
 
--- the statement at a line, where there is one
+-- the statement at a line, if there is one
 abbrev pub does_found : List ℕ → ℕ → Option Statement → State → Step State
 does_found ns n (Some c) s = and_then (poll n s) (does ns n c)
 does_found ns n None s = past ns
@@ -60,11 +60,11 @@ abbrev pub does_at : Program → Place → State → Step State
 does_at program (At n) s = does_found (numbers program) n (content_at program n) s
 does_at program Past s = past (numbers program)
 
--- one line
+-- the step of one line
 abbrev pub line : Program → State → Step State
 line program s = does_at program s.place s
 
--- the lowest line, all variables 0, no notes, no open line, nothing sent
+-- the start: at the lowest line, all variables 0, no notes, no open line, nothing sent
 abbrev pub start : List ℕ → ℕ → List ℕ → List ℕ → State
 start ns seed text answers = record {
   place = first_place ns;

@@ -4,19 +4,19 @@ use Rattle.tb_syntax.specs.Source.{Statement, If, Goto, Gosub, Program, numbers}
 use Rattle.tb_meaning.specs.Control.{has_line}
 use Rattle.tb_meaning.specs.Values.{constant}
 
--- a target of which there is no line
+-- a target, if there is no line of its number
 abbrev pub without_line : List ℕ → Option ℕ → Option ℕ
 without_line ns (Some target) = if has_line ns target then None else Some target
 without_line ns None = None
 
--- the constant target of a statement, where it is missing
+-- the constant target of a statement, if it is missing
 abbrev pub missing_target : List ℕ → Statement → Option ℕ
 missing_target ns (Goto e) = without_line ns (constant e)
 missing_target ns (Gosub e) = without_line ns (constant e)
 missing_target ns (If l rel r c) = missing_target ns c
 missing_target ns _ = None
 
--- a line and a target before others, where there is a target
+-- a line and a target before others, if there is a target
 abbrev pub with_target : ℕ → Option ℕ → List (ℕ × ℕ) → List (ℕ × ℕ)
 with_target n (Some target) rest = (n, target) ∷ rest
 with_target n None rest = rest

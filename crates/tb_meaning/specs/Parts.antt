@@ -6,7 +6,7 @@ use Rattle.tb_meaning.specs.declared.faults.Fault.{Fault}
 use Rattle.tb_meaning.specs.declared.faults.Fault.TheVariants as fault
 use Rattle.tb_meaning.specs.Control.{Place, At, Past}
 
--- where the interpreter stands
+-- where the interpreter is
 abbrev pub place_of : rust_place.Place → Place
 place_of (place.At n) = At n
 place_of place.Past = Past

@@ -13,12 +13,12 @@ reading_of reading.Nothing = Nothing
 reading_of (reading.Sign negative) = Sign negative
 reading_of (reading.Digits negative n) = Digits negative n
 
--- its digits are kept modulo 65,536
+-- what the interpreter has read is the meaning's reading, with the digits kept modulo 65,536
 abbrev pub IsReading : Reading → rust_reading.Reading → Type 0
 IsReading r (reading.Digits negative n) = (m : ℕ) × (r ≡ Digits negative m) × (word m ≡ word n)
 IsReading r r' = r ≡ reading_of r'
 
--- how its turn ends
+-- how the interpreter's turn ends
 abbrev pub IsTurn : Turn → rust_turn.Turn → Type 0
 IsTurn t (turn.Got v stays rest) = t ≡ Got v stays rest.now
 IsTurn t turn.Bad = t ≡ Bad

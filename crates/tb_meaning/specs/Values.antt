@@ -16,7 +16,7 @@ abbrev pub valued_then : Valued → (ℕ → ℕ → Valued) → Valued
 valued_then (Gives v seed) f = f v seed
 valued_then (Fails k) f = Fails k
 
--- an operator on two words, and none for a division by zero
+-- an operator on two words, `None` for a division by zero
 abbrev pub apply : Operator → ℕ → ℕ → Option ℕ
 apply Add a b = Some (word (a + b))
 apply Subtract a b = Some (word (a + (65536 - b)))
@@ -28,7 +28,7 @@ abbrev pub given : Option ℕ → ℕ → Valued
 given (Some v) seed = Gives v seed
 given None seed = Fails 2
 
--- RND of a bound: fault 3 where the bound is below 1
+-- RND of a bound: fault 3 if the bound is below 1
 abbrev pub random : ℕ → ℕ → Valued
 random bound seed =
     if nat_eq bound 0 || nat_le 32768 bound then Fails 3 else Gives (seed_after seed % bound) (seed_after seed)
@@ -42,7 +42,7 @@ value (Binary op l r) vars seed =
     valued_then (value l vars seed) (λ a seed'. valued_then (value r vars seed') (λ b seed''. given (apply op a b) seed''))
 value (Random e) vars seed = valued_then (value e vars seed) random
 
--- whether RND stands anywhere in an expression
+-- whether RND occurs anywhere in an expression
 abbrev pub has_random : Expression → Bool
 has_random (Number n) = false
 has_random (Variable x) = false
@@ -50,13 +50,13 @@ has_random (Negate e) = has_random e
 has_random (Binary op l r) = has_random l || has_random r
 has_random (Random e) = true
 
--- the word of an operator on two words, where there are two and it has one
+-- the word of an operator on two words, if there are two and it has one
 abbrev pub both : (ℕ → ℕ → Option ℕ) → Option ℕ → Option ℕ → Option ℕ
 both f (Some a) (Some b) = f a b
 both f (Some a) None = None
 both f None y = None
 
--- the value of an expression without RND, where no division is by zero and each variable is one of those given
+-- the value of an expression without RND, if no division is by zero and each variable is one of those given
 abbrev pub known_value : Expression → List ℕ → Option ℕ
 known_value (Number n) vars = Some (word n)
 known_value (Variable x) vars = slice_get vars x
@@ -64,6 +64,6 @@ known_value (Negate e) vars = option_map negated (known_value e vars)
 known_value (Binary op l r) vars = both (apply op) (known_value l vars) (known_value r vars)
 known_value (Random e) vars = None
 
--- the value of an expression without variables and RND, where no division is by zero
+-- the value of an expression without variables and RND, if no division is by zero
 abbrev pub constant : Expression → Option ℕ
 constant e = known_value e []

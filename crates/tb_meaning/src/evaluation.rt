@@ -13,11 +13,11 @@ use tb_words::{add, div_rem, mul, neg, sub};
 pub enum EvalError {
     /// A division is by zero.
     DivideByZero,
-    /// RND stands anywhere in the expression. This is looked at first.
+    /// RND occurs anywhere in the expression. This is checked first.
     HasRnd,
 }
 
-/// The value of an expression without RND, over the variables A to Z. It takes no memory.
+/// The value of an expression without RND, from -32,768 to 32,767, over the variables A to Z. It takes no memory.
 pub fn eval(e: &Expr, variables: &[i16; 26]) -> Result<i16, EvalError>
     ensures { IsEvaluation (expression_of e.now) (map word_of variables.now) result }
 {
@@ -27,7 +27,8 @@ pub fn eval(e: &Expr, variables: &[i16; 26]) -> Result<i16, EvalError>
     known_value(e, variables).ok_or(EvalError::DivideByZero)
 }
 
-/// The value of an expression without variables and RND, as a word; none where a division is by zero.
+/// The value of an expression without variables and RND, as a word; `None` for any other expression and if a division
+/// is by zero.
 pub fn constant(e: &Expr) -> Option<u16>
     ensures { result ≡ constant (expression_of e.now) }
 {
@@ -35,7 +36,7 @@ pub fn constant(e: &Expr) -> Option<u16>
     Some(value.cast_unsigned())
 }
 
-// The value of an expression without RND over the first variables; none where a division is by zero.
+// The value of an expression without RND over the first variables; `None` if a division is by zero.
 fn known_value(e: &Expr, variables: &[i16]) -> Option<i16>
     ensures { option_map word_of result ≡ known_value (expression_of e.now) (map word_of variables.now) }
 {
@@ -52,7 +53,7 @@ fn known_value(e: &Expr, variables: &[i16]) -> Option<i16>
     }
 }
 
-// An operator on two values; none for a division by zero.
+// An operator on two values; `None` for a division by zero.
 fn apply(op: Operator, a: i16, b: i16) -> Option<i16>
     ensures { option_map word_of result ≡ apply op (word_of a) (word_of b) }
 {
@@ -71,7 +72,7 @@ fn quotient(a: i16, b: i16) -> Option<i16>
     Some(quotient)
 }
 
-/// An operator on two words; none for a division by zero.
+/// An operator on two words; `None` for a division by zero.
 pub fn apply_words(op: Operator, a: u16, b: u16) -> Option<u16>
     ensures { result ≡ apply op a b }
 {

@@ -23,10 +23,10 @@ use tb_words::{Letter, Rel, holds, next_seed};
 /// How many returns can be noted.
 const DEEPEST: usize = 500;
 
-/// How a run stands.
+/// How far a run has come.
 #[derive(Clone, Copy, PartialEq, Eq, Debug, Drop)]
 pub enum RunEnd {
-    /// It has not ended.
+    /// It has not ended; more lines can be run.
     GoesOn,
     /// By END.
     Ended,
@@ -36,19 +36,19 @@ pub enum RunEnd {
     Waits,
 }
 
-/// What a run has sent so far, and how it stands.
+/// What a run has sent so far, and how far it has come.
 #[derive(Debug, Drop)]
 pub struct SourceRun {
     pub sent: Vec<u8>,
     pub end: RunEnd,
-    /// Where it goes on.
+    /// The place at which it goes on.
     pub place: Place,
-    /// The words of A to Z, where it goes on.
+    /// The words of A to Z, if it goes on.
     pub variables: [u16; 26],
 }
 
-/// Runs a program, at most so many lines, with the first state of RND, the keyboard's text and the answers to the polls
-/// at the beginnings of lines, of which 3 is a break. Only want of memory is refused.
+/// Runs at most `limit` lines of a program with the first seed of RND, the keyboard's text and the answers to the polls
+/// at the beginnings of lines, where 3 is a break. Fails only if memory runs out.
 pub fn run_source(
     alloc: Global,
     program: &Program,
@@ -104,7 +104,7 @@ impl<'a> Interpreter<'a> {
         }
     }
 
-    // Runs at most so many lines, and sends a fault's text.
+    // Runs at most `limit` lines, and sends a fault's text.
     fn run(&mut self, program: &Program, limit: u64) -> Result<RunEnd, AllocError>
         ensures { IfOk result (λ end. IsRun (advance_by (line (lines_of program.now)) limit (GoesOn (state_of self.old) self.old.output.sent.items)) end self.new.output.sent.items (place_of self.new.place) self.new.variables) }
     {
@@ -143,7 +143,7 @@ impl<'a> Interpreter<'a> {
         Err(RunStop::Fault(Fault::PastLast, highest(program)))
     }
 
-    // A line at whose number this statement stands.
+    // Takes an answer, and runs the statement of the line with this number.
     fn polled(
         &mut self,
         program: &Program,
@@ -233,7 +233,7 @@ impl<'a> Interpreter<'a> {
         self.fall(program, number)
     }
 
-    // Whether the values of two expressions are so related.
+    // Whether the relation holds between the values of two expressions.
     fn relate(&mut self, number: u16, l: &Expr, rel: Rel, r: &Expr) -> Result<bool, RunStop>
         ensures { HasRelation number (expression_of l.now) rel (expression_of r.now) self.old self.new result }
     {
@@ -242,7 +242,7 @@ impl<'a> Interpreter<'a> {
         Ok(holds(rel, left.cast_signed(), right.cast_signed()))
     }
 
-    // On to the next line.
+    // Goes on to the next line.
     fn fall(&mut self, program: &Program, number: u16) -> Result<(), RunStop>
         ensures { Ran (fall (numbers (lines_of program.now)) number (state_of self.old)) self.old self.new result }
     {

@@ -11,14 +11,14 @@ use crate::places::has_line;
 use std::alloc::{AllocError, Global};
 use tb_syntax::{Expr, Program, Statement};
 
-/// A GOTO or GOSUB of this line goes to a constant target, of which there is no line.
+/// A GOTO or GOSUB at this line has a constant target, and there is no line of that number.
 #[derive(Clone, Copy, PartialEq, Eq, Debug, Drop)]
 pub struct Warning {
     pub line: u16,
     pub target: i16,
 }
 
-/// The warnings of a program in the order of lines. Only want of memory is refused.
+/// The warnings of a program in the order of lines. Fails only if memory runs out.
 pub fn warnings(alloc: Global, program: &Program) -> Result<Vec<Warning>, AllocError>
     ensures { IfOk result (λ found. map (λ w. (w.line, word_of w.target)) found.items ≡ missing_targets (lines_of program.now)) }
 {
@@ -34,7 +34,7 @@ pub fn warnings(alloc: Global, program: &Program) -> Result<Vec<Warning>, AllocE
     Ok(warnings)
 }
 
-// The constant target of a statement, where it is missing.
+// The constant target of a statement, if it is missing.
 fn missing_target(program: &Program, statement: &Statement) -> Option<i16>
     ensures { option_map word_of result ≡ missing_target (numbers (lines_of program.now)) (statement_of statement.now) }
 {
@@ -45,7 +45,7 @@ fn missing_target(program: &Program, statement: &Statement) -> Option<i16>
     }
 }
 
-// A constant target of which there is no line.
+// The target, if it is constant and there is no line of its number.
 fn without_line(program: &Program, target: &Expr) -> Option<i16>
     ensures { option_map word_of result ≡ without_line (numbers (lines_of program.now)) (constant (expression_of target.now)) }
 {

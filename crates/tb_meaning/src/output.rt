@@ -17,7 +17,7 @@ pub struct Output {
 }
 
 impl Output {
-    /// Nothing sent.
+    /// An output with nothing sent.
     pub fn new(alloc: Global) -> Self
         ensures sent { result.sent.items ≡ [] }
         ensures column { result.column ≡ 0 }

@@ -1,4 +1,4 @@
-//! Where a run stands.
+//! Where a run is.
 ghost use Rattle.std.specs.Prelude.{◌≡◌, option_map};
 ghost use Rattle.tb_syntax.specs.PlainData.{statement_of, lines_of};
 ghost use Rattle.tb_syntax.specs.Source.{numbers};
@@ -14,7 +14,7 @@ pub enum Place {
     Past,
 }
 
-/// The lowest line.
+/// The place of the lowest line.
 pub fn first_place(program: &Program) -> Place
     ensures { place_of result ≡ first_place (numbers (lines_of program.now)) }
 {
@@ -24,7 +24,7 @@ pub fn first_place(program: &Program) -> Place
     }
 }
 
-/// The first line above this number.
+/// The place of the first line above this number.
 pub fn next_after(program: &Program, number: u16) -> Place
     ensures { place_of result ≡ next_after (numbers (lines_of program.now)) number }
 {
@@ -36,7 +36,7 @@ pub fn next_after(program: &Program, number: u16) -> Place
     Place::Past
 }
 
-/// The highest number; 0 where there is no line.
+/// The highest number; 0 if there is no line.
 pub fn highest(program: &Program) -> u16
     ensures { result ≡ highest (numbers (lines_of program.now)) }
 {
@@ -55,7 +55,7 @@ pub fn has_line(program: &Program, number: u16) -> bool
     program.has(number)
 }
 
-/// The statement of a line.
+/// The statement of a line; `None` if there is no such line.
 pub fn statement_at(program: &Program, number: u16) -> Option<&Statement>
     ensures { option_map (λ s. statement_of s.now) result ≡ content_at (lines_of program.now) number }
 {

@@ -11,7 +11,7 @@ pub enum Reading {
     Nothing,
     /// A sign, and whether it is a minus.
     Sign(bool),
-    /// Digits, and whether a minus stands before them; modulo 65,536.
+    /// Whether a minus comes before the digits, and their value modulo 65,536.
     Digits(bool, u16),
 }
 
@@ -26,7 +26,7 @@ pub enum Turn<'a> {
     Dry,
 }
 
-/// One turn over a text.
+/// One turn over a text: reads one number.
 pub fn take_number(text: &[u8]) -> Turn<'_>
     ensures { IsTurn (turn Nothing text.now) result }
 {
@@ -62,7 +62,7 @@ fn with_digit(reading: Reading, digit: u8) -> Reading
     }
 }
 
-// The number ends, at a comma, where the line stays open, or at a carriage return.
+// The end of a number, at a comma, where the line stays open, or at a carriage return.
 fn number_end(reading: Reading, stays_open: bool, rest: &[u8]) -> Turn<'_>
     ensures { IsTurn (number_end (reading_of reading) stays_open rest.now) result }
 {

@@ -5,6 +5,6 @@ use Rattle.tb_syntax.specs.Source.{numbers}
 use Rattle.tb_meaning.specs.Control.{highest}
 use Rattle.tb_meaning.proofs.places.highest.Given as goal
 
--- the number before the rest stands for all that came
+-- the highest of the rest, with the number before it, is the highest of all
 abbrev pub invariant-loop-line : goal.invariant-loop-line
 invariant-loop-line l = highest (l.highest ∷ numbers (lines_of l.line-iterator)) ≡ highest (numbers (lines_of l.program))
