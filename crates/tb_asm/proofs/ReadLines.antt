@@ -1,4 +1,4 @@
--- Lines read one behind the other.
+-- Lines read one after the other.
 use Rattle.std.proofs.Common.{◌≡◌, ℕ, ◌+◌, ◌-◌, ◌<◌, ◌≤◌, Bool, true, false, List, [], ◌∷◌, ◌++◌, length, take, drop}
 use Rattle.std.proofs.Common.{get_or, Option, Some, None, Result, Ok, Err, refl, sym, ap, ◌∙◌, eqb, add-one, drop-cons, append_assoc, ◌&&◌}
 use Rattle.std.proofs.Common.{if◌then◌else◌, arith, length-drop, map}
@@ -23,6 +23,7 @@ abbrev pub items_before : List Entry → Result (List Entry) ℕ → Result (Lis
 items_before es (Ok more) = Ok (es ++ more)
 items_before es (Err j) = Err j
 
+-- putting a byte and then a text before the first line is putting the text with that byte
 pub puts-put : (p : List ℕ) (b : ℕ) (ls : List (List ℕ)) → puts p (put b ls) ≡ puts (p ++ b ∷ []) ls
 puts-put p b [] = refl
 puts-put p b (l ∷ ls) = ap (λ r. r ∷ ls) (sym (append_assoc p (b ∷ []) l))
@@ -37,11 +38,12 @@ puts_none (b ∷ bs) = by (eqb b 10) (eqb b 13 && begins_with_10 bs) (puts_none 
 
     by : (s t : Bool) → puts [] (split_lines bs) ≡ split_lines bs
         → puts [] (if s then [] ∷ split_lines bs else if t then split_lines bs else put b (split_lines bs))
-            ≡ (if s then [] ∷ split_lines bs else if t then split_lines bs else put b (split_lines bs))
+        ≡ (if s then [] ∷ split_lines bs else if t then split_lines bs else put b (split_lines bs))
     by true t h = refl
     by false true h = h
     by false false h = onto (split_lines bs)
 
+-- putting nothing before the first line changes nothing
 pub first_init : (text : List ℕ) → puts [] (split_lines text) ≡ split_lines text
 first_init text = puts_none text
 
@@ -80,9 +82,11 @@ module _ (text : List ℕ) (i : ℕ) (below : i < length text) (so_far : puts (t
       ap (λ t. puts t (split_lines (drop (i + 1) text))) (take_more text i 0 below) ∙ sym (puts-put (take i text) (get_or text i 0) (split_lines (drop (i + 1) text)))
       ∙ sym (ap (puts (take i text)) split) ∙ sym (ap (λ t. puts (take i text) (split_lines t)) here) ∙ so_far
 
+-- a byte that is not 13 begins no pair of 13 and 10
 pub not_return : (b : ℕ) (t : Bool) → (b ≡ 13 → ⊥) → (eqb b 13 && t) ≡ false
 not_return b t h = let no13 : eqb b 13 ≡ false = grind (arith, nat_tests) in ap (λ s. s && t) no13
 
+-- a byte without a 10 after it begins no pair of 13 and 10
 pub not_newline : (b : ℕ) (t : Bool) → t ≡ false → (eqb b 13 && t) ≡ false
 not_newline b t h = by (eqb b 13)
   where
@@ -98,13 +102,15 @@ taken_by old new (Some es) n (Err j) h = refl
 
 module _ (old : List Entry) (rest line : List ℕ) (ls : List (List ℕ)) (n : ℕ) (whole : Result (List Entry) ℕ)
     (split : split_lines rest ≡ line ∷ ls) (so_far : items_before old (text_items n (split_lines rest)) ≡ whole) where
+  -- the items of a good line join those of the lines before
   pub line_taken : (new : List Entry) → option_map (λ es. old ++ es) (line_items line) ≡ Some new → items_before new (text_items (n + 1) ls) ≡ whole
   line_taken new h = sym (taken_by old new (line_items line) n (text_items (n + 1) ls) h) ∙ sym (ap (λ t. items_before old (text_items n t)) split) ∙ so_far
 
+-- at the end of the text its items are those of all lines
 pub text_done : (new : List Entry) (n : ℕ) (whole : Result (List Entry) ℕ) → items_before new (text_items n []) ≡ whole → whole ≡ Ok new
 text_done new n whole h = sym h ∙ ap Ok (append-nil new)
 
--- items behind a label
+-- items after a label
 label_first : (old mid : List Entry) (n : Name) (o : Option (List Entry)) → Some (old ++ label n ∷ []) ≡ Some mid
     → option_map (λ es. old ++ es) (option_map (λ es. label n ∷ es) o) ≡ option_map (λ es. mid ++ es) o
 label_first old mid n None h = refl
@@ -113,6 +119,7 @@ label_first old mid n (Some es) h = ap Some (sym (append_assoc old (label n ∷ 
 label_none : (n : Name) (o : Option (List Entry)) → o ≡ None → option_map (λ es. label n ∷ es) o ≡ None
 label_none n o h = ap (option_map (λ es. label n ∷ es)) h
 
+-- items pushed after a label are pushed with it
 pub pushes_label : {U : Type 0} (old mid new : List Item) (n : Name) (o : Option (List Entry)) (r : Result U LineError)
     → Some (map entry_of old ++ label n ∷ []) ≡ Some (map entry_of mid) → Pushes o mid r new → Pushes (option_map (λ es. label n ∷ es) o) old r new
 pushes_label old mid new n o (Ok u) h p = label_first (map entry_of old) (map entry_of mid) n o h ∙ p

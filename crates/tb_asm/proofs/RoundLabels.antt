@@ -20,10 +20,12 @@ use Rattle.tb_asm.proofs.Passes.{behind, here}
 use Rattle.tb_asm.proofs.Rounds.{marks_here}
 use Rattle.tb_asm.proofs.Laws.{labels_append}
 
+-- the labels of a form at an address
 pub labels_of_form : ℕ → Form → List (Name × ℕ)
 labels_of_form a (kept e) = label_at a e
 labels_of_form a (long n l) = []
 
+-- the labels of forms laid from an address
 pub labels_in : ℕ → List Form → List (Name × ℕ)
 labels_in a [] = []
 labels_in a (f ∷ fs) = labels_of_form a f ++ labels_in (a + form_size f) fs
@@ -33,10 +35,12 @@ unfolding labels_of_form
 form_labels a (kept e) = append-nil (label_at a e)
 form_labels a (long n l) = refl
 
+-- the items of a form have the form's size
 pub size_at : (a : ℕ) (f : Form) → size (items_at a f) ≡ form_size f
 size_at a (kept e) = omega arith
 size_at a (long n l) = refl
 
+-- the labels of the items of forms are those of the forms
 pub labels_are : (a : ℕ) (fs : List Form) → labels_from a (items_from a fs) ≡ labels_in a fs
 unfolding labels_in
 labels_are a [] = refl
@@ -90,9 +94,11 @@ pub record PlacesTo (fs : List Form) (found : List (Name × ℕ)) (address : ℕ
   pub address_is : address ≡ place % 65536
   pub finds : (n : Name) → or_found (address_in found n) (wrapped (address_in (labels_in place fs) n)) ≡ wrapped (address_in all n)
 
+-- the loop that places labels begins with none
 pub places_none : (at : ℕ) (fs : List Form) → at ≡ at % 65536 → PlacesTo fs [] at (round_labels at fs)
 places_none at fs h = record { place = at; address_is = h; finds = λ n. ap (λ ls. wrapped (address_in ls n)) (sym (labels_are at fs)) }
 
+-- the loop that places labels goes on over a form
 pub places_more : (b : Bool) (e : Entry) (fs : List Form) (found new : List (Name × ℕ)) (address end : ℕ) {all : List (Name × ℕ)}
     → PlacesTo (form_of b e ∷ fs) found address all
     → ((n : Name) → address_in new n ≡ or_found (address_in found n) (address_in (label_at address e) n))
@@ -120,6 +126,7 @@ or_found_none : (o : Option ℕ) → o ≡ or_found o None
 or_found_none None = refl
 or_found_none (Some a) = refl
 
+-- after the last form each label of the round is found, modulo 65,536
 pub places_done : (found : List (Name × ℕ)) (address : ℕ) (all : List (Name × ℕ)) → PlacesTo [] found address all → (n : Name) → address_in found n ≡ wrapped (address_in all n)
 unfolding labels_in
 places_done found address all p n = or_found_none (address_in found n) ∙ p.finds n
@@ -136,6 +143,7 @@ items_wrap a b (long n l) h =
     let w : (a + 5) % 65536 ≡ (b + 5) % 65536 = omega arith in
     λ i. instr (inverse n) Relative (Word (w i)) ∷ instr Jmp Absolute (Label l) ∷ []
 
+-- the loop that builds the items goes on over a form
 pub builds_more : (f : Form) (fs : List Form) (built new : List Entry) (address end : ℕ) {all : List Entry} → BuildsTo (f ∷ fs) built address all
     → new ≡ built ++ items_at address f → end ≡ (address + form_size f) % 65536 → BuildsTo fs new end all
 builds_more f fs built new address end {all} p grown ends =
@@ -164,7 +172,7 @@ pub added_by : {U : Type 0} (old new : List (Name × ℕ)) (a : ℕ) (n : Name) 
 added_by old new a n (Ok u) fresh h q = λ m. ap (λ ls. address_in ls m) h.1 ∙ found_append old (label_at a (label n)) m
 added_by old new a n (Err k) fresh h q = only_memory k (subst (λ t. Refuses t k) (ap (λ t. if t then Some LabelTwice else None) (sym fresh)) q)
 
--- behind the last item there is none
+-- from the place after the last item on there are no items
 pub behind_none : (items : List Item) (i : ℕ) → length items ≤ i → behind items i ≡ []
 behind_none items i l = ap (map entry_of) (drop_of_length-le items l)
 
@@ -173,7 +181,7 @@ pub forms_here : (items : List Item) (bs : List Bool) (i : ℕ) (item : Item) �
     → forms_of (behind items i) (drop i bs) ≡ form_of (get_or bs i false) (entry_of item) ∷ forms_of (behind items (i + 1)) (drop (i + 1) bs)
 forms_here items bs i item l is m = λ j. forms_of (here 0 items i item l is j) (marks_here bs i m j)
 
--- one behind the other
+-- items pushed twice in turn are pushed as one list
 pub pushes_two : {U : Type 0} (old mid new : List Item) (xs ys : List Entry) (r : Result U AsmErrorKind)
     → map entry_of mid ≡ map entry_of old ++ xs → PushesEntries mid ys r new → PushesEntries old (xs ++ ys) r new
 pushes_two old mid new xs ys (Ok u) h p = p ∙ ap (λ t. t ++ ys) h ∙ append_assoc (map entry_of old) xs ys

@@ -15,6 +15,7 @@ use Rattle.tb_asm.specs.Marks.{form_of, forms_of, marks_from, new_mark, wrapped}
 pub distance_wraps : (a b : ℕ) (t u : ℕ) → a ≡ b % 65536 → t % 65536 ≡ u % 65536 → distance a t ≡ distance b u
 distance_wraps a b t u h k = omega arith
 
+-- whether a branch reaches is the same for addresses modulo 65,536
 pub far_wraps : (labels : List (Name × ℕ)) (a b : ℕ) (e : Entry) → a ≡ b % 65536 → is_far labels a e ≡ is_far labels b e
 far_wraps labels a b e h = by (branch_to e)
   where
@@ -37,6 +38,7 @@ or_assoc true b c = refl
 or_assoc false b c = refl
 
 module _ (labels : List (Name × ℕ)) (e : Entry) (es : List Entry) (b : Bool) (bs : List Bool) where
+  -- the loop of a round goes on over an item
   pub round_more : (next : List Bool) (changed far : Bool) (address end : ℕ) {all : List Bool} {any : Bool}
       → RoundTo labels (e ∷ es) (b ∷ bs) next changed address all any → far ≡ (not b && is_far labels address e)
       → end ≡ (address + form_size (form_of b e)) % 65536
@@ -62,6 +64,7 @@ module _ (labels : List (Name × ℕ)) (e : Entry) (es : List Entry) (b : Bool) 
 pub marks_here : (bs : List Bool) (i : ℕ) → i < length bs → drop i bs ≡ get_or bs i false ∷ drop (i + 1) bs
 marks_here bs i l = drop-cons bs i false l ∙ ap (λ n. get_or bs i false ∷ drop n bs) (sym (add-one i))
 
+-- the loop of a round at the item of a list
 pub round_item : (labels : List (Name × ℕ)) (items : List Item) (bs : List Bool) (i : ℕ) (item : Item) → i < length items → item ≡ get_or items i item → i < length bs
     → (next new : List Bool) (changed far : Bool) (address k : ℕ) {all : List Bool} {any : Bool}
     → RoundTo labels (behind items i) (drop i bs) next changed address all any
@@ -75,7 +78,7 @@ round_item labels items bs i item l is m next new changed far address k {all} {a
     (subst (λ ms. RoundTo labels (behind items i) ms next changed address all any) (marks_here bs i m) r))
     f (ap (λ n. (address + n) % 65536) size_is))
 
--- marks and forms: a long form stays, whatever the labels are
+-- marks and forms: a long form is kept, whatever the labels are
 module _ (labels : List (Name × ℕ)) (a : ℕ) (e : Entry) where
   long_near : form_far labels a (long_of (branch_to e) e) ≡ false
   long_near = by (branch_to e) refl
@@ -91,18 +94,21 @@ module _ (labels : List (Name × ℕ)) (a : ℕ) (e : Entry) where
   short_widens true = refl
   short_widens false = refl
 
+-- widening forms is marking their items
 pub forms_widen : (labels : List (Name × ℕ)) (a : ℕ) (es : List Entry) (bs : List Bool) → widen labels a (forms_of es bs) ≡ forms_of es (marks_from labels a es bs)
 forms_widen labels a [] bs = refl
 forms_widen labels a (e ∷ es) [] = refl
 forms_widen labels a (e ∷ es) (true ∷ bs) = λ i. long_stays labels a e i ∷ forms_widen labels (a + form_size (form_of true e)) es bs i
 forms_widen labels a (e ∷ es) (false ∷ bs) = λ i. short_widens labels a e (is_far labels a e) i ∷ forms_widen labels (a + form_size (form_of false e)) es bs i
 
+-- a form does not reach exactly if its item gets a new mark
 pub forms_far : (labels : List (Name × ℕ)) (a : ℕ) (es : List Entry) (bs : List Bool) → some_far_in labels a (forms_of es bs) ≡ new_mark labels a es bs
 forms_far labels a [] bs = refl
 forms_far labels a (e ∷ es) [] = refl
 forms_far labels a (e ∷ es) (true ∷ bs) = λ i. long_near labels a e i || forms_far labels (a + form_size (form_of true e)) es bs i
 forms_far labels a (e ∷ es) (false ∷ bs) = λ i. is_far labels a e || forms_far labels (a + form_size (form_of false e)) es bs i
 
+-- without marks the forms are the items as they are
 pub no_marks : (es : List Entry) → forms_of es (replicate (length es) false) ≡ map kept es
 no_marks [] = refl
 no_marks (e ∷ es) = ap (λ fs. kept e ∷ fs) (no_marks es)
@@ -113,6 +119,7 @@ shorts [] = 0
 shorts (true ∷ bs) = shorts bs
 shorts (false ∷ bs) = shorts bs + 1
 
+-- a round gives a mark for each item
 pub marks_length : (labels : List (Name × ℕ)) (a : ℕ) (es : List Entry) (bs : List Bool) → length bs ≡ length es → length (marks_from labels a es bs) ≡ length es
 marks_length labels a [] bs h = refl
 marks_length labels a (e ∷ es) [] h = h
@@ -129,6 +136,7 @@ fewer_or_same labels a (e ∷ es) (false ∷ bs) = by (is_far labels a e) (fewer
     by true h = omega arith
     by false h = omega arith
 
+-- a round with a new mark leaves fewer items without one
 pub fewer : (labels : List (Name × ℕ)) (a : ℕ) (es : List Entry) (bs : List Bool) → new_mark labels a es bs ≡ true → shorts (marks_from labels a es bs) < shorts bs
 unfolding shorts
 fewer labels a [] bs h = absurd (true≢false (sym h))
@@ -155,11 +163,13 @@ module _ (found labels : List (Name × ℕ)) (same : (n : Name) → address_in f
       by None = refl
       by (Some p) = ap (is_beyond a) (same p.1) ∙ target (address_in labels p.1)
 
+  -- both labels give the same marks
   pub marks_as : (a : ℕ) (es : List Entry) (bs : List Bool) → marks_from found a es bs ≡ marks_from labels a es bs
   marks_as a [] bs = refl
   marks_as a (e ∷ es) [] = refl
   marks_as a (e ∷ es) (b ∷ bs) = λ i. (b || far_as a e i) ∷ marks_as (a + form_size (form_of b e)) es bs i
 
+  -- both labels give a new mark or neither does
   pub news_as : (a : ℕ) (es : List Entry) (bs : List Bool) → new_mark found a es bs ≡ new_mark labels a es bs
   news_as a [] bs = refl
   news_as a (e ∷ es) [] = refl
@@ -167,14 +177,18 @@ module _ (found labels : List (Name × ℕ)) (same : (n : Name) → address_in f
 
 -- a round by the labels that were found is the round of the forms
 module _ (at : ℕ) (es : List Entry) (bs : List Bool) (found : List (Name × ℕ)) (same : (n : Name) → address_in found n ≡ wrapped (address_in (round_labels at (forms_of es bs)) n)) where
+  -- a round of the forms is a round of the marks
   pub round_found : round at (forms_of es bs) ≡ forms_of es (marks_from found at es bs)
   round_found = forms_widen (round_labels at (forms_of es bs)) at es bs ∙ ap (forms_of es) (sym (marks_as found (round_labels at (forms_of es bs)) same at es bs))
 
+  -- a branch of the forms does not reach exactly if the round gives a new mark
   pub far_found : some_far at (forms_of es bs) ≡ new_mark found at es bs
   far_found = forms_far (round_labels at (forms_of es bs)) at es bs ∙ sym (news_as found (round_labels at (forms_of es bs)) same at es bs)
 
+  -- settling goes on after a round with a new mark
   pub one_more_round : (gs : List Form) → new_mark found at es bs ≡ true → Settles at (forms_of es (marks_from found at es bs)) gs → Settles at (forms_of es bs) gs
   one_more_round gs new s = more (forms_of es bs) gs (far_found ∙ new) (subst (λ fs. Settles at fs gs) (sym round_found) s)
 
+  -- settling ends with a round without a new mark
   pub last_round : new_mark found at es bs ≡ false → Settles at (forms_of es bs) (forms_of es bs)
   last_round none = done (forms_of es bs) (far_found ∙ none)

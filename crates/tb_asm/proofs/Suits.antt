@@ -22,7 +22,7 @@ use Rattle.tb_asm.specs.Suited.{BytesStand, Decodes, LabelsStand, name_at, names
 use Rattle.tb_asm.proofs.Faults.{first_none, none_first, size_push, taken}
 use Rattle.tb_asm.proofs.Laws.{none_of, stands, label_stands, bytes_append, all_size}
 
--- where nothing is refused, no item has a fault in its place
+-- if nothing is refused, no item has a fault in its place
 fault_none : (fault : List Entry → Entry → Option AsmErrorKind) (front before after : List Entry) (e : Entry)
     → first_fault fault front (before ++ e ∷ after) ≡ None → fault (front ++ before) e ≡ None
 fault_none fault front [] after e h = ap (λ f. fault f e) (append-nil front) ∙ none_first fault front after e h
@@ -34,15 +34,18 @@ module _ (at : ℕ) (es : List Entry) (placed : place_refusal at es ≡ None) wh
   item_taken : (before : List Entry) (e : Entry) (after : List Entry) → es ≡ before ++ e ∷ after → place_fault (labels_from at before) (at + size before) e ≡ None
   item_taken before e after is = fault_none (place_fault_in at) [] before after e (ap (first_fault (place_fault_in at) []) (sym is) ∙ placed)
 
+  -- the image has each item's bytes at its place
   pub bytes_stand : BytesStand at es (image_of at es) (labels_from at es)
   bytes_stand = λ before e after is.
       ap (λ t. take (size_of e) (drop (size before) (bytes_from (labels_from at es) at t))) is ∙ stands (labels_from at es) at before after e
 
+  -- each label's value is the address of its item
   pub labels_stand : LabelsStand at es (labels_from at es)
   labels_stand = λ before n after is.
       let new = (taken (labels_from at before) (at + size before) (label n) (item_taken before (label n) after is)).new in
       ap (λ t. address_in (labels_from at t) n) is ∙ label_stands at before after n (none_of (address_in (labels_from at before) n) new)
 
+  -- each instruction's first byte decodes to its mnemonic and mode
   pub decodes : Decodes es (image_of at es)
   decodes = λ before n m o after is.
       let mode = (taken (labels_from at before) (at + size before) (instr n m o) (item_taken before (instr n m o) after is)).mode in
@@ -61,7 +64,7 @@ module _ (at : ℕ) (es : List Entry) (placed : place_refusal at es ≡ None) wh
       by n m None e s = absurd (true≢false (sym s ∙ ap is_some e))
       by n m (Some b) e s = ap (λ x. decoded (unwrap_or x 0)) e ∙ decodes_back b n m e
 
--- items that suit
+-- the names of two lists of items are those of the first and then those of the second
 pub names_append : (xs ys : List Entry) → names_of (xs ++ ys) ≡ names_of xs ++ names_of ys
 names_append [] ys = refl
 names_append (x ∷ xs) ys = ap (λ ns. name_at x ++ ns) (names_append xs ys) ∙ sym (append_assoc (name_at x) (names_of xs) (names_of ys))
@@ -82,7 +85,7 @@ any_behind : (n m : Name) (ns ms : List Name) → list_any (same_name n) (ns ++ 
 any_behind n m [] ms h = (or_parts _ _ h).0
 any_behind n m (x ∷ ns) ms h = any_behind n m ns ms (or_parts _ _ h).1
 
--- a name behind distinct names is none of them
+-- a name after distinct names is none of them
 distinct_behind : (ns : List Name) (m : Name) (ms : List Name) → AreDistinct (ns ++ m ∷ ms) → list_any (same_name m) ns ≡ false
 distinct_behind [] m ms h = refl
 distinct_behind (n ∷ ns) m ms h =
@@ -97,12 +100,14 @@ new_label at before (bytes bs) es h = refl
 new_label at before (word o) es h = refl
 new_label at before (label n) es h = absent n at before (distinct_behind (names_of before) n (names_of es) (subst AreDistinct (names_append before (label n ∷ es)) h))
 
+-- an item that ends below 65,536 does not run past the end
 pub ends_below : (a : ℕ) (e : Entry) → a + size_of e < 65536 → runs_past a e ≡ false
 ends_below a (instr n m o) h = grind (arith, nat_tests)
 ends_below a (label n) h = grind (arith, nat_tests)
 ends_below a (bytes bs) h = grind (arith, nat_tests)
 ends_below a (word o) h = grind (arith, nat_tests)
 
+-- items of suitable operands and distinct labels that end below 65,536 pass the first pass
 pub placed_suits : (at : ℕ) (before es : List Entry) → list_all has_mode es ≡ true → AreDistinct (names_of (before ++ es)) → at + size before + size es < 65536
     → first_fault (place_fault_in at) before es ≡ None
 placed_suits at before [] m d l = refl

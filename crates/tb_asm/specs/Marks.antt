@@ -1,4 +1,4 @@
--- The rounds of settling as the code keeps them: a mark for each item, whether two items stand for it.
+-- The rounds of settling as the code keeps them: a mark for each item, whether two items replace it.
 use Rattle.std.specs.Prelude.{◌≡◌, ℕ, ◌+◌, ◌%◌, Bool, true, false, not, ◌&&◌, ◌||◌, Option, Some, None, option_map, List, [], ◌∷◌, ◌++◌, map, Result, Ok, Err}
 use Rattle.tb_asm.specs.declared.names.Name.{Name}
 use Rattle.tb_asm.specs.declared.items.Item.{Item}
@@ -7,7 +7,7 @@ use Rattle.tb_asm.specs.declared.errors.AsmErrorKind.TheVariants.{UnknownLabel, 
 use Rattle.tb_asm.specs.Layout.{Entry, entry_of, address_in, label_at, first_fault}
 use Rattle.tb_asm.specs.Settle.{Form, kept, lengthened, form_size, is_far, unknown_fault, SettleRefuses}
 
--- the form of an item by its mark: a marked branch to a label is two items, any other item stands as it is
+-- the form of an item by its mark: a marked branch to a label is two items, any other item is as it is
 abbrev pub form_of : Bool → Entry → Form
 form_of false e = kept e
 form_of true e = lengthened (kept e)
@@ -30,11 +30,11 @@ new_mark labels a [] bs = false
 new_mark labels a (e ∷ es) [] = false
 new_mark labels a (e ∷ es) (b ∷ bs) = (not b && is_far labels a e) || new_mark labels (a + form_size (form_of b e)) es bs
 
--- an address modulo 65,536, where there is one
+-- an address modulo 65,536, if there is one
 abbrev pub wrapped : Option ℕ → Option ℕ
 wrapped o = option_map (λ a. a % 65536) o
 
--- each name has in `found` its address in `labels` modulo 65,536, and none where it has none there
+-- each name has in `found` its address in `labels` modulo 65,536, or none if it has none there
 abbrev pub FoundAs : List (Name × ℕ) → List (Name × ℕ) → Type 0
 FoundAs found labels = (n : Name) → address_in found n ≡ wrapped (address_in labels n)
 
@@ -43,16 +43,16 @@ abbrev pub or_found : Option ℕ → Option ℕ → Option ℕ
 or_found None next = next
 or_found (Some a) next = Some a
 
--- a label is added where no earlier item has it
+-- a label is added if no earlier item has it
 abbrev pub AddsLabel : List (Name × ℕ) → ℕ → Entry → List (Name × ℕ) → Type 0
 AddsLabel old a e new = (n : Name) → address_in new n ≡ or_found (address_in old n) (address_in (label_at a e) n)
 
--- items are put behind the others, unless memory is short
+-- items are put after the others, unless memory is short
 abbrev pub PushesEntries : {U : Type 0} → List Item → List Entry → Result U AsmErrorKind → List Item → Type 0
 PushesEntries old es (Ok u) new = map entry_of new ≡ map entry_of old ++ es
 PushesEntries old es (Err k) new = k ≡ NoMemory
 
--- a refusal of settling: want of memory names item 0
+-- a refusal of settling; out of memory names item 0
 abbrev pub SettleErr : ℕ → List Entry → AsmErrorKind → ℕ → Type 0
 SettleErr at es NoMemory i = i ≡ 0
 SettleErr at es k i = SettleRefuses at es k i

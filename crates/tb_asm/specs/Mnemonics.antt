@@ -6,7 +6,7 @@ use Rattle.tb_opcodes.specs.declared.Mnemonic.TheVariants.{Adc, And, Asl, Bcc, B
 use Rattle.tb_opcodes.specs.declared.Mnemonic.TheVariants.{Dec, Dex, Dey, Eor, Inc, Inx, Iny, Jmp, Jsr, Lda, Ldx, Ldy, Lsr, Nop, Ora, Pha, Php, Pla, Plp, Rol}
 use Rattle.tb_opcodes.specs.declared.Mnemonic.TheVariants.{Ror, Rti, Rts, Sbc, Sec, Sed, Sei, Sta, Stx, Sty, Tax, Tay, Tsx, Txa, Txs, Tya}
 
--- the names of the mnemonics
+-- the name of a mnemonic, three upper-case letters
 abbrev pub name_of : Mnemonic → List ℕ
 name_of Adc = codes "ADC"
 name_of And = codes "AND"
@@ -80,6 +80,6 @@ abbrev pub find_mnemonic : List Mnemonic → List ℕ → Option Mnemonic
 find_mnemonic [] w = None
 find_mnemonic (n ∷ ns) w = if same_text (name_of n) w then Some n else find_mnemonic ns w
 
--- the mnemonic that letters in upper case spell, None where they spell none
+-- the mnemonic that letters in upper case spell, None if they spell none
 abbrev pub mnemonic_of : List ℕ → Option Mnemonic
 mnemonic_of w = find_mnemonic all_mnemonics w

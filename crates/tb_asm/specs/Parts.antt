@@ -14,7 +14,7 @@ number_of (a ∷ b ∷ []) = Some (TwoDigits (16 * a + b))
 number_of (a ∷ b ∷ c ∷ d ∷ []) = Some (FourDigits (4096 * a + 256 * b + 16 * c + d))
 number_of ds = None
 
--- where the reading stands: between two parts, in an identifier or in a number, with what was read of it
+-- where the reading is: between two parts, in an identifier or in a number, with what was read of it
 pub data Place : Type 0 where
   between : Place
   in_identifier : List ℕ → Place
@@ -24,7 +24,7 @@ pub data Place : Type 0 where
 abbrev pub digit_value : ℕ → Option ℕ
 digit_value b = if is_between 48 57 b then Some (b - 48) else if is_between 65 70 b then Some (b - 55) else if is_between 97 102 b then Some (b - 87) else None
 
--- the sign that a byte is: `#`, `<`, `>`, `(`, `)`, a comma or a colon; None for any other byte
+-- the sign of a byte: `#`, `<`, `>`, `(`, `)`, a comma or a colon; None for any other byte
 abbrev pub sign_of : ℕ → Option Part
 sign_of b =
     if eqb b 35 then Some Hash else
@@ -35,12 +35,12 @@ sign_of b =
     if eqb b 44 then Some Comma else
     if eqb b 58 then Some Colon else None
 
--- a part before those that are read behind it, None where these are refused
+-- a part before those that are read after it, None if these are refused
 abbrev pub with_part : Part → Option (List Part) → Option (List Part)
 with_part p None = None
 with_part p (Some ps) = Some (p ∷ ps)
 
--- a part that may be refused before those that are read behind it, None where it or these are refused
+-- a part that may be refused before those that are read after it, None if it or these are refused
 abbrev pub with_found : Option Part → Option (List Part) → Option (List Part)
 with_found None ps = None
 with_found (Some p) ps = with_part p ps
@@ -53,32 +53,32 @@ fresh b go =
     if is_letter (fold_byte b) || eqb b 46 then go (in_identifier (fold_byte b ∷ [])) else
     if eqb b 36 then go (in_number []) else with_found (sign_of b) (go between)
 
--- the byte b in an identifier behind the letters `w`, of which it has at most 31
+-- the byte b in an identifier after the letters `w`, of which it has at most 31
 abbrev pub letter_on : List ℕ → ℕ → (Place → Option (List Part)) → Option (List Part)
 letter_on w b go = if nat_lt (length w) 31 then go (in_identifier (w ++ b ∷ [])) else None
 
--- the byte b in a number behind the digits `ds`, of which it has at most four: a digit, or what is behind it
+-- the byte b in a number after the digits `ds`, of which it has at most four: a digit, or the byte after the number
 abbrev pub digit_on : Option ℕ → List ℕ → ℕ → (Place → Option (List Part)) → Option (List Part)
 digit_on None ds b go = with_found (number_of ds) (fresh b go)
 digit_on (Some d) ds b go = if nat_lt (length ds) 4 then go (in_number (ds ++ d ∷ [])) else None
 
--- the byte b at a place of the reading; `go` reads on from the place behind it
+-- the byte b at a place of the reading; `go` reads on from the place after it
 abbrev pub step : Place → ℕ → (Place → Option (List Part)) → Option (List Part)
 step between b go = fresh b go
 step (in_identifier w) b go = if may_follow (fold_byte b) then letter_on w (fold_byte b) go else with_part (identifier w) (fresh b go)
 step (in_number ds) b go = digit_on (digit_value b) ds b go
 
--- the part that ends with the line, if any; None where it is a number of neither two nor four digits
+-- the part that ends with the line, if any; None if it is a number of neither two nor four digits
 abbrev pub finish : Place → Option (List Part)
 finish between = Some []
 finish (in_identifier w) = Some (identifier w ∷ [])
 finish (in_number ds) = with_found (number_of ds) (Some [])
 
--- the parts of what is left of a line from a place of the reading on, None where they are refused
+-- the parts of what is left of a line from a place of the reading on, None if they are refused
 abbrev pub parts_from : Place → List ℕ → Option (List Part)
 parts_from p [] = finish p
 parts_from p (b ∷ bs) = step p b (λ q. parts_from q bs)
 
--- the parts of a line; None where a byte begins no part, or a part is too long or has three digits or one
+-- the parts of a line; None if a byte begins no part, or a part is too long or has three digits or one
 abbrev pub parts_of : List ℕ → Option (List Part)
 parts_of line = parts_from between line

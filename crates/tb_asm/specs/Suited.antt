@@ -8,7 +8,7 @@ use Rattle.tb_asm.specs.declared.names.Name.{Name}
 use Rattle.tb_asm.specs.declared.items.Operand.{Operand}
 use Rattle.tb_asm.specs.Layout.{Entry, instr, label, size_of, size, has_mode, same_name, address_in, labels_from, bytes_of, code_fault}
 
--- the bytes of each item stand at its place
+-- the bytes of each item are at its place
 abbrev pub BytesStand : ℕ → List Entry → List ℕ → List (Name × ℕ) → Type 0
 BytesStand at es image labels =
     (before : List Entry) (e : Entry) (after : List Entry) → es ≡ before ++ e ∷ after → take (size_of e) (drop (size before) image) ≡ bytes_of labels (at + size before) e
@@ -18,7 +18,7 @@ abbrev pub Decodes : List Entry → List ℕ → Type 0
 Decodes es image =
     (before : List Entry) (n : Mnemonic) (m : Mode) (o : Operand) (after : List Entry) → es ≡ before ++ instr n m o ∷ after → decoded (slice_index image (size before)) ≡ Some (n, m)
 
--- the value of each label is the address where its item stands
+-- the value of each label is the address of its item
 abbrev pub LabelsStand : ℕ → List Entry → List (Name × ℕ) → Type 0
 LabelsStand at es labels =
     (before : List Entry) (n : Name) (after : List Entry) → es ≡ before ++ label n ∷ after → address_in labels n ≡ Some (at + size before)

@@ -15,7 +15,7 @@ use indexmap::IndexMap;
 use std::alloc::Global;
 use tb_opcodes::{Mnemonic, Mode};
 
-/// The size of an inverse branch and a jump.
+/// The size of an inverse branch and a jump, in bytes.
 const LONG: usize = 5;
 
 /// In rounds, until every branch to a label reaches, each one that does not reach by the round's addresses is replaced
@@ -181,7 +181,7 @@ fn is_far(labels: &Labels, address: u16, item: &Item) -> bool
     }
 }
 
-// The size of an item, or of the two that stand for it.
+// The size of an item, or of the two that replace it, in bytes.
 fn size(item: &Item, long: bool) -> usize
     ensures { result ≡ form_size (form_of long (entry_of item.now)) }
 {
@@ -191,7 +191,7 @@ fn size(item: &Item, long: bool) -> usize
     }
 }
 
-// The address behind an item, modulo 65,536.
+// The address after an item, modulo 65,536.
 fn behind(address: u16, size: usize) -> u16
     ensures { result ≡ (address + size) % 65536 }
 {
@@ -238,7 +238,7 @@ fn rebuild(alloc: Global, at: u16, items: &[Item], long: &[bool]) -> Result<Vec<
     Ok(settled)
 }
 
-// Appends an item, or the two that stand for it.
+// Appends an item, or the two that replace it.
 fn push_form(
     settled: &mut Vec<Item>,
     address: u16,

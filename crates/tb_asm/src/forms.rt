@@ -25,7 +25,7 @@ pub fn read_items(alloc: Global, parts: &[Part], items: &mut Vec<Item>) -> Resul
     read_first(alloc, letters, rest, items)
 }
 
-// The identifier that stands first, and the parts behind it.
+// The identifier at the front, and the parts after it.
 fn first_word(parts: &[Part]) -> Option<(&ArrayVec<u8, 31>, &[Part])>
     ensures { MatchOption result (IsNoWord parts.now) (λ r. parts.now ≡ Part.Identifier r.0.now ∷ r.1.now) }
 {
@@ -122,14 +122,14 @@ fn read_item(alloc: Global, word: &[u8], parts: &[Part]) -> Result<Item, LineErr
     Ok(Item::Instr(mnemonic, mode, operand))
 }
 
-// Whether an operand without a mode of its own is a target.
+// Whether the mnemonic is a branch, so that an address after it is a target.
 fn is_branch(mnemonic: Mnemonic) -> bool
     ensures { result ≡ is_branch mnemonic }
 {
     encode(mnemonic, Mode::Relative).is_some()
 }
 
-// The mode and the operand behind a mnemonic.
+// The mode and the operand after a mnemonic.
 fn read_form(branch: bool, parts: &[Part]) -> Result<(Mode, Operand), LineError>
     ensures { Reads (λ f. f) (operand_form branch parts.now) result }
 {
@@ -211,7 +211,7 @@ fn by_index(
     Err(LineError::Bad)
 }
 
-// What stands behind `#`.
+// The mode and the operand after `#`.
 fn read_immediate(parts: &[Part]) -> Result<(Mode, Operand), LineError>
     ensures { Reads (λ f. f) (after_hash parts.now) result }
 {
@@ -227,7 +227,7 @@ fn read_immediate(parts: &[Part]) -> Result<(Mode, Operand), LineError>
     }
 }
 
-// What stands behind `(`.
+// The mode and the operand after `(`.
 fn read_indirect(parts: &[Part]) -> Result<(Mode, Operand), LineError>
     ensures { Reads (λ f. f) (after_left parts.now) result }
 {
@@ -241,7 +241,7 @@ fn read_indirect(parts: &[Part]) -> Result<(Mode, Operand), LineError>
     }
 }
 
-// What stands behind `(` and two digits.
+// The mode and the operand after `(` and two digits.
 fn read_byte_in_brackets(byte: u8, parts: &[Part]) -> Result<(Mode, Operand), LineError>
     ensures { Reads (λ f. f) (byte_in_brackets byte parts.now) result }
 {
@@ -277,7 +277,7 @@ fn is_register(word: &[u8], letter: u8) -> bool
     word == [letter].as_slice()
 }
 
-// The bytes behind `.byte`.
+// The bytes after `.byte`.
 fn read_bytes(alloc: Global, parts: &[Part]) -> Result<Vec<u8>, LineError>
     ensures { Reads (λ bytes. bytes.items) (byte_list parts.now) result }
 {

@@ -64,7 +64,7 @@ const MNEMONICS: [Mnemonic; 56] = [
     Mnemonic::Tya,
 ];
 
-/// The mnemonic that three upper-case letters name.
+/// The mnemonic that upper-case letters spell; `None` if they spell none.
 pub fn mnemonic(word: &[u8]) -> Option<Mnemonic>
     ensures { result ≡ mnemonic_of word.now }
 {

@@ -45,7 +45,7 @@ pub fn read_parts(line: &[u8], parts: &mut Vec<Part>) -> Result<(), LineError>
     Ok(())
 }
 
-/// The bytes behind the first ones.
+/// The bytes after the first ones.
 pub fn behind(bytes: &[u8], size: usize) -> &[u8]
     requires { size ≤ length bytes.now }
     ensures { result.now ≡ drop size bytes.now }
@@ -53,7 +53,7 @@ pub fn behind(bytes: &[u8], size: usize) -> &[u8]
     bytes.split_at(size).1
 }
 
-// The part that stands first, if it is none of spaces and a comment, with its size.
+// The part at the front with its size, unless there is a space or a comment.
 fn read_part(byte: u8, after: &[u8]) -> Option<(Option<Part>, usize)>
     ensures { ReadsFirst (parts_of (byte ∷ after.now)) (byte ∷ after.now) result }
 {
@@ -108,7 +108,7 @@ fn number(digits: &[u8]) -> Option<Part>
     }
 }
 
-// The letters of an identifier in upper case, with the count of those behind the first one.
+// The letters of an identifier in upper case, with the count of those after the first one.
 fn read_letters(first: u8, after: &[u8]) -> Option<(ArrayVec<u8, 31>, usize)>
     ensures { ReadsRun (λ w. Some (Part.Identifier w)) (parts_from (in_identifier (first ∷ [])) after.now) after.now result }
 {

@@ -10,7 +10,8 @@ use crate::items::Item;
 use crate::parts::{Part, behind, read_parts};
 use std::alloc::Global;
 
-/// The items of a text, or its first line that is none of the format's. A line is nothing, a label and a colon, an
+/// The items of a text, or its first line that the format does not allow, from 1. A line is nothing, a label and a
+/// colon, an item, or a label and an item.
 /// item, or a label and an item.
 pub fn read_text(alloc: Global, text: &[u8]) -> Result<Vec<Item>, TextError>
     ensures { ReadsText (λ items. map entry_of items.items) (items_of_text text.now) result }
@@ -34,7 +35,7 @@ pub fn read_text(alloc: Global, text: &[u8]) -> Result<Vec<Item>, TextError>
     }
 }
 
-// Puts the items of a line behind the others. The list of parts is used anew.
+// Puts the items of a line after the others. The list of parts is reused.
 fn read_line(
     alloc: Global,
     line: &[u8],
