@@ -15,7 +15,7 @@ use Rattle.tb_cpu.specs.Instructions.{advanced, branch_target, place_of}
 
 -- ---- the base: no page crossed, no branch taken
 
--- an instruction that reads its operand; a mode that none of these has counts nothing
+-- an instruction that reads its operand; 0 for a mode that no such instruction has
 abbrev pub reading_base : Mode → ℕ
 reading_base Immediate = 2
 reading_base ZeroPage = 3
@@ -40,7 +40,7 @@ storing_base IndirectX = 6
 storing_base IndirectY = 6
 storing_base _ = 0
 
--- an instruction that changes a byte where it lies, or A
+-- an instruction that changes a byte in place, or A
 abbrev pub changing_base : Mode → ℕ
 changing_base Accumulator = 2
 changing_base ZeroPage = 5
@@ -55,7 +55,7 @@ jump_base Absolute = 3
 jump_base Indirect = 5
 jump_base _ = 0
 
--- by mnemonic
+-- the base of a mnemonic in a mode
 abbrev pub base_of : Mnemonic → Mode → ℕ
 base_of Adc mode = reading_base mode
 base_of And mode = reading_base mode
@@ -89,14 +89,14 @@ base_of Pla mode = 4
 base_of Plp mode = 4
 base_of _ mode = 2
 
--- the base of a byte's instruction, 0 where the byte is no opcode
+-- the base of a byte's instruction, 0 if the byte is no opcode
 abbrev pub base_by : Option (Mnemonic × Mode) → ℕ
 base_by None = 0
 base_by (Some (mnemonic, mode)) = base_of mnemonic mode
 
 -- ---- what comes on top
 
--- the instructions that read their operand and have an indexed mode; the others take the time for a crossed page always
+-- the instructions that read their operand and have an indexed mode; those that write it always take the longer time
 abbrev pub reads_indexed : Mnemonic → Bool
 reads_indexed Adc = true
 reads_indexed And = true
@@ -109,19 +109,19 @@ reads_indexed Ora = true
 reads_indexed Sbc = true
 reads_indexed _ = false
 
--- two addresses lie in one page of 256 bytes
+-- whether two addresses are in one page of 256 bytes
 abbrev pub same_page : ℕ → ℕ → Bool
 same_page a b = a / 256 == b / 256
 
--- the registers with no index in X and Y
+-- the registers with 0 in X and Y
 abbrev pub unindexed : Regs → Regs
 unindexed r = record r { x = 0; y = 0 }
 
--- the index leads out of the page: the operand of the instruction at PC lies in another page than it does with no index
+-- whether the index leads out of the page: the operand of the instruction at PC is in another page than without index
 abbrev pub crosses_page : Regs → Reader → Bool
 crosses_page r read = not (same_page (place_of r read) (place_of (unindexed r) read))
 
--- one for a page that a reading instruction's index crosses
+-- 1 for a page that a reading instruction's index crosses
 abbrev pub index_extra : Mnemonic → Regs → Reader → ℕ
 index_extra mnemonic r read = if reads_indexed mnemonic && crosses_page r read then 1 else 0
 
@@ -137,7 +137,7 @@ is_taken Bne f = not f.z
 is_taken Beq f = f.z
 is_taken _ f = false
 
--- a taken branch from the next instruction to a target: one, and two where that lies in another page
+-- a taken branch from the next instruction to a target: 1, or 2 if the target is in another page
 abbrev pub taken_extra : ℕ → ℕ → ℕ
 taken_extra next target = if same_page next target then 1 else 2
 
@@ -146,12 +146,12 @@ abbrev pub distance_extra : Regs → Result ℕ Wrong → ℕ
 distance_extra r (Ok distance) = taken_extra r.pc (branch_target r distance)
 distance_extra r (Err w) = 0
 
--- a branch: nothing where it is not taken
+-- a branch: 0 if it is not taken
 abbrev pub branch_extra : Mnemonic → Regs → Reader → ℕ
 branch_extra mnemonic r read =
     if is_taken mnemonic r.flags then distance_extra (advanced r Relative) (read ((r.pc + 1) % 65536)) else 0
 
--- by mode
+-- what comes on top for a mnemonic in a mode
 abbrev pub extra_of : Mnemonic → Mode → Regs → Reader → ℕ
 extra_of mnemonic AbsoluteX r read = index_extra mnemonic r read
 extra_of mnemonic AbsoluteY r read = index_extra mnemonic r read
@@ -166,11 +166,11 @@ abbrev pub cycles_of : Option (Mnemonic × Mode) → Regs → Reader → ℕ
 cycles_of None r read = 0
 cycles_of (Some (mnemonic, mode)) r read = base_of mnemonic mode + extra_of mnemonic mode r read
 
--- the same, where the opcode can be read
+-- the same, 0 if the opcode cannot be read
 abbrev pub cycles_by : Result ℕ Wrong → Regs → Reader → ℕ
 cycles_by (Ok opcode) r read = cycles_of (decoded opcode) r read
 cycles_by (Err w) r read = 0
 
--- the cycles of the instruction at PC; 0 where there is none
+-- the cycles of the instruction at PC; 0 if there is none
 abbrev pub cycles_at : Regs → Reader → ℕ
 cycles_at r read = cycles_by (read r.pc) r read

@@ -1,7 +1,7 @@
 //! The cycles of instructions of the NMOS 6502, as the MCS6500 Programming Manual gives them.
 //!
 //! The definition is `specs/Cycles.antt`: a base by kind and mode, one more for a page that a reading instruction's
-//! index crosses, one for a branch that is taken, and two where that branch leads into another page. The code has a
+//! index crosses, one more for a branch that is taken, or two if that branch leads into another page. The code has a
 //! table of its own, in the order of the opcodes, and the proof compares the two. No call takes memory.
 #![tactic(auto)]
 
@@ -17,7 +17,7 @@ use tb_cpu::{Flags, Regs, operand_place};
 use tb_memmap::Memory;
 use tb_opcodes::{Mnemonic, Mode, decode};
 
-/// The base cycles of each opcode: 16 rows of 16, the high digit first. 0 stands where a byte is no opcode.
+/// The base cycles of each opcode: 16 rows of 16, by the high hexadecimal digit. 0 for a byte that is no opcode.
 static BASE: [u8; 256] = [
     7, 6, 0, 0, 0, 3, 5, 0, 3, 2, 2, 0, 0, 4, 6, 0, //
     2, 5, 0, 0, 0, 4, 6, 0, 2, 4, 0, 0, 0, 4, 7, 0, //
@@ -37,7 +37,7 @@ static BASE: [u8; 256] = [
     2, 5, 0, 0, 0, 4, 6, 0, 2, 4, 0, 0, 0, 4, 7, 0, //
 ];
 
-/// The cycles of an opcode where no page is crossed and no branch taken; 0 where the byte is no opcode.
+/// The cycles of an opcode if no page is crossed and no branch taken, from 2 to 7; 0 if the byte is no opcode.
 pub fn base(opcode: u8) -> u8
     ensures value { result ≡ base_by (decoded opcode) }
     ensures few { result ≤ 7 }
@@ -85,7 +85,7 @@ fn crosses_page(regs: &Regs, memory: &Memory) -> bool
     )
 }
 
-// What a crossed page adds.
+// The cycles that a crossed page adds: 0 or 1.
 fn index_extra(mnemonic: Mnemonic, regs: &Regs, memory: &Memory) -> u8
     ensures value { result ≡ index_extra mnemonic regs.now (reading (at memory.now)) }
     ensures few { result ≤ 1 }
@@ -114,7 +114,7 @@ fn is_taken(mnemonic: Mnemonic, flags: Flags) -> bool
     }
 }
 
-// What a taken branch adds, by its distance; PC is already at the next instruction.
+// The cycles that a taken branch adds, 1 or 2, by its distance; PC is already at the next instruction.
 fn taken_extra(next: &Regs, distance: u8) -> u8
     ensures value { result ≡ taken_extra next.now.pc (branch_target next.now distance) }
     ensures few { result ≤ 2 }
@@ -131,7 +131,7 @@ fn taken_extra(next: &Regs, distance: u8) -> u8
     }
 }
 
-// What a branch adds.
+// The cycles that a branch adds: 0 to 2.
 fn branch_extra(mnemonic: Mnemonic, regs: &Regs, memory: &Memory) -> u8
     ensures value { result ≡ branch_extra mnemonic regs.now (reading (at memory.now)) }
     ensures few { result ≤ 2 }
@@ -151,7 +151,7 @@ fn branch_extra(mnemonic: Mnemonic, regs: &Regs, memory: &Memory) -> u8
     }
 }
 
-// What comes on top of the base.
+// The cycles that come on top of the base: 0 to 2.
 fn extra(mnemonic: Mnemonic, mode: Mode, regs: &Regs, memory: &Memory) -> u8
     ensures value { result ≡ extra_of mnemonic mode regs.now (reading (at memory.now)) }
     ensures few { result ≤ 2 }
@@ -163,7 +163,7 @@ fn extra(mnemonic: Mnemonic, mode: Mode, regs: &Regs, memory: &Memory) -> u8
     }
 }
 
-/// The cycles of the instruction at PC; 0 where there is none.
+/// The cycles of the instruction at PC; 0 if there is none.
 pub fn cycles(regs: &Regs, memory: &Memory) -> u8
     ensures value { result ≡ cycles_at regs.now (reading (at memory.now)) }
     ensures few { result ≤ 9 }
