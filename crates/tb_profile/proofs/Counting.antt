@@ -13,6 +13,7 @@ use Rattle.tb_profile.specs.Steps.{Step, is_place, line_by, step_of, steps, cycl
 use Rattle.tb_profile.specs.Tallies.{Counted, IsTally, last_line, with_step, CountsEvent}
 use Rattle.tb_profile.proofs.Marking.{more_at}
 
+-- a run has at most one step for each event
 pub few_steps : (places : List ℕ) (line : ℕ) (es : List Event) (s : State) → length (steps places line es s) ≤ length es
 few_steps places line [] s = omega arith
 few_steps places line (Go k ∷ es) s = omega (arith, few_steps places (step_of places line s).line es (happens s (Go k)))
@@ -36,7 +37,7 @@ last_more : (line : ℕ) (ts : List Step) (t : Step) → last_line line (ts ++ t
 last_more line [] t = refl
 last_more line (u ∷ ts) t = last_more u.line ts t
 
--- a step more
+-- one more step
 step_more : (places : List ℕ) (ts : List Step) (t : Counted) (s : Step) → IsTally places ts t
     → IsTally places (ts ++ s ∷ []) (with_step t s.pc s.line s.cycles)
 step_more places ts t s h =
@@ -59,7 +60,7 @@ step_more places ts t s h =
       spent = ap (λ n. n + s.cycles) h.spent ∙ sym (sum_by_push (λ x. x.cycles) ts s);
     }
 
--- an event more
+-- one more event
 pub event_more : (places : List ℕ) (es : List Event) (first now : State) (e : Event) (t u : Counted)
     → now ≡ run es first → IsTally places (steps places 0 es first) t → CountsEvent e now t u
     → IsTally places (steps places 0 (es ++ e ∷ []) first) u

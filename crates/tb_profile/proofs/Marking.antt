@@ -7,7 +7,7 @@ use Rattle.std.proofs.lemmas.Grind.{get_or-set_at}
 use Rattle.std.proofs.lemmas.List.{get_or-set_other}
 use Rattle.tb_profile.specs.Tallies.{with_more}
 
--- the count at an address, where a count has grown
+-- the count at an address, if a count has grown
 pub more_at : (xs : List ℕ) (p a more old : ℕ) → a < length xs → slice_index xs a ≡ old
     → slice_index (with_more xs p more) a ≡ old + (if p == a then more else 0)
 more_at xs p a more old inside h =

@@ -8,7 +8,7 @@ use Rattle.tb_profile.specs.declared.run.Profile.{Profile}
 use Rattle.tb_profile.specs.Steps.{steps}
 use Rattle.tb_profile.specs.Tallies.{IsTally}
 
--- a run of at most `limit` events that an outside gave, and the tally of its steps; nothing is said where memory was wanting
+-- a run of at most `limit` events that an outside gave, and the tally of its steps; nothing is said if memory ran out
 abbrev pub Profiled : {O : Type 0} → (O → Content → Event → O → Type 0) → O → Content → List ℕ → ℕ → Result Profile AllocError → O → Content → Type 0
 Profiled gives o m places limit (Ok profile) p n =
     (ran : RanOver gives o m limit (Ok profile.status) p n)

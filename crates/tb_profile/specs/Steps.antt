@@ -8,7 +8,7 @@ use Rattle.tb_kernal.specs.Machine.{State, happens, is_no_service}
 use Rattle.tb_kernal.specs.Places.{service_at}
 use Rattle.tb_cycles.specs.Cycles.{cycles_at}
 
--- an instruction or a service: where PC is, where the line begun last begins, and the cycles; 0 stands where no line was begun
+-- an instruction or a service: its PC, the address of the line begun last, 0 if no line was begun, and the cycles
 pub record Step : Type 0 where
   pub pc : ℕ
   pub line : ℕ
@@ -19,7 +19,7 @@ abbrev pub is_place : List ℕ → ℕ → Bool
 is_place [] a = false
 is_place (p ∷ places) a = (a == p) || is_place places a
 
--- where the line begun last begins: at PC, or as before
+-- the address of the line begun last: PC if a line begins there, else as before
 abbrev pub line_by : Bool → ℕ → ℕ → ℕ
 line_by begins line pc = if begins then pc else line
 
@@ -36,7 +36,7 @@ abbrev pub step_of : List ℕ → ℕ → State → Step
 step_of places line s =
     record { pc = s.regs.pc; line = line_by (is_place places s.regs.pc) line s.regs.pc; cycles = cycles_of_go s.regs (reading s.mem) }
 
--- the steps of a run whose lines begin at these places; interrupts are the ROM's
+-- the steps of a run whose lines begin at these places; interrupts are the ROM's, and no steps
 abbrev pub steps : List ℕ → ℕ → List Event → State → List Step
 steps places line [] s = []
 steps places line (Go k ∷ es) s = step_of places line s ∷ steps places (step_of places line s).line es (happens s (Go k))

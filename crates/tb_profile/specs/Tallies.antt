@@ -6,7 +6,7 @@ use Rattle.tb_kernal.specs.declared.events.Event.TheVariants.{Go, Interrupt}
 use Rattle.tb_kernal.specs.Machine.{State, Content, state_of, happens}
 use Rattle.tb_profile.specs.Steps.{Step, is_place, line_by, cycles_of_go, times_of, instructions_of, cycles_of}
 
--- what a tally holds: a list of 65,536 each, the line begun last, and the number of steps and their cycles in all
+-- what a tally holds: three lists of 65,536 counts, the line begun last, and the number of all steps and of their cycles
 pub record Counted : Type 0 where
   pub begins : List Bool
   pub times : List ℕ
@@ -16,7 +16,7 @@ pub record Counted : Type 0 where
   pub taken : ℕ
   pub spent : ℕ
 
--- where the line begun last begins, after some steps
+-- the address of the line begun last, after some steps
 abbrev pub last_line : ℕ → List Step → ℕ
 last_line line [] = line
 last_line line (t ∷ ts) = last_line t.line ts
@@ -32,7 +32,7 @@ pub record IsTally (places : List ℕ) (ts : List Step) (t : Counted) : Type 0 w
   pub taken : t.taken ≡ length ts
   pub spent : t.spent ≡ sum_by (λ x. x.cycles) ts
 
--- each number of a list is at most so much
+-- each number of a list is at most the given one
 abbrev pub AreAtMost : ℕ → List ℕ → Type 0
 AreAtMost most xs = (k : ℕ) → slice_index xs k ≤ most
 
@@ -40,11 +40,11 @@ AreAtMost most xs = (k : ℕ) → slice_index xs k ≤ most
 abbrev pub most_cycles : ℕ
 most_cycles = 9
 
--- so much more at an address
+-- the given amount more at an address
 abbrev pub with_more : List ℕ → ℕ → ℕ → List ℕ
 with_more xs a more = slice_set xs a (slice_index xs a + more)
 
--- a step more, of the line that begins there
+-- one more step, of the line that begins at an address
 abbrev pub with_step : Counted → ℕ → ℕ → ℕ → Counted
 with_step t pc line cycles =
     record {
@@ -57,7 +57,7 @@ with_step t pc line cycles =
       spent = t.spent + cycles;
     }
 
--- a step more, by its PC and its cycles
+-- one more step, by its PC and its cycles
 abbrev pub after_step : Counted → ℕ → ℕ → Counted
 after_step t pc cycles = with_step t pc (line_by (slice_index_or t.begins pc false) t.line pc) cycles
 

@@ -14,7 +14,7 @@ use std::alloc::{AllocError, Global};
 use tb_cycles::cycles;
 use tb_kernal::{Event, Machine, Outside, Status};
 
-/// What a service counts, whose time isn't the program's: its RTS.
+/// The cycles of a service: those of its RTS, since its other time isn't the program's.
 const SERVICE_CYCLES: u8 = 6;
 
 const CHROUT: u16 = 0xffd2;
@@ -23,7 +23,7 @@ const CHRIN: u16 = 0xffcf;
 
 const GETIN: u16 = 0xffe4;
 
-/// How a machine stands after a run, and what was counted.
+/// The status of a machine after a run, and what was counted.
 #[derive(Drop)]
 pub struct Profile {
     pub status: Status,
@@ -36,7 +36,7 @@ fn is_running(status: Status) -> bool
     matches!(status, Status::Running)
 }
 
-// Whether a service stands at an address.
+// Whether there is a service at an address.
 fn is_service(address: u16) -> bool
     ensures { result ≡ not (is_no_service (service_at address)) }
 {
@@ -56,7 +56,7 @@ fn cycles_of_go(machine: &Machine) -> u8
     }
 }
 
-// Counts the next event of a machine, where it is the program's own.
+// Counts the next event of a machine, if it is the program's own.
 fn count_event(tally: &mut Tally, event: &Event, machine: &Machine)
     requires few { tally.old.taken < 2 ^ 32 }
     ensures { CountsEvent event.now (state_of machine.now) tally.old tally.new }
@@ -66,7 +66,7 @@ fn count_event(tally: &mut Tally, event: &Event, machine: &Machine)
     }
 }
 
-// Lets an outside's next event happen in a running machine, and counts it where it is the program's own.
+// Lets an outside's next event happen in a running machine, and counts it if it is the program's own.
 fn take_event<O: Outside>(
     machine: &mut Machine,
     outside: &mut O,

@@ -6,7 +6,7 @@ ghost use Rattle.tb_profile.specs.Tallies.{IsTally, with_more, after_step, most_
 use std::alloc::{AllocError, Global};
 use std::marker::Model;
 
-/// As many addresses as there are.
+/// The number of addresses.
 const ADDRESSES: usize = 65_536;
 
 /// The steps of a run, counted by the addresses where lines begin.
@@ -125,7 +125,7 @@ fn no_marks(alloc: Global) -> Result<Vec<bool>, AllocError>
     Ok(begins)
 }
 
-// Whether a line begins, address by address.
+// For each address, whether a line begins there.
 fn marks(alloc: Global, places: &[u16]) -> Result<Vec<bool>, AllocError>
     ensures { IfOk result (λ v. (vec_len v ≡ 65536)
         × ((a : ℕ) → a < 65536 → slice_index_or v.items a false ≡ is_place places.now a)) }
