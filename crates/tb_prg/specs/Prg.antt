@@ -11,11 +11,11 @@ header =
     0x0b ∷ 0x08 ∷ 0x0a ∷ 0x00 ∷ 0x9e ∷ 0x32 ∷ 0x30 ∷ 0x36 ∷ 0x31 ∷ 0x00 ∷
     0x00 ∷ 0x00 ∷ []
 
--- an address and the bytes from there on, of which none may lie behind $FFFF
+-- an address and the bytes from there on, none of which may lie after $FFFF
 abbrev pub placed_at : ℕ → List ℕ → Result (ℕ × List ℕ) PrgError
 placed_at at bytes = if nat_lt 65536 (at + length bytes) then Err RunsPast else Ok (at, bytes)
 
--- the load address and the bytes of a file; TooShort for fewer than two bytes, RunsPast for bytes behind $FFFF
+-- the load address and the bytes of a file; TooShort for fewer than two bytes, RunsPast for bytes after $FFFF
 abbrev pub content_of : List ℕ → Result (ℕ × List ℕ) PrgError
 content_of [] = Err TooShort
 content_of (low ∷ []) = Err TooShort

@@ -20,7 +20,7 @@ pub enum PrgError {
     /// There are fewer than two bytes.
     #[error("too short")]
     TooShort,
-    /// The last byte would lie behind `$FFFF`.
+    /// The last byte would lie after `$FFFF`.
     #[error("runs past the end")]
     RunsPast,
 }
@@ -32,8 +32,8 @@ pub struct Loaded<'a> {
     pub bytes: &'a [u8],
 }
 
-/// The PRG file of an image at `$080D`: its load address is `$0801`, and there the line `10 SYS2061`
-/// stands before the image.
+/// The PRG file of an image at `$080D`: its load address is `$0801`, where the line `10 SYS2061`
+/// comes before the image. Fails only if memory runs out.
 pub fn write(alloc: Global, image: &Image) -> Result<Vec<u8>, AllocError>
     requires { image.now.at ≡ CODE_START }
     ensures { IfOk result (λ file. file.items ≡ header ++ image.now.bytes.items) }
