@@ -1,4 +1,4 @@
--- Items that suit are refused neither by settling nor by the two passes behind it.
+-- Items that suit are refused neither by settling nor by the two passes after it.
 use Rattle.std.proofs.Common.{◌≡◌, ℕ, ◌+◌, ◌/◌, ◌%◌, ◌<◌, ◌≤◌, Bool, true, false, not, ◌&&◌, ◌||◌, cond, List, []}
 use Rattle.std.proofs.Common.{◌∷◌, ◌++◌, Option, Some, None, refl, sym, ap, ◌∙◌, subst, arith, true≢false, is_some, map, if◌then◌else◌}
 use Rattle.std.specs.Prelude.{eqb}
@@ -62,7 +62,7 @@ items_modes a (e ∷ es) (f ∷ fs) h m =
     all_append (items_at a f) (items_from (a + form_size f) fs) (form_modes a e f h.0 t.0) (items_modes (a + form_size f) es fs h.1 t.1)
 
 -- ---- labels
--- whether a name has an address depends on the names alone
+-- whether a name has an address depends only on the names
 has_address : (a : ℕ) (es : List Entry) (n : Name) → is_some (address_in (labels_from a es) n) ≡ list_any (same_name n) (names_of es)
 has_address a [] n = refl
 has_address a (instr m d o ∷ es) n = has_address (a + length_of d) es n
@@ -163,7 +163,7 @@ item_reaches labels a (label n) k m h = refl
 item_reaches labels a (bytes bs) k m h = refl
 item_reaches labels a (word o) k m h = known_there (value_in labels o) k
 
--- the branch over the jump
+-- the inverse branch reaches the address after the jump
 over_reaches : (a v : ℕ) → a + 5 < 65536 → v ≡ (a + 5) % 65536 → reach_fault Relative a v ≡ None
 over_reaches a v h e =
     let three : distance a v ≡ 3 = omega (arith, h, e) in
@@ -203,6 +203,7 @@ module _ (at : ℕ) (es : List Entry) (s : Suits at es) where
   nothing_early : early_refusal at es ≡ None
   nothing_early = λ i. either (placed i) (known_first (labels_from at es) [] es s.known i)
 
+  -- settling refuses such items only if memory runs out
   pub settling_takes : (k : AsmErrorKind) (i : ℕ) → SettleErr at es k i → k ≡ NoMemory
   settling_takes = only_memory at es nothing_early (λ gs r. none_past 0 at gs (forms_end gs (settled_forms at es (map kept es) gs r (kept_forms es))))
 
@@ -214,6 +215,7 @@ module _ (at : ℕ) (es : List Entry) (s : Suits at es) where
     same_labels : (n : Name) → is_some (address_in (labels_from at items) n) ≡ is_some (address_in (labels_from at es) n)
     same_labels n = has_address at items n ∙ ap (list_any (same_name n)) same_names ∙ sym (has_address at es n)
 
+    -- such items, settled, suit
     pub suit : Suited at items
     suit =
         let labels = labels_from at items in
@@ -226,6 +228,7 @@ module _ (at : ℕ) (es : List Entry) (s : Suits at es) where
               (items_reach labels at es to.forms to.of (same_known labels (labels_from at es) same_labels es s.known) s.movable (forms_end to.forms to.of) near);
         }
 
+    -- the two passes refuse none of the settled items
     pub passes_take : refusal at items ≡ None
     passes_take = suited_accepted at items suit
 
@@ -242,14 +245,14 @@ laid_by at es items from image labels rounds reach h = record {
   labels_are = h.3;
 }
 
--- items that assemble as they are
+-- items that assemble as they are, are laid as they are
 pub laid_at_once : (at : ℕ) (es : List Entry) (from : ℕ) (image : List ℕ) (labels : List (Name × ℕ))
     → (refusal at es ≡ None) × (from ≡ at) × (image ≡ image_of at es) × (labels ≡ labels_from at es) → IsLaid at es from image labels
 laid_at_once at es from image labels h =
     let rounds = settled_as_they_are at es h.0 in
     laid_by at es es from image labels rounds (settled_reaches at es es rounds) h
 
--- where nothing is refused, it was memory that was short
+-- the two passes refuse settled items that suit only if memory runs out
 pub memory_short : (at : ℕ) (es items : List Entry) → SettlesTo at es items → AllReach at items → Suits at es → (k : AsmErrorKind) (i : ℕ)
     → RefusesAt (refusal at items) k i → k ≡ NoMemory
 memory_short at es items rounds reach s k i h = by k (subst (λ r. RefusesAt r k i) (passes_take at es s items (settled_by at es items rounds reach)) h)

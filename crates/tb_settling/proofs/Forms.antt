@@ -1,4 +1,4 @@
--- Forms of items: their sizes, their labels, and lists of them one behind the other.
+-- Forms of items: their sizes, their labels, and lists of them one after the other.
 use Rattle.std.proofs.Common.{◌≡◌, ℕ, ◌+◌, ◌≤◌, Bool, true, false, not, ◌||◌, List, [], ◌∷◌, ◌++◌, Option, Some, None, refl}
 use Rattle.std.proofs.Common.{sym, ap, ◌∙◌, subst, arith, add_assoc, append_assoc, true≢false, is_some, map, if◌then◌else◌}
 use Rattle.std.specs.List.{list_all}
@@ -26,6 +26,7 @@ unfolding from_branch
 back (instr n Relative (Label l)) = refl
 back e = refl
 
+-- a branch to a label is an instruction in the mode Relative with that label
 pub is_branch : (e : Entry) (n : Mnemonic) (l : Name) → branch_to e ≡ Some (n, l) → e ≡ instr n Relative (Label l)
 unfolding from_branch
 is_branch e n l h = sym (back e) ∙ ap (from_branch e) h
@@ -53,6 +54,7 @@ widened_forms labels a [] (f ∷ fs) h = absurd h
 widened_forms labels a (e ∷ es) [] h = absurd h
 widened_forms labels a (e ∷ es) (f ∷ fs) h = (widened_form (form_far labels a f) e f h.0, widened_forms labels (a + form_size f) es fs h.1)
 
+-- the forms after all rounds are forms of the same items
 pub settled_forms : (at : ℕ) (es : List Entry) (fs gs : List Form) → Settles at fs gs → AreFormsOf es fs → AreFormsOf es gs
 settled_forms at es fs gs (done hs near) h = h
 settled_forms at es fs gs (more hs ks far rest) h = settled_forms at es (round at hs) ks rest (widened_forms (round_labels at hs) at es hs h)
@@ -71,14 +73,17 @@ abbrev pub forms_size : List Form → ℕ
 forms_size [] = 0
 forms_size (f ∷ fs) = form_size f + forms_size fs
 
+-- items kept as they are have their own size
 pub kept_size : (es : List Entry) → forms_size (map kept es) ≡ size es
 kept_size [] = refl
 kept_size (e ∷ es) = ap (λ n. size_of e + n) (kept_size es)
 
+-- the size of two lists of items is the sum of both
 pub size_append : (xs ys : List Entry) → size (xs ++ ys) ≡ size xs + size ys
 size_append [] ys = omega arith
 size_append (x ∷ xs) ys = ap (λ n. size_of x + n) (size_append xs ys) ∙ sym (add_assoc (size_of x) (size xs) (size ys))
 
+-- the items of forms have the size of the forms
 pub items_size : (a : ℕ) (fs : List Form) → size (items_from a fs) ≡ forms_size fs
 items_size a [] = refl
 items_size a (f ∷ fs) = size_append (items_at a f) (items_from (a + form_size f) fs) ∙ (λ i. size_at a f i + items_size (a + form_size f) fs i)
@@ -91,21 +96,24 @@ form_most : (e : Entry) (f : Form) → IsFormOf e f → form_size f ≤ most_of 
 form_most e (kept k) h = subst (λ x. size_of x ≤ most_of e) (sym h) (item_most e (branch_to e) refl)
 form_most e (long n l) h = let five : most_of e ≡ 5 = ap (λ o. if is_some o then 5 else size_of e) h in omega (arith, five)
 
+-- forms take at most as many bytes as their items can take
 pub forms_most : (es : List Entry) (fs : List Form) → AreFormsOf es fs → forms_size fs ≤ most es
 forms_most [] [] h = omega arith
 forms_most [] (f ∷ fs) h = absurd h
 forms_most (e ∷ es) [] h = absurd h
 forms_most (e ∷ es) (f ∷ fs) h = let a = form_most e f h.0 in let b = forms_most es fs h.1 in omega (arith, a, b)
 
+-- two lists of items take at most the sum of what both can take
 pub most_append : (xs ys : List Entry) → most (xs ++ ys) ≡ most xs + most ys
 most_append [] ys = omega arith
 most_append (x ∷ xs) ys = ap (λ n. most_of x + n) (most_append xs ys) ∙ sym (add_assoc (most_of x) (most xs) (most ys))
 
--- ---- one list behind the other
+-- ---- one list after the other
 pub forms_append : (fs gs : List Form) → forms_size (fs ++ gs) ≡ forms_size fs + forms_size gs
 forms_append [] gs = omega arith
 forms_append (f ∷ fs) gs = ap (λ n. form_size f + n) (forms_append fs gs) ∙ sym (add_assoc (form_size f) (forms_size fs) (forms_size gs))
 
+-- the items of two lists of forms are those of the first and then those of the second
 pub items_append : (a : ℕ) (fs gs : List Form) → items_from a (fs ++ gs) ≡ items_from a fs ++ items_from (a + forms_size fs) gs
 items_append a [] gs = ap (λ n. items_from n gs) (let e : a ≡ a + 0 = omega arith in e)
 items_append a (f ∷ fs) gs =
@@ -121,6 +129,7 @@ pub record Split (xs ys : List Entry) (forms : List Form) : Type 0 where
   pub of_front : AreFormsOf xs front
   pub of_back : AreFormsOf ys back
 
+-- forms of two lists of items are those of the first and then those of the second
 pub split : (xs ys : List Entry) (fs : List Form) → AreFormsOf (xs ++ ys) fs → Split xs ys fs
 split [] ys fs h = record { front = []; back = fs; are = refl; of_front = tt; of_back = h }
 split (x ∷ xs) ys [] h = absurd h
@@ -128,7 +137,7 @@ split (x ∷ xs) ys (f ∷ fs) h =
     let s = split xs ys fs h.1 in
     record { front = f ∷ s.front; back = s.back; are = ap (λ t. f ∷ t) s.are; of_front = (h.0, s.of_front); of_back = s.of_back }
 
--- where all branches of two lists reach, those of each do
+-- if all branches of two lists reach their labels, those of each do
 pub near_split : (labels : List (Name × ℕ)) (a : ℕ) (xs ys : List Entry) → some_branch_far labels a (xs ++ ys) ≡ false
     → (some_branch_far labels a xs ≡ false) × (some_branch_far labels (a + size xs) ys ≡ false)
 near_split labels a [] ys h = (refl, ap (λ n. some_branch_far labels n ys) (let e : a + 0 ≡ a = omega arith in e) ∙ h)
@@ -154,11 +163,12 @@ items_names a (e ∷ es) (f ∷ fs) h =
 abbrev pub is_straight : Entry → Bool
 is_straight e = not (is_some (branch_to e))
 
+-- an item that is no branch to a label has one form, itself
 pub straight_form : (e : Entry) (f : Form) → is_straight e ≡ true → IsFormOf e f → f ≡ kept e
 straight_form e (kept k) s h = ap kept h
 straight_form e (long n l) s h = absurd (true≢false (sym s ∙ ap (λ o. not (is_some o)) h))
 
--- are settled as they are
+-- items without a branch to a label are settled as they are
 pub straight_forms : (es : List Entry) (fs : List Form) → list_all is_straight es ≡ true → AreFormsOf es fs → fs ≡ map kept es
 straight_forms [] [] s h = refl
 straight_forms [] (f ∷ fs) s h = absurd h

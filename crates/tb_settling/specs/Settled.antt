@@ -13,7 +13,7 @@ use Rattle.tb_asm.specs.Marks.{SettleErr}
 use Rattle.tb_asm.specs.Suited.{names_of, AreDistinct}
 
 -- ── settled items ──
--- a form of an item: the item, or the two items that stand for a branch to a label
+-- a form of an item: the item, or the two items that replace a branch to a label
 abbrev pub IsFormOf : Entry → Form → Type 0
 IsFormOf e (kept k) = k ≡ e
 IsFormOf e (long n l) = branch_to e ≡ Some (n, l)
@@ -22,14 +22,14 @@ IsFormOf e (long n l) = branch_to e ≡ Some (n, l)
 abbrev pub AreFormsOf : List Entry → List Form → Type 0
 AreFormsOf es forms = AllZip IsFormOf es forms
 
--- items that stand for others from an address: forms of these, in which each branch to a label reaches it
+-- items that replace others from an address: forms of these, in which each branch to a label reaches it
 pub record IsSettled (at : ℕ) (es items : List Entry) : Type 0 where
   pub forms : List Form
   pub of : AreFormsOf es forms
   pub are : items ≡ items_from at forms
   pub reach : AllReach at items
 
--- the image of items that are settled first; in rounds, so that no branch is replaced without need
+-- the image of items that are settled first; the rounds replace no branch that need not be replaced
 pub record IsLaid (at : ℕ) (es : List Entry) (from : ℕ) (bytes : List ℕ) (labels : List (Name × ℕ)) : Type 0 where
   pub items : List Entry
   pub settled : IsSettled at es items
@@ -54,17 +54,17 @@ abbrev pub most : List Entry → ℕ
 most [] = 0
 most (e ∷ es) = most_of e + most es
 
--- a label
+-- whether an operand is a label
 abbrev pub is_label : Operand → Bool
 is_label (Label n) = true
 is_label o = false
 
--- a fixed address that does not end by $FF
+-- whether an operand is a fixed address whose low byte is not $FF
 abbrev pub is_inside_a_page : Operand → Bool
 is_inside_a_page (Word w) = not (eqb (w % 256) 255)
 is_inside_a_page o = false
 
--- an item that may stand anywhere: a branch goes to a label, and an indirect jump has a fixed pointer inside a page
+-- an item that may be at any address: a branch goes to a label, and an indirect jump has a fixed pointer inside a page
 abbrev pub may_move : Entry → Bool
 may_move (instr n Relative o) = is_label o
 may_move (instr n Indirect o) = is_inside_a_page o

@@ -9,12 +9,12 @@ use tb_asm::{AsmError, AsmErrorKind, Image, Item, assemble, settle};
 /// The image of items from an address. Each branch to a label that does not reach it is replaced by the inverse branch
 /// over a jump to the label.
 ///
-/// A refusal of `settle` names an item as it was handed in, one of `assemble` behind it a settled item.
+/// A refusal of `settle` names an item as it was handed in, one of `assemble` after it a settled item.
 #[tactic(auto, using(crate::proofs::Accepted::settling_takes, crate::specs::Settled::unsettled))]
 pub fn assemble_settled(alloc: Global, at: u16, items: &[Item]) -> Result<Image, AsmError>
     ensures laid { IfOk result (λ image. IsLaid at (map entry_of items.now) image.at image.bytes.items image.labels.entries) }
     ensures refused { IfErr result (λ e. MayRefuse at (map entry_of items.now) e.kind e.item) }
-    // Items that suit are refused for want of memory alone.
+    // Items that suit are refused only if memory runs out.
     ensures suited { Suits at (map entry_of items.now) → IfErr result (λ e. e.kind ≡ AsmErrorKind.NoMemory) }
 {
     // Items that assemble are settled as they are.
