@@ -70,12 +70,14 @@ file_slots n i k (f ∷ fs) others are =
       file_slots n (i + 1) (k + blocks_of f) fs others (subst (λ j. AreSlots n j others) more are),
     )
 
+-- the directory's entries are those of the layout
 pub slots_are : (files : List File) → AreSlots (length files) 0 (slots files)
 slots_are files =
     let n : ℕ = length files in
     let z : n ≡ 0 + n = omega arith in
     file_slots n 0 0 files (map (no_entry n) (range_with_len n (144 - n))) (subst (λ j. AreSlots n j (map (no_entry n) (range_with_len n (144 - n)))) z (no_slots n n (144 - n)))
 
+-- the directory has 144 entries
 pub slots_length : (files : List File) → length files ≤ 144 → length (slots files) ≡ 144
 slots_length files few =
     let n : ℕ = length files in
@@ -93,11 +95,12 @@ dropped n i (suc j) (s ∷ ss) are h =
     let more : i + 1 + j ≡ i + suc j = omega arith in
     subst (λ m. AreSlots n m (drop j ss)) more (dropped n (i + 1) j ss are.1 (omega arith))
 
--- the directory is its entries, end to end
+-- joining what a function gives for each element, end to end, is `flat_map`
 concat-map : (f : ℕ → List ℕ) (xs : List ℕ) → concat (map f xs) ≡ flat_map f xs
 concat-map f [] = refl
 concat-map f (x ∷ xs) = ap (λ z. f x ++ z) (concat-map f xs)
 
+-- the directory is its entries, end to end
 pub directory_is : (files : List File) → directory_of files ≡ concat (slots files)
 directory_is files =
     let n : ℕ = length files in
@@ -223,6 +226,7 @@ slots_front files few =
     ap (λ k. take k (named ++ unused)) (sym split) ∙ sym (take-plus n (m - n) (named ++ unused))
     ∙ (λ i. front i ++ take (m - n) (back i)) ∙ ap (λ x. named ++ x) (take-map-range_with_len (no_entry n) n (144 - n) (m - n) (omega (arith, few)))
 
+-- the directory has 18 blocks of 256 bytes
 pub directory_length : (files : List File) → length files ≤ 144 → length (directory_of files) ≡ 4608
 directory_length files few =
     ap length (directory_is files) ∙ concat_length (slots files) (sizes (length files) 0 (slots files) (slots_are files)) ∙ omega (arith, slots_length files few)

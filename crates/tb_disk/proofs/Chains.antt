@@ -20,11 +20,13 @@ chain_steps most blocks p b h e =
     ∙ ap (λ q. step most blocks q (blocks q)) (place_back p h)
     ∙ ap (step most blocks p) e
 
+-- a block that links to track 0 ends the chain
 pub chain_last : (most : ℕ) (blocks : ℕ → List ℕ) (p n : ℕ) (rest : List ℕ) → p < 683 → blocks p ≡ 0 ∷ n ∷ rest → chain (suc most) blocks (track_at p)
     (sector_at p) ≡ Some (p ∷ [])
 unfolding step
 chain_last most blocks p n rest h e = chain_steps most blocks p (0 ∷ n ∷ rest) h e
 
+-- a block that links to another one goes on with that one's chain
 pub chain_next : (most : ℕ) (blocks : ℕ → List ℕ) (p q : ℕ) (rest ps : List ℕ) → p < 683 → q < 683 → blocks p ≡ track_at q ∷ sector_at q ∷ rest
     → chain most blocks (track_at q) (sector_at q) ≡ Some ps → chain (suc most) blocks (track_at p) (sector_at p) ≡ Some (p ∷ ps)
 unfolding step
@@ -49,7 +51,7 @@ full_data q bytes h e =
 pub record Reads (blocks : ℕ → List ℕ) (area : List ℕ) : Type 0 where
   pub at : (k : ℕ) → k < 664 → blocks (place_of k) ≡ take 256 (drop (256 * k) area)
 
--- the places of a file's blocks: the k-th for files, and so many more
+-- the places of a file's blocks: the k-th for files, and the given number more
 abbrev pub places_from : ℕ → ℕ → List ℕ
 places_from k more = map place_of (range_with_len k (suc more))
 
@@ -58,7 +60,7 @@ pub record Follows (blocks : ℕ → List ℕ) (most k more : ℕ) (bytes : List
   pub goes : chain most blocks (track_at (place_of k)) (sector_at (place_of k)) ≡ Some (places_from k more)
   pub holds : flat_map (λ p. data_in (blocks p)) (places_from k more) ≡ bytes
 
--- a block, where the bytes from it on are known
+-- a block is the first 256 bytes of those known from it on
 block_is : (blocks : ℕ → List ℕ) (area b tail : List ℕ) (k : ℕ) → Reads blocks area → k < 664 → length b ≡ 256 → drop (256 * k) area ≡ b ++ tail
     → blocks (place_of k) ≡ b
 block_is blocks area b tail k reads h size at = reads.at k h ∙ ap (take 256) at ∙ take_at b tail 256 size
@@ -108,7 +110,7 @@ follows blocks area tail reads (suc more) k (suc most) bytes fits is room at =
     follow_more blocks area (behind ++ tail) reads k most more bytes (omega arith) long there
     (follows blocks area tail reads more (k + 1) most (drop 254 bytes) (omega arith) (omega (arith, length-drop 254 bytes)) (omega arith) next)
 
--- how long the blocks of a file are
+-- the length of the blocks of a file
 pub laid_length : (more k : ℕ) (bytes : List ℕ) → more ≡ further bytes → length (laid more k bytes) ≡ 256 * (more + 1)
 unfolding laid
 laid_length zero k bytes is = filled_length 0 (length bytes + 1) bytes (omega arith)

@@ -17,8 +17,12 @@ use Rattle.tb_disk.proofs.Catalog.{ReadsDirectory, directory_chain, entries_ther
 use Rattle.tb_disk.proofs.Mapping.{times, all_used, uses_are, bits_are, counts_are, bit_tells, free_map_length}
 
 title_length : (field : List ℕ) → length field ≡ 16 → length (title field) ≡ 112
-title_length field e = omega (arith, length-append field (0xa0 ∷ 0xa0 ∷ 84 ∷ 66 ∷ 0xa0 ∷ 50 ∷ 65 ∷ 0xa0 ∷ 0xa0 ∷ 0xa0 ∷ 0xa0 ∷ replicate 85 0), e,
-    length-replicate {A = ℕ} 85 0)
+title_length field e = omega (
+  arith,
+  length-append field (0xa0 ∷ 0xa0 ∷ 84 ∷ 66 ∷ 0xa0 ∷ 50 ∷ 65 ∷ 0xa0 ∷ 0xa0 ∷ 0xa0 ∷ 0xa0 ∷ replicate 85 0),
+  e,
+  length-replicate {A = ℕ} 85 0,
+)
 
 head_length : (used d : ℕ) (field : List ℕ) → length field ≡ 16 → length (head_block used d field) ≡ 256
 unfolding head_block
@@ -124,6 +128,7 @@ disk_of name files few small =
       marked = ap (λ b. take 7 (drop 160 b)) at_head ∙ mark_read used d name.field name.full;
     }
 
+-- the image that is laid out is that of a disk with the name and the files
 pub whole : (name : Name) (files : List File) (image : List ℕ) → length files ≤ 144 → sum_by blocks_of files ≤ 664 → image ≡ image_of name files
     → IsDiskOf name files image
 whole name files image few small e = subst (IsDiskOf name files) (sym e) (disk_of name files few small)

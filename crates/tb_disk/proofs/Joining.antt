@@ -6,6 +6,7 @@ use Rattle.tb_disk.specs.declared.image.File.{File}
 use Rattle.tb_disk.specs.Images.{blocks_of}
 use Rattle.tb_disk.specs.Layout.{directory_blocks, head_block, directory_of, file_area, image_of}
 
+-- the parts that the code appends in turn are the image of the layout
 pub put_together : (name : Name) (files : List File) (area below above made headed named whole : List ℕ) (used blocks : ℕ)
     → area ≡ file_area files → below ≡ take 91392 area → above ≡ drop 91392 area → used ≡ sum_by blocks_of files → blocks ≡ directory_blocks (length files)
     → made ≡ below → headed ≡ made ++ head_block used blocks name.field → named ≡ headed ++ directory_of files → whole ≡ named ++ above

@@ -21,11 +21,12 @@ laid_last : (k : ℕ) (bytes : List ℕ) → length bytes ≤ 254 → laid (furt
 unfolding laid
 laid_last k bytes h = ap (λ n. laid n k bytes) (further_none bytes h)
 
--- what stands there, and what is still to come, is all
+-- what is there so far and what is still to come are the whole
 pub record LaidTo (old : List ℕ) (k : ℕ) (bytes : List ℕ) (now : List ℕ) (at : ℕ) (rest : List ℕ) : Type 0 where
   pub count : at + further rest ≡ k + further bytes
   pub whole : now ++ laid (further rest) at rest ≡ old ++ laid (further bytes) k bytes
 
+-- the loop of `push_file` goes on over a full block
 pub laid_step : (old : List ℕ) (k : ℕ) (bytes now : List ℕ) (at : ℕ) (rest part behind new : List ℕ) (track sector : ℕ)
     → LaidTo old k bytes now at rest → 254 < length rest → part ≡ take 254 rest → behind ≡ drop 254 rest
     → track ≡ track_at (place_of (at + 1)) → sector ≡ sector_at (place_of (at + 1))
@@ -41,6 +42,7 @@ laid_step old k bytes now at rest part behind new track sector l h p b t s e =
           ∙ ap (λ x. now ++ x) (sym (laid_more at rest h)) ∙ l.whole;
     })
 
+-- after the last block all blocks of the file are laid
 pub laid_end : (old : List ℕ) (k : ℕ) (bytes now : List ℕ) (at : ℕ) (rest new : List ℕ) → LaidTo old k bytes now at rest → length rest ≤ 254
     → new ≡ now ++ filled 0 (length rest + 1) rest → new ≡ old ++ laid (further bytes) k bytes
 laid_end old k bytes now at rest new l h e = e ∙ ap (λ x. now ++ x) (sym (laid_last at rest h)) ∙ l.whole

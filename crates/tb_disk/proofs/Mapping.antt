@@ -10,7 +10,7 @@ use Rattle.std.proofs.lemmas.List.Sums.{sum_by-cons, sum_by-append}
 use Rattle.tb_disk.specs.D64.{sectors_on, is_on_disk, place, map_bit, free_on}
 use Rattle.tb_disk.specs.Layout.{place_of, is_free, free_bit, bits_from, ones_from, track_map, free_map, title, head_block}
 
--- how often a number stands in a list
+-- how often a number occurs in a list
 abbrev pub times : ℕ → List ℕ → ℕ
 times p xs = count_by (λ q. q == p) xs
 
@@ -23,7 +23,7 @@ times_not p x xs ne = let c = times_cons p x xs ∙ ap (λ b. (if b then 1 else 
 times_yes : (p x : ℕ) (xs : List ℕ) → x ≡ p → times p (x ∷ xs) ≡ 1 + times p xs
 times_yes p x xs e = times_cons p x xs ∙ ap (λ b. (if b then 1 else 0) + times p xs) (eq-eqb x p e)
 
--- where a function of a range takes no such value, and where it takes it once
+-- a value that a function never takes on a range does not occur there, and one that it takes once occurs once
 never : (f : ℕ → ℕ) (p a m : ℕ) → ((j : ℕ) → a ≤ j → j < a + m → f j ≢ p) → times p (map f (range_with_len a m)) ≡ 0
 never f p a zero h = refl
 never f p a (suc m) h =
@@ -103,13 +103,13 @@ all_used used d = 357 ∷ behind_head used d
 parts : (used d p : ℕ) → times p (behind_head used d) ≡ times p (range_with_len 358 d) + times p (map place_of (range_with_len 0 used))
 parts used d p = sum_by-append (λ q. if q == p then 1 else 0) (range_with_len 358 d) (map place_of (range_with_len 0 used))
 
--- a place is in use once where it is not free, and else not at all
+-- a place is in use once if it is not free, and else not at all
 pub uses_are : (used d p : ℕ) → d ≤ 18 → times p (all_used used d) ≡ (if is_free used d p then 0 else 1)
 uses_are used d p few = elim (cases_lt p 357) [
   | inl l ↦
       times_not p 357 (behind_head used d) (λ e. absurd (omega (arith, e, l))) ∙ parts used d p ∙ (λ i. directory_out d p (omega arith) i + files_below used p l i)
       ∙ plus_zero (if nat_le used p then 0 else 1)
-          ∙ ap (λ b. if (if b then nat_le used p else if nat_le p 375 then nat_lt (357 + d) p else nat_le (used + 19) p) then 0 else 1) (sym (lt-ltb p 357 l))
+      ∙ ap (λ b. if (if b then nat_le used p else if nat_le p 375 then nat_lt (357 + d) p else nat_le (used + 19) p) then 0 else 1) (sym (lt-ltb p 357 l))
   | inr g ↦ ap (λ n. n) (above g) ∙ ap (λ b. if (if b then nat_le used p else if nat_le p 375 then nat_lt (357 + d) p else nat_le (used + 19) p) then 0 else 1) (sym (le-ltb p 357 g))
 ]
   where
@@ -247,6 +247,7 @@ map_length : (f : ℕ → List ℕ) → ((t : ℕ) → length (f t) ≡ 4) → (
 map_length f four a zero = omega arith
 map_length f four a (suc m) = length-append (f a) (flat_map f (range_with_len (a + 1) m)) ∙ omega (arith, four a, map_length f four (a + 1) m)
 
+-- the map has four bytes for each of the 35 tracks
 pub free_map_length : (used d : ℕ) → length (free_map used d) ≡ 140
 free_map_length used d = map_length (track_map used d) (λ t. refl) 1 35
 
@@ -267,6 +268,7 @@ bits_byte used d track (suc zero) h = refl
 bits_byte used d track (suc (suc zero)) h = refl
 bits_byte used d track (suc (suc (suc q))) h = absurd (omega arith)
 
+-- the bit of a sector in the head is the one of the layout
 pub bits_are : (used d : ℕ) (field : List ℕ) (track sector : ℕ) → 1 ≤ track → track ≤ 35 → sector < 24
     → map_bit (head_block used d field) track sector ≡ free_bit used d track sector
 bits_are used d field track sector l u h =
@@ -286,6 +288,7 @@ summed : (b : ℕ → ℕ) → (b 0 + b 1 + b 2 + b 3 + b 4 + b 5 + b 6 + b 7) +
     + (b 16 + b 17 + b 18 + b 19 + b 20 + b 21 + b 22 + b 23) ≡ sum_by b (range_with_len 0 24)
 summed b = omega arith
 
+-- the count of a track in the head is the sum of its bits
 pub counts_are : (used d : ℕ) (field : List ℕ) (track : ℕ) → 1 ≤ track → track ≤ 35
     → free_on (head_block used d field) track ≡ sum_by (map_bit (head_block used d field) track) (range_with_len 0 24)
 unfolding ones_from

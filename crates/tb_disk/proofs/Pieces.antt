@@ -5,12 +5,12 @@ use Rattle.std.proofs.lemmas.List.{take_at, drop_at, drop-drop, take-take, drop-
 use Rattle.std.proofs.lemmas.List.FromFn.{fill_by_all}
 use Rattle.tb_disk.specs.D64.{entries_in}
 
--- each piece has so many bytes
+-- each piece has the given number of bytes
 abbrev pub AreOf : ℕ → List (List ℕ) → Type 0
 AreOf size [] = Unit {0}
 AreOf size (p ∷ pieces) = (length p ≡ size) × AreOf size pieces
 
--- what stands behind the first pieces
+-- what is left after the first pieces
 pub drop_pieces : (size i : ℕ) (pieces : List (List ℕ)) → AreOf size pieces → i ≤ length pieces
     → drop (size * i) (concat pieces) ≡ concat (drop i pieces)
 drop_pieces size zero pieces are h = let z : size * 0 ≡ 0 = omega arith in ap (λ n. drop n (concat pieces)) z
@@ -20,7 +20,7 @@ drop_pieces size (suc i) (p ∷ pieces) are h =
     ap (λ n. drop n (p ++ concat pieces)) more ∙ sym (drop-drop (size * i) size (p ++ concat pieces))
     ∙ ap (drop (size * i)) (drop_at p (concat pieces) size are.0) ∙ drop_pieces size i pieces are.1 (omega arith)
 
--- a piece
+-- a piece of one length is found by its index
 pub piece_at : (size i : ℕ) (pieces : List (List ℕ)) → AreOf size pieces → i < length pieces
     → take size (drop (size * i) (concat pieces)) ≡ get_or pieces i []
 piece_at size i [] are h = absurd (omega arith)

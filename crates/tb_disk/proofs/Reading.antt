@@ -18,7 +18,7 @@ window_right m o j xs ys e =
 abbrev pub joined : List ℕ → List ℕ → List ℕ → List ℕ
 joined area head directory = take 91392 area ++ head ++ directory ++ drop 91392 area
 
--- how long they are
+-- the lengths of these parts
 pub record Sizes (area head directory : List ℕ) : Type 0 where
   pub of_area : length area ≡ 169984
   pub of_head : length head ≡ 256
@@ -61,6 +61,7 @@ reads_area area head directory s = record {
   ];
 }
 
+-- the block at place 357 is the head
 pub reads_head : (area head directory : List ℕ) → Sizes area head directory → block (joined area head directory) 357 ≡ head
 reads_head area head directory s =
     let below : List ℕ = take 91392 area in
@@ -72,6 +73,7 @@ reads_head area head directory s =
     ∙ window_right 256 91392 0 below head (omega (arith, a))
     ∙ take_all 256 head (omega (arith, s.of_head))
 
+-- the blocks after the head are those of the directory
 pub reads_directory : (area head directory : List ℕ) (j : ℕ) → Sizes area head directory → j < 18
     → block (joined area head directory) (358 + j) ≡ take 256 (drop (256 * j) directory)
 reads_directory area head directory j s h =

@@ -5,15 +5,18 @@ use Rattle.std.proofs.lemmas.Bool.Decides.{nat_tests}
 use Rattle.tb_disk.specs.D64.{place, is_on_disk}
 use Rattle.tb_disk.specs.Layout.{place_of, track_at, sector_at}
 
--- the track and the sector at a place lie there
+-- the track and the sector of a place have that place
 pub place_back : (p : ℕ) → p < 683 → place (track_at p) (sector_at p) ≡ p
 place_back p h = eqb-true _ _ (agree_below_at (λ p. place (track_at p) (sector_at p) == p) (λ p. true) 683 p refl h)
 
+-- the track and the sector of a place are on the disk
 pub on_disk : (p : ℕ) → p < 683 → is_on_disk (track_at p) (sector_at p) ≡ true
 on_disk p h = agree_below_at (λ p. is_on_disk (track_at p) (sector_at p)) (λ p. true) 683 p refl h
 
+-- the track of a place is not 0
 pub some_track : (p : ℕ) → p < 683 → (track_at p == 0) ≡ false
 some_track p h = agree_below_at (λ p. track_at p == 0) (λ p. false) 683 p refl h
 
+-- the blocks for files are on the disk
 pub place_within : (k : ℕ) → k < 664 → place_of k < 683
 place_within k h = grind (arith, nat_tests)

@@ -25,6 +25,7 @@ pub record Two (xs : List ℕ) : Type 0 where
   pub second : ℕ
   pub is : xs ≡ first ∷ second ∷ []
 
+-- the prefix of an entry has two bytes
 pub prefix_two : (n k : ℕ) → Two (prefix n k)
 prefix_two n k = by (not (k % 8 == 0)) (nat_le (max n 1) k) (nat_lt (k + 8) n)
   where
@@ -34,7 +35,7 @@ prefix_two n k = by (not (k % 8 == 0)) (nat_le (max n 1) k) (nat_lt (k + 8) n)
     by false false true = record { first = 18; second = k / 8 + 2; is = refl }
     by false false false = record { first = 0; second = 255; is = refl }
 
--- what stands behind the first five bytes of a file's entry
+-- what follows the first five bytes of a file's entry
 abbrev behind : File → List ℕ
 behind f = f.name.field ++ replicate 9 0 ++ (blocks_of f % 256) ∷ (blocks_of f / 256) ∷ []
 
@@ -75,7 +76,7 @@ file_found blocks x y k f follow =
     ap (option_and_then (found blocks (entry_bytes x y k f))) follow.goes
     ∙ (λ i. found_if places (right i) (name i) (follow.holds i))
 
--- the bytes behind the blocks of a file
+-- the bytes after the blocks of a file
 behind_file : (area tail : List ℕ) (k : ℕ) (bytes : List ℕ) → drop (256 * k) area ≡ laid (further bytes) k bytes ++ tail
     → drop (256 * (k + (further bytes + 1))) area ≡ tail
 behind_file area tail k bytes at =
@@ -116,6 +117,7 @@ pub names_found : (k : ℕ) (files : List File) → map (λ f. f.name) (found_fr
 names_found k [] = refl
 names_found k (f ∷ fs) = ap (λ x. text_of f.name ∷ x) (names_found (k + blocks_of f) fs)
 
+-- the bytes of the files found are those of the files
 pub bytes_found : (k : ℕ) (files : List File) → map (λ f. f.bytes) (found_from k files) ≡ map (λ f. f.bytes.now) files
 bytes_found k [] = refl
 bytes_found k (f ∷ fs) = ap (λ x. f.bytes.now ∷ x) (bytes_found (k + blocks_of f) fs)

@@ -9,7 +9,7 @@ abbrev pub sectors_on : ℕ → ℕ
 sectors_on track =
     if nat_le track 17 then 21 else if nat_le track 24 then 19 else if nat_le track 30 then 18 else 17
 
--- tracks count from 1, sectors from 0
+-- whether the disk has a track, counted from 1, and a sector, counted from 0
 abbrev pub is_on_disk : ℕ → ℕ → Bool
 is_on_disk track sector = nat_le 1 track && nat_le track 35 && nat_lt sector (sectors_on track)
 
@@ -21,11 +21,11 @@ place track sector =
     else if nat_le track 30 then 490 + 18 * (track - 25) + sector
     else 598 + 17 * (track - 31) + sector
 
--- how many sectors there are
+-- the number of sectors
 abbrev pub sectors : ℕ
 sectors = 683
 
--- the place of track 18, sector 0, where the map of free blocks and the disk's name stand
+-- the place of track 18, sector 0, which has the map of free blocks and the disk's name
 abbrev pub head : ℕ
 head = 357
 
@@ -33,7 +33,7 @@ head = 357
 abbrev pub block : List ℕ → ℕ → List ℕ
 block image p = take 256 (drop (256 * p) image)
 
--- the places of the chain of blocks from a sector on, of which there are at most so many; None where it leaves the disk.
+-- the places of the chain of blocks from a sector on, at most the given number; None if it is longer or off the disk.
 -- A block begins with the track and the sector of the next one, the last with track 0
 unfoldable pub chain : ℕ → (ℕ → List ℕ) → ℕ → ℕ → Option (List ℕ)
 chain zero blocks track sector = None
@@ -42,11 +42,11 @@ chain (suc most) blocks track sector =
     let rest = option_map (λ ps. p ∷ ps) (chain most blocks (slice_index (blocks p) 0) (slice_index (blocks p) 1)) in
     if is_on_disk track sector then (if slice_index (blocks p) 0 == 0 then Some (p ∷ []) else rest) else None
 
--- what a block of a file holds; the second byte of the last one says which of its bytes is the file's last
+-- the file's bytes in a block; the second byte of the last block is the index of the file's last byte
 abbrev pub data_in : List ℕ → List ℕ
 data_in b = if slice_index b 0 == 0 then take (slice_index b 1 - 1) (drop 2 b) else drop 2 b
 
--- a name is filled up with $A0
+-- the name in a field that is filled up with $A0
 abbrev pub name_in : List ℕ → List ℕ
 name_in field = before_first (λ c. c == 0xa0) field
 
@@ -60,7 +60,7 @@ pub record Found : Type 0 where
 abbrev pub entries_in : List ℕ → List (List ℕ)
 entries_in b = map (λ i. take 32 (drop (32 * i) b)) (range_with_len 0 8)
 
--- the file of an entry's chain, where the entry's number of blocks is right
+-- the file of an entry's chain, if the entry's number of blocks is right
 abbrev pub found : (ℕ → List ℕ) → List ℕ → List ℕ → Option Found
 found blocks entry places =
     let name = name_in (take 16 (drop 5 entry)) in
@@ -74,7 +74,7 @@ file_of blocks entry =
     let places = chain sectors blocks (slice_index entry 3) (slice_index entry 4) in
     if slice_index entry 2 == 0x82 then option_and_then (found blocks entry) places else None
 
--- the files of entries, those of type 0 left out; None where one can't be read
+-- the files of entries, without those of type 0; `None` if one can't be read
 unfoldable pub files_of : (ℕ → List ℕ) → List (List ℕ) → Option (List Found)
 files_of blocks [] = Some []
 files_of blocks (entry ∷ entries) =

@@ -12,7 +12,7 @@ use Rattle.tb_disk.specs.declared.image.DiskError.TheVariants.{Full, NoMemory}
 abbrev pub text_of : Name → List ℕ
 text_of n = name_in n.field
 
--- how many blocks of 254 bytes a file takes, and at least one
+-- the number of blocks of 254 bytes that a file takes, at least one
 abbrev pub blocks_of : File → ℕ
 blocks_of f = (length f.bytes.now - 1) / 254 + 1
 
@@ -20,8 +20,8 @@ blocks_of f = (length f.bytes.now - 1) / 254 + 1
 abbrev pub uses : Walk → ℕ → ℕ
 uses w p = count_by (λ q. q == p) (in_use w)
 
--- no block is used twice, and the map of free blocks is right: a sector's bit is 1 where it is not in use, 0 where it is
--- or where the track has no such sector; and a track's count is the sum of its bits
+-- no block is used twice, and the map of free blocks is right: a sector's bit is 1 if it is not in use, 0 if it is
+-- or if the track has no such sector; and a track's count is the sum of its bits
 pub record IsMapped (image : List ℕ) (w : Walk) : Type 0 where
   pub once : (p : ℕ) → uses w p ≤ 1
   pub bits : (track sector : ℕ) → 1 ≤ track → track ≤ 35 → sector < 24
@@ -29,12 +29,12 @@ pub record IsMapped (image : List ℕ) (w : Walk) : Type 0 where
   pub counts : (track : ℕ) → 1 ≤ track → track ≤ 35
       → free_on (block image head) track ≡ sum_by (map_bit (block image head) track) (range_with_len 0 24)
 
--- files that a disk holds: at most 664 blocks, and at most 144 files
+-- files that fit on a disk: at most 664 blocks, and at most 144 files
 abbrev pub Fits : List File → Type 0
 Fits files = (sum_by blocks_of files ≤ 664) × (length files ≤ 144)
 
 -- the image of a disk with a name and files: walking it finds exactly the files, in order; its map is right, its format
--- is `A`, and behind its name stands the mark `TB`, `2A`
+-- is `A`, and after its name comes the mark `TB`, `2A`
 pub record IsDiskOf (name : Name) (files : List File) (image : List ℕ) : Type 0 where
   pub fits : Fits files
   pub size : length image ≡ 256 * sectors

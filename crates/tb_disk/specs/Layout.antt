@@ -31,7 +31,7 @@ further bytes = (length bytes - 1) / 254
 abbrev pub filled : ℕ → ℕ → List ℕ → List ℕ
 filled track sector bytes = track ∷ sector ∷ bytes ++ replicate (254 - length bytes) 0
 
--- the blocks of a file, the first of which is the k-th for files, with so many that follow it
+-- the blocks of a file, the first of which is the k-th for files, with the given number of blocks after it
 unfoldable pub laid : ℕ → ℕ → List ℕ → List ℕ
 laid zero k bytes = filled 0 (length bytes + 1) bytes
 laid (suc more) k bytes =
@@ -69,7 +69,7 @@ entries n i k (f ∷ fs) = (prefix n i ++ entry k f) ∷ entries n (i + 1) (k + 
 abbrev pub no_entry : ℕ → ℕ → List ℕ
 no_entry n i = prefix n i ++ replicate 30 0
 
--- a block is free that is behind those of the directory, or behind those of the files
+-- whether a block is free: it is after those of the directory, or after those of the files
 abbrev pub is_free : ℕ → ℕ → ℕ → Bool
 is_free used directory p =
     if nat_lt p 357 then nat_le used p else if nat_le p 375 then nat_lt (357 + directory) p else nat_le (used + 19) p

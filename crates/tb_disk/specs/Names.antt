@@ -2,7 +2,7 @@
 use Rattle.std.specs.Prelude.{ℕ, Bool, ◌==◌, ◌||◌, ◌&&◌, ◌≤◌, ◌-◌, nat_le, List, ◌++◌, length, replicate}
 use Rattle.std.specs.List.{AllPass}
 
--- `A` to `Z`, `0` to `9`, space, `-` and `.`
+-- whether a byte is a sign of names: `A` to `Z`, `0` to `9`, space, `-` and `.`
 abbrev pub is_name_sign : ℕ → Bool
 is_name_sign c = (nat_le 65 c && nat_le c 90) || (nat_le 48 c && nat_le c 57) || (c == 32) || (c == 45) || (c == 46)
 

@@ -15,7 +15,7 @@ pub fn further_blocks(bytes: &[u8]) -> usize
     bytes.len().saturating_sub(1) / BLOCK_DATA
 }
 
-/// Appends zeros.
+/// Appends `count` zeros.
 pub fn push_zeros(bytes: &mut Vec<u8>, count: usize) -> Result<(), AllocError>
     requires { count ≤ 169984 }
     ensures { OnOk result (bytes.new.items ≡ bytes.old.items ++ replicate count 0) }
@@ -47,7 +47,7 @@ pub fn push_file(blocks: &mut Vec<u8>, k: usize, bytes: &[u8]) -> Result<(), All
         rest = behind;
         at += 1;
     }
-    // The second byte of the last block says where its last used byte stands.
+    // The second byte of the last block is the index of its last used byte.
     push_block(blocks, 0, rest.len() as u8 + 1, rest)?;
     Ok(())
 }

@@ -11,13 +11,13 @@ use std::alloc::AllocError;
 /// How many entries a block of the directory has.
 const ENTRIES: usize = 8;
 
-/// The most files that a directory names: as many as 18 blocks have entries.
+/// The most files that a directory names: the entries of 18 blocks.
 pub const MOST_FILES: usize = 144;
 
 /// The type of a program whose file is closed.
 const PROGRAM: u8 = 0x82;
 
-/// How many blocks the directory of so many files has.
+/// The number of blocks of the directory for a number of files.
 pub fn directory_blocks(files: usize) -> usize
     ensures { result ≡ directory_blocks files }
 {

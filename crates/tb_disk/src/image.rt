@@ -11,7 +11,7 @@ use crate::places::{BELOW_DIRECTORY, FILE_BLOCKS};
 use std::alloc::{AllocError, Global};
 use thiserror::Error;
 
-/// The bytes of a block.
+/// The number of bytes of a block.
 const BLOCK: usize = 256;
 
 /// A file for a disk.
@@ -27,7 +27,7 @@ pub enum DiskError {
     /// The files take more than 664 blocks, or there are more than 144.
     #[error("disk full")]
     Full,
-    /// A growth was refused.
+    /// Memory ran out.
     #[error("out of memory")]
     NoMemory,
 }

@@ -3,7 +3,7 @@ ghost use Rattle.std.specs.Prelude.{◌≡◌, ◌↔◌, length, IsSome, IfSome
 ghost use Rattle.tb_disk.specs.D64.{name_in};
 ghost use Rattle.tb_disk.specs.Names.{IsName, field_of, is_name_sign};
 
-/// The byte that fills a name up.
+/// The byte that fills a name's field up.
 const FILLER: u8 = 0xa0;
 
 /// How many bytes a name's field has.
@@ -12,7 +12,7 @@ const FIELD: usize = 16;
 /// A name of one to 16 signs.
 #[derive(Clone, Copy, PartialEq, Eq, Debug)]
 pub struct Name {
-    /// The name as it stands in the directory, filled up with `$A0`.
+    /// The name as the directory has it, filled up with `$A0`.
     pub field: [u8; 16],
     ghost full: { length field ≡ 16 },
 }
@@ -24,7 +24,7 @@ fn is_sign(byte: u8) -> bool
 }
 
 impl Name {
-    /// The name of a text, where all its signs may stand in one.
+    /// The name of a text of 1 to 16 signs, each `A` to `Z`, `0` to `9`, space, `-` or `.`; `None` for any other text.
     pub fn new(text: &[u8]) -> Option<Name>
         ensures found { IsSome result ↔ IsName text.now }
         ensures value { IfSome result (λ n. n.field ≡ field_of text.now) }

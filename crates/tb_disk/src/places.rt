@@ -25,7 +25,7 @@ pub struct Location {
     pub sector: u8,
 }
 
-/// How many sectors a track has.
+/// The number of sectors of a track, from 17 to 21.
 pub fn sectors(track: u8) -> u8
     ensures { result ≡ sectors_on track }
 {
@@ -37,7 +37,7 @@ pub fn sectors(track: u8) -> u8
     }
 }
 
-/// The number of sectors before this one.
+/// The number of sectors before this one, from 0 to 682.
 pub fn place(at: Location) -> usize
     requires from_one { 1 ≤ at.track }
     ensures { result ≡ place at.track at.sector }
@@ -52,7 +52,7 @@ pub fn place(at: Location) -> usize
     }
 }
 
-/// Where the k-th block for files lies.
+/// The track and the sector of the k-th block for files, from 0 to 663.
 pub fn locate(k: usize) -> Location
     requires { k < 664 }
     ensures track { result.track ≡ track_at (place_of k) }
