@@ -4,7 +4,7 @@ use Rattle.tb_parser.specs.Lines.{lines_of_file}
 use Rattle.tb_source_text.specs.declared.lines.Numbered.{Numbered}
 use Rattle.tb_grammar.specs.Reading.{is_digit}
 
--- a number with a digit more; numbers above 65,535 are alike, for no line has one
+-- a number with one more digit; numbers above 65,535 are all the same, since no line has one
 abbrev pub longer : ℕ → ℕ → ℕ
 longer n digit = min (n * 10 + digit) 65536
 
@@ -16,11 +16,11 @@ number_with n (b ∷ bytes) =
     else if is_digit b then number_with (longer n (b - 48)) bytes
     else n
 
--- the number that a line begins with; 0, which is no line's, where it begins with none
+-- the number that a line begins with; 0, which no line has, if it begins with none
 abbrev pub number_of : List ℕ → ℕ
 number_of line = number_with 0 line
 
--- what stands behind it
+-- what follows the number of a line
 abbrev pub behind_number : List ℕ → List ℕ
 behind_number [] = []
 behind_number (b ∷ bytes) = if (b == 32) || is_digit b then behind_number bytes else b ∷ bytes

@@ -5,17 +5,17 @@ ghost use Rattle.tb_source_text.specs.Lines.{behind_number, last_of, longer, num
 use std::alloc::{AllocError, Global};
 use tb_parser::next_line;
 
-/// Numbers from here on are no line's.
+/// No line has this number or a higher one.
 const PAST: u32 = 65_536;
 
-/// A line of a source as it was written, and the number that it begins with: 0, which is no line's, where there is none.
+/// A line of a source as it was written, and the number that it begins with: 0, which no line has, if there is none.
 #[derive(Clone, Copy, Drop)]
 pub struct Numbered<'a> {
     pub number: u32,
     pub text: &'a [u8],
 }
 
-// A number with a digit more.
+// A number with one more digit, at most `PAST`.
 fn longer(number: u32, digit: u8) -> u32
     requires { number ≤ 65536 }
     ensures few { result ≤ 65536 }
@@ -39,7 +39,7 @@ fn number_of(line: &[u8]) -> u32
     number
 }
 
-/// What stands behind the number of a line.
+/// What follows the number of a line.
 pub fn behind_number(line: &[u8]) -> &[u8]
     ensures { result.now ≡ behind_number line.now }
 {
@@ -51,7 +51,7 @@ pub fn behind_number(line: &[u8]) -> &[u8]
     &[]
 }
 
-/// The lines of a source, each with its number.
+/// The lines of a source, each with its number. Fails only if memory runs out.
 pub fn numbered_lines(alloc: Global, source: &[u8]) -> Result<Vec<Numbered<'_>>, AllocError>
     ensures { IfOk result (λ lines. map pair_of lines.items ≡ numbered source.now) }
 {
@@ -67,7 +67,7 @@ pub fn numbered_lines(alloc: Global, source: &[u8]) -> Result<Vec<Numbered<'_>>,
     Ok(lines)
 }
 
-/// The text of the last of these lines that has a number; empty where none has it.
+/// The text of the last of these lines that has a number; empty if none has it.
 pub fn text_of<'a>(lines: &[Numbered<'a>], number: u16) -> &'a [u8]
     ensures { result.now ≡ last_of [] number (map pair_of lines.now) }
 {

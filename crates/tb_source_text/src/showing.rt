@@ -7,7 +7,7 @@ use std::alloc::AllocError;
 /// The most bytes of a line that are shown.
 pub const MOST_SHOWN: usize = 120;
 
-/// A byte as it is shown: what is none of ASCII's letters and signs as `?`.
+/// A byte as it is shown: `?` for a byte below 32 or above 126.
 pub fn shown(byte: u8) -> u8
     ensures { result ≡ shown byte }
 {
@@ -24,7 +24,7 @@ pub fn push_shown(text: &mut Vec<u8>, bytes: &[u8]) -> Result<(), AllocError>
     Ok(())
 }
 
-/// Appends so many spaces.
+/// Appends `count` spaces.
 pub fn push_spaces(text: &mut Vec<u8>, count: usize) -> Result<(), AllocError>
     ensures { OnOk result (text.new.items ≡ text.old.items ++ replicate count 32) }
 {
@@ -32,7 +32,7 @@ pub fn push_spaces(text: &mut Vec<u8>, count: usize) -> Result<(), AllocError>
     text.resize(size.saturating_add(count), b' ')
 }
 
-/// The bytes of a line that are shown.
+/// The bytes of a line that are shown: the first `MOST_SHOWN`.
 pub fn cut(line: &[u8]) -> &[u8]
     ensures { result.now ≡ take 120 line.now }
 {
