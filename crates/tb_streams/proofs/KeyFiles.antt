@@ -16,16 +16,17 @@ no_return (x ∷ xs) h = λ e.
     let no : is_hex_digit 13 ≡ true = subst (λ d. is_hex_digit d ≡ true) e digit in
     false≢true no
 
--- where no 13 is last, none is taken off
+-- a text that does not end with 13 keeps all its bytes
 without_no_return : (digits : List ℕ) → last_of digits ≢ 13 → without_last 13 digits ≡ digits
 without_no_return digits other = grind (other, arith)
 
--- the end of a line is taken off digits
+-- the line's end is taken off digits
 off_digits : (digits : List ℕ) → last_of digits ≢ 13 → without_line_end (digits ++ 10 ∷ []) ≡ digits
 off_digits digits other =
     let shorter : length (digits ++ 10 ∷ []) - 1 ≡ length digits = omega (arith, length-append digits (10 ∷ [])) in
     rw (shorter, get_or-append_seam digits 10 [] 0, take-append_seam digits (10 ∷ [])) (without_no_return digits other)
 
+-- the key file that is written for keys reads back as these keys
 pub spelled : (keys : List ℕ) → IsBytes keys → keys_of_file (key_file_of keys) ≡ Ok keys
 spelled keys bytes =
     let back = decode_of-encode_lower keys bytes in

@@ -15,7 +15,7 @@ ReadsUpTo most (Ok None) had left read read' = MayPass most had × ConsumesAtMos
 ReadsUpTo most (Err Fault) had left read read' = ConsumesAtMost had left (most + 1) × (read' ≢ read)
 ReadsUpTo most (Err NoMemory) had left read read' = ConsumesAtMost had left (most + 1) × (read' ≡ read)
 
--- a fault comes only where the reader failed in this call, by its count of failures, or gave too many bytes
+-- a fault comes only if the reader failed in this call, by its count of failures, or gave too many bytes
 abbrev pub InputFaults : {V : Type 0} → Result V InputError → Option (List ℕ) → ℕ → ℕ → Type 0
 InputFaults (Ok input) had old new = new ≡ old
 InputFaults (Err Fault) had old new = (new ≢ old) ⊎ MayPassMost had

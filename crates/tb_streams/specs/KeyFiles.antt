@@ -18,7 +18,7 @@ most_key_file = 2097154
 abbrev pub last_of : List ℕ → ℕ
 last_of text = slice_index text (length text - 1)
 
--- a text without a byte that may stand at its end
+-- a text without the given byte at its end, if it ends with it
 abbrev pub without_last : ℕ → List ℕ → List ℕ
 without_last byte text = if last_of text == byte then take (length text - 1) text else text
 

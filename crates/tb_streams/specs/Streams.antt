@@ -6,11 +6,11 @@ use Rattle.std.specs.Io.KnownBytes.{Appends, Consumes}
 abbrev pub most_input : ℕ
 most_input = 1048576
 
--- the count of failures after a call that failed or did not
+-- the count of failures after a call that may have failed
 abbrev pub counted : ℕ → Bool → ℕ
 counted failures has_failed = if has_failed then (failures + 1) % 2 ^ 64 else failures
 
--- the reader gave more than so many bytes, as far as is known
+-- the reader gave more than the given number of bytes, as far as is known
 abbrev pub MayPass : ℕ → Option (List ℕ) → Type 0
 MayPass most None = ⊤
 MayPass most (Some xs) = most < length xs
@@ -19,7 +19,7 @@ MayPass most (Some xs) = most < length xs
 abbrev pub MayPassMost : Option (List ℕ) → Type 0
 MayPassMost had = MayPass most_input had
 
--- the bytes that were read are all that the reader had, where it tells them
+-- the bytes that were read are all that the reader had, if it tells them
 abbrev pub Reads : Option (List ℕ) → List ℕ → Type 0
 Reads None bytes = ⊤
 Reads (Some xs) bytes = bytes ≡ xs

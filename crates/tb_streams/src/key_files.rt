@@ -22,12 +22,12 @@ pub enum KeyFileError {
     /// The reader failed.
     #[error("read fault")]
     Fault,
-    /// A growth was refused.
+    /// Memory ran out.
     #[error("out of memory")]
     NoMemory,
 }
 
-// A text without a byte that may stand at its end.
+// A text without the given byte at its end, if it ends with it.
 fn without_last(byte: u8, text: &[u8]) -> &[u8]
     ensures { result.now ≡ without_last byte text.now }
 {
@@ -47,7 +47,7 @@ fn without_line_end(text: &[u8]) -> &[u8]
     }
 }
 
-/// Reads a key file to its end: the bytes that its digits spell, in either case. A 10, or a 13 10, may stand at its end.
+/// Reads a key file to its end: the bytes that its digits spell, in either case. It may end with a 10, or a 13 10.
 pub fn read_key_file<R: Read>(
     alloc: Global,
     reader: &mut Tracked<R>,

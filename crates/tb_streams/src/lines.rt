@@ -18,7 +18,7 @@ pub fn without_return(line: &[u8]) -> &[u8]
     }
 }
 
-/// The next line, without its 10, byte by byte, so that nothing behind it is taken; none where the input has ended. A
+/// The next line without its 10, read byte by byte, so that nothing after it is taken; `None` if the input has ended. A
 /// line of more than `most` bytes is a fault.
 pub fn read_line<R: Read>(
     alloc: Global,

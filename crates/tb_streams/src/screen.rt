@@ -19,7 +19,8 @@ fn push_host_byte(text: &mut Vec<u8>, byte: u8) -> Result<(), AllocError>
     Ok(())
 }
 
-/// Carriage returns become line feeds, bytes 32 to 90 stay, and any other byte becomes `{XX}`.
+/// The host form of sent bytes: carriage returns become line feeds, bytes 32 to 90 are kept, and any other byte becomes
+/// `{XX}`. Fails only if memory runs out.
 pub fn host_form(alloc: Global, sent: &[u8]) -> Result<Vec<u8>, AllocError>
     ensures { IfOk result (λ text. text.items ≡ host_form_of sent.now) }
 {

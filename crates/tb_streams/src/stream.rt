@@ -14,16 +14,16 @@ pub const MOST_INPUT: usize = 1_048_576;
 
 const CHUNK: usize = 4096;
 
-/// Why an input could not be had.
+/// Why an input could not be read.
 #[derive(Clone, Copy, PartialEq, Eq, Debug, Drop)]
 pub enum InputError {
     /// The reader failed, or gave more than `MOST_INPUT` bytes.
     Fault,
-    /// A growth was refused.
+    /// Memory ran out.
     NoMemory,
 }
 
-/// Reads all that a reader gives, at most so many bytes; nothing where it gives more.
+/// Reads all that a reader gives, at most `most` bytes; `None` if it gives more.
 #[tactic(auto, using(crate::proofs::Counting::counted_differs))]
 pub fn read_up_to<R: Read>(
     alloc: Global,
@@ -52,7 +52,7 @@ pub fn read_up_to<R: Read>(
     Ok(None)
 }
 
-/// Reads all that a reader gives, at most `MOST_INPUT` bytes.
+/// Reads all that a reader gives, at most `MOST_INPUT` bytes; more are a fault.
 pub fn read_input<R: Read>(alloc: Global, reader: &mut Tracked<R>) -> Result<Vec<u8>, InputError>
     ensures whole { IfOk result (λ input. Reads (R.remaining reader.old.stream) input.items) }
     ensures within { IfOk result (λ input. vec_len input ≤ most_input) }
