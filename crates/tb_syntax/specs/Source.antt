@@ -1,4 +1,4 @@
--- Programs as plain data: no pointers, texts as lists of bytes, a letters by their places, from 0 for A.
+-- Programs as plain data: no pointers, texts as lists of bytes, letters by their places, from 0 for A.
 use Rattle.std.specs.Prelude.{ℕ, Bool, List, map}
 use Rattle.tb_words.specs.declared.Rel.{Rel}
 use Rattle.tb_syntax.specs.declared.expressions.Operator.{Operator}
