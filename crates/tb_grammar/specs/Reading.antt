@@ -22,11 +22,11 @@ abbrev pub when : {A B : Type 0} → Option A → B → (A → B) → B
 when None otherwise f = otherwise
 when (Some x) otherwise f = f x
 
--- 0 to 9
+-- whether a byte is from 0 to 9
 abbrev pub is_digit : ℕ → Bool
 is_digit b = nat_le 48 b && nat_le b 57
 
--- A to Z
+-- whether a byte is from A to Z
 abbrev pub is_letter : ℕ → Bool
 is_letter b = nat_le 65 b && nat_le b 90
 

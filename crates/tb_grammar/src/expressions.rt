@@ -260,7 +260,8 @@ pub(crate) fn expression(alloc: Global, text: &[u8]) -> Result<ReadExpression, R
     }
 }
 
-/// The expression that a squeezed text is (Tiny BASIC User Manual, the grammar of expressions).
+/// The expression that a squeezed text is (Tiny BASIC User Manual, the grammar of expressions). NoReading if it is none,
+/// NoMemory only if memory runs out.
 pub fn read_expression(alloc: Global, text: &[u8]) -> Result<ReadExpression, ReadError>
     // What is read is in the grammar.
     ensures found { IfOk result (λ r. Reads Whole text.now (expression_of r.expr) r.large []) }

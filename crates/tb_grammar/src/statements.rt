@@ -184,7 +184,8 @@ fn whole_statement(alloc: Global, text: &[u8]) -> Result<ReadStatement, ReadErro
     statement(alloc, text.len() + 1, text)
 }
 
-/// The statement that a squeezed text is (Tiny BASIC User Manual, the grammar of statements).
+/// The statement that a squeezed text is (Tiny BASIC User Manual, the grammar of statements). NoReading if it is none,
+/// NoMemory only if memory runs out.
 pub fn read_statement(alloc: Global, text: &[u8]) -> Result<ReadStatement, ReadError>
     // What is read is in the grammar.
     ensures found { IfOk result (λ r. States text.now (statement_of r.statement) r.large) }
