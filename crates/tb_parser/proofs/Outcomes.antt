@@ -9,7 +9,7 @@ use Rattle.tb_parser.specs.Readings.{Refusal}
 use Rattle.tb_parser.specs.Refusals.{error_at}
 
 module _ {X A : Type 0} (view : X → A) (Is : Result A FileRefusal → Type 0) where
-  -- the error at a place tells the refusal at that place, if it is not for want of memory
+  -- the error at a place tells the refusal at that place, unless memory ran out
   pub answers_at : (kind : SourceErrorKind) (column line : ℕ) → IfSome (refusal_of kind column) (λ r. Is (Err (refused_at line r))) → Answers view (Err (error_at kind line column)) Is
   answers_at LineTooLong column line h = h
   answers_at BadByte column line h = h

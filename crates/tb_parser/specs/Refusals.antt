@@ -5,7 +5,7 @@ use Rattle.tb_parser.specs.declared.errors.SourceError.{SourceError}
 use Rattle.tb_parser.specs.declared.errors.SourceErrorKind.{SourceErrorKind}
 use Rattle.tb_parser.specs.declared.errors.SourceErrorKind.TheVariants.{NoMemory}
 
--- want of memory, which has no place
+-- out of memory, which has no place
 abbrev pub out_of_memory : SourceError
 out_of_memory = record { kind = NoMemory; line = 0; column = 0 }
 

@@ -12,11 +12,11 @@ unfoldable pub first_written : ℕ → List ℕ → Option ℕ
 first_written column [] = None
 first_written column (b ∷ line) = if b == 32 then first_written (column + 1) line else Some column
 
--- the bytes 32 to 90 and the lower-case letters
+-- whether a byte is from 32 to 90 or a lower-case letter
 abbrev pub is_source_byte : ℕ → Bool
 is_source_byte b = (nat_le 32 b && nat_le b 90) || (nat_le 97 b && nat_le b 122)
 
--- a byte that is not allowed here; in a remark all are
+-- whether a byte is not allowed here; in a remark all are
 abbrev pub is_bad : Mode → ℕ → Bool
 is_bad Remark b = false
 is_bad m b = if is_source_byte b then false else true
@@ -26,7 +26,7 @@ unfoldable pub first_bad : Mode → ℕ → List ℕ → Option ℕ
 first_bad m column [] = None
 first_bad m column (b ∷ line) = if is_bad m b then Some column else first_bad (after m b) (column + 1) line
 
--- the text begins with a digit
+-- whether the text begins with a digit
 abbrev pub starts_with_digit : List Placed → Bool
 starts_with_digit [] = false
 starts_with_digit (p ∷ placed) = is_digit p.byte
@@ -43,13 +43,13 @@ number_at n (p ∷ placed) =
     if is_digit p.byte then number_at (10 * n + (p.byte - 48)) placed
     else record { value = n; rest = p ∷ placed }
 
--- the text begins with a word
+-- whether the text begins with a word
 abbrev pub begins : List ℕ → List Placed → Bool
 begins [] placed = true
 begins (letter ∷ letters) [] = false
 begins (letter ∷ letters) (p ∷ placed) = (p.byte == letter) && begins letters placed
 
--- the text begins with a word of Tiny BASIC that is not compiled
+-- whether the text begins with a word of Tiny BASIC that is not compiled
 abbrev pub is_left_out : List Placed → Bool
 is_left_out placed = begins (codes "USR") placed || begins (codes "RUN") placed || begins (codes "LIST") placed || begins (codes "CLEAR") placed
 

@@ -21,7 +21,7 @@ after CodeRe b = after_code CodeRe b (if upper b == 77 then Remark else if upper
 after Text b = if b == 34 then Code else Text
 after Remark b = Remark
 
--- outside texts and remarks
+-- whether a mode is outside texts and remarks
 abbrev pub is_in_code : Mode → Bool
 is_in_code Code = true
 is_in_code CodeR = true
@@ -29,7 +29,7 @@ is_in_code CodeRe = true
 is_in_code Text = false
 is_in_code Remark = false
 
--- a space outside texts and remarks
+-- whether a byte is a space outside texts and remarks
 abbrev pub is_dropped : Mode → ℕ → Bool
 is_dropped m b = (b == 32) && is_in_code m
 

@@ -259,7 +259,7 @@ fn word_token(line: &[u8], start: usize) -> Option<(TokenKind, usize)>
 /// What a letter begins depends on the token before it. After an operator, a relation, `(`, `,`, `;`, LET, PRINT, PR,
 /// INPUT, IF, GOTO or GOSUB it is RND if those letters are there, else a variable. Everywhere else it is a
 /// variable if `=` follows, else the longest keyword there, else a stray byte. What follows REM is
-/// one token, with its spaces, if it isn't empty.
+/// one token, with its spaces, if it isn't empty. Fails only if memory runs out.
 pub fn tokens(alloc: Global, line: &[u8]) -> Result<Vec<Token<'_>>, AllocError>
     ensures { IfOk result (λ v. AreTokens line.now 0 v.items) }
 {
