@@ -72,7 +72,7 @@ fn quotient(a: i16, b: i16) -> Option<i16>
     Some(quotient)
 }
 
-/// An operator on two words; `None` for a division by zero.
+/// An operator on two words read as signed, modulo 65,536; `None` for a division by zero.
 pub fn apply_words(op: Operator, a: u16, b: u16) -> Option<u16>
     ensures { result ≡ apply op a b }
 {
@@ -80,7 +80,7 @@ pub fn apply_words(op: Operator, a: u16, b: u16) -> Option<u16>
     Some(value.cast_unsigned())
 }
 
-/// A word with its sign turned.
+/// The negative of a word, modulo 65,536.
 pub fn negated(word: u16) -> u16
     ensures { result ≡ negated word }
 {

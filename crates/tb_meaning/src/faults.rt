@@ -19,7 +19,7 @@ impl Fault {
     ghost use Rattle.std.specs.Prelude.{◌≡◌, ◌<◌};
     ghost use Rattle.tb_meaning.specs.Parts.{fault_of};
 
-    /// Its number.
+    /// Its number, from 0 to 7.
     pub fn number(self) -> u8
         ensures number { result ≡ fault_of self }
         ensures bound { result < 8 }

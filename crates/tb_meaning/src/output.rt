@@ -28,7 +28,7 @@ impl Output {
         }
     }
 
-    /// Sends a byte.
+    /// Sends a byte. All sending fails only if memory runs out.
     pub fn send(&mut self, byte: u8) -> Result<(), AllocError>
         ensures sent { OnOk result (self.new.sent.items ≡ self.old.sent.items ++ byte ∷ []) }
         ensures column { OnOk result (self.new.column ≡ column_after self.old.column (byte ∷ [])) }
@@ -49,7 +49,7 @@ impl Output {
         Ok(())
     }
 
-    /// Sends a word in decimal, read as signed.
+    /// Sends a word in decimal, read as signed: -32768 to 32767.
     pub fn send_number(&mut self, word: u16) -> Result<(), AllocError>
         ensures sent { OnOk result (self.new.sent.items ≡ self.old.sent.items ++ digits_of word) }
         ensures column { OnOk result (self.new.column ≡ column_after self.old.column (digits_of word)) }
@@ -58,7 +58,7 @@ impl Output {
         self.send_all(text.as_slice())
     }
 
-    /// Sends spaces up to the next zone.
+    /// Sends 1 to 8 spaces, up to the next zone of eight columns.
     pub fn send_zone(&mut self) -> Result<(), AllocError>
         ensures sent { OnOk result (self.new.sent.items ≡ self.old.sent.items ++ zone self.old.column) }
         ensures column { OnOk result (self.new.column ≡ column_after self.old.column (zone self.old.column)) }
