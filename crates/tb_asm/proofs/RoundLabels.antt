@@ -165,7 +165,7 @@ only_memory UnknownLabel h = cc
 only_memory BranchOutOfRange h = cc
 only_memory IndirectAtPageEnd h = cc
 
--- a label that is new is refused for want of memory alone
+-- a new label is refused only if memory runs out
 pub added_by : {U : Type 0} (old new : List (Name × ℕ)) (a : ℕ) (n : Name) (r : Result U AsmErrorKind) → false ≡ is_some (address_in old n)
     → OnOk r ((address_in old n ≡ None) × (new ≡ old ++ (n, a) ∷ [])) → IfErr r (λ k. Refuses (twice old n) k)
     → MatchResult r (λ _. AddsLabel old a (label n) new) (λ k. k ≡ NoMemory)

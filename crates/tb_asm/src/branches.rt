@@ -20,6 +20,9 @@ const LONG: usize = 5;
 
 /// In rounds, until every branch to a label reaches, each one that does not reach by the round's addresses is replaced
 /// by the inverse branch over a jump to the label. All other items come back as they are, in order.
+///
+/// Refused as by the first pass of `assemble`, else as UnknownLabel, else as RunsPast if the items after the last round
+/// run past the end. The item of a refusal is one that was handed in; that of NoMemory is 0.
 pub fn settle(alloc: Global, at: u16, items: &[Item]) -> Result<Vec<Item>, AsmError>
     ensures settled { IfOk result (λ settled. SettlesTo at (map entry_of items.now) (map entry_of settled.items)) }
     ensures reach { IfOk result (λ settled. AllReach at (map entry_of settled.items)) }

@@ -14,7 +14,7 @@ use arrayvec::ArrayVec;
 use std::alloc::Global;
 use tb_opcodes::{Mnemonic, Mode, encode};
 
-/// The items of a line by its parts: nothing, an item, a label, or a label and an item.
+/// Appends the items of a line by its parts: nothing, an item, a label, or a label and an item.
 pub fn read_items(alloc: Global, parts: &[Part], items: &mut Vec<Item>) -> Result<(), LineError>
     ensures { Pushes (items_of parts.now) items.old.items result items.new.items }
 {

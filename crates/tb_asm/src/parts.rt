@@ -27,7 +27,7 @@ pub enum Part {
     Colon,
 }
 
-/// Splits a line into its parts, up to a comment or the line's end.
+/// Splits a line into its parts, up to a comment or the line's end, and puts them into `parts` in place of what it held.
 pub fn read_parts(line: &[u8], parts: &mut Vec<Part>) -> Result<(), LineError>
     ensures { Splits line.now result parts.new.items }
 {
@@ -45,7 +45,7 @@ pub fn read_parts(line: &[u8], parts: &mut Vec<Part>) -> Result<(), LineError>
     Ok(())
 }
 
-/// The bytes after the first ones.
+/// The bytes after the first `size` ones.
 pub fn behind(bytes: &[u8], size: usize) -> &[u8]
     requires { size ≤ length bytes.now }
     ensures { result.now ≡ drop size bytes.now }

@@ -12,7 +12,6 @@ use std::alloc::Global;
 
 /// The items of a text, or its first line that the format does not allow, from 1. A line is nothing, a label and a
 /// colon, an item, or a label and an item.
-/// item, or a label and an item.
 pub fn read_text(alloc: Global, text: &[u8]) -> Result<Vec<Item>, TextError>
     ensures { ReadsText (λ items. map entry_of items.items) (items_of_text text.now) result }
 {
