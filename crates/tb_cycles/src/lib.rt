@@ -163,7 +163,7 @@ fn extra(mnemonic: Mnemonic, mode: Mode, regs: &Regs, memory: &Memory) -> u8
     }
 }
 
-/// The cycles of the instruction at PC; 0 if there is none.
+/// The cycles of the instruction at PC, at most 9; 0 if there is none.
 pub fn cycles(regs: &Regs, memory: &Memory) -> u8
     ensures value { result ≡ cycles_at regs.now (reading (at memory.now)) }
     ensures few { result ≤ 9 }
