@@ -44,7 +44,7 @@ impl Model for Tally {
 }
 
 impl Tally {
-    /// The tally of no steps, of a program whose lines begin at these places.
+    /// The tally of no steps, of a program whose lines begin at these places. Fails only if memory runs out.
     pub fn new(alloc: Global, places: &[u16]) -> Result<Tally, AllocError>
         ensures { IfOk result (λ t. IsTally places.now [] t) }
     {
@@ -89,7 +89,7 @@ impl Tally {
         self.instructions[place as usize]
     }
 
-    /// The cycles of these steps.
+    /// The cycles of the steps that belong to the line that begins at an address.
     pub fn cycles(&self, place: u16) -> u64
         ensures { result ≡ slice_index self.now.cycles place }
     {
