@@ -48,7 +48,7 @@ pub fn write(alloc: Global, image: &Image) -> Result<Vec<u8>, AllocError>
     Ok(file)
 }
 
-/// Reads a PRG file: its first word is the load address, and the rest are the bytes.
+/// Reads a PRG file: its first word is the load address, low byte first, and the rest are the bytes.
 pub fn read(file: &[u8]) -> Result<Loaded<'_>, PrgError>
     ensures { MatchResult result
         (λ l. content_of file.now ≡ Ok (l.at, l.bytes.now))
