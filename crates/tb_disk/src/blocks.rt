@@ -8,7 +8,7 @@ use std::alloc::AllocError;
 /// The most bytes of a file that a block holds.
 pub const BLOCK_DATA: usize = 254;
 
-/// How many blocks follow the first one of a file.
+/// The number of blocks that follow the first one of a file.
 pub fn further_blocks(bytes: &[u8]) -> usize
     ensures { result ≡ further bytes.now }
 {

@@ -17,7 +17,7 @@ pub const MOST_FILES: usize = 144;
 /// The type of a program whose file is closed.
 const PROGRAM: u8 = 0x82;
 
-/// The number of blocks of the directory for a number of files.
+/// The number of blocks of the directory for a number of files: eight files a block, and at least one block.
 pub fn directory_blocks(files: usize) -> usize
     ensures { result ≡ directory_blocks files }
 {

@@ -96,7 +96,7 @@ fn push_title(head: &mut Vec<u8>, name: &Name) -> Result<(), AllocError>
     push_zeros(head, 85)
 }
 
-/// Appends the block.
+/// Appends the 256 bytes of the block.
 pub fn push_head(head: &mut Vec<u8>, used: Used, name: &Name) -> Result<(), AllocError>
     ensures { OnOk result (head.new.items ≡ head.old.items ++ head_block used.files used.directory name.now.field) }
 {

@@ -75,7 +75,7 @@ fn file_blocks(alloc: Global, files: &[File<'_>]) -> Result<Vec<u8>, AllocError>
     Ok(blocks)
 }
 
-/// The image of a disk with these files in order, their blocks file after file in rising tracks.
+/// The image of a disk with these files in order, their blocks file after file in rising tracks: 174,848 bytes.
 pub fn disk(alloc: Global, name: &Name, files: &[File<'_>]) -> Result<Vec<u8>, DiskError>
     ensures { MatchResult result
         (λ image. IsDiskOf name.now files.now image.items)
