@@ -68,7 +68,7 @@ pub fn read_key_file<R: Read>(
     }
 }
 
-/// The text of the key file that spells these keys: their digits, and a 10.
+/// The text of the key file that spells these keys: their digits, and a 10. Fails only if memory runs out.
 pub fn key_file(alloc: Global, keys: &[u8]) -> Result<Vec<u8>, AllocError>
     ensures text { IfOk result (λ text. text.items ≡ key_file_of keys.now) }
     ensures spelled { IfOk result (λ text. keys_of_file text.items ≡ Ok keys.now) }

@@ -44,7 +44,7 @@ impl<T> Tracked<T> {
 impl<R: Read> Tracked<R> {
     ghost use Rattle.tb_streams.specs.Failures.{failures_of};
 
-    /// One read. Every error of the reader counts, `Interrupted` too.
+    /// One read: the number of bytes put into `buf`. Every error of the reader counts, `Interrupted` too.
     pub fn pull(&mut self, buf: &mut [u8]) -> Result<usize, StreamFailure>
         ensures bound { ReadsAtMost result buf.new }
         ensures bytes { ReadConsumes (R.remaining self.old.stream) (R.remaining self.new.stream) result
@@ -64,8 +64,8 @@ impl<R: Read> Tracked<R> {
 impl<W: Write> Tracked<W> {
     ghost use Rattle.tb_streams.specs.Failures.{failures_of};
 
-    /// One write of a text that isn't empty. Every error of the writer counts, and so does a write that
-    /// takes nothing.
+    /// One write of a text that isn't empty: the number of bytes taken. Every error of the writer counts, and so
+    /// does a write that takes nothing.
     pub fn push(&mut self, text: &[u8]) -> Result<usize, StreamFailure>
         requires { 0 < length text.now }
         ensures bound { IfOk result (λ n. (0 < n) × (n ≤ length text.now)) }
