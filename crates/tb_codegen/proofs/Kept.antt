@@ -33,7 +33,7 @@ file_keeps {seed} {p} {code} small some same follows s l ends is =
     let some_numbers : 1 ≤ length (numbers code) = (let a = ap length n in let b = count_numbers p in omega (arith, a, b, some)) in
     subst (λ f. Keeps BASIC_START (drop 2 f) p seed) (sym (is ∙ ap (λ b. header ++ b) l.bytes_are))
     (image_keeps seed p code small follows s.rising s.lists (subst ArePolled (sym same) (all_polled p)) (subst AreClosed (sym same) (all_closed p))
-        some_numbers s.lines l.items l.settled ends (drop 2 header) refl)
+    some_numbers s.lines l.items l.settled ends (drop 2 header) refl)
 
 same_made : (a b : Program) → ◌≡◌ {A = Outcome} (Ok a) (Ok b) → a ≡ b
 same_made a b e = cc

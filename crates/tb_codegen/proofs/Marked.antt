@@ -47,7 +47,7 @@ file_marks {seed} {p} {code} {starts = starts} small some same follows s l ends 
     let some_numbers : 1 ≤ length (numbers code) = (let a = ap length n in let b = count_numbers p in omega (arith, a, b, some)) in
     subst (λ f. MarksLines BASIC_START (drop 2 f) p seed (λ n. unwrap_or (start_in starts n) 0)) (sym (is ∙ ap (λ b. header ++ b) l.bytes_are))
     (image_marks seed p code small follows s.rising s.lists (subst ArePolled (sym same) (all_polled p)) (subst AreClosed (sym same) (all_closed p))
-        some_numbers s.lines l.items l.settled ends (drop 2 header) refl (λ n. unwrap_or (start_in starts n) 0)
+    some_numbers s.lines l.items l.settled ends (drop 2 header) refl (λ n. unwrap_or (start_in starts n) 0)
     (λ k has. (let has_own : has_line (numbers code) k ≡ true = ap (λ ns. has_line ns k) n ∙ has in
     sym (start_of_line own (numbers code) seed k has_own) ∙ start_labelled own (numbers code) k has_own ∙ ap (λ ss. unwrap_or (start_in ss k) 0)
-        (sym (told ∙ ap (λ ls. starts_in ls (numbers code)) l.labels_are)))))
+    (sym (told ∙ ap (λ ls. starts_in ls (numbers code)) l.labels_are)))))

@@ -39,9 +39,11 @@ lines_begin_in_order labels ns seed a asking (line ∷ lines) fs h l =
     let ls = labels_behind labels a fs s.front s.back s.are l in
     let there : stands_at labels (label_of (Line line.number)) ≡ a = ap (λ o. unwrap_or o 0) (stretch_at labels ns seed a asking own s.front s.of_front ls.0) in
     let long = stretch_some ns seed line.number asking (lowered.statement_code line.content) s.front s.of_front in
-    let b = a + forms_size s.front in
-    (omega (arith, there), starts_low (stands_at labels (label_of (Line line.number)) + 1) b (starts_in labels (numbers lines))
-        (omega (arith, there, long)) (lines_begin_in_order labels ns seed b on lines s.back s.of_back ls.1))
+    let b = a + forms_size s.front in (
+      omega (arith, there),
+      starts_low (stands_at labels (label_of (Line line.number)) + 1) b (starts_in labels (numbers lines))
+          (omega (arith, there, long)) (lines_begin_in_order labels ns seed b on lines s.back s.of_back ls.1),
+    )
 
 pub start_numbers : (labels : List (Name × ℕ)) (ns : List ℕ) → map (λ s. s.0) (starts_in labels ns) ≡ ns
 start_numbers labels [] = refl

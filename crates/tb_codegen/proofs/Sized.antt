@@ -34,7 +34,7 @@ use Rattle.tb_templates.proofs.Reached.{program_known}
 use Rattle.tb_codegen.specs.Roomy.{EndsFrom, SuitsAnywhere}
 use Rattle.tb_words.specs.Words.{word_of}
 use Rattle.tb_codegen.specs.declared.compiled.Compiled.{Compiled}
-use Rattle.tb_codegen.specs.Compiled.{prg_of, starts_of, table_of, warnings_of, IsCompiled, starts_in, stands_at, AreKnown, PlacesRise, most}
+use Rattle.tb_codegen.specs.Compiled.{prg_of, starts_of, table_of, warnings_of, IsCompiled, starts_in, stands_at, AreKnown, PlacesRise, most_cost}
 use Rattle.tb_codegen.specs.Texts.{LinesHoldTexts, offset_of}
 use Rattle.tb_templates.proofs.Settled.{Sections, last_broken, sections}
 use Rattle.tb_codegen.proofs.Placed.{lines_known, lines_begin_in_order, start_numbers}
@@ -151,7 +151,7 @@ pub record IsSettling (seed : ℕ) (code : SlotCode) : Type 0 where
   pub ends : PROLOGUE_AT + most_bytes (program_code seed code) ≤ 0xA000
   pub suits : Suits PROLOGUE_AT (program_code seed code)
 
-settling_code : (seed : ℕ) (p : Program) → AreSmall p → RisesFrom 0 (numbers p) → IsCodeInRange 256 (lowered.program_code p) → cost p ≤ most → IsSettling seed (lowered.program_code p)
+settling_code : (seed : ℕ) (p : Program) → AreSmall p → RisesFrom 0 (numbers p) → IsCodeInRange 256 (lowered.program_code p) → cost p ≤ most_cost → IsSettling seed (lowered.program_code p)
 settling_code seed p small rises ranges cheap =
     let code = lowered.program_code p in
     let a = program_fits p (small_spaced p small) in
@@ -164,7 +164,7 @@ settling_code seed p small rises ranges cheap =
     }
 
 pub settling : (seed : ℕ) (p : Program) {code : SlotCode} {n : ℕ} → code ≡ lowered.program_code p → AreStated p → RisesFrom 0 (numbers p)
-    → ((limit : ℕ) → HasShortTexts limit p → IsCodeInRange limit code) → n ≤ most → n ≡ cost p → IsSettling seed code
+    → ((limit : ℕ) → HasShortTexts limit p → IsCodeInRange limit code) → n ≤ most_cost → n ≡ cost p → IsSettling seed code
 settling seed p same stated rises ranges cheap costs =
     let small = are_small p stated in
     subst (IsSettling seed) (sym same) (settling_code seed p small rises (subst (IsCodeInRange 256) same (ranges 256 (small_short p small))) (omega (arith, cheap, costs)))

@@ -15,6 +15,7 @@ use Rattle.tb_runtime16.specs.Places.{PROLOGUE_AT, LINES_AT}
 use Rattle.tb_templates.specs.declared.labels.Target.TheVariants.{Line, Past, Table}
 use Rattle.tb_templates.specs.Labels.{label_of}
 use Rattle.tb_templates.specs.Program.{program_code}
+use Rattle.tb_codegen.specs.declared.compiler.TheConstants.{MOST_COST}
 use Rattle.tb_codegen.specs.Texts.{LinesHoldTexts}
 use Rattle.tb_codegen.specs.declared.compiled.LineStart.{LineStart}
 use Rattle.tb_codegen.specs.declared.compiled.Compiled.{Compiled}
@@ -85,8 +86,8 @@ AreKnown labels [] = Unit {0}
 AreKnown labels (n ∷ ns) = (is_some (address_in labels (label_of (Line n))) ≡ true) × AreKnown labels ns
 
 -- the most that a program may cost
-abbrev pub most : ℕ
-most = 37888
+abbrev pub most_cost : ℕ
+most_cost = MOST_COST
 
 -- Compiled, a program is a PRG file with its settled items from the block's address on; code and table end by $9FFF. A
 -- line begins where its label stands among them, and so does the line table.

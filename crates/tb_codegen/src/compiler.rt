@@ -19,7 +19,7 @@ ghost use Rattle.tb_codegen.specs.Roomy.{EndsFrom, SuitsAnywhere};
 ghost use Rattle.tb_simulation.specs.Kept.{Keeps};
 ghost use Rattle.tb_simulation.specs.LineStarts.{MarksLines};
 ghost use Rattle.tb_codegen.specs.declared.compiled.Compiled.{Compiled};
-ghost use Rattle.tb_codegen.specs.Compiled.{loaded_of, start_of, AreKnown, pair_of, starts_in, most};
+ghost use Rattle.tb_codegen.specs.Compiled.{loaded_of, start_of, AreKnown, pair_of, starts_in};
 
 use crate::compiled::{Compiled, LineStart};
 use crate::costs::cost;
@@ -36,7 +36,7 @@ use tb_syntax::Program;
 use tb_templates::{Target, label, program_items};
 
 /// The most that a program may cost.
-const MOST: u32 = 37_888;
+pub const MOST_COST: u32 = 37_888;
 
 /// The bytes from the block's address on up to `$9FFF`.
 const ROOM: usize = 0xA000 - BLOCK_AT as usize;
@@ -73,7 +73,7 @@ fn compile_program(alloc: Global, program: &Program, seed: u16) -> Result<Compil
 {
     let code = lower(alloc, program)?;
     let cost = cost(program);
-    if cost > MOST {
+    if cost > MOST_COST {
         return Err(CompileError::TooLarge(cost));
     }
     let image = laid(alloc, &code, seed)?;

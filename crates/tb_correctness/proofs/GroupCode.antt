@@ -12,6 +12,7 @@ use Rattle.tb_syntax.specs.declared.expressions.Operator.TheVariants.{Add, Subtr
 use Rattle.tb_meaning.specs.Control.{Place, content_at, has_line, highest}
 use Rattle.tb_lower.specs.Ranges.{AreInRange}
 use Rattle.tb_lower.specs.Slots as slots
+use Rattle.tb_kernal.specs.declared.places.TheConstants.{GETIN}
 use Rattle.tb_runtime16.specs.Places.{LEFT, RIGHT, RESULT, WANTED, LINE, NOTES, NOTE_LOW, NOTE_HIGH, MULTIPLY_AT, DIVIDE_AT, RANDOM_AT, NUMBER_AT, PUSH_AT, POP_AT}
 use Rattle.tb_templates.specs.declared.sources.Source.{Source}
 use Rattle.tb_templates.specs.declared.sources.Source.TheVariants.{FixedWord, AtPlace}
@@ -610,7 +611,7 @@ broken_code n = Code (faulting n 0) ∷ []
 -- a line whose list begins with a poll; its first instruction is among all the program's bytes only
 abbrev pub LineStands : Layout → (code whole : Part) (n at : ℕ) → List slots.Instr → Type 0
 LineStands ly code whole n at is =
-    (way : Way) × (stop : ℕ) × (at + 3 ≤ highest_code) × Stands whole at (call 0xFFE4) × Lies code (at + 3) (poll_code (at + 3) way stop)
+    (way : Way) × (stop : ℕ) × (at + 3 ≤ highest_code) × Stands whole at (call GETIN) × Lies code (at + 3) (poll_code (at + 3) way stop)
         × BranchReaches way (at + 5) stop × Lies code stop (broken_code n) × GroupsLie ly code n (at + 5 + way_size way) (select is)
 
 -- a list that begins with a poll, the rest of which stands behind it

@@ -15,7 +15,7 @@ use Rattle.tb_syntax.specs.Source.{numbers}
 use Rattle.tb_meaning.specs.Control.{Place, At, Past, next_after, has_line, content_at}
 use Rattle.tb_lower.specs.Slots as slots
 use Rattle.tb_lower.specs.Ranges.{AreInRange}
-use Rattle.tb_runtime16.specs.Places.{GETIN}
+use Rattle.tb_kernal.specs.declared.places.TheConstants.{GETIN}
 use Rattle.tb_selection.specs.Groups.{Group, expand, expand_all}
 use Rattle.tb_selection.specs.Select.{select}
 use Rattle.tb_selection.proofs.Bracketed.{brackets}
@@ -163,7 +163,7 @@ module _ (labels : List (Name × ℕ)) (seed : ℕ) (code : Part) (sc : slots.Sl
         let there : at + forms_size s.front ≡ at + 3 = omega (arith, three) in
         let behind_call : Rest labels (at + 3) (t.front ++ t.back) = rest_behind labels at (at + 3) s.front (t.front ++ t.back) there all in
         let bytes = part_bytes code at s.front (t.front ++ t.back) (let b = all.below in b) (subst (λ k. Bytes code at (bytes_from labels at (items_from at k))) whole l.lies.bytes) in
-        let call_bytes : Bytes code at (flat (call 0xFFE4)) = subst (λ es. Bytes code at (bytes_from labels at es)) head bytes.0 in
+        let call_bytes : Bytes code at (flat (call GETIN)) = subst (λ es. Bytes code at (bytes_from labels at es)) head bytes.0 in
         let later : Bytes code (at + 3) (bytes_from labels (at + 3) (items_from (at + 3) (t.front ++ t.back))) =
             subst (λ a. Bytes code a (bytes_from labels a (items_from a (t.front ++ t.back)))) there bytes.1 in
         let inner_later : Bytes within (at + 3) (bytes_from labels (at + 3) (items_from (at + 3) (t.front ++ t.back))) =
@@ -184,7 +184,7 @@ module _ (labels : List (Name × ℕ)) (seed : ℕ) (code : Part) (sc : slots.Sl
           p.way,
           to,
           omega (arith, below, total, three),
-          stands_there code at (call 0xFFE4) (omega (arith, below, total, three)) call_bytes,
+          stands_there code at (call GETIN) (omega (arith, below, total, three)) call_bytes,
           lies within (within_small labels seed code sc laid) (at + 3) ps (omega (arith, behind_below, sum, poll_long)) (subst (Bytes within (at + 3)) p.emits.bytes parts.0),
           subst (λ a. BranchReaches p.way a to) (let q : at + 3 + 2 ≡ at + 5 = omega arith in q) p.reach,
           broken_lies labels seed code sc laid n small has,

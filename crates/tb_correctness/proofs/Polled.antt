@@ -14,6 +14,7 @@ use Rattle.tb_reaching.proofs.Services.{served_last}
 use Rattle.tb_reaching.specs.Start.{IsHome}
 use Rattle.tb_reaching.specs.View.{Comes, Fits, View, view}
 use Rattle.tb_opcodes.specs.Bytes.{AreBytes}
+use Rattle.tb_kernal.specs.declared.places.TheConstants.{GETIN}
 use Rattle.tb_runtime16.specs.Routines.{Here, Moves, WithA}
 use Rattle.tb_simulation.specs.Layout.{place_at}
 use Rattle.tb_simulation.proofs.Joins.{LawAt, sent_in}
@@ -71,9 +72,9 @@ module _ (around : Surroundings) (fits : Fits around.f 16) (limit : ℕ) (rs : S
 
   -- the answer is in A
   asks : (at : ℕ) (m : ℕ → ℕ) (text answers : List ℕ) → at + 3 ≤ highest_code
-      → Moves f (Here 0xFFE4 ((at + 2) % 256 ∷ (at + 2) / 256 ∷ own) m text answers) (WithA (at + 3) (first_or_zero answers) own m text (drop 1 answers)) [] 1
-  asks at m text answers b = whatever f 16 fits 0xFFE4 ((at + 2) % 256 ∷ (at + 2) / 256 ∷ own) m text answers _ [] 1 (λ a x y n v i z c.
-      served_last f 16 fits Getin (view a x y n v i z c 0xFFE4 ((at + 2) % 256 ∷ (at + 2) / 256 ∷ own) m text answers) ((at + 2) % 256) ((at + 2) / 256) own _ refl refl refl refl
+      → Moves f (Here GETIN ((at + 2) % 256 ∷ (at + 2) / 256 ∷ own) m text answers) (WithA (at + 3) (first_or_zero answers) own m text (drop 1 answers)) [] 1
+  asks at m text answers b = whatever f 16 fits GETIN ((at + 2) % 256 ∷ (at + 2) / 256 ∷ own) m text answers _ [] 1 (λ a x y n v i z c.
+      served_last f 16 fits Getin (view a x y n v i z c GETIN ((at + 2) % 256 ∷ (at + 2) / 256 ∷ own) m text answers) ((at + 2) % 256) ((at + 2) / 256) own _ refl refl refl refl
       (λ j. record { here = record { pc = behind_call at b; stack = refl; binary = refl; mem = refl; text = refl; answers = refl }; number = refl }))
 
   module _ (n : ℕ) (small : n < 65536) (is : List Instr) (s : State) (r : Slots) (closed : AreClosed code) (some : content_at code n
@@ -169,7 +170,7 @@ module _ (around : Surroundings) (fits : Fits around.f 16) (limit : ℕ) (rs : S
           few = omega arith;
           one = looser (opened f) w _ _ [] 1 1 (omega arith)
               (λ u g. chained f u _ _ [] (sent_in (outcome code n is s r s.answers)) 1 (10 + limit) (asks at w.mem s.text s.answers lies.2 u g) (led s.answers refl h.short.answer_bytes))
-              (calls (opened f) 16 fits at own w.mem s.text s.answers refl 0xFFE4 refl lies.2 lies.3 w (record { pc = h.pc ∙ ap (place_at ly) here;
+              (calls (opened f) 16 fits at own w.mem s.text s.answers refl GETIN refl lies.2 lies.3 w (record { pc = h.pc ∙ ap (place_at ly) here;
                   stack = h.stack; binary = h.binary; mem = refl; text = h.text; answers = h.answers }));
         })
 

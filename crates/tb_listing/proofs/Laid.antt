@@ -80,15 +80,15 @@ are_laid seed ls c stated rises h =
     let s : IsSettling seed code = settling seed p refl stated rises (in_range ls code h.shallow refl) h.small refl in
     let labels = labels_from PROLOGUE_AT h.items in
     let g : Sections seed code h.items labels = sections seed code s.lists s.rising h.items
-        (settled_by PROLOGUE_AT (program_code seed code) h.items h.settled (settled_reaches PROLOGUE_AT (program_code seed code) h.items h.settled)) in
+    (settled_by PROLOGUE_AT (program_code seed code) h.items h.settled (settled_reaches PROLOGUE_AT (program_code seed code) h.items h.settled)) in
     let own = items_from LINES_AT g.lines in
     let past = past_code ns in let last = last_broken code in let find = find_code ns in let rows = table_code ns in
     let table : table_of c ≡ LINES_AT + forms_size g.lines + size past + size last + size find = ap (λ o. unwrap_or o 0) (sym h.table ∙ g.table) in
     let all : size h.items ≡ size block_code + (size own + (size past + (size last + (size find + size rows)))) =
     ap size g.are ∙ size_append block_code (own ++ (past ++ (last ++ (find ++ rows))))
-        ∙ ap (λ n. size block_code + n) (size_append own (past ++ (last ++ (find ++ rows)))
-        ∙ ap (λ n. size own + n) (size_append past (last ++ (find ++ rows)) ∙ ap (λ n. size past + n) (size_append last (find ++ rows)
-        ∙ ap (λ n. size last + n) (size_append find rows)))) in
+    ∙ ap (λ n. size block_code + n) (size_append own (past ++ (last ++ (find ++ rows)))
+    ∙ ap (λ n. size own + n) (size_append past (last ++ (find ++ rows)) ∙ ap (λ n. size past + n) (size_append last (find ++ rows)
+    ∙ ap (λ n. size last + n) (size_append find rows)))) in
     let own_size : size own ≡ forms_size g.lines = items_size LINES_AT g.lines in
     let file : length (prg_of c) ≡ length header + length (image_of PROLOGUE_AT h.items) = ap length h.prg ∙ length-append header (image_of PROLOGUE_AT h.items) in
     let image : length (image_of PROLOGUE_AT h.items) ≡ size h.items = all_size labels PROLOGUE_AT h.items in

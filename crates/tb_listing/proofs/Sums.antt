@@ -55,4 +55,4 @@ prices_add_up starts table bytes p e =
     let whole : sum_by (λ q. q.price) (parts starts table bytes p) ≡ 64 + sum_by (λ q. q.price) (line_parts starts table p ++ table_part table bytes ∷ []) =
     sum_by-cons (λ q. q.price) (block_part starts table) (line_parts starts table p ++ table_part table bytes ∷ []) in
     whole ∙ ap (λ n. 64 + n) (let e : sum_by (λ q. q.price) (line_parts starts table p ++ table_part table bytes ∷ [])
-        ≡ sum_by (λ line. 36 + statement_cost line.content) p = omega (arith, lines, both, last) in e)
+    ≡ sum_by (λ line. 36 + statement_cost line.content) p = omega (arith, lines, both, last) in e)

@@ -1,5 +1,6 @@
 -- What a build makes of a source.
 use Rattle.std.specs.Prelude.{◌≡◌, ℕ, ◌-◌, ◌≤◌, List, Ok, Err, drop, length, sum_by}
+use Rattle.tb_streams.specs.Streams.{most_input}
 use Rattle.tb_syntax.specs.Source.{Program}
 use Rattle.tb_meaning.specs.Cost.{cost}
 use Rattle.tb_parser.specs.Files.{Outcome}
@@ -24,7 +25,7 @@ pub record Tells (source : List ℕ) (compiled : Compiled) (program : Program) (
   pub prg : made.prg.items ≡ prg_of compiled
   pub labels : made.labels.items ≡ labels_text (places (starts_of compiled) (table_of compiled))
   pub listing : GivesBack PROLOGUE_AT made.listing.items (drop 14 (prg_of compiled))
-  pub readable : length made.listing.items ≤ 1048576
+  pub readable : length made.listing.items ≤ most_input
   pub shows : ShowsLines source (starts_of compiled) (drop 14 (prg_of compiled)) made.listing.items
   pub map : made.map.items ≡ map_text (starts_of compiled) (table_of compiled) (image_size compiled) program
   pub warnings : made.warnings.items ≡ warnings_of compiled

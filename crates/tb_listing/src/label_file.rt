@@ -7,17 +7,11 @@ ghost use Rattle.tb_listing.specs.Labels.{name_of, all_routines, routine_place, 
 use hex::encode;
 use std::alloc::{AllocError, Global};
 use tb_codegen::LineStart;
+use tb_kernal::{CHRIN, CHROUT, GETIN};
 use tb_runtime16::{BLOCK_AT, NOTES, Routine, SEND_AT, VARS, entry};
 
 /// How many variables there are.
 const VARIABLES: u16 = 26;
-
-// The services of the ROM that a program calls.
-pub const CHRIN: u16 = 0xffcf;
-
-pub const CHROUT: u16 = 0xffd2;
-
-pub const GETIN: u16 = 0xffe4;
 
 /// The routines by rising address.
 pub const ROUTINES: [Routine; 13] = [

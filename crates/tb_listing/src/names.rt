@@ -3,12 +3,13 @@ ghost use Rattle.std.specs.Prelude.{◌≡◌, ◌++◌, false, true, IfOk, OnOk
 ghost use Rattle.std.specs.Fmt.{decimal};
 ghost use Rattle.tb_listing.specs.Comments.{begins_plainly, is_comment};
 
-use crate::label_file::{CHRIN, CHROUT, GETIN, ROUTINES, name};
+use crate::label_file::{ROUTINES, name};
 use crate::marks::Marks;
 use crate::pieces::{Kind, Program};
 use std::alloc::{AllocError, Global};
 use tb_codegen::LineStart;
 use tb_disasm::write_word;
+use tb_kernal::{CHRIN, CHROUT, GETIN};
 use tb_runtime16::{
     BLOCK_AT, BYTE, COLUMN, COUNT, HELD, HOME_S, LEFT, LENGTH, LINE, LINES_AT, NOTE_HIGH, NOTE_LOW,
     NOTES, OPEN, RESULT, RIGHT, SCRATCH, SEED, SEEDED, SEND_AT, SLOTS, VARS, WANTED, entry,

@@ -49,7 +49,7 @@ HasValue n e old new (Err why) =
 abbrev pub HasRelation : ℕ → Expression → Rel → Expression → Interpreter → Interpreter → Result Bool RunStop → Type 0
 HasRelation n l rel r old new (Ok b) =
     (go : Bool → State → Step State) → joined old.output.sent.items (valued n l (state_of old) (λ x s. valued n r s (λ y s'. go (holds rel x y) s')))
-        ≡ joined new.output.sent.items (go b (state_of new))
+    ≡ joined new.output.sent.items (go b (state_of new))
 HasRelation n l rel r old new (Err why) =
     (go : Bool → State → Step State) → IsStopped (joined old.output.sent.items (valued n l (state_of old) (λ x s. valued n r s (λ y s'. go (holds rel x y) s')))) new.output.sent.items why
 

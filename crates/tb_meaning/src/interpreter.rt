@@ -21,7 +21,7 @@ use tb_syntax::{Expr, PrintItem, Program, Statement};
 use tb_words::{Letter, Rel, holds, next_seed};
 
 /// How many returns can be noted.
-const DEEPEST: usize = 500;
+pub const DEEPEST: usize = 500;
 
 /// How a run stands.
 #[derive(Clone, Copy, PartialEq, Eq, Debug, Drop)]

@@ -12,16 +12,10 @@ ghost use Rattle.tb_profile.specs.Profiles.{Profiled};
 use crate::tally::Tally;
 use std::alloc::{AllocError, Global};
 use tb_cycles::cycles;
-use tb_kernal::{Event, Machine, Outside, Status};
+use tb_kernal::{CHRIN, CHROUT, Event, GETIN, Machine, Outside, Status};
 
 /// What a service counts, whose time isn't the program's: its RTS.
 const SERVICE_CYCLES: u8 = 6;
-
-const CHROUT: u16 = 0xffd2;
-
-const CHRIN: u16 = 0xffcf;
-
-const GETIN: u16 = 0xffe4;
 
 /// How a machine stands after a run, and what was counted.
 #[derive(Drop)]

@@ -95,19 +95,6 @@ NOTE_LOW = 0xC100
 abbrev pub NOTE_HIGH : ℕ
 NOTE_HIGH = 0xC300
 
--- ── services ──
--- the service that sends the byte in A
-abbrev pub CHROUT : ℕ
-CHROUT = 0xFFD2
-
--- the service that gives the next byte of the keyboard's text, and waits where there is none
-abbrev pub CHRIN : ℕ
-CHRIN = 0xFFCF
-
--- the service that gives the keyboard's next answer, 0 where there is none
-abbrev pub GETIN : ℕ
-GETIN = 0xFFE4
-
 -- ── the lines' code ──
 -- where the lines' code begins, behind the block
 abbrev pub LINES_AT : ℕ

@@ -9,7 +9,7 @@ use Rattle.tb_kernal.specs.Machine.{happens}
 use Rattle.tb_kernal.specs.Runs.{run, all_lawful, goes}
 use Rattle.tb_syntax.specs.Source.{Program, numbers}
 use Rattle.tb_meaning.specs.Steps.{GoesOn}
-use Rattle.tb_meaning.specs.Control.{At, Past, Place, State, has_line}
+use Rattle.tb_meaning.specs.Control.{At, Past, Place, State, deepest, has_line}
 use Rattle.tb_meaning.specs.Meaning.{source_run}
 use Rattle.tb_runtime16.specs.Places.{NOTES, NOTE_HIGH, NOTE_LOW}
 use Rattle.tb_templates.specs.Templates.{var_at}
@@ -44,7 +44,7 @@ pub record BeginsLine (program : Program) (seed : ℕ) (start : ℕ → ℕ) (s 
   pub place : state.place ≡ At number
   pub vars : (x : ℕ) → x < 26 → word_in t.mem (var_at x) ≡ slice_index state.vars x
   pub notes : word_in t.mem NOTES ≡ length state.returns
-  pub few : length state.returns ≤ 500
+  pub few : length state.returns ≤ deepest
   pub returns : HoldsReturns start (numbers program) t.mem state.returns
 
 -- among some events a Go at a line's start, m such having come before it, and fewer than so many Go events

@@ -57,7 +57,7 @@ has_form_mode : (e : Entry) → has_form e ≡ true → has_mode e ≡ true
 has_form_mode (instr n m o) h =
     let rest = right_true (is_some (find_opcode rows n m)) (suits m o && may_move (instr n m o)) h in
     and_from (is_some (encoded n m)) (suits m o) (ap is_some (encoded_by n m) ∙ left_true (is_some (find_opcode rows n m))
-        (suits m o && may_move (instr n m o)) h) (left_true (suits m o) (may_move (instr n m o)) rest)
+    (suits m o && may_move (instr n m o)) h) (left_true (suits m o) (may_move (instr n m o)) rest)
 has_form_mode (label n) h = refl
 has_form_mode (bytes bs) h = refl
 has_form_mode (word o) h = h
@@ -129,7 +129,7 @@ taken_forms (AtPlace p) (AtPlace q) to = refl
 handed_forms : (routine from : ℕ) (a b : Source) (to : ℕ) → list_all has_form (handed routine from a b to) ≡ true
 handed_forms routine from a b to =
     forms_append (brought a LEFT) (brought b RIGHT ++ (call routine ∷ copied from to)) (brought_forms a LEFT)
-        (forms_append (brought b RIGHT) (call routine ∷ copied from to) (brought_forms b RIGHT) (copied_forms from to))
+    (forms_append (brought b RIGHT) (call routine ∷ copied from to) (brought_forms b RIGHT) (copied_forms from to))
 
 lined_forms : (t : Bool) (n : ℕ) (es : List Entry) → list_all has_form es ≡ true → list_all has_form (lined t n es) ≡ true
 lined_forms true n es h = h
@@ -269,7 +269,7 @@ rest_forms ns seed n i (g ∷ gs) = forms_append (group_template ns seed n i g) 
 line_forms : (ns : List ℕ) (seed n : ℕ) (is : List Instr) → list_all has_form (list_code ns seed n is) ≡ true
 line_forms ns seed n is =
     by_poll (λ es. list_all has_form es ≡ true) ns seed n is (λ js e. forms_append (polled n) (rest_code ns seed n 1 (select js)) refl
-        (rest_forms ns seed n 1 (select js))) (rest_forms ns seed n 1 (select is))
+    (rest_forms ns seed n 1 (select js))) (rest_forms ns seed n 1 (select is))
 
 broken_forms : (ns : List ℕ) → list_all has_form (all_broken ns) ≡ true
 broken_forms [] = refl

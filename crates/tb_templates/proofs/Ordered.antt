@@ -161,8 +161,14 @@ module _ (ns : List ℕ) (seed n i : ℕ) (small : n < 65536) (index : i < 65536
   call_rises to false = up
 
   template_rises : (c : Instr) → Rising (base n i) (template ns n i c) (base n (i + 1))
-  template_rises (SendText bs) = (let t = keyed inner.Text in omega (arith, t), (let t = keyed inner.Text in let u = keyed inner.Behind in
-      omega (arith, t, u), let u = keyed inner.Behind in omega (arith, u)))
+  template_rises (SendText bs) = (
+    let t = keyed inner.Text in omega (arith, t),
+    (
+      let t = keyed inner.Text in let u = keyed inner.Behind in
+          omega (arith, t, u),
+      let u = keyed inner.Behind in omega (arith, u),
+    ),
+  )
   template_rises (JumpTo to) = jump_rises ns n to (base n i) (base n (i + 1)) (has_line ns to) refl up
   template_rises (CallTo to) = call_rises to (has_line ns to)
   template_rises Return = (let u = keyed inner.Behind in omega (arith, u), let u = keyed inner.Behind in omega (arith, u))
@@ -182,13 +188,19 @@ module _ (ns : List ℕ) (seed n i : ℕ) (small : n < 65536) (index : i < 65536
   remains_rise : (a b : Source) (to : ℕ) → Rising (base n i) (remains n (Inside inner.Skip n i) a b to) (base n (i + 1))
   remains_rise a b to =
       rising_append (base n i) (base n i) (base n (i + 1)) (asked_rest n a b) (signed_rest (Inside inner.Skip n i) a to)
-          (plain_rises (base n i) (base n i) (asked_rest n a b) (omega arith) (asked_rest_plain n a b)) (by a)
+      (plain_rises (base n i) (base n i) (asked_rest n a b) (omega arith) (asked_rest_plain n a b)) (by a)
     where
       by : (a : Source) → Rising (base n i) (signed_rest (Inside inner.Skip n i) a to) (base n (i + 1))
-      by (FixedWord w) = let s = keyed inner.Skip in (omega (arith, s), plain_rises (key_of (label_of (Inside inner.Skip n i)) + 1) (base n (i + 1))
-          (copied RESULT to) (omega (arith, s)) (copied_plain RESULT to))
-      by (AtPlace p) = let s = keyed inner.Skip in (omega (arith, s), plain_rises (key_of (label_of (Inside inner.Skip n i)) + 1) (base n (i + 1))
-          (copied RESULT to) (omega (arith, s)) (copied_plain RESULT to))
+      by (FixedWord w) = let s = keyed inner.Skip in (
+        omega (arith, s),
+        plain_rises (key_of (label_of (Inside inner.Skip n i)) + 1) (base n (i + 1))
+            (copied RESULT to) (omega (arith, s)) (copied_plain RESULT to),
+      )
+      by (AtPlace p) = let s = keyed inner.Skip in (
+        omega (arith, s),
+        plain_rises (key_of (label_of (Inside inner.Skip n i)) + 1) (base n (i + 1))
+            (copied RESULT to) (omega (arith, s)) (copied_plain RESULT to),
+      )
 
   -- the label of a change in place in its code
   computed_rises : (o : Option Change) (op : Operator) (a b : Source) (to : ℕ) → Rising (base n i) (changed_or o n (Inside inner.Skip n i) op a b to) (base n (i + 1))
@@ -215,12 +227,12 @@ module _ (ns : List ℕ) (seed n i : ℕ) (small : n < 65536) (index : i < 65536
   group_rises (Stepped op a b by w x) =
       let to = var_at x in
       rising_append (base n i) (key_of (label_of (Inside inner.Skip n i)) + 1) (base n (i + 1)) (computed n (Inside inner.Skip n i) op (source_of 0 a)
-          (source_of 1 b) to) (computed n (Inside inner.Behind n i) by (AtPlace to) (source_of 1 (Constant w)) to)
+      (source_of 1 b) to) (computed n (Inside inner.Behind n i) by (AtPlace to) (source_of 1 (Constant w)) to)
       (changes_rise (base n i) (key_of (label_of (Inside inner.Skip n i)) + 1) (Inside inner.Skip n i) (let s = keyed inner.Skip in omega (arith, s))
-          (omega arith) (change_of op (source_of 0 a) (source_of 1 b) to) op (source_of 0 a) (source_of 1 b) to)
+      (omega arith) (change_of op (source_of 0 a) (source_of 1 b) to) op (source_of 0 a) (source_of 1 b) to)
       (changes_rise (key_of (label_of (Inside inner.Skip n i)) + 1) (base n (i + 1)) (Inside inner.Behind n i) (let s = keyed inner.Skip in
-          let u = keyed inner.Behind in omega (arith, s, u)) (let u = keyed inner.Behind in omega (arith, u))
-          (change_of by (AtPlace to) (source_of 1 (Constant w)) to) by (AtPlace to) (source_of 1 (Constant w)) to)
+      let u = keyed inner.Behind in omega (arith, s, u)) (let u = keyed inner.Behind in omega (arith, u))
+      (change_of by (AtPlace to) (source_of 1 (Constant w)) to) by (AtPlace to) (source_of 1 (Constant w)) to)
   group_rises (Convert what a d) = converted_rises (base n i) (base n (i + 1)) n seed what (source_of (slot_of d) a) (destination_at d) up
   group_rises (Move a home) = brought_rises (base n i) (base n (i + 1)) up (source_of 0 a) (home_at home)
   group_rises (Use how a) = used_rises (base n i) (base n (i + 1)) n (next_line ns n) how (source_of 0 a) up
@@ -243,7 +255,7 @@ polled_rises n = omega arith
 list_rises : (ns : List ℕ) (seed n : ℕ) (is : List Instr) → n < 65536 → length is < 65536 → Rising (base n 0 + 1) (list_code ns seed n is) (base (n + 1) 0)
 list_rises ns seed n is h l =
     by_poll (λ es. Rising (base n 0 + 1) es (base (n + 1) 0)) ns seed n is (λ js e. rising_append (base n 0 + 1) (base n 1) (base (n + 1) 0)
-        (polled n) (rest_code ns seed n 1 (select js)) (polled_rises n) (groups js (let s = ap length e in omega (arith, s, l))))
+    (polled n) (rest_code ns seed n 1 (select js)) (polled_rises n) (groups js (let s = ap length e in omega (arith, s, l))))
     (rising_lower (base n 0 + 1) (base n 1) (base (n + 1) 0) (rest_code ns seed n 1 (select is)) (omega arith) (groups is l))
   where
     groups : (js : List Instr) → length js < 65536 → Rising (base n 1) (rest_code ns seed n 1 (select js)) (base (n + 1) 0)

@@ -289,7 +289,7 @@ module _ (labels : List (Name × ℕ)) (ns : List ℕ) (known : Known labels ns)
   remains_known : (n at : ℕ) (skip : Target) (a b : Source) (to : ℕ) → LabelsAt labels at (remains n skip a b to) → AllKnown labels (remains n skip a b to)
   remains_known n at skip a b to h =
       known_append labels (asked_rest n a b) (signed_rest skip a to) (plain_known labels (asked_rest n a b) (asked_rest_plain n a b))
-          (by a (labels_split labels at (asked_rest n a b) (signed_rest skip a to) h).1)
+      (by a (labels_split labels at (asked_rest n a b) (signed_rest skip a to) h).1)
     where
       by : (a : Source) → LabelsAt labels (at + size (asked_rest n a b)) (signed_rest skip a to) → AllKnown labels (signed_rest skip a to)
       by a h = (high_known Lda a ▹ to_label skip (ap is_some h.1.1.1.1.1.1.1.1.1.0) ▹ refl ▹ refl ▹ refl ▹ refl ▹ refl ▹ refl ▹ refl ▹ refl ▹ copied_known RESULT to)

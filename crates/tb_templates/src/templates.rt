@@ -21,15 +21,13 @@ use crate::pieces::{
 use crate::sources::{slot_address, variable_at};
 use std::alloc::AllocError;
 use tb_asm::Item;
+use tb_kernal::CHROUT;
 use tb_lower::SlotInstr;
 use tb_opcodes::Mnemonic;
 use tb_runtime16::{COLUMN, LENGTH, LINE, NOTE_HIGH, NOTE_LOW, NOTES, POINTER, RESULT, Routine};
 
 /// The fault of a line that is not there.
 pub const NO_LINE: u8 = 1;
-
-// The service that sends the byte in A.
-const CHROUT: u16 = 0xffd2;
 
 /// Where a group stands: its line, its index in the line, from 1 on, and the place of the line behind.
 #[derive(Clone, Copy, Debug, Drop)]

@@ -54,15 +54,15 @@ returns-clause-keeps c some = file_keeps c.ranges.seed.fits some c.in_ok-code.en
 pub returns-clause-marks : goal.returns-clause-marks
 returns-clause-marks c some =
     file_marks c.ranges.seed.fits some c.in_ok-code.ensures.lowered c.in_ok-code.ensures.follows
-        (listed (lines_of c.args.program.now) c.in_ok-code.ensures.lowered c.requires.stated c.requires.rising c.in_ok-code.ensures.in_range)
-        (subst (λ o. IfSome o (λ image. IsLaid PROLOGUE_AT (program_code c.args.seed (code_of c.in_ok-code.code)) image.at image.bytes.items
-        image.labels.entries × (PROLOGUE_AT + length image.bytes.items ≤ 0xA000))) c.in-Some.is c.in_ok-image.ensures.fits).0
-        (bytes_end c.args.seed (listed (lines_of c.args.program.now) c.in_ok-code.ensures.lowered c.requires.stated c.requires.rising
-        c.in_ok-code.ensures.in_range)
-        (subst (λ o. IfSome o (λ image. IsLaid PROLOGUE_AT (program_code c.args.seed (code_of c.in_ok-code.code)) image.at image.bytes.items
-        image.labels.entries × (PROLOGUE_AT + length image.bytes.items ≤ 0xA000))) c.in-Some.is c.in_ok-image.ensures.fits).0
-        (subst (λ o. IfSome o (λ image. IsLaid PROLOGUE_AT (program_code c.args.seed (code_of c.in_ok-code.code)) image.at image.bytes.items
-        image.labels.entries × (PROLOGUE_AT + length image.bytes.items ≤ 0xA000))) c.in-Some.is c.in_ok-image.ensures.fits).1) c.in_ok-write.ensures
+    (listed (lines_of c.args.program.now) c.in_ok-code.ensures.lowered c.requires.stated c.requires.rising c.in_ok-code.ensures.in_range)
+    (subst (λ o. IfSome o (λ image. IsLaid PROLOGUE_AT (program_code c.args.seed (code_of c.in_ok-code.code)) image.at image.bytes.items
+    image.labels.entries × (PROLOGUE_AT + length image.bytes.items ≤ 0xA000))) c.in-Some.is c.in_ok-image.ensures.fits).0
+    (bytes_end c.args.seed (listed (lines_of c.args.program.now) c.in_ok-code.ensures.lowered c.requires.stated c.requires.rising
+    c.in_ok-code.ensures.in_range)
+    (subst (λ o. IfSome o (λ image. IsLaid PROLOGUE_AT (program_code c.args.seed (code_of c.in_ok-code.code)) image.at image.bytes.items
+    image.labels.entries × (PROLOGUE_AT + length image.bytes.items ≤ 0xA000))) c.in-Some.is c.in_ok-image.ensures.fits).0
+    (subst (λ o. IfSome o (λ image. IsLaid PROLOGUE_AT (program_code c.args.seed (code_of c.in_ok-code.code)) image.at image.bytes.items
+    image.labels.entries × (PROLOGUE_AT + length image.bytes.items ≤ 0xA000))) c.in-Some.is c.in_ok-image.ensures.fits).1) c.in_ok-write.ensures
     (c.in_ok-line_starts.ensures ∙ ap (λ k. starts_in c.in-Some.image.labels.entries (numbers (code_of k))) c.lines.ensures)
 
 pub fitted-requires-clause-suited : goal.fitted-requires-clause-suited
@@ -72,13 +72,13 @@ pub returns-clause-answer : goal.returns-clause-answer
 returns-clause-answer c =
     made (record { prg = c.in_ok-write.field-0; starts = c.in_ok-line_starts.field-0; table = c.place_of.result; warnings = c.in_ok-warnings.field-0 })
     c.in_ok-code.ensures.lowered (listed (lines_of c.args.program.now) c.in_ok-code.ensures.lowered c.requires.stated c.requires.rising
-        c.in_ok-code.ensures.in_range) c.in_ok-code.ensures.accepted
-        (subst (λ o. IfSome o (λ image. IsLaid PROLOGUE_AT (program_code c.args.seed (code_of c.in_ok-code.code)) image.at image.bytes.items
-        image.labels.entries × (PROLOGUE_AT + length image.bytes.items ≤ 0xA000))) c.in-Some.is c.in_ok-image.ensures.fits).0
-        (bytes_end c.args.seed (listed (lines_of c.args.program.now) c.in_ok-code.ensures.lowered c.requires.stated c.requires.rising
-        c.in_ok-code.ensures.in_range)
-        (subst (λ o. IfSome o (λ image. IsLaid PROLOGUE_AT (program_code c.args.seed (code_of c.in_ok-code.code)) image.at image.bytes.items
-        image.labels.entries × (PROLOGUE_AT + length image.bytes.items ≤ 0xA000))) c.in-Some.is c.in_ok-image.ensures.fits).0
-        (subst (λ o. IfSome o (λ image. IsLaid PROLOGUE_AT (program_code c.args.seed (code_of c.in_ok-code.code)) image.at image.bytes.items
-        image.labels.entries × (PROLOGUE_AT + length image.bytes.items ≤ 0xA000))) c.in-Some.is c.in_ok-image.ensures.fits).1) c.in_ok-write.ensures
+    c.in_ok-code.ensures.in_range) c.in_ok-code.ensures.accepted
+    (subst (λ o. IfSome o (λ image. IsLaid PROLOGUE_AT (program_code c.args.seed (code_of c.in_ok-code.code)) image.at image.bytes.items
+    image.labels.entries × (PROLOGUE_AT + length image.bytes.items ≤ 0xA000))) c.in-Some.is c.in_ok-image.ensures.fits).0
+    (bytes_end c.args.seed (listed (lines_of c.args.program.now) c.in_ok-code.ensures.lowered c.requires.stated c.requires.rising
+    c.in_ok-code.ensures.in_range)
+    (subst (λ o. IfSome o (λ image. IsLaid PROLOGUE_AT (program_code c.args.seed (code_of c.in_ok-code.code)) image.at image.bytes.items
+    image.labels.entries × (PROLOGUE_AT + length image.bytes.items ≤ 0xA000))) c.in-Some.is c.in_ok-image.ensures.fits).0
+    (subst (λ o. IfSome o (λ image. IsLaid PROLOGUE_AT (program_code c.args.seed (code_of c.in_ok-code.code)) image.at image.bytes.items
+    image.labels.entries × (PROLOGUE_AT + length image.bytes.items ≤ 0xA000))) c.in-Some.is c.in_ok-image.ensures.fits).1) c.in_ok-write.ensures
     (c.in_ok-line_starts.ensures ∙ ap (λ k. starts_in c.in-Some.image.labels.entries (numbers (code_of k))) c.lines.ensures) c.place_of.ensures c.in_ok-warnings.ensures

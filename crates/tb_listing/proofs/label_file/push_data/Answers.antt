@@ -3,7 +3,8 @@ use Rattle.std.proofs.Common.{[], ◌++◌, map, ap, sym, ◌∙◌}
 use Rattle.std.specs.Prelude.{codes}
 use Rattle.std.specs.List.{range_with_len}
 use Rattle.std.proofs.lemmas.Grind.{flat_map-append}
-use Rattle.tb_runtime16.specs.Places.{NOTES, CHRIN, CHROUT, GETIN}
+use Rattle.tb_kernal.specs.declared.places.TheConstants.{CHRIN, CHROUT, GETIN}
+use Rattle.tb_runtime16.specs.Places.{NOTES}
 use Rattle.tb_listing.specs.Labels.{variable_place, service_places, label_text, labels_text}
 use Rattle.tb_listing.proofs.Appending.{last, before}
 use Rattle.tb_listing.proofs.label_file.push_data.Goals as goal

@@ -7,6 +7,6 @@ use Rattle.tb_listing.proofs.label_file.push_routines.Goals as goal
 pub loop-routine-preserved : goal.loop-routine-preserved
 loop-routine-preserved c =
     more (λ rs. labels_text (map routine_place rs)) (λ r. label_text (routine_place r)) (λ r rs. refl) all_routines c.loop-routine.routine-index _
-        c.loop-routine.text.items c.push_label.new.text.items _
+    c.loop-routine.text.items c.push_label.new.text.items _
     c.loop-routine-test.true c.loop-routine.invariant
     (c.in_ok-push_label.ensures ∙ (λ i. c.loop-routine.text.items ++ label_text (c.name.ensures i, c.entry.ensures.entry i)))

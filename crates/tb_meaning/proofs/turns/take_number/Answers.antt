@@ -18,5 +18,5 @@ loop-index-preserved c =
       | in-48-to-57 w ↦
           keeps r r' text i (get_or text i 0) c.loop-index-test.true refl
           (rw w.reading-is (digit_turn r (get_or text i 0) (drop (i + 1) text) (omega arith) (omega arith) ∙ read_turn _ w.with_digit-reading.result
-              (drop (i + 1) text) w.with_digit-reading.ensures)) c.loop-index.invariant
+          (drop (i + 1) text) w.with_digit-reading.ensures)) c.loop-index.invariant
     ]

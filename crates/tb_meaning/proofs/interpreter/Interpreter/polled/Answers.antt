@@ -10,4 +10,4 @@ use Rattle.tb_meaning.proofs.interpreter.Interpreter.polled.Goals as goal
 pub returns : goal.returns
 returns c =
     ran_then (poll c.args.number (state_of c.args.self.now)) (does (numbers (lines_of c.args.program.now)) c.args.number
-        (statement_of c.args.statement.now)) c.args.self.now c.poll.new.self c.statement.new.self c.statement.result c.in_ok-poll.ensures c.statement.ensures
+    (statement_of c.args.statement.now)) c.args.self.now c.poll.new.self c.statement.new.self c.statement.result c.in_ok-poll.ensures c.statement.ensures

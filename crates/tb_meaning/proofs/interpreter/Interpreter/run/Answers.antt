@@ -11,13 +11,13 @@ use Rattle.tb_meaning.proofs.interpreter.Interpreter.run.Goals as goal
 pub returns-in-Err : goal.returns-in-Err
 returns-in-Err c =
     let stopped = run_stops (line (lines_of c.args.program.now)) c.args.limit c.loop.counter (state_of c.loop.self) c.loop.self.output.sent.items
-        c.line.new.self.output.sent.items _ c.in-Err.stop c.loop-test.true c.loop.invariant c.in-Err.ensures in
+    c.line.new.self.output.sent.items _ c.in-Err.stop c.loop-test.true c.loop.invariant c.in-Err.ensures in
     IfOk-weaker c.stop.result _ _ (λ end h. h _ stopped) c.stop.ensures
 
 pub loop-preserved : goal.loop-preserved
 loop-preserved c =
     run_goes_on (line (lines_of c.args.program.now)) c.args.limit c.loop.counter (state_of c.loop.self) (state_of c.line.new.self)
-        c.loop.self.output.sent.items c.line.new.self.output.sent.items _ c.loop-test.true c.loop.invariant c.in-Ok.ensures
+    c.loop.self.output.sent.items c.line.new.self.output.sent.items _ c.loop-test.true c.loop.invariant c.in-Ok.ensures
 
 pub returns : goal.returns
 returns c =
