@@ -37,7 +37,7 @@ puts_none (b ∷ bs) = by (eqb b 10) (eqb b 13 && begins_with_10 bs) (puts_none 
 
     by : (s t : Bool) → puts [] (split_lines bs) ≡ split_lines bs
         → puts [] (if s then [] ∷ split_lines bs else if t then split_lines bs else put b (split_lines bs))
-            ≡ (if s then [] ∷ split_lines bs else if t then split_lines bs else put b (split_lines bs))
+        ≡ (if s then [] ∷ split_lines bs else if t then split_lines bs else put b (split_lines bs))
     by true t h = refl
     by false true h = h
     by false false h = onto (split_lines bs)

@@ -54,13 +54,17 @@ module _ (labels : List (Name × ℕ)) (ns : List ℕ) (seed n : ℕ) (seed_smal
     -- loads of the two bytes of the next line's address
     low_made : Encodes labels (product.low_part (next_line ns n)) (ins 0xA9 (next_at ly n % 256))
     unfolding opcodes.encoded
-    low_made = record { same = λ a. ap (λ b. 0xa9 ∷ b ∷ []) (let e : number_in labels (LowOf (label_of (next_line ns n))) % 256 ≡ next_at ly n % 256 =
-        omega (arith, low_of labels ns seed (label_of (next_line ns n)), next_same labels ns seed n) in e) }
+    low_made = record {
+      same = λ a. ap (λ b. 0xa9 ∷ b ∷ []) (let e : number_in labels (LowOf (label_of (next_line ns n))) % 256 ≡ next_at ly n % 256 =
+          omega (arith, low_of labels ns seed (label_of (next_line ns n)), next_same labels ns seed n) in e);
+    }
 
     high_made : Encodes labels (product.high_part (next_line ns n)) (ins 0xA9 (next_at ly n / 256))
     unfolding opcodes.encoded
-    high_made = record { same = λ a. ap (λ b. 0xa9 ∷ b ∷ []) (let e : number_in labels (HighOf (label_of (next_line ns n))) % 256
-        ≡ next_at ly n / 256 = omega (arith, high_of labels ns seed (label_of (next_line ns n)), next_same labels ns seed n, next_small) in e) }
+    high_made = record {
+      same = λ a. ap (λ b. 0xa9 ∷ b ∷ []) (let e : number_in labels (HighOf (label_of (next_line ns n))) % 256
+          ≡ next_at ly n / 256 = omega (arith, high_of labels ns seed (label_of (next_line ns n)), next_same labels ns seed n, next_small) in e);
+    }
 
     abbrev asked : ℕ → List Entry
     asked place = product.at Ldx place ∷ []
@@ -75,9 +79,11 @@ module _ (labels : List (Name × ℕ)) (ns : List ℕ) (seed n : ℕ) (seed_smal
 
     storing_bytes : AllEncode labels storing (coded.note_stored (next_at ly n % 256) (next_at ly n / 256))
     unfolding opcodes.encoded
-    storing_bytes = record { same = λ a. λ i. 0xae ∷ NOTES % 256 ∷ NOTES / 256
-        ∷ (low_made.same a i ++ (0x9d ∷ NOTE_LOW % 256 ∷ NOTE_LOW / 256 ∷ (high_made.same a i ++ (0x9d ∷ NOTE_HIGH % 256 ∷ NOTE_HIGH / 256 ∷ 0xee
-        ∷ NOTES % 256 ∷ NOTES / 256 ∷ [])))) }
+    storing_bytes = record {
+      same = λ a. λ i. 0xae ∷ NOTES % 256 ∷ NOTES / 256
+          ∷ (low_made.same a i ++ (0x9d ∷ NOTE_LOW % 256 ∷ NOTE_LOW / 256 ∷ (high_made.same a i ++ (0x9d ∷ NOTE_HIGH % 256 ∷ NOTE_HIGH / 256 ∷ 0xee
+          ∷ NOTES % 256 ∷ NOTES / 256 ∷ []))));
+    }
 
     raising_bytes : AllEncode labels (product.at Inc (NOTES + 1) ∷ []) (ins 0xEE (NOTES + 1) ∷ [])
     unfolding opcodes.encoded
@@ -158,7 +164,7 @@ module _ (labels : List (Name × ℕ)) (ns : List ℕ) (seed n : ℕ) (seed_smal
               (labelled labels over
               (block labels (product.constant n LINE) (resolved.constant n LINE) (line_set.same 0)
               (block labels (product.address (next_line ns n) LEFT) (resolved.pointed (next_at ly n) LEFT)
-                  (address_bytes labels ns seed 0 (next_line ns n) (next_at ly n) LEFT (next_same labels ns seed n) next_small (omega arith))
+              (address_bytes labels ns seed 0 (next_line ns n) (next_at ly n) LEFT (next_same labels ns seed n) next_small (omega arith))
               (block labels (product.call PUSH_AT ∷ []) (resolved.call PUSH_AT) ((call_bytes PUSH_AT).same 0)
               (block labels going (resolved.jump (ly.start to)) (going_bytes.same 0) (ends labels)))))))))))),
           (
@@ -178,16 +184,20 @@ module _ (labels : List (Name × ℕ)) (ns : List ℕ) (seed n : ℕ) (seed_smal
           let k3 = cut onward [] b2.rest refl b2.of in
           let is : fs ≡ called_forms b1.way b2.way =
           k1.is ∙ ap (λ t. map kept (asked (NOTES + 1)) ++ t) (b1.is ∙ ap (λ t. formed b1.way Bne over ∷ t) (k2.is
-              ∙ ap (λ t. map kept storing ++ t) (b2.is ∙ ap (λ t. formed b2.way Bne skip ∷ t) (k3.is ∙ ap (λ t. map kept onward ++ t) (no_more k3.rest k3.of))))) in
+          ∙ ap (λ t. map kept storing ++ t) (b2.is ∙ ap (λ t. formed b2.way Bne skip ∷ t) (k3.is ∙ ap (λ t. map kept onward ++ t) (no_more k3.rest k3.of))))) in
           subst (CallEmitted at to true) (sym is) (called b1.way b2.way at (subst (Rest labels at) is r))
 
     call_emitted : (i at to : ℕ) (has : Bool) → has_line ns to ≡ has → (fs : List Form)
         → AreFormsOf (if has then product.called n to (next_line ns n) (target.Inside inside.Skip n i) (target.Inside inside.Behind n i)
-            else product.faulted n 1) fs → Rest labels at fs → CallEmitted at to has fs
+        else product.faulted n 1) fs → Rest labels at fs → CallEmitted at to has fs
     call_emitted i at to true e fs h r = called_emitted to e (label_of (target.Inside inside.Skip n i)) (label_of (target.Inside inside.Behind n i)) at fs h r
-    call_emitted i at to false e fs h r =
-        (Short, Short, subst (λ fs. Emits labels at fs (Code (resolved.faulting n 1) ∷ [])) (sym (straight_forms (product.faulted n 1) fs refl h))
-            (block labels (product.faulted n 1) (resolved.faulting n 1) (faulted_bytes labels ns seed 0 n 1 n_small (omega arith)) (ends labels)), tt)
+    call_emitted i at to false e fs h r = (
+      Short,
+      Short,
+      subst (λ fs. Emits labels at fs (Code (resolved.faulting n 1) ∷ [])) (sym (straight_forms (product.faulted n 1) fs refl h))
+          (block labels (product.faulted n 1) (resolved.faulting n 1) (faulted_bytes labels ns seed 0 n 1 n_small (omega arith)) (ends labels)),
+      tt,
+    )
 
     module _ (over : Name) where
       -- behind its branches
@@ -257,7 +267,7 @@ module _ (labels : List (Name × ℕ)) (ns : List ℕ) (seed n : ℕ) (seed_smal
           let k3 = cut behind [] b2.rest refl b2.of in
           let is : fs ≡ returned_forms b1.way b2.way =
           k1.is ∙ ap (λ t. map kept (asked (NOTES + 1)) ++ t) (b1.is ∙ ap (λ t. formed b1.way Bne over ∷ t) (k2.is
-              ∙ ap (λ t. map kept (asked NOTES) ++ t) (b2.is ∙ ap (λ t. formed b2.way Beq over ∷ t) (k3.is ∙ ap (λ t. map kept behind ++ t) (no_more k3.rest k3.of))))) in
+          ∙ ap (λ t. map kept (asked NOTES) ++ t) (b2.is ∙ ap (λ t. formed b2.way Beq over ∷ t) (k3.is ∙ ap (λ t. map kept behind ++ t) (no_more k3.rest k3.of))))) in
           subst (GroupEmitted labels ly n at (Single slots.Return)) (sym is) (returned b1.way b2.way at (subst (Rest labels at) is r))
 
     without_branches : (i at : ℕ) (g : Group) (fs : List Form) → coded.is_branching g ≡ false → IsAlone g → AreInRange 256 (expand g)
@@ -274,14 +284,14 @@ module _ (labels : List (Name × ℕ)) (ns : List ℕ) (seed n : ℕ) (seed_smal
     each_emitted i at (Calculate op a b d) fs q range h r =
         let x = source_of (slot_of d) a in let y = source_of (slot_of d + 1) b in let to = destination_at d in
         let e = computed_emitted labels n at (target.Inside inside.Skip n i) op x y to (change_of op x y to) (change_is op x y to) n_small
-            (source_word (slot_of d) a) (source_word (slot_of d + 1) b) fs h r in
+        (source_word (slot_of d) a) (source_word (slot_of d + 1) b) fs h r in
         record { first = e.0; second = Short; emits = e.1; reach = e.2 }
     each_emitted i at (Stepped op a b by w x) fs q range h r =
         let e = stepped_emitted labels n at (target.Inside inside.Skip n i) (target.Inside inside.Behind n i) op (source_of 0 a) (source_of 1 b) by
-            (source_of 1 (Constant w)) (var_at x) n_small (source_word 0 a) (source_word 1 b) (source_word 1 (Constant w)) fs h r in
+        (source_of 1 (Constant w)) (var_at x) n_small (source_word 0 a) (source_word 1 b) (source_word 1 (Constant w)) fs h r in
         record { first = e.first; second = e.second; emits = e.emits; reach = e.reach }
     each_emitted i at (Remains x d to) fs q range h r =
         let e = remains_emitted labels n at (target.Inside inside.Skip n i) (AtPlace (var_at x)) (source_of (slot_of to + 2) d)
-            (destination_at to) n_small tt (source_word (slot_of to + 2) d) fs h r in
+        (destination_at to) n_small tt (source_word (slot_of to + 2) d) fs h r in
         record { first = e.first; second = Short; emits = e.emits; reach = e.reach }
     each_emitted i at g fs q range h r = without_branches i at g fs refl q range h r

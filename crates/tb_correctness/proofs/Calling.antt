@@ -150,7 +150,7 @@ module _ (around : Surroundings) (fits : Fits around.f 16) (limit : ℕ) (rs : S
         in_line : length s.returns < deepest → Comes f w Ends [] 13
         in_line free =
             chained f w _ _ [] [] 3 10 (asks f 16 fits own w.mem w.text w.answers refl start (NOTES + 1) pushing first false true
-                (noting_code ly n start first second t) refl (eq-eqb page 0 near) reach.0 lies w (here h)) (λ u g.
+            (noting_code ly n start first second t) refl (eq-eqb page 0 near) reach.0 lies w (here h)) (λ u g.
             chained f u _ _ [] [] 6 4 (stores_note f 16 fits own w.mem w.text w.answers refl storing (note % 256) (note / 256) few noting.0 noting.1 u g.here) (by_carry (eqb low 0) refl free))
 
       -- ---- by the routine
@@ -177,7 +177,7 @@ module _ (around : Surroundings) (fits : Fits around.f 16) (limit : ℕ) (rs : S
           → Moves f (Here PUSH_AT ((at + 8 + 2) % 256 ∷ (at + 8 + 2) / 256 ∷ own) two w.text w.answers) q l b → Comes f w q l (3 + (4 + (4 + (1 + b))))
       up_to_push far q l b next =
           chained f w _ q [] l 3 (4 + (4 + (1 + b))) (asks f 16 fits own w.mem w.text w.answers refl start (NOTES + 1) pushing first false false
-              (noting_code ly n start first second t) refl (ne_eqb page 0 far) reach.0 lies w (here h)) (λ u g.
+          (noting_code ly n start first second t) refl (ne_eqb page 0 far) reach.0 lies w (here h)) (λ u g.
           chained f u _ q [] l 4 (4 + (1 + b)) (sets f 16 fits pushing own w.mem w.text w.answers refl n LINE routine.0 (refl, refl) routine.1 u g.here) (λ v e.
           chained f v _ q [] l 4 (1 + b) (points f 16 fits at own one w.text w.answers refl note LEFT routine.2.0 (refl, refl) routine.2.1 v e) (λ v e.
           chained f v _ q [] l 1 b (calls f 16 fits (at + 8) own two w.text w.answers refl PUSH_AT refl routine.2.2.0 routine.2.2.1 v e) next)))
@@ -188,12 +188,12 @@ module _ (around : Surroundings) (fits : Fits around.f 16) (limit : ℕ) (rs : S
           looser f w _ _ [] (3 + (4 + (4 + (1 + (limit + 1))))) (13 + limit) (omega arith) (λ u x. x)
           (up_to_push far _ [] (limit + 1) (λ v e.
           chained f v _ _ [] [] limit 1 (rs.push _ _ two w.text w.answers note notes (word_put one LEFT _ _ _ refl refl note_small)
-              (subst (λ k. WordAt two NOTES k) (sym same_length) c.state.count) c.state.notes (omega (arith, free, same_length)) v e) (λ x g.
+          (subst (λ k. WordAt two NOTES k) (sym same_length) c.state.count) c.state.notes (omega (arith, free, same_length)) v e) (λ x g.
           looser f x _ _ [] 1 1 (omega arith)
           (arrived around called r (ly.start t) x.mem w.text w.answers refl
           (state_pushed ly s two x.mem c.state (At t) (next_after ly.numbers n) free
-              (subst (λ k. WordAt x.mem NOTES (suc k)) same_length g.memory.notes.count) g.memory.notes.noted
-              (λ p from to z y. g.memory.others p (not_pushed p from to z y))) h.read.all_words
+          (subst (λ k. WordAt x.mem NOTES (suc k)) same_length g.memory.notes.count) g.memory.notes.noted
+          (λ p from to z y. g.memory.others p (not_pushed p from to z y))) h.read.all_words
           (homed_kept two x.mem (g.memory.others HOME_S refl) c.homed)
           h.text h.answers h.short)
           (jumps f 16 fits (at + 8 + 3) own x.mem w.text w.answers refl (ly.start t) routine.2.2.2.1 x
@@ -210,7 +210,7 @@ module _ (around : Surroundings) (fits : Fits around.f 16) (limit : ℕ) (rs : S
           let all : length s.returns ≡ deepest = omega (arith, ltb-false _ _ full, c.state.few) in
           looser f w _ _ (fault_text 4 n) (3 + (4 + (4 + (1 + limit)))) (12 + limit) (omega arith) (λ u x. x)
           (up_to_push (λ z. omega (arith, z, all, h.state.count.high)) _ (fault_text 4 n) limit (rs.push_fails _ _ two w.text w.answers notes n
-              (subst (λ k. WordAt two NOTES k) (sym same_length) c.state.count) c.state.notes (omega (arith, all, same_length)) number c.homed))
+          (subst (λ k. WordAt two NOTES k) (sym same_length) c.state.count) c.state.notes (omega (arith, all, same_length)) number c.homed))
 
   -- ---- RETURN
   module _ (h : Ready around n (Single Return) (Return ∷ is) is s r w) where
@@ -249,7 +249,7 @@ module _ (around : Surroundings) (fits : Fits around.f 16) (limit : ℕ) (rs : S
     low_alone : page ≡ 0 → (q : View → Type 0) (l : List ℕ) (b : ℕ) → Moves f (Indexed f 16 fits own w.mem w.text w.answers refl low_at page) q l b → Comes f w q l (3 + b)
     low_alone near q l b next =
         chained f w _ q [] l 3 b (asks f 16 fits own w.mem w.text w.answers refl start (NOTES + 1) popping one_way false true
-            (low_code n start one_way other_way) refl (eq-eqb page 0 near) h.reach.0 h.lies w (here h)) next
+        (low_code n start one_way other_way) refl (eq-eqb page 0 near) h.reach.0 h.lies w (here h)) next
 
     -- up to the routine
     up_to_pop : (page ≢ 0) ⊎ (w.mem NOTES ≡ 0) → (q : View → Type 0) (l : List ℕ) (b : ℕ)
@@ -265,7 +265,7 @@ module _ (around : Surroundings) (fits : Fits around.f 16) (limit : ℕ) (rs : S
         by_page far =
             looser f w _ _ l (3 + (4 + (1 + b))) (6 + (4 + (1 + b))) (omega arith) (λ u x. x)
             (chained f w _ q [] l 3 (4 + (1 + b)) (asks f 16 fits own w.mem w.text w.answers refl start (NOTES + 1) popping one_way false false
-                (low_code n start one_way other_way) refl (ne_eqb page 0 far) h.reach.0 h.lies w (here h)) (λ u g.
+            (low_code n start one_way other_way) refl (ne_eqb page 0 far) h.reach.0 h.lies w (here h)) (λ u g.
             calls_pop u g.here))
 
         by_none : w.mem NOTES ≡ 0 → page ≡ 0 → Comes f w q l (6 + (4 + (1 + b)))
@@ -273,7 +273,7 @@ module _ (around : Surroundings) (fits : Fits around.f 16) (limit : ℕ) (rs : S
             looser f w _ _ l (3 + (3 + (4 + (1 + b)))) (6 + (4 + (1 + b))) (omega arith) (λ u x. x)
             (low_alone near q l (3 + (4 + (1 + b))) (λ u g.
             chained f u _ q [] l 3 (4 + (1 + b)) (asks f 16 fits own w.mem w.text w.answers refl low_at NOTES popping other_way true true
-                (taking_code n) refl (eq-eqb (w.mem NOTES) 0 none) h.reach.1 low_lies u g.here) (λ v k.
+            (taking_code n) refl (eq-eqb (w.mem NOTES) 0 none) h.reach.1 low_lies u g.here) (λ v k.
             calls_pop v k.here)))
 
     module _ (p : Place) (ps : List Place) (q : s.returns ≡ p ∷ ps) where
@@ -294,14 +294,14 @@ module _ (around : Surroundings) (fits : Fits around.f 16) (limit : ℕ) (rs : S
           looser f w _ _ [] (6 + (4 + (1 + (limit + 1)))) (12 + limit) (omega arith) (λ u x. x)
           (up_to_pop why _ [] (limit + 1) (λ u e.
           chained f u _ _ [] [] limit 1 (rs.pop _ _ m w.text w.answers (place_at ly p) (notes_of ly ps) (subst (λ k. WordAt m NOTES (suc k))
-              (sym left_length) count) noted (omega (arith, few, left_length)) u e) (λ u g.
+          (sym left_length) count) noted (omega (arith, few, left_length)) u e) (λ u g.
           looser f u _ _ [] 1 1 (omega arith)
           (arrived around back r (place_at ly p) u.mem w.text w.answers refl
           (state_popped ly s m u.mem c.state p ps q (subst (λ k. WordAt u.mem NOTES k) left_length g.memory.notes.count) (λ p z y x. g.memory.gives.others p (not_popped p z y x))) h.read.all_words
           (homed_kept m u.mem (g.memory.gives.others HOME_S refl) c.homed)
           h.text h.answers h.short)
           (jumps_through f 16 fits (popping + 10 + 3) own u.mem w.text w.answers refl (place_at ly p) g.memory.gives.result routine_lies.2.2.1 u
-              (back_here _ _ w.text w.answers _ u g (behind_call (popping + 10) routine_lies.2.0))))))
+          (back_here _ _ w.text w.answers _ u g (behind_call (popping + 10) routine_lies.2.0))))))
 
       takes : page ≡ 0 → Comes f w Returns [] 13
       takes near =
@@ -313,12 +313,12 @@ module _ (around : Surroundings) (fits : Fits around.f 16) (limit : ℕ) (rs : S
           let d = dropped w.mem (place_at ly p) (notes_of ly ps) counts noted near in
           low_alone near _ [] 10 (λ u g.
           chained f u _ _ [] [] 3 7 (asks f 16 fits own w.mem w.text w.answers refl low_at NOTES popping other_way true false (taking_code n) refl
-              (ne_eqb (w.mem NOTES) 0 (λ z. omega (arith, z, there))) h.reach.1 low_lies u g.here) (λ u g.
+          (ne_eqb (w.mem NOTES) 0 (λ z. omega (arith, z, there))) h.reach.1 low_lies u g.here) (λ u g.
           chained f u _ _ [] [] 6 1 (takes_note f 16 fits own w.mem w.text w.answers refl taking (w.mem NOTES) small taking_lies.0 taking_lies.1 u g) (λ u e.
           looser f u _ _ [] 1 1 (omega arith)
           (arrived around back r (place_at ly p) _ w.text w.answers refl
           (state_popped ly s w.mem _ h.state p ps q (subst (λ k. WordAt (taken f 16 fits own w.mem w.text w.answers refl taking (w.mem NOTES) small)
-              NOTES k) left_length d.count) (λ a o n' n''. d.others a n' (apart a RESULT o refl) (apart a (RESULT + 1) o refl))) h.read.all_words
+          NOTES k) left_length d.count) (λ a o n' n''. d.others a n' (apart a RESULT o refl) (apart a (RESULT + 1) o refl))) h.read.all_words
           (homed_kept w.mem _ (d.others HOME_S (λ e. omega (arith, e)) (λ e. omega (arith, e)) (λ e. omega (arith, e))) h.homed)
           h.text h.answers h.short)
           (jumps_through f 16 fits (taking + 16) own _ w.text w.answers refl (place_at ly p) d.result taking_lies.2.1 u e))))

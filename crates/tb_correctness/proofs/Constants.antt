@@ -77,5 +77,5 @@ module _ {around : Surroundings} (fits : Fits around.f 16) (limit : ℕ) (rs : S
       let two = above_one v good in
       looser f w _ _ _ 141 (13 + limit) (omega (arith, wide)) (λ u z. z)
       (times_law fits code h v (omega (arith, two)) (omega (arith, same)) right y (right_apart h LEFT (omega arith)) (operand_beyond (k + 1) b)
-          (right_holds h w.mem (kept h)) lies rest (ap word (mul_comm x y) ∙ ap (λ z. word (y * z)) (sym same.0)))
+      (right_holds h w.mem (kept h)) lies rest (ap word (mul_comm x y) ∙ ap (λ z. word (y * z)) (sym same.0)))
   product_law _ by_routine lies rest = multiply_law fits limit rs code h lies rest

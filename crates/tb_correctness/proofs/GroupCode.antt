@@ -597,7 +597,7 @@ abbrev pub GroupsLie : Layout → Part → (n at : ℕ) → List Group → Type 
 GroupsLie ly code n at [] = at ≡ next_at ly n
 GroupsLie ly code n at (g ∷ gs) =
     (first second : Way) × AreInRange 256 (expand_all (g ∷ gs)) × Lies code at (group_code ly n at first second g)
-        × Behind g (GroupsLie ly code n (at + pieces_size (group_code ly n at first second g)) gs) × BranchesReach ly n at first second g × (0x0800 ≤ at)
+    × Behind g (GroupsLie ly code n (at + pieces_size (group_code ly n at first second g)) gs) × BranchesReach ly n at first second g × (0x0800 ≤ at)
 
 -- ---- lines
 -- behind the call of GETIN, at an address: the STOP key leads elsewhere
@@ -612,7 +612,7 @@ broken_code n = Code (faulting n 0) ∷ []
 abbrev pub LineStands : Layout → (code whole : Part) (n at : ℕ) → List slots.Instr → Type 0
 LineStands ly code whole n at is =
     (way : Way) × (stop : ℕ) × (at + 3 ≤ highest_code) × Stands whole at (call GETIN) × Lies code (at + 3) (poll_code (at + 3) way stop)
-        × BranchReaches way (at + 5) stop × Lies code stop (broken_code n) × GroupsLie ly code n (at + 5 + way_size way) (select is)
+    × BranchReaches way (at + 5) stop × Lies code stop (broken_code n) × GroupsLie ly code n (at + 5 + way_size way) (select is)
 
 -- a list that begins with a poll, the rest of which stands behind it
 pub record PolledLine (ly : Layout) (code whole : Part) (n : ℕ) (js : List slots.Instr) : Type 0 where

@@ -108,8 +108,12 @@ module _ (around : Surroundings) where
         (read_landed u d is r q m m' v fit last c.read there away)
         (homed_kept m m' (home_kept d fit m m' away) c.homed)
         (text ∙ sym same) (got ∙ sym left)
-        (record { short = subst (λ t. length t ≤ keys) (sym same) short.short; text_bytes = subst AreBytes (sym same) short.text_bytes; answer_bytes =
-            subst AreBytes (sym left) short.answer_bytes })
+        (record {
+          short = subst (λ t. length t ≤ keys) (sym same) short.short;
+          text_bytes = subst AreBytes (sym same) short.text_bytes;
+          answer_bytes =
+              subst AreBytes (sym left) short.answer_bytes;
+        })
         w e
 
 -- from the beginning of a group

@@ -48,8 +48,13 @@ module _ (place : ℕ) (bytes : List ℕ) (from : 0x0800 ≤ place) (to : place 
   Related s = Between (around s)
 
   pub known : (s : machine.State) (c : SlotState) (w : View) → Related s c w → c.rest ≡ Whole → Known ly c.state w
-  known s c w m e = record { pc = subst (λ q. StandsAt ly (setup place bytes from to ly s).code w.regs.pc q c.state.place) e m.0.pc;
-      vars = m.0.state.vars; count = m.0.state.count; noted = m.0.state.notes; few = m.0.state.few }
+  known s c w m e = record {
+    pc = subst (λ q. StandsAt ly (setup place bytes from to ly s).code w.regs.pc q c.state.place) e m.0.pc;
+    vars = m.0.state.vars;
+    count = m.0.state.count;
+    noted = m.0.state.notes;
+    few = m.0.state.few;
+  }
 
   module _ (limit : ℕ → ℕ) (wide : (k : ℕ) → 200 ≤ limit k) (n : ℕ) (routines : RoutineLaws limit) (prologue : PrologueLaw n) where
     pub opening : OpeningLaw place bytes from to ly Related sc n

@@ -249,7 +249,7 @@ module _ (part : Part) (labels : List (Name × ℕ)) (ns : List ℕ) (seed : ℕ
       let b = then_at a asking l ls fs p in
       let later : place_of labels target.Past ≡ b + forms_size p.rest = (let s = p.total in omega (arith, past, s)) in
       go p (ap (place_of labels) (sym turns.0) ∙ first_there ls b (asking_behind asking l) p.rest p.polled p.behind later)
-          (found ls b (asking_behind asking l) p.rest p.polled turns.1 p.behind later n is) (nat_eq l.number n) refl e
+      (found ls b (asking_behind asking l) p.rest p.polled turns.1 p.behind later n is) (nat_eq l.number n) refl e
     where
       go : (p : Parted a asking l ls fs) → place_of labels (next_line ns l.number) ≡ then_at a asking l ls fs p
           → (content_at ls n ≡ Some is → Found (numbers ls) (then_at a asking l ls fs p) (then_at a asking l ls fs p + forms_size p.rest) n is)
@@ -277,7 +277,7 @@ module _ (part : Part) (labels : List (Name × ℕ)) (ns : List ℕ) (seed : ℕ
         clear = λ m q. ⊎_elim (λ l. inl (omega (arith, l, there))) (λ l. inr (omega (arith, l, le, there))) (clear m q);
       } in
       by (nat_eq k n) refl e own (broken_in (b + size (broken k)) to ms (back part labels b (broken k) (all_broken ms) h) (omega (arith, le))
-          (λ m q. ⊎_elim (λ l. inl (omega (arith, l))) (λ l. inr l) (clear m q)) n)
+      (λ m q. ⊎_elim (λ l. inl (omega (arith, l))) (λ l. inr l) (clear m q)) n)
     where
       by : (t : Bool) → nat_eq k n ≡ t → (t || has_line ms n) ≡ true → Broken k → (has_line ms n ≡ true → Broken n) → Broken n
       by true q e own later = subst Broken (eqb-true k n q) own
@@ -334,7 +334,7 @@ image_laid seed code seed_small rises codable polls some few items settled ends 
     let head = front part labels PROLOGUE_AT block_code (lines ++ tail) cut in
     let s = subst (λ a. Lies part labels a (lines ++ tail)) start (back part labels PROLOGUE_AT block_code (lines ++ tail) cut) in
     let lines_near = (near_split labels LINES_AT lines tail (subst (λ a. some_branch_far labels a (lines ++ tail) ≡ false) start
-        (near_split labels PROLOGUE_AT block_code (lines ++ tail) (subst (λ es. some_branch_far labels PROLOGUE_AT es ≡ false) parts near)).1)).0 in
+    (near_split labels PROLOGUE_AT block_code (lines ++ tail) (subst (λ es. some_branch_far labels PROLOGUE_AT es ≡ false) parts near)).1)).0 in
     let own : Lined part labels ns seed LINES_AT [] code g.lines = record { of = g.of_lines; lies = front part labels LINES_AT lines tail s; near = lines_near } in
     let behind : LINES_AT + size lines ≡ here = omega (arith, long) in
     let t = subst (λ a. Lies part labels a tail) behind (back part labels LINES_AT lines tail s) in
@@ -349,10 +349,13 @@ image_laid seed code seed_small rises codable polls some few items settled ends 
     let at_find : b + size last ≡ place_of labels target.Find = sym (ap (λ o. unwrap_or o 0) f.labelled.0) in
     let at_table : b + size last + size search ≡ place_of labels target.Table = sym (ap (λ o. unwrap_or o 0) v.labelled.0) in
     let turns = lines_in_turn code rises in
-    let before : (to : ℕ) → here ≤ to → (m : ℕ) → has_line ns m ≡ true → place_of labels (target.Line m) < to = λ to l m e. omega (arith, l,
-        (within part labels ns seed code LINES_AT [] g.lines polls own m e).1) in
+    let before : (to : ℕ) → here ≤ to → (m : ℕ) → has_line ns m ≡ true → place_of labels (target.Line m) < to = λ to l m e. omega (
+      arith,
+      l,
+      (within part labels ns seed code LINES_AT [] g.lines polls own m e).1,
+    ) in
     let all_done = lines_broken part labels ns seed code LINES_AT [] g.lines polls own (λ m e. inr e) (broken_in part labels ns seed b (b + size last)
-        (still_asking [] code) r (omega arith) (λ m e. inl (before b (omega arith) m e))) in
+    (still_asking [] code) r (omega arith) (λ m e. inl (before b (omega arith) m e))) in
     record {
       block = bytes_front part PROLOGUE_AT block_bytes (replicate (LINES_AT - PROLOGUE_AT - length block_bytes) 0 ++ []) head.bytes;
       lines = λ n is e.

@@ -290,7 +290,7 @@ module _ (labels : List (Name × ℕ)) where
   rounded_bytes zero s few = lda_low s ▹ record { same = λ a. refl } ▹ none
   rounded_bytes (suc k) s few =
       record { same = λ a. refl } ▹ record { same = λ a. refl } ▹ record { same = λ a. ap (λ b. 0x29 ∷ b ∷ []) (masked (suc k) few) }
-          ▹ record { same = λ a. ap (λ b. 0x49 ∷ b ∷ []) (masked (suc k) few) } ▹ adc_low s ▹ none
+      ▹ record { same = λ a. ap (λ b. 0x49 ∷ b ∷ []) (masked (suc k) few) } ▹ adc_low s ▹ none
 
   signed_bytes : (s : Source) → IsWord s → AllEncode (items.high_of Lda s ∷ product.const Cmp 128 ∷ []) (coded.signed s)
   unfolding opcodes.encoded
@@ -316,12 +316,12 @@ module _ (labels : List (Name × ℕ)) where
   shifted_bytes k s to few h =
       let tail = made_append (scaled.halvings (suc k)) (scaled.high_first to) (coded.halvings (suc k)) (coded.high_first to) (halvings_bytes (suc k)) (high_first_bytes to) in
       let front = made_append (scaled.rounded k s) (scaled.at_zero Sta LEFT ∷ items.high_of Lda s ∷ product.const Adc 0 ∷ []) (coded.rounded k s)
-          (coded.carried s) (rounded_bytes k s few) (carried_bytes s h) in
+      (coded.carried s) (rounded_bytes k s few) (carried_bytes s h) in
       let raised = made_append (items.high_of Lda s ∷ product.const Cmp 128 ∷ [])
-          (scaled.rounded k s ++ (scaled.at_zero Sta LEFT ∷ items.high_of Lda s ∷ product.const Adc 0 ∷ [])) (coded.signed s)
-          (coded.rounded k s ++ coded.carried s) (signed_bytes s h) front in
+      (scaled.rounded k s ++ (scaled.at_zero Sta LEFT ∷ items.high_of Lda s ∷ product.const Adc 0 ∷ [])) (coded.signed s)
+      (coded.rounded k s ++ coded.carried s) (signed_bytes s h) front in
       let all = made_append (scaled.raised k s) (scaled.halvings (suc k) ++ scaled.high_first to)
-          (coded.signed s ++ (coded.rounded k s ++ coded.carried s)) (coded.halvings (suc k) ++ coded.high_first to) raised tail in
+      (coded.signed s ++ (coded.rounded k s ++ coded.carried s)) (coded.halvings (suc k) ++ coded.high_first to) raised tail in
       subst (AllEncode (scaled.shifted k s to)) (ap (λ is. coded.signed s ++ is) (append_assoc (coded.rounded k s) (coded.carried s) (coded.halvings (suc k) ++ coded.high_first to))) all
 
   doubled_bytes : AllEncode scaled.doubled coded.doubled
@@ -361,7 +361,7 @@ module _ (labels : List (Name × ℕ)) where
   times_bytes factor s to h =
       let tail = made_append (scaled.by_bits 15 factor s) (scaled.low_first to) (coded.by_bits 15 factor s) (coded.low_first to) (bits_bytes 15 factor s h) (low_first_bytes to) in
       made_append (items.high_of Lda s ∷ scaled.at_zero Sta LEFT ∷ items.low_of Lda s ∷ []) (scaled.by_bits 15 factor s ++ scaled.low_first to)
-          (coded.begun s) (coded.by_bits 15 factor s ++ coded.low_first to) (begun_bytes s h) tail
+      (coded.begun s) (coded.by_bits 15 factor s ++ coded.low_first to) (begun_bytes s h) tail
 
   -- ---- tests by bytes
   pub weighed_low : (s t : Source) → AllEncode (items.low_of Lda s ∷ items.low_of Cmp t ∷ []) (weighed (low s) (low t))

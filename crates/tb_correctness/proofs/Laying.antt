@@ -183,9 +183,9 @@ module _ (labels : List (Name × ℕ)) (seed : ℕ) (code : Part) (sc : slots.Sl
       let at = place_of labels target.Find in
       (pieces at (program.find_code ns) (resolved.find_code laid_layout) (inside at (program.find_code ns) laid.find laid.find_clear)
       (joined labels ns seed at 8 (product.here target.Find ∷ product.address target.Table TABLE) (product.constant (length ns) COUNT
-          ++ (product.at Jmp SEARCH_AT ∷ [])) _ _ refl (address_bytes labels ns seed at target.Table (place_of labels target.Table) TABLE refl table_small (omega arith))
+      ++ (product.at Jmp SEARCH_AT ∷ [])) _ _ refl (address_bytes labels ns seed at target.Table (place_of labels target.Table) TABLE refl table_small (omega arith))
       (joined labels ns seed (at + 8) 10 (product.constant (length ns) COUNT) (product.at Jmp SEARCH_AT ∷ []) _ _ refl
-          (constant_bytes labels ns seed (at + 8) (length ns) COUNT laid.count_small) refl))).1
+      (constant_bytes labels ns seed (at + 8) (length ns) COUNT laid.count_small) refl))).1
 
   -- the block and the line table lie among the inner bytes, for the routines
   pub block_short : leb (length block_bytes) 1011 ≡ true

@@ -114,8 +114,12 @@ module _ (labels : List (Name × ℕ)) (seed : ℕ) (code : Part) (sc : slots.Sl
         let rs = subst (Rest labels at) s.are r in
         let below = rs.below in
         let range = range_split (expand g) (expand_all gs) ranged in
-        let m = each_emitted labels ns seed n laid.seed_small small (record { there = next_stands n; top = next_below n; lines_there = starts_there;
-            starts_top = starts_below }) i at g s.front alone.0 range.0 s.of_front (rest_before labels at s.front s.back rs) in
+        let m = each_emitted labels ns seed n laid.seed_small small (record {
+          there = next_stands n;
+          top = next_below n;
+          lines_there = starts_there;
+          starts_top = starts_below;
+        }) i at g s.front alone.0 range.0 s.of_front (rest_before labels at s.front s.back rs) in
         let ps = group_code ly n at m.first m.second g in
         let long : forms_size s.front ≡ pieces_size ps = emitted_size labels m.emits in
         let bs = part_bytes within at s.front s.back below (subst (λ k. Bytes within at (bytes_from labels at (items_from at k))) s.are b) in
@@ -129,7 +133,7 @@ module _ (labels : List (Name × ℕ)) (seed : ℕ) (code : Part) (sc : slots.Sl
           behind_by (leaves g) (λ stays. rest_lies (i + 1) (at + pieces_size ps) gs s.back (omega (arith, low)) range.1 alone.1 s.of_back
               (rest_behind labels at (at + pieces_size ps) s.front s.back there rs)
               (subst (λ a. Bytes within a (bytes_from labels a (items_from a s.back))) there bs.1) (λ none. let q =
-                  e (ap (λ t. t || some_leaves gs) stays ∙ none) in omega (arith, q, size_is, sum, long))),
+              e (ap (λ t. t || some_leaves gs) stays ∙ none) in omega (arith, q, size_is, sum, long))),
           m.reach,
           low,
         )
@@ -157,7 +161,7 @@ module _ (labels : List (Name × ℕ)) (seed : ℕ) (code : Part) (sc : slots.Sl
         let three : forms_size s.front ≡ 3 = (let a = items_size at s.front in let b = ap size head in omega (arith, a, b)) in
         let long : size (items_from at l.forms) ≡ forms_size l.forms = items_size at l.forms in
         let total : forms_size l.forms ≡ forms_size s.front + (forms_size t.front + forms_size t.back) = ap forms_size whole
-            ∙ forms_append s.front (t.front ++ t.back) ∙ ap (λ k. forms_size s.front + k) (forms_append t.front t.back) in
+        ∙ forms_append s.front (t.front ++ t.back) ∙ ap (λ k. forms_size s.front + k) (forms_append t.front t.back) in
         let below : at + forms_size l.forms ≤ highest_code = (let b = l.lies.below in omega (arith, b, long)) in
         let all : Rest labels at (s.front ++ (t.front ++ t.back)) = subst (Rest labels at) whole (record { labels_at = l.lies.labelled; near = l.near; below = below }) in
         let there : at + forms_size s.front ≡ at + 3 = omega (arith, three) in
@@ -165,16 +169,16 @@ module _ (labels : List (Name × ℕ)) (seed : ℕ) (code : Part) (sc : slots.Sl
         let bytes = part_bytes code at s.front (t.front ++ t.back) (let b = all.below in b) (subst (λ k. Bytes code at (bytes_from labels at (items_from at k))) whole l.lies.bytes) in
         let call_bytes : Bytes code at (flat (call GETIN)) = subst (λ es. Bytes code at (bytes_from labels at es)) head bytes.0 in
         let later : Bytes code (at + 3) (bytes_from labels (at + 3) (items_from (at + 3) (t.front ++ t.back))) =
-            subst (λ a. Bytes code a (bytes_from labels a (items_from a (t.front ++ t.back)))) there bytes.1 in
+        subst (λ a. Bytes code a (bytes_from labels a (items_from a (t.front ++ t.back)))) there bytes.1 in
         let inner_later : Bytes within (at + 3) (bytes_from labels (at + 3) (items_from (at + 3) (t.front ++ t.back))) =
         inner_bytes ly code (at + 3) (bytes_from labels (at + 3) (items_from (at + 3) (t.front ++ t.back))) (later_end at s.front t.front t.back three total below)
         (λ a lo hi. none_between labels seed code sc laid (at + 3) (at + size (items_from at l.forms)) (λ m e. ⊎_elim (λ q. inl (omega (arith, q)))
-            (λ q. inr q) (l.clear m e)) a lo (later_inside at s.front t.front t.back l.forms three total long a hi)) later in
+        (λ q. inr q) (l.clear m e)) a lo (later_inside at s.front t.front t.back l.forms three total long a hi)) later in
         let poll_rest = rest_before labels (at + 3) t.front t.back behind_call in
         let broken = laid.breaks n has in
         let to = place_of labels (target.Break n) in
         let p = poll_emitted labels ns seed n laid.seed_small small (at + 3) to stop t.front (stands (target.Break n) _ broken.labelled.0)
-            (let b = broken.below in omega (arith, b)) t.of_front poll_rest in
+        (let b = broken.below in omega (arith, b)) t.of_front poll_rest in
         let ps = poll_code (at + 3) p.way to in
         let poll_long : forms_size t.front ≡ pieces_size ps = emitted_size labels p.emits in
         let behind_below = behind_call.below in

@@ -44,8 +44,20 @@ module _ (f : Setup) (room : ℕ) (fits : Fits f room) (bs : List ℕ) (m : ℕ 
   loads_x : (at p : ℕ) → at + 3 ≤ highest_code → is_data p ≡ true → Bytes f.code at (instr_bytes (ins 0xAE p)) → Moves f (Here at bs m text answers) (Loaded (at + 3) (m p)) [] 1
   loads_x at p r d st = whatever f room fits at bs m text answers _ [] 1 (λ a x y n v i z c.
       loads_last f room fits 0xAE p Ldx (view a x y n v i z c at bs m text answers) _ _ refl refl refl small st d refl
-      (record { indexed = record { here = record { pc = let e : (at + 3) % 65536 ≡ at + 3 = omega (arith, r) in e; stack = refl; binary = refl;
-          mem = refl; text = refl; answers = refl }; index = refl }; zero = refl }))
+      (record {
+        indexed = record {
+          here = record {
+            pc = let e : (at + 3) % 65536 ≡ at + 3 = omega (arith, r) in e;
+            stack = refl;
+            binary = refl;
+            mem = refl;
+            text = refl;
+            answers = refl;
+          };
+          index = refl;
+        };
+        zero = refl;
+      }))
 
   -- where a branch leads by whether such a byte is 0
   pub asks : (at p to : ℕ) (way : Way) (wanted t : Bool) (ps : List Piece) → is_data p ≡ true → eqb (m p) 0 ≡ t → BranchReaches way (at + 3) to
@@ -63,14 +75,14 @@ module _ (f : Setup) (room : ℕ) (fits : Fits f room) (bs : List ℕ) (m : ℕ 
       → Comes f (record v { regs = advanced v.regs AbsoluteX; mem = with_byte v.mem p v.regs.a }) q t n → Comes f v q t (1 + n)
   stores_by_x base p v q t n short b e d next =
       placing f room fits (ins 0x9D base) v (record v { regs = advanced v.regs AbsoluteX; mem = with_byte v.mem p v.regs.a }) q t n short b
-          (stores_at f.code room (ins 0x9D base) v Sta AbsoluteX p refl refl refl refl (ap (λ a. Ok a) e) v.regs.a d refl) next
+      (stores_at f.code room (ins 0x9D base) v Sta AbsoluteX p refl refl refl refl (ap (λ a. Ok a) e) v.regs.a d refl) next
 
   loads_by_x : (base p : ℕ) (v : View) (r : Regs) (q : View → Type 0) (t : List ℕ) (n : ℕ) → leb (length v.stack) room ≡ true
       → Bytes f.code v.regs.pc (instr_bytes (ins 0xBD base)) → (base + v.regs.x) % 65536 ≡ p → is_data p ≡ true
       → executed Lda (advanced v.regs AbsoluteX) (λ a. Ok (v.mem p)) p ≡ Ok (r, []) → Comes f (record v { regs = with_s v.regs.s r }) q t n → Comes f v q t (1 + n)
   loads_by_x base p v r q t n short b e d e' next =
       placing f room fits (ins 0xBD base) v (record v { regs = with_s v.regs.s r }) q t n short b
-          (takes_at f.code room (ins 0xBD base) v Lda AbsoluteX p refl refl refl refl (ap (λ a. Ok a) e) (v.mem p) r (reads_data f.code v.mem p d) e') next
+      (takes_at f.code room (ins 0xBD base) v Lda AbsoluteX p refl refl refl refl (ap (λ a. Ok a) e) (v.mem p) r (reads_data f.code v.mem p d) e') next
 
   module _ (at l h : ℕ) (few : m NOTES < 256) where
     -- memory with the two bytes, and with their count
@@ -86,12 +98,12 @@ module _ (f : Setup) (room : ℕ) (fits : Fits f room) (bs : List ℕ) (m : ℕ 
         placing f room fits (ins 0xAE NOTES) (view a x y n v i z c at bs m text answers) _ _ [] 5 small st.0 refl
         (placing f room fits (ins 0xA9 l) (view a (m NOTES) y _ v i _ c ((at + 3) % 65536) bs m text answers) _ _ [] 4 small st.1.0 refl
         (stores_by_x NOTE_LOW (NOTE_LOW + m NOTES) (view l (m NOTES) y _ v i _ c ((((at + 3) % 65536) + 2) % 65536) bs m text answers) _ [] 3 small
-            st.1.1.0 (omega (arith, few)) (note_place (NOTE_LOW + m NOTES) (omega arith) (omega (arith, few)))
+        st.1.1.0 (omega (arith, few)) (note_place (NOTE_LOW + m NOTES) (omega arith) (omega (arith, few)))
         (placing f room fits (ins 0xA9 h) (view l (m NOTES) y _ v i _ c ((((((at + 3) % 65536) + 2) % 65536) + 3) % 65536) bs _ text answers) _ _ [] 2 small st.1.1.1.0 refl
         (stores_by_x NOTE_HIGH (NOTE_HIGH + m NOTES) (view h (m NOTES) y _ v i _ c ((((((((at + 3) % 65536) + 2) % 65536) + 3) % 65536) + 2) % 65536)
-            bs _ text answers) _ [] 1 small st.1.1.1.1.0 (omega (arith, few)) (note_place (NOTE_HIGH + m NOTES) (omega arith) (omega (arith, few)))
+        bs _ text answers) _ [] 1 small st.1.1.1.1.0 (omega (arith, few)) (note_place (NOTE_HIGH + m NOTES) (omega arith) (omega (arith, few)))
         (placed_last f room fits (ins 0xEE NOTES) (view h (m NOTES) y _ v i _ c ((((((((((at + 3) % 65536) + 2) % 65536) + 3) % 65536) + 2) % 65536)
-            + 3) % 65536) bs with_note text answers) _ _ small st.1.1.1.1.1.0 refl
+        + 3) % 65536) bs with_note text answers) _ _ small st.1.1.1.1.1.0 refl
         (record { here = record { pc = omega (arith, r); stack = refl; binary = refl; mem = refl; text = refl; answers = refl }; zero = refl })))))))
 
   -- the high byte of the count goes up
@@ -120,12 +132,12 @@ module _ (f : Setup) (room : ℕ) (fits : Fits f room) (bs : List ℕ) (m : ℕ 
         placing f room fits (ins 0xCA 0) (view a x y n v i z c at bs m text answers) _ _ [] 5 small st.0 refl
         (placing f room fits (ins 0x8E NOTES) (view a left y _ v i _ c ((at + 1) % 65536) bs m text answers) _ _ [] 4 small st.1.0 refl
         (loads_by_x NOTE_LOW (NOTE_LOW + left) (view a left y _ v i _ c ((((at + 1) % 65536) + 3) % 65536) bs less text answers) _ _ [] 3 small
-            st.1.1.0 (omega arith) (note_place (NOTE_LOW + left) (omega arith) (omega arith)) refl
+        st.1.1.0 (omega arith) (note_place (NOTE_LOW + left) (omega arith) (omega arith)) refl
         (stores f room fits RESULT (view _ left y _ v i _ c ((((((at + 1) % 65536) + 3) % 65536) + 3) % 65536) bs less text answers) _ [] 2 small st.1.1.1.0 refl
         (loads_by_x NOTE_HIGH (NOTE_HIGH + left) (view _ left y _ v i _ c ((((((((at + 1) % 65536) + 3) % 65536) + 3) % 65536) + 3) % 65536) bs
-            half_taken text answers) _ _ [] 1 small st.1.1.1.1.0 (omega arith) (note_place (NOTE_HIGH + left) (omega arith) (omega arith)) refl
+        half_taken text answers) _ _ [] 1 small st.1.1.1.1.0 (omega arith) (note_place (NOTE_HIGH + left) (omega arith) (omega arith)) refl
         (stores_last f room fits (RESULT + 1) (view _ left y _ v i _ c ((((((((((at + 1) % 65536) + 3) % 65536) + 3) % 65536) + 3) % 65536) + 3) %
-            65536) bs half_taken text answers) _ small st.1.1.1.1.1.0 refl
+        65536) bs half_taken text answers) _ small st.1.1.1.1.1.0 refl
         (record { pc = omega (arith, r); stack = refl; binary = refl; mem = refl; text = refl; answers = refl })))))))
 
 -- ---- what they leave in memory
@@ -175,8 +187,10 @@ module _ (m : ℕ → ℕ) (note : ℕ) (ns : List ℕ) (word : note < 65536) (c
       high = ap (λ j. two (NOTE_HIGH + j)) (sym index) ∙ put_same one q (note / 256) q refl;
       small = word;
     },
-    noted_same m two ns (λ j lt. (apart (NOTE_LOW + j) (λ e. omega (arith, e, lt, index)) (λ e. omega (arith, e, lt, few, index)),
-        apart (NOTE_HIGH + j) (λ e. omega (arith, e, lt, few, index)) (λ e. omega (arith, e, lt, index)))) noted,
+    noted_same m two ns (λ j lt. (
+      apart (NOTE_LOW + j) (λ e. omega (arith, e, lt, index)) (λ e. omega (arith, e, lt, few, index)),
+      apart (NOTE_HIGH + j) (λ e. omega (arith, e, lt, few, index)) (λ e. omega (arith, e, lt, index)),
+    )) noted,
   )
 
   low_byte : two NOTES ≡ length ns
@@ -189,8 +203,10 @@ module _ (m : ℕ → ℕ) (note : ℕ) (ns : List ℕ) (word : note < 65536) (c
   with_count : (m' : ℕ → ℕ) → ((a : ℕ) → a ≢ NOTES → a ≢ NOTES + 1 → m' a ≡ two a) → WordAt m' NOTES (suc (length ns)) → Added m note ns m'
   with_count m' e c = record {
     count = c;
-    noted = noted_same two m' (note ∷ ns) (λ j lt. (e (NOTE_LOW + j) (λ k. omega (arith, k)) (λ k. omega (arith, k)),
-        e (NOTE_HIGH + j) (λ k. omega (arith, k)) (λ k. omega (arith, k)))) two_notes;
+    noted = noted_same two m' (note ∷ ns) (λ j lt. (
+      e (NOTE_LOW + j) (λ k. omega (arith, k)) (λ k. omega (arith, k)),
+      e (NOTE_HIGH + j) (λ k. omega (arith, k)) (λ k. omega (arith, k)),
+    )) two_notes;
     others = λ a lo n n'. e a n n' ∙ apart a (λ k. omega (arith, k, lo)) (λ k. omega (arith, k, lo));
   }
 

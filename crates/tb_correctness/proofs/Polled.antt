@@ -128,7 +128,7 @@ module _ (around : Surroundings) (fits : Fits around.f 16) (limit : ℕ) (rs : S
         → Moves f (Flagged near own w.mem s.text (drop 1 s.answers) false) (Matches around (line code n is s' r)) [] 2
     goes_on s' et ea hs short = moves_looser f _ _ _ [] 2 2 (omega arith)
         (stood around code n small is s' r onward w.mem s.text (drop 1 s.answers) rest hs
-            (subst (λ u. HoldsLive u r w.mem) (sym (closed n (Poll ∷ is) some)) (nothing_read r w.mem h.read.all_words)) h.homed (sym et) ea short)
+        (subst (λ u. HoldsLive u r w.mem) (sym (closed n (Poll ∷ is) some)) (nothing_read r w.mem h.read.all_words)) h.homed (sym et) ea short)
         (parts false)
 
     abbrev Led : Step SlotState → Type 0
@@ -170,8 +170,14 @@ module _ (around : Surroundings) (fits : Fits around.f 16) (limit : ℕ) (rs : S
           few = omega arith;
           one = looser (opened f) w _ _ [] 1 1 (omega arith)
               (λ u g. chained f u _ _ [] (sent_in (outcome code n is s r s.answers)) 1 (10 + limit) (asks at w.mem s.text s.answers lies.2 u g) (led s.answers refl h.short.answer_bytes))
-              (calls (opened f) 16 fits at own w.mem s.text s.answers refl GETIN refl lies.2 lies.3 w (record { pc = h.pc ∙ ap (place_at ly) here;
-                  stack = h.stack; binary = h.binary; mem = refl; text = h.text; answers = h.answers }));
+              (calls (opened f) 16 fits at own w.mem s.text s.answers refl GETIN refl lies.2 lies.3 w (record {
+                pc = h.pc ∙ ap (place_at ly) here;
+                stack = h.stack;
+                binary = h.binary;
+                mem = refl;
+                text = h.text;
+                answers = h.answers;
+              }));
         })
 
   -- ---- any place
@@ -185,7 +191,7 @@ module _ (around : Surroundings) (fits : Fits around.f 16) (limit : ℕ) (rs : S
         let n = highest ly.numbers in
         looser f w _ _ (fault_text 7 n) (4 + limit) (34 + (limit + limit)) (omega arith) (λ u x. x)
         (faults_at around fits limit rs n 7 laid.top (omega arith) ly.past w.mem w.text w.answers laid.past h.homed w
-            (record { pc = at; stack = h.stack; binary = h.binary; mem = refl; text = refl; answers = refl }))
+        (record { pc = at; stack = h.stack; binary = h.binary; mem = refl; text = refl; answers = refl }))
 
     -- no line there: fault 7
     no_line : w.regs.pc ≡ ly.past → first_group code whole ≡ Stops Faulted (fault_text 7 (highest (numbers code)))
@@ -199,7 +205,7 @@ module _ (around : Surroundings) (fits : Fits around.f 16) (limit : ℕ) (rs : S
     at_number n here None e =
         no_line (h.pc ∙ ap (place_at ly) here ∙ laid.absent n e)
         (ap (λ p. first code (select (ahead code Whole p)) whole) here ∙ ap (λ o. first code (select (or_empty o)) whole) e
-            ∙ ap (λ p. instr_at code Whole p s r) here ∙ ap (λ o. instr_found (numbers code) n o s r) e)
+        ∙ ap (λ p. instr_at code Whole p s r) here ∙ ap (λ o. instr_found (numbers code) n o s r) e)
     at_number n here (Some js) e =
         let p = laid.lines n js e in
         inr (line_law n p.small p.rest s r closed (e ∙ ap (λ l. Some l) p.polled) w h p.stands here)

@@ -49,7 +49,7 @@ module _ (labels : List (Name × ℕ)) (ns : List ℕ) (seed : ℕ) (seed_small 
       let r : number_in labels (HighOf (label_of text)) % 256 ≡ (at + 19) / 256 = omega (arith, high_of labels ns seed (label_of text), here, below) in
       let m : length t % 256 ≡ length t = omega (arith, small) in
       λ j. 0xa9 ∷ l j ∷ 0x85 ∷ POINTER ∷ 0xa9 ∷ r j ∷ 0x85 ∷ (POINTER + 1) ∷ 0xa9 ∷ m j ∷ 0x8d ∷ LENGTH % 256 ∷ LENGTH / 256 ∷ 0x20 ∷ TEXT_AT % 256
-          ∷ TEXT_AT / 256 ∷ 0x4c ∷ end j % 256 ∷ end j / 256 ∷ (t ++ [])
+      ∷ TEXT_AT / 256 ∷ 0x4c ∷ end j % 256 ∷ end j / 256 ∷ (t ++ [])
 
   -- a group of another kind is none of a single instruction
   abbrev is_single : Group → Bool

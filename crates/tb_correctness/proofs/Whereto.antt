@@ -33,8 +33,16 @@ module _ (around : Surroundings) (code : SlotCode) (same_numbers : numbers code 
     binary = e.binary;
     text = e.text ∙ text;
     answers = e.answers ∙ got;
-    state = subst (HoldsState ly (record s { place = next_after (numbers code) n })) (sym e.mem) (record { vars = hs.vars; column = hs.column;
-        opened = hs.opened; seeded = hs.seeded; count = hs.count; notes = hs.notes; few = hs.few; all_vars = hs.all_vars });
+    state = subst (HoldsState ly (record s { place = next_after (numbers code) n })) (sym e.mem) (record {
+      vars = hs.vars;
+      column = hs.column;
+      opened = hs.opened;
+      seeded = hs.seeded;
+      count = hs.count;
+      notes = hs.notes;
+      few = hs.few;
+      all_vars = hs.all_vars;
+    });
     read = subst (HoldsLive nothing_live r) (sym e.mem) hr;
     homed = subst (Entered f lo hi) (sym e.mem) en;
     short = short;

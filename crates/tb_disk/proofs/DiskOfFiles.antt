@@ -17,8 +17,12 @@ use Rattle.tb_disk.proofs.Catalog.{ReadsDirectory, directory_chain, entries_ther
 use Rattle.tb_disk.proofs.Mapping.{times, all_used, uses_are, bits_are, counts_are, bit_tells, free_map_length}
 
 title_length : (field : List ℕ) → length field ≡ 16 → length (title field) ≡ 112
-title_length field e = omega (arith, length-append field (0xa0 ∷ 0xa0 ∷ 84 ∷ 66 ∷ 0xa0 ∷ 50 ∷ 65 ∷ 0xa0 ∷ 0xa0 ∷ 0xa0 ∷ 0xa0 ∷ replicate 85 0), e,
-    length-replicate {A = ℕ} 85 0)
+title_length field e = omega (
+  arith,
+  length-append field (0xa0 ∷ 0xa0 ∷ 84 ∷ 66 ∷ 0xa0 ∷ 50 ∷ 65 ∷ 0xa0 ∷ 0xa0 ∷ 0xa0 ∷ 0xa0 ∷ replicate 85 0),
+  e,
+  length-replicate {A = ℕ} 85 0,
+)
 
 head_length : (used d : ℕ) (field : List ℕ) → length field ≡ 16 → length (head_block used d field) ≡ 256
 unfolding head_block

@@ -109,7 +109,7 @@ uses_are used d p few = elim (cases_lt p 357) [
   | inl l ↦
       times_not p 357 (behind_head used d) (λ e. absurd (omega (arith, e, l))) ∙ parts used d p ∙ (λ i. directory_out d p (omega arith) i + files_below used p l i)
       ∙ plus_zero (if nat_le used p then 0 else 1)
-          ∙ ap (λ b. if (if b then nat_le used p else if nat_le p 375 then nat_lt (357 + d) p else nat_le (used + 19) p) then 0 else 1) (sym (lt-ltb p 357 l))
+      ∙ ap (λ b. if (if b then nat_le used p else if nat_le p 375 then nat_lt (357 + d) p else nat_le (used + 19) p) then 0 else 1) (sym (lt-ltb p 357 l))
   | inr g ↦ ap (λ n. n) (above g) ∙ ap (λ b. if (if b then nat_le used p else if nat_le p 375 then nat_lt (357 + d) p else nat_le (used + 19) p) then 0 else 1) (sym (le-ltb p 357 g))
 ]
   where

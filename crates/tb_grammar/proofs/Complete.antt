@@ -78,8 +78,11 @@ digits_read n [] (b ∷ rest) h e = rw e refl
 digits_read n (d ∷ digits) rest h e = rw (is_digit_true d (All-head IsDigit d digits h)) (digits_read (10 * n + (d - 48)) digits rest (All-tail IsDigit d digits h) e)
 
 number_read : (whole : List ℕ → Option Found) (d : ℕ) (digits rest : List ℕ) → All IsDigit (d ∷ digits) → starts_digit rest ≡ false
-    → factor_by whole (d ∷ digits ++ rest) ≡ Some (record { tree = Number (word_of (value_after 0 (d ∷ digits)));
-        large = large_at (value_after 0 (d ∷ digits)) (length (d ∷ digits ++ rest)); rest = rest })
+    → factor_by whole (d ∷ digits ++ rest) ≡ Some (record {
+      tree = Number (word_of (value_after 0 (d ∷ digits)));
+      large = large_at (value_after 0 (d ∷ digits)) (length (d ∷ digits ++ rest));
+      rest = rest;
+    })
 unfolding factor_by literal_at
 number_read whole d digits rest h e =
     rw (is_digit_true d (All-head IsDigit d digits h), digits_read (10 * 0 + (d - 48)) digits rest (All-tail IsDigit d digits h) e) refl
@@ -183,9 +186,12 @@ complete (product text a b la lb sign op middle rest r h q) n le = λ ends.
     let t = shorter q in
     let c = complete r n le (operator_ends Term sign op middle h) in
     let j = one_more c.0 (length middle) c.1 in
-    let d = complete q n (omega arith) ends in
-    (j.0, omega (arith, j.1, c.1), c.2 ∙ ap (λ (k : ℕ). more Term (factor_at n) k (record { tree = a; large = la; rest = sign ∷ middle })) j.1
-        ∙ goes_on Term (factor_at n) j.0 a b la lb sign op middle rest h d)
+    let d = complete q n (omega arith) ends in (
+      j.0,
+      omega (arith, j.1, c.1),
+      c.2 ∙ ap (λ (k : ℕ). more Term (factor_at n) k (record { tree = a; large = la; rest = sign ∷ middle })) j.1
+          ∙ goes_on Term (factor_at n) j.0 a b la lb sign op middle rest h d,
+    )
 complete (term text e large rest r) n le = λ ends none.
     let u = unsigned r (λ h. cc) in
     let f : Found = record { tree = e; large = large; rest = rest } in
@@ -202,9 +208,12 @@ complete (sum text a b la lb sign op middle rest r h q) n le = λ ends none.
     let c = complete r n le (operator_ends Whole sign op middle h) (sign_no_term sign op middle h) in
     let j = one_more c.0 (length middle) c.1 in
     let f : Found = record { tree = b; large = lb; rest = rest } in
-    let d = term_ends n middle f (complete q n (omega arith)) ends none in
-    (j.0, omega (arith, j.1, c.1), c.2 ∙ ap (λ (k : ℕ). more Whole (term_at n) k (record { tree = a; large = la; rest = sign ∷ middle })) j.1
-        ∙ goes_on Whole (term_at n) j.0 a b la lb sign op middle rest h d)
+    let d = term_ends n middle f (complete q n (omega arith)) ends none in (
+      j.0,
+      omega (arith, j.1, c.1),
+      c.2 ∙ ap (λ (k : ℕ). more Whole (term_at n) k (record { tree = a; large = la; rest = sign ∷ middle })) j.1
+          ∙ goes_on Whole (term_at n) j.0 a b la lb sign op middle rest h d,
+    )
 
 -- what may follow an expression
 pub record Follows (rest : List ℕ) : Type 0 where

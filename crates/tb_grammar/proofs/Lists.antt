@@ -145,7 +145,7 @@ letters_after_is others is v h (b ∷ rest) letters e =
       | inl c ↦
           let a = bind_some (others rest) (λ letters. Some ((v - 65) ∷ letters)) letters c.1 in
           subst (λ (b : ℕ). Variables (v ∷ b ∷ rest) letters) (sym (eqb-true b 44 c.0))
-              (subst (Variables (v ∷ 44 ∷ rest)) (some_is ((v - 65) ∷ a.0) letters a.2) (more v rest a.0 h (is rest a.0 a.1)))
+          (subst (Variables (v ∷ 44 ∷ rest)) (some_is ((v - 65) ∷ a.0) letters a.2) (more v rest a.0 h (is rest a.0 a.1)))
       | inr c ↦ let e' = c.1 in absurd cc
     ]
 

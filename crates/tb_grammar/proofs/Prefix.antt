@@ -18,7 +18,7 @@ word_read (b ∷ word) rest = rw (itself b) (word_read word rest)
 stands : (word text : List ℕ) → true ≡ pointwise nat_eq (take (length word) text) word → behind_word word text ≡ Some (drop (length word) text)
 stands word text e =
     let front : word ++ drop (length word) text ≡ text = ap (λ (w : List ℕ). w ++ drop (length word) text)
-        (sym (same_text (take (length word) text) word e)) ∙ take-append-drop (length word) text in
+    (sym (same_text (take (length word) text) word e)) ∙ take-append-drop (length word) text in
     ap (behind_word word) (sym front) ∙ word_read word (drop (length word) text)
 
 stands_not : (word text : List ℕ) → false ≡ pointwise nat_eq (take (length word) text) word → behind_word word text ≡ None
@@ -29,7 +29,7 @@ stands_not word text e = elim (some_or_none (behind_word word text)) [
 
 pub stripped : {X : Type 0} (now : X → List ℕ) (word text : List ℕ) (r : Option X)
     → MatchOption r (pointwise nat_eq (take (length word) text) word ≡ false) (λ x. (pointwise nat_eq (take (length word) text) word ≡ true)
-        × (now x ≡ drop (length word) text) × (length (now x) + length word ≡ length text))
+    × (now x ≡ drop (length word) text) × (length (now x) + length word ≡ length text))
     → MatchOption r (behind_word word text ≡ None) (λ x. behind_word word text ≡ Some (now x))
 stripped now word text None h = stands_not word text (sym h)
 stripped now word text (Some x) h = stands word text (sym h.0) ∙ ap (λ (t : List ℕ). Some t) (sym h.1)

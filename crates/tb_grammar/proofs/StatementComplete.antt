@@ -35,7 +35,7 @@ assign_no_then v text = elim (cases_Bool (v == 84)) [ inl h ↦ rw h refl | inr 
 statement_starts : {text : List ℕ} {s : Statement} {large : Option ℕ} → States text s large → Starts text
 statement_starts (assign v text e large h r) =
     word_starts (letter_no_digit v h) (assign_no_random v text) (rw (ne_eqb v 42 (omega arith), ne_eqb v 47 (omega arith)) refl)
-        (rw (ne_eqb v 43 (omega arith), ne_eqb v 45 (omega arith)) refl) (assign_no_then v text)
+    (rw (ne_eqb v 43 (omega arith), ne_eqb v 45 (omega arith)) refl) (assign_no_then v text)
 statement_starts (let_assign v text e large h r) = word_starts refl refl refl refl refl
 statement_starts (print text items ends_line large p) = word_starts refl refl refl refl refl
 statement_starts (short_print text items ends_line large p) = word_starts refl refl refl refl refl

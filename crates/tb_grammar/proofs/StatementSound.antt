@@ -47,7 +47,7 @@ print_is text t e =
     let a = bind_some (items_at (length text) true text) (λ p. Some (record { statement = Print p.items p.ends_line; large = p.large })) t e in
     let p = items_is (length text) true text a.0 a.1 in
     let same : (let t : Told = record { statement = Print a.0.items a.0.ends_line; large = a.0.large } in t) ≡ t =
-        some_is (record { statement = Print a.0.items a.0.ends_line; large = a.0.large }) t a.2 in
+    some_is (record { statement = Print a.0.items a.0.ends_line; large = a.0.large }) t a.2 in
     (subst (IsTold (codes "PRINT" ++ text)) same (print text a.0.items a.0.ends_line a.0.large p), subst (IsTold (codes "PR" ++ text)) same (short_print text a.0.items a.0.ends_line a.0.large p))
 
 input_is : (text : List ℕ) (t : Told) → input_at text ≡ Some t → IsTold (codes "INPUT" ++ text) t
@@ -71,11 +71,13 @@ conditional_is : (reader : List ℕ → Option Told) → Tells reader → (text 
 unfolding conditional_by
 conditional_is reader tells text t h =
     let a = bind_some (front_of text) (λ a. relation_at a.rest >>= λ rel. front_of rel.1 >>= λ b. reader (behind_then b.rest) >>= λ s. Some
-        (record { statement = If a.tree rel.0 b.tree s.statement; large = option_or a.large (option_or b.large s.large) })) t h in
+    (record { statement = If a.tree rel.0 b.tree s.statement; large = option_or a.large (option_or b.large s.large) })) t h in
     let r = bind_some (relation_at a.0.rest) (λ rel. front_of rel.1 >>= λ b. reader (behind_then b.rest) >>= λ s. Some
-        (record { statement = If a.0.tree rel.0 b.tree s.statement; large = option_or a.0.large (option_or b.large s.large) })) t a.2 in
-    let b = bind_some (front_of r.0.1) (λ b. reader (behind_then b.rest) >>= λ s. Some (record { statement = If a.0.tree r.0.0 b.tree s.statement;
-        large = option_or a.0.large (option_or b.large s.large) })) t r.2 in
+    (record { statement = If a.0.tree rel.0 b.tree s.statement; large = option_or a.0.large (option_or b.large s.large) })) t a.2 in
+    let b = bind_some (front_of r.0.1) (λ b. reader (behind_then b.rest) >>= λ s. Some (record {
+      statement = If a.0.tree r.0.0 b.tree s.statement;
+      large = option_or a.0.large (option_or b.large s.large);
+    })) t r.2 in
     let s = bind_some (reader (behind_then b.0.rest)) (λ s. Some (record { statement = If a.0.tree r.0.0 b.0.tree s.statement; large = option_or a.0.large (option_or b.0.large s.large) })) t b.2 in
     let made : Told = record { statement = If a.0.tree r.0.0 b.0.tree s.0.statement; large = option_or a.0.large (option_or b.0.large s.0.large) } in
     let same : made ≡ t = some_is made t s.2 in

@@ -22,7 +22,7 @@ lines_of_insert (e ∷ es) n s = go (lines_of_insert es n s) (nat_lt n e.0) (n =
     go : lines_of (insert_entry nat_cmp es n s) ≡ with_line n (statement_of s) (lines_of es) → (less same : Bool) → (n == e.0) ≡ same
         → lines_of (match_ordering (cond less Less (cond same Equal Greater)) ((n, s) ∷ e ∷ es) ((e.0, s) ∷ es) (e ∷ insert_entry nat_cmp es n s))
         ≡ (if less then line_at n (statement_of s) ∷ line_of e ∷ lines_of es else if same then line_at n (statement_of s) ∷ lines_of es else line_of e
-            ∷ with_line n (statement_of s) (lines_of es))
+        ∷ with_line n (statement_of s) (lines_of es))
     go h true same is = refl
     go h false true is = ap (λ (k : ℕ). line_at k (statement_of s) ∷ lines_of es) (sym (eqb-true n e.0 is))
     go h false false is = ap (λ (t : Program). line_of e ∷ t) h

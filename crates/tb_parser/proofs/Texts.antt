@@ -19,7 +19,7 @@ squeezed_length m column (b ∷ line) = by (is_dropped m b) (squeezed_length (af
   where
     by : (t : Bool) → length (squeezed_from (after m b) (column + 1) line) ≤ length line
         → length (if t then squeezed_from (after m b) (column + 1) line else record { byte = shown m b; column = column; in_code = is_in_code m }
-            ∷ squeezed_from (after m b) (column + 1) line) ≤ length (b ∷ line)
+        ∷ squeezed_from (after m b) (column + 1) line) ≤ length (b ∷ line)
     by true h = omega (arith, h)
     by false h = omega (arith, h)
 

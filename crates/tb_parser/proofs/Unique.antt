@@ -125,8 +125,16 @@ unfolding judged numbered_line
 judged_number line number text n =
     let low : 1 ≤ (number_at 0 (squeezed line)).value = rw (n.value) n.in_range.0 in
     let written = number_written line low in
-    rw (written.1, low_enough (length line) 255 n.fit.short, n.fit.clean, number_has_digit (squeezed line) low, n.value, n.rest,
-        low_enough 1 number n.in_range.0, low_enough number 32767 n.in_range.1) refl
+    rw (
+      written.1,
+      low_enough (length line) 255 n.fit.short,
+      n.fit.clean,
+      number_has_digit (squeezed line) low,
+      n.value,
+      n.rest,
+      low_enough 1 number n.in_range.0,
+      low_enough number 32767 n.in_range.1,
+    ) refl
 
 statement_behind : (number : ℕ) (text : List Placed) → text ≢ [] → behind_number number text ≡ Statement number text
 unfolding behind_number
@@ -141,10 +149,24 @@ judged_as line _ (unfit first _ e (bad_byte column short f)) = inl (rw (e, low_e
 judged_as line _ (unnumbered first e fit d) = inl (rw (e, low_enough (length line) 255 fit.short, fit.clean, d) refl)
 judged_as line _ (bad_line_number first e fit d n) = inl (rw (e, low_enough (length line) 255 fit.short, fit.clean, d, no_number (number_at 0 (squeezed line)).value n) refl)
 judged_as line _ (deletes number n) = inl (judged_number line number [] n)
-judged_as line _ (sets number text c n some t) = inr (record { number = number; text = text; is_judged = judged_number line number text n
-    ∙ statement_behind number text some; said = Ok c; reading = t; meaning = refl })
-judged_as line _ (unread number text r n some t) = inr (record { number = number; text = text; is_judged = judged_number line number text n
-    ∙ statement_behind number text some; said = Err r; reading = t; meaning = refl })
+judged_as line _ (sets number text c n some t) = inr (record {
+  number = number;
+  text = text;
+  is_judged = judged_number line number text n
+      ∙ statement_behind number text some;
+  said = Ok c;
+  reading = t;
+  meaning = refl;
+})
+judged_as line _ (unread number text r n some t) = inr (record {
+  number = number;
+  text = text;
+  is_judged = judged_number line number text n
+      ∙ statement_behind number text some;
+  said = Err r;
+  reading = t;
+  meaning = refl;
+})
 
 decided_in : Result Edit Refusal → Judged → Result Edit Refusal
 decided_in m (Decided d) = d

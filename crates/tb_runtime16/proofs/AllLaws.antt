@@ -87,9 +87,9 @@ module _ (table seed_option : ℕ) (numbers : List ℕ) (start : ℕ → ℕ) (f
       (prompt o ++ asking.turn_sends j t) (45 * length text + 587)
   asks l h m text answers o j t is_open column small line e is x y z n b i c d =
       subst (λ t. Comes f (view x y z n b i c d INPUT_AT (l ∷ h ∷ own) m text answers) (asking.Ended f l h own m answers (m COLUMN) (prompt o) t)
-          (prompt o ++ asking.turn_sends j t) (45 * length text + 587)) is
+      (prompt o ++ asking.turn_sends j t) (45 * length text + 587)) is
       (input_law f 16 (let most : 13 ≤ 16 = omega arith in most) fits block lo hi [] (let deep : 6 ≤ 16 = omega arith in deep) l h text answers m e j
-          line small o is_open (m COLUMN) (let r : m COLUMN ≡ m COLUMN % 256 = omega (arith, column) in r) x y z n b i c d)
+      line small o is_open (m COLUMN) (let r : m COLUMN ≡ m COLUMN % 256 = omega (arith, column) in r) x y z n b i c d)
 
   -- back from INPUT
   taken : (l h : ℕ) (m : ℕ → ℕ) (answers : List ℕ) (stays : Bool) (v : ℕ) (left : List ℕ) (o : Bool) (w : View)
@@ -124,8 +124,15 @@ module _ (table seed_option : ℕ) (numbers : List ℕ) (start : ℕ → ℕ) (f
     text = λ l h m text answers at bytes pointer count shown small from to few column.
         from_here f _ _ m text answers _ bytes (limit_by keys) (λ x y z n v i c d.
         beside f own _ _ _ _ _ _ bytes (15 * length bytes + 3) (limit_by keys) (omega (arith, few))
-        (text_law (under f own) (omega (arith, fits)) block l h text answers m x y z n v i c d at bytes (record { pointer = pointer; shown = shown;
-            from = from; to = to; count = count; few = few; bytes_small = small }))
+        (text_law (under f own) (omega (arith, fits)) block l h text answers m x y z n v i c d at bytes (record {
+          pointer = pointer;
+          shown = shown;
+          from = from;
+          to = to;
+          count = count;
+          few = few;
+          bytes_small = small;
+        }))
         (λ w k. let s = k.column_small column in record { column = omega (arith, k.column, s); others = λ p o q. let r = not_pointer p (unless_scratch p o) in k.others p q r.0 r.1 r.2 }));
     zone = λ l h m text answers column.
         from_here f _ _ m text answers _ (zone (m COLUMN)) (limit_by keys) (λ x y z n v i c d.
@@ -156,7 +163,7 @@ module _ (table seed_option : ℕ) (numbers : List ℕ) (start : ℕ → ℕ) (f
         looser f _ _ _ (fault_text k n) 542 (limit_by keys) (omega arith) (λ w h. h)
         (subst (λ j. Comes f (view k (n % 256) (n / 256) b v i c d FAULT_LINE_AT own m text answers) (IsHome f) (fault_text k j) 542) (let s : n % 256 + 256 * (n / 256) ≡ n = omega arith in s)
         (fault_line_law f 16 (let most : 13 ≤ 16 = omega arith in most) fits block lo hi [] (let deep : 2 ≤ 16 = omega arith in
-            deep) text answers m e k (n % 256) (n / 256) b v i c d small (omega arith) (omega (arith, few)))));
+        deep) text answers m e k (n % 256) (n / 256) b v i c d small (omega arith) (omega (arith, few)))));
     pop = λ l h m text answers note notes count is few.
         from_here f _ _ m text answers _ [] (limit_by keys) (λ x y z n v i c d.
         beside f own _ _ _ _ _ _ [] 14 (limit_by keys) (omega arith)
@@ -194,7 +201,7 @@ module _ (table seed_option : ℕ) (numbers : List ℕ) (start : ℕ → ℕ) (f
         from_here f _ _ m text answers _ (prompt o ++ line_end stays) (limit_by keys) (λ x y z n b i c d.
         looser f _ _ _ (prompt o ++ line_end stays) (45 * length text + 587) (limit_by keys) (omega (arith, few)) (λ w k. taken l h m answers stays v left o w k)
         (subst (λ s. Comes f (view x y z n b i c d INPUT_AT (l ∷ h ∷ own) m text answers) (asking.Ended f l h own m answers (m COLUMN) (prompt o)
-            (Got v stays left)) s (45 * length text + 587)) (ends_with o stays v left j)
+        (Got v stays left)) s (45 * length text + 587)) (ends_with o stays v left j)
         (asks l h m text answers o j (Got v stays left) is_open column small line e got x y z n b i c d)));
     input_fails = λ l h m text answers o j is_open column small few got line e.
         from_here f _ _ m text answers _ (prompt o ++ fault_text 6 j) (limit_by keys) (λ x y z n b i c d.
@@ -209,12 +216,12 @@ module _ (table seed_option : ℕ) (numbers : List ℕ) (start : ℕ → ℕ) (f
         from_here f _ _ m text answers _ [] (limit_by keys) (λ x y z n v i c d.
         looser f _ _ _ [] 5 (limit_by keys) (omega arith) (λ w k. k)
         ((poll_law f 16 (let most : 13 ≤ 16 = omega arith in most) fits block lo hi [] (let deep : 6 ≤ 16 = omega arith in deep) l h text answers m e
-            j line (first_small answers small) x y z n v i c d).0 (λ q. let bad : true ≡ false = sym (eq-eqb (first_or_zero answers) 3 q) ∙ other in cc)));
+        j line (first_small answers small) x y z n v i c d).0 (λ q. let bad : true ≡ false = sym (eq-eqb (first_or_zero answers) 3 q) ∙ other in cc)));
     poll_breaks = λ l h m text answers j small stop line e.
         from_here f _ _ m text answers _ (fault_text 0 j) (limit_by keys) (λ x y z n v i c d.
         looser f _ _ _ (fault_text 0 j) 546 (limit_by keys) (omega arith) (λ w k. k)
         ((poll_law f 16 (let most : 13 ≤ 16 = omega arith in most) fits block lo hi [] (let deep : 6 ≤ 16 = omega arith in deep) l h text answers m e
-            j line (first_small answers small) x y z n v i c d).1 (eqb-true (first_or_zero answers) 3 stop)));
+        j line (first_small answers small) x y z n v i c d).1 (eqb-true (first_or_zero answers) 3 stop)));
   }
 
 pub all_laws : AllLaws

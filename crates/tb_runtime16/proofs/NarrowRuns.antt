@@ -152,6 +152,16 @@ module _ (f : Setup) (fits : Fits f 2) (block : Holds block_part f.code) (lo hi 
   narrow x y n v i z c p less =
       after f 2 fits divide_part (divide_in f.code block) 3 (view (m0 (LEFT + 1)) x y n v i z c (DIVIDE_AT + 66) (lo ∷ hi ∷ []) m0 text answers) _ _ 66 refl
       (turn 7 (lesses 7) _ _ _ _ _ _ _ _ _ 0 0
-      (record { left = p.0; left_high = refl; rest_high = refl; low = refl; high = refl; others = frame_put _ _ (RESULT + 1) _ refl
-          (frame_put _ _ (LEFT + 1) _ refl (λ a e. refl)); less = less; few = omega arith; sum = omega arith })
+      (record {
+        left = p.0;
+        left_high = refl;
+        rest_high = refl;
+        low = refl;
+        high = refl;
+        others = frame_put _ _ (RESULT + 1) _ refl
+            (frame_put _ _ (LEFT + 1) _ refl (λ a e. refl));
+        less = less;
+        few = omega arith;
+        sum = omega arith;
+      })
       refl refl)

@@ -69,9 +69,15 @@ module _ (f : Setup) (fits : Fits f 2) (block : Holds block_part f.code) (lo hi 
       let t : eqb ((m NOTES + 1) % 256) 0 ≡ true = eq-eqb _ _ over in
       after f 2 fits notes_part (notes_in f.code block) 1 (view a x y n v i z c (PUSH_AT + 0x12) (lo ∷ hi ∷ []) m text answers) _ _ 2 refl
       (rw t (ending f 2 fits notes_part (notes_in f.code block) 1 (view _ _ _ _ _ _ _ _ (PUSH_AT + 0x17) (lo ∷ hi ∷ []) m1 text answers) _ refl
-      (leaves_now refl (record { notes = record { count = holds_word _ NOTES _ (u.0, u.1) u.2; few = omega (arith, small);
-          noted = noted_same m m2 (note ∷ ns) (λ j p. (same _ (omega arith), same _ (omega arith))) h }; others = changes_put _ _ _ (NOTES + 1) _ refl
-          (changes_put _ _ _ NOTES _ refl r) }))))
+      (leaves_now refl (record {
+        notes = record {
+          count = holds_word _ NOTES _ (u.0, u.1) u.2;
+          few = omega (arith, small);
+          noted = noted_same m m2 (note ∷ ns) (λ j p. (same _ (omega arith), same _ (omega arith))) h;
+        };
+        others = changes_put _ _ _ (NOTES + 1) _ refl
+            (changes_put _ _ _ NOTES _ refl r);
+      }))))
 
   -- and without one
   count_plain : (a x y : ℕ) (n v i z c : Bool) (m : ℕ → ℕ) (note : ℕ) (ns : List ℕ) → m NOTES < 256 → m NOTES + 256 * m (NOTES + 1) ≡ length ns
@@ -84,8 +90,14 @@ module _ (f : Setup) (fits : Fits f 2) (block : Holds block_part f.code) (lo hi 
       let t : eqb ((m NOTES + 1) % 256) 0 ≡ false = ne_eqb _ _ under in
       after f 2 fits notes_part (notes_in f.code block) 1 (view a x y n v i z c (PUSH_AT + 0x12) (lo ∷ hi ∷ []) m text answers) _ _ 1 refl
       (rw t (ending f 2 fits notes_part (notes_in f.code block) 0 (view _ _ _ _ _ _ _ _ (PUSH_AT + 0x1A) (lo ∷ hi ∷ []) m1 text answers) _ refl
-      (leaves_now refl (record { notes = record { count = holds_word _ NOTES _ (u.0, u.1) u.2; few = omega (arith, small);
-          noted = noted_same m m1 (note ∷ ns) (λ j p. (same _ (omega arith), same _ (omega arith))) h }; others = changes_put _ _ _ NOTES _ refl r }))))
+      (leaves_now refl (record {
+        notes = record {
+          count = holds_word _ NOTES _ (u.0, u.1) u.2;
+          few = omega (arith, small);
+          noted = noted_same m m1 (note ∷ ns) (λ j p. (same _ (omega arith), same _ (omega arith))) h;
+        };
+        others = changes_put _ _ _ NOTES _ refl r;
+      }))))
 
   count : (a x y : ℕ) (n v i z c : Bool) (m : ℕ → ℕ) (note : ℕ) (ns : List ℕ) → m NOTES < 256 → m NOTES + 256 * m (NOTES + 1) ≡ length ns
       → length ns < deepest → Noted m (note ∷ ns) → Changes push_changes m0 m
@@ -161,8 +173,10 @@ module _ (f : Setup) (fits : Fits f 2) (block : Holds block_part f.code) (lo hi 
           kept = n1;
           noted = (
             record { low = omega (arith, b0, left.0); high = omega (arith, b1, left.0, left.1); small = omega (arith, left.0, left.1) },
-            noted_same m0 with_note ns (λ k l. (apart (NOTE_LOW + k) (λ e. omega (arith, e, l)) (λ e. omega (arith, e, l, small)),
-                apart (NOTE_HIGH + k) (λ e. omega (arith, e, l, small)) (λ e. omega (arith, e, l)))) h.noted,
+            noted_same m0 with_note ns (λ k l. (
+              apart (NOTE_LOW + k) (λ e. omega (arith, e, l)) (λ e. omega (arith, e, l, small)),
+              apart (NOTE_HIGH + k) (λ e. omega (arith, e, l, small)) (λ e. omega (arith, e, l)),
+            )) h.noted,
           );
           others = changes_put push_changes m0 with_low high_at _ (high_place high_at (omega arith) (omega (arith, small)))
               (changes_put push_changes m0 m0 low_at _ (low_place low_at (omega arith) (omega (arith, small))) (λ a e. refl));
@@ -175,10 +189,10 @@ module _ (f : Setup) (fits : Fits f 2) (block : Holds block_part f.code) (lo hi 
         let e = counted_is in
         after f 2 fits notes_part (notes_in f.code block) 0 (view a (m0 NOTES) y n v i z c (PUSH_AT + 0x08) (lo ∷ hi ∷ []) m0 text answers) _ _ 7 refl
         (storing NOTE_LOW (PUSH_AT + 0x0A) low_at (m0 LEFT) _ _ _ _ _ _ _ m0 _ 6 (omega (arith, e, zero, small)) (omega arith) (omega (arith, small))
-            (notes_in f.code block _ _ refl, (notes_in f.code block _ _ refl, (notes_in f.code block _ _ refl, tt)))
+        (notes_in f.code block _ _ refl, (notes_in f.code block _ _ refl, (notes_in f.code block _ _ refl, tt)))
         (after f 2 fits notes_part (notes_in f.code block) 0 (view (m0 LEFT) (m0 NOTES) y _ v i _ c (PUSH_AT + 0x0D) (lo ∷ hi ∷ []) with_low text answers) _ _ 5 refl
         (rw high_stays (storing NOTE_HIGH (PUSH_AT + 0x0F) high_at (m0 (LEFT + 1)) _ _ _ _ _ _ _ with_low _ 4 (omega (arith, e, zero, small))
-            (omega arith) (omega (arith, small)) (notes_in f.code block _ _ refl, (notes_in f.code block _ _ refl, (notes_in f.code block _ _ refl, tt)))
+        (omega arith) (omega (arith, small)) (notes_in f.code block _ _ refl, (notes_in f.code block _ _ refl, (notes_in f.code block _ _ refl, tt)))
         (count _ _ _ _ _ _ _ _ with_note (word_in m0 LEFT) ns stands.low stands.is small stands.noted stands.others)))))
 
     -- and on its second one
@@ -189,10 +203,10 @@ module _ (f : Setup) (fits : Fits f 2) (block : Holds block_part f.code) (lo hi 
         let s = stands in
         after f 2 fits notes_part (notes_in f.code block) 0 (view a (m0 NOTES) y n v i z false (PUSH_AT + 0x1F) (lo ∷ hi ∷ []) m0 text answers) _ _ 7 refl
         (storing (NOTE_LOW + 256) (PUSH_AT + 0x21) low_at (m0 LEFT) _ _ _ _ _ _ _ m0 _ 6 (omega (arith, e, one, small)) (omega arith)
-            (omega (arith, small)) (notes_in f.code block _ _ refl, (notes_in f.code block _ _ refl, (notes_in f.code block _ _ refl, tt)))
+        (omega (arith, small)) (notes_in f.code block _ _ refl, (notes_in f.code block _ _ refl, (notes_in f.code block _ _ refl, tt)))
         (after f 2 fits notes_part (notes_in f.code block) 0 (view (m0 LEFT) (m0 NOTES) y _ v i _ false (PUSH_AT + 0x24) (lo ∷ hi ∷ []) with_low text answers) _ _ 5 refl
         (rw high_stays (storing (NOTE_HIGH + 256) (PUSH_AT + 0x26) high_at (m0 (LEFT + 1)) _ _ _ _ _ _ _ with_low _ 4 (omega (arith, e, one, small))
-            (omega arith) (omega (arith, small)) (notes_in f.code block _ _ refl, (notes_in f.code block _ _ refl, (notes_in f.code block _ _ refl, tt)))
+        (omega arith) (omega (arith, small)) (notes_in f.code block _ _ refl, (notes_in f.code block _ _ refl, (notes_in f.code block _ _ refl, tt)))
         (after f 2 fits notes_part (notes_in f.code block) 0 (view (m0 (LEFT + 1)) (m0 NOTES) y _ v i _ false (PUSH_AT + 0x29) (lo ∷ hi ∷ []) with_note text answers) _ _ 3 refl
         (count_plain _ _ _ _ _ _ _ _ with_note (word_in m0 LEFT) ns s.low s.is small s.noted s.others (λ full. omega (arith, full, s.is, s.low, s.kept, one, e, small))))))))
 
@@ -252,8 +266,11 @@ module _ (f : Setup) (fits : Fits f 2) (block : Holds block_part f.code) (lo hi 
       ending f 2 fits notes_part (notes_in f.code block) 2 (view a x y n v i z c (PUSH_AT + 0x4C) (lo ∷ hi ∷ []) m text answers) _ refl
       (leaves_now refl (record {
         gives = record { result = holds_word m2 RESULT note (word.0, word.1) word.2; others = changes_put _ _ _ (RESULT + 1) _ refl (changes_put _ _ _ RESULT _ refl r) };
-        notes = record { count = holds_word m2 NOTES (length ns) (low, top) is; few = omega (arith, small);
-            noted = noted m2 (λ a p. put_other m1 (RESULT + 1) y a (λ e. omega (arith, e, p)) ∙ put_other m RESULT _ a (λ e. omega (arith, e, p))) };
+        notes = record {
+          count = holds_word m2 NOTES (length ns) (low, top) is;
+          few = omega (arith, small);
+          noted = noted m2 (λ a p. put_other m1 (RESULT + 1) y a (λ e. omega (arith, e, p)) ∙ put_other m RESULT _ a (λ e. omega (arith, e, p)));
+        };
       }))
 
   module _ (m : ℕ → ℕ) (note : ℕ) (ns : List ℕ) (is : (m NOTES + 255) % 256 + 256 * m (NOTES + 1) ≡ length ns) (small : length ns < deepest)
@@ -276,9 +293,9 @@ module _ (f : Setup) (fits : Fits f 2) (block : Holds block_part f.code) (lo hi 
         let t : eqb (m (NOTES + 1)) 0 ≡ true = eq-eqb _ _ near in
         after f 2 fits notes_part (notes_in f.code block) 3 (view a (m NOTES) y n v i z c (PUSH_AT + 0x3D) (lo ∷ hi ∷ []) m text answers) _ _ (1 + (1 + 3)) refl
         (rw t (to_y NOTE_HIGH (PUSH_AT + 0x46) high_from _ _ _ _ _ _ _ _ (counted m) _ (1 + 3) (omega (arith, is, near, small)) (omega arith)
-            (omega (arith, small)) (notes_in f.code block _ _ refl, (notes_in f.code block _ _ refl, (notes_in f.code block _ _ refl, tt)))
+        (omega (arith, small)) (notes_in f.code block _ _ refl, (notes_in f.code block _ _ refl, (notes_in f.code block _ _ refl, tt)))
         (to_a NOTE_LOW (PUSH_AT + 0x49) low_from _ _ _ _ _ _ _ _ (counted m) _ 3 (omega (arith, is, near, small)) (omega arith) (omega (arith, small))
-            (notes_in f.code block _ _ refl, (notes_in f.code block _ _ refl, (notes_in f.code block _ _ refl, tt)))
+        (notes_in f.code block _ _ refl, (notes_in f.code block _ _ refl, (notes_in f.code block _ _ refl, tt)))
         (gives (omega (arith, near)) _ _ _ _ _))))
 
     -- and on the second one
@@ -288,9 +305,9 @@ module _ (f : Setup) (fits : Fits f 2) (block : Holds block_part f.code) (lo hi 
         let t : eqb (m (NOTES + 1)) 0 ≡ false = ne_eqb _ _ (λ e. omega (arith, e, far)) in
         after f 2 fits notes_part (notes_in f.code block) 3 (view a (m NOTES) y n v i z c (PUSH_AT + 0x3D) (lo ∷ hi ∷ []) m text answers) _ _ (1 + (1 + (1 + 3))) refl
         (rw t (to_y (NOTE_HIGH + 256) (PUSH_AT + 0x53) high_from _ _ _ _ _ _ _ _ (counted m) _ (1 + (1 + 3)) (omega (arith, is, far, small))
-            (omega arith) (omega (arith, small)) (notes_in f.code block _ _ refl, (notes_in f.code block _ _ refl, (notes_in f.code block _ _ refl, tt)))
+        (omega arith) (omega (arith, small)) (notes_in f.code block _ _ refl, (notes_in f.code block _ _ refl, (notes_in f.code block _ _ refl, tt)))
         (to_a (NOTE_LOW + 256) (PUSH_AT + 0x56) low_from _ _ _ _ _ _ _ _ (counted m) _ (1 + 3) (omega (arith, is, far, small)) (omega arith)
-            (omega (arith, small)) (notes_in f.code block _ _ refl, (notes_in f.code block _ _ refl, (notes_in f.code block _ _ refl, tt)))
+        (omega (arith, small)) (notes_in f.code block _ _ refl, (notes_in f.code block _ _ refl, (notes_in f.code block _ _ refl, tt)))
         (after f 2 fits notes_part (notes_in f.code block) 0 (view _ _ _ _ _ _ _ _ (PUSH_AT + 0x59) (lo ∷ hi ∷ []) (counted m) text answers) _ _ 3 refl
         (gives (omega (arith, far)) _ _ _ _ _)))))
 
@@ -308,7 +325,7 @@ module _ (f : Setup) (fits : Fits f 2) (block : Holds block_part f.code) (lo hi 
       (rw s (after f 2 fits notes_part (notes_in f.code block) 0 (view _ (m0 NOTES) _ _ _ _ _ _ (PUSH_AT + 0x3A) (lo ∷ hi ∷ []) m0 text answers) _ _ 9 refl
       (take_near (with_byte m0 (NOTES + 1) ((m0 (NOTES + 1) + 255) % 256)) note ns (omega arith) (omega arith)
       (noted_same m0 _ (note ∷ ns) (λ j p. (put_other m0 (NOTES + 1) _ _ (λ e. omega arith), put_other m0 (NOTES + 1) _ _ (λ e. omega arith)))
-          h.noted) (changes_put _ _ _ (NOTES + 1) _ refl (λ a e. refl)) _ _ _ _ _ _ _ (omega arith)))))))
+      h.noted) (changes_put _ _ _ (NOTES + 1) _ refl (λ a e. refl)) _ _ _ _ _ _ _ (omega arith)))))))
       (λ some. let t : eqb (m0 NOTES) 0 ≡ false = ne_eqb _ _ some in
       looser f _ _ _ [] (2 + 10) 14 (omega arith) (λ w h. h)
       (after f 2 fits notes_part (notes_in f.code block) 1 (view a x y n v i z c POP_AT (lo ∷ hi ∷ []) m0 text answers) _ _ 10 refl

@@ -51,7 +51,7 @@ Ended f lo hi own m replies c before Dry w = IsWaiting w × (length w.stack ≤ 
 abbrev pub InputLaw : Type 0
 InputLaw =
     (f : Setup) (room : ℕ) → 13 ≤ room → Fits f room → Holds block_part f.code → (hlo hhi : ℕ) (above : List ℕ) → length above + 6 ≤ room
-        → (lo hi : ℕ) (text answers : List ℕ) (m : ℕ → ℕ) → Entered f hlo hhi m → (line : ℕ) → WordAt m LINE line → AreBytes text → (is_open : Bool)
-        → m OPEN ≡ bit is_open → (c : ℕ) → m COLUMN ≡ c % 256 → (a x y : ℕ) (n v i z carry : Bool) →
+    → (lo hi : ℕ) (text answers : List ℕ) (m : ℕ → ℕ) → Entered f hlo hhi m → (line : ℕ) → WordAt m LINE line → AreBytes text → (is_open : Bool)
+    → m OPEN ≡ bit is_open → (c : ℕ) → m COLUMN ≡ c % 256 → (a x y : ℕ) (n v i z carry : Bool) →
     Comes f (view a x y n v i z carry INPUT_AT (lo ∷ hi ∷ above ++ hlo ∷ hhi ∷ []) m text answers)
-        (Ended f lo hi (above ++ hlo ∷ hhi ∷ []) m answers c (prompt is_open) (turn Nothing text)) (prompt is_open ++ turn_sends line (turn Nothing text)) (45 * length text + 587)
+    (Ended f lo hi (above ++ hlo ∷ hhi ∷ []) m answers c (prompt is_open) (turn Nothing text)) (prompt is_open ++ turn_sends line (turn Nothing text)) (45 * length text + 587)

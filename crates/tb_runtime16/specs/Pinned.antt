@@ -12,13 +12,13 @@ CodeStands = (public.BLOCK_AT ≡ PROLOGUE_AT) × (public.LINES_AT ≡ LINES_AT)
 abbrev pub ArgumentsStand : Type 0
 ArgumentsStand =
     (public.POINTER ≡ POINTER) × (public.LENGTH ≡ LENGTH) × (public.LEFT ≡ LEFT) × (public.RIGHT ≡ RIGHT) × (public.RESULT ≡ RESULT)
-        × (public.TABLE ≡ TABLE) × (public.WANTED ≡ WANTED) × (public.COUNT ≡ COUNT)
+    × (public.TABLE ≡ TABLE) × (public.WANTED ≡ WANTED) × (public.COUNT ≡ COUNT)
 
 -- what stays between calls
 abbrev pub StateStands : Type 0
 StateStands =
     (public.VARS ≡ VARS) × (public.COLUMN ≡ COLUMN) × (public.OPEN ≡ OPEN) × (public.SEEDED ≡ SEEDED) × (public.HOME_S ≡ HOME_S)
-        × (public.SEED ≡ SEED) × (public.LINE ≡ LINE) × (public.NOTES ≡ NOTES) × (public.NOTE_LOW ≡ NOTE_LOW) × (public.NOTE_HIGH ≡ NOTE_HIGH)
+    × (public.SEED ≡ SEED) × (public.LINE ≡ LINE) × (public.NOTES ≡ NOTES) × (public.NOTE_LOW ≡ NOTE_LOW) × (public.NOTE_HIGH ≡ NOTE_HIGH)
 
 -- what the lines' code and the routines work in
 abbrev pub WorkStands : Type 0

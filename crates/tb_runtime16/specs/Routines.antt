@@ -81,7 +81,7 @@ pub record Routines (table seed_option : ℕ) (numbers : List ℕ) (start : ℕ 
       Moves f (Here MULTIPLY_AT (l ∷ h ∷ lo ∷ hi ∷ []) m text answers) (Leaves (back_at l h) (lo ∷ hi ∷ []) text answers (Gives is_argument m (word (a * b)))) [] limit
   pub divide : (l h : ℕ) (m : ℕ → ℕ) (text answers : List ℕ) (a b : ℕ) → WordAt m LEFT a → WordAt m RIGHT b → b ≢ 0 →
       Moves f (Here DIVIDE_AT (l ∷ h ∷ lo ∷ hi ∷ []) m text answers) (Leaves (back_at l h) (lo ∷ hi ∷ []) text answers
-          (Parts is_argument m (quotient a b) (magnitude a % magnitude b))) [] limit
+      (Parts is_argument m (quotient a b) (magnitude a % magnitude b))) [] limit
   pub divide_by_zero : (l h : ℕ) (m : ℕ → ℕ) (text answers : List ℕ) (a n : ℕ) → WordAt m LEFT a → WordAt m RIGHT 0 → WordAt m LINE n → Entered f lo hi m →
       Moves f (Here DIVIDE_AT (l ∷ h ∷ lo ∷ hi ∷ []) m text answers) (IsHome f) (fault_text 2 n) limit
   pub number : (l h : ℕ) (m : ℕ → ℕ) (text answers : List ℕ) (a : ℕ) → WordAt m LEFT a → m COLUMN < 256 →
@@ -121,7 +121,7 @@ pub record Routines (table seed_option : ℕ) (numbers : List ℕ) (start : ℕ 
   pub input : (l h : ℕ) (m : ℕ → ℕ) (text answers : List ℕ) (o stays : Bool) (v : ℕ) (left : List ℕ) (n : ℕ) → m OPEN ≡ bit o → m COLUMN < 256
       → AreBytes text → length text ≤ keys → WordAt m LINE n → Entered f lo hi m → turn Nothing text ≡ Got v stays left →
       Moves f (Here INPUT_AT (l ∷ h ∷ lo ∷ hi ∷ []) m text answers) (Leaves (back_at l h) (lo ∷ hi ∷ []) left answers
-          (Taken m (column_after (m COLUMN) (prompt o ++ line_end stays) % 256) v stays)) (prompt o ++ line_end stays) limit
+      (Taken m (column_after (m COLUMN) (prompt o ++ line_end stays) % 256) v stays)) (prompt o ++ line_end stays) limit
   pub input_fails : (l h : ℕ) (m : ℕ → ℕ) (text answers : List ℕ) (o : Bool) (n : ℕ) → m OPEN ≡ bit o → m COLUMN < 256 → AreBytes text → length text
       ≤ keys → turn Nothing text ≡ Bad → WordAt m LINE n → Entered f lo hi m →
       Moves f (Here INPUT_AT (l ∷ h ∷ lo ∷ hi ∷ []) m text answers) (IsHome f) (prompt o ++ fault_text 6 n) limit

@@ -120,7 +120,7 @@ module _ (ly : Layout) (s : State) (m m' : ℕ → ℕ) (h : HoldsState ly s m) 
       let few : suc (length ps) ≤ 500 = subst (λ l. length l ≤ 500) q h.few in
       let notes : Noted m (notes_of ly (p ∷ ps)) = subst (λ l. Noted m (notes_of ly l)) q h.notes in
       state_noted p ps (omega (arith, few)) count (notes_kept ly m m' ps (omega (arith, few)) (λ a lo hi. e a (note_is_state a lo hi)
-          (λ e. omega (arith, e, lo)) (λ e. omega (arith, e, lo))) notes.1) (λ a lo hi. e a (low_is_state a lo hi))
+      (λ e. omega (arith, e, lo)) (λ e. omega (arith, e, lo))) notes.1) (λ a lo hi. e a (low_is_state a lo hi))
 
   -- the RND state is stored
   pub state_drawn : (seed : ℕ) → m' SEEDED ≡ 1 → WordAt m' SEED seed → ((a : ℕ) → is_state a ≡ true → a ≢ SEEDED → a ≢ SEED → a ≢ SEED + 1

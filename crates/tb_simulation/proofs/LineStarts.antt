@@ -104,7 +104,7 @@ pub record Known (ly : Layout) (s : State) (w : View) : Type 0 where
 module _ (place : ℕ) (bytes : List ℕ) (from : 0x0800 ≤ place) (to : place + length bytes ≤ 0xa000) (ly : Layout) (program : Program) (sc : SlotCode)
     (follows : Follows program sc) (apart : AreApart ly sc)
     (step : SlotState → Step SlotState) (stride : IsStride sc step) (M : machine.State → SlotState → View → Type 0)
-        (known : (s : machine.State) (c : SlotState) (w : View) → M s c w → c.rest ≡ Whole → Known ly c.state w)
+    (known : (s : machine.State) (c : SlotState) (w : View) → M s c w → c.rest ≡ Whole → Known ly c.state w)
     (limit : ℕ → ℕ) (positive : (k : ℕ) → 1 ≤ limit k) (n : ℕ) (prologue : OpeningLaw place bytes from to ly M sc n) (laws : StepLaws place bytes from to ly M step limit)
     (s : machine.State) (h : Starts place bytes s) where
   abbrev f : Setup
@@ -223,8 +223,8 @@ module _ (place : ℕ) (bytes : List ℕ) (from : 0x0800 ≤ place) (to : place 
           let join : run back y ≡ run es s = run_back front back es s eq in
           let lb = lawful_back front back es s eq l in
           let a = lines.at_line Ends (end_stays f (above_so place bytes from to ly s h)) program sc follows step stride Related (UnderWay f) (limit k)
-              (positive k) (reaches f (above_so place bytes from to ly s h) (M s) step (limit k) (laws s h)) (starts ly) others_keep no_start
-              no_start_at_end entry seed s.text s.answers b.2.0 b.2.1 y (all ∙ append-nil s.sent ∙ h.start.nothing_sent) (b.0, b.1, b.2.2) back lb (ap (starts ly) join ∙ one) in
+          (positive k) (reaches f (above_so place bytes from to ly s h) (M s) step (limit k) (laws s h)) (starts ly) others_keep no_start
+          no_start_at_end entry seed s.text s.answers b.2.0 b.2.1 y (all ∙ append-nil s.sent ∙ h.start.nothing_sent) (b.0, b.1, b.2.2) back lb (ap (starts ly) join ∙ one) in
           let sum : lines.met (starts ly) back y ≡ met es = omega (arith, v, ap met (sym eq), lines.met_append (starts ly) front back s) in
           subst (λ m. LineBegun m (run es s)) sum (subst (λ t. LineBegun (lines.met (starts ly) back y) t) join (line_begun (lines.met (starts ly) back y) (run back y) a))
 
@@ -252,9 +252,9 @@ module _ (place : ℕ) (bytes : List ℕ) (from : 0x0800 ≤ place) (to : place 
           let lb = lawful_back front back es s eq l in
           let g = goes_append front back in
           let a = lines.line_comes Ends (end_stays f (above_so place bytes from to ly s h)) program sc follows step stride Related (UnderWay f)
-              (limit k) (positive k) (reaches f (above_so place bytes from to ly s h) (M s) step (limit k) (laws s h))
-              (starts ly) others_keep no_start no_start_at_end entry seed s.text s.answers b.2.0 b.2.1 y (all ∙ append-nil s.sent
-              ∙ h.start.nothing_sent) (b.0, b.1, b.2.2) m state out number is done here found back lb (omega (arith, le, few, g, ap goes eq)) in
+          (limit k) (positive k) (reaches f (above_so place bytes from to ly s h) (M s) step (limit k) (laws s h))
+          (starts ly) others_keep no_start no_start_at_end entry seed s.text s.answers b.2.0 b.2.1 y (all ∙ append-nil s.sent
+          ∙ h.start.nothing_sent) (b.0, b.1, b.2.2) m state out number is done here found back lb (omega (arith, le, few, g, ap goes eq)) in
           let join : run (front ++ a.front) s ≡ run a.front y = run_append front a.front s in
           record {
             front = front ++ a.front;

@@ -62,7 +62,7 @@ returns_held ly m (p ∷ ps) past have noted = (place_held p have.0 (note_is ps 
 module _ (place : ℕ) (bytes : List ℕ) (from : 0x0800 ≤ place) (to : place + length bytes ≤ 0xa000) (ly : Layout) (program : Program) (sc : SlotCode)
     (follows : Follows program sc) (apart : AreApart ly sc)
     (step : SlotState → Step SlotState) (stride : IsStride sc step) (M : machine.State → SlotState → View → Type 0)
-        (known : (s : machine.State) (c : SlotState) (w : View) → M s c w → c.rest ≡ Whole → Known ly c.state w)
+    (known : (s : machine.State) (c : SlotState) (w : View) → M s c w → c.rest ≡ Whole → Known ly c.state w)
     (limit : ℕ → ℕ) (positive : (k : ℕ) → 1 ≤ limit k) (n : ℕ) (prologue : OpeningLaw place bytes from to ly M sc n) (laws : StepLaws place bytes from to ly M step limit) where
   abbrev bound : ℕ → ℕ → ℕ
   bound k m = n + (m * (longest sc + 1) * limit k + 1)
@@ -78,7 +78,7 @@ module _ (place : ℕ) (bytes : List ℕ) (from : 0x0800 ≤ place) (to : place 
       let list = lined number has in
       let same_numbers : ly.numbers ≡ numbers program = sym apart.numbered ∙ follows.same_numbers in
       let here : is_start ly.start ly.numbers (run es s).regs.pc ≡ true = ap (is_start ly.start ly.numbers) pc
-          ∙ ap (λ ns. is_start ly.start ns (ly.start number)) (sym apart.numbered) ∙ found_start ly.start sc number list.0 list.1 in
+      ∙ ap (λ ns. is_start ly.start ns (ly.start number)) (sym apart.numbered) ∙ found_start ly.start sc number list.0 list.1 in
       let y = run es s in
       let now : starts ly y ≡ 1 = one_at (is_start ly.start ly.numbers (run es s).regs.pc) here in
       let b = one.at_line place bytes from to ly program sc follows apart step stride M known limit positive n prologue laws s h es l now in
@@ -87,7 +87,7 @@ module _ (place : ℕ) (bytes : List ℕ) (from : 0x0800 ≤ place) (to : place 
       let led = at_lines program ly.seed s.text s.answers met b.state y.sent b.done in
       let there : has_line (numbers program) b.number ≡ true = subst (HasLine (numbers program)) b.at_place led.here in
       let which : b.number ≡ number = apart.distinct b.number number (ap (λ ns. has_line ns b.number) same_numbers ∙ there)
-          (ap (λ ns. has_line ns number) same_numbers ∙ has) (sym b.pc ∙ pc) in
+      (ap (λ ns. has_line ns number) same_numbers ∙ has) (sym b.pc ∙ pc) in
       subst (λ m. BeginsLine program ly.seed ly.start s m number (run es s)) counted
       (record {
         state = b.state;

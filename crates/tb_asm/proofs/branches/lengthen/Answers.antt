@@ -21,7 +21,7 @@ returns-then-not-changed-clause-marks c =
     let bs = c.rounds.long.items in
     let found = c.in_ok-labels.labels.entries in
     let same : FoundAs found (round_labels c.args.at (forms_of es bs)) = subst (λ t. FoundAs found (round_labels c.args.at (forms_of es t)))
-        c.as_slice-marks.ensures.value c.in_ok-labels.ensures.found in
+    c.as_slice-marks.ensures.value c.in_ok-labels.ensures.found in
     let news : c.in_ok-next.changed ≡ new_mark found c.args.at es bs = c.in_ok-next.ensures.marks.1 ∙ ap (new_mark found c.args.at es) c.as_slice-marks.ensures.value in
     c.rounds.invariant.1 (forms_of es bs) (last_round c.args.at es bs found same (sym news ∙ c.if-not-changed.true))
 
@@ -41,7 +41,7 @@ rounds-preserved c =
     let bs = c.rounds.long.items in
     let found = c.in_ok-labels.labels.entries in
     let same : FoundAs found (round_labels c.args.at (forms_of es bs)) = subst (λ t. FoundAs found (round_labels c.args.at (forms_of es t)))
-        c.as_slice-marks.ensures.value c.in_ok-labels.ensures.found in
+    c.as_slice-marks.ensures.value c.in_ok-labels.ensures.found in
     let marks : c.in_ok-next.next.items ≡ marks_from found c.args.at es bs = c.in_ok-next.ensures.marks.0 ∙ ap (marks_from found c.args.at es) c.as_slice-marks.ensures.value in
     let news : c.in_ok-next.changed ≡ new_mark found c.args.at es bs = c.in_ok-next.ensures.marks.1 ∙ ap (new_mark found c.args.at es) c.as_slice-marks.ensures.value in (
       ap length marks ∙ marks_length found c.args.at es bs (c.rounds.invariant.0 ∙ sym (length-map items entry_of)) ∙ length-map items entry_of,

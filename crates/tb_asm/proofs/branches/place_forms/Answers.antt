@@ -22,8 +22,8 @@ loop-index-preserved c =
     places_more (get_or c.args.long.now i false) (entry_of c.index-items-index.result) (forms_of (behind c.args.items.now (i + 1)) (drop (i + 1) c.args.long.now)) c.loop-index.labels.entries
     c.add_label.new.labels.entries c.loop-index.address c.behind-address.result
     (subst (λ fs. PlacesTo fs c.loop-index.labels.entries c.loop-index.address
-        (round_labels c.args.at (forms_of (map entry_of c.args.items.now) c.args.long.now)))
-        (forms_here c.args.items.now c.args.long.now i c.index-items-index.result below c.index-items-index.is marked) c.loop-index.invariant)
+    (round_labels c.args.at (forms_of (map entry_of c.args.items.now) c.args.long.now)))
+    (forms_here c.args.items.now c.args.long.now i c.index-items-index.result below c.index-items-index.is marked) c.loop-index.invariant)
     c.in_ok-add_label.ensures (c.behind-address.ensures ∙ ap (λ n. (c.loop-index.address + n) % 65536) c.size.ensures)
 
 pub returns-clause-found : goal.returns-clause-found
@@ -31,4 +31,4 @@ returns-clause-found c =
     let all = round_labels c.args.at (forms_of (map entry_of c.args.items.now) c.args.long.now) in
     places_done c.loop-index.labels.entries c.loop-index.address all
     (subst (λ es. PlacesTo (forms_of es (drop c.loop-index.index c.args.long.now)) c.loop-index.labels.entries c.loop-index.address all)
-        (behind_none c.args.items.now c.loop-index.index c.loop-index-test.false) c.loop-index.invariant)
+    (behind_none c.args.items.now c.loop-index.index c.loop-index-test.false) c.loop-index.invariant)

@@ -21,9 +21,9 @@ loop-index-preserved c =
     let below : i < length c.args.items.now = c.loop-index-test.true in
     let marked : i < length c.args.long.now = omega arith in
     builds_more (form_of (get_or c.args.long.now i false) (entry_of c.index-items-index.result)) (forms_of (behind c.args.items.now (i + 1))
-        (drop (i + 1) c.args.long.now)) (map entry_of c.loop-index.settled.items)
+    (drop (i + 1) c.args.long.now)) (map entry_of c.loop-index.settled.items)
     (map entry_of c.push_form.new.settled.items) c.loop-index.address c.behind-address.result
     (subst (λ fs. BuildsTo fs (map entry_of c.loop-index.settled.items) c.loop-index.address
-        (items_from c.args.at (forms_of (map entry_of c.args.items.now) c.args.long.now)))
-        (forms_here c.args.items.now c.args.long.now i c.index-items-index.result below c.index-items-index.is marked) c.loop-index.invariant)
+    (items_from c.args.at (forms_of (map entry_of c.args.items.now) c.args.long.now)))
+    (forms_here c.args.items.now c.args.long.now i c.index-items-index.result below c.index-items-index.is marked) c.loop-index.invariant)
     c.in_ok-push_form.ensures (c.behind-address.ensures ∙ ap (λ n. (c.loop-index.address + n) % 65536) c.size.ensures)

@@ -14,7 +14,7 @@ loop-index-preserved c =
     let grown : c.push.new.self.items ≡ c.loop-index.next.items ++ (get_or c.args.long.now i false || c.is_new-far.result) ∷ [] = search rules in
     subst (λ a. RoundTo c.args.labels.now.entries (behind c.args.items.now (i + 1)) (drop (i + 1) c.args.long.now) c.push.new.self.items (c.loop-index.changed || c.is_new-far.result) a
     (marks_from c.args.labels.now.entries c.args.at (map entry_of c.args.items.now) c.args.long.now) (new_mark c.args.labels.now.entries c.args.at
-        (map entry_of c.args.items.now) c.args.long.now)) (sym c.behind-address.ensures)
+    (map entry_of c.args.items.now) c.args.long.now)) (sym c.behind-address.ensures)
     (round_item c.args.labels.now.entries c.args.items.now c.args.long.now i c.index-items-index.result below c.index-items-index.is marked
-        c.loop-index.next.items c.push.new.self.items c.loop-index.changed c.is_new-far.result c.loop-index.address c.size.result c.loop-index.invariant
+    c.loop-index.next.items c.push.new.self.items c.loop-index.changed c.is_new-far.result c.loop-index.address c.size.result c.loop-index.invariant
     c.is_new-far.ensures grown c.size.ensures)

@@ -10,6 +10,6 @@ use Rattle.tb_asm.proofs.forms.read_labelled.Goals as goal
 pub returns : goal.returns
 returns c =
     subst (λ o. Pushes (option_and_then (λ n. option_map (λ es. label n ∷ es) (behind_label c.args.parts.now)) o) c.args.items.now.items
-        c.read_behind_label.result c.read_behind_label.new.items.items)
+    c.read_behind_label.result c.read_behind_label.new.items.items)
     (sym c.in_ok-name.ensures)
     (pushes_label _ _ _ c.in_ok-name.name (behind_label c.args.parts.now) _ c.in_ok-push.ensures c.read_behind_label.ensures)

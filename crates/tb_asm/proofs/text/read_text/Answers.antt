@@ -13,14 +13,14 @@ returns-in_default c =
     let split : split_lines rest ≡ c.before-in-lines.result.now ∷ [] =
     c.first_line-end.ensures.0 ∙ (λ j. sym c.before-in-lines.ensures j ∷ lines_at (c.in_default.is j) rest) in
     text_done (map entry_of c.read_line.new.items.items) (c.lines.number + 1) _
-        (line_taken (map entry_of c.lines.items.items) rest c.before-in-lines.result.now [] c.lines.number _ split c.lines.invariant.0 _ c.in-Ok.ensures)
+    (line_taken (map entry_of c.lines.items.items) rest c.before-in-lines.result.now [] c.lines.number _ split c.lines.invariant.0 _ c.in-Ok.ensures)
 
 pub lines-preserved : goal.lines-preserved
 lines-preserved c =
     let rest = c.lines.rest.now in
     let split : split_lines rest ≡ c.before-in-lines.result.now ∷ split_lines c.behind-rest.result.now =
     c.first_line-end.ensures.0 ∙ (λ j. sym c.before-in-lines.ensures j ∷ lines_at (c.in-Some.is j) rest)
-        ∙ ap (λ t. c.before-in-lines.result.now ∷ split_lines t) (sym c.behind-rest.ensures) in
+    ∙ ap (λ t. c.before-in-lines.result.now ∷ split_lines t) (sym c.behind-rest.ensures) in
     let within = subst (λ o. IfSome o (λ n. (0 < n) × (n ≤ length rest))) c.in-Some.is c.first_line-end.ensures.2 in
     let some : 0 < c.in-Some.next = within.0 in
     let left : length c.behind-rest.result.now ≡ length rest - c.in-Some.next = ap length c.behind-rest.ensures ∙ length-drop c.in-Some.next rest in

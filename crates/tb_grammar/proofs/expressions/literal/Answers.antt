@@ -8,11 +8,11 @@ returns-in-Ok c =
     let i = c.loop-digit.invariant in
     let w = c.in-Ok.ensures in
     is_literal c.args.text.now c.loop-digit.rest.now i.0 c.in-Ok.word None i.1 c.in_default.ensures
-        (word_small i.0 c.loop-digit.value c.in-Ok.word i.2 w.1 w.0) (none_large i.0 c.loop-digit.value (length c.args.text.now) i.2 w.0)
+    (word_small i.0 c.loop-digit.value c.in-Ok.word i.2 w.1 w.0) (none_large i.0 c.loop-digit.value (length c.args.text.now) i.2 w.0)
 
 pub returns-in-Err : goal.returns-in-Err
 returns-in-Err c =
     let i = c.loop-digit.invariant in
     let w = c.in-Err.ensures in
     is_literal c.args.text.now c.loop-digit.rest.now i.0 65535 (Some (length c.args.text.now)) i.1 c.in_default.ensures
-        (word_big i.0 c.loop-digit.value i.2 (omega (arith, w))) (some_large i.0 c.loop-digit.value (length c.args.text.now) i.2 (omega (arith, w)))
+    (word_big i.0 c.loop-digit.value i.2 (omega (arith, w))) (some_large i.0 c.loop-digit.value (length c.args.text.now) i.2 (omega (arith, w)))

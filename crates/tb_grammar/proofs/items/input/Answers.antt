@@ -24,7 +24,7 @@ returns c =
     elim c.match-split_letter.branch [
       | in-Some+in_ok-push+else-is_empty+in-None w ↦
           no_input c.args.text.now (sym i.2 ∙ letters_stop i.0 (letters_of c.loop-letter.letters.items) c.loop-letter.rest.now
-              (letter_index w.in-Some.letter) w.in-Some.others.now i.1 w.in-Some.ensures
+          (letter_index w.in-Some.letter) w.in-Some.others.now i.1 w.in-Some.ensures
           (is_longer w.in-Some.others.now w.if-is_empty.ensures) w.in-None.ensures)
       | in_default w ↦ no_input c.args.text.now (sym i.2 ∙ no_letter i.0 (letters_of c.loop-letter.letters.items) c.loop-letter.rest.now w.in_default.ensures)
     ]

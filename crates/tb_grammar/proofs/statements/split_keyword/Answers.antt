@@ -11,7 +11,7 @@ passed : (words : List Keyword) (i : ℕ) (word none : Keyword) (text spelling :
     → spelling ≡ spelled word → behind_word spelling text ≡ None → first_word (drop i words) text ≡ total → first_word (drop (i + 1) words) text ≡ total
 passed words i word none text spelling total inside is spells nothing before =
     let here : behind_word (spelled (get_or words i none)) text ≡ None = ap (λ (k : Keyword). behind_word (spelled k) text) is
-        ∙ ap (λ (s : List ℕ). behind_word s text) (sym spells) ∙ nothing in
+    ∙ ap (λ (s : List ℕ). behind_word s text) (sym spells) ∙ nothing in
     let step : first_word (get_or words i none ∷ drop (suc i) words) text ≡ first_word (drop (suc i) words) text = rw here refl in
     let e : i + 1 ≡ suc i = omega arith in
     rw e (sym step ∙ ap (λ (ks : List Keyword). first_word ks text) (sym (drop-cons words i none inside)) ∙ before)

@@ -59,7 +59,7 @@ returns-then-is_empty c =
     let placed : c.deref-2.result.now ≡ squeezed c.args.line.now = c.deref-2.ensures.value ∙ c.in_ok-placed.ensures in
     let n = c.in-Some-line_number in
     deletes n.number (numbered c.args.line.now n.number [] c.in_ok-check_bytes.ensures n.ensures.0 (rw placed at n.ensures.1)
-        (rw placed at n.ensures.2 ∙ is_empty n.text.now (sym c.if-is_empty.ensures)))
+    (rw placed at n.ensures.2 ∙ is_empty n.text.now (sym c.if-is_empty.ensures)))
 
 pub returns-in_err-read_line_statement : goal.returns-in_err-read_line_statement
 returns-in_err-read_line_statement c =

@@ -15,4 +15,4 @@ pub returns : goal.returns
 returns c =
     let text : c.deref.result.now ≡ bytes c.args.text.now = c.deref.ensures.value ∙ c.in_ok-bytes.ensures in
     says_unread statement_of States c.args.text.now c.unread.result (λ a large reading. rw (c.in-Err-NoReading.field-0-is) at
-        (c.in-Err-NoReading.ensures.only a large (rw text reading))) c.unread.ensures
+    (c.in-Err-NoReading.ensures.only a large (rw text reading))) c.unread.ensures
