@@ -8,7 +8,7 @@ use Rattle.tb_lower.specs.Lowered as lowered
 use Rattle.tb_lower.specs.Slots.{SlotCode}
 use Rattle.tb_parser.specs.Files.{LinesAre, Outcome, edited, end, bad, good}
 use Rattle.tb_prg.specs.Prg.{header}
-use Rattle.tb_runtime16.specs.Places.{PROLOGUE_AT}
+use Rattle.tb_runtime16.specs.Addresses.{PROLOGUE_AT}
 use Rattle.tb_syntax.specs.Source.{Program, numbers}
 use Rattle.tb_selection.specs.Laws.{AreClosed}
 use Rattle.tb_selection.proofs.Closed.{all_closed}

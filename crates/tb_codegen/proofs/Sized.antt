@@ -16,7 +16,7 @@ use Rattle.tb_lower.specs.Slots.{Instr, Put, Load, Store, Negate, Compute, Rando
 use Rattle.tb_lower.specs.Slots.{Jump, Call, JumpTo, CallTo, Return, End, SlotCode}
 use Rattle.tb_parser.specs.Files.{AreStated, RisesFrom}
 use Rattle.tb_prg.specs.Prg.{header}
-use Rattle.tb_runtime16.specs.Places.{PROLOGUE_AT, LINES_AT}
+use Rattle.tb_runtime16.specs.Addresses.{PROLOGUE_AT, LINES_AT}
 use Rattle.tb_settling.specs.Settled.{IsLaid, Suits, most as most_bytes}
 use Rattle.tb_settling.proofs.Forms.{forms_most, items_size, size_append}
 use Rattle.tb_templates.specs.declared.labels.Target.TheVariants.{Past, Table}
@@ -34,7 +34,7 @@ use Rattle.tb_templates.proofs.Reached.{program_known}
 use Rattle.tb_codegen.specs.Roomy.{EndsFrom, SuitsAnywhere}
 use Rattle.tb_words.specs.Words.{word_of}
 use Rattle.tb_codegen.specs.declared.compiled.Compiled.{Compiled}
-use Rattle.tb_codegen.specs.Compiled.{prg_of, starts_of, table_of, warnings_of, IsCompiled, starts_in, stands_at, AreKnown, PlacesRise, most_cost}
+use Rattle.tb_codegen.specs.Compiled.{prg_of, starts_of, table_of, warnings_of, IsCompiled, starts_in, stands_at, AreKnown, AddressesRise, most_cost}
 use Rattle.tb_codegen.specs.Texts.{LinesHoldTexts, offset_of}
 use Rattle.tb_templates.proofs.Settled.{Sections, last_broken, sections}
 use Rattle.tb_codegen.proofs.Placed.{lines_known, lines_begin_in_order, start_numbers}
@@ -246,7 +246,7 @@ made {seed} {p} {code} c same s shallow l ends file starts table warned =
       ends = ends;
       starts = all;
       lines = ap (map (λ s. s.0)) all ∙ start_numbers own (numbers p);
-      rising = subst (PlacesRise LINES_AT) (sym all) (lines_begin_in_order own (numbers (lowered.program_code p)) seed LINES_AT [] p g.lines g.of_lines g.line_labels);
+      rising = subst (AddressesRise LINES_AT) (sym all) (lines_begin_in_order own (numbers (lowered.program_code p)) seed LINES_AT [] p g.lines g.of_lines g.line_labels);
       table = ap (λ ls. address_in ls (label_of Table)) (sym l.labels_are) ∙ table;
       warned = warned;
     }

@@ -7,7 +7,7 @@ use Rattle.tb_words.specs.declared.Rel.{Rel}
 use Rattle.tb_syntax.specs.declared.expressions.Operator.{Operator}
 use Rattle.tb_syntax.specs.declared.expressions.Operator.TheVariants.{Subtract}
 use Rattle.tb_templates.specs.Labels.{label_of}
-use Rattle.tb_runtime16.specs.Places.{PROLOGUE_AT}
+use Rattle.tb_runtime16.specs.Addresses.{PROLOGUE_AT}
 use Rattle.tb_asm.specs.declared.names.Name.{Name}
 use Rattle.tb_asm.specs.Layout.{Entry, bytes, size, bytes_from}
 use Rattle.tb_asm.specs.Settle as settle
@@ -22,7 +22,7 @@ use Rattle.tb_syntax.specs.Texts.{statement_texts}
 use Rattle.tb_lower.proofs.Weighed.{same_texts}
 use Rattle.tb_templates.specs.declared.labels.Inner.TheVariants as inner
 use Rattle.tb_templates.specs.declared.labels.Target.TheVariants as target
-use Rattle.tb_runtime16.specs.Places.{POINTER}
+use Rattle.tb_runtime16.specs.Addresses.{POINTER}
 use Rattle.tb_templates.specs.Templates.{address, text_call, jump, here}
 use Rattle.tb_templates.specs.GroupTemplates.{group_template}
 use Rattle.tb_templates.specs.Breaks.{polled, done_behind, ends_away}

@@ -15,7 +15,7 @@ use Rattle.tb_codegen.specs.Compiled.{IsCompiled, most_cost, prg_of, starts_of, 
 use Rattle.tb_words.specs.Words.{word_of}
 use Rattle.tb_codegen.specs.Roomy.{EndsFrom}
 use Rattle.tb_lower.specs.Lowered as lowered
-use Rattle.tb_runtime16.specs.Places.{PROLOGUE_AT}
+use Rattle.tb_runtime16.specs.Addresses.{PROLOGUE_AT}
 use Rattle.tb_templates.specs.Program.{program_code}
 
 -- the answer for a program: its expressions are looked at before its cost

@@ -9,7 +9,7 @@ ghost use Rattle.tb_lower.specs.Lowered as lowered;
 ghost use Rattle.tb_lower.specs.Need.{too_deep};
 ghost use Rattle.tb_lower.specs.PlainData.{code_of};
 ghost use Rattle.tb_parser.specs.Files.{AreStated, Outcome, RisesFrom};
-ghost use Rattle.tb_runtime16.specs.Places.{PROLOGUE_AT};
+ghost use Rattle.tb_runtime16.specs.Addresses.{PROLOGUE_AT};
 ghost use Rattle.tb_settling.specs.Settled.{IsLaid, Suits};
 ghost use Rattle.tb_templates.specs.Labels.{label_of};
 ghost use Rattle.tb_templates.specs.Program.{AreCodable, RisingFrom, program_code};
@@ -80,7 +80,7 @@ fn compile_program(alloc: Global, program: &Program, seed: u16) -> Result<Compil
     Ok(Compiled {
         prg: write(alloc, &image)?,
         starts: line_starts(alloc, &image, code.lines())?,
-        table: place_of(&image, Target::Table),
+        table: label_address(&image, Target::Table),
         warnings: warnings(alloc, program)?,
     })
 }
@@ -122,7 +122,7 @@ fn fit_program(alloc: Global, program: &Program, seed: u16) -> Result<Compiled, 
     Ok(Compiled {
         prg: write(alloc, &image)?,
         starts: line_starts(alloc, &image, code.lines())?,
-        table: place_of(&image, Target::Table),
+        table: label_address(&image, Target::Table),
         warnings: warnings(alloc, program)?,
     })
 }
@@ -181,7 +181,7 @@ fn laid(alloc: Global, code: &SlotCode, seed: u16) -> Result<Image, CompileError
 }
 
 // Where a label of the image stands.
-fn place_of(image: &Image, target: Target) -> u16
+fn label_address(image: &Image, target: Target) -> u16
     requires { is_some (address_in image.now.labels.entries (label_of target)) ≡ true }
     ensures { address_in image.now.labels.entries (label_of target) ≡ Some result }
 {
@@ -203,7 +203,7 @@ fn line_starts(
     let mut starts = Vec::new(alloc);
     for line in lines {
         let number = line.number;
-        let at = place_of(image, Target::Line(number));
+        let at = label_address(image, Target::Line(number));
         starts.push(LineStart { number, at })?;
     }
     Ok(starts)

@@ -14,14 +14,14 @@ use Rattle.tb_reaching.proofs.Instr.{ins}
 use Rattle.tb_meaning.specs.Control.{has_line}
 use Rattle.tb_lower.specs.Ranges.{AreInRange}
 use Rattle.tb_lower.specs.Slots as slots
-use Rattle.tb_runtime16.specs.Places.{LEFT, LINE, NOTES, NOTE_HIGH, NOTE_LOW, POP_AT, PUSH_AT, RESULT}
+use Rattle.tb_runtime16.specs.Addresses.{LEFT, LINE, NOTES, NOTE_HIGH, NOTE_LOW, POP_AT, PUSH_AT, RESULT}
 use Rattle.tb_selection.specs.Groups.{Constant, Group, Calculate, Stepped, Single, slot_of, expand, Remains}
 use Rattle.tb_templates.specs.declared.labels.Inner.TheVariants as inside
 use Rattle.tb_templates.specs.declared.labels.Target.TheVariants as target
 use Rattle.tb_templates.specs.Labels.{label_of}
 use Rattle.tb_templates.specs.Templates as product
 use Rattle.tb_templates.specs.Templates.{next_line, var_at}
-use Rattle.tb_templates.specs.declared.sources.Source.TheVariants.{AtPlace}
+use Rattle.tb_templates.specs.declared.sources.Source.TheVariants.{AtAddress}
 use Rattle.tb_templates.specs.GroupTemplates as items
 use Rattle.tb_templates.specs.InPlace.{change_of}
 use Rattle.tb_templates.specs.Sources.{source_of, destination_at}
@@ -291,7 +291,7 @@ module _ (labels : List (Name × ℕ)) (ns : List ℕ) (seed n : ℕ) (seed_smal
         (source_of 1 (Constant w)) (var_at x) n_small (source_word 0 a) (source_word 1 b) (source_word 1 (Constant w)) fs h r in
         record { first = e.first; second = e.second; emits = e.emits; reach = e.reach }
     each_emitted i at (Remains x d to) fs q range h r =
-        let e = remains_emitted labels n at (target.Inside inside.Skip n i) (AtPlace (var_at x)) (source_of (slot_of to + 2) d)
+        let e = remains_emitted labels n at (target.Inside inside.Skip n i) (AtAddress (var_at x)) (source_of (slot_of to + 2) d)
         (destination_at to) n_small tt (source_word (slot_of to + 2) d) fs h r in
         record { first = e.first; second = Short; emits = e.emits; reach = e.reach }
     each_emitted i at g fs q range h r = without_branches i at g fs refl q range h r

@@ -11,9 +11,9 @@ use Rattle.tb_reaching.proofs.Comes.{chained, looser}
 use Rattle.tb_reaching.specs.Start.{IsHome}
 use Rattle.tb_reaching.specs.View.{Comes, Fits, View}
 use Rattle.tb_runtime16.specs.Routines.{Here, Moves, Noted, WordAt}
-use Rattle.tb_runtime16.specs.Places.{HOME_S, LEFT, LINE, NOTES, POP_AT, PUSH_AT, RESULT}
+use Rattle.tb_runtime16.specs.Addresses.{HOME_S, LEFT, LINE, NOTES, POP_AT, PUSH_AT, RESULT}
 use Rattle.tb_runtime16.proofs.StatePlaces.{not_popped, not_pushed}
-use Rattle.tb_simulation.specs.Layout.{next_at, place_at}
+use Rattle.tb_simulation.specs.Layout.{next_at, place_address}
 use Rattle.tb_simulation.proofs.Frames.{state_popped, state_pushed, word_away, word_put}
 use Rattle.tb_simulation.proofs.Mirrors.{Flagged, notes_of}
 use Rattle.tb_simulation.proofs.Pieces.{calls, jumps, jumps_through, points, put_word, sets}
@@ -50,7 +50,7 @@ module _ (around : Surroundings) (fits : Fits around.f 16) (limit : ℕ) (rs : S
   page = w.mem (NOTES + 1)
 
   same_length : length notes ≡ length s.returns
-  same_length = length-map s.returns (place_at ly)
+  same_length = length-map s.returns (place_address ly)
 
   -- ---- GOSUB
   module _ (t : ℕ) (h : Ready around n (Single (CallTo t)) (CallTo t ∷ is) is s r w) where
@@ -284,7 +284,7 @@ module _ (around : Surroundings) (fits : Fits around.f 16) (limit : ℕ) (rs : S
       Returns u = Matches around (record { state = back; rest = Whole; slots = r }) u
 
       left_length : length (notes_of ly ps) ≡ length ps
-      left_length = length-map ps (place_at ly)
+      left_length = length-map ps (place_address ly)
 
       pops : (page ≢ 0) ⊎ (w.mem NOTES ≡ 0) → Comes f w Returns [] (12 + limit)
       pops why =
@@ -293,14 +293,14 @@ module _ (around : Surroundings) (fits : Fits around.f 16) (limit : ℕ) (rs : S
           let count : WordAt m NOTES (suc (length ps)) = subst (λ l. WordAt m NOTES (length l)) q c.state.count in
           looser f w _ _ [] (6 + (4 + (1 + (limit + 1)))) (12 + limit) (omega arith) (λ u x. x)
           (up_to_pop why _ [] (limit + 1) (λ u e.
-          chained f u _ _ [] [] limit 1 (rs.pop _ _ m w.text w.answers (place_at ly p) (notes_of ly ps) (subst (λ k. WordAt m NOTES (suc k))
+          chained f u _ _ [] [] limit 1 (rs.pop _ _ m w.text w.answers (place_address ly p) (notes_of ly ps) (subst (λ k. WordAt m NOTES (suc k))
           (sym left_length) count) noted (omega (arith, few, left_length)) u e) (λ u g.
           looser f u _ _ [] 1 1 (omega arith)
-          (arrived around back r (place_at ly p) u.mem w.text w.answers refl
+          (arrived around back r (place_address ly p) u.mem w.text w.answers refl
           (state_popped ly s m u.mem c.state p ps q (subst (λ k. WordAt u.mem NOTES k) left_length g.memory.notes.count) (λ p z y x. g.memory.gives.others p (not_popped p z y x))) h.read.all_words
           (homed_kept m u.mem (g.memory.gives.others HOME_S refl) c.homed)
           h.text h.answers h.short)
-          (jumps_through f 16 fits (popping + 10 + 3) own u.mem w.text w.answers refl (place_at ly p) g.memory.gives.result routine_lies.2.2.1 u
+          (jumps_through f 16 fits (popping + 10 + 3) own u.mem w.text w.answers refl (place_address ly p) g.memory.gives.result routine_lies.2.2.1 u
           (back_here _ _ w.text w.answers _ u g (behind_call (popping + 10) routine_lies.2.0))))))
 
       takes : page ≡ 0 → Comes f w Returns [] 13
@@ -308,20 +308,20 @@ module _ (around : Surroundings) (fits : Fits around.f 16) (limit : ℕ) (rs : S
           let noted : Noted w.mem (notes_of ly (p ∷ ps)) = subst (λ l. Noted w.mem (notes_of ly l)) q h.state.notes in
           let count : WordAt w.mem NOTES (suc (length ps)) = subst (λ l. WordAt w.mem NOTES (length l)) q h.state.count in
           let counts : WordAt w.mem NOTES (suc (length (notes_of ly ps))) = subst (λ k. WordAt w.mem NOTES (suc k)) (sym left_length) count in
-          let there = some w.mem (place_at ly p) (notes_of ly ps) counts noted near in
-          let small = some_small w.mem (place_at ly p) (notes_of ly ps) counts noted near in
-          let d = dropped w.mem (place_at ly p) (notes_of ly ps) counts noted near in
+          let there = some w.mem (place_address ly p) (notes_of ly ps) counts noted near in
+          let small = some_small w.mem (place_address ly p) (notes_of ly ps) counts noted near in
+          let d = dropped w.mem (place_address ly p) (notes_of ly ps) counts noted near in
           low_alone near _ [] 10 (λ u g.
           chained f u _ _ [] [] 3 7 (asks f 16 fits own w.mem w.text w.answers refl low_at NOTES popping other_way true false (taking_code n) refl
           (ne_eqb (w.mem NOTES) 0 (λ z. omega (arith, z, there))) h.reach.1 low_lies u g.here) (λ u g.
           chained f u _ _ [] [] 6 1 (takes_note f 16 fits own w.mem w.text w.answers refl taking (w.mem NOTES) small taking_lies.0 taking_lies.1 u g) (λ u e.
           looser f u _ _ [] 1 1 (omega arith)
-          (arrived around back r (place_at ly p) _ w.text w.answers refl
+          (arrived around back r (place_address ly p) _ w.text w.answers refl
           (state_popped ly s w.mem _ h.state p ps q (subst (λ k. WordAt (taken f 16 fits own w.mem w.text w.answers refl taking (w.mem NOTES) small)
           NOTES k) left_length d.count) (λ a o n' n''. d.others a n' (apart a RESULT o refl) (apart a (RESULT + 1) o refl))) h.read.all_words
           (homed_kept w.mem _ (d.others HOME_S (λ e. omega (arith, e)) (λ e. omega (arith, e)) (λ e. omega (arith, e))) h.homed)
           h.text h.answers h.short)
-          (jumps_through f 16 fits (taking + 16) own _ w.text w.answers refl (place_at ly p) d.result taking_lies.2.1 u e))))
+          (jumps_through f 16 fits (taking + 16) own _ w.text w.answers refl (place_address ly p) d.result taking_lies.2.1 u e))))
 
       pub return_law : Comes f w Returns [] (13 + limit)
       return_law =

@@ -15,7 +15,7 @@ use Rattle.tb_reaching.proofs.Instr.{Instr, ins}
 use Rattle.tb_syntax.specs.declared.expressions.Operator.{Operator}
 use Rattle.tb_templates.specs.declared.labels.Target.{Target}
 use Rattle.tb_templates.specs.declared.sources.Source.{Source}
-use Rattle.tb_templates.specs.declared.sources.Source.TheVariants.{FixedWord, AtPlace}
+use Rattle.tb_templates.specs.declared.sources.Source.TheVariants.{FixedWord, AtAddress}
 use Rattle.tb_templates.specs.Labels.{label_of}
 use Rattle.tb_templates.specs.Templates as product
 use Rattle.tb_templates.specs.Scaled as scaled
@@ -23,7 +23,7 @@ use Rattle.tb_templates.specs.InPlace as in_place
 use Rattle.tb_templates.specs.InPlace.{change_of}
 use Rattle.tb_templates.proofs.Divided.{asked_rest_plain}
 use Rattle.tb_templates.proofs.Plain.{plain_straight}
-use Rattle.tb_runtime16.specs.Places.{RESULT}
+use Rattle.tb_runtime16.specs.Addresses.{RESULT}
 use Rattle.tb_templates.specs.declared.in_place.Change.{Change}
 use Rattle.tb_templates.specs.declared.in_place.Change.TheVariants.{Increment, Decrement, Raise, Lower, Halve, Double}
 use Rattle.tb_templates.specs.GroupTemplates as items
@@ -182,12 +182,12 @@ module _ (labels : List (Name × ℕ)) where
       → IsWord b → IsWord c → (fs : List Form)
       → AreFormsOf (items.stepped n skip behind op a b by c to) fs → Rest labels at fs → StepEmitted n at op a b by c to fs
   stepped_emitted n at skip behind op a b by c to small u v w fs h r =
-      let s = split (items.computed n skip op a b to) (items.computed n behind by (AtPlace to) c to) fs h in
+      let s = split (items.computed n skip op a b to) (items.computed n behind by (AtAddress to) c to) fs h in
       let parts = subst (Rest labels at) s.are r in
       let e = computed_emitted n at skip op a b to (change_of op a b to) (change_is op a b to) small u v s.front s.of_front (rest_before labels at s.front s.back parts) in
       let next = coded.going_at e.0 n at op a b to in
       let back = rest_behind labels at next s.front s.back (ap (λ k. at + k) (emitted_size labels e.1)) parts in
-      let g = computed_emitted n next behind by (AtPlace to) c to (change_of by (AtPlace to) c to) (change_is by (AtPlace to) c to) small tt w s.back s.of_back back in
+      let g = computed_emitted n next behind by (AtAddress to) c to (change_of by (AtAddress to) c to) (change_is by (AtAddress to) c to) small tt w s.back s.of_back back in
       record {
         first = e.0;
         second = g.0;
@@ -210,9 +210,9 @@ module _ (labels : List (Name × ℕ)) where
       let asks : Emits labels at s.front (coded.rest_asked n a b) = subst (λ fs. Emits labels at fs (coded.rest_asked n a b)) (sym front) (asked_emits labels n at a b small u v) in
       let next = coded.rest_at n at a b in
       let back = rest_behind labels at next s.front s.back (ap (λ k. at + k) (emitted_size labels asks)) parts in
-      let e = over_emitted (items.high_of Lda a ∷ []) (items.taken (FixedWord 0) (AtPlace RESULT) RESULT) (product.copied RESULT to)
+      let e = over_emitted (items.high_of Lda a ∷ []) (items.taken (FixedWord 0) (AtAddress RESULT) RESULT) (product.copied RESULT to)
       (coded.sign_looked_at a) coded.rest_turned (copied RESULT to) Negative false (label_of skip) (ap (λ b. b && true) (high_straight Lda a))
-      refl (copied_straight RESULT to) (high_made labels a u) (taken_bytes labels (FixedWord 0) (AtPlace RESULT) RESULT (omega arith) tt)
+      refl (copied_straight RESULT to) (high_made labels a u) (taken_bytes labels (FixedWord 0) (AtAddress RESULT) RESULT (omega arith) tt)
       (copied_made labels RESULT to) next s.back s.of_back back in
       record {
         first = e.first;

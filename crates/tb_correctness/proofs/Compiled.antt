@@ -10,7 +10,7 @@ use Rattle.tb_reaching.proofs.Parts.{holds_bytes, part_back}
 use Rattle.tb_syntax.specs.Source.{Program, numbers}
 use Rattle.tb_lower.specs.Follows.{Follows, longest}
 use Rattle.tb_lower.specs.Slots.{SlotCode}
-use Rattle.tb_runtime16.specs.Places.{PROLOGUE_AT}
+use Rattle.tb_runtime16.specs.Addresses.{PROLOGUE_AT}
 use Rattle.tb_templates.specs.Program.{program_code, AreCodable, RisingFrom}
 use Rattle.tb_runtime16.specs.Routines.{limit_by}
 use Rattle.tb_simulation.specs.Kept.{Starts, Keeps}

@@ -9,9 +9,9 @@ use Rattle.tb_reaching.proofs.Comes.{chained, looser}
 use Rattle.tb_reaching.specs.Start.{IsHome}
 use Rattle.tb_reaching.specs.View.{Comes, Fits, View}
 use Rattle.tb_runtime16.specs.Routines.{Here, Moves, WordAt}
-use Rattle.tb_runtime16.specs.Places.{COUNT, HOME_S, LEFT, LINE, NOTES, PUSH_AT, RESULT, SEARCH_AT, TABLE, WANTED}
+use Rattle.tb_runtime16.specs.Addresses.{COUNT, HOME_S, LEFT, LINE, NOTES, PUSH_AT, RESULT, SEARCH_AT, TABLE, WANTED}
 use Rattle.tb_runtime16.proofs.StatePlaces.{not_pushed, not_searched}
-use Rattle.tb_simulation.specs.Layout.{next_at, place_at}
+use Rattle.tb_simulation.specs.Layout.{next_at, place_address}
 use Rattle.tb_simulation.proofs.Frames.{state_pushed, word_away, word_kept, word_put}
 use Rattle.tb_simulation.proofs.Mirrors.{notes_of}
 use Rattle.tb_simulation.proofs.Pieces.{calls, jumps, jumps_through, points, put_word, sets}
@@ -200,7 +200,7 @@ module _ (around : Surroundings) (fits : Fits around.f 16) (limit : ℕ) (rs : S
           })) [] (34 + (limit + limit))
       call_found found free =
           let few : length s.returns < deepest = omega (arith, ltb-true _ _ free) in
-          let same : length (notes_of ly s.returns) ≡ length s.returns = length-map s.returns (place_at ly) in
+          let same : length (notes_of ly s.returns) ≡ length s.returns = length-map s.returns (place_address ly) in
           looser f w _ _ [] (4 + (4 + (1 + (4 + (4 + (1 + (limit + (4 + (1 + (limit + 1)))))))))) (34 + (limit + limit)) (omega arith) (λ u x. x)
           (calls_push found _ [] (limit + 1) (λ u result l c v e.
           chained f v _ _ [] [] limit 1 (rs.push _ _ (returning u) w.text w.answers (next_at ly n) (notes_of ly s.returns)
@@ -222,8 +222,8 @@ module _ (around : Surroundings) (fits : Fits around.f 16) (limit : ℕ) (rs : S
           let t = fault_text 4 n in
           looser f w _ _ t (4 + (4 + (1 + (4 + (4 + (1 + (limit + (4 + (1 + limit))))))))) (34 + (limit + limit)) (omega arith) (λ u x. x)
           (calls_push found _ t limit (λ u result l c. rs.push_fails _ _ (returning u) w.text w.answers (notes_of ly s.returns) n
-          (subst (λ k. WordAt (returning u) NOTES k) (sym (length-map s.returns (place_at ly))) c.state.count) c.state.notes
-          (omega (arith, ltb-false _ _ full, c.state.few, length-map s.returns (place_at ly))) l c.homed))
+          (subst (λ k. WordAt (returning u) NOTES k) (sym (length-map s.returns (place_address ly))) c.state.count) c.state.notes
+          (omega (arith, ltb-false _ _ full, c.state.few, length-map s.returns (place_address ly))) l c.homed))
 
       pub call_fails : has_line ly.numbers place ≡ false → Comes f w (IsHome f) (fault_text 1 n) (19 + limit)
       call_fails lost = looser f w _ _ (fault_text 1 n) (4 + (4 + (1 + (4 + (4 + (1 + limit)))))) (19 + limit) (omega arith) (λ u x. x) (lost_line AsSubroutine a behind h h.lies lost)

@@ -12,10 +12,10 @@ use Rattle.tb_syntax.specs.declared.expressions.Operator.TheVariants.{Add, Subtr
 use Rattle.tb_meaning.specs.Control.{Place, content_at, has_line, highest}
 use Rattle.tb_lower.specs.Ranges.{AreInRange}
 use Rattle.tb_lower.specs.Slots as slots
-use Rattle.tb_kernal.specs.declared.places.TheConstants.{GETIN}
-use Rattle.tb_runtime16.specs.Places.{LEFT, RIGHT, RESULT, WANTED, LINE, NOTES, NOTE_LOW, NOTE_HIGH, MULTIPLY_AT, DIVIDE_AT, RANDOM_AT, NUMBER_AT, PUSH_AT, POP_AT}
+use Rattle.tb_kernal.specs.declared.rom.TheConstants.{GETIN}
+use Rattle.tb_runtime16.specs.Addresses.{LEFT, RIGHT, RESULT, WANTED, LINE, NOTES, NOTE_LOW, NOTE_HIGH, MULTIPLY_AT, DIVIDE_AT, RANDOM_AT, NUMBER_AT, PUSH_AT, POP_AT}
 use Rattle.tb_templates.specs.declared.sources.Source.{Source}
-use Rattle.tb_templates.specs.declared.sources.Source.TheVariants.{FixedWord, AtPlace}
+use Rattle.tb_templates.specs.declared.sources.Source.TheVariants.{FixedWord, AtAddress}
 use Rattle.tb_templates.specs.GroupTemplates.{may_fault, may_be_zero, may_have_none}
 use Rattle.tb_templates.specs.declared.orders.Side.{Side}
 use Rattle.tb_templates.specs.declared.orders.Side.TheVariants.{Below, NotBelow}
@@ -30,7 +30,7 @@ use Rattle.tb_templates.specs.InPlace.{change_of}
 use Rattle.tb_templates.specs.Masks.{mask}
 use Rattle.tb_templates.specs.Templates.{var_at}
 use Rattle.tb_templates.specs.Sources.{source_of, tested_source, home_at, destination_at}
-use Rattle.tb_simulation.specs.Layout.{Layout, next_at, place_at}
+use Rattle.tb_simulation.specs.Layout.{Layout, next_at, place_address}
 use Rattle.tb_simulation.proofs.Resolved.{Piece, Code, Lies, pieces_size, size, sta_at, copied, constant, pointed, call, faulting, jump, jump_through, template, highest_code, find_code, past_code}
 use Rattle.tb_selection.specs.Groups.{Conversion, Negated, Drawn, Usage, AsNumber, AsLine, AsSubroutine, Constant, Variable, Divisibility, Divisible}
 use Rattle.tb_selection.specs.Groups.{Indivisible, Group, Calculate, Stepped, Convert, Move, Use, Test, TestGo, Divides, Remains, Single, contrary, denied}
@@ -41,11 +41,11 @@ use Rattle.tb_correctness.proofs.Sources.{Byte, Fixed, At, lda, adc, sbc, cmp}
 -- its bytes
 abbrev pub low : Source → Byte
 low (FixedWord w) = Fixed (w % 256)
-low (AtPlace p) = At p
+low (AtAddress p) = At p
 
 abbrev pub high : Source → Byte
 high (FixedWord w) = Fixed (w / 256)
-high (AtPlace p) = At (p + 1)
+high (AtAddress p) = At (p + 1)
 
 -- ---- pieces
 abbrev pub brought : Source → ℕ → List Instr
@@ -419,7 +419,7 @@ abbrev pub sign_looked_at : Source → List Instr
 sign_looked_at a = lda (high a) ∷ []
 
 abbrev pub rest_turned : List Instr
-rest_turned = taken (FixedWord 0) (AtPlace RESULT) RESULT
+rest_turned = taken (FixedWord 0) (AtAddress RESULT) RESULT
 
 abbrev pub signed_rest : Way → (at : ℕ) → Source → ℕ → List Piece
 signed_rest first at a to = over_code first at (sign_looked_at a) Negative false rest_turned (copied RESULT to)
@@ -439,11 +439,11 @@ abbrev pub going_at : Way → (n at : ℕ) → Operator → Source → Source �
 going_at first n at op a b to = at + pieces_size (computed_code first n at op a b to)
 
 abbrev pub stepped_code : (first second : Way) (n at : ℕ) → Operator → Source → Source → Operator → Source → ℕ → List Piece
-stepped_code first second n at op a b by c to = computed_code first n at op a b to ++ computed_code second n (going_at first n at op a b to) by (AtPlace to) c to
+stepped_code first second n at op a b by c to = computed_code first n at op a b to ++ computed_code second n (going_at first n at op a b to) by (AtAddress to) c to
 
 abbrev pub StepReaches : (first second : Way) (n at : ℕ) → Operator → Source → Source → Operator → Source → ℕ → Type 0
 StepReaches first second n at op a b by c to =
-    ChangedReaches (change_of op a b to) first at to × ChangedReaches (change_of by (AtPlace to) c to) second (going_at first n at op a b to) to
+    ChangedReaches (change_of op a b to) first at to × ChangedReaches (change_of by (AtAddress to) c to) second (going_at first n at op a b to) to
 
 -- ---- GOSUB and RETURN in line
 -- a byte goes to X, and to a flag whether it is 0
@@ -573,7 +573,7 @@ group_code ly n at first second (Move a home) = Code (brought (source_of 0 a) (h
 group_code ly n at first second (Use how a) = use_code ly n how (source_of 0 a)
 group_code ly n at first second (Test rel a b) = test_code rel first second at (tested_source a) (source_of 0 b) (next_at ly n)
 group_code ly n at first second (TestGo rel a b to) = go_code ly n at first second rel (tested_source a) (source_of 0 b) (has_line ly.numbers to) to
-group_code ly n at first second (Remains x d to) = remains_code first n at (AtPlace (var_at x)) (source_of (slot_of to + 2) d) (destination_at to)
+group_code ly n at first second (Remains x d to) = remains_code first n at (AtAddress (var_at x)) (source_of (slot_of to + 2) d) (destination_at to)
 group_code ly n at first second (Divides how x d side to) = divides_code ly n at first how (source_of 0 (Variable x)) (source_of 1 d) to
 group_code ly n at first second (Single i) = alone_code ly n at first second i
 
@@ -581,7 +581,7 @@ group_code ly n at first second (Single i) = alone_code ly n at first second i
 abbrev pub BranchesReach : Layout → (n at : ℕ) (first second : Way) → Group → Type 0
 BranchesReach ly n at first second (Calculate op a b d) = ChangedReaches (change_of op (source_of (slot_of d) a) (source_of (slot_of d + 1) b) (destination_at d)) first at (destination_at d)
 BranchesReach ly n at first second (Stepped op a b by w x) = StepReaches first second n at op (source_of 0 a) (source_of 1 b) by (source_of 1 (Constant w)) (var_at x)
-BranchesReach ly n at first second (Remains x d to) = RestReaches first n at (AtPlace (var_at x)) (source_of (slot_of to + 2) d)
+BranchesReach ly n at first second (Remains x d to) = RestReaches first n at (AtAddress (var_at x)) (source_of (slot_of to + 2) d)
 BranchesReach ly n at first second (Test rel a b) = TestReaches rel first second at (tested_source a) (source_of 0 b) (next_at ly n)
 BranchesReach ly n at first second (TestGo rel a b to) = GoReaches ly n at first second rel (tested_source a) (source_of 0 b) (has_line ly.numbers to) to
 BranchesReach ly n at first second (Divides how x d side to) = DividesReach ly n at first (source_of 0 (Variable x)) (source_of 1 d) to
@@ -626,7 +626,7 @@ pub record GroupsLaid (ly : Layout) (code whole : Part) (program : slots.SlotCod
   pub numbered : numbers program ≡ ly.numbers
   pub lines : (n : ℕ) (js : List slots.Instr) → content_at program n ≡ Some js → PolledLine ly code whole n js
   pub absent : (n : ℕ) → content_at program n ≡ None → ly.start n ≡ ly.past
-  pub places : (p : Place) → place_at ly p < 65536
+  pub places : (p : Place) → place_address ly p < 65536
   pub past : Lies code ly.past (past_code ly)
   pub find : Lies code ly.find (find_code ly)
   pub top : highest ly.numbers < 65536

@@ -24,7 +24,7 @@ use Rattle.tb_simulation.proofs.Pieces.{InData, changes_last, loads_last, moves_
 use Rattle.tb_simulation.proofs.Resolved.{Code, Lies, highest_code, pieces_size, size}
 use Rattle.tb_selection.specs.Groups.{Operand, Destination, Calculate}
 use Rattle.tb_selection.specs.Select.{select}
-use Rattle.tb_templates.specs.declared.sources.Source.TheVariants.{AtPlace}
+use Rattle.tb_templates.specs.declared.sources.Source.TheVariants.{AtAddress}
 use Rattle.tb_templates.specs.declared.in_place.Change.{Change}
 use Rattle.tb_templates.specs.declared.in_place.Change.TheVariants.{Increment, Decrement, Raise, Lower, Halve, Double}
 use Rattle.tb_correctness.proofs.Branches.{Led, asked_in, branch_behind, branch_size, branches, is_taken}
@@ -221,7 +221,7 @@ module _ (f : Setup) (room : ℕ) (fits : Fits f room) (bs text answers : List �
   here_at p q m w e h = subst (λ a. Here a bs m text answers w) e h
 
   -- ---- the changes of a word x that stands at a place p
-  module _ (first : Way) (at p : ℕ) (d : InData p) (m : ℕ → ℕ) (x : ℕ) (hs : SourceHolds m (AtPlace p) x) where
+  module _ (first : Way) (at p : ℕ) (d : InData p) (m : ℕ → ℕ) (x : ℕ) (hs : SourceHolds m (AtAddress p) x) where
     -- the word v stands there, and the rest as it was
     abbrev Stored : (to v : ℕ) → View → Type 0
     Stored to v = Here to bs (put_word m p (v % 256) (v / 256)) text answers
@@ -578,7 +578,7 @@ module _ {around : Surroundings} (fits : Fits around.f 16) (code : SlotCode) {n 
   open calculation a b d s r use {x, y, left, right, to}
 
   -- the word z at the place is changed
-  change_law : (c : Change) (first : Way) (z : ℕ) → IsByte c → SourceHolds w.mem (AtPlace to) z → apply op x y ≡ Some (changed c z)
+  change_law : (c : Change) (first : Way) (z : ℕ) → IsByte c → SourceHolds w.mem (AtAddress to) z → apply op x y ≡ Some (changed c z)
       → Lies f.code w.regs.pc (change_code first w.regs.pc c to) → GroupsLie ly f.code n (w.regs.pc + pieces_size (change_code first w.regs.pc c to))
       (select is) → ChangeReaches first w.regs.pc c to → Leads h code 16
   change_law c first z few hs e lies rest reach =

@@ -22,11 +22,11 @@ use Rattle.tb_syntax.specs.declared.expressions.Operator.{Operator}
 use Rattle.tb_syntax.specs.declared.expressions.Operator.TheVariants as op
 use Rattle.tb_meaning.specs.Control.{has_line}
 use Rattle.tb_lower.specs.Slots as slots
-use Rattle.tb_runtime16.specs.Places.{LINE, LEFT, RIGHT, RESULT, MULTIPLY_AT, DIVIDE_AT}
+use Rattle.tb_runtime16.specs.Addresses.{LINE, LEFT, RIGHT, RESULT, MULTIPLY_AT, DIVIDE_AT}
 use Rattle.tb_selection.specs.Groups.{Operand, Constant, Variable, InSlot, Tested, HeldBefore, HeldNow}
 use Rattle.tb_templates.specs.Layout.{LabelsAt}
 use Rattle.tb_templates.specs.declared.sources.Source.{Source}
-use Rattle.tb_templates.specs.declared.sources.Source.TheVariants.{FixedWord, AtPlace}
+use Rattle.tb_templates.specs.declared.sources.Source.TheVariants.{FixedWord, AtAddress}
 use Rattle.tb_templates.specs.Sources.{source_of, tested_source}
 use Rattle.tb_templates.specs.Templates as product
 use Rattle.tb_templates.specs.GroupTemplates as items
@@ -73,7 +73,7 @@ cut_branch n l ys (f ∷ fs) h = let b = branch_formed n l f h.0 in record { way
 -- a constant is a word
 abbrev pub IsWord : Source → Type 0
 IsWord (FixedWord w) = w < 65536
-IsWord (AtPlace p) = Unit {0}
+IsWord (AtAddress p) = Unit {0}
 
 pub source_word : (k : ℕ) (o : Operand) → IsWord (source_of k o)
 source_word k (Constant w) = omega arith
@@ -87,11 +87,11 @@ tested_word (HeldNow a) = source_word 0 a
 -- ---- items without a branch
 pub low_straight : (m : Mnemonic) (s : Source) → is_straight (items.low_of m s) ≡ true
 low_straight m (FixedWord w) = refl
-low_straight m (AtPlace p) = refl
+low_straight m (AtAddress p) = refl
 
 pub high_straight : (m : Mnemonic) (s : Source) → is_straight (items.high_of m s) ≡ true
 high_straight m (FixedWord w) = refl
-high_straight m (AtPlace p) = refl
+high_straight m (AtAddress p) = refl
 
 place_straight : (m : Mnemonic) (p : ℕ) → is_straight (product.on m p) ≡ true
 place_straight m p = by (nat_lt p 256)
@@ -210,42 +210,42 @@ module _ (labels : List (Name × ℕ)) where
   lda_low : (s : Source) → Encodes (items.low_of Lda s) (lda (low s))
   unfolding opcodes.encoded
   lda_low (FixedWord w) = record { same = λ a. ap (λ b. 0xa9 ∷ b ∷ []) (low_byte w) }
-  lda_low (AtPlace p) = record { same = λ a. refl }
+  lda_low (AtAddress p) = record { same = λ a. refl }
 
   adc_low : (s : Source) → Encodes (items.low_of Adc s) (adc (low s))
   unfolding opcodes.encoded
   adc_low (FixedWord w) = record { same = λ a. ap (λ b. 0x69 ∷ b ∷ []) (low_byte w) }
-  adc_low (AtPlace p) = record { same = λ a. refl }
+  adc_low (AtAddress p) = record { same = λ a. refl }
 
   sbc_low : (s : Source) → Encodes (items.low_of Sbc s) (sbc (low s))
   unfolding opcodes.encoded
   sbc_low (FixedWord w) = record { same = λ a. ap (λ b. 0xe9 ∷ b ∷ []) (low_byte w) }
-  sbc_low (AtPlace p) = record { same = λ a. refl }
+  sbc_low (AtAddress p) = record { same = λ a. refl }
 
   cmp_low : (s : Source) → Encodes (items.low_of Cmp s) (cmp (low s))
   unfolding opcodes.encoded
   cmp_low (FixedWord w) = record { same = λ a. ap (λ b. 0xc9 ∷ b ∷ []) (low_byte w) }
-  cmp_low (AtPlace p) = record { same = λ a. refl }
+  cmp_low (AtAddress p) = record { same = λ a. refl }
 
   lda_high : (s : Source) → IsWord s → Encodes (items.high_of Lda s) (lda (high s))
   unfolding opcodes.encoded
   lda_high (FixedWord w) h = record { same = λ a. ap (λ b. 0xa9 ∷ b ∷ []) (high_byte w h) }
-  lda_high (AtPlace p) h = record { same = λ a. refl }
+  lda_high (AtAddress p) h = record { same = λ a. refl }
 
   adc_high : (s : Source) → IsWord s → Encodes (items.high_of Adc s) (adc (high s))
   unfolding opcodes.encoded
   adc_high (FixedWord w) h = record { same = λ a. ap (λ b. 0x69 ∷ b ∷ []) (high_byte w h) }
-  adc_high (AtPlace p) h = record { same = λ a. refl }
+  adc_high (AtAddress p) h = record { same = λ a. refl }
 
   sbc_high : (s : Source) → IsWord s → Encodes (items.high_of Sbc s) (sbc (high s))
   unfolding opcodes.encoded
   sbc_high (FixedWord w) h = record { same = λ a. ap (λ b. 0xe9 ∷ b ∷ []) (high_byte w h) }
-  sbc_high (AtPlace p) h = record { same = λ a. refl }
+  sbc_high (AtAddress p) h = record { same = λ a. refl }
 
   cmp_high : (s : Source) → IsWord s → Encodes (items.high_of Cmp s) (cmp (high s))
   unfolding opcodes.encoded
   cmp_high (FixedWord w) h = record { same = λ a. ap (λ b. 0xc9 ∷ b ∷ []) (high_byte w h) }
-  cmp_high (AtPlace p) h = record { same = λ a. refl }
+  cmp_high (AtAddress p) h = record { same = λ a. refl }
 
   none : AllEncode [] []
   none = record { same = λ a. refl }

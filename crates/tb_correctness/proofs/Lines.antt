@@ -15,7 +15,7 @@ use Rattle.tb_syntax.specs.Source.{numbers}
 use Rattle.tb_meaning.specs.Control.{Place, At, Past, next_after, has_line, content_at}
 use Rattle.tb_lower.specs.Slots as slots
 use Rattle.tb_lower.specs.Ranges.{AreInRange}
-use Rattle.tb_kernal.specs.declared.places.TheConstants.{GETIN}
+use Rattle.tb_kernal.specs.declared.rom.TheConstants.{GETIN}
 use Rattle.tb_selection.specs.Groups.{Group, expand, expand_all}
 use Rattle.tb_selection.specs.Select.{select}
 use Rattle.tb_selection.proofs.Bracketed.{brackets}
@@ -30,7 +30,7 @@ use Rattle.tb_templates.specs.GroupTemplates.{group_template}
 use Rattle.tb_templates.specs.Breaks.{leaves, some_leaves}
 use Rattle.tb_templates.specs.Program.{rest_code}
 use Rattle.tb_templates.proofs.Settled.{line_at, straight_items}
-use Rattle.tb_simulation.specs.Layout.{Layout, place_of, place_at, layout_of, next_at, inner}
+use Rattle.tb_simulation.specs.Layout.{Layout, label_address, place_address, layout_of, next_at, inner}
 use Rattle.tb_simulation.proofs.Numbers.{next_has, next_same, start_of_line}
 use Rattle.tb_simulation.proofs.Resolved.{call, pieces_size, highest_code}
 use Rattle.tb_simulation.proofs.Emitted.{behind, lies}
@@ -72,23 +72,23 @@ module _ (labels : List (Name × ℕ)) (seed : ℕ) (code : Part) (sc : slots.Sl
       (bytes_front part a x y both, subst (λ n. Bytes part (a + n) y) long (behind part a x y (omega (arith, long, sum, below)) both))
 
   -- a label that stands is where its place is
-  stands : (t : Target) (a : ℕ) → address_in labels (label_of t) ≡ Some a → address_in labels (label_of t) ≡ Some (place_of labels t)
+  stands : (t : Target) (a : ℕ) → address_in labels (label_of t) ≡ Some a → address_in labels (label_of t) ≡ Some (label_address labels t)
   stands t a e = e ∙ ap Some (sym (ap (λ o. unwrap_or o 0) e))
 
-  line_stands : (n : ℕ) → has_line ns n ≡ true → address_in labels (label_of (target.Line n)) ≡ Some (place_of labels (target.Line n))
+  line_stands : (n : ℕ) → has_line ns n ≡ true → address_in labels (label_of (target.Line n)) ≡ Some (label_address labels (target.Line n))
   line_stands n e = let l = line_of labels seed code sc laid n e in line_at labels ns seed _ (record { number = n; content = l.0 }) l.1.forms l.1.of l.1.lies.labelled
 
   next_stands : (n : ℕ) → address_in labels (label_of (next_line ns n)) ≡ Some (next_at ly n)
   next_stands n = by (next_after ns n) refl ∙ ap Some (next_same labels ns seed n)
     where
-      by : (p : Place) → next_after ns n ≡ p → address_in labels (label_of (next_line ns n)) ≡ Some (place_of labels (next_line ns n))
-      by (At m) e = subst (λ p. address_in labels (label_of (target_of p)) ≡ Some (place_of labels (target_of p))) (sym e) (line_stands m (next_has ns n m e))
-      by Past e = subst (λ p. address_in labels (label_of (target_of p)) ≡ Some (place_of labels (target_of p))) (sym e) (stands target.Past _ laid.past.labelled.0)
+      by : (p : Place) → next_after ns n ≡ p → address_in labels (label_of (next_line ns n)) ≡ Some (label_address labels (next_line ns n))
+      by (At m) e = subst (λ p. address_in labels (label_of (target_of p)) ≡ Some (label_address labels (target_of p))) (sym e) (line_stands m (next_has ns n m e))
+      by Past e = subst (λ p. address_in labels (label_of (target_of p)) ≡ Some (label_address labels (target_of p))) (sym e) (stands target.Past _ laid.past.labelled.0)
 
   next_below : (n : ℕ) → next_at ly n ≤ highest_code
   next_below n = by (next_after ns n)
     where
-      by : (p : Place) → place_at ly p ≤ highest_code
+      by : (p : Place) → place_address ly p ≤ highest_code
       by (At m) = omega (arith, start_small labels seed code sc laid m)
       by Past = omega (arith, laid.past.below)
 
@@ -149,10 +149,10 @@ module _ (labels : List (Name × ℕ)) (seed : ℕ) (code : Part) (sc : slots.Sl
     abbrev answered : List Entry
     answered = product.const Cmp 3 ∷ product.branch Beq (target.Break n) ∷ []
 
-    line_lies : (rest : List slots.Instr) → has_line ns n ≡ true → LineLies labels code ns seed n (slots.Poll ∷ rest) → LineStands ly within code n (place_of labels (target.Line n)) rest
+    line_lies : (rest : List slots.Instr) → has_line ns n ≡ true → LineLies labels code ns seed n (slots.Poll ∷ rest) → LineStands ly within code n (label_address labels (target.Line n)) rest
     unfolding opcodes.encoded
     line_lies rest has l =
-        let at = place_of labels (target.Line n) in
+        let at = label_address labels (target.Line n) in
         let gs = select rest in
         let s = split asks (answered ++ rest_code ns seed n 1 gs) l.forms l.of in
         let t = split answered (rest_code ns seed n 1 gs) s.back s.of_back in
@@ -176,7 +176,7 @@ module _ (labels : List (Name × ℕ)) (seed : ℕ) (code : Part) (sc : slots.Sl
         (λ q. inr q) (l.clear m e)) a lo (later_inside at s.front t.front t.back l.forms three total long a hi)) later in
         let poll_rest = rest_before labels (at + 3) t.front t.back behind_call in
         let broken = laid.breaks n has in
-        let to = place_of labels (target.Break n) in
+        let to = label_address labels (target.Break n) in
         let p = poll_emitted labels ns seed n laid.seed_small small (at + 3) to stop t.front (stands (target.Break n) _ broken.labelled.0)
         (let b = broken.below in omega (arith, b)) t.of_front poll_rest in
         let ps = poll_code (at + 3) p.way to in
@@ -210,7 +210,7 @@ module _ (labels : List (Name × ℕ)) (seed : ℕ) (code : Part) (sc : slots.Sl
 
         line_end : (at : ℕ) (fs f g h : List Form) (way : Way) → forms_size f ≡ 3 → forms_size fs ≡ forms_size f + (forms_size g + forms_size h)
             → size (items_from at fs) ≡ forms_size fs → at + 3 + forms_size g ≡ at + 5 + way_size way → at + size (items_from at fs)
-            ≡ place_of labels (next_line ns n) → at + 5 + way_size way + forms_size h ≡ place_of labels (next_line ns n)
+            ≡ label_address labels (next_line ns n) → at + 5 + way_size way + forms_size h ≡ label_address labels (next_line ns n)
         line_end at fs f g h way three total long there next = (let q : at + 5 + way_size way + forms_size h ≡ at + size (items_from at fs) = omega (arith, three, total, long, there) in q) ∙ next
 
   -- the whole program
@@ -242,7 +242,7 @@ module _ (labels : List (Name × ℕ)) (seed : ℕ) (code : Part) (sc : slots.Sl
               (line_lies n (laid.lines n is e).small p.0 (content_has labels seed code sc laid sc n is e) l);
           small = (laid.lines n is e).small;
         };
-    absent = λ n e. ap (λ t. if t then place_of labels (target.Line n) else place_of labels target.Past) (content_none labels seed code sc laid sc n e);
+    absent = λ n e. ap (λ t. if t then label_address labels (target.Line n) else label_address labels target.Past) (content_none labels seed code sc laid sc n e);
     places = place_small labels seed code sc laid;
     past = past_lies labels seed code sc laid;
     find = find_lies labels seed code sc laid;

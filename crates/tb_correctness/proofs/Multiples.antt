@@ -14,14 +14,14 @@ use Rattle.tb_reaching.proofs.Comes.{chained, looser}
 use Rattle.tb_reaching.proofs.Instr.{Stands}
 use Rattle.tb_reaching.proofs.Memory.{put_other, put_same}
 use Rattle.tb_reaching.specs.View.{Comes, Fits, Setup, View}
-use Rattle.tb_runtime16.specs.Places.{LEFT}
+use Rattle.tb_runtime16.specs.Addresses.{LEFT}
 use Rattle.tb_runtime16.specs.Routines.{Here, Moves, WithA}
 use Rattle.tb_simulation.proofs.Resolved.{Code, Lies, highest_code, pieces_size, size}
 use Rattle.tb_selection.specs.Groups.{Operand, Destination, Calculate}
 use Rattle.tb_selection.specs.Liveness.{live}
 use Rattle.tb_selection.specs.Select.{select}
 use Rattle.tb_templates.specs.declared.sources.Source.{Source}
-use Rattle.tb_templates.specs.declared.sources.Source.TheVariants.{FixedWord, AtPlace}
+use Rattle.tb_templates.specs.declared.sources.Source.TheVariants.{FixedWord, AtAddress}
 use Rattle.tb_templates.specs.Sources.{destination_at}
 use Rattle.tb_correctness.proofs.GroupCode.{GroupsLie, begun, by_bit, by_bits, doubled, high, increased, low, low_first, times}
 use Rattle.tb_correctness.proofs.Halves.{by_even, by_odd, double_high, double_low, sum_high, sum_low}
@@ -50,11 +50,11 @@ module _ (f : Setup) (room : ℕ) (fits : Fits f room) (bs : List ℕ) (m : ℕ 
     -- the word is still there
     low_still : (m' : ℕ → ℕ) → ((p : ℕ) → p ≢ LEFT → m' p ≡ m p) → (b : Source) → Away b → value m' (low b) ≡ value m (low b)
     low_still m' e (FixedWord w) d = refl
-    low_still m' e (AtPlace p) d = e p (λ q. omega (arith, q, d))
+    low_still m' e (AtAddress p) d = e p (λ q. omega (arith, q, d))
 
     high_still : (m' : ℕ → ℕ) → ((p : ℕ) → p ≢ LEFT → m' p ≡ m p) → (b : Source) → Away b → value m' (high b) ≡ value m (high b)
     high_still m' e (FixedWord w) d = refl
-    high_still m' e (AtPlace p) d = e (p + 1) (λ q. omega (arith, q, d))
+    high_still m' e (AtAddress p) d = e (p + 1) (λ q. omega (arith, q, d))
 
     doubles_on : (at v : ℕ) → at + size doubled ≤ highest_code → Stands f.code at doubled → Moves f (LowInA at v) (LowInA (at + size doubled) (word (2 * v))) [] 2
     doubles_on at v r st w e =

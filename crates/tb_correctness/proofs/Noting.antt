@@ -12,7 +12,7 @@ use Rattle.tb_reaching.proofs.Instr.{Stands, ins, instr_bytes}
 use Rattle.tb_reaching.proofs.Memory.{put_other, put_same}
 use Rattle.tb_reaching.proofs.Placed.{placed_last, placing, reads_data, stores_at, takes_at}
 use Rattle.tb_reaching.specs.View.{Bytes, Comes, Fits, Setup, View, is_data, view, with_s}
-use Rattle.tb_runtime16.specs.Places.{NOTES, NOTE_HIGH, NOTE_LOW, RESULT}
+use Rattle.tb_runtime16.specs.Addresses.{NOTES, NOTE_HIGH, NOTE_LOW, RESULT}
 use Rattle.tb_runtime16.specs.Routines.{Here, Moves, Noted, WordAt}
 use Rattle.tb_simulation.proofs.Mirrors.{Flagged}
 use Rattle.tb_simulation.proofs.Pieces.{loads_last, stores, stores_last, whatever}

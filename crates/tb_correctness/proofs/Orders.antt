@@ -15,7 +15,7 @@ use Rattle.tb_simulation.proofs.Pieces.{loads_last, moves_then, moves_looser, wh
 use Rattle.tb_simulation.proofs.Resolved.{Code, Lies, Piece, highest_code, pieces_size, size}
 use Rattle.tb_correctness.proofs.Sources.{Byte, Fixed, At, value, IsRead, lda, sbc, cmp, len, Known, behind, loads_with, whatever_known}
 use Rattle.tb_templates.specs.declared.sources.Source.{Source}
-use Rattle.tb_templates.specs.declared.sources.Source.TheVariants.{FixedWord, AtPlace}
+use Rattle.tb_templates.specs.declared.sources.Source.TheVariants.{FixedWord, AtAddress}
 use Rattle.tb_templates.specs.declared.orders.Side.{Side}
 use Rattle.tb_templates.specs.declared.orders.Side.TheVariants.{Below, NotBelow}
 use Rattle.tb_templates.specs.declared.orders.Order.{Order}
@@ -307,18 +307,18 @@ module _ (f : Setup) (room : ℕ) (fits : Fits f room) (at : ℕ) (bs : List ℕ
   by_words a (FixedWord w) x y ga gb ha hb =
       let e = fixed_is w y hb in
       subst (λ v. Leads (against Below a w) (int_lt (signed x) (signed v))) e (by_against Below a x w ga ha (omega (arith, e, hb.small)) (nat_eq w 0) refl)
-  by_words (FixedWord v) (AtPlace q) x y ga gb ha hb = by (nat_eq v 32767) refl
+  by_words (FixedWord v) (AtAddress q) x y ga gb ha hb = by (nat_eq v 32767) refl
     where
       e : v ≡ x
       e = fixed_is v x ha
 
-      by : (t : Bool) → nat_eq v 32767 ≡ t → Leads (if t then ByDifference (FixedWord v) (AtPlace q) else against NotBelow (AtPlace q) ((v + 1) % 65536)) (int_lt (signed x) (signed y))
-      by true g = by_difference (FixedWord v) (AtPlace q) x y ga gb ha hb
+      by : (t : Bool) → nat_eq v 32767 ≡ t → Leads (if t then ByDifference (FixedWord v) (AtAddress q) else against NotBelow (AtAddress q) ((v + 1) % 65536)) (int_lt (signed x) (signed y))
+      by true g = by_difference (FixedWord v) (AtAddress q) x y ga gb ha hb
       by false g =
-          subst (λ t. Leads (against NotBelow (AtPlace q) ((v + 1) % 65536)) t)
+          subst (λ t. Leads (against NotBelow (AtAddress q) ((v + 1) % 65536)) t)
           (below_next v y (omega (arith, e, ha.small)) hb.small (not_greatest v g) ∙ ap (λ v. int_lt (signed v) (signed y)) e)
-          (by_against NotBelow (AtPlace q) y ((v + 1) % 65536) gb hb (omega arith) (nat_eq ((v + 1) % 65536) 0) refl)
-  by_words (AtPlace p) (AtPlace q) x y ga gb ha hb = by_difference (AtPlace p) (AtPlace q) x y ga gb ha hb
+          (by_against NotBelow (AtAddress q) y ((v + 1) % 65536) gb hb (omega arith) (nat_eq ((v + 1) % 65536) 0) refl)
+  by_words (AtAddress p) (AtAddress q) x y ga gb ha hb = by_difference (AtAddress p) (AtAddress q) x y ga gb ha hb
 
 -- where a test for order leads
 module _ (f : Setup) (room : ℕ) (fits : Fits f room) (at : ℕ) (bs : List ℕ) (m : ℕ → ℕ) (text answers : List ℕ) (small : leb (length bs) room ≡ true)

@@ -3,7 +3,7 @@ use Rattle.std.proofs.Common.{◌≡◌, ℕ, ◌+◌, ◌/◌, ◌%◌, ◌≤�
 use Rattle.std.proofs.Common.{drop, refl, sym, ap, ◌∙◌, subst, arith, eqb, Option, Some, None, inl, inr}
 use Rattle.std.specs.Prelude.{nat_eq}
 use Rattle.tb_syntax.specs.Source.{numbers}
-use Rattle.tb_kernal.specs.declared.places.Service.TheVariants.{Getin}
+use Rattle.tb_kernal.specs.declared.rom.Service.TheVariants.{Getin}
 use Rattle.tb_kernal.specs.Machine.{first_or_zero}
 use Rattle.tb_meaning.specs.Control.{Place, At, Past, State, content_at, fault_text, highest, answered}
 use Rattle.tb_lower.specs.Slots.{Instr, Poll, Whole, Slots, SlotState, SlotCode, settled, staying, instr_at, instr_found}
@@ -14,9 +14,9 @@ use Rattle.tb_reaching.proofs.Services.{served_last}
 use Rattle.tb_reaching.specs.Start.{IsHome}
 use Rattle.tb_reaching.specs.View.{Comes, Fits, View, view}
 use Rattle.tb_opcodes.specs.Bytes.{AreBytes}
-use Rattle.tb_kernal.specs.declared.places.TheConstants.{GETIN}
+use Rattle.tb_kernal.specs.declared.rom.TheConstants.{GETIN}
 use Rattle.tb_runtime16.specs.Routines.{Here, Moves, WithA}
-use Rattle.tb_simulation.specs.Layout.{place_at}
+use Rattle.tb_simulation.specs.Layout.{place_address}
 use Rattle.tb_simulation.proofs.Joins.{LawAt, sent_in}
 use Rattle.tb_simulation.proofs.Mirrors.{Flagged, HoldsState, Typable}
 use Rattle.tb_simulation.proofs.Pieces.{calls, moves_looser, moves_then, whatever}
@@ -171,7 +171,7 @@ module _ (around : Surroundings) (fits : Fits around.f 16) (limit : ℕ) (rs : S
           one = looser (opened f) w _ _ [] 1 1 (omega arith)
               (λ u g. chained f u _ _ [] (sent_in (outcome code n is s r s.answers)) 1 (10 + limit) (asks at w.mem s.text s.answers lies.2 u g) (led s.answers refl h.short.answer_bytes))
               (calls (opened f) 16 fits at own w.mem s.text s.answers refl GETIN refl lies.2 lies.3 w (record {
-                pc = h.pc ∙ ap (place_at ly) here;
+                pc = h.pc ∙ ap (place_address ly) here;
                 stack = h.stack;
                 binary = h.binary;
                 mem = refl;
@@ -203,7 +203,7 @@ module _ (around : Surroundings) (fits : Fits around.f 16) (limit : ℕ) (rs : S
     at_number : (n : ℕ) → s.place ≡ At n → (o : Option (List Instr)) → content_at code n ≡ o
         → LawAt Whole f w (Target around (first_group code whole)) (sent_in (first_group code whole)) (34 + (limit + limit))
     at_number n here None e =
-        no_line (h.pc ∙ ap (place_at ly) here ∙ laid.absent n e)
+        no_line (h.pc ∙ ap (place_address ly) here ∙ laid.absent n e)
         (ap (λ p. first code (select (ahead code Whole p)) whole) here ∙ ap (λ o. first code (select (or_empty o)) whole) e
         ∙ ap (λ p. instr_at code Whole p s r) here ∙ ap (λ o. instr_found (numbers code) n o s r) e)
     at_number n here (Some js) e =
@@ -213,7 +213,7 @@ module _ (around : Surroundings) (fits : Fits around.f 16) (limit : ℕ) (rs : S
     by_place : (p : Place) → s.place ≡ p → LawAt Whole f w (Target around (first_group code whole)) (sent_in (first_group code whole)) (34 + (limit + limit))
     by_place (At n) here = at_number n here (content_at code n) refl
     by_place Past here =
-        no_line (h.pc ∙ ap (place_at ly) here)
+        no_line (h.pc ∙ ap (place_address ly) here)
         (ap (λ p. first code (select (ahead code Whole p)) whole) here ∙ ap (λ p. instr_at code Whole p s r) here)
 
     -- the law where nothing of a line is left to be done

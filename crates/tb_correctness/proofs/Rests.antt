@@ -14,7 +14,7 @@ use Rattle.tb_meaning.specs.Values.{apply, given}
 use Rattle.tb_reaching.proofs.Comes.{chained, looser}
 use Rattle.tb_reaching.specs.Start.{IsHome}
 use Rattle.tb_reaching.specs.View.{Comes, Fits, View}
-use Rattle.tb_runtime16.specs.Places.{DIVIDE_AT, LEFT, RESULT, RIGHT}
+use Rattle.tb_runtime16.specs.Addresses.{DIVIDE_AT, LEFT, RESULT, RIGHT}
 use Rattle.tb_runtime16.specs.Routines.{Here, Moves, WordAt}
 use Rattle.tb_runtime16.proofs.StatePlaces.{not_argument}
 use Rattle.tb_simulation.proofs.Frames.{word_put}
@@ -27,7 +27,7 @@ use Rattle.tb_selection.specs.GroupSteps.{steps}
 use Rattle.tb_selection.specs.Liveness.{live}
 use Rattle.tb_selection.specs.Select.{omits_only_dead}
 use Rattle.tb_templates.specs.declared.sources.Source.{Source}
-use Rattle.tb_templates.specs.declared.sources.Source.TheVariants.{FixedWord, AtPlace}
+use Rattle.tb_templates.specs.declared.sources.Source.TheVariants.{FixedWord, AtAddress}
 use Rattle.tb_templates.specs.GroupTemplates.{may_be_zero}
 use Rattle.tb_templates.specs.Sources.{destination_at, source_of}
 use Rattle.tb_templates.specs.Templates.{var_at}
@@ -217,7 +217,7 @@ module _ (around : Surroundings) (fits : Fits around.f 16) (code : SlotCode) (li
   y = fetched s r (k + 2) d
 
   abbrev a : Source
-  a = AtPlace (var_at v)
+  a = AtAddress (var_at v)
 
   abbrev b : Source
   b = source_of (k + 2) d
@@ -356,7 +356,7 @@ module _ (around : Surroundings) (fits : Fits around.f 16) (code : SlotCode) (li
           let difference = subtracted_word 0 0 _ _ 0 rest_size refl refl told.result.low told.result.high (omega arith) told.result.small in
           let same = sym (value_is true e) in
           chained f z _ _ [] [] 2 11 (fork.leads u.mem true z (moved _ _ own _ w.text w.answers z g.here (omega arith)) (g.negative ∙ sign_is ∙ e)) (λ q l.
-          chained f q _ _ [] [] 7 4 (differs f 16 fits turned_at own u.mem w.text w.answers refl (FixedWord 0) (AtPlace RESULT) RESULT
+          chained f q _ _ [] [] 7 4 (differs f 16 fits turned_at own u.mem w.text w.answers refl (FixedWord 0) (AtAddress RESULT) RESULT
           (let r = fork.ends in omega (arith, r)) tt ((refl, refl), λ e. omega (arith, e)) (refl, refl) fork.stands q l.here) (λ q l.
           copies_out _ (word_put u.mem RESULT _ _ value (difference.0 ∙ ap (λ v. v % 256) same) (difference.1 ∙ ap (λ v. v / 256) same) (omega arith))
           (kept_put around (live js) s r u.mem RESULT _ _ h.some_read refl refl told.kept) q l))

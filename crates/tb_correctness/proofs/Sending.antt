@@ -2,7 +2,7 @@
 use Rattle.std.proofs.Common.{◌≡◌, ℕ, ◌+◌, ◌-◌, ◌/◌, ◌%◌, ◌≤◌, List, [], ◌∷◌, length, refl, ap, ◌∙◌, subst, arith, append-nil}
 use Rattle.std.specs.Prelude.{replicate}
 use Rattle.tb_words.specs.Words.{digits_of}
-use Rattle.tb_kernal.specs.declared.places.Service.TheVariants.{Chrout}
+use Rattle.tb_kernal.specs.declared.rom.Service.TheVariants.{Chrout}
 use Rattle.tb_meaning.specs.Control.{State, column_after, zone}
 use Rattle.tb_lower.specs.Slots.{Instr, SendText, SendNumber, SendZone, SendNewline, Slots, SlotCode}
 use Rattle.tb_memmap.specs.Bytes.{with_byte}
@@ -13,7 +13,7 @@ use Rattle.tb_reaching.proofs.Services.{served_last}
 use Rattle.tb_reaching.specs.View.{Bytes, Comes, Fits, View, back_at, view}
 use Rattle.tb_runtime16.specs.Laws.{Leaves, Sent}
 use Rattle.tb_runtime16.specs.Routines.{Here, Moves, is_scratch}
-use Rattle.tb_runtime16.specs.Places.{COLUMN, LEFT, LENGTH, NUMBER_AT, TEXT_AT, ZONE_AT}
+use Rattle.tb_runtime16.specs.Addresses.{COLUMN, LEFT, LENGTH, NUMBER_AT, TEXT_AT, ZONE_AT}
 use Rattle.tb_simulation.proofs.Frames.{word_put}
 use Rattle.tb_simulation.proofs.Pieces.{calls, jumps, put_word, whatever}
 use Rattle.tb_simulation.proofs.Resolved.{highest_code, newline, size, text_call}

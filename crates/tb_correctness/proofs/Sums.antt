@@ -13,31 +13,31 @@ use Rattle.tb_simulation.proofs.Resolved.{copied, highest_code, lda_at, size, st
 use Rattle.tb_correctness.proofs.Sources.{Byte, Known, value, IsRead, lda, adc, sbc, len, behind, clears, raises_carry, loads_with, loads_byte, adds_byte}
 use Rattle.tb_correctness.proofs.Sources.{takes_byte, writes_byte, puts_byte, loads_place, puts_place}
 use Rattle.tb_templates.specs.declared.sources.Source.{Source}
-use Rattle.tb_templates.specs.declared.sources.Source.TheVariants.{FixedWord, AtPlace}
+use Rattle.tb_templates.specs.declared.sources.Source.TheVariants.{FixedWord, AtAddress}
 use Rattle.tb_correctness.proofs.GroupCode.{low, high, brought, summed, taken}
 
 -- a word's source is among the data, and its high byte is not where another word's low byte goes
 abbrev pub Grounded : Source → ℕ → Type 0
 Grounded (FixedWord w) to = Unit {0}
-Grounded (AtPlace p) to = InData p × (p + 1 ≢ to)
+Grounded (AtAddress p) to = InData p × (p + 1 ≢ to)
 
 -- it is behind the bytes of page zero
 abbrev pub Away : Source → Type 0
 Away (FixedWord w) = Unit {0}
-Away (AtPlace p) = 0xC000 ≤ p
+Away (AtAddress p) = 0xC000 ≤ p
 
 pub low_read : (a : Source) (to : ℕ) → Grounded a to → IsRead (low a)
 low_read (FixedWord w) to h = tt
-low_read (AtPlace p) to h = h.0.0
+low_read (AtAddress p) to h = h.0.0
 
 pub high_read : (a : Source) (to : ℕ) → Grounded a to → IsRead (high a)
 high_read (FixedWord w) to h = tt
-high_read (AtPlace p) to h = h.0.1
+high_read (AtAddress p) to h = h.0.1
 
 -- the high byte is the same once the low one is written
 pub high_same : (a : Source) (to x : ℕ) (m : ℕ → ℕ) → Grounded a to → value (with_byte m to x) (high a) ≡ value m (high a)
 high_same (FixedWord w) to x m h = refl
-high_same (AtPlace p) to x m h = put_other m to x (p + 1) h.1
+high_same (AtAddress p) to x m h = put_other m to x (p + 1) h.1
 
 -- two words joined byte by byte, by an instruction that joins a byte to A and C
 abbrev joined : (Byte → Instr) → Source → Source → ℕ → List Instr

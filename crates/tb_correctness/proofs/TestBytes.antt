@@ -15,7 +15,7 @@ use Rattle.tb_reaching.proofs.Instr.{Instr, ins}
 use Rattle.tb_templates.specs.declared.labels.Target.{Target}
 use Rattle.tb_templates.specs.Labels.{label_of}
 use Rattle.tb_templates.specs.declared.sources.Source.{Source}
-use Rattle.tb_templates.specs.declared.sources.Source.TheVariants.{FixedWord, AtPlace}
+use Rattle.tb_templates.specs.declared.sources.Source.TheVariants.{FixedWord, AtAddress}
 use Rattle.tb_templates.specs.Templates as product
 use Rattle.tb_templates.specs.GroupTemplates as items
 use Rattle.tb_templates.specs.Orders as orders
@@ -236,12 +236,12 @@ module _ (labels : List (Name × ℕ)) where
 
     order_words : (s t : Source) → IsWord s → IsWord t → AreWords (order_of s t)
     order_words s (FixedWord w) h k = against_words Below s w h
-    order_words (FixedWord v) (AtPlace q) h k = by (nat_eq v 32767)
+    order_words (FixedWord v) (AtAddress q) h k = by (nat_eq v 32767)
       where
-        by : (t : Bool) → AreWords (if t then ByDifference (FixedWord v) (AtPlace q) else orders.against NotBelow (AtPlace q) ((v + 1) % 65536))
+        by : (t : Bool) → AreWords (if t then ByDifference (FixedWord v) (AtAddress q) else orders.against NotBelow (AtAddress q) ((v + 1) % 65536))
         by true = (h, k)
-        by false = against_words NotBelow (AtPlace q) ((v + 1) % 65536) k
-    order_words (AtPlace p) (AtPlace q) h k = (h, k)
+        by false = against_words NotBelow (AtAddress q) ((v + 1) % 65536) k
+    order_words (AtAddress p) (AtAddress q) h k = (h, k)
 
     pub record OrderEmitted (order : Order) (wanted : Side) (at : ℕ) (fs : List Form) : Type 0 where
       pub first : Way

@@ -7,13 +7,13 @@ use Rattle.tb_memmap.specs.Regions.{is_open}
 use Rattle.tb_cpu.specs.Operands.{word_from, word_in}
 use Rattle.tb_asm.specs.declared.names.Name.{Name}
 use Rattle.tb_meaning.specs.Control.{At, Past, Place, has_line}
-use Rattle.tb_runtime16.specs.Places.{NOTES, NOTE_HIGH, NOTE_LOW}
+use Rattle.tb_runtime16.specs.Addresses.{NOTES, NOTE_HIGH, NOTE_LOW}
 use Rattle.tb_templates.specs.declared.labels.Target.TheVariants.{Line}
 use Rattle.tb_templates.specs.Labels.{label_of}
 use Rattle.tb_simulation.specs.Layout.{is_start}
 use Rattle.tb_simulation.specs.LineStarts as kept
 use Rattle.tb_simulation.specs.LineStarts.{HoldsReturns, StandsFor}
-use Rattle.tb_codegen.specs.Compiled.{PlacesRise, stands_at, starts_in}
+use Rattle.tb_codegen.specs.Compiled.{AddressesRise, stands_at, starts_in}
 use Rattle.tb_debug.specs.Lines.{line_at}
 use Rattle.tb_debug.specs.Readings.{byte_at, lines_of_notes, note_read, notes_in, word_at}
 use Rattle.tb_debug.specs.Runs.{begins_at}
@@ -44,7 +44,7 @@ module _ (labels : List (Name × ℕ)) where
   abbrev at_label : ℕ → ℕ
   at_label n = stands_at labels (label_of (Line n))
 
-  above : (ns : List ℕ) (low n : ℕ) → PlacesRise low (starts_in labels ns) → has_line ns n ≡ true → low ≤ at_label n
+  above : (ns : List ℕ) (low n : ℕ) → AddressesRise low (starts_in labels ns) → has_line ns n ≡ true → low ≤ at_label n
   above [] low n rise has = absurd (cc)
   above (m ∷ ns) low n (here, rest) has = go (nat_eq m n) refl (above ns (at_label m + 1) n rest) has
     where
@@ -56,7 +56,7 @@ module _ (labels : List (Name × ℕ)) where
   same_place a = grind (arith, nat_tests)
 
   -- a line of the program is found where it begins
-  found_there : (ns : List ℕ) (low n : ℕ) → PlacesRise low (starts_in labels ns) → has_line ns n ≡ true
+  found_there : (ns : List ℕ) (low n : ℕ) → AddressesRise low (starts_in labels ns) → has_line ns n ≡ true
       → line_at (starts_in labels ns) (at_label n) ≡ Some n
   found_there [] low n rise has = absurd (cc)
   found_there (m ∷ ns) low n (here, rest) has =
@@ -84,7 +84,7 @@ module _ (labels : List (Name × ℕ)) where
       go true later e = absurd (cc)
       go false later e = later e
 
-  module _ (start : ℕ → ℕ) (ns : List ℕ) (low : ℕ) (rise : PlacesRise low (starts_in labels ns))
+  module _ (start : ℕ → ℕ) (ns : List ℕ) (low : ℕ) (rise : AddressesRise low (starts_in labels ns))
       (firsts : (n : ℕ) → has_line ns n ≡ true → start n ≡ at_label n) (same : (a : ℕ) → is_start start ns a ≡ begins_at (starts_in labels ns) a) where
     place_told : (p : Place) (a : ℕ) → StandsFor start ns p a → line_at (starts_in labels ns) a ≡ line_of p
     place_told (At n) a (has, is) = ap (line_at (starts_in labels ns)) (is ∙ firsts n has) ∙ found_there ns low n rise has

@@ -11,7 +11,7 @@ use Rattle.tb_disasm.specs.declared.listing.Line.{Line}
 use Rattle.tb_disasm.specs.Lines.{shown}
 use Rattle.tb_disasm.specs.Listing.{line_at as code_line}
 use Rattle.tb_debug.specs.Lines.{line_at}
-use Rattle.tb_runtime16.specs.Places.{NOTES, NOTE_HIGH, NOTE_LOW, VARS}
+use Rattle.tb_runtime16.specs.Addresses.{NOTES, NOTE_HIGH, NOTE_LOW, VARS}
 
 -- what a read gives, and 0 where it is refused
 abbrev pub or_zero : Result ℕ Closed → ℕ

@@ -2,11 +2,11 @@
 ghost use Rattle.std.specs.Prelude.{◌≡◌, ◌+◌, ◌-◌, ◌≤◌, length, drop, map, IfOk};
 ghost use Rattle.tb_syntax.specs.PlainData.{lines_of};
 ghost use Rattle.tb_meaning.specs.Cost as cost;
-ghost use Rattle.tb_runtime16.specs.Places.{PROLOGUE_AT};
+ghost use Rattle.tb_runtime16.specs.Addresses.{PROLOGUE_AT};
 ghost use Rattle.tb_disasm.specs.Back.{GivesBack};
 ghost use Rattle.tb_codegen.specs.Compiled.{most_cost, pair_of, prg_of, starts_of, table_of};
 ghost use Rattle.tb_listing.specs.Comments.{ShowsLines};
-ghost use Rattle.tb_listing.specs.Labels.{places, labels_text};
+ghost use Rattle.tb_listing.specs.Labels.{all_labels, labels_text};
 ghost use Rattle.tb_listing.specs.Map.{map_text};
 ghost use Rattle.tb_streams.specs.Streams.{most_input};
 
@@ -17,7 +17,7 @@ use tb_syntax::Program;
 
 /// `labels`.
 pub fn labels_of(alloc: Global, starts: &[LineStart], table: u16) -> Result<Vec<u8>, AllocError>
-    ensures { IfOk result (λ text. text.items ≡ labels_text (places (map pair_of starts.now) table)) }
+    ensures { IfOk result (λ text. text.items ≡ labels_text (all_labels (map pair_of starts.now) table)) }
 {
     labels(alloc, starts, table)
 }

@@ -4,7 +4,7 @@ use Rattle.std.specs.Fmt.{decimal}
 use Rattle.hex.specs.Hex.{encode_upper}
 use Rattle.tb_syntax.specs.Source.{Program}
 use Rattle.tb_meaning.specs.Cost.{statement_cost, cost}
-use Rattle.tb_runtime16.specs.Places.{PROLOGUE_AT}
+use Rattle.tb_runtime16.specs.Addresses.{PROLOGUE_AT}
 use Rattle.tb_codegen.specs.Compiled.{most_cost}
 use Rattle.tb_codegen.specs.Texts.{end_before}
 

@@ -2,7 +2,7 @@
 ghost use Rattle.std.specs.Prelude.{◌≡◌, ◌+◌, ◌-◌, ◌≤◌, length, IfOk, IfErr};
 ghost use Rattle.tb_syntax.specs.PlainData.{lines_of};
 ghost use Rattle.tb_meaning.specs.Cost.{cost};
-ghost use Rattle.tb_runtime16.specs.Places.{PROLOGUE_AT};
+ghost use Rattle.tb_runtime16.specs.Addresses.{PROLOGUE_AT};
 ghost use Rattle.tb_codegen.specs.Compiled.{most_cost, prg_of};
 ghost use Rattle.tb_listing.specs.Builds.{IsMade, IsRefused, Tells};
 

@@ -2,7 +2,7 @@
 ghost use Rattle.std.specs.Prelude.{◌≡◌, ◌⊎◌, ◌+◌, ◌-◌, ◌≤◌, true, false, None, length, drop, map, IfOk};
 ghost use Rattle.tb_asm.specs.Layout.{entry_of, image_of};
 ghost use Rattle.tb_asm.specs.Assembled.{refusal};
-ghost use Rattle.tb_runtime16.specs.Places.{PROLOGUE_AT};
+ghost use Rattle.tb_runtime16.specs.Addresses.{PROLOGUE_AT};
 ghost use Rattle.tb_codegen.specs.Compiled.{prg_of, starts_of};
 ghost use Rattle.tb_disasm.specs.Back.{GivesBack};
 ghost use Rattle.tb_listing.specs.Comments.{ShowsLines, comment_on, comments, plain};

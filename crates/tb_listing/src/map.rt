@@ -2,7 +2,7 @@
 ghost use Rattle.std.specs.Prelude.{◌≡◌, ◌≤◌, ◌+◌, ◌-◌, ◌++◌, ◌∷◌, [], IfOk, OnOk, map, drop, length, replicate};
 ghost use Rattle.tb_syntax.specs.PlainData.{lines_of};
 ghost use Rattle.tb_meaning.specs.Cost as cost;
-ghost use Rattle.tb_runtime16.specs.Places.{PROLOGUE_AT};
+ghost use Rattle.tb_runtime16.specs.Addresses.{PROLOGUE_AT};
 ghost use Rattle.tb_codegen.specs.Compiled.{most_cost, pair_of, prg_of, starts_of, table_of};
 ghost use Rattle.tb_codegen.specs.Texts.{end_before};
 ghost use Rattle.tb_listing.specs.Map.{left, right, row_text, rows_text, first_part, line_parts, block_part, table_part, map_text};

@@ -16,12 +16,12 @@ use Rattle.tb_cpu.specs.declared.wrong.Wrong.TheVariants.{Closed, Brk}
 use Rattle.tb_cpu.specs.Effects.{status_flags}
 use Rattle.tb_cpu.specs.Operands.{Reader, reading, and_then, operand_of, is_accumulator, word_from}
 use Rattle.tb_cpu.specs.Instructions.{Outcome, executed, executed_on_a, advanced, instruction, outcome, finished, unchanged, next, pulled as pulled_byte}
-use Rattle.tb_kernal.specs.declared.places.Service.TheVariants.{Chrout, Chrin, Getin}
+use Rattle.tb_kernal.specs.declared.rom.Service.TheVariants.{Chrout, Chrin, Getin}
 use Rattle.tb_kernal.specs.declared.events.Clobber.{Clobber}
 use Rattle.tb_kernal.specs.declared.events.Event.TheVariants.{Go, Interrupt}
 use Rattle.tb_kernal.specs.declared.status.Status.{Status}
 use Rattle.tb_kernal.specs.declared.status.Status.TheVariants.{Running, Waits, Returned, Wrong as WentWrong}
-use Rattle.tb_kernal.specs.Places.{all_writable, service_at}
+use Rattle.tb_kernal.specs.Rom.{all_writable, service_at}
 use Rattle.tb_kernal.specs.Machine.{State, status, status_by, is_home, waits_for, happens, gone, gone_at, stepped, interrupted, is_lawful, is_stopped}
 use Rattle.tb_kernal.proofs.Keeping.{written_keeps}
 use Rattle.tb_reaching.specs.View.{View, Setup, At, Stays, Part, Holds, Fits, Stacked, with_s, is_data, is_program, is_fixed}

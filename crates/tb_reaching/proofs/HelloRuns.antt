@@ -7,7 +7,7 @@ use Rattle.tb_memmap.specs.Bytes.{with_byte}
 use Rattle.tb_memmap.specs.Regions.{CODE_START}
 use Rattle.tb_opcodes.specs.declared.Mnemonic.TheVariants.{Lda}
 use Rattle.tb_opcodes.specs.declared.Mode.TheVariants.{IndirectY}
-use Rattle.tb_kernal.specs.declared.places.Service.TheVariants.{Chrout}
+use Rattle.tb_kernal.specs.declared.rom.Service.TheVariants.{Chrout}
 use Rattle.tb_reaching.specs.declared.example.TheConstants.{HELLO}
 use Rattle.tb_kernal.specs.Machine.{State}
 use Rattle.tb_kernal.specs.Runs.{run}

@@ -5,13 +5,13 @@ use Rattle.std.proofs.lemmas.Bool.{ne_eqb, eq-eqb, leb-true}
 use Rattle.tb_memmap.specs.Bytes.{written}
 use Rattle.tb_cpu.specs.declared.registers.Regs.{Regs}
 use Rattle.tb_cpu.specs.Operands.{word_from}
-use Rattle.tb_kernal.specs.declared.places.Service.{Service}
-use Rattle.tb_kernal.specs.declared.places.Service.TheVariants.{Chrout, Chrin, Getin}
+use Rattle.tb_kernal.specs.declared.rom.Service.{Service}
+use Rattle.tb_kernal.specs.declared.rom.Service.TheVariants.{Chrout, Chrin, Getin}
 use Rattle.tb_kernal.specs.declared.events.Clobber.{Clobber}
 use Rattle.tb_kernal.specs.declared.events.Event.{Event}
 use Rattle.tb_kernal.specs.declared.events.Event.TheVariants.{Go, Interrupt}
 use Rattle.tb_kernal.specs.declared.status.Status.TheVariants.{Running, Waits, Returned}
-use Rattle.tb_kernal.specs.Places.{all_writable, service_at}
+use Rattle.tb_kernal.specs.Rom.{all_writable, service_at}
 use Rattle.tb_kernal.specs.Machine.{State, status, status_by, waits_for, happens, gone, gone_at, served, after_service, clobbered, returned, first_or_zero}
 use Rattle.tb_kernal.specs.Machine.{interrupted, is_lawful, is_lawful_go, is_lawful_event, is_stopped}
 use Rattle.tb_reaching.specs.View.{View, Setup, At, Fits, Comes, with_s, back_at}

@@ -5,7 +5,7 @@ use Rattle.std.proofs.Common.{if◌then◌else◌, length-append}
 use Rattle.std.proofs.lemmas.Bool.{ne_eqb, eq-eqb, cases_eq, cases_lt, lt-leb, le-leb, false≢true, and_left, and_right}
 use Rattle.tb_cpu.specs.Operands.{word_in}
 use Rattle.tb_memmap.specs.Bytes.{with_byte}
-use Rattle.tb_kernal.specs.declared.places.Service.TheVariants.{Chrin}
+use Rattle.tb_kernal.specs.declared.rom.Service.TheVariants.{Chrin}
 use Rattle.tb_reaching.specs.View.{View, Setup, Holds, Fits, Comes, view, back_at}
 use Rattle.tb_reaching.specs.Start.{IsHome}
 use Rattle.tb_reaching.proofs.Comes.{looser}
@@ -13,7 +13,7 @@ use Rattle.tb_reaching.proofs.Services.{serving}
 use Rattle.tb_reaching.proofs.Calls.{framed, under}
 use Rattle.tb_meaning.specs.Control.{column_after, fault_text}
 use Rattle.tb_meaning.specs.Input.{Reading, Nothing, Sign, Digits, Turn, Got, Bad, with_digit, number_end, signed_turn, turn}
-use Rattle.tb_runtime16.specs.Places.{INPUT_AT, SEND_AT, COLUMN, LEFT, RESULT, HOME_S, LINE, BYTE, OPEN, SCRATCH}
+use Rattle.tb_runtime16.specs.Addresses.{INPUT_AT, SEND_AT, COLUMN, LEFT, RESULT, HOME_S, LINE, BYTE, OPEN, SCRATCH}
 use Rattle.tb_runtime16.specs.Block.{block_part}
 use Rattle.tb_runtime16.specs.Ends.{Entered}
 use Rattle.tb_runtime16.specs.Input.{MINUS, is_changed, turn_sends, Ended, InputLaw}

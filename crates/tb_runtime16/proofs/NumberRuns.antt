@@ -11,7 +11,7 @@ use Rattle.tb_reaching.proofs.Comes.{after, looser}
 use Rattle.tb_reaching.proofs.Calls.{under}
 use Rattle.tb_reaching.proofs.Memory.{put_other}
 use Rattle.tb_words.specs.Words.{is_negative, magnitude, negated, digits_before, digits_of}
-use Rattle.tb_runtime16.specs.Places.{SEND_AT, NUMBER_AT, COLUMN, LEFT, RIGHT}
+use Rattle.tb_runtime16.specs.Addresses.{SEND_AT, NUMBER_AT, COLUMN, LEFT, RIGHT}
 use Rattle.tb_runtime16.specs.Block.{block_part}
 use Rattle.tb_runtime16.specs.Laws.{is_argument, negate_left_at, Back, Sent, NumberLaw}
 use Rattle.tb_runtime16.proofs.InMemory.{IsWord, bytes_of, of_word}

@@ -11,7 +11,7 @@ use Rattle.tb_reaching.specs.View.{Setup, View, Holds, Fits, Comes, view}
 use Rattle.tb_reaching.proofs.Comes.{after, ending, looser}
 use Rattle.tb_reaching.proofs.Calls.{under}
 use Rattle.tb_words.specs.Words.{word, seed_after}
-use Rattle.tb_runtime16.specs.Places.{MULTIPLY_AT, RANDOM_AT, LEFT, RIGHT, RESULT, SEED, SEEDED, SCRATCH}
+use Rattle.tb_runtime16.specs.Addresses.{MULTIPLY_AT, RANDOM_AT, LEFT, RIGHT, RESULT, SEED, SEEDED, SCRATCH}
 use Rattle.tb_runtime16.specs.Block.{block_part}
 use Rattle.tb_runtime16.specs.Laws.{is_argument, is_seed, unsigned_at, Back, Faults, Drawn, seed_of, RandomLaw, RandomRangeLaw}
 use Rattle.tb_runtime16.proofs.InMemory.{IsWord, bytes_of, holds_word, of_word, same_place, value}

@@ -6,7 +6,7 @@ use Rattle.tb_reaching.specs.View.{View, Setup, Holds, Fits, Comes, view, back_a
 use Rattle.tb_reaching.specs.Start.{IsHome, IsWaiting}
 use Rattle.tb_meaning.specs.Control.{column_after, fault_text}
 use Rattle.tb_meaning.specs.Input.{Nothing, Turn, Got, Bad, Dry, turn}
-use Rattle.tb_runtime16.specs.Places.{INPUT_AT, COLUMN, LEFT, RESULT, LINE, BYTE, OPEN, SCRATCH}
+use Rattle.tb_runtime16.specs.Addresses.{INPUT_AT, COLUMN, LEFT, RESULT, LINE, BYTE, OPEN, SCRATCH}
 use Rattle.tb_runtime16.specs.Block.{block_part}
 use Rattle.tb_runtime16.specs.Ends.{Entered}
 use Rattle.tb_runtime16.specs.Laws.{WordAt, Leaves, Gives}

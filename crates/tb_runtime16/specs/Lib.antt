@@ -1,4 +1,4 @@
-pub mod Places
+pub mod Addresses
 pub mod Pinned
 pub mod Block
 pub mod Laws

@@ -3,7 +3,7 @@ use Rattle.std.specs.Prelude.{◌≡◌, ◌<◌, ◌≤◌, Bool, ℕ, List, []
 use Rattle.tb_memmap.specs.Regions.{within}
 use Rattle.tb_reaching.specs.View.{Setup, Holds, Fits, Comes, view}
 use Rattle.tb_meaning.specs.Control.{deepest}
-use Rattle.tb_runtime16.specs.Places.{PUSH_AT, POP_AT, LEFT, RESULT, NOTES, NOTE_LOW, NOTE_HIGH}
+use Rattle.tb_runtime16.specs.Addresses.{PUSH_AT, POP_AT, LEFT, RESULT, NOTES, NOTE_LOW, NOTE_HIGH}
 use Rattle.tb_runtime16.specs.Block.{block_part}
 use Rattle.tb_runtime16.specs.Laws.{WordAt, Changes, Back, Faults, Gives}
 

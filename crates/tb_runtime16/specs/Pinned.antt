@@ -1,8 +1,8 @@
 -- The public constants are the places that the definitions speak of.
 use Rattle.std.specs.Prelude.{◌≡◌}
-use Rattle.tb_runtime16.specs.declared.places.TheConstants as public
-use Rattle.tb_runtime16.specs.Places.{PROLOGUE_AT, LINES_AT, POINTER, VARS, COLUMN, OPEN, SEEDED, HOME_S, SEED, LINE, NOTES, SLOTS, HELD, LEFT, RIGHT, RESULT}
-use Rattle.tb_runtime16.specs.Places.{TABLE, WANTED, COUNT, LENGTH, BYTE, SCRATCH, NOTE_LOW, NOTE_HIGH}
+use Rattle.tb_runtime16.specs.declared.addresses.TheConstants as public
+use Rattle.tb_runtime16.specs.Addresses.{PROLOGUE_AT, LINES_AT, POINTER, VARS, COLUMN, OPEN, SEEDED, HOME_S, SEED, LINE, NOTES, SLOTS, HELD, LEFT, RIGHT, RESULT}
+use Rattle.tb_runtime16.specs.Addresses.{TABLE, WANTED, COUNT, LENGTH, BYTE, SCRATCH, NOTE_LOW, NOTE_HIGH}
 
 -- of the code
 abbrev pub CodeStands : Type 0
@@ -25,5 +25,5 @@ abbrev pub WorkStands : Type 0
 WorkStands = (public.SLOTS ≡ SLOTS) × (public.HELD ≡ HELD) × (public.BYTE ≡ BYTE) × (public.SCRATCH ≡ SCRATCH)
 
 -- all of these: each public constant is the place that the definitions have for it
-abbrev pub ConstantsArePlaces : Type 0
-ConstantsArePlaces = CodeStands × (ArgumentsStand × (StateStands × WorkStands))
+abbrev pub ConstantsAreAddresses : Type 0
+ConstantsAreAddresses = CodeStands × (ArgumentsStand × (StateStands × WorkStands))

@@ -3,10 +3,10 @@
 //! makes the block and each routine by itself.
 //! Addresses inside the block are those of `targets`, which follow from the routines' lengths.
 ghost use Rattle.std.specs.Prelude.{◌≡◌, ◌≤◌, ◌+◌, length};
-ghost use Rattle.tb_runtime16.specs.Places.{PROLOGUE_AT, LINES_AT};
+ghost use Rattle.tb_runtime16.specs.Addresses.{PROLOGUE_AT, LINES_AT};
 ghost use Rattle.tb_runtime16.specs.Block.{block_bytes};
 
-use crate::places::{
+use crate::addresses::{
     BLOCK_LENGTH, DIVIDE_LENGTH, FAULT_LENGTH, FAULT_LINE_LENGTH, INPUT_LENGTH, MULTIPLY_LENGTH,
     NUMBER_LENGTH, POLL_LENGTH, POP_LENGTH, PROLOGUE_LENGTH, PUSH_LENGTH, RANDOM_LENGTH,
     SEARCH_LENGTH, SEND_LENGTH, TEXT_LENGTH, ZONE_LENGTH,

@@ -6,12 +6,12 @@ use Rattle.std.specs.Prelude.{slice_index}
 use Rattle.tb_cpu.specs.Effects.{bit}
 use Rattle.tb_simulation.proofs.Mirrors.{HoldsState, notes_of}
 use Rattle.tb_simulation.proofs.Pieces.{put_word}
-use Rattle.tb_simulation.specs.Layout.{Layout, place_at}
+use Rattle.tb_simulation.specs.Layout.{Layout, place_address}
 use Rattle.tb_runtime16.specs.Routines.{Noted, SeedAt, WordAt, first, is_state, stored}
 use Rattle.tb_meaning.specs.Control.{Place, State, column_after}
 use Rattle.tb_memmap.specs.Bytes.{with_byte}
 use Rattle.tb_reaching.proofs.Memory.{put_other, put_same}
-use Rattle.tb_runtime16.specs.Places.{COLUMN, LINE, NOTES, OPEN, SEED, SEEDED}
+use Rattle.tb_runtime16.specs.Addresses.{COLUMN, LINE, NOTES, OPEN, SEED, SEEDED}
 use Rattle.tb_templates.specs.Templates.{var_at}
 use Rattle.std.proofs.lemmas.Bool.Decides.{nat_tests}
 
@@ -58,7 +58,7 @@ noted_kept m m' (n ∷ ns) few s h = (
 )
 
 pub notes_kept : (ly : Layout) (m m' : ℕ → ℕ) (ps : List Place) → length ps ≤ 500 → Same m m' 0xC100 0xC4F3 → Noted m (notes_of ly ps) → Noted m' (notes_of ly ps)
-notes_kept ly m m' ps few s h = noted_kept m m' (notes_of ly ps) (omega (arith, few, length-map ps (place_at ly))) s h
+notes_kept ly m m' ps few s h = noted_kept m m' (notes_of ly ps) (omega (arith, few, length-map ps (place_address ly))) s h
 
 -- the column behind bytes that are sent
 pub column_mod : (c : ℕ) (t : List ℕ) → column_after (c % 256) t % 256 ≡ column_after c t % 256

@@ -6,9 +6,9 @@ use Rattle.std.proofs.lemmas.Bool.{ne_eqb, eq-eqb, eqb-true, cases_lt}
 use Rattle.std.proofs.Math.Bool.{or-true}
 use Rattle.tb_kernal.specs.declared.events.Event.{Event}
 use Rattle.tb_kernal.specs.declared.events.Event.TheVariants.{Go, Interrupt}
-use Rattle.tb_kernal.specs.declared.places.Service.{Service}
-use Rattle.tb_kernal.specs.declared.places.Service.TheVariants.{Chrout, Chrin, Getin}
-use Rattle.tb_kernal.specs.Places.{service_at}
+use Rattle.tb_kernal.specs.declared.rom.Service.{Service}
+use Rattle.tb_kernal.specs.declared.rom.Service.TheVariants.{Chrout, Chrin, Getin}
+use Rattle.tb_kernal.specs.Rom.{service_at}
 use Rattle.tb_kernal.specs.Machine as machine
 use Rattle.tb_kernal.specs.Machine.{happens, is_lawful}
 use Rattle.tb_kernal.specs.Runs.{all_lawful, goes, is_own, run}
@@ -25,10 +25,10 @@ use Rattle.tb_meaning.specs.Control as control
 use Rattle.tb_meaning.specs.Meaning.{source_run}
 use Rattle.tb_lower.specs.Follows.{Follows, longest}
 use Rattle.tb_lower.specs.Slots.{Instr, SlotCode, SlotState, Rest, Whole, Left}
-use Rattle.tb_runtime16.specs.Places.{NOTES}
+use Rattle.tb_runtime16.specs.Addresses.{NOTES}
 use Rattle.tb_templates.specs.Templates.{var_at}
 use Rattle.tb_simulation.specs.Kept.{Starts}
-use Rattle.tb_simulation.specs.Layout.{Layout, is_start, inner, place_at}
+use Rattle.tb_simulation.specs.Layout.{Layout, is_start, inner, place_address}
 use Rattle.tb_runtime16.specs.Routines.{Noted, WordAt}
 use Rattle.tb_simulation.proofs.Inductions as keeps
 use Rattle.tb_simulation.proofs.Inductions.{lawful_back, on_way, run_back, there}
@@ -95,7 +95,7 @@ pub record AreApart (ly : Layout) (sc : SlotCode) : Type 0 where
 
 -- what stands in a view where a run is between lines
 pub record Known (ly : Layout) (s : State) (w : View) : Type 0 where
-  pub pc : w.regs.pc ≡ place_at ly s.place
+  pub pc : w.regs.pc ≡ place_address ly s.place
   pub vars : (x : ℕ) → x < 26 → WordAt w.mem (var_at x) (slice_index s.vars x)
   pub count : WordAt w.mem NOTES (length s.returns)
   pub noted : Noted w.mem (notes_of ly s.returns)
@@ -148,7 +148,7 @@ module _ (place : ℕ) (bytes : List ℕ) (from : 0x0800 ≤ place) (to : place 
           ∙ ap (λ ns. count 1 (is_start ly.start ns (ly.start m))) (sym apart.numbered) ∙ ap (count 1) (found_start ly.start sc m is e)
       at_number m None e p = ap (λ a. count 1 (is_start ly.start ly.numbers a)) (pc_here f r.0 t r.1 ∙ p ∙ apart.absent m e) ∙ ap (count 1) apart.past
 
-      at_place : (p : Place) → r.0.regs.pc ≡ place_at ly p → starts ly t ≡ lines_at sc Whole p
+      at_place : (p : Place) → r.0.regs.pc ≡ place_address ly p → starts ly t ≡ lines_at sc Whole p
       at_place Past at = ap (λ a. count 1 (is_start ly.start ly.numbers a)) (pc_here f r.0 t r.1 ∙ at) ∙ ap (count 1) apart.past
       at_place (control.At m) at = at_number m (content_at sc m) refl at
 
@@ -203,7 +203,7 @@ module _ (place : ℕ) (bytes : List ℕ) (from : 0x0800 ≤ place) (to : place 
         number = a.number;
         done = a.done;
         at_place = a.place;
-        pc = pc_here f w t at ∙ there.pc ∙ ap (place_at ly) a.place;
+        pc = pc_here f w t at ∙ there.pc ∙ ap (place_address ly) a.place;
         vars = λ x lt. word_kept w.mem t.mem (var_at x) (slice_index a.state.vars x)
             (fixed (var_at x) (word_in_data (var_at x) (omega arith) (omega (arith, lt))).0)
             (fixed (var_at x + 1) (word_in_data (var_at x) (omega arith) (omega (arith, lt))).1) (there.vars x lt);

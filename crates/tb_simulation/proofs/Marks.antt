@@ -15,10 +15,10 @@ use Rattle.tb_meaning.specs.Meaning.{source_run}
 use Rattle.tb_lower.specs.Follows.{Follows, longest}
 use Rattle.tb_lower.specs.Slots.{Instr, SlotCode, SlotState, Whole}
 use Rattle.tb_simulation.specs.Kept.{Starts}
-use Rattle.tb_simulation.specs.Layout.{Layout, is_start, place_at}
+use Rattle.tb_simulation.specs.Layout.{Layout, is_start, place_address}
 use Rattle.tb_simulation.specs.LineStarts.{begun, BeginsLine, HoldsReturns, LineComes, MarksLines, StandsFor, note_at}
 use Rattle.tb_runtime16.specs.Notes.{NoteAt, Noted}
-use Rattle.tb_runtime16.specs.Places.{NOTE_HIGH, NOTE_LOW}
+use Rattle.tb_runtime16.specs.Addresses.{NOTE_HIGH, NOTE_LOW}
 use Rattle.tb_simulation.proofs.Mirrors.{notes_of}
 use Rattle.tb_runtime16.proofs.InMemory.{value}
 use Rattle.tb_simulation.proofs.Starts as lines
@@ -48,14 +48,14 @@ returns_held : (ly : Layout) (m : ℕ → ℕ) (ps : List Place) → is_start ly
 returns_held ly m [] past have noted = tt
 returns_held ly m (p ∷ ps) past have noted = (place_held p have.0 (note_is ps noted.0), returns_held ly m ps past have.1 noted.1)
   where
-    note_is : (ps : List Place) → NoteAt m (length (notes_of ly ps)) (place_at ly p) → note_at m (length ps) ≡ place_at ly p
+    note_is : (ps : List Place) → NoteAt m (length (notes_of ly ps)) (place_address ly p) → note_at m (length ps) ≡ place_address ly p
     note_is ps h =
-        let many : length (notes_of ly ps) ≡ length ps = length-map ps (place_at ly) in
+        let many : length (notes_of ly ps) ≡ length ps = length-map ps (place_address ly) in
         let low = ap (λ k. m (NOTE_LOW + k)) (sym many) ∙ h.low in
         let high = ap (λ k. m (NOTE_HIGH + k)) (sym many) ∙ h.high in
         omega (arith, low, high)
 
-    place_held : (q : Place) → HasLine ly.numbers q → note_at m (length ps) ≡ place_at ly q → StandsFor ly.start ly.numbers q (note_at m (length ps))
+    place_held : (q : Place) → HasLine ly.numbers q → note_at m (length ps) ≡ place_address ly q → StandsFor ly.start ly.numbers q (note_at m (length ps))
     place_held (At n) has is = (has, is)
     place_held Past has is = ap (is_start ly.start ly.numbers) is ∙ past
 

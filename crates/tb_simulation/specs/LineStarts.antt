@@ -11,7 +11,7 @@ use Rattle.tb_syntax.specs.Source.{Program, numbers}
 use Rattle.tb_meaning.specs.Steps.{GoesOn}
 use Rattle.tb_meaning.specs.Control.{At, Past, Place, State, deepest, has_line}
 use Rattle.tb_meaning.specs.Meaning.{source_run}
-use Rattle.tb_runtime16.specs.Places.{NOTES, NOTE_HIGH, NOTE_LOW}
+use Rattle.tb_runtime16.specs.Addresses.{NOTES, NOTE_HIGH, NOTE_LOW}
 use Rattle.tb_templates.specs.Templates.{var_at}
 use Rattle.tb_simulation.specs.Kept.{Starts}
 use Rattle.tb_simulation.specs.Layout.{is_start}

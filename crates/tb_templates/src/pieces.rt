@@ -2,7 +2,7 @@
 ghost use Rattle.std.specs.Prelude.{◌≡◌, ◌+◌, ◌<◌, ◌≤◌, OnOk, [], ◌∷◌, ◌++◌, map};
 ghost use Rattle.tb_asm.specs.Layout.{entry_of};
 ghost use Rattle.tb_templates.specs.Templates as templates;
-ghost use Rattle.tb_runtime16.specs.Places as places;
+ghost use Rattle.tb_runtime16.specs.Addresses as places;
 
 use crate::labels::{Target, label};
 use std::alloc::AllocError;

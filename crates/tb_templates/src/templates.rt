@@ -9,7 +9,7 @@ ghost use Rattle.tb_templates.specs.declared.labels.Inner.TheVariants as inner;
 ghost use Rattle.tb_templates.specs.declared.labels.Target.TheVariants as target;
 ghost use Rattle.tb_templates.specs.Templates as templates;
 ghost use Rattle.tb_templates.specs.Templates.{template};
-ghost use Rattle.tb_runtime16.specs.Places as places;
+ghost use Rattle.tb_runtime16.specs.Addresses as places;
 ghost use Rattle.tb_templates.specs.Program.{RisingFrom};
 
 use crate::labels::{Inner, Target};

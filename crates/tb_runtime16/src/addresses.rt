@@ -1,7 +1,7 @@
 //! Where a program's data and the block's routines stand. All data places are owned: no ROM writes them. A word stands low byte first.
 ghost use Rattle.std.specs.Prelude.{◌≡◌};
 ghost use Rattle.tb_runtime16.specs.Block.{StandAt, bytes_of};
-ghost use Rattle.tb_runtime16.specs.Places.{entry_of};
+ghost use Rattle.tb_runtime16.specs.Addresses.{entry_of};
 
 use tb_memmap::CODE_START;
 
