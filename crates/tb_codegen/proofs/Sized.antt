@@ -151,7 +151,8 @@ pub record IsSettling (seed : ℕ) (code : SlotCode) : Type 0 where
   pub ends : PROLOGUE_AT + most_bytes (program_code seed code) ≤ 0xA000
   pub suits : Suits PROLOGUE_AT (program_code seed code)
 
-settling_code : (seed : ℕ) (p : Program) → AreSmall p → RisesFrom 0 (numbers p) → IsCodeInRange 256 (lowered.program_code p) → cost p ≤ most_cost → IsSettling seed (lowered.program_code p)
+settling_code : (seed : ℕ) (p : Program) → AreSmall p → RisesFrom 0 (numbers p) → IsCodeInRange 256 (lowered.program_code p) → cost p ≤ most_cost
+    → IsSettling seed (lowered.program_code p)
 settling_code seed p small rises ranges cheap =
     let code = lowered.program_code p in
     let a = program_fits p (small_spaced p small) in

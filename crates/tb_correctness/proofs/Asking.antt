@@ -130,7 +130,7 @@ module _ (around : Surroundings) (fits : Fits around.f 16) (limit : ℕ) (rs : S
     kept_polled = kept_lined h
 
     answered_state : (left : List ℕ) (m : ℕ → ℕ) → HoldsState ly s m → HoldsState ly (record s { answers = left }) m
-    answered_state left m hs = record { vars = hs.vars; column = hs.column; opened = hs.opened; seeded = hs.seeded; count = hs.count; notes = hs.notes; few = hs.few; all_vars = hs.all_vars }
+    answered_state left m hs = record { vars = hs.vars; column = hs.column; opened = hs.opened; seeded = hs.seeded; count = hs.count; returns = hs.returns; few = hs.few; all_vars = hs.all_vars }
 
     pub poll_law : (left : List ℕ) → drop 1 s.answers ≡ left → AreBytes left → nat_eq (first_or_zero s.answers) 3 ≡ false
         → Comes f w (Matches around (line code n is (record s { answers = left }) r)) [] (5 + limit)

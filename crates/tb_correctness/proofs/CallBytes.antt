@@ -14,7 +14,7 @@ use Rattle.tb_reaching.proofs.Instr.{ins}
 use Rattle.tb_meaning.specs.Control.{has_line}
 use Rattle.tb_lower.specs.Ranges.{AreInRange}
 use Rattle.tb_lower.specs.Slots as slots
-use Rattle.tb_runtime16.specs.Addresses.{LEFT, LINE, NOTES, NOTE_HIGH, NOTE_LOW, POP_AT, PUSH_AT, RESULT}
+use Rattle.tb_runtime16.specs.Addresses.{LEFT, LINE, NOTES, RETURN_HIGH, RETURN_LOW, POP_AT, PUSH_AT, RESULT}
 use Rattle.tb_selection.specs.Groups.{Constant, Group, Calculate, Stepped, Single, slot_of, expand, Remains}
 use Rattle.tb_templates.specs.declared.labels.Inner.TheVariants as inside
 use Rattle.tb_templates.specs.declared.labels.Target.TheVariants as target
@@ -74,14 +74,14 @@ module _ (labels : List (Name × ℕ)) (ns : List ℕ) (seed n : ℕ) (seed_smal
     asked_bytes place = record { same = λ a. refl }
 
     abbrev storing : List Entry
-    storing = product.at Ldx NOTES ∷ product.low_part (next_line ns n) ∷ product.by_x Sta NOTE_LOW ∷ product.high_part (next_line ns n)
-        ∷ product.by_x Sta NOTE_HIGH ∷ product.at Inc NOTES ∷ []
+    storing = product.at Ldx NOTES ∷ product.low_part (next_line ns n) ∷ product.by_x Sta RETURN_LOW ∷ product.high_part (next_line ns n)
+        ∷ product.by_x Sta RETURN_HIGH ∷ product.at Inc NOTES ∷ []
 
-    storing_bytes : AllEncode labels storing (coded.note_stored (next_at ly n % 256) (next_at ly n / 256))
+    storing_bytes : AllEncode labels storing (coded.return_stored (next_at ly n % 256) (next_at ly n / 256))
     unfolding opcodes.encoded
     storing_bytes = record {
       same = λ a. λ i. 0xae ∷ NOTES % 256 ∷ NOTES / 256
-          ∷ (low_made.same a i ++ (0x9d ∷ NOTE_LOW % 256 ∷ NOTE_LOW / 256 ∷ (high_made.same a i ++ (0x9d ∷ NOTE_HIGH % 256 ∷ NOTE_HIGH / 256 ∷ 0xee
+          ∷ (low_made.same a i ++ (0x9d ∷ RETURN_LOW % 256 ∷ RETURN_LOW / 256 ∷ (high_made.same a i ++ (0x9d ∷ RETURN_HIGH % 256 ∷ RETURN_HIGH / 256 ∷ 0xee
           ∷ NOTES % 256 ∷ NOTES / 256 ∷ []))));
     }
 
@@ -90,9 +90,9 @@ module _ (labels : List (Name × ℕ)) (ns : List ℕ) (seed n : ℕ) (seed_smal
     raising_bytes = record { same = λ a. refl }
 
     abbrev taking : List Entry
-    taking = product.alone Dex ∷ product.at Stx NOTES ∷ product.by_x Lda NOTE_LOW ∷ product.at Sta RESULT ∷ product.by_x Lda NOTE_HIGH ∷ product.at Sta (RESULT + 1) ∷ []
+    taking = product.alone Dex ∷ product.at Stx NOTES ∷ product.by_x Lda RETURN_LOW ∷ product.at Sta RESULT ∷ product.by_x Lda RETURN_HIGH ∷ product.at Sta (RESULT + 1) ∷ []
 
-    taking_bytes : AllEncode labels taking coded.note_taken
+    taking_bytes : AllEncode labels taking coded.return_taken
     unfolding opcodes.encoded
     taking_bytes = record { same = λ a. refl }
 
@@ -117,7 +117,7 @@ module _ (labels : List (Name × ℕ)) (ns : List ℕ) (seed n : ℕ) (seed_smal
 
       -- behind its branches
       abbrev pushing : List Entry
-      pushing = product.constant n LINE ++ (product.note (next_line ns n) ++ going)
+      pushing = product.constant n LINE ++ (product.return_address (next_line ns n) ++ going)
 
       abbrev onward : List Entry
       onward = product.at Inc (NOTES + 1) ∷ label skip ∷ (going ++ (label over ∷ pushing))
@@ -133,18 +133,18 @@ module _ (labels : List (Name × ℕ)) (ns : List ℕ) (seed n : ℕ) (seed_smal
         c2 = behind_branch labels _ first Bne over _ c1
 
         c3 : Rest labels (coded.counted_at first at) (formed second Bne skip ∷ map kept onward)
-        c3 = behind_straight labels _ storing (coded.note_stored (next_at ly n % 256) (next_at ly n / 256)) _ storing_bytes c2
+        c3 = behind_straight labels _ storing (coded.return_stored (next_at ly n % 256) (next_at ly n / 256)) _ storing_bytes c2
 
         c4 : Rest labels (coded.counted_at first at + way_size second) (map kept onward)
         c4 = behind_branch labels _ second Bne skip _ c3
 
-        c5 : Rest labels (coded.noted_at first second at) (map kept (label skip ∷ (going ++ (label over ∷ pushing))))
+        c5 : Rest labels (coded.held_at first second at) (map kept (label skip ∷ (going ++ (label over ∷ pushing))))
         c5 = behind_straight labels _ (product.at Inc (NOTES + 1) ∷ []) (ins 0xEE (NOTES + 1) ∷ []) _ raising_bytes c4
 
         c6 : Rest labels (coded.pushing_at first second at) (map kept (label over ∷ pushing))
         c6 = behind_straight labels _ going (resolved.jump (ly.start to)) _ going_bytes (behind_label labels _ skip _ c5)
 
-        skip_there : address_in labels skip ≡ Some (coded.noted_at first second at)
+        skip_there : address_in labels skip ≡ Some (coded.held_at first second at)
         skip_there = label_here labels _ skip _ c5
 
         over_there : address_in labels over ≡ Some (coded.pushing_at first second at)
@@ -156,7 +156,7 @@ module _ (labels : List (Name × ℕ)) (ns : List ℕ) (seed n : ℕ) (seed_smal
           second,
           block labels (asked (NOTES + 1)) (coded.asked (NOTES + 1)) ((asked_bytes (NOTES + 1)).same at)
               (branches labels first Zero false over (let q = c1.below in omega (arith, q)) (value_of labels over _ over_there)
-              (block labels storing (coded.note_stored (next_at ly n % 256) (next_at ly n / 256)) (storing_bytes.same 0)
+              (block labels storing (coded.return_stored (next_at ly n % 256) (next_at ly n / 256)) (storing_bytes.same 0)
               (branches labels second Zero false skip (let q = c3.below in omega (arith, q)) (value_of labels skip _ skip_there)
               (block labels (product.at Inc (NOTES + 1) ∷ []) (ins 0xEE (NOTES + 1) ∷ []) (raising_bytes.same 0)
               (labelled labels skip
@@ -224,7 +224,7 @@ module _ (labels : List (Name × ℕ)) (ns : List ℕ) (seed n : ℕ) (seed_smal
         r4 = behind_branch labels _ second Beq over _ r3
 
         r5 : Rest labels (coded.some_at first at + 3 + way_size second + 16) (map kept (product.jump_through ++ (label over ∷ popping)))
-        r5 = behind_straight labels _ taking coded.note_taken _ taking_bytes r4
+        r5 = behind_straight labels _ taking coded.return_taken _ taking_bytes r4
 
         r6 : Rest labels (coded.popping_at first second at) (map kept (label over ∷ popping))
         r6 = behind_straight labels _ product.jump_through resolved.jump_through _ through_bytes r5
@@ -244,7 +244,7 @@ module _ (labels : List (Name × ℕ)) (ns : List ℕ) (seed n : ℕ) (seed_smal
               (branches labels first Zero false over (let q = r1.below in omega (arith, q)) (value_of labels over _ end_there)
               (block labels (asked NOTES) (coded.asked NOTES) ((asked_bytes NOTES).same 0)
               (branches labels second Zero true over (let q = r3.below in omega (arith, q)) (value_of labels over _ end_there)
-              (block labels taking coded.note_taken (taking_bytes.same 0)
+              (block labels taking coded.return_taken (taking_bytes.same 0)
               (block labels product.jump_through resolved.jump_through (through_bytes.same 0)
               (labelled labels over
               (block labels (product.constant n LINE) (resolved.constant n LINE) (line_set.same 0)

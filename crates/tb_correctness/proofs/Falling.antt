@@ -38,7 +38,7 @@ module _ (around : Surroundings) where
           binary = h.binary;
           text = h.text;
           answers = h.answers;
-          state = record { vars = k.vars; column = k.column; opened = k.opened; seeded = k.seeded; count = k.count; notes = k.notes; few = k.few; all_vars = k.all_vars };
+          state = record { vars = k.vars; column = k.column; opened = k.opened; seeded = k.seeded; count = k.count; returns = k.returns; few = k.few; all_vars = k.all_vars };
           read = h.read;
           homed = h.homed;
           short = h.short;

@@ -13,7 +13,7 @@ use Rattle.tb_runtime16.specs.Addresses.{COUNT, HOME_S, LEFT, LINE, NOTES, PUSH_
 use Rattle.tb_runtime16.proofs.StatePlaces.{not_pushed, not_searched}
 use Rattle.tb_simulation.specs.Layout.{next_at, place_address}
 use Rattle.tb_simulation.proofs.Frames.{state_pushed, word_away, word_kept, word_put}
-use Rattle.tb_simulation.proofs.Mirrors.{notes_of}
+use Rattle.tb_simulation.proofs.Mirrors.{return_addresses}
 use Rattle.tb_simulation.proofs.Pieces.{calls, jumps, jumps_through, points, put_word, sets}
 use Rattle.tb_simulation.proofs.Resolved.{Code, Lies, Piece, call, jump_through, pointed, size}
 use Rattle.tb_simulation.proofs.Returning.{back_here, behind_call, homed_kept}
@@ -200,16 +200,16 @@ module _ (around : Surroundings) (fits : Fits around.f 16) (limit : ℕ) (rs : S
           })) [] (34 + (limit + limit))
       call_found found free =
           let few : length s.returns < deepest = omega (arith, ltb-true _ _ free) in
-          let same : length (notes_of ly s.returns) ≡ length s.returns = length-map s.returns (place_address ly) in
+          let same : length (return_addresses ly s.returns) ≡ length s.returns = length-map s.returns (place_address ly) in
           looser f w _ _ [] (4 + (4 + (1 + (4 + (4 + (1 + (limit + (4 + (1 + (limit + 1)))))))))) (34 + (limit + limit)) (omega arith) (λ u x. x)
           (calls_push found _ [] (limit + 1) (λ u result l c v e.
-          chained f v _ _ [] [] limit 1 (rs.push _ _ (returning u) w.text w.answers (next_at ly n) (notes_of ly s.returns)
+          chained f v _ _ [] [] limit 1 (rs.push _ _ (returning u) w.text w.answers (next_at ly n) (return_addresses ly s.returns)
           (word_put u.mem LEFT _ _ _ refl refl (laid.places (next_after ly.numbers n))) (subst (λ k. WordAt (returning u) NOTES k)
-          (sym same) c.state.count) c.state.notes (omega (arith, few, same)) v e) (λ x g.
+          (sym same) c.state.count) c.state.returns (omega (arith, few, same)) v e) (λ x g.
           looser f x _ _ [] 1 1 (omega arith)
           (arrived around (record s { place = At place; returns = next_after ly.numbers n ∷ s.returns }) slots (ly.start place) x.mem w.text w.answers refl
           (state_pushed ly s (returning u) x.mem c.state (At place) (next_after ly.numbers n) few
-          (subst (λ k. WordAt x.mem NOTES (suc k)) same g.memory.notes.count) g.memory.notes.noted
+          (subst (λ k. WordAt x.mem NOTES (suc k)) same g.memory.returns.count) g.memory.returns.held
           (λ p from to z y. g.memory.others p (not_pushed p from to z y))) (all_slots h.read.all_words)
           (homed_kept (returning u) x.mem (g.memory.others HOME_S refl) c.homed)
           h.text h.answers h.short)
@@ -221,8 +221,8 @@ module _ (around : Surroundings) (fits : Fits around.f 16) (limit : ℕ) (rs : S
       call_full found full =
           let t = fault_text 4 n in
           looser f w _ _ t (4 + (4 + (1 + (4 + (4 + (1 + (limit + (4 + (1 + limit))))))))) (34 + (limit + limit)) (omega arith) (λ u x. x)
-          (calls_push found _ t limit (λ u result l c. rs.push_fails _ _ (returning u) w.text w.answers (notes_of ly s.returns) n
-          (subst (λ k. WordAt (returning u) NOTES k) (sym (length-map s.returns (place_address ly))) c.state.count) c.state.notes
+          (calls_push found _ t limit (λ u result l c. rs.push_fails _ _ (returning u) w.text w.answers (return_addresses ly s.returns) n
+          (subst (λ k. WordAt (returning u) NOTES k) (sym (length-map s.returns (place_address ly))) c.state.count) c.state.returns
           (omega (arith, ltb-false _ _ full, c.state.few, length-map s.returns (place_address ly))) l c.homed))
 
       pub call_fails : has_line ly.numbers place ≡ false → Comes f w (IsHome f) (fault_text 1 n) (19 + limit)

@@ -12,7 +12,7 @@ use Rattle.tb_correctness.proofs.Matching.{HoldsLive}
 
 -- another place
 pub state_placed : (ly : Layout) (p : Place) (s : State) (m : ℕ → ℕ) → HoldsState ly s m → HoldsState ly (record s { place = p }) m
-state_placed ly p s m h = record { vars = h.vars; column = h.column; opened = h.opened; seeded = h.seeded; count = h.count; notes = h.notes; few = h.few; all_vars = h.all_vars }
+state_placed ly p s m h = record { vars = h.vars; column = h.column; opened = h.opened; seeded = h.seeded; count = h.count; returns = h.returns; few = h.few; all_vars = h.all_vars }
 
 -- ---- what is live
 -- slots and the held word stand

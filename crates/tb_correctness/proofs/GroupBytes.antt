@@ -258,7 +258,7 @@ module _ (labels : List (Name × ℕ)) (ns : List ℕ) (seed n : ℕ) (seed_smal
     used_straight : (how : Usage) (x : Source) → list_all is_straight (items.used n (next_line ns n) how x) ≡ true
     used_straight AsNumber x = all_straight (items.brought x LEFT) (product.call NUMBER_AT ∷ []) (brought_straight x LEFT) refl
     used_straight AsLine x = all_straight (items.brought x WANTED) (product.find ∷ product.jump_through) (brought_straight x WANTED) refl
-    used_straight AsSubroutine x = all_straight (items.brought x WANTED) (product.find ∷ (product.note (next_line ns n) ++ product.jump_through)) (brought_straight x WANTED) refl
+    used_straight AsSubroutine x = all_straight (items.brought x WANTED) (product.find ∷ (product.return_address (next_line ns n) ++ product.jump_through)) (brought_straight x WANTED) refl
 
     used_emits : {at : ℕ} (how : Usage) (x : Source) → IsWord x → Emits labels at (map kept (items.used n (next_line ns n) how x)) (coded.use_code ly n how x)
     unfolding opcodes.encoded

@@ -13,7 +13,7 @@ use Rattle.tb_meaning.specs.Control.{Place, content_at, has_line, highest}
 use Rattle.tb_lower.specs.Ranges.{AreInRange}
 use Rattle.tb_lower.specs.Slots as slots
 use Rattle.tb_kernal.specs.declared.rom.TheConstants.{GETIN}
-use Rattle.tb_runtime16.specs.Addresses.{LEFT, RIGHT, RESULT, WANTED, LINE, NOTES, NOTE_LOW, NOTE_HIGH, MULTIPLY_AT, DIVIDE_AT, RANDOM_AT, NUMBER_AT, PUSH_AT, POP_AT}
+use Rattle.tb_runtime16.specs.Addresses.{LEFT, RIGHT, RESULT, WANTED, LINE, NOTES, RETURN_LOW, RETURN_HIGH, MULTIPLY_AT, DIVIDE_AT, RANDOM_AT, NUMBER_AT, PUSH_AT, POP_AT}
 use Rattle.tb_templates.specs.declared.sources.Source.{Source}
 use Rattle.tb_templates.specs.declared.sources.Source.TheVariants.{FixedWord, AtAddress}
 use Rattle.tb_templates.specs.GroupTemplates.{may_fault, may_be_zero, may_have_none}
@@ -451,22 +451,22 @@ abbrev pub asked : ℕ → List Instr
 asked place = ins 0xAE place ∷ []
 
 -- a note's two bytes go behind the others, and the low byte of their count goes up
-abbrev pub note_stored : (low high : ℕ) → List Instr
-note_stored low high = ins 0xAE NOTES ∷ ins 0xA9 low ∷ ins 0x9D NOTE_LOW ∷ ins 0xA9 high ∷ ins 0x9D NOTE_HIGH ∷ ins 0xEE NOTES ∷ []
+abbrev pub return_stored : (low high : ℕ) → List Instr
+return_stored low high = ins 0xAE NOTES ∷ ins 0xA9 low ∷ ins 0x9D RETURN_LOW ∷ ins 0xA9 high ∷ ins 0x9D RETURN_HIGH ∷ ins 0xEE NOTES ∷ []
 
 -- X is the low byte of the count of notes: it goes down, and the newest note's two bytes go to the result
-abbrev pub note_taken : List Instr
-note_taken = ins 0xCA 0 ∷ ins 0x8E NOTES ∷ ins 0xBD NOTE_LOW ∷ ins 0x8D RESULT ∷ ins 0xBD NOTE_HIGH ∷ ins 0x8D (RESULT + 1) ∷ []
+abbrev pub return_taken : List Instr
+return_taken = ins 0xCA 0 ∷ ins 0x8E NOTES ∷ ins 0xBD RETURN_LOW ∷ ins 0x8D RESULT ∷ ins 0xBD RETURN_HIGH ∷ ins 0x8D (RESULT + 1) ∷ []
 
 -- where the second branch of a call is, where the next line is noted, and where the routine does it
 abbrev pub counted_at : Way → ℕ → ℕ
 counted_at first at = at + 3 + way_size first + 16
 
-abbrev pub noted_at : (first second : Way) → ℕ → ℕ
-noted_at first second at = counted_at first at + way_size second + 3
+abbrev pub held_at : (first second : Way) → ℕ → ℕ
+held_at first second at = counted_at first at + way_size second + 3
 
 abbrev pub pushing_at : (first second : Way) → ℕ → ℕ
-pushing_at first second at = noted_at first second at + 3
+pushing_at first second at = held_at first second at + 3
 
 -- the next line is noted by the routine
 abbrev pub pushing_code : Layout → ℕ → ℕ → List Piece
@@ -483,8 +483,8 @@ raising_code ly n to = Code (ins 0xEE (NOTES + 1) ∷ []) ∷ going_code ly n to
 -- the next line is noted in line
 abbrev pub noting_code : Layout → (n at : ℕ) (first second : Way) → ℕ → List Piece
 noting_code ly n at first second to =
-    Code (note_stored (next_at ly n % 256) (next_at ly n / 256))
-    ∷ Code (branch_code second (branch_on Zero false) (counted_at first at) (noted_at first second at))
+    Code (return_stored (next_at ly n % 256) (next_at ly n / 256))
+    ∷ Code (branch_code second (branch_on Zero false) (counted_at first at) (held_at first second at))
     ∷ raising_code ly n to
 
 -- a call of a line
@@ -498,7 +498,7 @@ call_code ly n at first second true to = called_code ly n at first second to
 call_code ly n at first second false to = Code (faulting n 1) ∷ []
 
 abbrev pub CallReaches : (first second : Way) → ℕ → Bool → Type 0
-CallReaches first second at true = BranchReaches first (at + 3) (pushing_at first second at) × BranchReaches second (counted_at first at) (noted_at first second at)
+CallReaches first second at true = BranchReaches first (at + 3) (pushing_at first second at) × BranchReaches second (counted_at first at) (held_at first second at)
 CallReaches first second at false = Unit {0}
 
 -- where a return asks for the low byte, and where the routine takes the note
@@ -514,7 +514,7 @@ popping_code n = Code (constant n LINE) ∷ Code (call POP_AT) ∷ Code jump_thr
 
 -- the newest note is taken in line
 abbrev pub taking_code : ℕ → List Piece
-taking_code n = Code note_taken ∷ Code jump_through ∷ popping_code n
+taking_code n = Code return_taken ∷ Code jump_through ∷ popping_code n
 
 -- a return, behind the question for the count's high byte
 abbrev pub low_code : (n at : ℕ) (first second : Way) → List Piece

@@ -52,7 +52,7 @@ module _ (place : ℕ) (bytes : List ℕ) (from : 0x0800 ≤ place) (to : place 
     pc = subst (λ q. StandsAt ly (setup place bytes from to ly s).code w.regs.pc q c.state.place) e m.0.pc;
     vars = m.0.state.vars;
     count = m.0.state.count;
-    noted = m.0.state.notes;
+    held = m.0.state.returns;
     few = m.0.state.few;
   }
 

@@ -9,7 +9,7 @@ use Rattle.tb_templates.specs.Templates.{slot_at, var_at}
 use Rattle.tb_runtime16.specs.Routines.{SeedAt, WordAt, is_state}
 use Rattle.tb_simulation.proofs.Mirrors.{HoldsState}
 use Rattle.tb_simulation.specs.Layout.{Layout}
-use Rattle.tb_simulation.proofs.Frames.{Same, SameSingles, notes_kept, low_is_state, note_is_state, put_away, seed_over, word_kept}
+use Rattle.tb_simulation.proofs.Frames.{Same, SameSingles, returns_kept, low_is_state, return_is_state, put_away, seed_over, word_kept}
 use Rattle.tb_simulation.proofs.Pieces.{put_word}
 use Rattle.tb_selection.specs.declared.liveness.Live.{Live}
 use Rattle.tb_selection.specs.Groups.{IntoVariable, IntoHeld, Destination, IntoSlot, IntoHome, slot_of}
@@ -33,7 +33,7 @@ module _ (ly : Layout) (s : State) (m m' : ℕ → ℕ) (h : HoldsState ly s m) 
     seeded = seed_kept m m' e h.seeded;
     count = word_kept m m' NOTES _ (e NOTES (omega arith) (omega arith) (λ q. omega (arith, q)) (λ q. omega (arith, q)))
         (e (NOTES + 1) (omega arith) (omega arith) (λ q. omega (arith, q)) (λ q. omega (arith, q))) h.count;
-    notes = notes_kept ly m m' s.returns h.few e' h.notes;
+    returns = returns_kept ly m m' s.returns h.few e' h.returns;
     few = h.few;
     all_vars = lv;
   }
@@ -45,7 +45,7 @@ module _ (ly : Layout) (s : State) (m m' : ℕ → ℕ) (h : HoldsState ly s m) 
   -- scratch was written
   pub state_scratch : ((a : ℕ) → is_state a ≡ true → m' a ≡ m a) → HoldsState ly s m'
   state_scratch e = state_same (λ a lo hi. e a (low_is_state a lo (omega (arith, hi))))
-      (λ a lo hi n n'. e a (low_is_state a (omega (arith, lo)) (omega (arith, hi)))) (λ a lo hi. e a (note_is_state a lo hi))
+      (λ a lo hi n n'. e a (low_is_state a (omega (arith, lo)) (omega (arith, hi)))) (λ a lo hi. e a (return_is_state a lo hi))
 
 -- ---- a result written
 abbrev pub DestFits : Destination → Type 0

@@ -149,7 +149,8 @@ module _ (labels : List (Name × ℕ)) (seed : ℕ) (code : Part) (sc : slots.Sl
     abbrev answered : List Entry
     answered = product.const Cmp 3 ∷ product.branch Beq (target.Break n) ∷ []
 
-    line_lies : (rest : List slots.Instr) → has_line ns n ≡ true → LineLies labels code ns seed n (slots.Poll ∷ rest) → LineStands ly within code n (label_address labels (target.Line n)) rest
+    line_lies : (rest : List slots.Instr) → has_line ns n ≡ true → LineLies labels code ns seed n (slots.Poll ∷ rest)
+        → LineStands ly within code n (label_address labels (target.Line n)) rest
     unfolding opcodes.encoded
     line_lies rest has l =
         let at = label_address labels (target.Line n) in

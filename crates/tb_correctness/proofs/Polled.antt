@@ -135,7 +135,7 @@ module _ (around : Surroundings) (fits : Fits around.f 16) (limit : ℕ) (rs : S
     Led x = Moves f (WithA (at + 3) stop own w.mem s.text (drop 1 s.answers)) (Target around x) (sent_in x) (10 + limit)
 
     with_answers : (l : List ℕ) → HoldsState ly (record s { answers = l }) w.mem
-    with_answers l = let k = h.state in record { vars = k.vars; column = k.column; opened = k.opened; seeded = k.seeded; count = k.count; notes = k.notes; few = k.few; all_vars = k.all_vars }
+    with_answers l = let k = h.state in record { vars = k.vars; column = k.column; opened = k.opened; seeded = k.seeded; count = k.count; returns = k.returns; few = k.few; all_vars = k.all_vars }
 
     by_break : (a : ℕ) (l : List ℕ) → s.answers ≡ a ∷ l → AreBytes (a ∷ l) → (t : Bool) → nat_eq a 3 ≡ t
         → Led (if t then Stops Faulted (fault_text 0 n) else Goes (line code n is (record s { answers = l }) r) [])

@@ -39,7 +39,7 @@ module _ (around : Surroundings) (code : SlotCode) (same_numbers : numbers code 
       opened = hs.opened;
       seeded = hs.seeded;
       count = hs.count;
-      notes = hs.notes;
+      returns = hs.returns;
       few = hs.few;
       all_vars = hs.all_vars;
     });

@@ -24,9 +24,9 @@ use Rattle.std.proofs.Common.{arith}
 use Rattle.tb_runtime16.specs.Addresses.{LINES_AT}
 use Rattle.tb_templates.specs.Templates.{var_at}
 use Rattle.tb_codegen.specs.Compiled.{AddressesRise}
-use Rattle.tb_debug.specs.Readings.{lines_of_notes, returns_of}
+use Rattle.tb_debug.specs.Readings.{lines_of_returns, returns_of}
 use Rattle.tb_debug.specs.Sources.{Debugs, IsMadeOf, ShowsLine}
-use Rattle.tb_debug.proofs.SourceState.{all_notes, notes_told, word_there}
+use Rattle.tb_debug.proofs.SourceState.{all_returns, returns_told, word_there}
 use Rattle.tb_debug.proofs.EventLists.{begun_to, events_to, lawful_to, run_to}
 
 module _ (labels : List (Name × ℕ)) where
@@ -84,12 +84,12 @@ shows_all source seed start d n made firsts same begins =
     let told = made.compiled.starts in
     let rise = subst (AddressesRise LINES_AT) told made.compiled.rising in
     let here : (a : ℕ) → is_start (start_of c) ns a ≡ begins_at (starts_in labels ns) a = λ a. same a ∙ ap (λ ss. begins_at ss a) told in
-    let count = all_notes m (length begins.state.returns) begins.few begins.notes in
+    let count = all_returns m (length begins.state.returns) begins.few begins.depth in
     record {
       begins = begins;
       variables = λ x few. ap (cast_signed w16) (word_there m (var_at x) (omega arith) (omega (arith, few)) ∙ begins.vars x few);
-      returns = ap (λ ss. returns_of ss m) told ∙ ap (lines_of_notes (starts_in labels ns) m) count
-          ∙ notes_told labels (start_of c) ns LINES_AT rise firsts here m begins.state.returns begins.few begins.returns;
+      returns = ap (λ ss. returns_of ss m) told ∙ ap (lines_of_returns (starts_in labels ns) m) count
+          ∙ returns_told labels (start_of c) ns LINES_AT rise firsts here m begins.state.returns begins.few begins.returns;
     }
 
 -- where a debugger stands at a line's beginning, the source goes on at that line

@@ -49,8 +49,8 @@ abbrev pub poll_part : Part
 poll_part = part_at POLL_AT POLL_BYTES
 
 -- Push, the place of a note, and Pop, one behind the other
-abbrev pub notes_part : Part
-notes_part = part_at PUSH_AT (PUSH_BYTES ++ POP_BYTES)
+abbrev pub returns_part : Part
+returns_part = part_at PUSH_AT (PUSH_BYTES ++ POP_BYTES)
 
 -- ---- the block from each routine on
 abbrev poll_on : List ℕ
@@ -186,5 +186,6 @@ fault_in code block = holds_then fault_part block_part code (holds_then fault_pa
 pub poll_in : (code : Part) → Holds block_part code → Holds poll_part code
 poll_in code block = holds_then poll_part block_part code from_poll block
 
-pub notes_in : (code : Part) → Holds block_part code → Holds notes_part code
-notes_in code block = holds_then notes_part block_part code (holds_then notes_part (part_at PUSH_AT push_on) block_part (part_front PUSH_AT (PUSH_BYTES ++ POP_BYTES) fault_line_on) from_push) block
+pub returns_in : (code : Part) → Holds block_part code → Holds returns_part code
+returns_in code block = holds_then returns_part block_part code (holds_then returns_part (part_at PUSH_AT push_on) block_part
+    (part_front PUSH_AT (PUSH_BYTES ++ POP_BYTES) fault_line_on) from_push) block

@@ -88,12 +88,12 @@ abbrev pub SCRATCH : ℕ
 SCRATCH = 0xC06E
 
 -- the low bytes of 500 notes, which are code addresses
-abbrev pub NOTE_LOW : ℕ
-NOTE_LOW = 0xC100
+abbrev pub RETURN_LOW : ℕ
+RETURN_LOW = 0xC100
 
 -- their high bytes
-abbrev pub NOTE_HIGH : ℕ
-NOTE_HIGH = 0xC300
+abbrev pub RETURN_HIGH : ℕ
+RETURN_HIGH = 0xC300
 
 -- ── the lines' code ──
 -- where the lines' code begins, behind the block

@@ -4,6 +4,6 @@ pub mod Block
 pub mod Laws
 pub mod Ends
 pub mod Input
-pub mod Notes
+pub mod Returns
 pub mod Search
 pub mod Routines

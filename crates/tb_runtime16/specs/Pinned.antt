@@ -2,7 +2,7 @@
 use Rattle.std.specs.Prelude.{◌≡◌}
 use Rattle.tb_runtime16.specs.declared.addresses.TheConstants as public
 use Rattle.tb_runtime16.specs.Addresses.{PROLOGUE_AT, LINES_AT, POINTER, VARS, COLUMN, OPEN, SEEDED, HOME_S, SEED, LINE, NOTES, SLOTS, HELD, LEFT, RIGHT, RESULT}
-use Rattle.tb_runtime16.specs.Addresses.{TABLE, WANTED, COUNT, LENGTH, BYTE, SCRATCH, NOTE_LOW, NOTE_HIGH}
+use Rattle.tb_runtime16.specs.Addresses.{TABLE, WANTED, COUNT, LENGTH, BYTE, SCRATCH, RETURN_LOW, RETURN_HIGH}
 
 -- of the code
 abbrev pub CodeStands : Type 0
@@ -18,7 +18,7 @@ ArgumentsStand =
 abbrev pub StateStands : Type 0
 StateStands =
     (public.VARS ≡ VARS) × (public.COLUMN ≡ COLUMN) × (public.OPEN ≡ OPEN) × (public.SEEDED ≡ SEEDED) × (public.HOME_S ≡ HOME_S)
-    × (public.SEED ≡ SEED) × (public.LINE ≡ LINE) × (public.NOTES ≡ NOTES) × (public.NOTE_LOW ≡ NOTE_LOW) × (public.NOTE_HIGH ≡ NOTE_HIGH)
+    × (public.SEED ≡ SEED) × (public.LINE ≡ LINE) × (public.NOTES ≡ NOTES) × (public.RETURN_LOW ≡ RETURN_LOW) × (public.RETURN_HIGH ≡ RETURN_HIGH)
 
 -- what the lines' code and the routines work in
 abbrev pub WorkStands : Type 0

@@ -9,9 +9,9 @@ mod routines;
 mod targets;
 
 pub use addresses::{
-    BLOCK_AT, BYTE, COLUMN, COUNT, HELD, HOME_S, LEFT, LENGTH, LINE, LINES_AT, NOTE_HIGH, NOTE_LOW,
-    NOTES, OPEN, POINTER, RESULT, RIGHT, Routine, SCRATCH, SEED, SEEDED, SEND_AT, SLOTS, TABLE,
-    VARS, WANTED, entry,
+    BLOCK_AT, BYTE, COLUMN, COUNT, HELD, HOME_S, LEFT, LENGTH, LINE, LINES_AT, NOTES, OPEN,
+    POINTER, RESULT, RETURN_HIGH, RETURN_LOW, RIGHT, Routine, SCRATCH, SEED, SEEDED, SEND_AT,
+    SLOTS, TABLE, VARS, WANTED, entry,
 };
 pub use code::block;
 pub use laws::constants_are_addresses;

@@ -29,15 +29,15 @@ use Rattle.tb_runtime16.specs.Addresses.{NOTES}
 use Rattle.tb_templates.specs.Templates.{var_at}
 use Rattle.tb_simulation.specs.Kept.{Starts}
 use Rattle.tb_simulation.specs.Layout.{Layout, is_start, inner, place_address}
-use Rattle.tb_runtime16.specs.Routines.{Noted, WordAt}
+use Rattle.tb_runtime16.specs.Routines.{AreReturns, WordAt}
 use Rattle.tb_simulation.proofs.Inductions as keeps
 use Rattle.tb_simulation.proofs.Inductions.{lawful_back, on_way, run_back, there}
 use Rattle.tb_simulation.proofs.Starts as lines
 use Rattle.tb_simulation.proofs.Starts.{count, before, between, behind}
 use Rattle.tb_simulation.proofs.Strides.{IsStride, found_line, lines_at}
-use Rattle.tb_simulation.proofs.Mirrors.{Leads, notes_of}
+use Rattle.tb_simulation.proofs.Mirrors.{Leads, return_addresses}
 use Rattle.tb_simulation.proofs.Pieces.{word_in_data}
-use Rattle.tb_simulation.proofs.Frames.{notes_kept, word_kept}
+use Rattle.tb_simulation.proofs.Frames.{returns_kept, word_kept}
 use Rattle.tb_simulation.proofs.Joins.{IsEnd, end_stays, R, LawAt, reaches, sent_in}
 use Rattle.tb_simulation.proofs.Headline.{setup, begins_so, above_so, Opened, OpeningLaw, StepLaws}
 
@@ -98,7 +98,7 @@ pub record Known (ly : Layout) (s : State) (w : View) : Type 0 where
   pub pc : w.regs.pc ≡ place_address ly s.place
   pub vars : (x : ℕ) → x < 26 → WordAt w.mem (var_at x) (slice_index s.vars x)
   pub count : WordAt w.mem NOTES (length s.returns)
-  pub noted : Noted w.mem (notes_of ly s.returns)
+  pub held : AreReturns w.mem (return_addresses ly s.returns)
   pub few : length s.returns ≤ 500
 
 module _ (place : ℕ) (bytes : List ℕ) (from : 0x0800 ≤ place) (to : place + length bytes ≤ 0xa000) (ly : Layout) (program : Program) (sc : SlotCode)
@@ -186,8 +186,8 @@ module _ (place : ℕ) (bytes : List ℕ) (from : 0x0800 ≤ place) (to : place 
     pub at_place : state.place ≡ control.At number
     pub pc : t.regs.pc ≡ ly.start number
     pub vars : (x : ℕ) → x < 26 → WordAt t.mem (var_at x) (slice_index state.vars x)
-    pub notes : WordAt t.mem NOTES (length state.returns)
-    pub noted : Noted t.mem (notes_of ly state.returns)
+    pub depth : WordAt t.mem NOTES (length state.returns)
+    pub held : AreReturns t.mem (return_addresses ly state.returns)
     pub few : length state.returns ≤ 500
 
   line_begun : (m : ℕ) (t : machine.State) → lines.AtLine Ends (end_stays f (above_so place bytes from to ly s h)) program sc follows step stride
@@ -207,8 +207,8 @@ module _ (place : ℕ) (bytes : List ℕ) (from : 0x0800 ≤ place) (to : place 
         vars = λ x lt. word_kept w.mem t.mem (var_at x) (slice_index a.state.vars x)
             (fixed (var_at x) (word_in_data (var_at x) (omega arith) (omega (arith, lt))).0)
             (fixed (var_at x + 1) (word_in_data (var_at x) (omega arith) (omega (arith, lt))).1) (there.vars x lt);
-        notes = word_kept w.mem t.mem NOTES (length a.state.returns) (fixed NOTES refl) (fixed (NOTES + 1) refl) there.count;
-        noted = notes_kept ly w.mem t.mem a.state.returns there.few (λ p lo hi. fixed p (word_in_data p (omega (arith, lo)) (omega (arith, hi))).0) there.noted;
+        depth = word_kept w.mem t.mem NOTES (length a.state.returns) (fixed NOTES refl) (fixed (NOTES + 1) refl) there.count;
+        held = returns_kept ly w.mem t.mem a.state.returns there.few (λ p lo hi. fixed p (word_in_data p (omega (arith, lo)) (omega (arith, hi))).0) there.held;
         few = there.few;
       }
 

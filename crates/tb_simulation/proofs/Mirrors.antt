@@ -10,11 +10,11 @@ use Rattle.tb_runtime16.specs.Addresses.{COLUMN, OPEN, NOTES}
 use Rattle.tb_templates.specs.Templates.{var_at}
 use Rattle.tb_opcodes.specs.Bytes.{AreBytes}
 use Rattle.tb_simulation.specs.Layout.{Layout, place_address}
-use Rattle.tb_runtime16.specs.Routines.{WordAt, SeedAt, Noted, Entered, Here, Waiting}
+use Rattle.tb_runtime16.specs.Routines.{WordAt, SeedAt, AreReturns, Entered, Here, Waiting}
 
 -- the addresses of the places to return to
-abbrev pub notes_of : Layout → List Place → List ℕ
-notes_of ly ps = map (place_address ly) ps
+abbrev pub return_addresses : Layout → List Place → List ℕ
+return_addresses ly ps = map (place_address ly) ps
 
 -- the memory holds the state
 pub record HoldsState (ly : Layout) (s : State) (m : ℕ → ℕ) : Type 0 where
@@ -23,7 +23,7 @@ pub record HoldsState (ly : Layout) (s : State) (m : ℕ → ℕ) : Type 0 where
   pub opened : m OPEN ≡ bit s.open_line
   pub seeded : SeedAt m ly.seed s.seed
   pub count : WordAt m NOTES (length s.returns)
-  pub notes : Noted m (notes_of ly s.returns)
+  pub returns : AreReturns m (return_addresses ly s.returns)
   pub few : length s.returns ≤ 500
   pub all_vars : length s.vars ≡ 26
 

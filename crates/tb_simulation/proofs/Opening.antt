@@ -45,7 +45,7 @@ module _ (ly : Layout) (f : Setup) (sc : SlotCode) (numbered : numbers sc ≡ ly
       opened = b.cleared OPEN refl;
       seeded = first (b.cleared SEEDED refl) refl seed_small 0 (zero_word w.mem SEED (b.cleared SEED refl) (b.cleared (SEED + 1) refl));
       count = zero_word w.mem NOTES (b.cleared NOTES refl) (b.cleared (NOTES + 1) refl);
-      notes = tt;
+      returns = tt;
       few = omega arith;
       all_vars = refl;
     };

@@ -27,7 +27,7 @@ use Rattle.tb_templates.specs.declared.labels.Target.{Target}
 use Rattle.tb_templates.specs.declared.labels.Target.TheVariants as target
 use Rattle.tb_templates.specs.Labels.{label_of}
 use Rattle.tb_templates.specs.Layout.{LabelsAt}
-use Rattle.tb_templates.specs.Templates.{branch, slot_at, var_at, on, template, jump, faulted, called, returned, find, note, jump_through, target_of, next_line, call, copied, constant}
+use Rattle.tb_templates.specs.Templates.{branch, slot_at, var_at, on, template, jump, faulted, called, returned, find, return_address, jump_through, target_of, next_line, call, copied, constant}
 use Rattle.tb_templates.specs.Sources.{Source, FixedWord, AtAddress, source_of, tested_source, home_at, destination_at}
 use Rattle.tb_templates.specs.GroupTemplates.{low_of, high_of, brought, joined, handed, multiplied, divided, calculated, computed, changed_or, converted}
 use Rattle.tb_templates.specs.GroupTemplates.{searched, used, equal, unequal, tested, gone, may_fault, group_template, lined, may_be_zero, may_have_none}
@@ -115,9 +115,9 @@ module _ (labels : List (Name × ℕ)) (ns : List ℕ) (known : Known labels ns)
       → AllKnown labels (if t then called n to next skip over else faulted n 1)
   call_known n a to next skip over true e s h =
       let line = to_label (target.Line to) (known.lines to e) in
-      let noted : Stands labels skip = ap is_some h.1.1.1.1.1.1.1.1.1.1.0 in
+      let held : Stands labels skip = ap is_some h.1.1.1.1.1.1.1.1.1.1.0 in
       let behind : Stands labels over = ap is_some h.1.1.1.1.1.1.1.1.1.1.1.1.0 in
-      (refl ▹ to_label over behind ▹ refl ▹ low_label next s ▹ refl ▹ high_label next s ▹ refl ▹ refl ▹ to_label skip noted ▹ refl ▹ refl ▹ line ▹ refl ▹
+      (refl ▹ to_label over behind ▹ refl ▹ low_label next s ▹ refl ▹ high_label next s ▹ refl ▹ refl ▹ to_label skip held ▹ refl ▹ refl ▹ line ▹ refl ▹
       refl ▹ refl ▹ refl ▹ refl ▹ low_label next s ▹ refl ▹ high_label next s ▹ refl ▹ refl ▹ line ▹ tt)
   call_known n a to next skip over false e s h = (refl ▹ refl ▹ refl ▹ refl ▹ tt)
 
@@ -229,7 +229,7 @@ module _ (labels : List (Name × ℕ)) (ns : List ℕ) (known : Known labels ns)
   used_known n next AsNumber a h = known_append labels (brought a LEFT) (call NUMBER_AT ∷ []) (brought_known a LEFT) (refl ▹ tt)
   used_known n next AsLine a h = known_append labels (searched n a) jump_through (searched_known n a) (refl ▹ tt)
   used_known n next AsSubroutine a h =
-      known_append labels (searched n a) (note next ++ jump_through) (searched_known n a) (low_label next h ▹ refl ▹ high_label next h ▹ refl ▹ refl ▹ refl ▹ tt)
+      known_append labels (searched n a) (return_address next ++ jump_through) (searched_known n a) (low_label next h ▹ refl ▹ high_label next h ▹ refl ▹ refl ▹ refl ▹ tt)
 
   weighed_known : (side : Side) (a b : Source) (skip next : Target) → Stands labels skip → Stands labels next → AllKnown labels (weighed side a b skip next)
   weighed_known side a b skip next s t =

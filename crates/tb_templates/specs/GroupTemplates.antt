@@ -16,7 +16,7 @@ use Rattle.tb_runtime16.specs.Addresses.{LEFT, RIGHT, RESULT, WANTED, LINE, MULT
 use Rattle.tb_templates.specs.declared.labels.Inner.TheVariants.{Behind, Skip}
 use Rattle.tb_templates.specs.declared.labels.Target.{Target}
 use Rattle.tb_templates.specs.declared.labels.Target.TheVariants.{Inside, Line}
-use Rattle.tb_templates.specs.Templates.{at, var_at, on, alone, branch, here, call, copied, constant, faulted, find, note, jump_through, next_line, template}
+use Rattle.tb_templates.specs.Templates.{at, var_at, on, alone, branch, here, call, copied, constant, faulted, find, return_address, jump_through, next_line, template}
 use Rattle.tb_templates.specs.Sources.{Source, FixedWord, AtAddress, source_of, tested_source, home_at, destination_at}
 pub use Rattle.tb_templates.specs.Sources.{low_of, high_of}
 use Rattle.tb_templates.specs.Scaled.{scaling, times, shifts, shifted}
@@ -101,7 +101,7 @@ searched n a = constant n LINE ++ (brought a WANTED ++ (find ∷ []))
 abbrev pub used : ℕ → Target → Usage → Source → List Entry
 used n next AsNumber a = brought a LEFT ++ (call NUMBER_AT ∷ [])
 used n next AsLine a = searched n a ++ jump_through
-used n next AsSubroutine a = searched n a ++ (note next ++ jump_through)
+used n next AsSubroutine a = searched n a ++ (return_address next ++ jump_through)
 
 -- ── tests ──
 -- stays where both bytes are equal

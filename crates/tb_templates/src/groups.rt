@@ -23,7 +23,7 @@ use crate::labels::{Inner, Target};
 use crate::orders::{Side, put_ordered};
 use crate::pieces::{
     put_alone, put_at, put_branch, put_call, put_const, put_constant, put_copied, put_faulted,
-    put_find, put_here, put_jump_through, put_note, put_on,
+    put_find, put_here, put_jump_through, put_on, put_return,
 };
 use crate::scaled::{put_shifted, put_times, scaling, shifts};
 use crate::sources::{
@@ -317,10 +317,10 @@ fn put_called(
     word: Source,
 ) -> Result<(), AllocError>
     requires { IsWhole word }
-    ensures { OnOk result (map entry_of items.new.items ≡ map entry_of items.old.items ++ (groups.searched line word ++ (templates.note next ++ templates.jump_through))) }
+    ensures { OnOk result (map entry_of items.new.items ≡ map entry_of items.old.items ++ (groups.searched line word ++ (templates.return_address next ++ templates.jump_through))) }
 {
     put_searched(items, line, word)?;
-    put_note(items, next)?;
+    put_return(items, next)?;
     put_jump_through(items)?;
     Ok(())
 }

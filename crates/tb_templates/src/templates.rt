@@ -16,7 +16,7 @@ use crate::labels::{Inner, Target};
 use crate::pieces::{
     put, put_address, put_alone, put_at, put_branch, put_by_x, put_call, put_const, put_constant,
     put_copied, put_faulted, put_here, put_high_part, put_jump, put_jump_through, put_low_part,
-    put_note,
+    put_return,
 };
 use crate::sources::{slot_address, variable_at};
 use std::alloc::AllocError;
@@ -24,7 +24,9 @@ use tb_asm::Item;
 use tb_kernal::CHROUT;
 use tb_lower::SlotInstr;
 use tb_opcodes::Mnemonic;
-use tb_runtime16::{COLUMN, LENGTH, LINE, NOTE_HIGH, NOTE_LOW, NOTES, POINTER, RESULT, Routine};
+use tb_runtime16::{
+    COLUMN, LENGTH, LINE, NOTES, POINTER, RESULT, RETURN_HIGH, RETURN_LOW, Routine,
+};
 
 /// The fault of a line that is not there.
 pub const NO_LINE: u8 = 1;
@@ -143,14 +145,14 @@ fn put_by_zero(
 }
 
 // A note's two bytes go behind the others, and the low byte of their count goes up.
-fn put_note_stored(items: &mut Vec<Item>, next: Target) -> Result<(), AllocError>
-    ensures { OnOk result (map entry_of items.new.items ≡ map entry_of items.old.items ++ templates.note_stored next) }
+fn put_return_stored(items: &mut Vec<Item>, next: Target) -> Result<(), AllocError>
+    ensures { OnOk result (map entry_of items.new.items ≡ map entry_of items.old.items ++ templates.return_stored next) }
 {
     put_at(items, Mnemonic::Ldx, NOTES)?;
     put_low_part(items, next)?;
-    put_by_x(items, Mnemonic::Sta, NOTE_LOW)?;
+    put_by_x(items, Mnemonic::Sta, RETURN_LOW)?;
     put_high_part(items, next)?;
-    put_by_x(items, Mnemonic::Sta, NOTE_HIGH)?;
+    put_by_x(items, Mnemonic::Sta, RETURN_HIGH)?;
     put_at(items, Mnemonic::Inc, NOTES)
 }
 
@@ -164,29 +166,29 @@ fn put_carried(items: &mut Vec<Item>, skip: Target) -> Result<(), AllocError>
 }
 
 // Notes the next line in line where the count of notes has a low byte alone.
-fn put_noted(
+fn put_returned_to(
     items: &mut Vec<Item>,
     next: Target,
     skip: Target,
     over: Target,
 ) -> Result<(), AllocError>
-    ensures { OnOk result (map entry_of items.new.items ≡ map entry_of items.old.items ++ templates.noted next skip over) }
+    ensures { OnOk result (map entry_of items.new.items ≡ map entry_of items.old.items ++ templates.held next skip over) }
 {
     put_by_zero(items, Mnemonic::Bne, NOTES + 1, over)?;
-    put_note_stored(items, next)?;
+    put_return_stored(items, next)?;
     put_carried(items, skip)?;
     Ok(())
 }
 
 // X is the low byte of the count of notes: it goes down, and the newest note's two bytes go to the result.
-fn put_note_taken(items: &mut Vec<Item>) -> Result<(), AllocError>
-    ensures { OnOk result (map entry_of items.new.items ≡ map entry_of items.old.items ++ templates.note_taken) }
+fn put_return_taken(items: &mut Vec<Item>) -> Result<(), AllocError>
+    ensures { OnOk result (map entry_of items.new.items ≡ map entry_of items.old.items ++ templates.return_taken) }
 {
     put_alone(items, Mnemonic::Dex)?;
     put_at(items, Mnemonic::Stx, NOTES)?;
-    put_by_x(items, Mnemonic::Lda, NOTE_LOW)?;
+    put_by_x(items, Mnemonic::Lda, RETURN_LOW)?;
     put_at(items, Mnemonic::Sta, RESULT)?;
-    put_by_x(items, Mnemonic::Lda, NOTE_HIGH)?;
+    put_by_x(items, Mnemonic::Lda, RETURN_HIGH)?;
     put_at(items, Mnemonic::Sta, RESULT + 1)
 }
 
@@ -196,7 +198,7 @@ fn put_taken_back(items: &mut Vec<Item>, over: Target) -> Result<(), AllocError>
 {
     put_by_zero(items, Mnemonic::Bne, NOTES + 1, over)?;
     put_by_zero(items, Mnemonic::Beq, NOTES, over)?;
-    put_note_taken(items)?;
+    put_return_taken(items)?;
     put_jump_through(items)?;
     Ok(())
 }
@@ -208,10 +210,10 @@ fn put_line_called_by_routine(
     to: u16,
     next: Target,
 ) -> Result<(), AllocError>
-    ensures { OnOk result (map entry_of items.new.items ≡ map entry_of items.old.items ++ (templates.constant line places.LINE ++ (templates.note next ++ (templates.jump (target.Line to) ∷ [])))) }
+    ensures { OnOk result (map entry_of items.new.items ≡ map entry_of items.old.items ++ (templates.constant line places.LINE ++ (templates.return_address next ++ (templates.jump (target.Line to) ∷ [])))) }
 {
     put_constant(items, line, LINE)?;
-    put_note(items, next)?;
+    put_return(items, next)?;
     put_jump(items, Target::Line(to))?;
     Ok(())
 }
@@ -227,7 +229,7 @@ fn put_line_called(
 ) -> Result<(), AllocError>
     ensures { OnOk result (map entry_of items.new.items ≡ map entry_of items.old.items ++ templates.called line to next skip over) }
 {
-    put_noted(items, next, skip, over)?;
+    put_returned_to(items, next, skip, over)?;
     put_jump(items, Target::Line(to))?;
     put_here(items, over)?;
     put_line_called_by_routine(items, line, to, next)?;
