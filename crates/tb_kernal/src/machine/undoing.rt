@@ -9,7 +9,7 @@ use crate::machine::Machine;
 use crate::rom::{old_bytes, put_back, service_of};
 use arrayvec::ArrayVec;
 use std::marker::Model;
-use tb_cpu::{Regs, Wrong, operand_place};
+use tb_cpu::{Regs, Wrong, operand_address};
 
 /// What an event may change, as it was before the event.
 #[derive(Drop)]
@@ -73,7 +73,7 @@ impl Machine {
         ensures { result.items ≡ old_of (at self.now.memory) (addresses_of_step self.now) }
     {
         let mut places = ArrayVec::new();
-        places.push((operand_place(&self.regs, &self.memory), 0));
+        places.push((operand_address(&self.regs, &self.memory), 0));
         places.push((0x0100 + u16::from(self.regs.s), 0));
         places.push((0x0100 + u16::from(self.regs.s.wrapping_sub(1)), 0));
         old_bytes(&self.memory, &places)
